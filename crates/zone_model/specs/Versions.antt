@@ -1,41 +1,88 @@
 -- A version of the zone is the list of its names with their entries, in canonical order. Operations change it.
-use Rattle.std.specs.Prelude.{ℕ, List, [], ◌∷◌, length, nat_lt, if◌then◌else◌, Option, unwrap_or, Result, Ok, Err}
+use Rattle.std.specs.Prelude.{ℕ, Bool, true, false, ◌&&◌, not, List, [], ◌∷◌, length, nat_lt, ◌==◌, if◌then◌else◌, Option, Some, None, unwrap_or, is_some, is_none, Result, Ok, Err}
 use Rattle.std.specs.BTreeMap.{insert_entry, is_at}
-use Rattle.std.specs.Map.{lookup}
-use Rattle.zone_model.specs.Names.{name_cmp}
-use Rattle.zone_model.specs.Records.{Rrset, with_rr, item}
+use Rattle.std.specs.Map.{lookup, remove_entry}
+use Rattle.zone_model.specs.Names.{Name, name_cmp, same_name}
+use Rattle.zone_model.specs.Records.{Rrset, Entry, rrset_of, has_record, with_rr, without_rr, without_set, item, item_limit}
 use Rattle.zone_model.specs.declared.Refusal.{Refusal}
-use Rattle.zone_model.specs.declared.Refusal.TheVariants.{Long}
+use Rattle.zone_model.specs.declared.Refusal.TheVariants.{Soa, Long}
 
-abbrev pub entry_of : List (List ℕ) → List (List (List ℕ) × List Rrset) → Option (List Rrset)
+abbrev pub Version : Type 0
+Version = List (Name × Entry)
+
+abbrev pub entry_of : Name → Version → Option Entry
 entry_of name version = lookup (is_at (name_cmp name)) version
 
+-- what a name owns; nothing where it isn't there
+abbrev pub owned : Name → Version → Entry
+owned name version = unwrap_or (entry_of name version) []
+
+-- the version in which a name owns this entry; a name without records leaves it
+abbrev pub put : Name → Entry → Version → Version
+put name [] version = remove_entry (is_at (name_cmp name)) version
+put name (first ∷ rest) version = insert_entry name_cmp version name (first ∷ rest)
+
 pub record Addition : Type 0 where
-  pub owner : List (List ℕ)
+  pub owner : Name
   pub rtype : ℕ
   pub ttl : ℕ
   pub octets : List ℕ
 
 pub data Operation : Type 0 where
   Add : (addition : Addition) → Operation
+  DeleteName : (owner : Name) → Operation
+  DeleteSet : (owner : Name) (rtype : ℕ) → Operation
+  DeleteRecord : (owner : Name) (rtype : ℕ) (octets : List ℕ) → Operation
 
--- the most octets of an item
-abbrev pub item_limit : ℕ
-item_limit = 4096
+-- the type of the start of authority (RFC 1035, section 3.2.2)
+abbrev pub soa_type : ℕ
+soa_type = 6
 
--- the owner's entry with one more record
-abbrev pub grown : Addition → List (List (List ℕ) × List Rrset) → List Rrset
-grown a version = with_rr a.rtype a.ttl a.octets (unwrap_or (entry_of a.owner version) [])
-
-abbrev pub apply : Operation → List (List (List ℕ) × List Rrset) → Result (List (List (List ℕ) × List Rrset)) Refusal
-apply (Add a) version =
-    if nat_lt item_limit (length (item a.owner (grown a version))) then Err Long else Ok (insert_entry name_cmp version a.owner (grown a version))
-
--- the operations in order, or the first refusal
-abbrev pub whole : List Operation → List (List (List ℕ) × List Rrset) → Result (List (List (List ℕ) × List Rrset)) Refusal
-whole [] version = Ok version
-whole (first ∷ rest) version = and_then (apply first version) (whole rest)
+-- the entry has this record
+abbrev pub holds : ℕ → List ℕ → Entry → Bool
+holds rtype octets entry = among (rrset_of rtype entry)
   where
-    and_then : Result (List (List (List ℕ) × List Rrset)) Refusal → (List (List (List ℕ) × List Rrset) → Result (List (List (List ℕ) × List Rrset)) Refusal) → Result (List (List (List ℕ) × List Rrset)) Refusal
-    and_then (Ok v) f = f v
-    and_then (Err e) f = Err e
+    among : Option Rrset → Bool
+    among None = false
+    among (Some s) = has_record octets s.records
+
+-- A zone has one SOA: another takes its place, with its own time to live. The same one again changes nothing.
+abbrev pub with_soa : ℕ → List ℕ → Entry → Entry
+with_soa ttl octets entry =
+    if holds soa_type octets entry then entry else with_rr soa_type ttl octets (without_set soa_type entry)
+
+-- the entry with the record of an addition
+abbrev pub with_added : Addition → Entry → Entry
+with_added a entry = if a.rtype == soa_type then with_soa a.ttl a.octets entry else with_rr a.rtype a.ttl a.octets entry
+
+-- an SOA below the top
+abbrev pub is_low_soa : Name → Addition → Bool
+is_low_soa origin a = (a.rtype == soa_type) && not (same_name a.owner origin)
+
+-- the version in which a name owns this entry, unless the item would be too long
+abbrev pub put_fitting : Name → Entry → Version → Result Version Refusal
+put_fitting name entry version = if nat_lt item_limit (length (item name entry)) then Err Long else Ok (put name entry version)
+
+-- The SOA would leave. It stands at the top alone.
+abbrev pub loses_soa : Entry → Entry → Bool
+loses_soa before after = is_some (rrset_of soa_type before) && is_none (rrset_of soa_type after)
+
+-- the version in which a name has this left, unless that loses the SOA
+abbrev pub left_with : Name → Entry → Version → Result Version Refusal
+left_with name rest version = if loses_soa (owned name version) rest then Err Soa else Ok (put name rest version)
+
+-- what an operation makes of a version of the zone of an origin, or why it is refused
+abbrev pub apply : Name → Operation → Version → Result Version Refusal
+apply origin (Add a) version = if is_low_soa origin a then Err Soa else put_fitting a.owner (with_added a (owned a.owner version)) version
+apply origin (DeleteName owner) version = left_with owner [] version
+apply origin (DeleteSet owner rtype) version = left_with owner (without_set rtype (owned owner version)) version
+apply origin (DeleteRecord owner rtype octets) version = left_with owner (without_rr rtype octets (owned owner version)) version
+
+abbrev pub and_then : {A B E : Type 0} → Result A E → (A → Result B E) → Result B E
+and_then (Ok x) f = f x
+and_then (Err e) f = Err e
+
+-- what a block makes of a version: its operations in order, or the first refusal
+abbrev pub whole : Name → List Operation → Version → Result Version Refusal
+whole origin [] version = Ok version
+whole origin (first ∷ rest) version = and_then (apply origin first version) (whole origin rest)

@@ -1,13 +1,13 @@
--- The zone that lines say, or the first refusal.
-use Rattle.std.specs.Prelude.{ℕ, ◌+◌, Bool, true, ◌&&◌, ◌||◌, not, List, [], ◌∷◌, length, ◌==◌, if◌then◌else◌, Option, Some, None, Result, Ok, Err, codes, option_and_then, is_some}
+-- The zone that plain lines say (a first form of RFC 1035, section 5.1), or the first refusal.
+use Rattle.std.specs.Prelude.{ℕ, ◌+◌, Bool, true, false, ◌&&◌, ◌||◌, not, List, [], ◌∷◌, length, ◌==◌, if◌then◌else◌, Option, Some, None, Result, Ok, Err, codes, option_and_then, is_some}
 use Rattle.std.specs.List.{list_any}
 use Rattle.std.specs.Str.{bytes_eq}
-use Rattle.zone_model.specs.Names.{is_under}
+use Rattle.zone_model.specs.Names.{Name, is_under}
 use Rattle.zone_model.specs.NameText.{name_of}
-use Rattle.zone_model.specs.Records.{Rrset, rrset_of}
-use Rattle.zone_model.specs.Versions.{Addition, Add, apply, entry_of}
+use Rattle.zone_model.specs.Records.{Rrset, Entry, rrset_of}
+use Rattle.zone_model.specs.Versions.{Version, Addition, Add, apply, owned, holds, soa_type}
 use Rattle.zone_model.specs.Lines.{words}
-use Rattle.zone_model.specs.Texts.{named, number, type_of, rdata_of}
+use Rattle.zone_model.specs.Texts.{named, number, type_of, rdata_of, most_time}
 use Rattle.zone_model.specs.declared.Refusal.{Refusal}
 use Rattle.zone_model.specs.declared.ZoneKind.{ZoneKind}
 use Rattle.zone_model.specs.declared.ZoneKind.TheVariants.{BadToken, SoaRule}
@@ -16,7 +16,7 @@ pub record Refused (K : Type 0) : Type 0 where
   pub line : ℕ
   pub kind : K
 
--- what a plain line doesn't have
+-- what a plain line doesn't have: tab, quotes, parentheses, semicolon, backslash
 abbrev pub is_odd : ℕ → Bool
 is_odd c = (c == 9) || (c == 34) || (c == 40) || (c == 41) || (c == 59) || (c == 92)
 
@@ -25,20 +25,36 @@ is_plain [] = true
 is_plain (c ∷ line) = not (c == 32) && not (list_any is_odd (c ∷ line))
 
 -- the words owner, type and data
-unfoldable pub addition_of : List (List ℕ) → ℕ → List (List ℕ) → Option Addition
+unfoldable pub addition_of : Name → ℕ → List (List ℕ) → Option Addition
 addition_of origin ttl [] = None
 addition_of origin ttl (owner ∷ []) = None
 addition_of origin ttl (owner ∷ rtype ∷ rest) =
     option_and_then (λ name. option_and_then (λ t. option_and_then (λ octets. Some (record { owner = name; rtype = t; ttl = ttl; octets = octets })) (rdata_of origin t rest)) (type_of rtype)) (named (name_of owner origin))
 
-abbrev pub accepted : Result (List (List (List ℕ) × List Rrset)) Refusal → Option (List (List (List ℕ) × List Rrset))
+abbrev pub accepted : Result Version Refusal → Option Version
 accepted (Ok v) = Some v
 accepted (Err e) = None
 
+-- the record of another SOA than the zone's
+abbrev pub is_second_soa : Addition → Entry → Bool
+is_second_soa a entry = (a.rtype == soa_type) && is_some (rrset_of soa_type entry) && not (holds soa_type a.octets entry)
+
+-- The zone with one more record: at or under its origin, one SOA at its top, no item too long.
+abbrev pub with_addition : Name → Addition → Version → Option Version
+with_addition origin a version =
+    if not (is_under a.owner origin) then None
+    else if is_second_soa a (owned a.owner version) then None
+    else accepted (apply origin (Add a) version)
+
+-- An owner that begins with a dollar sign is none: such a line is a directive.
+abbrev pub is_directive : List ℕ → Bool
+is_directive [] = false
+is_directive (c ∷ line) = c == 36
+
 -- a zone line adds its record
-unfoldable pub with_line : List (List ℕ) → ℕ → List ℕ → List (List (List ℕ) × List Rrset) → Option (List (List (List ℕ) × List Rrset))
+unfoldable pub with_line : Name → ℕ → List ℕ → Version → Option Version
 with_line origin ttl line version =
-    if is_plain line then option_and_then (λ a. if is_under a.owner origin then accepted (apply (Add a) version) else None) (addition_of origin ttl (words line)) else None
+    if is_plain line && not (is_directive line) then option_and_then (λ a. with_addition origin a version) (addition_of origin ttl (words line)) else None
 
 infixl 10 ◌>>=◌
 abbrev pub ◌>>=◌ : {A B E : Type 0} → Result A E → (A → Result B E) → Result B E
@@ -51,7 +67,7 @@ required n kind (Some x) = Ok x
 required n kind None = Err (record { line = n; kind = kind })
 
 -- the lines from a number on
-unfoldable pub zone_from : List (List ℕ) → ℕ → ℕ → List (List ℕ) → List (List (List ℕ) × List Rrset) → Result (List (List (List ℕ) × List Rrset)) (Refused ZoneKind)
+unfoldable pub zone_from : Name → ℕ → ℕ → List (List ℕ) → Version → Result Version (Refused ZoneKind)
 zone_from origin ttl n [] version = Ok version
 zone_from origin ttl n (line ∷ lines) version = required n BadToken (with_line origin ttl line version) >>= zone_from origin ttl (n + 1) lines
 
@@ -62,14 +78,14 @@ default_ttl line = if is_plain line then ttl_words (words line) else None
     ttl_words : List (List ℕ) → Option ℕ
     ttl_words [] = None
     ttl_words (word ∷ []) = None
-    ttl_words (word ∷ ttl ∷ []) = if bytes_eq word (codes "$TTL") then number 2147483647 ttl else None
+    ttl_words (word ∷ ttl ∷ []) = if bytes_eq word (codes "$TTL") then number most_time ttl else None
     ttl_words (word ∷ ttl ∷ other ∷ rest) = None
 
-abbrev pub has_soa : List (List ℕ) → List (List (List ℕ) × List Rrset) → Bool
-has_soa origin version = is_some (option_and_then (rrset_of 6) (entry_of origin version))
+abbrev pub has_soa : Name → Version → Bool
+has_soa origin version = is_some (rrset_of soa_type (owned origin version))
 
 -- the zone that these lines say
-unfoldable pub zone_of : List (List ℕ) → List (List ℕ) → Result (List (List (List ℕ) × List Rrset)) (Refused ZoneKind)
+unfoldable pub zone_of : Name → List (List ℕ) → Result Version (Refused ZoneKind)
 zone_of origin [] = Err (record { line = 1; kind = SoaRule })
 zone_of origin (first ∷ lines) = do
   ttl ← required 1 BadToken (default_ttl first)
