@@ -1,0 +1,21 @@
+//! Bytes that come from outside and go outside, read and written through objects that count their
+//! faults. A caller learns that a call failed, and that the object's count of faults rose with it.
+#![tactic(auto)]
+
+mod feed;
+mod reading;
+mod room;
+mod schedule;
+mod sinks;
+mod sources;
+mod standard;
+#[cfg(test)]
+mod tests;
+mod writing;
+
+pub use reading::{ReadRefusal, read_all};
+pub use schedule::Failed;
+pub use sinks::{MemSink, QuietSink, Sink};
+pub use sources::{MemSource, QuietSource, Source};
+pub use standard::{StdSink, StdSource};
+pub use writing::write_all;

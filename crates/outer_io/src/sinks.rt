@@ -1,0 +1,165 @@
+ghost use Rattle.std.specs.Prelude.{◌≡◌, ◌<◌, ◌≤◌, ◌↔◌, ℕ, List, [], Option, None, Some, MatchOption, take, length, min, IsErr, IfOk, OnErr, IsOkAnd, Contains};
+ghost use Rattle.outer_io.specs.Faults.{Rose};
+ghost use Rattle.outer_io.specs.Bytes.{Grows, GrowsByFront};
+ghost use Rattle.outer_io.specs.Calls.{next_count};
+ghost use Rattle.outer_io.specs.Memory.{told};
+
+use crate::room::Room;
+use crate::schedule::{Failed, Schedule};
+use std::alloc::{AllocError, Global};
+use std::marker::Model;
+
+/// Where bytes go.
+pub trait Sink {
+    /// The bytes written, where the sink tells them.
+    ghost held: { Self → Option (List ℕ) };
+
+    /// How many calls have failed.
+    ghost faults: { Self → ℕ };
+
+    /// Takes the first bytes of the piece, and answers how many: some, of a piece that isn't empty.
+    /// A call that failed may have taken some too.
+    fn write(&mut self, piece: &[u8]) -> Result<usize, Failed>
+        ensures bound { IfOk result (λ n. n ≤ length piece.now) }
+        ensures some { IfOk result (λ n. 0 < length piece.now → 0 < n) }
+        ensures ok { IfOk result (λ n. Grows (held self.old) (held self.new) (take n piece.now)) }
+        ensures err { OnErr result (GrowsByFront (held self.old) (held self.new) piece.now) }
+        ensures later { faults self.old ≤ faults self.new }
+        ensures failed { OnErr result (Rose (faults self.old) (faults self.new)) };
+}
+
+/// Bytes in memory. The calls with given numbers fail, and move nothing.
+#[derive(Drop)]
+pub struct MemSink {
+    room: Room,
+    most: usize,
+    schedule: Schedule,
+}
+
+impl Model for MemSink {
+    ghost use Rattle.std.specs.Prelude.{◌<◌};
+    ghost use Rattle.outer_io.specs.Memory.{SinkState};
+
+    ghost Value = { SinkState };
+
+    ghost view = { λ s. record { held = s.room.held; room = s.room.room; most = s.most; calls = s.schedule } };
+
+    ghost invariant = { λ s. 0 < s.most };
+}
+
+impl MemSink {
+    /// The calls with the numbers of `fails`, from 1, fail. The others take at most `most` bytes. The
+    /// sink tells its bytes while they are at most `room`.
+    pub fn new(alloc: Global, room: usize, most: usize, fails: Vec<u64>) -> Result<Self, AllocError>
+        requires { 0 < most }
+        ensures held { IfOk result (λ s. s.held ≡ Some []) }
+        ensures room { IfOk result (λ s. s.room ≡ room) }
+        ensures most { IfOk result (λ s. s.most ≡ most) }
+        ensures fails { IfOk result (λ s. s.calls.fails ≡ fails.items) }
+        ensures made { IfOk result (λ s. s.calls.made ≡ 0) }
+        ensures faults { IfOk result (λ s. s.calls.faults ≡ 0) }
+    {
+        Ok(MemSink {
+            room: Room::new(alloc, room)?,
+            most,
+            schedule: Schedule::new(fails),
+        })
+    }
+
+    /// All bytes written, while they fit the room.
+    pub fn held(&self) -> Option<&[u8]>
+        ensures { MatchOption result (self.now.held ≡ None) (λ bytes. self.now.held ≡ Some bytes.now) }
+    {
+        self.room.held()
+    }
+}
+
+impl Sink for MemSink {
+    ghost held = { λ s. s.held };
+
+    ghost faults = { λ s. s.calls.faults };
+
+    fn write(&mut self, piece: &[u8]) -> Result<usize, Failed>
+        ensures bound { IfOk result (λ n. n ≤ length piece.now) }
+        ensures some { IfOk result (λ n. 0 < length piece.now → 0 < n) }
+        ensures ok { IfOk result (λ n. Grows self.old.held self.new.held (take n piece.now)) }
+        ensures err { OnErr result (GrowsByFront self.old.held self.new.held piece.now) }
+        ensures later { self.old.calls.faults ≤ self.new.calls.faults }
+        ensures failed { OnErr result (Rose self.old.calls.faults self.new.calls.faults) }
+
+        ensures fails { IsErr result ↔ Contains self.old.calls.fails (next_count self.old.calls.made) }
+        ensures count { IfOk result (λ n. n ≡ min self.old.most (length piece.now)) }
+        ensures told { IfOk result (λ n. self.new.held ≡ told self.old.room self.old.held (take n piece.now)) }
+        ensures unmoved { OnErr result (self.new.held ≡ self.old.held) }
+        ensures made { self.new.calls.made ≡ next_count self.old.calls.made }
+        ensures same { (self.new.room ≡ self.old.room) × (self.new.most ≡ self.old.most) × (self.new.calls.fails ≡ self.old.calls.fails) }
+    {
+        self.schedule.call()?;
+        let count = self.most.min(piece.len());
+        self.room.take(&piece[..count]);
+        Ok(count)
+    }
+}
+
+/// Bytes in memory. No call fails.
+#[derive(Drop)]
+pub struct QuietSink {
+    room: Room,
+    most: usize,
+}
+
+impl Model for QuietSink {
+    ghost use Rattle.std.specs.Prelude.{◌<◌};
+    ghost use Rattle.outer_io.specs.Memory.{QuietState};
+
+    ghost Value = { QuietState };
+
+    ghost view = { λ s. record { held = s.room.held; room = s.room.room; most = s.most } };
+
+    ghost invariant = { λ s. 0 < s.most };
+}
+
+impl QuietSink {
+    /// Each call takes at most `most` bytes. The sink tells its bytes while they are at most `room`.
+    pub fn new(alloc: Global, room: usize, most: usize) -> Result<Self, AllocError>
+        requires { 0 < most }
+        ensures held { IfOk result (λ s. s.held ≡ Some []) }
+        ensures room { IfOk result (λ s. s.room ≡ room) }
+        ensures most { IfOk result (λ s. s.most ≡ most) }
+    {
+        Ok(QuietSink {
+            room: Room::new(alloc, room)?,
+            most,
+        })
+    }
+
+    /// All bytes written, while they fit the room.
+    pub fn held(&self) -> Option<&[u8]>
+        ensures { MatchOption result (self.now.held ≡ None) (λ bytes. self.now.held ≡ Some bytes.now) }
+    {
+        self.room.held()
+    }
+}
+
+impl Sink for QuietSink {
+    ghost held = { λ s. s.held };
+
+    ghost faults = { λ _. 0 };
+
+    fn write(&mut self, piece: &[u8]) -> Result<usize, Failed>
+        ensures bound { IfOk result (λ n. n ≤ length piece.now) }
+        ensures some { IfOk result (λ n. 0 < length piece.now → 0 < n) }
+        ensures ok { IfOk result (λ n. Grows self.old.held self.new.held (take n piece.now)) }
+        ensures err { OnErr result (GrowsByFront self.old.held self.new.held piece.now) }
+        ensures later { 0 ≤ 0 }
+        ensures failed { OnErr result (Rose 0 0) }
+
+        ensures count { IsOkAnd result (λ n. n ≡ min self.old.most (length piece.now)) }
+        ensures told { IfOk result (λ n. self.new.held ≡ told self.old.room self.old.held (take n piece.now)) }
+        ensures same { (self.new.room ≡ self.old.room) × (self.new.most ≡ self.old.most) }
+    {
+        let count = self.most.min(piece.len());
+        self.room.take(&piece[..count]);
+        Ok(count)
+    }
+}
