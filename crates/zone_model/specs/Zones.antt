@@ -1,14 +1,15 @@
 -- The zone that plain lines say (a first form of RFC 1035, section 5.1), or the first refusal.
-use Rattle.std.specs.Prelude.{ℕ, ◌+◌, Bool, true, false, ◌&&◌, ◌||◌, not, List, [], ◌∷◌, length, ◌==◌, if◌then◌else◌, Option, Some, None, Result, Ok, Err, codes, option_and_then, is_some}
+use Rattle.std.specs.Prelude.{ℕ, ◌+◌, Bool, true, false, ◌&&◌, ◌||◌, not, List, [], ◌∷◌, length, nat_lt, ◌==◌, if◌then◌else◌, Option, Some, None, Result, Ok, Err, codes, option_and_then, is_some}
+use Rattle.std.specs.Option.{option_map}
+use Rattle.std.specs.BTreeMap.{insert_entry}
 use Rattle.std.specs.List.{list_any}
 use Rattle.std.specs.Str.{bytes_eq}
-use Rattle.zone_model.specs.Names.{Name, is_under}
+use Rattle.zone_model.specs.Names.{Name, name_cmp, is_under}
 use Rattle.zone_model.specs.NameText.{name_of}
-use Rattle.zone_model.specs.Records.{Rrset, Entry, rrset_of}
-use Rattle.zone_model.specs.Versions.{Version, Addition, Add, apply, owned, holds, soa_type}
+use Rattle.zone_model.specs.Records.{Entry, rrset_of, with_rr, item, item_limit}
+use Rattle.zone_model.specs.Versions.{Version, Addition, owned, holds, soa_type, is_low_soa}
 use Rattle.zone_model.specs.Lines.{words}
 use Rattle.zone_model.specs.Texts.{named, number, type_of, rdata_of, most_time}
-use Rattle.zone_model.specs.declared.Refusal.{Refusal}
 use Rattle.zone_model.specs.declared.ZoneKind.{ZoneKind}
 use Rattle.zone_model.specs.declared.ZoneKind.TheVariants.{BadToken, SoaRule}
 
@@ -31,20 +32,25 @@ addition_of origin ttl (owner ∷ []) = None
 addition_of origin ttl (owner ∷ rtype ∷ rest) =
     option_and_then (λ name. option_and_then (λ t. option_and_then (λ octets. Some (record { owner = name; rtype = t; ttl = ttl; octets = octets })) (rdata_of origin t rest)) (type_of rtype)) (named (name_of owner origin))
 
-abbrev pub accepted : Result Version Refusal → Option Version
-accepted (Ok v) = Some v
-accepted (Err e) = None
-
--- the record of another SOA than the zone's
+-- the record of another SOA than the entry's
 abbrev pub is_second_soa : Addition → Entry → Bool
 is_second_soa a entry = (a.rtype == soa_type) && is_some (rrset_of soa_type entry) && not (holds soa_type a.octets entry)
 
--- The zone with one more record: at or under its origin, one SOA at its top, no item too long.
+-- an entry whose item isn't too long
+abbrev pub fitting_entry : Name → Entry → Option Entry
+fitting_entry owner entry = if nat_lt item_limit (length (item owner entry)) then None else Some entry
+
+-- the owner's entry with a record of the zone: one SOA, at the top, and no item too long
+abbrev pub zone_entry : Name → Addition → Entry → Option Entry
+zone_entry origin a entry =
+    if is_low_soa origin a then None
+    else if is_second_soa a entry then None
+    else fitting_entry a.owner (with_rr a.rtype a.ttl a.octets entry)
+
+-- the zone with one more record, at or under its origin
 abbrev pub with_addition : Name → Addition → Version → Option Version
 with_addition origin a version =
-    if not (is_under a.owner origin) then None
-    else if is_second_soa a (owned a.owner version) then None
-    else accepted (apply origin (Add a) version)
+    if is_under a.owner origin then option_map (insert_entry name_cmp version a.owner) (zone_entry origin a (owned a.owner version)) else None
 
 -- An owner that begins with a dollar sign is none: such a line is a directive.
 abbrev pub is_directive : List ℕ → Bool
