@@ -1,0 +1,136 @@
+//! Names of the domain name system, in place.
+#![tactic(auto)]
+
+ghost use Rattle.std.specs.Prelude.{◌≡◌, ◌≤◌, ◌<◌, length, [], ◌∷◌, List, ℕ, MatchOption, IfSome, IsNone};
+ghost use Rattle.zone_model.specs.Names.{IsName, wire, is_under, ancestor, star_under, BeginsWith};
+ghost use Rattle.dns_name.specs.Blank.{no_octets};
+ghost use Rattle.dns_name.specs.Spelling.{IsNameSpelled};
+
+mod buffer;
+mod order;
+mod print;
+mod scan;
+#[cfg(test)]
+mod tests;
+mod text;
+mod wire;
+
+use crate::buffer::Octets;
+use crate::scan::wire_len;
+use crate::wire::{count, first, skip, under};
+use std::marker::Model;
+
+// An array of zeros.
+fn blank() -> [u8; 255]
+    ensures { result ≡ no_octets }
+{
+    [0; 255]
+}
+
+/// A name: its wire form, with the letters in lower case.
+#[derive(Clone, Copy)]
+pub struct Name {
+    octets: [u8; 255],
+    len: u8,
+}
+
+impl Model for Name {
+    ghost use Rattle.std.specs.Prelude.{List, ℕ};
+
+    ghost Value = { List (List ℕ) };
+
+    ghost use Rattle.dns_name.specs.Inside.{labels_of, IsStored, stored, stored-back};
+
+    ghost view = { labels_of };
+
+    ghost invariant = { IsStored };
+
+    ghost inverse = { stored };
+
+    ghost inverse_ok = { stored-back };
+}
+
+// The name with this wire form.
+fn of_wire(bytes: &[u8]) -> Name
+    requires { IsNameSpelled bytes.now }
+    ensures { (labels : List (List ℕ)) → IsName labels → bytes.now ≡ wire labels → result ≡ labels }
+{
+    let mut octets = blank();
+    octets[..bytes.len()].copy_from_slice(bytes);
+    Name {
+        octets,
+        len: bytes.len() as u8,
+    }
+}
+
+impl Name {
+    pub fn root() -> Self
+        ensures { result ≡ [] }
+    {
+        of_wire(&[0])
+    }
+
+    pub fn wire(&self) -> &[u8]
+        ensures wire { result.now ≡ wire self.now }
+        ensures name { IsName self.now }
+    {
+        &self.octets[..self.len as usize]
+    }
+}
+
+impl Name {
+    /// How many labels it has.
+    pub fn labels(&self) -> u8
+        ensures { result ≡ length self.now }
+    {
+        count(self.wire()) as u8
+    }
+
+    /// The name without its first label; None for the root.
+    pub fn parent(&self) -> Option<Name>
+        ensures { MatchOption result (self.now ≡ []) (λ up. (label : List ℕ) × (self.now ≡ label ∷ up)) }
+    {
+        let (_, rest) = first(self.wire())?;
+        Some(of_wire(rest))
+    }
+
+    /// The name of so many labels at or above this one.
+    pub fn cut(&self, labels: u8) -> Name
+        requires { labels ≤ length self.now }
+        ensures { result ≡ ancestor labels self.now }
+    {
+        let bytes = self.wire();
+        of_wire(skip(bytes, count(bytes) - labels as usize))
+    }
+
+    /// The wildcard right under it; None where that is no name, since it has over 255 octets.
+    pub fn star(&self) -> Option<Name>
+        ensures { MatchOption result (255 < length (wire (star_under self.now))) (λ star. star ≡ star_under self.now) }
+    {
+        let bytes = self.wire();
+        if bytes.len() > 253 {
+            return None;
+        }
+        let mut octets = Octets::new();
+        octets.push(1);
+        octets.push(b'*');
+        octets.append(bytes);
+        Some(of_wire(octets.as_slice()))
+    }
+
+    /// The name that the bytes begin with; None where they begin with none.
+    pub fn from_wire(bytes: &[u8]) -> Option<Name>
+        ensures found { IfSome result (BeginsWith bytes.now) }
+        ensures none { IsNone result → (name : List (List ℕ)) → IsName name → BeginsWith bytes.now name → ⊥ }
+    {
+        let len = wire_len(bytes)?;
+        Some(of_wire(&bytes[..len]))
+    }
+
+    /// It is the other name, or lies under it.
+    pub fn is_under(&self, other: &Name) -> bool
+        ensures { result ≡ is_under self.now other.now }
+    {
+        under(self.wire(), other.wire())
+    }
+}

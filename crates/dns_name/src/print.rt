@@ -1,0 +1,81 @@
+// Names as they are printed.
+ghost use Rattle.std.specs.Prelude.{◌≡◌, ◌<◌, ◌≤◌, ◌+◌, ◌++◌, ◌∷◌, [], ℕ, List, length, OnOk, OnErr};
+ghost use Rattle.std.specs.Io.{StartsWith};
+ghost use Rattle.zone_model.specs.NameText.{octet_text, label_text, text_of};
+ghost use Rattle.dns_name.specs.Spelling.{Spells, IsSpelled};
+ghost use Rattle.std.specs.List.{flat_map};
+
+use crate::Name;
+use crate::wire::first;
+use std::alloc::AllocError;
+
+fn push_octet(out: &mut Vec<u8>, octet: u8) -> Result<(), AllocError>
+    ensures ok { OnOk result (out.new.items ≡ out.old.items ++ octet_text octet) }
+    ensures kept { StartsWith out.new.items out.old.items }
+{
+    match octet {
+        b'"' | b'$' | b'(' | b')' | b'.' | b';' | b'@' | b'\\' => {
+            out.push(b'\\')?;
+            out.push(octet)?;
+        }
+        33..=126 => out.push(octet)?,
+        _ => {
+            out.push(b'\\')?;
+            out.push(octet / 100 + 48)?;
+            out.push(octet / 10 % 10 + 48)?;
+            out.push(octet % 10 + 48)?;
+        }
+    }
+    Ok(())
+}
+
+fn push_label(out: &mut Vec<u8>, label: &[u8]) -> Result<(), AllocError>
+    ensures ok { OnOk result (out.new.items ≡ out.old.items ++ label_text label.now) }
+    ensures kept { StartsWith out.new.items out.old.items }
+{
+    for octet in label {
+        push_octet(out, *octet)?;
+    }
+    out.push(b'.')?;
+    Ok(())
+}
+
+fn push_labels(out: &mut Vec<u8>, bytes: &[u8]) -> Result<(), AllocError>
+    requires { IsSpelled bytes.now }
+    ensures ok { OnOk result ((labels : List (List ℕ)) → Spells bytes.now labels → out.new.items ≡ out.old.items ++ flat_map label_text labels) }
+    ensures kept { StartsWith out.new.items out.old.items }
+{
+    let mut rest = bytes;
+    while let Some((label, after)) = first(rest) {
+        push_label(out, label)?;
+        rest = after;
+    }
+    Ok(())
+}
+
+fn push_all(out: &mut Vec<u8>, bytes: &[u8]) -> Result<(), AllocError>
+    requires { IsSpelled bytes.now }
+    ensures ok { OnOk result ((labels : List (List ℕ)) → Spells bytes.now labels → out.new.items ≡ out.old.items ++ text_of labels) }
+    ensures kept { StartsWith out.new.items out.old.items }
+{
+    if bytes.len() == 1 {
+        out.push(b'.')?;
+        return Ok(());
+    }
+    push_labels(out, bytes)
+}
+
+impl Name {
+    /// Adds the name as it is printed.
+    pub fn push_text(&self, out: &mut Vec<u8>) -> Result<(), AllocError>
+        ensures ok { OnOk result (out.new.items ≡ out.old.items ++ text_of self.now) }
+        ensures err { OnErr result (out.new.items ≡ out.old.items) }
+    {
+        let start = out.len();
+        let result = push_all(out, self.wire());
+        if result.is_err() {
+            out.truncate(start);
+        }
+        result
+    }
+}

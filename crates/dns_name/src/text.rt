@@ -1,0 +1,123 @@
+// Names as text.
+ghost use Rattle.std.specs.Prelude.{◌≡◌, ◌<◌, ◌≤◌, ◌+◌, ◌^◌, [], ℕ, List, ◌++◌, length, Result, Ok, IfOk, true, false};
+ghost use Rattle.zone_model.specs.Names.{wire, IsName};
+ghost use Rattle.zone_model.specs.NameText.{labels_from, name_of, completed, fitting};
+ghost use Rattle.dns_name.specs.Reading.{Measures, HasRoom, IsLaid, IsMeasured};
+
+use crate::buffer::Octets;
+use crate::{Name, of_wire};
+use zone_model::NameRefusal;
+
+// The octets of the labels, and whether a dot ends them.
+fn measure(text: &[u8]) -> Result<(usize, bool), NameRefusal>
+    ensures measures { Measures result (labels_from 0 [] text.now) }
+    ensures small { IfOk result (λ x. x.0 + 255 < 2 ^ 64) }
+{
+    let mut octets = 0;
+    let mut pending = 0;
+    for (at, octet) in text.iter().enumerate() {
+        match *octet {
+            b'.' => {
+                if pending == 0 {
+                    return Err(NameRefusal::EmptyLabel(at));
+                }
+                octets += pending + 1;
+                pending = 0;
+            }
+            b'\\' => return Err(NameRefusal::BadEscape(at)),
+            _ => {
+                if pending == 63 {
+                    return Err(NameRefusal::LongLabel(at));
+                }
+                pending += 1;
+            }
+        }
+    }
+    if pending == 0 {
+        Ok((octets, true))
+    } else {
+        Ok((octets + pending + 1, false))
+    }
+}
+
+// The octets of the labels. A last dot adds that of the root.
+fn fill(text: &[u8]) -> Octets
+    requires { HasRoom (labels_from 0 [] text.now) }
+    ensures { IsLaid result (labels_from 0 [] text.now) }
+{
+    let mut octets = Octets::new();
+    octets.push(0);
+    let mut start = 0;
+    for octet in text {
+        if *octet == b'.' {
+            let label = octets.len() - start - 1;
+            octets.set(start, label as u8);
+            start = octets.len();
+            octets.push(0);
+        } else {
+            octets.push(octet.to_ascii_lowercase());
+        }
+    }
+    let label = octets.len() - start - 1;
+    if label > 0 {
+        octets.set(start, label as u8);
+    }
+    octets
+}
+
+// The name of a text that a last dot ends.
+fn absolute(text: &[u8], octets: usize) -> Result<Name, NameRefusal>
+    requires { IsMeasured text.now octets true }
+    ensures { (y : List (List ℕ)) → labels_from 0 [] text.now ≡ Ok (y, true) → result ≡ fitting y }
+{
+    let total = octets + 1;
+    if total > 255 {
+        return Err(NameRefusal::LongName(total));
+    }
+    let laid = fill(text);
+    Ok(of_wire(laid.as_slice()))
+}
+
+// The name of a text that goes on with the origin.
+fn relative(text: &[u8], octets: usize, origin: &Name) -> Result<Name, NameRefusal>
+    requires { IsMeasured text.now octets false }
+    ensures { (y : List (List ℕ)) → labels_from 0 [] text.now ≡ Ok (y, false) → result ≡ fitting (y ++ origin.now) }
+{
+    let behind = origin.wire();
+    let total = octets + behind.len();
+    if total > 255 {
+        return Err(NameRefusal::LongName(total));
+    }
+    let mut laid = fill(text);
+    laid.append(behind);
+    Ok(of_wire(laid.as_slice()))
+}
+
+// The name of a text that is neither empty nor one of the short forms.
+fn complete(text: &[u8], origin: &Name) -> Result<Name, NameRefusal>
+    ensures { result ≡ completed origin.now (labels_from 0 [] text.now) }
+{
+    match measure(text) {
+        Ok((octets, true)) => absolute(text, octets),
+        Ok((octets, false)) => relative(text, octets, origin),
+        Err(refusal) => Err(refusal),
+    }
+}
+
+impl Name {
+    /// The name that a text says. A text without a last dot is relative to the origin.
+    pub fn read(text: &[u8], origin: &Name) -> Result<Name, NameRefusal>
+        ensures { result ≡ name_of text.now origin.now }
+    {
+        if text.is_empty() {
+            return Err(NameRefusal::EmptyLabel(0));
+        }
+        if text.len() == 1 && text[0] == b'@' {
+            return Ok(*origin);
+        }
+        if text.len() == 1 && text[0] == b'.' {
+            return Ok(Name::root());
+        }
+        complete(text, origin)
+    }
+}
