@@ -1,16 +1,14 @@
 -- The names at or under a name stand together, the name first.
-use Rattle.std.proofs.Common.{◌≡◌, ◌∙◌, ℕ, Bool, true, false, cond, not, ◌||◌, ◌&&◌, List, [], ◌∷◌, ◌++◌, reverse, filter, refl, sym, ap, subst}
+use Rattle.std.proofs.Common.{◌≡◌, ◌∙◌, Bool, true, false, cond, not, ◌||◌, ◌&&◌, List, [], ◌∷◌, ◌++◌, reverse, refl, sym, ap}
 use Rattle.std.specs.FinMap.{IsAntisymmetric, nat_cmp-IsAntisymmetric, slice_cmp-IsAntisymmetric}
 use Rattle.std.specs.declared.cmp.Ordering.{Ordering}
 use Rattle.std.specs.declared.cmp.Ordering.TheVariants.{Less, Equal, Greater}
 use Rattle.std.specs.Ordering.{nat_cmp, is_eq, is_le, is_gt, ordering_then, ordering_reverse}
 use Rattle.std.specs.Cmp.Lexicographic.{slice_cmp}
-use Rattle.std.specs.Cmp.{IsTotalOrder}
-use Rattle.std.specs.List.{AllByRecursion, list_any}
+use Rattle.std.specs.List.{AllByRecursion}
 use Rattle.std.specs.List.Sorted.{IsStrictlySortedBy}
 use Rattle.std.specs.Map.{keys_of}
 use Rattle.std.specs.BTreeMap.Range.{entries_between}
-use Rattle.std.specs.declared.ops.Bound.{Bound}
 use Rattle.std.specs.declared.ops.Bound.TheVariants.{Included, Unbounded}
 use Rattle.std.proofs.lemmas.Cmp.{nat_list_cmp_total}
 use Rattle.std.proofs.lemmas.List.{reverse-append, reverse-reverse}
@@ -136,8 +134,8 @@ none_behind : (name x : Name) (rest : Version) → is_gt (name_cmp name x) ≡ f
 none_behind name x [] h n a = refl
 none_behind name x (pair ∷ rest) h n a =
     true_or_false (is_under pair.0 name)
-        (λ u. let k : is_under x name ≡ true = under_between name x pair.0 h (less_not_gt (name_cmp x pair.0) a.0) u in absurd cc)
-        (λ u. ap (λ (b : Bool). b || exists name rest) u ∙ none_behind name x rest h n a.1)
+    (λ u. let k : is_under x name ≡ true = under_between name x pair.0 h (less_not_gt (name_cmp x pair.0) a.0) u in absurd cc)
+    (λ u. ap (λ (b : Bool). b || exists name rest) u ∙ none_behind name x rest h n a.1)
 
 -- A name exists where the first one that doesn't come before it is at or under it.
 pub exists_near : (name : Name) (version : Version) → IsStrictlySortedBy name_cmp (keys_of version) → first_under name (entries_between name_cmp (Included name) Unbounded version) ≡ exists name version
@@ -145,13 +143,14 @@ unfolding IsStrictlySortedBy
 exists_near name [] s = refl
 exists_near name (pair ∷ rest) s =
     true_or_false (is_le (name_cmp name pair.0))
-        (λ l. ap (λ (b : Bool). first_under name (cond (b && not false) (pair ∷ entries_between name_cmp (Included name) Unbounded rest) (entries_between name_cmp (Included name) Unbounded rest))) l ∙ first (le_not_gt (name_cmp name pair.0) l))
-        (λ l. ap (λ (b : Bool). first_under name (cond (b && not false) (pair ∷ entries_between name_cmp (Included name) Unbounded rest) (entries_between name_cmp (Included name) Unbounded rest))) l ∙ exists_near name rest s.1 ∙ sym (later (gt_of_le (name_cmp name pair.0) l)))
+    (λ l. ap (λ (b : Bool). first_under name (cond (b && not false) (pair ∷ entries_between name_cmp (Included name) Unbounded rest) (entries_between name_cmp (Included name) Unbounded rest))) l ∙ first (le_not_gt (name_cmp name pair.0) l))
+    (λ l. ap (λ (b : Bool). first_under name (cond (b && not false) (pair ∷ entries_between name_cmp (Included name) Unbounded rest) (entries_between name_cmp (Included name) Unbounded rest))) l ∙ exists_near name rest s.1 ∙ sym (later (gt_of_le (name_cmp name pair.0) l)))
   where
     first : is_gt (name_cmp name pair.0) ≡ false → is_under pair.0 name ≡ (is_under pair.0 name || exists name rest)
     first h = true_or_false (is_under pair.0 name)
         (λ u. u ∙ sym (ap (λ (b : Bool). b || exists name rest) u))
         (λ u. u ∙ sym (ap (λ (b : Bool). b || exists name rest) u ∙ none_behind name pair.0 rest h u s.0))
+
     later : is_gt (name_cmp name pair.0) ≡ true → (is_under pair.0 name || exists name rest) ≡ exists name rest
     later h = true_or_false (is_under pair.0 name)
         (λ u. let k : is_gt (name_cmp name pair.0) ≡ false = under_not_before pair.0 name u in absurd cc)

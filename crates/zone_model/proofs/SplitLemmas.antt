@@ -1,5 +1,5 @@
 -- A name is split off from bytes exactly where they begin with one.
-use Rattle.std.proofs.Common.{◌≡◌, ◌∙◌, ℕ, zero, suc, ◌+◌, ◌-◌, ◌*◌, ◌<◌, ◌≤◌, Bool, true, false, cond, leb, eqb, eq-eqb, ◌&&◌, List, [], ◌∷◌, ◌++◌, length, take, drop, refl, sym, ap, subst, arith, get_or, Option, Some, None, option_and_then, length-append, append_assoc}
+use Rattle.std.proofs.Common.{◌≡◌, ◌∙◌, ℕ, zero, suc, ◌+◌, ◌*◌, ◌<◌, ◌≤◌, Bool, true, false, cond, leb, eqb, eq-eqb, ◌&&◌, List, [], ◌∷◌, ◌++◌, length, take, drop, refl, sym, ap, subst, arith, get_or, Option, Some, None, option_and_then, length-append, append_assoc}
 use Rattle.std.proofs.lemmas.Bool.Decides.{nat_tests}
 use Rattle.std.proofs.lemmas.List.{take_at, drop_at, length-take-le, take-append-drop}
 use borrow.Author.Tests.{leb-true, eqb-true}
@@ -159,12 +159,12 @@ labels_sound zero [] x b h = absurd cc
 labels_sound (suc most) [] x b h = absurd cc
 labels_sound zero (n ∷ rest) x b h =
     zero_or_not n (eqb n 0) refl
-        (λ z. ends_here n rest x z (ap (λ t. cond t (Some ([], rest)) None) (sym z) ∙ h))
-        (λ z. let k : None ≡ Some x = ap (λ t. cond t (Some ([], rest)) None) (sym z) ∙ h in absurd cc)
+    (λ z. ends_here n rest x z (ap (λ t. cond t (Some ([], rest)) None) (sym z) ∙ h))
+    (λ z. let k : None ≡ Some x = ap (λ t. cond t (Some ([], rest)) None) (sym z) ∙ h in absurd cc)
 labels_sound (suc most) (n ∷ rest) x b h =
     zero_or_not n (eqb n 0) refl
-        (λ z. ends_here n rest x z (ap (λ t. cond t (Some ([], rest)) (option_and_then (labels_on n most) (split_octets n rest))) (sym z) ∙ h))
-        (λ z. label_sound n most rest x (λ i. b (suc i)) z (labels_sound most) (ap (λ t. cond t (Some ([], rest)) (option_and_then (labels_on n most) (split_octets n rest))) (sym z) ∙ h))
+    (λ z. ends_here n rest x z (ap (λ t. cond t (Some ([], rest)) (option_and_then (labels_on n most) (split_octets n rest))) (sym z) ∙ h))
+    (λ z. label_sound n most rest x (λ i. b (suc i)) z (labels_sound most) (ap (λ t. cond t (Some ([], rest)) (option_and_then (labels_on n most) (split_octets n rest))) (sym z) ∙ h))
 
 pub record SplitsName (bytes : List ℕ) (x : Name × List ℕ) : Type 0 where
   pub name : IsName x.0

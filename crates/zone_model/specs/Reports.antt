@@ -1,11 +1,11 @@
 -- What is printed for a job and its outcomes.
-use Rattle.std.specs.Prelude.{◌≡◌, ℕ, ◌+◌, List, [], ◌∷◌, ◌++◌, length, ◌==◌, if◌then◌else◌, codes}
+use Rattle.std.specs.Prelude.{ℕ, ◌+◌, List, [], ◌∷◌, ◌++◌, length, ◌==◌, if◌then◌else◌, codes}
 use Rattle.std.specs.List.{flat_map}
 use Rattle.std.specs.Fmt.{decimal}
 use Rattle.zone_model.specs.Names.{Name}
 use Rattle.zone_model.specs.NameText.{text_of}
 use Rattle.zone_model.specs.DataText.{type_text, data_text}
-use Rattle.zone_model.specs.Versions.{Version, Operation}
+use Rattle.zone_model.specs.Versions.{Version}
 use Rattle.zone_model.specs.Answers.{Answer, Kind, Answered, Nodata, Nxdomain, Outside, Row, answer}
 use Rattle.zone_model.specs.Jobs.{Command, Get, Block}
 use Rattle.zone_model.specs.Outcomes.{Ended, Shown, Committed, Refused, Outcome, Pair, all_pairs, version_at}

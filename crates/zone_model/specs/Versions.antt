@@ -1,5 +1,5 @@
 -- A version of the zone is the list of its names with their entries, in canonical order. Operations change it.
-use Rattle.std.specs.Prelude.{ℕ, Bool, true, false, ◌&&◌, not, List, [], ◌∷◌, length, nat_lt, ◌==◌, if◌then◌else◌, Option, Some, None, unwrap_or, is_some, is_none, Result, Ok, Err}
+use Rattle.std.specs.Prelude.{ℕ, Bool, false, ◌&&◌, not, List, [], ◌∷◌, length, nat_lt, ◌==◌, if◌then◌else◌, Option, Some, None, unwrap_or, is_some, is_none, Result, Ok, Err}
 use Rattle.std.specs.BTreeMap.{insert_entry, is_at}
 use Rattle.std.specs.Map.{lookup, remove_entry}
 use Rattle.zone_model.specs.Names.{Name, name_cmp, same_name}
@@ -59,28 +59,40 @@ with_added a entry = if a.rtype == soa_type then with_soa a.ttl a.octets entry e
 abbrev pub is_low_soa : Name → Addition → Bool
 is_low_soa origin a = (a.rtype == soa_type) && not (same_name a.owner origin)
 
--- the version in which a name owns this entry, unless the item would be too long
-abbrev pub put_fitting : Name → Entry → Version → Result Version Refusal
-put_fitting name entry version = if nat_lt item_limit (length (item name entry)) then Err Long else Ok (put name entry version)
+-- an entry whose item isn't too long
+abbrev pub fitting : Name → Entry → Result Entry Refusal
+fitting owner entry = if nat_lt item_limit (length (item owner entry)) then Err Long else Ok entry
 
 -- The SOA would leave. It stands at the top alone.
 abbrev pub loses_soa : Entry → Entry → Bool
 loses_soa before after = is_some (rrset_of soa_type before) && is_none (rrset_of soa_type after)
 
--- the version in which a name has this left, unless that loses the SOA
-abbrev pub left_with : Name → Entry → Version → Result Version Refusal
-left_with name rest version = if loses_soa (owned name version) rest then Err Soa else Ok (put name rest version)
+-- what is left of an entry, unless that loses the SOA
+abbrev pub keeping_soa : Entry → Entry → Result Entry Refusal
+keeping_soa before after = if loses_soa before after then Err Soa else Ok after
 
--- what an operation makes of a version of the zone of an origin, or why it is refused
-abbrev pub apply : Name → Operation → Version → Result Version Refusal
-apply origin (Add a) version = if is_low_soa origin a then Err Soa else put_fitting a.owner (with_added a (owned a.owner version)) version
-apply origin (DeleteName owner) version = left_with owner [] version
-apply origin (DeleteSet owner rtype) version = left_with owner (without_set rtype (owned owner version)) version
-apply origin (DeleteRecord owner rtype octets) version = left_with owner (without_rr rtype octets (owned owner version)) version
+-- the name that an operation changes
+abbrev pub owner_of : Operation → Name
+owner_of (Add a) = a.owner
+owner_of (DeleteName owner) = owner
+owner_of (DeleteSet owner rtype) = owner
+owner_of (DeleteRecord owner rtype octets) = owner
+
+-- what an operation makes of its owner's entry, in the zone of an origin, or why it is refused
+abbrev pub changed : Name → Operation → Entry → Result Entry Refusal
+changed origin (Add a) entry = if is_low_soa origin a then Err Soa else fitting a.owner (with_added a entry)
+changed origin (DeleteName owner) entry = keeping_soa entry []
+changed origin (DeleteSet owner rtype) entry = keeping_soa entry (without_set rtype entry)
+changed origin (DeleteRecord owner rtype octets) entry = keeping_soa entry (without_rr rtype octets entry)
 
 abbrev pub and_then : {A B E : Type 0} → Result A E → (A → Result B E) → Result B E
 and_then (Ok x) f = f x
 and_then (Err e) f = Err e
+
+-- what an operation makes of a version, or why it is refused
+abbrev pub apply : Name → Operation → Version → Result Version Refusal
+apply origin operation version =
+    and_then (changed origin operation (owned (owner_of operation) version)) (λ entry. Ok (put (owner_of operation) entry version))
 
 -- what a block makes of a version: its operations in order, or the first refusal
 abbrev pub whole : Name → List Operation → Version → Result Version Refusal

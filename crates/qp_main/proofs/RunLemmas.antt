@@ -1,0 +1,289 @@
+-- A run goes on by one command.
+use Rattle.std.proofs.Common.{◌≡◌, ℕ, zero, suc, ◌+◌, ◌-◌, ◌<◌, ◌≤◌, Bool, true, false, cond, ◌&&◌, ◌||◌, eqb, List, [], ◌∷◌, ◌++◌, length, map, sym, ap, ◌∙◌, subst, refl, arith, append_assoc, append-nil, Result, Ok, Err, inl, inr, IsOk, get_or, take}
+use Rattle.std.proofs.lemmas.Bool.{cases_eq}
+use Rattle.std.proofs.lemmas.List.{map-append, length-map, map_more, length-take-le}
+use Rattle.std.specs.List.{AllByRecursion, list_any}
+use Rattle.zone_model.specs.Names.{Name}
+use Rattle.zone_model.specs.Versions.{Version, Operation, whole}
+use Rattle.zone_model.specs.Jobs.{Command, Get, Block}
+use Rattle.zone_model.specs.Answers.{answer}
+use Rattle.zone_model.specs.Outcomes.{Outcome, Ended, Shown, Committed, Refused, is_committed, is_refused, made, operations_of, operations_at, accepted_or, after, times_made, version_at, EndsLawfully, Along, all_pairs}
+use Rattle.zone_model.specs.Reports.{head_text, command_text, worker_text, workers_text, answer_text}
+use Rattle.zone_model.specs.declared.Refusal.{Refusal}
+use Rattle.std.specs.Fmt.{decimal}
+use Rattle.std.specs.Prelude.{codes}
+use Rattle.qp_main.specs.Runs.{Ran, Stepped, StepEnds}
+use Rattle.qp_main.specs.Due.{Reported}
+use Rattle.qp_main.specs.declared.status.Status.{Status}
+use Rattle.qp_main.specs.declared.status.Status.TheVariants as status
+
+abbrev Pairs : Type 0
+Pairs = List (Command × Outcome)
+
+abbrev Within : ℕ → Pairs → Type 0
+Within last pairs = AllByRecursion (λ (p : Command × Outcome). p.1.version ≤ last) pairs
+
+-- ---- the versions that further pairs leave as they are
+
+not_made : (j : ℕ) (p : Command × Outcome) → (p.1.version ≡ j → ⊥) → made j p ≡ false
+not_made j p n = let e : eqb p.1.version j ≡ false = grind arith in ap (λ (b : Bool). is_committed p.1.ended && b) e ∙ and-false (is_committed p.1.ended)
+  where
+    and-false : (b : Bool) → (b && false) ≡ false
+    and-false true = refl
+    and-false false = refl
+
+operations_at-push : (j : ℕ) (pairs : Pairs) (p : Command × Outcome) → made j p ≡ false → operations_at j (pairs ++ p ∷ []) ≡ operations_at j pairs
+operations_at-push j [] p n = rw n refl
+operations_at-push j (q ∷ qs) p n = ap (λ (o : List Operation). cond (made j q) (operations_of q.0) o) (operations_at-push j qs p n)
+
+operations_at-last : (j : ℕ) (pairs : Pairs) (p : Command × Outcome) → Within j pairs → made (suc j) p ≡ true → operations_at (suc j) (pairs ++ p ∷ []) ≡ operations_of p.0
+operations_at-last j [] p w m = rw m refl
+operations_at-last j (q ∷ qs) p w m =
+    let n : made (suc j) q ≡ false = not_made (suc j) q (λ e. omega (arith, w.0)) in
+    rw n (operations_at-last j qs p w.1 m)
+
+version_at-push : (origin : Name) (zone : Version) (pairs : Pairs) (p : Command × Outcome) (j : ℕ) → ((i : ℕ) → i ≤ j → made i p ≡ false) → version_at origin zone (pairs ++ p ∷ []) j ≡ version_at origin zone pairs j
+version_at-push origin zone pairs p zero n = refl
+version_at-push origin zone pairs p (suc j) n =
+    let le : suc j ≤ suc j = omega arith in
+    ap (λ (o : List Operation). after origin o (version_at origin zone (pairs ++ p ∷ []) j)) (operations_at-push (suc j) pairs p (n (suc j) le))
+    ∙ ap (after origin (operations_at (suc j) pairs)) (version_at-push origin zone pairs p j (λ i h. n i (let k : i ≤ suc j = omega arith in k)))
+
+-- ---- versions that agree up to the last one print and end alike
+
+abbrev Agree : (ℕ → Version) → (ℕ → Version) → ℕ → Type 0
+Agree set other last = (j : ℕ) → j ≤ last → other j ≡ set j
+
+text_alike : (origin : Name) (set other : ℕ → Version) (last : ℕ) → Agree set other last → (c : Command) (o : Outcome) → o.version ≤ last → command_text origin other c o ≡ command_text origin set c o
+text_alike origin set other last a (Get name rtype) o h = ap (λ (v : Version). answer_text (answer origin v name rtype)) (a o.version h)
+text_alike origin set other last a (Block operations) o h = refl
+
+worker_text-alike : (origin : Name) (set other : ℕ → Version) (last c : ℕ) (pairs : Pairs) → Agree set other last → Within last pairs → worker_text origin other 1 c pairs ≡ worker_text origin set 1 c pairs
+worker_text-alike origin set other last c [] a w = refl
+worker_text-alike origin set other last c (p ∷ ps) a w =
+    ap (λ (t : List ℕ). head_text 1 c p.1.version ++ t ++ worker_text origin other 1 (c + 1) ps) (text_alike origin set other last a p.0 p.1 w.0)
+    ∙ ap (λ (t : List ℕ). head_text 1 c p.1.version ++ command_text origin set p.0 p.1 ++ t) (worker_text-alike origin set other last (c + 1) ps a w.1)
+
+worker_text-push : (origin : Name) (set : ℕ → Version) (c : ℕ) (pairs : Pairs) (p : Command × Outcome) → worker_text origin set 1 c (pairs ++ p ∷ []) ≡ worker_text origin set 1 c pairs ++ (head_text 1 (c + length pairs) p.1.version ++ command_text origin set p.0 p.1)
+worker_text-push origin set c [] p = append-nil (head_text 1 c p.1.version ++ command_text origin set p.0 p.1) ∙ ap (λ (n : ℕ). head_text 1 n p.1.version ++ command_text origin set p.0 p.1) (let e : c ≡ c + 0 = omega arith in e)
+worker_text-push origin set c (q ∷ qs) p =
+    let n : (c + 1) + length qs ≡ c + suc (length qs) = omega arith in
+    ap (λ (t : List ℕ). head_text 1 c q.1.version ++ command_text origin set q.0 q.1 ++ t) (worker_text-push origin set (c + 1) qs p)
+    ∙ sym (append_assoc (head_text 1 c q.1.version ++ command_text origin set q.0 q.1) (worker_text origin set 1 (c + 1) qs) (head_text 1 ((c + 1) + length qs) p.1.version ++ command_text origin set p.0 p.1))
+    ∙ ap (λ (k : ℕ). (head_text 1 c q.1.version ++ command_text origin set q.0 q.1 ++ worker_text origin set 1 (c + 1) qs) ++ (head_text 1 k p.1.version ++ command_text origin set p.0 p.1)) n
+
+ends_alike : (origin : Name) (set other : ℕ → Version) (last seen v : ℕ) (c : Command) (e : Ended) → Agree set other last → v ≤ last → EndsLawfully origin set seen c v e → EndsLawfully origin other seen c v e
+ends_alike origin set other last seen v (Get name rtype) Shown a h l = l
+ends_alike origin set other last seen v (Get name rtype) Committed a h l = l
+ends_alike origin set other last seen v (Get name rtype) (Refused cause) a h l = l
+ends_alike origin set other last seen v (Block operations) Shown a h l = l
+ends_alike origin set other last seen v (Block operations) Committed a h l =
+    let le : v - 1 ≤ last = omega arith in
+    (l.0, subst (λ (w : Version). IsOk (whole origin operations w)) (sym (a (v - 1) le)) l.1)
+ends_alike origin set other last seen v (Block operations) (Refused cause) a h l = (l.0, ap (whole origin operations) (a v h) ∙ l.1)
+
+-- what the worker has seen in the end
+abbrev seen_after : ℕ → Pairs → ℕ
+seen_after seen [] = seen
+seen_after seen (p ∷ ps) = seen_after p.1.version ps
+
+seen_within : (last seen : ℕ) (pairs : Pairs) → seen ≤ last → Within last pairs → seen_after seen pairs ≤ last
+seen_within last seen [] h w = h
+seen_within last seen (p ∷ ps) h w = seen_within last p.1.version ps w.0 w.1
+
+along_push : (origin : Name) (set other : ℕ → Version) (last seen : ℕ) (pairs : Pairs) (p : Command × Outcome) → Agree set other last → Within last pairs → Along origin set seen pairs
+    → EndsLawfully origin other (seen_after seen pairs) p.0 p.1.version p.1.ended → Along origin other seen (pairs ++ p ∷ [])
+along_push origin set other last seen [] p a w l e = (e, tt)
+along_push origin set other last seen (q ∷ qs) p a w l e = (ends_alike origin set other last seen q.1.version q.0 q.1.ended a w.0 l.0, along_push origin set other last q.1.version qs p a w.1 l.1 e)
+
+within_more : (last next : ℕ) (pairs : Pairs) (p : Command × Outcome) → Within last pairs → last ≤ next → p.1.version ≤ next → Within next (pairs ++ p ∷ [])
+within_more last next [] p w h k = (k, tt)
+within_more last next (q ∷ qs) p w h k = (omega (arith, w.0), within_more last next qs p w.1 h k)
+
+count-push : (j : ℕ) (pairs : Pairs) (p : Command × Outcome) → times_made j (pairs ++ p ∷ []) ≡ times_made j pairs + cond (made j p) 1 0
+count-push j [] p = let e : cond (made j p) 1 0 + 0 ≡ 0 + cond (made j p) 1 0 = omega arith in e
+count-push j (q ∷ qs) p = ap (λ (n : ℕ). cond (made j q) 1 0 + n) (count-push j qs p) ∙ (let e : cond (made j q) 1 0 + (times_made j qs + cond (made j p) 1 0) ≡ (cond (made j q) 1 0 + times_made j qs) + cond (made j p) 1 0 = omega arith in e)
+
+count_none : (j : ℕ) (pairs : Pairs) → Within j pairs → times_made (suc j) pairs ≡ 0
+count_none j [] w = refl
+count_none j (q ∷ qs) w =
+    let n : made (suc j) q ≡ false = not_made (suc j) q (λ e. omega (arith, w.0)) in
+    ap (λ (b : Bool). cond b 1 0 + times_made (suc j) qs) n ∙ ap (λ (k : ℕ). 0 + k) (count_none j qs w.1)
+
+-- ---- whether one was refused
+
+or-assoc : (a b c : Bool) → (a || (b || c)) ≡ ((a || b) || c)
+or-assoc true b c = refl
+or-assoc false b c = refl
+
+or-nil : (b : Bool) → (b || false) ≡ b
+or-nil true = refl
+or-nil false = refl
+
+some-push : (pairs : Pairs) (p : Command × Outcome) → list_any (λ (q : Command × Outcome). is_refused q.1.ended) (pairs ++ p ∷ []) ≡ (list_any (λ (q : Command × Outcome). is_refused q.1.ended) pairs || is_refused p.1.ended)
+some-push [] p = or-nil (is_refused p.1.ended)
+some-push (q ∷ qs) p = ap (λ (b : Bool). is_refused q.1.ended || b) (some-push qs p) ∙ or-assoc (is_refused q.1.ended) (list_any (λ (q : Command × Outcome). is_refused q.1.ended) qs) (is_refused p.1.ended)
+
+-- ---- the whole step
+
+set_of : (origin : Name) (zone : Version) (pairs : Pairs) (last : ℕ) (p : Command × Outcome) → ((i : ℕ) → i ≤ last → made i p ≡ false) → Agree (version_at origin zone pairs) (version_at origin zone (pairs ++ p ∷ [])) last
+set_of origin zone pairs last p n j h = version_at-push origin zone pairs p j (λ i k. n i (let le : i ≤ last = omega arith in le))
+
+grown_text : (origin : Name) (zone : Version) (before mid now : List ℕ) (last : ℕ) (pairs : Pairs) (p : Command × Outcome) (n : ℕ) → Agree (version_at origin zone pairs) (version_at origin zone (pairs ++ p ∷ [])) last
+    → Within last pairs → 1 + length pairs ≡ n + 1 → mid ≡ before ++ worker_text origin (version_at origin zone pairs) 1 1 pairs
+    → now ≡ mid ++ (head_text 1 (n + 1) p.1.version ++ command_text origin (version_at origin zone (pairs ++ p ∷ [])) p.0 p.1)
+    → now ≡ before ++ worker_text origin (version_at origin zone (pairs ++ p ∷ [])) 1 1 (pairs ++ p ∷ [])
+grown_text origin zone before mid now last pairs p n agree w long m e =
+    let set = version_at origin zone (pairs ++ p ∷ []) in
+    e ∙ ap (λ (t : List ℕ). t ++ (head_text 1 (n + 1) p.1.version ++ command_text origin (version_at origin zone (pairs ++ p ∷ [])) p.0 p.1)) (m ∙ ap (λ (t : List ℕ). before ++ t) (sym (worker_text-alike origin (version_at origin zone pairs) (version_at origin zone (pairs ++ p ∷ [])) last 1 pairs agree w)))
+    ∙ append_assoc before (worker_text origin (version_at origin zone (pairs ++ p ∷ [])) 1 1 pairs) (head_text 1 (n + 1) p.1.version ++ command_text origin (version_at origin zone (pairs ++ p ∷ [])) p.0 p.1)
+    ∙ ap (λ (k : ℕ). before ++ (worker_text origin (version_at origin zone (pairs ++ p ∷ [])) 1 1 pairs ++ (head_text 1 k p.1.version ++ command_text origin (version_at origin zone (pairs ++ p ∷ [])) p.0 p.1))) (sym long)
+    ∙ ap (λ (t : List ℕ). before ++ t) (sym (worker_text-push origin (version_at origin zone (pairs ++ p ∷ [])) 1 pairs p))
+
+-- a command that makes no version
+ran_same : (origin : Name) (zone : Version) (commands : List Command) (before mid now : List ℕ) (last : ℕ) (version : Version) (refused : Bool) (command : Command) (o : Outcome) (r : Ran origin zone commands before mid last version refused)
+    → is_committed o.ended ≡ false → o.version ≡ last → EndsLawfully origin (version_at origin zone r.pairs) (seen_after 0 r.pairs) command o.version o.ended
+    → now ≡ mid ++ (head_text 1 (length commands + 1) o.version ++ command_text origin (version_at origin zone r.pairs) command o)
+    → Ran origin zone (commands ++ command ∷ []) before now last version (refused || is_refused o.ended)
+ran_same origin zone commands before mid now last version refused command o r plain here ends text =
+    let p : Command × Outcome = (command, o) in
+    let unmade : (j : ℕ) → made j (command, o) ≡ false = λ j. ap (λ (b : Bool). b && eqb o.version j) plain in
+    let agree = set_of origin zone r.pairs last (command, o) (λ i h. unmade i) in
+    let le : o.version ≤ last = omega arith in
+    let long : 1 + length r.pairs ≡ length commands + 1 = omega (arith, ap length r.same, length-map r.pairs (λ (q : Command × Outcome). q.0)) in
+    record {
+      pairs = r.pairs ++ (command, o) ∷ [];
+      same = map-append (λ (q : Command × Outcome). q.0) r.pairs ((command, o) ∷ []) ∙ ap (λ (l : List Command). l ++ command ∷ []) r.same;
+      once = λ j h k. count-push j r.pairs (command, o) ∙ ap (λ (b : Bool). times_made j r.pairs + cond b 1 0) (unmade j) ∙ (let e : times_made j r.pairs + 0 ≡ times_made j r.pairs = omega arith in e) ∙ r.once j h k;
+      none_above = let refl_le : last ≤ last = omega arith in within_more last last r.pairs (command, o) r.none_above refl_le le;
+      along = along_push origin (version_at origin zone r.pairs) (version_at origin zone (r.pairs ++ (command, o) ∷ [])) last 0 r.pairs (command, o) agree r.none_above r.along (ends_alike origin (version_at origin zone r.pairs) (version_at origin zone (r.pairs ++ (command, o) ∷ [])) last (seen_after 0 r.pairs) o.version command o.ended agree le ends);
+      text = grown_text origin zone before mid now last r.pairs (command, o) (length commands) agree r.none_above long r.text (text ∙ ap (λ (t : List ℕ). mid ++ (head_text 1 (length commands + 1) o.version ++ t)) (sym (text_alike origin (version_at origin zone r.pairs) (version_at origin zone (r.pairs ++ (command, o) ∷ [])) last agree command o le)));
+      current = r.current ∙ (let refl_le : last ≤ last = omega arith in sym (agree last refl_le));
+      some = ap (λ (b : Bool). b || is_refused o.ended) r.some ∙ sym (some-push r.pairs (command, o));
+    }
+
+ok_from : (r : Result Version Refusal) (v : Version) → r ≡ Ok v → IsOk r
+ok_from (Ok w) v e = refl
+ok_from (Err x) v e = cc
+
+after_ok : (origin : Name) (operations : List Operation) (v w : Version) → whole origin operations v ≡ Ok w → after origin operations v ≡ w
+after_ok origin operations v w e = ap (accepted_or v) e
+
+counted_next : (last : ℕ) (pairs : Pairs) (p : Command × Outcome) → Within last pairs → ((i : ℕ) → i ≤ last → made i p ≡ false) → made (suc last) p ≡ true
+    → ((j : ℕ) → 0 < j → j ≤ last → times_made j pairs ≡ 1) → (j : ℕ) → 0 < j → j ≤ suc last → times_made j pairs + cond (made j p) 1 0 ≡ 1
+counted_next last pairs p w below here once j h k =
+    elim (cases_eq j (suc last)) [
+      | inl e ↦ subst (λ (i : ℕ). times_made i pairs + cond (made i p) 1 0 ≡ 1) (sym e) (ap (λ (n : ℕ). n + cond (made (suc last) p) 1 0) (count_none last pairs w) ∙ ap (λ (b : Bool). 0 + cond b 1 0) here)
+      | inr n ↦
+          let le : j ≤ last = omega arith in
+          ap (λ (m : ℕ). m + cond (made j p) 1 0) (once j h le) ∙ ap (λ (b : Bool). 1 + cond b 1 0) (below j le)
+    ]
+
+-- a block that makes the next version
+ran_next : (origin : Name) (zone : Version) (commands : List Command) (before mid now : List ℕ) (last : ℕ) (old new : Version) (operations : List Operation) (refused : Bool) (r : Ran origin zone commands before mid last old refused)
+    → whole origin operations old ≡ Ok new → now ≡ mid ++ (head_text 1 (length commands + 1) (suc last) ++ command_text origin (λ _. old) (Block operations) (record { version = suc last; ended = Committed }))
+    → Ran origin zone (commands ++ Block operations ∷ []) before now (suc last) new (refused || false)
+ran_next origin zone commands before mid now last old new operations refused r ends text =
+    let o : Outcome = record { version = suc last; ended = Committed } in
+    let p : Command × Outcome = (Block operations, record { version = suc last; ended = Committed }) in
+    let below : (i : ℕ) → i ≤ last → made i p ≡ false = λ i h. not_made i p (λ e. omega arith) in
+    let here : made (suc last) p ≡ true = (let t : eqb (suc last) (suc last) ≡ true = grind arith in t) in
+    let agree = set_of origin zone r.pairs last p below in
+    let refl_le : last ≤ last = omega arith in
+    let le : last ≤ suc last = omega arith in
+    let same_le : suc last ≤ suc last = omega arith in
+    let long : 1 + length r.pairs ≡ length commands + 1 = omega (arith, ap length r.same, length-map r.pairs (λ (q : Command × Outcome). q.0)) in
+    let base : version_at origin zone (r.pairs ++ p ∷ []) last ≡ old = agree last refl_le ∙ sym r.current in
+    let accepted : whole origin operations (version_at origin zone (r.pairs ++ p ∷ []) last) ≡ Ok new = ap (whole origin operations) base ∙ ends in
+    let one : suc last - 1 ≡ last = omega arith in
+    record {
+      pairs = r.pairs ++ p ∷ [];
+      same = map-append (λ (q : Command × Outcome). q.0) r.pairs (p ∷ []) ∙ ap (λ (l : List Command). l ++ Block operations ∷ []) r.same;
+      once = λ j h k. count-push j r.pairs p ∙ counted_next last r.pairs p r.none_above below here r.once j h k;
+      none_above = within_more last (suc last) r.pairs p r.none_above le same_le;
+      along = along_push origin (version_at origin zone r.pairs) (version_at origin zone (r.pairs ++ p ∷ [])) last 0 r.pairs p agree r.none_above r.along (
+        (let z : 0 ≤ last = omega arith in let s = seen_within last 0 r.pairs z r.none_above in let lt : seen_after 0 r.pairs < suc last = omega arith in lt),
+        subst (λ (k : ℕ). IsOk (whole origin operations (version_at origin zone (r.pairs ++ p ∷ []) k))) (sym one) (ok_from _ _ accepted),
+      );
+      text = grown_text origin zone before mid now last r.pairs p (length commands) agree r.none_above long r.text text;
+      current = sym (ap (λ (l : List Operation). after origin l (version_at origin zone (r.pairs ++ p ∷ []) last)) (operations_at-last last r.pairs p r.none_above here) ∙ after_ok origin operations _ new accepted);
+      some = ap (λ (b : Bool). b || false) r.some ∙ sym (some-push r.pairs p);
+    }
+
+pub ran_more : (origin : Name) (zone : Version) (commands : List Command) (command : Command) (before mid now : List ℕ) (last next : ℕ) (old new : Version) (refused here : Bool)
+    → Ran origin zone commands before mid last old refused → Stepped origin command (length commands + 1) last next old new mid now here → Ran origin zone (commands ++ command ∷ []) before now next new (refused || here)
+ran_more origin zone commands command before mid now last next old new refused here r s =
+    subst (λ (b : Bool). Ran origin zone (commands ++ command ∷ []) before now next new (refused || b)) (sym s.some) (go command s.ended s.ends s.text)
+  where
+    go : (c : Command) (e : Ended) → StepEnds origin c e last next old new → now ≡ mid ++ (head_text 1 (length commands + 1) next ++ command_text origin (λ _. old) c (record { version = next; ended = e })) → Ran origin zone (commands ++ c ∷ []) before now next new (refused || is_refused e)
+    go (Get name rtype) Shown ends text =
+        let here : next ≡ last = ends.0 in
+        let z : 0 ≤ last = omega arith in
+        let seen = seen_within last 0 r.pairs z r.none_above in
+        let le : seen_after 0 r.pairs ≤ next = omega arith in
+        let set : version_at origin zone r.pairs next ≡ old = ap (version_at origin zone r.pairs) here ∙ sym r.current in
+        subst (λ (n : ℕ). Ran origin zone (commands ++ Get name rtype ∷ []) before now n new (refused || false)) (sym here)
+        (subst (λ (v : Version). Ran origin zone (commands ++ Get name rtype ∷ []) before now last v (refused || false)) (sym ends.1)
+        (ran_same origin zone commands before mid now last old refused (Get name rtype) (record { version = next; ended = Shown }) r refl here le
+        (text ∙ ap (λ (v : Version). mid ++ (head_text 1 (length commands + 1) next ++ answer_text (answer origin v name rtype))) (sym set))))
+    go (Get name rtype) Committed ends text = absurd ends
+    go (Get name rtype) (Refused cause) ends text = absurd ends
+    go (Block operations) Shown ends text = absurd ends
+    go (Block operations) Committed ends text =
+        let here : next ≡ suc last = omega (arith, ends.0) in
+        subst (λ (n : ℕ). Ran origin zone (commands ++ Block operations ∷ []) before now n new (refused || false)) (sym here)
+        (ran_next origin zone commands before mid now last old new operations refused r ends.1
+        (text ∙ ap (λ (n : ℕ). mid ++ (head_text 1 (length commands + 1) n ++ command_text origin (λ _. old) (Block operations) (record { version = n; ended = Committed }))) here))
+    go (Block operations) (Refused cause) ends text =
+        let here : next ≡ last = ends.0 in
+        let z : 0 ≤ last = omega arith in
+        let seen = seen_within last 0 r.pairs z r.none_above in
+        let le : seen_after 0 r.pairs ≤ next = omega arith in
+        let set : version_at origin zone r.pairs next ≡ old = ap (version_at origin zone r.pairs) here ∙ sym r.current in
+        subst (λ (n : ℕ). Ran origin zone (commands ++ Block operations ∷ []) before now n new (refused || true)) (sym here)
+        (subst (λ (v : Version). Ran origin zone (commands ++ Block operations ∷ []) before now last v (refused || true)) (sym ends.1)
+        (ran_same origin zone commands before mid now last old refused (Block operations) (record { version = next; ended = Refused cause }) r refl here (le, ap (whole origin operations) set ∙ ends.2) text))
+
+-- the same along a list of commands
+pub ran_index : {C : Type 0} (view : C → Command) (commands : List C) (i : ℕ) (here : C) (origin : Name) (zone : Version) (before mid now : List ℕ) (last next : ℕ) (old new : Version) (refused step : Bool)
+    → i < length commands → here ≡ get_or commands i here → Ran origin zone (map view (take i commands)) before mid last old refused → Stepped origin (view here) (i + 1) last next old new mid now step
+    → Ran origin zone (map view (take (i + 1) commands)) before now next new (refused || step)
+ran_index view commands i here origin zone before mid now last next old new refused step lt is r s =
+    let le : i ≤ length commands = omega arith in
+    let long : length (map view (take i commands)) ≡ i = length-map (take i commands) view ∙ length-take-le i commands le in
+    let further : map view (take (i + 1) commands) ≡ map view (take i commands) ++ view here ∷ [] = map_more view commands i here lt ∙ ap (λ (x : _). map view (take i commands) ++ view x ∷ []) (sym is) in
+    let one : Stepped origin (view here) (length (map view (take i commands)) + 1) last next old new mid now step = subst (λ (n : ℕ). Stepped origin (view here) (n + 1) last next old new mid now step) (sym long) s in
+    subst (λ (l : List Command). Ran origin zone l before now next new (refused || step)) (sym further) (ran_more origin zone (map view (take i commands)) (view here) before mid now last next old new refused step r one)
+
+-- ---- the report of one worker
+
+all_one : (pairs : Pairs) → all_pairs (pairs ∷ []) ≡ pairs
+all_one pairs = append-nil pairs
+
+abbrev Told : Name → Version → Pairs → ℕ → Pairs → List ℕ
+Told origin zone pairs last all = workers_text origin (version_at origin zone all) 1 (pairs ∷ []) ++ codes "end v" ++ decimal last ++ codes " names " ++ decimal (length (version_at origin zone all last)) ++ codes "\n"
+
+-- the status says whether a block was refused
+abbrev pub status_of : Bool → Status
+status_of refused = cond refused status.SomeRefused status.Done
+
+pub reported : (origin : Name) (zone : Version) (commands : List Command) (now : List ℕ) (last : ℕ) (version : Version) (refused : Bool) (out : List ℕ) → Ran origin zone commands [] now last version refused
+    → out ≡ now ++ (codes "end v" ++ decimal last ++ codes " names " ++ decimal (length version) ++ codes "\n")
+    → Reported (record { origin = origin; zone = zone; workers = commands ∷ [] }) (status_of refused) out
+reported origin zone commands now last version refused out r f =
+    let e : out ≡ now ++ codes "end v" ++ decimal last ++ codes " names " ++ decimal (length version) ++ codes "\n" = f ∙ simp append_assoc in
+    let one = sym (all_one r.pairs) in
+    record {
+      workers = r.pairs ∷ [];
+      last = last;
+      same = ap (λ (l : List Command). l ∷ []) r.same;
+      lawful = record {
+        once = λ j h k. subst (λ (all : Pairs). times_made j all ≡ 1) one (r.once j h k);
+        none_above = subst (Within last) one r.none_above;
+        along = (subst (λ (all : Pairs). Along origin (version_at origin zone all) 0 r.pairs) one r.along, tt);
+      };
+      is = subst (λ (all : Pairs). out ≡ Told origin zone r.pairs last all) one
+          (e ∙ ap (λ (t : List ℕ). t ++ codes "end v" ++ decimal last ++ codes " names " ++ decimal (length version) ++ codes "\n") (r.text ∙ sym (append-nil (worker_text origin (version_at origin zone r.pairs) 1 1 r.pairs)))
+          ∙ ap (λ (v : Version). (worker_text origin (version_at origin zone r.pairs) 1 1 r.pairs ++ []) ++ codes "end v" ++ decimal last ++ codes " names " ++ decimal (length v) ++ codes "\n") r.current);
+      ended = ap status_of (r.some ∙ ap (list_any (λ (q : Command × Outcome). is_refused q.1.ended)) one);
+    }

@@ -1,0 +1,10 @@
+use Rattle.std.proofs.Common.{◌∙◌, sym, ap}
+use Rattle.zone_model.proofs.OrderLemmas.{first_under, exists_near}
+use Rattle.qp_main.proofs.answers.is_there.Goals as goal
+
+pub returns-in-Some : goal.returns-in-Some
+returns-in-Some c =
+    c.is_under.ensures ∙ ap (first_under c.args.name.now) (sym c.in-Some.ensures.steps ∙ c.range.ensures.between tt) ∙ exists_near c.args.name.now c.args.version.now.entries c.range.ensures.ordered
+
+pub returns-in-None : goal.returns-in-None
+returns-in-None c = ap (first_under c.args.name.now) (sym c.in-None.ensures.steps.0 ∙ c.range.ensures.between tt) ∙ exists_near c.args.name.now c.args.version.now.entries c.range.ensures.ordered

@@ -1,0 +1,110 @@
+-- What is due for words and bytes: a status, and the text to be written.
+use Rattle.std.specs.Prelude.{◌≡◌, ℕ, Bool, true, false, List, nat_le, ◌++◌, length, if◌then◌else◌, Option, Some, None, Result, Ok, Err, codes, map}
+use Rattle.std.specs.Fmt.{decimal}
+use Rattle.zone_model.specs.Names.{Name}
+use Rattle.zone_model.specs.Jobs.{Job, JobRefusal, ZoneRefused, ScriptRefused, job_of}
+use Rattle.zone_model.specs.Outcomes.{Pair, Lawful, some_refused}
+use Rattle.zone_model.specs.Reports.{report}
+use Rattle.zone_model.specs.declared.ZoneKind.{ZoneKind}
+use Rattle.zone_model.specs.declared.ZoneKind.TheVariants.{BadName, BadToken, OpenParen, OpenQuote, NoOwner, NoTtl, BadTtl, BadClass, UnknownType, BadRdata, Include, OutsideZone, CnameAndOther, SoaRule, LongEntry}
+use Rattle.zone_model.specs.declared.ScriptKind.{ScriptKind}
+use Rattle.zone_model.specs.declared.ScriptKind.TheVariants.{NoWorker, BadCommand, OpenBlock, TooMany}
+use Rattle.outer_io.specs.Bytes.{Grows, GrowsByFront}
+use Rattle.qp_main.specs.Invocations.{Invocation}
+use Rattle.qp_main.specs.declared.status.Status.{Status}
+use Rattle.qp_main.specs.declared.status.Status.TheVariants as status
+
+abbrev pub zone_kind_text : ZoneKind → List ℕ
+zone_kind_text BadName = codes "BadName"
+zone_kind_text BadToken = codes "BadToken"
+zone_kind_text OpenParen = codes "OpenParen"
+zone_kind_text OpenQuote = codes "OpenQuote"
+zone_kind_text NoOwner = codes "NoOwner"
+zone_kind_text NoTtl = codes "NoTtl"
+zone_kind_text BadTtl = codes "BadTtl"
+zone_kind_text BadClass = codes "BadClass"
+zone_kind_text UnknownType = codes "UnknownType"
+zone_kind_text BadRdata = codes "BadRdata"
+zone_kind_text Include = codes "Include"
+zone_kind_text OutsideZone = codes "OutsideZone"
+zone_kind_text CnameAndOther = codes "CnameAndOther"
+zone_kind_text SoaRule = codes "SoaRule"
+zone_kind_text LongEntry = codes "LongEntry"
+
+abbrev pub script_kind_text : ScriptKind → List ℕ
+script_kind_text NoWorker = codes "NoWorker"
+script_kind_text BadCommand = codes "BadCommand"
+script_kind_text OpenBlock = codes "OpenBlock"
+script_kind_text TooMany = codes "TooMany"
+
+abbrev pub refusal_text : List ℕ → ℕ → List ℕ → List ℕ
+refusal_text what line kind = what ++ codes " refused line " ++ decimal line ++ codes " " ++ kind ++ codes "\n"
+
+-- The answers of committed versions: the text is the report of the job's commands with some lawful outcomes, and the
+-- status says whether one of these is refused.
+pub record Reported (job : Job) (s : Status) (text : List ℕ) : Type 0 where
+  pub workers : List (List Pair)
+  pub last : ℕ
+  pub same : map (map (λ pair. pair.0)) workers ≡ job.workers
+  pub lawful : Lawful job.origin job.zone workers last
+  pub is : text ≡ report job.origin job.zone workers last
+  pub ended : s ≡ (if some_refused workers then status.SomeRefused else status.Done)
+
+-- the status and the text for what bytes say
+abbrev pub Answers : Result Job JobRefusal → Status → List ℕ → Type 0
+Answers (Ok job) s text = Reported job s text
+Answers (Err (ZoneRefused e)) s text = (s ≡ status.ZoneRefused) × (text ≡ refusal_text (codes "zone") e.line (zone_kind_text e.kind))
+Answers (Err (ScriptRefused e)) s text = (s ≡ status.ScriptRefused) × (text ≡ refusal_text (codes "script") e.line (script_kind_text e.kind))
+
+-- the most bytes of an input
+abbrev pub input_limit : ℕ
+input_limit = 16777216
+
+-- what is due for bytes, by whether they are within the limit
+abbrev pub DueBytes : Name → List ℕ → Bool → Status → List ℕ → Type 0
+DueBytes origin bytes true s text = Answers (job_of origin bytes) s text
+DueBytes origin bytes false s text = (s ≡ status.TooLong) × (text ≡ codes "input over 16777216 bytes\n")
+
+-- What is due for the words of the command line and the bytes that a source has left. Of a source that doesn't tell
+-- its bytes nothing is said.
+abbrev pub Due : Option Invocation → Option (List ℕ) → Status → List ℕ → Type 0
+Due None left s text = (s ≡ status.WordsRefused) × (text ≡ codes "words refused\n")
+Due (Some invocation) None s text = Unit {0}
+Due (Some invocation) (Some bytes) s text = DueBytes invocation.origin bytes (nat_le (length bytes) input_limit) s text
+
+-- the status says that its text was written whole
+abbrev pub IsWritten : Status → Type 0
+IsWritten status.Done = Unit {0}
+IsWritten status.SomeRefused = Unit {0}
+IsWritten status.WordsRefused = Unit {0}
+IsWritten status.ZoneRefused = Unit {0}
+IsWritten status.ScriptRefused = Unit {0}
+IsWritten status.TooLong = Unit {0}
+IsWritten status.SourceFault = ⊥
+IsWritten status.SinkFault = ⊥
+IsWritten status.NoMemory = ⊥
+
+-- the status says that nothing was written
+abbrev pub IsUnwritten : Status → Type 0
+IsUnwritten status.SourceFault = Unit {0}
+IsUnwritten status.NoMemory = Unit {0}
+IsUnwritten status.Done = ⊥
+IsUnwritten status.SomeRefused = ⊥
+IsUnwritten status.WordsRefused = ⊥
+IsUnwritten status.ZoneRefused = ⊥
+IsUnwritten status.ScriptRefused = ⊥
+IsUnwritten status.TooLong = ⊥
+IsUnwritten status.SinkFault = ⊥
+
+-- what is due was written whole
+pub record Written (invocation : Option Invocation) (left before now : Option (List ℕ)) (s : Status) : Type 0 where
+  pub text : List ℕ
+  pub due : Due invocation left s text
+  pub grew : Grows before now text
+
+-- what is due, under a status of its own, was written up to some place
+pub record CutShort (invocation : Option Invocation) (left before now : Option (List ℕ)) : Type 0 where
+  pub status : Status
+  pub text : List ℕ
+  pub due : Due invocation left status text
+  pub grew : GrowsByFront before now text

@@ -1,0 +1,9 @@
+pub mod Views
+pub mod Steps
+pub mod ZoneViews
+pub mod Scripts
+pub mod Statuses
+pub mod Invocations
+pub mod Due
+pub mod Runs
+pub mod InvocationViews

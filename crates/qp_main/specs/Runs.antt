@@ -1,0 +1,35 @@
+-- What a run of a worker's commands is.
+use Rattle.std.specs.Prelude.{◌≡◌, ℕ, ◌+◌, ◌<◌, ◌≤◌, Bool, List, ◌++◌, map, Ok, Err}
+use Rattle.std.specs.List.{AllByRecursion, list_any}
+use Rattle.zone_model.specs.Names.{Name}
+use Rattle.zone_model.specs.Versions.{Version, whole}
+use Rattle.zone_model.specs.Jobs.{Command, Get, Block}
+use Rattle.zone_model.specs.Outcomes.{Pair, Ended, Shown, Committed, Refused, is_refused, times_made, version_at, Along}
+use Rattle.zone_model.specs.Reports.{worker_text, head_text, command_text}
+
+-- Commands were run from a zone on, and gave this text and this last version.
+pub record Ran (origin : Name) (zone : Version) (commands : List Command) (before now : List ℕ) (last : ℕ) (version : Version) (refused : Bool) : Type 0 where
+  pub pairs : List Pair
+  pub same : map (λ pair. pair.0) pairs ≡ commands
+  pub once : (j : ℕ) → 0 < j → j ≤ last → times_made j pairs ≡ 1
+  pub none_above : AllByRecursion (λ pair. pair.1.version ≤ last) pairs
+  pub along : Along origin (version_at origin zone pairs) 0 pairs
+  pub text : now ≡ before ++ worker_text origin (version_at origin zone pairs) 1 1 pairs
+  pub current : version ≡ version_at origin zone pairs last
+  pub some : refused ≡ list_any (λ pair. is_refused pair.1.ended) pairs
+
+-- one command ended so
+abbrev pub StepEnds : Name → Command → Ended → ℕ → ℕ → Version → Version → Type 0
+StepEnds origin (Get name rtype) Shown last next old new = (next ≡ last) × (new ≡ old)
+StepEnds origin (Get name rtype) Committed last next old new = ⊥
+StepEnds origin (Get name rtype) (Refused cause) last next old new = ⊥
+StepEnds origin (Block operations) Shown last next old new = ⊥
+StepEnds origin (Block operations) Committed last next old new = (next ≡ last + 1) × (whole origin operations old ≡ Ok new)
+StepEnds origin (Block operations) (Refused cause) last next old new = (next ≡ last) × (new ≡ old) × (whole origin operations old ≡ Err cause)
+
+-- one command was run
+pub record Stepped (origin : Name) (command : Command) (number last next : ℕ) (old new : Version) (before now : List ℕ) (refused : Bool) : Type 0 where
+  pub ended : Ended
+  pub ends : StepEnds origin command ended last next old new
+  pub text : now ≡ before ++ (head_text 1 number next ++ command_text origin (λ _. old) command (record { version = next; ended = ended }))
+  pub some : refused ≡ is_refused ended

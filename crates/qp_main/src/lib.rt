@@ -1,0 +1,21 @@
+//! The program: reads a job (a zone and its workers' script), runs it, and prints the report.
+#![tactic(auto)]
+
+mod answers;
+mod commands;
+mod gate;
+mod invocation;
+mod lines;
+mod operations;
+mod plain_words;
+mod program;
+mod report;
+mod script;
+mod status;
+mod versions;
+mod worker;
+mod zone;
+
+pub use gate::Gate;
+pub use program::run;
+pub use status::Status;

@@ -1,0 +1,115 @@
+// Lines of the report, and of refusals.
+ghost use Rattle.std.specs.Prelude.{◌≡◌, ◌<◌, ◌≤◌, ◌++◌, ◌∷◌, [], ℕ, List, length, OnOk, IfOk, codes, decimal};
+ghost use Rattle.zone_model.specs.Reports.{head_text, ended_text};
+ghost use Rattle.zone_model.specs.Outcomes.{Ended, Committed, Refused};
+ghost use Rattle.qp_main.specs.Due.{zone_kind_text, script_kind_text, refusal_text};
+
+use crate::answers::push_number;
+use std::alloc::{AllocError, Global};
+use zone_model::{Refusal, ScriptKind, ZoneKind};
+
+/// Pushes worker, command and version.
+pub fn push_head(
+    out: &mut Vec<u8>,
+    worker: u64,
+    command: u64,
+    version: u64,
+) -> Result<(), AllocError>
+    ensures { OnOk result (out.new.items ≡ out.old.items ++ head_text worker command version) }
+{
+    push_number(out, worker)?;
+    out.extend_from_slice(b".")?;
+    push_number(out, command)?;
+    out.extend_from_slice(b" v")?;
+    push_number(out, version)?;
+    out.extend_from_slice(b" ")
+}
+
+/// Pushes how a block ended that was committed.
+pub fn push_committed(out: &mut Vec<u8>) -> Result<(), AllocError>
+    ensures { OnOk result (out.new.items ≡ out.old.items ++ ended_text Committed) }
+{
+    out.extend_from_slice(b"COMMITTED\n")
+}
+
+/// Pushes how a block ended that was refused.
+pub fn push_refused(out: &mut Vec<u8>, cause: Refusal) -> Result<(), AllocError>
+    ensures { OnOk result (out.new.items ≡ out.old.items ++ ended_text (Refused cause)) }
+{
+    match cause {
+        Refusal::Soa => out.extend_from_slice(b"REFUSED soa\n"),
+        Refusal::Long => out.extend_from_slice(b"REFUSED long\n"),
+    }
+}
+
+/// Pushes the last line: the last version, and how many names it has.
+pub fn push_end(out: &mut Vec<u8>, last: u64, names: u64) -> Result<(), AllocError>
+    ensures { OnOk result (out.new.items ≡ out.old.items ++ (codes "end v" ++ decimal last ++ codes " names " ++ decimal names ++ codes "\n")) }
+{
+    out.extend_from_slice(b"end v")?;
+    push_number(out, last)?;
+    out.extend_from_slice(b" names ")?;
+    push_number(out, names)?;
+    out.extend_from_slice(b"\n")
+}
+
+fn zone_kind_name(kind: ZoneKind) -> &'static [u8]
+    ensures { result.now ≡ zone_kind_text kind }
+{
+    match kind {
+        ZoneKind::BadName => b"BadName",
+        ZoneKind::BadToken => b"BadToken",
+        ZoneKind::OpenParen => b"OpenParen",
+        ZoneKind::OpenQuote => b"OpenQuote",
+        ZoneKind::NoOwner => b"NoOwner",
+        ZoneKind::NoTtl => b"NoTtl",
+        ZoneKind::BadTtl => b"BadTtl",
+        ZoneKind::BadClass => b"BadClass",
+        ZoneKind::UnknownType => b"UnknownType",
+        ZoneKind::BadRdata => b"BadRdata",
+        ZoneKind::Include => b"Include",
+        ZoneKind::OutsideZone => b"OutsideZone",
+        ZoneKind::CnameAndOther => b"CnameAndOther",
+        ZoneKind::SoaRule => b"SoaRule",
+        ZoneKind::LongEntry => b"LongEntry",
+    }
+}
+
+fn script_kind_name(kind: ScriptKind) -> &'static [u8]
+    ensures { result.now ≡ script_kind_text kind }
+{
+    match kind {
+        ScriptKind::NoWorker => b"NoWorker",
+        ScriptKind::BadCommand => b"BadCommand",
+        ScriptKind::OpenBlock => b"OpenBlock",
+        ScriptKind::TooMany => b"TooMany",
+    }
+}
+
+// The line of a refusal.
+fn refusal_line(alloc: Global, what: &[u8], line: u64, kind: &[u8]) -> Result<Vec<u8>, AllocError>
+    ensures { IfOk result (λ v. v.items ≡ refusal_text what.now line kind.now) }
+{
+    let mut out = Vec::new(alloc);
+    out.extend_from_slice(what)?;
+    out.extend_from_slice(b" refused line ")?;
+    push_number(&mut out, line)?;
+    out.extend_from_slice(b" ")?;
+    out.extend_from_slice(kind)?;
+    out.extend_from_slice(b"\n")?;
+    Ok(out)
+}
+
+/// The line of a zone's refusal.
+pub fn zone_refused(alloc: Global, line: u64, kind: ZoneKind) -> Result<Vec<u8>, AllocError>
+    ensures { IfOk result (λ v. v.items ≡ refusal_text (codes "zone") line (zone_kind_text kind)) }
+{
+    refusal_line(alloc, b"zone", line, zone_kind_name(kind))
+}
+
+/// The line of a script's refusal.
+pub fn script_refused(alloc: Global, line: u64, kind: ScriptKind) -> Result<Vec<u8>, AllocError>
+    ensures { IfOk result (λ v. v.items ≡ refusal_text (codes "script") line (script_kind_text kind)) }
+{
+    refusal_line(alloc, b"script", line, script_kind_name(kind))
+}

@@ -1,0 +1,4 @@
+pub mod EntryLemmas
+pub mod NumberLemmas
+pub mod PlaceLemmas
+pub mod StartsLemmas

@@ -1,0 +1,11 @@
+use Rattle.std.proofs.Common.{◌≡◌, ◌++◌, take}
+use Rattle.std.specs.Io.{StartsWith}
+use Rattle.std.specs.List.{flat_map}
+use Rattle.zone_model.specs.DataText.{hex_text}
+use Rattle.rr_data.proofs.data_text.push_hex.Given as goal
+
+abbrev pub invariant-loop-octet : goal.invariant-loop-octet
+invariant-loop-octet l = record {
+  text : l.out.items ≡ l.fn.out.items ++ flat_map hex_text (take l.octet-index l.octets);
+  kept : StartsWith l.out.items l.fn.out.items;
+}

@@ -1,0 +1,7 @@
+use Rattle.std.proofs.Common.{◌≡◌, ◌++◌, drop, map}
+use Rattle.std.specs.Option.{option_map}
+use Rattle.zone_model.specs.Texts.{times}
+use Rattle.rr_data.proofs.plain.times_of.Given as goal
+
+abbrev pub invariant-loop-word : goal.invariant-loop-word
+invariant-loop-word l = times (map (λ w. w.now) l.words) ≡ option_map (λ xs. l.octets.items ++ xs) (times (map (λ w. w.now) (drop l.word-index l.words)))

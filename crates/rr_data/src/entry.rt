@@ -1,0 +1,178 @@
+// An entry.
+ghost use Rattle.std.specs.Prelude.{◌≡◌, ◌<◌, ◌≤◌, ◌++◌, ◌∷◌, [], ℕ, List, Option, length, OnOk, OnErr, MatchOption, take, drop, Some, None, min, ◌-◌, ◌^◌, slice_get, IsTrue, ◌↔◌};
+ghost use Rattle.zone_model.specs.Records.{Rrset, with_rr, without_rr, without_set, rrset_of, item, rrset_bytes};
+
+use crate::places::place_of;
+use crate::rdata::Rdata;
+use crate::rrset::RrSet;
+use dns_name::Name;
+use std::alloc::{AllocError, Global};
+use std::marker::Model;
+
+/// The records of one name: its RRsets in rising type.
+#[derive(Drop)]
+pub struct Entry {
+    sets: Vec<RrSet>,
+}
+
+impl Model for Entry {
+    ghost use Rattle.std.specs.Prelude.{List};
+    ghost use Rattle.zone_model.specs.Records.{Rrset};
+
+    ghost Value = { List Rrset };
+
+    ghost view = { λ e. e.sets.items };
+}
+
+impl Clone for Entry {
+    ghost is_clone = { λ a b. b ≡ a };
+
+    fn clone(&self) -> Result<Entry, AllocError> {
+        Ok(Entry {
+            sets: self.sets.clone()?,
+        })
+    }
+}
+
+// Adds a record to the RRset of its type.
+fn add_to(
+    alloc: Global,
+    sets: &mut Vec<RrSet>,
+    rtype: u16,
+    ttl: u32,
+    added: Rdata,
+) -> Result<(), AllocError>
+    ensures ok { OnOk result (sets.new.items ≡ with_rr rtype ttl added sets.old.items) }
+    ensures err { OnErr result (sets.new.items ≡ sets.old.items) }
+{
+    match place_of(sets, rtype) {
+        Ok(at) => {
+            let set = &mut sets[at];
+            set.add(added)
+        }
+        Err(at) => {
+            let set = RrSet::of(alloc, rtype, ttl, added)?;
+            sets.insert(at, set)?;
+            Ok(())
+        }
+    }
+}
+
+// Removes the RRset of a type.
+fn remove_set(sets: &mut Vec<RrSet>, rtype: u16)
+    ensures { sets.new.items ≡ without_set rtype sets.old.items }
+{
+    if let Ok(at) = place_of(sets, rtype) {
+        let _removed = sets.remove(at);
+    }
+}
+
+// Removes a record, and its RRset with the last one.
+fn remove_from(sets: &mut Vec<RrSet>, rtype: u16, octets: &[u8])
+    ensures { sets.new.items ≡ without_rr rtype octets.now sets.old.items }
+{
+    let Ok(at) = place_of(sets, rtype) else {
+        return;
+    };
+    let set = &mut sets[at];
+    set.remove(octets);
+    if sets[at].is_empty() {
+        let _removed = sets.remove(at);
+    }
+}
+
+// The octets of an RRset in an item.
+fn set_len(set: &RrSet) -> usize
+    ensures { result ≡ min (length (rrset_bytes set.now)) (2 ^ 64 - 1) }
+{
+    let mut len = 8usize;
+    for kept in set.records() {
+        len = len.saturating_add(2).saturating_add(kept.octets().len());
+    }
+    len
+}
+
+impl Entry {
+    /// An entry without records.
+    pub fn empty(alloc: Global) -> Self
+        ensures { result ≡ [] }
+    {
+        Entry {
+            sets: Vec::new(alloc),
+        }
+    }
+
+    /// Whether it has no records.
+    pub fn is_empty(&self) -> bool
+        ensures { IsTrue result ↔ (self.now ≡ []) }
+    {
+        self.sets.is_empty()
+    }
+
+    /// How many RRsets it has.
+    pub fn sets(&self) -> usize
+        ensures { result ≡ length self.now }
+    {
+        self.sets.len()
+    }
+
+    /// The RRset at a place, in rising type.
+    pub fn set_at(&self, index: usize) -> &RrSet
+        requires { index < length self.now }
+        ensures { slice_get self.now index ≡ Some result.now }
+    {
+        &self.sets[index]
+    }
+
+    /// The RRset of a type, if it has one.
+    pub fn find_set(&self, rtype: u16) -> Option<&RrSet>
+        ensures { MatchOption result (rrset_of rtype self.now ≡ None) (λ s. rrset_of rtype self.now ≡ Some s.now) }
+    {
+        for set in &self.sets {
+            if set.rtype() == rtype {
+                return Some(set);
+            }
+        }
+        None
+    }
+
+    /// Adds a record, unless it is there. An RRset that is there keeps its time to live. The rules on SOA and CNAME
+    /// are the caller's.
+    pub fn add(
+        &mut self,
+        alloc: Global,
+        rtype: u16,
+        ttl: u32,
+        added: Rdata,
+    ) -> Result<(), AllocError>
+        ensures ok { OnOk result (self.new ≡ with_rr rtype ttl added self.old) }
+        ensures err { OnErr result (self.new ≡ self.old) }
+    {
+        add_to(alloc, &mut self.sets, rtype, ttl, added)
+    }
+
+    /// Removes the RRset of a type, if it has one.
+    pub fn del_set(&mut self, rtype: u16)
+        ensures { self.new ≡ without_set rtype self.old }
+    {
+        remove_set(&mut self.sets, rtype)
+    }
+
+    /// Removes a record, if it is there.
+    pub fn del_one(&mut self, rtype: u16, octets: &[u8])
+        ensures { self.new ≡ without_rr rtype octets.now self.old }
+    {
+        remove_from(&mut self.sets, rtype, octets)
+    }
+
+    /// The number of octets of the item of this entry, at most the greatest `usize`.
+    pub fn item_len(&self, owner: &Name) -> usize
+        ensures { result ≡ min (length (item owner.now self.now)) (2 ^ 64 - 1) }
+    {
+        let mut len = owner.wire().len().saturating_add(2);
+        for set in &self.sets {
+            len = len.saturating_add(set_len(set));
+        }
+        len
+    }
+}

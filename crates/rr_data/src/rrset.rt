@@ -1,0 +1,159 @@
+// An RRset.
+ghost use Rattle.std.specs.Prelude.{◌≡◌, ◌<◌, ◌≤◌, ◌++◌, ◌∷◌, [], ℕ, List, length, IfOk, OnOk, OnErr, take, drop, slice_get, Some, IsTrue, ◌↔◌};
+ghost use Rattle.zone_model.specs.Records.{Rrset, with_record, without_record, has_record, fresh};
+
+use crate::rdata::Rdata;
+use std::alloc::{AllocError, Global};
+use std::cmp::Ordering;
+use std::marker::Model;
+
+/// The records of one name and type. They have one time to live, in seconds.
+#[derive(Drop)]
+pub struct RrSet {
+    rtype: u16,
+    ttl: u32,
+    records: Vec<Rdata>,
+}
+
+impl Model for RrSet {
+    ghost use Rattle.zone_model.specs.Records.{Rrset};
+
+    ghost Value = { Rrset };
+
+    ghost view = { λ s. record { rtype = s.rtype; ttl = s.ttl; records = s.records.items } };
+}
+
+impl Clone for RrSet {
+    ghost is_clone = { λ a b. b ≡ a };
+
+    fn clone(&self) -> Result<RrSet, AllocError> {
+        Ok(RrSet {
+            rtype: self.rtype,
+            ttl: self.ttl,
+            records: self.records.clone()?,
+        })
+    }
+}
+
+// Whether one of the records has these octets.
+fn has_octets(records: &[Rdata], octets: &[u8]) -> bool
+    ensures { result ≡ has_record octets.now records.now }
+{
+    for kept in records {
+        if octets.cmp(kept.octets()) == Ordering::Equal {
+            return true;
+        }
+    }
+    false
+}
+
+// Adds a record in its place, unless it is there.
+fn add_record(records: &mut Vec<Rdata>, added: Rdata) -> Result<(), AllocError>
+    ensures ok { OnOk result (records.new.items ≡ with_record added records.old.items) }
+    ensures err { OnErr result (records.new.items ≡ records.old.items) }
+{
+    let mut at = 0;
+    while at < records.len() {
+        match added.octets().cmp(records[at].octets()) {
+            Ordering::Less => break,
+            Ordering::Equal => return Ok(()),
+            Ordering::Greater => at += 1,
+        }
+    }
+    records.insert(at, added)?;
+    Ok(())
+}
+
+// Removes a record, if it is there.
+fn remove_record(records: &mut Vec<Rdata>, octets: &[u8])
+    ensures { records.new.items ≡ without_record octets.now records.old.items }
+{
+    let mut at = 0;
+    while at < records.len() {
+        match octets.cmp(records[at].octets()) {
+            Ordering::Less => return,
+            Ordering::Equal => {
+                let _removed = records.remove(at);
+                return;
+            }
+            Ordering::Greater => at += 1,
+        }
+    }
+}
+
+impl RrSet {
+    /// An RRset of one record.
+    pub fn of(alloc: Global, rtype: u16, ttl: u32, added: Rdata) -> Result<Self, AllocError>
+        ensures { IfOk result (λ s. s ≡ fresh rtype ttl added) }
+    {
+        let mut records = Vec::new(alloc);
+        records.push(added)?;
+        Ok(RrSet {
+            rtype,
+            ttl,
+            records,
+        })
+    }
+
+    pub fn rtype(&self) -> u16
+        ensures { result ≡ self.now.rtype }
+    {
+        self.rtype
+    }
+
+    pub fn ttl(&self) -> u32
+        ensures { result ≡ self.now.ttl }
+    {
+        self.ttl
+    }
+
+    /// How many records it has.
+    pub fn len(&self) -> usize
+        ensures { result ≡ length self.now.records }
+    {
+        self.records.len()
+    }
+
+    pub fn is_empty(&self) -> bool
+        ensures { IsTrue result ↔ (self.now.records ≡ []) }
+    {
+        self.records.is_empty()
+    }
+
+    /// The record at a place, in rising order of the octets.
+    pub fn at(&self, index: usize) -> &Rdata
+        requires { index < length self.now.records }
+        ensures { slice_get self.now.records index ≡ Some result.now }
+    {
+        &self.records[index]
+    }
+
+    /// Whether it has a record of these octets.
+    pub fn has(&self, octets: &[u8]) -> bool
+        ensures { result ≡ has_record octets.now self.now.records }
+    {
+        has_octets(&self.records, octets)
+    }
+
+    /// All its records, in rising order of the octets.
+    pub fn records(&self) -> &[Rdata]
+        ensures { result.now ≡ self.now.records }
+    {
+        &self.records
+    }
+
+    // Adds a record, unless it is there.
+    pub(crate) fn add(&mut self, added: Rdata) -> Result<(), AllocError>
+        ensures ok { OnOk result (self.new ≡ record self.old { records = with_record added self.old.records }) }
+        ensures err { OnErr result (self.new ≡ self.old) }
+    {
+        add_record(&mut self.records, added)
+    }
+
+    // Removes a record, if it is there.
+    pub(crate) fn remove(&mut self, octets: &[u8])
+        ensures { self.new ≡ record self.old { records = without_record octets.now self.old.records } }
+    {
+        remove_record(&mut self.records, octets)
+    }
+}
