@@ -1,3 +1,6 @@
 pub mod Lists
 pub mod Pins
 pub mod Rounds
+pub mod Cells
+pub mod Openings
+pub mod Steps

@@ -1,6 +1,8 @@
 -- Lists: membership, filters, and what a change of one place leaves.
-use Rattle.std.proofs.Common.{◌≡◌, ◌≢◌, ◌⊎◌, inl, inr, ⊎_elim, ℕ, zero, suc, ◌+◌, ◌<◌, ◌≤◌, List, [], ◌∷◌, ◌++◌, length, get_or, set, Bool, true, false, cond, refl, sym, ap, ◌∙◌, subst, arith, length-append}
-use Rattle.std.specs.List.{All, AllPairs, Contains, filter}
+use Rattle.std.proofs.Common.{◌≡◌, ◌≢◌, ◌⊎◌, inl, inr, ⊎_elim, ℕ, zero, suc, ◌+◌, ◌<◌, ◌≤◌, List, [], ◌∷◌, ◌++◌, length, get_or, set, Bool, true, false, true≢false, cond, refl, sym, ap, ◌∙◌, subst, arith, length-append}
+use Rattle.std.specs.Prelude.{◌&&◌, not}
+use Rattle.std.specs.List.{All, AllPairs, Contains, filter, list_any}
+use Rattle.std.proofs.lemmas.List.Folds.{list_any_at}
 use Rattle.std.proofs.Math.ListN.{get_or-append}
 use Rattle.std.proofs.Math.Seq.{get_or-append_seam}
 use Rattle.std.proofs.lemmas.List.Elements.{All-contains, All-contains_itself, All-filter, filter_passes, Contains-get_or}
@@ -69,3 +71,29 @@ module _ {A : Type 0} where
           (λ (l : hx.0 < hy.0). inl (below hx.0 hy.0 x y l hy.1 at_x at_y))
           (λ (l : hy.0 < hx.0). inr (inl (below hy.0 hx.0 y x l hx.1 at_y at_x)))
           ) (cases_order hx.0 hy.0)
+
+  -- no element passes
+  pub none_passes : (p : A → Bool) (xs : List A) → list_any p xs ≡ false → All (λ x. p x ≡ false) xs
+  none_passes p xs none k d l = go (p (get_or xs k d)) refl
+    where
+      go : (b : Bool) → p (get_or xs k d) ≡ b → p (get_or xs k d) ≡ false
+      go true e = absurd (true≢false (sym (list_any_at p xs k d l e) ∙ none))
+      go false e = e
+
+  pub pairs_head : (R : A → A → Type 0) (x : A) (xs : List A) → AllPairs R (x ∷ xs) → All (R x) xs
+  pairs_head R x xs pairs k d l = pairs 0 (suc k) d (omega arith) (omega arith)
+
+  pub pairs_tail : (R : A → A → Type 0) (x : A) (xs : List A) → AllPairs R (x ∷ xs) → AllPairs R xs
+  pairs_tail R x xs pairs i j d l within = pairs (suc i) (suc j) d (omega arith) (omega arith)
+
+pub and_left : (a b : Bool) → (a && b) ≡ true → a ≡ true
+and_left true b e = refl
+and_left false b e = e
+
+pub and_right : (a b : Bool) → (a && b) ≡ true → b ≡ true
+and_right true b e = e
+and_right false b e = absurd (true≢false (sym e))
+
+pub not_true : (b : Bool) → not b ≡ true → b ≡ false
+not_true true e = sym e
+not_true false e = refl

@@ -3,11 +3,11 @@ use Rattle.std.proofs.Common.{◌≡◌, ◌≢◌, ◌⊎◌, inl, inr, ⊎_eli
 use Rattle.std.specs.Prelude.{◌||◌, ◌&&◌, ◌==◌, if◌then◌else◌, filter}
 use Rattle.std.specs.List.{All, AllPairs, Contains, list_any, list_all}
 use Rattle.std.proofs.lemmas.List.{length-replicate, get_or-replicate}
-use Rattle.std.proofs.lemmas.List.Elements.{All-contains, All-filter}
+use Rattle.std.proofs.lemmas.List.Elements.{All-filter, All-head, All-tail, filter_agree}
 use Rattle.std.proofs.lemmas.List.Kept.{AllPairs-filter}
 use Rattle.std.proofs.lemmas.List.Folds.{list_any_at}
 use Rattle.std.proofs.lemmas.List.Sums.{AllPass-from_list_all}
-use Rattle.std.proofs.lemmas.Bool.Decides.{eqb_tells}
+use Rattle.std.proofs.lemmas.Bool.Decides.{eqb_tells, nat_tests}
 use mathlib.Core.Option.{some}
 use Rattle.pin_core.specs.declared.kept.CellAt.{CellAt}
 use Rattle.pin_core.specs.declared.kept.Kept.{Kept}
@@ -18,7 +18,7 @@ use Rattle.pin_core.specs.declared.kept.Mark.TheVariants as mark
 use Rattle.pin_core.specs.Words.{Size, pin_at, root_number, word_of, pin_of, version_of}
 use Rattle.pin_core.specs.Sound.{Turn, Sound, stage_at, mark_at, HasRoot, AgreesWith, IsGiven, Names, PinFits, LookedAt, IsFresh, MarkFits}
 use Rattle.pin_core.specs.Machine.{is_settled, names_version, kept_by_round, round_checked}
-use Rattle.pin_core.proofs.Lists.{contains_filter, contains_from_filter}
+use Rattle.pin_core.proofs.Lists.{contains_filter, pairs_head, pairs_tail}
 use Rattle.pin_core.proofs.Pins.{kept_root_fits, same_version}
 
 or_left : (a b : Bool) → a ≡ true → (a || b) ≡ true
@@ -120,3 +120,63 @@ module _ (z : Size) (words : List ℕ) (stages : List Stage) (seens : List ℕ) 
       go : (b : Bool) → list_all is_settled t.marks ≡ b → Sound z words stages seens (cond b (record t { kept = kept_by_round t; marks = replicate z.passes mark.Blank }) t)
       go true e = round_ends (λ p l. AllPass-from_list_all is_settled t.marks e p mark.Blank (let m = h.marked in omega arith))
       go false e = h
+
+-- how many versions a round keeps
+
+filter_none : {A : Type 0} (xs : List A) → filter (λ x. false) xs ≡ []
+filter_none [] = refl
+filter_none (x ∷ xs) = filter_none xs
+
+filter_or : {A : Type 0} (f g : A → Bool) (xs : List A) → length (filter (λ x. f x || g x) xs) ≤ length (filter f xs) + length (filter g xs)
+filter_or f g [] = omega arith
+filter_or {A} f g (x ∷ xs) = go (f x) (g x) (filter_or f g xs)
+  where
+    go : (a b : Bool) → length (filter (λ x. f x || g x) xs) ≤ length (filter f xs) + length (filter g xs)
+        → length (cond (a || b) (x ∷ filter (λ x. f x || g x) xs) (filter (λ x. f x || g x) xs)) ≤ length (cond a (x ∷ filter f xs) (filter f xs)) + length (cond b (x ∷ filter g xs) (filter g xs))
+    go true true l = omega arith
+    go true false l = omega arith
+    go false true l = omega arith
+    go false false l = l
+
+-- at most one of versions that rise is this one
+one_version : (v : ℕ) (ks : List Kept) → AllPairs (λ k j. k.version < j.version) ks → length (filter (λ k. v == k.version) ks) ≤ 1
+one_version v [] rising = omega arith
+one_version v (k ∷ ks) rising = go (v == k.version) refl (one_version v ks (pairs_tail (λ k j. k.version < j.version) k ks rising))
+  where
+    above : (js : List Kept) → All (λ j. v < j.version) js → filter (λ j. v == j.version) js ≡ []
+    above [] each = refl
+    above (j ∷ js) each = skip (v == j.version) refl (above js (All-tail (λ j. v < j.version) j js each))
+      where
+        skip : (b : Bool) → (v == j.version) ≡ b → filter (λ j. v == j.version) js ≡ [] → cond b (j ∷ filter (λ j. v == j.version) js) (filter (λ j. v == j.version) js) ≡ []
+        skip true e none = absurd (let l = All-head (λ j. v < j.version) j js each in grind (arith, eqb_tells v j.version))
+        skip false e none = none
+
+    go : (b : Bool) → (v == k.version) ≡ b → length (filter (λ k. v == k.version) ks) ≤ 1 → length (cond b (k ∷ filter (λ k. v == k.version) ks) (filter (λ k. v == k.version) ks)) ≤ 1
+    go true e l =
+        let none = above ks (λ i d m. let r = pairs_head (λ k j. k.version < j.version) k ks rising i d m in grind (arith, eqb_tells v k.version)) in
+        rw none (omega arith)
+    go false e l = l
+
+one_mark : (m : Mark) (ks : List Kept) → AllPairs (λ k j. k.version < j.version) ks → length (filter (λ k. names_version k.version m) ks) ≤ 1
+one_mark mark.Blank ks rising = rw (filter_none ks) (omega arith)
+one_mark mark.Idle ks rising = rw (filter_none ks) (omega arith)
+one_mark mark.Entering ks rising = rw (filter_none ks) (omega arith)
+one_mark (mark.Pinned v) ks rising = one_version v ks rising
+
+one_each : (ms : List Mark) (ks : List Kept) → AllPairs (λ k j. k.version < j.version) ks → length (filter (λ k. list_any (names_version k.version) ms) ks) ≤ length ms
+one_each [] ks rising = rw (filter_none ks) (omega arith)
+one_each (m ∷ ms) ks rising =
+    let split = filter_or (λ k. names_version k.version m) (λ k. list_any (names_version k.version) ms) ks in
+    let first = one_mark m ks rising in
+    let rest = one_each ms ks rising in
+    omega arith
+
+current_first : (v : ℕ) (ks : List Kept) → AllPairs (λ k j. k.version < j.version) ks → length (filter (λ k. k.version == v) ks) ≤ 1
+current_first v ks rising = rw (filter_agree (λ (k : Kept). k.version == v) (λ (k : Kept). v == k.version) (λ k. grind (arith, nat_tests)) ks) (one_version v ks rising)
+
+pub round_keeps_few : (z : Size) (words : List ℕ) (stages : List Stage) (seens : List ℕ) (t : Turn) → Sound z words stages seens t → (marks : List Mark) → length marks ≡ z.passes → length (kept_by_round (record t { marks = marks })) ≤ z.passes + 1
+round_keeps_few z words stages seens t h marks n =
+    let split = filter_or (λ (k : Kept). k.version == t.version) (λ k. list_any (names_version k.version) marks) t.kept in
+    let first = current_first t.version t.kept h.rising in
+    let rest = one_each marks t.kept h.rising in
+    omega arith

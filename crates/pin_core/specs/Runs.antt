@@ -4,6 +4,7 @@ use Rattle.pin_core.specs.declared.kept.CellAt.{CellAt}
 use Rattle.pin_core.specs.declared.kept.Kept.{Kept}
 use Rattle.pin_core.specs.declared.kept.Stage.{Stage}
 use Rattle.pin_core.specs.declared.kept.Stage.TheVariants as stage
+use Rattle.pin_core.specs.declared.kept.Mark.{Mark}
 use Rattle.pin_core.specs.declared.event.Half.{Half}
 use Rattle.pin_core.specs.declared.event.Half.TheVariants.{Big, Small}
 use Rattle.pin_core.specs.declared.event.Event.{Event}
@@ -73,6 +74,7 @@ abbrev pub EachReadsItsVersion : Type 0
 EachReadsItsVersion = (o : Opening) → CanOpen o → (events : List Event) (p v : ℕ) → p < o.size.passes → stage_at (run_of o events).stages p ≡ stage.Pinned v
     → (k : Kept) × (slice_get (versions_of o events) v ≡ Some k) × ((at : ℕ) (half : Half) → (next (run_of o events) (event.Read p at half)).1 ≡ read_of k.image at half)
 
--- From each opening, after any events: a round that ended now would keep at most one version for each pass, and the current one.
+-- From each opening, after any events: a round that ends then, with whatever marks, keeps at most one version for each pass
+-- and the current one.
 abbrev pub RoundsKeepFew : Type 0
-RoundsKeepFew = (o : Opening) → CanOpen o → (events : List Event) → length (kept_by_round (run_of o events).turn) ≤ o.size.passes + 1
+RoundsKeepFew = (o : Opening) → CanOpen o → (events : List Event) (marks : List Mark) → length marks ≡ o.size.passes → length (kept_by_round (record (run_of o events).turn { marks = marks })) ≤ o.size.passes + 1
