@@ -4,3 +4,4 @@ pub mod Rounds
 pub mod Cells
 pub mod Openings
 pub mod Steps
+pub mod Histories
