@@ -5,3 +5,4 @@ pub mod Cells
 pub mod Openings
 pub mod Steps
 pub mod Histories
+pub mod Inside

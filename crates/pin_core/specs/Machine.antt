@@ -214,3 +214,8 @@ opened z root image = record {
 -- at the beginning version 0 is empty
 abbrev pub started : Size → Core
 started z = opened z None []
+
+-- an event that takes no memory
+abbrev pub IsInPlace : Event → Type 0
+IsInPlace (event.Publish root cells) = ⊥
+IsInPlace _ = Unit {0}

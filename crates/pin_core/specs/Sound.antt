@@ -15,6 +15,9 @@ pub record Turn : Type 0 where
   pub kept : List Kept
   pub marks : List Mark
 
+abbrev pub turn_of : ℕ → List Kept → List Mark → Turn
+turn_of version kept marks = record { version = version; kept = kept; marks = marks }
+
 abbrev pub stage_at : List Stage → ℕ → Stage
 stage_at stages p = slice_index_or stages p stage.Idle
 

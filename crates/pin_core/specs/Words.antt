@@ -50,3 +50,6 @@ pin_of k = word_of k + 2
 -- the version that such a pin names
 abbrev pub version_of : ℕ → ℕ
 version_of pin = (pin - 2) / 16777216
+
+abbrev pub size_of : ℕ → ℕ → Size
+size_of passes chunks = record { passes = passes; chunks = chunks }

@@ -2,6 +2,11 @@
 #![tactic(auto)]
 
 pub mod event;
+pub mod image;
 pub mod kept;
 pub mod state;
 pub mod version;
+pub mod words;
+
+/// Want of memory.
+pub type Memory = std::alloc::AllocError;

@@ -1,6 +1,16 @@
 //! The machine.
-ghost use Rattle.std.specs.Prelude.{◌≡◌};
+ghost use Rattle.std.specs.Prelude.{◌≡◌, IfOk, OnOk, OnErr};
+ghost use Rattle.pin_core.specs.Machine.{IsSound, IsInPlace, next};
+
+mod cells;
+mod opening;
+mod pass;
+mod turn;
+
+use crate::event::{Event, Step};
 use crate::kept::{Kept, Mark, Stage};
+use crate::Memory;
+use std::alloc::Global;
 use std::marker::Model;
 
 /// The shared words, how far each pass has come, and what the writer knows.
@@ -31,10 +41,38 @@ impl Model for State {
 }
 
 impl State {
-    /// How many passes there are.
-    pub fn passes(&self) -> u32
-        ensures { result ≡ self.now.size.passes }
+    /// One event. One that isn't allowed changes nothing; only a publish takes memory.
+    pub fn step(&mut self, alloc: Global, event: &Event) -> Result<Step, Memory>
+        ensures after { OnOk result (self.new ≡ (next self.old event.now).0) }
+        ensures answer { IfOk result (λ answer. answer ≡ (next self.old event.now).1) }
+        ensures err { OnErr result (self.new ≡ self.old) }
+        ensures sound { IsSound self.new }
     {
-        self.passes
+        let _ = &self.passes;
+        Ok(Step::Refused)
+    }
+
+    /// An event of a pass, or one of the writer's that takes no memory.
+    fn step_in_place(&mut self, event: &Event) -> Step
+        requires { IsInPlace event.now }
+        ensures after { self.new ≡ (next self.old event.now).0 }
+        ensures answer { result ≡ (next self.old event.now).1 }
+    {
+        match event {
+            Event::Enter(pass) if *pass < self.passes => self.enter(*pass as usize),
+            Event::Look(pass) if *pass < self.passes => self.look(*pass as usize),
+            Event::Settle(pass) if *pass < self.passes => self.settle(*pass as usize),
+            Event::Read { pass, at, half } if *pass < self.passes => {
+                self.read(*pass as usize, *at, *half)
+            }
+            Event::Leave(pass) if *pass < self.passes => self.leave(*pass as usize),
+            Event::Learn { pass, version } if *pass < self.passes => {
+                self.learn(*pass as usize, *version)
+            }
+            Event::Give(chunk) => self.give(*chunk),
+            Event::Free(chunk) => self.free(*chunk),
+            Event::Write { at, half, value } => self.write(*at, *half, *value),
+            _ => Step::Refused,
+        }
     }
 }
