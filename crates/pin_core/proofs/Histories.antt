@@ -252,8 +252,7 @@ each_reads_its_version o can events p v l is =
     let within : p < s.size.passes = subst (λ (z : Size). p < z.passes) (sym (after_size (opened o.size o.root o.image) events)) l in
     let pinned : PinFits s.turn.kept (get_or s.seens p 0) (get_or s.words (pin_at p) 0) (stage.Pinned v) = subst (PinFits s.turn.kept (get_or s.seens p 0) (get_or s.words (pin_at p) 0)) is (h.pins p within) in
     let k = pinned.0 in
-    let all = run_lists (first o ∷ []) (opened o.size o.root o.image) events (opening_lists o) in
-    (
+    let all = run_lists (first o ∷ []) (opened o.size o.root o.image) events (opening_lists o) in (
       k,
       subst (λ (n : ℕ). slice_get (versions_of o events) n ≡ Some k) pinned.3 (all.at_number k pinned.1),
       λ at half. read_answers s p v at half k.image within is (in_version s.turn.kept k v at h.rising pinned.1 pinned.3) (All-contains (λ k. All (AgreesWith s.words) k.image) s.turn.kept k h.unchanged pinned.1),

@@ -42,22 +42,22 @@ current_read s h r read = get_or_read s.words 0 r (let e = h.wide in omega arith
 -- a cell of a kept version has its words among the state's
 pub kept_within : (s : Core) → IsSound s → (version at : ℕ) (half : Half) → is_in_version s.turn.kept version at ≡ true → half_at at half < length s.words
 kept_within s h version at half e = place half
-    where
-      small : at < 1024 * s.size.chunks
-      small =
-          let a = Any-from_list_any (λ k. (k.version == version) && has_cell k.image at) s.turn.kept e in
-          let cells = and_right (a.1.version == version) (has_cell a.1.image at) a.4 in
-          let c = Any-from_list_any (λ c. c.at == at) a.1.image cells in
-          let has : Contains s.turn.kept a.1 = (a.0, a.2, a.3) in
-          let there : Contains a.1.image c.1 = (c.0, c.2, c.3) in
-          let g : IsGiven s.size s.words c.1 = All-contains (IsGiven s.size s.words) a.1.image c.1 (All-contains (λ k. All (IsGiven s.size s.words) k.image) s.turn.kept a.1 h.given has) there in
-          let l : c.1.at < 1024 * s.size.chunks = g.0 in
-          let t : (c.1.at == at) ≡ true = c.4 in
-          grind (arith, eqb_tells c.1.at at)
+  where
+    small : at < 1024 * s.size.chunks
+    small =
+        let a = Any-from_list_any (λ k. (k.version == version) && has_cell k.image at) s.turn.kept e in
+        let cells = and_right (a.1.version == version) (has_cell a.1.image at) a.4 in
+        let c = Any-from_list_any (λ c. c.at == at) a.1.image cells in
+        let has : Contains s.turn.kept a.1 = (a.0, a.2, a.3) in
+        let there : Contains a.1.image c.1 = (c.0, c.2, c.3) in
+        let g : IsGiven s.size s.words c.1 = All-contains (IsGiven s.size s.words) a.1.image c.1 (All-contains (λ k. All (IsGiven s.size s.words) k.image) s.turn.kept a.1 h.given has) there in
+        let l : c.1.at < 1024 * s.size.chunks = g.0 in
+        let t : (c.1.at == at) ≡ true = c.4 in
+        grind (arith, eqb_tells c.1.at at)
 
-      place : (half : Half) → half_at at half < length s.words
-      place Big = let w = h.wide in let l = small in omega arith
-      place Small = let w = h.wide in let l = small in omega arith
+    place : (half : Half) → half_at at half < length s.words
+    place Big = let w = h.wide in let l = small in omega arith
+    place Small = let w = h.wide in let l = small in omega arith
 
 -- what a read of a pinned pass answers
 pub shown_word : (s v : Core) → s ≡ v → (p at version r w : ℕ) (half : Half) → r ≡ half_at at half → r < length s.words → stage_at s.stages p ≡ stage.Pinned version → is_in_version s.turn.kept version at ≡ true

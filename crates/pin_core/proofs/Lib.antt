@@ -6,3 +6,4 @@ pub mod Openings
 pub mod Steps
 pub mod Histories
 pub mod Inside
+pub mod Turns

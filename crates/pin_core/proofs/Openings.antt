@@ -54,8 +54,7 @@ module _ (z : Size) (small : z.chunks ≤ 4096) where
   with_cell_agrees words c wide l =
       let given = set words (status_at (chunk_of c.at)) 1 in
       let n : length given ≡ length words = length-set words (status_at (chunk_of c.at)) 1 in
-      let m : length (set given (cell_at c.at) c.big) ≡ length given = length-set given (cell_at c.at) c.big in
-      (
+      let m : length (set given (cell_at c.at) c.big) ≡ length given = length-set given (cell_at c.at) c.big in (
         get_or-set_other (set given (cell_at c.at) c.big) (cell_at c.at + 1) (cell_at c.at) c.small 0 (λ e. omega arith) ∙ get_or-set_same given (cell_at c.at) c.big 0 (omega arith),
         get_or-set_same (set given (cell_at c.at) c.big) (cell_at c.at + 1) c.small 0 (omega arith),
       )

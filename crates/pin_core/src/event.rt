@@ -28,15 +28,29 @@ pub enum Event {
     Enter(u32),
     Look(u32),
     Settle(u32),
-    Read { pass: u32, at: u32, half: Half },
+    Read {
+        pass: u32,
+        at: u32,
+        half: Half,
+    },
     Leave(u32),
-    Learn { pass: u32, version: u64 },
+    Learn {
+        pass: u32,
+        version: u64,
+    },
     Scan(u32),
     Assign(u32),
     Give(u32),
     Free(u32),
-    Write { at: u32, half: Half, value: u64 },
-    Publish { root: Option<u32>, cells: References },
+    Write {
+        at: u32,
+        half: Half,
+        value: u64,
+    },
+    Publish {
+        root: Option<u32>,
+        cells: References,
+    },
 }
 
 /// What a step answers.

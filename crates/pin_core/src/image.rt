@@ -36,8 +36,7 @@ pub fn meets_kept_image(kept: &[Kept], chunk: u32) -> bool
 pub fn is_in_image_of(kept: &[Kept], version: u64, at: u32) -> bool
     ensures { result ≡ is_in_version kept.now version at }
 {
-    kept.iter()
-        .any(|k| k.version == version && has_cell_at(&k.image.cells, at))
+    kept.iter().any(|k| k.version == version && has_cell_at(&k.image.cells, at))
 }
 
 fn has_reference(cells: &[u32], at: u32) -> bool

@@ -7,9 +7,9 @@ mod opening;
 mod pass;
 mod turn;
 
+use crate::Memory;
 use crate::event::{Event, Step};
 use crate::kept::{Kept, Mark, Stage};
-use crate::Memory;
 use std::alloc::Global;
 use std::marker::Model;
 
@@ -48,8 +48,12 @@ impl State {
         ensures err { OnErr result (self.new ≡ self.old) }
         ensures sound { IsSound self.new }
     {
+        let step = match event {
+            Event::Publish { root, cells } => self.publish(alloc, *root, &cells.items),
+            _ => Ok(self.step_in_place(event)),
+        };
         let _ = &self.passes;
-        Ok(Step::Refused)
+        step
     }
 
     /// An event of a pass, or one of the writer's that takes no memory.
@@ -69,6 +73,8 @@ impl State {
             Event::Learn { pass, version } if *pass < self.passes => {
                 self.learn(*pass as usize, *version)
             }
+            Event::Scan(pass) if *pass < self.passes => self.scan(*pass as usize),
+            Event::Assign(pass) if *pass < self.passes => self.assign(*pass as usize),
             Event::Give(chunk) => self.give(*chunk),
             Event::Free(chunk) => self.free(*chunk),
             Event::Write { at, half, value } => self.write(*at, *half, *value),

@@ -13,11 +13,9 @@ pub struct Spent {
 /// The version after this one.
 pub fn next_version(version: u64) -> Result<u64, Spent>
     requires { version ≤ LAST_VERSION }
-    ensures {
-        MatchResult result
+    ensures { MatchResult result
         (λ next. (version < LAST_VERSION) × (next ≡ version + 1))
-        (λ spent. (version ≡ LAST_VERSION) × (spent.version ≡ version))
-    }
+        (λ spent. (version ≡ LAST_VERSION) × (spent.version ≡ version)) }
 {
     if version == LAST_VERSION {
         return Err(Spent { version });

@@ -19,6 +19,7 @@ pub const FIRST_CELL: usize = 4161;
 
 /// The status of a chunk that is free, and of one that is given.
 pub const FREE: u64 = 0;
+
 pub const GIVEN: u64 = 1;
 
 /// How many cells a chunk has.
@@ -67,7 +68,11 @@ pub fn pin_after_exchange(pin: u64, word: u64) -> u64
     requires { exchanged pin word < 2 ^ 64 }
     ensures { result ≡ exchanged pin word }
 {
-    if pin == ENTERING { word + PIN_OFFSET } else { pin }
+    if pin == ENTERING {
+        word + PIN_OFFSET
+    } else {
+        pin
+    }
 }
 
 /// The version that a pin names.

@@ -8,9 +8,9 @@ ghost use Rattle.pin_core.specs.Machine.{can_open, opened, started, with_cell};
 ghost use Rattle.pin_core.specs.Runs.{IsWithinLimits};
 
 use super::State;
+use crate::Memory;
 use crate::kept::{CellAt, Image, Kept, Mark, Stage};
 use crate::words::{CHUNK_CELLS, CUR, FIRST_CELL, FIRST_STATUS, word_of_version};
-use crate::Memory;
 use std::alloc::Global;
 
 fn idle_stages(alloc: Global, passes: u32) -> Result<Vec<Stage>, Memory>

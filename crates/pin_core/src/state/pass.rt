@@ -7,7 +7,9 @@ use super::State;
 use crate::event::{Half, Step};
 use crate::image::is_in_image_of;
 use crate::kept::Stage;
-use crate::words::{CUR, ENTERING, FIRST_PIN, IDLE, pin_after_exchange, place_of_half, version_of_pin};
+use crate::words::{
+    CUR, ENTERING, FIRST_PIN, IDLE, pin_after_exchange, place_of_half, version_of_pin,
+};
 
 impl State {
     /// Its pin says that it is about to look.

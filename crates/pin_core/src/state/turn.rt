@@ -66,3 +66,46 @@ pub(super) fn clear_marks(marks: &mut [Mark])
 {
     marks.fill(Mark::Blank);
 }
+
+/// Marks the pass by its pin. Once each mark is idle or pinned the round ends: what no mark names is dropped.
+fn mark_pass(kept: &mut Vec<Kept>, marks: &mut [Mark], version: u64, p: usize, pin: u64)
+    requires { p < length marks.old }
+    ensures { turn_of version kept.new.items marks.new
+        ≡ round_checked (length marks.old) (turn_of version kept.old.items (slice_set marks.old p (mark_of pin))) }
+{
+    marks[p] = mark_of_pin(pin);
+    if are_settled(marks) {
+        drop_unnamed(kept, version, marks);
+        clear_marks(marks);
+    }
+}
+
+impl State {
+    /// The writer looks at a pin.
+    pub(super) fn scan(&mut self, p: usize) -> Step
+        requires { p < self.old.size.passes }
+        ensures after { self.new ≡ (scanned self.old p).0 }
+        ensures answer { result ≡ (scanned self.old p).1 }
+    {
+        let pin = self.words[FIRST_PIN + p];
+        mark_pass(&mut self.kept, &mut self.marks, self.version, p, pin);
+        Step::Done
+    }
+
+    /// The writer pins the current version for a pass that it found about to look, unless the pass went on by itself.
+    pub(super) fn assign(&mut self, p: usize) -> Step
+        requires { p < self.old.size.passes }
+        ensures after { self.new ≡ (assigned self.old p (mark_at self.old.turn.marks p)).0 }
+        ensures answer { result ≡ (assigned self.old p (mark_at self.old.turn.marks p)).1 }
+    {
+        match self.marks[p] {
+            Mark::Entering => {
+                let pin = pin_after_exchange(self.words[FIRST_PIN + p], self.words[CUR]);
+                self.words[FIRST_PIN + p] = pin;
+                mark_pass(&mut self.kept, &mut self.marks, self.version, p, pin);
+                Step::Done
+            }
+            _ => Step::Refused,
+        }
+    }
+}
