@@ -1,5 +1,6 @@
 -- Whole runs: what holds after any events, and that a pinned pass reads its version as it was published.
-use Rattle.std.proofs.Common.{◌≡◌, ◌≢◌, ◌⊎◌, inl, inr, ⊎_elim, ℕ, zero, suc, ◌+◌, ◌-◌, ◌*◌, ◌/◌, ◌<◌, ◌≤◌, eqb, ltb, List, [], ◌∷◌, ◌++◌, length, get_or, set, replicate, Bool, true, false, true≢false, cond, refl, sym, ap, ◌∙◌, subst, arith, append_assoc, append-nil, length-append}
+use Rattle.std.proofs.Common.{◌≡◌, ◌≢◌, ◌⊎◌, inl, inr, ⊎_elim, ℕ, zero, suc, ◌+◌, ◌-◌, ◌*◌, ◌/◌, ◌<◌, ◌≤◌, eqb, ltb, List, [], ◌∷◌, ◌++◌, length, get_or, set, replicate, Bool, true, false, true≢false, cond, refl, sym, ap, ◌∙◌, subst, arith, append_assoc, append-nil, length-append, take, drop, drop-cons}
+use Rattle.std.proofs.lemmas.List.{take_more}
 use Rattle.std.specs.Prelude.{◌&&◌, ◌||◌, ◌==◌, nat_lt, nat_le, if◌then◌else◌, filter, slice_get, Option, Some, None, IsTrue}
 use Rattle.std.specs.List.{All, AllPairs, Contains, list_any, list_all}
 use Rattle.std.proofs.lemmas.List.Elements.{All-contains, All-head, All-tail, Contains-get_or, Contains-push_cases}
@@ -257,3 +258,21 @@ each_reads_its_version o can events p v l is =
       subst (λ (n : ℕ). slice_get (versions_of o events) n ≡ Some k) pinned.3 (all.at_number k pinned.1),
       λ at half. read_answers s p v at half k.image within is (in_version s.turn.kept k v at h.rising pinned.1 pinned.3) (All-contains (λ k. All (AgreesWith s.words) k.image) s.turn.kept k h.unchanged pinned.1),
     )
+
+-- one more event of a run
+
+after_append : (s : Core) (xs ys : List Event) → after s (xs ++ ys) ≡ after (after s xs) ys
+after_append s [] ys = refl
+after_append s (x ∷ xs) ys = after_append (next s x).0 xs ys
+
+pub reaches : (s t : Core) (events : List Event) (i : ℕ) (e : Event) → i < length events → e ≡ get_or events i e → t ≡ after s (take i events) → (next t e).0 ≡ after s (take (i + 1) events)
+reaches s t events i e l read at =
+    ap (λ (c : Core). (next c e).0) at ∙ sym (after_append s (take i events) (e ∷ []))
+    ∙ ap (λ (x : Event). after s (take i events ++ x ∷ [])) read ∙ sym (ap (after s) (take_more events i e l))
+
+pub tells : (t : Core) (steps all : List Step) (events : List Event) (i : ℕ) (e : Event) → i < length events → e ≡ get_or events i e → steps ++ answers t (drop i events) ≡ all
+    → (steps ++ (next t e).1 ∷ []) ++ answers (next t e).0 (drop (i + 1) events) ≡ all
+tells t steps all events i e l read told =
+    append_assoc steps ((next t e).1 ∷ []) (answers (next t e).0 (drop (i + 1) events))
+    ∙ sym (ap (λ (es : List Event). steps ++ answers t es) (rw (drop-cons events i e l) (ap (λ (x : Event). x ∷ drop (suc i) events) (sym read)) ∙ ap (λ (n : ℕ). e ∷ drop n events) (let next_place : suc i ≡ i + 1 = omega arith in next_place)))
+    ∙ told

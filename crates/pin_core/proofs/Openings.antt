@@ -14,10 +14,11 @@ use Rattle.pin_core.specs.declared.kept.Stage.{Stage}
 use Rattle.pin_core.specs.declared.kept.Stage.TheVariants as stage
 use Rattle.pin_core.specs.declared.kept.Mark.{Mark}
 use Rattle.pin_core.specs.declared.kept.Mark.TheVariants as mark
-use Rattle.pin_core.specs.Words.{Size, pin_at, status_at, cell_at, chunk_of, word_count, current_word, word_of}
-use Rattle.pin_core.specs.Sound.{Turn, Sound, stage_at, mark_at, HasRoot, AgreesWith, IsGiven, PinFits, MarkFits}
+use Rattle.pin_core.specs.Words.{Size, pin_at, status_at, cell_at, chunk_of, word_count, root_number, current_word, word_of}
+use Rattle.pin_core.specs.Sound.{Turn, Sound, turn_of, stage_at, mark_at, HasRoot, AgreesWith, IsGiven, PinFits, MarkFits}
 use Rattle.pin_core.specs.Machine.{IsSound, is_distinct, is_rooted, with_cell, can_open, opened}
 use Rattle.pin_core.proofs.Lists.{and_left, and_right, pairs_head, pairs_tail}
+use Rattle.pin_core.proofs.Pins.{kept_root_fits}
 use Rattle.pin_core.proofs.Cells.{distinct_cells, has_root}
 
 length_with_cell : (words : List ℕ) (c : CellAt) → length (with_cell words c) ≡ length words
@@ -155,3 +156,21 @@ opening_sound z root image few small can = record {
     zero_pin : (p : ℕ) → p < z.passes → get_or (fold with_cell (set (replicate (word_count z) 0) 0 (current_word 0 root)) image) (pin_at p) 0 ≡ 0
     zero_pin p l = laid_front z small image (set (replicate (word_count z) 0) 0 (current_word 0 root)) (pin_at p) (omega arith)
         ∙ get_or-set_other (replicate (word_count z) 0) 0 (pin_at p) (current_word 0 root) 0 (λ e. omega arith) ∙ get_or-replicate (word_count z) (pin_at p) 0 0 (omega arith)
+
+-- an opening's parts, each as it was made
+pub opening_at : (z : Size) (root : Option ℕ) (image : List CellAt) → z.passes ≤ 64 → z.chunks ≤ 4096 → can_open z root image ≡ true
+    → (words : List ℕ) → words ≡ (opened z root image).words → (stages : List Stage) → stages ≡ (opened z root image).stages → (seens : List ℕ) → seens ≡ (opened z root image).seens
+    → (kept : List Kept) → kept ≡ (opened z root image).turn.kept → (marks : List Mark) → marks ≡ (opened z root image).turn.marks → Sound z words stages seens (turn_of 0 kept marks)
+opening_at z root image few small can words ew stages es seens en kept ek marks em =
+    subst (λ (ws : List ℕ). Sound z ws stages seens (turn_of 0 kept marks)) (sym ew)
+    (subst (λ (ss : List Stage). Sound z (opened z root image).words ss seens (turn_of 0 kept marks)) (sym es)
+    (subst (λ (ns : List ℕ). Sound z (opened z root image).words (opened z root image).stages ns (turn_of 0 kept marks)) (sym en)
+    (subst (λ (ks : List Kept). Sound z (opened z root image).words (opened z root image).stages (opened z root image).seens (turn_of 0 ks marks)) (sym ek)
+    (subst (λ (ms : List Mark). Sound z (opened z root image).words (opened z root image).stages (opened z root image).seens (turn_of 0 (opened z root image).turn.kept ms)) (sym em)
+    (opening_sound z root image few small can)))))
+
+pub opening_root_fits : (z : Size) (root : Option ℕ) (image : List CellAt) → z.passes ≤ 64 → z.chunks ≤ 4096 → can_open z root image ≡ true → root_number root < 16777216
+opening_root_fits z root image few small can =
+    let o = opened z root image in
+    let f = kept_root_fits z o.words o.stages o.seens o.turn (opening_sound z root image few small can) (record { version = 0; root = root; image = image }) (0, omega arith, refl) in
+    omega arith

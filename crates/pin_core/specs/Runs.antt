@@ -1,5 +1,5 @@
 -- Whole runs of the machine, and what holds of each of them.
-use Rattle.std.specs.Prelude.{◌≡◌, ℕ, ◌+◌, ◌<◌, ◌≤◌, ◌==◌, List, [], ◌∷◌, ◌++◌, length, slice_get, Bool, true, if◌then◌else◌, Option, Some, IsTrue, ◌&&◌, nat_lt, nat_le}
+use Rattle.std.specs.Prelude.{◌≡◌, ℕ, ◌+◌, ◌<◌, ◌≤◌, ◌==◌, List, [], ◌∷◌, ◌++◌, length, take, slice_get, Bool, true, if◌then◌else◌, Option, Some, IsTrue, ◌&&◌, nat_lt, nat_le}
 use Rattle.pin_core.specs.declared.kept.CellAt.{CellAt}
 use Rattle.pin_core.specs.declared.kept.Kept.{Kept}
 use Rattle.pin_core.specs.declared.kept.Stage.{Stage}
@@ -19,6 +19,10 @@ use Rattle.pin_core.specs.Machine.{Core, IsSound, next, can_publish, next_kept, 
 abbrev pub after : Core → List Event → Core
 after s [] = s
 after s (e ∷ es) = after (next s e).0 es
+
+-- a state that some of these events lead to, from the first on
+abbrev pub StoppedWithin : Core → List Event → Core → Type 0
+StoppedWithin s events stopped = (n : ℕ) × (stopped ≡ after s (take n events))
 
 -- what they answer, one after another
 abbrev pub answers : Core → List Event → List Step

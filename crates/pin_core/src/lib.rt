@@ -1,6 +1,7 @@
 //! The pin core: how passes pin the versions that they read, and how the writer knows which chunks are free again.
 #![tactic(auto)]
 
+pub mod drive;
 pub mod event;
 pub mod image;
 pub mod kept;

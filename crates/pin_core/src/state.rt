@@ -1,6 +1,7 @@
 //! The machine.
 ghost use Rattle.std.specs.Prelude.{◌≡◌, IfOk, OnOk, OnErr};
 ghost use Rattle.pin_core.specs.Machine.{IsSound, IsInPlace, next};
+ghost use Rattle.pin_core.specs.Runs.{after, answers, StoppedWithin};
 
 mod cells;
 mod opening;
@@ -54,6 +55,21 @@ impl State {
         };
         let _ = &self.passes;
         step
+    }
+
+    /// Some events, one after another, and what they answer. Where memory is wanting the state is as after some of them.
+    pub fn play(&mut self, alloc: Global, events: &[Event]) -> Result<Vec<Step>, Memory>
+        ensures after { OnOk result (self.new ≡ after self.old events.now) }
+        ensures answers { IfOk result (λ steps. steps.items ≡ answers self.old events.now) }
+        ensures err { OnErr result (StoppedWithin self.old events.now self.new) }
+        ensures sound { IsSound self.new }
+    {
+        let mut steps = Vec::new(alloc);
+        for event in events {
+            steps.push(self.step(alloc, event)?)?;
+        }
+        let _ = &self.passes;
+        Ok(steps)
     }
 
     /// An event of a pass, or one of the writer's that takes no memory.

@@ -25,6 +25,9 @@ pub const GIVEN: u64 = 1;
 /// How many cells a chunk has.
 pub const CHUNK_CELLS: u32 = 1024;
 
+/// How many words the cells of a chunk have.
+pub const CHUNK_WORDS: usize = 2048;
+
 /// The pin of an idle pass.
 pub const IDLE: u64 = 0;
 
