@@ -3,7 +3,7 @@
 
 pub mod drive;
 pub mod event;
-pub mod image;
+mod image;
 pub mod kept;
 pub mod state;
 pub mod version;

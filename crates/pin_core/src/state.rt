@@ -1,5 +1,5 @@
 //! The machine.
-ghost use Rattle.std.specs.Prelude.{◌≡◌, IfOk, OnOk, OnErr};
+ghost use Rattle.std.specs.Prelude.{◌≡◌, IfOk, OnOk, OnErr, IsOk};
 ghost use Rattle.pin_core.specs.Machine.{IsSound, IsInPlace, next};
 ghost use Rattle.pin_core.specs.Runs.{after, answers, StoppedWithin};
 
@@ -46,7 +46,9 @@ impl State {
     pub fn step(&mut self, alloc: Global, event: &Event) -> Result<Step, Memory>
         ensures after { OnOk result (self.new ≡ (next self.old event.now).0) }
         ensures answer { IfOk result (λ answer. answer ≡ (next self.old event.now).1) }
+        ensures refused { result ≡ Ok Step.Refused → self.new ≡ self.old }
         ensures err { OnErr result (self.new ≡ self.old) }
+        ensures in_place { IsInPlace event.now → IsOk result }
         ensures sound { IsSound self.new }
     {
         let step = match event {
