@@ -11,3 +11,6 @@ pub mod words;
 
 /// Want of memory.
 pub type Memory = std::alloc::AllocError;
+
+#[cfg(test)]
+mod tests;
