@@ -1,9 +1,9 @@
 -- The writer's stores: chunks that are given and freed, cells that are written, versions that are published.
-use Rattle.std.proofs.Common.{◌≡◌, ◌≢◌, ◌⊎◌, inl, inr, ⊎_elim, ℕ, zero, suc, ◌+◌, ◌-◌, ◌*◌, ◌/◌, ◌<◌, ◌≤◌, eqb, ltb, List, [], ◌∷◌, ◌++◌, length, get_or, set, replicate, Bool, true, false, true≢false, cond, refl, sym, ap, ◌∙◌, subst, arith, length-set, get_or-set_same, get_or-set_other, eq-eqb}
-use Rattle.std.specs.Prelude.{◌&&◌, ◌||◌, ◌==◌, not, map, Option, Some, None}
-use Rattle.std.specs.List.{All, AllPairs, Contains, list_any, list_all}
+use Rattle.std.proofs.Common.{◌≡◌, ◌≢◌, inl, inr, ⊎_elim, ℕ, ◌+◌, ◌*◌, ◌/◌, ◌<◌, ◌≤◌, ltb, List, [], ◌∷◌, ◌++◌, get_or, set, replicate, Bool, true, false, true≢false, refl, sym, ap, ◌∙◌, subst, arith, length-set, get_or-set_same, get_or-set_other, eq-eqb}
+use Rattle.std.specs.Prelude.{◌||◌, ◌==◌, not, map, Option, Some, None}
+use Rattle.std.specs.List.{All, AllPairs, list_any, list_all}
 use Rattle.std.proofs.lemmas.List.{length-replicate}
-use Rattle.std.proofs.lemmas.List.Elements.{All-contains, All-weaker, All-push, All-map, Contains-push, Contains-append_left, Contains-get_or}
+use Rattle.std.proofs.lemmas.List.Elements.{All-push, All-map, Contains-push, Contains-append_left}
 use Rattle.std.proofs.lemmas.List.Kept.{AllPairs-cons}
 use Rattle.std.proofs.lemmas.List.Sums.{AllPass-from_list_all}
 use Rattle.std.proofs.lemmas.List.Folds.{Any-from_list_any}
@@ -14,12 +14,11 @@ use Rattle.pin_core.specs.declared.kept.CellAt.{CellAt}
 use Rattle.pin_core.specs.declared.kept.Kept.{Kept}
 use Rattle.pin_core.specs.declared.kept.Stage.{Stage}
 use Rattle.pin_core.specs.declared.kept.Stage.TheVariants as stage
-use Rattle.pin_core.specs.declared.kept.Mark.{Mark}
 use Rattle.pin_core.specs.declared.kept.Mark.TheVariants as mark
 use Rattle.pin_core.specs.declared.event.Half.{Half}
 use Rattle.pin_core.specs.declared.event.Half.TheVariants.{Big, Small}
-use Rattle.pin_core.specs.Words.{Size, pin_at, status_at, cell_at, half_at, chunk_of, current_word, word_of, pin_of}
-use Rattle.pin_core.specs.Sound.{Turn, Sound, stage_at, mark_at, HasRoot, AgreesWith, IsGiven, Names, PinFits, IsFresh, MarkFits}
+use Rattle.pin_core.specs.Words.{Size, pin_at, status_at, cell_at, half_at, chunk_of, word_of}
+use Rattle.pin_core.specs.Sound.{Turn, Sound, stage_at, mark_at, HasRoot, AgreesWith, IsGiven, Names, PinFits, MarkFits}
 use Rattle.pin_core.specs.Machine.{has_cell, meets, is_kept_cell, is_kept_chunk, is_given, is_distinct, is_rooted, image_of}
 use Rattle.pin_core.proofs.Lists.{AllPairs-push, none_passes, and_left, and_right, not_true}
 use Rattle.pin_core.proofs.Pins.{images_stay, chunks_stay}

@@ -1,11 +1,13 @@
 -- Whole runs: what holds after any events, and that a pinned pass reads its version as it was published.
-use Rattle.std.proofs.Common.{◌≡◌, ◌≢◌, ◌⊎◌, inl, inr, ⊎_elim, ℕ, zero, suc, ◌+◌, ◌-◌, ◌*◌, ◌/◌, ◌<◌, ◌≤◌, eqb, ltb, List, [], ◌∷◌, ◌++◌, length, get_or, set, replicate, Bool, true, false, true≢false, cond, refl, sym, ap, ◌∙◌, subst, arith, append_assoc, append-nil, length-append, take, drop, drop-cons}
+use Rattle.std.proofs.Common.{◌≡◌, ◌≢◌, ◌⊎◌, inl, inr, ⊎_elim, ℕ, zero, suc, ◌+◌, ◌<◌, ◌≤◌, List, [], ◌∷◌, ◌++◌, length, get_or, set, get_or-set_same, get_or-set_other, replicate, Bool, true, false, cond, refl, sym, ap, ◌∙◌, subst, arith, append_assoc, append-nil, length-append, take, drop, drop-cons}
 use Rattle.std.proofs.lemmas.List.{take_more}
-use Rattle.std.specs.Prelude.{◌&&◌, ◌||◌, ◌==◌, nat_lt, nat_le, if◌then◌else◌, filter, slice_get, Option, Some, None, IsTrue}
+use Rattle.std.specs.Prelude.{◌&&◌, ◌||◌, ◌==◌, nat_lt, nat_le, slice_get, Option, Some}
 use Rattle.std.specs.List.{All, AllPairs, Contains, list_any, list_all}
 use Rattle.std.proofs.lemmas.List.Elements.{All-contains, All-head, All-tail, Contains-get_or, Contains-push_cases}
 use Rattle.std.proofs.lemmas.List.Folds.{list_any_at, list_any_none}
 use Rattle.std.proofs.lemmas.Bool.Decides.{eqb_tells, nat_tests}
+use mathlib.Core.Logic.{dite}
+use native.Mathlib.Decide.{ℕ_discrete}
 use Rattle.pin_core.specs.declared.kept.CellAt.{CellAt}
 use Rattle.pin_core.specs.declared.kept.Kept.{Kept}
 use Rattle.pin_core.specs.declared.kept.Stage.{Stage}
@@ -17,12 +19,13 @@ use Rattle.pin_core.specs.declared.event.Half.TheVariants.{Big, Small}
 use Rattle.pin_core.specs.declared.event.Event.{Event}
 use Rattle.pin_core.specs.declared.event.Event.TheVariants as event
 use Rattle.pin_core.specs.declared.event.Step.{Step}
-use Rattle.pin_core.specs.declared.event.Step.TheVariants.{Done, Refused, Pinned, Word}
+use Rattle.pin_core.specs.declared.event.Step.TheVariants.{Done, Refused, Word}
 use Rattle.pin_core.specs.Words.{Size, pin_at, cell_at, half_at}
-use Rattle.pin_core.specs.Sound.{Turn, Sound, stage_at, mark_at, AgreesWith, PinFits}
-use Rattle.pin_core.specs.Machine.{Core, IsSound, exchanged, mark_of, has_cell, is_in_version, entered, looked, settled, shown, left, learned, is_settled, names_version, kept_by_round, round_checked, marked_by, scanned, assigned, given, freed, written, can_publish, next_kept, with_next, published, if_pass, refused, next, opened, can_open}
-use Rattle.pin_core.specs.Runs.{after, answers, new_version, new_versions, IsWithinLimits, Opening, CanOpen, run_of, versions_of, IsAlwaysSound, half_of, read_of, EachReadsItsVersion, RoundsKeepFew}
+use Rattle.pin_core.specs.Sound.{Turn, stage_at, mark_at, AgreesWith, PinFits}
+use Rattle.pin_core.specs.Machine.{Core, IsSound, exchanged, mark_of, has_cell, is_in_version, entered, looked, settled, shown, left, learned, is_settled, names_version, kept_by_round, round_checked, assigned, can_publish, next_kept, with_next, if_pass, refused, next, opened}
+use Rattle.pin_core.specs.Runs.{after, answers, new_version, new_versions, Opening, CanOpen, run_of, versions_of, IsAlwaysSound, half_of, read_of, EachReadsItsVersion, RoundsKeepFew, NoPassGoesBack}
 use Rattle.pin_core.proofs.Lists.{contains_cases, contains_from_filter, pairs_cases}
+use Rattle.pin_core.proofs.Pins.{settles_forward}
 use Rattle.pin_core.proofs.Rounds.{round_keeps_few}
 use Rattle.pin_core.proofs.Openings.{opening_sound}
 use Rattle.pin_core.proofs.Steps.{step_sound}
@@ -37,45 +40,64 @@ opens o can = opening_sound o.size o.root o.image can.0.1 can.0.3 can.1
 pub always_sound : IsAlwaysSound
 always_sound o can events = run_sound (opened o.size o.root o.image) events (opens o can)
 
--- what an event leaves as it was: the size, and the kept versions but for a new one
+-- what an event leaves as it was: the size, and the kept versions but for a new one. What a pass has seen doesn't fall
 
 record Follows (s s' : Core) (new : List Kept) : Type 0 where
   size : s'.size ≡ s.size
   version : s'.turn.version ≡ s.turn.version + length new
   kept : (k : Kept) → Contains s'.turn.kept k → Contains s.turn.kept k ⊎ Contains new k
+  forward : (p : ℕ) → p < s.size.passes → get_or s.seens p 0 ≤ get_or s'.seens p 0
 
-same_turn : (s s' : Core) → s'.size ≡ s.size → s'.turn ≡ s.turn → Follows s s' []
-same_turn s s' z t = record {
+same_turn : (s s' : Core) → s'.size ≡ s.size → s'.turn ≡ s.turn → ((p : ℕ) → p < s.size.passes → get_or s.seens p 0 ≤ get_or s'.seens p 0) → Follows s s' []
+same_turn s s' z t forward = record {
   size = z;
   version = ap (λ (t : Turn). t.version) t ∙ (let e : s.turn.version ≡ s.turn.version + 0 = omega arith in e);
   kept = λ k has. inl (subst (λ (t : Turn). Contains t.kept k) t has);
+  forward = forward;
 }
 
-module _ (s : Core) where
+-- what one pass has seen becomes what isn't older
+one_forward : (seens : List ℕ) (q n p : ℕ) → q < length seens → get_or seens q 0 ≤ n → get_or seens p 0 ≤ get_or (set seens q n) p 0
+one_forward seens q n p l old = dite (ℕ_discrete p q)
+    (λ (e : p ≡ q). subst (λ (i : ℕ). get_or seens i 0 ≤ get_or (set seens q n) i 0) (sym e) (rw (get_or-set_same seens q n 0 l) old))
+    (λ (ne : p ≢ q). rw (get_or-set_other seens q p n 0 ne) (omega arith))
+
+module _ (s : Core) (h : IsSound s) where
+  still : (p : ℕ) → p < s.size.passes → get_or s.seens p 0 ≤ get_or s.seens p 0
+  still p l = omega arith
+
   stays : Follows s s []
-  stays = same_turn s s refl refl
+  stays = same_turn s s refl refl still
+
+  of_pass : (p : ℕ) (r : Core × Step) → (p < s.size.passes → Follows s r.0 []) → Follows s (if_pass s p r).0 []
+  of_pass p r f = go (nat_lt p s.size.passes) refl
+    where
+      go : (b : Bool) → nat_lt p s.size.passes ≡ b → Follows s (cond b r (s, Refused)).0 []
+      go true e = f (grind (arith, nat_tests))
+      go false e = stays
 
   under : (b : Bool) (r : Core × Step) → Follows s r.0 [] → Follows s (cond b r (s, Refused)).0 []
   under true r f = f
   under false r f = stays
 
   enter_follows : (p : ℕ) (g : Stage) → Follows s (entered s p g).0 []
-  enter_follows p stage.Idle = same_turn s _ refl refl
+  enter_follows p stage.Idle = same_turn s _ refl refl still
   enter_follows p stage.Entered = stays
   enter_follows p (stage.Looked w) = stays
   enter_follows p (stage.Pinned v) = stays
 
   look_follows : (p : ℕ) (g : Stage) → Follows s (looked s p g).0 []
   look_follows p stage.Idle = stays
-  look_follows p stage.Entered = same_turn s _ refl refl
+  look_follows p stage.Entered = same_turn s _ refl refl still
   look_follows p (stage.Looked w) = stays
   look_follows p (stage.Pinned v) = stays
 
-  settle_follows : (p : ℕ) (g : Stage) → Follows s (settled s p g).0 []
-  settle_follows p stage.Idle = stays
-  settle_follows p stage.Entered = stays
-  settle_follows p (stage.Looked w) = same_turn s _ refl refl
-  settle_follows p (stage.Pinned v) = stays
+  settle_follows : (p : ℕ) → p < s.size.passes → (g : Stage) → stage_at s.stages p ≡ g → Follows s (settled s p g).0 []
+  settle_follows p l stage.Idle is = stays
+  settle_follows p l stage.Entered is = stays
+  settle_follows p l (stage.Looked w) is = same_turn s _ refl refl
+      (λ q m. one_forward s.seens p _ q (let e = h.watched in omega arith) (settles_forward s.size s.words s.stages s.seens s.turn h p w l is))
+  settle_follows p l (stage.Pinned v) is = stays
 
   show_follows : (at : ℕ) (half : Half) (g : Stage) → Follows s (shown s at half g).0 []
   show_follows at half stage.Idle = stays
@@ -87,13 +109,13 @@ module _ (s : Core) where
   leave_follows p stage.Idle = stays
   leave_follows p stage.Entered = stays
   leave_follows p (stage.Looked w) = stays
-  leave_follows p (stage.Pinned v) = same_turn s _ refl refl
+  leave_follows p (stage.Pinned v) = same_turn s _ refl refl still
 
-  learn_follows : (p version : ℕ) (g : Stage) → Follows s (learned s p version g).0 []
-  learn_follows p version stage.Idle = under (nat_le version s.turn.version) _ (same_turn s _ refl refl)
-  learn_follows p version stage.Entered = stays
-  learn_follows p version (stage.Looked w) = stays
-  learn_follows p version (stage.Pinned v) = stays
+  learn_follows : (p version : ℕ) → p < s.size.passes → (g : Stage) → Follows s (learned s p version g).0 []
+  learn_follows p version l stage.Idle = under (nat_le version s.turn.version) _ (same_turn s _ refl refl (λ q m. one_forward s.seens p _ q (let e = h.watched in omega arith) (omega arith)))
+  learn_follows p version l stage.Entered = stays
+  learn_follows p version l (stage.Looked w) = stays
+  learn_follows p version l (stage.Pinned v) = stays
 
   -- a round drops versions, and makes none
   check_follows : (words : List ℕ) (marks : List Mark) → Follows s (record s { words = words; turn = round_checked s.size.passes (record s.turn { marks = marks }) }) []
@@ -104,8 +126,9 @@ module _ (s : Core) where
         size = refl;
         version = omega arith;
         kept = λ k has. inl (contains_from_filter (λ k. (k.version == s.turn.version) || list_any (names_version k.version) marks) s.turn.kept k has);
+        forward = still;
       }
-      go false = record { size = refl; version = omega arith; kept = λ k has. inl has }
+      go false = record { size = refl; version = omega arith; kept = λ k has. inl has; forward = still }
 
   assign_follows : (p : ℕ) (m : Mark) → Follows s (assigned s p m).0 []
   assign_follows p mark.Blank = stays
@@ -120,31 +143,40 @@ module _ (s : Core) where
     size = refl;
     version = refl;
     kept = λ k has. ⊎_elim inl (λ (e : next_kept s root cells ≡ k). inr (0, omega arith, e)) (Contains-push_cases s.turn.kept (next_kept s root cells) k has);
+    forward = still;
   }
   publish_follows root cells false = stays
 
   step_follows : (e : Event) → Follows s (next s e).0 (new_version s e)
   step_follows (event.Enter p) = under (nat_lt p s.size.passes) _ (enter_follows p (stage_at s.stages p))
   step_follows (event.Look p) = under (nat_lt p s.size.passes) _ (look_follows p (stage_at s.stages p))
-  step_follows (event.Settle p) = under (nat_lt p s.size.passes) _ (settle_follows p (stage_at s.stages p))
+  step_follows (event.Settle p) = of_pass p _ (λ l. settle_follows p l (stage_at s.stages p) refl)
   step_follows (event.Read p at half) = under (nat_lt p s.size.passes) _ (show_follows at half (stage_at s.stages p))
   step_follows (event.Leave p) = under (nat_lt p s.size.passes) _ (leave_follows p (stage_at s.stages p))
-  step_follows (event.Learn p version) = under (nat_lt p s.size.passes) _ (learn_follows p version (stage_at s.stages p))
+  step_follows (event.Learn p version) = of_pass p _ (λ l. learn_follows p version l (stage_at s.stages p))
   step_follows (event.Scan p) = under (nat_lt p s.size.passes) _ (check_follows s.words (set s.turn.marks p (mark_of (get_or s.words (pin_at p) 0))))
   step_follows (event.Assign p) = under (nat_lt p s.size.passes) _ (assign_follows p (mark_at s.turn.marks p))
-  step_follows (event.Give chunk) = under _ _ (same_turn s _ refl refl)
-  step_follows (event.Free chunk) = under _ _ (same_turn s _ refl refl)
-  step_follows (event.Write at half value) = under _ _ (same_turn s _ refl refl)
+  step_follows (event.Give chunk) = under _ _ (same_turn s _ refl refl still)
+  step_follows (event.Free chunk) = under _ _ (same_turn s _ refl refl still)
+  step_follows (event.Write at half value) = under _ _ (same_turn s _ refl refl still)
   step_follows (event.Publish root cells) = publish_follows root cells (can_publish s root cells)
 
-after_size : (s : Core) (events : List Event) → (after s events).size ≡ s.size
-after_size s [] = refl
-after_size s (e ∷ es) = after_size (next s e).0 es ∙ (step_follows s e).size
+after_size : (s : Core) (events : List Event) → IsSound s → (after s events).size ≡ s.size
+after_size s [] h = refl
+after_size s (e ∷ es) h = after_size (next s e).0 es (step_sound s h e) ∙ (step_follows s h e).size
+
+after_forward : (s : Core) (events : List Event) → IsSound s → (p : ℕ) → p < s.size.passes → get_or s.seens p 0 ≤ get_or (after s events).seens p 0
+after_forward s [] h p l = omega arith
+after_forward s (e ∷ es) h p l =
+    let f = step_follows s h e in
+    let one = f.forward p l in
+    let rest = after_forward (next s e).0 es (step_sound s h e) p (subst (λ (z : Size). p < z.passes) (sym f.size) l) in
+    omega arith
 
 pub rounds_keep_few : RoundsKeepFew
 rounds_keep_few o can events marks n =
     let s = run_of o events in
-    let z : s.size ≡ o.size = after_size (opened o.size o.root o.image) events in
+    let z : s.size ≡ o.size = after_size (opened o.size o.root o.image) events (opens o can) in
     subst (λ (z : Size). length (kept_by_round (record s.turn { marks = marks })) ≤ z.passes + 1) z
     (round_keeps_few s.size s.words s.stages s.seens s.turn (always_sound o can events) marks (n ∙ ap (λ (z : Size). z.passes) (sym z)))
 
@@ -169,8 +201,8 @@ lists_grow all s s' new l f last = record {
   at_number = λ k has. ⊎_elim (λ (old : Contains s.turn.kept k). slice_get_left all new k.version k (l.at_number k old)) (last k) (f.kept k has);
 }
 
-step_lists : (all : List Kept) (s : Core) (e : Event) → Lists all s → Lists (all ++ new_version s e) (next s e).0
-step_lists all s (event.Publish root cells) l = lists_grow all s _ _ l (step_follows s (event.Publish root cells)) (last (can_publish s root cells))
+step_lists : (all : List Kept) (s : Core) → IsSound s → (e : Event) → Lists all s → Lists (all ++ new_version s e) (next s e).0
+step_lists all s h (event.Publish root cells) l = lists_grow all s _ _ l (step_follows s h (event.Publish root cells)) (last (can_publish s root cells))
   where
     last : (b : Bool) (k : Kept) → Contains (cond b (next_kept s root cells ∷ []) []) k → slice_get (all ++ cond b (next_kept s root cells ∷ []) []) k.version ≡ Some k
     last true k has = ⊎_elim
@@ -179,11 +211,11 @@ step_lists all s (event.Publish root cells) l = lists_grow all s _ _ l (step_fol
         (λ (none : Contains [] k). absurd (let m = none.1 in omega arith))
         (contains_cases (next_kept s root cells) k [] has)
     last false k has = absurd (let m = has.1 in omega arith)
-step_lists all s e l = lists_grow all s (next s e).0 (new_version s e) l (step_follows s e) (λ k none. absurd (let m = none.1 in omega arith))
+step_lists all s h e l = lists_grow all s (next s e).0 (new_version s e) l (step_follows s h e) (λ k none. absurd (let m = none.1 in omega arith))
 
-run_lists : (all : List Kept) (s : Core) (events : List Event) → Lists all s → Lists (all ++ new_versions s events) (after s events)
-run_lists all s [] l = subst (λ (xs : List Kept). Lists xs s) (sym (append-nil all)) l
-run_lists all s (e ∷ es) l = subst (λ (xs : List Kept). Lists xs (after s (e ∷ es))) (append_assoc all (new_version s e) (new_versions (next s e).0 es)) (run_lists (all ++ new_version s e) (next s e).0 es (step_lists all s e l))
+run_lists : (all : List Kept) (s : Core) (events : List Event) → IsSound s → Lists all s → Lists (all ++ new_versions s events) (after s events)
+run_lists all s [] h l = subst (λ (xs : List Kept). Lists xs s) (sym (append-nil all)) l
+run_lists all s (e ∷ es) h l = subst (λ (xs : List Kept). Lists xs (after s (e ∷ es))) (append_assoc all (new_version s e) (new_versions (next s e).0 es)) (run_lists (all ++ new_version s e) (next s e).0 es (step_sound s h e) (step_lists all s h e l))
 
 -- reads
 
@@ -250,10 +282,10 @@ pub each_reads_its_version : EachReadsItsVersion
 each_reads_its_version o can events p v l is =
     let s = run_of o events in
     let h = always_sound o can events in
-    let within : p < s.size.passes = subst (λ (z : Size). p < z.passes) (sym (after_size (opened o.size o.root o.image) events)) l in
+    let within : p < s.size.passes = subst (λ (z : Size). p < z.passes) (sym (after_size (opened o.size o.root o.image) events (opens o can))) l in
     let pinned : PinFits s.turn.kept (get_or s.seens p 0) (get_or s.words (pin_at p) 0) (stage.Pinned v) = subst (PinFits s.turn.kept (get_or s.seens p 0) (get_or s.words (pin_at p) 0)) is (h.pins p within) in
     let k = pinned.0 in
-    let all = run_lists (first o ∷ []) (opened o.size o.root o.image) events (opening_lists o) in (
+    let all = run_lists (first o ∷ []) (opened o.size o.root o.image) events (opens o can) (opening_lists o) in (
       k,
       subst (λ (n : ℕ). slice_get (versions_of o events) n ≡ Some k) pinned.3 (all.at_number k pinned.1),
       λ at half. read_answers s p v at half k.image within is (in_version s.turn.kept k v at h.rising pinned.1 pinned.3) (All-contains (λ k. All (AgreesWith s.words) k.image) s.turn.kept k h.unchanged pinned.1),
@@ -270,9 +302,25 @@ reaches s t events i e l read at =
     ap (λ (c : Core). (next c e).0) at ∙ sym (after_append s (take i events) (e ∷ []))
     ∙ ap (λ (x : Event). after s (take i events ++ x ∷ [])) read ∙ sym (ap (after s) (take_more events i e l))
 
-pub tells : (t : Core) (steps all : List Step) (events : List Event) (i : ℕ) (e : Event) → i < length events → e ≡ get_or events i e → steps ++ answers t (drop i events) ≡ all
-    → (steps ++ (next t e).1 ∷ []) ++ answers (next t e).0 (drop (i + 1) events) ≡ all
-tells t steps all events i e l read told =
-    append_assoc steps ((next t e).1 ∷ []) (answers (next t e).0 (drop (i + 1) events))
-    ∙ sym (ap (λ (es : List Event). steps ++ answers t es) (rw (drop-cons events i e l) (ap (λ (x : Event). x ∷ drop (suc i) events) (sym read)) ∙ ap (λ (n : ℕ). e ∷ drop n events) (let next_place : suc i ≡ i + 1 = omega arith in next_place)))
+pub tells : (t t' : Core) (steps steps' all : List Step) (step : Step) (events : List Event) (i : ℕ) (e : Event) → i < length events → e ≡ get_or events i e → steps ++ answers t (drop i events) ≡ all
+    → t' ≡ (next t e).0 → step ≡ (next t e).1 → steps' ≡ steps ++ step ∷ [] → steps' ++ answers t' (drop (i + 1) events) ≡ all
+tells t t' steps steps' all step events i e l read told at answer pushed =
+    ap (λ (xs : List Step). xs ++ answers t' rest) (pushed ∙ ap (λ (x : Step). steps ++ x ∷ []) answer)
+    ∙ ap (λ (c : Core). (steps ++ (next t e).1 ∷ []) ++ answers c rest) at
+    ∙ append_assoc steps ((next t e).1 ∷ []) (answers (next t e).0 rest)
+    ∙ sym (ap (λ (es : List Event). steps ++ answers t es) left)
     ∙ told
+  where
+    rest : List Event
+    rest = drop (i + 1) events
+
+    left : drop i events ≡ e ∷ drop (i + 1) events
+    left = rw (drop-cons events i e l) (ap (λ (x : Event). x ∷ drop (suc i) events) (sym read)) ∙ ap (λ (n : ℕ). e ∷ drop n events) (let next_place : suc i ≡ i + 1 = omega arith in next_place)
+
+-- what a pass has seen never falls
+pub no_pass_goes_back : NoPassGoesBack
+no_pass_goes_back o can events more p l =
+    let s = run_of o events in
+    let z : s.size ≡ o.size = after_size (opened o.size o.root o.image) events (opens o can) in
+    subst (λ (c : Core). get_or s.seens p 0 ≤ get_or c.seens p 0) (sym (after_append (opened o.size o.root o.image) events more))
+    (after_forward s more (always_sound o can events) p (subst (λ (z : Size). p < z.passes) (sym z) l))

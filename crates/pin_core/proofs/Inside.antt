@@ -1,5 +1,5 @@
 -- What a method of a state knows of its fields, once it has looked at them.
-use Rattle.std.proofs.Common.{◌≡◌, ℕ, ◌+◌, ◌*◌, ◌<◌, ◌≤◌, List, length, get_or, Bool, true, false, cond, refl, sym, ap, ◌∙◌, subst, arith}
+use Rattle.std.proofs.Common.{◌≡◌, ℕ, ◌*◌, ◌<◌, length, get_or, Bool, true, cond, sym, ap, ◌∙◌, subst, arith}
 use Rattle.std.specs.Prelude.{◌&&◌, ◌==◌}
 use Rattle.std.specs.List.{All, Contains}
 use Rattle.std.proofs.lemmas.List.Elements.{All-contains}
@@ -10,14 +10,11 @@ use Rattle.pin_core.specs.declared.kept.Stage.{Stage}
 use Rattle.pin_core.specs.declared.kept.Stage.TheVariants as stage
 use Rattle.pin_core.specs.declared.kept.Mark.{Mark}
 use Rattle.pin_core.specs.declared.kept.Mark.TheVariants as mark
-use Rattle.pin_core.specs.declared.kept.CellAt.{CellAt}
-use Rattle.pin_core.specs.declared.kept.Kept.{Kept}
 use Rattle.pin_core.specs.declared.event.Half.{Half}
 use Rattle.pin_core.specs.declared.event.Half.TheVariants.{Big, Small}
-use Rattle.pin_core.specs.declared.event.Step.{Step}
 use Rattle.pin_core.specs.declared.event.Step.TheVariants.{Refused, Word}
-use Rattle.pin_core.specs.Words.{Size, pin_at, half_at, word_count}
-use Rattle.pin_core.specs.Sound.{Sound, stage_at, mark_at, IsGiven}
+use Rattle.pin_core.specs.Words.{pin_at, half_at}
+use Rattle.pin_core.specs.Sound.{stage_at, mark_at, IsGiven}
 use Rattle.pin_core.specs.Machine.{Core, IsSound, has_cell, is_in_version, shown}
 use Rattle.pin_core.proofs.Lists.{and_right}
 

@@ -1,7 +1,7 @@
 -- Each opening is sound: its image's cells are laid into words that are otherwise 0.
-use Rattle.std.proofs.Common.{◌≡◌, ◌≢◌, ◌⊎◌, inl, inr, ⊎_elim, ℕ, zero, suc, ◌+◌, ◌-◌, ◌*◌, ◌/◌, ◌<◌, ◌≤◌, eqb, ltb, List, [], ◌∷◌, ◌++◌, length, get_or, set, replicate, Bool, true, false, true≢false, cond, refl, sym, ap, ◌∙◌, subst, arith, length-set, get_or-set_same, get_or-set_other}
-use Rattle.std.specs.Prelude.{◌&&◌, ◌==◌, nat_lt, not, map, Option, Some, None}
-use Rattle.std.specs.List.{All, AllPairs, Contains, list_any, list_all, fold}
+use Rattle.std.proofs.Common.{◌≡◌, ◌≢◌, ℕ, ◌+◌, ◌*◌, ◌<◌, ◌≤◌, List, [], ◌∷◌, length, get_or, set, replicate, true, refl, sym, ◌∙◌, subst, arith, length-set, get_or-set_same, get_or-set_other}
+use Rattle.std.specs.Prelude.{◌&&◌, nat_lt, map, Option}
+use Rattle.std.specs.List.{All, AllPairs, list_all, fold}
 use Rattle.std.proofs.lemmas.List.{length-replicate, get_or-replicate}
 use Rattle.std.proofs.lemmas.List.Elements.{All-head, All-tail, All-cons, All-nil}
 use Rattle.std.proofs.lemmas.List.Sums.{AllPass-from_list_all}
@@ -14,8 +14,8 @@ use Rattle.pin_core.specs.declared.kept.Stage.{Stage}
 use Rattle.pin_core.specs.declared.kept.Stage.TheVariants as stage
 use Rattle.pin_core.specs.declared.kept.Mark.{Mark}
 use Rattle.pin_core.specs.declared.kept.Mark.TheVariants as mark
-use Rattle.pin_core.specs.Words.{Size, pin_at, status_at, cell_at, chunk_of, word_count, root_number, current_word, word_of}
-use Rattle.pin_core.specs.Sound.{Turn, Sound, turn_of, stage_at, mark_at, HasRoot, AgreesWith, IsGiven, PinFits, MarkFits}
+use Rattle.pin_core.specs.Words.{Size, pin_at, status_at, cell_at, chunk_of, word_count, root_number, current_word}
+use Rattle.pin_core.specs.Sound.{Sound, turn_of, stage_at, HasRoot, AgreesWith, IsGiven, PinFits, MarkFits}
 use Rattle.pin_core.specs.Machine.{IsSound, is_distinct, is_rooted, with_cell, can_open, opened}
 use Rattle.pin_core.proofs.Lists.{and_left, and_right, pairs_head, pairs_tail}
 use Rattle.pin_core.proofs.Pins.{kept_root_fits}

@@ -1,6 +1,5 @@
 -- What a pass does, and how the writer marks and helps it, keeps what holds between two events.
-use Rattle.std.proofs.Common.{◌≡◌, ◌≢◌, ◌⊎◌, inl, inr, ⊎_elim, ℕ, zero, suc, ◌+◌, ◌-◌, ◌*◌, ◌/◌, ◌<◌, ◌≤◌, eqb, max, List, [], ◌∷◌, ◌++◌, length, get_or, set, Bool, true, false, cond, refl, sym, ap, ◌∙◌, subst, arith, length-set, get_or-set_same, get_or-set_other}
-use Rattle.std.specs.Prelude.{if◌then◌else◌, ◌==◌}
+use Rattle.std.proofs.Common.{◌≡◌, inl, inr, ⊎_elim, ℕ, ◌+◌, ◌-◌, ◌*◌, ◌/◌, ◌<◌, ◌≤◌, eqb, max, List, length, get_or, set, Bool, true, false, cond, refl, sym, ap, ◌∙◌, subst, arith, length-set, get_or-set_same, get_or-set_other}
 use Rattle.std.specs.List.{All, Contains}
 use Rattle.std.proofs.lemmas.List.{set-get_or}
 use Rattle.std.proofs.lemmas.List.Elements.{All-contains, All-weaker}
@@ -16,7 +15,7 @@ use Rattle.pin_core.specs.declared.kept.Mark.{Mark}
 use Rattle.pin_core.specs.declared.kept.Mark.TheVariants as mark
 use Rattle.std.specs.Prelude.{Option, Some, None}
 use Rattle.pin_core.specs.Words.{Size, pin_at, status_at, cell_at, chunk_of, root_number, word_of, pin_of, version_of}
-use Rattle.pin_core.specs.Sound.{Turn, Sound, stage_at, mark_at, HasRoot, AgreesWith, IsGiven, Names, PinFits, LookedAt, IsFresh, MarkFits}
+use Rattle.pin_core.specs.Sound.{Turn, Sound, stage_at, mark_at, HasRoot, AgreesWith, IsGiven, Names, PinFits, IsFresh, MarkFits}
 use Rattle.pin_core.specs.Machine.{exchanged, mark_of}
 
 -- the images are as they were, if the words past the pins are
@@ -214,6 +213,13 @@ module _ (z : Size) (words : List ℕ) (stages : List Stage) (seens : List ℕ) 
   -- the pin that a settle leaves is a pin, and fits its word
   pub settled_fits : (p word : ℕ) → p < z.passes → stage_at stages p ≡ stage.Looked word → let x : ℕ = exchanged (get_or words (pin_at p) 0) word in (2 ≤ x) × (x < 18446744073709551616)
   settled_fits p word l is = named_fits (seen p) (exchanged (pin p) word) (settles_on p word l is (eqb (pin p) 1) refl)
+
+  -- a pass doesn't settle on a version older than what it has seen
+  pub settles_forward : (p word : ℕ) → p < z.passes → stage_at stages p ≡ stage.Looked word → get_or seens p 0 ≤ version_of (exchanged (get_or words (pin_at p) 0) word)
+  settles_forward p word l is =
+      let k = settles_on p word l is (eqb (pin p) 1) refl in
+      let f = kept_root_fits k.0 k.1 in
+      subst (λ (n : ℕ). seen p ≤ n) (sym (version_of_pin k.0 (exchanged (pin p) word) (omega arith) k.2)) k.3
 
   -- a pin can be made of CUR's word
   pub current_fits : get_or words 0 0 + 2 < 18446744073709551616

@@ -1,10 +1,8 @@
 -- Each event keeps what holds between two events.
-use Rattle.std.proofs.Common.{◌≡◌, ◌≢◌, ℕ, zero, suc, ◌+◌, ◌-◌, ◌*◌, ◌/◌, ◌<◌, ◌≤◌, eqb, ltb, leb, max, List, [], ◌∷◌, ◌++◌, length, get_or, set, replicate, Bool, true, false, true≢false, cond, refl, sym, ap, ◌∙◌, subst, arith, length-set}
-use Rattle.std.specs.Prelude.{◌&&◌, ◌==◌, nat_lt, nat_le, not, map, if◌then◌else◌, Option, Some, None}
-use Rattle.std.specs.List.{All, AllPairs, list_all}
+use Rattle.std.proofs.Common.{◌≡◌, ℕ, ◌<◌, List, get_or, set, Bool, true, false, cond, refl, sym, subst, arith}
+use Rattle.std.specs.Prelude.{◌&&◌, ◌==◌, nat_lt, nat_le, not, Option}
+use Rattle.std.specs.List.{list_all}
 use Rattle.std.proofs.lemmas.Bool.Decides.{nat_tests}
-use Rattle.pin_core.specs.declared.kept.CellAt.{CellAt}
-use Rattle.pin_core.specs.declared.kept.Kept.{Kept}
 use Rattle.pin_core.specs.declared.kept.Stage.{Stage}
 use Rattle.pin_core.specs.declared.kept.Stage.TheVariants as stage
 use Rattle.pin_core.specs.declared.kept.Mark.{Mark}
@@ -14,9 +12,9 @@ use Rattle.pin_core.specs.declared.event.Event.{Event}
 use Rattle.pin_core.specs.declared.event.Event.TheVariants as event
 use Rattle.pin_core.specs.declared.event.Step.{Step}
 use Rattle.pin_core.specs.declared.event.Step.TheVariants as step
-use Rattle.pin_core.specs.Words.{Size, pin_at, status_at, cell_at, half_at, chunk_of}
-use Rattle.pin_core.specs.Sound.{Turn, Sound, stage_at, mark_at, HasRoot, AgreesWith, IsGiven}
-use Rattle.pin_core.specs.Machine.{Core, IsSound, exchanged, entered, looked, settled, shown, left, learned, mark_of, round_checked, scanned, assigned, given, freed, written, is_given, is_kept_chunk, is_kept_cell, is_distinct, is_rooted, image_of, can_publish, next_kept, with_next, published, refused, if_pass, next}
+use Rattle.pin_core.specs.Words.{Size, pin_at, status_at, chunk_of}
+use Rattle.pin_core.specs.Sound.{stage_at, mark_at}
+use Rattle.pin_core.specs.Machine.{Core, IsSound, exchanged, entered, looked, settled, shown, left, learned, mark_of, scanned, assigned, given, freed, written, is_given, is_kept_chunk, is_kept_cell, is_distinct, is_rooted, image_of, can_publish, next_kept, with_next, if_pass, next}
 use Rattle.pin_core.proofs.Lists.{and_left, and_right, not_true}
 use Rattle.pin_core.proofs.Pins.{enters, looks, settles, leaves, learns, scans, assigns}
 use Rattle.pin_core.proofs.Rounds.{checks}

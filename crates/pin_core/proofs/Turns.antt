@@ -1,15 +1,13 @@
 -- What a method of a state makes of the writer's part: marks, rounds and published versions.
-use Rattle.std.proofs.Common.{◌≡◌, ℕ, zero, suc, ◌+◌, ◌-◌, ◌*◌, ◌<◌, ◌≤◌, List, [], ◌∷◌, ◌++◌, length, take, drop, get_or, set, replicate, Bool, true, false, cond, refl, sym, ap, ◌∙◌, subst, arith}
+use Rattle.std.proofs.Common.{◌≡◌, ℕ, ◌+◌, ◌<◌, List, [], ◌∷◌, ◌++◌, length, take, drop, get_or, set, replicate, true, sym, ap, ◌∙◌, subst, arith}
 use Rattle.std.proofs.Math.Seq.{take-append_seam}
 use Rattle.std.specs.Prelude.{Option}
-use Rattle.std.specs.List.{Contains}
 use Rattle.std.proofs.lemmas.List.Elements.{Contains-push}
 use Rattle.pin_core.specs.declared.kept.CellAt.{CellAt}
 use Rattle.pin_core.specs.declared.kept.Kept.{Kept}
-use Rattle.pin_core.specs.declared.kept.Stage.{Stage}
 use Rattle.pin_core.specs.declared.kept.Mark.{Mark}
 use Rattle.pin_core.specs.declared.kept.Mark.TheVariants as mark
-use Rattle.pin_core.specs.Words.{Size, pin_at, root_number, current_word}
+use Rattle.pin_core.specs.Words.{pin_at, root_number, current_word}
 use Rattle.pin_core.specs.Sound.{Turn, Sound, turn_of, mark_at}
 use Rattle.pin_core.specs.Machine.{Core, IsSound, exchanged, mark_of, round_checked, assigned, image_of, can_publish, next_kept, with_next}
 use Rattle.pin_core.proofs.Pins.{scans, assigns, kept_root_fits}

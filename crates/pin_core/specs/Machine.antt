@@ -1,5 +1,5 @@
 -- The machine: what each event does, where it is allowed, and what it answers.
-use Rattle.std.specs.Prelude.{◌≡◌, ℕ, zero, suc, ◌+◌, ◌*◌, ◌<◌, ◌==◌, nat_lt, nat_le, max, List, [], ◌∷◌, ◌++◌, map, filter, length, slice_index, slice_set, replicate, Bool, true, false, not, ◌&&◌, ◌||◌, if◌then◌else◌, Option, Some, None}
+use Rattle.std.specs.Prelude.{ℕ, ◌+◌, ◌*◌, ◌==◌, nat_lt, nat_le, max, List, [], ◌∷◌, ◌++◌, map, filter, slice_index, slice_set, replicate, Bool, true, false, not, ◌&&◌, ◌||◌, if◌then◌else◌, Option, Some, None}
 use Rattle.std.specs.List.{list_any, list_all, fold}
 use Rattle.pin_core.specs.declared.kept.CellAt.{CellAt}
 use Rattle.pin_core.specs.declared.kept.Kept.{Kept}

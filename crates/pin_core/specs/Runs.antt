@@ -1,8 +1,7 @@
 -- Whole runs of the machine, and what holds of each of them.
-use Rattle.std.specs.Prelude.{◌≡◌, ℕ, ◌+◌, ◌<◌, ◌≤◌, ◌==◌, List, [], ◌∷◌, ◌++◌, length, take, slice_get, Bool, true, if◌then◌else◌, Option, Some, IsTrue, ◌&&◌, nat_lt, nat_le}
+use Rattle.std.specs.Prelude.{◌≡◌, ℕ, ◌+◌, ◌<◌, ◌≤◌, ◌==◌, List, [], ◌∷◌, ◌++◌, length, take, slice_get, slice_index, if◌then◌else◌, Option, Some, IsTrue}
 use Rattle.pin_core.specs.declared.kept.CellAt.{CellAt}
 use Rattle.pin_core.specs.declared.kept.Kept.{Kept}
-use Rattle.pin_core.specs.declared.kept.Stage.{Stage}
 use Rattle.pin_core.specs.declared.kept.Stage.TheVariants as stage
 use Rattle.pin_core.specs.declared.kept.Mark.{Mark}
 use Rattle.pin_core.specs.declared.event.Half.{Half}
@@ -12,7 +11,7 @@ use Rattle.pin_core.specs.declared.event.Event.TheVariants as event
 use Rattle.pin_core.specs.declared.event.Step.{Step}
 use Rattle.pin_core.specs.declared.event.Step.TheVariants.{Refused, Word}
 use Rattle.pin_core.specs.Words.{Size}
-use Rattle.pin_core.specs.Sound.{Turn, Sound, stage_at}
+use Rattle.pin_core.specs.Sound.{stage_at}
 use Rattle.pin_core.specs.Machine.{Core, IsSound, next, can_publish, next_kept, can_open, opened, kept_by_round}
 
 -- the state after these events
@@ -82,3 +81,7 @@ EachReadsItsVersion = (o : Opening) → CanOpen o → (events : List Event) (p v
 -- and the current one.
 abbrev pub RoundsKeepFew : Type 0
 RoundsKeepFew = (o : Opening) → CanOpen o → (events : List Event) (marks : List Mark) → length marks ≡ o.size.passes → length (kept_by_round (record (run_of o events).turn { marks = marks })) ≤ o.size.passes + 1
+
+-- From each opening: what a pass has seen never falls, whatever more events come.
+abbrev pub NoPassGoesBack : Type 0
+NoPassGoesBack = (o : Opening) → CanOpen o → (events more : List Event) (p : ℕ) → p < o.size.passes → slice_index (run_of o events).seens p ≤ slice_index (run_of o (events ++ more)).seens p

@@ -1,16 +1,21 @@
 //! The pin core: how passes pin the versions that they read, and how the writer knows which chunks are free again.
+//!
+//! A pure machine over events, with no threads. What holds between any two events is stated on plain lists of words,
+//! so that a table that threads share keeps it too.
 #![tactic(auto)]
 
-pub mod drive;
-pub mod event;
+mod event;
 mod image;
-pub mod kept;
-pub mod state;
-pub mod version;
-pub mod words;
-
-/// Want of memory.
-pub type Memory = std::alloc::AllocError;
-
+mod kept;
+mod run;
+mod state;
 #[cfg(test)]
 mod tests;
+mod version;
+pub mod words;
+
+pub use event::{Event, Half, References, Step};
+pub use kept::{CellAt, Image, Kept, Mark, Stage};
+pub use run::drive;
+pub use state::State;
+pub use version::{LAST_VERSION, Spent, next_version};

@@ -8,10 +8,9 @@ mod opening;
 mod pass;
 mod turn;
 
-use crate::Memory;
 use crate::event::{Event, Step};
 use crate::kept::{Kept, Mark, Stage};
-use std::alloc::Global;
+use std::alloc::{AllocError, Global};
 use std::marker::Model;
 
 /// The shared words, how far each pass has come, and what the writer knows.
@@ -43,7 +42,7 @@ impl Model for State {
 
 impl State {
     /// One event. One that isn't allowed changes nothing; only a publish takes memory.
-    pub fn step(&mut self, alloc: Global, event: &Event) -> Result<Step, Memory>
+    pub fn step(&mut self, alloc: Global, event: &Event) -> Result<Step, AllocError>
         ensures after { OnOk result (self.new ≡ (next self.old event.now).0) }
         ensures answer { IfOk result (λ answer. answer ≡ (next self.old event.now).1) }
         ensures refused { result ≡ Ok Step.Refused → self.new ≡ self.old }
@@ -60,7 +59,7 @@ impl State {
     }
 
     /// Some events, one after another, and what they answer. Where memory is wanting the state is as after some of them.
-    pub fn play(&mut self, alloc: Global, events: &[Event]) -> Result<Vec<Step>, Memory>
+    pub fn play(&mut self, alloc: Global, events: &[Event]) -> Result<Vec<Step>, AllocError>
         ensures after { OnOk result (self.new ≡ after self.old events.now) }
         ensures answers { IfOk result (λ steps. steps.items ≡ answers self.old events.now) }
         ensures err { OnErr result (StoppedWithin self.old events.now self.new) }

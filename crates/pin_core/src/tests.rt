@@ -1,11 +1,8 @@
 //! Two worked runs, by `drive` and event by event.
-use crate::Memory;
-use crate::drive::drive;
-use crate::event::{Event, Half, References, Step};
-use crate::kept::{CellAt, Image};
-use crate::state::State;
-use crate::version::{LAST_VERSION, Spent, next_version};
-use std::alloc::Global;
+use crate::{
+    CellAt, Event, Half, Image, LAST_VERSION, References, Spent, State, Step, drive, next_version,
+};
+use std::alloc::{AllocError, Global};
 use std::test::Fail;
 
 fn write(at: u32, value: u64) -> Event {
@@ -24,7 +21,7 @@ fn read(at: u32) -> Event {
     }
 }
 
-fn publish(alloc: Global, cell: u32) -> Result<Event, Memory> {
+fn publish(alloc: Global, cell: u32) -> Result<Event, AllocError> {
     let cells = References {
         items: vec![in alloc; cell]?,
     };
@@ -35,7 +32,7 @@ fn publish(alloc: Global, cell: u32) -> Result<Event, Memory> {
 }
 
 /// A pass looks at version 1, is helped to version 2, and reads that while version 1's chunk is given again.
-fn helped_pass(alloc: Global) -> Result<Vec<Event>, Memory> {
+fn helped_pass(alloc: Global) -> Result<Vec<Event>, AllocError> {
     let mut events = Vec::new(alloc);
     events.push(Event::Give(0))?;
     events.push(write(0, 11))?;
@@ -82,7 +79,7 @@ const HELPED_ANSWERS: [Step; 19] = [
 ];
 
 /// A pass that settles by itself is not assigned to, and the round ends.
-fn settled_pass(alloc: Global) -> Result<Vec<Event>, Memory> {
+fn settled_pass(alloc: Global) -> Result<Vec<Event>, AllocError> {
     let mut events = Vec::new(alloc);
     events.push(Event::Enter(0))?;
     events.push(Event::Look(0))?;
@@ -114,7 +111,11 @@ const SETTLED_ANSWERS: [Step; 10] = [
 ];
 
 /// What the events answer one by one.
-fn step_by_step(alloc: Global, state: &mut State, events: &[Event]) -> Result<Vec<Step>, Memory> {
+fn step_by_step(
+    alloc: Global,
+    state: &mut State,
+    events: &[Event],
+) -> Result<Vec<Step>, AllocError> {
     let mut steps = Vec::new(alloc);
     for event in events {
         steps.push(state.step(alloc, event)?)?;

@@ -17,9 +17,10 @@ pub const FIRST_STATUS: usize = 65;
 /// The place of the first cell's big word. Its small word follows, and then the next cell.
 pub const FIRST_CELL: usize = 4161;
 
-/// The status of a chunk that is free, and of one that is given.
+/// The status of a free chunk.
 pub const FREE: u64 = 0;
 
+/// The status of a given chunk.
 pub const GIVEN: u64 = 1;
 
 /// How many cells a chunk has.

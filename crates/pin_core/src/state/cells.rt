@@ -6,7 +6,6 @@ ghost use Rattle.pin_core.specs.Machine.{is_given, given, freed, written, image_
 
 use super::State;
 use super::turn::clear_marks;
-use crate::Memory;
 use crate::event::{Half, Step};
 use crate::image::{has_its_root, has_no_duplicate, is_in_kept_image, meets_kept_image};
 use crate::kept::{CellAt, Image, Kept};
@@ -14,10 +13,10 @@ use crate::version::LAST_VERSION;
 use crate::words::{
     CHUNK_CELLS, CUR, FIRST_CELL, FIRST_STATUS, FREE, GIVEN, place_of_half, word_of_version,
 };
-use std::alloc::Global;
+use std::alloc::{AllocError, Global};
 
 /// These cells with their words.
-fn image_of_cells(alloc: Global, words: &[u64], cells: &[u32]) -> Result<Image, Memory>
+fn image_of_cells(alloc: Global, words: &[u64], cells: &[u32]) -> Result<Image, AllocError>
     requires { All (λ r. 4162 + 2 * r < length words.now) cells.now }
     ensures { IfOk result (λ image. image ≡ image_of words.now cells.now) }
 {
@@ -97,7 +96,7 @@ impl State {
         alloc: Global,
         root: Option<u32>,
         cells: &[u32],
-    ) -> Result<Step, Memory>
+    ) -> Result<Step, AllocError>
         ensures after { OnOk result (self.new ≡ (published self.old root cells.now).0) }
         ensures answer { IfOk result (λ answer. answer ≡ (published self.old root cells.now).1) }
         ensures err { OnErr result (self.new ≡ self.old) }

@@ -8,26 +8,25 @@ ghost use Rattle.pin_core.specs.Machine.{IsSound, can_open, opened, started, wit
 ghost use Rattle.pin_core.specs.Runs.{IsWithinLimits};
 
 use super::State;
-use crate::Memory;
 use crate::kept::{CellAt, Image, Kept, Mark, Stage};
 use crate::words::{
     CHUNK_CELLS, CHUNK_WORDS, CUR, FIRST_CELL, FIRST_STATUS, GIVEN, word_of_version,
 };
-use std::alloc::Global;
+use std::alloc::{AllocError, Global};
 
-fn zeros(alloc: Global, count: usize) -> Result<Vec<u64>, Memory>
+fn zeros(alloc: Global, count: usize) -> Result<Vec<u64>, AllocError>
     ensures { IfOk result (λ v. v.items ≡ replicate count 0) }
 {
     vec![in alloc; 0; count]
 }
 
-fn idle_stages(alloc: Global, passes: u32) -> Result<Vec<Stage>, Memory>
+fn idle_stages(alloc: Global, passes: u32) -> Result<Vec<Stage>, AllocError>
     ensures { IfOk result (λ v. v.items ≡ replicate passes stage.Idle) }
 {
     vec![in alloc; Stage::Idle; passes as usize]
 }
 
-fn blank_marks(alloc: Global, passes: u32) -> Result<Vec<Mark>, Memory>
+fn blank_marks(alloc: Global, passes: u32) -> Result<Vec<Mark>, AllocError>
     ensures { IfOk result (λ v. v.items ≡ replicate passes mark.Blank) }
 {
     vec![in alloc; Mark::Blank; passes as usize]
@@ -56,7 +55,7 @@ fn lay_image(words: &mut [u64], image: &[CellAt])
 
 impl State {
     /// Version 0 is empty, no chunk is given, and all passes are idle.
-    pub fn start(alloc: Global, passes: u32, chunks: u32) -> Result<State, Memory>
+    pub fn start(alloc: Global, passes: u32, chunks: u32) -> Result<State, AllocError>
         requires { IsWithinLimits (size_of passes chunks) }
         ensures start { IfOk result (λ state. state ≡ started (size_of passes chunks)) }
         ensures sound { IfOk result IsSound }
@@ -74,7 +73,7 @@ impl State {
         chunks: u32,
         root: Option<u32>,
         image: Image,
-    ) -> Result<State, Memory>
+    ) -> Result<State, AllocError>
         requires limits { IsWithinLimits (size_of passes chunks) }
         requires image { IsTrue (can_open (size_of passes chunks) root image) }
         ensures opening { IfOk result (λ state. state ≡ opened (size_of passes chunks) root image) }

@@ -1,8 +1,8 @@
-use Rattle.std.proofs.Common.{◌≡◌, ℕ, List, get_or, set, sym, ap, ◌∙◌, subst, arith}
+use Rattle.std.proofs.Common.{ℕ, List, get_or, set, sym, ap, ◌∙◌, subst, arith}
 use Rattle.pin_core.specs.declared.kept.Mark.{Mark}
 use Rattle.pin_core.specs.Words.{pin_at}
 use Rattle.pin_core.specs.Sound.{Sound, turn_of}
-use Rattle.pin_core.specs.Machine.{Core, exchanged}
+use Rattle.pin_core.specs.Machine.{exchanged}
 use Rattle.pin_core.specs.Inside.{core_of}
 use Rattle.pin_core.proofs.Inside.{within, mark_read, pin_read, current_read}
 use Rattle.pin_core.proofs.Turns.{written_back, assign_sound, assigned_is}

@@ -1,4 +1,3 @@
-use Rattle.pin_core.specs.Machine.{Core}
 use Rattle.pin_core.specs.Inside.{core_of}
 use Rattle.pin_core.proofs.Inside.{within, stage_read}
 use Rattle.pin_core.proofs.Pins.{leaves}

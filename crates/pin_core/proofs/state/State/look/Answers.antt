@@ -1,7 +1,6 @@
-use Rattle.std.proofs.Common.{◌≡◌, ℕ, set, sym, subst}
+use Rattle.std.proofs.Common.{ℕ, set, sym, subst}
 use Rattle.pin_core.specs.declared.kept.Stage.TheVariants.{Looked}
 use Rattle.pin_core.specs.Sound.{Sound}
-use Rattle.pin_core.specs.Machine.{Core}
 use Rattle.pin_core.specs.Inside.{core_of}
 use Rattle.pin_core.proofs.Inside.{within, stage_read, current_read}
 use Rattle.pin_core.proofs.Pins.{looks}

@@ -1,6 +1,5 @@
-use Rattle.std.proofs.Common.{◌≡◌, ℕ, ◌+◌, ◌*◌, List, [], ◌∷◌, ◌++◌, ap, ◌∙◌, set, replicate, arith}
+use Rattle.std.proofs.Common.{ℕ, List, [], ◌∷◌, ◌++◌, ap, ◌∙◌, set, replicate, arith}
 use Rattle.pin_core.specs.declared.kept.Kept.{Kept}
-use Rattle.pin_core.specs.declared.kept.CellAt.{CellAt}
 use Rattle.std.specs.List.{fold}
 use Rattle.pin_core.specs.Words.{size_of, word_count, current_word}
 use Rattle.pin_core.specs.Machine.{with_cell}

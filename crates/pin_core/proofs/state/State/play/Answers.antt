@@ -1,8 +1,6 @@
-use Rattle.std.proofs.Common.{◌≡◌, ◌+◌, ◌++◌, List, [], ◌∷◌, drop, ap, ◌∙◌, arith}
+use Rattle.std.proofs.Common.{◌+◌, ◌∙◌, arith}
 use Rattle.std.specs.Prelude.{Result, Ok, Err, OnErr}
-use Rattle.pin_core.specs.declared.event.Step.{Step}
-use Rattle.pin_core.specs.Machine.{Core, next}
-use Rattle.pin_core.specs.Runs.{answers, StoppedWithin}
+use Rattle.pin_core.specs.Runs.{StoppedWithin}
 use Rattle.pin_core.proofs.Histories.{reaches, tells}
 use Rattle.pin_core.proofs.state.State.play.Goals as goal
 
@@ -17,11 +15,8 @@ returns-in_err-push-clause-err c =
     whichever _ _ stopped
 
 pub loop-event-preserved : goal.loop-event-preserved
-loop-event-preserved c =
-    let rest = drop (c.loop-event.event-index + 1) c.args.events.now in
-    let told = tells c.loop-event.self c.loop-event.steps.items _ c.args.events.now c.loop-event.event-index _ (omega arith) c.event-item.is c.loop-event.invariant.told in
-    record {
-      reached = c.in_ok-step.ensures.after ∙ reaches _ _ c.args.events.now c.loop-event.event-index _ (omega arith) c.event-item.is c.loop-event.invariant.reached;
-      told = ap (λ (steps : List Step). steps ++ answers c.step.new.self rest) (c.in_ok-push.ensures.items ∙ ap (λ (step : Step). c.loop-event.steps.items ++ step ∷ []) c.in_ok-step.ensures.answer)
-          ∙ ap (λ (s : Core). (c.loop-event.steps.items ++ (next c.loop-event.self c.event-item.result).1 ∷ []) ++ answers s rest) c.in_ok-step.ensures.after ∙ told;
-    }
+loop-event-preserved c = record {
+  reached = c.in_ok-step.ensures.after ∙ reaches _ _ c.args.events.now c.loop-event.event-index _ (omega arith) c.event-item.is c.loop-event.invariant.reached;
+  told = tells c.loop-event.self c.step.new.self c.loop-event.steps.items c.push.new.self.items _ c.in_ok-step.field-0 c.args.events.now c.loop-event.event-index _ (omega arith) c.event-item.is c.loop-event.invariant.told
+      c.in_ok-step.ensures.after c.in_ok-step.ensures.answer c.in_ok-push.ensures.items;
+}

@@ -1,5 +1,4 @@
 use Rattle.std.proofs.Common.{◌≡◌, ◌++◌, drop, take}
-use Rattle.pin_core.specs.Machine.{IsSound}
 use Rattle.pin_core.specs.Runs.{after, answers}
 use Rattle.pin_core.proofs.state.State.play.Given as goal
 

@@ -1,4 +1,4 @@
-use Rattle.std.proofs.Common.{◌≡◌, ℕ, ◌+◌, List, length, replicate, sym, ap, ◌∙◌, arith}
+use Rattle.std.proofs.Common.{ℕ, List, length, replicate, sym, ap, ◌∙◌, arith}
 use Rattle.pin_core.specs.declared.kept.Mark.TheVariants.{Blank}
 use Rattle.pin_core.specs.Machine.{Core, can_publish, image_of}
 use Rattle.pin_core.specs.Inside.{core_of}

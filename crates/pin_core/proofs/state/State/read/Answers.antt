@@ -1,6 +1,6 @@
-use Rattle.std.proofs.Common.{◌≡◌, ℕ, ◌<◌, List, length, sym, ap, ◌∙◌, subst, arith}
+use Rattle.std.proofs.Common.{ℕ, ◌<◌, List, length, sym, ap, ◌∙◌, subst, arith}
 use Rattle.pin_core.specs.declared.kept.Kept.{Kept}
-use Rattle.pin_core.specs.Machine.{Core, is_in_version}
+use Rattle.pin_core.specs.Machine.{is_in_version}
 use Rattle.pin_core.specs.Inside.{core_of}
 use Rattle.pin_core.proofs.Inside.{stage_read, kept_within, shown_word}
 use Rattle.pin_core.proofs.state.State.read.Goals as goal

@@ -1,7 +1,6 @@
-use Rattle.std.proofs.Common.{◌≡◌, ℕ, List, sym, ap, ◌∙◌, subst, arith}
+use Rattle.std.proofs.Common.{List, sym, subst, arith}
 use Rattle.pin_core.specs.declared.kept.Mark.{Mark}
 use Rattle.pin_core.specs.Sound.{Sound, turn_of}
-use Rattle.pin_core.specs.Machine.{Core}
 use Rattle.pin_core.specs.Inside.{core_of}
 use Rattle.pin_core.proofs.Inside.{within, pin_read}
 use Rattle.pin_core.proofs.Turns.{written_back, scan_sound}

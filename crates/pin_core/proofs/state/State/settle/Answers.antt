@@ -1,8 +1,8 @@
-use Rattle.std.proofs.Common.{◌≡◌, ℕ, get_or, set, sym, ap, ◌∙◌, subst}
+use Rattle.std.proofs.Common.{ℕ, get_or, set, sym, ap, ◌∙◌, subst}
 use Rattle.pin_core.specs.declared.kept.Stage.TheVariants.{Pinned}
 use Rattle.pin_core.specs.Words.{pin_at, version_of}
 use Rattle.pin_core.specs.Sound.{Sound}
-use Rattle.pin_core.specs.Machine.{Core, exchanged}
+use Rattle.pin_core.specs.Machine.{exchanged}
 use Rattle.pin_core.specs.Inside.{core_of}
 use Rattle.pin_core.proofs.Inside.{within, stage_read, pin_read}
 use Rattle.pin_core.proofs.Pins.{settles}

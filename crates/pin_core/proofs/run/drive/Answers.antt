@@ -1,5 +1,5 @@
-use Rattle.pin_core.proofs.Histories.{always_sound, each_reads_its_version, rounds_keep_few}
-use Rattle.pin_core.proofs.drive.drive.Goals as goal
+use Rattle.pin_core.proofs.Histories.{always_sound, each_reads_its_version, rounds_keep_few, no_pass_goes_back}
+use Rattle.pin_core.proofs.run.drive.Goals as goal
 
 pub returns-in_err-state-clause-sound : goal.returns-in_err-state-clause-sound
 returns-in_err-state-clause-sound c = always_sound
@@ -18,3 +18,9 @@ returns-clause-reads c = each_reads_its_version
 
 pub returns-clause-rounds : goal.returns-clause-rounds
 returns-clause-rounds c = rounds_keep_few
+
+pub returns-in_err-state-clause-forward : goal.returns-in_err-state-clause-forward
+returns-in_err-state-clause-forward c = no_pass_goes_back
+
+pub returns-clause-forward : goal.returns-clause-forward
+returns-clause-forward c = no_pass_goes_back
