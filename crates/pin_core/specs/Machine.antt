@@ -1,5 +1,5 @@
 -- The machine: what each event does, where it is allowed, and what it answers.
-use Rattle.std.specs.Prelude.{ℕ, ◌+◌, ◌*◌, ◌==◌, nat_lt, nat_le, max, List, [], ◌∷◌, ◌++◌, map, filter, slice_index, slice_set, replicate, Bool, true, false, not, ◌&&◌, ◌||◌, if◌then◌else◌, Option, Some, None}
+use Rattle.std.specs.Prelude.{ℕ, ◌+◌, ◌-◌, ◌*◌, ◌^◌, ◌==◌, nat_lt, nat_le, max, List, [], ◌∷◌, ◌++◌, map, filter, slice_index, slice_set, replicate, Bool, true, false, not, ◌&&◌, ◌||◌, if◌then◌else◌, Option, Some, None}
 use Rattle.std.specs.List.{list_any, list_all, fold}
 use Rattle.pin_core.specs.declared.kept.CellAt.{CellAt}
 use Rattle.pin_core.specs.declared.kept.Kept.{Kept}
@@ -161,7 +161,7 @@ abbrev pub image_of : List ℕ → List ℕ → List CellAt
 image_of words cells = map (λ r. record { at = r; big = slice_index words (cell_at r); small = slice_index words (cell_at r + 1) }) cells
 
 abbrev pub can_publish : Core → Option ℕ → List ℕ → Bool
-can_publish s root cells = nat_lt s.turn.version 1099511627775 && (is_distinct cells && (list_all (λ r. is_given s.size s.words (chunk_of r)) cells && is_rooted root cells))
+can_publish s root cells = nat_lt s.turn.version (2 ^ 40 - 1) && (is_distinct cells && (list_all (λ r. is_given s.size s.words (chunk_of r)) cells && is_rooted root cells))
 
 abbrev pub next_kept : Core → Option ℕ → List ℕ → Kept
 next_kept s root cells = record { version = s.turn.version + 1; root = root; image = image_of s.words cells }
@@ -191,6 +191,11 @@ next s (event.Free chunk) = freed s chunk
 next s (event.Write at half value) = written s at half value
 next s (event.Publish root cells) = published s root cells
 
+-- an event that takes no memory
+abbrev pub IsInPlace : Event → Type 0
+IsInPlace (event.Publish root cells) = ⊥
+IsInPlace _ = Unit {0}
+
 -- openings
 
 -- the words after the chunk of a cell is given, and the cell's words are written
@@ -214,8 +219,3 @@ opened z root image = record {
 -- at the beginning version 0 is empty
 abbrev pub started : Size → Core
 started z = opened z None []
-
--- an event that takes no memory
-abbrev pub IsInPlace : Event → Type 0
-IsInPlace (event.Publish root cells) = ⊥
-IsInPlace _ = Unit {0}

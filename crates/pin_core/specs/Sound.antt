@@ -1,6 +1,6 @@
 -- What holds between any two events: of the shared words, of how far each pass has come, and of what the writer knows.
 -- It is said of plain lists, so that a machine and a table that threads share can both keep it.
-use Rattle.std.specs.Prelude.{◌≡◌, ◌≢◌, ◌⊎◌, ℕ, ◌+◌, ◌*◌, ◌<◌, ◌≤◌, List, [], Option, Some, None, length, slice_index, slice_index_or, All, AllPairs, Contains}
+use Rattle.std.specs.Prelude.{◌≡◌, ◌≢◌, ◌⊎◌, ℕ, ◌+◌, ◌*◌, ◌^◌, ◌<◌, ◌≤◌, List, [], Option, Some, None, length, slice_index, slice_index_or, All, AllPairs, Contains}
 use Rattle.pin_core.specs.declared.kept.CellAt.{CellAt}
 use Rattle.pin_core.specs.declared.kept.Kept.{Kept}
 use Rattle.pin_core.specs.declared.kept.Stage.{Stage}
@@ -79,8 +79,8 @@ pub record Sound (z : Size) (words : List ℕ) (stages : List Stage) (seens : Li
   pub staged : length stages ≡ z.passes
   pub watched : length seens ≡ z.passes
   pub marked : length turn.marks ≡ z.passes
-  -- versions are below 2^40
-  pub few : turn.version < 1099511627776
+  -- versions fit beside a root in a word of CUR, and a pin fits its word
+  pub few : turn.version < 2 ^ 40
   -- CUR names the current version and its root, and the current version is kept
   pub current : (k : Kept) × Contains turn.kept k × (k.version ≡ turn.version) × (slice_index words 0 ≡ word_of k)
   -- no kept version is above the current one, and each comes once, in rising order

@@ -1,5 +1,5 @@
 -- The shared words of an index: where each stands, and what it says.
-use Rattle.std.specs.Prelude.{ℕ, ◌+◌, ◌-◌, ◌*◌, ◌/◌, Option, Some, None}
+use Rattle.std.specs.Prelude.{ℕ, ◌+◌, ◌-◌, ◌*◌, ◌/◌, ◌^◌, Option, Some, None}
 use Rattle.pin_core.specs.declared.event.Half.{Half}
 use Rattle.pin_core.specs.declared.event.Half.TheVariants.{Big, Small}
 use Rattle.pin_core.specs.declared.kept.Kept.{Kept}
@@ -38,7 +38,7 @@ root_number (Some reference) = reference
 
 -- what CUR says: a version and its root
 abbrev pub current_word : ℕ → Option ℕ → ℕ
-current_word version root = version * 16777216 + root_number root
+current_word version root = version * 2 ^ 24 + root_number root
 
 abbrev pub word_of : Kept → ℕ
 word_of k = current_word k.version k.root
@@ -49,7 +49,7 @@ pin_of k = word_of k + 2
 
 -- the version that such a pin names
 abbrev pub version_of : ℕ → ℕ
-version_of pin = (pin - 2) / 16777216
+version_of pin = (pin - 2) / 2 ^ 24
 
 abbrev pub size_of : ℕ → ℕ → Size
 size_of passes chunks = record { passes = passes; chunks = chunks }
