@@ -54,7 +54,7 @@ module _ (z : Size) (words : List ℕ) (stages : List Stage) (seens : List ℕ) 
     once = h.once;
     unchanged = unchanged;
     given = given;
-    seen = h.seen;
+    not_ahead = h.not_ahead;
     pins = λ p l. subst (λ (y : ℕ). PinFits t.kept (get_or seens p 0) y (stage_at stages p)) (sym (pin_stays p l)) (h.pins p l);
     marks = λ p l. subst (λ (y : ℕ). MarkFits t.kept y (get_or (set words i x) (pin_at p) 0) (stage_at stages p) (mark_at t.marks p)) (sym (front 0 (omega arith)))
         (subst (λ (y : ℕ). MarkFits t.kept (get_or words 0 0) y (stage_at stages p) (mark_at t.marks p)) (sym (pin_stays p l)) (h.marks p l));
@@ -130,7 +130,7 @@ module _ (z : Size) (words : List ℕ) (stages : List Stage) (seens : List ℕ) 
     once = All-push (λ k. AllPairs (λ c d. c.at ≢ d.at) k.image) t.kept new h.once once;
     unchanged = images_stay words (set words 0 (word_of new)) (t.kept ++ new ∷ []) (λ j l. away j (omega arith)) (All-push (λ k. All (AgreesWith words) k.image) t.kept new h.unchanged agrees);
     given = chunks_stay z words (set words 0 (word_of new)) (t.kept ++ new ∷ []) (λ j l. away j (omega arith)) (All-push (λ k. All (IsGiven z words) k.image) t.kept new h.given given);
-    seen = λ p l. let o = h.seen p l in omega arith;
+    not_ahead = λ p l. let o = h.not_ahead p l in omega arith;
     pins = λ p l. subst (λ (y : ℕ). PinFits (t.kept ++ new ∷ []) (get_or seens p 0) y (stage_at stages p)) (sym (away (pin_at p) (omega arith))) (pin_grows new (get_or seens p 0) (get_or words (pin_at p) 0) (stage_at stages p) (h.pins p l));
     marks = λ p l. blank_fits z words stages seens t h (t.kept ++ new ∷ []) (get_or (set words 0 (word_of new)) 0 0) (get_or (set words 0 (word_of new)) (pin_at p) 0) (stage_at stages p) p l;
   }

@@ -46,9 +46,9 @@ record Follows (s s' : Core) (new : List Kept) : Type 0 where
   size : s'.size ≡ s.size
   version : s'.turn.version ≡ s.turn.version + length new
   kept : (k : Kept) → Contains s'.turn.kept k → Contains s.turn.kept k ⊎ Contains new k
-  forward : (p : ℕ) → p < s.size.passes → get_or s.seens p 0 ≤ get_or s'.seens p 0
+  forward : (p : ℕ) → p < s.size.passes → get_or s.seen p 0 ≤ get_or s'.seen p 0
 
-same_turn : (s s' : Core) → s'.size ≡ s.size → s'.turn ≡ s.turn → ((p : ℕ) → p < s.size.passes → get_or s.seens p 0 ≤ get_or s'.seens p 0) → Follows s s' []
+same_turn : (s s' : Core) → s'.size ≡ s.size → s'.turn ≡ s.turn → ((p : ℕ) → p < s.size.passes → get_or s.seen p 0 ≤ get_or s'.seen p 0) → Follows s s' []
 same_turn s s' z t forward = record {
   size = z;
   version = ap (λ (t : Turn). t.version) t ∙ (let e : s.turn.version ≡ s.turn.version + 0 = omega arith in e);
@@ -63,7 +63,7 @@ one_forward seens q n p l old = dite (ℕ_discrete p q)
     (λ (ne : p ≢ q). rw (get_or-set_other seens q p n 0 ne) (omega arith))
 
 module _ (s : Core) (h : IsSound s) where
-  still : (p : ℕ) → p < s.size.passes → get_or s.seens p 0 ≤ get_or s.seens p 0
+  still : (p : ℕ) → p < s.size.passes → get_or s.seen p 0 ≤ get_or s.seen p 0
   still p l = omega arith
 
   stays : Follows s s []
@@ -96,7 +96,7 @@ module _ (s : Core) (h : IsSound s) where
   settle_follows p l stage.Idle is = stays
   settle_follows p l stage.Entered is = stays
   settle_follows p l (stage.Looked w) is = same_turn s _ refl refl
-      (λ q m. one_forward s.seens p _ q (let e = h.watched in omega arith) (settles_forward s.size s.words s.stages s.seens s.turn h p w l is))
+      (λ q m. one_forward s.seen p _ q (let e = h.watched in omega arith) (settles_forward s.size s.words s.stages s.seen s.turn h p w l is))
   settle_follows p l (stage.Pinned v) is = stays
 
   show_follows : (at : ℕ) (half : Half) (g : Stage) → Follows s (shown s at half g).0 []
@@ -112,7 +112,7 @@ module _ (s : Core) (h : IsSound s) where
   leave_follows p (stage.Pinned v) = same_turn s _ refl refl still
 
   learn_follows : (p version : ℕ) → p < s.size.passes → (g : Stage) → Follows s (learned s p version g).0 []
-  learn_follows p version l stage.Idle = under (nat_le version s.turn.version) _ (same_turn s _ refl refl (λ q m. one_forward s.seens p _ q (let e = h.watched in omega arith) (omega arith)))
+  learn_follows p version l stage.Idle = under (nat_le version s.turn.version) _ (same_turn s _ refl refl (λ q m. one_forward s.seen p _ q (let e = h.watched in omega arith) (omega arith)))
   learn_follows p version l stage.Entered = stays
   learn_follows p version l (stage.Looked w) = stays
   learn_follows p version l (stage.Pinned v) = stays
@@ -165,7 +165,7 @@ after_size : (s : Core) (events : List Event) → IsSound s → (after s events)
 after_size s [] h = refl
 after_size s (e ∷ es) h = after_size (next s e).0 es (step_sound s h e) ∙ (step_follows s h e).size
 
-after_forward : (s : Core) (events : List Event) → IsSound s → (p : ℕ) → p < s.size.passes → get_or s.seens p 0 ≤ get_or (after s events).seens p 0
+after_forward : (s : Core) (events : List Event) → IsSound s → (p : ℕ) → p < s.size.passes → get_or s.seen p 0 ≤ get_or (after s events).seen p 0
 after_forward s [] h p l = omega arith
 after_forward s (e ∷ es) h p l =
     let f = step_follows s h e in
@@ -178,7 +178,7 @@ rounds_keep_few o can events marks n =
     let s = run_of o events in
     let z : s.size ≡ o.size = after_size (opened o.size o.root o.image) events (opens o can) in
     subst (λ (z : Size). length (kept_by_round (record s.turn { marks = marks })) ≤ z.passes + 1) z
-    (round_keeps_few s.size s.words s.stages s.seens s.turn (always_sound o can events) marks (n ∙ ap (λ (z : Size). z.passes) (sym z)))
+    (round_keeps_few s.size s.words s.stages s.seen s.turn (always_sound o can events) marks (n ∙ ap (λ (z : Size). z.passes) (sym z)))
 
 -- all versions so far stand in a list at their numbers
 
@@ -283,7 +283,7 @@ each_reads_its_version o can events p v l is =
     let s = run_of o events in
     let h = always_sound o can events in
     let within : p < s.size.passes = subst (λ (z : Size). p < z.passes) (sym (after_size (opened o.size o.root o.image) events (opens o can))) l in
-    let pinned : PinFits s.turn.kept (get_or s.seens p 0) (get_or s.words (pin_at p) 0) (stage.Pinned v) = subst (PinFits s.turn.kept (get_or s.seens p 0) (get_or s.words (pin_at p) 0)) is (h.pins p within) in
+    let pinned : PinFits s.turn.kept (get_or s.seen p 0) (get_or s.words (pin_at p) 0) (stage.Pinned v) = subst (PinFits s.turn.kept (get_or s.seen p 0) (get_or s.words (pin_at p) 0)) is (h.pins p within) in
     let k = pinned.0 in
     let all = run_lists (first o ∷ []) (opened o.size o.root o.image) events (opens o can) (opening_lists o) in (
       k,
@@ -322,5 +322,5 @@ pub no_pass_goes_back : NoPassGoesBack
 no_pass_goes_back o can events more p l =
     let s = run_of o events in
     let z : s.size ≡ o.size = after_size (opened o.size o.root o.image) events (opens o can) in
-    subst (λ (c : Core). get_or s.seens p 0 ≤ get_or c.seens p 0) (sym (after_append (opened o.size o.root o.image) events more))
+    subst (λ (c : Core). get_or s.seen p 0 ≤ get_or c.seen p 0) (sym (after_append (opened o.size o.root o.image) events more))
     (after_forward s more (always_sound o can events) p (subst (λ (z : Size). p < z.passes) (sym z) l))

@@ -30,8 +30,8 @@ module _ (s v : Core) (h : IsSound s) (same : s ≡ v) (p : ℕ) (small : p < v.
   pub mark_read : (r g : Mark) → r ≡ get_or s.turn.marks p r → r ≡ g → mark_at s.turn.marks p ≡ g
   mark_read r g read is = sym (get_or_read s.turn.marks p r (let e = h.marked in let l = within in omega arith) read mark.Blank) ∙ is
 
-  pub seen_read : (r : ℕ) → r ≡ get_or s.seens p r → r ≡ get_or s.seens p 0
-  seen_read r read = get_or_read s.seens p r (let e = h.watched in let l = within in omega arith) read 0
+  pub seen_read : (r : ℕ) → r ≡ get_or s.seen p r → r ≡ get_or s.seen p 0
+  seen_read r read = get_or_read s.seen p r (let e = h.watched in let l = within in omega arith) read 0
 
   pub pin_read : (r : ℕ) → r ≡ get_or s.words (pin_at p) r → r ≡ get_or s.words (pin_at p) 0
   pin_read r read = get_or_read s.words (pin_at p) r (let e = h.wide in let m = h.small in let l = within in omega arith) read 0

@@ -121,7 +121,7 @@ opening_sound z root image few small can = record {
   once = one (λ k. AllPairs (λ c d. c.at ≢ d.at) k.image) once;
   unchanged = one (λ k. All (AgreesWith (fold with_cell first image)) k.image) (laid_agrees z small image first wide within once);
   given = one (λ k. All (IsGiven z (fold with_cell first image)) k.image) (laid_given z small image first wide within);
-  seen = λ p l. subst (λ (n : ℕ). n ≤ 0) (sym (get_or-replicate z.passes p 0 0 l)) (omega arith);
+  not_ahead = λ p l. subst (λ (n : ℕ). n ≤ 0) (sym (get_or-replicate z.passes p 0 0 l)) (omega arith);
   pins = λ p l. subst (λ (s : Stage). PinFits (start ∷ []) (get_or (replicate z.passes 0) p 0) (get_or (fold with_cell first image) (pin_at p) 0) s) (sym (get_or-replicate z.passes p stage.Idle stage.Idle l)) (zero_pin p l);
   marks = λ p l. subst (MarkFits (start ∷ []) (get_or (fold with_cell first image) 0 0) (get_or (fold with_cell first image) (pin_at p) 0) (stage_at (replicate z.passes stage.Idle) p)) (sym (get_or-replicate z.passes p mark.Blank mark.Blank l)) tt;
 }
@@ -159,18 +159,18 @@ opening_sound z root image few small can = record {
 
 -- an opening's parts, each as it was made
 pub opening_at : (z : Size) (root : Option ℕ) (image : List CellAt) → z.passes ≤ 64 → z.chunks ≤ 4096 → can_open z root image ≡ true
-    → (words : List ℕ) → words ≡ (opened z root image).words → (stages : List Stage) → stages ≡ (opened z root image).stages → (seens : List ℕ) → seens ≡ (opened z root image).seens
+    → (words : List ℕ) → words ≡ (opened z root image).words → (stages : List Stage) → stages ≡ (opened z root image).stages → (seens : List ℕ) → seens ≡ (opened z root image).seen
     → (kept : List Kept) → kept ≡ (opened z root image).turn.kept → (marks : List Mark) → marks ≡ (opened z root image).turn.marks → Sound z words stages seens (turn_of 0 kept marks)
 opening_at z root image few small can words ew stages es seens en kept ek marks em =
     subst (λ (ws : List ℕ). Sound z ws stages seens (turn_of 0 kept marks)) (sym ew)
     (subst (λ (ss : List Stage). Sound z (opened z root image).words ss seens (turn_of 0 kept marks)) (sym es)
     (subst (λ (ns : List ℕ). Sound z (opened z root image).words (opened z root image).stages ns (turn_of 0 kept marks)) (sym en)
-    (subst (λ (ks : List Kept). Sound z (opened z root image).words (opened z root image).stages (opened z root image).seens (turn_of 0 ks marks)) (sym ek)
-    (subst (λ (ms : List Mark). Sound z (opened z root image).words (opened z root image).stages (opened z root image).seens (turn_of 0 (opened z root image).turn.kept ms)) (sym em)
+    (subst (λ (ks : List Kept). Sound z (opened z root image).words (opened z root image).stages (opened z root image).seen (turn_of 0 ks marks)) (sym ek)
+    (subst (λ (ms : List Mark). Sound z (opened z root image).words (opened z root image).stages (opened z root image).seen (turn_of 0 (opened z root image).turn.kept ms)) (sym em)
     (opening_sound z root image few small can)))))
 
 pub opening_root_fits : (z : Size) (root : Option ℕ) (image : List CellAt) → z.passes ≤ 64 → z.chunks ≤ 4096 → can_open z root image ≡ true → root_number root < 16777216
 opening_root_fits z root image few small can =
     let o = opened z root image in
-    let f = kept_root_fits z o.words o.stages o.seens o.turn (opening_sound z root image few small can) (record { version = 0; root = root; image = image }) (0, omega arith, refl) in
+    let f = kept_root_fits z o.words o.stages o.seen o.turn (opening_sound z root image few small can) (record { version = 0; root = root; image = image }) (0, omega arith, refl) in
     omega arith

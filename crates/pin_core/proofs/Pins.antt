@@ -61,7 +61,7 @@ module _ (z : Size) (words : List ℕ) (stages : List Stage) (seens : List ℕ) 
 
   -- CUR's word names the current version
   cur_named : (p : ℕ) → p < z.passes → Names t.kept (seen p) (cur + 2)
-  cur_named p l = let c = h.current in let old = h.seen p l in (c.0, c.1, ap (λ (x : ℕ). x + 2) c.3, (let v : c.0.version ≡ t.version = c.2 in omega arith))
+  cur_named p l = let c = h.current in let old = h.not_ahead p l in (c.0, c.1, ap (λ (x : ℕ). x + 2) c.3, (let v : c.0.version ≡ t.version = c.2 in omega arith))
 
   -- what is said of each pass, after one pass's pin, stage, seen version and mark change
   set_each : (Q : ℕ → ℕ → Stage → Mark → Type 0) (p x n : ℕ) (s : Stage) (m : Mark) → p < z.passes → Q n x s m → ((q : ℕ) → q < z.passes → Q (seen q) (pin q) (stage_at stages q) (mark_at t.marks q))
@@ -101,7 +101,7 @@ module _ (z : Size) (words : List ℕ) (stages : List Stage) (seens : List ℕ) 
     once = h.once;
     unchanged = images_stay words (set words (pin_at p) x) t.kept beyond h.unchanged;
     given = chunks_stay z words (set words (pin_at p) x) t.kept beyond h.given;
-    seen = set_each (λ n' x' s' m'. n' ≤ t.version) p x n s m small old h.seen;
+    not_ahead = set_each (λ n' x' s' m'. n' ≤ t.version) p x n s m small old h.not_ahead;
     pins = set_each (λ n' x' s' m'. PinFits t.kept n' x' s') p x n s m small pin_ok h.pins;
     marks = subst (λ (y : ℕ). (q : ℕ) → q < z.passes → MarkFits t.kept y (get_or (set words (pin_at p) x) (pin_at q) 0) (stage_at (set stages p s) q) (mark_at (set t.marks p m) q)) (sym same_cur)
         (set_each (λ n' x' s' m'. MarkFits t.kept cur x' s' m') p x n s m small mark_ok h.marks);
@@ -130,7 +130,7 @@ module _ (z : Size) (words : List ℕ) (stages : List Stage) (seens : List ℕ) 
   moves p x n s l old po mo = subst (λ (ms : List Mark). Sound z (set words (pin_at p) x) (set stages p s) (set seens p n) (record t { marks = ms })) (same_mark p) (changes p x n s (mark_at t.marks p) l old po mo)
 
   moves_unseen : (p x : ℕ) (s : Stage) → p < z.passes → PinFits t.kept (seen p) x s → MarkFits t.kept cur x s (mark_at t.marks p) → Sound z (set words (pin_at p) x) (set stages p s) seens t
-  moves_unseen p x s l po mo = subst (λ (ns : List ℕ). Sound z (set words (pin_at p) x) (set stages p s) ns t) (same_seen p) (moves p x (seen p) s l (h.seen p l) po mo)
+  moves_unseen p x s l po mo = subst (λ (ns : List ℕ). Sound z (set words (pin_at p) x) (set stages p s) ns t) (same_seen p) (moves p x (seen p) s l (h.not_ahead p l) po mo)
 
   at_stage : (p : ℕ) (s : Stage) → p < z.passes → stage_at stages p ≡ s → PinFits t.kept (seen p) (pin p) s
   at_stage p s l e = subst (PinFits t.kept (seen p) (pin p)) e (h.pins p l)
@@ -170,13 +170,13 @@ module _ (z : Size) (words : List ℕ) (stages : List Stage) (seens : List ℕ) 
   restages p n s l old po mo = subst (λ (ws : List ℕ). Sound z ws (set stages p s) (set seens p n) t) (same_pin p) (moves p (pin p) n s l old po mo)
 
   pub looks : (p : ℕ) → p < z.passes → stage_at stages p ≡ stage.Entered → Sound z words (set stages p (stage.Looked (get_or words 0 0))) seens t
-  looks p l is = subst (λ (ns : List ℕ). Sound z words (set stages p (stage.Looked cur)) ns t) (same_seen p) (restages p (seen p) (stage.Looked cur) l (h.seen p l)
+  looks p l is = subst (λ (ns : List ℕ). Sound z words (set stages p (stage.Looked cur)) ns t) (same_seen p) (restages p (seen p) (stage.Looked cur) l (h.not_ahead p l)
       (⊎_elim (λ (a : pin p ≡ 1). inl (a, cur_named p l)) inr (at_stage p stage.Entered l is))
       (mark_stays (pin p) stage.Entered (stage.Looked cur) (mark_at t.marks p) (⊎_elim inl (λ y. inr (⊎_elim (λ (b : (pin p ≡ 1) × Unit {0}). inl (b.0, refl)) inr y))) (at_mark p stage.Entered l is)))
 
   pub learns : (p version : ℕ) → p < z.passes → stage_at stages p ≡ stage.Idle → version ≤ t.version → Sound z words stages (set seens p (max (get_or seens p 0) version)) t
   learns p version l is old = subst (λ (ss : List Stage). Sound z words ss (set seens p (max (seen p) version)) t) (same_stage p)
-      (restages p (max (seen p) version) (stage_at stages p) l (let o = h.seen p l in omega arith) (subst (PinFits t.kept (max (seen p) version) (pin p)) (sym is) (at_stage p stage.Idle l is)) (h.marks p l))
+      (restages p (max (seen p) version) (stage_at stages p) l (let o = h.not_ahead p l in omega arith) (subst (PinFits t.kept (max (seen p) version) (pin p)) (sym is) (at_stage p stage.Idle l is)) (h.marks p l))
 
   -- a pin that a pass settles on names a kept version, not older than what it had seen
   settles_on : (p word : ℕ) → p < z.passes → stage_at stages p ≡ stage.Looked word → (b : Bool) → eqb (pin p) 1 ≡ b → Names t.kept (seen p) (cond b (word + 2) (pin p))
@@ -248,7 +248,7 @@ module _ (z : Size) (words : List ℕ) (stages : List Stage) (seens : List ℕ) 
   marks_pass p x l po k =
       subst (λ (ss : List Stage). Sound z (set words (pin_at p) x) ss seens (record t { marks = set t.marks p (mark_of x) })) (same_stage p)
       (subst (λ (ns : List ℕ). Sound z (set words (pin_at p) x) (set stages p (stage_at stages p)) ns (record t { marks = set t.marks p (mark_of x) })) (same_seen p)
-      (changes p x (seen p) (stage_at stages p) (mark_of x) l (h.seen p l) po (mark_fits (seen p) x (stage_at stages p) k (eqb x 0) (eqb x 1) refl refl)))
+      (changes p x (seen p) (stage_at stages p) (mark_of x) l (h.not_ahead p l) po (mark_fits (seen p) x (stage_at stages p) k (eqb x 0) (eqb x 1) refl refl)))
 
   pub scans : (p : ℕ) → p < z.passes → Sound z words stages seens (record t { marks = set t.marks p (mark_of (get_or words (pin_at p) 0)) })
   scans p l = subst (λ (ws : List ℕ). Sound z ws stages seens (record t { marks = set t.marks p (mark_of (pin p)) })) (same_pin p) (marks_pass p (pin p) l (h.pins p l) (named p l))

@@ -107,7 +107,7 @@ module _ (z : Size) (words : List ℕ) (stages : List Stage) (seens : List ℕ) 
     once = All-filter test (λ k. AllPairs (λ c d. c.at ≢ d.at) k.image) t.kept h.once;
     unchanged = All-filter test (λ k. All (AgreesWith words) k.image) t.kept h.unchanged;
     given = All-filter test (λ k. All (IsGiven z words) k.image) t.kept h.given;
-    seen = h.seen;
+    not_ahead = h.not_ahead;
     pins = λ p l. pin_stays p (get_or seens p 0) (get_or words (pin_at p) 0) l (stage_at stages p) (mark_at t.marks p) refl (settled p l) (h.pins p l) (h.marks p l);
     marks = λ p l. blank_fits (kept_by_round t) cur (get_or words (pin_at p) 0) (stage_at stages p) p l;
   }

@@ -33,21 +33,21 @@ module _ (s : Core) (h : IsSound s) where
   of_pass p r k = under (nat_lt p s.size.passes) r (λ e. k (let t : nat_lt p s.size.passes ≡ true = e in grind (arith, nat_tests)))
 
   enter_keeps : (p : ℕ) → p < s.size.passes → (g : Stage) → stage_at s.stages p ≡ g → IsSound (entered s p g).0
-  enter_keeps p l stage.Idle is = enters z s.words s.stages s.seens s.turn h p l is
+  enter_keeps p l stage.Idle is = enters z s.words s.stages s.seen s.turn h p l is
   enter_keeps p l stage.Entered is = h
   enter_keeps p l (stage.Looked w) is = h
   enter_keeps p l (stage.Pinned v) is = h
 
   look_keeps : (p : ℕ) → p < s.size.passes → (g : Stage) → stage_at s.stages p ≡ g → IsSound (looked s p g).0
   look_keeps p l stage.Idle is = h
-  look_keeps p l stage.Entered is = looks z s.words s.stages s.seens s.turn h p l is
+  look_keeps p l stage.Entered is = looks z s.words s.stages s.seen s.turn h p l is
   look_keeps p l (stage.Looked w) is = h
   look_keeps p l (stage.Pinned v) is = h
 
   settle_keeps : (p : ℕ) → p < s.size.passes → (g : Stage) → stage_at s.stages p ≡ g → IsSound (settled s p g).0
   settle_keeps p l stage.Idle is = h
   settle_keeps p l stage.Entered is = h
-  settle_keeps p l (stage.Looked w) is = settles z s.words s.stages s.seens s.turn h p w l is
+  settle_keeps p l (stage.Looked w) is = settles z s.words s.stages s.seen s.turn h p w l is
   settle_keeps p l (stage.Pinned v) is = h
 
   show_keeps : (at : ℕ) (half : Half) (g : Stage) → IsSound (shown s at half g).0
@@ -60,35 +60,35 @@ module _ (s : Core) (h : IsSound s) where
   leave_keeps p l stage.Idle is = h
   leave_keeps p l stage.Entered is = h
   leave_keeps p l (stage.Looked w) is = h
-  leave_keeps p l (stage.Pinned v) is = leaves z s.words s.stages s.seens s.turn h p v l is
+  leave_keeps p l (stage.Pinned v) is = leaves z s.words s.stages s.seen s.turn h p v l is
 
   learn_keeps : (p version : ℕ) → p < s.size.passes → (g : Stage) → stage_at s.stages p ≡ g → IsSound (learned s p version g).0
-  learn_keeps p version l stage.Idle is = under (nat_le version s.turn.version) _ (λ e. learns z s.words s.stages s.seens s.turn h p version l is (let t : nat_le version s.turn.version ≡ true = e in grind (arith, nat_tests)))
+  learn_keeps p version l stage.Idle is = under (nat_le version s.turn.version) _ (λ e. learns z s.words s.stages s.seen s.turn h p version l is (let t : nat_le version s.turn.version ≡ true = e in grind (arith, nat_tests)))
   learn_keeps p version l stage.Entered is = h
   learn_keeps p version l (stage.Looked w) is = h
   learn_keeps p version l (stage.Pinned v) is = h
 
   scan_keeps : (p : ℕ) → p < s.size.passes → IsSound (scanned s p).0
-  scan_keeps p l = checks z s.words s.stages s.seens (record s.turn { marks = set s.turn.marks p (mark_of (get_or s.words (pin_at p) 0)) }) (scans z s.words s.stages s.seens s.turn h p l)
+  scan_keeps p l = checks z s.words s.stages s.seen (record s.turn { marks = set s.turn.marks p (mark_of (get_or s.words (pin_at p) 0)) }) (scans z s.words s.stages s.seen s.turn h p l)
 
   assign_keeps : (p : ℕ) → p < s.size.passes → (m : Mark) → IsSound (assigned s p m).0
   assign_keeps p l mark.Blank = h
   assign_keeps p l mark.Idle = h
   assign_keeps p l mark.Entering = let x : ℕ = exchanged (get_or s.words (pin_at p) 0) (get_or s.words 0 0) in
-      checks z (set s.words (pin_at p) x) s.stages s.seens (record s.turn { marks = set s.turn.marks p (mark_of x) }) (assigns z s.words s.stages s.seens s.turn h p l)
+      checks z (set s.words (pin_at p) x) s.stages s.seen (record s.turn { marks = set s.turn.marks p (mark_of x) }) (assigns z s.words s.stages s.seen s.turn h p l)
   assign_keeps p l (mark.Pinned v) = h
 
   give_keeps : (chunk : ℕ) → IsSound (given s chunk).0
   give_keeps chunk = under (nat_lt chunk s.size.chunks && (get_or s.words (status_at chunk) 0 == 0)) _
-      (λ e. gives z s.words s.stages s.seens s.turn h chunk (let l = and_left (nat_lt chunk s.size.chunks) (get_or s.words (status_at chunk) 0 == 0) e in grind (arith, nat_tests)))
+      (λ e. gives z s.words s.stages s.seen s.turn h chunk (let l = and_left (nat_lt chunk s.size.chunks) (get_or s.words (status_at chunk) 0 == 0) e in grind (arith, nat_tests)))
 
   free_keeps : (chunk : ℕ) → IsSound (freed s chunk).0
   free_keeps chunk = let a = is_given s.size s.words chunk in let b = not (is_kept_chunk s.turn.kept chunk) in under (a && b) _
-      (λ e. frees z s.words s.stages s.seens s.turn h chunk (given_test s.size s.words chunk (and_left a b e)).0 (not_true (is_kept_chunk s.turn.kept chunk) (and_right a b e)))
+      (λ e. frees z s.words s.stages s.seen s.turn h chunk (given_test s.size s.words chunk (and_left a b e)).0 (not_true (is_kept_chunk s.turn.kept chunk) (and_right a b e)))
 
   write_keeps : (at : ℕ) (half : Half) (value : ℕ) → IsSound (written s at half value).0
   write_keeps at half value = let a = is_given s.size s.words (chunk_of at) in let b = not (is_kept_cell s.turn.kept at) in under (a && b) _
-      (λ e. writes z s.words s.stages s.seens s.turn h at half value (given_test s.size s.words (chunk_of at) (and_left a b e)).0 (not_true (is_kept_cell s.turn.kept at) (and_right a b e)))
+      (λ e. writes z s.words s.stages s.seen s.turn h at half value (given_test s.size s.words (chunk_of at) (and_left a b e)).0 (not_true (is_kept_cell s.turn.kept at) (and_right a b e)))
 
   pub publish_sound : (root : Option ℕ) (cells : List ℕ) → can_publish s root cells ≡ true → IsSound (with_next s (next_kept s root cells))
   publish_sound root cells e =
@@ -99,7 +99,7 @@ module _ (s : Core) (h : IsSound s) where
       let room : a ≡ true = and_left a (b && (c && d)) e in
       let bcd : (b && (c && d)) ≡ true = and_right a (b && (c && d)) e in
       let cd : (c && d) ≡ true = and_right b (c && d) bcd in
-      publishes z s.words s.stages s.seens s.turn h (next_kept s root cells) refl (grind (arith, nat_tests))
+      publishes z s.words s.stages s.seen s.turn h (next_kept s root cells) refl (grind (arith, nat_tests))
       (has_root root (image_of s.words cells) (subst (λ (rs : List ℕ). is_rooted root rs ≡ true) (sym (references_of_image s.words cells)) (and_right c d cd)))
       (distinct_cells (image_of s.words cells) (subst (λ (rs : List ℕ). is_distinct rs ≡ true) (sym (references_of_image s.words cells)) (and_left b (c && d) bcd)))
       (image_agrees s.words cells)

@@ -7,7 +7,7 @@ core_of s = record {
   size = record { passes = s.passes; chunks = s.chunks };
   words = s.words.items;
   stages = s.stages.items;
-  seens = s.seens.items;
+  seen = s.seen.items;
   turn = record { version = s.version; kept = s.kept.items; marks = s.marks.items };
 }
 

@@ -20,11 +20,11 @@ pub record Core : Type 0 where
   pub size : Size
   pub words : List ℕ
   pub stages : List Stage
-  pub seens : List ℕ
+  pub seen : List ℕ
   pub turn : Turn
 
 abbrev pub IsSound : Core → Type 0
-IsSound s = Sound s.size s.words s.stages s.seens s.turn
+IsSound s = Sound s.size s.words s.stages s.seen s.turn
 
 -- tests on images
 
@@ -83,7 +83,7 @@ looked s p _ = refused s
 
 -- it is pinned at the version that its pin names, and has seen it
 abbrev pub pinned_by : Core → ℕ → ℕ → Core × Step
-pinned_by s p pin = (record (moved s p pin (stage.Pinned (version_of pin))) { seens = slice_set s.seens p (version_of pin) }, Pinned (version_of pin))
+pinned_by s p pin = (record (moved s p pin (stage.Pinned (version_of pin))) { seen = slice_set s.seen p (version_of pin) }, Pinned (version_of pin))
 
 -- its pin becomes what it has looked at, if the writer has not assigned another
 abbrev pub settled : Core → ℕ → Stage → Core × Step
@@ -102,7 +102,7 @@ left s p _ = refused s
 
 -- an idle pass is told of a version that is there
 abbrev pub learned : Core → ℕ → ℕ → Stage → Core × Step
-learned s p version stage.Idle = if nat_le version s.turn.version then (record s { seens = slice_set s.seens p (max (slice_index s.seens p) version) }, Done) else refused s
+learned s p version stage.Idle = if nat_le version s.turn.version then (record s { seen = slice_set s.seen p (max (slice_index s.seen p) version) }, Done) else refused s
 learned s p version _ = refused s
 
 -- the writer's rounds
@@ -212,7 +212,7 @@ opened z root image = record {
   size = z;
   words = fold with_cell (slice_set (replicate (word_count z) 0) 0 (current_word 0 root)) image;
   stages = replicate z.passes stage.Idle;
-  seens = replicate z.passes 0;
+  seen = replicate z.passes 0;
   turn = record { version = 0; kept = record { version = 0; root = root; image = image } ∷ []; marks = replicate z.passes mark.Blank };
 }
 

@@ -84,4 +84,4 @@ RoundsKeepFew = (o : Opening) → CanOpen o → (events : List Event) (marks : L
 
 -- From each opening: what a pass has seen never falls, whatever more events come.
 abbrev pub NoPassGoesBack : Type 0
-NoPassGoesBack = (o : Opening) → CanOpen o → (events more : List Event) (p : ℕ) → p < o.size.passes → slice_index (run_of o events).seens p ≤ slice_index (run_of o (events ++ more)).seens p
+NoPassGoesBack = (o : Opening) → CanOpen o → (events more : List Event) (p : ℕ) → p < o.size.passes → slice_index (run_of o events).seen p ≤ slice_index (run_of o (events ++ more)).seen p

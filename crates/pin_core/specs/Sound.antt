@@ -70,32 +70,37 @@ MarkFits kept cur pin s mark.Idle = IsFresh cur pin s
 -- one that was pinned is so still, or has since been idle
 MarkFits kept cur pin s (mark.Pinned version) = (k : Kept) × Contains kept k × (k.version ≡ version) × ((pin ≡ pin_of k) ⊎ IsFresh cur pin s)
 
-pub record Sound (z : Size) (words : List ℕ) (stages : List Stage) (seens : List ℕ) (turn : Turn) : Type 0 where
+-- Each part has a sentence.
+pub record Sound (z : Size) (words : List ℕ) (stages : List Stage) (seen : List ℕ) (turn : Turn) : Type 0 where
   -- there are at most 64 passes and 4,096 chunks
   pub small : (z.passes ≤ 64) × (z.chunks ≤ 4096)
   -- there is a word at each place
   pub wide : length words ≡ word_count z
-  -- there is a stage, a seen version and a mark for each pass
+  -- each pass has a stage
   pub staged : length stages ≡ z.passes
-  pub watched : length seens ≡ z.passes
+  -- of each pass it is known which version it has seen
+  pub watched : length seen ≡ z.passes
+  -- each pass has a mark
   pub marked : length turn.marks ≡ z.passes
-  -- versions fit beside a root in a word of CUR, and a pin fits its word
+  -- a version fits beside its root in the word of CUR
   pub few : turn.version < 2 ^ 40
-  -- CUR names the current version and its root, and the current version is kept
+  -- the current version is kept, and CUR names it and its root
   pub current : (k : Kept) × Contains turn.kept k × (k.version ≡ turn.version) × (slice_index words 0 ≡ word_of k)
-  -- no kept version is above the current one, and each comes once, in rising order
+  -- no kept version is above the current one
   pub newest : All (λ k. k.version ≤ turn.version) turn.kept
+  -- the kept versions rise, so each comes once
   pub rising : AllPairs (λ k j. k.version < j.version) turn.kept
-  -- each kept image has its root, and has each cell once
+  -- each kept image has its root
   pub rooted : All (λ k. HasRoot k.root k.image) turn.kept
+  -- each kept image has each cell once
   pub once : All (λ k. AllPairs (λ c d. c.at ≢ d.at) k.image) turn.kept
   -- the words of each kept image are as they were when it was published
   pub unchanged : All (λ k. All (AgreesWith words) k.image) turn.kept
   -- no kept image meets a chunk that is free
   pub given : All (λ k. All (IsGiven z words) k.image) turn.kept
   -- no pass has seen a version that isn't there yet
-  pub seen : (p : ℕ) → p < z.passes → slice_index seens p ≤ turn.version
+  pub not_ahead : (p : ℕ) → p < z.passes → slice_index seen p ≤ turn.version
   -- each pin is as its pass's stage says
-  pub pins : (p : ℕ) → p < z.passes → PinFits turn.kept (slice_index seens p) (slice_index words (pin_at p)) (stage_at stages p)
+  pub pins : (p : ℕ) → p < z.passes → PinFits turn.kept (slice_index seen p) (slice_index words (pin_at p)) (stage_at stages p)
   -- each mark is still true of its pass
   pub marks : (p : ℕ) → p < z.passes → MarkFits turn.kept (slice_index words 0) (slice_index words (pin_at p)) (stage_at stages p) (mark_at turn.marks p)

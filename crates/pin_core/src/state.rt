@@ -22,7 +22,7 @@ pub struct State {
     chunks: u32,
     words: Vec<u64>,
     stages: Vec<Stage>,
-    seens: Vec<u64>,
+    seen: Vec<u64>,
     version: u64,
     kept: Vec<Kept>,
     marks: Vec<Mark>,

@@ -83,7 +83,7 @@ impl State {
         words[CUR] = word_of_version(0, root);
         lay_image(&mut words, &image.cells);
         let stages = idle_stages(alloc, passes)?;
-        let seens = zeros(alloc, passes as usize)?;
+        let seen = zeros(alloc, passes as usize)?;
         let marks = blank_marks(alloc, passes)?;
         let mut kept = Vec::new(alloc);
         kept.push(Kept {
@@ -96,7 +96,7 @@ impl State {
             chunks,
             words,
             stages,
-            seens,
+            seen,
             version: 0,
             kept,
             marks,

@@ -56,7 +56,7 @@ impl State {
         let version = version_of_pin(pin);
         self.words[FIRST_PIN + p] = pin;
         self.stages[p] = Stage::Pinned(version);
-        self.seens[p] = version;
+        self.seen[p] = version;
         Step::Pinned { version }
     }
 
@@ -100,7 +100,7 @@ impl State {
     {
         match self.stages[p] {
             Stage::Idle if version <= self.version => {
-                self.seens[p] = self.seens[p].max(version);
+                self.seen[p] = self.seen[p].max(version);
                 Step::Done
             }
             _ => Step::Refused,

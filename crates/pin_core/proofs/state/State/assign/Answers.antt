@@ -16,7 +16,7 @@ invariant_of-self c =
     let cur = current_read s c.self.invariant _ c.index-in-Entering-2.ensures in
     let pin = c.pin_after_exchange-pin.ensures ∙ ap (λ (x : ℕ). exchanged x c.index-in-Entering-2.result.now) found ∙ ap (exchanged (get_or s.words (pin_at c.args.p) 0)) cur in
     let back = written_back c.mark_pass.new.marks s.turn.marks c.self.inside.marks.len (omega (arith, c.mark_pass.auto.marks, c.deref_mut.ensures.len)) in
-    subst (λ (ms : List Mark). Sound s.size (set s.words (pin_at c.args.p) c.pin_after_exchange-pin.result) s.stages s.seens (turn_of s.turn.version c.mark_pass.new.kept.items ms)) (sym back)
+    subst (λ (ms : List Mark). Sound s.size (set s.words (pin_at c.args.p) c.pin_after_exchange-pin.result) s.stages s.seen (turn_of s.turn.version c.mark_pass.new.kept.items ms)) (sym back)
     (assign_sound s c.self.invariant c.args.p l c.deref_mut.result.now c.deref_mut.ensures.value c.pin_after_exchange-pin.result pin _ c.mark_pass.ensures)
 
 pub returns-in-Entering-clause-after : goal.returns-in-Entering-clause-after

@@ -8,4 +8,4 @@ invariant_of-self c =
     let s = core_of c.self.inside in
     let l = within s _ c.self.invariant c.self.view_is c.args.p c.requires in
     let is = stage_read s _ c.self.invariant c.self.view_is c.args.p c.requires _ _ c.index.ensures c.in-Idle.is in
-    enters s.size s.words s.stages s.seens s.turn c.self.invariant c.args.p l is
+    enters s.size s.words s.stages s.seen s.turn c.self.invariant c.args.p l is

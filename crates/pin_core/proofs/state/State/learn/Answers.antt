@@ -1,4 +1,4 @@
-use Rattle.std.proofs.Common.{◌≡◌, ℕ, max, set, sym, ap, ◌∙◌, subst}
+use Rattle.std.proofs.Common.{ℕ, max, set, sym, ap, ◌∙◌, subst}
 use Rattle.pin_core.specs.Sound.{Sound}
 use Rattle.pin_core.specs.Inside.{core_of}
 use Rattle.pin_core.proofs.Inside.{within, stage_read, seen_read}
@@ -12,5 +12,5 @@ invariant_of-self c =
     let is = stage_read s _ c.self.invariant c.self.view_is c.args.p c.requires _ _ c.index.ensures c.in-Idle.is in
     let seen = seen_read s _ c.self.invariant c.self.view_is c.args.p c.requires _ c.index-in-Idle.ensures in
     let learned = c.max.ensures ∙ ap (λ (n : ℕ). max n c.args.version) seen in
-    subst (λ (n : ℕ). Sound s.size s.words s.stages (set s.seens c.args.p n) s.turn) (sym learned)
-    (learns s.size s.words s.stages s.seens s.turn c.self.invariant c.args.p c.args.version l is c.if-version-self.true)
+    subst (λ (n : ℕ). Sound s.size s.words s.stages (set s.seen c.args.p n) s.turn) (sym learned)
+    (learns s.size s.words s.stages s.seen s.turn c.self.invariant c.args.p c.args.version l is c.if-version-self.true)

@@ -18,7 +18,7 @@ invariant_of-result c =
     let laid = c.lay_image.ensures ∙ ap (λ (ws : List ℕ). fold with_cell ws c.deref.result.now) first ∙ ap (fold with_cell (set (replicate (word_count z) 0) 0 (current_word 0 c.args.root))) image in
     let back = written_back c.lay_image.new.words (set c.in_ok-words.words.items 0 c.word_of_version.result) c.in_ok-words.words.len (omega (arith, c.lay_image.auto.words, c.deref_mut.ensures.len)) in
     let kept = c.in_ok-push.ensures.items ∙ ap (λ (ks : List Kept). ks ++ record { version = 0; root = c.args.root; image = c.args.image } ∷ []) c.new-kept.ensures.items in
-    opening_at z c.args.root c.args.image c.requires.limits.1 c.requires.limits.3 c.requires.image _ (back ∙ laid) _ c.in_ok-stages.ensures _ c.in_ok-seens.ensures _ kept _ c.in_ok-marks.ensures
+    opening_at z c.args.root c.args.image c.requires.limits.1 c.requires.limits.3 c.requires.image _ (back ∙ laid) _ c.in_ok-stages.ensures _ c.in_ok-seen.ensures _ kept _ c.in_ok-marks.ensures
 
 pub returns-clause-sound : goal.returns-clause-sound
 returns-clause-sound c = invariant_of-result c

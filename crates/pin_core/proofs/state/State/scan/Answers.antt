@@ -12,5 +12,5 @@ invariant_of-self c =
     let l = within s _ c.self.invariant c.self.view_is c.args.p c.requires in
     let pin = pin_read s _ c.self.invariant c.self.view_is c.args.p c.requires _ c.index-pin.ensures in
     let back = written_back c.mark_pass.new.marks s.turn.marks c.self.inside.marks.len (omega (arith, c.mark_pass.auto.marks, c.deref_mut.ensures.len)) in
-    subst (λ (ms : List Mark). Sound s.size s.words s.stages s.seens (turn_of s.turn.version c.mark_pass.new.kept.items ms)) (sym back)
+    subst (λ (ms : List Mark). Sound s.size s.words s.stages s.seen (turn_of s.turn.version c.mark_pass.new.kept.items ms)) (sym back)
     (scan_sound s c.self.invariant c.args.p l c.deref_mut.result.now c.deref_mut.ensures.value c.index-pin.result.now pin _ c.mark_pass.ensures)

@@ -16,6 +16,6 @@ invariant_of-self c =
     let pin = pin_read s _ c.self.invariant c.self.view_is c.args.p c.requires _ c.index-2.ensures in
     let settled = c.pin_after_exchange-pin.ensures ∙ ap (λ (n : ℕ). exchanged n c.in-Looked.word) pin in
     let version = c.version_of_pin-version.ensures ∙ ap version_of settled in
-    subst (λ (x : ℕ). Sound s.size (set s.words (pin_at c.args.p) x) (set s.stages c.args.p (Pinned c.version_of_pin-version.result)) (set s.seens c.args.p c.version_of_pin-version.result) s.turn) (sym settled)
-    (subst (λ (v : ℕ). Sound s.size (set s.words (pin_at c.args.p) (exchanged (get_or s.words (pin_at c.args.p) 0) c.in-Looked.word)) (set s.stages c.args.p (Pinned v)) (set s.seens c.args.p v) s.turn) (sym version)
-    (settles s.size s.words s.stages s.seens s.turn c.self.invariant c.args.p c.in-Looked.word l is))
+    subst (λ (x : ℕ). Sound s.size (set s.words (pin_at c.args.p) x) (set s.stages c.args.p (Pinned c.version_of_pin-version.result)) (set s.seen c.args.p c.version_of_pin-version.result) s.turn) (sym settled)
+    (subst (λ (v : ℕ). Sound s.size (set s.words (pin_at c.args.p) (exchanged (get_or s.words (pin_at c.args.p) 0) c.in-Looked.word)) (set s.stages c.args.p (Pinned v)) (set s.seen c.args.p v) s.turn) (sym version)
+    (settles s.size s.words s.stages s.seen s.turn c.self.invariant c.args.p c.in-Looked.word l is))
