@@ -1,4 +1,5 @@
--- The machine: what each event does, where it is allowed, and what it answers.
+-- The machine: what each event does, where it is allowed, and what it answers. The events are this project's own protocol;
+-- what they are for is BIND's: readers that never wait beside one writer (doc/design/qp-trie.md).
 use Rattle.std.specs.Prelude.{ℕ, ◌+◌, ◌-◌, ◌*◌, ◌^◌, ◌==◌, nat_lt, nat_le, max, List, [], ◌∷◌, ◌++◌, map, filter, slice_index, slice_set, replicate, Bool, true, false, not, ◌&&◌, ◌||◌, if◌then◌else◌, Option, Some, None}
 use Rattle.std.specs.List.{list_any, list_all, fold}
 use Rattle.pin_core.specs.declared.kept.CellAt.{CellAt}
@@ -23,21 +24,25 @@ pub record Core : Type 0 where
   pub seen : List ℕ
   pub turn : Turn
 
+-- what holds between any two events holds of it
 abbrev pub IsSound : Core → Type 0
 IsSound s = Sound s.size s.words s.stages s.seen s.turn
 
--- tests on images
+-- tests on images and chunks
 
+-- the image has this cell
 abbrev pub has_cell : List CellAt → ℕ → Bool
 has_cell image at = list_any (λ c. c.at == at) image
 
+-- the image has a cell in this chunk
 abbrev pub meets : List CellAt → ℕ → Bool
 meets image chunk = list_any (λ c. chunk_of c.at == chunk) image
 
--- some kept image has this cell, or a cell in this chunk
+-- some kept image has this cell
 abbrev pub is_kept_cell : List Kept → ℕ → Bool
 is_kept_cell kept at = list_any (λ k. has_cell k.image at) kept
 
+-- some kept image has a cell in this chunk
 abbrev pub is_kept_chunk : List Kept → ℕ → Bool
 is_kept_chunk kept chunk = list_any (λ k. meets k.image chunk) kept
 
@@ -45,9 +50,11 @@ is_kept_chunk kept chunk = list_any (λ k. meets k.image chunk) kept
 abbrev pub is_in_version : List Kept → ℕ → ℕ → Bool
 is_in_version kept version at = list_any (λ k. (k.version == version) && has_cell k.image at) kept
 
+-- there is such a chunk, and it is given
 abbrev pub is_given : Size → List ℕ → ℕ → Bool
 is_given z words chunk = nat_lt chunk z.chunks && (slice_index words (status_at chunk) == 1)
 
+-- no reference stands twice
 abbrev pub is_distinct : List ℕ → Bool
 is_distinct [] = true
 is_distinct (r ∷ rs) = not (list_any (λ q. q == r) rs) && is_distinct rs
@@ -60,6 +67,7 @@ is_rooted (Some root) rs = list_any (λ r. r == root) rs
 
 -- the steps of a pass, by its stage
 
+-- an event that isn't allowed changes nothing
 abbrev pub refused : Core → Core × Step
 refused s = (s, Refused)
 
@@ -107,14 +115,17 @@ learned s p version _ = refused s
 
 -- the writer's rounds
 
+-- the mark that is made of a pin
 abbrev pub mark_of : ℕ → Mark
 mark_of pin = if pin == 0 then mark.Idle else (if pin == 1 then mark.Entering else mark.Pinned (version_of pin))
 
+-- a round waits for no such pass
 abbrev pub is_settled : Mark → Bool
 is_settled mark.Idle = true
 is_settled (mark.Pinned version) = true
 is_settled _ = false
 
+-- the pass was pinned at this version
 abbrev pub names_version : ℕ → Mark → Bool
 names_version version (mark.Pinned other) = other == version
 names_version version _ = false
@@ -127,32 +138,38 @@ kept_by_round t = filter (λ k. (k.version == t.version) || list_any (names_vers
 abbrev pub round_checked : ℕ → Turn → Turn
 round_checked passes t = if list_all is_settled t.marks then record t { kept = kept_by_round t; marks = replicate passes mark.Blank } else t
 
--- the pass is marked by its pin
+-- the pass is marked by this pin
 abbrev pub marked_by : Core → ℕ → ℕ → Core
 marked_by s p pin = record s { turn = round_checked s.size.passes (record s.turn { marks = slice_set s.turn.marks p (mark_of pin) }) }
 
+-- the writer looks at a pin
 abbrev pub scanned : Core → ℕ → Core × Step
 scanned s p = (marked_by s p (slice_index s.words (pin_at p)), Done)
 
--- a pass that was about to look is pinned at the current version, unless it went on by itself
+-- the pass has this pin now, and is marked by it
 abbrev pub helped : Core → ℕ → ℕ → Core
 helped s p pin = marked_by (record s { words = slice_set s.words (pin_at p) pin }) p pin
 
+-- a pass that was found about to look is pinned at the current version, unless it went on by itself
 abbrev pub assigned : Core → ℕ → Mark → Core × Step
 assigned s p mark.Entering = (helped s p (exchanged (slice_index s.words (pin_at p)) (slice_index s.words 0)), Done)
 assigned s p _ = refused s
 
 -- the writer's chunks and cells
 
+-- one word changes
 abbrev pub with_word : Core → ℕ → ℕ → Core
 with_word s place word = record s { words = slice_set s.words place word }
 
+-- a free chunk is given
 abbrev pub given : Core → ℕ → Core × Step
 given s chunk = if nat_lt chunk s.size.chunks && (slice_index s.words (status_at chunk) == 0) then (with_word s (status_at chunk) 1, Done) else refused s
 
+-- a given chunk that no kept image meets is free again
 abbrev pub freed : Core → ℕ → Core × Step
 freed s chunk = if is_given s.size s.words chunk && not (is_kept_chunk s.turn.kept chunk) then (with_word s (status_at chunk) 0, Done) else refused s
 
+-- a word of a given chunk that is in no kept image is written
 abbrev pub written : Core → ℕ → Half → ℕ → Core × Step
 written s at half value = if is_given s.size s.words (chunk_of at) && not (is_kept_cell s.turn.kept at) then (with_word s (half_at at half) value, Done) else refused s
 
@@ -160,15 +177,19 @@ written s at half value = if is_given s.size s.words (chunk_of at) && not (is_ke
 abbrev pub image_of : List ℕ → List ℕ → List CellAt
 image_of words cells = map (λ r. record { at = r; big = slice_index words (cell_at r); small = slice_index words (cell_at r + 1) }) cells
 
+-- there is a next version, and the cells are distinct, lie in given chunks and have the root among them
 abbrev pub can_publish : Core → Option ℕ → List ℕ → Bool
 can_publish s root cells = nat_lt s.turn.version (2 ^ 40 - 1) && (is_distinct cells && (list_all (λ r. is_given s.size s.words (chunk_of r)) cells && is_rooted root cells))
 
+-- the next version, with its cells as they are
 abbrev pub next_kept : Core → Option ℕ → List ℕ → Kept
 next_kept s root cells = record { version = s.turn.version + 1; root = root; image = image_of s.words cells }
 
+-- it becomes the current one, and a round begins
 abbrev pub with_next : Core → Kept → Core
 with_next s k = record s { words = slice_set s.words 0 (current_word k.version k.root); turn = record { version = k.version; kept = s.turn.kept ++ k ∷ []; marks = replicate s.size.passes mark.Blank } }
 
+-- the writer publishes the next version
 abbrev pub published : Core → Option ℕ → List ℕ → Core × Step
 published s root cells = if can_publish s root cells then (with_next s (next_kept s root cells), Done) else refused s
 

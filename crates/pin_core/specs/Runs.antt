@@ -48,9 +48,11 @@ pub record Opening : Type 0 where
   pub root : Option ℕ
   pub image : List CellAt
 
+-- the sizes are within the limits, and the image fits them and the root
 abbrev pub CanOpen : Opening → Type 0
 CanOpen o = IsWithinLimits o.size × IsTrue (can_open o.size o.root o.image)
 
+-- the state after an opening and these events
 abbrev pub run_of : Opening → List Event → Core
 run_of o events = after (opened o.size o.root o.image) events
 
@@ -62,6 +64,7 @@ versions_of o events = record { version = 0; root = o.root; image = o.image } �
 abbrev pub IsAlwaysSound : Type 0
 IsAlwaysSound = (o : Opening) → CanOpen o → (events : List Event) → IsSound (run_of o events)
 
+-- either word of a cell, as an image has it
 abbrev pub half_of : CellAt → Half → ℕ
 half_of c Big = c.big
 half_of c Small = c.small

@@ -18,6 +18,7 @@ pub record Turn : Type 0 where
 abbrev pub turn_of : ℕ → List Kept → List Mark → Turn
 turn_of version kept marks = record { version = version; kept = kept; marks = marks }
 
+-- a pass's stage and mark; past the last pass nothing is known
 abbrev pub stage_at : List Stage → ℕ → Stage
 stage_at stages p = slice_index_or stages p stage.Idle
 

@@ -11,19 +11,25 @@ pub record Size : Type 0 where
 
 -- The places: word 0 is CUR, the current version. A pin for each of at most 64 passes, a status for each of at most
 -- 4,096 chunks and two words for each cell follow, each at a place of its own whatever the size is.
+
+-- the pin of a pass
 abbrev pub pin_at : ℕ → ℕ
 pin_at pass = 1 + pass
 
+-- the status of a chunk
 abbrev pub status_at : ℕ → ℕ
 status_at chunk = 65 + chunk
 
+-- the big word of a cell; the small one is next
 abbrev pub cell_at : ℕ → ℕ
 cell_at reference = 4161 + 2 * reference
 
+-- either word of a cell
 abbrev pub half_at : ℕ → Half → ℕ
 half_at reference Big = cell_at reference
 half_at reference Small = cell_at reference + 1
 
+-- how many words there are
 abbrev pub word_count : Size → ℕ
 word_count z = 4161 + 2048 * z.chunks
 
