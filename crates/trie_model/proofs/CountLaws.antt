@@ -1,10 +1,10 @@
 -- How many of the cells that a tree reaches count: a weight for each reference, as 1 in one chunk and 0 elsewhere.
-use Rattle.std.proofs.Common.{◌≡◌, ℕ, zero, suc, ◌+◌, ◌/◌, arith, refl, ◌∙◌, ap, cond, eqb}
+use Rattle.std.proofs.Common.{◌≡◌, ℕ, suc, ◌+◌, arith, refl, ◌∙◌, ap}
 use Rattle.trie_model.proofs.SplitLaws.{Found, Missing}
-use Rattle.trie_model.specs.Reach.{row, weigh_tree, weigh, in_chunk, reach_below, reach_twigs, side_by_side, WithinTree, Within}
+use Rattle.trie_model.specs.Reach.{row, weigh_tree, weigh}
 use Rattle.trie_model.specs.Keys.{Entry}
 use Rattle.trie_model.specs.Trees.{Tree, Twigs, count, cells_in, beside}
-use Rattle.trie_model.specs.Trees.Tree.{leaf, branch}
+use Rattle.trie_model.specs.Trees.Tree.{leaf}
 use Rattle.trie_model.specs.Trees.Twigs.{none, twig}
 
 -- what hangs on the twigs

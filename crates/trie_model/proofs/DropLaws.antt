@@ -1,10 +1,10 @@
 -- A branch with a twig dropped: of three or more it stays a branch, of two the other twig's tree takes its place.
-use Rattle.std.proofs.Common.{◌≡◌, ℕ, suc, ◌+◌, ◌≤◌, List, [], ◌∷◌, ◌++◌, append_assoc, append-nil, arith, inl, inr, refl, sym, ◌∙◌, ap, subst}
+use Rattle.std.proofs.Common.{◌≡◌, ℕ, suc, ◌≤◌, List, [], ◌∷◌, ◌++◌, append_assoc, append-nil, arith, inl, inr, refl, sym, ◌∙◌, ap, subst}
 use Rattle.trie_model.proofs.AddLaws.{found_twigs, found_entries}
 use Rattle.trie_model.proofs.BitmapLaws.{count-beside}
 use Rattle.trie_model.proofs.KeyLaws.{in_left, in_right, in_both}
 use Rattle.trie_model.proofs.SplitLaws.{Found, entries-beside, twigs_left, twigs_join}
-use Rattle.trie_model.specs.Changes.{Removed, Shrunk}
+use Rattle.trie_model.specs.Changes.{Shrunk}
 use Rattle.trie_model.specs.Keys.{Entry, InList}
 use Rattle.trie_model.specs.Trees.{Tree, Twigs, entries_of, entries, count, Agree, IsTree, AreTwigs, IsRow, beside}
 use Rattle.trie_model.specs.Trees.Tree.{leaf, branch}

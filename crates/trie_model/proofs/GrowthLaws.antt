@@ -1,7 +1,7 @@
 -- What a tree becomes when an entry is put in.
-use Rattle.std.proofs.Common.{◌≡◌, ℕ, suc, ◌+◌, ◌<◌, ◌≤◌, List, [], ◌∷◌, ◌++◌, append-nil, arith, inl, inr, refl, sym, ◌∙◌, ap, subst}
+use Rattle.std.proofs.Common.{◌≡◌, ℕ, suc, ◌<◌, ◌≤◌, List, [], ◌∷◌, ◌++◌, append-nil, arith, inl, inr, refl, sym, ◌∙◌, ap, subst}
 use Rattle.trie_model.proofs.KeyLaws.{in_left, in_both}
-use Rattle.trie_model.specs.Changes.{Inserted, Nearest, Grown, Deep}
+use Rattle.trie_model.specs.Changes.{Nearest, Grown, Deep}
 use Rattle.trie_model.specs.Keys.{at, Same, Entry, IsEntry, InList}
 use Rattle.trie_model.specs.Trees.{Tree, Twigs, entries_of, entries, count, AllAt, Agree, IsTree, AreTwigs, IsRow, cells_in}
 use Rattle.trie_model.specs.Trees.Tree.{leaf, branch}

@@ -8,3 +8,5 @@ pub mod DropLaws
 pub mod OrderLaws
 pub mod MoveLaws
 pub mod CountLaws
+pub mod ReachLaws
+pub mod ShapeLaws

@@ -1,7 +1,7 @@
 -- What becomes of a list of entries, and of a tree, when an entry is put in or taken out.
 use Rattle.std.specs.Prelude.{◌≡◌, ℕ, ◌<◌, ◌≤◌, List, ◌∷◌, ◌++◌}
 use Rattle.trie_model.specs.Keys.{at, Same, Entry, InList, Less}
-use Rattle.trie_model.specs.Trees.{Tree, Twigs, entries_of, IsTree}
+use Rattle.trie_model.specs.Trees.{Tree, entries_of, IsTree}
 use Rattle.trie_model.specs.Trees.Tree.{leaf, branch}
 
 -- the list with the entry put in at its place

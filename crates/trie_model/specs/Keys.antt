@@ -1,7 +1,7 @@
 -- What the trie holds: entries, each a key and an item, in the order of their keys.
 -- A key is a list of positions (BIND's doc/design/qp-trie.md, "domain names and shift keys"): one or two, from 1 on, for
 -- each octet of a name, and a 0 at the end of each label. Past its end it reads 0. An item is a list of octets.
-use Rattle.std.specs.Prelude.{◌≡◌, ℕ, suc, ◌<◌, ◌≤◌, ◌⊎◌, List, [], ◌∷◌, ◌++◌, length, slice_index}
+use Rattle.std.specs.Prelude.{◌≡◌, ℕ, suc, ◌<◌, ◌≤◌, ◌⊎◌, List, [], ◌∷◌, length, slice_index}
 
 -- the position at a place
 abbrev pub at : List ℕ → ℕ → ℕ

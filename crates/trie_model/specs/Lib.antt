@@ -4,3 +4,4 @@ pub mod Trees
 pub mod Reach
 pub mod Memory
 pub mod Shape
+pub mod Laws

@@ -1,11 +1,12 @@
 -- A trie in a memory of cells. A memory is what it has: a relation between references and cells, as a finite list of pairs is one.
-use Rattle.std.specs.Prelude.{◌≡◌, ℕ, suc, ◌+◌, ◌*◌, ◌<◌, ◌≤◌, ◌^◌, List, [], ◌∷◌, length, Option, Some, None, Contains, slice_index, count_by, ◌==◌}
+use Rattle.std.specs.Prelude.{◌≡◌, ℕ, suc, ◌+◌, ◌*◌, ◌<◌, ◌≤◌, ◌^◌, List, [], length, Option, Some, None, Contains, drop, count_by, ◌==◌}
+use Rattle.std.specs.Int.{w64, from_le_bytes}
 use Rattle.packed_node.specs.declared.Cell.{Cell}
 use Rattle.packed_node.specs.declared.Node.{Node}
 use Rattle.packed_node.specs.declared.Node.TheVariants as node
 use Rattle.packed_node.specs.Nodes.{packed}
 use Rattle.trie_model.specs.Keys.{Entry}
-use Rattle.trie_model.specs.Trees.{Tree, Twigs, entries_of, count, bitmap_of, cells_in, IsTree}
+use Rattle.trie_model.specs.Trees.{Tree, Twigs, entries_of, bitmap_of, cells_in, IsTree}
 use Rattle.trie_model.specs.Trees.Tree.{leaf, branch}
 use Rattle.trie_model.specs.Trees.Twigs.{none, twig}
 use Rattle.trie_model.specs.Reach.{reach}
@@ -14,15 +15,10 @@ use Rattle.trie_model.specs.Reach.{reach}
 abbrev pub listed : List (ℕ × Cell) → ℕ → Cell → Type 0
 listed pairs r c = Contains pairs (r, c)
 
--- eight octets of an item from i on, the first the lowest; 0 past its end
-abbrev pub word : List ℕ → ℕ → ℕ
-word item i =
-    slice_index item i + 256 * (slice_index item (1 + i) + 256 * (slice_index item (2 + i) + 256 * (slice_index item (3 + i)
-    + 256 * (slice_index item (4 + i) + 256 * (slice_index item (5 + i) + 256 * (slice_index item (6 + i) + 256 * slice_index item (7 + i)))))))
-
--- its k-th cell
+-- the k-th cell of an item: 16 octets, the first eight in big and the others in small, each word with the first octet the
+-- lowest; 0 past the item's end
 abbrev pub item_cell : List ℕ → ℕ → Cell
-item_cell item k = record { big = word item (16 * k); small = word item (8 + 16 * k) }
+item_cell item k = record { big = from_le_bytes w64 (drop (16 * k) item); small = from_le_bytes w64 (drop (16 * k + 8) item) }
 
 -- its cells lie side by side from where_at on
 abbrev pub ItemLies : (ℕ → Cell → Type 0) → ℕ → List ℕ → Type 0
