@@ -1,6 +1,6 @@
 //! Items in cells: 16 octets a cell, side by side in one chunk, the last cell filled up with zeros.
 
-ghost use Rattle.std.specs.Prelude.{◌≡◌, ◌≢◌, ◌+◌, ◌*◌, ◌/◌, ◌<◌, ◌≤◌, ℕ, List, Contains, length, take, drop, slice_index};
+ghost use Rattle.std.specs.Prelude.{◌≡◌, ◌≢◌, ◌+◌, ◌*◌, ◌/◌, ◌^◌, ◌<◌, ◌≤◌, ℕ, List, Contains, length, min, take, drop, slice_index};
 ghost use Rattle.std.specs.Int.{w64, from_le_bytes, to_le_bytes};
 ghost use Rattle.packed_node.specs.declared.Cell.{Cell};
 ghost use Rattle.trie_model.specs.Keys.{IsItem};
@@ -49,13 +49,41 @@ pub fn read_item<C: CellRead>(cells: &mut C, leaf: Leaf, out: &mut [u8; 4096]) -
         → ItemLies (C.has cells.old) leaf.at item → take leaf.len out.new ≡ item }
     ensures rest { (i : ℕ) → 16 * ((leaf.len + 15) / 16) ≤ i → slice_index out.new i ≡ slice_index out.old i }
 {
-    for k in 0..cells_for(leaf.len) {
-        let cell = cells.cell(leaf.at + k);
+    read_cells(cells, leaf.at, cells_for(leaf.len), out);
+    leaf.len as usize
+}
+
+/// Reads the first 256 octets of a leaf's item, or all where it has fewer, and gives their number.
+pub fn read_front<C: CellRead>(cells: &mut C, leaf: Leaf, out: &mut [u8; 256]) -> usize
+    requires some { 0 < leaf.len }
+    requires row { IsRow leaf.at ((leaf.len + 15) / 16) }
+    requires there { (k : ℕ) → k < (leaf.len + 15) / 16 → (c : Cell) × C.has cells.old (leaf.at + k) c }
+    ensures same { cells.new ≡ cells.old }
+    ensures length { result ≡ min leaf.len 256 }
+    ensures front { (item : List ℕ) → IsItem item → length item ≡ leaf.len
+        → ItemLies (C.has cells.old) leaf.at item → take result out.new ≡ take 256 item }
+{
+    let len = leaf.len.min(256);
+    read_cells(cells, leaf.at, cells_for(len), out);
+    len as usize
+}
+
+/// Reads the octets of so many cells, from `at` on, into the beginning of `out`.
+fn read_cells<C: CellRead>(cells: &mut C, at: Ref, count: u32, out: &mut [u8])
+    requires room { 16 * count ≤ length out.old }
+    requires inside { at + count ≤ 2 ^ 22 }
+    requires there { (k : ℕ) → k < count → (c : Cell) × C.has cells.old (at + k) c }
+    ensures same { cells.new ≡ cells.old }
+    ensures octets { (item : List ℕ) → IsItem item → ((k : ℕ) → k < count → C.has cells.old (at + k) (item_cell item k))
+        → (i : ℕ) → i < 16 * count → slice_index out.new i ≡ slice_index item i }
+    ensures rest { (i : ℕ) → 16 * count ≤ i → slice_index out.new i ≡ slice_index out.old i }
+{
+    for k in 0..count {
+        let cell = cells.cell(at + k);
         let start = 16 * k as usize;
         put_word(out, start, cell.big);
         put_word(out, start + 8, cell.small);
     }
-    leaf.len as usize
 }
 
 /// The cell of the 16 octets from `start` on.
@@ -95,8 +123,8 @@ fn octet(item: &[u8], place: usize) -> u8
 }
 
 /// Writes the eight octets of a word, the lowest first.
-fn put_word(out: &mut [u8; 4096], start: usize, word: u64)
-    requires { start + 8 ≤ 4096 }
+fn put_word(out: &mut [u8], start: usize, word: u64)
+    requires { start + 8 ≤ length out.old }
     ensures written { (k : ℕ) → k < 8 → slice_index out.new (start + k) ≡ slice_index (to_le_bytes w64 word) k }
     ensures before { (i : ℕ) → i < start → slice_index out.new i ≡ slice_index out.old i }
     ensures after { (i : ℕ) → start + 8 ≤ i → slice_index out.new i ≡ slice_index out.old i }

@@ -9,7 +9,7 @@ ghost use Rattle.std.specs.Prelude.{◌≡◌, ◌≢◌, ◌/◌, ℕ};
 pub mod item;
 pub mod plain;
 
-pub use item::{read_item, write_item};
+pub use item::{read_front, read_item, write_item};
 use packed_node::{Cell, Ref};
 pub use plain::PlainCells;
 

@@ -1,6 +1,6 @@
 //! An item of 28 octets, written and read.
 
-use super::{CellRead, CellWrite, PlainCells, item, read_item, write_item};
+use super::{CellRead, CellWrite, PlainCells, item, read_front, read_item, write_item};
 use packed_node::{Cell, Leaf};
 use std::test::Fail;
 
@@ -19,11 +19,17 @@ fn an_item_is_written_and_read(rt: HostRuntime) -> Result<(), Fail> {
     assert_eq!(rt; item::cells_for(28), 2);
     write_item(&mut cells, 1030, &ITEM);
     let mut out = [9; 4096];
-    let len = read_item(&mut cells, Leaf { len: 28, at: 1030 }, &mut out);
+    let leaf = Leaf { len: 28, at: 1030 };
+    let len = read_item(&mut cells, leaf, &mut out);
     assert_eq!(rt; len, 28);
     let whole: &[u8] = &out;
     assert!(rt; whole.starts_with(&ITEM));
     assert_eq!(rt; (out[31], out[32]), (0, 9));
+    let mut front = [9; 256];
+    let front_len = read_front(&mut cells, leaf, &mut front);
+    assert_eq!(rt; front_len, 28);
+    let begins: &[u8] = &front;
+    assert!(rt; begins.starts_with(&ITEM));
     let first = cells.cell(1030);
     assert_eq!(rt;
         (first.big, first.small),

@@ -1,48 +1,12 @@
-use Rattle.std.proofs.Common.{◌≡◌, ℕ, ◌+◌, ◌-◌, ◌*◌, ◌<◌, ◌≤◌, ◌⊎◌, List, length, take, slice_index, get_or-take, length-take-le, ext_get_or, inl, inr, sym, ap, ◌∙◌, subst, arith}
-use Rattle.std.proofs.lemmas.Bool.{cases_lt}
-use Rattle.packed_node.specs.declared.Cell.{Cell}
-use Rattle.trie_model.specs.Keys.{IsItem}
-use Rattle.trie_model.specs.Memory.{ItemLies, item_cell}
-use Rattle.chunk_cells.proofs.ItemLaws.{octet_there}
+use Rattle.std.proofs.Common.{◌≡◌, ◌+◌, ◌*◌, ◌/◌, ◌<◌, ◌≤◌, length, take, get_or-take, length-take-le, ext_get_or, ◌∙◌, arith}
 use Rattle.chunk_cells.proofs.item.read_item.Goals as goal
 
-pub cell-cell-requires : goal.cell-cell-requires
-cell-cell-requires g c = record {
-  there = (let x = c.requires.there c.loop-k.k (let n = c.loop-k.invariant.count in omega arith) in (x.0, subst (λ s. g.C.CellRead.has s (c.args.leaf.at + c.loop-k.k) x.0) (sym c.loop-k.invariant.same) x.1));
-}
-
-pub loop-k-preserved : goal.loop-k-preserved
-loop-k-preserved g c = record {
-  count = c.loop-k.invariant.count;
-  same = c.cell-cell.ensures.same ∙ c.loop-k.invariant.same;
-  whole = c.put_word-in-loop-k.array_long;
-  read = λ item is len lies i l. read item is len lies i l (cases_lt i (16 * c.loop-k.k)) (cases_lt i (16 * c.loop-k.k + 8));
-  rest = λ i l. c.put_word-in-loop-k.ensures.after i (omega arith) ∙ c.put_word.ensures.after i (omega arith) ∙ c.loop-k.invariant.rest i (omega arith);
-}
-  where
-    value : (item : List ℕ) → length item ≡ c.args.leaf.len → ItemLies (g.C.CellRead.has c.args.cells.now) c.args.leaf.at item → c.cell-cell.result ≡ item_cell item c.loop-k.k
-    value item len lies =
-        c.cell-cell.ensures.value (item_cell item c.loop-k.k)
-        (subst (λ s. g.C.CellRead.has s (c.args.leaf.at + c.loop-k.k) (item_cell item c.loop-k.k)) (sym c.loop-k.invariant.same)
-        (lies c.loop-k.k (let n = c.loop-k.invariant.count in let t = c.loop-k-test.true in omega arith)))
-
-    -- an octet of an earlier cell, of the cell's first word, and of its second
-    read : (item : List ℕ) → IsItem item → length item ≡ c.args.leaf.len → ItemLies (g.C.CellRead.has c.args.cells.now) c.args.leaf.at item → (i : ℕ) → i < 16 * (c.loop-k.k + 1) →
-        (i < 16 * c.loop-k.k) ⊎ (16 * c.loop-k.k ≤ i) → (i < 16 * c.loop-k.k + 8) ⊎ (16 * c.loop-k.k + 8 ≤ i) → slice_index c.put_word-in-loop-k.new.out i ≡ slice_index item i
-    read item is len lies i l (inl a) b = c.put_word-in-loop-k.ensures.before i (omega arith) ∙ c.put_word.ensures.before i a ∙ c.loop-k.invariant.read item is len lies i a
-    read item is len lies i l (inr a) (inl b) =
-        let e : 16 * c.loop-k.k + (i - 16 * c.loop-k.k) ≡ i = omega arith in
-        c.put_word-in-loop-k.ensures.before i b ∙ ap (slice_index c.put_word.new.out) (sym e) ∙ c.put_word.ensures.written (i - 16 * c.loop-k.k) (omega arith)
-        ∙ octet_there item c.cell-cell.result.big (16 * c.loop-k.k) i is.octets (ap (λ (x : Cell). x.big) (value item len lies)) a b
-    read item is len lies i l (inr a) (inr b) =
-        let e : 16 * c.loop-k.k + 8 + (i - (16 * c.loop-k.k + 8)) ≡ i = omega arith in
-        ap (slice_index c.put_word-in-loop-k.new.out) (sym e) ∙ c.put_word-in-loop-k.ensures.written (i - (16 * c.loop-k.k + 8)) (omega arith)
-        ∙ octet_there item c.cell-cell.result.small (16 * c.loop-k.k + 8) i is.octets (ap (λ (x : Cell). x.small) (value item len lies)) b (omega arith)
+pub read_cells-requires-clause-there : goal.read_cells-requires-clause-there
+read_cells-requires-clause-there g c k l = c.requires.there k (let e = c.cells_for.ensures in omega arith)
 
 pub returns-clause-item : goal.returns-clause-item
 returns-clause-item g c item is len lies =
-    let whole = c.loop-k.invariant.whole in
-    let short = c.requires.short in
-    let taken = length-take-le c.args.leaf.len c.loop-k.out (omega arith) in
-    ext_get_or 0 (take c.args.leaf.len c.loop-k.out) item (omega arith) (λ i l. get_or-take c.args.leaf.len c.loop-k.out i 0 (omega arith)
-    ∙ c.loop-k.invariant.read item is len lies i (let n = c.loop-k.invariant.count in let t = c.loop-k-test.false in omega arith))
+    let n = c.cells_for.ensures in
+    let taken = length-take-le c.args.leaf.len c.read_cells.new.out (let a = c.read_cells.auto.out in let b = c.told-out in let s = c.requires.short in omega arith) in
+    ext_get_or 0 (take c.args.leaf.len c.read_cells.new.out) item (omega arith)
+    (λ i l. get_or-take c.args.leaf.len c.read_cells.new.out i 0 (omega arith) ∙ c.read_cells.ensures.octets item is (λ k m. lies k (omega arith)) i (omega arith))
