@@ -1,8 +1,8 @@
-use Rattle.std.proofs.Common.{◌≡◌, ℕ, ◌+◌, ◌-◌, ◌*◌, ◌<◌, ◌≤◌, ◌⊎◌, List, length, take, slice_index, get_or-take, length-take-le, ext_get_or, inl, inr, sym, ap, ◌∙◌, subst, arith}
+use Rattle.std.proofs.Common.{◌≡◌, ℕ, ◌+◌, ◌-◌, ◌*◌, ◌<◌, ◌≤◌, ◌⊎◌, List, slice_index, inl, inr, sym, ap, ◌∙◌, subst, arith}
 use Rattle.std.proofs.lemmas.Bool.{cases_lt}
 use Rattle.packed_node.specs.declared.Cell.{Cell}
 use Rattle.trie_model.specs.Keys.{IsItem}
-use Rattle.trie_model.specs.Memory.{ItemLies, item_cell}
+use Rattle.trie_model.specs.Memory.{item_cell}
 use Rattle.chunk_cells.proofs.ItemLaws.{octet_there}
 use Rattle.chunk_cells.proofs.item.read_cells.Goals as goal
 

@@ -1,4 +1,4 @@
-use Rattle.std.proofs.Common.{◌≡◌, ◌+◌, ◌*◌, ◌/◌, ◌<◌, ◌≤◌, length, take, min, get_or-take, length-take, length-take-le, ext_get_or, sym, ◌∙◌, arith}
+use Rattle.std.proofs.Common.{take, get_or-take, length-take, length-take-le, ext_get_or, sym, ◌∙◌, arith}
 use Rattle.chunk_cells.proofs.item.read_front.Goals as goal
 
 pub read_cells-requires-clause-there : goal.read_cells-requires-clause-there

@@ -1,4 +1,4 @@
-use Rattle.std.proofs.Common.{◌≡◌, ◌+◌, ◌*◌, ◌/◌, ◌<◌, ◌≤◌, length, take, get_or-take, length-take-le, ext_get_or, ◌∙◌, arith}
+use Rattle.std.proofs.Common.{take, get_or-take, length-take-le, ext_get_or, ◌∙◌, arith}
 use Rattle.chunk_cells.proofs.item.read_item.Goals as goal
 
 pub read_cells-requires-clause-there : goal.read_cells-requires-clause-there

@@ -1,4 +1,4 @@
-use Rattle.std.proofs.Common.{◌≡◌, ℕ, Some, slice_get, subst, sym, ◌∙◌, arith}
+use Rattle.std.proofs.Common.{◌≡◌, ℕ, ◌+◌, Some, slice_get, subst, sym, ◌∙◌, arith}
 use Rattle.packed_node.specs.declared.Cell.{Cell}
 use Rattle.chunk_cells.specs.declared.plain.PlainCells.{PlainCells}
 use Rattle.chunk_cells.proofs.tests.an_item_is_written_and_read.Goals as goal
