@@ -9,4 +9,5 @@ pub mod OrderLaws
 pub mod MoveLaws
 pub mod CountLaws
 pub mod ReachLaws
+pub mod FewLaws
 pub mod ShapeLaws

@@ -24,14 +24,14 @@ mutual
       let a = weighed w t in let b = weighed_in w (suc r) rest in let c = sum_by-append w (reach_below t) (reach_twigs (suc r) rest) in
       sum_by-cons w r (reach_below t ++ reach_twigs (suc r) rest) ∙ omega arith
 
-both_true : (a b : Bool) → a ≡ true → b ≡ true → (a && b) ≡ true
+pub both_true : (a b : Bool) → a ≡ true → b ≡ true → (a && b) ≡ true
 both_true a b e f = ap (λ x. x && b) e ∙ f
 
-first_true : (a b : Bool) → (a && b) ≡ true → a ≡ true
+pub first_true : (a b : Bool) → (a && b) ≡ true → a ≡ true
 first_true true b e = refl
 first_true false b e = e
 
-second_true : (a b : Bool) → (a && b) ≡ true → b ≡ true
+pub second_true : (a b : Bool) → (a && b) ≡ true → b ≡ true
 second_true true b e = e
 second_true false b e = absurd (true≢false (sym e))
 

@@ -1,10 +1,12 @@
 -- What follows from the definitions, whatever the trie.
-use Rattle.std.specs.Prelude.{◌≡◌, ◌↔◌, ℕ, Bool, true, List, length, sum_by}
+use Rattle.std.specs.Prelude.{◌≡◌, ◌≤◌, ◌^◌, ◌↔◌, ℕ, Bool, true, List, length, sum_by}
 use Rattle.std.specs.List.{list_all}
+use Rattle.packed_node.specs.declared.Cell.{Cell}
 use Rattle.trie_model.specs.Keys.{at, IsKey, Entry, Rises}
 use Rattle.trie_model.specs.Changes.{Inserted}
 use Rattle.trie_model.specs.Trees.{Tree, entries_of, IsTree}
 use Rattle.trie_model.specs.Reach.{reach, reach_below, weigh_tree, WithinTree}
+use Rattle.trie_model.specs.Memory.{listed, IsTrieAt}
 use Rattle.trie_model.specs.Shape.{nodes, keys_of, cells, nodes_of}
 
 -- keys that read alike are alike
@@ -32,3 +34,7 @@ ReachIsWeighed = (weight : ℕ → ℕ) (t : Tree) → weigh_tree weight t ≡ s
 
 abbrev pub ReachIsTested : Type 0
 ReachIsTested = (test : ℕ → Bool) (t : Tree) → WithinTree test t ↔ (list_all test (reach_below t) ≡ true)
+
+-- a trie that stands reaches no more cells than there are references
+abbrev pub CellsAreFew : Type 0
+CellsAreFew = (memory : List (ℕ × Cell)) (r : ℕ) (t : Tree) (version : List Entry) → IsTrieAt (listed memory) r t version → length (reach r t) ≤ 2 ^ 22

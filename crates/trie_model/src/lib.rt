@@ -4,7 +4,7 @@
 //! The functions here do nothing. The contract of each is a law that follows from the definitions.
 #![tactic(auto)]
 
-ghost use Rattle.trie_model.specs.Laws.{KeysAreRead, LeavesRise, OnePlace, NodesAreOfTheKeys, CellsAreOfTheEntries, ReachIsWeighed, ReachIsTested};
+ghost use Rattle.trie_model.specs.Laws.{KeysAreRead, LeavesRise, OnePlace, NodesAreOfTheKeys, CellsAreOfTheEntries, ReachIsWeighed, ReachIsTested, CellsAreFew};
 
 /// A key is told by what it reads at each place, so that 0 past its end leaves no doubt.
 pub fn keys_are_read()
@@ -32,6 +32,12 @@ pub fn reach_is_a_list()
     ensures weighed { ReachIsWeighed }
     ensures tested { ReachIsTested }
 {}
+
+/// No cell is met twice, so there is room for what a trie says of itself in 32 bits.
+pub fn cells_are_few()
+    ensures { CellsAreFew }
+{
+}
 
 #[cfg(test)]
 mod tests;
