@@ -59,7 +59,7 @@ pub record Two (o : ℕ) (es : List Entry) : Type 0 where
   pub y_in : InList y es
   pub apart : at x.key o < at y.key o
 
-two_of : (o lo : ℕ) (ts : Twigs) → AreTwigs o lo ts → 2 ≤ count ts → Two o (entries ts)
+pub two_of : (o lo : ℕ) (ts : Twigs) → AreTwigs o lo ts → 2 ≤ count ts → Two o (entries ts)
 two_of o lo none h n = absurd (omega arith)
 two_of o lo (twig p t none) h n = absurd (omega arith)
 two_of o lo (twig p t (twig q u rest)) h n =
@@ -210,6 +210,10 @@ mutual
       let fewer : length (entries_of t) ≤ n = elim more [ inl x ↦ omega arith | inr y ↦ (let z = rest_some rest o (suc p) a.4 (let c : 1 ≤ count rest = omega arith in c) in omega arith) ] in
       (told_of t (suc o) n a.3 fewer, told_in rest o (suc p) n (b + length (entries_of t)) a.4 (omega arith) (inl (omega arith)))
 
+pub nodes-none : nodes [] ≡ 0
+unfolding nodes
+nodes-none = no_nodes 0
+
 pub nodes_are : (low : ℕ) (t : Tree) → IsTree low t → nodes (keys_of (entries_of t)) ≡ nodes_of t
 unfolding nodes
 nodes_are low t h = told_of t low (length (keys_of (entries_of t))) h (let c = length-map (entries_of t) (λ (e : Entry). e.key) in omega arith)
@@ -220,7 +224,7 @@ length-side_by_side r zero = refl
 length-side_by_side r (suc n) = ap suc (length-side_by_side (suc r) n)
 
 mutual
-  reach_length : (t : Tree) → suc (length (reach_below t)) ≡ nodes_of t + sum_by (λ (e : Entry). cells_in e.item) (entries_of t)
+  pub reach_length : (t : Tree) → suc (length (reach_below t)) ≡ nodes_of t + sum_by (λ (e : Entry). cells_in e.item) (entries_of t)
   reach_length (leaf e w) = let a = length-side_by_side w (cells_in e.item) in omega arith
   reach_length (branch o w below) = let a = reach_twigs_length below w in omega arith
 
@@ -233,3 +237,6 @@ mutual
 
 pub cells_are : (low r : ℕ) (t : Tree) → IsTree low t → length (reach r t) ≡ cells (entries_of t)
 cells_are low r t h = let a = nodes_are low t h in let b = reach_length t in omega arith
+
+pub nodes_le : (t : Tree) (r : ℕ) → nodes_of t ≤ length (reach r t)
+nodes_le t r = let a = reach_length t in omega arith

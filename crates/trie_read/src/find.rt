@@ -44,6 +44,9 @@ fn descend<C: CellRead, K: SearchKey>(cells: &mut C, node: Cell, low: u16, key: 
             }
         }
         Some(Node::Branch(branch)) => {
+            if branch.offset > key.len() {
+                return None;
+            }
             let position = key.at(branch.offset);
             if branch.has_twig(position) {
                 let next = cells.cell(branch.twigs + branch.twig_index(position));

@@ -5,8 +5,6 @@
 //! allocates.
 #![tactic(auto)]
 
-ghost use Rattle.std.specs.Prelude.{◌≡◌, ℕ, List, Option};
-
 mod find;
 mod size;
 
@@ -15,7 +13,7 @@ pub use size::{count, nodes};
 
 /// What a search needs of a key.
 pub trait SearchKey {
-    ghost use Rattle.std.specs.Prelude.{◌≡◌, ◌↔◌, ℕ, List, IsTrue, take};
+    ghost use Rattle.std.specs.Prelude.{◌≡◌, ◌↔◌, ℕ, List, IsTrue, length, take};
     ghost use Rattle.trie_model.specs.Keys.{at, IsKey};
 
     // The key's positions.
@@ -23,6 +21,10 @@ pub trait SearchKey {
 
     // These octets say that this is their key.
     ghost tells: { List ℕ → List ℕ → Type 0 };
+
+    /// How many positions the key has.
+    fn len(&self) -> u16
+        ensures { result ≡ length (positions self.now) };
 
     /// The position at a place, 0 past the key's end.
     fn at(&self, place: u16) -> u8

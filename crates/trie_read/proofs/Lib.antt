@@ -1,0 +1,3 @@
+mod UnpackLaws
+mod FindLaws
+mod SizeLaws
