@@ -1,12 +1,12 @@
 -- A trie that stands has no more cells than there are references: none is met twice.
-use Rattle.std.proofs.Common.{◌≡◌, ℕ, zero, suc, ◌+◌, ◌^◌, ◌<◌, ◌≤◌, ◌⊎◌, inl, inr, Bool, true, false, cond, eqb, ltb, ◌&&◌, List, [], ◌∷◌, length, count_by, sum_by, arith, refl, sym, ◌∙◌, ap}
+use Rattle.std.proofs.Common.{◌≡◌, ℕ, zero, suc, ◌+◌, ◌^◌, ◌<◌, ◌≤◌, inl, inr, true, cond, eqb, ltb, List, [], ◌∷◌, length, count_by, arith, refl, ◌∙◌, ap}
 use Rattle.std.proofs.lemmas.Bool.{cases_lt}
 use Rattle.std.proofs.lemmas.Bool.Decides.{nat_tests}
 use Rattle.std.proofs.lemmas.List.Sums.{sum_by-cons}
 use Rattle.std.specs.List.{list_all}
 use Rattle.packed_node.specs.declared.Cell.{Cell}
 use Rattle.trie_model.specs.Keys.{Entry}
-use Rattle.trie_model.specs.Trees.{Tree, Twigs, cells_in, count, IsTree, AreTwigs}
+use Rattle.trie_model.specs.Trees.{Tree, Twigs, count, IsTree, AreTwigs}
 use Rattle.trie_model.specs.Trees.Tree.{leaf, branch}
 use Rattle.trie_model.specs.Trees.Twigs.{none, twig}
 use Rattle.trie_model.specs.Reach.{reach, reach_below, WithinTree, Within}

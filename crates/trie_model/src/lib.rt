@@ -36,8 +36,7 @@ pub fn reach_is_a_list()
 /// No cell is met twice, so there is room for what a trie says of itself in 32 bits.
 pub fn cells_are_few()
     ensures { CellsAreFew }
-{
-}
+{}
 
 #[cfg(test)]
 mod tests;

@@ -1,21 +1,21 @@
 -- Where a key leads, and what that says of the whole trie.
-use Rattle.std.proofs.Common.{◌≡◌, ℕ, zero, suc, length, ◌+◌, ◌/◌, ◌%◌, ◌^◌, ◌<◌, ◌≤◌, List, [], ◌∷◌, count_ones, Option, Some, None, arith, inl, inr, refl, sym, ◌∙◌, ap, subst}
+use Rattle.std.proofs.Common.{◌≡◌, ℕ, zero, suc, length, ◌+◌, ◌/◌, ◌%◌, ◌^◌, ◌<◌, ◌≤◌, List, count_ones, Option, Some, None, arith, inl, inr, refl, sym, ◌∙◌, ap, subst}
 use Rattle.packed_node.specs.declared.Cell.{Cell}
 use Rattle.packed_node.specs.declared.Leaf.{Leaf}
 use Rattle.packed_node.specs.declared.Branch.{Branch}
 use Rattle.std.proofs.lemmas.Bool.{cases_lt}
 use Rattle.std.proofs.lemmas.List.{get_or_past}
-use Rattle.trie_model.specs.Keys.{at, Same, IsKey, IsEntry, Entry, InList}
+use Rattle.trie_model.specs.Keys.{at, Same, IsKey, Entry, InList}
 use Rattle.trie_model.specs.Trees.{Tree, Twigs, IsTree, AreTwigs, entries_of, entries, count, bitmap_of}
-use Rattle.trie_model.specs.Trees.Tree.{leaf, branch}
+use Rattle.trie_model.specs.Trees.Tree.{branch}
 use Rattle.trie_model.specs.Trees.Twigs.{twig}
 use Rattle.trie_model.specs.Memory.{top_cell, Beneath, Lie}
 use Rattle.trie_model.proofs.KeyLaws.{in_left, in_right}
 use Rattle.trie_model.proofs.GrowthLaws.{each_of}
-use Rattle.trie_model.proofs.ShapeLaws.{Two, two_of}
+use Rattle.trie_model.proofs.ShapeLaws.{two_of}
 use Rattle.trie_model.proofs.BitmapLaws.{Rising}
 use Rattle.trie_model.proofs.SplitLaws.{Found, found_of, missing_of, rising_of, lie_right, twigs_right, in_found, not_missing, entries-beside}
-use Rattle.trie_read.specs.Reads.{IsTop, IsLeafOf, EachTells, Gives}
+use Rattle.trie_read.specs.Reads.{IsTop, EachTells, Gives}
 use Rattle.trie_read.proofs.UnpackLaws.{BranchTold}
 
 -- the tree that a key leads to, at this reference: it has the key's entry where the tree has
@@ -71,8 +71,8 @@ gives_absent has k low c t b p top x is ep bit =
     let tree = subst (IsTree low) x.is top.tree in
     subst (λ (y : Tree). Gives has k (entries_of y) None) (sym x.is)
     (λ e i alike. not_missing b.offset (at k b.offset) x.below tree.5
-        (missing_of 0 47 (at k b.offset) x.below (let z : 0 ≤ at k b.offset = omega arith in z) (is.positions b.offset) (rising_of b.offset 0 x.below (let z : 0 ≤ 47 = omega arith in z) tree.5) (λ z. bit (same ∙ z)))
-        e i (ap (λ (y : List ℕ). at y b.offset) alike))
+    (missing_of 0 47 (at k b.offset) x.below (let z : 0 ≤ at k b.offset = omega arith in z) (is.positions b.offset) (rising_of b.offset 0 x.below (let z : 0 ≤ 47 = omega arith in z) tree.5) (λ z. bit (same ∙ z)))
+    e i (ap (λ (y : List ℕ). at y b.offset) alike))
 
 -- a key that ends before a branch's offset is not below it: each key there would end with it, and two differ
 shorter : (o : ℕ) (k y : List ℕ) → IsKey k → IsKey y → Same o y k → length k < o → (n : ℕ) → length k ≡ n → length y ≤ length k
@@ -87,7 +87,7 @@ shorter o k y kk ky same l (suc n) e = elim (cases_lt (length k) (length y)) [
       let place : label.0 ≡ n = let f = label.1 in omega arith in
       let end = same n (omega arith) ∙ kk.ended n (sym e) in
       let more = subst (λ (i : ℕ). 0 < at y i) place label.2 in absurd (omega arith)
-    )
+      )
   | inr g ↦ g
 ]
 

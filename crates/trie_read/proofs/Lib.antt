@@ -1,3 +1,4 @@
 mod UnpackLaws
 mod FindLaws
 mod SizeLaws
+mod ExampleTrie

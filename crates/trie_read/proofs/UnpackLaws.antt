@@ -1,17 +1,16 @@
 -- What unpacking the top cell of a tree tells of the tree.
-use Rattle.std.proofs.Common.{◌≡◌, ℕ, suc, ◌+◌, ◌-◌, ◌<◌, ◌≤◌, length, Option, Some, None, arith, sym, ◌∙◌, ap, subst}
+use Rattle.std.proofs.Common.{◌≡◌, ℕ, ◌+◌, ◌-◌, ◌<◌, length, Option, Some, None, arith, sym, ◌∙◌, ap, subst}
 use Rattle.packed_node.specs.declared.Cell.{Cell}
 use Rattle.packed_node.specs.declared.Leaf.{Leaf}
 use Rattle.packed_node.specs.declared.Branch.{Branch}
 use Rattle.packed_node.specs.declared.Node.{Node}
 use Rattle.packed_node.specs.declared.Node.TheVariants as node
 use Rattle.packed_node.specs.Nodes.{IsNode, packed}
-use Rattle.trie_model.specs.Keys.{Entry}
 use Rattle.trie_model.specs.Trees.{Tree, Twigs, IsTree, bitmap_of}
 use Rattle.trie_model.specs.Trees.Tree.{leaf, branch}
-use Rattle.trie_model.specs.Memory.{node_of, Beneath}
+use Rattle.trie_model.specs.Memory.{node_of}
 use Rattle.trie_model.proofs.TopLaws.{is_node}
-use Rattle.trie_read.specs.Reads.{IsTop, IsLeafOf}
+use Rattle.trie_read.specs.Reads.{IsTop}
 
 -- a top, and what unpacking its cell gave
 pub record Unpacked (has : ℕ → Cell → Type 0) (low : ℕ) (c : Cell) (t : Tree) (r : Option Node) : Type 0 where

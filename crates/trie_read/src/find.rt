@@ -6,10 +6,9 @@ ghost use Rattle.trie_model.specs.Trees.{Tree, entries_of};
 ghost use Rattle.trie_model.specs.Memory.{Stands};
 ghost use Rattle.trie_read.specs.Reads.{IsTop, IsLeafOf, EachTells, Gives};
 
+use super::SearchKey;
 use chunk_cells::{CellRead, read_front};
 use packed_node::{Cell, Leaf, Node, Ref, unpack};
-
-use super::SearchKey;
 
 /// Where the item of the key lies; `None` where the key is not there.
 pub fn get<C: CellRead, K: SearchKey>(cells: &mut C, root: Option<Ref>, key: &K) -> Option<Leaf>

@@ -40,3 +40,6 @@ pub trait SearchKey {
 
     ghost by_the_front: { (key item : List ℕ) → tells key item ↔ tells key (take 256 item) };
 }
+
+#[cfg(test)]
+mod tests;

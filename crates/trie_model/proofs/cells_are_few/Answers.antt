@@ -1,4 +1,4 @@
-use Rattle.std.proofs.Common.{◌^◌, ◌≤◌, arith}
+use Rattle.std.proofs.Common.{◌^◌, arith}
 use Rattle.trie_model.specs.Memory.{listed}
 use Rattle.trie_model.proofs.FewLaws.{few_cells}
 use Rattle.trie_model.proofs.cells_are_few.Goals as goal

@@ -1,4 +1,4 @@
-use Rattle.std.proofs.Common.{◌+◌, ◌/◌, ◌<◌, length, arith}
+use Rattle.std.proofs.Common.{arith}
 use Rattle.trie_model.specs.Memory.{item_cell}
 use Rattle.trie_read.proofs.find.is_of.Goals as goal
 

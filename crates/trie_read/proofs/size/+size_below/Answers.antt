@@ -1,10 +1,6 @@
-use Rattle.std.proofs.Common.{◌≡◌, ℕ, suc, ◌+◌, ◌-◌, ◌<◌, ◌≤◌, count_ones, length, arith, sym, ◌∙◌, subst, rules}
-use Rattle.packed_node.specs.declared.Cell.{Cell}
-use Rattle.trie_model.specs.Trees.{Tree, entries, IsTree}
-use Rattle.trie_model.specs.Memory.{top_cell, Beneath}
-use Rattle.trie_model.specs.Shape.{nodes_in}
-use Rattle.trie_read.specs.Reads.{IsTop}
-use Rattle.trie_read.proofs.UnpackLaws.{BranchTold, never_none, branch_told, falls_in}
+use Rattle.std.proofs.Common.{◌+◌, ◌<◌, count_ones, arith, sym, ◌∙◌, subst, rules}
+use Rattle.trie_model.specs.Memory.{top_cell}
+use Rattle.trie_read.proofs.UnpackLaws.{never_none, branch_told, falls_in}
 use Rattle.trie_read.proofs.SizeLaws.{twigs_counted, here_of, part_of, names_past, nodes_past, names_le, names_of_branch, nodes_of_branch}
 use Rattle.trie_read.proofs.size.+size_below.Goals as goal
 

@@ -1,8 +1,7 @@
-use Rattle.std.proofs.Common.{◌≡◌, ℕ, ◌≤◌, ◌^◌, List, [], length, Option, arith, sym, ap, ◌∙◌, subst}
+use Rattle.std.proofs.Common.{◌≡◌, ℕ, ◌^◌, List, [], Option, arith, sym, ap, ◌∙◌, subst}
 use Rattle.trie_model.specs.Keys.{Entry}
-use Rattle.trie_model.specs.Trees.{Tree, entries_of}
-use Rattle.trie_model.specs.Memory.{Stands, IsTrieAt, Beneath, top_cell}
-use Rattle.trie_model.specs.Shape.{nodes, keys_of, nodes_of}
+use Rattle.trie_model.specs.Memory.{Stands, Beneath, top_cell}
+use Rattle.trie_model.specs.Shape.{nodes, keys_of}
 use Rattle.trie_model.proofs.ShapeLaws.{nodes_are, nodes_le, nodes-none}
 use Rattle.trie_model.proofs.FewLaws.{few_cells}
 use Rattle.trie_read.specs.Reads.{IsTop}
@@ -14,7 +13,7 @@ size_below-requires g c =
     let few = few_cells (2 ^ 22) (g.C.CellRead.has c.args.cells.now) c.in-Some.at h.0 c.requires.0 (omega arith) h.1 in
     let fewer = nodes_le h.0 c.in-Some.at in
     let top : IsTop (g.C.CellRead.has c.cell-node.new.self) 0 c.cell-node.result h.0 =
-        record { tree = h.1.shape; is = c.cell-node.ensures.value (top_cell h.0) h.1.top; beneath = subst (λ s. Beneath (g.C.CellRead.has s) h.0) (sym c.cell-node.ensures.same) h.1.beneath } in
+    record { tree = h.1.shape; is = c.cell-node.ensures.value (top_cell h.0) h.1.top; beneath = subst (λ s. Beneath (g.C.CellRead.has s) h.0) (sym c.cell-node.ensures.same) h.1.beneath } in
     (h.0, top, omega arith)
 
 pub returns-in-None-clause-nodes : goal.returns-in-None-clause-nodes
@@ -26,5 +25,5 @@ pub returns-in-Some-clause-nodes : goal.returns-in-Some-clause-nodes
 returns-in-Some-clause-nodes g c version stands =
     let h = subst (λ (r : Option ℕ). Stands (g.C.CellRead.has c.args.cells.now) r version) c.in-Some.is stands in
     let top : IsTop (g.C.CellRead.has c.cell-node.new.self) 0 c.cell-node.result h.0 =
-        record { tree = h.1.shape; is = c.cell-node.ensures.value (top_cell h.0) h.1.top; beneath = subst (λ s. Beneath (g.C.CellRead.has s) h.0) (sym c.cell-node.ensures.same) h.1.beneath } in
+    record { tree = h.1.shape; is = c.cell-node.ensures.value (top_cell h.0) h.1.top; beneath = subst (λ s. Beneath (g.C.CellRead.has s) h.0) (sym c.cell-node.ensures.same) h.1.beneath } in
     c.size_below.ensures.nodes h.0 top ∙ sym (nodes_are 0 h.0 h.1.shape) ∙ ap (λ (es : List Entry). nodes (keys_of es)) h.1.holds
