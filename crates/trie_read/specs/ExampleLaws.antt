@@ -1,6 +1,6 @@
 -- Keys of one letter, and a trie of two of them.
 use Rattle.std.proofs.Common.{◌≡◌, ◌↔◌, ℕ, zero, suc, ◌<◌, ◌≤◌, List, length, take, get_or, get_or-take, arith, refl, sym, ap, ◌∙◌}
-use Rattle.trie_model.specs.Keys.{at, IsKey}
+use Rattle.trie_model.specs.Keys.{at, IsKey, IsItem}
 use Rattle.trie_read.specs.Example.{key_of_letter, TellsLetter}
 
 pub letter_is_key : (p : ℕ) → 17 ≤ p → p ≤ 42 → IsKey (key_of_letter p)
@@ -26,8 +26,8 @@ one_letter a b item x y =
     let e : x.position ≡ y.position = let f = x.letter in let g = y.letter in omega arith in
     x.key_is ∙ ap key_of_letter e ∙ sym y.key_is
 
-pub letter_by_front : (key item : List ℕ) → TellsLetter key item ↔ TellsLetter key (take 256 item)
-letter_by_front key item =
+pub letter_by_front : (key item : List ℕ) → IsItem item → TellsLetter key item ↔ TellsLetter key (take 256 item)
+letter_by_front key item is =
     let zeroth : get_or (take 256 item) 0 0 ≡ get_or item 0 0 = get_or-take 256 item 0 0 (omega arith) in
     let first : get_or (take 256 item) 1 0 ≡ get_or item 1 0 = get_or-take 256 item 1 0 (omega arith) in (
       λ t. record { label = zeroth ∙ t.label; position = t.position; letter = first ∙ t.letter; key_is = t.key_is },

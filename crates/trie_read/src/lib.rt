@@ -14,7 +14,7 @@ pub use size::{count, nodes};
 /// What a search needs of a key.
 pub trait SearchKey {
     ghost use Rattle.std.specs.Prelude.{◌≡◌, ◌↔◌, ℕ, List, IsTrue, length, take};
-    ghost use Rattle.trie_model.specs.Keys.{at, IsKey};
+    ghost use Rattle.trie_model.specs.Keys.{at, IsKey, IsItem};
 
     // The key's positions.
     ghost positions: { Self → List ℕ };
@@ -38,7 +38,7 @@ pub trait SearchKey {
 
     ghost one_key: { (a b item : List ℕ) → tells a item → tells b item → a ≡ b };
 
-    ghost by_the_front: { (key item : List ℕ) → tells key item ↔ tells key (take 256 item) };
+    ghost by_the_front: { (key item : List ℕ) → IsItem item → tells key item ↔ tells key (take 256 item) };
 }
 
 #[cfg(test)]
