@@ -1,5 +1,5 @@
 -- The sum of what the reached references weigh, and a test that each passes, are those of the list of them.
-use Rattle.std.proofs.Common.{◌≡◌, ℕ, zero, suc, ◌+◌, ◌<◌, Bool, true, false, ◌&&◌, ◌++◌, sum_by, arith, refl, sym, ◌∙◌, ap, subst}
+use Rattle.std.proofs.Common.{◌≡◌, ℕ, zero, suc, ◌+◌, ◌<◌, Bool, true, false, ◌&&◌, ◌++◌, count_by, eqb, cond, sum_by, arith, refl, sym, ◌∙◌, ap, subst}
 use Rattle.std.proofs.lemmas.Bool.{true≢false}
 use Rattle.std.proofs.lemmas.List.Sums.{sum_by-cons, sum_by-append}
 use Rattle.std.proofs.lemmas.List.Folds.{list_all-append}
@@ -7,7 +7,7 @@ use Rattle.std.specs.List.{list_all}
 use Rattle.trie_model.specs.Trees.{Tree, Twigs, cells_in}
 use Rattle.trie_model.specs.Trees.Tree.{leaf, branch}
 use Rattle.trie_model.specs.Trees.Twigs.{none, twig}
-use Rattle.trie_model.specs.Reach.{side_by_side, reach_below, reach_twigs, row, weigh_tree, weigh, WithinTree, Within}
+use Rattle.trie_model.specs.Reach.{side_by_side, reach, live_in, in_chunk, reach_below, reach_twigs, row, weigh_tree, weigh, WithinTree, Within}
 
 row_is : (w : ℕ → ℕ) (r n : ℕ) → sum_by w (side_by_side r n) ≡ row w r n
 row_is w r zero = refl
@@ -23,6 +23,13 @@ mutual
   weighed_in w r (twig p t rest) =
       let a = weighed w t in let b = weighed_in w (suc r) rest in let c = sum_by-append w (reach_below t) (reach_twigs (suc r) rest) in
       sum_by-cons w r (reach_below t ++ reach_twigs (suc r) rest) ∙ omega arith
+
+-- how often a reference is met, and how many of them lie in a chunk
+pub met : (q r : ℕ) (t : Tree) → count_by (λ x. eqb x q) (reach r t) ≡ cond (eqb r q) 1 0 + weigh_tree (λ x. cond (eqb x q) 1 0) t
+met q r t = let a = weighed (λ x. cond (eqb x q) 1 0) t in sum_by-cons (λ x. cond (eqb x q) 1 0) r (reach_below t) ∙ omega arith
+
+pub live_is : (chunk r : ℕ) (t : Tree) → live_in chunk r t ≡ in_chunk chunk r + weigh_tree (in_chunk chunk) t
+live_is chunk r t = let a = weighed (in_chunk chunk) t in sum_by-cons (in_chunk chunk) r (reach_below t) ∙ omega arith
 
 pub both_true : (a b : Bool) → a ≡ true → b ≡ true → (a && b) ≡ true
 both_true a b e f = ap (λ x. x && b) e ∙ f

@@ -1,11 +1,11 @@
 -- What follows from the definitions, whatever the trie.
-use Rattle.std.specs.Prelude.{◌≡◌, ◌≤◌, ◌^◌, ◌↔◌, ℕ, Bool, true, List, length, sum_by}
+use Rattle.std.specs.Prelude.{◌≡◌, ◌+◌, ◌≤◌, ◌^◌, ◌↔◌, ℕ, Bool, true, List, length, sum_by}
 use Rattle.std.specs.List.{list_all}
 use Rattle.packed_node.specs.declared.Cell.{Cell}
 use Rattle.trie_model.specs.Keys.{at, IsKey, Entry, Rises}
 use Rattle.trie_model.specs.Changes.{Inserted}
 use Rattle.trie_model.specs.Trees.{Tree, entries_of, IsTree}
-use Rattle.trie_model.specs.Reach.{reach, reach_below, weigh_tree, WithinTree}
+use Rattle.trie_model.specs.Reach.{reach, reach_below, live_in, in_chunk, weigh_tree, WithinTree}
 use Rattle.trie_model.specs.Memory.{listed, IsTrieAt}
 use Rattle.trie_model.specs.Shape.{nodes, keys_of, cells, nodes_of}
 
@@ -31,6 +31,9 @@ CellsAreOfTheEntries = (low r : ℕ) (t : Tree) → IsTree low t → length (rea
 -- the sum of what the reached references weigh, and a test that each passes
 abbrev pub ReachIsWeighed : Type 0
 ReachIsWeighed = (weight : ℕ → ℕ) (t : Tree) → weigh_tree weight t ≡ sum_by weight (reach_below t)
+
+abbrev pub LiveIsWeighed : Type 0
+LiveIsWeighed = (chunk r : ℕ) (t : Tree) → live_in chunk r t ≡ in_chunk chunk r + weigh_tree (in_chunk chunk) t
 
 abbrev pub ReachIsTested : Type 0
 ReachIsTested = (test : ℕ → Bool) (t : Tree) → WithinTree test t ↔ (list_all test (reach_below t) ≡ true)

@@ -1,5 +1,5 @@
 -- The references that a trie reaches: of its nodes, and of the cells of its items.
-use Rattle.std.specs.Prelude.{◌≡◌, ℕ, zero, suc, ◌+◌, ◌/◌, ◌<◌, Bool, true, List, [], ◌∷◌, ◌++◌, map, ◌==◌, if◌then◌else◌}
+use Rattle.std.specs.Prelude.{◌≡◌, ℕ, zero, suc, ◌+◌, ◌/◌, ◌<◌, Bool, true, List, [], ◌∷◌, ◌++◌, map, count_by, ◌==◌, if◌then◌else◌}
 use Rattle.trie_model.specs.Trees.{Tree, Twigs, cells_in}
 use Rattle.trie_model.specs.Trees.Tree.{leaf, branch}
 use Rattle.trie_model.specs.Trees.Twigs.{none, twig}
@@ -27,6 +27,10 @@ reach r t = r ∷ reach_below t
 -- the chunks that they lie in
 abbrev pub chunks : ℕ → Tree → List ℕ
 chunks r t = map (λ q. q / 1024) (reach r t)
+
+-- how many of them lie in a chunk
+abbrev pub live_in : ℕ → ℕ → Tree → ℕ
+live_in chunk r t = count_by (λ q. q / 1024 == chunk) (reach r t)
 
 -- Said in other ways, for proofs: each reference below the top node passes a test, and
 abbrev mutual

@@ -4,7 +4,7 @@
 //! The functions here do nothing. The contract of each is a law that follows from the definitions.
 #![tactic(auto)]
 
-ghost use Rattle.trie_model.specs.Laws.{KeysAreRead, LeavesRise, OnePlace, NodesAreOfTheKeys, CellsAreOfTheEntries, ReachIsWeighed, ReachIsTested, CellsAreFew};
+ghost use Rattle.trie_model.specs.Laws.{KeysAreRead, LeavesRise, OnePlace, NodesAreOfTheKeys, CellsAreOfTheEntries, ReachIsWeighed, LiveIsWeighed, ReachIsTested, CellsAreFew};
 
 /// A key is told by what it reads at each place, so that 0 past its end leaves no doubt.
 pub fn keys_are_read()
@@ -30,6 +30,7 @@ pub fn shape_is_of_the_keys()
 /// What is said of the reached references by a walk through the tree is so of their list.
 pub fn reach_is_a_list()
     ensures weighed { ReachIsWeighed }
+    ensures live { LiveIsWeighed }
     ensures tested { ReachIsTested }
 {}
 
