@@ -1,5 +1,5 @@
 -- A tree has as many nodes as its keys say, and reaches as many cells as its entries say.
-use Rattle.std.proofs.Common.{◌≡◌, ℕ, zero, suc, ◌+◌, ◌<◌, ◌≤◌, ◌⊎◌, Bool, true, false, cond, eqb, ◌&&◌, List, [], ◌∷◌, ◌++◌, length, sum_by, arith, inl, inr, refl, sym, ◌∙◌, ap, subst, length-append, append-nil}
+use Rattle.std.proofs.Common.{◌≡◌, ℕ, zero, suc, ◌+◌, ◌<◌, ◌≤◌, ◌⊎◌, Bool, true, false, cond, eqb, ◌&&◌, List, [], ◌∷◌, ◌++◌, length, map, sum_by, arith, inl, inr, refl, sym, ◌∙◌, ap, subst, length-append, append-nil}
 use Rattle.std.proofs.lemmas.Bool.{cases_lt, true≢false}
 use Rattle.std.proofs.lemmas.Bool.Decides.{nat_tests}
 use Rattle.std.proofs.lemmas.List.{map-append, length-map}
@@ -11,7 +11,7 @@ use Rattle.trie_model.specs.Trees.{Tree, Twigs, entries_of, entries, count, cell
 use Rattle.trie_model.specs.Trees.Tree.{leaf, branch}
 use Rattle.trie_model.specs.Trees.Twigs.{none, twig}
 use Rattle.trie_model.specs.Reach.{side_by_side, reach, reach_below, reach_twigs}
-use Rattle.trie_model.specs.Shape.{alike, difference_from, first_difference, part, nodes_within, nodes, keys_of, cells, nodes_of, nodes_in}
+use Rattle.trie_model.specs.Shape.{alike, difference_from, first_difference, part, parts, nodes_within, nodes, keys_of, cells, nodes_of, nodes_in}
 use Rattle.trie_model.proofs.KeyLaws.{in_left, in_right}
 use Rattle.trie_model.proofs.SplitLaws.{keys_upper, rising_of}
 use Rattle.trie_model.proofs.GrowthLaws.{some_entry}
@@ -121,7 +121,12 @@ one_node : (n : ℕ) (key : List ℕ) → nodes_within (suc n) (key ∷ []) ≡ 
 unfolding nodes_within
 one_node n key = refl
 
-many_nodes : (n : ℕ) (keys : List (List ℕ)) → 2 ≤ length keys → nodes_within (suc n) keys ≡ suc (sum_by (λ p. nodes_within n (part (first_difference keys) p keys)) (range_with_len 0 47))
+sum_by-map : (f : List (List ℕ) → ℕ) (g : ℕ → List (List ℕ)) (xs : List ℕ) → sum_by f (map g xs) ≡ sum_by (λ x. f (g x)) xs
+sum_by-map f g [] = refl
+sum_by-map f g (x ∷ xs) =
+    let a = sum_by-map f g xs in let b = sum_by-cons f (g x) (map g xs) in let c = sum_by-cons (λ y. f (g y)) x xs in omega arith
+
+many_nodes : (n : ℕ) (keys : List (List ℕ)) → 2 ≤ length keys → nodes_within (suc n) keys ≡ suc (sum_by (nodes_within n) (parts keys))
 unfolding nodes_within
 many_nodes n [] l = absurd (omega arith)
 many_nodes n (key ∷ []) l = absurd (omega arith)
@@ -199,7 +204,7 @@ mutual
       let long : 2 ≤ length (keys_of (entries below)) = let c = length-map (entries below) (λ (e : Entry). e.key) in let d = two_long o (entries below) two in omega arith in
       let at_o = first_is o (entries below) h.4 two h.1 in
       let sum = parts_sum 47 n o 0 below (omega arith) h.5 (told_in below o 0 n 0 h.5 (omega (arith, l)) (inr h.3)) in
-      many_nodes n (keys_of (entries below)) long ∙ ap suc (ap (λ i. sum_by (λ p. nodes_within n (part i p (keys_of (entries below)))) (range_with_len 0 47)) at_o ∙ sum)
+      many_nodes n (keys_of (entries below)) long ∙ ap suc (sum_by-map (nodes_within n) (λ p. part (first_difference (keys_of (entries below))) p (keys_of (entries below))) (range_with_len 0 47) ∙ ap (λ i. sum_by (λ p. nodes_within n (part i p (keys_of (entries below)))) (range_with_len 0 47)) at_o ∙ sum)
 
   -- b entries lie in the twigs before these
   told_in : (ts : Twigs) (o lo n b : ℕ) → AreTwigs o lo ts → b + length (entries ts) ≤ suc n → (0 < b) ⊎ (2 ≤ count ts) → Told n ts

@@ -32,7 +32,7 @@ chunks r t = map (λ q. q / 1024) (reach r t)
 abbrev pub live_in : ℕ → ℕ → Tree → ℕ
 live_in chunk r t = count_by (λ q. q / 1024 == chunk) (reach r t)
 
--- Said in other ways, for proofs: each reference below the top node passes a test, and
+-- Proofs go along the tree in place of the list (laws join the two). Each reference below the top node passes the test:
 abbrev mutual
   pub WithinTree : (ℕ → Bool) → Tree → Type 0
   WithinTree P (leaf e where_at) = (k : ℕ) → k < cells_in e.item → P (where_at + k) ≡ true
@@ -42,7 +42,7 @@ abbrev mutual
   Within P r none = Unit {0}
   Within P r (twig p t rest) = (P r ≡ true) × WithinTree P t × Within P (suc r) rest
 
--- the sum of what they weigh, where each reference weighs w
+-- The sum of what the references weigh, each by w: n side by side, and those below the top node.
 abbrev pub row : (ℕ → ℕ) → ℕ → ℕ → ℕ
 row w r zero = 0
 row w r (suc n) = w r + row w (suc r) n

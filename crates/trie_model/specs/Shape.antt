@@ -25,13 +25,16 @@ first_difference keys = difference_from 504 0 keys
 abbrev pub part : ℕ → ℕ → List (List ℕ) → List (List ℕ)
 part place position keys = filter (λ k. at k place == position) keys
 
+-- those with position 0, 1, .. at the first place at which they differ
+abbrev pub parts : List (List ℕ) → List (List (List ℕ))
+parts keys = map (λ position. part (first_difference keys) position keys) (range_with_len 0 47)
+
 -- the parts of n keys have fewer keys each, so n steps are enough
 unfoldable pub nodes_within : ℕ → List (List ℕ) → ℕ
 nodes_within zero keys = 0
 nodes_within (suc n) [] = 0
 nodes_within (suc n) (key ∷ []) = 1
-nodes_within (suc n) (key ∷ (other ∷ keys)) =
-    suc (sum_by (λ position. nodes_within n (part (first_difference (key ∷ (other ∷ keys))) position (key ∷ (other ∷ keys)))) (range_with_len 0 47))
+nodes_within (suc n) (key ∷ (other ∷ keys)) = suc (sum_by (nodes_within n) (parts (key ∷ (other ∷ keys))))
 
 unfoldable pub nodes : List (List ℕ) → ℕ
 nodes keys = nodes_within (length keys) keys
