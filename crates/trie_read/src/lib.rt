@@ -24,7 +24,8 @@ pub trait SearchKey {
 
     /// How many positions the key has.
     fn len(&self) -> u16
-        ensures { result ≡ length (positions self.now) };
+        ensures length { result ≡ length (positions self.now) }
+        ensures key { IsKey (positions self.now) };
 
     /// The position at a place, 0 past the key's end.
     fn at(&self, place: u16) -> u8
@@ -33,8 +34,6 @@ pub trait SearchKey {
     /// Whether this is the key that an item says, of which up to 256 octets are given.
     fn leads(&self, front: &[u8]) -> bool
         ensures { IsTrue result ↔ tells (positions self.now) front.now };
-
-    ghost are_positions: { (key : Self) → IsKey (positions key) };
 
     ghost one_key: { (a b item : List ℕ) → tells a item → tells b item → a ≡ b };
 

@@ -18,7 +18,7 @@ struct Letter {
 
 impl SearchKey for Letter {
     ghost use Rattle.trie_read.specs.Example.{key_of_letter, TellsLetter};
-    ghost use Rattle.trie_read.specs.ExampleLaws.{letter_is_key, one_letter, letter_by_front};
+    ghost use Rattle.trie_read.specs.ExampleLaws.{one_letter, letter_by_front};
 
     ghost positions = { λ s. key_of_letter s.position };
 
@@ -35,8 +35,6 @@ impl SearchKey for Letter {
     fn leads(&self, front: &[u8]) -> bool {
         front.len() > 1 && front[0] == 1 && front[1] == self.position + 80
     }
-
-    ghost are_positions = { λ s. letter_is_key s.position s.least s.most };
 
     ghost one_key = { one_letter };
 
