@@ -2,11 +2,9 @@
 use Rattle.std.proofs.Common.{◌≡◌, ℕ, zero, suc, ◌+◌, ◌-◌, ◌<◌, ◌≤◌, List, [], ◌∷◌, ◌++◌, length, take, drop, get_or, sym, ap, ◌∙◌, refl, arith, length-append, length-take, append_assoc, length-drop, Some, take-append-drop}
 use Rattle.std.specs.List.{AllByRecursion, slice_get}
 use Rattle.std.proofs.lemmas.List.{take_at, drop_at, drop-drop, drop_more}
-use Rattle.std.proofs.lemmas.Grind.{common_steps}
 use Rattle.zone_model.specs.Names.{wire, IsName, IsLabel, IsFolded, BeginsWith}
 use Rattle.dns_name.specs.Spelling.{IsNameSpelled, BeginsWithLabel, HasLabelOf}
-use Rattle.dns_name.proofs.FillLemmas.{body, wire-append, wire-body, body-push}
-use Rattle.dns_name.proofs.LabelLemmas.{all_append}
+use Rattle.dns_name.proofs.BodyLemmas.{body, wire-append, wire-body, body-push, wire_positive, all_append}
 
 -- bytes that are each below 256, by their places
 all_small : (n : ℕ) (xs : List ℕ) → ((i : ℕ) → get_or xs i 0 < 256) → AllByRecursion (λ c. c < 256) (take n xs)
@@ -31,10 +29,6 @@ get_or_first : (at : ℕ) (bytes : List ℕ) → get_or (drop at bytes) 0 0 ≡ 
 get_or_first zero bytes h = h
 get_or_first (suc at) [] h = refl
 get_or_first (suc at) (b ∷ bytes) h = get_or_first at bytes h
-
-wire_positive : (name : List (List ℕ)) → 0 < length (wire name)
-wire_positive [] = omega arith
-wire_positive (l ∷ ls) = omega arith
 
 -- what is known after the labels `done`, whose octets come before the place `at`
 pub record Scanned (bytes : List ℕ) (at : ℕ) : Type 0 where
@@ -117,7 +111,3 @@ scanned_end bytes at s over name is b =
     let more : at < length bytes = omega (arith, length-drop at bytes) in
     let full = over more in
     absurd (omega (arith, is.short))
-
--- the rest of a slice
-pub rest_is : (bytes : List ℕ) (at : ℕ) → take (length bytes - at) (drop at bytes) ≡ drop at bytes
-rest_is bytes at = grind (arith, common_steps)

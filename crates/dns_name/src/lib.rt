@@ -8,6 +8,7 @@ ghost use Rattle.dns_name.specs.Spelling.{IsNameSpelled};
 
 mod buffer;
 mod order;
+mod pieces;
 mod print;
 mod scan;
 #[cfg(test)]
@@ -19,6 +20,10 @@ use crate::buffer::Octets;
 use crate::scan::wire_len;
 use crate::wire::{count, first, skip, under};
 use std::marker::Model;
+
+// The most octets of a name and of a label (RFC 1035, section 2.3.4).
+const MOST_OCTETS: usize = 255;
+const MOST_LABEL_OCTETS: usize = 63;
 
 // An array of zeros.
 fn blank() -> [u8; 255]
