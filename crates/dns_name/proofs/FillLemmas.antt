@@ -10,7 +10,7 @@ use Rattle.dns_name.specs.Pieces.{pieces_at, IsOctetAt}
 use Rattle.dns_name.specs.Reading.{HasRoom, IsLaid}
 use Rattle.dns_name.proofs.PieceLemmas.{pieces_end}
 use Rattle.dns_name.proofs.BodyLemmas.{body, wire-body, length-wire, body-append, body-push, length-body-push}
-use Rattle.dns_name.proofs.TextLemmas.{onto-onto, onto-nil, onto-Err, from-dot, from-empty, from-bad, from-long, from-octet, from-end_dot, from-end}
+use Rattle.dns_name.proofs.TextLemmas.{onto-onto, onto-nil, from-dot, from-empty, from-bad, from-long, from-octet, from-end_dot, from-end}
 
 -- ---- room
 

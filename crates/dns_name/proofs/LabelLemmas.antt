@@ -1,16 +1,13 @@
 -- What is read is a name.
-use Rattle.std.proofs.Common.{◌≡◌, ℕ, ◌+◌, ◌<◌, ◌≤◌, ◌^◌, suc, Bool, true, false, List, [], ◌∷◌, ◌++◌, length, get_or, sym, ap, ◌∙◌, subst, refl, arith, length-append, Result, Ok, Err, inl, inr, cond, ltb, eqb}
-use Rattle.std.proofs.lemmas.Bool.{cases_eq}
+use Rattle.std.proofs.Common.{◌≡◌, ℕ, ◌+◌, ◌<◌, ◌≤◌, ◌^◌, Bool, true, false, List, [], ◌∷◌, ◌++◌, length, get_or, sym, ap, ◌∙◌, subst, refl, arith, length-append, Result, Ok, Err, cond, ltb, eqb}
 use Rattle.std.proofs.lemmas.Bool.Decides.{nat_tests}
-use Rattle.std.specs.List.{AllByRecursion}
-use Rattle.std.specs.Char.{to_ascii_lowercase}
-use Rattle.zone_model.specs.Names.{wire, IsLabel, IsFolded, IsName}
+use Rattle.zone_model.specs.Names.{wire, IsLabel, IsName}
 use Rattle.zone_model.specs.NameText.{labels_of, fitting, completed, name_of}
 use Rattle.zone_model.specs.declared.NameRefusal.{NameRefusal}
 use Rattle.zone_model.specs.declared.NameRefusal.TheVariants.{EmptyLabel, LongName}
 use Rattle.std.proofs.lemmas.List.{append_cancel_right}
 use Rattle.dns_name.specs.Reading.{Measures, HasRoom, IsLaid, IsMeasured}
-use Rattle.dns_name.proofs.BodyLemmas.{body, wire-body, length-wire, wire-append, all_append}
+use Rattle.dns_name.proofs.BodyLemmas.{body, wire-body, wire-append, all_append}
 use Rattle.dns_name.proofs.FillLemmas.{inner}
 
 -- ---- what is read is a name, unless it is too long

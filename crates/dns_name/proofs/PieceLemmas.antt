@@ -1,11 +1,10 @@
 -- The pieces of a text, one after another.
-use Rattle.std.proofs.Common.{◌≡◌, ℕ, zero, suc, ◌+◌, ◌-◌, ◌*◌, ◌<◌, ◌≤◌, Bool, true, false, List, [], ◌∷◌, length, drop, get_or, sym, ap, ◌∙◌, refl, arith, length-drop, take, add-zero, Option, Some, None, eqb}
+use Rattle.std.proofs.Common.{◌≡◌, ℕ, zero, suc, ◌+◌, ◌-◌, ◌<◌, ◌≤◌, false, List, [], ◌∷◌, length, drop, get_or, sym, ap, ◌∙◌, refl, arith, length-drop, take, add-zero, Option, Some, None, eqb}
 use Rattle.std.proofs.lemmas.List.{drop_more, drop-drop, drop_all}
 use Rattle.std.proofs.lemmas.Bool.Decides.{nat_tests}
 use Rattle.std.proofs.lemmas.Grind.{common_steps}
-use Rattle.std.specs.Char.{to_ascii_lowercase, is_ascii_digit}
-use Rattle.zone_model.specs.Names.{IsFolded}
-use Rattle.zone_model.specs.Escapes.{escaped_octet, escape_len, number_of_three}
+use Rattle.std.specs.Char.{to_ascii_lowercase}
+use Rattle.zone_model.specs.Escapes.{escaped_octet, escape_len}
 use Rattle.zone_model.specs.NameText.{Piece, Dot, Octet, Bad, piece_of, escape_piece, taken, pieces_from}
 use Rattle.dns_name.specs.Pieces.{pieces_at, IsOctetAt}
 
@@ -22,7 +21,7 @@ pieces-skip (suc n) at (c ∷ text) h =
     let same : at + 1 + n ≡ at + suc n = omega arith in
     pieces-skip n (at + 1) text le ∙ ap (λ (k : ℕ). pieces_from 0 k (drop n text)) same
 
-pieces-cons : (at c : ℕ) (text : List ℕ) → pieces_from 0 at (c ∷ text) ≡ piece_of at c text ∷ pieces_from (taken c text) (at + 1) text
+pub pieces-cons : (at c : ℕ) (text : List ℕ) → pieces_from 0 at (c ∷ text) ≡ piece_of at c text ∷ pieces_from (taken c text) (at + 1) text
 unfolding pieces_from
 pieces-cons at c text = refl
 
@@ -34,13 +33,13 @@ pieces_here bytes at h = ap (pieces_from 0 at) (drop_more bytes at 0 h) ∙ piec
 pub piece_dot : (bytes : List ℕ) (at : ℕ) → at < length bytes → get_or bytes at 0 ≡ 46 → pieces_at bytes at ≡ Dot at ∷ pieces_at bytes (at + 1)
 piece_dot bytes at h e = pieces_here bytes at h ∙ ap (λ (c : ℕ). piece_of at c (drop (at + 1) bytes) ∷ pieces_from (taken c (drop (at + 1) bytes)) (at + 1) (drop (at + 1) bytes)) e
 
-piece_of-plain : (at c : ℕ) (text : List ℕ) → (c ≡ 46 → ⊥) → (c ≡ 92 → ⊥) → piece_of at c text ≡ Octet at (to_ascii_lowercase c)
+pub piece_of-plain : (at c : ℕ) (text : List ℕ) → (c ≡ 46 → ⊥) → (c ≡ 92 → ⊥) → piece_of at c text ≡ Octet at (to_ascii_lowercase c)
 piece_of-plain at c text h k =
     let p : eqb c 46 ≡ false = grind arith in
     let q : eqb c 92 ≡ false = grind arith in
     rw (p, q) refl
 
-taken-plain : (c : ℕ) (text : List ℕ) → (c ≡ 92 → ⊥) → taken c text ≡ 0
+pub taken-plain : (c : ℕ) (text : List ℕ) → (c ≡ 92 → ⊥) → taken c text ≡ 0
 taken-plain c text k = let q : eqb c 92 ≡ false = grind arith in rw q refl
 
 pub piece_plain : (bytes : List ℕ) (at octet : ℕ) → at < length bytes → (get_or bytes at 0 ≡ 46 → ⊥) → (get_or bytes at 0 ≡ 92 → ⊥) → octet < 256
@@ -63,7 +62,7 @@ pub piece_escape : (bytes : List ℕ) (at octet len lower : ℕ) → at < length
 piece_escape bytes at octet len lower h e known is_len fits small low =
     let rest = drop (at + 1) bytes in
     let begins : pieces_at bytes at ≡ escape_piece at (escaped_octet (drop (at + 1) bytes)) ∷ pieces_from (escape_len (drop (at + 1) bytes)) (at + 1) (drop (at + 1) bytes)
-        = pieces_here bytes at h ∙ ap (λ (c : ℕ). piece_of at c (drop (at + 1) bytes) ∷ pieces_from (taken c (drop (at + 1) bytes)) (at + 1) (drop (at + 1) bytes)) e in
+    = pieces_here bytes at h ∙ ap (λ (c : ℕ). piece_of at c (drop (at + 1) bytes) ∷ pieces_from (taken c (drop (at + 1) bytes)) (at + 1) (drop (at + 1) bytes)) e in
     let skipped : pieces_from len (at + 1) (drop (at + 1) bytes) ≡ pieces_at bytes (at + 1 + len) = pieces-skip len (at + 1) (drop (at + 1) bytes) fits ∙ ap (pieces_from 0 (at + 1 + len)) (drop-drop len (at + 1) bytes) in
     record {
       is = begins ∙ ap (λ (o : Option ℕ). escape_piece at o ∷ pieces_from (escape_len (drop (at + 1) bytes)) (at + 1) (drop (at + 1) bytes)) known

@@ -1,5 +1,5 @@
 -- Names in front of bytes of any kind.
-use Rattle.std.proofs.Common.{◌≡◌, ℕ, zero, suc, ◌+◌, ◌-◌, ◌<◌, ◌≤◌, List, [], ◌∷◌, ◌++◌, length, take, drop, get_or, sym, ap, ◌∙◌, refl, arith, length-append, length-take, append_assoc, length-drop, Some, take-append-drop}
+use Rattle.std.proofs.Common.{◌≡◌, ℕ, zero, suc, ◌+◌, ◌<◌, ◌≤◌, List, [], ◌∷◌, ◌++◌, length, take, drop, get_or, sym, ap, ◌∙◌, refl, arith, length-append, length-take, append_assoc, length-drop, Some, take-append-drop}
 use Rattle.std.specs.List.{AllByRecursion, slice_get}
 use Rattle.std.proofs.lemmas.List.{take_at, drop_at, drop-drop, drop_more}
 use Rattle.zone_model.specs.Names.{wire, IsName, IsLabel, IsFolded, BeginsWith}
@@ -111,3 +111,16 @@ scanned_end bytes at s over name is b =
     let more : at < length bytes = omega (arith, length-drop at bytes) in
     let full = over more in
     absurd (omega (arith, is.short))
+
+-- bytes begin with one name at most
+pub begins_once : (bytes : List ℕ) (a b : List (List ℕ)) → AllByRecursion IsLabel a → AllByRecursion IsLabel b → BeginsWith bytes a → BeginsWith bytes b → a ≡ b
+begins_once bytes [] [] h k x y = refl
+begins_once bytes [] (l ∷ ls) h k x y = let e : 0 ∷ x.0 ≡ length l ∷ ((l ++ wire ls) ++ y.0) = sym x.1 ∙ y.1 in let z : 0 ≡ length l = cc in absurd (omega (arith, k.0.some))
+begins_once bytes (l ∷ ls) [] h k x y = let e : length l ∷ ((l ++ wire ls) ++ x.0) ≡ 0 ∷ y.0 = sym x.1 ∙ y.1 in let z : length l ≡ 0 = cc in absurd (omega (arith, h.0.some))
+begins_once bytes (l ∷ ls) (m ∷ ms) h k x y =
+    let a : bytes ≡ length l ∷ (l ++ (wire ls ++ x.0)) = x.1 ∙ ap (λ (t : List ℕ). length l ∷ t) (append_assoc l (wire ls) x.0) in
+    let b : bytes ≡ length m ∷ (m ++ (wire ms ++ y.0)) = y.1 ∙ ap (λ (t : List ℕ). length m ∷ t) (append_assoc m (wire ms) y.0) in
+    let first : l ≡ m = same_label bytes l m (wire ls ++ x.0, a) (wire ms ++ y.0, b) in
+    let rest : wire ls ++ x.0 ≡ wire ms ++ y.0 = sym (behind_label bytes l (wire ls ++ x.0) a) ∙ ap (λ (t : List ℕ). drop (length t + 1) bytes) first ∙ behind_label bytes m (wire ms ++ y.0) b in
+    let others : ls ≡ ms = begins_once (wire ls ++ x.0) ls ms h.1 k.1 (x.0, refl) (y.0, rest) in
+    ap (λ (t : List ℕ). t ∷ ls) first ∙ ap (λ (t : List (List ℕ)). m ∷ t) others

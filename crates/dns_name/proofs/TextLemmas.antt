@@ -2,7 +2,7 @@
 use Rattle.std.proofs.Common.{◌≡◌, ℕ, ◌+◌, ◌<◌, ◌≤◌, Bool, true, false, List, [], ◌∷◌, ◌++◌, length, sym, ap, ◌∙◌, subst, refl, arith, append_assoc, append-nil, length-append, Result, Ok, Err, eqb}
 use Rattle.std.proofs.lemmas.List.{nil_from_length}
 use Rattle.std.specs.List.{AllByRecursion}
-use Rattle.zone_model.specs.Names.{wire, IsLabel, IsFolded}
+use Rattle.zone_model.specs.Names.{IsLabel, IsFolded}
 use Rattle.zone_model.specs.NameText.{Piece, Dot, Octet, Bad, labels_from, labels_of, onto}
 use Rattle.zone_model.specs.declared.NameRefusal.{NameRefusal}
 use Rattle.zone_model.specs.declared.NameRefusal.TheVariants.{EmptyLabel, LongLabel, BadEscape}

@@ -1,6 +1,6 @@
 // Names as text.
 ghost use Rattle.std.specs.Prelude.{◌≡◌, ◌<◌, ◌≤◌, ◌+◌, ◌^◌, [], ℕ, List, ◌++◌, length, Result, Ok, IfOk, true, false};
-ghost use Rattle.zone_model.specs.Names.{wire, IsName};
+ghost use Rattle.zone_model.specs.Names.{Name as Labels, wire, IsName};
 ghost use Rattle.zone_model.specs.NameText.{labels_of, name_of, completed, fitting};
 ghost use Rattle.dns_name.specs.Reading.{Measures, HasRoom, IsLaid, IsMeasured};
 
@@ -79,7 +79,7 @@ fn fill(text: &[u8]) -> Octets
 // The name of a text that a last dot ends.
 fn absolute(text: &[u8], octets: usize) -> Result<Name, NameRefusal>
     requires { IsMeasured text.now octets true }
-    ensures { (y : List (List ℕ)) → labels_of text.now ≡ Ok (y, true) → result ≡ fitting y }
+    ensures { (y : Labels) → labels_of text.now ≡ Ok (y, true) → result ≡ fitting y }
 {
     let total = octets + 1;
     if total > MOST_OCTETS {
@@ -92,7 +92,7 @@ fn absolute(text: &[u8], octets: usize) -> Result<Name, NameRefusal>
 // The name of a text that goes on with the origin.
 fn relative(text: &[u8], octets: usize, origin: &Name) -> Result<Name, NameRefusal>
     requires { IsMeasured text.now octets false }
-    ensures { (y : List (List ℕ)) → labels_of text.now ≡ Ok (y, false) → result ≡ fitting (y ++ origin.now) }
+    ensures { (y : Labels) → labels_of text.now ≡ Ok (y, false) → result ≡ fitting (y ++ origin.now) }
 {
     let behind = origin.wire();
     let total = octets + behind.len();
@@ -116,7 +116,10 @@ fn complete(text: &[u8], origin: &Name) -> Result<Name, NameRefusal>
 }
 
 impl Name {
-    /// The name that a text says. A text without a last dot is relative to the origin.
+    /// The name that a text says, by RFC 1035, section 5.1. The text `@` is the origin and `.` the root; a
+    /// text without a last dot goes on with the origin. `\DDD` with three decimal digits up to 255 is
+    /// that octet, and `\X` is X where X is no digit; neither ends a label. The refusal is the first
+    /// from the left, and `LongName`, which counts the octets of the whole, comes after all others.
     pub fn read(text: &[u8], origin: &Name) -> Result<Name, NameRefusal>
         ensures { result ≡ name_of text.now origin.now }
     {

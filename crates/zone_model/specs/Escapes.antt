@@ -11,7 +11,7 @@ unfoldable pub escaped_octet : List ℕ → Option ℕ
 escaped_octet text =
     if length text == 0 then None
     else if is_ascii_digit (slice_index text 0)
-        then (if is_ascii_digit (slice_index text 1) && is_ascii_digit (slice_index text 2) && nat_lt (number_of_three text) 256 then Some (number_of_three text) else None)
+    then (if is_ascii_digit (slice_index text 1) && is_ascii_digit (slice_index text 2) && nat_lt (number_of_three text) 256 then Some (number_of_three text) else None)
     else Some (slice_index text 0)
 
 -- how many bytes stand for it

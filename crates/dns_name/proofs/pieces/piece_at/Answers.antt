@@ -1,4 +1,4 @@
-use Rattle.std.proofs.Common.{◌≡◌, ◌+◌, ◌<◌, ◌≤◌, ℕ, List, drop, length, get_or, subst, sym, ap, ◌∙◌, arith}
+use Rattle.std.proofs.Common.{◌+◌, ◌≤◌, ℕ, List, length, subst, sym, ap, ◌∙◌}
 use Rattle.zone_model.specs.Escapes.{escaped_octet, escape_len}
 use Rattle.dns_name.proofs.PieceLemmas.{piece_dot, piece_plain, piece_escape, piece_bad, rest_is}
 use Rattle.dns_name.proofs.pieces.piece_at.Goals as goal

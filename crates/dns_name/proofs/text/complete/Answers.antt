@@ -1,4 +1,4 @@
-use Rattle.std.proofs.Common.{◌∙◌, subst, arith, true, false, Bool, Ok, []}
+use Rattle.std.proofs.Common.{◌∙◌, subst, true, false, Bool, Ok}
 use Rattle.zone_model.specs.NameText.{labels_of}
 use Rattle.dns_name.specs.Reading.{Measures}
 use Rattle.dns_name.proofs.LabelLemmas.{measured, completed_by, completed_as}
