@@ -18,7 +18,9 @@ mod tests;
 mod text;
 mod wire;
 
-use crate::buffer::Octets;
+pub use buffer::Octets;
+pub use wire::first as first_label;
+
 use crate::scan::wire_len;
 use crate::wire::{count, first, skip, under};
 use std::marker::Model;

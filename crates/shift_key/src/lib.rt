@@ -1,0 +1,62 @@
+//! The keys of names for a trie: the octets of a name as small positions, so laid out that keys
+//! compare, position by position, as their names do in canonical order.
+#![tactic(auto)]
+
+ghost use Rattle.std.specs.Prelude.{◌≡◌, List, ℕ, length, slice_index};
+ghost use Rattle.zone_model.specs.Names.{Name as Labels, IsName};
+ghost use Rattle.zone_model.specs.Keys.{key_of};
+
+mod encode;
+mod positions;
+mod table;
+
+use crate::encode::push_labels;
+use crate::positions::Positions;
+use dns_name::Name;
+use std::marker::Model;
+
+/// The key of a name: at most 504 positions, each below 47, in place.
+///
+/// Contracts see it as the list of its positions. Behind them stands 0, without end.
+#[derive(Clone, Copy)]
+pub struct Key {
+    positions: Positions,
+}
+
+impl Model for Key {
+    ghost use Rattle.std.specs.Prelude.{List, ℕ};
+    ghost use Rattle.zone_model.specs.Keys.{IsKey};
+
+    ghost Value = { List ℕ };
+
+    ghost view = { λ k. k.positions };
+
+    ghost invariant = { λ k. IsKey k.positions };
+
+    ghost inverse = { λ positions. record { positions = positions } };
+}
+
+impl Key {
+    /// The key of this name.
+    pub fn of(name: &Name) -> Key
+        ensures { result ≡ key_of name.now }
+    {
+        let mut positions = Positions::new();
+        push_labels(&mut positions, name.wire());
+        Key { positions }
+    }
+
+    /// How many positions it has.
+    pub fn len(&self) -> u16
+        ensures { result ≡ length self.now }
+    {
+        self.positions.as_slice().len() as u16
+    }
+
+    /// The position at this place, 0 past the end.
+    pub fn at(&self, place: u16) -> u8
+        ensures { result ≡ slice_index self.now place }
+    {
+        self.positions.at(place as usize)
+    }
+}
