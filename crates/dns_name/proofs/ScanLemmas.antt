@@ -7,7 +7,7 @@ use Rattle.dns_name.specs.Spelling.{IsNameSpelled, BeginsWithLabel, HasLabelOf}
 use Rattle.dns_name.proofs.BodyLemmas.{body, wire-append, wire-body, body-push, wire_positive, all_append}
 
 -- bytes that are each below 256, by their places
-all_small : (n : ℕ) (xs : List ℕ) → ((i : ℕ) → get_or xs i 0 < 256) → AllByRecursion (λ c. c < 256) (take n xs)
+pub all_small : (n : ℕ) (xs : List ℕ) → ((i : ℕ) → get_or xs i 0 < 256) → AllByRecursion (λ c. c < 256) (take n xs)
 all_small zero xs h = tt
 all_small (suc n) [] h = tt
 all_small (suc n) (x ∷ xs) h = (h 0, all_small n xs (λ i. h (suc i)))
@@ -51,7 +51,7 @@ same_label bytes a b h k =
     sym (take_at a h.0 (length a) refl) ∙ ap (take (length a)) tails ∙ take_at b k.0 (length a) (sym long)
 
 -- a name in front of bytes that are not at a zero octet has a first label there
-front_label : (bytes : List ℕ) (name : List (List ℕ)) → (get_or bytes 0 0 ≡ 0 → ⊥) → BeginsWith bytes name → AllByRecursion IsLabel name
+pub front_label : (bytes : List ℕ) (name : List (List ℕ)) → (get_or bytes 0 0 ≡ 0 → ⊥) → BeginsWith bytes name → AllByRecursion IsLabel name
     → (label : List ℕ) × (rest : List (List ℕ)) × (name ≡ label ∷ rest) × IsLabel label × AllByRecursion IsLabel rest × (behind : List ℕ) × (bytes ≡ length label ∷ (label ++ (wire rest ++ behind)))
 front_label bytes [] n h each = absurd (n (ap (λ (b : List ℕ). get_or b 0 0) h.1))
 front_label bytes (l ∷ ls) n h each = (l, ls, refl, each.0, each.1, h.0, h.1 ∙ ap (λ (t : List ℕ). length l ∷ t) (append_assoc l (wire ls) h.0))

@@ -1,2 +1,4 @@
 pub mod PlaceLemmas
 pub mod EncodeLemmas
+pub mod MatchLemmas
+pub mod LeadLemmas

@@ -1,3 +1,4 @@
 pub mod Blank
 pub mod Inside
 pub mod Room
+pub mod Matching

@@ -2,14 +2,16 @@
 //! compare, position by position, as their names do in canonical order.
 #![tactic(auto)]
 
-ghost use Rattle.std.specs.Prelude.{◌≡◌, List, ℕ, length, slice_index};
+ghost use Rattle.std.specs.Prelude.{◌≡◌, ◌↔◌, List, ℕ, length, slice_index, IsNone, IfSome, IsTrue};
 ghost use Rattle.zone_model.specs.Names.{Name as Labels, IsName};
-ghost use Rattle.zone_model.specs.Keys.{key_of};
+ghost use Rattle.zone_model.specs.Keys.{key_of, IsFirstDifference, Leads};
 
+mod compare;
 mod encode;
 mod positions;
 mod table;
 
+use crate::compare::behind_name;
 use crate::encode::push_labels;
 use crate::positions::Positions;
 use dns_name::Name;
@@ -58,5 +60,27 @@ impl Key {
         ensures { result ≡ slice_index self.now place }
     {
         self.positions.at(place as usize)
+    }
+
+    /// The first place at which the keys differ, which orders their names; None exactly for equal keys.
+    pub fn first_difference(&self, other: &Key) -> Option<u16>
+        ensures none { IsNone result ↔ (self.now ≡ other.now) }
+        ensures some { IfSome result (IsFirstDifference self.now other.now) }
+    {
+        self.positions.first_difference(&other.positions)
+    }
+
+    /// Whether the item has 1 to 4,096 bytes and begins with the wire form of the key's name. Nothing
+    /// is made for it.
+    pub fn leads(&self, item: &[u8]) -> bool
+        ensures { IsTrue result ↔ Leads self.now item.now }
+    {
+        if item.len() > 4096 {
+            return false;
+        }
+        match behind_name(self.positions.as_slice(), item) {
+            Some(rest) => rest.is_empty(),
+            None => false,
+        }
     }
 }

@@ -1,5 +1,6 @@
 // At most 512 positions, in place.
-ghost use Rattle.std.specs.Prelude.{◌≡◌, ◌<◌, ◌≤◌, ◌++◌, ◌∷◌, [], length, slice_index};
+ghost use Rattle.std.specs.Prelude.{◌≡◌, ◌<◌, ◌≤◌, ◌++◌, ◌∷◌, [], ℕ, length, slice_index, IsNone, IfSome};
+ghost use Rattle.zone_model.specs.Keys.{IsFirstDifference};
 ghost use Rattle.shift_key.specs.Blank.{no_positions};
 
 use std::marker::Model;
@@ -63,5 +64,19 @@ impl Positions {
         ensures short { length self.now ≤ 512 }
     {
         &self.places[..self.len]
+    }
+
+    // The first place at which they differ, with 0 past the end of each.
+    pub fn first_difference(&self, other: &Positions) -> Option<u16>
+        ensures none { IsNone result → (k : ℕ) → slice_index self.now k ≡ slice_index other.now k }
+        ensures some { IfSome result (IsFirstDifference self.now other.now) }
+    {
+        let end = self.len.max(other.len);
+        for place in 0..end {
+            if self.places[place] != other.places[place] {
+                return Some(place as u16);
+            }
+        }
+        None
     }
 }

@@ -9,9 +9,9 @@ use Rattle.std.specs.declared.cmp.Ordering.TheVariants.{Less, Equal, Greater}
 use Rattle.std.specs.Ordering.{nat_cmp, ordering_then}
 use Rattle.std.specs.Cmp.Lexicographic.{slice_cmp}
 use Rattle.zone_model.specs.Names.{Label, Name, wire, IsName, IsLabel, IsFolded, name_cmp}
-use Rattle.zone_model.specs.Keys.{first_position, second_position, one_or_two, octet_positions, label_positions, key_of, key_cmp, IsKey}
+use Rattle.zone_model.specs.Keys.{first_position, second_position, is_shared, one_or_two, octet_positions, label_positions, key_of, key_cmp, IsKey}
 use Rattle.zone_model.proofs.NameLemmas.{name_cmp-IsAntisymmetric}
-use Rattle.zone_model.proofs.OctetKeys.{code, code_rises, Bounds, bounds, is_shared, second_shared, shared_second}
+use Rattle.zone_model.proofs.OctetKeys.{code, code_rises, Bounds, bounds, second_shared, shared_second}
 
 nat_cmp-less : (x y : ℕ) → x < y → nat_cmp x y ≡ Less
 nat_cmp-less x y h = grind (arith, nat_tests)

@@ -7,7 +7,7 @@ use Rattle.std.specs.declared.cmp.Ordering.{Ordering}
 use Rattle.std.specs.declared.cmp.Ordering.TheVariants.{Less, Equal, Greater}
 use Rattle.std.specs.Ordering.{nat_cmp, ordering_then}
 use Rattle.zone_model.specs.Names.{IsFolded}
-use Rattle.zone_model.specs.Keys.{first_position, second_position, one_or_two, octet_positions, key_cmp}
+use Rattle.zone_model.specs.Keys.{first_position, second_position, is_shared}
 use Rattle.zone_model.proofs.Below.{all_below, below_at}
 
 -- ---- what is computed at each octet
@@ -18,10 +18,6 @@ in_bounds c = ltb 0 (first_position c) && ltb (first_position c) 47 && ltb (seco
 bounds_computed : all_below in_bounds 256 ≡ true
 unfolding in_bounds first_position second_position
 bounds_computed = refl
-
--- first positions behind which a second one stands
-abbrev pub is_shared : ℕ → Bool
-is_shared first = eqb first 1 || eqb first 3 || eqb first 14 || eqb first 16 || ltb 42 first
 
 shares : ℕ → Bool
 shares c = if eqb (second_position c) 0 then not (is_shared (first_position c)) else is_shared (first_position c)

@@ -1,7 +1,7 @@
 -- The key of a name: its labels from the root downwards, each octet as one or two positions below 47, and position 0 at the end of each label.
 -- Digits, letters, `-` and `_` have one position; the octets between these share a first position and differ in the second.
 -- So keys stand in canonical order (RFC 4034, section 6.1). The plan is that of BIND's doc/design/qp-trie.md, the table is our own.
-use Rattle.std.specs.Prelude.{◌≡◌, ◌≢◌, ℕ, ◌+◌, ◌-◌, ◌<◌, ◌≤◌, List, [], ◌∷◌, ◌++◌, length, reverse, slice_index, ◌==◌, nat_lt, if◌then◌else◌}
+use Rattle.std.specs.Prelude.{◌≡◌, ◌≢◌, ℕ, ◌+◌, ◌-◌, ◌<◌, ◌≤◌, List, [], ◌∷◌, ◌++◌, length, reverse, slice_index, Bool, ◌==◌, ◌||◌, nat_lt, if◌then◌else◌}
 use Rattle.std.specs.List.{flat_map}
 use Rattle.std.specs.declared.cmp.Ordering.{Ordering}
 use Rattle.std.specs.declared.cmp.Ordering.TheVariants.{Equal}
@@ -41,6 +41,10 @@ second_position c =
     else if nat_lt c 169 then c - 122
     else if nat_lt c 215 then c - 168
     else c - 214
+
+-- several octets share this first position, and differ in the second
+abbrev pub is_shared : ℕ → Bool
+is_shared first = (first == 1) || (first == 3) || (first == 14) || (first == 16) || nat_lt 42 first
 
 -- one position, or two where the second is not 0
 abbrev pub one_or_two : ℕ → ℕ → List ℕ
