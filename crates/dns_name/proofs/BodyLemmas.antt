@@ -2,11 +2,7 @@
 use Rattle.std.proofs.Common.{◌≡◌, ℕ, ◌+◌, ◌<◌, List, [], ◌∷◌, ◌++◌, length, sym, ap, ◌∙◌, refl, arith, append_assoc, append-nil, length-append}
 use Rattle.std.specs.List.{AllByRecursion}
 use Rattle.zone_model.specs.Names.{wire}
-
--- the octets of labels, without that of the root
-abbrev pub body : List (List ℕ) → List ℕ
-body [] = []
-body (label ∷ labels) = length label ∷ (label ++ body labels)
+pub use Rattle.dns_name.specs.Spelling.{body}
 
 pub wire-append : (a b : List (List ℕ)) → wire (a ++ b) ≡ body a ++ wire b
 wire-append [] b = refl

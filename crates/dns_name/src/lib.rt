@@ -135,6 +135,7 @@ impl Name {
     /// The name whose wire form the bytes begin with, whatever stands behind it; None where they begin
     /// with none. Compressed forms and letters in upper case are none.
     pub fn from_wire(bytes: &[u8]) -> Option<Name>
+        ensures name { IfSome result IsName }
         ensures found { IfSome result (BeginsWith bytes.now) }
         ensures none { IsNone result → (name : Labels) → IsName name → BeginsWith bytes.now name → ⊥ }
     {

@@ -28,5 +28,5 @@ rest_fits positions bytes spelled x room f = λ labels h.
     let same : s.labels ≡ labels = spelled_once x.1.now s.labels labels s.spells h in
     let whole : length positions + length (key_of spelled.0) ≤ 512 = room spelled.0 spelled.1 in
     let long : length (key_of spelled.0) ≡ length (key_of labels) + length (label_positions x.0.now) =
-        ap (λ (n : Name). length (key_of n)) (s.is ∙ ap (λ (n : Name). x.0.now ∷ n) same) ∙ ap length (key_of-cons x.0.now labels) ∙ length-append (key_of labels) (label_positions x.0.now) in
+    ap (λ (n : Name). length (key_of n)) (s.is ∙ ap (λ (n : Name). x.0.now ∷ n) same) ∙ ap length (key_of-cons x.0.now labels) ∙ length-append (key_of labels) (label_positions x.0.now) in
     omega arith

@@ -67,7 +67,7 @@ label_stuck positions bytes back rest lab some is_back is_lab m none name behind
     let same : m.name ≡ a.rest = begins_once back m.name a.rest m.each a.each m.begins begins in
     let label : lab ≡ a.label = is_lab ∙ a.label_is in
     let left : rest ≡ label_positions a.label ++ behind =
-        append_cancel_left (key_of m.name) rest (label_positions a.label ++ behind) (sym m.front ∙ last_label name a.label a.rest positions behind a.is e ∙ ap (λ (n : Name). key_of n ++ (label_positions a.label ++ behind)) (sym same)) in
+    append_cancel_left (key_of m.name) rest (label_positions a.label ++ behind) (sym m.front ∙ last_label name a.label a.rest positions behind a.is e ∙ ap (λ (n : Name). key_of n ++ (label_positions a.label ++ behind)) (sym same)) in
     none behind (subst (AllByRecursion IsFolded) (sym label) a.is_label.folded) (left ∙ ap (λ (l : Label). label_positions l ++ behind) (sym label))
 
 -- where both match

@@ -14,7 +14,7 @@ octets-append (x ∷ xs) ys = ap (λ (k : List ℕ). octet_positions x ++ k) (oc
 pub octets-push : (xs : List ℕ) (c : ℕ) → flat_map octet_positions (xs ++ c ∷ []) ≡ flat_map octet_positions xs ++ octet_positions c
 octets-push xs c = octets-append xs (c ∷ []) ∙ ap (λ (k : List ℕ). flat_map octet_positions xs ++ k) (append-nil (octet_positions c))
 
-all_at : (P : ℕ → Type 0) (xs : List ℕ) (i : ℕ) → i < length xs → AllByRecursion P xs → P (get_or xs i 0)
+pub all_at : (P : ℕ → Type 0) (xs : List ℕ) (i : ℕ) → i < length xs → AllByRecursion P xs → P (get_or xs i 0)
 all_at P [] i h a = absurd (omega arith)
 all_at P (x ∷ xs) zero h a = a.0
 all_at P (x ∷ xs) (suc i) h a = all_at P xs i (omega arith) a.1
@@ -49,7 +49,7 @@ pub matching_stuck : (positions : List ℕ) (label : Label) (i : ℕ) (rest : Li
     → (behind : List ℕ) → AllByRecursion IsFolded label → positions ≡ label_positions label ++ behind → ⊥
 matching_stuck positions label i rest m lt none behind folded e =
     let next : rest ≡ octet_positions (get_or label i 0) ++ (flat_map octet_positions (drop (i + 1) label) ++ 0 ∷ behind) =
-        split_at positions label i rest behind m e ∙ ap (λ (l : Label). flat_map octet_positions l ++ 0 ∷ behind) (drop_more label i 0 lt) ∙ append_assoc (octet_positions (get_or label i 0)) (flat_map octet_positions (drop (i + 1) label)) (0 ∷ behind) in
+    split_at positions label i rest behind m e ∙ ap (λ (l : Label). flat_map octet_positions l ++ 0 ∷ behind) (drop_more label i 0 lt) ∙ append_assoc (octet_positions (get_or label i 0)) (flat_map octet_positions (drop (i + 1) label)) (0 ∷ behind) in
     none (flat_map octet_positions (drop (i + 1) label) ++ 0 ∷ behind) (all_at IsFolded label i lt folded) next
 
 -- the label's end is wanted

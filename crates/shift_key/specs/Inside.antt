@@ -24,5 +24,5 @@ pub stored-back : (p : Inside) → IsPadded p → stored (listed p) ≡ p
 stored-back p h =
     let len : length (take p.len p.places) ≡ p.len = omega (arith, length-take p.len p.places, h.whole, h.within) in
     let places : take p.len p.places ++ drop (length (take p.len p.places)) no_positions ≡ p.places =
-        ap (λ (n : ℕ). take p.len p.places ++ drop n no_positions) len ∙ ap (λ (l : List ℕ). take p.len p.places ++ l) (sym h.zeros) ∙ take-append-drop p.len p.places in
+    ap (λ (n : ℕ). take p.len p.places ++ drop n no_positions) len ∙ ap (λ (l : List ℕ). take p.len p.places ++ l) (sym h.zeros) ∙ take-append-drop p.len p.places in
     same_inside (stored (listed p)) p places len

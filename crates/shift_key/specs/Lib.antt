@@ -2,3 +2,4 @@ pub mod Blank
 pub mod Inside
 pub mod Room
 pub mod Matching
+pub mod Decoding

@@ -7,14 +7,19 @@ ghost use Rattle.zone_model.specs.Names.{Name as Labels, IsName};
 ghost use Rattle.zone_model.specs.Keys.{key_of, IsFirstDifference, Leads};
 
 mod compare;
+mod decode;
 mod encode;
+pub mod laws;
 mod positions;
 mod table;
+#[cfg(test)]
+mod tests;
 
 use crate::compare::behind_name;
+use crate::decode::push_labels as push_octets_of_labels;
 use crate::encode::push_labels;
 use crate::positions::Positions;
-use dns_name::Name;
+use dns_name::{Name, Octets};
 use std::marker::Model;
 
 /// The key of a name: at most 504 positions, each below 47, in place.
@@ -46,6 +51,16 @@ impl Key {
         let mut positions = Positions::new();
         push_labels(&mut positions, name.wire());
         Key { positions }
+    }
+
+    /// The name that has this key.
+    pub fn to_name(&self) -> Name
+        ensures { key_of result ≡ self.now }
+    {
+        let mut octets = Octets::new();
+        push_octets_of_labels(&mut octets, self.positions.as_slice());
+        octets.push(0);
+        Name::from_wire(octets.as_slice()).unwrap()
     }
 
     /// How many positions it has.

@@ -28,7 +28,7 @@ pub returns-clause-some : goal.returns-clause-some
 returns-clause-some t c =
     IfSome_then c.behind_label.result c.behind_label.ensures.some
     (λ x k. name_matches c.args.positions.now c.args.bytes.now _ c.in_ok-rest.rest.now _ x.now (omega arith) c.if-len-eq0.false c.if-len-gt63.false c.if-len-bytes.false (λ i. omega (arith, c.type_inv.bytes i))
-        (rest_is c.args.bytes.now (get_or c.args.bytes.now 0 0 + 1)) (label_of c.args.bytes.now (get_or c.args.bytes.now 0 0)) c.in_ok-rest.ensures.some k)
+    (rest_is c.args.bytes.now (get_or c.args.bytes.now 0 0 + 1)) (label_of c.args.bytes.now (get_or c.args.bytes.now 0 0)) c.in_ok-rest.ensures.some k)
 
 pub returns-clause-none : goal.returns-clause-none
 returns-clause-none t c = λ none.
