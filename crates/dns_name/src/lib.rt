@@ -18,12 +18,11 @@ mod tests;
 mod text;
 mod wire;
 
-pub use buffer::Octets;
-pub use wire::first as first_label;
-
 use crate::scan::wire_len;
 use crate::wire::{count, first, skip, under};
+pub use buffer::Octets;
 use std::marker::Model;
+pub use wire::first as first_label;
 
 // The most octets of a name's wire form (RFC 1035, section 2.3.4).
 const MOST_OCTETS: usize = 255;

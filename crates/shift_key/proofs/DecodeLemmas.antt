@@ -1,13 +1,13 @@
 -- From positions back to octets.
-use Rattle.std.proofs.Common.{◌≡◌, ℕ, zero, suc, ◌+◌, ◌-◌, ◌%◌, ◌<◌, ◌≤◌, Bool, true, false, ◌&&◌, List, [], ◌∷◌, ◌++◌, length, take, drop, set, get_or, sym, ap, ◌∙◌, subst, refl, arith, append_assoc, append-nil, length-append, length-drop, length-take, eqb, ltb, inl, inr, if◌then◌else◌}
+use Rattle.std.proofs.Common.{◌≡◌, ℕ, ◌+◌, ◌-◌, ◌%◌, ◌<◌, ◌≤◌, Bool, true, false, ◌&&◌, List, [], ◌∷◌, ◌++◌, length, take, drop, set, get_or, sym, ap, ◌∙◌, subst, refl, arith, append_assoc, append-nil, length-append, length-drop, length-take, eqb, ltb, inl, inr, if◌then◌else◌}
 use Rattle.std.proofs.lemmas.Bool.{cases_lt, cases_eq, eqb-true, eq-eqb, ltb-true}
 use Rattle.std.proofs.lemmas.Bool.Decides.{nat_tests}
 use Rattle.std.proofs.lemmas.List.{take_more, drop_more, take_all, drop_all, drop_at, get_or_append_left, get_or-append_right, set_at}
 use Rattle.std.proofs.Math.Seq.{get_or-append_seam}
 use Rattle.std.specs.List.{AllByRecursion, flat_map}
 use Rattle.std.specs.Char.{to_ascii_lowercase}
-use Rattle.zone_model.specs.Names.{Label, IsLabel, IsFolded}
-use Rattle.zone_model.specs.Keys.{first_position, second_position, is_shared, octet_positions, label_positions}
+use Rattle.zone_model.specs.Names.{Label, IsFolded}
+use Rattle.zone_model.specs.Keys.{first_position, second_position, is_shared, octet_positions}
 use Rattle.zone_model.proofs.Below.{all_below, below_at}
 use Rattle.zone_model.proofs.OctetKeys.{bounds, second_shared, shared_second}
 use Rattle.shift_key.specs.declared.decode.TheConstants.{BASE}

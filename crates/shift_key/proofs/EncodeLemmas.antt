@@ -1,11 +1,11 @@
 -- Room for the positions of a label, and of the labels below it.
-use Rattle.std.proofs.Common.{◌≡◌, ℕ, zero, suc, ◌+◌, ◌<◌, ◌≤◌, List, [], ◌∷◌, ◌++◌, length, take, get_or, sym, ap, ◌∙◌, subst, arith, length-append, Some, Bor}
+use Rattle.std.proofs.Common.{◌≡◌, ℕ, zero, suc, ◌+◌, ◌<◌, ◌≤◌, List, [], ◌∷◌, ◌++◌, length, take, get_or, ap, ◌∙◌, arith, length-append, Some, Bor}
 use Rattle.std.specs.List.{flat_map}
 use Rattle.zone_model.specs.Names.{Name}
 use Rattle.zone_model.specs.Keys.{octet_positions, label_positions, key_of}
 use Rattle.zone_model.proofs.KeyLaws.{key_of-cons}
-use Rattle.dns_name.specs.Spelling.{Spells, IsSpelled, IsFirst}
-use Rattle.dns_name.proofs.WireLemmas.{stepped, spelled_once, shorter}
+use Rattle.dns_name.specs.Spelling.{IsSpelled, IsFirst}
+use Rattle.dns_name.proofs.WireLemmas.{stepped, spelled_once}
 use Rattle.shift_key.specs.Room.{HasRoom}
 
 -- the octets in front of one, and that one, have no more positions than all

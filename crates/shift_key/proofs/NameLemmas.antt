@@ -1,13 +1,13 @@
 -- From the positions of labels back to a wire form.
-use Rattle.std.proofs.Common.{◌≡◌, ℕ, ◌+◌, ◌-◌, ◌<◌, ◌≤◌, List, [], ◌∷◌, ◌++◌, length, reverse, take, drop, sym, ap, ◌∙◌, subst, refl, arith, append_assoc, append-nil, length-append, Option, Some, None}
+use Rattle.std.proofs.Common.{◌≡◌, ℕ, ◌+◌, ◌<◌, ◌≤◌, List, [], ◌∷◌, ◌++◌, length, reverse, take, drop, sym, ap, ◌∙◌, subst, refl, arith, append_assoc, append-nil, length-append, Option, Some, None}
 use Rattle.std.specs.Prelude.{IsSome, IsNone, IfSome}
 use Rattle.std.proofs.lemmas.List.{take_at, drop_at, reverse-append, reverse-reverse}
-use Rattle.std.specs.List.{AllByRecursion, flat_map}
+use Rattle.std.specs.List.{flat_map}
 use Rattle.zone_model.specs.Names.{Label, Name, IsName, IsLabel, wire, BeginsWith}
-use Rattle.zone_model.specs.Keys.{octet_positions, label_positions, key_of, IsKey}
+use Rattle.zone_model.specs.Keys.{octet_positions, label_positions, IsKey}
 use Rattle.zone_model.proofs.KeyLaws.{all_reverse}
 use Rattle.dns_name.specs.Spelling.{body}
-use Rattle.dns_name.proofs.BodyLemmas.{body-push, wire-body, length-wire}
+use Rattle.dns_name.proofs.BodyLemmas.{body-push, wire-body}
 use Rattle.dns_name.proofs.ScanLemmas.{begins_once}
 use Rattle.shift_key.specs.Decoding.{StartsWithLabel, ListsOctets, ListsLabels, HasLabels}
 

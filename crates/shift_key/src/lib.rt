@@ -22,6 +22,9 @@ use crate::positions::Positions;
 use dns_name::{Name, Octets};
 use std::marker::Model;
 
+// The most octets of an item.
+const MOST_ITEM_OCTETS: usize = 4096;
+
 /// The key of a name: at most 504 positions, each below 47, in place.
 ///
 /// Contracts see it as the list of its positions. Behind them stands 0, without end.
@@ -90,7 +93,7 @@ impl Key {
     pub fn leads(&self, item: &[u8]) -> bool
         ensures { IsTrue result ↔ Leads self.now item.now }
     {
-        if item.len() > 4096 {
+        if item.len() > MOST_ITEM_OCTETS {
             return false;
         }
         match behind_name(self.positions.as_slice(), item) {

@@ -1,4 +1,4 @@
-use Rattle.std.proofs.Common.{◌≡◌, ◌≤◌, ◌+◌, length, ap, arith, sym}
+use Rattle.std.proofs.Common.{length, ap, arith}
 use Rattle.zone_model.specs.Names.{Name}
 use Rattle.zone_model.specs.Keys.{key_of}
 use Rattle.zone_model.proofs.KeyLaws.{length-key_of}

@@ -1,5 +1,4 @@
-use Rattle.std.proofs.Common.{◌≡◌, ◌∙◌, ◌+◌, ◌≤◌, ◌<◌, ◌++◌, ◌∷◌, [], ℕ, List, length, reverse, sym, ap, arith, length-append}
-use Rattle.zone_model.specs.Names.{wire}
+use Rattle.std.proofs.Common.{◌≡◌, ◌∙◌, ◌++◌, length, reverse, sym, ap, arith, length-append}
 use Rattle.zone_model.specs.Keys.{key_of}
 use Rattle.dns_name.specs.Spelling.{body}
 use Rattle.dns_name.proofs.BodyLemmas.{length-wire}

@@ -1,6 +1,5 @@
-use Rattle.std.proofs.Common.{◌≡◌, ◌+◌, ◌-◌, ◌<◌, ◌∙◌, ℕ, List, length, take, drop, get_or, ap, refl, arith, rules}
+use Rattle.std.proofs.Common.{◌≡◌, ◌+◌, ◌-◌, ℕ, List, take, drop, get_or, ap, refl, arith, rules}
 use Rattle.std.proofs.lemmas.Option.{IfSome_then}
-use Rattle.zone_model.specs.Names.{Name}
 use Rattle.dns_name.proofs.PieceLemmas.{rest_is}
 use Rattle.shift_key.proofs.LeadLemmas.{never_empty, apart, above_stuck, label_stuck, name_matches}
 use Rattle.shift_key.proofs.compare.+behind_name.Goals as goal

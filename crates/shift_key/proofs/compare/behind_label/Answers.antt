@@ -1,5 +1,4 @@
-use Rattle.std.proofs.Common.{◌≡◌, ◌<◌, ◌≤◌, length, refl, arith, rules}
-use Rattle.std.proofs.lemmas.Bool.Decides.{nat_tests}
+use Rattle.std.proofs.Common.{◌≡◌, length, refl, arith, rules}
 use Rattle.shift_key.proofs.MatchLemmas.{matching_stuck, matching_no_end}
 use Rattle.shift_key.proofs.compare.behind_label.Goals as goal
 use Rattle.shift_key.proofs.compare.behind_label.Goals.{then-is_empty-via-then-is_empty, then-is_empty-via-else-is_empty+then-rest-ne0}

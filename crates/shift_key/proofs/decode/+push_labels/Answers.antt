@@ -1,4 +1,4 @@
-use Rattle.std.proofs.Common.{◌≡◌, ◌∙◌, ◌+◌, ◌-◌, ◌<◌, ◌≤◌, ℕ, List, length, take, drop, ap, sym, subst, arith, rules, length-take, length-drop}
+use Rattle.std.proofs.Common.{◌≡◌, ◌+◌, ◌≤◌, ℕ, List, length, ap, sym, subst, arith, rules, length-take, length-drop}
 use Rattle.dns_name.proofs.PieceLemmas.{rest_is}
 use Rattle.shift_key.specs.Decoding.{ListsLabels}
 use Rattle.shift_key.proofs.NameLemmas.{rooted, none_listed, below_room, label_room, all_laid}

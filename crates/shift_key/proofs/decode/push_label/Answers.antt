@@ -1,4 +1,4 @@
-use Rattle.std.proofs.Common.{◌≡◌, ◌∙◌, ◌+◌, ◌-◌, ◌≤◌, ℕ, List, length, set, ap, arith}
+use Rattle.std.proofs.Common.{◌-◌, ℕ, ap, arith}
 use Rattle.shift_key.proofs.DecodeLemmas.{laid_label, label_len}
 use Rattle.shift_key.proofs.decode.push_label.Goals as goal
 

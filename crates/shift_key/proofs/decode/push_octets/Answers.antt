@@ -1,7 +1,6 @@
-use Rattle.std.proofs.Common.{◌≡◌, ◌+◌, ◌-◌, ◌<◌, ◌≤◌, ℕ, List, length, take, drop, subst, sym, ap, arith, rules, length-append, length-drop}
-use Rattle.zone_model.specs.Keys.{octet_positions}
+use Rattle.std.proofs.Common.{◌≡◌, ◌<◌, ◌≤◌, length, ap, arith, rules, length-drop}
 use Rattle.dns_name.proofs.PieceLemmas.{rest_is}
-use Rattle.shift_key.proofs.DecodeLemmas.{Decoded, decoding_start, next, next_fits, next_some, decoded_as, decoded_end}
+use Rattle.shift_key.proofs.DecodeLemmas.{decoding_start, next, next_fits, next_some, decoded_as, decoded_end}
 use Rattle.shift_key.proofs.decode.push_octets.Goals as goal
 
 pub loop-rest-init : goal.loop-rest-init

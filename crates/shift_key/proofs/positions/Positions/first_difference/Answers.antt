@@ -1,4 +1,4 @@
-use Rattle.std.proofs.Common.{◌≡◌, ◌≤◌, ◌∙◌, sym, arith}
+use Rattle.std.proofs.Common.{◌∙◌, sym, arith}
 use Rattle.shift_key.proofs.PlaceLemmas.{value_at, all_places}
 use Rattle.shift_key.proofs.positions.Positions.first_difference.Goals as goal
 
