@@ -40,6 +40,7 @@ first_decides f s g t u v o e n = go (eqb s 0) (eqb t 0) refl refl
         settled Less r m = refl
         settled Equal r m = absurd (m refl)
         settled Greater r m = refl
+
     go : (a b : Bool) → eqb s 0 ≡ a → eqb t 0 ≡ b → key_cmp (one_or_two f s ++ u) (one_or_two g t ++ v) ≡ o
     go true true x y = rw (x, y) (decided _)
     go true false x y = rw (x, y) (decided _)
@@ -80,7 +81,7 @@ less_octet c d u v hc hd lc ld lt =
           let shared : is_shared (first_position c) ≡ true = ap is_shared same ∙ second_shared d ld some_d in
           let some_c : second_position c ≡ 0 → ⊥ = shared_second c lc shared in
           ap (λ (f : ℕ). key_cmp (one_or_two f (second_position c) ++ u) (octet_positions d ++ v)) same
-              ∙ second_decides (first_position d) (second_position c) (second_position d) u v Less some_c some_d (nat_cmp-less _ _ second) (λ e. cc)
+          ∙ second_decides (first_position d) (second_position c) (second_position d) u v Less some_c some_d (nat_cmp-less _ _ second) (λ e. cc)
     ]
 
 greater_octet : (c d : ℕ) (u v : List ℕ) → IsFolded c → IsFolded d → c < 256 → d < 256 → d < c → key_cmp (octet_positions c ++ u) (octet_positions d ++ v) ≡ Greater
@@ -97,7 +98,7 @@ greater_octet c d u v hc hd lc ld lt =
           let shared : is_shared (first_position d) ≡ true = ap is_shared (sym same) ∙ second_shared c lc some_c in
           let some_d : second_position d ≡ 0 → ⊥ = shared_second d ld shared in
           ap (λ (f : ℕ). key_cmp (one_or_two f (second_position c) ++ u) (octet_positions d ++ v)) same
-              ∙ second_decides (first_position d) (second_position c) (second_position d) u v Greater some_c some_d (nat_cmp-greater _ _ second) (λ e. cc)
+          ∙ second_decides (first_position d) (second_position c) (second_position d) u v Greater some_c some_d (nat_cmp-greater _ _ second) (λ e. cc)
     ]
 
 octet_cmp : (c d : ℕ) (u v : List ℕ) → IsFolded c → IsFolded d → c < 256 → d < 256 → key_cmp (octet_positions c ++ u) (octet_positions d ++ v) ≡ ordering_then (nat_cmp c d) (key_cmp u v)
@@ -109,7 +110,7 @@ octet_cmp c d u v hc hd lc ld =
         | inr not_greater ↦
             let same : d ≡ c = omega arith in
             ap (λ (e : ℕ). key_cmp (octet_positions c ++ u) (octet_positions e ++ v)) same ∙ same_front (first_position c) (second_position c) u v
-                ∙ ap (λ (o : Ordering). ordering_then o (key_cmp u v)) (sym (nat_cmp-same c)) ∙ ap (λ (e : ℕ). ordering_then (nat_cmp c e) (key_cmp u v)) (sym same)
+            ∙ ap (λ (o : Ordering). ordering_then o (key_cmp u v)) (sym (nat_cmp-same c)) ∙ ap (λ (e : ℕ). ordering_then (nat_cmp c e) (key_cmp u v)) (sym same)
       ]
     ]
 
@@ -148,6 +149,7 @@ none_less (d ∷ ds) v h = go (eqb (second_position d) 0) refl
   where
     first : (r : Ordering) → ordering_then (nat_cmp 0 (first_position d)) r ≡ Less
     first r = ap (λ (o : Ordering). ordering_then o r) (nat_cmp-less 0 (first_position d) (bounds d h.octets.0).some)
+
     go : (a : Bool) → eqb (second_position d) 0 ≡ a → key_cmp [] (label_positions (d ∷ ds) ++ v) ≡ Less
     go true x = rw x (first _)
     go false x = rw x (first _)
@@ -158,6 +160,7 @@ none_greater (d ∷ ds) v h = go (eqb (second_position d) 0) refl
   where
     first : (r : Ordering) → ordering_then (nat_cmp (first_position d) 0) r ≡ Greater
     first r = ap (λ (o : Ordering). ordering_then o r) (nat_cmp-greater (first_position d) 0 (bounds d h.octets.0).some)
+
     go : (a : Bool) → eqb (second_position d) 0 ≡ a → key_cmp (label_positions (d ∷ ds) ++ v) [] ≡ Greater
     go true x = rw x (first _)
     go false x = rw x (first _)
