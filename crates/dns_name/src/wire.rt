@@ -6,7 +6,7 @@ ghost use Rattle.dns_name.specs.Spelling.{Spells, IsSpelled, HasLabels, IsFirst}
 
 use std::cmp::Ordering;
 
-// The first label, and the bytes behind it; None for the root.
+/// The first label of a wire form, and the bytes of the others; None for the root.
 pub fn first(bytes: &[u8]) -> Option<(&[u8], &[u8])>
     requires { IsSpelled bytes.now }
     ensures { (labels : Labels) → Spells bytes.now labels → IsFirst labels result }

@@ -5,7 +5,7 @@ ghost use Rattle.zone_model.specs.Names.{Name as Labels, IsLabel, IsFolded, Begi
 ghost use Rattle.zone_model.specs.Keys.{octet_positions, label_positions, key_of};
 ghost use Rattle.shift_key.specs.Matching.{MatchesOctet, MatchesLabel, MatchesName};
 
-use crate::table::{first_position, second_position};
+use crate::table::{first_position, is_alone, second_position};
 
 // The positions behind the key of the name that the bytes begin with; None where that key isn't in
 // front, or no name is.
@@ -45,6 +45,20 @@ fn behind_label<'a>(positions: &'a [u8], label: &[u8]) -> Option<&'a [u8]>
 // The positions behind those of an octet; None where these aren't in front, or the octet is a
 // letter in upper case.
 fn behind_octet(positions: &[u8], octet: u8) -> Option<&[u8]>
+    ensures some { IfSome result (λ rest. MatchesOctet positions.now octet rest.now) }
+    ensures none { IsNone result → (behind : List ℕ) → IsFolded octet → positions.now ≡ octet_positions octet ++ behind → ⊥ }
+{
+    if positions.is_empty() {
+        return None;
+    }
+    if is_alone(positions[0], octet) {
+        return Some(&positions[1..]);
+    }
+    behind_rare_octet(positions, octet)
+}
+
+// The same for any octet. Letters, digits and `-` seldom come here.
+fn behind_rare_octet(positions: &[u8], octet: u8) -> Option<&[u8]>
     ensures some { IfSome result (λ rest. MatchesOctet positions.now octet rest.now) }
     ensures none { IsNone result → (behind : List ℕ) → IsFolded octet → positions.now ≡ octet_positions octet ++ behind → ⊥ }
 {
