@@ -223,6 +223,11 @@ at_first top = record { origin = top; set_time = None; last_time = None; minimum
 abbrev pub with_soa : List (List ℕ) → ℕ → Reader → Result (Version) (Refused ZoneKind)
 with_soa top n r = if has_soa top r.version then Ok r.version else refused n SoaRule
 
+-- the names of a zone with their entries, and its origin
+pub record Zone : Type 0 where
+  pub origin : Name
+  pub pairs : Version
+
 -- the zone that lines say
 unfoldable pub zone_of : Name → List (List ℕ) → Result (Version) (Refused ZoneKind)
 zone_of top lines = zone_from top 1 lines None (at_first top) >>= with_soa top (length lines + 1)

@@ -100,6 +100,14 @@ line_end n s = by_begun s.begun
 unfoldable pub line_tokens : ℕ → List ℕ → Scan → Result Scan (Refused ZoneKind)
 line_tokens n line s = steps n line s >>= line_end n
 
+-- a line by itself: its tokens, and whether it has a parenthesis
+pub record LineTokens : Type 0 where
+  pub tokens : List Token
+  pub parens : Bool
+
+abbrev pub single_line : ℕ → List ℕ → Result LineTokens (Refused ZoneKind)
+single_line n line = line_tokens n line fresh >>= (λ s. Ok (record { tokens = s.tokens; parens = s.parens }))
+
 -- An entry: its tokens, whether there was a parenthesis, the number of the line behind it, and the lines from there on.
 pub record EntryTokens : Type 0 where
   pub tokens : List Token

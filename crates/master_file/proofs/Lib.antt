@@ -1,0 +1,7 @@
+pub mod AddLemmas
+pub mod EntryLemmas
+pub mod LineLemmas
+pub mod RecordLemmas
+pub mod ScanLemmas
+pub mod SingleLemmas
+pub mod ZoneLemmas

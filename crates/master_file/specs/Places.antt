@@ -1,0 +1,16 @@
+-- Where lines begin and end.
+use Rattle.std.specs.Prelude.{◌≡◌, ◌≤◌, ◌<◌, ◌∷◌, [], ℕ, List, length, drop, slice_index_or}
+use Rattle.std.specs.List.{slice_range}
+use Rattle.zone_model.specs.Lines.{lines_of}
+
+-- the first line of what stands from a place on ends at `upto`, and the next one begins at `next`
+pub record FirstLine (bytes : List ℕ) (at upto next : ℕ) : Type 0 where
+  pub lines : lines_of (drop at bytes) ≡ slice_range bytes at upto ∷ lines_of (drop next bytes)
+  pub begins : at ≤ upto
+  pub ends : upto ≤ next
+  pub on : at < next
+  pub inside : next ≤ length bytes
+
+-- the first line of a text, nothing where it has none
+abbrev pub first_line : List ℕ → List ℕ
+first_line text = slice_index_or (lines_of text) 0 []

@@ -1,0 +1,197 @@
+// What entries say.
+ghost use Rattle.std.specs.Prelude.{◌≡◌, ◌<◌, ◌≤◌, ◌+◌, ◌-◌, ◌∷◌, [], ◌^◌, ℕ, List, length, map, Some, None, Option, Ok, Err, Result, IfOk};
+ghost use Rattle.std.specs.List.{All};
+ghost use Rattle.zone_model.specs.MasterFile.{directive, record_says, entry_says, last_line, set_time_word, set_origin_word, one_argument, placed};
+ghost use Rattle.zone_model.specs.Data.{data_of};
+ghost use Rattle.master_file.specs.Views.{Gives, Reads};
+ghost use Rattle.rr_data.specs.Tokens.{IsPlaced, token_view};
+ghost use Rattle.master_file.specs.Zones.{reader_view, front_view};
+
+use crate::classes::is_word;
+use crate::front::{Front, front_of, is_directive, name_word, time_word};
+use crate::records::{Reader, add_record, line_of, minimum_of, time_for};
+use crate::refusal::{ZoneRefusal, refuse};
+use dns_name::Name;
+use rr_data::{Rdata, RdataRefusal, Token};
+use std::alloc::Global;
+use zone_model::ZoneKind;
+
+// The data behind the type. What is refused is the token's line, or the last line where one is missing.
+fn read_data(
+    alloc: Global,
+    last: u32,
+    front: Front,
+    bytes: &[u8],
+    words: &[Token],
+    origin: &Name,
+) -> Result<Rdata, ZoneRefusal>
+    requires placed { All (IsPlaced bytes.now) words.now }
+    requires len { front.len ≤ length words.now }
+    ensures { Reads result (λ r. r) (let f = front_view bytes.now words.now front in placed last f.rest (data_of origin.now f.rtype f.rest)) }
+{
+    let rest = &words[front.len..];
+    match Rdata::read(alloc, front.rtype, bytes, rest, origin) {
+        Ok(rdata) => Ok(rdata),
+        Err(RdataRefusal::Memory) => Err(ZoneRefusal::Memory),
+        Err(RdataRefusal::BadRdata { at }) | Err(RdataRefusal::LongString { at }) => {
+            Err(refuse(line_of(last, rest, at), ZoneKind::BadRdata))
+        }
+    }
+}
+
+// The record of an owner that words say.
+#[tactic(auto, unfolding(zone_model::specs::MasterFile::record_says))]
+fn read_record(
+    alloc: Global,
+    top: &Name,
+    last: u32,
+    owner: &Name,
+    bytes: &[u8],
+    words: &[Token],
+    reader: &mut Reader,
+) -> Result<(), ZoneRefusal>
+    requires placed { All (IsPlaced bytes.now) words.now }
+    ensures { Gives result (reader_view reader.new) (record_says top.now last owner.now (map (token_view bytes.now) words.now) (reader_view reader.old)) }
+{
+    let front = match front_of(bytes, last, words) {
+        Ok(front) => front,
+        Err(refusal) => return Err(refusal),
+    };
+    let rdata = match read_data(alloc, last, front, bytes, words, &reader.origin) {
+        Ok(rdata) => rdata,
+        Err(refusal) => return Err(refusal),
+    };
+    let Some(time) = time_for(front.time, front.rtype, rdata.octets(), reader) else {
+        return Err(refuse(last, ZoneKind::NoTtl));
+    };
+    let minimum = if front.rtype == 6 {
+        Some(minimum_of(rdata.octets()))
+    } else {
+        reader.minimum
+    };
+    add_record(
+        alloc,
+        top,
+        last,
+        owner,
+        front.rtype,
+        time,
+        rdata,
+        &mut reader.version,
+    )?;
+    if front.time.is_some() {
+        reader.last_time = front.time;
+    }
+    reader.minimum = minimum;
+    reader.owner = Some(*owner);
+    Ok(())
+}
+
+// A directive that sets the time.
+fn set_time(bytes: &[u8], token: Token, reader: &mut Reader) -> Result<(), ZoneRefusal>
+    requires { IsPlaced bytes.now token }
+    ensures { Gives result (reader_view reader.new) (set_time_word (reader_view reader.old) (token_view bytes.now token)) }
+{
+    let Some(time) = time_word(bytes, token) else {
+        return Err(refuse(token.line, ZoneKind::BadTtl));
+    };
+    reader.set_time = Some(time);
+    Ok(())
+}
+
+// A directive that sets the origin.
+fn set_origin(bytes: &[u8], token: Token, reader: &mut Reader) -> Result<(), ZoneRefusal>
+    requires { IsPlaced bytes.now token }
+    ensures { Gives result (reader_view reader.new) (set_origin_word (reader_view reader.old) (token_view bytes.now token)) }
+{
+    let Some(name) = name_word(bytes, &reader.origin, token) else {
+        return Err(refuse(token.line, ZoneKind::BadName));
+    };
+    reader.origin = name;
+    Ok(())
+}
+
+// The one argument of a directive.
+fn one_argument(last: u32, arguments: &[Token]) -> Result<Token, ZoneRefusal>
+    ensures reads { (bytes : List ℕ) → Reads result (token_view bytes) (one_argument last (map (token_view bytes) arguments.now)) }
+    ensures placed { (bytes : List ℕ) → All (IsPlaced bytes) arguments.now → IfOk result (IsPlaced bytes) }
+{
+    if arguments.len() == 0 {
+        return Err(refuse(last, ZoneKind::BadToken));
+    }
+    if arguments.len() > 1 {
+        return Err(refuse(arguments[1].line, ZoneKind::BadToken));
+    }
+    Ok(arguments[0])
+}
+
+// A directive.
+#[tactic(auto, unfolding(zone_model::specs::MasterFile::directive))]
+fn read_directive(
+    bytes: &[u8],
+    token: Token,
+    arguments: &[Token],
+    reader: &mut Reader,
+) -> Result<(), ZoneRefusal>
+    requires placed { IsPlaced bytes.now token }
+    requires all_placed { All (IsPlaced bytes.now) arguments.now }
+    ensures { Gives result (reader_view reader.new) (directive (token_view bytes.now token) (map (token_view bytes.now) arguments.now) (reader_view reader.old)) }
+{
+    let text = token.text(bytes);
+    if is_word(text, b"$INCLUDE") {
+        return Err(refuse(token.line, ZoneKind::Include));
+    }
+    if is_word(text, b"$TTL") {
+        let argument = one_argument(token.line, arguments)?;
+        return set_time(bytes, argument, reader);
+    }
+    if is_word(text, b"$ORIGIN") {
+        let argument = one_argument(token.line, arguments)?;
+        return set_origin(bytes, argument, reader);
+    }
+    Err(refuse(token.line, ZoneKind::BadToken))
+}
+
+#[tactic(auto, using(crate::proofs::RecordLemmas::line_last))]
+fn last_line(first: u32, tokens: &[Token]) -> u32
+    ensures { (bytes : List ℕ) → result ≡ last_line first (map (token_view bytes) tokens.now) }
+{
+    if tokens.is_empty() {
+        first
+    } else {
+        tokens[tokens.len() - 1].line
+    }
+}
+
+/// What an entry says that begins on a line, perhaps with a space or tab.
+#[tactic(auto, unfolding(zone_model::specs::MasterFile::entry_says))]
+pub fn read_entry(
+    alloc: Global,
+    top: &Name,
+    line: u32,
+    blank: bool,
+    bytes: &[u8],
+    tokens: &[Token],
+    reader: &mut Reader,
+) -> Result<(), ZoneRefusal>
+    requires placed { All (IsPlaced bytes.now) tokens.now }
+    ensures { Gives result (reader_view reader.new) (entry_says top.now line blank (map (token_view bytes.now) tokens.now) (reader_view reader.old)) }
+{
+    let Some((first, rest)) = tokens.split_first() else {
+        return Ok(());
+    };
+    let last = last_line(first.line, rest);
+    if blank {
+        let Some(owner) = reader.owner else {
+            return Err(refuse(line, ZoneKind::NoOwner));
+        };
+        return read_record(alloc, top, last, &owner, bytes, tokens, reader);
+    }
+    if is_directive(bytes, *first) {
+        return read_directive(bytes, *first, rest, reader);
+    }
+    let Some(owner) = name_word(bytes, &reader.origin, *first) else {
+        return Err(refuse(first.line, ZoneKind::BadName));
+    };
+    read_record(alloc, top, last, &owner, bytes, rest, reader)
+}

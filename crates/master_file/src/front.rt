@@ -1,0 +1,134 @@
+// What stands before a record's data.
+ghost use Rattle.std.specs.Prelude.{◌≡◌, ◌<◌, ◌≤◌, ◌+◌, ◌∷◌, [], ◌^◌, ℕ, List, length, drop, map, Some, None, Option, Ok, Err, Result, IfOk, false};
+ghost use Rattle.std.specs.List.{All, slice_range};
+ghost use Rattle.zone_model.specs.MasterFile.{front_of, time_word, type_word, class_word, is_time, name_word, is_directive};
+ghost use Rattle.zone_model.specs.NameText.{name_of};
+ghost use Rattle.rr_data.specs.Tokens.{IsPlaced, token_view};
+ghost use Rattle.master_file.specs.Views.{Reads};
+ghost use Rattle.master_file.specs.Zones.{front_view};
+
+use crate::classes::class_named;
+use crate::refusal::{ZoneRefusal, refuse};
+use dns_name::Name;
+use rr_data::{Token, read_type, time_of};
+use zone_model::ZoneKind;
+
+/// The time, if one is written, the type, and how many tokens stand before the data.
+#[derive(Clone, Copy)]
+pub struct Front {
+    pub time: Option<u32>,
+    pub rtype: u16,
+    pub len: usize,
+}
+
+pub fn time_word(bytes: &[u8], token: Token) -> Option<u32>
+    requires { IsPlaced bytes.now token }
+    ensures { result ≡ time_word (token_view bytes.now token) }
+{
+    if token.quoted {
+        None
+    } else {
+        time_of(token.text(bytes))
+    }
+}
+
+fn type_word(bytes: &[u8], token: Token) -> Option<u16>
+    requires { IsPlaced bytes.now token }
+    ensures { result ≡ type_word (token_view bytes.now token) }
+{
+    if token.quoted {
+        None
+    } else {
+        read_type(token.text(bytes))
+    }
+}
+
+fn class_word(bytes: &[u8], token: Token) -> Option<bool>
+    requires { IsPlaced bytes.now token }
+    ensures { result ≡ class_word (token_view bytes.now token) }
+{
+    if token.quoted {
+        None
+    } else {
+        class_named(token.text(bytes))
+    }
+}
+
+fn is_time(bytes: &[u8], token: Token) -> bool
+    requires { IsPlaced bytes.now token }
+    ensures { result ≡ is_time (token_view bytes.now token) }
+{
+    if token.quoted {
+        return false;
+    }
+    match token.text(bytes).first() {
+        Some(octet) => octet.is_ascii_digit(),
+        None => false,
+    }
+}
+
+pub fn is_directive(bytes: &[u8], token: Token) -> bool
+    requires { IsPlaced bytes.now token }
+    ensures { result ≡ is_directive (token_view bytes.now token) }
+{
+    if token.quoted {
+        return false;
+    }
+    match token.text(bytes).first() {
+        Some(octet) => *octet == b'$',
+        None => false,
+    }
+}
+
+pub fn name_word(bytes: &[u8], origin: &Name, token: Token) -> Option<Name>
+    requires { IsPlaced bytes.now token }
+    ensures { result ≡ name_word origin.now (token_view bytes.now token) }
+{
+    if token.quoted {
+        return None;
+    }
+    match Name::read(token.text(bytes), origin) {
+        Ok(name) => Some(name),
+        Err(_) => None,
+    }
+}
+
+/// The words behind an owner up to the type.
+#[tactic(auto, unfolding(zone_model::specs::MasterFile::front_of))]
+pub fn front_of(bytes: &[u8], last: u32, tokens: &[Token]) -> Result<Front, ZoneRefusal>
+    requires placed { All (IsPlaced bytes.now) tokens.now }
+    ensures front { Reads result (front_view bytes.now tokens.now) (front_of last None false (map (token_view bytes.now) tokens.now)) }
+    ensures len { IfOk result (λ f. f.len ≤ length tokens.now) }
+{
+    let mut time = None;
+    let mut classed = false;
+    for (index, token) in tokens.iter().enumerate() {
+        if time.is_none() && is_time(bytes, *token) {
+            match time_word(bytes, *token) {
+                Some(written) => time = Some(written),
+                None => return Err(refuse(token.line, ZoneKind::BadTtl)),
+            }
+        } else {
+            let class = if classed {
+                None
+            } else {
+                class_word(bytes, *token)
+            };
+            match class {
+                Some(true) => classed = true,
+                Some(false) => return Err(refuse(token.line, ZoneKind::BadClass)),
+                None => {
+                    return match type_word(bytes, *token) {
+                        Some(rtype) => Ok(Front {
+                            time,
+                            rtype,
+                            len: index + 1,
+                        }),
+                        None => Err(refuse(token.line, ZoneKind::UnknownType)),
+                    };
+                }
+            }
+        }
+    }
+    Err(refuse(last, ZoneKind::UnknownType))
+}

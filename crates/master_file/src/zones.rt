@@ -1,0 +1,165 @@
+// The zone that bytes say.
+ghost use Rattle.std.specs.Prelude.{◌≡◌, ◌<◌, ◌≤◌, ◌+◌, ◌-◌, ◌∷◌, [], ◌^◌, ℕ, List, length, drop, map, Some, None, Option, Ok, Err, Result, IfOk, MatchOption, IsTrue, ◌↔◌};
+ghost use Rattle.zone_model.specs.Versions.{entry_of};
+ghost use Rattle.zone_model.specs.Lines.{lines_of};
+ghost use Rattle.zone_model.specs.Zones.{has_soa};
+ghost use Rattle.zone_model.specs.MasterFile.{zone_of, zone_from, at_first};
+ghost use Rattle.master_file.specs.Views.{Gives, Reads};
+ghost use Rattle.master_file.specs.Zones.{reader_view, ReadsAll, ReadsNext};
+
+use crate::entries::read_entry;
+use crate::entry_tokens::tokens;
+use crate::records::Reader;
+use crate::refusal::{ZoneRefusal, refuse};
+use dns_name::Name;
+use rr_data::Entry;
+use std::alloc::Global;
+use std::collections::BTreeMap;
+use std::marker::Model;
+use zone_model::ZoneKind;
+
+fn new_reader(alloc: Global, top: &Name) -> Reader
+    ensures { reader_view result ≡ at_first top.now }
+{
+    Reader {
+        origin: *top,
+        set_time: None,
+        last_time: None,
+        minimum: None,
+        owner: None,
+        version: BTreeMap::new(alloc),
+    }
+}
+
+// The top has an SOA.
+fn has_soa(version: &BTreeMap<Name, Entry>, origin: &Name) -> bool
+    ensures { result ≡ has_soa origin.now version.now.entries }
+{
+    match version.get(origin) {
+        Some(entry) => entry.find_set(6).is_some(),
+        None => false,
+    }
+}
+
+// The entry that begins at a place; the place and line of the next one.
+#[tactic(auto, using(crate::proofs::ZoneLemmas::zone_rules))]
+fn read_next(
+    alloc: Global,
+    bytes: &[u8],
+    at: u32,
+    line: u32,
+    top: &Name,
+    reader: &mut Reader,
+) -> Result<(u32, u32), ZoneRefusal>
+    requires inside { at < length bytes.now }
+    requires short { length bytes.now ≤ 2 ^ 24 }
+    requires below { line ≤ at + 1 }
+    ensures reads { ReadsNext bytes.now top.now at line (reader_view reader.old) (reader_view reader.new) result }
+    ensures places { IfOk result (λ x. (at < x.0) × (x.0 ≤ length bytes.now) × (x.1 ≤ x.0 + 1) × (x.1 + length (lines_of (drop x.0 bytes.now)) ≡ line + length (lines_of (drop at bytes.now)))) }
+{
+    let lexed = match tokens(alloc, bytes, at, line) {
+        Ok(lexed) => lexed,
+        Err(refusal) => return Err(refusal),
+    };
+    match read_entry(alloc, top, line, lexed.blank, bytes, &lexed.tokens, reader) {
+        Ok(()) => Ok((lexed.next, lexed.next_line)),
+        Err(refusal) => Err(refusal),
+    }
+}
+
+// All entries, and the number of the line behind them.
+#[tactic(auto, using(crate::proofs::ZoneLemmas::end_rules))]
+fn read_entries(
+    alloc: Global,
+    bytes: &[u8],
+    top: &Name,
+    reader: &mut Reader,
+) -> Result<u32, ZoneRefusal>
+    requires short { length bytes.now ≤ 2 ^ 24 }
+    ensures zone { ReadsAll result (reader_view reader.new) (zone_from top.now 1 (lines_of bytes.now) None (reader_view reader.old)) }
+    ensures lines { IfOk result (λ n. n ≡ length (lines_of bytes.now) + 1) }
+{
+    let mut at = 0;
+    let mut line = 1;
+    while (at as usize) < bytes.len() {
+        match read_next(alloc, bytes, at, line, top, reader) {
+            Ok((next, next_line)) => {
+                at = next;
+                line = next_line;
+            }
+            Err(refusal) => return Err(refusal),
+        }
+    }
+    Ok(line)
+}
+
+/// A zone: its origin, and its names with their entries, in canonical order.
+#[derive(Drop)]
+pub struct Zone {
+    origin: Name,
+    entries: BTreeMap<Name, Entry>,
+}
+
+impl Model for Zone {
+    ghost use Rattle.zone_model.specs.MasterFile as says;
+
+    ghost Value = { says.Zone };
+
+    ghost view = { λ z. record { origin = z.origin; pairs = z.entries.entries } };
+}
+
+impl Zone {
+    pub fn origin(&self) -> &Name
+        ensures { result.now ≡ self.now.origin }
+    {
+        &self.origin
+    }
+
+    /// How many names own records.
+    pub fn len(&self) -> usize
+        ensures { result ≡ length self.now.pairs }
+    {
+        self.entries.len()
+    }
+
+    /// It has no names. A zone that was read has its origin.
+    pub fn is_empty(&self) -> bool
+        ensures { IsTrue result ↔ (self.now.pairs ≡ []) }
+    {
+        self.entries.is_empty()
+    }
+
+    /// What a name owns, if it owns anything.
+    pub fn entry(&self, name: &Name) -> Option<&Entry>
+        ensures { MatchOption result (entry_of name.now self.now.pairs ≡ None) (λ e. entry_of name.now self.now.pairs ≡ Some e.now) }
+    {
+        self.entries.get(name)
+    }
+
+    /// Its names with their entries.
+    pub fn into_entries(self) -> BTreeMap<Name, Entry>
+        ensures { result.entries ≡ self.pairs }
+    {
+        self.entries
+    }
+}
+
+/// The zone of an origin that bytes say, from the first line to the last, or the first entry from the top that is
+/// refused. Names that don't end with a dot are relative to the origin until a directive sets another.
+#[tactic(auto, unfolding(zone_model::specs::MasterFile::zone_of))]
+pub fn read_zone(alloc: Global, bytes: &[u8], origin: &Name) -> Result<Zone, ZoneRefusal>
+    requires short { length bytes.now ≤ 2 ^ 24 }
+    ensures zone { Reads result (λ z. z.pairs) (zone_of origin.now (lines_of bytes.now)) }
+    ensures origin { IfOk result (λ z. z.origin ≡ origin.now) }
+{
+    let mut reader = new_reader(alloc, origin);
+    let line = read_entries(alloc, bytes, origin, &mut reader)?;
+    let Reader { version, .. } = reader;
+    if !has_soa(&version, origin) {
+        return Err(refuse(line, ZoneKind::SoaRule));
+    }
+    Ok(Zone {
+        origin: *origin,
+        entries: version,
+    })
+}
