@@ -4,4 +4,5 @@ pub mod LineLemmas
 pub mod RecordLemmas
 pub mod ScanLemmas
 pub mod SingleLemmas
+pub mod SpellingLemmas
 pub mod ZoneLemmas

@@ -1,3 +1,4 @@
 pub mod Places
+pub mod Spelling
 pub mod Views
 pub mod Zones

@@ -1,7 +1,11 @@
 // The tokens of an entry.
-ghost use Rattle.std.specs.Prelude.{◌≡◌, ◌≤◌, ◌<◌, ◌+◌, ◌^◌, ℕ, List, length, drop, OnOk, IfOk};
+ghost use Rattle.std.specs.Prelude.{◌≡◌, ◌≤◌, ◌<◌, ◌+◌, ◌^◌, ℕ, List, length, drop, OnOk, IfOk, [], Result};
+ghost use Rattle.zone_model.specs.Zones.{Refused};
+ghost use Rattle.zone_model.specs.Grammar.{SpellsEntry};
+ghost use Rattle.zone_model.specs.declared.ZoneKind.{ZoneKind};
+ghost use Rattle.master_file.specs.Spelling.{EntrySpelled};
 ghost use Rattle.std.specs.List.{All};
-ghost use Rattle.zone_model.specs.Tokens.{entry_from, fresh, begins_blank};
+ghost use Rattle.zone_model.specs.Tokens.{EntryTokens, entry_from, fresh, begins_blank};
 ghost use Rattle.zone_model.specs.Lines.{lines_of};
 ghost use Rattle.master_file.specs.Views.{HasScanned, ReadsLine, Reads, lexed_view, scan_view};
 ghost use Rattle.rr_data.specs.Tokens.{IsPlaced};
@@ -14,7 +18,8 @@ use rr_data::Token;
 use zone_model::ZoneKind;
 use std::alloc::Global;
 
-/// The tokens of an entry, whether it begins with a space or tab, whether it has a parenthesis, and where the next one begins.
+/// The tokens of an entry, whether it begins with a space or tab, whether a parenthesis was met, and the byte and the line
+/// that the next entry begins at.
 #[derive(Drop)]
 pub struct Lexed {
     pub tokens: Vec<Token>,
@@ -64,9 +69,14 @@ fn is_blank(bytes: &[u8], from: u32) -> bool
     }
 }
 
-/// The tokens of the entry that begins at byte `from`, on a line of the number `line`.
+// The tokens of the entry that begins at a place.
 #[tactic(auto, using(crate::proofs::EntryLemmas::end_rules), unfolding(zone_model::specs::Tokens::entry_from))]
-pub fn tokens(alloc: Global, bytes: &[u8], from: u32, line: u32) -> Result<Lexed, ZoneRefusal>
+fn scan_entry(
+    alloc: Global,
+    bytes: &[u8],
+    from: u32,
+    line: u32,
+) -> Result<Lexed, ZoneRefusal>
     requires inside { from ≤ length bytes.now }
     requires short { length bytes.now ≤ 2 ^ 24 }
     requires lines { line + length bytes.now < 2 ^ 32 }
@@ -107,4 +117,20 @@ fn finished(scan: Scan, blank: bool, next: u32, next_line: u32) -> Lexed
         next,
         next_line,
     }
+}
+
+/// The tokens of the entry that begins at byte `from`, which stands on a line of the number `line` (RFC 1035, section 5.1):
+/// those of this line and of each further one while a parenthesis is open at its end. At the end of the bytes there are none.
+pub fn tokens(alloc: Global, bytes: &[u8], from: u32, line: u32) -> Result<Lexed, ZoneRefusal>
+    requires inside { from ≤ length bytes.now }
+    requires short { length bytes.now ≤ 2 ^ 24 }
+    requires lines { line + length bytes.now < 2 ^ 32 }
+    ensures spelled { EntrySpelled bytes.now line (lines_of (drop from bytes.now)) result }
+    ensures only { (out : Result EntryTokens (Refused ZoneKind)) → SpellsEntry line [] (lines_of (drop from bytes.now)) out → Reads result (lexed_view bytes.now) out }
+    ensures reads { Reads result (lexed_view bytes.now) (entry_from line (lines_of (drop from bytes.now)) fresh) }
+    ensures blank { IfOk result (λ l. l.blank ≡ begins_blank (drop from bytes.now)) }
+    ensures placed { IfOk result (λ l. All (IsPlaced bytes.now) l.tokens.items) }
+    ensures next { IfOk result (λ l. (l.next ≤ length bytes.now) × (l.next_line + from ≤ line + l.next) × (from < length bytes.now → from < l.next)) }
+{
+    scan_entry(alloc, bytes, from, line)
 }

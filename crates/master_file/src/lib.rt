@@ -10,6 +10,8 @@ mod lines;
 mod records;
 mod refusal;
 mod single_lines;
+#[cfg(test)]
+mod tests;
 mod zones;
 
 pub use entry_tokens::{Lexed, tokens};

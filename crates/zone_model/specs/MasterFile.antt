@@ -20,11 +20,11 @@ use Rattle.zone_model.specs.Data.{data_of}
 -- What the entries so far leave: the origin in force, the time that a directive set, the last time written in a record, the
 -- minimum of an SOA, the last owner, and the records.
 pub record Reader : Type 0 where
-  pub origin : List (List ℕ)
+  pub origin : Name
   pub set_time : Option ℕ
   pub last_time : Option ℕ
   pub minimum : Option ℕ
-  pub owner : Option (List (List ℕ))
+  pub owner : Option Name
   pub version : Version
 
 abbrev pub required : {A : Type 0} → ℕ → ZoneKind → Option A → Result A (Refused ZoneKind)
@@ -34,7 +34,7 @@ required n kind None = refused n kind
 abbrev pub word_text : Token → Option (List ℕ)
 word_text t = if t.quoted then None else Some t.text
 
-abbrev pub name_word : List (List ℕ) → Token → Option (List (List ℕ))
+abbrev pub name_word : Name → Token → Option Name
 name_word origin t = if t.quoted then None else named (name_of t.text origin)
 
 abbrev pub time_word : Token → Option ℕ
@@ -146,7 +146,7 @@ soa_count entry = count_in (rrset_of 6 entry)
     count_in (Some s) = length s.records
 
 -- why an entry can't stand
-abbrev pub entry_fault : List (List ℕ) → Entry → Option ZoneKind
+abbrev pub entry_fault : Name → Entry → Option ZoneKind
 entry_fault owner entry =
     if nat_lt 1 (soa_count entry) then Some SoaRule
     else if not (is_lone entry) then Some CnameAndOther
@@ -158,24 +158,24 @@ unless_fault last None x = Ok x
 unless_fault last (Some kind) x = refused last kind
 
 -- a record joins its owner's entry
-abbrev pub placed_in : ℕ → List (List ℕ) → ℕ → ℕ → List ℕ → Version → Result (Version) (Refused ZoneKind)
+abbrev pub placed_in : ℕ → Name → ℕ → ℕ → List ℕ → Version → Result Version (Refused ZoneKind)
 placed_in last owner rtype time octets version =
     let entry = with_rr rtype time octets (unwrap_or (entry_of owner version) []) in
     unless_fault last (entry_fault owner entry) (insert_entry name_cmp version owner entry)
 
 -- a record is added to the zone of an origin
-unfoldable pub added : List (List ℕ) → ℕ → List (List ℕ) → ℕ → ℕ → List ℕ → Version → Result (Version) (Refused ZoneKind)
+unfoldable pub added : Name → ℕ → Name → ℕ → ℕ → List ℕ → Version → Result Version (Refused ZoneKind)
 added top last owner rtype time octets version =
     if not (is_under owner top) then refused last OutsideZone
     else if (rtype == 6) && not (same_name owner top) then refused last SoaRule
     else placed_in last owner rtype time octets version
 
-abbrev pub after_record : Option ℕ → ℕ → List ℕ → List (List ℕ) → Reader → Version → Reader
+abbrev pub after_record : Option ℕ → ℕ → List ℕ → Name → Reader → Version → Reader
 after_record written rtype octets owner r version =
     record r { last_time = or_else written r.last_time; minimum = (if rtype == 6 then Some (minimum_of octets) else r.minimum); owner = Some owner; version = version }
 
 -- the record of an owner that words say
-unfoldable pub record_says : List (List ℕ) → ℕ → List (List ℕ) → List Token → Reader → Result Reader (Refused ZoneKind)
+unfoldable pub record_says : Name → ℕ → Name → List Token → Reader → Result Reader (Refused ZoneKind)
 record_says top last owner words r =
     front_of last None false words >>= (λ front.
     placed last front.rest (data_of r.origin front.rtype front.rest) >>= (λ octets.
@@ -190,7 +190,7 @@ last_line n [] = n
 last_line n (t ∷ tokens) = last_line t.line tokens
 
 -- an entry that begins on line n, perhaps with a space or tab
-unfoldable pub entry_says : List (List ℕ) → ℕ → Bool → List Token → Reader → Result Reader (Refused ZoneKind)
+unfoldable pub entry_says : Name → ℕ → Bool → List Token → Reader → Result Reader (Refused ZoneKind)
 entry_says top n blank [] r = Ok r
 entry_says top n blank (t ∷ tokens) r =
     if blank then required n NoOwner r.owner >>= (λ owner. record_says top (last_line t.line tokens) owner (t ∷ tokens) r)
@@ -208,7 +208,7 @@ goes_on n line (Some p) = p
 goes_on n line None = record { first = n; blank = begins_blank line; scan = fresh }
 
 -- the lines from line n on
-unfoldable pub zone_from : List (List ℕ) → ℕ → List (List ℕ) → Option Pending → Reader → Result Reader (Refused ZoneKind)
+unfoldable pub zone_from : Name → ℕ → List (List ℕ) → Option Pending → Reader → Result Reader (Refused ZoneKind)
 zone_from top n [] None r = Ok r
 zone_from top n [] (Some p) r = refused p.scan.outer OpenParen
 zone_from top n (line ∷ lines) pending r =
@@ -217,10 +217,10 @@ zone_from top n (line ∷ lines) pending r =
     if s.depth == 0 then entry_says top p.first p.blank s.tokens r >>= zone_from top (n + 1) lines None
     else zone_from top (n + 1) lines (Some (record p { scan = s })) r)
 
-abbrev pub at_first : List (List ℕ) → Reader
+abbrev pub at_first : Name → Reader
 at_first top = record { origin = top; set_time = None; last_time = None; minimum = None; owner = None; version = [] }
 
-abbrev pub with_soa : List (List ℕ) → ℕ → Reader → Result (Version) (Refused ZoneKind)
+abbrev pub with_soa : Name → ℕ → Reader → Result Version (Refused ZoneKind)
 with_soa top n r = if has_soa top r.version then Ok r.version else refused n SoaRule
 
 -- the names of a zone with their entries, and its origin
@@ -228,6 +228,6 @@ pub record Zone : Type 0 where
   pub origin : Name
   pub pairs : Version
 
--- the zone that lines say
-unfoldable pub zone_of : Name → List (List ℕ) → Result (Version) (Refused ZoneKind)
+-- the zone of an origin that lines say
+unfoldable pub zone_of : Name → List (List ℕ) → Result Version (Refused ZoneKind)
 zone_of top lines = zone_from top 1 lines None (at_first top) >>= with_soa top (length lines + 1)

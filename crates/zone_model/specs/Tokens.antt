@@ -1,14 +1,9 @@
--- The tokens of a master file's lines (RFC 1035, section 5.1).
+-- A scan of a master file's lines. It says the same as the grammar beside it, by one step a byte.
 use Rattle.std.specs.Prelude.{ℕ, ◌+◌, ◌-◌, Bool, true, false, ◌||◌, List, [], ◌∷◌, ◌++◌, ◌==◌, if◌then◌else◌, Result, Ok, Err}
 use Rattle.zone_model.specs.Zones.{Refused, ◌>>=◌}
+pub use Rattle.zone_model.specs.Grammar.{Token, LineTokens, EntryTokens, is_blank, begins_blank, parts_words}
 use Rattle.zone_model.specs.declared.ZoneKind.{ZoneKind}
 use Rattle.zone_model.specs.declared.ZoneKind.TheVariants.{BadToken, OpenQuote, OpenParen}
-
--- a token's bytes, without the quotes around them and with the escapes in them, and the line that it stands on
-pub record Token : Type 0 where
-  pub text : List ℕ
-  pub quoted : Bool
-  pub line : ℕ
 
 -- what the byte before belongs to: nothing, a comment, a word, a quoted token, or a backslash in one of these
 pub data Begun : Type 0 where
@@ -55,9 +50,6 @@ apart n c s =
     else if c == 92 then Ok (record s { begun = Escape false (92 ∷ []) })
     else Ok (record s { begun = Word (c ∷ []) })
 
-abbrev pub parts_words : ℕ → Bool
-parts_words c = (c == 32) || (c == 9) || (c == 59) || (c == 34) || (c == 40) || (c == 41)
-
 abbrev pub in_word : ℕ → ℕ → List ℕ → Scan → Result Scan (Refused ZoneKind)
 in_word n c text s =
     if parts_words c then apart n c (with_token text false n s)
@@ -100,20 +92,8 @@ line_end n s = by_begun s.begun
 unfoldable pub line_tokens : ℕ → List ℕ → Scan → Result Scan (Refused ZoneKind)
 line_tokens n line s = steps n line s >>= line_end n
 
--- a line by itself: its tokens, and whether it has a parenthesis
-pub record LineTokens : Type 0 where
-  pub tokens : List Token
-  pub parens : Bool
-
 abbrev pub single_line : ℕ → List ℕ → Result LineTokens (Refused ZoneKind)
 single_line n line = line_tokens n line fresh >>= (λ s. Ok (record { tokens = s.tokens; parens = s.parens }))
-
--- An entry: its tokens, whether there was a parenthesis, the number of the line behind it, and the lines from there on.
-pub record EntryTokens : Type 0 where
-  pub tokens : List Token
-  pub parens : Bool
-  pub next : ℕ
-  pub rest : List (List ℕ)
 
 abbrev pub entry_of : Scan → ℕ → List (List ℕ) → EntryTokens
 entry_of s next rest = record { tokens = s.tokens; parens = s.parens; next = next; rest = rest }
@@ -126,11 +106,3 @@ entry_from n (line ∷ lines) s = line_tokens n line s >>= (λ t. if t.depth == 
 -- what an entry comes to, where line n gave these tokens
 abbrev pub after_line : ℕ → List (List ℕ) → Scan → Result EntryTokens (Refused ZoneKind)
 after_line n rest s = if s.depth == 0 then Ok (entry_of s (n + 1) rest) else entry_from (n + 1) rest s
-
--- a line begins with a space or tab
-abbrev pub is_blank : ℕ → Bool
-is_blank c = (c == 32) || (c == 9)
-
-abbrev pub begins_blank : List ℕ → Bool
-begins_blank [] = false
-begins_blank (c ∷ text) = is_blank c

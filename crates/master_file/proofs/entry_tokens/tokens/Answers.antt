@@ -1,14 +1,8 @@
-use Rattle.std.proofs.Common.{arith, ap, sym, drop}
-use Rattle.zone_model.specs.Lines.{lines_of}
-use Rattle.zone_model.specs.Tokens as says
-use Rattle.zone_model.specs.Tokens.{entry_from}
+use Rattle.master_file.proofs.SpellingLemmas.{spelled_so, spelled_only}
 use Rattle.master_file.proofs.entry_tokens.tokens.Goals as goal
 
-pub loop-at-init : goal.loop-at-init
-loop-at-init c = record {
-  goes_on = ap (λ (s : says.Scan). entry_from c.args.line (lines_of (drop c.args.from c.args.bytes.now)) s) (sym (c.new_scan-scan.ensures.fresh c.args.bytes.now c.args.from));
-  scanned = c.new_scan-scan.ensures.scanned c.args.bytes.now c.args.from;
-  inside = c.requires.inside;
-  counted = omega arith;
-  beyond = omega arith;
-}
+pub returns-clause-spelled : goal.returns-clause-spelled
+returns-clause-spelled c = spelled_so _ _ _ _ c.scan_entry.ensures.reads
+
+pub returns-clause-only : goal.returns-clause-only
+returns-clause-only c = λ out h. spelled_only _ _ _ _ out c.scan_entry.ensures.reads h

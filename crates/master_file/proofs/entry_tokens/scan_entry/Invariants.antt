@@ -2,7 +2,7 @@ use Rattle.std.proofs.Common.{◌≡◌, ◌≤◌, ◌<◌, ◌+◌, ◌-◌, d
 use Rattle.zone_model.specs.Lines.{lines_of}
 use Rattle.zone_model.specs.Tokens.{entry_from, fresh}
 use Rattle.master_file.specs.Views.{scan_view, HasScanned}
-use Rattle.master_file.proofs.entry_tokens.tokens.Given as goal
+use Rattle.master_file.proofs.entry_tokens.scan_entry.Given as goal
 
 abbrev pub invariant-loop-at : goal.invariant-loop-at
 invariant-loop-at l = record {
