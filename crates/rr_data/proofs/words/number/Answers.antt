@@ -1,6 +1,6 @@
 use Rattle.std.proofs.Common.{rules, tests, arith, ◌≡◌, length}
 use Rattle.rr_data.proofs.NumberLemmas.{too_great_at}
-use Rattle.rr_data.proofs.plain.number.Goals as goal
+use Rattle.rr_data.proofs.words.number.Goals as goal
 
 pub returns-then-value-from-clause-value : goal.returns-then-value-from-clause-value
 returns-then-value-from-clause-value c =

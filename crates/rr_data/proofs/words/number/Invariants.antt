@@ -1,6 +1,6 @@
 use Rattle.std.proofs.Common.{◌≡◌, ◌≤◌, drop}
 use Rattle.zone_model.specs.Texts.{digits_from}
-use Rattle.rr_data.proofs.plain.number.Given as goal
+use Rattle.rr_data.proofs.words.number.Given as goal
 
 abbrev pub invariant-loop-digit : goal.invariant-loop-digit
 invariant-loop-digit l = record {

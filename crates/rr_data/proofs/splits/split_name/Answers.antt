@@ -2,9 +2,9 @@ use Rattle.std.proofs.Common.{◌≡◌, ◌∙◌, ℕ, List, ◌++◌, ◌-◌
 use Rattle.std.proofs.lemmas.List.{drop_at}
 use Rattle.std.proofs.Math.Seq.{take-length}
 use Rattle.zone_model.specs.Names.{Name, wire, IsName, BeginsWith}
-use Rattle.zone_model.specs.DataText.{split_name}
+use Rattle.zone_model.specs.Splits.{split_name}
 use Rattle.zone_model.proofs.SplitLemmas.{name_back, name_sound, SplitsName}
-use Rattle.rr_data.proofs.data_text.split_name.Goals as goal
+use Rattle.rr_data.proofs.splits.split_name.Goals as goal
 
 nothing_splits : (bytes : List ℕ) (o : Option (Name × List ℕ)) → split_name bytes ≡ o → ((i : ℕ) → get_or bytes i 0 < 256) → ((name : Name) → IsName name → BeginsWith bytes name → ⊥) → None ≡ split_name bytes
 nothing_splits bytes None e b n = sym e
