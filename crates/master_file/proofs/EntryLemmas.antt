@@ -4,7 +4,7 @@ use Rattle.std.proofs.lemmas.List.{drop_all}
 use Rattle.std.proofs.lemmas.Bool.Decides.{nat_tests}
 use Rattle.zone_model.specs.declared.ZoneKind.TheVariants.{OpenParen}
 use Rattle.std.specs.List.{slice_range}
-use Rattle.zone_model.specs.Zones.{Refused, ◌>>=◌}
+use Rattle.zone_model.specs.Refusals.{Refused, ◌>>=◌}
 use Rattle.zone_model.specs.Lines.{lines_of}
 use Rattle.zone_model.specs.declared.ZoneKind.{ZoneKind}
 use Rattle.zone_model.specs.Tokens as says

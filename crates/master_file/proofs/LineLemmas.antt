@@ -2,7 +2,7 @@
 use Rattle.std.proofs.Common.{◌≡◌, ℕ, zero, suc, ◌+◌, ◌-◌, ◌<◌, ◌≤◌, ◌++◌, ◌∷◌, [], List, length, get_or, take, drop, length-drop, arith, ap, ◌∙◌, refl, sym, Some, None, Bool, true, false, eqb, ltb, cond}
 use Rattle.std.specs.List.{position, slice_range, slice_split, position_or_len, before_first, after_first, count_by, All}
 use Rattle.std.specs.Str.Lines.{lines, lines_of_parts, strip_carriage_return}
-use Rattle.std.proofs.lemmas.List.{drop-drop, length-take-le, take-take}
+use Rattle.std.proofs.lemmas.List.{drop-drop, length-take-le, take-take, get_or-drop}
 use Rattle.std.proofs.lemmas.List.Splits.{slice_split_first, slice_split_none, length-slice_split}
 use Rattle.std.proofs.lemmas.List.Sums.{fails_before_first, passes_at_first}
 use Rattle.std.proofs.lemmas.Bool.Decides.{nat_tests}
@@ -44,6 +44,9 @@ missed xs h = by_test (ltb (position_or_len (λ b. eqb b 10) xs) (length xs)) re
     by_test true e h = absurd cc
     by_test false e h = grind (arith, nat_tests)
 
+fed_at : (bytes : List ℕ) (at n m : ℕ) → m ≡ at + n → n < length (drop at bytes) → get_or (drop at bytes) n 0 ≡ 10 → get_or bytes m 0 ≡ 10
+fed_at bytes at n m e lt h = ap (λ (k : ℕ). get_or bytes k 0) e ∙ sym (get_or-drop at bytes n 0) ∙ h
+
 pub first_line : (bytes : List ℕ) (at n m : ℕ) → at < length bytes → position (λ b. eqb b 10) (drop at bytes) ≡ Some n → take m (take n (drop at bytes)) ≡ strip_carriage_return (take n (drop at bytes)) → m ≤ length (take n (drop at bytes)) → FirstLine bytes at (at + m) (at + n + 1)
 first_line bytes at n m inside h s small =
     let f = found (drop at bytes) n h in
@@ -61,6 +64,7 @@ first_line bytes at n m inside h s small =
       ends = omega arith;
       on = omega arith;
       inside = omega arith;
+      fed = λ h. fed_at bytes at n (at + n + 1 - 1) (omega arith) lt (eqb-true (get_or (drop at bytes) n 0) 10 (ap (λ (k : ℕ). eqb (get_or (drop at bytes) k 0) 10) (sym e) ∙ passes_at_first (λ b. eqb b 10) (drop at bytes) 0 (omega arith)));
     }
 
 pub last_line : (bytes : List ℕ) (at : ℕ) → at < length bytes → position (λ b. eqb b 10) (drop at bytes) ≡ None → FirstLine bytes at (length bytes) (length bytes)
@@ -72,6 +76,7 @@ last_line bytes at inside h =
       ends = omega arith;
       on = omega arith;
       inside = omega arith;
+      fed = λ h. absurd (omega arith);
     }
 
 -- the same, where the text from a place on is what a slice of it shows

@@ -1,7 +1,7 @@
 -- A line by itself.
 use Rattle.std.proofs.Common.{◌≡◌, ℕ, ◌∷◌, [], List, drop, get_or, map, ap, ◌∙◌, sym, Result, Ok, Err, Bool}
 use Rattle.std.specs.List.{slice_range}
-use Rattle.zone_model.specs.Zones.{Refused, ◌>>=◌}
+use Rattle.zone_model.specs.Refusals.{Refused, ◌>>=◌}
 use Rattle.zone_model.specs.Lines.{lines_of}
 use Rattle.zone_model.specs.Tokens as says
 use Rattle.zone_model.specs.declared.ZoneKind.{ZoneKind}

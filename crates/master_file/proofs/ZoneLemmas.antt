@@ -1,7 +1,7 @@
 -- The zone, entry by entry.
 use Rattle.std.proofs.Common.{◌≡◌, ◌∙◌, ℕ, zero, suc, ◌+◌, ◌-◌, ◌<◌, ◌≤◌, List, [], ◌∷◌, length, get_or, drop, map, refl, sym, ap, arith, Bool, true, false, cond, eqb, Option, Some, None, Result, Ok, Err}
 use Rattle.std.proofs.lemmas.Bool.Decides.{nat_tests}
-use Rattle.zone_model.specs.Zones.{Refused, ◌>>=◌}
+use Rattle.zone_model.specs.Refusals.{Refused, ◌>>=◌}
 use Rattle.zone_model.specs.Lines.{lines_of}
 use Rattle.std.proofs.lemmas.List.{drop_all, length-drop}
 use Rattle.master_file.proofs.LineLemmas.{first_blank}

@@ -1,5 +1,5 @@
 -- Where lines begin and end.
-use Rattle.std.specs.Prelude.{◌≡◌, ◌≤◌, ◌<◌, ◌∷◌, [], ℕ, List, length, drop, slice_index_or}
+use Rattle.std.specs.Prelude.{◌≡◌, ◌≤◌, ◌<◌, ◌-◌, ◌∷◌, [], ℕ, List, length, drop, slice_index_or, slice_index}
 use Rattle.std.specs.List.{slice_range}
 use Rattle.zone_model.specs.Lines.{lines_of}
 
@@ -10,6 +10,8 @@ pub record FirstLine (bytes : List ℕ) (at upto next : ℕ) : Type 0 where
   pub ends : upto ≤ next
   pub on : at < next
   pub inside : next ≤ length bytes
+  -- a line feed stands before the next line, unless there is none
+  pub fed : next < length bytes → slice_index bytes (next - 1) ≡ 10
 
 -- the first line of a text, nothing where it has none
 abbrev pub first_line : List ℕ → List ℕ

@@ -1,6 +1,6 @@
 // The tokens of an entry.
 ghost use Rattle.std.specs.Prelude.{◌≡◌, ◌≤◌, ◌<◌, ◌+◌, ◌^◌, ℕ, List, length, drop, OnOk, IfOk, [], Result};
-ghost use Rattle.zone_model.specs.Zones.{Refused};
+ghost use Rattle.zone_model.specs.Refusals.{Refused};
 ghost use Rattle.zone_model.specs.Grammar.{SpellsEntry};
 ghost use Rattle.zone_model.specs.declared.ZoneKind.{ZoneKind};
 ghost use Rattle.master_file.specs.Spelling.{EntrySpelled};

@@ -32,7 +32,7 @@ pub fn time_word(bytes: &[u8], token: Token) -> Option<u32>
     }
 }
 
-fn type_word(bytes: &[u8], token: Token) -> Option<u16>
+pub fn type_word(bytes: &[u8], token: Token) -> Option<u16>
     requires { IsPlaced bytes.now token }
     ensures { result ≡ type_word (token_view bytes.now token) }
 {

@@ -15,6 +15,8 @@ mod tests;
 mod zones;
 
 pub use entry_tokens::{Lexed, tokens};
+pub use front::{name_word, time_word, type_word};
+pub use lines::line_at;
 pub use refusal::ZoneRefusal;
 pub use single_lines::{LexedLine, line_tokens};
 pub use zones::{Zone, read_zone};

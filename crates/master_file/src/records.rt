@@ -1,8 +1,8 @@
 // A record joins the zone.
 ghost use Rattle.std.specs.Prelude.{◌≡◌, ◌<◌, ◌≤◌, ◌+◌, ◌-◌, ◌∷◌, [], ◌^◌, ℕ, List, length, map, Some, None, Option, Ok, Err, Result, IfOk, unwrap_or, slice_index};
 ghost use Rattle.zone_model.specs.Records.{with_rr};
-ghost use Rattle.zone_model.specs.Versions.{entry_of};
-ghost use Rattle.zone_model.specs.MasterFile.{is_lone, soa_count, added, placed_in, number_at, minimum_of, time_for, line_of};
+ghost use Rattle.zone_model.specs.Versions.{entry_of, is_lone};
+ghost use Rattle.zone_model.specs.MasterFile.{soa_count, added, placed_in, number_at, minimum_of, time_for, line_of};
 ghost use Rattle.master_file.specs.Views.{Gives};
 ghost use Rattle.rr_data.specs.Tokens.{token_view};
 ghost use Rattle.master_file.specs.Zones.{reader_view, Checks};

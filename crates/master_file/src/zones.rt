@@ -2,7 +2,7 @@
 ghost use Rattle.std.specs.Prelude.{◌≡◌, ◌<◌, ◌≤◌, ◌+◌, ◌-◌, ◌∷◌, [], ◌^◌, ℕ, List, length, drop, map, Some, None, Option, Ok, Err, Result, IfOk, MatchOption, IsTrue, ◌↔◌};
 ghost use Rattle.zone_model.specs.Versions.{entry_of};
 ghost use Rattle.zone_model.specs.Lines.{lines_of};
-ghost use Rattle.zone_model.specs.Zones.{has_soa};
+ghost use Rattle.zone_model.specs.Versions.{has_soa};
 ghost use Rattle.zone_model.specs.MasterFile.{zone_of, zone_from, at_first};
 ghost use Rattle.master_file.specs.Views.{Gives, Reads};
 ghost use Rattle.master_file.specs.Zones.{reader_view, ReadsAll, ReadsNext};

@@ -16,9 +16,6 @@ use Rattle.zone_model.specs.declared.Refusal.{Refusal}
 use Rattle.zone_model.proofs.NameLemmas.{name_cmp-IsAntisymmetric}
 use Rattle.std.specs.Option.{option_map}
 use Rattle.std.specs.declared.alloc.AllocError.{AllocError}
-use Rattle.zone_model.specs.Names.{is_under}
-use Rattle.zone_model.specs.Zones.{zone_entry, with_addition}
-use Rattle.qp_main.specs.ZoneViews.{Fits}
 use Rattle.qp_main.specs.Steps.{restored, undone}
 use Rattle.qp_main.specs.declared.versions.Undo.{Undo}
 
@@ -133,20 +130,6 @@ pub undone-push : (us : List Undo) (u : Undo) (version : Version) → undone (us
 undone-push [] u version = refl
 undone-push (x ∷ us) u version = ap (restored x) (undone-push us u version)
 
--- ---- an entry that is there is written in its place
-
-set_there : (k : Name) (e : Name × Entry) (es : Pairs) (w v : Entry) (o : Ordering) → (o ≡ Less → lookup (is_at (name_cmp k)) es ≡ None) → (lookup (is_at (name_cmp k)) es ≡ Some v → set_value (is_at (name_cmp k)) es w ≡ insert_entry name_cmp es k w)
-    → lookup_step o e (lookup (is_at (name_cmp k)) es) ≡ Some v → cond (is_eq o) ((e.0, w) ∷ es) (e ∷ set_value (is_at (name_cmp k)) es w) ≡ insert_step o k w e es (insert_entry name_cmp es k w)
-set_there k e es w v Less n i h = let m : lookup (is_at (name_cmp k)) es ≡ None = n refl in absurd cc
-set_there k e es w v Equal n i h = refl
-set_there k e es w v Greater n i h = ap (λ (l : Pairs). e ∷ l) (i h)
-
-pub set_is_insert : (k : Name) (es : Pairs) (w v : Entry) → IsStrictlySortedBy name_cmp (keys_of es) → lookup (is_at (name_cmp k)) es ≡ Some v → set_value (is_at (name_cmp k)) es w ≡ insert_entry name_cmp es k w
-unfolding IsStrictlySortedBy
-set_is_insert k [] w v s h = absurd cc
-set_is_insert k (e ∷ es) w v s h =
-    set_there k e es w v (name_cmp k e.0) (λ l. lookup_above k es (above_all k e.0 (keys_of es) l s.0)) (set_is_insert k es w v s.1) h
-
 -- ---- a block goes on by one operation
 
 pub whole_step : {O : Type 0} (view : O → Operation) (operations : List O) (i : ℕ) (here : O) (origin : Name) (all : Result Version Refusal) (version next : Version) → i < length operations → here ≡ get_or operations i here → all ≡ whole origin (map view (drop i operations)) version
@@ -154,21 +137,3 @@ pub whole_step : {O : Type 0} (view : O → Operation) (operations : List O) (i 
 whole_step view operations i here origin all version next lt is so_far step =
     let behind : drop i operations ≡ here ∷ drop (i + 1) operations = drop_more operations i here lt ∙ ap (λ (x : _). x ∷ drop (i + 1) operations) (sym is) in
     so_far ∙ ap (λ (l : List _). whole origin (map view l) version) behind ∙ ap (λ (r : Result Version Refusal). and_then r (whole origin (map view (drop (i + 1) operations)))) step
-
--- ---- a record of the zone
-
-pub grown_in_place : (origin : Name) (a : Addition) (old new : Version) (before now : Entry) (ok : Bool) → is_under a.owner origin ≡ true → entry_of a.owner old ≡ Some before → IsStrictlySortedBy name_cmp (keys_of old) → new ≡ set_value (is_at (name_cmp a.owner)) old now
-    → Fits ok now (zone_entry origin a before) → Fits ok new (with_addition origin a old)
-grown_in_place origin a old new before now true u b s w f =
-    let e : zone_entry origin a (owned a.owner old) ≡ Some now = ap (λ (o : Option Entry). zone_entry origin a (unwrap_or o [])) b ∙ f in
-    ap (λ (t : Bool). cond t (option_map (insert_entry name_cmp old a.owner) (zone_entry origin a (owned a.owner old))) None) u
-    ∙ ap (option_map (insert_entry name_cmp old a.owner)) e ∙ ap (λ (v : Version). Some v) (sym (w ∙ set_is_insert a.owner old now before s b))
-grown_in_place origin a old new before now false u b s w f =
-    let e : zone_entry origin a (owned a.owner old) ≡ None = ap (λ (o : Option Entry). zone_entry origin a (unwrap_or o [])) b ∙ f in
-    ap (λ (t : Bool). cond t (option_map (insert_entry name_cmp old a.owner) (zone_entry origin a (owned a.owner old))) None) u
-    ∙ ap (option_map (insert_entry name_cmp old a.owner)) e
-
-pub grown_if_ok : (origin : Name) (a : Addition) (old new : Version) (before now : Entry) (r : Result Bool AllocError) → is_under a.owner origin ≡ true → entry_of a.owner old ≡ Some before → IsStrictlySortedBy name_cmp (keys_of old) → new ≡ set_value (is_at (name_cmp a.owner)) old now
-    → IfOk r (λ ok. Fits ok now (zone_entry origin a before)) → IfOk r (λ ok. Fits ok new (with_addition origin a old))
-grown_if_ok origin a old new before now (Ok ok) u b s w f = grown_in_place origin a old new before now ok u b s w f
-grown_if_ok origin a old new before now (Err e) u b s w f = tt

@@ -47,26 +47,26 @@ lines_append a b =
 
 -- a place where a line begins, or the end
 pub data Begins (bytes : List ℕ) (at : ℕ) : Type 0 where
-  pub first : at ≡ 0 → Begins bytes at
-  pub behind : (before : ℕ) → at ≡ before + 1 → before < length bytes → get_or bytes before 0 ≡ 10 → Begins bytes at
-  pub end : at ≡ length bytes → Begins bytes at
+  at_start : at ≡ 0 → Begins bytes at
+  behind_feed : (before : ℕ) → at ≡ before + 1 → before < length bytes → get_or bytes before 0 ≡ 10 → Begins bytes at
+  at_end : at ≡ length bytes → Begins bytes at
 
 -- the lines before such a place, and those from it on, are all lines
 pub cut_lines : (bytes : List ℕ) (at : ℕ) → Begins bytes at → lines (take at bytes) ++ lines (drop at bytes) ≡ lines bytes
-cut_lines bytes at (first e) = ap (λ (k : ℕ). lines (take k bytes) ++ lines (drop k bytes)) e
-cut_lines bytes at (behind before e lt feed) =
+cut_lines bytes at (at_start e) = ap (λ (k : ℕ). lines (take k bytes) ++ lines (drop k bytes)) e
+cut_lines bytes at (behind_feed before e lt feed) =
     let front : take (before + 1) bytes ≡ take before bytes ++ 10 ∷ [] = take_more bytes before 0 lt ∙ ap (λ (c : ℕ). take before bytes ++ c ∷ []) feed in
     let all : bytes ≡ take before bytes ++ 10 ∷ drop (before + 1) bytes =
     sym (take-append-drop (before + 1) bytes) ∙ ap (λ (l : List ℕ). l ++ drop (before + 1) bytes) front ∙ append_assoc (take before bytes) (10 ∷ []) (drop (before + 1) bytes) in
     ap (λ (k : ℕ). lines (take k bytes) ++ lines (drop k bytes)) e ∙ ap (λ (l : List ℕ). lines l ++ lines (drop (before + 1) bytes)) front ∙ sym (ap lines all ∙ lines_append (take before bytes) (drop (before + 1) bytes))
-cut_lines bytes at (end e) =
+cut_lines bytes at (at_end e) =
     let le : length bytes ≤ at = omega arith in
     ap (λ (l : List ℕ). lines l ++ lines (drop at bytes)) (take_all at bytes le) ∙ ap (λ (l : List ℕ). lines bytes ++ lines l) (drop_all at bytes le) ∙ append-nil (lines bytes)
 
 same_front : {X : Type 0} (a b c : List X) → a ++ c ≡ b ++ c → a ≡ b
 same_front a b c e =
     let l : length a ≡ length b = omega (arith, ap (λ (l : List _). length l) e, length-append a c, length-append b c) in
-    sym (take_at a c (length a) refl) ∙ ap (take (length a)) e ∙ take_at b c (length a) l
+    sym (take_at a c (length a) refl) ∙ ap (take (length a)) e ∙ take_at b c (length a) (sym l)
 
 -- one line further
 pub next_lines : (bytes line : List ℕ) (at next : ℕ) → Begins bytes at → Begins bytes next → lines (drop at bytes) ≡ line ∷ lines (drop next bytes) → lines (take next bytes) ≡ lines (take at bytes) ++ line ∷ []
@@ -109,7 +109,7 @@ behind_front front line rest =
     ap (drop (length front + 1)) (sym (append_assoc front (line ∷ []) rest)) ∙ drop_at (front ++ line ∷ []) rest (length front + 1) (omega (arith, size))
 
 -- an input that is cut at a line which begins at a place
-pub cut_here : (bytes line : List ℕ) (at next n : ℕ) → Begins bytes at → lines (drop at bytes) ≡ line ∷ lines (drop next bytes) → is_cut line ≡ true → list_any is_cut (lines (take at bytes)) ≡ false → n ≡ length (lines (take at bytes)) + 1 → at ≤ next → next ≤ length bytes → n ≤ at + 1
+pub cut_here : (bytes line : List ℕ) (at next n : ℕ) → Begins bytes at → lines (drop at bytes) ≡ line ∷ lines (drop next bytes) → is_cut line ≡ true → list_any is_cut (lines (take at bytes)) ≡ false → n ≡ length (lines (take at bytes)) + 1 → at < next → next ≤ length bytes → n ≤ at + 1
     → IsCutAt bytes (record { zone_end = at; script_from = next; first_line = n + 1 })
 cut_here bytes line at next n b e c none count le inside few =
     let front = lines (take at bytes) in
@@ -163,7 +163,7 @@ pub record Searched (bytes : List ℕ) (at line : ℕ) : Type 0 where
   pub few : line ≤ at + 1
 
 pub begins_at : (bytes : List ℕ) → Searched bytes 0 1
-begins_at bytes = record { begins = first refl; none = refl; count = omega arith; inside = omega arith; few = omega arith }
+begins_at bytes = record { begins = at_start refl; none = refl; count = omega arith; inside = omega arith; few = omega arith }
 
 pub searched_more : (bytes line : List ℕ) (at next n : ℕ) → Searched bytes at n → Begins bytes next → lines (drop at bytes) ≡ line ∷ lines (drop next bytes) → is_cut line ≡ false → at < next → next ≤ length bytes → Searched bytes next (n + 1)
 searched_more bytes line at next n s b e c lt inside =

@@ -6,34 +6,38 @@ use Rattle.zone_model.specs.Jobs.{Job, JobRefusal, ZoneRefused, ScriptRefused, j
 use Rattle.zone_model.specs.Outcomes.{Pair, Lawful, some_refused}
 use Rattle.zone_model.specs.Reports.{report}
 use Rattle.zone_model.specs.declared.ZoneKind.{ZoneKind}
-use Rattle.zone_model.specs.declared.ZoneKind.TheVariants.{BadName, BadToken, OpenParen, OpenQuote, NoOwner, NoTtl, BadTtl, BadClass, UnknownType, BadRdata, Include, OutsideZone, CnameAndOther, SoaRule, LongEntry}
+use Rattle.zone_model.specs.declared.ZoneKind.TheVariants as zone_kind
 use Rattle.zone_model.specs.declared.ScriptKind.{ScriptKind}
-use Rattle.zone_model.specs.declared.ScriptKind.TheVariants.{NoWorker, BadCommand, OpenBlock, TooMany}
+use Rattle.zone_model.specs.declared.ScriptKind.TheVariants.{NoWorker, BadCommand, BadName, BadType, BadRdata, BadNumber, OpenBlock, TooMany}
 use Rattle.outer_io.specs.Bytes.{Grows, GrowsByFront}
 use Rattle.qp_main.specs.Invocations.{Invocation}
 use Rattle.qp_main.specs.declared.status.Status.{Status}
 use Rattle.qp_main.specs.declared.status.Status.TheVariants as status
 
 abbrev pub zone_kind_text : ZoneKind → List ℕ
-zone_kind_text BadName = codes "BadName"
-zone_kind_text BadToken = codes "BadToken"
-zone_kind_text OpenParen = codes "OpenParen"
-zone_kind_text OpenQuote = codes "OpenQuote"
-zone_kind_text NoOwner = codes "NoOwner"
-zone_kind_text NoTtl = codes "NoTtl"
-zone_kind_text BadTtl = codes "BadTtl"
-zone_kind_text BadClass = codes "BadClass"
-zone_kind_text UnknownType = codes "UnknownType"
-zone_kind_text BadRdata = codes "BadRdata"
-zone_kind_text Include = codes "Include"
-zone_kind_text OutsideZone = codes "OutsideZone"
-zone_kind_text CnameAndOther = codes "CnameAndOther"
-zone_kind_text SoaRule = codes "SoaRule"
-zone_kind_text LongEntry = codes "LongEntry"
+zone_kind_text zone_kind.BadName = codes "BadName"
+zone_kind_text zone_kind.BadToken = codes "BadToken"
+zone_kind_text zone_kind.OpenParen = codes "OpenParen"
+zone_kind_text zone_kind.OpenQuote = codes "OpenQuote"
+zone_kind_text zone_kind.NoOwner = codes "NoOwner"
+zone_kind_text zone_kind.NoTtl = codes "NoTtl"
+zone_kind_text zone_kind.BadTtl = codes "BadTtl"
+zone_kind_text zone_kind.BadClass = codes "BadClass"
+zone_kind_text zone_kind.UnknownType = codes "UnknownType"
+zone_kind_text zone_kind.BadRdata = codes "BadRdata"
+zone_kind_text zone_kind.Include = codes "Include"
+zone_kind_text zone_kind.OutsideZone = codes "OutsideZone"
+zone_kind_text zone_kind.CnameAndOther = codes "CnameAndOther"
+zone_kind_text zone_kind.SoaRule = codes "SoaRule"
+zone_kind_text zone_kind.LongEntry = codes "LongEntry"
 
 abbrev pub script_kind_text : ScriptKind → List ℕ
 script_kind_text NoWorker = codes "NoWorker"
 script_kind_text BadCommand = codes "BadCommand"
+script_kind_text BadName = codes "BadName"
+script_kind_text BadType = codes "BadType"
+script_kind_text BadRdata = codes "BadRdata"
+script_kind_text BadNumber = codes "BadNumber"
 script_kind_text OpenBlock = codes "OpenBlock"
 script_kind_text TooMany = codes "TooMany"
 

@@ -1,6 +1,7 @@
 pub mod Views
 pub mod Steps
-pub mod ZoneViews
+pub mod Phrases
+pub mod Parts
 pub mod Scripts
 pub mod Statuses
 pub mod Invocations

@@ -1,5 +1,5 @@
 -- The two parts of an input.
-use Rattle.std.specs.Prelude.{◌≡◌, ℕ, ◌≤◌, List, length, take, drop}
+use Rattle.std.specs.Prelude.{◌≡◌, ℕ, ◌+◌, ◌≤◌, List, length, take, drop}
 use Rattle.zone_model.specs.Lines.{lines_of}
 use Rattle.zone_model.specs.Jobs.{zone_lines, script_lines, script_start}
 use Rattle.qp_main.specs.declared.parts.Parts.{Parts}

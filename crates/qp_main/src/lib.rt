@@ -5,16 +5,18 @@ mod answers;
 mod commands;
 mod gate;
 mod invocation;
-mod lines;
+
 mod operations;
-mod plain_words;
+mod parts;
+mod phrases;
+
 mod program;
 mod report;
 mod script;
 mod status;
 mod versions;
 mod worker;
-mod zone;
+
 
 pub use gate::Gate;
 pub use program::run;

@@ -2,9 +2,8 @@
 ghost use Rattle.std.specs.Prelude.{◌≡◌, ◌<◌, ◌≤◌, ◌+◌, ◌^◌, ◌++◌, ◌∷◌, [], ℕ, List, length, IfOk, OnOk, map, codes, Ok, Result, IfSome, MatchOption, IsSome, Some, None};
 ghost use Rattle.std.specs.String.{string_bytes};
 ghost use Rattle.std.specs.Io.KnownBytes.{Consumes};
-ghost use Rattle.std.specs.List.{position_or_len};
-ghost use Rattle.zone_model.specs.Jobs.{job_of, job_of_lines, is_cut};
-ghost use Rattle.zone_model.specs.Lines.{lines_of};
+ghost use Rattle.zone_model.specs.Jobs.{job_of};
+ghost use Rattle.qp_main.specs.Parts.{IsCutAt};
 ghost use Rattle.outer_io.specs.Faults.{Rose};
 ghost use Rattle.outer_io.specs.Bytes.{Grows, GrowsByFront};
 ghost use Rattle.qp_main.specs.Invocations.{invocation_of};
@@ -13,88 +12,52 @@ ghost use Rattle.qp_main.specs.Due.{Answers, IsWritten, IsUnwritten, Written, Cu
 
 use crate::gate::Gate;
 use crate::invocation::{Invocation, invocation_of};
-use crate::lines::lines_of;
+use crate::parts::{Parts, split};
 use crate::report::{script_refused, zone_refused};
 use crate::script::{ScriptStop, read_script};
 use crate::status::Status;
 use crate::worker::report_job;
-use crate::zone::read_zone;
 use dns_name::Name;
+use master_file::{ZoneRefusal, read_zone};
 use outer_io::{ReadRefusal, Sink, Source, read_all, write_all};
 use std::alloc::{AllocError, Global};
-use std::collections::BTreeMap;
 use std::sync::Wait;
 use std::thread::Threads;
 
 // The most bytes of an input.
 const INPUT_LIMIT: u32 = 16777216;
 
-// Where the line stands that ends the zone, or how many lines there are.
-fn cut_at(lines: &[&[u8]]) -> usize
-    ensures place { result ≡ position_or_len is_cut (map (λ l. l.now) lines.now) }
-    ensures within { result ≤ length lines.now }
-{
-    for (index, line) in lines.iter().enumerate() {
-        if *line == b"%%".as_slice() {
-            return index;
-        }
-    }
-    lines.len()
-}
-
-// The status and the text for a zone's lines and a script's, the first of which has a number.
+// The status and the text for a zone's bytes and the script that begins at a place, on a line with a number.
 #[tactic(auto, unfolding(zone_model::specs::Jobs::job_of_lines))]
 fn answer_parts<G: Gate>(
     alloc: Global,
     origin: &Name,
-    zone: &[&[u8]],
-    start: u64,
-    script: &[&[u8]],
+    bytes: &[u8],
+    parts: Parts,
     gate: &G,
 ) -> Result<(Status, Vec<u8>), AllocError>
-    requires { start < 2 ^ 62 }
-    ensures { IfOk result (λ x. Answers (job_of_lines origin.now (map (λ l. l.now) zone.now) start (map (λ l. l.now) script.now)) x.0 x.1.items) }
+    requires short { length bytes.now ≤ 2 ^ 24 }
+    requires cut { IsCutAt bytes.now parts }
+    ensures { IfOk result (λ x. Answers (job_of origin.now bytes.now) x.0 x.1.items) }
 {
-    let mut version = BTreeMap::new(alloc);
-    if let Err(refusal) = read_zone(alloc, origin, zone, &mut version)? {
-        return Ok((
-            Status::ZoneRefused,
-            zone_refused(alloc, refusal.line, refusal.kind)?,
-        ));
-    }
-    match read_script(alloc, origin, start, script) {
+    let zone = match read_zone(alloc, &bytes[..parts.zone_end as usize], origin) {
+        Ok(zone) => zone,
+        Err(ZoneRefusal::Refused { line, kind }) => {
+            return Ok((
+                Status::ZoneRefused,
+                zone_refused(alloc, u64::from(line), kind)?,
+            ));
+        }
+        Err(ZoneRefusal::Memory) => return Err(AllocError),
+    };
+    let mut version = zone.into_entries();
+    match read_script(alloc, bytes, origin, parts.script_from, parts.first_line) {
         Ok(commands) => report_job(alloc, origin, &mut version, &commands, gate),
         Err(ScriptStop::Refused(line, kind)) => Ok((
             Status::ScriptRefused,
-            script_refused(alloc, line, kind)?,
+            script_refused(alloc, u64::from(line), kind)?,
         )),
         Err(ScriptStop::Memory) => Err(AllocError),
-    }
-}
-
-// The same for lines that are cut at a place.
-fn answer_lines<G: Gate>(
-    alloc: Global,
-    origin: &Name,
-    lines: &[&[u8]],
-    cut: usize,
-    gate: &G,
-) -> Result<(Status, Vec<u8>), AllocError>
-    requires place { cut ≡ position_or_len is_cut (map (λ l. l.now) lines.now) }
-    requires within { cut ≤ length lines.now }
-    ensures { (bytes : List ℕ) → map (λ l. l.now) lines.now ≡ lines_of bytes → IfOk result (λ x. Answers (job_of origin.now bytes) x.0 x.1.items) }
-{
-    if cut < lines.len() {
-        answer_parts(
-            alloc,
-            origin,
-            &lines[..cut],
-            cut as u64 + 2,
-            &lines[cut + 1..],
-            gate,
-        )
-    } else {
-        answer_parts(alloc, origin, lines, cut as u64 + 1, &[], gate)
     }
 }
 
@@ -106,11 +69,11 @@ fn answer<R: Threads + Wait + Sync, G: Gate>(
     bytes: &[u8],
     gate: &G,
 ) -> Result<(Status, Vec<u8>), AllocError>
+    requires { length bytes.now ≤ 16777216 }
     ensures { IfOk result (λ x. Answers (job_of origin.now bytes.now) x.0 x.1.items) }
 {
-    let lines = lines_of(alloc, bytes)?;
-    let cut = cut_at(&lines);
-    answer_lines(alloc, origin, &lines, cut, gate)
+    let parts = split(bytes);
+    answer_parts(alloc, origin, bytes, parts, gate)
 }
 
 // Writes the text that is due under a status.

@@ -38,6 +38,7 @@ pub fn push_refused(out: &mut Vec<u8>, cause: Refusal) -> Result<(), AllocError>
 {
     match cause {
         Refusal::Soa => out.extend_from_slice(b"REFUSED soa\n"),
+        Refusal::Cname => out.extend_from_slice(b"REFUSED cname\n"),
         Refusal::Long => out.extend_from_slice(b"REFUSED long\n"),
     }
 }
@@ -81,6 +82,10 @@ fn script_kind_name(kind: ScriptKind) -> &'static [u8]
     match kind {
         ScriptKind::NoWorker => b"NoWorker",
         ScriptKind::BadCommand => b"BadCommand",
+        ScriptKind::BadName => b"BadName",
+        ScriptKind::BadType => b"BadType",
+        ScriptKind::BadRdata => b"BadRdata",
+        ScriptKind::BadNumber => b"BadNumber",
         ScriptKind::OpenBlock => b"OpenBlock",
         ScriptKind::TooMany => b"TooMany",
     }

@@ -4,7 +4,7 @@ ghost use Rattle.std.specs.Map.{keys_of};
 ghost use Rattle.std.specs.List.Sorted.{IsStrictlySortedBy};
 ghost use Rattle.zone_model.specs.Names.{name_cmp};
 ghost use Rattle.zone_model.specs.Records.{Rrset, without_set, without_rr};
-ghost use Rattle.zone_model.specs.Versions.{entry_of, owned, holds, with_soa, with_added, is_low_soa, loses_soa, fitting, keeping_soa, changed, put, apply, whole, soa_type};
+ghost use Rattle.zone_model.specs.Versions.{entry_of, owned, holds, with_soa, with_added, is_low_soa, is_lone, loses_soa, fitting, keeping_soa, changed, put, apply, whole, soa_type};
 ghost use Rattle.qp_main.specs.Views.{addition_view, operation_view};
 ghost use Rattle.qp_main.specs.Steps.{Gives, Applies, Transacts, restored, undone, Undoes, Returns};
 ghost use Rattle.qp_main.specs.declared.versions.Stopped.TheVariants.{Memory};
@@ -18,6 +18,9 @@ use zone_model::Refusal;
 
 /// The type of the start of authority.
 pub const SOA: u16 = 6;
+
+/// The type of an alias.
+pub const CNAME: u16 = 5;
 
 /// The most octets of an item.
 pub const ITEM_LIMIT: usize = 4096;
@@ -105,6 +108,20 @@ fn keeping_soa(before: &Entry, after: Entry) -> Result<Entry, Stopped>
     }
 }
 
+// An alias stands alone.
+fn is_lone(entry: &Entry) -> bool
+    ensures { result ≡ is_lone entry.now }
+{
+    if entry.sets() == 0 {
+        return true;
+    }
+    if entry.sets() == 1 {
+        let set = entry.set_at(0);
+        return set.rtype() != CNAME || set.len() <= 1;
+    }
+    entry.find_set(CNAME).is_none()
+}
+
 // An entry with a record more.
 fn added(
     alloc: Global,
@@ -118,6 +135,9 @@ fn added(
         return Err(Stopped::Refused(Refusal::Soa));
     }
     add_record(alloc, &mut entry, record)?;
+    if !is_lone(&entry) {
+        return Err(Stopped::Refused(Refusal::Cname));
+    }
     if entry.item_len(&record.owner) > ITEM_LIMIT {
         return Err(Stopped::Refused(Refusal::Long));
     }

@@ -3,7 +3,7 @@ use Rattle.std.proofs.Common.{◌≡◌, ◌∙◌, ℕ, zero, suc, ◌+◌, ◌
 use Rattle.std.proofs.lemmas.List.{append-nil}
 use Rattle.std.proofs.lemmas.Bool.{or_parts, or_cases, or_from, or_right, eqb-true, ne_eqb}
 use Rattle.std.proofs.lemmas.Bool.Decides.{nat_tests}
-use Rattle.zone_model.specs.Zones.{Refused, ◌>>=◌}
+use Rattle.zone_model.specs.Refusals.{Refused, ◌>>=◌}
 use Rattle.zone_model.specs.Tokens.{Token, Begun, Apart, Comment, Word, Quote, Escape, Scan, EntryTokens, fresh, refused, with_token, opened, closed, apart, in_word, in_quote, step, steps, line_end, line_tokens, entry_from, entry_of, LineTokens, single_line, is_blank, parts_words}
 use Rattle.zone_model.specs.Grammar as says
 use Rattle.zone_model.specs.Grammar.{Run, stops_word, stops_quote, EndsWord, Spelled, with_first, with_paren, Spells, outermost, behind, SpellsEntry, line_says}

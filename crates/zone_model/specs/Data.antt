@@ -8,7 +8,7 @@ use Rattle.std.specs.Int.{w16, w32, to_be_bytes}
 use Rattle.zone_model.specs.Names.{Name, wire}
 use Rattle.zone_model.specs.NameText.{name_of}
 use Rattle.zone_model.specs.Texts.{named, number, address}
-use Rattle.zone_model.specs.Zones.{◌>>=◌}
+use Rattle.zone_model.specs.Refusals.{◌>>=◌}
 use Rattle.zone_model.specs.declared.DataRefusal.{DataRefusal}
 use Rattle.zone_model.specs.declared.DataRefusal.TheVariants.{BadRdata, LongString}
 use Rattle.zone_model.specs.Tokens.{Token}

@@ -1,7 +1,7 @@
 -- The grammar of a master file's lines (RFC 1035, section 5.1): how a text is spelled by its tokens, and where the
 -- spelling breaks. Of the bytes, 34 is a quote, 40 and 41 are parentheses, 59 is a semicolon and 92 a backslash.
 use Rattle.std.specs.Prelude.{◌≡◌, ℕ, ◌+◌, ◌<◌, Bool, true, false, ◌||◌, List, [], ◌∷◌, ◌++◌, length, ◌==◌, Result, Ok, Err}
-use Rattle.zone_model.specs.Zones.{Refused}
+use Rattle.zone_model.specs.Refusals.{Refused}
 use Rattle.zone_model.specs.declared.ZoneKind.{ZoneKind}
 use Rattle.zone_model.specs.declared.ZoneKind.TheVariants.{BadToken, OpenQuote, OpenParen}
 

@@ -1,17 +1,18 @@
 -- A job: the zone, and the commands of each worker.
-use Rattle.std.specs.Prelude.{ℕ, ◌+◌, Bool, true, false, List, [], ◌∷◌, ◌++◌, length, nat_le, nat_lt, if◌then◌else◌, Option, Some, None, Result, Ok, Err, codes, option_and_then}
-use Rattle.std.specs.Option.{option_map}
+use Rattle.std.specs.Prelude.{ℕ, ◌+◌, Bool, true, false, List, [], ◌∷◌, ◌++◌, length, nat_lt, if◌then◌else◌, Option, Some, None, Result, Ok, Err, codes, option_and_then}
 use Rattle.std.specs.List.{before_first, after_first, list_any}
 use Rattle.std.specs.Str.{bytes_eq}
 use Rattle.zone_model.specs.Names.{Name, is_under}
-use Rattle.zone_model.specs.NameText.{name_of}
 use Rattle.zone_model.specs.Versions.{Version, Operation, Add, DeleteName, DeleteSet, DeleteRecord}
-use Rattle.zone_model.specs.Lines.{lines_of, words}
-use Rattle.zone_model.specs.Texts.{named, number, type_of, rdata_of, most_time}
-use Rattle.zone_model.specs.Zones.{Refused, ◌>>=◌, is_plain, addition_of, zone_of}
+use Rattle.zone_model.specs.Lines.{lines_of}
+use Rattle.zone_model.specs.Refusals.{Refused, ◌>>=◌}
+use Rattle.zone_model.specs.Tokens.{Token, LineTokens, single_line}
+use Rattle.zone_model.specs.Data.{data_of}
+use Rattle.zone_model.specs.MasterFile.{name_word, time_word, type_word, zone_of}
 use Rattle.zone_model.specs.declared.ZoneKind.{ZoneKind}
+use Rattle.zone_model.specs.declared.DataRefusal.{DataRefusal}
 use Rattle.zone_model.specs.declared.ScriptKind.{ScriptKind}
-use Rattle.zone_model.specs.declared.ScriptKind.TheVariants.{NoWorker, BadCommand, OpenBlock, TooMany}
+use Rattle.zone_model.specs.declared.ScriptKind.TheVariants.{NoWorker, BadCommand, BadName, BadType, BadRdata, BadNumber, OpenBlock, TooMany}
 
 pub data Command : Type 0 where
   Get : (name : Name) (rtype : ℕ) → Command
@@ -27,56 +28,108 @@ pub data JobRefusal : Type 0 where
   ZoneRefused : (refused : Refused ZoneKind) → JobRefusal
   ScriptRefused : (refused : Refused ScriptKind) → JobRefusal
 
--- what a line of a script says
-pub data Word : Type 0 where
-  Worker : Word
-  Query : (command : Command) → Word
-  Opens : Word
-  Change : (operation : Operation) → Word
-  Commits : Word
+-- ---- the tokens of a line
 
-abbrev pub is_word : List ℕ → List ℕ → Bool
-is_word a b = bytes_eq a b
+-- The tokens of line n, which stands by itself; None where a parenthesis stands outside quotes, or a token is bad.
+abbrev pub without_parens : Result LineTokens (Refused ZoneKind) → Option (List Token)
+without_parens (Err e) = None
+without_parens (Ok l) = if l.parens then None else Some l.tokens
 
-abbrev pub query_of : Option Name → Option ℕ → Option Word
-query_of (Some name) (Some rtype) = Some (Query (Get name rtype))
-query_of None rtype = None
-query_of (Some name) None = None
+abbrev pub script_tokens : ℕ → List ℕ → Option (List Token)
+script_tokens n line = without_parens (single_line n line)
 
--- the name that a word says, at or under the origin
-abbrev pub inner_name : Name → List ℕ → Option Name
-inner_name origin word = option_and_then (λ name. if is_under name origin then Some name else None) (named (name_of word origin))
+-- ---- what a line's tokens are, by the command word and the number of tokens
 
--- the words of an addition behind `add`: its owner, time to live, type and data
-abbrev pub add_of : Name → List ℕ → List ℕ → List (List ℕ) → Option Word
-add_of origin owner ttl rest =
-    option_and_then (λ t. option_and_then (λ addition. if is_under addition.owner origin then Some (Change (Add addition)) else None) (addition_of origin t (owner ∷ rest))) (number most_time ttl)
+pub data Phrase : Type 0 where
+  Worker : Phrase
+  AsksFor : (name rtype : Token) → Phrase
+  Opens : Phrase
+  Adds : (owner ttl rtype : Token) (rdata : List Token) → Phrase
+  Deletes : (owner : Token) (rest : List Token) → Phrase
+  Commits : Phrase
 
--- the words of a deletion behind `del`: a name; its RRset of a type; or one record
-abbrev pub delete_of : Name → List ℕ → List (List ℕ) → Option Word
-delete_of origin owner [] = option_map (λ name. Change (DeleteName name)) (inner_name origin owner)
-delete_of origin owner (rtype ∷ []) =
-    option_and_then (λ name. option_map (λ t. Change (DeleteSet name t)) (type_of rtype)) (inner_name origin owner)
-delete_of origin owner (rtype ∷ word ∷ rest) =
-    option_and_then (λ name. option_and_then (λ t. option_map (λ octets. Change (DeleteRecord name t octets)) (rdata_of origin t (word ∷ rest))) (type_of rtype)) (inner_name origin owner)
+-- the token is a command word, which stands in lower case and without quotes
+abbrev pub says : Token → List ℕ → Bool
+says t word = if t.quoted then false else bytes_eq t.text word
 
--- what the words of a line say
-unfoldable pub word_of : Name → List (List ℕ) → Option Word
-word_of origin [] = None
-word_of origin (w ∷ []) =
-    if is_word w (codes "worker") then Some Worker
-    else if is_word w (codes "write") then Some Opens
-    else if is_word w (codes "commit") then Some Commits
+abbrev pub lone_word : Token → Option Phrase
+lone_word w =
+    if says w (codes "worker") then Some Worker
+    else if says w (codes "write") then Some Opens
+    else if says w (codes "commit") then Some Commits
     else None
-word_of origin (w ∷ a ∷ []) = if is_word w (codes "del") then delete_of origin a [] else None
-word_of origin (w ∷ a ∷ b ∷ []) =
-    if is_word w (codes "get") then query_of (named (name_of a origin)) (type_of b)
-    else if is_word w (codes "del") then delete_of origin a (b ∷ [])
+
+-- a question has a name and a type
+abbrev pub asks : Token → List Token → Option Phrase
+asks name [] = None
+asks name (rtype ∷ []) = Some (AsksFor name rtype)
+asks name (rtype ∷ other ∷ rest) = None
+
+-- an addition has an owner, a time to live, a type, and data of one token or more
+abbrev pub adds : Token → List Token → Option Phrase
+adds owner [] = None
+adds owner (ttl ∷ []) = None
+adds owner (ttl ∷ rtype ∷ []) = None
+adds owner (ttl ∷ rtype ∷ first ∷ rest) = Some (Adds owner ttl rtype (first ∷ rest))
+
+unfoldable pub phrase_of : List Token → Option Phrase
+phrase_of [] = None
+phrase_of (w ∷ []) = lone_word w
+phrase_of (w ∷ first ∷ rest) =
+    if says w (codes "get") then asks first rest
+    else if says w (codes "add") then adds first rest
+    else if says w (codes "del") then Some (Deletes first rest)
     else None
-word_of origin (w ∷ a ∷ b ∷ c ∷ rest) =
-    if is_word w (codes "add") then add_of origin a b (c ∷ rest)
-    else if is_word w (codes "del") then delete_of origin a (b ∷ c ∷ rest)
-    else None
+
+-- ---- arguments, from the left
+
+abbrev pub refuse : {A : Type 0} → ℕ → ScriptKind → Result A (Refused ScriptKind)
+refuse n kind = Err (record { line = n; kind = kind })
+
+abbrev pub needed : {A : Type 0} → ℕ → ScriptKind → Option A → Result A (Refused ScriptKind)
+needed n kind (Some x) = Ok x
+needed n kind None = refuse n kind
+
+-- a name at or under the origin
+abbrev pub inner_name : Name → Token → Option Name
+inner_name origin t = option_and_then (λ name. if is_under name origin then Some name else None) (name_word origin t)
+
+abbrev pub octets_needed : ℕ → Result (List ℕ) DataRefusal → Result (List ℕ) (Refused ScriptKind)
+octets_needed n (Ok octets) = Ok octets
+octets_needed n (Err e) = refuse n BadRdata
+
+-- a question
+unfoldable pub query_of : Name → ℕ → Token → Token → Result Command (Refused ScriptKind)
+query_of origin n name rtype = do
+  q ← needed n BadName (name_word origin name)
+  t ← needed n BadType (type_word rtype)
+  Ok (Get q t)
+
+-- an addition
+unfoldable pub addition_of : Name → ℕ → Token → Token → Token → List Token → Result Operation (Refused ScriptKind)
+addition_of origin n owner ttl rtype data_tokens = do
+  name ← needed n BadName (inner_name origin owner)
+  time ← needed n BadNumber (time_word ttl)
+  t ← needed n BadType (type_word rtype)
+  octets ← octets_needed n (data_of origin t data_tokens)
+  Ok (Add (record { owner = name; rtype = t; ttl = time; octets = octets }))
+
+-- a deletion of a name, of its RRset of a type, or of one record
+unfoldable pub deletion_of : Name → ℕ → Token → List Token → Result Operation (Refused ScriptKind)
+deletion_of origin n owner [] = do
+  name ← needed n BadName (inner_name origin owner)
+  Ok (DeleteName name)
+deletion_of origin n owner (rtype ∷ []) = do
+  name ← needed n BadName (inner_name origin owner)
+  t ← needed n BadType (type_word rtype)
+  Ok (DeleteSet name t)
+deletion_of origin n owner (rtype ∷ first ∷ rest) = do
+  name ← needed n BadName (inner_name origin owner)
+  t ← needed n BadType (type_word rtype)
+  octets ← octets_needed n (data_of origin t (first ∷ rest))
+  Ok (DeleteRecord name t octets)
+
+-- ---- a script
 
 -- how far a script has come: whether a worker began, its commands, and the block that is open with the line of its first word
 pub record Script : Type 0 where
@@ -91,40 +144,55 @@ command_limit = 10000
 abbrev pub operation_limit : ℕ
 operation_limit = 10000
 
-abbrev pub refuse : {A : Type 0} → ℕ → ScriptKind → Result A (Refused ScriptKind)
-refuse n kind = Err (record { line = n; kind = kind })
-
 -- a command of a worker that has begun and has room for it
-abbrev pub admitted : ℕ → Script → Script → Result Script (Refused ScriptKind)
-admitted n s next = if s.begun then (if nat_lt (length s.commands) command_limit then Ok next else refuse n TooMany) else refuse n NoWorker
+abbrev pub admitted : {A : Type 0} → ℕ → Script → Result A (Refused ScriptKind) → Result A (Refused ScriptKind)
+admitted n s next = if s.begun then (if nat_lt (length s.commands) command_limit then next else refuse n TooMany) else refuse n NoWorker
 
--- a line's word outside a block
-abbrev pub outside : ℕ → Word → Script → Result Script (Refused ScriptKind)
-outside n Worker s = if s.begun then refuse n TooMany else Ok (record s { begun = true })
-outside n (Query command) s = admitted n s (record s { commands = s.commands ++ command ∷ [] })
-outside n Opens s = admitted n s (record s { block = Some (n, []) })
-outside n (Change operation) s = refuse n BadCommand
-outside n Commits s = refuse n BadCommand
+abbrev pub with_command : Script → Command → Result Script (Refused ScriptKind)
+with_command s command = Ok (record s { commands = s.commands ++ command ∷ [] })
 
--- a line's word inside a block that began on a line
-abbrev pub inside : ℕ → ℕ → List Operation → Word → Script → Result Script (Refused ScriptKind)
-inside n start operations Worker s = refuse start OpenBlock
-inside n start operations (Query command) s = refuse n BadCommand
-inside n start operations Opens s = refuse n BadCommand
-inside n start operations (Change operation) s = if nat_lt (length operations) operation_limit then Ok (record s { block = Some (start, operations ++ operation ∷ []) }) else refuse n TooMany
-inside n start operations Commits s = Ok (record s { commands = s.commands ++ Block operations ∷ []; block = None })
+-- a line outside a block
+abbrev pub outside : Name → ℕ → Phrase → Script → Result Script (Refused ScriptKind)
+outside origin n Worker s = if s.begun then refuse n TooMany else Ok (record s { begun = true })
+outside origin n (AsksFor name rtype) s = admitted n s (query_of origin n name rtype >>= with_command s)
+outside origin n Opens s = admitted n s (Ok (record s { block = Some (n, []) }))
+outside origin n (Adds owner ttl rtype tokens) s = refuse n BadCommand
+outside origin n (Deletes owner rest) s = refuse n BadCommand
+outside origin n Commits s = refuse n BadCommand
 
-abbrev pub taken : ℕ → Script → Option Word → Result Script (Refused ScriptKind)
-taken n s None = refuse n BadCommand
-taken n s (Some word) = by_block s.block
+abbrev pub with_operation : ℕ → List Operation → Script → Operation → Result Script (Refused ScriptKind)
+with_operation start operations s operation = Ok (record s { block = Some (start, operations ++ operation ∷ []) })
+
+-- an operation of a block that has room for it
+abbrev pub joined : ℕ → ℕ → List Operation → Script → Result Operation (Refused ScriptKind) → Result Script (Refused ScriptKind)
+joined n start operations s operation =
+    if nat_lt (length operations) operation_limit then operation >>= with_operation start operations s else refuse n TooMany
+
+-- a line inside a block that began on a line
+abbrev pub inside : Name → ℕ → ℕ → List Operation → Phrase → Script → Result Script (Refused ScriptKind)
+inside origin n start operations Worker s = refuse start OpenBlock
+inside origin n start operations (AsksFor name rtype) s = refuse n BadCommand
+inside origin n start operations Opens s = refuse n BadCommand
+inside origin n start operations (Adds owner ttl rtype tokens) s = joined n start operations s (addition_of origin n owner ttl rtype tokens)
+inside origin n start operations (Deletes owner rest) s = joined n start operations s (deletion_of origin n owner rest)
+inside origin n start operations Commits s = Ok (record s { commands = s.commands ++ Block operations ∷ []; block = None })
+
+abbrev pub taken : Name → ℕ → Script → Option Phrase → Result Script (Refused ScriptKind)
+taken origin n s None = refuse n BadCommand
+taken origin n s (Some phrase) = by_block s.block
   where
     by_block : Option (ℕ × List Operation) → Result Script (Refused ScriptKind)
-    by_block None = outside n word s
-    by_block (Some open_block) = inside n open_block.0 open_block.1 word s
+    by_block None = outside origin n phrase s
+    by_block (Some open_block) = inside origin n open_block.0 open_block.1 phrase s
 
--- one line of a script; an empty one says nothing
+-- the tokens of line n; a line without tokens says nothing
+abbrev pub tokens_say : Name → ℕ → Script → Option (List Token) → Result Script (Refused ScriptKind)
+tokens_say origin n s None = refuse n BadCommand
+tokens_say origin n s (Some []) = Ok s
+tokens_say origin n s (Some (t ∷ tokens)) = taken origin n s (phrase_of (t ∷ tokens))
+
 unfoldable pub script_line : Name → ℕ → List ℕ → Script → Result Script (Refused ScriptKind)
-script_line origin n line s = if nat_le (length line) 0 then Ok s else if is_plain line then taken n s (word_of origin (words line)) else refuse n BadCommand
+script_line origin n line s = tokens_say origin n s (script_tokens n line)
 
 unfoldable pub script_from : Name → ℕ → List (List ℕ) → Script → Result Script (Refused ScriptKind)
 script_from origin n [] s = Ok s
@@ -141,6 +209,8 @@ finished n s = by_block s.block
 -- the workers' commands that these lines say, the first of which has a number
 unfoldable pub script_of : Name → ℕ → List (List ℕ) → Result (List (List Command)) (Refused ScriptKind)
 script_of origin n lines = script_from origin n lines (record { begun = false; commands = []; block = None }) >>= finished (n + length lines)
+
+-- ---- the two parts of a job
 
 -- the line between zone and script
 abbrev pub is_cut : List ℕ → Bool

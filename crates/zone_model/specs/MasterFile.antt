@@ -6,8 +6,8 @@ use Rattle.zone_model.specs.Names.{Name, is_under, same_name, name_cmp}
 use Rattle.zone_model.specs.NameText.{name_of}
 use Rattle.zone_model.specs.Texts.{named}
 use Rattle.zone_model.specs.Records.{Rrset, Entry, rrset_of, with_rr, item}
-use Rattle.zone_model.specs.Versions.{Version, entry_of}
-use Rattle.zone_model.specs.Zones.{Refused, ◌>>=◌, has_soa}
+use Rattle.zone_model.specs.Versions.{Version, entry_of, has_soa, is_lone}
+use Rattle.zone_model.specs.Refusals.{Refused, ◌>>=◌}
 use Rattle.zone_model.specs.declared.ZoneKind.{ZoneKind}
 use Rattle.zone_model.specs.declared.ZoneKind.TheVariants.{BadName, BadToken, OpenParen, NoOwner, NoTtl, BadTtl, BadClass, UnknownType, BadRdata, Include, OutsideZone, CnameAndOther, SoaRule, LongEntry}
 use Rattle.zone_model.specs.declared.DataRefusal.{DataRefusal}
@@ -130,12 +130,6 @@ or_else None other = other
 -- the time of a record: written, set by a directive, last written, or an SOA's minimum
 abbrev pub time_for : Option ℕ → ℕ → List ℕ → Reader → Option ℕ
 time_for written rtype octets r = or_else written (or_else r.set_time (or_else r.last_time (if rtype == 6 then Some (minimum_of octets) else r.minimum)))
-
--- an alias stands alone
-abbrev pub is_lone : Entry → Bool
-is_lone [] = true
-is_lone (s ∷ []) = not (s.rtype == 5) || nat_le (length s.records) 1
-is_lone (s ∷ t ∷ more) = is_none (rrset_of 5 (s ∷ t ∷ more))
 
 abbrev pub soa_count : Entry → ℕ
 soa_count entry = count_in (rrset_of 6 entry)

@@ -10,7 +10,7 @@ use Rattle.zone_model.specs.Answers.{Answer, Kind, Answered, Nodata, Nxdomain, O
 use Rattle.zone_model.specs.Jobs.{Command, Get, Block}
 use Rattle.zone_model.specs.Outcomes.{Ended, Shown, Committed, Refused, Outcome, Pair, all_pairs, version_at}
 use Rattle.zone_model.specs.declared.Refusal.{Refusal}
-use Rattle.zone_model.specs.declared.Refusal.TheVariants.{Soa, Long}
+use Rattle.zone_model.specs.declared.Refusal.TheVariants.{Soa, Cname, Long}
 
 -- a record as a line of a master file
 abbrev pub row_text : Row → List ℕ
@@ -35,6 +35,7 @@ head_text worker command version = decimal worker ++ codes "." ++ decimal comman
 
 abbrev pub cause_text : Refusal → List ℕ
 cause_text Soa = codes "soa"
+cause_text Cname = codes "cname"
 cause_text Long = codes "long"
 
 abbrev pub ended_text : Ended → List ℕ

@@ -1,11 +1,11 @@
 -- A version of the zone is the list of its names with their entries, in canonical order. Operations change it.
-use Rattle.std.specs.Prelude.{ℕ, Bool, false, ◌&&◌, not, List, [], ◌∷◌, length, nat_lt, ◌==◌, if◌then◌else◌, Option, Some, None, unwrap_or, is_some, is_none, Result, Ok, Err}
+use Rattle.std.specs.Prelude.{ℕ, Bool, true, false, ◌&&◌, ◌||◌, not, List, [], ◌∷◌, length, nat_lt, nat_le, ◌==◌, if◌then◌else◌, Option, Some, None, unwrap_or, is_some, is_none, Result, Ok, Err}
 use Rattle.std.specs.BTreeMap.{insert_entry, is_at}
 use Rattle.std.specs.Map.{lookup, remove_entry}
 use Rattle.zone_model.specs.Names.{Name, name_cmp, same_name}
 use Rattle.zone_model.specs.Records.{Rrset, Entry, rrset_of, has_record, with_rr, without_rr, without_set, item, item_limit}
 use Rattle.zone_model.specs.declared.Refusal.{Refusal}
-use Rattle.zone_model.specs.declared.Refusal.TheVariants.{Soa, Long}
+use Rattle.zone_model.specs.declared.Refusal.TheVariants.{Soa, Cname, Long}
 
 abbrev pub Version : Type 0
 Version = List (Name × Entry)
@@ -46,6 +46,10 @@ holds rtype octets entry = among (rrset_of rtype entry)
     among None = false
     among (Some s) = has_record octets s.records
 
+-- the version has an SOA at its top
+abbrev pub has_soa : Name → Version → Bool
+has_soa origin version = is_some (rrset_of soa_type (owned origin version))
+
 -- A zone has one SOA: another takes its place, with its own time to live. The same one again changes nothing.
 abbrev pub with_soa : ℕ → List ℕ → Entry → Entry
 with_soa ttl octets entry =
@@ -55,13 +59,25 @@ with_soa ttl octets entry =
 abbrev pub with_added : Addition → Entry → Entry
 with_added a entry = if a.rtype == soa_type then with_soa a.ttl a.octets entry else with_rr a.rtype a.ttl a.octets entry
 
+-- the type of an alias (RFC 1035, section 3.3.1)
+abbrev pub cname_type : ℕ
+cname_type = 5
+
+-- an alias stands alone (RFC 1034, section 3.6.2)
+abbrev pub is_lone : Entry → Bool
+is_lone [] = true
+is_lone (s ∷ []) = not (s.rtype == cname_type) || nat_le (length s.records) 1
+is_lone (s ∷ t ∷ more) = is_none (rrset_of cname_type (s ∷ t ∷ more))
+
 -- an SOA below the top
 abbrev pub is_low_soa : Name → Addition → Bool
 is_low_soa origin a = (a.rtype == soa_type) && not (same_name a.owner origin)
 
--- an entry whose item isn't too long
+-- an entry whose alias stands alone and whose item isn't too long
 abbrev pub fitting : Name → Entry → Result Entry Refusal
-fitting owner entry = if nat_lt item_limit (length (item owner entry)) then Err Long else Ok entry
+fitting owner entry =
+    if not (is_lone entry) then Err Cname
+    else if nat_lt item_limit (length (item owner entry)) then Err Long else Ok entry
 
 -- The SOA would leave. It stands at the top alone.
 abbrev pub loses_soa : Entry → Entry → Bool

@@ -1,7 +1,16 @@
-use Rattle.std.proofs.Common.{◌≡◌, ◌+◌, drop, map}
+use Rattle.std.proofs.Common.{◌≡◌, ◌≤◌, ◌+◌, ◌-◌, drop, length}
+use Rattle.zone_model.specs.Lines.{lines_of}
 use Rattle.zone_model.specs.Jobs as jobs
 use Rattle.qp_main.specs.Scripts.{script_view}
 use Rattle.qp_main.proofs.script.script_from.Given as goal
 
-abbrev pub invariant-loop-index : goal.invariant-loop-index
-invariant-loop-index l = jobs.script_from l.origin l.start (map (λ w. w.now) l.lines) (script_view l.fn.script) ≡ jobs.script_from l.origin (l.start + l.index) (map (λ w. w.now) (drop l.index l.lines)) (script_view l.script)
+abbrev pub invariant-loop-at : goal.invariant-loop-at
+invariant-loop-at l = record {
+  so_far : jobs.script_from l.origin l.first (lines_of (drop l.from l.bytes)) (script_view l.fn.script) ≡ jobs.script_from l.origin l.line (lines_of (drop l.at l.bytes)) (script_view l.script);
+  counted : l.line + length (lines_of (drop l.at l.bytes)) ≡ l.first + length (lines_of (drop l.from l.bytes));
+  inside : l.at ≤ length l.bytes;
+  few : l.line ≤ l.at + 1;
+}
+
+abbrev pub decreases-loop-at : goal.decreases-loop-at
+decreases-loop-at l = length l.bytes - l.at

@@ -1,0 +1,27 @@
+use Rattle.std.proofs.Common.{rules, ◌≡◌, ◌<◌, ◌≤◌, ◌∷◌, [], ℕ, List, length, map, Some, None, Option, IfSome, ◌+◌, ◌-◌, ◌*◌, ◌/◌, ◌%◌, Bool, true, false, nat_eq, nat_lt, ◌++◌, slice_index_or, slice_set, bit_and, bit_or, Fits, w8, w32, w64, Bor, MutBor}
+use Rattle.std.specs.Option.{option_map}
+use Rattle.std.specs.List.{All}
+use Rattle.zone_model.specs.Jobs as jobs
+use Rattle.rr_data.specs.Tokens.{IsPlaced, token_view}
+use Rattle.qp_main.specs.Phrases.{phrase_view, PhrasePlaced}
+use Rattle.qp_main.proofs.phrases.phrase_of.Goals as goal
+
+-- src/phrases.rt:102:9
+pub asks-requires-clause-name : goal.asks-requires-clause-name
+asks-requires-clause-name c = ?
+
+-- src/phrases.rt:102:9
+pub asks-requires-clause-rest : goal.asks-requires-clause-rest
+asks-requires-clause-rest c = ?
+
+-- src/phrases.rt:105:9
+pub adds-requires-clause-owner : goal.adds-requires-clause-owner
+adds-requires-clause-owner c = ?
+
+-- src/phrases.rt:105:9
+pub adds-requires-clause-rest : goal.adds-requires-clause-rest
+adds-requires-clause-rest c = ?
+
+-- src/phrases.rt:108:9
+pub returns-then-says-3-clause-placed : goal.returns-then-says-3-clause-placed
+returns-then-says-3-clause-placed c = ?
