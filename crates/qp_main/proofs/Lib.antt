@@ -3,3 +3,4 @@ pub mod RunLemmas
 pub mod InvocationLemmas
 pub mod DueLemmas
 pub mod PartsLemmas
+pub mod PhraseLemmas

@@ -1,11 +1,12 @@
 -- Lines of a text that is cut where a line begins.
-use Rattle.std.proofs.Common.{◌≡◌, ◌∙◌, ℕ, zero, suc, ◌+◌, ◌-◌, ◌<◌, ◌≤◌, Bool, true, false, cond, not, ◌||◌, eqb, List, [], ◌∷◌, ◌++◌, length, map, take, drop, get_or, refl, sym, ap, subst, arith, inl, inr, ◌⊎◌, append_assoc, append-nil, length-append}
+use Rattle.std.proofs.Common.{◌≡◌, ◌∙◌, ℕ, zero, suc, ◌+◌, ◌-◌, ◌<◌, ◌≤◌, Bool, true, false, cond, not, ◌||◌, eqb, ltb, List, [], ◌∷◌, ◌++◌, length, map, take, drop, get_or, refl, sym, ap, subst, arith, inl, inr, ◌⊎◌, append_assoc, append-nil, length-append}
 use Rattle.std.proofs.lemmas.Bool.Decides.{nat_tests}
 use Rattle.std.specs.Prelude.{slice_index}
 use Rattle.std.specs.List.{slice_split, onto_first, position_or_len, list_any, before_first, after_first}
 use Rattle.std.specs.Str.Lines.{lines, lines_of_parts, strip_carriage_return}
 use Rattle.std.proofs.lemmas.List.Splits.{length-slice_split}
 use Rattle.std.proofs.lemmas.List.{take_more, take-append-drop, take_at, drop_at, take_all, drop_all}
+use borrow.Author.Tests.{ltb-true}
 use Rattle.zone_model.specs.Lines.{lines_of}
 use Rattle.zone_model.specs.Jobs.{is_cut, zone_lines, script_lines, script_start}
 use Rattle.qp_main.specs.Parts.{IsCutAt}
@@ -175,3 +176,13 @@ searched_more bytes line at next n s b e c lt inside =
       inside = inside;
       few = (let z : n + 1 ≤ next + 1 = omega (arith, s.few) in z);
     }
+
+-- the place behind a line, whose feed stands before it unless it is the end
+pub next_place : (bytes : List ℕ) (next : ℕ) → next ≤ length bytes → 0 < next → (next < length bytes → slice_index bytes (next - 1) ≡ 10) → Begins bytes next
+next_place bytes next inside some fed = by_test (ltb next (length bytes)) refl
+  where
+    by_test : (t : Bool) → ltb next (length bytes) ≡ t → Begins bytes next
+    by_test true e =
+        let lt : next < length bytes = ltb-true next (length bytes) e in
+        behind_feed (next - 1) (omega arith) (omega arith) (fed lt)
+    by_test false e = at_end (grind (arith, nat_tests))
