@@ -7,7 +7,7 @@ ghost use Rattle.qp_main.specs.Views.{addition_view};
 
 use crate::operations::NewRecord;
 use dns_name::Name;
-use rr_data::{Rdata, read_type};
+use rr_data::{Rdata, read_plain_type};
 use std::alloc::{AllocError, Global};
 
 // The words between spaces.
@@ -57,7 +57,7 @@ pub fn addition_of(
     let Ok(owner) = Name::read(owner, origin) else {
         return Ok(None);
     };
-    let Some(rtype) = read_type(rtype) else {
+    let Some(rtype) = read_plain_type(rtype) else {
         return Ok(None);
     };
     let Some(rdata) = Rdata::read_words(alloc, origin, rtype, words)? else {

@@ -13,7 +13,7 @@ use crate::operations::Operation;
 use crate::plain_words::{addition_of, is_plain, words_of};
 use crate::zone::MOST_TIME;
 use dns_name::Name;
-use rr_data::{Rdata, number, read_type};
+use rr_data::{Rdata, number, read_plain_type};
 use std::alloc::{AllocError, AllocFailed, Global};
 use zone_model::ScriptKind;
 
@@ -125,7 +125,7 @@ fn delete_typed(
     let Some(owner) = inner_name(origin, owner) else {
         return Ok(None);
     };
-    let Some(rtype) = read_type(rtype) else {
+    let Some(rtype) = read_plain_type(rtype) else {
         return Ok(None);
     };
     if words.is_empty() {
@@ -154,7 +154,7 @@ fn query_of(origin: &Name, name: &[u8], rtype: &[u8]) -> Option<Word>
     let Ok(name) = Name::read(name, origin) else {
         return None;
     };
-    match read_type(rtype) {
+    match read_plain_type(rtype) {
         Some(rtype) => Some(Word::Query(Command::Get(name, rtype))),
         None => None,
     }

@@ -1,4 +1,11 @@
+pub mod AddressLemmas
 pub mod EntryLemmas
+pub mod EscapeLemmas
+pub mod FieldLemmas
+pub mod FormLemmas
 pub mod NumberLemmas
 pub mod PlaceLemmas
 pub mod StartsLemmas
+pub mod StringLemmas
+pub mod StringTextLemmas
+pub mod TimeLemmas

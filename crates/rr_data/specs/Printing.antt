@@ -1,13 +1,5 @@
 -- What printing the fields of a type's data leaves.
 use Rattle.std.specs.Prelude.{◌≡◌, ℕ, Bool, true, false, List, ◌++◌, Option, Some, None}
-use Rattle.zone_model.specs.DataText as text
-use Rattle.rr_data.specs.declared.data_text.Field.{Field}
-use Rattle.rr_data.specs.declared.data_text.Field.TheVariants.{Address, Name, Number}
-
-abbrev pub field_view : Field → text.Field
-field_view Address = text.AddressField
-field_view Name = text.NameField
-field_view Number = text.NumberField
 
 -- a field was printed, and these octets are behind it; or octets don't begin with it
 abbrev pub PrintsField : Option (List ℕ) → List ℕ → List ℕ → Option (List ℕ × List ℕ) → Type 0

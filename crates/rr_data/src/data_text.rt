@@ -4,41 +4,16 @@ ghost use Rattle.std.specs.Io.{StartsWith};
 ghost use Rattle.std.specs.Option.{option_map};
 ghost use Rattle.std.specs.List.{flat_map};
 ghost use Rattle.std.specs.Int.{w32, from_be_bytes};
-ghost use Rattle.zone_model.specs.DataText.{type_text, data_text, fields_of, fields_text, field_text, address_text, generic_text, hex_digit, hex_text, split_octets, split_name};
-ghost use Rattle.rr_data.specs.Printing.{field_view, PrintsField, PrintsFields};
+ghost use Rattle.zone_model.specs.DataText.{type_text, data_text, typed_text, fields_text, strings_text, field_text, address_text, groups_text, group_text, digit_at, generic_text, hex_digit, hex_text, string_octet, string_text, quoted_text};
+ghost use Rattle.zone_model.specs.DataForms.{NameField, ShortField, NumberField, TimeField};
+ghost use Rattle.rr_data.specs.Printing.{PrintsField, PrintsFields};
+ghost use Rattle.rr_data.specs.Fields.{field_view};
 
+use crate::fields::{Field, fields_of};
 use crate::rdata::Rdata;
-use dns_name::Name;
+use crate::splits::{number_of, short_of, split_name, split_octets, split_time};
 use itoa::Buffer;
 use std::alloc::AllocError;
-
-// A part of a type's data.
-#[derive(Clone, Copy, Debug, PartialEq, Eq)]
-pub enum Field {
-    Address,
-    Name,
-    Number,
-}
-
-// The parts of a type's data, for the types that are printed by their parts.
-fn fields_of(rtype: u16) -> &'static [Field]
-    ensures { map field_view result.now ≡ fields_of rtype }
-{
-    match rtype {
-        1 => &[Field::Address],
-        2 => &[Field::Name],
-        6 => &[
-            Field::Name,
-            Field::Name,
-            Field::Number,
-            Field::Number,
-            Field::Number,
-            Field::Number,
-            Field::Number,
-        ],
-        _ => &[],
-    }
-}
 
 fn push_decimal(out: &mut Vec<u8>, number: u32) -> Result<(), AllocError>
     ensures ok { OnOk result (out.new.items ≡ out.old.items ++ decimal number) }
@@ -56,32 +31,18 @@ pub fn push_type(rtype: u16, out: &mut Vec<u8>) -> Result<(), AllocError>
     match rtype {
         1 => out.extend_from_slice(b"A"),
         2 => out.extend_from_slice(b"NS"),
+        5 => out.extend_from_slice(b"CNAME"),
         6 => out.extend_from_slice(b"SOA"),
+        12 => out.extend_from_slice(b"PTR"),
+        15 => out.extend_from_slice(b"MX"),
+        16 => out.extend_from_slice(b"TXT"),
+        28 => out.extend_from_slice(b"AAAA"),
+        33 => out.extend_from_slice(b"SRV"),
         _ => {
             out.extend_from_slice(b"TYPE")?;
             push_decimal(out, u32::from(rtype))
         }
     }
-}
-
-// Splits off a number of octets.
-fn split_octets(count: usize, octets: &[u8]) -> Option<(&[u8], &[u8])>
-    ensures { option_map (λ x. (x.0.now, x.1.now)) result ≡ split_octets count octets.now }
-{
-    if count <= octets.len() {
-        Some(octets.split_at(count))
-    } else {
-        None
-    }
-}
-
-// Splits off the name that octets begin with.
-fn split_name(octets: &[u8]) -> Option<(Name, &[u8])>
-    ensures { option_map (λ x. (x.0, x.1.now)) result ≡ split_name octets.now }
-{
-    let name = Name::from_wire(octets)?;
-    let len = name.wire().len();
-    Some((name, &octets[len..]))
 }
 
 // Pushes octets with dots between them.
@@ -100,6 +61,95 @@ fn push_address(address: &[u8], out: &mut Vec<u8>) -> Result<(), AllocError>
     push_address(rest, out)
 }
 
+// Pushes a group of four hexadecimal digits without leading zeros.
+fn push_group(group: u16, out: &mut Vec<u8>) -> Result<(), AllocError>
+    ensures ok { OnOk result (out.new.items ≡ out.old.items ++ group_text group) }
+    ensures kept { StartsWith out.new.items out.old.items }
+{
+    push_digit_at(4096, group, out)?;
+    push_digit_at(256, group, out)?;
+    push_digit_at(16, group, out)?;
+    out.push(hex_digit((group % 16) as u8))?;
+    Ok(())
+}
+
+// Pushes the digit of a place, unless the group is too small to have one there.
+fn push_digit_at(place: u16, group: u16, out: &mut Vec<u8>) -> Result<(), AllocError>
+    requires { 0 < place }
+    ensures ok { OnOk result (out.new.items ≡ out.old.items ++ digit_at place group) }
+    ensures kept { StartsWith out.new.items out.old.items }
+{
+    if group < place {
+        return Ok(());
+    }
+    out.push(hex_digit((group / place % 16) as u8))?;
+    Ok(())
+}
+
+// Pushes groups with colons between them.
+fn push_groups(octets: &[u8], out: &mut Vec<u8>) -> Result<(), AllocError>
+    ensures ok { OnOk result (out.new.items ≡ out.old.items ++ groups_text octets.now) }
+    ensures kept { StartsWith out.new.items out.old.items }
+{
+    let Some((first, rest)) = octets.split_first() else {
+        return Ok(());
+    };
+    let Some((second, others)) = rest.split_first() else {
+        return Ok(());
+    };
+    push_group(u16::from_be_bytes([*first, *second]), out)?;
+    if others.is_empty() {
+        return Ok(());
+    }
+    out.extend_from_slice(b":")?;
+    push_groups(others, out)
+}
+
+// Pushes the text of a name that octets begin with, and answers what is behind it.
+fn push_name<'a>(octets: &'a [u8], out: &mut Vec<u8>) -> Result<Option<&'a [u8]>, AllocError>
+    ensures ok { IfOk result (λ o. PrintsField (option_map (λ r. r.now) o) out.old.items out.new.items (field_text NameField octets.now)) }
+    ensures kept { StartsWith out.new.items out.old.items }
+{
+    let Some((name, rest)) = split_name(octets) else {
+        return Ok(None);
+    };
+    name.push_text(out)?;
+    Ok(Some(rest))
+}
+
+fn push_short<'a>(octets: &'a [u8], out: &mut Vec<u8>) -> Result<Option<&'a [u8]>, AllocError>
+    ensures ok { IfOk result (λ o. PrintsField (option_map (λ r. r.now) o) out.old.items out.new.items (field_text ShortField octets.now)) }
+    ensures kept { StartsWith out.new.items out.old.items }
+{
+    let Some((short, rest)) = split_octets(2, octets) else {
+        return Ok(None);
+    };
+    push_decimal(out, u32::from(short_of(short)))?;
+    Ok(Some(rest))
+}
+
+fn push_number<'a>(octets: &'a [u8], out: &mut Vec<u8>) -> Result<Option<&'a [u8]>, AllocError>
+    ensures ok { IfOk result (λ o. PrintsField (option_map (λ r. r.now) o) out.old.items out.new.items (field_text NumberField octets.now)) }
+    ensures kept { StartsWith out.new.items out.old.items }
+{
+    let Some((number, rest)) = split_octets(4, octets) else {
+        return Ok(None);
+    };
+    push_decimal(out, number_of(number))?;
+    Ok(Some(rest))
+}
+
+fn push_time<'a>(octets: &'a [u8], out: &mut Vec<u8>) -> Result<Option<&'a [u8]>, AllocError>
+    ensures ok { IfOk result (λ o. PrintsField (option_map (λ r. r.now) o) out.old.items out.new.items (field_text TimeField octets.now)) }
+    ensures kept { StartsWith out.new.items out.old.items }
+{
+    let Some((time, rest)) = split_time(octets) else {
+        return Ok(None);
+    };
+    push_decimal(out, number_of(time))?;
+    Ok(Some(rest))
+}
+
 // Pushes the text of a field, and answers the octets behind it; None where they don't begin with one.
 fn push_field<'a>(
     field: Field,
@@ -110,6 +160,10 @@ fn push_field<'a>(
     ensures kept { StartsWith out.new.items out.old.items }
 {
     match field {
+        Field::Name => push_name(octets, out),
+        Field::Short => push_short(octets, out),
+        Field::Number => push_number(octets, out),
+        Field::Time => push_time(octets, out),
         Field::Address => match split_octets(4, octets) {
             Some((address, rest)) => {
                 push_address(address, out)?;
@@ -117,21 +171,13 @@ fn push_field<'a>(
             }
             None => Ok(None),
         },
-        Field::Name => match split_name(octets) {
-            Some((name, rest)) => {
-                name.push_text(out)?;
+        Field::Address6 => match split_octets(16, octets) {
+            Some((address, rest)) => {
+                push_groups(address, out)?;
                 Ok(Some(rest))
             }
             None => Ok(None),
         },
-        Field::Number => {
-            if octets.len() < 4 {
-                return Ok(None);
-            }
-            let number = u32::from_be_bytes([octets[0], octets[1], octets[2], octets[3]]);
-            push_decimal(out, number)?;
-            Ok(Some(&octets[4..]))
-        }
     }
 }
 
@@ -191,12 +237,92 @@ fn push_generic(octets: &[u8], out: &mut Vec<u8>) -> Result<(), AllocError>
     push_hex(octets, out)
 }
 
+// Pushes an octet of a string.
+fn push_string_octet(octet: u8, out: &mut Vec<u8>) -> Result<(), AllocError>
+    ensures ok { OnOk result (out.new.items ≡ out.old.items ++ string_octet octet) }
+    ensures kept { StartsWith out.new.items out.old.items }
+{
+    if octet == b'"' || octet == b'\\' {
+        return out.extend_from_slice(&[b'\\', octet]);
+    }
+    if octet > 31 && octet < 127 {
+        return out.extend_from_slice(&[octet]);
+    }
+    out.extend_from_slice(&[
+        b'\\',
+        octet / 100 + b'0',
+        octet / 10 % 10 + b'0',
+        octet % 10 + b'0',
+    ])
+}
+
+#[tactic(auto, using(crate::proofs::StartsLemmas::starts_chain))]
+fn push_string_text(octets: &[u8], out: &mut Vec<u8>) -> Result<(), AllocError>
+    ensures ok { OnOk result (out.new.items ≡ out.old.items ++ string_text octets.now) }
+    ensures kept { StartsWith out.new.items out.old.items }
+{
+    for octet in octets {
+        push_string_octet(*octet, out)?;
+    }
+    Ok(())
+}
+
+// Pushes a string between quotes.
+fn push_quoted(octets: &[u8], out: &mut Vec<u8>) -> Result<(), AllocError>
+    ensures ok { OnOk result (out.new.items ≡ out.old.items ++ quoted_text octets.now) }
+    ensures kept { StartsWith out.new.items out.old.items }
+{
+    out.extend_from_slice(b"\"")?;
+    push_string_text(octets, out)?;
+    out.extend_from_slice(b"\"")
+}
+
+// Pushes strings with a space between them, where octets are just these.
+#[tactic(auto, using(crate::proofs::StringTextLemmas::strings_text_rules, crate::proofs::StartsLemmas::starts_chain))]
+fn push_strings(octets: &[u8], out: &mut Vec<u8>) -> Result<bool, AllocError>
+    ensures ok { IfOk result (λ fits. PrintsFields fits out.old.items out.new.items (strings_text (length octets.now) octets.now)) }
+    ensures kept { StartsWith out.new.items out.old.items }
+{
+    let mut rest = octets;
+    let mut left = octets.len();
+    while left > 0 {
+        let Some((len, behind)) = rest.split_first() else {
+            return Ok(false);
+        };
+        let Some((string, others)) = split_octets(*len as usize, behind) else {
+            return Ok(false);
+        };
+        push_quoted(string, out)?;
+        if others.is_empty() {
+            return Ok(true);
+        }
+        out.extend_from_slice(b" ")?;
+        rest = others;
+        left -= 1;
+    }
+    Ok(false)
+}
+
+// Pushes data in the form of its type, where it has that form.
+fn push_typed(rtype: u16, octets: &[u8], out: &mut Vec<u8>) -> Result<bool, AllocError>
+    ensures ok { IfOk result (λ fits. PrintsFields fits out.old.items out.new.items (typed_text rtype octets.now)) }
+    ensures kept { StartsWith out.new.items out.old.items }
+{
+    if rtype == 16 {
+        return push_strings(octets, out);
+    }
+    match fields_of(rtype) {
+        Some(fields) => push_fields(fields, octets, out),
+        None => Ok(false),
+    }
+}
+
 fn push_data(rtype: u16, octets: &[u8], out: &mut Vec<u8>) -> Result<(), AllocError>
     ensures ok { OnOk result (out.new.items ≡ out.old.items ++ data_text rtype octets.now) }
     ensures kept { StartsWith out.new.items out.old.items }
 {
     let start = out.len();
-    if push_fields(fields_of(rtype), octets, out)? {
+    if push_typed(rtype, octets, out)? {
         return Ok(());
     }
     out.truncate(start);

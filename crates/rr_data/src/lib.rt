@@ -2,15 +2,29 @@
 //! section 5).
 #![tactic(auto)]
 
+mod addresses;
 mod data_text;
 mod entry;
+mod escapes;
+mod fields;
+mod forms;
+mod generic;
 mod places;
 mod plain;
 mod rdata;
+mod reading;
+mod refusal;
 mod rrset;
+mod splits;
+mod strings;
+mod token;
+mod words;
 
 pub use data_text::push_type;
 pub use entry::Entry;
-pub use plain::{number, read_type};
+pub use plain::read_plain_type;
 pub use rdata::Rdata;
+pub use refusal::RdataRefusal;
 pub use rrset::RrSet;
+pub use token::Token;
+pub use words::{number, read_type, time_of};

@@ -7,36 +7,15 @@ ghost use Rattle.zone_model.specs.Names.{wire};
 ghost use Rattle.zone_model.specs.Texts.{number, type_of, address, address_part, all_some, rdata_of, times, soa_of, one_word, most_time};
 
 use crate::rdata::Rdata;
+use crate::words::number;
 use dns_name::Name;
 use std::alloc::{AllocError, Global};
 
 /// The most seconds of a time to live (RFC 2181, section 8).
 const MOST_TIME: u32 = 2147483647;
 
-/// The number that decimal digits say, at least one of them; None where it is past `most` or there is another byte.
-#[tactic(auto, unfolding(zone_model::specs::Texts::number, zone_model::specs::Texts::digits_from))]
-pub fn number(text: &[u8], most: u32) -> Option<u32>
-    ensures value { result ≡ number most text.now }
-    ensures small { IfSome result (λ n. n ≤ most) }
-{
-    if text.is_empty() {
-        return None;
-    }
-    let mut value = 0u64;
-    for digit in text {
-        if !digit.is_ascii_digit() {
-            return None;
-        }
-        value = value * 10 + u64::from(*digit - b'0');
-        if value > u64::from(most) {
-            return None;
-        }
-    }
-    Some(value as u32)
-}
-
 /// The type that a word names; None where it names none of those known here.
-pub fn read_type(word: &[u8]) -> Option<u16>
+pub fn read_plain_type(word: &[u8]) -> Option<u16>
     ensures { result ≡ type_of word.now }
 {
     if word == b"A".as_slice() {

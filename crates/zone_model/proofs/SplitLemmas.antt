@@ -7,7 +7,7 @@ use Rattle.std.specs.Option.{option_map}
 use Rattle.std.specs.List.{list_all, AllByRecursion}
 use Rattle.std.specs.Char.{to_ascii_lowercase}
 use Rattle.zone_model.specs.Names.{Label, Name, wire, IsName, IsLabel, IsFolded}
-use Rattle.zone_model.specs.DataText.{split_octets, split_labels, split_name, is_label_of, under_label}
+use Rattle.zone_model.specs.Splits.{split_octets, split_labels, split_name, is_label_of, under_label}
 
 -- ---- what was spelled is split off
 

@@ -1,9 +1,9 @@
 -- The text forms of an address of version 6 (RFC 4291, section 2.2).
-use Rattle.std.specs.Prelude.{ℕ, ◌+◌, ◌-◌, ◌*◌, Bool, true, false, ◌||◌, ◌&&◌, List, [], ◌∷◌, ◌++◌, ◌/◌, ◌%◌, length, take, drop, replicate, nat_le, nat_lt, ◌==◌, if◌then◌else◌, Option, Some, None, option_and_then}
+use Rattle.std.specs.Prelude.{ℕ, ◌+◌, ◌-◌, ◌*◌, Bool, false, ◌&&◌, List, [], ◌∷◌, ◌++◌, ◌/◌, ◌%◌, length, take, drop, replicate, nat_le, nat_lt, ◌==◌, if◌then◌else◌, Option, Some, None, option_and_then}
 use Rattle.std.specs.Option.{option_map}
 use Rattle.std.specs.List.{list_all, list_any, slice_split}
 use Rattle.std.specs.Char.{is_ascii_hexdigit}
-use Rattle.zone_model.specs.Texts.{all_some, address}
+use Rattle.zone_model.specs.Texts.{address}
 use Rattle.zone_model.specs.DataWords.{digit_value}
 
 -- the number of hexadecimal digits behind a number

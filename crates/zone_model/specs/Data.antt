@@ -1,9 +1,9 @@
 -- The data of a record as tokens and as octets (RFC 1035, RFC 3597).
-use Rattle.std.specs.Prelude.{ℕ, zero, suc, slice_index, take, drop, ◌+◌, ◌-◌, ◌*◌, Bool, true, false, ◌||◌, ◌&&◌, not, List, [], ◌∷◌, ◌++◌, length, nat_le, nat_lt, ◌==◌, if◌then◌else◌, Option, Some, None, Result, Ok, Err, codes, option_and_then}
+use Rattle.std.specs.Prelude.{ℕ, drop, ◌+◌, ◌-◌, ◌*◌, Bool, false, ◌&&◌, not, List, [], ◌∷◌, ◌++◌, length, nat_le, nat_lt, ◌==◌, if◌then◌else◌, Option, Some, None, Result, Ok, Err}
 use Rattle.std.specs.Option.{option_map}
 use Rattle.std.specs.List.{list_all}
 use Rattle.std.specs.Str.{bytes_eq}
-use Rattle.std.specs.Char.{is_ascii_hexdigit, to_ascii_lowercase}
+use Rattle.std.specs.Char.{is_ascii_hexdigit}
 use Rattle.std.specs.Int.{w16, w32, to_be_bytes}
 use Rattle.zone_model.specs.Names.{Name, wire}
 use Rattle.zone_model.specs.NameText.{name_of}
@@ -14,15 +14,7 @@ use Rattle.zone_model.specs.declared.DataRefusal.TheVariants.{BadRdata, LongStri
 use Rattle.zone_model.specs.Tokens.{Token}
 use Rattle.zone_model.specs.DataWords.{time_of, unescaped, paired}
 use Rattle.zone_model.specs.Addresses.{address6}
-
--- what one word of a type's data says
-pub data Field : Type 0 where
-  NameField : Field
-  ShortField : Field
-  NumberField : Field
-  TimeField : Field
-  AddressField : Field
-  Address6Field : Field
+use Rattle.zone_model.specs.DataForms.{Field, NameField, ShortField, NumberField, TimeField, AddressField, Address6Field, fields_of, form_fits}
 
 abbrev pub field_octets : Name → Field → List ℕ → Option (List ℕ)
 field_octets origin NameField text = option_map wire (named (name_of text origin))
@@ -31,19 +23,6 @@ field_octets origin NumberField text = option_map (to_be_bytes w32) (number 4294
 field_octets origin TimeField text = option_map (to_be_bytes w32) (time_of text)
 field_octets origin AddressField text = address text
 field_octets origin Address6Field text = address6 text
-
--- the words of a type's data, for the types whose data is a row of words
-abbrev pub fields_of : ℕ → Option (List Field)
-fields_of rtype =
-    if rtype == 1 then Some (AddressField ∷ [])
-    else if rtype == 2 then Some (NameField ∷ [])
-    else if rtype == 5 then Some (NameField ∷ [])
-    else if rtype == 6 then Some (NameField ∷ NameField ∷ NumberField ∷ TimeField ∷ TimeField ∷ TimeField ∷ TimeField ∷ [])
-    else if rtype == 12 then Some (NameField ∷ [])
-    else if rtype == 15 then Some (ShortField ∷ NameField ∷ [])
-    else if rtype == 28 then Some (Address6Field ∷ [])
-    else if rtype == 33 then Some (ShortField ∷ ShortField ∷ ShortField ∷ NameField ∷ [])
-    else None
 
 abbrev pub ahead : List ℕ → Result (List ℕ) DataRefusal → Result (List ℕ) DataRefusal
 ahead front (Ok octets) = Ok (front ++ octets)
@@ -101,57 +80,6 @@ read_generic (t ∷ tokens) = read_counted (word_number 65535 t) tokens
 abbrev pub is_generic : List Token → Bool
 is_generic [] = false
 is_generic (t ∷ tokens) = not t.quoted && bytes_eq t.text (92 ∷ 35 ∷ [])
-
--- ---- octets that are of a type's form
-
--- the octets begin with a label of a length, in lower case
-abbrev pub label_fits : ℕ → List ℕ → Bool
-label_fits n octets = nat_le n 63 && nat_le n (length octets) && list_all (λ c. to_ascii_lowercase c == c) (take n octets)
-
--- what stands behind the labels that octets begin with
-unfoldable pub labels_rest : ℕ → List ℕ → Option (List ℕ)
-labels_rest most [] = None
-labels_rest zero (n ∷ rest) = None
-labels_rest (suc most) (n ∷ rest) =
-    if n == 0 then Some rest
-    else if label_fits n rest then labels_rest most (drop n rest)
-    else None
-
-abbrev pub name_rest : List ℕ → Option (List ℕ)
-name_rest octets = option_and_then (λ rest. if nat_le (length octets) (length rest + 255) then Some rest else None) (labels_rest 128 octets)
-
-abbrev pub behind_octets : ℕ → List ℕ → Option (List ℕ)
-behind_octets n octets = if nat_le n (length octets) then Some (drop n octets) else None
-
-abbrev pub field_rest : Field → List ℕ → Option (List ℕ)
-field_rest NameField octets = name_rest octets
-field_rest ShortField octets = behind_octets 2 octets
-field_rest NumberField octets = behind_octets 4 octets
-field_rest TimeField octets = if nat_lt (slice_index octets 0) 128 then behind_octets 4 octets else None
-field_rest AddressField octets = behind_octets 4 octets
-field_rest Address6Field octets = behind_octets 16 octets
-
-abbrev pub fits_behind : Option (List ℕ) → (List ℕ → Bool) → Bool
-fits_behind None fit = false
-fits_behind (Some rest) fit = fit rest
-
-unfoldable pub fields_fit : List Field → List ℕ → Bool
-fields_fit [] octets = length octets == 0
-fields_fit (field ∷ fields) octets = fits_behind (field_rest field octets) (fields_fit fields)
-
--- the octets are strings, each behind its length
-unfoldable pub strings_fit : ℕ → List ℕ → Bool
-strings_fit left [] = true
-strings_fit zero (n ∷ rest) = false
-strings_fit (suc left) (n ∷ rest) = nat_le n (length rest) && strings_fit left (drop n rest)
-
-abbrev pub known_fit : Option (List Field) → List ℕ → Bool
-known_fit None octets = true
-known_fit (Some fields) octets = fields_fit fields octets
-
-abbrev pub form_fits : ℕ → List ℕ → Bool
-form_fits rtype octets =
-    if rtype == 16 then nat_lt 0 (length octets) && strings_fit (length octets) octets else known_fit (fields_of rtype) octets
 
 -- ---- the data of a type
 

@@ -1,0 +1,27 @@
+-- What the readers of data push, and what they refuse.
+use Rattle.std.specs.Prelude.{◌≡◌, Bool, true, false, ℕ, List, ◌++◌, Option, Some, None, Result, Ok, Err}
+use Rattle.std.specs.Option.{option_map}
+use Rattle.zone_model.specs.declared.DataRefusal.{DataRefusal}
+use Rattle.zone_model.specs.declared.DataRefusal.TheVariants as says
+use Rattle.zone_model.specs.Data.{ahead}
+use Rattle.rr_data.specs.declared.refusal.RdataRefusal.{RdataRefusal}
+use Rattle.rr_data.specs.declared.refusal.RdataRefusal.TheVariants as refusal
+
+-- all octets were pushed, or there are none
+abbrev pub PushesAll : Bool → List ℕ → List ℕ → Option (List ℕ) → Type 0
+PushesAll true old new wanted = option_map (λ cs. old ++ cs) wanted ≡ Some new
+PushesAll false old new wanted = wanted ≡ None
+
+-- The octets wanted were pushed, or the refusal wanted was given, or there was no memory.
+abbrev pub Pushes : Result (Unit {0}) RdataRefusal → List ℕ → List ℕ → Result (List ℕ) DataRefusal → Type 0
+Pushes (Ok u) old new wanted = ahead old wanted ≡ Ok new
+Pushes (Err (refusal.BadRdata at)) old new wanted = wanted ≡ Err (says.BadRdata at)
+Pushes (Err (refusal.LongString at)) old new wanted = wanted ≡ Err (says.LongString at)
+Pushes (Err refusal.Memory) old new wanted = Unit {0}
+
+-- The data wanted were read, or the refusal wanted was given, or there was no memory.
+abbrev pub ReadsData : Result (List ℕ) RdataRefusal → Result (List ℕ) DataRefusal → Type 0
+ReadsData (Ok octets) wanted = wanted ≡ Ok octets
+ReadsData (Err (refusal.BadRdata at)) wanted = wanted ≡ Err (says.BadRdata at)
+ReadsData (Err (refusal.LongString at)) wanted = wanted ≡ Err (says.LongString at)
+ReadsData (Err refusal.Memory) wanted = Unit {0}

@@ -1,0 +1,172 @@
+// Data that is a row of words.
+ghost use Rattle.std.specs.Prelude.{◌≡◌, ◌<◌, ◌≤◌, ◌+◌, ◌++◌, ◌∷◌, [], ◌^◌, ℕ, List, length, drop, map, Some, None, Option, Ok, Err, Result, IfOk};
+ghost use Rattle.std.specs.List.{All};
+ghost use Rattle.zone_model.specs.Data.{field_octets, word_octets, read_fields};
+ghost use Rattle.std.specs.Option.{option_map};
+ghost use Rattle.std.specs.Int.{w16, w32, to_be_bytes};
+ghost use Rattle.zone_model.specs.Texts.{number};
+ghost use Rattle.zone_model.specs.DataForms.{fields_of, NameField};
+ghost use Rattle.zone_model.specs.DataWords.{time_of};
+ghost use Rattle.rr_data.specs.Tokens.{IsPlaced, token_view};
+ghost use Rattle.rr_data.specs.Pushing.{PushesAll};
+ghost use Rattle.rr_data.specs.Pushing.{Pushes};
+ghost use Rattle.rr_data.specs.Fields.{field_view};
+
+use crate::addresses::{push_address, push_address6};
+use crate::refusal::RdataRefusal;
+use crate::token::Token;
+use crate::words::{number, time_of};
+use dns_name::Name;
+use std::alloc::{AllocError, Global};
+
+// A part of a type's data, which one word says.
+#[derive(Clone, Copy)]
+pub enum Field {
+    Name,
+    Short,
+    Number,
+    Time,
+    Address,
+    Address6,
+}
+
+const SOA: [Field; 7] = [
+    Field::Name,
+    Field::Name,
+    Field::Number,
+    Field::Time,
+    Field::Time,
+    Field::Time,
+    Field::Time,
+];
+
+// The fields of a type's data, for the types whose data is a row of them.
+pub fn fields_of(rtype: u16) -> Option<&'static [Field]>
+    ensures { option_map (λ f. map field_view f.now) result ≡ fields_of rtype }
+{
+    match rtype {
+        1 => Some(&[Field::Address]),
+        2 | 5 | 12 => Some(&[Field::Name]),
+        6 => Some(&SOA),
+        15 => Some(&[Field::Short, Field::Name]),
+        28 => Some(&[Field::Address6]),
+        33 => Some(&[Field::Short, Field::Short, Field::Short, Field::Name]),
+        _ => None,
+    }
+}
+
+fn push_name(origin: &Name, text: &[u8], out: &mut Vec<u8>) -> Result<bool, AllocError>
+    ensures { IfOk result (λ good. PushesAll good out.old.items out.new.items (field_octets origin.now NameField text.now)) }
+{
+    match Name::read(text, origin) {
+        Ok(name) => {
+            out.extend_from_slice(name.wire())?;
+            Ok(true)
+        }
+        Err(_) => Ok(false),
+    }
+}
+
+fn push_short(text: &[u8], out: &mut Vec<u8>) -> Result<bool, AllocError>
+    ensures { IfOk result (λ good. PushesAll good out.old.items out.new.items (option_map (to_be_bytes w16) (number 65535 text.now))) }
+{
+    match number(text, 65535) {
+        Some(value) => {
+            let short = value as u16;
+            out.extend_from_slice(&short.to_be_bytes())?;
+            Ok(true)
+        }
+        None => Ok(false),
+    }
+}
+
+fn push_number(text: &[u8], out: &mut Vec<u8>) -> Result<bool, AllocError>
+    ensures { IfOk result (λ good. PushesAll good out.old.items out.new.items (option_map (to_be_bytes w32) (number 4294967295 text.now))) }
+{
+    match number(text, 4294967295) {
+        Some(value) => {
+            out.extend_from_slice(&value.to_be_bytes())?;
+            Ok(true)
+        }
+        None => Ok(false),
+    }
+}
+
+fn push_time(text: &[u8], out: &mut Vec<u8>) -> Result<bool, AllocError>
+    ensures { IfOk result (λ good. PushesAll good out.old.items out.new.items (option_map (to_be_bytes w32) (time_of text.now))) }
+{
+    match time_of(text) {
+        Some(value) => {
+            out.extend_from_slice(&value.to_be_bytes())?;
+            Ok(true)
+        }
+        None => Ok(false),
+    }
+}
+
+// Pushes what a word says.
+fn push_field(
+    alloc: Global,
+    origin: &Name,
+    field: Field,
+    text: &[u8],
+    out: &mut Vec<u8>,
+) -> Result<bool, AllocError>
+    ensures { IfOk result (λ good. PushesAll good out.old.items out.new.items (field_octets origin.now (field_view field) text.now)) }
+{
+    match field {
+        Field::Name => push_name(origin, text, out),
+        Field::Short => push_short(text, out),
+        Field::Number => push_number(text, out),
+        Field::Time => push_time(text, out),
+        Field::Address => push_address(alloc, text, out),
+        Field::Address6 => push_address6(alloc, text, out),
+    }
+}
+
+// Pushes what a token says; false where it says nothing.
+fn push_word(
+    alloc: Global,
+    origin: &Name,
+    field: Field,
+    bytes: &[u8],
+    token: Token,
+    out: &mut Vec<u8>,
+) -> Result<bool, AllocError>
+    requires { IsPlaced bytes.now token }
+    ensures { IfOk result (λ good. PushesAll good out.old.items out.new.items (word_octets origin.now (field_view field) (token_view bytes.now token))) }
+{
+    if token.quoted {
+        return Ok(false);
+    }
+    push_field(alloc, origin, field, token.text(bytes), out)
+}
+
+// Pushes what the words of a type's data say.
+#[tactic(auto, using(crate::proofs::FieldLemmas::field_rules), unfolding(zone_model::specs::Data::read_fields))]
+pub fn push_fields(
+    alloc: Global,
+    origin: &Name,
+    bytes: &[u8],
+    fields: &[Field],
+    tokens: &[Token],
+    out: &mut Vec<u8>,
+) -> Result<(), RdataRefusal>
+    requires placed { All (IsPlaced bytes.now) tokens.now }
+    ensures { Pushes result out.old.items out.new.items (read_fields origin.now 0 (map field_view fields.now) (map (token_view bytes.now) tokens.now)) }
+{
+    let mut rest = tokens;
+    for (at, field) in fields.iter().enumerate() {
+        let Some((token, others)) = rest.split_first() else {
+            return Err(RdataRefusal::BadRdata { at });
+        };
+        if !push_word(alloc, origin, *field, bytes, *token, out)? {
+            return Err(RdataRefusal::BadRdata { at });
+        }
+        rest = others;
+    }
+    if !rest.is_empty() {
+        return Err(RdataRefusal::BadRdata { at: fields.len() });
+    }
+    Ok(())
+}

@@ -1,0 +1,68 @@
+// The data of a type.
+ghost use Rattle.std.specs.Prelude.{◌≡◌, ◌<◌, ◌≤◌, ◌+◌, ◌++◌, ◌∷◌, [], ◌^◌, ℕ, List, length, drop, map, Some, None, Option, Ok, Err, Result};
+ghost use Rattle.std.specs.List.{All};
+ghost use Rattle.zone_model.specs.Data.{read_typed, data_of};
+ghost use Rattle.rr_data.specs.Tokens.{IsPlaced, token_view};
+ghost use Rattle.rr_data.specs.Pushing.{Pushes, ReadsData};
+
+use crate::fields::{fields_of, push_fields};
+use crate::forms::form_fits;
+use crate::generic::{is_generic, push_generic};
+use crate::rdata::Rdata;
+use crate::refusal::RdataRefusal;
+use crate::strings::push_strings;
+use crate::token::Token;
+use dns_name::Name;
+use std::alloc::Global;
+
+// Pushes the data of a type in the form of its own.
+fn push_typed(
+    alloc: Global,
+    origin: &Name,
+    rtype: u16,
+    bytes: &[u8],
+    tokens: &[Token],
+    out: &mut Vec<u8>,
+) -> Result<(), RdataRefusal>
+    requires placed { All (IsPlaced bytes.now) tokens.now }
+    ensures { Pushes result out.old.items out.new.items (read_typed origin.now rtype (map (token_view bytes.now) tokens.now)) }
+{
+    if rtype == 16 {
+        if tokens.is_empty() {
+            return Err(RdataRefusal::BadRdata { at: 0 });
+        }
+        return push_strings(bytes, tokens, out);
+    }
+    match fields_of(rtype) {
+        Some(fields) => push_fields(alloc, origin, bytes, fields, tokens, out),
+        None => Err(RdataRefusal::BadRdata { at: 0 }),
+    }
+}
+
+impl Rdata {
+    /// The data that tokens of `bytes` say for a type: in the form of the type (RFC 1035, section 5.1), or for any type
+    /// as `\#`, the number of octets and their hexadecimal digits (RFC 3597, section 5). Names that don't end with a
+    /// dot are relative to the origin.
+    #[tactic(auto, unfolding(zone_model::specs::Data::data_of))]
+    pub fn read(
+        alloc: Global,
+        rtype: u16,
+        bytes: &[u8],
+        tokens: &[Token],
+        origin: &Name,
+    ) -> Result<Rdata, RdataRefusal>
+        requires placed { All (IsPlaced bytes.now) tokens.now }
+        ensures { ReadsData result (data_of origin.now rtype (map (token_view bytes.now) tokens.now)) }
+    {
+        let mut octets = Vec::new(alloc);
+        if is_generic(bytes, tokens) {
+            push_generic(alloc, bytes, &tokens[1..], &mut octets)?;
+            if !form_fits(rtype, &octets) {
+                return Err(RdataRefusal::BadRdata { at: 0 });
+            }
+        } else {
+            push_typed(alloc, origin, rtype, bytes, tokens, &mut octets)?;
+        }
+        Ok(Rdata::new(octets))
+    }
+}
