@@ -1,5 +1,5 @@
 -- An entry, line by line.
-use Rattle.std.proofs.Common.{◌≡◌, ℕ, ◌+◌, ◌<◌, ◌≤◌, ◌∷◌, [], List, length, drop, ap, ◌∙◌, refl, sym, arith, Result, Ok, Err, map, Bool, true, false, cond, eqb}
+use Rattle.std.proofs.Common.{◌≡◌, ℕ, ◌<◌, ◌≤◌, [], List, length, drop, ap, ◌∙◌, refl, sym, arith, Result, Ok, Err, Bool, false, cond, eqb}
 use Rattle.std.proofs.lemmas.List.{drop_all}
 use Rattle.std.proofs.lemmas.Bool.Decides.{nat_tests}
 use Rattle.zone_model.specs.declared.ZoneKind.TheVariants.{OpenParen}
@@ -13,7 +13,6 @@ use Rattle.master_file.specs.Places.{FirstLine}
 use Rattle.master_file.specs.Views.{scan_view, HasScanned, ReadsLine, Gives}
 use Rattle.master_file.specs.declared.refusal.ZoneRefusal.{ZoneRefusal}
 use Rattle.master_file.specs.declared.refusal.ZoneRefusal.TheVariants as refusal
-use Rattle.master_file.specs.declared.lexer.Begun.{Begun}
 use Rattle.master_file.specs.declared.lexer.Begun.TheVariants.{Apart}
 use Rattle.master_file.specs.declared.lexer.Scan.{Scan}
 

@@ -1,6 +1,6 @@
 -- The first line of a text.
-use Rattle.std.proofs.Common.{◌≡◌, ℕ, zero, suc, ◌+◌, ◌-◌, ◌<◌, ◌≤◌, ◌++◌, ◌∷◌, [], List, length, get_or, take, drop, length-drop, arith, ap, ◌∙◌, refl, sym, Some, None, Bool, true, false, eqb, ltb, cond}
-use Rattle.std.specs.List.{position, slice_range, slice_split, position_or_len, before_first, after_first, count_by, All}
+use Rattle.std.proofs.Common.{◌≡◌, ℕ, zero, suc, ◌+◌, ◌-◌, ◌<◌, ◌≤◌, ◌∷◌, [], List, length, get_or, take, drop, length-drop, arith, ap, ◌∙◌, refl, sym, Some, None, Bool, true, false, eqb, ltb, cond}
+use Rattle.std.specs.List.{position, slice_range, slice_split, position_or_len, before_first, after_first, All}
 use Rattle.std.specs.Str.Lines.{lines, lines_of_parts, strip_carriage_return}
 use Rattle.std.proofs.lemmas.List.{drop-drop, length-take-le, take-take, get_or-drop}
 use Rattle.std.proofs.lemmas.List.Splits.{slice_split_first, slice_split_none, length-slice_split}

@@ -1,5 +1,5 @@
 -- The lines of tokens.
-use Rattle.std.proofs.Common.{◌≡◌, ℕ, zero, suc, ◌<◌, ◌≤◌, List, [], ◌∷◌, length, get_or, map, refl, arith, ap, ◌∙◌, ◌+◌, ◌-◌}
+use Rattle.std.proofs.Common.{◌≡◌, ℕ, zero, suc, ◌<◌, ◌≤◌, List, [], ◌∷◌, length, get_or, map, refl, arith, ap, ◌∙◌, ◌-◌}
 use Rattle.zone_model.specs.MasterFile.{line_of, last_line}
 use Rattle.rr_data.specs.Tokens.{token_view}
 use Rattle.rr_data.specs.declared.token.Token.{Token}

@@ -1,5 +1,5 @@
 -- The zone, entry by entry.
-use Rattle.std.proofs.Common.{◌≡◌, ◌∙◌, ℕ, zero, suc, ◌+◌, ◌-◌, ◌<◌, ◌≤◌, List, [], ◌∷◌, length, get_or, drop, map, refl, sym, ap, arith, Bool, true, false, cond, eqb, Option, Some, None, Result, Ok, Err}
+use Rattle.std.proofs.Common.{◌≡◌, ◌∙◌, ℕ, ◌+◌, ◌<◌, ◌≤◌, List, [], ◌∷◌, length, drop, map, refl, sym, ap, arith, Bool, true, false, cond, eqb, Some, None, Result, Ok, Err}
 use Rattle.std.proofs.lemmas.Bool.Decides.{nat_tests}
 use Rattle.zone_model.specs.Refusals.{Refused, ◌>>=◌}
 use Rattle.zone_model.specs.Lines.{lines_of}
@@ -13,8 +13,8 @@ use Rattle.master_file.specs.declared.refusal.ZoneRefusal.{ZoneRefusal}
 use Rattle.master_file.specs.declared.refusal.ZoneRefusal.TheVariants as refusal
 use Rattle.zone_model.specs.declared.ZoneKind.{ZoneKind}
 use Rattle.zone_model.specs.declared.ZoneKind.TheVariants.{OpenParen}
-use Rattle.zone_model.specs.Tokens.{Scan, EntryTokens, Token, fresh, entry_from, entry_of, refused, line_tokens, begins_blank}
-use Rattle.zone_model.specs.MasterFile.{Reader, Pending, zone_from, entry_says, goes_on}
+use Rattle.zone_model.specs.Tokens.{Scan, EntryTokens, fresh, entry_from, entry_of, refused, line_tokens, begins_blank}
+use Rattle.zone_model.specs.MasterFile.{Reader, Pending, zone_from, entry_says}
 
 -- what an entry and then the lines behind it say
 abbrev pub after_entry : List (List ℕ) → ℕ → Bool → Reader → EntryTokens → Result Reader (Refused ZoneKind)

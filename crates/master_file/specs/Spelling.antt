@@ -1,5 +1,5 @@
 -- What the readers of tokens give, in the words of the grammar.
-use Rattle.std.specs.Prelude.{◌≡◌, ℕ, List, [], Result, Ok, Err}
+use Rattle.std.specs.Prelude.{ℕ, List, [], Result, Ok, Err}
 use Rattle.zone_model.specs.Grammar.{Spelled, Spells, SpellsEntry, line_says}
 use Rattle.zone_model.specs.declared.ZoneKind.{ZoneKind}
 use Rattle.master_file.specs.Views.{Reads, lexed_view, line_view}

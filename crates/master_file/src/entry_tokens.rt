@@ -15,8 +15,8 @@ use crate::lexer::{Begun, Scan, scan_tokens};
 use crate::lines::line_at;
 use crate::refusal::{ZoneRefusal, refuse};
 use rr_data::Token;
-use zone_model::ZoneKind;
 use std::alloc::Global;
+use zone_model::ZoneKind;
 
 /// The tokens of an entry, whether it begins with a space or tab, whether a parenthesis was met, and the byte and the line
 /// that the next entry begins at.
@@ -71,12 +71,7 @@ fn is_blank(bytes: &[u8], from: u32) -> bool
 
 // The tokens of the entry that begins at a place.
 #[tactic(auto, using(crate::proofs::EntryLemmas::end_rules), unfolding(zone_model::specs::Tokens::entry_from))]
-fn scan_entry(
-    alloc: Global,
-    bytes: &[u8],
-    from: u32,
-    line: u32,
-) -> Result<Lexed, ZoneRefusal>
+fn scan_entry(alloc: Global, bytes: &[u8], from: u32, line: u32) -> Result<Lexed, ZoneRefusal>
     requires inside { from ≤ length bytes.now }
     requires short { length bytes.now ≤ 2 ^ 24 }
     requires lines { line + length bytes.now < 2 ^ 32 }

@@ -8,8 +8,8 @@ ghost use Rattle.master_file.specs.declared.lexer.Begun.{Begun};
 
 use crate::refusal::{ZoneRefusal, refuse};
 use rr_data::Token;
-use zone_model::ZoneKind;
 use std::alloc::Global;
+use zone_model::ZoneKind;
 
 // What the byte before belongs to, with the place where it began.
 #[derive(Clone, Copy)]
@@ -142,7 +142,13 @@ fn in_quote(scan: &mut Scan, bytes: &[u8], from: u32, at: u32, line: u32) -> Res
     Ok(())
 }
 
-fn end_quote(scan: &mut Scan, bytes: &[u8], from: u32, at: u32, line: u32) -> Result<(), ZoneRefusal>
+fn end_quote(
+    scan: &mut Scan,
+    bytes: &[u8],
+    from: u32,
+    at: u32,
+    line: u32,
+) -> Result<(), ZoneRefusal>
     requires began { from ≤ at }
     requires inside { at < length bytes.now }
     requires short { length bytes.now ≤ 2 ^ 24 }

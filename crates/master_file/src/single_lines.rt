@@ -27,12 +27,7 @@ pub struct LexedLine {
 }
 
 // The tokens of the line that begins at a place.
-fn scan_line(
-    alloc: Global,
-    bytes: &[u8],
-    from: u32,
-    line: u32,
-) -> Result<LexedLine, ZoneRefusal>
+fn scan_line(alloc: Global, bytes: &[u8], from: u32, line: u32) -> Result<LexedLine, ZoneRefusal>
     requires inside { from < length bytes.now }
     requires short { length bytes.now ≤ 2 ^ 24 }
     ensures reads { Reads result (line_view bytes.now) (single_line line (first_line (drop from bytes.now))) }

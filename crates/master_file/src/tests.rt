@@ -18,6 +18,9 @@ fn refused(alloc: Global, alone: bool, lines: &[u8]) -> Result<(u32, ZoneKind), 
         text.extend_from_slice(b"$TTL 60\n@ SOA ns admin 9 8 7 6 5\n")?;
     }
     text.extend_from_slice(lines)?;
+    if text.len() > 16777216 {
+        return Err(Fail::from("too long"));
+    }
     match read_zone(alloc, &text, &name(b"example.")?) {
         Ok(_) => Err(Fail::from("taken")),
         Err(ZoneRefusal::Refused { line, kind }) => Ok((line, kind)),
@@ -71,7 +74,10 @@ fn refuses_a_long_item(rt: HostRuntime) -> Result<(), Fail> {
     for _ in 0..8148 {
         line.push(b'0')?;
     }
-    assert_eq!(rt; refused(rt.alloc(), false, &line)?, (3, ZoneKind::LongEntry));
+    assert_eq!(rt;
+        refused(rt.alloc(), false, &line)?,
+        (3, ZoneKind::LongEntry)
+    );
     Ok(())
 }
 
@@ -83,14 +89,20 @@ fn set_of(entry: Option<&Entry>, rtype: u16) -> Option<(u32, usize)> {
 
 #[test]
 fn reads_entries_of_every_form(rt: HostRuntime) -> Result<(), Fail> {
-    let text = b"$TTL 1h ; for all\r\n@ IN SOA ns admin ( 1\n 2h30m\n 1D 2w 60 )\r\n$ORIGIN sub.example.\r\n\
+    let text =
+        b"$TTL 1h ; for all\r\n@ IN SOA ns admin ( 1\n 2h30m\n 1D 2w 60 )\r\n$ORIGIN sub.example.\r\n\
         www 30m class1 A 192.0.2.1\r\n\tTXT \"a ; b\" (c\\ d\n)\nmail A 192.0.2.2\n A 192.0.2.3";
-    let zone = read_zone(rt.alloc(), text, &name(b"example.")?).ok().ok_or("refused")?;
+    let zone = read_zone(rt.alloc(), text, &name(b"example.")?)
+        .ok()
+        .ok_or("refused")?;
     assert_eq!(rt; zone.len(), 3);
     let www = name(b"www.sub.example.")?;
     assert_eq!(rt; set_of(zone.entry(&www), 1), Some((1800, 1)));
     assert_eq!(rt; set_of(zone.entry(&www), 16), Some((3600, 1)));
-    assert_eq!(rt; set_of(zone.entry(&name(b"mail.sub.example.")?), 1), Some((3600, 2)));
+    assert_eq!(rt;
+        set_of(zone.entry(&name(b"mail.sub.example.")?), 1),
+        Some((3600, 2))
+    );
     assert_eq!(rt; set_of(zone.entry(zone.origin()), 6), Some((3600, 1)));
     let entries = zone.into_entries();
     assert_eq!(rt; entries.len(), 3);
@@ -101,10 +113,16 @@ fn reads_entries_of_every_form(rt: HostRuntime) -> Result<(), Fail> {
 fn tells_tokens_by_their_places(rt: HostRuntime) -> Result<(), Fail> {
     let text = b"a\"b c\";d\n( e\\\"\n ) f\ng";
     let first = tokens(rt.alloc(), text, 0, 1).ok().ok_or("refused")?;
-    assert_eq!(rt; (first.tokens.len(), first.next, first.next_line), (2, 9, 2));
+    assert_eq!(rt;
+        (first.tokens.len(), first.next, first.next_line),
+        (2, 9, 2)
+    );
     assert_eq!(rt; first.tokens[1].text(text), b"b c".as_slice());
     let second = tokens(rt.alloc(), text, 9, 2).ok().ok_or("refused")?;
-    assert_eq!(rt; (second.tokens.len(), second.next, second.next_line), (2, 20, 4));
+    assert_eq!(rt;
+        (second.tokens.len(), second.next, second.next_line),
+        (2, 20, 4)
+    );
     assert!(rt; second.parens && !second.blank);
     let line = line_tokens(rt.alloc(), text, 9, 2).ok().ok_or("refused")?;
     assert_eq!(rt; (line.tokens.len(), line.next), (1, 15));

@@ -1,5 +1,8 @@
 // The zone that bytes say.
 ghost use Rattle.std.specs.Prelude.{◌≡◌, ◌<◌, ◌≤◌, ◌+◌, ◌-◌, ◌∷◌, [], ◌^◌, ℕ, List, length, drop, map, Some, None, Option, Ok, Err, Result, IfOk, MatchOption, IsTrue, ◌↔◌};
+ghost use Rattle.std.specs.List.Sorted.{IsStrictlySortedBy};
+ghost use Rattle.std.specs.Map.{keys_of};
+ghost use Rattle.zone_model.specs.Names.{name_cmp};
 ghost use Rattle.zone_model.specs.Versions.{entry_of};
 ghost use Rattle.zone_model.specs.Lines.{lines_of};
 ghost use Rattle.zone_model.specs.Versions.{has_soa};
@@ -115,9 +118,10 @@ impl Zone {
         &self.origin
     }
 
-    /// How many names own records.
+    /// How many names own records. The names rise.
     pub fn len(&self) -> usize
-        ensures { result ≡ length self.now.pairs }
+        ensures len { result ≡ length self.now.pairs }
+        ensures ordered { IsStrictlySortedBy name_cmp (keys_of self.now.pairs) }
     {
         self.entries.len()
     }

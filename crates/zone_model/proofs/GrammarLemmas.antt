@@ -1,10 +1,10 @@
 -- The grammar of lines and the scan of them say the same.
-use Rattle.std.proofs.Common.{◌≡◌, ◌∙◌, ℕ, zero, suc, ◌+◌, ◌-◌, ◌<◌, ◌≤◌, Bool, true, false, cond, eqb, ◌==◌, if◌then◌else◌, ◌||◌, List, [], ◌∷◌, ◌++◌, length, refl, sym, ap, subst, arith, ◌⊎◌, inl, inr, append_assoc, length-append, Result, Ok, Err}
+use Rattle.std.proofs.Common.{◌≡◌, ◌∙◌, ℕ, ◌+◌, ◌-◌, ◌<◌, Bool, true, false, eqb, ◌==◌, if◌then◌else◌, ◌||◌, List, [], ◌∷◌, ◌++◌, length, refl, sym, ap, subst, arith, ◌⊎◌, inl, inr, append_assoc, length-append, Result, Ok, Err}
 use Rattle.std.proofs.lemmas.List.{append-nil}
-use Rattle.std.proofs.lemmas.Bool.{or_parts, or_cases, or_from, or_right, eqb-true, ne_eqb}
+use Rattle.std.proofs.lemmas.Bool.{or_parts, or_cases, or_from, eqb-true}
 use Rattle.std.proofs.lemmas.Bool.Decides.{nat_tests}
 use Rattle.zone_model.specs.Refusals.{Refused, ◌>>=◌}
-use Rattle.zone_model.specs.Tokens.{Token, Begun, Apart, Comment, Word, Quote, Escape, Scan, EntryTokens, fresh, refused, with_token, opened, closed, apart, in_word, in_quote, step, steps, line_end, line_tokens, entry_from, entry_of, LineTokens, single_line, is_blank, parts_words}
+use Rattle.zone_model.specs.Tokens.{Token, Begun, Apart, Comment, Word, Quote, Scan, EntryTokens, fresh, refused, with_token, opened, apart, step, steps, line_end, line_tokens, entry_from, entry_of, single_line, is_blank, parts_words}
 use Rattle.zone_model.specs.Grammar as says
 use Rattle.zone_model.specs.Grammar.{Run, stops_word, stops_quote, EndsWord, Spelled, with_first, with_paren, Spells, outermost, behind, SpellsEntry, line_says}
 use Rattle.zone_model.specs.declared.ZoneKind.{ZoneKind}
@@ -68,6 +68,7 @@ blank_apart n c s h = by_case (or_cases (eqb c 32) (eqb c 9) h)
     by_test : (b : Bool) → eqb c 9 ≡ true → eqb c 32 ≡ b → apart n c s ≡ Ok (state Apart s)
     by_test true e f = rw f refl
     by_test false e f = rw (f, e) refl
+
     by_case : (eqb c 32 ≡ true) ⊎ (eqb c 9 ≡ true) → apart n c s ≡ Ok (state Apart s)
     by_case (inl e) = rw e refl
     by_case (inr e) = by_test (eqb c 32) e refl
@@ -309,18 +310,23 @@ first_found n opens more c k = by_blank (is_blank c) refl
     by_slash : (b : Bool) → eqb c 92 ≡ b → parts_words c ≡ false → Found n opens (c ∷ more)
     by_slash true e p = found_as n opens more c 92 e (slash_found n opens more k.after_word)
     by_slash false e p = word_found n opens (c ∷ []) more (says.Plain c [] (or_from (parts_words c) (eqb c 92) p e) says.Empty) (omega arith) (k.word opens)
+
     by_close : (b : Bool) → eqb c 41 ≡ b → is_blank c ≡ false → eqb c 59 ≡ false → eqb c 34 ≡ false → eqb c 40 ≡ false → Found n opens (c ∷ more)
     by_close true e b s q o = found_as n opens more c 41 e (close_found n opens more k)
     by_close false e b s q o = by_slash (eqb c 92) refl (rw (b, s, q, o, e) refl)
+
     by_open : (b : Bool) → eqb c 40 ≡ b → is_blank c ≡ false → eqb c 59 ≡ false → eqb c 34 ≡ false → Found n opens (c ∷ more)
     by_open true e b s q = let f = k.at_rest (n ∷ opens) in found_as n opens more c 40 e (record { out = with_paren f.out; spelled = says.Open opens more f.out f.spelled })
     by_open false e b s q = by_close (eqb c 41) refl b s q e
+
     by_quote : (b : Bool) → eqb c 34 ≡ b → is_blank c ≡ false → eqb c 59 ≡ false → Found n opens (c ∷ more)
     by_quote true e b s = found_as n opens more c 34 e (quote_found n opens more (k.quote opens))
     by_quote false e b s = by_open (eqb c 40) refl b s e
+
     by_comment : (b : Bool) → eqb c 59 ≡ b → is_blank c ≡ false → Found n opens (c ∷ more)
     by_comment true e b = found_as n opens more c 59 e (record { out = Ok (record { tokens = []; parens = false; opens = opens }); spelled = says.Comment opens more })
     by_comment false e b = by_quote (eqb c 34) refl b e
+
     by_blank : (b : Bool) → is_blank c ≡ b → Found n opens (c ∷ more)
     by_blank true e = let f = k.at_rest opens in record { out = f.out; spelled = says.Blank opens c more f.out e f.spelled }
     by_blank false e = by_comment (eqb c 59) refl e
@@ -331,6 +337,7 @@ word_goes n opens more c k = by_end (parts_words c) refl
     by_slash : (b : Bool) → eqb c 92 ≡ b → parts_words c ≡ false → InWord n opens (c ∷ more)
     by_slash true e p = subst (λ (x : ℕ). InWord n opens (x ∷ more)) (sym (eqb-true c 92 e)) (slash_word n opens more k.after_word)
     by_slash false e p = word_longer n opens (c ∷ []) more (says.Plain c [] (or_from (parts_words c) (eqb c 92) p e) says.Empty) (k.word opens)
+
     by_end : (b : Bool) → parts_words c ≡ b → InWord n opens (c ∷ more)
     by_end true e = Ends [] (c ∷ more) refl says.Empty e (first_found n opens more c k)
     by_end false e = by_slash (eqb c 92) refl e
@@ -341,6 +348,7 @@ quote_goes n opens more c k = by_end (eqb c 34) refl
     by_slash : (b : Bool) → eqb c 92 ≡ b → eqb c 34 ≡ false → InQuote n opens (c ∷ more)
     by_slash true e p = subst (λ (x : ℕ). InQuote n opens (x ∷ more)) (sym (eqb-true c 92 e)) (slash_quote n opens more k.after_quote)
     by_slash false e p = quote_longer n opens (c ∷ []) more (says.Plain c [] (or_from (eqb c 34) (eqb c 92) p e) says.Empty) (k.quote opens)
+
     by_end : (b : Bool) → eqb c 34 ≡ b → InQuote n opens (c ∷ more)
     by_end true e = subst (λ (x : ℕ). InQuote n opens (x ∷ more)) (sym (eqb-true c 34 e)) (Closes [] more refl says.Empty (k.at_rest opens))
     by_end false e = by_slash (eqb c 92) refl e

@@ -1,5 +1,5 @@
 -- A scan of a master file's lines. It says the same as the grammar beside it, by one step a byte.
-use Rattle.std.specs.Prelude.{ℕ, ◌+◌, ◌-◌, Bool, true, false, ◌||◌, List, [], ◌∷◌, ◌++◌, ◌==◌, if◌then◌else◌, Result, Ok, Err}
+use Rattle.std.specs.Prelude.{ℕ, ◌+◌, ◌-◌, Bool, true, false, List, [], ◌∷◌, ◌++◌, ◌==◌, if◌then◌else◌, Result, Ok, Err}
 use Rattle.zone_model.specs.Refusals.{Refused, ◌>>=◌}
 pub use Rattle.zone_model.specs.Grammar.{Token, LineTokens, EntryTokens, is_blank, begins_blank, parts_words}
 use Rattle.zone_model.specs.declared.ZoneKind.{ZoneKind}

@@ -1,4 +1,4 @@
-use Rattle.std.proofs.Common.{◌≡◌, ◌≤◌, ◌<◌, ◌+◌, ◌-◌, drop, length}
+use Rattle.std.proofs.Common.{◌≡◌, ◌≤◌, ◌+◌, ◌-◌, drop, length}
 use Rattle.zone_model.specs.Lines.{lines_of}
 use Rattle.zone_model.specs.Tokens.{entry_from, fresh}
 use Rattle.master_file.specs.Views.{scan_view, HasScanned}
