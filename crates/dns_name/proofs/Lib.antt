@@ -1,6 +1,9 @@
 pub mod WireLemmas
+pub mod PieceLemmas
+pub mod BodyLemmas
 pub mod TextLemmas
 pub mod FillLemmas
 pub mod LabelLemmas
 pub mod PrintLemmas
+pub mod PrintedLemmas
 pub mod ScanLemmas

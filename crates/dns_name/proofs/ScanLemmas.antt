@@ -1,15 +1,13 @@
 -- Names in front of bytes of any kind.
-use Rattle.std.proofs.Common.{◌≡◌, ℕ, zero, suc, ◌+◌, ◌-◌, ◌<◌, ◌≤◌, List, [], ◌∷◌, ◌++◌, length, take, drop, get_or, sym, ap, ◌∙◌, refl, arith, length-append, length-take, append_assoc, length-drop, Some, take-append-drop}
+use Rattle.std.proofs.Common.{◌≡◌, ℕ, zero, suc, ◌+◌, ◌<◌, ◌≤◌, List, [], ◌∷◌, ◌++◌, length, take, drop, get_or, sym, ap, ◌∙◌, refl, arith, length-append, length-take, append_assoc, length-drop, Some, take-append-drop}
 use Rattle.std.specs.List.{AllByRecursion, slice_get}
 use Rattle.std.proofs.lemmas.List.{take_at, drop_at, drop-drop, drop_more}
-use Rattle.std.proofs.lemmas.Grind.{common_steps}
 use Rattle.zone_model.specs.Names.{wire, IsName, IsLabel, IsFolded, BeginsWith}
 use Rattle.dns_name.specs.Spelling.{IsNameSpelled, BeginsWithLabel, HasLabelOf}
-use Rattle.dns_name.proofs.FillLemmas.{body, wire-append, wire-body, body-push}
-use Rattle.dns_name.proofs.LabelLemmas.{all_append}
+use Rattle.dns_name.proofs.BodyLemmas.{body, wire-append, wire-body, body-push, wire_positive, all_append}
 
 -- bytes that are each below 256, by their places
-all_small : (n : ℕ) (xs : List ℕ) → ((i : ℕ) → get_or xs i 0 < 256) → AllByRecursion (λ c. c < 256) (take n xs)
+pub all_small : (n : ℕ) (xs : List ℕ) → ((i : ℕ) → get_or xs i 0 < 256) → AllByRecursion (λ c. c < 256) (take n xs)
 all_small zero xs h = tt
 all_small (suc n) [] h = tt
 all_small (suc n) (x ∷ xs) h = (h 0, all_small n xs (λ i. h (suc i)))
@@ -32,10 +30,6 @@ get_or_first zero bytes h = h
 get_or_first (suc at) [] h = refl
 get_or_first (suc at) (b ∷ bytes) h = get_or_first at bytes h
 
-wire_positive : (name : List (List ℕ)) → 0 < length (wire name)
-wire_positive [] = omega arith
-wire_positive (l ∷ ls) = omega arith
-
 -- what is known after the labels `done`, whose octets come before the place `at`
 pub record Scanned (bytes : List ℕ) (at : ℕ) : Type 0 where
   pub done : List (List ℕ)
@@ -57,7 +51,7 @@ same_label bytes a b h k =
     sym (take_at a h.0 (length a) refl) ∙ ap (take (length a)) tails ∙ take_at b k.0 (length a) (sym long)
 
 -- a name in front of bytes that are not at a zero octet has a first label there
-front_label : (bytes : List ℕ) (name : List (List ℕ)) → (get_or bytes 0 0 ≡ 0 → ⊥) → BeginsWith bytes name → AllByRecursion IsLabel name
+pub front_label : (bytes : List ℕ) (name : List (List ℕ)) → (get_or bytes 0 0 ≡ 0 → ⊥) → BeginsWith bytes name → AllByRecursion IsLabel name
     → (label : List ℕ) × (rest : List (List ℕ)) × (name ≡ label ∷ rest) × IsLabel label × AllByRecursion IsLabel rest × (behind : List ℕ) × (bytes ≡ length label ∷ (label ++ (wire rest ++ behind)))
 front_label bytes [] n h each = absurd (n (ap (λ (b : List ℕ). get_or b 0 0) h.1))
 front_label bytes (l ∷ ls) n h each = (l, ls, refl, each.0, each.1, h.0, h.1 ∙ ap (λ (t : List ℕ). length l ∷ t) (append_assoc l (wire ls) h.0))
@@ -118,6 +112,15 @@ scanned_end bytes at s over name is b =
     let full = over more in
     absurd (omega (arith, is.short))
 
--- the rest of a slice
-pub rest_is : (bytes : List ℕ) (at : ℕ) → take (length bytes - at) (drop at bytes) ≡ drop at bytes
-rest_is bytes at = grind (arith, common_steps)
+-- bytes begin with one name at most
+pub begins_once : (bytes : List ℕ) (a b : List (List ℕ)) → AllByRecursion IsLabel a → AllByRecursion IsLabel b → BeginsWith bytes a → BeginsWith bytes b → a ≡ b
+begins_once bytes [] [] h k x y = refl
+begins_once bytes [] (l ∷ ls) h k x y = let e : 0 ∷ x.0 ≡ length l ∷ ((l ++ wire ls) ++ y.0) = sym x.1 ∙ y.1 in let z : 0 ≡ length l = cc in absurd (omega (arith, k.0.some))
+begins_once bytes (l ∷ ls) [] h k x y = let e : length l ∷ ((l ++ wire ls) ++ x.0) ≡ 0 ∷ y.0 = sym x.1 ∙ y.1 in let z : length l ≡ 0 = cc in absurd (omega (arith, h.0.some))
+begins_once bytes (l ∷ ls) (m ∷ ms) h k x y =
+    let a : bytes ≡ length l ∷ (l ++ (wire ls ++ x.0)) = x.1 ∙ ap (λ (t : List ℕ). length l ∷ t) (append_assoc l (wire ls) x.0) in
+    let b : bytes ≡ length m ∷ (m ++ (wire ms ++ y.0)) = y.1 ∙ ap (λ (t : List ℕ). length m ∷ t) (append_assoc m (wire ms) y.0) in
+    let first : l ≡ m = same_label bytes l m (wire ls ++ x.0, a) (wire ms ++ y.0, b) in
+    let rest : wire ls ++ x.0 ≡ wire ms ++ y.0 = sym (behind_label bytes l (wire ls ++ x.0) a) ∙ ap (λ (t : List ℕ). drop (length t + 1) bytes) first ∙ behind_label bytes m (wire ms ++ y.0) b in
+    let others : ls ≡ ms = begins_once (wire ls ++ x.0) ls ms h.1 k.1 (x.0, refl) (y.0, rest) in
+    ap (λ (t : List ℕ). t ∷ ls) first ∙ ap (λ (t : List (List ℕ)). m ∷ t) others

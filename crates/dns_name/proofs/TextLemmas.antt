@@ -1,12 +1,15 @@
--- Reading a text goes on.
-use Rattle.std.proofs.Common.{◌≡◌, ℕ, ◌+◌, ◌<◌, ◌≤◌, Bool, true, false, List, [], ◌∷◌, ◌++◌, length, drop, get_or, sym, ap, ◌∙◌, subst, refl, arith, append_assoc, append-nil, length-append, Result, Ok, Err, eqb}
-use Rattle.std.proofs.lemmas.List.{drop_more, drop_all, nil_from_length}
-use Rattle.std.specs.Char.{to_ascii_lowercase}
-use Rattle.zone_model.specs.Names.{wire}
-use Rattle.zone_model.specs.NameText.{labels_from, onto}
+-- The labels that pieces make, one piece after another.
+use Rattle.std.proofs.Common.{◌≡◌, ℕ, ◌+◌, ◌<◌, ◌≤◌, Bool, true, false, List, [], ◌∷◌, ◌++◌, length, sym, ap, ◌∙◌, subst, refl, arith, append_assoc, append-nil, length-append, Result, Ok, Err, eqb}
+use Rattle.std.proofs.lemmas.List.{nil_from_length}
+use Rattle.std.specs.List.{AllByRecursion}
+use Rattle.zone_model.specs.Names.{IsLabel, IsFolded}
+use Rattle.zone_model.specs.NameText.{Piece, Dot, Octet, Bad, labels_from, labels_of, onto}
 use Rattle.zone_model.specs.declared.NameRefusal.{NameRefusal}
 use Rattle.zone_model.specs.declared.NameRefusal.TheVariants.{EmptyLabel, LongLabel, BadEscape}
+use Rattle.dns_name.specs.Pieces.{pieces_at, IsOctetAt}
 use Rattle.dns_name.specs.Reading.{Measures}
+use Rattle.dns_name.proofs.PieceLemmas.{pieces_end}
+use Rattle.dns_name.proofs.BodyLemmas.{body, length-wire, length-body-push, all_push}
 
 pub onto-onto : (a b : List (List ℕ)) (r : Result (List (List ℕ) × Bool) NameRefusal) → onto a (onto b r) ≡ onto (a ++ b) r
 unfolding onto
@@ -24,129 +27,137 @@ onto-Err a e = refl
 
 -- ---- one step
 
-pub from-dot : (at : ℕ) (label text : List ℕ) → 0 < length label → labels_from at label (46 ∷ text) ≡ onto (label ∷ []) (labels_from (at + 1) [] text)
+pub from-dot : (at : ℕ) (label : List ℕ) (ps : List Piece) → 0 < length label → labels_from label (Dot at ∷ ps) ≡ onto (label ∷ []) (labels_from [] ps)
 unfolding labels_from
-from-dot at label text h = let n : eqb (length label) 0 ≡ false = grind arith in rw n refl
+from-dot at label ps h = let n : eqb (length label) 0 ≡ false = grind arith in rw n refl
 
-pub from-empty : (at : ℕ) (text : List ℕ) → labels_from at [] (46 ∷ text) ≡ Err (EmptyLabel at)
+pub from-empty : (at : ℕ) (ps : List Piece) → labels_from [] (Dot at ∷ ps) ≡ Err (EmptyLabel at)
 unfolding labels_from
-from-empty at text = refl
+from-empty at ps = refl
 
-pub from-escape : (at : ℕ) (label text : List ℕ) → labels_from at label (92 ∷ text) ≡ Err (BadEscape at)
+pub from-bad : (at : ℕ) (label : List ℕ) (ps : List Piece) → labels_from label (Bad at ∷ ps) ≡ Err (BadEscape at)
 unfolding labels_from
-from-escape at label text = refl
+from-bad at label ps = refl
 
-pub from-long : (at c : ℕ) (label text : List ℕ) → (c ≡ 46 → ⊥) → (c ≡ 92 → ⊥) → length label ≡ 63 → labels_from at label (c ∷ text) ≡ Err (LongLabel at)
+pub from-long : (at c : ℕ) (label : List ℕ) (ps : List Piece) → length label ≡ 63 → labels_from label (Octet at c ∷ ps) ≡ Err (LongLabel at)
 unfolding labels_from
-from-long at c label text h k n =
-    let p : eqb c 46 ≡ false = grind arith in
-    let q : eqb c 92 ≡ false = grind arith in
-    let r : eqb (length label) 63 ≡ true = grind arith in
-    rw (p, q, r) refl
+from-long at c label ps n = let r : eqb (length label) 63 ≡ true = grind arith in rw r refl
 
-pub from-octet : (at c : ℕ) (label text : List ℕ) → (c ≡ 46 → ⊥) → (c ≡ 92 → ⊥) → (length label ≡ 63 → ⊥) → labels_from at label (c ∷ text) ≡ labels_from (at + 1) (label ++ to_ascii_lowercase c ∷ []) text
+pub from-octet : (at c : ℕ) (label : List ℕ) (ps : List Piece) → (length label ≡ 63 → ⊥) → labels_from label (Octet at c ∷ ps) ≡ labels_from (label ++ c ∷ []) ps
 unfolding labels_from
-from-octet at c label text h k n =
-    let p : eqb c 46 ≡ false = grind arith in
-    let q : eqb c 92 ≡ false = grind arith in
-    let r : eqb (length label) 63 ≡ false = grind arith in
-    rw (p, q, r) refl
+from-octet at c label ps n = let r : eqb (length label) 63 ≡ false = grind arith in rw r refl
 
-pub from-end_dot : (at : ℕ) → labels_from at [] [] ≡ Ok ([], true)
+pub from-end_dot : labels_from [] [] ≡ Ok ([], true)
 unfolding labels_from
-from-end_dot at = refl
+from-end_dot = refl
 
-pub from-end : (at : ℕ) (label : List ℕ) → 0 < length label → labels_from at label [] ≡ Ok (label ∷ [], false)
+pub from-end : (label : List ℕ) → 0 < length label → labels_from label [] ≡ Ok (label ∷ [], false)
 unfolding labels_from
-from-end at label h = let n : eqb (length label) 0 ≡ false = grind arith in rw n refl
+from-end label h = let n : eqb (length label) 0 ≡ false = grind arith in rw n refl
 
--- ---- the walk: `done` are the labels so far, `label` is the pending one
+-- ---- the walk: `done` are the labels so far, `label` is the open one
 
-pub record Walked (text : List ℕ) (at octets pending : ℕ) : Type 0 where
+-- the octets of a label so far
+pub record IsPart (label : List ℕ) : Type 0 where
+  pub short : length label ≤ 63
+  pub octets : AllByRecursion (λ c. c < 256) label
+  pub folded : AllByRecursion IsFolded label
+
+pub as_label : (label : List ℕ) → IsPart label → 0 < length label → IsLabel label
+as_label label p h = record { some = h; short = p.short; octets = p.octets; folded = p.folded }
+
+pub record Walked (text : List ℕ) (at octets open_octets : ℕ) : Type 0 where
   pub done : List (List ℕ)
   pub label : List ℕ
-  pub goes_on : labels_from 0 [] text ≡ onto done (labels_from at label (drop at text))
-  pub octets_are : octets + 1 ≡ length (wire done)
-  pub pending_is : pending ≡ length label
-  pub small : octets + pending ≤ at
-  pub short : pending ≤ 63
+  pub goes_on : labels_of text ≡ onto done (labels_from label (pieces_at text at))
+  pub octets_are : octets ≡ length (body done)
+  pub open_is : open_octets ≡ length label
+  pub each : AllByRecursion IsLabel done
+  pub part : IsPart label
+  pub small : octets + open_octets ≤ at
+  pub within : at ≤ length text
+
+empty_part : IsPart []
+empty_part = record { short = omega arith; octets = tt; folded = tt }
 
 pub walked_start : (text : List ℕ) → Walked text 0 0 0
-walked_start text = record { done = []; label = []; goes_on = sym (onto-nil (labels_from 0 [] text)); octets_are = refl; pending_is = refl; small = omega arith; short = omega arith }
-
-pub here : (text : List ℕ) (at c : ℕ) → at < length text → get_or text at 0 ≡ c → drop at text ≡ c ∷ drop (at + 1) text
-here text at c h e = drop_more text at 0 h ∙ ap (λ (x : ℕ). x ∷ drop (at + 1) text) e
+walked_start text = record { done = []; label = []; goes_on = sym (onto-nil (labels_of text)); octets_are = refl; open_is = refl; each = tt; part = empty_part; small = omega arith; within = omega arith }
 
 -- the walk ends with a refusal
-refused : (text : List ℕ) (at octets pending c : ℕ) (w : Walked text at octets pending) (e : NameRefusal) → at < length text → get_or text at 0 ≡ c
-    → labels_from at w.label (c ∷ drop (at + 1) text) ≡ Err e → Measures (Err e) (labels_from 0 [] text)
-refused text at octets pending c w e h is r =
-    let all : labels_from 0 [] text ≡ Err e = w.goes_on ∙ ap (λ (t : List ℕ). onto w.done (labels_from at w.label t)) (here text at c h is) ∙ ap (onto w.done) r ∙ onto-Err w.done e in
+refused : (text : List ℕ) (at octets n : ℕ) (w : Walked text at octets n) (e : NameRefusal) → labels_from w.label (pieces_at text at) ≡ Err e → Measures (Err e) (labels_of text)
+refused text at octets n w e r =
+    let all : labels_of text ≡ Err e = w.goes_on ∙ ap (onto w.done) r ∙ onto-Err w.done e in
     subst (Measures (Err e)) (sym all) refl
 
-pub refused_empty : (text : List ℕ) (at octets pending : ℕ) (w : Walked text at octets pending) → at < length text → get_or text at 0 ≡ 46 → pending ≡ 0 → Measures (Err (EmptyLabel at)) (labels_from 0 [] text)
-refused_empty text at octets pending w h is n =
-    let none : w.label ≡ [] = nil_from_length w.label (sym w.pending_is ∙ n) in
-    refused text at octets pending 46 w (EmptyLabel at) h is (ap (λ (l : List ℕ). labels_from at l (46 ∷ drop (at + 1) text)) none ∙ from-empty at (drop (at + 1) text))
+pub refused_empty : (text : List ℕ) (at octets n : ℕ) (w : Walked text at octets n) → pieces_at text at ≡ Dot at ∷ pieces_at text (at + 1) → n ≡ 0 → Measures (Err (EmptyLabel at)) (labels_of text)
+refused_empty text at octets n w is z =
+    let none : w.label ≡ [] = nil_from_length w.label (sym w.open_is ∙ z) in
+    refused text at octets n w (EmptyLabel at) (ap (labels_from w.label) is ∙ ap (λ (l : List ℕ). labels_from l (Dot at ∷ pieces_at text (at + 1))) none ∙ from-empty at (pieces_at text (at + 1)))
 
-pub refused_escape : (text : List ℕ) (at octets pending : ℕ) (w : Walked text at octets pending) → at < length text → get_or text at 0 ≡ 92 → Measures (Err (BadEscape at)) (labels_from 0 [] text)
-refused_escape text at octets pending w h is = refused text at octets pending 92 w (BadEscape at) h is (from-escape at w.label (drop (at + 1) text))
+pub refused_bad : (text : List ℕ) (at octets n : ℕ) (w : Walked text at octets n) → (rest : List Piece) × (pieces_at text at ≡ Bad at ∷ rest) → Measures (Err (BadEscape at)) (labels_of text)
+refused_bad text at octets n w is = refused text at octets n w (BadEscape at) (ap (labels_from w.label) is.1 ∙ from-bad at w.label is.0)
 
-pub refused_long : (text : List ℕ) (at octets pending : ℕ) (w : Walked text at octets pending) → at < length text → (get_or text at 0 ≡ 46 → ⊥) → (get_or text at 0 ≡ 92 → ⊥) → pending ≡ 63
-    → Measures (Err (LongLabel at)) (labels_from 0 [] text)
-refused_long text at octets pending w h k m n =
-    let full : length w.label ≡ 63 = sym w.pending_is ∙ n in
-    refused text at octets pending (get_or text at 0) w (LongLabel at) h refl (from-long at (get_or text at 0) w.label (drop (at + 1) text) k m full)
+pub refused_long : (text : List ℕ) (at octets n c next : ℕ) (w : Walked text at octets n) → IsOctetAt text at c next → n ≡ 63 → Measures (Err (LongLabel at)) (labels_of text)
+refused_long text at octets n c next w o full =
+    refused text at octets n w (LongLabel at) (ap (labels_from w.label) o.is ∙ from-long at c w.label (pieces_at text next) (sym w.open_is ∙ full))
 
--- the wire form of labels, less the root's octet, grows by one label
-wire-push : (done : List (List ℕ)) (label : List ℕ) → length (wire (done ++ label ∷ [])) ≡ length (wire done) + (length label + 1)
-wire-push [] label = omega (arith, length-append label (0 ∷ []))
-wire-push (l ∷ ls) label = omega (arith, wire-push ls label, length-append l (wire ls), length-append l (wire (ls ++ label ∷ [])))
-
-pub walked_dot : (text : List ℕ) (at octets pending : ℕ) (w : Walked text at octets pending) → at < length text → get_or text at 0 ≡ 46 → (pending ≡ 0 → ⊥)
-    → Walked text (at + 1) (octets + (pending + 1)) 0
-walked_dot text at octets pending w h is n =
-    let some : 0 < length w.label = omega (arith, w.pending_is) in
+pub walked_dot : (text : List ℕ) (at octets n : ℕ) (w : Walked text at octets n) → at < length text → pieces_at text at ≡ Dot at ∷ pieces_at text (at + 1) → (n ≡ 0 → ⊥)
+    → Walked text (at + 1) (octets + (n + 1)) 0
+walked_dot text at octets n w lt is z =
+    let some : 0 < length w.label = omega (arith, w.open_is) in
     record {
       done = w.done ++ w.label ∷ [];
       label = [];
-      goes_on = w.goes_on ∙ ap (λ (t : List ℕ). onto w.done (labels_from at w.label t)) (here text at 46 h is) ∙ ap (onto w.done) (from-dot at w.label (drop (at + 1) text) some) ∙ onto-onto w.done (w.label ∷ []) (labels_from (at + 1) [] (drop (at + 1) text));
-      octets_are = omega (arith, wire-push w.done w.label, w.octets_are, w.pending_is);
-      pending_is = refl;
+      goes_on = w.goes_on ∙ ap (λ (ps : List Piece). onto w.done (labels_from w.label ps)) is ∙ ap (onto w.done) (from-dot at w.label (pieces_at text (at + 1)) some) ∙ onto-onto w.done (w.label ∷ []) (labels_from [] (pieces_at text (at + 1)));
+      octets_are = omega (arith, length-body-push w.done w.label, w.octets_are, w.open_is);
+      open_is = refl;
+      each = all_push IsLabel w.done w.label w.each (as_label w.label w.part some);
+      part = empty_part;
       small = omega (arith, w.small);
-      short = omega arith;
+      within = omega arith;
     }
 
-pub walked_octet : (text : List ℕ) (at octets pending : ℕ) (w : Walked text at octets pending) → at < length text → (get_or text at 0 ≡ 46 → ⊥) → (get_or text at 0 ≡ 92 → ⊥) → (pending ≡ 63 → ⊥)
-    → Walked text (at + 1) octets (pending + 1)
-walked_octet text at octets pending w h k m n =
-    let space : length w.label ≡ 63 → ⊥ = λ e. n (w.pending_is ∙ e) in
+-- an octet more of the open label
+pub part_more : (label : List ℕ) (c : ℕ) → IsPart label → (length label ≡ 63 → ⊥) → c < 256 → IsFolded c → IsPart (label ++ c ∷ [])
+part_more label c p n small folded = record {
+  short = omega (arith, p.short, length-append label (c ∷ []));
+  octets = all_push (λ d. d < 256) label c p.octets small;
+  folded = all_push IsFolded label c p.folded folded;
+}
+
+pub walked_octet : (text : List ℕ) (at octets n c next : ℕ) (w : Walked text at octets n) → IsOctetAt text at c next → (n ≡ 63 → ⊥) → Walked text next octets (n + 1)
+walked_octet text at octets n c next w o full =
+    let space : length w.label ≡ 63 → ⊥ = λ e. full (w.open_is ∙ e) in
     record {
       done = w.done;
-      label = w.label ++ to_ascii_lowercase (get_or text at 0) ∷ [];
-      goes_on = w.goes_on ∙ ap (λ (t : List ℕ). onto w.done (labels_from at w.label t)) (here text at (get_or text at 0) h refl) ∙ ap (onto w.done) (from-octet at (get_or text at 0) w.label (drop (at + 1) text) k m space);
+      label = w.label ++ c ∷ [];
+      goes_on = w.goes_on ∙ ap (λ (ps : List Piece). onto w.done (labels_from w.label ps)) o.is ∙ ap (onto w.done) (from-octet at c w.label (pieces_at text next) space);
       octets_are = w.octets_are;
-      pending_is = omega (arith, w.pending_is, length-append w.label (to_ascii_lowercase (get_or text at 0) ∷ []));
-      small = omega (arith, w.small);
-      short = omega (arith, w.short, n);
+      open_is = omega (arith, w.open_is, length-append w.label (c ∷ []));
+      each = w.each;
+      part = part_more w.label c w.part space o.small o.folded;
+      small = omega (arith, w.small, o.later);
+      within = o.within;
     }
 
-ended_by : (text : List ℕ) (at octets pending : ℕ) (w : Walked text at octets pending) → length text ≤ at → labels_from 0 [] text ≡ onto w.done (labels_from at w.label [])
-ended_by text at octets pending w h = w.goes_on ∙ ap (λ (t : List ℕ). onto w.done (labels_from at w.label t)) (drop_all at text h)
+ended_by : (text : List ℕ) (at octets n : ℕ) (w : Walked text at octets n) → length text ≤ at → labels_of text ≡ onto w.done (labels_from w.label [])
+ended_by text at octets n w h = w.goes_on ∙ ap (λ (ps : List Piece). onto w.done (labels_from w.label ps)) (pieces_end text at h)
 
-pub ended_dot : (text : List ℕ) (at octets pending : ℕ) (w : Walked text at octets pending) → length text ≤ at → pending ≡ 0 → Measures (Ok (octets, true)) (labels_from 0 [] text)
+pub ended_dot : (text : List ℕ) (at octets n : ℕ) (w : Walked text at octets n) → length text ≤ at → n ≡ 0 → Measures (Ok (octets, true)) (labels_of text)
 unfolding onto
-ended_dot text at octets pending w h n =
-    let none : w.label ≡ [] = nil_from_length w.label (sym w.pending_is ∙ n) in
-    let all : labels_from 0 [] text ≡ Ok (w.done ++ [], true) = ended_by text at octets pending w h ∙ ap (λ (l : List ℕ). onto w.done (labels_from at l [])) none ∙ ap (onto w.done) (from-end_dot at) in
-    subst (Measures (Ok (octets, true))) (sym all) (w.octets_are ∙ ap (λ (l : List (List ℕ)). length (wire l)) (sym (append-nil w.done)), refl)
+ended_dot text at octets n w h z =
+    let none : w.label ≡ [] = nil_from_length w.label (sym w.open_is ∙ z) in
+    let all : labels_of text ≡ Ok (w.done ++ [], true) = ended_by text at octets n w h ∙ ap (λ (l : List ℕ). onto w.done (labels_from l [])) none ∙ ap (onto w.done) from-end_dot in
+    let whole : labels_of text ≡ Ok (w.done, true) = all ∙ ap (λ (l : List (List ℕ)). Ok (l, true)) (append-nil w.done) in
+    subst (Measures (Ok (octets, true))) (sym whole) (omega (arith, w.octets_are, length-wire w.done), refl, w.each)
 
-pub ended_open : (text : List ℕ) (at octets pending : ℕ) (w : Walked text at octets pending) → length text ≤ at → (pending ≡ 0 → ⊥) → Measures (Ok (octets + pending + 1, false)) (labels_from 0 [] text)
+pub ended_open : (text : List ℕ) (at octets n : ℕ) (w : Walked text at octets n) → length text ≤ at → (n ≡ 0 → ⊥) → Measures (Ok (octets + n + 1, false)) (labels_of text)
 unfolding onto
-ended_open text at octets pending w h n =
-    let some : 0 < length w.label = omega (arith, w.pending_is) in
-    let all : labels_from 0 [] text ≡ Ok (w.done ++ w.label ∷ [], false) = ended_by text at octets pending w h ∙ ap (onto w.done) (from-end at w.label some) in
-    subst (Measures (Ok (octets + pending + 1, false))) (sym all) (omega (arith, wire-push w.done w.label, w.octets_are, w.pending_is), refl)
+ended_open text at octets n w h z =
+    let some : 0 < length w.label = omega (arith, w.open_is) in
+    let all : labels_of text ≡ Ok (w.done ++ w.label ∷ [], false) = ended_by text at octets n w h ∙ ap (onto w.done) (from-end w.label some) in
+    subst (Measures (Ok (octets + n + 1, false))) (sym all)
+    (omega (arith, length-wire (w.done ++ w.label ∷ []), length-body-push w.done w.label, w.octets_are, w.open_is), refl, all_push IsLabel w.done w.label w.each (as_label w.label w.part some))
 
-pub walked_as : (text : List ℕ) (at o p octets pending : ℕ) → octets ≡ o → pending ≡ p → Walked text at o p → Walked text at octets pending
-walked_as text at o p octets pending e f w = subst (λ (k : ℕ). Walked text at k pending) (sym e) (subst (Walked text at o) (sym f) w)
+pub walked_as : (text : List ℕ) (at k o p octets n : ℕ) → at ≡ k → octets ≡ o → n ≡ p → Walked text k o p → Walked text at octets n
+walked_as text at k o p octets n d e f w = subst (λ (j : ℕ). Walked text j octets n) (sym d) (subst (λ (j : ℕ). Walked text k j n) (sym e) (subst (Walked text k o) (sym f) w))

@@ -2,12 +2,12 @@
 use Rattle.std.specs.Prelude.{◌≡◌, ℕ, ◌+◌, ◌≤◌, ◌<◌, ◌^◌, Bool, List, [], ◌∷◌, ◌++◌, length, Result, Ok, Err, MatchBool}
 use Rattle.std.specs.List.{AllByRecursion}
 use Rattle.zone_model.specs.Names.{wire, IsLabel}
-use Rattle.zone_model.specs.NameText.{labels_from}
+use Rattle.zone_model.specs.NameText.{labels_of}
 use Rattle.zone_model.specs.declared.NameRefusal.{NameRefusal}
 
--- the octets of the labels, and whether a dot ends them
+-- the octets of the labels without that of the root, and whether a dot ends them
 abbrev pub Measures : Result (ℕ × Bool) NameRefusal → Result (List (List ℕ) × Bool) NameRefusal → Type 0
-Measures (Ok x) (Ok y) = (x.0 + 1 ≡ length (wire y.0)) × (x.1 ≡ y.1)
+Measures (Ok x) (Ok y) = (x.0 + 1 ≡ length (wire y.0)) × (x.1 ≡ y.1) × AllByRecursion IsLabel y.0
 Measures (Ok x) (Err e) = ⊥
 Measures (Err e) (Ok y) = ⊥
 Measures (Err e) (Err f) = e ≡ f
@@ -25,7 +25,7 @@ IsLaid octets (Err e) = ⊥
 -- the text was walked, and these are the octets of its labels
 pub record IsMeasured (text : List ℕ) (octets : ℕ) (absolute : Bool) : Type 0 where
   pub labels : List (List ℕ)
-  pub read : labels_from 0 [] text ≡ Ok (labels, absolute)
+  pub read : labels_of text ≡ Ok (labels, absolute)
   pub counted : octets + 1 ≡ length (wire labels)
   pub each : AllByRecursion IsLabel labels
   pub small : octets + 255 < 2 ^ 64

@@ -4,6 +4,11 @@ use Rattle.std.specs.Borrow.{Bor}
 use Rattle.std.specs.List.{AllByRecursion}
 use Rattle.zone_model.specs.Names.{wire, IsName, IsLabel}
 
+-- the octets of labels, without that of the root
+abbrev pub body : List (List ℕ) → List ℕ
+body [] = []
+body (label ∷ labels) = length label ∷ (label ++ body labels)
+
 pub record Spells (bytes : List ℕ) (labels : List (List ℕ)) : Type 0 where
   pub each : AllByRecursion IsLabel labels
   pub same : bytes ≡ wire labels

@@ -1,13 +1,16 @@
-//! Names of the domain name system, in place.
+//! Names of the domain name system (RFC 1035, sections 2.3.4 and 3.1), each in its own 256 bytes of
+//! memory: how they are read, compared, taken apart and printed. Only printing takes memory.
 #![tactic(auto)]
 
 ghost use Rattle.std.specs.Prelude.{◌≡◌, ◌≤◌, ◌<◌, length, [], ◌∷◌, List, ℕ, MatchOption, IfSome, IsNone};
-ghost use Rattle.zone_model.specs.Names.{IsName, wire, is_under, ancestor, star_under, BeginsWith};
+ghost use Rattle.zone_model.specs.Names.{Name as Labels, IsName, wire, is_under, ancestor, star_under, BeginsWith};
 ghost use Rattle.dns_name.specs.Blank.{no_octets};
 ghost use Rattle.dns_name.specs.Spelling.{IsNameSpelled};
 
 mod buffer;
+pub mod laws;
 mod order;
+mod pieces;
 mod print;
 mod scan;
 #[cfg(test)]
@@ -15,10 +18,17 @@ mod tests;
 mod text;
 mod wire;
 
-use crate::buffer::Octets;
 use crate::scan::wire_len;
 use crate::wire::{count, first, skip, under};
+pub use buffer::Octets;
 use std::marker::Model;
+pub use wire::first as first_label;
+
+// The most octets of a name's wire form (RFC 1035, section 2.3.4).
+const MOST_OCTETS: usize = 255;
+
+// The most octets of a label.
+const MOST_LABEL_OCTETS: usize = 63;
 
 // An array of zeros.
 fn blank() -> [u8; 255]
@@ -27,7 +37,10 @@ fn blank() -> [u8; 255]
     [0; 255]
 }
 
-/// A name: its wire form, with the letters in lower case.
+/// A name: its wire form in place, at most 255 octets, with the letters A to Z in lower case.
+///
+/// Contracts see it as the list of its labels, the nearest first. Names are ordered as RFC 4034,
+/// section 6.1 says: by their labels from the root downwards, a name before the names under it.
 #[derive(Clone, Copy)]
 pub struct Name {
     octets: [u8; 255],
@@ -53,7 +66,7 @@ impl Model for Name {
 // The name with this wire form.
 fn of_wire(bytes: &[u8]) -> Name
     requires { IsNameSpelled bytes.now }
-    ensures { (labels : List (List ℕ)) → IsName labels → bytes.now ≡ wire labels → result ≡ labels }
+    ensures { (labels : Labels) → IsName labels → bytes.now ≡ wire labels → result ≡ labels }
 {
     let mut octets = blank();
     octets[..bytes.len()].copy_from_slice(bytes);
@@ -64,22 +77,22 @@ fn of_wire(bytes: &[u8]) -> Name
 }
 
 impl Name {
+    /// The name without labels.
     pub fn root() -> Self
         ensures { result ≡ [] }
     {
         of_wire(&[0])
     }
 
+    /// Its wire form: length octet and octets of each label, then a zero octet.
     pub fn wire(&self) -> &[u8]
         ensures wire { result.now ≡ wire self.now }
         ensures name { IsName self.now }
     {
         &self.octets[..self.len as usize]
     }
-}
 
-impl Name {
-    /// How many labels it has.
+    /// How many labels it has, the root not counted: at most 127.
     pub fn labels(&self) -> u8
         ensures { result ≡ length self.now }
     {
@@ -103,7 +116,7 @@ impl Name {
         of_wire(skip(bytes, count(bytes) - labels as usize))
     }
 
-    /// The wildcard right under it; None where that is no name, since it has over 255 octets.
+    /// The wildcard right under it, `*` and then the name; None where that has over 255 octets.
     pub fn star(&self) -> Option<Name>
         ensures { MatchOption result (255 < length (wire (star_under self.now))) (λ star. star ≡ star_under self.now) }
     {
@@ -118,16 +131,18 @@ impl Name {
         Some(of_wire(octets.as_slice()))
     }
 
-    /// The name that the bytes begin with; None where they begin with none.
+    /// The name whose wire form the bytes begin with, whatever stands behind it; None where they begin
+    /// with none. Compressed forms and letters in upper case are none.
     pub fn from_wire(bytes: &[u8]) -> Option<Name>
+        ensures name { IfSome result IsName }
         ensures found { IfSome result (BeginsWith bytes.now) }
-        ensures none { IsNone result → (name : List (List ℕ)) → IsName name → BeginsWith bytes.now name → ⊥ }
+        ensures none { IsNone result → (name : Labels) → IsName name → BeginsWith bytes.now name → ⊥ }
     {
         let len = wire_len(bytes)?;
         Some(of_wire(&bytes[..len]))
     }
 
-    /// It is the other name, or lies under it.
+    /// Whether it is the other name or lies under it.
     pub fn is_under(&self, other: &Name) -> bool
         ensures { result ≡ is_under self.now other.now }
     {

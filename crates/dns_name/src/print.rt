@@ -1,6 +1,7 @@
 // Names as they are printed.
 ghost use Rattle.std.specs.Prelude.{◌≡◌, ◌<◌, ◌≤◌, ◌+◌, ◌++◌, ◌∷◌, [], ℕ, List, length, OnOk, OnErr};
 ghost use Rattle.std.specs.Io.{StartsWith};
+ghost use Rattle.zone_model.specs.Names.{Name as Labels};
 ghost use Rattle.zone_model.specs.NameText.{octet_text, label_text, text_of};
 ghost use Rattle.dns_name.specs.Spelling.{Spells, IsSpelled};
 ghost use Rattle.std.specs.List.{flat_map};
@@ -42,7 +43,7 @@ fn push_label(out: &mut Vec<u8>, label: &[u8]) -> Result<(), AllocError>
 
 fn push_labels(out: &mut Vec<u8>, bytes: &[u8]) -> Result<(), AllocError>
     requires { IsSpelled bytes.now }
-    ensures ok { OnOk result ((labels : List (List ℕ)) → Spells bytes.now labels → out.new.items ≡ out.old.items ++ flat_map label_text labels) }
+    ensures ok { OnOk result ((labels : Labels) → Spells bytes.now labels → out.new.items ≡ out.old.items ++ flat_map label_text labels) }
     ensures kept { StartsWith out.new.items out.old.items }
 {
     let mut rest = bytes;
@@ -55,7 +56,7 @@ fn push_labels(out: &mut Vec<u8>, bytes: &[u8]) -> Result<(), AllocError>
 
 fn push_all(out: &mut Vec<u8>, bytes: &[u8]) -> Result<(), AllocError>
     requires { IsSpelled bytes.now }
-    ensures ok { OnOk result ((labels : List (List ℕ)) → Spells bytes.now labels → out.new.items ≡ out.old.items ++ text_of labels) }
+    ensures ok { OnOk result ((labels : Labels) → Spells bytes.now labels → out.new.items ≡ out.old.items ++ text_of labels) }
     ensures kept { StartsWith out.new.items out.old.items }
 {
     if bytes.len() == 1 {
@@ -66,7 +67,9 @@ fn push_all(out: &mut Vec<u8>, bytes: &[u8]) -> Result<(), AllocError>
 }
 
 impl Name {
-    /// Adds the name as it is printed.
+    /// Adds the name as it is printed: each label and a dot, `.` for the root. Octets 21 to 7E (hexadecimal)
+    /// stand for themselves, with a backslash before `"`, `$`, `(`, `)`, `.`, `;`, `@` and `\`; all
+    /// others are `\DDD`. Where no memory is left, `out` stays as it was.
     pub fn push_text(&self, out: &mut Vec<u8>) -> Result<(), AllocError>
         ensures ok { OnOk result (out.new.items ≡ out.old.items ++ text_of self.now) }
         ensures err { OnErr result (out.new.items ≡ out.old.items) }

@@ -1,7 +1,7 @@
 // Wire forms among bytes of any kind.
 ghost use Rattle.std.specs.Prelude.{◌≡◌, ◌<◌, ◌≤◌, ◌↔◌, length, List, ℕ, IsTrue, IfSome, IsNone, take};
 ghost use Rattle.std.specs.List.{AllByRecursion};
-ghost use Rattle.zone_model.specs.Names.{wire, IsName, IsLabel, IsFolded, BeginsWith};
+ghost use Rattle.zone_model.specs.Names.{Name as Labels, wire, IsName, IsLabel, IsFolded, BeginsWith};
 ghost use Rattle.dns_name.specs.Spelling.{IsNameSpelled, BeginsWithLabel, HasLabelOf};
 
 // All letters are in lower case.
@@ -29,7 +29,7 @@ fn label_len(bytes: &[u8]) -> Option<usize>
 pub fn wire_len(bytes: &[u8]) -> Option<usize>
     ensures within { IfSome result (λ n. n ≤ length bytes.now) }
     ensures found { IfSome result (λ n. IsNameSpelled (take n bytes.now)) }
-    ensures none { IsNone result → (name : List (List ℕ)) → IsName name → BeginsWith bytes.now name → ⊥ }
+    ensures none { IsNone result → (name : Labels) → IsName name → BeginsWith bytes.now name → ⊥ }
 {
     let mut at = 0;
     while at < bytes.len() && at < 255 {

@@ -1,36 +1,40 @@
 // Names as text.
 ghost use Rattle.std.specs.Prelude.{◌≡◌, ◌<◌, ◌≤◌, ◌+◌, ◌^◌, [], ℕ, List, ◌++◌, length, Result, Ok, IfOk, true, false};
-ghost use Rattle.zone_model.specs.Names.{wire, IsName};
-ghost use Rattle.zone_model.specs.NameText.{labels_from, name_of, completed, fitting};
+ghost use Rattle.zone_model.specs.Names.{Name as Labels, wire, IsName};
+ghost use Rattle.zone_model.specs.NameText.{labels_of, name_of, completed, fitting};
 ghost use Rattle.dns_name.specs.Reading.{Measures, HasRoom, IsLaid, IsMeasured};
 
 use crate::buffer::Octets;
-use crate::{Name, of_wire};
+use crate::pieces::{Piece, piece_at};
+use crate::{MOST_LABEL_OCTETS, MOST_OCTETS, Name, of_wire};
 use zone_model::NameRefusal;
 
 // The octets of the labels, and whether a dot ends them.
 fn measure(text: &[u8]) -> Result<(usize, bool), NameRefusal>
-    ensures measures { Measures result (labels_from 0 [] text.now) }
+    ensures measures { Measures result (labels_of text.now) }
     ensures small { IfOk result (λ x. x.0 + 255 < 2 ^ 64) }
 {
     let mut octets = 0;
     let mut pending = 0;
-    for (at, octet) in text.iter().enumerate() {
-        match *octet {
-            b'.' => {
+    let mut at = 0;
+    while at < text.len() {
+        match piece_at(text, at) {
+            Piece::Dot => {
                 if pending == 0 {
                     return Err(NameRefusal::EmptyLabel(at));
                 }
                 octets += pending + 1;
                 pending = 0;
+                at += 1;
             }
-            b'\\' => return Err(NameRefusal::BadEscape(at)),
-            _ => {
-                if pending == 63 {
+            Piece::Octet(_, next) => {
+                if pending == MOST_LABEL_OCTETS {
                     return Err(NameRefusal::LongLabel(at));
                 }
                 pending += 1;
+                at = next;
             }
+            Piece::Bad => return Err(NameRefusal::BadEscape(at)),
         }
     }
     if pending == 0 {
@@ -42,20 +46,27 @@ fn measure(text: &[u8]) -> Result<(usize, bool), NameRefusal>
 
 // The octets of the labels. A last dot adds that of the root.
 fn fill(text: &[u8]) -> Octets
-    requires { HasRoom (labels_from 0 [] text.now) }
-    ensures { IsLaid result (labels_from 0 [] text.now) }
+    requires { HasRoom (labels_of text.now) }
+    ensures { IsLaid result (labels_of text.now) }
 {
     let mut octets = Octets::new();
     octets.push(0);
     let mut start = 0;
-    for octet in text {
-        if *octet == b'.' {
-            let label = octets.len() - start - 1;
-            octets.set(start, label as u8);
-            start = octets.len();
-            octets.push(0);
-        } else {
-            octets.push(octet.to_ascii_lowercase());
+    let mut at = 0;
+    while at < text.len() {
+        match piece_at(text, at) {
+            Piece::Dot => {
+                let label = octets.len() - start - 1;
+                octets.set(start, label as u8);
+                start = octets.len();
+                octets.push(0);
+                at += 1;
+            }
+            Piece::Octet(octet, next) => {
+                octets.push(octet);
+                at = next;
+            }
+            Piece::Bad => unreachable!(),
         }
     }
     let label = octets.len() - start - 1;
@@ -68,10 +79,10 @@ fn fill(text: &[u8]) -> Octets
 // The name of a text that a last dot ends.
 fn absolute(text: &[u8], octets: usize) -> Result<Name, NameRefusal>
     requires { IsMeasured text.now octets true }
-    ensures { (y : List (List ℕ)) → labels_from 0 [] text.now ≡ Ok (y, true) → result ≡ fitting y }
+    ensures { (y : Labels) → labels_of text.now ≡ Ok (y, true) → result ≡ fitting y }
 {
     let total = octets + 1;
-    if total > 255 {
+    if total > MOST_OCTETS {
         return Err(NameRefusal::LongName(total));
     }
     let laid = fill(text);
@@ -81,11 +92,11 @@ fn absolute(text: &[u8], octets: usize) -> Result<Name, NameRefusal>
 // The name of a text that goes on with the origin.
 fn relative(text: &[u8], octets: usize, origin: &Name) -> Result<Name, NameRefusal>
     requires { IsMeasured text.now octets false }
-    ensures { (y : List (List ℕ)) → labels_from 0 [] text.now ≡ Ok (y, false) → result ≡ fitting (y ++ origin.now) }
+    ensures { (y : Labels) → labels_of text.now ≡ Ok (y, false) → result ≡ fitting (y ++ origin.now) }
 {
     let behind = origin.wire();
     let total = octets + behind.len();
-    if total > 255 {
+    if total > MOST_OCTETS {
         return Err(NameRefusal::LongName(total));
     }
     let mut laid = fill(text);
@@ -95,7 +106,7 @@ fn relative(text: &[u8], octets: usize, origin: &Name) -> Result<Name, NameRefus
 
 // The name of a text that is neither empty nor one of the short forms.
 fn complete(text: &[u8], origin: &Name) -> Result<Name, NameRefusal>
-    ensures { result ≡ completed origin.now (labels_from 0 [] text.now) }
+    ensures { result ≡ completed origin.now (labels_of text.now) }
 {
     match measure(text) {
         Ok((octets, true)) => absolute(text, octets),
@@ -105,7 +116,10 @@ fn complete(text: &[u8], origin: &Name) -> Result<Name, NameRefusal>
 }
 
 impl Name {
-    /// The name that a text says. A text without a last dot is relative to the origin.
+    /// The name that a text says, by RFC 1035, section 5.1. The text `@` is the origin and `.` the root; a
+    /// text without a last dot goes on with the origin. `\DDD` with three decimal digits up to 255 is
+    /// that octet, and `\X` is X where X is no digit; neither ends a label. The refusal is the first
+    /// from the left, and `LongName`, which counts the octets of the whole, comes after all others.
     pub fn read(text: &[u8], origin: &Name) -> Result<Name, NameRefusal>
         ensures { result ≡ name_of text.now origin.now }
     {

@@ -1,15 +1,15 @@
 // Walks over wire forms.
 ghost use Rattle.std.specs.Prelude.{◌≡◌, ◌≤◌, ◌<◌, length, drop, [], List, ℕ};
 ghost use Rattle.std.specs.Ordering.{ordering_then};
-ghost use Rattle.zone_model.specs.Names.{wire, name_cmp, is_under};
+ghost use Rattle.zone_model.specs.Names.{Name as Labels, wire, name_cmp, is_under};
 ghost use Rattle.dns_name.specs.Spelling.{Spells, IsSpelled, HasLabels, IsFirst};
 
 use std::cmp::Ordering;
 
-// The first label, and the bytes behind it; None for the root.
+/// The first label of a wire form, and the bytes of the others; None for the root.
 pub fn first(bytes: &[u8]) -> Option<(&[u8], &[u8])>
     requires { IsSpelled bytes.now }
-    ensures { (labels : List (List ℕ)) → Spells bytes.now labels → IsFirst labels result }
+    ensures { (labels : Labels) → Spells bytes.now labels → IsFirst labels result }
 {
     let len = bytes[0] as usize;
     if len == 0 {
@@ -21,7 +21,7 @@ pub fn first(bytes: &[u8]) -> Option<(&[u8], &[u8])>
 // How many labels there are.
 pub fn count(bytes: &[u8]) -> usize
     requires { IsSpelled bytes.now }
-    ensures { (labels : List (List ℕ)) → Spells bytes.now labels → result ≡ length labels }
+    ensures { (labels : Labels) → Spells bytes.now labels → result ≡ length labels }
 {
     let mut count = 0;
     let mut rest = bytes;
@@ -35,7 +35,7 @@ pub fn count(bytes: &[u8]) -> usize
 // The bytes behind so many labels.
 pub fn skip(bytes: &[u8], labels: usize) -> &[u8]
     requires { HasLabels bytes.now labels }
-    ensures { (all : List (List ℕ)) → Spells bytes.now all → Spells result.now (drop labels all) }
+    ensures { (all : Labels) → Spells bytes.now all → Spells result.now (drop labels all) }
 {
     let mut rest = bytes;
     for _ in 0..labels {
@@ -50,7 +50,7 @@ pub fn skip(bytes: &[u8], labels: usize) -> &[u8]
 pub fn compare(a: &[u8], b: &[u8]) -> Ordering
     requires a { IsSpelled a.now }
     requires b { IsSpelled b.now }
-    ensures { (x y : List (List ℕ)) → Spells a.now x → Spells b.now y → result ≡ name_cmp x y }
+    ensures { (x y : Labels) → Spells a.now x → Spells b.now y → result ≡ name_cmp x y }
 {
     let depth_a = count(a);
     let depth_b = count(b);
@@ -66,7 +66,7 @@ pub fn compare(a: &[u8], b: &[u8]) -> Ordering
 fn compare_alike(a: &[u8], b: &[u8], tie: Ordering) -> Ordering
     requires a { IsSpelled a.now }
     requires b { IsSpelled b.now }
-    ensures { (x y : List (List ℕ)) → Spells a.now x → Spells b.now y → length x ≡ length y → result ≡ ordering_then (name_cmp x y) tie }
+    ensures { (x y : Labels) → Spells a.now x → Spells b.now y → length x ≡ length y → result ≡ ordering_then (name_cmp x y) tie }
 {
     let mut left = a;
     let mut right = b;
@@ -85,7 +85,7 @@ fn compare_alike(a: &[u8], b: &[u8], tie: Ordering) -> Ordering
 pub fn under(a: &[u8], b: &[u8]) -> bool
     requires a { IsSpelled a.now }
     requires b { IsSpelled b.now }
-    ensures { (x y : List (List ℕ)) → Spells a.now x → Spells b.now y → result ≡ is_under x y }
+    ensures { (x y : Labels) → Spells a.now x → Spells b.now y → result ≡ is_under x y }
 {
     let depth_a = count(a);
     let depth_b = count(b);

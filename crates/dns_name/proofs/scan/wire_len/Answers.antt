@@ -1,7 +1,8 @@
 use Rattle.std.proofs.Common.{ℕ, List, subst, arith, refl}
 use Rattle.zone_model.specs.Names.{IsLabel}
 use Rattle.dns_name.specs.Spelling.{HasLabelOf, BeginsWithLabel}
-use Rattle.dns_name.proofs.ScanLemmas.{scanned_more, scanned_found, scanned_stuck, scanned_end, rest_is}
+use Rattle.dns_name.proofs.PieceLemmas.{rest_is}
+use Rattle.dns_name.proofs.ScanLemmas.{scanned_more, scanned_found, scanned_stuck, scanned_end}
 use Rattle.dns_name.proofs.scan.wire_len.Goals as goal
 
 pub returns-then-bytes-at-eq0-clause-found : goal.returns-then-bytes-at-eq0-clause-found

@@ -1,0 +1,51 @@
+#!/usr/bin/env python3
+"""Writes a job: a zone of N address records in random order, and a script that asks for one of them.
+
+Usage: hosts.py N [SEED] [COMMANDS]
+COMMANDS is `one` (one question, the default), `blocks` (10,000 blocks of one new address) or
+`block` (one block of 10,000 new addresses).
+"""
+import random
+import sys
+
+
+def zone(count, seed):
+    yield "$TTL 300"
+    yield "@ SOA ns hostmaster 1 3600 600 86400 60"
+    yield "@ NS ns"
+    yield "ns A 192.0.2.1"
+    hosts = list(range(count))
+    random.Random(seed).shuffle(hosts)
+    for host in hosts:
+        yield f"n{host} A 10.{host >> 16 & 255}.{host >> 8 & 255}.{host & 255}"
+
+
+def script(commands):
+    yield "%%"
+    yield "worker"
+    if commands == "one":
+        yield "get n7 A"
+    elif commands == "blocks":
+        for host in range(10_000):
+            yield from ("write", f"add m{host} 300 A 192.0.2.7", "commit")
+    elif commands == "block":
+        yield "write"
+        for host in range(10_000):
+            yield f"add m{host} 300 A 192.0.2.7"
+        yield "commit"
+    else:
+        sys.exit(__doc__)
+
+
+def main():
+    if len(sys.argv) < 2:
+        sys.exit(__doc__)
+    seed = int(sys.argv[2]) if len(sys.argv) > 2 else 1
+    commands = sys.argv[3] if len(sys.argv) > 3 else "one"
+    for line in zone(int(sys.argv[1]), seed):
+        print(line)
+    for line in script(commands):
+        print(line)
+
+
+main()

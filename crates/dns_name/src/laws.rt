@@ -1,0 +1,27 @@
+//! Laws of names, each as the contract of a function that does nothing.
+ghost use Rattle.std.specs.Prelude.{◌≡◌, ℕ, List, Ok};
+ghost use Rattle.std.specs.Cmp.{IsTotalOrder};
+ghost use Rattle.std.specs.declared.cmp.Ordering.{Ordering};
+ghost use Rattle.zone_model.specs.Names.{Name as Labels, IsName, name_cmp, BeginsWith};
+ghost use Rattle.zone_model.specs.NameText.{name_of, text_of};
+
+use crate::Name;
+
+/// What is read from a printed name is that name, whatever the origin.
+pub fn printed_names_read_back(name: &Name, origin: &Name)
+    ensures { name_of (text_of name.now) origin.now ≡ Ok name.now }
+{
+    let _ = name.wire();
+    let _ = origin;
+}
+
+/// The canonical order is total, and calls names equal only where they are one.
+pub fn names_are_in_one_order()
+    ensures total { IsTotalOrder name_cmp }
+    ensures antisymmetric { (a b : Labels) → name_cmp a b ≡ Ordering.Equal → a ≡ b }
+{}
+
+/// Bytes begin with the wire form of one name at most.
+pub fn wire_forms_are_told_apart()
+    ensures { (bytes : List ℕ) (a b : Labels) → IsName a → IsName b → BeginsWith bytes a → BeginsWith bytes b → a ≡ b }
+{}

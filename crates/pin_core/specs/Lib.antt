@@ -1,0 +1,5 @@
+pub mod Words
+pub mod Sound
+pub mod Machine
+pub mod Runs
+pub mod Inside

@@ -1,0 +1,6 @@
+pub mod PlaceLemmas
+pub mod EncodeLemmas
+pub mod MatchLemmas
+pub mod LeadLemmas
+pub mod DecodeLemmas
+pub mod NameLemmas

@@ -1,0 +1,5 @@
+pub mod Blank
+pub mod Inside
+pub mod Room
+pub mod Matching
+pub mod Decoding

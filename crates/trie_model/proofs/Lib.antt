@@ -1,0 +1,13 @@
+pub mod KeyLaws
+pub mod BitmapLaws
+pub mod SplitLaws
+pub mod TopLaws
+pub mod GrowthLaws
+pub mod AddLaws
+pub mod DropLaws
+pub mod OrderLaws
+pub mod MoveLaws
+pub mod CountLaws
+pub mod ReachLaws
+pub mod FewLaws
+pub mod ShapeLaws

@@ -1,0 +1,4 @@
+mod UnpackLaws
+mod FindLaws
+mod SizeLaws
+mod ExampleTrie

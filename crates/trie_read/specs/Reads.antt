@@ -1,0 +1,29 @@
+-- What a search goes by, and what it gives.
+use Rattle.std.specs.Prelude.{◌≡◌, ℕ, List, length, Option, Some, None}
+use Rattle.packed_node.specs.declared.Cell.{Cell}
+use Rattle.packed_node.specs.declared.Leaf.{Leaf}
+use Rattle.trie_model.specs.Keys.{Entry, IsEntry, InList}
+use Rattle.trie_model.specs.Trees.{Tree, IsTree, IsRow, cells_in}
+use Rattle.trie_model.specs.Memory.{Beneath, top_cell, ItemLies}
+
+-- the cell is the top of a trie that lies in the memory, with offsets from low on
+pub record IsTop (has : ℕ → Cell → Type 0) (low : ℕ) (cell : Cell) (t : Tree) : Type 0 where
+  pub tree : IsTree low t
+  pub is : cell ≡ top_cell t
+  pub beneath : Beneath has t
+
+-- the leaf says where the entry's item lies
+pub record IsLeafOf (has : ℕ → Cell → Type 0) (e : Entry) (l : Leaf) : Type 0 where
+  pub entry : IsEntry e
+  pub len : l.len ≡ length e.item
+  pub row : IsRow l.at (cells_in e.item)
+  pub lies : ItemLies has l.at e.item
+
+-- each item says its entry's key
+abbrev pub EachTells : (List ℕ → List ℕ → Type 0) → List Entry → Type 0
+EachTells tells es = (e : Entry) → InList e es → tells e.key e.item
+
+-- the leaf of the key's entry, exactly where there is one
+abbrev pub Gives : (ℕ → Cell → Type 0) → List ℕ → List Entry → Option Leaf → Type 0
+Gives has key es None = (e : Entry) → InList e es → e.key ≡ key → ⊥
+Gives has key es (Some l) = (e : Entry) × InList e es × (e.key ≡ key) × IsLeafOf has e l
