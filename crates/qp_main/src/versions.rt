@@ -75,7 +75,8 @@ fn add_soa(alloc: Global, entry: &mut Entry, ttl: u32, soa: Rdata) -> Result<(),
         return Ok(());
     }
     entry.del_set(SOA);
-    entry.add(alloc, SOA, ttl, soa)
+    entry.add(alloc, SOA, ttl, soa)?;
+    Ok(())
 }
 
 // Adds a record to its owner's entry.
@@ -84,10 +85,10 @@ fn add_record(alloc: Global, entry: &mut Entry, record: &NewRecord) -> Result<()
 {
     let rdata = record.rdata.clone()?;
     if record.rtype == SOA {
-        add_soa(alloc, entry, record.ttl, rdata)
-    } else {
-        entry.add(alloc, record.rtype, record.ttl, rdata)
+        return add_soa(alloc, entry, record.ttl, rdata);
     }
+    entry.add(alloc, record.rtype, record.ttl, rdata)?;
+    Ok(())
 }
 
 // The SOA would leave.

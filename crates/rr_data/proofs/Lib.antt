@@ -1,10 +1,13 @@
 pub mod AddressLemmas
+pub mod DecodingLemmas
+pub mod EntryChanges
 pub mod EntryLemmas
 pub mod EscapeLemmas
 pub mod FieldLemmas
 pub mod FormLemmas
 pub mod NumberLemmas
 pub mod PlaceLemmas
+pub mod PrintedLemmas
 pub mod StartsLemmas
 pub mod StringLemmas
 pub mod StringTextLemmas

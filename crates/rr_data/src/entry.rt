@@ -1,9 +1,14 @@
 // An entry.
-ghost use Rattle.std.specs.Prelude.{◌≡◌, ◌<◌, ◌≤◌, ◌++◌, ◌∷◌, [], ℕ, List, Option, length, OnOk, OnErr, MatchOption, take, drop, Some, None, min, ◌-◌, ◌^◌, slice_get, IsTrue, ◌↔◌};
-ghost use Rattle.zone_model.specs.Records.{Rrset, with_rr, without_rr, without_set, rrset_of, item, rrset_bytes};
+ghost use Rattle.std.specs.Prelude.{◌≡◌, ◌<◌, ◌≤◌, ◌++◌, ◌∷◌, [], ℕ, List, Option, length, OnOk, OnErr, MatchOption, take, drop, Some, None, min, ◌-◌, ◌^◌, slice_get, IsTrue, IsNone, IfSome, IfOk, ◌↔◌};
+ghost use Rattle.zone_model.specs.Records.{Rrset, with_rr, without_rr, without_set, rrset_of, item, item_limit, rrset_bytes, IsItem};
+ghost use Rattle.rr_data.specs.Changes.{TellsChange};
+ghost use Rattle.rr_data.specs.Items.{Decodes};
 
+use crate::decoding::read_item;
+use crate::encoding::{put, put_sets, put_short};
 use crate::places::place_of;
 use crate::rdata::Rdata;
+use crate::refusal::DecodeRefusal;
 use crate::rrset::RrSet;
 use dns_name::Name;
 use std::alloc::{AllocError, Global};
@@ -21,7 +26,11 @@ impl Model for Entry {
 
     ghost Value = { List Rrset };
 
+    ghost use Rattle.zone_model.specs.Records.{IsEntry};
+
     ghost view = { λ e. e.sets.items };
+
+    ghost invariant = { λ e. IsEntry e.sets.items };
 }
 
 impl Clone for Entry {
@@ -34,15 +43,16 @@ impl Clone for Entry {
     }
 }
 
-// Adds a record to the RRset of its type.
+// Adds a record to the RRset of its type. Answers whether it was added.
 fn add_to(
     alloc: Global,
     sets: &mut Vec<RrSet>,
     rtype: u16,
     ttl: u32,
     added: Rdata,
-) -> Result<(), AllocError>
+) -> Result<bool, AllocError>
     ensures ok { OnOk result (sets.new.items ≡ with_rr rtype ttl added sets.old.items) }
+    ensures changed { IfOk result (λ changed. TellsChange changed sets.old.items sets.new.items) }
     ensures err { OnErr result (sets.new.items ≡ sets.old.items) }
 {
     match place_of(sets, rtype) {
@@ -53,32 +63,38 @@ fn add_to(
         Err(at) => {
             let set = RrSet::of(alloc, rtype, ttl, added)?;
             sets.insert(at, set)?;
-            Ok(())
+            Ok(true)
         }
     }
 }
 
-// Removes the RRset of a type.
-fn remove_set(sets: &mut Vec<RrSet>, rtype: u16)
-    ensures { sets.new.items ≡ without_set rtype sets.old.items }
-{
-    if let Ok(at) = place_of(sets, rtype) {
-        let _removed = sets.remove(at);
-    }
-}
-
-// Removes a record, and its RRset with the last one.
-fn remove_from(sets: &mut Vec<RrSet>, rtype: u16, octets: &[u8])
-    ensures { sets.new.items ≡ without_rr rtype octets.now sets.old.items }
+// Removes the RRset of a type. Answers whether there was one.
+fn remove_set(sets: &mut Vec<RrSet>, rtype: u16) -> bool
+    ensures value { sets.new.items ≡ without_set rtype sets.old.items }
+    ensures changed { TellsChange result sets.old.items sets.new.items }
 {
     let Ok(at) = place_of(sets, rtype) else {
-        return;
+        return false;
+    };
+    let _removed = sets.remove(at);
+    true
+}
+
+// Removes a record, and its RRset with the last one. Answers whether it was there.
+fn remove_from(sets: &mut Vec<RrSet>, rtype: u16, octets: &[u8]) -> bool
+    ensures value { sets.new.items ≡ without_rr rtype octets.now sets.old.items }
+    ensures changed { TellsChange result sets.old.items sets.new.items }
+{
+    let Ok(at) = place_of(sets, rtype) else {
+        return false;
     };
     let set = &mut sets[at];
-    set.remove(octets);
+    let changed = set.remove(octets);
     if sets[at].is_empty() {
         let _removed = sets.remove(at);
+        return true;
     }
+    changed
 }
 
 // The octets of an RRset in an item.
@@ -136,31 +152,35 @@ impl Entry {
         None
     }
 
-    /// Adds a record, unless it is there. An RRset that is there keeps its time to live. The rules on SOA and CNAME
-    /// are the caller's.
+    /// Adds a record, unless it is there, and answers whether it was added. An RRset that is there keeps its time to
+    /// live. The rules on SOA and CNAME are the caller's.
     pub fn add(
         &mut self,
         alloc: Global,
         rtype: u16,
         ttl: u32,
         added: Rdata,
-    ) -> Result<(), AllocError>
+    ) -> Result<bool, AllocError>
         ensures ok { OnOk result (self.new ≡ with_rr rtype ttl added self.old) }
+        ensures changed { IfOk result (λ changed. TellsChange changed self.old self.new) }
         ensures err { OnErr result (self.new ≡ self.old) }
     {
+        let _octets = added.octets();
         add_to(alloc, &mut self.sets, rtype, ttl, added)
     }
 
-    /// Removes the RRset of a type, if it has one.
-    pub fn del_set(&mut self, rtype: u16)
-        ensures { self.new ≡ without_set rtype self.old }
+    /// Removes the RRset of a type, and answers whether there was one.
+    pub fn del_set(&mut self, rtype: u16) -> bool
+        ensures value { self.new ≡ without_set rtype self.old }
+        ensures changed { TellsChange result self.old self.new }
     {
         remove_set(&mut self.sets, rtype)
     }
 
-    /// Removes a record, if it is there.
-    pub fn del_one(&mut self, rtype: u16, octets: &[u8])
-        ensures { self.new ≡ without_rr rtype octets.now self.old }
+    /// Removes a record, and answers whether it was there. An RRset goes with its last record.
+    pub fn del_one(&mut self, rtype: u16, octets: &[u8]) -> bool
+        ensures value { self.new ≡ without_rr rtype octets.now self.old }
+        ensures changed { TellsChange result self.old self.new }
     {
         remove_from(&mut self.sets, rtype, octets)
     }
@@ -174,5 +194,31 @@ impl Entry {
             len = len.saturating_add(set_len(set));
         }
         len
+    }
+
+    /// Writes the item of an owner and this entry, and answers its number of octets; None where these are over 4,096,
+    /// and then nothing is written.
+    pub fn encode(&self, owner: &Name, out: &mut [u8; 4096]) -> Option<usize>
+        requires { 0 < length self.now }
+        ensures item { IfSome result (λ n. IsItem (take n out.new) owner.now self.now) }
+        ensures long { IsNone result ↔ (item_limit < length (item owner.now self.now)) }
+        ensures kept { IsNone result → out.new ≡ out.old }
+    {
+        if self.item_len(owner) > 4096 {
+            return None;
+        }
+        let behind_owner = put(out, 0, owner.wire());
+        let behind_count = put_short(out, behind_owner, self.sets.len() as u16);
+        Some(put_sets(out, behind_count, &self.sets))
+    }
+
+    /// The entry of an item, whatever its owner.
+    pub fn decode(alloc: Global, item: &[u8]) -> Result<Entry, DecodeRefusal>
+        ensures { Decodes result item.now }
+    {
+        match read_item(alloc, item)? {
+            Some(sets) => Ok(Entry { sets }),
+            None => Err(DecodeRefusal::Malformed),
+        }
     }
 }

@@ -4,11 +4,14 @@
 
 mod addresses;
 mod data_text;
+mod decoding;
+mod encoding;
 mod entry;
 mod escapes;
 mod fields;
 mod forms;
 mod generic;
+pub mod laws;
 mod places;
 mod plain;
 mod rdata;
@@ -17,6 +20,8 @@ mod refusal;
 mod rrset;
 mod splits;
 mod strings;
+#[cfg(test)]
+mod tests;
 mod token;
 mod words;
 
@@ -24,7 +29,7 @@ pub use data_text::push_type;
 pub use entry::Entry;
 pub use plain::read_plain_type;
 pub use rdata::Rdata;
-pub use refusal::RdataRefusal;
+pub use refusal::{DecodeRefusal, RdataRefusal};
 pub use rrset::RrSet;
 pub use token::Token;
 pub use words::{number, read_type, time_of};

@@ -1,5 +1,5 @@
 // Words of the plain form: numbers, types and data.
-ghost use Rattle.std.specs.Prelude.{◌≡◌, ◌<◌, ◌≤◌, ◌+◌, ◌++◌, ◌^◌, ◌∷◌, [], ℕ, List, length, IfOk, OnOk, map, Some, None, Option, IfSome, ◌==◌};
+ghost use Rattle.std.specs.Prelude.{◌*◌, ◌≡◌, ◌<◌, ◌≤◌, ◌+◌, ◌++◌, ◌^◌, ◌∷◌, [], ℕ, List, length, IfOk, OnOk, map, Some, None, Option, IfSome, ◌==◌};
 ghost use Rattle.std.specs.List.{slice_split};
 ghost use Rattle.std.specs.Option.{option_map};
 ghost use Rattle.std.specs.Int.{w32, to_be_bytes};
@@ -43,7 +43,8 @@ fn address_part(part: &[u8]) -> Option<u8>
 
 // The octets of the parts of an address.
 fn octets_of(alloc: Global, parts: &[&[u8]]) -> Result<Option<Vec<u8>>, AllocError>
-    ensures { IfOk result (λ o. option_map (λ v. v.items) o ≡ all_some (map address_part (map (λ w. w.now) parts.now))) }
+    ensures octets { IfOk result (λ o. option_map (λ v. v.items) o ≡ all_some (map address_part (map (λ w. w.now) parts.now))) }
+    ensures size { IfOk result (λ o. IfSome o (λ v. length v.items ≡ length parts.now)) }
 {
     let mut octets = Vec::new(alloc);
     for part in parts {
@@ -65,7 +66,8 @@ fn parts_of(alloc: Global, word: &[u8]) -> Result<Vec<&[u8]>, AllocError>
 // The four octets of an address.
 #[tactic(auto, unfolding(zone_model::specs::Texts::address))]
 fn address(alloc: Global, word: &[u8]) -> Result<Option<Vec<u8>>, AllocError>
-    ensures { IfOk result (λ o. option_map (λ v. v.items) o ≡ address word.now) }
+    ensures octets { IfOk result (λ o. option_map (λ v. v.items) o ≡ address word.now) }
+    ensures size { IfOk result (λ o. IfSome o (λ v. length v.items ≡ 4)) }
 {
     let parts = parts_of(alloc, word)?;
     if parts.len() != 4 {
@@ -76,7 +78,8 @@ fn address(alloc: Global, word: &[u8]) -> Result<Option<Vec<u8>>, AllocError>
 
 // The octets of times.
 fn times_of(alloc: Global, words: &[&[u8]]) -> Result<Option<Vec<u8>>, AllocError>
-    ensures { IfOk result (λ o. option_map (λ v. v.items) o ≡ times (map (λ w. w.now) words.now)) }
+    ensures octets { IfOk result (λ o. option_map (λ v. v.items) o ≡ times (map (λ w. w.now) words.now)) }
+    ensures size { IfOk result (λ o. IfSome o (λ v. length v.items ≡ 4 * length words.now)) }
 {
     let mut octets = Vec::new(alloc);
     for word in words {
@@ -96,6 +99,7 @@ fn join_soa(
     serial: u32,
     rest: &[u8],
 ) -> Result<Rdata, AllocError>
+    requires { length rest.now ≤ 16 }
     ensures { IfOk result (λ v. v ≡ wire server.now ++ wire mailbox.now ++ to_be_bytes w32 serial ++ rest.now) }
 {
     let mut octets = Vec::new(alloc);
@@ -141,8 +145,10 @@ fn one_word(
         return Ok(None);
     }
     if rtype == 1 {
-        let octets = address(alloc, words[0])?;
-        return Ok(octets.map(Rdata::new));
+        return match address(alloc, words[0])? {
+            Some(octets) => Ok(Some(Rdata::new(octets))),
+            None => Ok(None),
+        };
     }
     if rtype == 2 {
         if let Ok(name) = Name::read(words[0], origin) {

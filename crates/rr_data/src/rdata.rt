@@ -1,5 +1,5 @@
 // The data of a record.
-ghost use Rattle.std.specs.Prelude.{◌≡◌, ℕ, List};
+ghost use Rattle.std.specs.Prelude.{◌≡◌, ◌≤◌, ℕ, List, length};
 
 use std::alloc::AllocError;
 use std::marker::Model;
@@ -11,11 +11,13 @@ pub struct Rdata {
 }
 
 impl Model for Rdata {
-    ghost use Rattle.std.specs.Prelude.{List, ℕ};
+    ghost use Rattle.std.specs.Prelude.{List, ℕ, ◌≤◌, length};
 
     ghost Value = { List ℕ };
 
     ghost view = { λ r. r.octets.items };
+
+    ghost invariant = { λ r. length r.octets.items ≤ 65535 };
 }
 
 impl Clone for Rdata {
@@ -31,13 +33,16 @@ impl Clone for Rdata {
 impl Rdata {
     /// The data that these octets are.
     pub fn new(octets: Vec<u8>) -> Self
+        requires { length octets.items ≤ 65535 }
         ensures { result ≡ octets.items }
     {
         Rdata { octets }
     }
 
+    /// The octets.
     pub fn octets(&self) -> &[u8]
-        ensures { result.now ≡ self.now }
+        ensures value { result.now ≡ self.now }
+        ensures short { length self.now ≤ 65535 }
     {
         &self.octets
     }

@@ -39,11 +39,34 @@ fn push_typed(
     }
 }
 
+// Pushes the data that tokens say for a type.
+#[tactic(auto, unfolding(zone_model::specs::Data::data_of))]
+fn push_data(
+    alloc: Global,
+    origin: &Name,
+    rtype: u16,
+    bytes: &[u8],
+    tokens: &[Token],
+    out: &mut Vec<u8>,
+) -> Result<(), RdataRefusal>
+    requires placed { All (IsPlaced bytes.now) tokens.now }
+    requires empty { out.old.items ≡ [] }
+    ensures { Pushes result [] out.new.items (data_of origin.now rtype (map (token_view bytes.now) tokens.now)) }
+{
+    if !is_generic(bytes, tokens) {
+        return push_typed(alloc, origin, rtype, bytes, tokens, out);
+    }
+    push_generic(alloc, bytes, &tokens[1..], out)?;
+    if !form_fits(rtype, out) {
+        return Err(RdataRefusal::BadRdata { at: 0 });
+    }
+    Ok(())
+}
+
 impl Rdata {
     /// The data that tokens of `bytes` say for a type: in the form of the type (RFC 1035, section 5.1), or for any type
     /// as `\#`, the number of octets and their hexadecimal digits (RFC 3597, section 5). Names that don't end with a
     /// dot are relative to the origin.
-    #[tactic(auto, unfolding(zone_model::specs::Data::data_of))]
     pub fn read(
         alloc: Global,
         rtype: u16,
@@ -54,15 +77,9 @@ impl Rdata {
         requires placed { All (IsPlaced bytes.now) tokens.now }
         ensures { ReadsData result (data_of origin.now rtype (map (token_view bytes.now) tokens.now)) }
     {
+        let _wire = origin.wire();
         let mut octets = Vec::new(alloc);
-        if is_generic(bytes, tokens) {
-            push_generic(alloc, bytes, &tokens[1..], &mut octets)?;
-            if !form_fits(rtype, &octets) {
-                return Err(RdataRefusal::BadRdata { at: 0 });
-            }
-        } else {
-            push_typed(alloc, origin, rtype, bytes, tokens, &mut octets)?;
-        }
+        push_data(alloc, origin, rtype, bytes, tokens, &mut octets)?;
         Ok(Rdata::new(octets))
     }
 }

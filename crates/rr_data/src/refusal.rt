@@ -1,6 +1,7 @@
-// Why tokens are no data.
+// Why tokens are no data, and octets no item.
 ghost use Rattle.std.specs.Prelude.{◌≡◌};
 ghost use Rattle.rr_data.specs.declared.refusal.RdataRefusal.TheVariants.{Memory};
+ghost use Rattle.rr_data.specs.declared.refusal.DecodeRefusal.TheVariants as decode;
 
 use std::alloc::{AllocError, AllocFailed};
 use thiserror::Error;
@@ -33,5 +34,24 @@ impl<T: Drop> From<AllocFailed<T>> for RdataRefusal {
 
     fn from(_: AllocFailed<T>) -> Self {
         RdataRefusal::Memory
+    }
+}
+
+/// Why octets gave no entry.
+#[derive(Clone, Copy, Debug, Error)]
+pub enum DecodeRefusal {
+    /// They are no item.
+    #[error("octets that are no item")]
+    Malformed,
+    /// Want of memory.
+    #[error("out of memory")]
+    Memory,
+}
+
+impl From<AllocError> for DecodeRefusal {
+    ghost from_gives = { λ _ e. e ≡ decode.Memory };
+
+    fn from(_: AllocError) -> Self {
+        DecodeRefusal::Memory
     }
 }

@@ -1,6 +1,7 @@
 // An RRset.
 ghost use Rattle.std.specs.Prelude.{◌≡◌, ◌<◌, ◌≤◌, ◌++◌, ◌∷◌, [], ℕ, List, length, IfOk, OnOk, OnErr, take, drop, slice_get, Some, IsTrue, ◌↔◌};
 ghost use Rattle.zone_model.specs.Records.{Rrset, with_record, without_record, has_record, fresh};
+ghost use Rattle.rr_data.specs.Changes.{TellsChange};
 
 use crate::rdata::Rdata;
 use std::alloc::{AllocError, Global};
@@ -47,41 +48,55 @@ fn has_octets(records: &[Rdata], octets: &[u8]) -> bool
     false
 }
 
-// Adds a record in its place, unless it is there.
-fn add_record(records: &mut Vec<Rdata>, added: Rdata) -> Result<(), AllocError>
+// Adds a record in its place, unless it is there. Answers whether it was added.
+fn add_record(records: &mut Vec<Rdata>, added: Rdata) -> Result<bool, AllocError>
     ensures ok { OnOk result (records.new.items ≡ with_record added records.old.items) }
+    ensures changed { IfOk result (λ changed. TellsChange changed records.old.items records.new.items) }
     ensures err { OnErr result (records.new.items ≡ records.old.items) }
 {
     let mut at = 0;
     while at < records.len() {
         match added.octets().cmp(records[at].octets()) {
             Ordering::Less => break,
-            Ordering::Equal => return Ok(()),
+            Ordering::Equal => return Ok(false),
             Ordering::Greater => at += 1,
         }
     }
     records.insert(at, added)?;
-    Ok(())
+    Ok(true)
 }
 
-// Removes a record, if it is there.
-fn remove_record(records: &mut Vec<Rdata>, octets: &[u8])
-    ensures { records.new.items ≡ without_record octets.now records.old.items }
+// Removes a record, if it is there. Answers whether it was.
+fn remove_record(records: &mut Vec<Rdata>, octets: &[u8]) -> bool
+    ensures value { records.new.items ≡ without_record octets.now records.old.items }
+    ensures changed { TellsChange result records.old.items records.new.items }
 {
     let mut at = 0;
     while at < records.len() {
         match octets.cmp(records[at].octets()) {
-            Ordering::Less => return,
+            Ordering::Less => return false,
             Ordering::Equal => {
                 let _removed = records.remove(at);
-                return;
+                return true;
             }
             Ordering::Greater => at += 1,
         }
     }
+    false
 }
 
 impl RrSet {
+    // An RRset of these records.
+    pub(crate) fn new(rtype: u16, ttl: u32, records: Vec<Rdata>) -> Self
+        ensures { result ≡ record { rtype = rtype; ttl = ttl; records = records.items } }
+    {
+        RrSet {
+            rtype,
+            ttl,
+            records,
+        }
+    }
+
     /// An RRset of one record.
     pub fn of(alloc: Global, rtype: u16, ttl: u32, added: Rdata) -> Result<Self, AllocError>
         ensures { IfOk result (λ s. s ≡ fresh rtype ttl added) }
@@ -142,17 +157,19 @@ impl RrSet {
         &self.records
     }
 
-    // Adds a record, unless it is there.
-    pub(crate) fn add(&mut self, added: Rdata) -> Result<(), AllocError>
+    // Adds a record, unless it is there. Answers whether it was added.
+    pub(crate) fn add(&mut self, added: Rdata) -> Result<bool, AllocError>
         ensures ok { OnOk result (self.new ≡ record self.old { records = with_record added self.old.records }) }
+        ensures changed { IfOk result (λ changed. TellsChange changed self.old self.new) }
         ensures err { OnErr result (self.new ≡ self.old) }
     {
         add_record(&mut self.records, added)
     }
 
-    // Removes a record, if it is there.
-    pub(crate) fn remove(&mut self, octets: &[u8])
-        ensures { self.new ≡ record self.old { records = without_record octets.now self.old.records } }
+    // Removes a record, if it is there. Answers whether it was.
+    pub(crate) fn remove(&mut self, octets: &[u8]) -> bool
+        ensures value { self.new ≡ record self.old { records = without_record octets.now self.old.records } }
+        ensures changed { TellsChange result self.old self.new }
     {
         remove_record(&mut self.records, octets)
     }

@@ -108,6 +108,14 @@ entry_back entry some few h =
 short_entry : (owner : Name) (entry : Entry) → length (item owner entry) ≤ item_limit → length (flat_map rrset_bytes entry) < 2 ^ 16
 short_entry owner entry h = omega (arith, length-append (wire owner ++ to_be_bytes w16 (length entry)) (flat_map rrset_bytes entry))
 
+-- an RRset has fewer records than octets
+pub few_in_set : (s : Rrset) → length s.records ≤ length (rrset_bytes s)
+few_in_set s = omega (arith, each_record s.records)
+
+-- an item has fewer RRsets than octets
+pub few_in_item : (owner : Name) (entry : Entry) → length entry ≤ length (item owner entry)
+few_in_item owner entry = omega (arith, each_set entry, length-append (wire owner ++ to_be_bytes w16 (length entry)) (flat_map rrset_bytes entry))
+
 -- the owner and the entry of an item are read back from it
 pub item_back : (bytes : List ℕ) (owner : Name) (entry : Entry) → IsItem bytes owner entry → item_of bytes ≡ Some (owner, entry)
 unfolding item_of

@@ -15,17 +15,17 @@ other_stays s n = by_records s s.records refl n
     by_records s [] e n = let k : false ≡ true = n e in absurd cc
     by_records s (x ∷ l) e n = let t : eqb (length s.records) 0 ≡ false = rw e (grind arith) in rw t refl
 
-pub returns-then-is_empty : goal.returns-then-is_empty
-returns-then-is_empty c =
+pub returns-then-is_empty-clause-value : goal.returns-then-is_empty-clause-value
+returns-then-is_empty-clause-value c =
     let stands : StandsAt c.args.rtype c.args.sets.now.items c.in-Ok.at = subst (λ (l : List Rrset). StandsAt c.args.rtype l c.in-Ok.at) c.deref.ensures.value c.in-Ok.ensures in
-    let next : c.index.result.now ≡ c.remove.new.self = c.index.ensures ∙ get_or-set_same c.args.sets.now.items c.in-Ok.at c.remove.new.self c.index.result.now stands.within in
-    let none : c.remove.new.self.records ≡ [] = ap (λ (s : Rrset). s.records) (sym next) ∙ c.is_empty.ensures.0 c.if-is_empty.true in
-    let gone : lessened c.args.octets.now (Some c.index_mut-set.result.now) ≡ [] = ap unless_empty (sym c.remove.ensures) ∙ empty_leaves c.remove.new.self none in
-    c.remove-removed.ensures.items ∙ leaves c.args.rtype c.args.sets.now.items c.in-Ok.at c.index_mut-set.result.now c.remove.new.self (lessened c.args.octets.now) c.index_mut-set.ensures.value stands gone
+    let next : c.index.result.now ≡ c.remove-changed.new.self = c.index.ensures ∙ get_or-set_same c.args.sets.now.items c.in-Ok.at c.remove-changed.new.self c.index.result.now stands.within in
+    let none : c.remove-changed.new.self.records ≡ [] = ap (λ (s : Rrset). s.records) (sym next) ∙ c.is_empty.ensures.0 c.if-is_empty.true in
+    let gone : lessened c.args.octets.now (Some c.index_mut-set.result.now) ≡ [] = ap unless_empty (sym c.remove-changed.ensures.value) ∙ empty_leaves c.remove-changed.new.self none in
+    c.remove-removed.ensures.items ∙ leaves c.args.rtype c.args.sets.now.items c.in-Ok.at c.index_mut-set.result.now c.remove-changed.new.self (lessened c.args.octets.now) c.index_mut-set.ensures.value stands gone
 
-pub returns-else-is_empty : goal.returns-else-is_empty
-returns-else-is_empty c =
+pub returns-clause-value : goal.returns-clause-value
+returns-clause-value c =
     let stands : StandsAt c.args.rtype c.args.sets.now.items c.in-Ok.at = subst (λ (l : List Rrset). StandsAt c.args.rtype l c.in-Ok.at) c.deref.ensures.value c.in-Ok.ensures in
-    let next : c.index.result.now ≡ c.remove.new.self = c.index.ensures ∙ get_or-set_same c.args.sets.now.items c.in-Ok.at c.remove.new.self c.index.result.now stands.within in
-    let some : c.remove.new.self.records ≡ [] → false ≡ true = λ e. sym c.if-is_empty.false ∙ c.is_empty.ensures.1 (ap (λ (s : Rrset). s.records) next ∙ e) in
-    replaces c.args.rtype c.args.sets.now.items c.in-Ok.at c.index_mut-set.result.now c.remove.new.self (lessened c.args.octets.now) c.index_mut-set.ensures.value stands (ap unless_empty (sym c.remove.ensures) ∙ other_stays c.remove.new.self some)
+    let next : c.index.result.now ≡ c.remove-changed.new.self = c.index.ensures ∙ get_or-set_same c.args.sets.now.items c.in-Ok.at c.remove-changed.new.self c.index.result.now stands.within in
+    let some : c.remove-changed.new.self.records ≡ [] → false ≡ true = λ e. sym c.if-is_empty.false ∙ c.is_empty.ensures.1 (ap (λ (s : Rrset). s.records) next ∙ e) in
+    replaces c.args.rtype c.args.sets.now.items c.in-Ok.at c.index_mut-set.result.now c.remove-changed.new.self (lessened c.args.octets.now) c.index_mut-set.ensures.value stands (ap unless_empty (sym c.remove-changed.ensures.value) ∙ other_stays c.remove-changed.new.self some)

@@ -1,0 +1,10 @@
+use Rattle.std.proofs.Common.{◌≤◌}
+use Rattle.std.specs.List.{All}
+use Rattle.rr_data.specs.Tokens.{IsPlaced}
+use Rattle.rr_data.proofs.tests.words_of.Given as goal
+
+abbrev pub invariant-loop-at : goal.invariant-loop-at
+invariant-loop-at l = record {
+  placed : All (IsPlaced l.text) l.tokens.items;
+  begun : l.from ≤ l.at;
+}

@@ -1,0 +1,87 @@
+// The octets of items.
+ghost use Rattle.std.specs.Prelude.{◌≡◌, ℕ, ◌+◌, ◌≤◌, ◌++◌, List, length, take};
+ghost use Rattle.std.specs.List.{flat_map};
+ghost use Rattle.std.specs.Int.{w16, w32, to_be_bytes};
+ghost use Rattle.zone_model.specs.Records.{record_bytes, rrset_bytes};
+
+use crate::rdata::Rdata;
+use crate::rrset::RrSet;
+use byteorder::{BigEndian, ByteOrder};
+
+// Writes octets at a place, and answers the place behind them.
+pub fn put(out: &mut [u8; 4096], at: usize, octets: &[u8]) -> usize
+    requires { at + length octets.now ≤ 4096 }
+    ensures end { result ≡ at + length octets.now }
+    ensures puts { take (at + length octets.now) out.new ≡ take at out.old ++ octets.now }
+{
+    let end = at + octets.len();
+    out[at..end].copy_from_slice(octets);
+    end
+}
+
+pub fn put_short(out: &mut [u8; 4096], at: usize, number: u16) -> usize
+    requires { at + 2 ≤ 4096 }
+    ensures end { result ≡ at + 2 }
+    ensures puts { take (at + 2) out.new ≡ take at out.old ++ to_be_bytes w16 number }
+{
+    let mut octets = [0; 2];
+    BigEndian::write_u16(&mut octets, number);
+    put(out, at, &octets)
+}
+
+fn put_number(out: &mut [u8; 4096], at: usize, number: u32) -> usize
+    requires { at + 4 ≤ 4096 }
+    ensures end { result ≡ at + 4 }
+    ensures puts { take (at + 4) out.new ≡ take at out.old ++ to_be_bytes w32 number }
+{
+    let mut octets = [0; 4];
+    BigEndian::write_u32(&mut octets, number);
+    put(out, at, &octets)
+}
+
+// A record: its length, and its octets.
+fn put_record(out: &mut [u8; 4096], at: usize, octets: &[u8]) -> usize
+    requires { at + length (record_bytes octets.now) ≤ 4096 }
+    ensures end { result ≡ at + length (record_bytes octets.now) }
+    ensures puts { take (at + length (record_bytes octets.now)) out.new ≡ take at out.old ++ record_bytes octets.now }
+{
+    let behind_len = put_short(out, at, octets.len() as u16);
+    put(out, behind_len, octets)
+}
+
+fn put_records(out: &mut [u8; 4096], at: usize, records: &[Rdata]) -> usize
+    requires { at + length (flat_map record_bytes records.now) ≤ 4096 }
+    ensures end { result ≡ at + length (flat_map record_bytes records.now) }
+    ensures puts { take (at + length (flat_map record_bytes records.now)) out.new ≡ take at out.old ++ flat_map record_bytes records.now }
+{
+    let mut end = at;
+    for kept in records {
+        end = put_record(out, end, kept.octets());
+    }
+    end
+}
+
+// An RRset: its type, time to live, count and records.
+fn put_set(out: &mut [u8; 4096], at: usize, set: &RrSet) -> usize
+    requires { at + length (rrset_bytes set.now) ≤ 4096 }
+    ensures end { result ≡ at + length (rrset_bytes set.now) }
+    ensures puts { take (at + length (rrset_bytes set.now)) out.new ≡ take at out.old ++ rrset_bytes set.now }
+{
+    let records = set.records();
+    let behind_type = put_short(out, at, set.rtype());
+    let behind_ttl = put_number(out, behind_type, set.ttl());
+    let behind_count = put_short(out, behind_ttl, records.len() as u16);
+    put_records(out, behind_count, records)
+}
+
+pub fn put_sets(out: &mut [u8; 4096], at: usize, sets: &[RrSet]) -> usize
+    requires { at + length (flat_map rrset_bytes sets.now) ≤ 4096 }
+    ensures end { result ≡ at + length (flat_map rrset_bytes sets.now) }
+    ensures puts { take (at + length (flat_map rrset_bytes sets.now)) out.new ≡ take at out.old ++ flat_map rrset_bytes sets.now }
+{
+    let mut end = at;
+    for set in sets {
+        end = put_set(out, end, set);
+    }
+    end
+}

@@ -1,0 +1,33 @@
+//! Laws of records, each as the contract of a function that does nothing.
+ghost use Rattle.std.specs.Prelude.{◌≡◌, ℕ, ◌<◌, ◌≤◌, ◌^◌, List, Some, decimal};
+ghost use Rattle.std.specs.List.{flat_map};
+ghost use Rattle.zone_model.specs.Names.{Name, IsName};
+ghost use Rattle.zone_model.specs.Records.{Entry, IsItem};
+ghost use Rattle.zone_model.specs.Texts.{number};
+ghost use Rattle.zone_model.specs.DataWords.{unescaped, paired, time_of};
+ghost use Rattle.zone_model.specs.DataText.{string_text, hex_text};
+
+/// Octets are the item of one owner and one entry at most. So an entry is what is read from the item that it makes.
+pub fn items_are_told_apart()
+    ensures { (bytes : List ℕ) (a b : Name) (e f : Entry) → IsItem bytes a e → IsItem bytes b f → (a ≡ b) × (e ≡ f) }
+{}
+
+/// What is read from a printed string is that string.
+pub fn printed_strings_read_back(octets: &[u8])
+    ensures { unescaped (string_text octets.now) ≡ Some octets.now }
+{
+    let _ = octets;
+}
+
+/// What is read from the printed digits of octets are these octets.
+pub fn printed_digits_read_back(octets: &[u8])
+    ensures { paired (flat_map hex_text octets.now) ≡ octets.now }
+{
+    let _ = octets;
+}
+
+/// What is read from a printed number is that number, as long as it is none over the most; for a time to live too.
+pub fn printed_numbers_read_back()
+    ensures numbers { (most n : ℕ) → n < 2 ^ 64 → n ≤ most → number most (decimal n) ≡ Some n }
+    ensures times { (n : ℕ) → n ≤ 2147483647 → time_of (decimal n) ≡ Some n }
+{}

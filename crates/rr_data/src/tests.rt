@@ -1,0 +1,185 @@
+ghost use Rattle.std.specs.Prelude.{◌≡◌, false, IfOk};
+ghost use Rattle.std.specs.List.{All};
+ghost use Rattle.rr_data.specs.Tokens.{IsPlaced};
+
+use crate::*;
+use dns_name::Name;
+use std::alloc::{AllocError, Global};
+use std::test::Fail;
+
+// The words between the spaces of a short text.
+fn words_of(alloc: Global, text: &[u8]) -> Result<Vec<Token>, AllocError>
+    ensures { IfOk result (λ tokens. All (IsPlaced text.now) tokens.items) }
+{
+    let mut tokens = Vec::new(alloc);
+    if text.len() > 100 {
+        return Ok(tokens);
+    }
+    let mut from = 0;
+    for (at, octet) in text.iter().enumerate() {
+        if *octet == b' ' {
+            tokens.push(word(from, at as u32))?;
+            from = at as u32 + 1;
+        }
+    }
+    tokens.push(word(from, text.len() as u32))?;
+    Ok(tokens)
+}
+
+fn word(from: u32, upto: u32) -> Token
+    ensures { result ≡ record { from = from; upto = upto; quoted = false; line = 1 } }
+{
+    Token {
+        from,
+        upto,
+        quoted: false,
+        line: 1,
+    }
+}
+
+// What a type's data is printed as, or why it is refused.
+fn printed(
+    alloc: Global,
+    rtype: u16,
+    text: &[u8],
+    origin: &Name,
+) -> Result<Result<Vec<u8>, RdataRefusal>, AllocError> {
+    let tokens = words_of(alloc, text)?;
+    let mut out = Vec::new(alloc);
+    match Rdata::read(alloc, rtype, text, &tokens, origin) {
+        Ok(rdata) => {
+            rdata.push_text(rtype, &mut out)?;
+            Ok(Ok(out))
+        }
+        Err(refusal) => Ok(Err(refusal)),
+    }
+}
+
+// Both sides of each limit.
+#[test]
+fn data_is_read_and_printed(rt: HostRuntime) -> Result<(), Fail> {
+    let origin = Name::read(b"example.", &Name::root()).ok().ok_or("origin")?;
+    let rows: [(u16, &[u8], &[u8]); 16] = [
+        (1, b"001.2.3.255", b"1.2.3.255"),
+        (2, b"NS", b"ns.example."),
+        (
+            6,
+            b"ns h 4294967295 1h30m 2147483647 0 1",
+            b"ns.example. h.example. 4294967295 5400 2147483647 0 1",
+        ),
+        (15, b"65535 mx", b"65535 mx.example."),
+        (16, b"a b\\\"\\200", b"\"a\" \"b\\\"\\200\""),
+        (28, b"2001:DB8::1", b"2001:db8:0:0:0:0:0:1"),
+        (28, b"::192.0.2.1", b"0:0:0:0:0:0:c000:201"),
+        (28, b"1:2:3:4:5:6:7::", b"1:2:3:4:5:6:7:0"),
+        (33, b"0 1 65535 a.", b"0 1 65535 a."),
+        (1, b"\\# 4 c0000201", b"192.0.2.1"),
+        (2, b"\\# 3 016100", b"a."),
+        (16, b"\\# 2 0141", b"\"A\""),
+        (
+            6,
+            b"\\# 22 0000 00000001 00000002 00000003 00000004 7fffffff",
+            b". . 1 2 3 4 2147483647",
+        ),
+        (65280, b"\\# 0", b"\\# 0"),
+        (65280, b"\\# 2 0A 0F", b"\\# 2 0a0f"),
+        (65280, b"\\# 2 0 A0f", b"\\# 2 0a0f"),
+    ];
+    for (rtype, text, want) in rows {
+        let out = printed(rt.alloc(), rtype, text, &origin)?
+            .ok()
+            .ok_or("refused")?;
+        assert_eq!(rt; out.as_slice(), want);
+    }
+    Ok(())
+}
+
+#[test]
+fn data_is_refused_at_its_first_bad_token(rt: HostRuntime) -> Result<(), Fail> {
+    let origin = Name::read(b"example.", &Name::root()).ok().ok_or("origin")?;
+    let rows: [(u16, &[u8], usize); 16] = [
+        (1, b"192.0.2.256", 0),
+        (1, b"192.0.2", 0),
+        (1, b"192.0.2.1 x", 1),
+        (2, b"a..b", 0),
+        (6, b"ns h 4294967296 1 1 1 1", 2),
+        (6, b"ns h 1 2147483648 1 1 1", 3),
+        (6, b"ns h 1 1 1 1", 6),
+        (15, b"65536 mx", 0),
+        (16, b"a \\256", 1),
+        (28, b"1:2:3:4::5:6:7:8", 0),
+        (28, b"::12345", 0),
+        (1, b"\\# 3 c00002", 0),
+        (1, b"\\# 65536 00", 1),
+        (1, b"\\# 4 c00002010", 2),
+        (1, b"\\# 4 c00002", 3),
+        (65280, b"x", 0),
+    ];
+    for (rtype, text, want) in rows {
+        match printed(rt.alloc(), rtype, text, &origin)?.err() {
+            Some(RdataRefusal::BadRdata { at }) => assert_eq!(rt; at, want),
+            _ => return Err("not refused".into()),
+        }
+    }
+    Ok(())
+}
+
+#[test]
+fn types_are_read_and_printed(rt: HostRuntime) -> Result<(), Fail> {
+    let rows: [(&[u8], Option<u16>); 9] = [
+        (b"aaaa", Some(28)),
+        (b"type1", Some(1)),
+        (b"TYPE0", None),
+        (b"TYPE41", None),
+        (b"TYPE127", Some(127)),
+        (b"TYPE128", None),
+        (b"TYPE255", None),
+        (b"TYPE256", Some(256)),
+        (b"HINFO", None),
+    ];
+    for (text, want) in rows {
+        assert_eq!(rt; read_type(text), want);
+    }
+    let mut out = Vec::new(rt.alloc());
+    push_type(28, &mut out)?;
+    push_type(256, &mut out)?;
+    assert_eq!(rt; out.as_slice(), b"AAAATYPE256".as_slice());
+    Ok(())
+}
+
+#[test]
+fn an_item_is_written_and_read(rt: HostRuntime) -> Result<(), Fail> {
+    let owner = Name::read(b"ns.example.", &Name::root())
+        .ok()
+        .ok_or("owner")?;
+    let want = b"\x02ns\x07example\0\0\x01\0\x01\0\0\x01\x2c\0\x01\0\x04\xc0\0\x02\x01";
+    let mut entry = Entry::decode(rt.alloc(), want).ok().ok_or("malformed")?;
+    let set = entry.find_set(1).ok_or("no RRset")?;
+    assert_eq!(rt; set.ttl(), 300);
+    let text = b"192.0.2.1";
+    let read = Rdata::read(
+        rt.alloc(),
+        1,
+        text,
+        &[Token {
+            from: 0,
+            upto: 9,
+            quoted: false,
+            line: 1,
+        }],
+        &owner,
+    );
+    let rdata = read.ok().ok_or("refused")?;
+    assert_eq!(rt; entry.add(rt.alloc(), 1, 60, rdata)?, false);
+    let mut room = [0; 4096];
+    if entry.is_empty() {
+        return Err("empty".into());
+    }
+    let len = entry.encode(&owner, &mut room).ok_or("too long")?;
+    assert_eq!(rt; len, 28);
+    assert_eq!(rt; &room[..28], want.as_slice());
+    assert_eq!(rt; Entry::decode(rt.alloc(), &want[..27]).is_err(), true);
+    assert_eq!(rt; entry.del_one(1, b"\xc0\0\x02\x01"), true);
+    assert_eq!(rt; entry.del_set(1), false);
+    Ok(())
+}
