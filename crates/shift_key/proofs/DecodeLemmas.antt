@@ -60,10 +60,10 @@ back_near first second octet n o =
 
 -- ---- the octet in front
 
-one_position : (c : ℕ) → second_position c ≡ 0 → octet_positions c ≡ first_position c ∷ []
+pub one_position : (c : ℕ) → second_position c ≡ 0 → octet_positions c ≡ first_position c ∷ []
 one_position c z = let e : eqb (second_position c) 0 ≡ true = grind arith in rw e refl
 
-two_positions : (c : ℕ) → (second_position c ≡ 0 → ⊥) → octet_positions c ≡ first_position c ∷ second_position c ∷ []
+pub two_positions : (c : ℕ) → (second_position c ≡ 0 → ⊥) → octet_positions c ≡ first_position c ∷ second_position c ∷ []
 two_positions c n = let e : eqb (second_position c) 0 ≡ false = grind arith in rw e refl
 
 pub first_is : (positions : List ℕ) (octet : ℕ) → StartsWithOctet positions octet → get_or positions 0 0 ≡ first_position octet
@@ -196,7 +196,7 @@ nonzero_octet c k small h e =
     ]
 
 -- no position of an octet is 0
-nonzero_inside : (label rest : List ℕ) (k : ℕ) → AllByRecursion (λ c. c < 256) label → k < length (flat_map octet_positions label) → get_or (flat_map octet_positions label ++ rest) k 0 ≡ 0 → ⊥
+pub nonzero_inside : (label rest : List ℕ) (k : ℕ) → AllByRecursion (λ c. c < 256) label → k < length (flat_map octet_positions label) → get_or (flat_map octet_positions label ++ rest) k 0 ≡ 0 → ⊥
 nonzero_inside [] rest k small h e = absurd (omega arith)
 nonzero_inside (c ∷ cs) rest k small h e =
     let whole : (octet_positions c ++ flat_map octet_positions cs) ++ rest ≡ octet_positions c ++ (flat_map octet_positions cs ++ rest) = append_assoc (octet_positions c) (flat_map octet_positions cs) rest in
@@ -209,7 +209,7 @@ nonzero_inside (c ∷ cs) rest k small h e =
     ]
 
 -- a label's positions end at its 0
-label_parts : (positions : List ℕ) (label : Label) (s : StartsWithLabel positions label) → positions ≡ flat_map octet_positions label ++ 0 ∷ s.rest
+pub label_parts : (positions : List ℕ) (label : Label) (s : StartsWithLabel positions label) → positions ≡ flat_map octet_positions label ++ 0 ∷ s.rest
 label_parts positions label s = s.front ∙ append_assoc (flat_map octet_positions label) (0 ∷ []) s.rest
 
 zero_there : (positions : List ℕ) (label : Label) → StartsWithLabel positions label → get_or positions (length (flat_map octet_positions label)) 0 ≡ 0

@@ -1,6 +1,7 @@
 -- A name in front of bytes, against the key in front of positions.
-use Rattle.std.proofs.Common.{◌≡◌, ℕ, suc, ◌+◌, ◌<◌, ◌≤◌, List, [], ◌∷◌, ◌++◌, length, take, drop, get_or, sym, ap, ◌∙◌, subst, arith, append_assoc, append-nil, take-append-drop, length-take, length-append}
+use Rattle.std.proofs.Common.{◌≡◌, ℕ, suc, ◌+◌, ◌-◌, ◌<◌, ◌≤◌, List, [], ◌∷◌, ◌++◌, length, take, drop, get_or, sym, ap, ◌∙◌, subst, arith, append_assoc, append-nil, take-append-drop, length-take, length-append}
 use Rattle.std.proofs.lemmas.List.{take_at, drop_at, append_cancel_left, nil_from_length}
+use Rattle.std.proofs.Math.Seq.{take-append-add}
 use Rattle.std.specs.List.{AllByRecursion}
 use Rattle.zone_model.specs.Names.{Label, Name, wire, IsName, IsLabel, IsFolded, BeginsWith}
 use Rattle.zone_model.specs.Keys.{label_positions, key_of, IsKey, Leads}
@@ -108,3 +109,34 @@ leads_whole key positions item rest same m l =
 
 pub leads_never : (key positions item : List ℕ) → positions ≡ key → ((name : Name) (behind : List ℕ) → AllByRecursion IsLabel name → BeginsWith item name → positions ≡ key_of name ++ behind → ⊥) → Leads key item → ⊥
 leads_never key positions item same none l = none l.name [] l.is_name.each l.front (same ∙ l.key ∙ sym (append-nil (key_of l.name)))
+
+-- ---- what an item says of keys
+
+-- one key at most leads an item
+pub leads_once : (a b item : List ℕ) → Leads a item → Leads b item → a ≡ b
+leads_once a b item x y = x.key ∙ ap key_of (begins_once item x.name y.name x.is_name.each y.is_name.each x.front y.front) ∙ sym y.key
+
+-- its first 256 octets tell
+pub leads_front : (key item : List ℕ) → Leads key item → Leads key (take 256 item)
+leads_front key item l =
+    let n : length (wire l.name) + (256 - length (wire l.name)) ≡ 256 = omega (arith, l.is_name.short) in
+    record {
+      short = omega (arith, length-take 256 item);
+      name = l.name;
+      is_name = l.is_name;
+      key = l.key;
+      front = (
+        take (256 - length (wire l.name)) l.front.0,
+        ap (take 256) l.front.1 ∙ ap (λ (k : ℕ). take k (wire l.name ++ l.front.0)) (sym n) ∙ take-append-add (wire l.name) l.front.0 (256 - length (wire l.name)),
+      );
+    }
+
+pub front_leads : (key item : List ℕ) → length item ≤ 4096 → Leads key (take 256 item) → Leads key item
+front_leads key item short l =
+    record {
+      short = short;
+      name = l.name;
+      is_name = l.is_name;
+      key = l.key;
+      front = (l.front.0 ++ drop 256 item, sym (take-append-drop 256 item) ∙ ap (λ (k : List ℕ). k ++ drop 256 item) l.front.1 ∙ append_assoc (wire l.name) l.front.0 (drop 256 item));
+    }

@@ -4,3 +4,4 @@ pub mod MatchLemmas
 pub mod LeadLemmas
 pub mod DecodeLemmas
 pub mod NameLemmas
+pub mod ShapeLemmas

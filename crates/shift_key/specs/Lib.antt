@@ -3,3 +3,4 @@ pub mod Inside
 pub mod Room
 pub mod Matching
 pub mod Decoding
+pub mod Shape

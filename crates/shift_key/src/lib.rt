@@ -4,7 +4,7 @@
 
 ghost use Rattle.std.specs.Prelude.{◌≡◌, ◌↔◌, List, ℕ, length, slice_index, IsNone, IfSome, IsTrue};
 ghost use Rattle.zone_model.specs.Names.{Name as Labels, IsName};
-ghost use Rattle.zone_model.specs.Keys.{key_of, IsFirstDifference, Leads};
+ghost use Rattle.zone_model.specs.Keys.{key_of, IsKey, IsFirstDifference, Leads};
 
 mod compare;
 mod decode;
@@ -68,7 +68,8 @@ impl Key {
 
     /// How many positions it has.
     pub fn len(&self) -> u16
-        ensures { result ≡ length self.now }
+        ensures length { result ≡ length self.now }
+        ensures key { IsKey self.now }
     {
         self.positions.as_slice().len() as u16
     }

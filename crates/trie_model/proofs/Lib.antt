@@ -11,3 +11,4 @@ pub mod CountLaws
 pub mod ReachLaws
 pub mod FewLaws
 pub mod ShapeLaws
+pub mod NameLaws

@@ -6,6 +6,7 @@
 #![tactic(auto)]
 
 mod find;
+mod name_key;
 mod size;
 
 pub use find::get;

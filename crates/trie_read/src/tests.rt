@@ -6,7 +6,9 @@ ghost use Rattle.trie_read.specs.Example.{two_names};
 
 use super::{SearchKey, count, get, nodes};
 use chunk_cells::{CellRead, CellWrite, PlainCells, write_item};
+use dns_name::Name;
 use packed_node::{Branch, Leaf, Node, bitmap};
+use shift_key::Key;
 use std::test::Fail;
 
 /// The key of a name of one letter, by the letter's position.
@@ -71,5 +73,18 @@ fn two_names_are_found_and_counted(rt: HostRuntime) -> Result<(), Fail> {
     assert_eq!(rt; get(&mut cells, root, &Letter { position: 19 }), None);
     assert_eq!(rt; count(&mut cells, root), 2);
     assert_eq!(rt; nodes(&mut cells, root), 3);
+    Ok(())
+}
+
+fn read_of<K: SearchKey>(key: &K, front: &[u8]) -> (u16, u8, bool) {
+    (key.len(), key.at(0), key.leads(front))
+}
+
+#[test]
+fn the_key_of_a_name_serves(rt: HostRuntime) -> Result<(), Fail> {
+    let name = Name::from_wire(b"\x01a\0").ok_or("no name")?;
+    let key = Key::of(&name);
+    assert_eq!(rt; read_of(&key, b"\x01a\0 and more"), (2, 17, true));
+    assert_eq!(rt; read_of(&key, b"\x01b\0"), (2, 17, false));
     Ok(())
 }
