@@ -14,7 +14,7 @@ use Rattle.zone_model.specs.Names.{Name, wire}
 use Rattle.zone_model.specs.NameText.{name_of, completed, fitting}
 use Rattle.zone_model.specs.Texts.{named, number, at_most, address, address_part, all_some, digits_from}
 use Rattle.zone_model.specs.Tokens.{Token}
-use Rattle.zone_model.specs.Zones.{◌>>=◌}
+use Rattle.zone_model.specs.Refusals.{◌>>=◌}
 use Rattle.zone_model.specs.DataWords.{unescaped, paired, time_of}
 use Rattle.zone_model.specs.DataForms.{Field, NameField, ShortField, NumberField, TimeField, AddressField, Address6Field, fields_of, form_fits}
 use Rattle.zone_model.specs.Addresses.{address6, by_double, filled, whole_address, groups_of, last_groups_of, parts_of, double_at}
