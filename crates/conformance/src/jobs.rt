@@ -68,3 +68,14 @@ fn deletes_and_what_a_refusal_takes_back(rt: HostRuntime) -> Result<(), Fail> {
         "1.1 v1 COMMITTED\n1.2 v1 NODATA\n1.3 v1 REFUSED soa\n1.4 v1 ANSWER 2\na.b.example. 5 IN A 1.2.3.3\na.b.example. 5 IN A 1.2.3.4\n1.5 v2 COMMITTED\n1.6 v2 ANSWER 1\na.b.example. 5 IN A 1.2.3.3\n1.7 v2 NXDOMAIN\n1.8 v2 OUTSIDE\nend v2 names 3\n",
     )
 }
+
+#[test]
+fn an_alias_stands_alone(rt: HostRuntime) -> Result<(), Fail> {
+    expect(
+        &rt,
+        rt.alloc(),
+        "worker\nwrite\nadd w 5 CNAME ns\nadd w 5 A 1.2.3.4\ncommit\nwrite\nadd w 1h TXT \"a b\" \\;;\ncommit\nget w TXT\n",
+        Status::SomeRefused,
+        "1.1 v0 REFUSED cname\n1.2 v1 COMMITTED\n1.3 v1 ANSWER 1\nw.example. 3600 IN TXT \"a b\" \";\"\nend v1 names 3\n",
+    )
+}

@@ -30,11 +30,19 @@ fn zones_that_are_refused(rt: HostRuntime) -> Result<(), Fail> {
         ("$TTL 5\n", "zone refused line 2 SoaRule\n"),
         (
             "$TTL 5\na A 192.0.2.256\n",
-            "zone refused line 2 BadToken\n",
+            "zone refused line 2 BadRdata\n",
         ),
         (
             "$TTL 5\n@ SOA a b 1 2 3 4 5\nx. A 1.2.3.4\n",
-            "zone refused line 3 BadToken\n",
+            "zone refused line 3 OutsideZone\n",
+        ),
+        (
+            "@ 5 SOA a b 1 2 3 4 (\n5",
+            "zone refused line 1 OpenParen\n",
+        ),
+        (
+            "@ 5 SOA a b (1 2 3\n 4 5)\nc CNAME a\nc A 1.2.3.4\n",
+            "zone refused line 4 CnameAndOther\n",
         ),
     ];
     for (zone, line) in refused {
@@ -58,6 +66,16 @@ fn scripts_that_are_refused(rt: HostRuntime) -> Result<(), Fail> {
             "script refused line 7 OpenBlock\n",
         ),
         ("worker\nworker\n", "script refused line 7 TooMany\n"),
+        ("worker\nget a..b A\n", "script refused line 7 BadName\n"),
+        ("worker\nget a NOTYPE\n", "script refused line 7 BadType\n"),
+        (
+            "worker\nwrite\nadd a 5 A 1.2.3\n",
+            "script refused line 8 BadRdata\n",
+        ),
+        (
+            "worker\nwrite\nadd a 5x A 1.2.3.4\n",
+            "script refused line 8 BadNumber\n",
+        ),
     ];
     for (script, line) in refused {
         expect(&rt, rt.alloc(), script, Status::ScriptRefused, line)?;
