@@ -6,7 +6,7 @@ use Rattle.std.proofs.lemmas.List.{get_or_past, get_or_append_left, get_or-appen
 use Rattle.std.proofs.Math.Seq.{take-append-add}
 use Rattle.std.specs.List.{AllByRecursion, flat_map}
 use Rattle.zone_model.specs.Names.{Label, Name, IsLabel, wire}
-use Rattle.zone_model.specs.DataText.{split_name}
+use Rattle.zone_model.specs.Splits.{split_name}
 use Rattle.zone_model.specs.Keys.{first_position, second_position, octet_positions, key_of, Leads}
 use Rattle.zone_model.specs.Keys.{IsKey as IsNameKey}
 use Rattle.zone_model.proofs.OctetKeys.{bounds}
