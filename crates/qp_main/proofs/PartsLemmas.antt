@@ -73,7 +73,7 @@ same_front a b c e =
 pub next_lines : (bytes line : List ℕ) (at next : ℕ) → Begins bytes at → Begins bytes next → lines (drop at bytes) ≡ line ∷ lines (drop next bytes) → lines (take next bytes) ≡ lines (take at bytes) ++ line ∷ []
 next_lines bytes line at next b c e =
     same_front (lines (take next bytes)) (lines (take at bytes) ++ line ∷ []) (lines (drop next bytes))
-        (cut_lines bytes next c ∙ sym (cut_lines bytes at b) ∙ ap (λ (l : List (List ℕ)). lines (take at bytes) ++ l) e ∙ sym (append_assoc (lines (take at bytes)) (line ∷ []) (lines (drop next bytes))))
+    (cut_lines bytes next c ∙ sym (cut_lines bytes at b) ∙ ap (λ (l : List (List ℕ)). lines (take at bytes) ++ l) e ∙ sym (append_assoc (lines (take at bytes)) (line ∷ []) (lines (drop next bytes))))
 
 -- ---- the first line that cuts
 

@@ -5,18 +5,15 @@ mod answers;
 mod commands;
 mod gate;
 mod invocation;
-
 mod operations;
 mod parts;
 mod phrases;
-
 mod program;
 mod report;
 mod script;
 mod status;
 mod versions;
 mod worker;
-
 
 pub use gate::Gate;
 pub use program::run;

@@ -22,6 +22,7 @@ use zone_model::ScriptKind;
 
 /// The most commands of a worker, and operations of a block.
 const COMMAND_LIMIT: usize = 10000;
+
 const OPERATION_LIMIT: usize = 10000;
 
 /// A block that is open, with the line of its first word.
@@ -283,11 +284,7 @@ fn add_query(
 }
 
 // An operation joins a block that has room for it.
-fn join(
-    script: &mut Script,
-    mut block: OpenBlock,
-    operation: Operation,
-) -> Result<(), ScriptStop>
+fn join(script: &mut Script, mut block: OpenBlock, operation: Operation) -> Result<(), ScriptStop>
     requires { script.old.block ≡ None }
     ensures { ScriptReads result (script_view script.new) (jobs.with_operation block.start (map operation_view block.operations.items) (script_view script.old) (operation_view operation)) }
 {

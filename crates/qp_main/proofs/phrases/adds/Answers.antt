@@ -15,8 +15,9 @@ returns-clause-placed c =
     let behind = c.in-Some.behind_ttl.now in
     let rtype = c.in-Some-split_first.rtype.now in
     let rdata = c.in-Some-split_first.rdata.now in
-    let behind_placed : All (IsPlaced bytes) behind = rest_placed bytes c.args.rest.now ttl behind c.in-Some.ensures.cases.0 c.requires.rest in
-    (c.requires.owner,
+    let behind_placed : All (IsPlaced bytes) behind = rest_placed bytes c.args.rest.now ttl behind c.in-Some.ensures.cases.0 c.requires.rest in (
+      c.requires.owner,
       first_placed bytes c.args.rest.now ttl behind c.in-Some.ensures.cases.0 c.requires.rest,
       first_placed bytes behind rtype rdata c.in-Some-split_first.ensures.cases.0 behind_placed,
-      rest_placed bytes behind rtype rdata c.in-Some-split_first.ensures.cases.0 behind_placed)
+      rest_placed bytes behind rtype rdata c.in-Some-split_first.ensures.cases.0 behind_placed,
+    )
