@@ -53,14 +53,8 @@ fn read_record(
     requires placed { All (IsPlaced bytes.now) words.now }
     ensures { Gives result (reader_view reader.new) (record_says top.now last owner.now (map (token_view bytes.now) words.now) (reader_view reader.old)) }
 {
-    let front = match front_of(bytes, last, words) {
-        Ok(front) => front,
-        Err(refusal) => return Err(refusal),
-    };
-    let rdata = match read_data(alloc, last, front, bytes, words, &reader.origin) {
-        Ok(rdata) => rdata,
-        Err(refusal) => return Err(refusal),
-    };
+    let front = front_of(bytes, last, words)?;
+    let rdata = read_data(alloc, last, front, bytes, words, &reader.origin)?;
     let Some(time) = time_for(front.time, front.rtype, rdata.octets(), reader) else {
         return Err(refuse(last, ZoneKind::NoTtl));
     };

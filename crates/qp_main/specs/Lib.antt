@@ -5,6 +5,7 @@ pub mod Parts
 pub mod Scripts
 pub mod Statuses
 pub mod Invocations
+pub mod Fits
 pub mod Due
 pub mod Runs
 pub mod InvocationViews

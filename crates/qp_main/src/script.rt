@@ -312,19 +312,18 @@ fn inside(
         Phrase::AsksFor(_, _) | Phrase::Opens => {
             Err(ScriptStop::Refused(line, ScriptKind::BadCommand))
         }
+        Phrase::Adds(_, _, _, _) | Phrase::Deletes(_, _)
+            if block.operations.len() >= OPERATION_LIMIT =>
+        {
+            Err(ScriptStop::Refused(line, ScriptKind::TooMany))
+        }
         Phrase::Adds(owner, ttl, rtype, tokens) => {
-            if block.operations.len() >= OPERATION_LIMIT {
-                return Err(ScriptStop::Refused(line, ScriptKind::TooMany));
-            }
             match addition_of(alloc, bytes, origin, line, owner, ttl, rtype, tokens) {
                 Ok(operation) => join(script, block, operation),
                 Err(stop) => Err(stop),
             }
         }
         Phrase::Deletes(owner, rest) => {
-            if block.operations.len() >= OPERATION_LIMIT {
-                return Err(ScriptStop::Refused(line, ScriptKind::TooMany));
-            }
             match deletion_of(alloc, bytes, origin, line, owner, rest) {
                 Ok(operation) => join(script, block, operation),
                 Err(stop) => Err(stop),

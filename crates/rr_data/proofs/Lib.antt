@@ -6,6 +6,7 @@ pub mod EscapeLemmas
 pub mod FieldLemmas
 pub mod FormLemmas
 pub mod NumberLemmas
+pub mod OneEscapeLemmas
 pub mod PlaceLemmas
 pub mod PrintedLemmas
 pub mod StartsLemmas

@@ -1,15 +1,22 @@
 //! Laws of records, each as the contract of a function that does nothing.
-ghost use Rattle.std.specs.Prelude.{◌≡◌, ℕ, ◌<◌, ◌≤◌, ◌^◌, List, Some, decimal};
+ghost use Rattle.std.specs.Prelude.{◌≡◌, ℕ, ◌<◌, ◌≤◌, ◌^◌, ◌∷◌, List, Some, drop, decimal, option_and_then};
 ghost use Rattle.std.specs.List.{flat_map};
+ghost use Rattle.std.specs.Option.{option_map};
 ghost use Rattle.zone_model.specs.Names.{Name, IsName};
 ghost use Rattle.zone_model.specs.Records.{Entry, IsItem};
 ghost use Rattle.zone_model.specs.Texts.{number};
-ghost use Rattle.zone_model.specs.DataWords.{unescaped, paired, time_of};
+ghost use Rattle.zone_model.specs.Escapes.{escaped_octet, escape_len};
+ghost use Rattle.zone_model.specs.DataWords.{octets_from, unescaped, Slash, paired, time_of};
 ghost use Rattle.zone_model.specs.DataText.{string_text, hex_text};
 
 /// Octets are the item of one owner and one entry at most. So an entry is what is read from the item that it makes.
 pub fn items_are_told_apart()
     ensures { (bytes : List ℕ) (a b : Name) (e f : Entry) → IsItem bytes a e → IsItem bytes b f → (a ≡ b) × (e ≡ f) }
+{}
+
+/// What stands behind a backslash is the same octet in a string as in a name.
+pub fn escapes_are_alike()
+    ensures { (text : List ℕ) → octets_from Slash text ≡ option_and_then (λ o. option_map (λ cs. o ∷ cs) (unescaped (drop (escape_len text) text))) (escaped_octet text) }
 {}
 
 /// What is read from a printed string is that string.

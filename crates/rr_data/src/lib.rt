@@ -13,7 +13,6 @@ mod forms;
 mod generic;
 pub mod laws;
 mod places;
-mod plain;
 mod rdata;
 mod reading;
 mod refusal;
@@ -27,7 +26,6 @@ mod words;
 
 pub use data_text::push_type;
 pub use entry::Entry;
-pub use plain::read_plain_type;
 pub use rdata::Rdata;
 pub use refusal::{DecodeRefusal, RdataRefusal};
 pub use rrset::RrSet;

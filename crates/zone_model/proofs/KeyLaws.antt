@@ -1,17 +1,17 @@
 -- Keys compare as their names do, and tell names apart.
-use Rattle.std.proofs.Common.{◌≡◌, ℕ, zero, suc, ◌+◌, ◌-◌, ◌*◌, ◌<◌, ◌≤◌, Bool, true, false, List, [], ◌∷◌, ◌++◌, length, reverse, sym, ap, ◌∙◌, subst, refl, arith, eqb, append_assoc, append-nil, length-append, inl, inr}
-use Rattle.std.proofs.lemmas.Bool.{cases_lt, cases_eq}
+use Rattle.std.proofs.Common.{◌≡◌, ℕ, ◌+◌, ◌*◌, ◌<◌, ◌≤◌, Bool, true, false, List, [], ◌∷◌, ◌++◌, length, reverse, sym, ap, ◌∙◌, subst, refl, arith, eqb, append_assoc, append-nil, length-append, inl, inr}
+use Rattle.std.proofs.lemmas.Bool.{cases_lt}
 use Rattle.std.proofs.lemmas.Bool.Decides.{nat_tests}
-use Rattle.std.proofs.lemmas.List.{reverse-append, reverse-reverse, length-reverse}
+use Rattle.std.proofs.lemmas.List.{reverse-append}
 use Rattle.std.specs.List.{AllByRecursion, flat_map}
 use Rattle.std.specs.declared.cmp.Ordering.{Ordering}
 use Rattle.std.specs.declared.cmp.Ordering.TheVariants.{Less, Equal, Greater}
 use Rattle.std.specs.Ordering.{nat_cmp, ordering_then}
 use Rattle.std.specs.Cmp.Lexicographic.{slice_cmp}
 use Rattle.zone_model.specs.Names.{Label, Name, wire, IsName, IsLabel, IsFolded, name_cmp}
-use Rattle.zone_model.specs.Keys.{first_position, second_position, is_shared, one_or_two, octet_positions, label_positions, key_of, key_cmp, IsKey}
+use Rattle.zone_model.specs.Keys.{first_position, second_position, is_shared, one_or_two, octet_positions, label_positions, key_of, key_cmp}
 use Rattle.zone_model.proofs.NameLemmas.{name_cmp-IsAntisymmetric}
-use Rattle.zone_model.proofs.OctetKeys.{code, code_rises, Bounds, bounds, second_shared, shared_second}
+use Rattle.zone_model.proofs.OctetKeys.{code_rises, bounds, second_shared, shared_second}
 
 nat_cmp-less : (x y : ℕ) → x < y → nat_cmp x y ≡ Less
 nat_cmp-less x y h = grind (arith, nat_tests)

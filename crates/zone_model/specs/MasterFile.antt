@@ -1,5 +1,5 @@
 -- The zone that lines say, or the first refusal (RFC 1035, sections 5.1 and 5.2).
-use Rattle.std.specs.Prelude.{ℕ, zero, suc, ◌+◌, ◌-◌, ◌*◌, Bool, true, false, ◌||◌, ◌&&◌, not, List, [], ◌∷◌, length, nat_le, nat_lt, ◌==◌, if◌then◌else◌, Option, Some, None, Result, Ok, Err, codes, unwrap_or, is_none, slice_index}
+use Rattle.std.specs.Prelude.{ℕ, zero, suc, ◌+◌, ◌-◌, ◌*◌, Bool, true, false, ◌&&◌, not, List, [], ◌∷◌, length, nat_lt, ◌==◌, if◌then◌else◌, Option, Some, None, Result, Ok, Err, codes, unwrap_or, is_none, slice_index}
 use Rattle.std.specs.BTreeMap.{insert_entry}
 use Rattle.std.specs.Char.{is_ascii_digit}
 use Rattle.zone_model.specs.Names.{Name, is_under, same_name, name_cmp}

@@ -1,0 +1,37 @@
+-- The trie of a version, and whether it fits into chunks.
+use Rattle.std.specs.Prelude.{◌≡◌, ℕ, ◌+◌, ◌-◌, ◌*◌, ◌/◌, List, Bool, nat_le, length, map, ◌++◌, codes}
+use Rattle.std.specs.Fmt.{decimal}
+use Rattle.zone_model.specs.Names.{Name}
+use Rattle.zone_model.specs.Records.{Entry, item}
+use Rattle.zone_model.specs.Versions.{Version}
+use Rattle.zone_model.specs.Keys.{key_of}
+use Rattle.trie_model.specs.Keys as trie
+use Rattle.trie_model.specs.Shape.{nodes, keys_of, cells}
+
+-- what the trie holds for a name: its key and its item
+abbrev pub trie_entry : Name × Entry → trie.Entry
+trie_entry pair = record { key = key_of pair.0; item = item pair.0 pair.1 }
+
+abbrev pub trie_entries : Version → List trie.Entry
+trie_entries version = map trie_entry version
+
+abbrev pub cell_count : Version → ℕ
+cell_count version = cells (trie_entries version)
+
+abbrev pub node_count : Version → ℕ
+node_count version = nodes (keys_of (trie_entries version))
+
+-- A quarter of the chunks is kept free, and one more may be left unfilled. Of each other chunk at least 769 cells are
+-- filled before the next one is begun, for no row of cells is longer than 256.
+abbrev pub room_in : ℕ → ℕ
+room_in chunks = 769 * (chunks - chunks / 4 - 1)
+
+abbrev pub fits : ℕ → Version → Bool
+fits chunks version = nat_le (cell_count version) (room_in chunks)
+
+abbrev pub no_room_text : ℕ → Version → List ℕ
+no_room_text chunks version = codes "zone does not fit: " ++ decimal (cell_count version) ++ codes " cells over " ++ decimal (room_in chunks) ++ codes "\n"
+
+-- how many names and nodes version 0 has
+abbrev pub size_text : Version → List ℕ
+size_text version = codes "v0 names " ++ decimal (length version) ++ codes " nodes " ++ decimal (node_count version) ++ codes "\n"
