@@ -1,14 +1,133 @@
--- What is due for an input that is too long.
-use Rattle.std.proofs.Common.{◌≡◌, ℕ, ◌+◌, Bool, false, leb, List, length, Option, Some, None, refl, sym, ap, subst, arith, codes, length-append}
+-- What is due for an input.
+use Rattle.std.proofs.Common.{◌≡◌, ◌∙◌, ℕ, ◌+◌, Bool, true, false, cond, leb, List, length, Option, Some, None, Result, Ok, Err, IfOk, refl, sym, ap, subst, arith, codes, length-append}
 use Rattle.std.proofs.lemmas.Bool.Decides.{nat_tests}
 use Rattle.std.specs.Io.KnownBytes.{Consumes}
 use Rattle.qp_main.specs.Invocations.{Invocation}
-use Rattle.qp_main.specs.Due.{Due, DueBytes}
+use Rattle.zone_model.specs.Names.{Name}
+use Rattle.zone_model.specs.Versions.{Version}
+use Rattle.zone_model.specs.Refusals.{Refused, ◌>>=◌}
+use Rattle.zone_model.specs.MasterFile.{zone_of}
+use Rattle.zone_model.specs.Jobs.{Command, Job, JobRefusal, ZoneRefused, ScriptRefused, zone_lines, script_lines, script_start, script_of, zone_refused, script_refused, job_of_lines, job_of}
+use Rattle.zone_model.specs.Outcomes.{some_refused}
+use Rattle.zone_model.specs.declared.ZoneKind.{ZoneKind}
+use Rattle.zone_model.specs.declared.ScriptKind.{ScriptKind}
+use Rattle.qp_main.specs.Fits.{fits, no_room_text, size_text}
+use Rattle.qp_main.specs.Due.{Due, DueBytes, DueInput, Answers, Checks, IfFits, Ends, ZoneRefuses, Reported, IsWritten}
+use Rattle.qp_main.specs.declared.status.Status.{Status}
 use Rattle.qp_main.specs.declared.status.Status.TheVariants as status
+use Rattle.qp_main.specs.declared.invocation.Verb.{Verb}
+use Rattle.qp_main.specs.declared.invocation.Verb.TheVariants.{Run, Check}
 
 pub too_long : (invocation : Invocation) (before now : Option (List ℕ)) (bytes : List ℕ) → Consumes before now bytes → length bytes ≡ 16777217 → Due (Some invocation) before status.TooLong (codes "input over 16777216 bytes\n")
 too_long invocation None now bytes c e = tt
 too_long invocation (Some all) None bytes c e = absurd c
 too_long invocation (Some all) (Some rest) bytes c e =
     let long : leb (length all) 16777216 ≡ false = (let n : 16777217 + length rest ≡ length all = omega (arith, ap (λ (l : List ℕ). length l) c, length-append bytes rest, e) in grind (arith, nat_tests)) in
-    subst (λ (b : Bool). DueBytes invocation.origin all b status.TooLong (codes "input over 16777216 bytes\n")) (sym long) (refl, refl)
+    subst (λ (b : Bool). DueBytes invocation all b status.TooLong (codes "input over 16777216 bytes\n")) (sym long) (refl, refl)
+
+pub ok_map : {A E : Type 0} (r : Result A E) {P Q : A → Type 0} → ((x : A) → P x → Q x) → IfOk r P → IfOk r Q
+ok_map (Ok x) f h = f x h
+ok_map (Err e) f h = tt
+
+-- ---- zones that fit and that don't
+
+pub fitting : (chunks : ℕ) (zone : Version) (F : Status → List ℕ → Type 0) (s : Status) (text : List ℕ) → fits chunks zone ≡ true → F s text → IfFits (fits chunks zone) chunks zone F s text
+fitting chunks zone F s text e h = subst (λ (b : Bool). IfFits b chunks zone F s text) (sym e) h
+
+pub unfitting : (chunks : ℕ) (zone : Version) (F : Status → List ℕ → Type 0) (s : Status) (text : List ℕ) → fits chunks zone ≡ false → s ≡ status.DoesNotFit → text ≡ no_room_text chunks zone → IfFits (fits chunks zone) chunks zone F s text
+unfitting chunks zone F s text e a b = subst (λ (t : Bool). IfFits t chunks zone F s text) (sym e) (a, b)
+
+-- ---- jobs
+
+whole_job : (origin : Name) (bytes : List ℕ) (zone : Version) (workers : List (List Command)) → zone_of origin (zone_lines bytes) ≡ Ok zone → script_of origin (script_start bytes) (script_lines bytes) ≡ Ok workers
+    → job_of origin bytes ≡ Ok (record { origin = origin; zone = zone; workers = workers })
+unfolding job_of_lines
+whole_job origin bytes zone workers z w =
+    ap (λ r. zone_refused r >>= (λ version. script_refused (script_of origin (script_start bytes) (script_lines bytes)) >>= (λ ws. Ok (record { origin = origin; zone = version; workers = ws })))) z
+    ∙ ap (λ r. script_refused r >>= (λ ws. Ok (record { origin = origin; zone = zone; workers = ws }))) w
+
+no_script : (origin : Name) (bytes : List ℕ) (zone : Version) (e : Refused ScriptKind) → zone_of origin (zone_lines bytes) ≡ Ok zone → script_of origin (script_start bytes) (script_lines bytes) ≡ Err e → job_of origin bytes ≡ Err (ScriptRefused e)
+unfolding job_of_lines
+no_script origin bytes zone e z w =
+    ap (λ r. zone_refused r >>= (λ version. script_refused (script_of origin (script_start bytes) (script_lines bytes)) >>= (λ ws. Ok (record { origin = origin; zone = version; workers = ws })))) z
+    ∙ ap (λ r. script_refused r >>= (λ ws. Ok (record { origin = origin; zone = zone; workers = ws }))) w
+
+no_zone : (origin : Name) (bytes : List ℕ) (e : Refused ZoneKind) → zone_of origin (zone_lines bytes) ≡ Err e → job_of origin bytes ≡ Err (ZoneRefused e)
+unfolding job_of_lines
+no_zone origin bytes e z = ap (λ r. zone_refused r >>= (λ version. script_refused (script_of origin (script_start bytes) (script_lines bytes)) >>= (λ ws. Ok (record { origin = origin; zone = version; workers = ws })))) z
+
+answers_as : (chunks : ℕ) (q r : Result Job JobRefusal) (s : Status) (text : List ℕ) → q ≡ r → Answers chunks r s text → Answers chunks q s text
+answers_as chunks q r s text e h = subst (λ (x : Result Job JobRefusal). Answers chunks x s text) (sym e) h
+
+-- the answers of a job that is read
+pub job_answers : (chunks : ℕ) (origin : Name) (bytes : List ℕ) (zone : Version) (workers : List (List Command)) → zone_of origin (zone_lines bytes) ≡ Ok zone → script_of origin (script_start bytes) (script_lines bytes) ≡ Ok workers
+    → (s : Status) (text : List ℕ) → IfFits (fits chunks zone) chunks zone (Reported (record { origin = origin; zone = zone; workers = workers })) s text → Answers chunks (job_of origin bytes) s text
+job_answers chunks origin bytes zone workers z w s text h = answers_as chunks (job_of origin bytes) (Ok (record { origin = origin; zone = zone; workers = workers })) s text (whole_job origin bytes zone workers z w) h
+
+-- a script that is refused
+pub script_refuses : (chunks : ℕ) (origin : Name) (bytes : List ℕ) (zone : Version) (e : Refused ScriptKind) → zone_of origin (zone_lines bytes) ≡ Ok zone → script_of origin (script_start bytes) (script_lines bytes) ≡ Err e
+    → (s : Status) (text : List ℕ) → Answers chunks (Err (ScriptRefused e)) s text → Answers chunks (job_of origin bytes) s text
+script_refuses chunks origin bytes zone e z w s text h = answers_as chunks (job_of origin bytes) (Err (ScriptRefused e)) s text (no_script origin bytes zone e z w) h
+
+-- a zone that is refused is refused for each command
+pub zone_refuses : (verb : Verb) (chunks : ℕ) (origin : Name) (bytes : List ℕ) (e : Refused ZoneKind) (s : Status) (text : List ℕ) → zone_of origin (zone_lines bytes) ≡ Err e → ZoneRefuses e s text → DueInput verb chunks origin bytes s text
+zone_refuses Run chunks origin bytes e s text z h = answers_as chunks (job_of origin bytes) (Err (ZoneRefused e)) s text (no_zone origin bytes e z) h
+zone_refuses Check chunks origin bytes e s text z h = subst (λ (x : Result Version (Refused ZoneKind)). Checks chunks x s text) (sym z) h
+
+-- ---- what is due for an input that was read
+
+-- the status answers an input
+abbrev pub IsAnswer : Status → Type 0
+IsAnswer status.Done = Unit {0}
+IsAnswer status.SomeRefused = Unit {0}
+IsAnswer status.ZoneRefused = Unit {0}
+IsAnswer status.ScriptRefused = Unit {0}
+IsAnswer status.DoesNotFit = Unit {0}
+IsAnswer status.WordsRefused = ⊥
+IsAnswer status.TooLong = ⊥
+IsAnswer status.SourceFault = ⊥
+IsAnswer status.SinkFault = ⊥
+IsAnswer status.NoMemory = ⊥
+
+answer_as : (s t : Status) → s ≡ t → IsAnswer t → IsAnswer s
+answer_as s t e w = subst IsAnswer (sym e) w
+
+if_fits_answers : (b : Bool) (chunks : ℕ) (zone : Version) (F : Status → List ℕ → Type 0) (s : Status) (text : List ℕ) → (F s text → IsAnswer s) → IfFits b chunks zone F s text → IsAnswer s
+if_fits_answers true chunks zone F s text f h = f h
+if_fits_answers false chunks zone F s text f h = answer_as s status.DoesNotFit h.0 tt
+
+reported_answers : (job : Job) (s : Status) (text : List ℕ) → Reported job s text → IsAnswer s
+reported_answers job s text h = answer_as s (cond (some_refused h.workers) status.SomeRefused status.Done) h.ended (by_refused (some_refused h.workers))
+  where
+    by_refused : (b : Bool) → IsAnswer (cond b status.SomeRefused status.Done)
+    by_refused true = tt
+    by_refused false = tt
+
+job_answer : (chunks : ℕ) (r : Result Job JobRefusal) (s : Status) (text : List ℕ) → Answers chunks r s text → IsAnswer s
+job_answer chunks (Ok job) s text h = if_fits_answers (fits chunks job.zone) chunks job.zone (Reported job) s text (reported_answers job s text) h
+job_answer chunks (Err (ZoneRefused e)) s text h = answer_as s status.ZoneRefused h.0 tt
+job_answer chunks (Err (ScriptRefused e)) s text h = answer_as s status.ScriptRefused h.0 tt
+
+check_answer : (chunks : ℕ) (r : Result Version (Refused ZoneKind)) (s : Status) (text : List ℕ) → Checks chunks r s text → IsAnswer s
+check_answer chunks (Ok zone) s text h = if_fits_answers (fits chunks zone) chunks zone (Ends status.Done (size_text zone)) s text (λ k. answer_as s status.Done k.0 tt) h
+check_answer chunks (Err e) s text h = answer_as s status.ZoneRefused h.0 tt
+
+pub due_answer : (verb : Verb) (chunks : ℕ) (origin : Name) (bytes : List ℕ) (s : Status) (text : List ℕ) → DueInput verb chunks origin bytes s text → IsAnswer s
+due_answer Run chunks origin bytes s text h = job_answer chunks (job_of origin bytes) s text h
+due_answer Check chunks origin bytes s text h = check_answer chunks (zone_of origin (zone_lines bytes)) s text h
+
+pub answer_written : (s : Status) → IsAnswer s → IsWritten s
+answer_written status.Done a = tt
+answer_written status.SomeRefused a = tt
+answer_written status.ZoneRefused a = tt
+answer_written status.ScriptRefused a = tt
+answer_written status.DoesNotFit a = tt
+answer_written status.WordsRefused a = tt
+answer_written status.TooLong a = tt
+answer_written status.SourceFault a = a
+answer_written status.SinkFault a = a
+answer_written status.NoMemory a = a
+
+-- so it is no status of another kind, when it was written whole
+pub no_other : (s r : Status) → IsAnswer s → (IsWritten r → r ≡ s) → IsWritten r → (IsAnswer r → ⊥) → ⊥
+no_other s r a same w n = n (subst IsAnswer (sym (same w)) a)

@@ -4,3 +4,4 @@ pub mod InvocationLemmas
 pub mod DueLemmas
 pub mod PartsLemmas
 pub mod PhraseLemmas
+pub mod ZoneLemmas

@@ -2,7 +2,10 @@
 use Rattle.std.specs.Prelude.{◌≡◌, ℕ, Bool, true, false, List, nat_le, ◌++◌, length, if◌then◌else◌, Option, Some, None, Result, Ok, Err, codes, map}
 use Rattle.std.specs.Fmt.{decimal}
 use Rattle.zone_model.specs.Names.{Name}
-use Rattle.zone_model.specs.Jobs.{Job, JobRefusal, ZoneRefused, ScriptRefused, job_of}
+use Rattle.zone_model.specs.Versions.{Version}
+use Rattle.zone_model.specs.Refusals.{Refused}
+use Rattle.zone_model.specs.MasterFile.{zone_of}
+use Rattle.zone_model.specs.Jobs.{Job, JobRefusal, ZoneRefused, ScriptRefused, zone_lines, job_of}
 use Rattle.zone_model.specs.Outcomes.{Pair, Lawful, some_refused}
 use Rattle.zone_model.specs.Reports.{report}
 use Rattle.zone_model.specs.declared.ZoneKind.{ZoneKind}
@@ -11,6 +14,9 @@ use Rattle.zone_model.specs.declared.ScriptKind.{ScriptKind}
 use Rattle.zone_model.specs.declared.ScriptKind.TheVariants.{NoWorker, BadCommand, BadName, BadType, BadRdata, BadNumber, OpenBlock, TooMany}
 use Rattle.outer_io.specs.Bytes.{Grows, GrowsByFront}
 use Rattle.qp_main.specs.Invocations.{Invocation}
+use Rattle.qp_main.specs.Fits.{fits, no_room_text, size_text}
+use Rattle.qp_main.specs.declared.invocation.Verb.{Verb}
+use Rattle.qp_main.specs.declared.invocation.Verb.TheVariants.{Run, Check}
 use Rattle.qp_main.specs.declared.status.Status.{Status}
 use Rattle.qp_main.specs.declared.status.Status.TheVariants as status
 
@@ -54,27 +60,49 @@ pub record Reported (job : Job) (s : Status) (text : List ℕ) : Type 0 where
   pub is : text ≡ report job.origin job.zone workers last
   pub ended : s ≡ (if some_refused workers then status.SomeRefused else status.Done)
 
--- the status and the text for what bytes say
-abbrev pub Answers : Result Job JobRefusal → Status → List ℕ → Type 0
-Answers (Ok job) s text = Reported job s text
-Answers (Err (ZoneRefused e)) s text = (s ≡ status.ZoneRefused) × (text ≡ refusal_text (codes "zone") e.line (zone_kind_text e.kind))
-Answers (Err (ScriptRefused e)) s text = (s ≡ status.ScriptRefused) × (text ≡ refusal_text (codes "script") e.line (script_kind_text e.kind))
+-- a status and a text
+abbrev pub Ends : Status → List ℕ → Status → List ℕ → Type 0
+Ends status text s t = (s ≡ status) × (t ≡ text)
+
+abbrev pub ZoneRefuses : Refused ZoneKind → Status → List ℕ → Type 0
+ZoneRefuses e = Ends status.ZoneRefused (refusal_text (codes "zone") e.line (zone_kind_text e.kind))
+
+-- a zone that doesn't fit into the chunks is refused, by whether it does
+abbrev pub IfFits : Bool → ℕ → Version → (Status → List ℕ → Type 0) → Status → List ℕ → Type 0
+IfFits true chunks zone Fitting = Fitting
+IfFits false chunks zone Fitting = Ends status.DoesNotFit (no_room_text chunks zone)
+
+-- the status and the text for the job that bytes say
+abbrev pub Answers : ℕ → Result Job JobRefusal → Status → List ℕ → Type 0
+Answers chunks (Ok job) = IfFits (fits chunks job.zone) chunks job.zone (Reported job)
+Answers chunks (Err (ZoneRefused e)) = ZoneRefuses e
+Answers chunks (Err (ScriptRefused e)) = Ends status.ScriptRefused (refusal_text (codes "script") e.line (script_kind_text e.kind))
+
+-- the status and the text for the zone that bytes say: how many names and nodes it has
+abbrev pub Checks : ℕ → Result Version (Refused ZoneKind) → Status → List ℕ → Type 0
+Checks chunks (Ok zone) = IfFits (fits chunks zone) chunks zone (Ends status.Done (size_text zone))
+Checks chunks (Err e) = ZoneRefuses e
+
+-- what is due for bytes within the limit; a check reads the zone alone
+abbrev pub DueInput : Verb → ℕ → Name → List ℕ → Status → List ℕ → Type 0
+DueInput Run chunks origin bytes = Answers chunks (job_of origin bytes)
+DueInput Check chunks origin bytes = Checks chunks (zone_of origin (zone_lines bytes))
 
 -- the most bytes of an input
 abbrev pub input_limit : ℕ
 input_limit = 16777216
 
 -- what is due for bytes, by whether they are within the limit
-abbrev pub DueBytes : Name → List ℕ → Bool → Status → List ℕ → Type 0
-DueBytes origin bytes true s text = Answers (job_of origin bytes) s text
-DueBytes origin bytes false s text = (s ≡ status.TooLong) × (text ≡ codes "input over 16777216 bytes\n")
+abbrev pub DueBytes : Invocation → List ℕ → Bool → Status → List ℕ → Type 0
+DueBytes i bytes true = DueInput i.verb i.chunks i.origin bytes
+DueBytes i bytes false = Ends status.TooLong (codes "input over 16777216 bytes\n")
 
 -- What is due for the words of the command line and the bytes that a source has left. Of a source that doesn't tell
 -- its bytes nothing is said.
 abbrev pub Due : Option Invocation → Option (List ℕ) → Status → List ℕ → Type 0
 Due None left s text = (s ≡ status.WordsRefused) × (text ≡ codes "words refused\n")
 Due (Some invocation) None s text = Unit {0}
-Due (Some invocation) (Some bytes) s text = DueBytes invocation.origin bytes (nat_le (length bytes) input_limit) s text
+Due (Some invocation) (Some bytes) s text = DueBytes invocation bytes (nat_le (length bytes) input_limit) s text
 
 -- the status says that its text was written whole
 abbrev pub IsWritten : Status → Type 0
@@ -84,6 +112,7 @@ IsWritten status.WordsRefused = Unit {0}
 IsWritten status.ZoneRefused = Unit {0}
 IsWritten status.ScriptRefused = Unit {0}
 IsWritten status.TooLong = Unit {0}
+IsWritten status.DoesNotFit = Unit {0}
 IsWritten status.SourceFault = ⊥
 IsWritten status.SinkFault = ⊥
 IsWritten status.NoMemory = ⊥
@@ -98,6 +127,7 @@ IsUnwritten status.WordsRefused = ⊥
 IsUnwritten status.ZoneRefused = ⊥
 IsUnwritten status.ScriptRefused = ⊥
 IsUnwritten status.TooLong = ⊥
+IsUnwritten status.DoesNotFit = ⊥
 IsUnwritten status.SinkFault = ⊥
 
 -- what is due was written whole

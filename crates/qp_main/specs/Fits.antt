@@ -1,5 +1,5 @@
 -- The trie of a version, and whether it fits into chunks.
-use Rattle.std.specs.Prelude.{◌≡◌, ℕ, ◌+◌, ◌-◌, ◌*◌, ◌/◌, List, Bool, nat_le, length, map, ◌++◌, codes}
+use Rattle.std.specs.Prelude.{ℕ, ◌+◌, ◌-◌, ◌*◌, ◌/◌, ◌<◌, ◌≤◌, List, Bool, nat_le, length, map, ◌++◌, codes}
 use Rattle.std.specs.Fmt.{decimal}
 use Rattle.zone_model.specs.Names.{Name}
 use Rattle.zone_model.specs.Records.{Entry, item}
@@ -7,6 +7,11 @@ use Rattle.zone_model.specs.Versions.{Version}
 use Rattle.zone_model.specs.Keys.{key_of}
 use Rattle.trie_model.specs.Keys as trie
 use Rattle.trie_model.specs.Shape.{nodes, keys_of, cells}
+
+-- what a name owns can be an item
+pub record Storable (pair : Name × Entry) : Type 0 where
+  pub some : 0 < length pair.1
+  pub short : length (item pair.0 pair.1) ≤ 4096
 
 -- what the trie holds for a name: its key and its item
 abbrev pub trie_entry : Name × Entry → trie.Entry

@@ -4,9 +4,12 @@ use Rattle.std.specs.Str.{bytes_eq}
 use Rattle.zone_model.specs.Names.{Name}
 use Rattle.zone_model.specs.NameText.{name_of}
 use Rattle.zone_model.specs.Texts.{named, number}
+use Rattle.qp_main.specs.declared.invocation.Verb.{Verb}
+use Rattle.qp_main.specs.declared.invocation.Verb.TheVariants.{Run, Check}
 
--- run a job under an origin, over a number of chunks
+-- what to do under an origin, over a number of chunks
 pub record Invocation : Type 0 where
+  pub verb : Verb
   pub origin : Name
   pub chunks : ℕ
 
@@ -27,10 +30,10 @@ default_chunks = 64
 abbrev pub chunks_of : List ℕ → Option ℕ
 chunks_of value = option_and_then (λ n. if nat_le 16 n then Some n else None) (number 4096 value)
 
-abbrev pub invocation : Option Name → Option ℕ → Option Invocation
-invocation (Some origin) (Some chunks) = Some (record { origin = origin; chunks = chunks })
-invocation None chunks = None
-invocation (Some origin) None = None
+abbrev pub invocation : Verb → Option Name → Option ℕ → Option Invocation
+invocation verb (Some origin) (Some chunks) = Some (record { verb = verb; origin = origin; chunks = chunks })
+invocation verb None chunks = None
+invocation verb (Some origin) None = None
 
 abbrev pub is_origin : List ℕ → Bool
 is_origin word = bytes_eq word (codes "--origin")
@@ -39,19 +42,22 @@ abbrev pub is_chunks : List ℕ → Bool
 is_chunks word = bytes_eq word (codes "--chunks")
 
 -- the options: the origin, and chunks before or behind it or not at all
-abbrev pub settings_of : List (List ℕ) → Option Invocation
-settings_of [] = None
-settings_of (option ∷ []) = None
-settings_of (option ∷ value ∷ []) = if is_origin option then invocation (origin_of value) (Some default_chunks) else None
-settings_of (first ∷ a ∷ second ∷ []) = None
-settings_of (first ∷ a ∷ second ∷ b ∷ []) =
-    if is_origin first && is_chunks second then invocation (origin_of a) (chunks_of b)
-    else if is_chunks first && is_origin second then invocation (origin_of b) (chunks_of a)
+abbrev pub settings_of : Verb → List (List ℕ) → Option Invocation
+settings_of verb [] = None
+settings_of verb (option ∷ []) = None
+settings_of verb (option ∷ value ∷ []) = if is_origin option then invocation verb (origin_of value) (Some default_chunks) else None
+settings_of verb (first ∷ a ∷ second ∷ []) = None
+settings_of verb (first ∷ a ∷ second ∷ b ∷ []) =
+    if is_origin first && is_chunks second then invocation verb (origin_of a) (chunks_of b)
+    else if is_chunks first && is_origin second then invocation verb (origin_of b) (chunks_of a)
     else None
-settings_of (first ∷ a ∷ second ∷ b ∷ more ∷ rest) = None
+settings_of verb (first ∷ a ∷ second ∷ b ∷ more ∷ rest) = None
+
+abbrev pub verb_of : List ℕ → Option Verb
+verb_of word = if bytes_eq word (codes "run") then Some Run else if bytes_eq word (codes "check") then Some Check else None
 
 -- what the words say, the first of which is the program's name; None where they are refused
 unfoldable pub invocation_of : List (List ℕ) → Option Invocation
 invocation_of [] = None
 invocation_of (program ∷ []) = None
-invocation_of (program ∷ command ∷ options) = if bytes_eq command (codes "run") then settings_of options else None
+invocation_of (program ∷ command ∷ options) = option_and_then (λ verb. settings_of verb options) (verb_of command)

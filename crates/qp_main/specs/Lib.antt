@@ -9,3 +9,4 @@ pub mod Fits
 pub mod Due
 pub mod Runs
 pub mod InvocationViews
+pub mod Openings

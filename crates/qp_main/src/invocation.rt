@@ -1,110 +1,24 @@
-// The command line.
-ghost use Rattle.std.specs.Prelude.{◌≡◌, ◌<◌, ◌≤◌, ◌∷◌, [], ℕ, List, length, map, Some, None, Option};
-ghost use Rattle.std.specs.Option.{option_map};
-ghost use Rattle.std.specs.String.{string_bytes};
-ghost use Rattle.qp_main.specs.Invocations.{invocation_of, settings_of, origin_of, chunks_of, invocation};
-ghost use Rattle.qp_main.specs.InvocationViews.{invocation_view};
+// What the command line asks for.
+ghost use Rattle.std.specs.Prelude.{◌≤◌};
 
 use dns_name::Name;
-use rr_data::number;
 
-// The number of chunks where none is given, and its limits.
-const DEFAULT_CHUNKS: u32 = 64;
+/// What the program is asked to do.
+#[derive(Clone, Copy, PartialEq, Eq, Debug)]
+pub enum Verb {
+    /// Run a job.
+    Run,
+    /// Build the zone's index, and say how large it is.
+    Check,
+}
 
-const FEWEST_CHUNKS: u32 = 16;
-
-const MOST_CHUNKS: u32 = 4096;
-
-/// What the words of the command line say: run a job under an origin, over a number of chunks.
+/// What the words of the command line say: what to do under an origin, over a number of chunks.
 #[derive(Clone, Copy)]
 pub struct Invocation {
+    pub verb: Verb,
     pub origin: Name,
-    /// It has no effect yet.
+    /// From 16 to 4,096.
     pub chunks: u32,
-}
-
-// The origin, read under the root.
-fn origin_of(value: &[u8]) -> Option<Name>
-    ensures { result ≡ origin_of value.now }
-{
-    if value.is_empty() || value[0] == b'-' {
-        return None;
-    }
-    match Name::read(value, &Name::root()) {
-        Ok(origin) => Some(origin),
-        Err(_) => None,
-    }
-}
-
-fn chunks_of(value: &[u8]) -> Option<u32>
-    ensures { result ≡ chunks_of value.now }
-{
-    match number(value, MOST_CHUNKS) {
-        Some(chunks) if chunks >= FEWEST_CHUNKS => Some(chunks),
-        _ => None,
-    }
-}
-
-// One option with its value.
-fn one_setting(option: &[u8], value: &[u8]) -> Option<Invocation>
-    ensures { option_map invocation_view result ≡ settings_of (option.now ∷ value.now ∷ []) }
-{
-    if option != b"--origin".as_slice() {
-        return None;
-    }
-    match origin_of(value) {
-        Some(origin) => Some(Invocation {
-            origin,
-            chunks: DEFAULT_CHUNKS,
-        }),
-        None => None,
-    }
-}
-
-// The values of both options.
-fn both(origin: &[u8], chunks: &[u8]) -> Option<Invocation>
-    ensures { option_map invocation_view result ≡ invocation (origin_of origin.now) (chunks_of chunks.now) }
-{
-    let Some(origin) = origin_of(origin) else {
-        return None;
-    };
-    match chunks_of(chunks) {
-        Some(chunks) => Some(Invocation { origin, chunks }),
-        None => None,
-    }
-}
-
-// Two options with their values.
-fn two_settings(first: &[u8], a: &[u8], second: &[u8], b: &[u8]) -> Option<Invocation>
-    ensures { option_map invocation_view result ≡ settings_of (first.now ∷ a.now ∷ second.now ∷ b.now ∷ []) }
-{
-    if first == b"--origin".as_slice() && second == b"--chunks".as_slice() {
-        return both(a, b);
-    }
-    if first == b"--chunks".as_slice() && second == b"--origin".as_slice() {
-        return both(b, a);
-    }
-    None
-}
-
-/// What the words say, the first of which is the program's name; None where they are refused.
-#[tactic(auto, unfolding(crate::specs::Invocations::invocation_of))]
-pub fn invocation_of(words: &[String]) -> Option<Invocation>
-    ensures { option_map invocation_view result ≡ invocation_of (map string_bytes words.now) }
-{
-    if words.len() < 2 || words[1].as_str() != "run" {
-        return None;
-    }
-    if words.len() == 4 {
-        return one_setting(words[2].as_bytes(), words[3].as_bytes());
-    }
-    if words.len() == 6 {
-        return two_settings(
-            words[2].as_bytes(),
-            words[3].as_bytes(),
-            words[4].as_bytes(),
-            words[5].as_bytes(),
-        );
-    }
-    None
+    ghost enough: { 16 ≤ chunks },
+    ghost few: { chunks ≤ 4096 },
 }

@@ -1,10 +1,13 @@
-//! The program: reads a job (a zone and its workers' script), runs it, and prints the report.
+//! The program: reads a job (a zone and its workers' script), runs it, and prints the report; or
+//! reads a zone and says how large its index is.
 #![tactic(auto)]
 
 mod answers;
+mod command_line;
 mod commands;
 mod gate;
 mod invocation;
+mod opening;
 mod operations;
 mod parts;
 mod phrases;

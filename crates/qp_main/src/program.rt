@@ -2,45 +2,109 @@
 ghost use Rattle.std.specs.Prelude.{◌≡◌, ◌<◌, ◌≤◌, ◌+◌, ◌^◌, ◌++◌, ◌∷◌, [], ℕ, List, length, IfOk, OnOk, map, codes, Ok, Result, IfSome, MatchOption, IsSome, Some, None};
 ghost use Rattle.std.specs.String.{string_bytes};
 ghost use Rattle.std.specs.Io.KnownBytes.{Consumes};
-ghost use Rattle.zone_model.specs.Jobs.{job_of};
+ghost use Rattle.std.specs.List.{AllByRecursion};
+ghost use Rattle.zone_model.specs.MasterFile.{zone_of};
+ghost use Rattle.zone_model.specs.Jobs.{zone_lines, job_of};
 ghost use Rattle.qp_main.specs.Parts.{IsCutAt};
 ghost use Rattle.outer_io.specs.Faults.{Rose};
 ghost use Rattle.outer_io.specs.Bytes.{Grows, GrowsByFront};
 ghost use Rattle.qp_main.specs.Invocations.{invocation_of};
 ghost use Rattle.qp_main.specs.InvocationViews.{invocation_view};
-ghost use Rattle.qp_main.specs.Due.{Answers, IsWritten, IsUnwritten, Written, CutShort};
+ghost use Rattle.qp_main.specs.Fits.{Storable};
+ghost use Rattle.qp_main.specs.Due.{Answers, Checks, DueInput, IsWritten, IsUnwritten, Written, CutShort};
 
 use crate::gate::Gate;
-use crate::invocation::{Invocation, invocation_of};
+use crate::command_line::invocation_of;
+use crate::invocation::{Invocation, Verb};
+use crate::opening::{Opening, open};
 use crate::parts::{Parts, split};
-use crate::report::{script_refused, zone_refused};
+use crate::report::{no_room, script_refused, size_line, zone_refused};
 use crate::script::{ScriptStop, read_script};
 use crate::status::Status;
 use crate::worker::report_job;
 use dns_name::Name;
 use master_file::{ZoneRefusal, read_zone};
 use outer_io::{ReadRefusal, Sink, Source, read_all, write_all};
+use rr_data::Entry;
 use std::alloc::{AllocError, Global};
+use std::collections::BTreeMap;
 use std::sync::Wait;
 use std::thread::Threads;
 
 // The most bytes of an input.
 const INPUT_LIMIT: u32 = 16777216;
 
-// The status and the text for a zone's bytes and the script that begins at a place, on a line with a number.
+// The status and the text for a zone that was read and the script that begins at a place, on a line with a number.
 #[tactic(auto, unfolding(zone_model::specs::Jobs::job_of_lines))]
+fn run_script<G: Gate>(
+    alloc: Global,
+    invocation: &Invocation,
+    bytes: &[u8],
+    parts: Parts,
+    version: &mut BTreeMap<Name, Entry>,
+    gate: &G,
+) -> Result<(Status, Vec<u8>), AllocError>
+    requires short { length bytes.now ≤ 2 ^ 24 }
+    requires cut { IsCutAt bytes.now parts }
+    requires zone { zone_of invocation.now.origin (zone_lines bytes.now) ≡ Ok version.old.entries }
+    requires storable { AllByRecursion Storable version.old.entries }
+    ensures { IfOk result (λ x. Answers invocation.now.chunks (job_of invocation.now.origin bytes.now) x.0 x.1.items) }
+{
+    let origin = &invocation.origin;
+    let commands = match read_script(alloc, bytes, origin, parts.script_from, parts.first_line) {
+        Ok(commands) => commands,
+        Err(ScriptStop::Refused(line, kind)) => {
+            return Ok((
+                Status::ScriptRefused,
+                script_refused(alloc, u64::from(line), kind)?,
+            ));
+        }
+        Err(ScriptStop::Memory) => return Err(AllocError),
+    };
+    match open(alloc, version, invocation.chunks)? {
+        Opening::Fits { nodes: _ } => report_job(alloc, origin, version, &commands, gate),
+        Opening::DoesNotFit { cells, limit } => {
+            Ok((Status::DoesNotFit, no_room(alloc, cells, limit)?))
+        }
+    }
+}
+
+// The status and the text for a zone that was read and is only to be checked.
+fn check_version(
+    alloc: Global,
+    chunks: u32,
+    version: &BTreeMap<Name, Entry>,
+) -> Result<(Status, Vec<u8>), AllocError>
+    requires enough { 16 ≤ chunks }
+    requires few { chunks ≤ 4096 }
+    requires storable { AllByRecursion Storable version.now.entries }
+    ensures { IfOk result (λ x. Checks chunks (Ok version.now.entries) x.0 x.1.items) }
+{
+    match open(alloc, version, chunks)? {
+        Opening::Fits { nodes } => Ok((
+            Status::Done,
+            size_line(alloc, version.len() as u64, nodes)?,
+        )),
+        Opening::DoesNotFit { cells, limit } => {
+            Ok((Status::DoesNotFit, no_room(alloc, cells, limit)?))
+        }
+    }
+}
+
+// The status and the text for bytes that were cut into a zone's and a script's.
 fn answer_parts<G: Gate>(
     alloc: Global,
-    origin: &Name,
+    invocation: &Invocation,
     bytes: &[u8],
     parts: Parts,
     gate: &G,
 ) -> Result<(Status, Vec<u8>), AllocError>
     requires short { length bytes.now ≤ 2 ^ 24 }
     requires cut { IsCutAt bytes.now parts }
-    ensures { IfOk result (λ x. Answers (job_of origin.now bytes.now) x.0 x.1.items) }
+    ensures { IfOk result (λ x. DueInput invocation.now.verb invocation.now.chunks invocation.now.origin bytes.now x.0 x.1.items) }
 {
-    let zone = match read_zone(alloc, &bytes[..parts.zone_end as usize], origin) {
+    let zone_bytes = &bytes[..parts.zone_end as usize];
+    let zone = match read_zone(alloc, zone_bytes, &invocation.origin) {
         Ok(zone) => zone,
         Err(ZoneRefusal::Refused { line, kind }) => {
             return Ok((
@@ -51,13 +115,9 @@ fn answer_parts<G: Gate>(
         Err(ZoneRefusal::Memory) => return Err(AllocError),
     };
     let mut version = zone.into_entries();
-    match read_script(alloc, bytes, origin, parts.script_from, parts.first_line) {
-        Ok(commands) => report_job(alloc, origin, &mut version, &commands, gate),
-        Err(ScriptStop::Refused(line, kind)) => Ok((
-            Status::ScriptRefused,
-            script_refused(alloc, u64::from(line), kind)?,
-        )),
-        Err(ScriptStop::Memory) => Err(AllocError),
+    match invocation.verb {
+        Verb::Run => run_script(alloc, invocation, bytes, parts, &mut version, gate),
+        Verb::Check => check_version(alloc, invocation.chunks, &version),
     }
 }
 
@@ -65,15 +125,15 @@ fn answer_parts<G: Gate>(
 fn answer<R: Threads + Wait + Sync, G: Gate>(
     _rt: &R,
     alloc: Global,
-    origin: &Name,
+    invocation: &Invocation,
     bytes: &[u8],
     gate: &G,
 ) -> Result<(Status, Vec<u8>), AllocError>
     requires { length bytes.now ≤ 16777216 }
-    ensures { IfOk result (λ x. Answers (job_of origin.now bytes.now) x.0 x.1.items) }
+    ensures { IfOk result (λ x. DueInput invocation.now.verb invocation.now.chunks invocation.now.origin bytes.now x.0 x.1.items) }
 {
     let parts = split(bytes);
-    answer_parts(alloc, origin, bytes, parts, gate)
+    answer_parts(alloc, invocation, bytes, parts, gate)
 }
 
 // Writes the text that is due under a status.
@@ -115,7 +175,7 @@ fn serve<R: Threads + Wait + Sync, S: Source, K: Sink, G: Gate>(
         }
         Err(ReadRefusal::Memory) => return Status::NoMemory,
     };
-    let Ok((status, text)) = answer(rt, alloc, &invocation.origin, &bytes, gate) else {
+    let Ok((status, text)) = answer(rt, alloc, invocation, &bytes, gate) else {
         return Status::NoMemory;
     };
     write_due(sink, status, &text)

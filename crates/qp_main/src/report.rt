@@ -118,3 +118,29 @@ pub fn script_refused(alloc: Global, line: u64, kind: ScriptKind) -> Result<Vec<
 {
     refusal_line(alloc, b"script", line, script_kind_name(kind))
 }
+
+/// The line of a zone that may need more cells than the chunks have.
+pub fn no_room(alloc: Global, cells: u64, limit: u64) -> Result<Vec<u8>, AllocError>
+    ensures { IfOk result (λ v. v.items ≡ codes "zone does not fit: " ++ decimal cells ++ codes " cells over " ++ decimal limit ++ codes "\n") }
+{
+    let mut out = Vec::new(alloc);
+    out.extend_from_slice(b"zone does not fit: ")?;
+    push_number(&mut out, cells)?;
+    out.extend_from_slice(b" cells over ")?;
+    push_number(&mut out, limit)?;
+    out.extend_from_slice(b"\n")?;
+    Ok(out)
+}
+
+/// The line of a zone that was checked: how many names and nodes version 0 has.
+pub fn size_line(alloc: Global, names: u64, nodes: u64) -> Result<Vec<u8>, AllocError>
+    ensures { IfOk result (λ v. v.items ≡ codes "v0 names " ++ decimal names ++ codes " nodes " ++ decimal nodes ++ codes "\n") }
+{
+    let mut out = Vec::new(alloc);
+    out.extend_from_slice(b"v0 names ")?;
+    push_number(&mut out, names)?;
+    out.extend_from_slice(b" nodes ")?;
+    push_number(&mut out, nodes)?;
+    out.extend_from_slice(b"\n")?;
+    Ok(out)
+}

@@ -23,10 +23,12 @@ pub enum Status {
     NoMemory,
     /// The input has more than 16,777,216 bytes.
     TooLong,
+    /// The zone may need more cells than the chunks have.
+    DoesNotFit,
 }
 
 impl Status {
-    /// The exit status, from 0 to 8 in the order of the variants.
+    /// The exit status, from 0 to 9 in the order of the variants.
     pub fn code(self) -> u8
         ensures { result ≡ code_of self }
     {
@@ -40,6 +42,7 @@ impl Status {
             Status::SinkFault => 6,
             Status::NoMemory => 7,
             Status::TooLong => 8,
+            Status::DoesNotFit => 9,
         }
     }
 }
