@@ -1,1 +1,4 @@
+pub mod Ledger
 pub mod Rooms
+pub mod Inside
+pub mod Handing

@@ -1,0 +1,4 @@
+pub mod FlagLemmas
+pub mod HandingLaws
+pub mod RowLemmas
+pub mod SpaceLaws
