@@ -1,4 +1,7 @@
 pub mod FlagLemmas
 pub mod HandingLaws
+pub mod InsideLemmas
+pub mod KeepingLaws
+pub mod KeptLemmas
 pub mod RowLemmas
 pub mod SpaceLaws

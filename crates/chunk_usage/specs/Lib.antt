@@ -2,3 +2,4 @@ pub mod Ledger
 pub mod Rooms
 pub mod Inside
 pub mod Handing
+pub mod Keeping

@@ -1,6 +1,8 @@
 //! Rows of chunk flags, one for each kept version.
 
-ghost use Rattle.std.specs.Prelude.{◌≡◌, IfOk, false, replicate};
+ghost use Rattle.std.specs.Prelude.{◌≡◌, IfOk, false, length, replicate};
+ghost use Rattle.chunk_usage.specs.Ledger.{is_in_row, row_of};
+ghost use Rattle.chunk_usage.specs.Keeping.{is_row_of};
 
 use std::alloc::{AllocError, Global};
 use std::marker::Model;
@@ -27,5 +29,39 @@ impl KeptRow {
     {
         let chunks = vec![in alloc; false; chunks]?;
         Ok(KeptRow { version: 0, chunks })
+    }
+
+    /// Makes it the row of a version with so many live cells in each chunk.
+    pub fn set(&mut self, version: u64, live: &[u32])
+        requires { length self.old.chunks ≡ length live.now }
+        ensures { self.new ≡ record { version = version; chunks = row_of live.now } }
+    {
+        self.version = version;
+        mark_live(&mut self.chunks, live);
+    }
+
+    /// Whether it is the row of a version.
+    pub fn is_of(&self, version: u64) -> bool
+        ensures { result ≡ is_row_of version self.now }
+    {
+        self.version == version
+    }
+
+    /// Whether the version has cells in a chunk.
+    pub fn has(&self, chunk: u32) -> bool
+        ensures { result ≡ is_in_row self.now chunk }
+    {
+        let chunk = chunk as usize;
+        chunk < self.chunks.len() && self.chunks[chunk]
+    }
+}
+
+/// Sets the flags of the chunks that have live cells, and clears the others.
+fn mark_live(flags: &mut [bool], live: &[u32])
+    requires { length flags.old ≡ length live.now }
+    ensures { flags.new ≡ row_of live.now }
+{
+    for chunk in 0..live.len() {
+        flags[chunk] = live[chunk] > 0;
     }
 }

@@ -4,6 +4,7 @@ ghost use Rattle.std.specs.Prelude.{◌≡◌, ◌<◌, ◌≤◌, ◌-◌, ◌+
 ghost use Rattle.std.specs.List.{position_or_len};
 ghost use Rattle.chunk_usage.specs.Ledger.{free_count};
 ghost use Rattle.chunk_usage.specs.Handing.{IsShort, all_released, allocated, grant_of, lowest_free, next_cell, released, roomy, shortage, taken, with_open};
+ghost use Rattle.chunk_usage.specs.Keeping.{closed};
 
 use super::Usage;
 use crate::open::Open;
@@ -51,6 +52,15 @@ impl Usage {
         ensures { self.new ≡ all_released self.old }
     {
         self.live.fill(0);
+    }
+
+    /// The open chunk counts as filled, so that the next cells come from another one.
+    pub fn start_chunk(&mut self)
+        ensures { self.new ≡ closed self.old }
+    {
+        if let Some(open) = &mut self.open_chunk {
+            open.filled = CHUNK_CELLS;
+        }
     }
 
     // The open chunk, where it has n cells left.
