@@ -5,6 +5,7 @@ ghost use Rattle.chunk_usage.specs.Ledger.{Row, unused, free_count, reserve_of};
 
 mod as_space;
 mod cells;
+mod recycling;
 mod versions;
 
 use crate::open::Open;
