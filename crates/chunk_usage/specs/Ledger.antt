@@ -18,6 +18,16 @@ pub record Ledger : Type 0 where
   pub rows : List Row  -- of the kept versions, the oldest first
   pub passes : ℕ
 
+-- what freezes left: nothing that hands out or releases cells changes it
+pub record Frozen : Type 0 where
+  pub live : List ℕ
+  pub open_chunk : Option Open
+  pub rows : List Row
+  pub passes : ℕ
+
+abbrev pub frozen_part : Ledger → Frozen
+frozen_part l = record { live = l.last_live; open_chunk = l.last_open; rows = l.rows; passes = l.passes }
+
 -- the chunk is the open one; how many of the open one's cells are handed out, and how many are left
 abbrev pub is_open : Option Open → ℕ → Bool
 is_open None chunk = false

@@ -6,7 +6,7 @@ use packed_node::Ref;
 
 impl Space for Usage {
     ghost use Rattle.std.specs.Prelude.{slice_index};
-    ghost use Rattle.chunk_usage.specs.Ledger.{is_used, is_fresh};
+    ghost use Rattle.chunk_usage.specs.Ledger.{is_used, is_fresh, frozen_part};
     ghost use Rattle.chunk_usage.specs.Handing.{spent, Lacks};
 
     ghost used = { is_used };
@@ -18,6 +18,8 @@ impl Space for Usage {
     ghost live = { λ l k. slice_index l.live k };
 
     ghost spent = { spent };
+
+    ghost frozen = { frozen_part };
 
     ghost lacks = { Lacks };
 
