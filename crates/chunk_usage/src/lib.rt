@@ -12,3 +12,6 @@ mod usage;
 pub use open::Open;
 pub use space::{Full, Grant, Space};
 pub use usage::Usage;
+
+#[cfg(test)]
+mod tests;

@@ -1,6 +1,7 @@
 //! What is known of the chunks.
 
-ghost use Rattle.std.specs.Prelude.{◌≡◌, ◌≤◌, ◌<◌, ◌↔◌, ◌/◌, IfOk, IsTrue, All, length, slice_index, slice_index_or, false};
+ghost use Rattle.std.specs.Prelude.{◌≡◌, ◌≤◌, ◌<◌, ◌↔◌, ◌/◌, IfOk, IsTrue, All, length, slice_index};
+ghost use Rattle.chunk_cells.specs.Chunks.{IsFree};
 ghost use Rattle.chunk_usage.specs.Ledger.{Row, unused, free_count, reserve_of};
 
 mod as_space;
@@ -86,20 +87,24 @@ impl Usage {
         self.given.len() as u32 / 4
     }
 
-    /// Whether a chunk is free.
+    /// Whether there is such a chunk, and it is free.
     pub fn is_free(&self, chunk: u32) -> bool
-        requires { chunk < length self.now.given }
-        ensures { IsTrue result ↔ (slice_index_or self.now.given chunk false ≡ false) }
+        ensures { IsTrue result ↔ IsFree self.now.given chunk }
     {
-        !self.given[chunk as usize]
+        let chunk = chunk as usize;
+        chunk < self.given.len() && !self.given[chunk]
     }
 
-    /// How many cells of a chunk count.
+    /// How many cells of a chunk count: 0 where there is no such chunk.
     pub fn live(&self, chunk: u32) -> u32
-        requires { chunk < length self.now.live }
         ensures { result ≡ slice_index self.now.live chunk }
     {
-        self.live[chunk as usize]
+        let chunk = chunk as usize;
+        if chunk < self.live.len() {
+            self.live[chunk]
+        } else {
+            0
+        }
     }
 }
 
