@@ -1,4 +1,5 @@
 pub mod WireLemmas
+pub mod OwnedLemmas
 pub mod PieceLemmas
 pub mod BodyLemmas
 pub mod TextLemmas

@@ -10,6 +10,7 @@ ghost use Rattle.dns_name.specs.Spelling.{IsNameSpelled};
 mod buffer;
 pub mod laws;
 mod order;
+mod owned;
 mod pieces;
 mod print;
 mod scan;
@@ -21,6 +22,7 @@ mod wire;
 use crate::scan::wire_len;
 use crate::wire::{count, first, skip, under};
 pub use buffer::Octets;
+pub use owned::OwnedName;
 use std::marker::Model;
 pub use wire::first as first_label;
 

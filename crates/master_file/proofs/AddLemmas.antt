@@ -1,5 +1,5 @@
 -- An entry that is there is written in its place.
-use Rattle.std.proofs.Common.{◌≡◌, ◌∙◌, ℕ, cond, List, [], ◌∷◌, Option, Some, None, unwrap_or, Ok, Err, refl, sym, ap, inl, inr, ◌⊎◌}
+use Rattle.std.proofs.Common.{◌≡◌, ◌∙◌, ℕ, cond, List, [], ◌∷◌, Option, Some, None, unwrap_or, Ok, Err, refl, sym, subst, ap, inl, inr, ◌⊎◌}
 use Rattle.std.specs.List.{AllByRecursion}
 use Rattle.std.specs.List.Sorted.{IsStrictlySortedBy}
 use Rattle.std.specs.Ordering.{is_eq, match_ordering}
@@ -43,13 +43,20 @@ set_is_insert k (e ∷ es) w v s h =
     set_there k e es w v (name_cmp k e.0) (λ l. lookup_above k es (above_all k e.0 (keys_of es) l s.0))
     (found_or_not k es w (λ u g. set_is_insert k es w u s.1 g) (lookup (is_at (name_cmp k)) es) refl) h
 
-pub grown_ok : (last : ℕ) (owner : List (List ℕ)) (rtype time : ℕ) (octets : List ℕ) (old new : List (List (List ℕ) × List Rrset)) (before now : List Rrset) → entry_of owner old ≡ Some before → now ≡ with_rr rtype time octets before → IsStrictlySortedBy name_cmp (keys_of old) → new ≡ set_value (is_at (name_cmp owner)) old now
+grown_ok : (last : ℕ) (owner : List (List ℕ)) (rtype time : ℕ) (octets : List ℕ) (old new : List (List (List ℕ) × List Rrset)) (before now : List Rrset) → entry_of owner old ≡ Some before → now ≡ with_rr rtype time octets before → IsStrictlySortedBy name_cmp (keys_of old) → new ≡ set_value (is_at (name_cmp owner)) old now
     → entry_fault owner now ≡ None → placed_in last owner rtype time octets old ≡ Ok new
 grown_ok last owner rtype time octets old new before now b n s w f =
     let e : with_rr rtype time octets (unwrap_or (entry_of owner old) []) ≡ now = ap (λ (o : Option (List Rrset)). with_rr rtype time octets (unwrap_or o [])) b ∙ sym n in
     ap (λ (x : List Rrset). unless_fault last (entry_fault owner x) (insert_entry name_cmp old owner x)) e
     ∙ ap (λ o. unless_fault last o (insert_entry name_cmp old owner now)) f
     ∙ ap (λ (x : List (List (List ℕ) × List Rrset)). Ok x) (sym (w ∙ set_is_insert owner old now before s b))
+
+-- where the map knows the owner by a name that is the same
+pub grown_by : (last : ℕ) (key owner : List (List ℕ)) → key ≡ owner → (rtype time : ℕ) (octets : List ℕ) (old new : List (List (List ℕ) × List Rrset)) (before now : List Rrset) → Some before ≡ entry_of key old → now ≡ with_rr rtype time octets before → IsStrictlySortedBy name_cmp (keys_of old) → new ≡ set_value (is_at (name_cmp key)) old now
+    → entry_fault owner now ≡ None → placed_in last owner rtype time octets old ≡ Ok new
+grown_by last key owner e rtype time octets old new before now b n s w f =
+    subst (λ (x : List (List ℕ)). placed_in last x rtype time octets old ≡ Ok new) e
+    (grown_ok last key rtype time octets old new before now (sym b) n s w (ap (λ (x : List (List ℕ)). entry_fault x now) e ∙ f))
 
 pub grown_bad : (last : ℕ) (owner : List (List ℕ)) (rtype time : ℕ) (octets : List ℕ) (old new : List (List (List ℕ) × List Rrset)) (before now : List Rrset) (e : ZoneRefusal) → entry_of owner old ≡ Some before → now ≡ with_rr rtype time octets before → Checks (Err e) last owner now → Gives (Err e) new (placed_in last owner rtype time octets old)
 grown_bad last owner rtype time octets old new before now refusal.Memory b n c = absurd c

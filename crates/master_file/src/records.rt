@@ -8,7 +8,7 @@ ghost use Rattle.rr_data.specs.Tokens.{token_view};
 ghost use Rattle.master_file.specs.Zones.{reader_view, Checks};
 
 use crate::refusal::{ZoneRefusal, refuse};
-use dns_name::Name;
+use dns_name::{Name, OwnedName};
 use rr_data::{Entry, Rdata, Token};
 use std::alloc::{AllocError, Global};
 use std::collections::BTreeMap;
@@ -22,7 +22,7 @@ pub struct Reader {
     pub last_time: Option<u32>,
     pub minimum: Option<u32>,
     pub owner: Option<Name>,
-    pub version: BTreeMap<Name, Entry>,
+    pub version: BTreeMap<OwnedName, Entry>,
 }
 
 // An alias stands alone.
@@ -72,11 +72,12 @@ fn grow(
     rtype: u16,
     time: u32,
     rdata: Rdata,
-    version: &mut BTreeMap<Name, Entry>,
+    version: &mut BTreeMap<OwnedName, Entry>,
 ) -> Result<(), ZoneRefusal>
     ensures { Gives result version.new.entries (placed_in last owner.now rtype time rdata version.old.entries) }
 {
-    match version.get_mut(owner) {
+    let key = OwnedName::of(alloc, owner)?;
+    match version.get_mut(&key) {
         Some(entry) => {
             entry.add(alloc, rtype, time, rdata)?;
             match check_entry(entry, owner, last) {
@@ -88,7 +89,7 @@ fn grow(
             let mut entry = Entry::empty(alloc);
             entry.add(alloc, rtype, time, rdata)?;
             check_entry(&entry, owner, last)?;
-            version.insert(*owner, entry)?;
+            version.insert(key, entry)?;
             Ok(())
         }
     }
@@ -104,7 +105,7 @@ pub fn add_record(
     rtype: u16,
     time: u32,
     rdata: Rdata,
-    version: &mut BTreeMap<Name, Entry>,
+    version: &mut BTreeMap<OwnedName, Entry>,
 ) -> Result<(), ZoneRefusal>
     ensures { Gives result version.new.entries (added top.now last owner.now rtype time rdata version.old.entries) }
 {

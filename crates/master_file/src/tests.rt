@@ -1,5 +1,5 @@
 use crate::{ZoneRefusal, line_tokens, read_zone, tokens};
-use dns_name::Name;
+use dns_name::{Name, OwnedName};
 use rr_data::Entry;
 use std::alloc::Global;
 use std::process::Abort;
@@ -96,14 +96,13 @@ fn reads_entries_of_every_form(rt: HostRuntime) -> Result<(), Fail> {
         .ok()
         .ok_or("refused")?;
     assert_eq!(rt; zone.len(), 3);
-    let www = name(b"www.sub.example.")?;
+    let www = OwnedName::of(rt.alloc(), &name(b"www.sub.example.")?)?;
     assert_eq!(rt; set_of(zone.entry(&www), 1), Some((1800, 1)));
     assert_eq!(rt; set_of(zone.entry(&www), 16), Some((3600, 1)));
-    assert_eq!(rt;
-        set_of(zone.entry(&name(b"mail.sub.example.")?), 1),
-        Some((3600, 2))
-    );
-    assert_eq!(rt; set_of(zone.entry(zone.origin()), 6), Some((3600, 1)));
+    let mail = OwnedName::of(rt.alloc(), &name(b"mail.sub.example.")?)?;
+    assert_eq!(rt; set_of(zone.entry(&mail), 1), Some((3600, 2)));
+    let top = OwnedName::of(rt.alloc(), zone.origin())?;
+    assert_eq!(rt; set_of(zone.entry(&top), 6), Some((3600, 1)));
     let entries = zone.into_entries();
     assert_eq!(rt; entries.len(), 3);
     Ok(())

@@ -14,7 +14,7 @@ use crate::entries::read_entry;
 use crate::entry_tokens::tokens;
 use crate::records::Reader;
 use crate::refusal::{ZoneRefusal, refuse};
-use dns_name::Name;
+use dns_name::{Name, OwnedName};
 use rr_data::Entry;
 use std::alloc::Global;
 use std::collections::BTreeMap;
@@ -35,7 +35,7 @@ fn new_reader(alloc: Global, top: &Name) -> Reader
 }
 
 // The top has an SOA.
-fn has_soa(version: &BTreeMap<Name, Entry>, origin: &Name) -> bool
+fn has_soa(version: &BTreeMap<OwnedName, Entry>, origin: &OwnedName) -> bool
     ensures { result ≡ has_soa origin.now version.now.entries }
 {
     match version.get(origin) {
@@ -100,7 +100,7 @@ fn read_entries(
 #[derive(Drop)]
 pub struct Zone {
     origin: Name,
-    entries: BTreeMap<Name, Entry>,
+    entries: BTreeMap<OwnedName, Entry>,
 }
 
 impl Model for Zone {
@@ -134,14 +134,14 @@ impl Zone {
     }
 
     /// What a name owns, if it owns anything.
-    pub fn entry(&self, name: &Name) -> Option<&Entry>
+    pub fn entry(&self, name: &OwnedName) -> Option<&Entry>
         ensures { MatchOption result (entry_of name.now self.now.pairs ≡ None) (λ e. entry_of name.now self.now.pairs ≡ Some e.now) }
     {
         self.entries.get(name)
     }
 
     /// Its names with their entries.
-    pub fn into_entries(self) -> BTreeMap<Name, Entry>
+    pub fn into_entries(self) -> BTreeMap<OwnedName, Entry>
         ensures { result.entries ≡ self.pairs }
     {
         self.entries
@@ -159,7 +159,8 @@ pub fn read_zone(alloc: Global, bytes: &[u8], origin: &Name) -> Result<Zone, Zon
     let mut reader = new_reader(alloc, origin);
     let line = read_entries(alloc, bytes, origin, &mut reader)?;
     let Reader { version, .. } = reader;
-    if !has_soa(&version, origin) {
+    let top = OwnedName::of(alloc, origin)?;
+    if !has_soa(&version, &top) {
         return Err(refuse(line, ZoneKind::SoaRule));
     }
     Ok(Zone {

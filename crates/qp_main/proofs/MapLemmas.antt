@@ -1,5 +1,5 @@
 -- What a name owned is given back.
-use Rattle.std.proofs.Common.{◌≡◌, ◌∙◌, ℕ, Bool, true, false, cond, ◌+◌, ◌<◌, List, [], ◌∷◌, ◌++◌, length, map, drop, get_or, Option, Some, None, refl, sym, ap, Result, Ok, Err, unwrap_or, IfOk}
+use Rattle.std.proofs.Common.{◌≡◌, ◌∙◌, ℕ, Bool, true, false, cond, ◌+◌, ◌<◌, List, [], ◌∷◌, ◌++◌, length, map, drop, get_or, Option, Some, None, refl, sym, ap, subst, Result, Ok, Err, unwrap_or, IfOk}
 use Rattle.std.specs.List.{AllByRecursion}
 use Rattle.std.specs.List.Sorted.{IsStrictlySortedBy}
 use Rattle.std.specs.Ordering.{is_eq, match_ordering, ordering_reverse}
@@ -13,7 +13,11 @@ use Rattle.zone_model.specs.Records.{Entry}
 use Rattle.std.proofs.lemmas.List.{drop_more}
 use Rattle.zone_model.specs.Versions.{Version, Operation, Addition, entry_of, owned, put, apply, whole, and_then}
 use Rattle.zone_model.specs.declared.Refusal.{Refusal}
+use Rattle.zone_model.specs.Answers.{exists}
 use Rattle.zone_model.proofs.NameLemmas.{name_cmp-IsAntisymmetric}
+use Rattle.zone_model.proofs.OrderLemmas.{first_under, exists_near}
+use Rattle.std.specs.BTreeMap.Range.{entries_between}
+use Rattle.std.specs.declared.ops.Bound.TheVariants.{Included, Unbounded}
 use Rattle.std.specs.Option.{option_map}
 use Rattle.std.specs.declared.alloc.AllocError.{AllocError}
 use Rattle.qp_main.specs.Steps.{restored, undone}
@@ -123,8 +127,17 @@ restores k [] version (Some w) s h = back_again k version w s h
 restores k (x ∷ xs) version None s h = gone_again k version (x ∷ xs) h
 restores k (x ∷ xs) version (Some w) s h = back_in_place k version (x ∷ xs) w s h
 
-pub put_back : (k : Name) (entry : Entry) (version new : Version) (was : Option Entry) → IsStrictlySortedBy name_cmp (keys_of version) → was ≡ entry_of k version → new ≡ put k entry version → restored (record { name = k; was = was }) new ≡ version
+put_back : (k : Name) (entry : Entry) (version new : Version) (was : Option Entry) → IsStrictlySortedBy name_cmp (keys_of version) → was ≡ entry_of k version → new ≡ put k entry version → restored (record { name = k; was = was }) new ≡ version
 put_back k entry version new was s h e = ap (restored (record { name = k; was = was })) e ∙ restores k entry version was s (sym h)
+
+-- as it was logged under a name that is the same
+pub put_back_as : (k logged : Name) → k ≡ logged → (entry : Entry) (version new : Version) (was : Option Entry) → IsStrictlySortedBy name_cmp (keys_of version) → was ≡ entry_of k version → new ≡ put k entry version → restored (record { name = logged; was = was }) new ≡ version
+put_back_as k logged same entry version new was s h e = subst (λ (n : Name). restored (record { name = n; was = was }) new ≡ version) same (put_back k entry version new was s h e)
+
+-- ---- the first name that doesn't come before one
+
+pub exists_by : (least name : Name) → least ≡ name → (version : Version) → IsStrictlySortedBy name_cmp (keys_of version) → first_under name (entries_between name_cmp (Included least) Unbounded version) ≡ exists name version
+exists_by least name same version s = subst (λ (n : Name). first_under name (entries_between name_cmp (Included n) Unbounded version) ≡ exists name version) (sym same) (exists_near name version s)
 
 pub undone-push : (us : List Undo) (u : Undo) (version : Version) → undone (us ++ u ∷ []) version ≡ undone us (restored u version)
 undone-push [] u version = refl

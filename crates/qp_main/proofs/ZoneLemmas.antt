@@ -124,14 +124,14 @@ lines_stored top n (line ∷ lines) pending r h =
     let p = goes_on n line pending in
     then_any (line_tokens n line p.scan) (λ s.
     either (eqb s.depth 0)
-      (then_ok (entry_stored top p.first p.blank s.tokens r h) (λ next k. lines_stored top (n + 1) lines None next k))
-      (lines_stored top (n + 1) lines (Some (record p { scan = s })) r h))
+    (then_ok (entry_stored top p.first p.blank s.tokens r h) (λ next k. lines_stored top (n + 1) lines None next k))
+    (lines_stored top (n + 1) lines (Some (record p { scan = s })) r h))
 
 zone_storable : (top : Name) (lines : List (List ℕ)) → IfOk (zone_of top lines) AllStorable
 unfolding zone_of
 zone_storable top lines =
     let y : Yields AllStorable (zone_from top 1 lines None (at_first top) >>= with_soa top (length lines + 1)) =
-      then_ok (lines_stored top 1 lines None (at_first top) tt) (λ r h. either (has_soa top r.version) (record { holds = h }) refuses) in
+    then_ok (lines_stored top 1 lines None (at_first top) tt) (λ r h. either (has_soa top r.version) (record { holds = h }) refuses) in
     y.holds
 
 pub read_storable : (top : Name) (lines : List (List ℕ)) (version : Version) → zone_of top lines ≡ Ok version → AllByRecursion Storable version

@@ -1,14 +1,14 @@
 // Answers to questions, as they are printed.
-ghost use Rattle.std.specs.Prelude.{◌≡◌, ◌<◌, ◌≤◌, ◌++◌, ◌∷◌, [], ℕ, List, length, OnOk, OnErr, codes, decimal, drop, take, MatchOption, Some, None};
+ghost use Rattle.std.specs.Prelude.{◌≡◌, ◌<◌, ◌≤◌, ◌++◌, ◌∷◌, [], ℕ, List, length, OnOk, OnErr, IfOk, codes, decimal, drop, take, MatchOption, Some, None};
 ghost use Rattle.std.specs.List.{flat_map};
 ghost use Rattle.zone_model.specs.Records.{Rrset};
 ghost use Rattle.zone_model.specs.Answers.{answer, rows_of, exists};
 ghost use Rattle.zone_model.specs.Reports.{row_text, answer_text, count_text};
 
-use dns_name::Name;
+use dns_name::{Name, OwnedName};
 use itoa::Buffer;
 use rr_data::{Entry, Rdata, RrSet, push_type};
-use std::alloc::AllocError;
+use std::alloc::{AllocError, Global};
 use std::collections::BTreeMap;
 
 pub fn push_number(out: &mut Vec<u8>, number: u64) -> Result<(), AllocError>
@@ -19,12 +19,17 @@ pub fn push_number(out: &mut Vec<u8>, number: u64) -> Result<(), AllocError>
 }
 
 // Whether a name or one under it owns records: the first name that doesn't come before it tells.
-fn is_there(version: &BTreeMap<Name, Entry>, name: &Name) -> bool
-    ensures { result ≡ exists name.now version.now.entries }
+fn is_there(
+    alloc: Global,
+    version: &BTreeMap<OwnedName, Entry>,
+    name: &Name,
+) -> Result<bool, AllocError>
+    ensures { IfOk result (λ is. is ≡ exists name.now version.now.entries) }
 {
-    match version.range(*name..).next() {
-        Some((first, _)) => first.is_under(name),
-        None => false,
+    let least = OwnedName::of(alloc, name)?;
+    match version.range(least..).next() {
+        Some((first, _)) => Ok(first.name().is_under(name)),
+        None => Ok(false),
     }
 }
 
@@ -71,9 +76,10 @@ fn push_kind(out: &mut Vec<u8>, kind: &[u8], count: u64) -> Result<(), AllocErro
 
 /// Pushes the answer to a question of a name and a type.
 pub fn push_answer(
+    alloc: Global,
     out: &mut Vec<u8>,
     origin: &Name,
-    version: &BTreeMap<Name, Entry>,
+    version: &BTreeMap<OwnedName, Entry>,
     name: &Name,
     rtype: u16,
 ) -> Result<(), AllocError>
@@ -82,10 +88,11 @@ pub fn push_answer(
     if !name.is_under(origin) {
         return push_kind(out, b"OUTSIDE", 0);
     }
-    if !is_there(version, name) {
+    if !is_there(alloc, version, name)? {
         return push_kind(out, b"NXDOMAIN", 0);
     }
-    let Some(entry) = version.get(name) else {
+    let key = OwnedName::of(alloc, name)?;
+    let Some(entry) = version.get(&key) else {
         return push_kind(out, b"NODATA", 0);
     };
     match entry.find_set(rtype) {

@@ -74,13 +74,7 @@ fn both(verb: Verb, origin: &[u8], chunks: &[u8]) -> Option<Invocation>
 }
 
 // Two options with their values.
-fn two_settings(
-    verb: Verb,
-    first: &[u8],
-    a: &[u8],
-    second: &[u8],
-    b: &[u8],
-) -> Option<Invocation>
+fn two_settings(verb: Verb, first: &[u8], a: &[u8], second: &[u8], b: &[u8]) -> Option<Invocation>
     ensures { option_map invocation_view result ≡ settings_of verb (first.now ∷ a.now ∷ second.now ∷ b.now ∷ []) }
 {
     if first == b"--origin".as_slice() && second == b"--chunks".as_slice() {

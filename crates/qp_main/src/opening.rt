@@ -4,7 +4,7 @@ ghost use Rattle.std.specs.List.{AllByRecursion};
 ghost use Rattle.qp_main.specs.Fits.{Storable};
 ghost use Rattle.qp_main.specs.Openings.{Opens};
 
-use dns_name::Name;
+use dns_name::OwnedName;
 use rr_data::Entry;
 use std::alloc::{AllocError, Global};
 use std::collections::BTreeMap;
@@ -21,7 +21,7 @@ pub enum Opening {
 /// Builds the index of a version over some chunks.
 pub fn open(
     alloc: Global,
-    version: &BTreeMap<Name, Entry>,
+    version: &BTreeMap<OwnedName, Entry>,
     chunks: u32,
 ) -> Result<Opening, AllocError>
     requires enough { 16 ≤ chunks }

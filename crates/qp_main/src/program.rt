@@ -13,8 +13,8 @@ ghost use Rattle.qp_main.specs.InvocationViews.{invocation_view};
 ghost use Rattle.qp_main.specs.Fits.{Storable};
 ghost use Rattle.qp_main.specs.Due.{Answers, Checks, DueInput, IsWritten, IsUnwritten, Written, CutShort};
 
-use crate::gate::Gate;
 use crate::command_line::invocation_of;
+use crate::gate::Gate;
 use crate::invocation::{Invocation, Verb};
 use crate::opening::{Opening, open};
 use crate::parts::{Parts, split};
@@ -22,7 +22,7 @@ use crate::report::{no_room, script_refused, size_line, zone_refused};
 use crate::script::{ScriptStop, read_script};
 use crate::status::Status;
 use crate::worker::report_job;
-use dns_name::Name;
+use dns_name::OwnedName;
 use master_file::{ZoneRefusal, read_zone};
 use outer_io::{ReadRefusal, Sink, Source, read_all, write_all};
 use rr_data::Entry;
@@ -41,7 +41,7 @@ fn run_script<G: Gate>(
     invocation: &Invocation,
     bytes: &[u8],
     parts: Parts,
-    version: &mut BTreeMap<Name, Entry>,
+    version: &mut BTreeMap<OwnedName, Entry>,
     gate: &G,
 ) -> Result<(Status, Vec<u8>), AllocError>
     requires short { length bytes.now ≤ 2 ^ 24 }
@@ -73,7 +73,7 @@ fn run_script<G: Gate>(
 fn check_version(
     alloc: Global,
     chunks: u32,
-    version: &BTreeMap<Name, Entry>,
+    version: &BTreeMap<OwnedName, Entry>,
 ) -> Result<(Status, Vec<u8>), AllocError>
     requires enough { 16 ≤ chunks }
     requires few { chunks ≤ 4096 }

@@ -313,8 +313,7 @@ fn inside(
             Err(ScriptStop::Refused(line, ScriptKind::BadCommand))
         }
         Phrase::Adds(_, _, _, _) | Phrase::Deletes(_, _)
-            if block.operations.len() >= OPERATION_LIMIT =>
-        {
+            if block.operations.len() >= OPERATION_LIMIT => {
             Err(ScriptStop::Refused(line, ScriptKind::TooMany))
         }
         Phrase::Adds(owner, ttl, rtype, tokens) => {

@@ -10,7 +10,7 @@ ghost use Rattle.qp_main.specs.Steps.{Gives, Applies, Transacts, restored, undon
 ghost use Rattle.qp_main.specs.declared.versions.Stopped.TheVariants.{Memory};
 
 use crate::operations::{NewRecord, Operation};
-use dns_name::Name;
+use dns_name::{Name, OwnedName};
 use rr_data::{Entry, Rdata};
 use std::alloc::{AllocError, AllocFailed, Global};
 use std::collections::BTreeMap;
@@ -53,7 +53,7 @@ impl<T: Drop> From<AllocFailed<T>> for Stopped {
 /// What a name owned before a change.
 #[derive(Drop)]
 pub struct Undo {
-    pub name: Name,
+    pub name: OwnedName,
     pub was: Option<Entry>,
 }
 
@@ -181,7 +181,11 @@ fn changed(
 }
 
 // What a name owns.
-fn owned(alloc: Global, version: &BTreeMap<Name, Entry>, name: &Name) -> Result<Entry, AllocError>
+fn owned(
+    alloc: Global,
+    version: &BTreeMap<OwnedName, Entry>,
+    name: &OwnedName,
+) -> Result<Entry, AllocError>
     ensures { IfOk result (λ e. e ≡ owned name.now version.now.entries) }
 {
     match version.get(name) {
@@ -192,19 +196,19 @@ fn owned(alloc: Global, version: &BTreeMap<Name, Entry>, name: &Name) -> Result<
 
 // Gives a name another entry, and answers the one before.
 fn put(
-    version: &mut BTreeMap<Name, Entry>,
-    name: &Name,
+    version: &mut BTreeMap<OwnedName, Entry>,
+    name: OwnedName,
     entry: Entry,
 ) -> Result<Option<Entry>, AllocError>
     requires { IsStrictlySortedBy name_cmp (keys_of version.old.entries) }
-    ensures put { OnOk result (version.new.entries ≡ put name.now entry version.old.entries) }
-    ensures was { IfOk result (λ was. was ≡ entry_of name.now version.old.entries) }
+    ensures put { OnOk result (version.new.entries ≡ put name entry version.old.entries) }
+    ensures was { IfOk result (λ was. was ≡ entry_of name version.old.entries) }
     ensures ordered { IsStrictlySortedBy name_cmp (keys_of version.new.entries) }
 {
     if entry.is_empty() {
-        Ok(version.remove(name))
+        Ok(version.remove(&name))
     } else {
-        Ok(version.insert(*name, entry)?)
+        Ok(version.insert(name, entry)?)
     }
 }
 
@@ -212,7 +216,7 @@ fn put(
 fn apply(
     alloc: Global,
     origin: &Name,
-    version: &mut BTreeMap<Name, Entry>,
+    version: &mut BTreeMap<OwnedName, Entry>,
     operation: &Operation,
     log: &mut Vec<Undo>,
 ) -> Result<(), Stopped>
@@ -221,14 +225,15 @@ fn apply(
     ensures undoes { Undoes result version.old.entries version.new.entries log.old.items log.new.items }
     ensures ordered { IsStrictlySortedBy name_cmp (keys_of version.new.entries) }
 {
-    let name = operation.owner();
-    let before = owned(alloc, version, name)?;
+    let name = OwnedName::of(alloc, operation.owner())?;
+    let before = owned(alloc, version, &name)?;
     let entry = match changed(alloc, origin, operation, before) {
         Ok(entry) => entry,
         Err(stopped) => return Err(stopped),
     };
+    let logged = OwnedName::of(alloc, operation.owner())?;
     let was = put(version, name, entry)?;
-    log.push(Undo { name: *name, was })?;
+    log.push(Undo { name: logged, was })?;
     Ok(())
 }
 
@@ -236,7 +241,7 @@ fn apply(
 fn apply_all(
     alloc: Global,
     origin: &Name,
-    version: &mut BTreeMap<Name, Entry>,
+    version: &mut BTreeMap<OwnedName, Entry>,
     operations: &[Operation],
     log: &mut Vec<Undo>,
 ) -> Result<(), Stopped>
@@ -252,7 +257,7 @@ fn apply_all(
 }
 
 // Gives a name back what it owned.
-fn restore(version: &mut BTreeMap<Name, Entry>, undo: Undo) -> Result<(), AllocError>
+fn restore(version: &mut BTreeMap<OwnedName, Entry>, undo: Undo) -> Result<(), AllocError>
     ensures { OnOk result (version.new.entries ≡ restored undo version.old.entries) }
 {
     let Undo { name, was } = undo;
@@ -268,7 +273,7 @@ fn restore(version: &mut BTreeMap<Name, Entry>, undo: Undo) -> Result<(), AllocE
 }
 
 // Takes back the changes of a log, the last first.
-fn take_back(version: &mut BTreeMap<Name, Entry>, mut log: Vec<Undo>) -> Result<(), AllocError>
+fn take_back(version: &mut BTreeMap<OwnedName, Entry>, mut log: Vec<Undo>) -> Result<(), AllocError>
     ensures { OnOk result (version.new.entries ≡ undone log.items version.old.entries) }
 {
     while let Some(last) = log.pop() {
@@ -281,7 +286,7 @@ fn take_back(version: &mut BTreeMap<Name, Entry>, mut log: Vec<Undo>) -> Result<
 pub fn transact(
     alloc: Global,
     origin: &Name,
-    version: &mut BTreeMap<Name, Entry>,
+    version: &mut BTreeMap<OwnedName, Entry>,
     operations: &[Operation],
 ) -> Result<Option<Refusal>, AllocError>
     ensures { IfOk result (λ refused. Transacts refused version.old.entries version.new.entries (whole origin.now (map operation_view operations.now) version.old.entries)) }

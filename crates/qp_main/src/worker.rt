@@ -12,7 +12,7 @@ use crate::operations::Operation;
 use crate::report::{push_committed, push_end, push_head, push_refused};
 use crate::status::Status;
 use crate::versions::transact;
-use dns_name::Name;
+use dns_name::{Name, OwnedName};
 use rr_data::Entry;
 use std::alloc::{AllocError, Global};
 use std::collections::BTreeMap;
@@ -28,7 +28,7 @@ pub struct Progress {
 fn run_block(
     alloc: Global,
     origin: &Name,
-    version: &mut BTreeMap<Name, Entry>,
+    version: &mut BTreeMap<OwnedName, Entry>,
     operations: &[Operation],
     number: u64,
     last: u64,
@@ -61,8 +61,9 @@ fn run_block(
 
 // Runs one query.
 fn run_query(
+    alloc: Global,
     origin: &Name,
-    version: &BTreeMap<Name, Entry>,
+    version: &BTreeMap<OwnedName, Entry>,
     name: &Name,
     rtype: u16,
     number: u64,
@@ -73,7 +74,7 @@ fn run_query(
     ensures few { IfOk result (λ p. p.last ≤ last + 1) }
 {
     push_head(out, 1, number, last)?;
-    push_answer(out, origin, version, name, rtype)?;
+    push_answer(alloc, out, origin, version, name, rtype)?;
     Ok(Progress {
         last,
         refused: false,
@@ -84,7 +85,7 @@ fn run_query(
 fn run_command(
     alloc: Global,
     origin: &Name,
-    version: &mut BTreeMap<Name, Entry>,
+    version: &mut BTreeMap<OwnedName, Entry>,
     command: &Command,
     number: u64,
     last: u64,
@@ -95,7 +96,9 @@ fn run_command(
     ensures few { IfOk result (λ p. p.last ≤ last + 1) }
 {
     match command {
-        Command::Get(name, rtype) => run_query(origin, version, name, *rtype, number, last, out),
+        Command::Get(name, rtype) => {
+            run_query(alloc, origin, version, name, *rtype, number, last, out)
+        }
         Command::Block(operations) => {
             run_block(alloc, origin, version, operations, number, last, out)
         }
@@ -123,7 +126,7 @@ fn status_of(refused: bool) -> Status
 fn run_commands<G: Gate>(
     alloc: Global,
     origin: &Name,
-    version: &mut BTreeMap<Name, Entry>,
+    version: &mut BTreeMap<OwnedName, Entry>,
     commands: &[Command],
     gate: &G,
     out: &mut Vec<u8>,
@@ -148,7 +151,7 @@ fn run_commands<G: Gate>(
 pub fn report_job<G: Gate>(
     alloc: Global,
     origin: &Name,
-    version: &mut BTreeMap<Name, Entry>,
+    version: &mut BTreeMap<OwnedName, Entry>,
     commands: &[Command],
     gate: &G,
 ) -> Result<(Status, Vec<u8>), AllocError>

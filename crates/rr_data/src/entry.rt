@@ -62,6 +62,9 @@ fn add_to(
         }
         Err(at) => {
             let set = RrSet::of(alloc, rtype, ttl, added)?;
+            if sets.is_empty() {
+                sets.reserve_exact(1)?;
+            }
             sets.insert(at, set)?;
             Ok(true)
         }

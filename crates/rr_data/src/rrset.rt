@@ -101,7 +101,7 @@ impl RrSet {
     pub fn of(alloc: Global, rtype: u16, ttl: u32, added: Rdata) -> Result<Self, AllocError>
         ensures { IfOk result (λ s. s ≡ fresh rtype ttl added) }
     {
-        let mut records = Vec::new(alloc);
+        let mut records = Vec::with_capacity(alloc, 1)?;
         records.push(added)?;
         Ok(RrSet {
             rtype,
