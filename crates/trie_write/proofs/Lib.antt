@@ -1,0 +1,4 @@
+pub mod ItemLaws
+pub mod FrameLaws
+pub mod WeightLaws
+pub mod OutlineLaws

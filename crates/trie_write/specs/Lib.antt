@@ -1,0 +1,5 @@
+pub mod Named
+pub mod Entries
+pub mod Frames
+pub mod Weights
+pub mod Runs

@@ -1,0 +1,10 @@
+//! Changing a trie, over any cells and any space that hands them out.
+#![tactic(auto)]
+
+pub mod item;
+mod room;
+mod runs;
+mod size;
+
+pub use item::{Item, ItemRefusal};
+pub use size::cells;
