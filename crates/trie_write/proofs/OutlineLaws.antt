@@ -17,7 +17,7 @@ use Rattle.trie_model.proofs.OrderLaws.{one_insertion}
 short_row : (n : ℕ) → n ≤ 1024 → IsRow 0 n
 short_row n l = record { inside = omega arith; together = omega arith }
 
-item_row : (e : Entry) → IsEntry e → IsRow 0 (cells_in e.item)
+pub item_row : (e : Entry) → IsEntry e → IsRow 0 (cells_in e.item)
 item_row e is = short_row (cells_in e.item) (let s = is.item.short in omega arith)
 
 abbrev More : Entry → ℕ → Tree → Type 0

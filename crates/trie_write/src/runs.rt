@@ -2,7 +2,8 @@
 
 ghost use Rattle.std.specs.Prelude.{◌≡◌, ◌+◌, ◌<◌, ◌≤◌, ℕ, List, length};
 ghost use Rattle.trie_model.specs.Keys.{Rises};
-ghost use Rattle.trie_model.specs.Shape.{first_difference, keys_of};
+ghost use Rattle.trie_model.specs.Trees.{Twigs, IsTree, entries};
+ghost use Rattle.trie_model.specs.Trees.Tree.{branch};
 ghost use Rattle.trie_write.specs.Entries.{entries_of_items};
 ghost use Rattle.trie_write.specs.Runs.{NeverFalls, IsFirstRun};
 
@@ -17,11 +18,12 @@ pub struct Run {
     pub count: usize,
 }
 
-/// The first place at which two of the keys differ: that at which the first and the last do.
+/// The offset of the branch at the top of the items' trie: the first place at which two of the keys differ, and so the
+/// first and the last do.
 pub fn offset_of(items: &[Item]) -> u16
     requires two { 2 ≤ length items.now }
     requires rising { Rises (entries_of_items items.now) }
-    ensures { result ≡ first_difference (keys_of (entries_of_items items.now)) }
+    ensures { (o w : ℕ) (below : Twigs) → IsTree 0 (branch o w below) → entries below ≡ entries_of_items items.now → result ≡ o }
 {
     let last = &items[items.len() - 1];
     items[0].key().first_difference(&last.key()).unwrap()

@@ -36,8 +36,9 @@ fn cells_below(items: &[Item]) -> u64
     let mut rest = items;
     while !rest.is_empty() {
         let run = first_run(rest, offset);
-        whole = whole.saturating_add(cells_below(&rest[..run.count]));
-        rest = &rest[run.count..];
+        let (below, later) = rest.split_at(run.count);
+        whole = whole.saturating_add(cells_below(below));
+        rest = later;
     }
     whole
 }
