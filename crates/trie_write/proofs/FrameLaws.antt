@@ -18,6 +18,9 @@ grows_then a b = record { stays = λ q u. b.stays q (a.stays q u); settled = λ 
 pub grows_refl : (u f : ℕ → Bool) → Grows u u f f
 grows_refl u f = record { stays = λ q h. h; settled = λ q h. refl; fresher = λ q h. h }
 
+pub frame_refl : {h : ℕ → Cell → Type 0} {k : List ℕ} {g : List Bool} {u f : ℕ → Bool} → Frame h h k k g g u u f f
+frame_refl {u = u} {f = f} = record { stays = λ q c m h. h; frozen = λ q c m h. h; keeps = refl; given_stays = λ k h. h; grows = grows_refl u f }
+
 pub frame_then : {h0 h1 h2 : ℕ → Cell → Type 0} {k0 k1 k2 : List ℕ} {g0 g1 g2 : List Bool} {u0 u1 u2 f0 f1 f2 : ℕ → Bool} →
     Frame h0 h1 k0 k1 g0 g1 u0 u1 f0 f1 → Frame h1 h2 k1 k2 g1 g2 u1 u2 f1 f2 → Frame h0 h2 k0 k2 g0 g2 u0 u2 f0 f2
 frame_then {f1 = f1} {f2 = f2} a b = record {

@@ -4,3 +4,5 @@ pub mod WeightLaws
 pub mod OutlineLaws
 pub mod RunLaws
 pub mod PlanLaws
+pub mod TwigLaws
+pub mod BuildLaws

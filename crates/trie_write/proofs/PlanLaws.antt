@@ -33,7 +33,7 @@ abbrev pub twig_sizes : Twigs → ℕ
 twig_sizes none = 0
 twig_sizes (twig p t rest) = size t + twig_sizes rest
 
-row_ones : (r n : ℕ) → row one r n ≡ n
+pub row_ones : (r n : ℕ) → row one r n ≡ n
 row_ones r zero = refl
 row_ones r (suc n) = let a = row_ones (suc r) n in omega arith
 
@@ -96,22 +96,22 @@ pub record Plan (o : ℕ) (all rest : List Entry) (done : ℕ) : Type 0 where
   pub later : AreTwigs o low left
   pub low_inside : low ≤ 47
 
-pub plan_start : (o w : ℕ) (below : Twigs) (all : List Entry) → IsTree 0 (branch o w below) → entries below ≡ all → Plan o all all 0
+abbrev pub plan_start : (o w : ℕ) (below : Twigs) (all : List Entry) → IsTree 0 (branch o w below) → entries below ≡ all → Plan o all all 0
 plan_start o w below all tree holds = record { first = w; low = 0; gone = none; left = below; whole = tree; all_is = holds; rest_is = holds; done_is = refl; later = tree.5; low_inside = omega arith }
 
 pub plan_falls : {o done : ℕ} {all rest : List Entry} → Plan o all rest done → NeverFalls o rest
 plan_falls {o} plan = subst (NeverFalls o) plan.rest_is (never_falls o plan.low plan.left plan.later)
 
 -- a step: the next twig has the next run's entries
-pub record Step (o : ℕ) (all rest : List Entry) (done p n : ℕ) : Type 0 where
+pub record Step {o : ℕ} {all rest : List Entry} {done : ℕ} (plan : Plan o all rest done) (p n : ℕ) : Type 0 where
   pub here : Tree
-  pub position : ℕ
-  pub more : Twigs
-  pub same : position ≡ p
   pub deeper : IsTree (suc o) here
   pub holds : entries_of here ≡ take n rest
   pub rises : Rises (take n rest)
   pub next : Plan o all (drop n rest) (done + cells (take n rest))
+  pub next_gone : next.gone ≡ beside plan.gone (twig p here none)
+  pub next_low : next.low ≡ suc p
+  pub later : plan.low ≤ p
   pub fewer : n < length all
   pub sizes : done + cells (take n rest) < cells all
 
@@ -133,12 +133,9 @@ cells_all : (o w : ℕ) (below : Twigs) (all : List Entry) → IsTree 0 (branch 
 cells_all o w below all tree holds = ap cells (sym holds) ∙ size_is 0 (branch o w below) tree ∙ size_branch o w below
 
 module _ {o done : ℕ} {all rest : List Entry} (plan : Plan o all rest done) {p n : ℕ} (run : IsFirstRun o rest p n) where
-  step_twig : (q : ℕ) (t : Tree) (more : Twigs) → plan.left ≡ twig q t more → Step o all rest done p n
+  step_twig : (q : ℕ) (t : Tree) (more : Twigs) → plan.left ≡ twig q t more → Step plan p n
   step_twig q t more is = record {
     here = t;
-    position = q;
-    more = more;
-    same = same;
     deeper = twigs.3;
     holds = parts.0;
     rises = subst Rises parts.0 (rises_tree (suc o) t twigs.3);
@@ -154,6 +151,9 @@ module _ {o done : ℕ} {all rest : List Entry} (plan : Plan o all rest done) {p
       later = twigs.4;
       low_inside = twigs.1;
     };
+    next_gone = ap (λ (x : ℕ). beside plan.gone (twig x t none)) same;
+    next_low = ap suc same;
+    later = (let a = twigs.0 in let b = same in omega arith);
     fewer = (let a = entries_all in let b = length_here in elim others [
       | inl g ↦ (let c = some_twigs o 0 plan.gone gone_twigs g in omega arith)
       | inr m ↦ (let c = some_twigs o (suc q) more twigs.4 m in omega arith)
@@ -207,10 +207,10 @@ module _ {o done : ℕ} {all rest : List Entry} (plan : Plan o all rest done) {p
           let a = plan.whole.3 in let b = count-beside plan.gone plan.left in let c = ap count is in
           elim (cases_lt 0 (count plan.gone)) [ inl g ↦ inl g | inr g ↦ inr (omega arith) ]
 
-  pub plan_step : Step o all rest done p n
+  pub plan_step : Step plan p n
   plan_step = go plan.left refl
     where
-      go : (left : Twigs) → plan.left ≡ left → Step o all rest done p n
+      go : (left : Twigs) → plan.left ≡ left → Step plan p n
       go none is = absurd (let a = ap (λ (ts : Twigs). length (entries ts)) is in let b = ap (λ (es : List Entry). length es) plan.rest_is in let s = run.some in let w = run.within in omega arith)
       go (twig q t more) is = step_twig q t more is
 

@@ -3,3 +3,5 @@ pub mod Entries
 pub mod Frames
 pub mod Weights
 pub mod Runs
+pub mod Builds
+pub mod Standing

@@ -1,8 +1,10 @@
 //! Changing a trie, over any cells and any space that hands them out.
 #![tactic(auto)]
 
+mod build;
 pub mod item;
 mod room;
+mod row;
 mod runs;
 mod size;
 
