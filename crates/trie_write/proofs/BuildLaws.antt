@@ -17,13 +17,15 @@ use Rattle.trie_model.specs.Trees.Twigs.{none, twig}
 use Rattle.trie_model.proofs.BitmapLaws.{Rising, below_all, few, count-beside, bitmap_of-beside}
 use Rattle.trie_model.proofs.SplitLaws.{entries-beside, twigs_join}
 use Rattle.trie_model.proofs.CountLaws.{under, weigh_is, under-beside}
-use Rattle.trie_model.proofs.MoveLaws.{Keeps}
+use Rattle.trie_model.proofs.MoveLaws.{Keeps, beneath_kept}
+use Rattle.trie_model.proofs.ReachLaws.{met, live_is}
 use Rattle.trie_model.proofs.TopLaws.{is_node}
 use Rattle.chunk_usage.specs.Rooms.{Room}
 use Rattle.trie_write.specs.Weights.{at_place, mark}
 use Rattle.trie_write.specs.Runs.{IsFirstRun}
 use Rattle.trie_write.specs.Builds.{Built}
-use Rattle.trie_write.proofs.WeightLaws.{row_fresh, mark_tells}
+use Rattle.trie_write.specs.Standing.{Standing}
+use Rattle.trie_write.proofs.WeightLaws.{row_fresh, mark_tells, mark_le, within_met}
 use Rattle.trie_write.proofs.OutlineLaws.{item_row}
 use Rattle.trie_write.proofs.PlanLaws.{Plan, Step, Planned, plan_start, plan_end, size_is, row_ones}
 use Rattle.trie_write.proofs.TwigLaws.{tops_of, AllBeneath, AllWithin, lie_of, tops-beside, length-tops, beneath_join, all_kept, all_within_met, rising_push, agree_tree, deepen}
@@ -187,3 +189,23 @@ pub record Making (has : ℕ → Cell → Type 0) (used used_now : ℕ → Bool)
   pub made : Made has used used_now live live_now o all rest bits cs done
   -- each twig's own cell is still to come
   pub cost : spent_now + length cs ≤ spent + done
+
+-- a root of its own
+pub root_stands : {has has_new : ℕ → Cell → Type 0} {used used_now new fresh : ℕ → Bool} {given : List Bool} {live live_now live_new : ℕ → ℕ} {es : List Entry} {cell : Cell} {r : ℕ} → ((k : ℕ) → live k ≡ 0) → Built has used used_now live live_now es cell → Room used_now new fresh given r 1 → Keeps used_now has has_new → ((q : ℕ) → used_now q ≡ true → new q ≡ true) →
+    has_new (r + 0) cell → ((k : ℕ) → live_new k ≡ live_now k + row (in_chunk k) r 1) → Standing has_new new live_new (Some r) es
+root_stands {has} {has_new} {used} {used_now} {new} {live = live} {live_now} {live_new} {cell = cell} {r = r} uncounted b room keep stays written counts = (
+  b.tree,
+  record {
+    trie = record {
+      shape = b.shape;
+      inside = (let i = room.row.inside in omega arith);
+      top = subst (has_new r) b.is (let e : r + 0 ≡ r = omega arith in subst (λ (q : ℕ). has_new q cell) e written);
+      beneath = beneath_kept used_now has has_new keep b.tree (within_met used_now b.tree (λ q l. mark_tells used_now q (let f = b.fresh q in omega arith))) b.beneath;
+      once = λ q. let a = met q r b.tree in let f = b.fresh q in let h = row_fresh room stays q in let m = mark_le new q in omega arith;
+      holds = b.holds;
+    };
+    top_in_use = (let e : r + 0 ≡ r = omega arith in subst (λ (q : ℕ). new q ≡ true) e (room.taken 0 (omega arith)));
+    in_use = within_met new b.tree (λ q l. stays q (mark_tells used_now q (let f = b.fresh q in omega arith)));
+    counted = λ k. let a = live_is k r b.tree in let z = uncounted k in let f = b.counts k in let d = counts k in omega arith;
+  },
+)

@@ -4,7 +4,7 @@ use Rattle.trie_write.specs.Builds.{Built}
 use Rattle.trie_write.specs.Entries.{entry_of}
 use Rattle.trie_write.proofs.RunLaws.{item_entry}
 use Rattle.trie_write.proofs.BuildLaws.{entry_cells, leaf_built, leaf_node}
-use Rattle.trie_write.proofs.build.build_leaf.Goals as goal
+use Rattle.trie_write.proofs.bulk.build_leaf.Goals as goal
 
 pub returns-in_err-leaf-clause-spends : goal.returns-in_err-leaf-clause-spends
 returns-in_err-leaf-clause-spends g c =

@@ -12,7 +12,7 @@ use Rattle.trie_write.proofs.RunLaws.{branching}
 use Rattle.trie_write.proofs.PlanLaws.{plan_falls, plan_step}
 use Rattle.trie_write.proofs.BuildLaws as building
 use Rattle.trie_write.proofs.BuildLaws.{Made, Making}
-use Rattle.trie_write.proofs.build.+build_below.Goals as goal
+use Rattle.trie_write.proofs.bulk.+build_below.Goals as goal
 
 pub loop-rest-init : goal.loop-rest-init
 loop-rest-init g t c =

@@ -3,7 +3,7 @@ use Rattle.chunk_usage.specs.Rooms.{Ready}
 use Rattle.trie_write.specs.Entries.{entries_of_items}
 use Rattle.trie_write.specs.Frames.{Frame}
 use Rattle.trie_write.proofs.BuildLaws.{Making}
-use Rattle.trie_write.proofs.build.+build_below.Given as goal
+use Rattle.trie_write.proofs.bulk.+build_below.Given as goal
 
 abbrev pub invariant-loop-rest : goal.invariant-loop-rest
 invariant-loop-rest g l =
