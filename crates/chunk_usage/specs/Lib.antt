@@ -1,1 +1,5 @@
+pub mod Ledger
 pub mod Rooms
+pub mod Inside
+pub mod Handing
+pub mod Keeping

@@ -29,6 +29,7 @@ pub trait Space {
     ghost use Rattle.std.specs.Prelude.{◌≡◌, ◌+◌, ◌%◌, ◌<◌, ◌≤◌, ℕ, Bool, List, IfOk, OnOk, OnErr, IfErr, IsTrue};
     ghost use Rattle.trie_model.specs.Reach.{row, in_chunk};
     ghost use Rattle.chunk_usage.specs.declared.space.Full.{Full};
+    ghost use Rattle.chunk_usage.specs.Ledger.{Frozen};
     ghost use Rattle.chunk_usage.specs.Rooms.{GivesChunk, Room, Grows};
 
     // The cell has been handed out: its chunk is given, and if it is the open one, it lies before the next free cell.
@@ -47,6 +48,9 @@ pub trait Space {
     // another only where fewer than 256 of its cells are left, so n cells raise it by no more than n.
     ghost spent: { Self → ℕ };
 
+    // What was kept at freezes. No call here changes it.
+    ghost frozen: { Self → Frozen };
+
     // These numbers say why there is no room.
     ghost lacks: { Self → Full → Type 0 };
 
@@ -59,6 +63,7 @@ pub trait Space {
         ensures grows { Grows (used self.old) (used self.new) (fresh self.old) (fresh self.new) }
         ensures counts { IfOk result (λ g. (k : ℕ) → live self.new k ≡ live self.old k + row (in_chunk k) g.at n) }
         ensures spends { OnOk result (spent self.new ≤ spent self.old + n) }
+        ensures frozen { frozen self.new ≡ frozen self.old }
         ensures full { IfErr result (λ f. lacks self.new f) }
         ensures refused { OnErr result (self.new ≡ self.old) };
 
@@ -71,6 +76,7 @@ pub trait Space {
         ensures fresh { (q : ℕ) → fresh self.new q ≡ fresh self.old q }
         ensures given { given self.new ≡ given self.old }
         ensures spent { spent self.new ≡ spent self.old }
+        ensures frozen { frozen self.new ≡ frozen self.old }
         ensures lacks { (f : Full) → lacks self.old f → lacks self.new f };
 
     /// No cell counts any more.
@@ -80,5 +86,6 @@ pub trait Space {
         ensures fresh { (q : ℕ) → fresh self.new q ≡ fresh self.old q }
         ensures given { given self.new ≡ given self.old }
         ensures spent { spent self.new ≡ spent self.old }
+        ensures frozen { frozen self.new ≡ frozen self.old }
         ensures lacks { (f : Full) → lacks self.old f → lacks self.new f };
 }

@@ -1,0 +1,68 @@
+-- Each change of a ledger leaves a ledger.
+use Rattle.std.proofs.Common.{◌≡◌, ℕ, ◌/◌, ◌%◌, ◌<◌, Bool, true, false, List, [], ◌∷◌, length, slice_index, slice_index_or, slice_set, ◌∙◌, sym, ap, inl, inr, arith}
+use Rattle.std.specs.Prelude.{Option, None, Some, nat_le, ◌==◌, ◌||◌, ◌&&◌}
+use Rattle.std.specs.List.{AllByRecursion}
+use Rattle.std.proofs.lemmas.Bool.{cases_lt}
+use Rattle.std.proofs.lemmas.Bool.Decides.{nat_tests}
+use Rattle.std.proofs.lemmas.List.{length-set, get_or-set_same}
+use Rattle.std.proofs.lemmas.Grind.{get_or-set_at}
+use Rattle.chunk_usage.specs.declared.open.Open.{Open}
+use Rattle.chunk_usage.specs.Ledger.{Row, Ledger, IsLedger, AreCounts, IsOpen, IsRowOf, is_open, is_fresh, filled}
+use Rattle.chunk_usage.specs.Handing.{with_open}
+use Rattle.chunk_usage.proofs.FlagLemmas.{set_stays}
+
+-- what is given in a list of chunks is given in the other
+abbrev Grown : List Bool → List Bool → Type 0
+Grown given new = (k : ℕ) → slice_index_or given k false ≡ true → slice_index_or new k false ≡ true
+
+counts_grown : (given new : List Bool) (live : List ℕ) → Grown given new → AreCounts given live → AreCounts new live
+counts_grown given new live g h = record { most = h.most; in_given = λ k l. g k (h.in_given k l) }
+
+open_grown : (given new : List Bool) (live : List ℕ) (o : Option Open) → Grown given new → IsOpen given live o → IsOpen new live o
+open_grown given new live None g h = h
+open_grown given new live (Some o) g h = (h.0, g o.chunk h.1, h.2)
+
+rows_grown : (given new : List Bool) (rows : List Row) → length new ≡ length given → Grown given new → AllByRecursion (IsRowOf given) rows → AllByRecursion (IsRowOf new) rows
+rows_grown given new [] e g h = h
+rows_grown given new (r ∷ rows) e g h = (record { wide = h.0.wide ∙ sym e; in_given = λ k t. g k (h.0.in_given k t) }, rows_grown given new rows e g h.1)
+
+differ : true ≡ false → ⊥
+differ e = cc
+
+-- a free chunk becomes the open one
+module _ (l : Ledger) (h : IsLedger l) (c : ℕ) (within : c < length l.given) (free : slice_index_or l.given c false ≡ false) where
+  grown : Grown l.given (slice_set l.given c true)
+  grown k t = set_stays l.given c k t
+
+  -- none of its cells counts
+  none_live : slice_index l.live c ≡ 0
+  none_live = elim (cases_lt 0 (slice_index l.live c)) [
+    | inl some ↦ (let t = h.counts.in_given c some in absurd (differ (sym t ∙ free)))
+    | inr none ↦ omega arith
+  ]
+
+  pub opened_fresh : (q : ℕ) → (c == q / 1024) ≡ true → is_fresh (with_open l c) q ≡ true
+  opened_fresh q e = ap (λ b. b || (is_open l.last_open (q / 1024) && nat_le (filled l.last_open) (q % 1024))) (get_or-set_at l.since c (q / 1024) true false (same q e) (let n = h.known_since in omega arith))
+    where
+      same : (q : ℕ) → (c == q / 1024) ≡ true → q / 1024 ≡ c
+      same q e = grind (arith, nat_tests)
+
+  pub with_open_ledger : IsLedger (with_open l c)
+  with_open_ledger = record {
+    some = let n = length-set l.given c true in let m = h.some in omega arith;
+    few = let n = length-set l.given c true in let m = h.few in omega arith;
+    counted = h.counted ∙ sym (length-set l.given c true);
+    known_since = length-set l.since c true ∙ h.known_since ∙ sym (length-set l.given c true);
+    counted_last = h.counted_last ∙ sym (length-set l.given c true);
+    some_passes = h.some_passes;
+    few_passes = h.few_passes;
+    counts = counts_grown l.given _ l.live grown h.counts;
+    last_counts = counts_grown l.given _ l.last_live grown h.last_counts;
+    opened = (omega arith, get_or-set_same l.given c true false within, let z = none_live in omega arith);
+    last_opened = open_grown l.given _ l.last_live l.last_open grown h.last_opened;
+    left_fresh = λ q e f. opened_fresh q e;
+    few_rows = h.few_rows;
+    rising = h.rising;
+    rows_given = rows_grown l.given _ l.rows (length-set l.given c true) grown h.rows_given;
+    newest_row = h.newest_row;
+  }

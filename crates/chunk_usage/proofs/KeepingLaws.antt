@@ -1,0 +1,144 @@
+-- Each change of the kept versions leaves a ledger.
+use Rattle.std.proofs.Common.{◌≡◌, ◌≢◌, ℕ, ◌+◌, ◌/◌, ◌%◌, ◌<◌, ◌≤◌, nat_lt, Bool, true, false, not, List, [], ◌∷◌, ◌++◌, length, map, replicate, slice_index, slice_index_or, slice_set, refl, ◌∙◌, sym, subst, ap, inl, inr, arith, length-append}
+use Rattle.std.specs.Prelude.{Option, None, Some, IfSome, cond, filter, nat_le, ◌==◌, ◌||◌, ◌&&◌, if◌then◌else◌}
+use Rattle.std.specs.List.{AllByRecursion}
+use Rattle.std.proofs.lemmas.Bool.{cases_eq, cases_lt}
+use Rattle.std.proofs.lemmas.Bool.Decides.{nat_tests}
+use Rattle.std.proofs.lemmas.List.{length-set, length-map, length-replicate, get_or-map, get_or-replicate, get_or_past}
+use Rattle.chunk_usage.specs.declared.open.Open.{Open}
+use Rattle.chunk_usage.specs.Ledger.{Row, Ledger, IsLedger, AreCounts, IsOpen, IsRowOf, Rising, IsNewest, newest, row_of, is_in_row, is_given, is_open, is_used, is_fresh, filled}
+use Rattle.chunk_usage.specs.Keeping.{AreOlder, frozen, dropped, without_row, is_row_of}
+use Rattle.chunk_usage.proofs.FlagLemmas.{set_within}
+
+-- a row put behind older ones
+rising_more : (rows : List Row) (r : Row) → Rising rows → AreOlder rows r.version → Rising (rows ++ r ∷ [])
+rising_more [] r h older = (tt, tt)
+rising_more (s ∷ rows) r h older = (all_more rows h.0, rising_more rows r h.1 older.1)
+  where
+    all_more : (rows : List Row) → AllByRecursion (λ t. s.version < t.version) rows → AllByRecursion (λ t. s.version < t.version) (rows ++ r ∷ [])
+    all_more [] a = (older.0, tt)
+    all_more (t ∷ rows) a = (a.0, all_more rows a.1)
+
+rows_more : (given : List Bool) (rows : List Row) (r : Row) → AllByRecursion (IsRowOf given) rows → IsRowOf given r → AllByRecursion (IsRowOf given) (rows ++ r ∷ [])
+rows_more given [] r h new = (new, tt)
+rows_more given (s ∷ rows) r h new = (h.0, rows_more given rows r h.1 new)
+
+newest_more : (rows : List Row) (r : Row) → newest (rows ++ r ∷ []) ≡ Some r
+newest_more [] r = refl
+newest_more (s ∷ []) r = refl
+newest_more (s ∷ t ∷ rows) r = newest_more (t ∷ rows) r
+
+-- a chunk in the row of some counts has a cell that counts
+row_counts : (live : List ℕ) (k : ℕ) → slice_index_or (row_of live) k false ≡ true → 0 < slice_index live k
+row_counts live k t =
+    let w : k < length live = subst (λ (n : ℕ). k < n) (length-map live (nat_lt 0)) (set_within (row_of live) k t) in
+    let e = sym (get_or-map (nat_lt 0) live k 0 false w) ∙ t in
+    grind (arith, nat_tests, e)
+
+-- flags that are all clear
+none_set : (n k : ℕ) → slice_index_or (replicate n false) k false ≡ false
+none_set n k = elim (cases_lt k n) [ inl l ↦ get_or-replicate n k false false l | inr past ↦ get_or_past (replicate n false) k false (let e = length-replicate n false in omega arith) ]
+
+pub frozen_ledger : (l : Ledger) → IsLedger l → (version : ℕ) → length l.rows < l.passes + 2 → AreOlder l.rows version → IsLedger (frozen l version)
+frozen_ledger l h version room older = record {
+  some = h.some;
+  few = h.few;
+  counted = h.counted;
+  known_since = length-replicate (length l.since) false ∙ h.known_since;
+  counted_last = h.counted;
+  some_passes = h.some_passes;
+  few_passes = h.few_passes;
+  counts = h.counts;
+  last_counts = h.counts;
+  opened = h.opened;
+  last_opened = h.opened;
+  left_fresh = λ q e f. let z = none_set (length l.since) (q / 1024) in grind (arith, nat_tests, z, e);
+  few_rows = let n = length-append l.rows (record { version = version; chunks = row_of l.live } ∷ []) in omega arith;
+  rising = rising_more l.rows _ h.rising older;
+  rows_given = rows_more l.given l.rows _ h.rows_given (record { wide = length-map l.live (nat_lt 0) ∙ h.counted; in_given = λ k t. h.counts.in_given k (row_counts l.live k t) });
+  newest_row = subst (IsNewest l.live) (sym (newest_more l.rows _)) refl;
+}
+
+-- what is in use at a freeze isn't fresh
+pub frozen_settled : (l : Ledger) (version : ℕ) (q : ℕ) → is_used (frozen l version) q ≡ true → is_fresh (frozen l version) q ≡ false
+frozen_settled l version q u = go l.open_chunk u
+  where
+    go : (o : Option Open) → (if is_open o (q / 1024) then nat_lt (q % 1024) (filled o) else is_given l (q / 1024)) ≡ true
+        → (slice_index_or (replicate (length l.since) false) (q / 1024) false || (is_open o (q / 1024) && nat_le (filled o) (q % 1024))) ≡ false
+    go None u = let z = none_set (length l.since) (q / 1024) in grind (arith, nat_tests, z)
+    go (Some o) u = let z = none_set (length l.since) (q / 1024) in grind (arith, nat_tests, z, u)
+
+-- a ledger whose fields are those of the frozen one
+pub frozen_alike : (l m : Ledger) → l ≡ m → IsLedger l → (version : ℕ) → length m.rows < m.passes + 2 → AreOlder m.rows version → (since : List Bool) (last : List ℕ) (rows : List Row)
+    → since ≡ replicate (length l.since) false → last ≡ l.live → rows ≡ l.rows ++ record { version = version; chunks = row_of l.live } ∷ []
+    → IsLedger (record l { since = since; last_live = last; last_open = l.open_chunk; rows = rows })
+frozen_alike l m same h version room older since last rows a b c =
+    let e : record l { since = since; last_live = last; last_open = l.open_chunk; rows = rows } ≡ frozen l version = cc in
+    subst IsLedger (sym e) (frozen_ledger l h version (subst (λ (n : Ledger). length n.rows < n.passes + 2) (sym same) room) (subst (λ (n : Ledger). AreOlder n.rows version) (sym same) older))
+
+-- what is left of rows without one version
+all_left : (P : Row → Type 0) (rows : List Row) (version : ℕ) → AllByRecursion P rows → AllByRecursion P (without_row version rows)
+all_left P [] version h = tt
+all_left P (r ∷ rows) version h = go (is_row_of version r) (all_left P rows version h.1)
+  where
+    go : (b : Bool) → AllByRecursion P (without_row version rows) → AllByRecursion P (cond (not b) (r ∷ without_row version rows) (without_row version rows))
+    go true rest = rest
+    go false rest = (h.0, rest)
+
+rising_left : (rows : List Row) (version : ℕ) → Rising rows → Rising (without_row version rows)
+rising_left [] version h = tt
+rising_left (r ∷ rows) version h = go (is_row_of version r) (rising_left rows version h.1)
+  where
+    go : (b : Bool) → Rising (without_row version rows) → Rising (cond (not b) (r ∷ without_row version rows) (without_row version rows))
+    go true rest = rest
+    go false rest = (all_left (λ (s : Row). r.version < s.version) rows version h.0, rest)
+
+fewer_left : (rows : List Row) (version : ℕ) → length (without_row version rows) ≤ length rows
+fewer_left [] version = omega arith
+fewer_left (r ∷ rows) version = go (is_row_of version r) (fewer_left rows version)
+  where
+    go : (b : Bool) → length (without_row version rows) ≤ length rows → length (cond (not b) (r ∷ without_row version rows) (without_row version rows)) ≤ length (r ∷ rows)
+    go true rest = omega arith
+    go false rest = omega arith
+
+some_newest : (r : Row) (rows : List Row) → None ≡ newest (r ∷ rows) → ⊥
+some_newest r [] e = cc
+some_newest r (s ∷ rows) e = some_newest s rows e
+
+newest_left : (rows : List Row) (version : ℕ) → IfSome (newest rows) (λ r. r.version ≢ version) → newest (without_row version rows) ≡ newest rows
+newest_left [] version other = refl
+newest_left (r ∷ []) version other = go (is_row_of version r) (λ e. other (grind (arith, nat_tests)))
+  where
+    go : (b : Bool) → (b ≡ true → ⊥) → newest (cond (not b) (r ∷ []) []) ≡ Some r
+    go true n = absurd (n refl)
+    go false n = refl
+newest_left (r ∷ s ∷ rows) version other = go (is_row_of version r) (without_row version (s ∷ rows)) (newest_left (s ∷ rows) version other)
+  where
+    go : (b : Bool) (rest : List Row) → newest rest ≡ newest (s ∷ rows) → newest (cond (not b) (r ∷ rest) rest) ≡ newest (s ∷ rows)
+    go true rest e = e
+    go false [] e = absurd (some_newest s rows e)
+    go false (t ∷ rest) e = e
+
+pub dropped_ledger : (l : Ledger) → IsLedger l → (version : ℕ) → IfSome (newest l.rows) (λ r. r.version ≢ version) → IsLedger (dropped l version)
+dropped_ledger l h version other = record {
+  some = h.some;
+  few = h.few;
+  counted = h.counted;
+  known_since = h.known_since;
+  counted_last = h.counted_last;
+  some_passes = h.some_passes;
+  few_passes = h.few_passes;
+  counts = h.counts;
+  last_counts = h.last_counts;
+  opened = h.opened;
+  last_opened = h.last_opened;
+  left_fresh = h.left_fresh;
+  few_rows = let n = fewer_left l.rows version in let m = h.few_rows in omega arith;
+  rising = rising_left l.rows version h.rising;
+  rows_given = all_left (IsRowOf l.given) l.rows version h.rows_given;
+  newest_row = subst (IsNewest l.last_live) (sym (newest_left l.rows version other)) h.newest_row;
+}
+
+pub dropped_alike : (l m : Ledger) → l ≡ m → IsLedger l → (version : ℕ) → IfSome (newest m.rows) (λ r. r.version ≢ version) → (rows : List Row) → rows ≡ without_row version l.rows → IsLedger (record l { rows = rows })
+dropped_alike l m same h version other rows e =
+    subst (λ (rs : List Row). IsLedger (record l { rows = rs })) (sym e) (dropped_ledger l h version (subst (λ (n : Ledger). IfSome (newest n.rows) (λ r. r.version ≢ version)) (sym same) other))

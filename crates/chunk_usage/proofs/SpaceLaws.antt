@@ -1,0 +1,176 @@
+-- What an allocation is to the crates that change a trie.
+use Rattle.std.proofs.Common.{◌≡◌, ◌≢◌, ℕ, ◌+◌, ◌-◌, ◌*◌, ◌/◌, ◌%◌, ◌<◌, ◌≤◌, Bool, true, false, not, length, slice_index, slice_index_or, refl, ◌∙◌, sym, subst, ap, inl, inr, arith}
+use Rattle.std.specs.Prelude.{Option, None, Some, Result, Ok, Err, IfOk, OnOk, nat_lt, nat_le, ◌==◌, ◌||◌, ◌&&◌, if◌then◌else◌}
+use Rattle.std.proofs.lemmas.Bool.{cases_eq, cases_Bool}
+use Rattle.std.proofs.lemmas.Bool.Decides.{nat_tests}
+use Rattle.std.proofs.lemmas.List.{length-set, get_or-set_other}
+use Rattle.std.proofs.lemmas.Grind.{get_or-set_at}
+use Rattle.std.proofs.lemmas.List.Sums.{count_by-le-length}
+use Rattle.trie_model.specs.Reach.{row, in_chunk}
+use Rattle.chunk_usage.specs.declared.open.Open.{Open}
+use Rattle.chunk_usage.specs.declared.space.Grant.{Grant}
+use Rattle.chunk_usage.specs.declared.space.Full.{Full}
+use Rattle.chunk_usage.specs.Rooms.{Room, GivesChunk, Grows}
+use Rattle.chunk_usage.specs.Ledger.{Ledger, IsLedger, IsOpen, is_given, is_open, is_used, is_fresh, filled, left, free_count, reserve_of}
+use Rattle.chunk_usage.specs.Handing.{lowest_free, with_open, taken, next_cell, roomy, granted_from, allocated_from, grant_of, allocated, shortage, spent, unspent}
+use Rattle.chunk_usage.proofs.FlagLemmas.{set_stays, set_within, get_set, get_clear, one_fewer_clear, First, first_is}
+use Rattle.chunk_usage.proofs.RowLemmas.{counts_more}
+use Rattle.chunk_usage.proofs.HandingLaws.{opened_fresh}
+
+pub record Hands (l new : Ledger) (n : ℕ) (r : Result Grant Full) : Type 0 where
+  pub room : IfOk r (λ g. Room (is_used l) (is_used new) (is_fresh new) new.given g.at n)
+  pub gives : IfOk r (λ g. GivesChunk l.given new.given g.given)
+  pub grows : Grows (is_used l) (is_used new) (is_fresh l) (is_fresh new)
+  pub counts : IfOk r (λ g. (k : ℕ) → slice_index new.live k ≡ slice_index l.live k + row (in_chunk k) g.at n)
+  pub spends : OnOk r (spent new ≤ spent l + n)
+
+differ : true ≡ false → ⊥
+differ e = cc
+
+-- a cell in use lies in a given chunk
+used_given : (l : Ledger) → IsLedger l → (q : ℕ) → is_used l q ≡ true → is_given l (q / 1024) ≡ true
+used_given l h q u = go l.open_chunk h.opened u
+  where
+    go : (o : Option Open) → IsOpen l.given l.live o → (if is_open o (q / 1024) then nat_lt (q % 1024) (filled o) else is_given l (q / 1024)) ≡ true → is_given l (q / 1024) ≡ true
+    go None h u = u
+    go (Some o) h u = elim (cases_eq o.chunk (q / 1024)) [
+      | inl e ↦ subst (λ (k : ℕ). is_given l k ≡ true) e h.1
+      | inr ne ↦ grind (arith, nat_tests)
+    ]
+
+-- from the open chunk
+module _ (l : Ledger) (h : IsLedger l) (n : ℕ) (some : 0 < n) (o : Open) (is : l.open_chunk ≡ Some o) (enough : n ≤ 1024 - o.filled) where
+  opened : IsOpen l.given l.live (Some o)
+  opened = subst (IsOpen l.given l.live) is h.opened
+
+  used_at : (q : ℕ) → is_used l q ≡ (if o.chunk == q / 1024 then nat_lt (q % 1024) o.filled else is_given l (q / 1024))
+  used_at q = ap (λ (p : Option Open). if is_open p (q / 1024) then nat_lt (q % 1024) (filled p) else is_given l (q / 1024)) is
+
+  inside : o.chunk < length l.given
+  inside = set_within l.given o.chunk opened.1
+
+  in_chunk_at : (i : ℕ) → i < n → (next_cell o + i) / 1024 ≡ o.chunk
+  in_chunk_at i lt = omega arith
+
+  place_at : (i : ℕ) → i < n → (next_cell o + i) % 1024 ≡ o.filled + i
+  place_at i lt = omega arith
+
+  left_fresh : (q : ℕ) → q / 1024 ≡ o.chunk → o.filled ≤ q % 1024 → is_fresh l q ≡ true
+  left_fresh q c p = subst (λ (p : Option Open). is_open p (q / 1024) ≡ true → filled p ≤ q % 1024 → is_fresh l q ≡ true) is (h.left_fresh q) (grind (arith, nat_tests)) p
+
+  stays : (q : ℕ) → is_used l q ≡ true → is_used (taken l o n) q ≡ true
+  stays q u = let e = sym (used_at q) ∙ u in grind (arith, nat_tests, e)
+
+  spends : spent (taken l o n) ≤ spent l + n
+  spends = let u = ap unspent is in omega arith
+
+  open_room : Room (is_used l) (is_used (taken l o n)) (is_fresh l) l.given (next_cell o) n
+  open_room = record {
+    row = record { inside = let f = h.few in let i = inside in omega arith; together = let p = place_at 0 some in omega arith };
+    unused = λ i lt. let c = in_chunk_at i lt in let p = place_at i lt in used_at (next_cell o + i) ∙ grind (arith, nat_tests);
+    taken = λ i lt. let c = in_chunk_at i lt in let p = place_at i lt in grind (arith, nat_tests);
+    writable = λ i lt. left_fresh (next_cell o + i) (in_chunk_at i lt) (let p = place_at i lt in omega arith);
+    in_given = get_set l.given (next_cell o / 1024) (subst (λ (k : ℕ). slice_index_or l.given k false ≡ true) (let c = in_chunk_at 0 some in omega arith) opened.1);
+  }
+
+  open_hands : Hands l (taken l o n) n (Ok (record { at = next_cell o; given = None }))
+  open_hands = record {
+    room = open_room;
+    gives = refl;
+    grows = record { stays = stays; settled = λ q u. refl; fresher = λ q f. f };
+    counts = λ k. counts_more (next_cell o) n open_room.row.together l.live o.chunk k (let c = in_chunk_at 0 some in omega arith) (let e = h.counted in let i = inside in omega arith);
+    spends = spends;
+  }
+
+-- from a free chunk
+abbrev newly : Ledger → ℕ → ℕ → Ledger
+newly l n c = taken (with_open l c) (record { chunk = c; filled = 0 }) n
+
+module _ (l : Ledger) (h : IsLedger l) (n : ℕ) (some : 0 < n) (few : n ≤ 256) (short : left l.open_chunk < n) (c : ℕ) (first : First c l.given) where
+  -- what is in use lies in another chunk
+  elsewhere : (q : ℕ) → is_used l q ≡ true → q / 1024 ≢ c
+  elsewhere q u e = differ (sym (used_given l h q u) ∙ (ap (λ (k : ℕ). is_given l k) e ∙ first.clear))
+
+  not_used : (q : ℕ) → q / 1024 ≡ c → is_used l q ≡ false
+  not_used q e = elim (cases_Bool (is_used l q)) [ inl u ↦ absurd (elsewhere q u e) | inr u ↦ u ]
+
+  new_chunk_at : (i : ℕ) → i < n → (c * 1024 + i) / 1024 ≡ c
+  new_chunk_at i lt = omega arith
+
+  new_place_at : (i : ℕ) → i < n → (c * 1024 + i) % 1024 ≡ i
+  new_place_at i lt = omega arith
+
+  new_taken : (i : ℕ) → i < n → is_used (newly l n c) (c * 1024 + i) ≡ true
+  new_taken i lt = let e = new_chunk_at i lt in let p = new_place_at i lt in grind (arith, nat_tests)
+
+  new_fresh : (q : ℕ) → q / 1024 ≡ c → is_fresh (newly l n c) q ≡ true
+  new_fresh q e = opened_fresh l h c first.within first.clear q (grind (arith, nat_tests))
+
+  new_room : Room (is_used l) (is_used (newly l n c)) (is_fresh (newly l n c)) (newly l n c).given (c * 1024) n
+  new_room = record {
+    row = record { inside = let f = h.few in let w = first.within in omega arith; together = omega arith };
+    unused = λ i lt. not_used (c * 1024 + i) (new_chunk_at i lt);
+    taken = new_taken;
+    writable = λ i lt. new_fresh (c * 1024 + i) (new_chunk_at i lt);
+    in_given = get_set _ (c * 1024 / 1024) (get_or-set_at l.given c (c * 1024 / 1024) true false (omega arith) first.within);
+  }
+
+  new_stays : (q : ℕ) → is_used l q ≡ true → is_used (newly l n c) q ≡ true
+  new_stays q u =
+      let other = elsewhere q u in
+      let given = set_stays l.given c (q / 1024) (used_given l h q u) in
+      grind (arith, nat_tests)
+
+  new_settled : (q : ℕ) → is_used l q ≡ true → is_fresh (newly l n c) q ≡ is_fresh l q
+  new_settled q u = ap (λ (b : Bool). b || (is_open l.last_open (q / 1024) && nat_le (filled l.last_open) (q % 1024))) (get_or-set_other l.since c (q / 1024) true false (elsewhere q u))
+
+  new_fresher : (q : ℕ) → is_fresh l q ≡ true → is_fresh (newly l n c) q ≡ true
+  new_fresher q f = grown (slice_index_or l.since (q / 1024) false) _ _ f (set_stays l.since c (q / 1024))
+    where
+      grown : (a b rest : Bool) → (a || rest) ≡ true → (a ≡ true → b ≡ true) → (b || rest) ≡ true
+      grown true b rest f g = ap (λ (x : Bool). x || rest) (g refl)
+      grown false true rest f g = refl
+      grown false false rest f g = f
+
+  new_spends : spent (newly l n c) ≤ spent l + n
+  new_spends =
+      let fewer = one_fewer_clear l.given c first.within first.clear in
+      let most = count_by-le-length not l.given in
+      let e = length-set l.given c true in
+      let z = all_spent l.open_chunk short in
+      omega arith
+    where
+      all_spent : (o : Option Open) → left o < n → unspent o ≡ 0
+      all_spent None short = refl
+      all_spent (Some o) short = omega arith
+
+  new_hands : Hands l (newly l n c) n (Ok (record { at = c * 1024; given = Some c }))
+  new_hands = record {
+    room = new_room;
+    gives = (get_clear l.given c first.within first.clear, refl);
+    grows = record { stays = new_stays; settled = new_settled; fresher = new_fresher };
+    counts = λ k. counts_more (c * 1024) n new_room.row.together l.live c k (omega arith) (let e = h.counted in let w = first.within in omega arith);
+    spends = new_spends;
+  }
+
+none_hands : (l : Ledger) (n : ℕ) (f : Full) → Hands l l n (Err f)
+none_hands l n f = record { room = tt; gives = tt; grows = record { stays = λ q u. u; settled = λ q u. refl; fresher = λ q t. t }; counts = tt; spends = tt }
+
+module _ (l : Ledger) (h : IsLedger l) (n : ℕ) (some : 0 < n) (few : n ≤ 256) where
+  by_free : (b : Bool) → nat_le (free_count l) (reserve_of l) ≡ b → left l.open_chunk < n
+      → Hands l (if b then l else taken (with_open l (lowest_free l)) (record { chunk = lowest_free l; filled = 0 }) n) n (if b then Err (shortage l n) else Ok (record { at = lowest_free l * 1024; given = Some (lowest_free l) }))
+  by_free true e short = none_hands l n (shortage l n)
+  by_free false e short = new_hands l h n some few short (lowest_free l) (first_is (lowest_free l) l.given l.given refl refl (grind (arith, nat_tests)))
+
+  by_open : (o : Option Open) → l.open_chunk ≡ o → Hands l (allocated_from l n (roomy o n)) n (granted_from l n (roomy o n))
+  by_open None is = by_free (nat_le (free_count l) (reserve_of l)) refl (let e = ap left is in omega arith)
+  by_open (Some o) is = by_left (nat_le n (1024 - o.filled)) refl
+    where
+      by_left : (b : Bool) → nat_le n (1024 - o.filled) ≡ b → Hands l (allocated_from l n (if b then Some o else None)) n (granted_from l n (if b then Some o else None))
+      by_left true e = open_hands l h n some o is (grind (arith, nat_tests))
+      by_left false e = by_free (nat_le (free_count l) (reserve_of l)) refl (let room = ap left is in grind (arith, nat_tests, e))
+
+-- an allocation, by what it answered and left
+pub handed : (l : Ledger) → IsLedger l → (n : ℕ) → 0 < n → n ≤ 256 → (new : Ledger) (r : Result Grant Full) → new ≡ allocated l n → r ≡ grant_of l n → Hands l new n r
+handed l h n some few new r e f =
+    subst (λ (m : Ledger). Hands l m n r) (sym e) (subst (Hands l (allocated l n) n) (sym f) (by_open l h n some few l.open_chunk refl))

@@ -1,0 +1,23 @@
+use Rattle.std.proofs.Common.{◌≡◌, ◌-◌, List, length, take, sym, ap, ◌∙◌, subst, arith}
+use Rattle.std.specs.List.{All}
+use Rattle.std.proofs.lemmas.List.{with_items_is}
+use Rattle.chunk_usage.specs.Ledger.{Row}
+use Rattle.chunk_usage.specs.Keeping.{without_row}
+use Rattle.chunk_usage.specs.Inside.{ledger_of}
+use Rattle.chunk_usage.proofs.KeepingLaws.{dropped_alike}
+use Rattle.chunk_usage.proofs.usage.Usage.drop_version.Goals as goal
+
+pub invariant_of-self : goal.invariant_of-self
+invariant_of-self c =
+    let s = c.self.inside in
+    let n : length c.forget_row.new.slots ≡ s.slots.len = c.forget_row.ensures.length ∙ c.deref_mut.ensures.len in
+    let new = with_items_is s.slots c.forget_row.new.slots n in
+    let old = c.deref_mut.ensures.value in
+    record {
+      ledger = dropped_alike (ledger_of s) c.args.self.now c.self.view_is c.self.invariant.ledger c.args.version c.requires.old _
+          (ap (take (s.kept - 1)) new ∙ c.forget_row.ensures.rows ∙ ap (λ (rows : List Row). without_row c.args.version (take s.kept rows)) old);
+      free = c.self.invariant.free;
+      slots = ap length new ∙ c.forget_row.ensures.length ∙ ap length old ∙ c.self.invariant.slots;
+      within = let w = c.self.invariant.within in omega arith;
+      wide = subst (All (λ (r : Row). length r.chunks ≡ length s.given.items)) (sym new) (c.forget_row.ensures.wide (length s.given.items) (subst (All (λ (r : Row). length r.chunks ≡ length s.given.items)) (sym old) c.self.invariant.wide));
+    }

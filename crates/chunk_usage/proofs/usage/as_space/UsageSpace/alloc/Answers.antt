@@ -1,0 +1,22 @@
+use Rattle.std.proofs.Common.{subst}
+use Rattle.chunk_usage.specs.Ledger.{IsLedger}
+use Rattle.chunk_usage.proofs.SpaceLaws.{Hands, handed}
+use Rattle.chunk_usage.proofs.usage.as_space.UsageSpace.alloc.Goals as goal
+
+hands : (c : goal.After-alloc) → Hands c.args.self.now c.alloc.new.self c.args.n c.alloc.result
+hands c = handed c.args.self.now (subst IsLedger c.self.view_is c.self.invariant.ledger) c.args.n c.requires.some c.requires.few c.alloc.new.self c.alloc.result c.alloc.ensures.after c.alloc.ensures.grant
+
+pub returns-clause-room : goal.returns-clause-room
+returns-clause-room c = (hands c).room
+
+pub returns-clause-gives : goal.returns-clause-gives
+returns-clause-gives c = (hands c).gives
+
+pub returns-clause-grows : goal.returns-clause-grows
+returns-clause-grows c = (hands c).grows
+
+pub returns-clause-counts : goal.returns-clause-counts
+returns-clause-counts c = (hands c).counts
+
+pub returns-clause-spends : goal.returns-clause-spends
+returns-clause-spends c = (hands c).spends

@@ -1,0 +1,133 @@
+-- What is known of the chunks: which are given, how many of their cells count, and how that was at the last freeze.
+use Rattle.std.specs.Prelude.{◌≡◌, ℕ, ◌+◌, ◌-◌, ◌/◌, ◌%◌, ◌<◌, ◌≤◌, nat_lt, nat_le, ◌==◌, Bool, true, false, not, ◌&&◌, ◌||◌, if◌then◌else◌, Option, None, Some, List, [], ◌∷◌, length, map, replicate, count_by, slice_index, slice_index_or}
+use Rattle.std.specs.List.{AllByRecursion}
+use Rattle.chunk_usage.specs.declared.open.Open.{Open}
+
+-- of each chunk, whether a kept version has cells in it
+pub record Row : Type 0 where
+  pub version : ℕ
+  pub chunks : List Bool
+
+pub record Ledger : Type 0 where
+  pub live : List ℕ  -- of each chunk, how many of its cells count
+  pub given : List Bool  -- of each chunk, whether it is given
+  pub since : List Bool  -- whether it was given since the last freeze
+  pub open_chunk : Option Open  -- the chunk that cells are handed out from
+  pub last_live : List ℕ  -- the counts at the last freeze
+  pub last_open : Option Open  -- the open chunk at the last freeze
+  pub rows : List Row  -- of the kept versions, the oldest first
+  pub passes : ℕ
+
+-- what freezes left: nothing that hands out or releases cells changes it
+pub record Frozen : Type 0 where
+  pub live : List ℕ
+  pub open_chunk : Option Open
+  pub rows : List Row
+  pub passes : ℕ
+
+abbrev pub frozen_part : Ledger → Frozen
+frozen_part l = record { live = l.last_live; open_chunk = l.last_open; rows = l.rows; passes = l.passes }
+
+-- the chunk is the open one; how many of the open one's cells are handed out, and how many are left
+abbrev pub is_open : Option Open → ℕ → Bool
+is_open None chunk = false
+is_open (Some o) chunk = o.chunk == chunk
+
+abbrev pub filled : Option Open → ℕ
+filled None = 0
+filled (Some o) = o.filled
+
+abbrev pub left : Option Open → ℕ
+left None = 0
+left (Some o) = 1024 - o.filled
+
+abbrev pub is_given : Ledger → ℕ → Bool
+is_given l chunk = slice_index_or l.given chunk false
+
+-- how many chunks are free, and how many are kept free
+abbrev pub free_count : Ledger → ℕ
+free_count l = count_by not l.given
+
+abbrev pub reserve_of : Ledger → ℕ
+reserve_of l = length l.given / 4
+
+-- the cell is handed out: its chunk is given, and if that is the open one, it lies before those that are left
+abbrev pub is_used : Ledger → ℕ → Bool
+is_used l q = if is_open l.open_chunk (q / 1024) then nat_lt (q % 1024) (filled l.open_chunk) else is_given l (q / 1024)
+
+-- the cell was not handed out at the last freeze: its chunk was given since then, or was open then with this cell left
+abbrev pub is_fresh : Ledger → ℕ → Bool
+is_fresh l q = slice_index_or l.since (q / 1024) false || (is_open l.last_open (q / 1024) && nat_le (filled l.last_open) (q % 1024))
+
+-- the row that the counts make: the chunks with a cell that counts
+abbrev pub row_of : List ℕ → List Bool
+row_of live = map (nat_lt 0) live
+
+-- some row has the chunk
+abbrev pub is_in_row : Row → ℕ → Bool
+is_in_row r chunk = slice_index_or r.chunks chunk false
+
+-- the chunks of the newest row, which is behind all others; none where there is no row
+abbrev pub newest : List Row → Option Row
+newest [] = None
+newest (r ∷ []) = Some r
+newest (r ∷ s ∷ rows) = newest (s ∷ rows)
+
+-- versions rise
+abbrev pub Rising : List Row → Type 0
+Rising [] = Unit {0}
+Rising (r ∷ rows) = AllByRecursion (λ s. r.version < s.version) rows × Rising rows
+
+-- What holds of each ledger.
+
+-- an open chunk is given, and no more of its cells count than are handed out
+abbrev pub IsOpen : List Bool → List ℕ → Option Open → Type 0
+IsOpen given live None = Unit {0}
+IsOpen given live (Some o) = (o.filled ≤ 1024) × (slice_index_or given o.chunk false ≡ true) × (slice_index live o.chunk ≤ o.filled)
+
+-- counts of cells: at most all of a chunk, and none of a free one
+pub record AreCounts (given : List Bool) (live : List ℕ) : Type 0 where
+  pub most : (k : ℕ) → slice_index live k ≤ 1024
+  pub in_given : (k : ℕ) → 0 < slice_index live k → slice_index_or given k false ≡ true
+
+-- the row has a flag for each chunk, and only given chunks
+pub record IsRowOf (given : List Bool) (r : Row) : Type 0 where
+  pub wide : length r.chunks ≡ length given
+  pub in_given : (k : ℕ) → is_in_row r k ≡ true → slice_index_or given k false ≡ true
+
+-- the newest row is that of the counts at the last freeze
+abbrev pub IsNewest : List ℕ → Option Row → Type 0
+IsNewest last_live None = (k : ℕ) → slice_index last_live k ≡ 0
+IsNewest last_live (Some r) = r.chunks ≡ row_of last_live
+
+pub record IsLedger (l : Ledger) : Type 0 where
+  pub some : 1 ≤ length l.given
+  pub few : length l.given ≤ 4096
+  pub counted : length l.live ≡ length l.given
+  pub known_since : length l.since ≡ length l.given
+  pub counted_last : length l.last_live ≡ length l.given
+  pub some_passes : 1 ≤ l.passes
+  pub few_passes : l.passes ≤ 64
+  pub counts : AreCounts l.given l.live
+  pub last_counts : AreCounts l.given l.last_live
+  pub opened : IsOpen l.given l.live l.open_chunk
+  pub last_opened : IsOpen l.given l.last_live l.last_open
+  -- the cells that the open chunk has left were not handed out at the last freeze
+  pub left_fresh : (q : ℕ) → is_open l.open_chunk (q / 1024) ≡ true → filled l.open_chunk ≤ q % 1024 → is_fresh l q ≡ true
+  pub few_rows : length l.rows ≤ l.passes + 2
+  pub rising : Rising l.rows
+  pub rows_given : AllByRecursion (IsRowOf l.given) l.rows
+  pub newest_row : IsNewest l.last_live (newest l.rows)
+
+-- all chunks are free, and no version is kept
+abbrev pub unused : ℕ → ℕ → Ledger
+unused chunks passes = record {
+  live = replicate chunks 0;
+  given = replicate chunks false;
+  since = replicate chunks false;
+  open_chunk = None;
+  last_live = replicate chunks 0;
+  last_open = None;
+  rows = [];
+  passes = passes;
+}

@@ -1,0 +1,9 @@
+//! The chunk that cells are handed out from.
+
+/// A chunk, from whose front on cells are handed out.
+#[derive(Clone, Copy, PartialEq, Eq, Debug)]
+pub struct Open {
+    pub chunk: u32,
+    /// How many of its cells are handed out, at most 1,024.
+    pub filled: u32,
+}

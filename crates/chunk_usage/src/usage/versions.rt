@@ -1,0 +1,83 @@
+//! Kept versions.
+
+ghost use Rattle.std.specs.Prelude.{◌≡◌, ◌≢◌, ◌<◌, ◌≤◌, ◌+◌, ◌-◌, ℕ, true, false, length, IfSome, take};
+ghost use Rattle.std.specs.List.{All, position_or_len};
+ghost use Rattle.chunk_usage.specs.Ledger.{Row, Rising, is_used, is_fresh, newest};
+ghost use Rattle.chunk_usage.specs.Keeping.{AreOlder, dropped, frozen, is_kept, is_row_of, restored, without_row};
+
+use super::Usage;
+use crate::row::KeptRow;
+
+impl Usage {
+    /// Keeps the row of the live cells for a version. What is in use now is not written until the version is dropped.
+    pub fn freeze(&mut self, version: u64)
+        requires room { length self.old.rows < self.old.passes + 2 }
+        requires newer { AreOlder self.old.rows version }
+        ensures after { self.new ≡ frozen self.old version }
+        ensures settled { (q : ℕ) → is_used self.new q ≡ true → is_fresh self.new q ≡ false }
+    {
+        let slot = &mut self.slots[self.kept];
+        slot.set(version, &self.live);
+        self.kept += 1;
+        self.since.fill(false);
+        self.last_live.copy_from_slice(&self.live);
+        self.last_open = self.open_chunk;
+    }
+
+    /// Goes back to the live cells and the open chunk of the last freeze. Chunks that were given since stay given.
+    pub fn restore(&mut self)
+        ensures after { self.new ≡ restored self.old }
+        ensures used { (q : ℕ) → is_used self.old q ≡ true → is_fresh self.old q ≡ false → is_used self.new q ≡ true }
+    {
+        self.live.copy_from_slice(&self.last_live);
+        self.open_chunk = self.last_open;
+    }
+
+    /// Keeps the row of a version no more.
+    pub fn drop_version(&mut self, version: u64)
+        requires kept { is_kept self.old.rows version ≡ true }
+        requires old { IfSome (newest self.old.rows) (λ r. r.version ≢ version) }
+        ensures { self.new ≡ dropped self.old version }
+    {
+        forget_row(&mut self.slots, self.kept, version);
+        self.kept -= 1;
+    }
+}
+
+/// Takes the row of a version from the rows in the first slots. Its slot is then the last of theirs.
+fn forget_row(slots: &mut [KeptRow], rows: usize, version: u64)
+    requires slots { rows ≤ length slots.old }
+    requires kept { is_kept (take rows slots.old) version ≡ true }
+    requires rising { Rising (take rows slots.old) }
+    ensures length { length slots.new ≡ length slots.old }
+    ensures rows { take (rows - 1) slots.new ≡ without_row version (take rows slots.old) }
+    ensures wide { (n : ℕ) → All (λ (r : Row). length r.chunks ≡ n) slots.old → All (λ (r : Row). length r.chunks ≡ n) slots.new }
+{
+    put_last(&mut slots[..rows], version);
+}
+
+/// Moves the row of a version behind all others.
+fn put_last(rows: &mut [KeptRow], version: u64)
+    requires kept { is_kept rows.old version ≡ true }
+    requires rising { Rising rows.old }
+    ensures length { length rows.new ≡ length rows.old }
+    ensures others { take (length rows.old - 1) rows.new ≡ without_row version rows.old }
+    ensures wide { (n : ℕ) → All (λ (r : Row). length r.chunks ≡ n) rows.old → All (λ (r : Row). length r.chunks ≡ n) rows.new }
+{
+    let place = place_of(rows, version);
+    rows[place..].rotate_left(1);
+}
+
+/// The place of the first row of a version.
+fn place_of(rows: &[KeptRow], version: u64) -> usize
+    requires { is_kept rows.now version ≡ true }
+    ensures within { result < length rows.now }
+    ensures first { result ≡ position_or_len (is_row_of version) rows.now }
+{
+    for (place, row) in rows.iter().enumerate() {
+        if row.is_of(version) {
+            return place;
+        }
+    }
+    rows.len()
+}
