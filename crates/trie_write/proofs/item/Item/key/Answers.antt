@@ -1,0 +1,18 @@
+use Rattle.std.proofs.Common.{◌≡◌, ◌++◌, List, ℕ, Option, Some, None, refl, sym, ◌∙◌, ap, subst}
+use Rattle.std.specs.Option.{IsSome, IsNone}
+use Rattle.zone_model.specs.Names.{Name, IsName, BeginsWith}
+use Rattle.zone_model.specs.Keys.{key_of}
+use Rattle.trie_write.specs.Named.{key_in}
+use Rattle.trie_write.proofs.ItemLaws.{IsStored, name_of, some_or, key_in-begins}
+use Rattle.trie_write.proofs.item.Item.key.Goals as goal
+
+pub unwrap-requires : goal.unwrap-requires
+unwrap-requires c =
+    let n = name_of c.args.self.now.octets.items (record { short = c.args.self.now.short; named = c.args.self.now.named; small = c.args.self.now.small }) in
+    some_or c.from_wire.result (λ none. c.from_wire.ensures.none none n.name n.is_name (n.rest, c.deref.ensures.value ∙ n.octets_are))
+
+pub returns : goal.returns
+returns c =
+    let is = rw c.unwrap.ensures at c.from_wire.ensures.name in
+    let found = rw c.unwrap.ensures at c.from_wire.ensures.found in
+    c.of.ensures ∙ sym (key_in-begins c.args.self.now.octets.items c.unwrap.result is (subst (λ (bytes : List ℕ). BeginsWith bytes c.unwrap.result) c.deref.ensures.value found))

@@ -1,0 +1,124 @@
+//! A trie of items, made at once.
+
+ghost use Rattle.std.specs.Prelude.{◌≡◌, ◌+◌, ◌<◌, ◌≤◌, ℕ, List, [], ◌∷◌, IfOk, IfErr, Some, length, map};
+ghost use Rattle.packed_node.specs.declared.Cell.{Cell};
+ghost use Rattle.trie_model.specs.Keys.{Entry, Rises};
+ghost use Rattle.trie_model.specs.Shape.{cells as cells_of};
+ghost use Rattle.chunk_usage.specs.Rooms.{Ready};
+ghost use Rattle.trie_write.specs.Entries.{entry_of, entries_of_items};
+ghost use Rattle.trie_write.specs.Frames.{Frame};
+ghost use Rattle.trie_write.specs.Builds.{Built};
+ghost use Rattle.trie_write.specs.Standing.{Standing};
+
+use super::Item;
+use super::room::{place_item, place_row};
+use super::row::Row;
+use super::runs::{first_run, offset_of};
+use chunk_cells::CellWrite;
+use chunk_usage::{Full, Space};
+use packed_node::{Branch, Cell, Node, Ref, bitmap};
+
+/// The root of the trie of the items, which is written. No cell counts before; where there is no room, none does afterwards.
+pub fn build<C: CellWrite, U: Space>(
+    cells: &mut C,
+    usage: &mut U,
+    items: &[Item],
+) -> Result<Option<Ref>, Full>
+    requires rising { Rises (entries_of_items items.now) }
+    requires uncounted { (k : ℕ) → U.live usage.old k ≡ 0 }
+    requires ready { Ready (C.kept cells.old) (C.given cells.old) (U.given usage.old) (U.used usage.old) (U.fresh usage.old) }
+    ensures built { IfOk result (λ root. Standing (C.has cells.new) (U.used usage.new) (U.live usage.new) root (entries_of_items items.now)) }
+    ensures uncounted { IfErr result (λ _. (k : ℕ) → U.live usage.new k ≡ 0) }
+    ensures spends { U.spent usage.new ≤ U.spent usage.old + cells_of (entries_of_items items.now) }
+    ensures full { IfErr result (λ f. U.lacks usage.new f) }
+    ensures frame { Frame (C.has cells.old) (C.has cells.new) (C.kept cells.old) (C.kept cells.new) (C.given cells.old) (C.given cells.new) (U.used usage.old) (U.used usage.new) (U.fresh usage.old) (U.fresh usage.new) }
+    ensures ready { Ready (C.kept cells.new) (C.given cells.new) (U.given usage.new) (U.used usage.new) (U.fresh usage.new) }
+{
+    if items.is_empty() {
+        return Ok(None);
+    }
+    match build_root(cells, usage, items) {
+        Ok(root) => Ok(Some(root)),
+        Err(full) => {
+            usage.release_all();
+            Err(full)
+        }
+    }
+}
+
+/// The root of the trie of some items.
+fn build_root<C: CellWrite, U: Space>(
+    cells: &mut C,
+    usage: &mut U,
+    items: &[Item],
+) -> Result<Ref, Full>
+    requires some { 0 < length items.now }
+    requires rising { Rises (entries_of_items items.now) }
+    requires uncounted { (k : ℕ) → U.live usage.old k ≡ 0 }
+    requires ready { Ready (C.kept cells.old) (C.given cells.old) (U.given usage.old) (U.used usage.old) (U.fresh usage.old) }
+    ensures built { IfOk result (λ root. Standing (C.has cells.new) (U.used usage.new) (U.live usage.new) (Some root) (entries_of_items items.now)) }
+    ensures spends { U.spent usage.new ≤ U.spent usage.old + cells_of (entries_of_items items.now) }
+    ensures full { IfErr result (λ f. U.lacks usage.new f) }
+    ensures frame { Frame (C.has cells.old) (C.has cells.new) (C.kept cells.old) (C.kept cells.new) (C.given cells.old) (C.given cells.new) (U.used usage.old) (U.used usage.new) (U.fresh usage.old) (U.fresh usage.new) }
+    ensures ready { Ready (C.kept cells.new) (C.given cells.new) (U.given usage.new) (U.used usage.new) (U.fresh usage.new) }
+{
+    let node = build_below(cells, usage, items)?;
+    let root = place_row(cells, usage, &[node])?;
+    Ok(root)
+}
+
+/// The cell of a leaf, whose item is written.
+fn build_leaf<C: CellWrite, U: Space>(
+    cells: &mut C,
+    usage: &mut U,
+    item: &Item,
+) -> Result<Cell, Full>
+    requires { Ready (C.kept cells.old) (C.given cells.old) (U.given usage.old) (U.used usage.old) (U.fresh usage.old) }
+    ensures built { IfOk result (λ cell. Built (C.has cells.new) (U.used usage.old) (U.used usage.new) (U.live usage.old) (U.live usage.new) (map entry_of (item.now ∷ [])) cell) }
+    ensures spends { U.spent usage.new < U.spent usage.old + cells_of (map entry_of (item.now ∷ [])) }
+    ensures full { IfErr result (λ f. U.lacks usage.new f) }
+    ensures frame { Frame (C.has cells.old) (C.has cells.new) (C.kept cells.old) (C.kept cells.new) (C.given cells.old) (C.given cells.new) (U.used usage.old) (U.used usage.new) (U.fresh usage.old) (U.fresh usage.new) }
+    ensures ready { Ready (C.kept cells.new) (C.given cells.new) (U.given usage.new) (U.used usage.new) (U.fresh usage.new) }
+{
+    let leaf = place_item(cells, usage, item.octets())?;
+    Ok(Node::Leaf(leaf).pack())
+}
+
+/// The cell of the top of the items' trie. All below it is written.
+fn build_below<C: CellWrite, U: Space>(
+    cells: &mut C,
+    usage: &mut U,
+    items: &[Item],
+) -> Result<Cell, Full>
+    requires some { 0 < length items.now }
+    requires rising { Rises (entries_of_items items.now) }
+    requires ready { Ready (C.kept cells.old) (C.given cells.old) (U.given usage.old) (U.used usage.old) (U.fresh usage.old) }
+    ensures built { IfOk result (λ cell. Built (C.has cells.new) (U.used usage.old) (U.used usage.new) (U.live usage.old) (U.live usage.new) (entries_of_items items.now) cell) }
+    ensures spends { U.spent usage.new < U.spent usage.old + cells_of (entries_of_items items.now) }
+    ensures full { IfErr result (λ f. U.lacks usage.new f) }
+    ensures frame { Frame (C.has cells.old) (C.has cells.new) (C.kept cells.old) (C.kept cells.new) (C.given cells.old) (C.given cells.new) (U.used usage.old) (U.used usage.new) (U.fresh usage.old) (U.fresh usage.new) }
+    ensures ready { Ready (C.kept cells.new) (C.given cells.new) (U.given usage.new) (U.used usage.new) (U.fresh usage.new) }
+{
+    if items.len() == 1 {
+        return build_leaf(cells, usage, &items[0]);
+    }
+    let offset = offset_of(items);
+    let mut row = Row::new();
+    let mut positions = 0;
+    let mut rest = items;
+    while !rest.is_empty() {
+        let run = first_run(rest, offset);
+        let (below, later) = rest.split_at(run.count);
+        let cell = build_below(cells, usage, below)?;
+        row.push(cell);
+        positions = bitmap::with(positions, run.position);
+        rest = later;
+    }
+    let twigs = place_row(cells, usage, row.as_slice())?;
+    Ok(Node::Branch(Branch {
+        offset,
+        bitmap: positions,
+        twigs,
+    })
+    .pack())
+}
