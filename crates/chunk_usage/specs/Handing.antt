@@ -64,9 +64,9 @@ released l at n = record l { live = slice_set l.live (at / 1024) (slice_index l.
 abbrev pub all_released : Ledger → Ledger
 all_released l = record l { live = replicate (length l.live) 0 }
 
--- the numbers say why there is no room
+-- the numbers say why there is no room; no more than 256 cells are wanted at once
 abbrev pub Lacks : Ledger → Full → Type 0
-Lacks l f = IsShort l f.needed × (f ≡ shortage l f.needed)
+Lacks l f = IsShort l f.needed × (f ≡ shortage l f.needed) × (f.needed ≤ 256)
 
 -- 769 for each given chunk, less what the open one lacks of 769 cells handed out
 abbrev pub unspent : Option Open → ℕ

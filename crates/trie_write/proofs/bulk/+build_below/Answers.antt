@@ -1,4 +1,4 @@
-use Rattle.std.proofs.Common.{◌≡◌, ℕ, suc, ◌+◌, ◌^◌, ◌<◌, ◌≤◌, List, [], ◌∷◌, ◌++◌, length, take, drop, slice_get, Some, arith, sym, ◌∙◌, ap, subst, rules, eqb-true, length-append}
+use Rattle.std.proofs.Common.{◌≡◌, ℕ, suc, ◌+◌, ◌^◌, ◌<◌, ◌≤◌, List, [], ◌∷◌, ◌++◌, length, take, drop, slice_get, Some, arith, refl, sym, ◌∙◌, ap, subst, rules, eqb-true, length-append}
 use Rattle.std.proofs.lemmas.List.{length-map, take-map, drop-map}
 use Rattle.packed_node.specs.declared.Cell.{Cell}
 use Rattle.trie_model.specs.Keys.{Entry, Rises}
@@ -29,6 +29,7 @@ loop-rest-init g t c =
         cost = (let row = ap (λ (xs : List Cell). length xs) c.new-row.ensures in omega arith);
       };
       frame = frame_refl;
+      frozen = refl;
       ready = c.requires.ready;
     }
 
@@ -86,6 +87,7 @@ loop-rest-preserved g t c =
         cost = (let so_far = making.cost in let row = ap (λ (xs : List Cell). length xs) c.push.ensures ∙ length-append c.loop-rest.row (c.in_ok-cell.cell ∷ []) in omega arith);
       };
       frame = frame_then c.loop-rest.invariant.frame c.in_ok-cell.ensures.frame;
+      frozen = c.build_below.ensures.frozen ∙ c.loop-rest.invariant.frozen;
       ready = c.in_ok-cell.ensures.ready;
     }
 
