@@ -38,6 +38,16 @@ impl CellRead for PlainCells {
     }
 }
 
+/// Cells that are only read can be lent to several readers.
+impl CellRead for &PlainCells {
+    ghost has = { λ s r c. slice_get s.now.cells.items r ≡ Some c };
+
+    #[inline]
+    fn cell(&mut self, at: Ref) -> Cell {
+        self.cells[at as usize]
+    }
+}
+
 impl CellWrite for PlainCells {
     ghost given = { λ s. s.given.items };
 

@@ -2,7 +2,7 @@
 
 ghost use Rattle.std.specs.Prelude.{◌≡◌, ◌≤◌, ◌<◌, ◌↔◌, ◌/◌, IfOk, IsTrue, All, length, slice_index};
 ghost use Rattle.chunk_cells.specs.Chunks.{IsFree};
-ghost use Rattle.chunk_usage.specs.Ledger.{Row, unused, free_count, reserve_of};
+ghost use Rattle.chunk_usage.specs.Ledger.{IsLedger, Row, unused, free_count, reserve_of};
 
 mod as_space;
 mod cells;
@@ -68,7 +68,8 @@ impl Usage {
 
     /// How many chunks there are.
     pub fn chunks(&self) -> u32
-        ensures { result ≡ length self.now.given }
+        ensures count { result ≡ length self.now.given }
+        ensures ledger { IsLedger self.now }
     {
         self.given.len() as u32
     }
