@@ -5,3 +5,4 @@ pub mod DueLemmas
 pub mod PartsLemmas
 pub mod PhraseLemmas
 pub mod ZoneLemmas
+pub mod OpeningLemmas

@@ -1,10 +1,11 @@
 -- The trie of a version, and whether it fits into chunks.
-use Rattle.std.specs.Prelude.{ℕ, ◌+◌, ◌-◌, ◌*◌, ◌/◌, ◌<◌, ◌≤◌, List, Bool, nat_le, length, map, ◌++◌, codes}
+use Rattle.std.specs.Prelude.{ℕ, ◌<◌, ◌≤◌, List, Bool, nat_le, length, map, ◌++◌, codes}
 use Rattle.std.specs.Fmt.{decimal}
 use Rattle.zone_model.specs.Names.{Name}
 use Rattle.zone_model.specs.Records.{Entry, item}
 use Rattle.zone_model.specs.Versions.{Version}
 use Rattle.zone_model.specs.Keys.{key_of}
+use Rattle.qp_multi.specs.Openings.{room_in}
 use Rattle.trie_model.specs.Keys as trie
 use Rattle.trie_model.specs.Shape.{nodes, keys_of, cells}
 
@@ -25,11 +26,6 @@ cell_count version = cells (trie_entries version)
 
 abbrev pub node_count : Version → ℕ
 node_count version = nodes (keys_of (trie_entries version))
-
--- A quarter of the chunks is kept free, and one more may be left unfilled. Of each other chunk at least 769 cells are
--- filled before the next one is begun, for no row of cells is longer than 256.
-abbrev pub room_in : ℕ → ℕ
-room_in chunks = 769 * (chunks - chunks / 4 - 1)
 
 abbrev pub fits : ℕ → Version → Bool
 fits chunks version = nat_le (cell_count version) (room_in chunks)

@@ -204,6 +204,7 @@ impl Entry {
     pub fn encode(&self, owner: &Name, out: &mut [u8; 4096]) -> Option<usize>
         requires { 0 < length self.now }
         ensures item { IfSome result (λ n. IsItem (take n out.new) owner.now self.now) }
+        ensures length { IfSome result (λ n. n ≡ length (item owner.now self.now)) }
         ensures long { IsNone result ↔ (item_limit < length (item owner.now self.now)) }
         ensures kept { IsNone result → out.new ≡ out.old }
     {

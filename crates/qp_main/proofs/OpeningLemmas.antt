@@ -1,0 +1,66 @@
+-- Items of a version, and their order.
+use Rattle.std.proofs.Common.{◌≡◌, ◌∙◌, ℕ, zero, suc, ◌<◌, List, [], ◌∷◌, ◌++◌, length, drop, map, refl, sym, ap, subst, arith}
+use Rattle.std.proofs.lemmas.List.{drop_at}
+use Rattle.std.specs.List.{AllByRecursion, flat_map}
+use Rattle.std.specs.List.Sorted.{IsStrictlySortedBy}
+use Rattle.std.specs.Map.{keys_of}
+use Rattle.std.specs.Int.{w16, to_be_bytes}
+use Rattle.std.specs.declared.cmp.Ordering.{Ordering}
+use Rattle.std.specs.declared.cmp.Ordering.TheVariants as order
+use Rattle.std.specs.Ordering.{nat_cmp, ordering_then}
+use Rattle.zone_model.specs.Names.{Name, IsName, wire, name_cmp}
+use Rattle.zone_model.specs.Keys.{key_of, key_cmp}
+use Rattle.zone_model.specs.Records.{Entry, IsItem, item, rrset_bytes}
+use Rattle.zone_model.specs.Versions.{Version}
+use Rattle.zone_model.proofs.EntryLaws.{ranked}
+use Rattle.zone_model.proofs.KeyLaws.{key_cmp-key_of}
+use Rattle.trie_model.specs.Keys.{at, Less, InList, Rises}
+use Rattle.trie_model.specs.Keys.{Entry as TrieEntry}
+use Rattle.qp_main.specs.Fits.{trie_entry, trie_entries}
+use Rattle.qp_main.specs.Openings.{AreNames}
+
+-- ---- what stands behind the owner
+
+pub payload : (name : Name) (entry : Entry) (octets : List ℕ) (owner : ℕ) → IsItem octets name entry → owner ≡ length (wire name) → wire name ++ drop owner octets ≡ item name entry
+payload name entry octets owner is o =
+    let behind = to_be_bytes w16 (length entry) ++ flat_map rrset_bytes entry in
+    ap (λ (l : List ℕ). wire name ++ drop owner l) is.octets ∙ ap (λ (l : List ℕ). wire name ++ l) (drop_at (wire name) (to_be_bytes w16 (length entry) ++ flat_map rrset_bytes entry) owner (sym o))
+
+-- ---- keys in the order of their names
+
+here : (a b : List ℕ) → at a 0 < at b 0 → Less a b
+here a b l = record { place = 0; same = λ i k. absurd (omega arith); lower = l }
+
+later : (a b as bs : List ℕ) → at a 0 ≡ at b 0 → ((i : ℕ) → at a (suc i) ≡ at as i) → ((i : ℕ) → at b (suc i) ≡ at bs i) → Less as bs → Less a b
+later a b as bs e x y l = record { place = suc l.place; same = same; lower = subst (λ (n : ℕ). n < at b (suc l.place)) (sym (x l.place)) (subst (λ (n : ℕ). at as l.place < n) (sym (y l.place)) l.lower) }
+  where
+    same : (i : ℕ) → i < suc l.place → at a i ≡ at b i
+    same zero k = e
+    same (suc i) k = x i ∙ l.same i (omega arith) ∙ sym (y i)
+
+-- the first positions decide, or the others do
+by_first : (a b as bs : List ℕ) (x y : ℕ) → at a 0 ≡ x → at b 0 ≡ y → ((i : ℕ) → at a (suc i) ≡ at as i) → ((i : ℕ) → at b (suc i) ≡ at bs i) → (key_cmp as bs ≡ order.Less → Less as bs) → ordering_then (nat_cmp x y) (key_cmp as bs) ≡ order.Less → Less a b
+by_first a b as bs x y p q u v rest h = by_order (nat_cmp x y) refl h
+  where
+    by_order : (o : Ordering) → nat_cmp x y ≡ o → ordering_then o (key_cmp as bs) ≡ order.Less → Less a b
+    by_order order.Less e k = let l : x < y = ranked x y order.Less (sym e) in here a b (omega arith)
+    by_order order.Equal e k = let s : x ≡ y = ranked x y order.Equal (sym e) in later a b as bs (p ∙ s ∙ sym q) u v (rest k)
+    by_order order.Greater e k = absurd cc
+
+key_less : (a b : List ℕ) → key_cmp a b ≡ order.Less → Less a b
+key_less [] [] h = absurd cc
+key_less [] (y ∷ ys) h = by_first [] (y ∷ ys) [] ys 0 y refl refl (λ i. refl) (λ i. refl) (key_less [] ys) h
+key_less (x ∷ xs) [] h = by_first (x ∷ xs) [] xs [] x 0 refl refl (λ i. refl) (λ i. refl) (key_less xs []) h
+key_less (x ∷ xs) (y ∷ ys) h = by_first (x ∷ xs) (y ∷ ys) xs ys x y refl refl (λ i. refl) (λ i. refl) (key_less xs ys) h
+
+below_all : (name : Name) → IsName name → (pairs : Version) → AllByRecursion (λ y. name_cmp name y ≡ order.Less) (keys_of pairs) → AreNames pairs → (e : TrieEntry) → InList e (trie_entries pairs) → Less (key_of name) e.key
+below_all name is [] above names e i = absurd i
+below_all name is (pair ∷ pairs) above names e i = elim i [
+  | inl s ↦ subst (λ (x : TrieEntry). Less (key_of name) x.key) (sym s) (key_less (key_of name) (key_of pair.0) (key_cmp-key_of name pair.0 is.each names.0.each ∙ above.0))
+  | inr r ↦ below_all name is pairs above.1 names.1 e r
+]
+
+pub entries_rise : (pairs : Version) → IsStrictlySortedBy name_cmp (keys_of pairs) → AreNames pairs → Rises (trie_entries pairs)
+unfolding IsStrictlySortedBy
+entries_rise [] sorted names = tt
+entries_rise (pair ∷ pairs) sorted names = (below_all pair.0 names.0 pairs sorted.0 names.1, entries_rise pairs sorted.1 names.1)
