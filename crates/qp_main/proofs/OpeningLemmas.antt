@@ -1,6 +1,6 @@
 -- Items of a version, and their order.
-use Rattle.std.proofs.Common.{◌≡◌, ◌∙◌, ℕ, zero, suc, ◌<◌, List, [], ◌∷◌, ◌++◌, length, drop, map, refl, sym, ap, subst, arith}
-use Rattle.std.proofs.lemmas.List.{drop_at}
+use Rattle.std.proofs.Common.{◌≡◌, ◌∙◌, ℕ, zero, suc, ◌+◌, ◌<◌, ◌-◌, ◌≤◌, inl, inr, take, List, [], ◌∷◌, ◌++◌, length, drop, map, refl, sym, ap, subst, arith, length-append, append_assoc}
+use Rattle.std.proofs.lemmas.List.{drop_at, drop-take}
 use Rattle.std.specs.List.{AllByRecursion, flat_map}
 use Rattle.std.specs.List.Sorted.{IsStrictlySortedBy}
 use Rattle.std.specs.Map.{keys_of}
@@ -12,7 +12,7 @@ use Rattle.zone_model.specs.Names.{Name, IsName, wire, name_cmp}
 use Rattle.zone_model.specs.Keys.{key_of, key_cmp}
 use Rattle.zone_model.specs.Records.{Entry, IsItem, item, rrset_bytes}
 use Rattle.zone_model.specs.Versions.{Version}
-use Rattle.zone_model.proofs.EntryLaws.{ranked}
+use Rattle.std.specs.Cmp.{ranked}
 use Rattle.zone_model.proofs.KeyLaws.{key_cmp-key_of}
 use Rattle.trie_model.specs.Keys.{at, Less, InList, Rises}
 use Rattle.trie_model.specs.Keys.{Entry as TrieEntry}
@@ -21,30 +21,48 @@ use Rattle.qp_main.specs.Openings.{AreNames}
 
 -- ---- what stands behind the owner
 
-pub payload : (name : Name) (entry : Entry) (octets : List ℕ) (owner : ℕ) → IsItem octets name entry → owner ≡ length (wire name) → wire name ++ drop owner octets ≡ item name entry
-payload name entry octets owner is o =
-    let behind = to_be_bytes w16 (length entry) ++ flat_map rrset_bytes entry in
-    ap (λ (l : List ℕ). wire name ++ drop owner l) is.octets ∙ ap (λ (l : List ℕ). wire name ++ l) (drop_at (wire name) (to_be_bytes w16 (length entry) ++ flat_map rrset_bytes entry) owner (sym o))
+abbrev pub record_of : List ℕ → List ℕ → TrieEntry
+record_of key octets = record { key = key; item = octets }
+
+behind : Entry → List ℕ
+behind entry = to_be_bytes w16 (length entry) ++ flat_map rrset_bytes entry
+
+item_parts : (name : Name) (entry : Entry) → item name entry ≡ wire name ++ behind entry
+unfolding behind
+item_parts name entry = append_assoc (wire name) (to_be_bytes w16 (length entry)) (flat_map rrset_bytes entry)
+
+owner_within : (name : Name) (entry : Entry) (owner len : ℕ) → owner ≡ length (wire name) → len ≡ length (item name entry) → owner ≤ len
+owner_within name entry owner len o n = let all = length-append (wire name) (behind entry) in let e = ap (λ (l : List ℕ). length l) (item_parts name entry) in omega arith
+
+pub payload : (name : Name) (entry : Entry) (octets : List ℕ) (owner len : ℕ) → IsItem (take len octets) name entry → owner ≡ length (wire name) → len ≡ length (item name entry) → wire name ++ take (len - owner) (drop owner octets) ≡ item name entry
+payload name entry octets owner len is o n =
+    let le = owner_within name entry owner len o n in
+    let sum : owner + (len - owner) ≡ len = omega arith in
+    ap (λ (l : List ℕ). wire name ++ l) (sym (drop-take owner (len - owner) octets) ∙ ap (λ (k : ℕ). drop owner (take k octets)) sum)
+    ∙ ap (λ (l : List ℕ). wire name ++ drop owner l) (is.octets ∙ item_parts name entry) ∙ ap (λ (l : List ℕ). wire name ++ l) (drop_at (wire name) (behind entry) owner (sym o)) ∙ sym (item_parts name entry)
+
+pub entry_as : (key : List ℕ) {a b : List ℕ} → a ≡ b → record_of key a ≡ record_of key b
+entry_as key e = ap (record_of key) e
 
 -- ---- keys in the order of their names
 
 here : (a b : List ℕ) → at a 0 < at b 0 → Less a b
 here a b l = record { place = 0; same = λ i k. absurd (omega arith); lower = l }
 
-later : (a b as bs : List ℕ) → at a 0 ≡ at b 0 → ((i : ℕ) → at a (suc i) ≡ at as i) → ((i : ℕ) → at b (suc i) ≡ at bs i) → Less as bs → Less a b
-later a b as bs e x y l = record { place = suc l.place; same = same; lower = subst (λ (n : ℕ). n < at b (suc l.place)) (sym (x l.place)) (subst (λ (n : ℕ). at as l.place < n) (sym (y l.place)) l.lower) }
+later : (a b ta tb : List ℕ) → at a 0 ≡ at b 0 → ((i : ℕ) → at a (suc i) ≡ at ta i) → ((i : ℕ) → at b (suc i) ≡ at tb i) → Less ta tb → Less a b
+later a b ta tb e x y l = record { place = suc l.place; same = same; lower = subst (λ (n : ℕ). n < at b (suc l.place)) (sym (x l.place)) (subst (λ (n : ℕ). at ta l.place < n) (sym (y l.place)) l.lower) }
   where
     same : (i : ℕ) → i < suc l.place → at a i ≡ at b i
     same zero k = e
     same (suc i) k = x i ∙ l.same i (omega arith) ∙ sym (y i)
 
 -- the first positions decide, or the others do
-by_first : (a b as bs : List ℕ) (x y : ℕ) → at a 0 ≡ x → at b 0 ≡ y → ((i : ℕ) → at a (suc i) ≡ at as i) → ((i : ℕ) → at b (suc i) ≡ at bs i) → (key_cmp as bs ≡ order.Less → Less as bs) → ordering_then (nat_cmp x y) (key_cmp as bs) ≡ order.Less → Less a b
-by_first a b as bs x y p q u v rest h = by_order (nat_cmp x y) refl h
+by_first : (a b ta tb : List ℕ) (x y : ℕ) → at a 0 ≡ x → at b 0 ≡ y → ((i : ℕ) → at a (suc i) ≡ at ta i) → ((i : ℕ) → at b (suc i) ≡ at tb i) → (key_cmp ta tb ≡ order.Less → Less ta tb) → ordering_then (nat_cmp x y) (key_cmp ta tb) ≡ order.Less → Less a b
+by_first a b ta tb x y p q u v rest h = by_order (nat_cmp x y) refl h
   where
-    by_order : (o : Ordering) → nat_cmp x y ≡ o → ordering_then o (key_cmp as bs) ≡ order.Less → Less a b
+    by_order : (o : Ordering) → nat_cmp x y ≡ o → ordering_then o (key_cmp ta tb) ≡ order.Less → Less a b
     by_order order.Less e k = let l : x < y = ranked x y order.Less (sym e) in here a b (omega arith)
-    by_order order.Equal e k = let s : x ≡ y = ranked x y order.Equal (sym e) in later a b as bs (p ∙ s ∙ sym q) u v (rest k)
+    by_order order.Equal e k = let s : x ≡ y = ranked x y order.Equal (sym e) in later a b ta tb (p ∙ s ∙ sym q) u v (rest k)
     by_order order.Greater e k = absurd cc
 
 key_less : (a b : List ℕ) → key_cmp a b ≡ order.Less → Less a b
