@@ -1,10 +1,10 @@
 -- Chunks that nothing needs: a ledger stays one without them.
-use Rattle.std.proofs.Common.{◌≡◌, ◌≢◌, ℕ, ◌+◌, ◌/◌, ◌%◌, ◌<◌, ◌≤◌, nat_lt, Bool, true, false, not, List, [], ◌∷◌, length, map, slice_index, slice_index_or, slice_set, refl, ◌∙◌, sym, subst, ap, inl, inr, arith}
-use Rattle.std.specs.Prelude.{Option, None, Some, ◌==◌, ◌||◌, ◌&&◌}
-use Rattle.std.specs.List.{AllByRecursion, list_any, range_with_len}
+use Rattle.std.proofs.Common.{◌≡◌, ◌≢◌, ℕ, ◌+◌, ◌<◌, ◌≤◌, nat_lt, Bool, true, false, not, List, [], ◌∷◌, length, slice_index, slice_index_or, slice_set, refl, ◌∙◌, sym, subst, ap, inl, inr, arith}
+use Rattle.std.specs.Prelude.{Option, None, Some, ◌||◌, ◌&&◌}
+use Rattle.std.specs.List.{AllByRecursion, list_any}
 use Rattle.std.proofs.lemmas.Bool.{cases_eq, cases_lt}
 use Rattle.std.proofs.lemmas.Bool.Decides.{nat_tests}
-use Rattle.std.proofs.lemmas.List.{length-set, length-map, get_or-map, get_or-set_same, get_or-set_other, get_or_past}
+use Rattle.std.proofs.lemmas.List.{length-set, get_or-map, get_or-set_same, get_or-set_other, get_or_past}
 use Rattle.std.proofs.lemmas.List.FromFn.{fill_by_all}
 use Rattle.chunk_usage.specs.declared.open.Open.{Open}
 use Rattle.chunk_usage.specs.Ledger.{Row, Ledger, IsLedger, AreCounts, IsOpen, IsRowOf, IsNewest, newest, row_of, is_in_row, is_given, is_open}

@@ -2,7 +2,7 @@
 
 ghost use Rattle.std.specs.Prelude.{◌≡◌, ◌≤◌, ◌<◌, ◌↔◌, ◌/◌, IfOk, IsTrue, All, length, slice_index};
 ghost use Rattle.chunk_cells.specs.Chunks.{IsFree};
-ghost use Rattle.chunk_usage.specs.Ledger.{Row, unused, free_count, reserve_of};
+ghost use Rattle.chunk_usage.specs.Ledger.{IsLedger, Row, unused, free_count, reserve_of};
 
 mod as_space;
 mod cells;
@@ -17,13 +17,16 @@ use std::marker::Model;
 /// Which of 1 to 4,096 chunks are given, how many of their cells count, and which kept versions have cells in them.
 #[derive(Drop)]
 pub struct Usage {
+    // One of each for a chunk: how many cells count, whether it is given, whether it was given since the last freeze.
     live: Vec<u32>,
     given: Vec<bool>,
     since: Vec<bool>,
     free: u32,
     open_chunk: Option<Open>,
+    // As they were at the last freeze.
     last_live: Vec<u32>,
     last_open: Option<Open>,
+    // The first `kept` of these are the rows of kept versions, the oldest first.
     slots: Vec<KeptRow>,
     kept: usize,
     passes: u32,
@@ -66,7 +69,15 @@ impl Usage {
         })
     }
 
+    /// Tells a proof what holds of each usage. Nothing is done.
+    pub fn known(&self)
+        ensures { IsLedger self.now }
+    {
+        let _ = &self.passes;
+    }
+
     /// How many chunks there are.
+    #[inline]
     pub fn chunks(&self) -> u32
         ensures { result ≡ length self.now.given }
     {
@@ -74,6 +85,7 @@ impl Usage {
     }
 
     /// How many chunks are free.
+    #[inline]
     pub fn free(&self) -> u32
         ensures { result ≡ free_count self.now }
     {
@@ -81,6 +93,7 @@ impl Usage {
     }
 
     /// How many chunks are kept free by `alloc`.
+    #[inline]
     pub fn reserve(&self) -> u32
         ensures { result ≡ reserve_of self.now }
     {
@@ -88,6 +101,7 @@ impl Usage {
     }
 
     /// Whether there is such a chunk, and it is free.
+    #[inline]
     pub fn is_free(&self, chunk: u32) -> bool
         ensures { IsTrue result ↔ IsFree self.now.given chunk }
     {
@@ -96,6 +110,7 @@ impl Usage {
     }
 
     /// How many cells of a chunk count: 0 where there is no such chunk.
+    #[inline]
     pub fn live(&self, chunk: u32) -> u32
         ensures { result ≡ slice_index self.now.live chunk }
     {

@@ -1,6 +1,6 @@
 //! Cells that are handed out, and released.
 
-ghost use Rattle.std.specs.Prelude.{◌≡◌, ◌<◌, ◌≤◌, ◌-◌, ◌+◌, ◌*◌, ◌/◌, ◌%◌, ◌↔◌, Some, IsErr, not, length, slice_index};
+ghost use Rattle.std.specs.Prelude.{◌≡◌, ◌<◌, ◌≤◌, ◌-◌, ◌+◌, ◌*◌, ◌/◌, ◌%◌, ◌↔◌, Some, IsErr, not, count_by, length, slice_index};
 ghost use Rattle.std.specs.List.{position_or_len};
 ghost use Rattle.chunk_usage.specs.Ledger.{free_count};
 ghost use Rattle.chunk_usage.specs.Handing.{IsShort, all_released, allocated, grant_of, lowest_free, next_cell, released, roomy, shortage, taken, with_open};
@@ -125,9 +125,11 @@ impl Usage {
     }
 }
 
-/// The place of the first flag that is clear, or behind the last flag.
+/// The place of the first flag that is clear.
 fn first_clear(flags: &[bool]) -> usize
-    ensures { result ≡ position_or_len not flags.now }
+    requires { 0 < count_by not flags.now }
+    ensures within { result < length flags.now }
+    ensures first { result ≡ position_or_len not flags.now }
 {
     for (place, set) in flags.iter().enumerate() {
         if !*set {

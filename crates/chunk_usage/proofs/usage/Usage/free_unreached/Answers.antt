@@ -1,9 +1,9 @@
-use Rattle.std.proofs.Common.{◌≡◌, ◌≢◌, ℕ, ◌+◌, ◌/◌, Bool, true, false, List, length, slice_set, sym, ap, ◌∙◌, subst, arith}
+use Rattle.std.proofs.Common.{◌≡◌, ◌+◌, Bool, true, false, List, slice_set, sym, ap, ◌∙◌, subst, arith}
 use Rattle.chunk_cells.specs.Chunks.{IsGiven}
 use Rattle.chunk_usage.specs.Ledger.{Ledger, free_count}
 use Rattle.chunk_usage.specs.Keeping.{is_unreached}
 use Rattle.chunk_usage.proofs.FlagLemmas.{get_set}
-use Rattle.chunk_usage.proofs.RecyclingLaws.{Freeing, unreached, starts_freeing, still_unreached, freeing_more, freeing_less, ends_freeing, differ}
+use Rattle.chunk_usage.proofs.RecyclingLaws.{Freeing, unreached, still_unreached, freeing_more, freeing_less, ends_freeing, differ}
 use Rattle.chunk_usage.proofs.usage.Usage.free_unreached.Goals as goal
 use Rattle.chunk_usage.proofs.usage.Usage.free_unreached.Goals.{then-is_unreached, else-is_unreached}
 
