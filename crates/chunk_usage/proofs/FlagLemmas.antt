@@ -25,16 +25,14 @@ first_clear_is [] h = absurd (omega arith)
 first_clear_is (true ∷ flags) h = let i = first_clear_is flags h in omega arith
 first_clear_is (false ∷ flags) h = omega arith
 
--- the first flag that is clear, in a list that was read
 pub record First (n : ℕ) (flags : List Bool) : Type 0 where
   pub within : n < length flags
   pub clear : slice_index_or flags n false ≡ false
 
-pub first_is : (n : ℕ) (read flags : List Bool) → n ≡ position_or_len not read → read ≡ flags → 0 < count_by not flags → First n flags
-first_is n read flags is same some =
-    let e : n ≡ position_or_len not flags = is ∙ ap (position_or_len not) same in
+pub first_is : (flags : List Bool) (n : ℕ) → n ≡ position_or_len not flags → 0 < count_by not flags → First n flags
+first_is flags n is some =
     let l = first_clear_is flags some in
-    subst (λ k. First k flags) (sym e) (record { within = l; clear = unset _ (passes_at_first not flags false l) })
+    subst (λ k. First k flags) (sym is) (record { within = l; clear = unset _ (passes_at_first not flags false l) })
   where
     unset : (b : Bool) → not b ≡ true → b ≡ false
     unset true h = sym h

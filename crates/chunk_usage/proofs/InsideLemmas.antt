@@ -1,5 +1,5 @@
 -- What a ledger says of the fields that hold it.
-use Rattle.std.proofs.Common.{◌≡◌, ℕ, ◌+◌, ◌<◌, ◌≤◌, length, sym, subst, arith}
+use Rattle.std.proofs.Common.{◌≡◌, ◌+◌, ◌<◌, length, sym, subst, arith}
 use Rattle.std.proofs.lemmas.List.{length-take}
 use Rattle.chunk_usage.specs.declared.usage.Usage.TheInside.{Inside}
 use Rattle.chunk_usage.specs.Ledger.{Ledger}

@@ -1,11 +1,11 @@
 -- Chunks that nothing needs: a ledger stays one without them.
-use Rattle.std.proofs.Common.{◌≡◌, ◌≢◌, ℕ, ◌+◌, ◌/◌, ◌%◌, ◌<◌, ◌≤◌, nat_lt, Bool, true, false, not, List, [], ◌∷◌, length, map, slice_index, slice_index_or, slice_set, refl, ◌∙◌, sym, subst, ap, inl, inr, arith}
-use Rattle.std.specs.Prelude.{Option, None, Some, ◌==◌, ◌||◌, ◌&&◌}
-use Rattle.std.specs.List.{AllByRecursion, list_any, range_with_len}
+use Rattle.std.proofs.Common.{◌≡◌, ◌≢◌, ℕ, ◌+◌, ◌<◌, ◌≤◌, nat_lt, Bool, true, false, not, List, [], ◌∷◌, length, slice_index, slice_index_or, slice_set, refl, ◌∙◌, sym, subst, ap, inl, inr, arith}
+use Rattle.std.specs.Prelude.{Option, None, Some, ◌||◌, ◌&&◌}
+use Rattle.std.specs.List.{AllByRecursion, list_any}
 use Rattle.std.proofs.lemmas.Bool.{cases_eq, cases_lt}
 use Rattle.std.proofs.lemmas.Bool.Decides.{nat_tests}
-use Rattle.std.proofs.lemmas.List.{length-set, length-map, get_or-map, get_or-set_same, get_or-set_other, get_or_past}
-use Rattle.std.proofs.lemmas.List.FromFn.{fill_by_all}
+use Rattle.std.proofs.lemmas.List.{length-set, get_or-map, get_or-set_same, get_or-set_other, get_or_past}
+use Rattle.std.proofs.lemmas.List.FromFn.{fill_by_all, get_or-map-range_with_len, length-map-range_with_len}
 use Rattle.chunk_usage.specs.declared.open.Open.{Open}
 use Rattle.chunk_usage.specs.Ledger.{Row, Ledger, IsLedger, AreCounts, IsOpen, IsRowOf, IsNewest, newest, row_of, is_in_row, is_given, is_open}
 use Rattle.chunk_usage.specs.Keeping.{is_in_rows, is_needed, is_unreached, freed, with_free}
@@ -171,3 +171,11 @@ module _ (l m : Ledger) (i : ℕ) (f : Freeing l m i) where
 
   pub ends_freeing : length l.given ≤ i → m ≡ freed l
   ends_freeing past = f.rest ∙ all_freed l m.given i f.so_far past
+
+-- which chunks are given once such chunks are freed
+pub freed_by_chunk : (l : Ledger) (k : ℕ) → is_given (freed l) k ≡ (is_given l k && is_needed l k)
+freed_by_chunk l k = elim (cases_lt k (length l.given)) [
+  | inl lt ↦ get_or-map-range_with_len (λ k. is_given l k && is_needed l k) 0 (length l.given) k k false lt (omega arith)
+  | inr past ↦ get_or_past (freed l).given k false (let n = length-map-range_with_len (λ k. is_given l k && is_needed l k) 0 (length l.given) in omega arith)
+      ∙ ap (λ (b : Bool). b && is_needed l k) (sym (get_or_past l.given k false past))
+]

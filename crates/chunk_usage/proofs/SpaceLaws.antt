@@ -160,7 +160,7 @@ module _ (l : Ledger) (h : IsLedger l) (n : ℕ) (some : 0 < n) (few : n ≤ 256
   by_free : (b : Bool) → nat_le (free_count l) (reserve_of l) ≡ b → left l.open_chunk < n
       → Hands l (if b then l else taken (with_open l (lowest_free l)) (record { chunk = lowest_free l; filled = 0 }) n) n (if b then Err (shortage l n) else Ok (record { at = lowest_free l * 1024; given = Some (lowest_free l) }))
   by_free true e short = none_hands l n (shortage l n)
-  by_free false e short = new_hands l h n some few short (lowest_free l) (first_is (lowest_free l) l.given l.given refl refl (grind (arith, nat_tests)))
+  by_free false e short = new_hands l h n some few short (lowest_free l) (first_is l.given (lowest_free l) refl (grind (arith, nat_tests)))
 
   by_open : (o : Option Open) → l.open_chunk ≡ o → Hands l (allocated_from l n (roomy o n)) n (granted_from l n (roomy o n))
   by_open None is = by_free (nat_le (free_count l) (reserve_of l)) refl (let e = ap left is in omega arith)

@@ -1,5 +1,5 @@
 -- Kept versions, and chunks that nothing reaches: what each call makes of a ledger.
-use Rattle.std.specs.Prelude.{◌≡◌, ℕ, ◌+◌, ◌<◌, nat_lt, ◌==◌, Bool, true, false, not, ◌&&◌, ◌||◌, Option, None, Some, List, [], ◌∷◌, ◌++◌, length, map, filter, replicate, slice_index, slice_index_or, slice_set}
+use Rattle.std.specs.Prelude.{ℕ, ◌<◌, nat_lt, ◌==◌, Bool, false, not, ◌&&◌, ◌||◌, Option, None, Some, List, [], ◌∷◌, ◌++◌, length, map, filter, replicate, slice_index, slice_set}
 use Rattle.std.specs.List.{AllByRecursion, list_any, range_with_len}
 use Rattle.chunk_usage.specs.declared.open.Open.{Open}
 use Rattle.chunk_usage.specs.Ledger.{Ledger, Row, row_of, is_in_row, is_given, is_open}

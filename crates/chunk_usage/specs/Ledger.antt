@@ -3,7 +3,7 @@ use Rattle.std.specs.Prelude.{◌≡◌, ℕ, ◌+◌, ◌-◌, ◌/◌, ◌%◌
 use Rattle.std.specs.List.{AllByRecursion}
 use Rattle.chunk_usage.specs.declared.open.Open.{Open}
 
--- of each chunk, whether a kept version has cells in it
+-- a kept version, and of each chunk whether the version has cells in it
 pub record Row : Type 0 where
   pub version : ℕ
   pub chunks : List Bool
@@ -18,7 +18,7 @@ pub record Ledger : Type 0 where
   pub rows : List Row  -- of the kept versions, the oldest first
   pub passes : ℕ
 
--- what freezes left: nothing that hands out or releases cells changes it
+-- the part of a ledger that freezes leave, and that nothing else but the dropping of a row changes
 pub record Frozen : Type 0 where
   pub live : List ℕ
   pub open_chunk : Option Open
@@ -63,11 +63,11 @@ is_fresh l q = slice_index_or l.since (q / 1024) false || (is_open l.last_open (
 abbrev pub row_of : List ℕ → List Bool
 row_of live = map (nat_lt 0) live
 
--- some row has the chunk
+-- the version of the row has cells in the chunk
 abbrev pub is_in_row : Row → ℕ → Bool
 is_in_row r chunk = slice_index_or r.chunks chunk false
 
--- the chunks of the newest row, which is behind all others; none where there is no row
+-- the row of the newest version, which is behind all others
 abbrev pub newest : List Row → Option Row
 newest [] = None
 newest (r ∷ []) = Some r
@@ -112,7 +112,7 @@ pub record IsLedger (l : Ledger) : Type 0 where
   pub last_counts : AreCounts l.given l.last_live
   pub opened : IsOpen l.given l.live l.open_chunk
   pub last_opened : IsOpen l.given l.last_live l.last_open
-  -- the cells that the open chunk has left were not handed out at the last freeze
+  -- none of the cells that the open chunk has left was handed out at the last freeze
   pub left_fresh : (q : ℕ) → is_open l.open_chunk (q / 1024) ≡ true → filled l.open_chunk ≤ q % 1024 → is_fresh l q ≡ true
   pub few_rows : length l.rows ≤ l.passes + 2
   pub rising : Rising l.rows

@@ -1,6 +1,5 @@
 -- Cells that are handed out, and what stays as it is while they are.
 use Rattle.std.specs.Prelude.{◌≡◌, ℕ, ◌+◌, ◌/◌, ◌<◌, Bool, true, false, List, Option, Some, None, Contains, slice_set}
-use Rattle.packed_node.specs.declared.Cell.{Cell}
 use Rattle.trie_model.specs.Trees.{IsRow}
 use Rattle.chunk_cells.specs.Chunks.{IsGiven, IsFree}
 

@@ -61,7 +61,7 @@ fn mark_live(flags: &mut [bool], live: &[u32])
     requires { length flags.old ≡ length live.now }
     ensures { flags.new ≡ row_of live.now }
 {
-    for chunk in 0..live.len() {
-        flags[chunk] = live[chunk] > 0;
+    for (chunk, live) in live.iter().enumerate() {
+        flags[chunk] = *live > 0;
     }
 }

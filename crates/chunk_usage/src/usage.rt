@@ -17,13 +17,16 @@ use std::marker::Model;
 /// Which of 1 to 4,096 chunks are given, how many of their cells count, and which kept versions have cells in them.
 #[derive(Drop)]
 pub struct Usage {
+    // One of each for a chunk: how many cells count, whether it is given, whether it was given since the last freeze.
     live: Vec<u32>,
     given: Vec<bool>,
     since: Vec<bool>,
     free: u32,
     open_chunk: Option<Open>,
+    // As they were at the last freeze.
     last_live: Vec<u32>,
     last_open: Option<Open>,
+    // The first `kept` of these are the rows of kept versions, the oldest first.
     slots: Vec<KeptRow>,
     kept: usize,
     passes: u32,
@@ -66,7 +69,15 @@ impl Usage {
         })
     }
 
+    /// Tells a proof what holds of each usage. Nothing is done.
+    pub fn known(&self)
+        ensures { IsLedger self.now }
+    {
+        let _ = &self.passes;
+    }
+
     /// How many chunks there are.
+    #[inline]
     pub fn chunks(&self) -> u32
         ensures count { result ≡ length self.now.given }
         ensures ledger { IsLedger self.now }
@@ -75,6 +86,7 @@ impl Usage {
     }
 
     /// How many chunks are free.
+    #[inline]
     pub fn free(&self) -> u32
         ensures { result ≡ free_count self.now }
     {
@@ -82,6 +94,7 @@ impl Usage {
     }
 
     /// How many chunks are kept free by `alloc`.
+    #[inline]
     pub fn reserve(&self) -> u32
         ensures { result ≡ reserve_of self.now }
     {
@@ -89,6 +102,7 @@ impl Usage {
     }
 
     /// Whether there is such a chunk, and it is free.
+    #[inline]
     pub fn is_free(&self, chunk: u32) -> bool
         ensures { IsTrue result ↔ IsFree self.now.given chunk }
     {
@@ -97,6 +111,7 @@ impl Usage {
     }
 
     /// How many cells of a chunk count: 0 where there is no such chunk.
+    #[inline]
     pub fn live(&self, chunk: u32) -> u32
         ensures { result ≡ slice_index self.now.live chunk }
     {

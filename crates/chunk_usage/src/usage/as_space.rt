@@ -24,17 +24,15 @@ impl Space for Usage {
     ghost lacks = { Lacks };
 
     fn alloc(&mut self, n: u32) -> Result<Grant, Full> {
-        let _ = &self.passes;
+        self.known();
         Usage::alloc(self, n)
     }
 
     fn release(&mut self, at: Ref, n: u32) {
-        let _ = &self.passes;
         Usage::release(self, at, n);
     }
 
     fn release_all(&mut self) {
-        let _ = &self.passes;
         Usage::release_all(self);
     }
 }

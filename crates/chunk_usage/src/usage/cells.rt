@@ -1,10 +1,11 @@
 //! Cells that are handed out, and released.
 
-ghost use Rattle.std.specs.Prelude.{◌≡◌, ◌<◌, ◌≤◌, ◌-◌, ◌+◌, ◌*◌, ◌/◌, ◌%◌, ◌↔◌, Some, IsErr, not, length, slice_index};
+ghost use Rattle.std.specs.Prelude.{◌≡◌, ◌<◌, ◌≤◌, ◌-◌, ◌+◌, ◌*◌, ◌/◌, ◌%◌, ◌↔◌, Some, IsErr, not, count_by, length, slice_index};
 ghost use Rattle.std.specs.List.{position_or_len};
-ghost use Rattle.chunk_usage.specs.Ledger.{free_count};
+ghost use Rattle.chunk_usage.specs.Ledger.{free_count, is_used, is_fresh};
 ghost use Rattle.chunk_usage.specs.Handing.{IsShort, all_released, allocated, grant_of, lowest_free, next_cell, released, roomy, shortage, taken, with_open};
 ghost use Rattle.chunk_usage.specs.Keeping.{closed};
+ghost use Rattle.chunk_usage.specs.Rooms.{Grows};
 
 use super::Usage;
 use crate::open::Open;
@@ -56,7 +57,8 @@ impl Usage {
 
     /// The open chunk counts as filled, so that the next cells come from another one.
     pub fn start_chunk(&mut self)
-        ensures { self.new ≡ closed self.old }
+        ensures after { self.new ≡ closed self.old }
+        ensures grows { Grows (is_used self.old) (is_used self.new) (is_fresh self.old) (is_fresh self.new) }
     {
         if let Some(open) = &mut self.open_chunk {
             open.filled = CHUNK_CELLS;
@@ -125,9 +127,11 @@ impl Usage {
     }
 }
 
-/// The place of the first flag that is clear, or behind the last flag.
+/// The place of the first flag that is clear.
 fn first_clear(flags: &[bool]) -> usize
-    ensures { result ≡ position_or_len not flags.now }
+    requires { 0 < count_by not flags.now }
+    ensures within { result < length flags.now }
+    ensures first { result ≡ position_or_len not flags.now }
 {
     for (place, set) in flags.iter().enumerate() {
         if !*set {

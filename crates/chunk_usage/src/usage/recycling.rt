@@ -1,10 +1,10 @@
 //! Chunks that nothing reaches, given back.
 
-ghost use Rattle.std.specs.Prelude.{◌≡◌, ◌+◌, ◌/◌, ◌<◌, ℕ, true, false, length, Contains};
+ghost use Rattle.std.specs.Prelude.{◌≡◌, ◌&&◌, ◌+◌, ◌/◌, ◌<◌, ℕ, true, false, length, Contains};
 ghost use Rattle.std.specs.List.{list_any};
 ghost use Rattle.packed_node.specs.declared.Cell.{Cell};
 ghost use Rattle.chunk_usage.specs.declared.open.Open.{Open};
-ghost use Rattle.chunk_usage.specs.Ledger.{Row, free_count, is_in_row, is_open};
+ghost use Rattle.chunk_usage.specs.Ledger.{Row, free_count, is_given, is_in_row, is_open};
 ghost use Rattle.chunk_usage.specs.Keeping.{freed, is_in_rows, is_needed, is_unreached, with_free};
 
 use super::Usage;
@@ -19,6 +19,7 @@ impl Usage {
         requires same { C.given cells.old ≡ self.old.given }
         requires in_rows { (q : ℕ) → Contains (C.kept cells.old) q → is_in_rows self.old.rows (q / 1024) ≡ true }
         ensures after { self.new ≡ freed self.old }
+        ensures by_chunk { (k : ℕ) → is_given self.new k ≡ (is_given self.old k && is_needed self.old k) }
         ensures count { free_count self.new ≡ free_count self.old + result }
         ensures given { C.given cells.new ≡ self.new.given }
         ensures others { (q : ℕ) (c : Cell) → is_unreached self.old (q / 1024) ≡ false → C.has cells.old q c → C.has cells.new q c }

@@ -1,9 +1,9 @@
-use Rattle.std.proofs.Common.{◌≡◌, ◌≢◌, ℕ, ◌+◌, ◌/◌, Bool, true, false, List, length, slice_set, sym, ap, ◌∙◌, subst, arith}
+use Rattle.std.proofs.Common.{◌≡◌, ◌+◌, Bool, true, false, List, slice_set, sym, ap, ◌∙◌, subst, arith}
 use Rattle.chunk_cells.specs.Chunks.{IsGiven}
-use Rattle.chunk_usage.specs.Ledger.{Ledger, free_count}
+use Rattle.chunk_usage.specs.Ledger.{Ledger, is_given, free_count}
 use Rattle.chunk_usage.specs.Keeping.{is_unreached}
 use Rattle.chunk_usage.proofs.FlagLemmas.{get_set}
-use Rattle.chunk_usage.proofs.RecyclingLaws.{Freeing, unreached, starts_freeing, still_unreached, freeing_more, freeing_less, ends_freeing, differ}
+use Rattle.chunk_usage.proofs.RecyclingLaws.{Freeing, unreached, still_unreached, freeing_more, freeing_less, ends_freeing, freed_by_chunk, differ}
 use Rattle.chunk_usage.proofs.usage.Usage.free_unreached.Goals as goal
 use Rattle.chunk_usage.proofs.usage.Usage.free_unreached.Goals.{then-is_unreached, else-is_unreached}
 
@@ -47,3 +47,8 @@ loop-chunk-preserved g c =
 
 pub returns-clause-after : goal.returns-clause-after
 returns-clause-after g c = ends_freeing c.args.self.now c.loop-chunk.self c.loop-chunk.chunk c.loop-chunk.invariant.freeing (let e = c.loop-chunk.invariant.end in omega arith)
+
+pub returns-clause-by_chunk : goal.returns-clause-by_chunk
+returns-clause-by_chunk g c k =
+    let e = ends_freeing c.args.self.now c.loop-chunk.self c.loop-chunk.chunk c.loop-chunk.invariant.freeing (let e = c.loop-chunk.invariant.end in omega arith) in
+    ap (λ (l : Ledger). is_given l k) e ∙ freed_by_chunk c.args.self.now k

@@ -1,8 +1,8 @@
-use Rattle.std.proofs.Common.{◌≡◌, ◌+◌, ◌<◌, ◌++◌, ◌∷◌, [], List, ℕ, false, length, take, replicate, slice_set, nat_lt, refl, sym, ap, subst, ◌∙◌, arith}
+use Rattle.std.proofs.Common.{◌≡◌, ◌+◌, ◌++◌, ◌∷◌, [], List, ℕ, false, length, take, replicate, slice_set, nat_lt, refl, ap, ◌∙◌, arith}
 use Rattle.std.proofs.lemmas.Grind.{take-set_at}
-use Rattle.std.proofs.lemmas.List.{length-set, length-map, length-take}
+use Rattle.std.proofs.lemmas.List.{length-set, length-map}
 use Rattle.std.proofs.lemmas.List.Elements.{All-set}
-use Rattle.chunk_usage.specs.Ledger.{Row, Ledger, row_of}
+use Rattle.chunk_usage.specs.Ledger.{Row, row_of}
 use Rattle.chunk_usage.specs.Inside.{ledger_of}
 use Rattle.chunk_usage.proofs.InsideLemmas.{slot_left}
 use Rattle.chunk_usage.proofs.KeepingLaws.{frozen_alike}

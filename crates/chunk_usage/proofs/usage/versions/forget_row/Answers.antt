@@ -1,4 +1,4 @@
-use Rattle.std.proofs.Common.{◌≡◌, ℕ, length, take, drop}
+use Rattle.std.proofs.Common.{◌≡◌, length, drop}
 use Rattle.std.proofs.lemmas.List.Elements.{All-append, All-take, All-drop}
 use Rattle.chunk_usage.specs.Ledger.{Row}
 use Rattle.chunk_usage.proofs.usage.versions.forget_row.Goals as goal

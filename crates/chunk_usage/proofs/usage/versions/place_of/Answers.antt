@@ -1,5 +1,4 @@
-use Rattle.std.proofs.Common.{◌≡◌, ℕ, ◌<◌, ◌∙◌, List, [], length, sym, ap, arith, subst}
-use Rattle.std.specs.List.{position_or_len}
+use Rattle.std.proofs.Common.{◌∙◌, [], length, sym, ap, arith}
 use Rattle.std.proofs.lemmas.List.Sums.{position_or_len_is}
 use Rattle.chunk_usage.specs.Ledger.{Row}
 use Rattle.chunk_usage.specs.Keeping.{is_row_of}

@@ -1,4 +1,4 @@
-use Rattle.std.proofs.Common.{◌≡◌, ℕ, ◌<◌, false, length, slice_index_or}
+use Rattle.std.proofs.Common.{◌≡◌, ℕ, ◌<◌, false, slice_index_or}
 use Rattle.chunk_usage.specs.Ledger.{Row}
 use Rattle.chunk_usage.specs.Keeping.{is_row_of}
 use Rattle.chunk_usage.proofs.usage.versions.place_of.Given as goal

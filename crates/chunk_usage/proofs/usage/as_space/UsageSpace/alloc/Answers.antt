@@ -1,10 +1,8 @@
-use Rattle.std.proofs.Common.{subst}
-use Rattle.chunk_usage.specs.Ledger.{IsLedger}
 use Rattle.chunk_usage.proofs.SpaceLaws.{Hands, handed}
 use Rattle.chunk_usage.proofs.usage.as_space.UsageSpace.alloc.Goals as goal
 
 hands : (c : goal.After-alloc) → Hands c.args.self.now c.alloc.new.self c.args.n c.alloc.result
-hands c = handed c.args.self.now (subst IsLedger c.self.view_is c.self.invariant.ledger) c.args.n c.requires.some c.requires.few c.alloc.new.self c.alloc.result c.alloc.ensures.after c.alloc.ensures.grant
+hands c = handed c.args.self.now c.known.ensures c.args.n c.requires.some c.requires.few c.alloc.new.self c.alloc.result c.alloc.ensures.after c.alloc.ensures.grant
 
 pub returns-clause-room : goal.returns-clause-room
 returns-clause-room c = (hands c).room
