@@ -1,4 +1,10 @@
 mod UnpackLaws
 mod FindLaws
+mod NearLaws
+mod LabelLaws
+mod TwigLaws
+mod LastLaws
+mod StandLaws
+mod WayLaws
 mod SizeLaws
 mod ExampleTrie

@@ -1,3 +1,4 @@
 pub mod Reads
+pub mod Finds
 pub mod Example
 pub mod ExampleLaws

@@ -5,11 +5,15 @@
 //! allocates.
 #![tactic(auto)]
 
-mod find;
+mod found;
+mod look_up;
 mod name_key;
+mod near;
 mod size;
+mod way;
 
-pub use find::get;
+pub use found::{Chain, Found, Kind, find};
+pub use look_up::get;
 pub use size::{count, nodes};
 
 /// What a search needs of a key.
