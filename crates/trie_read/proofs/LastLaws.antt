@@ -30,6 +30,7 @@ use Rattle.trie_read.proofs.TwigLaws.{Ith, ith_of, read_top}
 -- the tree is a leaf
 pub record LeafTold (has : ℕ → Cell → Type 0) (t : Tree) (l : Leaf) : Type 0 where
   pub entry : Entry
+  pub tree : t ≡ leaf entry l.at
   pub is : entries_of t ≡ entry ∷ []
   pub leaf_of : IsLeafOf has entry l
 
@@ -45,7 +46,7 @@ same_node n m r a b = cc
 kind_leaf : (has : ℕ → Cell → Type 0) (low : ℕ) (c : Cell) (t : Tree) (l : Leaf) → IsTop has low c t → node_of t ≡ node.Leaf l → LeafTold has t l
 kind_leaf has low c (leaf e w) l top h =
     let same = same_leaf (record { len = length e.item; at = w }) l h in
-    record { entry = e; is = refl; leaf_of = subst (IsLeafOf has e) same (record { entry = top.tree.0; len = refl; row = top.tree.1; lies = top.beneath }) }
+    record { entry = e; tree = ap (λ (x : Leaf). leaf e x.at) same; is = refl; leaf_of = subst (IsLeafOf has e) same (record { entry = top.tree.0; len = refl; row = top.tree.1; lies = top.beneath }) }
 kind_leaf has low c (branch o w below) l top h = absurd (no_branch l (record { offset = o; bitmap = bitmap_of below; twigs = w }) h)
 
 pub leaf_told : (has : ℕ → Cell → Type 0) (low : ℕ) (c : Cell) (t : Tree) (r : Option Node) (l : Leaf) → Unpacked has low c t r → (n : Node) → r ≡ Some n → n ≡ node.Leaf l → LeafTold has t l

@@ -6,5 +6,10 @@ mod TwigLaws
 mod LastLaws
 mod StandLaws
 mod WayLaws
+mod PathLaws
+mod TurnLaws
+mod GuideLaws
+mod IterLaws
+mod SeekLaws
 mod SizeLaws
 mod ExampleTrie

@@ -102,12 +102,13 @@ twig_at has b below i cell x top = record { left = x.left; position = x.position
 -- a node whose cell said a branch
 pub record Down (has : ℕ → Cell → Type 0) (c : Cell) (t : Tree) (b : Branch) : Type 0 where
   pub below : Twigs
+  pub is : t ≡ branch b.offset b.twigs below
   pub of : IsBranchOf has b below
   pub cell : IsCellOf c b below
   pub all : entries_of t ≡ entries below
 
 pub down : (has : ℕ → Cell → Type 0) (low : ℕ) (c : Cell) (t : Tree) (b : Branch) → IsTop has low c t → BranchTold t b → Down has c t b
-down has low c t b top x = record { below = x.below; of = branch_of has low c t b top x; cell = top.is ∙ ap top_cell x.is; all = ap entries_of x.is }
+down has low c t b top x = record { below = x.below; is = x.is; of = branch_of has low c t b top x; cell = top.is ∙ ap top_cell x.is; all = ap entries_of x.is }
 
 pub down_tells : (has : ℕ → Cell → Type 0) (c : Cell) (t : Tree) (b : Branch) (d : Down has c t b) → EachTells Leads (entries_of t) → EachTells Leads (entries d.below)
 down_tells has c t b d tells e i = tells e (subst (InList e) (sym d.all) i)

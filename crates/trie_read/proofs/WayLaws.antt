@@ -83,7 +83,7 @@ whole_exact has k b below y (After p) h there n never t =
 pub left_twigs : (o p : ℕ) (ts : Twigs) → AreTwigs o 0 ts → (f : Found 0 47 p ts) → AreTwigs o 0 f.left
 left_twigs o p ts a f = twigs_left o 0 f.left (twig p f.here f.rest) (subst (AreTwigs o 0) f.is a)
 
-in_below : (l r : Twigs) (below : Twigs) → below ≡ beside l r → (x : Entry) → InList x (entries l) ⊎ InList x (entries r) → InList x (entries below)
+pub in_below : (l r : Twigs) (below : Twigs) → below ≡ beside l r → (x : Entry) → InList x (entries l) ⊎ InList x (entries r) → InList x (entries below)
 in_below l r below e x (inl i) = subst (InList x) (sym (ap entries e ∙ entries-beside l r)) (in_left x (entries l) (entries r) i)
 in_below l r below e x (inr i) = subst (InList x) (sym (ap entries e ∙ entries-beside l r)) (in_right x (entries l) (entries r) i)
 
@@ -91,7 +91,7 @@ empty : (l : Twigs) → count l ≡ 0 → l ≡ none
 empty none e = refl
 empty (twig p t rest) e = absurd (omega arith)
 
-same_rest : (p q : ℕ) (t u : Tree) (r s : Twigs) → twig p t r ≡ twig q u s → r ≡ s
+pub same_rest : (p q : ℕ) (t u : Tree) (r s : Twigs) → twig p t r ≡ twig q u s → r ≡ s
 same_rest p q t u r s e = cc
 
 same_first : (p q : ℕ) (t u : Tree) (r s v : Twigs) → twig p t r ≡ twig q u s → twig p t v ≡ twig q u v

@@ -1,4 +1,5 @@
 pub mod Reads
 pub mod Finds
+pub mod Walks
 pub mod Example
 pub mod ExampleLaws

@@ -6,13 +6,16 @@
 #![tactic(auto)]
 
 mod found;
+mod iter;
 mod look_up;
 mod name_key;
 mod near;
+mod path;
 mod size;
 mod way;
 
 pub use found::{Chain, Found, Kind, find};
+pub use iter::Iter;
 pub use look_up::get;
 pub use size::{count, nodes};
 
