@@ -15,7 +15,8 @@ use Rattle.trie_read.specs.declared.iter.Place.{Place}
 use Rattle.trie_read.specs.declared.iter.Place.TheVariants.{Facing, Past}
 use Rattle.trie_read.specs.declared.iter.Iter.{Iter}
 use Rattle.trie_read.specs.Reads.{EachTells}
-use Rattle.trie_read.specs.Walks.{HangsBy, AnyStep, Guided, IsPath, LeadsTo, LeadsFrom, Approached, CutAt, OnLeaf, Faces, HasPassed, IsAt, StandsBetween, StandsAtSplit}
+use Rattle.trie_read.specs.Readings.{AtSplit}
+use Rattle.trie_read.specs.Walks.{HangsBy, AnyStep, Guided, IsPath, LeadsTo, LeadsFrom, Approached, CutAt, OnLeaf, Faces, HasPassed, IsAt, StandsBetween}
 use Rattle.trie_read.proofs.PathLaws.{hangs_kept, hangs_between}
 use Rattle.trie_read.proofs.GuideLaws.{guided_sides, split_here, split_after, split_before, all_before, all_after}
 use Rattle.trie_read.proofs.IterLaws.{trie_as}
@@ -60,7 +61,7 @@ cut_from has k r root version path l s new place c = record { whole = s.whole; t
 stands_as : (has : ℕ → Cell → Type 0) (root : Option ℕ) (version before after : List Entry) → version ≡ before ++ after → Stands has root version → Stands has root (before ++ after)
 stands_as has root version before after e s = subst (Stands has root) e s
 
-pub seek_here : (has : ℕ → Cell → Type 0) (k : List ℕ) (r : ℕ) (root : Option ℕ) (version : List Entry) (l : Leaf) (new : Iter) (s : Sought has k r root version new.path l) → new.root ≡ root → Stands has root version → EachTells Leads version → new.place ≡ Facing l → s.at.entry.key ≡ k → StandsAtSplit has root new k version
+pub seek_here : (has : ℕ → Cell → Type 0) (k : List ℕ) (r : ℕ) (root : Option ℕ) (version : List Entry) (l : Leaf) (new : Iter) (s : Sought has k r root version new.path l) → new.root ≡ root → Stands has root version → EachTells Leads version → new.place ≡ Facing l → s.at.entry.key ≡ k → AtSplit (StandsBetween has root new) k version
 seek_here has k r root version l new s e stands told place same =
     let x = s.at in
     let whole = sym (sought_in has k r root version new.path l s) in
@@ -79,7 +80,7 @@ seek_here has k r root version l new s e stands told place same =
     }
 
 pub seek_past : (has : ℕ → Cell → Type 0) (k : List ℕ) (r : ℕ) (root : Option ℕ) (version : List Entry) (path : Path) (l : Leaf) (s : Sought has k r root version path l) (cut : Path) (place : ℕ) (c : CutAt k cut s.whole s.at.entry place) (new : Iter) (m : Leaf) → new.root ≡ root → Stands has root version → EachTells Leads version →
-    Same place k s.at.entry.key → at s.at.entry.key place < at k place → new.place ≡ Past m → HasPassed has (Some r) new.path m (c.before ++ entries_of c.tree) c.after → StandsAtSplit has root new k version
+    Same place k s.at.entry.key → at s.at.entry.key place < at k place → new.place ≡ Past m → HasPassed has (Some r) new.path m (c.before ++ entries_of c.tree) c.after → AtSplit (StandsBetween has root new) k version
 seek_past has k r root version path l s cut place c new m e stands told same less at passed =
     let all : version ≡ c.before ++ (entries_of c.tree ++ c.after) = sym (hangs_between (Guided k) cut.steps s.whole cut.depth c.tree c.before c.after c.hangs ∙ s.trie.holds) in
     let sides = guided_sides k cut.steps s.whole s.trie.shape cut.depth c.tree c.before c.after c.hangs s.at.entry c.there place same (λ n step f there. c.early n step f there) in
@@ -97,7 +98,7 @@ seek_past has k r root version path l s cut place c new m e stands told same les
     }
 
 pub seek_facing : (has : ℕ → Cell → Type 0) (k : List ℕ) (r : ℕ) (root : Option ℕ) (version : List Entry) (path : Path) (l : Leaf) (s : Sought has k r root version path l) (cut : Path) (place : ℕ) (c : CutAt k cut s.whole s.at.entry place) (new : Iter) (m : Leaf) → new.root ≡ root → Stands has root version → EachTells Leads version →
-    Same place k s.at.entry.key → at k place < at s.at.entry.key place → new.place ≡ Facing m → Faces has (Some r) new.path m c.before (entries_of c.tree ++ c.after) → StandsAtSplit has root new k version
+    Same place k s.at.entry.key → at k place < at s.at.entry.key place → new.place ≡ Facing m → Faces has (Some r) new.path m c.before (entries_of c.tree ++ c.after) → AtSplit (StandsBetween has root new) k version
 seek_facing has k r root version path l s cut place c new m e stands told same less at faces =
     let all : version ≡ c.before ++ (entries_of c.tree ++ c.after) = sym (hangs_between (Guided k) cut.steps s.whole cut.depth c.tree c.before c.after c.hangs ∙ s.trie.holds) in
     let sides = guided_sides k cut.steps s.whole s.trie.shape cut.depth c.tree c.before c.after c.hangs s.at.entry c.there place same (λ n step f there. c.early n step f there) in

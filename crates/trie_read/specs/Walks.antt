@@ -5,7 +5,6 @@ use Rattle.packed_node.specs.declared.Leaf.{Leaf}
 use Rattle.packed_node.specs.declared.Branch.{Branch}
 use Rattle.zone_model.specs.Keys.{Leads}
 use Rattle.trie_model.specs.Keys.{Same, Entry, InList, Less}
-use Rattle.trie_model.specs.Order.{IsSplitAt}
 use Rattle.trie_model.specs.Trees.{Tree, Twigs, entries_of, entries, count, beside, IsTree}
 use Rattle.trie_model.specs.Trees.Tree.{leaf, branch}
 use Rattle.trie_model.specs.Trees.Twigs.{twig}
@@ -180,13 +179,6 @@ pub record StandsSomewhere (has : ℕ → Cell → Type 0) (iter : Iter) : Type 
   pub root : Option ℕ
   pub before : List Entry
   pub after : List Entry
-  pub standing : StandsBetween has root iter before after
-
--- it stands where the key splits the version
-pub record StandsAtSplit (has : ℕ → Cell → Type 0) (root : Option ℕ) (iter : Iter) (key : List ℕ) (version : List Entry) : Type 0 where
-  pub before : List Entry
-  pub after : List Entry
-  pub split : IsSplitAt key version before after
   pub standing : StandsBetween has root iter before after
 
 -- the iterator at the beginning

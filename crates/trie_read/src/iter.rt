@@ -7,7 +7,8 @@ ghost use Rattle.trie_model.specs.Trees.{Tree, entries_of};
 ghost use Rattle.trie_model.specs.Memory.{IsTrieAt};
 ghost use Rattle.trie_read.specs.Reads.{EachTells};
 ghost use Rattle.trie_read.specs.declared.iter.Place.TheVariants.{Facing, Past};
-ghost use Rattle.trie_read.specs.Walks.{AnyStep, LeadsTo, LeadsFrom, IsStart, StandsBetween, StandsSomewhere, StandsAtSplit, Faces, HasPassed};
+ghost use Rattle.trie_read.specs.Readings.{AtSplit};
+ghost use Rattle.trie_read.specs.Walks.{AnyStep, LeadsTo, LeadsFrom, IsStart, StandsBetween, StandsSomewhere, Faces, HasPassed};
 
 use super::near::{Near, name_at};
 use super::path::Path;
@@ -176,7 +177,7 @@ impl Iter {
         requires { StandsSomewhere (C.has cells.old) self.old }
         ensures same { cells.new ≡ cells.old }
         ensures split { (root : Option ℕ) (before after : List Entry) → StandsBetween (C.has cells.old) root self.old before after
-            → StandsAtSplit (C.has cells.old) root self.new key.now (before ++ after) }
+            → AtSplit (StandsBetween (C.has cells.old) root self.new) key.now (before ++ after) }
     {
         match self.root {
             None => {}

@@ -11,12 +11,14 @@ mod look_up;
 mod name_key;
 mod near;
 mod path;
+mod reading;
 mod size;
 mod way;
 
 pub use found::{Chain, Found, Kind, find};
 pub use iter::Iter;
 pub use look_up::get;
+pub use reading::{CellReading, Reading};
 pub use size::{count, nodes};
 
 /// What a search needs of a key.
