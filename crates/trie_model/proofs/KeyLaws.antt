@@ -1,8 +1,8 @@
 -- Laws of keys and of lists of entries.
-use Rattle.std.proofs.Common.{◌≡◌, ℕ, suc, ◌-◌, ◌<◌, ◌⊎◌, List, [], ◌∷◌, ◌++◌, length, arith, inl, inr, sym, ext_get_or}
+use Rattle.std.proofs.Common.{◌≡◌, ℕ, zero, suc, ◌-◌, ◌<◌, ◌≤◌, ◌⊎◌, List, [], ◌∷◌, ◌++◌, length, arith, inl, inr, refl, sym, subst, ◌∙◌, ext_get_or}
 use Rattle.std.proofs.lemmas.Bool.{cases_lt}
 use Rattle.std.proofs.lemmas.List.{get_or_past}
-use Rattle.trie_model.specs.Keys.{at, IsKey, Entry, InList}
+use Rattle.trie_model.specs.Keys.{at, Same, IsKey, Entry, InList}
 
 pub in_left : (e : Entry) (xs ys : List Entry) → InList e xs → InList e (xs ++ ys)
 in_left e [] ys h = absurd h
@@ -37,3 +37,25 @@ same_key a b ka kb same = elim (cases_lt (length a) (length b)) [
   | inl l ↦ absurd (longer a b ka kb same l)
   | inr g ↦ elim (cases_lt (length b) (length a)) [ inl l ↦ absurd (longer b a kb ka (λ i. sym (same i)) l) | inr k ↦ ext_get_or 0 a b (omega arith) (λ i l. same i) ]
 ]
+
+-- a key that ends before a branch's offset is not below it: each key there would end with it, and two differ
+shorter : (o : ℕ) (k y : List ℕ) → IsKey k → IsKey y → Same o y k → length k < o → (n : ℕ) → length k ≡ n → length y ≤ length k
+shorter o k y kk ky same l zero e = elim (cases_lt (length k) (length y)) [
+  | inl m ↦ (let first = ky.full 0 (omega arith) (same 0 (omega arith) ∙ get_or_past k 0 0 (omega arith)) in let f = first.1 in absurd (omega arith))
+  | inr g ↦ g
+]
+shorter o k y kk ky same l (suc n) e = elim (cases_lt (length k) (length y)) [
+  | inl m ↦ (
+      let past = same (length k) l ∙ get_or_past k (length k) 0 (omega arith) in
+      let label = ky.full (length k) m past in
+      let place : label.0 ≡ n = let f = label.1 in omega arith in
+      let end = same n (omega arith) ∙ kk.ended n (sym e) in
+      let more = subst (λ (i : ℕ). 0 < at y i) place label.2 in absurd (omega arith)
+      )
+  | inr g ↦ g
+]
+
+pub past_end : (o : ℕ) (k y : List ℕ) → IsKey k → IsKey y → Same o y k → length k < o → at y o ≡ at k o
+past_end o k y kk ky same l =
+    let s = shorter o k y kk ky same l (length k) refl in
+    get_or_past y o 0 (omega arith) ∙ sym (get_or_past k o 0 (omega arith))

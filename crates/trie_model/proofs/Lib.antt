@@ -11,4 +11,6 @@ pub mod CountLaws
 pub mod ReachLaws
 pub mod FewLaws
 pub mod ShapeLaws
+pub mod ChainLaws
+pub mod SideLaws
 pub mod NameLaws

@@ -1,5 +1,5 @@
 -- The key of a name is a key for the trie, and an item that begins with a name tells it.
-use Rattle.std.proofs.Common.{◌≡◌, ◌↔◌, ℕ, zero, suc, ◌+◌, ◌-◌, ◌<◌, ◌≤◌, ◌⊎◌, inl, inr, Bool, true, false, eqb, cond, List, [], ◌∷◌, ◌++◌, length, take, drop, get_or, Some, arith, refl, sym, ap, ◌∙◌, subst, append_assoc, length-append, length-take, take-append-drop}
+use Rattle.std.proofs.Common.{◌≡◌, ◌↔◌, ℕ, zero, suc, ◌+◌, ◌-◌, ◌*◌, ◌<◌, ◌≤◌, ◌⊎◌, inl, inr, Bool, true, false, eqb, cond, List, [], ◌∷◌, ◌++◌, length, take, drop, get_or, Some, arith, refl, sym, ap, ◌∙◌, subst, append_assoc, length-append, length-take, take-append-drop}
 use Rattle.std.proofs.lemmas.Bool.{cases_lt}
 use Rattle.std.proofs.lemmas.Bool.Decides.{nat_tests}
 use Rattle.std.proofs.lemmas.List.{get_or_past, get_or_append_left, get_or-append_right}
@@ -13,6 +13,8 @@ use Rattle.zone_model.proofs.OctetKeys.{bounds}
 use Rattle.zone_model.proofs.KeyLaws.{key_of-cons, length-key_of}
 use Rattle.zone_model.proofs.SplitLemmas.{name_back}
 use Rattle.trie_model.specs.Keys.{at, IsKey, IsItem}
+use Rattle.trie_model.specs.Order.{labels_in}
+use Rattle.trie_model.proofs.ChainLaws.{labels-append, labels_within}
 
 -- positions of octets: none is 0
 record Full (k : List ℕ) : Type 0 where
@@ -147,3 +149,29 @@ leads_by_front key item is = (there, back)
       key = x.key;
       front = (x.front.0 ++ drop 256 item, sym (take-append-drop 256 item) ∙ ap (λ (xs : List ℕ). xs ++ drop 256 item) x.front.1 ∙ append_assoc (wire x.name) x.front.0 (drop 256 item));
     }
+
+-- ---- a key has an end for each label
+no_ends : (k : List ℕ) → Full k → labels_in k ≡ 0
+no_ends [] f = refl
+no_ends (p ∷ ps) f =
+    let e : eqb p 0 ≡ false = let l = (f.each 0 (omega arith)).0 in grind (arith, nat_tests) in
+    labels_within p ps e ∙ no_ends ps (record { each = λ i l. f.each (suc i) (omega arith) })
+
+pub labels_of : (name : Name) → AllByRecursion IsLabel name → labels_in (key_of name) ≡ length name
+labels_of [] h = refl
+labels_of (label ∷ labels) h =
+    let octets = flat_map octet_positions label in
+    let none = no_ends octets (octets_full label h.0.octets) in
+    let a = ap labels_in (key_of-cons label labels) in
+    let b = labels-append (key_of labels) (octets ++ (0 ∷ [])) in
+    let c = labels-append octets (0 ∷ []) in
+    let one : labels_in (0 ∷ []) ≡ 1 = refl in
+    let d = labels_of labels h.1 in omega arith
+
+wire_short : (name : Name) → AllByRecursion IsLabel name → 2 * length name + 1 ≤ length (wire name)
+wire_short [] h = omega arith
+wire_short (label ∷ labels) h = let a = wire_short labels h.1 in let b = h.0.some in let c = length-append label (wire labels) in omega arith
+
+-- at most 127 labels
+pub labels_few : (k : List ℕ) → IsNameKey k → labels_in k ≤ 127
+labels_few k h = let a = ap labels_in h.2 in let b = labels_of h.0 h.1.each in let c = wire_short h.0 h.1.each in let d = h.1.short in omega arith

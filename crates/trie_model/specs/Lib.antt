@@ -4,4 +4,5 @@ pub mod Trees
 pub mod Reach
 pub mod Memory
 pub mod Shape
+pub mod Order
 pub mod Laws

@@ -1,16 +1,14 @@
 -- Where a key leads, and what that says of the whole trie.
-use Rattle.std.proofs.Common.{◌≡◌, ℕ, zero, suc, length, ◌+◌, ◌/◌, ◌%◌, ◌^◌, ◌<◌, ◌≤◌, List, count_ones, Option, Some, None, arith, inl, inr, refl, sym, ◌∙◌, ap, subst}
+use Rattle.std.proofs.Common.{◌≡◌, ℕ, suc, length, ◌+◌, ◌/◌, ◌%◌, ◌^◌, ◌<◌, ◌≤◌, List, count_ones, Option, Some, None, arith, sym, ◌∙◌, ap, subst}
 use Rattle.packed_node.specs.declared.Cell.{Cell}
 use Rattle.packed_node.specs.declared.Leaf.{Leaf}
 use Rattle.packed_node.specs.declared.Branch.{Branch}
-use Rattle.std.proofs.lemmas.Bool.{cases_lt}
-use Rattle.std.proofs.lemmas.List.{get_or_past}
-use Rattle.trie_model.specs.Keys.{at, Same, IsKey, Entry, InList}
+use Rattle.trie_model.specs.Keys.{at, IsKey, Entry, InList}
 use Rattle.trie_model.specs.Trees.{Tree, Twigs, IsTree, AreTwigs, entries_of, entries, count, bitmap_of}
 use Rattle.trie_model.specs.Trees.Tree.{branch}
 use Rattle.trie_model.specs.Trees.Twigs.{twig}
 use Rattle.trie_model.specs.Memory.{top_cell, Beneath, Lie}
-use Rattle.trie_model.proofs.KeyLaws.{in_left, in_right}
+use Rattle.trie_model.proofs.KeyLaws.{in_left, in_right, past_end}
 use Rattle.trie_model.proofs.GrowthLaws.{each_of}
 use Rattle.trie_model.proofs.ShapeLaws.{two_of}
 use Rattle.trie_model.proofs.BitmapLaws.{Rising}
@@ -73,28 +71,6 @@ gives_absent has k low c t b p top x is ep bit =
     (λ e i alike. not_missing b.offset (at k b.offset) x.below tree.5
     (missing_of 0 47 (at k b.offset) x.below (let z : 0 ≤ at k b.offset = omega arith in z) (is.positions b.offset) (rising_of b.offset 0 x.below (let z : 0 ≤ 47 = omega arith in z) tree.5) (λ z. bit (same ∙ z)))
     e i (ap (λ (y : List ℕ). at y b.offset) alike))
-
--- a key that ends before a branch's offset is not below it: each key there would end with it, and two differ
-shorter : (o : ℕ) (k y : List ℕ) → IsKey k → IsKey y → Same o y k → length k < o → (n : ℕ) → length k ≡ n → length y ≤ length k
-shorter o k y kk ky same l zero e = elim (cases_lt (length k) (length y)) [
-  | inl m ↦ (let first = ky.full 0 (omega arith) (same 0 (omega arith) ∙ get_or_past k 0 0 (omega arith)) in let f = first.1 in absurd (omega arith))
-  | inr g ↦ g
-]
-shorter o k y kk ky same l (suc n) e = elim (cases_lt (length k) (length y)) [
-  | inl m ↦ (
-      let past = same (length k) l ∙ get_or_past k (length k) 0 (omega arith) in
-      let label = ky.full (length k) m past in
-      let place : label.0 ≡ n = let f = label.1 in omega arith in
-      let end = same n (omega arith) ∙ kk.ended n (sym e) in
-      let more = subst (λ (i : ℕ). 0 < at y i) place label.2 in absurd (omega arith)
-      )
-  | inr g ↦ g
-]
-
-past_end : (o : ℕ) (k y : List ℕ) → IsKey k → IsKey y → Same o y k → length k < o → at y o ≡ at k o
-past_end o k y kk ky same l =
-    let s = shorter o k y kk ky same l (length k) refl in
-    get_or_past y o 0 (omega arith) ∙ sym (get_or_past k o 0 (omega arith))
 
 pub gives_past : (has : ℕ → Cell → Type 0) (k : List ℕ) (low : ℕ) (c : Cell) (t : Tree) (b : Branch) → IsTop has low c t → BranchTold t b → length k < b.offset → Gives has k (entries_of t) None
 gives_past has k low c t b top x l e i alike =

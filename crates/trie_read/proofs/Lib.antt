@@ -1,4 +1,15 @@
 mod UnpackLaws
 mod FindLaws
+mod NearLaws
+mod LabelLaws
+mod TwigLaws
+mod LastLaws
+mod StandLaws
+mod WayLaws
+mod PathLaws
+mod TurnLaws
+mod GuideLaws
+mod IterLaws
+mod SeekLaws
 mod SizeLaws
 mod ExampleTrie

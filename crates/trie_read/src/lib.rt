@@ -5,11 +5,20 @@
 //! allocates.
 #![tactic(auto)]
 
-mod find;
+mod found;
+mod iter;
+mod look_up;
 mod name_key;
+mod near;
+mod path;
+mod reading;
 mod size;
+mod way;
 
-pub use find::get;
+pub use found::{Chain, Found, Kind, find};
+pub use iter::Iter;
+pub use look_up::get;
+pub use reading::{CellReading, Reading};
 pub use size::{count, nodes};
 
 /// What a search needs of a key.

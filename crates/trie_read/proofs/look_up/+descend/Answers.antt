@@ -4,7 +4,7 @@ use Rattle.trie_model.specs.Memory.{top_cell, Beneath}
 use Rattle.trie_read.specs.Reads.{IsTop, Gives}
 use Rattle.trie_read.proofs.UnpackLaws.{never_none, branch_told, falls_in}
 use Rattle.trie_read.proofs.FindLaws.{next_of, tells_next, gives_next, gives_absent, gives_past}
-use Rattle.trie_read.proofs.find.+descend.Goals as goal
+use Rattle.trie_read.proofs.look_up.+descend.Goals as goal
 
 pub cell-next-requires : goal.cell-next-requires
 cell-next-requires g t c =

@@ -1,0 +1,203 @@
+-- A path that a key guides, and what stands on each side of its end.
+use Rattle.std.proofs.Common.{◌≡◌, ℕ, zero, suc, ◌-◌, ◌/◌, ◌%◌, ◌^◌, ◌<◌, ◌≤◌, List, [], ◌∷◌, ◌++◌, Some, slice_get, get_or, count_ones, append_assoc, arith, inl, inr, refl, sym, ◌∙◌, ap, subst}
+use Rattle.std.proofs.lemmas.Bool.{cases_lt}
+use Rattle.std.proofs.lemmas.Option.{get_or_from_slice_get}
+use Rattle.packed_node.specs.declared.Cell.{Cell}
+use Rattle.packed_node.specs.declared.Branch.{Branch}
+use Rattle.trie_model.specs.Keys.{at, Same, IsKey, Entry, InList, Less, Rises}
+use Rattle.trie_model.specs.Order.{IsSplitAt}
+use Rattle.trie_model.specs.Trees.{Tree, Twigs, entries_of, entries, count, bitmap_of, beside, IsTree, AreTwigs}
+use Rattle.trie_model.specs.Trees.Tree.{leaf, branch}
+use Rattle.trie_model.specs.Trees.Twigs.{none, twig}
+use Rattle.trie_model.proofs.KeyLaws.{in_left, in_right, in_both}
+use Rattle.trie_model.proofs.BitmapLaws.{count-beside}
+use Rattle.trie_model.proofs.SplitLaws.{Found, Missing, look, rising_of, twigs_left, twigs_right, entries-beside}
+use Rattle.trie_model.proofs.AddLaws.{found_twigs}
+use Rattle.trie_model.proofs.SideLaws.{AgreesWith, agrees_with, lower_left, upper_right}
+use Rattle.trie_read.specs.declared.path.Step.{Step}
+use Rattle.trie_read.specs.declared.path.Path.{Path}
+use Rattle.trie_read.specs.Finds.{IsBranchOf}
+use Rattle.trie_read.specs.Walks.{step_of, HangsBy, Guided, CutAt}
+use Rattle.trie_read.proofs.TwigLaws.{Ith}
+use Rattle.trie_read.proofs.WayLaws.{in_ith, in_below, cut_again, same_rest}
+use Rattle.trie_read.proofs.PathLaws.{shape_above, below_step, at_depth}
+use Rattle.trie_read.proofs.TurnLaws.{some_same}
+
+-- ---- the step that the key chooses
+-- twigs cut at one place in two ways
+cut_same : (l m r s : Twigs) → beside l r ≡ beside m s → count l ≡ count m → (l ≡ m) × (r ≡ s)
+cut_same none none r s e n = (refl, e)
+cut_same none (twig q u m) r s e n = absurd (omega arith)
+cut_same (twig p t l) none r s e n = absurd (omega arith)
+cut_same (twig p t l) (twig q u m) r s e n =
+    let c = cut_same l m r s (same_rest p q t u (beside l r) (beside m s) e) (omega arith) in
+    (heads p q t u (beside l r) (beside m s) l e ∙ ap (twig q u) c.0, c.1)
+  where
+    heads : (p q : ℕ) (t u : Tree) (x y v : Twigs) → twig p t x ≡ twig q u y → twig p t v ≡ twig q u v
+    heads p q t u x y v e = cc
+
+in_rest : (p : ℕ) (t : Tree) (r : Twigs) (x : Entry) → InList x (entries r) → InList x (entries (twig p t r))
+in_rest p t r x i = in_right x (entries_of t) (entries r) i
+
+in_front : (l s : Twigs) (x : Entry) → InList x (entries l) → InList x (entries (beside l s))
+in_front l s x i = subst (InList x) (sym (entries-beside l s)) (in_left x (entries l) (entries s) i)
+
+pub guided_step : (has : ℕ → Cell → Type 0) (k : List ℕ) (b : Branch) (below : Twigs) (i : ℕ) (x : Ith has b.offset b.twigs i below) → IsBranchOf has b below → IsKey k →
+    ((b.bitmap / 2 ^ at k b.offset) % 2 ≡ 1 → i ≡ count_ones (b.bitmap % 2 ^ at k b.offset)) → (((b.bitmap / 2 ^ at k b.offset) % 2 ≡ 1 → ⊥) → i ≡ count_ones (b.bitmap % 2 ^ at k b.offset) - 1) → Guided k (step_of b i) x.left x.tree x.right
+guided_step has k b below i x h is there absent y y_in same =
+    elim (look 0 47 (at k b.offset) below (let z : 0 ≤ at k b.offset = omega arith in z) (is.positions b.offset) (rising_of b.offset 0 below (let z : 0 ≤ 47 = omega arith in z) h.tree.5)) [ inl f ↦ found f | inr m ↦ missing m ]
+  where
+    with_k : AgreesWith b.offset k (entries below)
+    with_k = agrees_with b.offset k (entries below) y h.tree.4 (in_ith has b below i x y y_in) same
+
+    bits : (n : ℕ) → count_ones (bitmap_of below % 2 ^ at k b.offset) ≡ n → count_ones (b.bitmap % 2 ^ at k b.offset) ≡ n
+    bits n e = ap (λ (m : ℕ). count_ones (m % 2 ^ at k b.offset)) h.bitmap ∙ e
+
+    found : Found 0 47 (at k b.offset) below → ((z : Entry) → InList z (entries x.left) → Less z.key k) × ((z : Entry) → InList z (entries x.right) → Less k z.key)
+    found f =
+        let n = bits (count f.left) f.index in
+        let index = there (subst (λ (m : ℕ). (m / 2 ^ at k b.offset) % 2 ≡ 1) (sym h.bitmap) f.bit) in
+        let c = cut_same x.left f.left (twig x.position x.tree x.right) (twig (at k b.offset) f.here f.rest) (sym x.is ∙ f.is) (let p = x.place in omega arith) in
+        let rest = same_rest x.position (at k b.offset) x.tree f.here x.right f.rest c.1 in
+        let left = twigs_left b.offset 0 f.left (twig (at k b.offset) f.here f.rest) (subst (AreTwigs b.offset 0) f.is h.tree.5) in
+        let right = (found_twigs b.offset (at k b.offset) below h.tree.5 f).4 in (
+          λ z j. lower_left b.offset 0 k f.left left f.lower (λ w l. with_k w (in_below f.left (twig (at k b.offset) f.here f.rest) below f.is w (inl l))) z (subst (λ (ts : Twigs). InList z (entries ts)) c.0 j),
+          λ z j. upper_right b.offset (suc (at k b.offset)) k f.rest right f.upper (λ w l. with_k w (in_below f.left (twig (at k b.offset) f.here f.rest) below f.is w (inr (in_rest (at k b.offset) f.here f.rest w l)))) z (subst (λ (ts : Twigs). InList z (entries ts)) rest j),
+        )
+
+    missing : Missing 0 47 (at k b.offset) below → ((z : Entry) → InList z (entries x.left) → Less z.key k) × ((z : Entry) → InList z (entries x.right) → Less k z.key)
+    missing m =
+        let n = bits (count m.left) m.index in
+        let clear : (b.bitmap / 2 ^ at k b.offset) % 2 ≡ 0 = subst (λ (w : ℕ). (w / 2 ^ at k b.offset) % 2 ≡ 0) (sym h.bitmap) m.bit in
+        let index = absent (λ e. omega arith) in
+        let left = twigs_left b.offset 0 m.left m.right (subst (AreTwigs b.offset 0) m.is h.tree.5) in
+        let right = twigs_right b.offset 0 (suc (at k b.offset)) 47 m.left m.right (subst (AreTwigs b.offset 0) m.is h.tree.5) m.upper in
+        let lower = lower_left b.offset 0 k m.left left m.lower (λ w l. with_k w (in_below m.left m.right below m.is w (inl l))) in
+        let upper = upper_right b.offset (suc (at k b.offset)) k m.right right m.upper (λ w l. with_k w (in_below m.left m.right below m.is w (inr l))) in
+        elim (cases_lt 0 (count m.left)) [
+          | inl some ↦ (
+              let c = cut_again x.left m.left m.right x.right x.position x.tree (sym x.is ∙ m.is) (let p = x.place in omega arith) in (
+                λ z j. lower z (subst (λ (ts : Twigs). InList z (entries ts)) (sym c.0) (in_front x.left (twig x.position x.tree none) z j)),
+                λ z j. upper z (subst (λ (ts : Twigs). InList z (entries ts)) c.1 j),
+              )
+              )
+          | inr nothing ↦ (
+              let c = cut_same x.left m.left (twig x.position x.tree x.right) m.right (sym x.is ∙ m.is) (let p = x.place in omega arith) in (
+                λ z j. lower z (subst (λ (ts : Twigs). InList z (entries ts)) c.0 j),
+                λ z j. upper z (subst (λ (ts : Twigs). InList z (entries ts)) c.1 (in_rest x.position x.tree x.right z j)),
+              )
+              )
+        ]
+
+pub nearest_inside : (has : ℕ → Cell → Type 0) (k : List ℕ) (b : Branch) (below : Twigs) (i : ℕ) → IsBranchOf has b below → IsKey k →
+    ((b.bitmap / 2 ^ at k b.offset) % 2 ≡ 1 → i ≡ count_ones (b.bitmap % 2 ^ at k b.offset)) → (((b.bitmap / 2 ^ at k b.offset) % 2 ≡ 1 → ⊥) → i ≡ count_ones (b.bitmap % 2 ^ at k b.offset) - 1) → i < count below
+nearest_inside has k b below i h is there absent =
+    elim (look 0 47 (at k b.offset) below (let z : 0 ≤ at k b.offset = omega arith in z) (is.positions b.offset) (rising_of b.offset 0 below (let z : 0 ≤ 47 = omega arith in z) h.tree.5)) [ inl f ↦ found f | inr m ↦ missing m ]
+  where
+    bits : (n : ℕ) → count_ones (bitmap_of below % 2 ^ at k b.offset) ≡ n → count_ones (b.bitmap % 2 ^ at k b.offset) ≡ n
+    bits n e = ap (λ (m : ℕ). count_ones (m % 2 ^ at k b.offset)) h.bitmap ∙ e
+
+    found : Found 0 47 (at k b.offset) below → i < count below
+    found f =
+        let n = bits (count f.left) f.index in
+        let index = there (subst (λ (m : ℕ). (m / 2 ^ at k b.offset) % 2 ≡ 1) (sym h.bitmap) f.bit) in
+        let c = ap count f.is ∙ count-beside f.left (twig (at k b.offset) f.here f.rest) in omega arith
+
+    missing : Missing 0 47 (at k b.offset) below → i < count below
+    missing m =
+        let n = bits (count m.left) m.index in
+        let clear : (b.bitmap / 2 ^ at k b.offset) % 2 ≡ 0 = subst (λ (w : ℕ). (w / 2 ^ at k b.offset) % 2 ≡ 0) (sym h.bitmap) m.bit in
+        let index = absent (λ e. omega arith) in
+        let c = ap count m.is ∙ count-beside m.left m.right in let two = h.tree.3 in omega arith
+
+-- ---- the sides of a path whose last branch lies before the key's first difference from what is below
+in_parent : (o w : ℕ) (l r : Twigs) (p : ℕ) (t : Tree) (y : Entry) → InList y (entries_of t) → InList y (entries_of (branch o w (beside l (twig p t r))))
+in_parent o w l r p t y i = subst (InList y) (sym (entries-beside l (twig p t r))) (in_right y (entries l) (entries_of t ++ entries r) (in_left y (entries_of t) (entries r) i))
+
+pub guided_sides : (k : List ℕ) (steps : List Step) (whole : Tree) → IsTree 0 whole → (n : ℕ) (t : Tree) (before after : List Entry) → HangsBy (Guided k) steps whole n t before after → (y : Entry) → InList y (entries_of t) → (place : ℕ) → Same place k y.key →
+    ((m : ℕ) (step : Step) → suc m ≡ n → slice_get steps m ≡ Some step → step.offset ≤ place) → ((x : Entry) → InList x before → Less x.key k) × ((x : Entry) → InList x after → Less k x.key)
+guided_sides k steps whole shape zero t before after h y i place same early = (λ x j. absurd (subst (InList x) h.1 j), λ x j. absurd (subst (InList x) h.2 j))
+guided_sides k steps whole shape (suc n) t before after h y i place same early =
+    let o = early n h.step refl h.there in
+    let up = shape_above (Guided k) steps whole shape n t before after h in
+    let more = guided_sides k steps whole shape n (branch h.step.offset h.step.twigs (beside h.on.left (twig h.on.position t h.on.right))) h.on.before_all h.on.after_all h.on.parent y (in_parent h.step.offset h.step.twigs h.on.left h.on.right h.on.position t y i) place same
+    (λ m step e there. (let d = earlier m step e there in omega arith)) in
+    let here = h.so y i (λ j l. same j (omega arith)) in (
+      λ x j. elim (in_both x h.on.before_all (entries h.on.left) (subst (InList x) h.on.before_is j)) [ inl a ↦ more.0 x a | inr b ↦ here.0 x b ],
+      λ x j. elim (in_both x (entries h.on.right) h.on.after_all (subst (InList x) h.on.after_is j)) [ inl a ↦ here.1 x a | inr b ↦ more.1 x b ],
+    )
+  where
+    -- the branch above lies before
+    earlier : (m : ℕ) (step : Step) → suc m ≡ n → slice_get steps m ≡ Some step → step.offset < h.step.offset
+    earlier m step e there =
+        let q : HangsBy (Guided k) steps whole (suc m) (branch h.step.offset h.step.twigs (beside h.on.left (twig h.on.position t h.on.right))) h.on.before_all h.on.after_all = at_depth (Guided k) steps whole n (suc m) (branch h.step.offset h.step.twigs (beside h.on.left (twig h.on.position t h.on.right))) h.on.before_all h.on.after_all (sym e) h.on.parent in
+        let s = ap (λ (z : Step). z.offset) (some_same q.step step (slice_get steps m) q.there there) in
+        let tree = below_step (Guided k) steps whole shape m (branch h.step.offset h.step.twigs (beside h.on.left (twig h.on.position t h.on.right))) h.on.before_all h.on.after_all q in
+        let a = tree.0 in omega arith
+
+-- ---- the split of the list
+rises_parts : (xs ys : List Entry) → Rises (xs ++ ys) → ((x y : Entry) → InList x xs → InList y ys → Less x.key y.key) × Rises ys
+rises_parts [] ys r = (λ x y i. absurd i, r)
+rises_parts (z ∷ xs) ys r = let p = rises_parts xs ys r.1 in (λ x y i j. elim i [ inl e ↦ subst (λ (w : Entry). Less w.key y.key) (sym e) (r.0 y (in_right y xs ys j)) | inr l ↦ p.0 x y l j ], p.1)
+
+-- at an entry that has the key
+pub split_here : (k : List ℕ) (version before after : List Entry) (e : Entry) → Rises version → version ≡ before ++ (e ∷ after) → e.key ≡ k → IsSplitAt k version before (e ∷ after)
+split_here k version before after e rises whole same =
+    let p = rises_parts before (e ∷ after) (subst Rises whole rises) in
+    record {
+      whole = whole;
+      lower = λ x i. subst (Less x.key) same (p.0 x e i (inl refl));
+      upper = λ x i. elim i [ inl h ↦ inl (sym (ap (λ (z : Entry). z.key) h ∙ same)) | inr h ↦ inr (subst (λ (z : List ℕ). Less z x.key) same (p.1.0 x h)) ];
+    }
+
+-- after entries that are all before the key
+pub split_after : (k : List ℕ) (version before part after : List Entry) → version ≡ before ++ (part ++ after) → ((x : Entry) → InList x before → Less x.key k) → ((x : Entry) → InList x part → Less x.key k) → ((x : Entry) → InList x after → Less k x.key) → IsSplitAt k version (before ++ part) after
+split_after k version before part after whole l m u = record { whole = whole ∙ sym (append_assoc before part after); lower = λ x i. elim (in_both x before part i) [ inl a ↦ l x a | inr b ↦ m x b ]; upper = λ x i. inr (u x i) }
+
+-- before entries that are all after it
+pub split_before : (k : List ℕ) (version before part after : List Entry) → version ≡ before ++ (part ++ after) → ((x : Entry) → InList x before → Less x.key k) → ((x : Entry) → InList x part → Less k x.key) → ((x : Entry) → InList x after → Less k x.key) → IsSplitAt k version before (part ++ after)
+split_before k version before part after whole l m u = record { whole = whole; lower = l; upper = λ x i. inr (elim (in_both x part after i) [ inl a ↦ m x a | inr b ↦ u x b ]) }
+
+-- all that read as an entry does up to the first difference are on its side
+pub all_before : (k : List ℕ) (e : Entry) (es : List Entry) (place : ℕ) → Same place k e.key → at e.key place < at k place → ((x : Entry) → InList x es → Same (suc place) x.key e.key) → (x : Entry) → InList x es → Less x.key k
+all_before k e es place same less alike x i = record { place = place; same = λ j l. alike x i j (omega arith) ∙ sym (same j l); lower = (let r = alike x i place (omega arith) in omega arith) }
+
+pub all_after : (k : List ℕ) (e : Entry) (es : List Entry) (place : ℕ) → Same place k e.key → at k place < at e.key place → ((x : Entry) → InList x es → Same (suc place) x.key e.key) → (x : Entry) → InList x es → Less k x.key
+all_after k e es place same less alike x i = record { place = place; same = λ j l. same j l ∙ sym (alike x i j (omega arith)); lower = (let r = alike x i place (omega arith) in omega arith) }
+
+-- ---- the path cut
+pub record CutTo (key : List ℕ) (steps : List Step) (depth : ℕ) (whole : Tree) (e : Entry) (place : ℕ) : Type 0 where
+  pub tree : Tree
+  pub before : List Entry
+  pub after : List Entry
+  pub hangs : HangsBy (Guided key) steps whole depth tree before after
+  pub there : InList e (entries_of tree)
+  pub alike : (x : Entry) → InList x (entries_of tree) → Same (suc place) x.key e.key
+
+pub cut_start : (key : List ℕ) (steps : List Step) (depth : ℕ) (whole : Tree) (e : Entry) (w place : ℕ) (before after : List Entry) → HangsBy (Guided key) steps whole depth (leaf e w) before after → CutTo key steps depth whole e place
+cut_start key steps depth whole e w place before after h = record { tree = leaf e w; before = before; after = after; hangs = h; there = inl refl; alike = λ x i j l. elim i [ inl y ↦ ap (λ (z : Entry). at z.key j) y | inr z ↦ absurd z ] }
+
+-- a step more is taken back
+pub cut_more : (key : List ℕ) (steps : List Step) (depth : ℕ) (whole : Tree) (e : Entry) (place : ℕ) (d : Step) → IsTree 0 whole → 0 < depth → place < (get_or steps (depth - 1) d).offset → CutTo key steps depth whole e place → CutTo key steps (depth - 1) whole e place
+cut_more key steps depth whole e place d shape some past c =
+    let n : depth ≡ suc (depth - 1) = omega arith in
+    let h = at_depth (Guided key) steps whole depth (suc (depth - 1)) c.tree c.before c.after n c.hangs in
+    let s = ap (λ (x : Step). x.offset) (get_or_from_slice_get steps (depth - 1) h.step d h.there) in
+    let up = shape_above (Guided key) steps whole shape (depth - 1) c.tree c.before c.after h in
+    let there = in_parent h.step.offset h.step.twigs h.on.left h.on.right h.on.position c.tree e c.there in
+    record { tree = branch h.step.offset h.step.twigs (beside h.on.left (twig h.on.position c.tree h.on.right)); before = h.on.before_all; after = h.on.after_all; hangs = h.on.parent; there = there; alike = λ x i j l. up.4 x e i there j (omega arith) }
+
+pub cut_end : (key : List ℕ) (path : Path) (whole : Tree) (e : Entry) (place : ℕ) (d : Step) → (0 < path.depth → (get_or path.steps (path.depth - 1) d).offset ≤ place) → CutTo key path.steps path.depth whole e place → CutAt key path whole e place
+cut_end key path whole e place d last c = record {
+  tree = c.tree;
+  before = c.before;
+  after = c.after;
+  hangs = c.hangs;
+  there = c.there;
+  alike = c.alike;
+  early = λ n step depth there. (
+      let m : path.depth - 1 ≡ n = omega arith in
+      let s = ap (λ (x : Step). x.offset) (ap (λ (i : ℕ). get_or path.steps i d) m ∙ get_or_from_slice_get path.steps n step d there) in
+      let l = last (omega arith) in omega arith
+      );
+}

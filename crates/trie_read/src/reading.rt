@@ -1,0 +1,174 @@
+//! One version of the trie, read by whoever holds it.
+
+ghost use Rattle.std.specs.Prelude.{◌≡◌, ℕ, List};
+ghost use Rattle.zone_model.specs.Keys.{Leads};
+ghost use Rattle.trie_model.specs.Keys.{Entry};
+ghost use Rattle.trie_model.specs.Memory.{Stands};
+ghost use Rattle.trie_read.specs.Reads.{EachTells};
+
+use super::found::{Found, find};
+use super::iter::Iter;
+use super::look_up::get;
+use super::size::{count, nodes};
+use chunk_cells::{CellRead, read_item};
+use packed_node::Ref;
+use shift_key::Key;
+
+/// A version of the trie: what it has under which number. All calls are of that one version, and change nothing.
+pub trait Reading {
+    ghost use Rattle.std.specs.Prelude.{◌≡◌, ◌++◌, ◌∷◌, [], ℕ, List, length, take, Some, None};
+    ghost use Rattle.trie_model.specs.Keys.{Entry};
+    ghost use Rattle.trie_model.specs.Order.{IsPredecessor, chain_labels};
+    ghost use Rattle.trie_model.specs.Shape.{nodes as nodes_of_keys, keys_of};
+    ghost use Rattle.trie_read.specs.declared.iter.Iter.{Iter};
+    ghost use Rattle.trie_read.specs.Finds.{IsKind};
+    ghost use Rattle.trie_read.specs.Readings.{Fetched, IsHeld, IsStanding, AtSplit};
+
+    // The version's number.
+    ghost number: { Self → ℕ };
+
+    // The version has these entries, in the order of their keys.
+    ghost holds: { Self → List Entry → Type 0 };
+
+    // The iterator is of this version, and stands between these entries.
+    ghost stands: { Self → Iter → List Entry → List Entry → Type 0 };
+
+    /// The version's number.
+    fn version(&mut self) -> u64
+        ensures same { self.new ≡ self.old }
+        ensures number { result ≡ number self.old };
+
+    /// Reads the item of a key into the beginning of `out`, and gives its length; `None` where the key is not there.
+    fn fetch(&mut self, key: &Key, out: &mut [u8; 4096]) -> Option<usize>
+        requires { IsHeld (holds self.old) }
+        ensures same { self.new ≡ self.old }
+        ensures item { (version : List Entry) → holds self.old version → Fetched key.now version out.old out.new result };
+
+    /// What there is of the key's name, the names above it, and the last name that isn't after it.
+    fn find(&mut self, key: &Key) -> Found
+        requires { IsHeld (holds self.old) }
+        ensures same { self.new ≡ self.old }
+        ensures kind { (version : List Entry) → holds self.old version → IsKind key.now version result.kind }
+        ensures chain { (version : List Entry) → holds self.old version
+            → take result.chain.len result.chain.labels ≡ chain_labels key.now version }
+        ensures pred { (version : List Entry) → holds self.old version → IsPredecessor key.now version result.pred };
+
+    /// An iterator before the first name.
+    fn iter(&mut self) -> Iter
+        ensures same { self.new ≡ self.old }
+        ensures start { (version : List Entry) → holds self.old version → stands self.old result [] version };
+
+    /// Stands the iterator before the first name at or after the key's.
+    fn seek(&mut self, iter: &mut Iter, key: &Key)
+        requires { IsStanding (stands self.old iter.old) }
+        ensures same { self.new ≡ self.old }
+        ensures split { (before after : List Entry) → stands self.old iter.old before after
+            → AtSplit (stands self.old iter.new) key.now (before ++ after) };
+
+    /// The next name's key; the iterator is then after it. `None` exactly at the end, and the iterator stays.
+    fn next(&mut self, iter: &mut Iter) -> Option<Key>
+        requires { IsStanding (stands self.old iter.old) }
+        ensures same { self.new ≡ self.old }
+        ensures next { (before after : List Entry) (e : Entry) → stands self.old iter.old before (e ∷ after) → result ≡ Some e.key }
+        ensures passed { (before after : List Entry) (e : Entry) → stands self.old iter.old before (e ∷ after)
+            → stands self.old iter.new (before ++ e ∷ []) after }
+        ensures end { (before : List Entry) → stands self.old iter.old before [] → result ≡ None }
+        ensures stays { (before : List Entry) → stands self.old iter.old before [] → stands self.old iter.new before [] };
+
+    /// The previous name's key; the iterator is then before it. `None` exactly at the beginning, and the iterator stays.
+    fn prev(&mut self, iter: &mut Iter) -> Option<Key>
+        requires { IsStanding (stands self.old iter.old) }
+        ensures same { self.new ≡ self.old }
+        ensures prev { (before after : List Entry) (e : Entry) → stands self.old iter.old (before ++ e ∷ []) after → result ≡ Some e.key }
+        ensures passed { (before after : List Entry) (e : Entry) → stands self.old iter.old (before ++ e ∷ []) after
+            → stands self.old iter.new before (e ∷ after) }
+        ensures beginning { (after : List Entry) → stands self.old iter.old [] after → result ≡ None }
+        ensures stays { (after : List Entry) → stands self.old iter.old [] after → stands self.old iter.new [] after };
+
+    /// How many names there are.
+    fn count(&mut self) -> u64
+        requires { IsHeld (holds self.old) }
+        ensures same { self.new ≡ self.old }
+        ensures count { (version : List Entry) → holds self.old version → result ≡ length version };
+
+    /// How many nodes the trie has.
+    fn nodes(&mut self) -> u64
+        requires { IsHeld (holds self.old) }
+        ensures same { self.new ≡ self.old }
+        ensures nodes { (version : List Entry) → holds self.old version → result ≡ nodes_of_keys (keys_of version) };
+}
+
+/// A version of the trie in some cells, by its root.
+#[derive(Drop)]
+pub struct CellReading<C> {
+    cells: C,
+    root: Option<Ref>,
+    number: u64,
+}
+
+impl<C: CellRead + Drop> CellReading<C> {
+    /// The version with this root.
+    pub fn new(cells: C, root: Option<Ref>, number: u64) -> CellReading<C>
+        ensures number { ⟦<CellReading<C> as Reading>⟧.number result ≡ number }
+        ensures holds { (version : List Entry) → Stands (C.has cells) root version → EachTells Leads version
+            → ⟦<CellReading<C> as Reading>⟧.holds result version }
+    {
+        CellReading {
+            cells,
+            root,
+            number,
+        }
+    }
+}
+
+impl<C: CellRead + Drop> Reading for CellReading<C> {
+    ghost use Rattle.zone_model.specs.Keys.{Leads};
+    ghost use Rattle.trie_model.specs.Memory.{Stands};
+    ghost use Rattle.trie_read.specs.Reads.{EachTells};
+    ghost use Rattle.trie_read.specs.Walks.{StandsBetween};
+
+    ghost number = { λ s. s.number };
+
+    ghost holds = { λ s version. Stands (C.has s.cells) s.root version × EachTells Leads version };
+
+    ghost stands = { λ s. StandsBetween (C.has s.cells) s.root };
+
+    fn version(&mut self) -> u64 {
+        self.number
+    }
+
+    fn fetch(&mut self, key: &Key, out: &mut [u8; 4096]) -> Option<usize> {
+        match get(&mut self.cells, self.root, key) {
+            None => None,
+            Some(leaf) => Some(read_item(&mut self.cells, leaf, out)),
+        }
+    }
+
+    fn find(&mut self, key: &Key) -> Found {
+        find(&mut self.cells, self.root, key)
+    }
+
+    fn iter(&mut self) -> Iter {
+        Iter::start(self.root)
+    }
+
+    fn seek(&mut self, iter: &mut Iter, key: &Key) {
+        iter.seek(&mut self.cells, key);
+    }
+
+    fn next(&mut self, iter: &mut Iter) -> Option<Key> {
+        iter.next(&mut self.cells)
+    }
+
+    fn prev(&mut self, iter: &mut Iter) -> Option<Key> {
+        iter.prev(&mut self.cells)
+    }
+
+    fn count(&mut self) -> u64 {
+        count(&mut self.cells, self.root)
+    }
+
+    fn nodes(&mut self) -> u64 {
+        nodes(&mut self.cells, self.root)
+    }
+}
