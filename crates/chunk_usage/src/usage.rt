@@ -79,8 +79,7 @@ impl Usage {
     /// How many chunks there are.
     #[inline]
     pub fn chunks(&self) -> u32
-        ensures count { result ≡ length self.now.given }
-        ensures ledger { IsLedger self.now }
+        ensures { result ≡ length self.now.given }
     {
         self.given.len() as u32
     }

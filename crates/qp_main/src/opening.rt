@@ -44,10 +44,7 @@ fn item_of(alloc: Global, name: &Name, entry: &Entry) -> Result<Item, AllocError
 }
 
 // The items of a version, in order.
-fn items_of(
-    alloc: Global,
-    version: &BTreeMap<OwnedName, Entry>,
-) -> Result<Vec<Item>, AllocError>
+fn items_of(alloc: Global, version: &BTreeMap<OwnedName, Entry>) -> Result<Vec<Item>, AllocError>
     requires { AllByRecursion Storable version.now.entries }
     ensures items { IfOk result (λ items. entries_of_items items.items ≡ trie_entries version.now.entries) }
     ensures names { IfOk result (λ _. AreNames version.now.entries) }

@@ -77,7 +77,7 @@ impl Index {
         let mut usage = Usage::new(alloc, chunks, passes)?;
         let Ok(root) = build(&mut plain, &mut usage, items) else {
             // There was room: each chunk that was left for another has at most 255 cells left.
-            let _chunks = usage.chunks();
+            usage.known();
             unreachable!();
         };
         usage.freeze(0);

@@ -29,7 +29,7 @@ unreachable-requires c =
     let within = c.if-needed-limit.false in
     let cost = c.build.ensures.spends in
     no_shortage new c.in_default.field-0 c.args.chunks (cells (entries_of_items c.args.items.now))
-    (as_many c.in_ok-usage.usage new c.chunks-chunks.ensures.ledger c.build.ensures.frozen c.args.chunks c.args.passes c.in_ok-usage.ensures)
+    (as_many c.in_ok-usage.usage new c.known.ensures c.build.ensures.frozen c.args.chunks c.args.passes c.in_ok-usage.ensures)
     c.requires.enough (omega arith) (omega arith) (count_by-le-length not new.given) c.in_default.ensures.full
 
 pub returns-clause-shows : goal.returns-clause-shows
