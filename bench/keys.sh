@@ -1,5 +1,5 @@
 #!/usr/bin/env bash
-# Times how a million names become keys: builds bench/keys.rt in a copy of the crates that it needs, which takes some
+# Times how a million names become keys: builds bench/keys.rattle in a copy of the crates that it needs, which takes some
 # minutes the first time, and runs it three times. Changes nothing but files in a temporary folder.
 set -eu
 here=$(cd "$(dirname "$0")" && pwd)
@@ -10,7 +10,7 @@ cp "$here/../HANDLES" "$folder/"
 for crate in zone_model dns_name shift_key; do
     cp -r "$here/../crates/$crate" "$folder/crates/"
 done
-cp "$here/keys.rt" "$folder/crates/keys/src/main.rt"
+cp "$here/keys.rattle" "$folder/crates/keys/src/main.rt"
 printf '%s\n' 'zone_model:' 'dns_name: zone_model' 'shift_key: zone_model dns_name' 'keys: dns_name shift_key' \
     >"$folder/crates.txt"
 python3 - >"$folder/names" <<'PY'
