@@ -1,4 +1,3 @@
-pub mod AddLemmas
 pub mod EntryLemmas
 pub mod LineLemmas
 pub mod RecordLemmas

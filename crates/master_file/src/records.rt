@@ -12,6 +12,7 @@ use dns_name::{Name, OwnedName};
 use rr_data::{Entry, Rdata, Token};
 use std::alloc::{AllocError, Global};
 use std::collections::BTreeMap;
+use std::collections::btree_map::Entry as Place;
 use zone_model::ZoneKind;
 
 /// What the entries so far leave.
@@ -76,20 +77,17 @@ fn grow(
 ) -> Result<(), ZoneRefusal>
     ensures { Gives result version.new.entries (placed_in last owner.now rtype time rdata version.old.entries) }
 {
-    let key = OwnedName::of(alloc, owner)?;
-    match version.get_mut(&key) {
-        Some(entry) => {
+    match version.entry(OwnedName::of(alloc, owner)?)? {
+        Place::Occupied(taken) => {
+            let entry = taken.into_mut();
             entry.add(alloc, rtype, time, rdata)?;
-            match check_entry(entry, owner, last) {
-                Ok(()) => Ok(()),
-                Err(refusal) => Err(refusal),
-            }
+            check_entry(entry, owner, last)
         }
-        None => {
+        Place::Vacant(free) => {
             let mut entry = Entry::empty(alloc);
             entry.add(alloc, rtype, time, rdata)?;
             check_entry(&entry, owner, last)?;
-            version.insert(key, entry)?;
+            free.insert(entry);
             Ok(())
         }
     }
