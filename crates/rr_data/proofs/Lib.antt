@@ -8,6 +8,7 @@ pub mod FormLemmas
 pub mod NumberLemmas
 pub mod OneEscapeLemmas
 pub mod PlaceLemmas
+pub mod PrintedFieldLemmas
 pub mod PrintedLemmas
 pub mod StartsLemmas
 pub mod StringLemmas
