@@ -125,7 +125,7 @@ hex_end : (v d : ℕ) → d < 16 → hex_from v (hex_digit d ∷ []) ≡ 16 * v 
 unfolding hex_from
 hex_end v d h = hex_step v d [] h
 
-hexdigit_is : (d : ℕ) → d < 16 → is_ascii_hexdigit (hex_digit d) ≡ true
+pub hexdigit_is : (d : ℕ) → d < 16 → is_ascii_hexdigit (hex_digit d) ≡ true
 hexdigit_is d h = by_test (ltb d 10) refl
   where
     by_test : (t : Bool) → ltb d 10 ≡ t → is_ascii_hexdigit (cond t (48 + d) (87 + d)) ≡ true
@@ -146,7 +146,7 @@ pub record IsGroupText (n : ℕ) (text : List ℕ) : Type 0 where
   pub some : 0 < length text
   pub short : length text ≤ 4
 
-group_texts : (n : ℕ) → n < 65536 → IsGroupText n (group_text n)
+pub group_texts : (n : ℕ) → n < 65536 → IsGroupText n (group_text n)
 group_texts n h =
     let a = digit_at 4096 n in
     let b = digit_at 256 n in
@@ -200,7 +200,7 @@ InPairs (a ∷ []) = ⊥
 InPairs (a ∷ b ∷ []) = (a < 256) × (b < 256)
 InPairs (a ∷ b ∷ next ∷ rest) = (a < 256) × (b < 256) × InPairs (next ∷ rest)
 
-in_pairs : (n : ℕ) (octets : List ℕ) → length octets ≡ 2 * n + 2 → IsBytes octets → InPairs octets
+pub in_pairs : (n : ℕ) (octets : List ℕ) → length octets ≡ 2 * n + 2 → IsBytes octets → InPairs octets
 in_pairs n [] e h = absurd (omega arith)
 in_pairs n (a ∷ []) e h = absurd (omega arith)
 in_pairs n (a ∷ b ∷ []) e h = (h 0, h 1)
@@ -320,7 +320,7 @@ pub record IsReadBack (origin : Name) (field : Field) (text rest octets : List �
   pub read : field_octets origin field text ≡ Some front
   pub octets_are : octets ≡ front ++ rest
 
-map_some : {A B : Type 0} (f : A → B) (o : Option A) (y : B) → option_map f o ≡ Some y → (x : A) × (o ≡ Some x) × (f x ≡ y)
+pub map_some : {A B : Type 0} (f : A → B) (o : Option A) (y : B) → option_map f o ≡ Some y → (x : A) × (o ≡ Some x) × (f x ≡ y)
 map_some f None y h = absurd cc
 map_some f (Some x) y h = (x, refl, cc)
 
@@ -328,26 +328,26 @@ cond_some : {A : Type 0} (b : Bool) (o : Option A) (y : A) → cond b o None ≡
 cond_some true o y h = (refl, h)
 cond_some false o y h = absurd cc
 
-octets_split : (n : ℕ) (octets : List ℕ) (x : List ℕ × List ℕ) → split_octets n octets ≡ Some x → (length x.0 ≡ n) × (octets ≡ x.0 ++ x.1)
+pub octets_split : (n : ℕ) (octets : List ℕ) (x : List ℕ × List ℕ) → split_octets n octets ≡ Some x → (length x.0 ≡ n) × (octets ≡ x.0 ++ x.1)
 octets_split n octets x h =
     let c = cond_some (leb n (length octets)) (Some (take n octets, drop n octets)) x h in
     let le : n ≤ length octets = leb-true n (length octets) c.0 in
     let e : (take n octets, drop n octets) ≡ x = cc in
     (ap (λ (y : List ℕ × List ℕ). length y.0) (sym e) ∙ length-take-le n octets le, sym (take-append-drop n octets) ∙ ap (λ (y : List ℕ × List ℕ). y.0 ++ y.1) e)
 
-time_split : (octets : List ℕ) (o : Option (List ℕ × List ℕ)) (x : List ℕ × List ℕ) → split_octets 4 octets ≡ o → option_and_then (λ y. cond (leb (from_be_bytes w32 y.0) most_time) (Some y) None) o ≡ Some x → (o ≡ Some x) × (from_be_bytes w32 x.0 ≤ most_time)
+pub time_split : (octets : List ℕ) (o : Option (List ℕ × List ℕ)) (x : List ℕ × List ℕ) → split_octets 4 octets ≡ o → option_and_then (λ y. cond (leb (from_be_bytes w32 y.0) most_time) (Some y) None) o ≡ Some x → (o ≡ Some x) × (from_be_bytes w32 x.0 ≤ most_time)
 time_split octets None x e h = absurd cc
 time_split octets (Some y) x e h =
     let c = cond_some (leb (from_be_bytes w32 y.0) most_time) (Some y) x h in
     (c.1, let k : y ≡ x = cc in rw (sym k) (leb-true (from_be_bytes w32 y.0) most_time c.0))
 
-short_size : (octets : List ℕ) → length octets ≡ 2 → IsBytes octets → from_be_bytes w16 octets ≤ 65535
+pub short_size : (octets : List ℕ) → length octets ≡ 2 → IsBytes octets → from_be_bytes w16 octets ≤ 65535
 short_size [] e h = absurd (omega arith)
 short_size (a ∷ []) e h = absurd (omega arith)
 short_size (a ∷ b ∷ []) e h = omega (arith, h 0, h 1)
 short_size (a ∷ b ∷ c ∷ octets) e h = absurd (omega arith)
 
-number_size : (octets : List ℕ) → length octets ≡ 4 → IsBytes octets → from_be_bytes w32 octets ≤ 4294967295
+pub number_size : (octets : List ℕ) → length octets ≡ 4 → IsBytes octets → from_be_bytes w32 octets ≤ 4294967295
 number_size [] e h = absurd (omega arith)
 number_size (a ∷ []) e h = absurd (omega arith)
 number_size (a ∷ b ∷ []) e h = absurd (omega arith)
