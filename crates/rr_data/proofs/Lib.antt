@@ -8,7 +8,10 @@ pub mod FormLemmas
 pub mod NumberLemmas
 pub mod OneEscapeLemmas
 pub mod PlaceLemmas
+pub mod PrintedDataLemmas
+pub mod PrintedFieldLemmas
 pub mod PrintedLemmas
+pub mod PrintedWordLemmas
 pub mod StartsLemmas
 pub mod StringLemmas
 pub mod StringTextLemmas

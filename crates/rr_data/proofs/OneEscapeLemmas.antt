@@ -1,10 +1,10 @@
 -- An escape in a string stands for the octet that it stands for in a name.
-use Rattle.std.proofs.Common.{◌≡◌, ◌∙◌, ℕ, suc, ◌+◌, ◌-◌, ◌*◌, ◌<◌, ◌≤◌, Bool, true, false, cond, leb, ltb, eqb, ◌&&◌, List, [], ◌∷◌, length, drop, get_or, refl, sym, ap, arith, Option, Some, None, option_and_then}
+use Rattle.std.proofs.Common.{◌≡◌, ℕ, ◌+◌, ◌-◌, ◌*◌, Bool, true, false, leb, ltb, eqb, List, [], ◌∷◌, length, drop, refl, ap, arith, Option, option_and_then}
 use Rattle.std.proofs.lemmas.Bool.Decides.{nat_tests}
 use Rattle.std.specs.Option.{option_map}
 use Rattle.std.specs.Char.{is_ascii_digit}
 use Rattle.zone_model.specs.Escapes.{escaped_octet, escape_len, number_of_three}
-use Rattle.zone_model.specs.DataWords.{octets_from, unescaped, Plain, Slash, One, Two}
+use Rattle.zone_model.specs.DataWords.{octets_from, unescaped, Slash}
 
 -- the octet of the escape, and what the text behind it says
 abbrev behind_escape : List ℕ → Option (List ℕ)

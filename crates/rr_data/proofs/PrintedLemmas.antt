@@ -1,5 +1,5 @@
 -- What is printed is read again: strings, hexadecimal digits, numbers.
-use Rattle.std.proofs.Common.{◌≡◌, ◌∙◌, ℕ, ◌+◌, ◌-◌, ◌*◌, ◌/◌, ◌%◌, ◌^◌, ◌<◌, ◌≤◌, length, get_or, suc, option_and_then, Bool, true, false, cond, ◌&&◌, ◌||◌, eqb, ltb, leb, List, [], ◌∷◌, ◌++◌, refl, sym, ap, arith, Option, Some, None, append_assoc}
+use Rattle.std.proofs.Common.{◌≡◌, ◌∙◌, ℕ, ◌+◌, ◌-◌, ◌*◌, ◌/◌, ◌%◌, ◌^◌, ◌<◌, ◌≤◌, length, get_or, suc, option_and_then, Bool, true, false, cond, ◌&&◌, ◌||◌, eqb, ltb, leb, List, [], ◌∷◌, ◌++◌, refl, ap, arith, Some, None}
 use Rattle.std.proofs.lemmas.Bool.Decides.{nat_tests}
 use borrow.Author.Tests.{eqb-true, ltb-true, ltb-false}
 use Rattle.std.specs.Option.{option_map}
@@ -85,7 +85,7 @@ string_back (c ∷ octets) h = octet_back c (string_text octets) h.0 ∙ ap (opt
 
 -- ---- hexadecimal digits
 
-digit_back : (n : ℕ) → n < 16 → digit_value (hex_digit n) ≡ n
+pub digit_back : (n : ℕ) → n < 16 → digit_value (hex_digit n) ≡ n
 digit_back n h = by_test (ltb n 10) refl
   where
     by_test : (t : Bool) → ltb n 10 ≡ t → digit_value (cond t (48 + n) (87 + n)) ≡ n
@@ -144,11 +144,14 @@ all_digits_of v n (c ∷ ds) h = by_test (leb 48 c && leb c 57) refl h (all_digi
     by_test true e k f = ap (λ b. b && list_all is_ascii_digit ds) e ∙ f k
     by_test false e k f = absurd cc
 
+pub decimal_all_digits : (n : ℕ) → n < 2 ^ 64 → list_all is_ascii_digit (decimal n) ≡ true
+decimal_all_digits n small = all_digits_of 0 n (decimal n) (decimal_digits n small)
+
 pub time_back : (n : ℕ) → n ≤ 2147483647 → time_of (decimal n) ≡ Some n
 unfolding time_of
 time_back n h =
     let small : n < 2 ^ 64 = omega arith in
-    ap (λ b. cond b (number most_time (decimal n)) (option_and_then (at_most most_time) (groups 0 None (decimal n)))) (all_digits_of 0 n (decimal n) (decimal_digits n small)) ∙ number_back most_time n small h
+    ap (λ b. cond b (number most_time (decimal n)) (option_and_then (at_most most_time) (groups 0 None (decimal n)))) (decimal_all_digits n small) ∙ number_back most_time n small h
 
 pub bytes_of : (octets : List ℕ) → ((i : ℕ) → get_or octets i 0 < 256) → AllByRecursion (λ c. c < 256) octets
 bytes_of [] b = tt

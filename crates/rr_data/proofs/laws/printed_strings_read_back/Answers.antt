@@ -1,4 +1,4 @@
-use Rattle.std.proofs.Common.{arith, ℕ, ◌<◌, get_or}
+use Rattle.std.proofs.Common.{arith, ◌<◌, get_or}
 use Rattle.rr_data.proofs.PrintedLemmas.{string_back, bytes_of}
 use Rattle.rr_data.proofs.laws.printed_strings_read_back.Goals as goal
 

@@ -1,0 +1,234 @@
+-- What is printed is words and strings that a line is cut into.
+use Rattle.std.proofs.Common.{◌≡◌, ◌∙◌, ℕ, ◌+◌, ◌*◌, ◌/◌, ◌%◌, ◌^◌, ◌<◌, Bool, true, false, cond, ◌&&◌, ◌||◌, eqb, ltb, List, [], ◌∷◌, ◌++◌, length, get_or, refl, sym, ap, subst, arith, append_assoc, append-nil, length-append}
+use Rattle.std.proofs.lemmas.Bool.Decides.{nat_tests}
+use Rattle.std.proofs.lemmas.Slice.Eq.{bytes_eq-Decides}
+use Rattle.std.specs.Str.{bytes_eq}
+use Rattle.std.specs.List.{list_all, flat_map, AllByRecursion}
+use Rattle.std.specs.Int.{w16, from_be_bytes}
+use Rattle.std.specs.Char.{is_ascii_digit, is_ascii_hexdigit}
+use Rattle.std.specs.Fmt.{decimal}
+use Rattle.std.proofs.lemmas.Fmt.{decimal_nonempty}
+use Rattle.zone_model.specs.Names.{Name, Label}
+use Rattle.zone_model.specs.NameText.{text_of, label_text, octet_text, is_special, three_digits}
+use Rattle.zone_model.specs.Grammar as says
+use Rattle.zone_model.specs.Grammar.{Run, stops_word, stops_quote}
+use Rattle.zone_model.specs.DataText.{string_octet, string_text, hex_text, hex_digit, address_text, groups_text, group_text}
+use Rattle.rr_data.proofs.PrintedLemmas.{decimal_all_digits}
+use Rattle.rr_data.proofs.PrintedFieldLemmas.{group_texts, InPairs, hexdigit_is}
+
+pub run_append : {stops : ℕ → Bool} {a : List ℕ} → Run stops a → (b : List ℕ) → Run stops b → Run stops (a ++ b)
+run_append says.Empty b r = r
+run_append (says.Plain c text e h) b r = says.Plain c (text ++ b) e (run_append h b r)
+run_append (says.Escaped c text h) b r = says.Escaped c (text ++ b) (run_append h b r)
+
+both : (a b : Bool) → (a && b) ≡ true → (a ≡ true) × (b ≡ true)
+both true b h = (refl, h)
+both false b h = absurd cc
+
+-- bytes that pass a test which no stop passes
+run_all : (stops p : ℕ → Bool) (text : List ℕ) → ((c : ℕ) → p c ≡ true → stops c ≡ false) → list_all p text ≡ true → Run stops text
+run_all stops p [] f h = says.Empty
+run_all stops p (c ∷ text) f h = let g = both (p c) (list_all p text) h in says.Plain c text (f c g.0) (run_all stops p text f g.1)
+
+run_one : (stops : ℕ → Bool) (c : ℕ) → stops c ≡ false → Run stops (c ∷ [])
+run_one stops c h = says.Plain c [] h says.Empty
+
+run_flat : {A : Type 0} (stops : ℕ → Bool) (f : A → List ℕ) (xs : List A) → ((x : A) → Run stops (f x)) → Run stops (flat_map f xs)
+run_flat stops f [] h = says.Empty
+run_flat stops f (x ∷ xs) h = run_append (h x) (flat_map f xs) (run_flat stops f xs h)
+
+digit_goes_on : (c : ℕ) → is_ascii_digit c ≡ true → stops_word c ≡ false
+digit_goes_on c h = grind (arith, nat_tests)
+
+hexdigit_goes_on : (c : ℕ) → is_ascii_hexdigit c ≡ true → stops_word c ≡ false
+hexdigit_goes_on c h = grind (arith, nat_tests)
+
+digit_in_quotes : (c : ℕ) → is_ascii_digit c ≡ true → stops_quote c ≡ false
+digit_in_quotes c h = grind (arith, nat_tests)
+
+pub decimal_word : (n : ℕ) → n < 2 ^ 64 → Run stops_word (decimal n)
+decimal_word n h = run_all stops_word is_ascii_digit (decimal n) digit_goes_on (decimal_all_digits n h)
+
+-- a backslash and three digits
+digits_run : (stops : ℕ → Bool) (c : ℕ) → ((x : ℕ) → is_ascii_digit x ≡ true → stops x ≡ false) → c < 256 → Run stops (92 ∷ three_digits c)
+digits_run stops c f h =
+    let b : is_ascii_digit (c / 10 % 10 + 48) ≡ true = digit_is (c / 10 % 10) (omega arith) in
+    let d : is_ascii_digit (c % 10 + 48) ≡ true = digit_is (c % 10) (omega arith) in
+    says.Escaped (c / 100 + 48) ((c / 10 % 10 + 48) ∷ (c % 10 + 48) ∷ [])
+    (says.Plain (c / 10 % 10 + 48) ((c % 10 + 48) ∷ []) (f (c / 10 % 10 + 48) b) (run_one stops (c % 10 + 48) (f (c % 10 + 48) d)))
+  where
+    digit_is : (d : ℕ) → d < 10 → is_ascii_digit (d + 48) ≡ true
+    digit_is d h = grind (arith, nat_tests)
+
+-- ---- names
+
+plain_octet : (c : ℕ) → is_special c ≡ false → (ltb 32 c && ltb c 127) ≡ true → stops_word c ≡ false
+plain_octet c h k = grind (arith, nat_tests)
+
+octet_run : (c : ℕ) → c < 256 → Run stops_word (octet_text c)
+octet_run c h = go (is_special c) (ltb 32 c && ltb c 127) refl refl
+  where
+    go : (s p : Bool) → is_special c ≡ s → (ltb 32 c && ltb c 127) ≡ p → Run stops_word (cond s (92 ∷ c ∷ []) (cond p (c ∷ []) (92 ∷ three_digits c)))
+    go true p es ep = says.Escaped c [] says.Empty
+    go false true es ep = run_one stops_word c (plain_octet c es ep)
+    go false false es ep = digits_run stops_word c digit_goes_on h
+
+octets_run : (label : Label) → AllByRecursion (λ c. c < 256) label → Run stops_word (flat_map octet_text label)
+octets_run [] h = says.Empty
+octets_run (c ∷ label) h = run_append (octet_run c h.0) (flat_map octet_text label) (octets_run label h.1)
+
+label_run : (label : Label) → AllByRecursion (λ c. c < 256) label → Run stops_word (label_text label)
+label_run label h = run_append (octets_run label h) (46 ∷ []) (run_one stops_word 46 refl)
+
+labels_run : (labels : Name) → AllByRecursion (AllByRecursion (λ c. c < 256)) labels → Run stops_word (flat_map label_text labels)
+labels_run [] h = says.Empty
+labels_run (label ∷ labels) h = run_append (label_run label h.0) (flat_map label_text labels) (labels_run labels h.1)
+
+pub name_word : (name : Name) → AllByRecursion (AllByRecursion (λ c. c < 256)) name → Run stops_word (text_of name)
+name_word [] h = run_one stops_word 46 refl
+name_word (label ∷ labels) h = labels_run (label ∷ labels) h
+
+-- a name's text ends with a dot
+record EndsWithDot (text : List ℕ) : Type 0 where
+  pub front : List ℕ
+  pub is : text ≡ front ++ 46 ∷ []
+
+labels_end : (label : Label) (labels : Name) → EndsWithDot (flat_map label_text (label ∷ labels))
+labels_end label [] = record { front = flat_map octet_text label; is = append-nil (label_text label) }
+labels_end label (next ∷ labels) =
+    let e = labels_end next labels in
+    record { front = label_text label ++ e.front; is = ap (λ (l : List ℕ). label_text label ++ l) e.is ∙ sym (append_assoc (label_text label) e.front (46 ∷ [])) }
+
+name_ends : (name : Name) → EndsWithDot (text_of name)
+name_ends [] = record { front = []; is = refl }
+name_ends (label ∷ labels) = labels_end label labels
+
+pub name_some : (name : Name) → 0 < length (text_of name)
+name_some name = let e = name_ends name in omega (arith, ap (λ (l : List ℕ). length l) e.is, length-append e.front (46 ∷ []))
+
+-- the word that begins data of any type
+abbrev pub any_type : List ℕ
+any_type = 92 ∷ 35 ∷ []
+
+second_is_dot : (front : List ℕ) (x y : ℕ) → front ++ 46 ∷ [] ≡ x ∷ y ∷ [] → 46 ≡ y
+second_is_dot [] x y k = let n : length {A = ℕ} (46 ∷ []) ≡ length (x ∷ y ∷ []) = ap (λ (l : List ℕ). length l) k in absurd (omega (arith, n))
+second_is_dot (a ∷ []) x y k = ap (λ (l : List ℕ). get_or l 1 0) k
+second_is_dot (a ∷ b ∷ front) x y k =
+    let n : length (a ∷ (b ∷ (front ++ 46 ∷ []))) ≡ length (x ∷ y ∷ []) = ap (λ (l : List ℕ). length l) k in
+    let m : length (front ++ 46 ∷ []) ≡ length front + length {A = ℕ} (46 ∷ []) = length-append front (46 ∷ []) in
+    absurd (omega (arith, n, m))
+
+ends_not : (text : List ℕ) → EndsWithDot text → text ≡ any_type → ⊥
+ends_not text d e = let k : ◌≡◌ {A = ℕ} 46 35 = second_is_dot d.front 92 35 (sym d.is ∙ e) in omega arith
+
+-- a word that isn't the one that begins data of any type
+pub record IsFieldWord (text : List ℕ) : Type 0 where
+  pub some : 0 < length text
+  pub run : Run stops_word text
+  pub typed : bytes_eq text any_type ≡ false
+
+unlike : (text : List ℕ) → (text ≡ any_type → ⊥) → bytes_eq text any_type ≡ false
+unlike text n = by_test (bytes_eq text any_type) refl
+  where
+    by_test : (t : Bool) → bytes_eq text any_type ≡ t → t ≡ false
+    by_test true e = absurd (n ((bytes_eq-Decides text any_type).0 e))
+    by_test false e = refl
+
+pub name_is_word : (name : Name) → AllByRecursion (AllByRecursion (λ c. c < 256)) name → IsFieldWord (text_of name)
+name_is_word name h = record { some = name_some name; run = name_word name h; typed = unlike (text_of name) (ends_not (text_of name) (name_ends name)) }
+
+-- what begins with a hexadecimal digit isn't that word
+begins_not : (text more : List ℕ) → list_all is_ascii_hexdigit text ≡ true → 0 < length text → text ++ more ≡ any_type → ⊥
+begins_not [] more h lt e = omega arith
+begins_not (c ∷ text) more h lt e =
+    let k : c ≡ 92 = ap (λ (l : List ℕ). get_or l 0 0) e in
+    let t : is_ascii_hexdigit c ≡ true = (both (is_ascii_hexdigit c) (list_all is_ascii_hexdigit text) h).0 in
+    let f : is_ascii_hexdigit c ≡ false = ap is_ascii_hexdigit k in
+    absurd cc
+
+digit_is_hex : (c : ℕ) → is_ascii_digit c ≡ true → is_ascii_hexdigit c ≡ true
+digit_is_hex c h = grind (arith, nat_tests)
+
+all_hex : (text : List ℕ) → list_all is_ascii_digit text ≡ true → list_all is_ascii_hexdigit text ≡ true
+all_hex [] h = refl
+all_hex (c ∷ text) h = let f = both (is_ascii_digit c) (list_all is_ascii_digit text) h in ap (λ b. b && list_all is_ascii_hexdigit text) (digit_is_hex c f.0) ∙ all_hex text f.1
+
+-- ---- numbers and addresses
+
+decimal_first : (n : ℕ) (more : List ℕ) → n < 2 ^ 64 → Run stops_word more → IsFieldWord (decimal n ++ more)
+decimal_first n more h r = record {
+  some = omega (arith, decimal_nonempty n h, length-append (decimal n) more);
+  run = run_append (decimal_word n h) more r;
+  typed = unlike (decimal n ++ more) (begins_not (decimal n) more (all_hex (decimal n) (decimal_all_digits n h)) (decimal_nonempty n h));
+}
+
+pub decimal_is_word : (n : ℕ) → n < 2 ^ 64 → IsFieldWord (decimal n)
+decimal_is_word n h = subst IsFieldWord (append-nil (decimal n)) (decimal_first n [] h says.Empty)
+
+address_run : (octets : List ℕ) → AllByRecursion (λ c. c < 256) octets → Run stops_word (address_text octets)
+address_run [] h = says.Empty
+address_run (a ∷ []) h = decimal_word a (omega (arith, h.0))
+address_run (a ∷ b ∷ octets) h = run_append (run_append (decimal_word a (omega (arith, h.0))) (46 ∷ []) (run_one stops_word 46 refl)) (address_text (b ∷ octets)) (address_run (b ∷ octets) h.1)
+
+pub address_is_word : (octets : List ℕ) → 1 < length octets → AllByRecursion (λ c. c < 256) octets → IsFieldWord (address_text octets)
+address_is_word [] l h = absurd (omega arith)
+address_is_word (a ∷ []) l h = absurd (omega arith)
+address_is_word (a ∷ b ∷ octets) l h =
+    subst IsFieldWord (sym (append_assoc (decimal a) (46 ∷ []) (address_text (b ∷ octets))))
+    (decimal_first a (46 ∷ address_text (b ∷ octets)) (omega (arith, h.0)) (says.Plain 46 (address_text (b ∷ octets)) refl (address_run (b ∷ octets) h.1)))
+
+group_run : (n : ℕ) → n < 65536 → Run stops_word (group_text n)
+group_run n h = run_all stops_word is_ascii_hexdigit (group_text n) hexdigit_goes_on (group_texts n h).digits
+
+groups_run : (octets : List ℕ) → InPairs octets → Run stops_word (groups_text octets)
+groups_run [] h = absurd h
+groups_run (a ∷ []) h = absurd h
+groups_run (a ∷ b ∷ []) h = group_run (from_be_bytes w16 (a ∷ b ∷ [])) (omega (arith, h.0, h.1))
+groups_run (a ∷ b ∷ next ∷ rest) h =
+    run_append (run_append (group_run (from_be_bytes w16 (a ∷ b ∷ [])) (omega (arith, h.0, h.1))) (58 ∷ []) (run_one stops_word 58 refl)) (groups_text (next ∷ rest)) (groups_run (next ∷ rest) h.2)
+
+group_first : (n : ℕ) (more : List ℕ) → n < 65536 → Run stops_word more → IsFieldWord (group_text n ++ more)
+group_first n more h r =
+    let g = group_texts n h in record {
+      some = omega (arith, g.some, length-append (group_text n) more);
+      run = run_append (group_run n h) more r;
+      typed = unlike (group_text n ++ more) (begins_not (group_text n) more g.digits g.some);
+    }
+
+pub groups_are_word : (octets : List ℕ) → InPairs octets → IsFieldWord (groups_text octets)
+groups_are_word [] h = absurd h
+groups_are_word (a ∷ []) h = absurd h
+groups_are_word (a ∷ b ∷ []) h =
+    let n = from_be_bytes w16 (a ∷ b ∷ []) in subst IsFieldWord (append-nil (group_text n)) (group_first n [] (omega (arith, h.0, h.1)) says.Empty)
+groups_are_word (a ∷ b ∷ next ∷ rest) h =
+    let n = from_be_bytes w16 (a ∷ b ∷ []) in
+    subst IsFieldWord (sym (append_assoc (group_text n) (58 ∷ []) (groups_text (next ∷ rest))))
+    (group_first n (58 ∷ groups_text (next ∷ rest)) (omega (arith, h.0, h.1)) (says.Plain 58 (groups_text (next ∷ rest)) refl (groups_run (next ∷ rest) h.2)))
+
+-- ---- strings and digits
+
+quote_octet : (c : ℕ) → (eqb c 34 || eqb c 92) ≡ false → stops_quote c ≡ false
+quote_octet c h = h
+
+string_octet_run : (c : ℕ) → c < 256 → Run stops_quote (string_octet c)
+string_octet_run c h = go (eqb c 34 || eqb c 92) (ltb 31 c && ltb c 127) refl
+  where
+    go : (s p : Bool) → (eqb c 34 || eqb c 92) ≡ s → Run stops_quote (cond s (92 ∷ c ∷ []) (cond p (c ∷ []) (92 ∷ three_digits c)))
+    go true p es = says.Escaped c [] says.Empty
+    go false true es = run_one stops_quote c (quote_octet c es)
+    go false false es = digits_run stops_quote c digit_in_quotes h
+
+pub string_run : (octets : List ℕ) → AllByRecursion (λ c. c < 256) octets → Run stops_quote (string_text octets)
+string_run [] h = says.Empty
+string_run (c ∷ octets) h = run_append (string_octet_run c h.0) (string_text octets) (string_run octets h.1)
+
+pub hex_all : (octets : List ℕ) → AllByRecursion (λ c. c < 256) octets → (list_all is_ascii_hexdigit (flat_map hex_text octets) ≡ true) × (length (flat_map hex_text octets) ≡ 2 * length octets)
+hex_all [] h = (refl, refl)
+hex_all (c ∷ octets) h =
+    let i = hex_all octets h.1 in
+    let a : is_ascii_hexdigit (hex_digit (c / 16)) ≡ true = hexdigit_is (c / 16) (omega (arith, h.0)) in
+    let b : is_ascii_hexdigit (hex_digit (c % 16)) ≡ true = hexdigit_is (c % 16) (omega arith) in
+    (rw (a, b) i.0, omega (arith, i.1))
+
+pub hex_word : (text : List ℕ) → list_all is_ascii_hexdigit text ≡ true → Run stops_word text
+hex_word text h = run_all stops_word is_ascii_hexdigit text hexdigit_goes_on h
