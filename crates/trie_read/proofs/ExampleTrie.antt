@@ -1,5 +1,8 @@
 -- A trie of the names a. and b. in the first five cells of a memory.
-use Rattle.std.proofs.Common.{◌≡◌, ℕ, zero, suc, ◌+◌, ◌^◌, ◌<◌, ◌≤◌, eqb, [], ◌∷◌, Some, slice_index, count_by, count_ones, arith, inl, inr, refl, ap, subst}
+use Rattle.std.specs.Char.{to_ascii_lowercase}
+use Rattle.zone_model.specs.Keys.{first_position, second_position, key_of, Leads}
+use Rattle.trie_read.specs.Reads.{EachTells}
+use Rattle.std.proofs.Common.{◌≡◌, ◌∙◌, List, length, ℕ, zero, suc, ◌+◌, ◌^◌, ◌<◌, ◌≤◌, eqb, [], ◌∷◌, Some, slice_index, count_by, count_ones, arith, inl, inr, refl, ap, subst}
 use Rattle.std.proofs.lemmas.Bool.Decides.{nat_tests}
 use Rattle.packed_node.specs.declared.Cell.{Cell}
 use Rattle.packed_node.specs.Nodes.{leaf_cell, branch_cell, IsBranch}
@@ -70,3 +73,20 @@ two_names_stand has bitmap e root a b first second = (
     holds = refl;
   },
 )
+
+-- the items of a. and b. tell their keys
+letter_leads : (key item : List ℕ) (octet : ℕ) → item ≡ item_of_letter octet → octet < 256 → to_ascii_lowercase octet ≡ octet → key ≡ key_of ((octet ∷ []) ∷ []) → Leads key item
+letter_leads key item octet i l f k = record {
+  short = (let n = ap (λ (xs : List ℕ). length xs) i in omega arith);
+  name = (octet ∷ []) ∷ [];
+  is_name = record { each = (record { some = omega arith; short = omega arith; octets = (l, tt); folded = (f, tt) }, tt); short = omega arith };
+  key = k;
+  front = ([], i ∙ refl);
+}
+
+pub two_names_tell : EachTells Leads two_names
+unfolding first_position second_position
+two_names_tell e i = elim i [
+  | inl a ↦ letter_leads e.key e.item 97 (ap (λ (x : Entry). x.item) a) (omega arith) refl (ap (λ (x : Entry). x.key) a)
+  | inr j ↦ elim j [ inl b ↦ letter_leads e.key e.item 98 (ap (λ (x : Entry). x.item) b) (omega arith) refl (ap (λ (x : Entry). x.key) b) | inr z ↦ absurd z ]
+]

@@ -101,9 +101,9 @@ pub trait Reading {
 /// A version of the trie in some cells, by its root.
 #[derive(Drop)]
 pub struct CellReading<C> {
-    cells: C,
-    root: Option<Ref>,
-    number: u64,
+    pub cells: C,
+    pub root: Option<Ref>,
+    pub number: u64,
 }
 
 impl<C: CellRead + Drop> CellReading<C> {
