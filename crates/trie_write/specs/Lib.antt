@@ -5,3 +5,6 @@ pub mod Weights
 pub mod Runs
 pub mod Builds
 pub mod Standing
+pub mod Rows
+pub mod Steps
+pub mod Paths

@@ -31,6 +31,7 @@ pub fn build<C: CellWrite, U: Space>(
     ensures uncounted { IfErr result (λ _. (k : ℕ) → U.live usage.new k ≡ 0) }
     ensures spends { U.spent usage.new ≤ U.spent usage.old + cells_of (entries_of_items items.now) }
     ensures full { IfErr result (λ f. U.lacks usage.new f) }
+    ensures frozen { U.frozen usage.new ≡ U.frozen usage.old }
     ensures frame { Frame (C.has cells.old) (C.has cells.new) (C.kept cells.old) (C.kept cells.new) (C.given cells.old) (C.given cells.new) (U.used usage.old) (U.used usage.new) (U.fresh usage.old) (U.fresh usage.new) }
     ensures ready { Ready (C.kept cells.new) (C.given cells.new) (U.given usage.new) (U.used usage.new) (U.fresh usage.new) }
 {
@@ -59,6 +60,7 @@ fn build_root<C: CellWrite, U: Space>(
     ensures built { IfOk result (λ root. Standing (C.has cells.new) (U.used usage.new) (U.live usage.new) (Some root) (entries_of_items items.now)) }
     ensures spends { U.spent usage.new ≤ U.spent usage.old + cells_of (entries_of_items items.now) }
     ensures full { IfErr result (λ f. U.lacks usage.new f) }
+    ensures frozen { U.frozen usage.new ≡ U.frozen usage.old }
     ensures frame { Frame (C.has cells.old) (C.has cells.new) (C.kept cells.old) (C.kept cells.new) (C.given cells.old) (C.given cells.new) (U.used usage.old) (U.used usage.new) (U.fresh usage.old) (U.fresh usage.new) }
     ensures ready { Ready (C.kept cells.new) (C.given cells.new) (U.given usage.new) (U.used usage.new) (U.fresh usage.new) }
 {
@@ -77,6 +79,7 @@ fn build_leaf<C: CellWrite, U: Space>(
     ensures built { IfOk result (λ cell. Built (C.has cells.new) (U.used usage.old) (U.used usage.new) (U.live usage.old) (U.live usage.new) (map entry_of (item.now ∷ [])) cell) }
     ensures spends { U.spent usage.new < U.spent usage.old + cells_of (map entry_of (item.now ∷ [])) }
     ensures full { IfErr result (λ f. U.lacks usage.new f) }
+    ensures frozen { U.frozen usage.new ≡ U.frozen usage.old }
     ensures frame { Frame (C.has cells.old) (C.has cells.new) (C.kept cells.old) (C.kept cells.new) (C.given cells.old) (C.given cells.new) (U.used usage.old) (U.used usage.new) (U.fresh usage.old) (U.fresh usage.new) }
     ensures ready { Ready (C.kept cells.new) (C.given cells.new) (U.given usage.new) (U.used usage.new) (U.fresh usage.new) }
 {
@@ -96,6 +99,7 @@ fn build_below<C: CellWrite, U: Space>(
     ensures built { IfOk result (λ cell. Built (C.has cells.new) (U.used usage.old) (U.used usage.new) (U.live usage.old) (U.live usage.new) (entries_of_items items.now) cell) }
     ensures spends { U.spent usage.new < U.spent usage.old + cells_of (entries_of_items items.now) }
     ensures full { IfErr result (λ f. U.lacks usage.new f) }
+    ensures frozen { U.frozen usage.new ≡ U.frozen usage.old }
     ensures frame { Frame (C.has cells.old) (C.has cells.new) (C.kept cells.old) (C.kept cells.new) (C.given cells.old) (C.given cells.new) (U.used usage.old) (U.used usage.new) (U.fresh usage.old) (U.fresh usage.new) }
     ensures ready { Ready (C.kept cells.new) (C.given cells.new) (U.given usage.new) (U.used usage.new) (U.fresh usage.new) }
 {

@@ -1,4 +1,4 @@
-use Rattle.std.proofs.Common.{◌≡◌, ℕ, suc, ◌+◌, ◌^◌, ◌<◌, ◌≤◌, List, [], ◌∷◌, ◌++◌, length, take, drop, slice_get, Some, arith, sym, ◌∙◌, ap, subst, rules, eqb-true, length-append}
+use Rattle.std.proofs.Common.{◌≡◌, ℕ, suc, ◌+◌, ◌^◌, ◌<◌, ◌≤◌, List, [], ◌∷◌, ◌++◌, length, take, drop, slice_get, Some, arith, refl, sym, ◌∙◌, ap, subst, rules, eqb-true, length-append}
 use Rattle.std.proofs.lemmas.List.{length-map, take-map, drop-map}
 use Rattle.packed_node.specs.declared.Cell.{Cell}
 use Rattle.trie_model.specs.Keys.{Entry, Rises}
@@ -28,7 +28,8 @@ loop-rest-init g t c =
             (subst (λ (o : ℕ). Made (g.C.CellRead.has c.args.cells.now) (g.U.Space.used c.args.usage.now) (g.U.Space.used c.args.usage.now) (g.U.Space.live c.args.usage.now) (g.U.Space.live c.args.usage.now) o (entries_of_items c.args.items.now) (entries_of_items c.args.items.now) 0 [] 0) (sym is) start);
         cost = (let row = ap (λ (xs : List Cell). length xs) c.new-row.ensures in omega arith);
       };
-      frame = frame_refl;
+      frame = frame_refl {h = g.C.CellRead.has c.args.cells.now};
+      frozen = refl;
       ready = c.requires.ready;
     }
 
@@ -86,6 +87,7 @@ loop-rest-preserved g t c =
         cost = (let so_far = making.cost in let row = ap (λ (xs : List Cell). length xs) c.push.ensures ∙ length-append c.loop-rest.row (c.in_ok-cell.cell ∷ []) in omega arith);
       };
       frame = frame_then c.loop-rest.invariant.frame c.in_ok-cell.ensures.frame;
+      frozen = c.in_ok-cell.ensures.frozen ∙ c.loop-rest.invariant.frozen;
       ready = c.in_ok-cell.ensures.ready;
     }
 
