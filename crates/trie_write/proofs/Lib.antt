@@ -6,3 +6,4 @@ pub mod RunLaws
 pub mod PlanLaws
 pub mod TwigLaws
 pub mod BuildLaws
+pub mod StepLaws

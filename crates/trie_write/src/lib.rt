@@ -3,6 +3,7 @@
 
 mod bulk;
 pub mod item;
+mod path;
 mod room;
 mod row;
 mod runs;
