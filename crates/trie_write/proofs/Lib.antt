@@ -7,3 +7,6 @@ pub mod PlanLaws
 pub mod TwigLaws
 pub mod BuildLaws
 pub mod StepLaws
+pub mod UnpackLaws
+pub mod NearLaws
+pub mod InsertLaws

@@ -8,3 +8,4 @@ pub mod Standing
 pub mod Rows
 pub mod Steps
 pub mod Paths
+pub mod Nearness

@@ -2,11 +2,13 @@
 use Rattle.std.specs.Prelude.{◌≡◌, ℕ, ◌+◌, ◌<◌, ◌≤◌, Bool, true, List, length}
 use Rattle.packed_node.specs.declared.Cell.{Cell}
 use Rattle.packed_node.specs.declared.Leaf.{Leaf}
+use Rattle.packed_node.specs.declared.Branch.{Branch}
 use Rattle.trie_model.specs.Changes.{Nearest, Grown, Deep}
 use Rattle.trie_model.specs.Keys.{Entry, IsEntry, InList}
 use Rattle.trie_model.specs.Memory.{Beneath, ItemLies, top_cell}
 use Rattle.trie_model.specs.Reach.{row, in_chunk, weigh_tree, WithinTree}
-use Rattle.trie_model.specs.Trees.{Tree, entries_of, cells_in, IsRow, IsTree}
+use Rattle.trie_model.specs.Trees.{Tree, Twigs, entries_of, bitmap_of, cells_in, IsRow, IsTree}
+use Rattle.trie_model.specs.Trees.Tree.{branch}
 use Rattle.trie_write.specs.Weights.{at_place, mark}
 
 -- what the cells of an item that isn't in the trie yet weigh
@@ -41,8 +43,8 @@ pub record Laid (has : ℕ → Cell → Type 0) (used : ℕ → Bool) (leaf : Le
 pub record Asks (has : ℕ → Cell → Type 0) (used : ℕ → Bool) (live : ℕ → ℕ) (low place : ℕ) (key : List ℕ) (position : ℕ) (cell : Cell) (leaf : Leaf) (t : Tree) (e : Entry) : Type 0 where
   pub held : Held has used live (item_weight leaf e.item) low cell t
   pub laid : Laid has used leaf e
-  pub key_is : e.key ≡ key
-  pub nearest : Nearest place key position (entries_of t)
+  pub key_is : key ≡ e.key
+  pub nearest : Nearest place e.key position (entries_of t)
   pub deep : low ≤ place
   pub short : place ≤ 503
   pub inside : position < 47
@@ -51,6 +53,28 @@ pub record Asked (has : ℕ → Cell → Type 0) (used : ℕ → Bool) (live : �
   pub t : Tree
   pub e : Entry
   pub asks : Asks has used live low place key position cell leaf t e
+
+-- the tree's offset lies further on
+pub record AskedDeep (has : ℕ → Cell → Type 0) (used : ℕ → Bool) (live : ℕ → ℕ) (place : ℕ) (key : List ℕ) (position : ℕ) (cell : Cell) (leaf : Leaf) : Type 0 where
+  pub low : ℕ
+  pub t : Tree
+  pub e : Entry
+  pub asks : Asks has used live low place key position cell leaf t e
+  pub deeper : Deep place t
+
+-- the tree is a branch
+pub record AsksBranch (has : ℕ → Cell → Type 0) (used : ℕ → Bool) (live : ℕ → ℕ) (low place : ℕ) (key : List ℕ) (position : ℕ) (cell : Cell) (leaf : Leaf) (b : Branch) (e : Entry) (below : Twigs) : Type 0 where
+  pub bits : b.bitmap ≡ bitmap_of below
+  pub asks : Asks has used live low place key position cell leaf (branch b.offset b.twigs below) e
+
+-- its offset is the place
+pub record AskedHere (has : ℕ → Cell → Type 0) (used : ℕ → Bool) (live : ℕ → ℕ) (key : List ℕ) (leaf : Leaf) (b : Branch) : Type 0 where
+  pub low : ℕ
+  pub position : ℕ
+  pub cell : Cell
+  pub e : Entry
+  pub below : Twigs
+  pub here : AsksBranch has used live low b.offset key position cell leaf b e below
 
 -- the cell is the top of the tree with the entry put in
 pub record Grew (has : ℕ → Cell → Type 0) (used used_new : ℕ → Bool) (live live_new : ℕ → ℕ) (low : ℕ) (leaf : Leaf) (t : Tree) (e : Entry) (cell : Cell) : Type 0 where

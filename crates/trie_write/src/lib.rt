@@ -2,7 +2,9 @@
 #![tactic(auto)]
 
 mod bulk;
+mod insertion;
 pub mod item;
+mod near;
 mod path;
 mod room;
 mod row;

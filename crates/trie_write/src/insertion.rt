@@ -1,0 +1,99 @@
+//! A name put in.
+
+ghost use Rattle.std.specs.Prelude.{◌≡◌, ◌+◌, ◌<◌, ◌≤◌, ◌∷◌, [], ℕ, List, IfOk, IfErr, count_ones};
+ghost use Rattle.packed_node.specs.declared.Cell.{Cell};
+ghost use Rattle.trie_model.specs.Keys.{Entry};
+ghost use Rattle.trie_model.specs.Trees.{Tree, Twigs, count};
+ghost use Rattle.trie_model.specs.Trees.Tree.{branch as branch_of};
+ghost use Rattle.trie_model.specs.Changes.{Deep};
+ghost use Rattle.chunk_usage.specs.Rooms.{Ready};
+ghost use Rattle.trie_write.specs.Frames.{Frame};
+ghost use Rattle.trie_write.specs.Paths.{twigs_on_path};
+ghost use Rattle.trie_write.specs.Steps.{Asks, Asked, AskedDeep, AsksBranch, AskedHere, Grew};
+
+use super::near::Difference;
+use super::room::{place_row, room};
+use super::row::{Row, append};
+use chunk_cells::CellWrite;
+use chunk_usage::{Full, Space};
+use packed_node::{Branch, Cell, Leaf, Node, bitmap};
+use shift_key::Key;
+
+/// Two cells, that of the smaller position first.
+fn in_order(position: u8, cell: Cell, other: u8, node: Cell) -> [Cell; 2]
+    ensures before { position < other → result ≡ cell ∷ node ∷ [] }
+    ensures behind { other ≤ position → result ≡ node ∷ cell ∷ [] }
+{
+    if position < other {
+        [cell, node]
+    } else {
+        [node, cell]
+    }
+}
+
+/// The cell of a branch with two twigs: the node, and the leaf that goes in.
+fn split_node<C: CellWrite, U: Space>(
+    cells: &mut C,
+    usage: &mut U,
+    key: &Key,
+    first: Difference,
+    node: Cell,
+    leaf: Leaf,
+) -> Result<Cell, Full>
+    requires asks { AskedDeep (C.has cells.old) (U.used usage.old) (U.live usage.old) first.place key.now first.position node leaf }
+    requires ready { Ready (C.kept cells.old) (C.given cells.old) (U.given usage.old) (U.used usage.old) (U.fresh usage.old) }
+    ensures grew { IfOk result (λ cell. (low : ℕ) (t : Tree) (e : Entry) → Asks (C.has cells.old) (U.used usage.old) (U.live usage.old) low first.place key.now first.position node leaf t e
+        → Deep first.place t → Grew (C.has cells.new) (U.used usage.old) (U.used usage.new) (U.live usage.old) (U.live usage.new) low leaf t e cell) }
+    ensures unchanged { IfErr result (λ _. (k : ℕ) → U.live usage.new k ≡ U.live usage.old k) }
+    ensures spends { U.spent usage.new ≤ U.spent usage.old + 2 }
+    ensures full { IfErr result (λ f. U.lacks usage.new f) }
+    ensures frozen { U.frozen usage.new ≡ U.frozen usage.old }
+    ensures frame { Frame (C.has cells.old) (C.has cells.new) (C.kept cells.old) (C.kept cells.new) (C.given cells.old) (C.given cells.new) (U.used usage.old) (U.used usage.new) (U.fresh usage.old) (U.fresh usage.new) }
+    ensures ready { Ready (C.kept cells.new) (C.given cells.new) (U.given usage.new) (U.used usage.new) (U.fresh usage.new) }
+{
+    let position = key.at(first.place);
+    let row = in_order(position, Node::Leaf(leaf).pack(), first.position, node);
+    let twigs = place_row(cells, usage, &row)?;
+    Ok(Node::Branch(Branch {
+        offset: first.place,
+        bitmap: bitmap::pair(position, first.position),
+        twigs,
+    })
+    .pack())
+}
+
+/// The cell of the branch with one twig more: the leaf that goes in.
+fn add_leaf<C: CellWrite, U: Space>(
+    cells: &mut C,
+    usage: &mut U,
+    key: &Key,
+    branch: Branch,
+    leaf: Leaf,
+) -> Result<Cell, Full>
+    requires asks { AskedHere (C.has cells.old) (U.used usage.old) (U.live usage.old) key.now leaf branch }
+    requires ready { Ready (C.kept cells.old) (C.given cells.old) (U.given usage.old) (U.used usage.old) (U.fresh usage.old) }
+    ensures grew { IfOk result (λ cell. (low position : ℕ) (node : Cell) (e : Entry) (below : Twigs) → AsksBranch (C.has cells.old) (U.used usage.old) (U.live usage.old) low branch.offset key.now position node leaf branch e below
+        → Grew (C.has cells.new) (U.used usage.old) (U.used usage.new) (U.live usage.old) (U.live usage.new) low leaf (branch_of branch.offset branch.twigs below) e cell) }
+    ensures unchanged { IfErr result (λ _. (k : ℕ) → U.live usage.new k ≡ U.live usage.old k) }
+    ensures spends { U.spent usage.new ≤ U.spent usage.old + (count_ones branch.bitmap + 1) }
+    ensures full { IfErr result (λ f. U.lacks usage.new f) }
+    ensures frozen { U.frozen usage.new ≡ U.frozen usage.old }
+    ensures frame { Frame (C.has cells.old) (C.has cells.new) (C.kept cells.old) (C.kept cells.new) (C.given cells.old) (C.given cells.new) (U.used usage.old) (U.used usage.new) (U.fresh usage.old) (U.fresh usage.new) }
+    ensures ready { Ready (C.kept cells.new) (C.given cells.new) (U.given usage.new) (U.used usage.new) (U.fresh usage.new) }
+{
+    let position = key.at(branch.offset);
+    let index = branch.twig_index(position);
+    let n = branch.twig_count();
+    let mut row = Row::new();
+    append(cells, &mut row, branch.twigs, index);
+    row.push(Node::Leaf(leaf).pack());
+    append(cells, &mut row, branch.twigs + index, n - index);
+    let twigs = place_row(cells, usage, row.as_slice())?;
+    usage.release(branch.twigs, n);
+    Ok(Node::Branch(Branch {
+        offset: branch.offset,
+        bitmap: bitmap::with(branch.bitmap, position),
+        twigs,
+    })
+    .pack())
+}
