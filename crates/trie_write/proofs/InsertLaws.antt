@@ -20,7 +20,7 @@ use Rattle.trie_model.proofs.BitmapLaws.{Rising, ones_of, few, count-beside, bit
 use Rattle.trie_model.proofs.CountLaws.{under, weigh_is, under-beside}
 use Rattle.trie_model.proofs.GrowthLaws.{Alone, alone_of, split_low, split_high}
 use Rattle.trie_model.proofs.MoveLaws.{Keeps, beneath_kept, lie_cell}
-use Rattle.trie_model.proofs.SplitLaws.{Missing, rising_of, lie_left, lie_right, within_left, within_right}
+use Rattle.trie_model.proofs.SplitLaws.{Found, Missing, rising_of, lie_left, lie_right, within_left, within_right}
 use Rattle.trie_model.proofs.TopLaws.{is_node}
 use Rattle.chunk_usage.specs.Rooms.{Room}
 use Rattle.trie_write.specs.Rows.{RowLies}
@@ -30,7 +30,10 @@ use Rattle.trie_write.proofs.OutlineLaws.{short_row}
 use Rattle.trie_write.proofs.WeightLaws.{row_misses, row_fresh, mark_grows}
 use Rattle.trie_write.proofs.FrameLaws.{apart_from}
 use Rattle.trie_write.proofs.TwigLaws.{tops_of, AllBeneath, tops-beside, length-tops, beneath_join, beneath_left, beneath_right, beneath_of_lie, row_of_lie, all_of_within, all_kept}
-use Rattle.trie_write.proofs.StepLaws.{branch_became, Descent}
+use Rattle.trie_write.proofs.StepLaws.{branch_became, Descent, here_held, path_became, path_twigs}
+use Rattle.trie_write.specs.Paths.{twigs_on_path}
+use Rattle.trie_read.specs.Reads.{IsTop}
+use Rattle.trie_write.proofs.UnpackLaws.{told, branch_told}
 
 -- ---- the item
 
@@ -265,3 +268,83 @@ module _ {has : ℕ → Cell → Type 0} {used : ℕ → Bool} {live : ℕ → �
             let u = ap (under (at_place z)) missing.is ∙ under-beside (at_place z) missing.left missing.right in
             let v = under-beside (at_place z) missing.left (twig (at e.key b.offset) (leaf e l.at) missing.right) in
             let s = ap (row (at_place z) wn) as_many in omega arith
+
+-- ---- the way down
+
+-- the tree under an unpacked branch
+pub record BranchAsks (has : ℕ → Cell → Type 0) (used : ℕ → Bool) (live : ℕ → ℕ) (low place : ℕ) (k : List ℕ) (p : ℕ) (cell : Cell) (l : Leaf) (t : Tree) (e : Entry) (b : Branch) : Type 0 where
+  pub below : Twigs
+  pub is : t ≡ branch b.offset b.twigs below
+  pub here : AsksBranch has used live low place k p cell l b e below
+
+pub top_of : {has : ℕ → Cell → Type 0} {used : ℕ → Bool} {live : ℕ → ℕ} {spare : (ℕ → ℕ) → ℕ} {low : ℕ} {cell : Cell} {t : Tree} → Held has used live spare low cell t → IsTop has low cell t
+top_of h = record { tree = h.tree; is = h.is; beneath = h.beneath }
+
+pub branch_asks : {has : ℕ → Cell → Type 0} {used : ℕ → Bool} {live : ℕ → ℕ} {low place : ℕ} {k : List ℕ} {p : ℕ} {cell : Cell} {l : Leaf} {t : Tree} {e : Entry} {b : Branch} → Asks has used live low place k p cell l t e → (r : Option Node) → ((n : Node) → IsNode n → packed n ≡ cell → r ≡ Some n) → (n : Node) → r ≡ Some n → n ≡ node.Branch b → BranchAsks has used live low place k p cell l t e b
+branch_asks {has} {used} {live} {low} {place} {k} {p} {cell} {l} {t} {e} {b} a r back n x y =
+    let s = branch_told has low cell t r b (record { top = top_of a.held; back = back }) n x y in
+    record { below = s.below; is = s.is; here = record { bits = s.bitmap; asks = subst (λ (z : Tree). Asks has used live low place k p cell l z e) s.is a } }
+
+-- a branch has twigs on the path
+pub path_least : {has : ℕ → Cell → Type 0} {used : ℕ → Bool} {live : ℕ → ℕ} {low place : ℕ} {k : List ℕ} {p : ℕ} {cell : Cell} {l : Leaf} {t : Tree} {e : Entry} {b : Branch} → BranchAsks has used live low place k p cell l t e b → count_ones b.bitmap ≤ twigs_on_path k t
+path_least {k = k} {b = b} s =
+    let n = ap count_ones s.here.bits ∙ ones_of 0 47 s.below (rising_of b.offset 0 s.below (let z : 0 ≤ 47 = omega arith in z) s.here.asks.held.tree.5) in
+    let e = ap (twigs_on_path k) s.is in omega arith
+
+pub path_as : {has : ℕ → Cell → Type 0} {used : ℕ → Bool} {live : ℕ → ℕ} {low place : ℕ} {k : List ℕ} {p : ℕ} {cell : Cell} {l : Leaf} {t : Tree} {e : Entry} {b : Branch} → (s : BranchAsks has used live low place k p cell l t e b) → twigs_on_path k t ≡ twigs_on_path k (branch b.offset b.twigs s.below)
+path_as {k = k} s = ap (twigs_on_path k) s.is
+
+pub deep_branch : {has : ℕ → Cell → Type 0} {used : ℕ → Bool} {live : ℕ → ℕ} {low place : ℕ} {k : List ℕ} {p : ℕ} {cell : Cell} {l : Leaf} {t : Tree} {e : Entry} {b : Branch} → BranchAsks has used live low place k p cell l t e b → place < b.offset → Deep place t
+deep_branch {place = place} s m = subst (Deep place) (sym s.is) m
+
+pub deep_leaf : {has : ℕ → Cell → Type 0} {used : ℕ → Bool} {live : ℕ → ℕ} {low place : ℕ} {k : List ℕ} {p : ℕ} {cell : Cell} {l : Leaf} {e : Entry} (t : Tree) → Asks has used live low place k p cell l t e → (r : Option Node) → ((n : Node) → IsNode n → packed n ≡ cell → r ≡ Some n) → ((b : Branch) → r ≡ Some (node.Branch b) → ⊥) → Deep place t
+deep_leaf (leaf x y) a r back other = tt
+deep_leaf {has} {low = low} {cell = cell} (branch o w below) a r back other = absurd (other (record { offset = o; bitmap = bitmap_of below; twigs = w }) (told has low cell (branch o w below) r (record { top = top_of a.held; back = back })))
+
+module _ {has : ℕ → Cell → Type 0} {used : ℕ → Bool} {live : ℕ → ℕ} {low place : ℕ} {k : List ℕ} {p : ℕ} {cell : Cell} {l : Leaf} {b : Branch} {e : Entry} {below : Twigs} {q i n : ℕ} (h : AsksBranch has used live low place k p cell l b e below) (before : b.offset < place) (qis : q ≡ at k b.offset) (iis : i ≡ count_ones (b.bitmap % 2 ^ q)) (nis : n ≡ count_ones b.bitmap) where
+  pub down_q : q ≡ at e.key b.offset
+  down_q = qis ∙ ap (λ (x : List ℕ). at x b.offset) h.asks.key_is
+
+  pub down_inside : q < 47
+  down_inside = let x = down_q in let y = h.asks.laid.entry.key.positions b.offset in omega arith
+
+  abbrev pub down_found : Found 0 47 (at e.key b.offset) below
+  down_found = present_of low place b.offset b.twigs p e.key below h.asks.held.tree h.asks.nearest before (h.asks.laid.entry.key.positions b.offset)
+
+  abbrev pub down : Descent has used live (item_weight l e.item) low cell b e.key i n
+  down = record {
+    below = below;
+    bits = h.bits;
+    held = h.asks.held;
+    found = down_found;
+    index_is = iis ∙ ap (λ (x : ℕ). count_ones (x % 2 ^ q)) h.bits ∙ ap (λ (x : ℕ). count_ones (bitmap_of below % 2 ^ x)) down_q ∙ down_found.index;
+    n_is = nis ∙ ap count_ones h.bits ∙ ones_of 0 47 below (rising_of b.offset 0 below (let z : 0 ≤ 47 = omega arith in z) h.asks.held.tree.5);
+  }
+
+  pub down_path : twigs_on_path k (branch b.offset b.twigs below) ≡ n + twigs_on_path k down_found.here
+  down_path = subst (λ (key : List ℕ). twigs_on_path key (branch b.offset b.twigs below) ≡ n + twigs_on_path key down_found.here) (sym h.asks.key_is) (path_twigs down)
+
+  pub down_asks : {now : ℕ → Cell → Type 0} {used_now : ℕ → Bool} {live_now : ℕ → ℕ} {next : Cell} → ((z : ℕ) → live z ≤ live_now z) → Keeps used has now → ((z : ℕ) → used z ≡ true → used_now z ≡ true) → next ≡ top_cell down_found.here → Asks now used_now live_now (b.offset + 1) place k p next l down_found.here e
+  down_asks more keep stays is = record {
+    held = here_held down more keep stays is;
+    laid = laid_later h.asks.laid keep stays;
+    key_is = h.asks.key_is;
+    nearest = nearest_here low place b.offset b.twigs p e.key below h.asks.held.tree h.asks.nearest before down_found;
+    deep = omega arith;
+    short = h.asks.short;
+    inside = h.asks.inside;
+  }
+
+  pub down_grew : {now later new : ℕ → Cell → Type 0} {used_now used_later used_new fresh : ℕ → Bool} {given : List Bool} {to : ℕ} {live_now live_later live_new : ℕ → ℕ} {next : Cell} → Room used used_now fresh given to n → ((z : ℕ) → used z ≡ true → used_now z ≡ true) →
+      ((z : ℕ) → live_now z ≡ live z + row (in_chunk z) to n) → ((z : ℕ) → live_new z + row (in_chunk z) b.twigs n ≡ live_later z) → Keeps used has now → Keeps used_now now later → ((z : ℕ) → used_now z ≡ true → used_later z ≡ true) → ((z : ℕ) → used_later z ≡ true → used_new z ≡ true) →
+      Grew later used_now used_later live_now live_later (b.offset + 1) l down_found.here e next →
+      RowLies new to (tops_of down_found.left ++ (next ∷ tops_of down_found.rest)) → ((z : ℕ) (c : Cell) → ((j : ℕ) → j < n → z ≡ to + j → ⊥) → later z c → new z c) →
+      Grew new used used_new live live_new low l (branch b.offset b.twigs below) e (branch_cell (record b { twigs = to }))
+  down_grew {to = to} room stays counts_now counts_new keep keep_later stays_later stays_new g written others = record {
+    new = branch b.offset to (beside down_found.left (twig (at e.key b.offset) g.new down_found.rest));
+    grown = grow_twig low place b.offset b.twigs to p e below down_found h.asks.held.tree h.asks.nearest before (let m = down.n_is in subst (IsRow to) m room.row) g.new (let m : b.offset + 1 ≡ suc b.offset = omega arith in subst (λ (x : ℕ). Grown e x down_found.here g.new) m g.grown);
+    became = path_became down room stays (laid_used h.asks.laid) g.new counts_now counts_new keep keep_later stays_later stays_new g.became written others;
+  }
+
+pub grew_as : {has : ℕ → Cell → Type 0} {used new : ℕ → Bool} {live live_new : ℕ → ℕ} {low : ℕ} {l : Leaf} {t u : Tree} {e : Entry} {cell : Cell} → t ≡ u → Grew has used new live live_new low l u e cell → Grew has used new live live_new low l t e cell
+grew_as {has} {used} {new} {live} {live_new} {low} {l} {t} {u} {e} {cell} same g = subst (λ (z : Tree). Grew has used new live live_new low l z e cell) (sym same) g

@@ -1,5 +1,5 @@
 -- A branch that is written in new cells, in place of a tree.
-use Rattle.std.proofs.Common.{◌≡◌, ℕ, suc, ◌+◌, ◌%◌, ◌^◌, ◌<◌, ◌≤◌, Bool, true, false, List, [], ◌∷◌, ◌++◌, length, count_ones, arith, refl, sym, ◌∙◌, ap, subst}
+use Rattle.std.proofs.Common.{◌≡◌, ℕ, suc, ◌+◌, ◌%◌, ◌^◌, ◌<◌, ◌≤◌, Bool, true, false, cond, eqb, List, [], ◌∷◌, ◌++◌, length, count_ones, slice_get, Some, arith, refl, sym, ◌∙◌, ap, subst}
 use Rattle.packed_node.specs.declared.Cell.{Cell}
 use Rattle.packed_node.specs.declared.Branch.{Branch}
 use Rattle.packed_node.specs.Nodes.{branch_cell}
@@ -8,7 +8,7 @@ use Rattle.trie_model.specs.Keys.{at}
 use Rattle.trie_model.specs.Memory.{top_cell, Beneath, Lie}
 use Rattle.trie_model.specs.Trees.{Tree, Twigs, count, bitmap_of, IsRow, IsTree, beside}
 use Rattle.trie_model.specs.Trees.Tree.{branch}
-use Rattle.trie_model.specs.Trees.Twigs.{twig}
+use Rattle.trie_model.specs.Trees.Twigs.{none, twig}
 use Rattle.trie_model.specs.Reach.{row, in_chunk, weigh_tree, WithinTree, Within}
 use Rattle.trie_model.proofs.AddLaws.{found_twigs}
 use Rattle.trie_model.proofs.BitmapLaws.{Rising, few, count-beside, bitmap_of-beside}
@@ -17,6 +17,9 @@ use Rattle.trie_model.proofs.MoveLaws.{Keeps, beneath_kept, tree_weaker, lie_cel
 use Rattle.trie_model.proofs.SplitLaws.{Found, rising_of, lie_left, lie_right, within_left, within_right}
 use Rattle.trie_model.proofs.TopLaws.{is_node}
 use Rattle.chunk_usage.specs.Rooms.{Room}
+use Rattle.std.proofs.lemmas.Bool.Decides.{nat_tests}
+use Rattle.std.proofs.lemmas.Option.{slice_get_within}
+use Rattle.trie_write.specs.Paths.{twigs_on_path, twigs_past}
 use Rattle.trie_write.specs.Rows.{RowLies}
 use Rattle.trie_write.specs.Weights.{at_place, mark}
 use Rattle.trie_write.specs.Steps.{Held, Became}
@@ -34,6 +37,16 @@ branch_became {has} {w = w} {cs = cs} o ts bits lies tops beneath counts fresh =
   counts = λ k. let a = counts k in let b = weigh_is (in_chunk k) w ts in omega arith;
   fresh = λ q. let a = fresh q in let b = weigh_is (at_place q) w ts in omega arith;
 }
+
+eqb_itself : (p : ℕ) → eqb p p ≡ true
+eqb_itself p = grind (arith, nat_tests)
+
+eqb_less : (q p : ℕ) → q < p → eqb q p ≡ false
+eqb_less q p l = grind (arith, nat_tests)
+
+past_left : (key : List ℕ) (p lo : ℕ) (left : Twigs) (here : Tree) (rest : Twigs) → Rising lo p left → twigs_past key p (beside left (twig p here rest)) ≡ twigs_on_path key here
+past_left key p lo none here rest r = ap (λ c. cond c (twigs_on_path key here) (twigs_past key p rest)) (eqb_itself p)
+past_left key p lo (twig q t more) here rest r = ap (λ c. cond c (twigs_on_path key t) (twigs_past key p (beside more (twig p here rest)))) (eqb_less q p r.1) ∙ past_left key p (suc q) more here rest r.2
 
 -- What is known at a branch on the path of a key: the twig that the path takes.
 pub record Descent (has : ℕ → Cell → Type 0) (used : ℕ → Bool) (live : ℕ → ℕ) (spare : (ℕ → ℕ) → ℕ) (low : ℕ) (cell : Cell) (b : Branch) (key : List ℕ) (index n : ℕ) : Type 0 where
@@ -54,6 +67,10 @@ module _ {has : ℕ → Cell → Type 0} {used : ℕ → Bool} {live : ℕ → �
       let f = few 0 47 d.below (rising_of b.offset 0 d.below (let z : 0 ≤ 47 = omega arith in z) t.5) in
       let two = t.3 in let early = t.1 in let later = t.0 in
       (omega arith, omega arith, omega arith, early, later)
+
+  -- the path goes on at the twig
+  pub path_twigs : twigs_on_path key (branch b.offset b.twigs d.below) ≡ n + twigs_on_path key d.found.here
+  path_twigs = let a = ap (twigs_past key (at key b.offset)) d.found.is ∙ past_left key (at key b.offset) 0 d.found.left d.found.here d.found.rest d.found.lower in let m = d.n_is in omega arith
 
   pub row_is : IsRow b.twigs n
   row_is = subst (IsRow b.twigs) (sym d.n_is) d.held.tree.2
@@ -90,6 +107,15 @@ module _ {has : ℕ → Cell → Type 0} {used : ℕ → Bool} {live : ℕ → �
 
   pub rest_length : index + 1 + length (tops_of d.found.rest) ≡ n
   rest_length = let a = length-tops d.found.rest in let s = sizes in let i = d.index_is in let m = d.n_is in omega arith
+
+  pub left_used : (i : ℕ) (c : Cell) → slice_get (tops_of d.found.left) i ≡ Some c → used (b.twigs + i) ≡ true
+  left_used i c e = let l = slice_get_within (tops_of d.found.left) i c e in let n = left_length in let m = numbers.0 in cell_used i (omega arith)
+
+  pub rest_used : (i : ℕ) (c : Cell) → slice_get (tops_of d.found.rest) i ≡ Some c → used (b.twigs + index + 1 + i) ≡ true
+  rest_used i c e =
+      let l = slice_get_within (tops_of d.found.rest) i c e in
+      let n = rest_length in
+      let m : b.twigs + (index + 1 + i) ≡ b.twigs + index + 1 + i = omega arith in subst (λ (q : ℕ). used q ≡ true) m (cell_used (index + 1 + i) (omega arith))
 
   pub part_counted : (k : ℕ) → row (in_chunk k) b.twigs n + weigh_tree (in_chunk k) d.found.here + spare (in_chunk k) ≤ live k
   part_counted k =

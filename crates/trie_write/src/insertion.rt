@@ -3,7 +3,7 @@
 ghost use Rattle.std.specs.Prelude.{◌≡◌, ◌+◌, ◌<◌, ◌≤◌, ◌∷◌, [], ℕ, List, IfOk, IfErr, count_ones};
 ghost use Rattle.packed_node.specs.declared.Cell.{Cell};
 ghost use Rattle.trie_model.specs.Keys.{Entry};
-ghost use Rattle.trie_model.specs.Trees.{Tree, Twigs, count};
+ghost use Rattle.trie_model.specs.Trees.{Tree, Twigs};
 ghost use Rattle.trie_model.specs.Trees.Tree.{branch as branch_of};
 ghost use Rattle.trie_model.specs.Changes.{Deep};
 ghost use Rattle.chunk_usage.specs.Rooms.{Ready};
@@ -12,11 +12,12 @@ ghost use Rattle.trie_write.specs.Paths.{twigs_on_path};
 ghost use Rattle.trie_write.specs.Steps.{Asks, Asked, AskedDeep, AsksBranch, AskedHere, Grew};
 
 use super::near::Difference;
+use super::path::put_branch;
 use super::room::{place_row, room};
 use super::row::{Row, append};
 use chunk_cells::CellWrite;
 use chunk_usage::{Full, Space};
-use packed_node::{Branch, Cell, Leaf, Node, bitmap};
+use packed_node::{Branch, Cell, Leaf, Node, bitmap, unpack};
 use shift_key::Key;
 
 /// Two cells, that of the smaller position first.
@@ -96,4 +97,51 @@ fn add_leaf<C: CellWrite, U: Space>(
         twigs,
     })
     .pack())
+}
+
+/// The cell of the top of the tree below a node with the leaf put in. Offsets are at least `low`.
+fn grow<C: CellWrite, U: Space>(
+    cells: &mut C,
+    usage: &mut U,
+    low: u16,
+    key: &Key,
+    first: Difference,
+    node: Cell,
+    leaf: Leaf,
+) -> Result<Cell, Full>
+    requires asks { Asked (C.has cells.old) (U.used usage.old) (U.live usage.old) low first.place key.now first.position node leaf }
+    requires ready { Ready (C.kept cells.old) (C.given cells.old) (U.given usage.old) (U.used usage.old) (U.fresh usage.old) }
+    ensures grew { IfOk result (λ cell. (t : Tree) (e : Entry) → Asks (C.has cells.old) (U.used usage.old) (U.live usage.old) low first.place key.now first.position node leaf t e
+        → Grew (C.has cells.new) (U.used usage.old) (U.used usage.new) (U.live usage.old) (U.live usage.new) low leaf t e cell) }
+    ensures unchanged { IfErr result (λ _. (k : ℕ) → U.live usage.new k ≡ U.live usage.old k) }
+    ensures spends { (t : Tree) (e : Entry) → Asks (C.has cells.old) (U.used usage.old) (U.live usage.old) low first.place key.now first.position node leaf t e
+        → U.spent usage.new ≤ U.spent usage.old + (twigs_on_path key.now t + 2) }
+    ensures full { IfErr result (λ f. U.lacks usage.new f) }
+    ensures frozen { U.frozen usage.new ≡ U.frozen usage.old }
+    ensures frame { Frame (C.has cells.old) (C.has cells.new) (C.kept cells.old) (C.kept cells.new) (C.given cells.old) (C.given cells.new) (U.used usage.old) (U.used usage.new) (U.fresh usage.old) (U.fresh usage.new) }
+    ensures ready { Ready (C.kept cells.new) (C.given cells.new) (U.given usage.new) (U.used usage.new) (U.fresh usage.new) }
+{
+    match unpack(node) {
+        Some(Node::Branch(branch)) => {
+            if branch.offset > first.place {
+                return split_node(cells, usage, key, first, node, leaf);
+            }
+            if branch.offset == first.place {
+                return add_leaf(cells, usage, key, branch, leaf);
+            }
+            let index = branch.twig_index(key.at(branch.offset));
+            let n = branch.twig_count();
+            let to = room(cells, usage, n)?;
+            let next = cells.cell(branch.twigs + index);
+            match grow(cells, usage, branch.offset + 1, key, first, next, leaf) {
+                Err(full) => {
+                    usage.release(to, n);
+                    Err(full)
+                }
+                Ok(twig) => Ok(put_branch(cells, usage, branch, index, to, twig)),
+            }
+        }
+        Some(Node::Leaf(_)) => split_node(cells, usage, key, first, node, leaf),
+        None => split_node(cells, usage, key, first, node, leaf),
+    }
 }
