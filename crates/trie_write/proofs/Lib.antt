@@ -10,3 +10,4 @@ pub mod StepLaws
 pub mod UnpackLaws
 pub mod NearLaws
 pub mod InsertLaws
+pub mod RootLaws

@@ -9,3 +9,5 @@ pub mod Rows
 pub mod Steps
 pub mod Paths
 pub mod Nearness
+pub mod Roots
+pub mod Inserts

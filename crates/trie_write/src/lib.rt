@@ -12,5 +12,6 @@ mod runs;
 mod size;
 
 pub use bulk::build;
+pub use insertion::{InsertRefusal, insert};
 pub use item::{Item, ItemRefusal};
 pub use size::cells;
