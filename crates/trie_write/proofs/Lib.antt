@@ -11,3 +11,4 @@ pub mod UnpackLaws
 pub mod NearLaws
 pub mod InsertLaws
 pub mod RootLaws
+pub mod ExchangeLaws

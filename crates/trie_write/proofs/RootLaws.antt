@@ -1,9 +1,15 @@
 -- A root of its own for a changed tree, and what stands there.
-use Rattle.std.proofs.Common.{◌≡◌, ℕ, suc, ◌+◌, ◌<◌, ◌≤◌, ◌^◌, ◌⊎◌, inl, inr, Bool, true, false, List, [], ◌∷◌, length, arith, refl, sym, ◌∙◌, ap, subst}
+use Rattle.std.proofs.Common.{◌≡◌, ℕ, suc, ◌+◌, ◌<◌, ◌≤◌, ◌^◌, ◌⊎◌, inl, inr, Bool, true, false, List, [], ◌∷◌, length, Option, Some, None, length-append, arith, refl, sym, ◌∙◌, ap, subst}
 use Rattle.std.proofs.lemmas.Bool.{true≢false}
 use Rattle.packed_node.specs.declared.Cell.{Cell}
 use Rattle.packed_node.specs.declared.Leaf.{Leaf}
-use Rattle.trie_model.specs.Keys.{Entry, IsEntry}
+use Rattle.zone_model.specs.Names.{wire}
+use Rattle.zone_model.specs.Keys.{Leads}
+use Rattle.trie_model.proofs.NameLaws.{name_key}
+use Rattle.trie_read.specs.Reads.{IsTop}
+use Rattle.trie_write.specs.Nearness.{FirstDiffers, Differs}
+use Rattle.trie_write.proofs.ItemLaws.{wire_some, AreSmall}
+use Rattle.trie_model.specs.Keys.{at, IsKey, Entry, IsEntry, InList}
 use Rattle.trie_model.specs.Memory.{top_cell, Beneath, ItemLies, IsTrieAt}
 use Rattle.trie_model.specs.Reach.{row, in_chunk, weigh_tree, WithinTree, live_in, reach}
 use Rattle.trie_model.specs.Trees.{Tree, IsTree, entries_of, cells_in, IsRow}
@@ -16,7 +22,7 @@ use Rattle.trie_write.specs.Standing.{StandsIn, Standing}
 use Rattle.trie_write.specs.Roots.{Rooted}
 use Rattle.trie_write.specs.Inserts.{AsksTop}
 use Rattle.trie_write.specs.declared.near.Difference.{Difference}
-use Rattle.trie_model.specs.Changes.{Nearest}
+use Rattle.trie_model.specs.Changes.{Nearest, Inserted}
 use Rattle.trie_write.proofs.InsertLaws.{laid_later}
 use Rattle.trie_write.proofs.WeightLaws.{marked, unmarked, mark_le, mark_tells, mark_grows, at_itself, met_within, within_met, row_fresh}
 use Rattle.trie_write.proofs.TwigLaws.{beneath_met}
@@ -118,3 +124,51 @@ top_asks {has} {now} {used} {used_now} {live = live} {r = r} {key} {item} {first
 -- an item in new cells
 pub item_fresh : {used new fresh : ℕ → Bool} {given : List Bool} {item : List ℕ} (l : Leaf) (other : List ℕ) → item ≡ other → Room used new fresh given l.at (cells_in item) → ((q : ℕ) → used q ≡ true → new q ≡ true) → (q : ℕ) → item_weight l other (at_place q) + mark used q ≤ mark new q
 item_fresh {used = used} {new} l other e room stays q = let a = row_fresh room stays q in let b = ap (λ (xs : List ℕ). row (at_place q) l.at (cells_in xs)) e in omega arith
+
+-- ---- the entry of a key and an item
+
+pub leads_key : {key item : List ℕ} → Leads key item → IsKey key
+leads_key {key} leads = name_key key (leads.name, leads.is_name, leads.key)
+
+pub leads_some : {key item : List ℕ} → Leads key item → 0 < length item
+leads_some leads = let a = wire_some leads.name in let b = ap (λ (xs : List ℕ). length xs) leads.front.1 in let c = length-append (wire leads.name) leads.front.0 in omega arith
+
+abbrev pub entry_with : List ℕ → List ℕ → Entry
+entry_with key item = record { key = key; item = item }
+
+pub leads_entry : {key item : List ℕ} → Leads key item → AreSmall item → IsEntry (record { key = key; item = item })
+leads_entry leads small = record { key = leads_key leads; item = record { some = leads_some leads; short = leads.short; octets = small } }
+
+-- ---- what was there stays
+
+pub stands_later : {has new : ℕ → Cell → Type 0} {used used_new : ℕ → Bool} {live live_new : ℕ → ℕ} {r : ℕ} {t : Tree} {version : List Entry} → StandsIn has used live r t version → Keeps used has new → ((q : ℕ) → used q ≡ true → used_new q ≡ true) → ((k : ℕ) → live_new k ≡ live k) → StandsIn new used_new live_new r t version
+stands_later {has} {new} {used} {used_new} {r = r} {t = t} s keep stays live = record {
+  trie = record { shape = s.trie.shape; inside = s.trie.inside; top = keep r (top_cell t) s.top_in_use s.trie.top; beneath = beneath_kept used has new keep t s.in_use s.trie.beneath; once = s.trie.once; holds = s.trie.holds };
+  top_in_use = stays r s.top_in_use;
+  in_use = tree_weaker used used_new stays t s.in_use;
+  counted = λ k. live k ∙ s.counted k;
+}
+
+pub standing_later : {has new : ℕ → Cell → Type 0} {used used_new : ℕ → Bool} {live live_new : ℕ → ℕ} (version : List Entry) (root : Option ℕ) → Standing has used live root version → Keeps used has new → ((q : ℕ) → used q ≡ true → used_new q ≡ true) → ((k : ℕ) → live_new k ≡ live k) → Standing new used_new live_new root version
+standing_later version None s keep stays live = (s.0, λ k. live k ∙ s.1 k)
+standing_later version (Some r) s keep stays live = (s.0, stands_later s.1 keep stays live)
+
+-- a root that stands, its cell read and its keys compared with another
+pub asks_here : {S : Type 0} (H : S → ℕ → Cell → Type 0) (s0 s1 s2 : S) {used : ℕ → Bool} {live : ℕ → ℕ} {r : ℕ} {key item : List ℕ} {t : Tree} {version : List Entry} (cell : Cell) (d : Option Difference) (first : Difference) → s1 ≡ s0 → s2 ≡ s1 → IsEntry (entry_with key item) → StandsIn (H s0) used live r t version → ((c : Cell) → H s0 r c → cell ≡ c) →
+    (IsTop (H s1) 0 cell t → Differs key (entries_of t) d) → d ≡ Some first → AsksTop (H s2) used live r key item first cell (entry_with key item) t version
+asks_here H s0 s1 s2 {used} {live} {r} {key} {item} {t} {version} cell d first e f is s read differs d_is =
+    let same : cell ≡ top_cell t = read (top_cell t) s.trie.top in
+    record {
+      entry = is;
+      key_is = refl;
+      item_is = refl;
+      stands = subst (λ z. StandsIn (H z) used live r t version) (sym (f ∙ e)) s;
+      is = same;
+      differs = subst (Differs key (entries_of t)) d_is (differs (record { tree = s.trie.shape; is = same; beneath = subst (λ z. Beneath (H z) t) (sym e) s.trie.beneath }));
+    }
+
+pub not_there : {key : List ℕ} {es : List Entry} {d : Difference} → FirstDiffers key es d → (x : Entry) → InList x es → x.key ≡ key → ⊥
+not_there {key} f x i e = let a = f.nearest.apart x i in a.2 (ap (λ (y : List ℕ). at y a.0) (sym e))
+
+pub inserted_first : (e : Entry) (version : List Entry) → version ≡ [] → Inserted e version (e ∷ [])
+inserted_first e version none = record { before = []; after = []; old_is = none; new_is = refl; lower = λ x i. absurd i; upper = λ x i. absurd i }

@@ -11,3 +11,4 @@ pub mod Paths
 pub mod Nearness
 pub mod Roots
 pub mod Inserts
+pub mod Exchanges
