@@ -1,6 +1,6 @@
 -- Frames one after the other, and cells that are handed out.
-use Rattle.std.proofs.Common.{◌≡◌, ℕ, zero, suc, ◌+◌, ◌*◌, ◌/◌, ◌%◌, ◌<◌, ◌≤◌, Bool, true, false, List, [], ◌∷◌, Contains, Option, Some, None, slice_get, slice_set, arith, refl, sym, ◌∙◌, ap, subst, inl, inr}
-use Rattle.std.proofs.lemmas.Bool.{true≢false, cases_eq}
+use Rattle.std.proofs.Common.{◌≡◌, ℕ, zero, suc, ◌+◌, ◌*◌, ◌/◌, ◌%◌, ◌<◌, ◌≤◌, Bool, true, false, List, [], ◌∷◌, Contains, Option, Some, None, Result, Ok, Err, IfOk, slice_get, slice_set, arith, refl, sym, ◌∙◌, ap, subst, inl, inr}
+use Rattle.std.proofs.lemmas.Bool.{true≢false, cases_eq, cases_lt}
 use Rattle.packed_node.specs.declared.Cell.{Cell}
 use Rattle.trie_model.specs.Trees.{IsRow}
 use Rattle.chunk_cells.specs.Chunks.{IsGiven, IsFree}
@@ -69,3 +69,30 @@ given_more given k free j h = elim (cases_eq j k) [
 pub given_by : (given new : List Bool) (chunk : Option ℕ) → GivesChunk given new chunk → (j : ℕ) → IsGiven given j → IsGiven new j
 given_by given new None gives j h = subst (λ (x : List Bool). IsGiven x j) (sym gives) h
 given_by given new (Some chunk) gives j h = subst (λ (x : List Bool). IsGiven x j) (sym gives.1) (given_more given chunk gives.0 j h)
+
+-- cells that were handed out are written later on
+pub frame_put : {h0 h1 h2 h3 : ℕ → Cell → Type 0} {k0 k1 k2 k3 : List ℕ} {g0 g1 g2 g3 : List Bool} {u0 u1 u2 u3 f0 f1 f2 f3 : ℕ → Bool} {to n : ℕ} →
+    Frame h0 h1 k0 k1 g0 g1 u0 u1 f0 f1 → Room u0 u1 f1 g1 to n → Frame h1 h2 k1 k2 g1 g2 u1 u2 f1 f2 → ((q : ℕ) (c : Cell) → ((i : ℕ) → i < n → q ≡ to + i → ⊥) → h2 q c → h3 q c) →
+    g3 ≡ g2 → k3 ≡ k2 → ((q : ℕ) → u3 q ≡ u2 q) → ((q : ℕ) → f3 q ≡ f2 q) → Frame h0 h3 k0 k3 g0 g3 u0 u3 f0 f3
+frame_put {f1 = f1} {f2 = f2} {f3} {to} a room b others given kept used fresh = let whole = frame_then a b in record {
+  stays = λ q c u h. others q c (λ i l e. apart_from room q u i l e) (whole.stays q c u h);
+  frozen = λ q c f h. others q c (λ i l e. true≢false (sym (b.grows.fresher q (ap f1 e ∙ room.writable i l)) ∙ (sym (fresh q) ∙ f))) (whole.frozen q c (sym (fresh q) ∙ f) h);
+  keeps = kept ∙ whole.keeps;
+  given_stays = λ k g. subst (λ (x : List Bool). IsGiven x k) (sym given) (whole.given_stays k g);
+  grows = record { stays = λ q u. used q ∙ whole.grows.stays q u; settled = λ q u. fresh q ∙ whole.grows.settled q u; fresher = λ q u. fresh q ∙ whole.grows.fresher q u };
+}
+
+-- where cells are put and counts change alone
+pub ready_put : {k k_new : List ℕ} {g g_new s s_new : List Bool} {u u_new f f_new : ℕ → Bool} → Ready k g s u f → g_new ≡ g → k_new ≡ k → s_new ≡ s → ((q : ℕ) → u_new q ≡ u q) → ((q : ℕ) → f_new q ≡ f q) → Ready k_new g_new s_new u_new f_new
+ready_put r given kept space used fresh = record {
+  same = given ∙ r.same ∙ sym space;
+  in_use = λ q h. used q ∙ r.in_use q (subst (λ (qs : List ℕ). Contains qs q) kept h);
+  settled = λ q h. fresh q ∙ r.settled q (subst (λ (qs : List ℕ). Contains qs q) kept h);
+}
+
+pub ok_map : {A E : Type 0} (r : Result A E) {P Q : A → Type 0} → ((x : A) → P x → Q x) → IfOk r P → IfOk r Q
+ok_map (Ok x) f h = f x h
+ok_map (Err e) f h = tt
+
+pub lt_of : {x y : ℕ} → x ≤ y → (x ≡ y → ⊥) → x < y
+lt_of {x} {y} l ne = elim (cases_lt x y) [ inl a ↦ a | inr b ↦ absurd (ne (omega arith)) ]

@@ -39,7 +39,7 @@ name_of octets is = go (split_name octets) refl
         let s = name_sound octets x is.small e in
         record { name = x.0; is_name = s.name; rest = x.1; octets_are = s.octets; key = ap key_of_split e }
 
-wire_some : (name : Name) → 0 < length (wire name)
+pub wire_some : (name : Name) → 0 < length (wire name)
 wire_some [] = omega arith
 wire_some (label ∷ labels) = omega arith
 

@@ -6,3 +6,9 @@ pub mod RunLaws
 pub mod PlanLaws
 pub mod TwigLaws
 pub mod BuildLaws
+pub mod StepLaws
+pub mod UnpackLaws
+pub mod NearLaws
+pub mod InsertLaws
+pub mod RootLaws
+pub mod ExchangeLaws

@@ -14,7 +14,7 @@ use Rattle.trie_model.proofs.AddLaws.{absent_of, present_of, nearest_here, add_t
 use Rattle.trie_model.proofs.OrderLaws.{one_insertion}
 
 -- where it lies doesn't matter here
-short_row : (n : ℕ) → n ≤ 1024 → IsRow 0 n
+pub short_row : (n : ℕ) → n ≤ 1024 → IsRow 0 n
 short_row n l = record { inside = omega arith; together = omega arith }
 
 pub item_row : (e : Entry) → IsEntry e → IsRow 0 (cells_in e.item)

@@ -5,3 +5,10 @@ pub mod Weights
 pub mod Runs
 pub mod Builds
 pub mod Standing
+pub mod Rows
+pub mod Steps
+pub mod Paths
+pub mod Nearness
+pub mod Roots
+pub mod Inserts
+pub mod Exchanges

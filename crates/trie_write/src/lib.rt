@@ -2,12 +2,17 @@
 #![tactic(auto)]
 
 mod bulk;
+mod insertion;
 pub mod item;
+mod near;
+mod path;
 mod room;
+mod replacement;
 mod row;
 mod runs;
 mod size;
 
 pub use bulk::build;
+pub use insertion::{InsertRefusal, insert};
 pub use item::{Item, ItemRefusal};
 pub use size::cells;

@@ -28,7 +28,7 @@ loop-rest-init g t c =
             (subst (λ (o : ℕ). Made (g.C.CellRead.has c.args.cells.now) (g.U.Space.used c.args.usage.now) (g.U.Space.used c.args.usage.now) (g.U.Space.live c.args.usage.now) (g.U.Space.live c.args.usage.now) o (entries_of_items c.args.items.now) (entries_of_items c.args.items.now) 0 [] 0) (sym is) start);
         cost = (let row = ap (λ (xs : List Cell). length xs) c.new-row.ensures in omega arith);
       };
-      frame = frame_refl;
+      frame = frame_refl {h = g.C.CellRead.has c.args.cells.now};
       frozen = refl;
       ready = c.requires.ready;
     }
@@ -87,7 +87,7 @@ loop-rest-preserved g t c =
         cost = (let so_far = making.cost in let row = ap (λ (xs : List Cell). length xs) c.push.ensures ∙ length-append c.loop-rest.row (c.in_ok-cell.cell ∷ []) in omega arith);
       };
       frame = frame_then c.loop-rest.invariant.frame c.in_ok-cell.ensures.frame;
-      frozen = c.build_below.ensures.frozen ∙ c.loop-rest.invariant.frozen;
+      frozen = c.in_ok-cell.ensures.frozen ∙ c.loop-rest.invariant.frozen;
       ready = c.in_ok-cell.ensures.ready;
     }
 

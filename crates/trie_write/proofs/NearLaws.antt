@@ -1,0 +1,135 @@
+-- The leaf that a walk comes to, and the first place where its key differs.
+use Rattle.std.proofs.Common.{◌≡◌, ℕ, suc, ◌+◌, ◌/◌, ◌%◌, ◌^◌, ◌<◌, ◌≤◌, ◌⊎◌, List, length, take, count_ones, Option, Some, None, IsNone, IsSome, length-take, arith, refl, sym, ◌∙◌, ap, subst, inl, inr}
+use Rattle.std.proofs.lemmas.Bool.{cases_lt, cases_eq}
+use Rattle.std.proofs.lemmas.List.{get_or_past}
+use Rattle.packed_node.specs.declared.Cell.{Cell}
+use Rattle.packed_node.specs.declared.Leaf.{Leaf}
+use Rattle.packed_node.specs.declared.Branch.{Branch}
+use Rattle.packed_node.specs.declared.Node.{Node}
+use Rattle.packed_node.specs.declared.Node.TheVariants as node
+use Rattle.zone_model.specs.Names.{Name, IsName, BeginsWith}
+use Rattle.zone_model.specs.Keys.{key_of, Leads, IsFirstDifference}
+use Rattle.trie_model.specs.Keys.{at, Same, IsKey, IsItem, Entry, InList}
+use Rattle.trie_model.specs.Memory.{top_cell, node_of, Beneath, Lie, ItemLies}
+use Rattle.trie_model.specs.Trees.{Tree, Twigs, IsTree, Agree, entries_of, entries, bitmap_of}
+use Rattle.trie_model.specs.Trees.Tree.{leaf, branch}
+use Rattle.trie_model.specs.Trees.Twigs.{none, twig}
+use Rattle.trie_model.proofs.KeyLaws.{in_left}
+use Rattle.trie_model.proofs.SplitLaws.{Found, Missing, look, rising_of, lie_right, in_found, not_missing}
+use Rattle.trie_model.proofs.AddLaws.{found_twigs, from_here}
+use Rattle.trie_model.proofs.GrowthLaws.{each_entry}
+use Rattle.trie_model.proofs.NameLaws.{one_key_leads, leads_by_front}
+use Rattle.trie_read.specs.Reads.{IsTop, IsLeafOf, EachTells}
+use Rattle.trie_write.proofs.UnpackLaws.{Unpacked, BranchTold, told}
+use Rattle.trie_write.specs.Nearness.{Apart, Closest, FirstDiffers, Differs}
+
+-- the front of an item has a name, which is the key's
+pub has_name : (key item front : List ℕ) (r : Option Name) → IsItem item → front ≡ take 256 item → Leads key item → (IsNone r → (name : Name) → IsName name → BeginsWith front name → ⊥) → IsSome r
+has_name key item front None is e leads never = let there = subst (Leads key) (sym e) ((leads_by_front key item is).0 leads) in absurd (never refl there.name there.is_name there.front)
+has_name key item front (Some name) is e leads never = refl
+
+pub name_is : (key item front : List ℕ) (name : Name) → IsItem item → front ≡ take 256 item → Leads key item → IsName name → BeginsWith front name → key_of name ≡ key
+name_is key item front name is e leads is_name begins =
+    let here : Leads (key_of name) front = record { short = (let n = ap (λ (xs : List ℕ). length xs) e in let m = length-take 256 item in omega arith); name = name; is_name = is_name; key = refl; front = begins } in
+    one_key_leads (key_of name) key front here (subst (Leads key) (sym e) ((leads_by_front key item is).0 leads))
+
+-- ---- the walk
+
+widen : (o d : ℕ) (k : List ℕ) (near x : Entry) (es : List Entry) → Agree o es → InList near es → InList x es → (at k d ≡ at near.key d → ⊥) → (at x.key o ≡ at k o → ⊥) → (d < o) ⊎ (o ≤ d) → (i : ℕ) × (i ≤ d) × (at k i ≡ at x.key i → ⊥)
+widen o d k near x es agree n i other ne (inl lt) = (d, omega arith, λ e. other (e ∙ agree x near i n d lt))
+widen o d k near x es agree n i other ne (inr ge) = (o, ge, λ e. ne (sym e))
+
+pub record Way (has : ℕ → Cell → Type 0) (k : List ℕ) (low r : ℕ) (t : Tree) : Type 0 where
+  pub here : Tree
+  pub deeper : IsTree low here
+  pub there : has r (top_cell here)
+  pub beneath : Beneath has here
+  pub holds : (e : Entry) → InList e (entries_of here) → InList e (entries_of t)
+  pub apart : (near : Entry) → InList near (entries_of here) → Apart k near (entries_of here) → Apart k near (entries_of t)
+
+way_in : (has : ℕ → Cell → Type 0) (k : List ℕ) (low o w i : ℕ) (below : Twigs) → IsTree low (branch o w below) → Lie has w below →
+    ((bitmap_of below / 2 ^ at k o) % 2 ≡ 1 → i ≡ count_ones (bitmap_of below % 2 ^ at k o)) → (((bitmap_of below / 2 ^ at k o) % 2 ≡ 1 → ⊥) → i ≡ 0) → Found 0 47 (at k o) below ⊎ Missing 0 47 (at k o) below → Way has k (o + 1) (w + i) (branch o w below)
+way_in has k low o w i below tree lies present absent (inl f) =
+    let twigs = found_twigs o (at k o) below tree.5 f in
+    let cells = lie_right has w f.left (twig (at k o) f.here f.rest) (subst (Lie has w) f.is lies) in
+    let n : suc o ≡ o + 1 = omega arith in
+    record {
+      here = f.here;
+      deeper = subst (λ (x : ℕ). IsTree x f.here) n twigs.3;
+      there = subst (λ (x : ℕ). has (w + x) (top_cell f.here)) (sym (present f.bit ∙ f.index)) cells.0;
+      beneath = cells.1;
+      holds = from_here (at k o) below f;
+      apart = λ near h a d same other x i. elim (cases_eq (at x.key o) (at k o)) [
+        | inl e ↦ a d same other x (in_found o (at k o) below tree.5 f x i e)
+        | inr ne ↦ widen o d k near x (entries below) tree.4 (from_here (at k o) below f near h) i other ne (cases_lt d o)
+      ];
+    }
+way_in has k low o w i none tree lies present absent (inr m) = absurd (let c = tree.3 in omega arith)
+way_in has k low o w i (twig p t rest) tree lies present absent (inr m) =
+    let zero_i : i ≡ 0 = absent (λ e. let b = m.bit in omega arith) in
+    let n : suc o ≡ o + 1 = omega arith in
+    let s : w ≡ w + i = omega arith in
+    record {
+      here = t;
+      deeper = subst (λ (x : ℕ). IsTree x t) n tree.5.3;
+      there = subst (λ (x : ℕ). has x (top_cell t)) s lies.0;
+      beneath = lies.1;
+      holds = λ e h. in_left e (entries_of t) (entries rest) h;
+      apart = λ near h a d same other x i. widen o d k near x (entries (twig p t rest)) tree.4 (in_left near (entries_of t) (entries rest) h) i other (λ e. not_missing o (at k o) (twig p t rest) tree.5 m x i e) (cases_lt d o);
+    }
+
+pub way_of : (has : ℕ → Cell → Type 0) (k : List ℕ) (low : ℕ) (c : Cell) (t : Tree) (b : Branch) (i : ℕ) → IsTop has low c t → BranchTold t b → IsKey k →
+    ((b.bitmap / 2 ^ at k b.offset) % 2 ≡ 1 → i ≡ count_ones (b.bitmap % 2 ^ at k b.offset)) → (((b.bitmap / 2 ^ at k b.offset) % 2 ≡ 1 → ⊥) → i ≡ 0) → Way has k (b.offset + 1) (b.twigs + i) t
+way_of has k low c t b i top x is present absent =
+    let bit : (b.bitmap / 2 ^ at k b.offset) % 2 ≡ (bitmap_of x.below / 2 ^ at k b.offset) % 2 = ap (λ (y : ℕ). (y / 2 ^ at k b.offset) % 2) x.bitmap in
+    let ones : count_ones (b.bitmap % 2 ^ at k b.offset) ≡ count_ones (bitmap_of x.below % 2 ^ at k b.offset) = ap (λ (y : ℕ). count_ones (y % 2 ^ at k b.offset)) x.bitmap in
+    let tree = subst (IsTree low) x.is top.tree in
+    subst (Way has k (b.offset + 1) (b.twigs + i)) (sym x.is) (way_in has k low b.offset b.twigs i x.below tree (subst (Beneath has) x.is top.beneath) (λ z. present (bit ∙ z) ∙ ones) (λ z. absent (λ y. z (sym bit ∙ y)))
+    (look 0 47 (at k b.offset) x.below (let z : 0 ≤ at k b.offset = omega arith in z) (is.positions b.offset) (rising_of b.offset 0 x.below (let z : 0 ≤ 47 = omega arith in z) tree.5)))
+
+pub closest_way : (has : ℕ → Cell → Type 0) (k : List ℕ) (low r : ℕ) (t : Tree) (y : Way has k low r t) (l : Leaf) → Closest has k (entries_of y.here) l → Closest has k (entries_of t) l
+closest_way has k low r t y l c = record { near = c.near; there = y.holds c.near c.there; leaf_of = c.leaf_of; apart = y.apart c.near c.there c.apart }
+
+same_leaf : (a b : Leaf) → node.Leaf a ≡ node.Leaf b → a ≡ b
+same_leaf a b e = cc
+
+leaf_is_no_branch : (b : Branch) (l : Leaf) → node.Branch b ≡ node.Leaf l → ⊥
+leaf_is_no_branch b l e = cc
+
+same_node : (n m : Node) (r : Option Node) → r ≡ Some n → r ≡ Some m → n ≡ m
+same_node n m r a b = cc
+
+closest_leaf : (has : ℕ → Cell → Type 0) (k : List ℕ) (low : ℕ) (t : Tree) (l : Leaf) → node_of t ≡ node.Leaf l → IsTree low t → Beneath has t → Closest has k (entries_of t) l
+closest_leaf has k low (branch o w below) l is tree b = absurd (leaf_is_no_branch (record { offset = o; bitmap = bitmap_of below; twigs = w }) l is)
+closest_leaf has k low (leaf e w) l is tree b =
+    let same = same_leaf (record { len = length e.item; at = w }) l is in
+    subst (Closest has k (entries_of (leaf e w))) same (record {
+      near = e;
+      there = inl refl;
+      leaf_of = record { entry = tree.0; len = refl; row = tree.1; lies = b };
+      apart = λ d sm other y i. elim i [ inl f ↦ (d, omega arith, λ z. other (z ∙ ap (λ (u : Entry). at u.key d) f)) | inr z ↦ absurd z ];
+    })
+
+pub closest_here : (has : ℕ → Cell → Type 0) (k : List ℕ) (low : ℕ) (c : Cell) (t : Tree) (r : Option Node) (l : Leaf) → Unpacked has low c t r → (n : Node) → r ≡ Some n → n ≡ node.Leaf l → Closest has k (entries_of t) l
+closest_here has k low c t r l u n e0 e1 = closest_leaf has k low t l (same_node (node_of t) (node.Leaf l) r (told has low c t r u) (e0 ∙ ap (λ (x : Node). Some x) e1)) u.top.tree u.top.beneath
+
+-- ---- the first difference
+
+pub differs_none : {has : ℕ → Cell → Type 0} {k : List ℕ} {es : List Entry} {l : Leaf} (c : Closest has k es l) → k ≡ c.near.key → Differs k es None
+differs_none c same = (c.near, c.there, sym same)
+
+place_inside : (a b : List ℕ) (d : ℕ) → IsKey a → IsKey b → IsFirstDifference a b d → d ≤ 503
+place_inside a b d ka kb first = elim (cases_lt d 504) [
+  | inl l ↦ omega arith
+  | inr g ↦ absurd (first.differ (get_or_past a d 0 (let s = ka.short in omega arith) ∙ sym (get_or_past b d 0 (let s = kb.short in omega arith))))
+]
+
+pub differs_some : {has : ℕ → Cell → Type 0} {k : List ℕ} {l : Leaf} (low : ℕ) (t : Tree) (place position : ℕ) (c : Closest has k (entries_of t) l) → IsTree low t → IsKey k → IsFirstDifference k c.near.key place → position ≡ at c.near.key place → FirstDiffers k (entries_of t) (record { place = place; position = position })
+differs_some {k = k} low t place position c tree is first e =
+    let other : (at k place ≡ at c.near.key place) → ⊥ = first.differ in
+    let near_is = each_entry low t tree c.near c.there in
+    record {
+      nearest = record { near = c.near; there = c.there; same = first.before; position = sym e; other = λ f. other (f ∙ e); apart = c.apart place first.before other };
+      short = place_inside k c.near.key place is near_is.key first;
+      inside = (let p = near_is.key.positions place in omega arith);
+    }

@@ -1,0 +1,304 @@
+//! A name put in.
+
+ghost use Rattle.std.specs.Prelude.{◌≡◌, ◌+◌, ◌<◌, ◌≤◌, ◌∷◌, [], ℕ, List, IfOk, IfErr, Ok, Err, Some, None, ◌↔◌, length, count_ones};
+ghost use Rattle.packed_node.specs.declared.Cell.{Cell};
+ghost use Rattle.zone_model.specs.Keys.{Leads};
+ghost use Rattle.trie_model.specs.Keys.{Entry, IsEntry, InList};
+ghost use Rattle.trie_model.specs.Trees.{Tree, Twigs, cells_in};
+ghost use Rattle.trie_model.specs.Trees.Tree.{branch as branch_of};
+ghost use Rattle.trie_model.specs.Changes.{Deep, Inserted};
+ghost use Rattle.trie_read.specs.Reads.{EachTells};
+ghost use Rattle.chunk_usage.specs.Rooms.{Ready};
+ghost use Rattle.trie_write.specs.Frames.{Frame};
+ghost use Rattle.trie_write.specs.Paths.{twigs_on_path};
+ghost use Rattle.trie_write.specs.Roots.{RootGrew, OnPath};
+ghost use Rattle.trie_write.specs.Standing.{Standing};
+ghost use Rattle.trie_write.specs.Inserts.{AsksTop, AskedTop};
+ghost use Rattle.trie_write.specs.Steps.{Asks, Asked, AskedDeep, AsksBranch, AskedHere, Grew};
+
+use super::near::{Difference, compare};
+use super::path::put_branch;
+use super::room::{place_item, place_row, room};
+use super::row::{Row, append};
+use chunk_cells::CellWrite;
+use chunk_cells::item::cells_for;
+use chunk_usage::{Full, Space};
+use packed_node::{Branch, Cell, Leaf, Node, Ref, bitmap, unpack};
+use shift_key::Key;
+
+/// Two cells, that of the smaller position first.
+fn in_order(position: u8, cell: Cell, other: u8, node: Cell) -> [Cell; 2]
+    ensures before { position < other → result ≡ cell ∷ node ∷ [] }
+    ensures behind { other ≤ position → result ≡ node ∷ cell ∷ [] }
+{
+    if position < other {
+        [cell, node]
+    } else {
+        [node, cell]
+    }
+}
+
+/// The cell of a branch with two twigs: the node, and the leaf that goes in.
+fn split_node<C: CellWrite, U: Space>(
+    cells: &mut C,
+    usage: &mut U,
+    key: &Key,
+    first: Difference,
+    node: Cell,
+    leaf: Leaf,
+) -> Result<Cell, Full>
+    requires asks { AskedDeep (C.has cells.old) (U.used usage.old) (U.live usage.old) first.place key.now first.position node leaf }
+    requires ready { Ready (C.kept cells.old) (C.given cells.old) (U.given usage.old) (U.used usage.old) (U.fresh usage.old) }
+    ensures grew { IfOk result (λ cell. (low : ℕ) (t : Tree) (e : Entry) → Asks (C.has cells.old) (U.used usage.old) (U.live usage.old) low first.place key.now first.position node leaf t e
+        → Deep first.place t → Grew (C.has cells.new) (U.used usage.old) (U.used usage.new) (U.live usage.old) (U.live usage.new) low leaf t e cell) }
+    ensures unchanged { IfErr result (λ _. (k : ℕ) → U.live usage.new k ≡ U.live usage.old k) }
+    ensures spends { U.spent usage.new ≤ U.spent usage.old + 2 }
+    ensures full { IfErr result (λ f. U.lacks usage.new f) }
+    ensures frozen { U.frozen usage.new ≡ U.frozen usage.old }
+    ensures frame { Frame (C.has cells.old) (C.has cells.new) (C.kept cells.old) (C.kept cells.new) (C.given cells.old) (C.given cells.new) (U.used usage.old) (U.used usage.new) (U.fresh usage.old) (U.fresh usage.new) }
+    ensures ready { Ready (C.kept cells.new) (C.given cells.new) (U.given usage.new) (U.used usage.new) (U.fresh usage.new) }
+{
+    let position = key.at(first.place);
+    let row = in_order(position, Node::Leaf(leaf).pack(), first.position, node);
+    let twigs = place_row(cells, usage, &row)?;
+    Ok(Node::Branch(Branch {
+        offset: first.place,
+        bitmap: bitmap::pair(position, first.position),
+        twigs,
+    })
+    .pack())
+}
+
+/// The cell of the branch with one twig more: the leaf that goes in.
+fn add_leaf<C: CellWrite, U: Space>(
+    cells: &mut C,
+    usage: &mut U,
+    key: &Key,
+    branch: Branch,
+    leaf: Leaf,
+) -> Result<Cell, Full>
+    requires asks { AskedHere (C.has cells.old) (U.used usage.old) (U.live usage.old) key.now leaf branch }
+    requires ready { Ready (C.kept cells.old) (C.given cells.old) (U.given usage.old) (U.used usage.old) (U.fresh usage.old) }
+    ensures grew { IfOk result (λ cell. (low position : ℕ) (node : Cell) (e : Entry) (below : Twigs) → AsksBranch (C.has cells.old) (U.used usage.old) (U.live usage.old) low branch.offset key.now position node leaf branch e below
+        → Grew (C.has cells.new) (U.used usage.old) (U.used usage.new) (U.live usage.old) (U.live usage.new) low leaf (branch_of branch.offset branch.twigs below) e cell) }
+    ensures unchanged { IfErr result (λ _. (k : ℕ) → U.live usage.new k ≡ U.live usage.old k) }
+    ensures spends { U.spent usage.new ≤ U.spent usage.old + (count_ones branch.bitmap + 1) }
+    ensures full { IfErr result (λ f. U.lacks usage.new f) }
+    ensures frozen { U.frozen usage.new ≡ U.frozen usage.old }
+    ensures frame { Frame (C.has cells.old) (C.has cells.new) (C.kept cells.old) (C.kept cells.new) (C.given cells.old) (C.given cells.new) (U.used usage.old) (U.used usage.new) (U.fresh usage.old) (U.fresh usage.new) }
+    ensures ready { Ready (C.kept cells.new) (C.given cells.new) (U.given usage.new) (U.used usage.new) (U.fresh usage.new) }
+{
+    let position = key.at(branch.offset);
+    let index = branch.twig_index(position);
+    let n = branch.twig_count();
+    let mut row = Row::new();
+    append(cells, &mut row, branch.twigs, index);
+    row.push(Node::Leaf(leaf).pack());
+    append(cells, &mut row, branch.twigs + index, n - index);
+    let twigs = place_row(cells, usage, row.as_slice())?;
+    usage.release(branch.twigs, n);
+    Ok(Node::Branch(Branch {
+        offset: branch.offset,
+        bitmap: bitmap::with(branch.bitmap, position),
+        twigs,
+    })
+    .pack())
+}
+
+/// The cell of the top of the tree below a node with the leaf put in. Offsets are at least `low`.
+fn grow<C: CellWrite, U: Space>(
+    cells: &mut C,
+    usage: &mut U,
+    low: u16,
+    key: &Key,
+    first: Difference,
+    node: Cell,
+    leaf: Leaf,
+) -> Result<Cell, Full>
+    requires asks { Asked (C.has cells.old) (U.used usage.old) (U.live usage.old) low first.place key.now first.position node leaf }
+    requires ready { Ready (C.kept cells.old) (C.given cells.old) (U.given usage.old) (U.used usage.old) (U.fresh usage.old) }
+    ensures grew { IfOk result (λ cell. (t : Tree) (e : Entry) → Asks (C.has cells.old) (U.used usage.old) (U.live usage.old) low first.place key.now first.position node leaf t e
+        → Grew (C.has cells.new) (U.used usage.old) (U.used usage.new) (U.live usage.old) (U.live usage.new) low leaf t e cell) }
+    ensures unchanged { IfErr result (λ _. (k : ℕ) → U.live usage.new k ≡ U.live usage.old k) }
+    ensures spends { (t : Tree) (e : Entry) → Asks (C.has cells.old) (U.used usage.old) (U.live usage.old) low first.place key.now first.position node leaf t e
+        → U.spent usage.new ≤ U.spent usage.old + (twigs_on_path key.now t + 2) }
+    ensures full { IfErr result (λ f. U.lacks usage.new f) }
+    ensures frozen { U.frozen usage.new ≡ U.frozen usage.old }
+    ensures frame { Frame (C.has cells.old) (C.has cells.new) (C.kept cells.old) (C.kept cells.new) (C.given cells.old) (C.given cells.new) (U.used usage.old) (U.used usage.new) (U.fresh usage.old) (U.fresh usage.new) }
+    ensures ready { Ready (C.kept cells.new) (C.given cells.new) (U.given usage.new) (U.used usage.new) (U.fresh usage.new) }
+{
+    match unpack(node) {
+        Some(Node::Branch(branch)) => {
+            if branch.offset > first.place {
+                return split_node(cells, usage, key, first, node, leaf);
+            }
+            if branch.offset == first.place {
+                return add_leaf(cells, usage, key, branch, leaf);
+            }
+            let index = branch.twig_index(key.at(branch.offset));
+            let n = branch.twig_count();
+            let to = room(cells, usage, n)?;
+            let next = cells.cell(branch.twigs + index);
+            match grow(cells, usage, branch.offset + 1, key, first, next, leaf) {
+                Err(full) => {
+                    usage.release(to, n);
+                    Err(full)
+                }
+                Ok(twig) => Ok(put_branch(cells, usage, branch, index, to, twig)),
+            }
+        }
+        Some(Node::Leaf(_)) => split_node(cells, usage, key, first, node, leaf),
+        None => split_node(cells, usage, key, first, node, leaf),
+    }
+}
+
+/// The root of the tree with the leaf put in.
+fn grow_root<C: CellWrite, U: Space>(
+    cells: &mut C,
+    usage: &mut U,
+    key: &Key,
+    first: Difference,
+    node: Cell,
+    leaf: Leaf,
+) -> Result<Ref, Full>
+    requires asks { Asked (C.has cells.old) (U.used usage.old) (U.live usage.old) 0 first.place key.now first.position node leaf }
+    requires ready { Ready (C.kept cells.old) (C.given cells.old) (U.given usage.old) (U.used usage.old) (U.fresh usage.old) }
+    ensures grew { IfOk result (λ root. (t : Tree) (e : Entry) → Asks (C.has cells.old) (U.used usage.old) (U.live usage.old) 0 first.place key.now first.position node leaf t e
+        → RootGrew (C.has cells.new) (U.used usage.old) (U.used usage.new) (U.live usage.old) (U.live usage.new) leaf t e root) }
+    ensures unchanged { IfErr result (λ _. (k : ℕ) → U.live usage.new k ≡ U.live usage.old k) }
+    ensures spends { (t : Tree) (e : Entry) → Asks (C.has cells.old) (U.used usage.old) (U.live usage.old) 0 first.place key.now first.position node leaf t e
+        → U.spent usage.new ≤ U.spent usage.old + (twigs_on_path key.now t + 3) }
+    ensures full { IfErr result (λ f. U.lacks usage.new f) }
+    ensures frozen { U.frozen usage.new ≡ U.frozen usage.old }
+    ensures frame { Frame (C.has cells.old) (C.has cells.new) (C.kept cells.old) (C.kept cells.new) (C.given cells.old) (C.given cells.new) (U.used usage.old) (U.used usage.new) (U.fresh usage.old) (U.fresh usage.new) }
+    ensures ready { Ready (C.kept cells.new) (C.given cells.new) (U.given usage.new) (U.used usage.new) (U.fresh usage.new) }
+{
+    let root = room(cells, usage, 1)?;
+    match grow(cells, usage, 0, key, first, node, leaf) {
+        Err(full) => {
+            usage.release(root, 1);
+            Err(full)
+        }
+        Ok(cell) => {
+            cells.put(root, cell);
+            Ok(root)
+        }
+    }
+}
+
+/// The root of the trie of one name.
+fn insert_first<C: CellWrite, U: Space>(
+    cells: &mut C,
+    usage: &mut U,
+    item: &[u8],
+) -> Result<Ref, Full>
+    requires some { 0 < length item.now }
+    requires short { length item.now ≤ 4096 }
+    requires uncounted { (k : ℕ) → U.live usage.old k ≡ 0 }
+    requires ready { Ready (C.kept cells.old) (C.given cells.old) (U.given usage.old) (U.used usage.old) (U.fresh usage.old) }
+    ensures stands { IfOk result (λ root. (e : Entry) → IsEntry e → e.item ≡ item.now → Standing (C.has cells.new) (U.used usage.new) (U.live usage.new) (Some root) (e ∷ [])) }
+    ensures unchanged { IfErr result (λ _. (k : ℕ) → U.live usage.new k ≡ U.live usage.old k) }
+    ensures spends { U.spent usage.new ≤ U.spent usage.old + (cells_in item.now + 1) }
+    ensures full { IfErr result (λ f. U.lacks usage.new f) }
+    ensures frozen { U.frozen usage.new ≡ U.frozen usage.old }
+    ensures frame { Frame (C.has cells.old) (C.has cells.new) (C.kept cells.old) (C.kept cells.new) (C.given cells.old) (C.given cells.new) (U.used usage.old) (U.used usage.new) (U.fresh usage.old) (U.fresh usage.new) }
+    ensures ready { Ready (C.kept cells.new) (C.given cells.new) (U.given usage.new) (U.used usage.new) (U.fresh usage.new) }
+{
+    let leaf = place_item(cells, usage, item)?;
+    match place_row(cells, usage, &[Node::Leaf(leaf).pack()]) {
+        Ok(root) => Ok(root),
+        Err(full) => {
+            usage.release(leaf.at, cells_for(leaf.len));
+            Err(full)
+        }
+    }
+}
+
+/// The root of the trie with a name put in, whose key first differs there from the others.
+fn insert_further<C: CellWrite, U: Space>(
+    cells: &mut C,
+    usage: &mut U,
+    root: Ref,
+    key: &Key,
+    first: Difference,
+    node: Cell,
+    item: &[u8],
+) -> Result<Ref, Full>
+    requires some { 0 < length item.now }
+    requires short { length item.now ≤ 4096 }
+    requires asks { (e : Entry) × AskedTop (C.has cells.old) (U.used usage.old) (U.live usage.old) root key.now item.now first node e }
+    requires ready { Ready (C.kept cells.old) (C.given cells.old) (U.given usage.old) (U.used usage.old) (U.fresh usage.old) }
+    ensures stands { IfOk result (λ new. (e : Entry) (t : Tree) (version : List Entry) → AsksTop (C.has cells.old) (U.used usage.old) (U.live usage.old) root key.now item.now first node e t version
+        → (next : List Entry) × Inserted e version next × Standing (C.has cells.new) (U.used usage.new) (U.live usage.new) (Some new) next) }
+    ensures unchanged { IfErr result (λ _. (k : ℕ) → U.live usage.new k ≡ U.live usage.old k) }
+    ensures spends { (e : Entry) (t : Tree) (version : List Entry) → AsksTop (C.has cells.old) (U.used usage.old) (U.live usage.old) root key.now item.now first node e t version
+        → U.spent usage.new ≤ U.spent usage.old + (3 + cells_in item.now + twigs_on_path key.now t) }
+    ensures full { IfErr result (λ f. U.lacks usage.new f) }
+    ensures frozen { U.frozen usage.new ≡ U.frozen usage.old }
+    ensures frame { Frame (C.has cells.old) (C.has cells.new) (C.kept cells.old) (C.kept cells.new) (C.given cells.old) (C.given cells.new) (U.used usage.old) (U.used usage.new) (U.fresh usage.old) (U.fresh usage.new) }
+    ensures ready { Ready (C.kept cells.new) (C.given cells.new) (U.given usage.new) (U.used usage.new) (U.fresh usage.new) }
+{
+    let leaf = place_item(cells, usage, item)?;
+    match grow_root(cells, usage, key, first, node, leaf) {
+        Ok(new) => {
+            usage.release(root, 1);
+            Ok(new)
+        }
+        Err(full) => {
+            usage.release(leaf.at, cells_for(leaf.len));
+            Err(full)
+        }
+    }
+}
+
+/// Why a name isn't put in.
+#[derive(Clone, Copy, PartialEq, Eq, Debug)]
+pub enum InsertRefusal {
+    /// The name is there.
+    Exists,
+    /// There is no room.
+    Full(Full),
+}
+
+/// The root of the trie with a name put in. The item begins with the name's wire form. After a refusal the root stands as
+/// before.
+pub fn insert<C: CellWrite, U: Space>(
+    cells: &mut C,
+    usage: &mut U,
+    root: Option<Ref>,
+    key: &Key,
+    item: &[u8],
+) -> Result<Option<Ref>, InsertRefusal>
+    requires stands { (version : List Entry) × Standing (C.has cells.old) (U.used usage.old) (U.live usage.old) root version × EachTells Leads version }
+    requires leads { Leads key.now item.now }
+    requires ready { Ready (C.kept cells.old) (C.given cells.old) (U.given usage.old) (U.used usage.old) (U.fresh usage.old) }
+    ensures inserted { IfOk result (λ new. (version : List Entry) → Standing (C.has cells.old) (U.used usage.old) (U.live usage.old) root version → EachTells Leads version
+        → (next : List Entry) × Inserted (record { key = key.now; item = item.now }) version next × Standing (C.has cells.new) (U.used usage.new) (U.live usage.new) new next) }
+    ensures exists { (version : List Entry) → Standing (C.has cells.old) (U.used usage.old) (U.live usage.old) root version → EachTells Leads version
+        → (result ≡ Err InsertRefusal.Exists) ↔ ((x : Entry) × InList x version × (x.key ≡ key.now)) }
+    ensures refused { IfErr result (λ _. (version : List Entry) → Standing (C.has cells.old) (U.used usage.old) (U.live usage.old) root version
+        → Standing (C.has cells.new) (U.used usage.new) (U.live usage.new) root version) }
+    ensures unchanged { IfErr result (λ _. (k : ℕ) → U.live usage.new k ≡ U.live usage.old k) }
+    ensures full { (f : _) → result ≡ Err (InsertRefusal.Full f) → U.lacks usage.new f }
+    ensures spends { (n : ℕ) → OnPath (C.has cells.old) (U.used usage.old) (U.live usage.old) root key.now n → U.spent usage.new ≤ U.spent usage.old + (3 + cells_in item.now + n) }
+    ensures frozen { U.frozen usage.new ≡ U.frozen usage.old }
+    ensures frame { Frame (C.has cells.old) (C.has cells.new) (C.kept cells.old) (C.kept cells.new) (C.given cells.old) (C.given cells.new) (U.used usage.old) (U.used usage.new) (U.fresh usage.old) (U.fresh usage.new) }
+    ensures ready { Ready (C.kept cells.new) (C.given cells.new) (U.given usage.new) (U.used usage.new) (U.fresh usage.new) }
+{
+    match root {
+        None => match insert_first(cells, usage, item) {
+            Ok(new) => Ok(Some(new)),
+            Err(full) => Err(InsertRefusal::Full(full)),
+        },
+        Some(at) => {
+            let node = cells.cell(at);
+            match compare(cells, node, key) {
+                None => Err(InsertRefusal::Exists),
+                Some(first) => match insert_further(cells, usage, at, key, first, node, item) {
+                    Ok(new) => Ok(Some(new)),
+                    Err(full) => Err(InsertRefusal::Full(full)),
+                },
+            }
+        }
+    }
+}

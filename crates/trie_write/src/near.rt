@@ -1,0 +1,83 @@
+//! Where a key first differs from those that are there.
+
+ghost use Rattle.std.specs.Prelude.{◌≡◌, ◌%◌, ◌^◌, ◌<◌, ℕ, List, count_ones};
+ghost use Rattle.std.specs.Int.{bit_at};
+ghost use Rattle.zone_model.specs.Keys.{Leads};
+ghost use Rattle.trie_model.specs.Keys.{at, IsKey, Entry};
+ghost use Rattle.trie_model.specs.Trees.{Tree, entries_of};
+ghost use Rattle.trie_read.specs.Reads.{IsTop, IsLeafOf, EachTells};
+ghost use Rattle.trie_write.specs.Nearness.{Closest, Differs};
+
+use chunk_cells::{CellRead, read_front};
+use dns_name::Name;
+use packed_node::{Branch, Cell, Leaf, Node, unpack};
+use shift_key::Key;
+
+/// Where a key first differs from the nearest one.
+#[derive(Clone, Copy)]
+pub struct Difference {
+    /// The place.
+    pub place: u16,
+    /// The position that the nearest key has there.
+    pub position: u8,
+}
+
+/// Where the key first differs from the nearest one below a node; `None` where the key is there.
+pub fn compare<C: CellRead>(cells: &mut C, node: Cell, key: &Key) -> Option<Difference>
+    requires stands { (t : Tree) × IsTop (C.has cells.old) 0 node t × EachTells Leads (entries_of t) }
+    requires key { IsKey key.now }
+    ensures same { cells.new ≡ cells.old }
+    ensures value { (t : Tree) → IsTop (C.has cells.old) 0 node t → EachTells Leads (entries_of t) → Differs key.now (entries_of t) result }
+{
+    let leaf = nearest(cells, node, 0, key);
+    let other = key_at(cells, leaf);
+    match key.first_difference(&other) {
+        None => None,
+        Some(place) => Some(Difference {
+            place,
+            position: other.at(place),
+        }),
+    }
+}
+
+/// The leaf below a node whose key has the longest beginning in common with the key. Offsets are at least `low`.
+fn nearest<C: CellRead>(cells: &mut C, node: Cell, low: u16, key: &Key) -> Leaf
+    requires stands { (t : Tree) × IsTop (C.has cells.old) low node t }
+    requires key { IsKey key.now }
+    ensures same { cells.new ≡ cells.old }
+    ensures value { (t : Tree) → IsTop (C.has cells.old) low node t → Closest (C.has cells.old) key.now (entries_of t) result }
+{
+    match unpack(node) {
+        None => Leaf { len: 0, at: 0 },
+        Some(Node::Leaf(leaf)) => leaf,
+        Some(Node::Branch(branch)) => {
+            let next = cells.cell(branch.twigs + way(branch, key));
+            nearest(cells, next, branch.offset + 1, key)
+        }
+    }
+}
+
+/// The index of the key's twig, or of the first where it has none.
+fn way(branch: Branch, key: &Key) -> u32
+    requires { IsKey key.now }
+    ensures present { bit_at branch.bitmap (at key.now branch.offset) ≡ 1 → result ≡ count_ones (branch.bitmap % 2 ^ at key.now branch.offset) }
+    ensures absent { (bit_at branch.bitmap (at key.now branch.offset) ≡ 1 → ⊥) → result ≡ 0 }
+{
+    let position = key.at(branch.offset);
+    if branch.has_twig(position) {
+        branch.twig_index(position)
+    } else {
+        0
+    }
+}
+
+/// The key that a leaf's item says.
+fn key_at<C: CellRead>(cells: &mut C, leaf: Leaf) -> Key
+    requires { (e : Entry) × IsLeafOf (C.has cells.old) e leaf × Leads e.key e.item }
+    ensures same { cells.new ≡ cells.old }
+    ensures key { (e : Entry) → IsLeafOf (C.has cells.old) e leaf → Leads e.key e.item → result ≡ e.key }
+{
+    let mut front = [0; 256];
+    let len = read_front(cells, leaf, &mut front);
+    Key::of(&Name::from_wire(&front[..len]).unwrap())
+}
