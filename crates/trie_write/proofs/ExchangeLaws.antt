@@ -79,9 +79,9 @@ exchange_twig low o w wn p e below f h l new g = record {
     known x i = elim (in_both x (entries f.left) (entries_of new ++ entries f.rest) (subst (InList x) (entries-beside f.left (twig p new f.rest)) i)) [
       | inl a ↦ (x, subst (InList x) (sym (found_entries p below f)) (in_left x (entries f.left) (entries_of f.here ++ entries f.rest) a), refl)
       | inr b ↦ elim (in_both x (entries_of new) (entries f.rest) b) [
-          | inl u ↦ (let y = key_before e x (entries_of f.here) (entries_of new) g.exchanged u in (y.0, from_here p below f y.0 y.1, y.2))
-          | inr v ↦ (x, subst (InList x) (sym (found_entries p below f)) (in_right x (entries f.left) (entries_of f.here ++ entries f.rest) (in_right x (entries_of f.here) (entries f.rest) v)), refl)
-        ]
+        | inl u ↦ (let y = key_before e x (entries_of f.here) (entries_of new) g.exchanged u in (y.0, from_here p below f y.0 y.1, y.2))
+        | inr v ↦ (x, subst (InList x) (sym (found_entries p below f)) (in_right x (entries f.left) (entries_of f.here ++ entries f.rest) (in_right x (entries_of f.here) (entries f.rest) v)), refl)
+      ]
     ]
 
     agree : Agree o (entries (beside f.left (twig p new f.rest)))

@@ -7,7 +7,6 @@ pub mod item;
 mod near;
 mod path;
 mod room;
-mod replacement;
 mod row;
 mod runs;
 mod size;
