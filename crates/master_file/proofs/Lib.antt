@@ -1,6 +1,7 @@
 pub mod AddLemmas
 pub mod EntryLemmas
 pub mod LineLemmas
+pub mod PrintedLineLemmas
 pub mod RecordLemmas
 pub mod ScanLemmas
 pub mod SingleLemmas

@@ -60,7 +60,7 @@ spell_string_then n octets rest tokens r s =
 abbrev AllShown : List ℕ → Type 0
 AllShown text = list_all is_shown text ≡ true
 
-shown_then : (a b : List ℕ) → list_all is_shown a ≡ true → list_all is_shown b ≡ true → list_all is_shown (a ++ 32 ∷ [] ++ b) ≡ true
+pub shown_then : (a b : List ℕ) → list_all is_shown a ≡ true → list_all is_shown b ≡ true → list_all is_shown (a ++ 32 ∷ [] ++ b) ≡ true
 shown_then a b h k = all_append is_shown (a ++ 32 ∷ []) b (all_append is_shown a (32 ∷ []) h refl) k
 
 quoted_shown : (octets : List ℕ) → list_all is_shown (string_text octets) ≡ true → list_all is_shown (quoted_text octets) ≡ true
@@ -76,7 +76,7 @@ cond_some : {A : Type 0} (b : Bool) (o : Option A) (y : A) → cond b o None ≡
 cond_some true o y h = (refl, h)
 cond_some false o y h = absurd cc
 
-label_octets : (name : Name) → AllByRecursion IsLabel name → AllByRecursion (AllByRecursion (λ c. c < 256)) name
+pub label_octets : (name : Name) → AllByRecursion IsLabel name → AllByRecursion (AllByRecursion (λ c. c < 256)) name
 label_octets [] h = tt
 label_octets (label ∷ name) h = (h.0.octets, label_octets name h.1)
 
