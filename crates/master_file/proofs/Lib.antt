@@ -1,5 +1,6 @@
 pub mod EntryLemmas
 pub mod LineLemmas
+pub mod PrintedLineLemmas
 pub mod RecordLemmas
 pub mod ScanLemmas
 pub mod SingleLemmas

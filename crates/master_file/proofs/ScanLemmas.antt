@@ -3,8 +3,7 @@ use Rattle.std.proofs.Common.{◌≡◌, ℕ, suc, ◌+◌, ◌-◌, ◌<◌, �
 use Rattle.std.specs.List.{slice_range}
 use Rattle.std.proofs.lemmas.List.{drop_more}
 use Rattle.std.proofs.lemmas.List.Edits.{between_more}
-use Rattle.zone_model.specs.Refusals.{Refused, ◌>>=◌}
-use Rattle.zone_model.specs.declared.ZoneKind.{ZoneKind}
+use Rattle.zone_model.specs.Refusals.{◌>>=◌}
 use Rattle.zone_model.specs.Tokens.{Scan, step, steps}
 
 pub range_more : (xs : List ℕ) (from at : ℕ) → from ≤ at → at < length xs → slice_range xs from (at + 1) ≡ slice_range xs from at ++ get_or xs at 0 ∷ []

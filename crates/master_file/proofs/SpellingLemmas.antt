@@ -1,5 +1,5 @@
 -- What the scan gives is what the grammar says.
-use Rattle.std.proofs.Common.{◌≡◌, ℕ, List, [], Result, Ok, Err, subst}
+use Rattle.std.proofs.Common.{ℕ, List, [], Result, Ok, Err, subst}
 use Rattle.zone_model.specs.Refusals.{Refused}
 use Rattle.zone_model.specs.Tokens.{EntryTokens, LineTokens, fresh, entry_from, single_line}
 use Rattle.zone_model.specs.Grammar.{Spelled, Spells, SpellsEntry, line_says}

@@ -1,4 +1,5 @@
 pub mod Places
+pub mod Rows
 pub mod Spelling
 pub mod Views
 pub mod Zones

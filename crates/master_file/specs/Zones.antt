@@ -1,5 +1,5 @@
 -- What the readers of entries give.
-use Rattle.std.specs.Prelude.{◌≡◌, ℕ, List, [], ◌∷◌, map, drop, Option, Some, None, Result, Ok, Err}
+use Rattle.std.specs.Prelude.{◌≡◌, ℕ, List, map, drop, Some, None, Result, Ok, Err}
 use Rattle.zone_model.specs.Refusals.{Refused}
 use Rattle.zone_model.specs.Lines.{lines_of}
 use Rattle.zone_model.specs.Records.{Rrset}

@@ -5,6 +5,7 @@ mod classes;
 mod entries;
 mod entry_tokens;
 mod front;
+pub mod laws;
 mod lexer;
 mod lines;
 mod records;

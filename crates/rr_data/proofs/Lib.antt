@@ -11,6 +11,7 @@ pub mod PlaceLemmas
 pub mod PrintedDataLemmas
 pub mod PrintedFieldLemmas
 pub mod PrintedLemmas
+pub mod PrintedTypeLemmas
 pub mod PrintedWordLemmas
 pub mod StartsLemmas
 pub mod StringLemmas

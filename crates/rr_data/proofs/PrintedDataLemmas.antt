@@ -23,9 +23,10 @@ use Rattle.zone_model.specs.DataForms.{Field, NameField, ShortField, NumberField
 use Rattle.zone_model.specs.Data.{word_octets, ahead, taken, read_fields, string_octets, read_strings, read_digits, read_counted, read_generic, is_generic, of_form, by_fields, read_typed, data_of}
 use Rattle.zone_model.specs.DataText.{address_text, groups_text, field_text, fields_text, string_text, quoted_text, strings_text, hex_text, generic_text, typed_text, data_text}
 use Rattle.zone_model.proofs.SplitLemmas.{IsBytes, name_sound, SplitsName}
+use Rattle.rr_data.proofs.FormLemmas.{all_append}
 use Rattle.rr_data.proofs.PrintedLemmas.{bytes_of, string_back, number_back, digits_back_of}
 use Rattle.rr_data.proofs.PrintedFieldLemmas.{bytes_before, bytes_behind, map_some, octets_split, time_split, short_size, number_size, in_pairs, IsReadBack, field_back}
-use Rattle.rr_data.proofs.PrintedWordLemmas.{any_type, IsFieldWord, name_is_word, decimal_is_word, decimal_word, address_is_word, groups_are_word, string_run, hex_all, hex_word}
+use Rattle.rr_data.proofs.PrintedWordLemmas.{any_type, is_shown, IsFieldWord, name_is_word, decimal_is_word, decimal_word, address_is_word, groups_are_word, string_run, hex_all, hex_word}
 
 -- ---- tokens of a line
 
@@ -56,6 +57,15 @@ spell_string_then n octets rest tokens r s =
     subst (λ (t : List ℕ). Spells n [] (34 ∷ t) (plain (string n octets ∷ tokens))) (sym (append_assoc (inner ++ 34 ∷ []) (32 ∷ []) rest ∙ append_assoc inner (34 ∷ []) (32 ∷ rest)))
     (says.Quoted [] inner (32 ∷ rest) (plain tokens) r (says.Blank [] 32 rest (plain tokens) refl s))
 
+abbrev AllShown : List ℕ → Type 0
+AllShown text = list_all is_shown text ≡ true
+
+pub shown_then : (a b : List ℕ) → list_all is_shown a ≡ true → list_all is_shown b ≡ true → list_all is_shown (a ++ 32 ∷ [] ++ b) ≡ true
+shown_then a b h k = all_append is_shown (a ++ 32 ∷ []) b (all_append is_shown a (32 ∷ []) h refl) k
+
+quoted_shown : (octets : List ℕ) → list_all is_shown (string_text octets) ≡ true → list_all is_shown (quoted_text octets) ≡ true
+quoted_shown octets h = all_append is_shown (string_text octets) (34 ∷ []) h refl
+
 -- ---- fields
 
 and_some : {A B : Type 0} (f : A → Option B) (o : Option A) (y : B) → option_and_then f o ≡ Some y → (x : A) × (o ≡ Some x) × (f x ≡ Some y)
@@ -66,7 +76,7 @@ cond_some : {A : Type 0} (b : Bool) (o : Option A) (y : A) → cond b o None ≡
 cond_some true o y h = (refl, h)
 cond_some false o y h = absurd cc
 
-label_octets : (name : Name) → AllByRecursion IsLabel name → AllByRecursion (AllByRecursion (λ c. c < 256)) name
+pub label_octets : (name : Name) → AllByRecursion IsLabel name → AllByRecursion (AllByRecursion (λ c. c < 256)) name
 label_octets [] h = tt
 label_octets (label ∷ name) h = (h.0.octets, label_octets name h.1)
 
@@ -118,6 +128,7 @@ record FieldsBack (n : ℕ) (fields : List Field) (text octets : List ℕ) : Typ
   pub first : Token
   pub others : List Token
   pub spelled : Spells n [] text (plain (first ∷ others))
+  pub shown : list_all is_shown text ≡ true
   pub read : (origin : Name) (at : ℕ) → read_fields origin at fields (first ∷ others) ≡ Ok octets
   pub typed : is_generic (first ∷ others) ≡ false
   pub fit : fields_fit fields octets ≡ true
@@ -141,7 +152,8 @@ fields_back n field [] octets text b h =
     record {
       first = word n x.0.0;
       others = [];
-      spelled = subst (λ (t : List ℕ). Spells n [] t (plain (word n x.0.0 ∷ []))) same (spell_word n x.0.0 w.some w.run);
+      spelled = subst (λ (t : List ℕ). Spells n [] t (plain (word n x.0.0 ∷ []))) same (spell_word n x.0.0 w.some w.shows.run);
+      shown = subst AllShown same w.shows.shown;
       read = λ origin at. field_read origin at n field x.0.0 x.0.1 octets (Ok []) (field_back origin field octets x.0.0 x.0.1 b x.1) (ap Ok (sym empty));
       typed = is_typed n x.0.0 [] w;
       fit = ap (λ (o : Option (List ℕ)). fits_behind o (fields_fit [])) (field_rest_is field octets x.0.0 x.0.1 x.1) ∙ c.0;
@@ -155,7 +167,8 @@ fields_back n field (next ∷ fields) octets text b h =
     record {
       first = word n x.0.0;
       others = i.first ∷ i.others;
-      spelled = subst (λ (t : List ℕ). Spells n [] t (plain (word n x.0.0 ∷ i.first ∷ i.others))) t.2 (spell_word_then n x.0.0 t.0 (i.first ∷ i.others) w.some w.run i.spelled);
+      spelled = subst (λ (t : List ℕ). Spells n [] t (plain (word n x.0.0 ∷ i.first ∷ i.others))) t.2 (spell_word_then n x.0.0 t.0 (i.first ∷ i.others) w.some w.shows.run i.spelled);
+      shown = subst AllShown t.2 (shown_then x.0.0 t.0 w.shows.shown i.shown);
       read = λ origin at. field_read origin at n field x.0.0 x.0.1 octets (read_fields origin (at + 1) (next ∷ fields) (i.first ∷ i.others)) (field_back origin field octets x.0.0 x.0.1 b x.1) (i.read origin (at + 1));
       typed = is_typed n x.0.0 (i.first ∷ i.others) w;
       fit = ap (λ (o : Option (List ℕ)). fits_behind o (fields_fit (next ∷ fields))) (field_rest_is field octets x.0.0 x.0.1 x.1) ∙ i.fit;
@@ -168,6 +181,7 @@ record StringsBack (n left : ℕ) (text octets : List ℕ) : Type 0 where
   pub first : Token
   pub others : List Token
   pub spelled : Spells n [] text (plain (first ∷ others))
+  pub shown : list_all is_shown text ≡ true
   pub read : (at room : ℕ) → length octets ≤ room → read_strings at room (first ∷ others) ≡ Ok octets
   pub typed : is_generic (first ∷ others) ≡ false
   pub fit : strings_fit left octets ≡ true
@@ -230,7 +244,8 @@ strings_back n (suc left) (c ∷ rest) text b h =
         record {
           first = string n front;
           others = [];
-          spelled = subst (λ (t : List ℕ). Spells n [] t (plain (string n front ∷ []))) same (spell_string n front (string_run front b));
+          spelled = subst (λ (t : List ℕ). Spells n [] t (plain (string n front ∷ []))) same (spell_string n front (string_run front b).run);
+          shown = subst AllShown same (quoted_shown front (string_run front b).shown);
           read = λ at room fits. string_first at room front [] [] n b short (omega (arith, s.size, ap (λ (l : List ℕ). length l) s.is, length-append front behind, fits)) (λ k le. no_strings (at + 1) k) ∙ whole;
           typed = refl;
           fit = rw s.fits (ap (strings_fit left) (s.behind ∙ empty) ∙ none_fit left);
@@ -242,7 +257,8 @@ strings_back n (suc left) (c ∷ rest) text b h =
         record {
           first = string n front;
           others = i.first ∷ i.others;
-          spelled = subst (λ (t : List ℕ). Spells n [] t (plain (string n front ∷ i.first ∷ i.others))) t.2 (spell_string_then n front t.0 (i.first ∷ i.others) (string_run front b) i.spelled);
+          spelled = subst (λ (t : List ℕ). Spells n [] t (plain (string n front ∷ i.first ∷ i.others))) t.2 (spell_string_then n front t.0 (i.first ∷ i.others) (string_run front b).run i.spelled);
+          shown = subst AllShown t.2 (shown_then (quoted_text front) t.0 (quoted_shown front (string_run front b).shown) i.shown);
           read = λ at room fits. string_first at room front behind (i.first ∷ i.others) n b short (omega (arith, s.size, ap (λ (l : List ℕ). length l) s.is, length-append front behind, fits)) (i.read (at + 1)) ∙ whole;
           typed = refl;
           fit = rw s.fits (ap (strings_fit left) s.behind ∙ i.fit);
@@ -253,6 +269,7 @@ strings_back n (suc left) (c ∷ rest) text b h =
 record GenericBack (n : ℕ) (octets : List ℕ) : Type 0 where
   pub tokens : List Token
   pub spelled : Spells n [] (generic_text octets) (plain tokens)
+  pub shown : list_all is_shown (generic_text octets) ≡ true
   pub generic : is_generic tokens ≡ true
   pub read : read_generic (drop 1 tokens) ≡ Ok octets
 
@@ -278,7 +295,8 @@ generic_back : (n : ℕ) (octets : List ℕ) → IsBytes octets → length octet
 generic_back n [] b le = record {
   tokens = word n any_type ∷ word n (decimal 0) ∷ [];
   spelled = subst (λ (t : List ℕ). Spells n [] t (plain (word n any_type ∷ word n (decimal 0) ∷ []))) (sym (append-nil (92 ∷ 35 ∷ 32 ∷ decimal 0)))
-      (spell_word_then n any_type (decimal 0) (word n (decimal 0) ∷ []) (omega arith) any_word (spell_word n (decimal 0) (decimal_nonempty 0 (omega arith)) (decimal_word 0 (omega arith))));
+      (spell_word_then n any_type (decimal 0) (word n (decimal 0) ∷ []) (omega arith) any_word (spell_word n (decimal 0) (decimal_nonempty 0 (omega arith)) (decimal_word 0 (omega arith)).run));
+  shown = subst AllShown (sym (append-nil (92 ∷ 35 ∷ 32 ∷ decimal 0))) (decimal_word 0 (omega arith)).shown;
   generic = refl;
   read = no_digits n;
 }
@@ -290,13 +308,14 @@ generic_back n (c ∷ octets) b le =
     let tokens : List Token = word n any_type ∷ word n (decimal k) ∷ word n text ∷ [] in
     let some : eqb k 0 ≡ false = grind (arith, nat_tests) in
     let small : k < 2 ^ 64 = omega arith in
-    let digits : Spells n [] text (plain (word n text ∷ [])) = spell_word n text (omega (arith, h.1)) (hex_word text h.0) in
-    let counted : Spells n [] (decimal k ++ 32 ∷ [] ++ text) (plain (word n (decimal k) ∷ word n text ∷ [])) = spell_word_then n (decimal k) text (word n text ∷ []) (decimal_nonempty k small) (decimal_word k small) digits in
+    let digits : Spells n [] text (plain (word n text ∷ [])) = spell_word n text (omega (arith, h.1)) (hex_word text h.0).run in
+    let counted : Spells n [] (decimal k ++ 32 ∷ [] ++ text) (plain (word n (decimal k) ∷ word n text ∷ [])) = spell_word_then n (decimal k) text (word n text ∷ []) (decimal_nonempty k small) (decimal_word k small).run digits in
     let text_is : generic_text (c ∷ octets) ≡ any_type ++ 32 ∷ [] ++ (decimal k ++ 32 ∷ [] ++ text) =
     ap (λ t. (92 ∷ 35 ∷ 32 ∷ decimal k) ++ cond t [] (32 ∷ [] ++ text)) some ∙ ap (λ (l : List ℕ). 92 ∷ 35 ∷ 32 ∷ l) (sym (append_assoc (decimal k) (32 ∷ []) text)) in
     record {
       tokens = tokens;
       spelled = subst (λ (t : List ℕ). Spells n [] t (plain tokens)) (sym text_is) (spell_word_then n any_type (decimal k ++ 32 ∷ [] ++ text) (word n (decimal k) ∷ word n text ∷ []) (omega arith) any_word counted);
+      shown = subst AllShown (sym text_is) (shown_then any_type (decimal k ++ 32 ∷ [] ++ text) refl (shown_then (decimal k) text (decimal_word k small).shown (hex_word text h.0).shown));
       generic = refl;
       read = some_digits n k text (omega arith) le h.0 h.1 ∙ ap Ok (digits_back_of (c ∷ octets) all);
     }
@@ -307,6 +326,7 @@ generic_back n (c ∷ octets) b le =
 pub record DataBack (n rtype : ℕ) (octets : List ℕ) : Type 0 where
   pub tokens : List Token
   pub spelled : Spells n [] (data_text rtype octets) (plain tokens)
+  pub shown : list_all is_shown (data_text rtype octets) ≡ true
   pub read : (origin : Name) → data_of origin rtype tokens ≡ of_form rtype octets
 
 typed_read : (origin : Name) (rtype : ℕ) (first : Token) (others : List Token) → is_generic (first ∷ others) ≡ false
@@ -336,6 +356,7 @@ by_type n rtype octets text b le true e fs f h t =
     record {
       tokens = i.first ∷ i.others;
       spelled = subst (λ (l : List ℕ). Spells n [] l (plain (i.first ∷ i.others))) (sym t) i.spelled;
+      shown = subst AllShown (sym t) i.shown;
       read = λ origin. typed_read origin rtype i.first i.others i.typed ∙ ap (λ s. cond s (read_strings 0 65535 (i.first ∷ i.others)) (by_fields origin (fields_of rtype) (i.first ∷ i.others))) e ∙ i.read 0 65535 le ∙ sym (fits_form rtype octets form);
     }
 by_type n rtype octets text b le false e None f h t = absurd cc
@@ -346,6 +367,7 @@ by_type n rtype octets text b le false e (Some (field ∷ fields)) f h t =
     record {
       tokens = i.first ∷ i.others;
       spelled = subst (λ (l : List ℕ). Spells n [] l (plain (i.first ∷ i.others))) (sym t) i.spelled;
+      shown = subst AllShown (sym t) i.shown;
       read = λ origin. typed_read origin rtype i.first i.others i.typed ∙ ap (λ s. cond s (read_strings 0 65535 (i.first ∷ i.others)) (by_fields origin (fields_of rtype) (i.first ∷ i.others))) e
           ∙ ap (λ o. by_fields origin o (i.first ∷ i.others)) f ∙ i.read origin 0 ∙ sym (fits_form rtype octets form);
     }
@@ -359,6 +381,7 @@ data_back n rtype octets b le = by_text (typed_text rtype octets) refl
         record {
           tokens = g.tokens;
           spelled = subst (λ (l : List ℕ). Spells n [] l (plain g.tokens)) (sym (ap (λ o. unwrap_or o (generic_text octets)) e)) g.spelled;
+          shown = subst AllShown (sym (ap (λ o. unwrap_or o (generic_text octets)) e)) g.shown;
           read = λ origin. generic_read origin rtype g.tokens octets g.generic g.read;
         }
     by_text (Some text) e = by_type n rtype octets text b le (eqb rtype 16) refl (fields_of rtype) refl e (ap (λ o. unwrap_or o (generic_text octets)) e)

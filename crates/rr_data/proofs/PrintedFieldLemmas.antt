@@ -49,7 +49,7 @@ other p c stop h k = by_test (eqb c stop) refl
     by_test true e = let s : p stop ≡ true = ap p (sym (eqb-true c stop e)) ∙ h in absurd cc
     by_test false e = refl
 
-no_stop : (p : ℕ → Bool) (text : List ℕ) (stop : ℕ) → list_all p text ≡ true → p stop ≡ false → All (λ x. eqb x stop ≡ false) text
+pub no_stop : (p : ℕ → Bool) (text : List ℕ) (stop : ℕ) → list_all p text ≡ true → p stop ≡ false → All (λ x. eqb x stop ≡ false) text
 no_stop p [] stop h k i d lt = absurd (omega arith)
 no_stop p (c ∷ text) stop h k zero d lt = other p c stop (both (p c) (list_all p text) h).0 k
 no_stop p (c ∷ text) stop h k (suc i) d lt = no_stop p text stop (both (p c) (list_all p text) h).1 k i d (omega arith)

@@ -5,7 +5,7 @@ use Rattle.std.proofs.lemmas.Slice.Eq.{bytes_eq-Decides}
 use Rattle.std.specs.Str.{bytes_eq}
 use Rattle.std.specs.List.{list_all, flat_map, AllByRecursion}
 use Rattle.std.specs.Int.{w16, from_be_bytes}
-use Rattle.std.specs.Char.{is_ascii_digit, is_ascii_hexdigit}
+use Rattle.std.specs.Char.{is_ascii_alphabetic, is_ascii_digit, is_ascii_hexdigit}
 use Rattle.std.specs.Fmt.{decimal}
 use Rattle.std.proofs.lemmas.Fmt.{decimal_nonempty}
 use Rattle.zone_model.specs.Names.{Name, Label}
@@ -13,6 +13,7 @@ use Rattle.zone_model.specs.NameText.{text_of, label_text, octet_text, is_specia
 use Rattle.zone_model.specs.Grammar as says
 use Rattle.zone_model.specs.Grammar.{Run, stops_word, stops_quote}
 use Rattle.zone_model.specs.DataText.{string_octet, string_text, hex_text, hex_digit, address_text, groups_text, group_text}
+use Rattle.rr_data.proofs.FormLemmas.{all_append}
 use Rattle.rr_data.proofs.PrintedLemmas.{decimal_all_digits}
 use Rattle.rr_data.proofs.PrintedFieldLemmas.{group_texts, InPairs, hexdigit_is}
 
@@ -25,17 +26,41 @@ both : (a b : Bool) → (a && b) ≡ true → (a ≡ true) × (b ≡ true)
 both true b h = (refl, h)
 both false b h = absurd cc
 
+-- a byte that is shown as it is
+abbrev pub is_shown : ℕ → Bool
+is_shown c = ltb 31 c && ltb c 127
+
+-- bytes that no stop is among but behind a backslash, each of them shown
+pub record Shows (stops : ℕ → Bool) (text : List ℕ) : Type 0 where
+  pub run : Run stops text
+  pub shown : list_all is_shown text ≡ true
+
+pub nothing : {stops : ℕ → Bool} → Shows stops []
+nothing = record { run = says.Empty; shown = refl }
+
+pub shows_append : {stops : ℕ → Bool} {a : List ℕ} → Shows stops a → (b : List ℕ) → Shows stops b → Shows stops (a ++ b)
+shows_append {a = a} h b r = record { run = run_append h.run b r.run; shown = all_append is_shown a b h.shown r.shown }
+
+pub shows_one : (stops : ℕ → Bool) (c : ℕ) → stops c ≡ false → is_shown c ≡ true → Shows stops (c ∷ [])
+shows_one stops c h k = record { run = says.Plain c [] h says.Empty; shown = rw k refl }
+
+escaped : (stops : ℕ → Bool) (c : ℕ) → is_shown c ≡ true → Shows stops (92 ∷ c ∷ [])
+escaped stops c k = record { run = says.Escaped c [] says.Empty; shown = rw k refl }
+
 -- bytes that pass a test which no stop passes
 run_all : (stops p : ℕ → Bool) (text : List ℕ) → ((c : ℕ) → p c ≡ true → stops c ≡ false) → list_all p text ≡ true → Run stops text
 run_all stops p [] f h = says.Empty
 run_all stops p (c ∷ text) f h = let g = both (p c) (list_all p text) h in says.Plain c text (f c g.0) (run_all stops p text f g.1)
 
-run_one : (stops : ℕ → Bool) (c : ℕ) → stops c ≡ false → Run stops (c ∷ [])
-run_one stops c h = says.Plain c [] h says.Empty
+shown_all : (p : ℕ → Bool) (text : List ℕ) → ((c : ℕ) → p c ≡ true → is_shown c ≡ true) → list_all p text ≡ true → list_all is_shown text ≡ true
+shown_all p [] f h = refl
+shown_all p (c ∷ text) f h = let g = both (p c) (list_all p text) h in ap (λ b. b && list_all is_shown text) (f c g.0) ∙ shown_all p text f g.1
 
-run_flat : {A : Type 0} (stops : ℕ → Bool) (f : A → List ℕ) (xs : List A) → ((x : A) → Run stops (f x)) → Run stops (flat_map f xs)
-run_flat stops f [] h = says.Empty
-run_flat stops f (x ∷ xs) h = run_append (h x) (flat_map f xs) (run_flat stops f xs h)
+digit_shown : (c : ℕ) → is_ascii_digit c ≡ true → is_shown c ≡ true
+digit_shown c h = grind (arith, nat_tests)
+
+hexdigit_shown : (c : ℕ) → is_ascii_hexdigit c ≡ true → is_shown c ≡ true
+hexdigit_shown c h = grind (arith, nat_tests)
 
 digit_goes_on : (c : ℕ) → is_ascii_digit c ≡ true → stops_word c ≡ false
 digit_goes_on c h = grind (arith, nat_tests)
@@ -46,46 +71,66 @@ hexdigit_goes_on c h = grind (arith, nat_tests)
 digit_in_quotes : (c : ℕ) → is_ascii_digit c ≡ true → stops_quote c ≡ false
 digit_in_quotes c h = grind (arith, nat_tests)
 
-pub decimal_word : (n : ℕ) → n < 2 ^ 64 → Run stops_word (decimal n)
-decimal_word n h = run_all stops_word is_ascii_digit (decimal n) digit_goes_on (decimal_all_digits n h)
+pub decimal_word : (n : ℕ) → n < 2 ^ 64 → Shows stops_word (decimal n)
+decimal_word n h =
+    let d = decimal_all_digits n h in record { run = run_all stops_word is_ascii_digit (decimal n) digit_goes_on d; shown = shown_all is_ascii_digit (decimal n) digit_shown d }
 
 -- a backslash and three digits
-digits_run : (stops : ℕ → Bool) (c : ℕ) → ((x : ℕ) → is_ascii_digit x ≡ true → stops x ≡ false) → c < 256 → Run stops (92 ∷ three_digits c)
+digits_run : (stops : ℕ → Bool) (c : ℕ) → ((x : ℕ) → is_ascii_digit x ≡ true → stops x ≡ false) → c < 256 → Shows stops (92 ∷ three_digits c)
 digits_run stops c f h =
     let b : is_ascii_digit (c / 10 % 10 + 48) ≡ true = digit_is (c / 10 % 10) (omega arith) in
     let d : is_ascii_digit (c % 10 + 48) ≡ true = digit_is (c % 10) (omega arith) in
-    says.Escaped (c / 100 + 48) ((c / 10 % 10 + 48) ∷ (c % 10 + 48) ∷ [])
-    (says.Plain (c / 10 % 10 + 48) ((c % 10 + 48) ∷ []) (f (c / 10 % 10 + 48) b) (run_one stops (c % 10 + 48) (f (c % 10 + 48) d)))
+    shows_append (escaped stops (c / 100 + 48) (digit_shown (c / 100 + 48) (digit_is (c / 100) (omega arith)))) ((c / 10 % 10 + 48) ∷ (c % 10 + 48) ∷ [])
+    (shows_append (shows_one stops (c / 10 % 10 + 48) (f (c / 10 % 10 + 48) b) (digit_shown (c / 10 % 10 + 48) b)) ((c % 10 + 48) ∷ [])
+    (shows_one stops (c % 10 + 48) (f (c % 10 + 48) d) (digit_shown (c % 10 + 48) d)))
   where
     digit_is : (d : ℕ) → d < 10 → is_ascii_digit (d + 48) ≡ true
     digit_is d h = grind (arith, nat_tests)
 
+letter_goes_on : (c : ℕ) → is_ascii_alphabetic c ≡ true → stops_word c ≡ false
+letter_goes_on c h = grind (arith, nat_tests)
+
+letter_shown : (c : ℕ) → is_ascii_alphabetic c ≡ true → is_shown c ≡ true
+letter_shown c h = grind (arith, nat_tests)
+
+pub alphabetic_word : (text : List ℕ) → list_all is_ascii_alphabetic text ≡ true → Shows stops_word text
+alphabetic_word text h = record { run = run_all stops_word is_ascii_alphabetic text letter_goes_on h; shown = shown_all is_ascii_alphabetic text letter_shown h }
+
+pub hex_word : (text : List ℕ) → list_all is_ascii_hexdigit text ≡ true → Shows stops_word text
+hex_word text h = record { run = run_all stops_word is_ascii_hexdigit text hexdigit_goes_on h; shown = shown_all is_ascii_hexdigit text hexdigit_shown h }
+
 -- ---- names
+
+special_shown : (c : ℕ) → is_special c ≡ true → is_shown c ≡ true
+special_shown c h = grind (arith, nat_tests)
+
+plain_shown : (c : ℕ) → (ltb 32 c && ltb c 127) ≡ true → is_shown c ≡ true
+plain_shown c h = grind (arith, nat_tests)
 
 plain_octet : (c : ℕ) → is_special c ≡ false → (ltb 32 c && ltb c 127) ≡ true → stops_word c ≡ false
 plain_octet c h k = grind (arith, nat_tests)
 
-octet_run : (c : ℕ) → c < 256 → Run stops_word (octet_text c)
+octet_run : (c : ℕ) → c < 256 → Shows stops_word (octet_text c)
 octet_run c h = go (is_special c) (ltb 32 c && ltb c 127) refl refl
   where
-    go : (s p : Bool) → is_special c ≡ s → (ltb 32 c && ltb c 127) ≡ p → Run stops_word (cond s (92 ∷ c ∷ []) (cond p (c ∷ []) (92 ∷ three_digits c)))
-    go true p es ep = says.Escaped c [] says.Empty
-    go false true es ep = run_one stops_word c (plain_octet c es ep)
+    go : (s p : Bool) → is_special c ≡ s → (ltb 32 c && ltb c 127) ≡ p → Shows stops_word (cond s (92 ∷ c ∷ []) (cond p (c ∷ []) (92 ∷ three_digits c)))
+    go true p es ep = escaped stops_word c (special_shown c es)
+    go false true es ep = shows_one stops_word c (plain_octet c es ep) (plain_shown c ep)
     go false false es ep = digits_run stops_word c digit_goes_on h
 
-octets_run : (label : Label) → AllByRecursion (λ c. c < 256) label → Run stops_word (flat_map octet_text label)
-octets_run [] h = says.Empty
-octets_run (c ∷ label) h = run_append (octet_run c h.0) (flat_map octet_text label) (octets_run label h.1)
+octets_run : (label : Label) → AllByRecursion (λ c. c < 256) label → Shows stops_word (flat_map octet_text label)
+octets_run [] h = nothing
+octets_run (c ∷ label) h = shows_append (octet_run c h.0) (flat_map octet_text label) (octets_run label h.1)
 
-label_run : (label : Label) → AllByRecursion (λ c. c < 256) label → Run stops_word (label_text label)
-label_run label h = run_append (octets_run label h) (46 ∷ []) (run_one stops_word 46 refl)
+label_run : (label : Label) → AllByRecursion (λ c. c < 256) label → Shows stops_word (label_text label)
+label_run label h = shows_append (octets_run label h) (46 ∷ []) (shows_one stops_word 46 refl refl)
 
-labels_run : (labels : Name) → AllByRecursion (AllByRecursion (λ c. c < 256)) labels → Run stops_word (flat_map label_text labels)
-labels_run [] h = says.Empty
-labels_run (label ∷ labels) h = run_append (label_run label h.0) (flat_map label_text labels) (labels_run labels h.1)
+labels_run : (labels : Name) → AllByRecursion (AllByRecursion (λ c. c < 256)) labels → Shows stops_word (flat_map label_text labels)
+labels_run [] h = nothing
+labels_run (label ∷ labels) h = shows_append (label_run label h.0) (flat_map label_text labels) (labels_run labels h.1)
 
-pub name_word : (name : Name) → AllByRecursion (AllByRecursion (λ c. c < 256)) name → Run stops_word (text_of name)
-name_word [] h = run_one stops_word 46 refl
+pub name_word : (name : Name) → AllByRecursion (AllByRecursion (λ c. c < 256)) name → Shows stops_word (text_of name)
+name_word [] h = shows_one stops_word 46 refl refl
 name_word (label ∷ labels) h = labels_run (label ∷ labels) h
 
 -- a name's text ends with a dot
@@ -124,7 +169,7 @@ ends_not text d e = let k : ◌≡◌ {A = ℕ} 46 35 = second_is_dot d.front 92
 -- a word that isn't the one that begins data of any type
 pub record IsFieldWord (text : List ℕ) : Type 0 where
   pub some : 0 < length text
-  pub run : Run stops_word text
+  pub shows : Shows stops_word text
   pub typed : bytes_eq text any_type ≡ false
 
 unlike : (text : List ℕ) → (text ≡ any_type → ⊥) → bytes_eq text any_type ≡ false
@@ -135,7 +180,7 @@ unlike text n = by_test (bytes_eq text any_type) refl
     by_test false e = refl
 
 pub name_is_word : (name : Name) → AllByRecursion (AllByRecursion (λ c. c < 256)) name → IsFieldWord (text_of name)
-name_is_word name h = record { some = name_some name; run = name_word name h; typed = unlike (text_of name) (ends_not (text_of name) (name_ends name)) }
+name_is_word name h = record { some = name_some name; shows = name_word name h; typed = unlike (text_of name) (ends_not (text_of name) (name_ends name)) }
 
 -- what begins with a hexadecimal digit isn't that word
 begins_not : (text more : List ℕ) → list_all is_ascii_hexdigit text ≡ true → 0 < length text → text ++ more ≡ any_type → ⊥
@@ -155,43 +200,43 @@ all_hex (c ∷ text) h = let f = both (is_ascii_digit c) (list_all is_ascii_digi
 
 -- ---- numbers and addresses
 
-decimal_first : (n : ℕ) (more : List ℕ) → n < 2 ^ 64 → Run stops_word more → IsFieldWord (decimal n ++ more)
+decimal_first : (n : ℕ) (more : List ℕ) → n < 2 ^ 64 → Shows stops_word more → IsFieldWord (decimal n ++ more)
 decimal_first n more h r = record {
   some = omega (arith, decimal_nonempty n h, length-append (decimal n) more);
-  run = run_append (decimal_word n h) more r;
+  shows = shows_append (decimal_word n h) more r;
   typed = unlike (decimal n ++ more) (begins_not (decimal n) more (all_hex (decimal n) (decimal_all_digits n h)) (decimal_nonempty n h));
 }
 
 pub decimal_is_word : (n : ℕ) → n < 2 ^ 64 → IsFieldWord (decimal n)
-decimal_is_word n h = subst IsFieldWord (append-nil (decimal n)) (decimal_first n [] h says.Empty)
+decimal_is_word n h = subst IsFieldWord (append-nil (decimal n)) (decimal_first n [] h nothing)
 
-address_run : (octets : List ℕ) → AllByRecursion (λ c. c < 256) octets → Run stops_word (address_text octets)
-address_run [] h = says.Empty
+address_run : (octets : List ℕ) → AllByRecursion (λ c. c < 256) octets → Shows stops_word (address_text octets)
+address_run [] h = nothing
 address_run (a ∷ []) h = decimal_word a (omega (arith, h.0))
-address_run (a ∷ b ∷ octets) h = run_append (run_append (decimal_word a (omega (arith, h.0))) (46 ∷ []) (run_one stops_word 46 refl)) (address_text (b ∷ octets)) (address_run (b ∷ octets) h.1)
+address_run (a ∷ b ∷ octets) h = shows_append (shows_append (decimal_word a (omega (arith, h.0))) (46 ∷ []) (shows_one stops_word 46 refl refl)) (address_text (b ∷ octets)) (address_run (b ∷ octets) h.1)
 
 pub address_is_word : (octets : List ℕ) → 1 < length octets → AllByRecursion (λ c. c < 256) octets → IsFieldWord (address_text octets)
 address_is_word [] l h = absurd (omega arith)
 address_is_word (a ∷ []) l h = absurd (omega arith)
 address_is_word (a ∷ b ∷ octets) l h =
     subst IsFieldWord (sym (append_assoc (decimal a) (46 ∷ []) (address_text (b ∷ octets))))
-    (decimal_first a (46 ∷ address_text (b ∷ octets)) (omega (arith, h.0)) (says.Plain 46 (address_text (b ∷ octets)) refl (address_run (b ∷ octets) h.1)))
+    (decimal_first a (46 ∷ address_text (b ∷ octets)) (omega (arith, h.0)) (shows_append (shows_one stops_word 46 refl refl) (address_text (b ∷ octets)) (address_run (b ∷ octets) h.1)))
 
-group_run : (n : ℕ) → n < 65536 → Run stops_word (group_text n)
-group_run n h = run_all stops_word is_ascii_hexdigit (group_text n) hexdigit_goes_on (group_texts n h).digits
+group_run : (n : ℕ) → n < 65536 → Shows stops_word (group_text n)
+group_run n h = hex_word (group_text n) (group_texts n h).digits
 
-groups_run : (octets : List ℕ) → InPairs octets → Run stops_word (groups_text octets)
+groups_run : (octets : List ℕ) → InPairs octets → Shows stops_word (groups_text octets)
 groups_run [] h = absurd h
 groups_run (a ∷ []) h = absurd h
 groups_run (a ∷ b ∷ []) h = group_run (from_be_bytes w16 (a ∷ b ∷ [])) (omega (arith, h.0, h.1))
 groups_run (a ∷ b ∷ next ∷ rest) h =
-    run_append (run_append (group_run (from_be_bytes w16 (a ∷ b ∷ [])) (omega (arith, h.0, h.1))) (58 ∷ []) (run_one stops_word 58 refl)) (groups_text (next ∷ rest)) (groups_run (next ∷ rest) h.2)
+    shows_append (shows_append (group_run (from_be_bytes w16 (a ∷ b ∷ [])) (omega (arith, h.0, h.1))) (58 ∷ []) (shows_one stops_word 58 refl refl)) (groups_text (next ∷ rest)) (groups_run (next ∷ rest) h.2)
 
-group_first : (n : ℕ) (more : List ℕ) → n < 65536 → Run stops_word more → IsFieldWord (group_text n ++ more)
+group_first : (n : ℕ) (more : List ℕ) → n < 65536 → Shows stops_word more → IsFieldWord (group_text n ++ more)
 group_first n more h r =
     let g = group_texts n h in record {
       some = omega (arith, g.some, length-append (group_text n) more);
-      run = run_append (group_run n h) more r;
+      shows = shows_append (group_run n h) more r;
       typed = unlike (group_text n ++ more) (begins_not (group_text n) more g.digits g.some);
     }
 
@@ -199,28 +244,31 @@ pub groups_are_word : (octets : List ℕ) → InPairs octets → IsFieldWord (gr
 groups_are_word [] h = absurd h
 groups_are_word (a ∷ []) h = absurd h
 groups_are_word (a ∷ b ∷ []) h =
-    let n = from_be_bytes w16 (a ∷ b ∷ []) in subst IsFieldWord (append-nil (group_text n)) (group_first n [] (omega (arith, h.0, h.1)) says.Empty)
+    let n = from_be_bytes w16 (a ∷ b ∷ []) in subst IsFieldWord (append-nil (group_text n)) (group_first n [] (omega (arith, h.0, h.1)) nothing)
 groups_are_word (a ∷ b ∷ next ∷ rest) h =
     let n = from_be_bytes w16 (a ∷ b ∷ []) in
     subst IsFieldWord (sym (append_assoc (group_text n) (58 ∷ []) (groups_text (next ∷ rest))))
-    (group_first n (58 ∷ groups_text (next ∷ rest)) (omega (arith, h.0, h.1)) (says.Plain 58 (groups_text (next ∷ rest)) refl (groups_run (next ∷ rest) h.2)))
+    (group_first n (58 ∷ groups_text (next ∷ rest)) (omega (arith, h.0, h.1)) (shows_append (shows_one stops_word 58 refl refl) (groups_text (next ∷ rest)) (groups_run (next ∷ rest) h.2)))
 
 -- ---- strings and digits
 
 quote_octet : (c : ℕ) → (eqb c 34 || eqb c 92) ≡ false → stops_quote c ≡ false
 quote_octet c h = h
 
-string_octet_run : (c : ℕ) → c < 256 → Run stops_quote (string_octet c)
-string_octet_run c h = go (eqb c 34 || eqb c 92) (ltb 31 c && ltb c 127) refl
-  where
-    go : (s p : Bool) → (eqb c 34 || eqb c 92) ≡ s → Run stops_quote (cond s (92 ∷ c ∷ []) (cond p (c ∷ []) (92 ∷ three_digits c)))
-    go true p es = says.Escaped c [] says.Empty
-    go false true es = run_one stops_quote c (quote_octet c es)
-    go false false es = digits_run stops_quote c digit_in_quotes h
+slash_shown : (c : ℕ) → (eqb c 34 || eqb c 92) ≡ true → is_shown c ≡ true
+slash_shown c h = grind (arith, nat_tests)
 
-pub string_run : (octets : List ℕ) → AllByRecursion (λ c. c < 256) octets → Run stops_quote (string_text octets)
-string_run [] h = says.Empty
-string_run (c ∷ octets) h = run_append (string_octet_run c h.0) (string_text octets) (string_run octets h.1)
+string_octet_run : (c : ℕ) → c < 256 → Shows stops_quote (string_octet c)
+string_octet_run c h = go (eqb c 34 || eqb c 92) (ltb 31 c && ltb c 127) refl refl
+  where
+    go : (s p : Bool) → (eqb c 34 || eqb c 92) ≡ s → (ltb 31 c && ltb c 127) ≡ p → Shows stops_quote (cond s (92 ∷ c ∷ []) (cond p (c ∷ []) (92 ∷ three_digits c)))
+    go true p es ep = escaped stops_quote c (slash_shown c es)
+    go false true es ep = shows_one stops_quote c (quote_octet c es) ep
+    go false false es ep = digits_run stops_quote c digit_in_quotes h
+
+pub string_run : (octets : List ℕ) → AllByRecursion (λ c. c < 256) octets → Shows stops_quote (string_text octets)
+string_run [] h = nothing
+string_run (c ∷ octets) h = shows_append (string_octet_run c h.0) (string_text octets) (string_run octets h.1)
 
 pub hex_all : (octets : List ℕ) → AllByRecursion (λ c. c < 256) octets → (list_all is_ascii_hexdigit (flat_map hex_text octets) ≡ true) × (length (flat_map hex_text octets) ≡ 2 * length octets)
 hex_all [] h = (refl, refl)
@@ -229,6 +277,3 @@ hex_all (c ∷ octets) h =
     let a : is_ascii_hexdigit (hex_digit (c / 16)) ≡ true = hexdigit_is (c / 16) (omega (arith, h.0)) in
     let b : is_ascii_hexdigit (hex_digit (c % 16)) ≡ true = hexdigit_is (c % 16) (omega arith) in
     (rw (a, b) i.0, omega (arith, i.1))
-
-pub hex_word : (text : List ℕ) → list_all is_ascii_hexdigit text ≡ true → Run stops_word text
-hex_word text h = run_all stops_word is_ascii_hexdigit text hexdigit_goes_on h

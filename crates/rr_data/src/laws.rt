@@ -6,10 +6,10 @@ ghost use Rattle.zone_model.specs.Names.{Name, IsName};
 ghost use Rattle.zone_model.specs.Records.{Entry, IsItem};
 ghost use Rattle.zone_model.specs.Texts.{number};
 ghost use Rattle.zone_model.specs.Escapes.{escaped_octet, escape_len};
-ghost use Rattle.zone_model.specs.DataWords.{octets_from, unescaped, Slash, paired, time_of};
+ghost use Rattle.zone_model.specs.DataWords.{octets_from, unescaped, Slash, paired, time_of, data_type, type_named};
 ghost use Rattle.zone_model.specs.DataForms.{Field};
 ghost use Rattle.zone_model.specs.Data.{field_octets, of_form, data_of};
-ghost use Rattle.zone_model.specs.DataText.{field_text, string_text, hex_text, data_text};
+ghost use Rattle.zone_model.specs.DataText.{field_text, string_text, hex_text, type_text, data_text};
 ghost use Rattle.zone_model.specs.Grammar.{Token, Spells};
 
 /// Octets are the item of one owner and one entry at most. So an entry is what is read from the item that it makes.
@@ -40,6 +40,11 @@ pub fn printed_digits_read_back(octets: &[u8])
 pub fn printed_numbers_read_back()
     ensures numbers { (most n : ℕ) → n < 2 ^ 64 → n ≤ most → number most (decimal n) ≡ Some n }
     ensures times { (n : ℕ) → n ≤ 2147483647 → time_of (decimal n) ≡ Some n }
+{}
+
+/// What is read from a printed type is that type, unless it is none that data has.
+pub fn printed_types_read_back()
+    ensures { (n : ℕ) → n ≤ 65535 → type_named (type_text n) ≡ data_type n }
 {}
 
 /// What is read from the printed text of a field are the octets that it was printed of, whatever the origin.
