@@ -196,10 +196,25 @@ some_label [] i l e = absurd (omega arith)
 some_label (p ∷ ps) zero l e = let n = labels_end p ps (eqb_same p 0 e) in omega arith
 some_label (p ∷ ps) (suc i) l e = let n = labels-cons p ps in let m = some_label ps i (omega arith) e in omega arith
 
-labels_le : (x k : List ℕ) → begins x k ≡ true → labels_in x ≤ labels_in k
+pub labels_le : (x k : List ℕ) → begins x k ≡ true → labels_in x ≤ labels_in k
 labels_le x k e = let r = begins_rest x k e in let n = ap labels_in r.1 in let m = labels-append x r.0 in omega arith
 
--- of two names above one, the lower has more labels
+reads_behind : (a b : List ℕ) (i : ℕ) → at (a ++ b) (length a + i) ≡ at b i
+reads_behind [] b i = let z : 0 + i ≡ i = omega arith in ap (λ (n : ℕ). at b n) z
+reads_behind (p ∷ ps) b i = let z : suc (length ps) + i ≡ suc (length ps + i) = omega arith in ap (λ (n : ℕ). at (p ∷ (ps ++ b)) n) z ∙ reads_behind ps b i
+
+-- of two names at or above one, the longer has more labels
+pub labels_longer : (x y k : List ℕ) → ((i : ℕ) → suc i ≡ length y → at y i ≡ 0) → begins x k ≡ true → begins y k ≡ true → length x < length y → labels_in x < labels_in y
+labels_longer x y k ended bx by longer =
+    let part = begins_rest x y (begins_same x y (omega arith) (λ i l. begins_reads x k bx i l ∙ sym (begins_reads y k by i (omega arith)))) in
+    let n : length y ≡ length x + length part.0 = ap (λ (ys : List ℕ). length ys) part.1 ∙ length-append x part.0 in
+    let s : suc (length y - 1) ≡ length y = omega arith in
+    let m : length x + (length part.0 - 1) ≡ length y - 1 = omega arith in
+    let last : at y (length x + (length part.0 - 1)) ≡ 0 = ap (λ (i : ℕ). at y i) m ∙ ended (length y - 1) s in
+    let read : at y (length x + (length part.0 - 1)) ≡ at part.0 (length part.0 - 1) = ap (λ (ys : List ℕ). at ys (length x + (length part.0 - 1))) part.1 ∙ reads_behind x part.0 (length part.0 - 1) in
+    let more = some_label part.0 (length part.0 - 1) (omega arith) (sym read ∙ last) in
+    let sum = ap labels_in part.1 ∙ labels-append x part.0 in omega arith
+
 labels_rise : (x y k : List ℕ) → IsKey y → begins x k ≡ true → begins y k ≡ true → Less x y → labels_in x < labels_in y
 labels_rise x y k ky bx by less =
     let some : 0 < at y less.place = let l = less.lower in omega arith in
@@ -208,17 +223,7 @@ labels_rise x y k ky bx by less =
       | inl l ↦ (let a = begins_reads x k bx less.place l in let b = begins_reads y k by less.place inside in let c = less.lower in absurd (omega arith))
       | inr g ↦ g
     ] in
-    let part = begins_rest x y (begins_same x y (omega arith) (λ i l. begins_reads x k bx i l ∙ sym (begins_reads y k by i (omega arith)))) in
-    let n : length y ≡ length x + length part.0 = ap (λ (ys : List ℕ). length ys) part.1 ∙ length-append x part.0 in
-    let s : suc (length y - 1) ≡ length y = omega arith in
-    let end : at part.0 (length part.0 - 1) ≡ 0 =
-    (let m : length x + (length part.0 - 1) ≡ length y - 1 = omega arith in sym (reads_behind x part.0 (length part.0 - 1)) ∙ sym (ap (λ (ys : List ℕ). at ys (length x + (length part.0 - 1))) part.1) ∙ ap (λ (i : ℕ). at y i) m ∙ ky.ended (length y - 1) s) in
-    let more = some_label part.0 (length part.0 - 1) (omega arith) end in
-    let sum = ap labels_in part.1 ∙ labels-append x part.0 in omega arith
-  where
-    reads_behind : (a b : List ℕ) (i : ℕ) → at (a ++ b) (length a + i) ≡ at b i
-    reads_behind [] b i = let z : 0 + i ≡ i = omega arith in ap (λ (n : ℕ). at b n) z
-    reads_behind (p ∷ ps) b i = let z : suc (length ps) + i ≡ suc (length ps + i) = omega arith in ap (λ (n : ℕ). at (p ∷ (ps ++ b)) n) z ∙ reads_behind ps b i
+    labels_longer x y k ky.ended bx by (omega arith)
 
 few_from : (k : List ℕ) (es : List Entry) (m : ℕ) → Rises es → ((x : Entry) → InList x es → IsKey x.key) → ((x : Entry) → InList x es → begins x.key k ≡ true → m ≤ labels_in x.key) → length (chain_labels k es) ≤ labels_in k + 1 - m
 few_from k [] m rises keys least = omega arith

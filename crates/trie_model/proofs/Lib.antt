@@ -14,3 +14,4 @@ pub mod ShapeLaws
 pub mod ChainLaws
 pub mod SideLaws
 pub mod NameLaws
+pub mod AboveLaws

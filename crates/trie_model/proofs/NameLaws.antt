@@ -175,3 +175,6 @@ wire_short (label ∷ labels) h = let a = wire_short labels h.1 in let b = h.0.s
 -- at most 127 labels
 pub labels_few : (k : List ℕ) → IsNameKey k → labels_in k ≤ 127
 labels_few k h = let a = ap labels_in h.2 in let b = labels_of h.0 h.1.each in let c = wire_short h.0 h.1.each in let d = h.1.short in omega arith
+
+pub key_ended : (name : Name) → AllByRecursion IsLabel name → (i : ℕ) → suc i ≡ length (key_of name) → at (key_of name) i ≡ 0
+key_ended name h = (shape_of name h).ended

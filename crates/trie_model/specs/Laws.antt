@@ -2,7 +2,11 @@
 use Rattle.std.specs.Prelude.{◌≡◌, ◌+◌, ◌≤◌, ◌^◌, ◌↔◌, ℕ, Bool, true, List, length, sum_by}
 use Rattle.std.specs.List.{list_all}
 use Rattle.packed_node.specs.declared.Cell.{Cell}
-use Rattle.trie_model.specs.Keys.{at, IsKey, Entry, Rises}
+use Rattle.std.specs.declared.cmp.Ordering.TheVariants.{Less as Less_ordering}
+use Rattle.zone_model.specs.Names.{Name, IsName, is_under, name_cmp}
+use Rattle.zone_model.specs.Keys.{key_of}
+use Rattle.trie_model.specs.Keys.{at, IsKey, Entry, Rises, Less}
+use Rattle.trie_model.specs.Order.{begins, labels_in}
 use Rattle.trie_model.specs.Changes.{Inserted}
 use Rattle.trie_model.specs.Trees.{Tree, entries_of, IsTree}
 use Rattle.trie_model.specs.Reach.{reach, reach_below, live_in, in_chunk, weigh_tree, WithinTree}
@@ -41,3 +45,15 @@ ReachIsTested = (test : ℕ → Bool) (t : Tree) → WithinTree test t ↔ (list
 -- a trie that stands reaches no more cells than there are references
 abbrev pub CellsAreFew : Type 0
 CellsAreFew = (memory : List (ℕ × Cell)) (r : ℕ) (t : Tree) (version : List Entry) → IsTrieAt (listed memory) r t version → length (reach r t) ≤ 2 ^ 22
+
+-- a key begins another exactly where its name is at or above the other's
+abbrev pub BeginningsAreAbove : Type 0
+BeginningsAreAbove = (top name : Name) → IsName top → IsName name → (begins (key_of top) (key_of name) ≡ true) ↔ (is_under name top ≡ true)
+
+-- a key has an end for each label of its name
+abbrev pub LabelsAreEnded : Type 0
+LabelsAreEnded = (name : Name) → IsName name → labels_in (key_of name) ≡ length name
+
+-- a key is before another exactly where its name is, in canonical order
+abbrev pub KeysAreCanonical : Type 0
+KeysAreCanonical = (a b : Name) → IsName a → IsName b → Less (key_of a) (key_of b) ↔ (name_cmp a b ≡ Less_ordering)

@@ -4,7 +4,7 @@
 //! The functions here do nothing. The contract of each is a law that follows from the definitions.
 #![tactic(auto)]
 
-ghost use Rattle.trie_model.specs.Laws.{KeysAreRead, LeavesRise, OnePlace, NodesAreOfTheKeys, CellsAreOfTheEntries, ReachIsWeighed, LiveIsWeighed, ReachIsTested, CellsAreFew};
+ghost use Rattle.trie_model.specs.Laws.{KeysAreRead, LeavesRise, OnePlace, NodesAreOfTheKeys, CellsAreOfTheEntries, ReachIsWeighed, LiveIsWeighed, ReachIsTested, CellsAreFew, BeginningsAreAbove, LabelsAreEnded, KeysAreCanonical};
 
 /// A key is told by what it reads at each place, so that 0 past its end leaves no doubt.
 pub fn keys_are_read()
@@ -19,6 +19,13 @@ pub fn leaves_rise()
 /// What a list becomes by an insertion is determined.
 pub fn one_place()
     ensures { OnePlace }
+{}
+
+/// What is said of keys is so of their names: which come first, which are above others, and how many labels they have.
+pub fn keys_are_of_names()
+    ensures order { KeysAreCanonical }
+    ensures above { BeginningsAreAbove }
+    ensures labels { LabelsAreEnded }
 {}
 
 /// A trie's shape is a function of the keys in it, in whatever order they came.

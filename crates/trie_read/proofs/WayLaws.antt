@@ -26,7 +26,7 @@ use Rattle.trie_read.specs.declared.near.Near.TheVariants.{Equal, Before, After}
 use Rattle.trie_read.specs.declared.way.LastUpTo.{LastUpTo}
 use Rattle.trie_read.specs.declared.way.LastUpTo.TheVariants.{Nothing, Met, Below}
 use Rattle.trie_read.specs.declared.way.Way.{Way}
-use Rattle.trie_read.specs.Finds.{IsNear, AgreesTo, IsBranchOf, IsCellOf, IsAboveHere, IsTwigAt, IsLast, IsLastAlong, IsWay, alone_up_to, whole_up_to}
+use Rattle.trie_read.specs.Finds.{IsNear, AgreesTo, IsBranchOf, IsCellOf, IsAboveHere, IsTwigAt, IsLast, IsLastAlong, IsWay, MeetsBeside, alone_up_to, whole_up_to}
 use Rattle.trie_read.proofs.TwigLaws.{Ith}
 
 -- ---- how a key compares
@@ -372,5 +372,5 @@ along_way has k b below f end index old new h n way a en along =
       last = along_last has k b below f way.met index old.last new.last h (way_agrees has k b below way.met old.near h there way.near a) n way.last along;
     }
 
-pub beside_way : (has : ℕ → Cell → Type 0) (k : List ℕ) (b : Branch) (below : Twigs) (m : Missing 0 47 (at k b.offset) below) (y : Entry) (end : List ℕ) (way : Way) → IsBranchOf has b below → InList y (entries below) → end ≡ y.key → IsNear k y.key way.near → IsLast has k (entries below) y way.last → IsWay has k (entries below) end way
-beside_way has k b below m y end way h there e n last = record { met = y; there = there; is = e; near = n; exact = λ t. absurd (beside_exact has k b below m h t); last = last }
+pub beside_way : (has : ℕ → Cell → Type 0) (k : List ℕ) (b : Branch) (below : Twigs) (index : ℕ) (end : List ℕ) (near : Near) (m : MeetsBeside k b below index end near) (last : LastUpTo) → IsLast has k (entries below) m.met last → IsWay has k (entries below) end (record { near = near; last = last })
+beside_way has k b below index end near m last is = record { met = m.met; there = m.there; is = m.is; near = m.compared; exact = λ t. absurd (m.absent t); last = is }

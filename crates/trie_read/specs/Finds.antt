@@ -7,7 +7,7 @@ use Rattle.packed_node.specs.declared.Branch.{Branch}
 use Rattle.zone_model.specs.Keys.{Leads}
 use Rattle.trie_model.specs.Keys.{at, Same, Entry, InList, Less}
 use Rattle.trie_model.specs.Order.{IsLastUpTo, IsLastPart, IsThere, begins, labels_in, EndsAt}
-use Rattle.trie_model.specs.Trees.{Tree, Twigs, entries_of, bitmap_of, count, beside, IsTree}
+use Rattle.trie_model.specs.Trees.{Tree, Twigs, entries_of, entries, bitmap_of, count, beside, IsTree}
 use Rattle.trie_model.specs.Trees.Tree.{branch}
 use Rattle.trie_model.specs.Trees.Twigs.{twig}
 use Rattle.trie_model.specs.Memory.{Lie, top_cell}
@@ -93,6 +93,17 @@ pub record IsWay (has : ℕ → Cell → Type 0) (key : List ℕ) (all : List En
   pub near : IsNear key met.key way.near
   pub exact : IsThere key all → way.near ≡ Equal
   pub last : IsLast has key all met way.last
+
+-- the entry that is met below a branch with no twig for the key, where so many twigs are before its position: the last up to the
+-- key, unless there is none
+pub record MeetsBeside (key : List ℕ) (b : Branch) (below : Twigs) (index : ℕ) (end : List ℕ) (near : Near) : Type 0 where
+  pub met : Entry
+  pub there : InList met (entries below)
+  pub is : end ≡ met.key
+  pub compared : IsNear key met.key near
+  pub absent : ¬ IsThere key (entries below)
+  pub last : AgreesTo near b.offset → 0 < index → IsLastUpTo key (entries below) met
+  pub first : AgreesTo near b.offset → index ≡ 0 → (x : Entry) → InList x (entries below) → Less key x.key
 
 -- the last up to the key, of the met entry alone; and below a node whose keys are all before the key or all after it
 abbrev pub alone_up_to : Near → LastUpTo

@@ -129,21 +129,21 @@ pub fn find<C: CellRead>(cells: &mut C, root: Option<Ref>, key: &Key) -> Found
             Found {
                 kind: Kind::of(way.near, trail.chain.is_empty()),
                 chain: trail.chain,
-                pred: key_of_last(cells, way.last, trail.met),
+                pred: key_of_last(cells, way.last, &trail.met),
             }
         }
     }
 }
 
 /// The key of the last leaf up to the key that was searched for.
-fn key_of_last<C: CellRead>(cells: &mut C, last: LastUpTo, met: Key) -> Option<Key>
+fn key_of_last<C: CellRead>(cells: &mut C, last: LastUpTo, met: &Key) -> Option<Key>
     requires { IsBelow (C.has cells.old) last }
     ensures same { cells.new ≡ cells.old }
-    ensures key { IsKeyOfLast (C.has cells.old) met last result }
+    ensures key { IsKeyOfLast (C.has cells.old) met.now last result }
 {
     match last {
         LastUpTo::Nothing => None,
-        LastUpTo::Met => Some(met),
+        LastUpTo::Met => Some(*met),
         LastUpTo::Below(node) => Some(last_key(cells, node)),
     }
 }

@@ -53,7 +53,7 @@ impl Iter {
         requires { StandsSomewhere (C.has cells.old) self.old }
         ensures same { cells.new ≡ cells.old }
         ensures next { (root : Option ℕ) (before after : List Entry) (e : Entry) → StandsBetween (C.has cells.old) root self.old before (e ∷ after)
-            → (result ≡ Some e.key) }
+            → result ≡ Some e.key }
         ensures passed { (root : Option ℕ) (before after : List Entry) (e : Entry) → StandsBetween (C.has cells.old) root self.old before (e ∷ after)
             → StandsBetween (C.has cells.old) root self.new (before ++ e ∷ []) after }
         ensures end { (root : Option ℕ) (before : List Entry) → StandsBetween (C.has cells.old) root self.old before [] → result ≡ None }
@@ -115,7 +115,7 @@ impl Iter {
         requires { StandsSomewhere (C.has cells.old) self.old }
         ensures same { cells.new ≡ cells.old }
         ensures prev { (root : Option ℕ) (before after : List Entry) (e : Entry) → StandsBetween (C.has cells.old) root self.old (before ++ e ∷ []) after
-            → (result ≡ Some e.key) }
+            → result ≡ Some e.key }
         ensures passed { (root : Option ℕ) (before after : List Entry) (e : Entry) → StandsBetween (C.has cells.old) root self.old (before ++ e ∷ []) after
             → StandsBetween (C.has cells.old) root self.new before (e ∷ after) }
         ensures beginning { (root : Option ℕ) (after : List Entry) → StandsBetween (C.has cells.old) root self.old [] after → result ≡ None }

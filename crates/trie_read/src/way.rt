@@ -1,13 +1,13 @@
 //! The way down for a key, to the leaf that has most in common with it.
 
-ghost use Rattle.std.specs.Prelude.{◌≡◌, ◌≢◌, ◌+◌, ◌<◌, ◌≤◌, ◌++◌, ◌∷◌, ℕ, List, [], length, take, reverse};
+ghost use Rattle.std.specs.Prelude.{◌≡◌, ◌≢◌, ◌+◌, ◌%◌, ◌^◌, count_ones, ◌<◌, ◌≤◌, ◌++◌, ◌∷◌, ℕ, List, [], length, take, reverse};
 ghost use Rattle.std.specs.Int.{bit_at};
 ghost use Rattle.zone_model.specs.Keys.{IsKey, Leads};
 ghost use Rattle.trie_model.specs.Keys.{at, Entry};
 ghost use Rattle.trie_model.specs.Order.{chain_labels};
 ghost use Rattle.trie_model.specs.Trees.{Tree, Twigs, entries_of, entries, count};
 ghost use Rattle.trie_read.specs.Reads.{IsTop, IsLeafOf, EachTells};
-ghost use Rattle.trie_read.specs.Finds.{IsEnded, IsBranchOf, IsCellOf, IsAboveHere, IsWay, IsLastAlong, EndsWith, EndsInKey, alone_up_to, whole_up_to};
+ghost use Rattle.trie_read.specs.Finds.{IsEnded, IsBranchOf, IsCellOf, IsAboveHere, IsWay, IsLastAlong, MeetsBeside, EndsWith, EndsInKey, alone_up_to, whole_up_to};
 
 use super::found::Chain;
 use super::near::{Near, name_at};
@@ -159,25 +159,20 @@ fn beside<C: CellRead>(
     key: &Key,
     trail: &mut Trail,
 ) -> Way
-    requires node { (below : Twigs) × IsBranchOf (C.has cells.old) branch below
-        × IsCellOf node branch below × EachTells Leads (entries below) }
+    requires node { (below : Twigs) × IsBranchOf (C.has cells.old) branch below × IsCellOf node branch below × EachTells Leads (entries below) }
     requires absent { bit_at branch.bitmap (at key.now branch.offset) ≢ 1 }
     requires key { IsKey key.now }
     requires ended { IsEnded key.now ended }
     requires here { ended.place ≡ branch.offset }
     requires chain { take trail.old.chain.len trail.old.chain.labels ≡ [] }
     ensures same { cells.new ≡ cells.old }
-    ensures way { (below : Twigs) → IsBranchOf (C.has cells.old) branch below
-        → IsCellOf node branch below → EachTells Leads (entries below)
-        → IsWay (C.has cells.old) key.now (entries below) trail.new.met result }
+    ensures way { (below : Twigs) → IsBranchOf (C.has cells.old) branch below → IsCellOf node branch below
+        → EachTells Leads (entries below) → IsWay (C.has cells.old) key.now (entries below) trail.new.met result }
     ensures chain { (below : Twigs) → IsBranchOf (C.has cells.old) branch below → EachTells Leads (entries below)
         → take trail.new.chain.len trail.new.chain.labels ≡ reverse (chain_labels key.now (entries below)) }
 {
     let index = branch.twig_index(key.at(branch.offset));
-    let twig = cells.cell(branch.twigs + index.saturating_sub(1));
-    let leaf = last_leaf(cells, twig, branch.offset + 1);
-    trail.met = Key::of(&name_at(cells, leaf));
-    let near = Near::of(key, &trail.met);
+    let near = meet_nearest(cells, branch, index, key, &mut trail.met);
     if !near.agrees(branch.offset) {
         return whole(node, near);
     }
@@ -193,6 +188,29 @@ fn beside<C: CellRead>(
             last: LastUpTo::Nothing,
         }
     }
+}
+
+/// Meets the last leaf before the key, among those below a branch that has no twig for it: the last below the twig before its
+/// position, which has this index less one. Where there is none, it meets one below the first twig.
+fn meet_nearest<C: CellRead>(
+    cells: &mut C,
+    branch: Branch,
+    index: u32,
+    key: &Key,
+    met: &mut Key,
+) -> Near
+    requires node { (below : Twigs) × IsBranchOf (C.has cells.old) branch below × EachTells Leads (entries below) }
+    requires absent { bit_at branch.bitmap (at key.now branch.offset) ≢ 1 }
+    requires key { IsKey key.now }
+    requires index { index ≡ count_ones (branch.bitmap % 2 ^ at key.now branch.offset) }
+    ensures same { cells.new ≡ cells.old }
+    ensures met { (below : Twigs) → IsBranchOf (C.has cells.old) branch below → EachTells Leads (entries below)
+        → MeetsBeside key.now branch below index met.new result }
+{
+    let twig = cells.cell(branch.twigs + index.saturating_sub(1));
+    let leaf = last_leaf(cells, twig, branch.offset + 1);
+    *met = Key::of(&name_at(cells, leaf));
+    Near::of(key, met)
 }
 
 /// The key does not agree so far with those below the node.
