@@ -3,7 +3,8 @@ use Rattle.std.proofs.Common.{◌≡◌, ℕ, zero, suc, ◌+◌, ◌-◌, ◌<�
 use Rattle.std.proofs.lemmas.Bool.{cases_lt}
 use Rattle.std.proofs.lemmas.List.{length-map}
 use Rattle.std.proofs.lemmas.Option.{slice_get-get_or, slice_get_within}
-use Rattle.zone_model.specs.Keys.{IsFirstDifference}
+use Rattle.zone_model.specs.Keys.{IsFirstDifference, Leads}
+use Rattle.trie_read.specs.Reads.{EachTells}
 use Rattle.trie_model.specs.Keys.{at, Same, IsKey, Entry, IsEntry, InList, Rises}
 use Rattle.trie_model.specs.Trees.{Tree, Twigs, entries_of, entries, count, AllAt, Agree, IsTree, AreTwigs}
 use Rattle.trie_model.specs.Trees.Tree.{leaf, branch}
@@ -15,7 +16,7 @@ use Rattle.trie_write.specs.declared.item.Item.{Item}
 use Rattle.trie_write.specs.Named.{key_in}
 use Rattle.trie_write.specs.Entries.{entry_of, entries_of_items}
 use Rattle.trie_write.specs.Runs.{NeverFalls, IsFirstRun}
-use Rattle.trie_write.proofs.ItemLaws.{IsStored, entry_is}
+use Rattle.trie_write.proofs.ItemLaws.{IsStored, entry_is, leads_of}
 use Rattle.trie_write.proofs.OutlineLaws.{EachIsEntry, Outline, outline_of}
 
 pub item_entry : (x : Item) → IsEntry (entry_of x)
@@ -28,6 +29,11 @@ each_entry (x ∷ xs) = (item_entry x, each_entry xs)
 pub outline_items : (items : List Item) → 0 < length items → Rises (entries_of_items items) → Outline (entries_of_items items)
 outline_items [] l rises = absurd (omega arith)
 outline_items (x ∷ xs) l rises = outline_of (entry_of x) (entries_of_items xs) (each_entry (x ∷ xs)) rises
+
+pub items_tell : (items : List Item) → EachTells Leads (entries_of_items items)
+items_tell [] x i = absurd i
+items_tell (y ∷ items) x (inl same) = subst (λ (e : Entry). Leads e.key e.item) (sym same) (leads_of y.octets.items (record { short = y.short; named = y.named; small = y.small }))
+items_tell (y ∷ items) x (inr later) = items_tell items x later
 
 -- the element at a place
 pub in_place : (es : List Entry) (k : ℕ) (x : Entry) → slice_get es k ≡ Some x → InList x es

@@ -7,7 +7,6 @@ pub mod item;
 mod near;
 mod path;
 mod room;
-mod replacement;
 mod row;
 mod runs;
 mod size;
@@ -16,3 +15,6 @@ pub use bulk::build;
 pub use insertion::{InsertRefusal, insert};
 pub use item::{Item, ItemRefusal};
 pub use size::cells;
+
+#[cfg(test)]
+mod tests;
