@@ -178,6 +178,6 @@ inserted_first e version none = record { before = []; after = []; old_is = none;
 pub tells_more : (tells : List ℕ → List ℕ → Type 0) (e : Entry) (old new : List Entry) → EachTells tells old → tells e.key e.item → Inserted e old new → EachTells tells new
 tells_more tells e old new each here put x i = elim (in_put e x old new put i) [ inl same ↦ subst (λ (z : Entry). tells z.key z.item) (sym same) here | inr there ↦ each x there ]
 
-pub stands_of : {has : ℕ → Cell → Type 0} {used : ℕ → Bool} {live : ℕ → ℕ} (version : List Entry) (root : Option ℕ) → Standing has used live root version → Stands has root version
-stands_of version None s = s.0
-stands_of version (Some r) s = (s.0, s.1.trie)
+pub stands_of : (has : ℕ → Cell → Type 0) (used : ℕ → Bool) (live : ℕ → ℕ) (version : List Entry) (root : Option ℕ) → Standing has used live root version → Stands has root version
+stands_of has used live version None s = s.0
+stands_of has used live version (Some r) s = (s.0, s.1.trie)

@@ -92,6 +92,6 @@ fn a_name_is_put_in_once(rt: HostRuntime) -> Result<(), Fail> {
     let first = [Item::of(rt.alloc(), &name, b"1").ok().ok_or("no item")?];
     let sizes = sizes_with(&mut memory, &mut usage, &first, &first[0]);
     assert_eq!(rt; sizes, Err(InsertRefusal::Exists));
-    assert_eq!(rt; usage.live(0), 3);
+    assert_eq!(rt; usage.live(0), 2);
     Ok(())
 }

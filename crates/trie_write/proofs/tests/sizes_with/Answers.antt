@@ -5,11 +5,11 @@ use Rattle.trie_write.proofs.RunLaws.{items_tell}
 use Rattle.trie_write.proofs.RootLaws.{stands_of}
 use Rattle.trie_write.proofs.tests.sizes_with.Goals as goal
 
-pub put-root-requires-clause-stands : goal.put-root-requires-clause-stands
-put-root-requires-clause-stands g c = (entries_of_items c.args.items.now, c.in-Ok.ensures.built, items_tell c.args.items.now)
+pub put-requires-clause-stands : goal.put-requires-clause-stands
+put-requires-clause-stands g c = (entries_of_items c.args.items.now, c.in-Ok.ensures.built, items_tell c.args.items.now)
 
 pub count-names-requires : goal.count-names-requires
-count-names-requires g c = let s = c.in_ok-root.ensures.stands in (s.0, stands_of s.0 c.in_ok-root.root s.1)
+count-names-requires g c = let s = c.in_ok-root-in-Ok.ensures.stands in (s.0, stands_of _ _ _ s.0 c.in_ok-root-in-Ok.root s.1)
 
 pub nodes-requires : goal.nodes-requires
-nodes-requires g c = let s = c.in_ok-root.ensures.stands in (s.0, subst (λ z. Stands (g.C.CellRead.has z) c.in_ok-root.root s.0) (sym c.count-names.ensures.same) (stands_of s.0 c.in_ok-root.root s.1))
+nodes-requires g c = let s = c.in_ok-root-in-Ok.ensures.stands in (s.0, subst (λ z. Stands (g.C.CellRead.has z) c.in_ok-root-in-Ok.root s.0) (sym c.count-names.ensures.same) (stands_of _ _ _ s.0 c.in_ok-root-in-Ok.root s.1))
