@@ -1,6 +1,5 @@
 -- A root of its own for a changed tree, and what stands there.
-use Rattle.std.proofs.Common.{◌≡◌, ℕ, suc, ◌+◌, ◌<◌, ◌≤◌, ◌^◌, ◌⊎◌, inl, inr, Bool, true, false, List, [], ◌∷◌, length, Option, Some, None, length-append, arith, refl, sym, ◌∙◌, ap, subst}
-use Rattle.std.proofs.lemmas.Bool.{true≢false}
+use Rattle.std.proofs.Common.{◌≡◌, ℕ, ◌+◌, ◌<◌, ◌≤◌, ◌⊎◌, inl, inr, Bool, true, false, List, [], ◌∷◌, length, Option, Some, None, length-append, arith, refl, sym, ◌∙◌, ap, subst}
 use Rattle.packed_node.specs.declared.Cell.{Cell}
 use Rattle.packed_node.specs.declared.Leaf.{Leaf}
 use Rattle.zone_model.specs.Names.{wire}
@@ -11,14 +10,14 @@ use Rattle.trie_read.specs.Reads.{IsTop, EachTells}
 use Rattle.trie_write.specs.Nearness.{FirstDiffers, Differs}
 use Rattle.trie_write.proofs.ItemLaws.{wire_some, AreSmall}
 use Rattle.trie_model.specs.Keys.{at, IsKey, Entry, IsEntry, InList}
-use Rattle.trie_model.specs.Memory.{top_cell, Beneath, ItemLies, IsTrieAt, Stands}
-use Rattle.trie_model.specs.Reach.{row, in_chunk, weigh_tree, WithinTree, live_in, reach}
+use Rattle.trie_model.specs.Memory.{top_cell, Beneath, ItemLies, Stands}
+use Rattle.trie_model.specs.Reach.{row, in_chunk, weigh_tree, WithinTree}
 use Rattle.trie_model.specs.Trees.{Tree, IsTree, entries_of, cells_in, IsRow}
 use Rattle.trie_model.proofs.MoveLaws.{Keeps, beneath_kept, tree_weaker}
 use Rattle.trie_model.proofs.ReachLaws.{met, live_is}
 use Rattle.chunk_usage.specs.Rooms.{Room}
 use Rattle.trie_write.specs.Weights.{at_place, mark}
-use Rattle.trie_write.specs.Steps.{Held, Became, Laid, item_weight, Asks}
+use Rattle.trie_write.specs.Steps.{Became, item_weight, Asks}
 use Rattle.trie_write.specs.Standing.{StandsIn, Standing}
 use Rattle.trie_write.specs.Roots.{Rooted}
 use Rattle.trie_write.specs.Inserts.{AsksTop}

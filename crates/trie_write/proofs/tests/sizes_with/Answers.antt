@@ -1,4 +1,4 @@
-use Rattle.std.proofs.Common.{Option, ℕ, sym, subst}
+use Rattle.std.proofs.Common.{sym, subst}
 use Rattle.trie_model.specs.Memory.{Stands}
 use Rattle.trie_write.specs.Entries.{entries_of_items}
 use Rattle.trie_write.proofs.RunLaws.{items_tell}
