@@ -1,17 +1,16 @@
 -- The branch that grows as its twigs are built.
 use Rattle.std.specs.Int.{bit_at}
 use Rattle.std.proofs.lemmas.Nat.{shr_high}
-use Rattle.std.proofs.Common.{pow_mono, ◌≡◌, ℕ, suc, ◌+◌, ◌*◌, ◌/◌, ◌%◌, ◌^◌, ◌<◌, ◌≤◌, Bool, true, List, [], ◌∷◌, ◌++◌, length, take, drop, slice_get, Some, arith, refl, sym, ◌∙◌, ap, subst, length-append}
+use Rattle.std.proofs.Common.{pow_mono, ◌≡◌, ℕ, suc, ◌+◌, ◌*◌, ◌/◌, ◌%◌, ◌^◌, ◌<◌, ◌≤◌, Bool, true, List, [], ◌∷◌, ◌++◌, length, take, drop, slice_get, Some, arith, refl, sym, ◌∙◌, ap, subst}
 use Rattle.packed_node.specs.declared.Cell.{Cell}
 use Rattle.packed_node.specs.declared.Leaf.{Leaf}
-use Rattle.packed_node.specs.declared.Branch.{Branch}
 use Rattle.packed_node.specs.declared.Node.TheVariants as node
 use Rattle.packed_node.specs.Nodes.{IsNode, packed}
-use Rattle.trie_model.specs.Keys.{at, Entry, IsEntry, InList}
-use Rattle.trie_model.specs.Memory.{top_cell, Beneath, ItemLies}
-use Rattle.trie_model.specs.Reach.{row, weigh_tree, in_chunk}
+use Rattle.trie_model.specs.Keys.{Entry, IsEntry, InList}
+use Rattle.trie_model.specs.Memory.{ItemLies}
+use Rattle.trie_model.specs.Reach.{row, in_chunk}
 use Rattle.trie_model.specs.Shape.{cells}
-use Rattle.trie_model.specs.Trees.{Tree, Twigs, entries_of, entries, count, bitmap_of, cells_in, IsRow, AllAt, Agree, IsTree, AreTwigs, beside}
+use Rattle.trie_model.specs.Trees.{Twigs, entries_of, entries, count, bitmap_of, cells_in, IsRow, AllAt, Agree, IsTree, AreTwigs, beside}
 use Rattle.trie_model.specs.Trees.Tree.{leaf, branch}
 use Rattle.trie_model.specs.Trees.Twigs.{none, twig}
 use Rattle.trie_model.proofs.BitmapLaws.{Rising, below_all, few, count-beside, bitmap_of-beside}
@@ -28,7 +27,7 @@ use Rattle.trie_write.specs.Standing.{Standing}
 use Rattle.trie_write.proofs.WeightLaws.{row_fresh, mark_tells, mark_le, within_met}
 use Rattle.trie_write.proofs.OutlineLaws.{item_row}
 use Rattle.trie_write.proofs.PlanLaws.{Plan, Step, Planned, plan_start, plan_end, size_is, row_ones}
-use Rattle.trie_write.proofs.TwigLaws.{tops_of, AllBeneath, AllWithin, lie_of, tops-beside, length-tops, beneath_join, all_kept, all_within_met, rising_push, agree_tree, deepen}
+use Rattle.trie_write.proofs.TwigLaws.{tops_of, AllBeneath, lie_of, tops-beside, length-tops, beneath_join, all_kept, all_within_met, rising_push, agree_tree, deepen}
 
 clear_above : (b p : ℕ) → b < 2 ^ p → bit_at b p ≡ 0
 clear_above b p l = let e : b ≡ 0 * 2 ^ p + b = omega arith in ap (λ (n : ℕ). n / 2 ^ p % 2) e ∙ ap (λ (n : ℕ). n % 2) (shr_high 0 p b l)

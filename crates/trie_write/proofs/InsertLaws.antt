@@ -1,5 +1,5 @@
 -- The steps of an insertion.
-use Rattle.std.proofs.Common.{◌≡◌, ℕ, suc, ◌+◌, ◌-◌, ◌/◌, ◌%◌, ◌^◌, ◌<◌, ◌≤◌, ◌⊎◌, inl, inr, Bool, true, false, List, [], ◌∷◌, ◌++◌, length, count_ones, Option, Some, arith, refl, sym, ◌∙◌, ap, subst, append_assoc}
+use Rattle.std.proofs.Common.{◌≡◌, ℕ, suc, ◌+◌, ◌-◌, ◌%◌, ◌^◌, ◌<◌, ◌≤◌, inl, inr, Bool, true, false, List, [], ◌∷◌, ◌++◌, length, count_ones, Option, Some, arith, sym, ◌∙◌, ap, subst, append_assoc}
 use Rattle.std.specs.Int.{bit_at}
 use Rattle.std.proofs.lemmas.Bool.{cases_lt, true≢false}
 use Rattle.packed_node.specs.declared.Cell.{Cell}
@@ -8,11 +8,11 @@ use Rattle.packed_node.specs.declared.Branch.{Branch}
 use Rattle.packed_node.specs.declared.Node.{Node}
 use Rattle.packed_node.specs.declared.Node.TheVariants as node
 use Rattle.packed_node.specs.Nodes.{IsNode, IsLeaf, IsBranch, packed, leaf_cell, branch_cell}
-use Rattle.trie_model.specs.Changes.{Nearest, Grown, Deep}
-use Rattle.trie_model.specs.Keys.{at, Entry, IsEntry}
-use Rattle.trie_model.specs.Memory.{top_cell, node_of, Beneath, Lie, ItemLies, item_cell}
+use Rattle.trie_model.specs.Changes.{Grown, Deep}
+use Rattle.trie_model.specs.Keys.{at, Entry}
+use Rattle.trie_model.specs.Memory.{top_cell, Beneath, Lie, ItemLies, item_cell}
 use Rattle.trie_model.specs.Reach.{row, in_chunk, weigh_tree, Within}
-use Rattle.trie_model.specs.Trees.{Tree, Twigs, count, bitmap_of, cells_in, IsRow, IsTree, AreTwigs, beside}
+use Rattle.trie_model.specs.Trees.{Tree, Twigs, count, bitmap_of, cells_in, IsRow, beside}
 use Rattle.trie_model.specs.Trees.Tree.{leaf, branch}
 use Rattle.trie_model.specs.Trees.Twigs.{none, twig}
 use Rattle.trie_model.proofs.AddLaws.{absent_of, present_of, nearest_here, add_twig, grow_twig}
@@ -28,8 +28,7 @@ use Rattle.trie_write.specs.Weights.{at_place, mark}
 use Rattle.trie_write.specs.Steps.{Held, Became, Laid, item_weight, Asks, AsksBranch, Grew}
 use Rattle.trie_write.proofs.OutlineLaws.{short_row}
 use Rattle.trie_write.proofs.WeightLaws.{row_misses, row_fresh, mark_grows}
-use Rattle.trie_write.proofs.FrameLaws.{apart_from}
-use Rattle.trie_write.proofs.TwigLaws.{tops_of, AllBeneath, tops-beside, length-tops, beneath_join, beneath_left, beneath_right, beneath_of_lie, row_of_lie, all_of_within, all_kept}
+use Rattle.trie_write.proofs.TwigLaws.{tops_of, AllBeneath, tops-beside, length-tops, beneath_join, beneath_of_lie, row_of_lie, all_of_within, all_kept}
 use Rattle.trie_write.proofs.StepLaws.{branch_became, Descent, here_held, path_became, path_twigs}
 use Rattle.trie_write.specs.Paths.{twigs_on_path}
 use Rattle.trie_read.specs.Reads.{IsTop}

@@ -1,12 +1,12 @@
 -- What the octets of an item say.
-use Rattle.std.proofs.Common.{◌≡◌, ℕ, zero, suc, ◌+◌, ◌<◌, ◌≤◌, ◌^◌, Bool, true, false, List, [], ◌∷◌, ◌++◌, length, slice_index, Option, Some, None, arith, refl, sym, ◌∙◌, ap, subst, true≢false, length-append}
+use Rattle.std.proofs.Common.{◌≡◌, ℕ, zero, suc, ◌<◌, ◌≤◌, true, List, [], ◌∷◌, ◌++◌, length, slice_index, Option, Some, None, arith, refl, sym, ◌∙◌, ap, subst, true≢false, length-append}
 use Rattle.zone_model.specs.Names.{Name, IsName, IsLabel, BeginsWith, wire}
 use Rattle.std.specs.List.{AllByRecursion}
 use Rattle.std.specs.Option.{IsSome, IsNone}
 use Rattle.zone_model.specs.Keys.{key_of, Leads}
 use Rattle.zone_model.specs.Splits.{split_name}
 use Rattle.zone_model.proofs.SplitLemmas.{name_back, name_sound}
-use Rattle.trie_model.specs.Keys.{Entry, IsEntry}
+use Rattle.trie_model.specs.Keys.{IsEntry}
 use Rattle.trie_model.proofs.NameLaws.{name_key}
 use Rattle.trie_write.specs.Named.{is_split, begins_with_name, key_of_split, key_in}
 

@@ -11,4 +11,3 @@ pub mod UnpackLaws
 pub mod NearLaws
 pub mod InsertLaws
 pub mod RootLaws
-pub mod ExchangeLaws

@@ -9,8 +9,8 @@ use Rattle.packed_node.specs.declared.Node.{Node}
 use Rattle.packed_node.specs.declared.Node.TheVariants as node
 use Rattle.zone_model.specs.Names.{Name, IsName, BeginsWith}
 use Rattle.zone_model.specs.Keys.{key_of, Leads, IsFirstDifference}
-use Rattle.trie_model.specs.Keys.{at, Same, IsKey, IsItem, Entry, InList}
-use Rattle.trie_model.specs.Memory.{top_cell, node_of, Beneath, Lie, ItemLies}
+use Rattle.trie_model.specs.Keys.{at, IsKey, IsItem, Entry, InList}
+use Rattle.trie_model.specs.Memory.{top_cell, node_of, Beneath, Lie}
 use Rattle.trie_model.specs.Trees.{Tree, Twigs, IsTree, Agree, entries_of, entries, bitmap_of}
 use Rattle.trie_model.specs.Trees.Tree.{leaf, branch}
 use Rattle.trie_model.specs.Trees.Twigs.{none, twig}
@@ -19,7 +19,7 @@ use Rattle.trie_model.proofs.SplitLaws.{Found, Missing, look, rising_of, lie_rig
 use Rattle.trie_model.proofs.AddLaws.{found_twigs, from_here}
 use Rattle.trie_model.proofs.GrowthLaws.{each_entry}
 use Rattle.trie_model.proofs.NameLaws.{one_key_leads, leads_by_front}
-use Rattle.trie_read.specs.Reads.{IsTop, IsLeafOf, EachTells}
+use Rattle.trie_read.specs.Reads.{IsTop}
 use Rattle.trie_write.proofs.UnpackLaws.{Unpacked, BranchTold, told}
 use Rattle.trie_write.specs.Nearness.{Apart, Closest, FirstDiffers, Differs}
 

@@ -1,14 +1,13 @@
 -- Every strictly rising list of entries has a tree.
-use Rattle.std.proofs.Common.{◌≡◌, ℕ, zero, suc, ◌+◌, ◌^◌, ◌<◌, ◌≤◌, ◌⊎◌, List, [], ◌∷◌, ◌++◌, length, arith, inl, inr, refl, sym, ◌∙◌, ap, subst}
+use Rattle.std.proofs.Common.{◌≡◌, ℕ, zero, suc, ◌+◌, ◌<◌, ◌≤◌, ◌⊎◌, List, [], ◌∷◌, length, arith, inl, inr, refl, sym, ap, subst}
 use Rattle.std.proofs.lemmas.Bool.{cases_lt}
 use Rattle.std.proofs.lemmas.List.{get_or_past}
-use Rattle.trie_model.specs.Keys.{at, Same, IsKey, Entry, IsEntry, Less, InList, Rises}
+use Rattle.trie_model.specs.Keys.{at, IsKey, Entry, IsEntry, Less, Rises}
 use Rattle.trie_model.specs.Changes.{Inserted, Nearest, Grown, Deep}
-use Rattle.trie_model.specs.Trees.{Tree, Twigs, entries_of, entries, count, IsRow, cells_in, Agree, IsTree, AreTwigs, beside}
+use Rattle.trie_model.specs.Trees.{Tree, Twigs, entries_of, count, IsRow, cells_in, IsTree, AreTwigs}
 use Rattle.trie_model.specs.Trees.Tree.{leaf, branch}
-use Rattle.trie_model.specs.Trees.Twigs.{none, twig}
-use Rattle.trie_model.proofs.SplitLaws.{Found, Missing, rising_of}
-use Rattle.trie_model.proofs.BitmapLaws.{few, count-beside}
+use Rattle.trie_model.proofs.SplitLaws.{rising_of}
+use Rattle.trie_model.proofs.BitmapLaws.{few}
 use Rattle.trie_model.proofs.GrowthLaws.{alone_of, split_low, split_high}
 use Rattle.trie_model.proofs.AddLaws.{absent_of, present_of, nearest_here, add_twig, grow_twig, found_twigs}
 use Rattle.trie_model.proofs.OrderLaws.{one_insertion}

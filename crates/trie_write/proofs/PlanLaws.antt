@@ -1,16 +1,16 @@
 -- A walk along the runs of the items below a branch.
-use Rattle.std.proofs.Common.{◌≡◌, ℕ, zero, suc, ◌+◌, ◌<◌, ◌≤◌, ◌⊎◌, sum_by, List, [], ◌∷◌, ◌++◌, length, get_or, take, drop, arith, inl, inr, refl, sym, ◌∙◌, ap, subst, length-append, take-append-drop, append_assoc}
+use Rattle.std.proofs.Common.{◌≡◌, ℕ, zero, suc, ◌+◌, ◌<◌, ◌≤◌, ◌⊎◌, sum_by, List, [], ◌∷◌, ◌++◌, length, get_or, take, drop, arith, inl, inr, refl, sym, ◌∙◌, ap, subst, length-append, take-append-drop}
 use Rattle.std.proofs.lemmas.Bool.{cases_lt}
 use Rattle.std.proofs.lemmas.List.Sums.{sum_by-cons}
 use Rattle.std.proofs.lemmas.List.{length-take-le}
-use Rattle.trie_model.specs.Keys.{at, Entry, IsEntry, InList, Rises}
-use Rattle.trie_model.specs.Reach.{reach, reach_below, reach_twigs, row, weigh_tree, weigh}
+use Rattle.trie_model.specs.Keys.{at, Entry, InList, Rises}
+use Rattle.trie_model.specs.Reach.{reach_below, row, weigh_tree, weigh}
 use Rattle.trie_model.specs.Shape.{cells, nodes, nodes_within}
-use Rattle.trie_model.specs.Trees.{Tree, Twigs, entries_of, entries, count, cells_in, AllAt, Agree, IsTree, AreTwigs, beside}
+use Rattle.trie_model.specs.Trees.{Tree, Twigs, entries_of, entries, count, cells_in, AllAt, IsTree, AreTwigs, beside}
 use Rattle.trie_model.specs.Trees.Tree.{leaf, branch}
 use Rattle.trie_model.specs.Trees.Twigs.{none, twig}
-use Rattle.trie_model.proofs.KeyLaws.{in_left, in_right, in_both}
-use Rattle.trie_model.proofs.BitmapLaws.{Rising, count-beside}
+use Rattle.trie_model.proofs.KeyLaws.{in_both}
+use Rattle.trie_model.proofs.BitmapLaws.{count-beside}
 use Rattle.trie_model.proofs.SplitLaws.{entries-beside, rising_of, keys_upper, twigs_left}
 use Rattle.trie_model.proofs.GrowthLaws.{some_entry}
 use Rattle.trie_model.proofs.ReachLaws.{weighed}

@@ -1,23 +1,23 @@
 -- A root of its own for a changed tree, and what stands there.
-use Rattle.std.proofs.Common.{◌≡◌, ℕ, suc, ◌+◌, ◌<◌, ◌≤◌, ◌^◌, ◌⊎◌, inl, inr, Bool, true, false, List, [], ◌∷◌, length, Option, Some, None, length-append, arith, refl, sym, ◌∙◌, ap, subst}
-use Rattle.std.proofs.lemmas.Bool.{true≢false}
+use Rattle.std.proofs.Common.{◌≡◌, ℕ, ◌+◌, ◌<◌, ◌≤◌, ◌⊎◌, inl, inr, Bool, true, false, List, [], ◌∷◌, length, Option, Some, None, length-append, arith, refl, sym, ◌∙◌, ap, subst}
 use Rattle.packed_node.specs.declared.Cell.{Cell}
 use Rattle.packed_node.specs.declared.Leaf.{Leaf}
 use Rattle.zone_model.specs.Names.{wire}
 use Rattle.zone_model.specs.Keys.{Leads}
 use Rattle.trie_model.proofs.NameLaws.{name_key}
-use Rattle.trie_read.specs.Reads.{IsTop}
+use Rattle.trie_model.proofs.AddLaws.{in_put}
+use Rattle.trie_read.specs.Reads.{IsTop, EachTells}
 use Rattle.trie_write.specs.Nearness.{FirstDiffers, Differs}
 use Rattle.trie_write.proofs.ItemLaws.{wire_some, AreSmall}
 use Rattle.trie_model.specs.Keys.{at, IsKey, Entry, IsEntry, InList}
-use Rattle.trie_model.specs.Memory.{top_cell, Beneath, ItemLies, IsTrieAt}
-use Rattle.trie_model.specs.Reach.{row, in_chunk, weigh_tree, WithinTree, live_in, reach}
+use Rattle.trie_model.specs.Memory.{top_cell, Beneath, ItemLies, Stands}
+use Rattle.trie_model.specs.Reach.{row, in_chunk, weigh_tree, WithinTree}
 use Rattle.trie_model.specs.Trees.{Tree, IsTree, entries_of, cells_in, IsRow}
 use Rattle.trie_model.proofs.MoveLaws.{Keeps, beneath_kept, tree_weaker}
 use Rattle.trie_model.proofs.ReachLaws.{met, live_is}
 use Rattle.chunk_usage.specs.Rooms.{Room}
 use Rattle.trie_write.specs.Weights.{at_place, mark}
-use Rattle.trie_write.specs.Steps.{Held, Became, Laid, item_weight, Asks}
+use Rattle.trie_write.specs.Steps.{Became, item_weight, Asks}
 use Rattle.trie_write.specs.Standing.{StandsIn, Standing}
 use Rattle.trie_write.specs.Roots.{Rooted}
 use Rattle.trie_write.specs.Inserts.{AsksTop}
@@ -172,3 +172,11 @@ not_there {key} f x i e = let a = f.nearest.apart x i in a.2 (ap (λ (y : List �
 
 pub inserted_first : (e : Entry) (version : List Entry) → version ≡ [] → Inserted e version (e ∷ [])
 inserted_first e version none = record { before = []; after = []; old_is = none; new_is = refl; lower = λ x i. absurd i; upper = λ x i. absurd i }
+
+-- each item still tells its key
+pub tells_more : (tells : List ℕ → List ℕ → Type 0) (e : Entry) (old new : List Entry) → EachTells tells old → tells e.key e.item → Inserted e old new → EachTells tells new
+tells_more tells e old new each here put x i = elim (in_put e x old new put i) [ inl same ↦ subst (λ (z : Entry). tells z.key z.item) (sym same) here | inr there ↦ each x there ]
+
+pub stands_of : (has : ℕ → Cell → Type 0) (used : ℕ → Bool) (live : ℕ → ℕ) (version : List Entry) (root : Option ℕ) → Standing has used live root version → Stands has root version
+stands_of has used live version None s = s.0
+stands_of has used live version (Some r) s = (s.0, s.1.trie)

@@ -1,21 +1,20 @@
 -- Items in the order of their keys, and where they part.
-use Rattle.std.proofs.Common.{◌≡◌, ℕ, zero, suc, ◌+◌, ◌-◌, ◌<◌, ◌≤◌, ◌⊎◌, List, [], ◌∷◌, ◌++◌, length, map, take, drop, slice_get, get_or, Option, Some, None, arith, inl, inr, refl, sym, ◌∙◌, ap, subst, length-append}
+use Rattle.std.proofs.Common.{◌≡◌, ℕ, zero, suc, ◌-◌, ◌<◌, ◌≤◌, List, [], ◌∷◌, ◌++◌, length, take, drop, slice_get, get_or, Some, arith, inl, inr, sym, ◌∙◌, ap, subst, length-append}
 use Rattle.std.proofs.lemmas.Bool.{cases_lt}
 use Rattle.std.proofs.lemmas.List.{length-map}
-use Rattle.std.proofs.lemmas.Option.{slice_get-get_or, slice_get_within}
-use Rattle.zone_model.specs.Keys.{IsFirstDifference}
-use Rattle.trie_model.specs.Keys.{at, Same, IsKey, Entry, IsEntry, InList, Rises}
-use Rattle.trie_model.specs.Trees.{Tree, Twigs, entries_of, entries, count, AllAt, Agree, IsTree, AreTwigs}
+use Rattle.zone_model.specs.Keys.{IsFirstDifference, Leads}
+use Rattle.trie_read.specs.Reads.{EachTells}
+use Rattle.trie_model.specs.Keys.{at, Same, Entry, IsEntry, InList, Rises}
+use Rattle.trie_model.specs.Trees.{Tree, Twigs, entries_of, entries, count, AllAt, IsTree, AreTwigs}
 use Rattle.trie_model.specs.Trees.Tree.{leaf, branch}
 use Rattle.trie_model.specs.Trees.Twigs.{none, twig}
-use Rattle.trie_model.proofs.KeyLaws.{in_left, in_right}
 use Rattle.trie_model.proofs.SplitLaws.{keys_upper, rising_of}
 use Rattle.trie_model.proofs.GrowthLaws.{some_entry}
 use Rattle.trie_write.specs.declared.item.Item.{Item}
 use Rattle.trie_write.specs.Named.{key_in}
 use Rattle.trie_write.specs.Entries.{entry_of, entries_of_items}
-use Rattle.trie_write.specs.Runs.{NeverFalls, IsFirstRun}
-use Rattle.trie_write.proofs.ItemLaws.{IsStored, entry_is}
+use Rattle.trie_write.specs.Runs.{NeverFalls}
+use Rattle.trie_write.proofs.ItemLaws.{entry_is, leads_of}
 use Rattle.trie_write.proofs.OutlineLaws.{EachIsEntry, Outline, outline_of}
 
 pub item_entry : (x : Item) → IsEntry (entry_of x)
@@ -28,6 +27,11 @@ each_entry (x ∷ xs) = (item_entry x, each_entry xs)
 pub outline_items : (items : List Item) → 0 < length items → Rises (entries_of_items items) → Outline (entries_of_items items)
 outline_items [] l rises = absurd (omega arith)
 outline_items (x ∷ xs) l rises = outline_of (entry_of x) (entries_of_items xs) (each_entry (x ∷ xs)) rises
+
+pub items_tell : (items : List Item) → EachTells Leads (entries_of_items items)
+items_tell [] x i = absurd i
+items_tell (y ∷ items) x (inl same) = subst (λ (e : Entry). Leads e.key e.item) (sym same) (leads_of y.octets.items (record { short = y.short; named = y.named; small = y.small }))
+items_tell (y ∷ items) x (inr later) = items_tell items x later
 
 -- the element at a place
 pub in_place : (es : List Entry) (k : ℕ) (x : Entry) → slice_get es k ≡ Some x → InList x es

@@ -1,15 +1,15 @@
 -- A branch that is written in new cells, in place of a tree.
-use Rattle.std.proofs.Common.{◌≡◌, ℕ, suc, ◌+◌, ◌%◌, ◌^◌, ◌<◌, ◌≤◌, Bool, true, false, cond, eqb, List, [], ◌∷◌, ◌++◌, length, count_ones, slice_get, Some, arith, refl, sym, ◌∙◌, ap, subst}
+use Rattle.std.proofs.Common.{◌≡◌, ℕ, suc, ◌+◌, ◌^◌, ◌<◌, ◌≤◌, Bool, true, false, cond, eqb, List, ◌∷◌, ◌++◌, length, count_ones, slice_get, Some, arith, sym, ◌∙◌, ap, subst}
 use Rattle.packed_node.specs.declared.Cell.{Cell}
 use Rattle.packed_node.specs.declared.Branch.{Branch}
 use Rattle.packed_node.specs.Nodes.{branch_cell}
 use Rattle.packed_node.specs.Nodes.{IsBranch}
 use Rattle.trie_model.specs.Keys.{at}
-use Rattle.trie_model.specs.Memory.{top_cell, Beneath, Lie}
+use Rattle.trie_model.specs.Memory.{top_cell, Lie}
 use Rattle.trie_model.specs.Trees.{Tree, Twigs, count, bitmap_of, IsRow, IsTree, beside}
 use Rattle.trie_model.specs.Trees.Tree.{branch}
 use Rattle.trie_model.specs.Trees.Twigs.{none, twig}
-use Rattle.trie_model.specs.Reach.{row, in_chunk, weigh_tree, WithinTree, Within}
+use Rattle.trie_model.specs.Reach.{row, in_chunk, weigh_tree, Within}
 use Rattle.trie_model.proofs.AddLaws.{found_twigs}
 use Rattle.trie_model.proofs.BitmapLaws.{Rising, few, count-beside, bitmap_of-beside}
 use Rattle.trie_model.proofs.CountLaws.{under, weigh_is, under-beside}
@@ -23,8 +23,8 @@ use Rattle.trie_write.specs.Paths.{twigs_on_path, twigs_past}
 use Rattle.trie_write.specs.Rows.{RowLies}
 use Rattle.trie_write.specs.Weights.{at_place, mark}
 use Rattle.trie_write.specs.Steps.{Held, Became}
-use Rattle.trie_write.proofs.TwigLaws.{tops_of, AllBeneath, AllWithin, lie_of, tops-beside, length-tops, beneath_join, beneath_left, beneath_right, beneath_of_lie, row_of_lie, all_of_within, all_kept, beneath_met}
-use Rattle.trie_write.proofs.WeightLaws.{marked, unmarked, mark_le, mark_grows, met_within, row_fresh}
+use Rattle.trie_write.proofs.TwigLaws.{tops_of, AllBeneath, lie_of, tops-beside, length-tops, beneath_join, beneath_of_lie, row_of_lie, all_of_within, all_kept, beneath_met}
+use Rattle.trie_write.proofs.WeightLaws.{marked, mark_le, mark_grows, met_within, row_fresh}
 use Rattle.trie_write.proofs.FrameLaws.{apart_from}
 
 pub branch_became : {has : ℕ → Cell → Type 0} {used new : ℕ → Bool} {live live_new : ℕ → ℕ} {spare : (ℕ → ℕ) → ℕ} {t : Tree} {bits w : ℕ} {cs : List Cell} (o : ℕ) (ts : Twigs) → bits ≡ bitmap_of ts → RowLies has w cs → cs ≡ tops_of ts → AllBeneath has ts →

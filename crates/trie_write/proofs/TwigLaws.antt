@@ -1,12 +1,12 @@
 -- The twigs of a branch: their cells as a list, and what hangs on them.
-use Rattle.std.proofs.Common.{◌≡◌, ℕ, zero, suc, ◌+◌, ◌<◌, ◌≤◌, ◌⊎◌, Bool, true, ltb, List, [], ◌∷◌, ◌++◌, length, slice_get, Some, arith, inl, inr, refl, sym, ◌∙◌, ap, subst}
+use Rattle.std.proofs.Common.{◌≡◌, ℕ, zero, suc, ◌+◌, ◌<◌, ◌≤◌, Bool, true, ltb, List, [], ◌∷◌, ◌++◌, length, slice_get, Some, arith, inl, inr, refl, sym, ◌∙◌, ap, subst}
 use Rattle.std.proofs.lemmas.Bool.{cases_lt}
 use Rattle.std.proofs.lemmas.Bool.Decides.{nat_tests}
 use Rattle.packed_node.specs.declared.Cell.{Cell}
-use Rattle.trie_model.specs.Keys.{at, Same, Entry, InList}
+use Rattle.trie_model.specs.Keys.{at, Entry, InList}
 use Rattle.trie_model.specs.Memory.{top_cell, Beneath, Lie}
 use Rattle.trie_model.specs.Reach.{weigh_tree, WithinTree, Within}
-use Rattle.trie_model.specs.Trees.{Tree, Twigs, entries_of, entries, count, Agree, IsTree, beside}
+use Rattle.trie_model.specs.Trees.{Tree, Twigs, entries_of, count, Agree, IsTree, beside}
 use Rattle.trie_model.specs.Trees.Tree.{leaf, branch}
 use Rattle.trie_model.specs.Trees.Twigs.{none, twig}
 use Rattle.trie_model.proofs.BitmapLaws.{Rising}

@@ -1,13 +1,12 @@
 -- A test that each reference passes, and how often a reference is met.
-use Rattle.std.proofs.Common.{◌≡◌, ℕ, zero, suc, ◌+◌, ◌<◌, ◌≤◌, ◌⊎◌, inl, inr, Bool, true, false, cond, eqb, count_by, List, ◌-◌, arith, refl, sym, ◌∙◌, ap, subst}
-use Rattle.std.proofs.lemmas.Bool.{true≢false, cases_eq, cases_lt}
+use Rattle.std.proofs.Common.{◌≡◌, ℕ, zero, suc, ◌+◌, ◌<◌, ◌≤◌, ◌⊎◌, inl, inr, Bool, true, false, cond, List, ◌-◌, arith, refl, sym, ◌∙◌, ap}
+use Rattle.std.proofs.lemmas.Bool.{true≢false, cases_lt}
 use Rattle.std.proofs.lemmas.Bool.Decides.{nat_tests}
 use Rattle.trie_model.specs.Trees.{Tree, Twigs, cells_in}
 use Rattle.trie_model.specs.Trees.Tree.{leaf, branch}
 use Rattle.trie_model.specs.Trees.Twigs.{none, twig}
-use Rattle.trie_model.specs.Reach.{reach, row, weigh_tree, weigh, WithinTree, Within}
-use Rattle.trie_model.proofs.ReachLaws.{met}
-use Rattle.chunk_usage.specs.Rooms.{Room, Grows}
+use Rattle.trie_model.specs.Reach.{row, weigh_tree, weigh, WithinTree, Within}
+use Rattle.chunk_usage.specs.Rooms.{Room}
 use Rattle.trie_write.specs.Weights.{at_place, mark}
 
 pub at_itself : (q : ℕ) → ◌≡◌ {A = ℕ} (at_place q q) 1

@@ -1,5 +1,5 @@
 -- What an insertion below a root is asked.
-use Rattle.std.specs.Prelude.{◌≡◌, ℕ, Bool, List, [], ◌∷◌}
+use Rattle.std.specs.Prelude.{◌≡◌, ℕ, Bool, List}
 use Rattle.packed_node.specs.declared.Cell.{Cell}
 use Rattle.trie_model.specs.Keys.{Entry, IsEntry}
 use Rattle.trie_model.specs.Memory.{top_cell}

@@ -11,4 +11,3 @@ pub mod Paths
 pub mod Nearness
 pub mod Roots
 pub mod Inserts
-pub mod Exchanges

@@ -1,5 +1,5 @@
 -- How entries in the order of their keys part at a place.
-use Rattle.std.specs.Prelude.{◌≡◌, ℕ, ◌<◌, ◌≤◌, List, [], ◌∷◌, length, take, drop}
+use Rattle.std.specs.Prelude.{ℕ, ◌<◌, ◌≤◌, List, [], ◌∷◌, length, take, drop}
 use Rattle.trie_model.specs.Keys.{at, Entry, InList}
 use Rattle.trie_model.specs.Trees.{AllAt}
 

@@ -4,7 +4,7 @@ use Rattle.packed_node.specs.declared.Cell.{Cell}
 use Rattle.packed_node.specs.declared.Leaf.{Leaf}
 use Rattle.packed_node.specs.declared.Branch.{Branch}
 use Rattle.trie_model.specs.Changes.{Nearest, Grown, Deep}
-use Rattle.trie_model.specs.Keys.{Entry, IsEntry, InList}
+use Rattle.trie_model.specs.Keys.{Entry, IsEntry}
 use Rattle.trie_model.specs.Memory.{Beneath, ItemLies, top_cell}
 use Rattle.trie_model.specs.Reach.{row, in_chunk, weigh_tree, WithinTree}
 use Rattle.trie_model.specs.Trees.{Tree, Twigs, entries_of, bitmap_of, cells_in, IsRow, IsTree}

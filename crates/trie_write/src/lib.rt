@@ -15,3 +15,6 @@ pub use bulk::build;
 pub use insertion::{InsertRefusal, insert};
 pub use item::{Item, ItemRefusal};
 pub use size::cells;
+
+#[cfg(test)]
+mod tests;

@@ -1,4 +1,4 @@
-use Rattle.std.proofs.Common.{◌≡◌, ℕ, ◌+◌, ◌<◌, ◌≤◌, length}
+use Rattle.std.proofs.Common.{◌≡◌, length}
 use Rattle.chunk_usage.specs.Rooms.{Ready}
 use Rattle.trie_write.specs.Entries.{entries_of_items}
 use Rattle.trie_write.specs.Frames.{Frame}

@@ -1,4 +1,4 @@
-use Rattle.std.proofs.Common.{◌≡◌, ◌+◌, ℕ, List, [], ◌∷◌, length, arith, sym, ◌∙◌, ap, subst}
+use Rattle.std.proofs.Common.{ℕ, List, [], ◌∷◌, length, arith, sym, ap, subst}
 use Rattle.trie_model.specs.Keys.{Entry, IsEntry}
 use Rattle.trie_write.specs.Builds.{Built}
 use Rattle.trie_write.specs.Entries.{entry_of}

@@ -1,15 +1,11 @@
-use Rattle.std.proofs.Common.{◌≡◌, ℕ, ◌+◌, ◌-◌, ◌/◌, ◌<◌, ◌≤◌, ◌++◌, ◌∷◌, List, Contains, count_ones, true, refl, sym, ◌∙◌, ap, subst, arith, rules}
+use Rattle.std.proofs.Common.{◌≡◌, ℕ, ◌+◌, ◌-◌, ◌/◌, ◌<◌, List, Contains, true, refl, sym, ◌∙◌, ap, subst, arith, rules}
 use Rattle.packed_node.specs.declared.Cell.{Cell}
-use Rattle.packed_node.specs.declared.Branch.{Branch}
-use Rattle.packed_node.specs.declared.Node.{Node}
-use Rattle.packed_node.specs.declared.Node.TheVariants as node
 use Rattle.trie_model.specs.Trees.{IsRow}
 use Rattle.trie_model.specs.Reach.{row, in_chunk}
 use Rattle.chunk_cells.specs.Chunks.{IsGiven}
-use Rattle.chunk_usage.specs.Rooms.{Ready, Room}
+use Rattle.chunk_usage.specs.Rooms.{Ready}
 use Rattle.trie_write.specs.Frames.{Frame}
 use Rattle.trie_write.specs.Steps.{AsksBranch, Grew}
-use Rattle.trie_write.specs.Rows.{RowLies}
 use Rattle.trie_write.proofs.FrameLaws.{frame_put, ready_put, room_unkept, ok_map, lt_of}
 use Rattle.trie_write.proofs.StepLaws.{numbers, row_is, cell_there, cell_used, twig_there, part_counted, moved_branch, left_row, rest_row, left_length, rest_length, left_used, rest_used}
 use Rattle.trie_write.proofs.InsertLaws as inserting

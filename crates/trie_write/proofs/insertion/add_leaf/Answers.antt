@@ -1,11 +1,9 @@
-use Rattle.std.proofs.Common.{◌≡◌, ℕ, ◌+◌, ◌-◌, ◌<◌, ◌^◌, ◌++◌, [], ◌∷◌, List, length, sym, ◌∙◌, ap, subst, arith, length-append}
+use Rattle.std.proofs.Common.{◌≡◌, ℕ, ◌+◌, ◌++◌, [], ◌∷◌, List, length, sym, ◌∙◌, ap, subst, arith, length-append}
 use Rattle.packed_node.specs.declared.Cell.{Cell}
 use Rattle.packed_node.specs.Nodes.{IsBranch, branch_cell, leaf_cell}
 use Rattle.chunk_usage.specs.Rooms.{Room}
 use Rattle.trie_model.specs.Reach.{row, in_chunk}
-use Rattle.trie_write.specs.Rows.{RowLies}
 use Rattle.trie_write.specs.Steps.{Grew}
-use Rattle.trie_write.proofs.FrameLaws.{apart_from}
 use Rattle.trie_write.proofs.InsertLaws as inserting
 use Rattle.trie_write.proofs.InsertLaws.{grew_later}
 use Rattle.trie_write.proofs.insertion.add_leaf.Goals as goal

@@ -1,5 +1,4 @@
-use Rattle.std.proofs.Common.{◌≡◌, ℕ, ◌+◌, ◌/◌, List, Contains, refl, sym, ◌∙◌, ap, subst, arith}
-use Rattle.chunk_cells.specs.Chunks.{IsGiven}
+use Rattle.std.proofs.Common.{◌≡◌, ℕ, ◌+◌, List, Contains, refl, ◌∙◌, subst, arith}
 use Rattle.trie_write.proofs.FrameLaws.{frame_put, room_unkept}
 use Rattle.trie_write.proofs.InsertLaws.{laid_used}
 use Rattle.trie_write.proofs.RootLaws.{asks_later, root_became}

@@ -1,11 +1,10 @@
-use Rattle.std.proofs.Common.{w8, ◌≡◌, ℕ, ◌+◌, [], ◌∷◌, List, Option, Some, None, refl, sym, ◌∙◌, ap, subst, arith}
+use Rattle.std.proofs.Common.{w8, ℕ, [], ◌∷◌, Option, refl, sym, ◌∙◌, subst, arith}
 use Rattle.std.proofs.Math.Facts.{Fits-lt-pow}
 use Rattle.zone_model.specs.Keys.{Leads}
-use Rattle.trie_model.specs.Keys.{Entry, InList}
-use Rattle.trie_model.specs.Trees.{entries_of}
+use Rattle.trie_model.specs.Keys.{InList}
 use Rattle.trie_read.specs.Reads.{EachTells}
 use Rattle.trie_write.specs.Roots.{OnPath}
-use Rattle.trie_write.specs.Standing.{StandsIn, Standing}
+use Rattle.trie_write.specs.Standing.{Standing}
 use Rattle.trie_write.proofs.RootLaws.{leads_key, leads_some, leads_entry, entry_with, asks_here, not_there, inserted_first, standing_later}
 use Rattle.trie_write.proofs.insertion.insert.Goals as goal
 

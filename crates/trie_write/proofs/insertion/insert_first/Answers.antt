@@ -1,4 +1,4 @@
-use Rattle.std.proofs.Common.{◌≡◌, ℕ, ◌+◌, List, length, refl, sym, ◌∙◌, ap, subst}
+use Rattle.std.proofs.Common.{ℕ, ◌+◌, List, length, refl, sym, ◌∙◌, ap, subst}
 use Rattle.trie_model.specs.Memory.{ItemLies}
 use Rattle.trie_model.specs.Reach.{row, in_chunk}
 use Rattle.trie_model.specs.Trees.{cells_in}

@@ -1,4 +1,4 @@
-use Rattle.std.proofs.Common.{◌≡◌, ℕ, ◌+◌, List, refl, sym, ◌∙◌, ap, subst, arith}
+use Rattle.std.proofs.Common.{ℕ, ◌+◌, List, ◌∙◌, ap, subst, arith}
 use Rattle.trie_model.specs.Changes.{Inserted}
 use Rattle.trie_model.specs.Keys.{Entry}
 use Rattle.trie_model.specs.Reach.{row, in_chunk}

@@ -1,4 +1,4 @@
-use Rattle.std.proofs.Common.{◌≡◌, ℕ, ◌+◌, ◌^◌, List, [], ◌∷◌, length, sym, ◌∙◌, ap, subst}
+use Rattle.std.proofs.Common.{ℕ, ◌+◌, [], ◌∷◌, sym, ◌∙◌, ap, subst}
 use Rattle.packed_node.specs.declared.Cell.{Cell}
 use Rattle.packed_node.specs.Nodes.{IsBranch, branch_cell}
 use Rattle.chunk_usage.specs.Rooms.{Room}

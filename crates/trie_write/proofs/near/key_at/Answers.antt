@@ -1,4 +1,4 @@
-use Rattle.std.proofs.Common.{◌≡◌, List, ℕ, take, arith, sym, ◌∙◌, ap, subst}
+use Rattle.std.proofs.Common.{arith, sym, ◌∙◌}
 use Rattle.trie_model.specs.Memory.{item_cell}
 use Rattle.trie_write.proofs.NearLaws.{has_name, name_is}
 use Rattle.trie_write.proofs.near.key_at.Goals as goal

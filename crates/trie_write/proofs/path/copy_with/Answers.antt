@@ -1,4 +1,4 @@
-use Rattle.std.proofs.Common.{◌≡◌, ℕ, ◌+◌, ◌-◌, ◌<◌, ◌++◌, [], ◌∷◌, List, Contains, length, arith, sym, ◌∙◌, ap, subst, length-append}
+use Rattle.std.proofs.Common.{◌≡◌, ℕ, ◌+◌, [], ◌∷◌, List, Contains, length, arith, sym, ◌∙◌, ap, subst, length-append}
 use Rattle.packed_node.specs.declared.Cell.{Cell}
 use Rattle.trie_write.proofs.path.copy_with.Goals as goal
 

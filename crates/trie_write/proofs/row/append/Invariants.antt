@@ -1,4 +1,4 @@
-use Rattle.std.proofs.Common.{◌≡◌, ℕ, ◌+◌, ◌++◌, List, length, take}
+use Rattle.std.proofs.Common.{◌≡◌, ◌+◌, ◌++◌, List, length, take}
 use Rattle.packed_node.specs.declared.Cell.{Cell}
 use Rattle.trie_write.specs.Rows.{RowLies}
 use Rattle.trie_write.proofs.row.append.Given as goal

@@ -1,8 +1,7 @@
-use Rattle.std.proofs.Common.{◌≡◌, ℕ, suc, ◌+◌, ◌-◌, ◌/◌, ◌<◌, ◌≤◌, Some, List, length, take, drop, slice_get, arith, sym, ◌∙◌, ap, subst, refl, inl, inr}
+use Rattle.std.proofs.Common.{◌≡◌, ℕ, suc, ◌+◌, ◌-◌, ◌/◌, ◌<◌, ◌≤◌, List, length, take, drop, arith, sym, ◌∙◌, ap, subst, refl, inl, inr}
 use Rattle.std.proofs.lemmas.Bool.{cases_lt}
 use Rattle.std.proofs.lemmas.List.{length-map}
-use Rattle.trie_model.specs.Keys.{at, Entry, InList}
-use Rattle.trie_model.specs.Trees.{AllAt}
+use Rattle.trie_model.specs.Keys.{at, InList}
 use Rattle.trie_write.specs.Entries.{entry_of, entries_of_items}
 use Rattle.trie_write.proofs.RunLaws.{item_entry, item_place, taken_at, high_part, nothing_past, in_place}
 use Rattle.trie_write.proofs.runs.first_run.Goals as goal

@@ -1,4 +1,4 @@
-use Rattle.std.proofs.Common.{◌≡◌, ℕ, ◌-◌, ◌<◌, ◌≤◌, Some, length, take, drop, slice_get}
+use Rattle.std.proofs.Common.{◌-◌, ◌<◌, ◌≤◌, length, take, drop}
 use Rattle.trie_model.specs.Keys.{at, Entry, InList}
 use Rattle.trie_model.specs.Trees.{AllAt}
 use Rattle.trie_write.specs.Entries.{entries_of_items}

@@ -1,4 +1,4 @@
-use Rattle.std.proofs.Common.{◌≡◌, List, ℕ, sym, ◌∙◌, subst, ap}
+use Rattle.std.proofs.Common.{List, ℕ, sym, ◌∙◌, subst}
 use Rattle.zone_model.specs.Keys.{IsFirstDifference}
 use Rattle.trie_write.specs.Named.{key_in}
 use Rattle.trie_write.proofs.ItemLaws.{some_or}

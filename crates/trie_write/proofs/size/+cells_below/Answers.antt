@@ -1,4 +1,4 @@
-use Rattle.std.proofs.Common.{◌≡◌, ℕ, suc, ◌+◌, ◌-◌, ◌<◌, ◌≤◌, List, length, min, take, drop, arith, sym, ◌∙◌, ap, subst, rules, eqb-true}
+use Rattle.std.proofs.Common.{◌≡◌, ℕ, ◌+◌, ◌<◌, List, length, min, take, drop, arith, sym, ◌∙◌, ap, subst, rules, eqb-true}
 use Rattle.std.proofs.lemmas.List.{length-map, take-map, drop-map}
 use Rattle.trie_model.specs.Keys.{Entry, Rises}
 use Rattle.trie_model.specs.Shape.{cells}

@@ -1,4 +1,4 @@
-use Rattle.std.proofs.Common.{◌≡◌, ℕ, suc, ◌+◌, ◌<◌, ◌≤◌, length, min}
+use Rattle.std.proofs.Common.{◌≡◌, ℕ, suc, length, min}
 use Rattle.trie_write.specs.Entries.{entries_of_items}
 use Rattle.trie_write.proofs.PlanLaws.{Plan}
 use Rattle.trie_write.proofs.size.+cells_below.Given as goal

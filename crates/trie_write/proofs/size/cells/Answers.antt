@@ -1,4 +1,4 @@
-use Rattle.std.proofs.Common.{◌≡◌, ℕ, List, length, min, arith, ap, eqb-true, ◌∙◌, sym}
+use Rattle.std.proofs.Common.{◌≡◌, length, min, arith, eqb-true, ◌∙◌, sym}
 use Rattle.trie_write.specs.Entries.{entries_of_items}
 use Rattle.trie_model.specs.Shape.{cells}
 use Rattle.trie_write.proofs.PlanLaws.{no_items}

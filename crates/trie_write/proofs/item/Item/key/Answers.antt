@@ -1,9 +1,6 @@
-use Rattle.std.proofs.Common.{◌≡◌, ◌++◌, List, ℕ, Option, Some, None, refl, sym, ◌∙◌, ap, subst}
-use Rattle.std.specs.Option.{IsSome, IsNone}
-use Rattle.zone_model.specs.Names.{Name, IsName, BeginsWith}
-use Rattle.zone_model.specs.Keys.{key_of}
-use Rattle.trie_write.specs.Named.{key_in}
-use Rattle.trie_write.proofs.ItemLaws.{IsStored, name_of, some_or, key_in-begins}
+use Rattle.std.proofs.Common.{List, ℕ, sym, ◌∙◌, subst}
+use Rattle.zone_model.specs.Names.{BeginsWith}
+use Rattle.trie_write.proofs.ItemLaws.{name_of, some_or, key_in-begins}
 use Rattle.trie_write.proofs.item.Item.key.Goals as goal
 
 pub unwrap-requires : goal.unwrap-requires

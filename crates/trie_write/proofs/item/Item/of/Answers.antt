@@ -1,7 +1,6 @@
 use Rattle.std.proofs.Math.Facts.{Fits-lt-pow}
-use Rattle.std.proofs.Common.{w8, ◌≡◌, ◌++◌, ◌≤◌, List, ℕ, length, sym, ◌∙◌, ap, arith, length-append}
+use Rattle.std.proofs.Common.{w8, ◌≡◌, ◌++◌, ◌≤◌, List, ℕ, length, ◌∙◌, ap, arith, length-append}
 use Rattle.zone_model.specs.Names.{wire}
-use Rattle.zone_model.specs.Keys.{key_of}
 use Rattle.trie_model.specs.Keys.{Entry}
 use Rattle.trie_write.specs.Named.{key_in}
 use Rattle.trie_write.proofs.ItemLaws.{stored_of, key_in-wire}
