@@ -11,3 +11,5 @@ pub mod UnpackLaws
 pub mod NearLaws
 pub mod InsertLaws
 pub mod RootLaws
+pub mod ExchangeLaws
+pub mod TopLaws

@@ -11,3 +11,5 @@ pub mod Paths
 pub mod Nearness
 pub mod Roots
 pub mod Inserts
+pub mod Tops
+pub mod Exchanges

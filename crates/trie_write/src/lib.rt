@@ -6,14 +6,17 @@ mod insertion;
 pub mod item;
 mod near;
 mod path;
+mod replacement;
 mod room;
 mod row;
 mod runs;
 mod size;
+mod top;
 
 pub use bulk::build;
 pub use insertion::{InsertRefusal, insert};
 pub use item::{Item, ItemRefusal};
+pub use replacement::{ChangeRefusal, replace};
 pub use size::cells;
 
 #[cfg(test)]

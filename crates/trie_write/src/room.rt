@@ -101,3 +101,18 @@ pub fn place_item<C: CellWrite, U: Space>(
     write_item(cells, at, item);
     Ok(Leaf { len, at })
 }
+
+/// The cells of a leaf's item count no more.
+pub fn release_item<U: Space>(usage: &mut U, leaf: Leaf)
+    requires counted { (k : ℕ) → row_of (in_chunk k) leaf.at ((leaf.len + 15) / 16) ≤ U.live usage.old k }
+    requires row { IsRow leaf.at ((leaf.len + 15) / 16) }
+    ensures counts { (k : ℕ) → U.live usage.new k + row_of (in_chunk k) leaf.at ((leaf.len + 15) / 16) ≡ U.live usage.old k }
+    ensures used { (q : ℕ) → U.used usage.new q ≡ U.used usage.old q }
+    ensures fresh { (q : ℕ) → U.fresh usage.new q ≡ U.fresh usage.old q }
+    ensures given { U.given usage.new ≡ U.given usage.old }
+    ensures spent { U.spent usage.new ≡ U.spent usage.old }
+    ensures frozen { U.frozen usage.new ≡ U.frozen usage.old }
+    ensures lacks { (f : _) → U.lacks usage.old f → U.lacks usage.new f }
+{
+    usage.release(leaf.at, cells_for(leaf.len));
+}

@@ -8,7 +8,7 @@ ghost use Rattle.chunk_usage.specs.Rooms.{Ready};
 ghost use Rattle.trie_write.specs.Entries.{entries_of_items};
 ghost use Rattle.trie_write.specs.Standing.{Standing};
 
-use super::{InsertRefusal, Item, ItemRefusal, build, cells, insert};
+use super::{InsertRefusal, Item, ItemRefusal, build, cells, insert, replace};
 use chunk_cells::{CellWrite, PlainCells};
 use chunk_usage::{Space, Usage};
 use dns_name::Name;
@@ -46,7 +46,7 @@ fn put<C: CellWrite, U: Space>(
     insert(cells, usage, root, &item.key(), item.octets())
 }
 
-/// How many names and nodes the trie of some items has once another is put in.
+/// How many names and nodes the trie of some items has once another is put in. That one is then exchanged for itself.
 fn sizes_with<C: CellWrite, U: Space>(
     cells: &mut C,
     usage: &mut U,
@@ -62,7 +62,11 @@ fn sizes_with<C: CellWrite, U: Space>(
         Ok(root) => {
             let root = put(cells, usage, root, item)?;
             let names = count(cells, root);
-            Ok((names, nodes(cells, root)))
+            let all = nodes(cells, root);
+            match replace(cells, usage, root, &item.key(), item.octets()) {
+                Ok(_) => Ok((names, all)),
+                Err(_) => Err(InsertRefusal::Exists),
+            }
         }
     }
 }

@@ -1,0 +1,128 @@
+use Rattle.std.proofs.Common.{◌≡◌, ℕ, ◌+◌, ◌-◌, ◌/◌, ◌<◌, List, Contains, true, refl, sym, ◌∙◌, ap, subst, arith, rules}
+use Rattle.packed_node.specs.declared.Cell.{Cell}
+use Rattle.trie_model.specs.Trees.{IsRow}
+use Rattle.trie_model.specs.Reach.{row, in_chunk}
+use Rattle.chunk_cells.specs.Chunks.{IsGiven}
+use Rattle.chunk_usage.specs.Rooms.{Ready}
+use Rattle.trie_write.specs.Frames.{Frame}
+use Rattle.trie_write.specs.Exchanges.{Exchanges}
+use Rattle.trie_write.proofs.FrameLaws.{frame_put, ready_put, room_unkept}
+use Rattle.trie_write.proofs.StepLaws.{numbers, row_is, cell_there, cell_used, twig_there, part_counted, moved_branch, left_row, rest_row, left_length, rest_length, left_used, rest_used}
+use Rattle.trie_write.proofs.InsertLaws.{laid_used, laid_leaf}
+use Rattle.trie_write.proofs.ExchangeLaws.{branch_exchange, exchange_inside, exchange_down, exchange_asks, exchange_path, exchange_grew, old_counted, old_row, leaf_exchanged}
+use Rattle.trie_write.proofs.replacement.+exchange.Goals as goal
+
+pub twig_index-index-requires : goal.twig_index-index-requires
+twig_index-index-requires g t c = exchange_inside (branch_exchange c.requires.asks.asks (c.in-Ok.ensures.branch c.args.low _ c.requires.asks.asks.held.tree c.requires.asks.asks.held.is)) c.at.ensures refl refl
+
+pub room-requires-clause-some : goal.room-requires-clause-some
+room-requires-clause-some g t c = let n = numbers (exchange_down (branch_exchange c.requires.asks.asks (c.in-Ok.ensures.branch c.args.low _ c.requires.asks.asks.held.tree c.requires.asks.asks.held.is)) c.at.ensures c.twig_index-index.ensures.by_popcount c.twig_count-n.ensures) in let m = n.2 in omega arith
+
+pub cell-next-requires : goal.cell-next-requires
+cell-next-requires g t c = record { there = (_, c.in_ok-to-in-Ok.ensures.all _ _ (twig_there (exchange_down (branch_exchange c.requires.asks.asks (c.in-Ok.ensures.branch c.args.low _ c.requires.asks.asks.held.tree c.requires.asks.asks.held.is)) c.at.ensures c.twig_index-index.ensures.by_popcount c.twig_count-n.ensures))) }
+
+pub exchange-requires : goal.exchange-requires
+exchange-requires g t c κs within =
+    let n = numbers (exchange_down (branch_exchange c.requires.asks.asks (c.in-Ok.ensures.branch c.args.low _ c.requires.asks.asks.held.tree c.requires.asks.asks.held.is)) c.at.ensures c.twig_index-index.ensures.by_popcount c.twig_count-n.ensures) in
+    let f : 504 - (c.in-Ok.branch.offset + 1) < 504 - c.args.low = let x = n.3 in let y = n.4 in omega arith in (
+      search (rules, f),
+      (
+        within.0,
+        (
+          within.1,
+          (
+            record { t = (exchange_down (branch_exchange c.requires.asks.asks (c.in-Ok.ensures.branch c.args.low _ c.requires.asks.asks.held.tree c.requires.asks.asks.held.is)) c.at.ensures c.twig_index-index.ensures.by_popcount c.twig_count-n.ensures).found.here; e = c.requires.asks.e; asks = (exchange_asks (branch_exchange c.requires.asks.asks (c.in-Ok.ensures.branch c.args.low _ c.requires.asks.asks.held.tree c.requires.asks.asks.held.is)) c.at.ensures c.twig_index-index.ensures.by_popcount c.twig_count-n.ensures {now = g.C.CellRead.has c.cell-next.new.self} {used_now = g.U.Space.used c.room.new.usage} {live_now = g.U.Space.live c.room.new.usage} {next = c.cell-next.result} (λ z. let m = c.in_ok-to-in-Ok.ensures.counts z in omega arith) (λ z x u m. subst (λ s. g.C.CellRead.has s z x) (sym c.cell-next.ensures.same) (c.in_ok-to-in-Ok.ensures.frame.stays z x u m)) c.in_ok-to-in-Ok.ensures.frame.grows.stays (c.cell-next.ensures.value _ (c.in_ok-to-in-Ok.ensures.all _ _ (twig_there (exchange_down (branch_exchange c.requires.asks.asks (c.in-Ok.ensures.branch c.args.low _ c.requires.asks.asks.held.tree c.requires.asks.asks.held.is)) c.at.ensures c.twig_index-index.ensures.by_popcount c.twig_count-n.ensures))))) },
+            subst (λ s. Ready (g.C.CellWrite.kept s) (g.C.CellWrite.given s) (g.U.Space.given c.room.new.usage) (g.U.Space.used c.room.new.usage) (g.U.Space.fresh c.room.new.usage)) (sym c.cell-next.ensures.same) c.in_ok-to-in-Ok.ensures.ready,
+          ),
+        ),
+      ),
+    )
+
+pub returns-in_err-to-in-Ok-clause-spends : goal.returns-in_err-to-in-Ok-clause-spends
+returns-in_err-to-in-Ok-clause-spends g t c x e asks = let p = exchange_path (branch_exchange asks (c.in-Ok.ensures.branch c.args.low _ asks.held.tree asks.held.is)) c.at.ensures c.twig_index-index.ensures.by_popcount c.twig_count-n.ensures in let s = c.room.ensures.spends in omega arith
+
+pub put_branch-requires-clause-index : goal.put_branch-requires-clause-index
+put_branch-requires-clause-index g t c = let n = numbers (exchange_down (branch_exchange c.requires.asks.asks (c.in-Ok.ensures.branch c.args.low _ c.requires.asks.asks.held.tree c.requires.asks.asks.held.is)) c.at.ensures c.twig_index-index.ensures.by_popcount c.twig_count-n.ensures) in let i = n.0 in let m = c.twig_count-n.ensures in omega arith
+
+pub put_branch-requires-clause-few : goal.put_branch-requires-clause-few
+put_branch-requires-clause-few g t c = let n = numbers (exchange_down (branch_exchange c.requires.asks.asks (c.in-Ok.ensures.branch c.args.low _ c.requires.asks.asks.held.tree c.requires.asks.asks.held.is)) c.at.ensures c.twig_index-index.ensures.by_popcount c.twig_count-n.ensures) in let i = n.1 in let m = c.twig_count-n.ensures in omega arith
+
+pub put_branch-requires-clause-node : goal.put_branch-requires-clause-node
+put_branch-requires-clause-node g t c = moved_branch (exchange_down (branch_exchange c.requires.asks.asks (c.in-Ok.ensures.branch c.args.low _ c.requires.asks.asks.held.tree c.requires.asks.asks.held.is)) c.at.ensures c.twig_index-index.ensures.by_popcount c.twig_count-n.ensures) c.in_ok-to-in-Ok.ensures.room c.in_ok-to-in-Ok.ensures.frame.grows.stays (laid_used c.requires.asks.asks.laid)
+
+pub put_branch-requires-clause-from_row : goal.put_branch-requires-clause-from_row
+put_branch-requires-clause-from_row g t c = subst (IsRow c.in-Ok.branch.twigs) c.twig_count-n.ensures (row_is (exchange_down (branch_exchange c.requires.asks.asks (c.in-Ok.ensures.branch c.args.low _ c.requires.asks.asks.held.tree c.requires.asks.asks.held.is)) c.at.ensures c.twig_index-index.ensures.by_popcount c.twig_count-n.ensures))
+
+pub put_branch-requires-clause-row : goal.put_branch-requires-clause-row
+put_branch-requires-clause-row g t c = subst (IsRow c.in_ok-to-in-Ok.to) c.twig_count-n.ensures c.in_ok-to-in-Ok.ensures.room.row
+
+pub put_branch-requires-clause-there : goal.put_branch-requires-clause-there
+put_branch-requires-clause-there g t c i l =
+    let inside : i < c.twig_count-n.result = let m = c.twig_count-n.ensures in omega arith in
+    let x = cell_there (exchange_down (branch_exchange c.requires.asks.asks (c.in-Ok.ensures.branch c.args.low _ c.requires.asks.asks.held.tree c.requires.asks.asks.held.is)) c.at.ensures c.twig_index-index.ensures.by_popcount c.twig_count-n.ensures) i inside in
+    let used = c.in_ok-to-in-Ok.ensures.frame.grows.stays _ (cell_used (exchange_down (branch_exchange c.requires.asks.asks (c.in-Ok.ensures.branch c.args.low _ c.requires.asks.asks.held.tree c.requires.asks.asks.held.is)) c.at.ensures c.twig_index-index.ensures.by_popcount c.twig_count-n.ensures) i inside) in
+    (x.0, c.in-Ok-exchange.ensures.frame.stays _ x.0 used (subst (λ s. g.C.CellRead.has s (c.in-Ok.branch.twigs + i) x.0) (sym c.cell-next.ensures.same) (c.in_ok-to-in-Ok.ensures.all _ x.0 x.1)))
+
+pub put_branch-requires-clause-given : goal.put_branch-requires-clause-given
+put_branch-requires-clause-given g t c = c.in-Ok-exchange.ensures.frame.given_stays _ (subst (λ s. IsGiven (g.C.CellWrite.given s) (c.in_ok-to-in-Ok.to / 1024)) (sym c.cell-next.ensures.same) c.in_ok-to-in-Ok.ensures.room.in_given)
+
+pub put_branch-requires-clause-unkept : goal.put_branch-requires-clause-unkept
+put_branch-requires-clause-unkept g t c i l h =
+    let kept = c.in-Ok-exchange.ensures.frame.keeps ∙ ap (λ s. g.C.CellWrite.kept s) c.cell-next.ensures.same ∙ c.in_ok-to-in-Ok.ensures.frame.keeps in
+    room_unkept c.in_ok-to-in-Ok.ensures.room c.requires.ready i (let m = c.twig_count-n.ensures in omega arith) (subst (λ (qs : List ℕ). Contains qs (c.in_ok-to-in-Ok.to + i)) kept h)
+
+pub put_branch-requires-clause-counted : goal.put_branch-requires-clause-counted
+put_branch-requires-clause-counted g t c k =
+    let grew = c.in-Ok-exchange.ensures.exchanged (exchange_down (branch_exchange c.requires.asks.asks (c.in-Ok.ensures.branch c.args.low _ c.requires.asks.asks.held.tree c.requires.asks.asks.held.is)) c.at.ensures c.twig_index-index.ensures.by_popcount c.twig_count-n.ensures).found.here c.requires.asks.e (exchange_asks (branch_exchange c.requires.asks.asks (c.in-Ok.ensures.branch c.args.low _ c.requires.asks.asks.held.tree c.requires.asks.asks.held.is)) c.at.ensures c.twig_index-index.ensures.by_popcount c.twig_count-n.ensures {now = g.C.CellRead.has c.cell-next.new.self} {used_now = g.U.Space.used c.room.new.usage} {live_now = g.U.Space.live c.room.new.usage} {next = c.cell-next.result} (λ z. let m = c.in_ok-to-in-Ok.ensures.counts z in omega arith) (λ z x u m. subst (λ s. g.C.CellRead.has s z x) (sym c.cell-next.ensures.same) (c.in_ok-to-in-Ok.ensures.frame.stays z x u m)) c.in_ok-to-in-Ok.ensures.frame.grows.stays (c.cell-next.ensures.value _ (c.in_ok-to-in-Ok.ensures.all _ _ (twig_there (exchange_down (branch_exchange c.requires.asks.asks (c.in-Ok.ensures.branch c.args.low _ c.requires.asks.asks.held.tree c.requires.asks.asks.held.is)) c.at.ensures c.twig_index-index.ensures.by_popcount c.twig_count-n.ensures))))) in
+    let p = part_counted (exchange_down (branch_exchange c.requires.asks.asks (c.in-Ok.ensures.branch c.args.low _ c.requires.asks.asks.held.tree c.requires.asks.asks.held.is)) c.at.ensures c.twig_index-index.ensures.by_popcount c.twig_count-n.ensures) k in
+    let a = c.in_ok-to-in-Ok.ensures.counts k in
+    let d = grew.became.counts k in
+    let r = ap (row (in_chunk k) c.in-Ok.branch.twigs) c.twig_count-n.ensures in omega arith
+
+pub release_item-requires-clause-counted : goal.release_item-requires-clause-counted
+release_item-requires-clause-counted g t c k = let a = old_counted c.requires.asks.asks.held (c.in-Err.ensures.leaf c.args.low _ c.requires.asks.asks.held.tree c.requires.asks.asks.held.is) k in omega arith
+
+pub release_item-requires-clause-row : goal.release_item-requires-clause-row
+release_item-requires-clause-row g t c = old_row c.requires.asks.asks.held (c.in-Err.ensures.leaf c.args.low _ c.requires.asks.asks.held.tree c.requires.asks.asks.held.is)
+
+pub pack-requires : goal.pack-requires
+pack-requires g t c = laid_leaf c.requires.asks.asks.laid
+
+pub returns-in-Err-clause-exchanged : goal.returns-in-Err-clause-exchanged
+returns-in-Err-clause-exchanged g t c x e asks = leaf_exchanged asks (c.in-Err.ensures.leaf c.args.low _ asks.held.tree asks.held.is) c.release_item.ensures.counts (λ q u. c.release_item.ensures.used q ∙ u) c.pack.ensures
+
+pub returns-in-Err-exchange-clause-spends : goal.returns-in-Err-exchange-clause-spends
+returns-in-Err-exchange-clause-spends g t c x e asks =
+    let p = exchange_path (branch_exchange asks (c.in-Ok.ensures.branch c.args.low _ asks.held.tree asks.held.is)) c.at.ensures c.twig_index-index.ensures.by_popcount c.twig_count-n.ensures in
+    let s = c.exchange.ensures.spends (exchange_down (branch_exchange asks (c.in-Ok.ensures.branch c.args.low _ asks.held.tree asks.held.is)) c.at.ensures c.twig_index-index.ensures.by_popcount c.twig_count-n.ensures).found.here e (exchange_asks (branch_exchange asks (c.in-Ok.ensures.branch c.args.low _ asks.held.tree asks.held.is)) c.at.ensures c.twig_index-index.ensures.by_popcount c.twig_count-n.ensures {now = g.C.CellRead.has c.cell-next.new.self} {used_now = g.U.Space.used c.room.new.usage} {live_now = g.U.Space.live c.room.new.usage} {next = c.cell-next.result} (λ z. let m = c.in_ok-to-in-Ok.ensures.counts z in omega arith) (λ z x u m. subst (λ s. g.C.CellRead.has s z x) (sym c.cell-next.ensures.same) (c.in_ok-to-in-Ok.ensures.frame.stays z x u m)) c.in_ok-to-in-Ok.ensures.frame.grows.stays (c.cell-next.ensures.value _ (c.in_ok-to-in-Ok.ensures.all _ _ (twig_there (exchange_down (branch_exchange asks (c.in-Ok.ensures.branch c.args.low _ asks.held.tree asks.held.is)) c.at.ensures c.twig_index-index.ensures.by_popcount c.twig_count-n.ensures))))) in
+    let r = c.room.ensures.spends in
+    let m = c.release.ensures.spent in omega arith
+
+pub returns-in-Err-exchange-clause-frame : goal.returns-in-Err-exchange-clause-frame
+returns-in-Err-exchange-clause-frame g t c = frame_put c.in_ok-to-in-Ok.ensures.frame c.in_ok-to-in-Ok.ensures.room (subst (λ s. Frame (g.C.CellRead.has s) (g.C.CellRead.has c.exchange.new.cells) (g.C.CellWrite.kept s) (g.C.CellWrite.kept c.exchange.new.cells) (g.C.CellWrite.given s) (g.C.CellWrite.given c.exchange.new.cells) (g.U.Space.used c.room.new.usage) (g.U.Space.used c.exchange.new.usage) (g.U.Space.fresh c.room.new.usage) (g.U.Space.fresh c.exchange.new.usage)) c.cell-next.ensures.same c.in-Err-exchange.ensures.frame) (λ q x other h. h) refl refl c.release.ensures.used c.release.ensures.fresh
+
+pub returns-in-Ok-exchange-clause-spends : goal.returns-in-Ok-exchange-clause-spends
+returns-in-Ok-exchange-clause-spends g t c x e asks =
+    let p = exchange_path (branch_exchange asks (c.in-Ok.ensures.branch c.args.low _ asks.held.tree asks.held.is)) c.at.ensures c.twig_index-index.ensures.by_popcount c.twig_count-n.ensures in
+    let s = c.exchange.ensures.spends (exchange_down (branch_exchange asks (c.in-Ok.ensures.branch c.args.low _ asks.held.tree asks.held.is)) c.at.ensures c.twig_index-index.ensures.by_popcount c.twig_count-n.ensures).found.here e (exchange_asks (branch_exchange asks (c.in-Ok.ensures.branch c.args.low _ asks.held.tree asks.held.is)) c.at.ensures c.twig_index-index.ensures.by_popcount c.twig_count-n.ensures {now = g.C.CellRead.has c.cell-next.new.self} {used_now = g.U.Space.used c.room.new.usage} {live_now = g.U.Space.live c.room.new.usage} {next = c.cell-next.result} (λ z. let m = c.in_ok-to-in-Ok.ensures.counts z in omega arith) (λ z x u m. subst (λ s. g.C.CellRead.has s z x) (sym c.cell-next.ensures.same) (c.in_ok-to-in-Ok.ensures.frame.stays z x u m)) c.in_ok-to-in-Ok.ensures.frame.grows.stays (c.cell-next.ensures.value _ (c.in_ok-to-in-Ok.ensures.all _ _ (twig_there (exchange_down (branch_exchange asks (c.in-Ok.ensures.branch c.args.low _ asks.held.tree asks.held.is)) c.at.ensures c.twig_index-index.ensures.by_popcount c.twig_count-n.ensures))))) in
+    let r = c.room.ensures.spends in
+    let m = c.put_branch.ensures.spent in omega arith
+
+pub returns-in-Ok-exchange-clause-frame : goal.returns-in-Ok-exchange-clause-frame
+returns-in-Ok-exchange-clause-frame g t c =
+    frame_put c.in_ok-to-in-Ok.ensures.frame c.in_ok-to-in-Ok.ensures.room (subst (λ s. Frame (g.C.CellRead.has s) (g.C.CellRead.has c.exchange.new.cells) (g.C.CellWrite.kept s) (g.C.CellWrite.kept c.exchange.new.cells) (g.C.CellWrite.given s) (g.C.CellWrite.given c.exchange.new.cells) (g.U.Space.used c.room.new.usage) (g.U.Space.used c.exchange.new.usage) (g.U.Space.fresh c.room.new.usage) (g.U.Space.fresh c.exchange.new.usage)) c.cell-next.ensures.same c.in-Ok-exchange.ensures.frame) (λ q x other h. c.put_branch.ensures.others q x (λ i l. other i (let m = c.twig_count-n.ensures in omega arith)) h) c.put_branch.ensures.given c.put_branch.ensures.kept c.put_branch.ensures.used c.put_branch.ensures.fresh
+
+pub returns-in-Ok-exchange-clause-ready : goal.returns-in-Ok-exchange-clause-ready
+returns-in-Ok-exchange-clause-ready g t c = ready_put c.in-Ok-exchange.ensures.ready c.put_branch.ensures.given c.put_branch.ensures.kept c.put_branch.ensures.space c.put_branch.ensures.used c.put_branch.ensures.fresh
+
+pub returns-in-Ok-exchange-clause-exchanged : goal.returns-in-Ok-exchange-clause-exchanged
+returns-in-Ok-exchange-clause-exchanged g t c x e asks =
+    let down = exchange_down (branch_exchange asks (c.in-Ok.ensures.branch c.args.low _ asks.held.tree asks.held.is)) c.at.ensures c.twig_index-index.ensures.by_popcount c.twig_count-n.ensures in
+    let n = c.twig_count-n.ensures in
+    let later = λ (q : ℕ) (y : Cell) (u : g.U.Space.used c.args.usage.now q ≡ true) (m : g.C.CellRead.has c.args.cells.now q y). c.in-Ok-exchange.ensures.frame.stays q y (c.in_ok-to-in-Ok.ensures.frame.grows.stays q u) (subst (λ s. g.C.CellRead.has s q y) (sym c.cell-next.ensures.same) (c.in_ok-to-in-Ok.ensures.frame.stays q y u m)) in
+    subst (Exchanges (g.C.CellRead.has c.put_branch.new.cells) (g.U.Space.used c.args.usage.now) (g.U.Space.used c.put_branch.new.usage) (g.U.Space.live c.args.usage.now) (g.U.Space.live c.put_branch.new.usage) c.args.low c.args.leaf x e) (sym c.put_branch.ensures.cell)
+    (exchange_grew (branch_exchange asks (c.in-Ok.ensures.branch c.args.low _ asks.held.tree asks.held.is)) c.at.ensures c.twig_index-index.ensures.by_popcount c.twig_count-n.ensures {now = g.C.CellRead.has c.cell-next.new.self} {later = g.C.CellRead.has c.exchange.new.cells} {new = g.C.CellRead.has c.put_branch.new.cells} c.in_ok-to-in-Ok.ensures.room c.in_ok-to-in-Ok.ensures.frame.grows.stays c.in_ok-to-in-Ok.ensures.counts
+    (λ k. ap (λ (m : ℕ). g.U.Space.live c.put_branch.new.usage k + row (in_chunk k) c.in-Ok.branch.twigs m) n ∙ c.put_branch.ensures.counts k) (λ z x u m. subst (λ s. g.C.CellRead.has s z x) (sym c.cell-next.ensures.same) (c.in_ok-to-in-Ok.ensures.frame.stays z x u m)) c.in-Ok-exchange.ensures.frame.stays c.in-Ok-exchange.ensures.frame.grows.stays (λ q u. c.put_branch.ensures.used q ∙ u)
+    (c.in-Ok-exchange.ensures.exchanged down.found.here e (exchange_asks (branch_exchange asks (c.in-Ok.ensures.branch c.args.low _ asks.held.tree asks.held.is)) c.at.ensures c.twig_index-index.ensures.by_popcount c.twig_count-n.ensures {now = g.C.CellRead.has c.cell-next.new.self} {used_now = g.U.Space.used c.room.new.usage} {live_now = g.U.Space.live c.room.new.usage} {next = c.cell-next.result} (λ z. let m = c.in_ok-to-in-Ok.ensures.counts z in omega arith) (λ z x u m. subst (λ s. g.C.CellRead.has s z x) (sym c.cell-next.ensures.same) (c.in_ok-to-in-Ok.ensures.frame.stays z x u m)) c.in_ok-to-in-Ok.ensures.frame.grows.stays (c.cell-next.ensures.value _ (c.in_ok-to-in-Ok.ensures.all _ _ (twig_there (exchange_down (branch_exchange asks (c.in-Ok.ensures.branch c.args.low _ asks.held.tree asks.held.is)) c.at.ensures c.twig_index-index.ensures.by_popcount c.twig_count-n.ensures))))))
+    (c.put_branch.ensures.written _ _ (left_length down) (rest_length down ∙ n) (λ i y f. later (c.in-Ok.branch.twigs + i) y (left_used down i y f) (left_row down i y f)) (λ i y f. later (c.in-Ok.branch.twigs + c.twig_index-index.result + 1 + i) y (rest_used down i y f) (rest_row down i y f)))
+    (λ q y other m. c.put_branch.ensures.others q y (λ j l. other j (omega arith)) m))

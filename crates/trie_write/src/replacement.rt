@@ -1,0 +1,182 @@
+//! An item exchanged for another of the same name.
+
+ghost use Rattle.std.specs.Prelude.{◌≡◌, ◌+◌, ◌<◌, ◌≤◌, ◌∷◌, [], ℕ, List, IfOk, IfErr, Ok, Err, Some, None, ◌↔◌, length, count_ones};
+ghost use Rattle.packed_node.specs.declared.Cell.{Cell};
+ghost use Rattle.zone_model.specs.Keys.{Leads};
+ghost use Rattle.trie_model.specs.Keys.{Entry, InList};
+ghost use Rattle.trie_model.specs.Trees.{Tree, cells_in};
+ghost use Rattle.trie_read.specs.Reads.{EachTells};
+ghost use Rattle.trie_write.specs.Roots.{OnPath};
+ghost use Rattle.trie_write.specs.Standing.{Standing};
+ghost use Rattle.chunk_usage.specs.Rooms.{Ready};
+ghost use Rattle.trie_write.specs.Frames.{Frame};
+ghost use Rattle.trie_write.specs.Paths.{twigs_on_path};
+ghost use Rattle.trie_write.specs.Exchanges.{Exchanged, ExchangeAsks, ExchangeAsked, Exchanges, RootExchanges, ReplaceAsks, ReplaceAsked};
+
+use super::path::put_branch;
+use super::room::{place_item, release_item, room};
+use super::top::top_of;
+use chunk_cells::CellWrite;
+use chunk_cells::item::cells_for;
+use chunk_usage::{Full, Space};
+use packed_node::{Cell, Leaf, Node, Ref};
+use shift_key::Key;
+use trie_read::get;
+
+/// The cell of the top of the tree below a node with the key's leaf exchanged. Offsets are at least `low`.
+fn exchange<C: CellWrite, U: Space>(
+    cells: &mut C,
+    usage: &mut U,
+    low: u16,
+    key: &Key,
+    node: Cell,
+    leaf: Leaf,
+) -> Result<Cell, Full>
+    requires asks { ExchangeAsked (C.has cells.old) (U.used usage.old) (U.live usage.old) low key.now node leaf }
+    requires ready { Ready (C.kept cells.old) (C.given cells.old) (U.given usage.old) (U.used usage.old) (U.fresh usage.old) }
+    ensures exchanged { IfOk result (λ cell. (t : Tree) (e : Entry) → ExchangeAsks (C.has cells.old) (U.used usage.old) (U.live usage.old) low key.now node leaf t e
+        → Exchanges (C.has cells.new) (U.used usage.old) (U.used usage.new) (U.live usage.old) (U.live usage.new) low leaf t e cell) }
+    ensures unchanged { IfErr result (λ _. (k : ℕ) → U.live usage.new k ≡ U.live usage.old k) }
+    ensures spends { (t : Tree) (e : Entry) → ExchangeAsks (C.has cells.old) (U.used usage.old) (U.live usage.old) low key.now node leaf t e
+        → U.spent usage.new ≤ U.spent usage.old + twigs_on_path key.now t }
+    ensures full { IfErr result (λ f. U.lacks usage.new f) }
+    ensures frozen { U.frozen usage.new ≡ U.frozen usage.old }
+    ensures frame { Frame (C.has cells.old) (C.has cells.new) (C.kept cells.old) (C.kept cells.new) (C.given cells.old) (C.given cells.new) (U.used usage.old) (U.used usage.new) (U.fresh usage.old) (U.fresh usage.new) }
+    ensures ready { Ready (C.kept cells.new) (C.given cells.new) (U.given usage.new) (U.used usage.new) (U.fresh usage.new) }
+{
+    match top_of(node) {
+        Err(old) => {
+            release_item(usage, old);
+            Ok(Node::Leaf(leaf).pack())
+        }
+        Ok(branch) => {
+            let n = branch.twig_count();
+            let index = branch.twig_index(key.at(branch.offset));
+            let to = room(cells, usage, n)?;
+            let next = cells.cell(branch.twigs + index);
+            match exchange(cells, usage, branch.offset + 1, key, next, leaf) {
+                Err(full) => {
+                    usage.release(to, n);
+                    Err(full)
+                }
+                Ok(twig) => Ok(put_branch(cells, usage, branch, index, to, twig)),
+            }
+        }
+    }
+}
+
+/// The root of the tree with the key's leaf exchanged.
+fn exchange_root<C: CellWrite, U: Space>(
+    cells: &mut C,
+    usage: &mut U,
+    key: &Key,
+    node: Cell,
+    leaf: Leaf,
+) -> Result<Ref, Full>
+    requires asks { ExchangeAsked (C.has cells.old) (U.used usage.old) (U.live usage.old) 0 key.now node leaf }
+    requires ready { Ready (C.kept cells.old) (C.given cells.old) (U.given usage.old) (U.used usage.old) (U.fresh usage.old) }
+    ensures exchanged { IfOk result (λ root. (t : Tree) (e : Entry) → ExchangeAsks (C.has cells.old) (U.used usage.old) (U.live usage.old) 0 key.now node leaf t e
+        → RootExchanges (C.has cells.new) (U.used usage.old) (U.used usage.new) (U.live usage.old) (U.live usage.new) leaf t e root) }
+    ensures unchanged { IfErr result (λ _. (k : ℕ) → U.live usage.new k ≡ U.live usage.old k) }
+    ensures spends { (t : Tree) (e : Entry) → ExchangeAsks (C.has cells.old) (U.used usage.old) (U.live usage.old) 0 key.now node leaf t e → U.spent usage.new ≤ U.spent usage.old + (twigs_on_path key.now t + 1) }
+    ensures full { IfErr result (λ f. U.lacks usage.new f) }
+    ensures frozen { U.frozen usage.new ≡ U.frozen usage.old }
+    ensures frame { Frame (C.has cells.old) (C.has cells.new) (C.kept cells.old) (C.kept cells.new) (C.given cells.old) (C.given cells.new) (U.used usage.old) (U.used usage.new) (U.fresh usage.old) (U.fresh usage.new) }
+    ensures ready { Ready (C.kept cells.new) (C.given cells.new) (U.given usage.new) (U.used usage.new) (U.fresh usage.new) }
+{
+    let root = room(cells, usage, 1)?;
+    match exchange(cells, usage, 0, key, node, leaf) {
+        Err(full) => {
+            usage.release(root, 1);
+            Err(full)
+        }
+        Ok(cell) => {
+            cells.put(root, cell);
+            Ok(root)
+        }
+    }
+}
+
+/// The root of the trie with the item of a name that is there exchanged.
+fn replace_item<C: CellWrite, U: Space>(
+    cells: &mut C,
+    usage: &mut U,
+    root: Ref,
+    key: &Key,
+    node: Cell,
+    item: &[u8],
+) -> Result<Ref, Full>
+    requires some { 0 < length item.now }
+    requires short { length item.now ≤ 4096 }
+    requires asks { (e : Entry) × ReplaceAsked (C.has cells.old) (U.used usage.old) (U.live usage.old) root key.now item.now node e }
+    requires ready { Ready (C.kept cells.old) (C.given cells.old) (U.given usage.old) (U.used usage.old) (U.fresh usage.old) }
+    ensures stands { IfOk result (λ new. (e : Entry) (t : Tree) (version : List Entry) → ReplaceAsks (C.has cells.old) (U.used usage.old) (U.live usage.old) root key.now item.now node e t version
+        → (next : List Entry) × Exchanged e version next × Standing (C.has cells.new) (U.used usage.new) (U.live usage.new) (Some new) next) }
+    ensures unchanged { IfErr result (λ _. (k : ℕ) → U.live usage.new k ≡ U.live usage.old k) }
+    ensures spends { (e : Entry) (t : Tree) (version : List Entry) → ReplaceAsks (C.has cells.old) (U.used usage.old) (U.live usage.old) root key.now item.now node e t version
+        → U.spent usage.new ≤ U.spent usage.old + (3 + cells_in item.now + twigs_on_path key.now t) }
+    ensures full { IfErr result (λ f. U.lacks usage.new f) }
+    ensures frozen { U.frozen usage.new ≡ U.frozen usage.old }
+    ensures frame { Frame (C.has cells.old) (C.has cells.new) (C.kept cells.old) (C.kept cells.new) (C.given cells.old) (C.given cells.new) (U.used usage.old) (U.used usage.new) (U.fresh usage.old) (U.fresh usage.new) }
+    ensures ready { Ready (C.kept cells.new) (C.given cells.new) (U.given usage.new) (U.used usage.new) (U.fresh usage.new) }
+{
+    let leaf = place_item(cells, usage, item)?;
+    match exchange_root(cells, usage, key, node, leaf) {
+        Ok(new) => {
+            usage.release(root, 1);
+            Ok(new)
+        }
+        Err(full) => {
+            usage.release(leaf.at, cells_for(leaf.len));
+            Err(full)
+        }
+    }
+}
+
+/// Why a name's item isn't changed.
+#[derive(Clone, Copy, PartialEq, Eq, Debug)]
+pub enum ChangeRefusal {
+    /// The name isn't there.
+    NotFound,
+    /// There is no room.
+    Full(Full),
+}
+
+/// The root of the trie with a name's item exchanged. The item begins with the name's wire form. After a refusal the root
+/// stands as before.
+pub fn replace<C: CellWrite, U: Space>(
+    cells: &mut C,
+    usage: &mut U,
+    root: Option<Ref>,
+    key: &Key,
+    item: &[u8],
+) -> Result<Option<Ref>, ChangeRefusal>
+    requires stands { (version : List Entry) × Standing (C.has cells.old) (U.used usage.old) (U.live usage.old) root version × EachTells Leads version }
+    requires leads { Leads key.now item.now }
+    requires ready { Ready (C.kept cells.old) (C.given cells.old) (U.given usage.old) (U.used usage.old) (U.fresh usage.old) }
+    ensures replaced { IfOk result (λ new. (version : List Entry) → Standing (C.has cells.old) (U.used usage.old) (U.live usage.old) root version → EachTells Leads version
+        → (next : List Entry) × Exchanged (record { key = key.now; item = item.now }) version next × Standing (C.has cells.new) (U.used usage.new) (U.live usage.new) new next) }
+    ensures absent { (version : List Entry) → Standing (C.has cells.old) (U.used usage.old) (U.live usage.old) root version → EachTells Leads version
+        → (result ≡ Err ChangeRefusal.NotFound) ↔ ((x : Entry) → InList x version → x.key ≡ key.now → ⊥) }
+    ensures refused { IfErr result (λ _. (version : List Entry) → Standing (C.has cells.old) (U.used usage.old) (U.live usage.old) root version → Standing (C.has cells.new) (U.used usage.new) (U.live usage.new) root version) }
+    ensures unchanged { IfErr result (λ _. (k : ℕ) → U.live usage.new k ≡ U.live usage.old k) }
+    ensures full { (f : _) → result ≡ Err (ChangeRefusal.Full f) → U.lacks usage.new f }
+    ensures spends { (n : ℕ) → OnPath (C.has cells.old) (U.used usage.old) (U.live usage.old) root key.now n → U.spent usage.new ≤ U.spent usage.old + (3 + cells_in item.now + n) }
+    ensures frozen { U.frozen usage.new ≡ U.frozen usage.old }
+    ensures frame { Frame (C.has cells.old) (C.has cells.new) (C.kept cells.old) (C.kept cells.new) (C.given cells.old) (C.given cells.new) (U.used usage.old) (U.used usage.new) (U.fresh usage.old) (U.fresh usage.new) }
+    ensures ready { Ready (C.kept cells.new) (C.given cells.new) (U.given usage.new) (U.used usage.new) (U.fresh usage.new) }
+{
+    match root {
+        None => Err(ChangeRefusal::NotFound),
+        Some(at) => match get(cells, Some(at), key) {
+            None => Err(ChangeRefusal::NotFound),
+            Some(_) => {
+                let node = cells.cell(at);
+                match replace_item(cells, usage, at, key, node, item) {
+                    Ok(new) => Ok(Some(new)),
+                    Err(full) => Err(ChangeRefusal::Full(full)),
+                }
+            }
+        },
+    }
+}

@@ -1,0 +1,21 @@
+//! The top of a tree: a branch, or a leaf.
+
+ghost use Rattle.std.specs.Prelude.{◌≡◌, ℕ, IfOk, IfErr};
+ghost use Rattle.packed_node.specs.declared.Cell.{Cell};
+ghost use Rattle.trie_model.specs.Trees.{Tree, IsTree};
+ghost use Rattle.trie_model.specs.Memory.{top_cell};
+ghost use Rattle.trie_write.specs.Tops.{IsBranchTop, IsLeafTop};
+
+use packed_node::{Branch, Cell, Leaf, Node, unpack};
+
+/// The branch or the leaf that the cell of a tree's top says.
+pub fn top_of(node: Cell) -> Result<Branch, Leaf>
+    ensures branch { IfOk result (λ branch. (low : ℕ) (t : Tree) → IsTree low t → node ≡ top_cell t → IsBranchTop t branch) }
+    ensures leaf { IfErr result (λ leaf. (low : ℕ) (t : Tree) → IsTree low t → node ≡ top_cell t → IsLeafTop t leaf) }
+{
+    match unpack(node) {
+        None => Err(Leaf { len: 0, at: 0 }),
+        Some(Node::Leaf(leaf)) => Err(leaf),
+        Some(Node::Branch(branch)) => Ok(branch),
+    }
+}
