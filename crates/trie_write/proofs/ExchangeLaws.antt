@@ -171,7 +171,7 @@ module _ {has : ℕ → Cell → Type 0} {used : ℕ → Bool} {live : ℕ → �
   pub old_weight : (w : ℕ → ℕ) → weigh_tree w t ≡ row w old.at ((old.len + 15) / 16)
   old_weight w = ap (weigh_tree w) told_leaf.is ∙ ap (row w old.at) (sym old_cells)
 
-only_entry : (x y : Entry) (es : List Entry) → InList x es → es ≡ y ∷ [] → x ≡ y
+pub only_entry : (x y : Entry) (es : List Entry) → InList x es → es ≡ y ∷ [] → x ≡ y
 only_entry x y es i e = elim (subst (InList x) e i) [ inl a ↦ a | inr b ↦ absurd b ]
 
 pub leaf_exchanged : {has : ℕ → Cell → Type 0} {used new : ℕ → Bool} {live live_new : ℕ → ℕ} {low : ℕ} {k : List ℕ} {cell made : Cell} {l old : Leaf} {t : Tree} {e : Entry} (a : ExchangeAsks has used live low k cell l t e) (x : IsLeafTop t old) → ((z : ℕ) → live_new z + row (in_chunk z) old.at ((old.len + 15) / 16) ≡ live z) → ((q : ℕ) → used q ≡ true → new q ≡ true) → made ≡ leaf_cell l →

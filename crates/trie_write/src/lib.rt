@@ -2,6 +2,7 @@
 #![tactic(auto)]
 
 mod bulk;
+mod deletion;
 mod insertion;
 pub mod item;
 mod near;
@@ -14,6 +15,7 @@ mod size;
 mod top;
 
 pub use bulk::build;
+pub use deletion::delete;
 pub use insertion::{InsertRefusal, insert};
 pub use item::{Item, ItemRefusal};
 pub use replacement::{ChangeRefusal, replace};
