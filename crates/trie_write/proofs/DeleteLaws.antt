@@ -17,11 +17,13 @@ use Rattle.trie_model.proofs.BitmapLaws.{Rising, Cut, index_of, set_bit, ones_of
 use Rattle.trie_model.proofs.CountLaws.{under, weigh_is, under-beside}
 use Rattle.trie_model.proofs.DropLaws.{drop_twig, collapse_low, collapse_high, shrink_twig}
 use Rattle.trie_model.proofs.GrowthLaws.{each_entry}
+use Rattle.trie_model.proofs.KeyLaws.{in_left, in_right, in_both}
 use Rattle.trie_model.proofs.MoveLaws.{Keeps, beneath_kept, tree_weaker}
 use Rattle.trie_model.proofs.ReachLaws.{live_is}
 use Rattle.trie_model.proofs.SplitLaws.{Found, look, rising_of, lie_left, lie_right, within_left, within_right, in_found, not_missing}
 use Rattle.trie_model.proofs.TopLaws.{is_node}
 use Rattle.chunk_usage.specs.Rooms.{Room}
+use Rattle.trie_read.specs.Reads.{EachTells}
 use Rattle.trie_write.specs.Paths.{twigs_on_path}
 use Rattle.trie_write.specs.Rows.{RowLies}
 use Rattle.trie_write.specs.Standing.{StandsIn, Standing}
@@ -309,3 +311,10 @@ delete_here H s0 s1 s2 {used} {live} {r} {t = t} {version} cell e f s read gone 
   there = there;
   same_key = same;
 }
+
+-- each item still tells its key
+pub tells_fewer : (tells : List ℕ → List ℕ → Type 0) (key : List ℕ) (old new : List Entry) → EachTells tells old → Deleted key old new → EachTells tells new
+tells_fewer tells key old new each d x i = each x (subst (InList x) (sym d.removed.old_is) (elim (in_both x d.removed.before d.removed.after (subst (InList x) d.removed.new_is i)) [
+  | inl a ↦ in_left x d.removed.before (d.gone ∷ d.removed.after) a
+  | inr b ↦ in_right x d.removed.before (d.gone ∷ d.removed.after) (inr b)
+]))

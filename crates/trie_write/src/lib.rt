@@ -22,4 +22,6 @@ pub use replacement::{ChangeRefusal, replace};
 pub use size::cells;
 
 #[cfg(test)]
+mod change_tests;
+#[cfg(test)]
 mod tests;
