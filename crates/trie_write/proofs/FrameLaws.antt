@@ -93,6 +93,3 @@ ready_put r given kept space used fresh = record {
 pub ok_map : {A E : Type 0} (r : Result A E) {P Q : A → Type 0} → ((x : A) → P x → Q x) → IfOk r P → IfOk r Q
 ok_map (Ok x) f h = f x h
 ok_map (Err e) f h = tt
-
-pub lt_of : {x y : ℕ} → x ≤ y → (x ≡ y → ⊥) → x < y
-lt_of {x} {y} l ne = elim (cases_lt x y) [ inl a ↦ a | inr b ↦ absurd (ne (omega arith)) ]
