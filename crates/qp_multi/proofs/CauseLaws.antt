@@ -1,5 +1,5 @@
 -- Why a call of a transaction finds no room, in numbers.
-use Rattle.std.proofs.Common.{◌≡◌, ℕ, zero, suc, ◌+◌, ◌-◌, ◌*◌, ◌/◌, ◌<◌, ◌≤◌, nat_lt, Bool, true, false, not, cond, ◌||◌, if◌then◌else◌, List, [], ◌∷◌, length, slice_index, slice_index_or, Option, Some, None, arith, refl, sym, ◌∙◌, ap, subst, inl, inr}
+use Rattle.std.proofs.Common.{◌≡◌, ◌⊎◌, ℕ, zero, suc, ◌+◌, ◌-◌, ◌*◌, ◌/◌, ◌<◌, ◌≤◌, nat_lt, Bool, true, false, not, cond, ◌||◌, if◌then◌else◌, List, [], ◌∷◌, length, slice_index, slice_index_or, Option, Some, None, arith, refl, sym, ◌∙◌, ap, subst, inl, inr}
 use Rattle.std.proofs.lemmas.Bool.{cases_lt}
 use Rattle.std.proofs.lemmas.Bool.Decides.{nat_tests}
 use Rattle.std.proofs.lemmas.List.{length-map, get_or-map}
@@ -7,7 +7,7 @@ use Rattle.std.proofs.lemmas.List.Sums.{count_by-le-length}
 use Rattle.packed_node.specs.declared.Cell.{Cell}
 use Rattle.trie_model.specs.Keys.{Entry}
 use Rattle.trie_model.specs.Shape.{cells}
-use Rattle.trie_model.specs.Trees.{Tree}
+use Rattle.trie_model.specs.Trees.{Tree, cells_in}
 use Rattle.trie_model.specs.Reach.{row, in_chunk, weigh_tree}
 use Rattle.trie_model.proofs.ReachLaws.{live_is, second_true}
 use Rattle.chunk_usage.specs.declared.open.Open.{Open}
@@ -26,6 +26,7 @@ use Rattle.trie_write.proofs.PlanLaws.{size_is}
 use Rattle.qp_multi.proofs.CountedLaws.{row_le}
 use Rattle.qp_multi.proofs.MeetLaws.{firsts, branches, met_first, row_add, firsts_sum, firsts_few, equal_once, path_few, set_few}
 use Rattle.qp_multi.proofs.OpenLaws.{none_unspent}
+use Rattle.qp_multi.specs.Fulls.{EachNeeded, FullCause}
 
 -- the chunks with live cells, as numbers
 abbrev pub some_live : (ℕ → ℕ) → ℕ → ℕ
@@ -101,44 +102,72 @@ row_live live k t =
     let e = sym (get_or-map (nat_lt 0) live k 0 false w) ∙ t in
     grind (arith, nat_tests, e)
 
-abbrev reasons : Ledger → ℕ → ℕ
-reasons l k = (open_one l.open_chunk k + open_one l.last_open k) + (some_live (λ k. slice_index l.live k) k + some_live (λ k. slice_index l.last_live k) k)
-
-needed_counts : (l : Ledger) (version : ℕ) → l.rows ≡ record { version = version; chunks = row_of l.last_live } ∷ [] → (k : ℕ) → is_needed l k ≡ true → 1 ≤ reasons l k
-needed_counts l version kept k h = go (is_open l.open_chunk k) (is_open l.last_open k) (nat_lt 0 (slice_index l.live k)) refl refl refl h
+-- each chunk that stays given is needed
+pub each_needed : (l new : Ledger) (version : ℕ) → l.rows ≡ record { version = version; chunks = row_of l.last_live } ∷ [] → new ≡ freed l → EachNeeded new
+each_needed l new version kept after = subst EachNeeded (sym after) here
   where
-    last : is_in_rows l.rows k ≡ true → ◌≡◌ {A = ℕ} (some_live (λ k. slice_index l.last_live k) k) 1
-    last t =
-        let m = sym (ap (λ (rows : List Row). is_in_rows rows k) kept) ∙ t in
-        let lt = row_live l.last_live k (one_only (slice_index_or (row_of l.last_live) k false) m) in
-        grind (arith, nat_tests)
-      where
-        one_only : (b : Bool) → (b || false) ≡ true → b ≡ true
-        one_only true h = refl
-        one_only false h = h
+    one_only : (b : Bool) → (b || false) ≡ true → b ≡ true
+    one_only true h = refl
+    one_only false h = h
 
-    go : (a b c : Bool) → is_open l.open_chunk k ≡ a → is_open l.last_open k ≡ b → nat_lt 0 (slice_index l.live k) ≡ c → (a || (b || (c || is_in_rows l.rows k))) ≡ true → 1 ≤ reasons l k
-    go true b c p q r h = let e : ◌≡◌ {A = ℕ} (open_one l.open_chunk k) 1 = ap (λ (x : Bool). cond {A = ℕ} x 1 0) p in omega arith
-    go false true c p q r h = let e : ◌≡◌ {A = ℕ} (open_one l.last_open k) 1 = ap (λ (x : Bool). cond {A = ℕ} x 1 0) q in omega arith
-    go false false true p q r h = let e : ◌≡◌ {A = ℕ} (some_live (λ k. slice_index l.live k) k) 1 = ap (λ (x : Bool). cond {A = ℕ} x 1 0) r in omega arith
-    go false false false p q r h = let e = last h in omega arith
+    last : (k : ℕ) → is_in_rows l.rows k ≡ true → 0 < slice_index l.last_live k
+    last k t = row_live l.last_live k (one_only (slice_index_or (row_of l.last_live) k false) (sym (ap (λ (rows : List Row). is_in_rows rows k) kept) ∙ t))
 
-pub given_few : (l : Ledger) (version : ℕ) → l.rows ≡ record { version = version; chunks = row_of l.last_live } ∷ [] →
-    length (freed l).given ≤ free_count (freed l) + (2 + row (some_live (λ k. slice_index l.live k)) 0 (length (freed l).given) + row (some_live (λ k. slice_index l.last_live k)) 0 (length (freed l).given))
-given_few l version kept =
-    let n = length (freed l).given in
-    let a = set_few (freed l).given (reasons l) (λ k t. needed_counts l version kept k (second_true (is_given l k) (is_needed l k) (sym (freed_by_chunk l k) ∙ t))) in
-    let b = row_add (λ k. open_one l.open_chunk k + open_one l.last_open k) (λ k. some_live (λ k. slice_index l.live k) k + some_live (λ k. slice_index l.last_live k) k) 0 n in
+    go : (k : ℕ) (a b c : Bool) → is_open l.open_chunk k ≡ a → is_open l.last_open k ≡ b → nat_lt 0 (slice_index l.live k) ≡ c → (a || (b || (c || is_in_rows l.rows k))) ≡ true
+        → ((is_open l.open_chunk k ≡ true) ⊎ (is_open l.last_open k ≡ true)) ⊎ ((0 < slice_index l.live k) ⊎ (0 < slice_index l.last_live k))
+    go k true b c p q r h = inl (inl p)
+    go k false true c p q r h = inl (inr q)
+    go k false false true p q r h = inr (inl (grind (arith, nat_tests, r)))
+    go k false false false p q r h = inr (inr (last k h))
+
+    here : EachNeeded (freed l)
+    here k t = go k (is_open l.open_chunk k) (is_open l.last_open k) (nat_lt 0 (slice_index l.live k)) refl refl refl (second_true (is_given l k) (is_needed l k) (sym (freed_by_chunk l k) ∙ t))
+
+abbrev live_of : Ledger → ℕ → ℕ
+live_of l k = slice_index l.live k
+
+abbrev last_of : Ledger → ℕ → ℕ
+last_of l k = slice_index l.last_live k
+
+abbrev reasons : Ledger → ℕ → ℕ
+reasons l k = (open_one l.open_chunk k + open_one l.last_open k) + (some_live (live_of l) k + some_live (last_of l) k)
+
+some_one : (live : ℕ → ℕ) (k : ℕ) → 0 < live k → ◌≡◌ {A = ℕ} (some_live live k) 1
+some_one live k some = let e : nat_lt 0 (live k) ≡ true = grind (arith, nat_tests) in ap (λ (x : Bool). cond {A = ℕ} x 1 0) e
+
+needed_counts : (l : Ledger) (k : ℕ) → ((is_open l.open_chunk k ≡ true) ⊎ (is_open l.last_open k ≡ true)) ⊎ ((0 < live_of l k) ⊎ (0 < last_of l k)) → 1 ≤ reasons l k
+needed_counts l k (inl (inl h)) = let e : ◌≡◌ {A = ℕ} (open_one l.open_chunk k) 1 = ap (λ (x : Bool). cond {A = ℕ} x 1 0) h in omega arith
+needed_counts l k (inl (inr h)) = let e : ◌≡◌ {A = ℕ} (open_one l.last_open k) 1 = ap (λ (x : Bool). cond {A = ℕ} x 1 0) h in omega arith
+needed_counts l k (inr (inl h)) = let e = some_one (live_of l) k h in omega arith
+needed_counts l k (inr (inr h)) = let e = some_one (last_of l) k h in omega arith
+
+given_few : (l : Ledger) (n : ℕ) → length l.given ≡ n → EachNeeded l → n ≤ free_count l + (2 + row (some_live (live_of l)) 0 n + row (some_live (last_of l)) 0 n)
+given_few l n is needed =
+    let a = set_few l.given (reasons l) (λ k t. needed_counts l k (needed k t)) in
+    let s = ap (row (reasons l) 0) is in
+    let b = row_add (λ k. open_one l.open_chunk k + open_one l.last_open k) (λ k. some_live (live_of l) k + some_live (last_of l) k) 0 n in
     let c = row_add (open_one l.open_chunk) (open_one l.last_open) 0 n in
-    let d = row_add (some_live (λ k. slice_index l.live k)) (some_live (λ k. slice_index l.last_live k)) 0 n in
+    let d = row_add (some_live (live_of l)) (some_live (last_of l)) 0 n in
     let e = open_once l.open_chunk n in
     let f = open_once l.last_open n in omega arith
 
 -- so where a call then finds no room, the cells are many
-pub many_cells : (m new : Ledger) (f : Full) (chunks cells_es cells_base meets_es meets_base b n item : ℕ) → length m.given ≡ chunks → length new.given ≡ chunks → chunks ≤ free_count m + (2 + meets_es + meets_base) → meets_es + b ≤ cells_es → meets_base ≤ cells_base
+many : (m new : Ledger) (f : Full) (chunks cells_es cells_base meets_es meets_base b n item : ℕ) → length m.given ≡ chunks → length new.given ≡ chunks → chunks ≤ free_count m + (2 + meets_es + meets_base) → meets_es + b ≤ cells_es → meets_base ≤ cells_base
     → n ≤ 47 * b → item ≤ 256 → spent new ≤ spent m + (3 + item + n) → Lacks new f → chunks - reserve_of new - 2 ≤ cells_es + cells_base
-many_cells m new f chunks cells_es cells_base meets_es meets_base b n item old_length new_length given es base path short cost lacks =
+many m new f chunks cells_es cells_base meets_es meets_base b n item old_length new_length given es base path short cost lacks =
     let all = none_unspent new.open_chunk f.needed lacks.0.few_left lacks.2 in
     let none = lacks.0.none_free in
     let free = count_by-le-length not new.given in
     let free_m = count_by-le-length not m.given in omega arith
+
+pub cause_of : {has has_base : ℕ → Cell → Type 0} {used used_base : ℕ → Bool} {root root_base : Option ℕ} {key : List ℕ} (m new : Ledger) (f : Full) (item : List ℕ) (base es : List Entry) → EachNeeded m
+    → (p : Path has used (live_of m) root key es) → Path has_base used_base (last_of m) root_base key base → length new.given ≡ length m.given → length item ≤ 4096 → spent new ≤ spent m + (3 + cells_in item + p.n) → Lacks new f → FullCause new base es
+cause_of m new f item base es needed p q same short cost lacks = record {
+  none_free = lacks.0.none_free;
+  many_cells =
+      let n = length m.given in
+      let few = given_few m n refl needed in
+      let a = p.meets n in
+      let b = q.meets n in
+      let c = many m new f n (cells es) (cells base) (row (some_live (live_of m)) 0 n) (row (some_live (last_of m)) 0 n) p.b p.n (cells_in item) refl same few a (omega arith) p.few (omega arith) cost lacks in omega arith;
+}

@@ -6,6 +6,7 @@ ghost use Rattle.chunk_usage.specs.Ledger.{free_count};
 ghost use Rattle.trie_read.specs.Readings.{Fetched};
 ghost use Rattle.qp_multi.specs.Shows.{Shows};
 ghost use Rattle.qp_multi.specs.Works.{WorksIn, IsBegun};
+ghost use Rattle.qp_multi.specs.Fulls.{EachNeeded};
 
 use crate::index::Index;
 use packed_node::Ref;
@@ -91,6 +92,7 @@ pub fn fetch(index: &Index, root: Option<Ref>, key: &Key, out: &mut [u8; 4096]) 
 /// Frees each chunk that neither the base nor the working set needs.
 pub fn make_room(index: &mut Index)
     ensures works { (root : Option ℕ) (base es : List Entry) → WorksIn index.old root base es → WorksIn index.new root base es }
+    ensures needed { EachNeeded index.new.usage }
     ensures version { index.new.version ≡ index.old.version }
 {
     index.usage.free_unreached(&mut index.cells);

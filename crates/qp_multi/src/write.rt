@@ -8,7 +8,7 @@ ghost use Rattle.trie_read.specs.Readings.{Fetched};
 ghost use Rattle.trie_write.specs.Exchanges.{Exchanged};
 ghost use Rattle.qp_multi.specs.Shows.{Shows};
 ghost use Rattle.qp_multi.specs.Works.{Works};
-ghost use Rattle.qp_multi.specs.Fulls.{IsFull};
+ghost use Rattle.qp_multi.specs.Fulls.{IsFull, FullCause};
 
 use crate::index::Index;
 use crate::refusal::{ChangeRefusal, InsertRefusal};
@@ -66,6 +66,7 @@ impl Write<'_> {
             → (result ≡ Err InsertRefusal.Exists) ↔ ((x : Entry) × InList x es × (x.key ≡ key.now)) }
         ensures refused { IfErr result (λ _. (base es : List Entry) → Works self.old base es → Works self.new base es) }
         ensures full { (f : _) → result ≡ Err (InsertRefusal.Full f) → IsFull self.new.index.now.usage self.new.index.now.version f }
+        ensures cause { (f : _) (base es : List Entry) → result ≡ Err (InsertRefusal.Full f) → Works self.old base es → FullCause self.new.index.now.usage base es }
         ensures version { self.new.index.now.version ≡ self.old.index.now.version }
     {
         insertion::insert(self.index, &mut self.root, key, item)
@@ -82,6 +83,7 @@ impl Write<'_> {
             → (result ≡ Err ChangeRefusal.NotFound) ↔ ((x : Entry) → InList x es → x.key ≡ key.now → ⊥) }
         ensures refused { IfErr result (λ _. (base es : List Entry) → Works self.old base es → Works self.new base es) }
         ensures full { (f : _) → result ≡ Err (ChangeRefusal.Full f) → IsFull self.new.index.now.usage self.new.index.now.version f }
+        ensures cause { (f : _) (base es : List Entry) → result ≡ Err (ChangeRefusal.Full f) → Works self.old base es → FullCause self.new.index.now.usage base es }
         ensures version { self.new.index.now.version ≡ self.old.index.now.version }
     {
         replacement::replace(self.index, &mut self.root, key, item)

@@ -13,3 +13,6 @@ returns-in-Err-Full-clause-exists c base es works = c.insert_in_room.ensures.exi
 
 pub returns-in-Err-Full-clause-refused : goal.returns-in-Err-Full-clause-refused
 returns-in-Err-Full-clause-refused c = err_map c.insert_in_room.result (λ x h base es works. h base es (c.in-Err-Full.ensures.refused base es works)) c.insert_in_room.ensures.refused
+
+pub returns-in-Err-Full-clause-cause : goal.returns-in-Err-Full-clause-cause
+returns-in-Err-Full-clause-cause c f base es is works = c.insert_in_room.ensures.cause f base es is (c.in-Err-Full.ensures.refused base es works)

@@ -1,6 +1,7 @@
 use Rattle.std.proofs.Common.{Err, refl, sym, ◌∙◌, ap}
 use Rattle.trie_write.specs.declared.insertion.InsertRefusal.{InsertRefusal as TrieRefusal}
 use Rattle.qp_multi.proofs.RefusalLaws.{ok_not_err}
+use Rattle.qp_multi.proofs.CauseLaws.{path_of, cause_of}
 use Rattle.qp_multi.proofs.insertion.insert_in_room.Goals as goal
 
 pub attempt-requires-clause-begun : goal.attempt-requires-clause-begun
@@ -32,3 +33,11 @@ returns-in-Err-Full-clause-exists c base es works = (
 
 pub returns-in-Err-Full-clause-refused : goal.returns-in-Err-Full-clause-refused
 returns-in-Err-Full-clause-refused c base es works = c.in-Err-Full.ensures.refused base es (c.make_room.ensures.works c.args.root.now base es works)
+
+pub returns-in-Err-Full-clause-cause : goal.returns-in-Err-Full-clause-cause
+returns-in-Err-Full-clause-cause c f base es is works =
+    let room = c.make_room.ensures.works c.args.root.now base es works in
+    let path = path_of c.args.root.now c.args.key.now es room.working.stands room.working.tells in
+    let kept = path_of c.make_room.new.index.root c.args.key.now base room.base_is.stands room.base_is.tells in
+    let lacks = c.attempt.ensures.full c.in-Err-Full.full (c.in-Err-Full.is ∙ ap (λ (r : TrieRefusal). Err r) c.in-Err-Full.field-0-is) in
+    cause_of c.make_room.new.index.usage c.attempt.new.index.usage c.in-Err-Full.full c.args.item.now base es c.make_room.ensures.needed path kept c.attempt.ensures.chunks c.requires.leads.short (c.attempt.ensures.spends path.n path.on_path) lacks

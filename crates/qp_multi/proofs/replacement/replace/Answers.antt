@@ -13,3 +13,6 @@ returns-in-Err-Full-clause-absent c base es works = c.replace_in_room.ensures.ab
 
 pub returns-in-Err-Full-clause-refused : goal.returns-in-Err-Full-clause-refused
 returns-in-Err-Full-clause-refused c = err_map c.replace_in_room.result (λ x h base es works. h base es (c.in-Err-Full.ensures.refused base es works)) c.replace_in_room.ensures.refused
+
+pub returns-in-Err-Full-clause-cause : goal.returns-in-Err-Full-clause-cause
+returns-in-Err-Full-clause-cause c f base es is works = c.replace_in_room.ensures.cause f base es is (c.in-Err-Full.ensures.refused base es works)
