@@ -17,7 +17,7 @@ use Rattle.zone_answer.specs.Standing.{IsStorable}
 ancestor_of : (label : Label) (labels : Name) (k : ℕ) → k ≤ length labels → ancestor k (label ∷ labels) ≡ ancestor k labels
 ancestor_of label labels k l = let e : suc (length labels) - k ≡ suc (length labels - k) = omega arith in ap (λ (n : ℕ). drop n (label ∷ labels)) e
 
-ancestor_self : (name : Name) (n : ℕ) → length name ≤ n → ancestor n name ≡ name
+pub ancestor_self : (name : Name) (n : ℕ) → length name ≤ n → ancestor n name ≡ name
 ancestor_self name n l = let e : length name - n ≡ 0 = omega arith in ap (λ (k : ℕ). drop k name) e
 
 top_first : (test : Name → Bool) (label : Label) (labels : Name) → find test (reverse (at_or_above (label ∷ labels))) ≡ option_or (find test (reverse (at_or_above labels))) (find test ((label ∷ labels) ∷ []))

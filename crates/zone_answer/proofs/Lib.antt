@@ -6,3 +6,5 @@ pub mod AncestorLaws
 pub mod NodeLaws
 pub mod CutLaws
 pub mod AnswerLaws
+pub mod ChainLaws
+pub mod StepLaws

@@ -1,7 +1,7 @@
 //! What answers for a name.
 
-ghost use Rattle.std.specs.Prelude.{◌≡◌, IfOk, Some};
-ghost use Rattle.zone_model.specs.Versions.{Version};
+ghost use Rattle.std.specs.Prelude.{◌≡◌, [], IfOk, Some};
+ghost use Rattle.zone_model.specs.Versions.{Version, owned};
 ghost use Rattle.zone_answer.specs.Answers.{encloser, node, wildcard_under};
 ghost use Rattle.zone_answer.specs.Neighbours.{AreNeighbours};
 ghost use Rattle.zone_answer.specs.Standing.{IsVersion, Shows, ShowsSome};
@@ -45,19 +45,20 @@ fn wildcard_under<V: Reading>(
     Ok(Some(owned(alloc, version, &star)?))
 }
 
-/// What answers for a name: its own records, or those of a wildcard; `None` where the name doesn't exist, nor a wildcard for it.
-pub fn node<V: Reading>(
+/// What answers for a name that owns nothing: no records where names under it are there, else a wildcard's; `None` where there
+/// is no wildcard for it.
+pub fn absent_node<V: Reading>(
     alloc: Global,
     version: &mut V,
     name: &Name,
 ) -> Result<Option<Entry>, AllocError>
     requires { ShowsSome (V.holds version.old) }
     ensures same { version.new ≡ version.old }
-    ensures entry { (zone : Version) → Shows (V.holds version.old) zone → IfOk result (λ o. o ≡ node zone name.now) }
+    ensures entry { (zone : Version) → Shows (V.holds version.old) zone → [] ≡ owned name.now zone → IfOk result (λ o. o ≡ node zone name.now) }
 {
     let near = Neighbours::of(version, name);
     if near.show(name) {
-        return Ok(Some(owned(alloc, version, name)?));
+        return Ok(Some(Entry::empty(alloc)));
     }
     match encloser(&near, name) {
         None => Ok(None),

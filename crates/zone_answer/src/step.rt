@@ -1,22 +1,26 @@
 //! What one name gives to an answer.
 
-ghost use Rattle.std.specs.Prelude.{◌≡◌, ◌++◌, IfOk, OnOk, List, true};
+ghost use Rattle.std.specs.Prelude.{◌≡◌, [], true};
 ghost use Rattle.std.specs.Option.{option_map};
-ghost use Rattle.zone_model.specs.Names.{is_under};
+ghost use Rattle.zone_model.specs.Names.{Name as Labels, is_under};
 ghost use Rattle.zone_model.specs.Records.{rrset_of};
 ghost use Rattle.zone_model.specs.Splits.{split_name};
-ghost use Rattle.zone_model.specs.Versions.{Version};
+ghost use Rattle.zone_model.specs.Versions.{Version, owned};
+ghost use Rattle.zone_model.specs.Answers.{exists};
 ghost use Rattle.zone_answer.specs.Answers.{alias_in, by_alias, step, target_of, set_rows, ns_type};
+ghost use Rattle.zone_answer.specs.Parts.{Gives, NoneOver};
 ghost use Rattle.zone_answer.specs.Standing.{Shows, ShowsSome};
 
-use crate::cut::{Cut, NS, cut_above};
+use crate::cut::{NS, cut_over, is_cut};
 use crate::kind::Kind;
-use crate::node::node;
+use crate::node::absent_node;
+use crate::owned::owned;
 use crate::row::{Row, push_rows};
 use dns_name::Name;
 use rr_data::{Entry, RrSet};
+use shift_key::Key;
 use std::alloc::{AllocError, Global};
-use trie_read::Reading;
+use trie_read::{Kind as Found, Reading};
 
 /// The type of an alias.
 const CNAME: u16 = 5;
@@ -60,8 +64,7 @@ fn alias_in(entry: &Entry, rtype: u16) -> Option<&RrSet>
 
 /// What these records give under an owner.
 fn told(entry: &Entry, owner: &Name, rtype: u16, rows: &mut Vec<Row>) -> Result<Next, AllocError>
-    ensures next { IfOk result (λ n. n ≡ (by_alias owner.now rtype entry.now (alias_in rtype entry.now)).next) }
-    ensures rows { OnOk result (rows.new.items ≡ rows.old.items ++ (by_alias owner.now rtype entry.now (alias_in rtype entry.now)).rows) }
+    ensures { Gives (by_alias owner.now rtype entry.now (alias_in rtype entry.now)) rows.old.items rows.new.items result }
 {
     if let Some(alias) = alias_in(entry, rtype) {
         push_rows(rows, owner, alias)?;
@@ -76,13 +79,55 @@ fn told(entry: &Entry, owner: &Name, rtype: u16, rows: &mut Vec<Row>) -> Result<
     }
 }
 
-/// The rows of a referral.
-fn refer(cut: &Cut, rows: &mut Vec<Row>) -> Result<(), AllocError>
-    ensures { OnOk result (rows.new.items ≡ rows.old.items ++ set_rows cut.now.name (rrset_of ns_type cut.now.entry)) }
+/// A referral to the servers of a cut.
+fn refer(cut: &Name, entry: &Entry, rows: &mut Vec<Row>) -> Result<Next, AllocError>
+    ensures { Gives (record { rows = set_rows cut.now (rrset_of ns_type entry.now); next = Next.Ends Kind.Referral }) rows.old.items rows.new.items result }
 {
-    match cut.entry.find_set(NS) {
-        Some(servers) => push_rows(rows, &cut.name, servers),
-        None => Ok(()),
+    if let Some(servers) = entry.find_set(NS) {
+        push_rows(rows, cut, servers)?;
+        return Ok(Next::Ends(Kind::Referral));
+    }
+    Ok(Next::Ends(Kind::Referral))
+}
+
+/// What a name that is there gives, where none above it is a cut.
+fn told_own<V: Reading>(
+    alloc: Global,
+    version: &mut V,
+    origin: &Name,
+    name: &Name,
+    rtype: u16,
+    rows: &mut Vec<Row>,
+) -> Result<Next, AllocError>
+    requires shown { ShowsSome (V.holds version.old) }
+    requires under { is_under name.now origin.now ≡ true }
+    ensures same { version.new ≡ version.old }
+    ensures gives { (zone : Version) → Shows (V.holds version.old) zone → NoneOver origin.now name.now zone → exists name.now zone ≡ true
+        → Gives (step origin.now zone rtype name.now) rows.old.items rows.new.items result }
+{
+    let entry = owned(alloc, version, name)?;
+    if is_cut(origin, name, &entry) {
+        return refer(name, &entry, rows);
+    }
+    told(&entry, name, rtype, rows)
+}
+
+/// What a name that isn't there gives, where none above it is a cut.
+fn told_absent<V: Reading>(
+    alloc: Global,
+    version: &mut V,
+    name: &Name,
+    rtype: u16,
+    rows: &mut Vec<Row>,
+) -> Result<Next, AllocError>
+    requires { ShowsSome (V.holds version.old) }
+    ensures same { version.new ≡ version.old }
+    ensures gives { (zone : Version) (origin : Labels) → Shows (V.holds version.old) zone → NoneOver origin name.now zone → [] ≡ owned name.now zone
+        → Gives (step origin zone rtype name.now) rows.old.items rows.new.items result }
+{
+    match absent_node(alloc, version, name)? {
+        Some(entry) => told(&entry, name, rtype, rows),
+        None => Ok(Next::Ends(Kind::Nxdomain)),
     }
 }
 
@@ -98,16 +143,17 @@ pub fn step<V: Reading>(
     requires shown { ShowsSome (V.holds version.old) }
     requires under { is_under name.now origin.now ≡ true }
     ensures same { version.new ≡ version.old }
-    ensures next { (zone : Version) → Shows (V.holds version.old) zone → IfOk result (λ n. n ≡ (step origin.now zone rtype name.now).next) }
-    ensures rows { (zone : Version) → Shows (V.holds version.old) zone
-        → OnOk result (rows.new.items ≡ rows.old.items ++ (step origin.now zone rtype name.now).rows) }
+    ensures gives { (zone : Version) → Shows (V.holds version.old) zone
+        → Gives (step origin.now zone rtype name.now) rows.old.items rows.new.items result }
 {
-    if let Some(cut) = cut_above(alloc, version, origin, name)? {
-        refer(&cut, rows)?;
-        return Ok(Next::Ends(Kind::Referral));
+    let _wire = name.wire();
+    let found = version.find(&Key::of(name));
+    if let Some(cut) = cut_over(alloc, version, origin, name, &found.chain)? {
+        return refer(&cut.name, &cut.entry, rows);
     }
-    match node(alloc, version, name)? {
-        Some(entry) => told(&entry, name, rtype, rows),
-        None => Ok(Next::Ends(Kind::Nxdomain)),
+    match found.kind {
+        Found::Exact => told_own(alloc, version, origin, name, rtype, rows),
+        Found::Partial => told_absent(alloc, version, name, rtype, rows),
+        Found::Absent => told_absent(alloc, version, name, rtype, rows),
     }
 }
