@@ -1,0 +1,4 @@
+pub mod Answers
+pub mod Standing
+pub mod Neighbours
+pub mod Parts

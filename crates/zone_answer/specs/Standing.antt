@@ -1,0 +1,32 @@
+-- A version of a zone, and the entries of the trie that it stands as.
+use Rattle.std.specs.Prelude.{ℕ, List, map}
+use Rattle.std.specs.List.{AllByRecursion}
+use Rattle.std.specs.List.Sorted.{IsStrictlySortedBy}
+use Rattle.std.specs.Map.{keys_of}
+use Rattle.zone_model.specs.Names.{Name, name_cmp}
+use Rattle.zone_model.specs.Keys.{key_of}
+use Rattle.zone_model.specs.Records.{Entry, IsItem, item}
+use Rattle.zone_model.specs.Versions.{Version}
+use Rattle.trie_model.specs.Keys as trie
+
+-- a name's records can be an item
+abbrev pub IsStorable : Name × Entry → Type 0
+IsStorable pair = IsItem (item pair.0 pair.1) pair.0 pair.1
+
+-- names in strictly rising order, each with some records that can be an item
+pub record IsVersion (version : Version) : Type 0 where
+  pub rising : IsStrictlySortedBy name_cmp (keys_of version)
+  pub items : AllByRecursion IsStorable version
+
+-- what the trie has for a name: its key and its item
+abbrev pub trie_entry : Name × Entry → trie.Entry
+trie_entry pair = record { key = key_of pair.0; item = item pair.0 pair.1 }
+
+-- a reading that holds some entries shows the version that they are
+pub record Shows (holds : List trie.Entry → Type 0) (version : Version) : Type 0 where
+  pub version_is : IsVersion version
+  pub held : holds (map trie_entry version)
+
+-- it shows some version
+abbrev pub ShowsSome : (List trie.Entry → Type 0) → Type 0
+ShowsSome holds = (version : Version) × Shows holds version

@@ -1,0 +1,18 @@
+//! Answers to questions about one version of a zone, as an authoritative server gives them (RFC 1034, section 4.3.2; wildcards
+//! by RFC 4592).
+#![tactic(auto)]
+
+mod cut;
+mod kind;
+mod near;
+mod node;
+mod owned;
+mod question;
+mod row;
+mod step;
+mod told;
+
+pub use kind::Kind;
+pub use question::answer;
+pub use row::Row;
+pub use told::Answer;

@@ -1,0 +1,46 @@
+//! Questions and their answers.
+
+ghost use Rattle.std.specs.Prelude.{◌≡◌, IfOk};
+ghost use Rattle.zone_model.specs.Versions.{Version};
+ghost use Rattle.zone_answer.specs.Answers.{answer};
+ghost use Rattle.zone_answer.specs.Standing.{Shows, ShowsSome};
+
+use crate::kind::Kind;
+use crate::step::{Next, step};
+use crate::told::Answer;
+use dns_name::Name;
+use std::alloc::{AllocError, Global};
+use trie_read::Reading;
+
+/// How many aliases are gathered at most.
+const MOST_ALIASES: u8 = 16;
+
+/// The answer to a question of a name and a type, from one version of the zone of an origin.
+pub fn answer<V: Reading>(
+    alloc: Global,
+    version: &mut V,
+    origin: &Name,
+    name: &Name,
+    rtype: u16,
+) -> Result<Answer, AllocError>
+    requires { ShowsSome (V.holds version.old) }
+    ensures same { version.new ≡ version.old }
+    ensures answer { (zone : Version) → Shows (V.holds version.old) zone → IfOk result (λ a. a ≡ answer origin.now zone name.now rtype) }
+{
+    let mut rows = Vec::new(alloc);
+    if !name.is_under(origin) {
+        return Ok(Answer::new(Kind::Outside, rows));
+    }
+    let mut asked = *name;
+    for _ in 0..MOST_ALIASES {
+        if !asked.is_under(origin) {
+            return Ok(Answer::new(Kind::Answered, rows));
+        }
+        match step(alloc, version, origin, &asked, rtype, &mut rows)? {
+            Next::Ends(kind) => return Ok(Answer::new(kind, rows)),
+            Next::LeadsTo(None) => return Ok(Answer::new(Kind::Answered, rows)),
+            Next::LeadsTo(Some(target)) => asked = target,
+        }
+    }
+    Ok(Answer::new(Kind::Answered, rows))
+}
