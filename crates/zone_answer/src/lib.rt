@@ -10,6 +10,8 @@ mod owned;
 mod question;
 mod row;
 mod step;
+#[cfg(test)]
+mod tests;
 mod told;
 
 pub use kind::Kind;
