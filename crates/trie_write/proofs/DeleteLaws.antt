@@ -1,15 +1,15 @@
 -- The steps of a deletion.
-use Rattle.std.proofs.Common.{◌≡◌, ℕ, suc, ◌+◌, ◌-◌, ◌/◌, ◌%◌, ◌^◌, ◌<◌, ◌≤◌, inl, inr, Bool, true, List, [], ◌∷◌, ◌++◌, length, count_ones, Option, Some, None, arith, refl, sym, ◌∙◌, ap, subst}
+use Rattle.std.proofs.Common.{◌≡◌, ℕ, suc, ◌+◌, ◌-◌, ◌/◌, ◌%◌, ◌^◌, ◌<◌, ◌≤◌, inl, inr, Bool, true, List, [], ◌∷◌, ◌++◌, length, count_ones, Some, None, arith, refl, sym, ◌∙◌, ap, subst}
 use Rattle.std.specs.Int.{bit_at}
 use Rattle.packed_node.specs.declared.Cell.{Cell}
 use Rattle.packed_node.specs.declared.Leaf.{Leaf}
 use Rattle.packed_node.specs.declared.Branch.{Branch}
 use Rattle.packed_node.specs.Nodes.{IsBranch, branch_cell}
 use Rattle.trie_model.specs.Changes.{Removed, Shrunk}
-use Rattle.trie_model.specs.Keys.{at, Entry, IsEntry, InList}
-use Rattle.trie_model.specs.Memory.{top_cell, Lie}
-use Rattle.trie_model.specs.Reach.{row, in_chunk, weigh_tree, Within}
-use Rattle.trie_model.specs.Trees.{Tree, Twigs, entries_of, entries, count, bitmap_of, cells_in, IsRow, IsTree, AreTwigs, beside}
+use Rattle.trie_model.specs.Keys.{at, Entry, InList}
+use Rattle.trie_model.specs.Memory.{top_cell}
+use Rattle.trie_model.specs.Reach.{row, in_chunk, weigh_tree}
+use Rattle.trie_model.specs.Trees.{Tree, Twigs, entries_of, entries, count, bitmap_of, cells_in, IsRow, IsTree, beside}
 use Rattle.trie_model.specs.Trees.Tree.{leaf, branch}
 use Rattle.trie_model.specs.Trees.Twigs.{none, twig}
 use Rattle.trie_model.proofs.AddLaws.{found_twigs}
@@ -27,13 +27,13 @@ use Rattle.trie_read.specs.Reads.{EachTells}
 use Rattle.trie_write.specs.Paths.{twigs_on_path}
 use Rattle.trie_write.specs.Rows.{RowLies}
 use Rattle.trie_write.specs.Standing.{StandsIn, Standing}
-use Rattle.trie_write.specs.Steps.{Held, Became}
+use Rattle.trie_write.specs.Steps.{Held}
 use Rattle.trie_write.specs.Tops.{IsBranchTop, IsLeafTop}
 use Rattle.trie_write.specs.Weights.{at_place, mark}
 use Rattle.trie_write.specs.Deletions.{Deleted, no_spare, ShrinkAsks, LeafAsks, Shrinks, RootShrinks, DeleteAsks}
-use Rattle.trie_write.proofs.TwigLaws.{tops_of, AllBeneath, tops-beside, length-tops, beneath_join, beneath_of_lie, all_of_within, all_kept}
+use Rattle.trie_write.proofs.TwigLaws.{tops_of, AllBeneath, tops-beside, beneath_join, beneath_of_lie, all_of_within, all_kept}
 use Rattle.trie_write.proofs.WeightLaws.{mark_grows, row_fresh}
-use Rattle.trie_write.proofs.StepLaws.{branch_became, Descent, sizes, row_is, here_held, part_counted, path_became, path_twigs}
+use Rattle.trie_write.proofs.StepLaws.{branch_became, Descent, sizes, here_held, part_counted, path_became, path_twigs}
 use Rattle.trie_write.proofs.RootLaws.{root_stands_on}
 use Rattle.trie_write.proofs.ExchangeLaws.{only_entry, old_row, old_weight}
 

@@ -1,6 +1,6 @@
 -- Frames one after the other, and cells that are handed out.
-use Rattle.std.proofs.Common.{◌≡◌, ℕ, zero, suc, ◌+◌, ◌/◌, ◌<◌, ◌≤◌, Bool, true, false, List, [], ◌∷◌, Contains, Option, Some, None, Result, Ok, Err, IfOk, slice_get, slice_set, arith, refl, sym, ◌∙◌, ap, subst, inl, inr}
-use Rattle.std.proofs.lemmas.Bool.{true≢false, cases_eq, cases_lt}
+use Rattle.std.proofs.Common.{◌≡◌, ℕ, zero, suc, ◌+◌, ◌/◌, ◌<◌, Bool, true, false, List, [], ◌∷◌, Contains, Option, Some, None, Result, Ok, Err, IfOk, slice_get, slice_set, arith, refl, sym, ◌∙◌, ap, subst, inl, inr}
+use Rattle.std.proofs.lemmas.Bool.{true≢false, cases_eq}
 use Rattle.packed_node.specs.declared.Cell.{Cell}
 use Rattle.trie_model.specs.Trees.{IsRow}
 use Rattle.chunk_cells.specs.Chunks.{IsGiven, IsFree}

@@ -1,13 +1,11 @@
 -- The steps of an insertion.
-use Rattle.std.proofs.Common.{◌≡◌, ℕ, suc, ◌+◌, ◌-◌, ◌%◌, ◌^◌, ◌<◌, ◌≤◌, inl, inr, Bool, true, false, List, [], ◌∷◌, ◌++◌, length, count_ones, Option, Some, arith, sym, ◌∙◌, ap, subst, append_assoc}
+use Rattle.std.proofs.Common.{◌≡◌, ℕ, suc, ◌+◌, ◌-◌, ◌%◌, ◌^◌, ◌<◌, ◌≤◌, inl, inr, Bool, true, false, List, [], ◌∷◌, ◌++◌, length, count_ones, arith, sym, ◌∙◌, ap, subst, append_assoc}
 use Rattle.std.specs.Int.{bit_at}
 use Rattle.std.proofs.lemmas.Bool.{cases_lt, true≢false}
 use Rattle.packed_node.specs.declared.Cell.{Cell}
 use Rattle.packed_node.specs.declared.Leaf.{Leaf}
 use Rattle.packed_node.specs.declared.Branch.{Branch}
-use Rattle.packed_node.specs.declared.Node.{Node}
-use Rattle.packed_node.specs.declared.Node.TheVariants as node
-use Rattle.packed_node.specs.Nodes.{IsNode, IsLeaf, IsBranch, packed, leaf_cell, branch_cell}
+use Rattle.packed_node.specs.Nodes.{IsLeaf, IsBranch, leaf_cell, branch_cell}
 use Rattle.trie_model.specs.Changes.{Grown, Deep}
 use Rattle.trie_model.specs.Keys.{at, Entry}
 use Rattle.trie_model.specs.Memory.{top_cell, Beneath, Lie, ItemLies, item_cell}

@@ -1,9 +1,7 @@
-use Rattle.std.proofs.Common.{◌≡◌, ℕ, ◌+◌, ◌-◌, ◌/◌, ◌<◌, List, Contains, true, refl, sym, ◌∙◌, ap, subst, arith, rules}
+use Rattle.std.proofs.Common.{◌≡◌, ℕ, ◌+◌, ◌-◌, ◌<◌, List, Contains, true, refl, sym, ◌∙◌, ap, subst, arith, rules}
 use Rattle.packed_node.specs.declared.Cell.{Cell}
 use Rattle.trie_model.specs.Trees.{IsRow}
 use Rattle.trie_model.specs.Reach.{row, in_chunk}
-use Rattle.chunk_cells.specs.Chunks.{IsGiven}
-use Rattle.chunk_usage.specs.Rooms.{Ready}
 use Rattle.trie_write.specs.Frames.{Frame}
 use Rattle.trie_write.specs.Deletions.{LeafAsked, LeafAsks, Shrinks}
 use Rattle.trie_write.proofs.FrameLaws.{frame_put, ready_put, room_unkept, ok_map}

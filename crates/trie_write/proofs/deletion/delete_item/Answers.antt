@@ -1,4 +1,4 @@
-use Rattle.std.proofs.Common.{ℕ, ◌+◌, ◌∙◌, arith}
+use Rattle.std.proofs.Common.{◌∙◌, arith}
 use Rattle.trie_write.proofs.DeleteLaws.{root_asks, root_live, root_shrinks, last_row, last_counts, last_goes}
 use Rattle.trie_write.proofs.deletion.delete_item.Goals as goal
 

@@ -1,8 +1,5 @@
-use Rattle.std.proofs.Common.{◌≡◌, ℕ, ◌+◌, ◌≤◌, ◌++◌, [], List, length, refl, sym, ◌∙◌, ap, subst, arith}
+use Rattle.std.proofs.Common.{◌≡◌, ℕ, ◌+◌, ◌++◌, List, length, refl, sym, ◌∙◌, ap, subst, arith}
 use Rattle.packed_node.specs.declared.Cell.{Cell}
-use Rattle.packed_node.specs.Nodes.{IsBranch, branch_cell}
-use Rattle.chunk_usage.specs.Rooms.{Room}
-use Rattle.trie_model.specs.Reach.{row, in_chunk}
 use Rattle.trie_write.specs.Deletions.{Shrinks}
 use Rattle.trie_write.proofs.StepLaws.{numbers, row_is, cell_there, left_row, rest_row, left_length, rest_length}
 use Rattle.trie_write.proofs.TwigLaws.{tops_of}

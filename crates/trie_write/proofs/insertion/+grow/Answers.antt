@@ -5,7 +5,7 @@ use Rattle.trie_model.specs.Reach.{row, in_chunk}
 use Rattle.chunk_cells.specs.Chunks.{IsGiven}
 use Rattle.chunk_usage.specs.Rooms.{Ready}
 use Rattle.trie_write.specs.Frames.{Frame}
-use Rattle.trie_write.specs.Steps.{AsksBranch, Grew}
+use Rattle.trie_write.specs.Steps.{Grew}
 use Rattle.trie_write.proofs.FrameLaws.{frame_put, ready_put, room_unkept, ok_map}
 use Rattle.trie_write.proofs.StepLaws.{numbers, row_is, cell_there, cell_used, twig_there, part_counted, moved_branch, left_row, rest_row, left_length, rest_length, left_used, rest_used}
 use Rattle.trie_write.proofs.InsertLaws as inserting
