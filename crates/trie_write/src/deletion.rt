@@ -24,7 +24,7 @@ use packed_node::{Branch, Cell, Leaf, Node, Ref, bitmap};
 use shift_key::Key;
 use trie_read::get;
 
-/// The cell of the other one of two twigs, which takes the branch's place. The key's leaf counts no more.
+/// The cell of what takes the place of a branch of two twigs, one of them the key's leaf: the other twig. The leaf counts no more.
 fn collapse<C: CellRead, U: Space>(
     cells: &mut C,
     usage: &mut U,
@@ -50,7 +50,8 @@ fn collapse<C: CellRead, U: Space>(
     other
 }
 
-/// The cell of the branch without the twig of the key, which is a leaf, or of what takes its place. The leaf counts no more.
+/// The cell of what a branch becomes without the key's leaf, which is one of its twigs: the branch with the others, or the other
+/// one of two. The leaf counts no more.
 fn drop_leaf<C: CellWrite, U: Space>(
     cells: &mut C,
     usage: &mut U,
