@@ -79,3 +79,14 @@ fn an_alias_stands_alone(rt: HostRuntime) -> Result<(), Fail> {
         "1.1 v0 REFUSED cname\n1.2 v1 COMMITTED\n1.3 v1 ANSWER 1\nw.example. 3600 IN TXT \"a b\" \";\"\nend v1 names 3\n",
     )
 }
+
+#[test]
+fn a_block_is_rolled_back(rt: HostRuntime) -> Result<(), Fail> {
+    expect(
+        &rt,
+        rt.alloc(),
+        "worker\nupdate\ndel ns\nadd a 60 A 192.0.2.9\nrollback\nget ns A\nget a A\n",
+        Status::Done,
+        "1.1 v0 ROLLED BACK\n1.2 v0 ANSWER 1\nns.example. 300 IN A 192.0.2.1\n1.3 v0 NXDOMAIN\nend v0 names 2\n",
+    )
+}

@@ -66,6 +66,10 @@ fn scripts_that_are_refused(rt: HostRuntime) -> Result<(), Fail> {
             "script refused line 7 OpenBlock\n",
         ),
         ("worker\nworker\n", "script refused line 7 TooMany\n"),
+        (
+            "worker\nwrite\nrollback\n",
+            "script refused line 8 BadCommand\n",
+        ),
         ("worker\nget a..b A\n", "script refused line 7 BadName\n"),
         ("worker\nget a NOTYPE\n", "script refused line 7 BadType\n"),
         (

@@ -21,8 +21,8 @@ use Rattle.zone_model.specs.DataWords.{time_of, data_type, type_named, class_nam
 use Rattle.zone_model.specs.DataText.{type_text, data_text}
 use Rattle.zone_model.specs.Data.{data_of}
 use Rattle.zone_model.specs.MasterFile.{Reader, begins_with, is_time, front_of, added, after_record, record_says, last_line, entry_says, zone_from, at_first, with_soa, zone_of}
-use Rattle.zone_model.specs.Answers.{Row}
-use Rattle.zone_model.specs.Reports.{row_text}
+use Rattle.zone_model.specs.Rows.{Row}
+use Rattle.zone_model.specs.Rows.{row_text}
 use Rattle.zone_model.proofs.SplitLemmas.{IsBytes}
 use Rattle.zone_model.proofs.GrammarLemmas.{Agrees, line_read}
 use Rattle.dns_name.proofs.PrintedLemmas.{name_of-text_of}

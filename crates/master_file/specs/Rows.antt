@@ -8,7 +8,7 @@ use Rattle.zone_model.specs.Lines.{lines_of}
 use Rattle.zone_model.specs.Versions.{Version}
 use Rattle.zone_model.specs.DataWords.{data_type, most_time}
 use Rattle.zone_model.specs.DataForms.{form_fits}
-use Rattle.zone_model.specs.Answers.{Row}
+use Rattle.zone_model.specs.Rows.{Row}
 use Rattle.zone_model.specs.MasterFile.{Reader, added, after_record, zone_from, at_first, with_soa}
 
 -- a record as master files have them: its type is one that data has, its time one that may be written, its octets of the type's form

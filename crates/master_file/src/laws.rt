@@ -3,8 +3,8 @@ ghost use Rattle.std.specs.Prelude.{◌≡◌, ℕ, ◌+◌, ◌++◌, List, Non
 ghost use Rattle.std.specs.List.{AllByRecursion, flat_map};
 ghost use Rattle.zone_model.specs.Names.{Name};
 ghost use Rattle.zone_model.specs.Lines.{lines_of};
-ghost use Rattle.zone_model.specs.Answers.{Row};
-ghost use Rattle.zone_model.specs.Reports.{row_text};
+ghost use Rattle.zone_model.specs.Rows.{Row};
+ghost use Rattle.zone_model.specs.Rows.{row_text};
 ghost use Rattle.zone_model.specs.MasterFile.{Reader, zone_from, zone_of};
 ghost use Rattle.master_file.specs.Rows.{IsRecord, row_added, read_on, zone_of_rows};
 

@@ -7,10 +7,10 @@ use Rattle.zone_model.specs.Names.{Name}
 use Rattle.zone_model.specs.Versions.{Version}
 use Rattle.zone_model.specs.Refusals.{Refused, ◌>>=◌}
 use Rattle.zone_model.specs.MasterFile.{zone_of}
-use Rattle.zone_model.specs.Jobs.{Command, Job, JobRefusal, ZoneRefused, ScriptRefused, zone_lines, script_lines, script_start, script_of, zone_refused, script_refused, job_of_lines, job_of}
-use Rattle.zone_model.specs.Outcomes.{some_refused}
+use Rattle.job_model.specs.Jobs.{Command, Job, JobRefusal, ZoneRefused, ScriptRefused, zone_lines, script_lines, script_start, script_of, zone_refused, script_refused, job_of_lines, job_of}
+use Rattle.job_model.specs.Outcomes.{some_refused}
 use Rattle.zone_model.specs.declared.ZoneKind.{ZoneKind}
-use Rattle.zone_model.specs.declared.ScriptKind.{ScriptKind}
+use Rattle.job_model.specs.declared.ScriptKind.{ScriptKind}
 use Rattle.qp_main.specs.Fits.{fits, no_room_text, size_text}
 use Rattle.qp_main.specs.Due.{Due, DueBytes, DueInput, Answers, Checks, IfFits, Ends, ZoneRefuses, Reported, IsWritten}
 use Rattle.qp_main.specs.declared.status.Status.{Status}

@@ -1,7 +1,7 @@
 -- A command line of six words.
-use Rattle.std.proofs.Common.{◌≡◌, ◌∙◌, ℕ, List, [], ◌∷◌, length, map, get_or, sym, ap, arith, Option, Some, option_and_then}
+use Rattle.std.proofs.Common.{◌≡◌, ◌∙◌, ℕ, List, [], ◌∷◌, length, map, get_or, sym, ap, arith, Some, option_and_then}
 use Rattle.qp_main.specs.declared.invocation.Verb.{Verb}
-use Rattle.qp_main.specs.Invocations.{Invocation, invocation_of, settings_of, verb_of}
+use Rattle.qp_main.specs.Invocations.{invocation_of, settings_of, verb_of}
 
 verb_said : (program word : List ℕ) (options : List (List ℕ)) (verb : Verb) → verb_of word ≡ Some verb → invocation_of (program ∷ word ∷ options) ≡ settings_of verb options
 unfolding invocation_of

@@ -1,25 +1,23 @@
 -- What a name owned is given back.
-use Rattle.std.proofs.Common.{◌≡◌, ◌∙◌, ℕ, Bool, true, false, cond, ◌+◌, ◌<◌, List, [], ◌∷◌, ◌++◌, length, map, drop, get_or, Option, Some, None, refl, sym, ap, subst, Result, Ok, Err, unwrap_or, IfOk}
+use Rattle.std.proofs.Common.{◌≡◌, ◌∙◌, ℕ, cond, ◌+◌, ◌<◌, List, [], ◌∷◌, ◌++◌, length, map, drop, get_or, Option, Some, None, refl, sym, ap, subst, Result, Ok}
 use Rattle.std.specs.List.{AllByRecursion}
 use Rattle.std.specs.List.Sorted.{IsStrictlySortedBy}
 use Rattle.std.specs.Ordering.{is_eq, match_ordering, ordering_reverse}
 use Rattle.std.specs.declared.cmp.Ordering.{Ordering}
 use Rattle.std.specs.declared.cmp.Ordering.TheVariants.{Less, Equal, Greater}
 use Rattle.std.specs.BTreeMap.{insert_entry, is_at}
-use Rattle.std.specs.Map.{lookup, remove_entry, set_value, keys_of}
+use Rattle.std.specs.Map.{lookup, remove_entry, keys_of}
 use Rattle.zone_model.specs.Names.{Name, name_cmp}
 use Rattle.zone_model.specs.NameOrder.{name_cmp_total}
 use Rattle.zone_model.specs.Records.{Entry}
 use Rattle.std.proofs.lemmas.List.{drop_more}
-use Rattle.zone_model.specs.Versions.{Version, Operation, Addition, entry_of, owned, put, apply, whole, and_then}
+use Rattle.zone_model.specs.Versions.{Version, Operation, entry_of, put, apply, whole, and_then}
 use Rattle.zone_model.specs.declared.Refusal.{Refusal}
-use Rattle.zone_model.specs.Answers.{exists}
+use Rattle.zone_model.specs.Versions.{exists}
 use Rattle.zone_model.proofs.NameLemmas.{name_cmp-IsAntisymmetric}
 use Rattle.zone_model.proofs.OrderLemmas.{first_under, exists_near}
 use Rattle.std.specs.BTreeMap.Range.{entries_between}
 use Rattle.std.specs.declared.ops.Bound.TheVariants.{Included, Unbounded}
-use Rattle.std.specs.Option.{option_map}
-use Rattle.std.specs.declared.alloc.AllocError.{AllocError}
 use Rattle.qp_main.specs.Steps.{restored, undone}
 use Rattle.qp_main.specs.declared.versions.Undo.{Undo}
 

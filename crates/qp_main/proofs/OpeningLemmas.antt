@@ -1,5 +1,5 @@
 -- Items of a version, and their order.
-use Rattle.std.proofs.Common.{◌≡◌, ◌∙◌, ℕ, zero, suc, ◌+◌, ◌<◌, ◌-◌, ◌≤◌, inl, inr, take, List, [], ◌∷◌, ◌++◌, length, drop, map, refl, sym, ap, subst, arith, length-append, append_assoc}
+use Rattle.std.proofs.Common.{◌≡◌, ◌∙◌, ℕ, zero, suc, ◌+◌, ◌<◌, ◌-◌, ◌≤◌, inl, inr, take, List, [], ◌∷◌, ◌++◌, length, drop, refl, sym, ap, subst, arith, length-append, append_assoc}
 use Rattle.std.proofs.lemmas.List.{drop_at, drop-take}
 use Rattle.std.specs.List.{AllByRecursion, flat_map}
 use Rattle.std.specs.List.Sorted.{IsStrictlySortedBy}
@@ -16,7 +16,7 @@ use Rattle.std.specs.Cmp.{ranked}
 use Rattle.zone_model.proofs.KeyLaws.{key_cmp-key_of}
 use Rattle.trie_model.specs.Keys.{at, Less, InList, Rises}
 use Rattle.trie_model.specs.Keys.{Entry as TrieEntry}
-use Rattle.qp_main.specs.Fits.{trie_entry, trie_entries}
+use Rattle.qp_main.specs.Fits.{trie_entries}
 use Rattle.qp_main.specs.Openings.{AreNames}
 
 -- ---- what stands behind the owner

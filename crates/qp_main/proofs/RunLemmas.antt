@@ -5,11 +5,14 @@ use Rattle.std.proofs.lemmas.List.{map-append, length-map, map_more, length-take
 use Rattle.std.specs.List.{AllByRecursion, list_any}
 use Rattle.zone_model.specs.Names.{Name}
 use Rattle.zone_model.specs.Versions.{Version, Operation, whole}
-use Rattle.zone_model.specs.Jobs.{Command, Get, Block}
-use Rattle.zone_model.specs.Answers.{answer}
-use Rattle.zone_model.specs.Outcomes.{Outcome, Ended, Shown, Committed, Refused, is_committed, is_refused, made, operations_of, operations_at, accepted_or, after, times_made, version_at, EndsLawfully, Along, all_pairs}
-use Rattle.zone_model.specs.Reports.{head_text, command_text, worker_text, workers_text, answer_text}
+use Rattle.job_model.specs.Jobs.{Command, Get, Block}
+use Rattle.job_model.specs.Answers.{answer}
+use Rattle.job_model.specs.Outcomes.{Outcome, Ended, Shown, Committed, RolledBack, Refused, is_committed, is_refused, made, operations_of, operations_at, accepted_or, after, times_made, version_at, EndsLawfully, Along, all_pairs}
+use Rattle.job_model.specs.Reports.{head_text, command_text, worker_text, workers_text, answer_text, ended_text}
 use Rattle.zone_model.specs.declared.Refusal.{Refusal}
+use Rattle.job_model.specs.declared.Ending.{Ending}
+use Rattle.job_model.specs.declared.Ending.TheVariants.{Commit}
+use Rattle.job_model.specs.declared.Weight.{Weight}
 use Rattle.std.specs.Fmt.{decimal}
 use Rattle.std.specs.Prelude.{codes}
 use Rattle.qp_main.specs.Runs.{Ran, Stepped, StepEnds}
@@ -56,7 +59,7 @@ Agree set other last = (j : ℕ) → j ≤ last → other j ≡ set j
 
 text_alike : (origin : Name) (set other : ℕ → Version) (last : ℕ) → Agree set other last → (c : Command) (o : Outcome) → o.version ≤ last → command_text origin other c o ≡ command_text origin set c o
 text_alike origin set other last a (Get name rtype) o h = ap (λ (v : Version). answer_text (answer origin v name rtype)) (a o.version h)
-text_alike origin set other last a (Block operations) o h = refl
+text_alike origin set other last a (Block how operations ending) o h = refl
 
 worker_text-alike : (origin : Name) (set other : ℕ → Version) (last c : ℕ) (pairs : Pairs) → Agree set other last → Within last pairs → worker_text origin other 1 c pairs ≡ worker_text origin set 1 c pairs
 worker_text-alike origin set other last c [] a w = refl
@@ -75,12 +78,15 @@ worker_text-push origin set c (q ∷ qs) p =
 ends_alike : (origin : Name) (set other : ℕ → Version) (last seen v : ℕ) (c : Command) (e : Ended) → Agree set other last → v ≤ last → EndsLawfully origin set seen c v e → EndsLawfully origin other seen c v e
 ends_alike origin set other last seen v (Get name rtype) Shown a h l = l
 ends_alike origin set other last seen v (Get name rtype) Committed a h l = l
+ends_alike origin set other last seen v (Get name rtype) RolledBack a h l = l
 ends_alike origin set other last seen v (Get name rtype) (Refused cause) a h l = l
-ends_alike origin set other last seen v (Block operations) Shown a h l = l
-ends_alike origin set other last seen v (Block operations) Committed a h l =
+ends_alike origin set other last seen v (Block how operations ending) Shown a h l = l
+ends_alike origin set other last seen v (Block how operations ending) Committed a h l =
     let le : v - 1 ≤ last = omega arith in
-    (l.0, subst (λ (w : Version). IsOk (whole origin operations w)) (sym (a (v - 1) le)) l.1)
-ends_alike origin set other last seen v (Block operations) (Refused cause) a h l = (l.0, ap (whole origin operations) (a v h) ∙ l.1)
+    (l.0, l.1, subst (λ (w : Version). IsOk (whole origin operations w)) (sym (a (v - 1) le)) l.2)
+ends_alike origin set other last seen v (Block how operations ending) RolledBack a h l =
+    (l.0, l.1, subst (λ (w : Version). IsOk (whole origin operations w)) (sym (a v h)) l.2)
+ends_alike origin set other last seen v (Block how operations ending) (Refused cause) a h l = (l.0, ap (whole origin operations) (a v h) ∙ l.1)
 
 -- what the worker has seen in the end
 abbrev seen_after : ℕ → Pairs → ℕ
@@ -180,12 +186,12 @@ counted_next last pairs p w below here once j h k =
     ]
 
 -- a block that makes the next version
-ran_next : (origin : Name) (zone : Version) (commands : List Command) (before mid now : List ℕ) (last : ℕ) (old new : Version) (operations : List Operation) (refused : Bool) (r : Ran origin zone commands before mid last old refused)
-    → whole origin operations old ≡ Ok new → now ≡ mid ++ (head_text 1 (length commands + 1) (suc last) ++ command_text origin (λ _. old) (Block operations) (record { version = suc last; ended = Committed }))
-    → Ran origin zone (commands ++ Block operations ∷ []) before now (suc last) new (refused || false)
-ran_next origin zone commands before mid now last old new operations refused r ends text =
+ran_next : (origin : Name) (zone : Version) (commands : List Command) (before mid now : List ℕ) (last : ℕ) (old new : Version) (how : Weight) (operations : List Operation) (refused : Bool) (r : Ran origin zone commands before mid last old refused)
+    → whole origin operations old ≡ Ok new → now ≡ mid ++ (head_text 1 (length commands + 1) (suc last) ++ command_text origin (λ _. old) (Block how operations Commit) (record { version = suc last; ended = Committed }))
+    → Ran origin zone (commands ++ Block how operations Commit ∷ []) before now (suc last) new (refused || false)
+ran_next origin zone commands before mid now last old new how operations refused r ends text =
     let o : Outcome = record { version = suc last; ended = Committed } in
-    let p : Command × Outcome = (Block operations, record { version = suc last; ended = Committed }) in
+    let p : Command × Outcome = (Block how operations Commit, record { version = suc last; ended = Committed }) in
     let below : (i : ℕ) → i ≤ last → made i p ≡ false = λ i h. not_made i p (λ e. omega arith) in
     let here : made (suc last) p ≡ true = (let t : eqb (suc last) (suc last) ≡ true = grind arith in t) in
     let agree = set_of origin zone r.pairs last p below in
@@ -198,10 +204,11 @@ ran_next origin zone commands before mid now last old new operations refused r e
     let one : suc last - 1 ≡ last = omega arith in
     record {
       pairs = r.pairs ++ p ∷ [];
-      same = map-append (λ (q : Command × Outcome). q.0) r.pairs (p ∷ []) ∙ ap (λ (l : List Command). l ++ Block operations ∷ []) r.same;
+      same = map-append (λ (q : Command × Outcome). q.0) r.pairs (p ∷ []) ∙ ap (λ (l : List Command). l ++ Block how operations Commit ∷ []) r.same;
       once = λ j h k. count-push j r.pairs p ∙ counted_next last r.pairs p r.none_above below here r.once j h k;
       none_above = within_more last (suc last) r.pairs p r.none_above le same_le;
       along = along_push origin (version_at origin zone r.pairs) (version_at origin zone (r.pairs ++ p ∷ [])) last 0 r.pairs p agree r.none_above r.along (
+        refl,
         (let z : 0 ≤ last = omega arith in let s = seen_within last 0 r.pairs z r.none_above in let lt : seen_after 0 r.pairs < suc last = omega arith in lt),
         subst (λ (k : ℕ). IsOk (whole origin operations (version_at origin zone (r.pairs ++ p ∷ []) k))) (sym one) (ok_from _ _ accepted),
       );
@@ -215,34 +222,42 @@ pub ran_more : (origin : Name) (zone : Version) (commands : List Command) (comma
 ran_more origin zone commands command before mid now last next old new refused here r s =
     subst (λ (b : Bool). Ran origin zone (commands ++ command ∷ []) before now next new (refused || b)) (sym s.some) (go command s.ended s.ends s.text)
   where
+    seen_now : next ≡ last → seen_after 0 r.pairs ≤ next
+    seen_now here =
+        let z : 0 ≤ last = omega arith in
+        let seen = seen_within last 0 r.pairs z r.none_above in
+        let le : seen_after 0 r.pairs ≤ next = omega arith in le
+
+    set_now : next ≡ last → version_at origin zone r.pairs next ≡ old
+    set_now here = ap (version_at origin zone r.pairs) here ∙ sym r.current
+
+    unchanged : (c : Command) (e : Ended) → next ≡ last → new ≡ old → is_committed e ≡ false → EndsLawfully origin (version_at origin zone r.pairs) (seen_after 0 r.pairs) c next e
+        → now ≡ mid ++ (head_text 1 (length commands + 1) next ++ command_text origin (version_at origin zone r.pairs) c (record { version = next; ended = e })) → Ran origin zone (commands ++ c ∷ []) before now next new (refused || is_refused e)
+    unchanged c e here same plain ends text =
+        subst (λ (n : ℕ). Ran origin zone (commands ++ c ∷ []) before now n new (refused || is_refused e)) (sym here)
+        (subst (λ (v : Version). Ran origin zone (commands ++ c ∷ []) before now last v (refused || is_refused e)) (sym same)
+        (ran_same origin zone commands before mid now last old refused c (record { version = next; ended = e }) r plain here ends text))
+
     go : (c : Command) (e : Ended) → StepEnds origin c e last next old new → now ≡ mid ++ (head_text 1 (length commands + 1) next ++ command_text origin (λ _. old) c (record { version = next; ended = e })) → Ran origin zone (commands ++ c ∷ []) before now next new (refused || is_refused e)
     go (Get name rtype) Shown ends text =
-        let here : next ≡ last = ends.0 in
-        let z : 0 ≤ last = omega arith in
-        let seen = seen_within last 0 r.pairs z r.none_above in
-        let le : seen_after 0 r.pairs ≤ next = omega arith in
-        let set : version_at origin zone r.pairs next ≡ old = ap (version_at origin zone r.pairs) here ∙ sym r.current in
-        subst (λ (n : ℕ). Ran origin zone (commands ++ Get name rtype ∷ []) before now n new (refused || false)) (sym here)
-        (subst (λ (v : Version). Ran origin zone (commands ++ Get name rtype ∷ []) before now last v (refused || false)) (sym ends.1)
-        (ran_same origin zone commands before mid now last old refused (Get name rtype) (record { version = next; ended = Shown }) r refl here le
-        (text ∙ ap (λ (v : Version). mid ++ (head_text 1 (length commands + 1) next ++ answer_text (answer origin v name rtype))) (sym set))))
+        unchanged (Get name rtype) Shown ends.0 ends.1 refl (seen_now ends.0)
+        (text ∙ ap (λ (v : Version). mid ++ (head_text 1 (length commands + 1) next ++ answer_text (answer origin v name rtype))) (sym (set_now ends.0)))
     go (Get name rtype) Committed ends text = absurd ends
+    go (Get name rtype) RolledBack ends text = absurd ends
     go (Get name rtype) (Refused cause) ends text = absurd ends
-    go (Block operations) Shown ends text = absurd ends
-    go (Block operations) Committed ends text =
-        let here : next ≡ suc last = omega (arith, ends.0) in
-        subst (λ (n : ℕ). Ran origin zone (commands ++ Block operations ∷ []) before now n new (refused || false)) (sym here)
-        (ran_next origin zone commands before mid now last old new operations refused r ends.1
-        (text ∙ ap (λ (n : ℕ). mid ++ (head_text 1 (length commands + 1) n ++ command_text origin (λ _. old) (Block operations) (record { version = n; ended = Committed }))) here))
-    go (Block operations) (Refused cause) ends text =
-        let here : next ≡ last = ends.0 in
-        let z : 0 ≤ last = omega arith in
-        let seen = seen_within last 0 r.pairs z r.none_above in
-        let le : seen_after 0 r.pairs ≤ next = omega arith in
-        let set : version_at origin zone r.pairs next ≡ old = ap (version_at origin zone r.pairs) here ∙ sym r.current in
-        subst (λ (n : ℕ). Ran origin zone (commands ++ Block operations ∷ []) before now n new (refused || true)) (sym here)
-        (subst (λ (v : Version). Ran origin zone (commands ++ Block operations ∷ []) before now last v (refused || true)) (sym ends.1)
-        (ran_same origin zone commands before mid now last old refused (Block operations) (record { version = next; ended = Refused cause }) r refl here (le, ap (whole origin operations) set ∙ ends.2) text))
+    go (Block how operations ending) Shown ends text = absurd ends
+    go (Block how operations ending) Committed ends text =
+        let here : next ≡ suc last = omega (arith, ends.1) in
+        subst (λ (n : ℕ). Ran origin zone (commands ++ Block how operations ending ∷ []) before now n new (refused || false)) (sym here)
+        (subst (λ (e : Ending). Ran origin zone (commands ++ Block how operations e ∷ []) before now (suc last) new (refused || false)) (sym ends.0)
+        (ran_next origin zone commands before mid now last old new how operations refused r ends.2
+        (text ∙ ap (λ (n : ℕ). mid ++ (head_text 1 (length commands + 1) n ++ ended_text Committed)) here)))
+    go (Block how operations ending) RolledBack ends text =
+        unchanged (Block how operations ending) RolledBack ends.1 ends.2 refl
+        (let le = seen_now ends.1 in (ends.0, le, subst (λ (v : Version). IsOk (whole origin operations v)) (sym (set_now ends.1)) ends.3)) text
+    go (Block how operations ending) (Refused cause) ends text =
+        unchanged (Block how operations ending) (Refused cause) ends.0 ends.1 refl
+        (let le = seen_now ends.0 in (le, ap (whole origin operations) (set_now ends.0) ∙ ends.2)) text
 
 -- the same along a list of commands
 pub ran_index : {C : Type 0} (view : C → Command) (commands : List C) (i : ℕ) (here : C) (origin : Name) (zone : Version) (before mid now : List ℕ) (last next : ℕ) (old new : Version) (refused step : Bool)

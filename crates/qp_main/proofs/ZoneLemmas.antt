@@ -1,6 +1,5 @@
 -- What each name of a zone owns can be an item.
-use Rattle.std.proofs.Common.{◌≡◌, ◌∙◌, ℕ, ◌+◌, ◌<◌, ◌≤◌, Bool, true, false, cond, not, eqb, ltb, ◌&&◌, List, [], ◌∷◌, ◌++◌, length, refl, sym, ap, subst, arith, Option, Some, None, Result, Ok, Err, IfOk, unwrap_or, is_none, codes}
-use Rattle.std.proofs.lemmas.Bool.Decides.{nat_tests}
+use Rattle.std.proofs.Common.{◌≡◌, ℕ, ◌+◌, ◌<◌, ◌≤◌, Bool, true, false, cond, not, eqb, ltb, ◌&&◌, List, [], ◌∷◌, ◌++◌, length, refl, subst, arith, Option, Some, None, Result, Ok, Err, IfOk, unwrap_or, codes}
 use borrow.Author.Tests.{ltb-false}
 use Rattle.std.specs.List.{AllByRecursion}
 use Rattle.std.specs.BTreeMap.{insert_entry}
@@ -8,13 +7,13 @@ use Rattle.std.specs.declared.cmp.Ordering.{Ordering}
 use Rattle.std.specs.declared.cmp.Ordering.TheVariants.{Less, Equal, Greater}
 use Rattle.std.specs.Ordering.{nat_cmp, match_ordering}
 use Rattle.zone_model.specs.Names.{Name, name_cmp, is_under, same_name}
-use Rattle.zone_model.specs.Records.{Rrset, Entry, item, with_rr, changed_at, joined}
+use Rattle.zone_model.specs.Records.{Entry, item, with_rr, changed_at, joined}
 use Rattle.zone_model.specs.Versions.{Version, entry_of, is_lone, has_soa}
 use Rattle.zone_model.specs.Refusals.{Refused, ◌>>=◌}
 use Rattle.zone_model.specs.Tokens.{Token, line_tokens}
 use Rattle.zone_model.specs.DataWords.{is_word}
 use Rattle.zone_model.specs.Data.{data_of}
-use Rattle.zone_model.specs.MasterFile.{Reader, Pending, directive, one_argument, set_time_word, set_origin_word, is_directive, required, time_word, name_word, front_of, placed, time_for, soa_count, entry_fault, unless_fault, placed_in, added, record_says, after_record, entry_says, last_line, goes_on, zone_from, zone_of, with_soa, at_first}
+use Rattle.zone_model.specs.MasterFile.{Reader, Pending, directive, one_argument, is_directive, required, time_word, name_word, front_of, placed, time_for, soa_count, entry_fault, unless_fault, placed_in, added, record_says, entry_says, last_line, goes_on, zone_from, zone_of, with_soa, at_first}
 use Rattle.zone_model.specs.declared.ZoneKind.{ZoneKind}
 use Rattle.zone_model.specs.declared.ZoneKind.TheVariants.{SoaRule, CnameAndOther, LongEntry, NoTtl, BadTtl, BadName, NoOwner}
 use Rattle.zone_model.proofs.NameLemmas.{name_cmp-IsAntisymmetric}

@@ -5,13 +5,13 @@ use Rattle.zone_model.specs.Names.{Name}
 use Rattle.zone_model.specs.Versions.{Version}
 use Rattle.zone_model.specs.Refusals.{Refused}
 use Rattle.zone_model.specs.MasterFile.{zone_of}
-use Rattle.zone_model.specs.Jobs.{Job, JobRefusal, ZoneRefused, ScriptRefused, zone_lines, job_of}
-use Rattle.zone_model.specs.Outcomes.{Pair, Lawful, some_refused}
-use Rattle.zone_model.specs.Reports.{report}
+use Rattle.job_model.specs.Jobs.{Job, JobRefusal, ZoneRefused, ScriptRefused, zone_lines, job_of}
+use Rattle.job_model.specs.Outcomes.{Pair, Lawful, some_refused}
+use Rattle.job_model.specs.Reports.{report}
 use Rattle.zone_model.specs.declared.ZoneKind.{ZoneKind}
 use Rattle.zone_model.specs.declared.ZoneKind.TheVariants as zone_kind
-use Rattle.zone_model.specs.declared.ScriptKind.{ScriptKind}
-use Rattle.zone_model.specs.declared.ScriptKind.TheVariants.{NoWorker, BadCommand, BadName, BadType, BadRdata, BadNumber, OpenBlock, TooMany}
+use Rattle.job_model.specs.declared.ScriptKind.{ScriptKind}
+use Rattle.job_model.specs.declared.ScriptKind.TheVariants.{NoWorker, BadCommand, BadName, BadType, BadRdata, BadNumber, OpenBlock, TooMany}
 use Rattle.outer_io.specs.Bytes.{Grows, GrowsByFront}
 use Rattle.qp_main.specs.Invocations.{Invocation}
 use Rattle.qp_main.specs.Fits.{fits, no_room_text, size_text}

@@ -1,8 +1,4 @@
-pub mod Views
 pub mod Steps
-pub mod Phrases
-pub mod Parts
-pub mod Scripts
 pub mod Statuses
 pub mod Invocations
 pub mod Fits

@@ -1,11 +1,12 @@
 -- What a run of a worker's commands is.
-use Rattle.std.specs.Prelude.{◌≡◌, ℕ, ◌+◌, ◌<◌, ◌≤◌, Bool, List, ◌++◌, map, Ok, Err}
+use Rattle.std.specs.Prelude.{◌≡◌, ℕ, ◌+◌, ◌<◌, ◌≤◌, Bool, List, ◌++◌, map, Ok, Err, IsOk}
 use Rattle.std.specs.List.{AllByRecursion, list_any}
 use Rattle.zone_model.specs.Names.{Name}
 use Rattle.zone_model.specs.Versions.{Version, whole}
-use Rattle.zone_model.specs.Jobs.{Command, Get, Block}
-use Rattle.zone_model.specs.Outcomes.{Pair, Ended, Shown, Committed, Refused, is_refused, times_made, version_at, Along}
-use Rattle.zone_model.specs.Reports.{worker_text, head_text, command_text}
+use Rattle.job_model.specs.Jobs.{Command, Get, Block}
+use Rattle.job_model.specs.Outcomes.{Pair, Ended, Shown, Committed, RolledBack, Refused, is_refused, times_made, version_at, Along}
+use Rattle.job_model.specs.declared.Ending.TheVariants.{Commit, Rollback}
+use Rattle.job_model.specs.Reports.{worker_text, head_text, command_text}
 
 -- Commands were run from a zone on, and gave this text and this last version.
 pub record Ran (origin : Name) (zone : Version) (commands : List Command) (before now : List ℕ) (last : ℕ) (version : Version) (refused : Bool) : Type 0 where
@@ -22,10 +23,12 @@ pub record Ran (origin : Name) (zone : Version) (commands : List Command) (befor
 abbrev pub StepEnds : Name → Command → Ended → ℕ → ℕ → Version → Version → Type 0
 StepEnds origin (Get name rtype) Shown last next old new = (next ≡ last) × (new ≡ old)
 StepEnds origin (Get name rtype) Committed last next old new = ⊥
+StepEnds origin (Get name rtype) RolledBack last next old new = ⊥
 StepEnds origin (Get name rtype) (Refused cause) last next old new = ⊥
-StepEnds origin (Block operations) Shown last next old new = ⊥
-StepEnds origin (Block operations) Committed last next old new = (next ≡ last + 1) × (whole origin operations old ≡ Ok new)
-StepEnds origin (Block operations) (Refused cause) last next old new = (next ≡ last) × (new ≡ old) × (whole origin operations old ≡ Err cause)
+StepEnds origin (Block _ operations ending) Shown last next old new = ⊥
+StepEnds origin (Block _ operations ending) Committed last next old new = (ending ≡ Commit) × (next ≡ last + 1) × (whole origin operations old ≡ Ok new)
+StepEnds origin (Block _ operations ending) RolledBack last next old new = (ending ≡ Rollback) × (next ≡ last) × (new ≡ old) × IsOk (whole origin operations old)
+StepEnds origin (Block _ operations ending) (Refused cause) last next old new = (next ≡ last) × (new ≡ old) × (whole origin operations old ≡ Err cause)
 
 -- one command was run
 pub record Stepped (origin : Name) (command : Command) (number last next : ℕ) (old new : Version) (before now : List ℕ) (refused : Bool) : Type 0 where

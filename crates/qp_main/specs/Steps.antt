@@ -1,5 +1,5 @@
 -- What an operation or a block leaves.
-use Rattle.std.specs.Prelude.{◌≡◌, List, [], ◌∷◌, ◌++◌, Option, Some, None, Result, Ok, Err}
+use Rattle.std.specs.Prelude.{◌≡◌, List, [], ◌∷◌, ◌++◌, Option, Some, None, Result, Ok, Err, IsOk}
 use Rattle.std.specs.BTreeMap.{insert_entry, is_at}
 use Rattle.std.specs.Map.{remove_entry}
 use Rattle.zone_model.specs.Names.{name_cmp}
@@ -8,7 +8,11 @@ use Rattle.zone_model.specs.Versions.{Version}
 use Rattle.zone_model.specs.declared.Refusal.{Refusal}
 use Rattle.qp_main.specs.declared.versions.Stopped.{Stopped}
 use Rattle.qp_main.specs.declared.versions.Stopped.TheVariants as stops
+use Rattle.qp_main.specs.declared.versions.Transacted.{Transacted}
+use Rattle.qp_main.specs.declared.versions.Transacted.TheVariants as transacted
 use Rattle.qp_main.specs.declared.versions.Undo.{Undo}
+use Rattle.job_model.specs.declared.Ending.{Ending}
+use Rattle.job_model.specs.declared.Ending.TheVariants.{Commit, Rollback}
 
 -- an entry is the one wanted, or the refusal is; want of memory says nothing
 abbrev pub Gives : Result Entry Stopped → Result Entry Refusal → Type 0
@@ -22,10 +26,11 @@ Applies (Ok u) new wanted = wanted ≡ Ok new
 Applies (Err stops.Memory) new wanted = Unit {0}
 Applies (Err (stops.Refused refusal)) new wanted = wanted ≡ Err refusal
 
--- a block that is refused changes nothing
-abbrev pub Transacts : Option Refusal → Version → Version → Result Version Refusal → Type 0
-Transacts None old new wanted = wanted ≡ Ok new
-Transacts (Some refusal) old new wanted = (wanted ≡ Err refusal) × (new ≡ old)
+-- A block that is committed makes the version wanted. One that is rolled back or refused changes nothing.
+abbrev pub Transacts : Transacted → Ending → Version → Version → Result Version Refusal → Type 0
+Transacts transacted.Committed ending old new wanted = (ending ≡ Commit) × (wanted ≡ Ok new)
+Transacts transacted.RolledBack ending old new wanted = (ending ≡ Rollback) × (new ≡ old) × IsOk wanted
+Transacts (transacted.Refused refusal) ending old new wanted = (new ≡ old) × (wanted ≡ Err refusal)
 
 -- the version in which a name owns again what it owned
 abbrev pub restored : Undo → Version → Version

@@ -2,8 +2,10 @@
 ghost use Rattle.std.specs.Prelude.{◌≡◌, ◌<◌, ◌≤◌, ◌++◌, ◌∷◌, [], ℕ, List, length, OnOk, OnErr, IfOk, codes, decimal, drop, take, MatchOption, Some, None};
 ghost use Rattle.std.specs.List.{flat_map};
 ghost use Rattle.zone_model.specs.Records.{Rrset};
-ghost use Rattle.zone_model.specs.Answers.{answer, rows_of, exists};
-ghost use Rattle.zone_model.specs.Reports.{row_text, answer_text, count_text};
+ghost use Rattle.job_model.specs.Answers.{answer};
+ghost use Rattle.zone_model.specs.Rows.{row_text, rows_of};
+ghost use Rattle.zone_model.specs.Versions.{exists};
+ghost use Rattle.job_model.specs.Reports.{answer_text, count_text};
 
 use dns_name::{Name, OwnedName};
 use itoa::Buffer;

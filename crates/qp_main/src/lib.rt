@@ -4,16 +4,11 @@
 
 mod answers;
 mod command_line;
-mod commands;
 mod gate;
 mod invocation;
 mod opening;
-mod operations;
-mod parts;
-mod phrases;
 mod program;
 mod report;
-mod script;
 mod status;
 mod versions;
 mod worker;

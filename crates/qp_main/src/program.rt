@@ -4,8 +4,8 @@ ghost use Rattle.std.specs.String.{string_bytes};
 ghost use Rattle.std.specs.Io.KnownBytes.{Consumes};
 ghost use Rattle.std.specs.List.{AllByRecursion};
 ghost use Rattle.zone_model.specs.MasterFile.{zone_of};
-ghost use Rattle.zone_model.specs.Jobs.{zone_lines, job_of};
-ghost use Rattle.qp_main.specs.Parts.{IsCutAt};
+ghost use Rattle.job_model.specs.Jobs.{zone_lines, job_of};
+ghost use Rattle.job_script.specs.Parts.{IsCutAt};
 ghost use Rattle.outer_io.specs.Faults.{Rose};
 ghost use Rattle.outer_io.specs.Bytes.{Grows, GrowsByFront};
 ghost use Rattle.qp_main.specs.Invocations.{invocation_of};
@@ -17,12 +17,11 @@ use crate::command_line::invocation_of;
 use crate::gate::Gate;
 use crate::invocation::{Invocation, Verb};
 use crate::opening::{Opening, open};
-use crate::parts::{Parts, split};
 use crate::report::{no_room, script_refused, size_line, zone_refused};
-use crate::script::{ScriptStop, read_script};
 use crate::status::Status;
 use crate::worker::report_job;
 use dns_name::OwnedName;
+use job_script::{Parts, ScriptRefusal, read_script, split};
 use master_file::{ZoneRefusal, read_zone};
 use outer_io::{ReadRefusal, Sink, Source, read_all, write_all};
 use rr_data::Entry;
@@ -35,7 +34,7 @@ use std::thread::Threads;
 const INPUT_LIMIT: u32 = 16777216;
 
 // The status and the text for a zone that was read and the script that begins at a place, on a line with a number.
-#[tactic(auto, unfolding(zone_model::specs::Jobs::job_of_lines))]
+#[tactic(auto, unfolding(job_model::specs::Jobs::job_of_lines))]
 fn run_script<G: Gate>(
     alloc: Global,
     invocation: &Invocation,
@@ -53,13 +52,13 @@ fn run_script<G: Gate>(
     let origin = &invocation.origin;
     let commands = match read_script(alloc, bytes, origin, parts.script_from, parts.first_line) {
         Ok(commands) => commands,
-        Err(ScriptStop::Refused(line, kind)) => {
+        Err(ScriptRefusal::Refused { line, kind }) => {
             return Ok((
                 Status::ScriptRefused,
                 script_refused(alloc, u64::from(line), kind)?,
             ));
         }
-        Err(ScriptStop::Memory) => return Err(AllocError),
+        Err(ScriptRefusal::Memory) => return Err(AllocError),
     };
     match open(alloc, version, invocation.chunks)? {
         Opening::Fits { nodes: _ } => report_job(alloc, origin, version, &commands, gate),

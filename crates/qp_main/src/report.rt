@@ -1,12 +1,13 @@
 // Lines of the report, and of refusals.
 ghost use Rattle.std.specs.Prelude.{◌≡◌, ◌<◌, ◌≤◌, ◌++◌, ◌∷◌, [], ℕ, List, length, OnOk, IfOk, codes, decimal};
-ghost use Rattle.zone_model.specs.Reports.{head_text, ended_text};
-ghost use Rattle.zone_model.specs.Outcomes.{Ended, Committed, Refused};
+ghost use Rattle.job_model.specs.Reports.{head_text, ended_text};
+ghost use Rattle.job_model.specs.Outcomes.{Ended, Committed, RolledBack, Refused};
 ghost use Rattle.qp_main.specs.Due.{zone_kind_text, script_kind_text, refusal_text};
 
 use crate::answers::push_number;
+use job_model::ScriptKind;
 use std::alloc::{AllocError, Global};
-use zone_model::{Refusal, ScriptKind, ZoneKind};
+use zone_model::{Refusal, ZoneKind};
 
 /// Pushes worker, command and version.
 pub fn push_head(
@@ -30,6 +31,13 @@ pub fn push_committed(out: &mut Vec<u8>) -> Result<(), AllocError>
     ensures { OnOk result (out.new.items ≡ out.old.items ++ ended_text Committed) }
 {
     out.extend_from_slice(b"COMMITTED\n")
+}
+
+/// Pushes how a block ended that was rolled back.
+pub fn push_rolled_back(out: &mut Vec<u8>) -> Result<(), AllocError>
+    ensures { OnOk result (out.new.items ≡ out.old.items ++ ended_text RolledBack) }
+{
+    out.extend_from_slice(b"ROLLED BACK\n")
 }
 
 /// Pushes how a block ended that was refused.

@@ -5,12 +5,13 @@ ghost use Rattle.std.specs.List.Sorted.{IsStrictlySortedBy};
 ghost use Rattle.zone_model.specs.Names.{name_cmp};
 ghost use Rattle.zone_model.specs.Records.{Rrset, without_set, without_rr};
 ghost use Rattle.zone_model.specs.Versions.{entry_of, owned, holds, with_soa, with_added, is_low_soa, is_lone, loses_soa, fitting, keeping_soa, changed, put, apply, whole, soa_type};
-ghost use Rattle.qp_main.specs.Views.{addition_view, operation_view};
+ghost use Rattle.job_script.specs.Views.{addition_view, operation_view};
 ghost use Rattle.qp_main.specs.Steps.{Gives, Applies, Transacts, restored, undone, Undoes, Returns};
 ghost use Rattle.qp_main.specs.declared.versions.Stopped.TheVariants.{Memory};
 
-use crate::operations::{NewRecord, Operation};
 use dns_name::{Name, OwnedName};
+use job_model::Ending;
+use job_script::{Block, NewRecord, Operation};
 use rr_data::{Entry, Rdata};
 use std::alloc::{AllocError, AllocFailed, Global};
 use std::collections::BTreeMap;
@@ -282,23 +283,37 @@ fn take_back(version: &mut BTreeMap<OwnedName, Entry>, mut log: Vec<Undo>) -> Re
     Ok(())
 }
 
-// The block's operations, all or none. Answers the refusal, if there is one.
+/// How a block ended.
+#[derive(Clone, Copy, Debug)]
+pub enum Transacted {
+    Committed,
+    RolledBack,
+    Refused(Refusal),
+}
+
+/// The block's operations, all or none.
 pub fn transact(
     alloc: Global,
     origin: &Name,
     version: &mut BTreeMap<OwnedName, Entry>,
-    operations: &[Operation],
-) -> Result<Option<Refusal>, AllocError>
-    ensures { IfOk result (λ refused. Transacts refused version.old.entries version.new.entries (whole origin.now (map operation_view operations.now) version.old.entries)) }
+    block: &Block,
+) -> Result<Transacted, AllocError>
+    ensures { IfOk result (λ t. Transacts t block.now.ending version.old.entries version.new.entries (whole origin.now (map operation_view block.now.operations.items) version.old.entries)) }
 {
     // The map's length tells that its names rise.
     let _names = version.len();
     let mut log = Vec::new(alloc);
-    match apply_all(alloc, origin, version, operations, &mut log) {
-        Ok(()) => Ok(None),
+    match apply_all(alloc, origin, version, &block.operations, &mut log) {
+        Ok(()) => match block.ending {
+            Ending::Commit => Ok(Transacted::Committed),
+            Ending::Rollback => {
+                take_back(version, log)?;
+                Ok(Transacted::RolledBack)
+            }
+        },
         Err(Stopped::Refused(refusal)) => {
             take_back(version, log)?;
-            Ok(Some(refusal))
+            Ok(Transacted::Refused(refusal))
         }
         Err(Stopped::Memory) => Err(AllocError),
     }

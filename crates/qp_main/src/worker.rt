@@ -1,18 +1,17 @@
 // A worker that runs its commands.
 ghost use Rattle.std.specs.Prelude.{◌≡◌, ◌<◌, ◌≤◌, ◌+◌, ◌^◌, ℕ, List, [], ◌∷◌, length, IfOk, map, ◌||◌, if◌then◌else◌};
 ghost use Rattle.qp_main.specs.Runs.{Ran, Stepped};
-ghost use Rattle.qp_main.specs.Views.{operation_view, command_view};
+ghost use Rattle.job_script.specs.Views.{block_view, command_view};
 ghost use Rattle.qp_main.specs.Due.{Reported};
-ghost use Rattle.zone_model.specs.Jobs as jobs;
+ghost use Rattle.job_model.specs.Jobs as jobs;
 
 use crate::answers::push_answer;
-use crate::commands::Command;
 use crate::gate::Gate;
-use crate::operations::Operation;
-use crate::report::{push_committed, push_end, push_head, push_refused};
+use crate::report::{push_committed, push_end, push_head, push_refused, push_rolled_back};
 use crate::status::Status;
-use crate::versions::transact;
+use crate::versions::{Transacted, transact};
 use dns_name::{Name, OwnedName};
+use job_script::{Block, Command};
 use rr_data::Entry;
 use std::alloc::{AllocError, Global};
 use std::collections::BTreeMap;
@@ -29,18 +28,17 @@ fn run_block(
     alloc: Global,
     origin: &Name,
     version: &mut BTreeMap<OwnedName, Entry>,
-    operations: &[Operation],
+    block: &Block,
     number: u64,
     last: u64,
     out: &mut Vec<u8>,
 ) -> Result<Progress, AllocError>
     requires { last < 2 ^ 63 }
-    ensures ran { IfOk result (λ p. Stepped origin.now (jobs.Block (map operation_view operations.now)) number last p.last version.old.entries version.new.entries out.old.items out.new.items p.refused) }
+    ensures ran { IfOk result (λ p. Stepped origin.now (block_view block.now) number last p.last version.old.entries version.new.entries out.old.items out.new.items p.refused) }
     ensures few { IfOk result (λ p. p.last ≤ last + 1) }
 {
-    let outcome = transact(alloc, origin, version, operations)?;
-    match outcome {
-        None => {
+    match transact(alloc, origin, version, block)? {
+        Transacted::Committed => {
             push_head(out, 1, number, last + 1)?;
             push_committed(out)?;
             Ok(Progress {
@@ -48,7 +46,15 @@ fn run_block(
                 refused: false,
             })
         }
-        Some(cause) => {
+        Transacted::RolledBack => {
+            push_head(out, 1, number, last)?;
+            push_rolled_back(out)?;
+            Ok(Progress {
+                last,
+                refused: false,
+            })
+        }
+        Transacted::Refused(cause) => {
             push_head(out, 1, number, last)?;
             push_refused(out, cause)?;
             Ok(Progress {
@@ -99,9 +105,7 @@ fn run_command(
         Command::Get(name, rtype) => {
             run_query(alloc, origin, version, name, *rtype, number, last, out)
         }
-        Command::Block(operations) => {
-            run_block(alloc, origin, version, operations, number, last, out)
-        }
+        Command::Block(block) => run_block(alloc, origin, version, block, number, last, out),
     }
 }
 

@@ -1,2 +1,7 @@
 pub mod SizeLaws
 pub mod OpenLaws
+pub mod CountedLaws
+pub mod FreedLaws
+pub mod MeetLaws
+pub mod CauseLaws
+pub mod RefusalLaws

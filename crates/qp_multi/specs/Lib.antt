@@ -1,2 +1,5 @@
+pub mod Indexed
 pub mod Shows
 pub mod Openings
+pub mod Works
+pub mod Fulls

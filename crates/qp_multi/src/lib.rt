@@ -2,9 +2,20 @@
 #![tactic(auto)]
 
 mod index;
+mod insertion;
 mod opening;
 mod query;
+mod refusal;
+mod replacement;
+mod update;
+mod working;
+mod write;
 
 pub use index::Index;
 pub use opening::OpenRefusal;
+pub use pin_core::Spent;
 pub use query::Query;
+pub use refusal::{ChangeRefusal, Full, InsertRefusal, Kept};
+pub use update::Update;
+pub use working::Receipt;
+pub use write::Write;

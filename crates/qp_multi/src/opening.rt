@@ -44,6 +44,33 @@ fn room_in(chunks: u32) -> u64
     769 * u64::from(chunks - chunks / 4 - 1)
 }
 
+/// The index of items for which there is room.
+fn filled(alloc: Global, items: &[Item], chunks: u32, passes: u32) -> Result<Index, AllocError>
+    requires rising { Rises (entries_of_items items.now) }
+    requires enough { 16 ≤ chunks }
+    requires few { chunks ≤ 4096 }
+    requires some_passes { 1 ≤ passes }
+    requires few_passes { passes ≤ 64 }
+    requires room { cells_of (entries_of_items items.now) ≤ room_in chunks }
+    ensures shows { IfOk result (λ index. Shows index (entries_of_items items.now)) }
+    ensures first { IfOk result (λ index. index.version ≡ 0) }
+{
+    let mut plain = PlainCells::new(alloc, chunks)?;
+    let mut usage = Usage::new(alloc, chunks, passes)?;
+    let Ok(root) = build(&mut plain, &mut usage, items) else {
+        // There was room: each chunk that was left for another has at most 255 cells left.
+        usage.known();
+        unreachable!();
+    };
+    usage.freeze(0);
+    Ok(Index {
+        cells: plain,
+        usage,
+        root,
+        version: 0,
+    })
+}
+
 impl Index {
     /// An index whose version 0 has these items, in 16 to 4,096 chunks, for 1 to 64 readers.
     pub fn open(
@@ -73,19 +100,6 @@ impl Index {
                 limit,
             });
         }
-        let mut plain = PlainCells::new(alloc, chunks)?;
-        let mut usage = Usage::new(alloc, chunks, passes)?;
-        let Ok(root) = build(&mut plain, &mut usage, items) else {
-            // There was room: each chunk that was left for another has at most 255 cells left.
-            usage.known();
-            unreachable!();
-        };
-        usage.freeze(0);
-        Ok(Index {
-            cells: plain,
-            usage,
-            root,
-            version: 0,
-        })
+        Ok(filled(alloc, items, chunks, passes)?)
     }
 }

@@ -6,22 +6,21 @@ ghost use Rattle.trie_model.specs.Shape.{nodes as nodes_of_keys, keys_of};
 ghost use Rattle.qp_multi.specs.Shows.{Tells};
 
 use chunk_cells::PlainCells;
-use packed_node::Ref;
+use shift_key::Key;
+use trie_read::{CellReading, Found, Iter, Reading};
 
 /// One version of the index. It doesn't change.
-#[derive(Clone, Copy)]
+#[derive(Drop)]
 pub struct Query<'a> {
-    pub(crate) cells: &'a PlainCells,
-    pub(crate) root: Option<Ref>,
-    pub(crate) version: u64,
+    pub(crate) reading: CellReading<&'a PlainCells>,
 }
 
 impl Query<'_> {
     /// The version's number.
     pub fn version(&self) -> u64
-        ensures { result ≡ self.now.version }
+        ensures { result ≡ self.now.reading.number }
     {
-        self.version
+        self.reading.number
     }
 
     /// How many names it has.
@@ -29,7 +28,7 @@ impl Query<'_> {
         requires { (es : List Entry) × Tells self.now es }
         ensures { (es : List Entry) → Tells self.now es → result ≡ length es }
     {
-        trie_read::count(&mut { self.cells }, self.root)
+        trie_read::count(&mut { self.reading.cells }, self.reading.root)
     }
 
     /// How many nodes its trie has.
@@ -37,6 +36,53 @@ impl Query<'_> {
         requires { (es : List Entry) × Tells self.now es }
         ensures { (es : List Entry) → Tells self.now es → result ≡ nodes_of_keys (keys_of es) }
     {
-        trie_read::nodes(&mut { self.cells }, self.root)
+        trie_read::nodes(&mut { self.reading.cells }, self.reading.root)
+    }
+}
+
+impl Reading for Query<'_> {
+    ghost use Rattle.trie_read.specs.Walks.{StandsBetween};
+    ghost use Rattle.qp_multi.specs.Shows.{Tells, has_cell};
+
+    ghost number = { λ q. q.reading.number };
+
+    ghost holds = { Tells };
+
+    ghost stands = { λ q. StandsBetween (has_cell q.reading.cells.now) q.reading.root };
+
+    fn version(&mut self) -> u64 {
+        self.reading.version()
+    }
+
+    fn fetch(&mut self, key: &Key, out: &mut [u8; 4096]) -> Option<usize> {
+        self.reading.fetch(key, out)
+    }
+
+    fn find(&mut self, key: &Key) -> Found {
+        self.reading.find(key)
+    }
+
+    fn iter(&mut self) -> Iter {
+        self.reading.iter()
+    }
+
+    fn seek(&mut self, iter: &mut Iter, key: &Key) {
+        self.reading.seek(iter, key);
+    }
+
+    fn next(&mut self, iter: &mut Iter) -> Option<Key> {
+        self.reading.next(iter)
+    }
+
+    fn prev(&mut self, iter: &mut Iter) -> Option<Key> {
+        self.reading.prev(iter)
+    }
+
+    fn count(&mut self) -> u64 {
+        self.reading.count()
+    }
+
+    fn nodes(&mut self) -> u64 {
+        self.reading.nodes()
     }
 }

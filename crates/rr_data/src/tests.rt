@@ -1,4 +1,4 @@
-ghost use Rattle.std.specs.Prelude.{◌≡◌, false, IfOk};
+ghost use Rattle.std.specs.Prelude.{◌≡◌, ◌≤◌, false, IfOk, length};
 ghost use Rattle.std.specs.List.{All};
 ghost use Rattle.rr_data.specs.Tokens.{IsPlaced};
 
@@ -55,13 +55,47 @@ fn printed(
     }
 }
 
+// As many strings of 255 octets, and one more: all from the front of one text.
+fn strings(alloc: Global, text: &[u8], full: u32, last: u32) -> Result<Vec<Token>, AllocError>
+    requires room { 255 ≤ length text.now }
+    requires last { last ≤ length text.now }
+    ensures { IfOk result (λ tokens. All (IsPlaced text.now) tokens.items) }
+{
+    let mut tokens = Vec::new(alloc);
+    for _ in 0..full {
+        tokens.push(word(0, 255))?;
+    }
+    tokens.push(word(0, last))?;
+    Ok(tokens)
+}
+
+// A string has at most 255 octets, and all of them, each behind its length, at most 65,535.
+#[test]
+fn strings_at_their_limits(rt: HostRuntime) -> Result<(), Fail> {
+    let text = [b'a'; 256];
+    let root = Name::root();
+    for (full, last, want) in [
+        (0, 255, Ok(256)),
+        (1, 256, Err(RdataRefusal::LongString { at: 1 })),
+        (255, 254, Ok(65_535)),
+        (255, 255, Err(RdataRefusal::BadRdata { at: 255 })),
+    ] {
+        let tokens = strings(rt.alloc(), &text, full, last)?;
+        let read = Rdata::read(rt.alloc(), 16, &text, &tokens, &root);
+        assert!(rt; read.map(|rdata| rdata.octets().len()) == want);
+    }
+    Ok(())
+}
+
 // Both sides of each limit.
 #[test]
 fn data_is_read_and_printed(rt: HostRuntime) -> Result<(), Fail> {
     let origin = Name::read(b"example.", &Name::root()).ok().ok_or("origin")?;
-    let rows: [(u16, &[u8], &[u8]); 16] = [
+    let rows: [(u16, &[u8], &[u8]); 18] = [
         (1, b"001.2.3.255", b"1.2.3.255"),
         (2, b"NS", b"ns.example."),
+        (5, b"@", b"example."),
+        (12, b"Host.", b"host."),
         (
             6,
             b"ns h 4294967295 1h30m 2147483647 0 1",

@@ -17,7 +17,7 @@ use Rattle.trie_model.proofs.MoveLaws.{Keeps, beneath_kept, tree_weaker}
 use Rattle.trie_model.proofs.ReachLaws.{live_is}
 use Rattle.trie_model.proofs.SplitLaws.{Found, look, rising_of, entries-beside, twigs_left, twigs_join, in_found, not_missing}
 use Rattle.chunk_usage.specs.Rooms.{Room}
-use Rattle.trie_read.specs.Reads.{Gives}
+use Rattle.trie_read.specs.Reads.{Gives, EachTells}
 use Rattle.trie_write.specs.Standing.{StandsIn}
 use Rattle.trie_write.proofs.RootLaws.{entry_with}
 use Rattle.trie_write.specs.Paths.{twigs_on_path}
@@ -171,7 +171,7 @@ module _ {has : ℕ → Cell → Type 0} {used : ℕ → Bool} {live : ℕ → �
   pub old_weight : (w : ℕ → ℕ) → weigh_tree w t ≡ row w old.at ((old.len + 15) / 16)
   old_weight w = ap (weigh_tree w) told_leaf.is ∙ ap (row w old.at) (sym old_cells)
 
-only_entry : (x y : Entry) (es : List Entry) → InList x es → es ≡ y ∷ [] → x ≡ y
+pub only_entry : (x y : Entry) (es : List Entry) → InList x es → es ≡ y ∷ [] → x ≡ y
 only_entry x y es i e = elim (subst (InList x) e i) [ inl a ↦ a | inr b ↦ absurd b ]
 
 pub leaf_exchanged : {has : ℕ → Cell → Type 0} {used new : ℕ → Bool} {live live_new : ℕ → ℕ} {low : ℕ} {k : List ℕ} {cell made : Cell} {l old : Leaf} {t : Tree} {e : Entry} (a : ExchangeAsks has used live low k cell l t e) (x : IsLeafTop t old) → ((z : ℕ) → live_new z + row (in_chunk z) old.at ((old.len + 15) / 16) ≡ live z) → ((q : ℕ) → used q ≡ true → new q ≡ true) → made ≡ leaf_cell l →
@@ -243,3 +243,10 @@ replace_here H s0 s1 s2 {used} {live} {r} {t = t} {version} cell e f is s read g
 -- what a look-up found
 pub found_entry : (has : ℕ → Cell → Type 0) (key : List ℕ) (es : List Entry) (r : Option Leaf) (l : Leaf) → Gives has key es r → r ≡ Some l → (x : Entry) × InList x es × (x.key ≡ key)
 found_entry has key es r l gives e = let g : Gives has key es (Some l) = subst (Gives has key es) e gives in (g.0, g.1, g.2)
+
+-- each item still tells its key
+pub tells_exchanged : (tells : List ℕ → List ℕ → Type 0) (e : Entry) (old new : List Entry) → EachTells tells old → tells e.key e.item → Exchanged e old new → EachTells tells new
+tells_exchanged tells e old new each here c x i = elim (in_both x c.before (e ∷ c.after) (subst (InList x) c.new_is i)) [
+  | inl a ↦ each x (subst (InList x) (sym c.old_is) (in_left x c.before (c.gone ∷ c.after) a))
+  | inr b ↦ elim b [ inl same ↦ subst (λ (z : Entry). tells z.key z.item) (sym same) here | inr z ↦ each x (subst (InList x) (sym c.old_is) (in_right x c.before (c.gone ∷ c.after) (inr z))) ]
+]

@@ -1,6 +1,6 @@
 -- Frames one after the other, and cells that are handed out.
-use Rattle.std.proofs.Common.{◌≡◌, ℕ, zero, suc, ◌+◌, ◌/◌, ◌<◌, ◌≤◌, Bool, true, false, List, [], ◌∷◌, Contains, Option, Some, None, Result, Ok, Err, IfOk, slice_get, slice_set, arith, refl, sym, ◌∙◌, ap, subst, inl, inr}
-use Rattle.std.proofs.lemmas.Bool.{true≢false, cases_eq, cases_lt}
+use Rattle.std.proofs.Common.{◌≡◌, ℕ, zero, suc, ◌+◌, ◌/◌, ◌<◌, Bool, true, false, List, [], ◌∷◌, Contains, Option, Some, None, Result, Ok, Err, IfOk, slice_get, slice_set, arith, refl, sym, ◌∙◌, ap, subst, inl, inr}
+use Rattle.std.proofs.lemmas.Bool.{true≢false, cases_eq}
 use Rattle.packed_node.specs.declared.Cell.{Cell}
 use Rattle.trie_model.specs.Trees.{IsRow}
 use Rattle.chunk_cells.specs.Chunks.{IsGiven, IsFree}
@@ -93,6 +93,3 @@ ready_put r given kept space used fresh = record {
 pub ok_map : {A E : Type 0} (r : Result A E) {P Q : A → Type 0} → ((x : A) → P x → Q x) → IfOk r P → IfOk r Q
 ok_map (Ok x) f h = f x h
 ok_map (Err e) f h = tt
-
-pub lt_of : {x y : ℕ} → x ≤ y → (x ≡ y → ⊥) → x < y
-lt_of {x} {y} l ne = elim (cases_lt x y) [ inl a ↦ a | inr b ↦ absurd (ne (omega arith)) ]

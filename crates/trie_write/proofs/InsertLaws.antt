@@ -1,13 +1,11 @@
 -- The steps of an insertion.
-use Rattle.std.proofs.Common.{◌≡◌, ℕ, suc, ◌+◌, ◌-◌, ◌%◌, ◌^◌, ◌<◌, ◌≤◌, inl, inr, Bool, true, false, List, [], ◌∷◌, ◌++◌, length, count_ones, Option, Some, arith, sym, ◌∙◌, ap, subst, append_assoc}
+use Rattle.std.proofs.Common.{◌≡◌, ℕ, suc, ◌+◌, ◌-◌, ◌%◌, ◌^◌, ◌<◌, ◌≤◌, inl, inr, Bool, true, false, List, [], ◌∷◌, ◌++◌, length, count_ones, arith, sym, ◌∙◌, ap, subst, append_assoc}
 use Rattle.std.specs.Int.{bit_at}
 use Rattle.std.proofs.lemmas.Bool.{cases_lt, true≢false}
 use Rattle.packed_node.specs.declared.Cell.{Cell}
 use Rattle.packed_node.specs.declared.Leaf.{Leaf}
 use Rattle.packed_node.specs.declared.Branch.{Branch}
-use Rattle.packed_node.specs.declared.Node.{Node}
-use Rattle.packed_node.specs.declared.Node.TheVariants as node
-use Rattle.packed_node.specs.Nodes.{IsNode, IsLeaf, IsBranch, packed, leaf_cell, branch_cell}
+use Rattle.packed_node.specs.Nodes.{IsLeaf, IsBranch, leaf_cell, branch_cell}
 use Rattle.trie_model.specs.Changes.{Grown, Deep}
 use Rattle.trie_model.specs.Keys.{at, Entry}
 use Rattle.trie_model.specs.Memory.{top_cell, Beneath, Lie, ItemLies, item_cell}
@@ -31,8 +29,7 @@ use Rattle.trie_write.proofs.WeightLaws.{row_misses, row_fresh, mark_grows}
 use Rattle.trie_write.proofs.TwigLaws.{tops_of, AllBeneath, tops-beside, length-tops, beneath_join, beneath_of_lie, row_of_lie, all_of_within, all_kept}
 use Rattle.trie_write.proofs.StepLaws.{branch_became, Descent, here_held, path_became, path_twigs}
 use Rattle.trie_write.specs.Paths.{twigs_on_path}
-use Rattle.trie_read.specs.Reads.{IsTop}
-use Rattle.trie_write.proofs.UnpackLaws.{told, branch_told}
+use Rattle.trie_write.specs.Tops.{IsBranchTop}
 
 -- ---- the item
 
@@ -270,19 +267,15 @@ module _ {has : ℕ → Cell → Type 0} {used : ℕ → Bool} {live : ℕ → �
 
 -- ---- the way down
 
--- the tree under an unpacked branch
+-- the tree under its top's branch
 pub record BranchAsks (has : ℕ → Cell → Type 0) (used : ℕ → Bool) (live : ℕ → ℕ) (low place : ℕ) (k : List ℕ) (p : ℕ) (cell : Cell) (l : Leaf) (t : Tree) (e : Entry) (b : Branch) : Type 0 where
   pub below : Twigs
   pub is : t ≡ branch b.offset b.twigs below
   pub here : AsksBranch has used live low place k p cell l b e below
 
-pub top_of : {has : ℕ → Cell → Type 0} {used : ℕ → Bool} {live : ℕ → ℕ} {spare : (ℕ → ℕ) → ℕ} {low : ℕ} {cell : Cell} {t : Tree} → Held has used live spare low cell t → IsTop has low cell t
-top_of h = record { tree = h.tree; is = h.is; beneath = h.beneath }
-
-pub branch_asks : {has : ℕ → Cell → Type 0} {used : ℕ → Bool} {live : ℕ → ℕ} {low place : ℕ} {k : List ℕ} {p : ℕ} {cell : Cell} {l : Leaf} {t : Tree} {e : Entry} {b : Branch} → Asks has used live low place k p cell l t e → (r : Option Node) → ((n : Node) → IsNode n → packed n ≡ cell → r ≡ Some n) → (n : Node) → r ≡ Some n → n ≡ node.Branch b → BranchAsks has used live low place k p cell l t e b
-branch_asks {has} {used} {live} {low} {place} {k} {p} {cell} {l} {t} {e} {b} a r back n x y =
-    let s = branch_told has low cell t r b (record { top = top_of a.held; back = back }) n x y in
-    record { below = s.below; is = s.is; here = record { bits = s.bitmap; asks = subst (λ (z : Tree). Asks has used live low place k p cell l z e) s.is a } }
+pub branch_asks : {has : ℕ → Cell → Type 0} {used : ℕ → Bool} {live : ℕ → ℕ} {low place : ℕ} {k : List ℕ} {p : ℕ} {cell : Cell} {l : Leaf} {t : Tree} {e : Entry} {b : Branch} → Asks has used live low place k p cell l t e → IsBranchTop t b → BranchAsks has used live low place k p cell l t e b
+branch_asks {has} {used} {live} {low} {place} {k} {p} {cell} {l} {t} {e} {b} a s =
+    record { below = s.below; is = s.is; here = record { bits = s.bits; asks = subst (λ (z : Tree). Asks has used live low place k p cell l z e) s.is a } }
 
 -- a branch has twigs on the path
 pub path_least : {has : ℕ → Cell → Type 0} {used : ℕ → Bool} {live : ℕ → ℕ} {low place : ℕ} {k : List ℕ} {p : ℕ} {cell : Cell} {l : Leaf} {t : Tree} {e : Entry} {b : Branch} → BranchAsks has used live low place k p cell l t e b → count_ones b.bitmap ≤ twigs_on_path k t
@@ -292,13 +285,6 @@ path_least {k = k} {b = b} s =
 
 pub path_as : {has : ℕ → Cell → Type 0} {used : ℕ → Bool} {live : ℕ → ℕ} {low place : ℕ} {k : List ℕ} {p : ℕ} {cell : Cell} {l : Leaf} {t : Tree} {e : Entry} {b : Branch} → (s : BranchAsks has used live low place k p cell l t e b) → twigs_on_path k t ≡ twigs_on_path k (branch b.offset b.twigs s.below)
 path_as {k = k} s = ap (twigs_on_path k) s.is
-
-pub deep_branch : {has : ℕ → Cell → Type 0} {used : ℕ → Bool} {live : ℕ → ℕ} {low place : ℕ} {k : List ℕ} {p : ℕ} {cell : Cell} {l : Leaf} {t : Tree} {e : Entry} {b : Branch} → BranchAsks has used live low place k p cell l t e b → place < b.offset → Deep place t
-deep_branch {place = place} s m = subst (Deep place) (sym s.is) m
-
-pub deep_leaf : {has : ℕ → Cell → Type 0} {used : ℕ → Bool} {live : ℕ → ℕ} {low place : ℕ} {k : List ℕ} {p : ℕ} {cell : Cell} {l : Leaf} {e : Entry} (t : Tree) → Asks has used live low place k p cell l t e → (r : Option Node) → ((n : Node) → IsNode n → packed n ≡ cell → r ≡ Some n) → ((b : Branch) → r ≡ Some (node.Branch b) → ⊥) → Deep place t
-deep_leaf (leaf x y) a r back other = tt
-deep_leaf {has} {low = low} {cell = cell} (branch o w below) a r back other = absurd (other (record { offset = o; bitmap = bitmap_of below; twigs = w }) (told has low cell (branch o w below) r (record { top = top_of a.held; back = back })))
 
 module _ {has : ℕ → Cell → Type 0} {used : ℕ → Bool} {live : ℕ → ℕ} {low place : ℕ} {k : List ℕ} {p : ℕ} {cell : Cell} {l : Leaf} {b : Branch} {e : Entry} {below : Twigs} {q i n : ℕ} (h : AsksBranch has used live low place k p cell l b e below) (before : b.offset < place) (qis : q ≡ at k b.offset) (iis : i ≡ count_ones (b.bitmap % 2 ^ q)) (nis : n ≡ count_ones b.bitmap) where
   pub down_q : q ≡ at e.key b.offset

@@ -13,3 +13,4 @@ pub mod InsertLaws
 pub mod RootLaws
 pub mod ExchangeLaws
 pub mod TopLaws
+pub mod DeleteLaws

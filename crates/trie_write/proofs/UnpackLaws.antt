@@ -51,9 +51,3 @@ branch_told has low c t r b u n e0 e1 = kind_branch t b (same_node (node_of t) (
 pub falls_in : (has : ℕ → Cell → Type 0) (low : ℕ) (c : Cell) (t : Tree) (b : Branch) → IsTop has low c t → BranchTold t b → 504 - (b.offset + 1) < 504 - low
 falls_in has low c t b top x =
     let tree = subst (IsTree low) x.is top.tree in let a = tree.0 in let d = tree.1 in omega arith
-
-pub none_is_no_branch : (r : Option Node) (b : Branch) → r ≡ None → r ≡ Some (node.Branch b) → ⊥
-none_is_no_branch r b x y = cc
-
-pub leaf_is_no_branch : (r : Option Node) (n : Node) (l : Leaf) (b : Branch) → r ≡ Some n → n ≡ node.Leaf l → r ≡ Some (node.Branch b) → ⊥
-leaf_is_no_branch r n l b x y z = cc

@@ -13,3 +13,4 @@ pub mod Roots
 pub mod Inserts
 pub mod Tops
 pub mod Exchanges
+pub mod Deletions

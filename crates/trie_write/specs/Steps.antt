@@ -9,6 +9,7 @@ use Rattle.trie_model.specs.Memory.{Beneath, ItemLies, top_cell}
 use Rattle.trie_model.specs.Reach.{row, in_chunk, weigh_tree, WithinTree}
 use Rattle.trie_model.specs.Trees.{Tree, Twigs, entries_of, bitmap_of, cells_in, IsRow, IsTree}
 use Rattle.trie_model.specs.Trees.Tree.{branch}
+use Rattle.trie_write.specs.Tops.{NotBefore}
 use Rattle.trie_write.specs.Weights.{at_place, mark}
 
 -- what the cells of an item that isn't in the trie yet weigh
@@ -61,6 +62,14 @@ pub record AskedDeep (has : ℕ → Cell → Type 0) (used : ℕ → Bool) (live
   pub e : Entry
   pub asks : Asks has used live low place key position cell leaf t e
   pub deeper : Deep place t
+
+-- or at the place
+pub record AskedFrom (has : ℕ → Cell → Type 0) (used : ℕ → Bool) (live : ℕ → ℕ) (place : ℕ) (key : List ℕ) (position : ℕ) (cell : Cell) (leaf : Leaf) : Type 0 where
+  pub low : ℕ
+  pub t : Tree
+  pub e : Entry
+  pub asks : Asks has used live low place key position cell leaf t e
+  pub not_before : NotBefore place t
 
 -- the tree is a branch
 pub record AsksBranch (has : ℕ → Cell → Type 0) (used : ℕ → Bool) (live : ℕ → ℕ) (low place : ℕ) (key : List ℕ) (position : ℕ) (cell : Cell) (leaf : Leaf) (b : Branch) (e : Entry) (below : Twigs) : Type 0 where

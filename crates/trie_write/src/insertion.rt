@@ -13,17 +13,19 @@ ghost use Rattle.trie_write.specs.Frames.{Frame};
 ghost use Rattle.trie_write.specs.Paths.{twigs_on_path};
 ghost use Rattle.trie_write.specs.Roots.{RootGrew, OnPath};
 ghost use Rattle.trie_write.specs.Standing.{Standing};
+ghost use Rattle.trie_write.specs.Tops.{NotBefore};
 ghost use Rattle.trie_write.specs.Inserts.{AsksTop, AskedTop};
-ghost use Rattle.trie_write.specs.Steps.{Asks, Asked, AskedDeep, AsksBranch, AskedHere, Grew};
+ghost use Rattle.trie_write.specs.Steps.{Asks, Asked, AskedDeep, AskedFrom, AsksBranch, AskedHere, Grew};
 
 use super::near::{Difference, compare};
 use super::path::put_branch;
 use super::room::{place_item, place_row, room};
 use super::row::{Row, append};
+use super::top::{branch_above, top_of};
 use chunk_cells::CellWrite;
 use chunk_cells::item::cells_for;
 use chunk_usage::{Full, Space};
-use packed_node::{Branch, Cell, Leaf, Node, Ref, bitmap, unpack};
+use packed_node::{Branch, Cell, Leaf, Node, Ref, bitmap};
 use shift_key::Key;
 
 /// Two cells, that of the smaller position first.
@@ -105,6 +107,39 @@ fn add_leaf<C: CellWrite, U: Space>(
     .pack())
 }
 
+/// The cell of the top of the tree below a node with the leaf put in. The key first differs there, at the node's own offset or
+/// before it.
+fn put_here<C: CellWrite, U: Space>(
+    cells: &mut C,
+    usage: &mut U,
+    key: &Key,
+    first: Difference,
+    node: Cell,
+    leaf: Leaf,
+) -> Result<Cell, Full>
+    requires asks { AskedFrom (C.has cells.old) (U.used usage.old) (U.live usage.old) first.place key.now first.position node leaf }
+    requires ready { Ready (C.kept cells.old) (C.given cells.old) (U.given usage.old) (U.used usage.old) (U.fresh usage.old) }
+    ensures grew { IfOk result (λ cell. (low : ℕ) (t : Tree) (e : Entry) → Asks (C.has cells.old) (U.used usage.old) (U.live usage.old) low first.place key.now first.position node leaf t e
+        → NotBefore first.place t → Grew (C.has cells.new) (U.used usage.old) (U.used usage.new) (U.live usage.old) (U.live usage.new) low leaf t e cell) }
+    ensures unchanged { IfErr result (λ _. (k : ℕ) → U.live usage.new k ≡ U.live usage.old k) }
+    ensures spends { (low : ℕ) (t : Tree) (e : Entry) → Asks (C.has cells.old) (U.used usage.old) (U.live usage.old) low first.place key.now first.position node leaf t e
+        → U.spent usage.new ≤ U.spent usage.old + (twigs_on_path key.now t + 2) }
+    ensures full { IfErr result (λ f. U.lacks usage.new f) }
+    ensures frozen { U.frozen usage.new ≡ U.frozen usage.old }
+    ensures frame { Frame (C.has cells.old) (C.has cells.new) (C.kept cells.old) (C.kept cells.new) (C.given cells.old) (C.given cells.new) (U.used usage.old) (U.used usage.new) (U.fresh usage.old) (U.fresh usage.new) }
+    ensures ready { Ready (C.kept cells.new) (C.given cells.new) (U.given usage.new) (U.used usage.new) (U.fresh usage.new) }
+{
+    match top_of(node) {
+        Err(_) => split_node(cells, usage, key, first, node, leaf),
+        Ok(branch) => {
+            if branch.offset == first.place {
+                return add_leaf(cells, usage, key, branch, leaf);
+            }
+            split_node(cells, usage, key, first, node, leaf)
+        }
+    }
+}
+
 /// The cell of the top of the tree below a node with the leaf put in. Offsets are at least `low`.
 fn grow<C: CellWrite, U: Space>(
     cells: &mut C,
@@ -127,14 +162,9 @@ fn grow<C: CellWrite, U: Space>(
     ensures frame { Frame (C.has cells.old) (C.has cells.new) (C.kept cells.old) (C.kept cells.new) (C.given cells.old) (C.given cells.new) (U.used usage.old) (U.used usage.new) (U.fresh usage.old) (U.fresh usage.new) }
     ensures ready { Ready (C.kept cells.new) (C.given cells.new) (U.given usage.new) (U.used usage.new) (U.fresh usage.new) }
 {
-    match unpack(node) {
-        Some(Node::Branch(branch)) => {
-            if branch.offset > first.place {
-                return split_node(cells, usage, key, first, node, leaf);
-            }
-            if branch.offset == first.place {
-                return add_leaf(cells, usage, key, branch, leaf);
-            }
+    match branch_above(node, first.place) {
+        None => put_here(cells, usage, key, first, node, leaf),
+        Some(branch) => {
             let index = branch.twig_index(key.at(branch.offset));
             let n = branch.twig_count();
             let to = room(cells, usage, n)?;
@@ -147,8 +177,6 @@ fn grow<C: CellWrite, U: Space>(
                 Ok(twig) => Ok(put_branch(cells, usage, branch, index, to, twig)),
             }
         }
-        Some(Node::Leaf(_)) => split_node(cells, usage, key, first, node, leaf),
-        None => split_node(cells, usage, key, first, node, leaf),
     }
 }
 

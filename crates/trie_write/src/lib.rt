@@ -2,6 +2,7 @@
 #![tactic(auto)]
 
 mod bulk;
+mod deletion;
 mod insertion;
 pub mod item;
 mod near;
@@ -14,10 +15,13 @@ mod size;
 mod top;
 
 pub use bulk::build;
+pub use deletion::delete;
 pub use insertion::{InsertRefusal, insert};
 pub use item::{Item, ItemRefusal};
 pub use replacement::{ChangeRefusal, replace};
 pub use size::cells;
 
+#[cfg(test)]
+mod change_tests;
 #[cfg(test)]
 mod tests;

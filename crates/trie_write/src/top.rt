@@ -1,10 +1,10 @@
 //! The top of a tree: a branch, or a leaf.
 
-ghost use Rattle.std.specs.Prelude.{◌≡◌, ℕ, IfOk, IfErr};
+ghost use Rattle.std.specs.Prelude.{◌≡◌, ◌<◌, ℕ, IfOk, IfErr, IfSome, None};
 ghost use Rattle.packed_node.specs.declared.Cell.{Cell};
 ghost use Rattle.trie_model.specs.Trees.{Tree, IsTree};
 ghost use Rattle.trie_model.specs.Memory.{top_cell};
-ghost use Rattle.trie_write.specs.Tops.{IsBranchTop, IsLeafTop};
+ghost use Rattle.trie_write.specs.Tops.{IsBranchTop, IsLeafTop, NotBefore};
 
 use packed_node::{Branch, Cell, Leaf, Node, unpack};
 
@@ -17,5 +17,22 @@ pub fn top_of(node: Cell) -> Result<Branch, Leaf>
         None => Err(Leaf { len: 0, at: 0 }),
         Some(Node::Leaf(leaf)) => Err(leaf),
         Some(Node::Branch(branch)) => Ok(branch),
+    }
+}
+
+/// The branch at a tree's top, where its offset comes before a place.
+pub fn branch_above(node: Cell, place: u16) -> Option<Branch>
+    ensures above { IfSome result (λ branch. branch.offset < place) }
+    ensures branch { IfSome result (λ branch. (low : ℕ) (t : Tree) → IsTree low t → node ≡ top_cell t → IsBranchTop t branch) }
+    ensures none { result ≡ None → (low : ℕ) (t : Tree) → IsTree low t → node ≡ top_cell t → NotBefore place t }
+{
+    match top_of(node) {
+        Err(_) => None,
+        Ok(branch) => {
+            if branch.offset < place {
+                return Some(branch);
+            }
+            None
+        }
     }
 }

@@ -1,17 +1,16 @@
 -- Names at or above a name, by how many labels they have.
-use Rattle.std.proofs.Common.{◌≡◌, ◌∙◌, ℕ, zero, suc, ◌+◌, ◌-◌, ◌<◌, ◌≤◌, Bool, true, false, cond, not, ◌&&◌, ◌||◌, List, [], ◌∷◌, ◌++◌, length, drop, reverse, inl, inr, Option, Some, None, refl, sym, ap, subst, arith, length-append, length-drop, append_assoc}
+use Rattle.std.proofs.Common.{◌≡◌, ◌∙◌, ℕ, zero, suc, ◌-◌, ◌<◌, ◌≤◌, Bool, true, false, cond, not, ◌&&◌, ◌||◌, [], ◌∷◌, ◌++◌, length, drop, reverse, inl, inr, Option, Some, None, refl, sym, ap, subst, arith, length-append, length-drop, append_assoc}
 use Rattle.std.proofs.lemmas.Bool.{cases_lt}
 use Rattle.std.proofs.lemmas.List.{reverse-append}
 use Rattle.std.proofs.lemmas.List.Folds.{find-append}
 use Rattle.std.specs.List.{find, AllByRecursion}
 use Rattle.std.specs.Option.{option_or, is_some}
-use Rattle.zone_model.specs.Names.{Label, Name, wire, is_under, same_name, ancestor, star_under}
-use Rattle.zone_model.specs.Records.{Rrset, Entry, rrset_of}
-use Rattle.zone_model.specs.Versions.{Version, owned}
-use Rattle.zone_model.specs.Answers.{exists}
+use Rattle.zone_model.specs.Names.{Label, Name, wire, is_under, same_name, ancestor}
+use Rattle.zone_model.specs.Records.{Entry, rrset_of}
+use Rattle.zone_model.specs.Versions.{Version, owned, exists}
 use Rattle.zone_model.proofs.NameLemmas.{same_name-lengths, is_under-shorter, is_under-drop}
 use Rattle.zone_model.proofs.OrderLemmas.{under_ends, ends_under}
-use Rattle.zone_answer.specs.Answers.{at_or_above, is_cut, cut_above, encloser, ns_type}
+use Rattle.zone_answer.specs.Answers.{at_or_above, is_cut, encloser, ns_type}
 use Rattle.zone_answer.specs.Standing.{IsStorable}
 
 ancestor_of : (label : Label) (labels : Name) (k : ℕ) → k ≤ length labels → ancestor k (label ∷ labels) ≡ ancestor k labels

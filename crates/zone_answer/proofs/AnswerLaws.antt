@@ -1,9 +1,9 @@
 -- The rows that were gathered and the answer from there on are the whole answer.
-use Rattle.std.proofs.Common.{◌≡◌, ◌∙◌, ℕ, zero, suc, true, false, cond, List, [], ◌∷◌, ◌++◌, Option, Some, None, refl, sym, ap, append_assoc, append-nil}
+use Rattle.std.proofs.Common.{◌≡◌, ◌∙◌, ℕ, zero, suc, true, false, cond, List, [], ◌++◌, Some, None, refl, sym, ap, append_assoc, append-nil}
 use Rattle.zone_model.specs.Names.{Name, is_under}
 use Rattle.zone_model.specs.Versions.{Version}
-use Rattle.zone_model.specs.Answers.{Row}
-use Rattle.zone_answer.specs.Answers.{Answer, Step, step, behind, going_on, followed, no_more, answer}
+use Rattle.zone_model.specs.Rows.{Row}
+use Rattle.zone_answer.specs.Answers.{Answer, step, behind, going_on, followed, no_more}
 use Rattle.zone_answer.specs.declared.kind.Kind.{Kind}
 use Rattle.zone_answer.specs.declared.kind.Kind.TheVariants.{Answered}
 use Rattle.zone_answer.specs.declared.step.Next.{Next}

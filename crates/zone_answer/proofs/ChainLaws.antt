@@ -1,13 +1,12 @@
 -- What a search tells of the names at or above a name: which are there, and whether the name itself is.
-use Rattle.std.proofs.Common.{◌≡◌, ◌∙◌, ℕ, ◌-◌, ◌<◌, ◌≤◌, Bool, true, false, cond, eqb, ◌||◌, List, [], ◌∷◌, ◌++◌, length, take, drop, map, inl, inr, Option, Some, None, unwrap_or, refl, sym, ap, subst, arith, take-append-drop}
+use Rattle.std.proofs.Common.{◌≡◌, ◌∙◌, ℕ, ◌-◌, ◌≤◌, Bool, true, false, cond, eqb, ◌||◌, List, [], ◌∷◌, length, take, map, inl, inr, Option, Some, None, unwrap_or, refl, sym, ap, subst, arith, take-append-drop}
 use Rattle.std.proofs.lemmas.Bool.Decides.{nat_tests}
 use Rattle.std.specs.List.{AllByRecursion, list_any}
 use Rattle.std.specs.Ordering.{is_eq}
-use Rattle.zone_model.specs.Names.{Name, IsName, IsLabel, ancestor, is_under, name_cmp}
+use Rattle.zone_model.specs.Names.{Name, IsName, ancestor, is_under, name_cmp}
 use Rattle.zone_model.specs.Keys.{key_of}
 use Rattle.zone_model.specs.Records.{Entry}
-use Rattle.zone_model.specs.Versions.{Version, entry_of, owned}
-use Rattle.zone_model.specs.Answers.{exists}
+use Rattle.zone_model.specs.Versions.{Version, entry_of, owned, exists}
 use Rattle.zone_model.proofs.NameLemmas.{same_name-true}
 use Rattle.zone_model.proofs.KeyLaws.{key_once}
 use Rattle.zone_model.proofs.OrderLemmas.{ends_under}
@@ -17,8 +16,7 @@ use Rattle.trie_model.proofs.AboveLaws.{under_begins}
 use Rattle.trie_model.proofs.ChainLaws.{chain_take, chain_skip, begins_same}
 use Rattle.trie_model.proofs.NameLaws.{labels_of}
 use Rattle.trie_read.specs.Finds.{IsKind}
-use Rattle.trie_read.specs.declared.found.Kind.TheVariants.{Exact, Partial, Absent}
-use Rattle.zone_answer.specs.Parts.{IsChain}
+use Rattle.trie_read.specs.declared.found.Kind.TheVariants.{Partial, Absent}
 use Rattle.zone_answer.specs.Standing.{IsStorable, IsVersion, trie_entry}
 use Rattle.zone_answer.proofs.AncestorLaws.{length-ancestor, self_under}
 use Rattle.zone_answer.proofs.OwnedLaws.{nothing_owned}

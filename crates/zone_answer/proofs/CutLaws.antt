@@ -1,12 +1,12 @@
 -- The first cut from the origin on, by how many labels the names have.
-use Rattle.std.proofs.Common.{◌≡◌, ◌∙◌, ℕ, ◌+◌, ◌-◌, ◌<◌, ◌≤◌, Bool, true, false, cond, not, ◌&&◌, List, [], length, drop, inl, inr, Option, Some, None, MatchOption, refl, sym, ap, subst, arith, length-drop}
+use Rattle.std.proofs.Common.{◌≡◌, ◌∙◌, ℕ, ◌+◌, ◌-◌, ◌<◌, ◌≤◌, Bool, true, false, cond, not, ◌&&◌, [], length, inl, inr, Option, Some, None, MatchOption, refl, sym, ap, subst, arith, length-drop}
 use Rattle.std.proofs.lemmas.Bool.{cases_lt}
 use Rattle.std.specs.Option.{is_some}
 use Rattle.zone_model.specs.Names.{Name, ancestor, is_under, same_name}
 use Rattle.zone_model.specs.Records.{Rrset, Entry, rrset_of}
 use Rattle.zone_model.specs.Versions.{Version, owned}
 use Rattle.zone_answer.specs.Answers.{is_cut, cut_above}
-use Rattle.zone_answer.specs.Parts.{delegated, IsCutOf, IsCutOver, NoneTo, NoneOver}
+use Rattle.zone_answer.specs.Parts.{delegated, IsCutOf, NoneTo, NoneOver}
 use Rattle.zone_answer.specs.declared.cut.Cut.{Cut}
 use Rattle.zone_answer.proofs.AncestorLaws.{never_cut, cut_by_set, first_above, none_above, ancestor_self}
 use denote.Ref.{Bor}

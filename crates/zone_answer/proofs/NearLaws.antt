@@ -1,5 +1,5 @@
 -- A name at or above another exists exactly where a neighbour of the other's place is at or under it.
-use Rattle.std.proofs.Common.{◌≡◌, ◌∙◌, Bool, true, false, ◌||◌, List, [], ◌∷◌, ◌++◌, Option, Some, None, IsTrue, refl, sym, ap, subst, append_assoc}
+use Rattle.std.proofs.Common.{◌≡◌, ◌∙◌, Bool, true, false, ◌||◌, [], ◌∷◌, ◌++◌, Option, Some, None, IsTrue, refl, sym, ap, subst, append_assoc}
 use Rattle.std.specs.List.{AllByRecursion}
 use Rattle.std.specs.List.Sorted.{IsStrictlySortedBy}
 use Rattle.std.specs.Map.{keys_of}
@@ -10,8 +10,7 @@ use Rattle.std.specs.Ordering.{is_gt, is_le}
 use Rattle.zone_model.specs.Names.{Name, name_cmp, is_under}
 use Rattle.zone_model.specs.NameOrder.{name_cmp_total}
 use Rattle.zone_model.specs.Records.{Entry}
-use Rattle.zone_model.specs.Versions.{Version}
-use Rattle.zone_model.specs.Answers.{exists}
+use Rattle.zone_model.specs.Versions.{Version, exists}
 use Rattle.zone_model.proofs.NameLemmas.{name_cmp-IsAntisymmetric}
 use Rattle.zone_model.proofs.OrderLemmas.{under_between, under_not_before}
 use Rattle.zone_answer.specs.Neighbours.{IsLast, IsFirst, AreNeighbours, is_near, shows}

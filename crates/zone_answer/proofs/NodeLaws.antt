@@ -1,9 +1,7 @@
 -- What answers for a name, by whether names exist.
-use Rattle.std.proofs.Common.{◌≡◌, true, false, cond, Option, Some, None, sym, ap}
+use Rattle.std.proofs.Common.{◌≡◌, true, false, cond, Some, None, sym, ap}
 use Rattle.zone_model.specs.Names.{Name, star_under}
-use Rattle.zone_model.specs.Records.{Entry}
-use Rattle.zone_model.specs.Versions.{Version, owned}
-use Rattle.zone_model.specs.Answers.{exists}
+use Rattle.zone_model.specs.Versions.{Version, owned, exists}
 use Rattle.zone_answer.specs.Answers.{encloser, wildcard_under, node}
 
 pub no_wildcard : (version : Version) (name : Name) → exists (star_under name) version ≡ false → None ≡ wildcard_under version (Some name)

@@ -1,12 +1,11 @@
 -- What a name gives, by where its records come from.
-use Rattle.std.proofs.Common.{◌≡◌, ◌∙◌, ℕ, true, false, List, [], Option, Some, None, sym, ap}
+use Rattle.std.proofs.Common.{◌≡◌, ◌∙◌, ℕ, true, false, [], Option, Some, sym, ap}
 use Rattle.zone_model.specs.Names.{Name}
 use Rattle.zone_model.specs.Records.{Entry, rrset_of}
-use Rattle.zone_model.specs.Versions.{Version, owned}
-use Rattle.zone_model.specs.Answers.{exists}
+use Rattle.zone_model.specs.Versions.{Version, owned, exists}
 use Rattle.zone_answer.specs.Answers.{Step, step, by_cut, by_node, by_alias, alias_in, set_rows, node, is_cut, cut_above}
 use Rattle.zone_answer.specs.Parts.{NoneOver}
-use Rattle.zone_answer.specs.declared.kind.Kind.TheVariants.{Referral, Nxdomain}
+use Rattle.zone_answer.specs.declared.kind.Kind.TheVariants.{Referral}
 use Rattle.zone_answer.specs.declared.step.Next.TheVariants.{Ends}
 use Rattle.zone_answer.proofs.NodeLaws.{own_node}
 use Rattle.zone_answer.proofs.CutLaws.{own_cut, no_cut, empty_no_cut}

@@ -5,8 +5,8 @@ use Rattle.std.specs.Option.{is_some, option_map}
 use Rattle.zone_model.specs.Names.{Name, is_under, same_name, star_under}
 use Rattle.zone_model.specs.Records.{Rrset, Entry, rrset_of}
 use Rattle.zone_model.specs.Splits.{split_name}
-use Rattle.zone_model.specs.Versions.{Version, owned, cname_type}
-use Rattle.zone_model.specs.Answers.{Row, rows_of, exists}
+use Rattle.zone_model.specs.Versions.{Version, owned, cname_type, exists}
+use Rattle.zone_model.specs.Rows.{Row, rows_of}
 use Rattle.zone_answer.specs.declared.kind.Kind.{Kind}
 use Rattle.zone_answer.specs.declared.kind.Kind.TheVariants.{Answered, Nodata, Nxdomain, Referral, Outside}
 use Rattle.zone_answer.specs.declared.step.Next.{Next}

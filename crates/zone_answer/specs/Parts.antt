@@ -6,7 +6,7 @@ use Rattle.zone_model.specs.Names.{Name, ancestor}
 use Rattle.zone_model.specs.Keys.{key_of}
 use Rattle.zone_model.specs.Records.{rrset_of}
 use Rattle.zone_model.specs.Versions.{Version, owned}
-use Rattle.zone_model.specs.Answers.{Row}
+use Rattle.zone_model.specs.Rows.{Row}
 use Rattle.trie_model.specs.Order.{chain_labels}
 use Rattle.trie_read.specs.declared.found.Chain.{Chain}
 use Rattle.zone_answer.specs.Answers.{Step, is_cut, cut_above, ns_type}

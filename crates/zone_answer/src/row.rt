@@ -1,7 +1,7 @@
 //! Records with their owners.
 
 ghost use Rattle.std.specs.Prelude.{◌≡◌, ◌++◌, OnOk};
-ghost use Rattle.zone_model.specs.Answers.{rows_of};
+ghost use Rattle.zone_model.specs.Rows.{rows_of};
 
 use dns_name::Name;
 use rr_data::{Rdata, RrSet};
@@ -18,7 +18,7 @@ pub struct Row {
 }
 
 impl Model for Row {
-    ghost use Rattle.zone_model.specs.Answers.{Row};
+    ghost use Rattle.zone_model.specs.Rows.{Row};
 
     ghost Value = { Row };
 

@@ -14,8 +14,7 @@ use Rattle.std.proofs.lemmas.Cmp.{nat_list_cmp_total}
 use Rattle.std.proofs.lemmas.List.{reverse-append, reverse-reverse}
 use Rattle.zone_model.specs.Names.{Label, Name, name_cmp, same_name, is_under}
 use Rattle.zone_model.specs.NameOrder.{name_cmp_total}
-use Rattle.zone_model.specs.Versions.{Version}
-use Rattle.zone_model.specs.Answers.{exists}
+use Rattle.zone_model.specs.Versions.{Version, exists}
 use Rattle.zone_model.proofs.NameLemmas.{same_name-true}
 
 -- ---- lists of labels, in the order of their octets

@@ -2,7 +2,8 @@
 use Rattle.std.specs.Prelude.{ℕ, Bool, true, false, ◌&&◌, ◌||◌, not, List, [], ◌∷◌, length, nat_lt, nat_le, ◌==◌, if◌then◌else◌, Option, Some, None, unwrap_or, is_some, is_none, Result, Ok, Err}
 use Rattle.std.specs.BTreeMap.{insert_entry, is_at}
 use Rattle.std.specs.Map.{lookup, remove_entry}
-use Rattle.zone_model.specs.Names.{Name, name_cmp, same_name}
+use Rattle.std.specs.List.{list_any}
+use Rattle.zone_model.specs.Names.{Name, name_cmp, same_name, is_under}
 use Rattle.zone_model.specs.Records.{Rrset, Entry, rrset_of, has_record, with_rr, without_rr, without_set, item, item_limit}
 use Rattle.zone_model.specs.declared.Refusal.{Refusal}
 use Rattle.zone_model.specs.declared.Refusal.TheVariants.{Soa, Cname, Long}
@@ -16,6 +17,10 @@ entry_of name version = lookup (is_at (name_cmp name)) version
 -- what a name owns; nothing where it isn't there
 abbrev pub owned : Name → Version → Entry
 owned name version = unwrap_or (entry_of name version) []
+
+-- the name or one under it owns records
+abbrev pub exists : Name → Version → Bool
+exists name version = list_any (λ pair. is_under pair.0 name) version
 
 -- the version in which a name owns this entry; a name without records leaves it
 abbrev pub put : Name → Entry → Version → Version

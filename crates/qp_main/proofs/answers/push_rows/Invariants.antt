@@ -1,6 +1,6 @@
 use Rattle.std.proofs.Common.{◌≡◌, ◌++◌, take, map}
 use Rattle.std.specs.List.{flat_map}
-use Rattle.zone_model.specs.Reports.{row_text}
+use Rattle.zone_model.specs.Rows.{row_text}
 use Rattle.qp_main.proofs.answers.push_rows.Given as goal
 
 abbrev pub invariant-loop-rdata : goal.invariant-loop-rdata

@@ -1,6 +1,5 @@
-use Rattle.std.proofs.Common.{◌≡◌, ◌∙◌, sym, Some, rules}
+use Rattle.std.proofs.Common.{◌∙◌, sym}
 use Rattle.std.specs.String.{string_bytes}
-use Rattle.qp_main.specs.Invocations.{verb_of}
 use Rattle.qp_main.proofs.InvocationLemmas.{six_words}
 use Rattle.qp_main.proofs.command_line.invocation_of.Goals as goal
 

@@ -1,6 +1,5 @@
-use Rattle.std.proofs.Common.{◌≡◌, ◌∙◌, ℕ, ◌++◌, List, length, sym, ap, arith, Err}
+use Rattle.std.proofs.Common.{◌∙◌, ℕ, List, length, ap, arith, Err}
 use Rattle.zone_model.specs.Keys.{key_of}
-use Rattle.trie_model.specs.Keys.{Entry}
 use Rattle.trie_write.specs.declared.item.ItemRefusal.{ItemRefusal}
 use Rattle.qp_main.proofs.OpeningLemmas.{payload, entry_as}
 use Rattle.qp_main.proofs.opening.item_of.Goals as goal

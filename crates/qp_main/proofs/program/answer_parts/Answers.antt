@@ -1,8 +1,8 @@
-use Rattle.std.proofs.Common.{◌≡◌, ◌∙◌, refl, ap, Ok, Err, rules, subst, sym, ℕ, codes}
+use Rattle.std.proofs.Common.{◌≡◌, refl, Ok, Err, rules, subst, sym, codes}
 use Rattle.std.specs.List.{AllByRecursion}
 use Rattle.zone_model.specs.MasterFile.{zone_of}
 use Rattle.zone_model.specs.Versions.{Version}
-use Rattle.zone_model.specs.Jobs.{zone_lines}
+use Rattle.job_model.specs.Jobs.{zone_lines}
 use Rattle.qp_main.specs.Fits.{Storable}
 use Rattle.qp_main.specs.Due.{refusal_text, zone_kind_text}
 use Rattle.qp_main.specs.declared.status.Status.TheVariants as status

@@ -1,6 +1,6 @@
 use Rattle.std.proofs.Common.{◌≡◌, [], ◌∷◌, true, map, Ok, rules}
-use Rattle.zone_model.specs.Jobs.{script_of, script_start, script_lines}
-use Rattle.qp_main.specs.Views.{command_view}
+use Rattle.job_model.specs.Jobs.{script_of, script_start, script_lines}
+use Rattle.job_script.specs.Views.{command_view}
 use Rattle.qp_main.specs.Fits.{fits}
 use Rattle.qp_main.specs.Due.{Reported}
 use Rattle.qp_main.proofs.DueLemmas.{fitting, job_answers, ok_map}

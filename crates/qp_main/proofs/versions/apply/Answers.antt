@@ -1,4 +1,4 @@
-use Rattle.std.proofs.Common.{◌≡◌, ◌∙◌, sym}
+use Rattle.std.proofs.Common.{◌∙◌, sym}
 use Rattle.qp_main.proofs.MapLemmas.{put_back_as}
 use Rattle.qp_main.proofs.versions.apply.Goals as goal
 

@@ -1,5 +1,5 @@
 use Rattle.std.proofs.Common.{◌∙◌, ap}
-use Rattle.qp_main.specs.Views.{operation_view}
+use Rattle.job_script.specs.Views.{operation_view}
 use Rattle.qp_main.specs.Steps.{undone}
 use Rattle.qp_main.proofs.MapLemmas.{whole_step, undone-push}
 use Rattle.qp_main.proofs.versions.apply_all.Goals as goal

@@ -3,7 +3,7 @@ use Rattle.std.specs.Map.{keys_of}
 use Rattle.std.specs.List.Sorted.{IsStrictlySortedBy}
 use Rattle.zone_model.specs.Names.{name_cmp}
 use Rattle.zone_model.specs.Versions.{whole}
-use Rattle.qp_main.specs.Views.{operation_view}
+use Rattle.job_script.specs.Views.{operation_view}
 use Rattle.qp_main.specs.Steps.{undone}
 use Rattle.qp_main.proofs.versions.apply_all.Given as goal
 

@@ -1,8 +1,8 @@
 use Rattle.std.proofs.Common.{subst, sym}
 use Rattle.zone_model.specs.Versions.{changed}
-use Rattle.qp_main.specs.Views.{operation_view}
+use Rattle.job_script.specs.Views.{operation_view}
 use Rattle.qp_main.specs.Steps.{Gives}
-use Rattle.qp_main.specs.declared.operations.Operation.{Operation}
+use Rattle.job_script.specs.declared.operations.Operation.{Operation}
 use Rattle.qp_main.proofs.versions.changed.Goals as goal
 
 pub returns-in-DeleteRecord : goal.returns-in-DeleteRecord

@@ -1,6 +1,6 @@
 use Rattle.std.proofs.Common.{◌∙◌, ap, codes, ◌++◌, [], subst, map, List, ℕ}
 use Rattle.std.specs.Fmt.{decimal}
-use Rattle.qp_main.specs.Views.{command_view}
+use Rattle.job_script.specs.Views.{command_view}
 use Rattle.qp_main.specs.Runs.{Ran}
 use Rattle.qp_main.proofs.RunLemmas.{reported}
 use Rattle.qp_main.proofs.worker.report_job.Goals as goal

@@ -1,5 +1,5 @@
 use Rattle.std.proofs.Common.{arith}
-use Rattle.qp_main.specs.Views.{command_view}
+use Rattle.job_script.specs.Views.{command_view}
 use Rattle.qp_main.proofs.RunLemmas.{ran_index}
 use Rattle.qp_main.proofs.worker.run_commands.Goals as goal
 

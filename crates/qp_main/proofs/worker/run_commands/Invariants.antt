@@ -1,5 +1,5 @@
 use Rattle.std.proofs.Common.{◌≤◌, take, map}
-use Rattle.qp_main.specs.Views.{command_view}
+use Rattle.job_script.specs.Views.{command_view}
 use Rattle.qp_main.specs.Runs.{Ran}
 use Rattle.qp_main.proofs.worker.run_commands.Given as goal
 

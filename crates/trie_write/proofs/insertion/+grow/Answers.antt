@@ -5,136 +5,120 @@ use Rattle.trie_model.specs.Reach.{row, in_chunk}
 use Rattle.chunk_cells.specs.Chunks.{IsGiven}
 use Rattle.chunk_usage.specs.Rooms.{Ready}
 use Rattle.trie_write.specs.Frames.{Frame}
-use Rattle.trie_write.specs.Steps.{AsksBranch, Grew}
-use Rattle.trie_write.proofs.FrameLaws.{frame_put, ready_put, room_unkept, ok_map, lt_of}
+use Rattle.trie_write.specs.Steps.{Grew}
+use Rattle.trie_write.proofs.FrameLaws.{frame_put, ready_put, room_unkept, ok_map}
 use Rattle.trie_write.proofs.StepLaws.{numbers, row_is, cell_there, cell_used, twig_there, part_counted, moved_branch, left_row, rest_row, left_length, rest_length, left_used, rest_used}
 use Rattle.trie_write.proofs.InsertLaws as inserting
-use Rattle.trie_write.proofs.InsertLaws.{branch_asks, deep_branch, deep_leaf, path_least, path_as, grew_as, laid_used}
-use Rattle.trie_write.proofs.UnpackLaws.{none_is_no_branch, leaf_is_no_branch}
+use Rattle.trie_write.proofs.InsertLaws.{branch_asks, path_least, path_as, grew_as, laid_used}
 use Rattle.trie_write.proofs.insertion.+grow.Goals as goal
 
-pub split_node-requires-clause-asks : goal.split_node-requires-clause-asks
-split_node-requires-clause-asks g t c = record { low = c.args.low; t = c.requires.asks.t; e = c.requires.asks.e; asks = c.requires.asks.asks; deeper = deep_branch (branch_asks c.requires.asks.asks c.unpack.result c.unpack.ensures.back c.in-Some-Branch.field-0 c.in-Some-Branch.is c.in-Some-Branch.field-0-is) c.if-branch-first.true }
+pub returns-in_err-to-in-Some-clause-spends : goal.returns-in_err-to-in-Some-clause-spends
+returns-in_err-to-in-Some-clause-spends g t c x e asks = let p = path_least (branch_asks asks (c.in-Some.ensures.branch c.args.low _ asks.held.tree asks.held.is)) in let n = c.twig_count-n.ensures in let s = c.room.ensures.spends in omega arith
 
-pub returns-then-branch-first-clause-grew : goal.returns-then-branch-first-clause-grew
-returns-then-branch-first-clause-grew g t c = ok_map c.split_node.result (λ cell h x e asks. h c.args.low x e asks (deep_branch (branch_asks asks c.unpack.result c.unpack.ensures.back c.in-Some-Branch.field-0 c.in-Some-Branch.is c.in-Some-Branch.field-0-is) c.if-branch-first.true)) c.split_node.ensures.grew
-
-pub add_leaf-requires-clause-asks : goal.add_leaf-requires-clause-asks
-add_leaf-requires-clause-asks g t c = record { low = c.args.low; position = c.args.first.position; cell = c.args.node; e = c.requires.asks.e; below = (branch_asks c.requires.asks.asks c.unpack.result c.unpack.ensures.back c.in-Some-Branch.field-0 c.in-Some-Branch.is c.in-Some-Branch.field-0-is).below; here = (subst (λ (o : ℕ). AsksBranch (g.C.CellRead.has c.args.cells.now) (g.U.Space.used c.args.usage.now) (g.U.Space.live c.args.usage.now) c.args.low o c.args.key.now c.args.first.position c.args.node c.args.leaf c.in-Some-Branch.branch c.requires.asks.e (branch_asks c.requires.asks.asks c.unpack.result c.unpack.ensures.back c.in-Some-Branch.field-0 c.in-Some-Branch.is c.in-Some-Branch.field-0-is).below) (sym c.if-branch-first-2.true) (branch_asks c.requires.asks.asks c.unpack.result c.unpack.ensures.back c.in-Some-Branch.field-0 c.in-Some-Branch.is c.in-Some-Branch.field-0-is).here) }
-
-pub returns-then-branch-first-2-clause-grew : goal.returns-then-branch-first-2-clause-grew
-returns-then-branch-first-2-clause-grew g t c = ok_map c.add_leaf.result (λ cell h x e asks. grew_as (branch_asks asks c.unpack.result c.unpack.ensures.back c.in-Some-Branch.field-0 c.in-Some-Branch.is c.in-Some-Branch.field-0-is).is (h c.args.low c.args.first.position c.args.node e (branch_asks asks c.unpack.result c.unpack.ensures.back c.in-Some-Branch.field-0 c.in-Some-Branch.is c.in-Some-Branch.field-0-is).below (subst (λ (o : ℕ). AsksBranch (g.C.CellRead.has c.args.cells.now) (g.U.Space.used c.args.usage.now) (g.U.Space.live c.args.usage.now) c.args.low o c.args.key.now c.args.first.position c.args.node c.args.leaf c.in-Some-Branch.branch e (branch_asks asks c.unpack.result c.unpack.ensures.back c.in-Some-Branch.field-0 c.in-Some-Branch.is c.in-Some-Branch.field-0-is).below) (sym c.if-branch-first-2.true) (branch_asks asks c.unpack.result c.unpack.ensures.back c.in-Some-Branch.field-0 c.in-Some-Branch.is c.in-Some-Branch.field-0-is).here))) c.add_leaf.ensures.grew
-
-pub returns-then-branch-first-2-clause-spends : goal.returns-then-branch-first-2-clause-spends
-returns-then-branch-first-2-clause-spends g t c x e asks = let p = path_least (branch_asks asks c.unpack.result c.unpack.ensures.back c.in-Some-Branch.field-0 c.in-Some-Branch.is c.in-Some-Branch.field-0-is) in let s = c.add_leaf.ensures.spends in omega arith
-
-pub returns-in_err-to-in-Some-Branch-clause-spends : goal.returns-in_err-to-in-Some-Branch-clause-spends
-returns-in_err-to-in-Some-Branch-clause-spends g t c x e asks = let p = path_least (branch_asks asks c.unpack.result c.unpack.ensures.back c.in-Some-Branch.field-0 c.in-Some-Branch.is c.in-Some-Branch.field-0-is) in let n = c.twig_count-n.ensures in let s = c.room.ensures.spends in omega arith
+pub room-requires-clause-some : goal.room-requires-clause-some
+room-requires-clause-some g t c = let n = numbers (inserting.down (branch_asks c.requires.asks.asks (c.in-Some.ensures.branch c.args.low _ c.requires.asks.asks.held.tree c.requires.asks.asks.held.is)).here c.in-Some.ensures.above c.at.ensures c.twig_index-index.ensures.by_popcount c.twig_count-n.ensures) in let m = n.2 in omega arith
 
 pub cell-next-requires : goal.cell-next-requires
-cell-next-requires g t c = record { there = (_, c.in_ok-to-in-Some-Branch.ensures.all _ _ (twig_there (inserting.down (branch_asks c.requires.asks.asks c.unpack.result c.unpack.ensures.back c.in-Some-Branch.field-0 c.in-Some-Branch.is c.in-Some-Branch.field-0-is).here (lt_of c.if-branch-first.false c.if-branch-first-2.false) c.at.ensures c.twig_index-index.ensures.by_popcount c.twig_count-n.ensures))) }
+cell-next-requires g t c = record { there = (_, c.in_ok-to-in-Some.ensures.all _ _ (twig_there (inserting.down (branch_asks c.requires.asks.asks (c.in-Some.ensures.branch c.args.low _ c.requires.asks.asks.held.tree c.requires.asks.asks.held.is)).here c.in-Some.ensures.above c.at.ensures c.twig_index-index.ensures.by_popcount c.twig_count-n.ensures))) }
 
 pub grow-requires : goal.grow-requires
 grow-requires g t c κs within =
-    let n = numbers (inserting.down (branch_asks c.requires.asks.asks c.unpack.result c.unpack.ensures.back c.in-Some-Branch.field-0 c.in-Some-Branch.is c.in-Some-Branch.field-0-is).here (lt_of c.if-branch-first.false c.if-branch-first-2.false) c.at.ensures c.twig_index-index.ensures.by_popcount c.twig_count-n.ensures) in
-    let f : 504 - (c.in-Some-Branch.branch.offset + 1) < 504 - c.args.low = let x = n.3 in let y = n.4 in omega arith in (
+    let n = numbers (inserting.down (branch_asks c.requires.asks.asks (c.in-Some.ensures.branch c.args.low _ c.requires.asks.asks.held.tree c.requires.asks.asks.held.is)).here c.in-Some.ensures.above c.at.ensures c.twig_index-index.ensures.by_popcount c.twig_count-n.ensures) in
+    let f : 504 - (c.in-Some.branch.offset + 1) < 504 - c.args.low = let x = n.3 in let y = n.4 in omega arith in (
       search (rules, f),
       (
         within.0,
         (
           within.1,
           (
-            record { t = (inserting.down_found (branch_asks c.requires.asks.asks c.unpack.result c.unpack.ensures.back c.in-Some-Branch.field-0 c.in-Some-Branch.is c.in-Some-Branch.field-0-is).here (lt_of c.if-branch-first.false c.if-branch-first-2.false) c.at.ensures c.twig_index-index.ensures.by_popcount c.twig_count-n.ensures).here; e = c.requires.asks.e; asks = (inserting.down_asks (branch_asks c.requires.asks.asks c.unpack.result c.unpack.ensures.back c.in-Some-Branch.field-0 c.in-Some-Branch.is c.in-Some-Branch.field-0-is).here (lt_of c.if-branch-first.false c.if-branch-first-2.false) c.at.ensures c.twig_index-index.ensures.by_popcount c.twig_count-n.ensures {now = g.C.CellRead.has c.cell-next.new.self} {used_now = g.U.Space.used c.room.new.usage} {live_now = g.U.Space.live c.room.new.usage} {next = c.cell-next.result} (λ z. let m = c.in_ok-to-in-Some-Branch.ensures.counts z in omega arith) (λ z x u m. subst (λ s. g.C.CellRead.has s z x) (sym c.cell-next.ensures.same) (c.in_ok-to-in-Some-Branch.ensures.frame.stays z x u m)) c.in_ok-to-in-Some-Branch.ensures.frame.grows.stays (c.cell-next.ensures.value _ (c.in_ok-to-in-Some-Branch.ensures.all _ _ (twig_there (inserting.down (branch_asks c.requires.asks.asks c.unpack.result c.unpack.ensures.back c.in-Some-Branch.field-0 c.in-Some-Branch.is c.in-Some-Branch.field-0-is).here (lt_of c.if-branch-first.false c.if-branch-first-2.false) c.at.ensures c.twig_index-index.ensures.by_popcount c.twig_count-n.ensures))))) },
-            subst (λ s. Ready (g.C.CellWrite.kept s) (g.C.CellWrite.given s) (g.U.Space.given c.room.new.usage) (g.U.Space.used c.room.new.usage) (g.U.Space.fresh c.room.new.usage)) (sym c.cell-next.ensures.same) c.in_ok-to-in-Some-Branch.ensures.ready,
+            record { t = (inserting.down_found (branch_asks c.requires.asks.asks (c.in-Some.ensures.branch c.args.low _ c.requires.asks.asks.held.tree c.requires.asks.asks.held.is)).here c.in-Some.ensures.above c.at.ensures c.twig_index-index.ensures.by_popcount c.twig_count-n.ensures).here; e = c.requires.asks.e; asks = (inserting.down_asks (branch_asks c.requires.asks.asks (c.in-Some.ensures.branch c.args.low _ c.requires.asks.asks.held.tree c.requires.asks.asks.held.is)).here c.in-Some.ensures.above c.at.ensures c.twig_index-index.ensures.by_popcount c.twig_count-n.ensures {now = g.C.CellRead.has c.cell-next.new.self} {used_now = g.U.Space.used c.room.new.usage} {live_now = g.U.Space.live c.room.new.usage} {next = c.cell-next.result} (λ z. let m = c.in_ok-to-in-Some.ensures.counts z in omega arith) (λ z x u m. subst (λ s. g.C.CellRead.has s z x) (sym c.cell-next.ensures.same) (c.in_ok-to-in-Some.ensures.frame.stays z x u m)) c.in_ok-to-in-Some.ensures.frame.grows.stays (c.cell-next.ensures.value _ (c.in_ok-to-in-Some.ensures.all _ _ (twig_there (inserting.down (branch_asks c.requires.asks.asks (c.in-Some.ensures.branch c.args.low _ c.requires.asks.asks.held.tree c.requires.asks.asks.held.is)).here c.in-Some.ensures.above c.at.ensures c.twig_index-index.ensures.by_popcount c.twig_count-n.ensures))))) },
+            subst (λ s. Ready (g.C.CellWrite.kept s) (g.C.CellWrite.given s) (g.U.Space.given c.room.new.usage) (g.U.Space.used c.room.new.usage) (g.U.Space.fresh c.room.new.usage)) (sym c.cell-next.ensures.same) c.in_ok-to-in-Some.ensures.ready,
           ),
         ),
       ),
     )
 
 pub put_branch-requires-clause-index : goal.put_branch-requires-clause-index
-put_branch-requires-clause-index g t c = let n = numbers (inserting.down (branch_asks c.requires.asks.asks c.unpack.result c.unpack.ensures.back c.in-Some-Branch.field-0 c.in-Some-Branch.is c.in-Some-Branch.field-0-is).here (lt_of c.if-branch-first.false c.if-branch-first-2.false) c.at.ensures c.twig_index-index.ensures.by_popcount c.twig_count-n.ensures) in let i = n.0 in let m = c.twig_count-n.ensures in omega arith
+put_branch-requires-clause-index g t c = let n = numbers (inserting.down (branch_asks c.requires.asks.asks (c.in-Some.ensures.branch c.args.low _ c.requires.asks.asks.held.tree c.requires.asks.asks.held.is)).here c.in-Some.ensures.above c.at.ensures c.twig_index-index.ensures.by_popcount c.twig_count-n.ensures) in let i = n.0 in let m = c.twig_count-n.ensures in omega arith
 
 pub put_branch-requires-clause-few : goal.put_branch-requires-clause-few
-put_branch-requires-clause-few g t c = let n = numbers (inserting.down (branch_asks c.requires.asks.asks c.unpack.result c.unpack.ensures.back c.in-Some-Branch.field-0 c.in-Some-Branch.is c.in-Some-Branch.field-0-is).here (lt_of c.if-branch-first.false c.if-branch-first-2.false) c.at.ensures c.twig_index-index.ensures.by_popcount c.twig_count-n.ensures) in let i = n.1 in let m = c.twig_count-n.ensures in omega arith
+put_branch-requires-clause-few g t c = let n = numbers (inserting.down (branch_asks c.requires.asks.asks (c.in-Some.ensures.branch c.args.low _ c.requires.asks.asks.held.tree c.requires.asks.asks.held.is)).here c.in-Some.ensures.above c.at.ensures c.twig_index-index.ensures.by_popcount c.twig_count-n.ensures) in let i = n.1 in let m = c.twig_count-n.ensures in omega arith
 
 pub put_branch-requires-clause-node : goal.put_branch-requires-clause-node
-put_branch-requires-clause-node g t c = moved_branch (inserting.down (branch_asks c.requires.asks.asks c.unpack.result c.unpack.ensures.back c.in-Some-Branch.field-0 c.in-Some-Branch.is c.in-Some-Branch.field-0-is).here (lt_of c.if-branch-first.false c.if-branch-first-2.false) c.at.ensures c.twig_index-index.ensures.by_popcount c.twig_count-n.ensures) c.in_ok-to-in-Some-Branch.ensures.room c.in_ok-to-in-Some-Branch.ensures.frame.grows.stays (laid_used c.requires.asks.asks.laid)
+put_branch-requires-clause-node g t c = moved_branch (inserting.down (branch_asks c.requires.asks.asks (c.in-Some.ensures.branch c.args.low _ c.requires.asks.asks.held.tree c.requires.asks.asks.held.is)).here c.in-Some.ensures.above c.at.ensures c.twig_index-index.ensures.by_popcount c.twig_count-n.ensures) c.in_ok-to-in-Some.ensures.room c.in_ok-to-in-Some.ensures.frame.grows.stays (laid_used c.requires.asks.asks.laid)
 
 pub put_branch-requires-clause-from_row : goal.put_branch-requires-clause-from_row
-put_branch-requires-clause-from_row g t c = subst (IsRow c.in-Some-Branch.branch.twigs) c.twig_count-n.ensures (row_is (inserting.down (branch_asks c.requires.asks.asks c.unpack.result c.unpack.ensures.back c.in-Some-Branch.field-0 c.in-Some-Branch.is c.in-Some-Branch.field-0-is).here (lt_of c.if-branch-first.false c.if-branch-first-2.false) c.at.ensures c.twig_index-index.ensures.by_popcount c.twig_count-n.ensures))
+put_branch-requires-clause-from_row g t c = subst (IsRow c.in-Some.branch.twigs) c.twig_count-n.ensures (row_is (inserting.down (branch_asks c.requires.asks.asks (c.in-Some.ensures.branch c.args.low _ c.requires.asks.asks.held.tree c.requires.asks.asks.held.is)).here c.in-Some.ensures.above c.at.ensures c.twig_index-index.ensures.by_popcount c.twig_count-n.ensures))
 
 pub put_branch-requires-clause-row : goal.put_branch-requires-clause-row
-put_branch-requires-clause-row g t c = subst (IsRow c.in_ok-to-in-Some-Branch.to) c.twig_count-n.ensures c.in_ok-to-in-Some-Branch.ensures.room.row
+put_branch-requires-clause-row g t c = subst (IsRow c.in_ok-to-in-Some.to) c.twig_count-n.ensures c.in_ok-to-in-Some.ensures.room.row
 
 pub put_branch-requires-clause-there : goal.put_branch-requires-clause-there
 put_branch-requires-clause-there g t c i l =
     let inside : i < c.twig_count-n.result = let m = c.twig_count-n.ensures in omega arith in
-    let x = cell_there (inserting.down (branch_asks c.requires.asks.asks c.unpack.result c.unpack.ensures.back c.in-Some-Branch.field-0 c.in-Some-Branch.is c.in-Some-Branch.field-0-is).here (lt_of c.if-branch-first.false c.if-branch-first-2.false) c.at.ensures c.twig_index-index.ensures.by_popcount c.twig_count-n.ensures) i inside in
-    let used = c.in_ok-to-in-Some-Branch.ensures.frame.grows.stays _ (cell_used (inserting.down (branch_asks c.requires.asks.asks c.unpack.result c.unpack.ensures.back c.in-Some-Branch.field-0 c.in-Some-Branch.is c.in-Some-Branch.field-0-is).here (lt_of c.if-branch-first.false c.if-branch-first-2.false) c.at.ensures c.twig_index-index.ensures.by_popcount c.twig_count-n.ensures) i inside) in
-    (x.0, c.in-Ok.ensures.frame.stays _ x.0 used (subst (λ s. g.C.CellRead.has s (c.in-Some-Branch.branch.twigs + i) x.0) (sym c.cell-next.ensures.same) (c.in_ok-to-in-Some-Branch.ensures.all _ x.0 x.1)))
+    let x = cell_there (inserting.down (branch_asks c.requires.asks.asks (c.in-Some.ensures.branch c.args.low _ c.requires.asks.asks.held.tree c.requires.asks.asks.held.is)).here c.in-Some.ensures.above c.at.ensures c.twig_index-index.ensures.by_popcount c.twig_count-n.ensures) i inside in
+    let used = c.in_ok-to-in-Some.ensures.frame.grows.stays _ (cell_used (inserting.down (branch_asks c.requires.asks.asks (c.in-Some.ensures.branch c.args.low _ c.requires.asks.asks.held.tree c.requires.asks.asks.held.is)).here c.in-Some.ensures.above c.at.ensures c.twig_index-index.ensures.by_popcount c.twig_count-n.ensures) i inside) in
+    (x.0, c.in-Ok.ensures.frame.stays _ x.0 used (subst (λ s. g.C.CellRead.has s (c.in-Some.branch.twigs + i) x.0) (sym c.cell-next.ensures.same) (c.in_ok-to-in-Some.ensures.all _ x.0 x.1)))
 
 pub put_branch-requires-clause-given : goal.put_branch-requires-clause-given
-put_branch-requires-clause-given g t c = c.in-Ok.ensures.frame.given_stays _ (subst (λ s. IsGiven (g.C.CellWrite.given s) (c.in_ok-to-in-Some-Branch.to / 1024)) (sym c.cell-next.ensures.same) c.in_ok-to-in-Some-Branch.ensures.room.in_given)
+put_branch-requires-clause-given g t c = c.in-Ok.ensures.frame.given_stays _ (subst (λ s. IsGiven (g.C.CellWrite.given s) (c.in_ok-to-in-Some.to / 1024)) (sym c.cell-next.ensures.same) c.in_ok-to-in-Some.ensures.room.in_given)
 
 pub put_branch-requires-clause-unkept : goal.put_branch-requires-clause-unkept
 put_branch-requires-clause-unkept g t c i l h =
-    let kept = c.in-Ok.ensures.frame.keeps ∙ ap (λ s. g.C.CellWrite.kept s) c.cell-next.ensures.same ∙ c.in_ok-to-in-Some-Branch.ensures.frame.keeps in
-    room_unkept c.in_ok-to-in-Some-Branch.ensures.room c.requires.ready i (let m = c.twig_count-n.ensures in omega arith) (subst (λ (qs : List ℕ). Contains qs (c.in_ok-to-in-Some-Branch.to + i)) kept h)
+    let kept = c.in-Ok.ensures.frame.keeps ∙ ap (λ s. g.C.CellWrite.kept s) c.cell-next.ensures.same ∙ c.in_ok-to-in-Some.ensures.frame.keeps in
+    room_unkept c.in_ok-to-in-Some.ensures.room c.requires.ready i (let m = c.twig_count-n.ensures in omega arith) (subst (λ (qs : List ℕ). Contains qs (c.in_ok-to-in-Some.to + i)) kept h)
 
 pub put_branch-requires-clause-counted : goal.put_branch-requires-clause-counted
 put_branch-requires-clause-counted g t c k =
-    let grew = c.in-Ok.ensures.grew (inserting.down_found (branch_asks c.requires.asks.asks c.unpack.result c.unpack.ensures.back c.in-Some-Branch.field-0 c.in-Some-Branch.is c.in-Some-Branch.field-0-is).here (lt_of c.if-branch-first.false c.if-branch-first-2.false) c.at.ensures c.twig_index-index.ensures.by_popcount c.twig_count-n.ensures).here c.requires.asks.e (inserting.down_asks (branch_asks c.requires.asks.asks c.unpack.result c.unpack.ensures.back c.in-Some-Branch.field-0 c.in-Some-Branch.is c.in-Some-Branch.field-0-is).here (lt_of c.if-branch-first.false c.if-branch-first-2.false) c.at.ensures c.twig_index-index.ensures.by_popcount c.twig_count-n.ensures {now = g.C.CellRead.has c.cell-next.new.self} {used_now = g.U.Space.used c.room.new.usage} {live_now = g.U.Space.live c.room.new.usage} {next = c.cell-next.result} (λ z. let m = c.in_ok-to-in-Some-Branch.ensures.counts z in omega arith) (λ z x u m. subst (λ s. g.C.CellRead.has s z x) (sym c.cell-next.ensures.same) (c.in_ok-to-in-Some-Branch.ensures.frame.stays z x u m)) c.in_ok-to-in-Some-Branch.ensures.frame.grows.stays (c.cell-next.ensures.value _ (c.in_ok-to-in-Some-Branch.ensures.all _ _ (twig_there (inserting.down (branch_asks c.requires.asks.asks c.unpack.result c.unpack.ensures.back c.in-Some-Branch.field-0 c.in-Some-Branch.is c.in-Some-Branch.field-0-is).here (lt_of c.if-branch-first.false c.if-branch-first-2.false) c.at.ensures c.twig_index-index.ensures.by_popcount c.twig_count-n.ensures))))) in
-    let p = part_counted (inserting.down (branch_asks c.requires.asks.asks c.unpack.result c.unpack.ensures.back c.in-Some-Branch.field-0 c.in-Some-Branch.is c.in-Some-Branch.field-0-is).here (lt_of c.if-branch-first.false c.if-branch-first-2.false) c.at.ensures c.twig_index-index.ensures.by_popcount c.twig_count-n.ensures) k in
-    let a = c.in_ok-to-in-Some-Branch.ensures.counts k in
+    let grew = c.in-Ok.ensures.grew (inserting.down_found (branch_asks c.requires.asks.asks (c.in-Some.ensures.branch c.args.low _ c.requires.asks.asks.held.tree c.requires.asks.asks.held.is)).here c.in-Some.ensures.above c.at.ensures c.twig_index-index.ensures.by_popcount c.twig_count-n.ensures).here c.requires.asks.e (inserting.down_asks (branch_asks c.requires.asks.asks (c.in-Some.ensures.branch c.args.low _ c.requires.asks.asks.held.tree c.requires.asks.asks.held.is)).here c.in-Some.ensures.above c.at.ensures c.twig_index-index.ensures.by_popcount c.twig_count-n.ensures {now = g.C.CellRead.has c.cell-next.new.self} {used_now = g.U.Space.used c.room.new.usage} {live_now = g.U.Space.live c.room.new.usage} {next = c.cell-next.result} (λ z. let m = c.in_ok-to-in-Some.ensures.counts z in omega arith) (λ z x u m. subst (λ s. g.C.CellRead.has s z x) (sym c.cell-next.ensures.same) (c.in_ok-to-in-Some.ensures.frame.stays z x u m)) c.in_ok-to-in-Some.ensures.frame.grows.stays (c.cell-next.ensures.value _ (c.in_ok-to-in-Some.ensures.all _ _ (twig_there (inserting.down (branch_asks c.requires.asks.asks (c.in-Some.ensures.branch c.args.low _ c.requires.asks.asks.held.tree c.requires.asks.asks.held.is)).here c.in-Some.ensures.above c.at.ensures c.twig_index-index.ensures.by_popcount c.twig_count-n.ensures))))) in
+    let p = part_counted (inserting.down (branch_asks c.requires.asks.asks (c.in-Some.ensures.branch c.args.low _ c.requires.asks.asks.held.tree c.requires.asks.asks.held.is)).here c.in-Some.ensures.above c.at.ensures c.twig_index-index.ensures.by_popcount c.twig_count-n.ensures) k in
+    let a = c.in_ok-to-in-Some.ensures.counts k in
     let d = grew.became.counts k in
-    let r = ap (row (in_chunk k) c.in-Some-Branch.branch.twigs) c.twig_count-n.ensures in omega arith
-
-pub split_node-requires-in-None-clause-asks : goal.split_node-requires-in-None-clause-asks
-split_node-requires-in-None-clause-asks g t c = record { low = c.args.low; t = c.requires.asks.t; e = c.requires.asks.e; asks = c.requires.asks.asks; deeper = deep_leaf c.requires.asks.t c.requires.asks.asks c.unpack.result c.unpack.ensures.back (λ b. none_is_no_branch c.unpack.result b c.in-None.is) }
-
-pub returns-in-None-clause-grew : goal.returns-in-None-clause-grew
-returns-in-None-clause-grew g t c = ok_map c.split_node-in-None.result (λ cell h x e asks. h c.args.low x e asks (deep_leaf x asks c.unpack.result c.unpack.ensures.back (λ b. none_is_no_branch c.unpack.result b c.in-None.is))) c.split_node-in-None.ensures.grew
-
-pub split_node-requires-in-Some-Leaf-clause-asks : goal.split_node-requires-in-Some-Leaf-clause-asks
-split_node-requires-in-Some-Leaf-clause-asks g t c = record { low = c.args.low; t = c.requires.asks.t; e = c.requires.asks.e; asks = c.requires.asks.asks; deeper = deep_leaf c.requires.asks.t c.requires.asks.asks c.unpack.result c.unpack.ensures.back (λ b. leaf_is_no_branch c.unpack.result c.in-Some-Leaf.field-0 _ b c.in-Some-Leaf.is c.in-Some-Leaf.field-0-is) }
-
-pub returns-in-Some-Leaf-clause-grew : goal.returns-in-Some-Leaf-clause-grew
-returns-in-Some-Leaf-clause-grew g t c = ok_map c.split_node-in-Some-Leaf.result (λ cell h x e asks. h c.args.low x e asks (deep_leaf x asks c.unpack.result c.unpack.ensures.back (λ b. leaf_is_no_branch c.unpack.result c.in-Some-Leaf.field-0 _ b c.in-Some-Leaf.is c.in-Some-Leaf.field-0-is))) c.split_node-in-Some-Leaf.ensures.grew
+    let r = ap (row (in_chunk k) c.in-Some.branch.twigs) c.twig_count-n.ensures in omega arith
 
 pub returns-in-Err-clause-spends : goal.returns-in-Err-clause-spends
 returns-in-Err-clause-spends g t c x e asks =
-    let p = inserting.down_path (branch_asks asks c.unpack.result c.unpack.ensures.back c.in-Some-Branch.field-0 c.in-Some-Branch.is c.in-Some-Branch.field-0-is).here (lt_of c.if-branch-first.false c.if-branch-first-2.false) c.at.ensures c.twig_index-index.ensures.by_popcount c.twig_count-n.ensures in
-    let q = path_as (branch_asks asks c.unpack.result c.unpack.ensures.back c.in-Some-Branch.field-0 c.in-Some-Branch.is c.in-Some-Branch.field-0-is) in
-    let s = c.grow.ensures.spends (inserting.down_found (branch_asks asks c.unpack.result c.unpack.ensures.back c.in-Some-Branch.field-0 c.in-Some-Branch.is c.in-Some-Branch.field-0-is).here (lt_of c.if-branch-first.false c.if-branch-first-2.false) c.at.ensures c.twig_index-index.ensures.by_popcount c.twig_count-n.ensures).here e (inserting.down_asks (branch_asks asks c.unpack.result c.unpack.ensures.back c.in-Some-Branch.field-0 c.in-Some-Branch.is c.in-Some-Branch.field-0-is).here (lt_of c.if-branch-first.false c.if-branch-first-2.false) c.at.ensures c.twig_index-index.ensures.by_popcount c.twig_count-n.ensures {now = g.C.CellRead.has c.cell-next.new.self} {used_now = g.U.Space.used c.room.new.usage} {live_now = g.U.Space.live c.room.new.usage} {next = c.cell-next.result} (λ z. let m = c.in_ok-to-in-Some-Branch.ensures.counts z in omega arith) (λ z x u m. subst (λ s. g.C.CellRead.has s z x) (sym c.cell-next.ensures.same) (c.in_ok-to-in-Some-Branch.ensures.frame.stays z x u m)) c.in_ok-to-in-Some-Branch.ensures.frame.grows.stays (c.cell-next.ensures.value _ (c.in_ok-to-in-Some-Branch.ensures.all _ _ (twig_there (inserting.down (branch_asks asks c.unpack.result c.unpack.ensures.back c.in-Some-Branch.field-0 c.in-Some-Branch.is c.in-Some-Branch.field-0-is).here (lt_of c.if-branch-first.false c.if-branch-first-2.false) c.at.ensures c.twig_index-index.ensures.by_popcount c.twig_count-n.ensures))))) in
+    let p = inserting.down_path (branch_asks asks (c.in-Some.ensures.branch c.args.low _ asks.held.tree asks.held.is)).here c.in-Some.ensures.above c.at.ensures c.twig_index-index.ensures.by_popcount c.twig_count-n.ensures in
+    let q = path_as (branch_asks asks (c.in-Some.ensures.branch c.args.low _ asks.held.tree asks.held.is)) in
+    let s = c.grow.ensures.spends (inserting.down_found (branch_asks asks (c.in-Some.ensures.branch c.args.low _ asks.held.tree asks.held.is)).here c.in-Some.ensures.above c.at.ensures c.twig_index-index.ensures.by_popcount c.twig_count-n.ensures).here e (inserting.down_asks (branch_asks asks (c.in-Some.ensures.branch c.args.low _ asks.held.tree asks.held.is)).here c.in-Some.ensures.above c.at.ensures c.twig_index-index.ensures.by_popcount c.twig_count-n.ensures {now = g.C.CellRead.has c.cell-next.new.self} {used_now = g.U.Space.used c.room.new.usage} {live_now = g.U.Space.live c.room.new.usage} {next = c.cell-next.result} (λ z. let m = c.in_ok-to-in-Some.ensures.counts z in omega arith) (λ z x u m. subst (λ s. g.C.CellRead.has s z x) (sym c.cell-next.ensures.same) (c.in_ok-to-in-Some.ensures.frame.stays z x u m)) c.in_ok-to-in-Some.ensures.frame.grows.stays (c.cell-next.ensures.value _ (c.in_ok-to-in-Some.ensures.all _ _ (twig_there (inserting.down (branch_asks asks (c.in-Some.ensures.branch c.args.low _ asks.held.tree asks.held.is)).here c.in-Some.ensures.above c.at.ensures c.twig_index-index.ensures.by_popcount c.twig_count-n.ensures))))) in
     let r = c.room.ensures.spends in
     let m = c.release.ensures.spent in omega arith
 
 pub returns-in-Err-clause-frame : goal.returns-in-Err-clause-frame
-returns-in-Err-clause-frame g t c = frame_put c.in_ok-to-in-Some-Branch.ensures.frame c.in_ok-to-in-Some-Branch.ensures.room (subst (λ s. Frame (g.C.CellRead.has s) (g.C.CellRead.has c.grow.new.cells) (g.C.CellWrite.kept s) (g.C.CellWrite.kept c.grow.new.cells) (g.C.CellWrite.given s) (g.C.CellWrite.given c.grow.new.cells) (g.U.Space.used c.room.new.usage) (g.U.Space.used c.grow.new.usage) (g.U.Space.fresh c.room.new.usage) (g.U.Space.fresh c.grow.new.usage)) c.cell-next.ensures.same c.in-Err.ensures.frame) (λ q x other h. h) refl refl c.release.ensures.used c.release.ensures.fresh
+returns-in-Err-clause-frame g t c = frame_put c.in_ok-to-in-Some.ensures.frame c.in_ok-to-in-Some.ensures.room (subst (λ s. Frame (g.C.CellRead.has s) (g.C.CellRead.has c.grow.new.cells) (g.C.CellWrite.kept s) (g.C.CellWrite.kept c.grow.new.cells) (g.C.CellWrite.given s) (g.C.CellWrite.given c.grow.new.cells) (g.U.Space.used c.room.new.usage) (g.U.Space.used c.grow.new.usage) (g.U.Space.fresh c.room.new.usage) (g.U.Space.fresh c.grow.new.usage)) c.cell-next.ensures.same c.in-Err.ensures.frame) (λ q x other h. h) refl refl c.release.ensures.used c.release.ensures.fresh
 
 pub returns-in-Ok-clause-spends : goal.returns-in-Ok-clause-spends
 returns-in-Ok-clause-spends g t c x e asks =
-    let p = inserting.down_path (branch_asks asks c.unpack.result c.unpack.ensures.back c.in-Some-Branch.field-0 c.in-Some-Branch.is c.in-Some-Branch.field-0-is).here (lt_of c.if-branch-first.false c.if-branch-first-2.false) c.at.ensures c.twig_index-index.ensures.by_popcount c.twig_count-n.ensures in
-    let q = path_as (branch_asks asks c.unpack.result c.unpack.ensures.back c.in-Some-Branch.field-0 c.in-Some-Branch.is c.in-Some-Branch.field-0-is) in
-    let s = c.grow.ensures.spends (inserting.down_found (branch_asks asks c.unpack.result c.unpack.ensures.back c.in-Some-Branch.field-0 c.in-Some-Branch.is c.in-Some-Branch.field-0-is).here (lt_of c.if-branch-first.false c.if-branch-first-2.false) c.at.ensures c.twig_index-index.ensures.by_popcount c.twig_count-n.ensures).here e (inserting.down_asks (branch_asks asks c.unpack.result c.unpack.ensures.back c.in-Some-Branch.field-0 c.in-Some-Branch.is c.in-Some-Branch.field-0-is).here (lt_of c.if-branch-first.false c.if-branch-first-2.false) c.at.ensures c.twig_index-index.ensures.by_popcount c.twig_count-n.ensures {now = g.C.CellRead.has c.cell-next.new.self} {used_now = g.U.Space.used c.room.new.usage} {live_now = g.U.Space.live c.room.new.usage} {next = c.cell-next.result} (λ z. let m = c.in_ok-to-in-Some-Branch.ensures.counts z in omega arith) (λ z x u m. subst (λ s. g.C.CellRead.has s z x) (sym c.cell-next.ensures.same) (c.in_ok-to-in-Some-Branch.ensures.frame.stays z x u m)) c.in_ok-to-in-Some-Branch.ensures.frame.grows.stays (c.cell-next.ensures.value _ (c.in_ok-to-in-Some-Branch.ensures.all _ _ (twig_there (inserting.down (branch_asks asks c.unpack.result c.unpack.ensures.back c.in-Some-Branch.field-0 c.in-Some-Branch.is c.in-Some-Branch.field-0-is).here (lt_of c.if-branch-first.false c.if-branch-first-2.false) c.at.ensures c.twig_index-index.ensures.by_popcount c.twig_count-n.ensures))))) in
+    let p = inserting.down_path (branch_asks asks (c.in-Some.ensures.branch c.args.low _ asks.held.tree asks.held.is)).here c.in-Some.ensures.above c.at.ensures c.twig_index-index.ensures.by_popcount c.twig_count-n.ensures in
+    let q = path_as (branch_asks asks (c.in-Some.ensures.branch c.args.low _ asks.held.tree asks.held.is)) in
+    let s = c.grow.ensures.spends (inserting.down_found (branch_asks asks (c.in-Some.ensures.branch c.args.low _ asks.held.tree asks.held.is)).here c.in-Some.ensures.above c.at.ensures c.twig_index-index.ensures.by_popcount c.twig_count-n.ensures).here e (inserting.down_asks (branch_asks asks (c.in-Some.ensures.branch c.args.low _ asks.held.tree asks.held.is)).here c.in-Some.ensures.above c.at.ensures c.twig_index-index.ensures.by_popcount c.twig_count-n.ensures {now = g.C.CellRead.has c.cell-next.new.self} {used_now = g.U.Space.used c.room.new.usage} {live_now = g.U.Space.live c.room.new.usage} {next = c.cell-next.result} (λ z. let m = c.in_ok-to-in-Some.ensures.counts z in omega arith) (λ z x u m. subst (λ s. g.C.CellRead.has s z x) (sym c.cell-next.ensures.same) (c.in_ok-to-in-Some.ensures.frame.stays z x u m)) c.in_ok-to-in-Some.ensures.frame.grows.stays (c.cell-next.ensures.value _ (c.in_ok-to-in-Some.ensures.all _ _ (twig_there (inserting.down (branch_asks asks (c.in-Some.ensures.branch c.args.low _ asks.held.tree asks.held.is)).here c.in-Some.ensures.above c.at.ensures c.twig_index-index.ensures.by_popcount c.twig_count-n.ensures))))) in
     let r = c.room.ensures.spends in
     let m = c.put_branch.ensures.spent in omega arith
 
 pub returns-in-Ok-clause-frame : goal.returns-in-Ok-clause-frame
 returns-in-Ok-clause-frame g t c =
-    frame_put c.in_ok-to-in-Some-Branch.ensures.frame c.in_ok-to-in-Some-Branch.ensures.room (subst (λ s. Frame (g.C.CellRead.has s) (g.C.CellRead.has c.grow.new.cells) (g.C.CellWrite.kept s) (g.C.CellWrite.kept c.grow.new.cells) (g.C.CellWrite.given s) (g.C.CellWrite.given c.grow.new.cells) (g.U.Space.used c.room.new.usage) (g.U.Space.used c.grow.new.usage) (g.U.Space.fresh c.room.new.usage) (g.U.Space.fresh c.grow.new.usage)) c.cell-next.ensures.same c.in-Ok.ensures.frame) (λ q x other h. c.put_branch.ensures.others q x (λ i l. other i (let m = c.twig_count-n.ensures in omega arith)) h) c.put_branch.ensures.given c.put_branch.ensures.kept c.put_branch.ensures.used c.put_branch.ensures.fresh
+    frame_put c.in_ok-to-in-Some.ensures.frame c.in_ok-to-in-Some.ensures.room (subst (λ s. Frame (g.C.CellRead.has s) (g.C.CellRead.has c.grow.new.cells) (g.C.CellWrite.kept s) (g.C.CellWrite.kept c.grow.new.cells) (g.C.CellWrite.given s) (g.C.CellWrite.given c.grow.new.cells) (g.U.Space.used c.room.new.usage) (g.U.Space.used c.grow.new.usage) (g.U.Space.fresh c.room.new.usage) (g.U.Space.fresh c.grow.new.usage)) c.cell-next.ensures.same c.in-Ok.ensures.frame) (λ q x other h. c.put_branch.ensures.others q x (λ i l. other i (let m = c.twig_count-n.ensures in omega arith)) h) c.put_branch.ensures.given c.put_branch.ensures.kept c.put_branch.ensures.used c.put_branch.ensures.fresh
 
 pub returns-in-Ok-clause-ready : goal.returns-in-Ok-clause-ready
 returns-in-Ok-clause-ready g t c = ready_put c.in-Ok.ensures.ready c.put_branch.ensures.given c.put_branch.ensures.kept c.put_branch.ensures.space c.put_branch.ensures.used c.put_branch.ensures.fresh
 
 pub returns-in-Ok-clause-grew : goal.returns-in-Ok-clause-grew
 returns-in-Ok-clause-grew g t c x e asks =
-    let down = inserting.down (branch_asks asks c.unpack.result c.unpack.ensures.back c.in-Some-Branch.field-0 c.in-Some-Branch.is c.in-Some-Branch.field-0-is).here (lt_of c.if-branch-first.false c.if-branch-first-2.false) c.at.ensures c.twig_index-index.ensures.by_popcount c.twig_count-n.ensures in
+    let down = inserting.down (branch_asks asks (c.in-Some.ensures.branch c.args.low _ asks.held.tree asks.held.is)).here c.in-Some.ensures.above c.at.ensures c.twig_index-index.ensures.by_popcount c.twig_count-n.ensures in
     let n = c.twig_count-n.ensures in
-    let later = λ (q : ℕ) (y : Cell) (u : g.U.Space.used c.args.usage.now q ≡ true) (m : g.C.CellRead.has c.args.cells.now q y). c.in-Ok.ensures.frame.stays q y (c.in_ok-to-in-Some-Branch.ensures.frame.grows.stays q u) (subst (λ s. g.C.CellRead.has s q y) (sym c.cell-next.ensures.same) (c.in_ok-to-in-Some-Branch.ensures.frame.stays q y u m)) in
-    grew_as (branch_asks asks c.unpack.result c.unpack.ensures.back c.in-Some-Branch.field-0 c.in-Some-Branch.is c.in-Some-Branch.field-0-is).is (subst (Grew (g.C.CellRead.has c.put_branch.new.cells) (g.U.Space.used c.args.usage.now) (g.U.Space.used c.put_branch.new.usage) (g.U.Space.live c.args.usage.now) (g.U.Space.live c.put_branch.new.usage) c.args.low c.args.leaf _ e) (sym c.put_branch.ensures.cell)
-    (inserting.down_grew (branch_asks asks c.unpack.result c.unpack.ensures.back c.in-Some-Branch.field-0 c.in-Some-Branch.is c.in-Some-Branch.field-0-is).here (lt_of c.if-branch-first.false c.if-branch-first-2.false) c.at.ensures c.twig_index-index.ensures.by_popcount c.twig_count-n.ensures {now = g.C.CellRead.has c.cell-next.new.self} {later = g.C.CellRead.has c.grow.new.cells} {new = g.C.CellRead.has c.put_branch.new.cells} c.in_ok-to-in-Some-Branch.ensures.room c.in_ok-to-in-Some-Branch.ensures.frame.grows.stays c.in_ok-to-in-Some-Branch.ensures.counts
-    (λ k. ap (λ (m : ℕ). g.U.Space.live c.put_branch.new.usage k + row (in_chunk k) c.in-Some-Branch.branch.twigs m) n ∙ c.put_branch.ensures.counts k) (λ z x u m. subst (λ s. g.C.CellRead.has s z x) (sym c.cell-next.ensures.same) (c.in_ok-to-in-Some-Branch.ensures.frame.stays z x u m)) c.in-Ok.ensures.frame.stays c.in-Ok.ensures.frame.grows.stays (λ q u. c.put_branch.ensures.used q ∙ u)
-    (c.in-Ok.ensures.grew (inserting.down_found (branch_asks asks c.unpack.result c.unpack.ensures.back c.in-Some-Branch.field-0 c.in-Some-Branch.is c.in-Some-Branch.field-0-is).here (lt_of c.if-branch-first.false c.if-branch-first-2.false) c.at.ensures c.twig_index-index.ensures.by_popcount c.twig_count-n.ensures).here e (inserting.down_asks (branch_asks asks c.unpack.result c.unpack.ensures.back c.in-Some-Branch.field-0 c.in-Some-Branch.is c.in-Some-Branch.field-0-is).here (lt_of c.if-branch-first.false c.if-branch-first-2.false) c.at.ensures c.twig_index-index.ensures.by_popcount c.twig_count-n.ensures {now = g.C.CellRead.has c.cell-next.new.self} {used_now = g.U.Space.used c.room.new.usage} {live_now = g.U.Space.live c.room.new.usage} {next = c.cell-next.result} (λ z. let m = c.in_ok-to-in-Some-Branch.ensures.counts z in omega arith) (λ z x u m. subst (λ s. g.C.CellRead.has s z x) (sym c.cell-next.ensures.same) (c.in_ok-to-in-Some-Branch.ensures.frame.stays z x u m)) c.in_ok-to-in-Some-Branch.ensures.frame.grows.stays (c.cell-next.ensures.value _ (c.in_ok-to-in-Some-Branch.ensures.all _ _ (twig_there (inserting.down (branch_asks asks c.unpack.result c.unpack.ensures.back c.in-Some-Branch.field-0 c.in-Some-Branch.is c.in-Some-Branch.field-0-is).here (lt_of c.if-branch-first.false c.if-branch-first-2.false) c.at.ensures c.twig_index-index.ensures.by_popcount c.twig_count-n.ensures))))))
-    (c.put_branch.ensures.written _ _ (left_length down) (rest_length down ∙ n) (λ i y f. later (c.in-Some-Branch.branch.twigs + i) y (left_used down i y f) (left_row down i y f)) (λ i y f. later (c.in-Some-Branch.branch.twigs + c.twig_index-index.result + 1 + i) y (rest_used down i y f) (rest_row down i y f)))
+    let later = λ (q : ℕ) (y : Cell) (u : g.U.Space.used c.args.usage.now q ≡ true) (m : g.C.CellRead.has c.args.cells.now q y). c.in-Ok.ensures.frame.stays q y (c.in_ok-to-in-Some.ensures.frame.grows.stays q u) (subst (λ s. g.C.CellRead.has s q y) (sym c.cell-next.ensures.same) (c.in_ok-to-in-Some.ensures.frame.stays q y u m)) in
+    grew_as (branch_asks asks (c.in-Some.ensures.branch c.args.low _ asks.held.tree asks.held.is)).is (subst (Grew (g.C.CellRead.has c.put_branch.new.cells) (g.U.Space.used c.args.usage.now) (g.U.Space.used c.put_branch.new.usage) (g.U.Space.live c.args.usage.now) (g.U.Space.live c.put_branch.new.usage) c.args.low c.args.leaf _ e) (sym c.put_branch.ensures.cell)
+    (inserting.down_grew (branch_asks asks (c.in-Some.ensures.branch c.args.low _ asks.held.tree asks.held.is)).here c.in-Some.ensures.above c.at.ensures c.twig_index-index.ensures.by_popcount c.twig_count-n.ensures {now = g.C.CellRead.has c.cell-next.new.self} {later = g.C.CellRead.has c.grow.new.cells} {new = g.C.CellRead.has c.put_branch.new.cells} c.in_ok-to-in-Some.ensures.room c.in_ok-to-in-Some.ensures.frame.grows.stays c.in_ok-to-in-Some.ensures.counts
+    (λ k. ap (λ (m : ℕ). g.U.Space.live c.put_branch.new.usage k + row (in_chunk k) c.in-Some.branch.twigs m) n ∙ c.put_branch.ensures.counts k) (λ z x u m. subst (λ s. g.C.CellRead.has s z x) (sym c.cell-next.ensures.same) (c.in_ok-to-in-Some.ensures.frame.stays z x u m)) c.in-Ok.ensures.frame.stays c.in-Ok.ensures.frame.grows.stays (λ q u. c.put_branch.ensures.used q ∙ u)
+    (c.in-Ok.ensures.grew (inserting.down_found (branch_asks asks (c.in-Some.ensures.branch c.args.low _ asks.held.tree asks.held.is)).here c.in-Some.ensures.above c.at.ensures c.twig_index-index.ensures.by_popcount c.twig_count-n.ensures).here e (inserting.down_asks (branch_asks asks (c.in-Some.ensures.branch c.args.low _ asks.held.tree asks.held.is)).here c.in-Some.ensures.above c.at.ensures c.twig_index-index.ensures.by_popcount c.twig_count-n.ensures {now = g.C.CellRead.has c.cell-next.new.self} {used_now = g.U.Space.used c.room.new.usage} {live_now = g.U.Space.live c.room.new.usage} {next = c.cell-next.result} (λ z. let m = c.in_ok-to-in-Some.ensures.counts z in omega arith) (λ z x u m. subst (λ s. g.C.CellRead.has s z x) (sym c.cell-next.ensures.same) (c.in_ok-to-in-Some.ensures.frame.stays z x u m)) c.in_ok-to-in-Some.ensures.frame.grows.stays (c.cell-next.ensures.value _ (c.in_ok-to-in-Some.ensures.all _ _ (twig_there (inserting.down (branch_asks asks (c.in-Some.ensures.branch c.args.low _ asks.held.tree asks.held.is)).here c.in-Some.ensures.above c.at.ensures c.twig_index-index.ensures.by_popcount c.twig_count-n.ensures))))))
+    (c.put_branch.ensures.written _ _ (left_length down) (rest_length down ∙ n) (λ i y f. later (c.in-Some.branch.twigs + i) y (left_used down i y f) (left_row down i y f)) (λ i y f. later (c.in-Some.branch.twigs + c.twig_index-index.result + 1 + i) y (rest_used down i y f) (rest_row down i y f)))
     (λ q y other m. c.put_branch.ensures.others q y (λ j l. other j (omega arith)) m)))
+
+pub put_here-requires-clause-asks : goal.put_here-requires-clause-asks
+put_here-requires-clause-asks g t c = let a = c.requires.asks.asks in record { low = c.args.low; t = c.requires.asks.t; e = c.requires.asks.e; asks = a; not_before = c.branch_above.ensures.none c.in-None.is c.args.low c.requires.asks.t a.held.tree a.held.is }
+
+pub returns-in-None-clause-grew : goal.returns-in-None-clause-grew
+returns-in-None-clause-grew g t c = ok_map c.put_here.result (λ cell h x e asks. h c.args.low x e asks (c.branch_above.ensures.none c.in-None.is c.args.low x asks.held.tree asks.held.is)) c.put_here.ensures.grew
+
+pub returns-in-None-clause-spends : goal.returns-in-None-clause-spends
+returns-in-None-clause-spends g t c x e asks = c.put_here.ensures.spends c.args.low x e asks

@@ -1,4 +1,4 @@
-use Rattle.std.proofs.Common.{◌≡◌, ◌∙◌, refl, sym, ap, subst, arith, Option, ℕ, ◌+◌, ◌-◌}
+use Rattle.std.proofs.Common.{◌∙◌, refl, sym, ap, subst, arith, Option, ℕ, ◌+◌, ◌-◌}
 use Rattle.zone_model.specs.Names.{ancestor}
 use Rattle.zone_answer.specs.Standing.{Shows, ShowsSome}
 use Rattle.zone_answer.specs.Parts.{delegated, IsCutOf}

@@ -1,4 +1,4 @@
-use Rattle.std.proofs.Common.{◌≡◌, ◌∙◌, sym, arith}
+use Rattle.std.proofs.Common.{◌∙◌, sym, arith}
 use Rattle.zone_answer.proofs.AncestorLaws.{never_cut}
 use Rattle.zone_answer.proofs.CutLaws.{own_by_set}
 use Rattle.zone_answer.proofs.cut.is_cut.Goals as goal

@@ -1,7 +1,6 @@
-use Rattle.std.proofs.Common.{◌≡◌, ◌∙◌, true, false, sym, ap, subst, Option, Some, None, IfOk}
-use Rattle.zone_model.specs.Names.{Name}
+use Rattle.std.proofs.Common.{◌≡◌, ◌∙◌, true, false, sym, ap, subst, Option, Some, IfOk}
 use Rattle.zone_model.specs.Records.{Entry}
-use Rattle.zone_model.specs.Answers.{exists}
+use Rattle.zone_model.specs.Versions.{exists}
 use Rattle.zone_answer.specs.Answers.{wildcard_under}
 use Rattle.zone_answer.specs.Standing.{Shows}
 use Rattle.zone_answer.proofs.NodeLaws.{own_node, other_node}

@@ -1,7 +1,6 @@
 use Rattle.std.proofs.Common.{◌≡◌, ◌∙◌, true, false, sym, ap, subst, refl}
 use Rattle.zone_model.specs.Names.{Name, is_under}
-use Rattle.zone_model.specs.Versions.{Version}
-use Rattle.zone_model.specs.Answers.{exists}
+use Rattle.zone_model.specs.Versions.{exists}
 use Rattle.zone_answer.specs.Answers.{encloser}
 use Rattle.zone_answer.proofs.NearLaws.{near_shows}
 use Rattle.zone_answer.proofs.AncestorLaws.{encloser_here, encloser_above, encloser_none, under_parent, self_under}

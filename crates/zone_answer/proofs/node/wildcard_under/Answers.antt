@@ -1,8 +1,7 @@
-use Rattle.std.proofs.Common.{◌≡◌, ◌∙◌, true, false, sym, ap, subst, Option, Some, None}
+use Rattle.std.proofs.Common.{◌≡◌, ◌∙◌, true, false, sym, ap, subst, Some}
 use Rattle.zone_model.specs.Names.{Name, star_under}
-use Rattle.zone_model.specs.Versions.{Version, owned}
+use Rattle.zone_model.specs.Versions.{owned, exists}
 use Rattle.zone_model.specs.Records.{Entry}
-use Rattle.zone_model.specs.Answers.{exists}
 use Rattle.zone_answer.specs.Standing.{Shows}
 use Rattle.zone_answer.proofs.NodeLaws.{no_wildcard, wildcard}
 use Rattle.zone_answer.proofs.NearLaws.{near_shows}

@@ -1,4 +1,4 @@
-use Rattle.std.proofs.Common.{◌≡◌, ◌∙◌, ℕ, List, [], take, Some, Err, map, sym, subst}
+use Rattle.std.proofs.Common.{◌∙◌, ℕ, List, [], take, Some, Err, map, subst}
 use Rattle.trie_model.specs.Order.{IsThere}
 use Rattle.trie_read.specs.Readings.{Fetched}
 use Rattle.rr_data.specs.Items.{Decodes}

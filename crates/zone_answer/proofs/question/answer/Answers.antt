@@ -1,4 +1,4 @@
-use Rattle.std.proofs.Common.{◌≡◌, ◌∙◌, ℕ, suc, ◌-◌, ◌+◌, refl, sym, ap, subst, arith}
+use Rattle.std.proofs.Common.{◌≡◌, ◌∙◌, ℕ, suc, ◌-◌, ◌+◌, sym, ap, subst, arith}
 use Rattle.zone_answer.specs.Answers.{answer, behind, followed}
 use Rattle.zone_answer.specs.Standing.{Shows, ShowsSome}
 use Rattle.zone_answer.specs.declared.step.Next.TheVariants.{LeadsTo}

@@ -1,4 +1,4 @@
-use Rattle.std.proofs.Common.{◌≡◌, ◌∙◌, ℕ, ◌<◌, List, ◌++◌, get_or, IfSome, IsNone, Option, Some, None, refl, sym, ap, arith}
+use Rattle.std.proofs.Common.{◌≡◌, ◌∙◌, ℕ, ◌<◌, List, get_or, IfSome, IsNone, Option, Some, None, refl, sym, ap, arith}
 use Rattle.std.specs.Option.{option_map}
 use Rattle.zone_model.specs.Names.{Name, IsName, BeginsWith}
 use Rattle.zone_model.specs.Splits.{split_name}

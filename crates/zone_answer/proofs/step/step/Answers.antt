@@ -1,4 +1,4 @@
-use Rattle.std.proofs.Common.{◌≡◌, ◌∙◌, List, ℕ, Option, map, ap, sym, subst}
+use Rattle.std.proofs.Common.{◌∙◌, List, ℕ, Option, map, ap, sym, subst}
 use Rattle.trie_model.specs.Order.{chain_labels}
 use Rattle.trie_read.specs.Finds.{IsKind}
 use Rattle.trie_read.specs.declared.found.Kind.{Kind}

@@ -1,4 +1,4 @@
-use Rattle.std.proofs.Common.{◌≡◌, ◌∙◌, ℕ, List, [], ◌∷◌, Option, Some, None, sym, ap, slice_get}
+use Rattle.std.proofs.Common.{◌≡◌, ◌∙◌, ℕ, List, [], ◌∷◌, Some, ap, slice_get}
 use Rattle.std.specs.Option.{option_map}
 use Rattle.zone_model.specs.Splits.{split_name}
 use Rattle.zone_answer.specs.Answers.{target_of}

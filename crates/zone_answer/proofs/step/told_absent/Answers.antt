@@ -1,4 +1,4 @@
-use Rattle.std.proofs.Common.{◌≡◌, ◌∙◌, ap, sym, subst, append-nil, ◌++◌, None, Some}
+use Rattle.std.proofs.Common.{◌∙◌, ap, sym, subst, append-nil, ◌++◌, None, Some}
 use Rattle.zone_answer.specs.Answers.{Step}
 use Rattle.zone_answer.specs.Parts.{Gives}
 use Rattle.zone_answer.proofs.StepLaws.{step_absent}

@@ -1,4 +1,4 @@
-use Rattle.std.proofs.Common.{◌≡◌, ◌∙◌, sym, subst}
+use Rattle.std.proofs.Common.{◌∙◌, sym, subst}
 use Rattle.zone_answer.specs.Answers.{Step}
 use Rattle.zone_answer.specs.Parts.{Gives}
 use Rattle.zone_answer.proofs.StepLaws.{step_own, step_own_cut}

@@ -1,4 +1,4 @@
-use Rattle.std.proofs.Common.{◌≡◌, ℕ, List, [], map, sym, subst}
+use Rattle.std.proofs.Common.{ℕ, List, [], map, sym, subst}
 use Rattle.trie_model.specs.Order.{IsSplitAt}
 use Rattle.zone_answer.specs.Standing.{trie_entry}
 use Rattle.zone_answer.proofs.SplitLaws.{neighbours_at}

@@ -1,0 +1,42 @@
+//! What scripts, answers, outcomes and reports are. The contracts of the crates that read scripts and run them cite these
+//! definitions.
+#![tactic(auto)]
+
+/// How a transaction writes.
+#[derive(Clone, Copy, Debug, PartialEq, Eq)]
+pub enum Weight {
+    /// Behind what was written last: for a few changes.
+    Light,
+    /// From a fresh chunk on: for many.
+    Heavy,
+}
+
+/// The last word of a block.
+#[derive(Clone, Copy, Debug, PartialEq, Eq)]
+pub enum Ending {
+    /// It makes a version, if no operation is refused.
+    Commit,
+    /// It changes nothing.
+    Rollback,
+}
+
+/// Why lines are no script.
+#[derive(Clone, Copy, Debug, PartialEq, Eq)]
+pub enum ScriptKind {
+    /// A command stands before the first worker, or there is no worker.
+    NoWorker,
+    /// A line is no command, or stands at a wrong place.
+    BadCommand,
+    /// A name is none, or an operation's is not at or under the origin.
+    BadName,
+    /// A type is none, or is not known by its name.
+    BadType,
+    /// Data are not of their type.
+    BadRdata,
+    /// A time to live is none.
+    BadNumber,
+    /// A block is open where a worker begins or the script ends.
+    OpenBlock,
+    /// There are more workers, commands or operations than are taken.
+    TooMany,
+}

@@ -1,0 +1,29 @@
+-- Tokens that lie inside the bytes, taken from the front of a list; the line that a script's refusal is of.
+use Rattle.std.proofs.Common.{◌≡◌, ◌∙◌, ℕ, suc, ◌<◌, List, [], ◌∷◌, length, slice_index_or, sym, ap, subst, arith}
+use Rattle.std.specs.List.{All}
+use Rattle.zone_model.specs.Lines.{lines_of}
+use Rattle.rr_data.specs.Tokens.{IsPlaced}
+use Rattle.rr_data.specs.declared.token.Token.{Token}
+use Rattle.master_file.specs.Places.{first_line}
+use Rattle.master_file.proofs.LineLemmas.{first_blank}
+
+pub first_placed : (bytes : List ℕ) (tokens : List Token) (t : Token) (rest : List Token) → tokens ≡ t ∷ rest → All (IsPlaced bytes) tokens → IsPlaced bytes t
+first_placed bytes tokens t rest e a =
+    let b : All (IsPlaced bytes) (t ∷ rest) = subst (All (IsPlaced bytes)) e a in
+    b 0 t (omega arith)
+
+pub rest_placed : (bytes : List ℕ) (tokens : List Token) (t : Token) (rest : List Token) → tokens ≡ t ∷ rest → All (IsPlaced bytes) tokens → All (IsPlaced bytes) rest
+rest_placed bytes tokens t rest e a =
+    let b : All (IsPlaced bytes) (t ∷ rest) = subst (All (IsPlaced bytes)) e a in
+    λ k d lt. b (suc k) d (omega arith)
+
+-- a text that isn't empty has a first line
+pub record HasFirst (text : List ℕ) : Type 0 where
+  pub rest : List (List ℕ)
+  pub lines : lines_of text ≡ first_line text ∷ rest
+
+pub has_first : (text : List ℕ) → 0 < length text → HasFirst text
+has_first text some =
+    let f = first_blank text some in
+    let head : first_line text ≡ f.line = ap (λ (l : List (List ℕ)). slice_index_or l 0 []) f.lines in
+    record { rest = f.rest; lines = f.lines ∙ ap (λ (l : List ℕ). l ∷ f.rest) (sym head) }

@@ -1,0 +1,4 @@
+pub mod Phrases
+pub mod Views
+pub mod Parts
+pub mod Scripts

@@ -1,0 +1,24 @@
+-- Phrases as the definitions see them.
+use Rattle.std.specs.Prelude.{ℕ, List, map}
+use Rattle.std.specs.List.{All}
+use Rattle.job_model.specs.Jobs as jobs
+use Rattle.rr_data.specs.Tokens.{IsPlaced, token_view}
+use Rattle.job_script.specs.declared.phrases.Phrase.{Phrase}
+use Rattle.job_script.specs.declared.phrases.Phrase.TheVariants as phrase
+
+abbrev pub phrase_view : List ℕ → Phrase → jobs.Phrase
+phrase_view bytes phrase.Worker = jobs.Worker
+phrase_view bytes (phrase.AsksFor name rtype) = jobs.AsksFor (token_view bytes name) (token_view bytes rtype)
+phrase_view bytes (phrase.Opens weight) = jobs.Opens weight
+phrase_view bytes (phrase.Adds owner ttl rtype rest) = jobs.Adds (token_view bytes owner) (token_view bytes ttl) (token_view bytes rtype) (map (token_view bytes) rest.now)
+phrase_view bytes (phrase.Deletes owner rest) = jobs.Deletes (token_view bytes owner) (map (token_view bytes) rest.now)
+phrase_view bytes (phrase.Ends ending) = jobs.Ends ending
+
+-- the tokens lie inside the bytes
+abbrev pub PhrasePlaced : List ℕ → Phrase → Type 0
+PhrasePlaced bytes phrase.Worker = Unit {0}
+PhrasePlaced bytes (phrase.AsksFor name rtype) = IsPlaced bytes name × IsPlaced bytes rtype
+PhrasePlaced bytes (phrase.Opens _) = Unit {0}
+PhrasePlaced bytes (phrase.Adds owner ttl rtype rest) = IsPlaced bytes owner × IsPlaced bytes ttl × IsPlaced bytes rtype × All (IsPlaced bytes) rest.now
+PhrasePlaced bytes (phrase.Deletes owner rest) = IsPlaced bytes owner × All (IsPlaced bytes) rest.now
+PhrasePlaced bytes (phrase.Ends _) = Unit {0}

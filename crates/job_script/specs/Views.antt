@@ -1,0 +1,26 @@
+-- The commands of a script as the definitions see them.
+use Rattle.std.specs.Prelude.{map}
+use Rattle.zone_model.specs.Versions as versions
+use Rattle.job_model.specs.Jobs as jobs
+use Rattle.job_script.specs.declared.operations.NewRecord.{NewRecord}
+use Rattle.job_script.specs.declared.operations.Operation.{Operation}
+use Rattle.job_script.specs.declared.operations.Operation.TheVariants.{Add, DeleteName, DeleteSet, DeleteRecord}
+use Rattle.job_script.specs.declared.commands.Command.{Command}
+use Rattle.job_script.specs.declared.commands.Command.TheVariants as command
+use Rattle.job_script.specs.declared.commands.Block.{Block}
+
+abbrev pub addition_view : NewRecord → versions.Addition
+addition_view a = record { owner = a.owner; rtype = a.rtype; ttl = a.ttl; octets = a.rdata }
+
+abbrev pub operation_view : Operation → versions.Operation
+operation_view (Add a) = versions.Add (addition_view a)
+operation_view (DeleteName owner) = versions.DeleteName owner
+operation_view (DeleteSet owner rtype) = versions.DeleteSet owner rtype
+operation_view (DeleteRecord owner rtype rdata) = versions.DeleteRecord owner rtype rdata
+
+abbrev pub block_view : Block → jobs.Command
+block_view b = jobs.Block b.weight (map operation_view b.operations.items) b.ending
+
+abbrev pub command_view : Command → jobs.Command
+command_view (command.Get name rtype) = jobs.Get name rtype
+command_view (command.Block b) = block_view b

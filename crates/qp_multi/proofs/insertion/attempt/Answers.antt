@@ -1,0 +1,30 @@
+use Rattle.std.proofs.Common.{length, sym, ◌∙◌, ap}
+use Rattle.zone_model.specs.Keys.{Leads}
+use Rattle.chunk_usage.specs.Ledger.{Frozen}
+use Rattle.trie_write.proofs.FrameLaws.{ok_map}
+use Rattle.trie_write.proofs.RootLaws.{tells_more}
+use Rattle.qp_multi.proofs.FreedLaws.{base_later}
+use Rattle.qp_multi.proofs.RefusalLaws.{err_map}
+use Rattle.qp_multi.proofs.insertion.attempt.Goals as goal
+
+pub returns-clause-inserted : goal.returns-clause-inserted
+returns-clause-inserted c = ok_map c.insert-outcome.result (λ new made base es works.
+    let i = c.args.index.now in
+    let next = made es works.working.stands works.working.tells in (
+      next.0,
+      next.1,
+      record {
+        base_is = base_later i.cells c.insert-outcome.new.cells i.usage c.insert-outcome.new.usage i.root base (λ q x used h. c.insert-outcome.ensures.frame.stays q x used h) c.insert-outcome.ensures.frame.grows (ap (λ (f : Frozen). f.live) c.insert-outcome.ensures.frozen) works.base_is;
+        working = record { stands = next.2; tells = tells_more Leads _ es next.0 works.working.tells c.requires.leads next.1 };
+      },
+    )) c.insert-outcome.ensures.inserted
+
+pub returns-clause-refused : goal.returns-clause-refused
+returns-clause-refused c = err_map c.insert-outcome.result (λ refusal same base es works.
+    let i = c.args.index.now in record {
+      base_is = base_later i.cells c.insert-outcome.new.cells i.usage c.insert-outcome.new.usage i.root base (λ q x used h. c.insert-outcome.ensures.frame.stays q x used h) c.insert-outcome.ensures.frame.grows (ap (λ (f : Frozen). f.live) c.insert-outcome.ensures.frozen) works.base_is;
+      working = record { stands = same es works.working.stands; tells = works.working.tells };
+    }) c.insert-outcome.ensures.refused
+
+pub returns-clause-chunks : goal.returns-clause-chunks
+returns-clause-chunks c = sym c.known-2.ensures.counted_last ∙ ap (λ (f : Frozen). length f.live) c.insert-outcome.ensures.frozen ∙ c.known.ensures.counted_last

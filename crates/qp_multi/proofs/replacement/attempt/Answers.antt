@@ -1,0 +1,28 @@
+use Rattle.std.proofs.Common.{length, sym, ◌∙◌, ap}
+use Rattle.chunk_usage.specs.Ledger.{Frozen}
+use Rattle.trie_write.proofs.FrameLaws.{ok_map}
+use Rattle.qp_multi.proofs.FreedLaws.{base_later, tells_exchanged}
+use Rattle.qp_multi.proofs.RefusalLaws.{err_map}
+use Rattle.qp_multi.proofs.replacement.attempt.Goals as goal
+
+pub returns-clause-replaced : goal.returns-clause-replaced
+returns-clause-replaced c = ok_map c.replace-outcome.result (λ new made base es works.
+    let i = c.args.index.now in
+    let next = made es works.working.stands works.working.tells in (
+      next.0,
+      next.1,
+      record {
+        base_is = base_later i.cells c.replace-outcome.new.cells i.usage c.replace-outcome.new.usage i.root base (λ q x used h. c.replace-outcome.ensures.frame.stays q x used h) c.replace-outcome.ensures.frame.grows (ap (λ (f : Frozen). f.live) c.replace-outcome.ensures.frozen) works.base_is;
+        working = record { stands = next.2; tells = tells_exchanged _ es next.0 works.working.tells c.requires.leads next.1 };
+      },
+    )) c.replace-outcome.ensures.replaced
+
+pub returns-clause-refused : goal.returns-clause-refused
+returns-clause-refused c = err_map c.replace-outcome.result (λ refusal same base es works.
+    let i = c.args.index.now in record {
+      base_is = base_later i.cells c.replace-outcome.new.cells i.usage c.replace-outcome.new.usage i.root base (λ q x used h. c.replace-outcome.ensures.frame.stays q x used h) c.replace-outcome.ensures.frame.grows (ap (λ (f : Frozen). f.live) c.replace-outcome.ensures.frozen) works.base_is;
+      working = record { stands = same es works.working.stands; tells = works.working.tells };
+    }) c.replace-outcome.ensures.refused
+
+pub returns-clause-chunks : goal.returns-clause-chunks
+returns-clause-chunks c = sym c.known-2.ensures.counted_last ∙ ap (λ (f : Frozen). length f.live) c.replace-outcome.ensures.frozen ∙ c.known.ensures.counted_last

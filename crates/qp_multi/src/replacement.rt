@@ -1,0 +1,104 @@
+//! An item of a transaction's working set exchanged.
+
+ghost use Rattle.std.specs.Prelude.{◌≡◌, ◌↔◌, ◌+◌, ◌≤◌, ℕ, List, IfOk, IfErr, Err, length, slice_index};
+ghost use Rattle.zone_model.specs.Keys.{Leads};
+ghost use Rattle.trie_model.specs.Keys.{Entry, InList};
+ghost use Rattle.trie_write.specs.Exchanges.{Exchanged};
+ghost use Rattle.trie_model.specs.Trees.{cells_in};
+ghost use Rattle.chunk_usage.specs.Ledger.{is_used};
+ghost use Rattle.chunk_usage.specs.Handing.{Lacks, spent};
+ghost use Rattle.trie_write.specs.Roots.{OnPath};
+ghost use Rattle.trie_write.specs.declared.replacement.ChangeRefusal.TheVariants.{NotFound as TrieNotFound, Full as TrieFull};
+ghost use Rattle.qp_multi.specs.Works.{WorksIn, IsBegun};
+ghost use Rattle.qp_multi.specs.Shows.{has_cell};
+ghost use Rattle.qp_multi.specs.Fulls.{IsFull, FullCause};
+
+use crate::index::Index;
+use crate::refusal::{ChangeRefusal, Full};
+use crate::working::make_room;
+use packed_node::Ref;
+use shift_key::Key;
+use trie_write::ChangeRefusal as TrieRefusal;
+
+/// Tries it, and gives the new root.
+fn attempt(
+    index: &mut Index,
+    root: Option<Ref>,
+    key: &Key,
+    item: &[u8],
+) -> Result<Option<Ref>, TrieRefusal>
+    requires begun { IsBegun index.old root }
+    requires leads { Leads key.now item.now }
+    ensures replaced { IfOk result (λ new. (base es : List Entry) → WorksIn index.old root base es
+        → (next : List Entry) × Exchanged (record { key = key.now; item = item.now }) es next × WorksIn index.new new base next) }
+    ensures absent { (base es : List Entry) → WorksIn index.old root base es
+        → (result ≡ Err TrieNotFound) ↔ ((x : Entry) → InList x es → x.key ≡ key.now → ⊥) }
+    ensures refused { IfErr result (λ _. (base es : List Entry) → WorksIn index.old root base es → WorksIn index.new root base es) }
+    ensures full { (f : _) → result ≡ Err (TrieFull f) → Lacks index.new.usage f }
+    ensures version { index.new.version ≡ index.old.version }
+    ensures chunks { length index.new.usage.given ≡ length index.old.usage.given }
+    ensures spends { (n : ℕ) → OnPath (has_cell index.old.cells) (is_used index.old.usage) (λ k. slice_index index.old.usage.live k) root key.now n
+        → spent index.new.usage ≤ spent index.old.usage + (3 + cells_in item.now + n) }
+{
+    index.usage.known();
+    let outcome = trie_write::replace(&mut index.cells, &mut index.usage, root, key, item);
+    index.usage.known();
+    outcome
+}
+
+/// Frees what nothing needs, and tries it once more.
+fn replace_in_room(
+    index: &mut Index,
+    root: &mut Option<Ref>,
+    key: &Key,
+    item: &[u8],
+) -> Result<(), ChangeRefusal>
+    requires begun { IsBegun index.old root.old }
+    requires leads { Leads key.now item.now }
+    ensures replaced { IfOk result (λ _. (base es : List Entry) → WorksIn index.old root.old base es
+        → (next : List Entry) × Exchanged (record { key = key.now; item = item.now }) es next × WorksIn index.new root.new base next) }
+    ensures absent { (base es : List Entry) → WorksIn index.old root.old base es
+        → (result ≡ Err ChangeRefusal.NotFound) ↔ ((x : Entry) → InList x es → x.key ≡ key.now → ⊥) }
+    ensures refused { IfErr result (λ _. (base es : List Entry) → WorksIn index.old root.old base es → WorksIn index.new root.new base es) }
+    ensures full { (f : _) → result ≡ Err (ChangeRefusal.Full f) → IsFull index.new.usage index.new.version f }
+    ensures cause { (f : _) (base es : List Entry) → result ≡ Err (ChangeRefusal.Full f) → WorksIn index.old root.old base es → FullCause index.new.usage base es }
+    ensures version { index.new.version ≡ index.old.version }
+{
+    make_room(index);
+    match attempt(index, *root, key, item) {
+        Ok(new) => {
+            *root = new;
+            Ok(())
+        }
+        Err(TrieRefusal::NotFound) => Err(ChangeRefusal::NotFound),
+        Err(TrieRefusal::Full(full)) => Err(ChangeRefusal::Full(Full::of(full, index.version))),
+    }
+}
+
+/// Exchanges the item of a name of the working set. Where there is no room, it frees what nothing needs, and tries once more.
+pub fn replace(
+    index: &mut Index,
+    root: &mut Option<Ref>,
+    key: &Key,
+    item: &[u8],
+) -> Result<(), ChangeRefusal>
+    requires begun { IsBegun index.old root.old }
+    requires leads { Leads key.now item.now }
+    ensures replaced { IfOk result (λ _. (base es : List Entry) → WorksIn index.old root.old base es
+        → (next : List Entry) × Exchanged (record { key = key.now; item = item.now }) es next × WorksIn index.new root.new base next) }
+    ensures absent { (base es : List Entry) → WorksIn index.old root.old base es
+        → (result ≡ Err ChangeRefusal.NotFound) ↔ ((x : Entry) → InList x es → x.key ≡ key.now → ⊥) }
+    ensures refused { IfErr result (λ _. (base es : List Entry) → WorksIn index.old root.old base es → WorksIn index.new root.new base es) }
+    ensures full { (f : _) → result ≡ Err (ChangeRefusal.Full f) → IsFull index.new.usage index.new.version f }
+    ensures cause { (f : _) (base es : List Entry) → result ≡ Err (ChangeRefusal.Full f) → WorksIn index.old root.old base es → FullCause index.new.usage base es }
+    ensures version { index.new.version ≡ index.old.version }
+{
+    match attempt(index, *root, key, item) {
+        Ok(new) => {
+            *root = new;
+            Ok(())
+        }
+        Err(TrieRefusal::NotFound) => Err(ChangeRefusal::NotFound),
+        Err(TrieRefusal::Full(_)) => replace_in_room(index, root, key, item),
+    }
+}

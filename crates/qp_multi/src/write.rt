@@ -1,0 +1,114 @@
+//! A light transaction.
+
+ghost use Rattle.std.specs.Prelude.{◌≡◌, ◌+◌, ◌↔◌, ℕ, List, IfOk, IfErr, IsErr, Err};
+ghost use Rattle.zone_model.specs.Keys.{Leads};
+ghost use Rattle.trie_model.specs.Keys.{Entry, InList};
+ghost use Rattle.trie_model.specs.Changes.{Inserted};
+ghost use Rattle.trie_read.specs.Readings.{Fetched};
+ghost use Rattle.trie_write.specs.Exchanges.{Exchanged};
+ghost use Rattle.qp_multi.specs.Shows.{Shows};
+ghost use Rattle.qp_multi.specs.Works.{Works};
+ghost use Rattle.qp_multi.specs.Fulls.{IsFull, FullCause};
+
+use crate::index::Index;
+use crate::refusal::{ChangeRefusal, InsertRefusal};
+use crate::working::{Receipt, publish, undo};
+use crate::{insertion, replacement, working};
+use packed_node::Ref;
+use pin_core::{LAST_VERSION, Spent};
+use shift_key::Key;
+
+/// A transaction on the current version, its base. What it writes goes on in the open chunk. Dropping it rolls it back.
+pub struct Write<'a> {
+    pub(crate) index: &'a mut Index,
+    // Of the working set.
+    pub(crate) root: Option<Ref>,
+}
+
+impl Index {
+    /// Begins a light transaction.
+    pub fn write(&mut self) -> Write<'_>
+        ensures same_reference { result.index.ghost_name ≡ self.entry.ghost_name }
+        ensures works { (es : List Entry) → Shows self.old es → Works result es es }
+        ensures version { result.index.now.version ≡ self.old.version }
+    {
+        let root = self.root;
+        Write { index: self, root }
+    }
+}
+
+impl Write<'_> {
+    /// The base's number.
+    pub fn version(&self) -> u64
+        ensures { result ≡ self.now.index.now.version }
+    {
+        self.index.version
+    }
+
+    /// Reads the item of a key of the working set into the beginning of `out`, and gives its length; `None` where the key
+    /// is not there.
+    pub fn fetch(&mut self, key: &Key, out: &mut [u8; 4096]) -> Option<usize>
+        requires { (base : List Entry) × ((es : List Entry) × Works self.old base es) }
+        ensures same { self.new ≡ self.old }
+        ensures item { (base es : List Entry) → Works self.old base es → Fetched key.now es out.old out.new result }
+    {
+        working::fetch(self.index, self.root, key, out)
+    }
+
+    /// Puts a name in. The item begins with the name's wire form. After a refusal the working set is as before.
+    pub fn insert(&mut self, key: &Key, item: &[u8]) -> Result<(), InsertRefusal>
+        requires begun { (base : List Entry) × ((es : List Entry) × Works self.old base es) }
+        requires leads { Leads key.now item.now }
+        ensures same_reference { self.new.index.ghost_name ≡ self.old.index.ghost_name }
+        ensures inserted { IfOk result (λ _. (base es : List Entry) → Works self.old base es
+            → (next : List Entry) × Inserted (record { key = key.now; item = item.now }) es next × Works self.new base next) }
+        ensures exists { (base es : List Entry) → Works self.old base es
+            → (result ≡ Err InsertRefusal.Exists) ↔ ((x : Entry) × InList x es × (x.key ≡ key.now)) }
+        ensures refused { IfErr result (λ _. (base es : List Entry) → Works self.old base es → Works self.new base es) }
+        ensures full { (f : _) → result ≡ Err (InsertRefusal.Full f) → IsFull self.new.index.now.usage self.new.index.now.version f }
+        ensures cause { (f : _) (base es : List Entry) → result ≡ Err (InsertRefusal.Full f) → Works self.old base es → FullCause self.new.index.now.usage base es }
+        ensures version { self.new.index.now.version ≡ self.old.index.now.version }
+    {
+        insertion::insert(self.index, &mut self.root, key, item)
+    }
+
+    /// Exchanges a name's item. The item begins with the name's wire form. After a refusal the working set is as before.
+    pub fn replace(&mut self, key: &Key, item: &[u8]) -> Result<(), ChangeRefusal>
+        requires begun { (base : List Entry) × ((es : List Entry) × Works self.old base es) }
+        requires leads { Leads key.now item.now }
+        ensures same_reference { self.new.index.ghost_name ≡ self.old.index.ghost_name }
+        ensures replaced { IfOk result (λ _. (base es : List Entry) → Works self.old base es
+            → (next : List Entry) × Exchanged (record { key = key.now; item = item.now }) es next × Works self.new base next) }
+        ensures absent { (base es : List Entry) → Works self.old base es
+            → (result ≡ Err ChangeRefusal.NotFound) ↔ ((x : Entry) → InList x es → x.key ≡ key.now → ⊥) }
+        ensures refused { IfErr result (λ _. (base es : List Entry) → Works self.old base es → Works self.new base es) }
+        ensures full { (f : _) → result ≡ Err (ChangeRefusal.Full f) → IsFull self.new.index.now.usage self.new.index.now.version f }
+        ensures cause { (f : _) (base es : List Entry) → result ≡ Err (ChangeRefusal.Full f) → Works self.old base es → FullCause self.new.index.now.usage base es }
+        ensures version { self.new.index.now.version ≡ self.old.index.now.version }
+    {
+        replacement::replace(self.index, &mut self.root, key, item)
+    }
+
+    /// Makes the working set the next version; where there is none, the base stays.
+    pub fn commit(self) -> Result<Receipt, Spent>
+        ensures shows { IfOk result (λ _. (base es : List Entry) → Works self.entry base es → Shows self.exit.0.now es) }
+        ensures back { IfErr result (λ _. (base es : List Entry) → Works self.entry base es → Shows self.exit.0.now base) }
+        ensures receipt { IfOk result (λ r. r.version ≡ self.entry.index.now.version + 1) }
+        ensures version { IfOk result (λ _. self.exit.0.now.version ≡ self.entry.index.now.version + 1) }
+        ensures spent { IsErr result ↔ (self.entry.index.now.version ≡ LAST_VERSION) }
+        ensures stays { IfErr result (λ s. (s.version ≡ self.entry.index.now.version) × (self.exit.0.now.version ≡ self.entry.index.now.version)) }
+    {
+        let Self { index, root } = self;
+        publish(index, root)
+    }
+}
+
+impl Drop for Write<'_> {
+    fn drop(self)
+        ensures back { (base es : List Entry) → Works self.entry base es → Shows self.exit.0.now base }
+        ensures version { self.exit.0.now.version ≡ self.entry.index.now.version }
+    {
+        let Self { index, root: _ } = self;
+        undo(index);
+    }
+}

@@ -1,0 +1,232 @@
+//! A name taken out.
+
+ghost use Rattle.std.specs.Prelude.{◌≡◌, ◌+◌, ◌≤◌, ℕ, List, IfOk, IfErr, Err, ◌↔◌, count_ones};
+ghost use Rattle.packed_node.specs.declared.Cell.{Cell};
+ghost use Rattle.zone_model.specs.Keys.{Leads};
+ghost use Rattle.trie_model.specs.Keys.{Entry, InList};
+ghost use Rattle.trie_model.specs.Trees.{Tree};
+ghost use Rattle.trie_read.specs.Reads.{EachTells};
+ghost use Rattle.chunk_usage.specs.Rooms.{Ready};
+ghost use Rattle.trie_write.specs.Frames.{Frame};
+ghost use Rattle.trie_write.specs.Paths.{twigs_on_path};
+ghost use Rattle.trie_write.specs.Roots.{OnPath};
+ghost use Rattle.trie_write.specs.Standing.{Standing};
+ghost use Rattle.trie_write.specs.Deletions.{Deleted, ShrinkAsks, ShrinkAsked, LeafAsks, LeafAsked, Shrinks, RootShrinks, DeleteAsks, DeleteAsked};
+
+use super::path::put_branch;
+use super::replacement::ChangeRefusal;
+use super::room::{place_row, release_item, room};
+use super::row::{Row, append};
+use super::top::top_of;
+use chunk_cells::{CellRead, CellWrite};
+use chunk_usage::{Full, Space};
+use packed_node::{Branch, Cell, Leaf, Node, Ref, bitmap};
+use shift_key::Key;
+use trie_read::get;
+
+/// The cell of the other one of two twigs, which takes the branch's place. The key's leaf counts no more.
+fn collapse<C: CellRead, U: Space>(
+    cells: &mut C,
+    usage: &mut U,
+    key: &Key,
+    branch: Branch,
+    leaf: Leaf,
+) -> Cell
+    requires two { count_ones branch.bitmap ≡ 2 }
+    requires asks { LeafAsked (C.has cells.old) (U.used usage.old) (U.live usage.old) key.now branch leaf }
+    ensures shrunk { (low : ℕ) (t : Tree) (gone : Entry) → LeafAsks (C.has cells.old) (U.used usage.old) (U.live usage.old) low key.now branch leaf t gone
+        → Shrinks (C.has cells.new) (U.used usage.old) (U.used usage.new) (U.live usage.old) (U.live usage.new) low t gone result }
+    ensures same { cells.new ≡ cells.old }
+    ensures used { (q : ℕ) → U.used usage.new q ≡ U.used usage.old q }
+    ensures fresh { (q : ℕ) → U.fresh usage.new q ≡ U.fresh usage.old q }
+    ensures given { U.given usage.new ≡ U.given usage.old }
+    ensures spent { U.spent usage.new ≡ U.spent usage.old }
+    ensures frozen { U.frozen usage.new ≡ U.frozen usage.old }
+{
+    let index = branch.twig_index(key.at(branch.offset));
+    let other = cells.cell(branch.twigs + (1 - index));
+    usage.release(branch.twigs, 2);
+    release_item(usage, leaf);
+    other
+}
+
+/// The cell of the branch without the twig of the key, which is a leaf, or of what takes its place. The leaf counts no more.
+fn drop_leaf<C: CellWrite, U: Space>(
+    cells: &mut C,
+    usage: &mut U,
+    key: &Key,
+    branch: Branch,
+    leaf: Leaf,
+) -> Result<Cell, Full>
+    requires asks { LeafAsked (C.has cells.old) (U.used usage.old) (U.live usage.old) key.now branch leaf }
+    requires ready { Ready (C.kept cells.old) (C.given cells.old) (U.given usage.old) (U.used usage.old) (U.fresh usage.old) }
+    ensures shrunk { IfOk result (λ cell. (low : ℕ) (t : Tree) (gone : Entry) → LeafAsks (C.has cells.old) (U.used usage.old) (U.live usage.old) low key.now branch leaf t gone
+        → Shrinks (C.has cells.new) (U.used usage.old) (U.used usage.new) (U.live usage.old) (U.live usage.new) low t gone cell) }
+    ensures unchanged { IfErr result (λ _. (k : ℕ) → U.live usage.new k ≡ U.live usage.old k) }
+    ensures spends { U.spent usage.new ≤ U.spent usage.old + count_ones branch.bitmap }
+    ensures full { IfErr result (λ f. U.lacks usage.new f) }
+    ensures frozen { U.frozen usage.new ≡ U.frozen usage.old }
+    ensures frame { Frame (C.has cells.old) (C.has cells.new) (C.kept cells.old) (C.kept cells.new) (C.given cells.old) (C.given cells.new) (U.used usage.old) (U.used usage.new) (U.fresh usage.old) (U.fresh usage.new) }
+    ensures ready { Ready (C.kept cells.new) (C.given cells.new) (U.given usage.new) (U.used usage.new) (U.fresh usage.new) }
+{
+    let n = branch.twig_count();
+    if n == 2 {
+        return Ok(collapse(cells, usage, key, branch, leaf));
+    }
+    let position = key.at(branch.offset);
+    let index = branch.twig_index(position);
+    let mut row = Row::new();
+    append(cells, &mut row, branch.twigs, index);
+    append(cells, &mut row, branch.twigs + index + 1, n - index - 1);
+    let twigs = place_row(cells, usage, row.as_slice())?;
+    usage.release(branch.twigs, n);
+    release_item(usage, leaf);
+    Ok(Node::Branch(Branch {
+        offset: branch.offset,
+        bitmap: bitmap::without(branch.bitmap, position),
+        twigs,
+    })
+    .pack())
+}
+
+/// The cell of the top of the tree below a branch with the key's leaf taken out. Offsets are at least `low`.
+fn shrink<C: CellWrite, U: Space>(
+    cells: &mut C,
+    usage: &mut U,
+    low: u16,
+    key: &Key,
+    branch: Branch,
+) -> Result<Cell, Full>
+    requires asks { ShrinkAsked (C.has cells.old) (U.used usage.old) (U.live usage.old) low key.now branch }
+    requires ready { Ready (C.kept cells.old) (C.given cells.old) (U.given usage.old) (U.used usage.old) (U.fresh usage.old) }
+    ensures shrunk { IfOk result (λ cell. (t : Tree) (gone : Entry) → ShrinkAsks (C.has cells.old) (U.used usage.old) (U.live usage.old) low key.now branch t gone
+        → Shrinks (C.has cells.new) (U.used usage.old) (U.used usage.new) (U.live usage.old) (U.live usage.new) low t gone cell) }
+    ensures unchanged { IfErr result (λ _. (k : ℕ) → U.live usage.new k ≡ U.live usage.old k) }
+    ensures spends { (t : Tree) (gone : Entry) → ShrinkAsks (C.has cells.old) (U.used usage.old) (U.live usage.old) low key.now branch t gone
+        → U.spent usage.new ≤ U.spent usage.old + twigs_on_path key.now t }
+    ensures full { IfErr result (λ f. U.lacks usage.new f) }
+    ensures frozen { U.frozen usage.new ≡ U.frozen usage.old }
+    ensures frame { Frame (C.has cells.old) (C.has cells.new) (C.kept cells.old) (C.kept cells.new) (C.given cells.old) (C.given cells.new) (U.used usage.old) (U.used usage.new) (U.fresh usage.old) (U.fresh usage.new) }
+    ensures ready { Ready (C.kept cells.new) (C.given cells.new) (U.given usage.new) (U.used usage.new) (U.fresh usage.new) }
+{
+    let n = branch.twig_count();
+    let index = branch.twig_index(key.at(branch.offset));
+    let next = cells.cell(branch.twigs + index);
+    match top_of(next) {
+        Err(leaf) => drop_leaf(cells, usage, key, branch, leaf),
+        Ok(inner) => {
+            let to = room(cells, usage, n)?;
+            match shrink(cells, usage, branch.offset + 1, key, inner) {
+                Err(full) => {
+                    usage.release(to, n);
+                    Err(full)
+                }
+                Ok(twig) => Ok(put_branch(cells, usage, branch, index, to, twig)),
+            }
+        }
+    }
+}
+
+/// The root of the tree below a branch with the key's leaf taken out.
+fn shrink_root<C: CellWrite, U: Space>(
+    cells: &mut C,
+    usage: &mut U,
+    key: &Key,
+    branch: Branch,
+) -> Result<Ref, Full>
+    requires asks { ShrinkAsked (C.has cells.old) (U.used usage.old) (U.live usage.old) 0 key.now branch }
+    requires ready { Ready (C.kept cells.old) (C.given cells.old) (U.given usage.old) (U.used usage.old) (U.fresh usage.old) }
+    ensures shrunk { IfOk result (λ root. (t : Tree) (gone : Entry) → ShrinkAsks (C.has cells.old) (U.used usage.old) (U.live usage.old) 0 key.now branch t gone
+        → RootShrinks (C.has cells.new) (U.used usage.old) (U.used usage.new) (U.live usage.old) (U.live usage.new) t gone root) }
+    ensures unchanged { IfErr result (λ _. (k : ℕ) → U.live usage.new k ≡ U.live usage.old k) }
+    ensures spends { (t : Tree) (gone : Entry) → ShrinkAsks (C.has cells.old) (U.used usage.old) (U.live usage.old) 0 key.now branch t gone
+        → U.spent usage.new ≤ U.spent usage.old + (1 + twigs_on_path key.now t) }
+    ensures full { IfErr result (λ f. U.lacks usage.new f) }
+    ensures frozen { U.frozen usage.new ≡ U.frozen usage.old }
+    ensures frame { Frame (C.has cells.old) (C.has cells.new) (C.kept cells.old) (C.kept cells.new) (C.given cells.old) (C.given cells.new) (U.used usage.old) (U.used usage.new) (U.fresh usage.old) (U.fresh usage.new) }
+    ensures ready { Ready (C.kept cells.new) (C.given cells.new) (U.given usage.new) (U.used usage.new) (U.fresh usage.new) }
+{
+    let root = room(cells, usage, 1)?;
+    match shrink(cells, usage, 0, key, branch) {
+        Err(full) => {
+            usage.release(root, 1);
+            Err(full)
+        }
+        Ok(cell) => {
+            cells.put(root, cell);
+            Ok(root)
+        }
+    }
+}
+
+/// The root of the trie with a name that is there taken out; none for the last one.
+fn delete_item<C: CellWrite, U: Space>(
+    cells: &mut C,
+    usage: &mut U,
+    root: Ref,
+    key: &Key,
+    node: Cell,
+) -> Result<Option<Ref>, Full>
+    requires asks { DeleteAsked (C.has cells.old) (U.used usage.old) (U.live usage.old) root key.now node }
+    requires ready { Ready (C.kept cells.old) (C.given cells.old) (U.given usage.old) (U.used usage.old) (U.fresh usage.old) }
+    ensures stands { IfOk result (λ new. (t : Tree) (version : List Entry) (gone : Entry) → DeleteAsks (C.has cells.old) (U.used usage.old) (U.live usage.old) root key.now node t version gone
+        → (next : List Entry) × Deleted key.now version next × Standing (C.has cells.new) (U.used usage.new) (U.live usage.new) new next) }
+    ensures unchanged { IfErr result (λ _. (k : ℕ) → U.live usage.new k ≡ U.live usage.old k) }
+    ensures spends { (t : Tree) (version : List Entry) (gone : Entry) → DeleteAsks (C.has cells.old) (U.used usage.old) (U.live usage.old) root key.now node t version gone
+        → U.spent usage.new ≤ U.spent usage.old + (1 + twigs_on_path key.now t) }
+    ensures full { IfErr result (λ f. U.lacks usage.new f) }
+    ensures frozen { U.frozen usage.new ≡ U.frozen usage.old }
+    ensures frame { Frame (C.has cells.old) (C.has cells.new) (C.kept cells.old) (C.kept cells.new) (C.given cells.old) (C.given cells.new) (U.used usage.old) (U.used usage.new) (U.fresh usage.old) (U.fresh usage.new) }
+    ensures ready { Ready (C.kept cells.new) (C.given cells.new) (U.given usage.new) (U.used usage.new) (U.fresh usage.new) }
+{
+    match top_of(node) {
+        Err(last) => {
+            usage.release(root, 1);
+            release_item(usage, last);
+            Ok(None)
+        }
+        Ok(branch) => match shrink_root(cells, usage, key, branch) {
+            Ok(new) => {
+                usage.release(root, 1);
+                Ok(Some(new))
+            }
+            Err(full) => Err(full),
+        },
+    }
+}
+
+/// The root of the trie with a name taken out; none where it was the last one. After a refusal the root stands as before.
+pub fn delete<C: CellWrite, U: Space>(
+    cells: &mut C,
+    usage: &mut U,
+    root: Option<Ref>,
+    key: &Key,
+) -> Result<Option<Ref>, ChangeRefusal>
+    requires stands { (version : List Entry) × Standing (C.has cells.old) (U.used usage.old) (U.live usage.old) root version × EachTells Leads version }
+    requires ready { Ready (C.kept cells.old) (C.given cells.old) (U.given usage.old) (U.used usage.old) (U.fresh usage.old) }
+    ensures deleted { IfOk result (λ new. (version : List Entry) → Standing (C.has cells.old) (U.used usage.old) (U.live usage.old) root version → EachTells Leads version
+        → (next : List Entry) × Deleted key.now version next × Standing (C.has cells.new) (U.used usage.new) (U.live usage.new) new next) }
+    ensures absent { (version : List Entry) → Standing (C.has cells.old) (U.used usage.old) (U.live usage.old) root version → EachTells Leads version
+        → (result ≡ Err ChangeRefusal.NotFound) ↔ ((x : Entry) → InList x version → x.key ≡ key.now → ⊥) }
+    ensures refused { IfErr result (λ _. (version : List Entry) → Standing (C.has cells.old) (U.used usage.old) (U.live usage.old) root version → Standing (C.has cells.new) (U.used usage.new) (U.live usage.new) root version) }
+    ensures unchanged { IfErr result (λ _. (k : ℕ) → U.live usage.new k ≡ U.live usage.old k) }
+    ensures full { (f : _) → result ≡ Err (ChangeRefusal.Full f) → U.lacks usage.new f }
+    ensures spends { (n : ℕ) → OnPath (C.has cells.old) (U.used usage.old) (U.live usage.old) root key.now n → U.spent usage.new ≤ U.spent usage.old + (1 + n) }
+    ensures frozen { U.frozen usage.new ≡ U.frozen usage.old }
+    ensures frame { Frame (C.has cells.old) (C.has cells.new) (C.kept cells.old) (C.kept cells.new) (C.given cells.old) (C.given cells.new) (U.used usage.old) (U.used usage.new) (U.fresh usage.old) (U.fresh usage.new) }
+    ensures ready { Ready (C.kept cells.new) (C.given cells.new) (U.given usage.new) (U.used usage.new) (U.fresh usage.new) }
+{
+    match root {
+        None => Err(ChangeRefusal::NotFound),
+        Some(at) => match get(cells, Some(at), key) {
+            None => Err(ChangeRefusal::NotFound),
+            Some(_) => {
+                let node = cells.cell(at);
+                match delete_item(cells, usage, at, key, node) {
+                    Ok(new) => Ok(new),
+                    Err(full) => Err(ChangeRefusal::Full(full)),
+                }
+            }
+        },
+    }
+}
