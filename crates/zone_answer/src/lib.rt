@@ -4,6 +4,7 @@
 
 mod cut;
 mod kind;
+pub mod laws;
 mod near;
 mod node;
 mod owned;
