@@ -2,6 +2,7 @@
 //! by RFC 4592).
 #![tactic(auto)]
 
+mod answers;
 mod cut;
 mod kind;
 pub mod laws;
@@ -13,9 +14,8 @@ mod row;
 mod step;
 #[cfg(test)]
 mod tests;
-mod told;
 
+pub use answers::Answer;
 pub use kind::Kind;
 pub use question::answer;
 pub use row::Row;
-pub use told::Answer;
