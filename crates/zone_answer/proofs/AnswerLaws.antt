@@ -3,11 +3,9 @@ use Rattle.std.proofs.Common.{◌≡◌, ◌∙◌, ℕ, zero, suc, true, false,
 use Rattle.zone_model.specs.Names.{Name, is_under}
 use Rattle.zone_model.specs.Versions.{Version}
 use Rattle.zone_model.specs.Rows.{Row}
-use Rattle.zone_answer.specs.Answers.{Answer, step, behind, going_on, followed, no_more}
+use Rattle.zone_answer.specs.Answers.{Next, Ends, LeadsTo, Answer, step, behind, going_on, followed, no_more}
 use Rattle.zone_answer.specs.declared.kind.Kind.{Kind}
 use Rattle.zone_answer.specs.declared.kind.Kind.TheVariants.{Answered}
-use Rattle.zone_answer.specs.declared.step.Next.{Next}
-use Rattle.zone_answer.specs.declared.step.Next.TheVariants.{Ends, LeadsTo}
 
 abbrev told : Kind → List Row → Answer
 told kind rows = record { kind = kind; rows = rows }

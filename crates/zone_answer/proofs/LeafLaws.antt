@@ -1,5 +1,5 @@
 -- A trie of one leaf.
-use Rattle.std.proofs.Common.{◌≡◌, ◌∙◌, ℕ, zero, suc, ◌+◌, ◌^◌, ◌<◌, ◌≤◌, eqb, cond, Bool, true, false, List, [], ◌∷◌, ◌++◌, length, count_by, Some, slice_index, refl, sym, ap, subst, arith, inl, inr, append_assoc}
+use Rattle.std.proofs.Common.{◌≡◌, ◌∙◌, ℕ, zero, suc, ◌+◌, ◌<◌, ◌≤◌, eqb, cond, Bool, true, false, List, [], ◌∷◌, ◌++◌, length, count_by, Some, refl, sym, ap, subst, arith, inl, inr, append_assoc}
 use Rattle.std.proofs.lemmas.Bool.Decides.{nat_tests}
 use Rattle.std.proofs.lemmas.List.Sums.{sum_by-cons}
 use borrow.Author.Tests.{eqb-true}
@@ -8,13 +8,13 @@ use Rattle.std.specs.Int.{w16, to_be_bytes}
 use Rattle.std.specs.List.{flat_map}
 use Rattle.packed_node.specs.declared.Cell.{Cell}
 use Rattle.packed_node.specs.Nodes.{leaf_cell}
-use Rattle.zone_model.specs.Names.{Name, IsName, wire}
+use Rattle.zone_model.specs.Names.{Name, wire}
 use Rattle.zone_model.specs.Records.{Entry, IsItem, item, rrset_bytes}
-use Rattle.zone_model.specs.Keys.{key_of, Leads}
+use Rattle.zone_model.specs.Keys.{Leads}
 use Rattle.trie_model.specs.Keys as trie
 use Rattle.trie_model.specs.Trees.{cells_in}
 use Rattle.trie_model.specs.Trees.Tree.{leaf}
-use Rattle.trie_model.specs.Reach.{side_by_side, reach}
+use Rattle.trie_model.specs.Reach.{side_by_side}
 use Rattle.trie_model.specs.Memory.{ItemLies, Stands}
 use Rattle.trie_read.specs.Reads.{EachTells}
 use Rattle.zone_answer.specs.Standing.{IsVersion, trie_entry}

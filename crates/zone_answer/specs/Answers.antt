@@ -9,8 +9,6 @@ use Rattle.zone_model.specs.Versions.{Version, owned, cname_type, exists}
 use Rattle.zone_model.specs.Rows.{Row, rows_of}
 use Rattle.zone_answer.specs.declared.kind.Kind.{Kind}
 use Rattle.zone_answer.specs.declared.kind.Kind.TheVariants.{Answered, Nodata, Nxdomain, Referral, Outside}
-use Rattle.zone_answer.specs.declared.step.Next.{Next}
-use Rattle.zone_answer.specs.declared.step.Next.TheVariants.{Ends, LeadsTo}
 
 pub record Answer : Type 0 where
   pub kind : Kind
@@ -52,6 +50,11 @@ abbrev pub node : Version → Name → Option Entry
 node version name = if exists name version then Some (owned name version) else wildcard_under version (encloser version name)
 
 -- ---- one name
+
+-- how an answer goes on: it ends, or an alias leads on; to no name, where its data are none
+pub data Next : Type 0 where
+  Ends : (kind : Kind) → Next
+  LeadsTo : (target : Option Name) → Next
 
 -- the rows that a name gives, and how the answer goes on
 pub record Step : Type 0 where

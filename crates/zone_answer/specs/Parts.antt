@@ -9,10 +9,12 @@ use Rattle.zone_model.specs.Versions.{Version, owned}
 use Rattle.zone_model.specs.Rows.{Row}
 use Rattle.trie_model.specs.Order.{chain_labels}
 use Rattle.trie_read.specs.declared.found.Chain.{Chain}
+use Rattle.zone_answer.specs.Answers as answers
 use Rattle.zone_answer.specs.Answers.{Step, is_cut, cut_above, ns_type}
 use Rattle.zone_answer.specs.Standing.{trie_entry}
 use Rattle.zone_answer.specs.declared.cut.Cut.{Cut}
 use Rattle.zone_answer.specs.declared.step.Next.{Next}
+use Rattle.zone_answer.specs.declared.step.Next.TheVariants.{Ends, LeadsTo}
 
 -- the chain tells which names at or above a name are there
 abbrev pub IsChain : Name → Version → Chain → Type 0
@@ -40,7 +42,11 @@ abbrev pub IsCutOver : Name → Name → Version → Option Cut → Type 0
 IsCutOver origin name version None = NoneOver origin name version
 IsCutOver origin name version (Some cut) = IsCutOf version (cut_above origin version name) (Some cut)
 
+abbrev pub next_view : Next → answers.Next
+next_view (Ends kind) = answers.Ends kind
+next_view (LeadsTo target) = answers.LeadsTo target
+
 -- a step's rows were added, and it is told how the answer goes on
 abbrev pub Gives : Step → List Row → List Row → Result Next AllocError → Type 0
-Gives step old new (Ok next) = (next ≡ step.next) × (new ≡ old ++ step.rows)
+Gives step old new (Ok next) = (next_view next ≡ step.next) × (new ≡ old ++ step.rows)
 Gives step old new (Err e) = Unit {0}

@@ -2,8 +2,10 @@
 //! by RFC 4592).
 #![tactic(auto)]
 
+mod answers;
 mod cut;
 mod kind;
+pub mod laws;
 mod near;
 mod node;
 mod owned;
@@ -12,9 +14,8 @@ mod row;
 mod step;
 #[cfg(test)]
 mod tests;
-mod told;
 
+pub use answers::Answer;
 pub use kind::Kind;
 pub use question::answer;
 pub use row::Row;
-pub use told::Answer;

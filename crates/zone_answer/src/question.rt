@@ -5,9 +5,9 @@ ghost use Rattle.zone_model.specs.Versions.{Version};
 ghost use Rattle.zone_answer.specs.Answers.{answer};
 ghost use Rattle.zone_answer.specs.Standing.{Shows, ShowsSome};
 
+use crate::answers::Answer;
 use crate::kind::Kind;
 use crate::step::{Next, step};
-use crate::told::Answer;
 use dns_name::Name;
 use std::alloc::{AllocError, Global};
 use trie_read::Reading;

@@ -6,7 +6,7 @@ ghost use Rattle.zone_model.specs.Names.{Name as Labels, is_under};
 ghost use Rattle.zone_model.specs.Records.{rrset_of};
 ghost use Rattle.zone_model.specs.Splits.{split_name};
 ghost use Rattle.zone_model.specs.Versions.{Version, owned, exists};
-ghost use Rattle.zone_answer.specs.Answers.{alias_in, by_alias, step, target_of, set_rows, ns_type};
+ghost use Rattle.zone_answer.specs.Answers.{Ends, alias_in, by_alias, step, target_of, set_rows, ns_type};
 ghost use Rattle.zone_answer.specs.Parts.{Gives, NoneOver};
 ghost use Rattle.zone_answer.specs.Standing.{Shows, ShowsSome};
 
@@ -62,7 +62,7 @@ fn alias_in(entry: &Entry, rtype: u16) -> Option<&RrSet>
 }
 
 /// What these records give under an owner.
-fn told(entry: &Entry, owner: &Name, rtype: u16, rows: &mut Vec<Row>) -> Result<Next, AllocError>
+fn give(entry: &Entry, owner: &Name, rtype: u16, rows: &mut Vec<Row>) -> Result<Next, AllocError>
     ensures { Gives (by_alias owner.now rtype entry.now (alias_in rtype entry.now)) rows.old.items rows.new.items result }
 {
     if let Some(alias) = alias_in(entry, rtype) {
@@ -80,7 +80,7 @@ fn told(entry: &Entry, owner: &Name, rtype: u16, rows: &mut Vec<Row>) -> Result<
 
 /// A referral to the servers of a cut.
 fn refer(cut: &Name, entry: &Entry, rows: &mut Vec<Row>) -> Result<Next, AllocError>
-    ensures { Gives (record { rows = set_rows cut.now (rrset_of ns_type entry.now); next = Next.Ends Kind.Referral }) rows.old.items rows.new.items result }
+    ensures { Gives (record { rows = set_rows cut.now (rrset_of ns_type entry.now); next = Ends Kind.Referral }) rows.old.items rows.new.items result }
 {
     if let Some(servers) = entry.find_set(NS) {
         push_rows(rows, cut, servers)?;
@@ -90,7 +90,7 @@ fn refer(cut: &Name, entry: &Entry, rows: &mut Vec<Row>) -> Result<Next, AllocEr
 }
 
 /// What a name that is there gives, where none above it is a cut.
-fn told_own<V: Reading>(
+fn give_own<V: Reading>(
     alloc: Global,
     version: &mut V,
     origin: &Name,
@@ -108,11 +108,11 @@ fn told_own<V: Reading>(
     if is_cut(origin, name, &entry) {
         return refer(name, &entry, rows);
     }
-    told(&entry, name, rtype, rows)
+    give(&entry, name, rtype, rows)
 }
 
 /// What a name that isn't there gives, where none above it is a cut.
-fn told_absent<V: Reading>(
+fn give_absent<V: Reading>(
     alloc: Global,
     version: &mut V,
     name: &Name,
@@ -125,7 +125,7 @@ fn told_absent<V: Reading>(
         → Gives (step origin zone rtype name.now) rows.old.items rows.new.items result }
 {
     match absent_node(alloc, version, name)? {
-        Some(entry) => told(&entry, name, rtype, rows),
+        Some(entry) => give(&entry, name, rtype, rows),
         None => Ok(Next::Ends(Kind::Nxdomain)),
     }
 }
@@ -151,8 +151,8 @@ pub fn step<V: Reading>(
         return refer(&cut.name, &cut.entry, rows);
     }
     match found.kind {
-        Found::Exact => told_own(alloc, version, origin, name, rtype, rows),
-        Found::Partial => told_absent(alloc, version, name, rtype, rows),
-        Found::Absent => told_absent(alloc, version, name, rtype, rows),
+        Found::Exact => give_own(alloc, version, origin, name, rtype, rows),
+        Found::Partial => give_absent(alloc, version, name, rtype, rows),
+        Found::Absent => give_absent(alloc, version, name, rtype, rows),
     }
 }

@@ -1,6 +1,7 @@
 use Rattle.std.proofs.Common.{◌≡◌, ◌∙◌, ℕ, suc, ◌-◌, ◌+◌, sym, ap, subst, arith}
 use Rattle.zone_answer.specs.Answers.{answer, behind, followed}
 use Rattle.zone_answer.specs.Standing.{Shows, ShowsSome}
+use Rattle.zone_answer.specs.Parts.{next_view}
 use Rattle.zone_answer.specs.declared.step.Next.TheVariants.{LeadsTo}
 use Rattle.zone_answer.proofs.AnswerLaws.{leads_on, leads_nowhere, ends, last_alias, leads_out}
 use Rattle.zone_answer.proofs.question.answer.Goals as goal
@@ -19,7 +20,7 @@ returns-in-Ends-clause-answer g c zone shows =
     let so_far = subst (λ (n : ℕ). whole ≡ behind c.loop.rows.items (followed n c.args.origin.now zone c.args.rtype c.loop.asked)) left (c.loop.invariant.so_far zone shows) in
     c.new-in-Ends.ensures
     ∙ ends whole (15 - c.loop.counter) c.args.origin.now zone c.args.rtype c.loop.asked c.loop.rows.items c.step.new.rows.items so_far (sym c.is_under-in-loop.ensures ∙ c.if-not-is_under-2.false) (c.in_ok-kind.ensures.gives zone now).1
-    c.in-Ends.kind (sym c.in-Ends.is ∙ (c.in_ok-kind.ensures.gives zone now).0)
+    c.in-Ends.kind (sym (ap next_view c.in-Ends.is) ∙ (c.in_ok-kind.ensures.gives zone now).0)
 
 pub returns-in-LeadsTo-None-clause-answer : goal.returns-in-LeadsTo-None-clause-answer
 returns-in-LeadsTo-None-clause-answer g c zone shows =
@@ -29,7 +30,7 @@ returns-in-LeadsTo-None-clause-answer g c zone shows =
     let so_far = subst (λ (n : ℕ). whole ≡ behind c.loop.rows.items (followed n c.args.origin.now zone c.args.rtype c.loop.asked)) left (c.loop.invariant.so_far zone shows) in
     c.new-in-LeadsTo-None.ensures
     ∙ leads_nowhere whole (15 - c.loop.counter) c.args.origin.now zone c.args.rtype c.loop.asked c.loop.rows.items c.step.new.rows.items so_far (sym c.is_under-in-loop.ensures ∙ c.if-not-is_under-2.false) (c.in_ok-kind.ensures.gives zone now).1
-    (sym (c.in-LeadsTo-None.is ∙ ap LeadsTo c.in-LeadsTo-None.field-0-is) ∙ (c.in_ok-kind.ensures.gives zone now).0)
+    (sym (ap next_view (c.in-LeadsTo-None.is ∙ ap LeadsTo c.in-LeadsTo-None.field-0-is)) ∙ (c.in_ok-kind.ensures.gives zone now).0)
 
 pub loop-preserved : goal.loop-preserved
 loop-preserved g c = record {
@@ -43,7 +44,7 @@ loop-preserved g c = record {
       let next : 15 - c.loop.counter ≡ 16 - (c.loop.counter + 1) = omega arith in
       subst (λ (n : ℕ). whole ≡ behind c.step.new.rows.items (followed n c.args.origin.now zone c.args.rtype c.in-LeadsTo-Some.target)) next
       (leads_on whole (15 - c.loop.counter) c.args.origin.now zone c.args.rtype c.loop.asked c.loop.rows.items c.step.new.rows.items so_far (sym c.is_under-in-loop.ensures ∙ c.if-not-is_under-2.false) (c.in_ok-kind.ensures.gives zone now).1
-      c.in-LeadsTo-Some.target (sym (c.in-LeadsTo-Some.is ∙ ap LeadsTo c.in-LeadsTo-Some.field-0-is) ∙ (c.in_ok-kind.ensures.gives zone now).0));
+      c.in-LeadsTo-Some.target (sym (ap next_view (c.in-LeadsTo-Some.is ∙ ap LeadsTo c.in-LeadsTo-Some.field-0-is)) ∙ (c.in_ok-kind.ensures.gives zone now).0));
 }
 
 pub returns-clause-answer : goal.returns-clause-answer

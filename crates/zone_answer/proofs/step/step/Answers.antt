@@ -16,7 +16,7 @@ returns-in-Exact-clause-gives g c zone shows =
     let chain : IsChain c.args.name.now zone c.find-found.result.chain = c.find-found.ensures.chain all shows.held ∙ ap (λ (k : List ℕ). chain_labels k all) c.of.ensures in
     let none = subst (λ (o : Option Cut). IsCutOver c.args.origin.now c.args.name.now zone o) c.in_default.is (c.in_ok-cut.ensures.cut zone found chain) in
     let now = subst (λ s. Shows (g.V.Reading.holds s) zone) (sym c.in_ok-cut.ensures.same) found in
-    c.told_own.ensures.gives zone now none (there_exists c.args.name.now zone c.wire-wire.ensures.name shows.version_is.items (kind.0, kind.1, kind.2 ∙ c.of.ensures))
+    c.give_own.ensures.gives zone now none (there_exists c.args.name.now zone c.wire-wire.ensures.name shows.version_is.items (kind.0, kind.1, kind.2 ∙ c.of.ensures))
 
 pub returns-in-Partial-clause-gives : goal.returns-in-Partial-clause-gives
 returns-in-Partial-clause-gives g c zone shows =
@@ -26,7 +26,7 @@ returns-in-Partial-clause-gives g c zone shows =
     let chain : IsChain c.args.name.now zone c.find-found.result.chain = c.find-found.ensures.chain all shows.held ∙ ap (λ (k : List ℕ). chain_labels k all) c.of.ensures in
     let none = subst (λ (o : Option Cut). IsCutOver c.args.origin.now c.args.name.now zone o) c.in_default.is (c.in_ok-cut.ensures.cut zone found chain) in
     let now = subst (λ s. Shows (g.V.Reading.holds s) zone) (sym c.in_ok-cut.ensures.same) found in
-    c.told_absent.ensures.gives zone c.args.origin.now now none (partial_owns c.args.name.now zone c.of.result c.of.ensures kind)
+    c.give_absent.ensures.gives zone c.args.origin.now now none (partial_owns c.args.name.now zone c.of.result c.of.ensures kind)
 
 pub returns-in-Absent-clause-gives : goal.returns-in-Absent-clause-gives
 returns-in-Absent-clause-gives g c zone shows =
@@ -36,4 +36,4 @@ returns-in-Absent-clause-gives g c zone shows =
     let chain : IsChain c.args.name.now zone c.find-found.result.chain = c.find-found.ensures.chain all shows.held ∙ ap (λ (k : List ℕ). chain_labels k all) c.of.ensures in
     let none = subst (λ (o : Option Cut). IsCutOver c.args.origin.now c.args.name.now zone o) c.in_default.is (c.in_ok-cut.ensures.cut zone found chain) in
     let now = subst (λ s. Shows (g.V.Reading.holds s) zone) (sym c.in_ok-cut.ensures.same) found in
-    c.told_absent-in-Absent.ensures.gives zone c.args.origin.now now none (absent_owns c.args.name.now zone c.of.result c.of.ensures kind)
+    c.give_absent-in-Absent.ensures.gives zone c.args.origin.now now none (absent_owns c.args.name.now zone c.of.result c.of.ensures kind)

@@ -1,6 +1,6 @@
 use Rattle.std.proofs.Common.{◌≡◌, ◌∷◌, [], List, ℕ, Some, slice_get, subst, refl}
 use Rattle.zone_model.specs.Keys.{key_of}
-use Rattle.zone_model.specs.Records.{IsItem, item}
+use Rattle.zone_model.specs.Records.{IsItem}
 use Rattle.trie_model.specs.Memory.{Stands}
 use Rattle.trie_model.proofs.NameLaws.{name_key}
 use Rattle.zone_answer.specs.Standing.{trie_entry}
