@@ -3,6 +3,7 @@
 ghost use Rattle.std.specs.Prelude.{◌≡◌, ◌+◌, ◌↔◌, ℕ, List, IfOk, IfErr, IsErr, Err};
 ghost use Rattle.zone_model.specs.Keys.{Leads};
 ghost use Rattle.trie_model.specs.Keys.{Entry, InList};
+ghost use Rattle.trie_model.specs.Trees.{cells_in};
 ghost use Rattle.trie_model.specs.Changes.{Inserted};
 ghost use Rattle.chunk_usage.specs.Ledger.{free_count};
 ghost use Rattle.trie_read.specs.Readings.{Fetched};
@@ -69,7 +70,8 @@ impl Update<'_> {
             → (result ≡ Err InsertRefusal.Exists) ↔ ((x : Entry) × InList x es × (x.key ≡ key.now)) }
         ensures refused { IfErr result (λ _. (base es : List Entry) → Updates self.old base es → Updates self.new base es) }
         ensures full { (f : _) → result ≡ Err (InsertRefusal.Full f) → IsFull self.new.index.now.usage self.new.index.now.version f }
-        ensures cause { (f : _) (base es : List Entry) → result ≡ Err (InsertRefusal.Full f) → Updates self.old base es → FullCause self.new.index.now.usage base es }
+        ensures cause { (f : _) (base es : List Entry) → result ≡ Err (InsertRefusal.Full f) → Updates self.old base es
+            → FullCause self.new.index.now self.new.root key.now (3 + cells_in item.now) base es }
         ensures version { self.new.index.now.version ≡ self.old.index.now.version }
     {
         insertion::insert(self.index, &mut self.root, key, item)
@@ -86,7 +88,8 @@ impl Update<'_> {
             → (result ≡ Err ChangeRefusal.NotFound) ↔ ((x : Entry) → InList x es → x.key ≡ key.now → ⊥) }
         ensures refused { IfErr result (λ _. (base es : List Entry) → Updates self.old base es → Updates self.new base es) }
         ensures full { (f : _) → result ≡ Err (ChangeRefusal.Full f) → IsFull self.new.index.now.usage self.new.index.now.version f }
-        ensures cause { (f : _) (base es : List Entry) → result ≡ Err (ChangeRefusal.Full f) → Updates self.old base es → FullCause self.new.index.now.usage base es }
+        ensures cause { (f : _) (base es : List Entry) → result ≡ Err (ChangeRefusal.Full f) → Updates self.old base es
+            → FullCause self.new.index.now self.new.root key.now (3 + cells_in item.now) base es }
         ensures version { self.new.index.now.version ≡ self.old.index.now.version }
     {
         replacement::replace(self.index, &mut self.root, key, item)
