@@ -1,18 +1,18 @@
 -- Why a call of a transaction finds no room, in numbers.
-use Rattle.std.proofs.Common.{◌≡◌, ◌⊎◌, ℕ, zero, suc, ◌+◌, ◌-◌, ◌*◌, ◌/◌, ◌<◌, ◌≤◌, nat_lt, Bool, true, false, not, cond, ◌||◌, if◌then◌else◌, List, [], ◌∷◌, length, slice_index, slice_index_or, Option, Some, None, arith, refl, sym, ◌∙◌, ap, subst, inl, inr}
-use Rattle.std.proofs.lemmas.Bool.{cases_lt}
+use Rattle.std.proofs.Common.{◌≡◌, ◌⊎◌, ℕ, zero, suc, ◌+◌, ◌-◌, ◌*◌, ◌/◌, ◌<◌, ◌≤◌, nat_lt, Bool, true, false, not, cond, ◌||◌, if◌then◌else◌, List, [], ◌∷◌, Contains, length, slice_index, slice_index_or, Option, Some, None, arith, refl, sym, ◌∙◌, ap, subst, inl, inr}
+use Rattle.std.proofs.lemmas.Bool.{cases_lt, cases_Bool}
 use Rattle.std.proofs.lemmas.Bool.Decides.{nat_tests}
 use Rattle.std.proofs.lemmas.List.{length-map, get_or-map}
 use Rattle.std.proofs.lemmas.List.Sums.{count_by-le-length}
 use Rattle.packed_node.specs.declared.Cell.{Cell}
 use Rattle.trie_model.specs.Keys.{Entry}
 use Rattle.trie_model.specs.Shape.{cells}
-use Rattle.trie_model.specs.Trees.{Tree, cells_in}
+use Rattle.trie_model.specs.Trees.{Tree}
 use Rattle.trie_model.specs.Reach.{row, in_chunk, weigh_tree}
 use Rattle.trie_model.proofs.ReachLaws.{live_is, second_true}
 use Rattle.chunk_usage.specs.declared.open.Open.{Open}
 use Rattle.chunk_usage.specs.declared.space.Full.{Full}
-use Rattle.chunk_usage.specs.Ledger.{Ledger, Row, row_of, is_open, is_given, free_count, reserve_of}
+use Rattle.chunk_usage.specs.Ledger.{Ledger, Frozen, Row, row_of, frozen_part, is_open, is_given, is_used, free_count, reserve_of}
 use Rattle.chunk_usage.specs.Handing.{Lacks, spent}
 use Rattle.chunk_usage.specs.Keeping.{is_in_rows, is_needed, freed}
 use Rattle.chunk_usage.proofs.FlagLemmas.{set_within}
@@ -22,11 +22,16 @@ use Rattle.trie_read.specs.Reads.{EachTells}
 use Rattle.trie_write.specs.Paths.{twigs_on_path}
 use Rattle.trie_write.specs.Roots.{OnPath}
 use Rattle.trie_write.specs.Standing.{StandsIn, Standing}
+use Rattle.trie_model.proofs.MoveLaws.{Keeps}
 use Rattle.trie_write.proofs.PlanLaws.{size_is}
+use Rattle.trie_write.proofs.RootLaws.{stands_later}
 use Rattle.qp_multi.proofs.CountedLaws.{row_le}
 use Rattle.qp_multi.proofs.MeetLaws.{firsts, branches, met_first, row_add, firsts_sum, firsts_few, equal_once, path_few, set_few}
-use Rattle.qp_multi.proofs.OpenLaws.{none_unspent}
+use Rattle.qp_multi.proofs.OpenLaws.{none_unspent, clear_is}
+use Rattle.qp_multi.specs.declared.index.Index.{Index}
+use Rattle.qp_multi.specs.Shows.{has_cell}
 use Rattle.qp_multi.specs.Fulls.{EachNeeded, FullCause}
+use Rattle.qp_multi.proofs.RisenLaws.{risen, risen_few, risen_has, with_open, open_first, open_later, open_few}
 
 -- the chunks with live cells, as numbers
 abbrev pub some_live : (ℕ → ℕ) → ℕ → ℕ
@@ -152,22 +157,62 @@ given_few l n is needed =
     let f = open_once l.last_open n in omega arith
 
 -- so where a call then finds no room, the cells are many
-many : (m new : Ledger) (f : Full) (chunks cells_es cells_base meets_es meets_base b n item : ℕ) → length m.given ≡ chunks → length new.given ≡ chunks → chunks ≤ free_count m + (2 + meets_es + meets_base) → meets_es + b ≤ cells_es → meets_base ≤ cells_base
-    → n ≤ 47 * b → item ≤ 256 → spent new ≤ spent m + (3 + item + n) → Lacks new f → chunks - reserve_of new - 2 ≤ cells_es + cells_base
-many m new f chunks cells_es cells_base meets_es meets_base b n item old_length new_length given es base path short cost lacks =
+many : (m new : Ledger) (f : Full) (chunks cells_es cells_base meets_es meets_base b n written : ℕ) → length m.given ≡ chunks → length new.given ≡ chunks → chunks ≤ free_count m + (2 + meets_es + meets_base) → meets_es + b ≤ cells_es → meets_base ≤ cells_base
+    → n ≤ 47 * b → written ≤ 259 → spent new ≤ spent m + (written + n) → Lacks new f → chunks - reserve_of new - 2 ≤ cells_es + cells_base
+many m new f chunks cells_es cells_base meets_es meets_base b n written old_length new_length given es base path short cost lacks =
     let all = none_unspent new.open_chunk f.needed lacks.0.few_left lacks.2 in
     let none = lacks.0.none_free in
     let free = count_by-le-length not new.given in
     let free_m = count_by-le-length not m.given in omega arith
 
-pub cause_of : {has has_base : ℕ → Cell → Type 0} {used used_base : ℕ → Bool} {root root_base : Option ℕ} {key : List ℕ} (m new : Ledger) (f : Full) (item : List ℕ) (base es : List Entry) → EachNeeded m
-    → (p : Path has used (live_of m) root key es) → Path has_base used_base (last_of m) root_base key base → length new.given ≡ length m.given → length item ≤ 4096 → spent new ≤ spent m + (3 + cells_in item + p.n) → Lacks new f → FullCause new base es
-cause_of m new f item base es needed p q same short cost lacks = record {
+-- the path stays where the tree does
+pub path_later : {has new : ℕ → Cell → Type 0} {used used_new : ℕ → Bool} {live live_new : ℕ → ℕ} (root : Option ℕ) (key : List ℕ) (n : ℕ) → OnPath has used live root key n → Keeps used has new → ((q : ℕ) → used q ≡ true → used_new q ≡ true) → ((k : ℕ) → live_new k ≡ live k) → OnPath new used_new live_new root key n
+path_later None key n on keep stays same = on
+path_later (Some r) key n on keep stays same = (on.0, on.1, stands_later on.2 keep stays same, on.3, on.4)
+
+-- the chunks that were taken since
+abbrev pub taken : Ledger → Ledger → List ℕ
+taken m new = risen m.given new.given 0
+
+-- each given chunk was open, was taken since, or is met
+met_or_opened : (m new : Ledger) → EachNeeded m → length new.given ≡ length m.given → frozen_part new ≡ frozen_part m → ((k : ℕ) → slice_index new.live k ≡ slice_index m.live k) → (k : ℕ) → is_given new k ≡ true
+    → ((is_open new.last_open k ≡ true) ⊎ Contains (with_open m.open_chunk (taken m new)) k) ⊎ ((0 < slice_index new.live k) ⊎ (0 < slice_index new.last_live k))
+met_or_opened m new needed chunks frozen live k given = elim (cases_Bool (is_given m k)) [
+  | inl before ↦ was (needed k before)
+  | inr not_before ↦ inl (inr (open_later m.open_chunk (taken m new) k (subst (λ (i : ℕ). Contains (taken m new) i) zeroth (risen_has m.given new.given 0 k chunks given not_before))))
+]
+  where
+    zeroth : 0 + k ≡ k
+    zeroth = omega arith
+
+    was : ((is_open m.open_chunk k ≡ true) ⊎ (is_open m.last_open k ≡ true)) ⊎ ((0 < slice_index m.live k) ⊎ (0 < slice_index m.last_live k))
+        → ((is_open new.last_open k ≡ true) ⊎ Contains (with_open m.open_chunk (taken m new)) k) ⊎ ((0 < slice_index new.live k) ⊎ (0 < slice_index new.last_live k))
+    was (inl (inl h)) = inl (inr (open_first m.open_chunk (taken m new) k h))
+    was (inl (inr h)) = inl (inl (ap (λ (f : Frozen). is_open f.open_chunk k) frozen ∙ h))
+    was (inr (inl h)) = inr (inl (let e = live k in omega arith))
+    was (inr (inr h)) = inr (inr (let e = ap (λ (f : Frozen). slice_index f.live k) frozen in omega arith))
+
+pub cause_of : {has has_base : ℕ → Cell → Type 0} {used used_base : ℕ → Bool} {root_base : Option ℕ} (m : Ledger) (i : Index) (f : Full) (root : Option ℕ) (key : List ℕ) (written : ℕ) (base es : List Entry) → EachNeeded m
+    → (p : Path has used (live_of m) root key es) → Path has_base used_base (last_of m) root_base key base → length i.usage.given ≡ length m.given → ((k : ℕ) → is_given m k ≡ true → is_given i.usage k ≡ true) → frozen_part i.usage ≡ frozen_part m → ((k : ℕ) → slice_index i.usage.live k ≡ slice_index m.live k)
+    → OnPath (has_cell i.cells) (is_used i.usage) (live_of i.usage) root key p.n → written ≤ 259 → spent i.usage ≤ spent m + (written + p.n) → Lacks i.usage f → FullCause i root key written base es
+cause_of m i f root key written base es needed p q chunks stays frozen live on short cost lacks = record {
   none_free = lacks.0.none_free;
+  opened = with_open m.open_chunk (taken m i.usage);
+  path = p.n;
+  on_path = on;
+  few_opened =
+      let a = open_few m.open_chunk (taken m i.usage) in
+      let b = risen_few m.given i.usage.given 0 chunks stays in
+      let c = clear_is m.given in
+      let d = clear_is i.usage.given in
+      let all = none_unspent i.usage.open_chunk f.needed lacks.0.few_left lacks.2 in
+      let free = count_by-le-length not i.usage.given in
+      let free_m = count_by-le-length not m.given in omega arith;
+  others_met = met_or_opened m i.usage needed chunks frozen live;
   many_cells =
       let n = length m.given in
       let few = given_few m n refl needed in
       let a = p.meets n in
       let b = q.meets n in
-      let c = many m new f n (cells es) (cells base) (row (some_live (live_of m)) 0 n) (row (some_live (last_of m)) 0 n) p.b p.n (cells_in item) refl same few a (omega arith) p.few (omega arith) cost lacks in omega arith;
+      let c = many m i.usage f n (cells es) (cells base) (row (some_live (live_of m)) 0 n) (row (some_live (last_of m)) 0 n) p.b p.n written refl chunks few a (omega arith) p.few short cost lacks in omega arith;
 }

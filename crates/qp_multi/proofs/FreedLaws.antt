@@ -2,7 +2,7 @@
 use Rattle.std.proofs.Common.{◌≡◌, ◌⊎◌, ℕ, ◌+◌, ◌/◌, ◌%◌, ◌<◌, nat_lt, Bool, true, false, not, cond, ◌&&◌, ◌||◌, if◌then◌else◌, List, [], ◌∷◌, ◌++◌, length, slice_index, slice_index_or, Option, arith, refl, sym, ◌∙◌, ap, subst, inl, inr}
 use Rattle.std.proofs.lemmas.Bool.{cases_lt}
 use Rattle.std.proofs.lemmas.Bool.Decides.{nat_tests}
-use Rattle.std.proofs.lemmas.List.{get_or-map, get_or_past}
+use Rattle.std.proofs.lemmas.List.{get_or-map, get_or_past, length-map}
 use Rattle.packed_node.specs.declared.Cell.{Cell}
 use Rattle.zone_model.specs.Keys.{Leads}
 use Rattle.trie_model.specs.Keys.{Entry, InList}
@@ -18,7 +18,9 @@ use Rattle.chunk_usage.specs.Rooms.{Grows}
 use Rattle.chunk_usage.proofs.RecyclingLaws.{freed_by_chunk}
 use Rattle.trie_write.proofs.RootLaws.{standing_later}
 use Rattle.qp_multi.specs.Shows.{has_cell, is_settled, IsBase}
+use Rattle.chunk_usage.specs.declared.open.Open.{Open}
 use Rattle.qp_multi.specs.Works.{IsWorking}
+use Rattle.qp_multi.specs.Receipts.{Recycled}
 use Rattle.qp_multi.proofs.CountedLaws.{counts_some, counts_used, standing_on}
 
 -- settled: in use, and not fresh
@@ -197,3 +199,44 @@ tells_exchanged e old new each here x y i = go (in_both y x.before (e ∷ x.afte
     go (inl a) = was (in_left y x.before (x.gone ∷ x.after) a)
     go (inr (inl same)) = subst (λ (z : Entry). Leads z.key z.item) (sym same) here
     go (inr (inr b)) = was (in_right y x.before (x.gone ∷ x.after) (inr b))
+
+-- which chunks stay given where the counts and the open chunk are those of the last freeze
+
+row_flag : (live : List ℕ) (k : ℕ) → slice_index_or (row_of live) k false ≡ nat_lt 0 (slice_index live k)
+row_flag live k = elim (cases_lt k (length live)) [
+  | inl lt ↦ get_or-map (nat_lt 0) live k 0 false lt
+  | inr past ↦ get_or_past (row_of live) k false (let n = length-map live (nat_lt 0) in omega arith) ∙ ap (nat_lt 0) (sym (get_or_past live k 0 past))
+]
+
+or_none : (b : Bool) → (b || false) ≡ b
+or_none true = refl
+or_none false = refl
+
+twice_over : (a b : Bool) → (a || (a || (b || b))) ≡ (a || b)
+twice_over true b = refl
+twice_over false true = refl
+twice_over false false = refl
+
+needed_is : (v : Ledger) (version : ℕ) → HasRow v version → v.live ≡ v.last_live → v.open_chunk ≡ v.last_open → (k : ℕ) → is_needed v k ≡ (is_open v.open_chunk k || nat_lt 0 (slice_index v.live k))
+needed_is v version kept same place k =
+    let rows : is_in_rows v.rows k ≡ nat_lt 0 (slice_index v.live k) = ap (λ (rows : List Row). is_in_rows rows k) kept ∙ or_none (slice_index_or (row_of v.last_live) k false) ∙ row_flag v.last_live k ∙ ap (λ (live : List ℕ). nat_lt 0 (slice_index live k)) (sym same) in
+    ap (λ b. is_open v.open_chunk k || (is_open v.last_open k || (nat_lt 0 (slice_index v.live k) || b))) rows
+    ∙ ap (λ (o : Option Open). is_open v.open_chunk k || (is_open o k || (nat_lt 0 (slice_index v.live k) || nat_lt 0 (slice_index v.live k)))) (sym place)
+    ∙ twice_over (is_open v.open_chunk k) (nat_lt 0 (slice_index v.live k))
+
+pub recycled : (u v w : Ledger) (version : ℕ) → HasRow v version → v.live ≡ v.last_live → v.open_chunk ≡ v.last_open → v.given ≡ u.given → w ≡ freed v → Recycled u w
+recycled u v w version kept same place given after = subst (Recycled u) (sym after) (λ k.
+    freed_by_chunk v k
+    ∙ ap (λ b. is_given v k && b) (needed_is v version kept same place k)
+    ∙ ap (λ (flags : List Bool). slice_index_or flags k false && (is_open v.open_chunk k || nat_lt 0 (slice_index v.live k))) given)
+
+pub undone_recycled : (u v w : Ledger) (version : ℕ) → HasRow u version → v ≡ restored u → w ≡ freed v → Recycled u w
+undone_recycled u v w version kept back after =
+    recycled u v w version (row_on u v version (ap (λ (l : Ledger). l.rows) back) (ap (λ (l : Ledger). l.last_live) back) kept)
+    (ap (λ (l : Ledger). l.live) back ∙ sym (ap (λ (l : Ledger). l.last_live) back)) (ap (λ (l : Ledger). l.open_chunk) back ∙ sym (ap (λ (l : Ledger). l.last_open) back)) (ap (λ (l : Ledger). l.given) back) after
+
+pub committed_recycled : (u v w x : Ledger) (version next : ℕ) → HasRow u version → next ≡ version + 1 → v ≡ frozen u next → w ≡ dropped v version → x ≡ freed w → Recycled u x
+committed_recycled u v w x version next kept one kept_new dropped_so after =
+    let e : w ≡ dropped (frozen u next) version = dropped_so ∙ ap (λ (l : Ledger). dropped l version) kept_new in
+    recycled u w x next (next_row u v w version next kept one kept_new dropped_so)
+    (ap (λ (l : Ledger). l.live) e ∙ sym (ap (λ (l : Ledger). l.last_live) e)) (ap (λ (l : Ledger). l.open_chunk) e ∙ sym (ap (λ (l : Ledger). l.last_open) e)) (ap (λ (l : Ledger). l.given) e) after

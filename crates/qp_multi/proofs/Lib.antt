@@ -5,3 +5,4 @@ pub mod FreedLaws
 pub mod MeetLaws
 pub mod CauseLaws
 pub mod RefusalLaws
+pub mod RisenLaws

@@ -3,3 +3,4 @@ pub mod Shows
 pub mod Openings
 pub mod Works
 pub mod Fulls
+pub mod Receipts

@@ -1,11 +1,11 @@
 //! A name put into a transaction's working set.
 
-ghost use Rattle.std.specs.Prelude.{◌≡◌, ◌↔◌, ◌+◌, ◌≤◌, ℕ, List, IfOk, IfErr, Err, length, slice_index};
+ghost use Rattle.std.specs.Prelude.{◌≡◌, ◌↔◌, ◌+◌, ◌≤◌, ℕ, true, List, IfOk, IfErr, Err, length, slice_index};
 ghost use Rattle.zone_model.specs.Keys.{Leads};
 ghost use Rattle.trie_model.specs.Keys.{Entry, InList};
 ghost use Rattle.trie_model.specs.Changes.{Inserted};
 ghost use Rattle.trie_model.specs.Trees.{cells_in};
-ghost use Rattle.chunk_usage.specs.Ledger.{is_used};
+ghost use Rattle.chunk_usage.specs.Ledger.{is_used, is_given, frozen_part};
 ghost use Rattle.chunk_usage.specs.Handing.{Lacks, spent};
 ghost use Rattle.trie_write.specs.Roots.{OnPath};
 ghost use Rattle.trie_write.specs.declared.insertion.InsertRefusal.TheVariants.{Exists as TrieExists, Full as TrieFull};
@@ -37,6 +37,11 @@ fn attempt(
     ensures full { (f : _) → result ≡ Err (TrieFull f) → Lacks index.new.usage f }
     ensures version { index.new.version ≡ index.old.version }
     ensures chunks { length index.new.usage.given ≡ length index.old.usage.given }
+    ensures stays { (k : ℕ) → is_given index.old.usage k ≡ true → is_given index.new.usage k ≡ true }
+    ensures frozen { frozen_part index.new.usage ≡ frozen_part index.old.usage }
+    ensures unchanged { IfErr result (λ _. (k : ℕ) → slice_index index.new.usage.live k ≡ slice_index index.old.usage.live k) }
+    ensures path { IfErr result (λ _. (n : ℕ) → OnPath (has_cell index.old.cells) (is_used index.old.usage) (λ k. slice_index index.old.usage.live k) root key.now n
+        → OnPath (has_cell index.new.cells) (is_used index.new.usage) (λ k. slice_index index.new.usage.live k) root key.now n) }
     ensures spends { (n : ℕ) → OnPath (has_cell index.old.cells) (is_used index.old.usage) (λ k. slice_index index.old.usage.live k) root key.now n
         → spent index.new.usage ≤ spent index.old.usage + (3 + cells_in item.now + n) }
 {
@@ -61,7 +66,8 @@ fn insert_in_room(
         → (result ≡ Err InsertRefusal.Exists) ↔ ((x : Entry) × InList x es × (x.key ≡ key.now)) }
     ensures refused { IfErr result (λ _. (base es : List Entry) → WorksIn index.old root.old base es → WorksIn index.new root.new base es) }
     ensures full { (f : _) → result ≡ Err (InsertRefusal.Full f) → IsFull index.new.usage index.new.version f }
-    ensures cause { (f : _) (base es : List Entry) → result ≡ Err (InsertRefusal.Full f) → WorksIn index.old root.old base es → FullCause index.new.usage base es }
+    ensures cause { (f : _) (base es : List Entry) → result ≡ Err (InsertRefusal.Full f) → WorksIn index.old root.old base es
+        → FullCause index.new root.new key.now (3 + cells_in item.now) base es }
     ensures version { index.new.version ≡ index.old.version }
 {
     make_room(index);
@@ -90,7 +96,8 @@ pub fn insert(
         → (result ≡ Err InsertRefusal.Exists) ↔ ((x : Entry) × InList x es × (x.key ≡ key.now)) }
     ensures refused { IfErr result (λ _. (base es : List Entry) → WorksIn index.old root.old base es → WorksIn index.new root.new base es) }
     ensures full { (f : _) → result ≡ Err (InsertRefusal.Full f) → IsFull index.new.usage index.new.version f }
-    ensures cause { (f : _) (base es : List Entry) → result ≡ Err (InsertRefusal.Full f) → WorksIn index.old root.old base es → FullCause index.new.usage base es }
+    ensures cause { (f : _) (base es : List Entry) → result ≡ Err (InsertRefusal.Full f) → WorksIn index.old root.old base es
+        → FullCause index.new root.new key.now (3 + cells_in item.now) base es }
     ensures version { index.new.version ≡ index.old.version }
 {
     match attempt(index, *root, key, item) {

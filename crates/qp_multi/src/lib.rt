@@ -19,3 +19,6 @@ pub use refusal::{ChangeRefusal, Full, InsertRefusal, Kept};
 pub use update::Update;
 pub use working::Receipt;
 pub use write::Write;
+
+#[cfg(test)]
+mod tests;

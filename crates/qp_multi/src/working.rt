@@ -7,6 +7,7 @@ ghost use Rattle.trie_read.specs.Readings.{Fetched};
 ghost use Rattle.qp_multi.specs.Shows.{Shows};
 ghost use Rattle.qp_multi.specs.Works.{WorksIn, IsBegun};
 ghost use Rattle.qp_multi.specs.Fulls.{EachNeeded};
+ghost use Rattle.qp_multi.specs.Receipts.{Recycled};
 
 use crate::index::Index;
 use packed_node::Ref;
@@ -29,6 +30,7 @@ pub struct Receipt {
 pub fn undo(index: &mut Index)
     ensures back { (root : Option ℕ) (base es : List Entry) → WorksIn index.old root base es → Shows index.new base }
     ensures version { index.new.version ≡ index.old.version }
+    ensures recycled { Recycled index.old.usage index.new.usage }
 {
     index.usage.restore();
     index.usage.free_unreached(&mut index.cells);
@@ -42,6 +44,7 @@ fn keep(index: &mut Index, root: Option<Ref>, version: u64) -> Receipt
     ensures version { index.new.version ≡ version }
     ensures receipt { result.version ≡ version }
     ensures freed { free_count index.new.usage ≡ free_count index.old.usage + result.freed }
+    ensures recycled { Recycled index.old.usage index.new.usage }
     ensures kept { result.kept ≡ 1 }
 {
     index.usage.freeze(version);
@@ -63,6 +66,7 @@ pub fn publish(index: &mut Index, root: Option<Ref>) -> Result<Receipt, Spent>
     ensures receipt { IfOk result (λ r. r.version ≡ index.old.version + 1) }
     ensures version { IfOk result (λ _. index.new.version ≡ index.old.version + 1) }
     ensures freed { IfOk result (λ r. free_count index.new.usage ≡ free_count index.old.usage + r.freed) }
+    ensures recycled { Recycled index.old.usage index.new.usage }
     ensures kept { IfOk result (λ r. r.kept ≡ 1) }
     ensures spent { IsErr result ↔ (index.old.version ≡ LAST_VERSION) }
     ensures stays { IfErr result (λ s. (s.version ≡ index.old.version) × (index.new.version ≡ index.old.version)) }

@@ -3,12 +3,15 @@
 ghost use Rattle.std.specs.Prelude.{◌≡◌, ◌+◌, ◌↔◌, ℕ, List, IfOk, IfErr, IsErr, Err};
 ghost use Rattle.zone_model.specs.Keys.{Leads};
 ghost use Rattle.trie_model.specs.Keys.{Entry, InList};
+ghost use Rattle.trie_model.specs.Trees.{cells_in};
 ghost use Rattle.trie_model.specs.Changes.{Inserted};
+ghost use Rattle.chunk_usage.specs.Ledger.{free_count};
 ghost use Rattle.trie_read.specs.Readings.{Fetched};
 ghost use Rattle.trie_write.specs.Exchanges.{Exchanged};
 ghost use Rattle.qp_multi.specs.Shows.{Shows};
 ghost use Rattle.qp_multi.specs.Works.{Works};
 ghost use Rattle.qp_multi.specs.Fulls.{IsFull, FullCause};
+ghost use Rattle.qp_multi.specs.Receipts.{Recycled};
 
 use crate::index::Index;
 use crate::refusal::{ChangeRefusal, InsertRefusal};
@@ -66,7 +69,8 @@ impl Write<'_> {
             → (result ≡ Err InsertRefusal.Exists) ↔ ((x : Entry) × InList x es × (x.key ≡ key.now)) }
         ensures refused { IfErr result (λ _. (base es : List Entry) → Works self.old base es → Works self.new base es) }
         ensures full { (f : _) → result ≡ Err (InsertRefusal.Full f) → IsFull self.new.index.now.usage self.new.index.now.version f }
-        ensures cause { (f : _) (base es : List Entry) → result ≡ Err (InsertRefusal.Full f) → Works self.old base es → FullCause self.new.index.now.usage base es }
+        ensures cause { (f : _) (base es : List Entry) → result ≡ Err (InsertRefusal.Full f) → Works self.old base es
+            → FullCause self.new.index.now self.new.root key.now (3 + cells_in item.now) base es }
         ensures version { self.new.index.now.version ≡ self.old.index.now.version }
     {
         insertion::insert(self.index, &mut self.root, key, item)
@@ -83,7 +87,8 @@ impl Write<'_> {
             → (result ≡ Err ChangeRefusal.NotFound) ↔ ((x : Entry) → InList x es → x.key ≡ key.now → ⊥) }
         ensures refused { IfErr result (λ _. (base es : List Entry) → Works self.old base es → Works self.new base es) }
         ensures full { (f : _) → result ≡ Err (ChangeRefusal.Full f) → IsFull self.new.index.now.usage self.new.index.now.version f }
-        ensures cause { (f : _) (base es : List Entry) → result ≡ Err (ChangeRefusal.Full f) → Works self.old base es → FullCause self.new.index.now.usage base es }
+        ensures cause { (f : _) (base es : List Entry) → result ≡ Err (ChangeRefusal.Full f) → Works self.old base es
+            → FullCause self.new.index.now self.new.root key.now (3 + cells_in item.now) base es }
         ensures version { self.new.index.now.version ≡ self.old.index.now.version }
     {
         replacement::replace(self.index, &mut self.root, key, item)
@@ -93,7 +98,9 @@ impl Write<'_> {
     pub fn commit(self) -> Result<Receipt, Spent>
         ensures shows { IfOk result (λ _. (base es : List Entry) → Works self.entry base es → Shows self.exit.0.now es) }
         ensures back { IfErr result (λ _. (base es : List Entry) → Works self.entry base es → Shows self.exit.0.now base) }
-        ensures receipt { IfOk result (λ r. r.version ≡ self.entry.index.now.version + 1) }
+        ensures receipt { IfOk result (λ r. (r.version ≡ self.entry.index.now.version + 1) × (r.kept ≡ 1)) }
+        ensures freed { IfOk result (λ r. free_count self.exit.0.now.usage ≡ free_count self.entry.index.now.usage + r.freed) }
+        ensures recycled { Recycled self.entry.index.now.usage self.exit.0.now.usage }
         ensures version { IfOk result (λ _. self.exit.0.now.version ≡ self.entry.index.now.version + 1) }
         ensures spent { IsErr result ↔ (self.entry.index.now.version ≡ LAST_VERSION) }
         ensures stays { IfErr result (λ s. (s.version ≡ self.entry.index.now.version) × (self.exit.0.now.version ≡ self.entry.index.now.version)) }
@@ -107,6 +114,7 @@ impl Drop for Write<'_> {
     fn drop(self)
         ensures back { (base es : List Entry) → Works self.entry base es → Shows self.exit.0.now base }
         ensures version { self.exit.0.now.version ≡ self.entry.index.now.version }
+        ensures recycled { Recycled self.entry.index.now.usage self.exit.0.now.usage }
     {
         let Self { index, root: _ } = self;
         undo(index);

@@ -1,10 +1,14 @@
-use Rattle.std.proofs.Common.{length, sym, ◌∙◌, ap}
+use Rattle.std.proofs.Common.{Bool, List, length, sym, ◌∙◌, ap, subst}
 use Rattle.zone_model.specs.Keys.{Leads}
 use Rattle.chunk_usage.specs.Ledger.{Frozen}
 use Rattle.trie_write.proofs.FrameLaws.{ok_map}
 use Rattle.trie_write.proofs.RootLaws.{tells_more}
 use Rattle.qp_multi.proofs.FreedLaws.{base_later}
+use Rattle.chunk_cells.specs.Chunks.{IsGiven}
+use Rattle.chunk_usage.proofs.FlagLemmas.{get_set}
+use Rattle.qp_multi.proofs.CauseLaws.{path_later}
 use Rattle.qp_multi.proofs.RefusalLaws.{err_map}
+use Rattle.qp_multi.proofs.RisenLaws.{set_of}
 use Rattle.qp_multi.proofs.insertion.attempt.Goals as goal
 
 pub returns-clause-inserted : goal.returns-clause-inserted
@@ -28,3 +32,11 @@ returns-clause-refused c = err_map c.insert-outcome.result (λ refusal same base
 
 pub returns-clause-chunks : goal.returns-clause-chunks
 returns-clause-chunks c = sym c.known-2.ensures.counted_last ∙ ap (λ (f : Frozen). length f.live) c.insert-outcome.ensures.frozen ∙ c.known.ensures.counted_last
+
+pub returns-clause-stays : goal.returns-clause-stays
+returns-clause-stays c k given =
+    let before = subst (λ (flags : List Bool). IsGiven flags k) (sym c.args.index.now.is.same) (get_set c.args.index.now.usage.given k given) in
+    set_of c.insert-outcome.new.usage.given k (subst (λ (flags : List Bool). IsGiven flags k) c.insert-outcome.ensures.ready.same (c.insert-outcome.ensures.frame.given_stays k before))
+
+pub returns-clause-path : goal.returns-clause-path
+returns-clause-path c = err_map c.insert-outcome.result (λ refusal live n on. path_later c.args.root c.args.key.now n on c.insert-outcome.ensures.frame.stays c.insert-outcome.ensures.frame.grows.stays live) c.insert-outcome.ensures.unchanged

@@ -1,8 +1,12 @@
-use Rattle.std.proofs.Common.{length, sym, ◌∙◌, ap}
+use Rattle.std.proofs.Common.{Bool, List, length, sym, ◌∙◌, ap, subst}
 use Rattle.chunk_usage.specs.Ledger.{Frozen}
 use Rattle.trie_write.proofs.FrameLaws.{ok_map}
 use Rattle.qp_multi.proofs.FreedLaws.{base_later, tells_exchanged}
+use Rattle.chunk_cells.specs.Chunks.{IsGiven}
+use Rattle.chunk_usage.proofs.FlagLemmas.{get_set}
+use Rattle.qp_multi.proofs.CauseLaws.{path_later}
 use Rattle.qp_multi.proofs.RefusalLaws.{err_map}
+use Rattle.qp_multi.proofs.RisenLaws.{set_of}
 use Rattle.qp_multi.proofs.replacement.attempt.Goals as goal
 
 pub returns-clause-replaced : goal.returns-clause-replaced
@@ -26,3 +30,11 @@ returns-clause-refused c = err_map c.replace-outcome.result (λ refusal same bas
 
 pub returns-clause-chunks : goal.returns-clause-chunks
 returns-clause-chunks c = sym c.known-2.ensures.counted_last ∙ ap (λ (f : Frozen). length f.live) c.replace-outcome.ensures.frozen ∙ c.known.ensures.counted_last
+
+pub returns-clause-stays : goal.returns-clause-stays
+returns-clause-stays c k given =
+    let before = subst (λ (flags : List Bool). IsGiven flags k) (sym c.args.index.now.is.same) (get_set c.args.index.now.usage.given k given) in
+    set_of c.replace-outcome.new.usage.given k (subst (λ (flags : List Bool). IsGiven flags k) c.replace-outcome.ensures.ready.same (c.replace-outcome.ensures.frame.given_stays k before))
+
+pub returns-clause-path : goal.returns-clause-path
+returns-clause-path c = err_map c.replace-outcome.result (λ refusal live n on. path_later c.args.root c.args.key.now n on c.replace-outcome.ensures.frame.stays c.replace-outcome.ensures.frame.grows.stays live) c.replace-outcome.ensures.unchanged

@@ -1,5 +1,6 @@
-use Rattle.std.proofs.Common.{Err, refl, sym, ◌∙◌, ap}
+use Rattle.std.proofs.Common.{Err, ◌+◌, arith, refl, sym, ◌∙◌, ap}
 use Rattle.trie_write.specs.declared.replacement.ChangeRefusal.{ChangeRefusal as TrieRefusal}
+use Rattle.trie_model.specs.Trees.{cells_in}
 use Rattle.qp_multi.proofs.RefusalLaws.{ok_not_err}
 use Rattle.qp_multi.proofs.CauseLaws.{path_of, cause_of}
 use Rattle.qp_multi.proofs.replacement.replace_in_room.Goals as goal
@@ -40,4 +41,5 @@ returns-in-Err-Full-clause-cause c f base es is works =
     let path = path_of c.args.root.now c.args.key.now es room.working.stands room.working.tells in
     let kept = path_of c.make_room.new.index.root c.args.key.now base room.base_is.stands room.base_is.tells in
     let lacks = c.attempt.ensures.full c.in-Err-Full.full (c.in-Err-Full.is ∙ ap (λ (r : TrieRefusal). Err r) c.in-Err-Full.field-0-is) in
-    cause_of c.make_room.new.index.usage c.attempt.new.index.usage c.in-Err-Full.full c.args.item.now base es c.make_room.ensures.needed path kept c.attempt.ensures.chunks c.requires.leads.short (c.attempt.ensures.spends path.n path.on_path) lacks
+    cause_of c.make_room.new.index.usage c.attempt.new.index c.in-Err-Full.full c.args.root.now c.args.key.now (3 + cells_in c.args.item.now) base es c.make_room.ensures.needed path kept
+    c.attempt.ensures.chunks c.attempt.ensures.stays c.attempt.ensures.frozen c.in-Err-Full.ensures.unchanged (c.in-Err-Full.ensures.path path.n path.on_path) (let l = c.requires.leads.short in omega arith) (c.attempt.ensures.spends path.n path.on_path) lacks
