@@ -74,15 +74,21 @@ fn strings(alloc: Global, text: &[u8], full: u32, last: u32) -> Result<Vec<Token
 fn strings_at_their_limits(rt: HostRuntime) -> Result<(), Fail> {
     let text = [b'a'; 256];
     let root = Name::root();
-    for (full, last, want) in [
-        (0, 255, Ok(256)),
-        (1, 256, Err(RdataRefusal::LongString { at: 1 })),
-        (255, 254, Ok(65_535)),
-        (255, 255, Err(RdataRefusal::BadRdata { at: 255 })),
+    for (full, last, kind, number) in [
+        (0, 255, "octets", 256),
+        (1, 256, "long string", 1),
+        (255, 254, "octets", 65_535),
+        (255, 255, "bad data", 255),
     ] {
         let tokens = strings(rt.alloc(), &text, full, last)?;
-        let read = Rdata::read(rt.alloc(), 16, &text, &tokens, &root);
-        assert!(rt; read.map(|rdata| rdata.octets().len()) == want);
+        let (said, told) = match Rdata::read(rt.alloc(), 16, &text, &tokens, &root) {
+            Ok(rdata) => ("octets", rdata.octets().len()),
+            Err(RdataRefusal::LongString { at }) => ("long string", at),
+            Err(RdataRefusal::BadRdata { at }) => ("bad data", at),
+            Err(RdataRefusal::Memory) => ("memory", 0),
+        };
+        assert_eq!(rt; said, kind);
+        assert_eq!(rt; told, number);
     }
     Ok(())
 }
