@@ -1,18 +1,20 @@
-//! Tries of twenty names, as they come, change and go.
+//! Tries of twenty names: as they are built, and as names come, change and go.
 
-ghost use Rattle.std.specs.Prelude.{◌≡◌, ◌<◌, ℕ, List, IfOk, IfSome};
+ghost use Rattle.std.specs.Prelude.{◌≡◌, ◌<◌, ℕ, List, IfOk, IfSome, IsTrue};
 ghost use Rattle.zone_model.specs.Keys.{Leads};
-ghost use Rattle.trie_model.specs.Keys.{Entry};
+ghost use Rattle.trie_model.specs.Keys.{Entry, Less, Rises};
 ghost use Rattle.trie_model.specs.Memory.{Stands};
 ghost use Rattle.trie_read.specs.Reads.{EachTells};
 ghost use Rattle.chunk_usage.specs.Rooms.{Ready};
+ghost use Rattle.trie_write.specs.Entries.{entries_of_items};
 ghost use Rattle.trie_write.specs.Standing.{Standing};
 
-use super::{Item, delete, insert, replace};
+use super::{Item, build, cells, delete, insert, replace};
 use chunk_cells::{CellRead, CellWrite, PlainCells};
-use chunk_usage::{Space, Usage};
+use chunk_usage::{Full, Space, Usage};
 use dns_name::Name;
 use packed_node::Ref;
+use shift_key::Key;
 use std::alloc::Global;
 use std::test::Fail;
 use trie_read::{count, get, nodes};
@@ -143,14 +145,19 @@ fn items_of(alloc: Global, names: &[&str], payload: &[u8]) -> Result<Vec<Item>, 
     Ok(items)
 }
 
-#[test]
-fn twenty_names_come_and_go(rt: HostRuntime) -> Result<(), Fail> {
-    let mut cells = PlainCells::new(rt.alloc(), 16)?;
-    let mut usage = Usage::new(rt.alloc(), 16, 2)?;
-    let rising = [
+/// Twenty names, in the order of their keys.
+fn rising_names() -> [&'static str; 20] {
+    [
         "a.", "a.a.", "b.a.", "c.a.", "b.", "bb.", "bc.", "c.", "x.c.", "y.c.", "d.", "e.", "f.",
         "g.", "h.", "i.", "j.", "k.", "l.", "m.",
-    ];
+    ]
+}
+
+#[test]
+fn twenty_names_come_and_go(rt: HostRuntime) -> Result<(), Fail> {
+    let mut memory = PlainCells::new(rt.alloc(), 16)?;
+    let mut usage = Usage::new(rt.alloc(), 16, 2)?;
+    let rising = rising_names();
     let first = items_of(rt.alloc(), &rising, b"1")?;
     let second = items_of(rt.alloc(), &rising, b"a longer payload than before")?;
     let mixed = [
@@ -165,8 +172,66 @@ fn twenty_names_come_and_go(rt: HostRuntime) -> Result<(), Fail> {
         23, 22, 21, 20, 18, 17, 15, 14, 13, 12, 11, 10, 9, 8, 7, 5, 4, 3, 1, 0,
     ];
     let root = come_and_go(
-        &mut cells, &mut usage, &first, &second, &last, &grown, &shrunk,
+        &mut memory,
+        &mut usage,
+        &first,
+        &second,
+        &last,
+        &grown,
+        &shrunk,
     );
     assert_eq!(rt; root, Ok(None));
+    Ok(())
+}
+
+/// Whether a key comes before another.
+fn comes_before(key: &Key, other: &Key) -> bool
+    ensures { IsTrue result → Less key.now other.now }
+{
+    match key.first_difference(other) {
+        None => false,
+        Some(place) => key.at(place) < other.at(place),
+    }
+}
+
+/// Whether items rise by their keys.
+fn rise(items: &[Item]) -> bool
+    ensures { IsTrue result → Rises (entries_of_items items.now) }
+{
+    if items.len() < 2 {
+        return true;
+    }
+    if comes_before(&items[0].key(), &items[1].key()) {
+        return rise(&items[1..]);
+    }
+    false
+}
+
+/// How many names and nodes the trie of some items has.
+fn sizes<C: CellWrite, U: Space>(
+    cells: &mut C,
+    usage: &mut U,
+    items: &[Item],
+) -> Result<(u64, u64), Full>
+    requires rising { Rises (entries_of_items items.now) }
+    requires uncounted { (k : ℕ) → U.live usage.old k ≡ 0 }
+    requires ready { Ready (C.kept cells.old) (C.given cells.old) (U.given usage.old) (U.used usage.old) (U.fresh usage.old) }
+{
+    let root = build(cells, usage, items)?;
+    let names = count(cells, root);
+    Ok((names, nodes(cells, root)))
+}
+
+#[test]
+fn twenty_names_are_built(rt: HostRuntime) -> Result<(), Fail> {
+    let mut memory = PlainCells::new(rt.alloc(), 16)?;
+    let mut usage = Usage::new(rt.alloc(), 16, 2)?;
+    let items = items_of(rt.alloc(), &rising_names(), b"1")?;
+    assert!(rt; rise(&items));
+    let sizes = sizes(&mut memory, &mut usage, &items);
+    assert_eq!(rt; sizes, Ok((20, 24)));
+    // One cell for each node and each item.
+    assert_eq!(rt; usage.live(0), 44);
+    assert_eq!(rt; cells(&items), 44);
     Ok(())
 }
