@@ -6,6 +6,7 @@ ghost use Rattle.trie_model.specs.Keys.{Entry, InList};
 ghost use Rattle.trie_model.specs.Trees.{cells_in};
 ghost use Rattle.trie_model.specs.Changes.{Inserted};
 ghost use Rattle.chunk_usage.specs.Ledger.{free_count};
+ghost use Rattle.chunk_usage.specs.Keeping.{closed};
 ghost use Rattle.trie_read.specs.Readings.{Fetched};
 ghost use Rattle.trie_write.specs.Deletions.{Deleted};
 ghost use Rattle.trie_write.specs.Exchanges.{Exchanged};
@@ -35,6 +36,8 @@ impl Index {
         ensures same_reference { result.index.ghost_name ≡ self.entry.ghost_name }
         ensures works { (es : List Entry) → Shows self.old es → Updates result es es }
         ensures version { result.index.now.version ≡ self.old.version }
+        // What is written goes into chunks of its own.
+        ensures fresh { result.index.now.usage ≡ closed self.old.usage }
     {
         self.usage.start_chunk();
         let root = self.root;

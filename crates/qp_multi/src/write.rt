@@ -35,6 +35,8 @@ impl Index {
         ensures same_reference { result.index.ghost_name ≡ self.entry.ghost_name }
         ensures works { (es : List Entry) → Shows self.old es → Works result es es }
         ensures version { result.index.now.version ≡ self.old.version }
+        // What is written goes on in the open chunk.
+        ensures goes_on { result.index.now.usage ≡ self.old.usage }
     {
         let root = self.root;
         Write { index: self, root }
