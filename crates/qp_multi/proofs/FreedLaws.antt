@@ -9,6 +9,7 @@ use Rattle.trie_model.specs.Keys.{Entry, InList}
 use Rattle.trie_model.proofs.KeyLaws.{in_left, in_right, in_both}
 use Rattle.trie_read.specs.Reads.{EachTells}
 use Rattle.trie_write.specs.Exchanges.{Exchanged}
+use Rattle.trie_write.specs.Deletions.{Deleted}
 use Rattle.trie_model.proofs.MoveLaws.{Keeps}
 use Rattle.trie_model.proofs.ReachLaws.{first_true, second_true, both_true}
 use Rattle.chunk_cells.specs.declared.plain.PlainCells.{PlainCells}
@@ -240,3 +241,11 @@ committed_recycled u v w x version next kept one kept_new dropped_so after =
     let e : w ≡ dropped (frozen u next) version = dropped_so ∙ ap (λ (l : Ledger). dropped l version) kept_new in
     recycled u w x next (next_row u v w version next kept one kept_new dropped_so)
     (ap (λ (l : Ledger). l.live) e ∙ sym (ap (λ (l : Ledger). l.last_live) e)) (ap (λ (l : Ledger). l.open_chunk) e ∙ sym (ap (λ (l : Ledger). l.last_open) e)) (ap (λ (l : Ledger). l.given) e) after
+
+-- and so where a name is taken out
+pub tells_fewer : (key : List ℕ) (old new : List Entry) → EachTells Leads old → Deleted key old new → EachTells Leads new
+tells_fewer key old new each d x i = each x (subst (InList x) (sym d.removed.old_is) (go (in_both x d.removed.before d.removed.after (subst (InList x) d.removed.new_is i))))
+  where
+    go : InList x d.removed.before ⊎ InList x d.removed.after → InList x (d.removed.before ++ (d.gone ∷ d.removed.after))
+    go (inl a) = in_left x d.removed.before (d.gone ∷ d.removed.after) a
+    go (inr b) = in_right x d.removed.before (d.gone ∷ d.removed.after) (inr b)

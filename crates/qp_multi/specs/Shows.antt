@@ -29,5 +29,11 @@ pub record Shows (i : Index) (es : List Entry) : Type 0 where
   pub base : IsBase i.cells i.usage i.root es
   pub counts : i.usage.live ≡ i.usage.last_live
 
-abbrev pub Tells : Query → List Entry → Type 0
-Tells q es = Stands (has_cell q.reading.cells.now) q.reading.root es × EachTells Leads es
+-- the query is of a root that stands for the entries, and each item tells its key
+pub record Tells (q : Query) (es : List Entry) : Type 0 where
+  pub stands : Stands (has_cell q.reading.cells.now) q.reading.root es
+  pub tells : EachTells Leads es
+
+-- the same as a reading has it
+abbrev pub Holds : Query → List Entry → Type 0
+Holds q es = Stands (has_cell q.reading.cells.now) q.reading.root es × EachTells Leads es

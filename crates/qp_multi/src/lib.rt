@@ -1,6 +1,7 @@
 //! An index of names with many versions, over the cells of one thread.
 #![tactic(auto)]
 
+mod deletion;
 mod index;
 mod insertion;
 mod opening;

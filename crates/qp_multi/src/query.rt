@@ -42,11 +42,11 @@ impl Query<'_> {
 
 impl Reading for Query<'_> {
     ghost use Rattle.trie_read.specs.Walks.{StandsBetween};
-    ghost use Rattle.qp_multi.specs.Shows.{Tells, has_cell};
+    ghost use Rattle.qp_multi.specs.Shows.{Holds, has_cell};
 
     ghost number = { λ q. q.reading.number };
 
-    ghost holds = { Tells };
+    ghost holds = { Holds };
 
     ghost stands = { λ q. StandsBetween (has_cell q.reading.cells.now) q.reading.root };
 

@@ -1,4 +1,4 @@
-//! An index of one name: another is put in, and a change is given up.
+//! An index of one name: another is put in and taken out, and a change is given up.
 
 ghost use Rattle.std.specs.Prelude.{List, IfOk};
 ghost use Rattle.trie_model.specs.Keys.{Entry, Rises};
@@ -41,6 +41,21 @@ fn put(index: &mut Index, item: &Item) -> Result<u64, InsertRefusal>
     match write.insert(&item.key(), item.octets()) {
         Err(refusal) => Err(refusal),
         Ok(()) => match write.commit() {
+            Ok(receipt) => Ok(receipt.version),
+            Err(spent) => Ok(spent.version),
+        },
+    }
+}
+
+/// Takes a name out, and gives the number of the version that is current then.
+fn take_out(index: &mut Index, item: &Item) -> Result<u64, ChangeRefusal>
+    requires { (es : List Entry) × Shows index.old es }
+    ensures { (es : List Entry) × Shows index.new es }
+{
+    let mut update = index.update();
+    match update.delete(&item.key()) {
+        Err(refusal) => Err(refusal),
+        Ok(()) => match update.commit() {
             Ok(receipt) => Ok(receipt.version),
             Err(spent) => Ok(spent.version),
         },
@@ -92,7 +107,9 @@ fn a_commit_is_a_version(rt: HostRuntime) -> Result<(), Fail> {
     let outcomes = put_twice(&mut index, &beside);
     assert_eq!(rt; outcomes, [Ok(1), Err(InsertRefusal::Exists)]);
     assert_eq!(rt; shown(&index, &beside), (1, 2, Some(17)));
-    assert_eq!(rt; index.close(), 1);
+    assert_eq!(rt; take_out(&mut index, &beside), Ok(2));
+    assert_eq!(rt; shown(&index, &beside), (2, 1, None));
+    assert_eq!(rt; index.close(), 2);
     Ok(())
 }
 

@@ -7,6 +7,7 @@ ghost use Rattle.trie_model.specs.Trees.{cells_in};
 ghost use Rattle.trie_model.specs.Changes.{Inserted};
 ghost use Rattle.chunk_usage.specs.Ledger.{free_count};
 ghost use Rattle.trie_read.specs.Readings.{Fetched};
+ghost use Rattle.trie_write.specs.Deletions.{Deleted};
 ghost use Rattle.trie_write.specs.Exchanges.{Exchanged};
 ghost use Rattle.qp_multi.specs.Shows.{Shows};
 ghost use Rattle.qp_multi.specs.Works.{Works};
@@ -16,7 +17,7 @@ ghost use Rattle.qp_multi.specs.Receipts.{Recycled};
 use crate::index::Index;
 use crate::refusal::{ChangeRefusal, InsertRefusal};
 use crate::working::{Receipt, publish, undo};
-use crate::{insertion, replacement, working};
+use crate::{deletion, insertion, replacement, working};
 use packed_node::Ref;
 use pin_core::{LAST_VERSION, Spent};
 use shift_key::Key;
@@ -34,6 +35,8 @@ impl Index {
         ensures same_reference { result.index.ghost_name ≡ self.entry.ghost_name }
         ensures works { (es : List Entry) → Shows self.old es → Works result es es }
         ensures version { result.index.now.version ≡ self.old.version }
+        // What is written goes on in the open chunk.
+        ensures goes_on { result.index.now.usage ≡ self.old.usage }
     {
         let root = self.root;
         Write { index: self, root }
@@ -92,6 +95,23 @@ impl Write<'_> {
         ensures version { self.new.index.now.version ≡ self.old.index.now.version }
     {
         replacement::replace(self.index, &mut self.root, key, item)
+    }
+
+    /// Takes a name out. After a refusal the working set is as before.
+    pub fn delete(&mut self, key: &Key) -> Result<(), ChangeRefusal>
+        requires { (base : List Entry) × ((es : List Entry) × Works self.old base es) }
+        ensures same_reference { self.new.index.ghost_name ≡ self.old.index.ghost_name }
+        ensures deleted { IfOk result (λ _. (base es : List Entry) → Works self.old base es
+            → (next : List Entry) × Deleted key.now es next × Works self.new base next) }
+        ensures absent { (base es : List Entry) → Works self.old base es
+            → (result ≡ Err ChangeRefusal.NotFound) ↔ ((x : Entry) → InList x es → x.key ≡ key.now → ⊥) }
+        ensures refused { IfErr result (λ _. (base es : List Entry) → Works self.old base es → Works self.new base es) }
+        ensures full { (f : _) → result ≡ Err (ChangeRefusal.Full f) → IsFull self.new.index.now.usage self.new.index.now.version f }
+        ensures cause { (f : _) (base es : List Entry) → result ≡ Err (ChangeRefusal.Full f) → Works self.old base es
+            → FullCause self.new.index.now self.new.root key.now 1 base es }
+        ensures version { self.new.index.now.version ≡ self.old.index.now.version }
+    {
+        deletion::delete(self.index, &mut self.root, key)
     }
 
     /// Makes the working set the next version; where there is none, the base stays.
