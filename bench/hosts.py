@@ -2,8 +2,8 @@
 """Writes a job: a zone of N address records in random order, and a script that asks for one of them.
 
 Usage: hosts.py N [SEED] [COMMANDS]
-COMMANDS is `one` (one question, the default), `blocks` (10,000 blocks of one new address) or
-`block` (one block of 10,000 new addresses).
+COMMANDS is `one` (one question, the default), `questions` (10,000 of them), `blocks` (10,000 blocks of
+one new address) or `block` (one block of 10,000 new addresses).
 """
 import random
 import sys
@@ -20,11 +20,14 @@ def zone(count, seed):
         yield f"n{host} A 10.{host >> 16 & 255}.{host >> 8 & 255}.{host & 255}"
 
 
-def script(commands):
+def script(commands, count):
     yield "%%"
     yield "worker"
     if commands == "one":
         yield "get n7 A"
+    elif commands == "questions":
+        for question in range(10_000):
+            yield f"get n{question * 7919 % count} A"
     elif commands == "blocks":
         for host in range(10_000):
             yield from ("write", f"add m{host} 300 A 192.0.2.7", "commit")
@@ -44,7 +47,7 @@ def main():
     commands = sys.argv[3] if len(sys.argv) > 3 else "one"
     for line in zone(int(sys.argv[1]), seed):
         print(line)
-    for line in script(commands):
+    for line in script(commands, int(sys.argv[1])):
         print(line)
 
 

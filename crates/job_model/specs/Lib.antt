@@ -1,4 +1,4 @@
-pub mod Answers
+pub mod Sizes
 pub mod Jobs
 pub mod Outcomes
 pub mod Reports

@@ -5,9 +5,11 @@ use Rattle.std.specs.Fmt.{decimal}
 use Rattle.zone_model.specs.Names.{Name}
 use Rattle.zone_model.specs.Rows.{row_text}
 use Rattle.zone_model.specs.Versions.{Version}
-use Rattle.job_model.specs.Answers.{Answer, Kind, Answered, Nodata, Nxdomain, Outside, answer}
+use Rattle.zone_answer.specs.Answers.{Answer, answer}
+use Rattle.zone_answer.specs.declared.kind.Kind.{Kind}
+use Rattle.zone_answer.specs.declared.kind.Kind.TheVariants.{Answered, Nodata, Nxdomain, Referral, Outside}
 use Rattle.job_model.specs.Jobs.{Command, Get, Block}
-use Rattle.job_model.specs.Outcomes.{Ended, Shown, Committed, RolledBack, Refused, Outcome, Pair, all_pairs, version_at}
+use Rattle.job_model.specs.Outcomes.{Cause, Rule, Full, Spent, Ended, Shown, Committed, RolledBack, Refused, Outcome, Pair, all_pairs, version_at}
 use Rattle.zone_model.specs.declared.Refusal.{Refusal}
 use Rattle.zone_model.specs.declared.Refusal.TheVariants.{Soa, Cname, Long}
 
@@ -15,6 +17,7 @@ abbrev pub kind_text : Kind → List ℕ
 kind_text Answered = codes "ANSWER"
 kind_text Nodata = codes "NODATA"
 kind_text Nxdomain = codes "NXDOMAIN"
+kind_text Referral = codes "REFERRAL"
 kind_text Outside = codes "OUTSIDE"
 
 -- a count stands only where it isn't 0
@@ -28,10 +31,16 @@ answer_text a = kind_text a.kind ++ count_text (length a.rows) ++ codes "\n" ++ 
 abbrev pub head_text : ℕ → ℕ → ℕ → List ℕ
 head_text worker command version = decimal worker ++ codes "." ++ decimal command ++ codes " v" ++ decimal version ++ codes " "
 
-abbrev pub cause_text : Refusal → List ℕ
-cause_text Soa = codes "soa"
-cause_text Cname = codes "cname"
-cause_text Long = codes "long"
+abbrev pub rule_text : Refusal → List ℕ
+rule_text Soa = codes "soa"
+rule_text Cname = codes "cname"
+rule_text Long = codes "long"
+
+-- for want of room the number of the operation and the kept versions
+abbrev pub cause_text : Cause → List ℕ
+cause_text (Rule refusal) = rule_text refusal
+cause_text (Full operation kept) = codes "full at " ++ decimal operation ++ codes " kept" ++ flat_map (λ v. codes " " ++ decimal v) kept
+cause_text Spent = codes "spent"
 
 abbrev pub ended_text : Ended → List ℕ
 ended_text Shown = []

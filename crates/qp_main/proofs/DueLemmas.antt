@@ -61,7 +61,7 @@ answers_as chunks q r s text e h = subst (λ (x : Result Job JobRefusal). Answer
 
 -- the answers of a job that is read
 pub job_answers : (chunks : ℕ) (origin : Name) (bytes : List ℕ) (zone : Version) (workers : List (List Command)) → zone_of origin (zone_lines bytes) ≡ Ok zone → script_of origin (script_start bytes) (script_lines bytes) ≡ Ok workers
-    → (s : Status) (text : List ℕ) → IfFits (fits chunks zone) chunks zone (Reported (record { origin = origin; zone = zone; workers = workers })) s text → Answers chunks (job_of origin bytes) s text
+    → (s : Status) (text : List ℕ) → IfFits (fits chunks zone) chunks zone (Reported chunks (record { origin = origin; zone = zone; workers = workers })) s text → Answers chunks (job_of origin bytes) s text
 job_answers chunks origin bytes zone workers z w s text h = answers_as chunks (job_of origin bytes) (Ok (record { origin = origin; zone = zone; workers = workers })) s text (whole_job origin bytes zone workers z w) h
 
 -- a script that is refused
@@ -96,15 +96,15 @@ if_fits_answers : (b : Bool) (chunks : ℕ) (zone : Version) (F : Status → Lis
 if_fits_answers true chunks zone F s text f h = f h
 if_fits_answers false chunks zone F s text f h = answer_as s status.DoesNotFit h.0 tt
 
-reported_answers : (job : Job) (s : Status) (text : List ℕ) → Reported job s text → IsAnswer s
-reported_answers job s text h = answer_as s (cond (some_refused h.workers) status.SomeRefused status.Done) h.ended (by_refused (some_refused h.workers))
+reported_answers : (chunks : ℕ) (job : Job) (s : Status) (text : List ℕ) → Reported chunks job s text → IsAnswer s
+reported_answers chunks job s text h = answer_as s (cond (some_refused h.workers) status.SomeRefused status.Done) h.ended (by_refused (some_refused h.workers))
   where
     by_refused : (b : Bool) → IsAnswer (cond b status.SomeRefused status.Done)
     by_refused true = tt
     by_refused false = tt
 
 job_answer : (chunks : ℕ) (r : Result Job JobRefusal) (s : Status) (text : List ℕ) → Answers chunks r s text → IsAnswer s
-job_answer chunks (Ok job) s text h = if_fits_answers (fits chunks job.zone) chunks job.zone (Reported job) s text (reported_answers job s text) h
+job_answer chunks (Ok job) s text h = if_fits_answers (fits chunks job.zone) chunks job.zone (Reported chunks job) s text (reported_answers chunks job s text) h
 job_answer chunks (Err (ZoneRefused e)) s text h = answer_as s status.ZoneRefused h.0 tt
 job_answer chunks (Err (ScriptRefused e)) s text h = answer_as s status.ScriptRefused h.0 tt
 

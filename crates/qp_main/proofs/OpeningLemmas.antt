@@ -16,8 +16,8 @@ use Rattle.std.specs.Cmp.{ranked}
 use Rattle.zone_model.proofs.KeyLaws.{key_cmp-key_of}
 use Rattle.trie_model.specs.Keys.{at, Less, InList, Rises}
 use Rattle.trie_model.specs.Keys.{Entry as TrieEntry}
-use Rattle.qp_main.specs.Fits.{trie_entries}
-use Rattle.qp_main.specs.Openings.{AreNames}
+use Rattle.zone_answer.specs.Standing.{IsStorable}
+use Rattle.job_model.specs.Sizes.{trie_entries}
 
 -- ---- what stands behind the owner
 
@@ -71,14 +71,17 @@ key_less [] (y ∷ ys) h = by_first [] (y ∷ ys) [] ys 0 y refl refl (λ i. ref
 key_less (x ∷ xs) [] h = by_first (x ∷ xs) [] xs [] x 0 refl refl (λ i. refl) (λ i. refl) (key_less xs []) h
 key_less (x ∷ xs) (y ∷ ys) h = by_first (x ∷ xs) (y ∷ ys) xs ys x y refl refl (λ i. refl) (λ i. refl) (key_less xs ys) h
 
-below_all : (name : Name) → IsName name → (pairs : Version) → AllByRecursion (λ y. name_cmp name y ≡ order.Less) (keys_of pairs) → AreNames pairs → (e : TrieEntry) → InList e (trie_entries pairs) → Less (key_of name) e.key
+below_all : (name : Name) → IsName name → (pairs : Version) → AllByRecursion (λ y. name_cmp name y ≡ order.Less) (keys_of pairs) → AllByRecursion IsStorable pairs → (e : TrieEntry) → InList e (trie_entries pairs) → Less (key_of name) e.key
 below_all name is [] above names e i = absurd i
 below_all name is (pair ∷ pairs) above names e i = elim i [
-  | inl s ↦ subst (λ (x : TrieEntry). Less (key_of name) x.key) (sym s) (key_less (key_of name) (key_of pair.0) (key_cmp-key_of name pair.0 is.each names.0.each ∙ above.0))
+  | inl s ↦ subst (λ (x : TrieEntry). Less (key_of name) x.key) (sym s) (key_less (key_of name) (key_of pair.0) (key_cmp-key_of name pair.0 is.each names.0.name.each ∙ above.0))
   | inr r ↦ below_all name is pairs above.1 names.1 e r
 ]
 
-pub entries_rise : (pairs : Version) → IsStrictlySortedBy name_cmp (keys_of pairs) → AreNames pairs → Rises (trie_entries pairs)
+pub entries_rise : (pairs : Version) → IsStrictlySortedBy name_cmp (keys_of pairs) → AllByRecursion IsStorable pairs → Rises (trie_entries pairs)
 unfolding IsStrictlySortedBy
 entries_rise [] sorted names = tt
-entries_rise (pair ∷ pairs) sorted names = (below_all pair.0 names.0 pairs sorted.0 names.1, entries_rise pairs sorted.1 names.1)
+entries_rise (pair ∷ pairs) sorted names = (below_all pair.0 names.0.name pairs sorted.0 names.1, entries_rise pairs sorted.1 names.1)
+
+pub storable : (name : Name) (entry : Entry) (bytes : List ℕ) → IsItem bytes name entry → IsStorable (name, entry)
+storable name entry bytes is = subst (λ (x : List ℕ). IsItem x name entry) is.octets is

@@ -1,13 +1,19 @@
 -- A run goes on by one command.
-use Rattle.std.proofs.Common.{◌≡◌, ℕ, zero, suc, ◌+◌, ◌-◌, ◌<◌, ◌≤◌, Bool, true, false, cond, ◌&&◌, ◌||◌, eqb, List, [], ◌∷◌, ◌++◌, length, map, sym, ap, ◌∙◌, subst, refl, arith, append_assoc, append-nil, Result, Ok, Err, inl, inr, IsOk, get_or, take}
+use Rattle.std.proofs.Common.{◌≡◌, ℕ, zero, suc, ◌+◌, ◌-◌, ◌/◌, ◌<◌, ◌≤◌, Bool, true, false, cond, ◌&&◌, ◌||◌, eqb, List, [], ◌∷◌, ◌++◌, length, map, sym, ap, ◌∙◌, subst, refl, arith, append_assoc, append-nil, Result, Ok, Err, inl, inr, IsOk, get_or, take}
 use Rattle.std.proofs.lemmas.Bool.{cases_eq}
 use Rattle.std.proofs.lemmas.List.{map-append, length-map, map_more, length-take-le}
 use Rattle.std.specs.List.{AllByRecursion, list_any}
+use Rattle.std.specs.List.Sorted.{IsStrictlySortedBy}
+use Rattle.std.specs.Ordering.{nat_cmp}
+use Rattle.std.specs.Cmp.{ranked}
+use Rattle.std.specs.declared.cmp.Ordering.TheVariants.{Less}
 use Rattle.zone_model.specs.Names.{Name}
 use Rattle.zone_model.specs.Versions.{Version, Operation, whole}
 use Rattle.job_model.specs.Jobs.{Command, Get, Block}
-use Rattle.job_model.specs.Answers.{answer}
-use Rattle.job_model.specs.Outcomes.{Outcome, Ended, Shown, Committed, RolledBack, Refused, is_committed, is_refused, made, operations_of, operations_at, accepted_or, after, times_made, version_at, EndsLawfully, Along, all_pairs}
+use Rattle.zone_answer.specs.Answers.{answer}
+use Rattle.job_model.specs.Sizes.{cell_count, trie_entries}
+use Rattle.zone_answer.specs.Standing.{trie_entry}
+use Rattle.job_model.specs.Outcomes.{Outcome, Cause, Rule, Full, Spent, Causes, cells_kept, Ended, Shown, Committed, RolledBack, Refused, is_committed, is_refused, made, operations_of, operations_at, accepted_or, after, times_made, version_at, EndsLawfully, Along, all_pairs}
 use Rattle.job_model.specs.Reports.{head_text, command_text, worker_text, workers_text, answer_text, ended_text}
 use Rattle.zone_model.specs.declared.Refusal.{Refusal}
 use Rattle.job_model.specs.declared.Ending.{Ending}
@@ -15,7 +21,8 @@ use Rattle.job_model.specs.declared.Ending.TheVariants.{Commit}
 use Rattle.job_model.specs.declared.Weight.{Weight}
 use Rattle.std.specs.Fmt.{decimal}
 use Rattle.std.specs.Prelude.{codes}
-use Rattle.qp_main.specs.Runs.{Ran, Stepped, StepEnds}
+use Rattle.qp_main.specs.Runs.{Ran, Stepped, StepEnds, worker_passes}
+use Rattle.qp_main.specs.Transactions.{KeptAlone}
 use Rattle.qp_main.specs.Due.{Reported}
 use Rattle.qp_main.specs.declared.status.Status.{Status}
 use Rattle.qp_main.specs.declared.status.Status.TheVariants as status
@@ -75,18 +82,84 @@ worker_text-push origin set c (q ∷ qs) p =
     ∙ sym (append_assoc (head_text 1 c q.1.version ++ command_text origin set q.0 q.1) (worker_text origin set 1 (c + 1) qs) (head_text 1 ((c + 1) + length qs) p.1.version ++ command_text origin set p.0 p.1))
     ∙ ap (λ (k : ℕ). (head_text 1 c q.1.version ++ command_text origin set q.0 q.1 ++ worker_text origin set 1 (c + 1) qs) ++ (head_text 1 k p.1.version ++ command_text origin set p.0 p.1)) n
 
-ends_alike : (origin : Name) (set other : ℕ → Version) (last seen v : ℕ) (c : Command) (e : Ended) → Agree set other last → v ≤ last → EndsLawfully origin set seen c v e → EndsLawfully origin other seen c v e
-ends_alike origin set other last seen v (Get name rtype) Shown a h l = l
-ends_alike origin set other last seen v (Get name rtype) Committed a h l = l
-ends_alike origin set other last seen v (Get name rtype) RolledBack a h l = l
-ends_alike origin set other last seen v (Get name rtype) (Refused cause) a h l = l
-ends_alike origin set other last seen v (Block how operations ending) Shown a h l = l
-ends_alike origin set other last seen v (Block how operations ending) Committed a h l =
+-- ---- causes of refusals on versions that agree
+
+last_of : {X : Type 0} (P : X → Type 0) (xs : List X) (x : X) → AllByRecursion P (xs ++ x ∷ []) → P x
+last_of P [] x a = a.0
+last_of P (y ∷ xs) x a = last_of P xs x a.1
+
+within_base : (older : List ℕ) (base : ℕ) → IsStrictlySortedBy nat_cmp (older ++ base ∷ []) → AllByRecursion (λ v. v ≤ base) (older ++ base ∷ [])
+unfolding IsStrictlySortedBy
+within_base [] base rising = (omega arith, tt)
+within_base (v ∷ older) base rising =
+    let lt : v < base = ranked v base Less (sym (last_of (λ (y : ℕ). nat_cmp v y ≡ Less) older base rising.0)) in
+    (omega arith, within_base older base rising.1)
+
+cells_alike : (set other : ℕ → Version) (last base : ℕ) (kept : List ℕ) → Agree set other last → base ≤ last → AllByRecursion (λ v. v ≤ base) kept → cells_kept other kept ≡ cells_kept set kept
+cells_alike set other last base [] a h w = refl
+cells_alike set other last base (v ∷ kept) a h w =
+    let le : v ≤ last = omega (arith, w.0) in
+    ap (λ (x : Version). cell_count x + cells_kept other kept) (a v le) ∙ ap (λ (n : ℕ). cell_count (set v) + n) (cells_alike set other last base kept a h w.1)
+
+causes_alike : (chunks : ℕ) (origin : Name) (operations : List Operation) (ending : Ending) (set other : ℕ → Version) (last base : ℕ) (c : Cause) → Agree set other last → base ≤ last → Causes chunks worker_passes origin operations ending set base c → Causes chunks worker_passes origin operations ending other base c
+causes_alike chunks origin operations ending set other last base (Rule refusal) a h l = ap (whole origin operations) (a base h) ∙ l
+causes_alike chunks origin operations ending set other last base (Full operation kept) a h l =
+    let within : AllByRecursion (λ v. v ≤ base) kept = subst (AllByRecursion (λ v. v ≤ base)) (sym l.base_last) (within_base l.older base (subst (IsStrictlySortedBy nat_cmp) l.base_last l.rising)) in
+    record {
+      front = l.front;
+      refused = l.refused;
+      back = l.back;
+      all = l.all;
+      number = l.number;
+      working = l.working;
+      before = ap (whole origin l.front) (a base h) ∙ l.before;
+      next = l.next;
+      accepted = l.accepted;
+      changes = l.changes;
+      older = l.older;
+      base_last = l.base_last;
+      rising = l.rising;
+      few = l.few;
+      full = subst (λ (n : ℕ). chunks - chunks / 4 - 2 ≤ cell_count l.working + n) (sym (cells_alike set other last base kept a h within)) l.full;
+    }
+causes_alike chunks origin operations ending set other last base Spent a h l = (l.0, l.1, subst (λ (w : Version). IsOk (whole origin operations w)) (sym (a base h)) l.2)
+
+-- the cause on a base that is known, of which alone a version is kept
+causes_on : (chunks : ℕ) (origin : Name) (operations : List Operation) (ending : Ending) (set : ℕ → Version) (old : Version) (last : ℕ) (c : Cause) → set last ≡ old → KeptAlone last c → Causes chunks worker_passes origin operations ending (λ _. old) last c → Causes chunks worker_passes origin operations ending set last c
+causes_on chunks origin operations ending set old last (Rule refusal) e alone l = ap (whole origin operations) e ∙ l
+causes_on chunks origin operations ending set old last (Full operation kept) e alone l =
+    let cells : cells_kept (λ _. old) kept ≡ cells_kept set kept = ap (cells_kept (λ _. old)) alone ∙ ap (λ (v : Version). cell_count v + 0) (sym e) ∙ sym (ap (cells_kept set) alone) in
+    record {
+      front = l.front;
+      refused = l.refused;
+      back = l.back;
+      all = l.all;
+      number = l.number;
+      working = l.working;
+      before = ap (whole origin l.front) e ∙ l.before;
+      next = l.next;
+      accepted = l.accepted;
+      changes = l.changes;
+      older = l.older;
+      base_last = l.base_last;
+      rising = l.rising;
+      few = l.few;
+      full = subst (λ (n : ℕ). chunks - chunks / 4 - 2 ≤ cell_count l.working + n) cells l.full;
+    }
+causes_on chunks origin operations ending set old last Spent e alone l = (l.0, l.1, subst (λ (w : Version). IsOk (whole origin operations w)) (sym e) l.2)
+
+ends_alike : (chunks : ℕ) (origin : Name) (set other : ℕ → Version) (last seen v : ℕ) (c : Command) (e : Ended) → Agree set other last → v ≤ last → EndsLawfully chunks worker_passes origin set seen c v e → EndsLawfully chunks worker_passes origin other seen c v e
+ends_alike chunks origin set other last seen v (Get name rtype) Shown a h l = l
+ends_alike chunks origin set other last seen v (Get name rtype) Committed a h l = l
+ends_alike chunks origin set other last seen v (Get name rtype) RolledBack a h l = l
+ends_alike chunks origin set other last seen v (Get name rtype) (Refused cause) a h l = l
+ends_alike chunks origin set other last seen v (Block how operations ending) Shown a h l = l
+ends_alike chunks origin set other last seen v (Block how operations ending) Committed a h l =
     let le : v - 1 ≤ last = omega arith in
     (l.0, l.1, subst (λ (w : Version). IsOk (whole origin operations w)) (sym (a (v - 1) le)) l.2)
-ends_alike origin set other last seen v (Block how operations ending) RolledBack a h l =
+ends_alike chunks origin set other last seen v (Block how operations ending) RolledBack a h l =
     (l.0, l.1, subst (λ (w : Version). IsOk (whole origin operations w)) (sym (a v h)) l.2)
-ends_alike origin set other last seen v (Block how operations ending) (Refused cause) a h l = (l.0, ap (whole origin operations) (a v h) ∙ l.1)
+ends_alike chunks origin set other last seen v (Block how operations ending) (Refused cause) a h l = (l.0, causes_alike chunks origin operations ending set other last v cause a h l.1)
 
 -- what the worker has seen in the end
 abbrev seen_after : ℕ → Pairs → ℕ
@@ -97,10 +170,10 @@ seen_within : (last seen : ℕ) (pairs : Pairs) → seen ≤ last → Within las
 seen_within last seen [] h w = h
 seen_within last seen (p ∷ ps) h w = seen_within last p.1.version ps w.0 w.1
 
-along_push : (origin : Name) (set other : ℕ → Version) (last seen : ℕ) (pairs : Pairs) (p : Command × Outcome) → Agree set other last → Within last pairs → Along origin set seen pairs
-    → EndsLawfully origin other (seen_after seen pairs) p.0 p.1.version p.1.ended → Along origin other seen (pairs ++ p ∷ [])
-along_push origin set other last seen [] p a w l e = (e, tt)
-along_push origin set other last seen (q ∷ qs) p a w l e = (ends_alike origin set other last seen q.1.version q.0 q.1.ended a w.0 l.0, along_push origin set other last q.1.version qs p a w.1 l.1 e)
+along_push : (chunks : ℕ) (origin : Name) (set other : ℕ → Version) (last seen : ℕ) (pairs : Pairs) (p : Command × Outcome) → Agree set other last → Within last pairs → Along chunks worker_passes origin set seen pairs
+    → EndsLawfully chunks worker_passes origin other (seen_after seen pairs) p.0 p.1.version p.1.ended → Along chunks worker_passes origin other seen (pairs ++ p ∷ [])
+along_push chunks origin set other last seen [] p a w l e = (e, tt)
+along_push chunks origin set other last seen (q ∷ qs) p a w l e = (ends_alike chunks origin set other last seen q.1.version q.0 q.1.ended a w.0 l.0, along_push chunks origin set other last q.1.version qs p a w.1 l.1 e)
 
 within_more : (last next : ℕ) (pairs : Pairs) (p : Command × Outcome) → Within last pairs → last ≤ next → p.1.version ≤ next → Within next (pairs ++ p ∷ [])
 within_more last next [] p w h k = (k, tt)
@@ -147,11 +220,11 @@ grown_text origin zone before mid now last pairs p n agree w long m e =
     ∙ ap (λ (t : List ℕ). before ++ t) (sym (worker_text-push origin (version_at origin zone (pairs ++ p ∷ [])) 1 pairs p))
 
 -- a command that makes no version
-ran_same : (origin : Name) (zone : Version) (commands : List Command) (before mid now : List ℕ) (last : ℕ) (version : Version) (refused : Bool) (command : Command) (o : Outcome) (r : Ran origin zone commands before mid last version refused)
-    → is_committed o.ended ≡ false → o.version ≡ last → EndsLawfully origin (version_at origin zone r.pairs) (seen_after 0 r.pairs) command o.version o.ended
+ran_same : (chunks : ℕ) (origin : Name) (zone : Version) (commands : List Command) (before mid now : List ℕ) (last : ℕ) (version : Version) (refused : Bool) (command : Command) (o : Outcome) (r : Ran chunks origin zone commands before mid last version refused)
+    → is_committed o.ended ≡ false → o.version ≡ last → EndsLawfully chunks worker_passes origin (version_at origin zone r.pairs) (seen_after 0 r.pairs) command o.version o.ended
     → now ≡ mid ++ (head_text 1 (length commands + 1) o.version ++ command_text origin (version_at origin zone r.pairs) command o)
-    → Ran origin zone (commands ++ command ∷ []) before now last version (refused || is_refused o.ended)
-ran_same origin zone commands before mid now last version refused command o r plain here ends text =
+    → Ran chunks origin zone (commands ++ command ∷ []) before now last version (refused || is_refused o.ended)
+ran_same chunks origin zone commands before mid now last version refused command o r plain here ends text =
     let p : Command × Outcome = (command, o) in
     let unmade : (j : ℕ) → made j (command, o) ≡ false = λ j. ap (λ (b : Bool). b && eqb o.version j) plain in
     let agree = set_of origin zone r.pairs last (command, o) (λ i h. unmade i) in
@@ -162,7 +235,7 @@ ran_same origin zone commands before mid now last version refused command o r pl
       same = map-append (λ (q : Command × Outcome). q.0) r.pairs ((command, o) ∷ []) ∙ ap (λ (l : List Command). l ++ command ∷ []) r.same;
       once = λ j h k. count-push j r.pairs (command, o) ∙ ap (λ (b : Bool). times_made j r.pairs + cond b 1 0) (unmade j) ∙ (let e : times_made j r.pairs + 0 ≡ times_made j r.pairs = omega arith in e) ∙ r.once j h k;
       none_above = let refl_le : last ≤ last = omega arith in within_more last last r.pairs (command, o) r.none_above refl_le le;
-      along = along_push origin (version_at origin zone r.pairs) (version_at origin zone (r.pairs ++ (command, o) ∷ [])) last 0 r.pairs (command, o) agree r.none_above r.along (ends_alike origin (version_at origin zone r.pairs) (version_at origin zone (r.pairs ++ (command, o) ∷ [])) last (seen_after 0 r.pairs) o.version command o.ended agree le ends);
+      along = along_push chunks origin (version_at origin zone r.pairs) (version_at origin zone (r.pairs ++ (command, o) ∷ [])) last 0 r.pairs (command, o) agree r.none_above r.along (ends_alike chunks origin (version_at origin zone r.pairs) (version_at origin zone (r.pairs ++ (command, o) ∷ [])) last (seen_after 0 r.pairs) o.version command o.ended agree le ends);
       text = grown_text origin zone before mid now last r.pairs (command, o) (length commands) agree r.none_above long r.text (text ∙ ap (λ (t : List ℕ). mid ++ (head_text 1 (length commands + 1) o.version ++ t)) (sym (text_alike origin (version_at origin zone r.pairs) (version_at origin zone (r.pairs ++ (command, o) ∷ [])) last agree command o le)));
       current = r.current ∙ (let refl_le : last ≤ last = omega arith in sym (agree last refl_le));
       some = ap (λ (b : Bool). b || is_refused o.ended) r.some ∙ sym (some-push r.pairs (command, o));
@@ -186,10 +259,10 @@ counted_next last pairs p w below here once j h k =
     ]
 
 -- a block that makes the next version
-ran_next : (origin : Name) (zone : Version) (commands : List Command) (before mid now : List ℕ) (last : ℕ) (old new : Version) (how : Weight) (operations : List Operation) (refused : Bool) (r : Ran origin zone commands before mid last old refused)
+ran_next : (chunks : ℕ) (origin : Name) (zone : Version) (commands : List Command) (before mid now : List ℕ) (last : ℕ) (old new : Version) (how : Weight) (operations : List Operation) (refused : Bool) (r : Ran chunks origin zone commands before mid last old refused)
     → whole origin operations old ≡ Ok new → now ≡ mid ++ (head_text 1 (length commands + 1) (suc last) ++ command_text origin (λ _. old) (Block how operations Commit) (record { version = suc last; ended = Committed }))
-    → Ran origin zone (commands ++ Block how operations Commit ∷ []) before now (suc last) new (refused || false)
-ran_next origin zone commands before mid now last old new how operations refused r ends text =
+    → Ran chunks origin zone (commands ++ Block how operations Commit ∷ []) before now (suc last) new (refused || false)
+ran_next chunks origin zone commands before mid now last old new how operations refused r ends text =
     let o : Outcome = record { version = suc last; ended = Committed } in
     let p : Command × Outcome = (Block how operations Commit, record { version = suc last; ended = Committed }) in
     let below : (i : ℕ) → i ≤ last → made i p ≡ false = λ i h. not_made i p (λ e. omega arith) in
@@ -207,7 +280,7 @@ ran_next origin zone commands before mid now last old new how operations refused
       same = map-append (λ (q : Command × Outcome). q.0) r.pairs (p ∷ []) ∙ ap (λ (l : List Command). l ++ Block how operations Commit ∷ []) r.same;
       once = λ j h k. count-push j r.pairs p ∙ counted_next last r.pairs p r.none_above below here r.once j h k;
       none_above = within_more last (suc last) r.pairs p r.none_above le same_le;
-      along = along_push origin (version_at origin zone r.pairs) (version_at origin zone (r.pairs ++ p ∷ [])) last 0 r.pairs p agree r.none_above r.along (
+      along = along_push chunks origin (version_at origin zone r.pairs) (version_at origin zone (r.pairs ++ p ∷ [])) last 0 r.pairs p agree r.none_above r.along (
         refl,
         (let z : 0 ≤ last = omega arith in let s = seen_within last 0 r.pairs z r.none_above in let lt : seen_after 0 r.pairs < suc last = omega arith in lt),
         subst (λ (k : ℕ). IsOk (whole origin operations (version_at origin zone (r.pairs ++ p ∷ []) k))) (sym one) (ok_from _ _ accepted),
@@ -217,10 +290,10 @@ ran_next origin zone commands before mid now last old new how operations refused
       some = ap (λ (b : Bool). b || false) r.some ∙ sym (some-push r.pairs p);
     }
 
-pub ran_more : (origin : Name) (zone : Version) (commands : List Command) (command : Command) (before mid now : List ℕ) (last next : ℕ) (old new : Version) (refused here : Bool)
-    → Ran origin zone commands before mid last old refused → Stepped origin command (length commands + 1) last next old new mid now here → Ran origin zone (commands ++ command ∷ []) before now next new (refused || here)
-ran_more origin zone commands command before mid now last next old new refused here r s =
-    subst (λ (b : Bool). Ran origin zone (commands ++ command ∷ []) before now next new (refused || b)) (sym s.some) (go command s.ended s.ends s.text)
+pub ran_more : (chunks : ℕ) (origin : Name) (zone : Version) (commands : List Command) (command : Command) (before mid now : List ℕ) (last next : ℕ) (old new : Version) (refused here : Bool)
+    → Ran chunks origin zone commands before mid last old refused → Stepped chunks origin command (length commands + 1) last next old new mid now here → Ran chunks origin zone (commands ++ command ∷ []) before now next new (refused || here)
+ran_more chunks origin zone commands command before mid now last next old new refused here r s =
+    subst (λ (b : Bool). Ran chunks origin zone (commands ++ command ∷ []) before now next new (refused || b)) (sym s.some) (go command s.ended s.ends s.text)
   where
     seen_now : next ≡ last → seen_after 0 r.pairs ≤ next
     seen_now here =
@@ -231,14 +304,14 @@ ran_more origin zone commands command before mid now last next old new refused h
     set_now : next ≡ last → version_at origin zone r.pairs next ≡ old
     set_now here = ap (version_at origin zone r.pairs) here ∙ sym r.current
 
-    unchanged : (c : Command) (e : Ended) → next ≡ last → new ≡ old → is_committed e ≡ false → EndsLawfully origin (version_at origin zone r.pairs) (seen_after 0 r.pairs) c next e
-        → now ≡ mid ++ (head_text 1 (length commands + 1) next ++ command_text origin (version_at origin zone r.pairs) c (record { version = next; ended = e })) → Ran origin zone (commands ++ c ∷ []) before now next new (refused || is_refused e)
+    unchanged : (c : Command) (e : Ended) → next ≡ last → new ≡ old → is_committed e ≡ false → EndsLawfully chunks worker_passes origin (version_at origin zone r.pairs) (seen_after 0 r.pairs) c next e
+        → now ≡ mid ++ (head_text 1 (length commands + 1) next ++ command_text origin (version_at origin zone r.pairs) c (record { version = next; ended = e })) → Ran chunks origin zone (commands ++ c ∷ []) before now next new (refused || is_refused e)
     unchanged c e here same plain ends text =
-        subst (λ (n : ℕ). Ran origin zone (commands ++ c ∷ []) before now n new (refused || is_refused e)) (sym here)
-        (subst (λ (v : Version). Ran origin zone (commands ++ c ∷ []) before now last v (refused || is_refused e)) (sym same)
-        (ran_same origin zone commands before mid now last old refused c (record { version = next; ended = e }) r plain here ends text))
+        subst (λ (n : ℕ). Ran chunks origin zone (commands ++ c ∷ []) before now n new (refused || is_refused e)) (sym here)
+        (subst (λ (v : Version). Ran chunks origin zone (commands ++ c ∷ []) before now last v (refused || is_refused e)) (sym same)
+        (ran_same chunks origin zone commands before mid now last old refused c (record { version = next; ended = e }) r plain here ends text))
 
-    go : (c : Command) (e : Ended) → StepEnds origin c e last next old new → now ≡ mid ++ (head_text 1 (length commands + 1) next ++ command_text origin (λ _. old) c (record { version = next; ended = e })) → Ran origin zone (commands ++ c ∷ []) before now next new (refused || is_refused e)
+    go : (c : Command) (e : Ended) → StepEnds chunks origin c e last next old new → now ≡ mid ++ (head_text 1 (length commands + 1) next ++ command_text origin (λ _. old) c (record { version = next; ended = e })) → Ran chunks origin zone (commands ++ c ∷ []) before now next new (refused || is_refused e)
     go (Get name rtype) Shown ends text =
         unchanged (Get name rtype) Shown ends.0 ends.1 refl (seen_now ends.0)
         (text ∙ ap (λ (v : Version). mid ++ (head_text 1 (length commands + 1) next ++ answer_text (answer origin v name rtype))) (sym (set_now ends.0)))
@@ -248,27 +321,27 @@ ran_more origin zone commands command before mid now last next old new refused h
     go (Block how operations ending) Shown ends text = absurd ends
     go (Block how operations ending) Committed ends text =
         let here : next ≡ suc last = omega (arith, ends.1) in
-        subst (λ (n : ℕ). Ran origin zone (commands ++ Block how operations ending ∷ []) before now n new (refused || false)) (sym here)
-        (subst (λ (e : Ending). Ran origin zone (commands ++ Block how operations e ∷ []) before now (suc last) new (refused || false)) (sym ends.0)
-        (ran_next origin zone commands before mid now last old new how operations refused r ends.2
+        subst (λ (n : ℕ). Ran chunks origin zone (commands ++ Block how operations ending ∷ []) before now n new (refused || false)) (sym here)
+        (subst (λ (e : Ending). Ran chunks origin zone (commands ++ Block how operations e ∷ []) before now (suc last) new (refused || false)) (sym ends.0)
+        (ran_next chunks origin zone commands before mid now last old new how operations refused r ends.2
         (text ∙ ap (λ (n : ℕ). mid ++ (head_text 1 (length commands + 1) n ++ ended_text Committed)) here)))
     go (Block how operations ending) RolledBack ends text =
         unchanged (Block how operations ending) RolledBack ends.1 ends.2 refl
         (let le = seen_now ends.1 in (ends.0, le, subst (λ (v : Version). IsOk (whole origin operations v)) (sym (set_now ends.1)) ends.3)) text
     go (Block how operations ending) (Refused cause) ends text =
         unchanged (Block how operations ending) (Refused cause) ends.0 ends.1 refl
-        (let le = seen_now ends.0 in (le, ap (whole origin operations) (set_now ends.0) ∙ ends.2)) text
+        (let le = seen_now ends.0 in (le, subst (λ (n : ℕ). Causes chunks worker_passes origin operations ending (version_at origin zone r.pairs) n cause) (sym ends.0) (causes_on chunks origin operations ending (version_at origin zone r.pairs) old last cause (sym r.current) ends.3 ends.2))) text
 
 -- the same along a list of commands
-pub ran_index : {C : Type 0} (view : C → Command) (commands : List C) (i : ℕ) (here : C) (origin : Name) (zone : Version) (before mid now : List ℕ) (last next : ℕ) (old new : Version) (refused step : Bool)
-    → i < length commands → here ≡ get_or commands i here → Ran origin zone (map view (take i commands)) before mid last old refused → Stepped origin (view here) (i + 1) last next old new mid now step
-    → Ran origin zone (map view (take (i + 1) commands)) before now next new (refused || step)
-ran_index view commands i here origin zone before mid now last next old new refused step lt is r s =
+pub ran_index : {C : Type 0} (view : C → Command) (commands : List C) (i : ℕ) (here : C) (chunks : ℕ) (origin : Name) (zone : Version) (before mid now : List ℕ) (last next : ℕ) (old new : Version) (refused step : Bool)
+    → i < length commands → here ≡ get_or commands i here → Ran chunks origin zone (map view (take i commands)) before mid last old refused → Stepped chunks origin (view here) (i + 1) last next old new mid now step
+    → Ran chunks origin zone (map view (take (i + 1) commands)) before now next new (refused || step)
+ran_index view commands i here chunks origin zone before mid now last next old new refused step lt is r s =
     let le : i ≤ length commands = omega arith in
     let long : length (map view (take i commands)) ≡ i = length-map (take i commands) view ∙ length-take-le i commands le in
     let further : map view (take (i + 1) commands) ≡ map view (take i commands) ++ view here ∷ [] = map_more view commands i here lt ∙ ap (λ (x : _). map view (take i commands) ++ view x ∷ []) (sym is) in
-    let one : Stepped origin (view here) (length (map view (take i commands)) + 1) last next old new mid now step = subst (λ (n : ℕ). Stepped origin (view here) (n + 1) last next old new mid now step) (sym long) s in
-    subst (λ (l : List Command). Ran origin zone l before now next new (refused || step)) (sym further) (ran_more origin zone (map view (take i commands)) (view here) before mid now last next old new refused step r one)
+    let one : Stepped chunks origin (view here) (length (map view (take i commands)) + 1) last next old new mid now step = subst (λ (n : ℕ). Stepped chunks origin (view here) (n + 1) last next old new mid now step) (sym long) s in
+    subst (λ (l : List Command). Ran chunks origin zone l before now next new (refused || step)) (sym further) (ran_more chunks origin zone (map view (take i commands)) (view here) before mid now last next old new refused step r one)
 
 -- ---- the report of one worker
 
@@ -282,10 +355,10 @@ Told origin zone pairs last all = workers_text origin (version_at origin zone al
 abbrev pub status_of : Bool → Status
 status_of refused = cond refused status.SomeRefused status.Done
 
-pub reported : (origin : Name) (zone : Version) (commands : List Command) (now : List ℕ) (last : ℕ) (version : Version) (refused : Bool) (out : List ℕ) → Ran origin zone commands [] now last version refused
+pub reported : (chunks : ℕ) (origin : Name) (zone : Version) (commands : List Command) (now : List ℕ) (last : ℕ) (version : Version) (refused : Bool) (out : List ℕ) → Ran chunks origin zone commands [] now last version refused
     → out ≡ now ++ (codes "end v" ++ decimal last ++ codes " names " ++ decimal (length version) ++ codes "\n")
-    → Reported (record { origin = origin; zone = zone; workers = commands ∷ [] }) (status_of refused) out
-reported origin zone commands now last version refused out r f =
+    → Reported chunks (record { origin = origin; zone = zone; workers = commands ∷ [] }) (status_of refused) out
+reported chunks origin zone commands now last version refused out r f =
     let e : out ≡ now ++ codes "end v" ++ decimal last ++ codes " names " ++ decimal (length version) ++ codes "\n" = f ∙ simp append_assoc in
     let one = sym (all_one r.pairs) in
     record {
@@ -295,10 +368,22 @@ reported origin zone commands now last version refused out r f =
       lawful = record {
         once = λ j h k. subst (λ (all : Pairs). times_made j all ≡ 1) one (r.once j h k);
         none_above = subst (Within last) one r.none_above;
-        along = (subst (λ (all : Pairs). Along origin (version_at origin zone all) 0 r.pairs) one r.along, tt);
+        along = (subst (λ (all : Pairs). Along chunks worker_passes origin (version_at origin zone all) 0 r.pairs) one r.along, tt);
       };
       is = subst (λ (all : Pairs). out ≡ Told origin zone r.pairs last all) one
           (e ∙ ap (λ (t : List ℕ). t ++ codes "end v" ++ decimal last ++ codes " names " ++ decimal (length version) ++ codes "\n") (r.text ∙ sym (append-nil (worker_text origin (version_at origin zone r.pairs) 1 1 r.pairs)))
           ∙ ap (λ (v : Version). (worker_text origin (version_at origin zone r.pairs) 1 1 r.pairs ++ []) ++ codes "end v" ++ decimal last ++ codes " names " ++ decimal (length v) ++ codes "\n") r.current);
       ended = ap status_of (r.some ∙ ap (list_any (λ (q : Command × Outcome). is_refused q.1.ended)) one);
     }
+
+-- the text of a command: its head, and what it gave
+pub said : (out mid now tail : List ℕ) (number shown next : ℕ) → mid ≡ out ++ head_text 1 number shown → shown ≡ next → now ≡ mid ++ tail → now ≡ out ++ (head_text 1 number next ++ tail)
+said out mid now tail number shown next head is rest =
+    rest ∙ ap (λ (l : List ℕ). l ++ tail) (head ∙ ap (λ (n : ℕ). out ++ head_text 1 number n) is) ∙ append_assoc out (head_text 1 number next) tail
+
+-- the last line, by the numbers that it says
+pub ended : (mid now : List ℕ) (shown last count : ℕ) (version : Version) → now ≡ mid ++ (codes "end v" ++ decimal shown ++ codes " names " ++ decimal count ++ codes "\n") → shown ≡ last → count ≡ length (trie_entries version)
+    → now ≡ mid ++ (codes "end v" ++ decimal last ++ codes " names " ++ decimal (length version) ++ codes "\n")
+ended mid now shown last count version e is many =
+    e ∙ ap (λ (n : ℕ). mid ++ (codes "end v" ++ decimal n ++ codes " names " ++ decimal count ++ codes "\n")) is
+    ∙ ap (λ (n : ℕ). mid ++ (codes "end v" ++ decimal last ++ codes " names " ++ decimal n ++ codes "\n")) (many ∙ length-map version trie_entry)

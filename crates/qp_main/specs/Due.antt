@@ -52,11 +52,11 @@ refusal_text what line kind = what ++ codes " refused line " ++ decimal line ++ 
 
 -- The answers of committed versions: the text is the report of the job's commands with some lawful outcomes, and the
 -- status says whether one of these is refused.
-pub record Reported (job : Job) (s : Status) (text : List ℕ) : Type 0 where
+pub record Reported (chunks : ℕ) (job : Job) (s : Status) (text : List ℕ) : Type 0 where
   pub workers : List (List Pair)
   pub last : ℕ
   pub same : map (map (λ pair. pair.0)) workers ≡ job.workers
-  pub lawful : Lawful job.origin job.zone workers last
+  pub lawful : Lawful chunks job.origin job.zone workers last
   pub is : text ≡ report job.origin job.zone workers last
   pub ended : s ≡ (if some_refused workers then status.SomeRefused else status.Done)
 
@@ -74,7 +74,7 @@ IfFits false chunks zone Fitting = Ends status.DoesNotFit (no_room_text chunks z
 
 -- the status and the text for the job that bytes say
 abbrev pub Answers : ℕ → Result Job JobRefusal → Status → List ℕ → Type 0
-Answers chunks (Ok job) = IfFits (fits chunks job.zone) chunks job.zone (Reported job)
+Answers chunks (Ok job) = IfFits (fits chunks job.zone) chunks job.zone (Reported chunks job)
 Answers chunks (Err (ZoneRefused e)) = ZoneRefuses e
 Answers chunks (Err (ScriptRefused e)) = Ends status.ScriptRefused (refusal_text (codes "script") e.line (script_kind_text e.kind))
 

@@ -4,28 +4,13 @@ use Rattle.std.specs.Fmt.{decimal}
 use Rattle.zone_model.specs.Names.{Name}
 use Rattle.zone_model.specs.Records.{Entry, item}
 use Rattle.zone_model.specs.Versions.{Version}
-use Rattle.zone_model.specs.Keys.{key_of}
+use Rattle.job_model.specs.Sizes.{cell_count, node_count}
 use Rattle.qp_multi.specs.Openings.{room_in}
-use Rattle.trie_model.specs.Keys as trie
-use Rattle.trie_model.specs.Shape.{nodes, keys_of, cells}
 
 -- what a name owns can be an item
 pub record Storable (pair : Name × Entry) : Type 0 where
   pub some : 0 < length pair.1
   pub short : length (item pair.0 pair.1) ≤ 4096
-
--- what the trie holds for a name: its key and its item
-abbrev pub trie_entry : Name × Entry → trie.Entry
-trie_entry pair = record { key = key_of pair.0; item = item pair.0 pair.1 }
-
-abbrev pub trie_entries : Version → List trie.Entry
-trie_entries version = map trie_entry version
-
-abbrev pub cell_count : Version → ℕ
-cell_count version = cells (trie_entries version)
-
-abbrev pub node_count : Version → ℕ
-node_count version = nodes (keys_of (trie_entries version))
 
 abbrev pub fits : ℕ → Version → Bool
 fits chunks version = nat_le (cell_count version) (room_in chunks)

@@ -1,4 +1,4 @@
-pub mod Steps
+pub mod Transactions
 pub mod Statuses
 pub mod Invocations
 pub mod Fits

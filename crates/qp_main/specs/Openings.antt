@@ -1,18 +1,35 @@
--- What it says whether a version fits.
+-- What it says whether a version fits, and an index that has one.
 use Rattle.std.specs.Prelude.{◌≡◌, ℕ, true, false}
-use Rattle.std.specs.List.{AllByRecursion}
-use Rattle.zone_model.specs.Names.{Name, IsName}
-use Rattle.zone_model.specs.Records.{Entry}
 use Rattle.zone_model.specs.Versions.{Version}
-use Rattle.qp_main.specs.Fits.{fits, cell_count, node_count}
+use Rattle.zone_answer.specs.Standing.{IsVersion}
+use Rattle.job_model.specs.Sizes.{trie_entries, cell_count}
 use Rattle.qp_multi.specs.Openings.{room_in}
+use Rattle.qp_multi.specs.Shows.{Shows, chunks_of}
+use Rattle.qp_multi.specs.declared.index.Index.{Index}
+use Rattle.qp_main.specs.Fits.{fits}
 use Rattle.qp_main.specs.declared.opening.Opening.{Opening}
 use Rattle.qp_main.specs.declared.opening.Opening.TheVariants.{Fits, DoesNotFit}
 
-abbrev pub Opens : ℕ → Version → Opening → Type 0
-Opens chunks version (Fits nodes) = (fits chunks version ≡ true) × (nodes ≡ node_count version)
-Opens chunks version (DoesNotFit cells limit) = (fits chunks version ≡ false) × (cells ≡ cell_count version) × (limit ≡ room_in chunks)
+-- the index's current version, by its number, and its chunks
+pub record Keeps (index : Index) (version : Version) (number chunks : ℕ) : Type 0 where
+  pub shows : Shows index (trie_entries version)
+  pub valid : IsVersion version
+  pub numbered : index.version ≡ number
+  pub size : chunks_of index ≡ chunks
 
--- each owner is a name
-abbrev pub AreNames : Version → Type 0
-AreNames = AllByRecursion (λ (pair : Name × Entry). IsName pair.0)
+-- it has some version
+pub record KeepsSome (index : Index) : Type 0 where
+  pub version : Version
+  pub number : ℕ
+  pub chunks : ℕ
+  pub keeps : Keeps index version number chunks
+
+-- its version is some zone, as it was opened
+pub record KeepsFirst (index : Index) : Type 0 where
+  pub zone : Version
+  pub chunks : ℕ
+  pub keeps : Keeps index zone 0 chunks
+
+abbrev pub Opens : ℕ → Version → Opening → Type 0
+Opens chunks version (Fits index) = (fits chunks version ≡ true) × Keeps index version 0 chunks
+Opens chunks version (DoesNotFit cells limit) = (fits chunks version ≡ false) × (cells ≡ cell_count version) × (limit ≡ room_in chunks)

@@ -10,7 +10,7 @@ mod opening;
 mod program;
 mod report;
 mod status;
-mod versions;
+mod transactions;
 mod worker;
 
 pub use gate::Gate;

@@ -40,13 +40,13 @@ fn run_script<G: Gate>(
     invocation: &Invocation,
     bytes: &[u8],
     parts: Parts,
-    version: &mut BTreeMap<OwnedName, Entry>,
+    version: BTreeMap<OwnedName, Entry>,
     gate: &G,
 ) -> Result<(Status, Vec<u8>), AllocError>
     requires short { length bytes.now ≤ 2 ^ 24 }
     requires cut { IsCutAt bytes.now parts }
-    requires zone { zone_of invocation.now.origin (zone_lines bytes.now) ≡ Ok version.old.entries }
-    requires storable { AllByRecursion Storable version.old.entries }
+    requires zone { zone_of invocation.now.origin (zone_lines bytes.now) ≡ Ok version.entries }
+    requires storable { AllByRecursion Storable version.entries }
     ensures { IfOk result (λ x. Answers invocation.now.chunks (job_of invocation.now.origin bytes.now) x.0 x.1.items) }
 {
     let origin = &invocation.origin;
@@ -61,7 +61,7 @@ fn run_script<G: Gate>(
         Err(ScriptRefusal::Memory) => return Err(AllocError),
     };
     match open(alloc, version, invocation.chunks)? {
-        Opening::Fits { nodes: _ } => report_job(alloc, origin, version, &commands, gate),
+        Opening::Fits(mut index) => report_job(alloc, origin, &mut index, &commands, gate),
         Opening::DoesNotFit { cells, limit } => {
             Ok((Status::DoesNotFit, no_room(alloc, cells, limit)?))
         }
@@ -72,18 +72,19 @@ fn run_script<G: Gate>(
 fn check_version(
     alloc: Global,
     chunks: u32,
-    version: &BTreeMap<OwnedName, Entry>,
+    version: BTreeMap<OwnedName, Entry>,
 ) -> Result<(Status, Vec<u8>), AllocError>
     requires enough { 16 ≤ chunks }
     requires few { chunks ≤ 4096 }
-    requires storable { AllByRecursion Storable version.now.entries }
-    ensures { IfOk result (λ x. Checks chunks (Ok version.now.entries) x.0 x.1.items) }
+    requires storable { AllByRecursion Storable version.entries }
+    ensures { IfOk result (λ x. Checks chunks (Ok version.entries) x.0 x.1.items) }
 {
     match open(alloc, version, chunks)? {
-        Opening::Fits { nodes } => Ok((
-            Status::Done,
-            size_line(alloc, version.len() as u64, nodes)?,
-        )),
+        Opening::Fits(index) => {
+            let query = index.query();
+            let line = size_line(alloc, query.count(), query.nodes())?;
+            Ok((Status::Done, line))
+        }
         Opening::DoesNotFit { cells, limit } => {
             Ok((Status::DoesNotFit, no_room(alloc, cells, limit)?))
         }
@@ -113,10 +114,10 @@ fn answer_parts<G: Gate>(
         }
         Err(ZoneRefusal::Memory) => return Err(AllocError),
     };
-    let mut version = zone.into_entries();
+    let version = zone.into_entries();
     match invocation.verb {
-        Verb::Run => run_script(alloc, invocation, bytes, parts, &mut version, gate),
-        Verb::Check => check_version(alloc, invocation.chunks, &version),
+        Verb::Run => run_script(alloc, invocation, bytes, parts, version, gate),
+        Verb::Check => check_version(alloc, invocation.chunks, version),
     }
 }
 

@@ -1,11 +1,17 @@
 // Lines of the report, and of refusals.
 ghost use Rattle.std.specs.Prelude.{◌≡◌, ◌<◌, ◌≤◌, ◌++◌, ◌∷◌, [], ℕ, List, length, OnOk, IfOk, codes, decimal};
-ghost use Rattle.job_model.specs.Reports.{head_text, ended_text};
-ghost use Rattle.job_model.specs.Outcomes.{Ended, Committed, RolledBack, Refused};
+ghost use Rattle.std.specs.List.{flat_map};
+ghost use Rattle.job_model.specs.Reports.{head_text, ended_text, cause_text, rule_text};
+ghost use Rattle.job_model.specs.Outcomes as outcomes;
+ghost use Rattle.job_model.specs.Outcomes.{Committed, RolledBack};
+ghost use Rattle.qp_multi.specs.Fulls.{kept_versions};
+ghost use Rattle.qp_main.specs.Transactions.{cause_view};
 ghost use Rattle.qp_main.specs.Due.{zone_kind_text, script_kind_text, refusal_text};
 
 use crate::answers::push_number;
+use crate::transactions::Cause;
 use job_model::ScriptKind;
+use qp_multi::Kept;
 use std::alloc::{AllocError, Global};
 use zone_model::{Refusal, ZoneKind};
 
@@ -40,15 +46,52 @@ pub fn push_rolled_back(out: &mut Vec<u8>) -> Result<(), AllocError>
     out.extend_from_slice(b"ROLLED BACK\n")
 }
 
-/// Pushes how a block ended that was refused.
-pub fn push_refused(out: &mut Vec<u8>, cause: Refusal) -> Result<(), AllocError>
-    ensures { OnOk result (out.new.items ≡ out.old.items ++ ended_text (Refused cause)) }
+fn push_rule(out: &mut Vec<u8>, refusal: Refusal) -> Result<(), AllocError>
+    ensures { OnOk result (out.new.items ≡ out.old.items ++ rule_text refusal) }
+{
+    match refusal {
+        Refusal::Soa => out.extend_from_slice(b"soa"),
+        Refusal::Cname => out.extend_from_slice(b"cname"),
+        Refusal::Long => out.extend_from_slice(b"long"),
+    }
+}
+
+fn push_kept(out: &mut Vec<u8>, kept: Kept) -> Result<(), AllocError>
+    ensures { OnOk result (out.new.items ≡ out.old.items ++ flat_map (λ v. codes " " ++ decimal v) (kept_versions kept)) }
+{
+    for i in 0..kept.len() {
+        out.extend_from_slice(b" ")?;
+        push_number(out, kept.at(i))?;
+    }
+    Ok(())
+}
+
+fn push_full(out: &mut Vec<u8>, operation: u64, kept: Kept) -> Result<(), AllocError>
+    ensures { OnOk result (out.new.items ≡ out.old.items ++ cause_text (outcomes.Full operation (kept_versions kept))) }
+{
+    out.extend_from_slice(b"full at ")?;
+    push_number(out, operation)?;
+    out.extend_from_slice(b" kept")?;
+    push_kept(out, kept)
+}
+
+fn push_cause(out: &mut Vec<u8>, cause: Cause) -> Result<(), AllocError>
+    ensures { OnOk result (out.new.items ≡ out.old.items ++ cause_text (cause_view cause)) }
 {
     match cause {
-        Refusal::Soa => out.extend_from_slice(b"REFUSED soa\n"),
-        Refusal::Cname => out.extend_from_slice(b"REFUSED cname\n"),
-        Refusal::Long => out.extend_from_slice(b"REFUSED long\n"),
+        Cause::Rule(refusal) => push_rule(out, refusal),
+        Cause::Full { operation, kept } => push_full(out, operation, kept),
+        Cause::Spent => out.extend_from_slice(b"spent"),
     }
+}
+
+/// Pushes how a block ended that was refused.
+pub fn push_refused(out: &mut Vec<u8>, cause: Cause) -> Result<(), AllocError>
+    ensures { OnOk result (out.new.items ≡ out.old.items ++ ended_text (outcomes.Refused (cause_view cause))) }
+{
+    out.extend_from_slice(b"REFUSED ")?;
+    push_cause(out, cause)?;
+    out.extend_from_slice(b"\n")
 }
 
 /// Pushes the last line: the last version, and how many names it has.

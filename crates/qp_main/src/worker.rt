@@ -1,66 +1,50 @@
 // A worker that runs its commands.
 ghost use Rattle.std.specs.Prelude.{◌≡◌, ◌<◌, ◌≤◌, ◌+◌, ◌^◌, ℕ, List, [], ◌∷◌, length, IfOk, map, ◌||◌, if◌then◌else◌};
-ghost use Rattle.qp_main.specs.Runs.{Ran, Stepped};
+ghost use Rattle.zone_model.specs.Versions.{Version};
+ghost use Rattle.job_model.specs.Jobs as jobs;
 ghost use Rattle.job_script.specs.Views.{block_view, command_view};
 ghost use Rattle.qp_main.specs.Due.{Reported};
-ghost use Rattle.job_model.specs.Jobs as jobs;
+ghost use Rattle.qp_main.specs.Openings.{Keeps, KeepsFirst, KeepsSome};
+ghost use Rattle.qp_main.specs.Runs.{RunsOn, StepsOn};
 
 use crate::answers::push_answer;
 use crate::gate::Gate;
 use crate::report::{push_committed, push_end, push_head, push_refused, push_rolled_back};
 use crate::status::Status;
-use crate::versions::{Transacted, transact};
-use dns_name::{Name, OwnedName};
+use crate::transactions::{Transacted, transact};
+use dns_name::Name;
 use job_script::{Block, Command};
-use rr_data::Entry;
+use qp_multi::Index;
 use std::alloc::{AllocError, Global};
-use std::collections::BTreeMap;
+use zone_answer::answer;
 
-/// The last version so far, and whether a block was refused.
-#[derive(Clone, Copy, Debug)]
-pub struct Progress {
-    pub last: u64,
-    pub refused: bool,
-}
-
-// Runs one block.
+// Runs one block. Answers whether it was refused.
 fn run_block(
     alloc: Global,
     origin: &Name,
-    version: &mut BTreeMap<OwnedName, Entry>,
+    index: &mut Index,
     block: &Block,
     number: u64,
-    last: u64,
     out: &mut Vec<u8>,
-) -> Result<Progress, AllocError>
-    requires { last < 2 ^ 63 }
-    ensures ran { IfOk result (λ p. Stepped origin.now (block_view block.now) number last p.last version.old.entries version.new.entries out.old.items out.new.items p.refused) }
-    ensures few { IfOk result (λ p. p.last ≤ last + 1) }
+) -> Result<bool, AllocError>
+    requires { KeepsSome index.old }
+    ensures { (version : Version) (last chunks : ℕ) → Keeps index.old version last chunks
+        → IfOk result (StepsOn chunks origin.now (block_view block.now) number last version index.new out.old.items out.new.items) }
 {
-    match transact(alloc, origin, version, block)? {
+    let transacted = transact(alloc, origin, index, block)?;
+    push_head(out, 1, number, index.query().version())?;
+    match transacted {
         Transacted::Committed => {
-            push_head(out, 1, number, last + 1)?;
             push_committed(out)?;
-            Ok(Progress {
-                last: last + 1,
-                refused: false,
-            })
+            Ok(false)
         }
         Transacted::RolledBack => {
-            push_head(out, 1, number, last)?;
             push_rolled_back(out)?;
-            Ok(Progress {
-                last,
-                refused: false,
-            })
+            Ok(false)
         }
         Transacted::Refused(cause) => {
-            push_head(out, 1, number, last)?;
             push_refused(out, cause)?;
-            Ok(Progress {
-                last,
-                refused: true,
-            })
+            Ok(true)
         }
     }
 }
@@ -69,43 +53,39 @@ fn run_block(
 fn run_query(
     alloc: Global,
     origin: &Name,
-    version: &BTreeMap<OwnedName, Entry>,
+    index: &Index,
     name: &Name,
     rtype: u16,
     number: u64,
-    last: u64,
     out: &mut Vec<u8>,
-) -> Result<Progress, AllocError>
-    ensures ran { IfOk result (λ p. Stepped origin.now (jobs.Get name.now rtype) number last p.last version.now.entries version.now.entries out.old.items out.new.items p.refused) }
-    ensures few { IfOk result (λ p. p.last ≤ last + 1) }
+) -> Result<bool, AllocError>
+    requires { KeepsSome index.now }
+    ensures { (version : Version) (last chunks : ℕ) → Keeps index.now version last chunks
+        → IfOk result (StepsOn chunks origin.now (jobs.Get name.now rtype) number last version index.now out.old.items out.new.items) }
 {
-    push_head(out, 1, number, last)?;
-    push_answer(alloc, out, origin, version, name, rtype)?;
-    Ok(Progress {
-        last,
-        refused: false,
-    })
+    let mut query = index.query();
+    let answered = answer(alloc, &mut query, origin, name, rtype)?;
+    push_head(out, 1, number, query.version())?;
+    push_answer(out, &answered)?;
+    Ok(false)
 }
 
-// Runs one command.
+// Runs one command. Answers whether it was refused.
 fn run_command(
     alloc: Global,
     origin: &Name,
-    version: &mut BTreeMap<OwnedName, Entry>,
+    index: &mut Index,
     command: &Command,
     number: u64,
-    last: u64,
     out: &mut Vec<u8>,
-) -> Result<Progress, AllocError>
-    requires { last < 2 ^ 63 }
-    ensures ran { IfOk result (λ p. Stepped origin.now (command_view command.now) number last p.last version.old.entries version.new.entries out.old.items out.new.items p.refused) }
-    ensures few { IfOk result (λ p. p.last ≤ last + 1) }
+) -> Result<bool, AllocError>
+    requires { KeepsSome index.old }
+    ensures { (version : Version) (last chunks : ℕ) → Keeps index.old version last chunks
+        → IfOk result (StepsOn chunks origin.now (command_view command.now) number last version index.new out.old.items out.new.items) }
 {
     match command {
-        Command::Get(name, rtype) => {
-            run_query(alloc, origin, version, name, *rtype, number, last, out)
-        }
-        Command::Block(block) => run_block(alloc, origin, version, block, number, last, out),
+        Command::Get(name, rtype) => run_query(alloc, origin, index, name, *rtype, number, out),
+        Command::Block(block) => run_block(alloc, origin, index, block, number, out),
     }
 }
 
@@ -126,43 +106,46 @@ fn status_of(refused: bool) -> Status
     }
 }
 
-// Runs the commands from the zone on, each between the gate's two calls.
+// Runs the commands from the zone on, each between the gate's two calls. Answers whether one was refused.
 fn run_commands<G: Gate>(
     alloc: Global,
     origin: &Name,
-    version: &mut BTreeMap<OwnedName, Entry>,
+    index: &mut Index,
     commands: &[Command],
     gate: &G,
     out: &mut Vec<u8>,
-) -> Result<Progress, AllocError>
-    ensures { IfOk result (λ p. Ran origin.now version.old.entries (map command_view commands.now) out.old.items out.new.items p.last version.new.entries p.refused) }
+) -> Result<bool, AllocError>
+    requires { KeepsFirst index.old }
+    ensures { (zone : Version) (chunks : ℕ) → Keeps index.old zone 0 chunks
+        → IfOk result (RunsOn chunks origin.now zone (map command_view commands.now) index.new out.old.items out.new.items) }
 {
-    let mut last = 0;
     let mut refused = false;
-    for (index, command) in commands.iter().enumerate() {
-        let number = index as u64 + 1;
+    for (place, command) in commands.iter().enumerate() {
+        let number = place as u64 + 1;
         let told = u32::try_from(number).unwrap_or(u32::MAX);
         gate.before(1, told);
-        let next = run_command(alloc, origin, version, command, number, last, out)?;
+        let here = run_command(alloc, origin, index, command, number, out)?;
         gate.after(1, told);
-        last = next.last;
-        refused = either(refused, next.refused);
+        refused = either(refused, here);
     }
-    Ok(Progress { last, refused })
+    Ok(refused)
 }
 
 /// Runs the commands of a job's one worker, and answers the status and the report.
 pub fn report_job<G: Gate>(
     alloc: Global,
     origin: &Name,
-    version: &mut BTreeMap<OwnedName, Entry>,
+    index: &mut Index,
     commands: &[Command],
     gate: &G,
 ) -> Result<(Status, Vec<u8>), AllocError>
-    ensures { IfOk result (λ x. Reported (record { origin = origin.now; zone = version.old.entries; workers = map command_view commands.now ∷ [] }) x.0 x.1.items) }
+    requires { KeepsFirst index.old }
+    ensures { (zone : Version) (chunks : ℕ) → Keeps index.old zone 0 chunks
+        → IfOk result (λ x. Reported chunks (record { origin = origin.now; zone = zone; workers = map command_view commands.now ∷ [] }) x.0 x.1.items) }
 {
     let mut out = Vec::new(alloc);
-    let end = run_commands(alloc, origin, version, commands, gate, &mut out)?;
-    push_end(&mut out, end.last, version.len() as u64)?;
-    Ok((status_of(end.refused), out))
+    let refused = run_commands(alloc, origin, index, commands, gate, &mut out)?;
+    let query = index.query();
+    push_end(&mut out, query.version(), query.count())?;
+    Ok((status_of(refused), out))
 }

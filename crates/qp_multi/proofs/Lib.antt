@@ -6,3 +6,4 @@ pub mod MeetLaws
 pub mod CauseLaws
 pub mod RefusalLaws
 pub mod RisenLaws
+pub mod ChunkLaws

@@ -1,5 +1,5 @@
 -- What the index's current version has, and what a query tells of.
-use Rattle.std.specs.Prelude.{◌≡◌, ℕ, Bool, not, ◌&&◌, List, Option, Some, slice_get, slice_index}
+use Rattle.std.specs.Prelude.{◌≡◌, ℕ, Bool, not, ◌&&◌, List, length, Option, Some, slice_get, slice_index}
 use Rattle.packed_node.specs.declared.Cell.{Cell}
 use Rattle.zone_model.specs.Keys.{Leads}
 use Rattle.trie_model.specs.Keys.{Entry}
@@ -37,3 +37,7 @@ pub record Tells (q : Query) (es : List Entry) : Type 0 where
 -- the same as a reading has it
 abbrev pub Holds : Query → List Entry → Type 0
 Holds q es = Stands (has_cell q.reading.cells.now) q.reading.root es × EachTells Leads es
+
+-- how many chunks it has
+abbrev pub chunks_of : Index → ℕ
+chunks_of i = length i.usage.given

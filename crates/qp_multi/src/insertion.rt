@@ -10,7 +10,7 @@ ghost use Rattle.chunk_usage.specs.Handing.{Lacks, spent};
 ghost use Rattle.trie_write.specs.Roots.{OnPath};
 ghost use Rattle.trie_write.specs.declared.insertion.InsertRefusal.TheVariants.{Exists as TrieExists, Full as TrieFull};
 ghost use Rattle.qp_multi.specs.Works.{WorksIn, IsBegun};
-ghost use Rattle.qp_multi.specs.Shows.{has_cell};
+ghost use Rattle.qp_multi.specs.Shows.{has_cell, chunks_of};
 ghost use Rattle.qp_multi.specs.Fulls.{IsFull, FullCause};
 
 use crate::index::Index;
@@ -36,7 +36,7 @@ fn attempt(
     ensures refused { IfErr result (λ _. (base es : List Entry) → WorksIn index.old root base es → WorksIn index.new root base es) }
     ensures full { (f : _) → result ≡ Err (TrieFull f) → Lacks index.new.usage f }
     ensures version { index.new.version ≡ index.old.version }
-    ensures chunks { length index.new.usage.given ≡ length index.old.usage.given }
+    ensures chunks { chunks_of index.new ≡ chunks_of index.old }
     ensures stays { (k : ℕ) → is_given index.old.usage k ≡ true → is_given index.new.usage k ≡ true }
     ensures frozen { frozen_part index.new.usage ≡ frozen_part index.old.usage }
     ensures unchanged { IfErr result (λ _. (k : ℕ) → slice_index index.new.usage.live k ≡ slice_index index.old.usage.live k) }
@@ -69,6 +69,7 @@ fn insert_in_room(
     ensures cause { (f : _) (base es : List Entry) → result ≡ Err (InsertRefusal.Full f) → WorksIn index.old root.old base es
         → FullCause index.new root.new key.now (3 + cells_in item.now) base es }
     ensures version { index.new.version ≡ index.old.version }
+    ensures chunks { chunks_of index.new ≡ chunks_of index.old }
 {
     make_room(index);
     match attempt(index, *root, key, item) {
@@ -99,6 +100,7 @@ pub fn insert(
     ensures cause { (f : _) (base es : List Entry) → result ≡ Err (InsertRefusal.Full f) → WorksIn index.old root.old base es
         → FullCause index.new root.new key.now (3 + cells_in item.now) base es }
     ensures version { index.new.version ≡ index.old.version }
+    ensures chunks { chunks_of index.new ≡ chunks_of index.old }
 {
     match attempt(index, *root, key, item) {
         Ok(new) => {

@@ -4,7 +4,7 @@ ghost use Rattle.std.specs.Prelude.{◌≡◌, ◌≤◌, IfOk, IfErr};
 ghost use Rattle.trie_model.specs.Keys.{Rises};
 ghost use Rattle.trie_model.specs.Shape.{cells as cells_of};
 ghost use Rattle.trie_write.specs.Entries.{entries_of_items};
-ghost use Rattle.qp_multi.specs.Shows.{Shows};
+ghost use Rattle.qp_multi.specs.Shows.{Shows, chunks_of};
 ghost use Rattle.qp_multi.specs.Openings.{room_in, Refuses};
 
 use crate::index::Index;
@@ -54,12 +54,14 @@ fn filled(alloc: Global, items: &[Item], chunks: u32, passes: u32) -> Result<Ind
     requires room { cells_of (entries_of_items items.now) ≤ room_in chunks }
     ensures shows { IfOk result (λ index. Shows index (entries_of_items items.now)) }
     ensures first { IfOk result (λ index. index.version ≡ 0) }
+    ensures size { IfOk result (λ index. chunks_of index ≡ chunks) }
 {
     let mut plain = PlainCells::new(alloc, chunks)?;
     let mut usage = Usage::new(alloc, chunks, passes)?;
-    let Ok(root) = build(&mut plain, &mut usage, items) else {
+    let built = build(&mut plain, &mut usage, items);
+    usage.known();
+    let Ok(root) = built else {
         // There was room: each chunk that was left for another has at most 255 cells left.
-        usage.known();
         unreachable!();
     };
     usage.freeze(0);
@@ -86,6 +88,7 @@ impl Index {
         requires few_passes { passes ≤ 64 }
         ensures shows { IfOk result (λ index. Shows index (entries_of_items items.now)) }
         ensures first { IfOk result (λ index. index.version ≡ 0) }
+        ensures size { IfOk result (λ index. chunks_of index ≡ chunks) }
         ensures fits { IfOk result (λ _. cells_of (entries_of_items items.now) ≤ room_in chunks) }
         ensures full { IfErr result (λ refusal. Refuses chunks (entries_of_items items.now) refusal) }
     {

@@ -10,7 +10,7 @@ ghost use Rattle.chunk_usage.specs.Keeping.{closed};
 ghost use Rattle.trie_read.specs.Readings.{Fetched};
 ghost use Rattle.trie_write.specs.Deletions.{Deleted};
 ghost use Rattle.trie_write.specs.Exchanges.{Exchanged};
-ghost use Rattle.qp_multi.specs.Shows.{Shows};
+ghost use Rattle.qp_multi.specs.Shows.{Shows, chunks_of};
 ghost use Rattle.qp_multi.specs.Works.{Updates};
 ghost use Rattle.qp_multi.specs.Fulls.{IsFull, FullCause};
 ghost use Rattle.qp_multi.specs.Receipts.{Recycled};
@@ -36,6 +36,7 @@ impl Index {
         ensures same_reference { result.index.ghost_name ≡ self.entry.ghost_name }
         ensures works { (es : List Entry) → Shows self.old es → Updates result es es }
         ensures version { result.index.now.version ≡ self.old.version }
+        ensures chunks { chunks_of result.index.now ≡ chunks_of self.old }
         // What is written goes into chunks of its own.
         ensures fresh { result.index.now.usage ≡ closed self.old.usage }
     {
@@ -77,6 +78,7 @@ impl Update<'_> {
         ensures cause { (f : _) (base es : List Entry) → result ≡ Err (InsertRefusal.Full f) → Updates self.old base es
             → FullCause self.new.index.now self.new.root key.now (3 + cells_in item.now) base es }
         ensures version { self.new.index.now.version ≡ self.old.index.now.version }
+        ensures chunks { chunks_of self.new.index.now ≡ chunks_of self.old.index.now }
     {
         insertion::insert(self.index, &mut self.root, key, item)
     }
@@ -95,6 +97,7 @@ impl Update<'_> {
         ensures cause { (f : _) (base es : List Entry) → result ≡ Err (ChangeRefusal.Full f) → Updates self.old base es
             → FullCause self.new.index.now self.new.root key.now (3 + cells_in item.now) base es }
         ensures version { self.new.index.now.version ≡ self.old.index.now.version }
+        ensures chunks { chunks_of self.new.index.now ≡ chunks_of self.old.index.now }
     {
         replacement::replace(self.index, &mut self.root, key, item)
     }
@@ -112,6 +115,7 @@ impl Update<'_> {
         ensures cause { (f : _) (base es : List Entry) → result ≡ Err (ChangeRefusal.Full f) → Updates self.old base es
             → FullCause self.new.index.now self.new.root key.now 1 base es }
         ensures version { self.new.index.now.version ≡ self.old.index.now.version }
+        ensures chunks { chunks_of self.new.index.now ≡ chunks_of self.old.index.now }
     {
         deletion::delete(self.index, &mut self.root, key)
     }
@@ -124,6 +128,7 @@ impl Update<'_> {
         ensures freed { IfOk result (λ r. free_count self.exit.0.now.usage ≡ free_count self.entry.index.now.usage + r.freed) }
         ensures recycled { Recycled self.entry.index.now.usage self.exit.0.now.usage }
         ensures version { IfOk result (λ _. self.exit.0.now.version ≡ self.entry.index.now.version + 1) }
+        ensures chunks { chunks_of self.exit.0.now ≡ chunks_of self.entry.index.now }
         ensures spent { IsErr result ↔ (self.entry.index.now.version ≡ LAST_VERSION) }
         ensures stays { IfErr result (λ s. (s.version ≡ self.entry.index.now.version) × (self.exit.0.now.version ≡ self.entry.index.now.version)) }
     {
@@ -137,6 +142,7 @@ impl Update<'_> {
     pub fn rollback(self)
         ensures back { (base es : List Entry) → Updates self.entry base es → Shows self.exit.0.now base }
         ensures version { self.exit.0.now.version ≡ self.entry.index.now.version }
+        ensures chunks { chunks_of self.exit.0.now ≡ chunks_of self.entry.index.now }
         ensures recycled { Recycled self.entry.index.now.usage self.exit.0.now.usage }
     {
         let Self { index, root: _ } = self;
@@ -148,6 +154,7 @@ impl Drop for Update<'_> {
     fn drop(self)
         ensures back { (base es : List Entry) → Updates self.entry base es → Shows self.exit.0.now base }
         ensures version { self.exit.0.now.version ≡ self.entry.index.now.version }
+        ensures chunks { chunks_of self.exit.0.now ≡ chunks_of self.entry.index.now }
         ensures recycled { Recycled self.entry.index.now.usage self.exit.0.now.usage }
     {
         let Self { index, root: _ } = self;

@@ -4,7 +4,7 @@ ghost use Rattle.std.specs.Prelude.{◌≡◌, ◌+◌, ◌<◌, ◌↔◌, ℕ,
 ghost use Rattle.trie_model.specs.Keys.{Entry};
 ghost use Rattle.chunk_usage.specs.Ledger.{free_count};
 ghost use Rattle.trie_read.specs.Readings.{Fetched};
-ghost use Rattle.qp_multi.specs.Shows.{Shows};
+ghost use Rattle.qp_multi.specs.Shows.{Shows, chunks_of};
 ghost use Rattle.qp_multi.specs.Works.{WorksIn, IsBegun};
 ghost use Rattle.qp_multi.specs.Fulls.{EachNeeded};
 ghost use Rattle.qp_multi.specs.Receipts.{Recycled};
@@ -30,6 +30,7 @@ pub struct Receipt {
 pub fn undo(index: &mut Index)
     ensures back { (root : Option ℕ) (base es : List Entry) → WorksIn index.old root base es → Shows index.new base }
     ensures version { index.new.version ≡ index.old.version }
+    ensures chunks { chunks_of index.new ≡ chunks_of index.old }
     ensures recycled { Recycled index.old.usage index.new.usage }
 {
     index.usage.restore();
@@ -42,6 +43,7 @@ fn keep(index: &mut Index, root: Option<Ref>, version: u64) -> Receipt
     requires last { index.old.version < LAST_VERSION }
     ensures shows { (base es : List Entry) → WorksIn index.old root base es → Shows index.new es }
     ensures version { index.new.version ≡ version }
+    ensures chunks { chunks_of index.new ≡ chunks_of index.old }
     ensures receipt { result.version ≡ version }
     ensures freed { free_count index.new.usage ≡ free_count index.old.usage + result.freed }
     ensures recycled { Recycled index.old.usage index.new.usage }
@@ -65,6 +67,7 @@ pub fn publish(index: &mut Index, root: Option<Ref>) -> Result<Receipt, Spent>
     ensures back { IfErr result (λ _. (base es : List Entry) → WorksIn index.old root base es → Shows index.new base) }
     ensures receipt { IfOk result (λ r. r.version ≡ index.old.version + 1) }
     ensures version { IfOk result (λ _. index.new.version ≡ index.old.version + 1) }
+    ensures chunks { chunks_of index.new ≡ chunks_of index.old }
     ensures freed { IfOk result (λ r. free_count index.new.usage ≡ free_count index.old.usage + r.freed) }
     ensures recycled { Recycled index.old.usage index.new.usage }
     ensures kept { IfOk result (λ r. r.kept ≡ 1) }
@@ -98,6 +101,7 @@ pub fn make_room(index: &mut Index)
     ensures works { (root : Option ℕ) (base es : List Entry) → WorksIn index.old root base es → WorksIn index.new root base es }
     ensures needed { EachNeeded index.new.usage }
     ensures version { index.new.version ≡ index.old.version }
+    ensures chunks { chunks_of index.new ≡ chunks_of index.old }
 {
     index.usage.free_unreached(&mut index.cells);
 }

@@ -24,16 +24,16 @@ reversed_self Less e = absurd cc
 reversed_self Equal e = refl
 reversed_self Greater e = absurd cc
 
-self_equal : (x : Name) → name_cmp x x ≡ Equal
+pub self_equal : (x : Name) → name_cmp x x ≡ Equal
 self_equal x = reversed_self (name_cmp x x) (name_cmp_total.antisymm x x)
 
 -- an entry of the trie is that of a pair
-record Kept (e : trie.Entry) (version : Version) : Type 0 where
-  pair : Name × Entry
-  is : e ≡ trie_entry pair
-  storable : IsStorable pair
+pub record Kept (e : trie.Entry) (version : Version) : Type 0 where
+  pub pair : Name × Entry
+  pub is : e ≡ trie_entry pair
+  pub storable : IsStorable pair
 
-kept : (e : trie.Entry) (version : Version) → AllByRecursion IsStorable version → trie.InList e (map trie_entry version) → Kept e version
+pub kept : (e : trie.Entry) (version : Version) → AllByRecursion IsStorable version → trie.InList e (map trie_entry version) → Kept e version
 kept e [] items i = absurd i
 kept e (pair ∷ version) items (inl s) = record { pair = pair; is = s; storable = items.0 }
 kept e (pair ∷ version) items (inr r) = let k = kept e version items.1 r in record { pair = k.pair; is = k.is; storable = k.storable }
@@ -42,7 +42,7 @@ item_of_kept : (e : trie.Entry) (version : Version) → AllByRecursion IsStorabl
 item_of_kept e version items i = let k = kept e version items i in (k.pair.0, k.pair.1, subst (λ (x : trie.Entry). IsItem x.item k.pair.0 k.pair.1) (sym k.is) k.storable)
 
 -- a name that is there comes after what comes before all names
-later_name : (x name : Name) (e : trie.Entry) (version : Version) → IsName name → AllByRecursion IsStorable version → AllByRecursion (λ y. name_cmp x y ≡ Less) (keys_of version) → trie.InList e (map trie_entry version) → e.key ≡ key_of name → name_cmp x name ≡ Less
+pub later_name : (x name : Name) (e : trie.Entry) (version : Version) → IsName name → AllByRecursion IsStorable version → AllByRecursion (λ y. name_cmp x y ≡ Less) (keys_of version) → trie.InList e (map trie_entry version) → e.key ≡ key_of name → name_cmp x name ≡ Less
 later_name x name e [] is items above i k = absurd i
 later_name x name e (pair ∷ version) is items above (inl s) k =
     let same : pair.0 ≡ name = key_once pair.0 name items.0.name.each is.each (sym (ap (λ (y : trie.Entry). y.key) s) ∙ k) in
@@ -54,7 +54,7 @@ false_or true p q = p refl
 false_or false p q = q refl
 
 -- the entry that is read from the item under a name's key
-entry_there : (name : Name) (version : Version) (e : trie.Entry) (owner : Name) (entry : Entry) → IsName name → IsStrictlySortedBy name_cmp (keys_of version) → AllByRecursion IsStorable version → trie.InList e (map trie_entry version) → e.key ≡ key_of name → IsItem e.item owner entry → entry_of name version ≡ Some entry
+pub entry_there : (name : Name) (version : Version) (e : trie.Entry) (owner : Name) (entry : Entry) → IsName name → IsStrictlySortedBy name_cmp (keys_of version) → AllByRecursion IsStorable version → trie.InList e (map trie_entry version) → e.key ≡ key_of name → IsItem e.item owner entry → entry_of name version ≡ Some entry
 unfolding IsStrictlySortedBy
 entry_there name [] e owner entry is rising items i k item = absurd i
 entry_there name (pair ∷ version) e owner entry is rising items (inl s) k item =

@@ -8,7 +8,7 @@ ghost use Rattle.zone_answer.specs.Answers.{is_cut};
 ghost use Rattle.zone_answer.specs.Parts.{IsChain, IsCutOf, IsCutOver, delegated};
 ghost use Rattle.zone_answer.specs.Standing.{Shows, ShowsSome};
 
-use crate::owned::owned;
+use crate::records::owned;
 use dns_name::Name;
 use rr_data::Entry;
 use std::alloc::{AllocError, Global};

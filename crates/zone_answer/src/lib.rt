@@ -8,8 +8,8 @@ mod kind;
 pub mod laws;
 mod near;
 mod node;
-mod owned;
 mod question;
+mod records;
 mod row;
 mod step;
 #[cfg(test)]
@@ -18,4 +18,5 @@ mod tests;
 pub use answers::Answer;
 pub use kind::Kind;
 pub use question::answer;
+pub use records::owned;
 pub use row::Row;

@@ -7,7 +7,7 @@ ghost use Rattle.zone_answer.specs.Neighbours.{AreNeighbours};
 ghost use Rattle.zone_answer.specs.Standing.{IsVersion, Shows, ShowsSome};
 
 use crate::near::Neighbours;
-use crate::owned::owned;
+use crate::records::owned;
 use dns_name::Name;
 use rr_data::Entry;
 use std::alloc::{AllocError, Global};

@@ -13,7 +13,7 @@ ghost use Rattle.zone_answer.specs.Standing.{Shows, ShowsSome};
 use crate::cut::{NS, cut_over, is_cut};
 use crate::kind::Kind;
 use crate::node::absent_node;
-use crate::owned::owned;
+use crate::records::owned;
 use crate::row::{Row, push_rows};
 use dns_name::Name;
 use rr_data::{Entry, RrSet};

@@ -1,7 +1,7 @@
 use Rattle.std.proofs.Common.{◌∙◌, ℕ, List, length, ap, arith, Err}
 use Rattle.zone_model.specs.Keys.{key_of}
 use Rattle.trie_write.specs.declared.item.ItemRefusal.{ItemRefusal}
-use Rattle.qp_main.proofs.OpeningLemmas.{payload, entry_as}
+use Rattle.qp_main.proofs.OpeningLemmas.{payload, entry_as, storable}
 use Rattle.qp_main.proofs.opening.item_of.Goals as goal
 
 pub unreachable-requires-in-Err-Long : goal.unreachable-requires-in-Err-Long
@@ -18,3 +18,6 @@ pub returns-in-Ok-clause-item : goal.returns-in-Ok-clause-item
 returns-in-Ok-clause-item c =
     c.in-Ok.ensures.item
     ∙ entry_as (key_of c.args.name.now) (payload c.args.name.now c.args.entry.now c.encode.new.out _ c.in-Some.len c.in-Some.ensures.item (ap (λ (l : List ℕ). length l) c.wire-owner.ensures.wire) c.in-Some.ensures.length)
+
+pub returns-in-Ok-clause-storable : goal.returns-in-Ok-clause-storable
+returns-in-Ok-clause-storable c = storable c.args.name.now c.args.entry.now _ c.in-Some.ensures.item

@@ -1,12 +1,31 @@
-use Rattle.std.proofs.Common.{arith}
+use Rattle.std.proofs.Common.{◌≡◌, ◌≤◌, length, take, map, List, subst, arith}
+use Rattle.std.proofs.lemmas.List.{take_all}
 use Rattle.job_script.specs.Views.{command_view}
+use Rattle.job_script.specs.declared.commands.Command.{Command}
+use Rattle.qp_main.specs.Runs.{RunsOn}
 use Rattle.qp_main.proofs.RunLemmas.{ran_index}
 use Rattle.qp_main.proofs.worker.run_commands.Goals as goal
 
-pub loop-index-preserved : goal.loop-index-preserved
-loop-index-preserved g c = record {
-  ran = rw c.either-refused.ensures
-      (ran_index command_view c.args.commands.now c.loop-index.index c.index-commands-index.result c.args.origin.now c.args.version.now.entries c.args.out.now.items c.loop-index.out.items c.run_command.new.out.items
-      c.loop-index.last c.in_ok-next.next.last c.loop-index.version.entries c.run_command.new.version.entries c.loop-index.refused c.in_ok-next.next.refused c.loop-index-test.true c.index-commands-index.is c.loop-index.invariant.ran c.in_ok-next.ensures.ran);
-  few = omega (arith, c.in_ok-next.ensures.few, c.loop-index.invariant.few);
-}
+pub run_command-requires : goal.run_command-requires
+run_command-requires g c =
+    let r = c.loop-place.invariant c.requires.zone c.requires.chunks c.requires.keeps in
+    record { version = r.version; number = r.last; chunks = c.requires.chunks; keeps = r.keeps }
+
+pub loop-place-preserved : goal.loop-place-preserved
+loop-place-preserved g c zone chunks keeps =
+    let r = c.loop-place.invariant zone chunks keeps in
+    let s = c.in_ok-here.ensures r.version r.last chunks r.keeps in
+    record {
+      last = s.next;
+      version = s.version;
+      keeps = s.keeps;
+      ran = rw c.either-refused.ensures
+          (ran_index command_view c.args.commands.now c.loop-place.place c.index-commands-place.result chunks c.args.origin.now zone c.args.out.now.items c.loop-place.out.items c.run_command.new.out.items
+          r.last s.next r.version s.version c.loop-place.refused c.in_ok-here.here c.loop-place-test.true c.index-commands-place.is r.ran s.stepped);
+    }
+
+pub returns : goal.returns
+returns g c zone chunks keeps =
+    let r = c.loop-place.invariant zone chunks keeps in
+    let past : length c.args.commands.now ≤ c.loop-place.place = omega (arith, c.loop-place-test.false) in
+    subst (λ (l : List Command). RunsOn chunks c.args.origin.now zone (map command_view l) c.loop-place.index c.args.out.now.items c.loop-place.out.items c.loop-place.refused) (take_all c.loop-place.place c.args.commands.now past) r

@@ -1,10 +1,10 @@
-use Rattle.std.proofs.Common.{◌≤◌, take, map}
+use Rattle.std.proofs.Common.{ℕ, take, map}
+use Rattle.zone_model.specs.Versions.{Version}
 use Rattle.job_script.specs.Views.{command_view}
-use Rattle.qp_main.specs.Runs.{Ran}
+use Rattle.qp_main.specs.Openings.{Keeps}
+use Rattle.qp_main.specs.Runs.{RunsOn}
 use Rattle.qp_main.proofs.worker.run_commands.Given as goal
 
-abbrev pub invariant-loop-index : goal.invariant-loop-index
-invariant-loop-index g l = record {
-  ran : Ran l.origin l.fn.version.entries (map command_view (take l.index l.commands)) l.fn.out.items l.out.items l.last l.version.entries l.refused;
-  few : l.last ≤ l.index;
-}
+abbrev pub invariant-loop-place : goal.invariant-loop-place
+invariant-loop-place g l =
+    (zone : Version) (chunks : ℕ) → Keeps l.fn.index zone 0 chunks → RunsOn chunks l.origin zone (map command_view (take l.place l.commands)) l.index l.fn.out.items l.out.items l.refused

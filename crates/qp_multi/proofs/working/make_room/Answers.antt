@@ -2,6 +2,8 @@ use Rattle.std.proofs.Common.{sym, subst}
 use Rattle.chunk_usage.specs.Ledger.{Ledger}
 use Rattle.qp_multi.specs.Shows.{IsBase}
 use Rattle.qp_multi.specs.Works.{IsWorking}
+use Rattle.std.proofs.Common.{◌∙◌}
+use Rattle.qp_multi.proofs.ChunkLaws.{as_many_as, freed_as_many}
 use Rattle.qp_multi.proofs.FreedLaws.{base_freed, working_freed}
 use Rattle.qp_multi.proofs.CauseLaws.{each_needed}
 use Rattle.qp_multi.proofs.working.make_room.Goals as goal
@@ -16,3 +18,6 @@ returns-clause-works c root base es works =
 
 pub returns-clause-needed : goal.returns-clause-needed
 returns-clause-needed c = each_needed c.args.index.now.usage c.free_unreached.new.self c.args.index.now.version c.args.index.now.is.kept c.free_unreached.ensures.after
+
+pub returns-clause-chunks : goal.returns-clause-chunks
+returns-clause-chunks c = as_many_as c.free_unreached.ensures.after ∙ freed_as_many c.args.index.now.usage

@@ -1,3 +1,5 @@
+use Rattle.std.proofs.Common.{◌∙◌}
+use Rattle.qp_multi.proofs.ChunkLaws.{as_many_as, freed_as_many}
 use Rattle.qp_multi.proofs.FreedLaws.{undone, undone_recycled}
 use Rattle.qp_multi.proofs.working.undo.Goals as goal
 
@@ -10,3 +12,6 @@ returns-clause-back c root base es works =
 
 pub returns-clause-recycled : goal.returns-clause-recycled
 returns-clause-recycled c = let i = c.args.index.now in undone_recycled i.usage c.restore.new.self c.free_unreached.new.self i.version i.is.kept c.restore.ensures.after c.free_unreached.ensures.after
+
+pub returns-clause-chunks : goal.returns-clause-chunks
+returns-clause-chunks c = as_many_as c.free_unreached.ensures.after ∙ freed_as_many c.restore.new.self ∙ as_many_as c.restore.ensures.after

@@ -1,9 +1,0 @@
-use Rattle.std.proofs.Common.{subst, sym}
-use Rattle.zone_model.specs.Versions.{changed}
-use Rattle.job_script.specs.Views.{operation_view}
-use Rattle.qp_main.specs.Steps.{Gives}
-use Rattle.job_script.specs.declared.operations.Operation.{Operation}
-use Rattle.qp_main.proofs.versions.changed.Goals as goal
-
-pub returns-in-DeleteRecord : goal.returns-in-DeleteRecord
-returns-in-DeleteRecord c = subst (λ (o : Operation). Gives c.without_record.result (changed c.args.origin.now (operation_view o) c.args.entry)) (sym c.in-DeleteRecord.is) c.without_record.ensures

@@ -1,0 +1,4 @@
+pub mod VersionLaws
+pub mod ShrinkLaws
+pub mod StoreLaws
+pub mod ApplyLaws

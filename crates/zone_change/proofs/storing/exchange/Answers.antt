@@ -1,0 +1,22 @@
+use Rattle.std.proofs.Common.{◌≡◌, ◌∙◌, [], Err, ap, sym}
+use Rattle.job_model.specs.Sizes.{trie_entries}
+use Rattle.zone_change.proofs.StoreLaws.{somebody, exchanged_on, put_changes}
+use Rattle.zone_change.proofs.storing.exchange.Goals as goal
+
+pub unreachable-requires : goal.unreachable-requires
+unreachable-requires g c =
+    let o = c.requires.owns in
+    somebody c.args.name.now c.of.result o.version c.args.before.now c.requires.some o.owned_is c.of.ensures
+    ((c.replace.ensures.absent o.base (trie_entries o.version) o.on.held).0 (c.in-Err-NotFound.is ∙ ap (λ x. Err x) c.in-Err-NotFound.field-0-is))
+
+pub returns-in-Ok-clause-stores : goal.returns-in-Ok-clause-stores
+returns-in-Ok-clause-stores g c base version on is =
+    exchanged_on (g.T.Transaction.works c.replace.new.self) base version c.args.name.now c.of.result c.args.item.now c.args.entry.now c.of.ensures c.requires.item on.valid (c.in-Ok.ensures.replaced base (trie_entries version) on.held)
+
+pub returns-in-Err-Full-clause-stores : goal.returns-in-Err-Full-clause-stores
+returns-in-Err-Full-clause-stores g c base version on is =
+    let full_is = c.in-Err-Full.is ∙ ap (λ x. Err x) c.in-Err-Full.field-0-is in (
+      record { held = c.in-Err-Full.ensures.refused base (trie_entries version) on.held; valid = on.valid },
+      record { base_alone = c.replace.ensures.kept c.in-Err-Full.full full_is; many = c.replace.ensures.cause c.in-Err-Full.full base (trie_entries version) full_is on.held },
+      put_changes c.args.name.now c.args.entry.now version c.requires.item.some (λ e. c.requires.other (e ∙ sym is)),
+    )

@@ -1,0 +1,8 @@
+//! What operations make of a zone that stands as a trie.
+#![tactic(auto)]
+
+mod applying;
+mod entries;
+mod storing;
+
+pub use applying::{Halt, apply_all};
