@@ -11,4 +11,6 @@ mod harness;
 #[cfg(test)]
 mod jobs;
 #[cfg(test)]
+mod names;
+#[cfg(test)]
 mod refusals;

@@ -1,13 +1,14 @@
 -- A job: the zone, and the commands of each worker.
-use Rattle.std.specs.Prelude.{ℕ, ◌+◌, Bool, true, false, List, [], ◌∷◌, ◌++◌, length, nat_lt, if◌then◌else◌, Option, Some, None, Result, Ok, Err, codes, option_and_then}
+use Rattle.std.specs.Prelude.{ℕ, ◌+◌, Bool, true, false, List, [], ◌∷◌, ◌++◌, length, nat_lt, ◌==◌, if◌then◌else◌, Option, Some, None, Result, Ok, Err, codes, option_and_then}
 use Rattle.std.specs.List.{before_first, after_first, list_any}
+use Rattle.std.specs.Option.{option_map}
 use Rattle.std.specs.Str.{bytes_eq}
 use Rattle.zone_model.specs.Names.{Name, is_under}
 use Rattle.zone_model.specs.Versions.{Version, Operation, Add, DeleteName, DeleteSet, DeleteRecord}
 use Rattle.zone_model.specs.Lines.{lines_of}
 use Rattle.zone_model.specs.Refusals.{Refused, ◌>>=◌}
 use Rattle.zone_model.specs.Tokens.{Token, LineTokens, single_line}
-use Rattle.zone_model.specs.Data.{data_of}
+use Rattle.zone_model.specs.Data.{data_of, word_number}
 use Rattle.zone_model.specs.MasterFile.{name_word, time_word, type_word, zone_of}
 use Rattle.zone_model.specs.declared.ZoneKind.{ZoneKind}
 use Rattle.zone_model.specs.declared.DataRefusal.{DataRefusal}
@@ -18,8 +19,22 @@ use Rattle.job_model.specs.declared.ScriptKind.TheVariants.{NoWorker, BadCommand
 use Rattle.job_model.specs.declared.Weight.{Weight}
 use Rattle.job_model.specs.declared.Weight.TheVariants.{Light, Heavy}
 
+-- names that follow a name in one direction, at most so many
+pub record Stretch : Type 0 where
+  pub start : Name
+  pub most : ℕ
+
+-- A question to one version: the answer for a name and a type; what there is of a name; names from a name on, or those before it;
+-- how large the version is.
+pub data Question : Type 0 where
+  Get : (name : Name) (rtype : ℕ) → Question
+  Find : (name : Name) → Question
+  Walk : (stretch : Stretch) → Question
+  Back : (stretch : Stretch) → Question
+  Stat : Question
+
 pub data Command : Type 0 where
-  Get : (name : Name) (rtype : ℕ) → Command
+  Ask : (question : Question) → Command
   Block : (weight : Weight) (operations : List Operation) (ending : Ending) → Command
 
 pub record Job : Type 0 where
@@ -44,9 +59,17 @@ script_tokens n line = without_parens (single_line n line)
 
 -- ---- what a line's tokens are, by the command word and the number of tokens
 
+-- the words of a question
+pub data Asked : Type 0 where
+  Gets : (name rtype : Token) → Asked
+  Finds : (name : Token) → Asked
+  Walks : (name number : Token) → Asked
+  Backs : (name number : Token) → Asked
+  Stats : Asked
+
 pub data Phrase : Type 0 where
   Worker : Phrase
-  AsksFor : (name rtype : Token) → Phrase
+  Asks : (asked : Asked) → Phrase
   Opens : (weight : Weight) → Phrase
   Adds : (owner ttl rtype : Token) (rdata : List Token) → Phrase
   Deletes : (owner : Token) (rest : List Token) → Phrase
@@ -56,6 +79,27 @@ pub data Phrase : Type 0 where
 abbrev pub says : Token → List ℕ → Bool
 says t word = if t.quoted then false else bytes_eq t.text word
 
+-- the token that stands alone
+abbrev pub lone : List Token → Option Token
+lone [] = None
+lone (t ∷ []) = Some t
+lone (t ∷ other ∷ rest) = None
+
+abbrev pub finds : Token → List Token → Option Asked
+finds name [] = Some (Finds name)
+finds name (t ∷ rest) = None
+
+-- a question that has a name and one token more, or a name alone, or nothing
+unfoldable pub asked_of : List Token → Option Asked
+asked_of [] = None
+asked_of (w ∷ []) = if says w (codes "stat") then Some Stats else None
+asked_of (w ∷ name ∷ rest) =
+    if says w (codes "get") then option_map (Gets name) (lone rest)
+    else if says w (codes "find") then finds name rest
+    else if says w (codes "walk") then option_map (Walks name) (lone rest)
+    else if says w (codes "back") then option_map (Backs name) (lone rest)
+    else None
+
 abbrev pub lone_word : Token → Option Phrase
 lone_word w =
     if says w (codes "worker") then Some Worker
@@ -63,13 +107,7 @@ lone_word w =
     else if says w (codes "update") then Some (Opens Heavy)
     else if says w (codes "commit") then Some (Ends Commit)
     else if says w (codes "rollback") then Some (Ends Rollback)
-    else None
-
--- a question has a name and a type
-abbrev pub asks : Token → List Token → Option Phrase
-asks name [] = None
-asks name (rtype ∷ []) = Some (AsksFor name rtype)
-asks name (rtype ∷ other ∷ rest) = None
+    else option_map Asks (asked_of (w ∷ []))
 
 -- an addition has an owner, a time to live, a type, and data of one token or more
 abbrev pub adds : Token → List Token → Option Phrase
@@ -82,10 +120,9 @@ unfoldable pub phrase_of : List Token → Option Phrase
 phrase_of [] = None
 phrase_of (w ∷ []) = lone_word w
 phrase_of (w ∷ first ∷ rest) =
-    if says w (codes "get") then asks first rest
-    else if says w (codes "add") then adds first rest
+    if says w (codes "add") then adds first rest
     else if says w (codes "del") then Some (Deletes first rest)
-    else None
+    else option_map Asks (asked_of (w ∷ first ∷ rest))
 
 -- ---- arguments, from the left
 
@@ -104,12 +141,35 @@ abbrev pub octets_needed : ℕ → Result (List ℕ) DataRefusal → Result (Lis
 octets_needed n (Ok octets) = Ok octets
 octets_needed n (Err e) = refuse n BadRdata
 
+-- how many names are wanted at most: a decimal number from 1 on, of no more than so many
+abbrev pub name_limit : ℕ
+name_limit = 1000
+
+abbrev pub names_word : Token → Option ℕ
+names_word t = option_and_then (λ n. if n == 0 then None else Some n) (word_number name_limit t)
+
+unfoldable pub stretch_of : Name → ℕ → Token → Token → Result Stretch (Refused ScriptKind)
+stretch_of origin n name number = do
+  start ← needed n BadName (name_word origin name)
+  most ← needed n BadNumber (names_word number)
+  Ok (record { start = start; most = most })
+
 -- a question
-unfoldable pub query_of : Name → ℕ → Token → Token → Result Command (Refused ScriptKind)
-query_of origin n name rtype = do
+unfoldable pub question_of : Name → ℕ → Asked → Result Question (Refused ScriptKind)
+question_of origin n (Gets name rtype) = do
   q ← needed n BadName (name_word origin name)
   t ← needed n BadType (type_word rtype)
   Ok (Get q t)
+question_of origin n (Finds name) = do
+  q ← needed n BadName (name_word origin name)
+  Ok (Find q)
+question_of origin n (Walks name number) = do
+  stretch ← stretch_of origin n name number
+  Ok (Walk stretch)
+question_of origin n (Backs name number) = do
+  stretch ← stretch_of origin n name number
+  Ok (Back stretch)
+question_of origin n Stats = Ok Stat
 
 -- an addition
 unfoldable pub addition_of : Name → ℕ → Token → Token → Token → List Token → Result Operation (Refused ScriptKind)
@@ -163,10 +223,13 @@ admitted n s next = if s.begun then (if nat_lt (length s.commands) command_limit
 abbrev pub with_command : Script → Command → Result Script (Refused ScriptKind)
 with_command s command = Ok (record s { commands = s.commands ++ command ∷ [] })
 
+abbrev pub with_question : Script → Question → Result Script (Refused ScriptKind)
+with_question s question = with_command s (Ask question)
+
 -- a line outside a block
 abbrev pub outside : Name → ℕ → Phrase → Script → Result Script (Refused ScriptKind)
 outside origin n Worker s = if s.begun then refuse n TooMany else Ok (record s { begun = true })
-outside origin n (AsksFor name rtype) s = admitted n s (query_of origin n name rtype >>= with_command s)
+outside origin n (Asks asked) s = admitted n s (question_of origin n asked >>= with_question s)
 outside origin n (Opens weight) s = admitted n s (Ok (record s { block = Some (record { start = n; weight = weight; operations = [] }) }))
 outside origin n (Adds owner ttl rtype tokens) s = refuse n BadCommand
 outside origin n (Deletes owner rest) s = refuse n BadCommand
@@ -194,7 +257,7 @@ ended n b ending s =
 -- a line inside a block
 abbrev pub inside : Name → ℕ → Unfinished → Phrase → Script → Result Script (Refused ScriptKind)
 inside origin n b Worker s = refuse b.start OpenBlock
-inside origin n b (AsksFor name rtype) s = refuse n BadCommand
+inside origin n b (Asks asked) s = refuse n BadCommand
 inside origin n b (Opens _) s = refuse n BadCommand
 inside origin n b (Adds owner ttl rtype tokens) s = joined n b s (addition_of origin n owner ttl rtype tokens)
 inside origin n b (Deletes owner rest) s = joined n b s (deletion_of origin n owner rest)

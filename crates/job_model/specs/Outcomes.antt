@@ -5,7 +5,7 @@ use Rattle.std.specs.List.Sorted.{IsStrictlySortedBy}
 use Rattle.std.specs.Ordering.{nat_cmp}
 use Rattle.zone_model.specs.Names.{Name}
 use Rattle.zone_model.specs.Versions.{Version, Operation, apply, whole}
-use Rattle.job_model.specs.Jobs.{Command, Get, Block}
+use Rattle.job_model.specs.Jobs.{Command, Ask, Block}
 use Rattle.job_model.specs.Sizes.{cell_count}
 use Rattle.zone_model.specs.declared.Refusal.{Refusal}
 use Rattle.job_model.specs.declared.Ending.{Ending}
@@ -52,7 +52,7 @@ abbrev pub made : ℕ → Pair → Bool
 made j pair = is_committed pair.1.ended && (pair.1.version == j)
 
 abbrev pub operations_of : Command → List Operation
-operations_of (Get name rtype) = []
+operations_of (Ask question) = []
 operations_of (Block _ operations ending) = operations
 
 -- the operations that made version j
@@ -117,10 +117,10 @@ Causes chunks passes origin operations ending set base Spent = (base ≡ last_ve
 
 -- a command that ended so, on the versions `set`, by a worker that had seen a version
 abbrev pub EndsLawfully : ℕ → ℕ → Name → (ℕ → Version) → ℕ → Command → ℕ → Ended → Type 0
-EndsLawfully chunks passes origin set seen (Get name rtype) v Shown = seen ≤ v
-EndsLawfully chunks passes origin set seen (Get name rtype) v Committed = ⊥
-EndsLawfully chunks passes origin set seen (Get name rtype) v RolledBack = ⊥
-EndsLawfully chunks passes origin set seen (Get name rtype) v (Refused cause) = ⊥
+EndsLawfully chunks passes origin set seen (Ask question) v Shown = seen ≤ v
+EndsLawfully chunks passes origin set seen (Ask question) v Committed = ⊥
+EndsLawfully chunks passes origin set seen (Ask question) v RolledBack = ⊥
+EndsLawfully chunks passes origin set seen (Ask question) v (Refused cause) = ⊥
 EndsLawfully chunks passes origin set seen (Block _ operations ending) v Shown = ⊥
 EndsLawfully chunks passes origin set seen (Block _ operations ending) v Committed = (ending ≡ Commit) × (seen < v) × IsOk (whole origin operations (set (v - 1)))
 EndsLawfully chunks passes origin set seen (Block _ operations ending) v RolledBack = (ending ≡ Rollback) × (seen ≤ v) × IsOk (whole origin operations (set v))

@@ -2,12 +2,12 @@
 use Rattle.std.proofs.Common.{◌≡◌, ◌∙◌, ℕ, List, [], ◌∷◌, Option, Some, None, refl, ap, sym}
 use Rattle.zone_model.specs.Names.{Name}
 use Rattle.zone_model.specs.Tokens.{Token}
-use Rattle.job_model.specs.Jobs.{Phrase, Worker, AsksFor, Opens, Adds, Deletes, Ends, Script, Unfinished, inside, taken, tokens_say, phrase_of}
+use Rattle.job_model.specs.Jobs.{Phrase, Worker, Asks, Opens, Adds, Deletes, Ends, Script, Unfinished, inside, taken, tokens_say, phrase_of}
 
 -- It doesn't depend on what the script has as its block, since that block is handed to it.
 pub inside_alike : (origin : Name) (n : ℕ) (b : Unfinished) (p : Phrase) (s : Script) (block : Option Unfinished) → inside origin n b p (record s { block = block }) ≡ inside origin n b p s
 inside_alike origin n b Worker s block = refl
-inside_alike origin n b (AsksFor name rtype) s block = refl
+inside_alike origin n b (Asks asked) s block = refl
 inside_alike origin n b (Opens _) s block = refl
 inside_alike origin n b (Adds owner ttl rtype tokens) s block = refl
 inside_alike origin n b (Deletes owner rest) s block = refl

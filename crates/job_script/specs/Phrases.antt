@@ -3,21 +3,37 @@ use Rattle.std.specs.Prelude.{ℕ, List, map}
 use Rattle.std.specs.List.{All}
 use Rattle.job_model.specs.Jobs as jobs
 use Rattle.rr_data.specs.Tokens.{IsPlaced, token_view}
+use Rattle.job_script.specs.declared.phrases.Asked.{Asked}
+use Rattle.job_script.specs.declared.phrases.Asked.TheVariants as asked
 use Rattle.job_script.specs.declared.phrases.Phrase.{Phrase}
 use Rattle.job_script.specs.declared.phrases.Phrase.TheVariants as phrase
 
+abbrev pub asked_view : List ℕ → Asked → jobs.Asked
+asked_view bytes (asked.Gets name rtype) = jobs.Gets (token_view bytes name) (token_view bytes rtype)
+asked_view bytes (asked.Finds name) = jobs.Finds (token_view bytes name)
+asked_view bytes (asked.Walks name number) = jobs.Walks (token_view bytes name) (token_view bytes number)
+asked_view bytes (asked.Backs name number) = jobs.Backs (token_view bytes name) (token_view bytes number)
+asked_view bytes asked.Stats = jobs.Stats
+
 abbrev pub phrase_view : List ℕ → Phrase → jobs.Phrase
 phrase_view bytes phrase.Worker = jobs.Worker
-phrase_view bytes (phrase.AsksFor name rtype) = jobs.AsksFor (token_view bytes name) (token_view bytes rtype)
+phrase_view bytes (phrase.Asks question) = jobs.Asks (asked_view bytes question)
 phrase_view bytes (phrase.Opens weight) = jobs.Opens weight
 phrase_view bytes (phrase.Adds owner ttl rtype rest) = jobs.Adds (token_view bytes owner) (token_view bytes ttl) (token_view bytes rtype) (map (token_view bytes) rest.now)
 phrase_view bytes (phrase.Deletes owner rest) = jobs.Deletes (token_view bytes owner) (map (token_view bytes) rest.now)
 phrase_view bytes (phrase.Ends ending) = jobs.Ends ending
 
 -- the tokens lie inside the bytes
+abbrev pub AskedPlaced : List ℕ → Asked → Type 0
+AskedPlaced bytes (asked.Gets name rtype) = IsPlaced bytes name × IsPlaced bytes rtype
+AskedPlaced bytes (asked.Finds name) = IsPlaced bytes name
+AskedPlaced bytes (asked.Walks name number) = IsPlaced bytes name × IsPlaced bytes number
+AskedPlaced bytes (asked.Backs name number) = IsPlaced bytes name × IsPlaced bytes number
+AskedPlaced bytes asked.Stats = Unit {0}
+
 abbrev pub PhrasePlaced : List ℕ → Phrase → Type 0
 PhrasePlaced bytes phrase.Worker = Unit {0}
-PhrasePlaced bytes (phrase.AsksFor name rtype) = IsPlaced bytes name × IsPlaced bytes rtype
+PhrasePlaced bytes (phrase.Asks question) = AskedPlaced bytes question
 PhrasePlaced bytes (phrase.Opens _) = Unit {0}
 PhrasePlaced bytes (phrase.Adds owner ttl rtype rest) = IsPlaced bytes owner × IsPlaced bytes ttl × IsPlaced bytes rtype × All (IsPlaced bytes) rest.now
 PhrasePlaced bytes (phrase.Deletes owner rest) = IsPlaced bytes owner × All (IsPlaced bytes) rest.now

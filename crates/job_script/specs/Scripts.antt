@@ -11,8 +11,8 @@ use Rattle.job_script.specs.Views.{command_view, operation_view}
 use Rattle.job_script.specs.declared.commands.Command.{Command}
 use Rattle.job_script.specs.declared.script.Script.{Script}
 use Rattle.job_script.specs.declared.script.Unfinished.{Unfinished}
-use Rattle.job_script.specs.declared.script.ScriptRefusal.{ScriptRefusal}
-use Rattle.job_script.specs.declared.script.ScriptRefusal.TheVariants as stops
+use Rattle.job_script.specs.declared.refusal.ScriptRefusal.{ScriptRefusal}
+use Rattle.job_script.specs.declared.refusal.ScriptRefusal.TheVariants as stops
 
 abbrev pub commands_view : List Command → List jobs.Command
 commands_view commands = map command_view commands

@@ -5,6 +5,9 @@ use Rattle.job_model.specs.Jobs as jobs
 use Rattle.job_script.specs.declared.operations.NewRecord.{NewRecord}
 use Rattle.job_script.specs.declared.operations.Operation.{Operation}
 use Rattle.job_script.specs.declared.operations.Operation.TheVariants.{Add, DeleteName, DeleteSet, DeleteRecord}
+use Rattle.job_script.specs.declared.commands.Stretch.{Stretch}
+use Rattle.job_script.specs.declared.commands.Question.{Question}
+use Rattle.job_script.specs.declared.commands.Question.TheVariants as question
 use Rattle.job_script.specs.declared.commands.Command.{Command}
 use Rattle.job_script.specs.declared.commands.Command.TheVariants as command
 use Rattle.job_script.specs.declared.commands.Block.{Block}
@@ -18,9 +21,19 @@ operation_view (DeleteName owner) = versions.DeleteName owner
 operation_view (DeleteSet owner rtype) = versions.DeleteSet owner rtype
 operation_view (DeleteRecord owner rtype rdata) = versions.DeleteRecord owner rtype rdata
 
+abbrev pub stretch_view : Stretch → jobs.Stretch
+stretch_view s = record { start = s.start; most = s.most }
+
+abbrev pub question_view : Question → jobs.Question
+question_view (question.Get name rtype) = jobs.Get name rtype
+question_view (question.Find name) = jobs.Find name
+question_view (question.Walk stretch) = jobs.Walk (stretch_view stretch)
+question_view (question.Back stretch) = jobs.Back (stretch_view stretch)
+question_view question.Stat = jobs.Stat
+
 abbrev pub block_view : Block → jobs.Command
 block_view b = jobs.Block b.weight (map operation_view b.operations.items) b.ending
 
 abbrev pub command_view : Command → jobs.Command
-command_view (command.Get name rtype) = jobs.Get name rtype
+command_view (command.Ask asked) = jobs.Ask (question_view asked)
 command_view (command.Block b) = block_view b

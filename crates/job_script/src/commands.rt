@@ -3,6 +3,30 @@ use crate::operations::Operation;
 use dns_name::Name;
 use job_model::{Ending, Weight};
 
+/// Names that follow a name in one direction.
+#[derive(Drop)]
+pub struct Stretch {
+    /// The name that it begins at, or before.
+    pub start: Name,
+    /// How many names are wanted at most.
+    pub most: u32,
+}
+
+/// A question to one version.
+#[derive(Drop)]
+pub enum Question {
+    /// The answer for a name and a type.
+    Get(Name, u16),
+    /// What there is of a name.
+    Find(Name),
+    /// The names at or after a name.
+    Walk(Stretch),
+    /// The names before a name, the nearest first.
+    Back(Stretch),
+    /// How large the version is.
+    Stat,
+}
+
 /// A transaction.
 #[derive(Drop)]
 pub struct Block {
@@ -14,8 +38,6 @@ pub struct Block {
 /// A command of a worker.
 #[derive(Drop)]
 pub enum Command {
-    /// A query of a name and a type.
-    Get(Name, u16),
-    /// A transaction.
+    Ask(Question),
     Block(Block),
 }

@@ -4,18 +4,32 @@ ghost use Rattle.std.specs.Option.{option_map};
 ghost use Rattle.std.specs.List.{All};
 ghost use Rattle.job_model.specs.Jobs as jobs;
 ghost use Rattle.rr_data.specs.Tokens.{IsPlaced, token_view};
-ghost use Rattle.job_script.specs.Phrases.{phrase_view, PhrasePlaced};
+ghost use Rattle.job_script.specs.Phrases.{asked_view, AskedPlaced, phrase_view, PhrasePlaced};
 
 use job_model::{Ending, Weight};
 use rr_data::Token;
+
+/// The words of a question.
+#[derive(Clone, Copy)]
+pub enum Asked {
+    /// A name and a type.
+    Gets(Token, Token),
+    /// A name.
+    Finds(Token),
+    /// A name and a number.
+    Walks(Token, Token),
+    /// A name and a number.
+    Backs(Token, Token),
+    Stats,
+}
 
 /// What a line says, with the tokens of its arguments.
 #[derive(Clone, Copy)]
 pub enum Phrase<'a> {
     /// The next worker's list begins.
     Worker,
-    /// A question of a name and a type.
-    AsksFor(Token, Token),
+    /// A question.
+    Asks(Asked),
     /// A block begins.
     Opens(Weight),
     /// An addition of an owner, time to live, type and data.
@@ -37,6 +51,44 @@ fn says(bytes: &[u8], token: Token, word: &[u8]) -> bool
     token.text(bytes) == word
 }
 
+// The token that stands alone.
+fn lone(tokens: &[Token]) -> Option<Token>
+    ensures lone { (bytes : List ℕ) → option_map (token_view bytes) result ≡ jobs.lone (map (token_view bytes) tokens.now) }
+    ensures placed { (bytes : List ℕ) → All (IsPlaced bytes) tokens.now → IfSome result (IsPlaced bytes) }
+{
+    let (first, behind) = tokens.split_first()?;
+    if behind.is_empty() { Some(*first) } else { None }
+}
+
+// A question whose word has a name behind it.
+#[tactic(auto, unfolding(job_model::specs::Jobs::asked_of))]
+fn named_question(bytes: &[u8], word: Token, name: Token, rest: &[Token]) -> Option<Asked>
+    requires word { IsPlaced bytes.now word }
+    requires name { IsPlaced bytes.now name }
+    requires rest { All (IsPlaced bytes.now) rest.now }
+    ensures said { option_map (asked_view bytes.now) result ≡ jobs.asked_of (token_view bytes.now word ∷ token_view bytes.now name ∷ map (token_view bytes.now) rest.now) }
+    ensures placed { IfSome result (AskedPlaced bytes.now) }
+{
+    if says(bytes, word, b"get") {
+        return Some(Asked::Gets(name, lone(rest)?));
+    }
+    if says(bytes, word, b"find") {
+        return if rest.is_empty() {
+            Some(Asked::Finds(name))
+        } else {
+            None
+        };
+    }
+    if says(bytes, word, b"walk") {
+        return Some(Asked::Walks(name, lone(rest)?));
+    }
+    if says(bytes, word, b"back") {
+        return Some(Asked::Backs(name, lone(rest)?));
+    }
+    None
+}
+
+#[tactic(auto, unfolding(job_model::specs::Jobs::asked_of))]
 fn lone_word<'a>(bytes: &[u8], word: Token) -> Option<Phrase<'a>>
     requires { IsPlaced bytes.now word }
     ensures said { option_map (phrase_view bytes.now) result ≡ jobs.lone_word (token_view bytes.now word) }
@@ -52,24 +104,11 @@ fn lone_word<'a>(bytes: &[u8], word: Token) -> Option<Phrase<'a>>
         Some(Phrase::Ends(Ending::Commit))
     } else if says(bytes, word, b"rollback") {
         Some(Phrase::Ends(Ending::Rollback))
+    } else if says(bytes, word, b"stat") {
+        Some(Phrase::Asks(Asked::Stats))
     } else {
         None
     }
-}
-
-fn asks<'a>(bytes: &[u8], name: Token, rest: &'a [Token]) -> Option<Phrase<'a>>
-    requires name { IsPlaced bytes.now name }
-    requires rest { All (IsPlaced bytes.now) rest.now }
-    ensures said { option_map (phrase_view bytes.now) result ≡ jobs.asks (token_view bytes.now name) (map (token_view bytes.now) rest.now) }
-    ensures placed { IfSome result (PhrasePlaced bytes.now) }
-{
-    let Some((rtype, behind)) = rest.split_first() else {
-        return None;
-    };
-    if !behind.is_empty() {
-        return None;
-    }
-    Some(Phrase::AsksFor(name, *rtype))
 }
 
 fn adds<'a>(bytes: &[u8], owner: Token, rest: &'a [Token]) -> Option<Phrase<'a>>
@@ -103,14 +142,14 @@ pub fn phrase_of<'a>(bytes: &[u8], tokens: &'a [Token]) -> Option<Phrase<'a>>
     let Some((first, rest)) = arguments.split_first() else {
         return lone_word(bytes, *word);
     };
-    if says(bytes, *word, b"get") {
-        return asks(bytes, *first, rest);
-    }
     if says(bytes, *word, b"add") {
         return adds(bytes, *first, rest);
     }
     if says(bytes, *word, b"del") {
         return Some(Phrase::Deletes(*first, rest));
     }
-    None
+    match named_question(bytes, *word, *first, rest) {
+        Some(asked) => Some(Phrase::Asks(asked)),
+        None => None,
+    }
 }

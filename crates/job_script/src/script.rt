@@ -4,21 +4,22 @@ ghost use Rattle.std.specs.Option.{option_map};
 ghost use Rattle.std.specs.List.{All};
 ghost use Rattle.job_model.specs.Jobs as jobs;
 ghost use Rattle.zone_model.specs.Lines.{lines_of};
-ghost use Rattle.zone_model.specs.Data.{data_of};
 ghost use Rattle.rr_data.specs.Tokens.{IsPlaced, token_view};
-ghost use Rattle.job_script.specs.Phrases.{phrase_view, PhrasePlaced};
+ghost use Rattle.job_script.specs.Phrases.{asked_view, AskedPlaced, phrase_view, PhrasePlaced};
 ghost use Rattle.job_script.specs.Scripts.{unfinished_view, script_view, ScriptReads, ScriptSteps, CommandsRead, Says};
 ghost use Rattle.job_script.specs.Views.{operation_view, command_view};
-ghost use Rattle.job_script.specs.declared.script.ScriptRefusal.TheVariants.{Memory};
 
+use crate::changes::{addition_of, deletion_of};
 use crate::commands::{Block, Command};
-use crate::operations::{NewRecord, Operation};
-use crate::phrases::{Phrase, phrase_of};
+use crate::operations::Operation;
+use crate::phrases::{Asked, Phrase, phrase_of};
+use crate::questions::question_of;
+use crate::refusal::{ScriptRefusal, refused};
 use dns_name::Name;
 use job_model::{Ending, ScriptKind, Weight};
-use master_file::{ZoneRefusal, line_tokens, name_word, time_word, type_word};
-use rr_data::{Rdata, RdataRefusal, Token};
-use std::alloc::{AllocError, AllocFailed, Global};
+use master_file::{ZoneRefusal, line_tokens};
+use rr_data::Token;
+use std::alloc::Global;
 
 /// The most commands of a worker, and operations of a block.
 const COMMAND_LIMIT: usize = 10000;
@@ -41,210 +42,6 @@ pub struct Script {
     pub block: Option<Unfinished>,
 }
 
-/// Why a script is not read.
-#[derive(Clone, Copy, Debug, PartialEq, Eq)]
-pub enum ScriptRefusal {
-    /// The first line that is refused, and why.
-    Refused { line: u32, kind: ScriptKind },
-    /// Want of memory.
-    Memory,
-}
-
-impl From<AllocError> for ScriptRefusal {
-    ghost from_gives = { λ _ e. e ≡ Memory };
-
-    fn from(_: AllocError) -> Self {
-        ScriptRefusal::Memory
-    }
-}
-
-impl<T: Drop> From<AllocFailed<T>> for ScriptRefusal {
-    ghost from_gives = { λ _ e. e ≡ Memory };
-
-    fn from(_: AllocFailed<T>) -> Self {
-        ScriptRefusal::Memory
-    }
-}
-
-// The name that a token says, at or under the origin.
-fn inner_name(bytes: &[u8], origin: &Name, token: Token) -> Option<Name>
-    requires { IsPlaced bytes.now token }
-    ensures { result ≡ jobs.inner_name origin.now (token_view bytes.now token) }
-{
-    let name = name_word(bytes, origin, token)?;
-    if name.is_under(origin) {
-        Some(name)
-    } else {
-        None
-    }
-}
-
-// The data of a record, or a refusal of the line.
-fn rdata_of(
-    alloc: Global,
-    bytes: &[u8],
-    origin: &Name,
-    line: u32,
-    rtype: u16,
-    tokens: &[Token],
-) -> Result<Rdata, ScriptRefusal>
-    requires { All (IsPlaced bytes.now) tokens.now }
-    ensures { Says result (λ r. r) (jobs.octets_needed line (data_of origin.now rtype (map (token_view bytes.now) tokens.now))) }
-{
-    match Rdata::read(alloc, rtype, bytes, tokens, origin) {
-        Ok(rdata) => Ok(rdata),
-        Err(RdataRefusal::Memory) => Err(ScriptRefusal::Memory),
-        Err(RdataRefusal::BadRdata { .. }) => Err(ScriptRefusal::Refused {
-            line,
-            kind: ScriptKind::BadRdata,
-        }),
-        Err(RdataRefusal::LongString { .. }) => {
-            Err(ScriptRefusal::Refused {
-                line,
-                kind: ScriptKind::BadRdata,
-            })
-        }
-    }
-}
-
-// A question.
-#[tactic(auto, unfolding(job_model::specs::Jobs::query_of))]
-fn query_of(
-    bytes: &[u8],
-    origin: &Name,
-    line: u32,
-    name: Token,
-    rtype: Token,
-) -> Result<Command, ScriptRefusal>
-    requires name { IsPlaced bytes.now name }
-    requires rtype { IsPlaced bytes.now rtype }
-    ensures { Says result command_view (jobs.query_of origin.now line (token_view bytes.now name) (token_view bytes.now rtype)) }
-{
-    let Some(asked) = name_word(bytes, origin, name) else {
-        return Err(ScriptRefusal::Refused {
-            line,
-            kind: ScriptKind::BadName,
-        });
-    };
-    match type_word(bytes, rtype) {
-        Some(number) => Ok(Command::Get(asked, number)),
-        None => Err(ScriptRefusal::Refused {
-            line,
-            kind: ScriptKind::BadType,
-        }),
-    }
-}
-
-// An addition.
-#[tactic(auto, unfolding(job_model::specs::Jobs::addition_of))]
-fn addition_of(
-    alloc: Global,
-    bytes: &[u8],
-    origin: &Name,
-    line: u32,
-    owner: Token,
-    ttl: Token,
-    rtype: Token,
-    tokens: &[Token],
-) -> Result<Operation, ScriptRefusal>
-    requires owner { IsPlaced bytes.now owner }
-    requires ttl { IsPlaced bytes.now ttl }
-    requires rtype { IsPlaced bytes.now rtype }
-    requires tokens { All (IsPlaced bytes.now) tokens.now }
-    ensures { Says result operation_view (jobs.addition_of origin.now line (token_view bytes.now owner) (token_view bytes.now ttl) (token_view bytes.now rtype) (map (token_view bytes.now) tokens.now)) }
-{
-    let Some(owner) = inner_name(bytes, origin, owner) else {
-        return Err(ScriptRefusal::Refused {
-            line,
-            kind: ScriptKind::BadName,
-        });
-    };
-    let Some(ttl) = time_word(bytes, ttl) else {
-        return Err(ScriptRefusal::Refused {
-            line,
-            kind: ScriptKind::BadNumber,
-        });
-    };
-    let Some(rtype) = type_word(bytes, rtype) else {
-        return Err(ScriptRefusal::Refused {
-            line,
-            kind: ScriptKind::BadType,
-        });
-    };
-    match rdata_of(alloc, bytes, origin, line, rtype, tokens) {
-        Ok(rdata) => Ok(Operation::Add(NewRecord {
-            owner,
-            rtype,
-            ttl,
-            rdata,
-        })),
-        Err(refusal) => Err(refusal),
-    }
-}
-
-// A deletion of the RRset of a type, or of one record.
-#[tactic(auto, unfolding(job_model::specs::Jobs::deletion_of))]
-fn typed_deletion(
-    alloc: Global,
-    bytes: &[u8],
-    origin: &Name,
-    line: u32,
-    owner: Token,
-    rtype: Token,
-    tokens: &[Token],
-) -> Result<Operation, ScriptRefusal>
-    requires owner { IsPlaced bytes.now owner }
-    requires rtype { IsPlaced bytes.now rtype }
-    requires tokens { All (IsPlaced bytes.now) tokens.now }
-    ensures { Says result operation_view (jobs.deletion_of origin.now line (token_view bytes.now owner) (token_view bytes.now rtype ∷ map (token_view bytes.now) tokens.now)) }
-{
-    let Some(owner) = inner_name(bytes, origin, owner) else {
-        return Err(ScriptRefusal::Refused {
-            line,
-            kind: ScriptKind::BadName,
-        });
-    };
-    let Some(rtype) = type_word(bytes, rtype) else {
-        return Err(ScriptRefusal::Refused {
-            line,
-            kind: ScriptKind::BadType,
-        });
-    };
-    if tokens.is_empty() {
-        return Ok(Operation::DeleteSet(owner, rtype));
-    }
-    match rdata_of(alloc, bytes, origin, line, rtype, tokens) {
-        Ok(rdata) => Ok(Operation::DeleteRecord(owner, rtype, rdata)),
-        Err(refusal) => Err(refusal),
-    }
-}
-
-// A deletion.
-#[tactic(auto, unfolding(job_model::specs::Jobs::deletion_of))]
-fn deletion_of(
-    alloc: Global,
-    bytes: &[u8],
-    origin: &Name,
-    line: u32,
-    owner: Token,
-    rest: &[Token],
-) -> Result<Operation, ScriptRefusal>
-    requires owner { IsPlaced bytes.now owner }
-    requires rest { All (IsPlaced bytes.now) rest.now }
-    ensures { Says result operation_view (jobs.deletion_of origin.now line (token_view bytes.now owner) (map (token_view bytes.now) rest.now)) }
-{
-    let Some((rtype, tokens)) = rest.split_first() else {
-        return match inner_name(bytes, origin, owner) {
-            Some(owner) => Ok(Operation::DeleteName(owner)),
-            None => Err(ScriptRefusal::Refused {
-                line,
-                kind: ScriptKind::BadName,
-            }),
-        };
-    };
-    typed_deletion(alloc, bytes, origin, line, owner, *rtype, tokens)
-}
-
 // A line outside a block.
 fn outside(
     script: &mut Script,
@@ -261,22 +58,14 @@ fn outside(
     match phrase {
         Phrase::Worker => {
             if script.begun {
-                return Err(ScriptRefusal::Refused {
-                    line,
-                    kind: ScriptKind::TooMany,
-                });
+                return Err(refused(line, ScriptKind::TooMany));
             }
             script.begun = true;
             Ok(())
         }
-        Phrase::AsksFor(name, rtype) => add_query(script, bytes, origin, line, name, rtype),
+        Phrase::Asks(asked) => add_question(script, bytes, origin, line, asked),
         Phrase::Opens(weight) => open_block(script, alloc, line, weight),
-        Phrase::Adds(_, _, _, _) | Phrase::Deletes(_, _) | Phrase::Ends(_) => {
-            Err(ScriptRefusal::Refused {
-                line,
-                kind: ScriptKind::BadCommand,
-            })
-        }
+        Phrase::Adds(_, _, _, _) | Phrase::Deletes(_, _) | Phrase::Ends(_) => Err(refused(line, ScriptKind::BadCommand)),
     }
 }
 
@@ -291,16 +80,10 @@ fn open_block(
     ensures { ScriptReads result (script_view script.new) (jobs.admitted line (script_view script.old) (Ok (record (script_view script.old) { block = Some (record { start = line; weight = weight; operations = [] }) }))) }
 {
     if !script.begun {
-        return Err(ScriptRefusal::Refused {
-            line,
-            kind: ScriptKind::NoWorker,
-        });
+        return Err(refused(line, ScriptKind::NoWorker));
     }
     if script.commands.len() >= COMMAND_LIMIT {
-        return Err(ScriptRefusal::Refused {
-            line,
-            kind: ScriptKind::TooMany,
-        });
+        return Err(refused(line, ScriptKind::TooMany));
     }
     script.block = Some(Unfinished {
         start: line,
@@ -311,33 +94,25 @@ fn open_block(
 }
 
 // A question joins the worker's commands.
-fn add_query(
+fn add_question(
     script: &mut Script,
     bytes: &[u8],
     origin: &Name,
     line: u32,
-    name: Token,
-    rtype: Token,
+    asked: Asked,
 ) -> Result<(), ScriptRefusal>
-    requires name { IsPlaced bytes.now name }
-    requires rtype { IsPlaced bytes.now rtype }
-    ensures { ScriptReads result (script_view script.new) (jobs.outside origin.now line (jobs.AsksFor (token_view bytes.now name) (token_view bytes.now rtype)) (script_view script.old)) }
+    requires { AskedPlaced bytes.now asked }
+    ensures { ScriptReads result (script_view script.new) (jobs.outside origin.now line (jobs.Asks (asked_view bytes.now asked)) (script_view script.old)) }
 {
     if !script.begun {
-        return Err(ScriptRefusal::Refused {
-            line,
-            kind: ScriptKind::NoWorker,
-        });
+        return Err(refused(line, ScriptKind::NoWorker));
     }
     if script.commands.len() >= COMMAND_LIMIT {
-        return Err(ScriptRefusal::Refused {
-            line,
-            kind: ScriptKind::TooMany,
-        });
+        return Err(refused(line, ScriptKind::TooMany));
     }
-    match query_of(bytes, origin, line, name, rtype) {
-        Ok(command) => {
-            script.commands.push(command)?;
+    match question_of(bytes, origin, line, asked) {
+        Ok(question) => {
+            script.commands.push(Command::Ask(question))?;
             Ok(())
         }
         Err(refusal) => Err(refusal),
@@ -381,10 +156,7 @@ fn end_block(
     ensures { ScriptReads result (script_view script.new) (jobs.ended line (unfinished_view block) ending (script_view script.old)) }
 {
     if !may_end(block.weight, ending) {
-        return Err(ScriptRefusal::Refused {
-            line,
-            kind: ScriptKind::BadCommand,
-        });
+        return Err(refused(line, ScriptKind::BadCommand));
     }
     script.commands.push(Command::Block(Block {
         weight: block.weight,
@@ -409,23 +181,10 @@ fn inside(
     ensures { ScriptReads result (script_view script.new) (jobs.inside origin.now line (unfinished_view block) (phrase_view bytes.now phrase.entry) (script_view script.old)) }
 {
     match phrase {
-        Phrase::Worker => Err(ScriptRefusal::Refused {
-            line: block.start,
-            kind: ScriptKind::OpenBlock,
-        }),
-        Phrase::AsksFor(_, _) | Phrase::Opens(_) => {
-            Err(ScriptRefusal::Refused {
-                line,
-                kind: ScriptKind::BadCommand,
-            })
-        }
+        Phrase::Worker => Err(refused(block.start, ScriptKind::OpenBlock)),
+        Phrase::Asks(_) | Phrase::Opens(_) => Err(refused(line, ScriptKind::BadCommand)),
         Phrase::Adds(_, _, _, _) | Phrase::Deletes(_, _)
-            if block.operations.len() >= OPERATION_LIMIT => {
-            Err(ScriptRefusal::Refused {
-                line,
-                kind: ScriptKind::TooMany,
-            })
-        }
+            if block.operations.len() >= OPERATION_LIMIT => Err(refused(line, ScriptKind::TooMany)),
         Phrase::Adds(owner, ttl, rtype, tokens) => {
             match addition_of(alloc, bytes, origin, line, owner, ttl, rtype, tokens) {
                 Ok(operation) => join(script, block, operation),
@@ -458,10 +217,7 @@ fn take_tokens(
         return Ok(());
     }
     let Some(phrase) = phrase_of(bytes, tokens) else {
-        return Err(ScriptRefusal::Refused {
-            line,
-            kind: ScriptKind::BadCommand,
-        });
+        return Err(refused(line, ScriptKind::BadCommand));
     };
     match script.block.take() {
         None => outside(script, alloc, bytes, origin, line, phrase),
@@ -488,17 +244,11 @@ fn script_line(
         Ok(lexed) => lexed,
         Err(ZoneRefusal::Memory) => return Err(ScriptRefusal::Memory),
         Err(ZoneRefusal::Refused { .. }) => {
-            return Err(ScriptRefusal::Refused {
-                line,
-                kind: ScriptKind::BadCommand,
-            });
+            return Err(refused(line, ScriptKind::BadCommand));
         }
     };
     if lexed.parens {
-        return Err(ScriptRefusal::Refused {
-            line,
-            kind: ScriptKind::BadCommand,
-        });
+        return Err(refused(line, ScriptKind::BadCommand));
     }
     match take_tokens(script, alloc, bytes, origin, line, &lexed.tokens) {
         Ok(()) => Ok(lexed.next),
@@ -565,16 +315,10 @@ pub fn read_script(
         block,
     } = script;
     if let Some(block) = block {
-        return Err(ScriptRefusal::Refused {
-            line: block.start,
-            kind: ScriptKind::OpenBlock,
-        });
+        return Err(refused(block.start, ScriptKind::OpenBlock));
     }
     if !begun {
-        return Err(ScriptRefusal::Refused {
-            line: end,
-            kind: ScriptKind::NoWorker,
-        });
+        return Err(refused(end, ScriptKind::NoWorker));
     }
     Ok(commands)
 }

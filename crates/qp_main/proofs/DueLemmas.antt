@@ -11,7 +11,7 @@ use Rattle.job_model.specs.Jobs.{Command, Job, JobRefusal, ZoneRefused, ScriptRe
 use Rattle.job_model.specs.Outcomes.{some_refused}
 use Rattle.zone_model.specs.declared.ZoneKind.{ZoneKind}
 use Rattle.job_model.specs.declared.ScriptKind.{ScriptKind}
-use Rattle.qp_main.specs.Fits.{fits, no_room_text, size_text}
+use Rattle.qp_main.specs.Fits.{fits, no_room_text, opened_text}
 use Rattle.qp_main.specs.Due.{Due, DueBytes, DueInput, Answers, Checks, IfFits, Ends, ZoneRefuses, Reported, IsWritten}
 use Rattle.qp_main.specs.declared.status.Status.{Status}
 use Rattle.qp_main.specs.declared.status.Status.TheVariants as status
@@ -109,7 +109,7 @@ job_answer chunks (Err (ZoneRefused e)) s text h = answer_as s status.ZoneRefuse
 job_answer chunks (Err (ScriptRefused e)) s text h = answer_as s status.ScriptRefused h.0 tt
 
 check_answer : (chunks : ℕ) (r : Result Version (Refused ZoneKind)) (s : Status) (text : List ℕ) → Checks chunks r s text → IsAnswer s
-check_answer chunks (Ok zone) s text h = if_fits_answers (fits chunks zone) chunks zone (Ends status.Done (size_text zone)) s text (λ k. answer_as s status.Done k.0 tt) h
+check_answer chunks (Ok zone) s text h = if_fits_answers (fits chunks zone) chunks zone (Ends status.Done (opened_text zone)) s text (λ k. answer_as s status.Done k.0 tt) h
 check_answer chunks (Err e) s text h = answer_as s status.ZoneRefused h.0 tt
 
 pub due_answer : (verb : Verb) (chunks : ℕ) (origin : Name) (bytes : List ℕ) (s : Status) (text : List ℕ) → DueInput verb chunks origin bytes s text → IsAnswer s

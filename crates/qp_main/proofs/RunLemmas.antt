@@ -9,12 +9,11 @@ use Rattle.std.specs.Cmp.{ranked}
 use Rattle.std.specs.declared.cmp.Ordering.TheVariants.{Less}
 use Rattle.zone_model.specs.Names.{Name}
 use Rattle.zone_model.specs.Versions.{Version, Operation, whole}
-use Rattle.job_model.specs.Jobs.{Command, Get, Block}
-use Rattle.zone_answer.specs.Answers.{answer}
+use Rattle.job_model.specs.Jobs.{Command, Ask, Block}
 use Rattle.job_model.specs.Sizes.{cell_count, trie_entries}
 use Rattle.zone_answer.specs.Standing.{trie_entry}
 use Rattle.job_model.specs.Outcomes.{Outcome, Cause, Rule, Full, Spent, Causes, cells_kept, Ended, Shown, Committed, RolledBack, Refused, is_committed, is_refused, made, operations_of, operations_at, accepted_or, after, times_made, version_at, EndsLawfully, Along, all_pairs}
-use Rattle.job_model.specs.Reports.{head_text, command_text, worker_text, workers_text, answer_text, ended_text}
+use Rattle.job_model.specs.Reports.{head_text, command_text, worker_text, workers_text, question_text, ended_text}
 use Rattle.zone_model.specs.declared.Refusal.{Refusal}
 use Rattle.job_model.specs.declared.Ending.{Ending}
 use Rattle.job_model.specs.declared.Ending.TheVariants.{Commit}
@@ -65,7 +64,7 @@ abbrev Agree : (ℕ → Version) → (ℕ → Version) → ℕ → Type 0
 Agree set other last = (j : ℕ) → j ≤ last → other j ≡ set j
 
 text_alike : (origin : Name) (set other : ℕ → Version) (last : ℕ) → Agree set other last → (c : Command) (o : Outcome) → o.version ≤ last → command_text origin other c o ≡ command_text origin set c o
-text_alike origin set other last a (Get name rtype) o h = ap (λ (v : Version). answer_text (answer origin v name rtype)) (a o.version h)
+text_alike origin set other last a (Ask question) o h = ap (λ (v : Version). question_text origin v question) (a o.version h)
 text_alike origin set other last a (Block how operations ending) o h = refl
 
 worker_text-alike : (origin : Name) (set other : ℕ → Version) (last c : ℕ) (pairs : Pairs) → Agree set other last → Within last pairs → worker_text origin other 1 c pairs ≡ worker_text origin set 1 c pairs
@@ -149,10 +148,10 @@ causes_on chunks origin operations ending set old last (Full operation kept) e a
 causes_on chunks origin operations ending set old last Spent e alone l = (l.0, l.1, subst (λ (w : Version). IsOk (whole origin operations w)) (sym e) l.2)
 
 ends_alike : (chunks : ℕ) (origin : Name) (set other : ℕ → Version) (last seen v : ℕ) (c : Command) (e : Ended) → Agree set other last → v ≤ last → EndsLawfully chunks worker_passes origin set seen c v e → EndsLawfully chunks worker_passes origin other seen c v e
-ends_alike chunks origin set other last seen v (Get name rtype) Shown a h l = l
-ends_alike chunks origin set other last seen v (Get name rtype) Committed a h l = l
-ends_alike chunks origin set other last seen v (Get name rtype) RolledBack a h l = l
-ends_alike chunks origin set other last seen v (Get name rtype) (Refused cause) a h l = l
+ends_alike chunks origin set other last seen v (Ask question) Shown a h l = l
+ends_alike chunks origin set other last seen v (Ask question) Committed a h l = l
+ends_alike chunks origin set other last seen v (Ask question) RolledBack a h l = l
+ends_alike chunks origin set other last seen v (Ask question) (Refused cause) a h l = l
 ends_alike chunks origin set other last seen v (Block how operations ending) Shown a h l = l
 ends_alike chunks origin set other last seen v (Block how operations ending) Committed a h l =
     let le : v - 1 ≤ last = omega arith in
@@ -312,12 +311,12 @@ ran_more chunks origin zone commands command before mid now last next old new re
         (ran_same chunks origin zone commands before mid now last old refused c (record { version = next; ended = e }) r plain here ends text))
 
     go : (c : Command) (e : Ended) → StepEnds chunks origin c e last next old new → now ≡ mid ++ (head_text 1 (length commands + 1) next ++ command_text origin (λ _. old) c (record { version = next; ended = e })) → Ran chunks origin zone (commands ++ c ∷ []) before now next new (refused || is_refused e)
-    go (Get name rtype) Shown ends text =
-        unchanged (Get name rtype) Shown ends.0 ends.1 refl (seen_now ends.0)
+    go (Ask question) Shown ends text =
+        unchanged (Ask question) Shown ends.0 ends.1 refl (seen_now ends.0)
         (text ∙ ap (λ (v : Version). mid ++ (head_text 1 (length commands + 1) next ++ answer_text (answer origin v name rtype))) (sym (set_now ends.0)))
-    go (Get name rtype) Committed ends text = absurd ends
-    go (Get name rtype) RolledBack ends text = absurd ends
-    go (Get name rtype) (Refused cause) ends text = absurd ends
+    go (Ask question) Committed ends text = absurd ends
+    go (Ask question) RolledBack ends text = absurd ends
+    go (Ask question) (Refused cause) ends text = absurd ends
     go (Block how operations ending) Shown ends text = absurd ends
     go (Block how operations ending) Committed ends text =
         let here : next ≡ suc last = omega (arith, ends.1) in

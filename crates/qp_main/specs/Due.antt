@@ -14,7 +14,7 @@ use Rattle.job_model.specs.declared.ScriptKind.{ScriptKind}
 use Rattle.job_model.specs.declared.ScriptKind.TheVariants.{NoWorker, BadCommand, BadName, BadType, BadRdata, BadNumber, OpenBlock, TooMany}
 use Rattle.outer_io.specs.Bytes.{Grows, GrowsByFront}
 use Rattle.qp_main.specs.Invocations.{Invocation}
-use Rattle.qp_main.specs.Fits.{fits, no_room_text, size_text}
+use Rattle.qp_main.specs.Fits.{fits, no_room_text, opened_text}
 use Rattle.qp_main.specs.declared.invocation.Verb.{Verb}
 use Rattle.qp_main.specs.declared.invocation.Verb.TheVariants.{Run, Check}
 use Rattle.qp_main.specs.declared.status.Status.{Status}
@@ -80,7 +80,7 @@ Answers chunks (Err (ScriptRefused e)) = Ends status.ScriptRefused (refusal_text
 
 -- the status and the text for the zone that bytes say: how many names and nodes it has
 abbrev pub Checks : ℕ → Result Version (Refused ZoneKind) → Status → List ℕ → Type 0
-Checks chunks (Ok zone) = IfFits (fits chunks zone) chunks zone (Ends status.Done (size_text zone))
+Checks chunks (Ok zone) = IfFits (fits chunks zone) chunks zone (Ends status.Done (opened_text zone))
 Checks chunks (Err e) = ZoneRefuses e
 
 -- what is due for bytes within the limit; a check reads the zone alone

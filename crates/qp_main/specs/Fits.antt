@@ -4,7 +4,8 @@ use Rattle.std.specs.Fmt.{decimal}
 use Rattle.zone_model.specs.Names.{Name}
 use Rattle.zone_model.specs.Records.{Entry, item}
 use Rattle.zone_model.specs.Versions.{Version}
-use Rattle.job_model.specs.Sizes.{cell_count, node_count}
+use Rattle.job_model.specs.Sizes.{cell_count}
+use Rattle.job_model.specs.Reports.{size_text}
 use Rattle.qp_multi.specs.Openings.{room_in}
 
 -- what a name owns can be an item
@@ -19,5 +20,5 @@ abbrev pub no_room_text : ℕ → Version → List ℕ
 no_room_text chunks version = codes "zone does not fit: " ++ decimal (cell_count version) ++ codes " cells over " ++ decimal (room_in chunks) ++ codes "\n"
 
 -- how many names and nodes version 0 has
-abbrev pub size_text : Version → List ℕ
-size_text version = codes "v0 names " ++ decimal (length version) ++ codes " nodes " ++ decimal (node_count version) ++ codes "\n"
+abbrev pub opened_text : Version → List ℕ
+opened_text version = codes "v0 " ++ size_text version

@@ -3,7 +3,7 @@ use Rattle.std.specs.Prelude.{◌≡◌, ℕ, ◌+◌, ◌<◌, ◌≤◌, Bool,
 use Rattle.std.specs.List.{AllByRecursion, list_any}
 use Rattle.zone_model.specs.Names.{Name}
 use Rattle.zone_model.specs.Versions.{Version, whole}
-use Rattle.job_model.specs.Jobs.{Command, Get, Block}
+use Rattle.job_model.specs.Jobs.{Command, Ask, Block}
 use Rattle.job_model.specs.Outcomes.{Pair, Ended, Shown, Committed, RolledBack, Refused, Causes, is_refused, times_made, version_at, Along}
 use Rattle.job_model.specs.declared.Ending.TheVariants.{Commit, Rollback}
 use Rattle.qp_multi.specs.declared.index.Index.{Index}
@@ -28,10 +28,10 @@ pub record Ran (chunks : ℕ) (origin : Name) (zone : Version) (commands : List 
 
 -- one command ended so
 abbrev pub StepEnds : ℕ → Name → Command → Ended → ℕ → ℕ → Version → Version → Type 0
-StepEnds chunks origin (Get name rtype) Shown last next old new = (next ≡ last) × (new ≡ old)
-StepEnds chunks origin (Get name rtype) Committed last next old new = ⊥
-StepEnds chunks origin (Get name rtype) RolledBack last next old new = ⊥
-StepEnds chunks origin (Get name rtype) (Refused cause) last next old new = ⊥
+StepEnds chunks origin (Ask question) Shown last next old new = (next ≡ last) × (new ≡ old)
+StepEnds chunks origin (Ask question) Committed last next old new = ⊥
+StepEnds chunks origin (Ask question) RolledBack last next old new = ⊥
+StepEnds chunks origin (Ask question) (Refused cause) last next old new = ⊥
 StepEnds chunks origin (Block _ operations ending) Shown last next old new = ⊥
 StepEnds chunks origin (Block _ operations ending) Committed last next old new = (ending ≡ Commit) × (next ≡ last + 1) × (whole origin operations old ≡ Ok new)
 StepEnds chunks origin (Block _ operations ending) RolledBack last next old new = (ending ≡ Rollback) × (next ≡ last) × (new ≡ old) × IsOk (whole origin operations old)

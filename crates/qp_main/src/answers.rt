@@ -2,12 +2,20 @@
 ghost use Rattle.std.specs.Prelude.{◌≡◌, ◌++◌, OnOk, codes, decimal};
 ghost use Rattle.std.specs.List.{flat_map};
 ghost use Rattle.zone_model.specs.Rows.{row_text};
+ghost use Rattle.zone_model.specs.Versions.{Version};
+ghost use Rattle.zone_answer.specs.Standing.{Shows, ShowsSome};
+ghost use Rattle.job_script.specs.Views.{question_view};
+ghost use Rattle.job_model.specs.Reports as reports;
 ghost use Rattle.job_model.specs.Reports.{answer_text, count_text, kind_text};
 
+use dns_name::Name;
 use itoa::Buffer;
+use job_script::Question;
 use rr_data::push_type;
-use std::alloc::AllocError;
-use zone_answer::{Answer, Kind, Row};
+use std::alloc::{AllocError, Global};
+use trie_read::{Kind as Presence, Reading};
+use zone_answer::{Answer, Kind, Row, answer};
+use zone_names::{Found, back, find, walk};
 
 pub fn push_number(out: &mut Vec<u8>, number: u64) -> Result<(), AllocError>
     ensures { OnOk result (out.new.items ≡ out.old.items ++ decimal number) }
@@ -63,11 +71,96 @@ fn push_kind(out: &mut Vec<u8>, kind: &[u8], count: u64) -> Result<(), AllocErro
     out.extend_from_slice(b"\n")
 }
 
-/// Pushes an answer: its kind, and its records.
-pub fn push_answer(out: &mut Vec<u8>, answer: &Answer) -> Result<(), AllocError>
+// The kind of an answer, and its records.
+fn push_answer(out: &mut Vec<u8>, answer: &Answer) -> Result<(), AllocError>
     ensures { OnOk result (out.new.items ≡ out.old.items ++ answer_text answer.now) }
 {
     let rows = answer.rows();
     push_kind(out, kind_name(answer.kind()), rows.len() as u64)?;
     push_rows(out, rows)
+}
+
+fn push_names(out: &mut Vec<u8>, names: &[Name]) -> Result<(), AllocError>
+    ensures { OnOk result (out.new.items ≡ out.old.items ++ flat_map reports.name_line names.now) }
+{
+    for name in names {
+        name.push_text(out)?;
+        out.extend_from_slice(b"\n")?;
+    }
+    Ok(())
+}
+
+// A word, how many names there are, and the names.
+fn push_list(out: &mut Vec<u8>, word: &[u8], names: &[Name]) -> Result<(), AllocError>
+    ensures { OnOk result (out.new.items ≡ out.old.items ++ reports.names_text word.now names.now) }
+{
+    push_kind(out, word, names.len() as u64)?;
+    push_names(out, names)
+}
+
+fn presence_name(presence: Presence) -> &'static [u8]
+    ensures { result.now ≡ reports.found_kind_text presence }
+{
+    match presence {
+        Presence::Exact => b"EXACT",
+        Presence::Partial => b"PARTIAL",
+        Presence::Absent => b"NONE",
+    }
+}
+
+// What there is of a name.
+fn push_found(out: &mut Vec<u8>, found: &Found) -> Result<(), AllocError>
+    ensures { OnOk result (out.new.items ≡ out.old.items ++ reports.found_text found.now) }
+{
+    push_list(out, presence_name(found.kind()), found.chain())?;
+    out.extend_from_slice(b"pred ")?;
+    match found.predecessor() {
+        Some(name) => name.push_text(out)?,
+        None => out.extend_from_slice(b"none")?,
+    }
+    out.extend_from_slice(b"\n")
+}
+
+/// Pushes how many names a version has, and how many nodes its trie.
+pub fn push_size(out: &mut Vec<u8>, names: u64, nodes: u64) -> Result<(), AllocError>
+    ensures { OnOk result (out.new.items ≡ out.old.items ++ codes "names " ++ decimal names ++ codes " nodes " ++ decimal nodes ++ codes "\n") }
+{
+    out.extend_from_slice(b"names ")?;
+    push_number(out, names)?;
+    out.extend_from_slice(b" nodes ")?;
+    push_number(out, nodes)?;
+    out.extend_from_slice(b"\n")
+}
+
+/// Pushes what a version has to say to a question.
+pub fn push_reply<V: Reading>(
+    alloc: Global,
+    origin: &Name,
+    version: &mut V,
+    question: &Question,
+    out: &mut Vec<u8>,
+) -> Result<(), AllocError>
+    requires { ShowsSome (V.holds version.old) }
+    ensures { (zone : Version) → Shows (V.holds version.old) zone
+        → OnOk result (out.new.items ≡ out.old.items ++ reports.question_text origin.now zone (question_view question.now)) }
+{
+    match question {
+        Question::Get(name, rtype) => {
+            let answered = answer(alloc, version, origin, name, *rtype)?;
+            push_answer(out, &answered)
+        }
+        Question::Find(name) => {
+            let found = find(alloc, version, name)?;
+            push_found(out, &found)
+        }
+        Question::Walk(stretch) => {
+            let names = walk(alloc, version, &stretch.start, stretch.most as usize)?;
+            push_list(out, b"WALK", &names)
+        }
+        Question::Back(stretch) => {
+            let names = back(alloc, version, &stretch.start, stretch.most as usize)?;
+            push_list(out, b"BACK", &names)
+        }
+        Question::Stat => push_size(out, version.count(), version.nodes()),
+    }
 }

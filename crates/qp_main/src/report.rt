@@ -8,7 +8,7 @@ ghost use Rattle.qp_multi.specs.Fulls.{kept_versions};
 ghost use Rattle.qp_main.specs.Transactions.{cause_view};
 ghost use Rattle.qp_main.specs.Due.{zone_kind_text, script_kind_text, refusal_text};
 
-use crate::answers::push_number;
+use crate::answers::{push_number, push_size};
 use crate::transactions::Cause;
 use job_model::ScriptKind;
 use qp_multi::Kept;
@@ -185,13 +185,10 @@ pub fn no_room(alloc: Global, cells: u64, limit: u64) -> Result<Vec<u8>, AllocEr
 
 /// The line of a zone that was checked: how many names and nodes version 0 has.
 pub fn size_line(alloc: Global, names: u64, nodes: u64) -> Result<Vec<u8>, AllocError>
-    ensures { IfOk result (λ v. v.items ≡ codes "v0 names " ++ decimal names ++ codes " nodes " ++ decimal nodes ++ codes "\n") }
+    ensures { IfOk result (λ v. v.items ≡ codes "v0 " ++ (codes "names " ++ decimal names ++ codes " nodes " ++ decimal nodes ++ codes "\n")) }
 {
     let mut out = Vec::new(alloc);
-    out.extend_from_slice(b"v0 names ")?;
-    push_number(&mut out, names)?;
-    out.extend_from_slice(b" nodes ")?;
-    push_number(&mut out, nodes)?;
-    out.extend_from_slice(b"\n")?;
+    out.extend_from_slice(b"v0 ")?;
+    push_size(&mut out, names, nodes)?;
     Ok(out)
 }

@@ -2,21 +2,20 @@
 ghost use Rattle.std.specs.Prelude.{◌≡◌, ◌<◌, ◌≤◌, ◌+◌, ◌^◌, ℕ, List, [], ◌∷◌, length, IfOk, map, ◌||◌, if◌then◌else◌};
 ghost use Rattle.zone_model.specs.Versions.{Version};
 ghost use Rattle.job_model.specs.Jobs as jobs;
-ghost use Rattle.job_script.specs.Views.{block_view, command_view};
+ghost use Rattle.job_script.specs.Views.{block_view, command_view, question_view};
 ghost use Rattle.qp_main.specs.Due.{Reported};
 ghost use Rattle.qp_main.specs.Openings.{Keeps, KeepsFirst, KeepsSome};
 ghost use Rattle.qp_main.specs.Runs.{RunsOn, StepsOn};
 
-use crate::answers::push_answer;
+use crate::answers::push_reply;
 use crate::gate::Gate;
 use crate::report::{push_committed, push_end, push_head, push_refused, push_rolled_back};
 use crate::status::Status;
 use crate::transactions::{Transacted, transact};
 use dns_name::Name;
-use job_script::{Block, Command};
+use job_script::{Block, Command, Question};
 use qp_multi::Index;
 use std::alloc::{AllocError, Global};
-use zone_answer::answer;
 
 // Runs one block. Answers whether it was refused.
 fn run_block(
@@ -49,24 +48,22 @@ fn run_block(
     }
 }
 
-// Runs one query.
-fn run_query(
+// Asks the current version one question.
+fn run_question(
     alloc: Global,
     origin: &Name,
     index: &Index,
-    name: &Name,
-    rtype: u16,
+    question: &Question,
     number: u64,
     out: &mut Vec<u8>,
 ) -> Result<bool, AllocError>
     requires { KeepsSome index.now }
     ensures { (version : Version) (last chunks : ℕ) → Keeps index.now version last chunks
-        → IfOk result (StepsOn chunks origin.now (jobs.Get name.now rtype) number last version index.now out.old.items out.new.items) }
+        → IfOk result (StepsOn chunks origin.now (jobs.Ask (question_view question.now)) number last version index.now out.old.items out.new.items) }
 {
     let mut query = index.query();
-    let answered = answer(alloc, &mut query, origin, name, rtype)?;
     push_head(out, 1, number, query.version())?;
-    push_answer(out, &answered)?;
+    push_reply(alloc, origin, &mut query, question, out)?;
     Ok(false)
 }
 
@@ -84,7 +81,7 @@ fn run_command(
         → IfOk result (StepsOn chunks origin.now (command_view command.now) number last version index.new out.old.items out.new.items) }
 {
     match command {
-        Command::Get(name, rtype) => run_query(alloc, origin, index, name, *rtype, number, out),
+        Command::Ask(question) => run_question(alloc, origin, index, question, number, out),
         Command::Block(block) => run_block(alloc, origin, index, block, number, out),
     }
 }

@@ -14,14 +14,14 @@ use Rattle.zone_answer.specs.Standing.{IsStorable, IsVersion, trie_entry}
 use Rattle.zone_answer.specs.declared.near.Neighbours.{Neighbours}
 use Rattle.zone_answer.proofs.KeyOrder.{before_key, up_to_key}
 
-record Parted (version : Version) (before after : List trie.Entry) : Type 0 where
-  front : Version
-  back : Version
-  whole : version ≡ front ++ back
-  front_is : before ≡ map trie_entry front
-  back_is : after ≡ map trie_entry back
+pub record Parted (version : Version) (before after : List trie.Entry) : Type 0 where
+  pub front : Version
+  pub back : Version
+  pub whole : version ≡ front ++ back
+  pub front_is : before ≡ map trie_entry front
+  pub back_is : after ≡ map trie_entry back
 
-parted : (version : Version) (before after : List trie.Entry) → map trie_entry version ≡ before ++ after → Parted version before after
+pub parted : (version : Version) (before after : List trie.Entry) → map trie_entry version ≡ before ++ after → Parted version before after
 parted version [] after e = record { front = []; back = version; whole = refl; front_is = refl; back_is = sym e }
 parted [] (x ∷ before) after e = absurd cc
 parted (pair ∷ version) (x ∷ before) after e =
@@ -36,11 +36,11 @@ parted (pair ∷ version) (x ∷ before) after e =
       back_is = i.back_is;
     }
 
-all_front : (x y : Version) → AllByRecursion IsStorable (x ++ y) → AllByRecursion IsStorable x
+pub all_front : (x y : Version) → AllByRecursion IsStorable (x ++ y) → AllByRecursion IsStorable x
 all_front [] y h = tt
 all_front (pair ∷ x) y h = (h.0, all_front x y h.1)
 
-all_back : (x y : Version) → AllByRecursion IsStorable (x ++ y) → AllByRecursion IsStorable y
+pub all_back : (x y : Version) → AllByRecursion IsStorable (x ++ y) → AllByRecursion IsStorable y
 all_back [] y h = h
 all_back (pair ∷ x) y h = all_back x y h.1
 
@@ -57,12 +57,12 @@ first_is q (pair ∷ rest) (Some m) is items upper h =
 
 -- ---- the last before it
 
-record EndsAt (front : Version) : Type 0 where
-  rest : Version
-  pair : Name × Entry
-  is : front ≡ rest ++ pair ∷ []
+pub record EndsAt (front : Version) : Type 0 where
+  pub rest : Version
+  pub pair : Name × Entry
+  pub is : front ≡ rest ++ pair ∷ []
 
-last_or_none : (front : Version) → (front ≡ []) ⊎ EndsAt front
+pub last_or_none : (front : Version) → (front ≡ []) ⊎ EndsAt front
 last_or_none [] = inl refl
 last_or_none (pair ∷ front) = elim (last_or_none front) [
   | inl e ↦ inr (record { rest = []; pair = pair; is = ap (λ (v : Version). pair ∷ v) e })

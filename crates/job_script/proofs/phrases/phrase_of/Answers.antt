@@ -4,14 +4,14 @@ use Rattle.job_script.proofs.phrases.phrase_of.Goals as goal
 use Rattle.job_script.proofs.PhraseLemmas.{first_placed, rest_placed}
 
 -- src/phrases.rt:102:9
-pub asks-requires-clause-name : goal.asks-requires-clause-name
-asks-requires-clause-name c =
+pub named_question-requires-clause-name : goal.named_question-requires-clause-name
+named_question-requires-clause-name c =
     first_placed c.args.bytes.now c.in-Some.arguments.now c.in-Some-split_first.first.now c.in-Some-split_first.rest.now c.in-Some-split_first.ensures.cases.0
     (rest_placed c.args.bytes.now c.args.tokens.now c.in-Some.word.now c.in-Some.arguments.now c.in-Some.ensures.cases.0 c.requires)
 
 -- src/phrases.rt:102:9
-pub asks-requires-clause-rest : goal.asks-requires-clause-rest
-asks-requires-clause-rest c =
+pub named_question-requires-clause-rest : goal.named_question-requires-clause-rest
+named_question-requires-clause-rest c =
     rest_placed c.args.bytes.now c.in-Some.arguments.now c.in-Some-split_first.first.now c.in-Some-split_first.rest.now c.in-Some-split_first.ensures.cases.0
     (rest_placed c.args.bytes.now c.args.tokens.now c.in-Some.word.now c.in-Some.arguments.now c.in-Some.ensures.cases.0 c.requires)
 
@@ -28,8 +28,8 @@ adds-requires-clause-rest c =
     (rest_placed c.args.bytes.now c.args.tokens.now c.in-Some.word.now c.in-Some.arguments.now c.in-Some.ensures.cases.0 c.requires)
 
 -- src/phrases.rt:108:9
-pub returns-then-says-3-clause-placed : goal.returns-then-says-3-clause-placed
-returns-then-says-3-clause-placed c =
+pub returns-then-says-2-clause-placed : goal.returns-then-says-2-clause-placed
+returns-then-says-2-clause-placed c =
     let arguments : All (IsPlaced c.args.bytes.now) c.in-Some.arguments.now = rest_placed c.args.bytes.now c.args.tokens.now c.in-Some.word.now c.in-Some.arguments.now c.in-Some.ensures.cases.0 c.requires in (
       first_placed c.args.bytes.now c.in-Some.arguments.now c.in-Some-split_first.first.now c.in-Some-split_first.rest.now c.in-Some-split_first.ensures.cases.0 arguments,
       rest_placed c.args.bytes.now c.in-Some.arguments.now c.in-Some-split_first.first.now c.in-Some-split_first.rest.now c.in-Some-split_first.ensures.cases.0 arguments,

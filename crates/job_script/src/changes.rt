@@ -1,0 +1,141 @@
+// What the words of an operation say.
+ghost use Rattle.std.specs.Prelude.{◌≡◌, ◌∷◌, List, map};
+ghost use Rattle.std.specs.List.{All};
+ghost use Rattle.job_model.specs.Jobs as jobs;
+ghost use Rattle.zone_model.specs.Data.{data_of};
+ghost use Rattle.rr_data.specs.Tokens.{IsPlaced, token_view};
+ghost use Rattle.job_script.specs.Scripts.{Says};
+ghost use Rattle.job_script.specs.Views.{operation_view};
+
+use crate::operations::{NewRecord, Operation};
+use crate::refusal::{ScriptRefusal, refused};
+use dns_name::Name;
+use job_model::ScriptKind;
+use master_file::{name_word, time_word, type_word};
+use rr_data::{Rdata, RdataRefusal, Token};
+use std::alloc::Global;
+
+// The name that a token says, at or under the origin.
+fn inner_name(bytes: &[u8], origin: &Name, token: Token) -> Option<Name>
+    requires { IsPlaced bytes.now token }
+    ensures { result ≡ jobs.inner_name origin.now (token_view bytes.now token) }
+{
+    let name = name_word(bytes, origin, token)?;
+    if name.is_under(origin) {
+        Some(name)
+    } else {
+        None
+    }
+}
+
+// The data of a record, or a refusal of the line.
+fn rdata_of(
+    alloc: Global,
+    bytes: &[u8],
+    origin: &Name,
+    line: u32,
+    rtype: u16,
+    tokens: &[Token],
+) -> Result<Rdata, ScriptRefusal>
+    requires { All (IsPlaced bytes.now) tokens.now }
+    ensures { Says result (λ r. r) (jobs.octets_needed line (data_of origin.now rtype (map (token_view bytes.now) tokens.now))) }
+{
+    match Rdata::read(alloc, rtype, bytes, tokens, origin) {
+        Ok(rdata) => Ok(rdata),
+        Err(RdataRefusal::Memory) => Err(ScriptRefusal::Memory),
+        Err(RdataRefusal::BadRdata { .. }) => Err(refused(line, ScriptKind::BadRdata)),
+        Err(RdataRefusal::LongString { .. }) => Err(refused(line, ScriptKind::BadRdata)),
+    }
+}
+
+// An addition.
+#[tactic(auto, unfolding(job_model::specs::Jobs::addition_of))]
+pub fn addition_of(
+    alloc: Global,
+    bytes: &[u8],
+    origin: &Name,
+    line: u32,
+    owner: Token,
+    ttl: Token,
+    rtype: Token,
+    tokens: &[Token],
+) -> Result<Operation, ScriptRefusal>
+    requires owner { IsPlaced bytes.now owner }
+    requires ttl { IsPlaced bytes.now ttl }
+    requires rtype { IsPlaced bytes.now rtype }
+    requires tokens { All (IsPlaced bytes.now) tokens.now }
+    ensures { Says result operation_view (jobs.addition_of origin.now line (token_view bytes.now owner) (token_view bytes.now ttl) (token_view bytes.now rtype) (map (token_view bytes.now) tokens.now)) }
+{
+    let Some(owner) = inner_name(bytes, origin, owner) else {
+        return Err(refused(line, ScriptKind::BadName));
+    };
+    let Some(ttl) = time_word(bytes, ttl) else {
+        return Err(refused(line, ScriptKind::BadNumber));
+    };
+    let Some(rtype) = type_word(bytes, rtype) else {
+        return Err(refused(line, ScriptKind::BadType));
+    };
+    match rdata_of(alloc, bytes, origin, line, rtype, tokens) {
+        Ok(rdata) => Ok(Operation::Add(NewRecord {
+            owner,
+            rtype,
+            ttl,
+            rdata,
+        })),
+        Err(refusal) => Err(refusal),
+    }
+}
+
+// A deletion of the RRset of a type, or of one record.
+#[tactic(auto, unfolding(job_model::specs::Jobs::deletion_of))]
+fn typed_deletion(
+    alloc: Global,
+    bytes: &[u8],
+    origin: &Name,
+    line: u32,
+    owner: Token,
+    rtype: Token,
+    tokens: &[Token],
+) -> Result<Operation, ScriptRefusal>
+    requires owner { IsPlaced bytes.now owner }
+    requires rtype { IsPlaced bytes.now rtype }
+    requires tokens { All (IsPlaced bytes.now) tokens.now }
+    ensures { Says result operation_view (jobs.deletion_of origin.now line (token_view bytes.now owner) (token_view bytes.now rtype ∷ map (token_view bytes.now) tokens.now)) }
+{
+    let Some(owner) = inner_name(bytes, origin, owner) else {
+        return Err(refused(line, ScriptKind::BadName));
+    };
+    let Some(rtype) = type_word(bytes, rtype) else {
+        return Err(refused(line, ScriptKind::BadType));
+    };
+    if tokens.is_empty() {
+        return Ok(Operation::DeleteSet(owner, rtype));
+    }
+    match rdata_of(alloc, bytes, origin, line, rtype, tokens) {
+        Ok(rdata) => Ok(Operation::DeleteRecord(owner, rtype, rdata)),
+        Err(refusal) => Err(refusal),
+    }
+}
+
+// A deletion.
+#[tactic(auto, unfolding(job_model::specs::Jobs::deletion_of))]
+pub fn deletion_of(
+    alloc: Global,
+    bytes: &[u8],
+    origin: &Name,
+    line: u32,
+    owner: Token,
+    rest: &[Token],
+) -> Result<Operation, ScriptRefusal>
+    requires owner { IsPlaced bytes.now owner }
+    requires rest { All (IsPlaced bytes.now) rest.now }
+    ensures { Says result operation_view (jobs.deletion_of origin.now line (token_view bytes.now owner) (map (token_view bytes.now) rest.now)) }
+{
+    let Some((rtype, tokens)) = rest.split_first() else {
+        return match inner_name(bytes, origin, owner) {
+            Some(owner) => Ok(Operation::DeleteName(owner)),
+            None => Err(refused(line, ScriptKind::BadName)),
+        };
+    };
+    typed_deletion(alloc, bytes, origin, line, owner, *rtype, tokens)
+}

@@ -1,0 +1,3 @@
+pub mod FilterLaws
+pub mod WalkLaws
+pub mod FindLaws
