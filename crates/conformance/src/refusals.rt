@@ -82,11 +82,17 @@ fn scripts_that_are_refused(rt: HostRuntime) -> Result<(), Fail> {
         ),
         ("worker\nwalk @ 0\n", "script refused line 7 BadNumber\n"),
         ("worker\nback @ 1001\n", "script refused line 7 BadNumber\n"),
-        ("worker\nwalk @ \"5\"\n", "script refused line 7 BadNumber\n"),
+        (
+            "worker\nwalk @ \"5\"\n",
+            "script refused line 7 BadNumber\n",
+        ),
         ("worker\nback a..b 0\n", "script refused line 7 BadName\n"),
         ("worker\nfind ns A\n", "script refused line 7 BadCommand\n"),
         ("worker\nstat ns\n", "script refused line 7 BadCommand\n"),
-        ("worker\nwrite\nstat\n", "script refused line 8 BadCommand\n"),
+        (
+            "worker\nwrite\nstat\n",
+            "script refused line 8 BadCommand\n",
+        ),
     ];
     for (script, line) in refused {
         expect(&rt, rt.alloc(), script, Status::ScriptRefused, line)?;

@@ -57,7 +57,11 @@ fn lone(tokens: &[Token]) -> Option<Token>
     ensures placed { (bytes : List ℕ) → All (IsPlaced bytes) tokens.now → IfSome result (IsPlaced bytes) }
 {
     let (first, behind) = tokens.split_first()?;
-    if behind.is_empty() { Some(*first) } else { None }
+    if behind.is_empty() {
+        Some(*first)
+    } else {
+        None
+    }
 }
 
 // A question whose word has a name behind it.

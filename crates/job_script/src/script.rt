@@ -65,7 +65,10 @@ fn outside(
         }
         Phrase::Asks(asked) => add_question(script, bytes, origin, line, asked),
         Phrase::Opens(weight) => open_block(script, alloc, line, weight),
-        Phrase::Adds(_, _, _, _) | Phrase::Deletes(_, _) | Phrase::Ends(_) => Err(refused(line, ScriptKind::BadCommand)),
+        Phrase::Adds(_, _, _, _) | Phrase::Deletes(_, _) | Phrase::Ends(_) => Err(refused(
+            line,
+            ScriptKind::BadCommand,
+        )),
     }
 }
 

@@ -313,7 +313,7 @@ ran_more chunks origin zone commands command before mid now last next old new re
     go : (c : Command) (e : Ended) → StepEnds chunks origin c e last next old new → now ≡ mid ++ (head_text 1 (length commands + 1) next ++ command_text origin (λ _. old) c (record { version = next; ended = e })) → Ran chunks origin zone (commands ++ c ∷ []) before now next new (refused || is_refused e)
     go (Ask question) Shown ends text =
         unchanged (Ask question) Shown ends.0 ends.1 refl (seen_now ends.0)
-        (text ∙ ap (λ (v : Version). mid ++ (head_text 1 (length commands + 1) next ++ answer_text (answer origin v name rtype))) (sym (set_now ends.0)))
+        (text ∙ ap (λ (v : Version). mid ++ (head_text 1 (length commands + 1) next ++ question_text origin v question)) (sym (set_now ends.0)))
     go (Ask question) Committed ends text = absurd ends
     go (Ask question) RolledBack ends text = absurd ends
     go (Ask question) (Refused cause) ends text = absurd ends

@@ -1,5 +1,5 @@
 -- How a block ends whose operations stopped.
-use Rattle.std.proofs.Common.{◌≡◌, ◌∙◌, ℕ, ◌+◌, ◌-◌, ◌/◌, ◌≤◌, List, [], ◌∷◌, Result, Ok, Err, IfOk, IsOk, IsErr, length, refl, sym, ap, subst, arith}
+use Rattle.std.proofs.Common.{◌≡◌, ℕ, ◌+◌, ◌-◌, ◌/◌, ◌≤◌, List, [], ◌∷◌, Result, Ok, Err, IfOk, IsOk, length, refl, sym, ap, subst, arith}
 use Rattle.std.specs.List.Sorted.{IsStrictlySortedBy}
 use Rattle.std.specs.Ordering.{nat_cmp}
 use Rattle.std.specs.declared.alloc.AllocError.{AllocError}
@@ -7,7 +7,7 @@ use Rattle.zone_model.specs.Names.{Name}
 use Rattle.zone_model.specs.Versions.{Version, Operation}
 use Rattle.trie_model.specs.Keys as trie
 use Rattle.job_model.specs.Sizes.{trie_entries, cell_count}
-use Rattle.job_model.specs.Outcomes.{Causes, FullCause, Full, cells_kept}
+use Rattle.job_model.specs.Outcomes.{FullCause, cells_kept}
 use Rattle.job_model.specs.declared.Ending.{Ending}
 use Rattle.qp_multi.specs.Fulls.{kept_versions}
 use Rattle.qp_multi.specs.declared.index.Index.{Index}
@@ -19,9 +19,7 @@ use Rattle.zone_change.specs.declared.applying.Halt.TheVariants as halts
 use Rattle.qp_main.specs.Openings.{Keeps}
 use Rattle.qp_main.specs.Runs.{worker_passes}
 use Rattle.qp_main.specs.Transactions.{StoppedBy, Transacts}
-use Rattle.qp_main.specs.declared.transactions.Cause.TheVariants as cause
 use Rattle.qp_main.specs.declared.transactions.Transacted.{Transacted}
-use Rattle.qp_main.specs.declared.transactions.Transacted.TheVariants as transacted
 
 one_rises : (n : ℕ) → IsStrictlySortedBy nat_cmp (n ∷ [])
 unfolding IsStrictlySortedBy

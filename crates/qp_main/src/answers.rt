@@ -108,16 +108,23 @@ fn presence_name(presence: Presence) -> &'static [u8]
     }
 }
 
+// The last name that isn't after the one that was sought.
+fn push_predecessor(out: &mut Vec<u8>, found: &Found) -> Result<(), AllocError>
+    ensures { OnOk result (out.new.items ≡ out.old.items ++ reports.name_or_none found.now.predecessor) }
+{
+    match found.predecessor() {
+        Some(name) => name.push_text(out),
+        None => out.extend_from_slice(b"none"),
+    }
+}
+
 // What there is of a name.
 fn push_found(out: &mut Vec<u8>, found: &Found) -> Result<(), AllocError>
     ensures { OnOk result (out.new.items ≡ out.old.items ++ reports.found_text found.now) }
 {
     push_list(out, presence_name(found.kind()), found.chain())?;
     out.extend_from_slice(b"pred ")?;
-    match found.predecessor() {
-        Some(name) => name.push_text(out)?,
-        None => out.extend_from_slice(b"none")?,
-    }
+    push_predecessor(out, found)?;
     out.extend_from_slice(b"\n")
 }
 

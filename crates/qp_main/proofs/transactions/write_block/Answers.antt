@@ -1,5 +1,5 @@
-use Rattle.std.proofs.Common.{rules, ◌≡◌, ◌∙◌, ℕ, ◌+◌, List, Ok, Err, IsOk, refl, ap, sym, subst, map}
-use Rattle.zone_model.specs.Versions.{Version, whole}
+use Rattle.std.proofs.Common.{rules, ◌∙◌, ℕ, ◌+◌, List, Err, refl, ap, sym, subst, map}
+use Rattle.zone_model.specs.Versions.{whole}
 use Rattle.job_model.specs.Sizes.{trie_entries}
 use Rattle.job_script.specs.Views.{operation_view}
 use Rattle.job_script.specs.declared.operations.Operation.{Operation}

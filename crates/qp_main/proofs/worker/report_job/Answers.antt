@@ -1,5 +1,4 @@
-use Rattle.std.proofs.Common.{◌∙◌, ap, codes, ◌++◌, [], subst, map, List, ℕ}
-use Rattle.std.specs.Fmt.{decimal}
+use Rattle.std.proofs.Common.{◌∙◌, [], subst, map, List, ℕ}
 use Rattle.job_model.specs.Sizes.{trie_entries}
 use Rattle.job_script.specs.Views.{command_view}
 use Rattle.qp_main.specs.Runs.{Ran}

@@ -1,4 +1,4 @@
-use Rattle.std.proofs.Common.{◌≡◌, ◌∙◌, ℕ, ◌+◌, refl, subst, map}
+use Rattle.std.proofs.Common.{◌∙◌, ◌+◌, refl, subst, map}
 use Rattle.job_model.specs.Outcomes.{Committed, RolledBack, Refused}
 use Rattle.job_model.specs.Reports.{ended_text}
 use Rattle.job_script.specs.Views.{operation_view}

@@ -1,4 +1,4 @@
-use Rattle.std.proofs.Common.{◌≡◌, ◌≤◌, length, take, map, List, subst, arith}
+use Rattle.std.proofs.Common.{◌≤◌, length, map, List, subst, arith}
 use Rattle.std.proofs.lemmas.List.{take_all}
 use Rattle.job_script.specs.Views.{command_view}
 use Rattle.job_script.specs.declared.commands.Command.{Command}
