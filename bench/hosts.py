@@ -2,8 +2,9 @@
 """Writes a job: a zone of N address records in random order, and a script that asks for one of them.
 
 Usage: hosts.py N [SEED] [COMMANDS]
-COMMANDS is `one` (one question, the default), `questions` (10,000 of them), `blocks` (10,000 blocks of
-one new address) or `block` (one block of 10,000 new addresses).
+COMMANDS is `one` (one question, the default), `questions` (10,000 of them), `absent` (as many for names
+that aren't there), `below` (as many for names under those that are), `blocks` (10,000 blocks of one new
+address) or `block` (one block of 10,000 new addresses).
 """
 import random
 import sys
@@ -20,14 +21,17 @@ def zone(count, seed):
         yield f"n{host} A 10.{host >> 16 & 255}.{host >> 8 & 255}.{host & 255}"
 
 
+QUESTIONS = {"questions": "get n{} A", "absent": "get m{} A", "below": "get a.n{} A"}
+
+
 def script(commands, count):
     yield "%%"
     yield "worker"
     if commands == "one":
         yield "get n7 A"
-    elif commands == "questions":
+    elif commands in QUESTIONS:
         for question in range(10_000):
-            yield f"get n{question * 7919 % count} A"
+            yield QUESTIONS[commands].format(question * 7919 % count)
     elif commands == "blocks":
         for host in range(10_000):
             yield from ("write", f"add m{host} 300 A 192.0.2.7", "commit")

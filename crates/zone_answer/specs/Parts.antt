@@ -1,11 +1,11 @@
 -- Parts of an answer as the code has them.
-use Rattle.std.specs.Prelude.{◌≡◌, ℕ, ◌-◌, ◌≤◌, false, List, ◌++◌, length, take, map, if◌then◌else◌, Option, Some, None, Result, Ok, Err}
+use Rattle.std.specs.Prelude.{◌≡◌, ℕ, ◌-◌, ◌≤◌, true, false, List, [], ◌++◌, length, take, map, if◌then◌else◌, Option, Some, None, Result, Ok, Err}
 use Rattle.std.specs.Option.{is_some}
 use Rattle.std.specs.declared.alloc.AllocError.{AllocError}
 use Rattle.zone_model.specs.Names.{Name, ancestor}
 use Rattle.zone_model.specs.Keys.{key_of}
-use Rattle.zone_model.specs.Records.{rrset_of}
-use Rattle.zone_model.specs.Versions.{Version, owned}
+use Rattle.zone_model.specs.Records.{Entry, rrset_of}
+use Rattle.zone_model.specs.Versions.{Version, owned, exists}
 use Rattle.zone_model.specs.Rows.{Row}
 use Rattle.trie_model.specs.Order.{chain_labels}
 use Rattle.trie_read.specs.declared.found.Chain.{Chain}
@@ -19,6 +19,11 @@ use Rattle.zone_answer.specs.declared.step.Next.TheVariants.{Ends, LeadsTo}
 -- the chain tells which names at or above a name are there
 abbrev pub IsChain : Name → Version → Chain → Type 0
 IsChain name version chain = take chain.len chain.labels ≡ chain_labels (key_of name) (map trie_entry version)
+
+-- what a name that is there owns
+abbrev pub IsFound : Name → Version → Option Entry → Type 0
+IsFound name version None = [] ≡ owned name version
+IsFound name version (Some entry) = (entry ≡ owned name version) × (exists name version ≡ true)
 
 -- a name, if it owns an NS set
 abbrev pub delegated : Version → Name → Option Name

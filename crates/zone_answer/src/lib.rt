@@ -17,6 +17,6 @@ mod tests;
 
 pub use answers::Answer;
 pub use kind::Kind;
-pub use question::answer;
+pub use question::{answer, answer_by};
 pub use records::owned;
 pub use row::Row;

@@ -7,9 +7,10 @@ ghost use Rattle.zone_answer.specs.Neighbours.{AreNeighbours};
 ghost use Rattle.zone_answer.specs.Standing.{IsVersion, Shows, ShowsSome};
 
 use crate::near::Neighbours;
-use crate::records::owned;
+use crate::records::look_up;
 use dns_name::Name;
 use rr_data::Entry;
+use shift_key::Key;
 use std::alloc::{AllocError, Global};
 use trie_read::Reading;
 
@@ -30,6 +31,7 @@ fn wildcard_under<V: Reading>(
     alloc: Global,
     version: &mut V,
     name: &Name,
+    item: &mut [u8; 4096],
 ) -> Result<Option<Entry>, AllocError>
     requires { ShowsSome (V.holds version.old) }
     ensures same { version.new ≡ version.old }
@@ -38,11 +40,13 @@ fn wildcard_under<V: Reading>(
     let Some(star) = name.star() else {
         return Ok(None);
     };
-    let near = Neighbours::of(version, &star);
-    if !near.show(&star) {
+    if let Some(entry) = look_up(alloc, version, &star, &Key::of(&star), item)? {
+        return Ok(Some(entry));
+    }
+    if !Neighbours::of(version, &star).show(&star) {
         return Ok(None);
     }
-    Ok(Some(owned(alloc, version, &star)?))
+    Ok(Some(Entry::empty(alloc)))
 }
 
 /// What answers for a name that owns nothing: no records where names under it are there, else a wildcard's; `None` where there
@@ -51,6 +55,7 @@ pub fn absent_node<V: Reading>(
     alloc: Global,
     version: &mut V,
     name: &Name,
+    item: &mut [u8; 4096],
 ) -> Result<Option<Entry>, AllocError>
     requires { ShowsSome (V.holds version.old) }
     ensures same { version.new ≡ version.old }
@@ -62,6 +67,6 @@ pub fn absent_node<V: Reading>(
     }
     match encloser(&near, name) {
         None => Ok(None),
-        Some(encloser) => wildcard_under(alloc, version, &encloser),
+        Some(encloser) => wildcard_under(alloc, version, &encloser, item),
     }
 }

@@ -27,19 +27,37 @@ pub fn answer<V: Reading>(
     ensures same { version.new ≡ version.old }
     ensures answer { (zone : Version) → Shows (V.holds version.old) zone → IfOk result (λ a. a ≡ answer origin.now zone name.now rtype) }
 {
+    let mut item = [0; 4096];
+    answer_by(alloc, version, origin, name, rtype, &mut item)
+}
+
+/// The same, by way of a buffer that items are read into. A run of questions may share one: it takes longer to clear than an item to
+/// read.
+pub fn answer_by<V: Reading>(
+    alloc: Global,
+    version: &mut V,
+    origin: &Name,
+    name: &Name,
+    rtype: u16,
+    item: &mut [u8; 4096],
+) -> Result<Answer, AllocError>
+    requires { ShowsSome (V.holds version.old) }
+    ensures same { version.new ≡ version.old }
+    ensures answer { (zone : Version) → Shows (V.holds version.old) zone → IfOk result (λ a. a ≡ answer origin.now zone name.now rtype) }
+{
     let mut rows = Vec::new(alloc);
     if !name.is_under(origin) {
         return Ok(Answer::new(Kind::Outside, rows));
     }
     let mut asked = *name;
     for _ in 0..MOST_ALIASES {
-        if !asked.is_under(origin) {
-            return Ok(Answer::new(Kind::Answered, rows));
-        }
-        match step(alloc, version, origin, &asked, rtype, &mut rows)? {
+        match step(alloc, version, origin, &asked, rtype, item, &mut rows)? {
             Next::Ends(kind) => return Ok(Answer::new(kind, rows)),
             Next::LeadsTo(None) => return Ok(Answer::new(Kind::Answered, rows)),
             Next::LeadsTo(Some(target)) => asked = target,
+        }
+        if !asked.is_under(origin) {
+            return Ok(Answer::new(Kind::Answered, rows));
         }
     }
     Ok(Answer::new(Kind::Answered, rows))

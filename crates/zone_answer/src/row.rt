@@ -56,6 +56,7 @@ impl Row {
 pub fn push_rows(rows: &mut Vec<Row>, owner: &Name, set: &RrSet) -> Result<(), AllocError>
     ensures { OnOk result (rows.new.items ≡ rows.old.items ++ rows_of owner.now set.now) }
 {
+    rows.reserve_exact(set.records().len())?;
     for rdata in set.records() {
         rows.push(Row {
             owner: *owner,

@@ -1,25 +1,25 @@
 //! What one name gives to an answer.
 
-ghost use Rattle.std.specs.Prelude.{◌≡◌, [], true};
+ghost use Rattle.std.specs.Prelude.{◌≡◌, [], Some, true};
 ghost use Rattle.std.specs.Option.{option_map};
 ghost use Rattle.zone_model.specs.Names.{Name as Labels, is_under};
 ghost use Rattle.zone_model.specs.Records.{rrset_of};
 ghost use Rattle.zone_model.specs.Splits.{split_name};
-ghost use Rattle.zone_model.specs.Versions.{Version, owned, exists};
+ghost use Rattle.zone_model.specs.Versions.{Version, owned};
 ghost use Rattle.zone_answer.specs.Answers.{Ends, alias_in, by_alias, step, target_of, set_rows, ns_type};
-ghost use Rattle.zone_answer.specs.Parts.{Gives, NoneOver};
+ghost use Rattle.zone_answer.specs.Parts.{Gives, IsFound, NoneOver};
 ghost use Rattle.zone_answer.specs.Standing.{Shows, ShowsSome};
 
 use crate::cut::{NS, cut_over, is_cut};
 use crate::kind::Kind;
 use crate::node::absent_node;
-use crate::records::owned;
+use crate::records::look_up;
 use crate::row::{Row, push_rows};
 use dns_name::Name;
 use rr_data::{Entry, RrSet};
 use shift_key::Key;
 use std::alloc::{AllocError, Global};
-use trie_read::{Kind as Found, Reading};
+use trie_read::Reading;
 
 /// The type of an alias.
 const CNAME: u16 = 5;
@@ -90,25 +90,21 @@ fn refer(cut: &Name, entry: &Entry, rows: &mut Vec<Row>) -> Result<Next, AllocEr
 }
 
 /// What a name that is there gives, where none above it is a cut.
-fn give_own<V: Reading>(
-    alloc: Global,
-    version: &mut V,
+fn give_own(
     origin: &Name,
     name: &Name,
+    entry: &Entry,
     rtype: u16,
     rows: &mut Vec<Row>,
 ) -> Result<Next, AllocError>
-    requires shown { ShowsSome (V.holds version.old) }
-    requires under { is_under name.now origin.now ≡ true }
-    ensures same { version.new ≡ version.old }
-    ensures gives { (zone : Version) → Shows (V.holds version.old) zone → NoneOver origin.now name.now zone → exists name.now zone ≡ true
+    requires { is_under name.now origin.now ≡ true }
+    ensures { (zone : Version) → NoneOver origin.now name.now zone → IsFound name.now zone (Some entry.now)
         → Gives (step origin.now zone rtype name.now) rows.old.items rows.new.items result }
 {
-    let entry = owned(alloc, version, name)?;
-    if is_cut(origin, name, &entry) {
-        return refer(name, &entry, rows);
+    if is_cut(origin, name, entry) {
+        return refer(name, entry, rows);
     }
-    give(&entry, name, rtype, rows)
+    give(entry, name, rtype, rows)
 }
 
 /// What a name that isn't there gives, where none above it is a cut.
@@ -117,6 +113,7 @@ fn give_absent<V: Reading>(
     version: &mut V,
     name: &Name,
     rtype: u16,
+    item: &mut [u8; 4096],
     rows: &mut Vec<Row>,
 ) -> Result<Next, AllocError>
     requires { ShowsSome (V.holds version.old) }
@@ -124,19 +121,20 @@ fn give_absent<V: Reading>(
     ensures gives { (zone : Version) (origin : Labels) → Shows (V.holds version.old) zone → NoneOver origin name.now zone → [] ≡ owned name.now zone
         → Gives (step origin zone rtype name.now) rows.old.items rows.new.items result }
 {
-    match absent_node(alloc, version, name)? {
+    match absent_node(alloc, version, name, item)? {
         Some(entry) => give(&entry, name, rtype, rows),
         None => Ok(Next::Ends(Kind::Nxdomain)),
     }
 }
 
-/// Adds the rows that a name at or under the origin gives, and tells how the answer goes on.
+/// Adds the rows that a name at or under the origin gives, and tells how the answer goes on. Items are read into `item`.
 pub fn step<V: Reading>(
     alloc: Global,
     version: &mut V,
     origin: &Name,
     name: &Name,
     rtype: u16,
+    item: &mut [u8; 4096],
     rows: &mut Vec<Row>,
 ) -> Result<Next, AllocError>
     requires shown { ShowsSome (V.holds version.old) }
@@ -145,14 +143,12 @@ pub fn step<V: Reading>(
     ensures gives { (zone : Version) → Shows (V.holds version.old) zone
         → Gives (step origin.now zone rtype name.now) rows.old.items rows.new.items result }
 {
-    let _wire = name.wire();
-    let found = version.find(&Key::of(name));
-    if let Some(cut) = cut_over(alloc, version, origin, name, &found.chain)? {
+    let key = Key::of(name);
+    if let Some(cut) = cut_over(alloc, version, origin, name, &key, item)? {
         return refer(&cut.name, &cut.entry, rows);
     }
-    match found.kind {
-        Found::Exact => give_own(alloc, version, origin, name, rtype, rows),
-        Found::Partial => give_absent(alloc, version, name, rtype, rows),
-        Found::Absent => give_absent(alloc, version, name, rtype, rows),
+    match look_up(alloc, version, name, &key, item)? {
+        Some(entry) => give_own(origin, name, &entry, rtype, rows),
+        None => give_absent(alloc, version, name, rtype, item, rows),
     }
 }

@@ -2,7 +2,7 @@ use Rattle.std.proofs.Common.{◌≡◌}
 use Rattle.zone_model.specs.Versions.{Version}
 use Rattle.zone_answer.specs.Parts.{NoneTo, IsChain}
 use Rattle.zone_answer.specs.Standing.{Shows, ShowsSome}
-use Rattle.zone_answer.proofs.cut.cut_over.Given as goal
+use Rattle.zone_answer.proofs.cut.cut_on.Given as goal
 
 abbrev pub invariant-loop-labels : goal.invariant-loop-labels
 invariant-loop-labels g l = record {
