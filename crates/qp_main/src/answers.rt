@@ -14,7 +14,7 @@ use job_script::Question;
 use rr_data::push_type;
 use std::alloc::{AllocError, Global};
 use trie_read::{Kind as Presence, Reading};
-use zone_answer::{Answer, Kind, Row, answer};
+use zone_answer::{Answer, Kind, Row, answer_by};
 use zone_names::{Found, back, find, walk};
 
 pub fn push_number(out: &mut Vec<u8>, number: u64) -> Result<(), AllocError>
@@ -139,12 +139,13 @@ pub fn push_size(out: &mut Vec<u8>, names: u64, nodes: u64) -> Result<(), AllocE
     out.extend_from_slice(b"\n")
 }
 
-/// Pushes what a version has to say to a question.
+/// Pushes what a version has to say to a question, by way of a buffer that items are read into.
 pub fn push_reply<V: Reading>(
     alloc: Global,
     origin: &Name,
     version: &mut V,
     question: &Question,
+    item: &mut [u8; 4096],
     out: &mut Vec<u8>,
 ) -> Result<(), AllocError>
     requires { ShowsSome (V.holds version.old) }
@@ -153,7 +154,7 @@ pub fn push_reply<V: Reading>(
 {
     match question {
         Question::Get(name, rtype) => {
-            let answered = answer(alloc, version, origin, name, *rtype)?;
+            let answered = answer_by(alloc, version, origin, name, *rtype, item)?;
             push_answer(out, &answered)
         }
         Question::Find(name) => {

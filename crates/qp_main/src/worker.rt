@@ -48,13 +48,14 @@ fn run_block(
     }
 }
 
-// Asks the current version one question.
+// Asks the current version one question, by way of a buffer that items are read into.
 fn run_question(
     alloc: Global,
     origin: &Name,
     index: &Index,
     question: &Question,
     number: u64,
+    item: &mut [u8; 4096],
     out: &mut Vec<u8>,
 ) -> Result<bool, AllocError>
     requires { KeepsSome index.now }
@@ -63,7 +64,7 @@ fn run_question(
 {
     let mut query = index.query();
     push_head(out, 1, number, query.version())?;
-    push_reply(alloc, origin, &mut query, question, out)?;
+    push_reply(alloc, origin, &mut query, question, item, out)?;
     Ok(false)
 }
 
@@ -74,6 +75,7 @@ fn run_command(
     index: &mut Index,
     command: &Command,
     number: u64,
+    item: &mut [u8; 4096],
     out: &mut Vec<u8>,
 ) -> Result<bool, AllocError>
     requires { KeepsSome index.old }
@@ -81,7 +83,9 @@ fn run_command(
         → IfOk result (StepsOn chunks origin.now (command_view command.now) number last version index.new out.old.items out.new.items) }
 {
     match command {
-        Command::Ask(question) => run_question(alloc, origin, index, question, number, out),
+        Command::Ask(question) => {
+            run_question(alloc, origin, index, question, number, item, out)
+        }
         Command::Block(block) => run_block(alloc, origin, index, block, number, out),
     }
 }
@@ -116,12 +120,13 @@ fn run_commands<G: Gate>(
     ensures { (zone : Version) (chunks : ℕ) → Keeps index.old zone 0 chunks
         → IfOk result (RunsOn chunks origin.now zone (map command_view commands.now) index.new out.old.items out.new.items) }
 {
+    let mut item = [0; 4096];
     let mut refused = false;
     for (place, command) in commands.iter().enumerate() {
         let number = place as u64 + 1;
         let told = u32::try_from(number).unwrap_or(u32::MAX);
         gate.before(1, told);
-        let here = run_command(alloc, origin, index, command, number, out)?;
+        let here = run_command(alloc, origin, index, command, number, &mut item, out)?;
         gate.after(1, told);
         refused = either(refused, here);
     }

@@ -1,0 +1,24 @@
+//! The words that all threads of an index share, as a table whose rule says what each seat knows.
+//!
+//! Each pass has a seat, and one seat has the turn: it alone makes versions. A pass that wants to publish is joined to
+//! the turn for its transaction, so each entry of the history is its author's own step. What a pass has seen goes to
+//! another in a note. The rule holds between any two steps of any threads.
+#![tactic(auto)]
+
+mod law;
+mod pass;
+mod plays;
+mod shared;
+#[cfg(test)]
+mod tests;
+mod turn;
+mod view;
+
+pub use law::{Law, Opening, Payload};
+pub use pass::{NewPassSeat, PassSeat, SeatNote};
+pub use shared::Shared;
+pub use turn::{JoinedSeat, NewTurnSeat, TurnSeat};
+pub use view::{
+    Entry, IndexRule, IndexTable, Naming, PassView, Place, Progress, Seen, TableSize, TurnView,
+    View,
+};
