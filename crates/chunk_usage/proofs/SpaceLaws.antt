@@ -28,7 +28,7 @@ differ : true ≡ false → ⊥
 differ e = cc
 
 -- a cell in use lies in a given chunk
-used_given : (l : Ledger) → IsLedger l → (q : ℕ) → is_used l q ≡ true → is_given l (q / 1024) ≡ true
+pub used_given : (l : Ledger) → IsLedger l → (q : ℕ) → is_used l q ≡ true → is_given l (q / 1024) ≡ true
 used_given l h q u = go l.open_chunk h.opened u
   where
     go : (o : Option Open) → IsOpen l.given l.live o → (if is_open o (q / 1024) then nat_lt (q % 1024) (filled o) else is_given l (q / 1024)) ≡ true → is_given l (q / 1024) ≡ true

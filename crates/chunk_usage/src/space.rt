@@ -26,8 +26,9 @@ pub struct Full {
 
 /// Hands out cells, and counts those that the trie reaches. The crates that change a trie know it by this alone.
 pub trait Space {
-    ghost use Rattle.std.specs.Prelude.{◌≡◌, ◌+◌, ◌%◌, ◌<◌, ◌≤◌, ℕ, Bool, List, IfOk, OnOk, OnErr, IfErr, IsTrue};
+    ghost use Rattle.std.specs.Prelude.{◌≡◌, ◌+◌, ◌/◌, ◌%◌, ◌<◌, ◌≤◌, ℕ, Bool, true, List, IfOk, OnOk, OnErr, IfErr, IsTrue};
     ghost use Rattle.trie_model.specs.Reach.{row, in_chunk};
+    ghost use Rattle.chunk_cells.specs.Chunks.{IsGiven};
     ghost use Rattle.chunk_usage.specs.declared.space.Full.{Full};
     ghost use Rattle.chunk_usage.specs.Ledger.{Frozen};
     ghost use Rattle.chunk_usage.specs.Rooms.{GivesChunk, Room, Grows};
@@ -66,6 +67,11 @@ pub trait Space {
         ensures frozen { frozen self.new ≡ frozen self.old }
         ensures full { IfErr result (λ f. lacks self.new f) }
         ensures refused { OnErr result (self.new ≡ self.old) };
+
+    /// Whether no version that was frozen has a cell, so that it may be written.
+    fn is_fresh(&self, at: Ref) -> bool
+        ensures value { result ≡ fresh self.now at }
+        ensures given { used self.now at ≡ true → IsGiven (given self.now) (at / 1024) };
 
     /// These cells don't count any more.
     fn release(&mut self, at: Ref, n: u32)

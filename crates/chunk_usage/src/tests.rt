@@ -61,10 +61,26 @@ fn chunks_are_given_back_when_no_version_has_them(rt: HostRuntime) -> Result<(),
     let mut cells = PlainCells::new(rt.alloc(), 16)?;
     assert_eq!(rt; take(&mut usage, &mut cells, 100), Ok(0));
     usage.freeze(0);
+    assert_eq!(rt;
+        (
+            usage.is_fresh(99),
+            usage.is_fresh(100),
+            usage.is_fresh(1024)
+        ),
+        (false, true, false)
+    );
     // A version that is given up: its chunk holds nothing.
     assert_eq!(rt; take(&mut usage, &mut cells, 50), Ok(100));
     usage.start_chunk();
     assert_eq!(rt; take(&mut usage, &mut cells, 5), Ok(1024));
+    assert_eq!(rt;
+        (
+            usage.is_fresh(99),
+            usage.is_fresh(100),
+            usage.is_fresh(1024)
+        ),
+        (false, true, true)
+    );
     usage.restore();
     assert_eq!(rt; (usage.live(0), usage.live(1), usage.free()), (100, 0, 14));
     assert_eq!(rt; usage.free_unreached(&mut cells), 1);

@@ -10,7 +10,6 @@ use Rattle.trie_model.proofs.KeyLaws.{in_left, in_right, in_both}
 use Rattle.trie_read.specs.Reads.{EachTells}
 use Rattle.trie_write.specs.Exchanges.{Exchanged}
 use Rattle.trie_write.specs.Deletions.{Deleted}
-use Rattle.trie_model.proofs.MoveLaws.{Keeps}
 use Rattle.trie_model.proofs.ReachLaws.{first_true, second_true, both_true}
 use Rattle.chunk_cells.specs.declared.plain.PlainCells.{PlainCells}
 use Rattle.chunk_usage.specs.Ledger.{Ledger, Row, row_of, filled, is_given, is_open, is_used, is_fresh}
@@ -41,9 +40,9 @@ settled_of u q a b = both_true (is_used u q) (not (is_fresh u q)) a (ap not b)
 
 -- while cells are handed out the base stays
 
-pub base_later : (cells now : PlainCells) (u v : Ledger) (root : Option ℕ) (es : List Entry) → Keeps (is_used u) (has_cell cells) (has_cell now) → Grows (is_used u) (is_used v) (is_fresh u) (is_fresh v) → v.last_live ≡ u.last_live → IsBase cells u root es → IsBase now v root es
+pub base_later : (cells now : PlainCells) (u v : Ledger) (root : Option ℕ) (es : List Entry) → ((q : ℕ) (c : Cell) → is_fresh v q ≡ false → has_cell cells q c → has_cell now q c) → Grows (is_used u) (is_used v) (is_fresh u) (is_fresh v) → v.last_live ≡ u.last_live → IsBase cells u root es → IsBase now v root es
 base_later cells now u v root es keep grows same b = record {
-  stands = standing_later es root b.stands (λ q c s h. keep q c (settled_used u q s) h)
+  stands = standing_later es root b.stands (λ q c s h. keep q c (grows.settled q (settled_used u q s) ∙ settled_old u q s) h)
       (λ q s. settled_of v q (grows.stays q (settled_used u q s)) (grows.settled q (settled_used u q s) ∙ settled_old u q s)) (λ k. ap (λ (live : List ℕ). slice_index live k) same);
   tells = b.tells;
 }

@@ -1,11 +1,12 @@
 //! An index of one name: another is put in and taken out, and a change is given up.
 
-ghost use Rattle.std.specs.Prelude.{List, IfOk};
+ghost use Rattle.std.specs.Prelude.{◌≡◌, List, IfOk, IfErr};
 ghost use Rattle.trie_model.specs.Keys.{Entry, Rises};
 ghost use Rattle.trie_write.specs.Entries.{entries_of_items};
 ghost use Rattle.qp_multi.specs.Shows.{Shows};
+ghost use Rattle.qp_multi.specs.Works.{Updates};
 
-use crate::{ChangeRefusal, Index, InsertRefusal};
+use crate::{ChangeRefusal, Index, InsertRefusal, Update};
 use dns_name::Name;
 use std::alloc::Global;
 use std::test::Fail;
@@ -62,14 +63,27 @@ fn take_out(index: &mut Index, item: &Item) -> Result<u64, ChangeRefusal>
     }
 }
 
-/// Exchanges an item, reads the new one's length in the working set, and gives the change up.
+/// Exchanges an item for another, and then again, in place.
+fn replace_twice(update: &mut Update, item: &Item) -> Result<(), ChangeRefusal>
+    requires begun { (base : List Entry) × ((es : List Entry) × Updates update.old base es) }
+    ensures same_reference { update.new.index.ghost_name ≡ update.old.index.ghost_name }
+    ensures replaced { IfOk result (λ _. (base es : List Entry) → Updates update.old base es → (next : List Entry) × Updates update.new base next) }
+    ensures refused { IfErr result (λ _. (base es : List Entry) → Updates update.old base es → (next : List Entry) × Updates update.new base next) }
+{
+    match update.replace(&item.key(), item.octets()) {
+        Err(refusal) => Err(refusal),
+        Ok(()) => update.replace(&item.key(), item.octets()),
+    }
+}
+
+/// Exchanges an item twice, reads the new one's length in the working set, and gives the change up.
 fn try_out(index: &mut Index, item: &Item) -> Result<Option<usize>, ChangeRefusal>
     requires { (es : List Entry) × Shows index.old es }
     ensures { (es : List Entry) × Shows index.new es }
 {
     let mut out = [0; 4096];
     let mut update = index.update();
-    match update.replace(&item.key(), item.octets()) {
+    match replace_twice(&mut update, item) {
         Err(refusal) => Err(refusal),
         Ok(()) => {
             let length = update.fetch(&item.key(), &mut out);

@@ -30,11 +30,12 @@ use Rattle.trie_write.specs.Standing.{StandsIn, Standing}
 use Rattle.trie_write.specs.Steps.{Held}
 use Rattle.trie_write.specs.Tops.{IsBranchTop, IsLeafTop}
 use Rattle.trie_write.specs.Weights.{at_place, mark}
-use Rattle.trie_write.specs.Deletions.{Deleted, no_spare, ShrinkAsks, LeafAsks, Shrinks, RootShrinks, DeleteAsks}
+use Rattle.trie_write.specs.Deletions.{Deleted, no_spare, ShrinkAsks, ShrinkAsksAt, LeafAsks, Shrinks, ShrinksAt, TopShrinks, DeleteAsks}
 use Rattle.trie_write.proofs.TwigLaws.{tops_of, AllBeneath, tops-beside, beneath_join, beneath_of_lie, all_of_within, all_kept}
 use Rattle.trie_write.proofs.WeightLaws.{mark_grows, row_fresh}
-use Rattle.trie_write.proofs.StepLaws.{branch_became, Descent, sizes, here_held, part_counted, path_became, path_twigs}
-use Rattle.trie_write.proofs.RootLaws.{root_stands_on}
+use Rattle.trie_write.specs.Seats.{IsOutside, IsSeat, Reseated}
+use Rattle.trie_write.proofs.SeatLaws.{seat_below, outside_below, reseated_above, root_seat, rerooted_stands}
+use Rattle.trie_write.proofs.StepLaws.{branch_became, Descent, numbers, cell_used, twig_there, sizes, here_held, part_counted, path_became, path_twigs}
 use Rattle.trie_write.proofs.ExchangeLaws.{only_entry, old_row, old_weight}
 
 -- ---- the twigs on both sides of one
@@ -255,6 +256,43 @@ module _ {has : ℕ → Cell → Type 0} {used : ℕ → Bool} {live : ℕ → �
         became = path_became shrink_down room stays (λ z u. refl) g.new counts_now counts_new keep keep_later stays_later stays_new g.became written others;
       })
 
+-- ---- in place
+
+module _ {has : ℕ → Cell → Type 0} {used : ℕ → Bool} {live : ℕ → ℕ} {low : ℕ} {key : List ℕ} {seat to : ℕ} {b : Branch} {t : Tree} {gone : Entry} (a : ShrinkAsksAt has used live low key seat b t gone) (is : to ≡ b.twigs + count_ones (b.bitmap % 2 ^ at key b.offset)) where
+  abbrev pub shrink_twig_down : Descent has used live no_spare low (top_cell (branch b.offset b.twigs a.asks.top.below)) b key (count_ones (b.bitmap % 2 ^ at key b.offset)) (count_ones b.bitmap)
+  shrink_twig_down = shrink_down a.asks refl refl refl
+
+  sits : IsSeat has used live no_spare seat (branch b.offset b.twigs shrink_twig_down.below)
+  sits = subst (IsSeat has used live no_spare seat) a.asks.top.is a.sits
+
+  pub shrink_twig_tree : IsTree (suc b.offset) shrink_twig_down.found.here
+  shrink_twig_tree = here_tree a.asks refl refl refl
+
+  pub shrink_twig_there : has to (top_cell shrink_twig_down.found.here)
+  shrink_twig_there = subst (λ (x : ℕ). has x (top_cell shrink_twig_down.found.here)) (sym is) (twig_there shrink_twig_down)
+
+  pub shrink_twig_used : used to ≡ true
+  shrink_twig_used = subst (λ (x : ℕ). used x ≡ true) (sym is) (cell_used shrink_twig_down (count_ones (b.bitmap % 2 ^ at key b.offset)) (numbers shrink_twig_down).0)
+
+  pub shrink_below : {inner : Branch} → IsBranchTop shrink_twig_down.found.here inner → ShrinkAsksAt has used live (b.offset + 1) key to inner shrink_twig_down.found.here gone
+  shrink_below top = record {
+    asks = inner_asks a.asks refl refl refl (λ z. omega arith) (λ q c u h. h) (λ q u. u) top;
+    sits = subst (λ (x : ℕ). IsSeat has used live no_spare x shrink_twig_down.found.here) (sym is) (seat_below shrink_twig_down sits);
+  }
+
+  pub shrink_outside : (q : ℕ) → IsOutside seat t q → IsOutside to shrink_twig_down.found.here q
+  shrink_outside q out = subst (λ (x : ℕ). IsOutside x shrink_twig_down.found.here q) (sym is) (outside_below shrink_twig_down seat q (subst (λ (z : Tree). IsOutside seat z q) a.asks.top.is out))
+
+  pub shrink_above : {new : ℕ → Cell → Type 0} {used_new : ℕ → Bool} {live_new : ℕ → ℕ} → ShrinksAt new used used_new live live_new (b.offset + 1) shrink_twig_down.found.here gone to → ((q : ℕ) (c : Cell) → used q ≡ true → IsOutside to shrink_twig_down.found.here q → has q c → new q c) → ShrinksAt new used used_new live live_new low t gone seat
+  shrink_above {new} {used_new} {live_new} x outside =
+      subst (λ (z : Tree). ShrinksAt new used used_new live live_new low z gone seat) (sym a.asks.top.is) (record {
+        new = branch b.offset b.twigs (beside shrink_twig_down.found.left (twig (at key b.offset) x.new shrink_twig_down.found.rest));
+        change = shrink_twig low b.offset b.twigs b.twigs (at key b.offset) gone a.asks.top.below shrink_twig_down.found shrink_twig_down.held.tree shrink_twig_down.held.tree.2 x.new
+            (let m : b.offset + 1 ≡ suc b.offset = omega arith in subst (λ (y : ℕ). Shrunk gone y shrink_twig_down.found.here x.new) m x.change);
+        reseated = reseated_above shrink_twig_down x.new sits (subst (Reseated new used used_new live live_new no_spare shrink_twig_down.found.here x.new) is x.reseated)
+            (subst (λ (y : ℕ). (q : ℕ) (c : Cell) → used q ≡ true → IsOutside y shrink_twig_down.found.here q → has q c → new q c) is outside);
+      })
+
 -- ---- the root
 
 pub shrink_later : {has now : ℕ → Cell → Type 0} {used used_now : ℕ → Bool} {live live_now : ℕ → ℕ} {low : ℕ} {key : List ℕ} {b : Branch} {t : Tree} {gone : Entry} → ((z : ℕ) → live z ≤ live_now z) → Keeps used has now → ((z : ℕ) → used z ≡ true → used_now z ≡ true) → ShrinkAsks has used live low key b t gone → ShrinkAsks now used_now live_now low key b t gone
@@ -279,12 +317,14 @@ module _ {has : ℕ → Cell → Type 0} {used : ℕ → Bool} {live : ℕ → �
   pub root_asks : {b : Branch} → IsBranchTop t b → ShrinkAsks has used live 0 key b t gone
   root_asks top = record { top = top; held = root_held; there = root_there; same_key = a.same_key }
 
-  pub root_shrinks : {new : ℕ → Cell → Type 0} {used_later used_new : ℕ → Bool} {live_later live_new : ℕ → ℕ} {root : ℕ} → RootShrinks new used used_later live live_later t gone root → ((q : ℕ) → used q ≡ true → used_later q ≡ true) → ((k : ℕ) → live_new k + row (in_chunk k) r 1 ≡ live_later k) → ((q : ℕ) → used_later q ≡ true → used_new q ≡ true) →
-      (next : List Entry) × Deleted key version next × Standing new used_new live_new (Some root) next
-  root_shrinks g later released stays = (
+  pub root_sits : {b : Branch} → IsBranchTop t b → ShrinkAsksAt has used live 0 key r b t gone
+  root_sits top = record { asks = root_asks top; sits = root_seat a.stands (λ q c u h. h) (λ q u. u) (λ q. omega arith) (λ k. omega arith) }
+
+  pub top_shrinks : {new : ℕ → Cell → Type 0} {used_new : ℕ → Bool} {live_new : ℕ → ℕ} {root : ℕ} → TopShrinks new used used_new live live_new t gone r root → (next : List Entry) × Deleted key version next × Standing new used_new live_new (Some root) next
+  top_shrinks g = (
     entries_of g.new,
     record { gone = gone; removed = subst (λ (old : List Entry). Removed gone old (entries_of g.new)) a.stands.trie.holds g.change.removed; same_key = a.same_key },
-    (g.new, root_stands_on a.stands g.change.tree (λ q u. u) (λ q. omega arith) (λ k. omega arith) g.rooted later released stays),
+    (g.new, rerooted_stands a.stands g.change.tree (λ q u. u) (λ q. omega arith) (λ k. omega arith) g.rerooted),
   )
 
   -- it is a leaf

@@ -19,15 +19,17 @@ use Rattle.trie_model.proofs.SplitLaws.{Found, look, rising_of, entries-beside, 
 use Rattle.chunk_usage.specs.Rooms.{Room}
 use Rattle.trie_read.specs.Reads.{Gives, EachTells}
 use Rattle.trie_write.specs.Standing.{StandsIn}
-use Rattle.trie_write.proofs.RootLaws.{entry_with}
+use Rattle.trie_write.proofs.RootLaws.{entry_with, item_fresh}
 use Rattle.trie_write.specs.Paths.{twigs_on_path}
 use Rattle.trie_write.specs.Rows.{RowLies}
 use Rattle.trie_write.specs.Steps.{Held, item_weight}
 use Rattle.trie_write.specs.Tops.{IsBranchTop, IsLeafTop}
-use Rattle.trie_write.specs.Exchanges.{Exchanged, TreeExchanged, ExchangeAsks, Exchanges, ReplaceAsks}
+use Rattle.trie_write.specs.Exchanges.{Exchanged, TreeExchanged, ExchangeAsks, ExchangeAsksAt, Exchanges, ExchangesAt, ReplaceAsks}
 use Rattle.trie_write.proofs.TwigLaws.{tops_of}
 use Rattle.trie_write.proofs.WeightLaws.{mark_grows}
-use Rattle.trie_write.proofs.StepLaws.{Descent, here_held, path_became, path_twigs}
+use Rattle.trie_write.specs.Seats.{IsOutside, IsSeat, Reseated}
+use Rattle.trie_write.proofs.SeatLaws.{seat_below, outside_below, reseated_above, root_seat}
+use Rattle.trie_write.proofs.StepLaws.{Descent, numbers, cell_used, twig_there, here_held, path_became, path_twigs}
 use Rattle.trie_write.proofs.InsertLaws.{laid_top, laid_later, laid_used}
 
 -- each key after the exchange was there before
@@ -190,6 +192,43 @@ leaf_exchanged {used = used} {new} {l = l} {old = old} {t = t} {e = e} a x count
   };
 }
 
+-- ---- in place
+
+module _ {has : ℕ → Cell → Type 0} {used : ℕ → Bool} {live : ℕ → ℕ} {low : ℕ} {k : List ℕ} {seat to : ℕ} {cell : Cell} {l : Leaf} {t : Tree} {e : Entry} {b : Branch} (a : ExchangeAsksAt has used live low k seat cell l t e) (s : IsBranchTop t b) (is : to ≡ b.twigs + count_ones (b.bitmap % 2 ^ at k b.offset)) where
+  pub exchange_here : BranchExchange has used live low k cell l t e b
+  exchange_here = branch_exchange a.asks s
+
+  abbrev pub exchange_twig_down : Descent has used live (item_weight l e.item) low cell b e.key (count_ones (b.bitmap % 2 ^ at k b.offset)) (count_ones b.bitmap)
+  exchange_twig_down = exchange_down exchange_here refl refl refl
+
+  sits : IsSeat has used live (item_weight l e.item) seat (branch b.offset b.twigs exchange_twig_down.below)
+  sits = subst (IsSeat has used live (item_weight l e.item) seat) exchange_here.is a.sits
+
+  pub exchange_there : has to (top_cell exchange_twig_down.found.here)
+  exchange_there = subst (λ (x : ℕ). has x (top_cell exchange_twig_down.found.here)) (sym is) (twig_there exchange_twig_down)
+
+  pub exchange_used : used to ≡ true
+  exchange_used = subst (λ (x : ℕ). used x ≡ true) (sym is) (cell_used exchange_twig_down (count_ones (b.bitmap % 2 ^ at k b.offset)) (numbers exchange_twig_down).0)
+
+  pub exchange_below : {next : Cell} → ((c : Cell) → has to c → next ≡ c) → ExchangeAsksAt has used live (b.offset + 1) k to next l exchange_twig_down.found.here e
+  exchange_below read = record {
+    asks = exchange_asks exchange_here refl refl refl (λ z. let z : live z ≤ live z = omega arith in z) (λ q c u h. h) (λ q u. u) (read (top_cell exchange_twig_down.found.here) exchange_there);
+    sits = subst (λ (x : ℕ). IsSeat has used live (item_weight l e.item) x exchange_twig_down.found.here) (sym is) (seat_below exchange_twig_down sits);
+  }
+
+  pub exchange_outside : (q : ℕ) → IsOutside seat t q → IsOutside to exchange_twig_down.found.here q
+  exchange_outside q out = subst (λ (x : ℕ). IsOutside x exchange_twig_down.found.here q) (sym is) (outside_below exchange_twig_down seat q (subst (λ (z : Tree). IsOutside seat z q) exchange_here.is out))
+
+  pub exchange_above : {new : ℕ → Cell → Type 0} {used_new : ℕ → Bool} {live_new : ℕ → ℕ} → ExchangesAt new used used_new live live_new (b.offset + 1) l exchange_twig_down.found.here e to → ((q : ℕ) (c : Cell) → used q ≡ true → IsOutside to exchange_twig_down.found.here q → has q c → new q c) → ExchangesAt new used used_new live live_new low l t e seat
+  exchange_above {new} {used_new} {live_new} x outside =
+      subst (λ (z : Tree). ExchangesAt new used used_new live live_new low l z e seat) (sym exchange_here.is) (record {
+        new = branch b.offset b.twigs (beside exchange_twig_down.found.left (twig (at e.key b.offset) x.new exchange_twig_down.found.rest));
+        change = exchange_twig low b.offset b.twigs b.twigs (at e.key b.offset) e exchange_here.below exchange_twig_down.found exchange_here.asks.held.tree exchange_here.asks.held.tree.2 x.new
+            (let m : b.offset + 1 ≡ suc b.offset = omega arith in subst (λ (y : ℕ). TreeExchanged e y exchange_twig_down.found.here x.new) m x.change);
+        reseated = reseated_above exchange_twig_down x.new sits (subst (Reseated new used used_new live live_new (item_weight l e.item) exchange_twig_down.found.here x.new) is x.reseated)
+            (subst (λ (y : ℕ). (q : ℕ) (c : Cell) → used q ≡ true → IsOutside y exchange_twig_down.found.here q → has q c → new q c) is outside);
+      })
+
 -- ---- the root
 
 pub exchange_later : {has now : ℕ → Cell → Type 0} {used used_now : ℕ → Bool} {live live_now : ℕ → ℕ} {low : ℕ} {k : List ℕ} {cell : Cell} {l : Leaf} {t : Tree} {e : Entry} → ((z : ℕ) → live z ≤ live_now z) → Keeps used has now → ((z : ℕ) → used z ≡ true → used_now z ≡ true) → ExchangeAsks has used live low k cell l t e → ExchangeAsks now used_now live_now low k cell l t e
@@ -224,6 +263,14 @@ replace_asks {has} {now} {used} {used_now} {live = live} {r = r} {key} {item} {t
   gone = a.gone;
   there = subst (InList a.gone) (sym a.stands.trie.holds) a.there;
   same_key = a.same_key;
+}
+
+pub replace_sits : {has now : ℕ → Cell → Type 0} {used used_now fresh : ℕ → Bool} {given : List Bool} {live live_now : ℕ → ℕ} {r : ℕ} {key item : List ℕ} {cell : Cell} {e : Entry} {t : Tree} {version : List Entry} {l : Leaf} →
+    ReplaceAsks has used live r key item cell e t version → l.len ≡ length item → Room used used_now fresh given l.at (cells_in item) → ItemLies now l.at item → Keeps used has now → ((q : ℕ) → used q ≡ true → used_now q ≡ true) → ((k : ℕ) → live_now k ≡ live k + row (in_chunk k) l.at (cells_in item)) →
+    ExchangeAsksAt now used_now live_now 0 key r cell l t e
+replace_sits {live = live} {e = e} {l = l} a len room lies keep stays counts = record {
+  asks = replace_asks a len room lies keep stays counts;
+  sits = root_seat a.stands keep stays (item_fresh l e.item a.item_is room stays) (λ k. counts k ∙ ap (λ (xs : List ℕ). live k + row (in_chunk k) l.at (cells_in xs)) a.item_is);
 }
 
 -- a root that stands, with the key in it, and its cell read

@@ -5,7 +5,7 @@ use Rattle.packed_node.specs.declared.Cell.{Cell}
 use Rattle.trie_model.specs.Trees.{IsRow}
 use Rattle.chunk_cells.specs.Chunks.{IsGiven, IsFree}
 use Rattle.chunk_usage.specs.Rooms.{GivesChunk, Room, Grows, Ready}
-use Rattle.trie_write.specs.Frames.{Frame}
+use Rattle.trie_write.specs.Frames.{Frame, Fenced}
 
 -- what isn't fresh later wasn't before
 pub fresh_before : (b c : Bool) → (b ≡ true → c ≡ true) → c ≡ false → b ≡ false
@@ -80,6 +80,39 @@ frame_put {f1 = f1} {f2 = f2} {f3} {to} a room b others given kept used fresh = 
   keeps = kept ∙ whole.keeps;
   given_stays = λ k g. subst (λ (x : List Bool). IsGiven x k) (sym given) (whole.given_stays k g);
   grows = record { stays = λ q u. used q ∙ whole.grows.stays q u; settled = λ q u. fresh q ∙ whole.grows.settled q u; fresher = λ q u. fresh q ∙ whole.grows.fresher q u };
+}
+
+-- ---- changes in place
+
+pub fenced_of : {h0 h1 : ℕ → Cell → Type 0} {k0 k1 : List ℕ} {g0 g1 : List Bool} {u0 u1 f0 f1 : ℕ → Bool} → Frame h0 h1 k0 k1 g0 g1 u0 u1 f0 f1 → Fenced h0 h1 k0 k1 g0 g1 u0 u1 f0 f1
+fenced_of a = record { frozen = a.frozen; keeps = a.keeps; given_stays = a.given_stays; grows = a.grows }
+
+pub fenced_then : {h0 h1 h2 : ℕ → Cell → Type 0} {k0 k1 k2 : List ℕ} {g0 g1 g2 : List Bool} {u0 u1 u2 f0 f1 f2 : ℕ → Bool} →
+    Frame h0 h1 k0 k1 g0 g1 u0 u1 f0 f1 → Fenced h1 h2 k1 k2 g1 g2 u1 u2 f1 f2 → Fenced h0 h2 k0 k2 g0 g2 u0 u2 f0 f2
+fenced_then {f1 = f1} {f2 = f2} a b = record {
+  frozen = λ q c f h. b.frozen q c f (a.frozen q c (fresh_before (f1 q) (f2 q) (b.grows.fresher q) f) h);
+  keeps = b.keeps ∙ a.keeps;
+  given_stays = λ k g. b.given_stays k (a.given_stays k g);
+  grows = grows_then a.grows b.grows;
+}
+
+-- a cell that is fresh is written
+pub fenced_put : {h0 h1 h2 : ℕ → Cell → Type 0} {k0 k1 k2 : List ℕ} {g0 g1 g2 : List Bool} {u0 u1 f0 f1 : ℕ → Bool} {seat : ℕ} →
+    Frame h0 h1 k0 k1 g0 g1 u0 u1 f0 f1 → f0 seat ≡ true → ((q : ℕ) (c : Cell) → (q ≡ seat → ⊥) → h1 q c → h2 q c) → g2 ≡ g1 → k2 ≡ k1 → Fenced h0 h2 k0 k2 g0 g2 u0 u1 f0 f1
+fenced_put {f1 = f1} {seat = seat} a fresh others given kept = record {
+  frozen = λ q c f h. others q c (λ e. true≢false (sym (a.grows.fresher seat fresh) ∙ ap f1 (sym e) ∙ f)) (a.frozen q c f h);
+  keeps = kept ∙ a.keeps;
+  given_stays = λ k g. subst (λ (x : List Bool). IsGiven x k) (sym given) (a.given_stays k g);
+  grows = a.grows;
+}
+
+-- counts change alone
+pub fenced_counts : {h0 h1 : ℕ → Cell → Type 0} {k0 k1 : List ℕ} {g0 g1 : List Bool} {u0 u1 u2 f0 f1 f2 : ℕ → Bool} → Fenced h0 h1 k0 k1 g0 g1 u0 u1 f0 f1 → ((q : ℕ) → u2 q ≡ u1 q) → ((q : ℕ) → f2 q ≡ f1 q) → Fenced h0 h1 k0 k1 g0 g1 u0 u2 f0 f2
+fenced_counts a used fresh = record {
+  frozen = λ q c f h. a.frozen q c (sym (fresh q) ∙ f) h;
+  keeps = a.keeps;
+  given_stays = a.given_stays;
+  grows = record { stays = λ q u. used q ∙ a.grows.stays q u; settled = λ q u. fresh q ∙ a.grows.settled q u; fresher = λ q f. fresh q ∙ a.grows.fresher q f };
 }
 
 -- where cells are put and counts change alone

@@ -1,5 +1,5 @@
 -- The steps of an insertion.
-use Rattle.std.proofs.Common.{◌≡◌, ℕ, suc, ◌+◌, ◌-◌, ◌%◌, ◌^◌, ◌<◌, ◌≤◌, inl, inr, Bool, true, false, List, [], ◌∷◌, ◌++◌, length, count_ones, arith, sym, ◌∙◌, ap, subst, append_assoc}
+use Rattle.std.proofs.Common.{◌≡◌, ℕ, suc, ◌+◌, ◌-◌, ◌%◌, ◌^◌, ◌<◌, ◌≤◌, inl, inr, Bool, true, false, List, [], ◌∷◌, ◌++◌, length, count_ones, arith, refl, sym, ◌∙◌, ap, subst, append_assoc}
 use Rattle.std.specs.Int.{bit_at}
 use Rattle.std.proofs.lemmas.Bool.{cases_lt, true≢false}
 use Rattle.packed_node.specs.declared.Cell.{Cell}
@@ -23,12 +23,14 @@ use Rattle.trie_model.proofs.TopLaws.{is_node}
 use Rattle.chunk_usage.specs.Rooms.{Room}
 use Rattle.trie_write.specs.Rows.{RowLies}
 use Rattle.trie_write.specs.Weights.{at_place, mark}
-use Rattle.trie_write.specs.Steps.{Held, Became, Laid, item_weight, Asks, AsksBranch, Grew}
+use Rattle.trie_write.specs.Steps.{Held, Became, Laid, item_weight, Asks, AsksAt, AsksBranch, Grew, GrewAt}
 use Rattle.trie_write.proofs.OutlineLaws.{short_row}
 use Rattle.trie_write.proofs.WeightLaws.{row_misses, row_fresh, mark_grows}
 use Rattle.trie_write.proofs.TwigLaws.{tops_of, AllBeneath, tops-beside, length-tops, beneath_join, beneath_of_lie, row_of_lie, all_of_within, all_kept}
-use Rattle.trie_write.proofs.StepLaws.{branch_became, Descent, here_held, path_became, path_twigs}
+use Rattle.trie_write.proofs.StepLaws.{branch_became, Descent, numbers, cell_used, twig_there, here_held, path_became, path_twigs}
 use Rattle.trie_write.specs.Paths.{twigs_on_path}
+use Rattle.trie_write.specs.Seats.{IsOutside, IsSeat, Reseated}
+use Rattle.trie_write.proofs.SeatLaws.{seat_below, outside_below, reseated_above}
 use Rattle.trie_write.specs.Tops.{IsBranchTop}
 
 -- ---- the item
@@ -330,6 +332,46 @@ module _ {has : ℕ → Cell → Type 0} {used : ℕ → Bool} {live : ℕ → �
     grown = grow_twig low place b.offset b.twigs to p e below down_found h.asks.held.tree h.asks.nearest before (let m = down.n_is in subst (IsRow to) m room.row) g.new (let m : b.offset + 1 ≡ suc b.offset = omega arith in subst (λ (x : ℕ). Grown e x down_found.here g.new) m g.grown);
     became = path_became down room stays (laid_used h.asks.laid) g.new counts_now counts_new keep keep_later stays_later stays_new g.became written others;
   }
+
+-- ---- in place
+
+module _ {has : ℕ → Cell → Type 0} {used : ℕ → Bool} {live : ℕ → ℕ} {low place : ℕ} {k : List ℕ} {p seat to : ℕ} {cell : Cell} {l : Leaf} {t : Tree} {e : Entry} {b : Branch} (a : AsksAt has used live low place k p seat cell l t e) (s : IsBranchTop t b) (before : b.offset < place) (is : to ≡ b.twigs + count_ones (b.bitmap % 2 ^ at k b.offset)) where
+  pub branch_here : BranchAsks has used live low place k p cell l t e b
+  branch_here = branch_asks a.asks s
+
+  abbrev pub grow_twig_down : Descent has used live (item_weight l e.item) low cell b e.key (count_ones (b.bitmap % 2 ^ at k b.offset)) (count_ones b.bitmap)
+  grow_twig_down = down branch_here.here before refl refl refl
+
+  sits : IsSeat has used live (item_weight l e.item) seat (branch b.offset b.twigs grow_twig_down.below)
+  sits = subst (IsSeat has used live (item_weight l e.item) seat) branch_here.is a.sits
+
+  pub grow_there : has to (top_cell grow_twig_down.found.here)
+  grow_there = subst (λ (x : ℕ). has x (top_cell grow_twig_down.found.here)) (sym is) (twig_there grow_twig_down)
+
+  pub grow_used : used to ≡ true
+  grow_used = subst (λ (x : ℕ). used x ≡ true) (sym is) (cell_used grow_twig_down (count_ones (b.bitmap % 2 ^ at k b.offset)) (numbers grow_twig_down).0)
+
+  pub grow_path : twigs_on_path k t ≡ count_ones b.bitmap + twigs_on_path k grow_twig_down.found.here
+  grow_path = path_as branch_here ∙ down_path branch_here.here before refl refl refl
+
+  pub grow_below : {next : Cell} → ((c : Cell) → has to c → next ≡ c) → AsksAt has used live (b.offset + 1) place k p to next l grow_twig_down.found.here e
+  grow_below read = record {
+    asks = down_asks branch_here.here before refl refl refl (λ z. omega arith) (λ q c u h. h) (λ q u. u) (read (top_cell grow_twig_down.found.here) grow_there);
+    sits = subst (λ (x : ℕ). IsSeat has used live (item_weight l e.item) x grow_twig_down.found.here) (sym is) (seat_below grow_twig_down sits);
+  }
+
+  pub grow_outside : (q : ℕ) → IsOutside seat t q → IsOutside to grow_twig_down.found.here q
+  grow_outside q out = subst (λ (x : ℕ). IsOutside x grow_twig_down.found.here q) (sym is) (outside_below grow_twig_down seat q (subst (λ (z : Tree). IsOutside seat z q) branch_here.is out))
+
+  pub grow_above : {new : ℕ → Cell → Type 0} {used_new : ℕ → Bool} {live_new : ℕ → ℕ} → GrewAt new used used_new live live_new (b.offset + 1) l grow_twig_down.found.here e to → ((q : ℕ) (c : Cell) → used q ≡ true → IsOutside to grow_twig_down.found.here q → has q c → new q c) → GrewAt new used used_new live live_new low l t e seat
+  grow_above {new} {used_new} {live_new} x outside =
+      subst (λ (z : Tree). GrewAt new used used_new live live_new low l z e seat) (sym branch_here.is) (record {
+        new = branch b.offset b.twigs (beside grow_twig_down.found.left (twig (at e.key b.offset) x.new grow_twig_down.found.rest));
+        grown = grow_twig low place b.offset b.twigs b.twigs p e branch_here.below grow_twig_down.found branch_here.here.asks.held.tree branch_here.here.asks.nearest before branch_here.here.asks.held.tree.2 x.new
+            (let m : b.offset + 1 ≡ suc b.offset = omega arith in subst (λ (y : ℕ). Grown e y grow_twig_down.found.here x.new) m x.grown);
+        reseated = reseated_above grow_twig_down x.new sits (subst (Reseated new used used_new live live_new (item_weight l e.item) grow_twig_down.found.here x.new) is x.reseated)
+            (subst (λ (y : ℕ). (q : ℕ) (c : Cell) → used q ≡ true → IsOutside y grow_twig_down.found.here q → has q c → new q c) is outside);
+      })
 
 pub grew_as : {has : ℕ → Cell → Type 0} {used new : ℕ → Bool} {live live_new : ℕ → ℕ} {low : ℕ} {l : Leaf} {t u : Tree} {e : Entry} {cell : Cell} → t ≡ u → Grew has used new live live_new low l u e cell → Grew has used new live live_new low l t e cell
 grew_as {has} {used} {new} {live} {live_new} {low} {l} {t} {u} {e} {cell} same g = subst (λ (z : Tree). Grew has used new live live_new low l z e cell) (sym same) g

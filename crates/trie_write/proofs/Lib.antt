@@ -11,6 +11,8 @@ pub mod UnpackLaws
 pub mod NearLaws
 pub mod InsertLaws
 pub mod RootLaws
+pub mod SeatLaws
+pub mod PlaceLemmas
 pub mod ExchangeLaws
 pub mod TopLaws
 pub mod DeleteLaws

@@ -1,5 +1,5 @@
 -- A root of its own for a changed tree, and what stands there.
-use Rattle.std.proofs.Common.{◌≡◌, ℕ, ◌+◌, ◌<◌, ◌≤◌, ◌⊎◌, inl, inr, Bool, true, false, List, [], ◌∷◌, length, Option, Some, None, length-append, arith, refl, sym, ◌∙◌, ap, subst}
+use Rattle.std.proofs.Common.{◌≡◌, ℕ, ◌+◌, ◌<◌, ◌≤◌, inl, inr, Bool, true, false, List, [], ◌∷◌, length, Option, Some, None, length-append, arith, refl, sym, ◌∙◌, ap, subst}
 use Rattle.packed_node.specs.declared.Cell.{Cell}
 use Rattle.packed_node.specs.declared.Leaf.{Leaf}
 use Rattle.zone_model.specs.Names.{wire}
@@ -12,20 +12,21 @@ use Rattle.trie_write.proofs.ItemLaws.{wire_some, AreSmall}
 use Rattle.trie_model.specs.Keys.{at, IsKey, Entry, IsEntry, InList}
 use Rattle.trie_model.specs.Memory.{top_cell, Beneath, ItemLies, Stands}
 use Rattle.trie_model.specs.Reach.{row, in_chunk, weigh_tree, WithinTree}
-use Rattle.trie_model.specs.Trees.{Tree, IsTree, entries_of, cells_in, IsRow}
+use Rattle.trie_model.specs.Trees.{Tree, entries_of, cells_in, IsRow}
 use Rattle.trie_model.proofs.MoveLaws.{Keeps, beneath_kept, tree_weaker}
-use Rattle.trie_model.proofs.ReachLaws.{met, live_is}
+use Rattle.trie_model.proofs.ReachLaws.{live_is}
 use Rattle.chunk_usage.specs.Rooms.{Room}
 use Rattle.trie_write.specs.Weights.{at_place, mark}
-use Rattle.trie_write.specs.Steps.{Became, item_weight, Asks}
+use Rattle.trie_write.specs.Steps.{Became, item_weight, Asks, AsksAt}
 use Rattle.trie_write.specs.Standing.{StandsIn, Standing}
 use Rattle.trie_write.specs.Roots.{Rooted}
 use Rattle.trie_write.specs.Inserts.{AsksTop}
 use Rattle.trie_write.specs.declared.near.Difference.{Difference}
 use Rattle.trie_model.specs.Changes.{Nearest, Inserted}
 use Rattle.trie_write.proofs.InsertLaws.{laid_later}
-use Rattle.trie_write.proofs.WeightLaws.{marked, unmarked, mark_le, mark_tells, mark_grows, at_itself, met_within, within_met, row_fresh}
+use Rattle.trie_write.proofs.WeightLaws.{marked, mark_le, met_within, row_fresh}
 use Rattle.trie_write.proofs.TwigLaws.{beneath_met}
+use Rattle.trie_write.proofs.SeatLaws.{root_seat}
 
 -- the changed tree's top is put into a cell that was handed out before
 pub root_became : {later new : ℕ → Cell → Type 0} {used used_now used_later fresh : ℕ → Bool} {given : List Bool} {live live_now live_later : ℕ → ℕ} {spare : (ℕ → ℕ) → ℕ} {t u : Tree} {cell : Cell} {r : ℕ} →
@@ -50,38 +51,6 @@ root_became {later = later} {new} {used} {used_now} {used_later} {live = live} {
         let c = mark_le used_later q in
         let f = met_within used t within q unused in
         let s = spare q unused in omega arith
-
-cases_of : (b : Bool) → (b ≡ true) ⊎ (b ≡ false)
-cases_of true = inl refl
-cases_of false = inr refl
-
--- the changed tree stands at its root, once the old root counts no more
-pub root_stands_on : {has new : ℕ → Cell → Type 0} {used used_now used_later used_new : ℕ → Bool} {live live_now live_later live_new : ℕ → ℕ} {spare : (ℕ → ℕ) → ℕ} {t u : Tree} {version : List Entry} {old r : ℕ} →
-    StandsIn has used live old t version → IsTree 0 u → ((q : ℕ) → used q ≡ true → used_now q ≡ true) → ((q : ℕ) → spare (at_place q) + mark used q ≤ mark used_now q) → ((k : ℕ) → live_now k ≡ live k + spare (in_chunk k)) →
-    Rooted new used_now used_later live_now live_later spare t u r → ((q : ℕ) → used_now q ≡ true → used_later q ≡ true) → ((k : ℕ) → live_new k + row (in_chunk k) old 1 ≡ live_later k) → ((q : ℕ) → used_later q ≡ true → used_new q ≡ true) → StandsIn new used_new live_new r u (entries_of u)
-root_stands_on {has} {new} {used} {used_now} {used_later} {used_new} {spare = spare} {t = t} {u} {old = old} {r = r} s tree stays laid counts rooted later released stays_new = record {
-  trie = record { shape = tree; inside = rooted.inside; top = rooted.top; beneath = rooted.beneath; once = λ q. let a = met q r u in let b = least q in omega arith; holds = refl };
-  top_in_use = mark_tells used_new r (let a = at_itself r in let b = most r in omega arith);
-  in_use = within_met used_new u (λ q m. mark_tells used_new q (let b = most q in omega arith));
-  counted = λ k. let a = live_is k old t in let b = s.counted k in let c = live_is k r u in let d = counts k in let e = rooted.counts k in let f = released k in omega arith;
-}
-  where
-    by_mark : (q : ℕ) → (used q ≡ true) ⊎ (used q ≡ false) → (at_place q r + weigh_tree (at_place q) u ≤ 1) × (at_place q r + weigh_tree (at_place q) u ≤ mark used_new q)
-    by_mark q (inl yes_used) =
-        let a = rooted.fresh q in let b = laid q in let c = marked used q yes_used in let d = mark_le used_later q in
-        let e = met q old t in let f = s.trie.once q in
-        let m = marked used_new q (stays_new q (later q (stays q yes_used))) in
-        (omega arith, omega arith)
-    by_mark q (inr not_used) =
-        let a = rooted.fresh q in let b = laid q in let c = unmarked used q not_used in let d = mark_le used_later q in
-        let e = met_within used t s.in_use q not_used in let m = mark_grows used_later used_new q (stays_new q) in
-        (omega arith, omega arith)
-
-    least : (q : ℕ) → at_place q r + weigh_tree (at_place q) u ≤ 1
-    least q = (by_mark q (cases_of (used q))).0
-
-    most : (q : ℕ) → at_place q r + weigh_tree (at_place q) u ≤ mark used_new q
-    most q = (by_mark q (cases_of (used q))).1
 
 -- what a step was asked stays asked while cells in use stay
 pub asks_later : {has now : ℕ → Cell → Type 0} {used used_now : ℕ → Bool} {live live_now : ℕ → ℕ} {low place : ℕ} {k : List ℕ} {p : ℕ} {cell : Cell} {l : Leaf} {t : Tree} {e : Entry} → ((z : ℕ) → live z ≤ live_now z) → Keeps used has now → ((z : ℕ) → used z ≡ true → used_now z ≡ true) → Asks has used live low place k p cell l t e → Asks now used_now live_now low place k p cell l t e
@@ -124,6 +93,14 @@ top_asks {has} {now} {used} {used_now} {live = live} {r = r} {key} {item} {first
 -- an item in new cells
 pub item_fresh : {used new fresh : ℕ → Bool} {given : List Bool} {item : List ℕ} (l : Leaf) (other : List ℕ) → item ≡ other → Room used new fresh given l.at (cells_in item) → ((q : ℕ) → used q ≡ true → new q ≡ true) → (q : ℕ) → item_weight l other (at_place q) + mark used q ≤ mark new q
 item_fresh {used = used} {new} l other e room stays q = let a = row_fresh room stays q in let b = ap (λ (xs : List ℕ). row (at_place q) l.at (cells_in xs)) e in omega arith
+
+pub top_sits : {has now : ℕ → Cell → Type 0} {used used_now fresh : ℕ → Bool} {given : List Bool} {live live_now : ℕ → ℕ} {r : ℕ} {key item : List ℕ} {first : Difference} {cell : Cell} {e : Entry} {t : Tree} {version : List Entry} {l : Leaf} →
+    AsksTop has used live r key item first cell e t version → l.len ≡ length item → Room used used_now fresh given l.at (cells_in item) → ItemLies now l.at item → Keeps used has now → ((q : ℕ) → used q ≡ true → used_now q ≡ true) → ((k : ℕ) → live_now k ≡ live k + row (in_chunk k) l.at (cells_in item)) →
+    AsksAt now used_now live_now 0 first.place key first.position r cell l t e
+top_sits {live = live} {e = e} {l = l} a len room lies keep stays counts = record {
+  asks = top_asks a len room lies keep stays counts;
+  sits = root_seat a.stands keep stays (item_fresh l e.item a.item_is room stays) (λ k. counts k ∙ ap (λ (xs : List ℕ). live k + row (in_chunk k) l.at (cells_in xs)) a.item_is);
+}
 
 -- ---- the entry of a key and an item
 

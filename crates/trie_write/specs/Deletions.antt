@@ -10,6 +10,7 @@ use Rattle.trie_model.specs.Trees.{Tree, Twigs, entries_of, bitmap_of, beside}
 use Rattle.trie_model.specs.Trees.Tree.{leaf, branch}
 use Rattle.trie_model.specs.Trees.Twigs.{twig}
 use Rattle.trie_write.specs.Roots.{Rooted}
+use Rattle.trie_write.specs.Seats.{IsSeat, Reseated, Rerooted}
 use Rattle.trie_write.specs.Standing.{StandsIn}
 use Rattle.trie_write.specs.Steps.{Held, Became}
 use Rattle.trie_write.specs.Tops.{IsBranchTop}
@@ -36,6 +37,16 @@ pub record ShrinkAsked (has : ℕ → Cell → Type 0) (used : ℕ → Bool) (li
   pub gone : Entry
   pub asks : ShrinkAsks has used live low key b t gone
 
+-- the same, with the tree's top in a cell that may be written, or at a root
+pub record ShrinkAsksAt (has : ℕ → Cell → Type 0) (used : ℕ → Bool) (live : ℕ → ℕ) (low : ℕ) (key : List ℕ) (seat : ℕ) (b : Branch) (t : Tree) (gone : Entry) : Type 0 where
+  pub asks : ShrinkAsks has used live low key b t gone
+  pub sits : IsSeat has used live no_spare seat t
+
+pub record ShrinkAskedAt (has : ℕ → Cell → Type 0) (used : ℕ → Bool) (live : ℕ → ℕ) (low : ℕ) (key : List ℕ) (seat : ℕ) (b : Branch) : Type 0 where
+  pub t : Tree
+  pub gone : Entry
+  pub at : ShrinkAsksAt has used live low key seat b t gone
+
 -- and the twig of the key is its leaf
 pub record LeafAsks (has : ℕ → Cell → Type 0) (used : ℕ → Bool) (live : ℕ → ℕ) (low : ℕ) (key : List ℕ) (b : Branch) (l : Leaf) (t : Tree) (gone : Entry) : Type 0 where
   pub left : Twigs
@@ -61,6 +72,17 @@ pub record RootShrinks (has : ℕ → Cell → Type 0) (used used_new : ℕ → 
   pub new : Tree
   pub change : Shrunk gone 0 t new
   pub rooted : Rooted has used used_new live live_new no_spare t new r
+
+-- the seat's cell is the top of the tree without the entry
+pub record ShrinksAt (has : ℕ → Cell → Type 0) (used used_new : ℕ → Bool) (live live_new : ℕ → ℕ) (low : ℕ) (t : Tree) (gone : Entry) (seat : ℕ) : Type 0 where
+  pub new : Tree
+  pub change : Shrunk gone low t new
+  pub reseated : Reseated has used used_new live live_new no_spare t new seat
+
+pub record TopShrinks (has : ℕ → Cell → Type 0) (used used_new : ℕ → Bool) (live live_new : ℕ → ℕ) (t : Tree) (gone : Entry) (old root : ℕ) : Type 0 where
+  pub new : Tree
+  pub change : Shrunk gone 0 t new
+  pub rerooted : Rerooted has used used_new live live_new no_spare t new old root
 
 -- a deletion below a root: the key is in the version
 pub record DeleteAsks (has : ℕ → Cell → Type 0) (used : ℕ → Bool) (live : ℕ → ℕ) (r : ℕ) (key : List ℕ) (cell : Cell) (t : Tree) (version : List Entry) (gone : Entry) : Type 0 where

@@ -6,6 +6,7 @@ use Rattle.trie_model.specs.Keys.{Entry, IsEntry, InList}
 use Rattle.trie_model.specs.Trees.{Tree, entries_of, IsTree}
 use Rattle.trie_write.specs.Steps.{Held, Laid, Became, item_weight}
 use Rattle.trie_write.specs.Roots.{Rooted}
+use Rattle.trie_write.specs.Seats.{IsSeat, Reseated, Rerooted}
 use Rattle.trie_write.specs.Standing.{StandsIn}
 use Rattle.trie_model.specs.Memory.{top_cell}
 
@@ -36,6 +37,16 @@ pub record ExchangeAsked (has : ℕ → Cell → Type 0) (used : ℕ → Bool) (
   pub e : Entry
   pub asks : ExchangeAsks has used live low key cell leaf t e
 
+-- the same, with the tree's top in a cell that may be written, or at a root
+pub record ExchangeAsksAt (has : ℕ → Cell → Type 0) (used : ℕ → Bool) (live : ℕ → ℕ) (low : ℕ) (key : List ℕ) (seat : ℕ) (cell : Cell) (leaf : Leaf) (t : Tree) (e : Entry) : Type 0 where
+  pub asks : ExchangeAsks has used live low key cell leaf t e
+  pub sits : IsSeat has used live (item_weight leaf e.item) seat t
+
+pub record ExchangeAskedAt (has : ℕ → Cell → Type 0) (used : ℕ → Bool) (live : ℕ → ℕ) (low : ℕ) (key : List ℕ) (seat : ℕ) (cell : Cell) (leaf : Leaf) : Type 0 where
+  pub t : Tree
+  pub e : Entry
+  pub at : ExchangeAsksAt has used live low key seat cell leaf t e
+
 -- the cell is the top of the tree with the entry exchanged
 pub record Exchanges (has : ℕ → Cell → Type 0) (used used_new : ℕ → Bool) (live live_new : ℕ → ℕ) (low : ℕ) (leaf : Leaf) (t : Tree) (e : Entry) (cell : Cell) : Type 0 where
   pub new : Tree
@@ -46,6 +57,17 @@ pub record RootExchanges (has : ℕ → Cell → Type 0) (used used_new : ℕ �
   pub new : Tree
   pub change : TreeExchanged e 0 t new
   pub rooted : Rooted has used used_new live live_new (item_weight leaf e.item) t new r
+
+-- the seat's cell is the top of the tree with the entry exchanged
+pub record ExchangesAt (has : ℕ → Cell → Type 0) (used used_new : ℕ → Bool) (live live_new : ℕ → ℕ) (low : ℕ) (leaf : Leaf) (t : Tree) (e : Entry) (seat : ℕ) : Type 0 where
+  pub new : Tree
+  pub change : TreeExchanged e low t new
+  pub reseated : Reseated has used used_new live live_new (item_weight leaf e.item) t new seat
+
+pub record TopExchanges (has : ℕ → Cell → Type 0) (used used_new : ℕ → Bool) (live live_new : ℕ → ℕ) (leaf : Leaf) (t : Tree) (e : Entry) (old root : ℕ) : Type 0 where
+  pub new : Tree
+  pub change : TreeExchanged e 0 t new
+  pub rerooted : Rerooted has used used_new live live_new (item_weight leaf e.item) t new old root
 
 -- a replacement below a root: the key is in the version
 pub record ReplaceAsks (has : ℕ → Cell → Type 0) (used : ℕ → Bool) (live : ℕ → ℕ) (r : ℕ) (key item : List ℕ) (cell : Cell) (e : Entry) (t : Tree) (version : List Entry) : Type 0 where

@@ -12,3 +12,10 @@ pub record Frame (has has_new : ℕ → Cell → Type 0) (kept kept_new : List �
   pub keeps : kept_new ≡ kept
   pub given_stays : (k : ℕ) → IsGiven given k → IsGiven given_new k
   pub grows : Grows used used_new fresh fresh_new
+
+-- What a change in place leaves as it is: the same, but for cells in use that are fresh.
+pub record Fenced (has has_new : ℕ → Cell → Type 0) (kept kept_new : List ℕ) (given given_new : List Bool) (used used_new fresh fresh_new : ℕ → Bool) : Type 0 where
+  pub frozen : (q : ℕ) (c : Cell) → fresh_new q ≡ false → has q c → has_new q c
+  pub keeps : kept_new ≡ kept
+  pub given_stays : (k : ℕ) → IsGiven given k → IsGiven given_new k
+  pub grows : Grows used used_new fresh fresh_new

@@ -12,5 +12,6 @@ pub mod Nearness
 pub mod Roots
 pub mod Inserts
 pub mod Tops
+pub mod Seats
 pub mod Exchanges
 pub mod Deletions

@@ -10,6 +10,7 @@ use Rattle.trie_model.specs.Trees.{Tree}
 use Rattle.zone_model.specs.Keys.{Leads}
 use Rattle.trie_read.specs.Reads.{EachTells}
 use Rattle.trie_write.specs.Paths.{twigs_on_path}
+use Rattle.trie_write.specs.Seats.{Rerooted}
 use Rattle.trie_write.specs.Standing.{StandsIn}
 use Rattle.trie_write.specs.Steps.{item_weight}
 use Rattle.trie_write.specs.Weights.{at_place, mark}
@@ -26,6 +27,11 @@ pub record RootGrew (has : ℕ → Cell → Type 0) (used used_new : ℕ → Boo
   pub new : Tree
   pub grown : Grown e 0 t new
   pub rooted : Rooted has used used_new live live_new (item_weight leaf e.item) t new r
+
+pub record TopGrew (has : ℕ → Cell → Type 0) (used used_new : ℕ → Bool) (live live_new : ℕ → ℕ) (leaf : Leaf) (t : Tree) (e : Entry) (old root : ℕ) : Type 0 where
+  pub new : Tree
+  pub grown : Grown e 0 t new
+  pub rerooted : Rerooted has used used_new live live_new (item_weight leaf e.item) t new old root
 
 -- how many twigs there are on the path of a key
 abbrev pub OnPath : (ℕ → Cell → Type 0) → (ℕ → Bool) → (ℕ → ℕ) → Option ℕ → List ℕ → ℕ → Type 0

@@ -9,6 +9,7 @@ use Rattle.trie_model.specs.Memory.{Beneath, ItemLies, top_cell}
 use Rattle.trie_model.specs.Reach.{row, in_chunk, weigh_tree, WithinTree}
 use Rattle.trie_model.specs.Trees.{Tree, Twigs, entries_of, bitmap_of, cells_in, IsRow, IsTree}
 use Rattle.trie_model.specs.Trees.Tree.{branch}
+use Rattle.trie_write.specs.Seats.{IsSeat, Reseated}
 use Rattle.trie_write.specs.Tops.{NotBefore}
 use Rattle.trie_write.specs.Weights.{at_place, mark}
 
@@ -55,6 +56,16 @@ pub record Asked (has : ℕ → Cell → Type 0) (used : ℕ → Bool) (live : �
   pub e : Entry
   pub asks : Asks has used live low place key position cell leaf t e
 
+-- the same, with the tree's top in a cell that may be written, or at a root
+pub record AsksAt (has : ℕ → Cell → Type 0) (used : ℕ → Bool) (live : ℕ → ℕ) (low place : ℕ) (key : List ℕ) (position seat : ℕ) (cell : Cell) (leaf : Leaf) (t : Tree) (e : Entry) : Type 0 where
+  pub asks : Asks has used live low place key position cell leaf t e
+  pub sits : IsSeat has used live (item_weight leaf e.item) seat t
+
+pub record AskedAt (has : ℕ → Cell → Type 0) (used : ℕ → Bool) (live : ℕ → ℕ) (low place : ℕ) (key : List ℕ) (position seat : ℕ) (cell : Cell) (leaf : Leaf) : Type 0 where
+  pub t : Tree
+  pub e : Entry
+  pub at : AsksAt has used live low place key position seat cell leaf t e
+
 -- the tree's offset lies further on
 pub record AskedDeep (has : ℕ → Cell → Type 0) (used : ℕ → Bool) (live : ℕ → ℕ) (place : ℕ) (key : List ℕ) (position : ℕ) (cell : Cell) (leaf : Leaf) : Type 0 where
   pub low : ℕ
@@ -90,3 +101,9 @@ pub record Grew (has : ℕ → Cell → Type 0) (used used_new : ℕ → Bool) (
   pub new : Tree
   pub grown : Grown e low t new
   pub became : Became has used used_new live live_new (item_weight leaf e.item) t new cell
+
+-- the seat's cell is the top of the tree with the entry put in
+pub record GrewAt (has : ℕ → Cell → Type 0) (used used_new : ℕ → Bool) (live live_new : ℕ → ℕ) (low : ℕ) (leaf : Leaf) (t : Tree) (e : Entry) (seat : ℕ) : Type 0 where
+  pub new : Tree
+  pub grown : Grown e low t new
+  pub reseated : Reseated has used used_new live live_new (item_weight leaf e.item) t new seat

@@ -7,6 +7,7 @@ ghost use Rattle.trie_model.specs.Memory.{Stands};
 ghost use Rattle.trie_read.specs.Reads.{EachTells};
 ghost use Rattle.chunk_usage.specs.Rooms.{Ready};
 ghost use Rattle.trie_write.specs.Entries.{entries_of_items};
+ghost use Rattle.trie_write.specs.Frames.{Fenced};
 ghost use Rattle.trie_write.specs.Standing.{Standing};
 
 use super::{Item, build, cells, delete, insert, replace};
@@ -21,14 +22,14 @@ use trie_read::{count, get, nodes};
 
 /// What is done with an item.
 #[derive(Clone, Copy)]
-enum Change {
+pub enum Change {
     Insert,
     Replace,
     Delete,
 }
 
 /// The root after a change; none where it was refused.
-fn changed<C: CellWrite, U: Space>(
+pub fn changed<C: CellWrite, U: Space>(
     cells: &mut C,
     usage: &mut U,
     root: Option<Ref>,
@@ -38,6 +39,7 @@ fn changed<C: CellWrite, U: Space>(
     requires stands { (version : List Entry) × Standing (C.has cells.old) (U.used usage.old) (U.live usage.old) root version × EachTells Leads version }
     requires ready { Ready (C.kept cells.old) (C.given cells.old) (U.given usage.old) (U.used usage.old) (U.fresh usage.old) }
     ensures stands { IfSome result (λ new. (version : List Entry) × Standing (C.has cells.new) (U.used usage.new) (U.live usage.new) new version × EachTells Leads version) }
+    ensures frame { Fenced (C.has cells.old) (C.has cells.new) (C.kept cells.old) (C.kept cells.new) (C.given cells.old) (C.given cells.new) (U.used usage.old) (U.used usage.new) (U.fresh usage.old) (U.fresh usage.new) }
     ensures ready { Ready (C.kept cells.new) (C.given cells.new) (U.given usage.new) (U.used usage.new) (U.fresh usage.new) }
 {
     let key = item.key();
@@ -59,7 +61,7 @@ fn changed<C: CellWrite, U: Space>(
 }
 
 /// How many names and nodes there are, and how many octets a name's item has: 0 where it isn't there.
-fn seen<C: CellRead>(cells: &mut C, root: Option<Ref>, name: &Item) -> (u64, u64, usize)
+pub fn seen<C: CellRead>(cells: &mut C, root: Option<Ref>, name: &Item) -> (u64, u64, usize)
     requires { (version : List Entry) × Stands (C.has cells.old) root version × EachTells Leads version }
     ensures { cells.new ≡ cells.old }
 {
@@ -134,7 +136,7 @@ fn come_and_go<C: CellWrite, U: Space>(
 }
 
 /// The items of names, with one payload.
-fn items_of(alloc: Global, names: &[&str], payload: &[u8]) -> Result<Vec<Item>, Fail> {
+pub fn items_of(alloc: Global, names: &[&str], payload: &[u8]) -> Result<Vec<Item>, Fail> {
     let mut items = Vec::new(alloc);
     for text in names {
         let name = Name::read(text.as_bytes(), &Name::root())
@@ -146,7 +148,7 @@ fn items_of(alloc: Global, names: &[&str], payload: &[u8]) -> Result<Vec<Item>, 
 }
 
 /// Twenty names, in the order of their keys.
-fn rising_names() -> [&'static str; 20] {
+pub fn rising_names() -> [&'static str; 20] {
     [
         "a.", "a.a.", "b.a.", "c.a.", "b.", "bb.", "bc.", "c.", "x.c.", "y.c.", "d.", "e.", "f.",
         "g.", "h.", "i.", "j.", "k.", "l.", "m.",
@@ -195,7 +197,7 @@ fn comes_before(key: &Key, other: &Key) -> bool
 }
 
 /// Whether items rise by their keys.
-fn rise(items: &[Item]) -> bool
+pub fn rise(items: &[Item]) -> bool
     ensures { IsTrue result → Rises (entries_of_items items.now) }
 {
     if items.len() < 2 {

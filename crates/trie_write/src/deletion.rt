@@ -1,22 +1,25 @@
 //! A name taken out.
 
-ghost use Rattle.std.specs.Prelude.{◌≡◌, ◌+◌, ◌≤◌, ℕ, List, IfOk, IfErr, Err, ◌↔◌, count_ones};
+ghost use Rattle.std.specs.Prelude.{◌≡◌, ◌+◌, ◌/◌, ◌≤◌, ℕ, List, true, IfOk, IfErr, Err, ◌↔◌, count_ones};
 ghost use Rattle.packed_node.specs.declared.Cell.{Cell};
 ghost use Rattle.zone_model.specs.Keys.{Leads};
 ghost use Rattle.trie_model.specs.Keys.{Entry, InList};
 ghost use Rattle.trie_model.specs.Trees.{Tree};
 ghost use Rattle.trie_read.specs.Reads.{EachTells};
+ghost use Rattle.chunk_cells.specs.Chunks.{IsGiven};
 ghost use Rattle.chunk_usage.specs.Rooms.{Ready};
-ghost use Rattle.trie_write.specs.Frames.{Frame};
+ghost use Rattle.trie_write.specs.Frames.{Frame, Fenced};
 ghost use Rattle.trie_write.specs.Paths.{twigs_on_path};
 ghost use Rattle.trie_write.specs.Roots.{OnPath};
+ghost use Rattle.trie_write.specs.Seats.{IsOutside, Unreached};
 ghost use Rattle.trie_write.specs.Standing.{Standing};
-ghost use Rattle.trie_write.specs.Deletions.{Deleted, ShrinkAsks, ShrinkAsked, LeafAsks, LeafAsked, Shrinks, RootShrinks, DeleteAsks, DeleteAsked};
+ghost use Rattle.trie_write.specs.Deletions.{Deleted, ShrinkAsks, ShrinkAsked, ShrinkAsksAt, ShrinkAskedAt, LeafAsks, LeafAsked, Shrinks, ShrinksAt, RootShrinks, TopShrinks, DeleteAsks, DeleteAsked};
 
 use super::path::put_branch;
 use super::replacement::ChangeRefusal;
 use super::room::{place_row, release_item, room};
 use super::row::{Row, append};
+use super::seat::fresh_branch;
 use super::top::top_of;
 use chunk_cells::{CellRead, CellWrite};
 use chunk_usage::{Full, Space};
@@ -128,7 +131,7 @@ fn shrink<C: CellWrite, U: Space>(
     }
 }
 
-/// The root of the tree below a branch with the key's leaf taken out.
+/// A new root of the tree below a branch with the key's leaf taken out.
 fn shrink_root<C: CellWrite, U: Space>(
     cells: &mut C,
     usage: &mut U,
@@ -160,6 +163,77 @@ fn shrink_root<C: CellWrite, U: Space>(
     }
 }
 
+/// Takes the key's leaf out below a cell that may be written and says a branch: what hangs on the last such cell of the key's path
+/// is copied, and that cell written. Offsets are at least `low`.
+fn shrink_at<C: CellWrite, U: Space>(
+    cells: &mut C,
+    usage: &mut U,
+    low: u16,
+    key: &Key,
+    seat: Ref,
+    branch: Branch,
+) -> Result<(), Full>
+    requires asks { ShrinkAskedAt (C.has cells.old) (U.used usage.old) (U.live usage.old) low key.now seat branch }
+    requires fresh { U.fresh usage.old seat ≡ true }
+    requires given { IsGiven (C.given cells.old) (seat / 1024) }
+    requires ready { Ready (C.kept cells.old) (C.given cells.old) (U.given usage.old) (U.used usage.old) (U.fresh usage.old) }
+    ensures shrunk { IfOk result (λ _. (t : Tree) (gone : Entry) → ShrinkAsksAt (C.has cells.old) (U.used usage.old) (U.live usage.old) low key.now seat branch t gone
+        → ShrinksAt (C.has cells.new) (U.used usage.old) (U.used usage.new) (U.live usage.old) (U.live usage.new) low t gone seat) }
+    ensures outside { (t : Tree) (gone : Entry) → ShrinkAsksAt (C.has cells.old) (U.used usage.old) (U.live usage.old) low key.now seat branch t gone
+        → (q : ℕ) (c : Cell) → U.used usage.old q ≡ true → IsOutside seat t q → C.has cells.old q c → C.has cells.new q c }
+    ensures untouched { IfErr result (λ _. (q : ℕ) (c : Cell) → U.used usage.old q ≡ true → C.has cells.old q c → C.has cells.new q c) }
+    ensures unchanged { IfErr result (λ _. (k : ℕ) → U.live usage.new k ≡ U.live usage.old k) }
+    ensures spends { (t : Tree) (gone : Entry) → ShrinkAsksAt (C.has cells.old) (U.used usage.old) (U.live usage.old) low key.now seat branch t gone
+        → U.spent usage.new ≤ U.spent usage.old + twigs_on_path key.now t }
+    ensures full { IfErr result (λ f. U.lacks usage.new f) }
+    ensures frozen { U.frozen usage.new ≡ U.frozen usage.old }
+    ensures frame { Fenced (C.has cells.old) (C.has cells.new) (C.kept cells.old) (C.kept cells.new) (C.given cells.old) (C.given cells.new) (U.used usage.old) (U.used usage.new) (U.fresh usage.old) (U.fresh usage.new) }
+    ensures ready { Ready (C.kept cells.new) (C.given cells.new) (U.given usage.new) (U.used usage.new) (U.fresh usage.new) }
+{
+    let at = branch.twigs + branch.twig_index(key.at(branch.offset));
+    let next = cells.cell(at);
+    match fresh_branch(usage, at, next) {
+        Some(inner) => shrink_at(cells, usage, branch.offset + 1, key, at, inner),
+        None => {
+            let cell = shrink(cells, usage, low, key, branch)?;
+            cells.put(seat, cell);
+            Ok(())
+        }
+    }
+}
+
+/// The root of the tree below a branch with the key's leaf taken out: the same where it may be written, else a new one.
+fn shrink_top<C: CellWrite, U: Space>(
+    cells: &mut C,
+    usage: &mut U,
+    root: Ref,
+    key: &Key,
+    branch: Branch,
+) -> Result<Ref, Full>
+    requires asks { ShrinkAskedAt (C.has cells.old) (U.used usage.old) (U.live usage.old) 0 key.now root branch }
+    requires ready { Ready (C.kept cells.old) (C.given cells.old) (U.given usage.old) (U.used usage.old) (U.fresh usage.old) }
+    ensures shrunk { IfOk result (λ new. (t : Tree) (gone : Entry) → ShrinkAsksAt (C.has cells.old) (U.used usage.old) (U.live usage.old) 0 key.now root branch t gone
+        → TopShrinks (C.has cells.new) (U.used usage.old) (U.used usage.new) (U.live usage.old) (U.live usage.new) t gone root new) }
+    ensures outside { (t : Tree) (gone : Entry) → ShrinkAsksAt (C.has cells.old) (U.used usage.old) (U.live usage.old) 0 key.now root branch t gone
+        → (q : ℕ) (c : Cell) → U.used usage.old q ≡ true → IsOutside root t q → C.has cells.old q c → C.has cells.new q c }
+    ensures untouched { IfErr result (λ _. (q : ℕ) (c : Cell) → U.used usage.old q ≡ true → C.has cells.old q c → C.has cells.new q c) }
+    ensures unchanged { IfErr result (λ _. (k : ℕ) → U.live usage.new k ≡ U.live usage.old k) }
+    ensures spends { (t : Tree) (gone : Entry) → ShrinkAsksAt (C.has cells.old) (U.used usage.old) (U.live usage.old) 0 key.now root branch t gone
+        → U.spent usage.new ≤ U.spent usage.old + (1 + twigs_on_path key.now t) }
+    ensures full { IfErr result (λ f. U.lacks usage.new f) }
+    ensures frozen { U.frozen usage.new ≡ U.frozen usage.old }
+    ensures frame { Fenced (C.has cells.old) (C.has cells.new) (C.kept cells.old) (C.kept cells.new) (C.given cells.old) (C.given cells.new) (U.used usage.old) (U.used usage.new) (U.fresh usage.old) (U.fresh usage.new) }
+    ensures ready { Ready (C.kept cells.new) (C.given cells.new) (U.given usage.new) (U.used usage.new) (U.fresh usage.new) }
+{
+    if usage.is_fresh(root) {
+        shrink_at(cells, usage, 0, key, root, branch)?;
+        return Ok(root);
+    }
+    let new = shrink_root(cells, usage, key, branch)?;
+    usage.release(root, 1);
+    Ok(new)
+}
+
 /// The root of the trie with a name that is there taken out; none for the last one.
 fn delete_item<C: CellWrite, U: Space>(
     cells: &mut C,
@@ -172,12 +246,15 @@ fn delete_item<C: CellWrite, U: Space>(
     requires ready { Ready (C.kept cells.old) (C.given cells.old) (U.given usage.old) (U.used usage.old) (U.fresh usage.old) }
     ensures stands { IfOk result (λ new. (t : Tree) (version : List Entry) (gone : Entry) → DeleteAsks (C.has cells.old) (U.used usage.old) (U.live usage.old) root key.now node t version gone
         → (next : List Entry) × Deleted key.now version next × Standing (C.has cells.new) (U.used usage.new) (U.live usage.new) new next) }
+    ensures outside { (t : Tree) (version : List Entry) (gone : Entry) → DeleteAsks (C.has cells.old) (U.used usage.old) (U.live usage.old) root key.now node t version gone
+        → (q : ℕ) (c : Cell) → U.used usage.old q ≡ true → IsOutside root t q → C.has cells.old q c → C.has cells.new q c }
+    ensures untouched { IfErr result (λ _. (q : ℕ) (c : Cell) → U.used usage.old q ≡ true → C.has cells.old q c → C.has cells.new q c) }
     ensures unchanged { IfErr result (λ _. (k : ℕ) → U.live usage.new k ≡ U.live usage.old k) }
     ensures spends { (t : Tree) (version : List Entry) (gone : Entry) → DeleteAsks (C.has cells.old) (U.used usage.old) (U.live usage.old) root key.now node t version gone
         → U.spent usage.new ≤ U.spent usage.old + (1 + twigs_on_path key.now t) }
     ensures full { IfErr result (λ f. U.lacks usage.new f) }
     ensures frozen { U.frozen usage.new ≡ U.frozen usage.old }
-    ensures frame { Frame (C.has cells.old) (C.has cells.new) (C.kept cells.old) (C.kept cells.new) (C.given cells.old) (C.given cells.new) (U.used usage.old) (U.used usage.new) (U.fresh usage.old) (U.fresh usage.new) }
+    ensures frame { Fenced (C.has cells.old) (C.has cells.new) (C.kept cells.old) (C.kept cells.new) (C.given cells.old) (C.given cells.new) (U.used usage.old) (U.used usage.new) (U.fresh usage.old) (U.fresh usage.new) }
     ensures ready { Ready (C.kept cells.new) (C.given cells.new) (U.given usage.new) (U.used usage.new) (U.fresh usage.new) }
 {
     match top_of(node) {
@@ -186,11 +263,8 @@ fn delete_item<C: CellWrite, U: Space>(
             release_item(usage, last);
             Ok(None)
         }
-        Ok(branch) => match shrink_root(cells, usage, key, branch) {
-            Ok(new) => {
-                usage.release(root, 1);
-                Ok(Some(new))
-            }
+        Ok(branch) => match shrink_top(cells, usage, root, key, branch) {
+            Ok(new) => Ok(Some(new)),
             Err(full) => Err(full),
         },
     }
@@ -210,11 +284,13 @@ pub fn delete<C: CellWrite, U: Space>(
     ensures absent { (version : List Entry) → Standing (C.has cells.old) (U.used usage.old) (U.live usage.old) root version → EachTells Leads version
         → (result ≡ Err ChangeRefusal.NotFound) ↔ ((x : Entry) → InList x version → x.key ≡ key.now → ⊥) }
     ensures refused { IfErr result (λ _. (version : List Entry) → Standing (C.has cells.old) (U.used usage.old) (U.live usage.old) root version → Standing (C.has cells.new) (U.used usage.new) (U.live usage.new) root version) }
+    ensures outside { (q : ℕ) (c : Cell) → U.used usage.old q ≡ true → Unreached (C.has cells.old) (U.used usage.old) (U.live usage.old) root q → C.has cells.old q c → C.has cells.new q c }
+    ensures untouched { IfErr result (λ _. (q : ℕ) (c : Cell) → U.used usage.old q ≡ true → C.has cells.old q c → C.has cells.new q c) }
     ensures unchanged { IfErr result (λ _. (k : ℕ) → U.live usage.new k ≡ U.live usage.old k) }
     ensures full { (f : _) → result ≡ Err (ChangeRefusal.Full f) → U.lacks usage.new f }
     ensures spends { (n : ℕ) → OnPath (C.has cells.old) (U.used usage.old) (U.live usage.old) root key.now n → U.spent usage.new ≤ U.spent usage.old + (1 + n) }
     ensures frozen { U.frozen usage.new ≡ U.frozen usage.old }
-    ensures frame { Frame (C.has cells.old) (C.has cells.new) (C.kept cells.old) (C.kept cells.new) (C.given cells.old) (C.given cells.new) (U.used usage.old) (U.used usage.new) (U.fresh usage.old) (U.fresh usage.new) }
+    ensures frame { Fenced (C.has cells.old) (C.has cells.new) (C.kept cells.old) (C.kept cells.new) (C.given cells.old) (C.given cells.new) (U.used usage.old) (U.used usage.new) (U.fresh usage.old) (U.fresh usage.new) }
     ensures ready { Ready (C.kept cells.new) (C.given cells.new) (U.given usage.new) (U.used usage.new) (U.fresh usage.new) }
 {
     match root {

@@ -1,6 +1,6 @@
 //! A name put in.
 
-ghost use Rattle.std.specs.Prelude.{◌≡◌, ◌+◌, ◌<◌, ◌≤◌, ◌∷◌, [], ℕ, List, IfOk, IfErr, Ok, Err, Some, None, ◌↔◌, length, count_ones};
+ghost use Rattle.std.specs.Prelude.{◌≡◌, ◌+◌, ◌/◌, ◌<◌, ◌≤◌, ◌∷◌, [], ℕ, List, true, IfOk, IfErr, Ok, Err, Some, None, ◌↔◌, length, count_ones};
 ghost use Rattle.packed_node.specs.declared.Cell.{Cell};
 ghost use Rattle.zone_model.specs.Keys.{Leads};
 ghost use Rattle.trie_model.specs.Keys.{Entry, IsEntry, InList};
@@ -8,19 +8,22 @@ ghost use Rattle.trie_model.specs.Trees.{Tree, Twigs, cells_in};
 ghost use Rattle.trie_model.specs.Trees.Tree.{branch as branch_of};
 ghost use Rattle.trie_model.specs.Changes.{Deep, Inserted};
 ghost use Rattle.trie_read.specs.Reads.{EachTells};
+ghost use Rattle.chunk_cells.specs.Chunks.{IsGiven};
 ghost use Rattle.chunk_usage.specs.Rooms.{Ready};
-ghost use Rattle.trie_write.specs.Frames.{Frame};
+ghost use Rattle.trie_write.specs.Frames.{Frame, Fenced};
 ghost use Rattle.trie_write.specs.Paths.{twigs_on_path};
-ghost use Rattle.trie_write.specs.Roots.{RootGrew, OnPath};
+ghost use Rattle.trie_write.specs.Roots.{RootGrew, TopGrew, OnPath};
+ghost use Rattle.trie_write.specs.Seats.{IsOutside, Unreached};
 ghost use Rattle.trie_write.specs.Standing.{Standing};
 ghost use Rattle.trie_write.specs.Tops.{NotBefore};
 ghost use Rattle.trie_write.specs.Inserts.{AsksTop, AskedTop};
-ghost use Rattle.trie_write.specs.Steps.{Asks, Asked, AskedDeep, AskedFrom, AsksBranch, AskedHere, Grew};
+ghost use Rattle.trie_write.specs.Steps.{Asks, Asked, AsksAt, AskedAt, AskedDeep, AskedFrom, AsksBranch, AskedHere, Grew, GrewAt};
 
 use super::near::{Difference, compare};
 use super::path::put_branch;
 use super::room::{place_item, place_row, room};
 use super::row::{Row, append};
+use super::seat::fresh_twig;
 use super::top::{branch_above, top_of};
 use chunk_cells::CellWrite;
 use chunk_cells::item::cells_for;
@@ -180,7 +183,7 @@ fn grow<C: CellWrite, U: Space>(
     }
 }
 
-/// The root of the tree with the leaf put in.
+/// A new root of the tree with the leaf put in.
 fn grow_root<C: CellWrite, U: Space>(
     cells: &mut C,
     usage: &mut U,
@@ -212,6 +215,91 @@ fn grow_root<C: CellWrite, U: Space>(
             Ok(root)
         }
     }
+}
+
+/// Puts the leaf in below a cell that may be written: what hangs on the last such cell of the key's path is copied, and that cell
+/// written. Offsets are at least `low`.
+fn grow_at<C: CellWrite, U: Space>(
+    cells: &mut C,
+    usage: &mut U,
+    low: u16,
+    key: &Key,
+    first: Difference,
+    seat: Ref,
+    node: Cell,
+    leaf: Leaf,
+) -> Result<(), Full>
+    requires asks { AskedAt (C.has cells.old) (U.used usage.old) (U.live usage.old) low first.place key.now first.position seat node leaf }
+    requires fresh { U.fresh usage.old seat ≡ true }
+    requires given { IsGiven (C.given cells.old) (seat / 1024) }
+    requires ready { Ready (C.kept cells.old) (C.given cells.old) (U.given usage.old) (U.used usage.old) (U.fresh usage.old) }
+    ensures grew { IfOk result (λ _. (t : Tree) (e : Entry) → AsksAt (C.has cells.old) (U.used usage.old) (U.live usage.old) low first.place key.now first.position seat node leaf t e
+        → GrewAt (C.has cells.new) (U.used usage.old) (U.used usage.new) (U.live usage.old) (U.live usage.new) low leaf t e seat) }
+    ensures outside { (t : Tree) (e : Entry) → AsksAt (C.has cells.old) (U.used usage.old) (U.live usage.old) low first.place key.now first.position seat node leaf t e
+        → (q : ℕ) (c : Cell) → U.used usage.old q ≡ true → IsOutside seat t q → C.has cells.old q c → C.has cells.new q c }
+    ensures untouched { IfErr result (λ _. (q : ℕ) (c : Cell) → U.used usage.old q ≡ true → C.has cells.old q c → C.has cells.new q c) }
+    ensures unchanged { IfErr result (λ _. (k : ℕ) → U.live usage.new k ≡ U.live usage.old k) }
+    ensures spends { (t : Tree) (e : Entry) → AsksAt (C.has cells.old) (U.used usage.old) (U.live usage.old) low first.place key.now first.position seat node leaf t e
+        → U.spent usage.new ≤ U.spent usage.old + (twigs_on_path key.now t + 2) }
+    ensures full { IfErr result (λ f. U.lacks usage.new f) }
+    ensures frozen { U.frozen usage.new ≡ U.frozen usage.old }
+    ensures frame { Fenced (C.has cells.old) (C.has cells.new) (C.kept cells.old) (C.kept cells.new) (C.given cells.old) (C.given cells.new) (U.used usage.old) (U.used usage.new) (U.fresh usage.old) (U.fresh usage.new) }
+    ensures ready { Ready (C.kept cells.new) (C.given cells.new) (U.given usage.new) (U.used usage.new) (U.fresh usage.new) }
+{
+    match fresh_twig(usage, key, first.place, node) {
+        Some(twig) => {
+            let next = cells.cell(twig.at);
+            grow_at(
+                cells,
+                usage,
+                twig.branch.offset + 1,
+                key,
+                first,
+                twig.at,
+                next,
+                leaf,
+            )
+        }
+        None => {
+            let cell = grow(cells, usage, low, key, first, node, leaf)?;
+            cells.put(seat, cell);
+            Ok(())
+        }
+    }
+}
+
+/// The root of the tree with the leaf put in: the same where it may be written, else a new one.
+fn grow_top<C: CellWrite, U: Space>(
+    cells: &mut C,
+    usage: &mut U,
+    root: Ref,
+    key: &Key,
+    first: Difference,
+    node: Cell,
+    leaf: Leaf,
+) -> Result<Ref, Full>
+    requires asks { AskedAt (C.has cells.old) (U.used usage.old) (U.live usage.old) 0 first.place key.now first.position root node leaf }
+    requires ready { Ready (C.kept cells.old) (C.given cells.old) (U.given usage.old) (U.used usage.old) (U.fresh usage.old) }
+    ensures grew { IfOk result (λ new. (t : Tree) (e : Entry) → AsksAt (C.has cells.old) (U.used usage.old) (U.live usage.old) 0 first.place key.now first.position root node leaf t e
+        → TopGrew (C.has cells.new) (U.used usage.old) (U.used usage.new) (U.live usage.old) (U.live usage.new) leaf t e root new) }
+    ensures outside { (t : Tree) (e : Entry) → AsksAt (C.has cells.old) (U.used usage.old) (U.live usage.old) 0 first.place key.now first.position root node leaf t e
+        → (q : ℕ) (c : Cell) → U.used usage.old q ≡ true → IsOutside root t q → C.has cells.old q c → C.has cells.new q c }
+    ensures untouched { IfErr result (λ _. (q : ℕ) (c : Cell) → U.used usage.old q ≡ true → C.has cells.old q c → C.has cells.new q c) }
+    ensures unchanged { IfErr result (λ _. (k : ℕ) → U.live usage.new k ≡ U.live usage.old k) }
+    ensures spends { (t : Tree) (e : Entry) → AsksAt (C.has cells.old) (U.used usage.old) (U.live usage.old) 0 first.place key.now first.position root node leaf t e
+        → U.spent usage.new ≤ U.spent usage.old + (twigs_on_path key.now t + 3) }
+    ensures full { IfErr result (λ f. U.lacks usage.new f) }
+    ensures frozen { U.frozen usage.new ≡ U.frozen usage.old }
+    ensures frame { Fenced (C.has cells.old) (C.has cells.new) (C.kept cells.old) (C.kept cells.new) (C.given cells.old) (C.given cells.new) (U.used usage.old) (U.used usage.new) (U.fresh usage.old) (U.fresh usage.new) }
+    ensures ready { Ready (C.kept cells.new) (C.given cells.new) (U.given usage.new) (U.used usage.new) (U.fresh usage.new) }
+{
+    if usage.is_fresh(root) {
+        grow_at(cells, usage, 0, key, first, root, node, leaf)?;
+        return Ok(root);
+    }
+    let new = grow_root(cells, usage, key, first, node, leaf)?;
+    usage.release(root, 1);
+    Ok(new)
 }
 
 /// The root of the trie of one name.
@@ -258,20 +346,20 @@ fn insert_further<C: CellWrite, U: Space>(
     requires ready { Ready (C.kept cells.old) (C.given cells.old) (U.given usage.old) (U.used usage.old) (U.fresh usage.old) }
     ensures stands { IfOk result (λ new. (e : Entry) (t : Tree) (version : List Entry) → AsksTop (C.has cells.old) (U.used usage.old) (U.live usage.old) root key.now item.now first node e t version
         → (next : List Entry) × Inserted e version next × Standing (C.has cells.new) (U.used usage.new) (U.live usage.new) (Some new) next) }
+    ensures outside { (e : Entry) (t : Tree) (version : List Entry) → AsksTop (C.has cells.old) (U.used usage.old) (U.live usage.old) root key.now item.now first node e t version
+        → (q : ℕ) (c : Cell) → U.used usage.old q ≡ true → IsOutside root t q → C.has cells.old q c → C.has cells.new q c }
+    ensures untouched { IfErr result (λ _. (q : ℕ) (c : Cell) → U.used usage.old q ≡ true → C.has cells.old q c → C.has cells.new q c) }
     ensures unchanged { IfErr result (λ _. (k : ℕ) → U.live usage.new k ≡ U.live usage.old k) }
     ensures spends { (e : Entry) (t : Tree) (version : List Entry) → AsksTop (C.has cells.old) (U.used usage.old) (U.live usage.old) root key.now item.now first node e t version
         → U.spent usage.new ≤ U.spent usage.old + (3 + cells_in item.now + twigs_on_path key.now t) }
     ensures full { IfErr result (λ f. U.lacks usage.new f) }
     ensures frozen { U.frozen usage.new ≡ U.frozen usage.old }
-    ensures frame { Frame (C.has cells.old) (C.has cells.new) (C.kept cells.old) (C.kept cells.new) (C.given cells.old) (C.given cells.new) (U.used usage.old) (U.used usage.new) (U.fresh usage.old) (U.fresh usage.new) }
+    ensures frame { Fenced (C.has cells.old) (C.has cells.new) (C.kept cells.old) (C.kept cells.new) (C.given cells.old) (C.given cells.new) (U.used usage.old) (U.used usage.new) (U.fresh usage.old) (U.fresh usage.new) }
     ensures ready { Ready (C.kept cells.new) (C.given cells.new) (U.given usage.new) (U.used usage.new) (U.fresh usage.new) }
 {
     let leaf = place_item(cells, usage, item)?;
-    match grow_root(cells, usage, key, first, node, leaf) {
-        Ok(new) => {
-            usage.release(root, 1);
-            Ok(new)
-        }
+    match grow_top(cells, usage, root, key, first, node, leaf) {
+        Ok(new) => Ok(new),
         Err(full) => {
             usage.release(leaf.at, cells_for(leaf.len));
             Err(full)
@@ -306,11 +394,13 @@ pub fn insert<C: CellWrite, U: Space>(
         → (result ≡ Err InsertRefusal.Exists) ↔ ((x : Entry) × InList x version × (x.key ≡ key.now)) }
     ensures refused { IfErr result (λ _. (version : List Entry) → Standing (C.has cells.old) (U.used usage.old) (U.live usage.old) root version
         → Standing (C.has cells.new) (U.used usage.new) (U.live usage.new) root version) }
+    ensures outside { (q : ℕ) (c : Cell) → U.used usage.old q ≡ true → Unreached (C.has cells.old) (U.used usage.old) (U.live usage.old) root q → C.has cells.old q c → C.has cells.new q c }
+    ensures untouched { IfErr result (λ _. (q : ℕ) (c : Cell) → U.used usage.old q ≡ true → C.has cells.old q c → C.has cells.new q c) }
     ensures unchanged { IfErr result (λ _. (k : ℕ) → U.live usage.new k ≡ U.live usage.old k) }
     ensures full { (f : _) → result ≡ Err (InsertRefusal.Full f) → U.lacks usage.new f }
     ensures spends { (n : ℕ) → OnPath (C.has cells.old) (U.used usage.old) (U.live usage.old) root key.now n → U.spent usage.new ≤ U.spent usage.old + (3 + cells_in item.now + n) }
     ensures frozen { U.frozen usage.new ≡ U.frozen usage.old }
-    ensures frame { Frame (C.has cells.old) (C.has cells.new) (C.kept cells.old) (C.kept cells.new) (C.given cells.old) (C.given cells.new) (U.used usage.old) (U.used usage.new) (U.fresh usage.old) (U.fresh usage.new) }
+    ensures frame { Fenced (C.has cells.old) (C.has cells.new) (C.kept cells.old) (C.kept cells.new) (C.given cells.old) (C.given cells.new) (U.used usage.old) (U.used usage.new) (U.fresh usage.old) (U.fresh usage.new) }
     ensures ready { Ready (C.kept cells.new) (C.given cells.new) (U.given usage.new) (U.used usage.new) (U.fresh usage.new) }
 {
     match root {

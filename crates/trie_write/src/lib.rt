@@ -11,6 +11,7 @@ mod replacement;
 mod room;
 mod row;
 mod runs;
+mod seat;
 mod size;
 mod top;
 
@@ -23,5 +24,7 @@ pub use size::cells;
 
 #[cfg(test)]
 mod change_tests;
+#[cfg(test)]
+mod place_tests;
 #[cfg(test)]
 mod tests;

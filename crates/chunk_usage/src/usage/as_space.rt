@@ -28,6 +28,11 @@ impl Space for Usage {
         Usage::alloc(self, n)
     }
 
+    fn is_fresh(&self, at: Ref) -> bool {
+        self.known();
+        Usage::is_fresh(self, at)
+    }
+
     fn release(&mut self, at: Ref, n: u32) {
         Usage::release(self, at, n);
     }

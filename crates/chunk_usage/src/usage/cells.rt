@@ -1,8 +1,8 @@
 //! Cells that are handed out, and released.
 
-ghost use Rattle.std.specs.Prelude.{◌≡◌, ◌<◌, ◌≤◌, ◌-◌, ◌+◌, ◌*◌, ◌/◌, ◌%◌, ◌↔◌, Some, IsErr, not, count_by, length, slice_index};
+ghost use Rattle.std.specs.Prelude.{◌≡◌, ◌<◌, ◌≤◌, ◌-◌, ◌+◌, ◌*◌, ◌/◌, ◌%◌, ◌↔◌, ◌&&◌, nat_le, Some, IsErr, not, count_by, length, slice_index};
 ghost use Rattle.std.specs.List.{position_or_len};
-ghost use Rattle.chunk_usage.specs.Ledger.{free_count, is_used, is_fresh};
+ghost use Rattle.chunk_usage.specs.Ledger.{free_count, filled, is_open, is_used, is_fresh};
 ghost use Rattle.chunk_usage.specs.Handing.{IsShort, all_released, allocated, grant_of, lowest_free, next_cell, released, roomy, shortage, taken, with_open};
 ghost use Rattle.chunk_usage.specs.Keeping.{closed};
 ghost use Rattle.chunk_usage.specs.Rooms.{Grows};
@@ -34,6 +34,15 @@ impl Usage {
             at,
             given: Some(open.chunk),
         })
+    }
+
+    /// Whether a cell wasn't handed out at the last freeze.
+    pub fn is_fresh(&self, at: Ref) -> bool
+        ensures { result ≡ is_fresh self.now at }
+    {
+        let chunk = (at / CHUNK_CELLS) as usize;
+        let since = chunk < self.since.len() && self.since[chunk];
+        since || was_left(self.last_open, at)
     }
 
     /// These cells, of one chunk, don't count any more.
@@ -139,4 +148,11 @@ fn first_clear(flags: &[bool]) -> usize
         }
     }
     flags.len()
+}
+
+/// Whether a cell is one of those that an open chunk has left.
+fn was_left(from: Option<Open>, at: Ref) -> bool
+    ensures { result ≡ (is_open from (at / 1024) && nat_le (filled from) (at % 1024)) }
+{
+    from.is_some_and(|open| open.chunk == at / CHUNK_CELLS && open.filled <= at % CHUNK_CELLS)
 }

@@ -5,7 +5,7 @@ use Rattle.qp_multi.proofs.FreedLaws.{base_later, tells_fewer}
 use Rattle.chunk_cells.specs.Chunks.{IsGiven}
 use Rattle.chunk_usage.proofs.FlagLemmas.{get_set}
 use Rattle.qp_multi.proofs.CauseLaws.{path_later}
-use Rattle.qp_multi.proofs.RefusalLaws.{err_map}
+use Rattle.qp_multi.proofs.RefusalLaws.{err_map, err_both}
 use Rattle.qp_multi.proofs.RisenLaws.{set_of}
 use Rattle.qp_multi.proofs.deletion.attempt.Goals as goal
 
@@ -16,7 +16,7 @@ returns-clause-deleted c = ok_map c.delete-outcome.result (λ new made base es w
       next.0,
       next.1,
       record {
-        base_is = base_later i.cells c.delete-outcome.new.cells i.usage c.delete-outcome.new.usage i.root base (λ q x used h. c.delete-outcome.ensures.frame.stays q x used h) c.delete-outcome.ensures.frame.grows (ap (λ (f : Frozen). f.live) c.delete-outcome.ensures.frozen) works.base_is;
+        base_is = base_later i.cells c.delete-outcome.new.cells i.usage c.delete-outcome.new.usage i.root base (λ q x old h. c.delete-outcome.ensures.frame.frozen q x old h) c.delete-outcome.ensures.frame.grows (ap (λ (f : Frozen). f.live) c.delete-outcome.ensures.frozen) works.base_is;
         working = record { stands = next.2; tells = tells_fewer _ es next.0 works.working.tells next.1 };
       },
     )) c.delete-outcome.ensures.deleted
@@ -24,7 +24,7 @@ returns-clause-deleted c = ok_map c.delete-outcome.result (λ new made base es w
 pub returns-clause-refused : goal.returns-clause-refused
 returns-clause-refused c = err_map c.delete-outcome.result (λ refusal same base es works.
     let i = c.args.index.now in record {
-      base_is = base_later i.cells c.delete-outcome.new.cells i.usage c.delete-outcome.new.usage i.root base (λ q x used h. c.delete-outcome.ensures.frame.stays q x used h) c.delete-outcome.ensures.frame.grows (ap (λ (f : Frozen). f.live) c.delete-outcome.ensures.frozen) works.base_is;
+      base_is = base_later i.cells c.delete-outcome.new.cells i.usage c.delete-outcome.new.usage i.root base (λ q x old h. c.delete-outcome.ensures.frame.frozen q x old h) c.delete-outcome.ensures.frame.grows (ap (λ (f : Frozen). f.live) c.delete-outcome.ensures.frozen) works.base_is;
       working = record { stands = same es works.working.stands; tells = works.working.tells };
     }) c.delete-outcome.ensures.refused
 
@@ -37,4 +37,4 @@ returns-clause-stays c k given =
     set_of c.delete-outcome.new.usage.given k (subst (λ (flags : List Bool). IsGiven flags k) c.delete-outcome.ensures.ready.same (c.delete-outcome.ensures.frame.given_stays k before))
 
 pub returns-clause-path : goal.returns-clause-path
-returns-clause-path c = err_map c.delete-outcome.result (λ refusal live n on. path_later c.args.root c.args.key.now n on c.delete-outcome.ensures.frame.stays c.delete-outcome.ensures.frame.grows.stays live) c.delete-outcome.ensures.unchanged
+returns-clause-path c = err_both c.delete-outcome.result (λ refusal stays live n on. path_later c.args.root c.args.key.now n on stays c.delete-outcome.ensures.frame.grows.stays live) c.delete-outcome.ensures.untouched c.delete-outcome.ensures.unchanged

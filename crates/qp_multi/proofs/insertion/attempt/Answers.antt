@@ -7,7 +7,7 @@ use Rattle.qp_multi.proofs.FreedLaws.{base_later}
 use Rattle.chunk_cells.specs.Chunks.{IsGiven}
 use Rattle.chunk_usage.proofs.FlagLemmas.{get_set}
 use Rattle.qp_multi.proofs.CauseLaws.{path_later}
-use Rattle.qp_multi.proofs.RefusalLaws.{err_map}
+use Rattle.qp_multi.proofs.RefusalLaws.{err_map, err_both}
 use Rattle.qp_multi.proofs.RisenLaws.{set_of}
 use Rattle.qp_multi.proofs.insertion.attempt.Goals as goal
 
@@ -18,7 +18,7 @@ returns-clause-inserted c = ok_map c.insert-outcome.result (λ new made base es 
       next.0,
       next.1,
       record {
-        base_is = base_later i.cells c.insert-outcome.new.cells i.usage c.insert-outcome.new.usage i.root base (λ q x used h. c.insert-outcome.ensures.frame.stays q x used h) c.insert-outcome.ensures.frame.grows (ap (λ (f : Frozen). f.live) c.insert-outcome.ensures.frozen) works.base_is;
+        base_is = base_later i.cells c.insert-outcome.new.cells i.usage c.insert-outcome.new.usage i.root base (λ q x old h. c.insert-outcome.ensures.frame.frozen q x old h) c.insert-outcome.ensures.frame.grows (ap (λ (f : Frozen). f.live) c.insert-outcome.ensures.frozen) works.base_is;
         working = record { stands = next.2; tells = tells_more Leads _ es next.0 works.working.tells c.requires.leads next.1 };
       },
     )) c.insert-outcome.ensures.inserted
@@ -26,7 +26,7 @@ returns-clause-inserted c = ok_map c.insert-outcome.result (λ new made base es 
 pub returns-clause-refused : goal.returns-clause-refused
 returns-clause-refused c = err_map c.insert-outcome.result (λ refusal same base es works.
     let i = c.args.index.now in record {
-      base_is = base_later i.cells c.insert-outcome.new.cells i.usage c.insert-outcome.new.usage i.root base (λ q x used h. c.insert-outcome.ensures.frame.stays q x used h) c.insert-outcome.ensures.frame.grows (ap (λ (f : Frozen). f.live) c.insert-outcome.ensures.frozen) works.base_is;
+      base_is = base_later i.cells c.insert-outcome.new.cells i.usage c.insert-outcome.new.usage i.root base (λ q x old h. c.insert-outcome.ensures.frame.frozen q x old h) c.insert-outcome.ensures.frame.grows (ap (λ (f : Frozen). f.live) c.insert-outcome.ensures.frozen) works.base_is;
       working = record { stands = same es works.working.stands; tells = works.working.tells };
     }) c.insert-outcome.ensures.refused
 
@@ -39,4 +39,4 @@ returns-clause-stays c k given =
     set_of c.insert-outcome.new.usage.given k (subst (λ (flags : List Bool). IsGiven flags k) c.insert-outcome.ensures.ready.same (c.insert-outcome.ensures.frame.given_stays k before))
 
 pub returns-clause-path : goal.returns-clause-path
-returns-clause-path c = err_map c.insert-outcome.result (λ refusal live n on. path_later c.args.root c.args.key.now n on c.insert-outcome.ensures.frame.stays c.insert-outcome.ensures.frame.grows.stays live) c.insert-outcome.ensures.unchanged
+returns-clause-path c = err_both c.insert-outcome.result (λ refusal stays live n on. path_later c.args.root c.args.key.now n on stays c.insert-outcome.ensures.frame.grows.stays live) c.insert-outcome.ensures.untouched c.insert-outcome.ensures.unchanged

@@ -1,5 +1,4 @@
-use Rattle.std.proofs.Common.{◌≡◌, ℕ, ◌+◌, ◌-◌, ◌<◌, List, Contains, true, refl, sym, ◌∙◌, ap, subst, arith, rules}
-use Rattle.packed_node.specs.declared.Cell.{Cell}
+use Rattle.std.proofs.Common.{ℕ, ◌+◌, ◌-◌, ◌<◌, List, Contains, refl, sym, ◌∙◌, ap, subst, arith, rules}
 use Rattle.trie_model.specs.Trees.{IsRow}
 use Rattle.trie_model.specs.Reach.{row, in_chunk}
 use Rattle.trie_model.proofs.MoveLaws.{Keeps}

@@ -4,6 +4,7 @@ use Rattle.zone_model.specs.Keys.{Leads}
 use Rattle.trie_model.specs.Keys.{InList}
 use Rattle.trie_read.specs.Reads.{EachTells}
 use Rattle.trie_write.specs.Roots.{OnPath}
+use Rattle.trie_write.specs.Seats.{Unreached}
 use Rattle.trie_write.specs.Standing.{Standing}
 use Rattle.trie_write.proofs.RootLaws.{leads_key, leads_some, leads_entry, entry_with, asks_here, not_there, inserted_first, standing_later}
 use Rattle.trie_write.proofs.insertion.insert.Goals as goal
@@ -63,4 +64,10 @@ returns-in-Err-insert_further-clause-spends g c n on =
 pub returns-in-Err-insert_further-clause-refused : goal.returns-in-Err-insert_further-clause-refused
 returns-in-Err-insert_further-clause-refused g c version standing =
     let same = c.compare.ensures.same ∙ c.cell-node.ensures.same in
-    standing_later version c.args.root standing (λ q x u h. c.in-Err-insert_further.ensures.frame.stays q x u (subst (λ s. g.C.CellRead.has s q x) (sym same) h)) c.in-Err-insert_further.ensures.frame.grows.stays c.in-Err-insert_further.ensures.unchanged
+    standing_later version c.args.root standing (λ q x u h. c.in-Err-insert_further.ensures.untouched q x u (subst (λ s. g.C.CellRead.has s q x) (sym same) h)) c.in-Err-insert_further.ensures.frame.grows.stays c.in-Err-insert_further.ensures.unchanged
+
+pub returns-in-Ok-insert_further-clause-outside : goal.returns-in-Ok-insert_further-clause-outside
+returns-in-Ok-insert_further-clause-outside g c q x u unreached h =
+    let o = subst (λ (o : Option ℕ). Unreached (g.C.CellRead.has c.args.cells.now) (g.U.Space.used c.args.usage.now) (g.U.Space.live c.args.usage.now) o q) c.in-Some.is unreached in
+    let asks = (asks_here g.C.CellRead.has c.args.cells.now c.cell-node.new.self c.compare.new.cells {item = c.args.item.now} c.cell-node.result c.compare.result c.in-Some-compare.first c.cell-node.ensures.same c.compare.ensures.same (leads_entry c.requires.leads (λ i. Fits-lt-pow {w = w8} (c.type_inv.item i))) o.2 c.cell-node.ensures.value (λ top. c.compare.ensures.value o.0 top (subst (EachTells Leads) (sym o.2.trie.holds) o.3)) c.in-Some-compare.is) in
+    c.insert_further.ensures.outside (entry_with c.args.key.now c.args.item.now) o.0 o.1 asks q x u o.4 (subst (λ s. g.C.CellRead.has s q x) (sym (c.compare.ensures.same ∙ c.cell-node.ensures.same)) h)

@@ -1,6 +1,7 @@
 use Rattle.std.proofs.Common.{w8, ℕ, Option, sym, ◌∙◌, subst, arith}
 use Rattle.std.proofs.Math.Facts.{Fits-lt-pow}
 use Rattle.trie_write.specs.Roots.{OnPath}
+use Rattle.trie_write.specs.Seats.{Unreached}
 use Rattle.trie_write.specs.Standing.{Standing}
 use Rattle.trie_write.proofs.RootLaws.{leads_some, leads_entry, entry_with, standing_later}
 use Rattle.trie_write.proofs.ExchangeLaws.{replace_here, found_entry}
@@ -48,4 +49,10 @@ returns-in-Err-clause-spends g c n on =
 pub returns-in-Err-clause-refused : goal.returns-in-Err-clause-refused
 returns-in-Err-clause-refused g c version standing =
     let same = c.cell-node.ensures.same ∙ c.get.ensures.same in
-    standing_later version c.args.root standing (λ q x u h. c.in-Err.ensures.frame.stays q x u (subst (λ s. g.C.CellRead.has s q x) (sym same) h)) c.in-Err.ensures.frame.grows.stays c.in-Err.ensures.unchanged
+    standing_later version c.args.root standing (λ q x u h. c.in-Err.ensures.untouched q x u (subst (λ s. g.C.CellRead.has s q x) (sym same) h)) c.in-Err.ensures.frame.grows.stays c.in-Err.ensures.unchanged
+
+pub returns-in-Ok-clause-outside : goal.returns-in-Ok-clause-outside
+returns-in-Ok-clause-outside g c q x u unreached h =
+    let o = subst (λ (o : Option ℕ). Unreached (g.C.CellRead.has c.args.cells.now) (g.U.Space.used c.args.usage.now) (g.U.Space.live c.args.usage.now) o q) c.in-Some.is unreached in
+    let f = found_entry (g.C.CellRead.has c.args.cells.now) c.args.key.now o.1 c.get.result c.in-Some-get.field-0 (c.get.ensures.value o.1 (o.0, o.2.trie) o.3) c.in-Some-get.is in
+    c.replace_item.ensures.outside (entry_with c.args.key.now c.args.item.now) o.0 o.1 (replace_here g.C.CellRead.has c.args.cells.now c.get.new.cells c.cell-node.new.self {item = c.args.item.now} c.cell-node.result c.get.ensures.same c.cell-node.ensures.same (leads_entry c.requires.leads (λ i. Fits-lt-pow {w = w8} (c.type_inv.item i))) o.2 c.cell-node.ensures.value f.0 f.1 f.2) q x u o.4 (subst (λ s. g.C.CellRead.has s q x) (sym (c.cell-node.ensures.same ∙ c.get.ensures.same)) h)
