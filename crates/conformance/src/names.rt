@@ -1,5 +1,5 @@
-// Names around a name, and the size of a version.
-use crate::harness::{expect, outcome};
+// Names in canonical order.
+use crate::harness::outcome;
 use qp_main::Status;
 use std::test::Fail;
 
@@ -17,26 +17,4 @@ fn names_are_walked_in_canonical_order(rt: HostRuntime) -> Result<(), Fail> {
     assert_eq!(rt; written.as_slice(), LISTED.as_bytes());
     assert!(rt; status == Status::Done);
     Ok(())
-}
-
-#[test]
-fn names_are_found_or_what_is_above_them(rt: HostRuntime) -> Result<(), Fail> {
-    expect(
-        &rt,
-        rt.alloc(),
-        "worker\nfind b.ns\nfind @\nfind com.\nfind a\n",
-        Status::Done,
-        "1.1 v0 PARTIAL 2\nexample.\nns.example.\npred ns.example.\n1.2 v0 EXACT 1\nexample.\npred example.\n1.3 v0 NONE\npred none\n1.4 v0 PARTIAL 1\nexample.\npred example.\nend v0 names 2\n",
-    )
-}
-
-#[test]
-fn a_version_tells_its_size(rt: HostRuntime) -> Result<(), Fail> {
-    expect(
-        &rt,
-        rt.alloc(),
-        "worker\nstat\nwrite\nadd www 300 A 192.0.2.7\ncommit\nstat\n",
-        Status::Done,
-        "1.1 v0 names 2 nodes 3\n1.2 v1 COMMITTED\n1.3 v1 names 3 nodes 4\nend v1 names 3\n",
-    )
 }
