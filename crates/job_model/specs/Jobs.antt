@@ -141,13 +141,15 @@ abbrev pub octets_needed : ℕ → Result (List ℕ) DataRefusal → Result (Lis
 octets_needed n (Ok octets) = Ok octets
 octets_needed n (Err e) = refuse n BadRdata
 
--- how many names are wanted at most: a decimal number from 1 on, of no more than so many
+-- the most names that are wanted at once
 abbrev pub name_limit : ℕ
 name_limit = 1000
 
+-- how many names a word wants: an unquoted decimal number from 1 up to the limit
 abbrev pub names_word : Token → Option ℕ
 names_word t = option_and_then (λ n. if n == 0 then None else Some n) (word_number name_limit t)
 
+-- where a list of names begins, and how many are wanted
 unfoldable pub stretch_of : Name → ℕ → Token → Token → Result Stretch (Refused ScriptKind)
 stretch_of origin n name number = do
   start ← needed n BadName (name_word origin name)

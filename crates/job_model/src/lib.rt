@@ -33,7 +33,7 @@ pub enum ScriptKind {
     BadType,
     /// Data are not of their type.
     BadRdata,
-    /// A time to live is none.
+    /// A time to live is none, or the number of names that are wanted is not 1 to 1,000.
     BadNumber,
     /// A block is open where a worker begins or the script ends.
     OpenBlock,
