@@ -14,8 +14,6 @@ mod owned;
 mod pieces;
 mod print;
 mod scan;
-#[cfg(test)]
-mod tests;
 mod text;
 mod wire;
 

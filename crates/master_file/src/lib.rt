@@ -11,8 +11,6 @@ mod lines;
 mod records;
 mod refusal;
 mod single_lines;
-#[cfg(test)]
-mod tests;
 mod zones;
 
 pub use entry_tokens::{Lexed, tokens};

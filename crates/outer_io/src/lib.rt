@@ -9,8 +9,6 @@ mod schedule;
 mod sinks;
 mod sources;
 mod standard;
-#[cfg(test)]
-mod tests;
 mod writing;
 
 pub use reading::{ReadRefusal, read_all};

@@ -19,8 +19,6 @@ mod refusal;
 mod rrset;
 mod splits;
 mod strings;
-#[cfg(test)]
-mod tests;
 mod token;
 mod words;
 

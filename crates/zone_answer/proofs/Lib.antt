@@ -8,4 +8,3 @@ pub mod CutLaws
 pub mod AnswerLaws
 pub mod ChainLaws
 pub mod StepLaws
-pub mod LeafLaws

@@ -12,8 +12,6 @@ mod question;
 mod records;
 mod row;
 mod step;
-#[cfg(test)]
-mod tests;
 
 pub use answers::Answer;
 pub use kind::Kind;

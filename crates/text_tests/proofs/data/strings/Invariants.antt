@@ -1,6 +1,6 @@
 use Rattle.std.specs.List.{All}
 use Rattle.rr_data.specs.Tokens.{IsPlaced}
-use Rattle.rr_data.proofs.tests.strings.Given as goal
+use Rattle.text_tests.proofs.data.strings.Given as goal
 
 abbrev pub invariant-loop : goal.invariant-loop
 invariant-loop l = All (IsPlaced l.text) l.tokens.items

@@ -1,7 +1,7 @@
 use Rattle.std.proofs.Common.{◌≤◌}
 use Rattle.std.specs.List.{All}
 use Rattle.rr_data.specs.Tokens.{IsPlaced}
-use Rattle.rr_data.proofs.tests.words_of.Given as goal
+use Rattle.text_tests.proofs.data.words_of.Given as goal
 
 abbrev pub invariant-loop-at : goal.invariant-loop-at
 invariant-loop-at l = record {

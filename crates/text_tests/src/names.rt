@@ -1,4 +1,5 @@
-use crate::Name;
+//! Names read, printed, ordered and taken apart.
+use dns_name::Name;
 use std::alloc::{AllocError, Global};
 use std::test::Fail;
 use zone_model::NameRefusal;

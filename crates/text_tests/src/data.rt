@@ -1,9 +1,10 @@
+//! Data of records, read and printed, and items.
 ghost use Rattle.std.specs.Prelude.{◌≡◌, ◌≤◌, false, IfOk, length};
 ghost use Rattle.std.specs.List.{All};
 ghost use Rattle.rr_data.specs.Tokens.{IsPlaced};
 
-use crate::*;
 use dns_name::Name;
+use rr_data::{Entry, Rdata, RdataRefusal, Token, push_type, read_type};
 use std::alloc::{AllocError, Global};
 use std::test::Fail;
 

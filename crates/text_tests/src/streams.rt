@@ -1,4 +1,8 @@
-use crate::*;
+//! Sources and sinks in memory, and the standard streams.
+use outer_io::{
+    Failed, MemSink, MemSource, QuietSink, QuietSource, ReadRefusal, Sink, Source, StdSink,
+    StdSource, read_all, write_all,
+};
 use std::test::Fail;
 
 // Eleven bytes by at most four, the second call failing.

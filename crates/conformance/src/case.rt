@@ -1,0 +1,83 @@
+//! A run of the program, and what is due.
+//!
+//! A file of cases is lines. What a line is, its first character says:
+//!
+//! | Line | Means |
+//! |---|---|
+//! | empty, or `#` and words | nothing |
+//! | `= NAME` | the next case begins |
+//! | `words W ..` | the words behind the program's name, if not `run --origin example.` |
+//! | `read N K ..` | a read gives at most N bytes (7 if not said), and the reads with the numbers K fail |
+//! | `write N K ..` | the same of writes (5 if not said) |
+//! | `zone` | the zone of four lines goes into the input, with the line `%%` behind it |
+//! | `\| TEXT` | a line of the input; behind `due`, of the output |
+//! | `+ TEXT` | the same without an end of line |
+//! | `* N TEXT` | the text N times |
+//! | `due STATUS` | the exit status; the lines of the output follow |
+use std::alloc::{AllocError, Global};
+
+/// The zone that most cases begin with, and the line behind it.
+pub const ZONE: &str =
+    "$TTL 300\n@ SOA ns hostmaster 1 3600 600 86400 60\n@ NS ns\nns A 192.0.2.1\n%%\n";
+
+/// How a source or a sink moves bytes.
+#[derive(Drop)]
+pub struct Calls {
+    /// At most so many in a call, one at least.
+    pub most: usize,
+    /// The numbers, from 1, of the calls that fail.
+    pub fails: Vec<u64>,
+    ghost some: { 0 < most },
+}
+
+impl Calls {
+    /// No call fails.
+    pub fn of(alloc: Global, most: usize) -> Calls
+        requires { 0 < most }
+    {
+        Calls {
+            most,
+            fails: Vec::new(alloc),
+        }
+    }
+}
+
+/// One run, and what is due.
+#[derive(Drop)]
+pub struct Case {
+    pub name: String,
+    /// The words of the command line, the program's name first.
+    pub words: Vec<String>,
+    pub reads: Calls,
+    pub writes: Calls,
+    pub input: String,
+    /// The exit status that is due.
+    pub status: u8,
+    /// What is due to be written.
+    pub output: String,
+}
+
+impl Case {
+    /// A case without input or output.
+    pub fn new(alloc: Global, name: &str) -> Result<Case, AllocError> {
+        Ok(Case {
+            name: String::from_str(alloc, name)?,
+            words: command_line(alloc, "run --origin example.")?,
+            reads: Calls::of(alloc, 7),
+            writes: Calls::of(alloc, 5),
+            input: String::new(alloc),
+            status: 0,
+            output: String::new(alloc),
+        })
+    }
+}
+
+/// The program's name, and the words between the spaces of a text.
+pub fn command_line(alloc: Global, text: &str) -> Result<Vec<String>, AllocError> {
+    let mut words = Vec::new(alloc);
+    words.push(String::from_str(alloc, "qpzone")?)?;
+    for word in text.split_whitespace() {
+        words.push(String::from_str(alloc, word)?)?;
+    }
+    Ok(words)
+}

@@ -1,0 +1,81 @@
+//! Reads a file of cases.
+use crate::case::{Calls, Case, ZONE, command_line};
+use anyhow::{Context, bail};
+use std::alloc::Global;
+
+/// The cases of a file.
+pub fn read_cases(alloc: Global, text: &str) -> anyhow::Result<Vec<Case>> {
+    let mut cases = Vec::new(alloc);
+    let mut due = false;
+    for line in text.lines() {
+        if let Some(name) = line.strip_prefix("= ") {
+            cases.push(Case::new(alloc, name)?)?;
+            due = false;
+        } else if !line.is_empty() && !line.starts_with('#') {
+            let case = cases.last_mut().context("no case has begun")?;
+            due = read_line(alloc, line, case, due)?;
+        }
+    }
+    Ok(cases)
+}
+
+/// What a line says of its case. Answers whether the lines that follow are of the output.
+fn read_line(alloc: Global, line: &str, case: &mut Case, due: bool) -> anyhow::Result<bool> {
+    let (kind, rest) = line.split_once(' ').unwrap_or((line, ""));
+    match kind {
+        "|" | "+" | "*" => {
+            let text = if due {
+                &mut case.output
+            } else {
+                &mut case.input
+            };
+            push_text(text, kind, rest)?;
+            return Ok(due);
+        }
+        "zone" => case.input.push_str(ZONE)?,
+        "words" => case.words = command_line(alloc, rest)?,
+        "read" => case.reads = read_calls(alloc, rest)?,
+        "write" => case.writes = read_calls(alloc, rest)?,
+        "due" => {
+            case.status = rest.parse::<u8>()?;
+            return Ok(true);
+        }
+        _ => bail!("no line of a case begins with {kind}"),
+    }
+    Ok(due)
+}
+
+/// Puts a line's text behind what there is.
+fn push_text(text: &mut String, kind: &str, rest: &str) -> anyhow::Result<()> {
+    match kind {
+        "+" => text.push_str(rest)?,
+        "*" => {
+            let (count, part) = rest.split_once(' ').unwrap_or((rest, "\n"));
+            for _ in 0..count.parse::<u32>()? {
+                text.push_str(part)?;
+            }
+        }
+        _ => {
+            text.push_str(rest)?;
+            text.push('\n')?;
+        }
+    }
+    Ok(())
+}
+
+/// How many bytes a call moves, and the numbers of the calls that fail.
+fn read_calls(alloc: Global, text: &str) -> anyhow::Result<Calls> {
+    let mut numbers = text.split_whitespace();
+    let most = numbers
+        .next()
+        .context("no number of bytes")?
+        .parse::<usize>()?;
+    if most == 0 {
+        bail!("no bytes in a call");
+    }
+    let mut calls = Calls::of(alloc, most);
+    for number in numbers {
+        calls.fails.push(number.parse::<u64>()?)?;
+    }
+    Ok(calls)
+}

@@ -1,0 +1,11 @@
+//! Tests of the crates from streams to master files, in a crate of their own: a crate with tests is proved twice.
+#![tactic(auto)]
+
+#[cfg(test)]
+mod data;
+#[cfg(test)]
+mod names;
+#[cfg(test)]
+mod streams;
+#[cfg(test)]
+mod zones;
