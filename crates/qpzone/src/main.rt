@@ -2,11 +2,12 @@
 #![tactic(auto)]
 
 use outer_io::{StdSink, StdSource};
-use qp_main::{Gate, run};
+use qp_main::{Gate, Status, run};
+use std::alloc::AllocError;
 use std::process::ExitCode;
 use std::{env, io};
 
-// A gate that does nothing.
+/// A gate that does nothing.
 struct Open;
 
 impl Gate for Open {
@@ -15,17 +16,24 @@ impl Gate for Open {
     fn after(&self, _worker: u32, _command: u32) {}
 }
 
-fn words(rt: &HostRuntime) -> io::Result<Vec<String>> {
+/// The words of the command line. Where one of them isn't UTF-8 there are none, and no words are no command line.
+fn words(rt: &HostRuntime) -> Result<Vec<String>, AllocError> {
     let mut words = Vec::new(rt.alloc());
-    for word in env::args(rt)? {
-        words.push(word)?;
+    match env::args(rt) {
+        Ok(args) => {
+            for word in args {
+                words.push(word)?;
+            }
+        }
+        Err(error) if error.kind() == io::ErrorKind::OutOfMemory => return Err(AllocError),
+        Err(_) => {}
     }
     Ok(words)
 }
 
 fn main(rt: HostRuntime) -> ExitCode {
     let Ok(words) = words(&rt) else {
-        return ExitCode::from(2);
+        return ExitCode::from(Status::NoMemory.code());
     };
     let mut source = StdSource::new(rt.reader());
     let mut sink = StdSink::new(io::writer(&rt));
