@@ -14,6 +14,8 @@
 //! | `+ TEXT` | the same without an end of line |
 //! | `* N TEXT` | the text N times |
 //! | `due STATUS` | the exit status; the lines of the output follow |
+ghost use Rattle.std.specs.Prelude.{◌<◌};
+
 use std::alloc::{AllocError, Global};
 
 /// The zone that most cases begin with, and the line behind it.

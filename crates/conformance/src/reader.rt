@@ -66,16 +66,14 @@ fn push_text(text: &mut String, kind: &str, rest: &str) -> anyhow::Result<()> {
 /// How many bytes a call moves, and the numbers of the calls that fail.
 fn read_calls(alloc: Global, text: &str) -> anyhow::Result<Calls> {
     let mut numbers = text.split_whitespace();
-    let most = numbers
-        .next()
-        .context("no number of bytes")?
-        .parse::<usize>()?;
+    let first = numbers.next().context("no number of bytes")?;
+    let most = first.parse::<usize>()?;
     if most == 0 {
         bail!("no bytes in a call");
     }
-    let mut calls = Calls::of(alloc, most);
+    let mut fails = Vec::new(alloc);
     for number in numbers {
-        calls.fails.push(number.parse::<u64>()?)?;
+        fails.push(number.parse::<u64>()?)?;
     }
-    Ok(calls)
+    Ok(Calls { most, fails })
 }
