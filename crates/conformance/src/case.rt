@@ -34,7 +34,7 @@ pub struct Calls {
 
 impl Calls {
     /// No call fails.
-    pub fn of(alloc: Global, most: usize) -> Calls
+    pub(crate) fn of(alloc: Global, most: usize) -> Calls
         requires { 0 < most }
     {
         Calls {
@@ -61,7 +61,7 @@ pub struct Case {
 
 impl Case {
     /// A case without input or output.
-    pub fn new(alloc: Global, name: &str) -> Result<Case, AllocError> {
+    pub(crate) fn new(alloc: Global, name: &str) -> Result<Case, AllocError> {
         Ok(Case {
             name: String::from_str(alloc, name)?,
             words: command_line(alloc, "run --origin example.")?,
@@ -75,7 +75,7 @@ impl Case {
 }
 
 /// The program's name, and the words between the spaces of a text.
-pub fn command_line(alloc: Global, text: &str) -> Result<Vec<String>, AllocError> {
+pub(crate) fn command_line(alloc: Global, text: &str) -> Result<Vec<String>, AllocError> {
     let mut words = Vec::new(alloc);
     words.push(String::from_str(alloc, "qpzone")?)?;
     for word in text.split_whitespace() {

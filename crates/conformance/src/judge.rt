@@ -20,7 +20,7 @@ impl Gate for Open {
 const ROOM: usize = 200_000;
 
 /// Runs a case, and says on standard output how it differs from what is due. Answers whether it does not.
-pub fn is_as_due<R: Threads + Wait + Sync + Print>(
+pub(crate) fn is_as_due<R: Threads + Wait + Sync + Print>(
     rt: &R,
     alloc: Global,
     case: &Case,

@@ -4,7 +4,7 @@ use anyhow::{Context, bail};
 use std::alloc::Global;
 
 /// The cases of a file.
-pub fn read_cases(alloc: Global, text: &str) -> anyhow::Result<Vec<Case>> {
+pub(crate) fn read_cases(alloc: Global, text: &str) -> anyhow::Result<Vec<Case>> {
     let mut cases = Vec::new(alloc);
     let mut due = false;
     for line in text.lines() {
