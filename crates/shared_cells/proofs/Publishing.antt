@@ -75,6 +75,7 @@ module _ {O E : Type 0} (applied : O → E → O) (lawful : O → O → Type 0) 
       seen_length = get_or-set_other f.seen p own.number (length f.all.history + 1) 0 apart ∙ fits.seen_length;
       stage_is = fits.stage_is;
       kept = kept_grows own.pinned g fits.kept;
+      told = fits.told;
       chunks = fits.chunks;
     }
       where
@@ -165,6 +166,7 @@ module _ {O E : Type 0} (applied : O → E → O) (lawful : O → O → Type 0) 
       seen_length = get_or-set_same r.facts.seen c.own.number (length r.facts.all.history + 1) 0 within.1 ∙ sym (length-append v.seen.history (entry ∷ []) ∙ next);
       stage_is = mine.stage_is;
       kept = subst (ProgressFits (r.facts.turn.kept ++ new ∷ []) c.own.pinned) (sym h.idle) tt;
+      told = mine.told;
       chunks = mine.chunks;
     }
 

@@ -71,6 +71,7 @@ module _ {O E : Type 0} (applied : O → E → O) (lawful : O → O → Type 0) 
       seen_length = fits.seen_length;
       stage_is = fits.stage_is;
       kept = fits.kept;
+      told = fits.told;
       chunks = fits.chunks;
     }
       where
@@ -86,6 +87,7 @@ module _ {O E : Type 0} (applied : O → E → O) (lawful : O → O → Type 0) 
       seen_length = (let l : get_or r.facts.seen made 0 ≤ length r.facts.all.history = r.sound.not_ahead made room in let n : length r.facts.all.history ≡ 0 = ap length no_history in omega arith);
       stage_is = unopened.1 made room;
       kept = tt;
+      told = refl;
       chunks = refl;
     }
 

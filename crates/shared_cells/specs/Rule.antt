@@ -49,6 +49,11 @@ abbrev pub ProgressFits : List Kept → List ℕ → Progress → Type 0
 ProgressFits kept pinned (progress.Pinned k) = Contains kept k × ((before : List ℕ) × (pinned ≡ before ++ k.version ∷ []))
 ProgressFits kept pinned _ = Unit {0}
 
+-- a pass that doesn't know of the opening is idle
+abbrev pub IdleUnlessTold : {O : Type 0} → Option O → Progress → Type 0
+IdleUnlessTold None p = p ≡ progress.Idle
+IdleUnlessTold (Some opening) p = Unit {0}
+
 -- the pin of a pass names this version
 abbrev pub PinNames : List ℕ → ℕ → ℕ → Type 0
 PinNames words pass version = (2 ≤ slice_index words (pin_at pass)) × (version_of (slice_index words (pin_at pass)) ≡ version)
@@ -69,6 +74,7 @@ module _ {O E : Type 0} where
     pub seen_length : slice_index f.seen own.number ≡ length seen.history
     pub stage_is : stage_at f.stages own.number ≡ stage_of p
     pub kept : ProgressFits f.turn.kept own.pinned p
+    pub told : IdleUnlessTold seen.opening p
     pub chunks : own.chunks ≡ size.chunks
 
   -- a seat of no pass is idle
