@@ -6,3 +6,4 @@ pub mod Images
 pub mod Openings
 pub mod Publishing
 pub mod Looking
+pub mod Passes

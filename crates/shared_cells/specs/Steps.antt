@@ -30,6 +30,10 @@ WordStep = Step (Unit {0})
 abbrev pub exchanged_by : WordStep → ℕ → ℕ
 exchanged_by step found = if found == step.first then step.second else found
 
+-- if the cell has a word at this place, it is this one
+abbrev pub IsWordOf : ℕ → ℕ → CellAt → Type 0
+IsWordOf place word c = (place ≡ cell_at c.at → word ≡ c.big) × (place ≡ cell_at c.at + 1 → word ≡ c.small)
+
 -- the version of this mark is kept
 abbrev pub IsOfKept : List Kept → Mark → Type 0
 IsOfKept kept (mark.Pinned version) = (k : Kept) × Contains kept k × (k.version ≡ version)
@@ -133,7 +137,7 @@ module _ {O E : Type 0} where
 
   -- a pinned pass loads a word, which is that of its image's cell if it is one of these
   abbrev pub read : WordStep → Knower O E → ℕ → Knower O E → Type 0
-  read step m word m' = (m' ≡ m) × All (λ c. (step.word ≡ cell_at c.at → word ≡ c.big) × (step.word ≡ cell_at c.at + 1 → word ≡ c.small)) (pinned_image m.0.progress)
+  read step m word m' = (m' ≡ m) × All (IsWordOf step.word word) (pinned_image m.0.progress)
 
   -- the turn stores a word past the pins
   abbrev pub stored : WordStep → Knower O E → ℕ → Knower O E → Type 0
