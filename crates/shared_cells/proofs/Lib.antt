@@ -7,3 +7,5 @@ pub mod Openings
 pub mod Publishing
 pub mod Looking
 pub mod Passes
+pub mod Turns
+pub mod Marks

@@ -153,6 +153,8 @@ module _ {O E : Type 0} (applied : O → E → O) (lawful : O → O → Type 0) 
           (λ j u other e. knows_else size r.facts open_facts j u (λ same. other (same ∙ sym h.writer)) longer (own_fits j u.seen u.progress) (r.seats j u e));
       versions = versions_now;
       namings = subst (λ (all : Seen O E). All (NamingFits (set s.words 0 (current_word 0 root)) r.facts.pinned) all.namings) (sym before.0) (All-nil (NamingFits (set s.words 0 (current_word 0 root)) r.facts.pinned));
+      namers = r.namers;
+      copied = r.copied ∙ sym (length-set s.words 0 (current_word 0 root));
       mirror = λ i l. get_or-set_other s.words 0 i (current_word 0 root) 0 (λ e. omega arith) ∙ r.mirror i l;
     }
 

@@ -150,6 +150,8 @@ module _ {O E : Type 0} (applied : O → E → O) (lawful : O → O → Type 0) 
             (λ j u other e. knows_still size r.facts now j u refl refl refl (others_fit j other u.seen u.progress) (r.seats j u e));
         versions = versions_on r.facts own.number (length seen.history) (stage_of d) pinned o r.facts.all.opening opened r.versions;
         namings = All-weaker (NamingFits s.words r.facts.pinned) (NamingFits words now.pinned) (namings_on far pinned_on named_on) r.facts.all.namings r.namings;
+        namers = r.namers;
+        copied = r.copied ∙ r.sound.wide ∙ sym sound.wide;
         mirror = λ i l. far i (λ e. let m = r.sound.small in let p = within in omega arith) ∙ r.mirror i l;
       }
 

@@ -1,5 +1,5 @@
 -- The step that publishes keeps the rule.
-use Rattle.std.proofs.Common.{◌≡◌, ◌≢◌, ◌⊎◌, ℕ, ◌+◌, ◌%◌, ◌<◌, ◌≤◌, max, List, [], ◌∷◌, ◌++◌, length, take, get_or, set, replicate, Bool, cond, refl, sym, ap, ◌∙◌, subst, arith, Option, Some, length-append, get_or-set_same, get_or-set_other, eq-eqb, ne_eqb}
+use Rattle.std.proofs.Common.{◌≡◌, ◌≢◌, ◌⊎◌, ℕ, ◌+◌, ◌%◌, ◌<◌, ◌≤◌, max, List, [], ◌∷◌, ◌++◌, length, take, get_or, set, replicate, Bool, cond, refl, sym, ap, ◌∙◌, subst, arith, Option, Some, length-set, length-append, get_or-set_same, get_or-set_other, eq-eqb, ne_eqb}
 use Rattle.std.specs.Prelude.{◌==◌}
 use Rattle.std.specs.List.{All, Contains}
 use Rattle.std.proofs.lemmas.List.{append-nil, take-append-le, take_all}
@@ -193,6 +193,8 @@ module _ {O E : Type 0} (applied : O → E → O) (lawful : O → O → Type 0) 
           (subst (λ (x : Seen O E). lawful c.opening (version_after applied c.opening (with_entry x entry).history)) h.seen_is c.good)
           (subst (λ (x : Seen O E). stands image root (version_after applied c.opening (with_entry x entry).history)) h.seen_is c.stood) r.versions;
       namings = namings_stay s.words word r.facts.pinned r.facts.all.namings r.namings;
+      namers = r.namers;
+      copied = r.copied ∙ sym (length-set s.words 0 word);
       mirror = λ i l. get_or-set_other s.words 0 i word 0 (λ e. omega arith) ∙ r.mirror i l;
     }
 

@@ -67,6 +67,8 @@ module _ {O E : Type 0} (applied : O → E → O) (lawful : O → O → Type 0) 
     seats = seats_grow (Knows size r.facts) s.views id v (note_of v) k (view_fits size r.facts (length s.views) v.seen k.seen) (λ j u other e. r.seats j u e);
     versions = r.versions;
     namings = r.namings;
+    namers = r.namers;
+    copied = r.copied;
     mirror = r.mirror;
   }
 
@@ -134,6 +136,8 @@ module _ {O E : Type 0} (applied : O → E → O) (lawful : O → O → Type 0) 
             (λ j u other e. moved_else r.facts own.number (length s.views) (get_or r.facts.seen own.number 0) j u (λ e'. other (sym e' ∙ fits.at)) (r.seats j u e));
         versions = versions_still applied lawful stands size r.facts f refl refl refl r.facts.all.opening r.versions;
         namings = r.namings;
+        namers = r.namers;
+        copied = r.copied;
         mirror = r.mirror;
       }
 
@@ -190,6 +194,8 @@ module _ {O E : Type 0} (applied : O → E → O) (lawful : O → O → Type 0) 
             (λ j u not_id not_other e. moved_else r.facts own.number id (length v.seen.history) j u (λ e'. not_other (sym e' ∙ fits.at)) (r.seats j u e));
         versions = versions_still applied lawful stands size r.facts f refl refl refl r.facts.all.opening r.versions;
         namings = r.namings;
+        namers = r.namers;
+        copied = r.copied;
         mirror = r.mirror;
       }
 
@@ -211,6 +217,8 @@ module _ {O E : Type 0} (applied : O → E → O) (lawful : O → O → Type 0) 
             (λ j u not_id not_other e. r.seats j u e);
         versions = r.versions;
         namings = r.namings;
+        namers = r.namers;
+        copied = r.copied;
         mirror = r.mirror;
       }
 
@@ -267,6 +275,8 @@ module _ {O E : Type 0} (applied : O → E → O) (lawful : O → O → Type 0) 
               }) (r.seats j u e));
           versions = versions_still applied lawful stands size r.facts f refl refl refl r.facts.all.opening r.versions;
           namings = r.namings;
+          namers = r.namers;
+          copied = r.copied;
           mirror = r.mirror;
         }),
         ((refl, longer.1, longer.2), refl),

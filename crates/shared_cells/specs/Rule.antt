@@ -118,5 +118,8 @@ module _ {O E : Type 0} (applied : O → E → O) (lawful : O → O → Type 0) 
     pub seats : (j : ℕ) (v : View O E) → get_elem? s.views j ≡ some v → Knows size facts j v
     pub versions : VersionsFit facts facts.all.opening
     pub namings : All (NamingFits s.words facts.pinned) facts.all.namings
-    -- the turn knows all words past the pins
+    -- and of a pass that there is
+    pub namers : All (λ n. n.pass < size.passes) facts.all.namings
+    -- the turn has a copy of the words, in which it knows all that are past the pins
+    pub copied : length facts.turn.words ≡ length s.words
     pub mirror : (i : ℕ) → 64 < i → slice_index s.words i ≡ slice_index facts.turn.words i
