@@ -5,7 +5,7 @@ use Rattle.std.proofs.lemmas.List.Elements.{All-cons, All-nil, All-head, All-con
 use Rattle.std.proofs.lemmas.Nat.{mod-mul-add}
 use Rattle.pin_core.specs.declared.kept.CellAt.{CellAt}
 use Rattle.pin_core.specs.declared.kept.Kept.{Kept}
-use Rattle.pin_core.specs.Words.{Size, root_number, current_word, pin_of}
+use Rattle.pin_core.specs.Words.{Size, pin_at, root_number, current_word, pin_of}
 use Rattle.pin_core.specs.Sound.{HasRoot, AgreesWith, IsGiven}
 use Rattle.pin_core.proofs.Pins.{images_stay, chunks_stay, root_fits}
 use Rattle.shared_cells.specs.Views.{root_of, kept_of}
@@ -51,3 +51,7 @@ root_of_kept z words k small has given pin is =
 -- a table that is as wide as its chunks say has a word
 pub some_word : (words chunks : ℕ) → 4161 + 2048 * chunks ≡ words → 0 < words
 some_word words chunks wide = omega arith
+
+-- and one for each pin
+pub pin_word : (words chunks pass : ℕ) → 4161 + 2048 * chunks ≡ words → pass < 64 → pin_at pass < words
+pin_word words chunks pass wide few = omega arith

@@ -1,5 +1,5 @@
 -- What a pass does on its pin keeps the rule, and tells what it has pinned.
-use Rattle.std.proofs.Common.{◌≡◌, ◌≢◌, ◌⊎◌, inl, inr, ⊎_elim, ℕ, ◌+◌, ◌-◌, ◌*◌, ◌%◌, ◌<◌, ◌≤◌, eqb, List, [], ◌∷◌, ◌++◌, length, take, drop, get_or, set, Bool, true, false, cond, refl, sym, ap, ◌∙◌, subst, arith, Option, Some, None, length-append, get_or-set_same, get_or-set_other, ne_eqb}
+use Rattle.std.proofs.Common.{◌≡◌, ◌≢◌, ◌⊎◌, inl, inr, ⊎_elim, ℕ, ◌+◌, ◌-◌, ◌*◌, ◌%◌, ◌<◌, ◌≤◌, eqb, List, [], ◌∷◌, ◌++◌, length, take, drop, get_or, set, Bool, true, false, true≢false, cond, refl, sym, ap, ◌∙◌, subst, arith, Option, Some, None, length-append, get_or-set_same, get_or-set_other, ne_eqb}
 use Rattle.std.specs.List.{All, Contains}
 use Rattle.std.proofs.lemmas.List.{set-get_or, take_at, take-append-drop, append_assoc, length-take}
 use Rattle.std.proofs.lemmas.List.Elements.{All-contains, All-nil, All-weaker, Contains-push, Contains-append_left}
@@ -9,7 +9,7 @@ use mathlib.Core.Option.{some, none}
 use native.Mathlib.Decide.{ℕ_discrete}
 use prog.Atomic.{either}
 use lib.ListN.{get_elem?}
-use Rattle.atomic_table.specs.Table.{State, Me, Allows, step, keeps}
+use Rattle.atomic_table.specs.Table.{State, Me, Step, Allows, step, keeps}
 use Rattle.atomic_table.proofs.Lists.{set_again}
 use Rattle.pin_core.specs.declared.kept.CellAt.{CellAt}
 use Rattle.pin_core.specs.declared.kept.Kept.{Kept}
@@ -29,7 +29,7 @@ use Rattle.shared_cells.specs.declared.view.PassView.{PassView}
 use Rattle.shared_cells.specs.declared.view.TurnView.{TurnView}
 use Rattle.shared_cells.specs.declared.view.View.{View}
 use Rattle.shared_cells.specs.History.{StartsWith, OpeningFits, IsPartOf, version_after}
-use Rattle.shared_cells.specs.Views.{core_size, number_of, has_turn, is_told, is_idle, chunks_of, pinned_image, root_of, with_progress, with_pinned, with_more, pinned_view}
+use Rattle.shared_cells.specs.Views.{core_size, number_of, has_turn, is_told, is_pinned, chunks_of, pinned_image, root_of, with_progress, with_pinned, with_more, pinned_view}
 use Rattle.shared_cells.specs.Rule.{Facts, stage_of, ProgressFits, PinNames, NamingFits, IdleUnlessTold, OwnFits, PassFits, TurnFits, Knows, VersionsFit, IsSoundTable}
 use Rattle.shared_cells.specs.Steps.{exchanged_by, IsWordOf, entered, glanced, left, read, Pins, Settles, settled}
 use Rattle.shared_cells.proofs.Lists.{put, put_here, put_else, seats_stay}
@@ -352,3 +352,39 @@ module _ {O E : Type 0} (applied : O → E → O) (lawful : O → O → Type 0) 
     subst (λ (x : List ℕ × List (View O E)). Rule record { words = x.0; homes = s.homes; views = x.1 }) (λ k. (sym (set-get_or s.words i 0) k, sym (set_again s.views id m.0 at) k)) r,
     (refl, says s r id m.0 i m.0.progress m.0.pass (r.seats id m.0 at).pass),
   )
+
+  -- the three steps of pinning, one after another
+
+  pub glances_next : (slots id number : ℕ) (m m1 : Me (Unit {0}) (View O E)) → m1 ≡ (with_progress m.0 progress.Entered, m.1) → number_of m.0.pass ≡ number + 1 → has_turn m.0.turn ≡ false → is_told m.0.seen.opening ≡ true
+      → Allows Rule slots id m1 0 (λ n. n) (glanced (step slots 0 0 0 none) m1)
+  glances_next slots id number m m1 e is_pass off_turn is_open = subst (λ (x : Me (Unit {0}) (View O E)). Allows Rule slots id x 0 (λ n. n) (glanced (step slots 0 0 0 none) x)) (sym e)
+      (may_glance slots id (with_progress m.0 progress.Entered, m.1) number is_pass off_turn is_open refl)
+
+  looked_since : (m m1 m2 : Me (Unit {0}) (View O E)) (w : ℕ) → m1 ≡ (with_progress m.0 progress.Entered, m.1) → m2 ≡ (with_progress m1.0 (progress.Looked w), m1.1) → m2 ≡ (with_progress m.0 (progress.Looked w), m.1)
+  looked_since m m1 m2 w e1 e2 = e2 ∙ ap (λ (x : Me (Unit {0}) (View O E)). let y : Me (Unit {0}) (View O E) = (with_progress x.0 (progress.Looked w), x.1) in y) e1
+
+  pub settles_next : (slots id number w : ℕ) (m m1 m2 : Me (Unit {0}) (View O E)) → m1 ≡ (with_progress m.0 progress.Entered, m.1) → m2 ≡ (with_progress m1.0 (progress.Looked w), m1.1)
+      → number_of m.0.pass ≡ number + 1 → has_turn m.0.turn ≡ false → is_told m.0.seen.opening ≡ true → Allows Rule slots id m2 (pin_at number) (λ n. either (eqb n 1) (w + 2) n) (settled applied lawful stands (step slots (pin_at number) 1 (w + 2) none) m2)
+  settles_next slots id number w m m1 m2 e1 e2 is_pass off_turn is_open =
+      subst (λ (x : Me (Unit {0}) (View O E)). Allows Rule slots id x (pin_at number) (λ n. either (eqb n 1) (w + 2) n) (settled applied lawful stands (step slots (pin_at number) 1 (w + 2) none) x)) (sym (looked_since m m1 m2 w e1 e2))
+      (may_settle slots id (with_progress m.0 (progress.Looked w), m.1) number is_pass off_turn is_open w refl)
+
+  -- what was pinned, told of the pass as it was before
+  settled_since : (v : View O E) (d : Progress) (pin : ℕ) (w : View O E) → Settles applied lawful stands (with_progress v d) pin w → Settles applied lawful stands v pin w
+  settled_since v d x w t = let p = t.pins in record {
+    pins = record { kept = p.kept; more = p.more; view = p.view; version = p.version; good = p.good; stood = p.stood };
+    low = t.low;
+    version = t.version;
+    root = t.root;
+    inside = t.inside;
+  }
+
+  pub pins_so : (w found : ℕ) (st : Step (Unit {0})) (m m1 m2 m3 : Me (Unit {0}) (View O E)) → m1 ≡ (with_progress m.0 progress.Entered, m.1) → m2 ≡ (with_progress m1.0 (progress.Looked w), m1.1)
+      → settled applied lawful stands st m2 found m3 → Settles applied lawful stands m.0 (exchanged_by st found) m3.0
+  pins_so w found st m m1 m2 m3 e1 e2 t = settled_since m.0 (progress.Looked w) (exchanged_by st found) m3.0 (subst (λ (x : Me (Unit {0}) (View O E)). Settles applied lawful stands x.0 (exchanged_by st found) m3.0) (looked_since m m1 m2 w e1 e2) t.0)
+
+pub pinned_there : (p : Progress) → is_pinned p ≡ true → (k : Kept) × (p ≡ progress.Pinned k)
+pinned_there progress.Idle e = absurd (true≢false (sym e))
+pinned_there progress.Entered e = absurd (true≢false (sym e))
+pinned_there (progress.Looked w) e = absurd (true≢false (sym e))
+pinned_there (progress.Pinned k) e = (k, refl)

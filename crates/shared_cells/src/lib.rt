@@ -7,6 +7,7 @@
 
 mod law;
 mod pass;
+mod pinned;
 mod plays;
 mod shared;
 #[cfg(test)]
@@ -16,6 +17,7 @@ mod view;
 
 pub use law::{Law, Opening, Payload};
 pub use pass::{NewPassSeat, PassSeat, SeatNote};
+pub use pinned::PinnedSeat;
 pub use shared::Shared;
 pub use turn::{JoinedSeat, NewTurnSeat, TurnSeat};
 pub use view::{

@@ -1,6 +1,6 @@
 //! The seat that has the turn: the one by which versions are made.
-ghost use Rattle.std.specs.Prelude.{◌≡◌, ◌+◌, ◌<◌, ◌≤◌, length, true, false, [], Some};
-ghost use Rattle.shared_cells.specs.Views.{number_of, has_turn, is_told, note_of, pass_of, without_pass, with_pass};
+ghost use Rattle.std.specs.Prelude.{◌≡◌, ◌+◌, ◌*◌, ◌<◌, ◌≤◌, length, true, false, [], Some};
+ghost use Rattle.shared_cells.specs.Views.{number_of, has_turn, is_told, chunks_of, note_of, pass_of, without_pass, with_pass};
 ghost use Rattle.shared_cells.specs.Steps.{CanOpen, Opened, CanPublish, Published, Confirmed};
 
 use crate::law::{Law, Opening, Payload};
@@ -46,6 +46,8 @@ pub struct JoinedSeat<O, E> {
     ghost is_pass: { number_of place.me.0.pass ≡ number + 1 },
     ghost told: { is_told place.me.0.seen.opening ≡ true },
     ghost version_is: { version ≡ length place.me.0.seen.history },
+    ghost few: { number < 64 },
+    ghost wide: { 4161 + 2048 * chunks_of place.me.0.pass ≡ place.table_id.words },
     ghost no_slots: { place.me.1 ≡ [] },
 }
 
