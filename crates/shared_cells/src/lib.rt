@@ -5,6 +5,7 @@
 //! another in a note. The rule holds between any two steps of any threads.
 #![tactic(auto)]
 
+mod cells;
 mod law;
 mod pass;
 mod pinned;
@@ -15,6 +16,7 @@ mod tests;
 mod turn;
 mod view;
 
+pub use cells::PinnedCells;
 pub use law::{Law, Opening, Payload};
 pub use pass::{NewPassSeat, PassSeat, SeatNote};
 pub use pinned::PinnedSeat;
