@@ -9,3 +9,4 @@ pub mod Looking
 pub mod Passes
 pub mod Turns
 pub mod Marks
+pub mod Chunks

@@ -26,7 +26,7 @@ use Rattle.shared_cells.specs.declared.view.PassView.{PassView}
 use Rattle.shared_cells.specs.declared.view.TurnView.{TurnView}
 use Rattle.shared_cells.specs.declared.view.View.{View}
 use Rattle.shared_cells.specs.History.{StartsWith, OpeningFits, IsPartOf, version_after}
-use Rattle.shared_cells.specs.Views.{core_size, has_turn, stored_turn, with_turn, with_namings}
+use Rattle.shared_cells.specs.Views.{core_size, has_turn, words_of, kept_in, stored_turn, stored_in, stored_view, with_namings}
 use Rattle.shared_cells.specs.Rule.{Facts, stage_of, ProgressFits, NamingFits, OwnFits, PassFits, HasAll, TurnFits, Knows, VersionsFit, IsSoundTable}
 use Rattle.shared_cells.specs.Steps.{stored, recalled}
 use Rattle.shared_cells.proofs.Lists.{seats_stay, begins_itself, begins_more}
@@ -39,9 +39,6 @@ nothing_more seen = ap (λ (ns : List Naming). record seen { namings = ns }) (ap
 past : (at : ℕ) (half : Half) → 64 < half_at at half
 past at Big = omega arith
 past at Small = omega arith
-
-the_same : (o : Option TurnView) (a b : TurnView) → o ≡ Some a → o ≡ Some b → a ≡ b
-the_same o a b is_a is_b = cc
 
 module _ {O E : Type 0} (applied : O → E → O) (lawful : O → O → Type 0) (stands : List CellAt → Option ℕ → O → Type 0) (size : TableSize) where
   abbrev Rule : State (Unit {0}) (View O E) → Type 0
@@ -139,9 +136,9 @@ module _ {O E : Type 0} (applied : O → E → O) (lawful : O → O → Type 0) 
           subst (λ (pin : ℕ). Contains (r.facts.pinned n.pass) n.version ⊎ ((2 ≤ pin) × (version_of pin ≡ n.version))) (sym (stored_far (pin_at n.pass) (omega arith))) (r.namings j d l)
 
       store_keeps : Sound (core_size size) (set s.words i x) r.facts.stages r.facts.seen (turn_of (length r.facts.all.history) r.facts.turn.kept r.facts.turn.marks)
-          → Rule record { words = set s.words i x; homes = s.homes; views = set s.views id (with_turn v (stored_turn turn i x)) }
-      store_keeps sound = subst (λ (y : Seen O E × TurnView). Rule record { words = set s.words i x; homes = s.homes; views = set s.views id (record v { seen = y.0; turn = Some (stored_turn y.1 i x) }) })
-          (λ j. ((nothing_more r.facts.all ∙ sym h.seen_is) j, sym h.turn_is j))
+          → Rule record { words = set s.words i x; homes = s.homes; views = set s.views id (stored_view v i x) }
+      store_keeps sound = subst (λ (y : Seen O E × Option TurnView). Rule record { words = set s.words i x; homes = s.homes; views = set s.views id (record v { seen = y.0; turn = stored_in y.1 i x }) })
+          (λ j. ((nothing_more r.facts.all ∙ sym h.seen_is) j, (sym (ap (λ (y : TurnView). Some y) h.turn_is) ∙ sym is_turn) j))
           (acts (set s.words i x) [] (stored_turn r.facts.turn i x) refl (λ p g pinned l is fits. fits) (λ e. refl) (λ P all. all) sound
           (subst (All (NamingFits (set s.words i x) r.facts.pinned)) (sym (append-nil r.facts.all.namings)) namings_stay) (All-nil (λ (n : Naming). n.pass < size.passes))
           (length-set r.facts.turn.words i x ∙ r.copied ∙ sym (length-set s.words i x)) mirror_on)
@@ -160,32 +157,36 @@ module _ {O E : Type 0} (applied : O → E → O) (lawful : O → O → Type 0) 
     may_store : (i x : ℕ) → 64 < i → ((s : State (Unit {0}) (View O E)) (r : Rule s) → r.facts.turn ≡ (turn_there m.0.turn has).0 → Sound (core_size size) (set s.words i x) r.facts.stages r.facts.seen (turn_of (length r.facts.all.history) r.facts.turn.kept r.facts.turn.marks))
         → Allows Rule slots id m i (λ _. x) (λ _. stored (step slots i x 0 none) m x)
     may_store i x far sound s r deep at small = let t = turn_there m.0.turn has in (
-      with_turn m.0 (stored_turn t.0 i x),
+      stored_view m.0 i x,
       keeps,
       tt,
       store_keeps s r id m.0 at t.0 t.1 i x far (sound s r (sym (the_turn applied lawful stands size s r id m.0 t.0 at t.1).turn_is)),
-      (t.0, t.1, refl),
+      refl,
     )
 
     pub may_give : (c : ℕ) → c < size.chunks → Allows Rule slots id m (status_at c) (λ _. 1) (λ _. stored (step slots (status_at c) 1 0 none) m 1)
     may_give c small = may_store (status_at c) 1 (omega arith) (λ s r is. gives (core_size size) s.words r.facts.stages r.facts.seen (turn_of (length r.facts.all.history) r.facts.turn.kept r.facts.turn.marks) r.sound c small)
 
-    pub may_free : (turn : TurnView) → m.0.turn ≡ Some turn → (c : ℕ) → c < size.chunks → is_kept_chunk turn.kept c ≡ false → Allows Rule slots id m (status_at c) (λ _. 0) (λ _. stored (step slots (status_at c) 0 0 none) m 0)
-    may_free turn is_turn c small away = may_store (status_at c) 0 (omega arith)
-        (λ s r is. frees (core_size size) s.words r.facts.stages r.facts.seen (turn_of (length r.facts.all.history) r.facts.turn.kept r.facts.turn.marks) r.sound c small
-        (ap (λ (t : TurnView). is_kept_chunk t.kept c) (is ∙ the_same m.0.turn (turn_there m.0.turn has).0 turn (turn_there m.0.turn has).1 is_turn) ∙ away))
+    kept_is : (turn : TurnView) → turn ≡ (turn_there m.0.turn has).0 → turn.kept ≡ kept_in m.0.turn
+    kept_is turn is = ap (λ (t : TurnView). t.kept) is ∙ sym (ap kept_in (turn_there m.0.turn has).1)
 
-    pub may_write : (turn : TurnView) → m.0.turn ≡ Some turn → (at : ℕ) (half : Half) (x : ℕ) → chunk_of at < size.chunks → is_kept_cell turn.kept at ≡ false → Allows Rule slots id m (half_at at half) (λ _. x) (λ _. stored (step slots (half_at at half) x 0 none) m x)
-    may_write turn is_turn at half x small away = may_store (half_at at half) x (past at half)
-        (λ s r is. writes (core_size size) s.words r.facts.stages r.facts.seen (turn_of (length r.facts.all.history) r.facts.turn.kept r.facts.turn.marks) r.sound at half x small
-        (ap (λ (t : TurnView). is_kept_cell t.kept at) (is ∙ the_same m.0.turn (turn_there m.0.turn has).0 turn (turn_there m.0.turn has).1 is_turn) ∙ away))
+    pub may_free : (c : ℕ) → c < size.chunks → is_kept_chunk (kept_in m.0.turn) c ≡ false → Allows Rule slots id m (status_at c) (λ _. 0) (λ _. stored (step slots (status_at c) 0 0 none) m 0)
+    may_free c small away = may_store (status_at c) 0 (omega arith)
+        (λ s r is. frees (core_size size) s.words r.facts.stages r.facts.seen (turn_of (length r.facts.all.history) r.facts.turn.kept r.facts.turn.marks) r.sound c small
+        (ap (λ (ks : List Kept). is_kept_chunk ks c) (kept_is r.facts.turn is) ∙ away))
+
+    pub may_write : (at : ℕ) (half : Half) (x i : ℕ) → i ≡ half_at at half → chunk_of at < size.chunks → is_kept_cell (kept_in m.0.turn) at ≡ false → Allows Rule slots id m i (λ _. x) (λ _. stored (step slots i x 0 none) m x)
+    may_write at half x i place small away = may_store i x (let l = past at half in omega arith)
+        (λ s r is. subst (λ (j : ℕ). Sound (core_size size) (set s.words j x) r.facts.stages r.facts.seen (turn_of (length r.facts.all.history) r.facts.turn.kept r.facts.turn.marks)) (sym place)
+        (writes (core_size size) s.words r.facts.stages r.facts.seen (turn_of (length r.facts.all.history) r.facts.turn.kept r.facts.turn.marks) r.sound at half x small
+        (ap (λ (ks : List Kept). is_kept_cell ks at) (kept_is r.facts.turn is) ∙ away)))
 
   -- the turn loads a word past the pins
-  pub may_recall : (slots id i : ℕ) (m : Me (Unit {0}) (View O E)) → 64 < i → Allows Rule slots id m i (λ n. n) (recalled (step slots i 0 0 none) m)
-  may_recall slots id i m far s r deep at small = (
+  pub may_recall : (slots id i : ℕ) (m : Me (Unit {0}) (View O E)) → has_turn m.0.turn ≡ true → 64 < i → Allows Rule slots id m i (λ n. n) (recalled (step slots i 0 0 none) m)
+  may_recall slots id i m has far s r deep at small = let t = turn_there m.0.turn has in (
     m.0,
     keeps,
     tt,
     subst (λ (x : List ℕ × List (View O E)). Rule record { words = x.0; homes = s.homes; views = x.1 }) (λ k. (sym (set-get_or s.words i 0) k, sym (set_again s.views id m.0 at) k)) r,
-    (refl, λ turn is. r.mirror i far ∙ ap (λ (t : TurnView). get_or t.words i 0) (sym (the_turn applied lawful stands size s r id m.0 turn at is).turn_is)),
+    (refl, r.mirror i far ∙ ap (λ (t : TurnView). get_or t.words i 0) (sym (the_turn applied lawful stands size s r id m.0 t.0 at t.1).turn_is) ∙ sym (ap (λ (o : Option TurnView). get_or (words_of o) i 0) t.1)),
   )

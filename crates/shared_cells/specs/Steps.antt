@@ -17,7 +17,7 @@ use Rattle.shared_cells.specs.declared.view.PassView.{PassView}
 use Rattle.shared_cells.specs.declared.view.TurnView.{TurnView}
 use Rattle.shared_cells.specs.declared.view.View.{View}
 use Rattle.shared_cells.specs.History.{IsPartOf, entries_by, entry_of, with_entry, version_after}
-use Rattle.shared_cells.specs.Views.{core_size, chunks_of, pinned_image, root_of, stored_turn, with_progress, pinned_view, with_turn, marked_view, rounded_view, learnt_view, opened_view, published_view}
+use Rattle.shared_cells.specs.Views.{core_size, words_of, chunks_of, pinned_image, root_of, stored_view, with_progress, pinned_view, marked_view, rounded_view, learnt_view, opened_view, published_view}
 
 -- a seat, by what it knows
 abbrev pub Knower : Type 0 → Type 0 → Type 0
@@ -141,11 +141,11 @@ module _ {O E : Type 0} where
 
   -- the turn stores a word past the pins
   abbrev pub stored : WordStep → Knower O E → ℕ → Knower O E → Type 0
-  stored step m word m' = (turn : TurnView) × (m.0.turn ≡ Some turn) × (m' ≡ (with_turn m.0 (stored_turn turn step.word word), m.1))
+  stored step m word m' = m' ≡ (stored_view m.0 step.word word, m.1)
 
   -- the turn loads a word past the pins, which it knows
   abbrev pub recalled : WordStep → Knower O E → ℕ → Knower O E → Type 0
-  recalled step m word m' = (m' ≡ m) × ((turn : TurnView) → m.0.turn ≡ Some turn → word ≡ slice_index turn.words step.word)
+  recalled step m word m' = (m' ≡ m) × (word ≡ slice_index (words_of m.0.turn) step.word)
 
   -- the turn has marked the pass of this pin, which is 2 or more only if it names a kept version
   abbrev pub Marks : View O E → ℕ → ℕ → View O E → Type 0

@@ -64,7 +64,17 @@ abbrev pub chunks_of : {E : Type 0} → Option (PassView E) → ℕ
 chunks_of None = 0
 chunks_of (Some own) = own.chunks
 
--- the marks of the turn's round
+-- the words as the turn knows them
+abbrev pub words_of : Option TurnView → List ℕ
+words_of None = []
+words_of (Some turn) = turn.words
+
+-- the versions that it keeps
+abbrev pub kept_in : Option TurnView → List Kept
+kept_in None = []
+kept_in (Some turn) = turn.kept
+
+-- the marks of its round
 abbrev pub marks_of : Option TurnView → List Mark
 marks_of None = []
 marks_of (Some turn) = turn.marks
@@ -91,6 +101,10 @@ published_turn turn new = record turn { kept = turn.kept ++ new ∷ []; marks = 
 -- it stores a word past the pins
 abbrev pub stored_turn : TurnView → ℕ → ℕ → TurnView
 stored_turn turn place word = record turn { words = slice_set turn.words place word }
+
+abbrev pub stored_in : Option TurnView → ℕ → ℕ → Option TurnView
+stored_in None place word = None
+stored_in (Some turn) place word = Some (stored_turn turn place word)
 
 -- what it knows of the kept versions and of its round becomes this
 abbrev pub with_round : TurnView → Turn → TurnView
@@ -212,8 +226,9 @@ module _ {O E : Type 0} where
   abbrev pub with_namings : Seen O E → List Naming → Seen O E
   with_namings seen more = record seen { namings = seen.namings ++ more }
 
-  abbrev pub with_turn : View O E → TurnView → View O E
-  with_turn v turn = record v { turn = Some turn }
+  -- the turn has stored a word past the pins
+  abbrev pub stored_view : View O E → ℕ → ℕ → View O E
+  stored_view v place word = record v { turn = stored_in v.turn place word }
 
   -- the turn has marked a pass
   abbrev pub marked_view : View O E → TurnView → ℕ → Mark → View O E

@@ -6,6 +6,7 @@
 #![tactic(auto)]
 
 mod cells;
+mod lent;
 mod law;
 mod pass;
 mod pinned;
@@ -17,6 +18,7 @@ mod turn;
 mod view;
 
 pub use cells::PinnedCells;
+pub use lent::{Lent, TurnCells};
 pub use law::{Law, Opening, Payload};
 pub use pass::{NewPassSeat, PassSeat, SeatNote};
 pub use pinned::PinnedSeat;
