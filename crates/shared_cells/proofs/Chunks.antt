@@ -67,7 +67,7 @@ given_changes cells c x small wide few = same_lists (given_chunks new) (set (giv
 
 -- kept references
 
-contains_map : {A : Type 0} (f : A → ℕ) (xs : List A) (x : A) → Contains xs x → Contains (map f xs) (f x)
+pub contains_map : {A : Type 0} (f : A → ℕ) (xs : List A) (x : A) → Contains xs x → Contains (map f xs) (f x)
 contains_map f xs x c = (c.0, (let l = c.1 in let n = length-map xs f in omega arith), get_or-map f xs c.0 x (f x) c.1 ∙ ap f c.2)
 
 contains_right : (xs ys : List ℕ) (y : ℕ) → Contains ys y → Contains (xs ++ ys) y

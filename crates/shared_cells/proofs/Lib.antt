@@ -10,3 +10,4 @@ pub mod Passes
 pub mod Turns
 pub mod Marks
 pub mod Chunks
+pub mod RoundLaws

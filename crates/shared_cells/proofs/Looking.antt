@@ -1,6 +1,6 @@
 -- A look by the seat that has the turn keeps the rule, and tells what the rule knows of it.
-use Rattle.std.proofs.Common.{◌≡◌, ⊎_elim, ℕ, ◌≤◌, List, get_or, true, refl, sym, ap, ◌∙◌, subst, arith, Option, Some}
-use Rattle.std.specs.List.{Contains}
+use Rattle.std.proofs.Common.{◌≡◌, ⊎_elim, ℕ, ◌<◌, ◌≤◌, List, get_or, true, refl, sym, ap, ◌∙◌, subst, arith, Option, Some}
+use Rattle.std.specs.List.{All, Contains}
 use Rattle.std.proofs.lemmas.List.{set-get_or}
 use Rattle.std.proofs.lemmas.List.Elements.{All-weaker}
 use mathlib.Core.Option.{some, none}
@@ -51,6 +51,8 @@ module _ {O E : Type 0} (applied : O → E → O) (lawful : O → O → Type 0) 
       namings = λ own is. All-weaker (NamingFits s.words r.facts.pinned) (λ (n : Naming). n.pass ≡ own.number → Contains own.pinned n.version) (naming_pinned own is) r.facts.all.namings r.namings;
       authors = r.authors;
       current = r.sound.current;
+      rising = r.sound.rising;
+      namers = subst (λ (k : ℕ). All (λ (n : Naming). n.pass < k) r.facts.all.namings) (sym r.sound.marked) r.namers;
       versions = λ o is. (versions_all o is).0;
       images = λ o is. (versions_all o is).1;
     })

@@ -33,7 +33,7 @@ use Rattle.shared_cells.proofs.Lists.{seats_stay, begins_itself, begins_more}
 use Rattle.shared_cells.proofs.Knowing.{knows_else, the_turn}
 use Rattle.shared_cells.proofs.Seats.{turn_there, idle_fits_told}
 
-nothing_more : {O E : Type 0} (seen : Seen O E) → with_namings seen [] ≡ seen
+pub nothing_more : {O E : Type 0} (seen : Seen O E) → with_namings seen [] ≡ seen
 nothing_more seen = ap (λ (ns : List Naming). record seen { namings = ns }) (append-nil seen.namings)
 
 past : (at : ℕ) (half : Half) → 64 < half_at at half

@@ -11,13 +11,14 @@ use Rattle.pin_core.specs.Sound.{HasRoot, AgreesWith, IsGiven}
 use Rattle.pin_core.specs.Machine.{is_settled, mark_of}
 use Rattle.shared_cells.specs.declared.view.TableSize.{TableSize}
 use Rattle.shared_cells.specs.declared.view.Entry.{Entry}
+use Rattle.shared_cells.specs.declared.view.Naming.{Naming}
 use Rattle.shared_cells.specs.declared.view.Progress.{Progress}
 use Rattle.shared_cells.specs.declared.view.Progress.TheVariants as progress
 use Rattle.shared_cells.specs.declared.view.PassView.{PassView}
 use Rattle.shared_cells.specs.declared.view.TurnView.{TurnView}
 use Rattle.shared_cells.specs.declared.view.View.{View}
 use Rattle.shared_cells.specs.History.{IsPartOf, entries_by, entry_of, with_entry, version_after}
-use Rattle.shared_cells.specs.Views.{core_size, words_of, chunks_of, pinned_image, root_of, stored_view, with_progress, pinned_view, marked_view, rounded_view, learnt_view, opened_view, published_view}
+use Rattle.shared_cells.specs.Views.{core_size, words_of, kept_in, chunks_of, pinned_image, root_of, stored_view, with_progress, pinned_view, marked_view, rounded_view, learnt_view, opened_view, published_view}
 
 -- a seat, by what it knows
 abbrev pub Knower : Type 0 → Type 0 → Type 0
@@ -89,6 +90,10 @@ module _ {O E : Type 0} (applied : O → E → O) (lawful : O → O → Type 0) 
     pub authors : All (λ e. e.author < turn.made) v.seen.history
     -- CUR names the version that the history leads to, which is kept
     pub current : (k : Kept) × Contains turn.kept k × (k.version ≡ length v.seen.history) × (word ≡ word_of k)
+    -- the kept versions rise
+    pub rising : AllPairs (λ k j. k.version < j.version) turn.kept
+    -- each naming is of a pass that there is
+    pub namers : All (λ n. n.pass < length turn.marks) v.seen.namings
     -- all versions are lawful
     pub versions : (o : O) → v.seen.opening ≡ Some o → (n : ℕ) → n ≤ length v.seen.history → lawful o (version_after applied o (take n v.seen.history))
     -- each kept image is its version
@@ -159,6 +164,14 @@ module _ {O E : Type 0} where
   abbrev pub assigned : WordStep → Knower O E → ℕ → Knower O E → Type 0
   assigned step m found m' = Marks m.0 (step.word - 1) (exchanged_by step found) m'.0 × (m'.1 ≡ m.1)
 
+  -- the word of CUR, as the turn knows it
+  abbrev pub IsCurrent : View O E → ℕ → Type 0
+  IsCurrent v word = (k : Kept) × Contains (kept_in v.turn) k × (k.version ≡ length v.seen.history) × (word ≡ word_of k)
+
+  -- a naming that was seen is of this version
+  abbrev pub IsNamed : View O E → ℕ → Type 0
+  IsNamed v version = (n : Naming) × Contains v.seen.namings n × (n.version ≡ version)
+
   -- A round of the turn: these marks were found, each idle or pinned.
   pub record Rounded (v w : View O E) : Type 0 where
     pub turn : TurnView
@@ -167,6 +180,8 @@ module _ {O E : Type 0} where
     -- one for each pass
     pub each : length marks ≡ length turn.marks
     pub settled : list_all is_settled marks ≡ true
+    -- what they name was kept
+    pub named : All (IsOfKept turn.kept) marks
     -- kept are the current version and those that the marks name, and what they name is listed
     pub after : w ≡ rounded_view v turn marks
 
