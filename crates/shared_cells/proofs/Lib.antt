@@ -11,3 +11,4 @@ pub mod Turns
 pub mod Marks
 pub mod Chunks
 pub mod RoundLaws
+pub mod KeptLaws

@@ -11,6 +11,7 @@ mod law;
 mod pass;
 mod pinned;
 mod plays;
+mod round;
 mod shared;
 #[cfg(test)]
 mod tests;
@@ -22,6 +23,7 @@ pub use lent::{Lent, TurnCells};
 pub use law::{Law, Opening, Payload};
 pub use pass::{NewPassSeat, PassSeat, SeatNote};
 pub use pinned::PinnedSeat;
+pub use round::KeptVersions;
 pub use shared::Shared;
 pub use turn::{JoinedSeat, NewTurnSeat, TurnSeat};
 pub use view::{
