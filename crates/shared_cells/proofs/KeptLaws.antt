@@ -1,5 +1,5 @@
 -- The versions that a round keeps, as a rising list.
-use Rattle.std.proofs.Common.{◌≡◌, ◌≢◌, ◌⊎◌, inl, inr, ⊎_elim, ℕ, zero, suc, ◌+◌, ◌<◌, ◌≤◌, eqb, List, [], ◌∷◌, ◌++◌, length, get_or, insert, map, Bool, true, false, true≢false, refl, sym, ap, ◌∙◌, subst, arith, eq-eqb}
+use Rattle.std.proofs.Common.{◌≡◌, ◌≢◌, ◌⊎◌, inl, inr, ⊎_elim, ℕ, zero, suc, ◌+◌, ◌<◌, ◌≤◌, eqb, List, [], ◌∷◌, ◌++◌, length, get_or, insert, map, replicate, Bool, true, false, true≢false, cond, refl, sym, ap, ◌∙◌, subst, arith, Option, Some, None, eq-eqb, length-append}
 use Rattle.std.specs.Prelude.{◌||◌, ◌==◌, filter, Result, Ok, Err}
 use Rattle.std.specs.Ordering.{nat_cmp}
 use Rattle.std.specs.List.Sorted.{IsBinarySearchResult}
@@ -16,11 +16,15 @@ use Rattle.pin_core.specs.declared.kept.Kept.{Kept}
 use Rattle.pin_core.specs.declared.kept.Mark.{Mark}
 use Rattle.pin_core.specs.declared.kept.Mark.TheVariants as mark
 use Rattle.pin_core.specs.Sound.{turn_of}
-use Rattle.pin_core.specs.Machine.{names_version, kept_by_round}
+use Rattle.pin_core.specs.Words.{version_of}
+use Rattle.pin_core.specs.Machine.{is_settled, mark_of, names_version, kept_by_round}
 use Rattle.pin_core.proofs.Lists.{contains_cases, contains_later, contains_filter, contains_from_filter, filter_test, pairs_head, pairs_tail}
 use Rattle.shared_cells.specs.declared.view.Naming.{Naming}
-use Rattle.shared_cells.specs.Views.{naming_by, namings_by}
-use Rattle.shared_cells.specs.Steps.{IsOfKept}
+use Rattle.shared_cells.specs.declared.view.TurnView.{TurnView}
+use Rattle.shared_cells.specs.declared.view.View.{View}
+use Rattle.shared_cells.specs.Views.{kept_in, marks_of, naming_by, namings_by, rounded_view}
+use Rattle.shared_cells.specs.Steps.{IsOfKept, Marks, IsNamed, Rounded}
+use Rattle.shared_cells.proofs.RoundLaws.{InRound, begins, next_marked, all_marked}
 use Rattle.shared_cells.proofs.Chunks.{contains_map}
 
 -- strictly rising
@@ -215,3 +219,112 @@ listed_by p (m ∷ ms) v e = ⊎_elim
     (λ (a : names_version v m ≡ true). let n = named_listed p v m a in (n.0, Contains-append_left (naming_by p m) (namings_by (p + 1) ms) n.0 n.1, n.2))
     (λ (b : list_any (names_version v) ms ≡ true). let n = listed_by (p + 1) ms v b in (n.0, contains_later_list (naming_by p m) (namings_by (p + 1) ms) n.0 n.1, n.2))
     (or_cases (names_version v m) (list_any (names_version v) ms) e)
+
+-- the marks so far, and the versions that were gathered by them
+
+pub named_before : (version : ℕ) (found : List Mark) (m : Mark) (v : ℕ) → NamedBy version found v → NamedBy version (found ++ m ∷ []) v
+named_before version found m v named = ⊎_elim inl (λ (e : list_any (names_version v) found ≡ true). inr (any_before v found (m ∷ []) e)) named
+
+pub named_cases : (version : ℕ) (found : List Mark) (m : Mark) (v : ℕ) → NamedBy version (found ++ m ∷ []) v → NamedBy version found v ⊎ (names_version v m ≡ true)
+named_cases version found m v named = ⊎_elim (λ (e : v ≡ version). inl (inl e))
+    (λ (e : list_any (names_version v) (found ++ m ∷ []) ≡ true). ⊎_elim (λ (b : list_any (names_version v) found ≡ true). inl (inr b)) (λ (n : names_version v m ≡ true). inr n) (any_cases v found m e)) named
+
+pub named_last : (version : ℕ) (found : List Mark) (v : ℕ) → NamedBy version (found ++ mark.Pinned v ∷ []) v
+named_last version found v = inr (any_last v found (mark.Pinned v) (eq-eqb v v refl))
+
+-- a pin that isn't 0 or 1 marks its pass as pinned
+pub pin_marks : (pin : ℕ) → (pin ≡ 0 → ⊥) → is_settled (mark_of pin) ≡ true → mark_of pin ≡ mark.Pinned (version_of pin)
+pin_marks pin some settled = go (eqb pin 0) (eqb pin 1) refl refl settled
+  where
+    go : (a b : Bool) → eqb pin 0 ≡ a → eqb pin 1 ≡ b → is_settled (cond a mark.Idle (cond b mark.Entering (mark.Pinned (version_of pin)))) ≡ true → cond a mark.Idle (cond b mark.Entering (mark.Pinned (version_of pin))) ≡ mark.Pinned (version_of pin)
+    go true b ea eb e = absurd (some (grind (arith, eqb_tells pin 0)))
+    go false true ea eb e = absurd (true≢false (sym e))
+    go false false ea eb e = refl
+
+pub pin_low : (pin : ℕ) → (pin ≡ 0 → ⊥) → is_settled (mark_of pin) ≡ true → 2 ≤ pin
+pin_low pin some settled = go (eqb pin 0) (eqb pin 1) refl refl settled
+  where
+    go : (a b : Bool) → eqb pin 0 ≡ a → eqb pin 1 ≡ b → is_settled (cond a mark.Idle (cond b mark.Entering (mark.Pinned (version_of pin)))) ≡ true → 2 ≤ pin
+    go true b ea eb e = absurd (some (grind (arith, eqb_tells pin 0)))
+    go false true ea eb e = absurd (true≢false (sym e))
+    go false false ea eb e = grind (arith, eqb_tells pin 0, eqb_tells pin 1)
+
+module _ {O E : Type 0} where
+  -- So many passes of the round have been marked, and these versions gathered.
+  pub record Gathered (n version : ℕ) (v w : View O E) (pass : ℕ) (list : List ℕ) : Type 0 where
+    pub found : List Mark
+    pub count : length found ≡ pass
+    pub round : InRound n v w found
+    pub only : (k : ℕ) → Contains list k → NamedBy version found k
+    pub all : (k : ℕ) → NamedBy version found k → Contains list k
+    pub few : length list ≤ pass + 1
+    pub rises : Rises list
+
+  pub gathers_first : (n version : ℕ) (v : View O E) (turn : TurnView) → v.turn ≡ Some turn → marks_of v.turn ≡ replicate n mark.Blank → 0 < n → (list : List ℕ) → list ≡ version ∷ [] → Gathered n version v v 0 list
+  gathers_first n version v turn is blank some list first = record {
+    found = [];
+    count = refl;
+    round = begins n v turn is blank some;
+    only = λ k c. ⊎_elim (λ (e : version ≡ k). inl (sym e)) (λ (d : Contains [] k). absurd (let l = d.1 in omega arith)) (contains_cases version k [] (subst (λ (l : List ℕ). Contains l k) first c));
+    all = λ k named. ⊎_elim (λ (e : k ≡ version). subst (λ (l : List ℕ). Contains l k) (sym first) (0, omega arith, sym e)) (λ (e : false ≡ true). absurd (true≢false (sym e))) named;
+    few = (let e = ap length first in omega arith);
+    rises = subst Rises (sym first) (λ a b d l within. absurd (omega arith));
+  }
+
+  module _ (n version : ℕ) (v w w' : View O E) (pass : ℕ) (list : List ℕ) (g : Gathered n version v w pass list) (pin : ℕ) (marks : Marks w pass pin w') (settled : is_settled (mark_of pin) ≡ true) (small : pass < n) where
+    next : InRound n v w' (g.found ++ mark_of pin ∷ [])
+    next = next_marked n v w w' g.found g.round pin (subst (λ (p : ℕ). Marks w p pin w') (sym g.count) marks) settled (let c = g.count in omega arith)
+
+    counted : length (g.found ++ mark_of pin ∷ []) ≡ pass + 1
+    counted = length-append g.found (mark_of pin ∷ []) ∙ ap (λ (k : ℕ). k + 1) g.count
+
+    -- an idle pass names nothing
+    pub gathers_idle : pin ≡ 0 → Gathered n version v w' (pass + 1) list
+    gathers_idle idle = record {
+      found = g.found ++ mark_of pin ∷ [];
+      count = counted;
+      round = next;
+      only = λ k c. named_before version g.found (mark_of pin) k (g.only k c);
+      all = λ k named. ⊎_elim (λ (b : NamedBy version g.found k). g.all k b) (λ (e : names_version k (mark_of pin) ≡ true). absurd (true≢false (sym (sym (ap (λ (x : ℕ). names_version k (mark_of x)) idle) ∙ e))))
+          (named_cases version g.found (mark_of pin) k named);
+      few = (let f = g.few in omega arith);
+      rises = g.rises;
+    }
+
+    pub gathers_pinned : (more : List ℕ) → (pin ≡ 0 → ⊥) → Contains more (version_of pin) → ((k : ℕ) → Contains list k → Contains more k) → ((k : ℕ) → Contains more k → (k ≡ version_of pin) ⊎ Contains list k) → length more ≤ length list + 1 → Rises more
+        → Gathered n version v w' (pass + 1) more
+    gathers_pinned more some has stay only few rises =
+        let is = pin_marks pin some settled in record {
+          found = g.found ++ mark_of pin ∷ [];
+          count = counted;
+          round = next;
+          only = λ k c. ⊎_elim
+              (λ (e : k ≡ version_of pin). subst (λ (m : Mark). NamedBy version (g.found ++ m ∷ []) k) (sym is) (subst (λ (x : ℕ). NamedBy version (g.found ++ mark.Pinned x ∷ []) k) e (named_last version g.found k)))
+              (λ (c' : Contains list k). named_before version g.found (mark_of pin) k (g.only k c')) (only k c);
+          all = λ k named. ⊎_elim (λ (b : NamedBy version g.found k). stay k (g.all k b))
+              (λ (e : names_version k (mark_of pin) ≡ true).
+              let t : (version_of pin == k) ≡ true = sym (ap (names_version k) is) ∙ e in
+              let same : version_of pin ≡ k = grind (arith, eqb_tells (version_of pin) k) in
+              subst (Contains more) same has)
+              (named_cases version g.found (mark_of pin) k named);
+          few = (let f = g.few in omega arith);
+          rises = rises;
+        }
+
+  -- when all passes are marked the list is what is kept, and each of its versions but the current one is listed
+  module _ (n version : ℕ) (v w : View O E) (list : List ℕ) (g : Gathered n version v w n list) where
+    pub gathered_round : Rounded v w
+    gathered_round = all_marked n v w g.found g.round g.count
+
+    done : w ≡ rounded_view v g.round.turn g.found
+    done = g.round.ended (let t = g.round.total in let c = g.count in omega arith)
+
+    pub gathered_kept : version ≡ length v.seen.history → AllPairs (λ k j. k.version < j.version) (kept_in v.turn) → (current : Kept) → Contains (kept_in v.turn) current → current.version ≡ version → list ≡ map (λ k. k.version) (kept_in w.turn)
+    gathered_kept is rising current has newest =
+        let kept : kept_in v.turn ≡ g.round.turn.kept = ap kept_in g.round.is_turn in
+        gathered_all g.round.turn.kept g.found version (subst (AllPairs (λ k j. k.version < j.version)) kept rising) g.round.named current (subst (λ (ks : List Kept). Contains ks current) kept has) newest list g.rises g.only g.all
+        ∙ sym (ap (λ (x : View O E). map (λ (k : Kept). k.version) (kept_in x.turn)) done ∙ ap (λ (m : ℕ). map (λ (k : Kept). k.version) (kept_by_round (turn_of m g.round.turn.kept g.found))) (sym is))
+
+    pub gathered_named : (k : ℕ) → Contains list k → (k ≡ version) ⊎ IsNamed w k
+    gathered_named k c = ⊎_elim inl (λ (e : list_any (names_version k) g.found ≡ true). let n = listed_by 0 g.found k e in
+        inr (n.0, subst (λ (x : View O E). Contains x.seen.namings n.0) (sym done) (contains_later_list v.seen.namings (namings_by 0 g.found) n.0 n.1), n.2)) (g.only k c)

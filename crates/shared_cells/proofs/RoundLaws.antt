@@ -4,17 +4,25 @@ use Rattle.std.specs.Prelude.{◌&&◌, ◌||◌, ◌==◌, filter}
 use Rattle.std.specs.List.{All, AllPairs, Contains, list_all, list_any}
 use Rattle.std.proofs.lemmas.List.{length-replicate, set-set}
 use Rattle.std.proofs.lemmas.List.Elements.{All-append, All-cons, All-nil}
+use mathlib.Core.Option.{none}
+use prog.Atomic.{either}
+use Rattle.atomic_table.specs.Table.{Me, Step, Allows, step}
+use Rattle.pin_core.specs.declared.kept.CellAt.{CellAt}
 use Rattle.pin_core.specs.declared.kept.Kept.{Kept}
 use Rattle.pin_core.specs.declared.kept.Mark.{Mark}
 use Rattle.pin_core.specs.declared.kept.Mark.TheVariants as mark
+use Rattle.pin_core.specs.Words.{pin_at}
 use Rattle.pin_core.specs.Sound.{Turn, turn_of}
 use Rattle.pin_core.specs.Machine.{is_settled, mark_of, names_version, kept_by_round, round_checked}
+use Rattle.shared_cells.specs.declared.view.TableSize.{TableSize}
 use Rattle.shared_cells.specs.declared.view.Naming.{Naming}
 use Rattle.shared_cells.specs.declared.view.Seen.{Seen}
 use Rattle.shared_cells.specs.declared.view.TurnView.{TurnView}
 use Rattle.shared_cells.specs.declared.view.View.{View}
-use Rattle.shared_cells.specs.Views.{kept_in, marks_of, with_round, marked_turn, naming_by, namings_by, with_namings, marked_view, rounded_view}
-use Rattle.shared_cells.specs.Steps.{IsOfKept, Marks, Rounded}
+use Rattle.shared_cells.specs.Views.{is_told, kept_in, marks_of, with_round, marked_turn, naming_by, namings_by, with_namings, marked_view, rounded_view}
+use Rattle.shared_cells.specs.Rule.{IsSoundTable}
+use Rattle.shared_cells.specs.Steps.{exchanged_by, IsOfKept, IsCurrent, Marks, Rounded, scanned, assigned}
+use Rattle.shared_cells.proofs.Marks.{may_scan, may_assign}
 use Rattle.shared_cells.proofs.Turns.{nothing_more}
 use Rattle.pin_core.proofs.Lists.{and_left, and_right}
 
@@ -94,15 +102,9 @@ module _ {O E : Type 0} where
 
   -- what a pass is marked as, if it was about to look and was helped
 
-  module _ (v v1 v2 : View O E) (p pin : ℕ) (first : Marks v p 1 v1) (second : Marks v1 p pin v2) (small : p < length (marks_of v.turn)) where
-    abbrev turn : TurnView
-    turn = first.0
-
+  module _ (v v1 : View O E) (p : ℕ) (first : Marks v p 1 v1) (small : p < length (marks_of v.turn)) where
     within : p < length first.0.marks
     within = let e = ap (λ (o : Option TurnView). length (marks_of o)) first.1 in omega arith
-
-    abbrev version : ℕ
-    version = length v.seen.history
 
     -- it was still open
     abbrev entering : TurnView
@@ -114,19 +116,39 @@ module _ {O E : Type 0} where
     at_first : v1 ≡ record v { turn = Some entering }
     at_first = first.2 ∙ ap (λ (x : Seen O E × TurnView). record v { seen = x.0; turn = Some x.1 }) (λ i. (nothing_more v.seen i, open_turn i))
 
-    same_turn : second.0 ≡ entering
-    same_turn = let e : Some second.0 ≡ Some entering = sym second.1 ∙ ap (λ (x : View O E). x.turn) at_first in cc
+    still_told : is_told v.seen.opening ≡ true → is_told v1.seen.opening ≡ true
+    still_told told = ap (λ (x : View O E). is_told x.seen.opening) at_first ∙ told
 
-    marked_again : marked_turn (length v.seen.history) entering p (mark_of pin) ≡ marked_turn (length v.seen.history) first.0 p (mark_of pin)
-    marked_again = ap (λ (x : ℕ × List Mark). with_round first.0 (round_checked x.0 (turn_of (length v.seen.history) first.0.kept x.1))) (λ i. (length-set first.0.marks p mark.Entering i, set-set first.0.marks p mark.Entering (mark_of pin) i))
+    still_small : p < length (marks_of v1.turn)
+    still_small = let e : length (marks_of v1.turn) ≡ length (set first.0.marks p mark.Entering) = ap (λ (x : View O E). length (marks_of x.turn)) at_first in let n = length-set first.0.marks p mark.Entering in let l = within in omega arith
 
-    pub helped : Marks v p pin v2
-    helped = (
-      first.0,
-      first.1,
-      second.2 ∙ ap (λ (x : View O E × TurnView). marked_view x.0 x.1 p (mark_of pin)) (λ i. (at_first i, same_turn i)) ∙ ap (λ (t : TurnView). record v { seen = with_namings v.seen (naming_by p (mark_of pin)); turn = Some t }) marked_again,
-      subst (λ (t : TurnView). IsOfKept t.kept (mark_of pin)) same_turn second.3,
-    )
+    still_current : (word : ℕ) → IsCurrent v word → IsCurrent v1 word
+    still_current word c = subst (λ (x : View O E). IsCurrent x word) (sym at_first) (c.0, subst (λ (o : Option TurnView). Contains (kept_in o) c.0) first.1 c.1, c.2, c.3)
+
+    module _ (v2 : View O E) (pin : ℕ) (second : Marks v1 p pin v2) where
+      same_turn : second.0 ≡ entering
+      same_turn = let e : Some second.0 ≡ Some entering = sym second.1 ∙ ap (λ (x : View O E). x.turn) at_first in cc
+
+      marked_again : marked_turn (length v.seen.history) entering p (mark_of pin) ≡ marked_turn (length v.seen.history) first.0 p (mark_of pin)
+      marked_again = ap (λ (x : ℕ × List Mark). with_round first.0 (round_checked x.0 (turn_of (length v.seen.history) first.0.kept x.1))) (λ i. (length-set first.0.marks p mark.Entering i, set-set first.0.marks p mark.Entering (mark_of pin) i))
+
+      helped : Marks v p pin v2
+      helped = (
+        first.0,
+        first.1,
+        second.2 ∙ ap (λ (x : View O E × TurnView). marked_view x.0 x.1 p (mark_of pin)) (λ i. (at_first i, same_turn i)) ∙ ap (λ (t : TurnView). record v { seen = with_namings v.seen (naming_by p (mark_of pin)); turn = Some t }) marked_again,
+        subst (λ (t : TurnView). IsOfKept t.kept (mark_of pin)) same_turn second.3,
+      )
+
+  -- a mark told of a step on the pass's pin
+  at_pass : (v w : View O E) (p pin : ℕ) → Marks v (pin_at p - 1) pin w → Marks v p pin w
+  at_pass v w p pin = subst (λ (q : ℕ). Marks v q pin w) (let e : pin_at p - 1 ≡ p = omega arith in e)
+
+  pub scanned_pass : (st : Step (Unit {0})) (m m1 : Me (Unit {0}) (View O E)) (p found : ℕ) → st.word ≡ pin_at p → scanned st m found m1 → Marks m.0 p found m1.0
+  scanned_pass st m m1 p found is t = at_pass m.0 m1.0 p found (subst (λ (q : ℕ). Marks m.0 (q - 1) found m1.0) is t.0)
+
+  pub helped_pass : (st : Step (Unit {0})) (m m1 m2 : Me (Unit {0}) (View O E)) (p found : ℕ) → st.word ≡ pin_at p → Marks m.0 p 1 m1.0 → p < length (marks_of m.0.turn) → assigned st m1 found m2 → Marks m.0 p (exchanged_by st found) m2.0
+  helped_pass st m m1 m2 p found is first small t = helped m.0 m1.0 p first small m2.0 (exchanged_by st found) (at_pass m1.0 m2.0 p (exchanged_by st found) (subst (λ (q : ℕ). Marks m1.0 (q - 1) (exchanged_by st found) m2.0) is t.0))
 
   -- the next pass is marked
 
@@ -229,3 +251,20 @@ module _ {O E : Type 0} where
     ap (λ (x : View O E). x.seen.opening) e,
     ap (λ (x : View O E). length (marks_of x.turn)) e ∙ (let t = r.total in let k : length (found ++ rest r.left) ≡ n = omega (arith, length-append found (rest r.left), length-replicate {A = Mark} r.left mark.Blank) in k),
   )
+
+marked_turn_there : (o : Option TurnView) (p : ℕ) → p < length (marks_of o) → (turn : TurnView) × (o ≡ Some turn)
+marked_turn_there None p l = absurd (omega arith)
+marked_turn_there (Some turn) p l = (turn, refl)
+
+module _ {O E : Type 0} (applied : O → E → O) (lawful : O → O → Type 0) (stands : List CellAt → Option ℕ → O → Type 0) (size : TableSize) where
+  pub may_scan_pass : (slots id : ℕ) (m : Me (Unit {0}) (View O E)) (p : ℕ) → is_told m.0.seen.opening ≡ true → p < length (marks_of m.0.turn) → Allows (IsSoundTable applied lawful stands size) slots id m (pin_at p) (λ n. n) (scanned (step slots (pin_at p) 0 0 none) m)
+  may_scan_pass slots id m p told small = let t = marked_turn_there m.0.turn p small in may_scan applied lawful stands size slots id m t.0 t.1 told p (let e = ap (λ (o : Option TurnView). length (marks_of o)) t.1 in omega arith)
+
+  pub may_help_pass : (slots id : ℕ) (m m1 : Me (Unit {0}) (View O E)) (p word : ℕ) → Marks m.0 p 1 m1.0 → is_told m.0.seen.opening ≡ true → p < length (marks_of m.0.turn) → IsCurrent m.0 word
+      → Allows (IsSoundTable applied lawful stands size) slots id m1 (pin_at p) (λ n. either (eqb n 1) (word + 2) n) (assigned (step slots (pin_at p) 1 (word + 2) none) m1)
+  may_help_pass slots id m m1 p word first told small current =
+      let l = still_small m.0 m1.0 p first small in
+      let t = marked_turn_there m1.0.turn p l in
+      let c = still_current m.0 m1.0 p first small word current in
+      subst (λ (w : ℕ). Allows (IsSoundTable applied lawful stands size) slots id m1 (pin_at p) (λ n. either (eqb n 1) (w + 2) n) (assigned (step slots (pin_at p) 1 (w + 2) none) m1)) (sym c.3)
+      (may_assign applied lawful stands size slots id m1 t.0 t.1 (still_told m.0 m1.0 p first small told) p (let e = ap (λ (o : Option TurnView). length (marks_of o)) t.1 in omega arith) c.0 (subst (λ (o : Option TurnView). Contains (kept_in o) c.0) t.1 c.1) c.2)

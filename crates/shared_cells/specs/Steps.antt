@@ -90,6 +90,8 @@ module _ {O E : Type 0} (applied : O → E → O) (lawful : O → O → Type 0) 
     pub authors : All (λ e. e.author < turn.made) v.seen.history
     -- CUR names the version that the history leads to, which is kept
     pub current : (k : Kept) × Contains turn.kept k × (k.version ≡ length v.seen.history) × (word ≡ word_of k)
+    -- and whose word a pin can be made of
+    pub fits : word + 2 < 2 ^ 64
     -- the kept versions rise
     pub rising : AllPairs (λ k j. k.version < j.version) turn.kept
     -- each naming is of a pass that there is

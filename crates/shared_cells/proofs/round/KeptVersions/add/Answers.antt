@@ -9,6 +9,12 @@ invariant_of-self c =
     let at = search_place xs c.deref.result.now c.args.version c.in-Err.place c.binary_search.result c.deref.ensures.0 c.self.invariant c.binary_search.ensures.position c.in-Err.is in
     subst Rises (sym c.insert.ensures.items) (insert_rises xs c.in-Err.place c.args.version at.0 at.1 at.2 c.self.invariant)
 
+pub returns-in-Err-clause-rising : goal.returns-in-Err-clause-rising
+returns-in-Err-clause-rising c =
+    let xs = c.self.inside.versions.items in
+    let at = search_place xs c.deref.result.now c.args.version c.in-Err.place c.binary_search.result c.deref.ensures.0 c.self.invariant c.binary_search.ensures.position c.in-Err.is in
+    subst Rises (sym c.insert.ensures.items) (insert_rises xs c.in-Err.place c.args.version at.0 at.1 at.2 c.self.invariant)
+
 pub returns-in-Err-clause-keeps : goal.returns-in-Err-clause-keeps
 returns-in-Err-clause-keeps c v has =
     let xs = c.self.inside.versions.items in
