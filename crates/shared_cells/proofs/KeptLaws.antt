@@ -23,8 +23,8 @@ use Rattle.shared_cells.specs.declared.view.Naming.{Naming}
 use Rattle.shared_cells.specs.declared.view.TurnView.{TurnView}
 use Rattle.shared_cells.specs.declared.view.View.{View}
 use Rattle.shared_cells.specs.Views.{kept_in, marks_of, naming_by, namings_by, rounded_view}
-use Rattle.shared_cells.specs.Steps.{IsOfKept, Marks, IsNamed, Rounded}
-use Rattle.shared_cells.proofs.RoundLaws.{InRound, begins, next_marked, all_marked}
+use Rattle.shared_cells.specs.Steps.{IsOfKept, IsDue, Marks, IsNamed, Rounded}
+use Rattle.shared_cells.proofs.RoundLaws.{InRound, begins, next_marked}
 use Rattle.shared_cells.proofs.Chunks.{contains_map}
 
 -- strictly rising
@@ -120,10 +120,6 @@ search_place xs lent v place r same rises found is = searched xs v (Err place) (
 
 -- what a round keeps, and what the marks name
 
--- the version is the current one, or some mark names it
-abbrev pub NamedBy : ℕ → List Mark → ℕ → Type 0
-NamedBy version marks v = (v ≡ version) ⊎ (list_any (names_version v) marks ≡ true)
-
 or_left : (a b : Bool) → a ≡ true → (a || b) ≡ true
 or_left a b e = subst (λ (z : Bool). (z || b) ≡ true) (sym e) refl
 
@@ -178,7 +174,7 @@ module _ (kept : List Kept) (marks : List Mark) (version : ℕ) (rising : AllPai
   there : (k : Kept) → Contains kept k → test k ≡ true → Contains (map (λ k. k.version) (kept_by_round (turn_of version kept marks))) k.version
   there k has passes = contains_map (λ (k : Kept). k.version) (kept_by_round (turn_of version kept marks)) k (contains_filter test kept k has passes)
 
-  named_there : (v : ℕ) → NamedBy version marks v → Contains (map (λ k. k.version) (kept_by_round (turn_of version kept marks))) v
+  named_there : (v : ℕ) → IsDue version marks v → Contains (map (λ k. k.version) (kept_by_round (turn_of version kept marks))) v
   named_there v named = ⊎_elim
       (λ (e : v ≡ version). subst (Contains (map (λ (k : Kept). k.version) (kept_by_round (turn_of version kept marks)))) (is_current ∙ sym e)
       (there current has_current (or_left (current.version == version) (list_any (names_version current.version) marks) (eq-eqb current.version version is_current))))
@@ -188,15 +184,15 @@ module _ (kept : List Kept) (marks : List Mark) (version : ℕ) (rising : AllPai
       subst (Contains (map (λ (k : Kept). k.version) (kept_by_round (turn_of version kept marks)))) k.2
       (there k.0 k.1 (or_right (k.0.version == version) (list_any (names_version k.0.version) marks) (ap (λ (w : ℕ). list_any (names_version w) marks) k.2 ∙ any)))) named
 
-  there_named : (v : ℕ) → Contains (map (λ k. k.version) (kept_by_round (turn_of version kept marks))) v → NamedBy version marks v
+  there_named : (v : ℕ) → Contains (map (λ k. k.version) (kept_by_round (turn_of version kept marks))) v → IsDue version marks v
   there_named v c =
       let k = contains_unmap (kept_by_round (turn_of version kept marks)) v c in
       let passes = filter_test test kept k.0 k.1 in
-      subst (NamedBy version marks) k.2 (⊎_elim (λ (a : (k.0.version == version) ≡ true). inl (let s : k.0.version ≡ version = grind (arith, eqb_tells k.0.version version) in s)) inr
+      subst (IsDue version marks) k.2 (⊎_elim (λ (a : (k.0.version == version) ≡ true). inl (let s : k.0.version ≡ version = grind (arith, eqb_tells k.0.version version) in s)) inr
       (or_cases (k.0.version == version) (list_any (names_version k.0.version) marks) passes))
 
   -- The list that was gathered is that of the versions that the round keeps.
-  pub gathered_all : (list : List ℕ) → Rises list → ((v : ℕ) → Contains list v → NamedBy version marks v) → ((v : ℕ) → NamedBy version marks v → Contains list v) → list ≡ map (λ k. k.version) (kept_by_round (turn_of version kept marks))
+  pub gathered_all : (list : List ℕ) → Rises list → ((v : ℕ) → Contains list v → IsDue version marks v) → ((v : ℕ) → IsDue version marks v → Contains list v) → list ≡ map (λ k. k.version) (kept_by_round (turn_of version kept marks))
   gathered_all list rises only all = same_rising list (map (λ (k : Kept). k.version) (kept_by_round (turn_of version kept marks))) rises
       (versions_rise (kept_by_round (turn_of version kept marks)) (AllPairs-filter (λ k j. k.version < j.version) test kept rising))
       (λ v c. named_there v (only v c)) (λ v c. all v (there_named v c))
@@ -222,14 +218,14 @@ listed_by p (m ∷ ms) v e = ⊎_elim
 
 -- the marks so far, and the versions that were gathered by them
 
-pub named_before : (version : ℕ) (found : List Mark) (m : Mark) (v : ℕ) → NamedBy version found v → NamedBy version (found ++ m ∷ []) v
+pub named_before : (version : ℕ) (found : List Mark) (m : Mark) (v : ℕ) → IsDue version found v → IsDue version (found ++ m ∷ []) v
 named_before version found m v named = ⊎_elim inl (λ (e : list_any (names_version v) found ≡ true). inr (any_before v found (m ∷ []) e)) named
 
-pub named_cases : (version : ℕ) (found : List Mark) (m : Mark) (v : ℕ) → NamedBy version (found ++ m ∷ []) v → NamedBy version found v ⊎ (names_version v m ≡ true)
+pub named_cases : (version : ℕ) (found : List Mark) (m : Mark) (v : ℕ) → IsDue version (found ++ m ∷ []) v → IsDue version found v ⊎ (names_version v m ≡ true)
 named_cases version found m v named = ⊎_elim (λ (e : v ≡ version). inl (inl e))
     (λ (e : list_any (names_version v) (found ++ m ∷ []) ≡ true). ⊎_elim (λ (b : list_any (names_version v) found ≡ true). inl (inr b)) (λ (n : names_version v m ≡ true). inr n) (any_cases v found m e)) named
 
-pub named_last : (version : ℕ) (found : List Mark) (v : ℕ) → NamedBy version (found ++ mark.Pinned v ∷ []) v
+pub named_last : (version : ℕ) (found : List Mark) (v : ℕ) → IsDue version (found ++ mark.Pinned v ∷ []) v
 named_last version found v = inr (any_last v found (mark.Pinned v) (eq-eqb v v refl))
 
 -- a pin that isn't 0 or 1 marks its pass as pinned
@@ -255,8 +251,8 @@ module _ {O E : Type 0} where
     pub found : List Mark
     pub count : length found ≡ pass
     pub round : InRound n v w found
-    pub only : (k : ℕ) → Contains list k → NamedBy version found k
-    pub all : (k : ℕ) → NamedBy version found k → Contains list k
+    pub only : (k : ℕ) → Contains list k → IsDue version found k
+    pub all : (k : ℕ) → IsDue version found k → Contains list k
     pub few : length list ≤ pass + 1
     pub rises : Rises list
 
@@ -285,7 +281,7 @@ module _ {O E : Type 0} where
       count = counted;
       round = next;
       only = λ k c. named_before version g.found (mark_of pin) k (g.only k c);
-      all = λ k named. ⊎_elim (λ (b : NamedBy version g.found k). g.all k b) (λ (e : names_version k (mark_of pin) ≡ true). absurd (true≢false (sym (sym (ap (λ (x : ℕ). names_version k (mark_of x)) idle) ∙ e))))
+      all = λ k named. ⊎_elim (λ (b : IsDue version g.found k). g.all k b) (λ (e : names_version k (mark_of pin) ≡ true). absurd (true≢false (sym (sym (ap (λ (x : ℕ). names_version k (mark_of x)) idle) ∙ e))))
           (named_cases version g.found (mark_of pin) k named);
       few = (let f = g.few in omega arith);
       rises = g.rises;
@@ -299,9 +295,9 @@ module _ {O E : Type 0} where
           count = counted;
           round = next;
           only = λ k c. ⊎_elim
-              (λ (e : k ≡ version_of pin). subst (λ (m : Mark). NamedBy version (g.found ++ m ∷ []) k) (sym is) (subst (λ (x : ℕ). NamedBy version (g.found ++ mark.Pinned x ∷ []) k) e (named_last version g.found k)))
+              (λ (e : k ≡ version_of pin). subst (λ (m : Mark). IsDue version (g.found ++ m ∷ []) k) (sym is) (subst (λ (x : ℕ). IsDue version (g.found ++ mark.Pinned x ∷ []) k) e (named_last version g.found k)))
               (λ (c' : Contains list k). named_before version g.found (mark_of pin) k (g.only k c')) (only k c);
-          all = λ k named. ⊎_elim (λ (b : NamedBy version g.found k). stay k (g.all k b))
+          all = λ k named. ⊎_elim (λ (b : IsDue version g.found k). stay k (g.all k b))
               (λ (e : names_version k (mark_of pin) ≡ true).
               let t : (version_of pin == k) ≡ true = sym (ap (names_version k) is) ∙ e in
               let same : version_of pin ≡ k = grind (arith, eqb_tells (version_of pin) k) in
@@ -313,13 +309,10 @@ module _ {O E : Type 0} where
 
   -- when all passes are marked the list is what is kept, and each of its versions but the current one is listed
   module _ (n version : ℕ) (v w : View O E) (list : List ℕ) (g : Gathered n version v w n list) where
-    pub gathered_round : Rounded v w
-    gathered_round = all_marked n v w g.found g.round g.count
-
     done : w ≡ rounded_view v g.round.turn g.found
     done = g.round.ended (let t = g.round.total in let c = g.count in omega arith)
 
-    pub gathered_kept : version ≡ length v.seen.history → AllPairs (λ k j. k.version < j.version) (kept_in v.turn) → (current : Kept) → Contains (kept_in v.turn) current → current.version ≡ version → list ≡ map (λ k. k.version) (kept_in w.turn)
+    gathered_kept : version ≡ length v.seen.history → AllPairs (λ k j. k.version < j.version) (kept_in v.turn) → (current : Kept) → Contains (kept_in v.turn) current → current.version ≡ version → list ≡ map (λ k. k.version) (kept_in w.turn)
     gathered_kept is rising current has newest =
         let kept : kept_in v.turn ≡ g.round.turn.kept = ap kept_in g.round.is_turn in
         gathered_all g.round.turn.kept g.found version (subst (AllPairs (λ k j. k.version < j.version)) kept rising) g.round.named current (subst (λ (ks : List Kept). Contains ks current) kept has) newest list g.rises g.only g.all
@@ -328,3 +321,16 @@ module _ {O E : Type 0} where
     pub gathered_named : (k : ℕ) → Contains list k → (k ≡ version) ⊎ IsNamed w k
     gathered_named k c = ⊎_elim inl (λ (e : list_any (names_version k) g.found ≡ true). let n = listed_by 0 g.found k e in
         inr (n.0, subst (λ (x : View O E). Contains x.seen.namings n.0) (sym done) (contains_later_list v.seen.namings (namings_by 0 g.found) n.0 n.1), n.2)) (g.only k c)
+
+    pub gathered_round : version ≡ length v.seen.history → AllPairs (λ k j. k.version < j.version) (kept_in v.turn) → (current : Kept) → Contains (kept_in v.turn) current → current.version ≡ version → Rounded v w list
+    gathered_round is rising current has newest = record {
+      turn = g.round.turn;
+      marks = g.found;
+      is_turn = g.round.is_turn;
+      each = g.count ∙ sym g.round.each;
+      settled = g.round.settled;
+      named = g.round.named;
+      after = done;
+      kept = gathered_kept is rising current has newest;
+      exact = λ k. ((λ c. subst (λ (m : ℕ). IsDue m g.found k) is (g.only k c)), (λ due. g.all k (subst (λ (m : ℕ). IsDue m g.found k) (sym is) due)));
+    }

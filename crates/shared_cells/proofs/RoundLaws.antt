@@ -21,7 +21,7 @@ use Rattle.shared_cells.specs.declared.view.TurnView.{TurnView}
 use Rattle.shared_cells.specs.declared.view.View.{View}
 use Rattle.shared_cells.specs.Views.{is_told, kept_in, marks_of, with_round, marked_turn, naming_by, namings_by, with_namings, marked_view, rounded_view}
 use Rattle.shared_cells.specs.Rule.{IsSoundTable}
-use Rattle.shared_cells.specs.Steps.{exchanged_by, IsOfKept, IsCurrent, Marks, Rounded, scanned, assigned}
+use Rattle.shared_cells.specs.Steps.{exchanged_by, IsOfKept, IsCurrent, Marks, scanned, assigned}
 use Rattle.shared_cells.proofs.Marks.{may_scan, may_assign}
 use Rattle.shared_cells.proofs.Turns.{nothing_more}
 use Rattle.pin_core.proofs.Lists.{and_left, and_right}
@@ -230,18 +230,6 @@ module _ {O E : Type 0} where
           going = λ l. goes_on k e;
           ended = λ z. absurd (omega arith);
         }
-
-  -- all passes are marked
-  pub all_marked : (n : ℕ) (v w : View O E) (found : List Mark) → InRound n v w found → length found ≡ n → Rounded v w
-  all_marked n v w found r all = record {
-    turn = r.turn;
-    marks = found;
-    is_turn = r.is_turn;
-    each = all ∙ sym r.each;
-    settled = r.settled;
-    named = r.named;
-    after = r.ended (let t = r.total in omega arith);
-  }
 
   -- while some are left the turn knows what it knew of the kept versions, and of its history
   pub still_kept : (n : ℕ) (v w : View O E) (found : List Mark) → InRound n v w found → length found < n → (kept_in w.turn ≡ kept_in v.turn) × (w.seen.history ≡ v.seen.history) × (w.seen.opening ≡ v.seen.opening) × (length (marks_of w.turn) ≡ n)

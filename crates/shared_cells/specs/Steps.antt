@@ -1,6 +1,6 @@
 -- What each step asks of its seat, and what it tells.
-use Rattle.std.specs.Prelude.{◌≡◌, ◌≢◌, ℕ, ◌+◌, ◌-◌, ◌*◌, ◌%◌, ◌^◌, ◌<◌, ◌≤◌, ◌==◌, if◌then◌else◌, List, length, take, slice_index, true, Option, Some, All, AllPairs, Contains}
-use Rattle.std.specs.List.{list_all}
+use Rattle.std.specs.Prelude.{◌≡◌, ◌≢◌, ◌⊎◌, ◌↔◌, ℕ, ◌+◌, ◌-◌, ◌*◌, ◌%◌, ◌^◌, ◌<◌, ◌≤◌, ◌==◌, if◌then◌else◌, List, length, take, map, slice_index, true, Option, Some, All, AllPairs, Contains}
+use Rattle.std.specs.List.{list_any, list_all}
 use Rattle.atomic_table.specs.Table.{Me, Step}
 use Rattle.pin_core.specs.declared.kept.CellAt.{CellAt}
 use Rattle.pin_core.specs.declared.kept.Kept.{Kept}
@@ -8,7 +8,7 @@ use Rattle.pin_core.specs.declared.kept.Mark.{Mark}
 use Rattle.pin_core.specs.declared.kept.Mark.TheVariants as mark
 use Rattle.pin_core.specs.Words.{Size, cell_at, word_of, pin_of, version_of}
 use Rattle.pin_core.specs.Sound.{HasRoot, AgreesWith, IsGiven}
-use Rattle.pin_core.specs.Machine.{is_settled, mark_of}
+use Rattle.pin_core.specs.Machine.{is_settled, names_version, mark_of}
 use Rattle.shared_cells.specs.declared.view.TableSize.{TableSize}
 use Rattle.shared_cells.specs.declared.view.Entry.{Entry}
 use Rattle.shared_cells.specs.declared.view.Naming.{Naming}
@@ -39,6 +39,10 @@ IsWordOf place word c = (place ≡ cell_at c.at → word ≡ c.big) × (place �
 abbrev pub IsOfKept : List Kept → Mark → Type 0
 IsOfKept kept (mark.Pinned version) = (k : Kept) × Contains kept k × (k.version ≡ version)
 IsOfKept kept _ = Unit {0}
+
+-- the version is the current one, or some mark names it
+abbrev pub IsDue : ℕ → List Mark → ℕ → Type 0
+IsDue current marks version = (version ≡ current) ⊎ (list_any (names_version version) marks ≡ true)
 
 -- Cells that a version can be kept with.
 pub record IsImage (z : Size) (words : List ℕ) (root : Option ℕ) (image : List CellAt) : Type 0 where
@@ -174,8 +178,8 @@ module _ {O E : Type 0} where
   abbrev pub IsNamed : View O E → ℕ → Type 0
   IsNamed v version = (n : Naming) × Contains v.seen.namings n × (n.version ≡ version)
 
-  -- A round of the turn: these marks were found, each idle or pinned.
-  pub record Rounded (v w : View O E) : Type 0 where
+  -- A round of the turn, that leaves these versions: these marks were found, each idle or pinned.
+  pub record Rounded (v w : View O E) (versions : List ℕ) : Type 0 where
     pub turn : TurnView
     pub marks : List Mark
     pub is_turn : v.turn ≡ Some turn
@@ -186,6 +190,9 @@ module _ {O E : Type 0} where
     pub named : All (IsOfKept turn.kept) marks
     -- kept are the current version and those that the marks name, and what they name is listed
     pub after : w ≡ rounded_view v turn marks
+    pub kept : versions ≡ map (λ k. k.version) (kept_in w.turn)
+    -- so exactly these
+    pub exact : (k : ℕ) → Contains versions k ↔ IsDue (length v.seen.history) marks k
 
 module _ {O E : Type 0} (applied : O → E → O) (lawful : O → O → Type 0) (stands : List CellAt → Option ℕ → O → Type 0) where
   -- What pinning tells. The pass is pinned at a kept version, and has seen the history up to it and no further; so that is

@@ -71,8 +71,7 @@ impl<O, E> TurnSeat<O, E> {
         requires { self.old.place.table_id ≡ shared.now.table.shared.table_id }
         ensures table { self.new.place.table_id ≡ self.old.place.table_id }
         ensures numbers { (self.new.version ≡ self.old.version) × (self.new.passes ≡ self.old.passes) }
-        ensures rounded { Rounded self.old.place.me.0 self.new.place.me.0 }
-        ensures kept { result ≡ map (λ k. k.version) (kept_in self.new.place.me.0.turn) }
+        ensures rounded { Rounded self.old.place.me.0 self.new.place.me.0 result }
         ensures few { length result ≤ self.old.passes + 1 }
         ensures named { (v : ℕ) → Contains result v → (v ≡ self.old.version) ⊎ IsNamed self.new.place.me.0 v }
     {
@@ -89,8 +88,7 @@ impl<O, E> JoinedSeat<O, E> {
         requires { self.old.place.table_id ≡ shared.now.table.shared.table_id }
         ensures table { self.new.place.table_id ≡ self.old.place.table_id }
         ensures numbers { (self.new.version ≡ self.old.version) × (self.new.passes ≡ self.old.passes) × (self.new.number ≡ self.old.number) }
-        ensures rounded { Rounded self.old.place.me.0 self.new.place.me.0 }
-        ensures kept { result ≡ map (λ k. k.version) (kept_in self.new.place.me.0.turn) }
+        ensures rounded { Rounded self.old.place.me.0 self.new.place.me.0 result }
         ensures few { length result ≤ self.old.passes + 1 }
         ensures named { (v : ℕ) → Contains result v → (v ≡ self.old.version) ⊎ IsNamed self.new.place.me.0 v }
     {
@@ -114,8 +112,7 @@ fn make_round<O, E, L: Law<O, E>>(
     requires blank { marks_of place.old.me.0.turn ≡ replicate passes mark.Blank }
     requires version { version ≡ length place.old.me.0.seen.history }
     ensures table { (place.new.table_id ≡ place.old.table_id) × (place.new.me.1 ≡ place.old.me.1) }
-    ensures rounded { Rounded place.old.me.0 place.new.me.0 }
-    ensures kept { result ≡ map (λ k. k.version) (kept_in place.new.me.0.turn) }
+    ensures rounded { Rounded place.old.me.0 place.new.me.0 result }
     ensures few { length result ≤ passes + 1 }
     ensures named { (v : ℕ) → Contains result v → (v ≡ version) ⊎ IsNamed place.new.me.0 v }
 {

@@ -5,10 +5,11 @@ use Rattle.pin_core.specs.declared.kept.Kept.{Kept}
 use Rattle.shared_cells.specs.declared.view.TurnView.{TurnView}
 use Rattle.shared_cells.specs.declared.view.View.{View}
 use Rattle.shared_cells.specs.Views.{kept_in, marks_of}
+use Rattle.shared_cells.specs.Steps.{Rounded}
 use Rattle.shared_cells.proofs.Images.{some_word}
 use Rattle.shared_cells.proofs.Looking.{may_look}
 use Rattle.shared_cells.proofs.RoundLaws.{still_kept}
-use Rattle.shared_cells.proofs.KeptLaws.{Gathered, gathers_first, gathers_idle, gathers_pinned, gathered_kept, gathered_named}
+use Rattle.shared_cells.proofs.KeptLaws.{Gathered, gathers_first, gathers_idle, gathers_pinned, gathered_round, gathered_named}
 use Rattle.shared_cells.proofs.round.make_round.Goals as goal
 use Rattle.shared_cells.proofs.round.make_round.Goals.{then-pin-ne-IDLE, else-pin-ne-IDLE}
 
@@ -57,8 +58,8 @@ loop-pass-preserved g c =
         ] in
     record { table = marked.table.0 ∙ r.table; slots = marked.table.1 ∙ r.slots; gathered = gathered }
 
-pub returns-clause-kept : goal.returns-clause-kept
-returns-clause-kept g c =
+pub returns-clause-rounded : goal.returns-clause-rounded
+returns-clause-rounded g c =
     let n = c.args.passes in
     let look = c.load-word.ensures.2 in
     let v = c.load-word.new.seat.me.0 in
@@ -68,8 +69,9 @@ returns-clause-kept g c =
     let known = look.1.2.current in
     let kept = ap (λ (m : Me (Unit {0}) (View g.row.O.Denot g.row.E.Denot)). kept_in m.0.turn) look.0 ∙ ap kept_in look.1.1 in
     let history = ap (λ (m : Me (Unit {0}) (View g.row.O.Denot g.row.E.Denot)). length m.0.seen.history) look.0 in
-    gathered_kept n c.args.version v w c.loop-pass.kept done (c.requires.version ∙ sym history) (subst (AllPairs (λ k j. k.version < j.version)) (sym kept) look.1.2.rising)
-    known.0 (subst (λ (ks : List Kept). Contains ks known.0) (sym kept) known.1) (known.2 ∙ sym c.requires.version)
+    subst (λ (x : View g.row.O.Denot g.row.E.Denot). Rounded x w c.loop-pass.kept) (ap (λ (m : Me (Unit {0}) (View g.row.O.Denot g.row.E.Denot)). m.0) look.0)
+    (gathered_round n c.args.version v w c.loop-pass.kept done (c.requires.version ∙ sym history) (subst (AllPairs (λ k j. k.version < j.version)) (sym kept) look.1.2.rising)
+    known.0 (subst (λ (ks : List Kept). Contains ks known.0) (sym kept) known.1) (known.2 ∙ sym c.requires.version))
 
 pub returns-clause-named : goal.returns-clause-named
 returns-clause-named g c =
