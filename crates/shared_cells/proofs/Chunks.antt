@@ -204,3 +204,11 @@ module _ {O E : Type 0} (chunks : ℕ) (m m1 : Me (Unit {0}) (View O E)) (cells 
       → cells_of chunks m2.0.turn ≡ record cells { words = set (set cells.words (cell_at at) c.big) (cell_at at + 1) c.small }
   twice_stored m2 at c e1 e2 = ap (λ (y : Me (Unit {0}) (View O E)). cells_of chunks y.0.turn) (e2 ∙ ap (λ (y : Me (Unit {0}) (View O E)). let z : Me (Unit {0}) (View O E) = (stored_view y.0 (cell_at at + 1) c.small, y.1) in z) e1)
       ∙ cell_stored chunks m.0.turn cells is at c
+
+-- what is given, and which cells there are, hangs on chunks and words alone
+
+pub given_by_words : (a b : Cells) (kept : List Kept) → a ≡ record b { kept = kept } → given_chunks a ≡ given_chunks b
+given_by_words a b kept is = ap given_chunks is
+
+pub has_by_words : (a b : Cells) (kept : List Kept) → a ≡ record b { kept = kept } → (at : ℕ) (c : Cell) → HasCell b at c → HasCell a at c
+has_by_words a b kept is at c has = subst (λ (x : Cells). HasCell x at c) (sym is) (record { given = has.given; big = has.big; small = has.small })

@@ -53,6 +53,7 @@ module _ {O E : Type 0} (applied : O → E → O) (lawful : O → O → Type 0) 
       authors = r.authors;
       current = r.sound.current;
       fits = current_fits (core_size size) s.words r.facts.stages r.facts.seen (turn_of (length r.facts.all.history) r.facts.turn.kept r.facts.turn.marks) r.sound;
+      newest = r.sound.newest;
       rising = r.sound.rising;
       namers = subst (λ (k : ℕ). All (λ (n : Naming). n.pass < k) r.facts.all.namings) (sym r.sound.marked) r.namers;
       versions = λ o is. (versions_all o is).0;

@@ -96,7 +96,8 @@ module _ {O E : Type 0} (applied : O → E → O) (lawful : O → O → Type 0) 
     pub current : (k : Kept) × Contains turn.kept k × (k.version ≡ length v.seen.history) × (word ≡ word_of k)
     -- and whose word a pin can be made of
     pub fits : word + 2 < 2 ^ 64
-    -- the kept versions rise
+    -- the kept versions are of the history, and rise
+    pub newest : All (λ k. k.version ≤ length v.seen.history) turn.kept
     pub rising : AllPairs (λ k j. k.version < j.version) turn.kept
     -- each naming is of a pass that there is
     pub namers : All (λ n. n.pass < length turn.marks) v.seen.namings

@@ -193,6 +193,7 @@ impl<O, E, L: Law<O, E>, B: Lent<O, E>> TurnCells<'_, O, E, L, B> {
         ensures table { result.place.table_id ≡ B.table }
         ensures size { 4161 + 2048 * self.entry.chunks ≡ B.table.words }
         ensures seat { result.place.me.0 ≡ with_words B.view self.entry.words }
+        ensures cells { cells_of self.entry.chunks result.place.me.0.turn ≡ record self.entry { kept = kept_in B.view.turn } }
     {
         let TurnCells {
             shared: _,
@@ -211,6 +212,7 @@ impl<O, E, L: Law<O, E>, B: Lent<O, E>> TurnCells<'_, O, E, L, B> {
         ensures table { result.place.table_id ≡ B.table }
         ensures size { 4161 + 2048 * self.entry.chunks ≡ B.table.words }
         ensures seat { result.place.me.0 ≡ with_words B.view self.entry.words }
+        ensures cells { cells_of self.entry.chunks result.place.me.0.turn ≡ record self.entry { kept = kept_in B.view.turn } }
     {
         let TurnCells {
             shared: _,
@@ -233,6 +235,7 @@ impl<O, E, L: Law<O, E>, B: Lent<O, E>> TurnCells<'_, O, E, L, B> {
         ensures table { result.place.table_id ≡ B.table }
         ensures size { 4161 + 2048 * self.entry.chunks ≡ B.table.words }
         ensures seat { result.place.me.0 ≡ with_words B.view self.entry.words }
+        ensures cells { cells_of self.entry.chunks result.place.me.0.turn ≡ record self.entry { kept = kept_in B.view.turn } }
     {
         let TurnCells {
             shared: _,

@@ -13,6 +13,7 @@ mod pinned;
 mod plays;
 mod round;
 mod shared;
+mod stress;
 #[cfg(test)]
 mod tests;
 mod turn;
