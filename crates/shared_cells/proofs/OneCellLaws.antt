@@ -1,7 +1,8 @@
 -- Versions of one cell, for the tests.
 use Rattle.std.proofs.Common.{◌≡◌, ◌≢◌, ◌⊎◌, inl, inr, ⊎_elim, ℕ, ◌+◌, ◌*◌, ◌/◌, ◌%◌, ◌<◌, ◌≤◌, eqb, List, [], ◌∷◌, ◌++◌, length, take, get_or, set, map, Bool, true, false, true≢false, refl, sym, ap, ◌∙◌, subst, arith, eq-eqb, length-set, get_or-set_same}
-use Rattle.std.specs.Prelude.{slice_get, ◌==◌, Option, Some}
+use Rattle.std.specs.Prelude.{slice_get, ◌==◌, Option, Some, None}
 use Rattle.std.specs.List.{All, Contains, flat_map, fold, list_any}
+use Rattle.std.proofs.lemmas.List.Elements.{All-cons, All-nil}
 use Rattle.std.proofs.lemmas.List.{length-take}
 use Rattle.std.proofs.lemmas.List.Elements.{All-contains}
 use Rattle.std.proofs.lemmas.Option.{slice_get-get_or}
@@ -12,12 +13,14 @@ use Rattle.std.specs.Bool.{OnTrue}
 use Rattle.packed_node.specs.declared.Cell.{Cell}
 use Rattle.pin_core.specs.declared.kept.Kept.{Kept}
 use Rattle.shared_cells.specs.declared.view.Entry.{Entry}
+use Rattle.shared_cells.specs.declared.view.Progress.{Progress}
 use Rattle.shared_cells.specs.declared.view.TurnView.{TurnView}
 use Rattle.shared_cells.specs.declared.view.View.{View}
-use Rattle.shared_cells.specs.Steps.{Confirmed}
-use Rattle.shared_cells.specs.Cells.{Cells, cells_of, given_chunks, kept_references, HasCell}
-use Rattle.shared_cells.specs.OneCell.{place_of, IsVersion, AreOf}
-use Rattle.shared_cells.proofs.Chunks.{given_by_words, has_by_words, contains_map}
+use Rattle.shared_cells.specs.Views.{pinned_image, pinned_root, kept_in}
+use Rattle.shared_cells.specs.Steps.{Confirmed, IsImage, Pins, Rounded}
+use Rattle.shared_cells.specs.Cells.{Cells, cells_of, given_chunks, kept_references, HasCell, HasAt}
+use Rattle.shared_cells.specs.OneCell.{place_of, cell_of, IsVersion, AreOf}
+use Rattle.shared_cells.proofs.Chunks.{given_by_words, has_by_words, contains_map, cells_are_image}
 
 -- no reference is in a chunk that none of the versions is in
 pub not_in_use : (versions references : List ℕ) (chunk : ℕ) → list_any (λ v. v % 6 == chunk) versions ≡ false → AreOf versions references → (q : ℕ) → Contains references q → q / 1024 ≡ chunk → ⊥
@@ -76,3 +79,29 @@ kept_are_of cells versions same all q c =
     let one : Contains (place_of k.version ∷ []) q = subst (λ (image : List CellAt). Contains (map (λ (x : CellAt). x.at) image) q) is.0 f.2 in
     let at : place_of k.version ≡ q = ⊎_elim (λ (e : place_of k.version ≡ q). e) (λ (none : Contains [] q). absurd (let l = none.1 in omega arith)) (contains_cases (place_of k.version) q [] one) in
     (k.version, subst (λ (vs : List ℕ). Contains vs k.version) same (contains_map (λ (j : Kept). j.version) cells.kept k f.1), (let e = at in omega arith))
+
+-- one written cell is an image
+pub one_image : (passes chunks : ℕ) (t : Option TurnView) (turn : TurnView) (n : ℕ) (b : Bool) → t ≡ Some turn → b ≡ true → OnTrue b (HasCell (cells_of chunks t) (place_of n) (record { big = n; small = n })) → IsImage (record { passes = passes; chunks = chunks }) turn.words (Some (place_of n)) (cell_of n ∷ [])
+one_image passes chunks t turn n b is done has =
+    let cells = cells_of chunks (Some turn) in
+    let there = subst (λ (o : Option TurnView). HasCell (cells_of chunks o) (place_of n) (record { big = n; small = n })) is (subst (λ (x : Bool). OnTrue x (HasCell (cells_of chunks t) (place_of n) (record { big = n; small = n }))) done has) in
+    cells_are_image passes cells (Some (place_of n)) (cell_of n ∷ []) (cell_of n, (0, omega arith, refl), refl) (λ i j d l within. absurd (omega arith)) (All-cons (HasAt cells) (cell_of n) [] there (All-nil (HasAt cells)))
+
+-- what a pass has pinned, which knows that version 0 is 0
+pub pinned_is : (lawful : ℕ → ℕ → Type 0) (v w : View ℕ ℕ) → Pins (λ n change. n + 1) lawful IsVersion v w → v.seen.opening ≡ Some 0 → IsVersion (pinned_image w.progress) (pinned_root w.progress) (length w.seen.history)
+pinned_is lawful v w told open_at =
+    let number : 0 + length w.seen.history ≡ length w.seen.history = omega arith in
+    let stood = told.stood 0 (ap (λ (x : View ℕ ℕ). x.seen.opening) told.view ∙ open_at) in
+    subst (λ (p : Progress). IsVersion (pinned_image p) (pinned_root p) (length w.seen.history)) (sym (ap (λ (x : View ℕ ℕ). x.progress) told.view))
+    (subst (IsVersion told.kept.image told.kept.root) (counted 0 w.seen.history ∙ number) stood)
+
+abbrev or_zero : Option ℕ → ℕ
+or_zero None = 0
+or_zero (Some n) = n
+
+-- a version's image has its cell where its root is
+pub one_cell : (image : List CellAt) (root : Option ℕ) (n at : ℕ) → IsVersion image root n → root ≡ Some at → Contains image (record { at = at; big = n; small = n })
+one_cell image root n at is e =
+    let same : place_of n ≡ at = ap or_zero (sym is.1 ∙ e) in
+    let cell : cell_of n ≡ record { at = at; big = n; small = n } = ap (λ (q : ℕ). record { at = q; big = n; small = n }) same in
+    subst (λ (xs : List CellAt). Contains xs (record { at = at; big = n; small = n })) (sym is.0) (0, omega arith, cell)

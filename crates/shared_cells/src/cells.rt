@@ -10,6 +10,7 @@ use pin_core::Half;
 use pin_core::words::place_of_half;
 
 /// The cells of the version that a pass has pinned.
+#[derive(Drop)]
 pub struct PinnedCells<'a, O, E, L: Law<O, E>> {
     shared: &'a Shared<O, E, L>,
     seat: &'a mut PinnedSeat<O, E>,

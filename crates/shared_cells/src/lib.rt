@@ -13,6 +13,7 @@ mod pinned;
 mod plays;
 mod round;
 mod shared;
+#[cfg(test)]
 mod stress;
 #[cfg(test)]
 mod tests;

@@ -14,7 +14,7 @@ use Rattle.shared_cells.specs.Steps.{IsImage}
 use Rattle.shared_cells.specs.OneCell.{place_of, cell_of, IsVersion}
 use Rattle.shared_cells.proofs.Chunks.{cells_are_image}
 use Rattle.shared_cells.proofs.Seats.{turn_there, pass_there}
-use Rattle.shared_cells.proofs.OneCellLaws.{all_counted, kept_are_of, counted}
+use Rattle.shared_cells.proofs.OneCellLaws.{all_counted, kept_are_of, counted, one_image}
 use Rattle.shared_cells.proofs.stress.transact.Goals as goal
 
 pub write_next-turn-requires-clause-kept : goal.write_next-turn-requires-clause-kept
@@ -28,13 +28,6 @@ write_next-turn-requires-clause-kept c =
     let kept : kept_in c.look-next.new.self.place.me.0.turn ≡ look.confirmed.0.kept = ap (λ (x : View ℕ ℕ). kept_in x.turn) look.same.0 ∙ ap kept_in look.confirmed.1 in
     let versions = ap (λ (x : View ℕ ℕ). map (λ (k : Kept). k.version) (kept_in x.turn)) (look.same.0 ∙ joined) ∙ c.requires.told.kept ∙ sym c.as_slice.ensures.versions in
     kept_are_of (cells_of n c.look-next.new.self.place.me.0.turn) c.as_slice.result.now versions (subst (All (λ k. IsVersion k.image k.root k.version)) (sym kept) all)
-
--- one written cell is an image
-one_image : (passes chunks : ℕ) (t : Option TurnView) (turn : TurnView) (n : ℕ) (b : Bool) → t ≡ Some turn → b ≡ true → OnTrue b (HasCell (cells_of chunks t) (place_of n) (record { big = n; small = n })) → IsImage (record { passes = passes; chunks = chunks }) turn.words (Some (place_of n)) (cell_of n ∷ [])
-one_image passes chunks t turn n b is done has =
-    let cells = cells_of chunks (Some turn) in
-    let there = subst (λ (o : Option TurnView). HasCell (cells_of chunks o) (place_of n) (record { big = n; small = n })) is (subst (λ (x : Bool). OnTrue x (HasCell (cells_of chunks t) (place_of n) (record { big = n; small = n }))) done has) in
-    cells_are_image passes cells (Some (place_of n)) (cell_of n ∷ []) (cell_of n, (0, omega arith, refl), refl) (λ i j d l within. absurd (omega arith)) (All-cons (HasAt cells) (cell_of n) [] there (All-nil (HasAt cells)))
 
 pub publish-requires-clause-can : goal.publish-requires-clause-can
 publish-requires-clause-can c =
