@@ -210,6 +210,10 @@ module _ (z : Size) (words : List ℕ) (stages : List Stage) (seens : List ℕ) 
       Sound z (set words (pin_at p) x) (set stages p (stage.Pinned (version_of x))) (set seens p (version_of x)) t
   settles p word l is = pins_at p (exchanged (pin p) word) l (settles_on p word l is (eqb (pin p) 1) refl) (mark_settles p word l is (eqb (pin p) 1) refl (version_of (exchanged (pin p) word)))
 
+  -- the pin that a settle leaves names a kept version, not older than what its pass had seen
+  pub settled_names : (p word : ℕ) → p < z.passes → stage_at stages p ≡ stage.Looked word → Names t.kept (get_or seens p 0) (exchanged (get_or words (pin_at p) 0) word)
+  settled_names p word l is = settles_on p word l is (eqb (pin p) 1) refl
+
   -- the pin that a settle leaves is a pin, and fits its word
   pub settled_fits : (p word : ℕ) → p < z.passes → stage_at stages p ≡ stage.Looked word → let x : ℕ = exchanged (get_or words (pin_at p) 0) word in (2 ≤ x) × (x < 18446744073709551616)
   settled_fits p word l is = named_fits (seen p) (exchanged (pin p) word) (settles_on p word l is (eqb (pin p) 1) refl)

@@ -39,10 +39,10 @@ pub const ENTERING: u64 = 1;
 pub const PIN_OFFSET: u64 = 2;
 
 /// How many root numbers there are for each version in the words of CUR.
-const ROOTS: u64 = 0x100_0000;
+pub const ROOTS: u64 = 0x100_0000;
 
 /// What stands for the root of an empty version.
-const NO_ROOT: u64 = 0xff_fffd;
+pub const NO_ROOT: u64 = 0xff_fffd;
 
 /// What CUR says of this version and this root.
 pub fn word_of_version(version: u64, root: Option<u32>) -> u64

@@ -1,11 +1,13 @@
 -- Images, and the numbers of their roots.
-use Rattle.std.proofs.Common.{◌≡◌, ℕ, ◌+◌, ◌*◌, ◌%◌, ◌<◌, ◌≤◌, List, [], ◌∷◌, get_or, Bool, cond, refl, ap, ◌∙◌, arith, Option, Some, None, eq-eqb, ne_eqb}
+use Rattle.std.proofs.Common.{◌≡◌, ℕ, ◌+◌, ◌-◌, ◌*◌, ◌/◌, ◌%◌, ◌<◌, ◌≤◌, List, [], ◌∷◌, get_or, Bool, cond, refl, ap, ◌∙◌, arith, Option, Some, None, eq-eqb, ne_eqb}
 use Rattle.std.specs.List.{All}
 use Rattle.std.proofs.lemmas.List.Elements.{All-cons, All-nil, All-head, All-contains}
 use Rattle.std.proofs.lemmas.Nat.{mod-mul-add}
 use Rattle.pin_core.specs.declared.kept.CellAt.{CellAt}
 use Rattle.pin_core.specs.declared.kept.Kept.{Kept}
-use Rattle.pin_core.specs.Words.{Size, root_number, current_word}
+use Rattle.pin_core.specs.Words.{Size, pin_at, status_at, half_at, root_number, current_word, pin_of}
+use Rattle.pin_core.specs.declared.event.Half.{Half}
+use Rattle.pin_core.specs.declared.event.Half.TheVariants.{Big, Small}
 use Rattle.pin_core.specs.Sound.{HasRoot, AgreesWith, IsGiven}
 use Rattle.pin_core.proofs.Pins.{images_stay, chunks_stay, root_fits}
 use Rattle.shared_cells.specs.Views.{root_of, kept_of}
@@ -41,6 +43,25 @@ pub root_of_word : (z : Size) (words : List ℕ) (version : ℕ) (root : Option 
 root_of_word z words version root image small fits =
     ap root_of (mod-mul-add version 16777216 (root_number root) (root_small z words root image small fits)) ∙ root_back z words root image small fits.rooted fits.given
 
+-- and so from a pin
+pub root_of_kept : (z : Size) (words : List ℕ) (k : Kept) → z.chunks ≤ 4096 → HasRoot k.root k.image → All (IsGiven z words) k.image → (pin : ℕ) → pin ≡ pin_of k → root_of ((pin - 2) % 16777216) ≡ k.root
+root_of_kept z words k small has given pin is =
+    let l = root_fits z words k.root k.image small has given in
+    let word : pin - 2 ≡ k.version * 16777216 + root_number k.root = omega arith in
+    ap (λ (n : ℕ). root_of (n % 16777216)) word ∙ ap root_of (mod-mul-add k.version 16777216 (root_number k.root) (omega arith)) ∙ root_back z words k.root k.image small has given
+
 -- a table that is as wide as its chunks say has a word
 pub some_word : (words chunks : ℕ) → 4161 + 2048 * chunks ≡ words → 0 < words
 some_word words chunks wide = omega arith
+
+-- and one for each pin
+pub pin_word : (words chunks pass : ℕ) → 4161 + 2048 * chunks ≡ words → pass < 64 → pin_at pass < words
+pin_word words chunks pass wide few = omega arith
+
+-- and for each status and cell
+pub status_word : (words chunks chunk : ℕ) → 4161 + 2048 * chunks ≡ words → chunks ≤ 4096 → chunk < chunks → status_at chunk < words
+status_word words chunks chunk wide few small = omega arith
+
+pub half_word : (words chunks at i : ℕ) (half : Half) → i ≡ half_at at half → 4161 + 2048 * chunks ≡ words → at / 1024 < chunks → i < words
+half_word words chunks at i Big is wide small = omega arith
+half_word words chunks at i Small is wide small = omega arith

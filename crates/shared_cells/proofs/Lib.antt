@@ -6,3 +6,10 @@ pub mod Images
 pub mod Openings
 pub mod Publishing
 pub mod Looking
+pub mod Passes
+pub mod Turns
+pub mod Marks
+pub mod Chunks
+pub mod RoundLaws
+pub mod KeptLaws
+pub mod OneCellLaws

@@ -68,6 +68,9 @@ module _ {A : Type 0} where
   pub begins_longer : (xs part : List A) (x : A) → StartsWith xs part → StartsWith (xs ++ x ∷ []) part
   begins_longer xs part x s = (s.0 ++ x ∷ [], ap (λ (l : List A). l ++ x ∷ []) s.1 ∙ append_assoc part s.0 (x ∷ []))
 
+  pub begins_more : (xs part more : List A) → StartsWith xs part → StartsWith (xs ++ more) part
+  begins_more xs part more s = (s.0 ++ more, ap (λ (l : List A). l ++ more) s.1 ∙ append_assoc part s.0 more)
+
   pub begins_length : (all part : List A) → StartsWith all part → length part ≤ length all
   begins_length all part s = let e = ap length s.1 in omega (arith, length-append part s.0)
 

@@ -1,6 +1,6 @@
 -- A look by the seat that has the turn keeps the rule, and tells what the rule knows of it.
-use Rattle.std.proofs.Common.{◌≡◌, ⊎_elim, ℕ, ◌≤◌, List, get_or, true, refl, sym, ap, ◌∙◌, subst, arith, Option, Some}
-use Rattle.std.specs.List.{Contains}
+use Rattle.std.proofs.Common.{◌≡◌, ⊎_elim, ℕ, ◌<◌, ◌≤◌, List, length, get_or, true, refl, sym, ap, ◌∙◌, subst, arith, Option, Some}
+use Rattle.std.specs.List.{All, Contains}
 use Rattle.std.proofs.lemmas.List.{set-get_or}
 use Rattle.std.proofs.lemmas.List.Elements.{All-weaker}
 use mathlib.Core.Option.{some, none}
@@ -9,14 +9,15 @@ use Rattle.atomic_table.specs.Table.{State, Me, Allows, step, keeps}
 use Rattle.atomic_table.proofs.Lists.{set_again}
 use Rattle.pin_core.specs.declared.kept.CellAt.{CellAt}
 use Rattle.pin_core.specs.Words.{pin_at, version_of}
-use Rattle.pin_core.specs.Sound.{PinFits}
+use Rattle.pin_core.specs.Sound.{turn_of, PinFits}
+use Rattle.pin_core.proofs.Pins.{current_fits}
 use Rattle.shared_cells.specs.declared.view.TableSize.{TableSize}
 use Rattle.shared_cells.specs.declared.view.Naming.{Naming}
 use Rattle.shared_cells.specs.declared.view.Seen.{Seen}
 use Rattle.shared_cells.specs.declared.view.PassView.{PassView}
 use Rattle.shared_cells.specs.declared.view.TurnView.{TurnView}
 use Rattle.shared_cells.specs.declared.view.View.{View}
-use Rattle.shared_cells.specs.Views.{has_turn}
+use Rattle.shared_cells.specs.Views.{core_size, has_turn}
 use Rattle.shared_cells.specs.Rule.{stage_of, NamingFits, HasAll, VersionsFit, IsSoundTable}
 use Rattle.shared_cells.specs.Steps.{Confirmed, looked}
 use Rattle.shared_cells.proofs.Knowing.{the_turn, the_pass}
@@ -51,6 +52,10 @@ module _ {O E : Type 0} (applied : O → E → O) (lawful : O → O → Type 0) 
       namings = λ own is. All-weaker (NamingFits s.words r.facts.pinned) (λ (n : Naming). n.pass ≡ own.number → Contains own.pinned n.version) (naming_pinned own is) r.facts.all.namings r.namings;
       authors = r.authors;
       current = r.sound.current;
+      fits = current_fits (core_size size) s.words r.facts.stages r.facts.seen (turn_of (length r.facts.all.history) r.facts.turn.kept r.facts.turn.marks) r.sound;
+      newest = r.sound.newest;
+      rising = r.sound.rising;
+      namers = subst (λ (k : ℕ). All (λ (n : Naming). n.pass < k) r.facts.all.namings) (sym r.sound.marked) r.namers;
       versions = λ o is. (versions_all o is).0;
       images = λ o is. (versions_all o is).1;
     })

@@ -100,13 +100,14 @@ module _ {O E : Type 0} (applied : O → E → O) (lawful : O → O → Type 0) 
       seen_length = own_was.seen_length;
       stage_is = own_was.stage_is;
       kept = idle_fits (kept_of 0 root image ∷ []) own.pinned p (sym own_was.stage_is ∙ before.1 own.number (let l = own_was.made in let m = r.made in omega arith));
+      told = own_was.told;
       chunks = own_was.chunks;
     }
 
     pass_fits : (p : Option (PassView E)) → PassFits size r.facts id v.seen v.progress p → PassFits size open_facts id (record v.seen { opening = Some o }) v.progress p
     pass_fits None was = was
     pass_fits (Some own) was = let now = own_fits id v.seen v.progress own was in
-        record { made = now.made; at = now.at; entries = now.entries; pinned = now.pinned; seen_length = now.seen_length; stage_is = now.stage_is; kept = now.kept; chunks = now.chunks }
+        record { made = now.made; at = now.at; entries = now.entries; pinned = now.pinned; seen_length = now.seen_length; stage_is = now.stage_is; kept = now.kept; told = tt; chunks = now.chunks }
 
     -- what was seen before the opening is nothing
     part_fits : (part : Seen O E) (x : Option O) → OpeningFits r.facts.all.opening x part → OpeningFits (Some o) x part
@@ -152,6 +153,8 @@ module _ {O E : Type 0} (applied : O → E → O) (lawful : O → O → Type 0) 
           (λ j u other e. knows_else size r.facts open_facts j u (λ same. other (same ∙ sym h.writer)) longer (own_fits j u.seen u.progress) (r.seats j u e));
       versions = versions_now;
       namings = subst (λ (all : Seen O E). All (NamingFits (set s.words 0 (current_word 0 root)) r.facts.pinned) all.namings) (sym before.0) (All-nil (NamingFits (set s.words 0 (current_word 0 root)) r.facts.pinned));
+      namers = r.namers;
+      copied = r.copied ∙ sym (length-set s.words 0 (current_word 0 root));
       mirror = λ i l. get_or-set_other s.words 0 i (current_word 0 root) 0 (λ e. omega arith) ∙ r.mirror i l;
     }
 

@@ -1,5 +1,5 @@
 -- The step that publishes keeps the rule.
-use Rattle.std.proofs.Common.{◌≡◌, ◌≢◌, ◌⊎◌, ℕ, ◌+◌, ◌%◌, ◌<◌, ◌≤◌, max, List, [], ◌∷◌, ◌++◌, length, take, get_or, set, replicate, Bool, cond, refl, sym, ap, ◌∙◌, subst, arith, Option, Some, length-append, get_or-set_same, get_or-set_other, eq-eqb, ne_eqb}
+use Rattle.std.proofs.Common.{◌≡◌, ◌≢◌, ◌⊎◌, ℕ, ◌+◌, ◌%◌, ◌<◌, ◌≤◌, max, List, [], ◌∷◌, ◌++◌, length, take, get_or, set, replicate, Bool, cond, refl, sym, ap, ◌∙◌, subst, arith, Option, Some, length-set, length-append, get_or-set_same, get_or-set_other, eq-eqb, ne_eqb}
 use Rattle.std.specs.Prelude.{◌==◌}
 use Rattle.std.specs.List.{All, Contains}
 use Rattle.std.proofs.lemmas.List.{append-nil, take-append-le, take_all}
@@ -75,6 +75,7 @@ module _ {O E : Type 0} (applied : O → E → O) (lawful : O → O → Type 0) 
       seen_length = get_or-set_other f.seen p own.number (length f.all.history + 1) 0 apart ∙ fits.seen_length;
       stage_is = fits.stage_is;
       kept = kept_grows own.pinned g fits.kept;
+      told = fits.told;
       chunks = fits.chunks;
     }
       where
@@ -165,6 +166,7 @@ module _ {O E : Type 0} (applied : O → E → O) (lawful : O → O → Type 0) 
       seen_length = get_or-set_same r.facts.seen c.own.number (length r.facts.all.history + 1) 0 within.1 ∙ sym (length-append v.seen.history (entry ∷ []) ∙ next);
       stage_is = mine.stage_is;
       kept = subst (ProgressFits (r.facts.turn.kept ++ new ∷ []) c.own.pinned) (sym h.idle) tt;
+      told = mine.told;
       chunks = mine.chunks;
     }
 
@@ -191,6 +193,8 @@ module _ {O E : Type 0} (applied : O → E → O) (lawful : O → O → Type 0) 
           (subst (λ (x : Seen O E). lawful c.opening (version_after applied c.opening (with_entry x entry).history)) h.seen_is c.good)
           (subst (λ (x : Seen O E). stands image root (version_after applied c.opening (with_entry x entry).history)) h.seen_is c.stood) r.versions;
       namings = namings_stay s.words word r.facts.pinned r.facts.all.namings r.namings;
+      namers = r.namers;
+      copied = r.copied ∙ sym (length-set s.words 0 word);
       mirror = λ i l. get_or-set_other s.words 0 i word 0 (λ e. omega arith) ∙ r.mirror i l;
     }
 

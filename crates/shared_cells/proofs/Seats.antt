@@ -18,7 +18,7 @@ use Rattle.shared_cells.specs.declared.view.TurnView.{TurnView}
 use Rattle.shared_cells.specs.declared.view.View.{View}
 use Rattle.shared_cells.specs.History.{nothing_seen, longer_seen}
 use Rattle.shared_cells.specs.Views.{core_size, number_of, has_turn, is_told, is_idle, note_of, pass_of, without_pass, with_pass, with_note, spent_view, learnt_view}
-use Rattle.shared_cells.specs.Rule.{Facts, stage_of, ProgressFits, OwnFits, PassFits, TurnFits, Knows, IsSoundTable}
+use Rattle.shared_cells.specs.Rule.{Facts, stage_of, ProgressFits, IdleUnlessTold, OwnFits, PassFits, TurnFits, Knows, IsSoundTable}
 use Rattle.shared_cells.specs.Steps.{learnt}
 use Rattle.shared_cells.proofs.Lists.{nothing_begins, put, put_here, put_else, seats_stay, seats_grow, longer_part, begins_length}
 use Rattle.shared_cells.proofs.Knowing.{knows_still, view_fits, the_turn, the_pass, versions_still}
@@ -45,6 +45,11 @@ pub no_pass : {E : Type 0} (p : Option (PassView E)) → number_of p ≡ 0 → p
 no_pass None e = refl
 no_pass (Some own) e = absurd (omega arith)
 
+-- an idle pass may know of the opening or not
+pub idle_fits_told : {O : Type 0} (o : Option O) (p : Progress) → p ≡ progress.Idle → IdleUnlessTold o p
+idle_fits_told None p idle = idle
+idle_fits_told (Some opening) p idle = tt
+
 pub told_there : {O : Type 0} (o : Option O) → is_told o ≡ true → (opening : O) × (o ≡ Some opening)
 told_there None e = absurd (true≢false (sym e))
 told_there (Some opening) e = (opening, refl)
@@ -62,6 +67,8 @@ module _ {O E : Type 0} (applied : O → E → O) (lawful : O → O → Type 0) 
     seats = seats_grow (Knows size r.facts) s.views id v (note_of v) k (view_fits size r.facts (length s.views) v.seen k.seen) (λ j u other e. r.seats j u e);
     versions = r.versions;
     namings = r.namings;
+    namers = r.namers;
+    copied = r.copied;
     mirror = r.mirror;
   }
 
@@ -81,6 +88,7 @@ module _ {O E : Type 0} (applied : O → E → O) (lawful : O → O → Type 0) 
         seen_length = get_or-set_other f.seen p own.number n 0 apart ∙ fits.seen_length;
         stage_is = fits.stage_is;
         kept = fits.kept;
+        told = fits.told;
         chunks = fits.chunks;
       }
 
@@ -120,6 +128,7 @@ module _ {O E : Type 0} (applied : O → E → O) (lawful : O → O → Type 0) 
                 seen_length = ap (λ (ns : List ℕ). get_or ns own.number 0) same ∙ fits.seen_length;
                 stage_is = fits.stage_is ∙ ap stage_of h.idle;
                 kept = tt;
+                told = idle_fits_told v.seen.opening progress.Idle refl;
                 chunks = fits.chunks;
               });
               turn = tt;
@@ -127,6 +136,8 @@ module _ {O E : Type 0} (applied : O → E → O) (lawful : O → O → Type 0) 
             (λ j u other e. moved_else r.facts own.number (length s.views) (get_or r.facts.seen own.number 0) j u (λ e'. other (sym e' ∙ fits.at)) (r.seats j u e));
         versions = versions_still applied lawful stands size r.facts f refl refl refl r.facts.all.opening r.versions;
         namings = r.namings;
+        namers = r.namers;
+        copied = r.copied;
         mirror = r.mirror;
       }
 
@@ -175,6 +186,7 @@ module _ {O E : Type 0} (applied : O → E → O) (lawful : O → O → Type 0) 
                 seen_length = get_or-set_same r.facts.seen own.number (length v.seen.history) 0 l.1;
                 stage_is = stage_idle ∙ ap stage_of (sym h.idle);
                 kept = subst (ProgressFits r.facts.turn.kept own.pinned) (sym h.idle) tt;
+                told = idle_fits_told v.seen.opening v.progress h.idle;
                 chunks = fits.chunks;
               });
               turn = subst (TurnFits f id v.seen v.progress) (sym is_turn) (record { writer = h.writer; turn_is = h.turn_is; seen_is = h.seen_is; idle = h.idle });
@@ -182,6 +194,8 @@ module _ {O E : Type 0} (applied : O → E → O) (lawful : O → O → Type 0) 
             (λ j u not_id not_other e. moved_else r.facts own.number id (length v.seen.history) j u (λ e'. not_other (sym e' ∙ fits.at)) (r.seats j u e));
         versions = versions_still applied lawful stands size r.facts f refl refl refl r.facts.all.opening r.versions;
         namings = r.namings;
+        namers = r.namers;
+        copied = r.copied;
         mirror = r.mirror;
       }
 
@@ -203,6 +217,8 @@ module _ {O E : Type 0} (applied : O → E → O) (lawful : O → O → Type 0) 
             (λ j u not_id not_other e. r.seats j u e);
         versions = r.versions;
         namings = r.namings;
+        namers = r.namers;
+        copied = r.copied;
         mirror = r.mirror;
       }
 
@@ -241,6 +257,7 @@ module _ {O E : Type 0} (applied : O → E → O) (lawful : O → O → Type 0) 
                   seen_length = get_or-set_same r.facts.seen own.number n 0 l.1;
                   stage_is = fits.stage_is;
                   kept = fits.kept;
+                  told = idle_fits_told (longer_seen v.seen v.told).opening v.progress idle;
                   chunks = fits.chunks;
                 });
                 turn = subst (TurnFits f id (longer_seen v.seen v.told) v.progress) (sym no_turn) tt;
@@ -253,10 +270,13 @@ module _ {O E : Type 0} (applied : O → E → O) (lawful : O → O → Type 0) 
                 seen_length = get_or-set_other r.facts.seen own.number own'.number n 0 apart ∙ fits'.seen_length;
                 stage_is = fits'.stage_is;
                 kept = fits'.kept;
+                told = fits'.told;
                 chunks = fits'.chunks;
               }) (r.seats j u e));
           versions = versions_still applied lawful stands size r.facts f refl refl refl r.facts.all.opening r.versions;
           namings = r.namings;
+          namers = r.namers;
+          copied = r.copied;
           mirror = r.mirror;
         }),
         ((refl, longer.1, longer.2), refl),

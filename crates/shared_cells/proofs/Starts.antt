@@ -12,6 +12,7 @@ use Rattle.pin_core.specs.Machine.{started}
 use Rattle.pin_core.proofs.Openings.{opening_sound}
 use Rattle.shared_cells.specs.declared.view.TableSize.{TableSize}
 use Rattle.shared_cells.specs.declared.view.Entry.{Entry}
+use Rattle.shared_cells.specs.declared.view.Naming.{Naming}
 use Rattle.shared_cells.specs.declared.view.Seen.{Seen}
 use Rattle.shared_cells.specs.declared.view.Progress.{Progress}
 use Rattle.shared_cells.specs.declared.view.Progress.TheVariants as progress
@@ -40,6 +41,8 @@ module _ {O E : Type 0} (applied : O → E → O) (lawful : O → O → Type 0) 
     seats = first;
     versions = (refl, λ p l. get_or-replicate size.passes p stage.Idle stage.Idle l);
     namings = All-nil (NamingFits (started (core_size size)).words first_facts.pinned);
+    namers = All-nil (λ (n : Naming). n.pass < size.passes);
+    copied = refl;
     mirror = λ i l. refl;
   })
     where
@@ -71,6 +74,7 @@ module _ {O E : Type 0} (applied : O → E → O) (lawful : O → O → Type 0) 
       seen_length = fits.seen_length;
       stage_is = fits.stage_is;
       kept = fits.kept;
+      told = fits.told;
       chunks = fits.chunks;
     }
       where
@@ -86,6 +90,7 @@ module _ {O E : Type 0} (applied : O → E → O) (lawful : O → O → Type 0) 
       seen_length = (let l : get_or r.facts.seen made 0 ≤ length r.facts.all.history = r.sound.not_ahead made room in let n : length r.facts.all.history ≡ 0 = ap length no_history in omega arith);
       stage_is = unopened.1 made room;
       kept = tt;
+      told = refl;
       chunks = refl;
     }
 
@@ -105,6 +110,8 @@ module _ {O E : Type 0} (applied : O → E → O) (lawful : O → O → Type 0) 
           (λ j u other e. knows_else size r.facts with_pass_made j u (λ same. other (same ∙ sym h.writer)) (λ part p. p) (others_fit j u.seen u.progress) (r.seats j u e));
       versions = versions_on r.facts.all.opening r.versions;
       namings = subst (λ (all : Seen O E). All (NamingFits s.words with_pass_made.pinned) all.namings) (sym unopened.0) (All-nil (NamingFits s.words with_pass_made.pinned));
+      namers = r.namers;
+      copied = r.copied;
       mirror = r.mirror;
     }
 

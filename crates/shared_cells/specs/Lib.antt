@@ -2,3 +2,5 @@ pub mod History
 pub mod Views
 pub mod Rule
 pub mod Steps
+pub mod Cells
+pub mod OneCell

@@ -49,6 +49,11 @@ abbrev pub ProgressFits : List Kept → List ℕ → Progress → Type 0
 ProgressFits kept pinned (progress.Pinned k) = Contains kept k × ((before : List ℕ) × (pinned ≡ before ++ k.version ∷ []))
 ProgressFits kept pinned _ = Unit {0}
 
+-- a pass that doesn't know of the opening is idle
+abbrev pub IdleUnlessTold : {O : Type 0} → Option O → Progress → Type 0
+IdleUnlessTold None p = p ≡ progress.Idle
+IdleUnlessTold (Some opening) p = Unit {0}
+
 -- the pin of a pass names this version
 abbrev pub PinNames : List ℕ → ℕ → ℕ → Type 0
 PinNames words pass version = (2 ≤ slice_index words (pin_at pass)) × (version_of (slice_index words (pin_at pass)) ≡ version)
@@ -69,6 +74,7 @@ module _ {O E : Type 0} where
     pub seen_length : slice_index f.seen own.number ≡ length seen.history
     pub stage_is : stage_at f.stages own.number ≡ stage_of p
     pub kept : ProgressFits f.turn.kept own.pinned p
+    pub told : IdleUnlessTold seen.opening p
     pub chunks : own.chunks ≡ size.chunks
 
   -- a seat of no pass is idle
@@ -112,5 +118,8 @@ module _ {O E : Type 0} (applied : O → E → O) (lawful : O → O → Type 0) 
     pub seats : (j : ℕ) (v : View O E) → get_elem? s.views j ≡ some v → Knows size facts j v
     pub versions : VersionsFit facts facts.all.opening
     pub namings : All (NamingFits s.words facts.pinned) facts.all.namings
-    -- the turn knows all words past the pins
+    -- and of a pass that there is
+    pub namers : All (λ n. n.pass < size.passes) facts.all.namings
+    -- the turn has a copy of the words, in which it knows all that are past the pins
+    pub copied : length facts.turn.words ≡ length s.words
     pub mirror : (i : ℕ) → 64 < i → slice_index s.words i ≡ slice_index facts.turn.words i

@@ -5,17 +5,27 @@
 //! another in a note. The rule holds between any two steps of any threads.
 #![tactic(auto)]
 
+mod cells;
+mod lent;
 mod law;
 mod pass;
+mod pinned;
 mod plays;
+mod round;
 mod shared;
+#[cfg(test)]
+mod stress;
 #[cfg(test)]
 mod tests;
 mod turn;
 mod view;
 
+pub use cells::PinnedCells;
+pub use lent::{Lent, TurnCells};
 pub use law::{Law, Opening, Payload};
 pub use pass::{NewPassSeat, PassSeat, SeatNote};
+pub use pinned::PinnedSeat;
+pub use round::KeptVersions;
 pub use shared::Shared;
 pub use turn::{JoinedSeat, NewTurnSeat, TurnSeat};
 pub use view::{

@@ -1,6 +1,6 @@
 //! The seats of passes, and the notes by which one tells another what it has seen.
-ghost use Rattle.std.specs.Prelude.{◌≡◌, ℕ, ◌+◌, true, false, []};
-ghost use Rattle.shared_cells.specs.Views.{number_of, has_turn, is_told, is_idle, with_note, note_of};
+ghost use Rattle.std.specs.Prelude.{◌≡◌, ℕ, ◌+◌, ◌*◌, ◌<◌, ◌≤◌, length, true, false, []};
+ghost use Rattle.shared_cells.specs.Views.{number_of, has_turn, is_told, is_idle, chunks_of, with_note, note_of};
 ghost use Rattle.shared_cells.specs.Steps.{Learns};
 
 use crate::law::Law;
@@ -25,6 +25,8 @@ pub struct NewPassSeat<O, E> {
     ghost is_pass: { number_of place.me.0.pass ≡ number + 1 },
     ghost no_turn: { has_turn place.me.0.turn ≡ false },
     ghost idle: { is_idle place.me.0.progress ≡ true },
+    ghost few: { number < 64 },
+    ghost wide: { 4161 + 2048 * chunks_of place.me.0.pass ≡ place.table_id.words },
     ghost no_slots: { place.me.1 ≡ [] },
 }
 
@@ -38,6 +40,8 @@ pub struct PassSeat<O, E> {
     ghost no_turn: { has_turn place.me.0.turn ≡ false },
     ghost told: { is_told place.me.0.seen.opening ≡ true },
     ghost idle: { is_idle place.me.0.progress ≡ true },
+    ghost few: { number < 64 },
+    ghost wide: { 4161 + 2048 * chunks_of place.me.0.pass ≡ place.table_id.words },
     ghost no_slots: { place.me.1 ≡ [] },
 }
 

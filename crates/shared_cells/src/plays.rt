@@ -1,6 +1,6 @@
 //! What each step tells its seat, and how seats are split and joined.
 ghost use Rattle.shared_cells.specs.Views.{with_new_pass, new_pass_of, note_of, pass_of, without_pass, with_pass, with_note, spent_view};
-ghost use Rattle.shared_cells.specs.Steps.{looked, learnt, opened, published};
+ghost use Rattle.shared_cells.specs.Steps.{looked, learnt, opened, published, entered, glanced, settled, left, read, stored, recalled, scanned, assigned};
 
 use crate::law::{Law, Opening, Payload};
 use crate::view::View;
@@ -39,6 +39,71 @@ pub(crate) struct Learn;
 
 impl<O, E> Play<(), View<O, E>> for Learn {
     ghost then = { learnt };
+}
+
+/// A pass stores that it is about to look.
+pub(crate) struct Enter;
+
+impl<O, E> Play<(), View<O, E>> for Enter {
+    ghost then = { entered };
+}
+
+/// A pass that has entered loads the current version's word.
+pub(crate) struct Glance;
+
+impl<O, E> Play<(), View<O, E>> for Glance {
+    ghost then = { glanced };
+}
+
+/// A pass that has looked exchanges its pin, if the turn has not done so.
+pub(crate) struct Settle<L> {
+    law: PhantomData<L>,
+}
+
+impl<O, E, L: Law<O, E>> Play<(), View<O, E>> for Settle<L> {
+    ghost then = { settled L.applied L.lawful L.stands };
+}
+
+/// A pinned pass stores that it is idle.
+pub(crate) struct Leave;
+
+impl<O, E> Play<(), View<O, E>> for Leave {
+    ghost then = { left };
+}
+
+/// A pinned pass loads a word.
+pub(crate) struct Read;
+
+impl<O, E> Play<(), View<O, E>> for Read {
+    ghost then = { read };
+}
+
+/// The turn stores a word past the pins.
+pub(crate) struct Store;
+
+impl<O, E> Play<(), View<O, E>> for Store {
+    ghost then = { stored };
+}
+
+/// The turn loads a word past the pins.
+pub(crate) struct Recall;
+
+impl<O, E> Play<(), View<O, E>> for Recall {
+    ghost then = { recalled };
+}
+
+/// The turn loads a pin, and marks its pass.
+pub(crate) struct Scan;
+
+impl<O, E> Play<(), View<O, E>> for Scan {
+    ghost then = { scanned };
+}
+
+/// The turn exchanges the pin of a pass that is about to look, and marks the pass.
+pub(crate) struct Assign;
+
+impl<O, E> Play<(), View<O, E>> for Assign {
+    ghost then = { assigned };
 }
 
 /// The pass of the next number is made.

@@ -27,18 +27,19 @@ type Seats<O, E, L> = (Shared<O, E, L>, Vec<NewPassSeat<O, E>>, NewTurnSeat<O, E
 impl<O, E, L: Law<O, E>> Shared<O, E, L> {
     /// A table that isn't open, with a seat for each pass and the turn's. No later call takes memory.
     pub fn new(alloc: Global, chunks: u32, passes: u32) -> Result<Seats<O, E, L>, AllocError>
-        requires { (passes ≤ 64) × (chunks ≤ 4096) }
+        requires passes { (1 ≤ passes) × (passes ≤ 64) }
+        requires chunks { (1 ≤ chunks) × (chunks ≤ 4096) }
         ensures size { IfOk result (λ made. (made.0.table.shared.key.passes ≡ passes) × (made.0.table.shared.key.chunks ≡ chunks)) }
         ensures passes { IfOk result (λ made. map (λ seat. seat.place.me.0) made.1.items ≡ map (λ number. pass_view number chunks) (range_with_len 0 passes)) }
         ensures places { IfOk result (λ made. All (λ seat. seat.place.table_id ≡ made.0.table.shared.table_id) made.1.items) }
-        ensures turn { IfOk result (λ made. (made.2.place.table_id ≡ made.0.table.shared.table_id) × (made.2.place.me.0 ≡ unopened_view made.0.table.shared.key passes)) }
+        ensures turn { IfOk result (λ made. (made.2.place.table_id ≡ made.0.table.shared.table_id) × (made.2.place.me.0 ≡ unopened_view made.0.table.shared.key passes) × (made.2.passes ≡ passes)) }
     {
         let size = TableSize { passes, chunks };
         let words = first_words(alloc, size)?;
         let (table, mut place) = Table::of_words(alloc, words.as_slice(), &size)?;
         let shared = Shared { table };
         let seats = pass_seats(alloc, &shared, &mut place, passes)?;
-        Ok((shared, seats, NewTurnSeat { place }))
+        Ok((shared, seats, NewTurnSeat { place, passes }))
     }
 }
 

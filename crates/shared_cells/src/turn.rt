@@ -1,6 +1,7 @@
 //! The seat that has the turn: the one by which versions are made.
-ghost use Rattle.std.specs.Prelude.{◌≡◌, ◌+◌, ◌<◌, ◌≤◌, length, true, false, [], Some};
-ghost use Rattle.shared_cells.specs.Views.{number_of, has_turn, is_told, note_of, pass_of, without_pass, with_pass};
+ghost use Rattle.std.specs.Prelude.{◌≡◌, ◌+◌, ◌*◌, ◌<◌, ◌≤◌, length, replicate, true, false, [], Some};
+ghost use Rattle.pin_core.specs.declared.kept.Mark.TheVariants as mark;
+ghost use Rattle.shared_cells.specs.Views.{number_of, marks_of, words_of, has_turn, is_told, chunks_of, note_of, pass_of, without_pass, with_pass};
 ghost use Rattle.shared_cells.specs.Steps.{CanOpen, Opened, CanPublish, Published, Confirmed};
 
 use crate::law::{Law, Opening, Payload};
@@ -14,10 +15,15 @@ use pin_core::words::{CUR, word_of_version};
 #[derive(Drop)]
 pub struct NewTurnSeat<O, E> {
     pub place: Place<O, E>,
+    /// How many passes the index has.
+    pub passes: u32,
     ghost turn: { has_turn place.me.0.turn ≡ true },
     ghost alone: { number_of place.me.0.pass ≡ 0 },
     ghost untold: { is_told place.me.0.seen.opening ≡ false },
     ghost nothing_seen: { length place.me.0.seen.history ≡ 0 },
+    ghost round: { (1 ≤ passes) × (passes ≤ 64) },
+    ghost blank: { marks_of place.me.0.turn ≡ replicate passes mark.Blank },
+    ghost copied: { length (words_of place.me.0.turn) ≡ place.table_id.words },
     ghost no_slots: { place.me.1 ≡ [] },
 }
 
@@ -27,10 +33,15 @@ pub struct TurnSeat<O, E> {
     pub place: Place<O, E>,
     /// The current version.
     pub version: u64,
+    /// How many passes the index has.
+    pub passes: u32,
     ghost turn: { has_turn place.me.0.turn ≡ true },
     ghost alone: { number_of place.me.0.pass ≡ 0 },
     ghost told: { is_told place.me.0.seen.opening ≡ true },
     ghost version_is: { version ≡ length place.me.0.seen.history },
+    ghost round: { (1 ≤ passes) × (passes ≤ 64) },
+    ghost blank: { marks_of place.me.0.turn ≡ replicate passes mark.Blank },
+    ghost copied: { length (words_of place.me.0.turn) ≡ place.table_id.words },
     ghost no_slots: { place.me.1 ≡ [] },
 }
 
@@ -40,12 +51,19 @@ pub struct JoinedSeat<O, E> {
     pub place: Place<O, E>,
     /// The current version.
     pub version: u64,
+    /// How many passes the index has.
+    pub passes: u32,
     /// The joined pass's number.
     pub number: u32,
     ghost turn: { has_turn place.me.0.turn ≡ true },
     ghost is_pass: { number_of place.me.0.pass ≡ number + 1 },
     ghost told: { is_told place.me.0.seen.opening ≡ true },
     ghost version_is: { version ≡ length place.me.0.seen.history },
+    ghost few: { number < 64 },
+    ghost wide: { 4161 + 2048 * chunks_of place.me.0.pass ≡ place.table_id.words },
+    ghost round: { (1 ≤ passes) × (passes ≤ 64) },
+    ghost blank: { marks_of place.me.0.turn ≡ replicate passes mark.Blank },
+    ghost copied: { length (words_of place.me.0.turn) ≡ place.table_id.words },
     ghost no_slots: { place.me.1 ≡ [] },
 }
 
@@ -60,11 +78,16 @@ impl<O, E> NewTurnSeat<O, E> {
         requires can { CanOpen L.applied L.lawful L.stands shared.now.table.shared.key self.place.me.0 M.version root M.image }
         ensures table { result.place.table_id ≡ self.place.table_id }
         ensures opened { Opened self.place.me.0 M.version root M.image result.place.me.0 }
+        ensures passes { result.passes ≡ self.passes }
     {
-        let NewTurnSeat { mut place } = self;
+        let NewTurnSeat { mut place, passes } = self;
         let word = word_of_version(0, root);
         shared.table.shared.store::<Open<M>>(&mut place, CUR, word);
-        TurnSeat { place, version: 0 }
+        TurnSeat {
+            place,
+            version: 0,
+            passes,
+        }
     }
 }
 
@@ -73,7 +96,7 @@ impl<O, E> TurnSeat<O, E> {
     pub fn note<L: Law<O, E>>(&mut self, shared: &Shared<O, E, L>) -> SeatNote<O, E>
         requires { self.old.place.table_id ≡ shared.now.table.shared.table_id }
         ensures table { (self.new.place.table_id ≡ self.old.place.table_id) × (result.place.table_id ≡ self.old.place.table_id) }
-        ensures same { (self.new.place.me.0 ≡ self.old.place.me.0) × (self.new.version ≡ self.old.version) }
+        ensures same { (self.new.place.me.0 ≡ self.old.place.me.0) × (self.new.version ≡ self.old.version) × (self.new.passes ≡ self.old.passes) }
         ensures note { result.place.me.0 ≡ note_of self.old.place.me.0 }
     {
         let place = shared.table.shared.split_seat::<Tell>(&mut self.place);
@@ -89,8 +112,13 @@ impl<O, E> TurnSeat<O, E> {
         requires { (self.place.table_id ≡ shared.now.table.shared.table_id) × (pass.place.table_id ≡ shared.now.table.shared.table_id) }
         ensures table { result.place.table_id ≡ self.place.table_id }
         ensures joined { result.place.me.0 ≡ with_pass self.place.me.0 pass.place.me.0 }
+        ensures numbers { (result.version ≡ self.version) × (result.passes ≡ self.passes) × (result.number ≡ pass.number) }
     {
-        let TurnSeat { mut place, version } = self;
+        let TurnSeat {
+            mut place,
+            version,
+            passes,
+        } = self;
         let PassSeat {
             place: other,
             number,
@@ -99,6 +127,7 @@ impl<O, E> TurnSeat<O, E> {
         JoinedSeat {
             place,
             version,
+            passes,
             number,
         }
     }
@@ -109,7 +138,7 @@ impl<O, E> JoinedSeat<O, E> {
     pub fn look<L: Law<O, E>>(&mut self, shared: &Shared<O, E, L>) -> u64
         requires { self.old.place.table_id ≡ shared.now.table.shared.table_id }
         ensures table { self.new.place.table_id ≡ self.old.place.table_id }
-        ensures same { (self.new.place.me.0 ≡ self.old.place.me.0) × (self.new.version ≡ self.old.version) × (self.new.number ≡ self.old.number) }
+        ensures same { (self.new.place.me.0 ≡ self.old.place.me.0) × (self.new.version ≡ self.old.version) × (self.new.number ≡ self.old.number) × (self.new.passes ≡ self.old.passes) }
         ensures confirmed { (turn : _) × (self.old.place.me.0.turn ≡ Some turn) × Confirmed L.applied L.lawful L.stands self.old.place.me.0 turn result }
     {
         shared.table.shared.load::<Look<L>>(&mut self.place, CUR)
@@ -124,7 +153,7 @@ impl<O, E> JoinedSeat<O, E> {
         requires table { self.old.place.table_id ≡ shared.now.table.shared.table_id }
         requires can { CanPublish L.applied L.lawful L.stands shared.now.table.shared.key self.old.place.me.0 M.change root M.image }
         ensures table { self.new.place.table_id ≡ self.old.place.table_id }
-        ensures number { self.new.number ≡ self.old.number }
+        ensures numbers { (self.new.number ≡ self.old.number) × (self.new.passes ≡ self.old.passes) }
         ensures version { result ≡ self.old.version + 1 }
         ensures published { Published self.old.place.me.0 M.change root M.image self.new.place.me.0 }
     {
@@ -142,12 +171,13 @@ impl<O, E> JoinedSeat<O, E> {
     pub fn split<L: Law<O, E>>(self, shared: &Shared<O, E, L>) -> (TurnSeat<O, E>, PassSeat<O, E>)
         requires { self.place.table_id ≡ shared.now.table.shared.table_id }
         ensures tables { (result.0.place.table_id ≡ self.place.table_id) × (result.1.place.table_id ≡ self.place.table_id) }
-        ensures turn { (result.0.place.me.0 ≡ without_pass self.place.me.0) × (result.0.version ≡ self.version) }
+        ensures turn { (result.0.place.me.0 ≡ without_pass self.place.me.0) × (result.0.version ≡ self.version) × (result.0.passes ≡ self.passes) }
         ensures pass { (result.1.place.me.0 ≡ pass_of self.place.me.0) × (result.1.number ≡ self.number) }
     {
         let JoinedSeat {
             mut place,
             version,
+            passes,
             number,
         } = self;
         let other = shared.table.shared.split_seat::<Dismiss>(&mut place);
@@ -155,6 +185,11 @@ impl<O, E> JoinedSeat<O, E> {
             place: other,
             number,
         };
-        (TurnSeat { place, version }, pass)
+        let turn = TurnSeat {
+            place,
+            version,
+            passes,
+        };
+        (turn, pass)
     }
 }

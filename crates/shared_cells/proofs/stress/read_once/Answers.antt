@@ -1,0 +1,11 @@
+use Rattle.std.proofs.Common.{◌≡◌, ◌+◌, ℕ, length, sym, ap, ◌∙◌, subst}
+use Rattle.shared_cells.specs.Views.{pinned_image, pinned_root}
+use Rattle.shared_cells.specs.OneCell.{IsVersion}
+use Rattle.shared_cells.proofs.OneCellLaws.{pinned_is}
+use Rattle.shared_cells.proofs.stress.read_once.Goals as goal
+
+pub is_its_version-is_right-requires-clause-stood : goal.is_its_version-is_right-requires-clause-stood
+is_its_version-is_right-requires-clause-stood c =
+    let seat = c.pin-pinned.result in
+    subst (IsVersion (pinned_image seat.place.me.0.progress) (pinned_root seat.place.me.0.progress)) (sym c.pin-pinned.ensures.version)
+    (pinned_is _ c.args.pass.place.me.0 seat.place.me.0 c.pin-pinned.ensures.pinned c.requires.opening)

@@ -1,0 +1,59 @@
+use Rattle.std.proofs.Common.{◌≡◌, ℕ, ◌+◌, ◌*◌, ◌/◌, ◌%◌, ◌<◌, List, [], ◌∷◌, ◌++◌, length, map, Bool, true, Option, Some, refl, sym, ap, ◌∙◌, subst, arith, length-append}
+use Rattle.std.specs.List.{All, fold}
+use Rattle.std.specs.Bool.{OnTrue}
+use Rattle.std.proofs.lemmas.List.Elements.{All-cons, All-nil}
+use Rattle.pin_core.specs.declared.kept.CellAt.{CellAt}
+use Rattle.pin_core.specs.declared.kept.Kept.{Kept}
+use Rattle.shared_cells.specs.declared.view.Entry.{Entry}
+use Rattle.shared_cells.specs.declared.view.Seen.{Seen}
+use Rattle.shared_cells.specs.declared.view.TurnView.{TurnView}
+use Rattle.shared_cells.specs.declared.view.View.{View}
+use Rattle.shared_cells.specs.Views.{kept_in, words_of, core_size}
+use Rattle.shared_cells.specs.Cells.{Cells, cells_of, HasCell, HasAt}
+use Rattle.shared_cells.specs.Steps.{IsImage}
+use Rattle.shared_cells.specs.OneCell.{place_of, cell_of, IsVersion}
+use Rattle.shared_cells.proofs.Chunks.{cells_are_image}
+use Rattle.shared_cells.proofs.Seats.{turn_there, pass_there}
+use Rattle.shared_cells.proofs.OneCellLaws.{all_counted, kept_are_of, counted, one_image}
+use Rattle.shared_cells.proofs.stress.transact.Goals as goal
+
+pub write_next-turn-requires-clause-kept : goal.write_next-turn-requires-clause-kept
+write_next-turn-requires-clause-kept c =
+    let n = c.args.index.now.table.shared.key.chunks in
+    let v = c.join-turn.result.place.me.0 in
+    let look = c.look-next.ensures in
+    let joined = c.join-turn.ensures.joined in
+    let open_at = ap (λ (x : View ℕ ℕ). x.seen.opening) joined ∙ c.requires.told.opening in
+    let all = all_counted (λ first m. Unit {0}) v look.confirmed.0 c.look-next.result look.confirmed.2 open_at in
+    let kept : kept_in c.look-next.new.self.place.me.0.turn ≡ look.confirmed.0.kept = ap (λ (x : View ℕ ℕ). kept_in x.turn) look.same.0 ∙ ap kept_in look.confirmed.1 in
+    let versions = ap (λ (x : View ℕ ℕ). map (λ (k : Kept). k.version) (kept_in x.turn)) (look.same.0 ∙ joined) ∙ c.requires.told.kept ∙ sym c.as_slice.ensures.versions in
+    kept_are_of (cells_of n c.look-next.new.self.place.me.0.turn) c.as_slice.result.now versions (subst (All (λ k. IsVersion k.image k.root k.version)) (sym kept) all)
+
+pub publish-requires-clause-can : goal.publish-requires-clause-can
+publish-requires-clause-can c =
+    let key = c.args.index.now.table.shared.key in
+    let seat = c.write_next-turn.result.0 in
+    let view = seat.place.me.0 in
+    let turn = turn_there view.turn seat.turn in
+    let own = pass_there view.pass seat.number seat.is_pass in
+    let seen = ap (λ (x : View ℕ ℕ). x.seen) c.write_next-turn.ensures.same ∙ ap (λ (x : View ℕ ℕ). x.seen) (c.look-next.ensures.same.0 ∙ c.join-turn.ensures.joined) in
+    let next = c.look-next.new.self.version + 1 in
+    let long : length view.seen.history ≡ c.args.turn.version = ap (λ (x : Seen ℕ ℕ). length x.history) seen ∙ sym c.args.turn.version_is in
+    let current : c.look-next.new.self.version ≡ c.args.turn.version = c.look-next.ensures.same.1 ∙ c.join-turn.ensures.numbers.0 in
+    let room = c.requires.room in
+    let entry : Entry ℕ = record { author = own.0.number; change = next } in
+    let number : fold (λ m e. m + 1) 0 (view.seen.history ++ entry ∷ []) ≡ next = counted 0 (view.seen.history ++ entry ∷ []) ∙ (let e : 0 + length (view.seen.history ++ entry ∷ []) ≡ c.look-next.new.self.version + 1 = omega (arith, length-append view.seen.history (entry ∷ [])) in e) in
+    record {
+      turn = turn.0;
+      own = own.0;
+      opening = 0;
+      entry = next;
+      is_turn = turn.1;
+      is_pass = own.1;
+      is_open = ap (λ (x : Seen ℕ ℕ). x.opening) seen ∙ c.requires.told.opening;
+      is_change = refl;
+      few = omega arith;
+      fits = one_image key.passes key.chunks view.turn turn.0 next c.write_next-turn.result.1 turn.1 c.if-is_written.true c.write_next-turn.ensures.written;
+      good = tt;
+      stood = subst (IsVersion (cell_of next ∷ []) (Some (place_of next))) (sym number) (refl, refl);
+    }

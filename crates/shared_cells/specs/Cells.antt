@@ -1,0 +1,86 @@
+-- The cells of the table as the turn knows them, in the terms of the traits by which the trie's crates know cells.
+use Rattle.std.specs.Prelude.{◌≡◌, ℕ, ◌+◌, ◌*◌, ◌/◌, ◌<◌, ◌≤◌, ◌==◌, List, [], length, map, replicate, slice_index, true, false, slice_set, Bool, Option, Some, None}
+use Rattle.std.specs.List.{flat_map, range_with_len}
+use Rattle.atomic_table.specs.Seated.{TableId}
+use Rattle.atomic_table.specs.Table.{Me}
+use Rattle.packed_node.specs.declared.Cell.{Cell}
+use Rattle.pin_core.specs.declared.kept.CellAt.{CellAt}
+use Rattle.pin_core.specs.declared.kept.Kept.{Kept}
+use Rattle.pin_core.specs.declared.kept.Mark.TheVariants as mark
+use Rattle.pin_core.specs.Words.{status_at, cell_at}
+use Rattle.chunk_cells.specs.Chunks.{IsGiven}
+use Rattle.shared_cells.specs.declared.view.PassView.{PassView}
+use Rattle.shared_cells.specs.declared.view.TurnView.{TurnView}
+use Rattle.shared_cells.specs.declared.view.View.{View}
+use Rattle.shared_cells.specs.Views.{number_of, has_turn, is_told, words_of, kept_in, marks_of}
+
+-- how many chunks there are, the words, and the kept versions
+pub record Cells : Type 0 where
+  pub chunks : ℕ
+  pub words : List ℕ
+  pub kept : List Kept
+
+-- of each chunk, whether its status says that it is given
+abbrev pub given_chunks : Cells → List Bool
+given_chunks cells = map (λ chunk. slice_index cells.words (status_at chunk) == 1) (range_with_len 0 cells.chunks)
+
+-- the references of the kept images
+abbrev pub kept_references : Cells → List ℕ
+kept_references cells = flat_map (λ k. map (λ c. c.at) k.image) cells.kept
+
+-- a cell of a given chunk has these words
+pub record HasCell (cells : Cells) (at : ℕ) (c : Cell) : Type 0 where
+  pub given : IsGiven (given_chunks cells) (at / 1024)
+  pub big : slice_index cells.words (cell_at at) ≡ c.big
+  pub small : slice_index cells.words (cell_at at + 1) ≡ c.small
+
+-- a cell of an image is such
+abbrev pub HasAt : Cells → CellAt → Type 0
+HasAt cells c = HasCell cells c.at (record { big = c.big; small = c.small })
+
+-- as the turn knows them
+abbrev pub cells_of : ℕ → Option TurnView → Cells
+cells_of chunks turn = record { chunks = chunks; words = words_of turn; kept = kept_in turn }
+
+abbrev pub words_in : Option TurnView → List ℕ → Option TurnView
+words_in None words = None
+words_in (Some turn) words = Some (record turn { words = words })
+
+module _ {O E : Type 0} where
+  -- nothing but the turn's words has changed
+  abbrev pub with_words : View O E → List ℕ → View O E
+  with_words v words = record v { turn = words_in v.turn words }
+
+-- the number, of the pass if one is joined
+abbrev pub NumberFits : {E : Type 0} → Option (PassView E) → TableId → ℕ → Type 0
+NumberFits None table number = Unit {0}
+NumberFits (Some own) table number = (own.number ≡ number) × (number < 64) × (4161 + 2048 * own.chunks ≡ table.words)
+
+module _ {O E : Type 0} where
+  -- A place of the turn that was lent when the view was this, and has written words since.
+  pub record IsLent (table : TableId) (view : View O E) (at_table : TableId) (me : Me (Unit {0}) (View O E)) (current joined passes : ℕ) : Type 0 where
+    pub here : at_table ≡ table
+    pub turn : has_turn view.turn ≡ true
+    pub frame : me.0 ≡ with_words view (words_of me.0.turn)
+    pub no_slots : me.1 ≡ []
+    pub copied : length (words_of me.0.turn) ≡ table.words
+    pub version : current ≡ length view.seen.history
+    pub number : NumberFits view.pass table joined
+    pub round : (1 ≤ passes) × (passes ≤ 64)
+    pub blank : marks_of view.turn ≡ replicate passes mark.Blank
+
+  -- the view of a turn's seat that isn't open; that is; that has a pass joined
+
+  pub record IsNewTurn (v : View O E) : Type 0 where
+    pub alone : number_of v.pass ≡ 0
+    pub untold : is_told v.seen.opening ≡ false
+    pub nothing_seen : length v.seen.history ≡ 0
+
+  pub record IsTurn (v : View O E) : Type 0 where
+    pub alone : number_of v.pass ≡ 0
+    pub told : is_told v.seen.opening ≡ true
+
+  pub record IsJoined (v : View O E) : Type 0 where
+    pub number : ℕ
+    pub is_pass : number_of v.pass ≡ number + 1
+    pub told : is_told v.seen.opening ≡ true
