@@ -1,3 +1,4 @@
+pub mod ChunkSetLemmas
 pub mod FlagLemmas
 pub mod HandingLaws
 pub mod InsideLemmas

@@ -1,5 +1,6 @@
 pub mod Ledger
 pub mod Rooms
 pub mod Inside
+pub mod ChunkSets
 pub mod Handing
 pub mod Keeping

@@ -7,6 +7,7 @@
 //! its fender (lib/dns/qp_p.h). A row for each kept version is our own: BIND counts references.
 #![tactic(auto)]
 
+mod chunk_set;
 mod open;
 mod row;
 pub mod space;
