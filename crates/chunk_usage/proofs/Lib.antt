@@ -1,4 +1,5 @@
 pub mod ChunkSetLemmas
+pub mod CountLemmas
 pub mod FlagLemmas
 pub mod HandingLaws
 pub mod InsideLemmas

@@ -2,5 +2,7 @@ pub mod Ledger
 pub mod Rooms
 pub mod Inside
 pub mod ChunkSets
+pub mod Counting
+pub mod Counts
 pub mod Handing
 pub mod Keeping

@@ -72,6 +72,19 @@ impl ChunkSet {
         self.words[(chunk / 64) as usize] &= !(1 << (chunk % 64));
     }
 
+    /// Puts a chunk in, or takes it out.
+    #[inline]
+    pub fn set(&mut self, chunk: u32, member: bool)
+        requires { chunk < length self.old }
+        ensures { self.new ≡ slice_set self.old chunk member }
+    {
+        if member {
+            self.insert(chunk);
+        } else {
+            self.remove(chunk);
+        }
+    }
+
     /// Takes all chunks out.
     pub fn clear(&mut self)
         ensures { self.new ≡ replicate (length self.old) false }

@@ -8,6 +8,7 @@
 #![tactic(auto)]
 
 mod chunk_set;
+mod counts;
 mod open;
 mod row;
 pub mod space;

@@ -1,4 +1,4 @@
-use Rattle.std.proofs.Common.{◌≡◌, ◌/◌, ◌<◌, ◌^◌, ℕ, slice_index, refl, rules, arith}
+use Rattle.std.proofs.Common.{◌/◌, refl, rules, arith}
 use Rattle.std.proofs.lemmas.List.{get_or_past}
 use Rattle.chunk_usage.proofs.ChunkSetLemmas.{no_bit, none_left, found_left, found_later, none_later, on_some, on_none}
 use Rattle.chunk_usage.proofs.chunk_set.first_bit.Goals as goal

@@ -1,4 +1,4 @@
-use Rattle.std.proofs.Common.{◌≡◌, List, ℕ, Bool, false, replicate, ◌∙◌, sym, ap, subst, arith}
+use Rattle.std.proofs.Common.{List, ℕ, false, replicate, ◌∙◌, sym, ap, subst, arith}
 use Rattle.chunk_usage.specs.ChunkSets.{AreWords, flags_of}
 use Rattle.chunk_usage.proofs.ChunkSetLemmas.{cleared, cleared_words, chunks_are}
 use Rattle.chunk_usage.proofs.chunk_set.ChunkSet.clear.Goals as goal

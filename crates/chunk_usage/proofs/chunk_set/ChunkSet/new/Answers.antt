@@ -1,4 +1,4 @@
-use Rattle.std.proofs.Common.{◌≡◌, ◌+◌, ◌/◌, List, ℕ, replicate, refl, sym, ap, ◌∙◌, subst}
+use Rattle.std.proofs.Common.{◌+◌, ◌/◌, List, ℕ, refl, sym, ap, ◌∙◌, subst}
 use Rattle.chunk_usage.specs.ChunkSets.{AreWords, flags_of}
 use Rattle.chunk_usage.proofs.ChunkSetLemmas.{cleared, cleared_words}
 use Rattle.chunk_usage.proofs.chunk_set.ChunkSet.new.Goals as goal
