@@ -7,7 +7,6 @@ use Rattle.std.proofs.lemmas.List.{length-set, length-map, length-replicate, get
 use Rattle.std.proofs.lemmas.List.FromFn.{fill_by_all, get_or-map-range_with_len, length-map-range_with_len}
 use Rattle.std.proofs.lemmas.List.Sums.{sum_by-set, sum_by-cons}
 use Rattle.chunk_usage.specs.Ledger.{row_of}
-use Rattle.chunk_usage.specs.ChunkSets.{IsFirstFrom}
 use Rattle.chunk_usage.specs.Counting.{Counted, is_low}
 use Rattle.chunk_usage.specs.Counts.{count_before, counts_before}
 
@@ -72,20 +71,6 @@ no_row (suc n) = ap (λ (fs : List Bool). false ∷ fs) (no_row n)
 
 pub clear_flag : (n k : ℕ) → slice_index_or (replicate n false) k false ≡ false
 clear_flag n k = elim (cases_lt k n) [ inl l ↦ get_or-replicate n k false false l | inr past ↦ get_or_past (replicate n false) k false (subst (λ j. j ≤ k) (sym (length-replicate n false)) past) ]
-
--- The chunks are gone through by a set, of which each chunk is set in turn.
-module _ (live : List ℕ) (flags : List Bool) (from chunk count : ℕ) (first : IsFirstFrom flags from chunk) (inside : chunk < length live) (P : ℕ → ℕ → Type 0)
-    (before : (k : ℕ) → k < from → P k (slice_index live k)) (others : (k : ℕ) → k < length live → slice_index_or flags k false ≡ false → P k (slice_index live k)) (this : P chunk count) where
-  pub one_done : (k : ℕ) → k < chunk + 1 → P k (slice_index (slice_set live chunk count) k)
-  one_done k l = elim (cases_eq k chunk) [
-    | inl same ↦ subst (λ (j : ℕ). P j (slice_index (slice_set live chunk count) j)) (sym same) (subst (P chunk) (sym (get_or-set_same live chunk count 0 inside)) this)
-    | inr other ↦ subst (P k) (sym (get_or-set_other live chunk k count 0 other)) (elim (cases_lt k from) [ inl done ↦ before k done | inr le ↦ others k (omega arith) (first.none_between k le (omega arith)) ])
-  ]
-
-module _ (live : List ℕ) (flags : List Bool) (from : ℕ) (P : ℕ → ℕ → Type 0)
-    (before : (k : ℕ) → k < from → P k (slice_index live k)) (others : (k : ℕ) → k < length live → slice_index_or flags k false ≡ false → P k (slice_index live k)) (none : (k : ℕ) → from ≤ k → slice_index_or flags k false ≡ false) where
-  pub all_done : (k : ℕ) → k < length live → P k (slice_index live k)
-  all_done k l = elim (cases_lt k from) [ inl done ↦ before k done | inr le ↦ others k l (none k le) ]
 
 -- a chunk that isn't in the row of the counts has none; one whose count wasn't set has that of the last freeze
 pub not_counted : (live : List ℕ) (row : List Bool) → row ≡ row_of live → (k : ℕ) → k < length live → slice_index_or row k false ≡ false → slice_index live k ≡ 0

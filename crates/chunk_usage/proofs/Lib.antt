@@ -6,5 +6,6 @@ pub mod InsideLemmas
 pub mod KeepingLaws
 pub mod KeptLemmas
 pub mod RecyclingLaws
+pub mod RoundLemmas
 pub mod RowLemmas
 pub mod SpaceLaws

@@ -1,5 +1,5 @@
 -- Cells that are handed out and released: what each call makes of a ledger.
-use Rattle.std.specs.Prelude.{◌≡◌, ℕ, ◌+◌, ◌-◌, ◌*◌, ◌/◌, ◌<◌, ◌≤◌, nat_le, true, not, if◌then◌else◌, Option, None, Some, length, replicate, slice_index, slice_set, Result, Ok, Err}
+use Rattle.std.specs.Prelude.{◌≡◌, ℕ, ◌+◌, ◌-◌, ◌*◌, ◌/◌, ◌<◌, ◌≤◌, nat_le, ◌==◌, true, not, if◌then◌else◌, Option, None, Some, length, replicate, slice_index, slice_set, Result, Ok, Err}
 use Rattle.std.specs.List.{position_or_len}
 use Rattle.chunk_usage.specs.declared.open.Open.{Open}
 use Rattle.chunk_usage.specs.declared.space.Grant.{Grant}
@@ -56,6 +56,26 @@ grant_of l n = granted_from l n (roomy l.open_chunk n)
 
 abbrev pub allocated : Ledger → ℕ → Ledger
 allocated l n = allocated_from l n (roomy l.open_chunk n)
+
+-- no chunk is free, and the open one has fewer than n cells left
+pub record IsSpent (l : Ledger) (n : ℕ) : Type 0 where
+  pub few_left : left l.open_chunk < n
+  pub none_free : free_count l ≡ 0
+
+abbrev pub reserve_granted_from : Ledger → ℕ → Option Open → Result Grant Full
+reserve_granted_from l n (Some o) = Ok (record { at = next_cell o; given = None })
+reserve_granted_from l n None = if free_count l == 0 then Err (shortage l n) else Ok (record { at = lowest_free l * 1024; given = Some (lowest_free l) })
+
+abbrev pub reserve_allocated_from : Ledger → ℕ → Option Open → Ledger
+reserve_allocated_from l n (Some o) = taken l o n
+reserve_allocated_from l n None = if free_count l == 0 then l else taken (with_open l (lowest_free l)) (record { chunk = lowest_free l; filled = 0 }) n
+
+-- what an allocation of n cells answers that may take the reserve, and what it leaves
+abbrev pub reserve_grant_of : Ledger → ℕ → Result Grant Full
+reserve_grant_of l n = reserve_granted_from l n (roomy l.open_chunk n)
+
+abbrev pub reserve_allocated : Ledger → ℕ → Ledger
+reserve_allocated l n = reserve_allocated_from l n (roomy l.open_chunk n)
 
 -- n cells of one chunk don't count any more; none does
 abbrev pub released : Ledger → ℕ → ℕ → Ledger

@@ -1,5 +1,5 @@
 -- Kept versions, and chunks that nothing reaches: what each call makes of a ledger.
-use Rattle.std.specs.Prelude.{ℕ, ◌<◌, nat_lt, ◌==◌, Bool, false, not, ◌&&◌, ◌||◌, Option, None, Some, List, [], ◌∷◌, ◌++◌, length, map, filter, replicate, slice_index, slice_set}
+use Rattle.std.specs.Prelude.{ℕ, ◌<◌, nat_lt, ◌==◌, Bool, false, not, ◌&&◌, ◌||◌, Option, None, Some, List, [], ◌∷◌, ◌++◌, length, map, filter, replicate, slice_index}
 use Rattle.std.specs.List.{AllByRecursion, list_any, range_with_len}
 use Rattle.chunk_usage.specs.declared.open.Open.{Open}
 use Rattle.chunk_usage.specs.Ledger.{Ledger, Row, row_of, is_in_row, is_given, is_open}
@@ -58,7 +58,3 @@ is_unreached l chunk = is_given l chunk && not (is_needed l chunk)
 -- each such chunk is free
 abbrev pub freed : Ledger → Ledger
 freed l = record l { given = map (λ chunk. is_given l chunk && is_needed l chunk) (range_with_len 0 (length l.given)) }
-
--- a chunk that nothing needs is made free
-abbrev pub with_free : Ledger → ℕ → Ledger
-with_free l chunk = record l { given = slice_set l.given chunk false }

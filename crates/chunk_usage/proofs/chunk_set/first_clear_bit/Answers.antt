@@ -1,5 +1,4 @@
-use Rattle.std.proofs.Common.{◌+◌, ◌*◌, ◌<◌, ◌^◌, ℕ, slice_index, true, false, rules, arith, subst, sym}
-use Rattle.chunk_usage.specs.ChunkSets.{has_bit}
+use Rattle.std.proofs.Common.{◌<◌, ◌^◌, slice_index, rules, arith}
 use Rattle.chunk_usage.proofs.ChunkSetLemmas.{all_full, set_before, clear_at}
 use Rattle.chunk_usage.proofs.chunk_set.first_clear_bit.Goals as goal
 

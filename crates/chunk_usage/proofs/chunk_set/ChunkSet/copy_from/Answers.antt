@@ -1,5 +1,4 @@
-use Rattle.std.proofs.Common.{◌≡◌, List, ℕ, length, ◌∙◌, sym, ap, subst, arith}
-use Rattle.chunk_usage.specs.ChunkSets.{AreWords, flags_of}
+use Rattle.std.proofs.Common.{◌≡◌, length, arith}
 use Rattle.chunk_usage.proofs.ChunkSetLemmas.{same_words}
 use Rattle.chunk_usage.proofs.chunk_set.ChunkSet.copy_from.Goals as goal
 

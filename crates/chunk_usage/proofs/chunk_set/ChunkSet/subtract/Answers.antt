@@ -1,4 +1,4 @@
-use Rattle.std.proofs.Common.{◌≡◌, List, ℕ, Bool, false, not, length, slice_index_or, ◌∙◌, sym, ap, subst, arith}
+use Rattle.std.proofs.Common.{◌≡◌, List, ℕ, false, not, length, slice_index_or, ◌∙◌, sym, ap, subst, arith}
 use Rattle.std.specs.Prelude.{◌&&◌}
 use Rattle.std.proofs.lemmas.List.{with_items_is}
 use Rattle.chunk_usage.specs.ChunkSets.{AreWords, flags_of, has_bit}

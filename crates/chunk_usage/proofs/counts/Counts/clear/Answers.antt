@@ -2,7 +2,8 @@ use Rattle.std.proofs.Common.{◌≡◌, ◌<◌, List, ℕ, length, slice_index
 use Rattle.std.proofs.lemmas.List.{length-set}
 use Rattle.chunk_usage.specs.Ledger.{row_of}
 use Rattle.chunk_usage.specs.Counting.{Counted}
-use Rattle.chunk_usage.proofs.CountLemmas.{not_counted, length-row_of, one_done, all_done, zero_all, counted_is}
+use Rattle.chunk_usage.proofs.CountLemmas.{not_counted, length-row_of, zero_all, counted_is}
+use Rattle.chunk_usage.proofs.RoundLemmas.{one_done, all_done}
 use Rattle.chunk_usage.proofs.counts.Counts.clear.Goals as goal
 
 pub loop-chunk-preserved : goal.loop-chunk-preserved
@@ -15,11 +16,11 @@ loop-chunk-preserved c =
       last = ap (λ (counts : Counted). counts.last) c.set.ensures ∙ c.loop-chunk.invariant.last;
       same = ap length now ∙ length-set c.loop-chunk.self.live c.in-Some.chunk 0 ∙ c.loop-chunk.invariant.same;
       done = λ k l. ap (λ (xs : List ℕ). slice_index xs k) now
-          ∙ one_done c.loop-chunk.self.live c.self.inside.counted c.loop-chunk.from c.in-Some.chunk 0 first inside (λ k x. x ≡ 0) c.loop-chunk.invariant.done (not_counted c.loop-chunk.self.live c.self.inside.counted row) refl k l;
+          ∙ one_done 0 c.loop-chunk.self.live c.self.inside.counted c.loop-chunk.from (λ k x. x ≡ 0) c.loop-chunk.invariant.done (λ k le. not_counted c.loop-chunk.self.live c.self.inside.counted row k) c.in-Some.chunk 0 first inside refl k l;
     }
 
 pub returns : goal.returns
 returns c =
     let row : c.self.inside.counted ≡ row_of c.loop-chunk.self.live = c.self.invariant.counted ∙ ap (λ (counts : Counted). row_of counts.live) c.self.view_is in
-    let zero = zero_all c.loop-chunk.self.live (length c.args.self.now.live) c.loop-chunk.invariant.same (all_done c.loop-chunk.self.live c.self.inside.counted c.loop-chunk.from (λ k x. x ≡ 0) c.loop-chunk.invariant.done (not_counted c.loop-chunk.self.live c.self.inside.counted row) c.in_default.ensures.none) in
+    let zero = zero_all c.loop-chunk.self.live (length c.args.self.now.live) c.loop-chunk.invariant.same (all_done 0 c.loop-chunk.self.live c.self.inside.counted c.loop-chunk.from (λ k x. x ≡ 0) c.loop-chunk.invariant.done (λ k le. not_counted c.loop-chunk.self.live c.self.inside.counted row k) c.in_default.ensures.none) in
     counted_is c.loop-chunk.self _ _ zero c.loop-chunk.invariant.last

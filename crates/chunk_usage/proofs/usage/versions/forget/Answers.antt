@@ -1,7 +1,7 @@
 use Rattle.std.proofs.Common.{◌≡◌, length, drop}
 use Rattle.std.proofs.lemmas.List.Elements.{All-append, All-take, All-drop}
 use Rattle.chunk_usage.specs.Ledger.{Row}
-use Rattle.chunk_usage.proofs.usage.versions.forget_row.Goals as goal
+use Rattle.chunk_usage.proofs.usage.versions.forget.Goals as goal
 
 pub returns-clause-wide : goal.returns-clause-wide
 returns-clause-wide c n h =
