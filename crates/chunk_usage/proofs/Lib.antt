@@ -9,3 +9,4 @@ pub mod RecyclingLaws
 pub mod RoundLemmas
 pub mod RowLemmas
 pub mod SpaceLaws
+pub mod SparseLaws

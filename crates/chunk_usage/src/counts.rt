@@ -143,7 +143,7 @@ fn note(noted: &mut [u32], changed: &mut ChunkSet, chunk: u32, count: u32)
 
 /// 1 where so few cells count that the chunk may be sparse, else 0.
 #[inline]
-fn one_if_low(count: u32) -> u32
+pub fn one_if_low(count: u32) -> u32
     ensures { result ≡ (if is_low count then 1 else 0) }
 {
     (count <= SPARSE_CELLS) as u32

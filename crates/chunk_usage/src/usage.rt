@@ -7,6 +7,7 @@ ghost use Rattle.chunk_usage.specs.Ledger.{IsLedger, Row, unused, free_count, re
 mod as_space;
 mod cells;
 mod recycling;
+mod sparse;
 mod versions;
 
 use crate::chunk_set::ChunkSet;

@@ -13,7 +13,7 @@ use crate::space::{Full, Grant};
 use packed_node::{CHUNK_CELLS, Ref};
 
 impl Usage {
-    /// Hands out n cells: of the open chunk where it has n left, else of the lowest free chunk, which becomes the open one.
+    /// Hands out n cells: of the bump chunk where it has n left, else of the lowest free chunk, which becomes the bump chunk.
     pub fn alloc(&mut self, n: u32) -> Result<Grant, Full>
         requires some { 0 < n }
         requires few { n ≤ 256 }
