@@ -10,3 +10,4 @@ pub mod RoundLemmas
 pub mod RowLemmas
 pub mod SpaceLaws
 pub mod SparseLaws
+pub mod WordLemmas

@@ -3,7 +3,7 @@ use Rattle.std.specs.Int.{bit_not}
 use Rattle.std.proofs.lemmas.Bool.{cases_lt}
 use Rattle.std.proofs.lemmas.Nat.{and_le_l}
 use Rattle.std.proofs.lemmas.List.{get_or_past}
-use Rattle.chunk_usage.proofs.ChunkSetLemmas.{bits_left}
+use Rattle.chunk_usage.proofs.WordLemmas.{bits_left}
 use Rattle.chunk_usage.proofs.chunk_set.clear_bits.Goals as goal
 
 each : (c : goal.After-loop-place) (i : ℕ) → slice_index c.loop-place.words i ≡ bit_and (slice_index c.args.words.now i) (bit_not w64 (slice_index c.args.others.now i))

@@ -1,6 +1,7 @@
 use Rattle.std.proofs.Common.{◌/◌, refl, rules, arith}
+use Rattle.std.proofs.lemmas.Option.{IfSome_then}
 use Rattle.std.proofs.lemmas.List.{get_or_past}
-use Rattle.chunk_usage.proofs.ChunkSetLemmas.{no_bit, none_left, found_left, found_later, none_later, on_some, on_none}
+use Rattle.chunk_usage.proofs.WordLemmas.{no_bit, none_left, found_left, found_later, none_later, on_none}
 use Rattle.chunk_usage.proofs.chunk_set.first_bit.Goals as goal
 
 pub returns-then-place-words-clause-none : goal.returns-then-place-words-clause-none
@@ -12,7 +13,7 @@ returns-then-left-ne0-clause-found c = found_left c.args.words.now c.args.from _
 pub returns-clause-found : goal.returns-clause-found
 returns-clause-found c =
     let none = none_left c.args.words.now c.args.from _ (search rules) refl c.if-left-ne0.false in
-    on_some c.first_bit_of_words.result (λ k. found_later c.args.words.now c.args.from k none) c.first_bit_of_words.ensures.found
+    IfSome_then c.first_bit_of_words.result c.first_bit_of_words.ensures.found (found_later c.args.words.now c.args.from none)
 
 pub returns-clause-none : goal.returns-clause-none
 returns-clause-none c =

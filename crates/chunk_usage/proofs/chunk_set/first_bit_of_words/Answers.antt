@@ -1,7 +1,7 @@
 use Rattle.std.proofs.Common.{◌/◌, rules, inl, inr, arith, length}
 use Rattle.std.proofs.lemmas.Bool.{cases_lt}
 use Rattle.std.proofs.lemmas.List.{get_or_past}
-use Rattle.chunk_usage.proofs.ChunkSetLemmas.{no_bit, found_word}
+use Rattle.chunk_usage.proofs.WordLemmas.{no_bit, found_word}
 use Rattle.chunk_usage.proofs.chunk_set.first_bit_of_words.Goals as goal
 
 pub returns-then-words-place-ne0-clause-found : goal.returns-then-words-place-ne0-clause-found

@@ -1,5 +1,5 @@
 use Rattle.std.proofs.Common.{◌<◌, ◌^◌, slice_index, rules, arith}
-use Rattle.chunk_usage.proofs.ChunkSetLemmas.{all_full, set_before, clear_at}
+use Rattle.chunk_usage.proofs.WordLemmas.{all_full, set_before, clear_at}
 use Rattle.chunk_usage.proofs.chunk_set.first_clear_bit.Goals as goal
 
 pub returns-then-bits-clause-set_before : goal.returns-then-bits-clause-set_before

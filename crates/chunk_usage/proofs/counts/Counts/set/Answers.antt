@@ -16,24 +16,33 @@ before c = get_or_read c.self.inside.live.items c.args.chunk c.index-before.resu
 noted_len : (c : goal.After-self-3-1) → length c.note.new.noted ≡ c.self.inside.noted.len
 noted_len c = c.note.auto.noted ∙ c.deref_mut.ensures.len
 
-noted : (c : goal.After-self-3-1) → c.note.new.noted ≡ (if slice_index_or c.self.inside.changed c.args.chunk false then c.self.inside.noted.items else slice_set c.self.inside.noted.items c.args.chunk c.index-before.result.now)
-noted c = c.note.ensures.noted ∙ ap (λ (xs : List ℕ). if slice_index_or c.self.inside.changed c.args.chunk false then xs else slice_set xs c.args.chunk c.index-before.result.now) c.deref_mut.ensures.value
+noted : (c : goal.After-self-3-1)
+    → c.note.new.noted ≡ (if slice_index_or c.self.inside.changed c.args.chunk false then c.self.inside.noted.items else slice_set c.self.inside.noted.items c.args.chunk c.index-before.result.now)
+noted c =
+    c.note.ensures.noted
+    ∙ ap (λ (xs : List ℕ). if slice_index_or c.self.inside.changed c.args.chunk false then xs else slice_set xs c.args.chunk c.index-before.result.now) c.deref_mut.ensures.value
 
 pub invariant_of-self : goal.invariant_of-self
 invariant_of-self c =
-    let n = length-set c.self.inside.live.items c.args.chunk c.args.count in
+    let s = c.self.inside in
+    let old = c.self.invariant in
+    let n = length-set s.live.items c.args.chunk c.args.count in
+    let low = low_set s.live.items c.args.chunk c.index-before.result.now c.args.count (inside c) (before c) in
     record {
-      few = let f = c.self.invariant.few in omega arith;
-      noted = ap length (with_items_is c.self.inside.noted c.note.new.noted (noted_len c)) ∙ noted_len c ∙ c.self.inside.noted.ok.0 ∙ c.self.invariant.noted ∙ sym n;
-      changed = ap length c.note.ensures.changed ∙ length-set c.self.inside.changed c.args.chunk _ ∙ c.self.invariant.changed ∙ sym n;
-      counted = c.set.ensures ∙ ap (λ (row : List Bool). slice_set row c.args.chunk (nat_lt 0 c.args.count)) c.self.invariant.counted ∙ sym (map-set (nat_lt 0) c.self.inside.live.items c.args.chunk c.args.count);
-      low = let e = low_set c.self.inside.live.items c.args.chunk c.index-before.result.now c.args.count (inside c) (before c) in let f = c.self.invariant.low in let g = c.one_if_low.ensures in let h = c.one_if_low-2.ensures in omega arith;
+      few = let f = old.few in omega arith;
+      noted = ap length (with_items_is s.noted c.note.new.noted (noted_len c)) ∙ noted_len c ∙ s.noted.ok.0 ∙ old.noted ∙ sym n;
+      changed = ap length c.note.ensures.changed ∙ length-set s.changed c.args.chunk _ ∙ old.changed ∙ sym n;
+      counted = c.set.ensures ∙ ap (λ (row : List Bool). slice_set row c.args.chunk (nat_lt 0 c.args.count)) old.counted ∙ sym (map-set (nat_lt 0) s.live.items c.args.chunk c.args.count);
+      low = let f = old.low in let g = c.one_if_low.ensures in let h = c.one_if_low-2.ensures in omega arith;
     }
 
 pub returns : goal.returns
 returns c =
-    ap (λ (last : List ℕ). record { live = slice_set c.self.inside.live.items c.args.chunk c.args.count; last = last }) (
-    ap (λ (xs : List ℕ). counts_before c.note.new.changed xs (slice_set c.self.inside.live.items c.args.chunk c.args.count)) (with_items_is c.self.inside.noted c.note.new.noted (noted_len c))
-    ∙ ap (λ (fs : List Bool). counts_before fs c.note.new.noted (slice_set c.self.inside.live.items c.args.chunk c.args.count)) c.note.ensures.changed
-    ∙ set_keeps c.self.inside.changed c.self.inside.noted.items c.self.inside.live.items c.note.new.noted c.args.chunk c.index-before.result.now c.args.count (inside c) c.self.invariant.changed c.self.invariant.noted (before c) (noted c))
+    let s = c.self.inside in
+    let live = slice_set s.live.items c.args.chunk c.args.count in
+    let last =
+    ap (λ (xs : List ℕ). counts_before c.note.new.changed xs live) (with_items_is s.noted c.note.new.noted (noted_len c))
+    ∙ ap (λ (fs : List Bool). counts_before fs c.note.new.noted live) c.note.ensures.changed
+    ∙ set_keeps s.changed s.noted.items s.live.items c.note.new.noted c.args.chunk c.index-before.result.now c.args.count (inside c) c.self.invariant.changed c.self.invariant.noted (before c) (noted c) in
+    ap (λ (xs : List ℕ). record { live = live; last = xs }) last
     ∙ ap (λ (counts : Counted). record { live = slice_set counts.live c.args.chunk c.args.count; last = counts.last }) c.self.view_is
