@@ -13,7 +13,7 @@ pub record Counted : Type 0 where
 abbrev pub is_low : ℕ → Bool
 is_low count = nat_le count 256
 
--- the chunk is given and not open, and few of its cells count
+-- the chunk is given and not the bump chunk, and few of its cells count
 abbrev pub is_sparse : Ledger → ℕ → Bool
 is_sparse l chunk = is_given l chunk && (is_low (slice_index l.live chunk) && not (is_open l.open_chunk chunk))
 
@@ -21,7 +21,7 @@ is_sparse l chunk = is_given l chunk && (is_low (slice_index l.live chunk) && no
 abbrev pub sparse_count : Ledger → ℕ
 sparse_count l = count_by (is_sparse l) (range_with_len 0 (length l.given))
 
--- 1 where the open chunk has few cells that count
+-- 1 where the bump chunk has few cells that count
 abbrev pub open_low : List ℕ → Option Open → ℕ
 open_low live None = 0
 open_low live (Some o) = if is_low (slice_index live o.chunk) then 1 else 0

@@ -32,8 +32,7 @@ impl ChunkSet {
         requires { chunks ≤ 4096 }
         ensures { IfOk result (λ s. s ≡ replicate chunks false) }
     {
-        let count = (chunks as usize + 63) / 64;
-        let words = vec![in alloc; 0; count]?;
+        let words = vec![in alloc; 0; chunks.div_ceil(64) as usize]?;
         Ok(ChunkSet { words, chunks })
     }
 

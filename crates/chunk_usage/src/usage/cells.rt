@@ -1,9 +1,9 @@
 //! Cells that are handed out, and released.
 
-ghost use Rattle.std.specs.Prelude.{◌≡◌, ◌<◌, ◌≤◌, ◌-◌, ◌+◌, ◌*◌, ◌/◌, ◌%◌, ◌↔◌, ◌&&◌, nat_le, Some, IsErr, not, count_by, length, slice_index};
-ghost use Rattle.std.specs.List.{position_or_len};
+ghost use Rattle.std.specs.Prelude.{◌≡◌, ◌<◌, ◌≤◌, ◌-◌, ◌+◌, ◌*◌, ◌/◌, ◌%◌, ◌↔◌, ◌&&◌, nat_le, Some, IsErr, slice_index};
 ghost use Rattle.chunk_usage.specs.Ledger.{free_count, filled, is_open, is_used, is_fresh};
-ghost use Rattle.chunk_usage.specs.Handing.{IsShort, IsSpent, all_released, allocated, grant_of, lowest_free, next_cell, released, reserve_allocated, reserve_grant_of, roomy, shortage, taken, with_open};
+ghost use Rattle.chunk_usage.specs.Handing.{IsShort, all_released, allocated, grant_of, lowest_free, next_cell, released, roomy, shortage, taken, with_open};
+ghost use Rattle.chunk_usage.specs.Handing.{IsSpent, new_grant, newly_taken, reserve_allocated, reserve_grant_of};
 ghost use Rattle.chunk_usage.specs.Keeping.{closed};
 ghost use Rattle.chunk_usage.specs.Rooms.{Grows};
 
@@ -116,8 +116,8 @@ impl Usage {
     fn take_new(&mut self, n: u32) -> Grant
         requires free { 0 < free_count self.old }
         requires few { n ≤ 256 }
-        ensures grant { result ≡ record { at = lowest_free self.old * 1024; given = Some (lowest_free self.old) } }
-        ensures after { self.new ≡ taken (with_open self.old (lowest_free self.old)) (record { chunk = lowest_free self.old; filled = 0 }) n }
+        ensures grant { result ≡ new_grant self.old }
+        ensures after { self.new ≡ newly_taken self.old n }
     {
         let bump = self.bump_lowest();
         let at = self.take(bump, n);
