@@ -6,7 +6,7 @@ use Rattle.std.proofs.lemmas.Bool.{cases_eq, cases_lt}
 use Rattle.std.proofs.lemmas.List.{length-set, get_or-set_same, get_or-set_other, get_or_past, get_or-replicate, length-replicate}
 use Rattle.std.proofs.lemmas.List.FromFn.{fill_by_all, get_or-map-range_with_len, length-map-range_with_len}
 use Rattle.std.proofs.lemmas.List.Sums.{position_or_len_is}
-use Rattle.chunk_usage.specs.ChunkSets.{has_bit, flags_of, AreWords, IsFirstFrom, IsFirstBit}
+use Rattle.chunk_usage.specs.ChunkSets.{has_bit, flags_of, AreWords, IsFirstFrom, IsFirstBit, Without, has}
 use Rattle.chunk_usage.proofs.FlagLemmas.{first_clear_is, set_within}
 use Rattle.chunk_usage.proofs.WordLemmas.{no_bits, with_bit, without_bit, set_here, set_others, clear_here, clear_others}
 
@@ -125,5 +125,8 @@ module _ {words others : List ℕ} {n m : ℕ} {flags taken : List Bool} (s : Se
   pub subtracted_words : AreWords new n
   subtracted_words = record { count = same ∙ s.sound.count; few = s.sound.few; none_past = λ k past. each k ∙ ap (λ x. x && not (has_bit others k)) (s.sound.none_past k past) }
 
-  pub subtracted : (k : ℕ) → slice_index_or (flags_of new n) k false ≡ (slice_index_or flags k false && not (slice_index_or taken k false))
-  subtracted k = get-flags_of new n k subtracted_words ∙ each k ∙ ap (λ x. x && not (has_bit others k)) (get_is s k) ∙ ap (λ x. slice_index_or flags k false && not x) (get_is t k)
+  pub subtracted : Without flags (flags_of new n) (has taken)
+  subtracted = record {
+    len = length-flags_of new n ∙ chunks_are s;
+    left = λ k. get-flags_of new n k subtracted_words ∙ each k ∙ ap (λ x. x && not (has_bit others k)) (get_is s k) ∙ ap (λ x. has flags k && not x) (get_is t k);
+  }

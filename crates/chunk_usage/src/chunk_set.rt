@@ -1,8 +1,8 @@
 //! Sets of chunks, a bit for each chunk.
 
-ghost use Rattle.std.specs.Prelude.{◌≡◌, ◌≤◌, ◌<◌, ◌*◌, ◌&&◌, ℕ, false, true, not, IfOk, IfSome, IfNone, count_by, length, replicate, slice_index_or, slice_set};
+ghost use Rattle.std.specs.Prelude.{◌≡◌, ◌≤◌, ◌<◌, ◌*◌, ◌&&◌, ℕ, false, true, not, IfOk, IfSome, IfNone, count_by, length, replicate, slice_set};
 ghost use Rattle.std.specs.List.{position_or_len};
-ghost use Rattle.chunk_usage.specs.ChunkSets.{IsFirstBit, IsFirstFrom, has_bit};
+ghost use Rattle.chunk_usage.specs.ChunkSets.{IsFirstBit, IsFirstFrom, Without, has, has_bit};
 
 use std::alloc::{AllocError, Global};
 use std::marker::Model;
@@ -47,7 +47,7 @@ impl ChunkSet {
     /// Whether a chunk is in the set.
     #[inline]
     pub fn contains(&self, chunk: u32) -> bool
-        ensures { result ≡ slice_index_or self.now chunk false }
+        ensures { result ≡ has self.now chunk }
     {
         let word = (chunk / 64) as usize;
         word < self.words.len() && (self.words[word] >> (chunk % 64)) & 1 == 1
@@ -102,9 +102,7 @@ impl ChunkSet {
     /// Takes the chunks of another set out.
     pub fn subtract(&mut self, other: &ChunkSet)
         requires { length self.old ≡ length other.now }
-        ensures len { length self.new ≡ length self.old }
-        ensures left { (k : ℕ) → slice_index_or self.new k false
-            ≡ (slice_index_or self.old k false && not (slice_index_or other.now k false)) }
+        ensures { Without self.old self.new (has other.now) }
     {
         clear_bits(&mut self.words, &other.words);
     }
@@ -113,7 +111,7 @@ impl ChunkSet {
     #[inline]
     pub fn first_from(&self, from: u32) -> Option<u32>
         ensures found { IfSome result (λ k. IsFirstFrom self.now from k) }
-        ensures none { IfNone result ((k : ℕ) → from ≤ k → slice_index_or self.now k false ≡ false) }
+        ensures none { IfNone result ((k : ℕ) → from ≤ k → has self.now k ≡ false) }
     {
         first_bit(&self.words, from)
     }

@@ -1,7 +1,8 @@
 //! Of each chunk, how many of its cells count: now, and at the last freeze.
 
-ghost use Rattle.std.specs.Prelude.{◌≡◌, ◌≤◌, ◌<◌, IfOk, false, true, count_by, if◌then◌else◌, length, replicate, slice_index, slice_index_or, slice_set};
+ghost use Rattle.std.specs.Prelude.{◌≡◌, ◌≤◌, ◌<◌, IfOk, false, true, count_by, if◌then◌else◌, length, replicate, slice_index, slice_set};
 ghost use Rattle.chunk_usage.specs.Ledger.{row_of};
+ghost use Rattle.chunk_usage.specs.ChunkSets.{has};
 ghost use Rattle.chunk_usage.specs.Counting.{is_low};
 
 use crate::chunk_set::ChunkSet;
@@ -133,7 +134,7 @@ fn note(noted: &mut [u32], changed: &mut ChunkSet, chunk: u32, count: u32)
     requires inside { chunk < length changed.old }
     requires same { length noted.old ≡ length changed.old }
     ensures changed { changed.new ≡ slice_set changed.old chunk true }
-    ensures noted { noted.new ≡ (if slice_index_or changed.old chunk false then noted.old else slice_set noted.old chunk count) }
+    ensures noted { noted.new ≡ (if has changed.old chunk then noted.old else slice_set noted.old chunk count) }
 {
     if !changed.contains(chunk) {
         noted[chunk as usize] = count;

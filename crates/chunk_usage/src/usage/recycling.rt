@@ -1,7 +1,8 @@
 //! Chunks that nothing reaches, given back.
 
-ghost use Rattle.std.specs.Prelude.{◌≡◌, ◌&&◌, ◌+◌, ◌/◌, ◌<◌, ◌≤◌, ℕ, true, false, not, count_by, length, slice_index_or, All, Contains, IfSome};
+ghost use Rattle.std.specs.Prelude.{◌≡◌, ◌&&◌, ◌+◌, ◌/◌, ◌<◌, ◌≤◌, ℕ, true, false, not, count_by, length, All, Contains, IfSome};
 ghost use Rattle.packed_node.specs.declared.Cell.{Cell};
+ghost use Rattle.chunk_usage.specs.ChunkSets.{Without, has};
 ghost use Rattle.chunk_usage.specs.Ledger.{Row, free_count, is_given, is_open};
 ghost use Rattle.chunk_usage.specs.Keeping.{freed, is_in_rows, is_needed, is_unreached};
 
@@ -39,8 +40,7 @@ impl Usage {
 /// Takes out the chunks of kept versions.
 fn leave_out_kept(found: &mut ChunkSet, kept: &[KeptVersion])
     requires { All (λ (r : Row). length r.chunks ≡ length found.old) kept.now }
-    ensures len { length found.new ≡ length found.old }
-    ensures left { (k : ℕ) → slice_index_or found.new k false ≡ (slice_index_or found.old k false && not (is_in_rows kept.now k)) }
+    ensures { Without found.old found.new (is_in_rows kept.now) }
 {
     for version in kept.iter() {
         found.subtract(version.chunks());
@@ -50,8 +50,7 @@ fn leave_out_kept(found: &mut ChunkSet, kept: &[KeptVersion])
 /// Takes out a bump chunk, where there is one.
 fn leave_out(found: &mut ChunkSet, bump: Option<Open>)
     requires { IfSome bump (λ o. o.chunk < length found.old) }
-    ensures len { length found.new ≡ length found.old }
-    ensures left { (k : ℕ) → slice_index_or found.new k false ≡ (slice_index_or found.old k false && not (is_open bump k)) }
+    ensures { Without found.old found.new (is_open bump) }
 {
     if let Some(bump) = bump {
         found.remove(bump.chunk);
@@ -62,13 +61,12 @@ fn leave_out(found: &mut ChunkSet, bump: Option<Open>)
 fn free_all<C: CellWrite>(chunks: &ChunkSet, allocated: &mut ChunkSet, cells: &mut C) -> u32
     requires few { length chunks.now ≤ 4096 }
     requires same { C.given cells.old ≡ allocated.old }
-    requires given { (k : ℕ) → slice_index_or chunks.now k false ≡ true → slice_index_or allocated.old k false ≡ true }
-    requires unkept { (q : ℕ) → Contains (C.kept cells.old) q → slice_index_or chunks.now (q / 1024) false ≡ false }
-    ensures len { length allocated.new ≡ length allocated.old }
-    ensures left { (k : ℕ) → slice_index_or allocated.new k false ≡ (slice_index_or allocated.old k false && not (slice_index_or chunks.now k false)) }
+    requires given { (k : ℕ) → has chunks.now k ≡ true → has allocated.old k ≡ true }
+    requires unkept { (q : ℕ) → Contains (C.kept cells.old) q → has chunks.now (q / 1024) ≡ false }
+    ensures left { Without allocated.old allocated.new (has chunks.now) }
     ensures count { count_by not allocated.new ≡ count_by not allocated.old + result }
     ensures given { C.given cells.new ≡ allocated.new }
-    ensures others { (q : ℕ) (c : Cell) → slice_index_or chunks.now (q / 1024) false ≡ false → C.has cells.old q c → C.has cells.new q c }
+    ensures others { (q : ℕ) (c : Cell) → has chunks.now (q / 1024) ≡ false → C.has cells.old q c → C.has cells.new q c }
     ensures kept { C.kept cells.new ≡ C.kept cells.old }
 {
     let mut count = 0;

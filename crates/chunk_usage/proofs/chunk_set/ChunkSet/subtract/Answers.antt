@@ -1,7 +1,7 @@
-use Rattle.std.proofs.Common.{ℕ, List, false, slice_index_or, ◌∙◌, sym, ap, subst, arith}
+use Rattle.std.proofs.Common.{ℕ, List, ◌∙◌, sym, subst, arith}
 use Rattle.std.proofs.lemmas.List.{with_items_is}
-use Rattle.chunk_usage.specs.ChunkSets.{AreWords, flags_of}
-use Rattle.chunk_usage.proofs.ChunkSetLemmas.{seen, seen_in, same_words, chunks_are, length-flags_of, subtracted, subtracted_words}
+use Rattle.chunk_usage.specs.ChunkSets.{AreWords, Without, flags_of, has}
+use Rattle.chunk_usage.proofs.ChunkSetLemmas.{seen, seen_in, same_words, subtracted, subtracted_words}
 use Rattle.chunk_usage.proofs.chunk_set.ChunkSet.subtract.Goals as goal
 
 pub clear_bits-requires : goal.clear_bits-requires
@@ -18,12 +18,9 @@ invariant_of-self c =
     let new = with_items_is c.self.inside.words c.clear_bits.new.words (c.clear_bits.ensures.len ∙ c.deref_mut.ensures.len) in
     subst (λ (ws : List ℕ). AreWords ws c.self.inside.chunks) (sym new) (subtracted_words mine other c.clear_bits.new.words c.clear_bits.ensures.len c.clear_bits.ensures.left)
 
-pub returns-clause-len : goal.returns-clause-len
-returns-clause-len c = length-flags_of _ c.self.inside.chunks ∙ chunks_are (seen c.self.invariant c.self.view_is)
-
-pub returns-clause-left : goal.returns-clause-left
-returns-clause-left c k =
+pub returns : goal.returns
+returns c =
     let mine = seen_in c.deref_mut.result.now (seen c.self.invariant c.self.view_is) c.deref_mut.ensures.value in
     let other = seen_in c.deref.result.now (seen c.other.invariant c.other.view_is) c.deref.ensures.value in
     let new = with_items_is c.self.inside.words c.clear_bits.new.words (c.clear_bits.ensures.len ∙ c.deref_mut.ensures.len) in
-    ap (λ (ws : List ℕ). slice_index_or (flags_of ws c.self.inside.chunks) k false) new ∙ subtracted mine other c.clear_bits.new.words c.clear_bits.ensures.len c.clear_bits.ensures.left k
+    subst (λ (ws : List ℕ). Without c.args.self.now (flags_of ws c.self.inside.chunks) (has c.args.other.now)) (sym new) (subtracted mine other c.clear_bits.new.words c.clear_bits.ensures.len c.clear_bits.ensures.left)

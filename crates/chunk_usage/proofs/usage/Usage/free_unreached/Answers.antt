@@ -1,7 +1,8 @@
-use Rattle.std.proofs.Common.{◌≡◌, ◌/◌, ℕ, false, length, take, slice_index_or, sym, ap, ◌∙◌, arith}
+use Rattle.std.proofs.Common.{◌≡◌, ◌/◌, ℕ, length, take, sym, ap, ◌∙◌, arith}
 use Rattle.std.specs.Prelude.{◌&&◌}
 use Rattle.chunk_usage.specs.Ledger.{Ledger, is_given}
 use Rattle.chunk_usage.specs.Keeping.{freed, is_needed, is_unreached}
+use Rattle.chunk_usage.specs.ChunkSets.{has}
 use Rattle.chunk_usage.specs.Inside.{ledger_of}
 use Rattle.chunk_usage.proofs.RecyclingLaws.{found_is, left_needed, kept_stays, freed_ledger, freed_is}
 use Rattle.chunk_usage.proofs.usage.Usage.free_unreached.Given.{Over}
@@ -14,17 +15,17 @@ free_all-count-requires-clause-unkept g c q kept =
     ∙ ap (λ (l : Ledger). is_unreached l (q / 1024)) c.self.view_is ∙ kept_stays c.args.self.now (q / 1024) (c.requires.in_rows q kept)
 
 -- the set that was found has just the chunks that nothing needs
-found : (g : Over) (c : goal.After-self-1 g) (k : ℕ) → slice_index_or c.leave_out-2.new.found k false ≡ is_unreached (ledger_of c.self.inside) k
+found : (g : Over) (c : goal.After-self-1 g) (k : ℕ) → has c.leave_out-2.new.found k ≡ is_unreached (ledger_of c.self.inside) k
 found g c = found_is (ledger_of c.self.inside) c.copy_from.new.self c.counted.result.now c.subtract.new.self c.leave_out_kept.new.found c.leave_out.new.found c.leave_out-2.new.found _
     c.copy_from.ensures c.counted.ensures (ap (take c.self.inside.kept) c.deref.ensures.value) c.subtract.ensures.left c.leave_out_kept.ensures.left c.leave_out.ensures.left c.leave_out-2.ensures.left
 
 -- the chunks that something needs are left
-left : (g : Over) (c : goal.After-self-1 g) (k : ℕ) → slice_index_or c.free_all-count.new.allocated k false ≡ (is_given (ledger_of c.self.inside) k && is_needed (ledger_of c.self.inside) k)
-left g c = left_needed (ledger_of c.self.inside) c.leave_out-2.new.found c.free_all-count.new.allocated (found g c) c.free_all-count.ensures.left
+left : (g : Over) (c : goal.After-self-1 g) (k : ℕ) → has c.free_all-count.new.allocated k ≡ (is_given (ledger_of c.self.inside) k && is_needed (ledger_of c.self.inside) k)
+left g c = left_needed (ledger_of c.self.inside) c.leave_out-2.new.found c.free_all-count.new.allocated (found g c) c.free_all-count.ensures.left.left
 
 pub invariant_of-self : goal.invariant_of-self
 invariant_of-self g c =
-    let n : length c.free_all-count.new.allocated ≡ length c.self.inside.allocated = c.free_all-count.ensures.len in
+    let n : length c.free_all-count.new.allocated ≡ length c.self.inside.allocated = c.free_all-count.ensures.left.len in
     record {
       ledger = freed_ledger (ledger_of c.self.inside) c.self.invariant.ledger c.free_all-count.new.allocated n (left g c);
       free = let e = c.self.invariant.free in let m = c.free_all-count.ensures.count in omega arith;
@@ -35,7 +36,7 @@ invariant_of-self g c =
     }
 
 pub returns-clause-after : goal.returns-clause-after
-returns-clause-after g c = freed_is (ledger_of c.self.inside) c.self.invariant.ledger c.free_all-count.new.allocated c.free_all-count.ensures.len (left g c) ∙ ap freed c.self.view_is
+returns-clause-after g c = freed_is (ledger_of c.self.inside) c.self.invariant.ledger c.free_all-count.new.allocated c.free_all-count.ensures.left.len (left g c) ∙ ap freed c.self.view_is
 
 pub returns-clause-by_chunk : goal.returns-clause-by_chunk
 returns-clause-by_chunk g c k = left g c k ∙ ap (λ (l : Ledger). is_given l k && is_needed l k) c.self.view_is
