@@ -1,9 +1,9 @@
 -- Flags of chunks, and how many are clear.
-use Rattle.std.proofs.Common.{◌≡◌, ℕ, zero, suc, ◌+◌, ◌<◌, Bool, true, false, not, List, [], ◌∷◌, cond, length, slice_index_or, slice_set, refl, ◌∙◌, sym, ap, subst, inl, inr, arith}
+use Rattle.std.proofs.Common.{◌≡◌, ℕ, zero, suc, ◌+◌, ◌<◌, Bool, true, false, not, List, [], ◌∷◌, cond, length, replicate, slice_index_or, slice_set, refl, ◌∙◌, sym, ap, subst, inl, inr, arith}
 use Rattle.std.specs.Prelude.{count_by, slice_get, Some}
 use Rattle.std.specs.List.{position_or_len}
 use Rattle.std.proofs.lemmas.List.{get_or_past}
-use Rattle.std.proofs.lemmas.List.Sums.{sum_by-set, passes_at_first}
+use Rattle.std.proofs.lemmas.List.Sums.{sum_by-set, sum_by-cons, passes_at_first}
 use Rattle.std.proofs.lemmas.Bool.{cases_eq, cases_lt}
 use Rattle.std.proofs.lemmas.Grind.{elements}
 
@@ -57,3 +57,7 @@ pub get_clear : (flags : List Bool) (k : ℕ) → k < length flags → slice_ind
 get_clear [] k l h = absurd (omega arith)
 get_clear (b ∷ flags) zero l h = ap Some h
 get_clear (b ∷ flags) (suc k) l h = get_clear flags k (omega arith) h
+
+pub all_clear : (n : ℕ) → count_by not (replicate n false) ≡ n
+all_clear zero = refl
+all_clear (suc n) = let e = all_clear n in let f = sum_by-cons (λ (x : Bool). cond (not x) 1 0) false (replicate n false) in omega arith

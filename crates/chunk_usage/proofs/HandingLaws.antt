@@ -1,5 +1,5 @@
 -- Each change of a ledger leaves a ledger.
-use Rattle.std.proofs.Common.{◌≡◌, ℕ, ◌/◌, ◌%◌, ◌<◌, Bool, true, false, List, [], ◌∷◌, length, slice_index, slice_index_or, slice_set, ◌∙◌, sym, ap, inl, inr, arith}
+use Rattle.std.proofs.Common.{◌≡◌, ℕ, ◌/◌, ◌%◌, ◌<◌, Bool, true, false, List, [], ◌∷◌, length, slice_index, slice_index_or, slice_set, ◌∙◌, sym, ap, subst, inl, inr, arith}
 use Rattle.std.specs.Prelude.{Option, None, Some, nat_le, ◌==◌, ◌||◌, ◌&&◌}
 use Rattle.std.specs.List.{AllByRecursion}
 use Rattle.std.proofs.lemmas.Bool.{cases_lt}
@@ -66,3 +66,9 @@ module _ (l : Ledger) (h : IsLedger l) (c : ℕ) (within : c < length l.given) (
     rows_given = rows_grown l.given _ l.rows (length-set l.given c true) grown h.rows_given;
     newest_row = h.newest_row;
   }
+
+  -- a ledger whose flags are those
+  pub with_open_alike : (given since : List Bool) → given ≡ slice_set l.given c true → since ≡ slice_set l.since c true → IsLedger (record l { given = given; since = since; open_chunk = Some (record { chunk = c; filled = 0 }) })
+  with_open_alike given since a b =
+      let e : record l { given = given; since = since; open_chunk = Some (record { chunk = c; filled = 0 }) } ≡ with_open l c = cc in
+      subst IsLedger (sym e) with_open_ledger

@@ -6,7 +6,8 @@ use Rattle.std.proofs.lemmas.Bool.{cases_lt}
 use Rattle.std.proofs.lemmas.Bool.Decides.{nat_tests}
 use Rattle.std.proofs.lemmas.List.{length-map, length-replicate, get_or-map, get_or-replicate, get_or_past}
 use Rattle.chunk_usage.specs.declared.open.Open.{Open}
-use Rattle.chunk_usage.specs.Ledger.{Row, Ledger, IsLedger, IsRowOf, Rising, IsNewest, newest, row_of, is_given, is_open, is_used, is_fresh, filled}
+use Rattle.chunk_usage.specs.Ledger.{Row, Ledger, IsLedger, AreCounts, IsRowOf, unused, Rising, IsNewest, newest, row_of, is_given, is_open, is_used, is_fresh, filled}
+use Rattle.chunk_usage.specs.Counting.{Counted}
 use Rattle.chunk_usage.specs.Keeping.{AreOlder, frozen, dropped, without_row, is_row_of}
 use Rattle.chunk_usage.proofs.FlagLemmas.{set_within}
 
@@ -69,11 +70,11 @@ frozen_settled l version q u = go l.open_chunk u
     go (Some o) u = let z = none_set (length l.since) (q / 1024) in grind (arith, nat_tests, z, u)
 
 -- a ledger whose fields are those of the frozen one
-pub frozen_alike : (l m : Ledger) → l ≡ m → IsLedger l → (version : ℕ) → length m.rows < m.passes + 2 → AreOlder m.rows version → (since : List Bool) (last : List ℕ) (rows : List Row)
-    → since ≡ replicate (length l.since) false → last ≡ l.live → rows ≡ l.rows ++ record { version = version; chunks = row_of l.live } ∷ []
-    → IsLedger (record l { since = since; last_live = last; last_open = l.open_chunk; rows = rows })
-frozen_alike l m same h version room older since last rows a b c =
-    let e : record l { since = since; last_live = last; last_open = l.open_chunk; rows = rows } ≡ frozen l version = cc in
+pub frozen_alike : (l m : Ledger) → l ≡ m → IsLedger l → (version : ℕ) → length m.rows < m.passes + 2 → AreOlder m.rows version → (live : List ℕ) (since : List Bool) (last : List ℕ) (rows : List Row)
+    → live ≡ l.live → since ≡ replicate (length l.since) false → last ≡ l.live → rows ≡ l.rows ++ record { version = version; chunks = row_of l.live } ∷ []
+    → IsLedger (record l { live = live; since = since; last_live = last; last_open = l.open_chunk; rows = rows })
+frozen_alike l m same h version room older live since last rows z a b c =
+    let e : record l { live = live; since = since; last_live = last; last_open = l.open_chunk; rows = rows } ≡ frozen l version = cc in
     subst IsLedger (sym e) (frozen_ledger l h version (subst (λ (n : Ledger). length n.rows < n.passes + 2) (sym same) room) (subst (λ (n : Ledger). AreOlder n.rows version) (sym same) older))
 
 -- what is left of rows without one version
@@ -142,3 +143,37 @@ dropped_ledger l h version other = record {
 pub dropped_alike : (l m : Ledger) → l ≡ m → IsLedger l → (version : ℕ) → IfSome (newest m.rows) (λ r. r.version ≢ version) → (rows : List Row) → rows ≡ without_row version l.rows → IsLedger (record l { rows = rows })
 dropped_alike l m same h version other rows e =
     subst (λ (rs : List Row). IsLedger (record l { rows = rs })) (sym e) (dropped_ledger l h version (subst (λ (n : Ledger). IfSome (newest n.rows) (λ r. r.version ≢ version)) (sym same) other))
+
+-- nothing is given, and nothing is kept
+unused_ledger : (chunks passes : ℕ) → 1 ≤ chunks → chunks ≤ 4096 → 1 ≤ passes → passes ≤ 64 → IsLedger (unused chunks passes)
+unused_ledger chunks passes some few some_passes few_passes = record {
+  some = let e = length-replicate chunks false in omega arith;
+  few = let e = length-replicate chunks false in omega arith;
+  counted = length-replicate chunks 0 ∙ sym (length-replicate chunks false);
+  known_since = refl;
+  counted_last = length-replicate chunks 0 ∙ sym (length-replicate chunks false);
+  some_passes = some_passes;
+  few_passes = few_passes;
+  counts = none;
+  last_counts = none;
+  opened = tt;
+  last_opened = tt;
+  left_fresh = λ q e f. cc;
+  few_rows = omega arith;
+  rising = tt;
+  rows_given = tt;
+  newest_row = zero;
+}
+  where
+    zero : (k : ℕ) → slice_index (replicate chunks 0) k ≡ 0
+    zero k = elim (cases_lt k chunks) [ inl l ↦ get_or-replicate chunks k 0 0 l | inr past ↦ get_or_past (replicate chunks 0) k 0 (subst (λ n. n ≤ k) (sym (length-replicate chunks 0)) past) ]
+
+    none : AreCounts (replicate chunks false) (replicate chunks 0)
+    none = record { most = λ k. let z = zero k in omega arith; in_given = λ k some. absurd (let z = zero k in omega arith) }
+
+pub unused_alike : (chunks passes : ℕ) → 1 ≤ chunks → chunks ≤ 4096 → 1 ≤ passes → passes ≤ 64 → (counts : Counted) (given since : List Bool)
+    → counts ≡ record { live = replicate chunks 0; last = replicate chunks 0 } → given ≡ replicate chunks false → since ≡ replicate chunks false
+    → IsLedger (record { live = counts.live; given = given; since = since; open_chunk = None; last_live = counts.last; last_open = None; rows = []; passes = passes })
+unused_alike chunks passes some few some_passes few_passes counts given since a b c =
+    let e : record { live = counts.live; given = given; since = since; open_chunk = None; last_live = counts.last; last_open = None; rows = []; passes = passes } ≡ unused chunks passes = cc in
+    subst IsLedger (sym e) (unused_ledger chunks passes some few some_passes few_passes)

@@ -1,8 +1,13 @@
+pub mod ChunkSetLemmas
+pub mod CountLemmas
 pub mod FlagLemmas
 pub mod HandingLaws
 pub mod InsideLemmas
 pub mod KeepingLaws
 pub mod KeptLemmas
 pub mod RecyclingLaws
+pub mod RoundLemmas
 pub mod RowLemmas
 pub mod SpaceLaws
+pub mod SparseLaws
+pub mod WordLemmas

@@ -1,176 +1,85 @@
 -- Chunks that nothing needs: a ledger stays one without them.
-use Rattle.std.proofs.Common.{◌≡◌, ◌≢◌, ℕ, ◌+◌, ◌<◌, ◌≤◌, nat_lt, Bool, true, false, not, List, [], ◌∷◌, length, slice_index, slice_index_or, slice_set, refl, ◌∙◌, sym, subst, ap, inl, inr, arith}
+use Rattle.std.proofs.Common.{◌≡◌, ℕ, ◌<◌, ◌≤◌, nat_lt, Bool, true, false, not, List, [], ◌∷◌, length, slice_index, slice_index_or, refl, ◌∙◌, sym, ap, subst, inl, inr, arith}
 use Rattle.std.specs.Prelude.{Option, None, Some, ◌||◌, ◌&&◌}
 use Rattle.std.specs.List.{AllByRecursion, list_any}
-use Rattle.std.proofs.lemmas.Bool.{cases_eq, cases_lt}
-use Rattle.std.proofs.lemmas.Bool.Decides.{nat_tests}
-use Rattle.std.proofs.lemmas.List.{length-set, get_or-map, get_or-set_same, get_or-set_other, get_or_past}
+use Rattle.std.proofs.lemmas.Bool.{cases_lt, and_from, and_parts, or_left, or_right, eq-eqb, lt-ltb}
+use Rattle.std.proofs.lemmas.List.{length-map, get_or-map, get_or_past}
 use Rattle.std.proofs.lemmas.List.FromFn.{fill_by_all, get_or-map-range_with_len, length-map-range_with_len}
 use Rattle.chunk_usage.specs.declared.open.Open.{Open}
-use Rattle.chunk_usage.specs.Ledger.{Row, Ledger, IsLedger, AreCounts, IsOpen, IsRowOf, IsNewest, newest, row_of, is_in_row, is_given, is_open}
-use Rattle.chunk_usage.specs.Keeping.{is_in_rows, is_needed, is_unreached, freed, with_free}
-use Rattle.chunk_usage.proofs.FlagLemmas.{set_within}
+use Rattle.chunk_usage.specs.Ledger.{Row, Ledger, IsLedger, IsOpen, IsRowOf, IsNewest, newest, row_of, is_in_row, is_given, is_open}
+use Rattle.chunk_usage.specs.Keeping.{is_in_rows, is_needed, is_unreached, freed}
 
-pub differ : true ≡ false → ⊥
-differ e = cc
-
--- why a chunk may be freed
-pub record Unreached (l : Ledger) (chunk : ℕ) : Type 0 where
-  pub given : is_given l chunk ≡ true
-  pub not_open : is_open l.open_chunk chunk ≡ false
-  pub not_last_open : is_open l.last_open chunk ≡ false
-  pub not_live : slice_index l.live chunk ≡ 0
-  pub in_no_row : is_in_rows l.rows chunk ≡ false
-
-pub unreached : (l : Ledger) (chunk : ℕ) → is_unreached l chunk ≡ true → Unreached l chunk
-unreached l chunk h = go (is_given l chunk) (is_open l.open_chunk chunk) (is_open l.last_open chunk) (nat_lt 0 (slice_index l.live chunk)) (is_in_rows l.rows chunk) refl refl refl refl refl h
-  where
-    go : (a b c d e : Bool) → is_given l chunk ≡ a → is_open l.open_chunk chunk ≡ b → is_open l.last_open chunk ≡ c → nat_lt 0 (slice_index l.live chunk) ≡ d → is_in_rows l.rows chunk ≡ e
-        → (a && not (b || (c || (d || e)))) ≡ true → Unreached l chunk
-    go true false false false false p q r s t h = record { given = p; not_open = q; not_last_open = r; not_live = grind (arith, nat_tests, s); in_no_row = t }
-    go true false false false true p q r s t h = cc
-    go true false false true e p q r s t h = cc
-    go true false true d e p q r s t h = cc
-    go true true c d e p q r s t h = cc
-    go false b c d e p q r s t h = cc
-
-both_false : (a b : Bool) → (a || b) ≡ false → (a ≡ false) × (b ≡ false)
-both_false true b h = (h, cc)
-both_false false b h = (refl, h)
-
--- what no row passes, the newest doesn't
-newest_fails : (p : Row → Bool) (rows : List Row) (r : Row) → newest rows ≡ Some r → list_any p rows ≡ false → p r ≡ false
-newest_fails p [] r e none = cc
-newest_fails p (s ∷ []) r e none = let same : s ≡ r = cc in ap p (sym same) ∙ (both_false (p s) false none).0
-newest_fails p (s ∷ t ∷ rows) r e none = newest_fails p (t ∷ rows) r e (both_false (p s) (list_any p (t ∷ rows)) none).1
+-- the newest row is one of the rows
+newest_passes : (p : Row → Bool) (rows : List Row) (r : Row) → newest rows ≡ Some r → p r ≡ true → list_any p rows ≡ true
+newest_passes p [] r e t = cc
+newest_passes p (s ∷ []) r e t = let same : s ≡ r = cc in or_left (p s) false (ap p same ∙ t)
+newest_passes p (s ∷ t ∷ rows) r e h = or_right (p s) (list_any p (t ∷ rows)) (newest_passes p (t ∷ rows) r e h)
 
 -- a count that isn't 0 stands in the list
 counted_within : (live : List ℕ) (k : ℕ) → 0 < slice_index live k → k < length live
 counted_within live k some = elim (cases_lt k (length live)) [ inl l ↦ l | inr past ↦ (let z = get_or_past live k 0 past in absurd (omega arith)) ]
 
-module _ (l : Ledger) (h : IsLedger l) (chunk : ℕ) (u : Unreached l chunk) where
-  -- no cell of it counted at the last freeze
-  not_last_live : slice_index l.last_live chunk ≡ 0
-  not_last_live = go (newest l.rows) refl h.newest_row
+-- what makes a chunk needed
+module _ (l : Ledger) (k : ℕ) where
+  open_needed : is_open l.open_chunk k ≡ true → is_needed l k ≡ true
+  open_needed t = or_left (is_open l.open_chunk k) _ t
+
+  last_open_needed : is_open l.last_open k ≡ true → is_needed l k ≡ true
+  last_open_needed t = or_right (is_open l.open_chunk k) _ (or_left (is_open l.last_open k) _ t)
+
+  live_needed : 0 < slice_index l.live k → is_needed l k ≡ true
+  live_needed some = or_right (is_open l.open_chunk k) _ (or_right (is_open l.last_open k) _ (or_left (nat_lt 0 (slice_index l.live k)) _ (lt-ltb 0 (slice_index l.live k) some)))
+
+  row_needed : is_in_rows l.rows k ≡ true → is_needed l k ≡ true
+  row_needed t = or_right (is_open l.open_chunk k) _ (or_right (is_open l.last_open k) _ (or_right (nat_lt 0 (slice_index l.live k)) _ t))
+
+-- the given chunks, of which those are left that something needs
+module _ (l : Ledger) (h : IsLedger l) (given : List Bool) (same : length given ≡ length l.given) (each : (k : ℕ) → slice_index_or given k false ≡ (is_given l k && is_needed l k)) where
+  stays : (k : ℕ) → is_given l k ≡ true → is_needed l k ≡ true → slice_index_or given k false ≡ true
+  stays k a b = each k ∙ and_from (is_given l k) (is_needed l k) a b
+
+  -- a chunk with a cell that counted at the last freeze is in the newest row
+  last_live_needed : (k : ℕ) → 0 < slice_index l.last_live k → is_needed l k ≡ true
+  last_live_needed k some = go (newest l.rows) refl h.newest_row
     where
-      marked : 0 < slice_index l.last_live chunk → slice_index_or (row_of l.last_live) chunk false ≡ true
-      marked some = get_or-map (nat_lt 0) l.last_live chunk 0 false (counted_within l.last_live chunk some) ∙ grind (arith, nat_tests)
+      go : (o : Option Row) → newest l.rows ≡ o → IsNewest l.last_live o → is_needed l k ≡ true
+      go None e zero = absurd (let z = zero k in omega arith)
+      go (Some r) e is = row_needed l k (newest_passes (λ r. is_in_row r k) l.rows r e (ap (λ (flags : List Bool). slice_index_or flags k false) is
+          ∙ get_or-map (nat_lt 0) l.last_live k 0 false (counted_within l.last_live k some) ∙ lt-ltb 0 (slice_index l.last_live k) some))
 
-      go : (o : Option Row) → newest l.rows ≡ o → IsNewest l.last_live o → slice_index l.last_live chunk ≡ 0
-      go None e zero = zero chunk
-      go (Some r) e same = elim (cases_lt 0 (slice_index l.last_live chunk)) [
-        | inl some ↦ absurd (differ (sym (marked some) ∙ ap (λ (flags : List Bool). slice_index_or flags chunk false) (sym same) ∙ newest_fails (λ r. is_in_row r chunk) l.rows r e u.in_no_row))
-        | inr none ↦ omega arith
-      ]
+  open_stays : (live : List ℕ) (o : Option Open) → ((k : ℕ) → is_open o k ≡ true → is_needed l k ≡ true) → IsOpen l.given live o → IsOpen given live o
+  open_stays live None needed a = a
+  open_stays live (Some o) needed a = (a.0, stays o.chunk a.1 (needed o.chunk (eq-eqb o.chunk o.chunk refl)), a.2)
 
-  stays_given : (k : ℕ) → k ≢ chunk → slice_index_or l.given k false ≡ true → slice_index_or (slice_set l.given chunk false) k false ≡ true
-  stays_given k other t = get_or-set_other l.given chunk k false false other ∙ t
+  rows_stay : (rows : List Row) → ((k : ℕ) → is_in_rows rows k ≡ true → is_needed l k ≡ true) → AllByRecursion (IsRowOf l.given) rows → AllByRecursion (IsRowOf given) rows
+  rows_stay [] needed a = tt
+  rows_stay (r ∷ rows) needed a = (
+    record { wide = a.0.wide ∙ sym same; in_given = λ k t. stays k (a.0.in_given k t) (needed k (or_left (is_in_row r k) _ t)) },
+    rows_stay rows (λ k t. needed k (or_right (is_in_row r k) _ t)) a.1,
+  )
 
-  counts_left : (live : List ℕ) → slice_index live chunk ≡ 0 → AreCounts l.given live → AreCounts (slice_set l.given chunk false) live
-  counts_left live none a = record { most = a.most; in_given = λ k some. stays_given k (λ e. let z = ap (slice_index live) e in omega arith) (a.in_given k some) }
-
-  open_left : (live : List ℕ) (o : Option Open) → is_open o chunk ≡ false → IsOpen l.given live o → IsOpen (slice_set l.given chunk false) live o
-  open_left live None other a = a
-  open_left live (Some o) other a = (a.0, stays_given o.chunk (λ e. grind (arith, nat_tests)) a.1, a.2)
-
-  rows_left : (rows : List Row) → is_in_rows rows chunk ≡ false → AllByRecursion (IsRowOf l.given) rows → AllByRecursion (IsRowOf (slice_set l.given chunk false)) rows
-  rows_left [] none a = tt
-  rows_left (r ∷ rows) none a =
-      let none = both_false (is_in_row r chunk) (is_in_rows rows chunk) none in (
-        record { wide = a.0.wide ∙ sym (length-set l.given chunk false); in_given = λ k t. stays_given k (λ e. differ (sym t ∙ (ap (is_in_row r) e ∙ none.0))) (a.0.in_given k t) },
-        rows_left rows none.1 a.1,
-      )
-
-  pub with_free_ledger : IsLedger (with_free l chunk)
-  with_free_ledger = record {
-    some = let n = length-set l.given chunk false in let m = h.some in omega arith;
-    few = let n = length-set l.given chunk false in let m = h.few in omega arith;
-    counted = h.counted ∙ sym (length-set l.given chunk false);
-    known_since = h.known_since ∙ sym (length-set l.given chunk false);
-    counted_last = h.counted_last ∙ sym (length-set l.given chunk false);
+  pub freed_ledger : IsLedger (record l { given = given })
+  freed_ledger = record {
+    some = let m = h.some in omega arith;
+    few = let m = h.few in omega arith;
+    counted = h.counted ∙ sym same;
+    known_since = h.known_since ∙ sym same;
+    counted_last = h.counted_last ∙ sym same;
     some_passes = h.some_passes;
     few_passes = h.few_passes;
-    counts = counts_left l.live u.not_live h.counts;
-    last_counts = counts_left l.last_live not_last_live h.last_counts;
-    opened = open_left l.live l.open_chunk u.not_open h.opened;
-    last_opened = open_left l.last_live l.last_open u.not_last_open h.last_opened;
+    counts = record { most = h.counts.most; in_given = λ k some. stays k (h.counts.in_given k some) (live_needed l k some) };
+    last_counts = record { most = h.last_counts.most; in_given = λ k some. stays k (h.last_counts.in_given k some) (last_live_needed k some) };
+    opened = open_stays l.live l.open_chunk (open_needed l) h.opened;
+    last_opened = open_stays l.last_live l.last_open (last_open_needed l) h.last_opened;
     left_fresh = h.left_fresh;
     few_rows = h.few_rows;
     rising = h.rising;
-    rows_given = rows_left l.rows u.in_no_row h.rows_given;
+    rows_given = rows_stay l.rows (row_needed l) h.rows_given;
     newest_row = h.newest_row;
   }
 
--- The list of given chunks while they are gone through: those before i are done.
-pub record Freed (l : Ledger) (given : List Bool) (i : ℕ) : Type 0 where
-  pub same : length given ≡ length l.given
-  pub done : (k : ℕ) → k < i → slice_index_or given k false ≡ (is_given l k && is_needed l k)
-  pub left : (k : ℕ) → i ≤ k → slice_index_or given k false ≡ is_given l k
-
-none_freed : (l : Ledger) → Freed l l.given 0
-none_freed l = record { same = refl; done = λ k lt. absurd (omega arith); left = λ k le. refl }
-
-all_freed : (l : Ledger) (given : List Bool) (i : ℕ) → Freed l given i → length l.given ≤ i → record l { given = given } ≡ freed l
-all_freed l given i f past = ap (λ (flags : List Bool). record l { given = flags }) (fill_by_all (λ k. is_given l k && is_needed l k) given (length l.given) false f.same (λ k lt. f.done k (omega arith)))
-
-freed_or_kept : (a b : Bool) → (a && not b) ≡ true → (a && b) ≡ false
-freed_or_kept true true h = sym h
-freed_or_kept true false h = refl
-freed_or_kept false b h = refl
-
-stays_or_free : (a b : Bool) → (a && not b) ≡ false → a ≡ (a && b)
-stays_or_free true true h = refl
-stays_or_free true false h = h
-stays_or_free false b h = refl
-
-module _ (l : Ledger) (given : List Bool) (i : ℕ) (f : Freed l given i) where
-  one_freed : is_unreached l i ≡ true → Freed l (slice_set given i false) (i + 1)
-  one_freed t = record {
-    same = length-set given i false ∙ f.same;
-    done = λ k lt. elim (cases_eq k i) [
-      | inl e ↦ subst (λ (j : ℕ). slice_index_or (slice_set given i false) j false ≡ (is_given l j && is_needed l j)) (sym e) (get_or-set_same given i false false within ∙ sym (freed_or_kept (is_given l i) (is_needed l i) t))
-      | inr ne ↦ get_or-set_other given i k false false ne ∙ f.done k (omega arith)
-    ];
-    left = λ k le. get_or-set_other given i k false false (λ e. omega arith) ∙ f.left k (omega arith);
-  }
-    where
-      within : i < length given
-      within = set_within given i (f.left i (omega arith) ∙ (unreached l i t).given)
-
-  one_stays : is_unreached l i ≡ false → Freed l given (i + 1)
-  one_stays t = record {
-    same = f.same;
-    done = λ k lt. elim (cases_eq k i) [
-      | inl e ↦ subst (λ (j : ℕ). slice_index_or given j false ≡ (is_given l j && is_needed l j)) (sym e) (f.left i (omega arith) ∙ stays_or_free (is_given l i) (is_needed l i) t)
-      | inr ne ↦ f.done k (omega arith)
-    ];
-    left = λ k le. f.left k (omega arith);
-  }
-
--- a ledger on the way from l to what it is with all such chunks freed
-pub record Freeing (l m : Ledger) (i : ℕ) : Type 0 where
-  pub rest : m ≡ record l { given = m.given }
-  pub so_far : Freed l m.given i
-
-pub starts_freeing : (l : Ledger) → Freeing l l 0
-starts_freeing l = record { rest = refl; so_far = none_freed l }
-
-module _ (l m : Ledger) (i : ℕ) (f : Freeing l m i) where
-  -- freeing other chunks changes nothing for this one
-  pub still_unreached : is_unreached m i ≡ is_unreached l i
-  still_unreached = ap (λ (b : Bool). b && not (is_needed m i)) (f.so_far.left i (omega arith)) ∙ ap (λ (n : Ledger). is_given l i && not (is_needed n i)) f.rest
-
-  pub freeing_more : (n : Ledger) → is_unreached m i ≡ true → n ≡ with_free m i → Freeing l n (i + 1)
-  freeing_more n t e = subst (λ (k : Ledger). Freeing l k (i + 1)) (sym e) (record {
-    rest = ap (λ (k : Ledger). record k { given = slice_set m.given i false }) f.rest;
-    so_far = one_freed l m.given i f.so_far (sym still_unreached ∙ t);
-  })
-
-  pub freeing_less : is_unreached m i ≡ false → Freeing l m (i + 1)
-  freeing_less t = record { rest = f.rest; so_far = one_stays l m.given i f.so_far (sym still_unreached ∙ t) }
-
-  pub ends_freeing : length l.given ≤ i → m ≡ freed l
-  ends_freeing past = f.rest ∙ all_freed l m.given i f.so_far past
+  pub freed_is : record l { given = given } ≡ freed l
+  freed_is = ap (λ (flags : List Bool). record l { given = flags }) (fill_by_all (λ k. is_given l k && is_needed l k) given (length l.given) false same (λ k lt. each k))
 
 -- which chunks are given once such chunks are freed
 pub freed_by_chunk : (l : Ledger) (k : ℕ) → is_given (freed l) k ≡ (is_given l k && is_needed l k)
@@ -179,3 +88,64 @@ freed_by_chunk l k = elim (cases_lt k (length l.given)) [
   | inr past ↦ get_or_past (freed l).given k false (let n = length-map-range_with_len (λ k. is_given l k && is_needed l k) 0 (length l.given) in omega arith)
       ∙ ap (λ (b : Bool). b && is_needed l k) (sym (get_or_past l.given k false past))
 ]
+
+-- The chunks that are found by sets.
+by_sets : (given bump last live rows : Bool) → ((((given && not live) && not rows) && not bump) && not last) ≡ (given && not (bump || (last || (live || rows))))
+by_sets false bump last live rows = refl
+by_sets true bump last true rows = sym (ap not (right bump last))
+  where
+    right : (b l : Bool) → (b || (l || true)) ≡ true
+    right true l = refl
+    right false true = refl
+    right false false = refl
+by_sets true bump last false true = sym (ap not (right bump last))
+  where
+    right : (b l : Bool) → (b || (l || true)) ≡ true
+    right true l = refl
+    right false true = refl
+    right false false = refl
+by_sets true true last false false = refl
+by_sets true false true false false = refl
+by_sets true false false false false = refl
+
+-- a chunk is in the row of the counts exactly where a cell of it counts
+in_row_of : (live : List ℕ) (k : ℕ) → slice_index_or (row_of live) k false ≡ nat_lt 0 (slice_index live k)
+in_row_of live k = elim (cases_lt k (length live)) [
+  | inl l ↦ get_or-map (nat_lt 0) live k 0 false l
+  | inr past ↦ get_or_past (row_of live) k false (subst (λ n. n ≤ k) (sym (length-map live (nat_lt 0))) past) ∙ ap (nat_lt 0) (sym (get_or_past live k 0 past))
+]
+
+pub found_is : (l : Ledger) (all counted unlive unkept unopen found : List Bool) (rows : List Row) → all ≡ l.given → counted ≡ row_of l.live → rows ≡ l.rows
+    → ((k : ℕ) → slice_index_or unlive k false ≡ (slice_index_or all k false && not (slice_index_or counted k false)))
+    → ((k : ℕ) → slice_index_or unkept k false ≡ (slice_index_or unlive k false && not (is_in_rows rows k)))
+    → ((k : ℕ) → slice_index_or unopen k false ≡ (slice_index_or unkept k false && not (is_open l.open_chunk k)))
+    → ((k : ℕ) → slice_index_or found k false ≡ (slice_index_or unopen k false && not (is_open l.last_open k)))
+    → (k : ℕ) → slice_index_or found k false ≡ is_unreached l k
+found_is l all counted unlive unkept unopen found rows is row are p q r s k =
+    s k ∙ ap (λ b. b && not (is_open l.last_open k)) (
+    r k ∙ ap (λ b. b && not (is_open l.open_chunk k)) (
+    q k ∙ ap (λ (rs : List Row). slice_index_or unlive k false && not (is_in_rows rs k)) are ∙ ap (λ b. b && not (is_in_rows l.rows k)) (
+    p k ∙ ap (λ (fs : List Bool). slice_index_or fs k false && not (slice_index_or counted k false)) is
+    ∙ ap (λ b. is_given l k && not b) (ap (λ (fs : List Bool). slice_index_or fs k false) row ∙ in_row_of l.live k))))
+    ∙ by_sets (is_given l k) (is_open l.open_chunk k) (is_open l.last_open k) (nat_lt 0 (slice_index l.live k)) (is_in_rows l.rows k)
+
+-- what is left of the given chunks without these
+left_over : (given needed : Bool) → (given && not (given && not needed)) ≡ (given && needed)
+left_over false needed = refl
+left_over true true = refl
+left_over true false = refl
+
+pub left_needed : (l : Ledger) (found given : List Bool) → ((k : ℕ) → slice_index_or found k false ≡ is_unreached l k) → ((k : ℕ) → slice_index_or given k false ≡ (is_given l k && not (slice_index_or found k false)))
+    → (k : ℕ) → slice_index_or given k false ≡ (is_given l k && is_needed l k)
+left_needed l found given each left k = left k ∙ ap (λ b. is_given l k && not b) (each k) ∙ left_over (is_given l k) (is_needed l k)
+
+-- a chunk in a kept row stays
+pub kept_stays : (l : Ledger) (k : ℕ) → is_in_rows l.rows k ≡ true → is_unreached l k ≡ false
+kept_stays l k t = ap (λ b. is_given l k && not b) (row_needed l k t) ∙ none (is_given l k)
+  where
+    none : (b : Bool) → (b && false) ≡ false
+    none true = refl
+    none false = refl
+
+pub unreached_given : (l : Ledger) (k : ℕ) → is_unreached l k ≡ true → is_given l k ≡ true
+unreached_given l k t = (and_parts (is_given l k) (not (is_needed l k)) t).0

@@ -1,5 +1,5 @@
 -- Cells that are handed out and released: what each call makes of a ledger.
-use Rattle.std.specs.Prelude.{◌≡◌, ℕ, ◌+◌, ◌-◌, ◌*◌, ◌/◌, ◌<◌, ◌≤◌, nat_le, true, not, if◌then◌else◌, Option, None, Some, length, replicate, slice_index, slice_set, Result, Ok, Err}
+use Rattle.std.specs.Prelude.{◌≡◌, ℕ, ◌+◌, ◌-◌, ◌*◌, ◌/◌, ◌<◌, ◌≤◌, nat_le, ◌==◌, true, not, if◌then◌else◌, Option, None, Some, length, replicate, slice_index, slice_set, Result, Ok, Err}
 use Rattle.std.specs.List.{position_or_len}
 use Rattle.chunk_usage.specs.declared.open.Open.{Open}
 use Rattle.chunk_usage.specs.declared.space.Grant.{Grant}
@@ -10,7 +10,7 @@ use Rattle.chunk_usage.specs.Ledger.{Ledger, left, free_count, reserve_of}
 abbrev pub lowest_free : Ledger → ℕ
 lowest_free l = position_or_len not l.given
 
--- a free chunk becomes the open one, with none of its cells handed out
+-- a free chunk becomes the bump chunk, with none of its cells handed out
 abbrev pub with_open : Ledger → ℕ → Ledger
 with_open l chunk = record l {
   given = slice_set l.given chunk true;
@@ -18,14 +18,14 @@ with_open l chunk = record l {
   open_chunk = Some (record { chunk = chunk; filled = 0 });
 }
 
--- n cells of the open chunk are handed out, and count
+-- n cells of the bump chunk are handed out, and count
 abbrev pub taken : Ledger → Open → ℕ → Ledger
 taken l o n = record l {
   live = slice_set l.live o.chunk (slice_index l.live o.chunk + n);
   open_chunk = Some (record { chunk = o.chunk; filled = o.filled + n });
 }
 
--- the open chunk has fewer than n cells left, and only the reserve is free
+-- the bump chunk has fewer than n cells left, and only the reserve is free
 pub record IsShort (l : Ledger) (n : ℕ) : Type 0 where
   pub few_left : left l.open_chunk < n
   pub none_free : free_count l ≤ reserve_of l
@@ -33,11 +33,11 @@ pub record IsShort (l : Ledger) (n : ℕ) : Type 0 where
 abbrev pub shortage : Ledger → ℕ → Full
 shortage l n = record { needed = n; left = left l.open_chunk; free = free_count l; reserve = reserve_of l }
 
--- the place of the open chunk's next cell
+-- the place of the bump chunk's next cell
 abbrev pub next_cell : Open → ℕ
 next_cell o = o.chunk * 1024 + o.filled
 
--- the open chunk, where it has n cells left
+-- the bump chunk, where it has n cells left
 abbrev pub roomy : Option Open → ℕ → Option Open
 roomy None n = None
 roomy (Some o) n = if nat_le n (1024 - o.filled) then Some o else None
@@ -57,6 +57,33 @@ grant_of l n = granted_from l n (roomy l.open_chunk n)
 abbrev pub allocated : Ledger → ℕ → Ledger
 allocated l n = allocated_from l n (roomy l.open_chunk n)
 
+-- no chunk is free, and the bump chunk has fewer than n cells left
+pub record IsSpent (l : Ledger) (n : ℕ) : Type 0 where
+  pub few_left : left l.open_chunk < n
+  pub none_free : free_count l ≡ 0
+
+-- the first cells of the lowest free chunk, which becomes the bump chunk
+abbrev pub new_grant : Ledger → Grant
+new_grant l = record { at = lowest_free l * 1024; given = Some (lowest_free l) }
+
+abbrev pub newly_taken : Ledger → ℕ → Ledger
+newly_taken l n = taken (with_open l (lowest_free l)) (record { chunk = lowest_free l; filled = 0 }) n
+
+abbrev pub reserve_granted_from : Ledger → ℕ → Option Open → Result Grant Full
+reserve_granted_from l n (Some o) = Ok (record { at = next_cell o; given = None })
+reserve_granted_from l n None = if free_count l == 0 then Err (shortage l n) else Ok (new_grant l)
+
+abbrev pub reserve_allocated_from : Ledger → ℕ → Option Open → Ledger
+reserve_allocated_from l n (Some o) = taken l o n
+reserve_allocated_from l n None = if free_count l == 0 then l else newly_taken l n
+
+-- what an allocation of n cells answers that may take the reserve, and what it leaves
+abbrev pub reserve_grant_of : Ledger → ℕ → Result Grant Full
+reserve_grant_of l n = reserve_granted_from l n (roomy l.open_chunk n)
+
+abbrev pub reserve_allocated : Ledger → ℕ → Ledger
+reserve_allocated l n = reserve_allocated_from l n (roomy l.open_chunk n)
+
 -- n cells of one chunk don't count any more; none does
 abbrev pub released : Ledger → ℕ → ℕ → Ledger
 released l at n = record l { live = slice_set l.live (at / 1024) (slice_index l.live (at / 1024) - n) }
@@ -68,7 +95,7 @@ all_released l = record l { live = replicate (length l.live) 0 }
 abbrev pub Lacks : Ledger → Full → Type 0
 Lacks l f = IsShort l f.needed × (f ≡ shortage l f.needed) × (f.needed ≤ 256)
 
--- 769 for each given chunk, less what the open one lacks of 769 cells handed out
+-- 769 for each given chunk, less what the bump chunk lacks of 769 cells handed out
 abbrev pub unspent : Option Open → ℕ
 unspent None = 0
 unspent (Some o) = 769 - o.filled

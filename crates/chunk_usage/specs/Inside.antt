@@ -5,20 +5,21 @@ use Rattle.chunk_usage.specs.Ledger.{Ledger, Row, IsLedger, free_count}
 
 abbrev pub ledger_of : Inside → Ledger
 ledger_of s = record {
-  live = s.live.items;
-  given = s.given.items;
-  since = s.since.items;
-  open_chunk = s.open_chunk;
-  last_live = s.last_live.items;
-  last_open = s.last_open;
+  live = s.counts.live;
+  given = s.allocated;
+  since = s.recent;
+  open_chunk = s.bump;
+  last_live = s.counts.last;
+  last_open = s.fender;
   rows = take s.kept s.slots.items;
   passes = s.passes;
 }
 
--- besides: the number of free chunks is known, and there is room for the rows
+-- besides: the number of free chunks is known, and there is room for the kept versions and for the chunks that are to be freed
 pub record IsWhole (s : Inside) : Type 0 where
   pub ledger : IsLedger (ledger_of s)
   pub free : s.free ≡ free_count (ledger_of s)
   pub slots : length s.slots.items ≡ s.passes + 2
   pub within : s.kept ≤ s.passes + 2
-  pub wide : All (λ (r : Row). length r.chunks ≡ length s.given.items) s.slots.items
+  pub wide : All (λ (r : Row). length r.chunks ≡ length s.allocated) s.slots.items
+  pub unreached : length s.unreached ≡ length s.allocated

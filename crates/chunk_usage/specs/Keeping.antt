@@ -1,10 +1,10 @@
 -- Kept versions, and chunks that nothing reaches: what each call makes of a ledger.
-use Rattle.std.specs.Prelude.{ℕ, ◌<◌, nat_lt, ◌==◌, Bool, false, not, ◌&&◌, ◌||◌, Option, None, Some, List, [], ◌∷◌, ◌++◌, length, map, filter, replicate, slice_index, slice_set}
+use Rattle.std.specs.Prelude.{ℕ, ◌<◌, nat_lt, ◌==◌, Bool, false, not, ◌&&◌, ◌||◌, Option, None, Some, List, [], ◌∷◌, ◌++◌, length, map, filter, replicate, slice_index}
 use Rattle.std.specs.List.{AllByRecursion, list_any, range_with_len}
 use Rattle.chunk_usage.specs.declared.open.Open.{Open}
 use Rattle.chunk_usage.specs.Ledger.{Ledger, Row, row_of, is_in_row, is_given, is_open}
 
--- the open chunk counts as filled
+-- the bump chunk counts as filled
 abbrev pub full : Option Open → Option Open
 full None = None
 full (Some o) = Some (record { chunk = o.chunk; filled = 1024 })
@@ -12,11 +12,11 @@ full (Some o) = Some (record { chunk = o.chunk; filled = 1024 })
 abbrev pub closed : Ledger → Ledger
 closed l = record l { open_chunk = full l.open_chunk }
 
--- each row is of an older version
+-- each version is older
 abbrev pub AreOlder : List Row → ℕ → Type 0
 AreOlder rows version = AllByRecursion (λ r. r.version < version) rows
 
--- the row of the counts as they are is kept, for the version
+-- the chunk set of the counts as they are is kept, for the version
 abbrev pub frozen : Ledger → ℕ → Ledger
 frozen l version = record l {
   since = replicate (length l.since) false;
@@ -25,18 +25,18 @@ frozen l version = record l {
   rows = l.rows ++ record { version = version; chunks = row_of l.live } ∷ [];
 }
 
--- counts and open chunk are as at the last freeze; what is given stays given
+-- counts and bump chunk are as at the last freeze; what is given stays given
 abbrev pub restored : Ledger → Ledger
 restored l = record l { live = l.last_live; open_chunk = l.last_open }
 
--- the row is that of the version; there is one
+-- it is that version; there is one
 abbrev pub is_row_of : ℕ → Row → Bool
 is_row_of version r = r.version == version
 
 abbrev pub is_kept : List Row → ℕ → Bool
 is_kept rows version = list_any (is_row_of version) rows
 
--- the row of the version is gone
+-- the version is gone
 abbrev pub without_row : ℕ → List Row → List Row
 without_row version rows = filter (λ r. not (is_row_of version r)) rows
 
@@ -47,7 +47,7 @@ dropped l version = record l { rows = without_row version l.rows }
 abbrev pub is_in_rows : List Row → ℕ → Bool
 is_in_rows rows chunk = list_any (λ r. is_in_row r chunk) rows
 
--- the chunk is open or was so at the last freeze, has a cell that counts, or is in a kept row
+-- the chunk is the bump chunk or was it at the last freeze, has a cell that counts, or is in a kept version's chunk set
 abbrev pub is_needed : Ledger → ℕ → Bool
 is_needed l chunk = is_open l.open_chunk chunk || (is_open l.last_open chunk || (nat_lt 0 (slice_index l.live chunk) || is_in_rows l.rows chunk))
 
@@ -58,7 +58,3 @@ is_unreached l chunk = is_given l chunk && not (is_needed l chunk)
 -- each such chunk is free
 abbrev pub freed : Ledger → Ledger
 freed l = record l { given = map (λ chunk. is_given l chunk && is_needed l chunk) (range_with_len 0 (length l.given)) }
-
--- a chunk that nothing needs is made free
-abbrev pub with_free : Ledger → ℕ → Ledger
-with_free l chunk = record l { given = slice_set l.given chunk false }

@@ -3,7 +3,7 @@ use Rattle.std.specs.Prelude.{◌≡◌, ℕ, ◌+◌, ◌-◌, ◌/◌, ◌%◌
 use Rattle.std.specs.List.{AllByRecursion}
 use Rattle.chunk_usage.specs.declared.open.Open.{Open}
 
--- a kept version, and of each chunk whether the version has cells in it
+-- a kept version with its chunk set: of each chunk, whether the version has cells in it
 pub record Row : Type 0 where
   pub version : ℕ
   pub chunks : List Bool
@@ -12,10 +12,10 @@ pub record Ledger : Type 0 where
   pub live : List ℕ  -- of each chunk, how many of its cells count
   pub given : List Bool  -- of each chunk, whether it is given
   pub since : List Bool  -- whether it was given since the last freeze
-  pub open_chunk : Option Open  -- the chunk that cells are handed out from
+  pub open_chunk : Option Open  -- the bump chunk, which cells are handed out from
   pub last_live : List ℕ  -- the counts at the last freeze
-  pub last_open : Option Open  -- the open chunk at the last freeze
-  pub rows : List Row  -- of the kept versions, the oldest first
+  pub last_open : Option Open  -- the fender: the bump chunk at the last freeze
+  pub rows : List Row  -- the kept versions, the oldest first
   pub passes : ℕ
 
 -- the part of a ledger that freezes leave, and that nothing else but the dropping of a row changes
@@ -28,7 +28,7 @@ pub record Frozen : Type 0 where
 abbrev pub frozen_part : Ledger → Frozen
 frozen_part l = record { live = l.last_live; open_chunk = l.last_open; rows = l.rows; passes = l.passes }
 
--- the chunk is the open one; how many of the open one's cells are handed out, and how many are left
+-- the chunk is the bump chunk; how many of its cells are handed out, and how many are left
 abbrev pub is_open : Option Open → ℕ → Bool
 is_open None chunk = false
 is_open (Some o) chunk = o.chunk == chunk
@@ -51,7 +51,7 @@ free_count l = count_by not l.given
 abbrev pub reserve_of : Ledger → ℕ
 reserve_of l = length l.given / 4
 
--- the cell is handed out: its chunk is given, and if that is the open one, it lies before those that are left
+-- the cell is handed out: its chunk is given, and if that is the bump chunk, it lies before those that are left
 abbrev pub is_used : Ledger → ℕ → Bool
 is_used l q = if is_open l.open_chunk (q / 1024) then nat_lt (q % 1024) (filled l.open_chunk) else is_given l (q / 1024)
 
@@ -59,15 +59,15 @@ is_used l q = if is_open l.open_chunk (q / 1024) then nat_lt (q % 1024) (filled 
 abbrev pub is_fresh : Ledger → ℕ → Bool
 is_fresh l q = slice_index_or l.since (q / 1024) false || (is_open l.last_open (q / 1024) && nat_le (filled l.last_open) (q % 1024))
 
--- the row that the counts make: the chunks with a cell that counts
+-- the chunk set that the counts make: the chunks with a cell that counts
 abbrev pub row_of : List ℕ → List Bool
 row_of live = map (nat_lt 0) live
 
--- the version of the row has cells in the chunk
+-- the kept version has cells in the chunk
 abbrev pub is_in_row : Row → ℕ → Bool
 is_in_row r chunk = slice_index_or r.chunks chunk false
 
--- the row of the newest version, which is behind all others
+-- the newest version, which is behind all others
 abbrev pub newest : List Row → Option Row
 newest [] = None
 newest (r ∷ []) = Some r
@@ -80,7 +80,7 @@ Rising (r ∷ rows) = AllByRecursion (λ s. r.version < s.version) rows × Risin
 
 -- What holds of each ledger.
 
--- an open chunk is given, and no more of its cells count than are handed out
+-- the bump chunk is given, and no more of its cells count than are handed out
 abbrev pub IsOpen : List Bool → List ℕ → Option Open → Type 0
 IsOpen given live None = Unit {0}
 IsOpen given live (Some o) = (o.filled ≤ 1024) × (slice_index_or given o.chunk false ≡ true) × (slice_index live o.chunk ≤ o.filled)
@@ -90,12 +90,12 @@ pub record AreCounts (given : List Bool) (live : List ℕ) : Type 0 where
   pub most : (k : ℕ) → slice_index live k ≤ 1024
   pub in_given : (k : ℕ) → 0 < slice_index live k → slice_index_or given k false ≡ true
 
--- the row has a flag for each chunk, and only given chunks
+-- the chunk set has a flag for each chunk, and only given chunks
 pub record IsRowOf (given : List Bool) (r : Row) : Type 0 where
   pub wide : length r.chunks ≡ length given
   pub in_given : (k : ℕ) → is_in_row r k ≡ true → slice_index_or given k false ≡ true
 
--- the newest row is that of the counts at the last freeze
+-- the newest chunk set is that of the counts at the last freeze
 abbrev pub IsNewest : List ℕ → Option Row → Type 0
 IsNewest last_live None = (k : ℕ) → slice_index last_live k ≡ 0
 IsNewest last_live (Some r) = r.chunks ≡ row_of last_live
@@ -112,7 +112,7 @@ pub record IsLedger (l : Ledger) : Type 0 where
   pub last_counts : AreCounts l.given l.last_live
   pub opened : IsOpen l.given l.live l.open_chunk
   pub last_opened : IsOpen l.given l.last_live l.last_open
-  -- none of the cells that the open chunk has left was handed out at the last freeze
+  -- none of the cells that the bump chunk has left was handed out at the last freeze
   pub left_fresh : (q : ℕ) → is_open l.open_chunk (q / 1024) ≡ true → filled l.open_chunk ≤ q % 1024 → is_fresh l q ≡ true
   pub few_rows : length l.rows ≤ l.passes + 2
   pub rising : Rising l.rows

@@ -1,5 +1,8 @@
 pub mod Ledger
 pub mod Rooms
 pub mod Inside
+pub mod ChunkSets
+pub mod Counting
+pub mod Counts
 pub mod Handing
 pub mod Keeping

@@ -1,14 +1,19 @@
 //! Which cells of the chunks are in use, and which may be handed out next.
 //!
-//! Cells are handed out of one open chunk, from its front on, and are never taken back one by one. Of each chunk it is counted
+//! Cells are handed out of one bump chunk, from its front on, and are never taken back one by one. Of each chunk it is counted
 //! how many of its cells the trie reaches; a chunk is given back as a whole. After `Usage::new` nothing allocates.
 //!
-//! The open chunk and the place up to which it is filled are BIND's bump chunk and bump counter, the same at the last freeze is
-//! its fender (lib/dns/qp_p.h). A row for each kept version is our own: BIND counts references.
+//! Bump chunk, bump counter and fender are BIND's words (lib/dns/qp_p.h): the chunk that cells come from, how many of its cells
+//! are handed out, and both as they were at the last freeze. A chunk set for each kept version is our own: BIND counts references.
+//!
+//! A freeze, going back to it, and freeing cost what was changed since the freeze, and passes over chunk sets, which have a word
+//! for each 64 chunks: nothing goes through the chunks one by one.
 #![tactic(auto)]
 
+mod chunk_set;
+mod counts;
+mod kept_version;
 mod open;
-mod row;
 pub mod space;
 mod usage;
 

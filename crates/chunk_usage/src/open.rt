@@ -1,6 +1,6 @@
-//! The chunk that cells are handed out from.
+//! The bump chunk, which cells are handed out from.
 
-/// A chunk, from whose front on cells are handed out.
+/// A chunk, from whose front on cells are handed out, and its bump counter.
 #[derive(Clone, Copy, PartialEq, Eq, Debug)]
 pub struct Open {
     pub chunk: u32,

@@ -35,8 +35,24 @@ fn cells_are_handed_out_until_the_reserve_is_left(rt: HostRuntime) -> Result<(),
     assert_eq!(rt; usage.live(11), 1024);
     usage.release(11 * 1024 + 512, 256);
     assert_eq!(rt; (usage.live(10), usage.live(11)), (1024, 768));
+    // The reserve is four chunks.
+    for chunk in 12..16 {
+        for quarter in 0..4 {
+            let at = chunk * 1024 + quarter * 256;
+            let given = (quarter == 0).then_some(chunk);
+            assert_eq!(rt; usage.alloc_reserve(256), Ok(Grant { at, given }));
+        }
+    }
+    let full = Full { free: 0, ..full };
+    assert_eq!(rt; usage.alloc_reserve(1), Err(full));
+    assert_eq!(rt; usage.sparse(), 0);
     usage.release_all();
     assert_eq!(rt; usage.live(10), 0);
+    // All but the last, which cells are handed out from.
+    assert_eq!(rt;
+        (usage.sparse(), usage.is_sparse(14), usage.is_sparse(15)),
+        (15, true, false)
+    );
     Ok(())
 }
 

@@ -7,29 +7,35 @@ ghost use Rattle.chunk_usage.specs.Ledger.{IsLedger, Row, unused, free_count, re
 mod as_space;
 mod cells;
 mod recycling;
+mod sparse;
 mod versions;
 
+use crate::chunk_set::ChunkSet;
+use crate::counts::Counts;
+use crate::kept_version::KeptVersion;
 use crate::open::Open;
-use crate::row::KeptRow;
 use std::alloc::{AllocError, Global};
 use std::marker::Model;
 
 /// Which of 1 to 4,096 chunks are given, how many of their cells count, and which kept versions have cells in them.
 #[derive(Drop)]
 pub struct Usage {
-    // One of each for a chunk: how many cells count, whether it is given, whether it was given since the last freeze.
-    live: Vec<u32>,
-    given: Vec<bool>,
-    since: Vec<bool>,
+    // How many cells of each chunk count, now and at the last freeze.
+    counts: Counts,
+    // The chunks that are given, and those of them that were given since the last freeze.
+    allocated: ChunkSet,
+    recent: ChunkSet,
+    // How many chunks are free.
     free: u32,
-    open_chunk: Option<Open>,
-    // As they were at the last freeze.
-    last_live: Vec<u32>,
-    last_open: Option<Open>,
-    // The first `kept` of these are the rows of kept versions, the oldest first.
-    slots: Vec<KeptRow>,
+    // The bump chunk with its counter, and the fender: the same at the last freeze.
+    bump: Option<Open>,
+    fender: Option<Open>,
+    // The first `kept` of these are the kept versions, the oldest first.
+    slots: Vec<KeptVersion>,
     kept: usize,
     passes: u32,
+    // Room for the chunks that `free_unreached` finds.
+    unreached: ChunkSet,
 }
 
 impl Model for Usage {
@@ -53,19 +59,17 @@ impl Usage {
         requires few_passes { passes ≤ 64 }
         ensures { IfOk result (λ u. u ≡ unused chunks passes) }
     {
-        let count = chunks as usize;
-        let slots = slots_for(alloc, passes + 2, count)?;
         Ok(Usage {
-            live: vec![in alloc; 0; count]?,
-            given: vec![in alloc; false; count]?,
-            since: vec![in alloc; false; count]?,
+            counts: Counts::new(alloc, chunks)?,
+            allocated: ChunkSet::new(alloc, chunks)?,
+            recent: ChunkSet::new(alloc, chunks)?,
             free: chunks,
-            open_chunk: None,
-            last_live: vec![in alloc; 0; count]?,
-            last_open: None,
-            slots,
+            bump: None,
+            fender: None,
+            slots: slots_for(alloc, passes + 2, chunks)?,
             kept: 0,
             passes,
+            unreached: ChunkSet::new(alloc, chunks)?,
         })
     }
 
@@ -81,7 +85,7 @@ impl Usage {
     pub fn chunks(&self) -> u32
         ensures { result ≡ length self.now.given }
     {
-        self.given.len() as u32
+        self.allocated.chunks()
     }
 
     /// How many chunks are free.
@@ -97,7 +101,7 @@ impl Usage {
     pub fn reserve(&self) -> u32
         ensures { result ≡ reserve_of self.now }
     {
-        self.given.len() as u32 / 4
+        self.allocated.chunks() / 4
     }
 
     /// Whether there is such a chunk, and it is free.
@@ -105,8 +109,7 @@ impl Usage {
     pub fn is_free(&self, chunk: u32) -> bool
         ensures { IsTrue result ↔ IsFree self.now.given chunk }
     {
-        let chunk = chunk as usize;
-        chunk < self.given.len() && !self.given[chunk]
+        chunk < self.allocated.chunks() && !self.allocated.contains(chunk)
     }
 
     /// How many cells of a chunk count: 0 where there is no such chunk.
@@ -114,23 +117,19 @@ impl Usage {
     pub fn live(&self, chunk: u32) -> u32
         ensures { result ≡ slice_index self.now.live chunk }
     {
-        let chunk = chunk as usize;
-        if chunk < self.live.len() {
-            self.live[chunk]
-        } else {
-            0
-        }
+        self.counts.of(chunk)
     }
 }
 
-/// Room for so many rows.
-fn slots_for(alloc: Global, count: u32, chunks: usize) -> Result<Vec<KeptRow>, AllocError>
+/// Room for so many kept versions.
+fn slots_for(alloc: Global, count: u32, chunks: u32) -> Result<Vec<KeptVersion>, AllocError>
+    requires { chunks ≤ 4096 }
     ensures count { IfOk result (λ slots. length slots.items ≡ count) }
     ensures wide { IfOk result (λ slots. All (λ (r : Row). length r.chunks ≡ chunks) slots.items) }
 {
     let mut slots = Vec::new(alloc);
     for made in 0..count {
-        slots.push(KeptRow::new(alloc, chunks)?)?;
+        slots.push(KeptVersion::new(alloc, chunks)?)?;
     }
     Ok(slots)
 }

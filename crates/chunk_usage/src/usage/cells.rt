@@ -1,9 +1,9 @@
 //! Cells that are handed out, and released.
 
-ghost use Rattle.std.specs.Prelude.{◌≡◌, ◌<◌, ◌≤◌, ◌-◌, ◌+◌, ◌*◌, ◌/◌, ◌%◌, ◌↔◌, ◌&&◌, nat_le, Some, IsErr, not, count_by, length, slice_index};
-ghost use Rattle.std.specs.List.{position_or_len};
+ghost use Rattle.std.specs.Prelude.{◌≡◌, ◌<◌, ◌≤◌, ◌-◌, ◌+◌, ◌*◌, ◌/◌, ◌%◌, ◌↔◌, ◌&&◌, nat_le, Some, IsErr, slice_index};
 ghost use Rattle.chunk_usage.specs.Ledger.{free_count, filled, is_open, is_used, is_fresh};
 ghost use Rattle.chunk_usage.specs.Handing.{IsShort, all_released, allocated, grant_of, lowest_free, next_cell, released, roomy, shortage, taken, with_open};
+ghost use Rattle.chunk_usage.specs.Handing.{IsSpent, new_grant, newly_taken, reserve_allocated, reserve_grant_of};
 ghost use Rattle.chunk_usage.specs.Keeping.{closed};
 ghost use Rattle.chunk_usage.specs.Rooms.{Grows};
 
@@ -13,7 +13,7 @@ use crate::space::{Full, Grant};
 use packed_node::{CHUNK_CELLS, Ref};
 
 impl Usage {
-    /// Hands out n cells: of the open chunk where it has n left, else of the lowest free chunk, which becomes the open one.
+    /// Hands out n cells: of the bump chunk where it has n left, else of the lowest free chunk, which becomes the bump chunk.
     pub fn alloc(&mut self, n: u32) -> Result<Grant, Full>
         requires some { 0 < n }
         requires few { n ≤ 256 }
@@ -21,28 +21,39 @@ impl Usage {
         ensures after { self.new ≡ allocated self.old n }
         ensures full { IsErr result ↔ IsShort self.old n }
     {
-        if let Some(open) = self.roomy_open(n) {
-            let at = self.take(open, n);
+        if let Some(bump) = self.roomy_bump(n) {
+            let at = self.take(bump, n);
             return Ok(Grant { at, given: None });
         }
         if self.free() <= self.reserve() {
             return Err(self.shortage(n));
         }
-        let open = self.open_lowest();
-        let at = self.take(open, n);
-        Ok(Grant {
-            at,
-            given: Some(open.chunk),
-        })
+        Ok(self.take_new(n))
+    }
+
+    /// The same where the reserve is handed out too.
+    pub fn alloc_reserve(&mut self, n: u32) -> Result<Grant, Full>
+        requires some { 0 < n }
+        requires few { n ≤ 256 }
+        ensures grant { result ≡ reserve_grant_of self.old n }
+        ensures after { self.new ≡ reserve_allocated self.old n }
+        ensures full { IsErr result ↔ IsSpent self.old n }
+    {
+        if let Some(bump) = self.roomy_bump(n) {
+            let at = self.take(bump, n);
+            return Ok(Grant { at, given: None });
+        }
+        if self.free() == 0 {
+            return Err(self.shortage(n));
+        }
+        Ok(self.take_new(n))
     }
 
     /// Whether a cell wasn't handed out at the last freeze.
     pub fn is_fresh(&self, at: Ref) -> bool
         ensures { result ≡ is_fresh self.now at }
     {
-        let chunk = (at / CHUNK_CELLS) as usize;
-        let since = chunk < self.since.len() && self.since[chunk];
-        since || was_left(self.last_open, at)
+        self.recent.contains(at / CHUNK_CELLS) || was_left(self.fender, at)
     }
 
     /// These cells, of one chunk, don't count any more.
@@ -51,9 +62,10 @@ impl Usage {
         requires together { at % 1024 + n ≤ 1024 }
         ensures { self.new ≡ released self.old at n }
     {
-        let chunk = (at / CHUNK_CELLS) as usize;
-        if chunk < self.live.len() {
-            self.live[chunk] -= n;
+        let chunk = at / CHUNK_CELLS;
+        if chunk < self.allocated.chunks() {
+            let live = self.counts.of(chunk);
+            self.counts.set(chunk, live - n);
         }
     }
 
@@ -61,58 +73,70 @@ impl Usage {
     pub fn release_all(&mut self)
         ensures { self.new ≡ all_released self.old }
     {
-        self.live.fill(0);
+        self.counts.clear();
     }
 
-    /// The open chunk counts as filled, so that the next cells come from another one.
+    /// The bump chunk counts as filled, so that the next cells come from another one.
     pub fn start_chunk(&mut self)
         ensures after { self.new ≡ closed self.old }
         ensures grows { Grows (is_used self.old) (is_used self.new) (is_fresh self.old) (is_fresh self.new) }
     {
-        if let Some(open) = &mut self.open_chunk {
-            open.filled = CHUNK_CELLS;
+        if let Some(bump) = &mut self.bump {
+            bump.filled = CHUNK_CELLS;
         }
     }
 
-    // The open chunk, where it has n cells left.
-    fn roomy_open(&self, n: u32) -> Option<Open>
+    // The bump chunk, where it has n cells left.
+    fn roomy_bump(&self, n: u32) -> Option<Open>
         ensures { result ≡ roomy self.now.open_chunk n }
     {
-        match self.open_chunk {
-            Some(open) if n <= CHUNK_CELLS - open.filled => Some(open),
+        match self.bump {
+            Some(bump) if n <= CHUNK_CELLS - bump.filled => Some(bump),
             _ => None,
         }
     }
 
-    // Makes the lowest free chunk the open one.
-    fn open_lowest(&mut self) -> Open
+    // Makes the lowest free chunk the bump chunk.
+    fn bump_lowest(&mut self) -> Open
         requires { 0 < free_count self.old }
         ensures chunk { result.chunk ≡ lowest_free self.old }
         ensures filled { result.filled ≡ 0 }
         ensures after { self.new ≡ with_open self.old (lowest_free self.old) }
     {
-        let chunk = first_clear(&self.given);
-        self.given[chunk] = true;
-        self.since[chunk] = true;
+        let chunk = self.allocated.first_absent();
+        self.allocated.insert(chunk);
+        self.recent.insert(chunk);
         self.free -= 1;
-        let open = Open {
-            chunk: chunk as u32,
-            filled: 0,
-        };
-        self.open_chunk = Some(open);
-        open
+        let bump = Open { chunk, filled: 0 };
+        self.bump = Some(bump);
+        bump
     }
 
-    // Hands out n cells of the open chunk, and gives the first.
+    // Hands out n cells of the lowest free chunk, which becomes the bump chunk.
+    fn take_new(&mut self, n: u32) -> Grant
+        requires free { 0 < free_count self.old }
+        requires few { n ≤ 256 }
+        ensures grant { result ≡ new_grant self.old }
+        ensures after { self.new ≡ newly_taken self.old n }
+    {
+        let bump = self.bump_lowest();
+        let at = self.take(bump, n);
+        Grant {
+            at,
+            given: Some(bump.chunk),
+        }
+    }
+
+    // Hands out n cells of the bump chunk, and gives the first.
     fn take(&mut self, from: Open, n: u32) -> Ref
         requires opened { self.old.open_chunk ≡ Some from }
         requires room { n ≤ 1024 - from.filled }
         ensures at { result ≡ next_cell from }
         ensures after { self.new ≡ taken self.old from n }
     {
-        let chunk = from.chunk as usize;
-        self.live[chunk] += n;
-        self.open_chunk = Some(Open {
+        let live = self.counts.of(from.chunk);
+        self.counts.set(from.chunk, live + n);
+        self.bump = Some(Open {
             chunk: from.chunk,
             filled: from.filled + n,
         });
@@ -123,8 +147,8 @@ impl Usage {
     fn shortage(&self, n: u32) -> Full
         ensures { result ≡ shortage self.now n }
     {
-        let left = match self.open_chunk {
-            Some(open) => CHUNK_CELLS - open.filled,
+        let left = match self.bump {
+            Some(bump) => CHUNK_CELLS - bump.filled,
             None => 0,
         };
         Full {
@@ -136,21 +160,7 @@ impl Usage {
     }
 }
 
-/// The place of the first flag that is clear.
-fn first_clear(flags: &[bool]) -> usize
-    requires { 0 < count_by not flags.now }
-    ensures within { result < length flags.now }
-    ensures first { result ≡ position_or_len not flags.now }
-{
-    for (place, set) in flags.iter().enumerate() {
-        if !*set {
-            return place;
-        }
-    }
-    flags.len()
-}
-
-/// Whether a cell is one of those that an open chunk has left.
+/// Whether a cell is one of those that the bump chunk had left at the fender.
 fn was_left(from: Option<Open>, at: Ref) -> bool
     ensures { result ≡ (is_open from (at / 1024) && nat_le (filled from) (at % 1024)) }
 {

@@ -6,10 +6,10 @@ ghost use Rattle.chunk_usage.specs.Ledger.{Row, Rising, is_used, is_fresh, newes
 ghost use Rattle.chunk_usage.specs.Keeping.{AreOlder, dropped, frozen, is_kept, is_row_of, restored, without_row};
 
 use super::Usage;
-use crate::row::KeptRow;
+use crate::kept_version::KeptVersion;
 
 impl Usage {
-    /// Keeps the row of the live cells for a version. What is in use now is not written until the version is dropped.
+    /// Keeps the chunks with live cells for a version. What is in use now is not written until the version is dropped.
     pub fn freeze(&mut self, version: u64)
         requires room { length self.old.rows < self.old.passes + 2 }
         requires newer { AreOlder self.old.rows version }
@@ -17,35 +17,35 @@ impl Usage {
         ensures settled { (q : ℕ) → is_used self.new q ≡ true → is_fresh self.new q ≡ false }
     {
         let slot = &mut self.slots[self.kept];
-        slot.set(version, &self.live);
+        slot.set(version, self.counts.counted());
         self.kept += 1;
-        self.since.fill(false);
-        self.last_live.copy_from_slice(&self.live);
-        self.last_open = self.open_chunk;
+        self.recent.clear();
+        self.counts.keep();
+        self.fender = self.bump;
     }
 
-    /// Goes back to the live cells and the open chunk of the last freeze. Chunks that were given since stay given.
+    /// Goes back to the live cells and the bump chunk of the last freeze. Chunks that were given since stay given.
     pub fn restore(&mut self)
         ensures after { self.new ≡ restored self.old }
         ensures used { (q : ℕ) → is_used self.old q ≡ true → is_fresh self.old q ≡ false → is_used self.new q ≡ true }
     {
-        self.live.copy_from_slice(&self.last_live);
-        self.open_chunk = self.last_open;
+        self.counts.restore();
+        self.bump = self.fender;
     }
 
-    /// Keeps the row of a version no more.
+    /// Keeps a version no more.
     pub fn drop_version(&mut self, version: u64)
         requires kept { is_kept self.old.rows version ≡ true }
         requires old { IfSome (newest self.old.rows) (λ r. r.version ≢ version) }
         ensures { self.new ≡ dropped self.old version }
     {
-        forget_row(&mut self.slots, self.kept, version);
+        forget(&mut self.slots, self.kept, version);
         self.kept -= 1;
     }
 }
 
-/// Takes the row of a version from the rows in the first slots. Its slot is then the last of theirs.
-fn forget_row(slots: &mut [KeptRow], rows: usize, version: u64)
+/// Takes a version from those in the first slots. Its slot is then the last of theirs.
+fn forget(slots: &mut [KeptVersion], rows: usize, version: u64)
     requires slots { rows ≤ length slots.old }
     requires kept { is_kept (take rows slots.old) version ≡ true }
     requires rising { Rising (take rows slots.old) }
@@ -56,8 +56,8 @@ fn forget_row(slots: &mut [KeptRow], rows: usize, version: u64)
     put_last(&mut slots[..rows], version);
 }
 
-/// Moves the row of a version behind all others.
-fn put_last(rows: &mut [KeptRow], version: u64)
+/// Moves a version behind all others.
+fn put_last(rows: &mut [KeptVersion], version: u64)
     requires kept { is_kept rows.old version ≡ true }
     requires rising { Rising rows.old }
     ensures length { length rows.new ≡ length rows.old }
@@ -68,8 +68,8 @@ fn put_last(rows: &mut [KeptRow], version: u64)
     rows[place..].rotate_left(1);
 }
 
-/// The place of the first row of a version.
-fn place_of(rows: &[KeptRow], version: u64) -> usize
+/// The place of a version.
+fn place_of(rows: &[KeptVersion], version: u64) -> usize
     requires { is_kept rows.now version ≡ true }
     ensures within { result < length rows.now }
     ensures first { result ≡ position_or_len (is_row_of version) rows.now }

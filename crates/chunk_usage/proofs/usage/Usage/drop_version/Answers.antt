@@ -10,14 +10,15 @@ use Rattle.chunk_usage.proofs.usage.Usage.drop_version.Goals as goal
 pub invariant_of-self : goal.invariant_of-self
 invariant_of-self c =
     let s = c.self.inside in
-    let n : length c.forget_row.new.slots ≡ s.slots.len = c.forget_row.ensures.length ∙ c.deref_mut.ensures.len in
-    let new = with_items_is s.slots c.forget_row.new.slots n in
+    let n : length c.forget.new.slots ≡ s.slots.len = c.forget.ensures.length ∙ c.deref_mut.ensures.len in
+    let new = with_items_is s.slots c.forget.new.slots n in
     let old = c.deref_mut.ensures.value in
     record {
       ledger = dropped_alike (ledger_of s) c.args.self.now c.self.view_is c.self.invariant.ledger c.args.version c.requires.old _
-          (ap (take (s.kept - 1)) new ∙ c.forget_row.ensures.rows ∙ ap (λ (rows : List Row). without_row c.args.version (take s.kept rows)) old);
+          (ap (take (s.kept - 1)) new ∙ c.forget.ensures.rows ∙ ap (λ (rows : List Row). without_row c.args.version (take s.kept rows)) old);
       free = c.self.invariant.free;
-      slots = ap length new ∙ c.forget_row.ensures.length ∙ ap length old ∙ c.self.invariant.slots;
+      slots = ap length new ∙ c.forget.ensures.length ∙ ap length old ∙ c.self.invariant.slots;
       within = let w = c.self.invariant.within in omega arith;
-      wide = subst (All (λ (r : Row). length r.chunks ≡ length s.given.items)) (sym new) (c.forget_row.ensures.wide (length s.given.items) (subst (All (λ (r : Row). length r.chunks ≡ length s.given.items)) (sym old) c.self.invariant.wide));
+      wide = subst (All (λ (r : Row). length r.chunks ≡ length s.allocated)) (sym new) (c.forget.ensures.wide (length s.allocated) (subst (All (λ (r : Row). length r.chunks ≡ length s.allocated)) (sym old) c.self.invariant.wide));
+      unreached = c.self.invariant.unreached;
     }

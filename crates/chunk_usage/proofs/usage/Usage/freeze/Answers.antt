@@ -1,8 +1,9 @@
-use Rattle.std.proofs.Common.{◌≡◌, ◌+◌, ◌++◌, ◌∷◌, [], List, ℕ, false, length, take, replicate, slice_set, nat_lt, refl, ap, ◌∙◌, arith}
+use Rattle.std.proofs.Common.{◌≡◌, ◌+◌, ◌++◌, ◌∷◌, [], List, Bool, length, take, slice_set, nat_lt, refl, ap, ◌∙◌, arith}
 use Rattle.std.proofs.lemmas.Grind.{take-set_at}
 use Rattle.std.proofs.lemmas.List.{length-set, length-map}
 use Rattle.std.proofs.lemmas.List.Elements.{All-set}
 use Rattle.chunk_usage.specs.Ledger.{Row, row_of}
+use Rattle.chunk_usage.specs.Counting.{Counted}
 use Rattle.chunk_usage.specs.Inside.{ledger_of}
 use Rattle.chunk_usage.proofs.InsideLemmas.{slot_left}
 use Rattle.chunk_usage.proofs.KeepingLaws.{frozen_alike}
@@ -12,13 +13,15 @@ pub invariant_of-self : goal.invariant_of-self
 invariant_of-self c =
     let s = c.self.inside in
     let room = slot_left s c.self.invariant c.args.self.now c.self.view_is c.requires.room in
-    let row : c.set.new.self ≡ record { version = c.args.version; chunks = row_of s.live.items } = c.set.ensures ∙ ap (λ (live : List ℕ). record { version = c.args.version; chunks = row_of live }) c.deref.ensures.value in
-    let rows : take (s.kept + 1) (slice_set s.slots.items s.kept c.set.new.self) ≡ take s.kept s.slots.items ++ record { version = c.args.version; chunks = row_of s.live.items } ∷ [] =
+    let row : c.set.new.self ≡ record { version = c.args.version; chunks = row_of s.counts.live } = c.set.ensures ∙ ap (λ (chunks : List Bool). record { version = c.args.version; chunks = chunks }) c.counted.ensures in
+    let rows : take (s.kept + 1) (slice_set s.slots.items s.kept c.set.new.self) ≡ take s.kept s.slots.items ++ record { version = c.args.version; chunks = row_of s.counts.live } ∷ [] =
     take-set_at s.slots.items s.kept (s.kept + 1) c.set.new.self refl room ∙ ap (λ (r : Row). take s.kept s.slots.items ++ r ∷ []) row in
     record {
-      ledger = frozen_alike (ledger_of s) c.args.self.now c.self.view_is c.self.invariant.ledger c.args.version c.requires.room c.requires.newer _ _ _ (c.fill.ensures.items (λ y e. e) ∙ ap (λ (n : ℕ). replicate n false) s.since.ok.0) (c.copy_from_slice.ensures.items ∙ c.deref-2.ensures.value) rows;
+      ledger = frozen_alike (ledger_of s) c.args.self.now c.self.view_is c.self.invariant.ledger c.args.version c.requires.room c.requires.newer _ _ _ _
+          (ap (λ (counts : Counted). counts.live) c.keep.ensures) c.clear.ensures (ap (λ (counts : Counted). counts.last) c.keep.ensures) rows;
       free = c.self.invariant.free;
       slots = length-set s.slots.items s.kept c.set.new.self ∙ c.self.invariant.slots;
       within = let e = c.self.invariant.slots in omega arith;
-      wide = All-set (λ (r : Row). length r.chunks ≡ length s.given.items) s.slots.items s.kept c.set.new.self (ap (λ (r : Row). length r.chunks) row ∙ length-map s.live.items (nat_lt 0) ∙ c.self.invariant.ledger.counted) c.self.invariant.wide;
+      wide = All-set (λ (r : Row). length r.chunks ≡ length s.allocated) s.slots.items s.kept c.set.new.self (ap (λ (r : Row). length r.chunks) row ∙ length-map s.counts.live (nat_lt 0) ∙ c.self.invariant.ledger.counted) c.self.invariant.wide;
+      unreached = c.self.invariant.unreached;
     }

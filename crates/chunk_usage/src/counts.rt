@@ -1,0 +1,151 @@
+//! Of each chunk, how many of its cells count: now, and at the last freeze.
+
+ghost use Rattle.std.specs.Prelude.{◌≡◌, ◌≤◌, ◌<◌, IfOk, false, true, count_by, if◌then◌else◌, length, replicate, slice_index, slice_set};
+ghost use Rattle.chunk_usage.specs.Ledger.{row_of};
+ghost use Rattle.chunk_usage.specs.ChunkSets.{has};
+ghost use Rattle.chunk_usage.specs.Counting.{is_low};
+
+use crate::chunk_set::ChunkSet;
+use std::alloc::{AllocError, Global};
+use std::marker::Model;
+
+/// A given chunk that isn't open is sparse where so many of its cells count, or fewer.
+pub const SPARSE_CELLS: u32 = 256;
+
+/// The counts of 1 to 4,096 chunks. What they were at the last freeze is noted of those alone that were set since, so a freeze,
+/// and going back to it, cost what was changed.
+#[derive(Drop)]
+pub struct Counts {
+    // Of each chunk, how many of its cells count.
+    live: Vec<u32>,
+    // The journal: of each chunk in `changed`, what its count was at the last freeze. The other counts are as they were.
+    noted: Vec<u32>,
+    changed: ChunkSet,
+    // The chunks with a cell that counts.
+    counted: ChunkSet,
+    // How many chunks have at most `SPARSE_CELLS` that count.
+    low: u32,
+}
+
+impl Model for Counts {
+    ghost use Rattle.chunk_usage.specs.Counting.{Counted};
+
+    ghost Value = { Counted };
+
+    ghost use Rattle.chunk_usage.specs.Counts.{counted_of, IsCounted};
+
+    ghost view = { counted_of };
+
+    ghost invariant = { IsCounted };
+}
+
+impl Counts {
+    /// No cell counts, and none did.
+    pub fn new(alloc: Global, chunks: u32) -> Result<Counts, AllocError>
+        requires { chunks ≤ 4096 }
+        ensures { IfOk result (λ c. c ≡ record { live = replicate chunks 0; last = replicate chunks 0 }) }
+    {
+        Ok(Counts {
+            live: vec![in alloc; 0; chunks as usize]?,
+            noted: vec![in alloc; 0; chunks as usize]?,
+            changed: ChunkSet::new(alloc, chunks)?,
+            counted: ChunkSet::new(alloc, chunks)?,
+            low: chunks,
+        })
+    }
+
+    /// How many cells of a chunk count: 0 where there is no such chunk.
+    #[inline]
+    pub fn of(&self, chunk: u32) -> u32
+        ensures { result ≡ slice_index self.now.live chunk }
+    {
+        let chunk = chunk as usize;
+        if chunk < self.live.len() {
+            self.live[chunk]
+        } else {
+            0
+        }
+    }
+
+    /// Sets how many cells of a chunk count.
+    #[inline]
+    pub fn set(&mut self, chunk: u32, count: u32)
+        requires { chunk < length self.old.live }
+        ensures { self.new ≡ record self.old { live = slice_set self.old.live chunk count } }
+    {
+        let before = self.live[chunk as usize];
+        note(&mut self.noted, &mut self.changed, chunk, before);
+        self.live[chunk as usize] = count;
+        self.counted.set(chunk, count > 0);
+        self.low = self.low + one_if_low(count) - one_if_low(before);
+    }
+
+    /// No cell counts any more.
+    pub fn clear(&mut self)
+        ensures { self.new ≡ record self.old { live = replicate (length self.old.live) 0 } }
+    {
+        let mut from = 0;
+        while let Some(chunk) = self.counted.first_from(from) {
+            self.set(chunk, 0);
+            from = chunk + 1;
+        }
+    }
+
+    /// The counts as they are become those of the last freeze.
+    pub fn keep(&mut self)
+        ensures { self.new ≡ record self.old { last = self.old.live } }
+    {
+        self.changed.clear();
+    }
+
+    /// The counts become what they were at the last freeze.
+    pub fn restore(&mut self)
+        ensures { self.new ≡ record self.old { live = self.old.last } }
+    {
+        let mut from = 0;
+        while let Some(chunk) = self.changed.first_from(from) {
+            let count = self.noted[chunk as usize];
+            self.set(chunk, count);
+            from = chunk + 1;
+        }
+        self.changed.clear();
+    }
+
+    /// The chunks with a cell that counts.
+    #[inline]
+    pub fn counted(&self) -> &ChunkSet
+        ensures { result.now ≡ row_of self.now.live }
+    {
+        &self.counted
+    }
+
+    /// How many chunks have few enough cells that count to be sparse.
+    #[inline]
+    pub fn low(&self) -> u32
+        ensures { result ≡ count_by is_low self.now.live }
+    {
+        self.low
+    }
+}
+
+/// Notes what a chunk's count was, unless it is noted already.
+#[inline]
+fn note(noted: &mut [u32], changed: &mut ChunkSet, chunk: u32, count: u32)
+    requires inside { chunk < length changed.old }
+    requires same { length noted.old ≡ length changed.old }
+    ensures changed { changed.new ≡ slice_set changed.old chunk true }
+    ensures noted { noted.new ≡ (if has changed.old chunk then noted.old else slice_set noted.old chunk count) }
+{
+    if !changed.contains(chunk) {
+        noted[chunk as usize] = count;
+        changed.insert(chunk);
+    }
+}
+
+/// 1 where so few cells count that the chunk may be sparse, else 0.
+#[inline]
+pub fn one_if_low(count: u32) -> u32
+    ensures { result ≡ (if is_low count then 1 else 0) }
+{
+    (count <= SPARSE_CELLS) as u32
+}
