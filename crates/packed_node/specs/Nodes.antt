@@ -33,6 +33,10 @@ abbrev pub packed : Node → Cell
 packed (node.Leaf leaf) = leaf_cell leaf
 packed (node.Branch branch) = branch_cell branch
 
+-- the words say some node
+abbrev pub SaysNode : Cell → Type 0
+SaysNode cell = (n : Node) × IsNode n × (packed n ≡ cell)
+
 -- words that say no node
 abbrev pub tag : Cell → ℕ
 tag cell = cell.big % 4

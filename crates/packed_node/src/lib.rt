@@ -14,7 +14,7 @@ ghost use Rattle.std.specs.Prelude.{◌≡◌, ◌+◌, ◌*◌, ◌/◌, ◌%�
 ghost use Rattle.std.specs.List.{range_with_len};
 ghost use Rattle.std.specs.Int.{bit_at};
 ghost use Rattle.packed_node.specs.Bitmaps.{has_position};
-ghost use Rattle.packed_node.specs.Nodes.{packed, IsNode, IsNoNode};
+ghost use Rattle.packed_node.specs.Nodes.{packed, IsNode, IsNoNode, SaysNode};
 
 pub mod bitmap;
 
@@ -112,6 +112,29 @@ impl Branch {
 }
 
 impl Node {
+    /// The node of a cell that is known to say one, as each cell of a trie's nodes does. [`unpack`] tests that.
+    #[inline]
+    pub fn of(cell: Cell) -> Node
+        requires { SaysNode cell }
+        ensures node { IsNode result × (packed result ≡ cell) }
+        ensures back { (n : Node) → IsNode n → packed n ≡ cell → result ≡ n }
+    {
+        let at = cell.small as u32;
+        let content = cell.big / TAGS;
+        if cell.big % TAGS == LEAF {
+            let len = content as u16;
+            return Node::Leaf(Leaf { len, at });
+        }
+        let offset = (content / BITMAPS) as u16;
+        let bitmap = content % BITMAPS;
+        let twigs = at;
+        Node::Branch(Branch {
+            offset,
+            bitmap,
+            twigs,
+        })
+    }
+
     /// The cell of the node.
     #[inline]
     pub fn pack(self) -> Cell
@@ -174,6 +197,13 @@ pub fn unpack(cell: Cell) -> Option<Node>
 mod tests {
     use super::*;
 
+    fn packed_and_read(node: Node) -> Node
+        requires { IsNode node }
+        ensures { result ≡ node }
+    {
+        Node::of(node.pack())
+    }
+
     #[test]
     fn a_branch_is_packed_by_its_layout(rt: HostRuntime) {
         let bitmap = bitmap::with(bitmap::pair(0, 30), 39);
@@ -187,6 +217,7 @@ mod tests {
         assert_eq!(rt; cell.big, 0x0010_0201_0000_0005);
         assert_eq!(rt; cell.small, 5127);
         assert_eq!(rt; chunk_of(branch.twigs), 5);
+        assert_eq!(rt; packed_and_read(Node::Branch(branch)), Node::Branch(branch));
         assert_eq!(rt; unpack(cell), Some(Node::Branch(branch)));
         assert_eq!(rt; branch.twig_count(), 3);
         for (position, there, index) in [
@@ -209,6 +240,7 @@ mod tests {
         };
         let cell = Node::Leaf(leaf).pack();
         assert_eq!(rt; (cell.big, cell.small), (112, 4_194_303));
+        assert_eq!(rt; packed_and_read(Node::Leaf(leaf)), Node::Leaf(leaf));
         assert_eq!(rt; unpack(cell), Some(Node::Leaf(leaf)));
         // No length, one too long, two tags that mean nothing, one twig, an offset too large.
         for big in [0, 4 * 4097, 2, 3, 5, 504 << 49 | 13] {
