@@ -330,9 +330,9 @@ fn read_beside<R: Threads + Sync>(
 }
 
 /// The writer stops at this version, however many transactions are left.
-const LAST_VERSION: u64 = 100_000;
-const TRANSACTIONS: u32 = 200_000;
-const READS: u32 = 50_000;
+const LAST_VERSION: u64 = 1_000_000;
+const TRANSACTIONS: u32 = 2_000_000;
+const READS: u32 = 1_000_000;
 
 /// At first no chunk is taken twice, so five versions are published whatever the schedule.
 #[test]
