@@ -1,12 +1,12 @@
 -- Chunks, cells and kept references, as the traits of cells have them, by the words that the turn knows.
-use Rattle.std.proofs.Common.{◌≡◌, ◌≢◌, ◌⊎◌, inl, inr, ⊎_elim, ℕ, zero, suc, ◌+◌, ◌*◌, ◌/◌, ◌<◌, ◌≤◌, eqb, List, [], ◌∷◌, ◌++◌, length, map, get_or, set, Bool, true, false, refl, sym, ap, ◌∙◌, subst, arith, Option, Some, None, length-set, get_or-set_same, get_or-set_other, eq-eqb, ne_eqb}
+use Rattle.std.proofs.Common.{◌≡◌, ◌≢◌, ℕ, zero, suc, ◌+◌, ◌*◌, ◌/◌, ◌<◌, ◌≤◌, List, [], ◌∷◌, ◌++◌, length, map, get_or, set, Bool, true, false, refl, sym, ap, ◌∙◌, subst, arith, Option, Some, None, length-set, get_or-set_same, get_or-set_other, eq-eqb}
 use Rattle.std.specs.Prelude.{slice_get, ◌==◌}
-use Rattle.std.specs.List.{All, AllPairs, Contains, flat_map, range_with_len, list_any}
+use Rattle.std.specs.List.{All, AllPairs, Contains, flat_map}
 use Rattle.std.proofs.lemmas.List.{same_lists, length-map, get_or-map}
 use Rattle.std.proofs.lemmas.List.Elements.{All-weaker, Contains-append_left}
 use Rattle.std.proofs.lemmas.List.FromFn.{length-map-range_with_len, get_or-map-range_with_len}
 use Rattle.std.proofs.lemmas.List.Folds.{Any-from_list_any}
-use Rattle.std.proofs.lemmas.Option.{slice_get_within, slice_get_read, slice_get-get_or, get_or_from_slice_get}
+use Rattle.std.proofs.lemmas.Option.{slice_get_within, slice_get-get_or, get_or_from_slice_get}
 use Rattle.std.proofs.lemmas.Bool.Decides.{eqb_tells}
 use mathlib.Core.Logic.{dite}
 use native.Mathlib.Decide.{ℕ_discrete}
@@ -15,7 +15,7 @@ use Rattle.atomic_table.specs.Table.{Me}
 use Rattle.packed_node.specs.declared.Cell.{Cell}
 use Rattle.pin_core.specs.declared.kept.CellAt.{CellAt}
 use Rattle.pin_core.specs.declared.kept.Kept.{Kept}
-use Rattle.pin_core.specs.Words.{Size, size_of, status_at, cell_at, chunk_of}
+use Rattle.pin_core.specs.Words.{size_of, status_at, cell_at, chunk_of}
 use Rattle.pin_core.specs.Sound.{HasRoot, AgreesWith, IsGiven}
 use Rattle.pin_core.specs.Machine.{is_kept_cell, is_kept_chunk, has_cell, meets}
 use Rattle.chunk_cells.specs.Chunks as chunk

@@ -1,14 +1,14 @@
 -- The versions that a round keeps, as a rising list.
-use Rattle.std.proofs.Common.{◌≡◌, ◌≢◌, ◌⊎◌, inl, inr, ⊎_elim, ℕ, zero, suc, ◌+◌, ◌<◌, ◌≤◌, eqb, List, [], ◌∷◌, ◌++◌, length, get_or, insert, map, replicate, Bool, true, false, true≢false, cond, refl, sym, ap, ◌∙◌, subst, arith, Option, Some, None, eq-eqb, length-append}
-use Rattle.std.specs.Prelude.{◌||◌, ◌==◌, filter, Result, Ok, Err}
+use Rattle.std.proofs.Common.{◌≡◌, ◌⊎◌, inl, inr, ⊎_elim, ℕ, zero, suc, ◌+◌, ◌<◌, ◌≤◌, eqb, List, [], ◌∷◌, ◌++◌, length, get_or, insert, map, replicate, Bool, true, false, true≢false, cond, refl, sym, ap, ◌∙◌, subst, arith, Some, eq-eqb, length-append}
+use Rattle.std.specs.Prelude.{◌||◌, ◌==◌, Result, Err}
 use Rattle.std.specs.Ordering.{nat_cmp}
 use Rattle.std.specs.List.Sorted.{IsBinarySearchResult}
 use Rattle.std.proofs.lemmas.List.Sorted.{searched}
 use Rattle.std.specs.List.{All, AllPairs, Contains, list_any}
 use Rattle.std.proofs.lemmas.List.{get_or-map, length-map, get_or_default}
 use Rattle.std.proofs.lemmas.List.Edits.{length-insert, get_or-insert_at, get_or-insert_below, get_or-insert_above}
-use Rattle.std.proofs.lemmas.List.Elements.{All-contains, All-filter, Contains-append_left, Contains-push}
-use Rattle.std.proofs.lemmas.List.Folds.{Any-from_list_any, list_any_at}
+use Rattle.std.proofs.lemmas.List.Elements.{All-contains, Contains-append_left}
+use Rattle.std.proofs.lemmas.List.Folds.{Any-from_list_any}
 use Rattle.std.proofs.lemmas.List.Kept.{AllPairs-filter}
 use Rattle.std.proofs.lemmas.Bool.{cases_order}
 use Rattle.std.proofs.lemmas.Bool.Decides.{eqb_tells}
@@ -18,7 +18,7 @@ use Rattle.pin_core.specs.declared.kept.Mark.TheVariants as mark
 use Rattle.pin_core.specs.Sound.{turn_of}
 use Rattle.pin_core.specs.Words.{version_of}
 use Rattle.pin_core.specs.Machine.{is_settled, mark_of, names_version, kept_by_round}
-use Rattle.pin_core.proofs.Lists.{contains_cases, contains_later, contains_filter, contains_from_filter, filter_test, pairs_head, pairs_tail}
+use Rattle.pin_core.proofs.Lists.{contains_cases, contains_later, contains_filter, filter_test, pairs_head, pairs_tail}
 use Rattle.shared_cells.specs.declared.view.Naming.{Naming}
 use Rattle.shared_cells.specs.declared.view.TurnView.{TurnView}
 use Rattle.shared_cells.specs.declared.view.View.{View}
@@ -49,8 +49,8 @@ same_rising (x ∷ xs) (y ∷ ys) rx ry to from =
     let b : x ≤ y = head_least x xs y rx (from y (0, omega arith, refl)) in
     let e : x ≡ y = omega arith in
     let rest = same_rising xs ys (pairs_tail (λ v w. v < w) x xs rx) (pairs_tail (λ v w. v < w) y ys ry)
-        (λ v c. let l = tail_above x xs v rx c in ⊎_elim (λ (s : y ≡ v). absurd (omega arith)) (λ (d : Contains ys v). d) (contains_cases y v ys (to v (contains_later x v xs c))))
-        (λ v c. let l = tail_above y ys v ry c in ⊎_elim (λ (s : x ≡ v). absurd (omega arith)) (λ (d : Contains xs v). d) (contains_cases x v xs (from v (contains_later y v ys c)))) in
+    (λ v c. let l = tail_above x xs v rx c in ⊎_elim (λ (s : y ≡ v). absurd (omega arith)) (λ (d : Contains ys v). d) (contains_cases y v ys (to v (contains_later x v xs c))))
+    (λ v c. let l = tail_above y ys v ry c in ⊎_elim (λ (s : x ≡ v). absurd (omega arith)) (λ (d : Contains xs v). d) (contains_cases x v xs (from v (contains_later y v ys c)))) in
     λ i. e i ∷ rest i
 
 -- an element put in at its place

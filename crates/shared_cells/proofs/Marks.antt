@@ -1,8 +1,8 @@
 -- The turn's scans and its help keep the rule.
-use Rattle.std.proofs.Common.{◌≡◌, ◌≢◌, ◌⊎◌, inl, inr, ⊎_elim, ℕ, ◌+◌, ◌-◌, ◌<◌, ◌≤◌, eqb, List, [], ◌∷◌, ◌++◌, length, get_or, set, replicate, Bool, true, false, cond, refl, sym, ap, ◌∙◌, subst, arith, Option, Some, None, length-set, get_or-set_same, get_or-set_other, ne_eqb}
+use Rattle.std.proofs.Common.{◌≡◌, ◌≢◌, ◌⊎◌, inl, inr, ⊎_elim, ℕ, ◌+◌, ◌-◌, ◌<◌, ◌≤◌, eqb, List, [], ◌++◌, length, get_or, set, replicate, Bool, true, false, cond, refl, sym, ap, ◌∙◌, subst, arith, Option, Some, get_or-set_same, get_or-set_other, ne_eqb}
 use Rattle.std.specs.List.{All, Contains, list_all}
 use Rattle.std.proofs.lemmas.List.{set-get_or}
-use Rattle.std.proofs.lemmas.List.Elements.{All-append, All-cons, All-contains, All-filter, All-nil, All-weaker}
+use Rattle.std.proofs.lemmas.List.Elements.{All-append, All-cons, All-filter, All-nil, All-weaker}
 use Rattle.std.proofs.lemmas.Bool.Decides.{eqb_tells}
 use mathlib.Core.Logic.{dite}
 use mathlib.Core.Option.{some, none}
@@ -10,7 +10,6 @@ use native.Mathlib.Decide.{ℕ_discrete}
 use prog.Atomic.{either}
 use lib.ListN.{get_elem?}
 use Rattle.atomic_table.specs.Table.{State, Me, Allows, step, keeps}
-use Rattle.atomic_table.proofs.Lists.{set_again}
 use Rattle.pin_core.specs.declared.kept.CellAt.{CellAt}
 use Rattle.pin_core.specs.declared.kept.Kept.{Kept}
 use Rattle.pin_core.specs.declared.kept.Stage.{Stage}
@@ -29,11 +28,11 @@ use Rattle.shared_cells.specs.declared.view.Progress.{Progress}
 use Rattle.shared_cells.specs.declared.view.Progress.TheVariants as progress
 use Rattle.shared_cells.specs.declared.view.TurnView.{TurnView}
 use Rattle.shared_cells.specs.declared.view.View.{View}
-use Rattle.shared_cells.specs.Views.{core_size, is_told, with_round, marked_turn, naming_by, with_namings, marked_view}
-use Rattle.shared_cells.specs.Rule.{Facts, stage_of, ProgressFits, PinNames, NamingFits, HasAll, IsSoundTable}
-use Rattle.shared_cells.specs.Steps.{exchanged_by, IsOfKept, Marks, scanned, assigned}
+use Rattle.shared_cells.specs.Views.{core_size, is_told, marked_turn, naming_by, with_namings, marked_view}
+use Rattle.shared_cells.specs.Rule.{stage_of, ProgressFits, PinNames, NamingFits, HasAll, IsSoundTable}
+use Rattle.shared_cells.specs.Steps.{IsOfKept, scanned, assigned}
 use Rattle.shared_cells.proofs.Knowing.{the_turn}
-use Rattle.shared_cells.proofs.Seats.{turn_there, told_there}
+use Rattle.shared_cells.proofs.Seats.{told_there}
 use Rattle.shared_cells.proofs.Passes.{either_is}
 use Rattle.shared_cells.proofs.Turns.{acts}
 
@@ -203,10 +202,13 @@ module _ {O E : Type 0} (applied : O → E → O) (lawful : O → O → Type 0) 
           subst (λ (x : ℕ). Rule record { words = set s.words (pin_at p) x; homes = s.homes; views = set s.views id new }) (sym (either_is (eqb (get_or s.words (pin_at p) 0) 1) (word_of k + 2) (get_or s.words (pin_at p) 0)))
               (subst (λ (c : ℕ). Rule record { words = set s.words (pin_at p) (exchanged (get_or s.words (pin_at p) 0) c); homes = s.homes; views = set s.views id (marked_view m.0 turn p (mark_of (exchanged (get_or s.words (pin_at p) 0) c))) }) cur
               (assign_keeps s r id m.0 at turn is_turn o.0 o.1 p (inside s r at))),
-          ((
-            turn,
-            is_turn,
-            ap (λ (q : ℕ). marked_view m.0 turn q (mark_of (exchanged (get_or s.words (pin_at p) 0) (word_of k)))) (sym before),
-            subst (λ (c : ℕ). IsOfKept turn.kept (mark_of (exchanged (get_or s.words (pin_at p) 0) c))) cur (assign_told s r id m.0 at turn is_turn o.0 o.1 p (inside s r at)),
-          ), refl),
+          (
+            (
+              turn,
+              is_turn,
+              ap (λ (q : ℕ). marked_view m.0 turn q (mark_of (exchanged (get_or s.words (pin_at p) 0) (word_of k)))) (sym before),
+              subst (λ (c : ℕ). IsOfKept turn.kept (mark_of (exchanged (get_or s.words (pin_at p) 0) c))) cur (assign_told s r id m.0 at turn is_turn o.0 o.1 p (inside s r at)),
+            ),
+            refl,
+          ),
         )

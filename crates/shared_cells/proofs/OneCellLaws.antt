@@ -1,6 +1,6 @@
 -- Versions of one cell, for the tests.
-use Rattle.std.proofs.Common.{◌≡◌, ◌≢◌, ◌⊎◌, inl, inr, ⊎_elim, ℕ, ◌+◌, ◌*◌, ◌/◌, ◌%◌, ◌<◌, ◌≤◌, eqb, List, [], ◌∷◌, ◌++◌, length, take, get_or, set, map, Bool, true, false, true≢false, refl, sym, ap, ◌∙◌, subst, arith, eq-eqb, length-set, get_or-set_same}
-use Rattle.std.specs.Prelude.{slice_get, ◌==◌, Option, Some, None}
+use Rattle.std.proofs.Common.{◌≡◌, ◌⊎◌, inl, inr, ⊎_elim, ℕ, ◌+◌, ◌*◌, ◌/◌, ◌%◌, ◌<◌, List, [], ◌∷◌, ◌++◌, length, take, get_or, set, map, Bool, true, false, true≢false, refl, sym, ap, ◌∙◌, subst, arith, eq-eqb, length-set, get_or-set_same}
+use Rattle.std.specs.Prelude.{◌==◌, Option, Some, None}
 use Rattle.std.specs.List.{All, Contains, flat_map, fold, list_any}
 use Rattle.std.proofs.lemmas.List.Elements.{All-cons, All-nil}
 use Rattle.std.proofs.lemmas.List.{length-take}
@@ -16,8 +16,8 @@ use Rattle.shared_cells.specs.declared.view.Entry.{Entry}
 use Rattle.shared_cells.specs.declared.view.Progress.{Progress}
 use Rattle.shared_cells.specs.declared.view.TurnView.{TurnView}
 use Rattle.shared_cells.specs.declared.view.View.{View}
-use Rattle.shared_cells.specs.Views.{pinned_image, pinned_root, kept_in}
-use Rattle.shared_cells.specs.Steps.{Confirmed, IsImage, Pins, Rounded}
+use Rattle.shared_cells.specs.Views.{pinned_image, pinned_root}
+use Rattle.shared_cells.specs.Steps.{Confirmed, IsImage, Pins}
 use Rattle.shared_cells.specs.Cells.{Cells, cells_of, given_chunks, kept_references, HasCell, HasAt}
 use Rattle.shared_cells.specs.OneCell.{place_of, cell_of, IsVersion, AreOf}
 use Rattle.shared_cells.proofs.Chunks.{given_by_words, has_by_words, contains_map, cells_are_image}

@@ -3,7 +3,6 @@ use Rattle.std.proofs.Common.{◌≡◌, ◌≢◌, ◌⊎◌, inl, inr, ⊎_eli
 use Rattle.std.specs.List.{All, Contains}
 use Rattle.std.proofs.lemmas.List.{set-get_or, take_at, take-append-drop, append_assoc, length-take}
 use Rattle.std.proofs.lemmas.List.Elements.{All-contains, All-nil, All-weaker, Contains-push, Contains-append_left}
-use Rattle.std.proofs.lemmas.Bool.Decides.{eqb_tells}
 use mathlib.Core.Logic.{dite}
 use mathlib.Core.Option.{some, none}
 use native.Mathlib.Decide.{ℕ_discrete}
@@ -15,10 +14,10 @@ use Rattle.pin_core.specs.declared.kept.CellAt.{CellAt}
 use Rattle.pin_core.specs.declared.kept.Kept.{Kept}
 use Rattle.pin_core.specs.declared.kept.Stage.{Stage}
 use Rattle.pin_core.specs.declared.kept.Stage.TheVariants as stage
-use Rattle.pin_core.specs.Words.{pin_at, cell_at, word_of, pin_of, version_of, root_number}
+use Rattle.pin_core.specs.Words.{pin_at, pin_of, version_of}
 use Rattle.pin_core.specs.Sound.{Sound, turn_of, stage_at, HasRoot, AgreesWith, IsGiven, Names, PinFits}
 use Rattle.pin_core.specs.Machine.{exchanged}
-use Rattle.pin_core.proofs.Pins.{enters, looks, leaves, settles, settled_names, settled_fits, current_fits, kept_root_fits, version_of_pin}
+use Rattle.pin_core.proofs.Pins.{enters, looks, leaves, settles, settled_names, current_fits, kept_root_fits, version_of_pin}
 use Rattle.shared_cells.specs.declared.view.TableSize.{TableSize}
 use Rattle.shared_cells.specs.declared.view.Entry.{Entry}
 use Rattle.shared_cells.specs.declared.view.Naming.{Naming}
@@ -26,7 +25,6 @@ use Rattle.shared_cells.specs.declared.view.Seen.{Seen}
 use Rattle.shared_cells.specs.declared.view.Progress.{Progress}
 use Rattle.shared_cells.specs.declared.view.Progress.TheVariants as progress
 use Rattle.shared_cells.specs.declared.view.PassView.{PassView}
-use Rattle.shared_cells.specs.declared.view.TurnView.{TurnView}
 use Rattle.shared_cells.specs.declared.view.View.{View}
 use Rattle.shared_cells.specs.History.{StartsWith, OpeningFits, IsPartOf, version_after}
 use Rattle.shared_cells.specs.Views.{core_size, number_of, has_turn, is_told, is_pinned, chunks_of, pinned_image, root_of, with_progress, with_pinned, with_more, pinned_view}

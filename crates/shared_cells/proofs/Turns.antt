@@ -1,8 +1,8 @@
 -- What the turn does beside publishing, on words that it knows and on its round, keeps the rule.
-use Rattle.std.proofs.Common.{◌≡◌, ◌≢◌, ◌⊎◌, inl, inr, ⊎_elim, ℕ, ◌+◌, ◌*◌, ◌/◌, ◌<◌, ◌≤◌, List, [], ◌∷◌, ◌++◌, length, take, get_or, set, Bool, true, false, refl, sym, ap, ◌∙◌, subst, arith, append_assoc, append-nil, Option, Some, None, length-set, get_or-set_same, get_or-set_other}
+use Rattle.std.proofs.Common.{◌≡◌, ◌⊎◌, ℕ, ◌<◌, ◌≤◌, List, [], ◌++◌, length, take, get_or, set, true, false, refl, sym, ap, ◌∙◌, subst, arith, append-nil, Option, Some, None, length-set, get_or-set_same, get_or-set_other}
 use Rattle.std.specs.List.{All, Contains}
 use Rattle.std.proofs.lemmas.List.{set-get_or, get_or_past}
-use Rattle.std.proofs.lemmas.List.Elements.{All-append, All-nil, All-weaker}
+use Rattle.std.proofs.lemmas.List.Elements.{All-append, All-nil}
 use mathlib.Core.Logic.{dite}
 use mathlib.Core.Option.{some, none}
 use native.Mathlib.Decide.{dec_le, ℕ_discrete}
@@ -21,13 +21,12 @@ use Rattle.shared_cells.specs.declared.view.TableSize.{TableSize}
 use Rattle.shared_cells.specs.declared.view.Naming.{Naming}
 use Rattle.shared_cells.specs.declared.view.Seen.{Seen}
 use Rattle.shared_cells.specs.declared.view.Progress.{Progress}
-use Rattle.shared_cells.specs.declared.view.Progress.TheVariants as progress
 use Rattle.shared_cells.specs.declared.view.PassView.{PassView}
 use Rattle.shared_cells.specs.declared.view.TurnView.{TurnView}
 use Rattle.shared_cells.specs.declared.view.View.{View}
-use Rattle.shared_cells.specs.History.{StartsWith, OpeningFits, IsPartOf, version_after}
+use Rattle.shared_cells.specs.History.{OpeningFits, IsPartOf, version_after}
 use Rattle.shared_cells.specs.Views.{core_size, has_turn, words_of, kept_in, stored_turn, stored_in, stored_view, with_namings}
-use Rattle.shared_cells.specs.Rule.{Facts, stage_of, ProgressFits, NamingFits, OwnFits, PassFits, HasAll, TurnFits, Knows, VersionsFit, IsSoundTable}
+use Rattle.shared_cells.specs.Rule.{Facts, stage_of, ProgressFits, NamingFits, OwnFits, PassFits, HasAll, Knows, VersionsFit, IsSoundTable}
 use Rattle.shared_cells.specs.Steps.{stored, recalled}
 use Rattle.shared_cells.proofs.Lists.{seats_stay, begins_itself, begins_more}
 use Rattle.shared_cells.proofs.Knowing.{knows_else, the_turn}

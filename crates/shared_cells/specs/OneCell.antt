@@ -1,7 +1,6 @@
 -- Versions of one cell, which the tests publish: version n is the number n, in a cell of the chunk n modulo 6.
-use Rattle.std.specs.Prelude.{◌≡◌, ℕ, ◌+◌, ◌*◌, ◌/◌, ◌%◌, List, [], ◌∷◌, map, Bool, Option, Some, Contains, All}
+use Rattle.std.specs.Prelude.{◌≡◌, ℕ, ◌*◌, ◌/◌, ◌%◌, List, [], ◌∷◌, map, Bool, Option, Some, Contains}
 use Rattle.pin_core.specs.declared.kept.CellAt.{CellAt}
-use Rattle.pin_core.specs.declared.kept.Kept.{Kept}
 use Rattle.shared_cells.specs.declared.view.View.{View}
 use Rattle.shared_cells.specs.Views.{kept_in}
 use Rattle.shared_cells.specs.Cells.{cells_of, given_chunks}

@@ -6,13 +6,12 @@ use Rattle.pin_core.specs.declared.kept.CellAt.{CellAt}
 use Rattle.pin_core.specs.declared.kept.Kept.{Kept}
 use Rattle.pin_core.specs.declared.kept.Mark.{Mark}
 use Rattle.pin_core.specs.declared.kept.Mark.TheVariants as mark
-use Rattle.pin_core.specs.Words.{Size, cell_at, word_of, pin_of, version_of}
+use Rattle.pin_core.specs.Words.{Size, cell_at, word_of, version_of}
 use Rattle.pin_core.specs.Sound.{HasRoot, AgreesWith, IsGiven}
 use Rattle.pin_core.specs.Machine.{is_settled, names_version, mark_of}
 use Rattle.shared_cells.specs.declared.view.TableSize.{TableSize}
 use Rattle.shared_cells.specs.declared.view.Entry.{Entry}
 use Rattle.shared_cells.specs.declared.view.Naming.{Naming}
-use Rattle.shared_cells.specs.declared.view.Progress.{Progress}
 use Rattle.shared_cells.specs.declared.view.Progress.TheVariants as progress
 use Rattle.shared_cells.specs.declared.view.PassView.{PassView}
 use Rattle.shared_cells.specs.declared.view.TurnView.{TurnView}
@@ -113,11 +112,13 @@ module _ {O E : Type 0} (applied : O → E → O) (lawful : O → O → Type 0) 
 module _ {O E : Type 0} where
   -- the view after the opening
   abbrev pub Opened : View O E → Option O → Option ℕ → List CellAt → View O E → Type 0
-  Opened v version root image w = (turn : TurnView) × (opening : O) × (v.turn ≡ Some turn) × (version ≡ Some opening) × (w ≡ opened_view v turn opening root image)
+  Opened v version root image w = (turn : TurnView) × (opening : O) × (v.turn ≡ Some turn) × (version ≡ Some opening)
+      × (w ≡ opened_view v turn opening root image)
 
   -- the view after a publish
   abbrev pub Published : View O E → Option E → Option ℕ → List CellAt → View O E → Type 0
-  Published v change root image w = (turn : TurnView) × (own : PassView E) × (entry : E) × (v.turn ≡ Some turn) × (v.pass ≡ Some own) × (change ≡ Some entry) × (w ≡ published_view v turn own entry root image)
+  Published v change root image w = (turn : TurnView) × (own : PassView E) × (entry : E) × (v.turn ≡ Some turn) × (v.pass ≡ Some own) × (change ≡ Some entry)
+      × (w ≡ published_view v turn own entry root image)
 
   -- what a pass has seen once it has learnt begins with what it had seen, and with what it was told
   abbrev pub Learns : View O E → View O E → Type 0

@@ -88,7 +88,13 @@ kept_of version root image = record { version = version; root = root; image = im
 
 -- the turn at the beginning: it keeps the empty version 0, and has made no pass
 abbrev pub first_turn : TableSize → TurnView
-first_turn size = record { kept = (started (core_size size)).turn.kept; marks = (started (core_size size)).turn.marks; made = 0; chunks = size.chunks; words = (started (core_size size)).words }
+first_turn size = record {
+  kept = (started (core_size size)).turn.kept;
+  marks = (started (core_size size)).turn.marks;
+  made = 0;
+  chunks = size.chunks;
+  words = (started (core_size size)).words;
+}
 
 -- it keeps version 0 alone, with this root and image
 abbrev pub opened_turn : TurnView → Option ℕ → List CellAt → TurnView

@@ -6,8 +6,8 @@
 #![tactic(auto)]
 
 mod cells;
-mod lent;
 mod law;
+mod lent;
 mod pass;
 mod pinned;
 mod plays;
@@ -21,8 +21,8 @@ mod turn;
 mod view;
 
 pub use cells::PinnedCells;
-pub use lent::{Lent, TurnCells};
 pub use law::{Law, Opening, Payload};
+pub use lent::{Lent, TurnCells};
 pub use pass::{NewPassSeat, PassSeat, SeatNote};
 pub use pinned::PinnedSeat;
 pub use round::KeptVersions;

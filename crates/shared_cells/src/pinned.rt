@@ -71,7 +71,9 @@ impl<O, E> PinnedSeat<O, E> {
         ensures left { result.place.me.0 ≡ with_progress self.place.me.0 progress.Idle }
     {
         let PinnedSeat {
-            mut place, number, ..
+            mut place,
+            number,
+            ..
         } = self;
         leave(shared, &mut place, number);
         PassSeat { place, number }
@@ -100,7 +102,11 @@ impl<O, E> PinnedSeat<O, E> {
 }
 
 /// Enters, looks and settles. The answer is the pin.
-fn take_pin<O, E, L: Law<O, E>>(shared: &Shared<O, E, L>, place: &mut Place<O, E>, number: u32) -> u64
+fn take_pin<O, E, L: Law<O, E>>(
+    shared: &Shared<O, E, L>,
+    place: &mut Place<O, E>,
+    number: u32,
+) -> u64
     requires table { place.old.table_id ≡ shared.now.table.shared.table_id }
     requires few { number < 64 }
     requires pass { number_of place.old.me.0.pass ≡ number + 1 }

@@ -32,7 +32,8 @@ impl<O, E, L: Law<O, E>> Shared<O, E, L> {
         ensures size { IfOk result (λ made. (made.0.table.shared.key.passes ≡ passes) × (made.0.table.shared.key.chunks ≡ chunks)) }
         ensures passes { IfOk result (λ made. map (λ seat. seat.place.me.0) made.1.items ≡ map (λ number. pass_view number chunks) (range_with_len 0 passes)) }
         ensures places { IfOk result (λ made. All (λ seat. seat.place.table_id ≡ made.0.table.shared.table_id) made.1.items) }
-        ensures turn { IfOk result (λ made. (made.2.place.table_id ≡ made.0.table.shared.table_id) × (made.2.place.me.0 ≡ unopened_view made.0.table.shared.key passes) × (made.2.passes ≡ passes)) }
+        ensures turn { IfOk result (λ made. (made.2.place.table_id ≡ made.0.table.shared.table_id)
+            × (made.2.place.me.0 ≡ unopened_view made.0.table.shared.key passes) × (made.2.passes ≡ passes)) }
     {
         let size = TableSize { passes, chunks };
         let words = first_words(alloc, size)?;
@@ -65,7 +66,8 @@ fn pass_seats<O, E, L: Law<O, E>>(
     requires first { place.old.me ≡ (unopened_view shared.now.table.shared.key 0, []) }
     ensures table { place.new.table_id ≡ place.old.table_id }
     ensures turn { IfOk result (λ seats. place.new.me ≡ (unopened_view shared.now.table.shared.key passes, [])) }
-    ensures passes { IfOk result (λ seats. map (λ seat. seat.place.me.0) seats.items ≡ map (λ number. pass_view number shared.now.table.shared.key.chunks) (range_with_len 0 passes)) }
+    ensures passes { IfOk result (λ seats. map (λ seat. seat.place.me.0) seats.items
+        ≡ map (λ number. pass_view number shared.now.table.shared.key.chunks) (range_with_len 0 passes)) }
     ensures places { IfOk result (λ seats. All (λ seat. seat.place.table_id ≡ shared.now.table.shared.table_id) seats.items) }
 {
     let mut seats = Vec::new(alloc);

@@ -50,7 +50,9 @@ type Index = Shared<u64, u64, Numbers>;
 fn is_in_use(versions: &[u64], chunk: u32) -> bool
     ensures { result ≡ list_any (λ v. v % 6 == chunk) versions.now }
 {
-    versions.iter().any(|version| *version % 6 == u64::from(chunk))
+    versions
+        .iter()
+        .any(|version| *version % 6 == u64::from(chunk))
 }
 
 /// Writes the next version into its chunk, if no version that is kept is there. The chunk is free before.
@@ -117,7 +119,8 @@ fn write_next<B: Lent<u64, u64>>(
     ensures table { result.0.place.table_id ≡ turn.place.table_id }
     ensures same { result.0.place.me.0 ≡ with_words turn.place.me.0 (words_of result.0.place.me.0.turn) }
     ensures given { given_chunks (cells_of index.now.table.shared.key.chunks result.0.place.me.0.turn) ≡ given.new }
-    ensures written { OnTrue result.1 (HasCell (cells_of index.now.table.shared.key.chunks result.0.place.me.0.turn) (place_of next) (record { big = next; small = next })) }
+    ensures written { OnTrue result.1 (HasCell (cells_of index.now.table.shared.key.chunks result.0.place.me.0.turn) (place_of next)
+        (record { big = next; small = next })) }
 {
     let mut cells = turn.lend::<Numbers, B>(index);
     let is_written = lay(&mut cells, versions, given, next);
@@ -330,9 +333,11 @@ fn read_beside<R: Threads + Sync>(
 }
 
 /// The writer stops at this version, however many transactions are left.
-const LAST_VERSION: u64 = 100_000;
-const TRANSACTIONS: u32 = 200_000;
-const READS: u32 = 50_000;
+const LAST_VERSION: u64 = 1_000_000;
+
+const TRANSACTIONS: u32 = 2_000_000;
+
+const READS: u32 = 1_000_000;
 
 /// At first no chunk is taken twice, so five versions are published whatever the schedule.
 #[test]

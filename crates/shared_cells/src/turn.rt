@@ -138,7 +138,8 @@ impl<O, E> JoinedSeat<O, E> {
     pub fn look<L: Law<O, E>>(&mut self, shared: &Shared<O, E, L>) -> u64
         requires { self.old.place.table_id ≡ shared.now.table.shared.table_id }
         ensures table { self.new.place.table_id ≡ self.old.place.table_id }
-        ensures same { (self.new.place.me.0 ≡ self.old.place.me.0) × (self.new.version ≡ self.old.version) × (self.new.number ≡ self.old.number) × (self.new.passes ≡ self.old.passes) }
+        ensures same { (self.new.place.me.0 ≡ self.old.place.me.0) × (self.new.version ≡ self.old.version) × (self.new.number ≡ self.old.number)
+            × (self.new.passes ≡ self.old.passes) }
         ensures confirmed { (turn : _) × (self.old.place.me.0.turn ≡ Some turn) × Confirmed L.applied L.lawful L.stands self.old.place.me.0 turn result }
     {
         shared.table.shared.load::<Look<L>>(&mut self.place, CUR)

@@ -1,4 +1,3 @@
-use Rattle.std.proofs.Common.{◌+◌, ◌<◌, arith}
 use Rattle.shared_cells.proofs.Images.{pin_word}
 use Rattle.shared_cells.proofs.Passes.{may_leave, pinned_there}
 use Rattle.shared_cells.proofs.pinned.leave.Goals as goal

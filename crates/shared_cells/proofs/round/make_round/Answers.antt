@@ -1,8 +1,7 @@
-use Rattle.std.proofs.Common.{◌≡◌, ◌⊎◌, ℕ, ◌+◌, ◌<◌, List, length, refl, sym, ap, ◌∙◌, subst, arith, Option, Some}
+use Rattle.std.proofs.Common.{◌≡◌, ◌⊎◌, ℕ, ◌+◌, ◌<◌, List, length, refl, sym, ap, ◌∙◌, subst, arith}
 use Rattle.std.specs.List.{AllPairs, Contains}
 use Rattle.atomic_table.specs.Table.{Me}
 use Rattle.pin_core.specs.declared.kept.Kept.{Kept}
-use Rattle.shared_cells.specs.declared.view.TurnView.{TurnView}
 use Rattle.shared_cells.specs.declared.view.View.{View}
 use Rattle.shared_cells.specs.Views.{kept_in, marks_of}
 use Rattle.shared_cells.specs.Steps.{Rounded}
@@ -50,12 +49,12 @@ loop-pass-preserved g c =
     let marked = c.mark_pass-pin.ensures in
     let small : p < n = c.loop-pass-test.true in
     let gathered : Gathered n version v w' (p + 1) c.if-pin-ne-IDLE.kept =
-        elim c.if-pin-ne-IDLE.branch [
-          | then-pin-ne-IDLE b ↦ (let named = b.version_of_pin.ensures in let add = b.add.ensures in
-              subst (Gathered n version v w' (p + 1)) (sym b.kept-is) (gathers_pinned n version v w w' p list r.gathered pin marked.marked marked.settled small b.add.new.self b.if-pin-ne-IDLE.true
-              (subst (Contains b.add.new.self) named add.has) add.keeps (λ k h. subst (λ (x : ℕ). (k ≡ x) ⊎ Contains list k) named (add.only k h)) add.few add.rising))
-          | else-pin-ne-IDLE b ↦ subst (Gathered n version v w' (p + 1)) (sym b.kept-is) (gathers_idle n version v w w' p list r.gathered pin marked.marked marked.settled small b.if-pin-ne-IDLE.false)
-        ] in
+    elim c.if-pin-ne-IDLE.branch [
+      | then-pin-ne-IDLE b ↦ (let named = b.version_of_pin.ensures in let add = b.add.ensures in
+          subst (Gathered n version v w' (p + 1)) (sym b.kept-is) (gathers_pinned n version v w w' p list r.gathered pin marked.marked marked.settled small b.add.new.self b.if-pin-ne-IDLE.true
+          (subst (Contains b.add.new.self) named add.has) add.keeps (λ k h. subst (λ (x : ℕ). (k ≡ x) ⊎ Contains list k) named (add.only k h)) add.few add.rising))
+      | else-pin-ne-IDLE b ↦ subst (Gathered n version v w' (p + 1)) (sym b.kept-is) (gathers_idle n version v w w' p list r.gathered pin marked.marked marked.settled small b.if-pin-ne-IDLE.false)
+    ] in
     record { table = marked.table.0 ∙ r.table; slots = marked.table.1 ∙ r.slots; gathered = gathered }
 
 pub returns-clause-rounded : goal.returns-clause-rounded

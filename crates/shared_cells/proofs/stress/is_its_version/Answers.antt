@@ -1,7 +1,6 @@
-use Rattle.std.proofs.Common.{◌≡◌, ℕ, nat_eq, true, refl, sym, ap, ◌∙◌, subst, eq-eqb}
+use Rattle.std.proofs.Common.{sym, ap, ◌∙◌, subst, eq-eqb}
 use Rattle.std.specs.List.{Contains}
 use Rattle.packed_node.specs.declared.Cell.{Cell}
-use Rattle.shared_cells.specs.declared.view.Progress.{Progress}
 use Rattle.shared_cells.specs.Views.{pinned_image}
 use Rattle.shared_cells.proofs.OneCellLaws.{one_cell}
 use Rattle.shared_cells.proofs.stress.is_its_version.Goals as goal

@@ -1,4 +1,4 @@
-use Rattle.std.proofs.Common.{◌≡◌, true, refl}
+use Rattle.std.proofs.Common.{true, refl}
 use Rattle.shared_cells.proofs.Seats.{turn_there}
 use Rattle.shared_cells.proofs.OneCellLaws.{one_image}
 use Rattle.shared_cells.proofs.stress.open.Goals as goal

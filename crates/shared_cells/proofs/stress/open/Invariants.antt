@@ -1,4 +1,3 @@
-use Rattle.std.proofs.Common.{◌≡◌}
 use Rattle.shared_cells.proofs.stress.open.Given as goal
 
 abbrev pub ghosts-write_first : goal.ghosts-write_first

@@ -1,4 +1,4 @@
-use Rattle.std.proofs.Common.{◌≡◌, ◌+◌, ℕ, length, sym, ap, ◌∙◌, subst}
+use Rattle.std.proofs.Common.{sym, subst}
 use Rattle.shared_cells.specs.Views.{pinned_image, pinned_root}
 use Rattle.shared_cells.specs.OneCell.{IsVersion}
 use Rattle.shared_cells.proofs.OneCellLaws.{pinned_is}

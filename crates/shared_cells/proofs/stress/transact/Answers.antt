@@ -1,18 +1,12 @@
-use Rattle.std.proofs.Common.{◌≡◌, ℕ, ◌+◌, ◌*◌, ◌/◌, ◌%◌, ◌<◌, List, [], ◌∷◌, ◌++◌, length, map, Bool, true, Option, Some, refl, sym, ap, ◌∙◌, subst, arith, length-append}
+use Rattle.std.proofs.Common.{◌≡◌, ℕ, ◌+◌, [], ◌∷◌, ◌++◌, length, map, Some, refl, sym, ap, ◌∙◌, subst, arith, length-append}
 use Rattle.std.specs.List.{All, fold}
-use Rattle.std.specs.Bool.{OnTrue}
-use Rattle.std.proofs.lemmas.List.Elements.{All-cons, All-nil}
-use Rattle.pin_core.specs.declared.kept.CellAt.{CellAt}
 use Rattle.pin_core.specs.declared.kept.Kept.{Kept}
 use Rattle.shared_cells.specs.declared.view.Entry.{Entry}
 use Rattle.shared_cells.specs.declared.view.Seen.{Seen}
-use Rattle.shared_cells.specs.declared.view.TurnView.{TurnView}
 use Rattle.shared_cells.specs.declared.view.View.{View}
-use Rattle.shared_cells.specs.Views.{kept_in, words_of, core_size}
-use Rattle.shared_cells.specs.Cells.{Cells, cells_of, HasCell, HasAt}
-use Rattle.shared_cells.specs.Steps.{IsImage}
+use Rattle.shared_cells.specs.Views.{kept_in}
+use Rattle.shared_cells.specs.Cells.{cells_of}
 use Rattle.shared_cells.specs.OneCell.{place_of, cell_of, IsVersion}
-use Rattle.shared_cells.proofs.Chunks.{cells_are_image}
 use Rattle.shared_cells.proofs.Seats.{turn_there, pass_there}
 use Rattle.shared_cells.proofs.OneCellLaws.{all_counted, kept_are_of, counted, one_image}
 use Rattle.shared_cells.proofs.stress.transact.Goals as goal

@@ -1,4 +1,4 @@
-use Rattle.std.proofs.Common.{◌≡◌, ℕ, ◌/◌, ◌<◌, ◌≤◌, List, Bool, true, false, sym, ap, ◌∙◌, subst, arith}
+use Rattle.std.proofs.Common.{ℕ, ◌<◌, false, sym, ap, ◌∙◌, subst, arith}
 use Rattle.shared_cells.specs.Cells.{Cells, given_chunks, HasCell}
 use Rattle.shared_cells.proofs.Chunks.{chunk_within, same_chunks, wide_words, few_chunks, once_stored, give_cells, given_changes}
 use Rattle.shared_cells.proofs.lent.TurnCellsCellWrite.give.Goals as goal

@@ -1,4 +1,4 @@
-use Rattle.std.proofs.Common.{◌≡◌, ℕ, ◌/◌, ◌<◌, List, Bool, true, sym, ap, ◌∙◌, subst}
+use Rattle.std.proofs.Common.{ℕ, ◌/◌, ◌<◌, List, true, sym, ap, ◌∙◌, subst}
 use Rattle.pin_core.specs.declared.kept.Kept.{Kept}
 use Rattle.pin_core.specs.Machine.{is_kept_cell}
 use Rattle.shared_cells.specs.Cells.{Cells, given_chunks, HasCell}
