@@ -36,15 +36,15 @@ fn collapse<C: CellRead, U: Space>(
     leaf: Leaf,
 ) -> Cell
     requires two { count_ones branch.bitmap ≡ 2 }
-    requires asks { LeafAsked (C.has cells.old) (U.used usage.old) (U.live usage.old) key.now branch leaf }
-    ensures shrunk { (low : ℕ) (t : Tree) (gone : Entry) → LeafAsks (C.has cells.old) (U.used usage.old) (U.live usage.old) low key.now branch leaf t gone
-        → Shrinks (C.has cells.new) (U.used usage.old) (U.used usage.new) (U.live usage.old) (U.live usage.new) low t gone result }
+    requires asks { LeafAsked (C.has cells.old) ((U.account usage.old).used) ((U.account usage.old).live) key.now branch leaf }
+    ensures shrunk { (low : ℕ) (t : Tree) (gone : Entry) → LeafAsks (C.has cells.old) ((U.account usage.old).used) ((U.account usage.old).live) low key.now branch leaf t gone
+        → Shrinks (C.has cells.new) ((U.account usage.old).used) ((U.account usage.new).used) ((U.account usage.old).live) ((U.account usage.new).live) low t gone result }
     ensures same { cells.new ≡ cells.old }
-    ensures used { (q : ℕ) → U.used usage.new q ≡ U.used usage.old q }
-    ensures fresh { (q : ℕ) → U.fresh usage.new q ≡ U.fresh usage.old q }
-    ensures given { U.given usage.new ≡ U.given usage.old }
-    ensures spent { U.spent usage.new ≡ U.spent usage.old }
-    ensures frozen { U.frozen usage.new ≡ U.frozen usage.old }
+    ensures used { (q : ℕ) → (U.account usage.new).used q ≡ (U.account usage.old).used q }
+    ensures fresh { (q : ℕ) → (U.account usage.new).mutable q ≡ (U.account usage.old).mutable q }
+    ensures given { (U.account usage.new).given ≡ (U.account usage.old).given }
+    ensures spent { (U.account usage.new).spent ≡ (U.account usage.old).spent }
+    ensures frozen { (U.account usage.new).frozen ≡ (U.account usage.old).frozen }
 {
     let index = branch.twig_index(key.at(branch.offset));
     let other = cells.cell(branch.twigs + (1 - index));
@@ -62,16 +62,16 @@ fn drop_leaf<C: CellWrite, U: Space>(
     branch: Branch,
     leaf: Leaf,
 ) -> Result<Cell, Full>
-    requires asks { LeafAsked (C.has cells.old) (U.used usage.old) (U.live usage.old) key.now branch leaf }
-    requires ready { Ready (C.kept cells.old) (C.given cells.old) (U.given usage.old) (U.used usage.old) (U.fresh usage.old) }
-    ensures shrunk { IfOk result (λ cell. (low : ℕ) (t : Tree) (gone : Entry) → LeafAsks (C.has cells.old) (U.used usage.old) (U.live usage.old) low key.now branch leaf t gone
-        → Shrinks (C.has cells.new) (U.used usage.old) (U.used usage.new) (U.live usage.old) (U.live usage.new) low t gone cell) }
-    ensures unchanged { IfErr result (λ _. (k : ℕ) → U.live usage.new k ≡ U.live usage.old k) }
-    ensures spends { U.spent usage.new ≤ U.spent usage.old + count_ones branch.bitmap }
+    requires asks { LeafAsked (C.has cells.old) ((U.account usage.old).used) ((U.account usage.old).live) key.now branch leaf }
+    requires ready { Ready (C.kept cells.old) (C.given cells.old) ((U.account usage.old).given) ((U.account usage.old).used) ((U.account usage.old).mutable) }
+    ensures shrunk { IfOk result (λ cell. (low : ℕ) (t : Tree) (gone : Entry) → LeafAsks (C.has cells.old) ((U.account usage.old).used) ((U.account usage.old).live) low key.now branch leaf t gone
+        → Shrinks (C.has cells.new) ((U.account usage.old).used) ((U.account usage.new).used) ((U.account usage.old).live) ((U.account usage.new).live) low t gone cell) }
+    ensures unchanged { IfErr result (λ _. (k : ℕ) → (U.account usage.new).live k ≡ (U.account usage.old).live k) }
+    ensures spends { (U.account usage.new).spent ≤ (U.account usage.old).spent + count_ones branch.bitmap }
     ensures full { IfErr result (λ f. U.lacks usage.new f) }
-    ensures frozen { U.frozen usage.new ≡ U.frozen usage.old }
-    ensures frame { Frame (C.has cells.old) (C.has cells.new) (C.kept cells.old) (C.kept cells.new) (C.given cells.old) (C.given cells.new) (U.used usage.old) (U.used usage.new) (U.fresh usage.old) (U.fresh usage.new) }
-    ensures ready { Ready (C.kept cells.new) (C.given cells.new) (U.given usage.new) (U.used usage.new) (U.fresh usage.new) }
+    ensures frozen { (U.account usage.new).frozen ≡ (U.account usage.old).frozen }
+    ensures frame { Frame (C.has cells.old) (C.has cells.new) (C.kept cells.old) (C.kept cells.new) (C.given cells.old) (C.given cells.new) ((U.account usage.old).used) ((U.account usage.new).used) ((U.account usage.old).mutable) ((U.account usage.new).mutable) }
+    ensures ready { Ready (C.kept cells.new) (C.given cells.new) ((U.account usage.new).given) ((U.account usage.new).used) ((U.account usage.new).mutable) }
 {
     let n = branch.twig_count();
     if n == 2 {
@@ -101,17 +101,17 @@ fn shrink<C: CellWrite, U: Space>(
     key: &Key,
     branch: Branch,
 ) -> Result<Cell, Full>
-    requires asks { ShrinkAsked (C.has cells.old) (U.used usage.old) (U.live usage.old) low key.now branch }
-    requires ready { Ready (C.kept cells.old) (C.given cells.old) (U.given usage.old) (U.used usage.old) (U.fresh usage.old) }
-    ensures shrunk { IfOk result (λ cell. (t : Tree) (gone : Entry) → ShrinkAsks (C.has cells.old) (U.used usage.old) (U.live usage.old) low key.now branch t gone
-        → Shrinks (C.has cells.new) (U.used usage.old) (U.used usage.new) (U.live usage.old) (U.live usage.new) low t gone cell) }
-    ensures unchanged { IfErr result (λ _. (k : ℕ) → U.live usage.new k ≡ U.live usage.old k) }
-    ensures spends { (t : Tree) (gone : Entry) → ShrinkAsks (C.has cells.old) (U.used usage.old) (U.live usage.old) low key.now branch t gone
-        → U.spent usage.new ≤ U.spent usage.old + twigs_on_path key.now t }
+    requires asks { ShrinkAsked (C.has cells.old) ((U.account usage.old).used) ((U.account usage.old).live) low key.now branch }
+    requires ready { Ready (C.kept cells.old) (C.given cells.old) ((U.account usage.old).given) ((U.account usage.old).used) ((U.account usage.old).mutable) }
+    ensures shrunk { IfOk result (λ cell. (t : Tree) (gone : Entry) → ShrinkAsks (C.has cells.old) ((U.account usage.old).used) ((U.account usage.old).live) low key.now branch t gone
+        → Shrinks (C.has cells.new) ((U.account usage.old).used) ((U.account usage.new).used) ((U.account usage.old).live) ((U.account usage.new).live) low t gone cell) }
+    ensures unchanged { IfErr result (λ _. (k : ℕ) → (U.account usage.new).live k ≡ (U.account usage.old).live k) }
+    ensures spends { (t : Tree) (gone : Entry) → ShrinkAsks (C.has cells.old) ((U.account usage.old).used) ((U.account usage.old).live) low key.now branch t gone
+        → (U.account usage.new).spent ≤ (U.account usage.old).spent + twigs_on_path key.now t }
     ensures full { IfErr result (λ f. U.lacks usage.new f) }
-    ensures frozen { U.frozen usage.new ≡ U.frozen usage.old }
-    ensures frame { Frame (C.has cells.old) (C.has cells.new) (C.kept cells.old) (C.kept cells.new) (C.given cells.old) (C.given cells.new) (U.used usage.old) (U.used usage.new) (U.fresh usage.old) (U.fresh usage.new) }
-    ensures ready { Ready (C.kept cells.new) (C.given cells.new) (U.given usage.new) (U.used usage.new) (U.fresh usage.new) }
+    ensures frozen { (U.account usage.new).frozen ≡ (U.account usage.old).frozen }
+    ensures frame { Frame (C.has cells.old) (C.has cells.new) (C.kept cells.old) (C.kept cells.new) (C.given cells.old) (C.given cells.new) ((U.account usage.old).used) ((U.account usage.new).used) ((U.account usage.old).mutable) ((U.account usage.new).mutable) }
+    ensures ready { Ready (C.kept cells.new) (C.given cells.new) ((U.account usage.new).given) ((U.account usage.new).used) ((U.account usage.new).mutable) }
 {
     let n = branch.twig_count();
     let index = branch.twig_index(key.at(branch.offset));
@@ -138,17 +138,17 @@ fn shrink_root<C: CellWrite, U: Space>(
     key: &Key,
     branch: Branch,
 ) -> Result<Ref, Full>
-    requires asks { ShrinkAsked (C.has cells.old) (U.used usage.old) (U.live usage.old) 0 key.now branch }
-    requires ready { Ready (C.kept cells.old) (C.given cells.old) (U.given usage.old) (U.used usage.old) (U.fresh usage.old) }
-    ensures shrunk { IfOk result (λ root. (t : Tree) (gone : Entry) → ShrinkAsks (C.has cells.old) (U.used usage.old) (U.live usage.old) 0 key.now branch t gone
-        → RootShrinks (C.has cells.new) (U.used usage.old) (U.used usage.new) (U.live usage.old) (U.live usage.new) t gone root) }
-    ensures unchanged { IfErr result (λ _. (k : ℕ) → U.live usage.new k ≡ U.live usage.old k) }
-    ensures spends { (t : Tree) (gone : Entry) → ShrinkAsks (C.has cells.old) (U.used usage.old) (U.live usage.old) 0 key.now branch t gone
-        → U.spent usage.new ≤ U.spent usage.old + (1 + twigs_on_path key.now t) }
+    requires asks { ShrinkAsked (C.has cells.old) ((U.account usage.old).used) ((U.account usage.old).live) 0 key.now branch }
+    requires ready { Ready (C.kept cells.old) (C.given cells.old) ((U.account usage.old).given) ((U.account usage.old).used) ((U.account usage.old).mutable) }
+    ensures shrunk { IfOk result (λ root. (t : Tree) (gone : Entry) → ShrinkAsks (C.has cells.old) ((U.account usage.old).used) ((U.account usage.old).live) 0 key.now branch t gone
+        → RootShrinks (C.has cells.new) ((U.account usage.old).used) ((U.account usage.new).used) ((U.account usage.old).live) ((U.account usage.new).live) t gone root) }
+    ensures unchanged { IfErr result (λ _. (k : ℕ) → (U.account usage.new).live k ≡ (U.account usage.old).live k) }
+    ensures spends { (t : Tree) (gone : Entry) → ShrinkAsks (C.has cells.old) ((U.account usage.old).used) ((U.account usage.old).live) 0 key.now branch t gone
+        → (U.account usage.new).spent ≤ (U.account usage.old).spent + (1 + twigs_on_path key.now t) }
     ensures full { IfErr result (λ f. U.lacks usage.new f) }
-    ensures frozen { U.frozen usage.new ≡ U.frozen usage.old }
-    ensures frame { Frame (C.has cells.old) (C.has cells.new) (C.kept cells.old) (C.kept cells.new) (C.given cells.old) (C.given cells.new) (U.used usage.old) (U.used usage.new) (U.fresh usage.old) (U.fresh usage.new) }
-    ensures ready { Ready (C.kept cells.new) (C.given cells.new) (U.given usage.new) (U.used usage.new) (U.fresh usage.new) }
+    ensures frozen { (U.account usage.new).frozen ≡ (U.account usage.old).frozen }
+    ensures frame { Frame (C.has cells.old) (C.has cells.new) (C.kept cells.old) (C.kept cells.new) (C.given cells.old) (C.given cells.new) ((U.account usage.old).used) ((U.account usage.new).used) ((U.account usage.old).mutable) ((U.account usage.new).mutable) }
+    ensures ready { Ready (C.kept cells.new) (C.given cells.new) ((U.account usage.new).given) ((U.account usage.new).used) ((U.account usage.new).mutable) }
 {
     let root = room(cells, usage, 1)?;
     match shrink(cells, usage, 0, key, branch) {
@@ -173,22 +173,22 @@ fn shrink_at<C: CellWrite, U: Space>(
     seat: Ref,
     branch: Branch,
 ) -> Result<(), Full>
-    requires asks { ShrinkAskedAt (C.has cells.old) (U.used usage.old) (U.live usage.old) low key.now seat branch }
-    requires fresh { U.fresh usage.old seat ≡ true }
+    requires asks { ShrinkAskedAt (C.has cells.old) ((U.account usage.old).used) ((U.account usage.old).live) low key.now seat branch }
+    requires fresh { (U.account usage.old).mutable seat ≡ true }
     requires given { IsGiven (C.given cells.old) (seat / 1024) }
-    requires ready { Ready (C.kept cells.old) (C.given cells.old) (U.given usage.old) (U.used usage.old) (U.fresh usage.old) }
-    ensures shrunk { IfOk result (λ _. (t : Tree) (gone : Entry) → ShrinkAsksAt (C.has cells.old) (U.used usage.old) (U.live usage.old) low key.now seat branch t gone
-        → ShrinksAt (C.has cells.new) (U.used usage.old) (U.used usage.new) (U.live usage.old) (U.live usage.new) low t gone seat) }
-    ensures outside { (t : Tree) (gone : Entry) → ShrinkAsksAt (C.has cells.old) (U.used usage.old) (U.live usage.old) low key.now seat branch t gone
-        → (q : ℕ) (c : Cell) → U.used usage.old q ≡ true → IsOutside seat t q → C.has cells.old q c → C.has cells.new q c }
-    ensures untouched { IfErr result (λ _. (q : ℕ) (c : Cell) → U.used usage.old q ≡ true → C.has cells.old q c → C.has cells.new q c) }
-    ensures unchanged { IfErr result (λ _. (k : ℕ) → U.live usage.new k ≡ U.live usage.old k) }
-    ensures spends { (t : Tree) (gone : Entry) → ShrinkAsksAt (C.has cells.old) (U.used usage.old) (U.live usage.old) low key.now seat branch t gone
-        → U.spent usage.new ≤ U.spent usage.old + twigs_on_path key.now t }
+    requires ready { Ready (C.kept cells.old) (C.given cells.old) ((U.account usage.old).given) ((U.account usage.old).used) ((U.account usage.old).mutable) }
+    ensures shrunk { IfOk result (λ _. (t : Tree) (gone : Entry) → ShrinkAsksAt (C.has cells.old) ((U.account usage.old).used) ((U.account usage.old).live) low key.now seat branch t gone
+        → ShrinksAt (C.has cells.new) ((U.account usage.old).used) ((U.account usage.new).used) ((U.account usage.old).live) ((U.account usage.new).live) low t gone seat) }
+    ensures outside { (t : Tree) (gone : Entry) → ShrinkAsksAt (C.has cells.old) ((U.account usage.old).used) ((U.account usage.old).live) low key.now seat branch t gone
+        → (q : ℕ) (c : Cell) → (U.account usage.old).used q ≡ true → IsOutside seat t q → C.has cells.old q c → C.has cells.new q c }
+    ensures untouched { IfErr result (λ _. (q : ℕ) (c : Cell) → (U.account usage.old).used q ≡ true → C.has cells.old q c → C.has cells.new q c) }
+    ensures unchanged { IfErr result (λ _. (k : ℕ) → (U.account usage.new).live k ≡ (U.account usage.old).live k) }
+    ensures spends { (t : Tree) (gone : Entry) → ShrinkAsksAt (C.has cells.old) ((U.account usage.old).used) ((U.account usage.old).live) low key.now seat branch t gone
+        → (U.account usage.new).spent ≤ (U.account usage.old).spent + twigs_on_path key.now t }
     ensures full { IfErr result (λ f. U.lacks usage.new f) }
-    ensures frozen { U.frozen usage.new ≡ U.frozen usage.old }
-    ensures frame { Fenced (C.has cells.old) (C.has cells.new) (C.kept cells.old) (C.kept cells.new) (C.given cells.old) (C.given cells.new) (U.used usage.old) (U.used usage.new) (U.fresh usage.old) (U.fresh usage.new) }
-    ensures ready { Ready (C.kept cells.new) (C.given cells.new) (U.given usage.new) (U.used usage.new) (U.fresh usage.new) }
+    ensures frozen { (U.account usage.new).frozen ≡ (U.account usage.old).frozen }
+    ensures frame { Fenced (C.has cells.old) (C.has cells.new) (C.kept cells.old) (C.kept cells.new) (C.given cells.old) (C.given cells.new) ((U.account usage.old).used) ((U.account usage.new).used) ((U.account usage.old).mutable) ((U.account usage.new).mutable) }
+    ensures ready { Ready (C.kept cells.new) (C.given cells.new) ((U.account usage.new).given) ((U.account usage.new).used) ((U.account usage.new).mutable) }
 {
     let at = branch.twigs + branch.twig_index(key.at(branch.offset));
     let next = cells.cell(at);
@@ -210,22 +210,22 @@ fn shrink_top<C: CellWrite, U: Space>(
     key: &Key,
     branch: Branch,
 ) -> Result<Ref, Full>
-    requires asks { ShrinkAskedAt (C.has cells.old) (U.used usage.old) (U.live usage.old) 0 key.now root branch }
-    requires ready { Ready (C.kept cells.old) (C.given cells.old) (U.given usage.old) (U.used usage.old) (U.fresh usage.old) }
-    ensures shrunk { IfOk result (λ new. (t : Tree) (gone : Entry) → ShrinkAsksAt (C.has cells.old) (U.used usage.old) (U.live usage.old) 0 key.now root branch t gone
-        → TopShrinks (C.has cells.new) (U.used usage.old) (U.used usage.new) (U.live usage.old) (U.live usage.new) t gone root new) }
-    ensures outside { (t : Tree) (gone : Entry) → ShrinkAsksAt (C.has cells.old) (U.used usage.old) (U.live usage.old) 0 key.now root branch t gone
-        → (q : ℕ) (c : Cell) → U.used usage.old q ≡ true → IsOutside root t q → C.has cells.old q c → C.has cells.new q c }
-    ensures untouched { IfErr result (λ _. (q : ℕ) (c : Cell) → U.used usage.old q ≡ true → C.has cells.old q c → C.has cells.new q c) }
-    ensures unchanged { IfErr result (λ _. (k : ℕ) → U.live usage.new k ≡ U.live usage.old k) }
-    ensures spends { (t : Tree) (gone : Entry) → ShrinkAsksAt (C.has cells.old) (U.used usage.old) (U.live usage.old) 0 key.now root branch t gone
-        → U.spent usage.new ≤ U.spent usage.old + (1 + twigs_on_path key.now t) }
+    requires asks { ShrinkAskedAt (C.has cells.old) ((U.account usage.old).used) ((U.account usage.old).live) 0 key.now root branch }
+    requires ready { Ready (C.kept cells.old) (C.given cells.old) ((U.account usage.old).given) ((U.account usage.old).used) ((U.account usage.old).mutable) }
+    ensures shrunk { IfOk result (λ new. (t : Tree) (gone : Entry) → ShrinkAsksAt (C.has cells.old) ((U.account usage.old).used) ((U.account usage.old).live) 0 key.now root branch t gone
+        → TopShrinks (C.has cells.new) ((U.account usage.old).used) ((U.account usage.new).used) ((U.account usage.old).live) ((U.account usage.new).live) t gone root new) }
+    ensures outside { (t : Tree) (gone : Entry) → ShrinkAsksAt (C.has cells.old) ((U.account usage.old).used) ((U.account usage.old).live) 0 key.now root branch t gone
+        → (q : ℕ) (c : Cell) → (U.account usage.old).used q ≡ true → IsOutside root t q → C.has cells.old q c → C.has cells.new q c }
+    ensures untouched { IfErr result (λ _. (q : ℕ) (c : Cell) → (U.account usage.old).used q ≡ true → C.has cells.old q c → C.has cells.new q c) }
+    ensures unchanged { IfErr result (λ _. (k : ℕ) → (U.account usage.new).live k ≡ (U.account usage.old).live k) }
+    ensures spends { (t : Tree) (gone : Entry) → ShrinkAsksAt (C.has cells.old) ((U.account usage.old).used) ((U.account usage.old).live) 0 key.now root branch t gone
+        → (U.account usage.new).spent ≤ (U.account usage.old).spent + (1 + twigs_on_path key.now t) }
     ensures full { IfErr result (λ f. U.lacks usage.new f) }
-    ensures frozen { U.frozen usage.new ≡ U.frozen usage.old }
-    ensures frame { Fenced (C.has cells.old) (C.has cells.new) (C.kept cells.old) (C.kept cells.new) (C.given cells.old) (C.given cells.new) (U.used usage.old) (U.used usage.new) (U.fresh usage.old) (U.fresh usage.new) }
-    ensures ready { Ready (C.kept cells.new) (C.given cells.new) (U.given usage.new) (U.used usage.new) (U.fresh usage.new) }
+    ensures frozen { (U.account usage.new).frozen ≡ (U.account usage.old).frozen }
+    ensures frame { Fenced (C.has cells.old) (C.has cells.new) (C.kept cells.old) (C.kept cells.new) (C.given cells.old) (C.given cells.new) ((U.account usage.old).used) ((U.account usage.new).used) ((U.account usage.old).mutable) ((U.account usage.new).mutable) }
+    ensures ready { Ready (C.kept cells.new) (C.given cells.new) ((U.account usage.new).given) ((U.account usage.new).used) ((U.account usage.new).mutable) }
 {
-    if usage.is_fresh(root) {
+    if usage.is_mutable(root) {
         shrink_at(cells, usage, 0, key, root, branch)?;
         return Ok(root);
     }
@@ -242,20 +242,20 @@ fn delete_item<C: CellWrite, U: Space>(
     key: &Key,
     node: Cell,
 ) -> Result<Option<Ref>, Full>
-    requires asks { DeleteAsked (C.has cells.old) (U.used usage.old) (U.live usage.old) root key.now node }
-    requires ready { Ready (C.kept cells.old) (C.given cells.old) (U.given usage.old) (U.used usage.old) (U.fresh usage.old) }
-    ensures stands { IfOk result (λ new. (t : Tree) (version : List Entry) (gone : Entry) → DeleteAsks (C.has cells.old) (U.used usage.old) (U.live usage.old) root key.now node t version gone
-        → (next : List Entry) × Deleted key.now version next × Standing (C.has cells.new) (U.used usage.new) (U.live usage.new) new next) }
-    ensures outside { (t : Tree) (version : List Entry) (gone : Entry) → DeleteAsks (C.has cells.old) (U.used usage.old) (U.live usage.old) root key.now node t version gone
-        → (q : ℕ) (c : Cell) → U.used usage.old q ≡ true → IsOutside root t q → C.has cells.old q c → C.has cells.new q c }
-    ensures untouched { IfErr result (λ _. (q : ℕ) (c : Cell) → U.used usage.old q ≡ true → C.has cells.old q c → C.has cells.new q c) }
-    ensures unchanged { IfErr result (λ _. (k : ℕ) → U.live usage.new k ≡ U.live usage.old k) }
-    ensures spends { (t : Tree) (version : List Entry) (gone : Entry) → DeleteAsks (C.has cells.old) (U.used usage.old) (U.live usage.old) root key.now node t version gone
-        → U.spent usage.new ≤ U.spent usage.old + (1 + twigs_on_path key.now t) }
+    requires asks { DeleteAsked (C.has cells.old) ((U.account usage.old).used) ((U.account usage.old).live) root key.now node }
+    requires ready { Ready (C.kept cells.old) (C.given cells.old) ((U.account usage.old).given) ((U.account usage.old).used) ((U.account usage.old).mutable) }
+    ensures stands { IfOk result (λ new. (t : Tree) (version : List Entry) (gone : Entry) → DeleteAsks (C.has cells.old) ((U.account usage.old).used) ((U.account usage.old).live) root key.now node t version gone
+        → (next : List Entry) × Deleted key.now version next × Standing (C.has cells.new) ((U.account usage.new).used) ((U.account usage.new).live) new next) }
+    ensures outside { (t : Tree) (version : List Entry) (gone : Entry) → DeleteAsks (C.has cells.old) ((U.account usage.old).used) ((U.account usage.old).live) root key.now node t version gone
+        → (q : ℕ) (c : Cell) → (U.account usage.old).used q ≡ true → IsOutside root t q → C.has cells.old q c → C.has cells.new q c }
+    ensures untouched { IfErr result (λ _. (q : ℕ) (c : Cell) → (U.account usage.old).used q ≡ true → C.has cells.old q c → C.has cells.new q c) }
+    ensures unchanged { IfErr result (λ _. (k : ℕ) → (U.account usage.new).live k ≡ (U.account usage.old).live k) }
+    ensures spends { (t : Tree) (version : List Entry) (gone : Entry) → DeleteAsks (C.has cells.old) ((U.account usage.old).used) ((U.account usage.old).live) root key.now node t version gone
+        → (U.account usage.new).spent ≤ (U.account usage.old).spent + (1 + twigs_on_path key.now t) }
     ensures full { IfErr result (λ f. U.lacks usage.new f) }
-    ensures frozen { U.frozen usage.new ≡ U.frozen usage.old }
-    ensures frame { Fenced (C.has cells.old) (C.has cells.new) (C.kept cells.old) (C.kept cells.new) (C.given cells.old) (C.given cells.new) (U.used usage.old) (U.used usage.new) (U.fresh usage.old) (U.fresh usage.new) }
-    ensures ready { Ready (C.kept cells.new) (C.given cells.new) (U.given usage.new) (U.used usage.new) (U.fresh usage.new) }
+    ensures frozen { (U.account usage.new).frozen ≡ (U.account usage.old).frozen }
+    ensures frame { Fenced (C.has cells.old) (C.has cells.new) (C.kept cells.old) (C.kept cells.new) (C.given cells.old) (C.given cells.new) ((U.account usage.old).used) ((U.account usage.new).used) ((U.account usage.old).mutable) ((U.account usage.new).mutable) }
+    ensures ready { Ready (C.kept cells.new) (C.given cells.new) ((U.account usage.new).given) ((U.account usage.new).used) ((U.account usage.new).mutable) }
 {
     match top_of(node) {
         Err(last) => {
@@ -277,21 +277,21 @@ pub fn delete<C: CellWrite, U: Space>(
     root: Option<Ref>,
     key: &Key,
 ) -> Result<Option<Ref>, ChangeRefusal>
-    requires stands { (version : List Entry) × Standing (C.has cells.old) (U.used usage.old) (U.live usage.old) root version × EachTells Leads version }
-    requires ready { Ready (C.kept cells.old) (C.given cells.old) (U.given usage.old) (U.used usage.old) (U.fresh usage.old) }
-    ensures deleted { IfOk result (λ new. (version : List Entry) → Standing (C.has cells.old) (U.used usage.old) (U.live usage.old) root version → EachTells Leads version
-        → (next : List Entry) × Deleted key.now version next × Standing (C.has cells.new) (U.used usage.new) (U.live usage.new) new next) }
-    ensures absent { (version : List Entry) → Standing (C.has cells.old) (U.used usage.old) (U.live usage.old) root version → EachTells Leads version
+    requires stands { (version : List Entry) × Standing (C.has cells.old) ((U.account usage.old).used) ((U.account usage.old).live) root version × EachTells Leads version }
+    requires ready { Ready (C.kept cells.old) (C.given cells.old) ((U.account usage.old).given) ((U.account usage.old).used) ((U.account usage.old).mutable) }
+    ensures deleted { IfOk result (λ new. (version : List Entry) → Standing (C.has cells.old) ((U.account usage.old).used) ((U.account usage.old).live) root version → EachTells Leads version
+        → (next : List Entry) × Deleted key.now version next × Standing (C.has cells.new) ((U.account usage.new).used) ((U.account usage.new).live) new next) }
+    ensures absent { (version : List Entry) → Standing (C.has cells.old) ((U.account usage.old).used) ((U.account usage.old).live) root version → EachTells Leads version
         → (result ≡ Err ChangeRefusal.NotFound) ↔ ((x : Entry) → InList x version → x.key ≡ key.now → ⊥) }
-    ensures refused { IfErr result (λ _. (version : List Entry) → Standing (C.has cells.old) (U.used usage.old) (U.live usage.old) root version → Standing (C.has cells.new) (U.used usage.new) (U.live usage.new) root version) }
-    ensures outside { (q : ℕ) (c : Cell) → U.used usage.old q ≡ true → Unreached (C.has cells.old) (U.used usage.old) (U.live usage.old) root q → C.has cells.old q c → C.has cells.new q c }
-    ensures untouched { IfErr result (λ _. (q : ℕ) (c : Cell) → U.used usage.old q ≡ true → C.has cells.old q c → C.has cells.new q c) }
-    ensures unchanged { IfErr result (λ _. (k : ℕ) → U.live usage.new k ≡ U.live usage.old k) }
+    ensures refused { IfErr result (λ _. (version : List Entry) → Standing (C.has cells.old) ((U.account usage.old).used) ((U.account usage.old).live) root version → Standing (C.has cells.new) ((U.account usage.new).used) ((U.account usage.new).live) root version) }
+    ensures outside { (q : ℕ) (c : Cell) → (U.account usage.old).used q ≡ true → Unreached (C.has cells.old) ((U.account usage.old).used) ((U.account usage.old).live) root q → C.has cells.old q c → C.has cells.new q c }
+    ensures untouched { IfErr result (λ _. (q : ℕ) (c : Cell) → (U.account usage.old).used q ≡ true → C.has cells.old q c → C.has cells.new q c) }
+    ensures unchanged { IfErr result (λ _. (k : ℕ) → (U.account usage.new).live k ≡ (U.account usage.old).live k) }
     ensures full { (f : _) → result ≡ Err (ChangeRefusal.Full f) → U.lacks usage.new f }
-    ensures spends { (n : ℕ) → OnPath (C.has cells.old) (U.used usage.old) (U.live usage.old) root key.now n → U.spent usage.new ≤ U.spent usage.old + (1 + n) }
-    ensures frozen { U.frozen usage.new ≡ U.frozen usage.old }
-    ensures frame { Fenced (C.has cells.old) (C.has cells.new) (C.kept cells.old) (C.kept cells.new) (C.given cells.old) (C.given cells.new) (U.used usage.old) (U.used usage.new) (U.fresh usage.old) (U.fresh usage.new) }
-    ensures ready { Ready (C.kept cells.new) (C.given cells.new) (U.given usage.new) (U.used usage.new) (U.fresh usage.new) }
+    ensures spends { (n : ℕ) → OnPath (C.has cells.old) ((U.account usage.old).used) ((U.account usage.old).live) root key.now n → (U.account usage.new).spent ≤ (U.account usage.old).spent + (1 + n) }
+    ensures frozen { (U.account usage.new).frozen ≡ (U.account usage.old).frozen }
+    ensures frame { Fenced (C.has cells.old) (C.has cells.new) (C.kept cells.old) (C.kept cells.new) (C.given cells.old) (C.given cells.new) ((U.account usage.old).used) ((U.account usage.new).used) ((U.account usage.old).mutable) ((U.account usage.new).mutable) }
+    ensures ready { Ready (C.kept cells.new) (C.given cells.new) ((U.account usage.new).given) ((U.account usage.new).used) ((U.account usage.new).mutable) }
 {
     match root {
         None => Err(ChangeRefusal::NotFound),

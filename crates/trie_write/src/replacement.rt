@@ -35,17 +35,17 @@ fn exchange<C: CellWrite, U: Space>(
     node: Cell,
     leaf: Leaf,
 ) -> Result<Cell, Full>
-    requires asks { ExchangeAsked (C.has cells.old) (U.used usage.old) (U.live usage.old) low key.now node leaf }
-    requires ready { Ready (C.kept cells.old) (C.given cells.old) (U.given usage.old) (U.used usage.old) (U.fresh usage.old) }
-    ensures exchanged { IfOk result (λ cell. (t : Tree) (e : Entry) → ExchangeAsks (C.has cells.old) (U.used usage.old) (U.live usage.old) low key.now node leaf t e
-        → Exchanges (C.has cells.new) (U.used usage.old) (U.used usage.new) (U.live usage.old) (U.live usage.new) low leaf t e cell) }
-    ensures unchanged { IfErr result (λ _. (k : ℕ) → U.live usage.new k ≡ U.live usage.old k) }
-    ensures spends { (t : Tree) (e : Entry) → ExchangeAsks (C.has cells.old) (U.used usage.old) (U.live usage.old) low key.now node leaf t e
-        → U.spent usage.new ≤ U.spent usage.old + twigs_on_path key.now t }
+    requires asks { ExchangeAsked (C.has cells.old) ((U.account usage.old).used) ((U.account usage.old).live) low key.now node leaf }
+    requires ready { Ready (C.kept cells.old) (C.given cells.old) ((U.account usage.old).given) ((U.account usage.old).used) ((U.account usage.old).mutable) }
+    ensures exchanged { IfOk result (λ cell. (t : Tree) (e : Entry) → ExchangeAsks (C.has cells.old) ((U.account usage.old).used) ((U.account usage.old).live) low key.now node leaf t e
+        → Exchanges (C.has cells.new) ((U.account usage.old).used) ((U.account usage.new).used) ((U.account usage.old).live) ((U.account usage.new).live) low leaf t e cell) }
+    ensures unchanged { IfErr result (λ _. (k : ℕ) → (U.account usage.new).live k ≡ (U.account usage.old).live k) }
+    ensures spends { (t : Tree) (e : Entry) → ExchangeAsks (C.has cells.old) ((U.account usage.old).used) ((U.account usage.old).live) low key.now node leaf t e
+        → (U.account usage.new).spent ≤ (U.account usage.old).spent + twigs_on_path key.now t }
     ensures full { IfErr result (λ f. U.lacks usage.new f) }
-    ensures frozen { U.frozen usage.new ≡ U.frozen usage.old }
-    ensures frame { Frame (C.has cells.old) (C.has cells.new) (C.kept cells.old) (C.kept cells.new) (C.given cells.old) (C.given cells.new) (U.used usage.old) (U.used usage.new) (U.fresh usage.old) (U.fresh usage.new) }
-    ensures ready { Ready (C.kept cells.new) (C.given cells.new) (U.given usage.new) (U.used usage.new) (U.fresh usage.new) }
+    ensures frozen { (U.account usage.new).frozen ≡ (U.account usage.old).frozen }
+    ensures frame { Frame (C.has cells.old) (C.has cells.new) (C.kept cells.old) (C.kept cells.new) (C.given cells.old) (C.given cells.new) ((U.account usage.old).used) ((U.account usage.new).used) ((U.account usage.old).mutable) ((U.account usage.new).mutable) }
+    ensures ready { Ready (C.kept cells.new) (C.given cells.new) ((U.account usage.new).given) ((U.account usage.new).used) ((U.account usage.new).mutable) }
 {
     match top_of(node) {
         Err(old) => {
@@ -76,16 +76,16 @@ fn exchange_root<C: CellWrite, U: Space>(
     node: Cell,
     leaf: Leaf,
 ) -> Result<Ref, Full>
-    requires asks { ExchangeAsked (C.has cells.old) (U.used usage.old) (U.live usage.old) 0 key.now node leaf }
-    requires ready { Ready (C.kept cells.old) (C.given cells.old) (U.given usage.old) (U.used usage.old) (U.fresh usage.old) }
-    ensures exchanged { IfOk result (λ root. (t : Tree) (e : Entry) → ExchangeAsks (C.has cells.old) (U.used usage.old) (U.live usage.old) 0 key.now node leaf t e
-        → RootExchanges (C.has cells.new) (U.used usage.old) (U.used usage.new) (U.live usage.old) (U.live usage.new) leaf t e root) }
-    ensures unchanged { IfErr result (λ _. (k : ℕ) → U.live usage.new k ≡ U.live usage.old k) }
-    ensures spends { (t : Tree) (e : Entry) → ExchangeAsks (C.has cells.old) (U.used usage.old) (U.live usage.old) 0 key.now node leaf t e → U.spent usage.new ≤ U.spent usage.old + (twigs_on_path key.now t + 1) }
+    requires asks { ExchangeAsked (C.has cells.old) ((U.account usage.old).used) ((U.account usage.old).live) 0 key.now node leaf }
+    requires ready { Ready (C.kept cells.old) (C.given cells.old) ((U.account usage.old).given) ((U.account usage.old).used) ((U.account usage.old).mutable) }
+    ensures exchanged { IfOk result (λ root. (t : Tree) (e : Entry) → ExchangeAsks (C.has cells.old) ((U.account usage.old).used) ((U.account usage.old).live) 0 key.now node leaf t e
+        → RootExchanges (C.has cells.new) ((U.account usage.old).used) ((U.account usage.new).used) ((U.account usage.old).live) ((U.account usage.new).live) leaf t e root) }
+    ensures unchanged { IfErr result (λ _. (k : ℕ) → (U.account usage.new).live k ≡ (U.account usage.old).live k) }
+    ensures spends { (t : Tree) (e : Entry) → ExchangeAsks (C.has cells.old) ((U.account usage.old).used) ((U.account usage.old).live) 0 key.now node leaf t e → (U.account usage.new).spent ≤ (U.account usage.old).spent + (twigs_on_path key.now t + 1) }
     ensures full { IfErr result (λ f. U.lacks usage.new f) }
-    ensures frozen { U.frozen usage.new ≡ U.frozen usage.old }
-    ensures frame { Frame (C.has cells.old) (C.has cells.new) (C.kept cells.old) (C.kept cells.new) (C.given cells.old) (C.given cells.new) (U.used usage.old) (U.used usage.new) (U.fresh usage.old) (U.fresh usage.new) }
-    ensures ready { Ready (C.kept cells.new) (C.given cells.new) (U.given usage.new) (U.used usage.new) (U.fresh usage.new) }
+    ensures frozen { (U.account usage.new).frozen ≡ (U.account usage.old).frozen }
+    ensures frame { Frame (C.has cells.old) (C.has cells.new) (C.kept cells.old) (C.kept cells.new) (C.given cells.old) (C.given cells.new) ((U.account usage.old).used) ((U.account usage.new).used) ((U.account usage.old).mutable) ((U.account usage.new).mutable) }
+    ensures ready { Ready (C.kept cells.new) (C.given cells.new) ((U.account usage.new).given) ((U.account usage.new).used) ((U.account usage.new).mutable) }
 {
     let root = room(cells, usage, 1)?;
     match exchange(cells, usage, 0, key, node, leaf) {
@@ -111,22 +111,22 @@ fn exchange_at<C: CellWrite, U: Space>(
     node: Cell,
     leaf: Leaf,
 ) -> Result<(), Full>
-    requires asks { ExchangeAskedAt (C.has cells.old) (U.used usage.old) (U.live usage.old) low key.now seat node leaf }
-    requires fresh { U.fresh usage.old seat ≡ true }
+    requires asks { ExchangeAskedAt (C.has cells.old) ((U.account usage.old).used) ((U.account usage.old).live) low key.now seat node leaf }
+    requires fresh { (U.account usage.old).mutable seat ≡ true }
     requires given { IsGiven (C.given cells.old) (seat / 1024) }
-    requires ready { Ready (C.kept cells.old) (C.given cells.old) (U.given usage.old) (U.used usage.old) (U.fresh usage.old) }
-    ensures exchanged { IfOk result (λ _. (t : Tree) (e : Entry) → ExchangeAsksAt (C.has cells.old) (U.used usage.old) (U.live usage.old) low key.now seat node leaf t e
-        → ExchangesAt (C.has cells.new) (U.used usage.old) (U.used usage.new) (U.live usage.old) (U.live usage.new) low leaf t e seat) }
-    ensures outside { (t : Tree) (e : Entry) → ExchangeAsksAt (C.has cells.old) (U.used usage.old) (U.live usage.old) low key.now seat node leaf t e
-        → (q : ℕ) (c : Cell) → U.used usage.old q ≡ true → IsOutside seat t q → C.has cells.old q c → C.has cells.new q c }
-    ensures untouched { IfErr result (λ _. (q : ℕ) (c : Cell) → U.used usage.old q ≡ true → C.has cells.old q c → C.has cells.new q c) }
-    ensures unchanged { IfErr result (λ _. (k : ℕ) → U.live usage.new k ≡ U.live usage.old k) }
-    ensures spends { (t : Tree) (e : Entry) → ExchangeAsksAt (C.has cells.old) (U.used usage.old) (U.live usage.old) low key.now seat node leaf t e
-        → U.spent usage.new ≤ U.spent usage.old + twigs_on_path key.now t }
+    requires ready { Ready (C.kept cells.old) (C.given cells.old) ((U.account usage.old).given) ((U.account usage.old).used) ((U.account usage.old).mutable) }
+    ensures exchanged { IfOk result (λ _. (t : Tree) (e : Entry) → ExchangeAsksAt (C.has cells.old) ((U.account usage.old).used) ((U.account usage.old).live) low key.now seat node leaf t e
+        → ExchangesAt (C.has cells.new) ((U.account usage.old).used) ((U.account usage.new).used) ((U.account usage.old).live) ((U.account usage.new).live) low leaf t e seat) }
+    ensures outside { (t : Tree) (e : Entry) → ExchangeAsksAt (C.has cells.old) ((U.account usage.old).used) ((U.account usage.old).live) low key.now seat node leaf t e
+        → (q : ℕ) (c : Cell) → (U.account usage.old).used q ≡ true → IsOutside seat t q → C.has cells.old q c → C.has cells.new q c }
+    ensures untouched { IfErr result (λ _. (q : ℕ) (c : Cell) → (U.account usage.old).used q ≡ true → C.has cells.old q c → C.has cells.new q c) }
+    ensures unchanged { IfErr result (λ _. (k : ℕ) → (U.account usage.new).live k ≡ (U.account usage.old).live k) }
+    ensures spends { (t : Tree) (e : Entry) → ExchangeAsksAt (C.has cells.old) ((U.account usage.old).used) ((U.account usage.old).live) low key.now seat node leaf t e
+        → (U.account usage.new).spent ≤ (U.account usage.old).spent + twigs_on_path key.now t }
     ensures full { IfErr result (λ f. U.lacks usage.new f) }
-    ensures frozen { U.frozen usage.new ≡ U.frozen usage.old }
-    ensures frame { Fenced (C.has cells.old) (C.has cells.new) (C.kept cells.old) (C.kept cells.new) (C.given cells.old) (C.given cells.new) (U.used usage.old) (U.used usage.new) (U.fresh usage.old) (U.fresh usage.new) }
-    ensures ready { Ready (C.kept cells.new) (C.given cells.new) (U.given usage.new) (U.used usage.new) (U.fresh usage.new) }
+    ensures frozen { (U.account usage.new).frozen ≡ (U.account usage.old).frozen }
+    ensures frame { Fenced (C.has cells.old) (C.has cells.new) (C.kept cells.old) (C.kept cells.new) (C.given cells.old) (C.given cells.new) ((U.account usage.old).used) ((U.account usage.new).used) ((U.account usage.old).mutable) ((U.account usage.new).mutable) }
+    ensures ready { Ready (C.kept cells.new) (C.given cells.new) ((U.account usage.new).given) ((U.account usage.new).used) ((U.account usage.new).mutable) }
 {
     match fresh_twig(usage, key, u16::MAX, node) {
         Some(twig) => {
@@ -158,22 +158,22 @@ fn exchange_top<C: CellWrite, U: Space>(
     node: Cell,
     leaf: Leaf,
 ) -> Result<Ref, Full>
-    requires asks { ExchangeAskedAt (C.has cells.old) (U.used usage.old) (U.live usage.old) 0 key.now root node leaf }
-    requires ready { Ready (C.kept cells.old) (C.given cells.old) (U.given usage.old) (U.used usage.old) (U.fresh usage.old) }
-    ensures exchanged { IfOk result (λ new. (t : Tree) (e : Entry) → ExchangeAsksAt (C.has cells.old) (U.used usage.old) (U.live usage.old) 0 key.now root node leaf t e
-        → TopExchanges (C.has cells.new) (U.used usage.old) (U.used usage.new) (U.live usage.old) (U.live usage.new) leaf t e root new) }
-    ensures outside { (t : Tree) (e : Entry) → ExchangeAsksAt (C.has cells.old) (U.used usage.old) (U.live usage.old) 0 key.now root node leaf t e
-        → (q : ℕ) (c : Cell) → U.used usage.old q ≡ true → IsOutside root t q → C.has cells.old q c → C.has cells.new q c }
-    ensures untouched { IfErr result (λ _. (q : ℕ) (c : Cell) → U.used usage.old q ≡ true → C.has cells.old q c → C.has cells.new q c) }
-    ensures unchanged { IfErr result (λ _. (k : ℕ) → U.live usage.new k ≡ U.live usage.old k) }
-    ensures spends { (t : Tree) (e : Entry) → ExchangeAsksAt (C.has cells.old) (U.used usage.old) (U.live usage.old) 0 key.now root node leaf t e
-        → U.spent usage.new ≤ U.spent usage.old + (twigs_on_path key.now t + 1) }
+    requires asks { ExchangeAskedAt (C.has cells.old) ((U.account usage.old).used) ((U.account usage.old).live) 0 key.now root node leaf }
+    requires ready { Ready (C.kept cells.old) (C.given cells.old) ((U.account usage.old).given) ((U.account usage.old).used) ((U.account usage.old).mutable) }
+    ensures exchanged { IfOk result (λ new. (t : Tree) (e : Entry) → ExchangeAsksAt (C.has cells.old) ((U.account usage.old).used) ((U.account usage.old).live) 0 key.now root node leaf t e
+        → TopExchanges (C.has cells.new) ((U.account usage.old).used) ((U.account usage.new).used) ((U.account usage.old).live) ((U.account usage.new).live) leaf t e root new) }
+    ensures outside { (t : Tree) (e : Entry) → ExchangeAsksAt (C.has cells.old) ((U.account usage.old).used) ((U.account usage.old).live) 0 key.now root node leaf t e
+        → (q : ℕ) (c : Cell) → (U.account usage.old).used q ≡ true → IsOutside root t q → C.has cells.old q c → C.has cells.new q c }
+    ensures untouched { IfErr result (λ _. (q : ℕ) (c : Cell) → (U.account usage.old).used q ≡ true → C.has cells.old q c → C.has cells.new q c) }
+    ensures unchanged { IfErr result (λ _. (k : ℕ) → (U.account usage.new).live k ≡ (U.account usage.old).live k) }
+    ensures spends { (t : Tree) (e : Entry) → ExchangeAsksAt (C.has cells.old) ((U.account usage.old).used) ((U.account usage.old).live) 0 key.now root node leaf t e
+        → (U.account usage.new).spent ≤ (U.account usage.old).spent + (twigs_on_path key.now t + 1) }
     ensures full { IfErr result (λ f. U.lacks usage.new f) }
-    ensures frozen { U.frozen usage.new ≡ U.frozen usage.old }
-    ensures frame { Fenced (C.has cells.old) (C.has cells.new) (C.kept cells.old) (C.kept cells.new) (C.given cells.old) (C.given cells.new) (U.used usage.old) (U.used usage.new) (U.fresh usage.old) (U.fresh usage.new) }
-    ensures ready { Ready (C.kept cells.new) (C.given cells.new) (U.given usage.new) (U.used usage.new) (U.fresh usage.new) }
+    ensures frozen { (U.account usage.new).frozen ≡ (U.account usage.old).frozen }
+    ensures frame { Fenced (C.has cells.old) (C.has cells.new) (C.kept cells.old) (C.kept cells.new) (C.given cells.old) (C.given cells.new) ((U.account usage.old).used) ((U.account usage.new).used) ((U.account usage.old).mutable) ((U.account usage.new).mutable) }
+    ensures ready { Ready (C.kept cells.new) (C.given cells.new) ((U.account usage.new).given) ((U.account usage.new).used) ((U.account usage.new).mutable) }
 {
-    if usage.is_fresh(root) {
+    if usage.is_mutable(root) {
         exchange_at(cells, usage, 0, key, root, node, leaf)?;
         return Ok(root);
     }
@@ -193,20 +193,20 @@ fn replace_item<C: CellWrite, U: Space>(
 ) -> Result<Ref, Full>
     requires some { 0 < length item.now }
     requires short { length item.now ≤ 4096 }
-    requires asks { (e : Entry) × ReplaceAsked (C.has cells.old) (U.used usage.old) (U.live usage.old) root key.now item.now node e }
-    requires ready { Ready (C.kept cells.old) (C.given cells.old) (U.given usage.old) (U.used usage.old) (U.fresh usage.old) }
-    ensures stands { IfOk result (λ new. (e : Entry) (t : Tree) (version : List Entry) → ReplaceAsks (C.has cells.old) (U.used usage.old) (U.live usage.old) root key.now item.now node e t version
-        → (next : List Entry) × Exchanged e version next × Standing (C.has cells.new) (U.used usage.new) (U.live usage.new) (Some new) next) }
-    ensures outside { (e : Entry) (t : Tree) (version : List Entry) → ReplaceAsks (C.has cells.old) (U.used usage.old) (U.live usage.old) root key.now item.now node e t version
-        → (q : ℕ) (c : Cell) → U.used usage.old q ≡ true → IsOutside root t q → C.has cells.old q c → C.has cells.new q c }
-    ensures untouched { IfErr result (λ _. (q : ℕ) (c : Cell) → U.used usage.old q ≡ true → C.has cells.old q c → C.has cells.new q c) }
-    ensures unchanged { IfErr result (λ _. (k : ℕ) → U.live usage.new k ≡ U.live usage.old k) }
-    ensures spends { (e : Entry) (t : Tree) (version : List Entry) → ReplaceAsks (C.has cells.old) (U.used usage.old) (U.live usage.old) root key.now item.now node e t version
-        → U.spent usage.new ≤ U.spent usage.old + (3 + cells_in item.now + twigs_on_path key.now t) }
+    requires asks { (e : Entry) × ReplaceAsked (C.has cells.old) ((U.account usage.old).used) ((U.account usage.old).live) root key.now item.now node e }
+    requires ready { Ready (C.kept cells.old) (C.given cells.old) ((U.account usage.old).given) ((U.account usage.old).used) ((U.account usage.old).mutable) }
+    ensures stands { IfOk result (λ new. (e : Entry) (t : Tree) (version : List Entry) → ReplaceAsks (C.has cells.old) ((U.account usage.old).used) ((U.account usage.old).live) root key.now item.now node e t version
+        → (next : List Entry) × Exchanged e version next × Standing (C.has cells.new) ((U.account usage.new).used) ((U.account usage.new).live) (Some new) next) }
+    ensures outside { (e : Entry) (t : Tree) (version : List Entry) → ReplaceAsks (C.has cells.old) ((U.account usage.old).used) ((U.account usage.old).live) root key.now item.now node e t version
+        → (q : ℕ) (c : Cell) → (U.account usage.old).used q ≡ true → IsOutside root t q → C.has cells.old q c → C.has cells.new q c }
+    ensures untouched { IfErr result (λ _. (q : ℕ) (c : Cell) → (U.account usage.old).used q ≡ true → C.has cells.old q c → C.has cells.new q c) }
+    ensures unchanged { IfErr result (λ _. (k : ℕ) → (U.account usage.new).live k ≡ (U.account usage.old).live k) }
+    ensures spends { (e : Entry) (t : Tree) (version : List Entry) → ReplaceAsks (C.has cells.old) ((U.account usage.old).used) ((U.account usage.old).live) root key.now item.now node e t version
+        → (U.account usage.new).spent ≤ (U.account usage.old).spent + (3 + cells_in item.now + twigs_on_path key.now t) }
     ensures full { IfErr result (λ f. U.lacks usage.new f) }
-    ensures frozen { U.frozen usage.new ≡ U.frozen usage.old }
-    ensures frame { Fenced (C.has cells.old) (C.has cells.new) (C.kept cells.old) (C.kept cells.new) (C.given cells.old) (C.given cells.new) (U.used usage.old) (U.used usage.new) (U.fresh usage.old) (U.fresh usage.new) }
-    ensures ready { Ready (C.kept cells.new) (C.given cells.new) (U.given usage.new) (U.used usage.new) (U.fresh usage.new) }
+    ensures frozen { (U.account usage.new).frozen ≡ (U.account usage.old).frozen }
+    ensures frame { Fenced (C.has cells.old) (C.has cells.new) (C.kept cells.old) (C.kept cells.new) (C.given cells.old) (C.given cells.new) ((U.account usage.old).used) ((U.account usage.new).used) ((U.account usage.old).mutable) ((U.account usage.new).mutable) }
+    ensures ready { Ready (C.kept cells.new) (C.given cells.new) ((U.account usage.new).given) ((U.account usage.new).used) ((U.account usage.new).mutable) }
 {
     let leaf = place_item(cells, usage, item)?;
     match exchange_top(cells, usage, root, key, node, leaf) {
@@ -236,22 +236,22 @@ pub fn replace<C: CellWrite, U: Space>(
     key: &Key,
     item: &[u8],
 ) -> Result<Option<Ref>, ChangeRefusal>
-    requires stands { (version : List Entry) × Standing (C.has cells.old) (U.used usage.old) (U.live usage.old) root version × EachTells Leads version }
+    requires stands { (version : List Entry) × Standing (C.has cells.old) ((U.account usage.old).used) ((U.account usage.old).live) root version × EachTells Leads version }
     requires leads { Leads key.now item.now }
-    requires ready { Ready (C.kept cells.old) (C.given cells.old) (U.given usage.old) (U.used usage.old) (U.fresh usage.old) }
-    ensures replaced { IfOk result (λ new. (version : List Entry) → Standing (C.has cells.old) (U.used usage.old) (U.live usage.old) root version → EachTells Leads version
-        → (next : List Entry) × Exchanged (record { key = key.now; item = item.now }) version next × Standing (C.has cells.new) (U.used usage.new) (U.live usage.new) new next) }
-    ensures absent { (version : List Entry) → Standing (C.has cells.old) (U.used usage.old) (U.live usage.old) root version → EachTells Leads version
+    requires ready { Ready (C.kept cells.old) (C.given cells.old) ((U.account usage.old).given) ((U.account usage.old).used) ((U.account usage.old).mutable) }
+    ensures replaced { IfOk result (λ new. (version : List Entry) → Standing (C.has cells.old) ((U.account usage.old).used) ((U.account usage.old).live) root version → EachTells Leads version
+        → (next : List Entry) × Exchanged (record { key = key.now; item = item.now }) version next × Standing (C.has cells.new) ((U.account usage.new).used) ((U.account usage.new).live) new next) }
+    ensures absent { (version : List Entry) → Standing (C.has cells.old) ((U.account usage.old).used) ((U.account usage.old).live) root version → EachTells Leads version
         → (result ≡ Err ChangeRefusal.NotFound) ↔ ((x : Entry) → InList x version → x.key ≡ key.now → ⊥) }
-    ensures refused { IfErr result (λ _. (version : List Entry) → Standing (C.has cells.old) (U.used usage.old) (U.live usage.old) root version → Standing (C.has cells.new) (U.used usage.new) (U.live usage.new) root version) }
-    ensures outside { (q : ℕ) (c : Cell) → U.used usage.old q ≡ true → Unreached (C.has cells.old) (U.used usage.old) (U.live usage.old) root q → C.has cells.old q c → C.has cells.new q c }
-    ensures untouched { IfErr result (λ _. (q : ℕ) (c : Cell) → U.used usage.old q ≡ true → C.has cells.old q c → C.has cells.new q c) }
-    ensures unchanged { IfErr result (λ _. (k : ℕ) → U.live usage.new k ≡ U.live usage.old k) }
+    ensures refused { IfErr result (λ _. (version : List Entry) → Standing (C.has cells.old) ((U.account usage.old).used) ((U.account usage.old).live) root version → Standing (C.has cells.new) ((U.account usage.new).used) ((U.account usage.new).live) root version) }
+    ensures outside { (q : ℕ) (c : Cell) → (U.account usage.old).used q ≡ true → Unreached (C.has cells.old) ((U.account usage.old).used) ((U.account usage.old).live) root q → C.has cells.old q c → C.has cells.new q c }
+    ensures untouched { IfErr result (λ _. (q : ℕ) (c : Cell) → (U.account usage.old).used q ≡ true → C.has cells.old q c → C.has cells.new q c) }
+    ensures unchanged { IfErr result (λ _. (k : ℕ) → (U.account usage.new).live k ≡ (U.account usage.old).live k) }
     ensures full { (f : _) → result ≡ Err (ChangeRefusal.Full f) → U.lacks usage.new f }
-    ensures spends { (n : ℕ) → OnPath (C.has cells.old) (U.used usage.old) (U.live usage.old) root key.now n → U.spent usage.new ≤ U.spent usage.old + (3 + cells_in item.now + n) }
-    ensures frozen { U.frozen usage.new ≡ U.frozen usage.old }
-    ensures frame { Fenced (C.has cells.old) (C.has cells.new) (C.kept cells.old) (C.kept cells.new) (C.given cells.old) (C.given cells.new) (U.used usage.old) (U.used usage.new) (U.fresh usage.old) (U.fresh usage.new) }
-    ensures ready { Ready (C.kept cells.new) (C.given cells.new) (U.given usage.new) (U.used usage.new) (U.fresh usage.new) }
+    ensures spends { (n : ℕ) → OnPath (C.has cells.old) ((U.account usage.old).used) ((U.account usage.old).live) root key.now n → (U.account usage.new).spent ≤ (U.account usage.old).spent + (3 + cells_in item.now + n) }
+    ensures frozen { (U.account usage.new).frozen ≡ (U.account usage.old).frozen }
+    ensures frame { Fenced (C.has cells.old) (C.has cells.new) (C.kept cells.old) (C.kept cells.new) (C.given cells.old) (C.given cells.new) ((U.account usage.old).used) ((U.account usage.new).used) ((U.account usage.old).mutable) ((U.account usage.new).mutable) }
+    ensures ready { Ready (C.kept cells.new) (C.given cells.new) ((U.account usage.new).given) ((U.account usage.new).used) ((U.account usage.new).mutable) }
 {
     match root {
         None => Err(ChangeRefusal::NotFound),

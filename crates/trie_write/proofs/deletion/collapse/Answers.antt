@@ -27,5 +27,5 @@ release_item-requires-clause-row g c = leaf_row c.requires.asks.asks c.at.ensure
 
 pub returns-clause-shrunk : goal.returns-clause-shrunk
 returns-clause-shrunk g c low t gone a =
-    subst (λ s. Shrinks (g.C.CellRead.has s) (g.U.Space.used c.args.usage.now) (g.U.Space.used c.release_item.new.usage) (g.U.Space.live c.args.usage.now) (g.U.Space.live c.release_item.new.usage) low t gone c.cell-other.result) (sym c.cell-other.ensures.same)
+    subst (λ s. Shrinks (g.C.CellRead.has s) ((g.U.Space.account c.args.usage.now).used) ((g.U.Space.account c.release_item.new.usage).used) ((g.U.Space.account c.args.usage.now).live) ((g.U.Space.account c.release_item.new.usage).live) low t gone c.cell-other.result) (sym c.cell-other.ensures.same)
     (collapsed a c.at.ensures c.twig_index-index.ensures.by_popcount c.requires.two c.cell-other.ensures.value (λ z u. c.release_item.ensures.used z ∙ c.release.ensures.used z ∙ u) c.release.ensures.counts c.release_item.ensures.counts)

@@ -15,7 +15,7 @@ pub release_item-requires-clause-row : goal.release_item-requires-clause-row
 release_item-requires-clause-row g c = let a = c.requires.asks.asks in last_row a (c.in-Err.ensures.leaf 0 _ a.stands.trie.shape a.is)
 
 pub returns-in-Err-clause-stands : goal.returns-in-Err-clause-stands
-returns-in-Err-clause-stands g c t version gone a = last_goes a (c.in-Err.ensures.leaf 0 t a.stands.trie.shape a.is) (g.C.CellRead.has c.args.cells.now) (g.U.Space.used c.release_item.new.usage) c.release.ensures.counts c.release_item.ensures.counts
+returns-in-Err-clause-stands g c t version gone a = last_goes a (c.in-Err.ensures.leaf 0 t a.stands.trie.shape a.is) (g.C.CellRead.has c.args.cells.now) ((g.U.Space.account c.release_item.new.usage).used) c.release.ensures.counts c.release_item.ensures.counts
 
 pub shrink_top-requires-clause-asks : goal.shrink_top-requires-clause-asks
 shrink_top-requires-clause-asks g c = let a = c.requires.asks.asks in record { t = c.requires.asks.t; gone = c.requires.asks.gone; at = root_sits a (c.in-Ok.ensures.branch 0 _ a.stands.trie.shape a.is) }

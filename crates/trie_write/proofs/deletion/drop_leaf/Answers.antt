@@ -163,7 +163,7 @@ returns-clause-shrunk g c low t gone h =
     let left = c.append.ensures.read (tops_of h.left) (left_length d) (left_row d) in
     let right = c.append-2.ensures.read (tops_of h.rest) (let m = rest_length d in omega arith) (λ j x f. subst (λ s. g.C.CellRead.has s (c.args.branch.twigs + c.twig_index-index.result + 1 + j) x) (sym c.append.ensures.same) (rest_row d j x f)) in
     let row_is : c.as_slice.result.now ≡ tops_of h.left ++ tops_of h.rest = c.as_slice.ensures.cells ∙ right ∙ ap (λ (xs : List Cell). xs ++ tops_of h.rest) (left ∙ ap (λ (xs : List Cell). xs ++ tops_of h.left) c.new-row.ensures) in
-    subst (Shrinks (g.C.CellRead.has c.place_row.new.cells) (g.U.Space.used c.args.usage.now) (g.U.Space.used c.release_item.new.usage) (g.U.Space.live c.args.usage.now) (g.U.Space.live c.release_item.new.usage) low t gone) (sym c.pack.ensures)
+    subst (Shrinks (g.C.CellRead.has c.place_row.new.cells) ((g.U.Space.account c.args.usage.now).used) ((g.U.Space.account c.release_item.new.usage).used) ((g.U.Space.account c.args.usage.now).live) ((g.U.Space.account c.release_item.new.usage).live) low t gone) (sym c.pack.ensures)
     (dropped h at_is index_is n_is c.without.result c.in_ok-twigs.ensures.room one_less (let two = n.2 in let other = c.if-n-eq2.false in omega arith) c.without.ensures {now = g.C.CellRead.has c.place_row.new.cells}
     (λ q x u m. c.in_ok-twigs.ensures.frame.stays q x u (subst (λ s. g.C.CellRead.has s q x) (sym same) m)) c.in_ok-twigs.ensures.frame.grows.stays (λ z u. c.release_item.ensures.used z ∙ c.release.ensures.used z ∙ u)
     c.in_ok-twigs.ensures.counts c.release.ensures.counts c.release_item.ensures.counts row_is c.in_ok-twigs.ensures.written)

@@ -5,11 +5,11 @@ use Rattle.trie_write.proofs.deletion.shrink_top.Goals as goal
 pub returns-in_err-shrink_at-clause-spends : goal.returns-in_err-shrink_at-clause-spends
 returns-in_err-shrink_at-clause-spends g c t e a = let s = c.shrink_at.ensures.spends t e a in omega arith
 
-pub returns-then-is_fresh-clause-shrunk : goal.returns-then-is_fresh-clause-shrunk
-returns-then-is_fresh-clause-shrunk g c t e a = let made = c.in_ok-shrink_at.ensures.shrunk t e a in record { new = made.new; change = made.change; rerooted = root_stays a.sits made.reseated }
+pub returns-then-is_mutable-clause-shrunk : goal.returns-then-is_mutable-clause-shrunk
+returns-then-is_mutable-clause-shrunk g c t e a = let made = c.in_ok-shrink_at.ensures.shrunk t e a in record { new = made.new; change = made.change; rerooted = root_stays a.sits made.reseated }
 
-pub returns-then-is_fresh-clause-spends : goal.returns-then-is_fresh-clause-spends
-returns-then-is_fresh-clause-spends g c t e a = let s = c.shrink_at.ensures.spends t e a in omega arith
+pub returns-then-is_mutable-clause-spends : goal.returns-then-is_mutable-clause-spends
+returns-then-is_mutable-clause-spends g c t e a = let s = c.shrink_at.ensures.spends t e a in omega arith
 
 pub returns-in_err-new-clause-spends : goal.returns-in_err-new-clause-spends
 returns-in_err-new-clause-spends g c t e a = c.shrink_root.ensures.spends t e a.asks

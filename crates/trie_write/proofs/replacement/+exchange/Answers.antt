@@ -31,8 +31,8 @@ exchange-requires g t c κs within =
         (
           within.1,
           (
-            record { t = (exchange_down (branch_exchange c.requires.asks.asks (c.in-Ok.ensures.branch c.args.low _ c.requires.asks.asks.held.tree c.requires.asks.asks.held.is)) c.at.ensures c.twig_index-index.ensures.by_popcount c.twig_count-n.ensures).found.here; e = c.requires.asks.e; asks = (exchange_asks (branch_exchange c.requires.asks.asks (c.in-Ok.ensures.branch c.args.low _ c.requires.asks.asks.held.tree c.requires.asks.asks.held.is)) c.at.ensures c.twig_index-index.ensures.by_popcount c.twig_count-n.ensures {now = g.C.CellRead.has c.cell-next.new.self} {used_now = g.U.Space.used c.room.new.usage} {live_now = g.U.Space.live c.room.new.usage} {next = c.cell-next.result} (λ z. let m = c.in_ok-to-in-Ok.ensures.counts z in omega arith) (λ z x u m. subst (λ s. g.C.CellRead.has s z x) (sym c.cell-next.ensures.same) (c.in_ok-to-in-Ok.ensures.frame.stays z x u m)) c.in_ok-to-in-Ok.ensures.frame.grows.stays (c.cell-next.ensures.value _ (c.in_ok-to-in-Ok.ensures.all _ _ (twig_there (exchange_down (branch_exchange c.requires.asks.asks (c.in-Ok.ensures.branch c.args.low _ c.requires.asks.asks.held.tree c.requires.asks.asks.held.is)) c.at.ensures c.twig_index-index.ensures.by_popcount c.twig_count-n.ensures))))) },
-            subst (λ s. Ready (g.C.CellWrite.kept s) (g.C.CellWrite.given s) (g.U.Space.given c.room.new.usage) (g.U.Space.used c.room.new.usage) (g.U.Space.fresh c.room.new.usage)) (sym c.cell-next.ensures.same) c.in_ok-to-in-Ok.ensures.ready,
+            record { t = (exchange_down (branch_exchange c.requires.asks.asks (c.in-Ok.ensures.branch c.args.low _ c.requires.asks.asks.held.tree c.requires.asks.asks.held.is)) c.at.ensures c.twig_index-index.ensures.by_popcount c.twig_count-n.ensures).found.here; e = c.requires.asks.e; asks = (exchange_asks (branch_exchange c.requires.asks.asks (c.in-Ok.ensures.branch c.args.low _ c.requires.asks.asks.held.tree c.requires.asks.asks.held.is)) c.at.ensures c.twig_index-index.ensures.by_popcount c.twig_count-n.ensures {now = g.C.CellRead.has c.cell-next.new.self} {used_now = (g.U.Space.account c.room.new.usage).used} {live_now = (g.U.Space.account c.room.new.usage).live} {next = c.cell-next.result} (λ z. let m = c.in_ok-to-in-Ok.ensures.counts z in omega arith) (λ z x u m. subst (λ s. g.C.CellRead.has s z x) (sym c.cell-next.ensures.same) (c.in_ok-to-in-Ok.ensures.frame.stays z x u m)) c.in_ok-to-in-Ok.ensures.frame.grows.stays (c.cell-next.ensures.value _ (c.in_ok-to-in-Ok.ensures.all _ _ (twig_there (exchange_down (branch_exchange c.requires.asks.asks (c.in-Ok.ensures.branch c.args.low _ c.requires.asks.asks.held.tree c.requires.asks.asks.held.is)) c.at.ensures c.twig_index-index.ensures.by_popcount c.twig_count-n.ensures))))) },
+            subst (λ s. Ready (g.C.CellWrite.kept s) (g.C.CellWrite.given s) ((g.U.Space.account c.room.new.usage).given) ((g.U.Space.account c.room.new.usage).used) ((g.U.Space.account c.room.new.usage).mutable)) (sym c.cell-next.ensures.same) c.in_ok-to-in-Ok.ensures.ready,
           ),
         ),
       ),
@@ -73,7 +73,7 @@ put_branch-requires-clause-unkept g t c i l h =
 
 pub put_branch-requires-clause-counted : goal.put_branch-requires-clause-counted
 put_branch-requires-clause-counted g t c k =
-    let grew = c.in-Ok-exchange.ensures.exchanged (exchange_down (branch_exchange c.requires.asks.asks (c.in-Ok.ensures.branch c.args.low _ c.requires.asks.asks.held.tree c.requires.asks.asks.held.is)) c.at.ensures c.twig_index-index.ensures.by_popcount c.twig_count-n.ensures).found.here c.requires.asks.e (exchange_asks (branch_exchange c.requires.asks.asks (c.in-Ok.ensures.branch c.args.low _ c.requires.asks.asks.held.tree c.requires.asks.asks.held.is)) c.at.ensures c.twig_index-index.ensures.by_popcount c.twig_count-n.ensures {now = g.C.CellRead.has c.cell-next.new.self} {used_now = g.U.Space.used c.room.new.usage} {live_now = g.U.Space.live c.room.new.usage} {next = c.cell-next.result} (λ z. let m = c.in_ok-to-in-Ok.ensures.counts z in omega arith) (λ z x u m. subst (λ s. g.C.CellRead.has s z x) (sym c.cell-next.ensures.same) (c.in_ok-to-in-Ok.ensures.frame.stays z x u m)) c.in_ok-to-in-Ok.ensures.frame.grows.stays (c.cell-next.ensures.value _ (c.in_ok-to-in-Ok.ensures.all _ _ (twig_there (exchange_down (branch_exchange c.requires.asks.asks (c.in-Ok.ensures.branch c.args.low _ c.requires.asks.asks.held.tree c.requires.asks.asks.held.is)) c.at.ensures c.twig_index-index.ensures.by_popcount c.twig_count-n.ensures))))) in
+    let grew = c.in-Ok-exchange.ensures.exchanged (exchange_down (branch_exchange c.requires.asks.asks (c.in-Ok.ensures.branch c.args.low _ c.requires.asks.asks.held.tree c.requires.asks.asks.held.is)) c.at.ensures c.twig_index-index.ensures.by_popcount c.twig_count-n.ensures).found.here c.requires.asks.e (exchange_asks (branch_exchange c.requires.asks.asks (c.in-Ok.ensures.branch c.args.low _ c.requires.asks.asks.held.tree c.requires.asks.asks.held.is)) c.at.ensures c.twig_index-index.ensures.by_popcount c.twig_count-n.ensures {now = g.C.CellRead.has c.cell-next.new.self} {used_now = (g.U.Space.account c.room.new.usage).used} {live_now = (g.U.Space.account c.room.new.usage).live} {next = c.cell-next.result} (λ z. let m = c.in_ok-to-in-Ok.ensures.counts z in omega arith) (λ z x u m. subst (λ s. g.C.CellRead.has s z x) (sym c.cell-next.ensures.same) (c.in_ok-to-in-Ok.ensures.frame.stays z x u m)) c.in_ok-to-in-Ok.ensures.frame.grows.stays (c.cell-next.ensures.value _ (c.in_ok-to-in-Ok.ensures.all _ _ (twig_there (exchange_down (branch_exchange c.requires.asks.asks (c.in-Ok.ensures.branch c.args.low _ c.requires.asks.asks.held.tree c.requires.asks.asks.held.is)) c.at.ensures c.twig_index-index.ensures.by_popcount c.twig_count-n.ensures))))) in
     let p = part_counted (exchange_down (branch_exchange c.requires.asks.asks (c.in-Ok.ensures.branch c.args.low _ c.requires.asks.asks.held.tree c.requires.asks.asks.held.is)) c.at.ensures c.twig_index-index.ensures.by_popcount c.twig_count-n.ensures) k in
     let a = c.in_ok-to-in-Ok.ensures.counts k in
     let d = grew.became.counts k in
@@ -94,23 +94,23 @@ returns-in-Err-clause-exchanged g t c x e asks = leaf_exchanged asks (c.in-Err.e
 pub returns-in-Err-exchange-clause-spends : goal.returns-in-Err-exchange-clause-spends
 returns-in-Err-exchange-clause-spends g t c x e asks =
     let p = exchange_path (branch_exchange asks (c.in-Ok.ensures.branch c.args.low _ asks.held.tree asks.held.is)) c.at.ensures c.twig_index-index.ensures.by_popcount c.twig_count-n.ensures in
-    let s = c.exchange.ensures.spends (exchange_down (branch_exchange asks (c.in-Ok.ensures.branch c.args.low _ asks.held.tree asks.held.is)) c.at.ensures c.twig_index-index.ensures.by_popcount c.twig_count-n.ensures).found.here e (exchange_asks (branch_exchange asks (c.in-Ok.ensures.branch c.args.low _ asks.held.tree asks.held.is)) c.at.ensures c.twig_index-index.ensures.by_popcount c.twig_count-n.ensures {now = g.C.CellRead.has c.cell-next.new.self} {used_now = g.U.Space.used c.room.new.usage} {live_now = g.U.Space.live c.room.new.usage} {next = c.cell-next.result} (λ z. let m = c.in_ok-to-in-Ok.ensures.counts z in omega arith) (λ z x u m. subst (λ s. g.C.CellRead.has s z x) (sym c.cell-next.ensures.same) (c.in_ok-to-in-Ok.ensures.frame.stays z x u m)) c.in_ok-to-in-Ok.ensures.frame.grows.stays (c.cell-next.ensures.value _ (c.in_ok-to-in-Ok.ensures.all _ _ (twig_there (exchange_down (branch_exchange asks (c.in-Ok.ensures.branch c.args.low _ asks.held.tree asks.held.is)) c.at.ensures c.twig_index-index.ensures.by_popcount c.twig_count-n.ensures))))) in
+    let s = c.exchange.ensures.spends (exchange_down (branch_exchange asks (c.in-Ok.ensures.branch c.args.low _ asks.held.tree asks.held.is)) c.at.ensures c.twig_index-index.ensures.by_popcount c.twig_count-n.ensures).found.here e (exchange_asks (branch_exchange asks (c.in-Ok.ensures.branch c.args.low _ asks.held.tree asks.held.is)) c.at.ensures c.twig_index-index.ensures.by_popcount c.twig_count-n.ensures {now = g.C.CellRead.has c.cell-next.new.self} {used_now = (g.U.Space.account c.room.new.usage).used} {live_now = (g.U.Space.account c.room.new.usage).live} {next = c.cell-next.result} (λ z. let m = c.in_ok-to-in-Ok.ensures.counts z in omega arith) (λ z x u m. subst (λ s. g.C.CellRead.has s z x) (sym c.cell-next.ensures.same) (c.in_ok-to-in-Ok.ensures.frame.stays z x u m)) c.in_ok-to-in-Ok.ensures.frame.grows.stays (c.cell-next.ensures.value _ (c.in_ok-to-in-Ok.ensures.all _ _ (twig_there (exchange_down (branch_exchange asks (c.in-Ok.ensures.branch c.args.low _ asks.held.tree asks.held.is)) c.at.ensures c.twig_index-index.ensures.by_popcount c.twig_count-n.ensures))))) in
     let r = c.room.ensures.spends in
     let m = c.release.ensures.spent in omega arith
 
 pub returns-in-Err-exchange-clause-frame : goal.returns-in-Err-exchange-clause-frame
-returns-in-Err-exchange-clause-frame g t c = frame_put c.in_ok-to-in-Ok.ensures.frame c.in_ok-to-in-Ok.ensures.room (subst (λ s. Frame (g.C.CellRead.has s) (g.C.CellRead.has c.exchange.new.cells) (g.C.CellWrite.kept s) (g.C.CellWrite.kept c.exchange.new.cells) (g.C.CellWrite.given s) (g.C.CellWrite.given c.exchange.new.cells) (g.U.Space.used c.room.new.usage) (g.U.Space.used c.exchange.new.usage) (g.U.Space.fresh c.room.new.usage) (g.U.Space.fresh c.exchange.new.usage)) c.cell-next.ensures.same c.in-Err-exchange.ensures.frame) (λ q x other h. h) refl refl c.release.ensures.used c.release.ensures.fresh
+returns-in-Err-exchange-clause-frame g t c = frame_put c.in_ok-to-in-Ok.ensures.frame c.in_ok-to-in-Ok.ensures.room (subst (λ s. Frame (g.C.CellRead.has s) (g.C.CellRead.has c.exchange.new.cells) (g.C.CellWrite.kept s) (g.C.CellWrite.kept c.exchange.new.cells) (g.C.CellWrite.given s) (g.C.CellWrite.given c.exchange.new.cells) ((g.U.Space.account c.room.new.usage).used) ((g.U.Space.account c.exchange.new.usage).used) ((g.U.Space.account c.room.new.usage).mutable) ((g.U.Space.account c.exchange.new.usage).mutable)) c.cell-next.ensures.same c.in-Err-exchange.ensures.frame) (λ q x other h. h) refl refl c.release.ensures.used c.release.ensures.fresh
 
 pub returns-in-Ok-exchange-clause-spends : goal.returns-in-Ok-exchange-clause-spends
 returns-in-Ok-exchange-clause-spends g t c x e asks =
     let p = exchange_path (branch_exchange asks (c.in-Ok.ensures.branch c.args.low _ asks.held.tree asks.held.is)) c.at.ensures c.twig_index-index.ensures.by_popcount c.twig_count-n.ensures in
-    let s = c.exchange.ensures.spends (exchange_down (branch_exchange asks (c.in-Ok.ensures.branch c.args.low _ asks.held.tree asks.held.is)) c.at.ensures c.twig_index-index.ensures.by_popcount c.twig_count-n.ensures).found.here e (exchange_asks (branch_exchange asks (c.in-Ok.ensures.branch c.args.low _ asks.held.tree asks.held.is)) c.at.ensures c.twig_index-index.ensures.by_popcount c.twig_count-n.ensures {now = g.C.CellRead.has c.cell-next.new.self} {used_now = g.U.Space.used c.room.new.usage} {live_now = g.U.Space.live c.room.new.usage} {next = c.cell-next.result} (λ z. let m = c.in_ok-to-in-Ok.ensures.counts z in omega arith) (λ z x u m. subst (λ s. g.C.CellRead.has s z x) (sym c.cell-next.ensures.same) (c.in_ok-to-in-Ok.ensures.frame.stays z x u m)) c.in_ok-to-in-Ok.ensures.frame.grows.stays (c.cell-next.ensures.value _ (c.in_ok-to-in-Ok.ensures.all _ _ (twig_there (exchange_down (branch_exchange asks (c.in-Ok.ensures.branch c.args.low _ asks.held.tree asks.held.is)) c.at.ensures c.twig_index-index.ensures.by_popcount c.twig_count-n.ensures))))) in
+    let s = c.exchange.ensures.spends (exchange_down (branch_exchange asks (c.in-Ok.ensures.branch c.args.low _ asks.held.tree asks.held.is)) c.at.ensures c.twig_index-index.ensures.by_popcount c.twig_count-n.ensures).found.here e (exchange_asks (branch_exchange asks (c.in-Ok.ensures.branch c.args.low _ asks.held.tree asks.held.is)) c.at.ensures c.twig_index-index.ensures.by_popcount c.twig_count-n.ensures {now = g.C.CellRead.has c.cell-next.new.self} {used_now = (g.U.Space.account c.room.new.usage).used} {live_now = (g.U.Space.account c.room.new.usage).live} {next = c.cell-next.result} (λ z. let m = c.in_ok-to-in-Ok.ensures.counts z in omega arith) (λ z x u m. subst (λ s. g.C.CellRead.has s z x) (sym c.cell-next.ensures.same) (c.in_ok-to-in-Ok.ensures.frame.stays z x u m)) c.in_ok-to-in-Ok.ensures.frame.grows.stays (c.cell-next.ensures.value _ (c.in_ok-to-in-Ok.ensures.all _ _ (twig_there (exchange_down (branch_exchange asks (c.in-Ok.ensures.branch c.args.low _ asks.held.tree asks.held.is)) c.at.ensures c.twig_index-index.ensures.by_popcount c.twig_count-n.ensures))))) in
     let r = c.room.ensures.spends in
     let m = c.put_branch.ensures.spent in omega arith
 
 pub returns-in-Ok-exchange-clause-frame : goal.returns-in-Ok-exchange-clause-frame
 returns-in-Ok-exchange-clause-frame g t c =
-    frame_put c.in_ok-to-in-Ok.ensures.frame c.in_ok-to-in-Ok.ensures.room (subst (λ s. Frame (g.C.CellRead.has s) (g.C.CellRead.has c.exchange.new.cells) (g.C.CellWrite.kept s) (g.C.CellWrite.kept c.exchange.new.cells) (g.C.CellWrite.given s) (g.C.CellWrite.given c.exchange.new.cells) (g.U.Space.used c.room.new.usage) (g.U.Space.used c.exchange.new.usage) (g.U.Space.fresh c.room.new.usage) (g.U.Space.fresh c.exchange.new.usage)) c.cell-next.ensures.same c.in-Ok-exchange.ensures.frame) (λ q x other h. c.put_branch.ensures.others q x (λ i l. other i (let m = c.twig_count-n.ensures in omega arith)) h) c.put_branch.ensures.given c.put_branch.ensures.kept c.put_branch.ensures.used c.put_branch.ensures.fresh
+    frame_put c.in_ok-to-in-Ok.ensures.frame c.in_ok-to-in-Ok.ensures.room (subst (λ s. Frame (g.C.CellRead.has s) (g.C.CellRead.has c.exchange.new.cells) (g.C.CellWrite.kept s) (g.C.CellWrite.kept c.exchange.new.cells) (g.C.CellWrite.given s) (g.C.CellWrite.given c.exchange.new.cells) ((g.U.Space.account c.room.new.usage).used) ((g.U.Space.account c.exchange.new.usage).used) ((g.U.Space.account c.room.new.usage).mutable) ((g.U.Space.account c.exchange.new.usage).mutable)) c.cell-next.ensures.same c.in-Ok-exchange.ensures.frame) (λ q x other h. c.put_branch.ensures.others q x (λ i l. other i (let m = c.twig_count-n.ensures in omega arith)) h) c.put_branch.ensures.given c.put_branch.ensures.kept c.put_branch.ensures.used c.put_branch.ensures.fresh
 
 pub returns-in-Ok-exchange-clause-ready : goal.returns-in-Ok-exchange-clause-ready
 returns-in-Ok-exchange-clause-ready g t c = ready_put c.in-Ok-exchange.ensures.ready c.put_branch.ensures.given c.put_branch.ensures.kept c.put_branch.ensures.space c.put_branch.ensures.used c.put_branch.ensures.fresh
@@ -119,10 +119,10 @@ pub returns-in-Ok-exchange-clause-exchanged : goal.returns-in-Ok-exchange-clause
 returns-in-Ok-exchange-clause-exchanged g t c x e asks =
     let down = exchange_down (branch_exchange asks (c.in-Ok.ensures.branch c.args.low _ asks.held.tree asks.held.is)) c.at.ensures c.twig_index-index.ensures.by_popcount c.twig_count-n.ensures in
     let n = c.twig_count-n.ensures in
-    let later = λ (q : ℕ) (y : Cell) (u : g.U.Space.used c.args.usage.now q ≡ true) (m : g.C.CellRead.has c.args.cells.now q y). c.in-Ok-exchange.ensures.frame.stays q y (c.in_ok-to-in-Ok.ensures.frame.grows.stays q u) (subst (λ s. g.C.CellRead.has s q y) (sym c.cell-next.ensures.same) (c.in_ok-to-in-Ok.ensures.frame.stays q y u m)) in
-    subst (Exchanges (g.C.CellRead.has c.put_branch.new.cells) (g.U.Space.used c.args.usage.now) (g.U.Space.used c.put_branch.new.usage) (g.U.Space.live c.args.usage.now) (g.U.Space.live c.put_branch.new.usage) c.args.low c.args.leaf x e) (sym c.put_branch.ensures.cell)
+    let later = λ (q : ℕ) (y : Cell) (u : (g.U.Space.account c.args.usage.now).used q ≡ true) (m : g.C.CellRead.has c.args.cells.now q y). c.in-Ok-exchange.ensures.frame.stays q y (c.in_ok-to-in-Ok.ensures.frame.grows.stays q u) (subst (λ s. g.C.CellRead.has s q y) (sym c.cell-next.ensures.same) (c.in_ok-to-in-Ok.ensures.frame.stays q y u m)) in
+    subst (Exchanges (g.C.CellRead.has c.put_branch.new.cells) ((g.U.Space.account c.args.usage.now).used) ((g.U.Space.account c.put_branch.new.usage).used) ((g.U.Space.account c.args.usage.now).live) ((g.U.Space.account c.put_branch.new.usage).live) c.args.low c.args.leaf x e) (sym c.put_branch.ensures.cell)
     (exchange_grew (branch_exchange asks (c.in-Ok.ensures.branch c.args.low _ asks.held.tree asks.held.is)) c.at.ensures c.twig_index-index.ensures.by_popcount c.twig_count-n.ensures {now = g.C.CellRead.has c.cell-next.new.self} {later = g.C.CellRead.has c.exchange.new.cells} {new = g.C.CellRead.has c.put_branch.new.cells} c.in_ok-to-in-Ok.ensures.room c.in_ok-to-in-Ok.ensures.frame.grows.stays c.in_ok-to-in-Ok.ensures.counts
-    (λ k. ap (λ (m : ℕ). g.U.Space.live c.put_branch.new.usage k + row (in_chunk k) c.in-Ok.branch.twigs m) n ∙ c.put_branch.ensures.counts k) (λ z x u m. subst (λ s. g.C.CellRead.has s z x) (sym c.cell-next.ensures.same) (c.in_ok-to-in-Ok.ensures.frame.stays z x u m)) c.in-Ok-exchange.ensures.frame.stays c.in-Ok-exchange.ensures.frame.grows.stays (λ q u. c.put_branch.ensures.used q ∙ u)
-    (c.in-Ok-exchange.ensures.exchanged down.found.here e (exchange_asks (branch_exchange asks (c.in-Ok.ensures.branch c.args.low _ asks.held.tree asks.held.is)) c.at.ensures c.twig_index-index.ensures.by_popcount c.twig_count-n.ensures {now = g.C.CellRead.has c.cell-next.new.self} {used_now = g.U.Space.used c.room.new.usage} {live_now = g.U.Space.live c.room.new.usage} {next = c.cell-next.result} (λ z. let m = c.in_ok-to-in-Ok.ensures.counts z in omega arith) (λ z x u m. subst (λ s. g.C.CellRead.has s z x) (sym c.cell-next.ensures.same) (c.in_ok-to-in-Ok.ensures.frame.stays z x u m)) c.in_ok-to-in-Ok.ensures.frame.grows.stays (c.cell-next.ensures.value _ (c.in_ok-to-in-Ok.ensures.all _ _ (twig_there (exchange_down (branch_exchange asks (c.in-Ok.ensures.branch c.args.low _ asks.held.tree asks.held.is)) c.at.ensures c.twig_index-index.ensures.by_popcount c.twig_count-n.ensures))))))
+    (λ k. ap (λ (m : ℕ). (g.U.Space.account c.put_branch.new.usage).live k + row (in_chunk k) c.in-Ok.branch.twigs m) n ∙ c.put_branch.ensures.counts k) (λ z x u m. subst (λ s. g.C.CellRead.has s z x) (sym c.cell-next.ensures.same) (c.in_ok-to-in-Ok.ensures.frame.stays z x u m)) c.in-Ok-exchange.ensures.frame.stays c.in-Ok-exchange.ensures.frame.grows.stays (λ q u. c.put_branch.ensures.used q ∙ u)
+    (c.in-Ok-exchange.ensures.exchanged down.found.here e (exchange_asks (branch_exchange asks (c.in-Ok.ensures.branch c.args.low _ asks.held.tree asks.held.is)) c.at.ensures c.twig_index-index.ensures.by_popcount c.twig_count-n.ensures {now = g.C.CellRead.has c.cell-next.new.self} {used_now = (g.U.Space.account c.room.new.usage).used} {live_now = (g.U.Space.account c.room.new.usage).live} {next = c.cell-next.result} (λ z. let m = c.in_ok-to-in-Ok.ensures.counts z in omega arith) (λ z x u m. subst (λ s. g.C.CellRead.has s z x) (sym c.cell-next.ensures.same) (c.in_ok-to-in-Ok.ensures.frame.stays z x u m)) c.in_ok-to-in-Ok.ensures.frame.grows.stays (c.cell-next.ensures.value _ (c.in_ok-to-in-Ok.ensures.all _ _ (twig_there (exchange_down (branch_exchange asks (c.in-Ok.ensures.branch c.args.low _ asks.held.tree asks.held.is)) c.at.ensures c.twig_index-index.ensures.by_popcount c.twig_count-n.ensures))))))
     (c.put_branch.ensures.written _ _ (left_length down) (rest_length down ∙ n) (λ i y f. later (c.in-Ok.branch.twigs + i) y (left_used down i y f) (left_row down i y f)) (λ i y f. later (c.in-Ok.branch.twigs + c.twig_index-index.result + 1 + i) y (rest_used down i y f) (rest_row down i y f)))
     (λ q y other m. c.put_branch.ensures.others q y (λ j l. other j (omega arith)) m))

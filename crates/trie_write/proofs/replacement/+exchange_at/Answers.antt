@@ -22,12 +22,12 @@ exchange_at-requires g t c κs within =
         (
           within.1,
           (
-            record { t = (exchange_twig_down a (c.in-Some.ensures.branch c.args.low x a.asks.held.tree a.asks.held.is) c.in-Some.ensures.at).found.here; e = e; at = (subst (λ s. ExchangeAsksAt (g.C.CellRead.has s) (g.U.Space.used c.args.usage.now) (g.U.Space.live c.args.usage.now) (c.in-Some.twig.branch.offset + 1) c.args.key.now c.in-Some.twig.at c.cell-next.result c.args.leaf (exchange_twig_down a (c.in-Some.ensures.branch c.args.low x a.asks.held.tree a.asks.held.is) c.in-Some.ensures.at).found.here e) (sym c.cell-next.ensures.same) (exchange_below a (c.in-Some.ensures.branch c.args.low x a.asks.held.tree a.asks.held.is) c.in-Some.ensures.at c.cell-next.ensures.value)) },
+            record { t = (exchange_twig_down a (c.in-Some.ensures.branch c.args.low x a.asks.held.tree a.asks.held.is) c.in-Some.ensures.at).found.here; e = e; at = (subst (λ s. ExchangeAsksAt (g.C.CellRead.has s) ((g.U.Space.account c.args.usage.now).used) ((g.U.Space.account c.args.usage.now).live) (c.in-Some.twig.branch.offset + 1) c.args.key.now c.in-Some.twig.at c.cell-next.result c.args.leaf (exchange_twig_down a (c.in-Some.ensures.branch c.args.low x a.asks.held.tree a.asks.held.is) c.in-Some.ensures.at).found.here e) (sym c.cell-next.ensures.same) (exchange_below a (c.in-Some.ensures.branch c.args.low x a.asks.held.tree a.asks.held.is) c.in-Some.ensures.at c.cell-next.ensures.value)) },
             (
               c.in-Some.ensures.fresh,
               (
                 subst (λ s. IsGiven (g.C.CellWrite.given s) (c.in-Some.twig.at / 1024)) (sym c.cell-next.ensures.same) (subst (λ (flags : List Bool). IsGiven flags (c.in-Some.twig.at / 1024)) (sym c.requires.ready.same) (c.in-Some.ensures.given (exchange_used a (c.in-Some.ensures.branch c.args.low x a.asks.held.tree a.asks.held.is) c.in-Some.ensures.at))),
-                subst (λ s. Ready (g.C.CellWrite.kept s) (g.C.CellWrite.given s) (g.U.Space.given c.args.usage.now) (g.U.Space.used c.args.usage.now) (g.U.Space.fresh c.args.usage.now)) (sym c.cell-next.ensures.same) c.requires.ready,
+                subst (λ s. Ready (g.C.CellWrite.kept s) (g.C.CellWrite.given s) ((g.U.Space.account c.args.usage.now).given) ((g.U.Space.account c.args.usage.now).used) ((g.U.Space.account c.args.usage.now).mutable)) (sym c.cell-next.ensures.same) c.requires.ready,
               ),
             ),
           ),
@@ -37,14 +37,14 @@ exchange_at-requires g t c κs within =
 
 pub returns-in-Some-clause-exchanged : goal.returns-in-Some-clause-exchanged
 returns-in-Some-clause-exchanged g t c =
-    ok_map c.exchange_at.result (λ done made x e a. exchange_above a (c.in-Some.ensures.branch c.args.low x a.asks.held.tree a.asks.held.is) c.in-Some.ensures.at (made (exchange_twig_down a (c.in-Some.ensures.branch c.args.low x a.asks.held.tree a.asks.held.is) c.in-Some.ensures.at).found.here e (subst (λ s. ExchangeAsksAt (g.C.CellRead.has s) (g.U.Space.used c.args.usage.now) (g.U.Space.live c.args.usage.now) (c.in-Some.twig.branch.offset + 1) c.args.key.now c.in-Some.twig.at c.cell-next.result c.args.leaf (exchange_twig_down a (c.in-Some.ensures.branch c.args.low x a.asks.held.tree a.asks.held.is) c.in-Some.ensures.at).found.here e) (sym c.cell-next.ensures.same) (exchange_below a (c.in-Some.ensures.branch c.args.low x a.asks.held.tree a.asks.held.is) c.in-Some.ensures.at c.cell-next.ensures.value))) (λ q y u out h. c.exchange_at.ensures.outside (exchange_twig_down a (c.in-Some.ensures.branch c.args.low x a.asks.held.tree a.asks.held.is) c.in-Some.ensures.at).found.here e (subst (λ s. ExchangeAsksAt (g.C.CellRead.has s) (g.U.Space.used c.args.usage.now) (g.U.Space.live c.args.usage.now) (c.in-Some.twig.branch.offset + 1) c.args.key.now c.in-Some.twig.at c.cell-next.result c.args.leaf (exchange_twig_down a (c.in-Some.ensures.branch c.args.low x a.asks.held.tree a.asks.held.is) c.in-Some.ensures.at).found.here e) (sym c.cell-next.ensures.same) (exchange_below a (c.in-Some.ensures.branch c.args.low x a.asks.held.tree a.asks.held.is) c.in-Some.ensures.at c.cell-next.ensures.value)) q y u out (subst (λ s. g.C.CellRead.has s q y) (sym c.cell-next.ensures.same) h))) c.exchange_at.ensures.exchanged
+    ok_map c.exchange_at.result (λ done made x e a. exchange_above a (c.in-Some.ensures.branch c.args.low x a.asks.held.tree a.asks.held.is) c.in-Some.ensures.at (made (exchange_twig_down a (c.in-Some.ensures.branch c.args.low x a.asks.held.tree a.asks.held.is) c.in-Some.ensures.at).found.here e (subst (λ s. ExchangeAsksAt (g.C.CellRead.has s) ((g.U.Space.account c.args.usage.now).used) ((g.U.Space.account c.args.usage.now).live) (c.in-Some.twig.branch.offset + 1) c.args.key.now c.in-Some.twig.at c.cell-next.result c.args.leaf (exchange_twig_down a (c.in-Some.ensures.branch c.args.low x a.asks.held.tree a.asks.held.is) c.in-Some.ensures.at).found.here e) (sym c.cell-next.ensures.same) (exchange_below a (c.in-Some.ensures.branch c.args.low x a.asks.held.tree a.asks.held.is) c.in-Some.ensures.at c.cell-next.ensures.value))) (λ q y u out h. c.exchange_at.ensures.outside (exchange_twig_down a (c.in-Some.ensures.branch c.args.low x a.asks.held.tree a.asks.held.is) c.in-Some.ensures.at).found.here e (subst (λ s. ExchangeAsksAt (g.C.CellRead.has s) ((g.U.Space.account c.args.usage.now).used) ((g.U.Space.account c.args.usage.now).live) (c.in-Some.twig.branch.offset + 1) c.args.key.now c.in-Some.twig.at c.cell-next.result c.args.leaf (exchange_twig_down a (c.in-Some.ensures.branch c.args.low x a.asks.held.tree a.asks.held.is) c.in-Some.ensures.at).found.here e) (sym c.cell-next.ensures.same) (exchange_below a (c.in-Some.ensures.branch c.args.low x a.asks.held.tree a.asks.held.is) c.in-Some.ensures.at c.cell-next.ensures.value)) q y u out (subst (λ s. g.C.CellRead.has s q y) (sym c.cell-next.ensures.same) h))) c.exchange_at.ensures.exchanged
 
 pub returns-in-Some-clause-outside : goal.returns-in-Some-clause-outside
-returns-in-Some-clause-outside g t c x e a q y u out h = c.exchange_at.ensures.outside (exchange_twig_down a (c.in-Some.ensures.branch c.args.low x a.asks.held.tree a.asks.held.is) c.in-Some.ensures.at).found.here e (subst (λ s. ExchangeAsksAt (g.C.CellRead.has s) (g.U.Space.used c.args.usage.now) (g.U.Space.live c.args.usage.now) (c.in-Some.twig.branch.offset + 1) c.args.key.now c.in-Some.twig.at c.cell-next.result c.args.leaf (exchange_twig_down a (c.in-Some.ensures.branch c.args.low x a.asks.held.tree a.asks.held.is) c.in-Some.ensures.at).found.here e) (sym c.cell-next.ensures.same) (exchange_below a (c.in-Some.ensures.branch c.args.low x a.asks.held.tree a.asks.held.is) c.in-Some.ensures.at c.cell-next.ensures.value)) q y u (exchange_outside a (c.in-Some.ensures.branch c.args.low x a.asks.held.tree a.asks.held.is) c.in-Some.ensures.at q out) (subst (λ s. g.C.CellRead.has s q y) (sym c.cell-next.ensures.same) h)
+returns-in-Some-clause-outside g t c x e a q y u out h = c.exchange_at.ensures.outside (exchange_twig_down a (c.in-Some.ensures.branch c.args.low x a.asks.held.tree a.asks.held.is) c.in-Some.ensures.at).found.here e (subst (λ s. ExchangeAsksAt (g.C.CellRead.has s) ((g.U.Space.account c.args.usage.now).used) ((g.U.Space.account c.args.usage.now).live) (c.in-Some.twig.branch.offset + 1) c.args.key.now c.in-Some.twig.at c.cell-next.result c.args.leaf (exchange_twig_down a (c.in-Some.ensures.branch c.args.low x a.asks.held.tree a.asks.held.is) c.in-Some.ensures.at).found.here e) (sym c.cell-next.ensures.same) (exchange_below a (c.in-Some.ensures.branch c.args.low x a.asks.held.tree a.asks.held.is) c.in-Some.ensures.at c.cell-next.ensures.value)) q y u (exchange_outside a (c.in-Some.ensures.branch c.args.low x a.asks.held.tree a.asks.held.is) c.in-Some.ensures.at q out) (subst (λ s. g.C.CellRead.has s q y) (sym c.cell-next.ensures.same) h)
 
 pub returns-in-Some-clause-spends : goal.returns-in-Some-clause-spends
 returns-in-Some-clause-spends g t c x e a =
-    let s = c.exchange_at.ensures.spends (exchange_twig_down a (c.in-Some.ensures.branch c.args.low x a.asks.held.tree a.asks.held.is) c.in-Some.ensures.at).found.here e (subst (λ s. ExchangeAsksAt (g.C.CellRead.has s) (g.U.Space.used c.args.usage.now) (g.U.Space.live c.args.usage.now) (c.in-Some.twig.branch.offset + 1) c.args.key.now c.in-Some.twig.at c.cell-next.result c.args.leaf (exchange_twig_down a (c.in-Some.ensures.branch c.args.low x a.asks.held.tree a.asks.held.is) c.in-Some.ensures.at).found.here e) (sym c.cell-next.ensures.same) (exchange_below a (c.in-Some.ensures.branch c.args.low x a.asks.held.tree a.asks.held.is) c.in-Some.ensures.at c.cell-next.ensures.value)) in
+    let s = c.exchange_at.ensures.spends (exchange_twig_down a (c.in-Some.ensures.branch c.args.low x a.asks.held.tree a.asks.held.is) c.in-Some.ensures.at).found.here e (subst (λ s. ExchangeAsksAt (g.C.CellRead.has s) ((g.U.Space.account c.args.usage.now).used) ((g.U.Space.account c.args.usage.now).live) (c.in-Some.twig.branch.offset + 1) c.args.key.now c.in-Some.twig.at c.cell-next.result c.args.leaf (exchange_twig_down a (c.in-Some.ensures.branch c.args.low x a.asks.held.tree a.asks.held.is) c.in-Some.ensures.at).found.here e) (sym c.cell-next.ensures.same) (exchange_below a (c.in-Some.ensures.branch c.args.low x a.asks.held.tree a.asks.held.is) c.in-Some.ensures.at c.cell-next.ensures.value)) in
     let p = exchange_path (exchange_here a (c.in-Some.ensures.branch c.args.low x a.asks.held.tree a.asks.held.is) c.in-Some.ensures.at) refl refl refl in omega arith
 
 pub returns-in_err-cell-in-None-clause-spends : goal.returns-in_err-cell-in-None-clause-spends

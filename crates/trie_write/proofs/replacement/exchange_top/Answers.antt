@@ -5,11 +5,11 @@ use Rattle.trie_write.proofs.replacement.exchange_top.Goals as goal
 pub returns-in_err-exchange_at-clause-spends : goal.returns-in_err-exchange_at-clause-spends
 returns-in_err-exchange_at-clause-spends g c t e a = let s = c.exchange_at.ensures.spends t e a in omega arith
 
-pub returns-then-is_fresh-clause-exchanged : goal.returns-then-is_fresh-clause-exchanged
-returns-then-is_fresh-clause-exchanged g c t e a = let made = c.in_ok-exchange_at.ensures.exchanged t e a in record { new = made.new; change = made.change; rerooted = root_stays a.sits made.reseated }
+pub returns-then-is_mutable-clause-exchanged : goal.returns-then-is_mutable-clause-exchanged
+returns-then-is_mutable-clause-exchanged g c t e a = let made = c.in_ok-exchange_at.ensures.exchanged t e a in record { new = made.new; change = made.change; rerooted = root_stays a.sits made.reseated }
 
-pub returns-then-is_fresh-clause-spends : goal.returns-then-is_fresh-clause-spends
-returns-then-is_fresh-clause-spends g c t e a = let s = c.exchange_at.ensures.spends t e a in omega arith
+pub returns-then-is_mutable-clause-spends : goal.returns-then-is_mutable-clause-spends
+returns-then-is_mutable-clause-spends g c t e a = let s = c.exchange_at.ensures.spends t e a in omega arith
 
 pub returns-in_err-new-clause-spends : goal.returns-in_err-new-clause-spends
 returns-in_err-new-clause-spends g c t e a = c.exchange_root.ensures.spends t e a.asks
