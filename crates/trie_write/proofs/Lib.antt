@@ -16,3 +16,8 @@ pub mod PlaceLemmas
 pub mod ExchangeLaws
 pub mod TopLaws
 pub mod DeleteLaws
+pub mod WayLaws
+pub mod CopyLaws
+pub mod TurnLaws
+pub mod PutLaws
+pub mod SpaceLaws

@@ -5,8 +5,10 @@ mod bulk;
 mod deletion;
 mod insertion;
 pub mod item;
+mod mutable;
 mod near;
 mod path;
+mod place;
 mod replacement;
 mod room;
 mod row;
@@ -14,6 +16,7 @@ mod runs;
 mod seat;
 mod size;
 mod top;
+mod turn;
 
 pub use bulk::build;
 pub use deletion::delete;
