@@ -20,4 +20,7 @@ pub mod WayLaws
 pub mod CopyLaws
 pub mod TurnLaws
 pub mod PutLaws
+pub mod PathLaws
+pub mod ChangeLaws
+pub mod ReplaceLaws
 pub mod SpaceLaws

@@ -19,3 +19,4 @@ pub mod Spaces
 pub mod Ways
 pub mod Turns
 pub mod Mutable
+pub mod Asks

@@ -29,7 +29,12 @@ pub record Fenced {S A : Type 0} (has : S → ℕ → Cell → Type 0) (kept : S
   pub grows : Grows (account a).used (account a_new).used (account a).mutable (account a_new).mutable
   pub last : (account a_new).frozen ≡ (account a).frozen
 
--- A call that found no room: cells in use are as they were, and so are the counts. The numbers say why.
+-- A call that changes nothing: cells in use are as they were, and so are the counts.
+pub record Unchanged {S A : Type 0} (has : S → ℕ → Cell → Type 0) (account : A → Account) (s : S) (a : A) (s_new : S) (a_new : A) : Type 0 where
+  pub untouched : (q : ℕ) (c : Cell) → (account a).used q ≡ true → has s q c → has s_new q c
+  pub counts : (k : ℕ) → (account a_new).live k ≡ (account a).live k
+
+-- and that found no room. The numbers say why.
 pub record Refused {S A : Type 0} (has : S → ℕ → Cell → Type 0) (account : A → Account) (lacks : A → Full → Type 0) (s : S) (a : A) (s_new : S) (a_new : A) (f : Full) : Type 0 where
   pub untouched : (q : ℕ) (c : Cell) → (account a).used q ≡ true → has s q c → has s_new q c
   pub counts : (k : ℕ) → (account a_new).live k ≡ (account a).live k

@@ -3,6 +3,7 @@
 
 mod bulk;
 mod deletion;
+mod exchange;
 mod insertion;
 pub mod item;
 mod mutable;
@@ -15,6 +16,7 @@ mod row;
 mod runs;
 mod seat;
 mod size;
+mod there;
 mod top;
 mod turn;
 
