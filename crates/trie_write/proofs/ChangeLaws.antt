@@ -14,23 +14,19 @@ use Rattle.trie_model.proofs.KeyLaws.{in_left, in_right, in_both}
 use Rattle.trie_model.proofs.MoveLaws.{beneath_kept}
 use Rattle.trie_model.proofs.ReachLaws.{met, live_is}
 use Rattle.chunk_usage.specs.Rooms.{Account, Handed}
+use Rattle.std.proofs.lemmas.Bool.{cases_lt}
+use Rattle.trie_write.specs.declared.change.Change.{Change}
 use Rattle.trie_write.specs.Mutable.{Rooted, SeatAsks, IsSeat}
+use Rattle.trie_write.specs.Puts.{taken, left, Makes, IsTaken, PutAsks, IsPut, no_spare}
+use Rattle.trie_write.proofs.TwigLaws.{beneath_met}
 use Rattle.trie_write.specs.Spaces.{Frame}
 use Rattle.trie_write.specs.Standing.{StandsIn}
 use Rattle.trie_write.specs.Ways.{Fork, plug, end_at, IsWay}
 use Rattle.trie_write.specs.Weights.{at_place, mark}
 use Rattle.trie_write.proofs.PathLaws.{cases_of}
 use Rattle.trie_write.proofs.PutLaws.{met_used, rooted_within, put_rooted}
-use Rattle.trie_write.proofs.WayLaws.{Follows, low_at, plug_tree, end_lies, before, after, entries_plug, WayTo, way_to}
+use Rattle.trie_write.proofs.WayLaws.{Follows, low_at, plug_tree, weigh_plug, before, after, entries_plug, WayTo, way_to}
 use Rattle.trie_write.proofs.WeightLaws.{at_itself, at_another, marked, mark_le, mark_grows, mark_tells, met_within, handed_fresh}
-
--- nothing is spare
-abbrev pub no_spare : (ℕ → ℕ) → ℕ
-no_spare w = 0
-
--- and n cells more
-abbrev pub more_spare : ((ℕ → ℕ) → ℕ) → ℕ → ℕ → (ℕ → ℕ) → ℕ
-more_spare spare first n w = spare w + row w first n
 
 module _ {S A : Type 0} (has : S → ℕ → Cell → Type 0) (account : A → Account) where
   pub stands_rooted : (s : S) (a : A) {r : ℕ} {t : Tree} {version : List Entry} → StandsIn (has s) (account a).used (account a).live r t version → Rooted has account s a no_spare r t
@@ -57,47 +53,57 @@ module _ {S A : Type 0} {has : S → ℕ → Cell → Type 0} {account : A → A
     counted = λ k. let c = h.counted k in let e = live_is k r t in omega arith;
   }
 
-  -- cells are handed out beside it
-  pub rooted_more : {kept : S → List ℕ} {given : S → List Bool} {s s1 : S} {a a1 : A} {spare : (ℕ → ℕ) → ℕ} {r first n : ℕ} {t : Tree} → Rooted has account s a spare r t → Frame has kept given account s a s1 a1 → Handed (account a) (account a1) first n → Rooted has account s1 a1 (more_spare spare first n) r t
-  rooted_more {s = s} {s1} {a} {a1} {spare} {r} {t = t} h f handed = record {
+  -- cells are taken for a change beside it
+  pub rooted_taken : {kept : S → List ℕ} {given : S → List Bool} {s s1 : S} {a a1 : A} {r : ℕ} {t : Tree} {c : Change} → Rooted has account s a no_spare r t → Frame has kept given account s a s1 a1 → IsTaken (account a) (account a1) c → Rooted has account s1 a1 (taken c) r t
+  rooted_taken {s = s} {s1} {a} {r = r} {t} h f taken_is = record {
     inside = h.inside;
     top = f.stays r (top_cell t) (met_used h r (let i = at_itself r in omega arith)) h.top;
     beneath = beneath_kept (account a).used (has s) (has s1) f.stays t (rooted_within h) h.beneath;
-    counted = λ k. let c = h.counted k in let m = handed.counts k in omega arith;
-    once = λ q. let o = h.once q in let m = handed_fresh handed f.grows.stays q in omega arith;
+    counted = λ k. let c = h.counted k in let m = taken_is.counts k in omega arith;
+    once = λ q. let o = h.once q in let m = taken_is.fresh q in omega arith;
   }
 
-  -- what is spare isn't met, so the way's opening leaves it
-  module _ {given : S → List Bool} {s s1 : S} {a a1 : A} {place r root seat : ℕ} {key : List ℕ} {spare : (ℕ → ℕ) → ℕ} {way : List Fork} {end : Tree} (asks : SeatAsks has account s a place key spare r way end) (opened : IsSeat has given account s a s1 a1 place key spare r way end root seat) where
-    pub spare_stays : (q : ℕ) (c : Cell) → 1 ≤ spare (at_place q) → has s q c → has s1 q c
-    spare_stays q c m = opened.outside q c (mark_tells (account a).used q (let o = asks.rooted.once q in omega arith)) (let o = asks.rooted.once q in let l = mark_le (account a).used q in omega arith)
+-- ---- at the seat
 
-    pub end_beneath : Beneath (has s1) end
-    end_beneath = (end_lies (has s1) root opened.copy end opened.rooted.top opened.rooted.beneath).1
+module _ {S A : Type 0} {has : S → ℕ → Cell → Type 0} {given : S → List Bool} {account : A → Account} {s s1 : S} {a a1 : A} {place r root seat : ℕ} {key : List ℕ} {c : Change} {way : List Fork} {end u : Tree} (asks : PutAsks has account s a place key r c way end u) (opened : IsSeat has given account s a s1 a1 place key (taken c) r way end root seat) where
+  -- what the new tree meets is spare, or met by the old one below its top; so it stays while the way is opened
+  beneath_opened : Beneath (has s1) u
+  beneath_opened = beneath_met (has s) (has s1) u (λ q x m h. elim (cases_lt 0 (weigh_tree (at_place q) end)) [
+    | inl l ↦ opened.below q x l h
+    | inr l ↦ (let w = asks.makes.weigh (at_place q) in let o = asks.seat.rooted.once q in
+        opened.outside q x (mark_tells (account a).used q (omega arith)) (let k = mark_le (account a).used q in omega arith) h)
+  ]) asks.makes.beneath
 
-    pub end_there : has s1 seat (top_cell end)
-    end_there = subst (λ q. has s1 q (top_cell end)) (sym opened.seat_is) (end_lies (has s1) root opened.copy end opened.rooted.top opened.rooted.beneath).0
+  -- the cells that are left count
+  pub left_counted : (k : ℕ) → left c (in_chunk k) ≤ (account a1).live k
+  left_counted k = let x = opened.rooted.counted k in let w = asks.makes.weigh (in_chunk k) in let p = weigh_plug (in_chunk k) root opened.copy end in omega arith
 
-    -- another tree is put there, of cells that were spare and cells of the old one; the others count no more
-    pub changed_rooted : {s2 : S} {a2 : A} {cell : Cell} (u : Tree) (rel : (ℕ → ℕ) → ℕ) → Beneath (has s1) u → ((w : ℕ → ℕ) → weigh_tree w u + rel w ≡ weigh_tree w end + spare w) → ((k : ℕ) → (account a2).live k + rel (in_chunk k) ≡ (account a1).live k) →
-        account a2 ≡ record (account a1) { live = (account a2).live } → cell ≡ top_cell u → has s2 seat cell → ((q : ℕ) (c : Cell) → (q ≡ seat → ⊥) → has s1 q c → has s2 q c) → Rooted has account s2 a2 no_spare root (plug opened.copy u)
-    changed_rooted {s2} {a2} {cell} u rel beneath swap released rest is put others =
-        put_rooted opened.copy end u opened.rooted (λ q c used h. h) beneath
-        (λ k. let x = swap (in_chunk k) in let y = released k in omega arith)
-        (λ q. let x = swap (at_place q) in let y = mark_grows (account a1).used (account a2).used q (λ h. ap (λ (v : Account). v.used q) rest ∙ h) in omega arith)
-        is (subst (λ q. has s2 q cell) opened.seat_is put) (λ q c ne. others q c (λ e. ne (e ∙ opened.seat_is)))
+  pub put_is : {s2 : S} {a2 : A} → has s2 seat c.cell → ((q : ℕ) (x : Cell) → (q ≡ seat → ⊥) → has s1 q x → has s2 q x) → ((k : ℕ) → (account a2).live k + left c (in_chunk k) ≡ (account a1).live k) → account a2 ≡ record (account a1) { live = (account a2).live } →
+      IsPut has account s a s2 a2 r way end u root
+  put_is {s2} {a2} put others released rest = record {
+    copy = opened.copy;
+    tree = opened.tree;
+    entries = opened.entries;
+    rooted = put_rooted opened.copy end u opened.rooted (λ q x used h. h) beneath_opened
+        (λ k. let x = asks.makes.weigh (in_chunk k) in let y = released k in omega arith)
+        (λ q. let x = asks.makes.weigh (at_place q) in let y = mark_grows (account a1).used (account a2).used q (λ h. ap (λ (v : Account). v.used q) rest ∙ h) in omega arith)
+        asks.makes.is (subst (λ q. has s2 q c.cell) opened.seat_is put) (λ q x ne. others q x (λ e. ne (e ∙ opened.seat_is)));
+    outside = λ q x used out h. others q x (opened.apart q used out) (opened.outside q x used out h);
+  }
 
-    pub changed_stands : {s2 : S} {a2 : A} {cell : Cell} (u : Tree) (rel : (ℕ → ℕ) → ℕ) → IsTree (low_at 0 opened.copy) u → Follows (low_at 0 opened.copy) (entries_of end) (entries_of u) → Beneath (has s1) u → ((w : ℕ → ℕ) → weigh_tree w u + rel w ≡ weigh_tree w end + spare w) → ((k : ℕ) → (account a2).live k + rel (in_chunk k) ≡ (account a1).live k) →
-        account a2 ≡ record (account a1) { live = (account a2).live } → cell ≡ top_cell u → has s2 seat cell → ((q : ℕ) (c : Cell) → (q ≡ seat → ⊥) → has s1 q c → has s2 q c) → StandsIn (has s2) (account a2).used (account a2).live root (plug opened.copy u) (entries_of (plug opened.copy u))
-    changed_stands {s2} {a2} u rel tree follows beneath swap released rest is put others =
-        rooted_stands (changed_rooted {s2 = s2} {a2 = a2} u rel beneath swap released rest is put others) (plug_tree 0 opened.copy end u opened.tree tree follows)
+-- the cells that were taken count
+pub taken_counted : {S A : Type 0} {has : S → ℕ → Cell → Type 0} {account : A → Account} {s : S} {a : A} {place r : ℕ} {key : List ℕ} {c : Change} {way : List Fork} {end u : Tree} (a1 : A) → PutAsks has account s a place key r c way end u → ((k : ℕ) → (account a1).live k ≡ (account a).live k) → (k : ℕ) → taken c (in_chunk k) ≤ (account a1).live k
+taken_counted a1 asks same k = let x = asks.seat.rooted.counted k in let y = same k in omega arith
 
-    -- the entries around the way are those of before
-    pub entries_before : entries_of (plug way end) ≡ before opened.copy ++ (entries_of end ++ after opened.copy)
-    entries_before = sym opened.entries ∙ entries_plug opened.copy end
+-- ---- the whole trie after it
 
-    pub outside_stays : {s2 : S} (q : ℕ) (c : Cell) → (account a).used q ≡ true → at_place q r + weigh_tree (at_place q) (plug way end) ≡ 0 → ((q : ℕ) (c : Cell) → (q ≡ seat → ⊥) → has s1 q c → has s2 q c) → has s q c → has s2 q c
-    outside_stays q c u out others h = others q c (opened.apart q u out) (opened.outside q c u out h)
+module _ {S A : Type 0} {has : S → ℕ → Cell → Type 0} {account : A → Account} {s s1 : S} {a a1 : A} {r root : ℕ} {way : List Fork} {end u : Tree} (p : IsPut has account s a s1 a1 r way end u root) where
+  pub put_stands : IsTree (low_at 0 p.copy) u → Follows (low_at 0 p.copy) (entries_of end) (entries_of u) → StandsIn (has s1) (account a1).used (account a1).live root (plug p.copy u) (entries_of (plug p.copy u))
+  put_stands tree follows = rooted_stands p.rooted (plug_tree 0 p.copy end u p.tree tree follows)
+
+  -- the entries around the way are those of before
+  pub entries_before : entries_of (plug way end) ≡ before p.copy ++ (entries_of end ++ after p.copy)
+  entries_before = sym p.entries ∙ entries_plug p.copy end
 
 pub outside_way : (q r : ℕ) {t u : Tree} → t ≡ u → at_place q r + weigh_tree (at_place q) t ≡ 0 → at_place q r + weigh_tree (at_place q) u ≡ 0
 outside_way q r e = subst (λ (z : Tree). at_place q r + weigh_tree (at_place q) z ≡ 0) e

@@ -17,7 +17,7 @@ use Rattle.trie_write.specs.Ways.{Fork, fork, plug, twig_at, end_at, Along, IsWa
 use Rattle.trie_write.specs.Weights.{at_place, mark}
 use Rattle.trie_write.proofs.SpaceLaws.{apart_from}
 use Rattle.trie_write.proofs.TwigLaws.{agree_tree, deepen, beneath_met}
-use Rattle.trie_write.proofs.WayLaws.{around, weigh_plug, plug_lies, end_lies, low_at, end_tree, plug_tree, follows_same, before, after, entries_plug}
+use Rattle.trie_write.proofs.WayLaws.{around, weigh_fork, weigh_plug, plug_lies, end_lies, low_at, end_tree, plug_tree, follows_same, before, after, entries_plug}
 use Rattle.trie_write.proofs.WeightLaws.{at_itself, at_another, mark_le, mark_tells, mark_grows, marked, unmarked, within_met, handed_fresh}
 
 -- ---- ways in parts
@@ -92,6 +92,11 @@ module _ {S A : Type 0} {has : S → ℕ → Cell → Type 0} {account : A → A
       lies : has s2 r (top_cell (plug way u)) × Beneath (has s2) (plug way u)
       lies = plug_lies (has s) (has s2) r way t u h.top h.beneath (λ q c m x. others q c (around_apart q m) (keep q c (around_used q m) x)) (subst (has s2 (end_at r way)) is put)
           (beneath_met (has s1) (has s2) u (λ q c m x. others q c (tree_apart q m) x) beneath)
+
+-- a tree weighs no more than one in which it hangs
+pub end_less : (w : ℕ → ℕ) (way : List Fork) (t : Tree) → weigh_tree w t ≤ weigh_tree w (plug way t)
+end_less w [] t = omega arith
+end_less w (f ∷ way) t = let e = weigh_fork w f (plug way t) in let h = end_less w way t in omega arith
 
 -- ---- to the last mutable cell of a way
 
@@ -178,6 +183,7 @@ module _ {S A : Type 0} {has : S → ℕ → Cell → Type 0} {account : A → A
       writable = (let w = copied.writable writable in record { in_use = w.in_use; mutable = w.mutable; in_given = subst (λ (x : List Bool). IsGiven x (seat / 1024)) (sym same_given) w.in_given });
       outside = λ q c u out h. others q c (λ e. outside_last q u out e) (keep q c u h);
       apart = λ q u out e. outside_seat q u out e;
+      below = λ q c m h. others q c (λ e. end_apart q m e) (keep q c (met_used rooted_parts q (let w = weigh_plug (at_place q) r p.upper (plug p.lower end) in let v = weigh_end q in omega arith)) h);
     }
       where
         last_at : last ≡ end_at r p.upper
@@ -192,6 +198,14 @@ module _ {S A : Type 0} {has : S → ℕ → Cell → Type 0} {account : A → A
 
         weighs : (w : ℕ → ℕ) → w r + weigh_tree w (plug way end) ≡ around w r p.upper + (w (end_at r p.upper) + weigh_tree w (plug p.lower end))
         weighs w = ap (λ t. w r + weigh_tree w t) whole_is ∙ weigh_plug w r p.upper (plug p.lower end)
+
+        weigh_end : (q : ℕ) → weigh_tree (at_place q) end ≤ weigh_tree (at_place q) (plug p.lower end)
+        weigh_end q = end_less (at_place q) p.lower end
+
+        end_apart : (q : ℕ) → 1 ≤ weigh_tree (at_place q) end → q ≡ last → ⊥
+        end_apart q m e =
+            let o = rooted_parts.once q in let w = weigh_plug (at_place q) r p.upper (plug p.lower end) in let v = weigh_end q in let l = mark_le (account a).used q in
+            let i : ◌≡◌ {A = ℕ} (at_place q (end_at r p.upper)) 1 = ap (at_place q) (sym (e ∙ last_at)) ∙ at_itself q in omega arith
 
         outside_last : (q : ℕ) → (account a).used q ≡ true → at_place q r + weigh_tree (at_place q) (plug way end) ≡ 0 → q ≡ last → ⊥
         outside_last q u out e =
@@ -229,6 +243,7 @@ module _ {S A : Type 0} {has : S → ℕ → Cell → Type 0} {account : A → A
       );
     outside = λ q c u out h. others q c (λ e. apart_root q u e) (g.stays q c (f.grows.stays q u) (f.stays q c u h));
     apart = outside_seat;
+    below = λ q c m h. let u = met_used asks.rooted q (let w = end_less (at_place q) way end in omega arith) in others q c (λ e. apart_root q u e) (g.stays q c (f.grows.stays q u) (f.stays q c u h));
   }
     where
       zeroth : root + 0 ≡ root

@@ -20,3 +20,4 @@ pub mod Ways
 pub mod Turns
 pub mod Mutable
 pub mod Asks
+pub mod Puts

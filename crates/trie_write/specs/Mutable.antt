@@ -70,7 +70,7 @@ pub record SeatAsked {S A : Type 0} (has : S → ℕ → Cell → Type 0) (accou
   pub asks : SeatAsks has account s a place key spare r way end
 
 -- A tree with the same entries stands at the root, in which a way leads to the same end, whose cell may be written. That cell, and all
--- that were written, were met by the old tree if they were in use.
+-- that were written, were met by the old tree if they were in use, but not by what hangs at the end.
 pub record IsSeat {S A : Type 0} (has : S → ℕ → Cell → Type 0) (given : S → List Bool) (account : A → Account) (s : S) (a : A) (s_new : S) (a_new : A) (place : ℕ) (key : List ℕ) (spare : (ℕ → ℕ) → ℕ) (old : ℕ) (way : List Fork) (end : Tree) (root seat : ℕ) : Type 0 where
   pub copy : List Fork
   pub tree : IsTree 0 (plug copy end)
@@ -81,3 +81,4 @@ pub record IsSeat {S A : Type 0} (has : S → ℕ → Cell → Type 0) (given : 
   pub writable : IsWritable given account s_new a_new seat
   pub outside : (q : ℕ) (c : Cell) → (account a).used q ≡ true → at_place q old + weigh_tree (at_place q) (plug way end) ≡ 0 → has s q c → has s_new q c
   pub apart : (q : ℕ) → (account a).used q ≡ true → at_place q old + weigh_tree (at_place q) (plug way end) ≡ 0 → q ≡ seat → ⊥
+  pub below : (q : ℕ) (c : Cell) → 1 ≤ weigh_tree (at_place q) end → has s q c → has s_new q c

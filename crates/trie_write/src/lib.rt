@@ -2,6 +2,7 @@
 #![tactic(auto)]
 
 mod bulk;
+mod change;
 mod deletion;
 mod exchange;
 mod insertion;
