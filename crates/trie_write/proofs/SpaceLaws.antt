@@ -89,6 +89,13 @@ module _ {S A : Type 0} {kept : S → List ℕ} {given : S → List Bool} {accou
   seat_open {q = q} w r k = true≢false (sym w.mutable ∙ r.settled q k)
 
 module _ {S : Type 0} {kept : S → List ℕ} {given : S → List Bool} where
+  -- some of them
+  pub blank_part : {s : S} {wide m : ℕ} (first n shift : ℕ) → MayWrite kept given s wide m → first ≡ wide + shift → shift + n ≤ m → MayWrite kept given s first n
+  blank_part {s} {wide} first n shift b e l = record {
+    in_given = λ i k. let p : wide + (shift + i) ≡ first + i = omega arith in subst (λ (q : ℕ). IsGiven (given s) (q / 1024)) p (b.in_given (shift + i) (omega arith));
+    unkept = λ i k h. let p : first + i ≡ wide + (shift + i) = omega arith in b.unkept (shift + i) (omega arith) (subst (Contains (kept s)) p h);
+  }
+
   pub open_later : {s s1 : S} {first n : ℕ} → MayWrite kept given s first n → given s1 ≡ given s → kept s1 ≡ kept s → MayWrite kept given s1 first n
   open_later {first = first} m same keeps = record {
     in_given = λ i l. subst (λ (x : List Bool). IsGiven x ((first + i) / 1024)) (sym same) (m.in_given i l);

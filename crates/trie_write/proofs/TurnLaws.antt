@@ -12,7 +12,7 @@ use Rattle.trie_model.proofs.SplitLaws.{rising_of}
 use Rattle.trie_read.specs.Reads.{IsTop}
 use Rattle.trie_write.specs.declared.turn.Turn.{Turn}
 use Rattle.trie_write.specs.Tops.{IsBranchTop, NotBefore}
-use Rattle.trie_write.specs.Turns.{Through, IsTurn}
+use Rattle.trie_write.specs.Turns.{Through, IsTurn, IsLastTurn}
 use Rattle.trie_write.specs.Ways.{Fork, fork, plug, Along, IsWay, twigs_of}
 use Rattle.trie_write.proofs.WayLaws.{IsFork, is_fork, fork_count, twig_of}
 
@@ -79,3 +79,18 @@ module _ {has : ℕ → Cell → Type 0} {place low : ℕ} {key : List ℕ} {cel
 
   pub turn_is : (index : ℕ) (next : Cell) → index ≡ count_ones (b.bitmap % 2 ^ at key b.offset) → b.offset < place → ((c : Cell) → has (b.twigs + index) c → next ≡ c) → IsTurn place (record { branch = b; index = index; next = next }) way end
   turn_is index next e before read = record { through = t; before = before; index_is = e ∙ index_of_key; next_is = read (top_cell below) (twig_there index e) }
+
+-- the twig's tree is a top of its own
+pub top_below : {has : ℕ → Cell → Type 0} {place low : ℕ} {key : List ℕ} {cell next : Cell} {way : List Fork} {end : Tree} (top : IsTop has low cell (plug way end)) (w : IsWay place key way end) {b : Branch} (t : Through b way end) → next ≡ top_cell (plug t.rest end) → IsTop has (b.offset + 1) next (plug t.rest end)
+top_below {has} {end = end} top w {b} t is = record {
+  tree = (let m : suc b.offset ≡ b.offset + 1 = omega arith in subst (λ (x : ℕ). IsTree x (plug t.rest end)) m (known top w t).tree);
+  is = is;
+  beneath = (twig_of has (here top w t) (plug t.rest end) (top_here top w t).beneath).1;
+}
+
+-- no turn comes after it, or a further one does
+pub last_here : {t : Turn} {way : List Fork} {end : Tree} (turn : IsTurn 65535 t way end) → turn.through.rest ≡ [] → IsLastTurn t way end
+last_here {way = way} turn alone = record { upper = []; lower = way; whole = refl; turn = turn; alone = alone }
+
+pub last_further : {t f : Turn} {way : List Fork} {end : Tree} (turn : IsTurn 65535 t way end) → IsLastTurn f turn.through.rest end → IsLastTurn f way end
+last_further {t} turn l = record { upper = record { offset = t.branch.offset; first = t.branch.twigs; left = turn.through.left; position = turn.through.position; right = turn.through.right } ∷ l.upper; lower = l.lower; whole = turn.through.is ∙ ap (λ w. record { offset = t.branch.offset; first = t.branch.twigs; left = turn.through.left; position = turn.through.position; right = turn.through.right } ∷ w) l.whole; turn = l.turn; alone = l.alone }

@@ -1,6 +1,6 @@
 //! Cells for what is written.
 
-ghost use Rattle.std.specs.Prelude.{◌≡◌, ◌≢◌, ◌+◌, ◌/◌, ◌^◌, ◌<◌, ◌≤◌, ℕ, IfOk, IfErr, length};
+ghost use Rattle.std.specs.Prelude.{◌≡◌, ◌≢◌, ◌+◌, ◌-◌, ◌/◌, ◌^◌, ◌<◌, ◌≤◌, ℕ, true, IfOk, IfErr, length};
 ghost use Rattle.packed_node.specs.declared.Cell.{Cell};
 ghost use Rattle.trie_model.specs.Trees.{IsRow, cells_in};
 ghost use Rattle.trie_model.specs.Memory.{ItemLies};
@@ -8,6 +8,7 @@ ghost use Rattle.trie_model.specs.Reach.{row as row_of, in_chunk};
 ghost use Rattle.chunk_usage.specs.Rooms.{Handed};
 ghost use Rattle.trie_write.specs.Spaces.{Ready, Frame, Refused, MayWrite, Wrote};
 
+use super::change::Span;
 use chunk_cells::item::cells_for;
 use chunk_cells::{CellWrite, write_item};
 use chunk_usage::{Full, Space};
@@ -75,4 +76,36 @@ pub fn lay_item<C: CellWrite, U: Space>(
     let at = room_for(cells, usage, cells_for(len))?;
     write_item(cells, at, item);
     Ok(Leaf { len, at })
+}
+
+/// Copies some cells but for a few from a place on, which are left out, and leaves a gap there.
+pub fn copy_apart<C: CellWrite, U: Space>(
+    cells: &mut C,
+    usage: &mut U,
+    from: Span,
+    index: u32,
+    skip: u32,
+    gap: u32,
+) -> Result<Ref, Full>
+    requires index { index + skip ≤ from.n }
+    requires some { 0 < from.n - skip + gap }
+    requires few { from.n - skip + gap ≤ 256 }
+    requires inside { from.at + from.n ≤ 2 ^ 22 }
+    requires there { (i : ℕ) → i < from.n → (c : Cell) × C.has cells.old (from.at + i) c }
+    requires in_use { (i : ℕ) → i < from.n → (U.account usage.old).used (from.at + i) ≡ true }
+    requires ready { Ready C.kept C.given U.account cells.old usage.old }
+    ensures handed { IfOk result (λ to. Handed (U.account usage.old) (U.account usage.new) to (from.n - skip + gap)) }
+    ensures blank { IfOk result (λ to. MayWrite C.kept C.given cells.new to (from.n - skip + gap)) }
+    ensures before { IfOk result (λ to. (i : ℕ) (c : Cell) → i < index → C.has cells.old (from.at + i) c → C.has cells.new (to + i) c) }
+    ensures after { IfOk result (λ to. (i : ℕ) (c : Cell) → index + skip + i < from.n → C.has cells.old (from.at + (index + skip + i)) c → C.has cells.new (to + (index + gap + i)) c) }
+    ensures spends { (U.account usage.new).spent ≤ (U.account usage.old).spent + (from.n - skip + gap) }
+    ensures refused { IfErr result (λ f. Refused C.has U.account U.lacks cells.old usage.old cells.new usage.new f) }
+    ensures frame { Frame C.has C.kept C.given U.account cells.old usage.old cells.new usage.new }
+    ensures ready { Ready C.kept C.given U.account cells.new usage.new }
+{
+    let to = room_for(cells, usage, from.n - skip + gap)?;
+    copy_twigs(cells, from.at, to, index);
+    let rest = index + skip;
+    copy_twigs(cells, from.at + rest, to + index + gap, from.n - rest);
+    Ok(to)
 }

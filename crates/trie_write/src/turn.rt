@@ -4,7 +4,7 @@ ghost use Rattle.std.specs.Prelude.{◌≡◌, ◌<◌, ℕ, List, [], IfSome, N
 ghost use Rattle.trie_model.specs.Trees.{Tree};
 ghost use Rattle.trie_read.specs.Reads.{IsTop};
 ghost use Rattle.trie_write.specs.Ways.{Fork, plug, IsWay};
-ghost use Rattle.trie_write.specs.Turns.{HasWay, IsTurn};
+ghost use Rattle.trie_write.specs.Turns.{HasWay, IsTurn, IsLastTurn};
 
 use super::top::{branch_above, key_twig};
 use chunk_cells::CellRead;
@@ -23,7 +23,7 @@ pub struct Turn {
 
 /// The branch at a node, where its offset comes before the place; none where the way ends.
 pub fn next_turn<C: CellRead>(cells: &mut C, key: &Key, place: u16, node: Cell) -> Option<Turn>
-    requires way { HasWay (C.has cells.old) place key.now node }
+    requires way { (low : ℕ) × HasWay (C.has cells.old) place low key.now node }
     ensures same { cells.new ≡ cells.old }
     ensures on { IfSome result (λ turn. (low : ℕ) (way : List Fork) (end : Tree) → IsTop (C.has cells.old) low node (plug way end) → IsWay place key.now way end
         → IsTurn place turn way end) }
@@ -36,4 +36,19 @@ pub fn next_turn<C: CellRead>(cells: &mut C, key: &Key, place: u16, node: Cell) 
         index,
         next: cells.cell(branch.twigs + index),
     })
+}
+
+/// The last branch on the way to the key's leaf; none where the node is that leaf. Offsets are at least `low`.
+pub fn last_turn<C: CellRead>(cells: &mut C, key: &Key, low: u16, node: Cell) -> Option<Turn>
+    requires way { HasWay (C.has cells.old) u16.MAX low key.now node }
+    ensures same { cells.new ≡ cells.old }
+    ensures last { IfSome result (λ turn. (way : List Fork) (end : Tree) → IsTop (C.has cells.old) low node (plug way end) → IsWay u16.MAX key.now way end
+        → IsLastTurn turn way end) }
+    ensures none { result ≡ None → (way : List Fork) (end : Tree) → IsTop (C.has cells.old) low node (plug way end) → IsWay u16.MAX key.now way end → way ≡ [] }
+{
+    let turn = next_turn(cells, key, u16::MAX, node)?;
+    match last_turn(cells, key, turn.branch.offset + 1, turn.next) {
+        None => Some(turn),
+        Some(further) => Some(further),
+    }
 }

@@ -12,7 +12,7 @@ use Rattle.trie_write.proofs.CopyLaws.{n_here, cell_there, cell_used, part_count
 use Rattle.trie_write.proofs.mutable.+copy_way.Goals as goal
 
 pub next_turn-requires : goal.next_turn-requires
-next_turn-requires g t c = let a = c.requires.asks.asks in record { way = record { low = c.args.low; way = c.requires.asks.way; end = c.requires.asks.end; top = a.hangs.top; is_way = a.is_way } }
+next_turn-requires g t c = let a = c.requires.asks.asks in record { way = (c.args.low, record { way = c.requires.asks.way; end = c.requires.asks.end; top = a.hangs.top; is_way = a.is_way }) }
 
 pub room_for-requires-clause-some : goal.room_for-requires-clause-some
 room_for-requires-clause-some g t c =

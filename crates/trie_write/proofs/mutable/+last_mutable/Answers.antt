@@ -9,7 +9,7 @@ use Rattle.trie_write.proofs.PutLaws.{parted_end, parted_here, parted_on}
 use Rattle.trie_write.proofs.mutable.+last_mutable.Goals as goal
 
 pub next_turn-requires : goal.next_turn-requires
-next_turn-requires g t c = let a = c.requires.asks.asks in record { way = record { low = c.args.low; way = c.requires.asks.way; end = c.requires.asks.end; top = a.hangs.top; is_way = a.is_way } }
+next_turn-requires g t c = let a = c.requires.asks.asks in record { way = (c.args.low, record { way = c.requires.asks.way; end = c.requires.asks.end; top = a.hangs.top; is_way = a.is_way }) }
 
 pub overflow_add-at : goal.overflow_add-at
 overflow_add-at g t c =

@@ -4,13 +4,13 @@ use Rattle.trie_write.proofs.turn.next_turn.Goals as goal
 
 pub key_twig-index-requires : goal.key_twig-index-requires
 key_twig-index-requires g c =
-    let w = c.requires.way in
-    key_inside w.top w.is_way (through c.args.place c.args.key.now c.in_ok-branch.branch w.way w.end w.is_way (c.in_ok-branch.ensures.branch w.low _ w.top.tree w.top.is) c.in_ok-branch.ensures.above)
+    let w = c.requires.way.1 in
+    key_inside w.top w.is_way (through c.args.place c.args.key.now c.in_ok-branch.branch w.way w.end w.is_way (c.in_ok-branch.ensures.branch c.requires.way.0 _ w.top.tree w.top.is) c.in_ok-branch.ensures.above)
 
 pub cell-requires : goal.cell-requires
 cell-requires g c =
-    let w = c.requires.way in
-    record { there = (_, twig_there w.top w.is_way (through c.args.place c.args.key.now c.in_ok-branch.branch w.way w.end w.is_way (c.in_ok-branch.ensures.branch w.low _ w.top.tree w.top.is) c.in_ok-branch.ensures.above) c.key_twig-index.result c.key_twig-index.ensures) }
+    let w = c.requires.way.1 in
+    record { there = (_, twig_there w.top w.is_way (through c.args.place c.args.key.now c.in_ok-branch.branch w.way w.end w.is_way (c.in_ok-branch.ensures.branch c.requires.way.0 _ w.top.tree w.top.is) c.in_ok-branch.ensures.above) c.key_twig-index.result c.key_twig-index.ensures) }
 
 pub returns-clause-on : goal.returns-clause-on
 returns-clause-on g c low way end top is_way =
