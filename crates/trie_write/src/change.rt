@@ -2,13 +2,18 @@
 
 ghost use Rattle.std.specs.Prelude.{◌≡◌, ◌+◌, ◌%◌, ◌≤◌, ℕ, List, IfOk, IfErr};
 ghost use Rattle.trie_model.specs.Reach.{in_chunk};
-ghost use Rattle.trie_model.specs.Trees.{Tree};
+ghost use Rattle.trie_model.specs.Keys.{Entry};
+ghost use Rattle.trie_model.specs.Memory.{top_cell};
+ghost use Rattle.trie_model.specs.Trees.{Tree, IsTree, cells_in};
+ghost use Rattle.trie_model.specs.Trees.Tree.{leaf};
 ghost use Rattle.trie_write.specs.Puts.{span, taken, PutAsks, PutAsked, IsPut, GivenBack};
 ghost use Rattle.trie_write.specs.Spaces.{Ready, Fenced};
 ghost use Rattle.trie_write.specs.Ways.{Fork, copied_along};
 
 use super::mutable::make_mutable;
+use super::top::top_of;
 use chunk_cells::CellWrite;
+use chunk_cells::item::cells_for;
 use chunk_usage::{Full, Space};
 use packed_node::{Cell, Ref};
 use shift_key::Key;
@@ -79,5 +84,19 @@ pub fn put_change<C: CellWrite, U: Space>(
             let_go(usage, change.old_twigs, change.old_item);
             Ok(seat.root)
         }
+    }
+}
+
+/// The cells of the item of a leaf.
+pub fn item_span(node: Cell) -> Span
+    ensures at { (e : Entry) (first : ℕ) → IsTree 0 (leaf e first) → node ≡ top_cell (leaf e first) → result.at ≡ first }
+    ensures n { (e : Entry) (first : ℕ) → IsTree 0 (leaf e first) → node ≡ top_cell (leaf e first) → result.n ≡ cells_in e.item }
+{
+    match top_of(node) {
+        Err(leaf) => Span {
+            at: leaf.at,
+            n: cells_for(leaf.len),
+        },
+        Ok(_) => NO_CELLS,
     }
 }

@@ -1,6 +1,7 @@
 //! One step of the way down along a key.
 
 ghost use Rattle.std.specs.Prelude.{◌≡◌, ◌<◌, ℕ, List, [], IfSome, None};
+ghost use Rattle.trie_model.specs.Memory.{top_cell};
 ghost use Rattle.trie_model.specs.Trees.{Tree};
 ghost use Rattle.trie_read.specs.Reads.{IsTop};
 ghost use Rattle.trie_write.specs.Ways.{Fork, plug, IsWay};
@@ -50,5 +51,17 @@ pub fn last_turn<C: CellRead>(cells: &mut C, key: &Key, low: u16, node: Cell) ->
     match last_turn(cells, key, turn.branch.offset + 1, turn.next) {
         None => Some(turn),
         Some(further) => Some(further),
+    }
+}
+
+/// The node at the end of the way. Offsets are at least `low`.
+pub fn end_node<C: CellRead>(cells: &mut C, key: &Key, place: u16, low: u16, node: Cell) -> Cell
+    requires way { HasWay (C.has cells.old) place low key.now node }
+    ensures same { cells.new ≡ cells.old }
+    ensures end { (way : List Fork) (end : Tree) → IsTop (C.has cells.old) low node (plug way end) → IsWay place key.now way end → result ≡ top_cell end }
+{
+    match next_turn(cells, key, place, node) {
+        None => node,
+        Some(turn) => end_node(cells, key, place, turn.branch.offset + 1, turn.next),
     }
 }
