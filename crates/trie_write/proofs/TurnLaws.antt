@@ -94,3 +94,7 @@ last_here {way = way} turn alone = record { upper = []; lower = way; whole = ref
 
 pub last_further : {t f : Turn} {way : List Fork} {end : Tree} (turn : IsTurn 65535 t way end) → IsLastTurn f turn.through.rest end → IsLastTurn f way end
 last_further {t} turn l = record { upper = record { offset = t.branch.offset; first = t.branch.twigs; left = turn.through.left; position = turn.through.position; right = turn.through.right } ∷ l.upper; lower = l.lower; whole = turn.through.is ∙ ap (λ w. record { offset = t.branch.offset; first = t.branch.twigs; left = turn.through.left; position = turn.through.position; right = turn.through.right } ∷ w) l.whole; turn = l.turn; alone = l.alone }
+
+-- where nothing has changed
+pub same_top : {S : Type 0} (has : S → ℕ → Cell → Type 0) {s s1 : S} {low : ℕ} {cell : Cell} {t : Tree} → s1 ≡ s → IsTop (has s) low cell t → IsTop (has s1) low cell t
+same_top has {low = low} {cell} {t} same top = subst (λ s. IsTop (has s) low cell t) (sym same) top

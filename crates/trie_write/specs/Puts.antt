@@ -58,12 +58,11 @@ abbrev pub no_spare : (ℕ → ℕ) → ℕ
 no_spare w = 0
 
 -- a tree stands at the root that has the new one at the end of a way, where one with the old entries had the old one
-pub record IsPut {S A : Type 0} (has : S → ℕ → Cell → Type 0) (account : A → Account) (s : S) (a : A) (s_new : S) (a_new : A) (old : ℕ) (way : List Fork) (end u : Tree) (root : ℕ) : Type 0 where
+pub record IsPut {S A : Type 0} (has : S → ℕ → Cell → Type 0) (account : A → Account) (s_new : S) (a_new : A) (way : List Fork) (end u : Tree) (root : ℕ) : Type 0 where
   pub copy : List Fork
   pub tree : IsTree 0 (plug copy end)
   pub entries : entries_of (plug copy end) ≡ entries_of (plug way end)
   pub rooted : Rooted has account s_new a_new no_spare root (plug copy u)
-  pub outside : (q : ℕ) (c : Cell) → (account a).used q ≡ true → at_place q old + weigh_tree (at_place q) (plug way end) ≡ 0 → has s q c → has s_new q c
 
 -- no room was found, and these cells count no more
 pub record GivenBack {S A : Type 0} (has : S → ℕ → Cell → Type 0) (account : A → Account) (lacks : A → Full → Type 0) (s : S) (a : A) (s_new : S) (a_new : A) (spare : (ℕ → ℕ) → ℕ) (f : Full) : Type 0 where

@@ -1,21 +1,23 @@
 //! A change at a place of the trie: the way there is made mutable, and one cell is put.
 
-ghost use Rattle.std.specs.Prelude.{◌≡◌, ◌+◌, ◌%◌, ◌≤◌, ℕ, List, IfOk, IfErr};
+ghost use Rattle.std.specs.Prelude.{◌≡◌, ◌+◌, ◌/◌, ◌%◌, ◌≤◌, ℕ, true, List, IfOk, IfErr};
+ghost use Rattle.packed_node.specs.declared.Cell.{Cell};
 ghost use Rattle.trie_model.specs.Reach.{in_chunk};
 ghost use Rattle.trie_model.specs.Keys.{Entry};
 ghost use Rattle.trie_model.specs.Memory.{top_cell};
 ghost use Rattle.trie_model.specs.Trees.{Tree, IsTree, cells_in};
 ghost use Rattle.trie_model.specs.Trees.Tree.{leaf};
 ghost use Rattle.trie_write.specs.Puts.{span, taken, PutAsks, PutAsked, IsPut, GivenBack};
+ghost use Rattle.trie_write.specs.Seats.{IsOutside};
 ghost use Rattle.trie_write.specs.Spaces.{Ready, Fenced};
-ghost use Rattle.trie_write.specs.Ways.{Fork, copied_along};
+ghost use Rattle.trie_write.specs.Ways.{Fork, plug, copied_along};
 
 use super::mutable::make_mutable;
 use super::top::top_of;
 use chunk_cells::CellWrite;
 use chunk_cells::item::cells_for;
 use chunk_usage::{Full, Space};
-use packed_node::{Cell, Ref};
+use packed_node::{Cell, Leaf, Ref};
 use shift_key::Key;
 
 /// Cells side by side.
@@ -67,7 +69,9 @@ pub fn put_change<C: CellWrite, U: Space>(
     requires asks { PutAsked C.has U.account cells.old usage.old place key.now root change }
     requires ready { Ready C.kept C.given U.account cells.old usage.old }
     ensures put { IfOk result (λ new. (way : List Fork) (end u : Tree) → PutAsks C.has U.account cells.old usage.old place key.now root change way end u
-        → IsPut C.has U.account cells.old usage.old cells.new usage.new root way end u new) }
+        → IsPut C.has U.account cells.new usage.new way end u new) }
+    ensures outside { (way : List Fork) (end u : Tree) → PutAsks C.has U.account cells.old usage.old place key.now root change way end u
+        → (q : ℕ) (c : Cell) → (U.account usage.old).used q ≡ true → IsOutside root (plug way end) q → C.has cells.old q c → C.has cells.new q c }
     ensures spends { (way : List Fork) (end u : Tree) → PutAsks C.has U.account cells.old usage.old place key.now root change way end u
         → (U.account usage.new).spent ≤ (U.account usage.old).spent + copied_along (U.account usage.old).mutable 1 root way }
     ensures refused { IfErr result (λ f. GivenBack C.has U.account U.lacks cells.old usage.old cells.new usage.new (taken change) f) }
@@ -87,16 +91,23 @@ pub fn put_change<C: CellWrite, U: Space>(
     }
 }
 
-/// The cells of the item of a leaf.
+/// The cells of a leaf's item.
+pub fn leaf_span(leaf: Leaf) -> Span
+    ensures at { result.at ≡ leaf.at }
+    ensures n { result.n ≡ (leaf.len + 15) / 16 }
+{
+    Span {
+        at: leaf.at,
+        n: cells_for(leaf.len),
+    }
+}
+
+/// The same of the leaf that a cell says.
 pub fn item_span(node: Cell) -> Span
-    ensures at { (e : Entry) (first : ℕ) → IsTree 0 (leaf e first) → node ≡ top_cell (leaf e first) → result.at ≡ first }
-    ensures n { (e : Entry) (first : ℕ) → IsTree 0 (leaf e first) → node ≡ top_cell (leaf e first) → result.n ≡ cells_in e.item }
+    ensures { (e : Entry) (first : ℕ) → IsTree 0 (leaf e first) → node ≡ top_cell (leaf e first) → result ≡ record { at = first; n = cells_in e.item } }
 {
     match top_of(node) {
-        Err(leaf) => Span {
-            at: leaf.at,
-            n: cells_for(leaf.len),
-        },
+        Err(leaf) => leaf_span(leaf),
         Ok(_) => NO_CELLS,
     }
 }

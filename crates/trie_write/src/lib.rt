@@ -4,7 +4,6 @@
 mod bulk;
 mod change;
 mod deletion;
-mod exchange;
 mod insertion;
 pub mod item;
 mod mutable;

@@ -4,25 +4,58 @@ ghost use Rattle.std.specs.Prelude.{◌≡◌, ◌+◌, ◌≤◌, ℕ, List, tr
 ghost use Rattle.packed_node.specs.declared.Cell.{Cell};
 ghost use Rattle.zone_model.specs.Keys.{Leads};
 ghost use Rattle.trie_model.specs.Keys.{Entry, InList};
-ghost use Rattle.trie_model.specs.Trees.{Tree, cells_in};
+ghost use Rattle.trie_model.specs.Trees.{Tree, IsRow, cells_in};
+ghost use Rattle.trie_model.specs.Trees.Tree.{leaf};
 ghost use Rattle.trie_read.specs.Reads.{EachTells};
 ghost use Rattle.trie_write.specs.Asks.{HasKey, KeyIsThere};
 ghost use Rattle.trie_write.specs.Exchanges.{Exchanged};
 ghost use Rattle.trie_write.specs.Paths.{to_copy};
+ghost use Rattle.trie_write.specs.Puts.{Makes, IsTaken};
 ghost use Rattle.trie_write.specs.Roots.{TwigsOnPath, ToCopy, Beyond};
 ghost use Rattle.trie_write.specs.Seats.{IsOutside};
-ghost use Rattle.trie_write.specs.Spaces.{Ready, Fenced, Unchanged, Refused};
-ghost use Rattle.trie_write.specs.Standing.{Standing, HasTrie};
+ghost use Rattle.trie_write.specs.Spaces.{Ready, Frame, Fenced, Unchanged, Refused};
+ghost use Rattle.trie_write.specs.Standing.{HasTrie};
 
-use super::exchange::exchange_leaf;
-use super::mutable::make_mutable;
+use super::change::{Change, NO_CELLS, item_span, leaf_span, put_change};
 use super::place::lay_item;
 use super::there::root_with;
+use super::turn::end_node;
 use chunk_cells::CellWrite;
-use chunk_cells::item::cells_for;
 use chunk_usage::{Full, Space};
-use packed_node::Ref;
+use packed_node::{Node, Ref};
 use shift_key::Key;
+
+/// What exchanges the item of a name that is there: the leaf of the new item, which is written, in place of the old one.
+fn other_leaf<C: CellWrite, U: Space>(
+    cells: &mut C,
+    usage: &mut U,
+    root: Ref,
+    key: &Key,
+    item: &[u8],
+) -> Result<Change, Full>
+    requires leads { Leads key.now item.now }
+    requires there { KeyIsThere C.has U.account cells.old usage.old root key.now }
+    requires ready { Ready C.kept C.given U.account cells.old usage.old }
+    ensures makes { IfOk result (λ change. (t : Tree) (version : List Entry) (h : HasKey C.has U.account cells.old usage.old root key.now t version)
+        → Makes C.has cells.new change (leaf h.entry h.first) (leaf (record { key = key.now; item = item.now }) change.new_item.at)) }
+    ensures row { IfOk result (λ change. IsRow change.new_item.at (cells_in item.now)) }
+    ensures taken { IfOk result (λ change. IsTaken (U.account usage.old) (U.account usage.new) change) }
+    ensures spends { (U.account usage.new).spent ≤ (U.account usage.old).spent + cells_in item.now }
+    ensures refused { IfErr result (λ f. Refused C.has U.account U.lacks cells.old usage.old cells.new usage.new f) }
+    ensures frame { Frame C.has C.kept C.given U.account cells.old usage.old cells.new usage.new }
+    ensures ready { Ready C.kept C.given U.account cells.new usage.new }
+{
+    let node = cells.cell(root);
+    let old = end_node(cells, key, u16::MAX, 0, node);
+    let leaf = lay_item(cells, usage, item)?;
+    Ok(Change {
+        cell: Node::Leaf(leaf).pack(),
+        new_twigs: NO_CELLS,
+        new_item: leaf_span(leaf),
+        old_twigs: NO_CELLS,
+        old_item: item_span(old),
+    })
+}
 
 /// The root of the trie with the item of a name that is there exchanged.
 fn replace_item<C: CellWrite, U: Space>(
@@ -36,7 +69,7 @@ fn replace_item<C: CellWrite, U: Space>(
     requires there { KeyIsThere C.has U.account cells.old usage.old root key.now }
     requires ready { Ready C.kept C.given U.account cells.old usage.old }
     ensures stands { IfOk result (λ new. (t : Tree) (version : List Entry) → HasKey C.has U.account cells.old usage.old root key.now t version
-        → (next : List Entry) × Exchanged (record { key = key.now; item = item.now }) version next × Standing (C.has cells.new) (U.account usage.new).used (U.account usage.new).live (Some new) next) }
+        → (next : List Entry) × Exchanged (record { key = key.now; item = item.now }) version next × HasTrie C.has U.account cells.new usage.new (Some new) next) }
     ensures outside { (t : Tree) (version : List Entry) → HasKey C.has U.account cells.old usage.old root key.now t version
         → (q : ℕ) (c : Cell) → (U.account usage.old).used q ≡ true → IsOutside root t q → C.has cells.old q c → C.has cells.new q c }
     ensures copies { (t : Tree) (version : List Entry) → HasKey C.has U.account cells.old usage.old root key.now t version
@@ -45,17 +78,8 @@ fn replace_item<C: CellWrite, U: Space>(
     ensures frame { Fenced C.has C.kept C.given U.account cells.old usage.old cells.new usage.new }
     ensures ready { Ready C.kept C.given U.account cells.new usage.new }
 {
-    let leaf = lay_item(cells, usage, item)?;
-    match make_mutable(cells, usage, root, key, u16::MAX) {
-        Err(full) => {
-            usage.release(leaf.at, cells_for(leaf.len));
-            Err(full)
-        }
-        Ok(seat) => {
-            exchange_leaf(cells, usage, seat.at, leaf);
-            Ok(seat.root)
-        }
-    }
+    let change = other_leaf(cells, usage, root, key, item)?;
+    put_change(cells, usage, root, key, u16::MAX, change)
 }
 
 /// Why a name's item isn't changed.

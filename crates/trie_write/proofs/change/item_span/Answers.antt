@@ -1,15 +1,8 @@
-use Rattle.std.proofs.Common.{◌∙◌}
-use Rattle.trie_write.proofs.ChangeLaws.{leaf_at, leaf_cells, leaf_never}
+use Rattle.trie_write.proofs.ChangeLaws.{leaf_span_is, leaf_never}
 use Rattle.trie_write.proofs.change.item_span.Goals as goal
 
-pub returns-in-Err-clause-at : goal.returns-in-Err-clause-at
-returns-in-Err-clause-at c e first h is = leaf_at (c.in-Err.ensures.leaf 0 _ h is)
+pub returns-in-Err : goal.returns-in-Err
+returns-in-Err c e first h is = leaf_span_is (c.in-Err.ensures.leaf 0 _ h is) c.leaf_span.ensures.at c.leaf_span.ensures.n
 
-pub returns-in-Err-clause-n : goal.returns-in-Err-clause-n
-returns-in-Err-clause-n c e first h is = c.cells_for.ensures ∙ leaf_cells (c.in-Err.ensures.leaf 0 _ h is)
-
-pub returns-in-Ok-clause-at : goal.returns-in-Ok-clause-at
-returns-in-Ok-clause-at c e first h is = leaf_never (c.in-Ok.ensures.branch 0 _ h is)
-
-pub returns-in-Ok-clause-n : goal.returns-in-Ok-clause-n
-returns-in-Ok-clause-n c e first h is = leaf_never (c.in-Ok.ensures.branch 0 _ h is)
+pub returns-in-Ok : goal.returns-in-Ok
+returns-in-Ok c e first h is = leaf_never (c.in-Ok.ensures.branch 0 _ h is)

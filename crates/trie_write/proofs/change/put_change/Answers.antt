@@ -1,7 +1,7 @@
 use Rattle.std.proofs.Common.{◌≡◌, ℕ, ◌+◌, ◌≤◌, arith, refl, sym, ◌∙◌, ap, subst}
 use Rattle.chunk_usage.specs.Rooms.{Account}
 use Rattle.trie_write.specs.Puts.{taken, left}
-use Rattle.trie_write.proofs.ChangeLaws.{left_counted, put_is, taken_counted}
+use Rattle.trie_write.proofs.ChangeLaws.{left_counted, put_is, outside_opened, taken_counted}
 use Rattle.trie_write.proofs.SpaceLaws.{fenced_put, fenced_counts, ready_put, ready_counts, seat_open}
 use Rattle.trie_write.proofs.change.put_change.Goals as goal
 
@@ -30,3 +30,9 @@ pub returns-in-Ok-clause-frame : goal.returns-in-Ok-clause-frame
 returns-in-Ok-clause-frame g c =
     let s = c.in-Ok.ensures.seat _ _ _ c.requires.asks.asks.seat in
     fenced_counts (fenced_put c.in-Ok.ensures.frame s.writable.mutable c.put.ensures.others c.put.ensures.given c.put.ensures.kept) c.let_go-in-Ok.ensures.rest
+
+pub returns-in-Err-clause-outside : goal.returns-in-Err-clause-outside
+returns-in-Err-clause-outside g c way end u a q x used out h = c.in-Err.ensures.refused.untouched q x used h
+
+pub returns-in-Ok-clause-outside : goal.returns-in-Ok-clause-outside
+returns-in-Ok-clause-outside g c way end u a = outside_opened a (c.in-Ok.ensures.seat _ way end a.seat) c.put.ensures.others
