@@ -23,4 +23,5 @@ pub mod PutLaws
 pub mod PathLaws
 pub mod ChangeLaws
 pub mod ReplaceLaws
+pub mod WithoutLaws
 pub mod SpaceLaws
