@@ -24,4 +24,5 @@ pub mod PathLaws
 pub mod ChangeLaws
 pub mod ReplaceLaws
 pub mod WithoutLaws
+pub mod RemoveLaws
 pub mod SpaceLaws

@@ -24,7 +24,7 @@ use Rattle.trie_write.specs.declared.turn.Turn.{Turn}
 use Rattle.trie_write.specs.Deletions.{LeafTurn, IsWithout}
 use Rattle.trie_write.specs.Puts.{span, taken, left, AreSpans, Makes, IsTaken}
 use Rattle.trie_write.specs.Spaces.{Frame}
-use Rattle.trie_write.specs.Ways.{Fork, fork, plug, twig_at, twigs_of}
+use Rattle.trie_write.specs.Ways.{Fork, fork, plug, twig_at, twigs_of, twigs_along}
 use Rattle.trie_write.specs.Weights.{at_place, mark}
 use Rattle.trie_write.proofs.CopyLaws.{n_here}
 use Rattle.trie_write.proofs.TurnLaws.{known, at_key}
@@ -78,6 +78,9 @@ module _ {S A : Type 0} {has : S → ℕ → Cell → Type 0} {account : A → A
 
   pub last_n : count_ones t.branch.bitmap ≡ twigs_of last_fork
   last_n = n_here x.asks x.turn.through
+
+  pub last_along : twigs_along lower ≡ count_ones t.branch.bitmap
+  last_along = let e = ap twigs_along (x.turn.through.is ∙ ap (λ r. last_fork ∷ r) x.alone) in let n = last_n in omega arith
 
   pub leaf_alone : IsTree 0 (leaf e first)
   leaf_alone = last_known.tree

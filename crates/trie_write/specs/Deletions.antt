@@ -12,7 +12,8 @@ use Rattle.trie_write.specs.declared.turn.Turn.{Turn}
 use Rattle.trie_write.specs.declared.change.Change.{Change}
 use Rattle.trie_write.specs.Mutable.{WayAsks}
 use Rattle.trie_write.specs.Puts.{Makes}
-use Rattle.trie_write.specs.Turns.{IsTurn}
+use Rattle.trie_write.specs.Turns.{IsTurn, IsLastTurn}
+use Rattle.trie_write.specs.Asks.{HasKey}
 use Rattle.trie_write.specs.Ways.{Fork, plug}
 use Rattle.trie_model.specs.Trees.Tree.{leaf, branch}
 use Rattle.trie_model.specs.Trees.Twigs.{twig}
@@ -121,3 +122,13 @@ pub record IsWithout {S : Type 0} (has : S → ℕ → Cell → Type 0) (s : S) 
   pub new : Tree
   pub makes : Makes has s c old new
   pub shrunk : (low : ℕ) → IsTree low old → Shrunk e low old new
+
+-- the key is below a root that stands, and the turn is the last one on the way to its leaf
+pub record DropAsks {S A : Type 0} (has : S → ℕ → Cell → Type 0) (account : A → Account) (s : S) (a : A) (r : ℕ) (key : List ℕ) (turn : Turn) (t : Tree) (version : List Entry) : Type 0 where
+  pub there : HasKey has account s a r key t version
+  pub last : IsLastTurn turn there.way (leaf there.entry there.first)
+
+pub record DropAsked {S A : Type 0} (has : S → ℕ → Cell → Type 0) (account : A → Account) (s : S) (a : A) (r : ℕ) (key : List ℕ) (turn : Turn) : Type 0 where
+  pub t : Tree
+  pub version : List Entry
+  pub asks : DropAsks has account s a r key turn t version

@@ -44,7 +44,7 @@ pub struct Change {
 }
 
 /// These cells don't count any more.
-fn let_go<U: Space>(usage: &mut U, twigs: Span, item: Span)
+pub fn let_go<U: Space>(usage: &mut U, twigs: Span, item: Span)
     requires counted { (k : ℕ) → span twigs (in_chunk k) + span item (in_chunk k) ≤ (U.account usage.old).live k }
     requires twigs { twigs.at % 1024 + twigs.n ≤ 1024 }
     requires item { item.at % 1024 + item.n ≤ 1024 }
