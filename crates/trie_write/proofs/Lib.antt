@@ -16,3 +16,13 @@ pub mod PlaceLemmas
 pub mod ExchangeLaws
 pub mod TopLaws
 pub mod DeleteLaws
+pub mod WayLaws
+pub mod CopyLaws
+pub mod TurnLaws
+pub mod PutLaws
+pub mod PathLaws
+pub mod ChangeLaws
+pub mod ReplaceLaws
+pub mod WithoutLaws
+pub mod RemoveLaws
+pub mod SpaceLaws

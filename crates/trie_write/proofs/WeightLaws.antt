@@ -6,7 +6,7 @@ use Rattle.trie_model.specs.Trees.{Tree, Twigs, cells_in}
 use Rattle.trie_model.specs.Trees.Tree.{leaf, branch}
 use Rattle.trie_model.specs.Trees.Twigs.{none, twig}
 use Rattle.trie_model.specs.Reach.{row, weigh_tree, weigh, WithinTree, Within}
-use Rattle.chunk_usage.specs.Rooms.{Room}
+use Rattle.chunk_usage.specs.Rooms.{Account, Handed, Room}
 use Rattle.trie_write.specs.Weights.{at_place, mark}
 
 pub at_itself : (q : ℕ) → ◌≡◌ {A = ℕ} (at_place q q) 1
@@ -103,3 +103,14 @@ abbrev mutual
       let a = at_another q r (λ same. true≢false (sym h.0 ∙ ap P same ∙ f)) in
       let b = met_within P t h.1 q f in
       let c = met_in P (suc r) rest h.2 q f in omega arith
+
+-- the same, as a space tells it
+pub handed_fresh : {old new : Account} {r n : ℕ} → Handed old new r n → ((q : ℕ) → old.used q ≡ true → new.used q ≡ true) → (q : ℕ) → row (at_place q) r n + mark old.used q ≤ mark new.used q
+handed_fresh {old} {new} {r} {n} h stays q = elim (in_row q r n) [
+  | inl i ↦ (
+      let a = row_meets q r n i.0 i.1 i.2 in
+      let b = unmarked old.used q (ap old.used i.2 ∙ h.unused i.0 i.1) in
+      let c = marked new.used q (ap new.used i.2 ∙ h.taken i.0 i.1) in omega arith
+      )
+  | inr out ↦ (let a = row_misses q r n out in let b = mark_grows old.used new.used q (stays q) in omega arith)
+]

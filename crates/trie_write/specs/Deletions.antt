@@ -1,12 +1,20 @@
 -- An entry taken out, by its key.
-use Rattle.std.specs.Prelude.{◌≡◌, ℕ, Bool, List, length}
+use Rattle.std.specs.Prelude.{◌≡◌, ℕ, Bool, List, [], length}
 use Rattle.packed_node.specs.declared.Cell.{Cell}
 use Rattle.packed_node.specs.declared.Leaf.{Leaf}
 use Rattle.packed_node.specs.declared.Branch.{Branch}
 use Rattle.trie_model.specs.Changes.{Removed, Shrunk}
 use Rattle.trie_model.specs.Keys.{at, Entry, InList}
 use Rattle.trie_model.specs.Memory.{top_cell}
-use Rattle.trie_model.specs.Trees.{Tree, Twigs, entries_of, bitmap_of, beside}
+use Rattle.trie_model.specs.Trees.{Tree, Twigs, entries_of, bitmap_of, beside, IsTree}
+use Rattle.chunk_usage.specs.Rooms.{Account}
+use Rattle.trie_write.specs.declared.turn.Turn.{Turn}
+use Rattle.trie_write.specs.declared.change.Change.{Change}
+use Rattle.trie_write.specs.Mutable.{WayAsks}
+use Rattle.trie_write.specs.Puts.{Makes}
+use Rattle.trie_write.specs.Turns.{IsTurn, IsLastTurn}
+use Rattle.trie_write.specs.Asks.{HasKey}
+use Rattle.trie_write.specs.Ways.{Fork, plug}
 use Rattle.trie_model.specs.Trees.Tree.{leaf, branch}
 use Rattle.trie_model.specs.Trees.Twigs.{twig}
 use Rattle.trie_write.specs.Roots.{Rooted}
@@ -96,3 +104,31 @@ pub record DeleteAsked (has : ℕ → Cell → Type 0) (used : ℕ → Bool) (li
   pub version : List Entry
   pub gone : Entry
   pub asks : DeleteAsks has used live r key cell t version gone
+
+-- The turn is the last one of a way to a leaf: its branch, from where the lower part of the way leads to the leaf.
+pub record LeafTurn {S A : Type 0} (has : S → ℕ → Cell → Type 0) (account : A → Account) (s : S) (a : A) (key : List ℕ) (t : Turn) (lower : List Fork) (e : Entry) (first : ℕ) : Type 0 where
+  pub asks : WayAsks has account s a 65535 0 key (top_cell (plug lower (leaf e first))) lower (leaf e first)
+  pub turn : IsTurn 65535 t lower (leaf e first)
+  pub alone : turn.through.rest ≡ []
+
+pub record LeafTurned {S A : Type 0} (has : S → ℕ → Cell → Type 0) (account : A → Account) (s : S) (a : A) (key : List ℕ) (t : Turn) : Type 0 where
+  pub lower : List Fork
+  pub entry : Entry
+  pub first : ℕ
+  pub last : LeafTurn has account s a key t lower entry first
+
+-- the change makes of the branch what it is without the leaf
+pub record IsWithout {S : Type 0} (has : S → ℕ → Cell → Type 0) (s : S) (c : Change) (e : Entry) (old : Tree) : Type 0 where
+  pub new : Tree
+  pub makes : Makes has s c old new
+  pub shrunk : (low : ℕ) → IsTree low old → Shrunk e low old new
+
+-- the key is below a root that stands, and the turn is the last one on the way to its leaf
+pub record DropAsks {S A : Type 0} (has : S → ℕ → Cell → Type 0) (account : A → Account) (s : S) (a : A) (r : ℕ) (key : List ℕ) (turn : Turn) (t : Tree) (version : List Entry) : Type 0 where
+  pub there : HasKey has account s a r key t version
+  pub last : IsLastTurn turn there.way (leaf there.entry there.first)
+
+pub record DropAsked {S A : Type 0} (has : S → ℕ → Cell → Type 0) (account : A → Account) (s : S) (a : A) (r : ℕ) (key : List ℕ) (turn : Turn) : Type 0 where
+  pub t : Tree
+  pub version : List Entry
+  pub asks : DropAsks has account s a r key turn t version

@@ -1,9 +1,12 @@
 -- An entry exchanged for another of the same key.
-use Rattle.std.specs.Prelude.{◌≡◌, ℕ, Bool, List, ◌∷◌, ◌++◌}
+use Rattle.std.specs.Prelude.{◌≡◌, ℕ, ◌≤◌, Bool, List, ◌∷◌, ◌++◌}
 use Rattle.packed_node.specs.declared.Cell.{Cell}
 use Rattle.packed_node.specs.declared.Leaf.{Leaf}
 use Rattle.trie_model.specs.Keys.{Entry, IsEntry, InList}
-use Rattle.trie_model.specs.Trees.{Tree, entries_of, IsTree}
+use Rattle.trie_model.specs.Trees.{Tree, entries_of, cells_in, IsTree}
+use Rattle.trie_model.specs.Trees.Tree.{leaf}
+use Rattle.trie_model.specs.Reach.{row, in_chunk}
+use Rattle.chunk_usage.specs.Rooms.{Account}
 use Rattle.trie_write.specs.Steps.{Held, Laid, Became, item_weight}
 use Rattle.trie_write.specs.Roots.{Rooted}
 use Rattle.trie_write.specs.Seats.{IsSeat, Reseated, Rerooted}
@@ -84,3 +87,9 @@ pub record ReplaceAsked (has : ℕ → Cell → Type 0) (used : ℕ → Bool) (l
   pub t : Tree
   pub version : List Entry
   pub asks : ReplaceAsks has used live r key item cell e t version
+
+-- a leaf lies at the cell, and its item's cells count
+pub record LeafSeat {S A : Type 0} (has : S → ℕ → Cell → Type 0) (account : A → Account) (s : S) (a : A) (at : ℕ) (e : Entry) (first : ℕ) : Type 0 where
+  pub top : has s at (top_cell (leaf e first))
+  pub tree : IsTree 0 (leaf e first)
+  pub counted : (k : ℕ) → row (in_chunk k) first (cells_in e.item) ≤ (account a).live k

@@ -15,3 +15,9 @@ pub mod Tops
 pub mod Seats
 pub mod Exchanges
 pub mod Deletions
+pub mod Spaces
+pub mod Ways
+pub mod Turns
+pub mod Mutable
+pub mod Asks
+pub mod Puts

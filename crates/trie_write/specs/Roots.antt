@@ -1,5 +1,5 @@
 -- A tree that gets a root of its own, in place of another.
-use Rattle.std.specs.Prelude.{◌≡◌, ℕ, ◌+◌, ◌<◌, ◌≤◌, ◌^◌, Bool, List, Option, Some, None}
+use Rattle.std.specs.Prelude.{◌≡◌, ℕ, ◌+◌, ◌<◌, ◌≤◌, ◌^◌, Bool, true, List, Option, Some, None}
 use Rattle.packed_node.specs.declared.Cell.{Cell}
 use Rattle.packed_node.specs.declared.Leaf.{Leaf}
 use Rattle.trie_model.specs.Changes.{Grown}
@@ -9,8 +9,9 @@ use Rattle.trie_model.specs.Reach.{in_chunk, weigh_tree}
 use Rattle.trie_model.specs.Trees.{Tree}
 use Rattle.zone_model.specs.Keys.{Leads}
 use Rattle.trie_read.specs.Reads.{EachTells}
-use Rattle.trie_write.specs.Paths.{twigs_on_path}
-use Rattle.trie_write.specs.Seats.{Rerooted}
+use Rattle.chunk_usage.specs.Rooms.{Account}
+use Rattle.trie_write.specs.Paths.{twigs_on_path, to_copy}
+use Rattle.trie_write.specs.Seats.{Rerooted, Unreached}
 use Rattle.trie_write.specs.Standing.{StandsIn}
 use Rattle.trie_write.specs.Steps.{item_weight}
 use Rattle.trie_write.specs.Weights.{at_place, mark}
@@ -37,3 +38,15 @@ pub record TopGrew (has : ℕ → Cell → Type 0) (used used_new : ℕ → Bool
 abbrev pub OnPath : (ℕ → Cell → Type 0) → (ℕ → Bool) → (ℕ → ℕ) → Option ℕ → List ℕ → ℕ → Type 0
 OnPath has used live None key n = n ≡ 0
 OnPath has used live (Some r) key n = (t : Tree) × (version : List Entry) × StandsIn has used live r t version × EachTells Leads version × (n ≡ twigs_on_path key t)
+
+-- the same of a root in some cells and a space; how many cells there are to copy before the end of the key's path may be written; and
+-- that a root that stands doesn't reach a cell
+abbrev pub TwigsOnPath : {S A : Type 0} → (S → ℕ → Cell → Type 0) → (A → Account) → S → A → Option ℕ → List ℕ → ℕ → Type 0
+TwigsOnPath has account s a root key n = OnPath (has s) (account a).used (account a).live root key n
+
+abbrev pub ToCopy : {S A : Type 0} → (S → ℕ → Cell → Type 0) → (A → Account) → S → A → Option ℕ → List ℕ → ℕ → Type 0
+ToCopy has account s a None key n = n ≡ 0
+ToCopy has account s a (Some r) key n = (t : Tree) × (version : List Entry) × StandsIn (has s) (account a).used (account a).live r t version × EachTells Leads version × (n ≡ to_copy (account a).mutable key r t)
+
+abbrev pub Beyond : {S A : Type 0} → (S → ℕ → Cell → Type 0) → (A → Account) → S → A → Option ℕ → ℕ → Type 0
+Beyond has account s a root q = ((account a).used q ≡ true) × Unreached (has s) (account a).used (account a).live root q

@@ -25,15 +25,15 @@ pub fn build<C: CellWrite, U: Space>(
     items: &[Item],
 ) -> Result<Option<Ref>, Full>
     requires rising { Rises (entries_of_items items.now) }
-    requires uncounted { (k : ℕ) → U.live usage.old k ≡ 0 }
-    requires ready { Ready (C.kept cells.old) (C.given cells.old) (U.given usage.old) (U.used usage.old) (U.fresh usage.old) }
-    ensures built { IfOk result (λ root. Standing (C.has cells.new) (U.used usage.new) (U.live usage.new) root (entries_of_items items.now)) }
-    ensures uncounted { IfErr result (λ _. (k : ℕ) → U.live usage.new k ≡ 0) }
-    ensures spends { U.spent usage.new ≤ U.spent usage.old + cells_of (entries_of_items items.now) }
+    requires uncounted { (k : ℕ) → (U.account usage.old).live k ≡ 0 }
+    requires ready { Ready (C.kept cells.old) (C.given cells.old) ((U.account usage.old).given) ((U.account usage.old).used) ((U.account usage.old).mutable) }
+    ensures built { IfOk result (λ root. Standing (C.has cells.new) ((U.account usage.new).used) ((U.account usage.new).live) root (entries_of_items items.now)) }
+    ensures uncounted { IfErr result (λ _. (k : ℕ) → (U.account usage.new).live k ≡ 0) }
+    ensures spends { (U.account usage.new).spent ≤ (U.account usage.old).spent + cells_of (entries_of_items items.now) }
     ensures full { IfErr result (λ f. U.lacks usage.new f) }
-    ensures frozen { U.frozen usage.new ≡ U.frozen usage.old }
-    ensures frame { Frame (C.has cells.old) (C.has cells.new) (C.kept cells.old) (C.kept cells.new) (C.given cells.old) (C.given cells.new) (U.used usage.old) (U.used usage.new) (U.fresh usage.old) (U.fresh usage.new) }
-    ensures ready { Ready (C.kept cells.new) (C.given cells.new) (U.given usage.new) (U.used usage.new) (U.fresh usage.new) }
+    ensures frozen { (U.account usage.new).frozen ≡ (U.account usage.old).frozen }
+    ensures frame { Frame (C.has cells.old) (C.has cells.new) (C.kept cells.old) (C.kept cells.new) (C.given cells.old) (C.given cells.new) ((U.account usage.old).used) ((U.account usage.new).used) ((U.account usage.old).mutable) ((U.account usage.new).mutable) }
+    ensures ready { Ready (C.kept cells.new) (C.given cells.new) ((U.account usage.new).given) ((U.account usage.new).used) ((U.account usage.new).mutable) }
 {
     if items.is_empty() {
         return Ok(None);
@@ -55,14 +55,14 @@ fn build_root<C: CellWrite, U: Space>(
 ) -> Result<Ref, Full>
     requires some { 0 < length items.now }
     requires rising { Rises (entries_of_items items.now) }
-    requires uncounted { (k : ℕ) → U.live usage.old k ≡ 0 }
-    requires ready { Ready (C.kept cells.old) (C.given cells.old) (U.given usage.old) (U.used usage.old) (U.fresh usage.old) }
-    ensures built { IfOk result (λ root. Standing (C.has cells.new) (U.used usage.new) (U.live usage.new) (Some root) (entries_of_items items.now)) }
-    ensures spends { U.spent usage.new ≤ U.spent usage.old + cells_of (entries_of_items items.now) }
+    requires uncounted { (k : ℕ) → (U.account usage.old).live k ≡ 0 }
+    requires ready { Ready (C.kept cells.old) (C.given cells.old) ((U.account usage.old).given) ((U.account usage.old).used) ((U.account usage.old).mutable) }
+    ensures built { IfOk result (λ root. Standing (C.has cells.new) ((U.account usage.new).used) ((U.account usage.new).live) (Some root) (entries_of_items items.now)) }
+    ensures spends { (U.account usage.new).spent ≤ (U.account usage.old).spent + cells_of (entries_of_items items.now) }
     ensures full { IfErr result (λ f. U.lacks usage.new f) }
-    ensures frozen { U.frozen usage.new ≡ U.frozen usage.old }
-    ensures frame { Frame (C.has cells.old) (C.has cells.new) (C.kept cells.old) (C.kept cells.new) (C.given cells.old) (C.given cells.new) (U.used usage.old) (U.used usage.new) (U.fresh usage.old) (U.fresh usage.new) }
-    ensures ready { Ready (C.kept cells.new) (C.given cells.new) (U.given usage.new) (U.used usage.new) (U.fresh usage.new) }
+    ensures frozen { (U.account usage.new).frozen ≡ (U.account usage.old).frozen }
+    ensures frame { Frame (C.has cells.old) (C.has cells.new) (C.kept cells.old) (C.kept cells.new) (C.given cells.old) (C.given cells.new) ((U.account usage.old).used) ((U.account usage.new).used) ((U.account usage.old).mutable) ((U.account usage.new).mutable) }
+    ensures ready { Ready (C.kept cells.new) (C.given cells.new) ((U.account usage.new).given) ((U.account usage.new).used) ((U.account usage.new).mutable) }
 {
     let node = build_below(cells, usage, items)?;
     let root = place_row(cells, usage, &[node])?;
@@ -75,13 +75,13 @@ fn build_leaf<C: CellWrite, U: Space>(
     usage: &mut U,
     item: &Item,
 ) -> Result<Cell, Full>
-    requires { Ready (C.kept cells.old) (C.given cells.old) (U.given usage.old) (U.used usage.old) (U.fresh usage.old) }
-    ensures built { IfOk result (λ cell. Built (C.has cells.new) (U.used usage.old) (U.used usage.new) (U.live usage.old) (U.live usage.new) (map entry_of (item.now ∷ [])) cell) }
-    ensures spends { U.spent usage.new < U.spent usage.old + cells_of (map entry_of (item.now ∷ [])) }
+    requires { Ready (C.kept cells.old) (C.given cells.old) ((U.account usage.old).given) ((U.account usage.old).used) ((U.account usage.old).mutable) }
+    ensures built { IfOk result (λ cell. Built (C.has cells.new) ((U.account usage.old).used) ((U.account usage.new).used) ((U.account usage.old).live) ((U.account usage.new).live) (map entry_of (item.now ∷ [])) cell) }
+    ensures spends { (U.account usage.new).spent < (U.account usage.old).spent + cells_of (map entry_of (item.now ∷ [])) }
     ensures full { IfErr result (λ f. U.lacks usage.new f) }
-    ensures frozen { U.frozen usage.new ≡ U.frozen usage.old }
-    ensures frame { Frame (C.has cells.old) (C.has cells.new) (C.kept cells.old) (C.kept cells.new) (C.given cells.old) (C.given cells.new) (U.used usage.old) (U.used usage.new) (U.fresh usage.old) (U.fresh usage.new) }
-    ensures ready { Ready (C.kept cells.new) (C.given cells.new) (U.given usage.new) (U.used usage.new) (U.fresh usage.new) }
+    ensures frozen { (U.account usage.new).frozen ≡ (U.account usage.old).frozen }
+    ensures frame { Frame (C.has cells.old) (C.has cells.new) (C.kept cells.old) (C.kept cells.new) (C.given cells.old) (C.given cells.new) ((U.account usage.old).used) ((U.account usage.new).used) ((U.account usage.old).mutable) ((U.account usage.new).mutable) }
+    ensures ready { Ready (C.kept cells.new) (C.given cells.new) ((U.account usage.new).given) ((U.account usage.new).used) ((U.account usage.new).mutable) }
 {
     let leaf = place_item(cells, usage, item.octets())?;
     Ok(Node::Leaf(leaf).pack())
@@ -95,13 +95,13 @@ fn build_below<C: CellWrite, U: Space>(
 ) -> Result<Cell, Full>
     requires some { 0 < length items.now }
     requires rising { Rises (entries_of_items items.now) }
-    requires ready { Ready (C.kept cells.old) (C.given cells.old) (U.given usage.old) (U.used usage.old) (U.fresh usage.old) }
-    ensures built { IfOk result (λ cell. Built (C.has cells.new) (U.used usage.old) (U.used usage.new) (U.live usage.old) (U.live usage.new) (entries_of_items items.now) cell) }
-    ensures spends { U.spent usage.new < U.spent usage.old + cells_of (entries_of_items items.now) }
+    requires ready { Ready (C.kept cells.old) (C.given cells.old) ((U.account usage.old).given) ((U.account usage.old).used) ((U.account usage.old).mutable) }
+    ensures built { IfOk result (λ cell. Built (C.has cells.new) ((U.account usage.old).used) ((U.account usage.new).used) ((U.account usage.old).live) ((U.account usage.new).live) (entries_of_items items.now) cell) }
+    ensures spends { (U.account usage.new).spent < (U.account usage.old).spent + cells_of (entries_of_items items.now) }
     ensures full { IfErr result (λ f. U.lacks usage.new f) }
-    ensures frozen { U.frozen usage.new ≡ U.frozen usage.old }
-    ensures frame { Frame (C.has cells.old) (C.has cells.new) (C.kept cells.old) (C.kept cells.new) (C.given cells.old) (C.given cells.new) (U.used usage.old) (U.used usage.new) (U.fresh usage.old) (U.fresh usage.new) }
-    ensures ready { Ready (C.kept cells.new) (C.given cells.new) (U.given usage.new) (U.used usage.new) (U.fresh usage.new) }
+    ensures frozen { (U.account usage.new).frozen ≡ (U.account usage.old).frozen }
+    ensures frame { Frame (C.has cells.old) (C.has cells.new) (C.kept cells.old) (C.kept cells.new) (C.given cells.old) (C.given cells.new) ((U.account usage.old).used) ((U.account usage.new).used) ((U.account usage.old).mutable) ((U.account usage.new).mutable) }
+    ensures ready { Ready (C.kept cells.new) (C.given cells.new) ((U.account usage.new).given) ((U.account usage.new).used) ((U.account usage.new).mutable) }
 {
     if items.len() == 1 {
         return build_leaf(cells, usage, &items[0]);

@@ -52,16 +52,16 @@ fn split_node<C: CellWrite, U: Space>(
     node: Cell,
     leaf: Leaf,
 ) -> Result<Cell, Full>
-    requires asks { AskedDeep (C.has cells.old) (U.used usage.old) (U.live usage.old) first.place key.now first.position node leaf }
-    requires ready { Ready (C.kept cells.old) (C.given cells.old) (U.given usage.old) (U.used usage.old) (U.fresh usage.old) }
-    ensures grew { IfOk result (λ cell. (low : ℕ) (t : Tree) (e : Entry) → Asks (C.has cells.old) (U.used usage.old) (U.live usage.old) low first.place key.now first.position node leaf t e
-        → Deep first.place t → Grew (C.has cells.new) (U.used usage.old) (U.used usage.new) (U.live usage.old) (U.live usage.new) low leaf t e cell) }
-    ensures unchanged { IfErr result (λ _. (k : ℕ) → U.live usage.new k ≡ U.live usage.old k) }
-    ensures spends { U.spent usage.new ≤ U.spent usage.old + 2 }
+    requires asks { AskedDeep (C.has cells.old) ((U.account usage.old).used) ((U.account usage.old).live) first.place key.now first.position node leaf }
+    requires ready { Ready (C.kept cells.old) (C.given cells.old) ((U.account usage.old).given) ((U.account usage.old).used) ((U.account usage.old).mutable) }
+    ensures grew { IfOk result (λ cell. (low : ℕ) (t : Tree) (e : Entry) → Asks (C.has cells.old) ((U.account usage.old).used) ((U.account usage.old).live) low first.place key.now first.position node leaf t e
+        → Deep first.place t → Grew (C.has cells.new) ((U.account usage.old).used) ((U.account usage.new).used) ((U.account usage.old).live) ((U.account usage.new).live) low leaf t e cell) }
+    ensures unchanged { IfErr result (λ _. (k : ℕ) → (U.account usage.new).live k ≡ (U.account usage.old).live k) }
+    ensures spends { (U.account usage.new).spent ≤ (U.account usage.old).spent + 2 }
     ensures full { IfErr result (λ f. U.lacks usage.new f) }
-    ensures frozen { U.frozen usage.new ≡ U.frozen usage.old }
-    ensures frame { Frame (C.has cells.old) (C.has cells.new) (C.kept cells.old) (C.kept cells.new) (C.given cells.old) (C.given cells.new) (U.used usage.old) (U.used usage.new) (U.fresh usage.old) (U.fresh usage.new) }
-    ensures ready { Ready (C.kept cells.new) (C.given cells.new) (U.given usage.new) (U.used usage.new) (U.fresh usage.new) }
+    ensures frozen { (U.account usage.new).frozen ≡ (U.account usage.old).frozen }
+    ensures frame { Frame (C.has cells.old) (C.has cells.new) (C.kept cells.old) (C.kept cells.new) (C.given cells.old) (C.given cells.new) ((U.account usage.old).used) ((U.account usage.new).used) ((U.account usage.old).mutable) ((U.account usage.new).mutable) }
+    ensures ready { Ready (C.kept cells.new) (C.given cells.new) ((U.account usage.new).given) ((U.account usage.new).used) ((U.account usage.new).mutable) }
 {
     let position = key.at(first.place);
     let row = in_order(position, Node::Leaf(leaf).pack(), first.position, node);
@@ -82,16 +82,16 @@ fn add_leaf<C: CellWrite, U: Space>(
     branch: Branch,
     leaf: Leaf,
 ) -> Result<Cell, Full>
-    requires asks { AskedHere (C.has cells.old) (U.used usage.old) (U.live usage.old) key.now leaf branch }
-    requires ready { Ready (C.kept cells.old) (C.given cells.old) (U.given usage.old) (U.used usage.old) (U.fresh usage.old) }
-    ensures grew { IfOk result (λ cell. (low position : ℕ) (node : Cell) (e : Entry) (below : Twigs) → AsksBranch (C.has cells.old) (U.used usage.old) (U.live usage.old) low branch.offset key.now position node leaf branch e below
-        → Grew (C.has cells.new) (U.used usage.old) (U.used usage.new) (U.live usage.old) (U.live usage.new) low leaf (branch_of branch.offset branch.twigs below) e cell) }
-    ensures unchanged { IfErr result (λ _. (k : ℕ) → U.live usage.new k ≡ U.live usage.old k) }
-    ensures spends { U.spent usage.new ≤ U.spent usage.old + (count_ones branch.bitmap + 1) }
+    requires asks { AskedHere (C.has cells.old) ((U.account usage.old).used) ((U.account usage.old).live) key.now leaf branch }
+    requires ready { Ready (C.kept cells.old) (C.given cells.old) ((U.account usage.old).given) ((U.account usage.old).used) ((U.account usage.old).mutable) }
+    ensures grew { IfOk result (λ cell. (low position : ℕ) (node : Cell) (e : Entry) (below : Twigs) → AsksBranch (C.has cells.old) ((U.account usage.old).used) ((U.account usage.old).live) low branch.offset key.now position node leaf branch e below
+        → Grew (C.has cells.new) ((U.account usage.old).used) ((U.account usage.new).used) ((U.account usage.old).live) ((U.account usage.new).live) low leaf (branch_of branch.offset branch.twigs below) e cell) }
+    ensures unchanged { IfErr result (λ _. (k : ℕ) → (U.account usage.new).live k ≡ (U.account usage.old).live k) }
+    ensures spends { (U.account usage.new).spent ≤ (U.account usage.old).spent + (count_ones branch.bitmap + 1) }
     ensures full { IfErr result (λ f. U.lacks usage.new f) }
-    ensures frozen { U.frozen usage.new ≡ U.frozen usage.old }
-    ensures frame { Frame (C.has cells.old) (C.has cells.new) (C.kept cells.old) (C.kept cells.new) (C.given cells.old) (C.given cells.new) (U.used usage.old) (U.used usage.new) (U.fresh usage.old) (U.fresh usage.new) }
-    ensures ready { Ready (C.kept cells.new) (C.given cells.new) (U.given usage.new) (U.used usage.new) (U.fresh usage.new) }
+    ensures frozen { (U.account usage.new).frozen ≡ (U.account usage.old).frozen }
+    ensures frame { Frame (C.has cells.old) (C.has cells.new) (C.kept cells.old) (C.kept cells.new) (C.given cells.old) (C.given cells.new) ((U.account usage.old).used) ((U.account usage.new).used) ((U.account usage.old).mutable) ((U.account usage.new).mutable) }
+    ensures ready { Ready (C.kept cells.new) (C.given cells.new) ((U.account usage.new).given) ((U.account usage.new).used) ((U.account usage.new).mutable) }
 {
     let position = key.at(branch.offset);
     let index = branch.twig_index(position);
@@ -120,17 +120,17 @@ fn put_here<C: CellWrite, U: Space>(
     node: Cell,
     leaf: Leaf,
 ) -> Result<Cell, Full>
-    requires asks { AskedFrom (C.has cells.old) (U.used usage.old) (U.live usage.old) first.place key.now first.position node leaf }
-    requires ready { Ready (C.kept cells.old) (C.given cells.old) (U.given usage.old) (U.used usage.old) (U.fresh usage.old) }
-    ensures grew { IfOk result (λ cell. (low : ℕ) (t : Tree) (e : Entry) → Asks (C.has cells.old) (U.used usage.old) (U.live usage.old) low first.place key.now first.position node leaf t e
-        → NotBefore first.place t → Grew (C.has cells.new) (U.used usage.old) (U.used usage.new) (U.live usage.old) (U.live usage.new) low leaf t e cell) }
-    ensures unchanged { IfErr result (λ _. (k : ℕ) → U.live usage.new k ≡ U.live usage.old k) }
-    ensures spends { (low : ℕ) (t : Tree) (e : Entry) → Asks (C.has cells.old) (U.used usage.old) (U.live usage.old) low first.place key.now first.position node leaf t e
-        → U.spent usage.new ≤ U.spent usage.old + (twigs_on_path key.now t + 2) }
+    requires asks { AskedFrom (C.has cells.old) ((U.account usage.old).used) ((U.account usage.old).live) first.place key.now first.position node leaf }
+    requires ready { Ready (C.kept cells.old) (C.given cells.old) ((U.account usage.old).given) ((U.account usage.old).used) ((U.account usage.old).mutable) }
+    ensures grew { IfOk result (λ cell. (low : ℕ) (t : Tree) (e : Entry) → Asks (C.has cells.old) ((U.account usage.old).used) ((U.account usage.old).live) low first.place key.now first.position node leaf t e
+        → NotBefore first.place t → Grew (C.has cells.new) ((U.account usage.old).used) ((U.account usage.new).used) ((U.account usage.old).live) ((U.account usage.new).live) low leaf t e cell) }
+    ensures unchanged { IfErr result (λ _. (k : ℕ) → (U.account usage.new).live k ≡ (U.account usage.old).live k) }
+    ensures spends { (low : ℕ) (t : Tree) (e : Entry) → Asks (C.has cells.old) ((U.account usage.old).used) ((U.account usage.old).live) low first.place key.now first.position node leaf t e
+        → (U.account usage.new).spent ≤ (U.account usage.old).spent + (twigs_on_path key.now t + 2) }
     ensures full { IfErr result (λ f. U.lacks usage.new f) }
-    ensures frozen { U.frozen usage.new ≡ U.frozen usage.old }
-    ensures frame { Frame (C.has cells.old) (C.has cells.new) (C.kept cells.old) (C.kept cells.new) (C.given cells.old) (C.given cells.new) (U.used usage.old) (U.used usage.new) (U.fresh usage.old) (U.fresh usage.new) }
-    ensures ready { Ready (C.kept cells.new) (C.given cells.new) (U.given usage.new) (U.used usage.new) (U.fresh usage.new) }
+    ensures frozen { (U.account usage.new).frozen ≡ (U.account usage.old).frozen }
+    ensures frame { Frame (C.has cells.old) (C.has cells.new) (C.kept cells.old) (C.kept cells.new) (C.given cells.old) (C.given cells.new) ((U.account usage.old).used) ((U.account usage.new).used) ((U.account usage.old).mutable) ((U.account usage.new).mutable) }
+    ensures ready { Ready (C.kept cells.new) (C.given cells.new) ((U.account usage.new).given) ((U.account usage.new).used) ((U.account usage.new).mutable) }
 {
     match top_of(node) {
         Err(_) => split_node(cells, usage, key, first, node, leaf),
@@ -153,17 +153,17 @@ fn grow<C: CellWrite, U: Space>(
     node: Cell,
     leaf: Leaf,
 ) -> Result<Cell, Full>
-    requires asks { Asked (C.has cells.old) (U.used usage.old) (U.live usage.old) low first.place key.now first.position node leaf }
-    requires ready { Ready (C.kept cells.old) (C.given cells.old) (U.given usage.old) (U.used usage.old) (U.fresh usage.old) }
-    ensures grew { IfOk result (λ cell. (t : Tree) (e : Entry) → Asks (C.has cells.old) (U.used usage.old) (U.live usage.old) low first.place key.now first.position node leaf t e
-        → Grew (C.has cells.new) (U.used usage.old) (U.used usage.new) (U.live usage.old) (U.live usage.new) low leaf t e cell) }
-    ensures unchanged { IfErr result (λ _. (k : ℕ) → U.live usage.new k ≡ U.live usage.old k) }
-    ensures spends { (t : Tree) (e : Entry) → Asks (C.has cells.old) (U.used usage.old) (U.live usage.old) low first.place key.now first.position node leaf t e
-        → U.spent usage.new ≤ U.spent usage.old + (twigs_on_path key.now t + 2) }
+    requires asks { Asked (C.has cells.old) ((U.account usage.old).used) ((U.account usage.old).live) low first.place key.now first.position node leaf }
+    requires ready { Ready (C.kept cells.old) (C.given cells.old) ((U.account usage.old).given) ((U.account usage.old).used) ((U.account usage.old).mutable) }
+    ensures grew { IfOk result (λ cell. (t : Tree) (e : Entry) → Asks (C.has cells.old) ((U.account usage.old).used) ((U.account usage.old).live) low first.place key.now first.position node leaf t e
+        → Grew (C.has cells.new) ((U.account usage.old).used) ((U.account usage.new).used) ((U.account usage.old).live) ((U.account usage.new).live) low leaf t e cell) }
+    ensures unchanged { IfErr result (λ _. (k : ℕ) → (U.account usage.new).live k ≡ (U.account usage.old).live k) }
+    ensures spends { (t : Tree) (e : Entry) → Asks (C.has cells.old) ((U.account usage.old).used) ((U.account usage.old).live) low first.place key.now first.position node leaf t e
+        → (U.account usage.new).spent ≤ (U.account usage.old).spent + (twigs_on_path key.now t + 2) }
     ensures full { IfErr result (λ f. U.lacks usage.new f) }
-    ensures frozen { U.frozen usage.new ≡ U.frozen usage.old }
-    ensures frame { Frame (C.has cells.old) (C.has cells.new) (C.kept cells.old) (C.kept cells.new) (C.given cells.old) (C.given cells.new) (U.used usage.old) (U.used usage.new) (U.fresh usage.old) (U.fresh usage.new) }
-    ensures ready { Ready (C.kept cells.new) (C.given cells.new) (U.given usage.new) (U.used usage.new) (U.fresh usage.new) }
+    ensures frozen { (U.account usage.new).frozen ≡ (U.account usage.old).frozen }
+    ensures frame { Frame (C.has cells.old) (C.has cells.new) (C.kept cells.old) (C.kept cells.new) (C.given cells.old) (C.given cells.new) ((U.account usage.old).used) ((U.account usage.new).used) ((U.account usage.old).mutable) ((U.account usage.new).mutable) }
+    ensures ready { Ready (C.kept cells.new) (C.given cells.new) ((U.account usage.new).given) ((U.account usage.new).used) ((U.account usage.new).mutable) }
 {
     match branch_above(node, first.place) {
         None => put_here(cells, usage, key, first, node, leaf),
@@ -192,17 +192,17 @@ fn grow_root<C: CellWrite, U: Space>(
     node: Cell,
     leaf: Leaf,
 ) -> Result<Ref, Full>
-    requires asks { Asked (C.has cells.old) (U.used usage.old) (U.live usage.old) 0 first.place key.now first.position node leaf }
-    requires ready { Ready (C.kept cells.old) (C.given cells.old) (U.given usage.old) (U.used usage.old) (U.fresh usage.old) }
-    ensures grew { IfOk result (λ root. (t : Tree) (e : Entry) → Asks (C.has cells.old) (U.used usage.old) (U.live usage.old) 0 first.place key.now first.position node leaf t e
-        → RootGrew (C.has cells.new) (U.used usage.old) (U.used usage.new) (U.live usage.old) (U.live usage.new) leaf t e root) }
-    ensures unchanged { IfErr result (λ _. (k : ℕ) → U.live usage.new k ≡ U.live usage.old k) }
-    ensures spends { (t : Tree) (e : Entry) → Asks (C.has cells.old) (U.used usage.old) (U.live usage.old) 0 first.place key.now first.position node leaf t e
-        → U.spent usage.new ≤ U.spent usage.old + (twigs_on_path key.now t + 3) }
+    requires asks { Asked (C.has cells.old) ((U.account usage.old).used) ((U.account usage.old).live) 0 first.place key.now first.position node leaf }
+    requires ready { Ready (C.kept cells.old) (C.given cells.old) ((U.account usage.old).given) ((U.account usage.old).used) ((U.account usage.old).mutable) }
+    ensures grew { IfOk result (λ root. (t : Tree) (e : Entry) → Asks (C.has cells.old) ((U.account usage.old).used) ((U.account usage.old).live) 0 first.place key.now first.position node leaf t e
+        → RootGrew (C.has cells.new) ((U.account usage.old).used) ((U.account usage.new).used) ((U.account usage.old).live) ((U.account usage.new).live) leaf t e root) }
+    ensures unchanged { IfErr result (λ _. (k : ℕ) → (U.account usage.new).live k ≡ (U.account usage.old).live k) }
+    ensures spends { (t : Tree) (e : Entry) → Asks (C.has cells.old) ((U.account usage.old).used) ((U.account usage.old).live) 0 first.place key.now first.position node leaf t e
+        → (U.account usage.new).spent ≤ (U.account usage.old).spent + (twigs_on_path key.now t + 3) }
     ensures full { IfErr result (λ f. U.lacks usage.new f) }
-    ensures frozen { U.frozen usage.new ≡ U.frozen usage.old }
-    ensures frame { Frame (C.has cells.old) (C.has cells.new) (C.kept cells.old) (C.kept cells.new) (C.given cells.old) (C.given cells.new) (U.used usage.old) (U.used usage.new) (U.fresh usage.old) (U.fresh usage.new) }
-    ensures ready { Ready (C.kept cells.new) (C.given cells.new) (U.given usage.new) (U.used usage.new) (U.fresh usage.new) }
+    ensures frozen { (U.account usage.new).frozen ≡ (U.account usage.old).frozen }
+    ensures frame { Frame (C.has cells.old) (C.has cells.new) (C.kept cells.old) (C.kept cells.new) (C.given cells.old) (C.given cells.new) ((U.account usage.old).used) ((U.account usage.new).used) ((U.account usage.old).mutable) ((U.account usage.new).mutable) }
+    ensures ready { Ready (C.kept cells.new) (C.given cells.new) ((U.account usage.new).given) ((U.account usage.new).used) ((U.account usage.new).mutable) }
 {
     let root = room(cells, usage, 1)?;
     match grow(cells, usage, 0, key, first, node, leaf) {
@@ -229,22 +229,22 @@ fn grow_at<C: CellWrite, U: Space>(
     node: Cell,
     leaf: Leaf,
 ) -> Result<(), Full>
-    requires asks { AskedAt (C.has cells.old) (U.used usage.old) (U.live usage.old) low first.place key.now first.position seat node leaf }
-    requires fresh { U.fresh usage.old seat ≡ true }
+    requires asks { AskedAt (C.has cells.old) ((U.account usage.old).used) ((U.account usage.old).live) low first.place key.now first.position seat node leaf }
+    requires fresh { (U.account usage.old).mutable seat ≡ true }
     requires given { IsGiven (C.given cells.old) (seat / 1024) }
-    requires ready { Ready (C.kept cells.old) (C.given cells.old) (U.given usage.old) (U.used usage.old) (U.fresh usage.old) }
-    ensures grew { IfOk result (λ _. (t : Tree) (e : Entry) → AsksAt (C.has cells.old) (U.used usage.old) (U.live usage.old) low first.place key.now first.position seat node leaf t e
-        → GrewAt (C.has cells.new) (U.used usage.old) (U.used usage.new) (U.live usage.old) (U.live usage.new) low leaf t e seat) }
-    ensures outside { (t : Tree) (e : Entry) → AsksAt (C.has cells.old) (U.used usage.old) (U.live usage.old) low first.place key.now first.position seat node leaf t e
-        → (q : ℕ) (c : Cell) → U.used usage.old q ≡ true → IsOutside seat t q → C.has cells.old q c → C.has cells.new q c }
-    ensures untouched { IfErr result (λ _. (q : ℕ) (c : Cell) → U.used usage.old q ≡ true → C.has cells.old q c → C.has cells.new q c) }
-    ensures unchanged { IfErr result (λ _. (k : ℕ) → U.live usage.new k ≡ U.live usage.old k) }
-    ensures spends { (t : Tree) (e : Entry) → AsksAt (C.has cells.old) (U.used usage.old) (U.live usage.old) low first.place key.now first.position seat node leaf t e
-        → U.spent usage.new ≤ U.spent usage.old + (twigs_on_path key.now t + 2) }
+    requires ready { Ready (C.kept cells.old) (C.given cells.old) ((U.account usage.old).given) ((U.account usage.old).used) ((U.account usage.old).mutable) }
+    ensures grew { IfOk result (λ _. (t : Tree) (e : Entry) → AsksAt (C.has cells.old) ((U.account usage.old).used) ((U.account usage.old).live) low first.place key.now first.position seat node leaf t e
+        → GrewAt (C.has cells.new) ((U.account usage.old).used) ((U.account usage.new).used) ((U.account usage.old).live) ((U.account usage.new).live) low leaf t e seat) }
+    ensures outside { (t : Tree) (e : Entry) → AsksAt (C.has cells.old) ((U.account usage.old).used) ((U.account usage.old).live) low first.place key.now first.position seat node leaf t e
+        → (q : ℕ) (c : Cell) → (U.account usage.old).used q ≡ true → IsOutside seat t q → C.has cells.old q c → C.has cells.new q c }
+    ensures untouched { IfErr result (λ _. (q : ℕ) (c : Cell) → (U.account usage.old).used q ≡ true → C.has cells.old q c → C.has cells.new q c) }
+    ensures unchanged { IfErr result (λ _. (k : ℕ) → (U.account usage.new).live k ≡ (U.account usage.old).live k) }
+    ensures spends { (t : Tree) (e : Entry) → AsksAt (C.has cells.old) ((U.account usage.old).used) ((U.account usage.old).live) low first.place key.now first.position seat node leaf t e
+        → (U.account usage.new).spent ≤ (U.account usage.old).spent + (twigs_on_path key.now t + 2) }
     ensures full { IfErr result (λ f. U.lacks usage.new f) }
-    ensures frozen { U.frozen usage.new ≡ U.frozen usage.old }
-    ensures frame { Fenced (C.has cells.old) (C.has cells.new) (C.kept cells.old) (C.kept cells.new) (C.given cells.old) (C.given cells.new) (U.used usage.old) (U.used usage.new) (U.fresh usage.old) (U.fresh usage.new) }
-    ensures ready { Ready (C.kept cells.new) (C.given cells.new) (U.given usage.new) (U.used usage.new) (U.fresh usage.new) }
+    ensures frozen { (U.account usage.new).frozen ≡ (U.account usage.old).frozen }
+    ensures frame { Fenced (C.has cells.old) (C.has cells.new) (C.kept cells.old) (C.kept cells.new) (C.given cells.old) (C.given cells.new) ((U.account usage.old).used) ((U.account usage.new).used) ((U.account usage.old).mutable) ((U.account usage.new).mutable) }
+    ensures ready { Ready (C.kept cells.new) (C.given cells.new) ((U.account usage.new).given) ((U.account usage.new).used) ((U.account usage.new).mutable) }
 {
     match fresh_twig(usage, key, first.place, node) {
         Some(twig) => {
@@ -278,22 +278,22 @@ fn grow_top<C: CellWrite, U: Space>(
     node: Cell,
     leaf: Leaf,
 ) -> Result<Ref, Full>
-    requires asks { AskedAt (C.has cells.old) (U.used usage.old) (U.live usage.old) 0 first.place key.now first.position root node leaf }
-    requires ready { Ready (C.kept cells.old) (C.given cells.old) (U.given usage.old) (U.used usage.old) (U.fresh usage.old) }
-    ensures grew { IfOk result (λ new. (t : Tree) (e : Entry) → AsksAt (C.has cells.old) (U.used usage.old) (U.live usage.old) 0 first.place key.now first.position root node leaf t e
-        → TopGrew (C.has cells.new) (U.used usage.old) (U.used usage.new) (U.live usage.old) (U.live usage.new) leaf t e root new) }
-    ensures outside { (t : Tree) (e : Entry) → AsksAt (C.has cells.old) (U.used usage.old) (U.live usage.old) 0 first.place key.now first.position root node leaf t e
-        → (q : ℕ) (c : Cell) → U.used usage.old q ≡ true → IsOutside root t q → C.has cells.old q c → C.has cells.new q c }
-    ensures untouched { IfErr result (λ _. (q : ℕ) (c : Cell) → U.used usage.old q ≡ true → C.has cells.old q c → C.has cells.new q c) }
-    ensures unchanged { IfErr result (λ _. (k : ℕ) → U.live usage.new k ≡ U.live usage.old k) }
-    ensures spends { (t : Tree) (e : Entry) → AsksAt (C.has cells.old) (U.used usage.old) (U.live usage.old) 0 first.place key.now first.position root node leaf t e
-        → U.spent usage.new ≤ U.spent usage.old + (twigs_on_path key.now t + 3) }
+    requires asks { AskedAt (C.has cells.old) ((U.account usage.old).used) ((U.account usage.old).live) 0 first.place key.now first.position root node leaf }
+    requires ready { Ready (C.kept cells.old) (C.given cells.old) ((U.account usage.old).given) ((U.account usage.old).used) ((U.account usage.old).mutable) }
+    ensures grew { IfOk result (λ new. (t : Tree) (e : Entry) → AsksAt (C.has cells.old) ((U.account usage.old).used) ((U.account usage.old).live) 0 first.place key.now first.position root node leaf t e
+        → TopGrew (C.has cells.new) ((U.account usage.old).used) ((U.account usage.new).used) ((U.account usage.old).live) ((U.account usage.new).live) leaf t e root new) }
+    ensures outside { (t : Tree) (e : Entry) → AsksAt (C.has cells.old) ((U.account usage.old).used) ((U.account usage.old).live) 0 first.place key.now first.position root node leaf t e
+        → (q : ℕ) (c : Cell) → (U.account usage.old).used q ≡ true → IsOutside root t q → C.has cells.old q c → C.has cells.new q c }
+    ensures untouched { IfErr result (λ _. (q : ℕ) (c : Cell) → (U.account usage.old).used q ≡ true → C.has cells.old q c → C.has cells.new q c) }
+    ensures unchanged { IfErr result (λ _. (k : ℕ) → (U.account usage.new).live k ≡ (U.account usage.old).live k) }
+    ensures spends { (t : Tree) (e : Entry) → AsksAt (C.has cells.old) ((U.account usage.old).used) ((U.account usage.old).live) 0 first.place key.now first.position root node leaf t e
+        → (U.account usage.new).spent ≤ (U.account usage.old).spent + (twigs_on_path key.now t + 3) }
     ensures full { IfErr result (λ f. U.lacks usage.new f) }
-    ensures frozen { U.frozen usage.new ≡ U.frozen usage.old }
-    ensures frame { Fenced (C.has cells.old) (C.has cells.new) (C.kept cells.old) (C.kept cells.new) (C.given cells.old) (C.given cells.new) (U.used usage.old) (U.used usage.new) (U.fresh usage.old) (U.fresh usage.new) }
-    ensures ready { Ready (C.kept cells.new) (C.given cells.new) (U.given usage.new) (U.used usage.new) (U.fresh usage.new) }
+    ensures frozen { (U.account usage.new).frozen ≡ (U.account usage.old).frozen }
+    ensures frame { Fenced (C.has cells.old) (C.has cells.new) (C.kept cells.old) (C.kept cells.new) (C.given cells.old) (C.given cells.new) ((U.account usage.old).used) ((U.account usage.new).used) ((U.account usage.old).mutable) ((U.account usage.new).mutable) }
+    ensures ready { Ready (C.kept cells.new) (C.given cells.new) ((U.account usage.new).given) ((U.account usage.new).used) ((U.account usage.new).mutable) }
 {
-    if usage.is_fresh(root) {
+    if usage.is_mutable(root) {
         grow_at(cells, usage, 0, key, first, root, node, leaf)?;
         return Ok(root);
     }
@@ -310,15 +310,15 @@ fn insert_first<C: CellWrite, U: Space>(
 ) -> Result<Ref, Full>
     requires some { 0 < length item.now }
     requires short { length item.now ≤ 4096 }
-    requires uncounted { (k : ℕ) → U.live usage.old k ≡ 0 }
-    requires ready { Ready (C.kept cells.old) (C.given cells.old) (U.given usage.old) (U.used usage.old) (U.fresh usage.old) }
-    ensures stands { IfOk result (λ root. (e : Entry) → IsEntry e → e.item ≡ item.now → Standing (C.has cells.new) (U.used usage.new) (U.live usage.new) (Some root) (e ∷ [])) }
-    ensures unchanged { IfErr result (λ _. (k : ℕ) → U.live usage.new k ≡ U.live usage.old k) }
-    ensures spends { U.spent usage.new ≤ U.spent usage.old + (cells_in item.now + 1) }
+    requires uncounted { (k : ℕ) → (U.account usage.old).live k ≡ 0 }
+    requires ready { Ready (C.kept cells.old) (C.given cells.old) ((U.account usage.old).given) ((U.account usage.old).used) ((U.account usage.old).mutable) }
+    ensures stands { IfOk result (λ root. (e : Entry) → IsEntry e → e.item ≡ item.now → Standing (C.has cells.new) ((U.account usage.new).used) ((U.account usage.new).live) (Some root) (e ∷ [])) }
+    ensures unchanged { IfErr result (λ _. (k : ℕ) → (U.account usage.new).live k ≡ (U.account usage.old).live k) }
+    ensures spends { (U.account usage.new).spent ≤ (U.account usage.old).spent + (cells_in item.now + 1) }
     ensures full { IfErr result (λ f. U.lacks usage.new f) }
-    ensures frozen { U.frozen usage.new ≡ U.frozen usage.old }
-    ensures frame { Frame (C.has cells.old) (C.has cells.new) (C.kept cells.old) (C.kept cells.new) (C.given cells.old) (C.given cells.new) (U.used usage.old) (U.used usage.new) (U.fresh usage.old) (U.fresh usage.new) }
-    ensures ready { Ready (C.kept cells.new) (C.given cells.new) (U.given usage.new) (U.used usage.new) (U.fresh usage.new) }
+    ensures frozen { (U.account usage.new).frozen ≡ (U.account usage.old).frozen }
+    ensures frame { Frame (C.has cells.old) (C.has cells.new) (C.kept cells.old) (C.kept cells.new) (C.given cells.old) (C.given cells.new) ((U.account usage.old).used) ((U.account usage.new).used) ((U.account usage.old).mutable) ((U.account usage.new).mutable) }
+    ensures ready { Ready (C.kept cells.new) (C.given cells.new) ((U.account usage.new).given) ((U.account usage.new).used) ((U.account usage.new).mutable) }
 {
     let leaf = place_item(cells, usage, item)?;
     match place_row(cells, usage, &[Node::Leaf(leaf).pack()]) {
@@ -342,20 +342,20 @@ fn insert_further<C: CellWrite, U: Space>(
 ) -> Result<Ref, Full>
     requires some { 0 < length item.now }
     requires short { length item.now ≤ 4096 }
-    requires asks { (e : Entry) × AskedTop (C.has cells.old) (U.used usage.old) (U.live usage.old) root key.now item.now first node e }
-    requires ready { Ready (C.kept cells.old) (C.given cells.old) (U.given usage.old) (U.used usage.old) (U.fresh usage.old) }
-    ensures stands { IfOk result (λ new. (e : Entry) (t : Tree) (version : List Entry) → AsksTop (C.has cells.old) (U.used usage.old) (U.live usage.old) root key.now item.now first node e t version
-        → (next : List Entry) × Inserted e version next × Standing (C.has cells.new) (U.used usage.new) (U.live usage.new) (Some new) next) }
-    ensures outside { (e : Entry) (t : Tree) (version : List Entry) → AsksTop (C.has cells.old) (U.used usage.old) (U.live usage.old) root key.now item.now first node e t version
-        → (q : ℕ) (c : Cell) → U.used usage.old q ≡ true → IsOutside root t q → C.has cells.old q c → C.has cells.new q c }
-    ensures untouched { IfErr result (λ _. (q : ℕ) (c : Cell) → U.used usage.old q ≡ true → C.has cells.old q c → C.has cells.new q c) }
-    ensures unchanged { IfErr result (λ _. (k : ℕ) → U.live usage.new k ≡ U.live usage.old k) }
-    ensures spends { (e : Entry) (t : Tree) (version : List Entry) → AsksTop (C.has cells.old) (U.used usage.old) (U.live usage.old) root key.now item.now first node e t version
-        → U.spent usage.new ≤ U.spent usage.old + (3 + cells_in item.now + twigs_on_path key.now t) }
+    requires asks { (e : Entry) × AskedTop (C.has cells.old) ((U.account usage.old).used) ((U.account usage.old).live) root key.now item.now first node e }
+    requires ready { Ready (C.kept cells.old) (C.given cells.old) ((U.account usage.old).given) ((U.account usage.old).used) ((U.account usage.old).mutable) }
+    ensures stands { IfOk result (λ new. (e : Entry) (t : Tree) (version : List Entry) → AsksTop (C.has cells.old) ((U.account usage.old).used) ((U.account usage.old).live) root key.now item.now first node e t version
+        → (next : List Entry) × Inserted e version next × Standing (C.has cells.new) ((U.account usage.new).used) ((U.account usage.new).live) (Some new) next) }
+    ensures outside { (e : Entry) (t : Tree) (version : List Entry) → AsksTop (C.has cells.old) ((U.account usage.old).used) ((U.account usage.old).live) root key.now item.now first node e t version
+        → (q : ℕ) (c : Cell) → (U.account usage.old).used q ≡ true → IsOutside root t q → C.has cells.old q c → C.has cells.new q c }
+    ensures untouched { IfErr result (λ _. (q : ℕ) (c : Cell) → (U.account usage.old).used q ≡ true → C.has cells.old q c → C.has cells.new q c) }
+    ensures unchanged { IfErr result (λ _. (k : ℕ) → (U.account usage.new).live k ≡ (U.account usage.old).live k) }
+    ensures spends { (e : Entry) (t : Tree) (version : List Entry) → AsksTop (C.has cells.old) ((U.account usage.old).used) ((U.account usage.old).live) root key.now item.now first node e t version
+        → (U.account usage.new).spent ≤ (U.account usage.old).spent + (3 + cells_in item.now + twigs_on_path key.now t) }
     ensures full { IfErr result (λ f. U.lacks usage.new f) }
-    ensures frozen { U.frozen usage.new ≡ U.frozen usage.old }
-    ensures frame { Fenced (C.has cells.old) (C.has cells.new) (C.kept cells.old) (C.kept cells.new) (C.given cells.old) (C.given cells.new) (U.used usage.old) (U.used usage.new) (U.fresh usage.old) (U.fresh usage.new) }
-    ensures ready { Ready (C.kept cells.new) (C.given cells.new) (U.given usage.new) (U.used usage.new) (U.fresh usage.new) }
+    ensures frozen { (U.account usage.new).frozen ≡ (U.account usage.old).frozen }
+    ensures frame { Fenced (C.has cells.old) (C.has cells.new) (C.kept cells.old) (C.kept cells.new) (C.given cells.old) (C.given cells.new) ((U.account usage.old).used) ((U.account usage.new).used) ((U.account usage.old).mutable) ((U.account usage.new).mutable) }
+    ensures ready { Ready (C.kept cells.new) (C.given cells.new) ((U.account usage.new).given) ((U.account usage.new).used) ((U.account usage.new).mutable) }
 {
     let leaf = place_item(cells, usage, item)?;
     match grow_top(cells, usage, root, key, first, node, leaf) {
@@ -385,23 +385,23 @@ pub fn insert<C: CellWrite, U: Space>(
     key: &Key,
     item: &[u8],
 ) -> Result<Option<Ref>, InsertRefusal>
-    requires stands { (version : List Entry) × Standing (C.has cells.old) (U.used usage.old) (U.live usage.old) root version × EachTells Leads version }
+    requires stands { (version : List Entry) × Standing (C.has cells.old) ((U.account usage.old).used) ((U.account usage.old).live) root version × EachTells Leads version }
     requires leads { Leads key.now item.now }
-    requires ready { Ready (C.kept cells.old) (C.given cells.old) (U.given usage.old) (U.used usage.old) (U.fresh usage.old) }
-    ensures inserted { IfOk result (λ new. (version : List Entry) → Standing (C.has cells.old) (U.used usage.old) (U.live usage.old) root version → EachTells Leads version
-        → (next : List Entry) × Inserted (record { key = key.now; item = item.now }) version next × Standing (C.has cells.new) (U.used usage.new) (U.live usage.new) new next) }
-    ensures exists { (version : List Entry) → Standing (C.has cells.old) (U.used usage.old) (U.live usage.old) root version → EachTells Leads version
+    requires ready { Ready (C.kept cells.old) (C.given cells.old) ((U.account usage.old).given) ((U.account usage.old).used) ((U.account usage.old).mutable) }
+    ensures inserted { IfOk result (λ new. (version : List Entry) → Standing (C.has cells.old) ((U.account usage.old).used) ((U.account usage.old).live) root version → EachTells Leads version
+        → (next : List Entry) × Inserted (record { key = key.now; item = item.now }) version next × Standing (C.has cells.new) ((U.account usage.new).used) ((U.account usage.new).live) new next) }
+    ensures exists { (version : List Entry) → Standing (C.has cells.old) ((U.account usage.old).used) ((U.account usage.old).live) root version → EachTells Leads version
         → (result ≡ Err InsertRefusal.Exists) ↔ ((x : Entry) × InList x version × (x.key ≡ key.now)) }
-    ensures refused { IfErr result (λ _. (version : List Entry) → Standing (C.has cells.old) (U.used usage.old) (U.live usage.old) root version
-        → Standing (C.has cells.new) (U.used usage.new) (U.live usage.new) root version) }
-    ensures outside { (q : ℕ) (c : Cell) → U.used usage.old q ≡ true → Unreached (C.has cells.old) (U.used usage.old) (U.live usage.old) root q → C.has cells.old q c → C.has cells.new q c }
-    ensures untouched { IfErr result (λ _. (q : ℕ) (c : Cell) → U.used usage.old q ≡ true → C.has cells.old q c → C.has cells.new q c) }
-    ensures unchanged { IfErr result (λ _. (k : ℕ) → U.live usage.new k ≡ U.live usage.old k) }
+    ensures refused { IfErr result (λ _. (version : List Entry) → Standing (C.has cells.old) ((U.account usage.old).used) ((U.account usage.old).live) root version
+        → Standing (C.has cells.new) ((U.account usage.new).used) ((U.account usage.new).live) root version) }
+    ensures outside { (q : ℕ) (c : Cell) → (U.account usage.old).used q ≡ true → Unreached (C.has cells.old) ((U.account usage.old).used) ((U.account usage.old).live) root q → C.has cells.old q c → C.has cells.new q c }
+    ensures untouched { IfErr result (λ _. (q : ℕ) (c : Cell) → (U.account usage.old).used q ≡ true → C.has cells.old q c → C.has cells.new q c) }
+    ensures unchanged { IfErr result (λ _. (k : ℕ) → (U.account usage.new).live k ≡ (U.account usage.old).live k) }
     ensures full { (f : _) → result ≡ Err (InsertRefusal.Full f) → U.lacks usage.new f }
-    ensures spends { (n : ℕ) → OnPath (C.has cells.old) (U.used usage.old) (U.live usage.old) root key.now n → U.spent usage.new ≤ U.spent usage.old + (3 + cells_in item.now + n) }
-    ensures frozen { U.frozen usage.new ≡ U.frozen usage.old }
-    ensures frame { Fenced (C.has cells.old) (C.has cells.new) (C.kept cells.old) (C.kept cells.new) (C.given cells.old) (C.given cells.new) (U.used usage.old) (U.used usage.new) (U.fresh usage.old) (U.fresh usage.new) }
-    ensures ready { Ready (C.kept cells.new) (C.given cells.new) (U.given usage.new) (U.used usage.new) (U.fresh usage.new) }
+    ensures spends { (n : ℕ) → OnPath (C.has cells.old) ((U.account usage.old).used) ((U.account usage.old).live) root key.now n → (U.account usage.new).spent ≤ (U.account usage.old).spent + (3 + cells_in item.now + n) }
+    ensures frozen { (U.account usage.new).frozen ≡ (U.account usage.old).frozen }
+    ensures frame { Fenced (C.has cells.old) (C.has cells.new) (C.kept cells.old) (C.kept cells.new) (C.given cells.old) (C.given cells.new) ((U.account usage.old).used) ((U.account usage.new).used) ((U.account usage.old).mutable) ((U.account usage.new).mutable) }
+    ensures ready { Ready (C.kept cells.new) (C.given cells.new) ((U.account usage.new).given) ((U.account usage.new).used) ((U.account usage.new).mutable) }
 {
     match root {
         None => match insert_first(cells, usage, item) {

@@ -53,19 +53,19 @@ pub fn put_branch<C: CellWrite, U: Space>(
     requires there { (i : ℕ) → i < count_ones branch.bitmap → (c : Cell) × C.has cells.old (branch.twigs + i) c }
     requires given { IsGiven (C.given cells.old) (to / 1024) }
     requires unkept { (i : ℕ) → i < count_ones branch.bitmap → ¬ Contains (C.kept cells.old) (to + i) }
-    requires counted { (k : ℕ) → row_of (in_chunk k) branch.twigs (count_ones branch.bitmap) ≤ U.live usage.old k }
+    requires counted { (k : ℕ) → row_of (in_chunk k) branch.twigs (count_ones branch.bitmap) ≤ (U.account usage.old).live k }
     ensures cell { result ≡ branch_cell (record branch { twigs = to }) }
     ensures written { (cs ds : List Cell) → length cs ≡ index → index + 1 + length ds ≡ count_ones branch.bitmap → RowLies (C.has cells.old) branch.twigs cs
         → RowLies (C.has cells.old) (branch.twigs + index + 1) ds → RowLies (C.has cells.new) to (cs ++ (twig ∷ ds)) }
     ensures others { (q : ℕ) (c : Cell) → ((i : ℕ) → i < count_ones branch.bitmap → q ≢ to + i) → C.has cells.old q c → C.has cells.new q c }
     ensures given { C.given cells.new ≡ C.given cells.old }
     ensures kept { C.kept cells.new ≡ C.kept cells.old }
-    ensures counts { (k : ℕ) → U.live usage.new k + row_of (in_chunk k) branch.twigs (count_ones branch.bitmap) ≡ U.live usage.old k }
-    ensures used { (q : ℕ) → U.used usage.new q ≡ U.used usage.old q }
-    ensures fresh { (q : ℕ) → U.fresh usage.new q ≡ U.fresh usage.old q }
-    ensures space { U.given usage.new ≡ U.given usage.old }
-    ensures spent { U.spent usage.new ≡ U.spent usage.old }
-    ensures frozen { U.frozen usage.new ≡ U.frozen usage.old }
+    ensures counts { (k : ℕ) → (U.account usage.new).live k + row_of (in_chunk k) branch.twigs (count_ones branch.bitmap) ≡ (U.account usage.old).live k }
+    ensures used { (q : ℕ) → (U.account usage.new).used q ≡ (U.account usage.old).used q }
+    ensures fresh { (q : ℕ) → (U.account usage.new).mutable q ≡ (U.account usage.old).mutable q }
+    ensures space { (U.account usage.new).given ≡ (U.account usage.old).given }
+    ensures spent { (U.account usage.new).spent ≡ (U.account usage.old).spent }
+    ensures frozen { (U.account usage.new).frozen ≡ (U.account usage.old).frozen }
 {
     let n = branch.twig_count();
     copy_with(cells, branch.twigs, to, n, index, twig);

@@ -18,16 +18,16 @@ use packed_node::{Cell, Leaf, Ref};
 pub fn room<C: CellWrite, U: Space>(cells: &mut C, usage: &mut U, n: u32) -> Result<Ref, Full>
     requires some { 0 < n }
     requires few { n ≤ 256 }
-    requires ready { Ready (C.kept cells.old) (C.given cells.old) (U.given usage.old) (U.used usage.old) (U.fresh usage.old) }
-    ensures room { IfOk result (λ at. Room (U.used usage.old) (U.used usage.new) (U.fresh usage.new) (C.given cells.new) at n) }
+    requires ready { Ready (C.kept cells.old) (C.given cells.old) ((U.account usage.old).given) ((U.account usage.old).used) ((U.account usage.old).mutable) }
+    ensures room { IfOk result (λ at. Room ((U.account usage.old).used) ((U.account usage.new).used) ((U.account usage.new).mutable) (C.given cells.new) at n) }
     ensures all { (q : ℕ) (c : Cell) → C.has cells.old q c → C.has cells.new q c }
-    ensures counts { IfOk result (λ at. (k : ℕ) → U.live usage.new k ≡ U.live usage.old k + row_of (in_chunk k) at n) }
-    ensures unchanged { IfErr result (λ _. (k : ℕ) → U.live usage.new k ≡ U.live usage.old k) }
-    ensures spends { U.spent usage.new ≤ U.spent usage.old + n }
+    ensures counts { IfOk result (λ at. (k : ℕ) → (U.account usage.new).live k ≡ (U.account usage.old).live k + row_of (in_chunk k) at n) }
+    ensures unchanged { IfErr result (λ _. (k : ℕ) → (U.account usage.new).live k ≡ (U.account usage.old).live k) }
+    ensures spends { (U.account usage.new).spent ≤ (U.account usage.old).spent + n }
     ensures full { IfErr result (λ f. U.lacks usage.new f) }
-    ensures frozen { U.frozen usage.new ≡ U.frozen usage.old }
-    ensures frame { Frame (C.has cells.old) (C.has cells.new) (C.kept cells.old) (C.kept cells.new) (C.given cells.old) (C.given cells.new) (U.used usage.old) (U.used usage.new) (U.fresh usage.old) (U.fresh usage.new) }
-    ensures ready { Ready (C.kept cells.new) (C.given cells.new) (U.given usage.new) (U.used usage.new) (U.fresh usage.new) }
+    ensures frozen { (U.account usage.new).frozen ≡ (U.account usage.old).frozen }
+    ensures frame { Frame (C.has cells.old) (C.has cells.new) (C.kept cells.old) (C.kept cells.new) (C.given cells.old) (C.given cells.new) ((U.account usage.old).used) ((U.account usage.new).used) ((U.account usage.old).mutable) ((U.account usage.new).mutable) }
+    ensures ready { Ready (C.kept cells.new) (C.given cells.new) ((U.account usage.new).given) ((U.account usage.new).used) ((U.account usage.new).mutable) }
 {
     let grant = usage.alloc(n)?;
     if let Some(chunk) = grant.given {
@@ -60,16 +60,16 @@ pub fn place_row<C: CellWrite, U: Space>(
 ) -> Result<Ref, Full>
     requires some { 0 < length row.now }
     requires few { length row.now ≤ 256 }
-    requires ready { Ready (C.kept cells.old) (C.given cells.old) (U.given usage.old) (U.used usage.old) (U.fresh usage.old) }
-    ensures room { IfOk result (λ at. Room (U.used usage.old) (U.used usage.new) (U.fresh usage.new) (C.given cells.new) at (length row.now)) }
+    requires ready { Ready (C.kept cells.old) (C.given cells.old) ((U.account usage.old).given) ((U.account usage.old).used) ((U.account usage.old).mutable) }
+    ensures room { IfOk result (λ at. Room ((U.account usage.old).used) ((U.account usage.new).used) ((U.account usage.new).mutable) (C.given cells.new) at (length row.now)) }
     ensures written { IfOk result (λ at. (i : ℕ) (c : Cell) → slice_get row.now i ≡ Some c → C.has cells.new (at + i) c) }
-    ensures counts { IfOk result (λ at. (k : ℕ) → U.live usage.new k ≡ U.live usage.old k + row_of (in_chunk k) at (length row.now)) }
-    ensures unchanged { IfErr result (λ _. (k : ℕ) → U.live usage.new k ≡ U.live usage.old k) }
-    ensures spends { U.spent usage.new ≤ U.spent usage.old + length row.now }
+    ensures counts { IfOk result (λ at. (k : ℕ) → (U.account usage.new).live k ≡ (U.account usage.old).live k + row_of (in_chunk k) at (length row.now)) }
+    ensures unchanged { IfErr result (λ _. (k : ℕ) → (U.account usage.new).live k ≡ (U.account usage.old).live k) }
+    ensures spends { (U.account usage.new).spent ≤ (U.account usage.old).spent + length row.now }
     ensures full { IfErr result (λ f. U.lacks usage.new f) }
-    ensures frozen { U.frozen usage.new ≡ U.frozen usage.old }
-    ensures frame { Frame (C.has cells.old) (C.has cells.new) (C.kept cells.old) (C.kept cells.new) (C.given cells.old) (C.given cells.new) (U.used usage.old) (U.used usage.new) (U.fresh usage.old) (U.fresh usage.new) }
-    ensures ready { Ready (C.kept cells.new) (C.given cells.new) (U.given usage.new) (U.used usage.new) (U.fresh usage.new) }
+    ensures frozen { (U.account usage.new).frozen ≡ (U.account usage.old).frozen }
+    ensures frame { Frame (C.has cells.old) (C.has cells.new) (C.kept cells.old) (C.kept cells.new) (C.given cells.old) (C.given cells.new) ((U.account usage.old).used) ((U.account usage.new).used) ((U.account usage.old).mutable) ((U.account usage.new).mutable) }
+    ensures ready { Ready (C.kept cells.new) (C.given cells.new) ((U.account usage.new).given) ((U.account usage.new).used) ((U.account usage.new).mutable) }
 {
     let at = room(cells, usage, row.len() as u32)?;
     put_row(cells, at, row);
@@ -84,17 +84,17 @@ pub fn place_item<C: CellWrite, U: Space>(
 ) -> Result<Leaf, Full>
     requires some { 0 < length item.now }
     requires short { length item.now ≤ 4096 }
-    requires ready { Ready (C.kept cells.old) (C.given cells.old) (U.given usage.old) (U.used usage.old) (U.fresh usage.old) }
+    requires ready { Ready (C.kept cells.old) (C.given cells.old) ((U.account usage.old).given) ((U.account usage.old).used) ((U.account usage.old).mutable) }
     ensures len { IfOk result (λ leaf. leaf.len ≡ length item.now) }
-    ensures room { IfOk result (λ leaf. Room (U.used usage.old) (U.used usage.new) (U.fresh usage.new) (C.given cells.new) leaf.at (cells_in item.now)) }
+    ensures room { IfOk result (λ leaf. Room ((U.account usage.old).used) ((U.account usage.new).used) ((U.account usage.new).mutable) (C.given cells.new) leaf.at (cells_in item.now)) }
     ensures lies { IfOk result (λ leaf. ItemLies (C.has cells.new) leaf.at item.now) }
-    ensures counts { IfOk result (λ leaf. (k : ℕ) → U.live usage.new k ≡ U.live usage.old k + row_of (in_chunk k) leaf.at (cells_in item.now)) }
-    ensures unchanged { IfErr result (λ _. (k : ℕ) → U.live usage.new k ≡ U.live usage.old k) }
-    ensures spends { U.spent usage.new ≤ U.spent usage.old + cells_in item.now }
+    ensures counts { IfOk result (λ leaf. (k : ℕ) → (U.account usage.new).live k ≡ (U.account usage.old).live k + row_of (in_chunk k) leaf.at (cells_in item.now)) }
+    ensures unchanged { IfErr result (λ _. (k : ℕ) → (U.account usage.new).live k ≡ (U.account usage.old).live k) }
+    ensures spends { (U.account usage.new).spent ≤ (U.account usage.old).spent + cells_in item.now }
     ensures full { IfErr result (λ f. U.lacks usage.new f) }
-    ensures frozen { U.frozen usage.new ≡ U.frozen usage.old }
-    ensures frame { Frame (C.has cells.old) (C.has cells.new) (C.kept cells.old) (C.kept cells.new) (C.given cells.old) (C.given cells.new) (U.used usage.old) (U.used usage.new) (U.fresh usage.old) (U.fresh usage.new) }
-    ensures ready { Ready (C.kept cells.new) (C.given cells.new) (U.given usage.new) (U.used usage.new) (U.fresh usage.new) }
+    ensures frozen { (U.account usage.new).frozen ≡ (U.account usage.old).frozen }
+    ensures frame { Frame (C.has cells.old) (C.has cells.new) (C.kept cells.old) (C.kept cells.new) (C.given cells.old) (C.given cells.new) ((U.account usage.old).used) ((U.account usage.new).used) ((U.account usage.old).mutable) ((U.account usage.new).mutable) }
+    ensures ready { Ready (C.kept cells.new) (C.given cells.new) ((U.account usage.new).given) ((U.account usage.new).used) ((U.account usage.new).mutable) }
 {
     let len = item.len() as u16;
     let at = room(cells, usage, cells_for(len))?;
@@ -104,14 +104,14 @@ pub fn place_item<C: CellWrite, U: Space>(
 
 /// The cells of a leaf's item count no more.
 pub fn release_item<U: Space>(usage: &mut U, leaf: Leaf)
-    requires counted { (k : ℕ) → row_of (in_chunk k) leaf.at ((leaf.len + 15) / 16) ≤ U.live usage.old k }
+    requires counted { (k : ℕ) → row_of (in_chunk k) leaf.at ((leaf.len + 15) / 16) ≤ (U.account usage.old).live k }
     requires row { IsRow leaf.at ((leaf.len + 15) / 16) }
-    ensures counts { (k : ℕ) → U.live usage.new k + row_of (in_chunk k) leaf.at ((leaf.len + 15) / 16) ≡ U.live usage.old k }
-    ensures used { (q : ℕ) → U.used usage.new q ≡ U.used usage.old q }
-    ensures fresh { (q : ℕ) → U.fresh usage.new q ≡ U.fresh usage.old q }
-    ensures given { U.given usage.new ≡ U.given usage.old }
-    ensures spent { U.spent usage.new ≡ U.spent usage.old }
-    ensures frozen { U.frozen usage.new ≡ U.frozen usage.old }
+    ensures counts { (k : ℕ) → (U.account usage.new).live k + row_of (in_chunk k) leaf.at ((leaf.len + 15) / 16) ≡ (U.account usage.old).live k }
+    ensures used { (q : ℕ) → (U.account usage.new).used q ≡ (U.account usage.old).used q }
+    ensures fresh { (q : ℕ) → (U.account usage.new).mutable q ≡ (U.account usage.old).mutable q }
+    ensures given { (U.account usage.new).given ≡ (U.account usage.old).given }
+    ensures spent { (U.account usage.new).spent ≡ (U.account usage.old).spent }
+    ensures frozen { (U.account usage.new).frozen ≡ (U.account usage.old).frozen }
     ensures lacks { (f : _) → U.lacks usage.old f → U.lacks usage.new f }
 {
     usage.release(leaf.at, cells_for(leaf.len));

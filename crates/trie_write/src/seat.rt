@@ -28,12 +28,12 @@ pub fn fresh_twig<U: Space>(usage: &U, key: &Key, place: u16, node: Cell) -> Opt
     ensures above { IfSome result (λ twig. twig.branch.offset < place) }
     ensures branch { IfSome result (λ twig. (low : ℕ) (t : Tree) → IsTree low t → node ≡ top_cell t → IsBranchTop t twig.branch) }
     ensures at { IfSome result (λ twig. twig.at ≡ twig.branch.twigs + count_ones (twig.branch.bitmap % 2 ^ at key.now twig.branch.offset)) }
-    ensures fresh { IfSome result (λ twig. U.fresh usage.now twig.at ≡ true) }
-    ensures given { IfSome result (λ twig. U.used usage.now twig.at ≡ true → IsGiven (U.given usage.now) (twig.at / 1024)) }
+    ensures fresh { IfSome result (λ twig. (U.account usage.now).mutable twig.at ≡ true) }
+    ensures given { IfSome result (λ twig. (U.account usage.now).used twig.at ≡ true → IsGiven ((U.account usage.now).given) (twig.at / 1024)) }
 {
     let branch = branch_above(node, place)?;
     let at = branch.twigs + branch.twig_index(key.at(branch.offset));
-    if usage.is_fresh(at) {
+    if usage.is_mutable(at) {
         return Some(KeyTwig { branch, at });
     }
     None
@@ -42,11 +42,11 @@ pub fn fresh_twig<U: Space>(usage: &U, key: &Key, place: u16, node: Cell) -> Opt
 /// The branch that a tree's top cell says, where the cell may be written.
 pub fn fresh_branch<U: Space>(usage: &U, at: Ref, node: Cell) -> Option<Branch>
     ensures branch { IfSome result (λ branch. (low : ℕ) (t : Tree) → IsTree low t → node ≡ top_cell t → IsBranchTop t branch) }
-    ensures fresh { IfSome result (λ _. U.fresh usage.now at ≡ true) }
-    ensures given { IfSome result (λ _. U.used usage.now at ≡ true → IsGiven (U.given usage.now) (at / 1024)) }
+    ensures fresh { IfSome result (λ _. (U.account usage.now).mutable at ≡ true) }
+    ensures given { IfSome result (λ _. (U.account usage.now).used at ≡ true → IsGiven ((U.account usage.now).given) (at / 1024)) }
 {
     match top_of(node) {
-        Ok(branch) if usage.is_fresh(at) => Some(branch),
+        Ok(branch) if usage.is_mutable(at) => Some(branch),
         _ => None,
     }
 }

@@ -38,10 +38,10 @@ fn put<C: CellWrite, U: Space>(
     root: Option<Ref>,
     item: &Item,
 ) -> Result<Option<Ref>, InsertRefusal>
-    requires stands { (version : List Entry) × Standing (C.has cells.old) (U.used usage.old) (U.live usage.old) root version × EachTells Leads version }
-    requires ready { Ready (C.kept cells.old) (C.given cells.old) (U.given usage.old) (U.used usage.old) (U.fresh usage.old) }
-    ensures stands { IfOk result (λ new. (version : List Entry) × Standing (C.has cells.new) (U.used usage.new) (U.live usage.new) new version × EachTells Leads version) }
-    ensures ready { Ready (C.kept cells.new) (C.given cells.new) (U.given usage.new) (U.used usage.new) (U.fresh usage.new) }
+    requires stands { (version : List Entry) × Standing (C.has cells.old) ((U.account usage.old).used) ((U.account usage.old).live) root version × EachTells Leads version }
+    requires ready { Ready (C.kept cells.old) (C.given cells.old) ((U.account usage.old).given) ((U.account usage.old).used) ((U.account usage.old).mutable) }
+    ensures stands { IfOk result (λ new. (version : List Entry) × Standing (C.has cells.new) ((U.account usage.new).used) ((U.account usage.new).live) new version × EachTells Leads version) }
+    ensures ready { Ready (C.kept cells.new) (C.given cells.new) ((U.account usage.new).given) ((U.account usage.new).used) ((U.account usage.new).mutable) }
 {
     insert(cells, usage, root, &item.key(), item.octets())
 }
@@ -54,8 +54,8 @@ fn sizes_with<C: CellWrite, U: Space>(
     item: &Item,
 ) -> Result<(u64, u64), InsertRefusal>
     requires rising { Rises (entries_of_items items.now) }
-    requires uncounted { (k : ℕ) → U.live usage.old k ≡ 0 }
-    requires ready { Ready (C.kept cells.old) (C.given cells.old) (U.given usage.old) (U.used usage.old) (U.fresh usage.old) }
+    requires uncounted { (k : ℕ) → (U.account usage.old).live k ≡ 0 }
+    requires ready { Ready (C.kept cells.old) (C.given cells.old) ((U.account usage.old).given) ((U.account usage.old).used) ((U.account usage.old).mutable) }
 {
     match build(cells, usage, items) {
         Err(full) => Err(InsertRefusal::Full(full)),

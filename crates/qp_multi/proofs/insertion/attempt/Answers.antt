@@ -40,3 +40,6 @@ returns-clause-stays c k given =
 
 pub returns-clause-path : goal.returns-clause-path
 returns-clause-path c = err_both c.insert-outcome.result (λ refusal stays live n on. path_later c.args.root c.args.key.now n on stays c.insert-outcome.ensures.frame.grows.stays live) c.insert-outcome.ensures.untouched c.insert-outcome.ensures.unchanged
+
+pub returns-clause-exists : goal.returns-clause-exists
+returns-clause-exists c base es works = c.insert-outcome.ensures.exists es works.working.stands works.working.tells

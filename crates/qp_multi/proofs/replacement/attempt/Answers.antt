@@ -38,3 +38,6 @@ returns-clause-stays c k given =
 
 pub returns-clause-path : goal.returns-clause-path
 returns-clause-path c = err_both c.replace-outcome.result (λ refusal stays live n on. path_later c.args.root c.args.key.now n on stays c.replace-outcome.ensures.frame.grows.stays live) c.replace-outcome.ensures.untouched c.replace-outcome.ensures.unchanged
+
+pub returns-clause-absent : goal.returns-clause-absent
+returns-clause-absent c base es works = c.replace-outcome.ensures.absent es works.working.stands works.working.tells

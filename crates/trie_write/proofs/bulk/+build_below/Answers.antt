@@ -18,14 +18,14 @@ pub loop-rest-init : goal.loop-rest-init
 loop-rest-init g t c =
     let b = branching c.args.items.now (let e = c.if-items-eq1.false in let s = c.requires.some in omega arith) c.requires.rising in
     let is = c.offset_of-offset.ensures b.offset b.at_place b.below b.tree b.holds in
-    let start : Made (g.C.CellRead.has c.args.cells.now) (g.U.Space.used c.args.usage.now) (g.U.Space.used c.args.usage.now) (g.U.Space.live c.args.usage.now) (g.U.Space.live c.args.usage.now) b.offset (entries_of_items c.args.items.now) (entries_of_items c.args.items.now) 0 [] 0 =
+    let start : Made (g.C.CellRead.has c.args.cells.now) ((g.U.Space.account c.args.usage.now).used) ((g.U.Space.account c.args.usage.now).used) ((g.U.Space.account c.args.usage.now).live) ((g.U.Space.account c.args.usage.now).live) b.offset (entries_of_items c.args.items.now) (entries_of_items c.args.items.now) 0 [] 0 =
     building.made_start b.offset b.at_place b.below (entries_of_items c.args.items.now) b.tree b.holds in
     record {
       making = record {
         done = 0;
         made =
-            subst (λ (cs : List Cell). Made (g.C.CellRead.has c.args.cells.now) (g.U.Space.used c.args.usage.now) (g.U.Space.used c.args.usage.now) (g.U.Space.live c.args.usage.now) (g.U.Space.live c.args.usage.now) c.offset_of-offset.result (entries_of_items c.args.items.now) (entries_of_items c.args.items.now) 0 cs 0) (sym c.new-row.ensures)
-            (subst (λ (o : ℕ). Made (g.C.CellRead.has c.args.cells.now) (g.U.Space.used c.args.usage.now) (g.U.Space.used c.args.usage.now) (g.U.Space.live c.args.usage.now) (g.U.Space.live c.args.usage.now) o (entries_of_items c.args.items.now) (entries_of_items c.args.items.now) 0 [] 0) (sym is) start);
+            subst (λ (cs : List Cell). Made (g.C.CellRead.has c.args.cells.now) ((g.U.Space.account c.args.usage.now).used) ((g.U.Space.account c.args.usage.now).used) ((g.U.Space.account c.args.usage.now).live) ((g.U.Space.account c.args.usage.now).live) c.offset_of-offset.result (entries_of_items c.args.items.now) (entries_of_items c.args.items.now) 0 cs 0) (sym c.new-row.ensures)
+            (subst (λ (o : ℕ). Made (g.C.CellRead.has c.args.cells.now) ((g.U.Space.account c.args.usage.now).used) ((g.U.Space.account c.args.usage.now).used) ((g.U.Space.account c.args.usage.now).live) ((g.U.Space.account c.args.usage.now).live) o (entries_of_items c.args.items.now) (entries_of_items c.args.items.now) 0 [] 0) (sym is) start);
         cost = (let row = ap (λ (xs : List Cell). length xs) c.new-row.ensures in omega arith);
       };
       frame = frame_refl {h = g.C.CellRead.has c.args.cells.now};
@@ -73,7 +73,7 @@ loop-rest-preserved g t c =
     ap entries_of_items c.split_at.ensures.front ∙ sym (take-map entry_of c.first_run-run.result.count c.loop-rest.rest.now) in
     let back : drop c.first_run-run.result.count (entries_of_items c.loop-rest.rest.now) ≡ entries_of_items c.split_at.result.1.now =
     drop-map entry_of c.first_run-run.result.count c.loop-rest.rest.now ∙ ap entries_of_items (sym c.split_at.ensures.back) in
-    let built = subst (λ (es : List Entry). Built (g.C.CellRead.has c.build_below.new.cells) (g.U.Space.used c.loop-rest.usage) (g.U.Space.used c.build_below.new.usage) (g.U.Space.live c.loop-rest.usage) (g.U.Space.live c.build_below.new.usage) es c.in_ok-cell.cell) front c.in_ok-cell.ensures.built in
+    let built = subst (λ (es : List Entry). Built (g.C.CellRead.has c.build_below.new.cells) ((g.U.Space.account c.loop-rest.usage).used) ((g.U.Space.account c.build_below.new.usage).used) ((g.U.Space.account c.loop-rest.usage).live) ((g.U.Space.account c.build_below.new.usage).live) es c.in_ok-cell.cell) front c.in_ok-cell.ensures.built in
     let next = building.made_step making.made c.first_run-run.ensures step built c.in_ok-cell.ensures.frame.stays c.in_ok-cell.ensures.frame.grows.stays in
     let size = ap cells front in
     let here = c.in_ok-cell.ensures.spends in
@@ -81,9 +81,9 @@ loop-rest-preserved g t c =
       making = record {
         done = making.done + cells (take c.first_run-run.result.count (entries_of_items c.loop-rest.rest.now));
         made =
-            subst (λ (cs : List Cell). Made (g.C.CellRead.has c.build_below.new.cells) (g.U.Space.used c.args.usage.now) (g.U.Space.used c.build_below.new.usage) (g.U.Space.live c.args.usage.now) (g.U.Space.live c.build_below.new.usage) c.offset_of-offset.result (entries_of_items c.args.items.now) (entries_of_items c.split_at.result.1.now) c.with-positions.result cs (making.done + cells (take c.first_run-run.result.count (entries_of_items c.loop-rest.rest.now)))) (sym c.push.ensures)
-            (subst (λ (b : ℕ). Made (g.C.CellRead.has c.build_below.new.cells) (g.U.Space.used c.args.usage.now) (g.U.Space.used c.build_below.new.usage) (g.U.Space.live c.args.usage.now) (g.U.Space.live c.build_below.new.usage) c.offset_of-offset.result (entries_of_items c.args.items.now) (entries_of_items c.split_at.result.1.now) b (c.loop-rest.row ++ (c.in_ok-cell.cell ∷ [])) (making.done + cells (take c.first_run-run.result.count (entries_of_items c.loop-rest.rest.now)))) (sym c.with-positions.ensures)
-            (subst (λ (es : List Entry). Made (g.C.CellRead.has c.build_below.new.cells) (g.U.Space.used c.args.usage.now) (g.U.Space.used c.build_below.new.usage) (g.U.Space.live c.args.usage.now) (g.U.Space.live c.build_below.new.usage) c.offset_of-offset.result (entries_of_items c.args.items.now) es (c.loop-rest.positions + 2 ^ c.first_run-run.result.position) (c.loop-rest.row ++ (c.in_ok-cell.cell ∷ [])) (making.done + cells (take c.first_run-run.result.count (entries_of_items c.loop-rest.rest.now)))) back next));
+            subst (λ (cs : List Cell). Made (g.C.CellRead.has c.build_below.new.cells) ((g.U.Space.account c.args.usage.now).used) ((g.U.Space.account c.build_below.new.usage).used) ((g.U.Space.account c.args.usage.now).live) ((g.U.Space.account c.build_below.new.usage).live) c.offset_of-offset.result (entries_of_items c.args.items.now) (entries_of_items c.split_at.result.1.now) c.with-positions.result cs (making.done + cells (take c.first_run-run.result.count (entries_of_items c.loop-rest.rest.now)))) (sym c.push.ensures)
+            (subst (λ (b : ℕ). Made (g.C.CellRead.has c.build_below.new.cells) ((g.U.Space.account c.args.usage.now).used) ((g.U.Space.account c.build_below.new.usage).used) ((g.U.Space.account c.args.usage.now).live) ((g.U.Space.account c.build_below.new.usage).live) c.offset_of-offset.result (entries_of_items c.args.items.now) (entries_of_items c.split_at.result.1.now) b (c.loop-rest.row ++ (c.in_ok-cell.cell ∷ [])) (making.done + cells (take c.first_run-run.result.count (entries_of_items c.loop-rest.rest.now)))) (sym c.with-positions.ensures)
+            (subst (λ (es : List Entry). Made (g.C.CellRead.has c.build_below.new.cells) ((g.U.Space.account c.args.usage.now).used) ((g.U.Space.account c.build_below.new.usage).used) ((g.U.Space.account c.args.usage.now).live) ((g.U.Space.account c.build_below.new.usage).live) c.offset_of-offset.result (entries_of_items c.args.items.now) es (c.loop-rest.positions + 2 ^ c.first_run-run.result.position) (c.loop-rest.row ++ (c.in_ok-cell.cell ∷ [])) (making.done + cells (take c.first_run-run.result.count (entries_of_items c.loop-rest.rest.now)))) back next));
         cost = (let so_far = making.cost in let row = ap (λ (xs : List Cell). length xs) c.push.ensures ∙ length-append c.loop-rest.row (c.in_ok-cell.cell ∷ []) in omega arith);
       };
       frame = frame_then c.loop-rest.invariant.frame c.in_ok-cell.ensures.frame;
@@ -116,14 +116,14 @@ returns-clause-spends g t c =
 pub pack-requires : goal.pack-requires
 pack-requires g t c =
     let empty : length c.loop-rest.rest.now ≡ 0 = eqb-true (length c.loop-rest.rest.now) 0 (sym c.is_empty.ensures ∙ c.loop-rest-test.false) in
-    let room = subst (λ (cs : List Cell). Room (g.U.Space.used c.loop-rest.usage) (g.U.Space.used c.place_row.new.usage) (g.U.Space.fresh c.place_row.new.usage) (g.C.CellWrite.given c.place_row.new.cells) c.in_ok-twigs.twigs (length cs)) c.as_slice.ensures.cells c.in_ok-twigs.ensures.room in
+    let room = subst (λ (cs : List Cell). Room ((g.U.Space.account c.loop-rest.usage).used) ((g.U.Space.account c.place_row.new.usage).used) ((g.U.Space.account c.place_row.new.usage).mutable) (g.C.CellWrite.given c.place_row.new.cells) c.in_ok-twigs.twigs (length cs)) c.as_slice.ensures.cells c.in_ok-twigs.ensures.room in
     building.branch_node c.loop-rest.invariant.making.made (length-map c.loop-rest.rest.now entry_of ∙ empty) room
 
 pub returns-clause-built : goal.returns-clause-built
 returns-clause-built g t c =
     let empty : length c.loop-rest.rest.now ≡ 0 = eqb-true (length c.loop-rest.rest.now) 0 (sym c.is_empty.ensures ∙ c.loop-rest-test.false) in
-    let room = subst (λ (cs : List Cell). Room (g.U.Space.used c.loop-rest.usage) (g.U.Space.used c.place_row.new.usage) (g.U.Space.fresh c.place_row.new.usage) (g.C.CellWrite.given c.place_row.new.cells) c.in_ok-twigs.twigs (length cs)) c.as_slice.ensures.cells c.in_ok-twigs.ensures.room in
+    let room = subst (λ (cs : List Cell). Room ((g.U.Space.account c.loop-rest.usage).used) ((g.U.Space.account c.place_row.new.usage).used) ((g.U.Space.account c.place_row.new.usage).mutable) (g.C.CellWrite.given c.place_row.new.cells) c.in_ok-twigs.twigs (length cs)) c.as_slice.ensures.cells c.in_ok-twigs.ensures.room in
     building.branch_built c.loop-rest.invariant.making.made (length-map c.loop-rest.rest.now entry_of ∙ empty) room c.in_ok-twigs.ensures.frame.stays c.in_ok-twigs.ensures.frame.grows.stays
     (λ i x e. c.in_ok-twigs.ensures.written i x (subst (λ (cs : List Cell). slice_get cs i ≡ Some x) (sym c.as_slice.ensures.cells) e))
-    (λ k. c.in_ok-twigs.ensures.counts k ∙ ap (λ (cs : List Cell). g.U.Space.live c.loop-rest.usage k + row (in_chunk k) c.in_ok-twigs.twigs (length cs)) c.as_slice.ensures.cells)
+    (λ k. c.in_ok-twigs.ensures.counts k ∙ ap (λ (cs : List Cell). (g.U.Space.account c.loop-rest.usage).live k + row (in_chunk k) c.in_ok-twigs.twigs (length cs)) c.as_slice.ensures.cells)
     c.pack.ensures

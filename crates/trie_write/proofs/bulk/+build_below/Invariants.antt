@@ -8,10 +8,10 @@ use Rattle.trie_write.proofs.bulk.+build_below.Given as goal
 abbrev pub invariant-loop-rest : goal.invariant-loop-rest
 invariant-loop-rest g l =
     record {
-      making : Making (g.C.CellRead.has l.cells) (g.U.Space.used l.fn.usage) (g.U.Space.used l.usage) (g.U.Space.live l.fn.usage) (g.U.Space.live l.usage) (g.U.Space.spent l.fn.usage) (g.U.Space.spent l.usage) l.offset (entries_of_items l.fn.items) (entries_of_items l.rest) l.positions l.row;
-      frame : Frame (g.C.CellRead.has l.fn.cells) (g.C.CellRead.has l.cells) (g.C.CellWrite.kept l.fn.cells) (g.C.CellWrite.kept l.cells) (g.C.CellWrite.given l.fn.cells) (g.C.CellWrite.given l.cells) (g.U.Space.used l.fn.usage) (g.U.Space.used l.usage) (g.U.Space.fresh l.fn.usage) (g.U.Space.fresh l.usage);
-      frozen : g.U.Space.frozen l.usage ≡ g.U.Space.frozen l.fn.usage;
-      ready : Ready (g.C.CellWrite.kept l.cells) (g.C.CellWrite.given l.cells) (g.U.Space.given l.usage) (g.U.Space.used l.usage) (g.U.Space.fresh l.usage);
+      making : Making (g.C.CellRead.has l.cells) ((g.U.Space.account l.fn.usage).used) ((g.U.Space.account l.usage).used) ((g.U.Space.account l.fn.usage).live) ((g.U.Space.account l.usage).live) ((g.U.Space.account l.fn.usage).spent) ((g.U.Space.account l.usage).spent) l.offset (entries_of_items l.fn.items) (entries_of_items l.rest) l.positions l.row;
+      frame : Frame (g.C.CellRead.has l.fn.cells) (g.C.CellRead.has l.cells) (g.C.CellWrite.kept l.fn.cells) (g.C.CellWrite.kept l.cells) (g.C.CellWrite.given l.fn.cells) (g.C.CellWrite.given l.cells) ((g.U.Space.account l.fn.usage).used) ((g.U.Space.account l.usage).used) ((g.U.Space.account l.fn.usage).mutable) ((g.U.Space.account l.usage).mutable);
+      frozen : (g.U.Space.account l.usage).frozen ≡ (g.U.Space.account l.fn.usage).frozen;
+      ready : Ready (g.C.CellWrite.kept l.cells) (g.C.CellWrite.given l.cells) ((g.U.Space.account l.usage).given) ((g.U.Space.account l.usage).used) ((g.U.Space.account l.usage).mutable);
     }
 
 abbrev pub decreases-loop-rest : goal.decreases-loop-rest

@@ -25,7 +25,7 @@ pack-requires g c = leaf_node (with_item c.octets.result.now) (subst (λ (item :
     with_item item = record { key = (entry_of c.args.item.now).key; item = item }
 
 pub returns-clause-built : goal.returns-clause-built
-returns-clause-built g c = subst (λ (item : List ℕ). Built (g.C.CellRead.has c.place_item.new.cells) (g.U.Space.used c.args.usage.now) (g.U.Space.used c.place_item.new.usage) (g.U.Space.live c.args.usage.now) (g.U.Space.live c.place_item.new.usage) (with_item item ∷ []) c.pack.result) c.octets.ensures.octets
+returns-clause-built g c = subst (λ (item : List ℕ). Built (g.C.CellRead.has c.place_item.new.cells) ((g.U.Space.account c.args.usage.now).used) ((g.U.Space.account c.place_item.new.usage).used) ((g.U.Space.account c.args.usage.now).live) ((g.U.Space.account c.place_item.new.usage).live) (with_item item ∷ []) c.pack.result) c.octets.ensures.octets
     (leaf_built (with_item c.octets.result.now) (subst (λ (item : List ℕ). IsEntry (with_item item)) (sym c.octets.ensures.octets) c.octets.ensures.entry) c.in_ok-leaf.ensures.len c.in_ok-leaf.ensures.room c.in_ok-leaf.ensures.frame.grows.stays c.in_ok-leaf.ensures.lies c.in_ok-leaf.ensures.counts c.pack.ensures)
   where
     with_item : List ℕ → Entry

@@ -31,8 +31,8 @@ grow-requires g t c κs within =
         (
           within.1,
           (
-            record { t = (inserting.down_found (branch_asks c.requires.asks.asks (c.in-Some.ensures.branch c.args.low _ c.requires.asks.asks.held.tree c.requires.asks.asks.held.is)).here c.in-Some.ensures.above c.at.ensures c.twig_index-index.ensures.by_popcount c.twig_count-n.ensures).here; e = c.requires.asks.e; asks = (inserting.down_asks (branch_asks c.requires.asks.asks (c.in-Some.ensures.branch c.args.low _ c.requires.asks.asks.held.tree c.requires.asks.asks.held.is)).here c.in-Some.ensures.above c.at.ensures c.twig_index-index.ensures.by_popcount c.twig_count-n.ensures {now = g.C.CellRead.has c.cell-next.new.self} {used_now = g.U.Space.used c.room.new.usage} {live_now = g.U.Space.live c.room.new.usage} {next = c.cell-next.result} (λ z. let m = c.in_ok-to-in-Some.ensures.counts z in omega arith) (λ z x u m. subst (λ s. g.C.CellRead.has s z x) (sym c.cell-next.ensures.same) (c.in_ok-to-in-Some.ensures.frame.stays z x u m)) c.in_ok-to-in-Some.ensures.frame.grows.stays (c.cell-next.ensures.value _ (c.in_ok-to-in-Some.ensures.all _ _ (twig_there (inserting.down (branch_asks c.requires.asks.asks (c.in-Some.ensures.branch c.args.low _ c.requires.asks.asks.held.tree c.requires.asks.asks.held.is)).here c.in-Some.ensures.above c.at.ensures c.twig_index-index.ensures.by_popcount c.twig_count-n.ensures))))) },
-            subst (λ s. Ready (g.C.CellWrite.kept s) (g.C.CellWrite.given s) (g.U.Space.given c.room.new.usage) (g.U.Space.used c.room.new.usage) (g.U.Space.fresh c.room.new.usage)) (sym c.cell-next.ensures.same) c.in_ok-to-in-Some.ensures.ready,
+            record { t = (inserting.down_found (branch_asks c.requires.asks.asks (c.in-Some.ensures.branch c.args.low _ c.requires.asks.asks.held.tree c.requires.asks.asks.held.is)).here c.in-Some.ensures.above c.at.ensures c.twig_index-index.ensures.by_popcount c.twig_count-n.ensures).here; e = c.requires.asks.e; asks = (inserting.down_asks (branch_asks c.requires.asks.asks (c.in-Some.ensures.branch c.args.low _ c.requires.asks.asks.held.tree c.requires.asks.asks.held.is)).here c.in-Some.ensures.above c.at.ensures c.twig_index-index.ensures.by_popcount c.twig_count-n.ensures {now = g.C.CellRead.has c.cell-next.new.self} {used_now = (g.U.Space.account c.room.new.usage).used} {live_now = (g.U.Space.account c.room.new.usage).live} {next = c.cell-next.result} (λ z. let m = c.in_ok-to-in-Some.ensures.counts z in omega arith) (λ z x u m. subst (λ s. g.C.CellRead.has s z x) (sym c.cell-next.ensures.same) (c.in_ok-to-in-Some.ensures.frame.stays z x u m)) c.in_ok-to-in-Some.ensures.frame.grows.stays (c.cell-next.ensures.value _ (c.in_ok-to-in-Some.ensures.all _ _ (twig_there (inserting.down (branch_asks c.requires.asks.asks (c.in-Some.ensures.branch c.args.low _ c.requires.asks.asks.held.tree c.requires.asks.asks.held.is)).here c.in-Some.ensures.above c.at.ensures c.twig_index-index.ensures.by_popcount c.twig_count-n.ensures))))) },
+            subst (λ s. Ready (g.C.CellWrite.kept s) (g.C.CellWrite.given s) ((g.U.Space.account c.room.new.usage).given) ((g.U.Space.account c.room.new.usage).used) ((g.U.Space.account c.room.new.usage).mutable)) (sym c.cell-next.ensures.same) c.in_ok-to-in-Some.ensures.ready,
           ),
         ),
       ),
@@ -70,7 +70,7 @@ put_branch-requires-clause-unkept g t c i l h =
 
 pub put_branch-requires-clause-counted : goal.put_branch-requires-clause-counted
 put_branch-requires-clause-counted g t c k =
-    let grew = c.in-Ok.ensures.grew (inserting.down_found (branch_asks c.requires.asks.asks (c.in-Some.ensures.branch c.args.low _ c.requires.asks.asks.held.tree c.requires.asks.asks.held.is)).here c.in-Some.ensures.above c.at.ensures c.twig_index-index.ensures.by_popcount c.twig_count-n.ensures).here c.requires.asks.e (inserting.down_asks (branch_asks c.requires.asks.asks (c.in-Some.ensures.branch c.args.low _ c.requires.asks.asks.held.tree c.requires.asks.asks.held.is)).here c.in-Some.ensures.above c.at.ensures c.twig_index-index.ensures.by_popcount c.twig_count-n.ensures {now = g.C.CellRead.has c.cell-next.new.self} {used_now = g.U.Space.used c.room.new.usage} {live_now = g.U.Space.live c.room.new.usage} {next = c.cell-next.result} (λ z. let m = c.in_ok-to-in-Some.ensures.counts z in omega arith) (λ z x u m. subst (λ s. g.C.CellRead.has s z x) (sym c.cell-next.ensures.same) (c.in_ok-to-in-Some.ensures.frame.stays z x u m)) c.in_ok-to-in-Some.ensures.frame.grows.stays (c.cell-next.ensures.value _ (c.in_ok-to-in-Some.ensures.all _ _ (twig_there (inserting.down (branch_asks c.requires.asks.asks (c.in-Some.ensures.branch c.args.low _ c.requires.asks.asks.held.tree c.requires.asks.asks.held.is)).here c.in-Some.ensures.above c.at.ensures c.twig_index-index.ensures.by_popcount c.twig_count-n.ensures))))) in
+    let grew = c.in-Ok.ensures.grew (inserting.down_found (branch_asks c.requires.asks.asks (c.in-Some.ensures.branch c.args.low _ c.requires.asks.asks.held.tree c.requires.asks.asks.held.is)).here c.in-Some.ensures.above c.at.ensures c.twig_index-index.ensures.by_popcount c.twig_count-n.ensures).here c.requires.asks.e (inserting.down_asks (branch_asks c.requires.asks.asks (c.in-Some.ensures.branch c.args.low _ c.requires.asks.asks.held.tree c.requires.asks.asks.held.is)).here c.in-Some.ensures.above c.at.ensures c.twig_index-index.ensures.by_popcount c.twig_count-n.ensures {now = g.C.CellRead.has c.cell-next.new.self} {used_now = (g.U.Space.account c.room.new.usage).used} {live_now = (g.U.Space.account c.room.new.usage).live} {next = c.cell-next.result} (λ z. let m = c.in_ok-to-in-Some.ensures.counts z in omega arith) (λ z x u m. subst (λ s. g.C.CellRead.has s z x) (sym c.cell-next.ensures.same) (c.in_ok-to-in-Some.ensures.frame.stays z x u m)) c.in_ok-to-in-Some.ensures.frame.grows.stays (c.cell-next.ensures.value _ (c.in_ok-to-in-Some.ensures.all _ _ (twig_there (inserting.down (branch_asks c.requires.asks.asks (c.in-Some.ensures.branch c.args.low _ c.requires.asks.asks.held.tree c.requires.asks.asks.held.is)).here c.in-Some.ensures.above c.at.ensures c.twig_index-index.ensures.by_popcount c.twig_count-n.ensures))))) in
     let p = part_counted (inserting.down (branch_asks c.requires.asks.asks (c.in-Some.ensures.branch c.args.low _ c.requires.asks.asks.held.tree c.requires.asks.asks.held.is)).here c.in-Some.ensures.above c.at.ensures c.twig_index-index.ensures.by_popcount c.twig_count-n.ensures) k in
     let a = c.in_ok-to-in-Some.ensures.counts k in
     let d = grew.became.counts k in
@@ -80,24 +80,24 @@ pub returns-in-Err-clause-spends : goal.returns-in-Err-clause-spends
 returns-in-Err-clause-spends g t c x e asks =
     let p = inserting.down_path (branch_asks asks (c.in-Some.ensures.branch c.args.low _ asks.held.tree asks.held.is)).here c.in-Some.ensures.above c.at.ensures c.twig_index-index.ensures.by_popcount c.twig_count-n.ensures in
     let q = path_as (branch_asks asks (c.in-Some.ensures.branch c.args.low _ asks.held.tree asks.held.is)) in
-    let s = c.grow.ensures.spends (inserting.down_found (branch_asks asks (c.in-Some.ensures.branch c.args.low _ asks.held.tree asks.held.is)).here c.in-Some.ensures.above c.at.ensures c.twig_index-index.ensures.by_popcount c.twig_count-n.ensures).here e (inserting.down_asks (branch_asks asks (c.in-Some.ensures.branch c.args.low _ asks.held.tree asks.held.is)).here c.in-Some.ensures.above c.at.ensures c.twig_index-index.ensures.by_popcount c.twig_count-n.ensures {now = g.C.CellRead.has c.cell-next.new.self} {used_now = g.U.Space.used c.room.new.usage} {live_now = g.U.Space.live c.room.new.usage} {next = c.cell-next.result} (λ z. let m = c.in_ok-to-in-Some.ensures.counts z in omega arith) (λ z x u m. subst (λ s. g.C.CellRead.has s z x) (sym c.cell-next.ensures.same) (c.in_ok-to-in-Some.ensures.frame.stays z x u m)) c.in_ok-to-in-Some.ensures.frame.grows.stays (c.cell-next.ensures.value _ (c.in_ok-to-in-Some.ensures.all _ _ (twig_there (inserting.down (branch_asks asks (c.in-Some.ensures.branch c.args.low _ asks.held.tree asks.held.is)).here c.in-Some.ensures.above c.at.ensures c.twig_index-index.ensures.by_popcount c.twig_count-n.ensures))))) in
+    let s = c.grow.ensures.spends (inserting.down_found (branch_asks asks (c.in-Some.ensures.branch c.args.low _ asks.held.tree asks.held.is)).here c.in-Some.ensures.above c.at.ensures c.twig_index-index.ensures.by_popcount c.twig_count-n.ensures).here e (inserting.down_asks (branch_asks asks (c.in-Some.ensures.branch c.args.low _ asks.held.tree asks.held.is)).here c.in-Some.ensures.above c.at.ensures c.twig_index-index.ensures.by_popcount c.twig_count-n.ensures {now = g.C.CellRead.has c.cell-next.new.self} {used_now = (g.U.Space.account c.room.new.usage).used} {live_now = (g.U.Space.account c.room.new.usage).live} {next = c.cell-next.result} (λ z. let m = c.in_ok-to-in-Some.ensures.counts z in omega arith) (λ z x u m. subst (λ s. g.C.CellRead.has s z x) (sym c.cell-next.ensures.same) (c.in_ok-to-in-Some.ensures.frame.stays z x u m)) c.in_ok-to-in-Some.ensures.frame.grows.stays (c.cell-next.ensures.value _ (c.in_ok-to-in-Some.ensures.all _ _ (twig_there (inserting.down (branch_asks asks (c.in-Some.ensures.branch c.args.low _ asks.held.tree asks.held.is)).here c.in-Some.ensures.above c.at.ensures c.twig_index-index.ensures.by_popcount c.twig_count-n.ensures))))) in
     let r = c.room.ensures.spends in
     let m = c.release.ensures.spent in omega arith
 
 pub returns-in-Err-clause-frame : goal.returns-in-Err-clause-frame
-returns-in-Err-clause-frame g t c = frame_put c.in_ok-to-in-Some.ensures.frame c.in_ok-to-in-Some.ensures.room (subst (λ s. Frame (g.C.CellRead.has s) (g.C.CellRead.has c.grow.new.cells) (g.C.CellWrite.kept s) (g.C.CellWrite.kept c.grow.new.cells) (g.C.CellWrite.given s) (g.C.CellWrite.given c.grow.new.cells) (g.U.Space.used c.room.new.usage) (g.U.Space.used c.grow.new.usage) (g.U.Space.fresh c.room.new.usage) (g.U.Space.fresh c.grow.new.usage)) c.cell-next.ensures.same c.in-Err.ensures.frame) (λ q x other h. h) refl refl c.release.ensures.used c.release.ensures.fresh
+returns-in-Err-clause-frame g t c = frame_put c.in_ok-to-in-Some.ensures.frame c.in_ok-to-in-Some.ensures.room (subst (λ s. Frame (g.C.CellRead.has s) (g.C.CellRead.has c.grow.new.cells) (g.C.CellWrite.kept s) (g.C.CellWrite.kept c.grow.new.cells) (g.C.CellWrite.given s) (g.C.CellWrite.given c.grow.new.cells) ((g.U.Space.account c.room.new.usage).used) ((g.U.Space.account c.grow.new.usage).used) ((g.U.Space.account c.room.new.usage).mutable) ((g.U.Space.account c.grow.new.usage).mutable)) c.cell-next.ensures.same c.in-Err.ensures.frame) (λ q x other h. h) refl refl c.release.ensures.used c.release.ensures.fresh
 
 pub returns-in-Ok-clause-spends : goal.returns-in-Ok-clause-spends
 returns-in-Ok-clause-spends g t c x e asks =
     let p = inserting.down_path (branch_asks asks (c.in-Some.ensures.branch c.args.low _ asks.held.tree asks.held.is)).here c.in-Some.ensures.above c.at.ensures c.twig_index-index.ensures.by_popcount c.twig_count-n.ensures in
     let q = path_as (branch_asks asks (c.in-Some.ensures.branch c.args.low _ asks.held.tree asks.held.is)) in
-    let s = c.grow.ensures.spends (inserting.down_found (branch_asks asks (c.in-Some.ensures.branch c.args.low _ asks.held.tree asks.held.is)).here c.in-Some.ensures.above c.at.ensures c.twig_index-index.ensures.by_popcount c.twig_count-n.ensures).here e (inserting.down_asks (branch_asks asks (c.in-Some.ensures.branch c.args.low _ asks.held.tree asks.held.is)).here c.in-Some.ensures.above c.at.ensures c.twig_index-index.ensures.by_popcount c.twig_count-n.ensures {now = g.C.CellRead.has c.cell-next.new.self} {used_now = g.U.Space.used c.room.new.usage} {live_now = g.U.Space.live c.room.new.usage} {next = c.cell-next.result} (λ z. let m = c.in_ok-to-in-Some.ensures.counts z in omega arith) (λ z x u m. subst (λ s. g.C.CellRead.has s z x) (sym c.cell-next.ensures.same) (c.in_ok-to-in-Some.ensures.frame.stays z x u m)) c.in_ok-to-in-Some.ensures.frame.grows.stays (c.cell-next.ensures.value _ (c.in_ok-to-in-Some.ensures.all _ _ (twig_there (inserting.down (branch_asks asks (c.in-Some.ensures.branch c.args.low _ asks.held.tree asks.held.is)).here c.in-Some.ensures.above c.at.ensures c.twig_index-index.ensures.by_popcount c.twig_count-n.ensures))))) in
+    let s = c.grow.ensures.spends (inserting.down_found (branch_asks asks (c.in-Some.ensures.branch c.args.low _ asks.held.tree asks.held.is)).here c.in-Some.ensures.above c.at.ensures c.twig_index-index.ensures.by_popcount c.twig_count-n.ensures).here e (inserting.down_asks (branch_asks asks (c.in-Some.ensures.branch c.args.low _ asks.held.tree asks.held.is)).here c.in-Some.ensures.above c.at.ensures c.twig_index-index.ensures.by_popcount c.twig_count-n.ensures {now = g.C.CellRead.has c.cell-next.new.self} {used_now = (g.U.Space.account c.room.new.usage).used} {live_now = (g.U.Space.account c.room.new.usage).live} {next = c.cell-next.result} (λ z. let m = c.in_ok-to-in-Some.ensures.counts z in omega arith) (λ z x u m. subst (λ s. g.C.CellRead.has s z x) (sym c.cell-next.ensures.same) (c.in_ok-to-in-Some.ensures.frame.stays z x u m)) c.in_ok-to-in-Some.ensures.frame.grows.stays (c.cell-next.ensures.value _ (c.in_ok-to-in-Some.ensures.all _ _ (twig_there (inserting.down (branch_asks asks (c.in-Some.ensures.branch c.args.low _ asks.held.tree asks.held.is)).here c.in-Some.ensures.above c.at.ensures c.twig_index-index.ensures.by_popcount c.twig_count-n.ensures))))) in
     let r = c.room.ensures.spends in
     let m = c.put_branch.ensures.spent in omega arith
 
 pub returns-in-Ok-clause-frame : goal.returns-in-Ok-clause-frame
 returns-in-Ok-clause-frame g t c =
-    frame_put c.in_ok-to-in-Some.ensures.frame c.in_ok-to-in-Some.ensures.room (subst (λ s. Frame (g.C.CellRead.has s) (g.C.CellRead.has c.grow.new.cells) (g.C.CellWrite.kept s) (g.C.CellWrite.kept c.grow.new.cells) (g.C.CellWrite.given s) (g.C.CellWrite.given c.grow.new.cells) (g.U.Space.used c.room.new.usage) (g.U.Space.used c.grow.new.usage) (g.U.Space.fresh c.room.new.usage) (g.U.Space.fresh c.grow.new.usage)) c.cell-next.ensures.same c.in-Ok.ensures.frame) (λ q x other h. c.put_branch.ensures.others q x (λ i l. other i (let m = c.twig_count-n.ensures in omega arith)) h) c.put_branch.ensures.given c.put_branch.ensures.kept c.put_branch.ensures.used c.put_branch.ensures.fresh
+    frame_put c.in_ok-to-in-Some.ensures.frame c.in_ok-to-in-Some.ensures.room (subst (λ s. Frame (g.C.CellRead.has s) (g.C.CellRead.has c.grow.new.cells) (g.C.CellWrite.kept s) (g.C.CellWrite.kept c.grow.new.cells) (g.C.CellWrite.given s) (g.C.CellWrite.given c.grow.new.cells) ((g.U.Space.account c.room.new.usage).used) ((g.U.Space.account c.grow.new.usage).used) ((g.U.Space.account c.room.new.usage).mutable) ((g.U.Space.account c.grow.new.usage).mutable)) c.cell-next.ensures.same c.in-Ok.ensures.frame) (λ q x other h. c.put_branch.ensures.others q x (λ i l. other i (let m = c.twig_count-n.ensures in omega arith)) h) c.put_branch.ensures.given c.put_branch.ensures.kept c.put_branch.ensures.used c.put_branch.ensures.fresh
 
 pub returns-in-Ok-clause-ready : goal.returns-in-Ok-clause-ready
 returns-in-Ok-clause-ready g t c = ready_put c.in-Ok.ensures.ready c.put_branch.ensures.given c.put_branch.ensures.kept c.put_branch.ensures.space c.put_branch.ensures.used c.put_branch.ensures.fresh
@@ -106,11 +106,11 @@ pub returns-in-Ok-clause-grew : goal.returns-in-Ok-clause-grew
 returns-in-Ok-clause-grew g t c x e asks =
     let down = inserting.down (branch_asks asks (c.in-Some.ensures.branch c.args.low _ asks.held.tree asks.held.is)).here c.in-Some.ensures.above c.at.ensures c.twig_index-index.ensures.by_popcount c.twig_count-n.ensures in
     let n = c.twig_count-n.ensures in
-    let later = λ (q : ℕ) (y : Cell) (u : g.U.Space.used c.args.usage.now q ≡ true) (m : g.C.CellRead.has c.args.cells.now q y). c.in-Ok.ensures.frame.stays q y (c.in_ok-to-in-Some.ensures.frame.grows.stays q u) (subst (λ s. g.C.CellRead.has s q y) (sym c.cell-next.ensures.same) (c.in_ok-to-in-Some.ensures.frame.stays q y u m)) in
-    grew_as (branch_asks asks (c.in-Some.ensures.branch c.args.low _ asks.held.tree asks.held.is)).is (subst (Grew (g.C.CellRead.has c.put_branch.new.cells) (g.U.Space.used c.args.usage.now) (g.U.Space.used c.put_branch.new.usage) (g.U.Space.live c.args.usage.now) (g.U.Space.live c.put_branch.new.usage) c.args.low c.args.leaf _ e) (sym c.put_branch.ensures.cell)
+    let later = λ (q : ℕ) (y : Cell) (u : (g.U.Space.account c.args.usage.now).used q ≡ true) (m : g.C.CellRead.has c.args.cells.now q y). c.in-Ok.ensures.frame.stays q y (c.in_ok-to-in-Some.ensures.frame.grows.stays q u) (subst (λ s. g.C.CellRead.has s q y) (sym c.cell-next.ensures.same) (c.in_ok-to-in-Some.ensures.frame.stays q y u m)) in
+    grew_as (branch_asks asks (c.in-Some.ensures.branch c.args.low _ asks.held.tree asks.held.is)).is (subst (Grew (g.C.CellRead.has c.put_branch.new.cells) ((g.U.Space.account c.args.usage.now).used) ((g.U.Space.account c.put_branch.new.usage).used) ((g.U.Space.account c.args.usage.now).live) ((g.U.Space.account c.put_branch.new.usage).live) c.args.low c.args.leaf _ e) (sym c.put_branch.ensures.cell)
     (inserting.down_grew (branch_asks asks (c.in-Some.ensures.branch c.args.low _ asks.held.tree asks.held.is)).here c.in-Some.ensures.above c.at.ensures c.twig_index-index.ensures.by_popcount c.twig_count-n.ensures {now = g.C.CellRead.has c.cell-next.new.self} {later = g.C.CellRead.has c.grow.new.cells} {new = g.C.CellRead.has c.put_branch.new.cells} c.in_ok-to-in-Some.ensures.room c.in_ok-to-in-Some.ensures.frame.grows.stays c.in_ok-to-in-Some.ensures.counts
-    (λ k. ap (λ (m : ℕ). g.U.Space.live c.put_branch.new.usage k + row (in_chunk k) c.in-Some.branch.twigs m) n ∙ c.put_branch.ensures.counts k) (λ z x u m. subst (λ s. g.C.CellRead.has s z x) (sym c.cell-next.ensures.same) (c.in_ok-to-in-Some.ensures.frame.stays z x u m)) c.in-Ok.ensures.frame.stays c.in-Ok.ensures.frame.grows.stays (λ q u. c.put_branch.ensures.used q ∙ u)
-    (c.in-Ok.ensures.grew (inserting.down_found (branch_asks asks (c.in-Some.ensures.branch c.args.low _ asks.held.tree asks.held.is)).here c.in-Some.ensures.above c.at.ensures c.twig_index-index.ensures.by_popcount c.twig_count-n.ensures).here e (inserting.down_asks (branch_asks asks (c.in-Some.ensures.branch c.args.low _ asks.held.tree asks.held.is)).here c.in-Some.ensures.above c.at.ensures c.twig_index-index.ensures.by_popcount c.twig_count-n.ensures {now = g.C.CellRead.has c.cell-next.new.self} {used_now = g.U.Space.used c.room.new.usage} {live_now = g.U.Space.live c.room.new.usage} {next = c.cell-next.result} (λ z. let m = c.in_ok-to-in-Some.ensures.counts z in omega arith) (λ z x u m. subst (λ s. g.C.CellRead.has s z x) (sym c.cell-next.ensures.same) (c.in_ok-to-in-Some.ensures.frame.stays z x u m)) c.in_ok-to-in-Some.ensures.frame.grows.stays (c.cell-next.ensures.value _ (c.in_ok-to-in-Some.ensures.all _ _ (twig_there (inserting.down (branch_asks asks (c.in-Some.ensures.branch c.args.low _ asks.held.tree asks.held.is)).here c.in-Some.ensures.above c.at.ensures c.twig_index-index.ensures.by_popcount c.twig_count-n.ensures))))))
+    (λ k. ap (λ (m : ℕ). (g.U.Space.account c.put_branch.new.usage).live k + row (in_chunk k) c.in-Some.branch.twigs m) n ∙ c.put_branch.ensures.counts k) (λ z x u m. subst (λ s. g.C.CellRead.has s z x) (sym c.cell-next.ensures.same) (c.in_ok-to-in-Some.ensures.frame.stays z x u m)) c.in-Ok.ensures.frame.stays c.in-Ok.ensures.frame.grows.stays (λ q u. c.put_branch.ensures.used q ∙ u)
+    (c.in-Ok.ensures.grew (inserting.down_found (branch_asks asks (c.in-Some.ensures.branch c.args.low _ asks.held.tree asks.held.is)).here c.in-Some.ensures.above c.at.ensures c.twig_index-index.ensures.by_popcount c.twig_count-n.ensures).here e (inserting.down_asks (branch_asks asks (c.in-Some.ensures.branch c.args.low _ asks.held.tree asks.held.is)).here c.in-Some.ensures.above c.at.ensures c.twig_index-index.ensures.by_popcount c.twig_count-n.ensures {now = g.C.CellRead.has c.cell-next.new.self} {used_now = (g.U.Space.account c.room.new.usage).used} {live_now = (g.U.Space.account c.room.new.usage).live} {next = c.cell-next.result} (λ z. let m = c.in_ok-to-in-Some.ensures.counts z in omega arith) (λ z x u m. subst (λ s. g.C.CellRead.has s z x) (sym c.cell-next.ensures.same) (c.in_ok-to-in-Some.ensures.frame.stays z x u m)) c.in_ok-to-in-Some.ensures.frame.grows.stays (c.cell-next.ensures.value _ (c.in_ok-to-in-Some.ensures.all _ _ (twig_there (inserting.down (branch_asks asks (c.in-Some.ensures.branch c.args.low _ asks.held.tree asks.held.is)).here c.in-Some.ensures.above c.at.ensures c.twig_index-index.ensures.by_popcount c.twig_count-n.ensures))))))
     (c.put_branch.ensures.written _ _ (left_length down) (rest_length down ∙ n) (λ i y f. later (c.in-Some.branch.twigs + i) y (left_used down i y f) (left_row down i y f)) (λ i y f. later (c.in-Some.branch.twigs + c.twig_index-index.result + 1 + i) y (rest_used down i y f) (rest_row down i y f)))
     (λ q y other m. c.put_branch.ensures.others q y (λ j l. other j (omega arith)) m)))
 

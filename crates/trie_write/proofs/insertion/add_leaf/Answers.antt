@@ -85,7 +85,7 @@ pack-requires-2 g c =
     let d = c.append-2.ensures.length in
     let s = ap (λ (xs : List Cell). length xs) c.as_slice.ensures.cells in
     let long : length c.as_slice.result.now ≡ c.twig_count-n.result + 1 = omega arith in
-    let room = subst (λ (m : ℕ). Room (g.U.Space.used c.args.usage.now) (g.U.Space.used c.place_row.new.usage) (g.U.Space.fresh c.place_row.new.usage) (g.C.CellWrite.given c.place_row.new.cells) c.in_ok-twigs.twigs m) long c.in_ok-twigs.ensures.room in
+    let room = subst (λ (m : ℕ). Room ((g.U.Space.account c.args.usage.now).used) ((g.U.Space.account c.place_row.new.usage).used) ((g.U.Space.account c.place_row.new.usage).mutable) (g.C.CellWrite.given c.place_row.new.cells) c.in_ok-twigs.twigs m) long c.in_ok-twigs.ensures.room in
     subst (λ (x : ℕ). IsBranch (record { offset = c.args.branch.offset; bitmap = x; twigs = c.in_ok-twigs.twigs })) (sym c.with.ensures) (inserting.add_branch c.requires.asks.here c.at-position.ensures c.twig_index-index.ensures.by_popcount c.twig_count-n.ensures room)
 
 pub returns-clause-grew : goal.returns-clause-grew
@@ -103,10 +103,10 @@ returns-clause-grew g c low position node e below h =
     let d = c.append-2.ensures.length in
     let s = ap (λ (xs : List Cell). length xs) c.as_slice.ensures.cells in
     let long : length c.as_slice.result.now ≡ c.twig_count-n.result + 1 = omega arith in
-    let room = subst (λ (m : ℕ). Room (g.U.Space.used c.args.usage.now) (g.U.Space.used c.place_row.new.usage) (g.U.Space.fresh c.place_row.new.usage) (g.C.CellWrite.given c.place_row.new.cells) c.in_ok-twigs.twigs m) long c.in_ok-twigs.ensures.room in
+    let room = subst (λ (m : ℕ). Room ((g.U.Space.account c.args.usage.now).used) ((g.U.Space.account c.place_row.new.usage).used) ((g.U.Space.account c.place_row.new.usage).mutable) (g.C.CellWrite.given c.place_row.new.cells) c.in_ok-twigs.twigs m) long c.in_ok-twigs.ensures.room in
     let same = c.append-2.ensures.same ∙ c.append.ensures.same in
-    let later = grew_later (g.U.Space.used c.release.new.self) (λ q u. c.release.ensures.used q ∙ u)
-    (inserting.add_grew h c.at-position.ensures c.twig_index-index.ensures.by_popcount c.twig_count-n.ensures room {now = g.C.CellRead.has c.place_row.new.cells} {live_new = g.U.Space.live c.release.new.self} (λ q x u m. c.in_ok-twigs.ensures.frame.stays q x u (subst (λ s. g.C.CellRead.has s q x) (sym same) m)) c.in_ok-twigs.ensures.frame.grows.stays
-    (λ k. c.in_ok-twigs.ensures.counts k ∙ ap (λ (m : ℕ). g.U.Space.live c.args.usage.now k + row (in_chunk k) c.in_ok-twigs.twigs m) long) c.release.ensures.counts row_is c.in_ok-twigs.ensures.written) in
-    subst (Grew (g.C.CellRead.has c.place_row.new.cells) (g.U.Space.used c.args.usage.now) (g.U.Space.used c.release.new.self) (g.U.Space.live c.args.usage.now) (g.U.Space.live c.release.new.self) low c.args.leaf _ e)
+    let later = grew_later ((g.U.Space.account c.release.new.self).used) (λ q u. c.release.ensures.used q ∙ u)
+    (inserting.add_grew h c.at-position.ensures c.twig_index-index.ensures.by_popcount c.twig_count-n.ensures room {now = g.C.CellRead.has c.place_row.new.cells} {live_new = (g.U.Space.account c.release.new.self).live} (λ q x u m. c.in_ok-twigs.ensures.frame.stays q x u (subst (λ s. g.C.CellRead.has s q x) (sym same) m)) c.in_ok-twigs.ensures.frame.grows.stays
+    (λ k. c.in_ok-twigs.ensures.counts k ∙ ap (λ (m : ℕ). (g.U.Space.account c.args.usage.now).live k + row (in_chunk k) c.in_ok-twigs.twigs m) long) c.release.ensures.counts row_is c.in_ok-twigs.ensures.written) in
+    subst (Grew (g.C.CellRead.has c.place_row.new.cells) ((g.U.Space.account c.args.usage.now).used) ((g.U.Space.account c.release.new.self).used) ((g.U.Space.account c.args.usage.now).live) ((g.U.Space.account c.release.new.self).live) low c.args.leaf _ e)
     (sym (c.pack-2.ensures ∙ ap (λ (x : ℕ). branch_cell (record { offset = c.args.branch.offset; bitmap = x; twigs = c.in_ok-twigs.twigs })) c.with.ensures)) later

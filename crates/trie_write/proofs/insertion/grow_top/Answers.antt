@@ -5,11 +5,11 @@ use Rattle.trie_write.proofs.insertion.grow_top.Goals as goal
 pub returns-in_err-grow_at-clause-spends : goal.returns-in_err-grow_at-clause-spends
 returns-in_err-grow_at-clause-spends g c t e a = let s = c.grow_at.ensures.spends t e a in omega arith
 
-pub returns-then-is_fresh-clause-grew : goal.returns-then-is_fresh-clause-grew
-returns-then-is_fresh-clause-grew g c t e a = let made = c.in_ok-grow_at.ensures.grew t e a in record { new = made.new; grown = made.grown; rerooted = root_stays a.sits made.reseated }
+pub returns-then-is_mutable-clause-grew : goal.returns-then-is_mutable-clause-grew
+returns-then-is_mutable-clause-grew g c t e a = let made = c.in_ok-grow_at.ensures.grew t e a in record { new = made.new; grown = made.grown; rerooted = root_stays a.sits made.reseated }
 
-pub returns-then-is_fresh-clause-spends : goal.returns-then-is_fresh-clause-spends
-returns-then-is_fresh-clause-spends g c t e a = let s = c.grow_at.ensures.spends t e a in omega arith
+pub returns-then-is_mutable-clause-spends : goal.returns-then-is_mutable-clause-spends
+returns-then-is_mutable-clause-spends g c t e a = let s = c.grow_at.ensures.spends t e a in omega arith
 
 pub returns-in_err-new-clause-spends : goal.returns-in_err-new-clause-spends
 returns-in_err-new-clause-spends g c t e a = c.grow_root.ensures.spends t e a.asks

@@ -20,43 +20,43 @@ insert_further-requires-clause-some g c = leads_some c.requires.leads
 
 pub insert_further-requires-clause-asks : goal.insert_further-requires-clause-asks
 insert_further-requires-clause-asks g c =
-    let s = (subst (λ (o : Option ℕ). Standing (g.C.CellRead.has c.args.cells.now) (g.U.Space.used c.args.usage.now) (g.U.Space.live c.args.usage.now) o c.requires.stands.0) c.in-Some.is c.requires.stands.1) in
+    let s = (subst (λ (o : Option ℕ). Standing (g.C.CellRead.has c.args.cells.now) ((g.U.Space.account c.args.usage.now).used) ((g.U.Space.account c.args.usage.now).live) o c.requires.stands.0) c.in-Some.is c.requires.stands.1) in
     (entry_with c.args.key.now c.args.item.now, record { t = s.0; version = c.requires.stands.0; asks = (asks_here g.C.CellRead.has c.args.cells.now c.cell-node.new.self c.compare.new.cells {item = c.args.item.now} c.cell-node.result c.compare.result c.in-Some-compare.first c.cell-node.ensures.same c.compare.ensures.same (leads_entry c.requires.leads (λ i. Fits-lt-pow {w = w8} (c.type_inv.item i))) s.1 c.cell-node.ensures.value (λ top. c.compare.ensures.value s.0 top (subst (EachTells Leads) (sym s.1.trie.holds) c.requires.stands.2)) c.in-Some-compare.is) })
 
 pub returns-in-Ok-clause-inserted : goal.returns-in-Ok-clause-inserted
 returns-in-Ok-clause-inserted g c version standing tells =
     let e = entry_with c.args.key.now c.args.item.now in
-    let s = (subst (λ (o : Option ℕ). Standing (g.C.CellRead.has c.args.cells.now) (g.U.Space.used c.args.usage.now) (g.U.Space.live c.args.usage.now) o version) c.in-None.is standing) in
+    let s = (subst (λ (o : Option ℕ). Standing (g.C.CellRead.has c.args.cells.now) ((g.U.Space.account c.args.usage.now).used) ((g.U.Space.account c.args.usage.now).live) o version) c.in-None.is standing) in
     (e ∷ [], inserted_first e version s.0, c.in-Ok.ensures.stands e (leads_entry c.requires.leads (λ i. Fits-lt-pow {w = w8} (c.type_inv.item i))) refl)
 
 pub returns-in-Ok-insert_further-clause-inserted : goal.returns-in-Ok-insert_further-clause-inserted
 returns-in-Ok-insert_further-clause-inserted g c version standing tells =
-    let s = (subst (λ (o : Option ℕ). Standing (g.C.CellRead.has c.args.cells.now) (g.U.Space.used c.args.usage.now) (g.U.Space.live c.args.usage.now) o version) c.in-Some.is standing) in
+    let s = (subst (λ (o : Option ℕ). Standing (g.C.CellRead.has c.args.cells.now) ((g.U.Space.account c.args.usage.now).used) ((g.U.Space.account c.args.usage.now).live) o version) c.in-Some.is standing) in
     let asks = (asks_here g.C.CellRead.has c.args.cells.now c.cell-node.new.self c.compare.new.cells {item = c.args.item.now} c.cell-node.result c.compare.result c.in-Some-compare.first c.cell-node.ensures.same c.compare.ensures.same (leads_entry c.requires.leads (λ i. Fits-lt-pow {w = w8} (c.type_inv.item i))) s.1 c.cell-node.ensures.value (λ top. c.compare.ensures.value s.0 top (subst (EachTells Leads) (sym s.1.trie.holds) tells)) c.in-Some-compare.is) in
     c.in-Ok-insert_further.ensures.stands (entry_with c.args.key.now c.args.item.now) s.0 version asks
 
 pub returns-in-Ok-insert_further-clause-exists : goal.returns-in-Ok-insert_further-clause-exists
 returns-in-Ok-insert_further-clause-exists g c version standing tells =
-    let s = (subst (λ (o : Option ℕ). Standing (g.C.CellRead.has c.args.cells.now) (g.U.Space.used c.args.usage.now) (g.U.Space.live c.args.usage.now) o version) c.in-Some.is standing) in
+    let s = (subst (λ (o : Option ℕ). Standing (g.C.CellRead.has c.args.cells.now) ((g.U.Space.account c.args.usage.now).used) ((g.U.Space.account c.args.usage.now).live) o version) c.in-Some.is standing) in
     let asks = (asks_here g.C.CellRead.has c.args.cells.now c.cell-node.new.self c.compare.new.cells {item = c.args.item.now} c.cell-node.result c.compare.result c.in-Some-compare.first c.cell-node.ensures.same c.compare.ensures.same (leads_entry c.requires.leads (λ i. Fits-lt-pow {w = w8} (c.type_inv.item i))) s.1 c.cell-node.ensures.value (λ top. c.compare.ensures.value s.0 top (subst (EachTells Leads) (sym s.1.trie.holds) tells)) c.in-Some-compare.is) in
     (λ e. absurd cc, λ x. absurd (not_there asks.differs x.0 (subst (InList x.0) (sym s.1.trie.holds) x.1) x.2))
 
 pub returns-in-Err-insert_further-clause-exists : goal.returns-in-Err-insert_further-clause-exists
 returns-in-Err-insert_further-clause-exists g c version standing tells =
-    let s = (subst (λ (o : Option ℕ). Standing (g.C.CellRead.has c.args.cells.now) (g.U.Space.used c.args.usage.now) (g.U.Space.live c.args.usage.now) o version) c.in-Some.is standing) in
+    let s = (subst (λ (o : Option ℕ). Standing (g.C.CellRead.has c.args.cells.now) ((g.U.Space.account c.args.usage.now).used) ((g.U.Space.account c.args.usage.now).live) o version) c.in-Some.is standing) in
     let asks = (asks_here g.C.CellRead.has c.args.cells.now c.cell-node.new.self c.compare.new.cells {item = c.args.item.now} c.cell-node.result c.compare.result c.in-Some-compare.first c.cell-node.ensures.same c.compare.ensures.same (leads_entry c.requires.leads (λ i. Fits-lt-pow {w = w8} (c.type_inv.item i))) s.1 c.cell-node.ensures.value (λ top. c.compare.ensures.value s.0 top (subst (EachTells Leads) (sym s.1.trie.holds) tells)) c.in-Some-compare.is) in
     (λ e. absurd cc, λ x. absurd (not_there asks.differs x.0 (subst (InList x.0) (sym s.1.trie.holds) x.1) x.2))
 
 pub returns-in-Ok-insert_further-clause-spends : goal.returns-in-Ok-insert_further-clause-spends
 returns-in-Ok-insert_further-clause-spends g c n on =
-    let o = subst (λ (o : Option ℕ). OnPath (g.C.CellRead.has c.args.cells.now) (g.U.Space.used c.args.usage.now) (g.U.Space.live c.args.usage.now) o c.args.key.now n) c.in-Some.is on in
+    let o = subst (λ (o : Option ℕ). OnPath (g.C.CellRead.has c.args.cells.now) ((g.U.Space.account c.args.usage.now).used) ((g.U.Space.account c.args.usage.now).live) o c.args.key.now n) c.in-Some.is on in
     let asks = (asks_here g.C.CellRead.has c.args.cells.now c.cell-node.new.self c.compare.new.cells {item = c.args.item.now} c.cell-node.result c.compare.result c.in-Some-compare.first c.cell-node.ensures.same c.compare.ensures.same (leads_entry c.requires.leads (λ i. Fits-lt-pow {w = w8} (c.type_inv.item i))) o.2 c.cell-node.ensures.value (λ top. c.compare.ensures.value o.0 top (subst (EachTells Leads) (sym o.2.trie.holds) o.3)) c.in-Some-compare.is) in
     let m = c.insert_further.ensures.spends (entry_with c.args.key.now c.args.item.now) o.0 o.1 asks in
     let e = o.4 in omega arith
 
 pub returns-in-Err-insert_further-clause-spends : goal.returns-in-Err-insert_further-clause-spends
 returns-in-Err-insert_further-clause-spends g c n on =
-    let o = subst (λ (o : Option ℕ). OnPath (g.C.CellRead.has c.args.cells.now) (g.U.Space.used c.args.usage.now) (g.U.Space.live c.args.usage.now) o c.args.key.now n) c.in-Some.is on in
+    let o = subst (λ (o : Option ℕ). OnPath (g.C.CellRead.has c.args.cells.now) ((g.U.Space.account c.args.usage.now).used) ((g.U.Space.account c.args.usage.now).live) o c.args.key.now n) c.in-Some.is on in
     let asks = (asks_here g.C.CellRead.has c.args.cells.now c.cell-node.new.self c.compare.new.cells {item = c.args.item.now} c.cell-node.result c.compare.result c.in-Some-compare.first c.cell-node.ensures.same c.compare.ensures.same (leads_entry c.requires.leads (λ i. Fits-lt-pow {w = w8} (c.type_inv.item i))) o.2 c.cell-node.ensures.value (λ top. c.compare.ensures.value o.0 top (subst (EachTells Leads) (sym o.2.trie.holds) o.3)) c.in-Some-compare.is) in
     let m = c.insert_further.ensures.spends (entry_with c.args.key.now c.args.item.now) o.0 o.1 asks in
     let e = o.4 in omega arith
@@ -68,6 +68,6 @@ returns-in-Err-insert_further-clause-refused g c version standing =
 
 pub returns-in-Ok-insert_further-clause-outside : goal.returns-in-Ok-insert_further-clause-outside
 returns-in-Ok-insert_further-clause-outside g c q x u unreached h =
-    let o = subst (λ (o : Option ℕ). Unreached (g.C.CellRead.has c.args.cells.now) (g.U.Space.used c.args.usage.now) (g.U.Space.live c.args.usage.now) o q) c.in-Some.is unreached in
+    let o = subst (λ (o : Option ℕ). Unreached (g.C.CellRead.has c.args.cells.now) ((g.U.Space.account c.args.usage.now).used) ((g.U.Space.account c.args.usage.now).live) o q) c.in-Some.is unreached in
     let asks = (asks_here g.C.CellRead.has c.args.cells.now c.cell-node.new.self c.compare.new.cells {item = c.args.item.now} c.cell-node.result c.compare.result c.in-Some-compare.first c.cell-node.ensures.same c.compare.ensures.same (leads_entry c.requires.leads (λ i. Fits-lt-pow {w = w8} (c.type_inv.item i))) o.2 c.cell-node.ensures.value (λ top. c.compare.ensures.value o.0 top (subst (EachTells Leads) (sym o.2.trie.holds) o.3)) c.in-Some-compare.is) in
     c.insert_further.ensures.outside (entry_with c.args.key.now c.args.item.now) o.0 o.1 asks q x u o.4 (subst (λ s. g.C.CellRead.has s q x) (sym (c.compare.ensures.same ∙ c.cell-node.ensures.same)) h)

@@ -18,7 +18,7 @@ returns-in-Ok-clause-stands g c e t version asks =
       (
         made.new,
         rerooted_stands asks.stands made.grown.tree c.in_ok-leaf.ensures.frame.grows.stays (item_fresh c.in_ok-leaf.leaf e.item asks.item_is c.in_ok-leaf.ensures.room c.in_ok-leaf.ensures.frame.grows.stays)
-            (λ k. c.in_ok-leaf.ensures.counts k ∙ ap (λ (xs : List ℕ). g.U.Space.live c.args.usage.now k + row (in_chunk k) c.in_ok-leaf.leaf.at (cells_in xs)) asks.item_is) made.rerooted,
+            (λ k. c.in_ok-leaf.ensures.counts k ∙ ap (λ (xs : List ℕ). (g.U.Space.account c.args.usage.now).live k + row (in_chunk k) c.in_ok-leaf.leaf.at (cells_in xs)) asks.item_is) made.rerooted,
       ),
     )
 
