@@ -81,9 +81,10 @@ module _ {S A : Type 0} {has : S → ℕ → Cell → Type 0} {given : S → Lis
   left_counted k = let x = opened.rooted.counted k in let w = asks.makes.weigh (in_chunk k) in let p = weigh_plug (in_chunk k) root opened.copy end in omega arith
 
   pub put_is : {s2 : S} {a2 : A} → has s2 seat c.cell → ((q : ℕ) (x : Cell) → (q ≡ seat → ⊥) → has s1 q x → has s2 q x) → ((k : ℕ) → (account a2).live k + left c (in_chunk k) ≡ (account a1).live k) → account a2 ≡ record (account a1) { live = (account a2).live } →
-      IsPut has account s2 a2 way end u root
+      IsPut has account s2 a2 place key way end u root
   put_is {s2} {a2} put others released rest = record {
     copy = opened.copy;
+    along = opened.along;
     tree = opened.tree;
     entries = opened.entries;
     rooted = put_rooted opened.copy end u opened.rooted (λ q x used h. h) beneath_opened
@@ -126,7 +127,7 @@ outside_put r way end f keep is q x used out h = keep q x (f.grows.stays q used)
 
 -- ---- the whole trie after it
 
-module _ {S A : Type 0} {has : S → ℕ → Cell → Type 0} {account : A → Account} {s1 : S} {a1 : A} {root : ℕ} {way : List Fork} {end u : Tree} (p : IsPut has account s1 a1 way end u root) where
+module _ {S A : Type 0} {has : S → ℕ → Cell → Type 0} {account : A → Account} {s1 : S} {a1 : A} {place root : ℕ} {key : List ℕ} {way : List Fork} {end u : Tree} (p : IsPut has account s1 a1 place key way end u root) where
   pub put_stands : IsTree (low_at 0 p.copy) u → Follows (low_at 0 p.copy) (entries_of end) (entries_of u) → StandsIn (has s1) (account a1).used (account a1).live root (plug p.copy u) (entries_of (plug p.copy u))
   put_stands tree follows = rooted_stands p.rooted (plug_tree 0 p.copy end u p.tree tree follows)
 

@@ -23,6 +23,7 @@ pub mod PutLaws
 pub mod PathLaws
 pub mod ChangeLaws
 pub mod ReplaceLaws
+pub mod WithLaws
 pub mod WithoutLaws
 pub mod RemoveLaws
 pub mod SpaceLaws

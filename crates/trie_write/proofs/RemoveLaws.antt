@@ -79,7 +79,7 @@ module _ {S A : Type 0} {has : S → ℕ → Cell → Type 0} {account : A → A
       let n = last_along leaf_turn in
       let p = ap (twigs_on_path key) parts_is in omega arith
 
-  pub removed : {s1 s2 : S} {a2 : A} {c : Change} {root : ℕ} (w : IsWithout has s1 c d.there.entry (plug d.last.lower key_leaf)) → IsPut has account s2 a2 d.last.upper (plug d.last.lower key_leaf) w.new root →
+  pub removed : {s1 s2 : S} {a2 : A} {c : Change} {root : ℕ} (w : IsWithout has s1 c d.there.entry (plug d.last.lower key_leaf)) → IsPut has account s2 a2 turn.branch.offset key d.last.upper (plug d.last.lower key_leaf) w.new root →
       (next : List Entry) × Deleted key version next × ((u : Tree) × StandsIn (has s2) (account a2).used (account a2).live root u next)
   removed w p =
       let x = w.shrunk (low_at 0 p.copy) (end_tree 0 p.copy (plug d.last.lower key_leaf) p.tree) in (

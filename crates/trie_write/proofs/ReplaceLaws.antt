@@ -90,7 +90,7 @@ module _ {S A : Type 0} {has : S → ℕ → Cell → Type 0} {account : A → A
     };
   })
 
-  pub replaced : {s2 : S} {a2 : A} {item : List ℕ} {first root : ℕ} → IsEntry (record { key = key; item = item }) → IsRow first (cells_in item) → IsPut has account s2 a2 h.way (leaf h.entry h.first) (leaf (record { key = key; item = item }) first) root →
+  pub replaced : {s2 : S} {a2 : A} {item : List ℕ} {first root : ℕ} → IsEntry (record { key = key; item = item }) → IsRow first (cells_in item) → IsPut has account s2 a2 65535 key h.way (leaf h.entry h.first) (leaf (record { key = key; item = item }) first) root →
       (next : List Entry) × Exchanged (record { key = key; item = item }) version next × ((u : Tree) × StandsIn (has s2) (account a2).used (account a2).live root u next)
   replaced {item = item} {first} entry lies p = (
     entries_of (plug p.copy (leaf (record { key = key; item = item }) first)),

@@ -10,7 +10,7 @@ use Rattle.chunk_usage.specs.Rooms.{Account}
 use Rattle.trie_write.specs.declared.change.Span.{Span}
 use Rattle.trie_write.specs.declared.change.Change.{Change}
 use Rattle.trie_write.specs.Mutable.{Rooted, SeatAsks}
-use Rattle.trie_write.specs.Ways.{Fork, plug}
+use Rattle.trie_write.specs.Ways.{Fork, plug, Along}
 use Rattle.trie_write.specs.Weights.{at_place, mark}
 
 -- what cells side by side weigh; what was taken for a change, and what it leaves
@@ -58,8 +58,9 @@ abbrev pub no_spare : (ℕ → ℕ) → ℕ
 no_spare w = 0
 
 -- a tree stands at the root that has the new one at the end of a way, where one with the old entries had the old one
-pub record IsPut {S A : Type 0} (has : S → ℕ → Cell → Type 0) (account : A → Account) (s_new : S) (a_new : A) (way : List Fork) (end u : Tree) (root : ℕ) : Type 0 where
+pub record IsPut {S A : Type 0} (has : S → ℕ → Cell → Type 0) (account : A → Account) (s_new : S) (a_new : A) (place : ℕ) (key : List ℕ) (way : List Fork) (end u : Tree) (root : ℕ) : Type 0 where
   pub copy : List Fork
+  pub along : Along place key copy
   pub tree : IsTree 0 (plug copy end)
   pub entries : entries_of (plug copy end) ≡ entries_of (plug way end)
   pub rooted : Rooted has account s_new a_new no_spare root (plug copy u)

@@ -69,7 +69,7 @@ pub fn put_change<C: CellWrite, U: Space>(
     requires asks { PutAsked C.has U.account cells.old usage.old place key.now root change }
     requires ready { Ready C.kept C.given U.account cells.old usage.old }
     ensures put { IfOk result (λ new. (way : List Fork) (end u : Tree) → PutAsks C.has U.account cells.old usage.old place key.now root change way end u
-        → IsPut C.has U.account cells.new usage.new way end u new) }
+        → IsPut C.has U.account cells.new usage.new place key.now way end u new) }
     ensures outside { (way : List Fork) (end u : Tree) → PutAsks C.has U.account cells.old usage.old place key.now root change way end u
         → (q : ℕ) (c : Cell) → (U.account usage.old).used q ≡ true → IsOutside root (plug way end) q → C.has cells.old q c → C.has cells.new q c }
     ensures spends { (way : List Fork) (end u : Tree) → PutAsks C.has U.account cells.old usage.old place key.now root change way end u

@@ -19,6 +19,7 @@ mod size;
 mod there;
 mod top;
 mod turn;
+mod with;
 mod without;
 
 pub use bulk::build;

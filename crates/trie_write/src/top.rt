@@ -4,6 +4,7 @@ ghost use Rattle.std.specs.Prelude.{◌≡◌, ◌<◌, ◌%◌, ◌^◌, ℕ, I
 ghost use Rattle.trie_model.specs.Keys.{at};
 ghost use Rattle.packed_node.specs.declared.Cell.{Cell};
 ghost use Rattle.trie_model.specs.Trees.{Tree, IsTree};
+ghost use Rattle.trie_model.specs.Changes.{Deep};
 ghost use Rattle.trie_model.specs.Memory.{top_cell};
 ghost use Rattle.trie_write.specs.Tops.{IsBranchTop, IsLeafTop, NotBefore};
 
@@ -32,6 +33,23 @@ pub fn branch_above(node: Cell, place: u16) -> Option<Branch>
         Err(_) => None,
         Ok(branch) => {
             if branch.offset < place {
+                return Some(branch);
+            }
+            None
+        }
+    }
+}
+
+/// The branch at a tree's top, where its offset is the place.
+pub fn branch_at(node: Cell, place: u16) -> Option<Branch>
+    ensures at { IfSome result (λ branch. branch.offset ≡ place) }
+    ensures branch { IfSome result (λ branch. (low : ℕ) (t : Tree) → IsTree low t → node ≡ top_cell t → IsBranchTop t branch) }
+    ensures deep { result ≡ None → (low : ℕ) (t : Tree) → IsTree low t → node ≡ top_cell t → NotBefore place t → Deep place t }
+{
+    match top_of(node) {
+        Err(_) => None,
+        Ok(branch) => {
+            if branch.offset == place {
                 return Some(branch);
             }
             None
