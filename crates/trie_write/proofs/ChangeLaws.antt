@@ -1,34 +1,32 @@
 -- A change at the end of a way: what stands before it, and after.
-use Rattle.std.proofs.Common.{◌≡◌, ℕ, suc, ◌+◌, ◌/◌, ◌<◌, ◌≤◌, ◌++◌, Bool, true, false, List, [], ◌∷◌, arith, inl, inr, refl, sym, ◌∙◌, ap, subst}
+use Rattle.std.proofs.Common.{◌≡◌, ℕ, ◌+◌, ◌/◌, ◌≤◌, ◌++◌, Bool, true, false, List, arith, inl, inr, refl, sym, ◌∙◌, ap, subst}
 use Rattle.packed_node.specs.declared.Cell.{Cell}
-use Rattle.trie_model.specs.Changes.{Inserted, Removed}
-use Rattle.trie_model.specs.Keys.{at, Same, Entry, InList}
+use Rattle.trie_model.specs.Keys.{at, Entry}
 use Rattle.trie_model.specs.Memory.{top_cell, Beneath}
-use Rattle.trie_model.specs.Reach.{row, in_chunk, weigh_tree}
+use Rattle.trie_model.specs.Reach.{in_chunk, weigh_tree}
 use Rattle.packed_node.specs.declared.Leaf.{Leaf}
 use Rattle.packed_node.specs.declared.Branch.{Branch}
 use Rattle.trie_model.specs.Trees.{Tree, entries_of, cells_in, IsTree}
 use Rattle.trie_model.specs.Trees.Tree.{leaf, branch}
 use Rattle.trie_write.specs.Tops.{IsLeafTop, IsBranchTop}
-use Rattle.trie_model.proofs.KeyLaws.{in_left, in_right, in_both}
 use Rattle.trie_model.proofs.MoveLaws.{beneath_kept}
 use Rattle.trie_model.proofs.ReachLaws.{met, live_is}
-use Rattle.chunk_usage.specs.Rooms.{Account, Handed}
+use Rattle.chunk_usage.specs.Rooms.{Account}
 use Rattle.std.proofs.lemmas.Bool.{cases_lt}
 use Rattle.trie_write.specs.declared.change.Change.{Change}
 use Rattle.trie_write.specs.declared.change.Span.{Span}
-use Rattle.trie_write.specs.Mutable.{Rooted, SeatAsks, IsSeat}
+use Rattle.trie_write.specs.Mutable.{Rooted, IsSeat}
 use Rattle.trie_write.specs.Puts.{taken, left, Makes, IsTaken, PutAsks, IsPut, GivenBack, no_spare}
 use Rattle.trie_write.proofs.TwigLaws.{beneath_met}
 use Rattle.chunk_usage.specs.declared.space.Full.{Full}
 use Rattle.trie_write.specs.Spaces.{Frame, Refused}
 use Rattle.trie_write.specs.Standing.{StandsIn}
-use Rattle.trie_write.specs.Ways.{Fork, plug, end_at, IsWay}
-use Rattle.trie_write.specs.Weights.{at_place, mark}
+use Rattle.trie_write.specs.Ways.{Fork, plug, IsWay}
+use Rattle.trie_write.specs.Weights.{at_place}
 use Rattle.trie_write.proofs.PathLaws.{cases_of}
 use Rattle.trie_write.proofs.PutLaws.{met_used, rooted_within, put_rooted}
-use Rattle.trie_write.proofs.WayLaws.{Follows, low_at, plug_tree, weigh_plug, before, after, entries_plug, WayTo, way_to}
-use Rattle.trie_write.proofs.WeightLaws.{at_itself, at_another, marked, mark_le, mark_grows, mark_tells, met_within, handed_fresh}
+use Rattle.trie_write.proofs.WayLaws.{Follows, low_at, plug_tree, weigh_plug, before, after, entries_plug}
+use Rattle.trie_write.proofs.WeightLaws.{at_itself, at_another, marked, mark_le, mark_grows, mark_tells, met_within}
 
 module _ {S A : Type 0} (has : S → ℕ → Cell → Type 0) (account : A → Account) where
   pub stands_rooted : (s : S) (a : A) {r : ℕ} {t : Tree} {version : List Entry} → StandsIn (has s) (account a).used (account a).live r t version → Rooted has account s a no_spare r t

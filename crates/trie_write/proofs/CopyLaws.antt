@@ -14,11 +14,11 @@ use Rattle.trie_model.proofs.TopLaws.{is_node}
 use Rattle.chunk_cells.specs.Chunks.{IsGiven}
 use Rattle.chunk_usage.specs.Rooms.{Account, Handed}
 use Rattle.trie_read.specs.Reads.{IsTop}
-use Rattle.trie_write.specs.Spaces.{Frame, MayWrite, Wrote, IsWritable}
+use Rattle.trie_write.specs.Spaces.{Frame, MayWrite, Wrote}
 use Rattle.trie_write.specs.Ways.{Fork, fork, plug, end_at, Along, twigs_of, twigs_along}
 use Rattle.trie_write.specs.Turns.{Through}
 use Rattle.trie_write.specs.Mutable.{Hangs, WayAsks, IsCopied}
-use Rattle.trie_write.specs.Weights.{at_place, mark}
+use Rattle.trie_write.specs.Weights.{at_place}
 use Rattle.trie_write.proofs.SpaceLaws.{apart_from}
 use Rattle.trie_write.proofs.TurnLaws.{whole, known, way_on, n_is}
 use Rattle.trie_write.proofs.TwigLaws.{beneath_met}

@@ -1,12 +1,12 @@
 -- A name put in below a root that stands, and the first name.
-use Rattle.std.proofs.Common.{◌≡◌, ℕ, suc, ◌+◌, ◌/◌, ◌<◌, ◌≤◌, ◌++◌, Bool, true, List, [], ◌∷◌, append_assoc, Option, Some, length, arith, inl, inr, refl, sym, ◌∙◌, ap, subst}
+use Rattle.std.proofs.Common.{◌≡◌, ℕ, suc, ◌+◌, ◌/◌, ◌≤◌, ◌++◌, Bool, true, List, [], ◌∷◌, append_assoc, Option, Some, length, arith, inl, inr, refl, sym, ◌∙◌, ap, subst}
 use Rattle.packed_node.specs.declared.Cell.{Cell}
 use Rattle.packed_node.specs.declared.Leaf.{Leaf}
 use Rattle.packed_node.specs.Nodes.{leaf_cell}
 use Rattle.zone_model.specs.Keys.{Leads}
-use Rattle.trie_model.specs.Changes.{Nearest, Inserted, Grown}
-use Rattle.trie_model.specs.Keys.{at, Same, Entry, IsEntry, Less, InList}
-use Rattle.trie_model.specs.Memory.{top_cell, Beneath, ItemLies, item_cell}
+use Rattle.trie_model.specs.Changes.{Inserted}
+use Rattle.trie_model.specs.Keys.{at, Same, Entry, IsEntry, InList}
+use Rattle.trie_model.specs.Memory.{top_cell, ItemLies, item_cell}
 use Rattle.trie_model.specs.Reach.{row, in_chunk}
 use Rattle.trie_model.specs.Trees.{Tree, entries_of, cells_in, IsRow, IsTree}
 use Rattle.trie_model.specs.Trees.Tree.{leaf}
@@ -17,25 +17,22 @@ use Rattle.trie_model.proofs.MoveLaws.{beneath_kept, tree_weaker}
 use Rattle.chunk_usage.specs.Rooms.{Account, Handed}
 use Rattle.trie_read.specs.Reads.{IsTop, EachTells}
 use Rattle.trie_write.specs.declared.change.Change.{Change}
-use Rattle.trie_write.specs.declared.change.Span.{Span}
 use Rattle.trie_write.specs.declared.near.Difference.{Difference}
 use Rattle.trie_write.specs.Mutable.{Rooted}
-use Rattle.trie_write.specs.Inserts.{IsLaid, IsFirst, WithAsks, IsWith, LacksKey}
+use Rattle.trie_write.specs.Inserts.{IsLaid, WithAsks, IsWith, LacksKey}
 use Rattle.trie_write.specs.Nearness.{FirstDiffers, Differs}
 use Rattle.trie_write.specs.Paths.{twigs_on_path, to_copy}
-use Rattle.trie_write.specs.Puts.{span, taken, IsTaken, IsPut, no_spare}
-use Rattle.trie_write.specs.Roots.{TwigsOnPath, ToCopy, Beyond}
-use Rattle.trie_write.specs.Seats.{IsOutside, Unreached}
+use Rattle.trie_write.specs.Puts.{span, IsTaken, IsPut, no_spare}
+use Rattle.trie_write.specs.Roots.{TwigsOnPath, ToCopy, IsOutside, Unreached, Beyond}
 use Rattle.trie_write.specs.Spaces.{Frame}
 use Rattle.trie_write.specs.Standing.{StandsIn, HasTrie}
 use Rattle.trie_write.specs.Ways.{Fork, plug, Along, twigs_along}
-use Rattle.trie_write.specs.Weights.{at_place, mark}
+use Rattle.trie_write.specs.Weights.{at_place}
 use Rattle.trie_write.proofs.ChangeLaws.{stands_rooted, rooted_stands, entries_before, put_stands}
 use Rattle.trie_write.proofs.PathLaws.{path_plug}
 use Rattle.trie_write.proofs.PutLaws.{end_hangs}
-use Rattle.trie_write.proofs.ReplaceLaws.{laid_top}
 use Rattle.trie_write.proofs.SpaceLaws.{apart_from}
-use Rattle.trie_write.proofs.WayLaws.{Follows, low_at, end_tree, before, after, entries_plug, key_between, way_to}
+use Rattle.trie_write.proofs.WayLaws.{low_at, end_tree, before, after, entries_plug, key_between, way_to}
 use Rattle.trie_write.proofs.WeightLaws.{handed_fresh}
 
 pub laid_is : {S A : Type 0} {has : S → ℕ → Cell → Type 0} {account : A → Account} {s1 : S} {old : Account} (a1 : A) {l : Leaf} {item : List ℕ} → l.len ≡ length item → Handed old (account a1) l.at (cells_in item) → ItemLies (has s1) l.at item → IsLaid has account s1 a1 l item

@@ -7,7 +7,7 @@ use Rattle.trie_model.specs.Trees.Tree.{leaf, branch}
 use Rattle.trie_model.specs.Trees.Twigs.{none, twig}
 use Rattle.trie_model.proofs.BitmapLaws.{Rising}
 use Rattle.trie_write.specs.Paths.{twigs_on_path, twigs_past, copied_below, copied_past, to_copy}
-use Rattle.trie_write.specs.Ways.{Fork, fork, plug, twig_at, Along, twigs_of, twigs_along, copied_along}
+use Rattle.trie_write.specs.Ways.{Fork, plug, twig_at, Along, twigs_of, twigs_along, copied_along}
 use Rattle.trie_write.proofs.WayLaws.{is_fork, fork_count}
 
 pub cases_of : (b : Bool) → (b ≡ true) ⊎ (b ≡ false)

@@ -1,19 +1,17 @@
 -- A tree is put into a cell below a root.
-use Rattle.std.proofs.Common.{◌≡◌, ℕ, suc, ◌+◌, ◌/◌, ◌<◌, ◌≤◌, ◌++◌, Bool, true, false, cond, List, [], ◌∷◌, arith, refl, sym, ◌∙◌, ap, subst}
-use Rattle.std.proofs.lemmas.Bool.{true≢false}
+use Rattle.std.proofs.Common.{◌≡◌, ℕ, ◌+◌, ◌/◌, ◌≤◌, ◌++◌, Bool, true, false, cond, List, [], ◌∷◌, arith, refl, sym, ◌∙◌, ap, subst}
 use Rattle.packed_node.specs.declared.Cell.{Cell}
 use Rattle.trie_model.specs.Memory.{top_cell, Beneath}
 use Rattle.trie_model.specs.Reach.{row, in_chunk, weigh_tree, WithinTree}
 use Rattle.trie_model.specs.Keys.{InList}
-use Rattle.trie_model.specs.Trees.{Tree, entries_of, count, IsTree}
+use Rattle.trie_model.specs.Trees.{Tree, entries_of, IsTree}
 use Rattle.trie_model.proofs.DropLaws.{higher}
 use Rattle.trie_model.proofs.MoveLaws.{beneath_kept, tree_weaker}
 use Rattle.chunk_cells.specs.Chunks.{IsGiven}
 use Rattle.chunk_usage.specs.Rooms.{Account, Handed}
-use Rattle.trie_read.specs.Reads.{IsTop}
 use Rattle.trie_write.specs.Mutable.{Rooted, Hangs, WayAsks, IsCopied, IsParted, SeatAsks, IsSeat}
 use Rattle.trie_write.specs.Spaces.{Frame, MayWrite, IsWritable}
-use Rattle.trie_write.specs.Ways.{Fork, fork, plug, twig_at, end_at, Along, IsWay, twigs_of, twigs_along, copied_along}
+use Rattle.trie_write.specs.Ways.{Fork, fork, plug, twig_at, end_at, Along, twigs_of, twigs_along, copied_along}
 use Rattle.trie_write.specs.Weights.{at_place, mark}
 use Rattle.trie_write.proofs.SpaceLaws.{apart_from}
 use Rattle.trie_write.proofs.TwigLaws.{agree_tree, deepen, beneath_met}

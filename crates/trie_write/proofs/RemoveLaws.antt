@@ -1,12 +1,12 @@
 -- A leaf taken out below a root that stands.
-use Rattle.std.proofs.Common.{◌≡◌, ℕ, suc, ◌+◌, ◌%◌, ◌<◌, ◌≤◌, ◌++◌, Bool, true, List, [], ◌∷◌, append_assoc, count_ones, arith, inl, inr, refl, sym, ◌∙◌, ap, subst}
+use Rattle.std.proofs.Common.{◌≡◌, ℕ, suc, ◌+◌, ◌%◌, ◌≤◌, ◌++◌, List, [], ◌∷◌, append_assoc, count_ones, arith, inl, inr, refl, sym, ◌∙◌, ap, subst}
 use Rattle.packed_node.specs.declared.Cell.{Cell}
-use Rattle.trie_model.specs.Changes.{Removed, Shrunk}
-use Rattle.trie_model.specs.Keys.{at, Entry, InList}
+use Rattle.trie_model.specs.Changes.{Removed}
+use Rattle.trie_model.specs.Keys.{Entry, InList}
 use Rattle.trie_model.specs.Memory.{top_cell}
 use Rattle.trie_model.specs.Reach.{row, in_chunk, weigh_tree}
 use Rattle.trie_model.specs.Trees.{Tree, entries_of, cells_in, IsTree}
-use Rattle.trie_model.specs.Trees.Tree.{leaf, branch}
+use Rattle.trie_model.specs.Trees.Tree.{leaf}
 use Rattle.trie_model.proofs.DropLaws.{higher}
 use Rattle.trie_model.proofs.KeyLaws.{in_left, in_right, in_both}
 use Rattle.trie_model.proofs.ReachLaws.{live_is}
@@ -22,7 +22,7 @@ use Rattle.trie_write.specs.Puts.{span, IsPut, no_spare}
 use Rattle.trie_write.specs.Standing.{StandsIn}
 use Rattle.trie_write.specs.Turns.{IsLastTurn}
 use Rattle.trie_write.specs.Tops.{NotBefore}
-use Rattle.trie_write.specs.Ways.{Fork, fork, plug, Along, IsWay, twigs_of, twigs_along}
+use Rattle.trie_write.specs.Ways.{Fork, fork, plug, Along, IsWay, twigs_along}
 use Rattle.trie_write.proofs.ChangeLaws.{stands_rooted, entries_before, put_stands}
 use Rattle.trie_write.proofs.PathLaws.{path_plug}
 use Rattle.trie_write.proofs.PutLaws.{plug-append, along_parts, end_hangs}

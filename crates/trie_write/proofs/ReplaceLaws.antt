@@ -1,11 +1,11 @@
 -- The way to a key's leaf, and the leaf exchanged.
-use Rattle.std.proofs.Common.{◌≡◌, ℕ, suc, ◌+◌, ◌/◌, ◌%◌, ◌<◌, ◌≤◌, ◌++◌, Bool, true, List, [], ◌∷◌, Option, Some, length, arith, inl, inr, refl, sym, ◌∙◌, ap, subst}
+use Rattle.std.proofs.Common.{◌≡◌, ℕ, ◌+◌, ◌/◌, ◌%◌, ◌<◌, ◌≤◌, Bool, true, List, Option, Some, length, arith, inl, inr, refl, sym, ◌∙◌, ap, subst}
 use Rattle.packed_node.specs.declared.Cell.{Cell}
 use Rattle.packed_node.specs.declared.Leaf.{Leaf}
 use Rattle.packed_node.specs.Nodes.{IsLeaf, leaf_cell}
 use Rattle.trie_model.specs.Keys.{at, Entry, IsEntry, InList}
-use Rattle.trie_model.specs.Memory.{top_cell, ItemLies, item_cell}
-use Rattle.trie_model.specs.Reach.{row, in_chunk, weigh_tree}
+use Rattle.trie_model.specs.Memory.{top_cell, ItemLies}
+use Rattle.trie_model.specs.Reach.{in_chunk}
 use Rattle.trie_model.specs.Trees.{Tree, entries_of, cells_in, IsRow, IsTree}
 use Rattle.trie_model.specs.Trees.Tree.{leaf, branch}
 use Rattle.trie_model.proofs.DropLaws.{higher}
@@ -14,24 +14,21 @@ use Rattle.trie_write.specs.Asks.{HasKey}
 use Rattle.trie_write.specs.Exchanges.{Exchanged}
 use Rattle.trie_write.specs.declared.change.Change.{Change}
 use Rattle.trie_write.specs.declared.change.Span.{Span}
-use Rattle.trie_write.specs.Puts.{span, taken, Makes, IsTaken, IsPut}
-use Rattle.trie_write.specs.Mutable.{Rooted, SeatAsks, IsSeat}
+use Rattle.trie_write.specs.Puts.{span, Makes, IsTaken, IsPut}
 use Rattle.chunk_usage.specs.declared.space.Full.{Full}
-use Rattle.trie_write.specs.Spaces.{Frame, Fenced, Refused}
+use Rattle.trie_write.specs.Spaces.{Fenced, Refused}
 use Rattle.zone_model.specs.Keys.{Leads}
 use Rattle.trie_model.specs.Memory.{Stands}
 use Rattle.trie_read.specs.Reads.{IsTop, EachTells}
 use Rattle.trie_write.specs.Paths.{twigs_on_path, to_copy}
-use Rattle.trie_write.specs.Roots.{TwigsOnPath, ToCopy, Beyond}
-use Rattle.trie_write.specs.Seats.{IsOutside, Unreached}
+use Rattle.trie_write.specs.Roots.{TwigsOnPath, ToCopy, IsOutside, Unreached, Beyond}
 use Rattle.trie_write.proofs.RootLaws.{standing_later}
 use Rattle.trie_write.specs.Standing.{StandsIn, HasTrie}
 use Rattle.trie_model.specs.Order.{IsThere}
-use Rattle.trie_write.specs.Tops.{NotBefore}
 use Rattle.trie_write.specs.Ways.{Fork, plug, IsWay}
 use Rattle.trie_write.specs.Weights.{at_place}
 use Rattle.trie_write.proofs.ChangeLaws.{entries_before, put_stands}
-use Rattle.trie_write.proofs.WayLaws.{Follows, low_at, end_tree, weigh_plug, before, after, entries_plug, WayTo, way_to}
+use Rattle.trie_write.proofs.WayLaws.{low_at, end_tree, before, after, entries_plug, way_to}
 use Rattle.trie_write.proofs.WeightLaws.{handed_fresh}
 
 -- ---- the way to a key's leaf

@@ -1,24 +1,21 @@
--- A root of its own for a changed tree, and what stands there.
-use Rattle.std.proofs.Common.{◌≡◌, ℕ, ◌+◌, ◌<◌, ◌≤◌, inl, inr, Bool, true, false, List, [], ◌∷◌, length, Option, Some, None, length-append, arith, refl, sym, ◌∙◌, ap, subst}
+-- What stands at a root, and what its entries tell.
+use Rattle.std.proofs.Common.{◌≡◌, ℕ, ◌<◌, inl, inr, Bool, true, List, [], ◌∷◌, length, Option, Some, None, length-append, arith, refl, sym, ◌∙◌, ap, subst}
 use Rattle.packed_node.specs.declared.Cell.{Cell}
-use Rattle.packed_node.specs.declared.Leaf.{Leaf}
 use Rattle.zone_model.specs.Names.{wire}
 use Rattle.zone_model.specs.Keys.{Leads}
-use Rattle.trie_model.proofs.NameLaws.{name_key}
+use Rattle.trie_model.specs.Changes.{Inserted}
+use Rattle.trie_model.specs.Keys.{IsKey, Entry, IsEntry, InList}
+use Rattle.trie_model.specs.Memory.{top_cell, Stands}
+use Rattle.trie_model.specs.Trees.{Tree}
 use Rattle.trie_model.proofs.AddLaws.{in_put}
-use Rattle.trie_read.specs.Reads.{IsTop, EachTells}
-use Rattle.trie_write.specs.Nearness.{FirstDiffers, Differs}
-use Rattle.trie_write.proofs.ItemLaws.{wire_some, AreSmall}
-use Rattle.trie_model.specs.Keys.{at, IsKey, Entry, IsEntry, InList}
-use Rattle.trie_model.specs.Memory.{top_cell, Beneath, ItemLies, Stands}
-use Rattle.trie_model.specs.Reach.{row, in_chunk, weigh_tree, WithinTree}
-use Rattle.trie_model.specs.Trees.{Tree, entries_of, cells_in, IsRow}
+use Rattle.trie_model.proofs.KeyLaws.{in_left, in_right, in_both}
 use Rattle.trie_model.proofs.MoveLaws.{Keeps, beneath_kept, tree_weaker}
-use Rattle.trie_model.proofs.ReachLaws.{live_is}
-use Rattle.trie_write.specs.Weights.{at_place, mark}
+use Rattle.trie_model.proofs.NameLaws.{name_key}
+use Rattle.trie_read.specs.Reads.{EachTells}
+use Rattle.trie_write.specs.Deletions.{Deleted}
+use Rattle.trie_write.specs.Exchanges.{Exchanged}
 use Rattle.trie_write.specs.Standing.{StandsIn, Standing}
-use Rattle.trie_write.specs.declared.near.Difference.{Difference}
-use Rattle.trie_model.specs.Changes.{Nearest, Inserted}
+use Rattle.trie_write.proofs.ItemLaws.{wire_some, AreSmall}
 
 -- ---- the entry of a key and an item
 
@@ -48,15 +45,24 @@ pub standing_later : {has new : ℕ → Cell → Type 0} {used used_new : ℕ �
 standing_later version None s keep stays live = (s.0, λ k. live k ∙ s.1 k)
 standing_later version (Some r) s keep stays live = (s.0, stands_later s.1 keep stays live)
 
-pub not_there : {key : List ℕ} {es : List Entry} {d : Difference} → FirstDiffers key es d → (x : Entry) → InList x es → x.key ≡ key → ⊥
-not_there {key} f x i e = let a = f.nearest.apart x i in a.2 (ap (λ (y : List ℕ). at y a.0) (sym e))
-
 pub inserted_first : (e : Entry) (version : List Entry) → version ≡ [] → Inserted e version (e ∷ [])
 inserted_first e version none = record { before = []; after = []; old_is = none; new_is = refl; lower = λ x i. absurd i; upper = λ x i. absurd i }
 
 -- each item still tells its key
 pub tells_more : (tells : List ℕ → List ℕ → Type 0) (e : Entry) (old new : List Entry) → EachTells tells old → tells e.key e.item → Inserted e old new → EachTells tells new
 tells_more tells e old new each here put x i = elim (in_put e x old new put i) [ inl same ↦ subst (λ (z : Entry). tells z.key z.item) (sym same) here | inr there ↦ each x there ]
+
+pub tells_exchanged : (tells : List ℕ → List ℕ → Type 0) (e : Entry) (old new : List Entry) → EachTells tells old → tells e.key e.item → Exchanged e old new → EachTells tells new
+tells_exchanged tells e old new each here c x i = elim (in_both x c.before (e ∷ c.after) (subst (InList x) c.new_is i)) [
+  | inl a ↦ each x (subst (InList x) (sym c.old_is) (in_left x c.before (c.gone ∷ c.after) a))
+  | inr b ↦ elim b [ inl same ↦ subst (λ (z : Entry). tells z.key z.item) (sym same) here | inr z ↦ each x (subst (InList x) (sym c.old_is) (in_right x c.before (c.gone ∷ c.after) (inr z))) ]
+]
+
+pub tells_fewer : (tells : List ℕ → List ℕ → Type 0) (key : List ℕ) (old new : List Entry) → EachTells tells old → Deleted key old new → EachTells tells new
+tells_fewer tells key old new each d x i = each x (subst (InList x) (sym d.removed.old_is) (elim (in_both x d.removed.before d.removed.after (subst (InList x) d.removed.new_is i)) [
+  | inl a ↦ in_left x d.removed.before (d.gone ∷ d.removed.after) a
+  | inr b ↦ in_right x d.removed.before (d.gone ∷ d.removed.after) (inr b)
+]))
 
 pub stands_of : (has : ℕ → Cell → Type 0) (used : ℕ → Bool) (live : ℕ → ℕ) (version : List Entry) (root : Option ℕ) → Standing has used live root version → Stands has root version
 stands_of has used live version None s = s.0

@@ -2,13 +2,46 @@
 use Rattle.std.proofs.Common.{◌≡◌, ℕ, zero, suc, ◌+◌, ◌/◌, ◌<◌, ◌≤◌, Bool, true, false, List, [], ◌∷◌, Contains, Option, Some, None, Result, Ok, Err, IfOk, IfErr, slice_get, slice_set, arith, refl, sym, ◌∙◌, ap, subst, inl, inr}
 use Rattle.std.proofs.lemmas.Bool.{true≢false, cases_eq}
 use Rattle.packed_node.specs.declared.Cell.{Cell}
-use Rattle.trie_model.specs.Trees.{IsRow}
 use Rattle.trie_model.specs.Reach.{row, in_chunk}
 use Rattle.chunk_cells.specs.Chunks.{IsGiven, IsFree}
 use Rattle.chunk_usage.specs.declared.space.Full.{Full}
 use Rattle.chunk_usage.specs.Rooms.{Account, Handed, GivesChunk, Grows}
 use Rattle.trie_write.specs.Spaces.{Ready, Frame, Fenced, Refused, MayWrite, Wrote, IsWritable}
-use Rattle.trie_write.proofs.FrameLaws.{fresh_before, grows_then, grows_refl, given_by}
+
+-- what isn't fresh later wasn't before
+pub fresh_before : (b c : Bool) → (b ≡ true → c ≡ true) → c ≡ false → b ≡ false
+fresh_before true c h e = absurd (true≢false (sym (h refl) ∙ e))
+fresh_before false c h e = refl
+
+pub grows_then : {u0 u1 u2 f0 f1 f2 : ℕ → Bool} → Grows u0 u1 f0 f1 → Grows u1 u2 f1 f2 → Grows u0 u2 f0 f2
+grows_then a b = record { stays = λ q u. b.stays q (a.stays q u); settled = λ q u. b.settled q (a.stays q u) ∙ a.settled q u; fresher = λ q f. b.fresher q (a.fresher q f) }
+
+pub grows_refl : (u f : ℕ → Bool) → Grows u u f f
+grows_refl u f = record { stays = λ q h. h; settled = λ q h. refl; fresher = λ q h. h }
+
+-- what becomes of a chunk's state
+set_same : (given : List Bool) (k : ℕ) (b : Bool) → IsFree given k → slice_get (slice_set given k b) k ≡ Some b
+set_same [] zero b h = cc
+set_same [] (suc k) b h = cc
+set_same (x ∷ xs) zero b h = refl
+set_same (x ∷ xs) (suc k) b h = set_same xs k b h
+
+set_other : (given : List Bool) (k j : ℕ) (b : Bool) → (j ≡ k → ⊥) → slice_get (slice_set given k b) j ≡ slice_get given j
+set_other [] k j b ne = refl
+set_other (x ∷ xs) zero zero b ne = absurd (ne refl)
+set_other (x ∷ xs) zero (suc j) b ne = refl
+set_other (x ∷ xs) (suc k) zero b ne = refl
+set_other (x ∷ xs) (suc k) (suc j) b ne = set_other xs k j b (λ e. ne (ap suc e))
+
+given_more : (given : List Bool) (k : ℕ) → IsFree given k → (j : ℕ) → IsGiven given j → IsGiven (slice_set given k true) j
+given_more given k free j h = elim (cases_eq j k) [
+  | inl e ↦ subst (IsGiven (slice_set given k true)) (sym e) (set_same given k true free)
+  | inr ne ↦ set_other given k j true ne ∙ h
+]
+
+pub given_by : (given new : List Bool) (chunk : Option ℕ) → GivesChunk given new chunk → (j : ℕ) → IsGiven given j → IsGiven new j
+given_by given new None gives j h = subst (λ (x : List Bool). IsGiven x j) (sym gives) h
+given_by given new (Some chunk) gives j h = subst (λ (x : List Bool). IsGiven x j) (sym gives.1) (given_more given chunk gives.0 j h)
 
 -- a cell in use is none of those handed out
 pub apart_from : {old new : Account} {first n : ℕ} → Handed old new first n → (z : ℕ) → old.used z ≡ true → (i : ℕ) → i < n → z ≡ first + i → ⊥

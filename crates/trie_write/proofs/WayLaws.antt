@@ -1,5 +1,5 @@
 -- The way to a tree that hangs in another: what stands beside it, and what the whole is when the tree at its end changes.
-use Rattle.std.proofs.Common.{◌≡◌, ℕ, suc, ◌+◌, ◌^◌, ◌<◌, ◌≤◌, ◌⊎◌, inl, inr, Bool, List, [], ◌∷◌, ◌++◌, append_assoc, append-nil, arith, refl, sym, ◌∙◌, ap, subst}
+use Rattle.std.proofs.Common.{◌≡◌, ℕ, suc, ◌+◌, ◌<◌, ◌≤◌, inl, inr, List, [], ◌∷◌, ◌++◌, append_assoc, append-nil, arith, refl, sym, ◌∙◌, ap, subst}
 use Rattle.std.proofs.lemmas.Bool.{cases_lt}
 use Rattle.packed_node.specs.declared.Cell.{Cell}
 use Rattle.packed_node.specs.Nodes.{branch_cell}
@@ -12,8 +12,7 @@ use Rattle.trie_model.specs.Trees.Twigs.{none, twig}
 use Rattle.trie_model.proofs.BitmapLaws.{Rising, count-beside, bitmap_of-beside, few}
 use Rattle.trie_model.proofs.KeyLaws.{in_left, in_right, in_both}
 use Rattle.trie_model.proofs.SplitLaws.{rising_of, entries-beside, lie_left, lie_right, lie_join, twigs_left, twigs_right, twigs_join, keys_lower, keys_upper}
-use Rattle.trie_write.specs.Ways.{Fork, fork, plug, twig_at, end_at, Along, IsWay, twigs_of}
-use Rattle.trie_write.specs.Tops.{NotBefore}
+use Rattle.trie_write.specs.Ways.{Fork, fork, plug, twig_at, end_at, IsWay, twigs_of}
 use Rattle.trie_write.specs.Weights.{at_place}
 use Rattle.trie_write.proofs.TwigLaws.{beneath_met}
 use Rattle.trie_write.proofs.WeightLaws.{at_itself}

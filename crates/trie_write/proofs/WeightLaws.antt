@@ -1,12 +1,12 @@
 -- A test that each reference passes, and how often a reference is met.
-use Rattle.std.proofs.Common.{◌≡◌, ℕ, zero, suc, ◌+◌, ◌<◌, ◌≤◌, ◌⊎◌, inl, inr, Bool, true, false, cond, List, ◌-◌, arith, refl, sym, ◌∙◌, ap}
+use Rattle.std.proofs.Common.{◌≡◌, ℕ, zero, suc, ◌+◌, ◌<◌, ◌≤◌, ◌⊎◌, inl, inr, Bool, true, false, cond, ◌-◌, arith, refl, sym, ◌∙◌, ap}
 use Rattle.std.proofs.lemmas.Bool.{true≢false, cases_lt}
 use Rattle.std.proofs.lemmas.Bool.Decides.{nat_tests}
 use Rattle.trie_model.specs.Trees.{Tree, Twigs, cells_in}
 use Rattle.trie_model.specs.Trees.Tree.{leaf, branch}
 use Rattle.trie_model.specs.Trees.Twigs.{none, twig}
 use Rattle.trie_model.specs.Reach.{row, weigh_tree, weigh, WithinTree, Within}
-use Rattle.chunk_usage.specs.Rooms.{Account, Handed, Room}
+use Rattle.chunk_usage.specs.Rooms.{Account, Handed}
 use Rattle.trie_write.specs.Weights.{at_place, mark}
 
 pub at_itself : (q : ℕ) → ◌≡◌ {A = ℕ} (at_place q q) 1
@@ -64,17 +64,6 @@ pub in_row : (q r n : ℕ) → ((i : ℕ) × (i < n) × (q ≡ r + i)) ⊎ ((i :
 in_row q r n = elim (cases_lt q r) [
   | inl l ↦ inr (λ i m e. omega arith)
   | inr g ↦ elim (cases_lt q (r + n)) [ inl l ↦ inl (q - r, omega arith, omega arith) | inr h ↦ inr (λ i m e. omega arith) ]
-]
-
--- cells handed out were not in use and now are, each once
-pub row_fresh : {used new fresh : ℕ → Bool} {given : List Bool} {r n : ℕ} → Room used new fresh given r n → ((q : ℕ) → used q ≡ true → new q ≡ true) → (q : ℕ) → row (at_place q) r n + mark used q ≤ mark new q
-row_fresh {used} {new} {r = r} {n = n} room stays q = elim (in_row q r n) [
-  | inl i ↦ (
-      let a = row_meets q r n i.0 i.1 i.2 in
-      let b = unmarked used q (ap used i.2 ∙ room.unused i.0 i.1) in
-      let c = marked new q (ap new i.2 ∙ room.taken i.0 i.1) in omega arith
-      )
-  | inr out ↦ (let a = row_misses q r n out in let b = mark_grows used new q (stays q) in omega arith)
 ]
 
 -- each reference of the tree passes a test that those pass which it meets

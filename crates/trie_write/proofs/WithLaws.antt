@@ -1,5 +1,5 @@
 -- A leaf more, among the twigs of a branch or beside a node.
-use Rattle.std.proofs.Common.{◌≡◌, ℕ, suc, ◌+◌, ◌-◌, ◌/◌, ◌%◌, ◌^◌, ◌<◌, ◌≤◌, Bool, true, List, count_ones, arith, inl, inr, refl, sym, ◌∙◌, ap, subst}
+use Rattle.std.proofs.Common.{◌≡◌, ℕ, suc, ◌+◌, ◌-◌, ◌/◌, ◌%◌, ◌^◌, ◌<◌, ◌≤◌, Bool, true, List, count_ones, arith, inl, inr, sym, ◌∙◌, ap, subst}
 use Rattle.std.specs.Int.{bit_at}
 use Rattle.std.proofs.lemmas.Bool.{cases_lt}
 use Rattle.packed_node.specs.declared.Cell.{Cell}
@@ -7,7 +7,7 @@ use Rattle.packed_node.specs.declared.Leaf.{Leaf}
 use Rattle.packed_node.specs.declared.Branch.{Branch}
 use Rattle.packed_node.specs.Nodes.{IsLeaf, IsBranch, leaf_cell, branch_cell}
 use Rattle.trie_model.specs.Changes.{Nearest, Grown, Deep}
-use Rattle.trie_model.specs.Keys.{at, Entry}
+use Rattle.trie_model.specs.Keys.{at}
 use Rattle.trie_model.specs.Memory.{top_cell, Beneath, Lie, ItemLies, item_cell}
 use Rattle.trie_model.specs.Reach.{row, weigh_tree, WithinTree, Within}
 use Rattle.trie_model.specs.Trees.{Tree, Twigs, entries_of, entries, count, bitmap_of, cells_in, IsRow, IsTree, beside}
@@ -20,7 +20,7 @@ use Rattle.trie_model.proofs.GrowthLaws.{Alone, alone_of, split_low, split_high}
 use Rattle.trie_model.proofs.MoveLaws.{beneath_kept, lie_moved, lie_cell, within_cell}
 use Rattle.trie_model.proofs.SplitLaws.{Missing, rising_of, lie_join, lie_left, lie_right, within_left, within_right}
 use Rattle.trie_model.proofs.TopLaws.{is_node}
-use Rattle.chunk_usage.specs.Rooms.{Account, Handed}
+use Rattle.chunk_usage.specs.Rooms.{Account}
 use Rattle.trie_write.specs.declared.change.Change.{Change}
 use Rattle.trie_write.specs.declared.change.Span.{Span}
 use Rattle.trie_write.specs.declared.near.Difference.{Difference}

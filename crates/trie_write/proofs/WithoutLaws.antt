@@ -1,20 +1,19 @@
 -- A branch without one of its leaves.
-use Rattle.std.proofs.Common.{◌≡◌, ℕ, suc, ◌+◌, ◌-◌, ◌/◌, ◌%◌, ◌^◌, ◌<◌, ◌≤◌, ◌++◌, Bool, true, List, [], ◌∷◌, count_ones, arith, inl, inr, refl, sym, ◌∙◌, ap, subst}
+use Rattle.std.proofs.Common.{◌≡◌, ℕ, suc, ◌+◌, ◌-◌, ◌%◌, ◌^◌, ◌<◌, ◌≤◌, Bool, true, List, ◌∷◌, count_ones, arith, refl, sym, ◌∙◌, ap, subst}
 use Rattle.std.specs.Int.{bit_at}
 use Rattle.packed_node.specs.declared.Cell.{Cell}
-use Rattle.packed_node.specs.declared.Branch.{Branch}
 use Rattle.packed_node.specs.Nodes.{IsBranch, branch_cell}
 use Rattle.trie_model.specs.Changes.{Shrunk}
 use Rattle.trie_model.specs.Keys.{at, Entry}
 use Rattle.trie_model.specs.Memory.{top_cell, Beneath, Lie}
 use Rattle.trie_model.specs.Reach.{row, in_chunk, weigh_tree, WithinTree, Within}
-use Rattle.trie_model.specs.Trees.{Tree, Twigs, entries_of, count, bitmap_of, cells_in, IsRow, IsTree, beside}
+use Rattle.trie_model.specs.Trees.{Tree, Twigs, count, bitmap_of, cells_in, IsRow, IsTree, beside}
 use Rattle.trie_model.specs.Trees.Tree.{leaf, branch}
 use Rattle.trie_model.specs.Trees.Twigs.{none, twig}
-use Rattle.trie_model.proofs.BitmapLaws.{Rising, Cut, index_of, set_bit, count-beside, bitmap_of-beside}
-use Rattle.trie_model.proofs.CountLaws.{under, weigh_is, under-beside}
+use Rattle.trie_model.proofs.BitmapLaws.{Cut, index_of, set_bit, count-beside, bitmap_of-beside}
+use Rattle.trie_model.proofs.CountLaws.{weigh_is, under-beside}
 use Rattle.trie_model.proofs.DropLaws.{drop_twig, collapse_low, collapse_high}
-use Rattle.trie_model.proofs.MoveLaws.{Keeps, beneath_kept, lie_moved}
+use Rattle.trie_model.proofs.MoveLaws.{lie_moved}
 use Rattle.trie_model.proofs.SplitLaws.{Found, lie_join, within_left, within_right}
 use Rattle.trie_model.proofs.TopLaws.{is_node}
 use Rattle.chunk_usage.specs.Rooms.{Account, Handed}
@@ -22,13 +21,13 @@ use Rattle.trie_write.specs.declared.change.Change.{Change}
 use Rattle.trie_write.specs.declared.change.Span.{Span}
 use Rattle.trie_write.specs.declared.turn.Turn.{Turn}
 use Rattle.trie_write.specs.Deletions.{LeafTurn, IsWithout}
-use Rattle.trie_write.specs.Puts.{span, taken, left, AreSpans, Makes, IsTaken}
+use Rattle.trie_write.specs.Puts.{span, AreSpans, IsTaken}
 use Rattle.trie_write.specs.Spaces.{Frame}
 use Rattle.trie_write.specs.Ways.{Fork, fork, plug, twig_at, twigs_of, twigs_along}
-use Rattle.trie_write.specs.Weights.{at_place, mark}
+use Rattle.trie_write.specs.Weights.{at_place}
 use Rattle.trie_write.proofs.CopyLaws.{n_here}
-use Rattle.trie_write.proofs.TurnLaws.{known, at_key}
-use Rattle.trie_write.proofs.WayLaws.{IsFork, is_fork, fork_count, sides_of, twig_of}
+use Rattle.trie_write.proofs.TurnLaws.{at_key}
+use Rattle.trie_write.proofs.WayLaws.{IsFork, is_fork, fork_count, sides_of}
 use Rattle.trie_write.proofs.WeightLaws.{handed_fresh}
 
 -- a twig among others is found at its position

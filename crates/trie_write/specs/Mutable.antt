@@ -1,7 +1,6 @@
 -- What it means that the way to a place is made mutable.
 use Rattle.std.specs.Prelude.{◌≡◌, ℕ, ◌+◌, ◌<◌, ◌≤◌, ◌^◌, ◌++◌, Bool, true, List}
 use Rattle.packed_node.specs.declared.Cell.{Cell}
-use Rattle.trie_model.specs.Keys.{Entry}
 use Rattle.trie_model.specs.Memory.{Beneath, top_cell}
 use Rattle.trie_model.specs.Reach.{in_chunk, weigh_tree, WithinTree}
 use Rattle.trie_model.specs.Trees.{Tree, entries_of, IsTree}

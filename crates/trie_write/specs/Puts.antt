@@ -1,7 +1,6 @@
 -- A change that is put at the end of a way.
-use Rattle.std.specs.Prelude.{◌≡◌, ℕ, ◌+◌, ◌%◌, ◌≤◌, Bool, true, List}
+use Rattle.std.specs.Prelude.{◌≡◌, ℕ, ◌+◌, ◌%◌, ◌≤◌, true, List}
 use Rattle.packed_node.specs.declared.Cell.{Cell}
-use Rattle.trie_model.specs.Keys.{Entry}
 use Rattle.trie_model.specs.Memory.{Beneath, top_cell}
 use Rattle.trie_model.specs.Reach.{row, in_chunk, weigh_tree}
 use Rattle.trie_model.specs.Trees.{Tree, entries_of, IsTree}

@@ -1,7 +1,7 @@
 -- The way from the top of a tree down along a key.
-use Rattle.std.specs.Prelude.{◌≡◌, ℕ, suc, ◌+◌, ◌<◌, ◌++◌, Bool, List, [], ◌∷◌, if◌then◌else◌}
-use Rattle.trie_model.specs.Keys.{at, Same, Entry, InList}
-use Rattle.trie_model.specs.Trees.{Tree, Twigs, entries_of, entries, count, beside}
+use Rattle.std.specs.Prelude.{◌≡◌, ℕ, suc, ◌+◌, ◌<◌, Bool, List, [], ◌∷◌, if◌then◌else◌}
+use Rattle.trie_model.specs.Keys.{at}
+use Rattle.trie_model.specs.Trees.{Tree, Twigs, count, beside}
 use Rattle.trie_model.specs.Trees.Tree.{branch}
 use Rattle.trie_model.specs.Trees.Twigs.{twig}
 use Rattle.trie_write.specs.Tops.{NotBefore}

@@ -8,7 +8,7 @@ ghost use Rattle.trie_model.specs.Memory.{top_cell};
 ghost use Rattle.trie_model.specs.Trees.{Tree, IsTree, cells_in};
 ghost use Rattle.trie_model.specs.Trees.Tree.{leaf};
 ghost use Rattle.trie_write.specs.Puts.{span, taken, PutAsks, PutAsked, IsPut, GivenBack};
-ghost use Rattle.trie_write.specs.Seats.{IsOutside};
+ghost use Rattle.trie_write.specs.Roots.{IsOutside};
 ghost use Rattle.trie_write.specs.Spaces.{Ready, Fenced};
 ghost use Rattle.trie_write.specs.Ways.{Fork, plug, copied_along};
 

@@ -9,8 +9,7 @@ ghost use Rattle.trie_read.specs.Reads.{EachTells};
 ghost use Rattle.trie_write.specs.Asks.{HasKey, KeyIsThere};
 ghost use Rattle.trie_write.specs.Deletions.{Deleted, DropAsks, DropAsked};
 ghost use Rattle.trie_write.specs.Paths.{twigs_on_path, to_copy};
-ghost use Rattle.trie_write.specs.Roots.{TwigsOnPath, ToCopy, Beyond};
-ghost use Rattle.trie_write.specs.Seats.{IsOutside};
+ghost use Rattle.trie_write.specs.Roots.{TwigsOnPath, ToCopy, IsOutside, Beyond};
 ghost use Rattle.trie_write.specs.Spaces.{Ready, Fenced, Unchanged, Refused};
 ghost use Rattle.trie_write.specs.Standing.{HasTrie};
 

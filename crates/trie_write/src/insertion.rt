@@ -10,8 +10,7 @@ ghost use Rattle.trie_read.specs.Reads.{EachTells};
 ghost use Rattle.trie_write.specs.Inserts.{LacksKey, KeyIsMissing, IsWith};
 ghost use Rattle.trie_write.specs.Paths.{twigs_on_path, to_copy};
 ghost use Rattle.trie_write.specs.Puts.{IsTaken};
-ghost use Rattle.trie_write.specs.Roots.{TwigsOnPath, ToCopy, Beyond};
-ghost use Rattle.trie_write.specs.Seats.{IsOutside};
+ghost use Rattle.trie_write.specs.Roots.{TwigsOnPath, ToCopy, IsOutside, Beyond};
 ghost use Rattle.trie_write.specs.Spaces.{Ready, Frame, Fenced, Unchanged, Refused};
 ghost use Rattle.trie_write.specs.Standing.{HasTrie};
 

@@ -1,6 +1,6 @@
 //! Cells for what is written.
 
-ghost use Rattle.std.specs.Prelude.{◌≡◌, ◌≢◌, ◌+◌, ◌-◌, ◌/◌, ◌^◌, ◌<◌, ◌≤◌, ℕ, true, IfOk, IfErr, length};
+ghost use Rattle.std.specs.Prelude.{◌≡◌, ◌≢◌, ◌+◌, ◌-◌, ◌/◌, ◌^◌, ◌<◌, ◌≤◌, ℕ, true, IfOk, IfErr, Some, length, slice_get};
 ghost use Rattle.packed_node.specs.declared.Cell.{Cell};
 ghost use Rattle.trie_model.specs.Trees.{IsRow, cells_in};
 ghost use Rattle.trie_model.specs.Memory.{ItemLies};
@@ -12,7 +12,7 @@ use super::change::Span;
 use chunk_cells::item::cells_for;
 use chunk_cells::{CellWrite, write_item};
 use chunk_usage::{Full, Space};
-use packed_node::{Leaf, Ref};
+use packed_node::{Cell, Leaf, Ref};
 
 /// Room for n cells side by side, in a chunk that the cells know as given.
 pub fn room_for<C: CellWrite, U: Space>(cells: &mut C, usage: &mut U, n: u32) -> Result<Ref, Full>
@@ -49,6 +49,39 @@ pub fn copy_twigs<C: CellWrite>(cells: &mut C, from: Ref, to: Ref, n: u32)
         let twig = cells.cell(from + i);
         cells.put(to + i, twig);
     }
+}
+
+/// Writes cells side by side.
+pub fn put_row<C: CellWrite>(cells: &mut C, at: Ref, row: &[Cell])
+    requires within { at + length row.now ≤ 2 ^ 22 }
+    requires blank { MayWrite C.kept C.given cells.old at (length row.now) }
+    ensures written { (i : ℕ) (c : Cell) → slice_get row.now i ≡ Some c → C.has cells.new (at + i) c }
+    ensures wrote { Wrote C.has C.kept C.given cells.old cells.new at (length row.now) }
+{
+    for (i, cell) in row.iter().enumerate() {
+        cells.put(at + i as u32, *cell);
+    }
+}
+
+/// Writes cells side by side into new ones.
+pub fn lay_row<C: CellWrite, U: Space>(
+    cells: &mut C,
+    usage: &mut U,
+    row: &[Cell],
+) -> Result<Ref, Full>
+    requires some { 0 < length row.now }
+    requires few { length row.now ≤ 256 }
+    requires ready { Ready C.kept C.given U.account cells.old usage.old }
+    ensures handed { IfOk result (λ at. Handed (U.account usage.old) (U.account usage.new) at (length row.now)) }
+    ensures written { IfOk result (λ at. (i : ℕ) (c : Cell) → slice_get row.now i ≡ Some c → C.has cells.new (at + i) c) }
+    ensures spends { (U.account usage.new).spent ≤ (U.account usage.old).spent + length row.now }
+    ensures refused { IfErr result (λ f. Refused C.has U.account U.lacks cells.old usage.old cells.new usage.new f) }
+    ensures frame { Frame C.has C.kept C.given U.account cells.old usage.old cells.new usage.new }
+    ensures ready { Ready C.kept C.given U.account cells.new usage.new }
+{
+    let at = room_for(cells, usage, row.len() as u32)?;
+    put_row(cells, at, row);
+    Ok(at)
 }
 
 /// Writes an item into new cells.

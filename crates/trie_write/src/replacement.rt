@@ -11,8 +11,7 @@ ghost use Rattle.trie_write.specs.Asks.{HasKey, KeyIsThere};
 ghost use Rattle.trie_write.specs.Exchanges.{Exchanged};
 ghost use Rattle.trie_write.specs.Paths.{to_copy};
 ghost use Rattle.trie_write.specs.Puts.{Makes, IsTaken};
-ghost use Rattle.trie_write.specs.Roots.{TwigsOnPath, ToCopy, Beyond};
-ghost use Rattle.trie_write.specs.Seats.{IsOutside};
+ghost use Rattle.trie_write.specs.Roots.{TwigsOnPath, ToCopy, IsOutside, Beyond};
 ghost use Rattle.trie_write.specs.Spaces.{Ready, Frame, Fenced, Unchanged, Refused};
 ghost use Rattle.trie_write.specs.Standing.{HasTrie};
 

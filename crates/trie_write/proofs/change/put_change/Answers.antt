@@ -1,8 +1,8 @@
-use Rattle.std.proofs.Common.{◌≡◌, ℕ, ◌+◌, ◌≤◌, arith, refl, sym, ◌∙◌, ap, subst}
+use Rattle.std.proofs.Common.{arith, ap}
 use Rattle.chunk_usage.specs.Rooms.{Account}
-use Rattle.trie_write.specs.Puts.{taken, left}
+use Rattle.trie_write.specs.Puts.{taken}
 use Rattle.trie_write.proofs.ChangeLaws.{left_counted, put_is, outside_opened, taken_counted}
-use Rattle.trie_write.proofs.SpaceLaws.{fenced_put, fenced_counts, ready_put, ready_counts, seat_open}
+use Rattle.trie_write.proofs.SpaceLaws.{fenced_put, fenced_counts, seat_open}
 use Rattle.trie_write.proofs.change.put_change.Goals as goal
 
 pub make_mutable-requires-clause-asks : goal.make_mutable-requires-clause-asks

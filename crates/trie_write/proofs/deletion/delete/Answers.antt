@@ -1,4 +1,4 @@
-use Rattle.std.proofs.Common.{ℕ, sym, subst, arith, refl}
+use Rattle.std.proofs.Common.{sym, subst, arith}
 use Rattle.trie_write.proofs.RootLaws.{stands_of}
 use Rattle.trie_write.proofs.ReplaceLaws.{has_key, on_path, copied_path, beyond_key, trie_later}
 use Rattle.trie_write.proofs.deletion.delete.Goals as goal

@@ -1,9 +1,7 @@
-use Rattle.std.proofs.Common.{◌≡◌, ℕ, ◌+◌, ◌≤◌, arith, refl, sym, ◌∙◌, ap, subst}
+use Rattle.std.proofs.Common.{arith, sym, ◌∙◌, ap, subst}
 use Rattle.chunk_usage.specs.Rooms.{Account}
-use Rattle.trie_model.specs.Trees.Tree.{leaf}
-use Rattle.trie_write.specs.Ways.{plug}
 use Rattle.trie_write.specs.Turns.{HasWay}
-use Rattle.trie_write.proofs.ReplaceLaws.{root_top, same_has_key}
+use Rattle.trie_write.proofs.ReplaceLaws.{root_top}
 use Rattle.trie_write.proofs.RemoveLaws.{drop_asks, only_together, only_tree, only_top, only_live, only_gone}
 use Rattle.trie_write.proofs.SpaceLaws.{fenced_of, frame_refl, frame_counts, fenced_same, frame_same, refused_same, ready_counts, ready_put}
 use Rattle.trie_write.proofs.TurnLaws.{same_top}

@@ -1,6 +1,4 @@
-use Rattle.std.proofs.Common.{◌≡◌, ℕ, ◌+◌, ◌≤◌, count_ones, arith, refl, sym, ◌∙◌, ap}
-use Rattle.trie_model.specs.Trees.Tree.{leaf}
-use Rattle.trie_write.specs.Ways.{plug}
+use Rattle.std.proofs.Common.{arith}
 use Rattle.trie_write.proofs.ChangeLaws.{put_asks, refused_back, outside_put}
 use Rattle.trie_write.proofs.PathLaws.{copied_way, copied_most}
 use Rattle.trie_write.proofs.RemoveLaws.{parts_is, leaf_turn, upper_way, path_parts, removed}

@@ -1,10 +1,9 @@
-use Rattle.std.proofs.Common.{w8, ℕ, [], ◌∷◌, Option, Some, None, refl, sym, ◌∙◌, subst, arith}
+use Rattle.std.proofs.Common.{w8, ℕ, [], ◌∷◌, Option, refl, sym, ◌∙◌, subst, arith}
 use Rattle.std.proofs.Math.Facts.{Fits-lt-pow}
 use Rattle.trie_write.specs.Standing.{HasTrie}
 use Rattle.trie_write.proofs.InsertLaws.{missing_key, missing_path, missing_copied, missing_beyond, never_there}
 use Rattle.trie_write.proofs.ReplaceLaws.{trie_later}
 use Rattle.trie_write.proofs.RootLaws.{leads_key, leads_some, leads_entry, entry_with, inserted_first}
-use Rattle.trie_write.proofs.SpaceLaws.{fenced_of, fenced_same, refused_same}
 use Rattle.trie_write.proofs.insertion.insert.Goals as goal
 
 pub insert_first-requires-clause-some : goal.insert_first-requires-clause-some

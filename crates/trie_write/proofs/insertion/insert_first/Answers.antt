@@ -1,8 +1,6 @@
-use Rattle.std.proofs.Common.{◌≡◌, Contains, ℕ, ◌+◌, ◌/◌, ◌<◌, ◌≤◌, arith, refl, sym, ◌∙◌, ap, subst}
-use Rattle.chunk_usage.specs.Rooms.{Account}
+use Rattle.std.proofs.Common.{◌≡◌, Contains, ℕ, ◌+◌, arith, subst}
 use Rattle.trie_write.proofs.InsertLaws.{first_stands}
-use Rattle.trie_write.proofs.ReplaceLaws.{laid_leaf}
-use Rattle.trie_write.proofs.SpaceLaws.{frame_then, frame_refl, frame_counts, frame_wrote, wrote_one, ready_counts, ready_put, refused_room, handed_counted}
+use Rattle.trie_write.proofs.SpaceLaws.{frame_then, frame_refl, frame_wrote, wrote_one}
 use Rattle.trie_write.proofs.insertion.insert_first.Goals as goal
 
 pub returns-in-Ok-clause-stands : goal.returns-in-Ok-clause-stands

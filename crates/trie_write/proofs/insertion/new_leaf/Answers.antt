@@ -1,10 +1,10 @@
-use Rattle.std.proofs.Common.{w8, ◌≡◌, ℕ, ◌+◌, ◌/◌, ◌<◌, ◌≤◌, arith, refl, sym, ◌∙◌, ap, subst}
+use Rattle.std.proofs.Common.{w8, arith, sym, ◌∙◌, ap, subst}
 use Rattle.std.proofs.Math.Facts.{Fits-lt-pow}
 use Rattle.chunk_usage.specs.Rooms.{Account}
 use Rattle.trie_write.specs.Turns.{HasWay}
 use Rattle.trie_write.proofs.InsertLaws.{laid_is, lacks_top, with_asks, taken_both}
 use Rattle.trie_write.proofs.RootLaws.{leads_some, leads_entry}
-use Rattle.trie_write.proofs.SpaceLaws.{frame_then, frame_counts, frame_same, ready_counts, refused_same, refused_room, handed_counted}
+use Rattle.trie_write.proofs.SpaceLaws.{frame_then, frame_counts, frame_same, ready_counts}
 use Rattle.trie_write.proofs.TurnLaws.{same_top}
 use Rattle.trie_write.proofs.insertion.new_leaf.Goals as goal
 

@@ -1,12 +1,10 @@
-use Rattle.std.proofs.Common.{◌≡◌, ◌+◌, ◌-◌, ◌<◌, ℕ, List, count_ones, Fits-lit, arith, refl, sym, ◌∙◌, ap, subst, rules}
+use Rattle.std.proofs.Common.{◌+◌, ◌-◌, ◌<◌, Fits-lit, arith, sym, ap, subst, rules}
 use Rattle.std.proofs.Math.Facts.{Fits-lt}
 use Rattle.packed_node.specs.declared.Cell.{Cell}
-use Rattle.trie_model.specs.Reach.{row, in_chunk}
-use Rattle.trie_model.specs.Trees.{IsRow}
 use Rattle.chunk_usage.specs.Rooms.{Account, Handed}
-use Rattle.trie_write.specs.Spaces.{MayWrite, Ready}
-use Rattle.trie_write.specs.Mutable.{WayAsks, IsCopied}
-use Rattle.trie_write.proofs.SpaceLaws.{apart_from, open_later, frame_then, frame_same, frame_counts, frame_wrote, ready_counts, ready_wrote, refused_room, handed_counted, blank_later}
+use Rattle.trie_write.specs.Spaces.{MayWrite}
+use Rattle.trie_write.specs.Mutable.{IsCopied}
+use Rattle.trie_write.proofs.SpaceLaws.{apart_from, frame_then, frame_same, frame_counts, frame_wrote, ready_counts, ready_wrote, refused_room, handed_counted, blank_later}
 use Rattle.trie_write.proofs.TurnLaws.{known}
 use Rattle.trie_write.proofs.CopyLaws.{n_here, cell_there, cell_used, part_counted, old_lies, moved_branch, asks_after, along_here, same_asks, copied_step, copied_none}
 use Rattle.trie_write.proofs.mutable.+copy_way.Goals as goal

@@ -1,10 +1,10 @@
-use Rattle.std.proofs.Common.{◌≡◌, ◌+◌, ◌-◌, ◌/◌, ◌<◌, ℕ, Bool, true, false, List, count_ones, Fits-lit, arith, refl, sym, ◌∙◌, ap, subst, rules}
+use Rattle.std.proofs.Common.{◌+◌, ◌-◌, ◌/◌, ◌<◌, Bool, List, Fits-lit, arith, sym, ◌∙◌, ap, subst, rules}
 use Rattle.std.proofs.Math.Facts.{Fits-lt}
 use Rattle.chunk_cells.specs.Chunks.{IsGiven}
-use Rattle.trie_write.specs.Spaces.{IsWritable, Ready}
+use Rattle.trie_write.specs.Spaces.{Ready}
 use Rattle.trie_write.specs.Mutable.{IsParted}
 use Rattle.trie_write.proofs.TurnLaws.{known}
-use Rattle.trie_write.proofs.CopyLaws.{n_here, cell_used, old_lies, same_asks, asks_on}
+use Rattle.trie_write.proofs.CopyLaws.{n_here, cell_used, old_lies, asks_on}
 use Rattle.trie_write.proofs.PutLaws.{parted_end, parted_here, parted_on}
 use Rattle.trie_write.proofs.mutable.+last_mutable.Goals as goal
 

@@ -1,6 +1,5 @@
-use Rattle.std.proofs.Common.{◌≡◌, ◌/◌, ℕ, Bool, true, false, List, [], arith, refl, sym, ◌∙◌, ap, subst}
+use Rattle.std.proofs.Common.{◌/◌, Bool, List, [], sym, ◌∙◌, ap, subst}
 use Rattle.chunk_cells.specs.Chunks.{IsGiven}
-use Rattle.trie_write.specs.Spaces.{Ready}
 use Rattle.trie_write.proofs.SpaceLaws.{fenced_same, refused_same, ready_put, ok_map, err_map}
 use Rattle.trie_write.proofs.PutLaws.{end_used, same_seat_asks, same_seat}
 use Rattle.trie_write.proofs.mutable.make_mutable.Goals as goal

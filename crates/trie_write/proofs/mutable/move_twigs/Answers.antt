@@ -1,4 +1,4 @@
-use Rattle.std.proofs.Common.{◌≡◌, ℕ, ◌+◌, ◌<◌, arith, refl, ap, subst}
+use Rattle.std.proofs.Common.{◌+◌, arith, refl, subst}
 use Rattle.trie_write.specs.Spaces.{Wrote}
 use Rattle.trie_write.proofs.SpaceLaws.{open_later, wrote_then, wrote_one}
 use Rattle.trie_write.proofs.mutable.move_twigs.Goals as goal

@@ -1,9 +1,8 @@
-use Rattle.std.proofs.Common.{◌≡◌, ◌+◌, ◌/◌, ◌<◌, ℕ, Bool, true, false, List, Contains, arith, refl, sym, ◌∙◌, ap, subst}
+use Rattle.std.proofs.Common.{◌≡◌, ◌+◌, ◌/◌, ℕ, Contains, arith, refl, ap, subst}
 use Rattle.chunk_cells.specs.Chunks.{IsGiven}
 use Rattle.chunk_usage.specs.Rooms.{Account}
-use Rattle.trie_write.proofs.SpaceLaws.{frame_then, frame_counts, frame_wrote, wrote_one, fenced_of, ready_counts, ready_put, refused_room, handed_counted, blank_later}
-use Rattle.trie_write.proofs.CopyLaws.{same_asks}
-use Rattle.trie_write.proofs.PutLaws.{root_asks, root_asks_later, copied_immutable, opened_anew}
+use Rattle.trie_write.proofs.SpaceLaws.{frame_then, frame_counts, frame_wrote, wrote_one, fenced_of, ready_counts, refused_room, handed_counted, blank_later}
+use Rattle.trie_write.proofs.PutLaws.{root_asks_later, copied_immutable, opened_anew}
 use Rattle.trie_write.proofs.mutable.open_anew.Goals as goal
 
 pub returns-in_err-root-clause-spends : goal.returns-in_err-root-clause-spends

@@ -1,4 +1,4 @@
-use Rattle.std.proofs.Common.{◌≡◌, ◌+◌, ◌/◌, ◌<◌, ℕ, Bool, true, false, List, Contains, arith, refl, sym, ◌∙◌, ap, subst}
+use Rattle.std.proofs.Common.{arith}
 use Rattle.trie_write.proofs.SpaceLaws.{frame_same, fenced_of, fenced_put, ready_put, writable_later, seat_open}
 use Rattle.trie_write.proofs.CopyLaws.{same_asks}
 use Rattle.trie_write.proofs.PutLaws.{root_asks, lower_asks, opened_below}

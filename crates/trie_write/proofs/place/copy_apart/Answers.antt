@@ -1,4 +1,4 @@
-use Rattle.std.proofs.Common.{◌≡◌, ℕ, ◌+◌, ◌-◌, ◌<◌, ◌≤◌, arith, refl, sym, ◌∙◌, ap, subst}
+use Rattle.std.proofs.Common.{◌≡◌, ℕ, ◌+◌, ◌-◌, arith, ◌∙◌, subst}
 use Rattle.trie_write.proofs.SpaceLaws.{apart_from, blank_part, open_later, frame_wrote, frame_refl, wrote_more, wrote_then, ready_wrote}
 use Rattle.trie_write.proofs.place.copy_apart.Goals as goal
 

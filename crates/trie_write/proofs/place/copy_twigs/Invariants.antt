@@ -1,4 +1,4 @@
-use Rattle.std.proofs.Common.{◌≡◌, ◌≢◌, ℕ, ◌+◌, ◌<◌}
+use Rattle.std.proofs.Common.{ℕ, ◌+◌, ◌<◌}
 use Rattle.packed_node.specs.declared.Cell.{Cell}
 use Rattle.trie_write.specs.Spaces.{Wrote}
 use Rattle.trie_write.proofs.place.copy_twigs.Given as goal

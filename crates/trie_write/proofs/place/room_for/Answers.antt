@@ -1,4 +1,4 @@
-use Rattle.std.proofs.Common.{◌≡◌, List, Bool, true, slice_set, Option, Some, None, refl, ◌∙◌, sym, ap, subst}
+use Rattle.std.proofs.Common.{◌≡◌, List, Bool, true, slice_set, Some, refl, ◌∙◌, sym, ap, subst}
 use Rattle.chunk_cells.specs.Chunks.{IsFree}
 use Rattle.chunk_usage.specs.Rooms.{GivesChunk}
 use Rattle.trie_write.proofs.SpaceLaws.{handed_open, frame_given, ready_grows}

@@ -1,10 +1,5 @@
-use Rattle.std.proofs.Common.{◌≡◌, ℕ, ◌+◌, ◌/◌, ◌≤◌, List, arith, refl, sym, ◌∙◌, ap, subst}
+use Rattle.std.proofs.Common.{refl, sym, subst}
 use Rattle.trie_model.specs.Trees.{IsRow, cells_in}
-use Rattle.trie_model.specs.Memory.{ItemLies}
-use Rattle.chunk_usage.specs.Rooms.{Handed}
-use Rattle.trie_read.specs.Reads.{IsTop}
-use Rattle.trie_model.specs.Trees.Tree.{leaf}
-use Rattle.trie_write.specs.Puts.{Makes}
 use Rattle.trie_write.specs.Turns.{HasWay}
 use Rattle.trie_write.proofs.RootLaws.{leads_some}
 use Rattle.trie_write.proofs.ReplaceLaws.{laid_leaf, laid_span, taken_item, leaf_tree, root_top, other_makes}

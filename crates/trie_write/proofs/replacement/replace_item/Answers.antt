@@ -1,4 +1,4 @@
-use Rattle.std.proofs.Common.{w8, ◌≡◌, ℕ, ◌+◌, ◌≤◌, arith, refl, sym, ◌∙◌, ap}
+use Rattle.std.proofs.Common.{w8, arith}
 use Rattle.std.proofs.Math.Facts.{Fits-lt-pow}
 use Rattle.trie_model.specs.Trees.Tree.{leaf}
 use Rattle.trie_write.proofs.ChangeLaws.{put_asks, refused_back, outside_put}

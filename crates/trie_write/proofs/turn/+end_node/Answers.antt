@@ -1,4 +1,4 @@
-use Rattle.std.proofs.Common.{◌≡◌, ◌+◌, ◌-◌, ◌<◌, ℕ, List, arith, refl, sym, ◌∙◌, ap, subst, rules}
+use Rattle.std.proofs.Common.{◌+◌, ◌-◌, ◌<◌, arith, sym, ◌∙◌, ap, subst, rules}
 use Rattle.trie_model.specs.Memory.{top_cell}
 use Rattle.trie_read.specs.Reads.{IsTop}
 use Rattle.trie_write.specs.Ways.{plug}

@@ -1,5 +1,4 @@
-use Rattle.std.proofs.Common.{◌≡◌, ◌+◌, ◌-◌, ◌<◌, ℕ, List, arith, refl, sym, ◌∙◌, ap, subst, rules}
-use Rattle.packed_node.specs.declared.Cell.{Cell}
+use Rattle.std.proofs.Common.{◌+◌, ◌-◌, ◌<◌, arith, sym, subst, rules}
 use Rattle.trie_read.specs.Reads.{IsTop}
 use Rattle.trie_write.specs.Ways.{plug}
 use Rattle.trie_write.specs.Turns.{HasWay}

@@ -1,5 +1,4 @@
-use Rattle.std.proofs.Common.{◌≡◌, ◌+◌, ℕ, arith, refl, sym, ◌∙◌, ap, subst}
-use Rattle.trie_write.proofs.TurnLaws.{no_way, through, key_inside, twig_there, twig_inside, turn_is}
+use Rattle.trie_write.proofs.TurnLaws.{no_way, through, key_inside, twig_there, turn_is}
 use Rattle.trie_write.proofs.turn.next_turn.Goals as goal
 
 pub key_twig-index-requires : goal.key_twig-index-requires

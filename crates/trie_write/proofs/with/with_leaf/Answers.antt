@@ -1,13 +1,10 @@
-use Rattle.std.proofs.Common.{◌≡◌, ℕ, ◌+◌, ◌-◌, ◌/◌, ◌%◌, ◌^◌, ◌<◌, ◌≤◌, count_ones, arith, refl, sym, ◌∙◌, ap, subst}
+use Rattle.std.proofs.Common.{◌≡◌, ℕ, ◌+◌, ◌-◌, ◌%◌, ◌^◌, ◌<◌, ◌≤◌, count_ones, arith, refl, sym, ◌∙◌, ap, subst}
 use Rattle.std.specs.Int.{bit_at}
 use Rattle.packed_node.specs.Nodes.{IsBranch, leaf_cell, branch_cell}
 use Rattle.trie_model.specs.Keys.{at}
 use Rattle.trie_model.specs.Trees.{IsRow}
-use Rattle.chunk_usage.specs.Rooms.{Handed}
-use Rattle.trie_write.specs.Spaces.{MayWrite}
-use Rattle.trie_write.specs.declared.change.Span.{Span}
-use Rattle.trie_write.proofs.SpaceLaws.{open_later, frame_wrote, frame_refl, wrote_one, wrote_then, ready_put}
-use Rattle.trie_write.proofs.WithLaws.{span_is, leaf_node, key_inside, key_apart, pair_branch, paired, among_n, among_path, among_index, among_absent, among_small, among_lies, among_before, among_there, among_used, among_few, more_branch, joined}
+use Rattle.trie_write.proofs.SpaceLaws.{open_later, frame_wrote, frame_refl, wrote_one, wrote_then}
+use Rattle.trie_write.proofs.WithLaws.{span_is, pair_branch, paired, among_n, among_path, among_absent, among_small, among_lies, among_before, among_there, among_used, among_few, more_branch, joined}
 use Rattle.trie_write.proofs.with.with_leaf.Goals as goal
 
 pub put-requires-clause-unkept : goal.put-requires-clause-unkept

@@ -1,8 +1,6 @@
-use Rattle.std.proofs.Common.{◌≡◌, ℕ, ◌+◌, ◌-◌, ◌^◌, ◌≤◌, ◌<◌, arith, refl, sym, ◌∙◌, ap, subst}
+use Rattle.std.proofs.Common.{ℕ, ◌+◌, ◌-◌, ◌^◌, arith, refl, sym, ◌∙◌, ap, subst}
 use Rattle.std.specs.Int.{bit_at}
-use Rattle.trie_model.specs.Trees.{cells_in}
 use Rattle.chunk_usage.specs.Rooms.{Handed}
-use Rattle.trie_write.specs.declared.change.Span.{Span}
 use Rattle.trie_write.proofs.CopyLaws.{cell_there, cell_used, old_lies}
 use Rattle.trie_write.proofs.WithoutLaws.{last_n, last_known, leaf_alone, key_position, key_bit, next_leaf, fewer_branch, dropped, collapsed, same_without, taken_twigs}
 use Rattle.trie_write.proofs.without.without_leaf.Goals as goal

@@ -1,10 +1,14 @@
-use Rattle.std.proofs.Common.{◌≡◌, ℕ, ◌+◌, Some, slice_get, List, Contains, inl, inr, sym, ◌∙◌, subst, arith}
+use Rattle.std.proofs.Common.{◌≡◌, ℕ, ◌+◌, Some, slice_get, inl, inr, refl, sym, subst, arith}
 use Rattle.std.proofs.lemmas.Bool.{cases_lt}
 use Rattle.std.proofs.lemmas.Option.{get_or_from_slice_get, slice_get_within}
-use Rattle.trie_write.proofs.room.put_row.Goals as goal
+use Rattle.trie_write.proofs.SpaceLaws.{open_later, wrote_refl, wrote_one, wrote_then}
+use Rattle.trie_write.proofs.place.put_row.Goals as goal
 
-pub put-requires-clause-unkept : goal.put-requires-clause-unkept
-put-requires-clause-unkept g c h = c.requires.unkept c.loop-i.i c.loop-i-test.true (subst (λ (qs : List ℕ). Contains qs (c.args.at + c.loop-i.i)) c.loop-i.invariant.kept h)
+pub put-requires : goal.put-requires
+put-requires g c = let b = open_later c.requires.blank c.loop-i.invariant.wrote.same_given c.loop-i.invariant.wrote.same_kept in record { given = b.in_given c.loop-i.i c.loop-i-test.true; unkept = b.unkept c.loop-i.i c.loop-i-test.true }
+
+pub loop-i-init : goal.loop-i-init
+loop-i-init g c = record { written = λ k x l. absurd (omega arith); wrote = wrote_refl _ _ _ }
 
 pub loop-i-preserved : goal.loop-i-preserved
 loop-i-preserved g c = record {
@@ -14,9 +18,7 @@ loop-i-preserved g c = record {
         subst (λ (n : ℕ). g.C.CellRead.has c.put.new.self (c.args.at + n) x) (sym is)
         (subst (g.C.CellRead.has c.put.new.self (c.args.at + c.loop-i.i)) (get_or_from_slice_get c.args.row.now c.loop-i.i x _ there) c.put.ensures.written))
   ];
-  others = λ q x other h. c.put.ensures.others q x (other c.loop-i.i c.loop-i-test.true) (c.loop-i.invariant.others q x other h);
-  given = c.put.ensures.given ∙ c.loop-i.invariant.given;
-  kept = c.put.ensures.kept ∙ c.loop-i.invariant.kept;
+  wrote = wrote_then c.loop-i.invariant.wrote (wrote_one (c.args.at + c.loop-i.i) c.loop-i.i c.loop-i-test.true refl c.put.ensures.others c.put.ensures.given c.put.ensures.kept);
 }
 
 pub returns-clause-written : goal.returns-clause-written
