@@ -11,7 +11,7 @@ use Rattle.std.specs.declared.cmp.Ordering.TheVariants.{Less, Equal, Greater}
 use Rattle.std.specs.Ordering.{nat_cmp, ordering_then}
 use Rattle.std.specs.Cmp.Lexicographic.{slice_cmp}
 use Rattle.zone_model.specs.Names.{Label, Name, name_cmp, IsLabel, IsName}
-use Rattle.dns_name.specs.SortKeys.{escaped, label_key, sort_key, weight, KeyBelow}
+use Rattle.dns_name.specs.SortKeys.{escaped, label_key, sort_key, weight, KeyBelow, key_cmp}
 use Rattle.dns_name.specs.declared.sort_key.SortKey.{SortKey}
 
 octets_cmp : List ℕ → List ℕ → Ordering
@@ -248,10 +248,6 @@ are_octets name h = subst AreOctets (append-nil (sort_key name)) (octets_key nam
 labels_front : (f top : Name) → AllByRecursion IsLabel (f ++ top) → AllByRecursion IsLabel f
 labels_front [] top h = tt
 labels_front (l ∷ f) top h = (h.0, labels_front f top h.1)
-
--- what the comparison of two keys says
-abbrev pub key_cmp : SortKey → SortKey → Ordering
-key_cmp k l = ordering_then (nat_cmp k.front l.front) (slice_cmp nat_cmp k.rest.items l.rest.items)
 
 -- keys of names under one apex compare as the names do
 pub key_cmp-name : (k l : SortKey) (a b top : Name) → KeyBelow a top k → KeyBelow b top l → IsName a → IsName b → key_cmp k l ≡ name_cmp a b

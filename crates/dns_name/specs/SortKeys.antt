@@ -1,6 +1,9 @@
 -- The sort key of a name: octets that compare one by one as names do (RFC 4034, section 6.1). The labels stand from the
 -- root downwards, each with a 0 behind it; octets 0 and 1 are written as a 1 and then 1 or 2.
 use Rattle.std.specs.Prelude.{◌≡◌, ℕ, zero, suc, ◌+◌, ◌*◌, Bool, List, [], ◌∷◌, ◌++◌, drop, nat_lt, if◌then◌else◌, true, false}
+use Rattle.std.specs.declared.cmp.Ordering.{Ordering}
+use Rattle.std.specs.Ordering.{nat_cmp, ordering_then}
+use Rattle.std.specs.Cmp.Lexicographic.{slice_cmp}
 use Rattle.zone_model.specs.Names.{Label, Name, is_under}
 use Rattle.dns_name.specs.declared.sort_key.SortKey.{SortKey}
 
@@ -34,3 +37,7 @@ pub record IsKeyOf (key : SortKey) (octets : List ℕ) : Type 0 where
 -- the key of a name under another, which is that of the labels in front
 abbrev pub KeyBelow : Name → Name → SortKey → Type 0
 KeyBelow name top key = (front : Name) × (name ≡ front ++ top) × IsKeyOf key (sort_key front)
+
+-- keys compare by their numbers, and then by the octets behind
+abbrev pub key_cmp : SortKey → SortKey → Ordering
+key_cmp a b = ordering_then (nat_cmp a.front b.front) (slice_cmp nat_cmp a.rest.items b.rest.items)

@@ -3,3 +3,5 @@ pub mod Rows
 pub mod Spelling
 pub mod Views
 pub mod Zones
+pub mod Owners
+pub mod Items
