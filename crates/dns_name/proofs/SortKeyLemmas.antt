@@ -11,7 +11,7 @@ use Rattle.std.specs.declared.cmp.Ordering.TheVariants.{Less, Equal, Greater}
 use Rattle.std.specs.Ordering.{nat_cmp, ordering_then}
 use Rattle.std.specs.Cmp.Lexicographic.{slice_cmp}
 use Rattle.zone_model.specs.Names.{Label, Name, name_cmp, IsLabel, IsName}
-use Rattle.dns_name.specs.SortKeys.{escaped, label_key, sort_key, weight, KeyBelow, key_cmp}
+use Rattle.dns_name.specs.SortKeys.{escaped, label_key, sort_key, weight, IsKeyOf, KeyBelow, key_cmp}
 use Rattle.dns_name.specs.declared.sort_key.SortKey.{SortKey}
 
 octets_cmp : List ℕ → List ℕ → Ordering
@@ -249,6 +249,23 @@ labels_front : (f top : Name) → AllByRecursion IsLabel (f ++ top) → AllByRec
 labels_front [] top h = tt
 labels_front (l ∷ f) top h = (h.0, labels_front f top h.1)
 
+are_octets-drop : (n : ℕ) (x : List ℕ) → AreOctets x → AreOctets (drop n x)
+are_octets-drop zero x h = h
+are_octets-drop (suc n) [] h = tt
+are_octets-drop (suc n) (c ∷ x) h = are_octets-drop n x h.1
+
+-- keys compare as the octets that they are of
+keys_cmp : (k l : SortKey) (x y : List ℕ) → IsKeyOf k x → IsKeyOf l y → AreOctets x → AreOctets y → key_cmp k l ≡ slice_cmp nat_cmp x y
+keys_cmp k l x y p q hx hy =
+    let rest : slice_cmp nat_cmp k.rest.items l.rest.items ≡ slice_cmp nat_cmp (drop 7 (drop 7 x)) (drop 7 (drop 7 y)) = ap (λ (r : List ℕ). slice_cmp nat_cmp r l.rest.items) p.rest ∙ ap (slice_cmp nat_cmp (drop 7 (drop 7 x))) q.rest in
+    let middle : nat_cmp k.middle l.middle ≡ nat_cmp (weight 7 0 (drop 7 x)) (weight 7 0 (drop 7 y)) = ap (λ (n : ℕ). nat_cmp n l.middle) p.middle ∙ ap (nat_cmp (weight 7 0 (drop 7 x))) q.middle in
+    let front : nat_cmp k.front l.front ≡ nat_cmp (weight 7 0 x) (weight 7 0 y) = ap (λ (n : ℕ). nat_cmp n l.front) p.front ∙ ap (nat_cmp (weight 7 0 x)) q.front in
+    ap (λ (o : Ordering). ordering_then (nat_cmp k.front l.front) (ordering_then (nat_cmp k.middle l.middle) o)) rest
+    ∙ ap (λ (o : Ordering). ordering_then (nat_cmp k.front l.front) (ordering_then o (slice_cmp nat_cmp (drop 7 (drop 7 x)) (drop 7 (drop 7 y))))) middle
+    ∙ ap (ordering_then (nat_cmp k.front l.front)) (weight-cmp 7 0 (drop 7 x) (drop 7 y) (are_octets-drop 7 x hx) (are_octets-drop 7 y hy))
+    ∙ ap (λ (o : Ordering). ordering_then o (slice_cmp nat_cmp (drop 7 x) (drop 7 y))) front
+    ∙ weight-cmp 7 0 x y hx hy
+
 -- keys of names under one apex compare as the names do
 pub key_cmp-name : (k l : SortKey) (a b top : Name) → KeyBelow a top k → KeyBelow b top l → IsName a → IsName b → key_cmp k l ≡ name_cmp a b
 key_cmp-name k l a b top p q ha hb =
@@ -256,10 +273,6 @@ key_cmp-name k l a b top p q ha hb =
     let g : Name = q.0 in
     let lf : AllByRecursion IsLabel f = labels_front f top (subst (AllByRecursion IsLabel) p.1 ha.each) in
     let lg : AllByRecursion IsLabel g = labels_front g top (subst (AllByRecursion IsLabel) q.1 hb.each) in
-    ap (λ (n : ℕ). ordering_then (nat_cmp n l.front) (slice_cmp nat_cmp k.rest.items l.rest.items)) p.2.front
-    ∙ ap (λ (n : ℕ). ordering_then (nat_cmp (weight 7 0 (sort_key f)) n) (slice_cmp nat_cmp k.rest.items l.rest.items)) q.2.front
-    ∙ ap (λ (r : List ℕ). ordering_then (nat_cmp (weight 7 0 (sort_key f)) (weight 7 0 (sort_key g))) (slice_cmp nat_cmp r l.rest.items)) p.2.rest
-    ∙ ap (λ (r : List ℕ). ordering_then (nat_cmp (weight 7 0 (sort_key f)) (weight 7 0 (sort_key g))) (slice_cmp nat_cmp (drop 7 (sort_key f)) r)) q.2.rest
-    ∙ weight-cmp 7 0 (sort_key f) (sort_key g) (are_octets f lf) (are_octets g lg)
+    keys_cmp k l (sort_key f) (sort_key g) p.2 q.2 (are_octets f lf) (are_octets g lg)
     ∙ sort_key-cmp f g ∙ sym (below-cmp f g top)
     ∙ ap (λ (n : Name). name_cmp n (g ++ top)) (sym p.1) ∙ ap (name_cmp a) (sym q.1)

@@ -32,7 +32,8 @@ PushesBelow false name top old new = is_under name top ≡ false
 -- the parts of a key are those of these octets
 pub record IsKeyOf (key : SortKey) (octets : List ℕ) : Type 0 where
   pub front : key.front ≡ weight 7 0 octets
-  pub rest : key.rest.items ≡ drop 7 octets
+  pub middle : key.middle ≡ weight 7 0 (drop 7 octets)
+  pub rest : key.rest.items ≡ drop 7 (drop 7 octets)
 
 -- the key of a name under another, which is that of the labels in front
 abbrev pub KeyBelow : Name → Name → SortKey → Type 0
@@ -40,4 +41,4 @@ KeyBelow name top key = (front : Name) × (name ≡ front ++ top) × IsKeyOf key
 
 -- keys compare by their numbers, and then by the octets behind
 abbrev pub key_cmp : SortKey → SortKey → Ordering
-key_cmp a b = ordering_then (nat_cmp a.front b.front) (slice_cmp nat_cmp a.rest.items b.rest.items)
+key_cmp a b = ordering_then (nat_cmp a.front b.front) (ordering_then (nat_cmp a.middle b.middle) (slice_cmp nat_cmp a.rest.items b.rest.items))

@@ -1,7 +1,7 @@
 //! Names in a form that compares as octets do.
 #![tactic(auto)]
 
-ghost use Rattle.std.specs.Prelude.{◌≡◌, ◌<◌, ◌≤◌, ◌+◌, ◌++◌, ◌∷◌, [], ◌^◌, ℕ, List, length, OnOk, IfOk, MatchOption, slice_index, false};
+ghost use Rattle.std.specs.Prelude.{◌≡◌, ◌<◌, ◌≤◌, ◌+◌, ◌++◌, ◌∷◌, [], ◌^◌, ℕ, List, length, OnOk, IfOk, MatchOption, slice_index, drop, false};
 ghost use Rattle.zone_model.specs.Names.{Name as Labels, is_under};
 ghost use Rattle.dns_name.specs.Spelling.{Spells, IsSpelled};
 ghost use Rattle.dns_name.specs.SortKeys.{escaped, label_key, weight, PushesBelow, KeyBelow};
@@ -10,16 +10,16 @@ use crate::Name;
 use crate::wire::first;
 use std::alloc::{AllocError, Global};
 
-// How many octets lie in a key's number.
+// How many octets lie in one of a key's numbers.
 const FRONT_OCTETS: usize = 7;
 
-/// The sort key of a name under an apex, for collections of many names: two of one apex compare as their names do, by one
-/// number each, and octet by octet only where these are alike. It takes memory for the octets behind the first seven.
+/// The sort key of a name under an apex, for collections of many names: two of one apex compare as their names do, by two
+/// numbers each, and octet by octet only where these are alike. It takes memory for the octets behind the first fourteen.
 #[derive(Drop, PartialEq, Eq, PartialOrd, Ord)]
 pub struct SortKey {
-    // The first seven octets.
+    // The first seven octets, the seven behind them, and the others.
     front: u64,
-    // The others.
+    middle: u64,
     rest: Vec<u8>,
 }
 
@@ -45,6 +45,13 @@ fn weight(octets: &[u8]) -> u64
         front = front * 512 + digit_at(octets, at);
     }
     front
+}
+
+// The octets behind those of a number.
+fn behind(octets: &[u8]) -> &[u8]
+    ensures { result.now ≡ drop 7 octets.now }
+{
+    &octets[octets.len().min(FRONT_OCTETS)..]
 }
 
 fn push_escaped(out: &mut Vec<u8>, octet: u8) -> Result<(), AllocError>
@@ -103,10 +110,11 @@ impl SortKey {
         if !push_below(name.wire(), apex.wire(), scratch)? {
             return Ok(None);
         }
-        let split = scratch.len().min(FRONT_OCTETS);
+        let middle = behind(scratch);
         Ok(Some(SortKey {
             front: weight(scratch),
-            rest: Vec::from_slice(alloc, &scratch[split..])?,
+            middle: weight(middle),
+            rest: Vec::from_slice(alloc, behind(middle))?,
         }))
     }
 }
