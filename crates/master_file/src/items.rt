@@ -1,5 +1,5 @@
 //! The items of a zone.
-ghost use Rattle.std.specs.Prelude.{◌≡◌, ◌∷◌, [], ℕ, List, length, take, MatchOption, Some, None, Option};
+ghost use Rattle.std.specs.Prelude.{◌≡◌, ◌∷◌, [], ℕ, List, length, take, IsTrue, ◌↔◌, Some, None, Option};
 ghost use Rattle.std.specs.List.{AllByRecursion};
 ghost use Rattle.master_file.specs.Owners.{CanBeItem, version_of};
 ghost use Rattle.master_file.specs.Items.{GivesItem};
@@ -38,6 +38,20 @@ impl ZoneItems {
         ZoneItems {
             left: owned.into_values(),
         }
+    }
+
+    /// How many names are left.
+    pub fn len(&self) -> usize
+        ensures { result ≡ length self.now }
+    {
+        self.left.len()
+    }
+
+    /// No name is left.
+    pub fn is_empty(&self) -> bool
+        ensures { IsTrue result ↔ (self.now ≡ []) }
+    {
+        self.len() == 0
     }
 
     /// Writes the item of the next name, and answers how many octets it has; None where no name is left.

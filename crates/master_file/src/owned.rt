@@ -118,7 +118,8 @@ impl Owned {
     /// Writes the item, and answers how many octets it has.
     pub fn encode(&self, out: &mut [u8; 4096]) -> usize
         requires { CanBeItem self.now }
-        ensures { IsItem (take result out.new) self.now.0 self.now.1 }
+        ensures item { IsItem (take result out.new) self.now.0 self.now.1 }
+        ensures short { result ≤ 4096 }
     {
         let Some(len) = self.entry.encode(&self.owner.name(), out) else {
             unreachable!();
