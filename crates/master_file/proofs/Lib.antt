@@ -7,3 +7,4 @@ pub mod SingleLemmas
 pub mod SpellingLemmas
 pub mod ZoneLemmas
 pub mod OwnerLemmas
+pub mod OwnedLemmas

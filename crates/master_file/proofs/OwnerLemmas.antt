@@ -117,7 +117,7 @@ joins apex last key owner rtype time octets held new result below name all gives
     entry = with_rr rtype time octets (unwrap_or (entry_of owner (version_of held)) [])
 
     placed : placed_at last key owner rtype time octets held ≡ unless_fault last (entry_fault owner entry) (insert_entry key_cmp held key (owner, entry))
-    placed = ap (λ (o : Name × Entry). unless_fault last (entry_fault owner (with_rr rtype time octets o.1)) (insert_entry key_cmp held key (o.0, with_rr rtype time octets o.1))) (owned_same apex key owner held k all)
+    placed = ap (λ (o : Name × Entry). unless_fault last (entry_fault o.0 (with_rr rtype time octets o.1)) (insert_entry key_cmp held key (o.0, with_rr rtype time octets o.1))) (owned_same apex key owner held k all)
 
     by_fault : (f : Option ZoneKind) → entry_fault owner entry ≡ f → (r : Result (Unit {0}) ZoneRefusal) → Gives r new (unless_fault last (entry_fault owner entry) (insert_entry key_cmp held key (owner, entry))) → Joins apex last owner rtype time octets held r new
     by_fault None e (Ok u) g =

@@ -5,3 +5,4 @@ pub mod Views
 pub mod Zones
 pub mod Owners
 pub mod Items
+pub mod Owned

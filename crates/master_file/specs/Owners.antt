@@ -27,8 +27,8 @@ owned_at key owner held = unwrap_or (lookup (is_at (key_cmp key)) held) (owner, 
 abbrev pub placed_at : ℕ → SortKey → Name → ℕ → ℕ → List ℕ → Held → Result Held (Refused ZoneKind)
 placed_at last key owner rtype time octets held =
     let owned = owned_at key owner held in
-    let entry = with_rr rtype time octets owned.1 in
-    unless_fault last (entry_fault owner entry) (insert_entry key_cmp held key (owned.0, entry))
+    let next = with_rr rtype time octets owned.1 in
+    unless_fault last (entry_fault owned.0 next) (insert_entry key_cmp held key (owned.0, next))
 
 -- what a name owns can be an item
 pub record CanBeItem (pair : Name × Entry) : Type 0 where

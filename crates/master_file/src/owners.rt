@@ -43,11 +43,11 @@ fn grow(
         Place::Occupied(taken) => {
             let kept = taken.into_mut();
             kept.add(alloc, rtype, time, rdata)?;
-            kept.check(owner, last)
+            kept.check(last)
         }
         Place::Vacant(free) => {
             let kept = Owned::first(alloc, owner, rtype, time, rdata)?;
-            kept.check(owner, last)?;
+            kept.check(last)?;
             free.insert(kept);
             Ok(())
         }
@@ -109,7 +109,7 @@ impl Owners {
             return Ok(false);
         };
         match self.owned.get(&key) {
-            Some(kept) => Ok(kept.has_set(6)),
+            Some(kept) => kept.has_set(alloc, 6),
             None => Ok(false),
         }
     }
