@@ -22,7 +22,7 @@ use Rattle.job_model.specs.Sizes.{trie_entries}
 
 -- ---- items of octets
 
-record_of : List ℕ → List ℕ → TrieEntry
+abbrev record_of : List ℕ → List ℕ → TrieEntry
 record_of key octets = record { key = key; item = octets }
 
 -- octets that are an item begin with its owner
@@ -31,18 +31,18 @@ owner_is octets name owner entry is n b =
     begins_once octets name owner n.each is.name.each b
     (to_be_bytes w16 (length entry) ++ flat_map rrset_bytes entry, is.octets ∙ append_assoc (wire owner) (to_be_bytes w16 (length entry)) (flat_map rrset_bytes entry))
 
--- the item of its own octets, parted behind the name
-pub whole_item : (octets : List ℕ) (name : Name) (made : TrieEntry) (at : ℕ) → BeginsWith octets name → at ≡ length (wire name) → made ≡ record { key = key_of name; item = wire name ++ take (length octets - at) (drop at octets) } → made ≡ record { key = key_of name; item = octets }
-whole_item octets name made at b e m =
-    m ∙ ap (record_of (key_of name)) (
-    ap (λ (l : List ℕ). wire name ++ take (length octets - at) (drop at l)) b.1
-    ∙ ap (λ (l : List ℕ). wire name ++ take (length octets - at) l) (drop_at (wire name) b.0 at (sym e))
-    ∙ ap (λ (l : List ℕ). wire name ++ l) (take_all (length octets - at) b.0 (omega (arith, ap length b.1, length-append (wire name) b.0)))
-    ∙ sym b.1)
+-- octets are the name that they begin with and what stands behind it
+pub whole_octets : (octets : List ℕ) (name : Name) (split : ℕ) → BeginsWith octets name → split ≡ length (wire name) → wire name ++ take (length octets - split) (drop split octets) ≡ octets
+whole_octets octets name split b e =
+    ap (λ (l : List ℕ). wire name ++ take (length octets - split) (drop split l)) b.1
+    ∙ ap (λ (l : List ℕ). wire name ++ take (length octets - split) l) (drop_at (wire name) b.0 split (sym e))
+    ∙ ap (λ (l : List ℕ). wire name ++ l) (take_all (length octets - split) b.0 (omega (arith, ap length b.1, length-append (wire name) b.0)))
+    ∙ sym b.1
 
-pub item_entry : (octets : List ℕ) (name : Name) (made : TrieEntry) → BeginsWith octets name → IsName name → made ≡ record { key = key_of name; item = octets } → (owner : Name) (entry : Entry) → IsItem octets owner entry → made ≡ trie_entry (owner, entry)
-item_entry octets name made b n m owner entry is =
-    m ∙ ap (λ (l : List ℕ). record_of (key_of name) l) is.octets ∙ ap (λ (x : Name). record_of (key_of x) (item owner entry)) (owner_is octets name owner entry is n b)
+-- what is made of them is the entry of the item that they are
+pub item_entry : (octets : List ℕ) (name : Name) (made : TrieEntry) → BeginsWith octets name → IsName name → (split : ℕ) → split ≡ length (wire name) → made ≡ record { key = key_of name; item = wire name ++ take (length octets - split) (drop split octets) } → (owner : Name) (entry : Entry) → IsItem octets owner entry → made ≡ trie_entry (owner, entry)
+item_entry octets name made b n split e m owner entry is =
+    m ∙ ap (record_of (key_of name)) (whole_octets octets name split b e) ∙ ap (λ (l : List ℕ). record_of (key_of name) l) is.octets ∙ ap (λ (x : Name). record_of (key_of x) (item owner entry)) (owner_is octets name owner entry is n b)
 
 -- ---- keys in the order of their names
 
