@@ -10,16 +10,18 @@ ghost use Rattle.master_file.specs.Zones.{reader_view, ReadsAll, ReadsNext};
 ghost use Rattle.master_file.specs.Owners.{AllHeld};
 
 use crate::entries::read_entry;
-use crate::entry_tokens::tokens;
+use crate::entry_tokens::scan_entry;
 use crate::items::ZoneItems;
 use crate::owned::Owned;
 use crate::owners::Owners;
 use crate::records::Reader;
 use crate::refusal::{ZoneRefusal, refuse};
 use dns_name::{Name, SortKey};
+use rr_data::Token;
 use std::alloc::Global;
 use std::collections::BTreeMap;
 use std::marker::Model;
+use std::mem::replace;
 use zone_model::ZoneKind;
 
 fn new_reader(alloc: Global, top: &Name) -> Reader
@@ -36,7 +38,7 @@ fn new_reader(alloc: Global, top: &Name) -> Reader
     }
 }
 
-// The entry that begins at a place; the place and line of the next one.
+// The entry that begins at a place; the place and line of the next one. Its tokens lie in memory that is lent.
 #[tactic(auto, using(crate::proofs::ZoneLemmas::zone_rules))]
 fn read_next(
     alloc: Global,
@@ -45,6 +47,7 @@ fn read_next(
     line: u32,
     top: &Name,
     reader: &mut Reader,
+    lent: &mut Vec<Token>,
 ) -> Result<(u32, u32), ZoneRefusal>
     requires inside { at < length bytes.now }
     requires short { length bytes.now ≤ 2 ^ 24 }
@@ -54,12 +57,16 @@ fn read_next(
     ensures reads { ReadsNext bytes.now top.now at line (reader_view reader.old) (reader_view reader.new) result }
     ensures places { IfOk result (λ x. (at < x.0) × (x.0 ≤ length bytes.now) × (x.1 ≤ x.0 + 1) × (x.1 + length (lines_of (drop x.0 bytes.now)) ≡ line + length (lines_of (drop at bytes.now)))) }
 {
-    let lexed = match tokens(alloc, bytes, at, line) {
+    let lexed = match scan_entry(replace(lent, Vec::new(alloc)), bytes, at, line) {
         Ok(lexed) => lexed,
         Err(refusal) => return Err(refusal),
     };
     match read_entry(alloc, top, line, lexed.blank, bytes, &lexed.tokens, reader) {
-        Ok(()) => Ok((lexed.next, lexed.next_line)),
+        Ok(()) => {
+            let behind = (lexed.next, lexed.next_line);
+            *lent = lexed.tokens;
+            Ok(behind)
+        }
         Err(refusal) => Err(refusal),
     }
 }
@@ -78,10 +85,11 @@ fn read_entries(
     ensures zone { ReadsAll result (reader_view reader.new) (zone_from top.now 1 (lines_of bytes.now) None (reader_view reader.old)) }
     ensures lines { IfOk result (λ n. n ≡ length (lines_of bytes.now) + 1) }
 {
+    let mut lent = Vec::new(alloc);
     let mut at = 0;
     let mut line = 1;
     while (at as usize) < bytes.len() {
-        match read_next(alloc, bytes, at, line, top, reader) {
+        match read_next(alloc, bytes, at, line, top, reader, &mut lent) {
             Ok((next, next_line)) => {
                 at = next;
                 line = next_line;
