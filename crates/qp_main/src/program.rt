@@ -28,23 +28,25 @@ use std::thread::Threads;
 // The most bytes of an input.
 const INPUT_LIMIT: u32 = 16777216;
 
-// The status and the text for a zone that was read and the script that begins at a place, on a line with a number.
+// The status and the text for a zone that was read and the script that begins at a place, on a line with a number. The
+// bytes go before the index is made.
 #[tactic(auto, unfolding(job_model::specs::Jobs::job_of_lines))]
 fn run_script<G: Gate>(
     alloc: Global,
     invocation: &Invocation,
-    bytes: &[u8],
+    bytes: Vec<u8>,
     parts: Parts,
     zone: Zone,
     gate: &G,
 ) -> Result<(Status, Vec<u8>), AllocError>
-    requires short { length bytes.now ≤ 2 ^ 24 }
-    requires cut { IsCutAt bytes.now parts }
-    requires read { zone_of invocation.now.origin (zone_lines bytes.now) ≡ Ok zone.pairs }
-    ensures { IfOk result (λ x. Answers invocation.now.chunks (job_of invocation.now.origin bytes.now) x.0 x.1.items) }
+    requires short { length bytes.items ≤ 2 ^ 24 }
+    requires cut { IsCutAt bytes.items parts }
+    requires read { zone_of invocation.now.origin (zone_lines bytes.items) ≡ Ok zone.pairs }
+    ensures { IfOk result (λ x. Answers invocation.now.chunks (job_of invocation.now.origin bytes.items) x.0 x.1.items) }
 {
     let origin = &invocation.origin;
-    let commands = match read_script(alloc, bytes, origin, parts.script_from, parts.first_line) {
+    let text = bytes.as_slice();
+    let commands = match read_script(alloc, text, origin, parts.script_from, parts.first_line) {
         Ok(commands) => commands,
         Err(ScriptRefusal::Refused { line, kind }) => {
             return Ok((
@@ -54,6 +56,7 @@ fn run_script<G: Gate>(
         }
         Err(ScriptRefusal::Memory) => return Err(AllocError),
     };
+    drop(bytes);
     match open(alloc, zone, invocation.chunks)? {
         Opening::Fits(mut index) => report_job(alloc, origin, &mut index, &commands, gate),
         Opening::DoesNotFit { cells, limit } => {
@@ -84,15 +87,15 @@ fn check_zone(alloc: Global, chunks: u32, zone: Zone) -> Result<(Status, Vec<u8>
 fn answer_parts<G: Gate>(
     alloc: Global,
     invocation: &Invocation,
-    bytes: &[u8],
+    bytes: Vec<u8>,
     parts: Parts,
     gate: &G,
 ) -> Result<(Status, Vec<u8>), AllocError>
-    requires short { length bytes.now ≤ 2 ^ 24 }
-    requires cut { IsCutAt bytes.now parts }
-    ensures { IfOk result (λ x. DueInput invocation.now.verb invocation.now.chunks invocation.now.origin bytes.now x.0 x.1.items) }
+    requires short { length bytes.items ≤ 2 ^ 24 }
+    requires cut { IsCutAt bytes.items parts }
+    ensures { IfOk result (λ x. DueInput invocation.now.verb invocation.now.chunks invocation.now.origin bytes.items x.0 x.1.items) }
 {
-    let zone_bytes = &bytes[..parts.zone_end as usize];
+    let zone_bytes = &bytes.as_slice()[..parts.zone_end as usize];
     let zone = match read_zone(alloc, zone_bytes, &invocation.origin) {
         Ok(zone) => zone,
         Err(ZoneRefusal::Refused { line, kind }) => {
@@ -105,7 +108,10 @@ fn answer_parts<G: Gate>(
     };
     match invocation.verb {
         Verb::Run => run_script(alloc, invocation, bytes, parts, zone, gate),
-        Verb::Check => check_zone(alloc, invocation.chunks, zone),
+        Verb::Check => {
+            drop(bytes);
+            check_zone(alloc, invocation.chunks, zone)
+        }
     }
 }
 
@@ -114,13 +120,13 @@ fn answer<R: Threads + Wait + Sync, G: Gate>(
     _rt: &R,
     alloc: Global,
     invocation: &Invocation,
-    bytes: &[u8],
+    bytes: Vec<u8>,
     gate: &G,
 ) -> Result<(Status, Vec<u8>), AllocError>
-    requires { length bytes.now ≤ 16777216 }
-    ensures { IfOk result (λ x. DueInput invocation.now.verb invocation.now.chunks invocation.now.origin bytes.now x.0 x.1.items) }
+    requires { length bytes.items ≤ 16777216 }
+    ensures { IfOk result (λ x. DueInput invocation.now.verb invocation.now.chunks invocation.now.origin bytes.items x.0 x.1.items) }
 {
-    let parts = split(bytes);
+    let parts = split(&bytes);
     answer_parts(alloc, invocation, bytes, parts, gate)
 }
 
@@ -163,7 +169,7 @@ fn serve<R: Threads + Wait + Sync, S: Source, K: Sink, G: Gate>(
         }
         Err(ReadRefusal::Memory) => return Status::NoMemory,
     };
-    let Ok((status, text)) = answer(rt, alloc, invocation, &bytes, gate) else {
+    let Ok((status, text)) = answer(rt, alloc, invocation, bytes, gate) else {
         return Status::NoMemory;
     };
     write_due(sink, status, &text)
