@@ -1,8 +1,6 @@
 -- The trie of a version, and whether it fits into chunks.
-use Rattle.std.specs.Prelude.{ℕ, ◌<◌, ◌≤◌, List, Bool, nat_le, length, ◌++◌, codes}
+use Rattle.std.specs.Prelude.{ℕ, List, Bool, nat_le, ◌++◌, codes}
 use Rattle.std.specs.Fmt.{decimal}
-use Rattle.zone_model.specs.Names.{Name}
-use Rattle.zone_model.specs.Records.{Entry, item}
 use Rattle.zone_model.specs.Versions.{Version}
 use Rattle.job_model.specs.Sizes.{cell_count}
 use Rattle.job_model.specs.Reports.{size_text}
