@@ -20,7 +20,9 @@ fn next_set(
         return Ok(None);
     };
     let owner = Name::from_wire(&octets[..len]).ok_or("an owner")?;
-    let entry = Entry::decode(rt.alloc(), &octets[..len]).ok().ok_or("an entry")?;
+    let entry = Entry::decode(rt.alloc(), &octets[..len])
+        .ok()
+        .ok_or("an entry")?;
     let set = entry.find_set(rtype).ok_or("an RRset")?;
     Ok(Some((owner.labels(), set.ttl(), set.len())))
 }
