@@ -8,3 +8,5 @@ pub mod LabelLemmas
 pub mod PrintLemmas
 pub mod PrintedLemmas
 pub mod ScanLemmas
+pub mod SortKeyLemmas
+pub mod BelowLemmas

@@ -1,5 +1,5 @@
 -- A wire form says its labels.
-use Rattle.std.proofs.Common.{◌≡◌, ◌∙◌, ℕ, ◌≤◌, List, [], ◌++◌, length, sym, ap, arith, append-nil}
+use Rattle.std.proofs.Common.{◌≡◌, ◌∙◌, ℕ, ◌≤◌, List, [], length, sym, ap, arith, append-nil}
 use Rattle.zone_model.specs.Names.{wire, labels_in, IsName}
 use Rattle.dns_name.specs.Inside.{length_le-wire, labels_in-wire}
 

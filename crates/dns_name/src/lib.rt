@@ -14,6 +14,7 @@ mod owned;
 mod pieces;
 mod print;
 mod scan;
+mod sort_key;
 mod text;
 mod wire;
 
@@ -21,6 +22,7 @@ use crate::scan::wire_len;
 use crate::wire::{count, first, skip, under};
 pub use buffer::Octets;
 pub use owned::OwnedName;
+pub use sort_key::SortKey;
 use std::marker::Model;
 pub use wire::first as first_label;
 

@@ -6,3 +6,5 @@ pub mod ScanLemmas
 pub mod SingleLemmas
 pub mod SpellingLemmas
 pub mod ZoneLemmas
+pub mod OwnerLemmas
+pub mod OwnedLemmas

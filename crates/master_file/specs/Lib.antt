@@ -3,3 +3,6 @@ pub mod Rows
 pub mod Spelling
 pub mod Views
 pub mod Zones
+pub mod Owners
+pub mod Items
+pub mod Owned

@@ -7,6 +7,7 @@ use Rattle.zone_model.specs.declared.ZoneKind.{ZoneKind}
 use Rattle.zone_model.specs.MasterFile as says
 use Rattle.rr_data.specs.Tokens.{token_view}
 use Rattle.rr_data.specs.declared.token.Token.{Token}
+use Rattle.master_file.specs.Owners.{version_of}
 use Rattle.master_file.specs.declared.front.Front.{Front}
 use Rattle.master_file.specs.declared.refusal.ZoneRefusal.{ZoneRefusal}
 use Rattle.master_file.specs.declared.refusal.ZoneRefusal.TheVariants as refusal
@@ -16,7 +17,7 @@ abbrev pub front_view : List ℕ → List Token → Front → says.Front
 front_view bytes tokens f = record { time = f.time; rtype = f.rtype; rest = map (token_view bytes) (drop f.len tokens) }
 
 abbrev pub reader_view : Reader → says.Reader
-reader_view r = record { origin = r.origin; set_time = r.set_time; last_time = r.last_time; minimum = r.minimum; owner = r.owner; version = r.version.entries }
+reader_view r = record { origin = r.origin; set_time = r.set_time; last_time = r.last_time; minimum = r.minimum; owner = r.owner; version = version_of r.owners.owned.entries }
 
 -- the lines were read, or the refusal wanted was given
 abbrev pub ReadsAll : Result ℕ ZoneRefusal → says.Reader → Result says.Reader (Refused ZoneKind) → Type 0

@@ -1,15 +1,16 @@
 // What entries say.
-ghost use Rattle.std.specs.Prelude.{◌≡◌, ◌<◌, ◌≤◌, ◌+◌, ◌-◌, ◌∷◌, [], ◌^◌, ℕ, List, length, map, Some, None, Option, Ok, Err, Result, IfOk};
+ghost use Rattle.std.specs.Prelude.{◌≡◌, ◌<◌, ◌≤◌, ◌+◌, ◌-◌, ◌∷◌, [], ◌^◌, ℕ, List, length, map, Some, None, Option, Ok, Err, Result, IfOk, OnOk};
 ghost use Rattle.std.specs.List.{All};
 ghost use Rattle.zone_model.specs.MasterFile.{directive, record_says, entry_says, last_line, set_time_word, set_origin_word, one_argument, placed};
 ghost use Rattle.zone_model.specs.Data.{data_of};
 ghost use Rattle.master_file.specs.Views.{Gives, Reads};
 ghost use Rattle.rr_data.specs.Tokens.{IsPlaced, token_view};
 ghost use Rattle.master_file.specs.Zones.{reader_view, front_view};
+ghost use Rattle.master_file.specs.Owners.{AllHeld};
 
 use crate::classes::is_word;
 use crate::front::{Front, front_of, is_directive, name_word, time_word};
-use crate::records::{Reader, add_record, line_of, minimum_of, time_for};
+use crate::records::{Reader, line_of, minimum_of, time_for};
 use crate::refusal::{ZoneRefusal, refuse};
 use dns_name::Name;
 use rr_data::{Rdata, RdataRefusal, Token};
@@ -51,7 +52,9 @@ fn read_record(
     reader: &mut Reader,
 ) -> Result<(), ZoneRefusal>
     requires placed { All (IsPlaced bytes.now) words.now }
-    ensures { Gives result (reader_view reader.new) (record_says top.now last owner.now (map (token_view bytes.now) words.now) (reader_view reader.old)) }
+    requires held { AllHeld top.now reader.old.owners.owned.entries }
+    ensures held { OnOk result (AllHeld top.now reader.new.owners.owned.entries) }
+    ensures gives { Gives result (reader_view reader.new) (record_says top.now last owner.now (map (token_view bytes.now) words.now) (reader_view reader.old)) }
 {
     let front = front_of(bytes, last, words)?;
     let rdata = read_data(alloc, last, front, bytes, words, &reader.origin)?;
@@ -63,16 +66,9 @@ fn read_record(
     } else {
         reader.minimum
     };
-    add_record(
-        alloc,
-        top,
-        last,
-        owner,
-        front.rtype,
-        time,
-        rdata,
-        &mut reader.version,
-    )?;
+    reader
+        .owners
+        .add(alloc, top, last, owner, front.rtype, time, rdata)?;
     if front.time.is_some() {
         reader.last_time = front.time;
     }
@@ -84,7 +80,8 @@ fn read_record(
 // A directive that sets the time.
 fn set_time(bytes: &[u8], token: Token, reader: &mut Reader) -> Result<(), ZoneRefusal>
     requires { IsPlaced bytes.now token }
-    ensures { Gives result (reader_view reader.new) (set_time_word (reader_view reader.old) (token_view bytes.now token)) }
+    ensures same { reader.new.owners ≡ reader.old.owners }
+    ensures gives { Gives result (reader_view reader.new) (set_time_word (reader_view reader.old) (token_view bytes.now token)) }
 {
     let Some(time) = time_word(bytes, token) else {
         return Err(refuse(token.line, ZoneKind::BadTtl));
@@ -96,7 +93,8 @@ fn set_time(bytes: &[u8], token: Token, reader: &mut Reader) -> Result<(), ZoneR
 // A directive that sets the origin.
 fn set_origin(bytes: &[u8], token: Token, reader: &mut Reader) -> Result<(), ZoneRefusal>
     requires { IsPlaced bytes.now token }
-    ensures { Gives result (reader_view reader.new) (set_origin_word (reader_view reader.old) (token_view bytes.now token)) }
+    ensures same { reader.new.owners ≡ reader.old.owners }
+    ensures gives { Gives result (reader_view reader.new) (set_origin_word (reader_view reader.old) (token_view bytes.now token)) }
 {
     let Some(name) = name_word(bytes, &reader.origin, token) else {
         return Err(refuse(token.line, ZoneKind::BadName));
@@ -129,7 +127,8 @@ fn read_directive(
 ) -> Result<(), ZoneRefusal>
     requires placed { IsPlaced bytes.now token }
     requires all_placed { All (IsPlaced bytes.now) arguments.now }
-    ensures { Gives result (reader_view reader.new) (directive (token_view bytes.now token) (map (token_view bytes.now) arguments.now) (reader_view reader.old)) }
+    ensures same { reader.new.owners ≡ reader.old.owners }
+    ensures gives { Gives result (reader_view reader.new) (directive (token_view bytes.now token) (map (token_view bytes.now) arguments.now) (reader_view reader.old)) }
 {
     let text = token.text(bytes);
     if is_word(text, b"$INCLUDE") {
@@ -169,7 +168,9 @@ pub fn read_entry(
     reader: &mut Reader,
 ) -> Result<(), ZoneRefusal>
     requires placed { All (IsPlaced bytes.now) tokens.now }
-    ensures { Gives result (reader_view reader.new) (entry_says top.now line blank (map (token_view bytes.now) tokens.now) (reader_view reader.old)) }
+    requires held { AllHeld top.now reader.old.owners.owned.entries }
+    ensures held { OnOk result (AllHeld top.now reader.new.owners.owned.entries) }
+    ensures gives { Gives result (reader_view reader.new) (entry_says top.now line blank (map (token_view bytes.now) tokens.now) (reader_view reader.old)) }
 {
     let Some((first, rest)) = tokens.split_first() else {
         return Ok(());

@@ -1,4 +1,4 @@
-// The tokens of an entry.
+//! The tokens of an entry.
 ghost use Rattle.std.specs.Prelude.{◌≡◌, ◌≤◌, ◌<◌, ◌+◌, ◌^◌, ℕ, List, length, drop, OnOk, IfOk, [], Result};
 ghost use Rattle.zone_model.specs.Refusals.{Refused};
 ghost use Rattle.zone_model.specs.Grammar.{SpellsEntry};
@@ -45,12 +45,14 @@ fn scan_line(scan: &mut Scan, bytes: &[u8], at: u32, line: u32) -> Result<u32, Z
     }
 }
 
-pub fn new_scan(alloc: Global) -> Scan
+// A scan of which nothing has begun. What the tokens were is lost, their memory is kept.
+pub fn new_scan(mut tokens: Vec<Token>) -> Scan
     ensures fresh { (bytes : List ℕ) (at : ℕ) → scan_view bytes at result ≡ fresh }
     ensures scanned { (bytes : List ℕ) (at : ℕ) → HasScanned bytes at result }
 {
+    tokens.clear();
     Scan {
-        tokens: Vec::new(alloc),
+        tokens,
         begun: Begun::Apart,
         depth: 0,
         outer: 0,
@@ -69,9 +71,14 @@ fn is_blank(bytes: &[u8], from: u32) -> bool
     }
 }
 
-// The tokens of the entry that begins at a place.
+// The tokens of the entry that begins at a place, in the memory of others.
 #[tactic(auto, using(crate::proofs::EntryLemmas::end_rules), unfolding(zone_model::specs::Tokens::entry_from))]
-fn scan_entry(alloc: Global, bytes: &[u8], from: u32, line: u32) -> Result<Lexed, ZoneRefusal>
+pub fn scan_entry(
+    lent: Vec<Token>,
+    bytes: &[u8],
+    from: u32,
+    line: u32,
+) -> Result<Lexed, ZoneRefusal>
     requires inside { from ≤ length bytes.now }
     requires short { length bytes.now ≤ 2 ^ 24 }
     requires lines { line + length bytes.now < 2 ^ 32 }
@@ -81,7 +88,7 @@ fn scan_entry(alloc: Global, bytes: &[u8], from: u32, line: u32) -> Result<Lexed
     ensures next { IfOk result (λ l. (l.next ≤ length bytes.now) × (l.next_line + from ≤ line + l.next) × (from < length bytes.now → from < l.next)) }
 {
     let blank = is_blank(bytes, from);
-    let mut scan = new_scan(alloc);
+    let mut scan = new_scan(lent);
     let mut at = from;
     let mut n = line;
     while (at as usize) < bytes.len() {
@@ -127,5 +134,5 @@ pub fn tokens(alloc: Global, bytes: &[u8], from: u32, line: u32) -> Result<Lexed
     ensures placed { IfOk result (λ l. All (IsPlaced bytes.now) l.tokens.items) }
     ensures next { IfOk result (λ l. (l.next ≤ length bytes.now) × (l.next_line + from ≤ line + l.next) × (from < length bytes.now → from < l.next)) }
 {
-    scan_entry(alloc, bytes, from, line)
+    scan_entry(Vec::new(alloc), bytes, from, line)
 }

@@ -1,4 +1,4 @@
-// The tokens of one line by itself.
+//! The tokens of one line by itself.
 ghost use Rattle.std.specs.Prelude.{◌≡◌, ◌≤◌, ◌<◌, ◌+◌, ◌∷◌, ◌^◌, ℕ, List, length, drop, OnOk, IfOk, [], Result};
 ghost use Rattle.zone_model.specs.Grammar.{Spelled, Spells, line_says};
 ghost use Rattle.zone_model.specs.declared.ZoneKind.{ZoneKind};
@@ -36,7 +36,7 @@ fn scan_line(alloc: Global, bytes: &[u8], from: u32, line: u32) -> Result<LexedL
     ensures rest { IfOk result (λ l. lines_of (drop from bytes.now) ≡ first_line (drop from bytes.now) ∷ lines_of (drop l.next bytes.now)) }
 {
     let (upto, next) = line_at(bytes, from);
-    let mut scan = new_scan(alloc);
+    let mut scan = new_scan(Vec::new(alloc));
     match scan_tokens(&mut scan, bytes, from, upto, line) {
         Ok(()) => Ok(line_of(scan, next)),
         Err(refusal) => Err(refusal),

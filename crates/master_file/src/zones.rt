@@ -1,28 +1,32 @@
-// The zone that bytes say.
-ghost use Rattle.std.specs.Prelude.{◌≡◌, ◌<◌, ◌≤◌, ◌+◌, ◌-◌, ◌∷◌, [], ◌^◌, ℕ, List, length, drop, map, Some, None, Option, Ok, Err, Result, IfOk, MatchOption, IsTrue, ◌↔◌};
+//! The zone that bytes say.
+ghost use Rattle.std.specs.Prelude.{◌≡◌, ◌<◌, ◌≤◌, ◌+◌, ◌-◌, ◌∷◌, [], ◌^◌, ℕ, List, length, drop, map, Some, None, Option, Ok, Err, Result, IfOk, IsTrue, ◌↔◌};
 ghost use Rattle.std.specs.List.Sorted.{IsStrictlySortedBy};
 ghost use Rattle.std.specs.Map.{keys_of};
 ghost use Rattle.zone_model.specs.Names.{name_cmp};
-ghost use Rattle.zone_model.specs.Versions.{entry_of};
 ghost use Rattle.zone_model.specs.Lines.{lines_of};
-ghost use Rattle.zone_model.specs.Versions.{has_soa};
 ghost use Rattle.zone_model.specs.MasterFile.{zone_of, zone_from, at_first};
 ghost use Rattle.master_file.specs.Views.{Gives, Reads};
 ghost use Rattle.master_file.specs.Zones.{reader_view, ReadsAll, ReadsNext};
+ghost use Rattle.master_file.specs.Owners.{AllHeld};
 
 use crate::entries::read_entry;
-use crate::entry_tokens::tokens;
+use crate::entry_tokens::scan_entry;
+use crate::items::ZoneItems;
+use crate::owned::Owned;
+use crate::owners::Owners;
 use crate::records::Reader;
 use crate::refusal::{ZoneRefusal, refuse};
-use dns_name::{Name, OwnedName};
-use rr_data::Entry;
+use dns_name::{Name, SortKey};
+use rr_data::Token;
 use std::alloc::Global;
 use std::collections::BTreeMap;
 use std::marker::Model;
+use std::mem::replace;
 use zone_model::ZoneKind;
 
 fn new_reader(alloc: Global, top: &Name) -> Reader
-    ensures { reader_view result ≡ at_first top.now }
+    ensures first { reader_view result ≡ at_first top.now }
+    ensures none { result.owners.owned.entries ≡ [] }
 {
     Reader {
         origin: *top,
@@ -30,21 +34,11 @@ fn new_reader(alloc: Global, top: &Name) -> Reader
         last_time: None,
         minimum: None,
         owner: None,
-        version: BTreeMap::new(alloc),
+        owners: Owners::new(alloc),
     }
 }
 
-// The top has an SOA.
-fn has_soa(version: &BTreeMap<OwnedName, Entry>, origin: &OwnedName) -> bool
-    ensures { result ≡ has_soa origin.now version.now.entries }
-{
-    match version.get(origin) {
-        Some(entry) => entry.find_set(6).is_some(),
-        None => false,
-    }
-}
-
-// The entry that begins at a place; the place and line of the next one.
+// The entry that begins at a place; the place and line of the next one. Its tokens lie in memory that is lent.
 #[tactic(auto, using(crate::proofs::ZoneLemmas::zone_rules))]
 fn read_next(
     alloc: Global,
@@ -53,19 +47,26 @@ fn read_next(
     line: u32,
     top: &Name,
     reader: &mut Reader,
+    lent: &mut Vec<Token>,
 ) -> Result<(u32, u32), ZoneRefusal>
     requires inside { at < length bytes.now }
     requires short { length bytes.now ≤ 2 ^ 24 }
     requires below { line ≤ at + 1 }
+    requires held { AllHeld top.now reader.old.owners.owned.entries }
+    ensures held { IfOk result (λ _. AllHeld top.now reader.new.owners.owned.entries) }
     ensures reads { ReadsNext bytes.now top.now at line (reader_view reader.old) (reader_view reader.new) result }
     ensures places { IfOk result (λ x. (at < x.0) × (x.0 ≤ length bytes.now) × (x.1 ≤ x.0 + 1) × (x.1 + length (lines_of (drop x.0 bytes.now)) ≡ line + length (lines_of (drop at bytes.now)))) }
 {
-    let lexed = match tokens(alloc, bytes, at, line) {
+    let lexed = match scan_entry(replace(lent, Vec::new(alloc)), bytes, at, line) {
         Ok(lexed) => lexed,
         Err(refusal) => return Err(refusal),
     };
     match read_entry(alloc, top, line, lexed.blank, bytes, &lexed.tokens, reader) {
-        Ok(()) => Ok((lexed.next, lexed.next_line)),
+        Ok(()) => {
+            let behind = (lexed.next, lexed.next_line);
+            *lent = lexed.tokens;
+            Ok(behind)
+        }
         Err(refusal) => Err(refusal),
     }
 }
@@ -79,13 +80,16 @@ fn read_entries(
     reader: &mut Reader,
 ) -> Result<u32, ZoneRefusal>
     requires short { length bytes.now ≤ 2 ^ 24 }
+    requires held { AllHeld top.now reader.old.owners.owned.entries }
+    ensures held { IfOk result (λ _. AllHeld top.now reader.new.owners.owned.entries) }
     ensures zone { ReadsAll result (reader_view reader.new) (zone_from top.now 1 (lines_of bytes.now) None (reader_view reader.old)) }
     ensures lines { IfOk result (λ n. n ≡ length (lines_of bytes.now) + 1) }
 {
+    let mut lent = Vec::new(alloc);
     let mut at = 0;
     let mut line = 1;
     while (at as usize) < bytes.len() {
-        match read_next(alloc, bytes, at, line, top, reader) {
+        match read_next(alloc, bytes, at, line, top, reader, &mut lent) {
             Ok((next, next_line)) => {
                 at = next;
                 line = next_line;
@@ -100,15 +104,18 @@ fn read_entries(
 #[derive(Drop)]
 pub struct Zone {
     origin: Name,
-    entries: BTreeMap<OwnedName, Entry>,
+    owned: BTreeMap<SortKey, Owned>,
 }
 
 impl Model for Zone {
     ghost use Rattle.zone_model.specs.MasterFile as says;
+    ghost use Rattle.master_file.specs.Owners.{version_of, AllHeld};
 
     ghost Value = { says.Zone };
 
-    ghost view = { λ z. record { origin = z.origin; pairs = z.entries.entries } };
+    ghost view = { λ z. record { origin = z.origin; pairs = version_of z.owned.entries } };
+
+    ghost invariant = { λ z. AllHeld z.origin z.owned.entries };
 }
 
 impl Zone {
@@ -123,28 +130,21 @@ impl Zone {
         ensures len { result ≡ length self.now.pairs }
         ensures ordered { IsStrictlySortedBy name_cmp (keys_of self.now.pairs) }
     {
-        self.entries.len()
+        self.owned.len()
     }
 
     /// It has no names. A zone that was read has its origin.
     pub fn is_empty(&self) -> bool
         ensures { IsTrue result ↔ (self.now.pairs ≡ []) }
     {
-        self.entries.is_empty()
+        self.owned.is_empty()
     }
 
-    /// What a name owns, if it owns anything.
-    pub fn entry(&self, name: &OwnedName) -> Option<&Entry>
-        ensures { MatchOption result (entry_of name.now self.now.pairs ≡ None) (λ e. entry_of name.now self.now.pairs ≡ Some e.now) }
+    /// What its names own, item by item.
+    pub fn into_items(self) -> ZoneItems
+        ensures { result ≡ self.pairs }
     {
-        self.entries.get(name)
-    }
-
-    /// Its names with their entries.
-    pub fn into_entries(self) -> BTreeMap<OwnedName, Entry>
-        ensures { result.entries ≡ self.pairs }
-    {
-        self.entries
+        ZoneItems::new(self.owned)
     }
 }
 
@@ -158,13 +158,13 @@ pub fn read_zone(alloc: Global, bytes: &[u8], origin: &Name) -> Result<Zone, Zon
 {
     let mut reader = new_reader(alloc, origin);
     let line = read_entries(alloc, bytes, origin, &mut reader)?;
-    let Reader { version, .. } = reader;
-    let top = OwnedName::of(alloc, origin)?;
-    if !has_soa(&version, &top) {
+    let Reader { mut owners, .. } = reader;
+    if !owners.has_soa(alloc, origin)? {
         return Err(refuse(line, ZoneKind::SoaRule));
     }
+    let Owners { owned, .. } = owners;
     Ok(Zone {
         origin: *origin,
-        entries: version,
+        owned,
     })
 }

@@ -1,6 +1,5 @@
 pub mod RunLemmas
 pub mod InvocationLemmas
 pub mod DueLemmas
-pub mod ZoneLemmas
 pub mod OpeningLemmas
 pub mod TransactLemmas

@@ -1,6 +1,6 @@
 -- Items of a version, and their order.
-use Rattle.std.proofs.Common.{◌≡◌, ◌∙◌, ℕ, zero, suc, ◌+◌, ◌<◌, ◌-◌, ◌≤◌, inl, inr, take, List, [], ◌∷◌, ◌++◌, length, drop, refl, sym, ap, subst, arith, length-append, append_assoc}
-use Rattle.std.proofs.lemmas.List.{drop_at, drop-take}
+use Rattle.std.proofs.Common.{◌≡◌, ◌∙◌, ℕ, zero, suc, ◌<◌, ◌-◌, inl, inr, take, List, [], ◌∷◌, ◌++◌, length, drop, refl, sym, ap, subst, arith, length-append, append_assoc}
+use Rattle.std.proofs.lemmas.List.{drop_at, take_all}
 use Rattle.std.specs.List.{AllByRecursion, flat_map}
 use Rattle.std.specs.List.Sorted.{IsStrictlySortedBy}
 use Rattle.std.specs.Map.{keys_of}
@@ -8,7 +8,8 @@ use Rattle.std.specs.Int.{w16, to_be_bytes}
 use Rattle.std.specs.declared.cmp.Ordering.{Ordering}
 use Rattle.std.specs.declared.cmp.Ordering.TheVariants as order
 use Rattle.std.specs.Ordering.{nat_cmp, ordering_then}
-use Rattle.zone_model.specs.Names.{Name, IsName, wire, name_cmp}
+use Rattle.zone_model.specs.Names.{Name, IsName, BeginsWith, wire, name_cmp}
+use Rattle.dns_name.proofs.ScanLemmas.{begins_once}
 use Rattle.zone_model.specs.Keys.{key_of, key_cmp}
 use Rattle.zone_model.specs.Records.{Entry, IsItem, item, rrset_bytes}
 use Rattle.zone_model.specs.Versions.{Version}
@@ -16,33 +17,32 @@ use Rattle.std.specs.Cmp.{ranked}
 use Rattle.zone_model.proofs.KeyLaws.{key_cmp-key_of}
 use Rattle.trie_model.specs.Keys.{at, Less, InList, Rises}
 use Rattle.trie_model.specs.Keys.{Entry as TrieEntry}
-use Rattle.zone_answer.specs.Standing.{IsStorable}
+use Rattle.zone_answer.specs.Standing.{IsStorable, trie_entry}
 use Rattle.job_model.specs.Sizes.{trie_entries}
 
--- ---- what stands behind the owner
+-- ---- items of octets
 
-abbrev pub record_of : List ℕ → List ℕ → TrieEntry
+abbrev record_of : List ℕ → List ℕ → TrieEntry
 record_of key octets = record { key = key; item = octets }
 
-behind : Entry → List ℕ
-behind entry = to_be_bytes w16 (length entry) ++ flat_map rrset_bytes entry
+-- octets that are an item begin with its owner
+owner_is : (octets : List ℕ) (name owner : Name) (entry : Entry) → IsItem octets owner entry → IsName name → BeginsWith octets name → name ≡ owner
+owner_is octets name owner entry is n b =
+    begins_once octets name owner n.each is.name.each b
+    (to_be_bytes w16 (length entry) ++ flat_map rrset_bytes entry, is.octets ∙ append_assoc (wire owner) (to_be_bytes w16 (length entry)) (flat_map rrset_bytes entry))
 
-item_parts : (name : Name) (entry : Entry) → item name entry ≡ wire name ++ behind entry
-unfolding behind
-item_parts name entry = append_assoc (wire name) (to_be_bytes w16 (length entry)) (flat_map rrset_bytes entry)
+-- octets are the name that they begin with and what stands behind it
+pub whole_octets : (octets : List ℕ) (name : Name) (split : ℕ) → BeginsWith octets name → split ≡ length (wire name) → wire name ++ take (length octets - split) (drop split octets) ≡ octets
+whole_octets octets name split b e =
+    ap (λ (l : List ℕ). wire name ++ take (length octets - split) (drop split l)) b.1
+    ∙ ap (λ (l : List ℕ). wire name ++ take (length octets - split) l) (drop_at (wire name) b.0 split (sym e))
+    ∙ ap (λ (l : List ℕ). wire name ++ l) (take_all (length octets - split) b.0 (omega (arith, ap length b.1, length-append (wire name) b.0)))
+    ∙ sym b.1
 
-owner_within : (name : Name) (entry : Entry) (owner len : ℕ) → owner ≡ length (wire name) → len ≡ length (item name entry) → owner ≤ len
-owner_within name entry owner len o n = let all = length-append (wire name) (behind entry) in let e = ap (λ (l : List ℕ). length l) (item_parts name entry) in omega arith
-
-pub payload : (name : Name) (entry : Entry) (octets : List ℕ) (owner len : ℕ) → IsItem (take len octets) name entry → owner ≡ length (wire name) → len ≡ length (item name entry) → wire name ++ take (len - owner) (drop owner octets) ≡ item name entry
-payload name entry octets owner len is o n =
-    let le = owner_within name entry owner len o n in
-    let sum : owner + (len - owner) ≡ len = omega arith in
-    ap (λ (l : List ℕ). wire name ++ l) (sym (drop-take owner (len - owner) octets) ∙ ap (λ (k : ℕ). drop owner (take k octets)) sum)
-    ∙ ap (λ (l : List ℕ). wire name ++ drop owner l) (is.octets ∙ item_parts name entry) ∙ ap (λ (l : List ℕ). wire name ++ l) (drop_at (wire name) (behind entry) owner (sym o)) ∙ sym (item_parts name entry)
-
-pub entry_as : (key : List ℕ) {a b : List ℕ} → a ≡ b → record_of key a ≡ record_of key b
-entry_as key e = ap (record_of key) e
+-- what is made of them is the entry of the item that they are
+pub item_entry : (octets : List ℕ) (name : Name) (made : TrieEntry) → BeginsWith octets name → IsName name → (split : ℕ) → split ≡ length (wire name) → made ≡ record { key = key_of name; item = wire name ++ take (length octets - split) (drop split octets) } → (owner : Name) (entry : Entry) → IsItem octets owner entry → made ≡ trie_entry (owner, entry)
+item_entry octets name made b n split e m owner entry is =
+    m ∙ ap (record_of (key_of name)) (whole_octets octets name split b e) ∙ ap (λ (l : List ℕ). record_of (key_of name) l) is.octets ∙ ap (λ (x : Name). record_of (key_of x) (item owner entry)) (owner_is octets name owner entry is n b)
 
 -- ---- keys in the order of their names
 

@@ -1,17 +1,10 @@
 -- The trie of a version, and whether it fits into chunks.
-use Rattle.std.specs.Prelude.{ℕ, ◌<◌, ◌≤◌, List, Bool, nat_le, length, ◌++◌, codes}
+use Rattle.std.specs.Prelude.{ℕ, List, Bool, nat_le, ◌++◌, codes}
 use Rattle.std.specs.Fmt.{decimal}
-use Rattle.zone_model.specs.Names.{Name}
-use Rattle.zone_model.specs.Records.{Entry, item}
 use Rattle.zone_model.specs.Versions.{Version}
 use Rattle.job_model.specs.Sizes.{cell_count}
 use Rattle.job_model.specs.Reports.{size_text}
 use Rattle.qp_multi.specs.Openings.{room_in}
-
--- what a name owns can be an item
-pub record Storable (pair : Name × Entry) : Type 0 where
-  pub some : 0 < length pair.1
-  pub short : length (item pair.0 pair.1) ≤ 4096
 
 abbrev pub fits : ℕ → Version → Bool
 fits chunks version = nat_le (cell_count version) (room_in chunks)

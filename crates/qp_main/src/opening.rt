@@ -1,17 +1,17 @@
-// The index of a zone's version 0.
+//! The index of a zone's version 0.
 ghost use Rattle.std.specs.Prelude.{◌≡◌, ◌≤◌, ℕ, List, IfOk, map};
 ghost use Rattle.std.specs.List.{AllByRecursion};
+ghost use Rattle.zone_model.specs.Names.{Name as Labels};
+ghost use Rattle.zone_model.specs.Records.{Entry, IsItem};
 ghost use Rattle.zone_answer.specs.Standing.{IsStorable, trie_entry};
 ghost use Rattle.job_model.specs.Sizes.{trie_entries};
 ghost use Rattle.trie_write.specs.Entries.{entry_of, entries_of_items};
-ghost use Rattle.qp_main.specs.Fits.{Storable};
 ghost use Rattle.qp_main.specs.Openings.{Opens};
 
-use dns_name::{Name, OwnedName};
+use dns_name::Name;
+use master_file::{Zone, ZoneItems};
 use qp_multi::{Index, OpenRefusal};
-use rr_data::Entry;
 use std::alloc::{AllocError, Global};
-use std::collections::BTreeMap;
 use trie_write::{Item, ItemRefusal};
 
 // Two for a worker, and one for the last line.
@@ -26,52 +26,44 @@ pub enum Opening {
     DoesNotFit { cells: u64, limit: u64 },
 }
 
-// What a name owns, as an item.
-fn item_of(alloc: Global, name: &Name, entry: &Entry) -> Result<Item, AllocError>
-    requires { Storable (name.now, entry.now) }
-    ensures item { IfOk result (λ item. entry_of item ≡ trie_entry (name.now, entry.now)) }
-    ensures storable { IfOk result (λ _. IsStorable (name.now, entry.now)) }
+// The item of these octets.
+fn item_of(alloc: Global, octets: &[u8]) -> Result<Item, AllocError>
+    requires { (name : Labels) × (entry : Entry) × IsItem octets.now name entry }
+    ensures { IfOk result (λ item. (name : Labels) (entry : Entry) → IsItem octets.now name entry → entry_of item ≡ trie_entry (name, entry)) }
 {
-    let mut octets = [0; 4096];
-    let owner = name.wire().len();
-    let Some(len) = entry.encode(name, &mut octets) else {
+    let Some(name) = Name::from_wire(octets) else {
         unreachable!();
     };
-    match Item::of(alloc, name, &octets[owner..len]) {
+    let owner = name.wire().len();
+    match Item::of(alloc, &name, &octets[owner..]) {
         Ok(item) => Ok(item),
         Err(ItemRefusal::Memory) => Err(AllocError),
         Err(ItemRefusal::Long { bytes: _ }) => unreachable!(),
     }
 }
 
-// The items of a version, in order.
-fn items_of(alloc: Global, version: &BTreeMap<OwnedName, Entry>) -> Result<Vec<Item>, AllocError>
-    requires { AllByRecursion Storable version.now.entries }
-    ensures items { IfOk result (λ items. entries_of_items items.items ≡ trie_entries version.now.entries) }
-    ensures storable { IfOk result (λ _. AllByRecursion IsStorable version.now.entries) }
+// All items, in order. Each is laid down in one buffer.
+fn items_of(alloc: Global, mut left: ZoneItems) -> Result<Vec<Item>, AllocError>
+    ensures items { IfOk result (λ items. entries_of_items items.items ≡ trie_entries left) }
+    ensures storable { IfOk result (λ _. AllByRecursion IsStorable left) }
 {
-    let mut items = Vec::with_capacity(alloc, version.len())?;
-    for (name, entry) in version.iter() {
-        items.push(item_of(alloc, &name.name(), entry)?)?;
+    let mut octets = [0; 4096];
+    let mut items = Vec::with_capacity(alloc, left.len())?;
+    while let Some(len) = left.next(&mut octets) {
+        items.push(item_of(alloc, &octets[..len])?)?;
     }
     Ok(items)
 }
 
-/// Builds the index of a version over some chunks.
-pub fn open(
-    alloc: Global,
-    version: BTreeMap<OwnedName, Entry>,
-    chunks: u32,
-) -> Result<Opening, AllocError>
+/// Builds the index of a zone over some chunks.
+pub fn open(alloc: Global, zone: Zone, chunks: u32) -> Result<Opening, AllocError>
     requires enough { 16 ≤ chunks }
     requires few { chunks ≤ 4096 }
-    requires storable { AllByRecursion Storable version.entries }
-    ensures { IfOk result (λ o. Opens chunks version.entries o) }
+    ensures { IfOk result (λ o. Opens chunks zone.pairs o) }
 {
-    // The map's length tells that its names rise.
-    let _names = version.len();
-    let items = items_of(alloc, &version)?;
-    drop(version);
+    // The zone's length tells that its names rise.
+    let _names = zone.len();
+    let items = items_of(alloc, zone.into_items())?;
     match Index::open(alloc, &items, chunks, PASSES) {
         Ok(index) => Ok(Opening::Fits(index)),
         Err(OpenRefusal::Full { cells, limit }) => Ok(Opening::DoesNotFit { cells, limit }),

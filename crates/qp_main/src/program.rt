@@ -1,8 +1,7 @@
-// The program over any source and sink.
+//! The program over any source and sink.
 ghost use Rattle.std.specs.Prelude.{◌≡◌, ◌<◌, ◌≤◌, ◌+◌, ◌^◌, ◌++◌, ◌∷◌, [], ℕ, List, length, IfOk, OnOk, map, codes, Ok, Result, IfSome, MatchOption, IsSome, Some, None};
 ghost use Rattle.std.specs.String.{string_bytes};
 ghost use Rattle.std.specs.Io.KnownBytes.{Consumes};
-ghost use Rattle.std.specs.List.{AllByRecursion};
 ghost use Rattle.zone_model.specs.MasterFile.{zone_of};
 ghost use Rattle.job_model.specs.Jobs.{zone_lines, job_of};
 ghost use Rattle.job_script.specs.Parts.{IsCutAt};
@@ -10,7 +9,6 @@ ghost use Rattle.outer_io.specs.Faults.{Rose};
 ghost use Rattle.outer_io.specs.Bytes.{Grows, GrowsByFront};
 ghost use Rattle.qp_main.specs.Invocations.{invocation_of};
 ghost use Rattle.qp_main.specs.InvocationViews.{invocation_view};
-ghost use Rattle.qp_main.specs.Fits.{Storable};
 ghost use Rattle.qp_main.specs.Due.{Answers, Checks, DueInput, IsWritten, IsUnwritten, Written, CutShort};
 
 use crate::command_line::invocation_of;
@@ -20,37 +18,35 @@ use crate::opening::{Opening, open};
 use crate::report::{no_room, script_refused, size_line, zone_refused};
 use crate::status::Status;
 use crate::worker::report_job;
-use dns_name::OwnedName;
 use job_script::{Parts, ScriptRefusal, read_script, split};
-use master_file::{ZoneRefusal, read_zone};
+use master_file::{Zone, ZoneRefusal, read_zone};
 use outer_io::{ReadRefusal, Sink, Source, read_all, write_all};
-use rr_data::Entry;
 use std::alloc::{AllocError, Global};
-use std::collections::BTreeMap;
 use std::sync::Wait;
 use std::thread::Threads;
 
 // The most bytes of an input.
 const INPUT_LIMIT: u32 = 16777216;
 
-// The status and the text for a zone that was read and the script that begins at a place, on a line with a number.
+// The status and the text for a zone that was read and the script that begins at a place, on a line with a number. The
+// bytes go before the index is made.
 #[tactic(auto, unfolding(job_model::specs::Jobs::job_of_lines))]
 fn run_script<G: Gate>(
     alloc: Global,
     invocation: &Invocation,
-    bytes: &[u8],
+    bytes: Vec<u8>,
     parts: Parts,
-    version: BTreeMap<OwnedName, Entry>,
+    zone: Zone,
     gate: &G,
 ) -> Result<(Status, Vec<u8>), AllocError>
-    requires short { length bytes.now ≤ 2 ^ 24 }
-    requires cut { IsCutAt bytes.now parts }
-    requires zone { zone_of invocation.now.origin (zone_lines bytes.now) ≡ Ok version.entries }
-    requires storable { AllByRecursion Storable version.entries }
-    ensures { IfOk result (λ x. Answers invocation.now.chunks (job_of invocation.now.origin bytes.now) x.0 x.1.items) }
+    requires short { length bytes.items ≤ 2 ^ 24 }
+    requires cut { IsCutAt bytes.items parts }
+    requires read { zone_of invocation.now.origin (zone_lines bytes.items) ≡ Ok zone.pairs }
+    ensures { IfOk result (λ x. Answers invocation.now.chunks (job_of invocation.now.origin bytes.items) x.0 x.1.items) }
 {
     let origin = &invocation.origin;
-    let commands = match read_script(alloc, bytes, origin, parts.script_from, parts.first_line) {
+    let text = bytes.as_slice();
+    let commands = match read_script(alloc, text, origin, parts.script_from, parts.first_line) {
         Ok(commands) => commands,
         Err(ScriptRefusal::Refused { line, kind }) => {
             return Ok((
@@ -60,7 +56,8 @@ fn run_script<G: Gate>(
         }
         Err(ScriptRefusal::Memory) => return Err(AllocError),
     };
-    match open(alloc, version, invocation.chunks)? {
+    drop(bytes);
+    match open(alloc, zone, invocation.chunks)? {
         Opening::Fits(mut index) => report_job(alloc, origin, &mut index, &commands, gate),
         Opening::DoesNotFit { cells, limit } => {
             Ok((Status::DoesNotFit, no_room(alloc, cells, limit)?))
@@ -69,17 +66,12 @@ fn run_script<G: Gate>(
 }
 
 // The status and the text for a zone that was read and is only to be checked.
-fn check_version(
-    alloc: Global,
-    chunks: u32,
-    version: BTreeMap<OwnedName, Entry>,
-) -> Result<(Status, Vec<u8>), AllocError>
+fn check_zone(alloc: Global, chunks: u32, zone: Zone) -> Result<(Status, Vec<u8>), AllocError>
     requires enough { 16 ≤ chunks }
     requires few { chunks ≤ 4096 }
-    requires storable { AllByRecursion Storable version.entries }
-    ensures { IfOk result (λ x. Checks chunks (Ok version.entries) x.0 x.1.items) }
+    ensures { IfOk result (λ x. Checks chunks (Ok zone.pairs) x.0 x.1.items) }
 {
-    match open(alloc, version, chunks)? {
+    match open(alloc, zone, chunks)? {
         Opening::Fits(index) => {
             let query = index.query();
             let line = size_line(alloc, query.count(), query.nodes())?;
@@ -95,15 +87,15 @@ fn check_version(
 fn answer_parts<G: Gate>(
     alloc: Global,
     invocation: &Invocation,
-    bytes: &[u8],
+    bytes: Vec<u8>,
     parts: Parts,
     gate: &G,
 ) -> Result<(Status, Vec<u8>), AllocError>
-    requires short { length bytes.now ≤ 2 ^ 24 }
-    requires cut { IsCutAt bytes.now parts }
-    ensures { IfOk result (λ x. DueInput invocation.now.verb invocation.now.chunks invocation.now.origin bytes.now x.0 x.1.items) }
+    requires short { length bytes.items ≤ 2 ^ 24 }
+    requires cut { IsCutAt bytes.items parts }
+    ensures { IfOk result (λ x. DueInput invocation.now.verb invocation.now.chunks invocation.now.origin bytes.items x.0 x.1.items) }
 {
-    let zone_bytes = &bytes[..parts.zone_end as usize];
+    let zone_bytes = &bytes.as_slice()[..parts.zone_end as usize];
     let zone = match read_zone(alloc, zone_bytes, &invocation.origin) {
         Ok(zone) => zone,
         Err(ZoneRefusal::Refused { line, kind }) => {
@@ -114,10 +106,12 @@ fn answer_parts<G: Gate>(
         }
         Err(ZoneRefusal::Memory) => return Err(AllocError),
     };
-    let version = zone.into_entries();
     match invocation.verb {
-        Verb::Run => run_script(alloc, invocation, bytes, parts, version, gate),
-        Verb::Check => check_version(alloc, invocation.chunks, version),
+        Verb::Run => run_script(alloc, invocation, bytes, parts, zone, gate),
+        Verb::Check => {
+            drop(bytes);
+            check_zone(alloc, invocation.chunks, zone)
+        }
     }
 }
 
@@ -126,13 +120,13 @@ fn answer<R: Threads + Wait + Sync, G: Gate>(
     _rt: &R,
     alloc: Global,
     invocation: &Invocation,
-    bytes: &[u8],
+    bytes: Vec<u8>,
     gate: &G,
 ) -> Result<(Status, Vec<u8>), AllocError>
-    requires { length bytes.now ≤ 16777216 }
-    ensures { IfOk result (λ x. DueInput invocation.now.verb invocation.now.chunks invocation.now.origin bytes.now x.0 x.1.items) }
+    requires { length bytes.items ≤ 16777216 }
+    ensures { IfOk result (λ x. DueInput invocation.now.verb invocation.now.chunks invocation.now.origin bytes.items x.0 x.1.items) }
 {
-    let parts = split(bytes);
+    let parts = split(&bytes);
     answer_parts(alloc, invocation, bytes, parts, gate)
 }
 
@@ -175,7 +169,7 @@ fn serve<R: Threads + Wait + Sync, S: Source, K: Sink, G: Gate>(
         }
         Err(ReadRefusal::Memory) => return Status::NoMemory,
     };
-    let Ok((status, text)) = answer(rt, alloc, invocation, &bytes, gate) else {
+    let Ok((status, text)) = answer(rt, alloc, invocation, bytes, gate) else {
         return Status::NoMemory;
     };
     write_due(sink, status, &text)

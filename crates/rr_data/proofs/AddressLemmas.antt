@@ -1,15 +1,19 @@
 -- Texts of addresses.
-use Rattle.std.proofs.Common.{◌≡◌, ◌∙◌, ℕ, ◌+◌, ◌*◌, ◌^◌, ◌<◌, ◌≤◌, Bool, true, false, ◌&&◌, eqb, cond, zero, suc, add-one, Option, Some, None, append_assoc, map, option_and_then, ◌++◌, List, ◌∷◌, [], length, get_or, drop, ap, sym, refl, arith}
-use Rattle.std.specs.List.{list_all}
+use Rattle.std.proofs.Common.{◌≡◌, ◌∙◌, ℕ, ◌+◌, ◌*◌, ◌^◌, ◌<◌, ◌≤◌, Bool, true, false, ◌&&◌, eqb, cond, zero, suc, add-one, Option, Some, None, append_assoc, map, option_and_then, ◌++◌, List, ◌∷◌, [], length, get_or, take, drop, ap, sym, subst, refl, arith, ltb, ◌-◌}
+use Rattle.std.specs.List.{list_all, position, position_or_len, slice_split, slice_range}
+use Rattle.std.proofs.lemmas.List.Splits.{slice_split_first, slice_split_none, length-slice_split}
+use Rattle.std.proofs.lemmas.List.Sums.{fails_before_first}
 use Rattle.std.proofs.Math.Nat.{pow-suc, pow-le-pow_right}
 use Rattle.std.specs.Option.{option_map}
 use Rattle.rr_data.specs.Pushing.{PushesAll}
 use denote.Ref.{Bor}
 use Rattle.std.proofs.lemmas.List.{drop_more}
 use Rattle.std.proofs.Math.Seq.{drop-nil}
-use Rattle.std.proofs.lemmas.List.{append-nil, map-append}
+use Rattle.std.proofs.lemmas.List.{append-nil, map-append, take_all, length-drop}
 use Rattle.std.proofs.lemmas.Bool.Decides.{nat_tests}
-use borrow.Author.Tests.{eqb-true}
+use borrow.Author.Tests.{eqb-true, ltb-true}
+use Rattle.zone_model.specs.Texts.{address_part, all_some}
+use Rattle.rr_data.specs.Parts.{said_by, parts_said}
 use Rattle.zone_model.specs.Addresses.{joined, double_at, begins_with_colon, last_group, last_groups_of, groups_of, group}
 
 and_first : (a b : Bool) → (a && b) ≡ true → (a ≡ true) × (b ≡ true)
@@ -126,3 +130,99 @@ back_none (Some a) None fs h = refl
 back_none (Some a) (Some b) fs h = absurd cc
 
 pub ruleset filled_rules = (filled_none, back_none)
+
+-- ---- parts between dots
+
+found : (xs : List ℕ) (n : ℕ) → position (λ b. eqb b 46) xs ≡ Some n → (position_or_len (λ b. eqb b 46) xs ≡ n) × (n < length xs)
+found xs n h = by_test (ltb (position_or_len (λ b. eqb b 46) xs) (length xs)) refl h
+  where
+    by_test : (b : Bool) → ltb (position_or_len (λ b. eqb b 46) xs) (length xs) ≡ b → cond b (Some (position_or_len (λ b. eqb b 46) xs)) None ≡ Some n → (position_or_len (λ b. eqb b 46) xs ≡ n) × (n < length xs)
+    by_test true e h = let p : position_or_len (λ b. eqb b 46) xs ≡ n = cc in (p, omega (arith, ltb-true (position_or_len (λ b. eqb b 46) xs) (length xs) e))
+    by_test false e h = absurd cc
+
+missed : (xs : List ℕ) → position (λ b. eqb b 46) xs ≡ None → length xs ≤ position_or_len (λ b. eqb b 46) xs
+missed xs h = by_test (ltb (position_or_len (λ b. eqb b 46) xs) (length xs)) refl h
+  where
+    by_test : (b : Bool) → ltb (position_or_len (λ b. eqb b 46) xs) (length xs) ≡ b → cond b (Some (position_or_len (λ b. eqb b 46) xs)) None ≡ None → length xs ≤ position_or_len (λ b. eqb b 46) xs
+    by_test true e h = absurd cc
+    by_test false e h = grind (arith, nat_tests)
+
+one_part : (text : List ℕ) → position (λ b. eqb b 46) text ≡ None → slice_split (λ b. eqb b 46) text ≡ text ∷ []
+one_part text h = slice_split_none (λ b. eqb b 46) text (λ k d lt. let m = missed text h in fails_before_first (λ b. eqb b 46) text k d (omega arith))
+
+first_part : (text : List ℕ) (n : ℕ) → position (λ b. eqb b 46) text ≡ Some n → slice_split (λ b. eqb b 46) text ≡ take n text ∷ slice_split (λ b. eqb b 46) (drop (n + 1) text)
+first_part text n h =
+    let f = found text n h in
+    let lt : position_or_len (λ b. eqb b 46) text < length text = omega arith in
+    slice_split_first (λ b. eqb b 46) text 0 lt ∙ ap (λ (k : ℕ). take k text ∷ slice_split (λ b. eqb b 46) (drop (k + 1) text)) f.0
+
+-- one part alone
+pub last_said : (text : List ℕ) (n : ℕ) → position (λ b. eqb b 46) text ≡ None → n ≡ 1 → parts_said n text ≡ option_map (λ c. c ∷ []) (address_part text)
+last_said text n h e = ap (said_by n) (one_part text h) ∙ ap (λ (k : ℕ). said_by k (text ∷ [])) e ∙ by_part (address_part text)
+  where
+    by_part : (o : Option ℕ) → all_some (o ∷ []) ≡ option_map (λ c. c ∷ []) o
+    by_part None = refl
+    by_part (Some x) = refl
+
+pub last_unsaid : (text : List ℕ) (n : ℕ) → position (λ b. eqb b 46) text ≡ None → (n ≡ 1 → ⊥) → parts_said n text ≡ None
+last_unsaid text n h e =
+    let t : eqb 1 n ≡ false = grind (arith, nat_tests) in
+    ap (said_by n) (one_part text h) ∙ ap (λ (b : Bool). cond b (all_some (address_part text ∷ [])) None) t
+
+-- too few parts are wanted
+pub more_unsaid : (text : List ℕ) (n at : ℕ) → position (λ b. eqb b 46) text ≡ Some at → n ≤ 1 → parts_said n text ≡ None
+more_unsaid text n at h e =
+    let some : 0 < length (slice_split (λ b. eqb b 46) (drop (at + 1) text)) = omega (arith, length-slice_split (λ b. eqb b 46) (drop (at + 1) text)) in
+    let t : eqb (length (take at text ∷ slice_split (λ b. eqb b 46) (drop (at + 1) text))) n ≡ false = grind (arith, nat_tests) in
+    ap (said_by n) (first_part text at h) ∙ ap (λ (b : Bool). cond b (all_some (map address_part (take at text ∷ slice_split (λ b. eqb b 46) (drop (at + 1) text)))) None) t
+
+-- a part that is none
+pub part_unsaid : (text : List ℕ) (n at : ℕ) → position (λ b. eqb b 46) text ≡ Some at → option_map (λ (c : ℕ). c ∷ []) (address_part (take at text)) ≡ None → parts_said n text ≡ None
+part_unsaid text n at h e =
+    ap (said_by n) (first_part text at h)
+    ∙ by_part (address_part (take at text)) (eqb (length (take at text ∷ slice_split (λ b. eqb b 46) (drop (at + 1) text))) n) (map address_part (slice_split (λ b. eqb b 46) (drop (at + 1) text))) e
+  where
+    by_part : (o : Option ℕ) (b : Bool) (rest : List (Option ℕ)) → option_map (λ (c : ℕ). c ∷ []) o ≡ None → cond b (all_some (o ∷ rest)) None ≡ None
+    by_part None true rest e = refl
+    by_part None false rest e = refl
+    by_part (Some x) b rest e = absurd cc
+
+-- the octets of a part, and then those of the others
+pub part_said : (text : List ℕ) (n at : ℕ) (old now new : List ℕ) (good : Bool) → position (λ b. eqb b 46) text ≡ Some at → 1 < n → option_map (λ cs. old ++ cs) (option_map (λ (c : ℕ). c ∷ []) (address_part (take at text))) ≡ Some now
+    → PushesAll good now new (parts_said (n - 1) (drop (at + 1) text)) → PushesAll good old new (parts_said n text)
+part_said text n at old now new good h more e p = by_part (address_part (take at text)) refl good e p
+  where
+    parts : List (List ℕ)
+    parts = slice_split (λ b. eqb b 46) (drop (at + 1) text)
+
+    counted : eqb (length (take at text ∷ parts)) n ≡ eqb (length parts) (n - 1)
+    counted = grind (arith, nat_tests)
+
+    here : parts_said n text ≡ cond (eqb (length parts) (n - 1)) (all_some (address_part (take at text) ∷ map address_part parts)) None
+    here = ap (said_by n) (first_part text at h) ∙ ap (λ (b : Bool). cond b (all_some (map address_part (take at text ∷ parts))) None) counted
+
+    on : (b : Bool) (x : ℕ) (rest : Option (List ℕ)) → cond b (option_map (λ (xs : List ℕ). x ∷ xs) rest) None ≡ option_map (λ (xs : List ℕ). x ∷ xs) (cond b rest None)
+    on true x rest = refl
+    on false x rest = refl
+
+    pushed : (good : Bool) (x : ℕ) (w : Option (List ℕ)) → old ++ x ∷ [] ≡ now → PushesAll good now new w → PushesAll good old new (option_map (λ (xs : List ℕ). x ∷ xs) w)
+    pushed true x None s q = absurd cc
+    pushed true x (Some cs) s q = ap Some (sym (append_assoc old (x ∷ []) cs) ∙ ap (λ (l : List ℕ). l ++ cs) s) ∙ q
+    pushed false x None s q = refl
+    pushed false x (Some cs) s q = absurd cc
+
+    by_part : (o : Option ℕ) → address_part (take at text) ≡ o → (good : Bool) → option_map (λ cs. old ++ cs) (option_map (λ (c : ℕ). c ∷ []) (address_part (take at text))) ≡ Some now → PushesAll good now new (parts_said (n - 1) (drop (at + 1) text)) → PushesAll good old new (parts_said n text)
+    by_part None s good e p = let bad : None ≡ Some now = sym (ap (λ (o : Option ℕ). option_map (λ cs. old ++ cs) (option_map (λ (c : ℕ). c ∷ []) o)) s) ∙ e in absurd cc
+    by_part (Some x) s good e p =
+        let one : Some (old ++ x ∷ []) ≡ Some now = sym (ap (λ (o : Option ℕ). option_map (λ cs. old ++ cs) (option_map (λ (c : ℕ). c ∷ []) o)) s) ∙ e in
+        let joined_to : old ++ x ∷ [] ≡ now = cc in
+        subst (λ w. PushesAll good old new w) (sym (here ∙ ap (λ (o : Option ℕ). cond (eqb (length parts) (n - 1)) (all_some (o ∷ map address_part parts)) None) s ∙ on (eqb (length parts) (n - 1)) x (all_some (map address_part parts)))) (pushed good x (parts_said (n - 1) (drop (at + 1) text)) joined_to p)
+
+pub ruleset part_rules = (last_said, last_unsaid, more_unsaid, part_unsaid)
+
+-- the octets of a part, and then those of the others, as slices have them
+pub part_pushed : (text rest : List ℕ) (n at : ℕ) (old now new : List ℕ) (good : Bool) → position (λ b. eqb b 46) text ≡ Some at → 1 < n → rest ≡ slice_range text (at + 1) (length text)
+    → PushesAll true old now (option_map (λ c. c ∷ []) (address_part (take at text))) → PushesAll good now new (parts_said (n - 1) rest) → PushesAll good old new (parts_said n text)
+part_pushed text rest n at old now new good h more f p q =
+    let behind : rest ≡ drop (at + 1) text = f ∙ take_all (length text - (at + 1)) (drop (at + 1) text) (omega (arith, length-drop (at + 1) text)) in
+    part_said text n at old now new good h more p (subst (λ (l : List ℕ). PushesAll good now new (parts_said (n - 1) l)) behind q)

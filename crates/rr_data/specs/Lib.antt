@@ -6,3 +6,4 @@ pub mod Places
 pub mod Printing
 pub mod Pushing
 pub mod Tokens
+pub mod Parts

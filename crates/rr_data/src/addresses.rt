@@ -1,12 +1,13 @@
 // Texts of addresses.
 ghost use Rattle.std.specs.Prelude.{◌≡◌, ◌<◌, ◌≤◌, ◌+◌, ◌*◌, ◌++◌, ◌∷◌, [], ◌^◌, ℕ, List, length, drop, take, map, Some, None, Option, IfOk, IfSome, OnOk, true, ◌==◌, ◌-◌, replicate};
 ghost use Rattle.std.specs.Option.{option_map};
-ghost use Rattle.std.specs.List.{slice_split, list_all, list_any};
+ghost use Rattle.std.specs.List.{slice_split, list_all, list_any, position};
 ghost use Rattle.std.specs.Char.{is_ascii_hexdigit};
-ghost use Rattle.zone_model.specs.Texts.{address, address_part, all_some};
+ghost use Rattle.zone_model.specs.Texts.{address, address_part};
 ghost use Rattle.zone_model.specs.DataWords.{digit_value};
 ghost use Rattle.zone_model.specs.Addresses.{hex_from, group, groups_of, last_groups_of, last_group, parts_of, double_at, address6, by_double};
 ghost use Rattle.rr_data.specs.Pushing.{PushesAll};
+ghost use Rattle.rr_data.specs.Parts.{parts_said};
 
 use crate::words::number;
 use std::alloc::{AllocError, Global};
@@ -23,23 +24,42 @@ fn address_part(part: &[u8]) -> Option<u8>
     }
 }
 
-// Pushes the octets of the parts of an address.
-fn push_parts(parts: &[&[u8]], out: &mut Vec<u8>) -> Result<bool, AllocError>
-    ensures { IfOk result (λ good. PushesAll good out.old.items out.new.items (all_some (map address_part (map (λ w. w.now) parts.now)))) }
+// The place of the first dot.
+fn first_dot(text: &[u8]) -> Option<usize>
+    ensures { result ≡ position (λ b. b == 46) text.now }
 {
-    for part in parts {
-        match address_part(part) {
-            Some(octet) => out.push(octet)?,
-            None => return Ok(false),
-        }
-    }
-    Ok(true)
+    text.iter().position(|b| *b == b'.')
 }
 
-fn dot_parts(alloc: Global, word: &[u8]) -> Result<Vec<&[u8]>, AllocError>
-    ensures { IfOk result (λ v. map (λ w. w.now) v.items ≡ slice_split (λ b. b == 46) word.now) }
+// Pushes the octet of one part of an address.
+fn push_part(part: &[u8], out: &mut Vec<u8>) -> Result<bool, AllocError>
+    ensures { IfOk result (λ good. PushesAll good out.old.items out.new.items (option_map (λ c. c ∷ []) (address_part part.now))) }
 {
-    word.split(|b| *b == b'.').collect(alloc)
+    match address_part(part) {
+        Some(octet) => {
+            out.push(octet)?;
+            Ok(true)
+        }
+        None => Ok(false),
+    }
+}
+
+// Pushes the octets of so many parts of an address.
+#[tactic(auto, using(crate::proofs::AddressLemmas::part_rules))]
+fn push_parts(text: &[u8], left: usize, out: &mut Vec<u8>) -> Result<bool, AllocError>
+    ensures { IfOk result (λ good. PushesAll good out.old.items out.new.items (parts_said left text.now)) }
+{
+    let Some(dot) = first_dot(text) else {
+        if left != 1 {
+            return Ok(false);
+        }
+        return push_part(text, out);
+    };
+    if left <= 1 || !push_part(&text[..dot], out)? {
+        return Ok(false);
+    }
+    let good = push_parts(&text[dot + 1..], left - 1, out)?;
+    Ok(good)
 }
 
 fn colon_parts(alloc: Global, word: &[u8]) -> Result<Vec<&[u8]>, AllocError>
@@ -50,14 +70,10 @@ fn colon_parts(alloc: Global, word: &[u8]) -> Result<Vec<&[u8]>, AllocError>
 
 /// Pushes the four octets of an address.
 #[tactic(auto, unfolding(zone_model::specs::Texts::address))]
-pub fn push_address(alloc: Global, word: &[u8], out: &mut Vec<u8>) -> Result<bool, AllocError>
+pub fn push_address(word: &[u8], out: &mut Vec<u8>) -> Result<bool, AllocError>
     ensures { IfOk result (λ good. PushesAll good out.old.items out.new.items (address word.now)) }
 {
-    let parts = dot_parts(alloc, word)?;
-    if parts.len() != 4 {
-        return Ok(false);
-    }
-    push_parts(&parts, out)
+    push_parts(word, 4, out)
 }
 
 pub fn all_hex(text: &[u8]) -> bool
@@ -139,11 +155,11 @@ fn has_dot(part: &[u8]) -> bool
 }
 
 // Pushes a group, or an address of version 4.
-fn push_last(alloc: Global, part: &[u8], out: &mut Vec<u8>) -> Result<bool, AllocError>
+fn push_last(part: &[u8], out: &mut Vec<u8>) -> Result<bool, AllocError>
     ensures { IfOk result (λ good. PushesAll good out.old.items out.new.items (last_group part.now)) }
 {
     if has_dot(part) {
-        push_address(alloc, part, out)
+        push_address(part, out)
     } else {
         push_group(part, out)
     }
@@ -151,7 +167,7 @@ fn push_last(alloc: Global, part: &[u8], out: &mut Vec<u8>) -> Result<bool, Allo
 
 // Pushes groups, the last two of which may be an address of version 4.
 #[tactic(auto, using(crate::proofs::AddressLemmas::last_rules), unfolding(zone_model::specs::Addresses::last_groups_of))]
-fn push_last_groups(alloc: Global, parts: &[&[u8]], out: &mut Vec<u8>) -> Result<bool, AllocError>
+fn push_last_groups(parts: &[&[u8]], out: &mut Vec<u8>) -> Result<bool, AllocError>
     ensures { IfOk result (λ good. PushesAll good out.old.items out.new.items (last_groups_of (map (λ w. w.now) parts.now))) }
 {
     let Some((last, front)) = parts.split_last() else {
@@ -160,7 +176,7 @@ fn push_last_groups(alloc: Global, parts: &[&[u8]], out: &mut Vec<u8>) -> Result
     if !push_groups(front, out)? {
         return Ok(false);
     }
-    let good = push_last(alloc, last, out)?;
+    let good = push_last(last, out)?;
     Ok(good)
 }
 
@@ -185,7 +201,7 @@ fn push_last_text_groups(alloc: Global, text: &[u8], out: &mut Vec<u8>) -> Resul
         return Ok(true);
     }
     let parts = colon_parts(alloc, text)?;
-    push_last_groups(alloc, &parts, out)
+    push_last_groups(&parts, out)
 }
 
 // An address without a double colon.

@@ -119,7 +119,7 @@ fn push_field(
         Field::Short => push_short(text, out),
         Field::Number => push_number(text, out),
         Field::Time => push_time(text, out),
-        Field::Address => push_address(alloc, text, out),
+        Field::Address => push_address(text, out),
         Field::Address6 => push_address6(alloc, text, out),
     }
 }

@@ -1,6 +1,6 @@
 //! A master file with entries of every form, and the places of tokens.
-use dns_name::{Name, OwnedName};
-use master_file::{line_tokens, read_zone, tokens};
+use dns_name::Name;
+use master_file::{ZoneItems, line_tokens, read_zone, tokens};
 use rr_data::Entry;
 use std::test::Fail;
 
@@ -9,10 +9,22 @@ fn name(text: &[u8]) -> Result<Name, Fail> {
     Ok(Name::read(text, &Name::root()).ok().ok_or("a name")?)
 }
 
-// The time to live of an entry's RRset of a type, and how many records it has.
-fn set_of(entry: Option<&Entry>, rtype: u16) -> Option<(u32, usize)> {
-    let set = entry?.find_set(rtype)?;
-    Some((set.ttl(), set.len()))
+// The next item of a zone: its owner's number of labels, and the time to live and number of records of its RRset of a type.
+fn next_set(
+    rt: &HostRuntime,
+    items: &mut ZoneItems,
+    rtype: u16,
+) -> Result<Option<(u8, u32, usize)>, Fail> {
+    let mut octets = [0; 4096];
+    let Some(len) = items.next(&mut octets) else {
+        return Ok(None);
+    };
+    let owner = Name::from_wire(&octets[..len]).ok_or("an owner")?;
+    let entry = Entry::decode(rt.alloc(), &octets[..len])
+        .ok()
+        .ok_or("an entry")?;
+    let set = entry.find_set(rtype).ok_or("an RRset")?;
+    Ok(Some((owner.labels(), set.ttl(), set.len())))
 }
 
 #[test]
@@ -24,15 +36,14 @@ fn reads_entries_of_every_form(rt: HostRuntime) -> Result<(), Fail> {
         .ok()
         .ok_or("refused")?;
     assert_eq!(rt; zone.len(), 3);
-    let www = OwnedName::of(rt.alloc(), &name(b"www.sub.example.")?)?;
-    assert_eq!(rt; set_of(zone.entry(&www), 1), Some((1800, 1)));
-    assert_eq!(rt; set_of(zone.entry(&www), 16), Some((3600, 1)));
-    let mail = OwnedName::of(rt.alloc(), &name(b"mail.sub.example.")?)?;
-    assert_eq!(rt; set_of(zone.entry(&mail), 1), Some((3600, 2)));
-    let top = OwnedName::of(rt.alloc(), zone.origin())?;
-    assert_eq!(rt; set_of(zone.entry(&top), 6), Some((3600, 1)));
-    let entries = zone.into_entries();
-    assert_eq!(rt; entries.len(), 3);
+    assert_eq!(rt; zone.origin().labels(), 1);
+    let mut items = zone.into_items();
+    assert_eq!(rt; next_set(&rt, &mut items, 6)?, Some((1, 3600, 1)));
+    assert_eq!(rt; next_set(&rt, &mut items, 1)?, Some((3, 3600, 2)));
+    assert_eq!(rt; items.len(), 1);
+    assert_eq!(rt; next_set(&rt, &mut items, 16)?, Some((3, 3600, 1)));
+    assert!(rt; items.is_empty());
+    assert_eq!(rt; next_set(&rt, &mut items, 1)?, None);
     Ok(())
 }
 

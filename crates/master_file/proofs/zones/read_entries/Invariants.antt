@@ -2,12 +2,14 @@ use Rattle.std.proofs.Common.{◌≡◌, ◌≤◌, ◌+◌, ◌-◌, drop, leng
 use Rattle.zone_model.specs.Lines.{lines_of}
 use Rattle.zone_model.specs.MasterFile.{zone_from}
 use Rattle.master_file.specs.Zones.{reader_view}
+use Rattle.master_file.specs.Owners.{AllHeld}
 use Rattle.master_file.proofs.zones.read_entries.Given as goal
 
 abbrev pub invariant-loop-at : goal.invariant-loop-at
 invariant-loop-at l = record {
   goes_on : zone_from l.top 1 (lines_of l.bytes) None (reader_view l.fn.reader) ≡ zone_from l.top l.line (lines_of (drop l.at l.bytes)) None (reader_view l.reader);
   counted : l.line + length (lines_of (drop l.at l.bytes)) ≡ length (lines_of l.bytes) + 1;
+  held : AllHeld l.top l.reader.owners.owned.entries;
   inside : l.at ≤ length l.bytes;
   below : l.line ≤ l.at + 1;
 }

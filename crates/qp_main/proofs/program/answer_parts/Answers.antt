@@ -1,27 +1,13 @@
-use Rattle.std.proofs.Common.{◌≡◌, refl, Ok, Err, rules, subst, sym, codes}
-use Rattle.std.specs.List.{AllByRecursion}
+use Rattle.std.proofs.Common.{◌≡◌, refl, Err, rules, codes}
 use Rattle.zone_model.specs.MasterFile.{zone_of}
-use Rattle.zone_model.specs.Versions.{Version}
 use Rattle.job_model.specs.Jobs.{zone_lines}
-use Rattle.qp_main.specs.Fits.{Storable}
 use Rattle.qp_main.specs.Due.{refusal_text, zone_kind_text}
 use Rattle.qp_main.specs.declared.status.Status.TheVariants as status
 use Rattle.qp_main.proofs.DueLemmas.{zone_refuses}
-use Rattle.qp_main.proofs.ZoneLemmas.{read_storable}
 use Rattle.qp_main.proofs.program.answer_parts.Goals as goal
 
 pub returns-in-Err-Refused : goal.returns-in-Err-Refused
 returns-in-Err-Refused g c =
-    let zone : zone_of c.args.invocation.now.origin (zone_lines c.args.bytes.now) ≡ Err (record { line = c.in-Err-Refused.line; kind = c.in-Err-Refused.kind }) = search (rules, c.requires.cut) in
+    let zone : zone_of c.args.invocation.now.origin (zone_lines c.args.bytes.items) ≡ Err (record { line = c.in-Err-Refused.line; kind = c.in-Err-Refused.kind }) = search (rules, c.requires.cut) in
     let text : c.in_ok-zone_refused-in-Err-Refused.field-0.items ≡ refusal_text (codes "zone") c.in-Err-Refused.line (zone_kind_text c.in-Err-Refused.kind) = search (rules, c.from.ensures, c.in_ok-zone_refused-in-Err-Refused.ensures) in
-    zone_refuses c.args.invocation.now.verb c.args.invocation.now.chunks c.args.invocation.now.origin c.args.bytes.now (record { line = c.in-Err-Refused.line; kind = c.in-Err-Refused.kind }) status.ZoneRefused c.in_ok-zone_refused-in-Err-Refused.field-0.items zone (refl, text)
-
-pub run_script-requires-clause-storable : goal.run_script-requires-clause-storable
-run_script-requires-clause-storable g c κs within =
-    let zone : zone_of c.args.invocation.now.origin (zone_lines c.args.bytes.now) ≡ Ok c.in-Ok.zone.pairs = search (rules, c.requires.cut) in
-    subst (λ (v : Version). AllByRecursion Storable v) (sym c.into_entries-version.ensures) (read_storable c.args.invocation.now.origin (zone_lines c.args.bytes.now) c.in-Ok.zone.pairs zone)
-
-pub check_version-requires-clause-storable : goal.check_version-requires-clause-storable
-check_version-requires-clause-storable g c =
-    let zone : zone_of c.args.invocation.now.origin (zone_lines c.args.bytes.now) ≡ Ok c.in-Ok.zone.pairs = search (rules, c.requires.cut) in
-    subst (λ (v : Version). AllByRecursion Storable v) (sym c.into_entries-version.ensures) (read_storable c.args.invocation.now.origin (zone_lines c.args.bytes.now) c.in-Ok.zone.pairs zone)
+    zone_refuses c.args.invocation.now.verb c.args.invocation.now.chunks c.args.invocation.now.origin c.args.bytes.items (record { line = c.in-Err-Refused.line; kind = c.in-Err-Refused.kind }) status.ZoneRefused c.in_ok-zone_refused-in-Err-Refused.field-0.items zone (refl, text)

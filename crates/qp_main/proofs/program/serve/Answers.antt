@@ -19,16 +19,16 @@ returns-in-Err-TooLong-clause-cut_short g c = λ failed.
 pub write_due-requires-2 : goal.write_due-requires-2
 write_due-requires-2 g c =
     let i = c.args.invocation.now in
-    answer_written c.in-Ok-answer.status (due_answer i.verb i.chunks i.origin c.deref.result.now c.in-Ok-answer.status c.in-Ok-answer.text.items c.in-Ok-answer.ensures)
+    answer_written c.in-Ok-answer.status (due_answer i.verb i.chunks i.origin c.in-Ok.bytes.items c.in-Ok-answer.status c.in-Ok-answer.text.items c.in-Ok-answer.ensures)
 
 pub returns-clause-taken : goal.returns-clause-taken
 returns-clause-taken g c = λ e.
     let i = c.args.invocation.now in
-    absurd (no_other c.in-Ok-answer.status c.write_due-2.result (due_answer i.verb i.chunks i.origin c.deref.result.now c.in-Ok-answer.status c.in-Ok-answer.text.items c.in-Ok-answer.ensures)
+    absurd (no_other c.in-Ok-answer.status c.write_due-2.result (due_answer i.verb i.chunks i.origin c.in-Ok.bytes.items c.in-Ok-answer.status c.in-Ok-answer.text.items c.in-Ok-answer.ensures)
     (λ w. (c.write_due-2.ensures.whole w).0) (subst IsWritten (sym e) tt) (λ a. subst IsAnswer e a))
 
 pub returns-clause-words : goal.returns-clause-words
 returns-clause-words g c = λ e.
     let i = c.args.invocation.now in
-    no_other c.in-Ok-answer.status c.write_due-2.result (due_answer i.verb i.chunks i.origin c.deref.result.now c.in-Ok-answer.status c.in-Ok-answer.text.items c.in-Ok-answer.ensures)
+    no_other c.in-Ok-answer.status c.write_due-2.result (due_answer i.verb i.chunks i.origin c.in-Ok.bytes.items c.in-Ok-answer.status c.in-Ok-answer.text.items c.in-Ok-answer.ensures)
     (λ w. (c.write_due-2.ensures.whole w).0) (subst IsWritten (sym e) tt) (λ a. subst IsAnswer e a)

@@ -1,0 +1,218 @@
+//! What one name owns, as it is read.
+ghost use Rattle.std.specs.Prelude.{◌≡◌, ◌<◌, ◌≤◌, [], ℕ, List, Some, None, Option, Ok, Err, Result, IfOk, OnOk, is_some, take};
+ghost use Rattle.zone_model.specs.Names.{Name as Labels};
+ghost use Rattle.zone_model.specs.Records.{Entry as Records, with_rr, rrset_of, IsItem};
+ghost use Rattle.zone_model.specs.Versions.{is_lone};
+ghost use Rattle.zone_model.specs.MasterFile.{soa_count};
+ghost use Rattle.master_file.specs.Zones.{Checks};
+ghost use Rattle.master_file.specs.Owners.{CanBeItem};
+
+use crate::refusal::{ZoneRefusal, refuse};
+use dns_name::{Name, OwnedName};
+use rr_data::{DecodeRefusal, Entry, Rdata, single_item};
+use std::alloc::{AllocError, Global};
+use std::marker::Model;
+use zone_model::ZoneKind;
+
+/// A name and its records. Contracts see the pair.
+#[derive(Drop)]
+pub struct Owned {
+    kept: Kept,
+}
+
+/// How they are kept: most names own one record, which takes one piece of memory.
+#[derive(Drop)]
+pub enum Kept {
+    /// One record, as the octets of its item.
+    Single(Vec<u8>),
+    /// Several.
+    Several(Box<Several>),
+}
+
+/// A name and its records, each by itself.
+#[derive(Drop)]
+pub struct Several {
+    pub owner: OwnedName,
+    pub entry: Entry,
+}
+
+impl Model for Owned {
+    ghost use Rattle.zone_model.specs.Names.{Name};
+    ghost use Rattle.zone_model.specs.Records.{Entry};
+    ghost use Rattle.master_file.specs.Owned.{kept_view, IsKept};
+
+    ghost Value = { Name × Entry };
+
+    ghost view = { λ o. kept_view o.kept };
+
+    ghost invariant = { λ o. IsKept o.kept };
+}
+
+// An alias stands alone.
+fn is_lone(entry: &Entry) -> bool
+    ensures { result ≡ is_lone entry.now }
+{
+    match entry.sets() {
+        0 => true,
+        1 => {
+            let set = entry.set_at(0);
+            set.rtype() != 5 || set.len() <= 1
+        }
+        _ => entry.find_set(5).is_none(),
+    }
+}
+
+fn soa_count(entry: &Entry) -> usize
+    ensures { result ≡ soa_count entry.now }
+{
+    match entry.find_set(6) {
+        Some(set) => set.len(),
+        None => 0,
+    }
+}
+
+// Whether an entry that a record made can stand.
+fn check_entry(entry: &Entry, owner: &Name, last: u32) -> Result<(), ZoneRefusal>
+    ensures { Checks result last owner.now entry.now }
+{
+    if soa_count(entry) > 1 {
+        return Err(refuse(last, ZoneKind::SoaRule));
+    }
+    if !is_lone(entry) {
+        return Err(refuse(last, ZoneKind::CnameAndOther));
+    }
+    if entry.item_len(owner) > 4096 {
+        return Err(refuse(last, ZoneKind::LongEntry));
+    }
+    Ok(())
+}
+
+// The name and the records of an item.
+fn several_of(alloc: Global, octets: &[u8]) -> Result<Several, AllocError>
+    requires { (owner : Labels) × (entry : Records) × IsItem octets.now owner entry }
+    ensures { IfOk result (λ s. (owner : Labels) (entry : Records) → IsItem octets.now owner entry → (s.owner ≡ owner) × (s.entry ≡ entry)) }
+{
+    let Some(name) = Name::from_wire(octets) else {
+        unreachable!();
+    };
+    match Entry::decode(alloc, octets) {
+        Ok(entry) => Ok(Several {
+            owner: OwnedName::of(alloc, &name)?,
+            entry,
+        }),
+        Err(DecodeRefusal::Memory) => Err(AllocError),
+        Err(DecodeRefusal::Malformed) => unreachable!(),
+    }
+}
+
+// A name's first record, by itself.
+fn several_first(
+    alloc: Global,
+    owner: &Name,
+    rtype: u16,
+    time: u32,
+    rdata: Rdata,
+) -> Result<Several, AllocError>
+    ensures owner { IfOk result (λ s. s.owner ≡ owner.now) }
+    ensures entry { IfOk result (λ s. s.entry ≡ with_rr rtype time rdata []) }
+{
+    let mut entry = Entry::empty(alloc);
+    entry.add(alloc, rtype, time, rdata)?;
+    Ok(Several {
+        owner: OwnedName::of(alloc, owner)?,
+        entry,
+    })
+}
+
+impl Owned {
+    /// A name's first record.
+    pub fn first(
+        alloc: Global,
+        owner: &Name,
+        rtype: u16,
+        time: u32,
+        rdata: Rdata,
+    ) -> Result<Owned, AllocError>
+        ensures { IfOk result (λ o. o ≡ (owner.now, with_rr rtype time rdata [])) }
+    {
+        match single_item(alloc, owner, rtype, time, rdata.octets())? {
+            Some(octets) => Ok(Owned {
+                kept: Kept::Single(octets),
+            }),
+            None => {
+                let several = several_first(alloc, owner, rtype, time, rdata)?;
+                Ok(Owned {
+                    kept: Kept::Several(Box::new(alloc, several)?),
+                })
+            }
+        }
+    }
+
+    /// Adds a record, unless it is there.
+    pub fn add(
+        &mut self,
+        alloc: Global,
+        rtype: u16,
+        time: u32,
+        rdata: Rdata,
+    ) -> Result<(), AllocError>
+        ensures { OnOk result (self.new ≡ (self.old.0, with_rr rtype time rdata self.old.1)) }
+    {
+        match &mut self.kept {
+            Kept::Single(octets) => {
+                let mut several = several_of(alloc, octets)?;
+                several.entry.add(alloc, rtype, time, rdata)?;
+                self.kept = Kept::Several(Box::new(alloc, several)?);
+                Ok(())
+            }
+            Kept::Several(several) => {
+                several.entry.add(alloc, rtype, time, rdata)?;
+                Ok(())
+            }
+        }
+    }
+
+    /// Whether the records can stand: the owner's SOA and CNAME are alone, and the item isn't too long.
+    pub fn check(&self, last: u32) -> Result<(), ZoneRefusal>
+        ensures { Checks result last self.now.0 self.now.1 }
+    {
+        match &self.kept {
+            Kept::Single(_) => Ok(()),
+            Kept::Several(several) => check_entry(&several.entry, &several.owner.name(), last),
+        }
+    }
+
+    /// Whether there is an RRset of a type.
+    pub fn has_set(&self, alloc: Global, rtype: u16) -> Result<bool, AllocError>
+        ensures { IfOk result (λ b. b ≡ is_some (rrset_of rtype self.now.1)) }
+    {
+        match &self.kept {
+            Kept::Single(octets) => {
+                let several = several_of(alloc, octets)?;
+                Ok(several.entry.find_set(rtype).is_some())
+            }
+            Kept::Several(several) => Ok(several.entry.find_set(rtype).is_some()),
+        }
+    }
+
+    /// Writes the item, and answers how many octets it has.
+    pub fn encode(&self, out: &mut [u8; 4096]) -> usize
+        requires { CanBeItem self.now }
+        ensures item { IsItem (take result out.new) self.now.0 self.now.1 }
+        ensures short { result ≤ 4096 }
+    {
+        match &self.kept {
+            Kept::Single(octets) => {
+                let len = octets.len();
+                out[..len].copy_from_slice(octets);
+                len
+            }
+            Kept::Several(several) => {
+                let Some(len) = several.entry.encode(&several.owner.name(), out) else {
+                    unreachable!();
+                };
+                len
+            }
+        }
+    }
+}
