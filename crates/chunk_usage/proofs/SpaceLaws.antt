@@ -1,16 +1,16 @@
 -- What an allocation is to the crates that change a trie.
-use Rattle.std.proofs.Common.{◌≡◌, ◌≢◌, ℕ, ◌+◌, ◌-◌, ◌*◌, ◌/◌, ◌%◌, ◌<◌, ◌≤◌, Bool, true, false, not, length, slice_index, slice_index_or, refl, ◌∙◌, sym, subst, ap, inl, inr, arith}
-use Rattle.std.specs.Prelude.{Option, None, Some, Result, Ok, Err, IfOk, OnOk, nat_lt, nat_le, ◌==◌, ◌||◌, ◌&&◌, if◌then◌else◌}
+use Rattle.std.proofs.Common.{◌≡◌, ◌≢◌, ℕ, ◌+◌, ◌-◌, ◌*◌, ◌/◌, ◌%◌, ◌<◌, ◌≤◌, Bool, true, false, not, length, slice_index_or, refl, ◌∙◌, sym, subst, ap, inl, inr, arith}
+use Rattle.std.specs.Prelude.{Option, None, Some, Result, Ok, Err, IfOk, nat_lt, nat_le, ◌==◌, ◌||◌, ◌&&◌, if◌then◌else◌}
 use Rattle.std.proofs.lemmas.Bool.{cases_eq, cases_Bool}
 use Rattle.std.proofs.lemmas.Bool.Decides.{nat_tests}
 use Rattle.std.proofs.lemmas.List.{length-set, get_or-set_other}
 use Rattle.std.proofs.lemmas.Grind.{get_or-set_at}
 use Rattle.std.proofs.lemmas.List.Sums.{count_by-le-length}
-use Rattle.trie_model.specs.Reach.{row, in_chunk}
+use Rattle.trie_model.specs.Trees.{IsRow}
 use Rattle.chunk_usage.specs.declared.open.Open.{Open}
 use Rattle.chunk_usage.specs.declared.space.Grant.{Grant}
 use Rattle.chunk_usage.specs.declared.space.Full.{Full}
-use Rattle.chunk_usage.specs.Rooms.{Account, Handed, Room, GivesChunk, Grows, account_of}
+use Rattle.chunk_usage.specs.Rooms.{Handed, GivesChunk, Grows, account_of}
 use Rattle.chunk_usage.specs.Ledger.{Ledger, IsLedger, IsOpen, is_given, is_open, is_used, is_fresh, filled, left, free_count, reserve_of}
 use Rattle.chunk_usage.specs.Handing.{lowest_free, with_open, taken, next_cell, roomy, granted_from, allocated_from, grant_of, allocated, shortage, spent, unspent}
 use Rattle.chunk_usage.proofs.FlagLemmas.{set_stays, set_within, get_set, get_clear, one_fewer_clear, First, first_is}
@@ -18,16 +18,10 @@ use Rattle.chunk_usage.proofs.RowLemmas.{counts_more}
 use Rattle.chunk_usage.proofs.HandingLaws.{opened_fresh}
 
 pub record Hands (l new : Ledger) (n : ℕ) (r : Result Grant Full) : Type 0 where
-  pub room : IfOk r (λ g. Room (is_used l) (is_used new) (is_fresh new) new.given g.at n)
   pub gives : IfOk r (λ g. GivesChunk l.given new.given g.given)
   pub grows : Grows (is_used l) (is_used new) (is_fresh l) (is_fresh new)
-  pub counts : IfOk r (λ g. (k : ℕ) → slice_index new.live k ≡ slice_index l.live k + row (in_chunk k) g.at n)
   pub spends : spent new ≤ spent l + n
   pub handed : IfOk r (λ g. Handed (account_of l) (account_of new) g.at n)
-
--- room that counts
-handed_of : (l new : Ledger) (first n : ℕ) → Room (is_used l) (is_used new) (is_fresh new) new.given first n → ((k : ℕ) → slice_index new.live k ≡ slice_index l.live k + row (in_chunk k) first n) → Handed (account_of l) (account_of new) first n
-handed_of l new first n room counts = record { twigs = room.row; unused = room.unused; taken = room.taken; writable = room.writable; in_given = room.in_given; counts = counts }
 
 differ : true ≡ false → ⊥
 differ e = cc
@@ -69,26 +63,25 @@ module _ (l : Ledger) (h : IsLedger l) (n : ℕ) (some : 0 < n) (o : Open) (is :
   spends : spent (taken l o n) ≤ spent l + n
   spends = let u = ap unspent is in omega arith
 
-  open_room : Room (is_used l) (is_used (taken l o n)) (is_fresh l) l.given (next_cell o) n
-  open_room = record {
-    row = record { inside = let f = h.few in let i = inside in omega arith; together = let p = place_at 0 some in omega arith };
+  open_row : IsRow (next_cell o) n
+  open_row = record { inside = let f = h.few in let i = inside in omega arith; together = let p = place_at 0 some in omega arith }
+
+  open_handed : Handed (account_of l) (account_of (taken l o n)) (next_cell o) n
+  open_handed = record {
+    twigs = open_row;
     unused = λ i lt. let c = in_chunk_at i lt in let p = place_at i lt in used_at (next_cell o + i) ∙ grind (arith, nat_tests);
     taken = λ i lt. let c = in_chunk_at i lt in let p = place_at i lt in grind (arith, nat_tests);
     writable = λ i lt. left_fresh (next_cell o + i) (in_chunk_at i lt) (let p = place_at i lt in omega arith);
     in_given = get_set l.given (next_cell o / 1024) (subst (λ (k : ℕ). slice_index_or l.given k false ≡ true) (let c = in_chunk_at 0 some in omega arith) opened.1);
+    counts = λ k. counts_more (next_cell o) n open_row.together l.live o.chunk k (let c = in_chunk_at 0 some in omega arith) (let e = h.counted in let i = inside in omega arith);
   }
-
-  open_counts : (k : ℕ) → slice_index (taken l o n).live k ≡ slice_index l.live k + row (in_chunk k) (next_cell o) n
-  open_counts k = counts_more (next_cell o) n open_room.row.together l.live o.chunk k (let c = in_chunk_at 0 some in omega arith) (let e = h.counted in let i = inside in omega arith)
 
   open_hands : Hands l (taken l o n) n (Ok (record { at = next_cell o; given = None }))
   open_hands = record {
-    room = open_room;
     gives = refl;
     grows = record { stays = stays; settled = λ q u. refl; fresher = λ q f. f };
-    counts = open_counts;
     spends = spends;
-    handed = handed_of l (taken l o n) (next_cell o) n open_room open_counts;
+    handed = open_handed;
   }
 
 -- from a free chunk
@@ -115,13 +108,14 @@ module _ (l : Ledger) (h : IsLedger l) (n : ℕ) (some : 0 < n) (few : n ≤ 256
   new_fresh : (q : ℕ) → q / 1024 ≡ c → is_fresh (newly l n c) q ≡ true
   new_fresh q e = opened_fresh l h c first.within first.clear q (grind (arith, nat_tests))
 
-  new_room : Room (is_used l) (is_used (newly l n c)) (is_fresh (newly l n c)) (newly l n c).given (c * 1024) n
-  new_room = record {
-    row = record { inside = let f = h.few in let w = first.within in omega arith; together = omega arith };
+  new_handed : Handed (account_of l) (account_of (newly l n c)) (c * 1024) n
+  new_handed = record {
+    twigs = record { inside = let f = h.few in let w = first.within in omega arith; together = omega arith };
     unused = λ i lt. not_used (c * 1024 + i) (new_chunk_at i lt);
     taken = new_taken;
     writable = λ i lt. new_fresh (c * 1024 + i) (new_chunk_at i lt);
     in_given = get_set _ (c * 1024 / 1024) (get_or-set_at l.given c (c * 1024 / 1024) true false (omega arith) first.within);
+    counts = λ k. counts_more (c * 1024) n (omega arith) l.live c k (omega arith) (let e = h.counted in let w = first.within in omega arith);
   }
 
   new_stays : (q : ℕ) → is_used l q ≡ true → is_used (newly l n c) q ≡ true
@@ -153,21 +147,16 @@ module _ (l : Ledger) (h : IsLedger l) (n : ℕ) (some : 0 < n) (few : n ≤ 256
       all_spent None short = refl
       all_spent (Some o) short = omega arith
 
-  new_counts : (k : ℕ) → slice_index (newly l n c).live k ≡ slice_index l.live k + row (in_chunk k) (c * 1024) n
-  new_counts k = counts_more (c * 1024) n new_room.row.together l.live c k (omega arith) (let e = h.counted in let w = first.within in omega arith)
-
   new_hands : Hands l (newly l n c) n (Ok (record { at = c * 1024; given = Some c }))
   new_hands = record {
-    room = new_room;
     gives = (get_clear l.given c first.within first.clear, refl);
     grows = record { stays = new_stays; settled = new_settled; fresher = new_fresher };
-    counts = new_counts;
     spends = new_spends;
-    handed = handed_of l (newly l n c) (c * 1024) n new_room new_counts;
+    handed = new_handed;
   }
 
 none_hands : (l : Ledger) (n : ℕ) (f : Full) → Hands l l n (Err f)
-none_hands l n f = record { room = tt; gives = tt; grows = record { stays = λ q u. u; settled = λ q u. refl; fresher = λ q t. t }; counts = tt; spends = (omega arith); handed = tt }
+none_hands l n f = record { gives = tt; grows = record { stays = λ q u. u; settled = λ q u. refl; fresher = λ q t. t }; spends = (omega arith); handed = tt }
 
 module _ (l : Ledger) (h : IsLedger l) (n : ℕ) (some : 0 < n) (few : n ≤ 256) where
   by_free : (b : Bool) → nat_le (free_count l) (reserve_of l) ≡ b → left l.open_chunk < n

@@ -30,7 +30,7 @@ pub trait Space {
     ghost use Rattle.trie_model.specs.Reach.{row, in_chunk};
     ghost use Rattle.chunk_cells.specs.Chunks.{IsGiven};
     ghost use Rattle.chunk_usage.specs.declared.space.Full.{Full};
-    ghost use Rattle.chunk_usage.specs.Rooms.{Account, Handed, GivesChunk, Room, Grows};
+    ghost use Rattle.chunk_usage.specs.Rooms.{Account, Handed, GivesChunk, Grows};
 
     // What is known of the cells.
     ghost account: { Self → Account };
@@ -43,7 +43,6 @@ pub trait Space {
         requires some { 0 < n }
         requires few { n ≤ 256 }
         ensures handed { IfOk result (λ g. Handed (account self.old) (account self.new) g.at n) }
-        ensures room { IfOk result (λ g. Room (account self.old).used (account self.new).used (account self.new).mutable (account self.new).given g.at n) }
         ensures gives { IfOk result (λ g. GivesChunk (account self.old).given (account self.new).given g.given) }
         ensures grows { Grows (account self.old).used (account self.new).used (account self.old).mutable (account self.new).mutable }
         ensures spends { (account self.new).spent ≤ (account self.old).spent + n }
@@ -62,21 +61,11 @@ pub trait Space {
         requires together { at % 1024 + n ≤ 1024 }
         ensures counts { (k : ℕ) → (account self.new).live k + row (in_chunk k) at n ≡ (account self.old).live k }
         ensures rest { account self.new ≡ record (account self.old) { live = (account self.new).live } }
-        ensures used { (q : ℕ) → (account self.new).used q ≡ (account self.old).used q }
-        ensures fresh { (q : ℕ) → (account self.new).mutable q ≡ (account self.old).mutable q }
-        ensures given { (account self.new).given ≡ (account self.old).given }
-        ensures spent { (account self.new).spent ≡ (account self.old).spent }
-        ensures frozen { (account self.new).frozen ≡ (account self.old).frozen }
         ensures lacks { (f : Full) → lacks self.old f → lacks self.new f };
 
     /// No cell counts any more.
     fn release_all(&mut self)
         ensures counts { (k : ℕ) → (account self.new).live k ≡ 0 }
         ensures rest { account self.new ≡ record (account self.old) { live = (account self.new).live } }
-        ensures used { (q : ℕ) → (account self.new).used q ≡ (account self.old).used q }
-        ensures fresh { (q : ℕ) → (account self.new).mutable q ≡ (account self.old).mutable q }
-        ensures given { (account self.new).given ≡ (account self.old).given }
-        ensures spent { (account self.new).spent ≡ (account self.old).spent }
-        ensures frozen { (account self.new).frozen ≡ (account self.old).frozen }
         ensures lacks { (f : Full) → lacks self.old f → lacks self.new f };
 }

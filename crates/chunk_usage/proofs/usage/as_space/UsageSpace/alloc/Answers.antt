@@ -4,9 +4,6 @@ use Rattle.chunk_usage.proofs.usage.as_space.UsageSpace.alloc.Goals as goal
 hands : (c : goal.After-alloc) → Hands c.args.self.now c.alloc.new.self c.args.n c.alloc.result
 hands c = handed c.args.self.now c.known.ensures c.args.n c.requires.some c.requires.few c.alloc.new.self c.alloc.result c.alloc.ensures.after c.alloc.ensures.grant
 
-pub returns-clause-room : goal.returns-clause-room
-returns-clause-room c = (hands c).room
-
 pub returns-clause-gives : goal.returns-clause-gives
 returns-clause-gives c = (hands c).gives
 
