@@ -86,7 +86,8 @@ impl Key {
 
     /// The wire form of the name that has this key.
     pub fn wire(&self) -> &[u8]
-        ensures { (name : Labels) → IsName name → self.now ≡ key_of name → result.now ≡ wire name }
+        ensures key { IsKey self.now }
+        ensures wire { (name : Labels) → IsName name → self.now ≡ key_of name → result.now ≡ wire name }
     {
         self.name.wire()
     }
