@@ -14,7 +14,7 @@ use Rattle.trie_model.specs.Memory.{node_of, top_cell, Beneath, Lie, IsTrieAt, S
 use Rattle.trie_model.proofs.KeyLaws.{in_left, in_right, past_end}
 use Rattle.trie_model.proofs.GrowthLaws.{each_of}
 use Rattle.trie_model.proofs.ShapeLaws.{two_of}
-use Rattle.trie_model.proofs.BitmapLaws.{Rising}
+use Rattle.trie_model.proofs.BitmapLaws.{Rising, count-beside}
 use Rattle.trie_model.proofs.SplitLaws.{Found, found_of, missing_of, rising_of, lie_right, twigs_right, in_found, not_missing, entries-beside}
 use Rattle.trie_read.specs.Reads.{IsTop, LeadsKey}
 use Rattle.trie_model.proofs.NodeLaws.{says_node, node_read, places_left, fewer_left}
@@ -24,6 +24,7 @@ use Rattle.trie_read.proofs.NodeLaws.{BranchTold, branch_told, leaf_told}
 pub record Next (has : ℕ → Cell → Type 0) (k : List ℕ) (low r : ℕ) (t : Tree) : Type 0 where
   pub here : Tree
   pub deeper : IsTree low here
+  pub inside : r < 2 ^ 22
   pub there : has r (top_cell here)
   pub beneath : Beneath has here
   pub keeps : (e : Entry) → InList e (entries_of t) → e.key ≡ k → InList e (entries_of here)
@@ -45,6 +46,7 @@ next_in has k low o w i below is tree lies index bit =
         record {
           here = f.here;
           deeper = subst (λ (x : ℕ). IsTree x f.here) n right.3;
+          inside = (let all = ap count f.is ∙ count-beside f.left (twig (at k o) f.here f.rest) in let row = tree.2.inside in omega arith);
           there = subst (λ (n : ℕ). has n (top_cell f.here)) place cells.0;
           beneath = cells.1;
           keeps = λ e h same. in_found o (at k o) below tree.5 f e h (ap (λ (x : List ℕ). at x o) same);
@@ -125,13 +127,14 @@ along_more has k whole n b p i c m a is kk ep ei bit read back =
 pub next_says : (has : ℕ → Cell → Type 0) (k : List ℕ) (low r : ℕ) (t : Tree) (c : Cell) (d : Next has k low r t) → ((x : Cell) → has r x → c ≡ x) → SaysNode c
 next_says has k low r t c d read = says_node low d.here c d.deeper (read (top_cell d.here) d.there)
 
-pub along_falls : (has : ℕ → Cell → Type 0) (k : List ℕ) (whole : List Entry) (n m : Node) (b : Branch) (a : Along has k whole n) (z : Along has k whole m) → n ≡ node.Branch b → z.low ≡ b.offset + 1 → places_left m < places_left n
-along_falls has k whole n m b a z is low =
+pub along_falls : (has : ℕ → Cell → Type 0) (k : List ℕ) (whole : List Entry) (n m : Node) (b : Branch) (r : ℕ) (c : Cell) (a : Along has k whole n) → n ≡ node.Branch b → (d : Next has k (b.offset + 1) r a.tree) → ((x : Cell) → has r x → c ≡ x) → ((x : Node) → IsNode x → packed x ≡ c → m ≡ x) →
+    places_left m < places_left n
+along_falls has k whole n m b r c a is d read back =
     let x = along_told has k whole n b a is in
     let tree = subst (IsTree a.low) x.is a.shape in
-    let l : z.low ≡ suc b.offset = omega arith in
-    let f = fewer_left b.offset z.tree b (subst (λ (i : ℕ). IsTree i z.tree) l z.shape) refl (let e = tree.1 in omega arith) in
-    subst (λ (w : Node). places_left m < places_left w) (sym is) (subst (λ (w : Node). places_left w < places_left (node.Branch b)) (sym z.is) f)
+    let l : b.offset + 1 ≡ suc b.offset = omega arith in
+    let f = fewer_left b.offset d.here b (subst (λ (i : ℕ). IsTree i d.here) l d.deeper) refl (let e = tree.1 in omega arith) in
+    subst (λ (w : Node). places_left m < places_left w) (sym is) (subst (λ (w : Node). places_left w < places_left (node.Branch b)) (sym (node_read (b.offset + 1) d.here c m d.deeper (read (top_cell d.here) d.there) back)) f)
 
 -- where no branch leads on
 pub along_absent : (has : ℕ → Cell → Type 0) (k : List ℕ) (whole : List Entry) (n : Node) (b : Branch) (p : ℕ) (a : Along has k whole n) → n ≡ node.Branch b → IsKey k → p ≡ at k b.offset → ((b.bitmap / 2 ^ p) % 2 ≡ 1 → ⊥) → LeadsKey has k whole None
