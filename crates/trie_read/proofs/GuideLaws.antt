@@ -112,7 +112,7 @@ nearest_inside has k b below i h is there absent =
         let c = ap count m.is ∙ count-beside m.left m.right in let two = h.tree.3 in omega arith
 
 -- ---- the sides of a path whose last branch lies before the key's first difference from what is below
-in_parent : (o w : ℕ) (l r : Twigs) (p : ℕ) (t : Tree) (y : Entry) → InList y (entries_of t) → InList y (entries_of (branch o w (beside l (twig p t r))))
+pub in_parent : (o w : ℕ) (l r : Twigs) (p : ℕ) (t : Tree) (y : Entry) → InList y (entries_of t) → InList y (entries_of (branch o w (beside l (twig p t r))))
 in_parent o w l r p t y i = subst (InList y) (sym (entries-beside l (twig p t r))) (in_right y (entries l) (entries_of t ++ entries r) (in_left y (entries_of t) (entries r) i))
 
 -- the twigs behind one
@@ -136,7 +136,7 @@ with_all k steps whole shape n t before after h y i same =
     let up = shape_above (Guided k) steps whole shape n t before after h in
     agrees_with h.step.offset k (entries (beside h.on.left (twig h.on.position t h.on.right))) y up.4 (in_parent h.step.offset h.step.twigs h.on.left h.on.right h.on.position t y i) same
 
-in_front : (l s : Twigs) (x : Entry) → InList x (entries l) → InList x (entries (beside l s))
+pub in_front : (l s : Twigs) (x : Entry) → InList x (entries l) → InList x (entries (beside l s))
 in_front l s x i = subst (InList x) (sym (entries-beside l s)) (in_left x (entries l) (entries s) i)
 
 in_back : (l r : Twigs) (p : ℕ) (t : Tree) (x : Entry) → InList x (entries r) → InList x (entries (beside l (twig p t r)))

@@ -225,21 +225,45 @@ pub below_step : (said : Step → Twigs → Tree → Twigs → Type 0) (steps : 
 below_step said steps whole shape n t before after h = twig_tree h.step.offset 0 h.on.left h.on.right h.on.position t (shape_above said steps whole shape n t before after h).5
 
 -- where the last step leads
-pub node_above : (said : Step → Twigs → Tree → Twigs → Type 0) (has : ℕ → Cell → Type 0) (path : Path) (whole t : Tree) (before after : List Entry) (d : Step) → 0 < path.depth → LeadsTo said has path whole t before after →
-    has ((get_or path.steps (path.depth - 1) d).twigs + (get_or path.steps (path.depth - 1) d).index) (top_cell t)
-node_above said has path whole t before after d some l =
-    let n : path.depth ≡ suc (path.depth - 1) = omega arith in
-    let h = at_depth said path.steps whole path.depth (suc (path.depth - 1)) t before after n l.hangs in
-    let up = above said has path.steps whole l.shape l.beneath (path.depth - 1) t before after h in
-    subst (λ (s : Step). has (s.twigs + s.index) (top_cell t)) (sym (get_or_from_slice_get path.steps (path.depth - 1) h.step d h.there)) up.there
+pub node_above : (said : Step → Twigs → Tree → Twigs → Type 0) (has : ℕ → Cell → Type 0) (steps : List Step) (whole t : Tree) (n : ℕ) (before after : List Entry) (d : Step) → 0 < n → IsTree 0 whole → Beneath has whole → HangsBy said steps whole n t before after →
+    has ((get_or steps (n - 1) d).twigs + (get_or steps (n - 1) d).index) (top_cell t)
+node_above said has steps whole t n before after d some shape beneath hangs =
+    let e : n ≡ suc (n - 1) = omega arith in
+    let h = at_depth said steps whole n (suc (n - 1)) t before after e hangs in
+    let up = above said has steps whole shape beneath (n - 1) t before after h in
+    subst (λ (s : Step). has (s.twigs + s.index) (top_cell t)) (sym (get_or_from_slice_get steps (n - 1) h.step d h.there)) up.there
 
-pub step_fits : (said : Step → Twigs → Tree → Twigs → Type 0) (has : ℕ → Cell → Type 0) (path : Path) (whole t : Tree) (before after : List Entry) (d : Step) → 0 < path.depth → LeadsTo said has path whole t before after →
-    (get_or path.steps (path.depth - 1) d).twigs + (get_or path.steps (path.depth - 1) d).index ≤ 4194304
-step_fits said has path whole t before after d some l =
-    let n : path.depth ≡ suc (path.depth - 1) = omega arith in
-    let h = at_depth said path.steps whole path.depth (suc (path.depth - 1)) t before after n l.hangs in
-    let up = shape_above said path.steps whole l.shape (path.depth - 1) t before after h in
+pub step_fits : (said : Step → Twigs → Tree → Twigs → Type 0) (steps : List Step) (whole t : Tree) (n : ℕ) (before after : List Entry) (d : Step) → 0 < n → IsTree 0 whole → HangsBy said steps whole n t before after → (get_or steps (n - 1) d).twigs + (get_or steps (n - 1) d).index ≤ 4194304
+step_fits said steps whole t n before after d some shape hangs =
+    let e : n ≡ suc (n - 1) = omega arith in
+    let h = at_depth said steps whole n (suc (n - 1)) t before after e hangs in
+    let up = shape_above said steps whole shape (n - 1) t before after h in
     let row = up.2.inside in
     let c = count-beside h.on.left (twig h.on.position t h.on.right) in
     let i = h.on.index in
-    subst (λ (s : Step). s.twigs + s.index ≤ 4194304) (sym (get_or_from_slice_get path.steps (path.depth - 1) h.step d h.there)) (omega arith)
+    subst (λ (s : Step). s.twigs + s.index ≤ 4194304) (sym (get_or_from_slice_get steps (n - 1) h.step d h.there)) (omega arith)
+
+-- the node that a way down has come to
+pub record ComesTo (said : Step → Twigs → Tree → Twigs → Type 0) (has : ℕ → Cell → Type 0) (path : Path) (whole : Tree) (n : Node) : Type 0 where
+  pub tree : Tree
+  pub before : List Entry
+  pub after : List Entry
+  pub leads : LeadsTo said has path whole tree before after
+  pub is : n ≡ node_of tree
+
+pub came_to_branch : (said : Step → Twigs → Tree → Twigs → Type 0) (has : ℕ → Cell → Type 0) (path : Path) (whole : Tree) (n : Node) (b : Branch) (h : ComesTo said has path whole n) → n ≡ node.Branch b → AtBranch said has path whole h.tree h.before h.after b
+came_to_branch said has path whole n b h is = at_branch said has path whole h.tree h.before h.after b h.leads (sym h.is ∙ is)
+
+pub came_to_leaf : (said : Step → Twigs → Tree → Twigs → Type 0) (has : ℕ → Cell → Type 0) (path : Path) (whole : Tree) (n : Node) (l : Leaf) (h : ComesTo said has path whole n) → n ≡ node.Leaf l → LeafTold has h.tree l
+came_to_leaf said has path whole n l h is = at_leaf said has path whole h.tree h.before h.after l h.leads (sym h.is ∙ is)
+
+pub comes_further : (said : Step → Twigs → Tree → Twigs → Type 0) (has : ℕ → Cell → Type 0) (path new : Path) (whole : Tree) (n m : Node) (b : Branch) (h : ComesTo said has path whole n) (a : AtBranch said has path whole h.tree h.before h.after b) (i : ℕ) (x : Ith has b.offset b.twigs i a.below) (c : Cell) →
+    new.depth ≡ path.depth + 1 → slice_get new.steps path.depth ≡ Some (step_of b i) → ((j : ℕ) → j < path.depth → slice_get new.steps j ≡ slice_get path.steps j) → said (step_of b i) x.left x.tree x.right →
+    ((d : Cell) → has (b.twigs + i) d → c ≡ d) → ((y : Node) → IsNode y → packed y ≡ c → m ≡ y) → ComesTo said has new whole m
+comes_further said has path new whole n m b h a i x c depth step kept so read back = record {
+  tree = x.tree;
+  before = h.before ++ entries x.left;
+  after = entries x.right ++ h.after;
+  leads = stepped said has path new whole b a.below h.before h.after i x a.leads a.counted depth step kept so;
+  is = node_read (b.offset + 1) x.tree c m x.deeper (read (top_cell x.tree) x.there) back;
+}
