@@ -1,5 +1,5 @@
 -- Where an iterator stands after it turned, went down or passed a name.
-use Rattle.std.proofs.Common.{◌≡◌, ℕ, List, [], ◌∷◌, ◌++◌, Option, Some, append-nil, append_assoc, inl, refl, sym, ◌∙◌, ap, subst}
+use Rattle.std.proofs.Common.{◌≡◌, ℕ, List, [], ◌∷◌, ◌++◌, Option, Some, None, append-nil, append_assoc, inl, refl, sym, ◌∙◌, ap, subst}
 use Rattle.packed_node.specs.declared.Cell.{Cell}
 use Rattle.packed_node.specs.declared.Leaf.{Leaf}
 use Rattle.zone_model.specs.Keys.{Leads}
@@ -161,3 +161,29 @@ entry_told before after e rest is told = told e (in_right e before after (subst 
 
 pub last_told : (before after : List Entry) (e : Entry) (rest : List Entry) → before ≡ rest ++ (e ∷ []) → EachTells Leads (before ++ after) → Leads e.key e.item
 last_told before after e rest is told = told e (in_left e before after (subst (InList e) (sym is) (in_right e rest (e ∷ []) (inl refl))))
+
+-- ---- a list with something in it
+pub some_none : (l : Leaf) → Some l ≡ None → ⊥
+some_none l e = cc
+
+pub record WithFirst (es : List Entry) : Type 0 where
+  pub entry : Entry
+  pub rest : List Entry
+  pub is : es ≡ entry ∷ rest
+
+pub with_first : (es : List Entry) → (es ≡ [] → ⊥) → WithFirst es
+with_first [] never = absurd (never refl)
+with_first (e ∷ es) never = record { entry = e; rest = es; is = refl }
+
+pub record WithLast (es : List Entry) : Type 0 where
+  pub entry : Entry
+  pub rest : List Entry
+  pub is : es ≡ rest ++ (entry ∷ [])
+
+pub with_last : (es : List Entry) → (es ≡ [] → ⊥) → WithLast es
+with_last [] never = absurd (never refl)
+with_last (e ∷ []) never = record { entry = e; rest = []; is = refl }
+with_last (e ∷ (f ∷ es)) never = let x = with_last (f ∷ es) (some_list f es) in record { entry = x.entry; rest = e ∷ x.rest; is = ap (λ (ys : List Entry). e ∷ ys) x.is }
+  where
+    some_list : (y : Entry) (ys : List Entry) → y ∷ ys ≡ [] → ⊥
+    some_list y ys h = cc

@@ -2,7 +2,7 @@ use Rattle.std.proofs.Common.{subst}
 use Rattle.trie_read.specs.declared.iter.Place.{Place}
 use Rattle.trie_read.specs.Walks.{IsAt}
 use Rattle.trie_read.proofs.IterLaws.{passed_from_facing, stands_past}
-use Rattle.trie_read.proofs.iter.Iter.pass_previous.Goals as goal
+use Rattle.trie_read.proofs.iter.Iter.behind.Goals as goal
 
 pub returns-then-turn_back-clause-passed : goal.returns-then-turn_back-clause-passed
 returns-then-turn_back-clause-passed g c root before after s =

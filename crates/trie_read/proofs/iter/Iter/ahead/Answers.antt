@@ -4,7 +4,7 @@ use Rattle.trie_model.specs.Trees.{Tree}
 use Rattle.trie_read.specs.declared.iter.Place.{Place}
 use Rattle.trie_read.specs.Walks.{AnyStep, LeadsTo, IsAt}
 use Rattle.trie_read.proofs.IterLaws.{leads_to_root, faces_from_start, faces_from_past, stands_facing}
-use Rattle.trie_read.proofs.iter.Iter.face_next.Goals as goal
+use Rattle.trie_read.proofs.iter.Iter.ahead.Goals as goal
 
 pub returns-in-Start-clause-faces : goal.returns-in-Start-clause-faces
 returns-in-Start-clause-faces g c root before after s =
