@@ -130,7 +130,8 @@ impl Key {
     /// equal keys.
     pub fn difference(&self, octets: &[u8]) -> Option<Difference>
         requires { (other : Labels) × IsName other × BeginsWith octets.now other }
-        ensures { (other : Labels) → IsName other → BeginsWith octets.now other → IsDifference self.now (key_of other) result }
+        ensures key { IsKey self.now }
+        ensures difference { (other : Labels) → IsName other → BeginsWith octets.now other → IsDifference self.now (key_of other) result }
     {
         match compare_labels(&self.places[..self.len as usize], octets) {
             Err(difference) => Some(difference),

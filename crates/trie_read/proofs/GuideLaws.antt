@@ -158,7 +158,7 @@ guided_sides k steps whole shape (suc n) t before after h y i place same early =
     )
 
 -- ---- the split of the list
-rises_parts : (xs ys : List Entry) → Rises (xs ++ ys) → ((x y : Entry) → InList x xs → InList y ys → Less x.key y.key) × Rises ys
+pub rises_parts : (xs ys : List Entry) → Rises (xs ++ ys) → ((x y : Entry) → InList x xs → InList y ys → Less x.key y.key) × Rises ys
 rises_parts [] ys r = (λ x y i. absurd i, r)
 rises_parts (z ∷ xs) ys r = let p = rises_parts xs ys r.1 in (λ x y i j. elim i [ inl e ↦ subst (λ (w : Entry). Less w.key y.key) (sym e) (r.0 y (in_right y xs ys j)) | inr l ↦ p.0 x y l j ], p.1)
 

@@ -10,5 +10,6 @@ mod GuideLaws
 mod AboveLaws
 mod IterLaws
 mod SeekLaws
+mod MetLaws
 mod SizeLaws
 mod ExampleTrie

@@ -2,7 +2,7 @@
 
 ghost use Rattle.std.specs.Prelude.{◌≡◌, ◌↔◌, IsTrue};
 ghost use Rattle.zone_model.specs.Names.{IsName};
-ghost use Rattle.zone_model.specs.Keys.{key_of, Leads};
+ghost use Rattle.zone_model.specs.Keys.{key_of, IsKey, Leads};
 ghost use Rattle.trie_model.specs.Keys.{Entry};
 ghost use Rattle.shift_key.specs.Differences.{IsDifference};
 ghost use Rattle.trie_read.specs.Reads.{IsLeafOf};
@@ -46,6 +46,7 @@ pub fn is_of<C: CellRead>(cells: &mut C, leaf: Leaf, key: &Key) -> bool
 pub fn difference_at<C: CellRead>(cells: &mut C, leaf: Leaf, key: &Key) -> Option<Difference>
     requires { (e : Entry) × IsLeafOf (C.has cells.old) e leaf × Leads e.key e.item }
     ensures same { cells.new ≡ cells.old }
+    ensures key { IsKey key.now }
     ensures difference { (e : Entry) → IsLeafOf (C.has cells.old) e leaf → Leads e.key e.item → IsDifference key.now e.key result }
 {
     let mut front = [0; 256];

@@ -16,4 +16,4 @@ difference-requires g c =
 pub returns-clause-difference : goal.returns-clause-difference
 returns-clause-difference g c e leaf tells =
     let f = fronted e.key e.item _ leaf.entry.item (c.read_front-len.ensures.front e.item leaf.entry.item (sym leaf.len) leaf.lies) tells in
-    subst (λ (k : List ℕ). IsDifference c.args.key.now k c.difference.result) (sym f.is) (c.difference.ensures f.name f.is_name f.begins)
+    subst (λ (k : List ℕ). IsDifference c.args.key.now k c.difference.result) (sym f.is) (c.difference.ensures.difference f.name f.is_name f.begins)
