@@ -11,5 +11,6 @@ mod AboveLaws
 mod IterLaws
 mod SeekLaws
 mod MetLaws
+mod FoundLaws
 mod SizeLaws
 mod ExampleTrie

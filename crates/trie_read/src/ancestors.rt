@@ -1,6 +1,6 @@
 //! The names at or above a name.
 
-ghost use Rattle.std.specs.Prelude.{◌≡◌, ◌<◌, ◌++◌, ◌∷◌, [], length};
+ghost use Rattle.std.specs.Prelude.{◌≡◌, ◌<◌, ◌≤◌, ◌++◌, ◌∷◌, [], length};
 
 use packed_node::Leaf;
 use std::marker::Model;
@@ -45,7 +45,8 @@ impl Ancestors {
 
     /// They, the top first.
     pub fn as_slice(&self) -> &[Ancestor]
-        ensures { result.now ≡ self.now }
+        ensures names { result.now ≡ self.now }
+        ensures few { length self.now ≤ 128 }
     {
         &self.names[..self.len as usize]
     }
