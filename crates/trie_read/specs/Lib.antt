@@ -4,4 +4,3 @@ pub mod Above
 pub mod Walks
 pub mod Readings
 pub mod Example
-pub mod ExampleLaws

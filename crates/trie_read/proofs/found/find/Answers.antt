@@ -30,7 +30,7 @@ returns-clause-kind g c version stands told =
     let finds = c.lookup-leaf.ensures.leaf c.args.root [] version (stands_at_start (g.C.CellRead.has c.args.cells.now) c.args.root c.start-place.result version c.start-place.ensures stands told) in
     let above = c.lookup-leaf.ensures.above c.args.root [] version (stands_at_start (g.C.CellRead.has c.args.cells.now) c.args.root c.start-place.result version c.start-place.ensures stands told) in
     let kind = kind_told (IsNamed (g.C.CellRead.has c.args.cells.now)) c.args.key.now version c.lookup-leaf.result c.lookup-leaf.new.above finds above in
-    let leaf : c.match-leaf.leaf ≡ c.lookup-leaf.result = elim c.match-leaf.branch [ in-Some w ↦ w.leaf-is ∙ sym w.in-Some.is | in-None w ↦ w.leaf-is ∙ sym w.in-None.is ] in
+    let leaf : c.match-leaf.leaf ≡ c.lookup-leaf.result = elim c.match-leaf.branch [ in-Some w ↦ w.leaf-is ∙ sym w.in-Some.is | in-None w ↦ w.leaf-is ] in
     let there = c.is_some.ensures ∙ ap (λ (l : Option Leaf). is_some l) leaf in
     let alone = c.is_empty-alone.ensures ∙ ap (λ (ns : List Ancestor). eqb (length ns) 0) c.as_slice.ensures.names in
     subst (IsKind c.args.key.now version) (sym (c.of.ensures ∙ ap (λ (b : Bool). kind_of b c.is_empty-alone.result) there ∙ ap (λ (b : Bool). kind_of (is_some c.lookup-leaf.result) b) alone)) kind
