@@ -8,7 +8,7 @@ use Rattle.packed_node.specs.declared.Branch.{Branch}
 use Rattle.packed_node.specs.declared.Node.{Node}
 use Rattle.packed_node.specs.declared.Node.TheVariants as node
 use Rattle.packed_node.specs.Nodes.{IsNode, packed}
-use Rattle.zone_model.specs.Keys.{Leads, IsKey as IsNameKey}
+use Rattle.zone_model.specs.Keys.{IsKey as IsNameKey}
 use Rattle.trie_model.specs.Keys.{at, Same, IsKey, Entry, InList}
 use Rattle.trie_model.specs.Order.{EndsAt, chain, labels_in}
 use Rattle.trie_model.specs.Trees.{Rising, Tree, Twigs, entries_of, entries, count, bitmap_of, beside, IsTree, AreTwigs}
@@ -18,7 +18,7 @@ use Rattle.trie_model.specs.Memory.{node_of, top_cell, Beneath}
 use Rattle.trie_model.proofs.KeyLaws.{in_left, in_right}
 use Rattle.trie_model.proofs.GrowthLaws.{each_entry}
 use Rattle.trie_model.proofs.BitmapLaws.{set_bit, clear_bit}
-use Rattle.trie_model.proofs.SplitLaws.{twigs_left, rising_of, entries-beside}
+use Rattle.trie_model.proofs.SplitLaws.{twigs_left, rising_of}
 use Rattle.trie_model.proofs.OrderLaws.{rises_tree}
 use Rattle.trie_model.proofs.ChainLaws.{chain-append, chain_above, chain_beside, chain_few}
 use Rattle.trie_model.proofs.NameLaws.{labels_few, name_key}
@@ -31,7 +31,6 @@ use Rattle.trie_read.specs.Above.{AreAncestors, Passes, HasEnding}
 use Rattle.trie_read.specs.Walks.{AnyStep, HangsBy, Guided, HangsAtLevel, HasNode}
 use Rattle.trie_read.proofs.NodeLaws.{leaf_told}
 use Rattle.trie_read.proofs.PathLaws.{hanging, hangs_kept, hangs_between, shape_above, at_depth}
-use Rattle.trie_read.proofs.TurnLaws.{some_same}
 use Rattle.trie_read.proofs.GuideLaws.{earlier, with_all, in_parent, in_front}
 
 -- ---- lists of leaves

@@ -1,5 +1,5 @@
 -- Where a key leads, and what that says of the whole trie.
-use Rattle.std.proofs.Common.{◌≡◌, ℕ, suc, length, ◌+◌, ◌/◌, ◌%◌, ◌^◌, ◌<◌, ◌≤◌, List, count_ones, Option, Some, None, arith, inl, inr, refl, sym, ◌∙◌, ap, subst}
+use Rattle.std.proofs.Common.{◌≡◌, ℕ, suc, length, ◌+◌, ◌/◌, ◌%◌, ◌^◌, ◌<◌, ◌≤◌, List, count_ones, Some, None, arith, inl, inr, refl, sym, ◌∙◌, ap, subst}
 use Rattle.packed_node.specs.declared.Cell.{Cell}
 use Rattle.packed_node.specs.declared.Leaf.{Leaf}
 use Rattle.packed_node.specs.declared.Branch.{Branch}

@@ -1,13 +1,13 @@
 -- What a look-up tells of a key that is there, and of one that isn't.
-use Rattle.std.proofs.Common.{◌≡◌, ℕ, ◌⊎◌, Bool, true, false, true≢false, eqb, List, [], ◌∷◌, ◌++◌, length, take, map, Option, Some, None, is_some, cond, append_assoc, arith, inl, inr, refl, sym, ◌∙◌, ap, subst}
+use Rattle.std.proofs.Common.{◌≡◌, ℕ, ◌⊎◌, Bool, true, false, true≢false, eqb, List, [], ◌∷◌, ◌++◌, length, Option, Some, None, is_some, cond, append_assoc, arith, inl, inr, refl, sym, ◌∙◌, ap, subst}
 use Rattle.std.proofs.lemmas.Bool.Decides.{nat_tests}
 use Rattle.packed_node.specs.declared.Cell.{Cell}
 use Rattle.packed_node.specs.declared.Leaf.{Leaf}
 use Rattle.zone_model.specs.Keys.{Leads}
 use Rattle.trie_model.specs.Keys.{Entry, InList, Less, Rises}
-use Rattle.trie_model.specs.Order.{IsUpTo, IsLastUpTo, IsPredecessor, IsThere, begins, chain}
+use Rattle.trie_model.specs.Order.{IsPredecessor, begins, chain}
 use Rattle.trie_model.specs.Memory.{Stands}
-use Rattle.trie_model.proofs.KeyLaws.{in_left, in_right, in_both}
+use Rattle.trie_model.proofs.KeyLaws.{in_right, in_both}
 use Rattle.trie_model.proofs.OrderLaws.{rises_tree}
 use Rattle.trie_read.specs.declared.ancestors.Ancestor.{Ancestor}
 use Rattle.trie_read.specs.declared.iter.Iter.{Iter}
@@ -94,16 +94,16 @@ last_before stands k all r at never prev beginning = elim (ends_or_empty at.befo
   | inl none ↦ subst (IsPredecessor k all) (sym (beginning at.after (subst (λ (es : List Entry). stands es at.after) none at.standing)))
       (λ x i. elim (in_both x at.before at.after (subst (InList x) at.split.whole i)) [ inl a ↦ absurd (subst (InList x) none a) | inr b ↦ beyond x b ])
   | inr l ↦ subst (IsPredecessor k all) (sym (prev l.rest at.after l.entry (subst (λ (es : List Entry). stands es at.after) l.is at.standing))) (
-      l.entry,
-      record {
-        before = l.rest;
-        after = at.after;
-        whole = at.split.whole ∙ ap (λ (es : List Entry). es ++ at.after) l.is ∙ append_assoc l.rest (l.entry ∷ []) at.after;
-        up_to = inr (at.split.lower l.entry (subst (InList l.entry) (sym l.is) (in_right l.entry l.rest (l.entry ∷ []) (inl refl))));
-        beyond = beyond;
-      },
-      refl,
-    )
+    l.entry,
+    record {
+      before = l.rest;
+      after = at.after;
+      whole = at.split.whole ∙ ap (λ (es : List Entry). es ++ at.after) l.is ∙ append_assoc l.rest (l.entry ∷ []) at.after;
+      up_to = inr (at.split.lower l.entry (subst (InList l.entry) (sym l.is) (in_right l.entry l.rest (l.entry ∷ []) (inl refl))));
+      beyond = beyond;
+    },
+    refl,
+  )
 ]
   where
     beyond : (x : Entry) → InList x at.after → Less k x.key

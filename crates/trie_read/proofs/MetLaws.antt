@@ -1,16 +1,16 @@
 -- The names at or above a key's, by the leaf that its way met.
-use Rattle.std.proofs.Common.{◌≡◌, ℕ, zero, suc, ◌-◌, ◌<◌, ◌≤◌, ◌⊎◌, true, false, List, [], ◌∷◌, ◌++◌, length, take, Option, Some, None, slice_get, append-nil, append_assoc, arith, inl, inr, refl, sym, ◌∙◌, ap, subst}
+use Rattle.std.proofs.Common.{◌≡◌, ℕ, suc, ◌-◌, ◌<◌, ◌≤◌, ◌⊎◌, true, false, List, [], ◌∷◌, ◌++◌, length, take, Option, Some, None, slice_get, append-nil, append_assoc, arith, inl, inr, refl, sym, ◌∙◌, ap, subst}
 use Rattle.std.proofs.lemmas.Bool.{cases_lt}
 use Rattle.packed_node.specs.declared.Cell.{Cell}
 use Rattle.packed_node.specs.declared.Leaf.{Leaf}
-use Rattle.zone_model.specs.Keys.{Leads, IsKey as IsNameKey}
+use Rattle.zone_model.specs.Keys.{Leads}
 use Rattle.shift_key.specs.declared.difference.Difference.{Difference}
 use Rattle.shift_key.specs.Differences.{IsDifference}
 use Rattle.trie_model.specs.Keys.{at, Same, IsKey, Entry, InList, Less, Rises}
 use Rattle.trie_model.specs.Order.{EndsAt, begins, chain, labels_in}
 use Rattle.trie_model.specs.Trees.{Tree, entries_of, IsTree}
 use Rattle.trie_model.specs.Trees.Tree.{leaf}
-use Rattle.trie_model.proofs.KeyLaws.{in_left, in_right, in_both}
+use Rattle.trie_model.proofs.KeyLaws.{in_both}
 use Rattle.trie_model.proofs.GrowthLaws.{each_entry}
 use Rattle.trie_model.proofs.OrderLaws.{rises_tree}
 use Rattle.trie_model.proofs.ChainLaws.{not_so, begins_same, begins_reads, not_begins, read_inside, ends_nowhere, above_of, chain-append, chain_with, chain_none}
@@ -25,7 +25,7 @@ use Rattle.trie_read.specs.Walks.{Guided, HangsBy, LeadsToMet, Meets}
 use Rattle.trie_read.proofs.PathLaws.{hangs_between, shape_at, shape_above, at_depth}
 use Rattle.trie_read.proofs.TurnLaws.{some_same}
 use Rattle.trie_read.proofs.GuideLaws.{rises_parts}
-use Rattle.trie_read.proofs.AboveLaws.{ancestors_more, ancestors_many, chain_room, passed_none, passed_one}
+use Rattle.trie_read.proofs.AboveLaws.{ancestors_many, chain_room, passed_none, passed_one}
 use Rattle.trie_read.proofs.SeekLaws.{met_cut, met_differs, sides_of, parts_of}
 
 -- the version in three parts: what is before the path's end, what is below the node that it leads to, and what is after that; and which of them are names at or above the key's

@@ -1,5 +1,5 @@
 -- What a node that was read tells of the tree that it is the top of.
-use Rattle.std.proofs.Common.{◌≡◌, ℕ, ◌+◌, ◌-◌, ◌<◌, List, [], ◌∷◌, length, arith, refl, sym, ◌∙◌, ap, subst}
+use Rattle.std.proofs.Common.{◌≡◌, ℕ, ◌+◌, ◌-◌, ◌<◌, [], ◌∷◌, arith, sym, ◌∙◌, ap, subst}
 use Rattle.packed_node.specs.declared.Cell.{Cell}
 use Rattle.packed_node.specs.declared.Leaf.{Leaf}
 use Rattle.packed_node.specs.declared.Branch.{Branch}
@@ -8,7 +8,7 @@ use Rattle.packed_node.specs.declared.Node.TheVariants as node
 use Rattle.packed_node.specs.Nodes.{IsNode, SaysNode, packed}
 use Rattle.trie_model.specs.Keys.{Entry}
 use Rattle.trie_model.specs.Trees.{Tree, entries_of, IsTree}
-use Rattle.trie_model.specs.Trees.Tree.{leaf, branch}
+use Rattle.trie_model.specs.Trees.Tree.{leaf}
 use Rattle.trie_model.specs.Memory.{node_of, Beneath}
 use Rattle.trie_model.proofs.NodeLaws.{says_node, node_read, leaf_said}
 pub use Rattle.trie_model.proofs.NodeLaws.{BranchTold, branch_told}

@@ -1,16 +1,13 @@
 -- The twigs of a branch whose cell was read.
-use Rattle.std.proofs.Common.{◌≡◌, ℕ, zero, suc, ◌+◌, ◌/◌, ◌%◌, ◌^◌, ◌<◌, ◌≤◌, List, count_ones, arith, refl, sym, ◌∙◌, ap, subst}
+use Rattle.std.proofs.Common.{◌≡◌, ℕ, zero, suc, ◌+◌, ◌<◌, ◌≤◌, count_ones, arith, refl, sym, ◌∙◌, ap, subst}
 use Rattle.packed_node.specs.declared.Cell.{Cell}
 use Rattle.packed_node.specs.declared.Branch.{Branch}
-use Rattle.zone_model.specs.Keys.{Leads}
-use Rattle.trie_model.specs.Keys.{at, IsKey, InList}
-use Rattle.trie_model.specs.Trees.{Tree, Twigs, entries_of, entries, count, bitmap_of, beside, AllAt, IsTree, AreTwigs}
+use Rattle.trie_model.specs.Trees.{Tree, Twigs, entries_of, count, beside, AllAt, IsTree, AreTwigs}
 use Rattle.trie_model.specs.Trees.Tree.{leaf, branch}
 use Rattle.trie_model.specs.Trees.Twigs.{none, twig}
 use Rattle.trie_model.specs.Memory.{top_cell, Beneath, Lie}
 use Rattle.trie_model.proofs.BitmapLaws.{ones_of}
-use Rattle.trie_model.proofs.SplitLaws.{Found, Missing, found_of, missing_of, rising_of, lie_right}
-use Rattle.trie_model.proofs.AddLaws.{found_twigs, from_here}
+use Rattle.trie_model.proofs.SplitLaws.{rising_of}
 use Rattle.trie_read.specs.Reads.{IsTop}
 use Rattle.trie_read.specs.Finds.{IsBranchOf}
 use Rattle.trie_read.proofs.NodeLaws.{BranchTold}

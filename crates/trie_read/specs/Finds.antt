@@ -3,7 +3,7 @@ use Rattle.std.specs.Prelude.{◌≡◌, ℕ, Bool, true, false, List, if◌then
 use Rattle.packed_node.specs.declared.Cell.{Cell}
 use Rattle.packed_node.specs.declared.Branch.{Branch}
 use Rattle.trie_model.specs.Keys.{Entry, InList}
-use Rattle.trie_model.specs.Trees.{Tree, Twigs, bitmap_of, IsTree}
+use Rattle.trie_model.specs.Trees.{Twigs, bitmap_of, IsTree}
 use Rattle.trie_model.specs.Trees.Tree.{branch}
 use Rattle.trie_model.specs.Memory.{Lie}
 use Rattle.trie_model.specs.Order.{IsThere, begins}

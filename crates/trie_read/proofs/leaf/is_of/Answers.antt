@@ -1,4 +1,4 @@
-use Rattle.std.proofs.Common.{sym, ◌∙◌, arith}
+use Rattle.std.proofs.Common.{sym, arith}
 use Rattle.trie_model.specs.Memory.{item_cell}
 use Rattle.trie_read.proofs.LeafLaws.{says_key, wire_few}
 use Rattle.trie_read.proofs.leaf.is_of.Goals as goal

@@ -1,4 +1,4 @@
-use Rattle.std.proofs.Common.{◌≡◌, ◌+◌, ◌<◌, true, arith, refl, sym, ◌∙◌, subst, true≢false}
+use Rattle.std.proofs.Common.{◌+◌, arith, refl, sym, ◌∙◌, subst, true≢false}
 use Rattle.trie_model.specs.Memory.{top_cell}
 use Rattle.trie_model.proofs.NameLaws.{name_key}
 use Rattle.trie_read.proofs.FindLaws.{along_first, first_says, along_next, along_more, next_says, along_absent, along_past, along_leaf, along_falls}

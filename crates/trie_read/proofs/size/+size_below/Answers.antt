@@ -1,6 +1,6 @@
 use Rattle.std.proofs.Common.{◌+◌, ◌<◌, count_ones, arith, sym, ◌∙◌, subst, rules}
 use Rattle.trie_model.specs.Memory.{top_cell}
-use Rattle.trie_read.proofs.NodeLaws.{says_top, branch_read, leaf_read, falls_in}
+use Rattle.trie_read.proofs.NodeLaws.{says_top, branch_read, falls_in}
 use Rattle.trie_read.proofs.SizeLaws.{twigs_counted, here_of, part_of, names_past, nodes_past, names_le, names_of_branch, nodes_of_branch}
 use Rattle.trie_read.proofs.size.+size_below.Goals as goal
 

@@ -19,7 +19,7 @@ loop-i-preserved c =
     record {
       long = length-set c.loop-i.labels c.loop-i.i _ ∙ long;
       front = take_more_set c.loop-i.labels c.loop-i.i _ (omega arith) ∙ ap (λ (ls : List ℕ). ls ++ (labels (get_or c.as_slice-names.result.now c.loop-i.i none) ∷ [])) c.loop-i.invariant.front
-      ∙ sym (ap (map labels) (take_more c.as_slice-names.result.now c.loop-i.i none l) ∙ map-append labels (take c.loop-i.i c.as_slice-names.result.now) (get_or c.as_slice-names.result.now c.loop-i.i none ∷ []));
+          ∙ sym (ap (map labels) (take_more c.as_slice-names.result.now c.loop-i.i none l) ∙ map-append labels (take c.loop-i.i c.as_slice-names.result.now) (get_or c.as_slice-names.result.now c.loop-i.i none ∷ []));
     }
 
 pub invariant_of-result : goal.invariant_of-result

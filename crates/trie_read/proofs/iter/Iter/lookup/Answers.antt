@@ -3,7 +3,7 @@ use Rattle.trie_model.specs.Order.{chain}
 use Rattle.trie_read.specs.Reads.{IsNamed}
 use Rattle.trie_read.specs.Above.{AreAncestors, Passes}
 use Rattle.trie_read.specs.Walks.{Meets}
-use Rattle.trie_read.proofs.MetLaws.{parts, met_room, met_added, met_is, met_other}
+use Rattle.trie_read.proofs.MetLaws.{parts, met_room, met_added, met_other}
 use Rattle.trie_read.proofs.iter.Iter.lookup.Goals as goal
 
 pub gather-requires-clause-passes : goal.gather-requires-clause-passes

@@ -1,9 +1,7 @@
-use Rattle.std.proofs.Common.{◌≡◌, ◌++◌, ◌∙◌, [], ℕ, List, Option, Some, None, refl, sym, subst}
-use Rattle.trie_model.specs.Trees.Tree.{leaf}
+use Rattle.std.proofs.Common.{◌++◌, ◌∙◌, [], ℕ, Option, Some, None, refl, sym, subst}
 use Rattle.trie_model.specs.Memory.{top_cell, Stands}
 use Rattle.trie_read.specs.Reads.{IsLeafOf}
 use Rattle.trie_read.specs.Walks.{Guided, Approached, Meets}
-use Rattle.trie_read.specs.declared.iter.Met.{Met}
 use Rattle.trie_read.proofs.PathLaws.{leads_in}
 use Rattle.trie_read.proofs.IterLaws.{leads_to_root}
 use Rattle.trie_read.proofs.SeekLaws.{sought_of, sought_told, sought_path, meets_of}

@@ -1,4 +1,4 @@
-use Rattle.std.proofs.Common.{◌∷◌, ◌++◌, [], inl, refl}
+use Rattle.std.proofs.Common.{◌∷◌, inl, refl}
 use Rattle.trie_model.proofs.KeyLaws.{in_right}
 use Rattle.trie_read.proofs.IterLaws.{faced, stepped_over}
 use Rattle.trie_read.proofs.iter.Iter.next_leaf.Goals as goal

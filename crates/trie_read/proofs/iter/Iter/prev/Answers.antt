@@ -1,4 +1,4 @@
-use Rattle.std.proofs.Common.{◌≡◌, ◌∙◌, Some, sym, ap, subst}
+use Rattle.std.proofs.Common.{Some, sym, ap, subst}
 use Rattle.trie_read.specs.Reads.{IsLeafOf}
 use Rattle.trie_read.specs.Walks.{StandsBetween}
 use Rattle.trie_read.proofs.IterLaws.{some_none, with_last}

@@ -1,8 +1,8 @@
-use Rattle.std.proofs.Common.{◌≡◌, ◌+◌, ◌-◌, ◌<◌, ◌∙◌, arith, refl, sym, subst}
+use Rattle.std.proofs.Common.{◌+◌, ◌∙◌, arith, refl, sym, subst}
 use Rattle.trie_model.specs.Memory.{top_cell}
 use Rattle.trie_model.proofs.NameLaws.{name_key}
 use Rattle.trie_model.proofs.NodeLaws.{says_node}
-use Rattle.trie_read.specs.Walks.{Guided, Approached}
+use Rattle.trie_read.specs.Walks.{Guided}
 use Rattle.trie_read.proofs.TwigLaws.{ith_of}
 use Rattle.trie_read.proofs.PathLaws.{node_there, says_there, came_to_branch, came_to_leaf, comes_further, leads_to_leaf}
 use Rattle.trie_read.proofs.GuideLaws.{guided_step, nearest_inside}
@@ -73,14 +73,14 @@ pub loop-node-preserved : goal.loop-node-preserved
 loop-node-preserved g c = record {
   same = c.cell.ensures.same ∙ c.loop-node.invariant.same;
   way = λ whole t before after leads top.
-    let has = g.C.CellRead.has c.args.cells.now in let k = c.args.key.now in let b = c.in-Branch.branch in
-    let is = name_key k c.nearest-index.ensures.key in
-    let w = c.loop-node.invariant.way whole t before after leads top in
-    let a = came_to_branch (Guided k) has c.loop-node.self whole c.loop-node.node b w c.in-Branch.is in
-    let i = nearest_inside has k b a.below c.nearest-index.result a.of is c.nearest-index.ensures.there c.nearest-index.ensures.absent in
-    let x = ith_of has b a.below c.nearest-index.result a.of i in
-    comes_further (Guided k) has c.loop-node.self c.push.new.self whole c.loop-node.node c.of-node-in-Branch.result b w a c.nearest-index.result x c.cell.result c.push.ensures.depth c.push.ensures.step c.push.ensures.before
-    (guided_step has k b a.below c.nearest-index.result x a.of is c.nearest-index.ensures.there c.nearest-index.ensures.absent) (λ d j. c.cell.ensures.value d (subst (λ s. g.C.CellRead.has s (b.twigs + c.nearest-index.result) d) (sym c.loop-node.invariant.same) j)) c.of-node-in-Branch.ensures.back;
+      let has = g.C.CellRead.has c.args.cells.now in let k = c.args.key.now in let b = c.in-Branch.branch in
+      let is = name_key k c.nearest-index.ensures.key in
+      let w = c.loop-node.invariant.way whole t before after leads top in
+      let a = came_to_branch (Guided k) has c.loop-node.self whole c.loop-node.node b w c.in-Branch.is in
+      let i = nearest_inside has k b a.below c.nearest-index.result a.of is c.nearest-index.ensures.there c.nearest-index.ensures.absent in
+      let x = ith_of has b a.below c.nearest-index.result a.of i in
+      comes_further (Guided k) has c.loop-node.self c.push.new.self whole c.loop-node.node c.of-node-in-Branch.result b w a c.nearest-index.result x c.cell.result c.push.ensures.depth c.push.ensures.step c.push.ensures.before
+      (guided_step has k b a.below c.nearest-index.result x a.of is c.nearest-index.ensures.there c.nearest-index.ensures.absent) (λ d j. c.cell.ensures.value d (subst (λ s. g.C.CellRead.has s (b.twigs + c.nearest-index.result) d) (sym c.loop-node.invariant.same) j)) c.of-node-in-Branch.ensures.back;
 }
 
 pub returns-in-Leaf-clause-leaf : goal.returns-in-Leaf-clause-leaf

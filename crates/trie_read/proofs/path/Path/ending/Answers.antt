@@ -1,10 +1,10 @@
-use Rattle.std.proofs.Common.{suc, true, ◌≡◌, ◌∙◌, refl, sym, subst, true≢false}
+use Rattle.std.proofs.Common.{suc, ◌∙◌, refl, sym, subst, true≢false}
 use Rattle.packed_node.specs.declared.Node.TheVariants as node
 use Rattle.trie_model.specs.Memory.{top_cell}
 use Rattle.trie_model.proofs.NodeLaws.{says_node, node_read}
 use Rattle.trie_read.specs.Walks.{AnyStep}
 use Rattle.trie_read.proofs.PathLaws.{hanging}
-use Rattle.trie_read.proofs.AboveLaws.{read_at, first_twig, ending_leaf, no_ending_leaf, no_ending_twig, no_ending_branch}
+use Rattle.trie_read.proofs.AboveLaws.{read_at, first_twig, ending_leaf, no_ending_twig, no_ending_branch}
 use Rattle.trie_read.proofs.path.Path.ending.Goals as goal
 
 pub of-requires : goal.of-requires

@@ -1,4 +1,4 @@
-use Rattle.std.proofs.Common.{◌≡◌, ◌+◌, ◌∙◌, Some, None, true, arith, refl, sym, subst, true≢false}
+use Rattle.std.proofs.Common.{◌+◌, ◌∙◌, Some, None, arith, refl, sym, subst, true≢false}
 use Rattle.trie_read.specs.Walks.{HasNode, Guided}
 use Rattle.trie_model.proofs.NameLaws.{name_key}
 use Rattle.trie_read.proofs.PathLaws.{depth_few, at_depth}
@@ -37,10 +37,10 @@ loop-level-preserved g c = record {
   ];
   above = λ before p. elim c.if-step-gt0.branch [
     | then-step-gt0+then-ends_at+in-Some w ↦ subst (SoFar (g.C.CellRead.has c.args.cells.now) c.args.key.now c.args.self.now p.whole p.met (c.loop-level.level + 1)) (sym (w.above-is ∙ w.push.ensures))
-    (gathered_one (g.C.CellRead.has c.args.cells.now) c.args.key.now c.args.self.now c.args.root before p c.loop-level.level c.loop-level.above (record { twigs = 0; offset = 0; index = 0; count = 0 }) c.loop-level-test.true (c.loop-level.invariant.above before p)
-    w.in-Some.leaf w.labels_to-labels.result (name_key c.args.key.now w.ends_at.ensures.key) w.if-step-gt0.true (w.if-ends_at.ensures.ends.0 refl) (subst (λ s. EndingAt (g.C.CellRead.has s) c.args.self.now c.args.root c.loop-level.level (Some w.in-Some.leaf)) c.loop-level.invariant.same w.in-Some.ensures.ending) w.labels_to-labels.ensures)
+        (gathered_one (g.C.CellRead.has c.args.cells.now) c.args.key.now c.args.self.now c.args.root before p c.loop-level.level c.loop-level.above (record { twigs = 0; offset = 0; index = 0; count = 0 }) c.loop-level-test.true (c.loop-level.invariant.above before p)
+        w.in-Some.leaf w.labels_to-labels.result (name_key c.args.key.now w.ends_at.ensures.key) w.if-step-gt0.true (w.if-ends_at.ensures.ends.0 refl) (subst (λ s. EndingAt (g.C.CellRead.has s) c.args.self.now c.args.root c.loop-level.level (Some w.in-Some.leaf)) c.loop-level.invariant.same w.in-Some.ensures.ending) w.labels_to-labels.ensures)
     | then-step-gt0+then-ends_at+in_default w ↦ subst (SoFar (g.C.CellRead.has c.args.cells.now) c.args.key.now c.args.self.now p.whole p.met (c.loop-level.level + 1)) (sym w.above-is)
-    (gathered_none (g.C.CellRead.has c.args.cells.now) c.args.key.now c.args.self.now c.args.root before p c.loop-level.level c.loop-level.above (record { twigs = 0; offset = 0; index = 0; count = 0 }) c.loop-level-test.true (c.loop-level.invariant.above before p) (name_key c.args.key.now w.ends_at.ensures.key) (subst (λ s. EndingAt (g.C.CellRead.has s) c.args.self.now c.args.root c.loop-level.level None) c.loop-level.invariant.same w.in_default.ensures.ending))
+        (gathered_none (g.C.CellRead.has c.args.cells.now) c.args.key.now c.args.self.now c.args.root before p c.loop-level.level c.loop-level.above (record { twigs = 0; offset = 0; index = 0; count = 0 }) c.loop-level-test.true (c.loop-level.invariant.above before p) (name_key c.args.key.now w.ends_at.ensures.key) (subst (λ s. EndingAt (g.C.CellRead.has s) c.args.self.now c.args.root c.loop-level.level None) c.loop-level.invariant.same w.in_default.ensures.ending))
     | else-step-gt0 w ↦ subst (SoFar (g.C.CellRead.has c.args.cells.now) c.args.key.now c.args.self.now p.whole p.met (c.loop-level.level + 1)) (sym w.above-is) (elim w.else-step-gt0.branch [
       | else-step-gt0-via-then-step-gt0+else-ends_at v ↦ gathered_within (g.C.CellRead.has c.args.cells.now) c.args.key.now c.args.self.now c.args.root before p c.loop-level.level c.loop-level.above (record { twigs = 0; offset = 0; index = 0; count = 0 }) c.loop-level-test.true (c.loop-level.invariant.above before p) (name_key c.args.key.now v.ends_at.ensures.key) (λ ends. true≢false (sym (v.ends_at.ensures.ends.1 ends) ∙ v.if-ends_at.false))
       | else-step-gt0-via-else-step-gt0 v ↦ gathered_first (g.C.CellRead.has c.args.cells.now) c.args.key.now c.args.self.now c.args.root before p c.loop-level.level c.loop-level.above (record { twigs = 0; offset = 0; index = 0; count = 0 }) c.loop-level-test.true (c.loop-level.invariant.above before p) (λ some. let l = v.if-step-gt0.false in omega arith)
