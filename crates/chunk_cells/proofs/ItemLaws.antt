@@ -1,5 +1,5 @@
 -- The octets of an item, as its cells' words give them.
-use Rattle.std.proofs.Common.{◌≡◌, ℕ, zero, suc, ◌+◌, ◌-◌, ◌<◌, ◌≤◌, inl, inr, List, [], ◌∷◌, ◌++◌, length, take, drop, get_or, slice_index, arith, refl, ◌∙◌, ap, get_or-drop, length-take-le}
+use Rattle.std.proofs.Common.{◌≡◌, ℕ, zero, suc, ◌+◌, ◌-◌, ◌<◌, ◌≤◌, inl, inr, List, [], ◌∷◌, ◌++◌, length, take, drop, get_or, slice_index, arith, refl, sym, ◌∙◌, ap, get_or-drop, get_or-take, length-take, length-take-le, take-append-drop, ext_get_or}
 use Rattle.std.proofs.lemmas.Nat.{le_bytes_8}
 use Rattle.std.proofs.lemmas.List.{get_or_past, get_or-append_right, get_or_append_left}
 use Rattle.std.proofs.lemmas.Bool.{cases_lt}
@@ -53,3 +53,29 @@ octet_there item word start i low is l m =
     let e : start + (i - start) ≡ i = omega arith in
     octet_of_word (drop start item) word (i - start) (λ k. let f = get_or-drop start item k 0 in let h = low (start + k) in omega arith) is (omega arith)
     ∙ get_or-drop start item (i - start) 0 ∙ ap (slice_index item) e
+
+-- a word is told by its eight octets
+pub same_word : (a b : List ℕ) → ((k : ℕ) → k < 8 → slice_index a k ≡ slice_index b k) → from_le_bytes w64 a ≡ from_le_bytes w64 b
+same_word a b h =
+    let e0 = h 0 (omega arith) in let e1 = h 1 (omega arith) in let e2 = h 2 (omega arith) in let e3 = h 3 (omega arith) in
+    let e4 = h 4 (omega arith) in let e5 = h 5 (omega arith) in let e6 = h 6 (omega arith) in let e7 = h 7 (omega arith) in
+    cc
+
+-- the word of an item against that of other octets
+pub words_agree : (item octets : List ℕ) (word other start : ℕ) → ((i : ℕ) → slice_index item i < 256) → ((i : ℕ) → slice_index octets i < 256) → word ≡ from_le_bytes w64 (drop start item) → other ≡ from_le_bytes w64 (drop start octets) → word ≡ other
+    → (i : ℕ) → start ≤ i → i < start + 8 → slice_index item i ≡ slice_index octets i
+words_agree item octets word other start low small is of same i l m =
+    sym (octet_there item word start i low is l m) ∙ ap (λ (w : ℕ). slice_index (to_le_bytes w64 w) (i - start)) same ∙ octet_there octets other start i small of l m
+
+pub words_alike : (item octets : List ℕ) (word other start : ℕ) → word ≡ from_le_bytes w64 (drop start item) → other ≡ from_le_bytes w64 (drop start octets) → ((i : ℕ) → start ≤ i → i < start + 8 → slice_index item i ≡ slice_index octets i) → word ≡ other
+words_alike item octets word other start is of same =
+    is ∙ same_word (drop start item) (drop start octets) (λ k l. get_or-drop start item k 0 ∙ same (start + k) (omega arith) (omega arith) ∙ sym (get_or-drop start octets k 0)) ∙ sym of
+
+-- octets that an item begins with, place by place
+pub begins_at : (item octets : List ℕ) → length octets ≤ length item → ((i : ℕ) → i < length octets → slice_index item i ≡ slice_index octets i) → (rest : List ℕ) × (item ≡ octets ++ rest)
+begins_at item octets short same =
+    let front : take (length octets) item ≡ octets = ext_get_or 0 (take (length octets) item) octets (omega (arith, length-take (length octets) item)) (λ i l. get_or-take (length octets) item i 0 (omega (arith, length-take (length octets) item)) ∙ same i (omega (arith, length-take (length octets) item))) in
+    (drop (length octets) item, sym (take-append-drop (length octets) item) ∙ ap (λ (l : List ℕ). l ++ drop (length octets) item) front)
+
+pub at_beginning : (item octets rest : List ℕ) → item ≡ octets ++ rest → (i : ℕ) → i < length octets → slice_index item i ≡ slice_index octets i
+at_beginning item octets rest e i l = ap (λ (x : List ℕ). slice_index x i) e ∙ get_or_append_left octets rest 0 i l

@@ -6,9 +6,11 @@
 
 ghost use Rattle.std.specs.Prelude.{◌≡◌, ◌≢◌, ◌/◌, ℕ};
 
+mod front;
 pub mod item;
 pub mod plain;
 
+pub use front::begins_with;
 pub use item::{read_front, read_item, write_item};
 use packed_node::{Cell, Ref};
 pub use plain::PlainCells;

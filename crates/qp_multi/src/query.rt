@@ -7,7 +7,9 @@ ghost use Rattle.qp_multi.specs.Shows.{Tells};
 
 use chunk_cells::PlainCells;
 use shift_key::Key;
-use trie_read::{CellReading, Found, Iter, Reading};
+use dns_name::Name;
+use packed_node::Leaf;
+use trie_read::{Ancestors, CellReading, Found, Iter, Reading};
 
 /// One version of the index. It doesn't change.
 #[derive(Drop)]
@@ -41,6 +43,7 @@ impl Query<'_> {
 }
 
 impl Reading for Query<'_> {
+    ghost use Rattle.trie_read.specs.Reads.{IsNamed};
     ghost use Rattle.trie_read.specs.Walks.{StandsBetween};
     ghost use Rattle.qp_multi.specs.Shows.{Holds, has_cell};
 
@@ -49,6 +52,8 @@ impl Reading for Query<'_> {
     ghost holds = { Holds };
 
     ghost stands = { λ q. StandsBetween (has_cell q.reading.cells.now) q.reading.root };
+
+    ghost lies = { λ q. IsNamed (has_cell q.reading.cells.now) };
 
     fn version(&mut self) -> u64 {
         self.reading.version()
@@ -76,6 +81,34 @@ impl Reading for Query<'_> {
 
     fn prev(&mut self, iter: &mut Iter) -> Option<Key> {
         self.reading.prev(iter)
+    }
+
+    fn lookup(&mut self, iter: &mut Iter, key: &Key, above: &mut Ancestors) -> Option<Leaf> {
+        self.reading.lookup(iter, key, above)
+    }
+
+    fn next_leaf(&mut self, iter: &mut Iter) -> Option<Leaf> {
+        self.reading.next_leaf(iter)
+    }
+
+    fn prev_leaf(&mut self, iter: &mut Iter) -> Option<Leaf> {
+        self.reading.prev_leaf(iter)
+    }
+
+    fn ahead(&mut self, iter: &mut Iter) -> Option<Leaf> {
+        self.reading.ahead(iter)
+    }
+
+    fn behind(&mut self, iter: &mut Iter) -> Option<Leaf> {
+        self.reading.behind(iter)
+    }
+
+    fn read(&mut self, leaf: Leaf, out: &mut [u8; 4096]) -> usize {
+        self.reading.read(leaf, out)
+    }
+
+    fn name(&mut self, leaf: Leaf) -> Name {
+        self.reading.name(leaf)
     }
 
     fn count(&mut self) -> u64 {

@@ -1,7 +1,6 @@
 pub mod PlaceLemmas
+pub mod PositionLemmas
 pub mod EncodeLemmas
-pub mod MatchLemmas
 pub mod LeadLemmas
-pub mod DecodeLemmas
-pub mod NameLemmas
 pub mod ShapeLemmas
+pub mod DifferenceLemmas

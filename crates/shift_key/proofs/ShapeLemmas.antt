@@ -10,7 +10,7 @@ use Rattle.zone_model.proofs.OctetKeys.{bounds}
 use Rattle.zone_model.proofs.KeyLaws.{key_of-cons, length-key_of}
 use Rattle.dns_name.proofs.BodyLemmas.{all_append}
 use Rattle.shift_key.specs.Shape.{KeyShape}
-use Rattle.shift_key.proofs.DecodeLemmas.{one_position, two_positions, some_positions, nonzero_inside}
+use Rattle.shift_key.proofs.PositionLemmas.{one_position, two_positions, some_positions, nonzero_inside}
 
 -- ---- small positions
 

@@ -1,6 +1,3 @@
-pub mod Blank
-pub mod Inside
-pub mod Room
-pub mod Matching
-pub mod Decoding
+pub mod Laid
+pub mod Differences
 pub mod Shape

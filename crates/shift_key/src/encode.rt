@@ -1,44 +1,53 @@
-// From the octets of a name to positions.
-ghost use Rattle.std.specs.Prelude.{◌≡◌, ◌≤◌, ◌+◌, ◌++◌, length, ℕ, List};
-ghost use Rattle.std.specs.List.{AllByRecursion};
+//! From the octets of a name to positions.
+
+ghost use Rattle.std.specs.Prelude.{◌≡◌, ◌≤◌, ◌+◌, ◌++◌, length, take};
 ghost use Rattle.zone_model.specs.Names.{Name as Labels};
 ghost use Rattle.zone_model.specs.Keys.{octet_positions, label_positions, key_of};
 ghost use Rattle.dns_name.specs.Spelling.{Spells, IsSpelled};
-ghost use Rattle.shift_key.specs.Room.{HasRoom};
+ghost use Rattle.shift_key.specs.Laid.{HasRoom, IsFront};
 
-use crate::positions::Positions;
 use crate::table::{first_position, second_position};
 use dns_name::first_label;
 
-// Adds the key of the name that the bytes spell, the nearest label last.
-pub fn push_labels(positions: &mut Positions, bytes: &[u8])
+/// Writes the key of the name that the bytes spell, the nearest label last, and gives its length.
+pub fn put_labels(places: &mut [u8; 512], bytes: &[u8]) -> usize
     requires spelled { IsSpelled bytes.now }
-    requires room { HasRoom positions.old bytes.now }
-    ensures { (labels : Labels) → Spells bytes.now labels → positions.new ≡ positions.old ++ key_of labels }
+    requires room { HasRoom bytes.now }
+    ensures { (labels : Labels) → Spells bytes.now labels → IsFront (key_of labels) result places.new }
 {
-    if let Some((label, rest)) = first_label(bytes) {
-        push_labels(positions, rest);
-        push_label(positions, label);
+    match first_label(bytes) {
+        None => 0,
+        Some((label, rest)) => {
+            let at = put_labels(places, rest);
+            put_label(places, at, label)
+        }
     }
 }
 
-fn push_label(positions: &mut Positions, label: &[u8])
-    requires { length positions.old + length (label_positions label.now) ≤ 512 }
-    ensures { positions.new ≡ positions.old ++ label_positions label.now }
+/// Writes the positions of a label from a place on, and gives the place behind them.
+fn put_label(places: &mut [u8; 512], start: usize, label: &[u8]) -> usize
+    requires { start + length (label_positions label.now) ≤ 512 }
+    ensures { IsFront (take start places.old ++ label_positions label.now) result places.new }
 {
+    let mut at = start;
     for octet in label {
-        push_octet(positions, *octet);
+        at = put_octet(places, at, *octet);
     }
-    positions.push(0);
+    places[at] = 0;
+    at + 1
 }
 
-fn push_octet(positions: &mut Positions, octet: u8)
-    requires { length positions.old + length (octet_positions octet) ≤ 512 }
-    ensures { positions.new ≡ positions.old ++ octet_positions octet }
+/// Writes the positions of an octet at a place, and gives the place behind them.
+#[inline]
+fn put_octet(places: &mut [u8; 512], at: usize, octet: u8) -> usize
+    requires { at + length (octet_positions octet) ≤ 512 }
+    ensures { IsFront (take at places.old ++ octet_positions octet) result places.new }
 {
-    positions.push(first_position(octet));
+    places[at] = first_position(octet);
     let second = second_position(octet);
-    if second != 0 {
-        positions.push(second);
+    if second == 0 {
+        return at + 1;
     }
+    places[at + 1] = second;
+    at + 2
 }

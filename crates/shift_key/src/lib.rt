@@ -2,24 +2,22 @@
 //! compare, position by position, as their names do in canonical order.
 #![tactic(auto)]
 
-ghost use Rattle.std.specs.Prelude.{◌≡◌, ◌↔◌, List, ℕ, length, slice_index, IsNone, IfSome, IsTrue};
-ghost use Rattle.zone_model.specs.Names.{Name as Labels, IsName};
+ghost use Rattle.std.specs.Prelude.{◌≡◌, ◌↔◌, length, slice_index, IsNone, IfSome, IsTrue, []};
+ghost use Rattle.zone_model.specs.Names.{Name as Labels, IsName, BeginsWith, wire};
 ghost use Rattle.zone_model.specs.Keys.{key_of, IsKey, IsFirstDifference, Leads};
+ghost use Rattle.shift_key.specs.Differences.{IsDifference};
 
-mod compare;
-mod decode;
+mod difference;
 mod encode;
 pub mod laws;
-mod positions;
 mod table;
 #[cfg(test)]
 mod tests;
 
-use crate::compare::behind_name;
-use crate::decode::push_labels as push_octets_of_labels;
-use crate::encode::push_labels;
-use crate::positions::Positions;
-use dns_name::{Name, Octets};
+use crate::difference::compare_labels;
+use crate::encode::put_labels;
+pub use difference::Difference;
+use dns_name::Name;
 use std::marker::Model;
 
 // The most octets of an item.
@@ -27,58 +25,92 @@ const MOST_ITEM_OCTETS: usize = 4096;
 
 /// The key of a name: at most 504 positions, each below 47, in place.
 ///
-/// Contracts see it as the list of its positions. Behind them stands 0, without end.
-#[derive(Clone, Copy)]
+/// Contracts see it as the list of its positions. Behind them stands 0, without end. The name itself is kept beside them, so that an item is
+/// compared by its octets.
+#[derive(Drop)]
 pub struct Key {
-    positions: Positions,
+    name: Name,
+    /// The positions, in front. What lies behind them means nothing.
+    places: [u8; 512],
+    /// How many positions there are.
+    len: u16,
 }
 
 impl Model for Key {
     ghost use Rattle.std.specs.Prelude.{List, ℕ};
-    ghost use Rattle.zone_model.specs.Keys.{IsKey};
 
     ghost Value = { List ℕ };
 
-    ghost view = { λ k. k.positions };
+    ghost use Rattle.shift_key.specs.Laid.{positions_of, IsLaid};
 
-    ghost invariant = { λ k. IsKey k.positions };
+    ghost view = { positions_of };
 
-    ghost inverse = { λ positions. record { positions = positions } };
+    ghost invariant = { IsLaid };
 }
 
 impl Key {
+    /// The key of the root, which has no position.
+    pub fn root() -> Key
+        ensures { result ≡ [] }
+    {
+        Key {
+            name: Name::root(),
+            places: [0; 512],
+            len: 0,
+        }
+    }
+
     /// The key of this name.
     pub fn of(name: &Name) -> Key
         ensures { result ≡ key_of name.now }
     {
-        let mut positions = Positions::new();
-        push_labels(&mut positions, name.wire());
-        Key { positions }
+        let mut key = Key::root();
+        key.set(name);
+        key
+    }
+
+    /// Makes it the key of this name. Where many keys are wanted one after another, this is cheaper than new ones.
+    pub fn set(&mut self, name: &Name)
+        ensures { self.new ≡ key_of name.now }
+    {
+        self.len = put_labels(&mut self.places, name.wire()) as u16;
+        self.name = *name;
     }
 
     /// The name that has this key.
     pub fn to_name(&self) -> Name
         ensures { key_of result ≡ self.now }
     {
-        let mut octets = Octets::new();
-        push_octets_of_labels(&mut octets, self.positions.as_slice());
-        octets.push(0);
-        Name::from_wire(octets.as_slice()).unwrap()
+        self.name
+    }
+
+    /// The wire form of the name that has this key.
+    pub fn wire(&self) -> &[u8]
+        ensures key { IsKey self.now }
+        ensures wire { (name : Labels) → IsName name → self.now ≡ key_of name → result.now ≡ wire name }
+    {
+        self.name.wire()
     }
 
     /// How many positions it has.
+    #[inline]
     pub fn len(&self) -> u16
         ensures length { result ≡ length self.now }
         ensures key { IsKey self.now }
     {
-        self.positions.as_slice().len() as u16
+        self.len
     }
 
     /// The position at this place, 0 past the end.
+    #[inline]
     pub fn at(&self, place: u16) -> u8
         ensures { result ≡ slice_index self.now place }
     {
-        self.positions.at(place as usize)
+        if place < self.len {
+            self.places[place as usize]
+        } else {
+            0
+        }
     }
 
     /// The first place at which the keys differ, which orders their names; None exactly for equal keys.
@@ -86,20 +118,37 @@ impl Key {
         ensures none { IsNone result ↔ (self.now ≡ other.now) }
         ensures some { IfSome result (IsFirstDifference self.now other.now) }
     {
-        self.positions.first_difference(&other.positions)
+        for place in 0..self.len.max(other.len) {
+            if self.at(place) != other.at(place) {
+                return Some(place);
+            }
+        }
+        None
     }
 
-    /// Whether the item has 1 to 4,096 bytes and begins with the wire form of the key's name. Nothing
-    /// is made for it.
+    /// The first place at which the key differs from that of the name that the octets begin with, and what that one has there; None exactly for
+    /// equal keys.
+    pub fn difference(&self, octets: &[u8]) -> Option<Difference>
+        requires { (other : Labels) × IsName other × BeginsWith octets.now other }
+        ensures key { IsKey self.now }
+        ensures difference { (other : Labels) → IsName other → BeginsWith octets.now other → IsDifference self.now (key_of other) result }
+    {
+        match compare_labels(&self.places[..self.len as usize], octets) {
+            Err(difference) => Some(difference),
+            Ok(end) => {
+                if end >= self.len as usize {
+                    return None;
+                }
+                let place = end as u16;
+                Some(Difference { place, position: 0 })
+            }
+        }
+    }
+
+    /// Whether the item has 1 to 4,096 bytes and begins with the wire form of the key's name.
     pub fn leads(&self, item: &[u8]) -> bool
         ensures { IsTrue result ↔ Leads self.now item.now }
     {
-        if item.len() > MOST_ITEM_OCTETS {
-            return false;
-        }
-        match behind_name(self.positions.as_slice(), item) {
-            Some(rest) => rest.is_empty(),
-            None => false,
-        }
+        item.len() <= MOST_ITEM_OCTETS && item.starts_with(self.name.wire())
     }
 }

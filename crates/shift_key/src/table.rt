@@ -1,9 +1,9 @@
-// The positions of octets, from tables of 256 entries each.
-ghost use Rattle.std.specs.Prelude.{◌≡◌, ◌↔◌, ◌∷◌, [], IsTrue};
-ghost use Rattle.zone_model.specs.Keys.{first_position, second_position, octet_positions};
-ghost use Rattle.zone_model.specs.Names.{IsFolded};
+//! The positions of octets, from tables of 256 entries each.
 
-// The first position of each octet.
+ghost use Rattle.std.specs.Prelude.{◌≡◌};
+ghost use Rattle.zone_model.specs.Keys.{first_position, second_position};
+
+/// The first position of each octet.
 static FIRST: [u8; 256] = [
     1, 1, 1, 1, 1, 1, 1, 1, 1, 1, 1, 1, 1, 1, 1, 1, 1, 1, 1, 1, 1, 1, 1, 1, 1, 1, 1, 1, 1, 1, 1, 1,
     1, 1, 1, 1, 1, 1, 1, 1, 1, 1, 1, 1, 1, 2, 3, 3, 4, 5, 6, 7, 8, 9, 10, 11, 12, 13, 14, 14, 14,
@@ -18,7 +18,7 @@ static FIRST: [u8; 256] = [
     45, 45, 45,
 ];
 
-// The second position of each octet, or 0 where it has none.
+/// The second position of each octet, or 0 where it has none.
 static SECOND: [u8; 256] = [
     1, 2, 3, 4, 5, 6, 7, 8, 9, 10, 11, 12, 13, 14, 15, 16, 17, 18, 19, 20, 21, 22, 23, 24, 25, 26,
     27, 28, 29, 30, 31, 32, 33, 34, 35, 36, 37, 38, 39, 40, 41, 42, 43, 44, 45, 0, 1, 2, 0, 0, 0,
@@ -32,40 +32,18 @@ static SECOND: [u8; 256] = [
     28, 29, 30, 31, 32, 33, 34, 35, 36, 37, 38, 39, 40, 41,
 ];
 
-// The octet, in lower case, that has this one position alone; 256, which is none, for the others.
-static ALONE: [u16; 256] = [
-    256, 256, 45, 256, 48, 49, 50, 51, 52, 53, 54, 55, 56, 57, 256, 95, 256, 97, 98, 99, 100, 101,
-    102, 103, 104, 105, 106, 107, 108, 109, 110, 111, 112, 113, 114, 115, 116, 117, 118, 119, 120,
-    121, 122, 256, 256, 256, 256, 256, 256, 256, 256, 256, 256, 256, 256, 256, 256, 256, 256, 256,
-    256, 256, 256, 256, 256, 256, 256, 256, 256, 256, 256, 256, 256, 256, 256, 256, 256, 256, 256,
-    256, 256, 256, 256, 256, 256, 256, 256, 256, 256, 256, 256, 256, 256, 256, 256, 256, 256, 256,
-    256, 256, 256, 256, 256, 256, 256, 256, 256, 256, 256, 256, 256, 256, 256, 256, 256, 256, 256,
-    256, 256, 256, 256, 256, 256, 256, 256, 256, 256, 256, 256, 256, 256, 256, 256, 256, 256, 256,
-    256, 256, 256, 256, 256, 256, 256, 256, 256, 256, 256, 256, 256, 256, 256, 256, 256, 256, 256,
-    256, 256, 256, 256, 256, 256, 256, 256, 256, 256, 256, 256, 256, 256, 256, 256, 256, 256, 256,
-    256, 256, 256, 256, 256, 256, 256, 256, 256, 256, 256, 256, 256, 256, 256, 256, 256, 256, 256,
-    256, 256, 256, 256, 256, 256, 256, 256, 256, 256, 256, 256, 256, 256, 256, 256, 256, 256, 256,
-    256, 256, 256, 256, 256, 256, 256, 256, 256, 256, 256, 256, 256, 256, 256, 256, 256, 256, 256,
-    256, 256, 256, 256, 256, 256, 256, 256, 256, 256, 256, 256, 256, 256, 256, 256, 256, 256, 256,
-    256, 256, 256, 256, 256, 256,
-];
-
+/// The first position of an octet.
+#[inline]
 pub fn first_position(octet: u8) -> u8
     ensures { result ≡ first_position octet }
 {
     FIRST[octet as usize]
 }
 
-// 0 where the octet has one position alone.
+/// The second position of an octet, or 0 where it has one alone.
+#[inline]
 pub fn second_position(octet: u8) -> u8
     ensures { result ≡ second_position octet }
 {
     SECOND[octet as usize]
-}
-
-// Whether the octet is in lower case and has this one position alone.
-pub fn is_alone(position: u8, octet: u8) -> bool
-    ensures { IsTrue result ↔ (IsFolded octet × (octet_positions octet ≡ position ∷ [])) }
-{
-    ALONE[position as usize] == u16::from(octet)
 }

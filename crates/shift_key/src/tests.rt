@@ -1,4 +1,6 @@
-use crate::Key;
+//! Keys of names, against the vectors of the layout.
+
+use crate::{Difference, Key};
 use dns_name::Name;
 use std::test::Fail;
 
@@ -94,5 +96,32 @@ fn a_key_leads_items_of_its_name(rt: HostRuntime) -> Result<(), Fail> {
     for (item, want) in items {
         assert_eq!(rt; key.leads(item), want);
     }
+    Ok(())
+}
+
+// Where a key differs from the name in front of an item.
+fn difference_of(text: &[u8], item: &[u8]) -> Result<Option<Difference>, Fail> {
+    let key = Key::of(&name(text)?);
+    let other = Name::from_wire(item).ok_or("no name")?;
+    Ok(key.difference(other.wire()))
+}
+
+#[test]
+fn keys_differ_from_names(rt: HostRuntime) -> Result<(), Fail> {
+    let at = |place, position| Some(Difference { place, position });
+    for (text, item, want) in [
+        (&b"ns.example."[..], &b"\x02ns\x07example\0"[..], None),
+        (b"ns.example.", b"\x02nt\x07example\0", at(9, 36)),
+        (b"ns.example.", b"\x07example\0", at(8, 0)),
+        (b"example.", b"\x02ns\x07example\0", at(8, 30)),
+        (b"*.z.", b"\x01\x01\x01z\0", at(3, 2)),
+        (b".", b"\0", None),
+    ] {
+        assert_eq!(rt; difference_of(text, item)?, want);
+    }
+    let mut key = Key::of(&name(b"a.very.long.name.example.")?);
+    key.set(&name(b"z.")?);
+    assert_eq!(rt; (key.len(), key.at(0), key.at(1), key.at(2)), (2, 42, 0, 0));
+    assert_eq!(rt; key.wire(), &b"\x01z\0"[..]);
     Ok(())
 }

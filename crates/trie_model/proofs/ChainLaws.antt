@@ -2,7 +2,7 @@
 use Rattle.std.proofs.Common.{◌≡◌, ℕ, zero, suc, ◌+◌, ◌-◌, ◌<◌, ◌≤◌, Bool, true, false, cond, eqb, ◌&&◌, List, [], ◌∷◌, ◌++◌, length, take, map, arith, inl, inr, refl, sym, ap, ◌∙◌, subst, length-append, true≢false}
 use Rattle.std.proofs.lemmas.Bool.{cases_lt}
 use Rattle.std.proofs.lemmas.Bool.Decides.{nat_tests}
-use Rattle.std.proofs.lemmas.List.{get_or_past, get_or_append_left, map-append, take_at}
+use Rattle.std.proofs.lemmas.List.{get_or_past, get_or_append_left, length-map, take_at}
 use Rattle.std.proofs.lemmas.List.Elements.{filter-append}
 use Rattle.std.proofs.lemmas.List.Sums.{sum_by-cons, sum_by-append}
 use Rattle.std.specs.List.{filter}
@@ -115,10 +115,8 @@ ends_nowhere o k x kk kx same some e never = not_so (begins x k) (λ b. elim (ca
 ])
 
 -- ---- the chain of a list in parts
-pub chain-append : (k : List ℕ) (a b : List Entry) → chain_labels k (a ++ b) ≡ chain_labels k a ++ chain_labels k b
-chain-append k a b =
-    let test : Entry → Bool = λ e. begins e.key k in let labels : Entry → ℕ = λ e. labels_in e.key in
-    ap (map labels) (filter-append test a b) ∙ map-append labels (filter test a) (filter test b)
+pub chain-append : (k : List ℕ) (a b : List Entry) → chain k (a ++ b) ≡ chain k a ++ chain k b
+chain-append k a b = let test : Entry → Bool = λ e. begins e.key k in filter-append test a b
 
 pub chain_skip : (k : List ℕ) (x : Entry) (es : List Entry) → begins x.key k ≡ false → chain_labels k (x ∷ es) ≡ chain_labels k es
 chain_skip k x es e = ap (λ (b : Bool). map (λ (y : Entry). labels_in y.key) (cond b (x ∷ chain k es) (chain k es))) e
@@ -126,46 +124,54 @@ chain_skip k x es e = ap (λ (b : Bool). map (λ (y : Entry). labels_in y.key) (
 pub chain_take : (k : List ℕ) (x : Entry) (es : List Entry) → begins x.key k ≡ true → chain_labels k (x ∷ es) ≡ labels_in x.key ∷ chain_labels k es
 chain_take k x es e = ap (λ (b : Bool). map (λ (y : Entry). labels_in y.key) (cond b (x ∷ chain k es) (chain k es))) e
 
-pub chain_none : (k : List ℕ) (es : List Entry) → ((x : Entry) → InList x es → begins x.key k ≡ false) → chain_labels k es ≡ []
+pub chain_with : (k : List ℕ) (x : Entry) (es : List Entry) → begins x.key k ≡ true → chain k (x ∷ es) ≡ x ∷ chain k es
+chain_with k x es e = ap (λ (b : Bool). cond b (x ∷ chain k es) (chain k es)) e
+
+pub chain_none : (k : List ℕ) (es : List Entry) → ((x : Entry) → InList x es → begins x.key k ≡ false) → chain k es ≡ []
 chain_none k [] never = refl
-chain_none k (x ∷ es) never = chain_skip k x es (never x (inl refl)) ∙ chain_none k es (λ y i. never y (inr i))
+chain_none k (x ∷ es) never = ap (λ (b : Bool). cond b (x ∷ chain k es) (chain k es)) (never x (inl refl)) ∙ chain_none k es (λ y i. never y (inr i))
 
 -- ---- the twigs before a key's own
--- there is one for keys that end here, and the key's labels end here too
-abbrev pub EndsAbove : ℕ → List ℕ → Twigs → Type 0
-EndsAbove o k none = ⊥
-EndsAbove o k (twig q t rest) = (q ≡ 0) × EndsAt o k
-
 -- a tree whose keys are one is a leaf
-pub single : (low : ℕ) (t : Tree) → IsTree low t → ((x y : Entry) → InList x (entries_of t) → InList y (entries_of t) → x.key ≡ y.key) → (e : Entry) × (entries_of t ≡ e ∷ [])
-single low (leaf e w) h same = (e, refl)
+pub single : (low : ℕ) (t : Tree) → IsTree low t → ((x y : Entry) → InList x (entries_of t) → InList y (entries_of t) → x.key ≡ y.key) → (e : Entry) × ((w : ℕ) × (t ≡ leaf e w))
+single low (leaf e w) h same = (e, (w, refl))
 single low (branch o w below) h same =
     let two = two_of o 0 below h.5 h.3 in
     let read = ap (λ (k : List ℕ). at k o) (same two.x two.y two.x_in two.y_in) in let apart = two.apart in absurd (omega arith)
 
-between : (o lo : ℕ) (k : List ℕ) (ts : Twigs) → 0 < lo → AreTwigs o lo ts → Rising lo (at k o) ts → chain_labels k (entries ts) ≡ []
+between : (o lo : ℕ) (k : List ℕ) (ts : Twigs) → 0 < lo → AreTwigs o lo ts → Rising lo (at k o) ts → chain k (entries ts) ≡ []
 between o lo k ts some a r = chain_none k (entries ts) (λ x i.
     let below = keys_lower o lo (at k o) ts a r x i in let above = keys_upper o lo lo (at k o) ts a r x i in
     not_begins x.key k o (omega arith) (λ e. omega arith))
 
-pub chain_above : (o : ℕ) (k : List ℕ) (ts : Twigs) → IsKey k → AreTwigs o 0 ts → Rising 0 (at k o) ts → ((x : Entry) → InList x (entries ts) → Same o k x.key) → EndsAbove o k ts →
-    chain_labels k (entries ts) ≡ labels_in (take o k) ∷ []
-chain_above o k none kk a r same ends = absurd ends
-chain_above o k (twig q t rest) kk a r same ends =
-    let some : 0 < at k o = let l = r.1 in omega arith in
-    let here : (x : Entry) → InList x (entries_of t) → (begins x.key k ≡ true) × (length x.key ≡ o) =
-    λ x i. let z : at x.key o ≡ 0 = a.2 x i ∙ ends.0 in
-    ends_here o k x.key kk (each_of o 0 (twig q t rest) a x (in_left x (entries_of t) (entries rest) i)).key (same x (in_left x (entries_of t) (entries rest) i)) some z ends.1 in
-    let alike : (x y : Entry) → InList x (entries_of t) → InList y (entries_of t) → x.key ≡ y.key =
-    λ x y i j. begins_take x.key k (here x i).0 o (here x i).1 ∙ sym (begins_take y.key k (here y j).0 o (here y j).1) in
-    let one = single (suc o) t a.3 alike in
-    let e = one.0 in
-    let there : InList e (entries_of t) = subst (InList e) (sym one.1) (inl refl) in
-    ap (λ (es : List Entry). chain_labels k (es ++ entries rest)) one.1 ∙ chain_take k e (entries rest) (here e there).0
-    ∙ ap (λ (n : ℕ). n ∷ chain_labels k (entries rest)) (ap labels_in (begins_take e.key k (here e there).0 o (here e there).1))
-    ∙ ap (λ (ns : List ℕ). labels_in (take o k) ∷ ns) (between o (suc q) k rest (omega arith) a.4 r.2)
+-- all keys of a tree end where a label of another key does, and agree with it up to there: the tree is a leaf, of a name above the key's
+pub record Above (o : ℕ) (k : List ℕ) (t : Tree) : Type 0 where
+  pub entry : Entry
+  pub place : ℕ
+  pub is : t ≡ leaf entry place
+  pub begins : begins entry.key k ≡ true
+  pub key : entry.key ≡ take o k
 
-pub chain_beside : (o : ℕ) (k : List ℕ) (ts : Twigs) → IsKey k → AreTwigs o 0 ts → Rising 0 (at k o) ts → ((x : Entry) → InList x (entries ts) → Same o k x.key) → (EndsAbove o k ts → ⊥) → chain_labels k (entries ts) ≡ []
+pub above_of : (low o : ℕ) (k : List ℕ) (t : Tree) → IsKey k → 0 < at k o → EndsAt o k → IsTree low t → ((x : Entry) → InList x (entries_of t) → IsKey x.key) → ((x : Entry) → InList x (entries_of t) → Same o k x.key) → ((x : Entry) → InList x (entries_of t) → at x.key o ≡ 0) → Above o k t
+above_of low o k t kk some ends tree keys same ends_all =
+    let here : (x : Entry) → InList x (entries_of t) → (begins x.key k ≡ true) × (length x.key ≡ o) = λ x i. ends_here o k x.key kk (keys x i) (same x i) some (ends_all x i) ends in
+    let taken : (x : Entry) → InList x (entries_of t) → x.key ≡ take o k = λ x i. let h = here x i in begins_take x.key k h.0 o h.1 in
+    let one = single low t tree (λ x y i j. taken x i ∙ sym (taken y j)) in
+    let there : InList one.0 (entries_of t) = subst (λ (u : Tree). InList one.0 (entries_of u)) (sym one.1.1) (inl refl) in
+    record { entry = one.0; place = one.1.0; is = one.1.1; begins = (here one.0 there).0; key = taken one.0 there }
+
+-- the names above among the twigs before the key's own: there is one where the first twig is for keys that end here, and a label of the key ends here too
+pub chain_above : (o : ℕ) (k : List ℕ) (t : Tree) (rest : Twigs) → IsKey k → AreTwigs o 0 (twig 0 t rest) → Rising 0 (at k o) (twig 0 t rest) → ((x : Entry) → InList x (entries (twig 0 t rest)) → Same o k x.key) → EndsAt o k →
+    (h : Above o k t) × (chain k (entries (twig 0 t rest)) ≡ h.entry ∷ [])
+chain_above o k t rest kk a r same ends =
+    let into : (x : Entry) → InList x (entries_of t) → InList x (entries (twig 0 t rest)) = λ x i. in_left x (entries_of t) (entries rest) i in
+    let h = above_of (suc o) o k t kk (let l = r.1 in omega arith) ends a.3 (λ x i. (each_of o 0 (twig 0 t rest) a x (into x i)).key) (λ x i. same x (into x i)) a.2 in (
+      h,
+      ap (λ (u : Tree). chain k (entries_of u ++ entries rest)) h.is ∙ chain_with k h.entry (entries rest) h.begins ∙ ap (λ (es : List Entry). h.entry ∷ es) (between o 1 k rest (omega arith) a.4 r.2),
+    )
+
+-- else there is none
+pub chain_beside : (o : ℕ) (k : List ℕ) (ts : Twigs) → IsKey k → AreTwigs o 0 ts → Rising 0 (at k o) ts → ((x : Entry) → InList x (entries ts) → Same o k x.key) → ((t : Tree) (rest : Twigs) → ts ≡ twig 0 t rest → EndsAt o k → ⊥) → chain k (entries ts) ≡ []
 chain_beside o k none kk a r same never = refl
 chain_beside o k (twig q t rest) kk a r same never = elim (cases_lt 0 q) [
   | inl l ↦ between o q k (twig q t rest) l (let z : q ≤ q = omega arith in z, a.1, a.2, a.3, a.4) (let z : q ≤ q = omega arith in z, r.1, r.2)
@@ -173,8 +179,8 @@ chain_beside o k (twig q t rest) kk a r same never = elim (cases_lt 0 q) [
       let zero : q ≡ 0 = omega arith in
       let some : 0 < at k o = let l = r.1 in omega arith in
       let here = chain_none k (entries_of t) (λ x i.
-      ends_nowhere o k x.key kk (each_of o 0 (twig q t rest) a x (in_left x (entries_of t) (entries rest) i)).key (same x (in_left x (entries_of t) (entries rest) i)) some (a.2 x i ∙ zero) (λ e. never (zero, e))) in
-      chain-append k (entries_of t) (entries rest) ∙ ap (λ (ns : List ℕ). ns ++ chain_labels k (entries rest)) here ∙ between o (suc q) k rest (omega arith) a.4 r.2
+      ends_nowhere o k x.key kk (each_of o 0 (twig q t rest) a x (in_left x (entries_of t) (entries rest) i)).key (same x (in_left x (entries_of t) (entries rest) i)) some (a.2 x i ∙ zero) (never t rest (ap (λ (n : ℕ). twig n t rest) zero))) in
+      chain-append k (entries_of t) (entries rest) ∙ ap (λ (ns : List Entry). ns ++ chain k (entries rest)) here ∙ between o (suc q) k rest (omega arith) a.4 r.2
       )
 ]
 
@@ -235,5 +241,5 @@ few_from k (x ∷ es) m rises keys least = go (begins x.key k) refl (λ m. few_f
         let h = rest (labels_in x.key + 1) (λ y i b. let r = labels_rise x.key y.key k (keys y (inr i)) e b (rises.0 y i) in omega arith) in
         let n = ap (λ (ns : List ℕ). length ns) (chain_take k x es e) in let a = least x (inl refl) e in let b = labels_le x.key k e in omega arith
 
-pub chain_few : (k : List ℕ) (es : List Entry) → Rises es → ((x : Entry) → InList x es → IsKey x.key) → length (chain_labels k es) ≤ labels_in k + 1
-chain_few k es rises keys = let h = few_from k es 0 rises keys (λ x i e. omega arith) in omega arith
+pub chain_few : (k : List ℕ) (es : List Entry) → Rises es → ((x : Entry) → InList x es → IsKey x.key) → length (chain k es) ≤ labels_in k + 1
+chain_few k es rises keys = let h = few_from k es 0 rises keys (λ x i e. omega arith) in let n = length-map (chain k es) (λ (e : Entry). labels_in e.key) in omega arith

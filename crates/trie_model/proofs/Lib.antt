@@ -2,6 +2,7 @@ pub mod KeyLaws
 pub mod BitmapLaws
 pub mod SplitLaws
 pub mod TopLaws
+pub mod NodeLaws
 pub mod GrowthLaws
 pub mod AddLaws
 pub mod DropLaws

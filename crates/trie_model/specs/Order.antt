@@ -49,13 +49,5 @@ labels_in key = count_by (λ position. position == 0) key
 abbrev pub chain_labels : List ℕ → List Entry → List ℕ
 chain_labels key all = map (λ (e : Entry). labels_in e.key) (chain key all)
 
--- a part of the list that has the last entry whose key isn't after the key: it is before the key as a whole, and what follows after it
-pub record IsLastPart (key : List ℕ) (all part : List Entry) : Type 0 where
-  pub before : List Entry
-  pub after : List Entry
-  pub whole : all ≡ before ++ (part ++ after)
-  pub lower : (x : Entry) → InList x part → Less x.key key
-  pub beyond : (x : Entry) → InList x after → Less key x.key
-
 abbrev pub IsThere : List ℕ → List Entry → Type 0
 IsThere key all = (e : Entry) × InList e all × (e.key ≡ key)

@@ -32,6 +32,11 @@ abbrev pub bitmap_of : Twigs → ℕ
 bitmap_of none = 0
 bitmap_of (twig p t rest) = 2 ^ p + bitmap_of rest
 
+-- positions rise, from lo on and below hi
+abbrev pub Rising : ℕ → ℕ → Twigs → Type 0
+Rising lo hi none = lo ≤ hi
+Rising lo hi (twig p t rest) = (lo ≤ p) × (p < hi) × Rising (suc p) hi rest
+
 -- 16 octets a cell
 abbrev pub cells_in : List ℕ → ℕ
 cells_in item = (length item + 15) / 16

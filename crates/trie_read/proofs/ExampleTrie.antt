@@ -6,14 +6,13 @@ use Rattle.std.proofs.Common.{◌≡◌, ◌∙◌, List, length, ℕ, zero, suc
 use Rattle.std.proofs.lemmas.Bool.Decides.{nat_tests}
 use Rattle.packed_node.specs.declared.Cell.{Cell}
 use Rattle.packed_node.specs.Nodes.{leaf_cell, branch_cell, IsBranch}
-use Rattle.trie_model.specs.Keys.{at, Entry, IsEntry}
+use Rattle.trie_model.specs.Keys.{at, IsKey, Entry, IsEntry}
 use Rattle.trie_model.specs.Trees.{Tree, IsTree, AllAt}
 use Rattle.trie_model.specs.Trees.Tree.{leaf, branch}
 use Rattle.trie_model.specs.Trees.Twigs.{none, twig}
 use Rattle.trie_model.specs.Reach.{reach}
 use Rattle.trie_model.specs.Memory.{ItemLies, Stands}
 use Rattle.trie_read.specs.Example.{key_of_letter, item_of_letter, two_names}
-use Rattle.trie_read.specs.ExampleLaws.{letter_is_key}
 use lib.Count
 
 abbrev entry_of_letter : ℕ → ℕ → Entry
@@ -21,6 +20,24 @@ entry_of_letter position letter = record { key = key_of_letter position; item = 
 
 abbrev example : Tree
 example = branch 0 1 (twig 17 (leaf (entry_of_letter 17 97) 3) (twig 18 (leaf (entry_of_letter 18 98) 4) none))
+
+letter_is_key : (p : ℕ) → 17 ≤ p → p ≤ 42 → IsKey (key_of_letter p)
+letter_is_key p l m = record { short = omega arith; positions = positions; ended = ended; full = full }
+  where
+    positions : (i : ℕ) → at (key_of_letter p) i < 47
+    positions zero = omega arith
+    positions (suc zero) = omega arith
+    positions (suc (suc i)) = omega arith
+
+    ended : (i : ℕ) → suc i ≡ length (key_of_letter p) → at (key_of_letter p) i ≡ 0
+    ended zero e = absurd (omega arith)
+    ended (suc zero) e = refl
+    ended (suc (suc i)) e = refl
+
+    full : (i : ℕ) → i < length (key_of_letter p) → at (key_of_letter p) i ≡ 0 → (j : ℕ) × (i ≡ suc j) × (0 < at (key_of_letter p) j)
+    full zero k e = absurd (omega arith)
+    full (suc zero) k e = (0, refl, omega arith)
+    full (suc (suc i)) k e = absurd (omega arith)
 
 letter_is_entry : (p l : ℕ) → 17 ≤ p → p ≤ 42 → l < 256 → IsEntry (entry_of_letter p l)
 letter_is_entry p l a b c = record { key = letter_is_key p a b; item = record { some = omega arith; short = omega arith; octets = octets } }

@@ -6,86 +6,87 @@ use Rattle.packed_node.specs.declared.Cell.{Cell}
 use Rattle.packed_node.specs.declared.Branch.{Branch}
 use Rattle.trie_model.specs.Keys.{at, Same, IsKey, Entry, InList, Less, Rises}
 use Rattle.trie_model.specs.Order.{IsSplitAt}
-use Rattle.trie_model.specs.Trees.{Tree, Twigs, entries_of, entries, count, bitmap_of, beside, IsTree, AreTwigs}
+use Rattle.trie_model.specs.Trees.{Rising, Tree, Twigs, entries_of, entries, count, bitmap_of, beside, IsTree, AreTwigs}
 use Rattle.trie_model.specs.Trees.Tree.{leaf, branch}
 use Rattle.trie_model.specs.Trees.Twigs.{none, twig}
 use Rattle.trie_model.proofs.KeyLaws.{in_left, in_right, in_both}
 use Rattle.trie_model.proofs.BitmapLaws.{count-beside}
-use Rattle.trie_model.proofs.SplitLaws.{Found, Missing, look, rising_of, twigs_left, twigs_right, entries-beside}
-use Rattle.trie_model.proofs.AddLaws.{found_twigs}
+use Rattle.trie_model.proofs.SplitLaws.{Found, Missing, look, rising_of, twigs_left, entries-beside}
 use Rattle.trie_model.proofs.SideLaws.{AgreesWith, agrees_with, lower_left, upper_right}
 use Rattle.trie_read.specs.declared.path.Step.{Step}
 use Rattle.trie_read.specs.declared.path.Path.{Path}
 use Rattle.trie_read.specs.Finds.{IsBranchOf}
 use Rattle.trie_read.specs.Walks.{step_of, HangsBy, Guided, CutAt}
 use Rattle.trie_read.proofs.TwigLaws.{Ith}
-use Rattle.trie_read.proofs.WayLaws.{in_ith, in_below, cut_again, same_rest}
 use Rattle.trie_read.proofs.PathLaws.{shape_above, below_step, at_depth}
 use Rattle.trie_read.proofs.TurnLaws.{some_same}
 
--- ---- the step that the key chooses
--- twigs cut at one place in two ways
+-- ---- twigs cut at places
+same_rest : (p q : ℕ) (t u : Tree) (r s : Twigs) → twig p t r ≡ twig q u s → r ≡ s
+same_rest p q t u r s e = cc
+
+same_first : (p q : ℕ) (t u : Tree) (r s v : Twigs) → twig p t r ≡ twig q u s → twig p t v ≡ twig q u v
+same_first p q t u r s v e = cc
+
+-- at one place in two ways
 cut_same : (l m r s : Twigs) → beside l r ≡ beside m s → count l ≡ count m → (l ≡ m) × (r ≡ s)
 cut_same none none r s e n = (refl, e)
 cut_same none (twig q u m) r s e n = absurd (omega arith)
 cut_same (twig p t l) none r s e n = absurd (omega arith)
 cut_same (twig p t l) (twig q u m) r s e n =
     let c = cut_same l m r s (same_rest p q t u (beside l r) (beside m s) e) (omega arith) in
-    (heads p q t u (beside l r) (beside m s) l e ∙ ap (twig q u) c.0, c.1)
-  where
-    heads : (p q : ℕ) (t u : Tree) (x y v : Twigs) → twig p t x ≡ twig q u y → twig p t v ≡ twig q u v
-    heads p q t u x y v e = cc
+    (same_first p q t u (beside l r) (beside m s) l e ∙ ap (twig q u) c.0, c.1)
 
-in_rest : (p : ℕ) (t : Tree) (r : Twigs) (x : Entry) → InList x (entries r) → InList x (entries (twig p t r))
-in_rest p t r x i = in_right x (entries_of t) (entries r) i
+-- at two neighbouring ones
+cut_again : (l left right r : Twigs) (p : ℕ) (t : Tree) → beside l (twig p t r) ≡ beside left right → suc (count l) ≡ count left → (left ≡ beside l (twig p t none)) × (r ≡ right)
+cut_again none none right r p t e n = absurd (omega arith)
+cut_again none (twig q u none) right r p t e n = (sym (same_first p q t u r right none e), same_rest p q t u r right e)
+cut_again none (twig q u (twig v w more)) right r p t e n = absurd (omega arith)
+cut_again (twig a b l) none right r p t e n = absurd (omega arith)
+cut_again (twig a b l) (twig q u left) right r p t e n =
+    let c = cut_again l left right r p t (same_rest a q b u (beside l (twig p t r)) (beside left right) e) (omega arith) in
+    (ap (twig q u) c.0 ∙ sym (same_first a q b u (beside l (twig p t r)) (beside left right) (beside l (twig p t none)) e), c.1)
 
-in_front : (l s : Twigs) (x : Entry) → InList x (entries l) → InList x (entries (beside l s))
-in_front l s x i = subst (InList x) (sym (entries-beside l s)) (in_left x (entries l) (entries s) i)
+-- positions that rise
+rising_front : (lo hi : ℕ) (l : Twigs) (p : ℕ) (t : Tree) → Rising lo hi (beside l (twig p t none)) → Rising lo hi l
+rising_front lo hi none p t r = let a = r.0 in let b = r.1 in omega arith
+rising_front lo hi (twig q u l) p t r = (r.0, r.1, rising_front (suc q) hi l p t r.2)
 
+rising_from : (lo hi n : ℕ) (ts : Twigs) → n ≤ lo → Rising lo hi ts → Rising n hi ts
+rising_from lo hi n none l r = omega arith
+rising_from lo hi n (twig q u ts) l r = (let a = r.0 in omega arith, r.1, r.2)
+
+-- ---- the step that the key chooses
 pub guided_step : (has : ℕ → Cell → Type 0) (k : List ℕ) (b : Branch) (below : Twigs) (i : ℕ) (x : Ith has b.offset b.twigs i below) → IsBranchOf has b below → IsKey k →
     ((b.bitmap / 2 ^ at k b.offset) % 2 ≡ 1 → i ≡ count_ones (b.bitmap % 2 ^ at k b.offset)) → (((b.bitmap / 2 ^ at k b.offset) % 2 ≡ 1 → ⊥) → i ≡ count_ones (b.bitmap % 2 ^ at k b.offset) - 1) → Guided k (step_of b i) x.left x.tree x.right
-guided_step has k b below i x h is there absent y y_in same =
+guided_step has k b below i x h is there absent =
     elim (look 0 47 (at k b.offset) below (let z : 0 ≤ at k b.offset = omega arith in z) (is.positions b.offset) (rising_of b.offset 0 below (let z : 0 ≤ 47 = omega arith in z) h.tree.5)) [ inl f ↦ found f | inr m ↦ missing m ]
   where
-    with_k : AgreesWith b.offset k (entries below)
-    with_k = agrees_with b.offset k (entries below) y h.tree.4 (in_ith has b below i x y y_in) same
-
     bits : (n : ℕ) → count_ones (bitmap_of below % 2 ^ at k b.offset) ≡ n → count_ones (b.bitmap % 2 ^ at k b.offset) ≡ n
     bits n e = ap (λ (m : ℕ). count_ones (m % 2 ^ at k b.offset)) h.bitmap ∙ e
 
-    found : Found 0 47 (at k b.offset) below → ((z : Entry) → InList z (entries x.left) → Less z.key k) × ((z : Entry) → InList z (entries x.right) → Less k z.key)
+    found : Found 0 47 (at k b.offset) below → Rising 0 (at k b.offset) x.left × Rising (suc (at k b.offset)) 47 x.right
     found f =
         let n = bits (count f.left) f.index in
         let index = there (subst (λ (m : ℕ). (m / 2 ^ at k b.offset) % 2 ≡ 1) (sym h.bitmap) f.bit) in
         let c = cut_same x.left f.left (twig x.position x.tree x.right) (twig (at k b.offset) f.here f.rest) (sym x.is ∙ f.is) (let p = x.place in omega arith) in
         let rest = same_rest x.position (at k b.offset) x.tree f.here x.right f.rest c.1 in
-        let left = twigs_left b.offset 0 f.left (twig (at k b.offset) f.here f.rest) (subst (AreTwigs b.offset 0) f.is h.tree.5) in
-        let right = (found_twigs b.offset (at k b.offset) below h.tree.5 f).4 in (
-          λ z j. lower_left b.offset 0 k f.left left f.lower (λ w l. with_k w (in_below f.left (twig (at k b.offset) f.here f.rest) below f.is w (inl l))) z (subst (λ (ts : Twigs). InList z (entries ts)) c.0 j),
-          λ z j. upper_right b.offset (suc (at k b.offset)) k f.rest right f.upper (λ w l. with_k w (in_below f.left (twig (at k b.offset) f.here f.rest) below f.is w (inr (in_rest (at k b.offset) f.here f.rest w l)))) z (subst (λ (ts : Twigs). InList z (entries ts)) rest j),
-        )
+        (subst (Rising 0 (at k b.offset)) (sym c.0) f.lower, subst (Rising (suc (at k b.offset)) 47) (sym rest) f.upper)
 
-    missing : Missing 0 47 (at k b.offset) below → ((z : Entry) → InList z (entries x.left) → Less z.key k) × ((z : Entry) → InList z (entries x.right) → Less k z.key)
+    missing : Missing 0 47 (at k b.offset) below → Rising 0 (at k b.offset) x.left × Rising (suc (at k b.offset)) 47 x.right
     missing m =
         let n = bits (count m.left) m.index in
         let clear : (b.bitmap / 2 ^ at k b.offset) % 2 ≡ 0 = subst (λ (w : ℕ). (w / 2 ^ at k b.offset) % 2 ≡ 0) (sym h.bitmap) m.bit in
         let index = absent (λ e. omega arith) in
-        let left = twigs_left b.offset 0 m.left m.right (subst (AreTwigs b.offset 0) m.is h.tree.5) in
-        let right = twigs_right b.offset 0 (suc (at k b.offset)) 47 m.left m.right (subst (AreTwigs b.offset 0) m.is h.tree.5) m.upper in
-        let lower = lower_left b.offset 0 k m.left left m.lower (λ w l. with_k w (in_below m.left m.right below m.is w (inl l))) in
-        let upper = upper_right b.offset (suc (at k b.offset)) k m.right right m.upper (λ w l. with_k w (in_below m.left m.right below m.is w (inr l))) in
         elim (cases_lt 0 (count m.left)) [
           | inl some ↦ (
-              let c = cut_again x.left m.left m.right x.right x.position x.tree (sym x.is ∙ m.is) (let p = x.place in omega arith) in (
-                λ z j. lower z (subst (λ (ts : Twigs). InList z (entries ts)) (sym c.0) (in_front x.left (twig x.position x.tree none) z j)),
-                λ z j. upper z (subst (λ (ts : Twigs). InList z (entries ts)) c.1 j),
-              )
+              let c = cut_again x.left m.left m.right x.right x.position x.tree (sym x.is ∙ m.is) (let p = x.place in omega arith) in
+              (rising_front 0 (at k b.offset) x.left x.position x.tree (subst (Rising 0 (at k b.offset)) c.0 m.lower), subst (Rising (suc (at k b.offset)) 47) (sym c.1) m.upper)
               )
           | inr nothing ↦ (
-              let c = cut_same x.left m.left (twig x.position x.tree x.right) m.right (sym x.is ∙ m.is) (let p = x.place in omega arith) in (
-                λ z j. lower z (subst (λ (ts : Twigs). InList z (entries ts)) c.0 j),
-                λ z j. upper z (subst (λ (ts : Twigs). InList z (entries ts)) c.1 (in_rest x.position x.tree x.right z j)),
-              )
+              let c = cut_same x.left m.left (twig x.position x.tree x.right) m.right (sym x.is ∙ m.is) (let p = x.place in omega arith) in
+              let r = subst (Rising (suc (at k b.offset)) 47) (sym c.1) m.upper in
+              (subst (Rising 0 (at k b.offset)) (sym c.0) m.lower, rising_from (suc x.position) 47 (suc (at k b.offset)) x.right (let a = r.0 in omega arith) r.2)
               )
         ]
 
@@ -111,8 +112,35 @@ nearest_inside has k b below i h is there absent =
         let c = ap count m.is ∙ count-beside m.left m.right in let two = h.tree.3 in omega arith
 
 -- ---- the sides of a path whose last branch lies before the key's first difference from what is below
-in_parent : (o w : ℕ) (l r : Twigs) (p : ℕ) (t : Tree) (y : Entry) → InList y (entries_of t) → InList y (entries_of (branch o w (beside l (twig p t r))))
+pub in_parent : (o w : ℕ) (l r : Twigs) (p : ℕ) (t : Tree) (y : Entry) → InList y (entries_of t) → InList y (entries_of (branch o w (beside l (twig p t r))))
 in_parent o w l r p t y i = subst (InList y) (sym (entries-beside l (twig p t r))) (in_right y (entries l) (entries_of t ++ entries r) (in_left y (entries_of t) (entries r) i))
+
+-- the twigs behind one
+pub twigs_behind : (o lo : ℕ) (l r : Twigs) (p : ℕ) (t : Tree) → AreTwigs o lo (beside l (twig p t r)) → AreTwigs o (suc p) r
+twigs_behind o lo none r p t a = a.4
+twigs_behind o lo (twig q u rest) r p t a = twigs_behind o (suc q) rest r p t a.4
+
+-- a step before the last one lies before
+pub earlier : (k : List ℕ) (steps : List Step) (whole : Tree) → IsTree 0 whole → (n : ℕ) (t : Tree) (before after : List Entry) (h : HangsBy (Guided k) steps whole (suc n) t before after) (m : ℕ) (step : Step) → suc m ≡ n → slice_get steps m ≡ Some step → step.offset < h.step.offset
+earlier k steps whole shape n t before after h m step e there =
+    let up = shape_above (Guided k) steps whole shape n t before after h in
+    let q : HangsBy (Guided k) steps whole (suc m) (branch h.step.offset h.step.twigs (beside h.on.left (twig h.on.position t h.on.right))) h.on.before_all h.on.after_all = at_depth (Guided k) steps whole n (suc m) (branch h.step.offset h.step.twigs (beside h.on.left (twig h.on.position t h.on.right))) h.on.before_all h.on.after_all (sym e) h.on.parent in
+    let s = ap (λ (z : Step). z.offset) (some_same q.step step (slice_get steps m) q.there there) in
+    let tree = below_step (Guided k) steps whole shape m (branch h.step.offset h.step.twigs (beside h.on.left (twig h.on.position t h.on.right))) h.on.before_all h.on.after_all q in
+    let a = tree.0 in omega arith
+
+-- the key agrees before the branch with all that hangs on it, and the twigs beside the step's are on their sides
+pub with_all : (k : List ℕ) (steps : List Step) (whole : Tree) → IsTree 0 whole → (n : ℕ) (t : Tree) (before after : List Entry) (h : HangsBy (Guided k) steps whole (suc n) t before after) (y : Entry) → InList y (entries_of t) → Same h.step.offset k y.key →
+    AgreesWith h.step.offset k (entries (beside h.on.left (twig h.on.position t h.on.right)))
+with_all k steps whole shape n t before after h y i same =
+    let up = shape_above (Guided k) steps whole shape n t before after h in
+    agrees_with h.step.offset k (entries (beside h.on.left (twig h.on.position t h.on.right))) y up.4 (in_parent h.step.offset h.step.twigs h.on.left h.on.right h.on.position t y i) same
+
+pub in_front : (l s : Twigs) (x : Entry) → InList x (entries l) → InList x (entries (beside l s))
+in_front l s x i = subst (InList x) (sym (entries-beside l s)) (in_left x (entries l) (entries s) i)
+
+in_back : (l r : Twigs) (p : ℕ) (t : Tree) (x : Entry) → InList x (entries r) → InList x (entries (beside l (twig p t r)))
+in_back l r p t x i = subst (InList x) (sym (entries-beside l (twig p t r))) (in_right x (entries l) (entries_of t ++ entries r) (in_right x (entries_of t) (entries r) i))
 
 pub guided_sides : (k : List ℕ) (steps : List Step) (whole : Tree) → IsTree 0 whole → (n : ℕ) (t : Tree) (before after : List Entry) → HangsBy (Guided k) steps whole n t before after → (y : Entry) → InList y (entries_of t) → (place : ℕ) → Same place k y.key →
     ((m : ℕ) (step : Step) → suc m ≡ n → slice_get steps m ≡ Some step → step.offset ≤ place) → ((x : Entry) → InList x before → Less x.key k) × ((x : Entry) → InList x after → Less k x.key)
@@ -121,22 +149,16 @@ guided_sides k steps whole shape (suc n) t before after h y i place same early =
     let o = early n h.step refl h.there in
     let up = shape_above (Guided k) steps whole shape n t before after h in
     let more = guided_sides k steps whole shape n (branch h.step.offset h.step.twigs (beside h.on.left (twig h.on.position t h.on.right))) h.on.before_all h.on.after_all h.on.parent y (in_parent h.step.offset h.step.twigs h.on.left h.on.right h.on.position t y i) place same
-    (λ m step e there. (let d = earlier m step e there in omega arith)) in
-    let here = h.so y i (λ j l. same j (omega arith)) in (
-      λ x j. elim (in_both x h.on.before_all (entries h.on.left) (subst (InList x) h.on.before_is j)) [ inl a ↦ more.0 x a | inr b ↦ here.0 x b ],
-      λ x j. elim (in_both x (entries h.on.right) h.on.after_all (subst (InList x) h.on.after_is j)) [ inl a ↦ here.1 x a | inr b ↦ more.1 x b ],
+    (λ m step e there. (let d = earlier k steps whole shape n t before after h m step e there in omega arith)) in
+    let with_k = with_all k steps whole shape n t before after h y i (λ j l. same j (omega arith)) in
+    let left = lower_left h.step.offset 0 k h.on.left (twigs_left h.step.offset 0 h.on.left (twig h.on.position t h.on.right) up.5) h.so.0 (λ x j. with_k x (in_front h.on.left (twig h.on.position t h.on.right) x j)) in
+    let right = upper_right h.step.offset (suc h.on.position) k h.on.right (twigs_behind h.step.offset 0 h.on.left h.on.right h.on.position t up.5) h.so.1 (λ x j. with_k x (in_back h.on.left h.on.right h.on.position t x j)) in (
+      λ x j. elim (in_both x h.on.before_all (entries h.on.left) (subst (InList x) h.on.before_is j)) [ inl a ↦ more.0 x a | inr b ↦ left x b ],
+      λ x j. elim (in_both x (entries h.on.right) h.on.after_all (subst (InList x) h.on.after_is j)) [ inl a ↦ right x a | inr b ↦ more.1 x b ],
     )
-  where
-    -- the branch above lies before
-    earlier : (m : ℕ) (step : Step) → suc m ≡ n → slice_get steps m ≡ Some step → step.offset < h.step.offset
-    earlier m step e there =
-        let q : HangsBy (Guided k) steps whole (suc m) (branch h.step.offset h.step.twigs (beside h.on.left (twig h.on.position t h.on.right))) h.on.before_all h.on.after_all = at_depth (Guided k) steps whole n (suc m) (branch h.step.offset h.step.twigs (beside h.on.left (twig h.on.position t h.on.right))) h.on.before_all h.on.after_all (sym e) h.on.parent in
-        let s = ap (λ (z : Step). z.offset) (some_same q.step step (slice_get steps m) q.there there) in
-        let tree = below_step (Guided k) steps whole shape m (branch h.step.offset h.step.twigs (beside h.on.left (twig h.on.position t h.on.right))) h.on.before_all h.on.after_all q in
-        let a = tree.0 in omega arith
 
 -- ---- the split of the list
-rises_parts : (xs ys : List Entry) → Rises (xs ++ ys) → ((x y : Entry) → InList x xs → InList y ys → Less x.key y.key) × Rises ys
+pub rises_parts : (xs ys : List Entry) → Rises (xs ++ ys) → ((x y : Entry) → InList x xs → InList y ys → Less x.key y.key) × Rises ys
 rises_parts [] ys r = (λ x y i. absurd i, r)
 rises_parts (z ∷ xs) ys r = let p = rises_parts xs ys r.1 in (λ x y i j. elim i [ inl e ↦ subst (λ (w : Entry). Less w.key y.key) (sym e) (r.0 y (in_right y xs ys j)) | inr l ↦ p.0 x y l j ], p.1)
 

@@ -1,5 +1,5 @@
 -- Where an iterator stands after it turned, went down or passed a name.
-use Rattle.std.proofs.Common.{◌≡◌, ℕ, List, [], ◌∷◌, ◌++◌, Option, Some, append-nil, append_assoc, inl, refl, sym, ◌∙◌, ap, subst}
+use Rattle.std.proofs.Common.{◌≡◌, ℕ, List, [], ◌∷◌, ◌++◌, Option, Some, None, MatchOption, IsSomeAnd, append-nil, append_assoc, inl, refl, sym, ◌∙◌, ap, subst}
 use Rattle.packed_node.specs.declared.Cell.{Cell}
 use Rattle.packed_node.specs.declared.Leaf.{Leaf}
 use Rattle.zone_model.specs.Keys.{Leads}
@@ -13,7 +13,7 @@ use Rattle.trie_read.specs.declared.path.Path.{Path}
 use Rattle.trie_read.specs.declared.iter.Place.{Place}
 use Rattle.trie_read.specs.declared.iter.Place.TheVariants.{Facing, Past}
 use Rattle.trie_read.specs.declared.iter.Iter.{Iter}
-use Rattle.trie_read.specs.Reads.{EachTells}
+use Rattle.trie_read.specs.Reads.{EachTells, IsNamed}
 use Rattle.trie_read.specs.Walks.{HangsBy, AnyStep, LeadsTo, LeadsToFirst, LeadsToLast, OnLeaf, Faces, HasPassed, IsAt, StandsBetween, TurnedNext, TurnedBack}
 use Rattle.trie_read.proofs.PathLaws.{hangs_between, at_depth}
 
@@ -161,3 +161,45 @@ entry_told before after e rest is told = told e (in_right e before after (subst 
 
 pub last_told : (before after : List Entry) (e : Entry) (rest : List Entry) → before ≡ rest ++ (e ∷ []) → EachTells Leads (before ++ after) → Leads e.key e.item
 last_told before after e rest is told = told e (in_left e before after (subst (InList e) (sym is) (in_right e rest (e ∷ []) (inl refl))))
+
+-- ---- a list with something in it
+pub some_none : (l : Leaf) → Some l ≡ None → ⊥
+some_none l e = cc
+
+pub record WithFirst (es : List Entry) : Type 0 where
+  pub entry : Entry
+  pub rest : List Entry
+  pub is : es ≡ entry ∷ rest
+
+pub with_first : (es : List Entry) → (es ≡ [] → ⊥) → WithFirst es
+with_first [] never = absurd (never refl)
+with_first (e ∷ es) never = record { entry = e; rest = es; is = refl }
+
+pub record WithLast (es : List Entry) : Type 0 where
+  pub entry : Entry
+  pub rest : List Entry
+  pub is : es ≡ rest ++ (entry ∷ [])
+
+pub with_last : (es : List Entry) → (es ≡ [] → ⊥) → WithLast es
+with_last [] never = absurd (never refl)
+with_last (e ∷ []) never = record { entry = e; rest = []; is = refl }
+with_last (e ∷ (f ∷ es)) never = let x = with_last (f ∷ es) (some_list f es) in record { entry = x.entry; rest = e ∷ x.rest; is = ap (λ (ys : List Entry). e ∷ ys) x.is }
+  where
+    some_list : (y : Entry) (ys : List Entry) → y ∷ ys ≡ [] → ⊥
+    some_list y ys h = cc
+
+some_list : (e : Entry) (es : List Entry) → e ∷ es ≡ [] → ⊥
+some_list e es h = cc
+
+no_last : (e : Entry) (es : List Entry) → es ++ (e ∷ []) ≡ [] → ⊥
+no_last e [] h = some_list e [] h
+no_last e (x ∷ es) h = some_list x (es ++ (e ∷ [])) h
+
+-- the leaf that it faces, and the one that it has passed, are named
+pub ahead_named : (has : ℕ → Cell → Type 0) (root : Option ℕ) (path : Path) (r : Option Leaf) (before after : List Entry) (e : Entry) → MatchOption r (e ∷ after ≡ []) (λ (l : Leaf). Faces has root path l before (e ∷ after)) → EachTells Leads (before ++ (e ∷ after)) → IsSomeAnd r (λ (l : Leaf). IsNamed has l e)
+ahead_named has root path None before after e none told = absurd (some_list e after none)
+ahead_named has root path (Some l) before after e faces told = ((faced has root path l before after e faces).leaf.leaf_of, told e (in_right e before (e ∷ after) (inl refl)))
+
+pub behind_named : (has : ℕ → Cell → Type 0) (root : Option ℕ) (path : Path) (r : Option Leaf) (before after : List Entry) (e : Entry) → MatchOption r (before ++ (e ∷ []) ≡ []) (λ (l : Leaf). HasPassed has root path l (before ++ (e ∷ [])) after) → EachTells Leads ((before ++ (e ∷ [])) ++ after) → IsSomeAnd r (λ (l : Leaf). IsNamed has l e)
+behind_named has root path None before after e none told = absurd (no_last e before none)
+behind_named has root path (Some l) before after e passed told = ((was_passed has root path l before after e passed).leaf.leaf_of, told e (in_left e (before ++ (e ∷ [])) after (in_right e before (e ∷ []) (inl refl))))

@@ -1,27 +1,27 @@
 -- Paths from the root of a trie down.
-use Rattle.std.proofs.Common.{◌≡◌, ℕ, zero, suc, ◌+◌, ◌-◌, ◌<◌, ◌≤◌, List, ◌++◌, Option, Some, None, slice_get, get_or, count_ones, append-nil, append_assoc, arith, refl, sym, ◌∙◌, ap, subst}
+use Rattle.std.proofs.Common.{◌≡◌, ℕ, zero, suc, ◌+◌, ◌-◌, ◌<◌, ◌≤◌, List, ◌++◌, Some, slice_get, get_or, count_ones, append-nil, append_assoc, arith, refl, sym, ◌∙◌, ap, subst}
 use Rattle.std.proofs.lemmas.Option.{get_or_from_slice_get}
 use Rattle.packed_node.specs.declared.Cell.{Cell}
 use Rattle.packed_node.specs.declared.Leaf.{Leaf}
 use Rattle.packed_node.specs.declared.Branch.{Branch}
 use Rattle.packed_node.specs.declared.Node.{Node}
 use Rattle.packed_node.specs.declared.Node.TheVariants as node
-use Rattle.packed_node.specs.Nodes.{IsNode, packed}
+use Rattle.packed_node.specs.Nodes.{IsNode, SaysNode, packed}
 use Rattle.trie_model.specs.Keys.{Entry}
 use Rattle.trie_model.specs.Trees.{Tree, Twigs, entries_of, entries, count, beside, IsTree, AreTwigs}
 use Rattle.trie_model.specs.Trees.Tree.{leaf, branch}
 use Rattle.trie_model.specs.Trees.Twigs.{none, twig}
-use Rattle.trie_model.specs.Memory.{top_cell, Beneath}
+use Rattle.trie_model.specs.Memory.{node_of, top_cell, Beneath}
 use Rattle.trie_model.proofs.BitmapLaws.{count-beside}
 use Rattle.trie_model.proofs.SplitLaws.{entries-beside, lie_right}
 use Rattle.trie_read.specs.declared.path.Step.{Step}
 use Rattle.trie_read.specs.declared.path.Path.{Path}
 use Rattle.trie_read.specs.Reads.{IsTop}
 use Rattle.trie_read.specs.Finds.{IsBranchOf}
-use Rattle.trie_read.specs.Walks.{step_of, HangsOn, HangsBy, AnyStep, LeadsTo, LeadsToLeaf, LeadsToFirst, LeadsToLast}
-use Rattle.trie_read.proofs.UnpackLaws.{never_none, branch_told}
-use Rattle.trie_read.proofs.TwigLaws.{down, Ith, twigs_counted}
-use Rattle.trie_read.proofs.LastLaws.{LeafTold, leaf_told}
+use Rattle.trie_read.specs.Walks.{step_of, HangsOn, HangsBy, AnyStep, LeadsTo, LeadsToCell, LeadsToLeaf, LeadsToFirst, LeadsToLast}
+use Rattle.trie_read.proofs.NodeLaws.{branch_told, LeafTold, leaf_told}
+use Rattle.trie_model.proofs.NodeLaws.{says_node, node_read}
+use Rattle.trie_read.proofs.TwigLaws.{loosen, Ith, twigs_counted}
 
 -- ---- what hangs on a path
 abbrev hook_kept : (step : Step) (above other : Tree → List Entry → List Entry → Type 0) → ((t : Tree) (b a : List Entry) → above t b a → other t b a) → (t : Tree) (before after : List Entry) (h : HangsOn step above t before after) → HangsOn step other t before after
@@ -183,22 +183,26 @@ pub record AtBranch (said : Step → Twigs → Tree → Twigs → Type 0) (has :
   pub counted : count_ones b.bitmap ≡ count below
   pub two : 2 ≤ count below
 
-pub at_branch : (said : Step → Twigs → Tree → Twigs → Type 0) (has : ℕ → Cell → Type 0) (path : Path) (whole t : Tree) (before after : List Entry) (cell : Cell) (b : Branch) → LeadsTo said has path whole t before after → cell ≡ top_cell t →
-    (r : Option Node) → ((n : Node) → IsNode n → packed n ≡ cell → r ≡ Some n) → (n : Node) → r ≡ Some n → n ≡ node.Branch b → AtBranch said has path whole t before after b
-at_branch said has path whole t before after cell b leads is r back n e0 e1 =
-    let top = top_of said has path whole t before after cell leads is in
-    let x = branch_told has path.depth cell t r b (record { top = top; back = back }) n e0 e1 in
-    let d = down has path.depth cell t b top x in
-    let deep = subst (IsTree path.depth) d.is top.tree in
-    record { below = d.below; of = d.of; all = d.all; leads = leads_as said has path whole t (branch b.offset b.twigs d.below) before after d.is leads; room = (let a = deep.0 in let e = deep.1 in omega arith); counted = twigs_counted has b d.below d.of; two = d.of.tree.3 }
+pub at_branch : (said : Step → Twigs → Tree → Twigs → Type 0) (has : ℕ → Cell → Type 0) (path : Path) (whole t : Tree) (before after : List Entry) (b : Branch) → LeadsTo said has path whole t before after → node_of t ≡ node.Branch b → AtBranch said has path whole t before after b
+at_branch said has path whole t before after b leads is =
+    let x = branch_told t b is in
+    let h = hanging said has path.steps whole leads.shape leads.beneath path.depth t before after leads.hangs in
+    let deep = subst (IsTree path.depth) x.is h.tree in
+    let of : IsBranchOf has b x.below = record { tree = loosen path.depth (branch b.offset b.twigs x.below) deep; lies = subst (Beneath has) x.is h.beneath; bitmap = x.bitmap } in
+    record { below = x.below; of = of; all = ap entries_of x.is; leads = leads_as said has path whole t (branch b.offset b.twigs x.below) before after x.is leads; room = (let a = deep.0 in let e = deep.1 in omega arith); counted = twigs_counted has b x.below of; two = of.tree.3 }
 
-pub at_leaf : (said : Step → Twigs → Tree → Twigs → Type 0) (has : ℕ → Cell → Type 0) (path : Path) (whole t : Tree) (before after : List Entry) (cell : Cell) (l : Leaf) → LeadsTo said has path whole t before after → cell ≡ top_cell t →
-    (r : Option Node) → ((n : Node) → IsNode n → packed n ≡ cell → r ≡ Some n) → (n : Node) → r ≡ Some n → n ≡ node.Leaf l → LeafTold has t l
-at_leaf said has path whole t before after cell l leads is r back n e0 e1 = leaf_told has path.depth cell t r l (record { top = top_of said has path whole t before after cell leads is; back = back }) n e0 e1
+pub at_leaf : (said : Step → Twigs → Tree → Twigs → Type 0) (has : ℕ → Cell → Type 0) (path : Path) (whole t : Tree) (before after : List Entry) (l : Leaf) → LeadsTo said has path whole t before after → node_of t ≡ node.Leaf l → LeafTold has t l
+at_leaf said has path whole t before after l leads is =
+    let h = hanging said has path.steps whole leads.shape leads.beneath path.depth t before after leads.hangs in
+    leaf_told has path.depth t l h.tree h.beneath is
 
-pub not_none : (said : Step → Twigs → Tree → Twigs → Type 0) (has : ℕ → Cell → Type 0) (path : Path) (whole t : Tree) (before after : List Entry) (cell : Cell) → LeadsTo said has path whole t before after → cell ≡ top_cell t →
-    (r : Option Node) → ((n : Node) → IsNode n → packed n ≡ cell → r ≡ Some n) → r ≡ None → ⊥
-not_none said has path whole t before after cell leads is r back e = never_none has path.depth cell t r (record { top = top_of said has path whole t before after cell leads is; back = back }) e
+-- the node that a path leads to, as it was read
+pub node_there : (said : Step → Twigs → Tree → Twigs → Type 0) (has : ℕ → Cell → Type 0) (path : Path) (whole t : Tree) (before after : List Entry) (cell : Cell) (r : Node) → LeadsTo said has path whole t before after → cell ≡ top_cell t → ((n : Node) → IsNode n → packed n ≡ cell → r ≡ n) → r ≡ node_of t
+node_there said has path whole t before after cell r leads is back =
+    node_read path.depth t cell r (hanging said has path.steps whole leads.shape leads.beneath path.depth t before after leads.hangs).tree is back
+
+pub says_there : (said : Step → Twigs → Tree → Twigs → Type 0) (has : ℕ → Cell → Type 0) (path : Path) (cell : Cell) → LeadsToCell said has path cell → SaysNode cell
+says_there said has path cell l = says_node path.depth l.tree cell (hanging said has path.steps l.whole l.leads.shape l.leads.beneath path.depth l.tree l.before l.after l.leads.hangs).tree l.is
 
 -- ---- the shape alone
 pub shape_at : (said : Step → Twigs → Tree → Twigs → Type 0) (steps : List Step) (whole : Tree) → IsTree 0 whole → (n : ℕ) (t : Tree) (before after : List Entry) → HangsBy said steps whole n t before after → IsTree n t
@@ -221,21 +225,45 @@ pub below_step : (said : Step → Twigs → Tree → Twigs → Type 0) (steps : 
 below_step said steps whole shape n t before after h = twig_tree h.step.offset 0 h.on.left h.on.right h.on.position t (shape_above said steps whole shape n t before after h).5
 
 -- where the last step leads
-pub node_above : (said : Step → Twigs → Tree → Twigs → Type 0) (has : ℕ → Cell → Type 0) (path : Path) (whole t : Tree) (before after : List Entry) (d : Step) → 0 < path.depth → LeadsTo said has path whole t before after →
-    has ((get_or path.steps (path.depth - 1) d).twigs + (get_or path.steps (path.depth - 1) d).index) (top_cell t)
-node_above said has path whole t before after d some l =
-    let n : path.depth ≡ suc (path.depth - 1) = omega arith in
-    let h = at_depth said path.steps whole path.depth (suc (path.depth - 1)) t before after n l.hangs in
-    let up = above said has path.steps whole l.shape l.beneath (path.depth - 1) t before after h in
-    subst (λ (s : Step). has (s.twigs + s.index) (top_cell t)) (sym (get_or_from_slice_get path.steps (path.depth - 1) h.step d h.there)) up.there
+pub node_above : (said : Step → Twigs → Tree → Twigs → Type 0) (has : ℕ → Cell → Type 0) (steps : List Step) (whole t : Tree) (n : ℕ) (before after : List Entry) (d : Step) → 0 < n → IsTree 0 whole → Beneath has whole → HangsBy said steps whole n t before after →
+    has ((get_or steps (n - 1) d).twigs + (get_or steps (n - 1) d).index) (top_cell t)
+node_above said has steps whole t n before after d some shape beneath hangs =
+    let e : n ≡ suc (n - 1) = omega arith in
+    let h = at_depth said steps whole n (suc (n - 1)) t before after e hangs in
+    let up = above said has steps whole shape beneath (n - 1) t before after h in
+    subst (λ (s : Step). has (s.twigs + s.index) (top_cell t)) (sym (get_or_from_slice_get steps (n - 1) h.step d h.there)) up.there
 
-pub step_fits : (said : Step → Twigs → Tree → Twigs → Type 0) (has : ℕ → Cell → Type 0) (path : Path) (whole t : Tree) (before after : List Entry) (d : Step) → 0 < path.depth → LeadsTo said has path whole t before after →
-    (get_or path.steps (path.depth - 1) d).twigs + (get_or path.steps (path.depth - 1) d).index ≤ 4194304
-step_fits said has path whole t before after d some l =
-    let n : path.depth ≡ suc (path.depth - 1) = omega arith in
-    let h = at_depth said path.steps whole path.depth (suc (path.depth - 1)) t before after n l.hangs in
-    let up = shape_above said path.steps whole l.shape (path.depth - 1) t before after h in
+pub step_fits : (said : Step → Twigs → Tree → Twigs → Type 0) (steps : List Step) (whole t : Tree) (n : ℕ) (before after : List Entry) (d : Step) → 0 < n → IsTree 0 whole → HangsBy said steps whole n t before after → (get_or steps (n - 1) d).twigs + (get_or steps (n - 1) d).index ≤ 4194304
+step_fits said steps whole t n before after d some shape hangs =
+    let e : n ≡ suc (n - 1) = omega arith in
+    let h = at_depth said steps whole n (suc (n - 1)) t before after e hangs in
+    let up = shape_above said steps whole shape (n - 1) t before after h in
     let row = up.2.inside in
     let c = count-beside h.on.left (twig h.on.position t h.on.right) in
     let i = h.on.index in
-    subst (λ (s : Step). s.twigs + s.index ≤ 4194304) (sym (get_or_from_slice_get path.steps (path.depth - 1) h.step d h.there)) (omega arith)
+    subst (λ (s : Step). s.twigs + s.index ≤ 4194304) (sym (get_or_from_slice_get steps (n - 1) h.step d h.there)) (omega arith)
+
+-- the node that a way down has come to
+pub record ComesTo (said : Step → Twigs → Tree → Twigs → Type 0) (has : ℕ → Cell → Type 0) (path : Path) (whole : Tree) (n : Node) : Type 0 where
+  pub tree : Tree
+  pub before : List Entry
+  pub after : List Entry
+  pub leads : LeadsTo said has path whole tree before after
+  pub is : n ≡ node_of tree
+
+pub came_to_branch : (said : Step → Twigs → Tree → Twigs → Type 0) (has : ℕ → Cell → Type 0) (path : Path) (whole : Tree) (n : Node) (b : Branch) (h : ComesTo said has path whole n) → n ≡ node.Branch b → AtBranch said has path whole h.tree h.before h.after b
+came_to_branch said has path whole n b h is = at_branch said has path whole h.tree h.before h.after b h.leads (sym h.is ∙ is)
+
+pub came_to_leaf : (said : Step → Twigs → Tree → Twigs → Type 0) (has : ℕ → Cell → Type 0) (path : Path) (whole : Tree) (n : Node) (l : Leaf) (h : ComesTo said has path whole n) → n ≡ node.Leaf l → LeafTold has h.tree l
+came_to_leaf said has path whole n l h is = at_leaf said has path whole h.tree h.before h.after l h.leads (sym h.is ∙ is)
+
+pub comes_further : (said : Step → Twigs → Tree → Twigs → Type 0) (has : ℕ → Cell → Type 0) (path new : Path) (whole : Tree) (n m : Node) (b : Branch) (h : ComesTo said has path whole n) (a : AtBranch said has path whole h.tree h.before h.after b) (i : ℕ) (x : Ith has b.offset b.twigs i a.below) (c : Cell) →
+    new.depth ≡ path.depth + 1 → slice_get new.steps path.depth ≡ Some (step_of b i) → ((j : ℕ) → j < path.depth → slice_get new.steps j ≡ slice_get path.steps j) → said (step_of b i) x.left x.tree x.right →
+    ((d : Cell) → has (b.twigs + i) d → c ≡ d) → ((y : Node) → IsNode y → packed y ≡ c → m ≡ y) → ComesTo said has new whole m
+comes_further said has path new whole n m b h a i x c depth step kept so read back = record {
+  tree = x.tree;
+  before = h.before ++ entries x.left;
+  after = entries x.right ++ h.after;
+  leads = stepped said has path new whole b a.below h.before h.after i x a.leads a.counted depth step kept so;
+  is = node_read (b.offset + 1) x.tree c m x.deeper (read (top_cell x.tree) x.there) back;
+}

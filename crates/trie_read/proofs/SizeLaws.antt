@@ -10,7 +10,7 @@ use Rattle.trie_model.specs.Shape.{nodes_of, nodes_in}
 use Rattle.trie_model.proofs.BitmapLaws.{ones_of}
 use Rattle.trie_model.proofs.SplitLaws.{rising_of}
 use Rattle.trie_read.specs.Reads.{IsTop}
-use Rattle.trie_read.proofs.UnpackLaws.{BranchTold}
+use Rattle.trie_read.proofs.NodeLaws.{BranchTold}
 
 -- the twigs from the i-th on
 abbrev pub from : ℕ → Twigs → Twigs

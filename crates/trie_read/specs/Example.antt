@@ -1,5 +1,5 @@
 -- Names of one letter, with nothing but the name in their items: entries for a test.
-use Rattle.std.specs.Prelude.{◌≡◌, ℕ, ◌+◌, List, [], ◌∷◌, slice_index}
+use Rattle.std.specs.Prelude.{ℕ, List, [], ◌∷◌}
 use Rattle.trie_model.specs.Keys.{Entry}
 
 -- the letter's position, and the end of the label
@@ -12,10 +12,3 @@ item_of_letter letter = 1 ∷ (letter ∷ (0 ∷ []))
 -- a. and b.
 abbrev pub two_names : List Entry
 two_names = record { key = key_of_letter 17; item = item_of_letter 97 } ∷ (record { key = key_of_letter 18; item = item_of_letter 98 } ∷ [])
-
--- the item begins with a label of one letter, whose position is 80 less than its octet
-pub record TellsLetter (key item : List ℕ) : Type 0 where
-  pub label : slice_index item 0 ≡ 1
-  pub position : ℕ
-  pub letter : slice_index item 1 ≡ position + 80
-  pub key_is : key ≡ key_of_letter position

@@ -1,6 +1,6 @@
 pub mod Reads
 pub mod Finds
+pub mod Above
 pub mod Walks
 pub mod Readings
 pub mod Example
-pub mod ExampleLaws

@@ -2,6 +2,7 @@
 use Rattle.std.specs.Prelude.{◌≡◌, ℕ, List, length, Option, Some, None}
 use Rattle.packed_node.specs.declared.Cell.{Cell}
 use Rattle.packed_node.specs.declared.Leaf.{Leaf}
+use Rattle.zone_model.specs.Keys.{Leads}
 use Rattle.trie_model.specs.Keys.{Entry, IsEntry, InList}
 use Rattle.trie_model.specs.Trees.{Tree, IsTree, IsRow, cells_in}
 use Rattle.trie_model.specs.Memory.{Beneath, top_cell, ItemLies}
@@ -19,6 +20,10 @@ pub record IsLeafOf (has : ℕ → Cell → Type 0) (e : Entry) (l : Leaf) : Typ
   pub row : IsRow l.at (cells_in e.item)
   pub lies : ItemLies has l.at e.item
 
+-- and the item says the entry's key
+abbrev pub IsNamed : (ℕ → Cell → Type 0) → Leaf → Entry → Type 0
+IsNamed has l e = IsLeafOf has e l × Leads e.key e.item
+
 -- each item says its entry's key
 abbrev pub EachTells : (List ℕ → List ℕ → Type 0) → List Entry → Type 0
 EachTells tells es = (e : Entry) → InList e es → tells e.key e.item
@@ -27,3 +32,13 @@ EachTells tells es = (e : Entry) → InList e es → tells e.key e.item
 abbrev pub Gives : (ℕ → Cell → Type 0) → List ℕ → List Entry → Option Leaf → Type 0
 Gives has key es None = (e : Entry) → InList e es → e.key ≡ key → ⊥
 Gives has key es (Some l) = (e : Entry) × InList e es × (e.key ≡ key) × IsLeafOf has e l
+
+-- the leaf that a key leads to: no other entry can have the key
+abbrev pub LeadsKey : (ℕ → Cell → Type 0) → List ℕ → List Entry → Option Leaf → Type 0
+LeadsKey has key es None = (e : Entry) → InList e es → e.key ≡ key → ⊥
+LeadsKey has key es (Some l) = (e : Entry) × InList e es × IsLeafOf has e l × ((x : Entry) → InList x es → x.key ≡ key → x ≡ e)
+
+-- the leaf of the key's entry, exactly where there is one
+abbrev pub FindsLeaf : (Leaf → Entry → Type 0) → List ℕ → List Entry → Option Leaf → Type 0
+FindsLeaf lies key es None = (e : Entry) → InList e es → e.key ≡ key → ⊥
+FindsLeaf lies key es (Some l) = (e : Entry) × InList e es × (e.key ≡ key) × lies l e

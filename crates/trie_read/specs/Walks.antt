@@ -1,11 +1,13 @@
 -- Where an iterator stands: between two entries of a version, at the end of a path of steps from the root down.
-use Rattle.std.specs.Prelude.{◌≡◌, ℕ, zero, suc, ◌+◌, ◌≤◌, List, [], ◌∷◌, ◌++◌, Bool, true, false, Option, Some, slice_get, count_ones}
+use Rattle.std.specs.Prelude.{◌≡◌, ℕ, zero, suc, ◌+◌, ◌≤◌, List, [], ◌∷◌, ◌++◌, Bool, true, false, Option, Some, None, slice_get, count_ones}
 use Rattle.packed_node.specs.declared.Cell.{Cell}
 use Rattle.packed_node.specs.declared.Leaf.{Leaf}
 use Rattle.packed_node.specs.declared.Branch.{Branch}
-use Rattle.zone_model.specs.Keys.{Leads}
-use Rattle.trie_model.specs.Keys.{Same, Entry, InList, Less}
-use Rattle.trie_model.specs.Trees.{Tree, Twigs, entries_of, entries, count, beside, IsTree}
+use Rattle.zone_model.specs.Keys.{Leads, IsKey}
+use Rattle.shift_key.specs.declared.difference.Difference.{Difference}
+use Rattle.shift_key.specs.Differences.{IsDifference}
+use Rattle.trie_model.specs.Keys.{at, Same, Entry, InList}
+use Rattle.trie_model.specs.Trees.{Rising, Tree, Twigs, entries_of, entries, count, beside, IsTree}
 use Rattle.trie_model.specs.Trees.Tree.{leaf, branch}
 use Rattle.trie_model.specs.Trees.Twigs.{twig}
 use Rattle.trie_model.specs.Memory.{top_cell, Beneath, IsTrieAt, Stands}
@@ -15,6 +17,7 @@ use Rattle.trie_read.specs.declared.path.Path.{Path}
 use Rattle.trie_read.specs.declared.iter.Place.{Place}
 use Rattle.trie_read.specs.declared.iter.Place.TheVariants.{Start, Facing, Past}
 use Rattle.trie_read.specs.declared.iter.Iter.{Iter}
+use Rattle.trie_read.specs.declared.iter.Met.{Met}
 
 -- a step takes the twig with this index of a branch
 abbrev pub step_of : Branch → ℕ → Step
@@ -48,10 +51,9 @@ HangsBy said steps whole (suc n) t before after = HangsAt said steps n (HangsBy 
 abbrev pub AnyStep : Step → Twigs → Tree → Twigs → Type 0
 AnyStep step left t right = Unit {0}
 
--- the entries on each side of the step are on their sides of the key, where the key agrees so far with the tree's
+-- the twigs on each side of the step are on their sides of the key's position at the branch
 abbrev pub Guided : List ℕ → Step → Twigs → Tree → Twigs → Type 0
-Guided key step left t right =
-    (y : Entry) → InList y (entries_of t) → Same step.offset key y.key → ((x : Entry) → InList x (entries left) → Less x.key key) × ((x : Entry) → InList x (entries right) → Less key x.key)
+Guided key step left t right = Rising 0 (at key step.offset) left × Rising (suc (at key step.offset)) 47 right
 
 -- a path leads to the tree, in a trie that lies in the memory
 pub record LeadsTo (said : Step → Twigs → Tree → Twigs → Type 0) (has : ℕ → Cell → Type 0) (path : Path) (whole t : Tree) (before after : List Entry) : Type 0 where
@@ -68,14 +70,20 @@ pub record LeadsToCell (said : Step → Twigs → Tree → Twigs → Type 0) (ha
   pub leads : LeadsTo said has path whole tree before after
   pub is : cell ≡ top_cell tree
 
--- a path leads to some tree from this root
-pub record LeadsFrom (has : ℕ → Cell → Type 0) (path : Path) (root : ℕ) : Type 0 where
+-- the tree hangs in the whole one, which lies in the memory from the root on, at the end of the first steps of a path
+pub record HangsAtLevel (said : Step → Twigs → Tree → Twigs → Type 0) (has : ℕ → Cell → Type 0) (path : Path) (root level : ℕ) (whole t : Tree) (before after : List Entry) : Type 0 where
+  pub top : has root (top_cell whole)
+  pub shape : IsTree 0 whole
+  pub beneath : Beneath has whole
+  pub hangs : HangsBy said path.steps whole level t before after
+
+-- some tree does
+pub record HasNode (has : ℕ → Cell → Type 0) (path : Path) (root level : ℕ) : Type 0 where
   pub whole : Tree
   pub tree : Tree
   pub before : List Entry
   pub after : List Entry
-  pub top : has root (top_cell whole)
-  pub leads : LeadsTo AnyStep has path whole tree before after
+  pub at : HangsAtLevel AnyStep has path root level whole tree before after
 
 -- a path leads to an entry's leaf
 pub record LeadsToLeaf (said : Step → Twigs → Tree → Twigs → Type 0) (has : ℕ → Cell → Type 0) (path : Path) (whole : Tree) (e : Entry) (l : Leaf) (before after : List Entry) : Type 0 where
@@ -186,3 +194,20 @@ pub record IsStart (root : Option ℕ) (iter : Iter) : Type 0 where
   pub root_is : iter.root ≡ root
   pub place : iter.place ≡ Start
   pub depth : iter.path.depth ≡ 0
+
+-- the path leads to the leaf that was met, if it has the key; else to a tree that reads as its entry does up to the first difference
+abbrev pub LeadsToMet : (ℕ → Cell → Type 0) → List ℕ → Path → Tree → Entry → Leaf → Option Difference → Type 0
+LeadsToMet has key path whole e l None = (before : List Entry) × ((after : List Entry) × HangsBy (Guided key) path.steps whole path.depth (leaf e l.at) before after)
+LeadsToMet has key path whole e l (Some d) = CutAt key path whole e d.place
+
+-- what was met by a key's way
+pub record Meets (has : ℕ → Cell → Type 0) (key : List ℕ) (root : ℕ) (path : Path) (met : Met) (version : List Entry) : Type 0 where
+  pub whole : Tree
+  pub trie : IsTrieAt has root whole version
+  pub told : EachTells Leads version
+  pub is_key : IsKey key
+  pub entry : Entry
+  pub there : InList entry version
+  pub leaf_of : IsLeafOf has entry met.leaf
+  pub differs : IsDifference key entry.key met.difference
+  pub leads : LeadsToMet has key path whole entry met.leaf met.difference

@@ -1,15 +1,17 @@
-//! A key's neighbours: the names at or above its name, and the last name that isn't after it.
+//! What there is of a name, of the names above it, and the last name that isn't after it.
 
-ghost use Rattle.std.specs.Prelude.{◌≡◌, ◌↔◌, IsTrue, ◌+◌, ◌<◌, ◌≤◌, ◌++◌, ◌∷◌, [], ℕ, List, length, take, reverse};
+ghost use Rattle.std.specs.Prelude.{◌≡◌, ◌≤◌, List, Bool, is_some, map, take};
 ghost use Rattle.zone_model.specs.Keys.{Leads};
 ghost use Rattle.trie_model.specs.Keys.{Entry};
 ghost use Rattle.trie_model.specs.Memory.{Stands};
 ghost use Rattle.trie_model.specs.Order.{IsPredecessor, chain_labels};
 ghost use Rattle.trie_read.specs.Reads.{EachTells};
-ghost use Rattle.trie_read.specs.Finds.{IsKind, kind_of, kind_above, IsBelow, IsKeyOfLast};
+ghost use Rattle.trie_read.specs.Finds.{IsKind, kind_of};
+ghost use Rattle.trie_read.specs.declared.ancestors.Ancestor.{Ancestor};
 
-use super::near::Near;
-use super::way::{Ended, LastUpTo, Trail, descend, last_key};
+use super::ancestors::Ancestors;
+use super::iter::Iter;
+use super::leaf::key_at;
 use chunk_cells::CellRead;
 use packed_node::Ref;
 use shift_key::Key;
@@ -26,20 +28,13 @@ pub enum Kind {
 }
 
 impl Kind {
-    /// By how the key that was met compares, and whether no name is above.
-    fn of(near: Near, alone: bool) -> Kind
-        ensures { result ≡ kind_of near alone }
+    /// By whether the name is there, and whether no name is at or above it.
+    fn of(there: bool, alone: bool) -> Kind
+        ensures { result ≡ kind_of there alone }
     {
-        match near {
-            Near::Equal => Kind::Exact,
-            Near::Before(_) => Kind::of_absent(alone),
-            Near::After(_) => Kind::of_absent(alone),
+        if there {
+            return Kind::Exact;
         }
-    }
-
-    fn of_absent(alone: bool) -> Kind
-        ensures { result ≡ kind_above alone }
-    {
         if alone { Kind::Absent } else { Kind::Partial }
     }
 }
@@ -54,42 +49,22 @@ pub struct Chain {
 }
 
 impl Chain {
-    fn new() -> Chain
-        ensures { take result.len result.labels ≡ [] }
+    /// How many labels these names have.
+    fn of(above: &Ancestors) -> Chain
+        ensures { take result.len result.labels ≡ map (λ (a : Ancestor). a.labels) above.now }
     {
-        Chain {
-            len: 0,
-            labels: [0; 128],
+        let names = above.as_slice();
+        let mut labels = [0; 128];
+        for i in 0..names.len() {
+            labels[i] = names[i].labels;
         }
-    }
-
-    /// Whether there is none.
-    pub fn is_empty(&self) -> bool
-        ensures { IsTrue result ↔ (take self.now.len self.now.labels ≡ []) }
-    {
-        self.len == 0
-    }
-
-    /// Puts one more at the end.
-    pub fn push(&mut self, labels: u8)
-        requires { length (take self.old.len self.old.labels) < 128 }
-        ensures { take self.new.len self.new.labels ≡ take self.old.len self.old.labels ++ labels ∷ [] }
-    {
-        self.labels[self.len as usize] = labels;
-        self.len += 1;
-    }
-
-    fn reverse(&mut self)
-        ensures { take self.new.len self.new.labels ≡ reverse (take self.old.len self.old.labels) }
-    {
-        let mut labels = self.labels;
-        labels[..self.len as usize].reverse();
-        self.labels = labels;
+        let len = names.len() as u8;
+        Chain { len, labels }
     }
 }
 
 /// What `find` tells of a key.
-#[derive(Clone, Copy)]
+#[derive(Drop)]
 pub struct Found {
     pub kind: Kind,
     pub chain: Chain,
@@ -108,42 +83,17 @@ pub fn find<C: CellRead>(cells: &mut C, root: Option<Ref>, key: &Key) -> Found
     ensures pred { (version : List Entry) → Stands (C.has cells.old) root version → EachTells Leads version
         → IsPredecessor key.now version result.pred }
 {
-    let mut trail = Trail {
-        met: *key,
-        chain: Chain::new(),
+    let mut place = Iter::start(root);
+    let mut above = Ancestors::new();
+    let leaf = place.lookup(cells, key, &mut above);
+    let alone = above.as_slice().is_empty();
+    let pred = match leaf {
+        Some(leaf) => Some(key_at(cells, leaf)),
+        None => place.prev(cells),
     };
-    match root {
-        None => Found {
-            kind: Kind::Absent,
-            chain: trail.chain,
-            pred: None,
-        },
-        Some(at) => {
-            let node = cells.cell(at);
-            let start = Ended {
-                place: 0,
-                labels: 0,
-            };
-            let way = descend(cells, node, 0, start, key, &mut trail);
-            trail.chain.reverse();
-            Found {
-                kind: Kind::of(way.near, trail.chain.is_empty()),
-                chain: trail.chain,
-                pred: key_of_last(cells, way.last, &trail.met),
-            }
-        }
-    }
-}
-
-/// The key of the last leaf up to the key that was searched for.
-fn key_of_last<C: CellRead>(cells: &mut C, last: LastUpTo, met: &Key) -> Option<Key>
-    requires { IsBelow (C.has cells.old) last }
-    ensures same { cells.new ≡ cells.old }
-    ensures key { IsKeyOfLast (C.has cells.old) met.now last result }
-{
-    match last {
-        LastUpTo::Nothing => None,
-        LastUpTo::Met => Some(*met),
-        LastUpTo::Below(node) => Some(last_key(cells, node)),
+    Found {
+        kind: Kind::of(leaf.is_some(), alone),
+        chain: Chain::of(&above),
+        pred,
     }
 }

@@ -1,20 +1,24 @@
 //! Walks through the names of a trie, in order.
 
-ghost use Rattle.std.specs.Prelude.{◌≡◌, ◌++◌, ◌∷◌, [], ℕ, List, Option, Some, None, MatchOption};
-ghost use Rattle.zone_model.specs.Keys.{Leads};
+ghost use Rattle.std.specs.Prelude.{◌≡◌, ◌<◌, ◌++◌, ◌∷◌, [], ℕ, List, Option, Some, None, MatchOption, IsSomeAnd, length};
 ghost use Rattle.trie_model.specs.Keys.{Entry};
+ghost use Rattle.trie_model.specs.Order.{chain};
 ghost use Rattle.trie_model.specs.Trees.{Tree, entries_of};
 ghost use Rattle.trie_model.specs.Memory.{IsTrieAt};
-ghost use Rattle.trie_read.specs.Reads.{EachTells};
+ghost use Rattle.trie_read.specs.Reads.{IsNamed, FindsLeaf};
+ghost use Rattle.trie_read.specs.Above.{AreAncestors, IsAtOrAbove, labels_of_met};
+ghost use Rattle.trie_read.specs.declared.ancestors.Ancestor.{Ancestor};
 ghost use Rattle.trie_read.specs.declared.iter.Place.TheVariants.{Facing, Past};
 ghost use Rattle.trie_read.specs.Readings.{AtSplit};
-ghost use Rattle.trie_read.specs.Walks.{AnyStep, LeadsTo, LeadsFrom, IsStart, StandsBetween, StandsSomewhere, Faces, HasPassed};
+ghost use Rattle.trie_read.specs.Walks.{AnyStep, LeadsTo, HasNode, Meets, IsStart, StandsBetween, StandsSomewhere, Faces, HasPassed};
 
-use super::near::{Near, name_at};
+use super::ancestors::{Ancestor, Ancestors};
+use super::labels::{ends_at, labels_to};
+use super::leaf::{difference_at, key_at};
 use super::path::Path;
 use chunk_cells::CellRead;
 use packed_node::{Leaf, Ref};
-use shift_key::Key;
+use shift_key::{Difference, Key};
 
 /// Where an iterator stands.
 #[derive(Clone, Copy)]
@@ -60,17 +64,31 @@ impl Iter {
         ensures stays { (root : Option ℕ) (before : List Entry) → StandsBetween (C.has cells.old) root self.old before []
             → StandsBetween (C.has cells.old) root self.new before [] }
     {
-        match self.face_next(cells) {
+        match self.next_leaf(cells) {
             None => None,
-            Some(leaf) => {
-                self.place = Place::Past(leaf);
-                Some(Key::of(&name_at(cells, leaf)))
-            }
+            Some(leaf) => Some(key_at(cells, leaf)),
         }
     }
 
-    /// Finds the leaf of the next name, and stands right before it, where it stood already. `None` at the end.
-    fn face_next<C: CellRead>(&mut self, cells: &mut C) -> Option<Leaf>
+    /// The leaf of the next name; the place is then after it. `None` exactly at the end, and the place stays.
+    pub fn next_leaf<C: CellRead>(&mut self, cells: &mut C) -> Option<Leaf>
+        requires { StandsSomewhere (C.has cells.old) self.old }
+        ensures same { cells.new ≡ cells.old }
+        ensures next { (root : Option ℕ) (before after : List Entry) (e : Entry) → StandsBetween (C.has cells.old) root self.old before (e ∷ after)
+            → IsSomeAnd result (λ leaf. IsNamed (C.has cells.old) leaf e) }
+        ensures passed { (root : Option ℕ) (before after : List Entry) (e : Entry) → StandsBetween (C.has cells.old) root self.old before (e ∷ after)
+            → StandsBetween (C.has cells.old) root self.new (before ++ e ∷ []) after }
+        ensures end { (root : Option ℕ) (before : List Entry) → StandsBetween (C.has cells.old) root self.old before [] → result ≡ None }
+        ensures stays { (root : Option ℕ) (before : List Entry) → StandsBetween (C.has cells.old) root self.old before []
+            → StandsBetween (C.has cells.old) root self.new before [] }
+    {
+        let leaf = self.ahead(cells)?;
+        self.place = Place::Past(leaf);
+        Some(leaf)
+    }
+
+    /// The leaf of the next name. The place stays: right before it. `None` exactly at the end.
+    pub fn ahead<C: CellRead>(&mut self, cells: &mut C) -> Option<Leaf>
         requires { StandsSomewhere (C.has cells.old) self.old }
         ensures same { cells.new ≡ cells.old }
         ensures stays { (root : Option ℕ) (before after : List Entry) → StandsBetween (C.has cells.old) root self.old before after
@@ -96,7 +114,7 @@ impl Iter {
 
     /// Stands right before the first leaf below the node that the path leads to.
     fn face_first<C: CellRead>(&mut self, cells: &mut C, root: Ref) -> Leaf
-        requires { LeadsFrom (C.has cells.old) self.old.path root }
+        requires { HasNode (C.has cells.old) self.old.path root self.old.path.depth }
         ensures same { cells.new ≡ cells.old }
         ensures root { self.new.root ≡ self.old.root }
         ensures place { self.new.place ≡ Facing result }
@@ -104,8 +122,8 @@ impl Iter {
             → LeadsTo AnyStep (C.has cells.old) self.old.path whole t before after
             → Faces (C.has cells.old) (Some root) self.new.path result before (entries_of t ++ after) }
     {
-        let node = self.path.node(cells, root);
-        let leaf = self.path.enter_first(cells, node);
+        let cell = self.path.node(cells, root, self.path.depth);
+        let leaf = self.path.enter_first(cells, cell);
         self.place = Place::Facing(leaf);
         leaf
     }
@@ -122,17 +140,31 @@ impl Iter {
         ensures stays { (root : Option ℕ) (after : List Entry) → StandsBetween (C.has cells.old) root self.old [] after
             → StandsBetween (C.has cells.old) root self.new [] after }
     {
-        match self.pass_previous(cells) {
+        match self.prev_leaf(cells) {
             None => None,
-            Some(leaf) => {
-                self.place = Place::Facing(leaf);
-                Some(Key::of(&name_at(cells, leaf)))
-            }
+            Some(leaf) => Some(key_at(cells, leaf)),
         }
     }
 
-    /// Finds the leaf of the previous name, and stands right after it, where it stood already. `None` at the beginning.
-    fn pass_previous<C: CellRead>(&mut self, cells: &mut C) -> Option<Leaf>
+    /// The leaf of the previous name; the place is then before it. `None` exactly at the beginning, and the place stays.
+    pub fn prev_leaf<C: CellRead>(&mut self, cells: &mut C) -> Option<Leaf>
+        requires { StandsSomewhere (C.has cells.old) self.old }
+        ensures same { cells.new ≡ cells.old }
+        ensures prev { (root : Option ℕ) (before after : List Entry) (e : Entry) → StandsBetween (C.has cells.old) root self.old (before ++ e ∷ []) after
+            → IsSomeAnd result (λ leaf. IsNamed (C.has cells.old) leaf e) }
+        ensures passed { (root : Option ℕ) (before after : List Entry) (e : Entry) → StandsBetween (C.has cells.old) root self.old (before ++ e ∷ []) after
+            → StandsBetween (C.has cells.old) root self.new before (e ∷ after) }
+        ensures beginning { (root : Option ℕ) (after : List Entry) → StandsBetween (C.has cells.old) root self.old [] after → result ≡ None }
+        ensures stays { (root : Option ℕ) (after : List Entry) → StandsBetween (C.has cells.old) root self.old [] after
+            → StandsBetween (C.has cells.old) root self.new [] after }
+    {
+        let leaf = self.behind(cells)?;
+        self.place = Place::Facing(leaf);
+        Some(leaf)
+    }
+
+    /// The leaf of the previous name. The place stays: right after it. `None` exactly at the beginning.
+    pub fn behind<C: CellRead>(&mut self, cells: &mut C) -> Option<Leaf>
         requires { StandsSomewhere (C.has cells.old) self.old }
         ensures same { cells.new ≡ cells.old }
         ensures stays { (root : Option ℕ) (before after : List Entry) → StandsBetween (C.has cells.old) root self.old before after
@@ -158,7 +190,7 @@ impl Iter {
 
     /// Stands right after the last leaf below the node that the path leads to.
     fn pass_last<C: CellRead>(&mut self, cells: &mut C, root: Ref) -> Leaf
-        requires { LeadsFrom (C.has cells.old) self.old.path root }
+        requires { HasNode (C.has cells.old) self.old.path root self.old.path.depth }
         ensures same { cells.new ≡ cells.old }
         ensures root { self.new.root ≡ self.old.root }
         ensures place { self.new.place ≡ Past result }
@@ -166,8 +198,8 @@ impl Iter {
             → LeadsTo AnyStep (C.has cells.old) self.old.path whole t before after
             → HasPassed (C.has cells.old) (Some root) self.new.path result (before ++ entries_of t) after }
     {
-        let node = self.path.node(cells, root);
-        let leaf = self.path.enter_last(cells, node);
+        let cell = self.path.node(cells, root, self.path.depth);
+        let leaf = self.path.enter_last(cells, cell);
         self.place = Place::Past(leaf);
         leaf
     }
@@ -182,20 +214,116 @@ impl Iter {
         match self.root {
             None => {}
             Some(root) => {
-                self.path.depth = 0;
-                let node = cells.cell(root);
-                let leaf = self.path.approach(cells, node, key);
-                match Near::of(key, &Key::of(&name_at(cells, leaf))) {
-                    Near::Equal => self.place = Place::Facing(leaf),
-                    Near::Before(place) => {
-                        self.path.cut(place);
-                        self.pass_last(cells, root);
-                    }
-                    Near::After(place) => {
-                        self.path.cut(place);
-                        self.face_first(cells, root);
-                    }
+                let met = self.meet(cells, root, key);
+                self.stand(cells, root, key, met);
+            }
+        }
+    }
+
+    /// Stands before the first name at or after the key's, from wherever it stood, and gives the leaf of the key if it is there. The names at or above the
+    /// key's that are there are written into `above`.
+    pub fn lookup<C: CellRead>(
+        &mut self,
+        cells: &mut C,
+        key: &Key,
+        above: &mut Ancestors,
+    ) -> Option<Leaf>
+        requires { StandsSomewhere (C.has cells.old) self.old }
+        ensures same { cells.new ≡ cells.old }
+        ensures split { (root : Option ℕ) (before after : List Entry) → StandsBetween (C.has cells.old) root self.old before after
+            → AtSplit (StandsBetween (C.has cells.old) root self.new) key.now (before ++ after) }
+        ensures leaf { (root : Option ℕ) (before after : List Entry) → StandsBetween (C.has cells.old) root self.old before after
+            → FindsLeaf (IsNamed (C.has cells.old)) key.now (before ++ after) result }
+        ensures above { (root : Option ℕ) (before after : List Entry) → StandsBetween (C.has cells.old) root self.old before after
+            → AreAncestors (IsNamed (C.has cells.old)) (chain key.now (before ++ after)) above.new }
+    {
+        above.clear();
+        match self.root {
+            None => None,
+            Some(root) => {
+                let met = self.meet(cells, root, key);
+                self.path.gather(cells, root, key, above);
+                add_met(key, met, above);
+                self.stand(cells, root, key, met);
+                match met.difference {
+                    None => Some(met.leaf),
+                    Some(_) => None,
                 }
+            }
+        }
+    }
+
+    /// Goes down by the key's positions to a leaf whose key has the longest beginning in common with it, and back up to where all branches that are passed
+    /// lie before their first difference.
+    fn meet<C: CellRead>(&mut self, cells: &mut C, root: Ref, key: &Key) -> Met
+        requires stands { StandsSomewhere (C.has cells.old) self.old }
+        requires root { self.old.root ≡ Some root }
+        ensures same { cells.new ≡ cells.old }
+        ensures root { self.new.root ≡ Some root }
+        ensures meets { (any : Option ℕ) (before after : List Entry) → StandsBetween (C.has cells.old) any self.old before after
+            → Meets (C.has cells.old) key.now root self.new.path result (before ++ after) }
+    {
+        self.path.depth = 0;
+        let cell = cells.cell(root);
+        let leaf = self.path.approach(cells, cell, key);
+        let difference = difference_at(cells, leaf, key);
+        if let Some(first) = difference {
+            self.path.cut(first.place);
+        }
+        Met { leaf, difference }
+    }
+
+    /// Stands before the first name at or after the key's, once its nearest leaf was met.
+    fn stand<C: CellRead>(&mut self, cells: &mut C, root: Ref, key: &Key, met: Met)
+        requires root { self.old.root ≡ Some root }
+        requires meets { (version : List Entry) × Meets (C.has cells.old) key.now root self.old.path met version }
+        ensures same { cells.new ≡ cells.old }
+        ensures split { (version : List Entry) → Meets (C.has cells.old) key.now root self.old.path met version
+            → AtSplit (StandsBetween (C.has cells.old) (Some root) self.new) key.now version }
+    {
+        match met.difference {
+            None => self.place = Place::Facing(met.leaf),
+            Some(first) => {
+                if first.position < key.at(first.place) {
+                    self.pass_last(cells, root);
+                } else {
+                    self.face_first(cells, root);
+                }
+            }
+        }
+    }
+}
+
+/// The leaf that a key's way ends at, whose key has the longest beginning in common with it.
+#[derive(Clone, Copy)]
+pub struct Met {
+    pub leaf: Leaf,
+    /// Where the key first differs from the leaf's.
+    pub difference: Option<Difference>,
+}
+
+/// Adds the leaf that was met to the names above, where it is one of them: it is the key's own, or ends where a label of the key does.
+fn add_met(key: &Key, met: Met, above: &mut Ancestors)
+    requires { IsAtOrAbove key.now met.difference → length above.old < 128 }
+    ensures above { IsAtOrAbove key.now met.difference
+        → (a : Ancestor) × (a.leaf ≡ met.leaf) × (a.labels ≡ labels_of_met key.now met.difference) × (above.new ≡ above.old ++ a ∷ []) }
+    ensures apart { ¬ IsAtOrAbove key.now met.difference → above.new ≡ above.old }
+{
+    match met.difference {
+        None => {
+            let labels = labels_to(key, key.len());
+            above.push(Ancestor {
+                leaf: met.leaf,
+                labels,
+            });
+        }
+        Some(first) => {
+            if first.position == 0 && ends_at(key, first.place) {
+                let labels = labels_to(key, first.place);
+                above.push(Ancestor {
+                    leaf: met.leaf,
+                    labels,
+                });
             }
         }
     }

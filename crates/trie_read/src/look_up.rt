@@ -1,70 +1,59 @@
 //! The leaf of a key.
 
-ghost use Rattle.std.specs.Prelude.{◌≡◌, ◌↔◌, ℕ, List, IsTrue};
+ghost use Rattle.std.specs.Prelude.{◌≡◌, List, Some};
+ghost use Rattle.zone_model.specs.Keys.{Leads};
 ghost use Rattle.trie_model.specs.Keys.{Entry};
-ghost use Rattle.trie_model.specs.Trees.{Tree, entries_of};
 ghost use Rattle.trie_model.specs.Memory.{Stands};
-ghost use Rattle.trie_read.specs.Reads.{IsTop, IsLeafOf, EachTells, Gives};
+ghost use Rattle.trie_read.specs.Reads.{EachTells, Gives, LeadsKey};
 
-use super::SearchKey;
-use chunk_cells::{CellRead, read_front};
-use packed_node::{Cell, Leaf, Node, Ref, unpack};
+use super::leaf::is_of;
+use chunk_cells::CellRead;
+use packed_node::{Leaf, Node, Ref};
+use shift_key::Key;
 
 /// Where the item of the key lies; `None` where the key is not there.
-pub fn get<C: CellRead, K: SearchKey>(cells: &mut C, root: Option<Ref>, key: &K) -> Option<Leaf>
-    requires { (version : List Entry) × Stands (C.has cells.old) root version × EachTells K.tells version }
+pub fn get<C: CellRead>(cells: &mut C, root: Option<Ref>, key: &Key) -> Option<Leaf>
+    requires { (version : List Entry) × Stands (C.has cells.old) root version × EachTells Leads version }
     ensures same { cells.new ≡ cells.old }
-    ensures value { (version : List Entry) → Stands (C.has cells.old) root version → EachTells K.tells version
-        → Gives (C.has cells.old) (K.positions key.now) version result }
+    ensures value { (version : List Entry) → Stands (C.has cells.old) root version → EachTells Leads version
+        → Gives (C.has cells.old) key.now version result }
 {
     match root {
         None => None,
-        Some(at) => {
-            let node = cells.cell(at);
-            descend(cells, node, 0, key)
-        }
+        Some(at) => match leaf_for(cells, at, key) {
+            None => None,
+            Some(leaf) => {
+                if is_of(cells, leaf, key) {
+                    Some(leaf)
+                } else {
+                    None
+                }
+            }
+        },
     }
 }
 
-/// The leaf of the key below a node, whose offset is at least `low`.
-fn descend<C: CellRead, K: SearchKey>(cells: &mut C, node: Cell, low: u16, key: &K) -> Option<Leaf>
-    requires { (t : Tree) × IsTop (C.has cells.old) low node t × EachTells K.tells (entries_of t) }
+/// The leaf that the key's positions lead to. All that lies between the branches' offsets isn't looked at, so it may be that of another key.
+fn leaf_for<C: CellRead>(cells: &mut C, root: Ref, key: &Key) -> Option<Leaf>
+    requires { (version : List Entry) × Stands (C.has cells.old) (Some root) version }
     ensures same { cells.new ≡ cells.old }
-    ensures value { (t : Tree) → IsTop (C.has cells.old) low node t → EachTells K.tells (entries_of t)
-        → Gives (C.has cells.old) (K.positions key.now) (entries_of t) result }
+    ensures leaf { (version : List Entry) → Stands (C.has cells.old) (Some root) version → LeadsKey (C.has cells.old) key.now version result }
 {
-    match unpack(node) {
-        None => None,
-        Some(Node::Leaf(leaf)) => {
-            if is_of(cells, leaf, key) {
-                Some(leaf)
-            } else {
-                None
-            }
-        }
-        Some(Node::Branch(branch)) => {
-            if branch.offset > key.len() {
-                return None;
-            }
-            let position = key.at(branch.offset);
-            if branch.has_twig(position) {
-                let next = cells.cell(branch.twigs + branch.twig_index(position));
-                descend(cells, next, branch.offset + 1, key)
-            } else {
-                None
+    let mut node = Node::of(cells.cell(root));
+    loop {
+        match node {
+            Node::Leaf(leaf) => return Some(leaf),
+            Node::Branch(branch) => {
+                if branch.offset > key.len() {
+                    return None;
+                }
+                let position = key.at(branch.offset);
+                if !branch.has_twig(position) {
+                    return None;
+                }
+                let twig = branch.twigs + branch.twig_index(position);
+                node = Node::of(cells.cell(twig));
             }
         }
     }
-}
-
-/// Whether the item of a leaf is that of the key.
-fn is_of<C: CellRead, K: SearchKey>(cells: &mut C, leaf: Leaf, key: &K) -> bool
-    requires { (e : Entry) × IsLeafOf (C.has cells.old) e leaf × K.tells e.key e.item }
-    ensures same { cells.new ≡ cells.old }
-    ensures value { (e : Entry) → IsLeafOf (C.has cells.old) e leaf → K.tells e.key e.item
-        → IsTrue result ↔ (e.key ≡ K.positions key.now) }
-{
-    let mut front = [0; 256];
-    let len = read_front(cells, leaf, &mut front);
-    key.leads(&front[..len])
 }

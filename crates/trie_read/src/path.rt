@@ -7,10 +7,10 @@ ghost use Rattle.trie_model.specs.Keys.{at, Entry};
 ghost use Rattle.trie_model.specs.Trees.{Tree, entries_of, IsTree};
 ghost use Rattle.trie_model.specs.Trees.Tree.{leaf as leaf_tree};
 ghost use Rattle.trie_model.specs.Memory.{top_cell};
-ghost use Rattle.trie_read.specs.Walks.{step_of, AnyStep, Guided, HangsBy, IsPath, LeadsTo, LeadsToCell, LeadsToFirst, LeadsToLast, LeadsFrom, TurnsNext, TurnsBack, Approached, CutAt};
+ghost use Rattle.trie_read.specs.Walks.{step_of, AnyStep, Guided, HangsBy, IsPath, LeadsTo, LeadsToCell, LeadsToFirst, LeadsToLast, HasNode, HangsAtLevel, TurnsNext, TurnsBack, Approached, CutAt};
 
 use chunk_cells::CellRead;
-use packed_node::{Branch, Cell, Leaf, Node, Ref, unpack};
+use packed_node::{Branch, Cell, Leaf, Node, Ref};
 use shift_key::Key;
 
 /// A branch on the path, and which of its twigs the path takes.
@@ -65,16 +65,15 @@ impl Path {
     }
 
     /// Goes down from the node that the path leads to, to the first leaf below it.
-    pub fn enter_first<C: CellRead>(&mut self, cells: &mut C, node: Cell) -> Leaf
-        requires { LeadsToCell AnyStep (C.has cells.old) self.old node }
+    pub fn enter_first<C: CellRead>(&mut self, cells: &mut C, cell: Cell) -> Leaf
+        requires { LeadsToCell AnyStep (C.has cells.old) self.old cell }
         ensures same { cells.new ≡ cells.old }
         ensures first { (whole t : Tree) (before after : List Entry) → LeadsTo AnyStep (C.has cells.old) self.old whole t before after
-            → node ≡ top_cell t → LeadsToFirst (C.has cells.old) self.new whole result before (entries_of t ++ after) }
+            → cell ≡ top_cell t → LeadsToFirst (C.has cells.old) self.new whole result before (entries_of t ++ after) }
     {
-        match unpack(node) {
-            None => Leaf { len: 1, at: 0 },
-            Some(Node::Leaf(leaf)) => leaf,
-            Some(Node::Branch(branch)) => {
+        match Node::of(cell) {
+            Node::Leaf(leaf) => leaf,
+            Node::Branch(branch) => {
                 self.push(branch, 0);
                 let twig = cells.cell(branch.twigs);
                 self.enter_first(cells, twig)
@@ -83,16 +82,15 @@ impl Path {
     }
 
     /// Goes down from the node that the path leads to, to the last leaf below it.
-    pub fn enter_last<C: CellRead>(&mut self, cells: &mut C, node: Cell) -> Leaf
-        requires { LeadsToCell AnyStep (C.has cells.old) self.old node }
+    pub fn enter_last<C: CellRead>(&mut self, cells: &mut C, cell: Cell) -> Leaf
+        requires { LeadsToCell AnyStep (C.has cells.old) self.old cell }
         ensures same { cells.new ≡ cells.old }
         ensures last { (whole t : Tree) (before after : List Entry) → LeadsTo AnyStep (C.has cells.old) self.old whole t before after
-            → node ≡ top_cell t → LeadsToLast (C.has cells.old) self.new whole result (before ++ entries_of t) after }
+            → cell ≡ top_cell t → LeadsToLast (C.has cells.old) self.new whole result (before ++ entries_of t) after }
     {
-        match unpack(node) {
-            None => Leaf { len: 1, at: 0 },
-            Some(Node::Leaf(leaf)) => leaf,
-            Some(Node::Branch(branch)) => {
+        match Node::of(cell) {
+            Node::Leaf(leaf) => leaf,
+            Node::Branch(branch) => {
                 let index = branch.twig_count() - 1;
                 self.push(branch, index);
                 let twig = cells.cell(branch.twigs + index);
@@ -144,20 +142,21 @@ impl Path {
 
     /// Goes down from the node that the path leads to, by the key's positions. Where a branch has no twig for the key's position
     /// it takes the last before it, or else the first.
-    pub fn approach<C: CellRead>(&mut self, cells: &mut C, node: Cell, key: &Key) -> Leaf
-        requires { LeadsToCell (Guided key.now) (C.has cells.old) self.old node }
+    pub fn approach<C: CellRead>(&mut self, cells: &mut C, cell: Cell, key: &Key) -> Leaf
+        requires { LeadsToCell (Guided key.now) (C.has cells.old) self.old cell }
         ensures same { cells.new ≡ cells.old }
         ensures leaf { (whole t : Tree) (before after : List Entry) → LeadsTo (Guided key.now) (C.has cells.old) self.old whole t before after
-            → node ≡ top_cell t → Approached key.now (C.has cells.old) self.new whole result }
+            → cell ≡ top_cell t → Approached key.now (C.has cells.old) self.new whole result }
     {
-        match unpack(node) {
-            None => Leaf { len: 1, at: 0 },
-            Some(Node::Leaf(leaf)) => leaf,
-            Some(Node::Branch(branch)) => {
-                let index = nearest(branch, key);
-                self.push(branch, index);
-                let twig = cells.cell(branch.twigs + index);
-                self.approach(cells, twig, key)
+        let mut node = Node::of(cell);
+        loop {
+            match node {
+                Node::Leaf(leaf) => return leaf,
+                Node::Branch(branch) => {
+                    let index = nearest(branch, key);
+                    self.push(branch, index);
+                    node = Node::of(cells.cell(branch.twigs + index));
+                }
             }
         }
     }
@@ -173,17 +172,16 @@ impl Path {
         }
     }
 
-    /// The cell of the node that the path leads to.
-    pub fn node<C: CellRead>(&self, cells: &mut C, root: Ref) -> Cell
-        requires { LeadsFrom (C.has cells.old) self.now root }
+    /// The cell of the node that the path leads to after so many steps.
+    pub fn node<C: CellRead>(&self, cells: &mut C, root: Ref, level: u16) -> Cell
+        requires { HasNode (C.has cells.old) self.now root level }
         ensures same { cells.new ≡ cells.old }
-        ensures value { (whole t : Tree) (before after : List Entry) → C.has cells.old root (top_cell whole)
-            → LeadsTo AnyStep (C.has cells.old) self.now whole t before after → result ≡ top_cell t }
+        ensures value { (whole t : Tree) (before after : List Entry) → HangsAtLevel AnyStep (C.has cells.old) self.now root level whole t before after → result ≡ top_cell t }
     {
-        if self.depth == 0 {
+        if level == 0 {
             return cells.cell(root);
         }
-        let step = self.steps[self.depth as usize - 1];
+        let step = self.steps[level as usize - 1];
         cells.cell(step.twigs + step.index as Ref)
     }
 }
@@ -206,10 +204,12 @@ fn nearest(branch: Branch, key: &Key) -> u32
 }
 
 /// The position at a place, 0 past the key's end.
+#[inline]
 fn position_at(key: &Key, place: u16) -> u8
     ensures position { result ≡ at key.now place }
     ensures small { result < 47 }
     ensures key { IsKey key.now }
 {
-    if place < key.len() { key.at(place) } else { 0 }
+    let _key = key.len();
+    key.at(place)
 }

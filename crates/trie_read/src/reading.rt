@@ -6,22 +6,30 @@ ghost use Rattle.trie_model.specs.Keys.{Entry};
 ghost use Rattle.trie_model.specs.Memory.{Stands};
 ghost use Rattle.trie_read.specs.Reads.{EachTells};
 
+use super::ancestors::Ancestors;
 use super::found::{Found, find};
 use super::iter::Iter;
+use super::leaf::name_at;
 use super::look_up::get;
 use super::size::{count, nodes};
 use chunk_cells::{CellRead, read_item};
-use packed_node::Ref;
+use dns_name::Name;
+use packed_node::{Leaf, Ref};
 use shift_key::Key;
 
 /// A version of the trie: what it has under which number. All calls are of that one version, and change nothing.
 pub trait Reading {
-    ghost use Rattle.std.specs.Prelude.{◌≡◌, ◌++◌, ◌∷◌, [], ℕ, List, length, take, Some, None};
+    ghost use Rattle.std.specs.Prelude.{◌≡◌, ◌++◌, ◌∷◌, [], ℕ, List, length, take, Some, None, IsSomeAnd};
+    ghost use Rattle.zone_model.specs.Names.{IsName};
+    ghost use Rattle.zone_model.specs.Keys.{key_of};
     ghost use Rattle.trie_model.specs.Keys.{Entry};
-    ghost use Rattle.trie_model.specs.Order.{IsPredecessor, chain_labels};
+    ghost use Rattle.trie_model.specs.Order.{IsPredecessor, chain, chain_labels};
     ghost use Rattle.trie_model.specs.Shape.{nodes as nodes_of_keys, keys_of};
+    ghost use Rattle.packed_node.specs.declared.Leaf.{Leaf};
     ghost use Rattle.trie_read.specs.declared.iter.Iter.{Iter};
+    ghost use Rattle.trie_read.specs.Reads.{FindsLeaf};
     ghost use Rattle.trie_read.specs.Finds.{IsKind};
+    ghost use Rattle.trie_read.specs.Above.{AreAncestors};
     ghost use Rattle.trie_read.specs.Readings.{Fetched, IsHeld, IsStanding, AtSplit};
 
     // The version's number.
@@ -32,6 +40,9 @@ pub trait Reading {
 
     // The iterator is of this version, and stands between these entries.
     ghost stands: { Self → Iter → List Entry → List Entry → Type 0 };
+
+    // The leaf says where the entry's item lies.
+    ghost lies: { Self → Leaf → Entry → Type 0 };
 
     /// The version's number.
     fn version(&mut self) -> u64
@@ -85,6 +96,71 @@ pub trait Reading {
         ensures beginning { (after : List Entry) → stands self.old iter.old [] after → result ≡ None }
         ensures stays { (after : List Entry) → stands self.old iter.old [] after → stands self.old iter.new [] after };
 
+    /// Stands the iterator before the first name at or after the key's, and gives the leaf of the key if it is there. The names at or above the key's that
+    /// are there are written into `above`.
+    fn lookup(&mut self, iter: &mut Iter, key: &Key, above: &mut Ancestors) -> Option<Leaf>
+        requires { IsStanding (stands self.old iter.old) }
+        ensures same { self.new ≡ self.old }
+        ensures split { (before after : List Entry) → stands self.old iter.old before after
+            → AtSplit (stands self.old iter.new) key.now (before ++ after) }
+        ensures leaf { (before after : List Entry) → stands self.old iter.old before after
+            → FindsLeaf (lies self.old) key.now (before ++ after) result }
+        ensures above { (before after : List Entry) → stands self.old iter.old before after
+            → AreAncestors (lies self.old) (chain key.now (before ++ after)) above.new };
+
+    /// The leaf of the next name; the iterator is then after it. `None` exactly at the end, and the iterator stays.
+    fn next_leaf(&mut self, iter: &mut Iter) -> Option<Leaf>
+        requires { IsStanding (stands self.old iter.old) }
+        ensures same { self.new ≡ self.old }
+        ensures next { (before after : List Entry) (e : Entry) → stands self.old iter.old before (e ∷ after)
+            → IsSomeAnd result (λ leaf. lies self.old leaf e) }
+        ensures passed { (before after : List Entry) (e : Entry) → stands self.old iter.old before (e ∷ after)
+            → stands self.old iter.new (before ++ e ∷ []) after }
+        ensures end { (before : List Entry) → stands self.old iter.old before [] → result ≡ None }
+        ensures stays { (before : List Entry) → stands self.old iter.old before [] → stands self.old iter.new before [] };
+
+    /// The leaf of the previous name; the iterator is then before it. `None` exactly at the beginning, and the iterator stays.
+    fn prev_leaf(&mut self, iter: &mut Iter) -> Option<Leaf>
+        requires { IsStanding (stands self.old iter.old) }
+        ensures same { self.new ≡ self.old }
+        ensures prev { (before after : List Entry) (e : Entry) → stands self.old iter.old (before ++ e ∷ []) after
+            → IsSomeAnd result (λ leaf. lies self.old leaf e) }
+        ensures passed { (before after : List Entry) (e : Entry) → stands self.old iter.old (before ++ e ∷ []) after
+            → stands self.old iter.new before (e ∷ after) }
+        ensures beginning { (after : List Entry) → stands self.old iter.old [] after → result ≡ None }
+        ensures stays { (after : List Entry) → stands self.old iter.old [] after → stands self.old iter.new [] after };
+
+    /// The leaf of the next name; the iterator stays. `None` exactly at the end.
+    fn ahead(&mut self, iter: &mut Iter) -> Option<Leaf>
+        requires { IsStanding (stands self.old iter.old) }
+        ensures same { self.new ≡ self.old }
+        ensures next { (before after : List Entry) (e : Entry) → stands self.old iter.old before (e ∷ after)
+            → IsSomeAnd result (λ leaf. lies self.old leaf e) }
+        ensures end { (before : List Entry) → stands self.old iter.old before [] → result ≡ None }
+        ensures stays { (before after : List Entry) → stands self.old iter.old before after → stands self.old iter.new before after };
+
+    /// The leaf of the previous name; the iterator stays. `None` exactly at the beginning.
+    fn behind(&mut self, iter: &mut Iter) -> Option<Leaf>
+        requires { IsStanding (stands self.old iter.old) }
+        ensures same { self.new ≡ self.old }
+        ensures prev { (before after : List Entry) (e : Entry) → stands self.old iter.old (before ++ e ∷ []) after
+            → IsSomeAnd result (λ leaf. lies self.old leaf e) }
+        ensures beginning { (after : List Entry) → stands self.old iter.old [] after → result ≡ None }
+        ensures stays { (before after : List Entry) → stands self.old iter.old before after → stands self.old iter.new before after };
+
+    /// Reads the item of a leaf into the beginning of `out`, and gives its length.
+    fn read(&mut self, leaf: Leaf, out: &mut [u8; 4096]) -> usize
+        requires { (e : Entry) × lies self.old leaf e }
+        ensures same { self.new ≡ self.old }
+        ensures item { (e : Entry) → lies self.old leaf e → (result ≡ length e.item) × (take result out.new ≡ e.item) };
+
+    /// The name that the item of a leaf says.
+    fn name(&mut self, leaf: Leaf) -> Name
+        requires { (e : Entry) × lies self.old leaf e }
+        ensures same { self.new ≡ self.old }
+        ensures name { IsName result }
+        ensures key { (e : Entry) → lies self.old leaf e → key_of result ≡ e.key };
+
     /// How many names there are.
     fn count(&mut self) -> u64
         requires { IsHeld (holds self.old) }
@@ -124,7 +200,7 @@ impl<C: CellRead + Drop> CellReading<C> {
 impl<C: CellRead + Drop> Reading for CellReading<C> {
     ghost use Rattle.zone_model.specs.Keys.{Leads};
     ghost use Rattle.trie_model.specs.Memory.{Stands};
-    ghost use Rattle.trie_read.specs.Reads.{EachTells};
+    ghost use Rattle.trie_read.specs.Reads.{EachTells, IsNamed};
     ghost use Rattle.trie_read.specs.Walks.{StandsBetween};
 
     ghost number = { λ s. s.number };
@@ -132,6 +208,8 @@ impl<C: CellRead + Drop> Reading for CellReading<C> {
     ghost holds = { λ s version. Stands (C.has s.cells) s.root version × EachTells Leads version };
 
     ghost stands = { λ s. StandsBetween (C.has s.cells) s.root };
+
+    ghost lies = { λ s. IsNamed (C.has s.cells) };
 
     fn version(&mut self) -> u64 {
         self.number
@@ -162,6 +240,34 @@ impl<C: CellRead + Drop> Reading for CellReading<C> {
 
     fn prev(&mut self, iter: &mut Iter) -> Option<Key> {
         iter.prev(&mut self.cells)
+    }
+
+    fn lookup(&mut self, iter: &mut Iter, key: &Key, above: &mut Ancestors) -> Option<Leaf> {
+        iter.lookup(&mut self.cells, key, above)
+    }
+
+    fn next_leaf(&mut self, iter: &mut Iter) -> Option<Leaf> {
+        iter.next_leaf(&mut self.cells)
+    }
+
+    fn prev_leaf(&mut self, iter: &mut Iter) -> Option<Leaf> {
+        iter.prev_leaf(&mut self.cells)
+    }
+
+    fn ahead(&mut self, iter: &mut Iter) -> Option<Leaf> {
+        iter.ahead(&mut self.cells)
+    }
+
+    fn behind(&mut self, iter: &mut Iter) -> Option<Leaf> {
+        iter.behind(&mut self.cells)
+    }
+
+    fn read(&mut self, leaf: Leaf, out: &mut [u8; 4096]) -> usize {
+        read_item(&mut self.cells, leaf, out)
+    }
+
+    fn name(&mut self, leaf: Leaf) -> Name {
+        name_at(&mut self.cells, leaf)
     }
 
     fn count(&mut self) -> u64 {

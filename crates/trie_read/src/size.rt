@@ -8,7 +8,7 @@ ghost use Rattle.trie_model.specs.Shape.{nodes as nodes_of_keys, keys_of, nodes_
 ghost use Rattle.trie_read.specs.Reads.{IsTop};
 
 use chunk_cells::CellRead;
-use packed_node::{Cell, Node, Ref, unpack};
+use packed_node::{Cell, Node, Ref};
 
 /// How many names there are.
 pub fn count<C: CellRead>(cells: &mut C, root: Option<Ref>) -> u64
@@ -57,10 +57,9 @@ fn size_below<C: CellRead>(cells: &mut C, node: Cell, low: u16) -> Size
     ensures nodes { (t : Tree) → IsTop (C.has cells.old) low node t → result.nodes ≡ nodes_of t }
 {
     let mut whole = Size { names: 0, nodes: 1 };
-    match unpack(node) {
-        None => {}
-        Some(Node::Leaf(_)) => whole.names = 1,
-        Some(Node::Branch(branch)) => {
+    match Node::of(node) {
+        Node::Leaf(_) => whole.names = 1,
+        Node::Branch(branch) => {
             for i in 0..branch.twig_count() {
                 let twig = cells.cell(branch.twigs + i);
                 let part = size_below(cells, twig, branch.offset + 1);

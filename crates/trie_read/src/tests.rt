@@ -6,44 +6,12 @@ ghost use Rattle.zone_model.specs.Keys.{Leads};
 ghost use Rattle.trie_read.specs.Reads.{EachTells};
 ghost use Rattle.trie_read.specs.Example.{two_names};
 
-use super::{CellReading, Kind, Reading, SearchKey, count, find, get, nodes};
+use super::{Ancestors, CellReading, Iter, Kind, Reading, count, find, get, nodes};
 use chunk_cells::{CellRead, CellWrite, PlainCells, write_item};
 use dns_name::Name;
 use packed_node::{Branch, Leaf, Node, bitmap};
 use shift_key::Key;
 use std::test::Fail;
-
-/// The key of a name of one letter, by the letter's position.
-struct Letter {
-    position: u8,
-    ghost least: { 17 ≤ position },
-    ghost most: { position ≤ 42 },
-}
-
-impl SearchKey for Letter {
-    ghost use Rattle.trie_read.specs.Example.{key_of_letter, TellsLetter};
-    ghost use Rattle.trie_read.specs.ExampleLaws.{one_letter, letter_by_front};
-
-    ghost positions = { λ s. key_of_letter s.position };
-
-    ghost tells = { TellsLetter };
-
-    fn len(&self) -> u16 {
-        2
-    }
-
-    fn at(&self, place: u16) -> u8 {
-        if place == 0 { self.position } else { 0 }
-    }
-
-    fn leads(&self, front: &[u8]) -> bool {
-        front.len() > 1 && front[0] == 1 && front[1] == self.position + 80
-    }
-
-    ghost one_key = { one_letter };
-
-    ghost by_the_front = { letter_by_front };
-}
 
 /// Writes the trie into the first chunk, with the root at its beginning.
 fn write_two_names(cells: &mut PlainCells)
@@ -71,24 +39,12 @@ fn two_names_are_found_and_counted(rt: HostRuntime) -> Result<(), Fail> {
     cells.give(0);
     write_two_names(&mut cells);
     let root = Some(0);
-    let b = get(&mut cells, root, &Letter { position: 18 });
-    assert_eq!(rt; b, Some(Leaf { len: 3, at: 4 }));
-    assert_eq!(rt; get(&mut cells, root, &Letter { position: 19 }), None);
+    let b = Key::of(&Name::from_wire(b"\x01b\0").ok_or("no name")?);
+    assert_eq!(rt; get(&mut cells, root, &b), Some(Leaf { len: 3, at: 4 }));
+    let c = Key::of(&Name::from_wire(b"\x01c\0").ok_or("no name")?);
+    assert_eq!(rt; get(&mut cells, root, &c), None);
     assert_eq!(rt; count(&mut cells, root), 2);
     assert_eq!(rt; nodes(&mut cells, root), 3);
-    Ok(())
-}
-
-fn read_of<K: SearchKey>(key: &K, front: &[u8]) -> (u16, u8, bool) {
-    (key.len(), key.at(0), key.leads(front))
-}
-
-#[test]
-fn the_key_of_a_name_serves(rt: HostRuntime) -> Result<(), Fail> {
-    let name = Name::from_wire(b"\x01a\0").ok_or("no name")?;
-    let key = Key::of(&name);
-    assert_eq!(rt; read_of(&key, b"\x01a\0 and more"), (2, 17, true));
-    assert_eq!(rt; read_of(&key, b"\x01b\0"), (2, 17, false));
     Ok(())
 }
 
@@ -120,6 +76,34 @@ fn neighbours_are_found(rt: HostRuntime) -> Result<(), Fail> {
     let first = find(&mut cells, Some(0), &Key::of(&Name::root()));
     assert_eq!(rt; first.kind, Kind::Absent);
     assert!(rt; first.pred.is_none());
+    Ok(())
+}
+
+/// The leaf of the name, how many names are at or above it, and the leaves before and after its place.
+#[test]
+fn a_look_up_gives_all(rt: HostRuntime) -> Result<(), Fail> {
+    let mut cells = PlainCells::new(rt.alloc(), 1)?;
+    cells.give(0);
+    write_two_names(&mut cells);
+    let a = Leaf { len: 3, at: 3 };
+    let b = Leaf { len: 3, at: 4 };
+    let mut key = Key::root();
+    let mut above = Ancestors::new();
+    let mut place = Iter::start(Some(0));
+    for (wire, leaf, names, before, after) in [
+        (&b"\x01b\0"[..], Some(b), Some((b, 1)), Some(a), Some(b)),
+        (b"\x01x\x01a\0", None, Some((a, 1)), Some(a), Some(b)),
+        (b"\x02aa\0", None, None, Some(a), Some(b)),
+        (b"\0", None, None, None, Some(a)),
+        (b"\x01c\0", None, None, Some(b), None),
+    ] {
+        key.set(&Name::from_wire(wire).ok_or("no name")?);
+        assert_eq!(rt; place.lookup(&mut cells, &key, &mut above), leaf);
+        let last = above.as_slice().last();
+        assert_eq!(rt; last.map(|name| (name.leaf, name.labels)), names);
+        assert_eq!(rt; place.behind(&mut cells), before);
+        assert_eq!(rt; place.ahead(&mut cells), after);
+    }
     Ok(())
 }
 

@@ -1,45 +1,55 @@
-use Rattle.std.proofs.Common.{ℕ, List, Option, take, reverse, sym, ap, ◌∙◌, subst}
-use Rattle.std.proofs.lemmas.List.{reverse-reverse}
-use Rattle.trie_model.specs.Keys.{Entry}
-use Rattle.trie_model.specs.Trees.{entries_of}
-use Rattle.trie_model.specs.Order.{IsPredecessor, chain_labels}
-use Rattle.trie_model.specs.Memory.{Stands}
-use Rattle.trie_read.specs.Finds.{IsBelow, IsKeyOfLast, IsKind, kind_of}
-use Rattle.trie_read.proofs.StandLaws.{root_top, version_tells}
-use Rattle.trie_read.proofs.LastLaws.{below_of, pred_told, kind_told}
+use Rattle.std.proofs.Common.{◌≡◌, ◌++◌, ◌∷◌, ◌∙◌, [], List, Bool, Option, is_some, eqb, length, sym, ap, subst}
+use Rattle.packed_node.specs.declared.Leaf.{Leaf}
+use Rattle.trie_model.specs.Order.{IsPredecessor}
+use Rattle.trie_read.specs.declared.ancestors.Ancestor.{Ancestor}
+use Rattle.trie_read.specs.Finds.{IsKind, kind_of}
+use Rattle.trie_read.specs.Reads.{IsNamed, IsLeafOf}
+use Rattle.trie_read.specs.Walks.{StandsBetween}
+use Rattle.trie_read.proofs.AboveLaws.{ancestors_labels}
+use Rattle.trie_read.proofs.FoundLaws.{stands_at_start, stands_rises, kind_told, last_there, last_before}
+use Rattle.trie_read.proofs.found.find.Goals.{in-Some, in-None}
 use Rattle.trie_read.proofs.found.find.Goals as goal
 
-pub descend-way-requires-clause-node : goal.descend-way-requires-clause-node
-descend-way-requires-clause-node g c =
-    let h = subst (λ (r : Option ℕ). Stands (g.C.CellRead.has c.args.cells.now) r c.requires.0) c.in-Some.is c.requires.1 in
-    (h.0, root_top g.C.CellRead.has c.args.cells.now c.cell-node.new.self c.in-Some.at h.0 c.requires.0 c.cell-node.result h.1 c.cell-node.ensures.same c.cell-node.ensures.value, version_tells c.requires.0 h.0 h.1.holds c.requires.2)
+pub lookup-leaf-requires : goal.lookup-leaf-requires
+lookup-leaf-requires g c = let h = c.requires in record { root = c.args.root; before = []; after = h.0; standing = (stands_at_start (g.C.CellRead.has c.args.cells.now) c.args.root c.start-place.result h.0 c.start-place.ensures h.1 h.2) }
 
-pub key_of_last-requires : goal.key_of_last-requires
-key_of_last-requires g c =
-    let h = subst (λ (r : Option ℕ). Stands (g.C.CellRead.has c.args.cells.now) r c.requires.0) c.in-Some.is c.requires.1 in
-    let tells = version_tells c.requires.0 h.0 h.1.holds c.requires.2 in
-    let top = root_top g.C.CellRead.has c.args.cells.now c.cell-node.new.self c.in-Some.at h.0 c.requires.0 c.cell-node.result h.1 c.cell-node.ensures.same c.cell-node.ensures.value in
-    let way = c.descend-way.ensures.way h.0 top tells in
-    subst (λ s. IsBelow (g.C.CellRead.has s) c.descend-way.result.last) (sym c.descend-way.ensures.same)
-    (below_of (g.C.CellRead.has c.cell-node.new.self) c.args.key.now (entries_of h.0) way.met c.descend-way.result.last way.last tells)
+pub key_at-requires : goal.key_at-requires
+key_at-requires g c =
+    let h = c.requires in
+    let x = c.in-Some.ensures.leaf c.args.root [] h.0 (stands_at_start (g.C.CellRead.has c.args.cells.now) c.args.root c.start-place.result h.0 c.start-place.ensures h.1 h.2) in
+    (x.0, subst (λ s. IsLeafOf (g.C.CellRead.has s) x.0 c.in-Some.leaf) (sym c.lookup-leaf.ensures.same) x.3.0, x.3.1)
 
-pub returns-in-Some-clause-kind : goal.returns-in-Some-clause-kind
-returns-in-Some-clause-kind g c version stands told =
-    let h = subst (λ (r : Option ℕ). Stands (g.C.CellRead.has c.args.cells.now) r version) c.in-Some.is stands in
-    let tells = version_tells version h.0 h.1.holds told in
-    let top = root_top g.C.CellRead.has c.args.cells.now c.cell-node.new.self c.in-Some.at h.0 version c.cell-node.result h.1 c.cell-node.ensures.same c.cell-node.ensures.value in
-    let way = c.descend-way.ensures.way h.0 top tells in
-    let chain = c.reverse.ensures ∙ ap (λ (ns : List ℕ). reverse ns) (c.descend-way.ensures.chain h.0 top tells) ∙ reverse-reverse (chain_labels c.args.key.now (entries_of h.0)) in
-    subst (IsKind c.args.key.now version) (sym c.of.ensures)
-    (subst (λ (es : List Entry). IsKind c.args.key.now es (kind_of c.descend-way.result.near c.is_empty.result)) h.1.holds
-    (kind_told (g.C.CellRead.has c.cell-node.new.self) c.args.key.now (entries_of h.0) way.met c.descend-way.result.near (take c.reverse.new.self.len c.reverse.new.self.labels) c.is_empty.result way.there way.near way.exact chain c.is_empty.ensures.0 c.is_empty.ensures.1))
+pub prev-pred-requires : goal.prev-pred-requires
+prev-pred-requires g c =
+    let h = c.requires in
+    let x = c.lookup-leaf.ensures.split c.args.root [] h.0 (stands_at_start (g.C.CellRead.has c.args.cells.now) c.args.root c.start-place.result h.0 c.start-place.ensures h.1 h.2) in
+    record { root = c.args.root; before = x.before; after = x.after; standing = subst (λ s. StandsBetween (g.C.CellRead.has s) c.args.root c.lookup-leaf.new.self x.before x.after) (sym c.lookup-leaf.ensures.same) x.standing }
 
-pub returns-in-Some-clause-pred : goal.returns-in-Some-clause-pred
-returns-in-Some-clause-pred g c version stands told =
-    let h = subst (λ (r : Option ℕ). Stands (g.C.CellRead.has c.args.cells.now) r version) c.in-Some.is stands in
-    let tells = version_tells version h.0 h.1.holds told in
-    let top = root_top g.C.CellRead.has c.args.cells.now c.cell-node.new.self c.in-Some.at h.0 version c.cell-node.result h.1 c.cell-node.ensures.same c.cell-node.ensures.value in
-    let way = c.descend-way.ensures.way h.0 top tells in
-    let key = subst (λ s. IsKeyOfLast (g.C.CellRead.has s) c.descend-way.new.trail.met c.descend-way.result.last c.key_of_last.result) c.descend-way.ensures.same c.key_of_last.ensures.key in
-    subst (λ (es : List Entry). IsPredecessor c.args.key.now es c.key_of_last.result) h.1.holds
-    (pred_told (g.C.CellRead.has c.cell-node.new.self) c.args.key.now (entries_of h.0) way.met c.descend-way.new.trail.met c.descend-way.result.last c.key_of_last.result way.last way.is key tells)
+pub returns-clause-kind : goal.returns-clause-kind
+returns-clause-kind g c version stands told =
+    let finds = c.lookup-leaf.ensures.leaf c.args.root [] version (stands_at_start (g.C.CellRead.has c.args.cells.now) c.args.root c.start-place.result version c.start-place.ensures stands told) in
+    let above = c.lookup-leaf.ensures.above c.args.root [] version (stands_at_start (g.C.CellRead.has c.args.cells.now) c.args.root c.start-place.result version c.start-place.ensures stands told) in
+    let kind = kind_told (IsNamed (g.C.CellRead.has c.args.cells.now)) c.args.key.now version c.lookup-leaf.result c.lookup-leaf.new.above finds above in
+    let leaf : c.match-leaf.leaf ≡ c.lookup-leaf.result = elim c.match-leaf.branch [ in-Some w ↦ w.leaf-is ∙ sym w.in-Some.is | in-None w ↦ w.leaf-is ] in
+    let there = c.is_some.ensures ∙ ap (λ (l : Option Leaf). is_some l) leaf in
+    let alone = c.is_empty-alone.ensures ∙ ap (λ (ns : List Ancestor). eqb (length ns) 0) c.as_slice.ensures.names in
+    subst (IsKind c.args.key.now version) (sym (c.of.ensures ∙ ap (λ (b : Bool). kind_of b c.is_empty-alone.result) there ∙ ap (λ (b : Bool). kind_of (is_some c.lookup-leaf.result) b) alone)) kind
+
+pub returns-clause-chain : goal.returns-clause-chain
+returns-clause-chain g c version stands told =
+    c.of-2.ensures ∙ ancestors_labels (IsNamed (g.C.CellRead.has c.args.cells.now)) _ c.lookup-leaf.new.above (c.lookup-leaf.ensures.above c.args.root [] version (stands_at_start (g.C.CellRead.has c.args.cells.now) c.args.root c.start-place.result version c.start-place.ensures stands told))
+
+pub returns-clause-pred : goal.returns-clause-pred
+returns-clause-pred g c version stands told =
+    let has = g.C.CellRead.has c.args.cells.now in let k = c.args.key.now in
+    let at = (stands_at_start (g.C.CellRead.has c.args.cells.now) c.args.root c.start-place.result version c.start-place.ensures stands told) in
+    elim c.match-leaf.branch [
+      | in-Some w ↦ (
+          let finds = w.in-Some.ensures.leaf c.args.root [] version at in
+          let key = w.key_at.ensures.key finds.0 (subst (λ s. IsLeafOf (g.C.CellRead.has s) finds.0 w.in-Some.leaf) (sym c.lookup-leaf.ensures.same) finds.3.0) finds.3.1 in
+          subst (IsPredecessor k version) (sym w.pred-is) (last_there (IsNamed has) k version w.in-Some.leaf w.key_at.result (stands_rises has c.args.root version stands) finds (key ∙ finds.2))
+          )
+      | in-None w ↦ subst (IsPredecessor k version) (sym w.pred-is) (last_before (StandsBetween has c.args.root c.lookup-leaf.new.self) k version w.prev-pred.result (c.lookup-leaf.ensures.split c.args.root [] version at) (w.in-None.ensures.leaf c.args.root [] version at)
+          (λ before after e s. w.prev-pred.ensures.prev c.args.root before after e (subst (λ t. StandsBetween (g.C.CellRead.has t) c.args.root c.lookup-leaf.new.self (before ++ (e ∷ [])) after) (sym c.lookup-leaf.ensures.same) s))
+          (λ after s. w.prev-pred.ensures.beginning c.args.root after (subst (λ t. StandsBetween (g.C.CellRead.has t) c.args.root c.lookup-leaf.new.self [] after) (sym c.lookup-leaf.ensures.same) s)))
+    ]

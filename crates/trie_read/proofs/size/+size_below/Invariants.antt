@@ -2,7 +2,7 @@ use Rattle.std.proofs.Common.{◌≡◌, ◌+◌, ◌-◌, length, suc}
 use Rattle.trie_model.specs.Trees.{Tree, entries}
 use Rattle.trie_model.specs.Shape.{nodes_in}
 use Rattle.trie_read.specs.Reads.{IsTop}
-use Rattle.trie_read.proofs.UnpackLaws.{BranchTold}
+use Rattle.trie_read.proofs.NodeLaws.{BranchTold}
 use Rattle.trie_read.proofs.SizeLaws.{from}
 use Rattle.trie_read.proofs.size.+size_below.Given as goal
 

@@ -4,18 +4,21 @@ use Rattle.trie_model.specs.Trees.{entries, entries_of, count}
 use Rattle.trie_model.specs.Memory.{top_cell}
 use Rattle.trie_read.specs.Walks.{AnyStep, LeadsToLast}
 use Rattle.trie_read.proofs.TwigLaws.{ith_of}
-use Rattle.trie_read.proofs.PathLaws.{at_branch, at_leaf, not_none, stepped, leads_in, last_leaf, last_after, last_all}
+use Rattle.trie_read.proofs.PathLaws.{node_there, says_there, at_branch, at_leaf, stepped, leads_in, last_leaf, last_after, last_all}
 use Rattle.trie_read.proofs.path.Path.+enter_last.Goals as goal
+
+pub of-requires : goal.of-requires
+of-requires g t c = says_there AnyStep (g.C.CellRead.has c.args.cells.now) c.args.self.now c.args.cell c.requires
 
 pub push-requires-clause-room : goal.push-requires-clause-room
 push-requires-clause-room g t c =
     let h = c.requires in
-    (at_branch AnyStep (g.C.CellRead.has c.args.cells.now) c.args.self.now h.whole h.tree h.before h.after c.args.node c.in-Some-Branch.branch h.leads h.is c.unpack.result c.unpack.ensures.back c.in-Some-Branch.field-0 c.in-Some-Branch.is c.in-Some-Branch.field-0-is).room
+    (at_branch AnyStep (g.C.CellRead.has c.args.cells.now) c.args.self.now h.whole h.tree h.before h.after c.in-Branch.branch h.leads (sym (node_there AnyStep (g.C.CellRead.has c.args.cells.now) c.args.self.now h.whole h.tree h.before h.after c.args.cell c.of.result h.leads h.is c.of.ensures.back) ∙ c.in-Branch.is)).room
 
 pub cell-twig-requires : goal.cell-twig-requires
 cell-twig-requires g t c =
-    let has = g.C.CellRead.has c.args.cells.now in let b = c.in-Some-Branch.branch in let h = c.requires in
-    let a = at_branch AnyStep has c.args.self.now h.whole h.tree h.before h.after c.args.node b h.leads h.is c.unpack.result c.unpack.ensures.back c.in-Some-Branch.field-0 c.in-Some-Branch.is c.in-Some-Branch.field-0-is in
+    let has = g.C.CellRead.has c.args.cells.now in let b = c.in-Branch.branch in let h = c.requires in
+    let a = at_branch AnyStep has c.args.self.now h.whole h.tree h.before h.after c.in-Branch.branch h.leads (sym (node_there AnyStep has c.args.self.now h.whole h.tree h.before h.after c.args.cell c.of.result h.leads h.is c.of.ensures.back) ∙ c.in-Branch.is) in
     let m = c.twig_count-index.ensures in let n = a.counted in let two = a.two in
     let ends : suc (c.twig_count-index.result - 1) ≡ count a.below = omega arith in
     let x = ith_of has b a.below (c.twig_count-index.result - 1) a.of (let n = a.two in omega arith) in
@@ -23,8 +26,8 @@ cell-twig-requires g t c =
 
 pub enter_last-requires : goal.enter_last-requires
 enter_last-requires g t c κs within =
-    let has = g.C.CellRead.has c.args.cells.now in let b = c.in-Some-Branch.branch in let h = c.requires in
-    let a = at_branch AnyStep has c.args.self.now h.whole h.tree h.before h.after c.args.node b h.leads h.is c.unpack.result c.unpack.ensures.back c.in-Some-Branch.field-0 c.in-Some-Branch.is c.in-Some-Branch.field-0-is in
+    let has = g.C.CellRead.has c.args.cells.now in let b = c.in-Branch.branch in let h = c.requires in
+    let a = at_branch AnyStep has c.args.self.now h.whole h.tree h.before h.after c.in-Branch.branch h.leads (sym (node_there AnyStep has c.args.self.now h.whole h.tree h.before h.after c.args.cell c.of.result h.leads h.is c.of.ensures.back) ∙ c.in-Branch.is) in
     let m = c.twig_count-index.ensures in let n = a.counted in let two = a.two in
     let ends : suc (c.twig_count-index.result - 1) ≡ count a.below = omega arith in
     let x = ith_of has b a.below (c.twig_count-index.result - 1) a.of (let n = a.two in omega arith) in
@@ -44,19 +47,15 @@ enter_last-requires g t c κs within =
       ),
     )
 
-pub returns-in-None-clause-last : goal.returns-in-None-clause-last
-returns-in-None-clause-last g t c whole tree before after leads is =
-    absurd (not_none AnyStep (g.C.CellRead.has c.args.cells.now) c.args.self.now whole tree before after c.args.node leads is c.unpack.result c.unpack.ensures.back c.in-None.is)
-
-pub returns-in-Some-Leaf-clause-last : goal.returns-in-Some-Leaf-clause-last
-returns-in-Some-Leaf-clause-last g t c whole tree before after leads is =
+pub returns-in-Leaf-clause-last : goal.returns-in-Leaf-clause-last
+returns-in-Leaf-clause-last g t c whole tree before after leads is =
     let has = g.C.CellRead.has c.args.cells.now in
-    last_leaf has c.args.self.now whole tree before after c.in-Some-Leaf.leaf (at_leaf AnyStep has c.args.self.now whole tree before after c.args.node c.in-Some-Leaf.leaf leads is c.unpack.result c.unpack.ensures.back c.in-Some-Leaf.field-0 c.in-Some-Leaf.is c.in-Some-Leaf.field-0-is) leads
+    last_leaf has c.args.self.now whole tree before after c.in-Leaf.leaf (at_leaf AnyStep has c.args.self.now whole tree before after c.in-Leaf.leaf leads (sym (node_there AnyStep has c.args.self.now whole tree before after c.args.cell c.of.result leads is c.of.ensures.back) ∙ c.in-Leaf.is)) leads
 
-pub returns-in-Some-Branch-clause-last : goal.returns-in-Some-Branch-clause-last
-returns-in-Some-Branch-clause-last g t c whole tree before after leads is =
-    let has = g.C.CellRead.has c.args.cells.now in let b = c.in-Some-Branch.branch in
-    let a = at_branch AnyStep has c.args.self.now whole tree before after c.args.node b leads is c.unpack.result c.unpack.ensures.back c.in-Some-Branch.field-0 c.in-Some-Branch.is c.in-Some-Branch.field-0-is in
+pub returns-in-Branch-clause-last : goal.returns-in-Branch-clause-last
+returns-in-Branch-clause-last g t c whole tree before after leads is =
+    let has = g.C.CellRead.has c.args.cells.now in let b = c.in-Branch.branch in
+    let a = at_branch AnyStep has c.args.self.now whole tree before after c.in-Branch.branch leads (sym (node_there AnyStep has c.args.self.now whole tree before after c.args.cell c.of.result leads is c.of.ensures.back) ∙ c.in-Branch.is) in
     let m = c.twig_count-index.ensures in let n = a.counted in let two = a.two in
     let ends : suc (c.twig_count-index.result - 1) ≡ count a.below = omega arith in
     let x = ith_of has b a.below (c.twig_count-index.result - 1) a.of (let n = a.two in omega arith) in

@@ -1,0 +1,81 @@
+//! The front of an item, compared where it lies.
+
+ghost use Rattle.std.specs.Prelude.{◌≡◌, ◌+◌, ◌/◌, ◌<◌, ◌≤◌, ◌↔◌, ◌++◌, ℕ, List, IsTrue, length, drop, slice_index};
+ghost use Rattle.std.specs.Int.{w64, from_le_bytes};
+ghost use Rattle.packed_node.specs.declared.Cell.{Cell};
+ghost use Rattle.trie_model.specs.Keys.{IsItem};
+ghost use Rattle.trie_model.specs.Trees.{IsRow};
+ghost use Rattle.trie_model.specs.Memory.{ItemLies};
+
+use super::CellRead;
+use super::item::cells_for;
+use packed_node::{Cell, Leaf};
+
+/// Whether a leaf's item begins with these octets, at most 256. Nothing is copied.
+pub fn begins_with<C: CellRead>(cells: &mut C, leaf: Leaf, octets: &[u8]) -> bool
+    requires few { length octets.now ≤ 256 }
+    requires row { IsRow leaf.at ((leaf.len + 15) / 16) }
+    requires there { (k : ℕ) → k < (leaf.len + 15) / 16 → (c : Cell) × C.has cells.old (leaf.at + k) c }
+    ensures same { cells.new ≡ cells.old }
+    ensures value { (item : List ℕ) → IsItem item → length item ≡ leaf.len → ItemLies (C.has cells.old) leaf.at item
+        → IsTrue result ↔ ((rest : List ℕ) × (item ≡ octets.now ++ rest)) }
+{
+    if octets.len() > leaf.len as usize {
+        return false;
+    }
+    for k in 0..cells_for(octets.len() as u16) {
+        let cell = cells.cell(leaf.at + k);
+        let start = 16 * k as usize;
+        if !cell_says(cell, octets, start) {
+            return false;
+        }
+    }
+    true
+}
+
+/// Whether a cell of an item, that of its 16 octets from `start` on, has those of the octets that lie there.
+#[inline]
+fn cell_says(cell: Cell, octets: &[u8], start: usize) -> bool
+    requires { start < 4096 }
+    ensures { (item : List ℕ) → ((i : ℕ) → slice_index item i < 256) → cell.big ≡ from_le_bytes w64 (drop start item) → cell.small ≡ from_le_bytes w64 (drop (start + 8) item)
+        → IsTrue result ↔ ((i : ℕ) → start ≤ i → i < start + 16 → i < length octets.now → slice_index item i ≡ slice_index octets.now i) }
+{
+    says(cell.big, octets, start) && says(cell.small, octets, start + 8)
+}
+
+/// Whether a word of an item, that of its eight octets from `start` on, has those of the octets that lie there.
+#[inline]
+fn says(word: u64, octets: &[u8], start: usize) -> bool
+    requires { start < 8192 }
+    ensures { (item : List ℕ) → ((i : ℕ) → slice_index item i < 256) → word ≡ from_le_bytes w64 (drop start item)
+        → IsTrue result ↔ ((i : ℕ) → start ≤ i → i < start + 8 → i < length octets.now → slice_index item i ≡ slice_index octets.now i) }
+{
+    if start + 8 <= octets.len() {
+        return word == whole_word(octets, start);
+    }
+    let bytes = word.to_le_bytes();
+    for i in start..octets.len() {
+        if bytes[i - start] != octets[i] {
+            return false;
+        }
+    }
+    true
+}
+
+/// The word of the eight octets from `start` on, the first the lowest.
+#[inline]
+fn whole_word(octets: &[u8], start: usize) -> u64
+    requires { start + 8 ≤ length octets.now }
+    ensures { result ≡ from_le_bytes w64 (drop start octets.now) }
+{
+    u64::from_le_bytes([
+        octets[start],
+        octets[start + 1],
+        octets[start + 2],
+        octets[start + 3],
+        octets[start + 4],
+        octets[start + 5],
+        octets[start + 6],
+        octets[start + 7],
+    ])
+}

@@ -1,5 +1,0 @@
-use Rattle.std.proofs.Common.{length}
-use Rattle.shift_key.proofs.compare.+behind_name.Given as goal
-
-abbrev pub decreases-behind_name : goal.decreases-behind_name
-decreases-behind_name l = length l.bytes.now
