@@ -15,10 +15,6 @@ set_stays flags c k h = elim (cases_eq k c) [ inl e ↦ grind (arith, elements, 
 pub one_fewer_clear : (flags : List Bool) (c : ℕ) → c < length flags → slice_index_or flags c false ≡ false → count_by not (slice_set flags c true) + 1 ≡ count_by not flags
 one_fewer_clear flags c l h = let e = sum_by-set (λ (x : Bool). cond (not x) 1 0) flags c true false l in grind (arith, e, h)
 
--- a flag that is set is cleared
-pub one_more_clear : (flags : List Bool) (c : ℕ) → c < length flags → slice_index_or flags c false ≡ true → count_by not (slice_set flags c false) ≡ count_by not flags + 1
-one_more_clear flags c l h = let e = sum_by-set (λ (x : Bool). cond (not x) 1 0) flags c false false l in grind (arith, e, h)
-
 -- where some flag is clear there is a first one
 pub first_clear_is : (flags : List Bool) → 0 < count_by not flags → position_or_len not flags < length flags
 first_clear_is [] h = absurd (omega arith)

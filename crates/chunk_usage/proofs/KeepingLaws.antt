@@ -1,12 +1,11 @@
 -- Each change of the kept versions leaves a ledger.
-use Rattle.std.proofs.Common.{◌≡◌, ◌≢◌, ℕ, ◌+◌, ◌/◌, ◌%◌, ◌<◌, ◌≤◌, nat_lt, Bool, true, false, not, List, [], ◌∷◌, ◌++◌, length, replicate, slice_index, slice_index_or, refl, ◌∙◌, sym, subst, inl, inr, arith, length-append}
-use Rattle.std.specs.Prelude.{Option, None, Some, IfSome, cond, nat_le, ◌||◌, ◌&&◌, if◌then◌else◌}
+use Rattle.std.proofs.Common.{◌≡◌, ◌≢◌, ℕ, ◌+◌, ◌/◌, ◌<◌, ◌≤◌, nat_lt, Bool, true, false, not, List, [], ◌∷◌, ◌++◌, length, replicate, slice_index, slice_index_or, refl, ◌∙◌, sym, subst, inl, inr, arith, length-append}
+use Rattle.std.specs.Prelude.{None, Some, IfSome, cond}
 use Rattle.std.specs.List.{AllByRecursion}
 use Rattle.std.proofs.lemmas.Bool.{cases_lt}
 use Rattle.std.proofs.lemmas.Bool.Decides.{nat_tests}
 use Rattle.std.proofs.lemmas.List.{length-map, length-replicate, get_or-map, get_or-replicate, get_or_past}
-use Rattle.chunk_usage.specs.declared.open.Open.{Open}
-use Rattle.chunk_usage.specs.Ledger.{Row, Ledger, IsLedger, AreCounts, IsRowOf, unused, Rising, IsNewest, newest, row_of, is_given, is_open, is_used, is_fresh, filled}
+use Rattle.chunk_usage.specs.Ledger.{Row, Ledger, IsLedger, AreCounts, IsRowOf, unused, Rising, IsNewest, newest, row_of}
 use Rattle.chunk_usage.specs.Counting.{Counted}
 use Rattle.chunk_usage.specs.Keeping.{AreOlder, frozen, dropped, without_row, is_row_of}
 use Rattle.chunk_usage.proofs.FlagLemmas.{set_within}
@@ -59,15 +58,6 @@ frozen_ledger l h version room older = record {
   rows_given = rows_more l.given l.rows _ h.rows_given (record { wide = length-map l.live (nat_lt 0) ∙ h.counted; in_given = λ k t. h.counts.in_given k (row_counts l.live k t) });
   newest_row = subst (IsNewest l.live) (sym (newest_more l.rows _)) refl;
 }
-
--- what is in use at a freeze isn't fresh
-pub frozen_settled : (l : Ledger) (version : ℕ) (q : ℕ) → is_used (frozen l version) q ≡ true → is_fresh (frozen l version) q ≡ false
-frozen_settled l version q u = go l.open_chunk u
-  where
-    go : (o : Option Open) → (if is_open o (q / 1024) then nat_lt (q % 1024) (filled o) else is_given l (q / 1024)) ≡ true
-        → (slice_index_or (replicate (length l.since) false) (q / 1024) false || (is_open o (q / 1024) && nat_le (filled o) (q % 1024))) ≡ false
-    go None u = let z = none_set (length l.since) (q / 1024) in grind (arith, nat_tests, z)
-    go (Some o) u = let z = none_set (length l.since) (q / 1024) in grind (arith, nat_tests, z, u)
 
 -- a ledger whose fields are those of the frozen one
 pub frozen_alike : (l m : Ledger) → l ≡ m → IsLedger l → (version : ℕ) → length m.rows < m.passes + 2 → AreOlder m.rows version → (live : List ℕ) (since : List Bool) (last : List ℕ) (rows : List Row)

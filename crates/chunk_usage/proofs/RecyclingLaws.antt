@@ -2,7 +2,7 @@
 use Rattle.std.proofs.Common.{◌≡◌, ℕ, ◌<◌, ◌≤◌, nat_lt, Bool, true, false, not, List, [], ◌∷◌, length, slice_index, slice_index_or, refl, ◌∙◌, sym, ap, subst, inl, inr, arith}
 use Rattle.std.specs.Prelude.{Option, None, Some, ◌||◌, ◌&&◌}
 use Rattle.std.specs.List.{AllByRecursion, list_any}
-use Rattle.std.proofs.lemmas.Bool.{cases_lt, and_from, and_parts, or_left, or_right, eq-eqb, lt-ltb}
+use Rattle.std.proofs.lemmas.Bool.{cases_lt, and_from, or_left, or_right, eq-eqb, lt-ltb}
 use Rattle.std.proofs.lemmas.List.{length-map, get_or-map, get_or_past}
 use Rattle.std.proofs.lemmas.List.FromFn.{fill_by_all, get_or-map-range_with_len, length-map-range_with_len}
 use Rattle.chunk_usage.specs.declared.open.Open.{Open}
@@ -146,6 +146,3 @@ kept_stays l k t = ap (λ b. is_given l k && not b) (row_needed l k t) ∙ none 
     none : (b : Bool) → (b && false) ≡ false
     none true = refl
     none false = refl
-
-pub unreached_given : (l : Ledger) (k : ℕ) → is_unreached l k ≡ true → is_given l k ≡ true
-unreached_given l k t = (and_parts (is_given l k) (not (is_needed l k)) t).0
