@@ -124,14 +124,13 @@ module _ {S A : Type 0} {has : S → ℕ → Cell → Type 0} {kept : S → List
 
   lies_new : Beneath (has s3) (fork new_fork new_below)
   lies_new = lie_join (has s3) to t.left (twig t.position new_below t.right)
-      (lie_moved (account a).used (has s) (has s3) keep b.twigs to t.left (λ i c l h. copied_here i c (let e = n_here asks t in omega arith) (omega arith) h) (within_left (account a).used b.twigs t.left (twig t.position (plug t.rest end) t.right) (hangs_here asks t).within) (sides_of (has s) (branch_here asks t) (plug t.rest end) (hangs_here asks t).top.beneath).lefts)
-      (
+      (lie_moved (account a).used (has s) (has s3) keep b.twigs to t.left (λ i c l h. copied_here i c (let e = n_here asks t in omega arith) (omega arith) h) (within_left (account a).used b.twigs t.left (twig t.position (plug t.rest end) t.right) (hangs_here asks t).within) (sides_of (has s) (branch_here asks t) (plug t.rest end) (hangs_here asks t).top.beneath).lefts) (
         subst (λ (i : ℕ). has s3 (to + i) (top_cell new_below)) i_is (subst (has s3 (to + index)) deep.is put),
         beneath_met (has s2) (has s3) new_below (λ q c m h. wrote.others q c (apart q m) h) deep.beneath,
         lie_moved (account a).used (has s) (has s3) keep (suc (b.twigs + count t.left)) (suc (to + count t.left)) t.right
-        (λ i c l h. let x : suc (b.twigs + count t.left) + i ≡ b.twigs + (count t.left + suc i) = omega arith in let y : to + (count t.left + suc i) ≡ suc (to + count t.left) + i = omega arith in
+            (λ i c l h. let x : suc (b.twigs + count t.left) + i ≡ b.twigs + (count t.left + suc i) = omega arith in let y : to + (count t.left + suc i) ≡ suc (to + count t.left) + i = omega arith in
             subst (λ (q : ℕ). has s3 q c) y (copied_here (count t.left + suc i) c (let e = n_here asks t in omega arith) (omega arith) (subst (λ (q : ℕ). has s q c) x h)))
-        (right_within asks t).2 (sides_of (has s) (branch_here asks t) (plug t.rest end) (hangs_here asks t).top.beneath).rights,
+            (right_within asks t).2 (sides_of (has s) (branch_here asks t) (plug t.rest end) (hangs_here asks t).top.beneath).rights,
       )
 
   weighs_old : (w : ℕ → ℕ) → weigh_tree w (plug way end) ≡ row w b.twigs (count_ones b.bitmap) + (under w t.left + (weigh_tree w (plug t.rest end) + under w t.right))
@@ -176,6 +175,6 @@ module _ {S A : Type 0} {has : S → ℕ → Cell → Type 0} {kept : S → List
 pub copied_none : {S A : Type 0} {has : S → ℕ → Cell → Type 0} {given : S → List Bool} {account : A → Account} {s : S} {a : A} {place low at_new : ℕ} {key : List ℕ} {cell : Cell} {way : List Fork} {end : Tree} → WayAsks has account s a place low key cell way end → way ≡ [] → IsCopied has given account a s a place low key at_new way end cell at_new
 copied_none {has = has} {given} {account} {s} {a} {place} {low} {at_new} {key} {cell} {end = end} asks is =
     subst (λ (w : List Fork). IsCopied has given account a s a place low key at_new w end cell at_new) (sym is) (
-      let h : IsTop (has s) low cell end = subst (λ (w : List Fork). IsTop (has s) low cell (plug w end)) is asks.hangs.top in
-      record { copy = []; shape = h.tree; entries = refl; along = tt; is = h.is; beneath = h.beneath; seat_is = refl; writable = λ w. w; counts = λ k. refl; met = λ q. omega arith }
+    let h : IsTop (has s) low cell end = subst (λ (w : List Fork). IsTop (has s) low cell (plug w end)) is asks.hangs.top in
+    record { copy = []; shape = h.tree; entries = refl; along = tt; is = h.is; beneath = h.beneath; seat_is = refl; writable = λ w. w; counts = λ k. refl; met = λ q. omega arith }
     )

@@ -90,8 +90,7 @@ module _ {S A : Type 0} {has : S → ℕ → Cell → Type 0} {account : A → A
       let early = low_early first.place 0 key p.copy (omega arith) p.along in
       let x = w.grown (low_at 0 p.copy) early (end_tree 0 p.copy h.end p.tree) in
       let near = h.differs.nearest in
-      let same : Same (low_at 0 p.copy) key near.near.key = λ j l. near.same j (omega arith) in
-      (
+      let same : Same (low_at 0 p.copy) key near.near.key = λ j l. near.same j (omega arith) in (
         entries_of (plug p.copy w.new),
         record {
           before = before p.copy ++ x.put.before;

@@ -51,8 +51,8 @@ copied_plug mutable place low n r key (f ∷ way) end h a =
     let next = copied_plug mutable place (suc f.offset) (twigs_of f) (twig_at f) key way end k.tree a.2 in
     let p = path_plug place low key (f ∷ way) end h a in
     let c = ap (λ (p : ℕ). copied_past mutable key p (count (beside f.left (twig f.position (plug way end) f.right))) f.first (beside f.left (twig f.position (plug way end) f.right))) (sym a.1)
-        ∙ copied_left mutable key (count (beside f.left (twig f.position (plug way end) f.right))) f.position 0 f.first f.left (plug way end) f.right k.lower
-        ∙ ap (λ (m : ℕ). cond (mutable (twig_at f)) (copied_below mutable key (plug way end)) (m + twigs_on_path key (plug way end))) (fork_count f (plug way end)) in
+    ∙ copied_left mutable key (count (beside f.left (twig f.position (plug way end) f.right))) f.position 0 f.first f.left (plug way end) f.right k.lower
+    ∙ ap (λ (m : ℕ). cond (mutable (twig_at f)) (copied_below mutable key (plug way end)) (m + twigs_on_path key (plug way end))) (fork_count f (plug way end)) in
     elim (cases_of (mutable r)) [
       | inl e ↦ (let x = ap (λ b. cond b (copied_along mutable (twigs_of f) (twig_at f) way) (n + twigs_along (f ∷ way))) e in let y = ap (λ b. cond b (copied_below mutable key (plug (f ∷ way) end)) (n + twigs_on_path key (plug (f ∷ way) end))) e in omega arith)
       | inr e ↦ (let x = ap (λ b. cond b (copied_along mutable (twigs_of f) (twig_at f) way) (n + twigs_along (f ∷ way))) e in let y = ap (λ b. cond b (copied_below mutable key (plug (f ∷ way) end)) (n + twigs_on_path key (plug (f ∷ way) end))) e in omega arith)

@@ -236,9 +236,9 @@ module _ {S A : Type 0} {has : S → ℕ → Cell → Type 0} {account : A → A
     along = copied.along;
     seat_is = copied.seat_is;
     writable = (
-      let w = copied.writable (record { in_use = g.grows.stays root root_used; mutable = g.grows.fresher root root_mutable; in_given = g.given_stays (root / 1024) root_given }) in
-      record { in_use = ap (λ (v : Account). v.used seat) rest ∙ w.in_use; mutable = ap (λ (v : Account). v.mutable seat) rest ∙ w.mutable; in_given = subst (λ (x : List Bool). IsGiven x (seat / 1024)) (sym same_given) w.in_given }
-      );
+        let w = copied.writable (record { in_use = g.grows.stays root root_used; mutable = g.grows.fresher root root_mutable; in_given = g.given_stays (root / 1024) root_given }) in
+        record { in_use = ap (λ (v : Account). v.used seat) rest ∙ w.in_use; mutable = ap (λ (v : Account). v.mutable seat) rest ∙ w.mutable; in_given = subst (λ (x : List Bool). IsGiven x (seat / 1024)) (sym same_given) w.in_given }
+        );
     outside = λ q c u out h. others q c (λ e. apart_root q u e) (g.stays q c (f.grows.stays q u) (f.stays q c u h));
     apart = outside_seat;
     below = λ q c m h. let u = met_used asks.rooted q (let w = end_less (at_place q) way end in omega arith) in others q c (λ e. apart_root q u e) (g.stays q c (f.grows.stays q u) (f.stays q c u h));

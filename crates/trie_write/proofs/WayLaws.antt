@@ -85,8 +85,7 @@ plug_lies has new r [] t u top h keep put b = (put, b)
 plug_lies has new r (f ∷ way) t u top h keep put b =
     let e = twig_of has f (plug way t) h in
     let s = sides_of has f (plug way t) h in
-    let next = plug_lies has new (twig_at f) way t u e.0 e.1 (λ q c m. keep q c (omega arith)) put b in
-    (
+    let next = plug_lies has new (twig_at f) way t u e.0 e.1 (λ q c m. keep q c (omega arith)) put b in (
       subst (new r) (same_top f (plug way t) (plug way u)) (keep r (top_cell (fork f (plug way t))) (let a = at_itself r in omega arith) top),
       fork_lies new f (plug way u) (record {
         lefts = lie_met has new f.first f.left (λ q c m. keep q c (omega arith)) s.lefts;
@@ -255,8 +254,7 @@ key_between low (f ∷ way) t h y i k s x =
     let b = is_fork low f (plug way t) h in
     let deep = low_rises (suc f.offset) way t b.tree in
     let next = key_between (suc f.offset) way t b.tree y i k s x in
-    let less : Same (suc f.offset) k y.key = λ j l. s j (omega arith) in
-    (
+    let less : Same (suc f.offset) k y.key = λ j l. s j (omega arith) in (
       λ a. elim (in_both x (entries f.left) (before way) a) [ inl u ↦ lefts_less low f way t b y i k less x u | inr u ↦ next.0 u ],
       λ a. elim (in_both x (after way) (entries f.right) a) [ inl u ↦ next.1 u | inr u ↦ rights_less low f way t b y i k less x u ],
     )

@@ -218,10 +218,10 @@ module _ {S A : Type 0} {has : S → ℕ → Cell → Type 0} {account : A → A
         right_lie : Lie (has s2) (suc (to + count missing.left)) missing.right
         right_lie = lie_moved (account a).used (has s) (has s2) f.stays (b.twigs + count missing.left) (suc (to + count missing.left)) missing.right
             (λ i d m h.
-                let n = among_index in let z = sizes in let o = among_n in
-                let y : b.twigs + count missing.left + i ≡ b.twigs + (count_ones (b.bitmap % 2 ^ at key first.place) + 0 + i) = omega arith in
-                let v : to + (count_ones (b.bitmap % 2 ^ at key first.place) + 1 + i) ≡ suc (to + count missing.left) + i = omega arith in
-                subst (λ q. has s2 q d) v (rights i d (omega arith) (subst (λ q. has s q d) y h)))
+            let n = among_index in let z = sizes in let o = among_n in
+            let y : b.twigs + count missing.left + i ≡ b.twigs + (count_ones (b.bitmap % 2 ^ at key first.place) + 0 + i) = omega arith in
+            let v : to + (count_ones (b.bitmap % 2 ^ at key first.place) + 1 + i) ≡ suc (to + count missing.left) + i = omega arith in
+            subst (λ q. has s2 q d) v (rights i d (omega arith) (subst (λ q. has s q d) y h)))
             (within_right (account a).used b.twigs missing.left missing.right sides_within) (lie_right (has s) b.twigs missing.left missing.right sides_lie)
 
         leaf_lies : has s2 (to + count missing.left) (top_cell (leaf (record { key = key; item = item }) l.at))
@@ -237,9 +237,9 @@ module _ {S A : Type 0} {has : S → ℕ → Cell → Type 0} {account : A → A
           makes = new_makes (branch first.place to more) new_twigs new_item old_item old_twigs (let n = among_n in let r = among_lies.together in omega arith) together.together
               (cell ∙ ap (λ (z : ℕ). branch_cell (record { offset = first.place; bitmap = z; twigs = to })) more_bits) more_lie
               (λ w. let e = ap (weigh_tree w) is_branch in
-                  let y = weigh_is w b.twigs t.below in let z = weigh_is w to more in
-                  let u = ap (under w) missing.is ∙ under-beside w missing.left missing.right in
-                  let v = under-beside w missing.left (twig (at key first.place) (leaf (record { key = key; item = item }) l.at) missing.right) in
-                  let m = ap (row w to) more_count in let o = ap (row w b.twigs) among_n in omega arith);
+              let y = weigh_is w b.twigs t.below in let z = weigh_is w to more in
+              let u = ap (under w) missing.is ∙ under-beside w missing.left missing.right in
+              let v = under-beside w missing.left (twig (at key first.place) (leaf (record { key = key; item = item }) l.at) missing.right) in
+              let m = ap (row w to) more_count in let o = ap (row w b.twigs) among_n in omega arith);
           grown = λ low late _. more_grown low late;
         }

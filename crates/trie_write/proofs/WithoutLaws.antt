@@ -124,7 +124,7 @@ module _ {S A : Type 0} {has : S → ℕ → Cell → Type 0} {account : A → A
         };
         shrunk = u.4;
       }
-    )
+      )
 
   -- ---- of three and more twigs the others are copied side by side
 
@@ -175,7 +175,7 @@ module _ {S A : Type 0} {has : S → ℕ → Cell → Type 0} {account : A → A
         rights : Lie (has s1) (to + count x.turn.through.left) x.turn.through.right
         rights = lie_moved (account a).used (has s) (has s1) f.stays (suc (twig_at last_fork)) (to + count x.turn.through.left) x.turn.through.right
             (λ i d l h. let y : suc (twig_at last_fork) + i ≡ t.branch.twigs + (t.index + 1 + i) = let n = x.turn.index_is in omega arith in let z : to + (t.index + 0 + i) ≡ to + count x.turn.through.left + i = let n = x.turn.index_is in omega arith in
-                subst (λ q. has s1 q d) z (after i d (let n = x.turn.index_is in let m = last_n in omega arith) (subst (λ q. has s q d) y h)))
+            subst (λ q. has s1 q d) z (after i d (let n = x.turn.index_is in let m = last_n in omega arith) (subst (λ q. has s q d) y h)))
             (within_right (account a).used t.branch.twigs x.turn.through.left (twig x.turn.through.position (leaf e first) x.turn.through.right) last_within).2 (sides_of (has s) last_fork (leaf e first) last_beneath).rights
 
 pub same_without : {S : Type 0} {has : S → ℕ → Cell → Type 0} {s s1 : S} {c : Change} {e : Entry} {old : Tree} → s1 ≡ s → IsWithout has s c e old → IsWithout has s1 c e old

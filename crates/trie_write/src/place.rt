@@ -15,11 +15,7 @@ use chunk_usage::{Full, Space};
 use packed_node::{Cell, Leaf, Ref};
 
 /// Room for n cells side by side, in a chunk that the cells know as given.
-pub fn room_for<C: CellWrite, U: Space>(
-    cells: &mut C,
-    usage: &mut U,
-    n: u32,
-) -> Result<Ref, Full>
+pub fn room_for<C: CellWrite, U: Space>(cells: &mut C, usage: &mut U, n: u32) -> Result<Ref, Full>
     requires some { 0 < n }
     requires few { n ≤ 256 }
     requires ready { Ready C.kept C.given U.account cells.old usage.old }

@@ -21,14 +21,18 @@ lay_item-requires-clause-some g c = leads_some c.requires.leads
 pub with_leaf-requires-clause-asks : goal.with_leaf-requires-clause-asks
 with_leaf-requires-clause-asks g c =
     let h = c.requires.missing.asks in let same = c.end_node-node.ensures.same ∙ c.cell-top.ensures.same in
-    record { item = c.args.item.now; end = h.end; asks = with_asks h (leads_entry c.requires.leads (λ i. Fits-lt-pow {w = w8} (c.type_inv.item i))) (laid_is c.lay_item.new.usage c.in_ok-leaf.ensures.len c.in_ok-leaf.ensures.handed c.in_ok-leaf.ensures.lies) (frame_same same c.in_ok-leaf.ensures.frame)
-        (c.end_node-node.ensures.end h.way h.end (same_top g.C.CellRead.has c.cell-top.ensures.same (lacks_top h c.cell-top.ensures.value)) h.is_way) }
+    record {
+      item = c.args.item.now;
+      end = h.end;
+      asks = with_asks h (leads_entry c.requires.leads (λ i. Fits-lt-pow {w = w8} (c.type_inv.item i))) (laid_is c.lay_item.new.usage c.in_ok-leaf.ensures.len c.in_ok-leaf.ensures.handed c.in_ok-leaf.ensures.lies) (frame_same same c.in_ok-leaf.ensures.frame)
+          (c.end_node-node.ensures.end h.way h.end (same_top g.C.CellRead.has c.cell-top.ensures.same (lacks_top h c.cell-top.ensures.value)) h.is_way);
+    }
 
 pub returns-in-Ok-clause-with : goal.returns-in-Ok-clause-with
 returns-in-Ok-clause-with g c t version h =
     let same = c.end_node-node.ensures.same ∙ c.cell-top.ensures.same in
     c.in-Ok.ensures.with c.args.item.now h.end (with_asks h (leads_entry c.requires.leads (λ i. Fits-lt-pow {w = w8} (c.type_inv.item i))) (laid_is c.lay_item.new.usage c.in_ok-leaf.ensures.len c.in_ok-leaf.ensures.handed c.in_ok-leaf.ensures.lies) (frame_same same c.in_ok-leaf.ensures.frame)
-        (c.end_node-node.ensures.end h.way h.end (same_top g.C.CellRead.has c.cell-top.ensures.same (lacks_top h c.cell-top.ensures.value)) h.is_way))
+    (c.end_node-node.ensures.end h.way h.end (same_top g.C.CellRead.has c.cell-top.ensures.same (lacks_top h c.cell-top.ensures.value)) h.is_way))
 
 pub returns-in-Ok-clause-taken : goal.returns-in-Ok-clause-taken
 returns-in-Ok-clause-taken g c = taken_both c.in_ok-leaf.leaf c.args.item.now c.in_ok-leaf.ensures.len c.in_ok-leaf.ensures.handed c.in_ok-leaf.ensures.frame.grows.stays c.in-Ok.ensures.handed c.in-Ok.ensures.frame.grows.stays c.in-Ok.ensures.item
@@ -37,14 +41,14 @@ pub returns-in-Ok-clause-spends : goal.returns-in-Ok-clause-spends
 returns-in-Ok-clause-spends g c t version h =
     let same = c.end_node-node.ensures.same ∙ c.cell-top.ensures.same in
     let m = c.with_leaf.ensures.spends c.args.item.now h.end (with_asks h (leads_entry c.requires.leads (λ i. Fits-lt-pow {w = w8} (c.type_inv.item i))) (laid_is c.lay_item.new.usage c.in_ok-leaf.ensures.len c.in_ok-leaf.ensures.handed c.in_ok-leaf.ensures.lies) (frame_same same c.in_ok-leaf.ensures.frame)
-        (c.end_node-node.ensures.end h.way h.end (same_top g.C.CellRead.has c.cell-top.ensures.same (lacks_top h c.cell-top.ensures.value)) h.is_way)) in
+    (c.end_node-node.ensures.end h.way h.end (same_top g.C.CellRead.has c.cell-top.ensures.same (lacks_top h c.cell-top.ensures.value)) h.is_way)) in
     let s = c.lay_item.ensures.spends in omega arith
 
 pub returns-in-Err-clause-spends : goal.returns-in-Err-clause-spends
 returns-in-Err-clause-spends g c t version h =
     let same = c.end_node-node.ensures.same ∙ c.cell-top.ensures.same in
     let m = c.with_leaf.ensures.spends c.args.item.now h.end (with_asks h (leads_entry c.requires.leads (λ i. Fits-lt-pow {w = w8} (c.type_inv.item i))) (laid_is c.lay_item.new.usage c.in_ok-leaf.ensures.len c.in_ok-leaf.ensures.handed c.in_ok-leaf.ensures.lies) (frame_same same c.in_ok-leaf.ensures.frame)
-        (c.end_node-node.ensures.end h.way h.end (same_top g.C.CellRead.has c.cell-top.ensures.same (lacks_top h c.cell-top.ensures.value)) h.is_way)) in
+    (c.end_node-node.ensures.end h.way h.end (same_top g.C.CellRead.has c.cell-top.ensures.same (lacks_top h c.cell-top.ensures.value)) h.is_way)) in
     let s = c.lay_item.ensures.spends in let r = ap (λ (z : Account). z.spent) c.release.ensures.rest in omega arith
 
 pub returns-in-Err-clause-copies : goal.returns-in-Err-clause-copies

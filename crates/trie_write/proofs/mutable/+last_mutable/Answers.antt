@@ -25,11 +25,22 @@ last_mutable-requires g t c κs within =
     let k = known a.hangs.top a.is_way told.through in
     let f : 504 - (c.in-Some.turn.branch.offset + 1) < 504 - c.args.low = let late = k.late in let early = k.early in omega arith in
     let next = asks_on a told.through {a1 = c.args.usage.now} {next = c.in-Some.turn.next} (λ z. omega arith) (λ q x u h. subst (λ s. g.C.CellRead.has s q x) (sym c.next_turn.ensures.same) h) (λ q u. u) told.next_is in
-    let used = cell_used a told.through c.in-Some.turn.index (let n = n_here a told.through in let i = told.index_is in omega arith) in
-    (search (rules, f), (within.0, (within.1, (record { way = told.through.rest; end = c.requires.asks.end; asks = next }, (
-      record { in_use = used; mutable = sym c.is_mutable.ensures.value ∙ c.if-is_mutable.true; in_given = subst (λ (x : List Bool). IsGiven x ((c.in-Some.turn.branch.twigs + c.in-Some.turn.index) / 1024)) (sym (ap g.C.CellWrite.given c.next_turn.ensures.same ∙ c.requires.ready.same)) (c.is_mutable.ensures.given used) },
-      subst (λ s. Ready g.C.CellWrite.kept g.C.CellWrite.given g.U.Space.account s c.args.usage.now) (sym c.next_turn.ensures.same) c.requires.ready
-    )))))
+    let used = cell_used a told.through c.in-Some.turn.index (let n = n_here a told.through in let i = told.index_is in omega arith) in (
+      search (rules, f),
+      (
+        within.0,
+        (
+          within.1,
+          (
+            record { way = told.through.rest; end = c.requires.asks.end; asks = next },
+            (
+              record { in_use = used; mutable = sym c.is_mutable.ensures.value ∙ c.if-is_mutable.true; in_given = subst (λ (x : List Bool). IsGiven x ((c.in-Some.turn.branch.twigs + c.in-Some.turn.index) / 1024)) (sym (ap g.C.CellWrite.given c.next_turn.ensures.same ∙ c.requires.ready.same)) (c.is_mutable.ensures.given used) },
+              subst (λ s. Ready g.C.CellWrite.kept g.C.CellWrite.given g.U.Space.account s c.args.usage.now) (sym c.next_turn.ensures.same) c.requires.ready,
+            ),
+          ),
+        ),
+      ),
+    )
 
 pub returns-in-None-clause-parted : goal.returns-in-None-clause-parted
 returns-in-None-clause-parted g t c way end a = parted_end (c.next_turn.ensures.none c.in-None.is c.args.low way end a.hangs.top a.is_way) c.requires.writable.mutable a.hangs.top.is

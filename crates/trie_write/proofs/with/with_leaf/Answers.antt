@@ -78,7 +78,7 @@ returns-in_ok-to-in-None-clause-with g c item end x =
     let deep = c.branch_at.ensures.deep c.in-None.is 0 end x.top.tree x.top.is x.ends in
     let h = c.in_ok-to-in-None.ensures.handed in
     let wrote = wrote_then (wrote_one (c.in_ok-to-in-None.to + c.place_of_two-index.result) c.place_of_two-index.result c.place_of_two-index.ensures.two refl c.put.ensures.others c.put.ensures.given c.put.ensures.kept)
-        (wrote_one (c.in_ok-to-in-None.to + (1 - c.place_of_two-index.result)) (1 - c.place_of_two-index.result) (omega arith) refl c.put-in-None.ensures.others c.put-in-None.ensures.given c.put-in-None.ensures.kept) in
+    (wrote_one (c.in_ok-to-in-None.to + (1 - c.place_of_two-index.result)) (1 - c.place_of_two-index.result) (omega arith) refl c.put-in-None.ensures.others c.put-in-None.ensures.given c.put-in-None.ensures.kept) in
     paired x deep h.twigs (frame_wrote h c.in_ok-to-in-None.ensures.frame (frame_refl _ _) wrote) (λ l. c.place_of_two-index.ensures.before (subst (λ (p : ℕ). p < c.args.first.position) (sym c.at-position.ensures) l)) (λ l. c.place_of_two-index.ensures.behind (subst (λ (p : ℕ). c.args.first.position ≤ p) (sym c.at-position.ensures) l))
     (c.put-in-None.ensures.others _ _ (λ e. omega arith) (subst (λ d. g.C.CellRead.has c.put.new.self (c.in_ok-to-in-None.to + c.place_of_two-index.result) d) c.pack.ensures c.put.ensures.written)) c.put-in-None.ensures.written
     (c.pack-in-None.ensures ∙ ap (λ (b : ℕ). branch_cell (record { offset = c.args.first.place; bitmap = b; twigs = c.in_ok-to-in-None.to })) (c.pair.ensures ∙ ap (λ (p : ℕ). 2 ^ p + 2 ^ c.args.first.position) c.at-position.ensures)) refl (span_is c.leaf_span.ensures.at c.leaf_span.ensures.n) refl refl
@@ -107,9 +107,9 @@ returns-in_ok-to-in-Some-clause-with g c item end x =
     joined x t c.in-Some.ensures.at (subst (IsRow c.in_ok-to-in-Some.to) (omega arith) h.twigs) frame
     (λ j d l there. c.put-in-Some.ensures.others _ d (λ e. omega arith) (c.in_ok-to-in-Some.ensures.before j d (omega arith) there))
     (λ j d l there.
-        let y : c.in-Some.branch.twigs + (count_ones (c.in-Some.branch.bitmap % 2 ^ at c.args.key.now c.args.first.place) + 0 + j) ≡ c.in-Some.branch.twigs + (c.twig_index-index.result + 0 + j) = omega arith in
-        let v : c.in_ok-to-in-Some.to + (c.twig_index-index.result + 1 + j) ≡ c.in_ok-to-in-Some.to + (count_ones (c.in-Some.branch.bitmap % 2 ^ at c.args.key.now c.args.first.place) + 1 + j) = omega arith in
-        c.put-in-Some.ensures.others _ d (λ e. omega arith) (subst (λ q. g.C.CellRead.has c.copy_apart.new.cells q d) v (c.in_ok-to-in-Some.ensures.after j d (omega arith) (subst (λ q. g.C.CellRead.has c.args.cells.now q d) y there))))
+    let y : c.in-Some.branch.twigs + (count_ones (c.in-Some.branch.bitmap % 2 ^ at c.args.key.now c.args.first.place) + 0 + j) ≡ c.in-Some.branch.twigs + (c.twig_index-index.result + 0 + j) = omega arith in
+    let v : c.in_ok-to-in-Some.to + (c.twig_index-index.result + 1 + j) ≡ c.in_ok-to-in-Some.to + (count_ones (c.in-Some.branch.bitmap % 2 ^ at c.args.key.now c.args.first.place) + 1 + j) = omega arith in
+    c.put-in-Some.ensures.others _ d (λ e. omega arith) (subst (λ q. g.C.CellRead.has c.copy_apart.new.cells q d) v (c.in_ok-to-in-Some.ensures.after j d (omega arith) (subst (λ q. g.C.CellRead.has c.args.cells.now q d) y there))))
     (subst (λ (k : ℕ). g.C.CellRead.has c.put-in-Some.new.self (c.in_ok-to-in-Some.to + k) (leaf_cell c.args.leaf)) m (subst (λ d. g.C.CellRead.has c.put-in-Some.new.self (c.in_ok-to-in-Some.to + c.twig_index-index.result) d) c.pack-in-Some.ensures c.put-in-Some.ensures.written))
     (c.pack-in-Some-2.ensures ∙ ap (λ (b : ℕ). branch_cell (record { offset = c.args.first.place; bitmap = b; twigs = c.in_ok-to-in-Some.to })) (c.with.ensures ∙ ap (λ (p : ℕ). c.in-Some.branch.bitmap + 2 ^ p) c.at-position.ensures))
     (ap (λ (k : ℕ). record { at = c.in_ok-to-in-Some.to; n = k + 1 }) n) (span_is c.leaf_span-in-Some.ensures.at c.leaf_span-in-Some.ensures.n) (ap (λ (k : ℕ). record { at = c.in-Some.branch.twigs; n = k }) n) refl
