@@ -152,9 +152,6 @@ module _ {has : ℕ → Cell → Type 0} {old now : Account} {o done : ℕ} {all
   pub row_some : 2 ≤ length cs
   row_some = let a = row_length in let b = m.as_many in let c = planned.tree.3 in omega arith
 
-  pub row_few : length cs ≤ 47
-  row_few = let a = row_length in let b = few 0 m.plan.low m.made m.rising in let c = m.plan.low_inside in omega arith
-
   branch_tree : (wn : ℕ) → IsRow wn (length cs) → IsTree 0 (branch o wn m.made)
   branch_tree wn is = (
     planned.tree.0,

@@ -19,7 +19,7 @@ use Rattle.trie_model.proofs.GrowthLaws.{each_entry}
 use Rattle.trie_model.proofs.NameLaws.{one_key_leads, leads_by_front}
 use Rattle.trie_read.specs.Reads.{IsTop}
 use Rattle.trie_write.specs.Tops.{IsBranchTop, IsLeafTop}
-use Rattle.trie_write.specs.Nearness.{Apart, Closest, FirstDiffers, Differs}
+use Rattle.trie_write.specs.Nearness.{Apart, Closest, FirstDiffers}
 
 -- the front of an item has a name, which is the key's
 pub has_name : (key item front : List ℕ) (r : Option Name) → IsItem item → front ≡ take 256 item → Leads key item → (IsNone r → (name : Name) → IsName name → BeginsWith front name → ⊥) → IsSome r
@@ -103,9 +103,6 @@ pub falls_in : (has : ℕ → Cell → Type 0) (low : ℕ) (c : Cell) (t : Tree)
 falls_in has low c t b top x = let tree = subst (IsTree low) x.is top.tree in let a = tree.0 in let d = tree.1 in omega arith
 
 -- ---- the first difference
-
-pub differs_none : {has : ℕ → Cell → Type 0} {k : List ℕ} {es : List Entry} {l : Leaf} (c : Closest has k es l) → k ≡ c.near.key → Differs k es None
-differs_none c same = (c.near, c.there, sym same)
 
 place_inside : (a b : List ℕ) (d : ℕ) → IsKey a → IsKey b → IsFirstDifference a b d → d ≤ 503
 place_inside a b d ka kb first = elim (cases_lt d 504) [

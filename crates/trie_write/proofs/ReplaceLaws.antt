@@ -129,9 +129,6 @@ module _ {S A : Type 0} {has : S → ℕ → Cell → Type 0} {account : A → A
       let k = there o.1 (subst (λ (x : Option ℕ). Stands (has s) x o.1) (sym e) (o.0, o.2.trie)) o.3 in
       (o.0, o.1, subst (λ s. HasKey has account s a r key o.0 o.1) (sym same) (key_of_entry o.2 k), o.4)
 
-pub same_has_key : {S A : Type 0} {has : S → ℕ → Cell → Type 0} {account : A → Account} {s s1 : S} {a : A} {r : ℕ} {key : List ℕ} {t : Tree} {version : List Entry} → s1 ≡ s → HasKey has account s a r key t version → HasKey has account s1 a r key t version
-same_has_key {has = has} {account} {a = a} {r} {key} {t} {version} same = subst (λ s. HasKey has account s a r key t version) (sym same)
-
 -- what is in use stays, and so does what stands
 pub trie_later : {S A : Type 0} {has : S → ℕ → Cell → Type 0} {kept : S → List ℕ} {given : S → List Bool} {account : A → Account} {lacks : A → Full → Type 0} {s s1 s2 : S} {a a2 : A} {f : Full} (version : List Entry) (root : Option ℕ) → s1 ≡ s → Refused has account lacks s1 a s2 a2 f → Fenced has kept given account s1 a s2 a2 →
     HasTrie has account s a root version → HasTrie has account s2 a2 root version

@@ -139,9 +139,6 @@ module _ {S : Type 0} {has : S → ℕ → Cell → Type 0} {kept : S → List �
   pub wrote_refl : (s : S) (first n : ℕ) → Wrote has kept given s s first n
   wrote_refl s first n = record { others = λ q c out h. h; same_given = refl; same_kept = refl }
 
-  pub wrote_others : {s s1 : S} {q : ℕ} → Wrote has kept given s s1 q 1 → (p : ℕ) (c : Cell) → (p ≡ q → ⊥) → has s p c → has s1 p c
-  wrote_others w p c ne = w.others p c (λ i l e. ne (omega arith))
-
   pub wrote_then : {s s1 s2 : S} {first n : ℕ} → Wrote has kept given s s1 first n → Wrote has kept given s1 s2 first n → Wrote has kept given s s2 first n
   wrote_then a b = record { others = λ q c out h. b.others q c out (a.others q c out h); same_given = b.same_given ∙ a.same_given; same_kept = b.same_kept ∙ a.same_kept }
 

@@ -74,9 +74,6 @@ module _ {has : ℕ → Cell → Type 0} {place low : ℕ} {key : List ℕ} {cel
   pub twig_there : (index : ℕ) → index ≡ count_ones (b.bitmap % 2 ^ at key b.offset) → has (b.twigs + index) (top_cell below)
   twig_there index e = subst (λ (i : ℕ). has (b.twigs + i) (top_cell below)) (sym (e ∙ index_of_key)) (twig_of has here below top_here.beneath).0
 
-  pub twig_inside : (index : ℕ) → index ≡ count_ones (b.bitmap % 2 ^ at key b.offset) → b.twigs + index < 2 ^ 22
-  twig_inside index e = let i = index_of_key in let r = known.lies.inside in omega arith
-
   pub turn_is : (index : ℕ) (next : Cell) → index ≡ count_ones (b.bitmap % 2 ^ at key b.offset) → b.offset < place → ((c : Cell) → has (b.twigs + index) c → next ≡ c) → IsTurn place (record { branch = b; index = index; next = next }) way end
   turn_is index next e before read = record { through = t; before = before; index_is = e ∙ index_of_key; next_is = read (top_cell below) (twig_there index e) }
 
