@@ -67,6 +67,3 @@ pub trait CellWrite: CellRead {
         ensures given { given self.new ≡ slice_set (given self.old) chunk false }
         ensures kept { kept self.new ≡ kept self.old };
 }
-
-#[cfg(test)]
-mod tests;

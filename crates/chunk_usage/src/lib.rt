@@ -20,6 +20,3 @@ mod usage;
 pub use open::Open;
 pub use space::{Full, Grant, Space};
 pub use usage::Usage;
-
-#[cfg(test)]
-mod tests;

@@ -11,8 +11,6 @@ mod difference;
 mod encode;
 pub mod laws;
 mod table;
-#[cfg(test)]
-mod tests;
 
 use crate::difference::compare_labels;
 use crate::encode::put_labels;

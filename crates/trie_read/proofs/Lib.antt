@@ -11,6 +11,5 @@ mod AboveLaws
 mod IterLaws
 mod SeekLaws
 mod MetLaws
-mod FoundLaws
+pub mod FoundLaws
 mod SizeLaws
-mod ExampleTrie

@@ -3,4 +3,3 @@ pub mod Finds
 pub mod Above
 pub mod Walks
 pub mod Readings
-pub mod Example

@@ -23,6 +23,3 @@ pub use leaf::{key_at, name_at};
 pub use look_up::get;
 pub use reading::{CellReading, Reading};
 pub use size::{count, nodes};
-
-#[cfg(test)]
-mod tests;

@@ -25,10 +25,3 @@ pub use insertion::{InsertRefusal, insert};
 pub use item::{Item, ItemRefusal};
 pub use replacement::{ChangeRefusal, replace};
 pub use size::cells;
-
-#[cfg(test)]
-mod change_tests;
-#[cfg(test)]
-mod place_tests;
-#[cfg(test)]
-mod tests;

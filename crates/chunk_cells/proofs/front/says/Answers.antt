@@ -13,10 +13,10 @@ pub returns-then-bytes-i : goal.returns-then-bytes-i
 returns-then-bytes-i c item low is = (
   λ t. cc,
   λ same. absurd (c.if-bytes-i.true (
-    ap (λ (b : List ℕ). slice_index b (c.loop-i.i - c.args.start)) c.to_le_bytes-bytes.ensures
-    ∙ octet_there item c.args.word c.args.start c.loop-i.i low is c.loop-i.auto.i (let e = c.if-start-octets.false in let f = c.loop-i-test.true in omega arith)
-    ∙ same c.loop-i.i c.loop-i.auto.i (let e = c.if-start-octets.false in let f = c.loop-i-test.true in omega arith) c.loop-i-test.true
-  )),
+      ap (λ (b : List ℕ). slice_index b (c.loop-i.i - c.args.start)) c.to_le_bytes-bytes.ensures
+      ∙ octet_there item c.args.word c.args.start c.loop-i.i low is c.loop-i.auto.i (let e = c.if-start-octets.false in let f = c.loop-i-test.true in omega arith)
+      ∙ same c.loop-i.i c.loop-i.auto.i (let e = c.if-start-octets.false in let f = c.loop-i-test.true in omega arith) c.loop-i-test.true
+      )),
 )
 
 pub returns : goal.returns

@@ -1,0 +1,15 @@
+//! Tests of the crates from nodes to changes of a trie, in a crate of their own: a crate with tests is proved twice.
+#![tactic(auto)]
+
+#[cfg(test)]
+mod few_names;
+#[cfg(test)]
+mod items;
+#[cfg(test)]
+mod keys;
+#[cfg(test)]
+mod many_names;
+#[cfg(test)]
+mod reading;
+#[cfg(test)]
+mod usage;

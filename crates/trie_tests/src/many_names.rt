@@ -1,0 +1,238 @@
+//! Tries of twenty names: as they are built, and as names come, change and go.
+
+ghost use Rattle.std.specs.Prelude.{◌≡◌, ◌<◌, ℕ, List, IfOk, IfSome, IsTrue};
+ghost use Rattle.zone_model.specs.Keys.{Leads};
+ghost use Rattle.trie_model.specs.Keys.{Entry, Less, Rises};
+ghost use Rattle.trie_model.specs.Memory.{Stands};
+ghost use Rattle.trie_read.specs.Reads.{EachTells};
+ghost use Rattle.trie_write.specs.Entries.{entries_of_items};
+ghost use Rattle.trie_write.specs.Spaces.{Ready, Fenced};
+ghost use Rattle.trie_write.specs.Standing.{HasTrie};
+
+use chunk_cells::{CellRead, CellWrite, PlainCells};
+use chunk_usage::{Full, Space, Usage};
+use dns_name::Name;
+use packed_node::Ref;
+use shift_key::Key;
+use std::alloc::Global;
+use std::test::Fail;
+use trie_read::{count, get, nodes};
+use trie_write::{Item, build, cells, delete, insert, replace};
+
+/// What is done with an item.
+#[derive(Clone, Copy)]
+enum Change {
+    Insert,
+    Replace,
+    Delete,
+}
+
+/// The root after a change; none where it was refused.
+fn changed<C: CellWrite, U: Space>(
+    cells: &mut C,
+    usage: &mut U,
+    root: Option<Ref>,
+    change: Change,
+    item: &Item,
+) -> Option<Option<Ref>>
+    requires stands { (version : List Entry) × HasTrie C.has U.account cells.old usage.old root version × EachTells Leads version }
+    requires ready { Ready C.kept C.given U.account cells.old usage.old }
+    ensures stands { IfSome result (λ new. (version : List Entry) × HasTrie C.has U.account cells.new usage.new new version × EachTells Leads version) }
+    ensures frame { Fenced C.has C.kept C.given U.account cells.old usage.old cells.new usage.new }
+    ensures ready { Ready C.kept C.given U.account cells.new usage.new }
+{
+    let key = item.key();
+    let octets = item.octets();
+    match change {
+        Change::Insert => match insert(cells, usage, root, &key, octets) {
+            Ok(new) => Some(new),
+            Err(_) => None,
+        },
+        Change::Replace => match replace(cells, usage, root, &key, octets) {
+            Ok(new) => Some(new),
+            Err(_) => None,
+        },
+        Change::Delete => match delete(cells, usage, root, &key) {
+            Ok(new) => Some(new),
+            Err(_) => None,
+        },
+    }
+}
+
+/// How many names and nodes there are, and how many octets a name's item has: 0 where it isn't there.
+fn seen<C: CellRead>(cells: &mut C, root: Option<Ref>, name: &Item) -> (u64, u64, usize)
+    requires { (version : List Entry) × Stands (C.has cells.old) root version × EachTells Leads version }
+    ensures { cells.new ≡ cells.old }
+{
+    let names = count(cells, root);
+    let all = nodes(cells, root);
+    match get(cells, root, &name.key()) {
+        Some(leaf) => (names, all, leaf.len as usize),
+        None => (names, all, 0),
+    }
+}
+
+/// How many names there are once one of so many has changed and so many before it.
+fn names_after(change: Change, all: usize, before: usize) -> usize
+    requires { before < all }
+{
+    match change {
+        Change::Insert => before + 1,
+        Change::Replace => all,
+        Change::Delete => all - before - 1,
+    }
+}
+
+/// The root after a change with each of the items. Err: the first after which the number of names, or of nodes, or the length of
+/// its item isn't what is due.
+fn change_each<C: CellWrite, U: Space>(
+    cells: &mut C,
+    usage: &mut U,
+    root: Option<Ref>,
+    change: Change,
+    items: &[Item],
+    nodes_due: &[u64],
+) -> Result<Option<Ref>, usize>
+    requires stands { (version : List Entry) × HasTrie C.has U.account cells.old usage.old root version × EachTells Leads version }
+    requires ready { Ready C.kept C.given U.account cells.old usage.old }
+    ensures stands { IfOk result (λ new. (version : List Entry) × HasTrie C.has U.account cells.new usage.new new version × EachTells Leads version) }
+    ensures ready { IfOk result (λ _. Ready C.kept C.given U.account cells.new usage.new) }
+{
+    let mut root = root;
+    for i in 0..items.len() {
+        match changed(cells, usage, root, change, &items[i]) {
+            Some(new) => root = new,
+            None => return Err(i),
+        }
+        let len = match change {
+            Change::Delete => 0,
+            _ => items[i].octets().len(),
+        };
+        let names = names_after(change, items.len(), i) as u64;
+        if i >= nodes_due.len() || seen(cells, root, &items[i]) != (names, nodes_due[i], len) {
+            return Err(i);
+        }
+    }
+    Ok(root)
+}
+
+/// The root once items are inserted one by one, replaced by others of the same names and deleted again.
+fn come_and_go<C: CellWrite, U: Space>(
+    cells: &mut C,
+    usage: &mut U,
+    first: &[Item],
+    second: &[Item],
+    last: &[Item],
+    grown: &[u64],
+    shrunk: &[u64],
+) -> Result<Option<Ref>, usize>
+    requires uncounted { (k : ℕ) → (U.account usage.old).live k ≡ 0 }
+    requires ready { Ready C.kept C.given U.account cells.old usage.old }
+{
+    let root = change_each(cells, usage, None, Change::Insert, first, grown)?;
+    let root = change_each(cells, usage, root, Change::Replace, second, &[24; 20])?;
+    change_each(cells, usage, root, Change::Delete, last, shrunk)
+}
+
+/// The items of names, with one payload.
+fn items_of(alloc: Global, names: &[&str], payload: &[u8]) -> Result<Vec<Item>, Fail> {
+    let mut items = Vec::new(alloc);
+    for text in names {
+        let name = Name::read(text.as_bytes(), &Name::root())
+            .ok()
+            .ok_or("no name")?;
+        items.push(Item::of(alloc, &name, payload).ok().ok_or("no item")?)?;
+    }
+    Ok(items)
+}
+
+/// Twenty names, in the order of their keys.
+fn rising_names() -> [&'static str; 20] {
+    [
+        "a.", "a.a.", "b.a.", "c.a.", "b.", "bb.", "bc.", "c.", "x.c.", "y.c.", "d.", "e.", "f.",
+        "g.", "h.", "i.", "j.", "k.", "l.", "m.",
+    ]
+}
+
+#[test]
+fn twenty_names_come_and_go(rt: HostRuntime) -> Result<(), Fail> {
+    let mut memory = PlainCells::new(rt.alloc(), 16)?;
+    let mut usage = Usage::new(rt.alloc(), 16, 2)?;
+    let rising = rising_names();
+    let first = items_of(rt.alloc(), &rising, b"1")?;
+    let second = items_of(rt.alloc(), &rising, b"a longer payload than before")?;
+    let mixed = [
+        "a.", "c.", "h.", "a.a.", "x.c.", "i.", "b.a.", "y.c.", "j.", "c.a.", "d.", "k.", "b.",
+        "e.", "l.", "bb.", "f.", "m.", "bc.", "g.",
+    ];
+    let last = items_of(rt.alloc(), &mixed, b"")?;
+    let grown = [
+        1, 3, 4, 5, 7, 9, 10, 11, 13, 14, 15, 16, 17, 18, 19, 20, 21, 22, 23, 24,
+    ];
+    let shrunk = [
+        23, 22, 21, 20, 18, 17, 15, 14, 13, 12, 11, 10, 9, 8, 7, 5, 4, 3, 1, 0,
+    ];
+    let root = come_and_go(
+        &mut memory,
+        &mut usage,
+        &first,
+        &second,
+        &last,
+        &grown,
+        &shrunk,
+    );
+    assert_eq!(rt; root, Ok(None));
+    Ok(())
+}
+
+/// Whether a key comes before another.
+fn comes_before(key: &Key, other: &Key) -> bool
+    ensures { IsTrue result → Less key.now other.now }
+{
+    match key.first_difference(other) {
+        None => false,
+        Some(place) => key.at(place) < other.at(place),
+    }
+}
+
+/// Whether items rise by their keys.
+fn rise(items: &[Item]) -> bool
+    ensures { IsTrue result → Rises (entries_of_items items.now) }
+{
+    if items.len() < 2 {
+        return true;
+    }
+    if comes_before(&items[0].key(), &items[1].key()) {
+        return rise(&items[1..]);
+    }
+    false
+}
+
+/// How many names and nodes the trie of some items has.
+fn sizes<C: CellWrite, U: Space>(
+    cells: &mut C,
+    usage: &mut U,
+    items: &[Item],
+) -> Result<(u64, u64), Full>
+    requires rising { Rises (entries_of_items items.now) }
+    requires uncounted { (k : ℕ) → (U.account usage.old).live k ≡ 0 }
+    requires ready { Ready C.kept C.given U.account cells.old usage.old }
+{
+    let root = build(cells, usage, items)?;
+    let names = count(cells, root);
+    Ok((names, nodes(cells, root)))
+}
+
+#[test]
+fn twenty_names_are_built(rt: HostRuntime) -> Result<(), Fail> {
+    let mut memory = PlainCells::new(rt.alloc(), 16)?;
+    let mut usage = Usage::new(rt.alloc(), 16, 2)?;
+    let items = items_of(rt.alloc(), &rising_names(), b"1")?;
+    assert!(rt; rise(&items));
+    let sizes = sizes(&mut memory, &mut usage, &items);
+    assert_eq!(rt; sizes, Ok((20, 24)));
+    // One cell for each node and each item.
+    assert_eq!(rt; usage.live(0), 44);
+    assert_eq!(rt; cells(&items), 44);
+    Ok(())
+}
