@@ -1,0 +1,4 @@
+pub mod Operations
+pub mod Meanings
+pub mod Passes
+pub mod Turns

@@ -1,0 +1,17 @@
+//! An index of names with many versions, which threads share: any number of passes read published versions, without a lock
+//! and without memory, while one transaction at a time writes.
+#![tactic(auto)]
+
+mod index;
+mod meaning;
+mod note;
+mod pass;
+mod query;
+mod snapshot;
+
+pub use index::Index;
+pub use meaning::{KeyItem, Law, Meaning, Named, Operation, Operations, Version};
+pub use note::Note;
+pub use pass::Pass;
+pub use query::Query;
+pub use snapshot::Snapshot;
