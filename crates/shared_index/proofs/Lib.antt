@@ -1,1 +1,4 @@
+pub mod Lists
 pub mod QueryLaws
+pub mod ImageLaws
+pub mod BeginLaws

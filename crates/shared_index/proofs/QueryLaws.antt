@@ -12,7 +12,7 @@ use Rattle.shared_index.specs.declared.meaning.Operation.{Operation}
 use Rattle.shared_index.specs.Meanings.{in_image}
 
 -- an image's cell is among its cells
-in_cells : (image : List CellAt) (r : ℕ) (c : Cell) → in_image image r c → Contains image (record { at = r; big = c.big; small = c.small })
+pub in_cells : (image : List CellAt) (r : ℕ) (c : Cell) → in_image image r c → Contains image (record { at = r; big = c.big; small = c.small })
 unfolding in_image
 in_cells image r c h = h
 

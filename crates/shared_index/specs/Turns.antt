@@ -4,7 +4,8 @@ use Rattle.std.specs.List.{list_any, list_all, range_with_len}
 use Rattle.pin_core.specs.declared.kept.CellAt.{CellAt}
 use Rattle.pin_core.specs.declared.kept.Kept.{Kept}
 use Rattle.chunk_usage.specs.Ledger.{Ledger, Row, is_used, is_fresh}
-use Rattle.shared_cells.specs.Cells.{Cells, given_chunks, kept_references}
+use Rattle.shared_cells.specs.declared.view.TurnView.{TurnView}
+use Rattle.shared_cells.specs.Cells.{Cells, cells_of, given_chunks, kept_references}
 
 -- of each chunk, whether the image has a cell in it; and how many it has there
 
@@ -33,19 +34,24 @@ current_root (k ∷ j ∷ kept) = current_root (j ∷ kept)
 abbrev pub is_immutable : Ledger → ℕ → Bool
 is_immutable u q = is_used u q && not (is_fresh u q)
 
--- The usage is that of the turn's cells.
-pub record Fits (cells : Cells) (u : Ledger) (top : Option ℕ) (count : ℕ) : Type 0 where
+-- The usage is that of the turn's cells, of an index of so many passes.
+pub record Agrees (cells : Cells) (u : Ledger) (count : ℕ) : Type 0 where
   -- chunks are allocated where their status says so
   pub given : given_chunks cells ≡ u.given
   -- the kept versions, each with the chunks that it has cells in
   pub rows : u.rows ≡ map (row_for cells.chunks) cells.kept
   pub few_rows : length u.rows ≤ count + 1
-  -- the cells of the current version count, and no others
-  pub live : u.live ≡ cell_counts cells.chunks (current_image cells.kept)
-  -- as at the last freeze
-  pub last_live : u.last_live ≡ u.live
-  pub fender : u.last_open ≡ u.open_chunk
+  -- at the last freeze the cells of the current version counted, and no others
+  pub last_live : u.last_live ≡ cell_counts cells.chunks (current_image cells.kept)
   -- what a kept version has isn't written
   pub immutable : list_all (is_immutable u) (kept_references cells) ≡ true
-  pub root : top ≡ current_root cells.kept
   pub passes : u.passes ≡ count
+
+-- No transaction is under way: nothing was handed out or released since the last freeze.
+pub record AtRest (u : Ledger) : Type 0 where
+  pub live : u.live ≡ u.last_live
+  pub bump : u.open_chunk ≡ u.last_open
+
+-- the turn's cells, of as many chunks as the usage has
+abbrev pub cells_with : Ledger → Option TurnView → Cells
+cells_with u turn = cells_of (length u.given) turn

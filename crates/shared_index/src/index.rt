@@ -1,13 +1,9 @@
 //! The index, and what its lock keeps.
-ghost use Rattle.std.specs.Prelude.{◌≡◌, ◌+◌, ◌*◌, Some, length, slice_get};
-ghost use Rattle.std.proofs.Props.{props};
-ghost use Rattle.shared_cells.specs.Cells.{cells_of};
-ghost use Rattle.shared_index.specs.Turns.{Fits};
+ghost use Rattle.std.specs.Prelude.{◌≡◌, Some, slice_get};
 
+use crate::desk::Desk;
 use crate::meaning::{Law, Meaning, Named, Operations, Version};
-use chunk_usage::Usage;
-use packed_node::Ref;
-use shared_cells::{Shared, TurnSeat};
+use shared_cells::Shared;
 use std::marker::PhantomData;
 use std::sync::Mutex;
 
@@ -21,18 +17,13 @@ pub struct Index<L: Law, N: Named> {
     ghost here: { slice_get N.tables place ≡ Some shared.table.shared.table_id },
 }
 
-/// The turn between two transactions.
+/// The turn, as the lock keeps it.
 #[derive(Drop)]
 pub struct Turn<N: Named> {
-    place: u32,
-    seat: TurnSeat<Version, Operations>,
-    usage: Usage,
-    /// The current version's.
-    root: Option<Ref>,
-    names: PhantomData<N>,
-    ghost here: { slice_get N.tables place ≡ Some seat.place.table_id },
-    ghost wide: { 4161 + 2048 * length usage.given ≡ seat.place.table_id.words },
-    ghost fits: { Fits (cells_of (length usage.given) seat.place.me.0.turn) usage root seat.passes } by { Prim.hlevel props },
+    pub(crate) place: u32,
+    pub(crate) desk: Desk,
+    pub(crate) names: PhantomData<N>,
+    ghost here: { slice_get N.tables place ≡ Some desk.seat.place.table_id },
 }
 
 impl<L: Law, N: Named> Index<L, N> {

@@ -2,6 +2,7 @@
 //! and without memory, while one transaction at a time writes.
 #![tactic(auto)]
 
+mod desk;
 mod index;
 mod meaning;
 mod note;

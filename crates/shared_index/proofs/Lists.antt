@@ -1,0 +1,50 @@
+-- Lists: what holds of each element, and counts.
+use Rattle.std.proofs.Common.{◌≡◌, ◌∙◌, ⊎_elim, ℕ, ◌+◌, ◌<◌, ◌≤◌, ◌&&◌, ◌++◌, Bool, true, false, cond, List, [], ◌∷◌, map, length, count_by, refl, sym, ap, subst, arith}
+use Rattle.std.specs.List.{Contains, list_all, flat_map, sum_by}
+use Rattle.std.proofs.lemmas.List.Folds.{list_all-append, list_all-map}
+use Rattle.std.proofs.lemmas.List.Sums.{sum_by-cons}
+use Rattle.pin_core.proofs.Lists.{contains_cases, contains_later}
+use Rattle.trie_model.proofs.ReachLaws.{both_true, first_true, second_true}
+
+module _ {A : Type 0} where
+  -- an element is the first one, or a later one
+  pub contains_first : (x : A) (xs : List A) → Contains (x ∷ xs) x
+  contains_first x xs = (0, omega arith, refl)
+
+  pub all_of : (p : A → Bool) (xs : List A) (x : A) → list_all p xs ≡ true → Contains xs x → p x ≡ true
+  all_of p [] x h c = absurd (let l = c.1 in omega arith)
+  all_of p (y ∷ ys) x h c = ⊎_elim
+      (λ (e : y ≡ x). subst (λ (z : A). p z ≡ true) e (first_true (p y) (list_all p ys) h))
+      (λ (d : Contains ys x). all_of p ys x (second_true (p y) (list_all p ys) h) d) (contains_cases y x ys c)
+
+  pub all_from : (p : A → Bool) (xs : List A) → ((x : A) → Contains xs x → p x ≡ true) → list_all p xs ≡ true
+  all_from p [] h = refl
+  all_from p (y ∷ ys) h = both_true (p y) (list_all p ys) (h y (contains_first y ys)) (all_from p ys (λ x c. h x (contains_later y x ys c)))
+
+  -- of all lists of some elements
+  pub all_flat : {B : Type 0} (p : B → Bool) (f : A → List B) (xs : List A) (x : A) → list_all p (flat_map f xs) ≡ true → Contains xs x → list_all p (f x) ≡ true
+  all_flat p f [] x h c = absurd (let l = c.1 in omega arith)
+  all_flat p f (y ∷ ys) x h c =
+      let parts = sym (list_all-append p (f y) (flat_map f ys)) ∙ h in
+      ⊎_elim (λ (e : y ≡ x). subst (λ (z : A). list_all p (f z) ≡ true) e (first_true (list_all p (f y)) (list_all p (flat_map f ys)) parts))
+      (λ (d : Contains ys x). all_flat p f ys x (second_true (list_all p (f y)) (list_all p (flat_map f ys)) parts) d) (contains_cases y x ys c)
+
+  pub all_from_flat : {B : Type 0} (p : B → Bool) (f : A → List B) (xs : List A) → ((x : A) → Contains xs x → list_all p (f x) ≡ true) → list_all p (flat_map f xs) ≡ true
+  all_from_flat p f [] h = refl
+  all_from_flat p f (y ∷ ys) h =
+      list_all-append p (f y) (flat_map f ys)
+      ∙ both_true (list_all p (f y)) (list_all p (flat_map f ys)) (h y (contains_first y ys)) (all_from_flat p f ys (λ x c. h x (contains_later y x ys c)))
+
+  -- none passes, so none counts
+  pub none_counts : (p : A → Bool) (xs : List A) → ((x : A) → Contains xs x → p x ≡ false) → count_by p xs ≡ 0
+  none_counts p [] h = refl
+  none_counts p (y ∷ ys) h =
+      let here : ◌≡◌ {A = ℕ} (cond (p y) 1 0) 0 = ap (λ (b : Bool). cond {A = ℕ} b 1 0) (h y (contains_first y ys)) in
+      let more = none_counts p ys (λ x c. h x (contains_later y x ys c)) in
+      sum_by-cons (λ x. cond (p x) 1 0) y ys ∙ omega arith
+
+  pub count_map : {B : Type 0} (p : B → Bool) (f : A → B) (xs : List A) → count_by p (map f xs) ≡ count_by (λ x. p (f x)) xs
+  count_map p f [] = refl
+  count_map p f (y ∷ ys) =
+      let more = count_map p f ys in
+      sum_by-cons (λ x. cond (p x) 1 0) (f y) (map f ys) ∙ ap (λ (n : ℕ). cond (p (f y)) 1 0 + n) more ∙ sym (sum_by-cons (λ x. cond (p (f x)) 1 0) y ys)
