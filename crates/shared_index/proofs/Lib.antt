@@ -2,3 +2,5 @@ pub mod Lists
 pub mod QueryLaws
 pub mod ImageLaws
 pub mod BeginLaws
+pub mod KeepLaws
+pub mod WordsLaws

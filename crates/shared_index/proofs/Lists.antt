@@ -1,10 +1,20 @@
 -- Lists: what holds of each element, and counts.
-use Rattle.std.proofs.Common.{◌≡◌, ◌∙◌, ⊎_elim, ℕ, ◌+◌, ◌<◌, ◌≤◌, ◌&&◌, ◌++◌, Bool, true, false, cond, List, [], ◌∷◌, map, length, count_by, refl, sym, ap, subst, arith}
-use Rattle.std.specs.List.{Contains, list_all, flat_map, sum_by}
+use Rattle.std.proofs.Common.{◌≡◌, ◌⊎◌, ◌∙◌, ⊎_elim, inl, inr, ℕ, ◌+◌, ◌<◌, ◌≤◌, ◌&&◌, ◌||◌, ◌++◌, Bool, true, false, cond, List, [], ◌∷◌, map, length, count_by, refl, sym, ap, subst, arith}
+use Rattle.std.specs.List.{Contains, list_all, list_any, flat_map, sum_by}
 use Rattle.std.proofs.lemmas.List.Folds.{list_all-append, list_all-map}
+use Rattle.std.proofs.lemmas.List.Elements.{Contains-append_cases}
 use Rattle.std.proofs.lemmas.List.Sums.{sum_by-cons}
 use Rattle.pin_core.proofs.Lists.{contains_cases, contains_later}
 use Rattle.trie_model.proofs.ReachLaws.{both_true, first_true, second_true}
+
+pub either_true : (a b : Bool) → (a ≡ true) ⊎ (b ≡ true) → (a || b) ≡ true
+either_true true b h = refl
+either_true false b (inl h) = absurd cc
+either_true false b (inr h) = h
+
+-- the first element
+first_is : {B : Type 0} (x y : B) (ys : List B) → y ≡ x → Contains (y ∷ ys) x
+first_is x y ys e = (0, omega arith, e)
 
 module _ {A : Type 0} where
   -- an element is the first one, or a later one
@@ -48,3 +58,28 @@ module _ {A : Type 0} where
   count_map p f (y ∷ ys) =
       let more = count_map p f ys in
       sum_by-cons (λ x. cond (p x) 1 0) (f y) (map f ys) ∙ ap (λ (n : ℕ). cond (p (f y)) 1 0 + n) more ∙ sym (sum_by-cons (λ x. cond (p (f x)) 1 0) y ys)
+
+  pub any_from : (p : A → Bool) (xs : List A) (x : A) → Contains xs x → p x ≡ true → list_any p xs ≡ true
+  any_from p [] x c h = absurd (let l = c.1 in omega arith)
+  any_from p (y ∷ ys) x c h = ⊎_elim
+      (λ (e : y ≡ x). either_true (p y) (list_any p ys) (inl (ap p e ∙ h)))
+      (λ (d : Contains ys x). either_true (p y) (list_any p ys) (inr (any_from p ys x d h))) (contains_cases y x ys c)
+
+  pub in_map : {B : Type 0} (f : A → B) (xs : List A) (x : A) → Contains xs x → Contains (map f xs) (f x)
+  in_map {B} f [] x c = absurd (let l = c.1 in omega arith)
+  in_map {B} f (y ∷ ys) x c = ⊎_elim
+      (λ (e : y ≡ x). first_is (f x) (f y) (map f ys) (ap f e))
+      (λ (d : Contains ys x). contains_later (f y) (f x) (map f ys) (in_map f ys x d)) (contains_cases y x ys c)
+
+  pub of_map : {B : Type 0} (f : A → B) (xs : List A) (z : B) → Contains (map f xs) z → (x : A) × Contains xs x × (f x ≡ z)
+  of_map {B} f [] z c = absurd (let l = c.1 in omega arith)
+  of_map {B} f (y ∷ ys) z c = ⊎_elim
+      (λ (e : f y ≡ z). (y, contains_first y ys, e))
+      (λ (d : Contains (map f ys) z). let r = of_map f ys z d in (r.0, contains_later y r.0 ys r.1, r.2)) (contains_cases (f y) z (map f ys) c)
+
+-- an element of one of some lists
+pub in_flat : {A B : Type 0} (f : A → List B) (xs : List A) (z : B) → Contains (flat_map f xs) z → (x : A) × Contains xs x × Contains (f x) z
+in_flat f [] z c = absurd (let l = c.1 in omega arith)
+in_flat {A} {B} f (y ∷ ys) z c = ⊎_elim
+    (λ (a : Contains (f y) z). (y, contains_first y ys, a))
+    (λ (b : Contains (flat_map f ys) z). let r = in_flat f ys z b in (r.0, contains_later y r.0 ys r.1, r.2)) (Contains-append_cases (f y) (flat_map f ys) z c)

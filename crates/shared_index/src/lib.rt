@@ -8,6 +8,7 @@ mod meaning;
 mod note;
 mod pass;
 mod query;
+mod recycling;
 mod snapshot;
 
 pub use index::Index;
