@@ -1,6 +1,6 @@
 -- What a transaction begins with: the pass is joined, and the base stands in the turn's cells.
-use Rattle.std.proofs.Common.{◌≡◌, ◌∙◌, ℕ, ◌+◌, ◌*◌, ◌/◌, ◌<◌, ◌≤◌, ◌==◌, Bool, true, List, [], map, length, take, count_by, slice_index, Option, Some, None, unwrap_or, refl, sym, ap, subst, arith}
-use Rattle.std.specs.List.{All, Contains, list_all}
+use Rattle.std.proofs.Common.{◌≡◌, ◌∙◌, ℕ, ◌/◌, ◌<◌, ◌==◌, Bool, true, List, [], map, length, take, count_by, slice_index, Option, Some, unwrap_or, refl, sym, ap, subst, arith}
+use Rattle.std.specs.List.{All, Contains}
 use Rattle.std.proofs.lemmas.List.{take_all}
 use Rattle.std.proofs.lemmas.List.Elements.{All-contains}
 use Rattle.std.proofs.lemmas.List.Folds.{list_all-map}
@@ -8,7 +8,7 @@ use Rattle.pin_core.specs.declared.kept.CellAt.{CellAt}
 use Rattle.pin_core.specs.declared.kept.Kept.{Kept}
 use Rattle.pin_core.specs.Sound.{AgreesWith}
 use Rattle.chunk_cells.specs.Chunks.{IsGiven}
-use Rattle.chunk_usage.specs.Ledger.{Ledger, IsLedger, is_used, is_given, is_fresh}
+use Rattle.chunk_usage.specs.Ledger.{Ledger, IsLedger, is_used}
 use Rattle.chunk_usage.proofs.FlagLemmas.{get_set, set_within}
 use Rattle.chunk_usage.proofs.SpaceLaws.{used_given}
 use Rattle.trie_model.specs.Keys.{Entry}
@@ -17,15 +17,14 @@ use Rattle.shared_cells.specs.declared.view.TurnView.{TurnView}
 use Rattle.trie_write.specs.Standing.{Standing}
 use Rattle.shared_cells.specs.History.{IsPartOf, version_after}
 use Rattle.shared_cells.specs.Views.{is_told, kept_in, with_pass}
-use Rattle.shared_cells.specs.Cells.{cells_of, given_chunks, kept_references, HasCell}
+use Rattle.shared_cells.specs.Cells.{given_chunks, HasCell}
 use Rattle.shared_cells.specs.Steps.{Confirmed}
 use Rattle.shared_cells.proofs.Seats.{told_there}
-use Rattle.shared_index.specs.declared.meaning.Operation.{Operation}
 use Rattle.shared_index.specs.Operations.{applied}
 use Rattle.shared_index.specs.Meanings.{IsVersion}
 use Rattle.shared_index.specs.Passes.{Known, first_version, version_seen}
 use Rattle.shared_index.specs.Turns.{Agrees, AtRest, cells_with, cell_counts, current_image, current_root, is_immutable}
-use Rattle.shared_index.specs.Drafts.{StandsFor, Joined}
+use Rattle.shared_index.specs.Bases.{StandsFor, Joined}
 use Rattle.shared_index.proofs.Lists.{all_of, all_flat}
 use Rattle.shared_index.proofs.ImageLaws.{cell_of, current_is, counts_of, image_stands}
 
@@ -44,9 +43,9 @@ module _ (lawful : List Entry → List Entry → Type 0) (v : Known) (turn : Tur
   seen_is : (n : ℕ) → n ≡ length v.seen.history → version_after applied opening.0 (take n v.seen.history) ≡ version_seen v.seen
   seen_is n e = ap (version_after applied opening.0) (whole_history v n e) ∙ ap (λ (o : List Entry). version_after applied o v.seen.history) (sym (opening_is v opening.0 opening.1))
 
-  pub joined_of : (t p : Known) → v ≡ with_pass t p → Joined lawful t p v
+  pub joined_of : (t p : Known) → v ≡ with_pass t p → Joined lawful p v
   joined_of t p e = record {
-    view = e;
+    pass = ap (λ (w : Known). w.pass) e;
     grows = subst (λ (w : Known). IsPartOf v.seen w.told) e told.told;
     commits = told.entries;
     good = subst (λ (o : List Entry). lawful o (version_seen v.seen)) (sym (opening_is v opening.0 opening.1))

@@ -1,7 +1,6 @@
 -- A kept image, read in the turn's cells: a root stands there for its version.
-use Rattle.std.proofs.Common.{◌≡◌, ◌∙◌, ⊎_elim, inl, inr, ℕ, suc, ◌+◌, ◌/◌, ◌<◌, ◌≤◌, ◌==◌, Bool, true, false, List, [], ◌∷◌, map, length, count_by, slice_index, slice_index_or, Option, Some, None, refl, sym, ap, subst, arith, eqb}
-use Rattle.std.specs.List.{All, AllPairs, Contains, list_all, range_with_len}
-use Rattle.std.proofs.lemmas.List.Elements.{All-contains}
+use Rattle.std.proofs.Common.{◌≡◌, ◌∙◌, ⊎_elim, inl, inr, ℕ, suc, ◌/◌, ◌<◌, ◌≤◌, ◌==◌, Bool, true, List, [], ◌∷◌, map, count_by, slice_index, Option, Some, None, refl, sym, ap, arith}
+use Rattle.std.specs.List.{All, AllPairs, Contains, list_all}
 use Rattle.std.proofs.lemmas.List.Folds.{list_all-map}
 use Rattle.std.proofs.lemmas.List.FromFn.{get_or-map-range_with_len, length-map-range_with_len}
 use Rattle.std.proofs.lemmas.List.{get_or_past}
@@ -10,15 +9,15 @@ use Rattle.std.proofs.lemmas.Bool.Decides.{nat_tests}
 use Rattle.packed_node.specs.declared.Cell.{Cell}
 use Rattle.pin_core.specs.declared.kept.CellAt.{CellAt}
 use Rattle.pin_core.specs.declared.kept.Kept.{Kept}
-use Rattle.pin_core.proofs.Lists.{contains_cases, contains_later}
+use Rattle.pin_core.proofs.Lists.{contains_cases}
 use Rattle.trie_model.specs.Keys.{Entry}
-use Rattle.trie_model.specs.Reach.{reach, reach_below, live_in}
+use Rattle.trie_model.specs.Reach.{reach, reach_below}
 use Rattle.trie_model.proofs.ReachLaws.{tested, first_true, second_true}
 use Rattle.trie_write.specs.Standing.{Standing, StandsIn}
 use Rattle.trie_write.proofs.RootLaws.{stands_later}
 use Rattle.shared_index.specs.Meanings.{in_image, IsImageOf}
 use Rattle.shared_index.specs.Turns.{cell_counts, current_image, current_root}
-use Rattle.shared_index.proofs.Lists.{all_from, none_counts, count_map, contains_first}
+use Rattle.shared_index.proofs.Lists.{all_from, none_counts, count_map}
 use Rattle.shared_index.proofs.QueryLaws.{in_cells}
 
 abbrev pub cell_of : CellAt → Cell
@@ -33,11 +32,11 @@ current_is (j ∷ []) n k rising newest c e = ⊎_elim
     (λ (none : Contains [] k). absurd (let l = none.1 in omega arith)) (contains_cases j k [] c)
 current_is (j ∷ (i ∷ kept)) n k rising newest c e = ⊎_elim
     (λ (same : j ≡ k). absurd (
-      let first : j.version < i.version = rising 0 1 j (omega arith) (omega arith) in
-      let last : i.version ≤ n = newest 1 j (omega arith) in
-      let v : j.version ≡ k.version = ap (λ (x : Kept). x.version) same in omega arith))
+    let first : j.version < i.version = rising 0 1 j (omega arith) (omega arith) in
+    let last : i.version ≤ n = newest 1 j (omega arith) in
+    let v : j.version ≡ k.version = ap (λ (x : Kept). x.version) same in omega arith))
     (λ (later : Contains (i ∷ kept) k). current_is (i ∷ kept) n k
-      (λ a b d l m. rising (suc a) (suc b) d (omega arith) (omega arith)) (λ a d l. newest (suc a) d (omega arith)) later e) (contains_cases j k (i ∷ kept) c)
+    (λ a b d l m. rising (suc a) (suc b) d (omega arith) (omega arith)) (λ a d l. newest (suc a) d (omega arith)) later e) (contains_cases j k (i ∷ kept) c)
 
 -- the counts of an image, whose cells lie in so many chunks
 pub counts_of : (chunks : ℕ) (image : List CellAt) → ((c : CellAt) → Contains image c → c.at / 1024 < chunks) → (k : ℕ) → slice_index (cell_counts chunks image) k ≡ count_by (λ (c : CellAt). c.at / 1024 == k) image

@@ -1,7 +1,7 @@
 -- Lists: what holds of each element, and counts.
-use Rattle.std.proofs.Common.{◌≡◌, ◌⊎◌, ◌∙◌, ⊎_elim, inl, inr, ℕ, ◌+◌, ◌<◌, ◌≤◌, ◌&&◌, ◌||◌, ◌++◌, Bool, true, false, cond, List, [], ◌∷◌, map, length, count_by, refl, sym, ap, subst, arith}
-use Rattle.std.specs.List.{Contains, list_all, list_any, flat_map, sum_by}
-use Rattle.std.proofs.lemmas.List.Folds.{list_all-append, list_all-map}
+use Rattle.std.proofs.Common.{◌≡◌, ◌⊎◌, ◌∙◌, ⊎_elim, inl, inr, ℕ, ◌+◌, ◌||◌, Bool, true, false, cond, List, [], ◌∷◌, map, count_by, refl, sym, ap, subst, arith}
+use Rattle.std.specs.List.{Contains, list_all, list_any, flat_map}
+use Rattle.std.proofs.lemmas.List.Folds.{list_all-append}
 use Rattle.std.proofs.lemmas.List.Elements.{Contains-append_cases}
 use Rattle.std.proofs.lemmas.List.Sums.{sum_by-cons}
 use Rattle.pin_core.proofs.Lists.{contains_cases, contains_later}

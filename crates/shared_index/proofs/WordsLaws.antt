@@ -1,6 +1,5 @@
 -- A view whose words have changed, and nothing else.
-use Rattle.std.proofs.Common.{◌≡◌, ◌∙◌, ℕ, ◌+◌, ◌*◌, ◌&&◌, Bool, List, length, map, replicate, Option, Some, None, refl, sym, ap, arith}
-use Rattle.std.specs.List.{range_with_len}
+use Rattle.std.proofs.Common.{◌≡◌, ◌∙◌, ℕ, ◌+◌, ◌*◌, ◌&&◌, Bool, List, length, replicate, Option, Some, None, refl, sym, ap, arith}
 use Rattle.std.proofs.lemmas.List.{length-replicate}
 use Rattle.std.proofs.lemmas.List.FromFn.{length-map-range_with_len}
 use Rattle.atomic_table.specs.Seated.{TableId}
@@ -10,7 +9,7 @@ use Rattle.pin_core.specs.declared.kept.Mark.TheVariants as mark
 use Rattle.chunk_usage.specs.Ledger.{Ledger, is_given}
 use Rattle.chunk_usage.specs.Keeping.{freed, is_needed}
 use Rattle.shared_cells.specs.declared.view.TurnView.{TurnView}
-use Rattle.shared_cells.specs.Views.{kept_in, marks_of, words_of}
+use Rattle.shared_cells.specs.Views.{kept_in, marks_of}
 use Rattle.shared_cells.specs.Cells.{Cells, cells_of, given_chunks, with_words, words_in}
 use Rattle.shared_cells.proofs.Chunks.{given_by_words}
 use Rattle.shared_index.specs.Passes.{Known}

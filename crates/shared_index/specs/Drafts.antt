@@ -1,28 +1,18 @@
 -- What a transaction has: its base, and its working set.
-use Rattle.std.specs.Prelude.{◌≡◌, ℕ, List, Option, Some, None, slice_index}
-use Rattle.zone_model.specs.Keys.{Leads}
+use Rattle.std.specs.Prelude.{◌≡◌, List, Option, IsSome}
 use Rattle.trie_model.specs.Keys.{Entry}
-use Rattle.chunk_usage.specs.Ledger.{Ledger, is_used}
-use Rattle.trie_read.specs.Reads.{EachTells}
-use Rattle.trie_write.specs.Standing.{Standing}
-use Rattle.shared_cells.specs.declared.view.Entry.{Entry as Commit}
-use Rattle.shared_cells.specs.declared.view.PassView.{PassView}
-use Rattle.shared_cells.specs.History.{IsPartOf, entries_by}
-use Rattle.shared_cells.specs.Views.{with_pass}
-use Rattle.shared_cells.specs.Cells.{HasCell}
+use Rattle.shared_cells.specs.declared.pass.PassSeat.{PassSeat}
+use Rattle.shared_cells.specs.Views.{pass_of}
 use Rattle.shared_index.specs.declared.meaning.Operation.{Operation}
-use Rattle.shared_index.specs.Passes.{Known, first_version, version_seen, commits_in}
-use Rattle.shared_index.specs.Turns.{cells_with}
+use Rattle.shared_index.specs.declared.desk.Draft.{Draft}
+use Rattle.shared_index.specs.Passes.{Known, known_at, version_seen}
+use Rattle.shared_index.specs.Bases.{StandsFor, Joined}
 
--- the root stands for these entries, in cells of the turn that are in use and that count
-pub record StandsFor (v : Known) (u : Ledger) (root : Option ℕ) (es : List Entry) : Type 0 where
-  pub stands : Standing (HasCell (cells_with u v.turn)) (is_used u) (λ k. slice_index u.live k) root es
-  pub tells : EachTells Leads es
+-- the working set is the base
+pub record Begins (lawful : List Entry → List Entry → Type 0) (before : Known) (d : Draft) : Type 0 where
+  pub joined : Joined lawful before d.seat.place.me.0
+  pub stands : StandsFor d.seat.place.me.0 d.usage d.root (version_seen d.seat.place.me.0.seen)
 
--- A pass has joined the turn. What it had seen is a beginning of what the turn has, and of its commits the history has those
--- that it made and no others. The base is lawful.
-pub record Joined (lawful : List Entry → List Entry → Type 0) (turn pass now : Known) : Type 0 where
-  pub view : now ≡ with_pass turn pass
-  pub grows : IsPartOf now.seen pass.seen
-  pub commits : (own : PassView (List Operation)) → now.pass ≡ Some own → own.entries ≡ entries_by own.number now.seen.history
-  pub good : lawful (first_version now.seen) (version_seen now.seen)
+-- the pass is in its place again, and has seen what the turn has
+abbrev pub IsBack : Known → Option (PassSeat (List Entry) (List Operation)) → Type 0
+IsBack v seat = IsSome seat × (known_at seat ≡ pass_of v)

@@ -2,4 +2,5 @@ pub mod Operations
 pub mod Meanings
 pub mod Passes
 pub mod Turns
+pub mod Bases
 pub mod Drafts

@@ -1,12 +1,15 @@
 //! The turn with its usage: between two transactions, and during one.
-ghost use Rattle.std.specs.Prelude.{◌≡◌, ◌+◌, ◌*◌, length};
+ghost use Rattle.std.specs.Prelude.{◌≡◌, ◌+◌, ◌*◌, List, length};
 ghost use Rattle.std.proofs.Props.{props};
 ghost use Rattle.shared_cells.specs.Views.{kept_in, pass_of};
 ghost use Rattle.shared_index.specs.Passes.{version_seen};
 ghost use Rattle.shared_index.specs.Turns.{Agrees, AtRest, cells_with, current_root};
-ghost use Rattle.shared_index.specs.Drafts.{StandsFor, Joined};
+ghost use Rattle.shared_index.specs.Bases.{StandsFor, Joined};
+ghost use Rattle.trie_model.specs.Keys.{Entry};
+ghost use Rattle.chunk_usage.specs.Keeping.{closed, freed, restored};
 
 use crate::meaning::{Law, Meaning, Operations, Version};
+use crate::recycling::free_unreached;
 use chunk_usage::Usage;
 use packed_node::Ref;
 use shared_cells::{JoinedSeat, PassSeat, Shared, TurnSeat};
@@ -47,7 +50,7 @@ impl Desk {
     ) -> Draft
         requires { (self.seat.place.table_id ≡ shared.now.table.shared.table_id) × (pass.place.table_id ≡ shared.now.table.shared.table_id) }
         ensures table { result.seat.place.table_id ≡ self.seat.place.table_id }
-        ensures joined { Joined L.lawful self.seat.place.me.0 pass.place.me.0 result.seat.place.me.0 }
+        ensures joined { Joined L.lawful pass.place.me.0 result.seat.place.me.0 }
         ensures usage { result.usage ≡ self.usage }
         ensures stands { StandsFor result.seat.place.me.0 result.usage result.root (version_seen result.seat.place.me.0.seen) }
     {
@@ -61,5 +64,45 @@ impl Desk {
             base: root,
             root,
         }
+    }
+}
+
+impl Draft {
+    /// The bump chunk counts as filled.
+    pub(crate) fn start_chunk(&mut self)
+        ensures seat { self.new.seat ≡ self.old.seat }
+        ensures usage { self.new.usage ≡ closed self.old.usage }
+        ensures root { self.new.root ≡ self.old.root }
+        ensures stands { (es : List Entry) → StandsFor self.old.seat.place.me.0 self.old.usage self.old.root es
+            → StandsFor self.new.seat.place.me.0 self.new.usage self.new.root es }
+    {
+        self.usage.start_chunk();
+    }
+
+    /// Goes back to the base, frees what only the working set needed, and gives the pass back.
+    pub(crate) fn undo<L: Law>(
+        self,
+        shared: &Shared<Version, Operations, Meaning<L>>,
+    ) -> (Desk, PassSeat<Version, Operations>)
+        requires { self.seat.place.table_id ≡ shared.now.table.shared.table_id }
+        ensures tables { (result.0.seat.place.table_id ≡ self.seat.place.table_id) × (result.1.place.table_id ≡ self.seat.place.table_id) }
+        ensures pass { result.1.place.me.0 ≡ pass_of self.seat.place.me.0 }
+        ensures usage { result.0.usage ≡ freed (restored self.usage) }
+    {
+        let Draft {
+            seat,
+            mut usage,
+            base,
+            root: _,
+        } = self;
+        usage.restore();
+        let (seat, _) = free_unreached(shared, seat, &mut usage);
+        let (seat, pass) = seat.split(shared);
+        let desk = Desk {
+            seat,
+            usage,
+            root: base,
+        };
+        (desk, pass)
     }
 }

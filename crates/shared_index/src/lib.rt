@@ -10,6 +10,9 @@ mod pass;
 mod query;
 mod recycling;
 mod snapshot;
+#[cfg(test)]
+mod tests;
+mod transaction;
 
 pub use index::Index;
 pub use meaning::{KeyItem, Law, Meaning, Named, Operation, Operations, Version};
@@ -17,3 +20,4 @@ pub use note::Note;
 pub use pass::Pass;
 pub use query::Query;
 pub use snapshot::Snapshot;
+pub use transaction::{Heavy, Light, Locked, Transaction, Update, Write};

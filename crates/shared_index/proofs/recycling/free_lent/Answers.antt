@@ -1,8 +1,7 @@
 use Rattle.std.proofs.Common.{◌≡◌, ◌∙◌, ℕ, length, sym, ap, subst, refl}
 use Rattle.chunk_usage.specs.Ledger.{Ledger}
 use Rattle.chunk_usage.specs.Keeping.{freed}
-use Rattle.shared_cells.specs.declared.view.TurnView.{TurnView}
-use Rattle.shared_cells.specs.Views.{kept_in, words_of}
+use Rattle.shared_cells.specs.Views.{kept_in}
 use Rattle.shared_cells.specs.Cells.{Cells, cells_of, with_words}
 use Rattle.shared_index.specs.Passes.{Known}
 use Rattle.shared_index.specs.Turns.{Agrees, cells_with}
@@ -16,7 +15,7 @@ free_unreached-count-requires-clause-in_rows g c =
     let seat = c.args.seat in
     let chunks : length u.given ≡ c.args.shared.now.table.shared.key.chunks = same_chunks _ _ _ _ c.requires.wide c.args.shared.now.wide (same_words _ _ c.requires.table) in
     let cells : c.lend-cells.result ≡ cells_with u seat.place.me.0.turn =
-        c.lend-cells.ensures.cells ∙ ap (λ (v : Known). cells_of c.args.shared.now.table.shared.key.chunks v.turn) (sym c.requires.lent.1) ∙ ap (λ (n : ℕ). cells_of n seat.place.me.0.turn) (sym chunks) in
+    c.lend-cells.ensures.cells ∙ ap (λ (v : Known). cells_of c.args.shared.now.table.shared.key.chunks v.turn) (sym c.requires.lent.1) ∙ ap (λ (n : ℕ). cells_of n seat.place.me.0.turn) (sym chunks) in
     kept_in_rows c.lend-cells.result u c.known.ensures seat.passes (ap (λ (k : Cells). k.chunks) cells) (subst (λ (k : Cells). Agrees k u seat.passes) (sym cells) c.requires.agrees)
 
 pub returns-clause-passes : goal.returns-clause-passes
@@ -35,6 +34,6 @@ returns-clause-agrees g c =
     let count : lent.chunks ≡ length (freed u).given = same_chunks _ _ _ _ c.into_joined.ensures.size c.requires.wide (same_words _ _ (sym c.requires.lent.0)) ∙ sym (freed_chunks u) in
     subst (λ (l : Ledger). Agrees (cells_with l c.into_joined.result.place.me.0.turn) l seat.passes) (sym after)
     (agrees_freed (cells_with u seat.place.me.0.turn) (cells_with (freed u) c.into_joined.result.place.me.0.turn) u seat.passes c.known.ensures refl (freed_chunks u)
-      (ap (λ (v : Known). kept_in v.turn) view ∙ words_kept seat.place.me.0.turn lent.words)
-      (given_after (length (freed u).given) c.into_joined.result.place.me.0.turn lent (kept_in g.B.Lent.view.turn) (freed u).given count c.into_joined.ensures.cells (c.free_unreached-count.ensures.given ∙ ap (λ (l : Ledger). l.given) after))
-      c.requires.agrees)
+    (ap (λ (v : Known). kept_in v.turn) view ∙ words_kept seat.place.me.0.turn lent.words)
+    (given_after (length (freed u).given) c.into_joined.result.place.me.0.turn lent (kept_in g.B.Lent.view.turn) (freed u).given count c.into_joined.ensures.cells (c.free_unreached-count.ensures.given ∙ ap (λ (l : Ledger). l.given) after))
+    c.requires.agrees)

@@ -1,7 +1,6 @@
-use Rattle.std.proofs.Common.{◌≡◌, ◌∙◌, sym, ap, subst, List, Option, Some}
-use Rattle.trie_model.specs.Keys.{Entry}
+use Rattle.std.proofs.Common.{◌≡◌, ◌∙◌, sym, ap, subst, Option}
 use Rattle.shared_cells.specs.declared.view.TurnView.{TurnView}
-use Rattle.shared_cells.specs.Views.{kept_in, is_told}
+use Rattle.shared_cells.specs.Views.{kept_in}
 use Rattle.shared_cells.specs.Steps.{Confirmed}
 use Rattle.shared_index.specs.Operations.{applied}
 use Rattle.shared_index.specs.Meanings.{IsVersion}
