@@ -4,3 +4,5 @@ pub mod ImageLaws
 pub mod BeginLaws
 pub mod KeepLaws
 pub mod WordsLaws
+pub mod Walks
+pub mod OperationLaws

@@ -4,3 +4,5 @@ pub mod Passes
 pub mod Turns
 pub mod Bases
 pub mod Drafts
+pub mod Logged
+pub mod Steps

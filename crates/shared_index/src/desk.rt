@@ -1,5 +1,5 @@
 //! The turn with its usage: between two transactions, and during one.
-ghost use Rattle.std.specs.Prelude.{◌≡◌, ◌+◌, ◌*◌, List, length};
+ghost use Rattle.std.specs.Prelude.{◌≡◌, ◌+◌, ◌*◌, List, [], length};
 ghost use Rattle.std.proofs.Props.{props};
 ghost use Rattle.shared_cells.specs.Views.{kept_in, pass_of};
 ghost use Rattle.shared_index.specs.Passes.{version_seen};
@@ -8,6 +8,7 @@ ghost use Rattle.shared_index.specs.Bases.{StandsFor, Joined};
 ghost use Rattle.trie_model.specs.Keys.{Entry};
 ghost use Rattle.chunk_usage.specs.Keeping.{closed, freed, restored};
 
+use crate::log::Log;
 use crate::meaning::{Law, Meaning, Operations, Version};
 use crate::recycling::free_unreached;
 use chunk_usage::Usage;
@@ -36,6 +37,8 @@ pub struct Draft {
     pub(crate) base: Option<Ref>,
     /// The working set's.
     pub(crate) root: Option<Ref>,
+    /// What was done to the base.
+    pub(crate) log: Log,
     ghost wide: { 4161 + 2048 * length usage.given ≡ seat.place.table_id.words },
     ghost agrees: { Agrees (cells_with usage seat.place.me.0.turn) usage seat.passes } by { Prim.hlevel props },
     ghost base_is: { base ≡ current_root (kept_in seat.place.me.0.turn) } by { Prim.hlevel props },
@@ -52,6 +55,7 @@ impl Desk {
         ensures table { result.seat.place.table_id ≡ self.seat.place.table_id }
         ensures joined { Joined L.lawful pass.place.me.0 result.seat.place.me.0 }
         ensures usage { result.usage ≡ self.usage }
+        ensures log { result.log.operations ≡ [] }
         ensures stands { StandsFor result.seat.place.me.0 result.usage result.root (version_seen result.seat.place.me.0.seen) }
     {
         let Desk { seat, usage, root } = self;
@@ -63,6 +67,7 @@ impl Desk {
             usage,
             base: root,
             root,
+            log: Log::new(),
         }
     }
 }
@@ -73,6 +78,7 @@ impl Draft {
         ensures seat { self.new.seat ≡ self.old.seat }
         ensures usage { self.new.usage ≡ closed self.old.usage }
         ensures root { self.new.root ≡ self.old.root }
+        ensures log { self.new.log.operations ≡ self.old.log.operations }
         ensures stands { (es : List Entry) → StandsFor self.old.seat.place.me.0 self.old.usage self.old.root es
             → StandsFor self.new.seat.place.me.0 self.new.usage self.new.root es }
     {
@@ -94,6 +100,7 @@ impl Draft {
             mut usage,
             base,
             root: _,
+            log: _,
         } = self;
         usage.restore();
         let (seat, _) = free_unreached(shared, seat, &mut usage);

@@ -4,6 +4,7 @@
 
 mod desk;
 mod index;
+mod log;
 mod meaning;
 mod note;
 mod pass;
