@@ -6,3 +6,4 @@ pub mod KeepLaws
 pub mod WordsLaws
 pub mod Walks
 pub mod OperationLaws
+pub mod ChangeLaws

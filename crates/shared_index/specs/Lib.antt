@@ -5,4 +5,4 @@ pub mod Turns
 pub mod Bases
 pub mod Drafts
 pub mod Logged
-pub mod Steps
+pub mod Changes

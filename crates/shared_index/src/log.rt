@@ -4,7 +4,7 @@ ghost use Rattle.std.specs.Borrow.{ftrue};
 ghost use Rattle.shared_index.specs.declared.meaning.Operation.{Operation};
 ghost use Rattle.shared_index.specs.Logged.{operations_code};
 
-use shift_key::Key;
+use crate::change::Change;
 use std::marker::Model;
 
 /// Contracts read what it lists.
@@ -17,16 +17,8 @@ impl Model for Log {
     ghost also_owns = { λ _. ftrue };
 }
 
-/// An operation of a transaction, with what its call was given.
-#[derive(Clone, Copy, Drop)]
-pub enum Step<'a> {
-    Insert(&'a Key, &'a [u8]),
-    Replace(&'a Key, &'a [u8]),
-    Delete(&'a Key),
-}
-
 impl Log {
-    ghost use Rattle.shared_index.specs.Steps.{operation_of};
+    ghost use Rattle.shared_index.specs.Changes.{operation_of};
 
     pub(crate) fn new() -> Log
         ensures { result.operations ≡ [] }
@@ -35,8 +27,8 @@ impl Log {
     }
 
     /// The log with one operation more.
-    pub(crate) fn then(&self, _step: &Step<'_>) -> Log
-        ensures { result.operations ≡ self.now.operations ++ operation_of _step.now ∷ [] }
+    pub(crate) fn then(&self, _change: &Change<'_>) -> Log
+        ensures { result.operations ≡ self.now.operations ++ operation_of _change.now ∷ [] }
     {
         Log {}
     }

@@ -27,8 +27,8 @@ use denote.Triple.Table.{entered}
 use denote.Triple.Walked.{says, Stays, stay_dropped, walk_of, ends_at, walk_Meets, Goes-dropped}
 use Rattle.shared_index.proofs.Walks.{none, none_made}
 use Rattle.shared_index.specs.contracts.log.Log as Log
-use Rattle.shared_index.specs.contracts.log.Step as Note
-use Rattle.shared_index.specs.Steps.{operation_of}
+use Rattle.shared_index.specs.contracts.change.Change as Note
+use Rattle.shared_index.specs.Changes.{operation_of}
 use Rattle.shared_index.specs.contracts.log.Log.then as F
 use Rattle.shared_index.specs.contracts.log.Log.then.Key.{name as #self}
 use Rattle.shared_index.proofs.log.Log.then.Statement as stated

@@ -1,0 +1,6 @@
+use Rattle.shared_index.proofs.ChangeLaws.{rooted_inserted}
+use Rattle.shared_index.proofs.change.insert.Goals as goal
+
+pub returns-in-Ok-clause-done : goal.returns-in-Ok-clause-done
+returns-in-Ok-clause-done g c es is =
+    rooted_inserted (g.C.CellRead.has c.args.cells.now) (g.C.CellRead.has c.insert.new.cells) c.args.usage.now c.insert.new.usage c.args.root c.in-Ok.new es is (record { key = c.args.key.now; item = c.args.item.now }) c.requires.leads (c.in-Ok.ensures.inserted es is.stands is.tells)
