@@ -10,7 +10,7 @@ use Rattle.trie_model.specs.Reach.{row, in_chunk}
 use Rattle.chunk_usage.specs.declared.open.Open.{Open}
 use Rattle.chunk_usage.specs.declared.space.Grant.{Grant}
 use Rattle.chunk_usage.specs.declared.space.Full.{Full}
-use Rattle.chunk_usage.specs.Rooms.{Room, GivesChunk, Grows}
+use Rattle.chunk_usage.specs.Rooms.{Account, Handed, Room, GivesChunk, Grows, account_of}
 use Rattle.chunk_usage.specs.Ledger.{Ledger, IsLedger, IsOpen, is_given, is_open, is_used, is_fresh, filled, left, free_count, reserve_of}
 use Rattle.chunk_usage.specs.Handing.{lowest_free, with_open, taken, next_cell, roomy, granted_from, allocated_from, grant_of, allocated, shortage, spent, unspent}
 use Rattle.chunk_usage.proofs.FlagLemmas.{set_stays, set_within, get_set, get_clear, one_fewer_clear, First, first_is}
@@ -22,7 +22,12 @@ pub record Hands (l new : Ledger) (n : ℕ) (r : Result Grant Full) : Type 0 whe
   pub gives : IfOk r (λ g. GivesChunk l.given new.given g.given)
   pub grows : Grows (is_used l) (is_used new) (is_fresh l) (is_fresh new)
   pub counts : IfOk r (λ g. (k : ℕ) → slice_index new.live k ≡ slice_index l.live k + row (in_chunk k) g.at n)
-  pub spends : OnOk r (spent new ≤ spent l + n)
+  pub spends : spent new ≤ spent l + n
+  pub handed : IfOk r (λ g. Handed (account_of l) (account_of new) g.at n)
+
+-- room that counts
+handed_of : (l new : Ledger) (first n : ℕ) → Room (is_used l) (is_used new) (is_fresh new) new.given first n → ((k : ℕ) → slice_index new.live k ≡ slice_index l.live k + row (in_chunk k) first n) → Handed (account_of l) (account_of new) first n
+handed_of l new first n room counts = record { twigs = room.row; unused = room.unused; taken = room.taken; writable = room.writable; in_given = room.in_given; counts = counts }
 
 differ : true ≡ false → ⊥
 differ e = cc
@@ -73,13 +78,17 @@ module _ (l : Ledger) (h : IsLedger l) (n : ℕ) (some : 0 < n) (o : Open) (is :
     in_given = get_set l.given (next_cell o / 1024) (subst (λ (k : ℕ). slice_index_or l.given k false ≡ true) (let c = in_chunk_at 0 some in omega arith) opened.1);
   }
 
+  open_counts : (k : ℕ) → slice_index (taken l o n).live k ≡ slice_index l.live k + row (in_chunk k) (next_cell o) n
+  open_counts k = counts_more (next_cell o) n open_room.row.together l.live o.chunk k (let c = in_chunk_at 0 some in omega arith) (let e = h.counted in let i = inside in omega arith)
+
   open_hands : Hands l (taken l o n) n (Ok (record { at = next_cell o; given = None }))
   open_hands = record {
     room = open_room;
     gives = refl;
     grows = record { stays = stays; settled = λ q u. refl; fresher = λ q f. f };
-    counts = λ k. counts_more (next_cell o) n open_room.row.together l.live o.chunk k (let c = in_chunk_at 0 some in omega arith) (let e = h.counted in let i = inside in omega arith);
+    counts = open_counts;
     spends = spends;
+    handed = handed_of l (taken l o n) (next_cell o) n open_room open_counts;
   }
 
 -- from a free chunk
@@ -144,17 +153,21 @@ module _ (l : Ledger) (h : IsLedger l) (n : ℕ) (some : 0 < n) (few : n ≤ 256
       all_spent None short = refl
       all_spent (Some o) short = omega arith
 
+  new_counts : (k : ℕ) → slice_index (newly l n c).live k ≡ slice_index l.live k + row (in_chunk k) (c * 1024) n
+  new_counts k = counts_more (c * 1024) n new_room.row.together l.live c k (omega arith) (let e = h.counted in let w = first.within in omega arith)
+
   new_hands : Hands l (newly l n c) n (Ok (record { at = c * 1024; given = Some c }))
   new_hands = record {
     room = new_room;
     gives = (get_clear l.given c first.within first.clear, refl);
     grows = record { stays = new_stays; settled = new_settled; fresher = new_fresher };
-    counts = λ k. counts_more (c * 1024) n new_room.row.together l.live c k (omega arith) (let e = h.counted in let w = first.within in omega arith);
+    counts = new_counts;
     spends = new_spends;
+    handed = handed_of l (newly l n c) (c * 1024) n new_room new_counts;
   }
 
 none_hands : (l : Ledger) (n : ℕ) (f : Full) → Hands l l n (Err f)
-none_hands l n f = record { room = tt; gives = tt; grows = record { stays = λ q u. u; settled = λ q u. refl; fresher = λ q t. t }; counts = tt; spends = tt }
+none_hands l n f = record { room = tt; gives = tt; grows = record { stays = λ q u. u; settled = λ q u. refl; fresher = λ q t. t }; counts = tt; spends = (omega arith); handed = tt }
 
 module _ (l : Ledger) (h : IsLedger l) (n : ℕ) (some : 0 < n) (few : n ≤ 256) where
   by_free : (b : Bool) → nat_le (free_count l) (reserve_of l) ≡ b → left l.open_chunk < n

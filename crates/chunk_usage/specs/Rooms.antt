@@ -1,7 +1,39 @@
 -- Cells that are handed out, and what stays as it is while they are.
-use Rattle.std.specs.Prelude.{◌≡◌, ℕ, ◌+◌, ◌/◌, ◌<◌, Bool, true, false, List, Option, Some, None, Contains, slice_set}
+use Rattle.std.specs.Prelude.{◌≡◌, ℕ, ◌+◌, ◌/◌, ◌<◌, Bool, true, false, List, Option, Some, None, Contains, slice_set, slice_index}
 use Rattle.trie_model.specs.Trees.{IsRow}
+use Rattle.trie_model.specs.Reach.{row, in_chunk}
 use Rattle.chunk_cells.specs.Chunks.{IsGiven, IsFree}
+use Rattle.chunk_usage.specs.Ledger.{Ledger, Frozen, is_used, is_fresh, frozen_part}
+use Rattle.chunk_usage.specs.Handing.{spent}
+
+-- What a space that hands out cells knows of them.
+pub record Account : Type 0 where
+  -- the cell has been handed out: its chunk is given, and if it is the bump chunk, it lies before the next free cell
+  pub used : ℕ → Bool
+  -- no version that was frozen has the cell, so it may be written
+  pub mutable : ℕ → Bool
+  -- of each chunk, whether it is given
+  pub given : List Bool
+  -- how many cells of a chunk count
+  pub live : ℕ → ℕ
+  -- 769 for each given chunk but the bump chunk, and of that one what is handed out, at most 769. For a chunk is left for another
+  -- only where fewer than 256 of its cells are left, so n cells raise it by no more than n.
+  pub spent : ℕ
+  -- what was kept at freezes
+  pub frozen : Frozen
+
+-- what a ledger tells
+abbrev pub account_of : Ledger → Account
+account_of l = record { used = is_used l; mutable = is_fresh l; given = l.given; live = slice_index l.live; spent = spent l; frozen = frozen_part l }
+
+-- n cells of one given chunk that were not in use and now are, that may be written, and that count
+pub record Handed (old new : Account) (first n : ℕ) : Type 0 where
+  pub twigs : IsRow first n
+  pub unused : (i : ℕ) → i < n → old.used (first + i) ≡ false
+  pub taken : (i : ℕ) → i < n → new.used (first + i) ≡ true
+  pub writable : (i : ℕ) → i < n → new.mutable (first + i) ≡ true
+  pub in_given : IsGiven new.given (first / 1024)
+  pub counts : (k : ℕ) → new.live k ≡ old.live k + row (in_chunk k) first n
 
 -- what becomes of the given chunks where a chunk is handed out with the cells, or none is
 abbrev pub GivesChunk : List Bool → List Bool → Option ℕ → Type 0

@@ -26,31 +26,14 @@ pub struct Full {
 
 /// Hands out cells, and counts those that the trie reaches. The crates that change a trie know it by this alone.
 pub trait Space {
-    ghost use Rattle.std.specs.Prelude.{◌≡◌, ◌+◌, ◌/◌, ◌%◌, ◌<◌, ◌≤◌, ℕ, Bool, true, List, IfOk, OnOk, OnErr, IfErr, IsTrue};
+    ghost use Rattle.std.specs.Prelude.{◌≡◌, ◌+◌, ◌/◌, ◌%◌, ◌<◌, ◌≤◌, ℕ, Bool, true, List, IfOk, OnErr, IfErr, IsTrue};
     ghost use Rattle.trie_model.specs.Reach.{row, in_chunk};
     ghost use Rattle.chunk_cells.specs.Chunks.{IsGiven};
     ghost use Rattle.chunk_usage.specs.declared.space.Full.{Full};
-    ghost use Rattle.chunk_usage.specs.Ledger.{Frozen};
-    ghost use Rattle.chunk_usage.specs.Rooms.{GivesChunk, Room, Grows};
+    ghost use Rattle.chunk_usage.specs.Rooms.{Account, Handed, GivesChunk, Room, Grows};
 
-    // The cell has been handed out: its chunk is given, and if it is the open one, it lies before the next free cell.
-    ghost used: { Self → ℕ → Bool };
-
-    // No version that was frozen has the cell, so it may be written.
-    ghost fresh: { Self → ℕ → Bool };
-
-    // Of each chunk, whether it is given.
-    ghost given: { Self → List Bool };
-
-    // How many cells of a chunk count.
-    ghost live: { Self → ℕ → ℕ };
-
-    // 769 for each given chunk but the open one, and of that one what is handed out, at most 769. For a chunk is left for
-    // another only where fewer than 256 of its cells are left, so n cells raise it by no more than n.
-    ghost spent: { Self → ℕ };
-
-    // What was kept at freezes. No call here changes it.
-    ghost frozen: { Self → Frozen };
+    // What is known of the cells.
+    ghost account: { Self → Account };
 
     // These numbers say why there is no room.
     ghost lacks: { Self → Full → Type 0 };
@@ -59,39 +42,41 @@ pub trait Space {
     fn alloc(&mut self, n: u32) -> Result<Grant, Full>
         requires some { 0 < n }
         requires few { n ≤ 256 }
-        ensures room { IfOk result (λ g. Room (used self.old) (used self.new) (fresh self.new) (given self.new) g.at n) }
-        ensures gives { IfOk result (λ g. GivesChunk (given self.old) (given self.new) g.given) }
-        ensures grows { Grows (used self.old) (used self.new) (fresh self.old) (fresh self.new) }
-        ensures counts { IfOk result (λ g. (k : ℕ) → live self.new k ≡ live self.old k + row (in_chunk k) g.at n) }
-        ensures spends { OnOk result (spent self.new ≤ spent self.old + n) }
-        ensures frozen { frozen self.new ≡ frozen self.old }
+        ensures handed { IfOk result (λ g. Handed (account self.old) (account self.new) g.at n) }
+        ensures room { IfOk result (λ g. Room (account self.old).used (account self.new).used (account self.new).mutable (account self.new).given g.at n) }
+        ensures gives { IfOk result (λ g. GivesChunk (account self.old).given (account self.new).given g.given) }
+        ensures grows { Grows (account self.old).used (account self.new).used (account self.old).mutable (account self.new).mutable }
+        ensures spends { (account self.new).spent ≤ (account self.old).spent + n }
+        ensures frozen { (account self.new).frozen ≡ (account self.old).frozen }
         ensures full { IfErr result (λ f. lacks self.new f) }
         ensures refused { OnErr result (self.new ≡ self.old) };
 
     /// Whether no version that was frozen has a cell, so that it may be written.
-    fn is_fresh(&self, at: Ref) -> bool
-        ensures value { result ≡ fresh self.now at }
-        ensures given { used self.now at ≡ true → IsGiven (given self.now) (at / 1024) };
+    fn is_mutable(&self, at: Ref) -> bool
+        ensures value { result ≡ (account self.now).mutable at }
+        ensures given { (account self.now).used at ≡ true → IsGiven (account self.now).given (at / 1024) };
 
     /// These cells don't count any more.
     fn release(&mut self, at: Ref, n: u32)
-        requires counted { (k : ℕ) → row (in_chunk k) at n ≤ live self.old k }
+        requires counted { (k : ℕ) → row (in_chunk k) at n ≤ (account self.old).live k }
         requires together { at % 1024 + n ≤ 1024 }
-        ensures counts { (k : ℕ) → live self.new k + row (in_chunk k) at n ≡ live self.old k }
-        ensures used { (q : ℕ) → used self.new q ≡ used self.old q }
-        ensures fresh { (q : ℕ) → fresh self.new q ≡ fresh self.old q }
-        ensures given { given self.new ≡ given self.old }
-        ensures spent { spent self.new ≡ spent self.old }
-        ensures frozen { frozen self.new ≡ frozen self.old }
+        ensures counts { (k : ℕ) → (account self.new).live k + row (in_chunk k) at n ≡ (account self.old).live k }
+        ensures rest { account self.new ≡ record (account self.old) { live = (account self.new).live } }
+        ensures used { (q : ℕ) → (account self.new).used q ≡ (account self.old).used q }
+        ensures fresh { (q : ℕ) → (account self.new).mutable q ≡ (account self.old).mutable q }
+        ensures given { (account self.new).given ≡ (account self.old).given }
+        ensures spent { (account self.new).spent ≡ (account self.old).spent }
+        ensures frozen { (account self.new).frozen ≡ (account self.old).frozen }
         ensures lacks { (f : Full) → lacks self.old f → lacks self.new f };
 
     /// No cell counts any more.
     fn release_all(&mut self)
-        ensures counts { (k : ℕ) → live self.new k ≡ 0 }
-        ensures used { (q : ℕ) → used self.new q ≡ used self.old q }
-        ensures fresh { (q : ℕ) → fresh self.new q ≡ fresh self.old q }
-        ensures given { given self.new ≡ given self.old }
-        ensures spent { spent self.new ≡ spent self.old }
-        ensures frozen { frozen self.new ≡ frozen self.old }
+        ensures counts { (k : ℕ) → (account self.new).live k ≡ 0 }
+        ensures rest { account self.new ≡ record (account self.old) { live = (account self.new).live } }
+        ensures used { (q : ℕ) → (account self.new).used q ≡ (account self.old).used q }
+        ensures fresh { (q : ℕ) → (account self.new).mutable q ≡ (account self.old).mutable q }
+        ensures given { (account self.new).given ≡ (account self.old).given }
+        ensures spent { (account self.new).spent ≡ (account self.old).spent }
+        ensures frozen { (account self.new).frozen ≡ (account self.old).frozen }
         ensures lacks { (f : Full) → lacks self.old f → lacks self.new f };
 }

@@ -55,7 +55,7 @@ fn is_in_use(versions: &[u64], chunk: u32) -> bool
         .any(|version| *version % 6 == u64::from(chunk))
 }
 
-/// Writes the next version into its chunk, if no version that is kept is there. The chunk is free before.
+/// Writes the next version into its chunk, if no version that is kept is there. A chunk that is given is freed and given anew.
 fn lay<C: CellWrite>(cells: &mut C, versions: &[u64], given: &mut [bool], next: u64) -> bool
     requires six { length given.old ≡ 6 }
     requires given { C.given cells.old ≡ given.old }

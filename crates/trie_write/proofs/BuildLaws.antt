@@ -1,7 +1,7 @@
 -- The branch that grows as its twigs are built.
 use Rattle.std.specs.Int.{bit_at}
 use Rattle.std.proofs.lemmas.Nat.{shr_high}
-use Rattle.std.proofs.Common.{pow_mono, ◌≡◌, ℕ, suc, ◌+◌, ◌*◌, ◌/◌, ◌%◌, ◌^◌, ◌<◌, ◌≤◌, Bool, true, List, [], ◌∷◌, ◌++◌, length, take, drop, slice_get, Some, arith, refl, sym, ◌∙◌, ap, subst}
+use Rattle.std.proofs.Common.{pow_mono, ◌≡◌, ℕ, suc, ◌+◌, ◌*◌, ◌/◌, ◌%◌, ◌^◌, ◌<◌, ◌≤◌, true, List, [], ◌∷◌, ◌++◌, length, take, drop, slice_get, Some, arith, refl, sym, ◌∙◌, ap, subst}
 use Rattle.packed_node.specs.declared.Cell.{Cell}
 use Rattle.packed_node.specs.declared.Leaf.{Leaf}
 use Rattle.packed_node.specs.declared.Node.TheVariants as node
@@ -19,12 +19,12 @@ use Rattle.trie_model.proofs.CountLaws.{under, weigh_is, under-beside}
 use Rattle.trie_model.proofs.MoveLaws.{Keeps, beneath_kept}
 use Rattle.trie_model.proofs.ReachLaws.{met, live_is}
 use Rattle.trie_model.proofs.TopLaws.{is_node}
-use Rattle.chunk_usage.specs.Rooms.{Room}
+use Rattle.chunk_usage.specs.Rooms.{Account, Handed}
 use Rattle.trie_write.specs.Weights.{at_place, mark}
 use Rattle.trie_write.specs.Runs.{IsFirstRun}
 use Rattle.trie_write.specs.Builds.{Built}
 use Rattle.trie_write.specs.Standing.{Standing}
-use Rattle.trie_write.proofs.WeightLaws.{row_fresh, mark_tells, mark_le, within_met}
+use Rattle.trie_write.proofs.WeightLaws.{handed_fresh, mark_tells, mark_le, within_met}
 use Rattle.trie_write.proofs.OutlineLaws.{item_row}
 use Rattle.trie_write.proofs.PlanLaws.{Plan, Step, Planned, plan_start, plan_end, size_is, row_ones}
 use Rattle.trie_write.proofs.TwigLaws.{tops_of, AllBeneath, lie_of, tops-beside, length-tops, beneath_join, all_kept, all_within_met, rising_push, agree_tree, deepen}
@@ -40,23 +40,23 @@ rising_wider lo low p (twig q t rest) r l = (r.0, (let b = r.1 in omega arith), 
 pub entry_cells : (e : Entry) → IsEntry e → cells (e ∷ []) ≡ suc (cells_in e.item)
 entry_cells e is = size_is 0 (leaf e 0) (is, item_row e is) ∙ ap suc (row_ones 0 (cells_in e.item))
 
-pub leaf_built : {has : ℕ → Cell → Type 0} {used new fresh : ℕ → Bool} {given : List Bool} {live live_new : ℕ → ℕ} {l : Leaf} {cell : Cell} (e : Entry) → IsEntry e → l.len ≡ length e.item → Room used new fresh given l.at (cells_in e.item) → ((q : ℕ) → used q ≡ true → new q ≡ true) →
-    ItemLies has l.at e.item → ((k : ℕ) → live_new k ≡ live k + row (in_chunk k) l.at (cells_in e.item)) → cell ≡ packed (node.Leaf l) → Built has used new live live_new (e ∷ []) cell
-leaf_built {l = l} e is len room stays lies counts made = record {
+pub leaf_built : {has : ℕ → Cell → Type 0} {old new : Account} {l : Leaf} {cell : Cell} (e : Entry) → IsEntry e → l.len ≡ length e.item → Handed old new l.at (cells_in e.item) → ((q : ℕ) → old.used q ≡ true → new.used q ≡ true) →
+    ItemLies has l.at e.item → cell ≡ packed (node.Leaf l) → Built has old new (e ∷ []) cell
+leaf_built {l = l} e is len handed stays lies made = record {
   tree = leaf e l.at;
-  shape = (is, room.row);
+  shape = (is, handed.twigs);
   is = made ∙ ap (λ (n : ℕ). packed (node.Leaf (record { len = n; at = l.at }))) len;
   beneath = lies;
   holds = refl;
-  counts = counts;
-  fresh = row_fresh room stays;
+  counts = handed.counts;
+  fresh = handed_fresh handed stays;
 }
 
-pub leaf_node : {used new fresh : ℕ → Bool} {given : List Bool} {l : Leaf} (e : Entry) → IsEntry e → l.len ≡ length e.item → Room used new fresh given l.at (cells_in e.item) → IsNode (node.Leaf l)
-leaf_node {l = l} e is len room = subst (λ (n : ℕ). IsNode (node.Leaf (record { len = n; at = l.at }))) (sym len) (is_node 0 (leaf e l.at) (is, room.row))
+pub leaf_node : {l : Leaf} (e : Entry) → IsEntry e → l.len ≡ length e.item → IsRow l.at (cells_in e.item) → IsNode (node.Leaf l)
+leaf_node {l = l} e is len room = subst (λ (n : ℕ). IsNode (node.Leaf (record { len = n; at = l.at }))) (sym len) (is_node 0 (leaf e l.at) (is, room))
 
 -- The twigs that are built so far: those of the plan, in new cells.
-pub record Made (has : ℕ → Cell → Type 0) (used used_now : ℕ → Bool) (live live_now : ℕ → ℕ) (o : ℕ) (all rest : List Entry) (bits : ℕ) (cs : List Cell) (done : ℕ) : Type 0 where
+pub record Made (has : ℕ → Cell → Type 0) (old now : Account) (o : ℕ) (all rest : List Entry) (bits : ℕ) (cs : List Cell) (done : ℕ) : Type 0 where
   pub plan : Plan o all rest done
   pub made : Twigs
   pub holds : entries made ≡ entries plan.gone
@@ -66,10 +66,10 @@ pub record Made (has : ℕ → Cell → Type 0) (used used_now : ℕ → Bool) (
   pub bits_are : bits ≡ bitmap_of made
   pub tops : cs ≡ tops_of made
   pub beneath : AllBeneath has made
-  pub counts : (k : ℕ) → live_now k ≡ live k + under (in_chunk k) made
-  pub fresh : (q : ℕ) → under (at_place q) made + mark used q ≤ mark used_now q
+  pub counts : (k : ℕ) → now.live k ≡ old.live k + under (in_chunk k) made
+  pub fresh : (q : ℕ) → under (at_place q) made + mark old.used q ≤ mark now.used q
 
-pub made_start : {has : ℕ → Cell → Type 0} {used : ℕ → Bool} {live : ℕ → ℕ} (o w : ℕ) (below : Twigs) (all : List Entry) → IsTree 0 (branch o w below) → entries below ≡ all → Made has used used live live o all all 0 [] 0
+pub made_start : {has : ℕ → Cell → Type 0} {old : Account} (o w : ℕ) (below : Twigs) (all : List Entry) → IsTree 0 (branch o w below) → entries below ≡ all → Made has old old o all all 0 [] 0
 made_start o w below all tree holds = record {
   plan = plan_start o w below all tree holds;
   made = none;
@@ -85,7 +85,7 @@ made_start o w below all tree holds = record {
 }
 
 -- a twig more
-module _ {has : ℕ → Cell → Type 0} {used used_now : ℕ → Bool} {live live_now : ℕ → ℕ} {o done : ℕ} {all rest : List Entry} {bits : ℕ} {cs : List Cell} (m : Made has used used_now live live_now o all rest bits cs done) {p n : ℕ} (run : IsFirstRun o rest p n) (step : Step m.plan p n) where
+module _ {has : ℕ → Cell → Type 0} {old now : Account} {o done : ℕ} {all rest : List Entry} {bits : ℕ} {cs : List Cell} (m : Made has old now o all rest bits cs done) {p n : ℕ} (run : IsFirstRun o rest p n) (step : Step m.plan p n) where
   pub push_few : length cs < 47
   push_few =
       let a = ap (λ (xs : List Cell). length xs) m.tops in let b = length-tops m.made in
@@ -103,8 +103,8 @@ module _ {has : ℕ → Cell → Type 0} {used used_now : ℕ → Bool} {live li
   pub bits_fit : bits < 2 ^ 47
   bits_fit = let a = bits_before in let b = pow_mono {i = p} {j = 47} (let c = run.inside in omega arith) in omega arith
 
-  pub made_step : {has_new : ℕ → Cell → Type 0} {used_new : ℕ → Bool} {live_new : ℕ → ℕ} {cell : Cell} → Built has_new used_now used_new live_now live_new (take n rest) cell → Keeps used_now has has_new → ((q : ℕ) → used_now q ≡ true → used_new q ≡ true) → Made has_new used used_new live live_new o all (drop n rest) (bits + 2 ^ p) (cs ++ (cell ∷ [])) (done + cells (take n rest))
-  made_step {has_new} {used_new} {live_new} {cell} b keep stays = record {
+  pub made_step : {has_new : ℕ → Cell → Type 0} {new : Account} {cell : Cell} → Built has_new now new (take n rest) cell → Keeps now.used has has_new → ((q : ℕ) → now.used q ≡ true → new.used q ≡ true) → Made has_new old new o all (drop n rest) (bits + 2 ^ p) (cs ++ (cell ∷ [])) (done + cells (take n rest))
+  made_step {has_new} {new} {cell} b keep stays = record {
     plan = step.next;
     made = beside m.made (twig p b.tree none);
     holds = holds;
@@ -113,7 +113,7 @@ module _ {has : ℕ → Cell → Type 0} {used used_now : ℕ → Bool} {live li
     rising = subst (λ (x : ℕ). Rising 0 x (beside m.made (twig p b.tree none))) (sym step.next_low) (rising_push 0 m.plan.low 47 p m.made b.tree m.rising (omega arith) step.later run.inside);
     bits_are = (let a = m.bits_are in let d = bitmap_of-beside m.made (twig p b.tree none) in omega arith);
     tops = ap (λ (xs : List Cell). xs ++ (cell ∷ [])) m.tops ∙ ap (λ (c : Cell). tops_of m.made ++ (c ∷ [])) b.is ∙ sym (tops-beside m.made (twig p b.tree none));
-    beneath = beneath_join has_new m.made (twig p b.tree none) (all_kept used_now has has_new keep m.made (all_within_met used_now m.made (λ q l. mark_tells used_now q (let f = m.fresh q in omega arith))) m.beneath) (b.beneath, tt);
+    beneath = beneath_join has_new m.made (twig p b.tree none) (all_kept now.used has has_new keep m.made (all_within_met now.used m.made (λ q l. mark_tells now.used q (let f = m.fresh q in omega arith))) m.beneath) (b.beneath, tt);
     counts = λ k. let a = m.counts k in let d = b.counts k in let e = under-beside (in_chunk k) m.made (twig p b.tree none) in omega arith;
     fresh = λ q. let a = m.fresh q in let d = b.fresh q in let e = under-beside (at_place q) m.made (twig p b.tree none) in omega arith;
   }
@@ -139,7 +139,7 @@ module _ {has : ℕ → Cell → Type 0} {used used_now : ℕ → Bool} {live li
           let e = m.as_many in omega arith
 
 -- no item is left: the branch
-module _ {has : ℕ → Cell → Type 0} {used used_now : ℕ → Bool} {live live_now : ℕ → ℕ} {o done : ℕ} {all rest : List Entry} {bits : ℕ} {cs : List Cell} (m : Made has used used_now live live_now o all rest bits cs done) (empty : length rest ≡ 0) where
+module _ {has : ℕ → Cell → Type 0} {old now : Account} {o done : ℕ} {all rest : List Entry} {bits : ℕ} {cs : List Cell} (m : Made has old now o all rest bits cs done) (empty : length rest ≡ 0) where
   planned : Planned o all m.plan.gone done
   planned = plan_end m.plan empty
 
@@ -165,46 +165,46 @@ module _ {has : ℕ → Cell → Type 0} {used used_now : ℕ → Bool} {live li
     m.twigs,
   )
 
-  module _ {new fresh : ℕ → Bool} {given : List Bool} {wn : ℕ} (room : Room used_now new fresh given wn (length cs)) where
+  module _ {new : Account} {wn : ℕ} (handed : Handed now new wn (length cs)) where
     pub branch_node : IsNode (node.Branch (record { offset = o; bitmap = bits; twigs = wn }))
-    branch_node = subst (λ (b : ℕ). IsNode (node.Branch (record { offset = o; bitmap = b; twigs = wn }))) (sym m.bits_are) (is_node 0 (branch o wn m.made) (branch_tree wn room.row))
+    branch_node = subst (λ (b : ℕ). IsNode (node.Branch (record { offset = o; bitmap = b; twigs = wn }))) (sym m.bits_are) (is_node 0 (branch o wn m.made) (branch_tree wn handed.twigs))
 
-    pub branch_built : {has_new : ℕ → Cell → Type 0} {live_new : ℕ → ℕ} {cell : Cell} → Keeps used_now has has_new → ((q : ℕ) → used_now q ≡ true → new q ≡ true) → ((i : ℕ) (c : Cell) → slice_get cs i ≡ Some c → has_new (wn + i) c) → ((k : ℕ) → live_new k ≡ live_now k + row (in_chunk k) wn (length cs)) →
-        cell ≡ packed (node.Branch (record { offset = o; bitmap = bits; twigs = wn })) → Built has_new used new live live_new all cell
-    branch_built {has_new} {live_new} {cell} keep stays written counts is = record {
+    pub branch_built : {has_new : ℕ → Cell → Type 0} {cell : Cell} → Keeps now.used has has_new → ((q : ℕ) → now.used q ≡ true → new.used q ≡ true) → ((i : ℕ) (c : Cell) → slice_get cs i ≡ Some c → has_new (wn + i) c) →
+        cell ≡ packed (node.Branch (record { offset = o; bitmap = bits; twigs = wn })) → Built has_new old new all cell
+    branch_built {has_new} {cell} keep stays written is = record {
       tree = branch o wn m.made;
-      shape = branch_tree wn room.row;
+      shape = branch_tree wn handed.twigs;
       is = is ∙ ap (λ (b : ℕ). packed (node.Branch (record { offset = o; bitmap = b; twigs = wn }))) m.bits_are;
       beneath = lie_of has_new wn m.made (λ i c e. written i c (subst (λ (xs : List Cell). slice_get xs i ≡ Some c) (sym m.tops) e))
-          (all_kept used_now has has_new keep m.made (all_within_met used_now m.made (λ q l. mark_tells used_now q (let f = m.fresh q in omega arith))) m.beneath);
+          (all_kept now.used has has_new keep m.made (all_within_met now.used m.made (λ q l. mark_tells now.used q (let f = m.fresh q in omega arith))) m.beneath);
       holds = m.holds ∙ planned.holds;
-      counts = λ k. let a = m.counts k in let b = counts k in let c = weigh_is (in_chunk k) wn m.made in let d = ap (row (in_chunk k) wn) row_length in omega arith;
-      fresh = λ q. let a = m.fresh q in let b = row_fresh room stays q in let c = weigh_is (at_place q) wn m.made in let d = ap (row (at_place q) wn) row_length in omega arith;
+      counts = λ k. let a = m.counts k in let b = handed.counts k in let c = weigh_is (in_chunk k) wn m.made in let d = ap (row (in_chunk k) wn) row_length in omega arith;
+      fresh = λ q. let a = m.fresh q in let b = handed_fresh handed stays q in let c = weigh_is (at_place q) wn m.made in let d = ap (row (at_place q) wn) row_length in omega arith;
     }
 
 -- with what it has cost
-pub record Making (has : ℕ → Cell → Type 0) (used used_now : ℕ → Bool) (live live_now : ℕ → ℕ) (spent spent_now o : ℕ) (all rest : List Entry) (bits : ℕ) (cs : List Cell) : Type 0 where
+pub record Making (has : ℕ → Cell → Type 0) (old now : Account) (o : ℕ) (all rest : List Entry) (bits : ℕ) (cs : List Cell) : Type 0 where
   pub done : ℕ
-  pub made : Made has used used_now live live_now o all rest bits cs done
+  pub made : Made has old now o all rest bits cs done
   -- each twig's own cell is still to come
-  pub cost : spent_now + length cs ≤ spent + done
+  pub cost : now.spent + length cs ≤ old.spent + done
 
 -- a root of its own
-pub root_stands : {has has_new : ℕ → Cell → Type 0} {used used_now new fresh : ℕ → Bool} {given : List Bool} {live live_now live_new : ℕ → ℕ} {es : List Entry} {cell : Cell} {r : ℕ} → ((k : ℕ) → live k ≡ 0) → Built has used used_now live live_now es cell → Room used_now new fresh given r 1 → Keeps used_now has has_new → ((q : ℕ) → used_now q ≡ true → new q ≡ true) →
-    has_new (r + 0) cell → ((k : ℕ) → live_new k ≡ live_now k + row (in_chunk k) r 1) → Standing has_new new live_new (Some r) es
-root_stands {has} {has_new} {used} {used_now} {new} {live = live} {live_now} {live_new} {cell = cell} {r = r} uncounted b room keep stays written counts = (
+pub root_stands : {has has_new : ℕ → Cell → Type 0} {old now new : Account} {es : List Entry} {cell : Cell} {r : ℕ} → ((k : ℕ) → old.live k ≡ 0) → Built has old now es cell → Handed now new r 1 → Keeps now.used has has_new → ((q : ℕ) → now.used q ≡ true → new.used q ≡ true) →
+    has_new (r + 0) cell → Standing has_new new.used new.live (Some r) es
+root_stands {has} {has_new} {old} {now} {new} {cell = cell} {r = r} uncounted b handed keep stays written = (
   b.tree,
   record {
     trie = record {
       shape = b.shape;
-      inside = (let i = room.row.inside in omega arith);
+      inside = (let i = handed.twigs.inside in omega arith);
       top = subst (has_new r) b.is (let e : r + 0 ≡ r = omega arith in subst (λ (q : ℕ). has_new q cell) e written);
-      beneath = beneath_kept used_now has has_new keep b.tree (within_met used_now b.tree (λ q l. mark_tells used_now q (let f = b.fresh q in omega arith))) b.beneath;
-      once = λ q. let a = met q r b.tree in let f = b.fresh q in let h = row_fresh room stays q in let m = mark_le new q in omega arith;
+      beneath = beneath_kept now.used has has_new keep b.tree (within_met now.used b.tree (λ q l. mark_tells now.used q (let f = b.fresh q in omega arith))) b.beneath;
+      once = λ q. let a = met q r b.tree in let f = b.fresh q in let h = handed_fresh handed stays q in let m = mark_le new.used q in omega arith;
       holds = b.holds;
     };
-    top_in_use = (let e : r + 0 ≡ r = omega arith in subst (λ (q : ℕ). new q ≡ true) e (room.taken 0 (omega arith)));
-    in_use = within_met new b.tree (λ q l. stays q (mark_tells used_now q (let f = b.fresh q in omega arith)));
-    counted = λ k. let a = live_is k r b.tree in let z = uncounted k in let f = b.counts k in let d = counts k in omega arith;
+    top_in_use = (let e : r + 0 ≡ r = omega arith in subst (λ (q : ℕ). new.used q ≡ true) e (handed.taken 0 (omega arith)));
+    in_use = within_met new.used b.tree (λ q l. stays q (mark_tells now.used q (let f = b.fresh q in omega arith)));
+    counted = λ k. let a = live_is k r b.tree in let z = uncounted k in let f = b.counts k in let d = handed.counts k in omega arith;
   },
 )

@@ -1,18 +1,16 @@
 -- The leaf that a walk comes to, and the first place where its key differs.
-use Rattle.std.proofs.Common.{◌≡◌, ℕ, suc, ◌+◌, ◌/◌, ◌%◌, ◌^◌, ◌<◌, ◌≤◌, ◌⊎◌, List, length, take, count_ones, Option, Some, None, IsNone, IsSome, length-take, arith, refl, sym, ◌∙◌, ap, subst, inl, inr}
+use Rattle.std.proofs.Common.{◌≡◌, ℕ, suc, ◌+◌, ◌-◌, ◌/◌, ◌%◌, ◌^◌, ◌<◌, ◌≤◌, ◌⊎◌, List, length, take, count_ones, Option, Some, None, IsNone, IsSome, length-take, arith, refl, sym, ◌∙◌, ap, subst, inl, inr}
 use Rattle.std.proofs.lemmas.Bool.{cases_lt, cases_eq}
 use Rattle.std.proofs.lemmas.List.{get_or_past}
 use Rattle.packed_node.specs.declared.Cell.{Cell}
 use Rattle.packed_node.specs.declared.Leaf.{Leaf}
 use Rattle.packed_node.specs.declared.Branch.{Branch}
-use Rattle.packed_node.specs.declared.Node.{Node}
-use Rattle.packed_node.specs.declared.Node.TheVariants as node
 use Rattle.zone_model.specs.Names.{Name, IsName, BeginsWith}
 use Rattle.zone_model.specs.Keys.{key_of, Leads, IsFirstDifference}
 use Rattle.trie_model.specs.Keys.{at, IsKey, IsItem, Entry, InList}
-use Rattle.trie_model.specs.Memory.{top_cell, node_of, Beneath, Lie}
+use Rattle.trie_model.specs.Memory.{top_cell, Beneath, Lie}
 use Rattle.trie_model.specs.Trees.{Tree, Twigs, IsTree, Agree, entries_of, entries, bitmap_of}
-use Rattle.trie_model.specs.Trees.Tree.{leaf, branch}
+use Rattle.trie_model.specs.Trees.Tree.{branch}
 use Rattle.trie_model.specs.Trees.Twigs.{none, twig}
 use Rattle.trie_model.proofs.KeyLaws.{in_left}
 use Rattle.trie_model.proofs.SplitLaws.{Found, Missing, look, rising_of, lie_right, in_found, not_missing}
@@ -20,7 +18,7 @@ use Rattle.trie_model.proofs.AddLaws.{found_twigs, from_here}
 use Rattle.trie_model.proofs.GrowthLaws.{each_entry}
 use Rattle.trie_model.proofs.NameLaws.{one_key_leads, leads_by_front}
 use Rattle.trie_read.specs.Reads.{IsTop}
-use Rattle.trie_write.proofs.UnpackLaws.{Unpacked, BranchTold, told}
+use Rattle.trie_write.specs.Tops.{IsBranchTop, IsLeafTop}
 use Rattle.trie_write.specs.Nearness.{Apart, Closest, FirstDiffers, Differs}
 
 -- the front of an item has a name, which is the key's
@@ -78,11 +76,11 @@ way_in has k low o w i (twig p t rest) tree lies present absent (inr m) =
       apart = λ near h a d same other x i. widen o d k near x (entries (twig p t rest)) tree.4 (in_left near (entries_of t) (entries rest) h) i other (λ e. not_missing o (at k o) (twig p t rest) tree.5 m x i e) (cases_lt d o);
     }
 
-pub way_of : (has : ℕ → Cell → Type 0) (k : List ℕ) (low : ℕ) (c : Cell) (t : Tree) (b : Branch) (i : ℕ) → IsTop has low c t → BranchTold t b → IsKey k →
+pub way_of : (has : ℕ → Cell → Type 0) (k : List ℕ) (low : ℕ) (c : Cell) (t : Tree) (b : Branch) (i : ℕ) → IsTop has low c t → IsBranchTop t b → IsKey k →
     ((b.bitmap / 2 ^ at k b.offset) % 2 ≡ 1 → i ≡ count_ones (b.bitmap % 2 ^ at k b.offset)) → (((b.bitmap / 2 ^ at k b.offset) % 2 ≡ 1 → ⊥) → i ≡ 0) → Way has k (b.offset + 1) (b.twigs + i) t
 way_of has k low c t b i top x is present absent =
-    let bit : (b.bitmap / 2 ^ at k b.offset) % 2 ≡ (bitmap_of x.below / 2 ^ at k b.offset) % 2 = ap (λ (y : ℕ). (y / 2 ^ at k b.offset) % 2) x.bitmap in
-    let ones : count_ones (b.bitmap % 2 ^ at k b.offset) ≡ count_ones (bitmap_of x.below % 2 ^ at k b.offset) = ap (λ (y : ℕ). count_ones (y % 2 ^ at k b.offset)) x.bitmap in
+    let bit : (b.bitmap / 2 ^ at k b.offset) % 2 ≡ (bitmap_of x.below / 2 ^ at k b.offset) % 2 = ap (λ (y : ℕ). (y / 2 ^ at k b.offset) % 2) x.bits in
+    let ones : count_ones (b.bitmap % 2 ^ at k b.offset) ≡ count_ones (bitmap_of x.below % 2 ^ at k b.offset) = ap (λ (y : ℕ). count_ones (y % 2 ^ at k b.offset)) x.bits in
     let tree = subst (IsTree low) x.is top.tree in
     subst (Way has k (b.offset + 1) (b.twigs + i)) (sym x.is) (way_in has k low b.offset b.twigs i x.below tree (subst (Beneath has) x.is top.beneath) (λ z. present (bit ∙ z) ∙ ones) (λ z. absent (λ y. z (sym bit ∙ y)))
     (look 0 47 (at k b.offset) x.below (let z : 0 ≤ at k b.offset = omega arith in z) (is.positions b.offset) (rising_of b.offset 0 x.below (let z : 0 ≤ 47 = omega arith in z) tree.5)))
@@ -90,28 +88,19 @@ way_of has k low c t b i top x is present absent =
 pub closest_way : (has : ℕ → Cell → Type 0) (k : List ℕ) (low r : ℕ) (t : Tree) (y : Way has k low r t) (l : Leaf) → Closest has k (entries_of y.here) l → Closest has k (entries_of t) l
 closest_way has k low r t y l c = record { near = c.near; there = y.holds c.near c.there; leaf_of = c.leaf_of; apart = y.apart c.near c.there c.apart }
 
-same_leaf : (a b : Leaf) → node.Leaf a ≡ node.Leaf b → a ≡ b
-same_leaf a b e = cc
-
-leaf_is_no_branch : (b : Branch) (l : Leaf) → node.Branch b ≡ node.Leaf l → ⊥
-leaf_is_no_branch b l e = cc
-
-same_node : (n m : Node) (r : Option Node) → r ≡ Some n → r ≡ Some m → n ≡ m
-same_node n m r a b = cc
-
-closest_leaf : (has : ℕ → Cell → Type 0) (k : List ℕ) (low : ℕ) (t : Tree) (l : Leaf) → node_of t ≡ node.Leaf l → IsTree low t → Beneath has t → Closest has k (entries_of t) l
-closest_leaf has k low (branch o w below) l is tree b = absurd (leaf_is_no_branch (record { offset = o; bitmap = bitmap_of below; twigs = w }) l is)
-closest_leaf has k low (leaf e w) l is tree b =
-    let same = same_leaf (record { len = length e.item; at = w }) l is in
-    subst (Closest has k (entries_of (leaf e w))) same (record {
-      near = e;
+pub closest_here : (has : ℕ → Cell → Type 0) (k : List ℕ) (low : ℕ) (c : Cell) (t : Tree) (l : Leaf) → IsTop has low c t → IsLeafTop t l → Closest has k (entries_of t) l
+closest_here has k low c t l top x =
+    let tree = subst (IsTree low) x.is top.tree in
+    subst (λ (z : Tree). Closest has k (entries_of z) l) (sym x.is) (record {
+      near = x.e;
       there = inl refl;
-      leaf_of = record { entry = tree.0; len = refl; row = tree.1; lies = b };
+      leaf_of = record { entry = tree.0; len = x.len; row = tree.1; lies = subst (Beneath has) x.is top.beneath };
       apart = λ d sm other y i. elim i [ inl f ↦ (d, omega arith, λ z. other (z ∙ ap (λ (u : Entry). at u.key d) f)) | inr z ↦ absurd z ];
     })
 
-pub closest_here : (has : ℕ → Cell → Type 0) (k : List ℕ) (low : ℕ) (c : Cell) (t : Tree) (r : Option Node) (l : Leaf) → Unpacked has low c t r → (n : Node) → r ≡ Some n → n ≡ node.Leaf l → Closest has k (entries_of t) l
-closest_here has k low c t r l u n e0 e1 = closest_leaf has k low t l (same_node (node_of t) (node.Leaf l) r (told has low c t r u) (e0 ∙ ap (λ (x : Node). Some x) e1)) u.top.tree u.top.beneath
+-- the offset lies in range, so offsets come to an end
+pub falls_in : (has : ℕ → Cell → Type 0) (low : ℕ) (c : Cell) (t : Tree) (b : Branch) → IsTop has low c t → IsBranchTop t b → 504 - (b.offset + 1) < 504 - low
+falls_in has low c t b top x = let tree = subst (IsTree low) x.is top.tree in let a = tree.0 in let d = tree.1 in omega arith
 
 -- ---- the first difference
 

@@ -1,11 +1,11 @@
 -- The twigs of a branch: their cells as a list, and what hangs on them.
-use Rattle.std.proofs.Common.{◌≡◌, ℕ, zero, suc, ◌+◌, ◌<◌, ◌≤◌, Bool, true, ltb, List, [], ◌∷◌, ◌++◌, length, slice_get, Some, arith, inl, inr, refl, sym, ◌∙◌, ap, subst}
+use Rattle.std.proofs.Common.{◌≡◌, ℕ, suc, ◌+◌, ◌<◌, ◌≤◌, Bool, true, ltb, List, [], ◌∷◌, ◌++◌, length, slice_get, Some, arith, inl, inr, refl, sym, ◌∙◌, ap, subst}
 use Rattle.std.proofs.lemmas.Bool.{cases_lt}
 use Rattle.std.proofs.lemmas.Bool.Decides.{nat_tests}
 use Rattle.packed_node.specs.declared.Cell.{Cell}
 use Rattle.trie_model.specs.Keys.{at, Entry, InList}
 use Rattle.trie_model.specs.Memory.{top_cell, Beneath, Lie}
-use Rattle.trie_model.specs.Reach.{weigh_tree, WithinTree, Within}
+use Rattle.trie_model.specs.Reach.{weigh_tree, WithinTree}
 use Rattle.trie_model.specs.Trees.{Tree, Twigs, entries_of, count, Agree, IsTree, beside}
 use Rattle.trie_model.specs.Trees.Tree.{leaf, branch}
 use Rattle.trie_model.specs.Trees.Twigs.{none, twig}
@@ -13,7 +13,6 @@ use Rattle.trie_model.proofs.BitmapLaws.{Rising}
 use Rattle.trie_model.proofs.CountLaws.{under}
 use Rattle.trie_model.proofs.MoveLaws.{Keeps, beneath_kept}
 use Rattle.trie_model.proofs.ShapeLaws.{two_of}
-use Rattle.trie_write.specs.Rows.{RowLies}
 use Rattle.trie_write.specs.Weights.{at_place}
 use Rattle.trie_write.proofs.WeightLaws.{within_met}
 
@@ -76,27 +75,6 @@ deepen low (branch o w below) h a = (far, h.1, h.2, h.3, h.4, h.5)
   where
     far : low ≤ o
     far = elim (cases_lt o low) [ inl l ↦ absurd (let two = two_of o 0 below h.5 h.3 in let s = a two.x two.y two.x_in two.y_in o l in let d = two.apart in omega arith) | inr g ↦ g ]
-
-pub beneath_of_lie : (has : ℕ → Cell → Type 0) (r : ℕ) (ts : Twigs) → Lie has r ts → AllBeneath has ts
-beneath_of_lie has r none h = tt
-beneath_of_lie has r (twig p t rest) h = (h.1, beneath_of_lie has (suc r) rest h.2)
-
-pub row_of_lie : (has : ℕ → Cell → Type 0) (r : ℕ) (ts : Twigs) → Lie has r ts → RowLies has r (tops_of ts)
-row_of_lie has r none h i c e = absurd cc
-row_of_lie has r (twig p t rest) h zero c e = let same : top_cell t ≡ c = cc in let z : r ≡ r + 0 = omega arith in subst (has (r + 0)) same (subst (λ (n : ℕ). has n (top_cell t)) z h.0)
-row_of_lie has r (twig p t rest) h (suc i) c e = let n : suc r + i ≡ r + suc i = omega arith in subst (λ (m : ℕ). has m c) n (row_of_lie has (suc r) rest h.2 i c e)
-
-pub all_of_within : (P : ℕ → Bool) (r : ℕ) (ts : Twigs) → Within P r ts → AllWithin P ts
-all_of_within P r none h = tt
-all_of_within P r (twig p t rest) h = (h.1, all_of_within P (suc r) rest h.2)
-
-pub beneath_left : (has : ℕ → Cell → Type 0) (a b : Twigs) → AllBeneath has (beside a b) → AllBeneath has a
-beneath_left has none b h = tt
-beneath_left has (twig p t rest) b h = (h.0, beneath_left has rest b h.1)
-
-pub beneath_right : (has : ℕ → Cell → Type 0) (a b : Twigs) → AllBeneath has (beside a b) → AllBeneath has b
-beneath_right has none b h = h
-beneath_right has (twig p t rest) b h = beneath_right has rest b h.1
 
 -- a tree stays where its own cells do
 pub beneath_met : (has new : ℕ → Cell → Type 0) (t : Tree) → ((q : ℕ) (c : Cell) → 1 ≤ weigh_tree (at_place q) t → has q c → new q c) → Beneath has t → Beneath new t

@@ -1,12 +1,12 @@
 -- A test that each reference passes, and how often a reference is met.
-use Rattle.std.proofs.Common.{◌≡◌, ℕ, zero, suc, ◌+◌, ◌<◌, ◌≤◌, ◌⊎◌, inl, inr, Bool, true, false, cond, List, ◌-◌, arith, refl, sym, ◌∙◌, ap}
+use Rattle.std.proofs.Common.{◌≡◌, ℕ, zero, suc, ◌+◌, ◌<◌, ◌≤◌, ◌⊎◌, inl, inr, Bool, true, false, cond, ◌-◌, arith, refl, sym, ◌∙◌, ap}
 use Rattle.std.proofs.lemmas.Bool.{true≢false, cases_lt}
 use Rattle.std.proofs.lemmas.Bool.Decides.{nat_tests}
 use Rattle.trie_model.specs.Trees.{Tree, Twigs, cells_in}
 use Rattle.trie_model.specs.Trees.Tree.{leaf, branch}
 use Rattle.trie_model.specs.Trees.Twigs.{none, twig}
 use Rattle.trie_model.specs.Reach.{row, weigh_tree, weigh, WithinTree, Within}
-use Rattle.chunk_usage.specs.Rooms.{Room}
+use Rattle.chunk_usage.specs.Rooms.{Account, Handed}
 use Rattle.trie_write.specs.Weights.{at_place, mark}
 
 pub at_itself : (q : ℕ) → ◌≡◌ {A = ℕ} (at_place q q) 1
@@ -66,17 +66,6 @@ in_row q r n = elim (cases_lt q r) [
   | inr g ↦ elim (cases_lt q (r + n)) [ inl l ↦ inl (q - r, omega arith, omega arith) | inr h ↦ inr (λ i m e. omega arith) ]
 ]
 
--- cells handed out were not in use and now are, each once
-pub row_fresh : {used new fresh : ℕ → Bool} {given : List Bool} {r n : ℕ} → Room used new fresh given r n → ((q : ℕ) → used q ≡ true → new q ≡ true) → (q : ℕ) → row (at_place q) r n + mark used q ≤ mark new q
-row_fresh {used} {new} {r = r} {n = n} room stays q = elim (in_row q r n) [
-  | inl i ↦ (
-      let a = row_meets q r n i.0 i.1 i.2 in
-      let b = unmarked used q (ap used i.2 ∙ room.unused i.0 i.1) in
-      let c = marked new q (ap new i.2 ∙ room.taken i.0 i.1) in omega arith
-      )
-  | inr out ↦ (let a = row_misses q r n out in let b = mark_grows used new q (stays q) in omega arith)
-]
-
 -- each reference of the tree passes a test that those pass which it meets
 abbrev mutual
   pub within_met : (P : ℕ → Bool) (t : Tree) → ((q : ℕ) → 1 ≤ weigh_tree (at_place q) t → P q ≡ true) → WithinTree P t
@@ -103,3 +92,14 @@ abbrev mutual
       let a = at_another q r (λ same. true≢false (sym h.0 ∙ ap P same ∙ f)) in
       let b = met_within P t h.1 q f in
       let c = met_in P (suc r) rest h.2 q f in omega arith
+
+-- the same, as a space tells it
+pub handed_fresh : {old new : Account} {r n : ℕ} → Handed old new r n → ((q : ℕ) → old.used q ≡ true → new.used q ≡ true) → (q : ℕ) → row (at_place q) r n + mark old.used q ≤ mark new.used q
+handed_fresh {old} {new} {r} {n} h stays q = elim (in_row q r n) [
+  | inl i ↦ (
+      let a = row_meets q r n i.0 i.1 i.2 in
+      let b = unmarked old.used q (ap old.used i.2 ∙ h.unused i.0 i.1) in
+      let c = marked new.used q (ap new.used i.2 ∙ h.taken i.0 i.1) in omega arith
+      )
+  | inr out ↦ (let a = row_misses q r n out in let b = mark_grows old.used new.used q (stays q) in omega arith)
+]

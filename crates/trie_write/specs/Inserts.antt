@@ -1,22 +1,64 @@
--- What an insertion below a root is asked.
-use Rattle.std.specs.Prelude.{◌≡◌, ℕ, Bool, List}
+-- What an insertion below a root is asked, and what it makes.
+use Rattle.std.specs.Prelude.{◌≡◌, ℕ, ◌+◌, ◌<◌, ◌≤◌, true, List, length}
 use Rattle.packed_node.specs.declared.Cell.{Cell}
+use Rattle.packed_node.specs.declared.Leaf.{Leaf}
+use Rattle.trie_model.specs.Changes.{Nearest, Grown}
 use Rattle.trie_model.specs.Keys.{Entry, IsEntry}
-use Rattle.trie_model.specs.Memory.{top_cell}
-use Rattle.trie_model.specs.Trees.{Tree, entries_of}
+use Rattle.trie_model.specs.Memory.{ItemLies}
+use Rattle.trie_model.specs.Reach.{WithinTree}
+use Rattle.trie_model.specs.Trees.{Tree, entries_of, cells_in, IsRow, IsTree}
+use Rattle.chunk_usage.specs.Rooms.{Account}
+use Rattle.trie_read.specs.Reads.{IsTop}
+use Rattle.trie_write.specs.declared.change.Change.{Change}
 use Rattle.trie_write.specs.declared.near.Difference.{Difference}
-use Rattle.trie_write.specs.Nearness.{FirstDiffers}
+use Rattle.trie_write.specs.Puts.{Makes}
 use Rattle.trie_write.specs.Standing.{StandsIn}
+use Rattle.trie_write.specs.Tops.{NotBefore}
+use Rattle.trie_write.specs.Ways.{Fork, plug, IsWay}
 
-pub record AsksTop (has : ℕ → Cell → Type 0) (used : ℕ → Bool) (live : ℕ → ℕ) (r : ℕ) (key item : List ℕ) (first : Difference) (cell : Cell) (e : Entry) (t : Tree) (version : List Entry) : Type 0 where
-  pub entry : IsEntry e
-  pub key_is : key ≡ e.key
-  pub item_is : item ≡ e.item
-  pub stands : StandsIn has used live r t version
-  pub is : cell ≡ top_cell t
-  pub differs : FirstDiffers key (entries_of t) first
+-- the item lies in cells in use, where the leaf says
+pub record IsLaid {S A : Type 0} (has : S → ℕ → Cell → Type 0) (account : A → Account) (s : S) (a : A) (l : Leaf) (item : List ℕ) : Type 0 where
+  pub len : l.len ≡ length item
+  pub twigs : IsRow l.at (cells_in item)
+  pub lies : ItemLies (has s) l.at item
+  pub in_use : (i : ℕ) → i < cells_in item → (account a).used (l.at + i) ≡ true
 
-pub record AskedTop (has : ℕ → Cell → Type 0) (used : ℕ → Bool) (live : ℕ → ℕ) (r : ℕ) (key item : List ℕ) (first : Difference) (cell : Cell) (e : Entry) : Type 0 where
+-- The key first differs from those of a tree at the place, where the nearest has the position.
+pub record IsFirst (key : List ℕ) (first : Difference) (end : Tree) : Type 0 where
+  pub nearest : Nearest first.place key first.position (entries_of end)
+  pub short : first.place ≤ 503
+  pub inside : first.position < 47
+
+-- a tree at a node whose offset isn't before that place, and the laid item of the key
+pub record WithAsks {S A : Type 0} (has : S → ℕ → Cell → Type 0) (account : A → Account) (s : S) (a : A) (key item : List ℕ) (first : Difference) (node : Cell) (l : Leaf) (end : Tree) : Type 0 where
+  pub entry : IsEntry (record { key = key; item = item })
+  pub laid : IsLaid has account s a l item
+  pub top : IsTop (has s) 0 node end
+  pub within : WithinTree (account a).used end
+  pub ends : NotBefore first.place end
+  pub differs : IsFirst key first end
+
+pub record WithAsked {S A : Type 0} (has : S → ℕ → Cell → Type 0) (account : A → Account) (s : S) (a : A) (key : List ℕ) (first : Difference) (node : Cell) (l : Leaf) : Type 0 where
+  pub item : List ℕ
+  pub end : Tree
+  pub asks : WithAsks has account s a key item first node l end
+
+-- the change makes of the tree what it is with the entry
+pub record IsWith {S : Type 0} (has : S → ℕ → Cell → Type 0) (s : S) (c : Change) (place : ℕ) (e : Entry) (old : Tree) : Type 0 where
+  pub new : Tree
+  pub makes : Makes has s c old new
+  pub grown : (low : ℕ) → low ≤ place → IsTree low old → Grown e low old new
+
+-- A trie stands, in which the way along the key ends where the key first differs.
+pub record LacksKey {S A : Type 0} (has : S → ℕ → Cell → Type 0) (account : A → Account) (s : S) (a : A) (r : ℕ) (key : List ℕ) (first : Difference) (t : Tree) (version : List Entry) : Type 0 where
+  pub stands : StandsIn (has s) (account a).used (account a).live r t version
+  pub way : List Fork
+  pub end : Tree
+  pub is : t ≡ plug way end
+  pub is_way : IsWay first.place key way end
+  pub differs : IsFirst key first end
+
+pub record KeyIsMissing {S A : Type 0} (has : S → ℕ → Cell → Type 0) (account : A → Account) (s : S) (a : A) (r : ℕ) (key : List ℕ) (first : Difference) : Type 0 where
   pub t : Tree
   pub version : List Entry
-  pub asks : AsksTop has used live r key item first cell e t version
+  pub asks : LacksKey has account s a r key first t version

@@ -5,6 +5,7 @@ use Rattle.trie_model.specs.Keys.{Entry}
 use Rattle.trie_model.specs.Trees.{Tree}
 use Rattle.trie_model.specs.Memory.{IsTrieAt}
 use Rattle.trie_model.specs.Reach.{WithinTree, live_in}
+use Rattle.chunk_usage.specs.Rooms.{Account}
 
 -- The trie stands for the version, all that it reaches is in use, and these cells are what counts in each chunk.
 pub record StandsIn (has : ℕ → Cell → Type 0) (used : ℕ → Bool) (live : ℕ → ℕ) (r : ℕ) (t : Tree) (version : List Entry) : Type 0 where
@@ -17,3 +18,7 @@ pub record StandsIn (has : ℕ → Cell → Type 0) (used : ℕ → Bool) (live 
 abbrev pub Standing : (ℕ → Cell → Type 0) → (ℕ → Bool) → (ℕ → ℕ) → Option ℕ → List Entry → Type 0
 Standing has used live None version = (version ≡ []) × ((chunk : ℕ) → live chunk ≡ 0)
 Standing has used live (Some r) version = (t : Tree) × StandsIn has used live r t version
+
+-- the same of a root in some cells and a space
+abbrev pub HasTrie : {S A : Type 0} → (S → ℕ → Cell → Type 0) → (A → Account) → S → A → Option ℕ → List Entry → Type 0
+HasTrie has account s a root version = Standing (has s) (account a).used (account a).live root version

@@ -4,14 +4,13 @@ ghost use Rattle.std.specs.Prelude.{◌≡◌, ◌+◌, ◌<◌, ◌≤◌, ℕ,
 ghost use Rattle.packed_node.specs.declared.Cell.{Cell};
 ghost use Rattle.trie_model.specs.Keys.{Entry, Rises};
 ghost use Rattle.trie_model.specs.Shape.{cells as cells_of};
-ghost use Rattle.chunk_usage.specs.Rooms.{Ready};
 ghost use Rattle.trie_write.specs.Entries.{entry_of, entries_of_items};
-ghost use Rattle.trie_write.specs.Frames.{Frame};
 ghost use Rattle.trie_write.specs.Builds.{Built};
-ghost use Rattle.trie_write.specs.Standing.{Standing};
+ghost use Rattle.trie_write.specs.Spaces.{Ready, Frame};
+ghost use Rattle.trie_write.specs.Standing.{HasTrie};
 
 use super::Item;
-use super::room::{place_item, place_row};
+use super::place::{lay_item, lay_row};
 use super::row::Row;
 use super::runs::{first_run, offset_of};
 use chunk_cells::CellWrite;
@@ -25,15 +24,14 @@ pub fn build<C: CellWrite, U: Space>(
     items: &[Item],
 ) -> Result<Option<Ref>, Full>
     requires rising { Rises (entries_of_items items.now) }
-    requires uncounted { (k : ℕ) → U.live usage.old k ≡ 0 }
-    requires ready { Ready (C.kept cells.old) (C.given cells.old) (U.given usage.old) (U.used usage.old) (U.fresh usage.old) }
-    ensures built { IfOk result (λ root. Standing (C.has cells.new) (U.used usage.new) (U.live usage.new) root (entries_of_items items.now)) }
-    ensures uncounted { IfErr result (λ _. (k : ℕ) → U.live usage.new k ≡ 0) }
-    ensures spends { U.spent usage.new ≤ U.spent usage.old + cells_of (entries_of_items items.now) }
+    requires uncounted { (k : ℕ) → (U.account usage.old).live k ≡ 0 }
+    requires ready { Ready C.kept C.given U.account cells.old usage.old }
+    ensures built { IfOk result (λ root. HasTrie C.has U.account cells.new usage.new root (entries_of_items items.now)) }
+    ensures uncounted { IfErr result (λ _. (k : ℕ) → (U.account usage.new).live k ≡ 0) }
+    ensures spends { (U.account usage.new).spent ≤ (U.account usage.old).spent + cells_of (entries_of_items items.now) }
     ensures full { IfErr result (λ f. U.lacks usage.new f) }
-    ensures frozen { U.frozen usage.new ≡ U.frozen usage.old }
-    ensures frame { Frame (C.has cells.old) (C.has cells.new) (C.kept cells.old) (C.kept cells.new) (C.given cells.old) (C.given cells.new) (U.used usage.old) (U.used usage.new) (U.fresh usage.old) (U.fresh usage.new) }
-    ensures ready { Ready (C.kept cells.new) (C.given cells.new) (U.given usage.new) (U.used usage.new) (U.fresh usage.new) }
+    ensures frame { Frame C.has C.kept C.given U.account cells.old usage.old cells.new usage.new }
+    ensures ready { Ready C.kept C.given U.account cells.new usage.new }
 {
     if items.is_empty() {
         return Ok(None);
@@ -55,17 +53,16 @@ fn build_root<C: CellWrite, U: Space>(
 ) -> Result<Ref, Full>
     requires some { 0 < length items.now }
     requires rising { Rises (entries_of_items items.now) }
-    requires uncounted { (k : ℕ) → U.live usage.old k ≡ 0 }
-    requires ready { Ready (C.kept cells.old) (C.given cells.old) (U.given usage.old) (U.used usage.old) (U.fresh usage.old) }
-    ensures built { IfOk result (λ root. Standing (C.has cells.new) (U.used usage.new) (U.live usage.new) (Some root) (entries_of_items items.now)) }
-    ensures spends { U.spent usage.new ≤ U.spent usage.old + cells_of (entries_of_items items.now) }
+    requires uncounted { (k : ℕ) → (U.account usage.old).live k ≡ 0 }
+    requires ready { Ready C.kept C.given U.account cells.old usage.old }
+    ensures built { IfOk result (λ root. HasTrie C.has U.account cells.new usage.new (Some root) (entries_of_items items.now)) }
+    ensures spends { (U.account usage.new).spent ≤ (U.account usage.old).spent + cells_of (entries_of_items items.now) }
     ensures full { IfErr result (λ f. U.lacks usage.new f) }
-    ensures frozen { U.frozen usage.new ≡ U.frozen usage.old }
-    ensures frame { Frame (C.has cells.old) (C.has cells.new) (C.kept cells.old) (C.kept cells.new) (C.given cells.old) (C.given cells.new) (U.used usage.old) (U.used usage.new) (U.fresh usage.old) (U.fresh usage.new) }
-    ensures ready { Ready (C.kept cells.new) (C.given cells.new) (U.given usage.new) (U.used usage.new) (U.fresh usage.new) }
+    ensures frame { Frame C.has C.kept C.given U.account cells.old usage.old cells.new usage.new }
+    ensures ready { Ready C.kept C.given U.account cells.new usage.new }
 {
     let node = build_below(cells, usage, items)?;
-    let root = place_row(cells, usage, &[node])?;
+    let root = lay_row(cells, usage, &[node])?;
     Ok(root)
 }
 
@@ -75,15 +72,14 @@ fn build_leaf<C: CellWrite, U: Space>(
     usage: &mut U,
     item: &Item,
 ) -> Result<Cell, Full>
-    requires { Ready (C.kept cells.old) (C.given cells.old) (U.given usage.old) (U.used usage.old) (U.fresh usage.old) }
-    ensures built { IfOk result (λ cell. Built (C.has cells.new) (U.used usage.old) (U.used usage.new) (U.live usage.old) (U.live usage.new) (map entry_of (item.now ∷ [])) cell) }
-    ensures spends { U.spent usage.new < U.spent usage.old + cells_of (map entry_of (item.now ∷ [])) }
+    requires { Ready C.kept C.given U.account cells.old usage.old }
+    ensures built { IfOk result (λ cell. Built (C.has cells.new) (U.account usage.old) (U.account usage.new) (map entry_of (item.now ∷ [])) cell) }
+    ensures spends { (U.account usage.new).spent < (U.account usage.old).spent + cells_of (map entry_of (item.now ∷ [])) }
     ensures full { IfErr result (λ f. U.lacks usage.new f) }
-    ensures frozen { U.frozen usage.new ≡ U.frozen usage.old }
-    ensures frame { Frame (C.has cells.old) (C.has cells.new) (C.kept cells.old) (C.kept cells.new) (C.given cells.old) (C.given cells.new) (U.used usage.old) (U.used usage.new) (U.fresh usage.old) (U.fresh usage.new) }
-    ensures ready { Ready (C.kept cells.new) (C.given cells.new) (U.given usage.new) (U.used usage.new) (U.fresh usage.new) }
+    ensures frame { Frame C.has C.kept C.given U.account cells.old usage.old cells.new usage.new }
+    ensures ready { Ready C.kept C.given U.account cells.new usage.new }
 {
-    let leaf = place_item(cells, usage, item.octets())?;
+    let leaf = lay_item(cells, usage, item.octets())?;
     Ok(Node::Leaf(leaf).pack())
 }
 
@@ -95,13 +91,12 @@ fn build_below<C: CellWrite, U: Space>(
 ) -> Result<Cell, Full>
     requires some { 0 < length items.now }
     requires rising { Rises (entries_of_items items.now) }
-    requires ready { Ready (C.kept cells.old) (C.given cells.old) (U.given usage.old) (U.used usage.old) (U.fresh usage.old) }
-    ensures built { IfOk result (λ cell. Built (C.has cells.new) (U.used usage.old) (U.used usage.new) (U.live usage.old) (U.live usage.new) (entries_of_items items.now) cell) }
-    ensures spends { U.spent usage.new < U.spent usage.old + cells_of (entries_of_items items.now) }
+    requires ready { Ready C.kept C.given U.account cells.old usage.old }
+    ensures built { IfOk result (λ cell. Built (C.has cells.new) (U.account usage.old) (U.account usage.new) (entries_of_items items.now) cell) }
+    ensures spends { (U.account usage.new).spent < (U.account usage.old).spent + cells_of (entries_of_items items.now) }
     ensures full { IfErr result (λ f. U.lacks usage.new f) }
-    ensures frozen { U.frozen usage.new ≡ U.frozen usage.old }
-    ensures frame { Frame (C.has cells.old) (C.has cells.new) (C.kept cells.old) (C.kept cells.new) (C.given cells.old) (C.given cells.new) (U.used usage.old) (U.used usage.new) (U.fresh usage.old) (U.fresh usage.new) }
-    ensures ready { Ready (C.kept cells.new) (C.given cells.new) (U.given usage.new) (U.used usage.new) (U.fresh usage.new) }
+    ensures frame { Frame C.has C.kept C.given U.account cells.old usage.old cells.new usage.new }
+    ensures ready { Ready C.kept C.given U.account cells.new usage.new }
 {
     if items.len() == 1 {
         return build_leaf(cells, usage, &items[0]);
@@ -118,7 +113,7 @@ fn build_below<C: CellWrite, U: Space>(
         positions = bitmap::with(positions, run.position);
         rest = later;
     }
-    let twigs = place_row(cells, usage, row.as_slice())?;
+    let twigs = lay_row(cells, usage, row.as_slice())?;
     Ok(Node::Branch(Branch {
         offset,
         bitmap: positions,

@@ -5,10 +5,9 @@ ghost use Rattle.zone_model.specs.Keys.{Leads};
 ghost use Rattle.trie_model.specs.Keys.{Entry, Less, Rises};
 ghost use Rattle.trie_model.specs.Memory.{Stands};
 ghost use Rattle.trie_read.specs.Reads.{EachTells};
-ghost use Rattle.chunk_usage.specs.Rooms.{Ready};
 ghost use Rattle.trie_write.specs.Entries.{entries_of_items};
-ghost use Rattle.trie_write.specs.Frames.{Fenced};
-ghost use Rattle.trie_write.specs.Standing.{Standing};
+ghost use Rattle.trie_write.specs.Spaces.{Ready, Fenced};
+ghost use Rattle.trie_write.specs.Standing.{HasTrie};
 
 use super::{Item, build, cells, delete, insert, replace};
 use chunk_cells::{CellRead, CellWrite, PlainCells};
@@ -36,11 +35,11 @@ pub fn changed<C: CellWrite, U: Space>(
     change: Change,
     item: &Item,
 ) -> Option<Option<Ref>>
-    requires stands { (version : List Entry) × Standing (C.has cells.old) (U.used usage.old) (U.live usage.old) root version × EachTells Leads version }
-    requires ready { Ready (C.kept cells.old) (C.given cells.old) (U.given usage.old) (U.used usage.old) (U.fresh usage.old) }
-    ensures stands { IfSome result (λ new. (version : List Entry) × Standing (C.has cells.new) (U.used usage.new) (U.live usage.new) new version × EachTells Leads version) }
-    ensures frame { Fenced (C.has cells.old) (C.has cells.new) (C.kept cells.old) (C.kept cells.new) (C.given cells.old) (C.given cells.new) (U.used usage.old) (U.used usage.new) (U.fresh usage.old) (U.fresh usage.new) }
-    ensures ready { Ready (C.kept cells.new) (C.given cells.new) (U.given usage.new) (U.used usage.new) (U.fresh usage.new) }
+    requires stands { (version : List Entry) × HasTrie C.has U.account cells.old usage.old root version × EachTells Leads version }
+    requires ready { Ready C.kept C.given U.account cells.old usage.old }
+    ensures stands { IfSome result (λ new. (version : List Entry) × HasTrie C.has U.account cells.new usage.new new version × EachTells Leads version) }
+    ensures frame { Fenced C.has C.kept C.given U.account cells.old usage.old cells.new usage.new }
+    ensures ready { Ready C.kept C.given U.account cells.new usage.new }
 {
     let key = item.key();
     let octets = item.octets();
@@ -94,10 +93,10 @@ fn change_each<C: CellWrite, U: Space>(
     items: &[Item],
     nodes_due: &[u64],
 ) -> Result<Option<Ref>, usize>
-    requires stands { (version : List Entry) × Standing (C.has cells.old) (U.used usage.old) (U.live usage.old) root version × EachTells Leads version }
-    requires ready { Ready (C.kept cells.old) (C.given cells.old) (U.given usage.old) (U.used usage.old) (U.fresh usage.old) }
-    ensures stands { IfOk result (λ new. (version : List Entry) × Standing (C.has cells.new) (U.used usage.new) (U.live usage.new) new version × EachTells Leads version) }
-    ensures ready { IfOk result (λ _. Ready (C.kept cells.new) (C.given cells.new) (U.given usage.new) (U.used usage.new) (U.fresh usage.new)) }
+    requires stands { (version : List Entry) × HasTrie C.has U.account cells.old usage.old root version × EachTells Leads version }
+    requires ready { Ready C.kept C.given U.account cells.old usage.old }
+    ensures stands { IfOk result (λ new. (version : List Entry) × HasTrie C.has U.account cells.new usage.new new version × EachTells Leads version) }
+    ensures ready { IfOk result (λ _. Ready C.kept C.given U.account cells.new usage.new) }
 {
     let mut root = root;
     for i in 0..items.len() {
@@ -127,8 +126,8 @@ fn come_and_go<C: CellWrite, U: Space>(
     grown: &[u64],
     shrunk: &[u64],
 ) -> Result<Option<Ref>, usize>
-    requires uncounted { (k : ℕ) → U.live usage.old k ≡ 0 }
-    requires ready { Ready (C.kept cells.old) (C.given cells.old) (U.given usage.old) (U.used usage.old) (U.fresh usage.old) }
+    requires uncounted { (k : ℕ) → (U.account usage.old).live k ≡ 0 }
+    requires ready { Ready C.kept C.given U.account cells.old usage.old }
 {
     let root = change_each(cells, usage, None, Change::Insert, first, grown)?;
     let root = change_each(cells, usage, root, Change::Replace, second, &[24; 20])?;
@@ -216,8 +215,8 @@ fn sizes<C: CellWrite, U: Space>(
     items: &[Item],
 ) -> Result<(u64, u64), Full>
     requires rising { Rises (entries_of_items items.now) }
-    requires uncounted { (k : ℕ) → U.live usage.old k ≡ 0 }
-    requires ready { Ready (C.kept cells.old) (C.given cells.old) (U.given usage.old) (U.used usage.old) (U.fresh usage.old) }
+    requires uncounted { (k : ℕ) → (U.account usage.old).live k ≡ 0 }
+    requires ready { Ready C.kept C.given U.account cells.old usage.old }
 {
     let root = build(cells, usage, items)?;
     let names = count(cells, root);

@@ -1,237 +1,52 @@
 //! A name taken out.
 
-ghost use Rattle.std.specs.Prelude.{◌≡◌, ◌+◌, ◌/◌, ◌≤◌, ℕ, List, true, IfOk, IfErr, Err, ◌↔◌, count_ones};
+ghost use Rattle.std.specs.Prelude.{◌≡◌, ◌+◌, ◌≤◌, ℕ, List, true, IfOk, IfErr, Err, Some, ◌↔◌};
 ghost use Rattle.packed_node.specs.declared.Cell.{Cell};
 ghost use Rattle.zone_model.specs.Keys.{Leads};
 ghost use Rattle.trie_model.specs.Keys.{Entry, InList};
 ghost use Rattle.trie_model.specs.Trees.{Tree};
 ghost use Rattle.trie_read.specs.Reads.{EachTells};
-ghost use Rattle.chunk_cells.specs.Chunks.{IsGiven};
-ghost use Rattle.chunk_usage.specs.Rooms.{Ready};
-ghost use Rattle.trie_write.specs.Frames.{Frame, Fenced};
-ghost use Rattle.trie_write.specs.Paths.{twigs_on_path};
-ghost use Rattle.trie_write.specs.Roots.{OnPath};
-ghost use Rattle.trie_write.specs.Seats.{IsOutside, Unreached};
-ghost use Rattle.trie_write.specs.Standing.{Standing};
-ghost use Rattle.trie_write.specs.Deletions.{Deleted, ShrinkAsks, ShrinkAsked, ShrinkAsksAt, ShrinkAskedAt, LeafAsks, LeafAsked, Shrinks, ShrinksAt, RootShrinks, TopShrinks, DeleteAsks, DeleteAsked};
+ghost use Rattle.trie_write.specs.Asks.{HasKey, KeyIsThere};
+ghost use Rattle.trie_write.specs.Deletions.{Deleted, DropAsks, DropAsked};
+ghost use Rattle.trie_write.specs.Paths.{twigs_on_path, to_copy};
+ghost use Rattle.trie_write.specs.Roots.{TwigsOnPath, ToCopy, IsOutside, Beyond};
+ghost use Rattle.trie_write.specs.Spaces.{Ready, Fenced, Unchanged, Refused};
+ghost use Rattle.trie_write.specs.Standing.{HasTrie};
 
-use super::path::put_branch;
+use super::change::{Span, item_span, let_go, put_change};
 use super::replacement::ChangeRefusal;
-use super::room::{place_row, release_item, room};
-use super::row::{Row, append};
-use super::seat::fresh_branch;
-use super::top::top_of;
-use chunk_cells::{CellRead, CellWrite};
+use super::there::root_with;
+use super::turn::{Turn, last_turn};
+use super::without::without_leaf;
+use chunk_cells::CellWrite;
 use chunk_usage::{Full, Space};
-use packed_node::{Branch, Cell, Leaf, Node, Ref, bitmap};
+use packed_node::Ref;
 use shift_key::Key;
-use trie_read::get;
 
-/// The cell of what takes the place of a branch of two twigs, one of them the key's leaf: the other twig. The leaf counts no more.
-fn collapse<C: CellRead, U: Space>(
-    cells: &mut C,
-    usage: &mut U,
-    key: &Key,
-    branch: Branch,
-    leaf: Leaf,
-) -> Cell
-    requires two { count_ones branch.bitmap ≡ 2 }
-    requires asks { LeafAsked (C.has cells.old) (U.used usage.old) (U.live usage.old) key.now branch leaf }
-    ensures shrunk { (low : ℕ) (t : Tree) (gone : Entry) → LeafAsks (C.has cells.old) (U.used usage.old) (U.live usage.old) low key.now branch leaf t gone
-        → Shrinks (C.has cells.new) (U.used usage.old) (U.used usage.new) (U.live usage.old) (U.live usage.new) low t gone result }
-    ensures same { cells.new ≡ cells.old }
-    ensures used { (q : ℕ) → U.used usage.new q ≡ U.used usage.old q }
-    ensures fresh { (q : ℕ) → U.fresh usage.new q ≡ U.fresh usage.old q }
-    ensures given { U.given usage.new ≡ U.given usage.old }
-    ensures spent { U.spent usage.new ≡ U.spent usage.old }
-    ensures frozen { U.frozen usage.new ≡ U.frozen usage.old }
-{
-    let index = branch.twig_index(key.at(branch.offset));
-    let other = cells.cell(branch.twigs + (1 - index));
-    usage.release(branch.twigs, 2);
-    release_item(usage, leaf);
-    other
-}
-
-/// The cell of what a branch becomes without the key's leaf, which is one of its twigs: the branch with the others, or the other
-/// one of two. The leaf counts no more.
+/// The root of the trie with a name taken out that is not the only one: the turn is the last one on the way to its leaf.
 fn drop_leaf<C: CellWrite, U: Space>(
-    cells: &mut C,
-    usage: &mut U,
-    key: &Key,
-    branch: Branch,
-    leaf: Leaf,
-) -> Result<Cell, Full>
-    requires asks { LeafAsked (C.has cells.old) (U.used usage.old) (U.live usage.old) key.now branch leaf }
-    requires ready { Ready (C.kept cells.old) (C.given cells.old) (U.given usage.old) (U.used usage.old) (U.fresh usage.old) }
-    ensures shrunk { IfOk result (λ cell. (low : ℕ) (t : Tree) (gone : Entry) → LeafAsks (C.has cells.old) (U.used usage.old) (U.live usage.old) low key.now branch leaf t gone
-        → Shrinks (C.has cells.new) (U.used usage.old) (U.used usage.new) (U.live usage.old) (U.live usage.new) low t gone cell) }
-    ensures unchanged { IfErr result (λ _. (k : ℕ) → U.live usage.new k ≡ U.live usage.old k) }
-    ensures spends { U.spent usage.new ≤ U.spent usage.old + count_ones branch.bitmap }
-    ensures full { IfErr result (λ f. U.lacks usage.new f) }
-    ensures frozen { U.frozen usage.new ≡ U.frozen usage.old }
-    ensures frame { Frame (C.has cells.old) (C.has cells.new) (C.kept cells.old) (C.kept cells.new) (C.given cells.old) (C.given cells.new) (U.used usage.old) (U.used usage.new) (U.fresh usage.old) (U.fresh usage.new) }
-    ensures ready { Ready (C.kept cells.new) (C.given cells.new) (U.given usage.new) (U.used usage.new) (U.fresh usage.new) }
-{
-    let n = branch.twig_count();
-    if n == 2 {
-        return Ok(collapse(cells, usage, key, branch, leaf));
-    }
-    let position = key.at(branch.offset);
-    let index = branch.twig_index(position);
-    let mut row = Row::new();
-    append(cells, &mut row, branch.twigs, index);
-    append(cells, &mut row, branch.twigs + index + 1, n - index - 1);
-    let twigs = place_row(cells, usage, row.as_slice())?;
-    usage.release(branch.twigs, n);
-    release_item(usage, leaf);
-    Ok(Node::Branch(Branch {
-        offset: branch.offset,
-        bitmap: bitmap::without(branch.bitmap, position),
-        twigs,
-    })
-    .pack())
-}
-
-/// The cell of the top of the tree below a branch with the key's leaf taken out. Offsets are at least `low`.
-fn shrink<C: CellWrite, U: Space>(
-    cells: &mut C,
-    usage: &mut U,
-    low: u16,
-    key: &Key,
-    branch: Branch,
-) -> Result<Cell, Full>
-    requires asks { ShrinkAsked (C.has cells.old) (U.used usage.old) (U.live usage.old) low key.now branch }
-    requires ready { Ready (C.kept cells.old) (C.given cells.old) (U.given usage.old) (U.used usage.old) (U.fresh usage.old) }
-    ensures shrunk { IfOk result (λ cell. (t : Tree) (gone : Entry) → ShrinkAsks (C.has cells.old) (U.used usage.old) (U.live usage.old) low key.now branch t gone
-        → Shrinks (C.has cells.new) (U.used usage.old) (U.used usage.new) (U.live usage.old) (U.live usage.new) low t gone cell) }
-    ensures unchanged { IfErr result (λ _. (k : ℕ) → U.live usage.new k ≡ U.live usage.old k) }
-    ensures spends { (t : Tree) (gone : Entry) → ShrinkAsks (C.has cells.old) (U.used usage.old) (U.live usage.old) low key.now branch t gone
-        → U.spent usage.new ≤ U.spent usage.old + twigs_on_path key.now t }
-    ensures full { IfErr result (λ f. U.lacks usage.new f) }
-    ensures frozen { U.frozen usage.new ≡ U.frozen usage.old }
-    ensures frame { Frame (C.has cells.old) (C.has cells.new) (C.kept cells.old) (C.kept cells.new) (C.given cells.old) (C.given cells.new) (U.used usage.old) (U.used usage.new) (U.fresh usage.old) (U.fresh usage.new) }
-    ensures ready { Ready (C.kept cells.new) (C.given cells.new) (U.given usage.new) (U.used usage.new) (U.fresh usage.new) }
-{
-    let n = branch.twig_count();
-    let index = branch.twig_index(key.at(branch.offset));
-    let next = cells.cell(branch.twigs + index);
-    match top_of(next) {
-        Err(leaf) => drop_leaf(cells, usage, key, branch, leaf),
-        Ok(inner) => {
-            let to = room(cells, usage, n)?;
-            match shrink(cells, usage, branch.offset + 1, key, inner) {
-                Err(full) => {
-                    usage.release(to, n);
-                    Err(full)
-                }
-                Ok(twig) => Ok(put_branch(cells, usage, branch, index, to, twig)),
-            }
-        }
-    }
-}
-
-/// A new root of the tree below a branch with the key's leaf taken out.
-fn shrink_root<C: CellWrite, U: Space>(
-    cells: &mut C,
-    usage: &mut U,
-    key: &Key,
-    branch: Branch,
-) -> Result<Ref, Full>
-    requires asks { ShrinkAsked (C.has cells.old) (U.used usage.old) (U.live usage.old) 0 key.now branch }
-    requires ready { Ready (C.kept cells.old) (C.given cells.old) (U.given usage.old) (U.used usage.old) (U.fresh usage.old) }
-    ensures shrunk { IfOk result (λ root. (t : Tree) (gone : Entry) → ShrinkAsks (C.has cells.old) (U.used usage.old) (U.live usage.old) 0 key.now branch t gone
-        → RootShrinks (C.has cells.new) (U.used usage.old) (U.used usage.new) (U.live usage.old) (U.live usage.new) t gone root) }
-    ensures unchanged { IfErr result (λ _. (k : ℕ) → U.live usage.new k ≡ U.live usage.old k) }
-    ensures spends { (t : Tree) (gone : Entry) → ShrinkAsks (C.has cells.old) (U.used usage.old) (U.live usage.old) 0 key.now branch t gone
-        → U.spent usage.new ≤ U.spent usage.old + (1 + twigs_on_path key.now t) }
-    ensures full { IfErr result (λ f. U.lacks usage.new f) }
-    ensures frozen { U.frozen usage.new ≡ U.frozen usage.old }
-    ensures frame { Frame (C.has cells.old) (C.has cells.new) (C.kept cells.old) (C.kept cells.new) (C.given cells.old) (C.given cells.new) (U.used usage.old) (U.used usage.new) (U.fresh usage.old) (U.fresh usage.new) }
-    ensures ready { Ready (C.kept cells.new) (C.given cells.new) (U.given usage.new) (U.used usage.new) (U.fresh usage.new) }
-{
-    let root = room(cells, usage, 1)?;
-    match shrink(cells, usage, 0, key, branch) {
-        Err(full) => {
-            usage.release(root, 1);
-            Err(full)
-        }
-        Ok(cell) => {
-            cells.put(root, cell);
-            Ok(root)
-        }
-    }
-}
-
-/// Takes the key's leaf out below a cell that may be written and says a branch: what hangs on the last such cell of the key's path
-/// is copied, and that cell written. Offsets are at least `low`.
-fn shrink_at<C: CellWrite, U: Space>(
-    cells: &mut C,
-    usage: &mut U,
-    low: u16,
-    key: &Key,
-    seat: Ref,
-    branch: Branch,
-) -> Result<(), Full>
-    requires asks { ShrinkAskedAt (C.has cells.old) (U.used usage.old) (U.live usage.old) low key.now seat branch }
-    requires fresh { U.fresh usage.old seat ≡ true }
-    requires given { IsGiven (C.given cells.old) (seat / 1024) }
-    requires ready { Ready (C.kept cells.old) (C.given cells.old) (U.given usage.old) (U.used usage.old) (U.fresh usage.old) }
-    ensures shrunk { IfOk result (λ _. (t : Tree) (gone : Entry) → ShrinkAsksAt (C.has cells.old) (U.used usage.old) (U.live usage.old) low key.now seat branch t gone
-        → ShrinksAt (C.has cells.new) (U.used usage.old) (U.used usage.new) (U.live usage.old) (U.live usage.new) low t gone seat) }
-    ensures outside { (t : Tree) (gone : Entry) → ShrinkAsksAt (C.has cells.old) (U.used usage.old) (U.live usage.old) low key.now seat branch t gone
-        → (q : ℕ) (c : Cell) → U.used usage.old q ≡ true → IsOutside seat t q → C.has cells.old q c → C.has cells.new q c }
-    ensures untouched { IfErr result (λ _. (q : ℕ) (c : Cell) → U.used usage.old q ≡ true → C.has cells.old q c → C.has cells.new q c) }
-    ensures unchanged { IfErr result (λ _. (k : ℕ) → U.live usage.new k ≡ U.live usage.old k) }
-    ensures spends { (t : Tree) (gone : Entry) → ShrinkAsksAt (C.has cells.old) (U.used usage.old) (U.live usage.old) low key.now seat branch t gone
-        → U.spent usage.new ≤ U.spent usage.old + twigs_on_path key.now t }
-    ensures full { IfErr result (λ f. U.lacks usage.new f) }
-    ensures frozen { U.frozen usage.new ≡ U.frozen usage.old }
-    ensures frame { Fenced (C.has cells.old) (C.has cells.new) (C.kept cells.old) (C.kept cells.new) (C.given cells.old) (C.given cells.new) (U.used usage.old) (U.used usage.new) (U.fresh usage.old) (U.fresh usage.new) }
-    ensures ready { Ready (C.kept cells.new) (C.given cells.new) (U.given usage.new) (U.used usage.new) (U.fresh usage.new) }
-{
-    let at = branch.twigs + branch.twig_index(key.at(branch.offset));
-    let next = cells.cell(at);
-    match fresh_branch(usage, at, next) {
-        Some(inner) => shrink_at(cells, usage, branch.offset + 1, key, at, inner),
-        None => {
-            let cell = shrink(cells, usage, low, key, branch)?;
-            cells.put(seat, cell);
-            Ok(())
-        }
-    }
-}
-
-/// The root of the tree below a branch with the key's leaf taken out: the same where it may be written, else a new one.
-fn shrink_top<C: CellWrite, U: Space>(
     cells: &mut C,
     usage: &mut U,
     root: Ref,
     key: &Key,
-    branch: Branch,
+    turn: Turn,
 ) -> Result<Ref, Full>
-    requires asks { ShrinkAskedAt (C.has cells.old) (U.used usage.old) (U.live usage.old) 0 key.now root branch }
-    requires ready { Ready (C.kept cells.old) (C.given cells.old) (U.given usage.old) (U.used usage.old) (U.fresh usage.old) }
-    ensures shrunk { IfOk result (λ new. (t : Tree) (gone : Entry) → ShrinkAsksAt (C.has cells.old) (U.used usage.old) (U.live usage.old) 0 key.now root branch t gone
-        → TopShrinks (C.has cells.new) (U.used usage.old) (U.used usage.new) (U.live usage.old) (U.live usage.new) t gone root new) }
-    ensures outside { (t : Tree) (gone : Entry) → ShrinkAsksAt (C.has cells.old) (U.used usage.old) (U.live usage.old) 0 key.now root branch t gone
-        → (q : ℕ) (c : Cell) → U.used usage.old q ≡ true → IsOutside root t q → C.has cells.old q c → C.has cells.new q c }
-    ensures untouched { IfErr result (λ _. (q : ℕ) (c : Cell) → U.used usage.old q ≡ true → C.has cells.old q c → C.has cells.new q c) }
-    ensures unchanged { IfErr result (λ _. (k : ℕ) → U.live usage.new k ≡ U.live usage.old k) }
-    ensures spends { (t : Tree) (gone : Entry) → ShrinkAsksAt (C.has cells.old) (U.used usage.old) (U.live usage.old) 0 key.now root branch t gone
-        → U.spent usage.new ≤ U.spent usage.old + (1 + twigs_on_path key.now t) }
-    ensures full { IfErr result (λ f. U.lacks usage.new f) }
-    ensures frozen { U.frozen usage.new ≡ U.frozen usage.old }
-    ensures frame { Fenced (C.has cells.old) (C.has cells.new) (C.kept cells.old) (C.kept cells.new) (C.given cells.old) (C.given cells.new) (U.used usage.old) (U.used usage.new) (U.fresh usage.old) (U.fresh usage.new) }
-    ensures ready { Ready (C.kept cells.new) (C.given cells.new) (U.given usage.new) (U.used usage.new) (U.fresh usage.new) }
+    requires there { DropAsked C.has U.account cells.old usage.old root key.now turn }
+    requires ready { Ready C.kept C.given U.account cells.old usage.old }
+    ensures stands { IfOk result (λ new. (t : Tree) (version : List Entry) → DropAsks C.has U.account cells.old usage.old root key.now turn t version
+        → (next : List Entry) × Deleted key.now version next × HasTrie C.has U.account cells.new usage.new (Some new) next) }
+    ensures outside { (t : Tree) (version : List Entry) → DropAsks C.has U.account cells.old usage.old root key.now turn t version
+        → (q : ℕ) (c : Cell) → (U.account usage.old).used q ≡ true → IsOutside root t q → C.has cells.old q c → C.has cells.new q c }
+    ensures spends { (t : Tree) (version : List Entry) → DropAsks C.has U.account cells.old usage.old root key.now turn t version
+        → (U.account usage.new).spent ≤ (U.account usage.old).spent + twigs_on_path key.now t }
+    ensures copies { (t : Tree) (version : List Entry) → DropAsks C.has U.account cells.old usage.old root key.now turn t version
+        → (U.account usage.new).spent ≤ (U.account usage.old).spent + (46 + to_copy (U.account usage.old).mutable key.now root t) }
+    ensures refused { IfErr result (λ f. Refused C.has U.account U.lacks cells.old usage.old cells.new usage.new f) }
+    ensures frame { Fenced C.has C.kept C.given U.account cells.old usage.old cells.new usage.new }
+    ensures ready { Ready C.kept C.given U.account cells.new usage.new }
 {
-    if usage.is_fresh(root) {
-        shrink_at(cells, usage, 0, key, root, branch)?;
-        return Ok(root);
-    }
-    let new = shrink_root(cells, usage, key, branch)?;
-    usage.release(root, 1);
-    Ok(new)
+    let change = without_leaf(cells, usage, key, turn)?;
+    put_change(cells, usage, root, key, turn.branch.offset, change)
 }
 
 /// The root of the trie with a name that is there taken out; none for the last one.
@@ -240,30 +55,28 @@ fn delete_item<C: CellWrite, U: Space>(
     usage: &mut U,
     root: Ref,
     key: &Key,
-    node: Cell,
 ) -> Result<Option<Ref>, Full>
-    requires asks { DeleteAsked (C.has cells.old) (U.used usage.old) (U.live usage.old) root key.now node }
-    requires ready { Ready (C.kept cells.old) (C.given cells.old) (U.given usage.old) (U.used usage.old) (U.fresh usage.old) }
-    ensures stands { IfOk result (λ new. (t : Tree) (version : List Entry) (gone : Entry) → DeleteAsks (C.has cells.old) (U.used usage.old) (U.live usage.old) root key.now node t version gone
-        → (next : List Entry) × Deleted key.now version next × Standing (C.has cells.new) (U.used usage.new) (U.live usage.new) new next) }
-    ensures outside { (t : Tree) (version : List Entry) (gone : Entry) → DeleteAsks (C.has cells.old) (U.used usage.old) (U.live usage.old) root key.now node t version gone
-        → (q : ℕ) (c : Cell) → U.used usage.old q ≡ true → IsOutside root t q → C.has cells.old q c → C.has cells.new q c }
-    ensures untouched { IfErr result (λ _. (q : ℕ) (c : Cell) → U.used usage.old q ≡ true → C.has cells.old q c → C.has cells.new q c) }
-    ensures unchanged { IfErr result (λ _. (k : ℕ) → U.live usage.new k ≡ U.live usage.old k) }
-    ensures spends { (t : Tree) (version : List Entry) (gone : Entry) → DeleteAsks (C.has cells.old) (U.used usage.old) (U.live usage.old) root key.now node t version gone
-        → U.spent usage.new ≤ U.spent usage.old + (1 + twigs_on_path key.now t) }
-    ensures full { IfErr result (λ f. U.lacks usage.new f) }
-    ensures frozen { U.frozen usage.new ≡ U.frozen usage.old }
-    ensures frame { Fenced (C.has cells.old) (C.has cells.new) (C.kept cells.old) (C.kept cells.new) (C.given cells.old) (C.given cells.new) (U.used usage.old) (U.used usage.new) (U.fresh usage.old) (U.fresh usage.new) }
-    ensures ready { Ready (C.kept cells.new) (C.given cells.new) (U.given usage.new) (U.used usage.new) (U.fresh usage.new) }
+    requires there { KeyIsThere C.has U.account cells.old usage.old root key.now }
+    requires ready { Ready C.kept C.given U.account cells.old usage.old }
+    ensures stands { IfOk result (λ new. (t : Tree) (version : List Entry) → HasKey C.has U.account cells.old usage.old root key.now t version
+        → (next : List Entry) × Deleted key.now version next × HasTrie C.has U.account cells.new usage.new new next) }
+    ensures outside { (t : Tree) (version : List Entry) → HasKey C.has U.account cells.old usage.old root key.now t version
+        → (q : ℕ) (c : Cell) → (U.account usage.old).used q ≡ true → IsOutside root t q → C.has cells.old q c → C.has cells.new q c }
+    ensures spends { (t : Tree) (version : List Entry) → HasKey C.has U.account cells.old usage.old root key.now t version
+        → (U.account usage.new).spent ≤ (U.account usage.old).spent + twigs_on_path key.now t }
+    ensures copies { (t : Tree) (version : List Entry) → HasKey C.has U.account cells.old usage.old root key.now t version
+        → (U.account usage.new).spent ≤ (U.account usage.old).spent + (46 + to_copy (U.account usage.old).mutable key.now root t) }
+    ensures refused { IfErr result (λ f. Refused C.has U.account U.lacks cells.old usage.old cells.new usage.new f) }
+    ensures frame { Fenced C.has C.kept C.given U.account cells.old usage.old cells.new usage.new }
+    ensures ready { Ready C.kept C.given U.account cells.new usage.new }
 {
-    match top_of(node) {
-        Err(last) => {
-            usage.release(root, 1);
-            release_item(usage, last);
+    let node = cells.cell(root);
+    match last_turn(cells, key, 0, node) {
+        None => {
+            let_go(usage, Span { at: root, n: 1 }, item_span(node));
             Ok(None)
         }
-        Ok(branch) => match shrink_top(cells, usage, root, key, branch) {
+        Some(turn) => match drop_leaf(cells, usage, root, key, turn) {
             Ok(new) => Ok(Some(new)),
             Err(full) => Err(full),
         },
@@ -277,33 +90,26 @@ pub fn delete<C: CellWrite, U: Space>(
     root: Option<Ref>,
     key: &Key,
 ) -> Result<Option<Ref>, ChangeRefusal>
-    requires stands { (version : List Entry) × Standing (C.has cells.old) (U.used usage.old) (U.live usage.old) root version × EachTells Leads version }
-    requires ready { Ready (C.kept cells.old) (C.given cells.old) (U.given usage.old) (U.used usage.old) (U.fresh usage.old) }
-    ensures deleted { IfOk result (λ new. (version : List Entry) → Standing (C.has cells.old) (U.used usage.old) (U.live usage.old) root version → EachTells Leads version
-        → (next : List Entry) × Deleted key.now version next × Standing (C.has cells.new) (U.used usage.new) (U.live usage.new) new next) }
-    ensures absent { (version : List Entry) → Standing (C.has cells.old) (U.used usage.old) (U.live usage.old) root version → EachTells Leads version
+    requires stands { (version : List Entry) × HasTrie C.has U.account cells.old usage.old root version × EachTells Leads version }
+    requires ready { Ready C.kept C.given U.account cells.old usage.old }
+    ensures deleted { IfOk result (λ new. (version : List Entry) → HasTrie C.has U.account cells.old usage.old root version → EachTells Leads version
+        → (next : List Entry) × Deleted key.now version next × HasTrie C.has U.account cells.new usage.new new next) }
+    ensures absent { (version : List Entry) → HasTrie C.has U.account cells.old usage.old root version → EachTells Leads version
         → (result ≡ Err ChangeRefusal.NotFound) ↔ ((x : Entry) → InList x version → x.key ≡ key.now → ⊥) }
-    ensures refused { IfErr result (λ _. (version : List Entry) → Standing (C.has cells.old) (U.used usage.old) (U.live usage.old) root version → Standing (C.has cells.new) (U.used usage.new) (U.live usage.new) root version) }
-    ensures outside { (q : ℕ) (c : Cell) → U.used usage.old q ≡ true → Unreached (C.has cells.old) (U.used usage.old) (U.live usage.old) root q → C.has cells.old q c → C.has cells.new q c }
-    ensures untouched { IfErr result (λ _. (q : ℕ) (c : Cell) → U.used usage.old q ≡ true → C.has cells.old q c → C.has cells.new q c) }
-    ensures unchanged { IfErr result (λ _. (k : ℕ) → U.live usage.new k ≡ U.live usage.old k) }
+    ensures refused { IfErr result (λ _. (version : List Entry) → HasTrie C.has U.account cells.old usage.old root version → HasTrie C.has U.account cells.new usage.new root version) }
+    ensures unchanged { IfErr result (λ _. Unchanged C.has U.account cells.old usage.old cells.new usage.new) }
+    ensures outside { (q : ℕ) (c : Cell) → Beyond C.has U.account cells.old usage.old root q → C.has cells.old q c → C.has cells.new q c }
     ensures full { (f : _) → result ≡ Err (ChangeRefusal.Full f) → U.lacks usage.new f }
-    ensures spends { (n : ℕ) → OnPath (C.has cells.old) (U.used usage.old) (U.live usage.old) root key.now n → U.spent usage.new ≤ U.spent usage.old + (1 + n) }
-    ensures frozen { U.frozen usage.new ≡ U.frozen usage.old }
-    ensures frame { Fenced (C.has cells.old) (C.has cells.new) (C.kept cells.old) (C.kept cells.new) (C.given cells.old) (C.given cells.new) (U.used usage.old) (U.used usage.new) (U.fresh usage.old) (U.fresh usage.new) }
-    ensures ready { Ready (C.kept cells.new) (C.given cells.new) (U.given usage.new) (U.used usage.new) (U.fresh usage.new) }
+    ensures spends { (n : ℕ) → TwigsOnPath C.has U.account cells.old usage.old root key.now n → (U.account usage.new).spent ≤ (U.account usage.old).spent + (1 + n) }
+    ensures copies { (n : ℕ) → ToCopy C.has U.account cells.old usage.old root key.now n → (U.account usage.new).spent ≤ (U.account usage.old).spent + (46 + n) }
+    ensures frame { Fenced C.has C.kept C.given U.account cells.old usage.old cells.new usage.new }
+    ensures ready { Ready C.kept C.given U.account cells.new usage.new }
 {
-    match root {
+    match root_with(cells, root, key) {
         None => Err(ChangeRefusal::NotFound),
-        Some(at) => match get(cells, Some(at), key) {
-            None => Err(ChangeRefusal::NotFound),
-            Some(_) => {
-                let node = cells.cell(at);
-                match delete_item(cells, usage, at, key, node) {
-                    Ok(new) => Ok(new),
-                    Err(full) => Err(ChangeRefusal::Full(full)),
-                }
-            }
+        Some(at) => match delete_item(cells, usage, at, key) {
+            Ok(new) => Ok(new),
+            Err(full) => Err(ChangeRefusal::Full(full)),
         },
     }
 }

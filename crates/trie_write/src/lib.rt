@@ -2,18 +2,22 @@
 #![tactic(auto)]
 
 mod bulk;
+mod change;
 mod deletion;
 mod insertion;
 pub mod item;
+mod mutable;
 mod near;
-mod path;
+mod place;
 mod replacement;
-mod room;
 mod row;
 mod runs;
-mod seat;
 mod size;
+mod there;
 mod top;
+mod turn;
+mod with;
+mod without;
 
 pub use bulk::build;
 pub use deletion::delete;

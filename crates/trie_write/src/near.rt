@@ -8,9 +8,10 @@ ghost use Rattle.trie_model.specs.Trees.{Tree, entries_of};
 ghost use Rattle.trie_read.specs.Reads.{IsTop, IsLeafOf, EachTells};
 ghost use Rattle.trie_write.specs.Nearness.{Closest, Differs};
 
+use super::top::top_of;
 use chunk_cells::{CellRead, read_front};
 use dns_name::Name;
-use packed_node::{Branch, Cell, Leaf, Node, unpack};
+use packed_node::{Branch, Cell, Leaf};
 use shift_key::Key;
 
 /// Where a key first differs from the nearest one.
@@ -47,10 +48,9 @@ fn nearest<C: CellRead>(cells: &mut C, node: Cell, low: u16, key: &Key) -> Leaf
     ensures same { cells.new ≡ cells.old }
     ensures value { (t : Tree) → IsTop (C.has cells.old) low node t → Closest (C.has cells.old) key.now (entries_of t) result }
 {
-    match unpack(node) {
-        None => Leaf { len: 0, at: 0 },
-        Some(Node::Leaf(leaf)) => leaf,
-        Some(Node::Branch(branch)) => {
+    match top_of(node) {
+        Err(leaf) => leaf,
+        Ok(branch) => {
             let next = cells.cell(branch.twigs + way(branch, key));
             nearest(cells, next, branch.offset + 1, key)
         }

@@ -6,14 +6,15 @@ ghost use Rattle.zone_model.specs.Keys.{Leads};
 ghost use Rattle.trie_model.specs.Keys.{Entry, Rises};
 ghost use Rattle.trie_read.specs.Reads.{EachTells};
 ghost use Rattle.chunk_usage.specs.Ledger.{is_used, is_fresh};
-ghost use Rattle.chunk_usage.specs.Rooms.{Ready, Grows};
+ghost use Rattle.chunk_usage.specs.Rooms.{Grows};
 ghost use Rattle.trie_write.specs.Entries.{entries_of_items};
-ghost use Rattle.trie_write.specs.Standing.{Standing};
+ghost use Rattle.trie_write.specs.Spaces.{Ready};
+ghost use Rattle.trie_write.specs.Standing.{Standing, HasTrie};
 
 use super::build;
 use super::change_tests::{Change, changed, items_of, rise, rising_names, seen};
 use super::item::Item;
-use super::room::room;
+use super::place::room_for;
 use chunk_cells::{CellRead, CellWrite, PlainCells};
 use chunk_usage::{Full, Space, Usage};
 use packed_node::Ref;
@@ -21,13 +22,13 @@ use std::test::Fail;
 
 /// The cell that is handed out next.
 fn next_free<C: CellWrite, U: Space>(cells: &mut C, usage: &mut U) -> Result<Ref, Full>
-    requires ready { Ready (C.kept cells.old) (C.given cells.old) (U.given usage.old) (U.used usage.old) (U.fresh usage.old) }
+    requires ready { Ready C.kept C.given U.account cells.old usage.old }
     ensures stays { (q : ℕ) (c : Cell) → C.has cells.old q c → C.has cells.new q c }
-    ensures grows { Grows (U.used usage.old) (U.used usage.new) (U.fresh usage.old) (U.fresh usage.new) }
-    ensures unchanged { (k : ℕ) → U.live usage.new k ≡ U.live usage.old k }
-    ensures ready { Ready (C.kept cells.new) (C.given cells.new) (U.given usage.new) (U.used usage.new) (U.fresh usage.new) }
+    ensures grows { Grows ((U.account usage.old).used) ((U.account usage.new).used) ((U.account usage.old).mutable) ((U.account usage.new).mutable) }
+    ensures unchanged { (k : ℕ) → (U.account usage.new).live k ≡ (U.account usage.old).live k }
+    ensures ready { Ready C.kept C.given U.account cells.new usage.new }
 {
-    let at = room(cells, usage, 1)?;
+    let at = room_for(cells, usage, 1)?;
     usage.release(at, 1);
     Ok(at)
 }
@@ -40,12 +41,12 @@ fn cells_taken<C: CellWrite, U: Space>(
     change: Change,
     item: &Item,
 ) -> Option<(Option<Ref>, u32)>
-    requires stands { (version : List Entry) × Standing (C.has cells.old) (U.used usage.old) (U.live usage.old) root version × EachTells Leads version }
-    requires ready { Ready (C.kept cells.old) (C.given cells.old) (U.given usage.old) (U.used usage.old) (U.fresh usage.old) }
-    ensures stands { IfSome result (λ new. (version : List Entry) × Standing (C.has cells.new) (U.used usage.new) (U.live usage.new) new.0 version × EachTells Leads version) }
-    ensures base { (live : ℕ → ℕ) (base : Option ℕ) (version : List Entry) → Standing (C.has cells.old) (λ q. U.used usage.old q && not (U.fresh usage.old q)) live base version
-        → Standing (C.has cells.new) (λ q. U.used usage.new q && not (U.fresh usage.new q)) live base version }
-    ensures ready { Ready (C.kept cells.new) (C.given cells.new) (U.given usage.new) (U.used usage.new) (U.fresh usage.new) }
+    requires stands { (version : List Entry) × HasTrie C.has U.account cells.old usage.old root version × EachTells Leads version }
+    requires ready { Ready C.kept C.given U.account cells.old usage.old }
+    ensures stands { IfSome result (λ new. (version : List Entry) × HasTrie C.has U.account cells.new usage.new new.0 version × EachTells Leads version) }
+    ensures base { (live : ℕ → ℕ) (base : Option ℕ) (version : List Entry) → Standing (C.has cells.old) (λ q. (U.account usage.old).used q && not ((U.account usage.old).mutable q)) live base version
+        → Standing (C.has cells.new) (λ q. (U.account usage.new).used q && not ((U.account usage.new).mutable q)) live base version }
+    ensures ready { Ready C.kept C.given U.account cells.new usage.new }
 {
     let before = match next_free(cells, usage) {
         Ok(before) => before,
@@ -69,10 +70,10 @@ fn taken_by_each<C: CellWrite, U: Space>(
 ) -> Option<Option<Ref>>
     requires changes { length changes.now ≡ length items.now }
     requires taken { length taken.old ≡ length items.now }
-    requires stands { (version : List Entry) × Standing (C.has cells.old) (U.used usage.old) (U.live usage.old) root version × EachTells Leads version }
-    requires ready { Ready (C.kept cells.old) (C.given cells.old) (U.given usage.old) (U.used usage.old) (U.fresh usage.old) }
-    ensures base { (live : ℕ → ℕ) (base : Option ℕ) (version : List Entry) → Standing (C.has cells.old) (λ q. U.used usage.old q && not (U.fresh usage.old q)) live base version
-        → Standing (C.has cells.new) (λ q. U.used usage.new q && not (U.fresh usage.new q)) live base version }
+    requires stands { (version : List Entry) × HasTrie C.has U.account cells.old usage.old root version × EachTells Leads version }
+    requires ready { Ready C.kept C.given U.account cells.old usage.old }
+    ensures base { (live : ℕ → ℕ) (base : Option ℕ) (version : List Entry) → Standing (C.has cells.old) (λ q. (U.account usage.old).used q && not ((U.account usage.old).mutable q)) live base version
+        → Standing (C.has cells.new) (λ q. (U.account usage.new).used q && not ((U.account usage.new).mutable q)) live base version }
 {
     let mut root = root;
     for i in 0..items.len() {
@@ -90,13 +91,13 @@ fn taken_by_each<C: CellWrite, U: Space>(
 /// The root of the trie of some items, none of whose cells may be written from now on.
 fn frozen(cells: &mut PlainCells, usage: &mut Usage, items: &[Item]) -> Result<Option<Ref>, Full>
     requires rising { Rises (entries_of_items items.now) }
-    requires uncounted { (k : ℕ) → ⟦<Usage as Space>⟧.live usage.old k ≡ 0 }
+    requires uncounted { (k : ℕ) → (⟦<Usage as Space>⟧.account usage.old).live k ≡ 0 }
     requires rows { usage.old.rows ≡ [] }
     requires passes { 0 < usage.old.passes }
-    requires ready { Ready (⟦<PlainCells as CellWrite>⟧.kept cells.old) (⟦<PlainCells as CellWrite>⟧.given cells.old) usage.old.given (is_used usage.old) (is_fresh usage.old) }
-    ensures stands { IfOk result (λ root. Standing (⟦<PlainCells as CellRead>⟧.has cells.new) (is_used usage.new) (⟦<Usage as Space>⟧.live usage.new) root (entries_of_items items.now)) }
-    ensures base { IfOk result (λ root. Standing (⟦<PlainCells as CellRead>⟧.has cells.new) (λ q. is_used usage.new q && not (is_fresh usage.new q)) (⟦<Usage as Space>⟧.live usage.new) root (entries_of_items items.now)) }
-    ensures ready { IfOk result (λ _. Ready (⟦<PlainCells as CellWrite>⟧.kept cells.new) (⟦<PlainCells as CellWrite>⟧.given cells.new) usage.new.given (is_used usage.new) (is_fresh usage.new)) }
+    requires ready { Ready ⟦<PlainCells as CellWrite>⟧.kept ⟦<PlainCells as CellWrite>⟧.given ⟦<Usage as Space>⟧.account cells.old usage.old }
+    ensures stands { IfOk result (λ root. Standing (⟦<PlainCells as CellRead>⟧.has cells.new) (is_used usage.new) ((⟦<Usage as Space>⟧.account usage.new).live) root (entries_of_items items.now)) }
+    ensures base { IfOk result (λ root. Standing (⟦<PlainCells as CellRead>⟧.has cells.new) (λ q. is_used usage.new q && not (is_fresh usage.new q)) ((⟦<Usage as Space>⟧.account usage.new).live) root (entries_of_items items.now)) }
+    ensures ready { IfOk result (λ _. Ready ⟦<PlainCells as CellWrite>⟧.kept ⟦<PlainCells as CellWrite>⟧.given ⟦<Usage as Space>⟧.account cells.new usage.new) }
 {
     let root = build(cells, usage, items)?;
     usage.freeze(0);
@@ -116,10 +117,10 @@ fn seen_beside(
     requires changes { length changes.now ≡ length items.now }
     requires taken { length taken.old ≡ length items.now }
     requires rising { Rises (entries_of_items first.now) }
-    requires uncounted { (k : ℕ) → ⟦<Usage as Space>⟧.live usage.old k ≡ 0 }
+    requires uncounted { (k : ℕ) → (⟦<Usage as Space>⟧.account usage.old).live k ≡ 0 }
     requires rows { usage.old.rows ≡ [] }
     requires passes { 0 < usage.old.passes }
-    requires ready { Ready (⟦<PlainCells as CellWrite>⟧.kept cells.old) (⟦<PlainCells as CellWrite>⟧.given cells.old) usage.old.given (is_used usage.old) (is_fresh usage.old) }
+    requires ready { Ready ⟦<PlainCells as CellWrite>⟧.kept ⟦<PlainCells as CellWrite>⟧.given ⟦<Usage as Space>⟧.account cells.old usage.old }
 {
     let root = frozen(cells, usage, first)?;
     let before = seen(cells, root, &first[2]);

@@ -1,185 +1,59 @@
 //! An item exchanged for another of the same name.
 
-ghost use Rattle.std.specs.Prelude.{◌≡◌, ◌+◌, ◌/◌, ◌<◌, ◌≤◌, ◌∷◌, [], ℕ, List, true, IfOk, IfErr, Ok, Err, Some, None, ◌↔◌, length, count_ones};
+ghost use Rattle.std.specs.Prelude.{◌≡◌, ◌+◌, ◌≤◌, ℕ, List, true, IfOk, IfErr, Err, Some, ◌↔◌};
 ghost use Rattle.packed_node.specs.declared.Cell.{Cell};
 ghost use Rattle.zone_model.specs.Keys.{Leads};
 ghost use Rattle.trie_model.specs.Keys.{Entry, InList};
-ghost use Rattle.trie_model.specs.Trees.{Tree, cells_in};
+ghost use Rattle.trie_model.specs.Trees.{Tree, IsRow, cells_in};
+ghost use Rattle.trie_model.specs.Trees.Tree.{leaf};
 ghost use Rattle.trie_read.specs.Reads.{EachTells};
-ghost use Rattle.trie_write.specs.Roots.{OnPath};
-ghost use Rattle.trie_write.specs.Standing.{Standing};
-ghost use Rattle.chunk_cells.specs.Chunks.{IsGiven};
-ghost use Rattle.chunk_usage.specs.Rooms.{Ready};
-ghost use Rattle.trie_write.specs.Frames.{Frame, Fenced};
-ghost use Rattle.trie_write.specs.Paths.{twigs_on_path};
-ghost use Rattle.trie_write.specs.Seats.{IsOutside, Unreached};
-ghost use Rattle.trie_write.specs.Exchanges.{Exchanged, ExchangeAsks, ExchangeAsked, ExchangeAsksAt, ExchangeAskedAt, Exchanges, ExchangesAt, RootExchanges, TopExchanges, ReplaceAsks, ReplaceAsked};
+ghost use Rattle.trie_write.specs.Asks.{HasKey, KeyIsThere};
+ghost use Rattle.trie_write.specs.Exchanges.{Exchanged};
+ghost use Rattle.trie_write.specs.Paths.{to_copy};
+ghost use Rattle.trie_write.specs.Puts.{Makes, IsTaken};
+ghost use Rattle.trie_write.specs.Roots.{TwigsOnPath, ToCopy, IsOutside, Beyond};
+ghost use Rattle.trie_write.specs.Spaces.{Ready, Frame, Fenced, Unchanged, Refused};
+ghost use Rattle.trie_write.specs.Standing.{HasTrie};
 
-use super::path::put_branch;
-use super::room::{place_item, release_item, room};
-use super::seat::fresh_twig;
-use super::top::top_of;
+use super::change::{Change, NO_CELLS, item_span, leaf_span, put_change};
+use super::place::lay_item;
+use super::there::root_with;
+use super::turn::end_node;
 use chunk_cells::CellWrite;
-use chunk_cells::item::cells_for;
 use chunk_usage::{Full, Space};
-use packed_node::{Cell, Leaf, Node, Ref};
+use packed_node::{Node, Ref};
 use shift_key::Key;
-use trie_read::get;
 
-/// The cell of the top of the tree below a node with the key's leaf exchanged. Offsets are at least `low`.
-fn exchange<C: CellWrite, U: Space>(
-    cells: &mut C,
-    usage: &mut U,
-    low: u16,
-    key: &Key,
-    node: Cell,
-    leaf: Leaf,
-) -> Result<Cell, Full>
-    requires asks { ExchangeAsked (C.has cells.old) (U.used usage.old) (U.live usage.old) low key.now node leaf }
-    requires ready { Ready (C.kept cells.old) (C.given cells.old) (U.given usage.old) (U.used usage.old) (U.fresh usage.old) }
-    ensures exchanged { IfOk result (λ cell. (t : Tree) (e : Entry) → ExchangeAsks (C.has cells.old) (U.used usage.old) (U.live usage.old) low key.now node leaf t e
-        → Exchanges (C.has cells.new) (U.used usage.old) (U.used usage.new) (U.live usage.old) (U.live usage.new) low leaf t e cell) }
-    ensures unchanged { IfErr result (λ _. (k : ℕ) → U.live usage.new k ≡ U.live usage.old k) }
-    ensures spends { (t : Tree) (e : Entry) → ExchangeAsks (C.has cells.old) (U.used usage.old) (U.live usage.old) low key.now node leaf t e
-        → U.spent usage.new ≤ U.spent usage.old + twigs_on_path key.now t }
-    ensures full { IfErr result (λ f. U.lacks usage.new f) }
-    ensures frozen { U.frozen usage.new ≡ U.frozen usage.old }
-    ensures frame { Frame (C.has cells.old) (C.has cells.new) (C.kept cells.old) (C.kept cells.new) (C.given cells.old) (C.given cells.new) (U.used usage.old) (U.used usage.new) (U.fresh usage.old) (U.fresh usage.new) }
-    ensures ready { Ready (C.kept cells.new) (C.given cells.new) (U.given usage.new) (U.used usage.new) (U.fresh usage.new) }
-{
-    match top_of(node) {
-        Err(old) => {
-            release_item(usage, old);
-            Ok(Node::Leaf(leaf).pack())
-        }
-        Ok(branch) => {
-            let n = branch.twig_count();
-            let index = branch.twig_index(key.at(branch.offset));
-            let to = room(cells, usage, n)?;
-            let next = cells.cell(branch.twigs + index);
-            match exchange(cells, usage, branch.offset + 1, key, next, leaf) {
-                Err(full) => {
-                    usage.release(to, n);
-                    Err(full)
-                }
-                Ok(twig) => Ok(put_branch(cells, usage, branch, index, to, twig)),
-            }
-        }
-    }
-}
-
-/// A new root of the tree with the key's leaf exchanged.
-fn exchange_root<C: CellWrite, U: Space>(
-    cells: &mut C,
-    usage: &mut U,
-    key: &Key,
-    node: Cell,
-    leaf: Leaf,
-) -> Result<Ref, Full>
-    requires asks { ExchangeAsked (C.has cells.old) (U.used usage.old) (U.live usage.old) 0 key.now node leaf }
-    requires ready { Ready (C.kept cells.old) (C.given cells.old) (U.given usage.old) (U.used usage.old) (U.fresh usage.old) }
-    ensures exchanged { IfOk result (λ root. (t : Tree) (e : Entry) → ExchangeAsks (C.has cells.old) (U.used usage.old) (U.live usage.old) 0 key.now node leaf t e
-        → RootExchanges (C.has cells.new) (U.used usage.old) (U.used usage.new) (U.live usage.old) (U.live usage.new) leaf t e root) }
-    ensures unchanged { IfErr result (λ _. (k : ℕ) → U.live usage.new k ≡ U.live usage.old k) }
-    ensures spends { (t : Tree) (e : Entry) → ExchangeAsks (C.has cells.old) (U.used usage.old) (U.live usage.old) 0 key.now node leaf t e → U.spent usage.new ≤ U.spent usage.old + (twigs_on_path key.now t + 1) }
-    ensures full { IfErr result (λ f. U.lacks usage.new f) }
-    ensures frozen { U.frozen usage.new ≡ U.frozen usage.old }
-    ensures frame { Frame (C.has cells.old) (C.has cells.new) (C.kept cells.old) (C.kept cells.new) (C.given cells.old) (C.given cells.new) (U.used usage.old) (U.used usage.new) (U.fresh usage.old) (U.fresh usage.new) }
-    ensures ready { Ready (C.kept cells.new) (C.given cells.new) (U.given usage.new) (U.used usage.new) (U.fresh usage.new) }
-{
-    let root = room(cells, usage, 1)?;
-    match exchange(cells, usage, 0, key, node, leaf) {
-        Err(full) => {
-            usage.release(root, 1);
-            Err(full)
-        }
-        Ok(cell) => {
-            cells.put(root, cell);
-            Ok(root)
-        }
-    }
-}
-
-/// Exchanges the key's leaf below a cell that may be written: what hangs on the last such cell of the key's path is copied, and
-/// that cell written. Offsets are at least `low`.
-fn exchange_at<C: CellWrite, U: Space>(
-    cells: &mut C,
-    usage: &mut U,
-    low: u16,
-    key: &Key,
-    seat: Ref,
-    node: Cell,
-    leaf: Leaf,
-) -> Result<(), Full>
-    requires asks { ExchangeAskedAt (C.has cells.old) (U.used usage.old) (U.live usage.old) low key.now seat node leaf }
-    requires fresh { U.fresh usage.old seat ≡ true }
-    requires given { IsGiven (C.given cells.old) (seat / 1024) }
-    requires ready { Ready (C.kept cells.old) (C.given cells.old) (U.given usage.old) (U.used usage.old) (U.fresh usage.old) }
-    ensures exchanged { IfOk result (λ _. (t : Tree) (e : Entry) → ExchangeAsksAt (C.has cells.old) (U.used usage.old) (U.live usage.old) low key.now seat node leaf t e
-        → ExchangesAt (C.has cells.new) (U.used usage.old) (U.used usage.new) (U.live usage.old) (U.live usage.new) low leaf t e seat) }
-    ensures outside { (t : Tree) (e : Entry) → ExchangeAsksAt (C.has cells.old) (U.used usage.old) (U.live usage.old) low key.now seat node leaf t e
-        → (q : ℕ) (c : Cell) → U.used usage.old q ≡ true → IsOutside seat t q → C.has cells.old q c → C.has cells.new q c }
-    ensures untouched { IfErr result (λ _. (q : ℕ) (c : Cell) → U.used usage.old q ≡ true → C.has cells.old q c → C.has cells.new q c) }
-    ensures unchanged { IfErr result (λ _. (k : ℕ) → U.live usage.new k ≡ U.live usage.old k) }
-    ensures spends { (t : Tree) (e : Entry) → ExchangeAsksAt (C.has cells.old) (U.used usage.old) (U.live usage.old) low key.now seat node leaf t e
-        → U.spent usage.new ≤ U.spent usage.old + twigs_on_path key.now t }
-    ensures full { IfErr result (λ f. U.lacks usage.new f) }
-    ensures frozen { U.frozen usage.new ≡ U.frozen usage.old }
-    ensures frame { Fenced (C.has cells.old) (C.has cells.new) (C.kept cells.old) (C.kept cells.new) (C.given cells.old) (C.given cells.new) (U.used usage.old) (U.used usage.new) (U.fresh usage.old) (U.fresh usage.new) }
-    ensures ready { Ready (C.kept cells.new) (C.given cells.new) (U.given usage.new) (U.used usage.new) (U.fresh usage.new) }
-{
-    match fresh_twig(usage, key, u16::MAX, node) {
-        Some(twig) => {
-            let next = cells.cell(twig.at);
-            exchange_at(
-                cells,
-                usage,
-                twig.branch.offset + 1,
-                key,
-                twig.at,
-                next,
-                leaf,
-            )
-        }
-        None => {
-            let cell = exchange(cells, usage, low, key, node, leaf)?;
-            cells.put(seat, cell);
-            Ok(())
-        }
-    }
-}
-
-/// The root of the tree with the key's leaf exchanged: the same where it may be written, else a new one.
-fn exchange_top<C: CellWrite, U: Space>(
+/// What exchanges the item of a name that is there: the leaf of the new item, which is written, in place of the old one.
+fn other_leaf<C: CellWrite, U: Space>(
     cells: &mut C,
     usage: &mut U,
     root: Ref,
     key: &Key,
-    node: Cell,
-    leaf: Leaf,
-) -> Result<Ref, Full>
-    requires asks { ExchangeAskedAt (C.has cells.old) (U.used usage.old) (U.live usage.old) 0 key.now root node leaf }
-    requires ready { Ready (C.kept cells.old) (C.given cells.old) (U.given usage.old) (U.used usage.old) (U.fresh usage.old) }
-    ensures exchanged { IfOk result (λ new. (t : Tree) (e : Entry) → ExchangeAsksAt (C.has cells.old) (U.used usage.old) (U.live usage.old) 0 key.now root node leaf t e
-        → TopExchanges (C.has cells.new) (U.used usage.old) (U.used usage.new) (U.live usage.old) (U.live usage.new) leaf t e root new) }
-    ensures outside { (t : Tree) (e : Entry) → ExchangeAsksAt (C.has cells.old) (U.used usage.old) (U.live usage.old) 0 key.now root node leaf t e
-        → (q : ℕ) (c : Cell) → U.used usage.old q ≡ true → IsOutside root t q → C.has cells.old q c → C.has cells.new q c }
-    ensures untouched { IfErr result (λ _. (q : ℕ) (c : Cell) → U.used usage.old q ≡ true → C.has cells.old q c → C.has cells.new q c) }
-    ensures unchanged { IfErr result (λ _. (k : ℕ) → U.live usage.new k ≡ U.live usage.old k) }
-    ensures spends { (t : Tree) (e : Entry) → ExchangeAsksAt (C.has cells.old) (U.used usage.old) (U.live usage.old) 0 key.now root node leaf t e
-        → U.spent usage.new ≤ U.spent usage.old + (twigs_on_path key.now t + 1) }
-    ensures full { IfErr result (λ f. U.lacks usage.new f) }
-    ensures frozen { U.frozen usage.new ≡ U.frozen usage.old }
-    ensures frame { Fenced (C.has cells.old) (C.has cells.new) (C.kept cells.old) (C.kept cells.new) (C.given cells.old) (C.given cells.new) (U.used usage.old) (U.used usage.new) (U.fresh usage.old) (U.fresh usage.new) }
-    ensures ready { Ready (C.kept cells.new) (C.given cells.new) (U.given usage.new) (U.used usage.new) (U.fresh usage.new) }
+    item: &[u8],
+) -> Result<Change, Full>
+    requires leads { Leads key.now item.now }
+    requires there { KeyIsThere C.has U.account cells.old usage.old root key.now }
+    requires ready { Ready C.kept C.given U.account cells.old usage.old }
+    ensures makes { IfOk result (λ change. (t : Tree) (version : List Entry) (h : HasKey C.has U.account cells.old usage.old root key.now t version)
+        → Makes C.has cells.new change (leaf h.entry h.first) (leaf (record { key = key.now; item = item.now }) change.new_item.at)) }
+    ensures row { IfOk result (λ change. IsRow change.new_item.at (cells_in item.now)) }
+    ensures taken { IfOk result (λ change. IsTaken (U.account usage.old) (U.account usage.new) change) }
+    ensures spends { (U.account usage.new).spent ≤ (U.account usage.old).spent + cells_in item.now }
+    ensures refused { IfErr result (λ f. Refused C.has U.account U.lacks cells.old usage.old cells.new usage.new f) }
+    ensures frame { Frame C.has C.kept C.given U.account cells.old usage.old cells.new usage.new }
+    ensures ready { Ready C.kept C.given U.account cells.new usage.new }
 {
-    if usage.is_fresh(root) {
-        exchange_at(cells, usage, 0, key, root, node, leaf)?;
-        return Ok(root);
-    }
-    let new = exchange_root(cells, usage, key, node, leaf)?;
-    usage.release(root, 1);
-    Ok(new)
+    let node = cells.cell(root);
+    let old = end_node(cells, key, u16::MAX, 0, node);
+    let leaf = lay_item(cells, usage, item)?;
+    Ok(Change {
+        cell: Node::Leaf(leaf).pack(),
+        new_twigs: NO_CELLS,
+        new_item: leaf_span(leaf),
+        old_twigs: NO_CELLS,
+        old_item: item_span(old),
+    })
 }
 
 /// The root of the trie with the item of a name that is there exchanged.
@@ -188,34 +62,23 @@ fn replace_item<C: CellWrite, U: Space>(
     usage: &mut U,
     root: Ref,
     key: &Key,
-    node: Cell,
     item: &[u8],
 ) -> Result<Ref, Full>
-    requires some { 0 < length item.now }
-    requires short { length item.now ≤ 4096 }
-    requires asks { (e : Entry) × ReplaceAsked (C.has cells.old) (U.used usage.old) (U.live usage.old) root key.now item.now node e }
-    requires ready { Ready (C.kept cells.old) (C.given cells.old) (U.given usage.old) (U.used usage.old) (U.fresh usage.old) }
-    ensures stands { IfOk result (λ new. (e : Entry) (t : Tree) (version : List Entry) → ReplaceAsks (C.has cells.old) (U.used usage.old) (U.live usage.old) root key.now item.now node e t version
-        → (next : List Entry) × Exchanged e version next × Standing (C.has cells.new) (U.used usage.new) (U.live usage.new) (Some new) next) }
-    ensures outside { (e : Entry) (t : Tree) (version : List Entry) → ReplaceAsks (C.has cells.old) (U.used usage.old) (U.live usage.old) root key.now item.now node e t version
-        → (q : ℕ) (c : Cell) → U.used usage.old q ≡ true → IsOutside root t q → C.has cells.old q c → C.has cells.new q c }
-    ensures untouched { IfErr result (λ _. (q : ℕ) (c : Cell) → U.used usage.old q ≡ true → C.has cells.old q c → C.has cells.new q c) }
-    ensures unchanged { IfErr result (λ _. (k : ℕ) → U.live usage.new k ≡ U.live usage.old k) }
-    ensures spends { (e : Entry) (t : Tree) (version : List Entry) → ReplaceAsks (C.has cells.old) (U.used usage.old) (U.live usage.old) root key.now item.now node e t version
-        → U.spent usage.new ≤ U.spent usage.old + (3 + cells_in item.now + twigs_on_path key.now t) }
-    ensures full { IfErr result (λ f. U.lacks usage.new f) }
-    ensures frozen { U.frozen usage.new ≡ U.frozen usage.old }
-    ensures frame { Fenced (C.has cells.old) (C.has cells.new) (C.kept cells.old) (C.kept cells.new) (C.given cells.old) (C.given cells.new) (U.used usage.old) (U.used usage.new) (U.fresh usage.old) (U.fresh usage.new) }
-    ensures ready { Ready (C.kept cells.new) (C.given cells.new) (U.given usage.new) (U.used usage.new) (U.fresh usage.new) }
+    requires leads { Leads key.now item.now }
+    requires there { KeyIsThere C.has U.account cells.old usage.old root key.now }
+    requires ready { Ready C.kept C.given U.account cells.old usage.old }
+    ensures stands { IfOk result (λ new. (t : Tree) (version : List Entry) → HasKey C.has U.account cells.old usage.old root key.now t version
+        → (next : List Entry) × Exchanged (record { key = key.now; item = item.now }) version next × HasTrie C.has U.account cells.new usage.new (Some new) next) }
+    ensures outside { (t : Tree) (version : List Entry) → HasKey C.has U.account cells.old usage.old root key.now t version
+        → (q : ℕ) (c : Cell) → (U.account usage.old).used q ≡ true → IsOutside root t q → C.has cells.old q c → C.has cells.new q c }
+    ensures copies { (t : Tree) (version : List Entry) → HasKey C.has U.account cells.old usage.old root key.now t version
+        → (U.account usage.new).spent ≤ (U.account usage.old).spent + (cells_in item.now + to_copy (U.account usage.old).mutable key.now root t) }
+    ensures refused { IfErr result (λ f. Refused C.has U.account U.lacks cells.old usage.old cells.new usage.new f) }
+    ensures frame { Fenced C.has C.kept C.given U.account cells.old usage.old cells.new usage.new }
+    ensures ready { Ready C.kept C.given U.account cells.new usage.new }
 {
-    let leaf = place_item(cells, usage, item)?;
-    match exchange_top(cells, usage, root, key, node, leaf) {
-        Ok(new) => Ok(new),
-        Err(full) => {
-            usage.release(leaf.at, cells_for(leaf.len));
-            Err(full)
-        }
-    }
+    let change = other_leaf(cells, usage, root, key, item)?;
+    put_change(cells, usage, root, key, u16::MAX, change)
 }
 
 /// Why a name's item isn't changed.
@@ -236,34 +99,27 @@ pub fn replace<C: CellWrite, U: Space>(
     key: &Key,
     item: &[u8],
 ) -> Result<Option<Ref>, ChangeRefusal>
-    requires stands { (version : List Entry) × Standing (C.has cells.old) (U.used usage.old) (U.live usage.old) root version × EachTells Leads version }
+    requires stands { (version : List Entry) × HasTrie C.has U.account cells.old usage.old root version × EachTells Leads version }
     requires leads { Leads key.now item.now }
-    requires ready { Ready (C.kept cells.old) (C.given cells.old) (U.given usage.old) (U.used usage.old) (U.fresh usage.old) }
-    ensures replaced { IfOk result (λ new. (version : List Entry) → Standing (C.has cells.old) (U.used usage.old) (U.live usage.old) root version → EachTells Leads version
-        → (next : List Entry) × Exchanged (record { key = key.now; item = item.now }) version next × Standing (C.has cells.new) (U.used usage.new) (U.live usage.new) new next) }
-    ensures absent { (version : List Entry) → Standing (C.has cells.old) (U.used usage.old) (U.live usage.old) root version → EachTells Leads version
+    requires ready { Ready C.kept C.given U.account cells.old usage.old }
+    ensures replaced { IfOk result (λ new. (version : List Entry) → HasTrie C.has U.account cells.old usage.old root version → EachTells Leads version
+        → (next : List Entry) × Exchanged (record { key = key.now; item = item.now }) version next × HasTrie C.has U.account cells.new usage.new new next) }
+    ensures absent { (version : List Entry) → HasTrie C.has U.account cells.old usage.old root version → EachTells Leads version
         → (result ≡ Err ChangeRefusal.NotFound) ↔ ((x : Entry) → InList x version → x.key ≡ key.now → ⊥) }
-    ensures refused { IfErr result (λ _. (version : List Entry) → Standing (C.has cells.old) (U.used usage.old) (U.live usage.old) root version → Standing (C.has cells.new) (U.used usage.new) (U.live usage.new) root version) }
-    ensures outside { (q : ℕ) (c : Cell) → U.used usage.old q ≡ true → Unreached (C.has cells.old) (U.used usage.old) (U.live usage.old) root q → C.has cells.old q c → C.has cells.new q c }
-    ensures untouched { IfErr result (λ _. (q : ℕ) (c : Cell) → U.used usage.old q ≡ true → C.has cells.old q c → C.has cells.new q c) }
-    ensures unchanged { IfErr result (λ _. (k : ℕ) → U.live usage.new k ≡ U.live usage.old k) }
+    ensures refused { IfErr result (λ _. (version : List Entry) → HasTrie C.has U.account cells.old usage.old root version → HasTrie C.has U.account cells.new usage.new root version) }
+    ensures unchanged { IfErr result (λ _. Unchanged C.has U.account cells.old usage.old cells.new usage.new) }
+    ensures outside { (q : ℕ) (c : Cell) → Beyond C.has U.account cells.old usage.old root q → C.has cells.old q c → C.has cells.new q c }
     ensures full { (f : _) → result ≡ Err (ChangeRefusal.Full f) → U.lacks usage.new f }
-    ensures spends { (n : ℕ) → OnPath (C.has cells.old) (U.used usage.old) (U.live usage.old) root key.now n → U.spent usage.new ≤ U.spent usage.old + (3 + cells_in item.now + n) }
-    ensures frozen { U.frozen usage.new ≡ U.frozen usage.old }
-    ensures frame { Fenced (C.has cells.old) (C.has cells.new) (C.kept cells.old) (C.kept cells.new) (C.given cells.old) (C.given cells.new) (U.used usage.old) (U.used usage.new) (U.fresh usage.old) (U.fresh usage.new) }
-    ensures ready { Ready (C.kept cells.new) (C.given cells.new) (U.given usage.new) (U.used usage.new) (U.fresh usage.new) }
+    ensures spends { (n : ℕ) → TwigsOnPath C.has U.account cells.old usage.old root key.now n → (U.account usage.new).spent ≤ (U.account usage.old).spent + (3 + cells_in item.now + n) }
+    ensures copies { (n : ℕ) → ToCopy C.has U.account cells.old usage.old root key.now n → (U.account usage.new).spent ≤ (U.account usage.old).spent + (cells_in item.now + n) }
+    ensures frame { Fenced C.has C.kept C.given U.account cells.old usage.old cells.new usage.new }
+    ensures ready { Ready C.kept C.given U.account cells.new usage.new }
 {
-    match root {
+    match root_with(cells, root, key) {
         None => Err(ChangeRefusal::NotFound),
-        Some(at) => match get(cells, Some(at), key) {
-            None => Err(ChangeRefusal::NotFound),
-            Some(_) => {
-                let node = cells.cell(at);
-                match replace_item(cells, usage, at, key, node, item) {
-                    Ok(new) => Ok(Some(new)),
-                    Err(full) => Err(ChangeRefusal::Full(full)),
-                }
-            }
+        Some(at) => match replace_item(cells, usage, at, key, item) {
+            Ok(new) => Ok(Some(new)),
+            Err(full) => Err(ChangeRefusal::Full(full)),
         },
     }
 }

@@ -1,11 +1,8 @@
-//! The twigs of one branch, in place.
+//! The twigs of one branch, as they are made.
 
-ghost use Rattle.std.specs.Prelude.{◌≡◌, ◌+◌, ◌^◌, ◌<◌, ◌≤◌, ◌++◌, ◌∷◌, [], ℕ, List, length};
-ghost use Rattle.packed_node.specs.declared.Cell.{Cell};
-ghost use Rattle.trie_write.specs.Rows.{RowLies};
+ghost use Rattle.std.specs.Prelude.{◌≡◌, ◌<◌, ◌≤◌, ◌++◌, ◌∷◌, [], length};
 
-use chunk_cells::CellRead;
-use packed_node::{Cell, Ref};
+use packed_node::Cell;
 use std::marker::Model;
 
 /// Up to 47 cells, in order.
@@ -49,19 +46,5 @@ impl Row {
         ensures few { length self.now ≤ 47 }
     {
         &self.cells[..self.len]
-    }
-}
-
-/// Reads n cells side by side, behind those that the row has.
-pub fn append<C: CellRead>(cells: &mut C, row: &mut Row, from: Ref, n: u32)
-    requires inside { from + n ≤ 2 ^ 22 }
-    requires few { length row.old + n ≤ 47 }
-    requires there { (i : ℕ) → i < n → (c : Cell) × C.has cells.old (from + i) c }
-    ensures same { cells.new ≡ cells.old }
-    ensures length { length row.new ≡ length row.old + n }
-    ensures read { (cs : List Cell) → length cs ≡ n → RowLies (C.has cells.old) from cs → row.new ≡ row.old ++ cs }
-{
-    for i in 0..n {
-        row.push(cells.cell(from + i));
     }
 }

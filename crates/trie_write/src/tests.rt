@@ -4,9 +4,9 @@ ghost use Rattle.std.specs.Prelude.{◌≡◌, ℕ, List, IfOk};
 ghost use Rattle.zone_model.specs.Keys.{Leads};
 ghost use Rattle.trie_model.specs.Keys.{Entry, Rises};
 ghost use Rattle.trie_read.specs.Reads.{EachTells};
-ghost use Rattle.chunk_usage.specs.Rooms.{Ready};
 ghost use Rattle.trie_write.specs.Entries.{entries_of_items};
-ghost use Rattle.trie_write.specs.Standing.{Standing};
+ghost use Rattle.trie_write.specs.Spaces.{Ready};
+ghost use Rattle.trie_write.specs.Standing.{HasTrie};
 
 use super::{InsertRefusal, Item, ItemRefusal, build, cells, insert, replace};
 use chunk_cells::{CellWrite, PlainCells};
@@ -38,10 +38,10 @@ fn put<C: CellWrite, U: Space>(
     root: Option<Ref>,
     item: &Item,
 ) -> Result<Option<Ref>, InsertRefusal>
-    requires stands { (version : List Entry) × Standing (C.has cells.old) (U.used usage.old) (U.live usage.old) root version × EachTells Leads version }
-    requires ready { Ready (C.kept cells.old) (C.given cells.old) (U.given usage.old) (U.used usage.old) (U.fresh usage.old) }
-    ensures stands { IfOk result (λ new. (version : List Entry) × Standing (C.has cells.new) (U.used usage.new) (U.live usage.new) new version × EachTells Leads version) }
-    ensures ready { Ready (C.kept cells.new) (C.given cells.new) (U.given usage.new) (U.used usage.new) (U.fresh usage.new) }
+    requires stands { (version : List Entry) × HasTrie C.has U.account cells.old usage.old root version × EachTells Leads version }
+    requires ready { Ready C.kept C.given U.account cells.old usage.old }
+    ensures stands { IfOk result (λ new. (version : List Entry) × HasTrie C.has U.account cells.new usage.new new version × EachTells Leads version) }
+    ensures ready { Ready C.kept C.given U.account cells.new usage.new }
 {
     insert(cells, usage, root, &item.key(), item.octets())
 }
@@ -54,8 +54,8 @@ fn sizes_with<C: CellWrite, U: Space>(
     item: &Item,
 ) -> Result<(u64, u64), InsertRefusal>
     requires rising { Rises (entries_of_items items.now) }
-    requires uncounted { (k : ℕ) → U.live usage.old k ≡ 0 }
-    requires ready { Ready (C.kept cells.old) (C.given cells.old) (U.given usage.old) (U.used usage.old) (U.fresh usage.old) }
+    requires uncounted { (k : ℕ) → (U.account usage.old).live k ≡ 0 }
+    requires ready { Ready C.kept C.given U.account cells.old usage.old }
 {
     match build(cells, usage, items) {
         Err(full) => Err(InsertRefusal::Full(full)),

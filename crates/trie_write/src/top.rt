@@ -1,12 +1,15 @@
 //! The top of a tree: a branch, or a leaf.
 
-ghost use Rattle.std.specs.Prelude.{◌≡◌, ◌<◌, ℕ, IfOk, IfErr, IfSome, None};
+ghost use Rattle.std.specs.Prelude.{◌≡◌, ◌<◌, ◌%◌, ◌^◌, ℕ, IfOk, IfErr, IfSome, None, count_ones};
+ghost use Rattle.trie_model.specs.Keys.{at};
 ghost use Rattle.packed_node.specs.declared.Cell.{Cell};
 ghost use Rattle.trie_model.specs.Trees.{Tree, IsTree};
+ghost use Rattle.trie_model.specs.Changes.{Deep};
 ghost use Rattle.trie_model.specs.Memory.{top_cell};
 ghost use Rattle.trie_write.specs.Tops.{IsBranchTop, IsLeafTop, NotBefore};
 
 use packed_node::{Branch, Cell, Leaf, Node, unpack};
+use shift_key::Key;
 
 /// The branch or the leaf that the cell of a tree's top says.
 pub fn top_of(node: Cell) -> Result<Branch, Leaf>
@@ -35,4 +38,29 @@ pub fn branch_above(node: Cell, place: u16) -> Option<Branch>
             None
         }
     }
+}
+
+/// The branch at a tree's top, where its offset is the place.
+pub fn branch_at(node: Cell, place: u16) -> Option<Branch>
+    ensures at { IfSome result (λ branch. branch.offset ≡ place) }
+    ensures branch { IfSome result (λ branch. (low : ℕ) (t : Tree) → IsTree low t → node ≡ top_cell t → IsBranchTop t branch) }
+    ensures deep { result ≡ None → (low : ℕ) (t : Tree) → IsTree low t → node ≡ top_cell t → NotBefore place t → Deep place t }
+{
+    match top_of(node) {
+        Err(_) => None,
+        Ok(branch) => {
+            if branch.offset == place {
+                return Some(branch);
+            }
+            None
+        }
+    }
+}
+
+/// The place of the key's twig among those of a branch.
+pub fn key_twig(branch: Branch, key: &Key) -> u32
+    requires { at key.now branch.offset < 47 }
+    ensures { result ≡ count_ones (branch.bitmap % 2 ^ at key.now branch.offset) }
+{
+    branch.twig_index(key.at(branch.offset))
 }

@@ -5,21 +5,10 @@ use crate::space::{Full, Grant, Space};
 use packed_node::Ref;
 
 impl Space for Usage {
-    ghost use Rattle.std.specs.Prelude.{slice_index};
-    ghost use Rattle.chunk_usage.specs.Ledger.{is_used, is_fresh, frozen_part};
-    ghost use Rattle.chunk_usage.specs.Handing.{spent, Lacks};
+    ghost use Rattle.chunk_usage.specs.Rooms.{account_of};
+    ghost use Rattle.chunk_usage.specs.Handing.{Lacks};
 
-    ghost used = { is_used };
-
-    ghost fresh = { is_fresh };
-
-    ghost given = { λ l. l.given };
-
-    ghost live = { λ l k. slice_index l.live k };
-
-    ghost spent = { spent };
-
-    ghost frozen = { frozen_part };
+    ghost account = { account_of };
 
     ghost lacks = { Lacks };
 
@@ -28,7 +17,7 @@ impl Space for Usage {
         Usage::alloc(self, n)
     }
 
-    fn is_fresh(&self, at: Ref) -> bool {
+    fn is_mutable(&self, at: Ref) -> bool {
         self.known();
         Usage::is_fresh(self, at)
     }

@@ -16,14 +16,14 @@ unreachable-requires c =
     let within = c.requires.room in
     let cost = c.build-built.ensures.spends in
     no_shortage new c.in_default.field-0 c.args.chunks (cells (entries_of_items c.args.items.now))
-    (as_many c.in_ok-usage.usage new c.known.ensures c.build-built.ensures.frozen c.args.chunks c.args.passes c.in_ok-usage.ensures)
+    (as_many c.in_ok-usage.usage new c.known.ensures c.build-built.ensures.frame.last c.args.chunks c.args.passes c.in_ok-usage.ensures)
     c.requires.enough (omega arith) (omega arith) (count_by-le-length not new.given) c.in_default.ensures.full
 
 pub invariant_of-result : goal.invariant_of-result
 invariant_of-result c = record {
   is = record {
     same = c.build-built.ensures.ready.same ∙ sym (ap (λ (l : Ledger). l.given) c.freeze.ensures.after);
-    kept = first_kept c.in_ok-usage.usage c.freeze.new.self c.args.chunks c.args.passes 0 c.in_ok-usage.ensures c.build-built.new.usage c.build-built.ensures.frozen c.freeze.ensures.after;
+    kept = first_kept c.in_ok-usage.usage c.freeze.new.self c.args.chunks c.args.passes 0 c.in_ok-usage.ensures c.build-built.new.usage c.build-built.ensures.frame.last c.freeze.ensures.after;
     last = omega arith;
   };
 }
@@ -36,4 +36,4 @@ returns-clause-shows c = record {
 }
 
 pub returns-clause-size : goal.returns-clause-size
-returns-clause-size c = as_many_as c.freeze.ensures.after ∙ as_many c.in_ok-usage.usage c.build-built.new.usage c.known.ensures c.build-built.ensures.frozen c.args.chunks c.args.passes c.in_ok-usage.ensures
+returns-clause-size c = as_many_as c.freeze.ensures.after ∙ as_many c.in_ok-usage.usage c.build-built.new.usage c.known.ensures c.build-built.ensures.frame.last c.args.chunks c.args.passes c.in_ok-usage.ensures

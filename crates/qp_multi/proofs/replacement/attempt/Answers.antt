@@ -1,11 +1,11 @@
 use Rattle.std.proofs.Common.{Bool, List, length, sym, ◌∙◌, ap, subst}
 use Rattle.chunk_usage.specs.Ledger.{Frozen}
-use Rattle.trie_write.proofs.FrameLaws.{ok_map}
+use Rattle.trie_write.proofs.SpaceLaws.{ok_map}
 use Rattle.qp_multi.proofs.FreedLaws.{base_later, tells_exchanged}
 use Rattle.chunk_cells.specs.Chunks.{IsGiven}
 use Rattle.chunk_usage.proofs.FlagLemmas.{get_set}
 use Rattle.qp_multi.proofs.CauseLaws.{path_later}
-use Rattle.qp_multi.proofs.RefusalLaws.{err_map, err_both}
+use Rattle.qp_multi.proofs.RefusalLaws.{err_map}
 use Rattle.qp_multi.proofs.RisenLaws.{set_of}
 use Rattle.qp_multi.proofs.replacement.attempt.Goals as goal
 
@@ -16,7 +16,7 @@ returns-clause-replaced c = ok_map c.replace-outcome.result (λ new made base es
       next.0,
       next.1,
       record {
-        base_is = base_later i.cells c.replace-outcome.new.cells i.usage c.replace-outcome.new.usage i.root base (λ q x old h. c.replace-outcome.ensures.frame.frozen q x old h) c.replace-outcome.ensures.frame.grows (ap (λ (f : Frozen). f.live) c.replace-outcome.ensures.frozen) works.base_is;
+        base_is = base_later i.cells c.replace-outcome.new.cells i.usage c.replace-outcome.new.usage i.root base (λ q x old h. c.replace-outcome.ensures.frame.frozen q x old h) c.replace-outcome.ensures.frame.grows (ap (λ (f : Frozen). f.live) c.replace-outcome.ensures.frame.last) works.base_is;
         working = record { stands = next.2; tells = tells_exchanged _ es next.0 works.working.tells c.requires.leads next.1 };
       },
     )) c.replace-outcome.ensures.replaced
@@ -24,12 +24,12 @@ returns-clause-replaced c = ok_map c.replace-outcome.result (λ new made base es
 pub returns-clause-refused : goal.returns-clause-refused
 returns-clause-refused c = err_map c.replace-outcome.result (λ refusal same base es works.
     let i = c.args.index.now in record {
-      base_is = base_later i.cells c.replace-outcome.new.cells i.usage c.replace-outcome.new.usage i.root base (λ q x old h. c.replace-outcome.ensures.frame.frozen q x old h) c.replace-outcome.ensures.frame.grows (ap (λ (f : Frozen). f.live) c.replace-outcome.ensures.frozen) works.base_is;
+      base_is = base_later i.cells c.replace-outcome.new.cells i.usage c.replace-outcome.new.usage i.root base (λ q x old h. c.replace-outcome.ensures.frame.frozen q x old h) c.replace-outcome.ensures.frame.grows (ap (λ (f : Frozen). f.live) c.replace-outcome.ensures.frame.last) works.base_is;
       working = record { stands = same es works.working.stands; tells = works.working.tells };
     }) c.replace-outcome.ensures.refused
 
 pub returns-clause-chunks : goal.returns-clause-chunks
-returns-clause-chunks c = sym c.known-2.ensures.counted_last ∙ ap (λ (f : Frozen). length f.live) c.replace-outcome.ensures.frozen ∙ c.known.ensures.counted_last
+returns-clause-chunks c = sym c.known-2.ensures.counted_last ∙ ap (λ (f : Frozen). length f.live) c.replace-outcome.ensures.frame.last ∙ c.known.ensures.counted_last
 
 pub returns-clause-stays : goal.returns-clause-stays
 returns-clause-stays c k given =
@@ -37,4 +37,7 @@ returns-clause-stays c k given =
     set_of c.replace-outcome.new.usage.given k (subst (λ (flags : List Bool). IsGiven flags k) c.replace-outcome.ensures.ready.same (c.replace-outcome.ensures.frame.given_stays k before))
 
 pub returns-clause-path : goal.returns-clause-path
-returns-clause-path c = err_both c.replace-outcome.result (λ refusal stays live n on. path_later c.args.root c.args.key.now n on stays c.replace-outcome.ensures.frame.grows.stays live) c.replace-outcome.ensures.untouched c.replace-outcome.ensures.unchanged
+returns-clause-path c = err_map c.replace-outcome.result (λ refusal same n on. path_later c.args.root c.args.key.now n on same.untouched c.replace-outcome.ensures.frame.grows.stays same.counts) c.replace-outcome.ensures.unchanged
+
+pub returns-clause-absent : goal.returns-clause-absent
+returns-clause-absent c base es works = c.replace-outcome.ensures.absent es works.working.stands works.working.tells

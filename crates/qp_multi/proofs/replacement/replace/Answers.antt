@@ -1,4 +1,4 @@
-use Rattle.trie_write.proofs.FrameLaws.{ok_map}
+use Rattle.trie_write.proofs.SpaceLaws.{ok_map}
 use Rattle.qp_multi.proofs.RefusalLaws.{err_map}
 use Rattle.qp_multi.proofs.replacement.replace.Goals as goal
 

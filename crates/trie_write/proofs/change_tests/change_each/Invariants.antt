@@ -2,13 +2,13 @@ use Rattle.std.proofs.Common.{List}
 use Rattle.zone_model.specs.Keys.{Leads}
 use Rattle.trie_model.specs.Keys.{Entry}
 use Rattle.trie_read.specs.Reads.{EachTells}
-use Rattle.chunk_usage.specs.Rooms.{Ready}
+use Rattle.trie_write.specs.Spaces.{Ready}
 use Rattle.trie_write.specs.Standing.{Standing}
 use Rattle.trie_write.proofs.change_tests.change_each.Given as goal
 
 abbrev pub invariant-loop-i : goal.invariant-loop-i
 invariant-loop-i g l =
     record {
-      stands : (version : List Entry) × Standing (g.C.CellRead.has l.cells) (g.U.Space.used l.usage) (g.U.Space.live l.usage) l.root version × EachTells Leads version;
-      ready : Ready (g.C.CellWrite.kept l.cells) (g.C.CellWrite.given l.cells) (g.U.Space.given l.usage) (g.U.Space.used l.usage) (g.U.Space.fresh l.usage);
+      stands : (version : List Entry) × Standing (g.C.CellRead.has l.cells) ((g.U.Space.account l.usage).used) ((g.U.Space.account l.usage).live) l.root version × EachTells Leads version;
+      ready : Ready g.C.CellWrite.kept g.C.CellWrite.given g.U.Space.account l.cells l.usage;
     }

@@ -1,9 +1,7 @@
 use Rattle.std.proofs.Common.{List, ℕ, sym, subst}
 use Rattle.zone_model.specs.Keys.{Leads}
 use Rattle.trie_write.specs.Entries.{entry_of}
-use Rattle.trie_write.proofs.RootLaws.{entry_with, tells_more}
-use Rattle.trie_write.proofs.ExchangeLaws.{tells_exchanged}
-use Rattle.trie_write.proofs.DeleteLaws.{tells_fewer}
+use Rattle.trie_write.proofs.RootLaws.{entry_with, tells_more, tells_exchanged, tells_fewer}
 use Rattle.trie_write.proofs.change_tests.changed.Goals as goal
 
 pub returns-in-Ok-clause-stands : goal.returns-in-Ok-clause-stands

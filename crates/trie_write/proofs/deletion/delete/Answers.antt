@@ -1,58 +1,49 @@
-use Rattle.std.proofs.Common.{ℕ, Option, sym, ◌∙◌, subst, arith}
-use Rattle.trie_write.specs.Roots.{OnPath}
-use Rattle.trie_write.specs.Seats.{Unreached}
-use Rattle.trie_write.specs.Standing.{Standing}
-use Rattle.trie_write.proofs.RootLaws.{standing_later}
-use Rattle.trie_write.proofs.ExchangeLaws.{found_entry}
-use Rattle.trie_write.proofs.DeleteLaws.{delete_here}
+use Rattle.std.proofs.Common.{sym, subst, arith}
+use Rattle.trie_write.proofs.RootLaws.{stands_of}
+use Rattle.trie_write.proofs.ReplaceLaws.{has_key, on_path, copied_path, beyond_key, trie_later}
 use Rattle.trie_write.proofs.deletion.delete.Goals as goal
 
-pub delete_item-requires-clause-asks : goal.delete_item-requires-clause-asks
-delete_item-requires-clause-asks g c =
+pub delete_item-requires-clause-there : goal.delete_item-requires-clause-there
+delete_item-requires-clause-there g c =
     let version = c.requires.stands.0 in
-    let s = subst (λ (o : Option ℕ). Standing (g.C.CellRead.has c.args.cells.now) (g.U.Space.used c.args.usage.now) (g.U.Space.live c.args.usage.now) o version) c.in-Some.is c.requires.stands.1 in
-    let f = found_entry (g.C.CellRead.has c.args.cells.now) c.args.key.now version c.get.result c.in-Some-get.field-0 (c.get.ensures.value version (s.0, s.1.trie) c.requires.stands.2) c.in-Some-get.is in
-    record { t = s.0; version = version; gone = f.0; asks = delete_here g.C.CellRead.has c.args.cells.now c.get.new.cells c.cell-node.new.self c.cell-node.result c.get.ensures.same c.cell-node.ensures.same s.1 c.cell-node.ensures.value f.0 f.1 f.2 }
+    let k = has_key c.in-Some.ensures.same c.in-Some.ensures.root version c.requires.stands.1 (c.in-Some.ensures.there version (stands_of _ _ _ version c.args.root c.requires.stands.1) c.requires.stands.2) in
+    record { t = k.0; version = version; asks = k.1 }
 
 pub returns-in-Ok-clause-deleted : goal.returns-in-Ok-clause-deleted
-returns-in-Ok-clause-deleted g c version standing tells =
-    let s = subst (λ (o : Option ℕ). Standing (g.C.CellRead.has c.args.cells.now) (g.U.Space.used c.args.usage.now) (g.U.Space.live c.args.usage.now) o version) c.in-Some.is standing in
-    let f = found_entry (g.C.CellRead.has c.args.cells.now) c.args.key.now version c.get.result c.in-Some-get.field-0 (c.get.ensures.value version (s.0, s.1.trie) tells) c.in-Some-get.is in
-    c.in-Ok.ensures.stands s.0 version f.0 (delete_here g.C.CellRead.has c.args.cells.now c.get.new.cells c.cell-node.new.self c.cell-node.result c.get.ensures.same c.cell-node.ensures.same s.1 c.cell-node.ensures.value f.0 f.1 f.2)
+returns-in-Ok-clause-deleted g c version h tells =
+    let k = has_key c.in-Some.ensures.same c.in-Some.ensures.root version h (c.in-Some.ensures.there version (stands_of _ _ _ version c.args.root h) tells) in
+    c.in-Ok.ensures.stands k.0 version k.1
 
 pub returns-in-Ok-clause-absent : goal.returns-in-Ok-clause-absent
-returns-in-Ok-clause-absent g c version standing tells =
-    let s = subst (λ (o : Option ℕ). Standing (g.C.CellRead.has c.args.cells.now) (g.U.Space.used c.args.usage.now) (g.U.Space.live c.args.usage.now) o version) c.in-Some.is standing in
-    let f = found_entry (g.C.CellRead.has c.args.cells.now) c.args.key.now version c.get.result c.in-Some-get.field-0 (c.get.ensures.value version (s.0, s.1.trie) tells) c.in-Some-get.is in
-    (λ e. absurd cc, λ never. absurd (never f.0 f.1 f.2))
+returns-in-Ok-clause-absent g c version h tells = let x = c.in-Some.ensures.there version (stands_of _ _ _ version c.args.root h) tells in (λ e. absurd cc, λ never. absurd (never x.0 x.1 x.2))
 
 pub returns-in-Err-clause-absent : goal.returns-in-Err-clause-absent
-returns-in-Err-clause-absent g c version standing tells =
-    let s = subst (λ (o : Option ℕ). Standing (g.C.CellRead.has c.args.cells.now) (g.U.Space.used c.args.usage.now) (g.U.Space.live c.args.usage.now) o version) c.in-Some.is standing in
-    let f = found_entry (g.C.CellRead.has c.args.cells.now) c.args.key.now version c.get.result c.in-Some-get.field-0 (c.get.ensures.value version (s.0, s.1.trie) tells) c.in-Some-get.is in
-    (λ e. absurd cc, λ never. absurd (never f.0 f.1 f.2))
+returns-in-Err-clause-absent g c version h tells = let x = c.in-Some.ensures.there version (stands_of _ _ _ version c.args.root h) tells in (λ e. absurd cc, λ never. absurd (never x.0 x.1 x.2))
+
+pub returns-in-Ok-clause-outside : goal.returns-in-Ok-clause-outside
+returns-in-Ok-clause-outside g c q x b h =
+    let o = beyond_key c.in-Some.ensures.same c.in-Some.ensures.root q b c.in-Some.ensures.there in
+    c.delete_item.ensures.outside o.0 o.1 o.2 q x b.0 o.3 (subst (λ s. g.C.CellRead.has s q x) (sym c.in-Some.ensures.same) h)
 
 pub returns-in-Ok-clause-spends : goal.returns-in-Ok-clause-spends
 returns-in-Ok-clause-spends g c n on =
-    let o = subst (λ (o : Option ℕ). OnPath (g.C.CellRead.has c.args.cells.now) (g.U.Space.used c.args.usage.now) (g.U.Space.live c.args.usage.now) o c.args.key.now n) c.in-Some.is on in
-    let f = found_entry (g.C.CellRead.has c.args.cells.now) c.args.key.now o.1 c.get.result c.in-Some-get.field-0 (c.get.ensures.value o.1 (o.0, o.2.trie) o.3) c.in-Some-get.is in
-    let m = c.delete_item.ensures.spends o.0 o.1 f.0 (delete_here g.C.CellRead.has c.args.cells.now c.get.new.cells c.cell-node.new.self c.cell-node.result c.get.ensures.same c.cell-node.ensures.same o.2 c.cell-node.ensures.value f.0 f.1 f.2) in
-    let e = o.4 in omega arith
+    let o = on_path c.in-Some.ensures.same c.in-Some.ensures.root n on c.in-Some.ensures.there in
+    let m = c.delete_item.ensures.spends o.0 o.1 o.2 in let e = o.3 in omega arith
 
 pub returns-in-Err-clause-spends : goal.returns-in-Err-clause-spends
 returns-in-Err-clause-spends g c n on =
-    let o = subst (λ (o : Option ℕ). OnPath (g.C.CellRead.has c.args.cells.now) (g.U.Space.used c.args.usage.now) (g.U.Space.live c.args.usage.now) o c.args.key.now n) c.in-Some.is on in
-    let f = found_entry (g.C.CellRead.has c.args.cells.now) c.args.key.now o.1 c.get.result c.in-Some-get.field-0 (c.get.ensures.value o.1 (o.0, o.2.trie) o.3) c.in-Some-get.is in
-    let m = c.delete_item.ensures.spends o.0 o.1 f.0 (delete_here g.C.CellRead.has c.args.cells.now c.get.new.cells c.cell-node.new.self c.cell-node.result c.get.ensures.same c.cell-node.ensures.same o.2 c.cell-node.ensures.value f.0 f.1 f.2) in
-    let e = o.4 in omega arith
+    let o = on_path c.in-Some.ensures.same c.in-Some.ensures.root n on c.in-Some.ensures.there in
+    let m = c.delete_item.ensures.spends o.0 o.1 o.2 in let e = o.3 in omega arith
+
+pub returns-in-Ok-clause-copies : goal.returns-in-Ok-clause-copies
+returns-in-Ok-clause-copies g c n on =
+    let o = copied_path c.in-Some.ensures.same c.in-Some.ensures.root n on c.in-Some.ensures.there in
+    let m = c.delete_item.ensures.copies o.0 o.1 o.2 in let e = o.3 in omega arith
+
+pub returns-in-Err-clause-copies : goal.returns-in-Err-clause-copies
+returns-in-Err-clause-copies g c n on =
+    let o = copied_path c.in-Some.ensures.same c.in-Some.ensures.root n on c.in-Some.ensures.there in
+    let m = c.delete_item.ensures.copies o.0 o.1 o.2 in let e = o.3 in omega arith
 
 pub returns-in-Err-clause-refused : goal.returns-in-Err-clause-refused
-returns-in-Err-clause-refused g c version standing =
-    let same = c.cell-node.ensures.same ∙ c.get.ensures.same in
-    standing_later version c.args.root standing (λ q x u h. c.in-Err.ensures.untouched q x u (subst (λ s. g.C.CellRead.has s q x) (sym same) h)) c.in-Err.ensures.frame.grows.stays c.in-Err.ensures.unchanged
-
-pub returns-in-Ok-clause-outside : goal.returns-in-Ok-clause-outside
-returns-in-Ok-clause-outside g c q x u unreached h =
-    let o = subst (λ (o : Option ℕ). Unreached (g.C.CellRead.has c.args.cells.now) (g.U.Space.used c.args.usage.now) (g.U.Space.live c.args.usage.now) o q) c.in-Some.is unreached in
-    let f = found_entry (g.C.CellRead.has c.args.cells.now) c.args.key.now o.1 c.get.result c.in-Some-get.field-0 (c.get.ensures.value o.1 (o.0, o.2.trie) o.3) c.in-Some-get.is in
-    c.delete_item.ensures.outside o.0 o.1 f.0 (delete_here g.C.CellRead.has c.args.cells.now c.get.new.cells c.cell-node.new.self c.cell-node.result c.get.ensures.same c.cell-node.ensures.same o.2 c.cell-node.ensures.value f.0 f.1 f.2) q x u o.4 (subst (λ s. g.C.CellRead.has s q x) (sym (c.cell-node.ensures.same ∙ c.get.ensures.same)) h)
+returns-in-Err-clause-refused g c version h = trie_later version c.args.root c.in-Some.ensures.same c.in-Err.ensures.refused c.in-Err.ensures.frame h

@@ -1,33 +1,74 @@
-use Rattle.std.proofs.Common.{arith}
-use Rattle.trie_write.proofs.DeleteLaws.{root_live, root_sits, top_shrinks, last_row, last_counts, last_goes}
+use Rattle.std.proofs.Common.{arith, sym, ◌∙◌, ap, subst}
+use Rattle.chunk_usage.specs.Rooms.{Account}
+use Rattle.trie_write.specs.Turns.{HasWay}
+use Rattle.trie_write.proofs.ReplaceLaws.{root_top}
+use Rattle.trie_write.proofs.RemoveLaws.{drop_asks, only_together, only_tree, only_top, only_live, only_gone}
+use Rattle.trie_write.proofs.SpaceLaws.{fenced_of, frame_refl, frame_counts, fenced_same, frame_same, refused_same, ready_counts, ready_put}
+use Rattle.trie_write.proofs.TurnLaws.{same_top}
 use Rattle.trie_write.proofs.deletion.delete_item.Goals as goal
 
-pub release-requires-clause-counted : goal.release-requires-clause-counted
-release-requires-clause-counted g c k = let l = root_live c.requires.asks.asks k in omega arith
+pub cell-node-requires : goal.cell-node-requires
+cell-node-requires g c = record { there = (_, c.requires.there.asks.stands.trie.top) }
 
-pub release_item-requires-clause-counted : goal.release_item-requires-clause-counted
-release_item-requires-clause-counted g c k =
-    let a = c.requires.asks.asks in
-    let x = last_counts a (c.in-Err.ensures.leaf 0 _ a.stands.trie.shape a.is) k in
-    let y = c.release.ensures.counts k in omega arith
+pub last_turn-requires : goal.last_turn-requires
+last_turn-requires g c = let h = c.requires.there.asks in
+    record { way = subst (λ s. HasWay (g.C.CellRead.has s) 65535 0 c.args.key.now c.cell-node.result) (sym c.cell-node.ensures.same) (record { way = h.way; end = _; top = root_top h c.cell-node.ensures.value; is_way = h.is_way }) }
 
-pub release_item-requires-clause-row : goal.release_item-requires-clause-row
-release_item-requires-clause-row g c = let a = c.requires.asks.asks in last_row a (c.in-Err.ensures.leaf 0 _ a.stands.trie.shape a.is)
+pub drop_leaf-requires-clause-there : goal.drop_leaf-requires-clause-there
+drop_leaf-requires-clause-there g c =
+    let h = c.requires.there.asks in let same = c.in-Some.ensures.same ∙ c.cell-node.ensures.same in
+    record { t = _; version = _; asks = drop_asks same h (c.in-Some.ensures.last h.way _ (same_top g.C.CellRead.has c.cell-node.ensures.same (root_top h c.cell-node.ensures.value)) h.is_way) }
 
-pub returns-in-Err-clause-stands : goal.returns-in-Err-clause-stands
-returns-in-Err-clause-stands g c t version gone a = last_goes a (c.in-Err.ensures.leaf 0 t a.stands.trie.shape a.is) (g.C.CellRead.has c.args.cells.now) (g.U.Space.used c.release_item.new.usage) c.release.ensures.counts c.release_item.ensures.counts
+pub let_go-requires-clause-counted : goal.let_go-requires-clause-counted
+let_go-requires-clause-counted g c k =
+    let h = c.requires.there.asks in
+    let alone = c.last_turn.ensures.none c.in-None.is h.way _ (same_top g.C.CellRead.has c.cell-node.ensures.same (root_top h c.cell-node.ensures.value)) h.is_way in
+    let l = only_live h alone (c.item_span.ensures h.entry h.first (only_tree h alone) (c.cell-node.ensures.value _ (only_top h alone))) k in omega arith
 
-pub shrink_top-requires-clause-asks : goal.shrink_top-requires-clause-asks
-shrink_top-requires-clause-asks g c = let a = c.requires.asks.asks in record { t = c.requires.asks.t; gone = c.requires.asks.gone; at = root_sits a (c.in-Ok.ensures.branch 0 _ a.stands.trie.shape a.is) }
+pub let_go-requires-clause-item : goal.let_go-requires-clause-item
+let_go-requires-clause-item g c =
+    let h = c.requires.there.asks in
+    let alone = c.last_turn.ensures.none c.in-None.is h.way _ (same_top g.C.CellRead.has c.cell-node.ensures.same (root_top h c.cell-node.ensures.value)) h.is_way in
+    only_together h alone (c.item_span.ensures h.entry h.first (only_tree h alone) (c.cell-node.ensures.value _ (only_top h alone)))
 
-pub returns-in-Ok-shrink_top-clause-stands : goal.returns-in-Ok-shrink_top-clause-stands
-returns-in-Ok-shrink_top-clause-stands g c t version gone a = top_shrinks a (c.in-Ok-shrink_top.ensures.shrunk t gone (root_sits a (c.in-Ok.ensures.branch 0 t a.stands.trie.shape a.is)))
+pub returns-in-None : goal.returns-in-None
+returns-in-None g c =
+    let same = c.last_turn.ensures.same ∙ c.cell-node.ensures.same in
+    let spent = ap (λ (z : Account). z.spent) c.let_go.ensures.rest in
+    record {
+      stands = λ t version h.
+          let alone = c.last_turn.ensures.none c.in-None.is h.way _ (same_top g.C.CellRead.has c.cell-node.ensures.same (root_top h c.cell-node.ensures.value)) h.is_way in
+          only_gone h alone (c.item_span.ensures h.entry h.first (only_tree h alone) (c.cell-node.ensures.value _ (only_top h alone))) c.let_go.ensures.counts;
+      outside = λ t version h q x used out there. subst (λ s. g.C.CellRead.has s q x) (sym same) there;
+      spends = λ t version h. omega arith;
+      copies = λ t version h. omega arith;
+      refused = tt;
+      frame = fenced_of (frame_counts (frame_same same (frame_refl _ _)) c.let_go.ensures.rest);
+      ready = ready_counts c.let_go.ensures.rest (ready_put c.requires.ready (ap g.C.CellWrite.given same) (ap g.C.CellWrite.kept same));
+    }
 
-pub returns-in-Ok-shrink_top-clause-outside : goal.returns-in-Ok-shrink_top-clause-outside
-returns-in-Ok-shrink_top-clause-outside g c t version gone a = c.shrink_top.ensures.outside t gone (root_sits a (c.in-Ok.ensures.branch 0 t a.stands.trie.shape a.is))
+pub returns-in-Ok : goal.returns-in-Ok
+returns-in-Ok g c =
+    let same = c.in-Some.ensures.same ∙ c.cell-node.ensures.same in
+    record {
+      stands = λ t version h. c.in-Ok.ensures.stands t version (drop_asks (c.in-Some.ensures.same ∙ c.cell-node.ensures.same) h (c.in-Some.ensures.last h.way _ (same_top g.C.CellRead.has c.cell-node.ensures.same (root_top h c.cell-node.ensures.value)) h.is_way));
+      outside = λ t version h q x used out there. c.drop_leaf.ensures.outside t version (drop_asks (c.in-Some.ensures.same ∙ c.cell-node.ensures.same) h (c.in-Some.ensures.last h.way _ (same_top g.C.CellRead.has c.cell-node.ensures.same (root_top h c.cell-node.ensures.value)) h.is_way)) q x used out (subst (λ s. g.C.CellRead.has s q x) (sym same) there);
+      spends = λ t version h. c.drop_leaf.ensures.spends t version (drop_asks (c.in-Some.ensures.same ∙ c.cell-node.ensures.same) h (c.in-Some.ensures.last h.way _ (same_top g.C.CellRead.has c.cell-node.ensures.same (root_top h c.cell-node.ensures.value)) h.is_way));
+      copies = λ t version h. c.drop_leaf.ensures.copies t version (drop_asks (c.in-Some.ensures.same ∙ c.cell-node.ensures.same) h (c.in-Some.ensures.last h.way _ (same_top g.C.CellRead.has c.cell-node.ensures.same (root_top h c.cell-node.ensures.value)) h.is_way));
+      refused = tt;
+      frame = fenced_same same c.drop_leaf.ensures.frame;
+      ready = c.drop_leaf.ensures.ready;
+    }
 
-pub returns-in-Ok-shrink_top-clause-spends : goal.returns-in-Ok-shrink_top-clause-spends
-returns-in-Ok-shrink_top-clause-spends g c t version gone a = c.shrink_top.ensures.spends t gone (root_sits a (c.in-Ok.ensures.branch 0 t a.stands.trie.shape a.is))
-
-pub returns-in-Err-shrink_top-clause-spends : goal.returns-in-Err-shrink_top-clause-spends
-returns-in-Err-shrink_top-clause-spends g c t version gone a = c.shrink_top.ensures.spends t gone (root_sits a (c.in-Ok.ensures.branch 0 t a.stands.trie.shape a.is))
+pub returns-in-Err : goal.returns-in-Err
+returns-in-Err g c =
+    let same = c.in-Some.ensures.same ∙ c.cell-node.ensures.same in
+    record {
+      stands = tt;
+      outside = λ t version h q x used out there. c.drop_leaf.ensures.outside t version (drop_asks (c.in-Some.ensures.same ∙ c.cell-node.ensures.same) h (c.in-Some.ensures.last h.way _ (same_top g.C.CellRead.has c.cell-node.ensures.same (root_top h c.cell-node.ensures.value)) h.is_way)) q x used out (subst (λ s. g.C.CellRead.has s q x) (sym same) there);
+      spends = λ t version h. c.drop_leaf.ensures.spends t version (drop_asks (c.in-Some.ensures.same ∙ c.cell-node.ensures.same) h (c.in-Some.ensures.last h.way _ (same_top g.C.CellRead.has c.cell-node.ensures.same (root_top h c.cell-node.ensures.value)) h.is_way));
+      copies = λ t version h. c.drop_leaf.ensures.copies t version (drop_asks (c.in-Some.ensures.same ∙ c.cell-node.ensures.same) h (c.in-Some.ensures.last h.way _ (same_top g.C.CellRead.has c.cell-node.ensures.same (root_top h c.cell-node.ensures.value)) h.is_way));
+      refused = refused_same same c.in-Err.ensures.refused;
+      frame = fenced_same same c.drop_leaf.ensures.frame;
+      ready = c.drop_leaf.ensures.ready;
+    }

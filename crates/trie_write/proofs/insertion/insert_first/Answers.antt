@@ -1,16 +1,14 @@
-use Rattle.std.proofs.Common.{ℕ, ◌+◌, List, length, refl, sym, ◌∙◌, ap, subst}
-use Rattle.trie_model.specs.Memory.{ItemLies}
-use Rattle.trie_model.specs.Reach.{row, in_chunk}
-use Rattle.trie_model.specs.Trees.{cells_in}
-use Rattle.chunk_usage.specs.Rooms.{Room}
-use Rattle.trie_write.proofs.BuildLaws.{leaf_built, root_stands}
+use Rattle.std.proofs.Common.{◌≡◌, Contains, ℕ, ◌+◌, arith, subst}
+use Rattle.trie_write.proofs.InsertLaws.{first_stands}
+use Rattle.trie_write.proofs.SpaceLaws.{frame_then, frame_refl, frame_wrote, wrote_one}
 use Rattle.trie_write.proofs.insertion.insert_first.Goals as goal
 
 pub returns-in-Ok-clause-stands : goal.returns-in-Ok-clause-stands
 returns-in-Ok-clause-stands g c e is same =
-    let leaf = c.in_ok-leaf.leaf in
-    let built = leaf_built {has = g.C.CellRead.has c.place_item.new.cells} {live = g.U.Space.live c.args.usage.now} {live_new = g.U.Space.live c.place_item.new.usage} {l = c.in_ok-leaf.leaf} {cell = c.pack.result} e is (c.in_ok-leaf.ensures.len ∙ ap (λ (xs : List ℕ). length xs) (sym same))
-    (subst (λ (xs : List ℕ). Room (g.U.Space.used c.args.usage.now) (g.U.Space.used c.place_item.new.usage) (g.U.Space.fresh c.place_item.new.usage) (g.C.CellWrite.given c.place_item.new.cells) c.in_ok-leaf.leaf.at (cells_in xs)) (sym same) c.in_ok-leaf.ensures.room)
-    c.in_ok-leaf.ensures.frame.grows.stays (subst (ItemLies (g.C.CellRead.has c.place_item.new.cells) c.in_ok-leaf.leaf.at) (sym same) c.in_ok-leaf.ensures.lies)
-    (λ k. c.in_ok-leaf.ensures.counts k ∙ ap (λ (xs : List ℕ). g.U.Space.live c.args.usage.now k + row (in_chunk k) c.in_ok-leaf.leaf.at (cells_in xs)) (sym same)) c.pack.ensures in
-    root_stands c.requires.uncounted built c.in-Ok.ensures.room c.in-Ok.ensures.frame.stays c.in-Ok.ensures.frame.grows.stays (c.in-Ok.ensures.written 0 c.pack.result refl) c.in-Ok.ensures.counts
+    first_stands e is same c.requires.uncounted c.in_ok-leaf.ensures.len c.in_ok-leaf.ensures.handed c.in_ok-leaf.ensures.lies c.in_ok-leaf.ensures.frame c.in-Ok.ensures.handed c.in-Ok.ensures.frame c.pack.ensures c.put.ensures.written c.put.ensures.others
+
+pub put-requires-clause-unkept : goal.put-requires-clause-unkept
+put-requires-clause-unkept g c = let e : c.in-Ok.root + 0 ≡ c.in-Ok.root = omega arith in subst (λ (q : ℕ). Contains (g.C.CellWrite.kept c.room_for.new.cells) q → ⊥) e (c.in-Ok.ensures.blank.unkept 0 (omega arith))
+
+pub returns-in-Ok-clause-frame : goal.returns-in-Ok-clause-frame
+returns-in-Ok-clause-frame g c = frame_then c.in_ok-leaf.ensures.frame (frame_wrote c.in-Ok.ensures.handed c.in-Ok.ensures.frame (frame_refl _ _) (wrote_one c.in-Ok.root 0 (omega arith) (omega arith) c.put.ensures.others c.put.ensures.given c.put.ensures.kept))

@@ -1,32 +1,37 @@
-use Rattle.std.proofs.Common.{ℕ, ◌+◌, List, ◌∙◌, ap, subst, arith}
-use Rattle.trie_model.specs.Changes.{Inserted}
-use Rattle.trie_model.specs.Keys.{Entry}
-use Rattle.trie_model.specs.Reach.{row, in_chunk}
-use Rattle.trie_model.specs.Trees.{entries_of, cells_in}
-use Rattle.trie_write.proofs.RootLaws.{top_sits, item_fresh}
-use Rattle.trie_write.proofs.SeatLaws.{rerooted_stands}
+use Rattle.std.proofs.Common.{arith}
+use Rattle.trie_write.proofs.ChangeLaws.{put_asks, refused_back, outside_put}
+use Rattle.trie_write.proofs.InsertLaws.{lacks_path, inserted}
+use Rattle.trie_write.proofs.PathLaws.{copied_way, copied_most}
+use Rattle.trie_write.proofs.SpaceLaws.{fenced_of, fenced_then, ok_map, err_map}
 use Rattle.trie_write.proofs.insertion.insert_further.Goals as goal
 
-pub grow_top-requires-clause-asks : goal.grow_top-requires-clause-asks
-grow_top-requires-clause-asks g c = let asks = c.requires.asks.1.asks in record { t = c.requires.asks.1.t; e = c.requires.asks.0; at = (top_sits asks c.in_ok-leaf.ensures.len c.in_ok-leaf.ensures.room c.in_ok-leaf.ensures.lies c.in_ok-leaf.ensures.frame.stays c.in_ok-leaf.ensures.frame.grows.stays c.in_ok-leaf.ensures.counts) }
+pub put_change-requires-clause-asks : goal.put_change-requires-clause-asks
+put_change-requires-clause-asks g c =
+    let h = c.requires.missing.asks in let w = c.in_ok-change.ensures.with _ _ h in
+    record { way = h.way; end = h.end; u = w.new; asks = put_asks h.stands h.way h.end h.is h.is_way c.in_ok-change.ensures.frame c.in_ok-change.ensures.taken w.makes }
 
-pub returns-in-Ok-clause-stands : goal.returns-in-Ok-clause-stands
-returns-in-Ok-clause-stands g c e t version asks =
-    let made = c.in-Ok.ensures.grew t e (top_sits asks c.in_ok-leaf.ensures.len c.in_ok-leaf.ensures.room c.in_ok-leaf.ensures.lies c.in_ok-leaf.ensures.frame.stays c.in_ok-leaf.ensures.frame.grows.stays c.in_ok-leaf.ensures.counts) in (
-      entries_of made.new,
-      subst (λ (old : List Entry). Inserted e old (entries_of made.new)) asks.stands.trie.holds made.grown.put,
-      (
-        made.new,
-        rerooted_stands asks.stands made.grown.tree c.in_ok-leaf.ensures.frame.grows.stays (item_fresh c.in_ok-leaf.leaf e.item asks.item_is c.in_ok-leaf.ensures.room c.in_ok-leaf.ensures.frame.grows.stays)
-            (λ k. c.in_ok-leaf.ensures.counts k ∙ ap (λ (xs : List ℕ). g.U.Space.live c.args.usage.now k + row (in_chunk k) c.in_ok-leaf.leaf.at (cells_in xs)) asks.item_is) made.rerooted,
-      ),
-    )
+pub returns-in_err-change-clause-spends : goal.returns-in_err-change-clause-spends
+returns-in_err-change-clause-spends g c t version h = let s = c.new_leaf.ensures.spends t version h in let p = lacks_path h in omega arith
 
-pub returns-in-Ok-clause-outside : goal.returns-in-Ok-clause-outside
-returns-in-Ok-clause-outside g c e t version asks q x u out h = c.grow_top.ensures.outside t e (top_sits asks c.in_ok-leaf.ensures.len c.in_ok-leaf.ensures.room c.in_ok-leaf.ensures.lies c.in_ok-leaf.ensures.frame.stays c.in_ok-leaf.ensures.frame.grows.stays c.in_ok-leaf.ensures.counts) q x (c.in_ok-leaf.ensures.frame.grows.stays q u) out (c.in_ok-leaf.ensures.frame.stays q x u h)
+pub returns-in_err-change-clause-copies : goal.returns-in_err-change-clause-copies
+returns-in_err-change-clause-copies g c t version h = let s = c.new_leaf.ensures.copies in omega arith
 
-pub returns-in-Ok-clause-spends : goal.returns-in-Ok-clause-spends
-returns-in-Ok-clause-spends g c e t version asks = let s = c.grow_top.ensures.spends t e (top_sits asks c.in_ok-leaf.ensures.len c.in_ok-leaf.ensures.room c.in_ok-leaf.ensures.lies c.in_ok-leaf.ensures.frame.stays c.in_ok-leaf.ensures.frame.grows.stays c.in_ok-leaf.ensures.counts) in let r = c.place_item.ensures.spends in omega arith
-
-pub returns-in-Err-clause-spends : goal.returns-in-Err-clause-spends
-returns-in-Err-clause-spends g c e t version asks = let s = c.grow_top.ensures.spends t e (top_sits asks c.in_ok-leaf.ensures.len c.in_ok-leaf.ensures.room c.in_ok-leaf.ensures.lies c.in_ok-leaf.ensures.frame.stays c.in_ok-leaf.ensures.frame.grows.stays c.in_ok-leaf.ensures.counts) in let r = c.place_item.ensures.spends in let m = c.release.ensures.spent in omega arith
+pub returns : goal.returns
+returns g c = record {
+  stands = ok_map c.put_change.result (λ new put t version h. let w = c.in_ok-change.ensures.with t version h in
+      inserted h w (put h.way h.end w.new (put_asks h.stands h.way h.end h.is h.is_way c.in_ok-change.ensures.frame c.in_ok-change.ensures.taken w.makes))) c.put_change.ensures.put;
+  outside = λ t version h. let w = c.in_ok-change.ensures.with t version h in
+      outside_put c.args.root h.way h.end c.in_ok-change.ensures.frame
+      (c.put_change.ensures.outside h.way h.end w.new (put_asks h.stands h.way h.end h.is h.is_way c.in_ok-change.ensures.frame c.in_ok-change.ensures.taken w.makes)) h.is;
+  spends = λ t version h. let w = c.in_ok-change.ensures.with t version h in
+      let s = c.new_leaf.ensures.spends t version h in
+      let p = c.put_change.ensures.spends h.way h.end w.new (put_asks h.stands h.way h.end h.is h.is_way c.in_ok-change.ensures.frame c.in_ok-change.ensures.taken w.makes) in
+      let m = copied_most (g.U.Space.account c.new_leaf.new.usage).mutable 1 c.args.root h.way in let q = lacks_path h in omega arith;
+  copies = λ t version h. let w = c.in_ok-change.ensures.with t version h in
+      let s = c.new_leaf.ensures.copies in
+      let p = c.put_change.ensures.spends h.way h.end w.new (put_asks h.stands h.way h.end h.is h.is_way c.in_ok-change.ensures.frame c.in_ok-change.ensures.taken w.makes) in
+      let v = copied_way (g.U.Space.account c.args.usage.now).mutable (g.U.Space.account c.new_leaf.new.usage).mutable c.args.first.place c.args.key.now c.args.root t h.way h.end h.stands.trie.shape h.is h.is_way.along c.in_ok-change.ensures.frame.grows.fresher in omega arith;
+  refused = err_map c.put_change.result (λ full b. refused_back c.in_ok-change.ensures.frame c.in_ok-change.ensures.taken b) c.put_change.ensures.refused;
+  frame = fenced_then (fenced_of c.in_ok-change.ensures.frame) c.put_change.ensures.frame;
+  ready = c.put_change.ensures.ready;
+}

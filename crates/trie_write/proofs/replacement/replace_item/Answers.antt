@@ -1,33 +1,32 @@
-use Rattle.std.proofs.Common.{ℕ, ◌+◌, List, ◌∙◌, ap, subst, arith}
-use Rattle.trie_write.specs.Exchanges.{Exchanged}
-use Rattle.trie_model.specs.Keys.{Entry}
-use Rattle.trie_model.specs.Reach.{row, in_chunk}
-use Rattle.trie_model.specs.Trees.{entries_of, cells_in}
-use Rattle.trie_write.proofs.RootLaws.{item_fresh}
-use Rattle.trie_write.proofs.SeatLaws.{rerooted_stands}
-use Rattle.trie_write.proofs.ExchangeLaws.{replace_sits}
+use Rattle.std.proofs.Common.{w8, arith}
+use Rattle.std.proofs.Math.Facts.{Fits-lt-pow}
+use Rattle.trie_model.specs.Trees.Tree.{leaf}
+use Rattle.trie_write.proofs.ChangeLaws.{put_asks, refused_back, outside_put}
+use Rattle.trie_write.proofs.PathLaws.{copied_way}
+use Rattle.trie_write.proofs.RootLaws.{leads_entry}
+use Rattle.trie_write.proofs.ReplaceLaws.{replaced}
+use Rattle.trie_write.proofs.SpaceLaws.{fenced_of, fenced_then, ok_map, err_map}
 use Rattle.trie_write.proofs.replacement.replace_item.Goals as goal
 
-pub exchange_top-requires-clause-asks : goal.exchange_top-requires-clause-asks
-exchange_top-requires-clause-asks g c = let asks = c.requires.asks.1.asks in record { t = c.requires.asks.1.t; e = c.requires.asks.0; at = (replace_sits asks c.in_ok-leaf.ensures.len c.in_ok-leaf.ensures.room c.in_ok-leaf.ensures.lies c.in_ok-leaf.ensures.frame.stays c.in_ok-leaf.ensures.frame.grows.stays c.in_ok-leaf.ensures.counts) }
+pub put_change-requires-clause-asks : goal.put_change-requires-clause-asks
+put_change-requires-clause-asks g c =
+    let h = c.requires.there.asks in
+    record { way = h.way; end = leaf h.entry h.first; u = _; asks = put_asks h.stands h.way (leaf h.entry h.first) h.is h.is_way c.in_ok-change.ensures.frame c.in_ok-change.ensures.taken (c.in_ok-change.ensures.makes _ _ h) }
 
-pub returns-in-Ok-clause-stands : goal.returns-in-Ok-clause-stands
-returns-in-Ok-clause-stands g c e t version asks =
-    let made = c.in-Ok.ensures.exchanged t e (replace_sits asks c.in_ok-leaf.ensures.len c.in_ok-leaf.ensures.room c.in_ok-leaf.ensures.lies c.in_ok-leaf.ensures.frame.stays c.in_ok-leaf.ensures.frame.grows.stays c.in_ok-leaf.ensures.counts) in (
-      entries_of made.new,
-      subst (λ (old : List Entry). Exchanged e old (entries_of made.new)) asks.stands.trie.holds made.change.exchanged,
-      (
-        made.new,
-        rerooted_stands asks.stands made.change.tree c.in_ok-leaf.ensures.frame.grows.stays (item_fresh c.in_ok-leaf.leaf e.item asks.item_is c.in_ok-leaf.ensures.room c.in_ok-leaf.ensures.frame.grows.stays)
-            (λ k. c.in_ok-leaf.ensures.counts k ∙ ap (λ (xs : List ℕ). g.U.Space.live c.args.usage.now k + row (in_chunk k) c.in_ok-leaf.leaf.at (cells_in xs)) asks.item_is) made.rerooted,
-      ),
-    )
+pub returns-in_err-change-clause-copies : goal.returns-in_err-change-clause-copies
+returns-in_err-change-clause-copies g c t version h = let s = c.other_leaf.ensures.spends in omega arith
 
-pub returns-in-Ok-clause-outside : goal.returns-in-Ok-clause-outside
-returns-in-Ok-clause-outside g c e t version asks q x u out h = c.exchange_top.ensures.outside t e (replace_sits asks c.in_ok-leaf.ensures.len c.in_ok-leaf.ensures.room c.in_ok-leaf.ensures.lies c.in_ok-leaf.ensures.frame.stays c.in_ok-leaf.ensures.frame.grows.stays c.in_ok-leaf.ensures.counts) q x (c.in_ok-leaf.ensures.frame.grows.stays q u) out (c.in_ok-leaf.ensures.frame.stays q x u h)
-
-pub returns-in-Ok-clause-spends : goal.returns-in-Ok-clause-spends
-returns-in-Ok-clause-spends g c e t version asks = let s = c.exchange_top.ensures.spends t e (replace_sits asks c.in_ok-leaf.ensures.len c.in_ok-leaf.ensures.room c.in_ok-leaf.ensures.lies c.in_ok-leaf.ensures.frame.stays c.in_ok-leaf.ensures.frame.grows.stays c.in_ok-leaf.ensures.counts) in let r = c.place_item.ensures.spends in omega arith
-
-pub returns-in-Err-clause-spends : goal.returns-in-Err-clause-spends
-returns-in-Err-clause-spends g c e t version asks = let s = c.exchange_top.ensures.spends t e (replace_sits asks c.in_ok-leaf.ensures.len c.in_ok-leaf.ensures.room c.in_ok-leaf.ensures.lies c.in_ok-leaf.ensures.frame.stays c.in_ok-leaf.ensures.frame.grows.stays c.in_ok-leaf.ensures.counts) in let r = c.place_item.ensures.spends in let m = c.release.ensures.spent in omega arith
+pub returns : goal.returns
+returns g c = record {
+  stands = ok_map c.put_change.result (λ new put t version h. replaced h (leads_entry c.requires.leads (λ i. Fits-lt-pow {w = w8} (c.type_inv.item i))) c.in_ok-change.ensures.row
+      (put h.way _ _ (put_asks h.stands h.way (leaf h.entry h.first) h.is h.is_way c.in_ok-change.ensures.frame c.in_ok-change.ensures.taken (c.in_ok-change.ensures.makes t version h)))) c.put_change.ensures.put;
+  outside = λ t version h. outside_put c.args.root h.way (leaf h.entry h.first) c.in_ok-change.ensures.frame
+      (c.put_change.ensures.outside h.way _ _ (put_asks h.stands h.way (leaf h.entry h.first) h.is h.is_way c.in_ok-change.ensures.frame c.in_ok-change.ensures.taken (c.in_ok-change.ensures.makes t version h))) h.is;
+  copies = λ t version h.
+      let s = c.other_leaf.ensures.spends in
+      let p = c.put_change.ensures.spends h.way _ _ (put_asks h.stands h.way (leaf h.entry h.first) h.is h.is_way c.in_ok-change.ensures.frame c.in_ok-change.ensures.taken (c.in_ok-change.ensures.makes t version h)) in
+      let w = copied_way (g.U.Space.account c.args.usage.now).mutable (g.U.Space.account c.other_leaf.new.usage).mutable 65535 c.args.key.now c.args.root t h.way (leaf h.entry h.first) h.stands.trie.shape h.is h.is_way.along c.in_ok-change.ensures.frame.grows.fresher in omega arith;
+  refused = err_map c.put_change.result (λ full b. refused_back c.in_ok-change.ensures.frame c.in_ok-change.ensures.taken b) c.put_change.ensures.refused;
+  frame = fenced_then (fenced_of c.in_ok-change.ensures.frame) c.put_change.ensures.frame;
+  ready = c.put_change.ensures.ready;
+}

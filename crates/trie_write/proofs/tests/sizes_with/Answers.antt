@@ -1,7 +1,7 @@
 use Rattle.std.proofs.Common.{List, ℕ, sym, ◌∙◌, subst}
 use Rattle.trie_model.specs.Memory.{Stands}
 use Rattle.zone_model.specs.Keys.{Leads}
-use Rattle.chunk_usage.specs.Rooms.{Ready}
+use Rattle.trie_write.specs.Spaces.{Ready}
 use Rattle.trie_write.specs.Entries.{entry_of, entries_of_items}
 use Rattle.trie_write.specs.Standing.{Standing}
 use Rattle.trie_write.proofs.RunLaws.{items_tell}
@@ -23,12 +23,12 @@ pub replace-requires-clause-stands : goal.replace-requires-clause-stands
 replace-requires-clause-stands g c =
     let s = c.in_ok-root-in-Ok.ensures.stands in
     let same = c.nodes-all.ensures.same ∙ c.count-names.ensures.same in
-    (s.0, subst (λ z. Standing (g.C.CellRead.has z) (g.U.Space.used c.put.new.usage) (g.U.Space.live c.put.new.usage) c.in_ok-root-in-Ok.root s.0) (sym same) s.1, s.2)
+    (s.0, subst (λ z. Standing (g.C.CellRead.has z) ((g.U.Space.account c.put.new.usage).used) ((g.U.Space.account c.put.new.usage).live) c.in_ok-root-in-Ok.root s.0) (sym same) s.1, s.2)
 
 pub replace-requires-clause-ready : goal.replace-requires-clause-ready
 replace-requires-clause-ready g c =
     let same = c.nodes-all.ensures.same ∙ c.count-names.ensures.same in
-    subst (λ z. Ready (g.C.CellWrite.kept z) (g.C.CellWrite.given z) (g.U.Space.given c.put.new.usage) (g.U.Space.used c.put.new.usage) (g.U.Space.fresh c.put.new.usage)) (sym same) c.in_ok-root-in-Ok.ensures.ready
+    subst (λ z. Ready g.C.CellWrite.kept g.C.CellWrite.given g.U.Space.account z c.put.new.usage) (sym same) c.in_ok-root-in-Ok.ensures.ready
 
 pub replace-requires-clause-leads : goal.replace-requires-clause-leads
 replace-requires-clause-leads g c = subst (λ (key : List ℕ). Leads key c.octets.result.now) (sym c.key.ensures) (subst (λ (item : List ℕ). Leads (entry_of c.args.item.now).key item) (sym c.octets.ensures.octets) c.octets.ensures.leads)

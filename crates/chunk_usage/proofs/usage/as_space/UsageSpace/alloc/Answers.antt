@@ -13,8 +13,8 @@ returns-clause-gives c = (hands c).gives
 pub returns-clause-grows : goal.returns-clause-grows
 returns-clause-grows c = (hands c).grows
 
-pub returns-clause-counts : goal.returns-clause-counts
-returns-clause-counts c = (hands c).counts
+pub returns-clause-handed : goal.returns-clause-handed
+returns-clause-handed c = (hands c).handed
 
 pub returns-clause-spends : goal.returns-clause-spends
 returns-clause-spends c = (hands c).spends

@@ -1,0 +1,133 @@
+-- A leaf taken out below a root that stands.
+use Rattle.std.proofs.Common.{◌≡◌, ℕ, suc, ◌+◌, ◌%◌, ◌≤◌, ◌++◌, List, [], ◌∷◌, append_assoc, count_ones, arith, inl, inr, refl, sym, ◌∙◌, ap, subst}
+use Rattle.packed_node.specs.declared.Cell.{Cell}
+use Rattle.trie_model.specs.Changes.{Removed}
+use Rattle.trie_model.specs.Keys.{Entry, InList}
+use Rattle.trie_model.specs.Memory.{top_cell}
+use Rattle.trie_model.specs.Reach.{row, in_chunk, weigh_tree}
+use Rattle.trie_model.specs.Trees.{Tree, entries_of, cells_in, IsTree}
+use Rattle.trie_model.specs.Trees.Tree.{leaf}
+use Rattle.trie_model.proofs.DropLaws.{higher}
+use Rattle.trie_model.proofs.KeyLaws.{in_left, in_right, in_both}
+use Rattle.trie_model.proofs.ReachLaws.{live_is}
+use Rattle.chunk_usage.specs.Rooms.{Account}
+use Rattle.trie_write.specs.declared.change.Change.{Change}
+use Rattle.trie_write.specs.declared.change.Span.{Span}
+use Rattle.trie_write.specs.declared.turn.Turn.{Turn}
+use Rattle.trie_write.specs.Asks.{HasKey}
+use Rattle.trie_write.specs.Deletions.{Deleted, LeafTurn, IsWithout, DropAsks}
+use Rattle.trie_write.specs.Mutable.{Rooted}
+use Rattle.trie_write.specs.Paths.{twigs_on_path}
+use Rattle.trie_write.specs.Puts.{span, IsPut, no_spare}
+use Rattle.trie_write.specs.Standing.{StandsIn}
+use Rattle.trie_write.specs.Turns.{IsLastTurn}
+use Rattle.trie_write.specs.Tops.{NotBefore}
+use Rattle.trie_write.specs.Ways.{Fork, fork, plug, Along, IsWay, twigs_along}
+use Rattle.trie_write.proofs.ChangeLaws.{stands_rooted, entries_before, put_stands}
+use Rattle.trie_write.proofs.PathLaws.{path_plug}
+use Rattle.trie_write.proofs.PutLaws.{plug-append, along_parts, end_hangs}
+use Rattle.trie_write.proofs.WayLaws.{Follows, low_at, is_fork, end_tree, low_rises, before, after, entries_plug}
+use Rattle.trie_write.proofs.WithoutLaws.{last_is, last_along}
+
+-- offsets rise, so those of a way are before that of the branch at its end
+along_before : (place low : ℕ) (key : List ℕ) (way : List Fork) (f : Fork) (x : Tree) → IsTree low (plug way (fork f x)) → Along place key way → Along f.offset key way
+along_before place low key [] f x h a = tt
+along_before place low key (g ∷ way) f x h a =
+    let k = is_fork low g (plug way (fork f x)) h in
+    let late = low_rises (suc g.offset) way (fork f x) k.tree in
+    let deep = (is_fork (low_at (suc g.offset) way) f x (end_tree (suc g.offset) way (fork f x) k.tree)).late in
+    (omega arith, a.1, along_before place (suc g.offset) key way f x k.tree a.2)
+
+module _ {S A : Type 0} {has : S → ℕ → Cell → Type 0} {account : A → Account} {s : S} {a : A} {r : ℕ} {key : List ℕ} {turn : Turn} {t : Tree} {version : List Entry} (d : DropAsks has account s a r key turn t version) where
+  abbrev key_leaf : Tree
+  key_leaf = leaf d.there.entry d.there.first
+
+  pub parts_is : t ≡ plug d.last.upper (plug d.last.lower key_leaf)
+  parts_is = d.there.is ∙ ap (λ w. plug w key_leaf) d.last.whole ∙ plug-append d.last.upper d.last.lower key_leaf
+
+  parts_tree : IsTree 0 (plug d.last.upper (plug d.last.lower key_leaf))
+  parts_tree = subst (IsTree 0) parts_is d.there.stands.trie.shape
+
+  parts_along : Along 65535 key d.last.upper × Along 65535 key d.last.lower
+  parts_along = along_parts 65535 key d.last.upper d.last.lower (subst (Along 65535 key) d.last.whole d.there.is_way.along)
+
+  lower_tree : IsTree 0 (plug d.last.lower key_leaf)
+  lower_tree = higher (low_at 0 d.last.upper) 0 (plug d.last.lower key_leaf) (end_tree 0 d.last.upper (plug d.last.lower key_leaf) parts_tree) (omega arith)
+
+  -- its branch hangs there
+  pub leaf_turn : LeafTurn has account s a key turn d.last.lower d.there.entry d.there.first
+  leaf_turn = record {
+    asks = record {
+      hangs = end_hangs d.last.upper (plug d.last.lower key_leaf) (subst (Rooted has account s a no_spare r) parts_is (stands_rooted has account s a d.there.stands)) lower_tree;
+      is_way = record { along = parts_along.1; ends = d.there.is_way.ends };
+    };
+    turn = d.last.turn;
+    alone = d.last.alone;
+  }
+
+  pub upper_way : IsWay turn.branch.offset key d.last.upper (plug d.last.lower key_leaf)
+  upper_way = record {
+    along = along_before 65535 0 key d.last.upper _ key_leaf (subst (λ z. IsTree 0 (plug d.last.upper z)) (last_is leaf_turn) parts_tree) parts_along.0;
+    ends = subst (NotBefore turn.branch.offset) (sym (last_is leaf_turn)) (omega arith);
+  }
+
+  -- the path has the twigs of both parts
+  pub path_parts : twigs_on_path key t ≡ twigs_along d.last.upper + count_ones turn.branch.bitmap
+  path_parts =
+      let u = path_plug 65535 0 key d.last.upper (plug d.last.lower key_leaf) parts_tree parts_along.0 in
+      let l = path_plug 65535 0 key d.last.lower key_leaf lower_tree parts_along.1 in
+      let n = last_along leaf_turn in
+      let p = ap (twigs_on_path key) parts_is in omega arith
+
+  pub removed : {s1 s2 : S} {a2 : A} {c : Change} {root : ℕ} (w : IsWithout has s1 c d.there.entry (plug d.last.lower key_leaf)) → IsPut has account s2 a2 turn.branch.offset key d.last.upper (plug d.last.lower key_leaf) w.new root →
+      (next : List Entry) × Deleted key version next × ((u : Tree) × StandsIn (has s2) (account a2).used (account a2).live root u next)
+  removed w p =
+      let x = w.shrunk (low_at 0 p.copy) (end_tree 0 p.copy (plug d.last.lower key_leaf) p.tree) in (
+        entries_of (plug p.copy w.new),
+        record {
+          gone = d.there.entry;
+          removed = record {
+            before = before p.copy ++ x.removed.before;
+            after = x.removed.after ++ after p.copy;
+            old_is = sym d.there.stands.trie.holds ∙ ap entries_of parts_is ∙ entries_before p ∙ joined (entries_of (plug d.last.lower key_leaf)) x.removed.before (d.there.entry ∷ x.removed.after) x.removed.old_is;
+            new_is = entries_plug p.copy w.new ∙ joined (entries_of w.new) x.removed.before x.removed.after x.removed.new_is;
+          };
+          same_key = d.there.same_key;
+        },
+        (plug p.copy w.new, put_stands p x.tree (follows x.removed)),
+      )
+    where
+      joined : (es ys zs : List Entry) → es ≡ ys ++ zs → before p.copy ++ (es ++ after p.copy) ≡ (before p.copy ++ ys) ++ (zs ++ after p.copy)
+      joined es ys zs e = ap (λ (x : List Entry). before p.copy ++ (x ++ after p.copy)) e ∙ ap (λ (x : List Entry). before p.copy ++ x) (append_assoc ys zs (after p.copy)) ∙ sym (append_assoc (before p.copy) ys (zs ++ after p.copy))
+
+      follows : {n : ℕ} {es fs : List Entry} → Removed d.there.entry es fs → Follows n es fs
+      follows {n} {es} {fs} q x i = (x, subst (InList x) (sym q.old_is) (elim (in_both x q.before q.after (subst (InList x) q.new_is i)) [ inl l ↦ in_left x q.before (d.there.entry ∷ q.after) l | inr r ↦ in_right x q.before (d.there.entry ∷ q.after) (inr r) ]), λ j k. refl)
+
+-- the turn that was found
+pub drop_asks : {S A : Type 0} {has : S → ℕ → Cell → Type 0} {account : A → Account} {s s1 : S} {a : A} {r : ℕ} {key : List ℕ} {turn : Turn} {t : Tree} {version : List Entry} → s1 ≡ s → (h : HasKey has account s a r key t version) → IsLastTurn turn h.way (leaf h.entry h.first) → DropAsks has account s1 a r key turn t version
+drop_asks {has = has} {account} {a = a} {r} {key} {turn} {t} {version} same h last = subst (λ s. DropAsks has account s a r key turn t version) (sym same) (record { there = h; last = last })
+
+-- ---- the only name
+
+module _ {S A : Type 0} {has : S → ℕ → Cell → Type 0} {account : A → Account} {s : S} {a : A} {r : ℕ} {key : List ℕ} {t : Tree} {version : List Entry} (h : HasKey has account s a r key t version) (alone : h.way ≡ []) where
+  only_is : t ≡ leaf h.entry h.first
+  only_is = h.is ∙ ap (λ w. plug w (leaf h.entry h.first)) alone
+
+  pub only_tree : IsTree 0 (leaf h.entry h.first)
+  only_tree = subst (IsTree 0) only_is h.stands.trie.shape
+
+  pub only_top : has s r (top_cell (leaf h.entry h.first))
+  only_top = subst (λ z. has s r (top_cell z)) only_is h.stands.trie.top
+
+  pub only_together : {item : Span} → item ≡ record { at = h.first; n = cells_in h.entry.item } → item.at % 1024 + item.n ≤ 1024
+  only_together e = subst (λ (x : Span). x.at % 1024 + x.n ≤ 1024) (sym e) only_tree.1.together
+
+  pub only_live : {item : Span} → item ≡ record { at = h.first; n = cells_in h.entry.item } → (k : ℕ) → (account a).live k ≡ row (in_chunk k) r 1 + span item (in_chunk k)
+  only_live {item} e k = let c = h.stands.counted k in let l = live_is k r t in let w = ap (weigh_tree (in_chunk k)) only_is in let i = ap (λ x. span x (in_chunk k)) e in omega arith
+
+  pub only_gone : {a2 : A} {item : Span} → item ≡ record { at = h.first; n = cells_in h.entry.item } → ((k : ℕ) → (account a2).live k + (row (in_chunk k) r 1 + span item (in_chunk k)) ≡ (account a).live k) → (next : List Entry) × Deleted key version next × ((next ≡ []) × ((k : ℕ) → (account a2).live k ≡ 0))
+  only_gone e released = (
+    [],
+    record { gone = h.entry; removed = record { before = []; after = []; old_is = sym h.stands.trie.holds ∙ ap entries_of only_is; new_is = refl }; same_key = h.same_key },
+    (refl, λ k. let l = only_live e k in let x = released k in omega arith),
+  )

@@ -1,0 +1,138 @@
+-- The way to a key's leaf, and the leaf exchanged.
+use Rattle.std.proofs.Common.{◌≡◌, ℕ, ◌+◌, ◌/◌, ◌%◌, ◌<◌, ◌≤◌, Bool, true, List, Option, Some, length, arith, inl, inr, refl, sym, ◌∙◌, ap, subst}
+use Rattle.packed_node.specs.declared.Cell.{Cell}
+use Rattle.packed_node.specs.declared.Leaf.{Leaf}
+use Rattle.packed_node.specs.Nodes.{IsLeaf, leaf_cell}
+use Rattle.trie_model.specs.Keys.{at, Entry, IsEntry, InList}
+use Rattle.trie_model.specs.Memory.{top_cell, ItemLies}
+use Rattle.trie_model.specs.Reach.{in_chunk}
+use Rattle.trie_model.specs.Trees.{Tree, entries_of, cells_in, IsRow, IsTree}
+use Rattle.trie_model.specs.Trees.Tree.{leaf, branch}
+use Rattle.trie_model.proofs.DropLaws.{higher}
+use Rattle.chunk_usage.specs.Rooms.{Account, Handed}
+use Rattle.trie_write.specs.Asks.{HasKey}
+use Rattle.trie_write.specs.Exchanges.{Exchanged}
+use Rattle.trie_write.specs.declared.change.Change.{Change}
+use Rattle.trie_write.specs.declared.change.Span.{Span}
+use Rattle.trie_write.specs.Puts.{span, Makes, IsTaken, IsPut}
+use Rattle.chunk_usage.specs.declared.space.Full.{Full}
+use Rattle.trie_write.specs.Spaces.{Fenced, Refused}
+use Rattle.zone_model.specs.Keys.{Leads}
+use Rattle.trie_model.specs.Memory.{Stands}
+use Rattle.trie_read.specs.Reads.{IsTop, EachTells}
+use Rattle.trie_write.specs.Paths.{twigs_on_path, to_copy}
+use Rattle.trie_write.specs.Roots.{TwigsOnPath, ToCopy, IsOutside, Unreached, Beyond}
+use Rattle.trie_write.proofs.RootLaws.{standing_later}
+use Rattle.trie_write.specs.Standing.{StandsIn, HasTrie}
+use Rattle.trie_model.specs.Order.{IsThere}
+use Rattle.trie_write.specs.Ways.{Fork, plug, IsWay}
+use Rattle.trie_write.specs.Weights.{at_place}
+use Rattle.trie_write.proofs.ChangeLaws.{entries_before, put_stands}
+use Rattle.trie_write.proofs.WayLaws.{low_at, end_tree, before, after, entries_plug, way_to}
+use Rattle.trie_write.proofs.WeightLaws.{handed_fresh}
+
+-- ---- the way to a key's leaf
+
+pub record LeafWay (place : ℕ) (key : List ℕ) (t : Tree) : Type 0 where
+  pub way : List Fork
+  pub entry : Entry
+  pub first : ℕ
+  pub is : t ≡ plug way (leaf entry first)
+  pub is_way : IsWay place key way (leaf entry first)
+  pub same_key : entry.key ≡ key
+
+leaf_end : (place low : ℕ) (key : List ℕ) (t : Tree) (gone : Entry) → IsTree low t → 503 < place → gone.key ≡ key → (way : List Fork) (end : Tree) → t ≡ plug way end → IsWay place key way end → InList gone (entries_of end) → LeafWay place key t
+leaf_end place low key t gone h far same way (leaf e w) is is_way there = record { way = way; entry = e; first = w; is = is; is_way = is_way; same_key = elim there [ inl x ↦ ap (λ (y : Entry). y.key) (sym x) ∙ same | inr x ↦ absurd x ] }
+leaf_end place low key t gone h far same way (branch o w below) is is_way there = absurd (let e = end_tree low way (branch o w below) (subst (IsTree low) is h) in let early = e.1 in let late = is_way.ends in omega arith)
+
+pub leaf_way : (place low : ℕ) (key : List ℕ) (t : Tree) (gone : Entry) → IsTree low t → InList gone (entries_of t) → gone.key ≡ key → 503 < place → LeafWay place key t
+leaf_way place low key t gone h there same far = let w = way_to place low key t h gone there (λ i l. ap (λ (k : List ℕ). at k i) (sym same)) in leaf_end place low key t gone h far same w.way w.end w.is w.is_way w.there
+
+-- ---- another leaf for it
+
+-- a leaf of an item that was laid
+pub laid_leaf : {l : Leaf} (item : List ℕ) → l.len ≡ length item → 0 < length item → length item ≤ 4096 → IsRow l.at (cells_in item) → IsLeaf l
+laid_leaf item n some short r = let i = r.inside in record { some = omega arith; short = omega arith; inside = omega arith }
+
+pub laid_top : (key item : List ℕ) (l : Leaf) → l.len ≡ length item → leaf_cell l ≡ top_cell (leaf (record { key = key; item = item }) l.at)
+laid_top key item l n = ap (λ (n : ℕ). leaf_cell (record { len = n; at = l.at })) n
+
+pub taken_item : {old new : Account} {c : Change} (l : Leaf) (item : List ℕ) → Handed old new l.at (cells_in item) → ((q : ℕ) → old.used q ≡ true → new.used q ≡ true) → c.new_twigs ≡ record { at = 0; n = 0 } → c.new_item ≡ record { at = l.at; n = cells_in item } → IsTaken old new c
+taken_item {old} {new} {c} l item h stays no_twigs new_item =
+    let w = λ (w : ℕ → ℕ). ap (λ x. span x w) no_twigs in let v = λ (w : ℕ → ℕ). ap (λ x. span x w) new_item in
+    record { counts = λ k. let x = h.counts k in let y = w (in_chunk k) in let z = v (in_chunk k) in omega arith; fresh = λ q. let x = handed_fresh h stays q in let y = w (at_place q) in let z = v (at_place q) in omega arith }
+
+pub laid_span : {l : Leaf} {x : Span} (item : List ℕ) → l.len ≡ length item → x.at ≡ l.at → x.n ≡ (l.len + 15) / 16 → x ≡ record { at = l.at; n = cells_in item }
+laid_span {l} {x} item len at n = ap (λ (y : ℕ). record { at = y; n = x.n }) at ∙ ap (λ (y : ℕ). record { at = l.at; n = y }) (n ∙ ap (λ (m : ℕ). (m + 15) / 16) len)
+
+module _ {S A : Type 0} {has : S → ℕ → Cell → Type 0} {account : A → Account} {s : S} {a : A} {r : ℕ} {key : List ℕ} {t : Tree} {version : List Entry} (h : HasKey has account s a r key t version) where
+  -- the root's cell, which was read
+  pub root_top : {node : Cell} → ((c : Cell) → has s r c → node ≡ c) → IsTop (has s) 0 node (plug h.way (leaf h.entry h.first))
+  root_top {node} read = subst (IsTop (has s) 0 node) h.is (record { tree = h.stands.trie.shape; is = read (top_cell t) h.stands.trie.top; beneath = h.stands.trie.beneath })
+
+  pub leaf_tree : IsTree 0 (leaf h.entry h.first)
+  leaf_tree = higher (low_at 0 h.way) 0 (leaf h.entry h.first) (end_tree 0 h.way (leaf h.entry h.first) (subst (IsTree 0) h.is h.stands.trie.shape)) (omega arith)
+
+  pub other_makes : {s1 : S} {l : Leaf} {c : Change} (item : List ℕ) → l.len ≡ length item → IsRow l.at (cells_in item) → ItemLies (has s1) l.at item → c.cell ≡ leaf_cell l → c.new_twigs ≡ record { at = 0; n = 0 } → c.new_item ≡ record { at = l.at; n = cells_in item } →
+      c.old_twigs ≡ record { at = 0; n = 0 } → c.old_item ≡ record { at = h.first; n = cells_in h.entry.item } → Makes has s1 c (leaf h.entry h.first) (leaf (record { key = key; item = item }) c.new_item.at)
+  other_makes {s1} {l} {c} item n lies_row lies cell new_twigs new_item old_twigs old_item = subst (λ (x : ℕ). Makes has s1 c (leaf h.entry h.first) (leaf (record { key = key; item = item }) x)) (ap (λ (x : Span). x.at) (sym new_item)) (record {
+    is = cell ∙ laid_top key item l n;
+    beneath = lies;
+    weigh = λ w. let x = ap (λ x. span x w) new_twigs in let y = ap (λ x. span x w) new_item in let z = ap (λ x. span x w) old_twigs in let v = ap (λ x. span x w) old_item in omega arith;
+    spans = record {
+      new_twigs = subst (λ (x : Span). x.at % 1024 + x.n ≤ 1024) (sym new_twigs) (omega arith);
+      new_item = subst (λ (x : Span). x.at % 1024 + x.n ≤ 1024) (sym new_item) lies_row.together;
+      old_twigs = subst (λ (x : Span). x.at % 1024 + x.n ≤ 1024) (sym old_twigs) (omega arith);
+      old_item = subst (λ (x : Span). x.at % 1024 + x.n ≤ 1024) (sym old_item) leaf_tree.1.together;
+    };
+  })
+
+  pub replaced : {s2 : S} {a2 : A} {item : List ℕ} {first root : ℕ} → IsEntry (record { key = key; item = item }) → IsRow first (cells_in item) → IsPut has account s2 a2 65535 key h.way (leaf h.entry h.first) (leaf (record { key = key; item = item }) first) root →
+      (next : List Entry) × Exchanged (record { key = key; item = item }) version next × ((u : Tree) × StandsIn (has s2) (account a2).used (account a2).live root u next)
+  replaced {item = item} {first} entry lies p = (
+    entries_of (plug p.copy (leaf (record { key = key; item = item }) first)),
+    record {
+      before = before p.copy;
+      gone = h.entry;
+      after = after p.copy;
+      old_is = sym h.stands.trie.holds ∙ ap entries_of h.is ∙ entries_before p;
+      new_is = entries_plug p.copy (leaf (record { key = key; item = item }) first);
+      same_key = h.same_key;
+    },
+    (plug p.copy (leaf (record { key = key; item = item }) first), put_stands p (entry, lies) (λ x i. elim i [ inl y ↦ (h.entry, inl refl, λ j m. ap (λ (z : Entry). at z.key j) y ∙ ap (λ (k : List ℕ). at k j) (sym h.same_key)) | inr y ↦ absurd y ])),
+  )
+
+-- ---- what the root tells
+
+key_of_entry : {S A : Type 0} {has : S → ℕ → Cell → Type 0} {account : A → Account} {s : S} {a : A} {r : ℕ} {key : List ℕ} {t : Tree} {version : List Entry} → StandsIn (has s) (account a).used (account a).live r t version → IsThere key version → HasKey has account s a r key t version
+key_of_entry {key = key} {t} st there = let w = leaf_way 65535 0 key t there.0 st.trie.shape (subst (InList there.0) (sym st.trie.holds) there.1) there.2 (omega arith) in
+    record { stands = st; way = w.way; entry = w.entry; first = w.first; is = w.is; is_way = w.is_way; same_key = w.same_key }
+
+-- the root in hand stands, and the key is below it
+module _ {S A : Type 0} {has : S → ℕ → Cell → Type 0} {account : A → Account} {s s1 : S} {a : A} {root : Option ℕ} {r : ℕ} {key : List ℕ} (same : s1 ≡ s) (e : root ≡ Some r) where
+  pub has_key : (version : List Entry) → HasTrie has account s a root version → IsThere key version → (t : Tree) × HasKey has account s1 a r key t version
+  has_key version h there = let x = subst (λ (o : Option ℕ). HasTrie has account s a o version) e h in
+      (x.0, subst (λ s. HasKey has account s a r key x.0 version) (sym same) (key_of_entry x.1 there))
+
+  pub on_path : (n : ℕ) → TwigsOnPath has account s a root key n → ((version : List Entry) → Stands (has s) root version → EachTells Leads version → IsThere key version) → (t : Tree) × (version : List Entry) × HasKey has account s1 a r key t version × (n ≡ twigs_on_path key t)
+  on_path n on there = let o = subst (λ (o : Option ℕ). TwigsOnPath has account s a o key n) e on in
+      let k = there o.1 (subst (λ (x : Option ℕ). Stands (has s) x o.1) (sym e) (o.0, o.2.trie)) o.3 in
+      (o.0, o.1, subst (λ s. HasKey has account s a r key o.0 o.1) (sym same) (key_of_entry o.2 k), o.4)
+
+  pub copied_path : (n : ℕ) → ToCopy has account s a root key n → ((version : List Entry) → Stands (has s) root version → EachTells Leads version → IsThere key version) → (t : Tree) × (version : List Entry) × HasKey has account s1 a r key t version × (n ≡ to_copy (account a).mutable key r t)
+  copied_path n on there = let o = subst (λ (o : Option ℕ). ToCopy has account s a o key n) e on in
+      let k = there o.1 (subst (λ (x : Option ℕ). Stands (has s) x o.1) (sym e) (o.0, o.2.trie)) o.3 in
+      (o.0, o.1, subst (λ s. HasKey has account s a r key o.0 o.1) (sym same) (key_of_entry o.2 k), o.4)
+
+  pub beyond_key : (q : ℕ) → Beyond has account s a root q → ((version : List Entry) → Stands (has s) root version → EachTells Leads version → IsThere key version) → (t : Tree) × (version : List Entry) × HasKey has account s1 a r key t version × IsOutside r t q
+  beyond_key q b there = let o = subst (λ (o : Option ℕ). Unreached (has s) (account a).used (account a).live o q) e b.1 in
+      let k = there o.1 (subst (λ (x : Option ℕ). Stands (has s) x o.1) (sym e) (o.0, o.2.trie)) o.3 in
+      (o.0, o.1, subst (λ s. HasKey has account s a r key o.0 o.1) (sym same) (key_of_entry o.2 k), o.4)
+
+pub same_has_key : {S A : Type 0} {has : S → ℕ → Cell → Type 0} {account : A → Account} {s s1 : S} {a : A} {r : ℕ} {key : List ℕ} {t : Tree} {version : List Entry} → s1 ≡ s → HasKey has account s a r key t version → HasKey has account s1 a r key t version
+same_has_key {has = has} {account} {a = a} {r} {key} {t} {version} same = subst (λ s. HasKey has account s a r key t version) (sym same)
+
+-- what is in use stays, and so does what stands
+pub trie_later : {S A : Type 0} {has : S → ℕ → Cell → Type 0} {kept : S → List ℕ} {given : S → List Bool} {account : A → Account} {lacks : A → Full → Type 0} {s s1 s2 : S} {a a2 : A} {f : Full} (version : List Entry) (root : Option ℕ) → s1 ≡ s → Refused has account lacks s1 a s2 a2 f → Fenced has kept given account s1 a s2 a2 →
+    HasTrie has account s a root version → HasTrie has account s2 a2 root version
+trie_later {has = has} version root same r frame h = standing_later version root h (λ q c u x. r.untouched q c u (subst (λ s. has s q c) (sym same) x)) frame.grows.stays r.counts

@@ -1,0 +1,64 @@
+use Rattle.std.proofs.Common.{w8, arith, sym, ◌∙◌, ap, subst}
+use Rattle.std.proofs.Math.Facts.{Fits-lt-pow}
+use Rattle.chunk_usage.specs.Rooms.{Account}
+use Rattle.trie_write.specs.Turns.{HasWay}
+use Rattle.trie_write.proofs.InsertLaws.{laid_is, lacks_top, with_asks, taken_both}
+use Rattle.trie_write.proofs.RootLaws.{leads_some, leads_entry}
+use Rattle.trie_write.proofs.SpaceLaws.{frame_then, frame_counts, frame_same, ready_counts}
+use Rattle.trie_write.proofs.TurnLaws.{same_top}
+use Rattle.trie_write.proofs.insertion.new_leaf.Goals as goal
+
+pub cell-top-requires : goal.cell-top-requires
+cell-top-requires g c = record { there = (_, c.requires.missing.asks.stands.trie.top) }
+
+pub end_node-node-requires : goal.end_node-node-requires
+end_node-node-requires g c = let h = c.requires.missing.asks in
+    record { way = subst (λ s. HasWay (g.C.CellRead.has s) c.args.first.place 0 c.args.key.now c.cell-top.result) (sym c.cell-top.ensures.same) (record { way = h.way; end = h.end; top = lacks_top h c.cell-top.ensures.value; is_way = h.is_way }) }
+
+pub lay_item-requires-clause-some : goal.lay_item-requires-clause-some
+lay_item-requires-clause-some g c = leads_some c.requires.leads
+
+pub with_leaf-requires-clause-asks : goal.with_leaf-requires-clause-asks
+with_leaf-requires-clause-asks g c =
+    let h = c.requires.missing.asks in let same = c.end_node-node.ensures.same ∙ c.cell-top.ensures.same in
+    record {
+      item = c.args.item.now;
+      end = h.end;
+      asks = with_asks h (leads_entry c.requires.leads (λ i. Fits-lt-pow {w = w8} (c.type_inv.item i))) (laid_is c.lay_item.new.usage c.in_ok-leaf.ensures.len c.in_ok-leaf.ensures.handed c.in_ok-leaf.ensures.lies) (frame_same same c.in_ok-leaf.ensures.frame)
+          (c.end_node-node.ensures.end h.way h.end (same_top g.C.CellRead.has c.cell-top.ensures.same (lacks_top h c.cell-top.ensures.value)) h.is_way);
+    }
+
+pub returns-in-Ok-clause-with : goal.returns-in-Ok-clause-with
+returns-in-Ok-clause-with g c t version h =
+    let same = c.end_node-node.ensures.same ∙ c.cell-top.ensures.same in
+    c.in-Ok.ensures.with c.args.item.now h.end (with_asks h (leads_entry c.requires.leads (λ i. Fits-lt-pow {w = w8} (c.type_inv.item i))) (laid_is c.lay_item.new.usage c.in_ok-leaf.ensures.len c.in_ok-leaf.ensures.handed c.in_ok-leaf.ensures.lies) (frame_same same c.in_ok-leaf.ensures.frame)
+    (c.end_node-node.ensures.end h.way h.end (same_top g.C.CellRead.has c.cell-top.ensures.same (lacks_top h c.cell-top.ensures.value)) h.is_way))
+
+pub returns-in-Ok-clause-taken : goal.returns-in-Ok-clause-taken
+returns-in-Ok-clause-taken g c = taken_both c.in_ok-leaf.leaf c.args.item.now c.in_ok-leaf.ensures.len c.in_ok-leaf.ensures.handed c.in_ok-leaf.ensures.frame.grows.stays c.in-Ok.ensures.handed c.in-Ok.ensures.frame.grows.stays c.in-Ok.ensures.item
+
+pub returns-in-Ok-clause-spends : goal.returns-in-Ok-clause-spends
+returns-in-Ok-clause-spends g c t version h =
+    let same = c.end_node-node.ensures.same ∙ c.cell-top.ensures.same in
+    let m = c.with_leaf.ensures.spends c.args.item.now h.end (with_asks h (leads_entry c.requires.leads (λ i. Fits-lt-pow {w = w8} (c.type_inv.item i))) (laid_is c.lay_item.new.usage c.in_ok-leaf.ensures.len c.in_ok-leaf.ensures.handed c.in_ok-leaf.ensures.lies) (frame_same same c.in_ok-leaf.ensures.frame)
+    (c.end_node-node.ensures.end h.way h.end (same_top g.C.CellRead.has c.cell-top.ensures.same (lacks_top h c.cell-top.ensures.value)) h.is_way)) in
+    let s = c.lay_item.ensures.spends in omega arith
+
+pub returns-in-Err-clause-spends : goal.returns-in-Err-clause-spends
+returns-in-Err-clause-spends g c t version h =
+    let same = c.end_node-node.ensures.same ∙ c.cell-top.ensures.same in
+    let m = c.with_leaf.ensures.spends c.args.item.now h.end (with_asks h (leads_entry c.requires.leads (λ i. Fits-lt-pow {w = w8} (c.type_inv.item i))) (laid_is c.lay_item.new.usage c.in_ok-leaf.ensures.len c.in_ok-leaf.ensures.handed c.in_ok-leaf.ensures.lies) (frame_same same c.in_ok-leaf.ensures.frame)
+    (c.end_node-node.ensures.end h.way h.end (same_top g.C.CellRead.has c.cell-top.ensures.same (lacks_top h c.cell-top.ensures.value)) h.is_way)) in
+    let s = c.lay_item.ensures.spends in let r = ap (λ (z : Account). z.spent) c.release.ensures.rest in omega arith
+
+pub returns-in-Err-clause-copies : goal.returns-in-Err-clause-copies
+returns-in-Err-clause-copies g c = let m = c.with_leaf.ensures.copies in let s = c.lay_item.ensures.spends in let r = ap (λ (z : Account). z.spent) c.release.ensures.rest in omega arith
+
+pub returns-in-Ok-clause-frame : goal.returns-in-Ok-clause-frame
+returns-in-Ok-clause-frame g c = frame_same (c.end_node-node.ensures.same ∙ c.cell-top.ensures.same) (frame_then c.in_ok-leaf.ensures.frame c.in-Ok.ensures.frame)
+
+pub returns-in-Err-clause-frame : goal.returns-in-Err-clause-frame
+returns-in-Err-clause-frame g c = frame_counts (frame_same (c.end_node-node.ensures.same ∙ c.cell-top.ensures.same) (frame_then c.in_ok-leaf.ensures.frame c.with_leaf.ensures.frame)) c.release.ensures.rest
+
+pub returns-in-Err-clause-ready : goal.returns-in-Err-clause-ready
+returns-in-Err-clause-ready g c = ready_counts c.release.ensures.rest c.with_leaf.ensures.ready

@@ -1,0 +1,73 @@
+use Rattle.std.proofs.Common.{ℕ, ◌+◌, ◌-◌, ◌^◌, arith, refl, sym, ◌∙◌, ap, subst}
+use Rattle.std.specs.Int.{bit_at}
+use Rattle.chunk_usage.specs.Rooms.{Handed}
+use Rattle.trie_write.proofs.CopyLaws.{cell_there, cell_used, old_lies}
+use Rattle.trie_write.proofs.WithoutLaws.{last_n, last_known, leaf_alone, key_position, key_bit, next_leaf, fewer_branch, dropped, collapsed, same_without, taken_twigs}
+use Rattle.trie_write.proofs.without.without_leaf.Goals as goal
+
+pub cell-requires : goal.cell-requires
+cell-requires g c = let x = c.requires.last.last in record { there = cell_there x.asks x.turn.through (1 - c.args.turn.index) (let n = c.twig_count.ensures in let e = c.if-old_twigs-eq2.true in omega arith) }
+
+pub overflow_sub-turn : goal.overflow_sub-turn
+overflow_sub-turn g c = let x = c.requires.last.last in let i = x.turn.index_is in let m = last_n x in let n = c.twig_count.ensures in let e = c.if-old_twigs-eq2.true in omega arith
+
+pub returns-then-old_twigs-eq2-clause-without : goal.returns-then-old_twigs-eq2-clause-without
+returns-then-old_twigs-eq2-clause-without g c lower e first x =
+    let n = c.twig_count.ensures in
+    same_without c.cell.ensures.same (collapsed x (sym n ∙ c.if-old_twigs-eq2.true) c.cell.ensures.value refl refl (ap (λ (m : ℕ). record { at = c.args.turn.branch.twigs; n = m }) n) (c.item_span-old_item.ensures e first (leaf_alone x) (next_leaf x)))
+
+pub returns-then-old_twigs-eq2-clause-spends : goal.returns-then-old_twigs-eq2-clause-spends
+returns-then-old_twigs-eq2-clause-spends g c = let n = c.twig_count.ensures in let e = c.if-old_twigs-eq2.true in omega arith
+
+pub copy_apart-requires-clause-index : goal.copy_apart-requires-clause-index
+copy_apart-requires-clause-index g c = let x = c.requires.last.last in let i = x.turn.index_is in let m = last_n x in let n = c.twig_count.ensures in omega arith
+
+pub copy_apart-requires-clause-some : goal.copy_apart-requires-clause-some
+copy_apart-requires-clause-some g c = let x = c.requires.last.last in let m = last_n x in let n = c.twig_count.ensures in let k = (last_known x).two in omega arith
+
+pub copy_apart-requires-clause-few : goal.copy_apart-requires-clause-few
+copy_apart-requires-clause-few g c = let x = c.requires.last.last in let m = last_n x in let n = c.twig_count.ensures in let k = (last_known x).few in omega arith
+
+pub copy_apart-requires-clause-inside : goal.copy_apart-requires-clause-inside
+copy_apart-requires-clause-inside g c = let x = c.requires.last.last in let n = c.twig_count.ensures in let r = (old_lies x.asks x.turn.through).inside in omega arith
+
+pub copy_apart-requires-clause-there : goal.copy_apart-requires-clause-there
+copy_apart-requires-clause-there g c i l = let x = c.requires.last.last in cell_there x.asks x.turn.through i (let n = c.twig_count.ensures in omega arith)
+
+pub copy_apart-requires-clause-in_use : goal.copy_apart-requires-clause-in_use
+copy_apart-requires-clause-in_use g c i l = let x = c.requires.last.last in cell_used x.asks x.turn.through i (let n = c.twig_count.ensures in omega arith)
+
+pub returns-in_err-to-clause-spends : goal.returns-in_err-to-clause-spends
+returns-in_err-to-clause-spends g c = let x = c.requires.last.last in let m = last_n x in let n = c.twig_count.ensures in let k = (last_known x).two in let s = c.copy_apart.ensures.spends in omega arith
+
+pub without-requires-clause-position : goal.without-requires-clause-position
+without-requires-clause-position g c = let x = c.requires.last.last in let p = key_position x in let i = (last_known x).inside in let e = c.at.ensures in omega arith
+
+pub without-requires-clause-present : goal.without-requires-clause-present
+without-requires-clause-present g c = ap (λ (q : ℕ). bit_at c.args.turn.branch.bitmap q) c.at.ensures ∙ key_bit c.requires.last.last
+
+pub pack-requires : goal.pack-requires
+pack-requires g c =
+    let x = c.requires.last.last in let n = c.twig_count.ensures in
+    fewer_branch x c.without.result c.in_ok-to.ensures.frame (subst (Handed (g.U.Space.account c.args.usage.now) (g.U.Space.account c.copy_apart.new.usage) c.in_ok-to.to) (omega arith) c.in_ok-to.ensures.handed)
+    (let m = last_n x in let k = (last_known x).two in let d = c.if-old_twigs-eq2.false in omega arith) (ap (λ (q : ℕ). c.without.result + 2 ^ q) (sym c.at.ensures) ∙ c.without.ensures)
+
+pub overflow_sub-result : goal.overflow_sub-result
+overflow_sub-result g c = let x = c.requires.last.last in let m = last_n x in let n = c.twig_count.ensures in let k = (last_known x).two in omega arith
+
+pub returns-clause-without : goal.returns-clause-without
+returns-clause-without g c lower e first x =
+    let n = c.twig_count.ensures in
+    dropped x c.without.result c.in_ok-to.ensures.frame (subst (Handed (g.U.Space.account c.args.usage.now) (g.U.Space.account c.copy_apart.new.usage) c.in_ok-to.to) (omega arith) c.in_ok-to.ensures.handed)
+    (let m = last_n x in let k = (last_known x).two in let d = c.if-old_twigs-eq2.false in omega arith) (ap (λ (q : ℕ). c.without.result + 2 ^ q) (sym c.at.ensures) ∙ c.without.ensures)
+    c.in_ok-to.ensures.before (λ i d l. c.in_ok-to.ensures.after i d (omega arith)) c.pack.ensures (ap (λ (m : ℕ). record { at = c.in_ok-to.to; n = m - 1 }) n) refl (ap (λ (m : ℕ). record { at = c.args.turn.branch.twigs; n = m }) n)
+    (c.item_span-old_item.ensures e first (leaf_alone x) (next_leaf x))
+
+pub returns-clause-taken : goal.returns-clause-taken
+returns-clause-taken g c = taken_twigs c.in_ok-to.to (c.twig_count.result - 1) (subst (Handed (g.U.Space.account c.args.usage.now) (g.U.Space.account c.copy_apart.new.usage) c.in_ok-to.to) (omega arith) c.in_ok-to.ensures.handed) c.in_ok-to.ensures.frame.grows.stays refl refl
+
+pub returns-then-old_twigs-eq2-clause-taken : goal.returns-then-old_twigs-eq2-clause-taken
+returns-then-old_twigs-eq2-clause-taken g c = record { counts = λ k. omega arith; fresh = λ q. omega arith }
+
+pub returns-clause-spends : goal.returns-clause-spends
+returns-clause-spends g c = let x = c.requires.last.last in let m = last_n x in let n = c.twig_count.ensures in let k = (last_known x).two in let s = c.copy_apart.ensures.spends in omega arith

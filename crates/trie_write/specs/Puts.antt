@@ -1,0 +1,71 @@
+-- A change that is put at the end of a way.
+use Rattle.std.specs.Prelude.{◌≡◌, ℕ, ◌+◌, ◌%◌, ◌≤◌, true, List}
+use Rattle.packed_node.specs.declared.Cell.{Cell}
+use Rattle.trie_model.specs.Memory.{Beneath, top_cell}
+use Rattle.trie_model.specs.Reach.{row, in_chunk, weigh_tree}
+use Rattle.trie_model.specs.Trees.{Tree, entries_of, IsTree}
+use Rattle.chunk_usage.specs.declared.space.Full.{Full}
+use Rattle.chunk_usage.specs.Rooms.{Account}
+use Rattle.trie_write.specs.declared.change.Span.{Span}
+use Rattle.trie_write.specs.declared.change.Change.{Change}
+use Rattle.trie_write.specs.Mutable.{Rooted, SeatAsks}
+use Rattle.trie_write.specs.Ways.{Fork, plug, Along}
+use Rattle.trie_write.specs.Weights.{at_place, mark}
+
+-- what cells side by side weigh; what was taken for a change, and what it leaves
+abbrev pub span : Span → (ℕ → ℕ) → ℕ
+span x w = row w x.at x.n
+
+abbrev pub taken : Change → (ℕ → ℕ) → ℕ
+taken c w = span c.new_twigs w + span c.new_item w
+
+abbrev pub left : Change → (ℕ → ℕ) → ℕ
+left c w = span c.old_twigs w + span c.old_item w
+
+-- each of them lies in one chunk
+pub record AreSpans (c : Change) : Type 0 where
+  pub new_twigs : c.new_twigs.at % 1024 + c.new_twigs.n ≤ 1024
+  pub new_item : c.new_item.at % 1024 + c.new_item.n ≤ 1024
+  pub old_twigs : c.old_twigs.at % 1024 + c.old_twigs.n ≤ 1024
+  pub old_item : c.old_item.at % 1024 + c.old_item.n ≤ 1024
+
+-- The change makes the one tree of the other: its cell is the top of that one, which lies in cells of the old one and in those taken,
+-- and all that it doesn't keep is left.
+pub record Makes {S : Type 0} (has : S → ℕ → Cell → Type 0) (s : S) (c : Change) (end u : Tree) : Type 0 where
+  pub is : c.cell ≡ top_cell u
+  pub beneath : Beneath (has s) u
+  pub weigh : (w : ℕ → ℕ) → weigh_tree w u + left c w ≡ weigh_tree w end + taken c w
+  pub spans : AreSpans c
+
+-- the cells taken for a change count, and weren't in use before
+pub record IsTaken (old new : Account) (c : Change) : Type 0 where
+  pub counts : (k : ℕ) → new.live k ≡ old.live k + taken c (in_chunk k)
+  pub fresh : (q : ℕ) → taken c (at_place q) + mark old.used q ≤ mark new.used q
+
+pub record PutAsks {S A : Type 0} (has : S → ℕ → Cell → Type 0) (account : A → Account) (s : S) (a : A) (place : ℕ) (key : List ℕ) (r : ℕ) (c : Change) (way : List Fork) (end u : Tree) : Type 0 where
+  pub seat : SeatAsks has account s a place key (taken c) r way end
+  pub makes : Makes has s c end u
+
+pub record PutAsked {S A : Type 0} (has : S → ℕ → Cell → Type 0) (account : A → Account) (s : S) (a : A) (place : ℕ) (key : List ℕ) (r : ℕ) (c : Change) : Type 0 where
+  pub way : List Fork
+  pub end : Tree
+  pub u : Tree
+  pub asks : PutAsks has account s a place key r c way end u
+
+-- nothing is spare
+abbrev pub no_spare : (ℕ → ℕ) → ℕ
+no_spare w = 0
+
+-- a tree stands at the root that has the new one at the end of a way, where one with the old entries had the old one
+pub record IsPut {S A : Type 0} (has : S → ℕ → Cell → Type 0) (account : A → Account) (s_new : S) (a_new : A) (place : ℕ) (key : List ℕ) (way : List Fork) (end u : Tree) (root : ℕ) : Type 0 where
+  pub copy : List Fork
+  pub along : Along place key copy
+  pub tree : IsTree 0 (plug copy end)
+  pub entries : entries_of (plug copy end) ≡ entries_of (plug way end)
+  pub rooted : Rooted has account s_new a_new no_spare root (plug copy u)
+
+-- no room was found, and these cells count no more
+pub record GivenBack {S A : Type 0} (has : S → ℕ → Cell → Type 0) (account : A → Account) (lacks : A → Full → Type 0) (s : S) (a : A) (s_new : S) (a_new : A) (spare : (ℕ → ℕ) → ℕ) (f : Full) : Type 0 where
+  pub untouched : (q : ℕ) (c : Cell) → (account a).used q ≡ true → has s q c → has s_new q c
+  pub counts : (k : ℕ) → (account a_new).live k + spare (in_chunk k) ≡ (account a).live k
+  pub lack : lacks a_new f

@@ -1,0 +1,113 @@
+//! A change at a place of the trie: the way there is made mutable, and one cell is put.
+
+ghost use Rattle.std.specs.Prelude.{◌≡◌, ◌+◌, ◌/◌, ◌%◌, ◌≤◌, ℕ, true, List, IfOk, IfErr};
+ghost use Rattle.packed_node.specs.declared.Cell.{Cell};
+ghost use Rattle.trie_model.specs.Reach.{in_chunk};
+ghost use Rattle.trie_model.specs.Keys.{Entry};
+ghost use Rattle.trie_model.specs.Memory.{top_cell};
+ghost use Rattle.trie_model.specs.Trees.{Tree, IsTree, cells_in};
+ghost use Rattle.trie_model.specs.Trees.Tree.{leaf};
+ghost use Rattle.trie_write.specs.Puts.{span, taken, PutAsks, PutAsked, IsPut, GivenBack};
+ghost use Rattle.trie_write.specs.Roots.{IsOutside};
+ghost use Rattle.trie_write.specs.Spaces.{Ready, Fenced};
+ghost use Rattle.trie_write.specs.Ways.{Fork, plug, copied_along};
+
+use super::mutable::make_mutable;
+use super::top::top_of;
+use chunk_cells::CellWrite;
+use chunk_cells::item::cells_for;
+use chunk_usage::{Full, Space};
+use packed_node::{Cell, Leaf, Ref};
+use shift_key::Key;
+
+/// Cells side by side.
+#[derive(Clone, Copy)]
+pub struct Span {
+    pub at: Ref,
+    pub n: u32,
+}
+
+/// No cells.
+pub const NO_CELLS: Span = Span { at: 0, n: 0 };
+
+/// What is put at a place, in which cells, and in place of which.
+#[derive(Clone, Copy)]
+pub struct Change {
+    /// What the place's cell says then.
+    pub cell: Cell,
+    /// The cells that were taken for it, and written.
+    pub new_twigs: Span,
+    pub new_item: Span,
+    /// The cells that count no more once it is there.
+    pub old_twigs: Span,
+    pub old_item: Span,
+}
+
+/// These cells don't count any more.
+pub fn let_go<U: Space>(usage: &mut U, twigs: Span, item: Span)
+    requires counted { (k : ℕ) → span twigs (in_chunk k) + span item (in_chunk k) ≤ (U.account usage.old).live k }
+    requires twigs { twigs.at % 1024 + twigs.n ≤ 1024 }
+    requires item { item.at % 1024 + item.n ≤ 1024 }
+    ensures counts { (k : ℕ) → (U.account usage.new).live k + (span twigs (in_chunk k) + span item (in_chunk k)) ≡ (U.account usage.old).live k }
+    ensures rest { U.account usage.new ≡ record (U.account usage.old) { live = (U.account usage.new).live } }
+    ensures lacks { (f : _) → U.lacks usage.old f → U.lacks usage.new f }
+{
+    usage.release(twigs.at, twigs.n);
+    usage.release(item.at, item.n);
+}
+
+/// The root of the trie with the change at the first node along the key whose offset isn't before the place. Where there is no room
+/// to make the way there mutable, the cells that were taken count no more.
+pub fn put_change<C: CellWrite, U: Space>(
+    cells: &mut C,
+    usage: &mut U,
+    root: Ref,
+    key: &Key,
+    place: u16,
+    change: Change,
+) -> Result<Ref, Full>
+    requires asks { PutAsked C.has U.account cells.old usage.old place key.now root change }
+    requires ready { Ready C.kept C.given U.account cells.old usage.old }
+    ensures put { IfOk result (λ new. (way : List Fork) (end u : Tree) → PutAsks C.has U.account cells.old usage.old place key.now root change way end u
+        → IsPut C.has U.account cells.new usage.new place key.now way end u new) }
+    ensures outside { (way : List Fork) (end u : Tree) → PutAsks C.has U.account cells.old usage.old place key.now root change way end u
+        → (q : ℕ) (c : Cell) → (U.account usage.old).used q ≡ true → IsOutside root (plug way end) q → C.has cells.old q c → C.has cells.new q c }
+    ensures spends { (way : List Fork) (end u : Tree) → PutAsks C.has U.account cells.old usage.old place key.now root change way end u
+        → (U.account usage.new).spent ≤ (U.account usage.old).spent + copied_along (U.account usage.old).mutable 1 root way }
+    ensures refused { IfErr result (λ f. GivenBack C.has U.account U.lacks cells.old usage.old cells.new usage.new (taken change) f) }
+    ensures frame { Fenced C.has C.kept C.given U.account cells.old usage.old cells.new usage.new }
+    ensures ready { Ready C.kept C.given U.account cells.new usage.new }
+{
+    match make_mutable(cells, usage, root, key, place) {
+        Err(full) => {
+            let_go(usage, change.new_twigs, change.new_item);
+            Err(full)
+        }
+        Ok(seat) => {
+            cells.put(seat.at, change.cell);
+            let_go(usage, change.old_twigs, change.old_item);
+            Ok(seat.root)
+        }
+    }
+}
+
+/// The cells of a leaf's item.
+pub fn leaf_span(leaf: Leaf) -> Span
+    ensures at { result.at ≡ leaf.at }
+    ensures n { result.n ≡ (leaf.len + 15) / 16 }
+{
+    Span {
+        at: leaf.at,
+        n: cells_for(leaf.len),
+    }
+}
+
+/// The same of the leaf that a cell says.
+pub fn item_span(node: Cell) -> Span
+    ensures { (e : Entry) (first : ℕ) → IsTree 0 (leaf e first) → node ≡ top_cell (leaf e first) → result ≡ record { at = first; n = cells_in e.item } }
+{
+    match top_of(node) {
+        Err(leaf) => leaf_span(leaf),
+        Ok(_) => NO_CELLS,
+    }
+}

@@ -1,0 +1,255 @@
+//! The way to a place on a key's path is made mutable: what isn't mutable yet is copied, and no entry changes.
+
+ghost use Rattle.std.specs.Prelude.{◌≡◌, ◌≢◌, ◌+◌, ◌<◌, ◌≤◌, ℕ, false, List, IfOk, IfErr, count_ones};
+ghost use Rattle.packed_node.specs.declared.Cell.{Cell};
+ghost use Rattle.packed_node.specs.Nodes.{IsBranch, branch_cell};
+ghost use Rattle.trie_model.specs.Reach.{row, in_chunk};
+ghost use Rattle.trie_model.specs.Trees.{Tree, IsRow};
+ghost use Rattle.trie_write.specs.Spaces.{Ready, Frame, Fenced, Refused, MayWrite, Wrote, IsWritable};
+ghost use Rattle.trie_write.specs.Ways.{Fork, plug, IsWay, twigs_along, copied_along};
+ghost use Rattle.trie_write.specs.Mutable.{WayAsks, WayAsked, IsCopied, IsParted, SeatAsks, SeatAsked, IsSeat};
+
+use super::place::{copy_twigs, room_for};
+use super::turn::next_turn;
+use chunk_cells::CellWrite;
+use chunk_usage::{Full, Space};
+use packed_node::{Branch, Cell, Node, Ref};
+use shift_key::Key;
+
+/// A cell on the way, and the node that it says.
+#[derive(Clone, Copy)]
+pub struct Spot {
+    pub at: Ref,
+    pub node: Cell,
+}
+
+/// A root, and the cell below it that may be written.
+#[derive(Clone, Copy)]
+pub struct Seat {
+    pub root: Ref,
+    pub at: Ref,
+}
+
+/// What copying gives.
+#[derive(Clone, Copy)]
+pub struct Copied {
+    /// What goes into the cell that the way begins at.
+    pub node: Cell,
+    /// The cell that the way ends at.
+    pub seat: Ref,
+}
+
+/// The cell of a branch whose twigs are copied to others, but for one in whose place another cell goes. The old ones count no more.
+fn move_twigs<C: CellWrite, U: Space>(
+    cells: &mut C,
+    usage: &mut U,
+    branch: Branch,
+    to: Ref,
+    index: u32,
+    twig: Cell,
+) -> Cell
+    requires index { index < count_ones branch.bitmap }
+    requires node { IsBranch (record branch { twigs = to }) }
+    requires old { IsRow branch.twigs (count_ones branch.bitmap) }
+    requires new { IsRow to (count_ones branch.bitmap) }
+    requires there { (i : ℕ) → i < count_ones branch.bitmap → (c : Cell) × C.has cells.old (branch.twigs + i) c }
+    requires apart { (i j : ℕ) → i < count_ones branch.bitmap → j < count_ones branch.bitmap → branch.twigs + i ≢ to + j }
+    requires blank { MayWrite C.kept C.given cells.old to (count_ones branch.bitmap) }
+    requires counted { (k : ℕ) → row (in_chunk k) branch.twigs (count_ones branch.bitmap) ≤ (U.account usage.old).live k }
+    ensures cell { result ≡ branch_cell (record branch { twigs = to }) }
+    ensures twig { C.has cells.new (to + index) twig }
+    ensures copied { (i : ℕ) (c : Cell) → i < count_ones branch.bitmap → i ≢ index → C.has cells.old (branch.twigs + i) c → C.has cells.new (to + i) c }
+    ensures wrote { Wrote C.has C.kept C.given cells.old cells.new to (count_ones branch.bitmap) }
+    ensures counts { (k : ℕ) → (U.account usage.new).live k + row (in_chunk k) branch.twigs (count_ones branch.bitmap) ≡ (U.account usage.old).live k }
+    ensures rest { U.account usage.new ≡ record (U.account usage.old) { live = (U.account usage.new).live } }
+{
+    let n = branch.twig_count();
+    copy_twigs(cells, branch.twigs, to, n);
+    cells.put(to + index, twig);
+    usage.release(branch.twigs, n);
+    let moved = Branch {
+        offset: branch.offset,
+        bitmap: branch.bitmap,
+        twigs: to,
+    };
+    Node::Branch(moved).pack()
+}
+
+/// Copies the twigs of each branch on the way. What is said for the cell that the way begins at isn't put there yet. Offsets are at
+/// least `low`.
+fn copy_way<C: CellWrite, U: Space>(
+    cells: &mut C,
+    usage: &mut U,
+    key: &Key,
+    place: u16,
+    low: u16,
+    from: Spot,
+) -> Result<Copied, Full>
+    requires asks { WayAsked C.has U.account cells.old usage.old place low key.now from.node }
+    requires ready { Ready C.kept C.given U.account cells.old usage.old }
+    ensures copied { IfOk result (λ copied. (way : List Fork) (end : Tree) → WayAsks C.has U.account cells.old usage.old place low key.now from.node way end
+        → IsCopied C.has C.given U.account usage.old cells.new usage.new place low key.now from.at way end copied.node copied.seat) }
+    ensures spends { (way : List Fork) (end : Tree) → WayAsks C.has U.account cells.old usage.old place low key.now from.node way end
+        → (U.account usage.new).spent ≤ (U.account usage.old).spent + twigs_along way }
+    ensures refused { IfErr result (λ f. Refused C.has U.account U.lacks cells.old usage.old cells.new usage.new f) }
+    ensures frame { Frame C.has C.kept C.given U.account cells.old usage.old cells.new usage.new }
+    ensures ready { Ready C.kept C.given U.account cells.new usage.new }
+{
+    match next_turn(cells, key, place, from.node) {
+        None => Ok(Copied {
+            node: from.node,
+            seat: from.at,
+        }),
+        Some(turn) => {
+            let n = turn.branch.twig_count();
+            let to = room_for(cells, usage, n)?;
+            let next = Spot {
+                at: to + turn.index,
+                node: turn.next,
+            };
+            match copy_way(cells, usage, key, place, turn.branch.offset + 1, next) {
+                Err(full) => {
+                    usage.release(to, n);
+                    Err(full)
+                }
+                Ok(copied) => Ok(Copied {
+                    node: move_twigs(cells, usage, turn.branch, to, turn.index, copied.node),
+                    seat: copied.seat,
+                }),
+            }
+        }
+    }
+}
+
+/// The last cell of the way that may be written, from such a one on. Offsets are at least `low`.
+fn last_mutable<C: CellWrite, U: Space>(
+    cells: &mut C,
+    usage: &U,
+    key: &Key,
+    place: u16,
+    low: u16,
+    from: Spot,
+) -> Spot
+    requires asks { WayAsked C.has U.account cells.old usage.now place low key.now from.node }
+    requires writable { IsWritable C.given U.account cells.old usage.now from.at }
+    requires ready { Ready C.kept C.given U.account cells.old usage.now }
+    ensures same { cells.new ≡ cells.old }
+    ensures parted { (way : List Fork) (end : Tree) → WayAsks C.has U.account cells.old usage.now place low key.now from.node way end
+        → IsParted (U.account usage.now).mutable from.at way end result.at result.node }
+    ensures writable { IsWritable C.given U.account cells.new usage.now result.at }
+{
+    match next_turn(cells, key, place, from.node) {
+        None => from,
+        Some(turn) => {
+            let at = turn.branch.twigs + turn.index;
+            if usage.is_mutable(at) {
+                let next = Spot {
+                    at,
+                    node: turn.next,
+                };
+                return last_mutable(cells, usage, key, place, turn.branch.offset + 1, next);
+            }
+            from
+        }
+    }
+}
+
+/// A root that may be written stays: the way is made mutable from its last mutable cell on.
+fn open_below<C: CellWrite, U: Space>(
+    cells: &mut C,
+    usage: &mut U,
+    key: &Key,
+    place: u16,
+    top: Spot,
+) -> Result<Seat, Full>
+    requires asks { SeatAsked C.has U.account cells.old usage.old place key.now top.at }
+    requires node { (c : Cell) → C.has cells.old top.at c → top.node ≡ c }
+    requires writable { IsWritable C.given U.account cells.old usage.old top.at }
+    requires ready { Ready C.kept C.given U.account cells.old usage.old }
+    ensures seat { IfOk result (λ seat. (spare : (ℕ → ℕ) → ℕ) (way : List Fork) (end : Tree) → SeatAsks C.has U.account cells.old usage.old place key.now spare top.at way end
+        → IsSeat C.has C.given U.account cells.old usage.old cells.new usage.new place key.now spare top.at way end seat.root seat.at) }
+    ensures spends { (spare : (ℕ → ℕ) → ℕ) (way : List Fork) (end : Tree) → SeatAsks C.has U.account cells.old usage.old place key.now spare top.at way end
+        → (U.account usage.new).spent ≤ (U.account usage.old).spent + copied_along (U.account usage.old).mutable 1 top.at way }
+    ensures refused { IfErr result (λ f. Refused C.has U.account U.lacks cells.old usage.old cells.new usage.new f) }
+    ensures frame { Fenced C.has C.kept C.given U.account cells.old usage.old cells.new usage.new }
+    ensures ready { Ready C.kept C.given U.account cells.new usage.new }
+{
+    let last = last_mutable(cells, usage, key, place, 0, top);
+    let copied = copy_way(cells, usage, key, place, 0, last)?;
+    cells.put(last.at, copied.node);
+    Ok(Seat {
+        root: top.at,
+        at: copied.seat,
+    })
+}
+
+/// Another root for one that may not be written: all of the way is copied.
+fn open_anew<C: CellWrite, U: Space>(
+    cells: &mut C,
+    usage: &mut U,
+    key: &Key,
+    place: u16,
+    top: Spot,
+) -> Result<Seat, Full>
+    requires asks { SeatAsked C.has U.account cells.old usage.old place key.now top.at }
+    requires node { (c : Cell) → C.has cells.old top.at c → top.node ≡ c }
+    requires immutable { (U.account usage.old).mutable top.at ≡ false }
+    requires ready { Ready C.kept C.given U.account cells.old usage.old }
+    ensures seat { IfOk result (λ seat. (spare : (ℕ → ℕ) → ℕ) (way : List Fork) (end : Tree) → SeatAsks C.has U.account cells.old usage.old place key.now spare top.at way end
+        → IsSeat C.has C.given U.account cells.old usage.old cells.new usage.new place key.now spare top.at way end seat.root seat.at) }
+    ensures spends { (spare : (ℕ → ℕ) → ℕ) (way : List Fork) (end : Tree) → SeatAsks C.has U.account cells.old usage.old place key.now spare top.at way end
+        → (U.account usage.new).spent ≤ (U.account usage.old).spent + copied_along (U.account usage.old).mutable 1 top.at way }
+    ensures refused { IfErr result (λ f. Refused C.has U.account U.lacks cells.old usage.old cells.new usage.new f) }
+    ensures frame { Fenced C.has C.kept C.given U.account cells.old usage.old cells.new usage.new }
+    ensures ready { Ready C.kept C.given U.account cells.new usage.new }
+{
+    let root = room_for(cells, usage, 1)?;
+    let from = Spot {
+        at: root,
+        node: top.node,
+    };
+    match copy_way(cells, usage, key, place, 0, from) {
+        Err(full) => {
+            usage.release(root, 1);
+            Err(full)
+        }
+        Ok(copied) => {
+            cells.put(root, copied.node);
+            usage.release(top.at, 1);
+            Ok(Seat {
+                root,
+                at: copied.seat,
+            })
+        }
+    }
+}
+
+/// Makes the way along the key mutable, down to the first node whose offset isn't before the place. No entry changes. Where there is
+/// no room, nothing does.
+pub fn make_mutable<C: CellWrite, U: Space>(
+    cells: &mut C,
+    usage: &mut U,
+    root: Ref,
+    key: &Key,
+    place: u16,
+) -> Result<Seat, Full>
+    requires asks { SeatAsked C.has U.account cells.old usage.old place key.now root }
+    requires ready { Ready C.kept C.given U.account cells.old usage.old }
+    ensures seat { IfOk result (λ seat. (spare : (ℕ → ℕ) → ℕ) (way : List Fork) (end : Tree) → SeatAsks C.has U.account cells.old usage.old place key.now spare root way end
+        → IsSeat C.has C.given U.account cells.old usage.old cells.new usage.new place key.now spare root way end seat.root seat.at) }
+    ensures spends { (spare : (ℕ → ℕ) → ℕ) (way : List Fork) (end : Tree) → SeatAsks C.has U.account cells.old usage.old place key.now spare root way end
+        → (U.account usage.new).spent ≤ (U.account usage.old).spent + copied_along (U.account usage.old).mutable 1 root way }
+    ensures refused { IfErr result (λ f. Refused C.has U.account U.lacks cells.old usage.old cells.new usage.new f) }
+    ensures frame { Fenced C.has C.kept C.given U.account cells.old usage.old cells.new usage.new }
+    ensures ready { Ready C.kept C.given U.account cells.new usage.new }
+{
+    let top = Spot {
+        at: root,
+        node: cells.cell(root),
+    };
+    if usage.is_mutable(root) {
+        open_below(cells, usage, key, place, top)
+    } else {
+        open_anew(cells, usage, key, place, top)
+    }
+}

@@ -1,0 +1,67 @@
+//! A branch without one of its leaves.
+
+ghost use Rattle.std.specs.Prelude.{◌≡◌, ◌+◌, ◌≤◌, ℕ, List, IfOk, IfErr, count_ones};
+ghost use Rattle.trie_model.specs.Keys.{Entry};
+ghost use Rattle.trie_model.specs.Trees.{Tree};
+ghost use Rattle.trie_model.specs.Trees.Tree.{leaf};
+ghost use Rattle.trie_write.specs.Deletions.{LeafTurn, LeafTurned, IsWithout};
+ghost use Rattle.trie_write.specs.Puts.{IsTaken};
+ghost use Rattle.trie_write.specs.Spaces.{Ready, Frame, Refused};
+ghost use Rattle.trie_write.specs.Ways.{Fork, plug};
+
+use super::change::{Change, NO_CELLS, Span, item_span};
+use super::place::copy_apart;
+use super::turn::Turn;
+use chunk_cells::CellWrite;
+use chunk_usage::{Full, Space};
+use packed_node::{Branch, Node, bitmap};
+use shift_key::Key;
+
+/// What makes of a branch the same without the key's leaf: the others side by side in other cells, or of two twigs the other one.
+pub fn without_leaf<C: CellWrite, U: Space>(
+    cells: &mut C,
+    usage: &mut U,
+    key: &Key,
+    turn: Turn,
+) -> Result<Change, Full>
+    requires last { LeafTurned C.has U.account cells.old usage.old key.now turn }
+    requires ready { Ready C.kept C.given U.account cells.old usage.old }
+    ensures without { IfOk result (λ change. (lower : List Fork) (e : Entry) (first : ℕ) → LeafTurn C.has U.account cells.old usage.old key.now turn lower e first
+        → IsWithout C.has cells.new change e (plug lower (leaf e first))) }
+    ensures taken { IfOk result (λ change. IsTaken (U.account usage.old) (U.account usage.new) change) }
+    ensures spends { (U.account usage.new).spent + 1 ≤ (U.account usage.old).spent + count_ones turn.branch.bitmap }
+    ensures refused { IfErr result (λ f. Refused C.has U.account U.lacks cells.old usage.old cells.new usage.new f) }
+    ensures frame { Frame C.has C.kept C.given U.account cells.old usage.old cells.new usage.new }
+    ensures ready { Ready C.kept C.given U.account cells.new usage.new }
+{
+    let old_twigs = Span {
+        at: turn.branch.twigs,
+        n: turn.branch.twig_count(),
+    };
+    let old_item = item_span(turn.next);
+    if old_twigs.n == 2 {
+        return Ok(Change {
+            cell: cells.cell(turn.branch.twigs + (1 - turn.index)),
+            new_twigs: NO_CELLS,
+            new_item: NO_CELLS,
+            old_twigs,
+            old_item,
+        });
+    }
+    let to = copy_apart(cells, usage, old_twigs, turn.index, 1, 0)?;
+    let fewer = Branch {
+        offset: turn.branch.offset,
+        bitmap: bitmap::without(turn.branch.bitmap, key.at(turn.branch.offset)),
+        twigs: to,
+    };
+    Ok(Change {
+        cell: Node::Branch(fewer).pack(),
+        new_twigs: Span {
+            at: to,
+            n: old_twigs.n - 1,
+        },
+        new_item: NO_CELLS,
+        old_twigs,
+        old_item,
+    })
+}
