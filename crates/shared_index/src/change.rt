@@ -1,16 +1,14 @@
 //! A call of a transaction that changes its working set, as one: what the trie's crate says of its three calls.
 //!
 //! Nothing else in this crate names those calls.
-ghost use Rattle.std.specs.Prelude.{◌≡◌, ◌↔◌, ◌+◌, ◌≤◌, ℕ, true, List, IfOk, IfErr, Err, slice_index};
+ghost use Rattle.std.specs.Prelude.{◌≡◌, ◌↔◌, ◌+◌, ◌≤◌, ℕ, List, IfOk, IfErr, Err};
 ghost use Rattle.trie_model.specs.Keys.{Entry, InList};
 ghost use Rattle.zone_model.specs.Keys.{Leads};
-ghost use Rattle.chunk_usage.specs.Ledger.{is_used, is_fresh, frozen_part};
 ghost use Rattle.chunk_usage.specs.Handing.{Lacks, spent};
-ghost use Rattle.chunk_usage.specs.Rooms.{Ready};
-ghost use Rattle.trie_write.specs.Frames.{Fenced};
-ghost use Rattle.trie_write.specs.Roots.{OnPath};
+ghost use Rattle.chunk_usage.specs.Rooms.{account_of};
+ghost use Rattle.trie_write.specs.Roots.{TwigsOnPath};
+ghost use Rattle.trie_write.specs.Spaces.{Ready, Fenced, Unchanged as Same};
 ghost use Rattle.trie_model.specs.Trees.{cells_in};
-ghost use Rattle.packed_node.specs.declared.Cell.{Cell};
 ghost use Rattle.shared_index.specs.Operations.{operated, with_entry, without};
 ghost use Rattle.shared_index.specs.Bases.{IsRooted};
 ghost use Rattle.shared_index.specs.Changes.{operation_of, key_of, written_by, LeadsItem, IsRefused};
@@ -47,20 +45,17 @@ pub(crate) fn change_trie<C: CellWrite>(
 ) -> Result<Option<Ref>, Unchanged>
     requires rooted { (es : List Entry) × IsRooted (C.has cells.old) usage.old root es }
     requires leads { LeadsItem change.now }
-    requires ready { Ready (C.kept cells.old) (C.given cells.old) usage.old.given (is_used usage.old) (is_fresh usage.old) }
+    requires ready { Ready C.kept C.given account_of cells.old usage.old }
     ensures done { IfOk result (λ new. (es : List Entry) → IsRooted (C.has cells.old) usage.old root es
         → IsRooted (C.has cells.new) usage.new new (operated es (operation_of change.now))) }
     ensures refused { (es : List Entry) → IsRooted (C.has cells.old) usage.old root es → (result ≡ Err Unchanged.Refused) ↔ IsRefused change.now es }
     ensures stays { IfErr result (λ _. (es : List Entry) → IsRooted (C.has cells.old) usage.old root es → IsRooted (C.has cells.new) usage.new root es) }
-    ensures untouched { IfErr result (λ _. (q : ℕ) (c : Cell) → is_used usage.old q ≡ true → C.has cells.old q c → C.has cells.new q c) }
-    ensures unchanged { IfErr result (λ _. (k : ℕ) → slice_index usage.new.live k ≡ slice_index usage.old.live k) }
+    ensures unchanged { IfErr result (λ _. Same C.has account_of cells.old usage.old cells.new usage.new) }
     ensures full { (f : _) → result ≡ Err (Unchanged.Full f) → Lacks usage.new f }
-    ensures spends { (n : ℕ) → OnPath (C.has cells.old) (is_used usage.old) (λ k. slice_index usage.old.live k) root (key_of change.now) n
+    ensures spends { (n : ℕ) → TwigsOnPath C.has account_of cells.old usage.old root (key_of change.now) n
         → spent usage.new ≤ spent usage.old + (written_by change.now + n) }
-    ensures frozen { frozen_part usage.new ≡ frozen_part usage.old }
-    ensures frame { Fenced (C.has cells.old) (C.has cells.new) (C.kept cells.old) (C.kept cells.new) (C.given cells.old) (C.given cells.new)
-        (is_used usage.old) (is_used usage.new) (is_fresh usage.old) (is_fresh usage.new) }
-    ensures ready { Ready (C.kept cells.new) (C.given cells.new) usage.new.given (is_used usage.new) (is_fresh usage.new) }
+    ensures frame { Fenced C.has C.kept C.given account_of cells.old usage.old cells.new usage.new }
+    ensures ready { Ready C.kept C.given account_of cells.new usage.new }
 {
     match *change {
         Change::Insert(key, item) => insert(cells, usage, root, key, item),
@@ -79,20 +74,17 @@ fn insert<C: CellWrite>(
 ) -> Result<Option<Ref>, Unchanged>
     requires rooted { (es : List Entry) × IsRooted (C.has cells.old) usage.old root es }
     requires leads { Leads key.now item.now }
-    requires ready { Ready (C.kept cells.old) (C.given cells.old) usage.old.given (is_used usage.old) (is_fresh usage.old) }
+    requires ready { Ready C.kept C.given account_of cells.old usage.old }
     ensures done { IfOk result (λ new. (es : List Entry) → IsRooted (C.has cells.old) usage.old root es
         → IsRooted (C.has cells.new) usage.new new (with_entry es (record { key = key.now; item = item.now }))) }
     ensures refused { (es : List Entry) → IsRooted (C.has cells.old) usage.old root es → (result ≡ Err Unchanged.Refused) ↔ ((x : Entry) × InList x es × (x.key ≡ key.now)) }
     ensures stays { IfErr result (λ _. (es : List Entry) → IsRooted (C.has cells.old) usage.old root es → IsRooted (C.has cells.new) usage.new root es) }
-    ensures untouched { IfErr result (λ _. (q : ℕ) (c : Cell) → is_used usage.old q ≡ true → C.has cells.old q c → C.has cells.new q c) }
-    ensures unchanged { IfErr result (λ _. (k : ℕ) → slice_index usage.new.live k ≡ slice_index usage.old.live k) }
+    ensures unchanged { IfErr result (λ _. Same C.has account_of cells.old usage.old cells.new usage.new) }
     ensures full { (f : _) → result ≡ Err (Unchanged.Full f) → Lacks usage.new f }
-    ensures spends { (n : ℕ) → OnPath (C.has cells.old) (is_used usage.old) (λ k. slice_index usage.old.live k) root key.now n
+    ensures spends { (n : ℕ) → TwigsOnPath C.has account_of cells.old usage.old root key.now n
         → spent usage.new ≤ spent usage.old + (3 + cells_in item.now + n) }
-    ensures frozen { frozen_part usage.new ≡ frozen_part usage.old }
-    ensures frame { Fenced (C.has cells.old) (C.has cells.new) (C.kept cells.old) (C.kept cells.new) (C.given cells.old) (C.given cells.new)
-        (is_used usage.old) (is_used usage.new) (is_fresh usage.old) (is_fresh usage.new) }
-    ensures ready { Ready (C.kept cells.new) (C.given cells.new) usage.new.given (is_used usage.new) (is_fresh usage.new) }
+    ensures frame { Fenced C.has C.kept C.given account_of cells.old usage.old cells.new usage.new }
+    ensures ready { Ready C.kept C.given account_of cells.new usage.new }
 {
     match trie_write::insert(cells, usage, root, key, item) {
         Ok(new) => Ok(new),
@@ -111,20 +103,17 @@ fn replace<C: CellWrite>(
 ) -> Result<Option<Ref>, Unchanged>
     requires rooted { (es : List Entry) × IsRooted (C.has cells.old) usage.old root es }
     requires leads { Leads key.now item.now }
-    requires ready { Ready (C.kept cells.old) (C.given cells.old) usage.old.given (is_used usage.old) (is_fresh usage.old) }
+    requires ready { Ready C.kept C.given account_of cells.old usage.old }
     ensures done { IfOk result (λ new. (es : List Entry) → IsRooted (C.has cells.old) usage.old root es
         → IsRooted (C.has cells.new) usage.new new (with_entry es (record { key = key.now; item = item.now }))) }
     ensures refused { (es : List Entry) → IsRooted (C.has cells.old) usage.old root es → (result ≡ Err Unchanged.Refused) ↔ ((x : Entry) → InList x es → x.key ≡ key.now → ⊥) }
     ensures stays { IfErr result (λ _. (es : List Entry) → IsRooted (C.has cells.old) usage.old root es → IsRooted (C.has cells.new) usage.new root es) }
-    ensures untouched { IfErr result (λ _. (q : ℕ) (c : Cell) → is_used usage.old q ≡ true → C.has cells.old q c → C.has cells.new q c) }
-    ensures unchanged { IfErr result (λ _. (k : ℕ) → slice_index usage.new.live k ≡ slice_index usage.old.live k) }
+    ensures unchanged { IfErr result (λ _. Same C.has account_of cells.old usage.old cells.new usage.new) }
     ensures full { (f : _) → result ≡ Err (Unchanged.Full f) → Lacks usage.new f }
-    ensures spends { (n : ℕ) → OnPath (C.has cells.old) (is_used usage.old) (λ k. slice_index usage.old.live k) root key.now n
+    ensures spends { (n : ℕ) → TwigsOnPath C.has account_of cells.old usage.old root key.now n
         → spent usage.new ≤ spent usage.old + (3 + cells_in item.now + n) }
-    ensures frozen { frozen_part usage.new ≡ frozen_part usage.old }
-    ensures frame { Fenced (C.has cells.old) (C.has cells.new) (C.kept cells.old) (C.kept cells.new) (C.given cells.old) (C.given cells.new)
-        (is_used usage.old) (is_used usage.new) (is_fresh usage.old) (is_fresh usage.new) }
-    ensures ready { Ready (C.kept cells.new) (C.given cells.new) usage.new.given (is_used usage.new) (is_fresh usage.new) }
+    ensures frame { Fenced C.has C.kept C.given account_of cells.old usage.old cells.new usage.new }
+    ensures ready { Ready C.kept C.given account_of cells.new usage.new }
 {
     match trie_write::replace(cells, usage, root, key, item) {
         Ok(new) => Ok(new),
@@ -141,20 +130,17 @@ fn delete<C: CellWrite>(
     key: &Key,
 ) -> Result<Option<Ref>, Unchanged>
     requires rooted { (es : List Entry) × IsRooted (C.has cells.old) usage.old root es }
-    requires ready { Ready (C.kept cells.old) (C.given cells.old) usage.old.given (is_used usage.old) (is_fresh usage.old) }
+    requires ready { Ready C.kept C.given account_of cells.old usage.old }
     ensures done { IfOk result (λ new. (es : List Entry) → IsRooted (C.has cells.old) usage.old root es
         → IsRooted (C.has cells.new) usage.new new (without es key.now)) }
     ensures refused { (es : List Entry) → IsRooted (C.has cells.old) usage.old root es → (result ≡ Err Unchanged.Refused) ↔ ((x : Entry) → InList x es → x.key ≡ key.now → ⊥) }
     ensures stays { IfErr result (λ _. (es : List Entry) → IsRooted (C.has cells.old) usage.old root es → IsRooted (C.has cells.new) usage.new root es) }
-    ensures untouched { IfErr result (λ _. (q : ℕ) (c : Cell) → is_used usage.old q ≡ true → C.has cells.old q c → C.has cells.new q c) }
-    ensures unchanged { IfErr result (λ _. (k : ℕ) → slice_index usage.new.live k ≡ slice_index usage.old.live k) }
+    ensures unchanged { IfErr result (λ _. Same C.has account_of cells.old usage.old cells.new usage.new) }
     ensures full { (f : _) → result ≡ Err (Unchanged.Full f) → Lacks usage.new f }
-    ensures spends { (n : ℕ) → OnPath (C.has cells.old) (is_used usage.old) (λ k. slice_index usage.old.live k) root key.now n
+    ensures spends { (n : ℕ) → TwigsOnPath C.has account_of cells.old usage.old root key.now n
         → spent usage.new ≤ spent usage.old + (1 + n) }
-    ensures frozen { frozen_part usage.new ≡ frozen_part usage.old }
-    ensures frame { Fenced (C.has cells.old) (C.has cells.new) (C.kept cells.old) (C.kept cells.new) (C.given cells.old) (C.given cells.new)
-        (is_used usage.old) (is_used usage.new) (is_fresh usage.old) (is_fresh usage.new) }
-    ensures ready { Ready (C.kept cells.new) (C.given cells.new) usage.new.given (is_used usage.new) (is_fresh usage.new) }
+    ensures frame { Fenced C.has C.kept C.given account_of cells.old usage.old cells.new usage.new }
+    ensures ready { Ready C.kept C.given account_of cells.new usage.new }
 {
     match trie_write::delete(cells, usage, root, key) {
         Ok(new) => Ok(new),
