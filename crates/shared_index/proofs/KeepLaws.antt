@@ -20,17 +20,17 @@ use Rattle.shared_cells.specs.Cells.{Cells, cells_of, given_chunks, kept_referen
 use Rattle.shared_index.specs.Turns.{Agrees, row_for, cell_counts, current_image, is_immutable}
 use Rattle.shared_index.proofs.Lists.{either_true, all_of, all_from, any_from, in_map, of_map, in_flat}
 
-immutable_used : (u : Ledger) (q : ℕ) → is_immutable u q ≡ true → is_used u q ≡ true
+pub immutable_used : (u : Ledger) (q : ℕ) → is_immutable u q ≡ true → is_used u q ≡ true
 immutable_used u q h = first_true (is_used u q) (not (is_fresh u q)) h
 
-immutable_old : (u : Ledger) (q : ℕ) → is_immutable u q ≡ true → is_fresh u q ≡ false
+pub immutable_old : (u : Ledger) (q : ℕ) → is_immutable u q ≡ true → is_fresh u q ≡ false
 immutable_old u q h = go (is_fresh u q) (second_true (is_used u q) (not (is_fresh u q)) h)
   where
     go : (b : Bool) → not b ≡ true → b ≡ false
     go true h = sym h
     go false h = refl
 
-immutable_of : (u : Ledger) (q : ℕ) → is_used u q ≡ true → is_fresh u q ≡ false → is_immutable u q ≡ true
+pub immutable_of : (u : Ledger) (q : ℕ) → is_used u q ≡ true → is_fresh u q ≡ false → is_immutable u q ≡ true
 immutable_of u q a b = both_true (is_used u q) (not (is_fresh u q)) a (ap not b)
 
 module _ (cells : Cells) (u : Ledger) (is : IsLedger u) (count : ℕ) (wide : cells.chunks ≡ length u.given) (agrees : Agrees cells u count) where

@@ -7,3 +7,4 @@ pub mod WordsLaws
 pub mod Walks
 pub mod OperationLaws
 pub mod ChangeLaws
+pub mod AttemptLaws

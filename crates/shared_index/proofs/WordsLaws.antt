@@ -1,5 +1,5 @@
 -- A view whose words have changed, and nothing else.
-use Rattle.std.proofs.Common.{◌≡◌, ◌∙◌, ℕ, ◌+◌, ◌*◌, ◌&&◌, Bool, List, length, replicate, Option, Some, None, refl, sym, ap, arith}
+use Rattle.std.proofs.Common.{◌≡◌, ◌∙◌, ℕ, ◌+◌, ◌*◌, ◌&&◌, Bool, List, length, replicate, Option, Some, None, refl, sym, ap, subst, arith}
 use Rattle.std.proofs.lemmas.List.{length-replicate}
 use Rattle.std.proofs.lemmas.List.FromFn.{length-map-range_with_len}
 use Rattle.atomic_table.specs.Seated.{TableId}
@@ -40,3 +40,14 @@ freed_chunks u = length-map-range_with_len (λ chunk. is_given u chunk && is_nee
 -- the chunks that lent cells say are given are so in the seat that they came from
 pub given_after : (n : ℕ) (t : Option TurnView) (cells : Cells) (kept : List Kept) (given : List Bool) → cells.chunks ≡ n → cells_of cells.chunks t ≡ record cells { kept = kept } → given_chunks cells ≡ given → given_chunks (cells_of n t) ≡ given
 given_after n t cells kept given count same is = ap (λ (k : ℕ). given_chunks (cells_of k t)) (sym count) ∙ given_by_words (cells_of cells.chunks t) cells kept same ∙ is
+
+-- cells that were lent by a seat of this view, and the seat that they come back as
+
+pub lent_begins : (cells : Cells) (v lender : Known) (n k : ℕ) → cells ≡ cells_of k lender.turn → v ≡ lender → n ≡ k → cells ≡ cells_of n v.turn
+lent_begins cells v lender n k is same count = subst (λ (w : Known). cells ≡ cells_of n w.turn) (sym same) (subst (λ (m : ℕ). cells ≡ cells_of m lender.turn) (sym count) is)
+
+pub lent_seat : (w v lender : Known) (words : List ℕ) → w ≡ with_words lender words → v ≡ lender → w ≡ with_words v words
+lent_seat w v lender words is same = subst (λ (x : Known). w ≡ with_words x words) (sym same) is
+
+pub lent_back : (now cells : Cells) (v lender : Known) → now ≡ record cells { kept = kept_in lender.turn } → v ≡ lender → now ≡ record cells { kept = kept_in v.turn }
+lent_back now cells v lender is same = subst (λ (x : Known). now ≡ record cells { kept = kept_in x.turn }) (sym same) is

@@ -6,3 +6,4 @@ pub mod Bases
 pub mod Drafts
 pub mod Logged
 pub mod Changes
+pub mod Tries
