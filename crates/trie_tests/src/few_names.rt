@@ -8,8 +8,9 @@ ghost use Rattle.trie_write.specs.Entries.{entries_of_items};
 ghost use Rattle.trie_write.specs.Spaces.{Ready};
 ghost use Rattle.trie_write.specs.Standing.{HasTrie};
 
-use chunk_cells::{CellWrite, PlainCells};
-use chunk_usage::{Space, Usage};
+use crate::room::unused_room;
+use chunk_cells::CellWrite;
+use chunk_usage::Space;
 use dns_name::Name;
 use packed_node::Ref;
 use std::test::Fail;
@@ -73,8 +74,7 @@ fn sizes_with<C: CellWrite, U: Space>(
 
 #[test]
 fn a_name_is_put_beside_another(rt: HostRuntime) -> Result<(), Fail> {
-    let mut memory = PlainCells::new(rt.alloc(), 16)?;
-    let mut usage = Usage::new(rt.alloc(), 16, 2)?;
+    let (mut memory, mut usage) = unused_room(rt.alloc(), 16)?;
     let name = Name::from_wire(b"\x07example\0").ok_or("no name")?;
     let example = Item::of(rt.alloc(), &name, b"1").ok().ok_or("no item")?;
     let name = Name::from_wire(b"\x02ns\x07example\0").ok_or("no name")?;
@@ -90,8 +90,7 @@ fn a_name_is_put_beside_another(rt: HostRuntime) -> Result<(), Fail> {
 
 #[test]
 fn a_name_is_put_in_once(rt: HostRuntime) -> Result<(), Fail> {
-    let mut memory = PlainCells::new(rt.alloc(), 16)?;
-    let mut usage = Usage::new(rt.alloc(), 16, 2)?;
+    let (mut memory, mut usage) = unused_room(rt.alloc(), 16)?;
     let name = Name::from_wire(b"\x07example\0").ok_or("no name")?;
     let first = [Item::of(rt.alloc(), &name, b"1").ok().ok_or("no item")?];
     let sizes = sizes_with(&mut memory, &mut usage, &first, &first[0]);

@@ -12,4 +12,6 @@ mod many_names;
 #[cfg(test)]
 mod reading;
 #[cfg(test)]
+mod room;
+#[cfg(test)]
 mod usage;

@@ -9,8 +9,9 @@ ghost use Rattle.trie_write.specs.Entries.{entries_of_items};
 ghost use Rattle.trie_write.specs.Spaces.{Ready, Fenced};
 ghost use Rattle.trie_write.specs.Standing.{HasTrie};
 
-use chunk_cells::{CellRead, CellWrite, PlainCells};
-use chunk_usage::{Full, Space, Usage};
+use crate::room::unused_room;
+use chunk_cells::{CellRead, CellWrite};
+use chunk_usage::{Full, Space};
 use dns_name::Name;
 use packed_node::Ref;
 use shift_key::Key;
@@ -156,8 +157,7 @@ fn rising_names() -> [&'static str; 20] {
 
 #[test]
 fn twenty_names_come_and_go(rt: HostRuntime) -> Result<(), Fail> {
-    let mut memory = PlainCells::new(rt.alloc(), 16)?;
-    let mut usage = Usage::new(rt.alloc(), 16, 2)?;
+    let (mut memory, mut usage) = unused_room(rt.alloc(), 16)?;
     let rising = rising_names();
     let first = items_of(rt.alloc(), &rising, b"1")?;
     let second = items_of(rt.alloc(), &rising, b"a longer payload than before")?;
@@ -225,8 +225,7 @@ fn sizes<C: CellWrite, U: Space>(
 
 #[test]
 fn twenty_names_are_built(rt: HostRuntime) -> Result<(), Fail> {
-    let mut memory = PlainCells::new(rt.alloc(), 16)?;
-    let mut usage = Usage::new(rt.alloc(), 16, 2)?;
+    let (mut memory, mut usage) = unused_room(rt.alloc(), 16)?;
     let items = items_of(rt.alloc(), &rising_names(), b"1")?;
     assert!(rt; rise(&items));
     let sizes = sizes(&mut memory, &mut usage, &items);
