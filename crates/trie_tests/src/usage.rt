@@ -3,6 +3,7 @@
 ghost use Rattle.std.specs.Prelude.{◌≡◌, ◌<◌, ◌≤◌};
 ghost use Rattle.chunk_usage.specs.Ledger.{frozen_part};
 
+use crate::room::unused_room;
 use chunk_cells::{CellWrite, PlainCells};
 use chunk_usage::{Full, Grant, Space, Usage};
 use packed_node::Ref;
@@ -10,7 +11,7 @@ use std::test::Fail;
 
 #[test]
 fn cells_are_handed_out_until_the_reserve_is_left(rt: HostRuntime) -> Result<(), Fail> {
-    let mut usage = Usage::new(rt.alloc(), 16, 2)?;
+    let (_, mut usage) = unused_room(rt.alloc(), 16)?;
     assert_eq!(rt;
         (usage.chunks(), usage.free(), usage.reserve()),
         (16, 16, 4)
@@ -73,8 +74,7 @@ fn take(usage: &mut Usage, cells: &mut PlainCells, n: u32) -> Result<Ref, Full>
 
 #[test]
 fn chunks_are_given_back_when_no_version_has_them(rt: HostRuntime) -> Result<(), Fail> {
-    let mut usage = Usage::new(rt.alloc(), 16, 1)?;
-    let mut cells = PlainCells::new(rt.alloc(), 16)?;
+    let (mut cells, mut usage) = unused_room(rt.alloc(), 16)?;
     assert_eq!(rt; take(&mut usage, &mut cells, 100), Ok(0));
     usage.freeze(0);
     assert_eq!(rt;
