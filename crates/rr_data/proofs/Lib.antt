@@ -5,6 +5,7 @@ pub mod EntryLemmas
 pub mod EscapeLemmas
 pub mod FieldLemmas
 pub mod FormLemmas
+pub mod ItemViewLemmas
 pub mod NumberLemmas
 pub mod OneEscapeLemmas
 pub mod PlaceLemmas

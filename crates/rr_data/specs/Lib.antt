@@ -2,6 +2,7 @@ pub mod Changes
 pub mod Escapes
 pub mod Fields
 pub mod Items
+pub mod ItemViews
 pub mod Places
 pub mod Printing
 pub mod Pushing

@@ -317,7 +317,9 @@ fn push_typed(rtype: u16, octets: &[u8], out: &mut Vec<u8>) -> Result<bool, Allo
     }
 }
 
-fn push_data(rtype: u16, octets: &[u8], out: &mut Vec<u8>) -> Result<(), AllocError>
+/// Pushes data as it is printed for a type: its fields, or `\#`, the number of octets and their digits where they aren't of
+/// the type's form. Where no memory is left, some of that may have been pushed.
+pub fn push_data(rtype: u16, octets: &[u8], out: &mut Vec<u8>) -> Result<(), AllocError>
     ensures ok { OnOk result (out.new.items ≡ out.old.items ++ data_text rtype octets.now) }
     ensures kept { StartsWith out.new.items out.old.items }
 {

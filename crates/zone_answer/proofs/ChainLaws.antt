@@ -13,13 +13,10 @@ use Rattle.zone_model.proofs.OrderLemmas.{ends_under}
 use Rattle.trie_model.specs.Keys as trie
 use Rattle.trie_model.specs.Order.{begins, chain_labels, labels_in, IsThere}
 use Rattle.trie_model.proofs.AboveLaws.{under_begins}
-use Rattle.trie_model.proofs.ChainLaws.{chain_take, chain_skip, begins_same}
+use Rattle.trie_model.proofs.ChainLaws.{chain_take, chain_skip}
 use Rattle.trie_model.proofs.NameLaws.{labels_of}
-use Rattle.trie_read.specs.Finds.{IsKind}
-use Rattle.trie_read.specs.declared.found.Kind.TheVariants.{Partial, Absent}
 use Rattle.zone_answer.specs.Standing.{IsStorable, IsVersion, trie_entry}
 use Rattle.zone_answer.proofs.AncestorLaws.{length-ancestor, self_under}
-use Rattle.zone_answer.proofs.OwnedLaws.{nothing_owned}
 
 abbrev among : ℕ → List ℕ → Bool
 among k labels = list_any (λ n. eqb n k) labels
@@ -79,15 +76,3 @@ there_exists name (pair ∷ version) is items t = elim t.1 [
     or_true : (b : Bool) → (b || true) ≡ true
     or_true true = refl
     or_true false = refl
-
-pub partial_owns : (name : Name) (version : Version) (key : List ℕ) → key ≡ key_of name → IsKind key (map trie_entry version) Partial → [] ≡ owned name version
-partial_owns name version key e k = nothing_owned name version (subst (λ (x : List ℕ). IsThere x (map trie_entry version) → ⊥) e k.0)
-
-begins_self : (key : List ℕ) → begins key key ≡ true
-begins_self key = begins_same key key (omega arith) (λ i l. refl)
-
-pub absent_owns : (name : Name) (version : Version) (key : List ℕ) → key ≡ key_of name → IsKind key (map trie_entry version) Absent → [] ≡ owned name version
-absent_owns name version key e k = nothing_owned name version (λ t.
-    let no = k t.0 t.1 in
-    let yes : begins t.0.key key ≡ true = subst (λ (x : List ℕ). begins x key ≡ true) (e ∙ sym t.2) (begins_self key) in
-    absurd cc)

@@ -1,5 +1,5 @@
 -- The first cut from the origin on, by how many labels the names have.
-use Rattle.std.proofs.Common.{◌≡◌, ◌∙◌, ℕ, ◌+◌, ◌-◌, ◌<◌, ◌≤◌, Bool, true, false, cond, not, ◌&&◌, [], length, inl, inr, Option, Some, None, MatchOption, refl, sym, ap, subst, arith, length-drop}
+use Rattle.std.proofs.Common.{◌≡◌, ◌∙◌, ℕ, ◌+◌, ◌-◌, ◌<◌, ◌≤◌, Bool, true, false, cond, not, ◌&&◌, List, [], length, inl, inr, Option, Some, None, MatchOption, refl, sym, ap, subst, arith, length-drop}
 use Rattle.std.proofs.lemmas.Bool.{cases_lt}
 use Rattle.std.specs.Option.{is_some}
 use Rattle.zone_model.specs.Names.{Name, ancestor, is_under, same_name}
@@ -7,9 +7,8 @@ use Rattle.zone_model.specs.Records.{Rrset, Entry, rrset_of}
 use Rattle.zone_model.specs.Versions.{Version, owned}
 use Rattle.zone_answer.specs.Answers.{is_cut, cut_above}
 use Rattle.zone_answer.specs.Parts.{delegated, IsCutOf, NoneTo, NoneOver}
-use Rattle.zone_answer.specs.declared.cut.Cut.{Cut}
+use Rattle.zone_answer.specs.declared.records.Held.{Held}
 use Rattle.zone_answer.proofs.AncestorLaws.{never_cut, cut_by_set, first_above, none_above, ancestor_self}
-use denote.Ref.{Bor}
 
 pub none_to_origin : (origin name : Name) (version : Version) (labels : ℕ) → labels ≡ length origin → NoneTo origin name version labels
 none_to_origin origin name version labels e k l = never_cut origin (ancestor k name) version (let n = length-drop (length name - k) name in omega arith)
@@ -23,7 +22,7 @@ pub is_delegated : (version : Version) (name : Name) → is_some (rrset_of 2 (ow
 is_delegated version name e = ap (λ b. cond b (Some name) None) e
 
 -- what is found of a type among what a name owns
-pub found_set : (found : Option (Bor Rrset)) (entry owns : Entry) → entry ≡ owns → MatchOption found (rrset_of 2 entry ≡ None) (λ s. rrset_of 2 entry ≡ Some s.now) → is_some (rrset_of 2 owns) ≡ is_some found
+pub found_set : (found : Option Rrset) (entry owns : Entry) → entry ≡ owns → MatchOption found (rrset_of 2 entry ≡ None) (λ s. rrset_of 2 entry ≡ Some s) → is_some (rrset_of 2 owns) ≡ is_some found
 found_set None entry owns e h = ap (λ (x : Entry). is_some (rrset_of 2 x)) (sym e) ∙ ap (λ (x : Option Rrset). is_some x) h
 found_set (Some s) entry owns e h = ap (λ (x : Entry). is_some (rrset_of 2 x)) (sym e) ∙ ap (λ (x : Option Rrset). is_some x) h
 
@@ -53,8 +52,8 @@ none_to_next origin name version labels u a b none d k l = elim (cases_lt labels
   | inr g ↦ none k g
 ]
 
-pub cut_found : (origin name : Name) (version : Version) (labels : ℕ) (cut : Cut) → is_under name origin ≡ true → length origin ≤ labels → labels < length name → NoneTo origin name version labels → IsCutOf version (delegated version (ancestor (labels + 1) name)) (Some cut) → IsCutOf version (cut_above origin version name) (Some cut)
-cut_found origin name version labels cut u a b none d =
+pub cut_found : (origin name : Name) (version : Version) (octets : List ℕ) (labels : ℕ) (cut : Held) → is_under name origin ≡ true → length origin ≤ labels → labels < length name → NoneTo origin name version labels → IsCutOf version octets (delegated version (ancestor (labels + 1) name)) (Some cut) → IsCutOf version octets (cut_above origin version name) (Some cut)
+cut_found origin name version octets labels cut u a b none d =
     let s = set_some version (ancestor (labels + 1) name) cut.name d.0 in
     let e = cut_by_set origin name (labels + 1) version u (omega arith) (omega arith) ∙ s.0 in
     (first_above (is_cut origin version) name (labels + 1) (omega arith) e (λ k m. none k (omega arith)) ∙ ap (λ (x : Name). Some x) s.1, d.1)
@@ -78,8 +77,8 @@ no_cut origin name version none e = none_above (is_cut origin version) name (λ 
 
 -- ---- whether it is a cut
 
-pub own_by_set : (origin name : Name) (version : Version) (entry : Entry) (found : Option (Bor Rrset)) → is_under name origin ≡ true → length origin < length name → entry ≡ owned name version →
-    MatchOption found (rrset_of 2 entry ≡ None) (λ s. rrset_of 2 entry ≡ Some s.now) → is_cut origin version name ≡ is_some found
+pub own_by_set : (origin name : Name) (version : Version) (entry : Entry) (found : Option Rrset) → is_under name origin ≡ true → length origin < length name → entry ≡ owned name version →
+    MatchOption found (rrset_of 2 entry ≡ None) (λ s. rrset_of 2 entry ≡ Some s) → is_cut origin version name ≡ is_some found
 own_by_set origin name version entry found u l e f =
     let self = ancestor_self name (length name) (omega arith) in
     ap (is_cut origin version) (sym self) ∙ cut_by_set origin name (length name) version u l (omega arith) ∙ ap (λ (x : Name). is_some (rrset_of 2 (owned x version))) self ∙ found_set found entry (owned name version) e f

@@ -8,3 +8,4 @@ pub mod CutLaws
 pub mod AnswerLaws
 pub mod ChainLaws
 pub mod StepLaws
+pub mod HeldLaws

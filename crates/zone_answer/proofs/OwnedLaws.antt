@@ -1,5 +1,5 @@
 -- What the trie has under a name's key is the item of what the name owns.
-use Rattle.std.proofs.Common.{◌≡◌, ◌∙◌, ℕ, Bool, true, false, cond, List, [], ◌∷◌, take, inl, inr, Option, Some, None, unwrap_or, map, refl, sym, ap, subst}
+use Rattle.std.proofs.Common.{◌≡◌, ◌∙◌, ℕ, Bool, true, false, cond, List, [], ◌∷◌, inl, inr, Option, Some, None, unwrap_or, map, refl, sym, ap, subst}
 use Rattle.std.specs.List.{AllByRecursion}
 use Rattle.std.specs.List.Sorted.{IsStrictlySortedBy}
 use Rattle.std.specs.Map.{keys_of}
@@ -16,7 +16,6 @@ use Rattle.zone_model.proofs.KeyLaws.{key_once}
 use Rattle.rr_data.proofs.EntryChanges.{item_once}
 use Rattle.trie_model.specs.Keys as trie
 use Rattle.trie_model.specs.Order.{IsThere}
-use Rattle.trie_read.specs.Readings.{Fetched}
 use Rattle.zone_answer.specs.Standing.{IsStorable, IsVersion, trie_entry}
 
 reversed_self : (o : Ordering) → o ≡ ordering_reverse o → o ≡ Equal
@@ -37,9 +36,6 @@ pub kept : (e : trie.Entry) (version : Version) → AllByRecursion IsStorable ve
 kept e [] items i = absurd i
 kept e (pair ∷ version) items (inl s) = record { pair = pair; is = s; storable = items.0 }
 kept e (pair ∷ version) items (inr r) = let k = kept e version items.1 r in record { pair = k.pair; is = k.is; storable = k.storable }
-
-item_of_kept : (e : trie.Entry) (version : Version) → AllByRecursion IsStorable version → trie.InList e (map trie_entry version) → (name : Name) × (entry : Entry) × IsItem e.item name entry
-item_of_kept e version items i = let k = kept e version items i in (k.pair.0, k.pair.1, subst (λ (x : trie.Entry). IsItem x.item k.pair.0 k.pair.1) (sym k.is) k.storable)
 
 -- a name that is there comes after what comes before all names
 pub later_name : (x name : Name) (e : trie.Entry) (version : Version) → IsName name → AllByRecursion IsStorable version → AllByRecursion (λ y. name_cmp x y ≡ Less) (keys_of version) → trie.InList e (map trie_entry version) → e.key ≡ key_of name → name_cmp x name ≡ Less
@@ -76,19 +72,16 @@ entry_none name (pair ∷ version) never = false_or (is_eq (name_cmp name pair.0
     (λ h. absurd (never (trie_entry pair) (inl refl) (ap key_of (sym (same_name-true name pair.0 h)))))
     (λ h. ap (λ b. cond b (Some pair.1) (entry_of name version)) h ∙ entry_none name version (λ e i k. never e (inr i) k))
 
--- ---- what is fetched
-
-abbrev Found : List ℕ → Version → List ℕ → ℕ → Type 0
-Found key version octets len = Fetched key (map trie_entry version) [] octets (Some len)
+-- ---- what is read
 
 pub nothing_owned : (name : Name) (version : Version) → (IsThere (key_of name) (map trie_entry version) → ⊥) → [] ≡ owned name version
 nothing_owned name version never = sym (ap (λ (o : Option Entry). unwrap_or o []) (entry_none name version (λ e i k. never (e, i, k))))
 
-pub owned_is : (name : Name) (version : Version) (octets : List ℕ) (len : ℕ) (owner : Name) (entry : Entry) → IsName name → IsVersion version → Found (key_of name) version octets len → IsItem (take len octets) owner entry → entry ≡ owned name version
-owned_is name version octets len owner entry is v f item =
-    sym (ap (λ (o : Option Entry). unwrap_or o []) (entry_there name version f.0 owner entry is v.rising v.items f.1 f.2 (subst (λ (bytes : List ℕ). IsItem bytes owner entry) f.4 item)))
-
-pub never_malformed : (key : List ℕ) (version : Version) (octets : List ℕ) (len : ℕ) → IsVersion version → Found key version octets len → ((owner : Name) (entry : Entry) → IsItem (take len octets) owner entry → ⊥) → ⊥
-never_malformed key version octets len v f never =
-    let k = item_of_kept f.0 version v.items f.1 in
-    never k.0 k.1 (subst (λ (bytes : List ℕ). IsItem bytes k.0 k.1) (sym f.4) k.2)
+-- the item under a name's key is that of what the name owns
+pub item_under : (name : Name) (version : Version) (e : trie.Entry) → IsName name → IsVersion version → trie.InList e (map trie_entry version) → e.key ≡ key_of name → IsItem e.item name (owned name version)
+item_under name version e is v i key =
+    let k = kept e version v.items i in
+    let same : k.pair.0 ≡ name = key_once k.pair.0 name k.storable.name.each is.each (sym (ap (λ (y : trie.Entry). y.key) k.is) ∙ key) in
+    let item : IsItem e.item k.pair.0 k.pair.1 = subst (λ (x : trie.Entry). IsItem x.item k.pair.0 k.pair.1) (sym k.is) k.storable in
+    let own : owned name version ≡ k.pair.1 = ap (λ (o : Option Entry). unwrap_or o []) (entry_there name version e k.pair.0 k.pair.1 is v.rising v.items i key item) in
+    subst (λ (n : Name). IsItem e.item n (owned name version)) same (subst (λ (x : Entry). IsItem e.item k.pair.0 x) (sym own) item)

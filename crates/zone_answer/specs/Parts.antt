@@ -1,38 +1,56 @@
 -- Parts of an answer as the code has them.
-use Rattle.std.specs.Prelude.{◌≡◌, ℕ, ◌-◌, ◌≤◌, true, false, List, [], ◌++◌, length, take, map, if◌then◌else◌, Option, Some, None, Result, Ok, Err}
+use Rattle.std.specs.Prelude.{◌≡◌, ℕ, ◌-◌, ◌<◌, ◌≤◌, true, false, List, [], ◌++◌, length, take, if◌then◌else◌, Option, Some, None, Result, Ok, Err}
 use Rattle.std.specs.Option.{is_some}
+use Rattle.std.specs.List.{flat_map}
 use Rattle.std.specs.declared.alloc.AllocError.{AllocError}
 use Rattle.zone_model.specs.Names.{Name, ancestor}
-use Rattle.zone_model.specs.Keys.{key_of}
-use Rattle.zone_model.specs.Records.{Entry, rrset_of}
+use Rattle.zone_model.specs.Records.{Rrset, Entry, rrset_of}
 use Rattle.zone_model.specs.Versions.{Version, owned, exists}
-use Rattle.zone_model.specs.Rows.{Row}
-use Rattle.trie_model.specs.Order.{chain_labels}
-use Rattle.trie_read.specs.declared.found.Chain.{Chain}
+use Rattle.zone_model.specs.Rows.{Row, rows_of}
+use Rattle.rr_data.specs.ItemViews.{SaysEntry}
 use Rattle.zone_answer.specs.Answers as answers
 use Rattle.zone_answer.specs.Answers.{Step, is_cut, cut_above, ns_type}
-use Rattle.zone_answer.specs.Standing.{trie_entry}
-use Rattle.zone_answer.specs.declared.cut.Cut.{Cut}
+use Rattle.zone_answer.specs.declared.records.Held.{Held}
 use Rattle.zone_answer.specs.declared.step.Next.{Next}
 use Rattle.zone_answer.specs.declared.step.Next.TheVariants.{Ends, LeadsTo}
 
--- the chain tells which names at or above a name are there
-abbrev pub IsChain : Name → Version → Chain → Type 0
-IsChain name version chain = take chain.len chain.labels ≡ chain_labels (key_of name) (map trie_entry version)
+-- an RRset with its owner
+pub record OwnedSet : Type 0 where
+  pub owner : Name
+  pub set : Rrset
 
--- what a name that is there owns
-abbrev pub IsFound : Name → Version → Option Entry → Type 0
-IsFound name version None = [] ≡ owned name version
-IsFound name version (Some entry) = (entry ≡ owned name version) × (exists name version ≡ true)
+-- the records of RRsets, each with its owner
+abbrev pub rows_in : List OwnedSet → List Row
+rows_in sets = flat_map (λ s. rows_of s.owner s.set) sets
+
+-- ---- what was read
+
+-- the octets in front are those of what a name owns; there are some only where it is there
+pub record IsRead (name : Name) (version : Version) (octets : List ℕ) (len : ℕ) : Type 0 where
+  pub within : len ≤ 4096
+  pub says : SaysEntry name (take len octets) (owned name version)
+  pub there : 0 < len → exists name version ≡ true
+
+-- the octets in front are those of an entry
+pub record IsHeld (octets : List ℕ) (held : Held) (entry : Entry) : Type 0 where
+  pub within : held.len ≤ 4096
+  pub says : SaysEntry held.name (take held.len octets) entry
+
+-- what answers for a name was read, if anything does
+abbrev pub IsNodeOf : List ℕ → Option Entry → Option Held → Type 0
+IsNodeOf octets node None = node ≡ None
+IsNodeOf octets node (Some held) = (entry : Entry) × (node ≡ Some entry) × IsHeld octets held entry
+
+-- ---- cuts
 
 -- a name, if it owns an NS set
 abbrev pub delegated : Version → Name → Option Name
 delegated version name = if is_some (rrset_of ns_type (owned name version)) then Some name else None
 
--- the name of a cut with what it owns
-abbrev pub IsCutOf : Version → Option Name → Option Cut → Type 0
-IsCutOf version name None = name ≡ None
-IsCutOf version name (Some cut) = (name ≡ Some cut.name) × (cut.entry ≡ owned cut.name version)
+-- what the name of a cut owns was read
+abbrev pub IsCutOf : Version → List ℕ → Option Name → Option Held → Type 0
+IsCutOf version octets name None = name ≡ None
+IsCutOf version octets name (Some held) = (name ≡ Some held.name) × IsHeld octets held (owned held.name version)
 
 -- of the names at or above a name, none with so many labels or fewer is a cut
 abbrev pub NoneTo : Name → Name → Version → ℕ → Type 0
@@ -43,9 +61,11 @@ abbrev pub NoneOver : Name → Name → Version → Type 0
 NoneOver origin name version = NoneTo origin name version (length name - 1)
 
 -- the first cut, where one of the names above a name is a cut
-abbrev pub IsCutOver : Name → Name → Version → Option Cut → Type 0
-IsCutOver origin name version None = NoneOver origin name version
-IsCutOver origin name version (Some cut) = IsCutOf version (cut_above origin version name) (Some cut)
+abbrev pub IsCutOver : Name → Name → Version → List ℕ → Option Held → Type 0
+IsCutOver origin name version octets None = NoneOver origin name version
+IsCutOver origin name version octets (Some held) = IsCutOf version octets (cut_above origin version name) (Some held)
+
+-- ---- one name
 
 abbrev pub next_view : Next → answers.Next
 next_view (Ends kind) = answers.Ends kind

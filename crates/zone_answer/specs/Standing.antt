@@ -1,5 +1,5 @@
 -- A version of a zone, and the entries of the trie that it stands as.
-use Rattle.std.specs.Prelude.{List, map}
+use Rattle.std.specs.Prelude.{◌≡◌, List, ◌++◌, map}
 use Rattle.std.specs.List.{AllByRecursion}
 use Rattle.std.specs.List.Sorted.{IsStrictlySortedBy}
 use Rattle.std.specs.Map.{keys_of}
@@ -7,7 +7,12 @@ use Rattle.zone_model.specs.Names.{Name, name_cmp}
 use Rattle.zone_model.specs.Keys.{key_of}
 use Rattle.zone_model.specs.Records.{Entry, IsItem, item}
 use Rattle.zone_model.specs.Versions.{Version}
+use Rattle.packed_node.specs.declared.Leaf.{Leaf}
 use Rattle.trie_model.specs.Keys as trie
+use Rattle.trie_model.specs.Order.{chain}
+use Rattle.trie_read.specs.Above.{AreAncestors}
+use Rattle.trie_read.specs.Readings.{AtSplit}
+use Rattle.trie_read.specs.declared.ancestors.Ancestor.{Ancestor}
 
 -- a name's records can be an item
 abbrev pub IsStorable : Name × Entry → Type 0
@@ -30,3 +35,21 @@ pub record Shows (holds : List trie.Entry → Type 0) (version : Version) : Type
 -- it shows some version
 abbrev pub ShowsSome : (List trie.Entry → Type 0) → Type 0
 ShowsSome holds = (version : Version) × Shows holds version
+
+-- it shows a version, and these are the leaves of a name and of the names above it that are there
+pub record ShowsAbove (holds : List trie.Entry → Type 0) (lies : Leaf → trie.Entry → Type 0) (name : Name) (above : List Ancestor) (version : Version) : Type 0 where
+  pub shows : Shows holds version
+  pub above_are : AreAncestors lies (chain (key_of name) (map trie_entry version)) above
+
+-- it shows a version, and an iterator stands somewhere in it
+pub record StandsOn (holds : List trie.Entry → Type 0) (stands : List trie.Entry → List trie.Entry → Type 0) (version : Version) : Type 0 where
+  pub shows : Shows holds version
+  pub before : List trie.Entry
+  pub after : List trie.Entry
+  pub whole : map trie_entry version ≡ before ++ after
+  pub standing : stands before after
+
+-- it shows a version, and an iterator stands at a name's place in it
+pub record IsPlaced (holds : List trie.Entry → Type 0) (stands : List trie.Entry → List trie.Entry → Type 0) (name : Name) (version : Version) : Type 0 where
+  pub shows : Shows holds version
+  pub at : AtSplit stands (key_of name) (map trie_entry version)

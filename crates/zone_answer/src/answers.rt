@@ -3,14 +3,14 @@
 ghost use Rattle.std.specs.Prelude.{◌≡◌, List};
 
 use crate::kind::Kind;
-use crate::row::Row;
+use crate::rows::Rows;
 use std::marker::Model;
 
 /// An answer: its kind, and the records that it gives.
 #[derive(Drop)]
 pub struct Answer {
     kind: Kind,
-    rows: Vec<Row>,
+    rows: Rows,
 }
 
 impl Model for Answer {
@@ -18,12 +18,12 @@ impl Model for Answer {
 
     ghost Value = { Answer };
 
-    ghost view = { λ a. record { kind = a.kind; rows = a.rows.items } };
+    ghost view = { λ a. record { kind = a.kind; rows = a.rows } };
 }
 
 impl Answer {
-    pub(crate) fn new(kind: Kind, rows: Vec<Row>) -> Answer
-        ensures { result ≡ record { kind = kind; rows = rows.items } }
+    pub(crate) fn new(kind: Kind, rows: Rows) -> Answer
+        ensures { result ≡ record { kind = kind; rows = rows } }
     {
         Answer { kind, rows }
     }
@@ -34,7 +34,7 @@ impl Answer {
         self.kind
     }
 
-    pub fn rows(&self) -> &[Row]
+    pub fn rows(&self) -> &Rows
         ensures { result.now ≡ self.now.rows }
     {
         &self.rows

@@ -1,42 +1,38 @@
 //! Cuts: names below which another zone begins.
 
-ghost use Rattle.std.specs.Prelude.{◌≡◌, ◌≤◌, ◌==◌, IfOk, length, take, true};
-ghost use Rattle.std.specs.List.{list_any};
+ghost use Rattle.std.specs.Prelude.{◌≡◌, ◌≤◌, ◌==◌, length, true};
+ghost use Rattle.std.specs.List.{find};
+ghost use Rattle.std.specs.Option.{option_map};
 ghost use Rattle.zone_model.specs.Names.{is_under, ancestor};
-ghost use Rattle.zone_model.specs.Keys.{key_of};
 ghost use Rattle.zone_model.specs.Versions.{Version, owned};
+ghost use Rattle.trie_read.specs.declared.ancestors.Ancestor.{Ancestor};
 ghost use Rattle.zone_answer.specs.Answers.{is_cut};
-ghost use Rattle.zone_answer.specs.Parts.{IsChain, IsCutOf, IsCutOver, delegated};
-ghost use Rattle.zone_answer.specs.Standing.{Shows, ShowsSome};
+ghost use Rattle.zone_answer.specs.Parts.{IsCutOf, IsCutOver, delegated};
+ghost use Rattle.zone_answer.specs.Standing.{ShowsAbove};
 
-use crate::records::owned_by;
+use crate::records::Held;
 use dns_name::Name;
-use rr_data::Entry;
-use shift_key::Key;
-use std::alloc::{AllocError, Global};
-use trie_read::{Chain, Reading};
+use packed_node::Leaf;
+use rr_data::ItemView;
+use trie_read::{Ancestor, Reading};
 
 /// The type of an authoritative server.
 pub const NS: u16 = 2;
 
-/// A name that owns an NS set, and all that it owns.
-#[derive(Drop)]
-pub struct Cut {
-    pub name: Name,
-    pub entry: Entry,
-}
-
-/// Whether the name of so many labels is there.
-fn has(chain: &Chain, labels: u8) -> bool
-    ensures { result ≡ list_any (λ n. n == labels) (take chain.now.len chain.now.labels) }
+/// The leaf of the name of so many labels, if that is there.
+fn leaf_of(above: &[Ancestor], labels: u8) -> Option<Leaf>
+    ensures { result ≡ option_map (λ (a : Ancestor). a.leaf) (find (λ (a : Ancestor). a.labels == labels) above.now) }
 {
-    chain.labels[..chain.len as usize]
-        .iter()
-        .any(|n| *n == labels)
+    for ancestor in above {
+        if ancestor.labels == labels {
+            return Some(ancestor.leaf);
+        }
+    }
+    None
 }
 
 /// Whether a name in the zone of an origin is a cut, if this is what it owns.
-pub fn is_cut(origin: &Name, name: &Name, entry: &Entry) -> bool
+pub fn is_cut(origin: &Name, name: &Name, entry: &ItemView<'_>) -> bool
     requires { is_under name.now origin.now ≡ true }
     ensures { (zone : Version) → entry.now ≡ owned name.now zone → result ≡ is_cut origin.now zone name.now }
 {
@@ -46,75 +42,52 @@ pub fn is_cut(origin: &Name, name: &Name, entry: &Entry) -> bool
     entry.find_set(NS).is_some()
 }
 
-/// The name of so many labels at or above a name, if it owns an NS set.
+/// The name of so many labels at or above a name, if it owns an NS set. What it owns is read into a buffer.
 fn delegated<V: Reading>(
-    alloc: Global,
     version: &mut V,
     name: &Name,
     labels: u8,
-    chain: &Chain,
+    above: &[Ancestor],
     item: &mut [u8; 4096],
-) -> Result<Option<Cut>, AllocError>
-    requires shown { ShowsSome (V.holds version.old) }
+) -> Option<Held>
+    requires shown { (zone : Version) × ShowsAbove (V.holds version.old) (V.lies version.old) name.now above.now zone }
     requires few { labels ≤ length name.now }
     ensures same { version.new ≡ version.old }
-    ensures cut { (zone : Version) → Shows (V.holds version.old) zone → IsChain name.now zone chain.now
-        → IfOk result (IsCutOf zone (delegated zone (ancestor labels name.now))) }
+    ensures cut { (zone : Version) → ShowsAbove (V.holds version.old) (V.lies version.old) name.now above.now zone
+        → IsCutOf zone item.new (delegated zone (ancestor labels name.now)) result }
 {
     let _wire = name.wire();
-    if !has(chain, labels) {
-        return Ok(None);
+    let leaf = leaf_of(above, labels)?;
+    let held = Held {
+        name: name.cut(labels),
+        len: version.read(leaf, item),
+    };
+    if held.view(item).find_set(NS).is_none() {
+        return None;
     }
-    let above = name.cut(labels);
-    let entry = owned_by(alloc, version, &above, item)?;
-    if entry.find_set(NS).is_none() {
-        return Ok(None);
-    }
-    Ok(Some(Cut { name: above, entry }))
+    Some(held)
 }
 
-/// Of the cuts above a name, the one nearest to the origin, by a chain that tells which names are there.
-fn cut_on<V: Reading>(
-    alloc: Global,
+/// Of the cuts above a name, the one nearest to the origin, by the names at or above it that are there. What it owns is read into
+/// a buffer.
+pub fn cut_over<V: Reading>(
     version: &mut V,
     origin: &Name,
     name: &Name,
-    chain: &Chain,
+    above: &[Ancestor],
     item: &mut [u8; 4096],
-) -> Result<Option<Cut>, AllocError>
-    requires shown { ShowsSome (V.holds version.old) }
+) -> Option<Held>
+    requires shown { (zone : Version) × ShowsAbove (V.holds version.old) (V.lies version.old) name.now above.now zone }
     requires under { is_under name.now origin.now ≡ true }
     ensures same { version.new ≡ version.old }
-    ensures cut { (zone : Version) → Shows (V.holds version.old) zone → IsChain name.now zone chain.now
-        → IfOk result (IsCutOver origin.now name.now zone) }
+    ensures cut { (zone : Version) → ShowsAbove (V.holds version.old) (V.lies version.old) name.now above.now zone
+        → IsCutOver origin.now name.now zone item.new result }
 {
     let last = name.labels().saturating_sub(1);
     for labels in origin.labels()..last {
-        if let Some(cut) = delegated(alloc, version, name, labels + 1, chain, item)? {
-            return Ok(Some(cut));
+        if let Some(cut) = delegated(version, name, labels + 1, above, item) {
+            return Some(cut);
         }
     }
-    Ok(None)
-}
-
-/// Of the cuts above a name with this key, the one nearest to the origin. A name right under the origin isn't searched for.
-pub fn cut_over<V: Reading>(
-    alloc: Global,
-    version: &mut V,
-    origin: &Name,
-    name: &Name,
-    key: &Key,
-    item: &mut [u8; 4096],
-) -> Result<Option<Cut>, AllocError>
-    requires shown { ShowsSome (V.holds version.old) }
-    requires under { is_under name.now origin.now ≡ true }
-    requires key { key.now ≡ key_of name.now }
-    ensures same { version.new ≡ version.old }
-    ensures cut { (zone : Version) → Shows (V.holds version.old) zone → IfOk result (IsCutOver origin.now name.now zone) }
-{
-    if name.labels().saturating_sub(1) <= origin.labels() {
-        return Ok(None);
-    }
-    let found = version.find(key);
-    cut_on(alloc, version, origin, name, &found.chain, item)
+    None
 }

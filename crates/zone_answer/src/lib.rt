@@ -10,11 +10,11 @@ mod near;
 mod node;
 mod question;
 mod records;
-mod row;
+mod rows;
 mod step;
 
 pub use answers::Answer;
 pub use kind::Kind;
 pub use question::{answer, answer_by};
-pub use records::owned;
-pub use row::Row;
+pub use records::{entry_of, read_owned};
+pub use rows::{OwnedSet, Rows};

@@ -1,14 +1,16 @@
 //! A name's neighbours.
 
-ghost use Rattle.std.specs.Prelude.{◌≡◌, List};
+ghost use Rattle.std.specs.Prelude.{◌≡◌, ◌++◌, ◌∷◌, [], List, Some, None, IfSome, map};
+ghost use Rattle.std.specs.Option.{option_map};
+ghost use Rattle.zone_model.specs.Keys.{key_of};
+ghost use Rattle.zone_model.specs.Names.{Name as Labels, IsName};
 ghost use Rattle.zone_model.specs.Versions.{Version};
 ghost use Rattle.trie_model.specs.Keys.{Entry};
-ghost use Rattle.trie_read.specs.Readings.{IsStanding};
-ghost use Rattle.zone_answer.specs.Standing.{Shows, ShowsSome};
-ghost use Rattle.zone_answer.specs.Neighbours.{AreNeighbours, Names, is_near, shows, first_key};
+ghost use Rattle.trie_read.specs.Readings.{AtSplit, IsStanding};
+ghost use Rattle.zone_answer.specs.Standing.{IsVersion, trie_entry};
+ghost use Rattle.zone_answer.specs.Neighbours.{AreNeighbours, is_near, shows, first_key};
 
 use dns_name::Name;
-use shift_key::Key;
 use trie_read::{Iter, Reading};
 
 /// The names of a version on both sides of a place.
@@ -20,19 +22,6 @@ pub struct Neighbours {
     after: Option<Name>,
 }
 
-fn name_of(key: Option<Key>) -> Option<Name>
-    ensures { Names key result }
-{
-    match key {
-        None => None,
-        Some(key) => {
-            let name = key.to_name();
-            let _wire = name.wire();
-            Some(name)
-        }
-    }
-}
-
 fn is_near(neighbour: &Option<Name>, name: &Name) -> bool
     ensures { result ≡ is_near neighbour.now name.now }
 {
@@ -42,34 +31,46 @@ fn is_near(neighbour: &Option<Name>, name: &Name) -> bool
     }
 }
 
-/// The next key; the iterator stays before it.
-fn peek<V: Reading>(version: &mut V, iter: &mut Iter) -> Option<Key>
+/// The name behind an iterator's place, which stays.
+fn name_ahead<V: Reading>(version: &mut V, iter: &mut Iter) -> Option<Name>
     requires { IsStanding (V.stands version.old iter.old) }
     ensures same { version.new ≡ version.old }
-    ensures first { (before after : List Entry) → V.stands version.old iter.old before after → result ≡ first_key after }
     ensures stays { (before after : List Entry) → V.stands version.old iter.old before after → V.stands version.old iter.new before after }
+    ensures next { (before after : List Entry) → V.stands version.old iter.old before after → option_map key_of result ≡ first_key after }
+    ensures name { IfSome result IsName }
 {
-    match version.next(iter) {
+    match version.ahead(iter) {
+        Some(leaf) => Some(version.name(leaf)),
         None => None,
-        Some(key) => {
-            let _same = version.prev(iter);
-            Some(key)
-        }
+    }
+}
+
+/// The name before an iterator's place, which stays.
+fn name_behind<V: Reading>(version: &mut V, iter: &mut Iter) -> Option<Name>
+    requires { IsStanding (V.stands version.old iter.old) }
+    ensures same { version.new ≡ version.old }
+    ensures stays { (before after : List Entry) → V.stands version.old iter.old before after → V.stands version.old iter.new before after }
+    ensures prev { (before after : List Entry) (e : Entry) → V.stands version.old iter.old (before ++ e ∷ []) after → option_map key_of result ≡ Some e.key }
+    ensures beginning { (after : List Entry) → V.stands version.old iter.old [] after → option_map key_of result ≡ None }
+    ensures name { IfSome result IsName }
+{
+    match version.behind(iter) {
+        Some(leaf) => Some(version.name(leaf)),
+        None => None,
     }
 }
 
 impl Neighbours {
-    /// The neighbours of a name's place.
-    pub fn of<V: Reading>(version: &mut V, name: &Name) -> Neighbours
-        requires { ShowsSome (V.holds version.old) }
+    /// The neighbours of an iterator's place, which stays.
+    pub fn of<V: Reading>(version: &mut V, iter: &mut Iter) -> Neighbours
+        requires { IsStanding (V.stands version.old iter.old) }
         ensures same { version.new ≡ version.old }
-        ensures neighbours { (zone : Version) → Shows (V.holds version.old) zone → AreNeighbours name.now zone result }
+        ensures stays { (before after : List Entry) → V.stands version.old iter.old before after → V.stands version.old iter.new before after }
+        ensures neighbours { (name : Labels) (zone : Version) → IsName name → IsVersion zone
+            → AtSplit (V.stands version.old iter.old) (key_of name) (map trie_entry zone) → AreNeighbours name zone result }
     {
-        let _wire = name.wire();
-        let mut iter = version.iter();
-        version.seek(&mut iter, &Key::of(name));
-        let after = name_of(peek(version, &mut iter));
-        let before = name_of(version.prev(&mut iter));
+        let after = name_ahead(version, iter);
+        let before = name_behind(version, iter);
         Neighbours { before, after }
     }
 

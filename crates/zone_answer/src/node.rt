@@ -1,18 +1,17 @@
 //! What answers for a name.
 
-ghost use Rattle.std.specs.Prelude.{◌≡◌, [], IfOk, Some};
+ghost use Rattle.std.specs.Prelude.{◌≡◌, [], Some};
 ghost use Rattle.zone_model.specs.Versions.{Version, owned};
 ghost use Rattle.zone_answer.specs.Answers.{encloser, node, wildcard_under};
 ghost use Rattle.zone_answer.specs.Neighbours.{AreNeighbours};
-ghost use Rattle.zone_answer.specs.Standing.{IsVersion, Shows, ShowsSome};
+ghost use Rattle.zone_answer.specs.Parts.{IsNodeOf};
+ghost use Rattle.zone_answer.specs.Standing.{IsPlaced, IsVersion, StandsOn};
 
 use crate::near::Neighbours;
-use crate::records::look_up;
+use crate::records::Held;
 use dns_name::Name;
-use rr_data::Entry;
 use shift_key::Key;
-use std::alloc::{AllocError, Global};
-use trie_read::Reading;
+use trie_read::{Ancestors, Iter, Reading};
 
 /// The longest name at or above a name that exists: each name at or above it exists exactly where a neighbour of its
 /// place is at or under it.
@@ -26,47 +25,52 @@ fn encloser(near: &Neighbours, name: &Name) -> Option<Name>
     Some(above)
 }
 
-/// What the wildcard right under a name owns, if the wildcard exists.
+/// The wildcard right under a name, if it exists. What it owns is read into a buffer.
 fn wildcard_under<V: Reading>(
-    alloc: Global,
     version: &mut V,
+    iter: &mut Iter,
     name: &Name,
     item: &mut [u8; 4096],
-) -> Result<Option<Entry>, AllocError>
-    requires { ShowsSome (V.holds version.old) }
+) -> Option<Held>
+    requires { (zone : Version) × StandsOn (V.holds version.old) (V.stands version.old iter.old) zone }
     ensures same { version.new ≡ version.old }
-    ensures entry { (zone : Version) → Shows (V.holds version.old) zone → IfOk result (λ o. o ≡ wildcard_under zone (Some name.now)) }
+    ensures node { (zone : Version) → StandsOn (V.holds version.old) (V.stands version.old iter.old) zone
+        → IsNodeOf item.new (wildcard_under zone (Some name.now)) result }
 {
-    let Some(star) = name.star() else {
-        return Ok(None);
-    };
-    if let Some(entry) = look_up(alloc, version, &star, &Key::of(&star), item)? {
-        return Ok(Some(entry));
+    let star = name.star()?;
+    let _wire = star.wire();
+    let mut above = Ancestors::new();
+    if let Some(leaf) = version.lookup(iter, &Key::of(&star), &mut above) {
+        let len = version.read(leaf, item);
+        return Some(Held { name: star, len });
     }
-    if !Neighbours::of(version, &star).show(&star) {
-        return Ok(None);
+    if !Neighbours::of(version, iter).show(&star) {
+        return None;
     }
-    Ok(Some(Entry::empty(alloc)))
+    Some(Held { name: star, len: 0 })
 }
 
-/// What answers for a name that owns nothing: no records where names under it are there, else a wildcard's; `None` where there
-/// is no wildcard for it.
+/// What answers for a name that owns nothing, where the iterator stands at its place: no records where names under it are there,
+/// else a wildcard's; `None` where there is no wildcard for it.
 pub fn absent_node<V: Reading>(
-    alloc: Global,
     version: &mut V,
+    iter: &mut Iter,
     name: &Name,
     item: &mut [u8; 4096],
-) -> Result<Option<Entry>, AllocError>
-    requires { ShowsSome (V.holds version.old) }
+) -> Option<Held>
+    requires { (zone : Version) × IsPlaced (V.holds version.old) (V.stands version.old iter.old) name.now zone }
     ensures same { version.new ≡ version.old }
-    ensures entry { (zone : Version) → Shows (V.holds version.old) zone → [] ≡ owned name.now zone → IfOk result (λ o. o ≡ node zone name.now) }
+    ensures node { (zone : Version) → IsPlaced (V.holds version.old) (V.stands version.old iter.old) name.now zone → [] ≡ owned name.now zone
+        → IsNodeOf item.new (node zone name.now) result }
 {
-    let near = Neighbours::of(version, name);
+    let _wire = name.wire();
+    let near = Neighbours::of(version, iter);
     if near.show(name) {
-        return Ok(Some(Entry::empty(alloc)));
+        return Some(Held {
+            name: *name,
+            len: 0,
+        });
     }
-    match encloser(&near, name) {
-        None => Ok(None),
-        Some(encloser) => wildcard_under(alloc, version, &encloser, item),
-    }
+    let above = encloser(&near, name)?;
+    wildcard_under(version, iter, &above, item)
 }

@@ -7,6 +7,7 @@ ghost use Rattle.zone_answer.specs.Standing.{Shows, ShowsSome};
 
 use crate::answers::Answer;
 use crate::kind::Kind;
+use crate::rows::Rows;
 use crate::step::{Next, step};
 use dns_name::Name;
 use std::alloc::{AllocError, Global};
@@ -45,7 +46,7 @@ pub fn answer_by<V: Reading>(
     ensures same { version.new ≡ version.old }
     ensures answer { (zone : Version) → Shows (V.holds version.old) zone → IfOk result (λ a. a ≡ answer origin.now zone name.now rtype) }
 {
-    let mut rows = Vec::new(alloc);
+    let mut rows = Rows::new(alloc);
     if !name.is_under(origin) {
         return Ok(Answer::new(Kind::Outside, rows));
     }

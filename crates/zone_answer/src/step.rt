@@ -1,25 +1,26 @@
 //! What one name gives to an answer.
 
-ghost use Rattle.std.specs.Prelude.{◌≡◌, [], Some, true};
+ghost use Rattle.std.specs.Prelude.{◌≡◌, ◌∷◌, [], Some, None, MatchOption, true};
 ghost use Rattle.std.specs.Option.{option_map};
+ghost use Rattle.zone_model.specs.Keys.{key_of};
 ghost use Rattle.zone_model.specs.Names.{Name as Labels, is_under};
 ghost use Rattle.zone_model.specs.Records.{rrset_of};
 ghost use Rattle.zone_model.specs.Splits.{split_name};
-ghost use Rattle.zone_model.specs.Versions.{Version, owned};
+ghost use Rattle.zone_model.specs.Versions.{Version, exists, owned};
 ghost use Rattle.zone_answer.specs.Answers.{Ends, alias_in, by_alias, step, target_of, set_rows, ns_type};
-ghost use Rattle.zone_answer.specs.Parts.{Gives, IsFound, NoneOver};
-ghost use Rattle.zone_answer.specs.Standing.{Shows, ShowsSome};
+ghost use Rattle.zone_answer.specs.Parts.{Gives, NoneOver};
+ghost use Rattle.zone_answer.specs.Standing.{IsPlaced, Shows, ShowsSome};
 
 use crate::cut::{NS, cut_over, is_cut};
 use crate::kind::Kind;
 use crate::node::absent_node;
-use crate::records::look_up;
-use crate::row::{Row, push_rows};
+use crate::records::read_owned;
+use crate::rows::Rows;
 use dns_name::Name;
-use rr_data::{Entry, RrSet};
+use rr_data::{ItemView, SetView};
 use shift_key::Key;
 use std::alloc::{AllocError, Global};
-use trie_read::Reading;
+use trie_read::{Ancestors, Iter, Reading};
 
 /// The type of an alias.
 const CNAME: u16 = 5;
@@ -41,18 +42,19 @@ fn name_in(octets: &[u8]) -> Option<Name>
 }
 
 /// The name that an alias's data are.
-fn target_of(alias: &RrSet) -> Option<Name>
+fn target_of(alias: &SetView<'_>) -> Option<Name>
     ensures { result ≡ target_of alias.now.records }
 {
-    match alias.records().first() {
-        Some(rdata) => name_in(rdata.octets()),
+    let mut records = alias.records();
+    match records.next() {
+        Some(octets) => name_in(octets),
         None => None,
     }
 }
 
 /// The alias among a name's records, unless it is itself asked for.
-fn alias_in(entry: &Entry, rtype: u16) -> Option<&RrSet>
-    ensures { option_map (λ s. s.now) result ≡ alias_in rtype entry.now }
+fn alias_in<'a>(entry: &ItemView<'a>, rtype: u16) -> Option<SetView<'a>>
+    ensures { MatchOption result (alias_in rtype entry.now ≡ None) (λ s. alias_in rtype entry.now ≡ Some s) }
 {
     if rtype == CNAME {
         None
@@ -62,16 +64,22 @@ fn alias_in(entry: &Entry, rtype: u16) -> Option<&RrSet>
 }
 
 /// What these records give under an owner.
-fn give(entry: &Entry, owner: &Name, rtype: u16, rows: &mut Vec<Row>) -> Result<Next, AllocError>
-    ensures { Gives (by_alias owner.now rtype entry.now (alias_in rtype entry.now)) rows.old.items rows.new.items result }
+fn give(
+    alloc: Global,
+    entry: &ItemView<'_>,
+    owner: &Name,
+    rtype: u16,
+    rows: &mut Rows,
+) -> Result<Next, AllocError>
+    ensures { Gives (by_alias owner.now rtype entry.now (alias_in rtype entry.now)) rows.old rows.new result }
 {
     if let Some(alias) = alias_in(entry, rtype) {
-        push_rows(rows, owner, alias)?;
-        return Ok(Next::LeadsTo(target_of(alias)));
+        rows.push(alloc, owner, &alias)?;
+        return Ok(Next::LeadsTo(target_of(&alias)));
     }
     match entry.find_set(rtype) {
         Some(set) => {
-            push_rows(rows, owner, set)?;
+            rows.push(alloc, owner, &set)?;
             Ok(Next::Ends(Kind::Answered))
         }
         None => Ok(Next::Ends(Kind::Nodata)),
@@ -79,11 +87,16 @@ fn give(entry: &Entry, owner: &Name, rtype: u16, rows: &mut Vec<Row>) -> Result<
 }
 
 /// A referral to the servers of a cut.
-fn refer(cut: &Name, entry: &Entry, rows: &mut Vec<Row>) -> Result<Next, AllocError>
-    ensures { Gives (record { rows = set_rows cut.now (rrset_of ns_type entry.now); next = Ends Kind.Referral }) rows.old.items rows.new.items result }
+fn refer(
+    alloc: Global,
+    cut: &Name,
+    entry: &ItemView<'_>,
+    rows: &mut Rows,
+) -> Result<Next, AllocError>
+    ensures { Gives (record { rows = set_rows cut.now (rrset_of ns_type entry.now); next = Ends Kind.Referral }) rows.old rows.new result }
 {
     if let Some(servers) = entry.find_set(NS) {
-        push_rows(rows, cut, servers)?;
+        rows.push(alloc, cut, &servers)?;
         return Ok(Next::Ends(Kind::Referral));
     }
     Ok(Next::Ends(Kind::Referral))
@@ -91,39 +104,76 @@ fn refer(cut: &Name, entry: &Entry, rows: &mut Vec<Row>) -> Result<Next, AllocEr
 
 /// What a name that is there gives, where none above it is a cut.
 fn give_own(
+    alloc: Global,
     origin: &Name,
     name: &Name,
-    entry: &Entry,
+    entry: &ItemView<'_>,
     rtype: u16,
-    rows: &mut Vec<Row>,
+    rows: &mut Rows,
 ) -> Result<Next, AllocError>
     requires { is_under name.now origin.now ≡ true }
-    ensures { (zone : Version) → NoneOver origin.now name.now zone → IsFound name.now zone (Some entry.now)
-        → Gives (step origin.now zone rtype name.now) rows.old.items rows.new.items result }
+    ensures { (zone : Version) → NoneOver origin.now name.now zone → entry.now ≡ owned name.now zone → exists name.now zone ≡ true
+        → Gives (step origin.now zone rtype name.now) rows.old rows.new result }
 {
     if is_cut(origin, name, entry) {
-        return refer(name, entry, rows);
+        return refer(alloc, name, entry, rows);
     }
-    give(entry, name, rtype, rows)
+    give(alloc, entry, name, rtype, rows)
 }
 
-/// What a name that isn't there gives, where none above it is a cut.
+/// What a name that isn't there gives, where none above it is a cut and the iterator stands at its place.
 fn give_absent<V: Reading>(
     alloc: Global,
     version: &mut V,
+    iter: &mut Iter,
     name: &Name,
     rtype: u16,
     item: &mut [u8; 4096],
-    rows: &mut Vec<Row>,
+    rows: &mut Rows,
 ) -> Result<Next, AllocError>
-    requires { ShowsSome (V.holds version.old) }
+    requires { (zone : Version) × IsPlaced (V.holds version.old) (V.stands version.old iter.old) name.now zone × ([] ≡ owned name.now zone) }
     ensures same { version.new ≡ version.old }
-    ensures gives { (zone : Version) (origin : Labels) → Shows (V.holds version.old) zone → NoneOver origin name.now zone → [] ≡ owned name.now zone
-        → Gives (step origin zone rtype name.now) rows.old.items rows.new.items result }
+    ensures gives { (zone : Version) (origin : Labels) → IsPlaced (V.holds version.old) (V.stands version.old iter.old) name.now zone → NoneOver origin name.now zone
+        → [] ≡ owned name.now zone → Gives (step origin zone rtype name.now) rows.old rows.new result }
 {
-    match absent_node(alloc, version, name, item)? {
-        Some(entry) => give(&entry, name, rtype, rows),
+    match absent_node(version, iter, name, item) {
+        Some(held) => give(alloc, &held.view(item), name, rtype, rows),
         None => Ok(Next::Ends(Kind::Nxdomain)),
+    }
+}
+
+/// What a name gives, by one walk of the trie: the cuts above it, what it owns, and its neighbours.
+fn search<V: Reading>(
+    alloc: Global,
+    version: &mut V,
+    origin: &Name,
+    name: &Name,
+    key: &Key,
+    rtype: u16,
+    item: &mut [u8; 4096],
+    rows: &mut Rows,
+) -> Result<Next, AllocError>
+    requires shown { ShowsSome (V.holds version.old) }
+    requires under { is_under name.now origin.now ≡ true }
+    requires key { key.now ≡ key_of name.now }
+    ensures same { version.new ≡ version.old }
+    ensures gives { (zone : Version) → Shows (V.holds version.old) zone
+        → Gives (step origin.now zone rtype name.now) rows.old rows.new result }
+{
+    let _wire = name.wire();
+    let mut iter = version.iter();
+    let mut above = Ancestors::new();
+    let found = version.lookup(&mut iter, key, &mut above);
+    if let Some(cut) = cut_over(version, origin, name, above.as_slice(), item) {
+        return refer(alloc, &cut.name, &cut.view(item), rows);
+    }
+    match found {
+        Some(leaf) => {
+            let len = version.read(leaf, item);
+            let entry = ItemView::of(name, &item[..len]);
+            give_own(alloc, origin, name, &entry, rtype, rows)
+        }
+        None => give_absent(alloc, version, &mut iter, name, rtype, item, rows),
     }
 }
 
@@ -135,20 +185,22 @@ pub fn step<V: Reading>(
     name: &Name,
     rtype: u16,
     item: &mut [u8; 4096],
-    rows: &mut Vec<Row>,
+    rows: &mut Rows,
 ) -> Result<Next, AllocError>
     requires shown { ShowsSome (V.holds version.old) }
     requires under { is_under name.now origin.now ≡ true }
     ensures same { version.new ≡ version.old }
     ensures gives { (zone : Version) → Shows (V.holds version.old) zone
-        → Gives (step origin.now zone rtype name.now) rows.old.items rows.new.items result }
+        → Gives (step origin.now zone rtype name.now) rows.old rows.new result }
 {
     let key = Key::of(name);
-    if let Some(cut) = cut_over(alloc, version, origin, name, &key, item)? {
-        return refer(&cut.name, &cut.entry, rows);
+    // above a name right under the origin there is no cut, so it needn't be searched for
+    if name.labels().saturating_sub(1) <= origin.labels() {
+        let len = read_owned(version, name, &key, item);
+        if len > 0 {
+            let entry = ItemView::of(name, &item[..len]);
+            return give_own(alloc, origin, name, &entry, rtype, rows);
+        }
     }
-    match look_up(alloc, version, name, &key, item)? {
-        Some(entry) => give_own(origin, name, &entry, rtype, rows),
-        None => give_absent(alloc, version, name, rtype, item, rows),
-    }
+    search(alloc, version, origin, name, &key, rtype, item, rows)
 }

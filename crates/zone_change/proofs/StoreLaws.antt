@@ -11,6 +11,7 @@ use Rattle.zone_model.specs.Names.{Name, IsName, name_cmp, wire}
 use Rattle.zone_model.specs.Keys.{key_of, Leads}
 use Rattle.zone_model.specs.Records.{Entry, IsItem, item, rrset_bytes}
 use Rattle.zone_model.specs.Versions.{Version, entry_of, owned, put}
+use Rattle.rr_data.specs.ItemViews.{SaysEntry}
 use Rattle.rr_data.proofs.EntryChanges.{item_once}
 use Rattle.trie_model.specs.Keys as trie
 use Rattle.trie_model.specs.Changes.{Inserted}
@@ -182,3 +183,10 @@ one_entry name a b e f h k same = let one = item_once b name name e f (subst (λ
 
 pub nothing_some : (entry : Entry) → 0 < length entry → entry ≡ [] → ⊥
 nothing_some entry some none = let zero : length entry ≡ 0 = ap (λ (l : Entry). length l) none in omega (arith, zero, some)
+
+-- ---- what octets say
+
+-- those of a name that owns something are its item
+pub said_item : (name : Name) (octets : List ℕ) (entry : Entry) → SaysEntry name octets entry → (entry ≡ [] → ⊥) → IsItem octets name entry
+said_item name [] entry h some = absurd (some h)
+said_item name (b ∷ octets) entry h some = h

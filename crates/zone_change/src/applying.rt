@@ -7,13 +7,15 @@ ghost use Rattle.job_script.specs.Views.{operation_view};
 ghost use Rattle.zone_change.specs.Stores.{WorksOn};
 ghost use Rattle.zone_change.specs.Blocks.{Applies, AppliesAll, WorksOnSome};
 
+use crate::buffers::ItemBuffers;
 use crate::entries::{Stopped, changed};
 use crate::storing::store;
 use dns_name::Name;
 use job_script::Operation;
 use qp_multi::{Kept, Transaction};
+use shift_key::Key;
 use std::alloc::Global;
-use zone_answer::owned;
+use zone_answer::{entry_of, read_owned};
 use zone_model::Refusal;
 
 /// Why operations change nothing.
@@ -33,6 +35,7 @@ fn apply<T: Transaction>(
     origin: &Name,
     transaction: &mut T,
     operation: &Operation,
+    buffers: &mut ItemBuffers,
 ) -> Result<(), Stopped>
     requires { WorksOnSome (T.works transaction.old) }
     ensures same_reference { T.home transaction.new ≡ T.home transaction.old }
@@ -42,20 +45,24 @@ fn apply<T: Transaction>(
         → Applies (T.works transaction.new) (T.number transaction.old) (T.chunks transaction.old) base origin.now (operation_view operation.now) version result }
 {
     let owner = operation.owner();
-    let before = owned(alloc, &mut transaction.working(), owner)?;
+    let key = Key::of(owner);
+    let len = read_owned(&mut transaction.working(), owner, &key, &mut buffers.before);
+    let octets = &buffers.before[..len];
+    let before = entry_of(alloc, owner, octets)?;
     let entry = changed(alloc, origin, operation, before.clone()?)?;
-    match store(transaction, owner, &before, &entry) {
+    match store(transaction, owner, &key, octets, &before, &entry, &mut buffers.after) {
         Ok(()) => Ok(()),
         Err(kept) => Err(Stopped::Full(kept)),
     }
 }
 
-/// Makes the changes of operations in the working set, in order, up to the first that is refused.
+/// Makes the changes of operations in the working set, in order, up to the first that is refused, by way of buffers for items.
 pub fn apply_all<T: Transaction>(
     alloc: Global,
     origin: &Name,
     transaction: &mut T,
     operations: &[Operation],
+    buffers: &mut ItemBuffers,
 ) -> Result<(), Halt>
     requires { WorksOnSome (T.works transaction.old) }
     ensures same_reference { T.home transaction.new ≡ T.home transaction.old }
@@ -65,7 +72,7 @@ pub fn apply_all<T: Transaction>(
         → AppliesAll (T.works transaction.new) (T.number transaction.old) (T.chunks transaction.old) base origin.now (map operation_view operations.now) version result }
 {
     for (index, operation) in operations.iter().enumerate() {
-        match apply(alloc, origin, transaction, operation) {
+        match apply(alloc, origin, transaction, operation, buffers) {
             Ok(()) => {}
             Err(Stopped::Memory) => return Err(Halt::Memory),
             Err(Stopped::Refused(refusal)) => return Err(Halt::Refused(refusal)),

@@ -2,7 +2,9 @@
 #![tactic(auto)]
 
 mod applying;
+mod buffers;
 mod entries;
 mod storing;
 
 pub use applying::{Halt, apply_all};
+pub use buffers::ItemBuffers;

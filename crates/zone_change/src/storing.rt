@@ -1,9 +1,11 @@
 //! An entry put under a name in a transaction's working set.
 
 ghost use Rattle.std.specs.Prelude.{◌≡◌, ◌<◌, ◌≤◌, [], List, length};
+ghost use Rattle.zone_model.specs.Keys.{key_of};
 ghost use Rattle.zone_model.specs.Records.{item, IsItem};
 ghost use Rattle.zone_model.specs.Versions.{Version, owned};
 ghost use Rattle.trie_model.specs.Keys as trie;
+ghost use Rattle.rr_data.specs.ItemViews.{SaysEntry};
 ghost use Rattle.zone_change.specs.Stores.{Owns, Stores, WorksOn};
 
 use dns_name::Name;
@@ -12,7 +14,13 @@ use rr_data::Entry;
 use shift_key::Key;
 
 /// A name that owns something loses it.
-fn take_out<T: Transaction>(transaction: &mut T, name: &Name, before: &Entry) -> Result<(), Kept>
+fn take_out<T: Transaction>(
+    transaction: &mut T,
+    name: &Name,
+    key: &Key,
+    before: &Entry,
+) -> Result<(), Kept>
+    requires key { key.now ≡ key_of name.now }
     requires owns { Owns (T.works transaction.old) name.now before.now }
     requires some { 0 < length before.now }
     ensures same_reference { T.home transaction.new ≡ T.home transaction.old }
@@ -22,7 +30,7 @@ fn take_out<T: Transaction>(transaction: &mut T, name: &Name, before: &Entry) ->
         → Stores (T.works transaction.new) (T.number transaction.old) (T.chunks transaction.old) base version name.now [] result }
 {
     let _wire = name.wire();
-    match transaction.delete(&Key::of(name)) {
+    match transaction.delete(key) {
         Ok(()) => Ok(()),
         Err(ChangeRefusal::NotFound) => unreachable!(),
         Err(ChangeRefusal::Full(full)) => Err(full.kept),
@@ -33,9 +41,11 @@ fn take_out<T: Transaction>(transaction: &mut T, name: &Name, before: &Entry) ->
 fn put_in<T: Transaction>(
     transaction: &mut T,
     name: &Name,
+    key: &Key,
     entry: &Entry,
     item: &[u8],
 ) -> Result<(), Kept>
+    requires key { key.now ≡ key_of name.now }
     requires owns { Owns (T.works transaction.old) name.now [] }
     requires item { IsItem item.now name.now entry.now }
     ensures same_reference { T.home transaction.new ≡ T.home transaction.old }
@@ -45,7 +55,7 @@ fn put_in<T: Transaction>(
         → Stores (T.works transaction.new) (T.number transaction.old) (T.chunks transaction.old) base version name.now entry.now result }
 {
     let _wire = name.wire();
-    match transaction.insert(&Key::of(name), item) {
+    match transaction.insert(key, item) {
         Ok(()) => Ok(()),
         Err(InsertRefusal::Exists) => unreachable!(),
         Err(InsertRefusal::Full(full)) => Err(full.kept),
@@ -56,10 +66,12 @@ fn put_in<T: Transaction>(
 fn exchange<T: Transaction>(
     transaction: &mut T,
     name: &Name,
+    key: &Key,
     before: &Entry,
     entry: &Entry,
     item: &[u8],
 ) -> Result<(), Kept>
+    requires key { key.now ≡ key_of name.now }
     requires owns { Owns (T.works transaction.old) name.now before.now }
     requires some { 0 < length before.now }
     requires item { IsItem item.now name.now entry.now }
@@ -71,23 +83,28 @@ fn exchange<T: Transaction>(
         → Stores (T.works transaction.new) (T.number transaction.old) (T.chunks transaction.old) base version name.now entry.now result }
 {
     let _wire = name.wire();
-    match transaction.replace(&Key::of(name), item) {
+    match transaction.replace(key, item) {
         Ok(()) => Ok(()),
         Err(ChangeRefusal::NotFound) => unreachable!(),
         Err(ChangeRefusal::Full(full)) => Err(full.kept),
     }
 }
 
-/// Puts an entry under a name; one that owns nothing isn't in the version. What is as it was isn't written.
+/// Puts an entry under a name, where octets say what it owned before; one that owns nothing isn't in the version. What is as it was
+/// isn't written. The entry's item is laid down in a buffer.
 pub fn store<T: Transaction>(
     transaction: &mut T,
     name: &Name,
+    key: &Key,
+    octets: &[u8],
     before: &Entry,
     entry: &Entry,
+    out: &mut [u8; 4096],
 ) -> Result<(), Kept>
+    requires key { key.now ≡ key_of name.now }
+    requires says { SaysEntry name.now octets.now before.now }
     requires owns { Owns (T.works transaction.old) name.now before.now }
     requires short { 0 < length entry.now → length (item name.now entry.now) ≤ 4096 }
-    requires short_before { 0 < length before.now → length (item name.now before.now) ≤ 4096 }
     ensures same_reference { T.home transaction.new ≡ T.home transaction.old }
     ensures number { T.number transaction.new ≡ T.number transaction.old }
     ensures chunks { T.chunks transaction.new ≡ T.chunks transaction.old }
@@ -98,21 +115,16 @@ pub fn store<T: Transaction>(
         if before.is_empty() {
             return Ok(());
         }
-        return take_out(transaction, name, before);
+        return take_out(transaction, name, key, before);
     }
-    let mut new = [0; 4096];
-    let Some(len) = entry.encode(name, &mut new) else {
+    let Some(len) = entry.encode(name, out) else {
         unreachable!();
     };
     if before.is_empty() {
-        return put_in(transaction, name, entry, &new[..len]);
+        return put_in(transaction, name, key, entry, &out[..len]);
     }
-    let mut old = [0; 4096];
-    let Some(old_len) = before.encode(name, &mut old) else {
-        unreachable!();
-    };
-    if new[..len] == old[..old_len] {
+    if &out[..len] == octets {
         return Ok(());
     }
-    exchange(transaction, name, before, entry, &new[..len])
+    exchange(transaction, name, key, before, entry, &out[..len])
 }

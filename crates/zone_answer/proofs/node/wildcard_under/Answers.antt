@@ -1,35 +1,73 @@
-use Rattle.std.proofs.Common.{◌≡◌, ◌∙◌, true, false, sym, ap, subst, Option, Some}
+use Rattle.std.proofs.Common.{◌≡◌, ◌∙◌, ℕ, List, [], ◌++◌, true, false, map, refl, sym, ap, subst, arith, Option, Some}
 use Rattle.zone_model.specs.Names.{Name, star_under}
-use Rattle.zone_model.specs.Versions.{owned, exists}
+use Rattle.zone_model.specs.Keys.{key_of}
 use Rattle.zone_model.specs.Records.{Entry}
-use Rattle.zone_answer.specs.Parts.{IsFound}
-use Rattle.zone_answer.specs.Standing.{Shows}
+use Rattle.zone_model.specs.Versions.{owned, exists}
+use Rattle.trie_model.specs.Keys as trie
+use Rattle.trie_read.specs.Reads.{FindsLeaf}
+use Rattle.trie_read.specs.Readings.{AtSplit}
+use Rattle.zone_answer.specs.Answers.{wildcard_under}
+use Rattle.zone_answer.specs.Parts.{IsNodeOf}
+use Rattle.zone_answer.specs.Standing.{trie_entry}
+use Rattle.zone_answer.specs.declared.records.Held.{Held}
 use Rattle.zone_answer.proofs.NodeLaws.{no_wildcard, wildcard}
 use Rattle.zone_answer.proofs.NearLaws.{near_shows}
 use Rattle.zone_answer.proofs.AncestorLaws.{none_too_long, self_under}
+use Rattle.zone_answer.proofs.ChainLaws.{there_exists}
+use Rattle.zone_answer.proofs.OwnedLaws.{nothing_owned}
+use Rattle.zone_answer.proofs.HeldLaws.{read_of}
 use Rattle.zone_answer.proofs.node.wildcard_under.Goals as goal
 
-pub returns-in_default-clause-entry : goal.returns-in_default-clause-entry
-returns-in_default-clause-entry g c zone shows = no_wildcard zone c.args.name.now (none_too_long (star_under c.args.name.now) zone c.in_default.ensures shows.version_is.items)
+pub returns-in_err-star-clause-node : goal.returns-in_err-star-clause-node
+returns-in_err-star-clause-node g c zone on =
+    subst (λ (o : Option Held). IsNodeOf c.args.item.now (wildcard_under zone (Some c.args.name.now)) o) (sym c.from_residual.ensures)
+    (sym (no_wildcard zone c.args.name.now (none_too_long (star_under c.args.name.now) zone c.in_err-star.ensures on.shows.version_is.items)))
 
-pub returns-in-Some-2-clause-entry : goal.returns-in-Some-2-clause-entry
-returns-in-Some-2-clause-entry g c zone shows =
-    let found = subst (λ (o : Option Entry). IsFound c.in-Some.star zone o) c.in-Some-2.is (c.in_ok-entry.ensures.found zone shows) in
-    ap (λ (e : Entry). Some e) found.0 ∙ ap (λ (x : Name). Some (owned x zone)) c.in-Some.ensures
-    ∙ wildcard zone c.args.name.now (subst (λ (x : Name). exists x zone ≡ true) c.in-Some.ensures found.1)
+pub lookup-requires : goal.lookup-requires
+lookup-requires g c = let on = c.requires.1 in (on.before, (on.after, on.standing))
 
-pub returns-then-not-show-clause-entry : goal.returns-then-not-show-clause-entry
-returns-then-not-show-clause-entry g c zone shows =
-    let now = subst (λ s. Shows (g.V.Reading.holds s) zone) (sym c.in_ok-entry.ensures.same) shows in
-    let shown = near_shows c.in-Some.star c.in-Some.star zone c.of-2.result shows.version_is (c.of-2.ensures.neighbours zone now) (self_under c.in-Some.star) in
-    let never : exists c.in-Some.star zone ≡ false = sym shown ∙ sym c.show.ensures ∙ c.if-not-show.true in
-    no_wildcard zone c.args.name.now (subst (λ (x : Name). exists x zone ≡ false) c.in-Some.ensures never)
+pub read-len-requires : goal.read-len-requires
+read-len-requires g c =
+    let on = c.requires.1 in
+    let leaf = c.in-Some.ensures.leaf on.before on.after on.standing in
+    (leaf.0, subst (λ s. g.V.Reading.lies s c.in-Some.leaf leaf.0) (sym c.lookup.ensures.same) leaf.3)
 
-pub returns-clause-entry : goal.returns-clause-entry
-returns-clause-entry g c zone shows =
-    let found = subst (λ (o : Option Entry). IsFound c.in-Some.star zone o) c.in_default-2.is (c.in_ok-entry.ensures.found zone shows) in
-    let now = subst (λ s. Shows (g.V.Reading.holds s) zone) (sym c.in_ok-entry.ensures.same) shows in
-    let shown = near_shows c.in-Some.star c.in-Some.star zone c.of-2.result shows.version_is (c.of-2.ensures.neighbours zone now) (self_under c.in-Some.star) in
-    let there : exists c.in-Some.star zone ≡ true = sym shown ∙ sym c.show.ensures ∙ c.if-not-show.false in
-    ap (λ (e : Entry). Some e) (c.empty.ensures ∙ found) ∙ ap (λ (x : Name). Some (owned x zone)) c.in-Some.ensures
-    ∙ wildcard zone c.args.name.now (subst (λ (x : Name). exists x zone ≡ true) c.in-Some.ensures there)
+pub returns-in-Some-clause-node : goal.returns-in-Some-clause-node
+returns-in-Some-clause-node g c zone on =
+    let leaf = c.in-Some.ensures.leaf on.before on.after on.standing in
+    let there = subst (trie.InList leaf.0) (sym on.whole) leaf.1 in
+    let key = leaf.2 ∙ c.of.ensures in
+    let read = c.read-len.ensures.item leaf.0 (subst (λ s. g.V.Reading.lies s c.in-Some.leaf leaf.0) (sym c.lookup.ensures.same) leaf.3) in
+    let is = read_of c.in_ok-star.star zone leaf.0 c.read-len.new.out c.read-len.result c.wire-wire.ensures.name on.shows.version_is there key read.0 read.1 in
+    let star : c.in_ok-star.star ≡ star_under c.args.name.now = c.in_ok-star.ensures in
+    let exist : exists c.in_ok-star.star zone ≡ true = there_exists c.in_ok-star.star zone c.wire-wire.ensures.name on.shows.version_is.items (leaf.0, there, key) in
+    (owned c.in_ok-star.star zone, sym (ap (λ (n : Name). Some (owned n zone)) star ∙ wildcard zone c.args.name.now (subst (λ (n : Name). exists n zone ≡ true) star exist)), record { within = is.within; says = is.says })
+
+pub of-requires-2 : goal.of-requires-2
+of-requires-2 g c =
+    let on = c.requires.1 in
+    let at = c.lookup.ensures.split on.before on.after on.standing in
+    (at.before, (at.after, subst (λ s. g.V.Reading.stands s c.lookup.new.iter at.before at.after) (sym c.lookup.ensures.same) at.standing))
+
+pub returns-then-not-show-clause-node : goal.returns-then-not-show-clause-node
+returns-then-not-show-clause-node g c zone on =
+    let at = c.lookup.ensures.split on.before on.after on.standing in
+    let placed = subst (λ s. AtSplit (g.V.Reading.stands s c.lookup.new.iter) c.of.result (on.before ++ on.after)) (sym c.lookup.ensures.same) at in
+    let here = subst (λ (k : List ℕ). AtSplit (g.V.Reading.stands c.lookup.new.self c.lookup.new.iter) k (map trie_entry zone)) c.of.ensures (subst (AtSplit (g.V.Reading.stands c.lookup.new.self c.lookup.new.iter) c.of.result) (sym on.whole) placed) in
+    let near = c.of-2.ensures.neighbours c.in_ok-star.star zone c.wire-wire.ensures.name on.shows.version_is here in
+    let shown = near_shows c.in_ok-star.star c.in_ok-star.star zone c.of-2.result on.shows.version_is near (self_under c.in_ok-star.star) in
+    let never : exists c.in_ok-star.star zone ≡ false = sym shown ∙ sym c.show.ensures ∙ c.if-not-show.true in
+    sym (no_wildcard zone c.args.name.now (subst (λ (n : Name). exists n zone ≡ false) c.in_ok-star.ensures never))
+
+pub returns-clause-node : goal.returns-clause-node
+returns-clause-node g c zone on =
+    let at = c.lookup.ensures.split on.before on.after on.standing in
+    let placed = subst (λ s. AtSplit (g.V.Reading.stands s c.lookup.new.iter) c.of.result (on.before ++ on.after)) (sym c.lookup.ensures.same) at in
+    let here = subst (λ (k : List ℕ). AtSplit (g.V.Reading.stands c.lookup.new.self c.lookup.new.iter) k (map trie_entry zone)) c.of.ensures (subst (AtSplit (g.V.Reading.stands c.lookup.new.self c.lookup.new.iter) c.of.result) (sym on.whole) placed) in
+    let near = c.of-2.ensures.neighbours c.in_ok-star.star zone c.wire-wire.ensures.name on.shows.version_is here in
+    let shown = near_shows c.in_ok-star.star c.in_ok-star.star zone c.of-2.result on.shows.version_is near (self_under c.in_ok-star.star) in
+    let exist : exists c.in_ok-star.star zone ≡ true = sym shown ∙ sym c.show.ensures ∙ c.if-not-show.false in
+    let star : c.in_ok-star.star ≡ star_under c.args.name.now = c.in_ok-star.ensures in
+    let leaf = c.in_default.ensures.leaf on.before on.after on.standing in
+    let none = nothing_owned c.in_ok-star.star zone (λ t. leaf t.0 (subst (trie.InList t.0) on.whole t.1) (t.2 ∙ sym c.of.ensures)) in
+    (owned c.in_ok-star.star zone, sym (ap (λ (n : Name). Some (owned n zone)) star ∙ wildcard zone c.args.name.now (subst (λ (n : Name). exists n zone ≡ true) star exist)), record { within = omega arith; says = sym none })

@@ -11,9 +11,9 @@ returns-in-Ends-clause-answer g c zone shows =
     let whole = answer c.args.origin.now zone c.args.name.now c.args.rtype in
     let now = subst (λ s. Shows (g.V.Reading.holds s) zone) (sym c.loop.invariant.same) shows in
     let left : 16 - c.loop.counter ≡ suc (15 - c.loop.counter) = omega arith in
-    let so_far = subst (λ (n : ℕ). whole ≡ behind c.loop.rows.items (followed n c.args.origin.now zone c.args.rtype c.loop.asked)) left (c.loop.invariant.so_far zone shows) in
+    let so_far = subst (λ (n : ℕ). whole ≡ behind c.loop.rows (followed n c.args.origin.now zone c.args.rtype c.loop.asked)) left (c.loop.invariant.so_far zone shows) in
     c.new-in-Ends.ensures
-    ∙ ends whole (15 - c.loop.counter) c.args.origin.now zone c.args.rtype c.loop.asked c.loop.rows.items c.step.new.rows.items so_far c.loop.invariant.under (c.in_ok-kind.ensures.gives zone now).1
+    ∙ ends whole (15 - c.loop.counter) c.args.origin.now zone c.args.rtype c.loop.asked c.loop.rows c.step.new.rows so_far c.loop.invariant.under (c.in_ok-kind.ensures.gives zone now).1
     c.in-Ends.kind (sym (ap next_view c.in-Ends.is) ∙ (c.in_ok-kind.ensures.gives zone now).0)
 
 pub returns-in-LeadsTo-None-clause-answer : goal.returns-in-LeadsTo-None-clause-answer
@@ -21,9 +21,9 @@ returns-in-LeadsTo-None-clause-answer g c zone shows =
     let whole = answer c.args.origin.now zone c.args.name.now c.args.rtype in
     let now = subst (λ s. Shows (g.V.Reading.holds s) zone) (sym c.loop.invariant.same) shows in
     let left : 16 - c.loop.counter ≡ suc (15 - c.loop.counter) = omega arith in
-    let so_far = subst (λ (n : ℕ). whole ≡ behind c.loop.rows.items (followed n c.args.origin.now zone c.args.rtype c.loop.asked)) left (c.loop.invariant.so_far zone shows) in
+    let so_far = subst (λ (n : ℕ). whole ≡ behind c.loop.rows (followed n c.args.origin.now zone c.args.rtype c.loop.asked)) left (c.loop.invariant.so_far zone shows) in
     c.new-in-LeadsTo-None.ensures
-    ∙ leads_nowhere whole (15 - c.loop.counter) c.args.origin.now zone c.args.rtype c.loop.asked c.loop.rows.items c.step.new.rows.items so_far c.loop.invariant.under (c.in_ok-kind.ensures.gives zone now).1
+    ∙ leads_nowhere whole (15 - c.loop.counter) c.args.origin.now zone c.args.rtype c.loop.asked c.loop.rows c.step.new.rows so_far c.loop.invariant.under (c.in_ok-kind.ensures.gives zone now).1
     (sym (ap next_view (c.in-LeadsTo-None.is ∙ ap LeadsTo c.in-LeadsTo-None.field-0-is)) ∙ (c.in_ok-kind.ensures.gives zone now).0)
 
 pub returns-then-not-is_under-2-clause-answer : goal.returns-then-not-is_under-2-clause-answer
@@ -31,11 +31,11 @@ returns-then-not-is_under-2-clause-answer g c zone shows =
     let whole = answer c.args.origin.now zone c.args.name.now c.args.rtype in
     let now = subst (λ s. Shows (g.V.Reading.holds s) zone) (sym c.loop.invariant.same) shows in
     let left : 16 - c.loop.counter ≡ suc (15 - c.loop.counter) = omega arith in
-    let so_far = subst (λ (n : ℕ). whole ≡ behind c.loop.rows.items (followed n c.args.origin.now zone c.args.rtype c.loop.asked)) left (c.loop.invariant.so_far zone shows) in
-    let on = leads_on whole (15 - c.loop.counter) c.args.origin.now zone c.args.rtype c.loop.asked c.loop.rows.items c.step.new.rows.items so_far c.loop.invariant.under (c.in_ok-kind.ensures.gives zone now).1
+    let so_far = subst (λ (n : ℕ). whole ≡ behind c.loop.rows (followed n c.args.origin.now zone c.args.rtype c.loop.asked)) left (c.loop.invariant.so_far zone shows) in
+    let on = leads_on whole (15 - c.loop.counter) c.args.origin.now zone c.args.rtype c.loop.asked c.loop.rows c.step.new.rows so_far c.loop.invariant.under (c.in_ok-kind.ensures.gives zone now).1
     c.in-LeadsTo-Some.target (sym (ap next_view (c.in-LeadsTo-Some.is ∙ ap LeadsTo c.in-LeadsTo-Some.field-0-is)) ∙ (c.in_ok-kind.ensures.gives zone now).0) in
     c.new-then-not-is_under-2.ensures
-    ∙ leads_out whole (15 - c.loop.counter) c.args.origin.now zone c.args.rtype c.in-LeadsTo-Some.target c.step.new.rows.items on (sym c.is_under-in-loop.ensures ∙ c.if-not-is_under-2.true)
+    ∙ leads_out whole (15 - c.loop.counter) c.args.origin.now zone c.args.rtype c.in-LeadsTo-Some.target c.step.new.rows on (sym c.is_under-in-loop.ensures ∙ c.if-not-is_under-2.true)
 
 pub loop-preserved : goal.loop-preserved
 loop-preserved g c = record {
@@ -46,10 +46,10 @@ loop-preserved g c = record {
       let whole = answer c.args.origin.now zone c.args.name.now c.args.rtype in
       let now = subst (λ s. Shows (g.V.Reading.holds s) zone) (sym c.loop.invariant.same) shows in
       let left : 16 - c.loop.counter ≡ suc (15 - c.loop.counter) = omega arith in
-      let so_far = subst (λ (n : ℕ). whole ≡ behind c.loop.rows.items (followed n c.args.origin.now zone c.args.rtype c.loop.asked)) left (c.loop.invariant.so_far zone shows) in
+      let so_far = subst (λ (n : ℕ). whole ≡ behind c.loop.rows (followed n c.args.origin.now zone c.args.rtype c.loop.asked)) left (c.loop.invariant.so_far zone shows) in
       let next : 15 - c.loop.counter ≡ 16 - (c.loop.counter + 1) = omega arith in
-      subst (λ (n : ℕ). whole ≡ behind c.step.new.rows.items (followed n c.args.origin.now zone c.args.rtype c.in-LeadsTo-Some.target)) next
-      (leads_on whole (15 - c.loop.counter) c.args.origin.now zone c.args.rtype c.loop.asked c.loop.rows.items c.step.new.rows.items so_far c.loop.invariant.under (c.in_ok-kind.ensures.gives zone now).1
+      subst (λ (n : ℕ). whole ≡ behind c.step.new.rows (followed n c.args.origin.now zone c.args.rtype c.in-LeadsTo-Some.target)) next
+      (leads_on whole (15 - c.loop.counter) c.args.origin.now zone c.args.rtype c.loop.asked c.loop.rows c.step.new.rows so_far c.loop.invariant.under (c.in_ok-kind.ensures.gives zone now).1
       c.in-LeadsTo-Some.target (sym (ap next_view (c.in-LeadsTo-Some.is ∙ ap LeadsTo c.in-LeadsTo-Some.field-0-is)) ∙ (c.in_ok-kind.ensures.gives zone now).0));
 }
 
@@ -58,4 +58,4 @@ returns-clause-answer g c zone shows =
     let whole = answer c.args.origin.now zone c.args.name.now c.args.rtype in
     let none : 16 - c.loop.counter ≡ 0 = omega arith in
     c.new-2.ensures
-    ∙ last_alias whole c.args.origin.now zone c.args.rtype c.loop.asked c.loop.rows.items (subst (λ (n : ℕ). whole ≡ behind c.loop.rows.items (followed n c.args.origin.now zone c.args.rtype c.loop.asked)) none (c.loop.invariant.so_far zone shows))
+    ∙ last_alias whole c.args.origin.now zone c.args.rtype c.loop.asked c.loop.rows (subst (λ (n : ℕ). whole ≡ behind c.loop.rows (followed n c.args.origin.now zone c.args.rtype c.loop.asked)) none (c.loop.invariant.so_far zone shows))

@@ -10,5 +10,5 @@ invariant-loop g l = record {
   shown : ShowsSome (g.V.Reading.holds l.version);
   same : l.version ≡ l.fn.version;
   under : is_under l.asked l.origin ≡ true;
-  so_far : (zone : Version) → Shows (g.V.Reading.holds l.fn.version) zone → answer l.origin zone l.name l.rtype ≡ behind l.rows.items (followed (16 - l.counter) l.origin zone l.rtype l.asked);
+  so_far : (zone : Version) → Shows (g.V.Reading.holds l.fn.version) zone → answer l.origin zone l.name l.rtype ≡ behind l.rows (followed (16 - l.counter) l.origin zone l.rtype l.asked);
 }

@@ -5,11 +5,11 @@ use Rattle.zone_answer.proofs.StepLaws.{step_own, step_own_cut}
 use Rattle.zone_answer.proofs.step.give_own.Goals as goal
 
 pub returns-then-is_cut : goal.returns-then-is_cut
-returns-then-is_cut c = λ zone none found.
-    let cut = sym (c.is_cut.ensures zone found.0) ∙ c.if-is_cut.true in
-    subst (λ (s : Step). Gives s c.args.rows.now.items c.refer.new.rows.items c.refer.result) (step_own_cut c.args.origin.now c.args.name.now zone c.args.rtype c.args.entry.now none cut found.0) c.refer.ensures
+returns-then-is_cut c = λ zone none own there.
+    let cut = sym (c.is_cut.ensures zone own) ∙ c.if-is_cut.true in
+    subst (λ (s : Step). Gives s c.args.rows.now c.refer.new.rows c.refer.result) (step_own_cut c.args.origin.now c.args.name.now zone c.args.rtype c.args.entry.now none cut own) c.refer.ensures
 
 pub returns : goal.returns
-returns c = λ zone none found.
-    let cut = sym (c.is_cut.ensures zone found.0) ∙ c.if-is_cut.false in
-    subst (λ (s : Step). Gives s c.args.rows.now.items c.give.new.rows.items c.give.result) (step_own c.args.origin.now c.args.name.now zone c.args.rtype c.args.entry.now none cut found.1 found.0) c.give.ensures
+returns c = λ zone none own there.
+    let cut = sym (c.is_cut.ensures zone own) ∙ c.if-is_cut.false in
+    subst (λ (s : Step). Gives s c.args.rows.now c.give.new.rows c.give.result) (step_own c.args.origin.now c.args.name.now zone c.args.rtype c.args.entry.now none cut there own) c.give.ensures

@@ -1,14 +1,11 @@
-use Rattle.std.proofs.Common.{Option, sym, subst}
-use Rattle.zone_model.specs.Records.{Entry}
-use Rattle.zone_answer.specs.Standing.{Shows}
-use Rattle.zone_answer.specs.Parts.{IsCutOver, IsFound}
-use Rattle.zone_answer.specs.declared.cut.Cut.{Cut}
+use Rattle.std.proofs.Common.{◌∙◌, ℕ, ◌-◌, ap, arith}
+use Rattle.zone_model.specs.Versions.{owned}
+use Rattle.zone_answer.proofs.CutLaws.{none_to_origin, none_over}
 use Rattle.zone_answer.proofs.step.step.Goals as goal
 
-pub returns-in-None-clause-gives : goal.returns-in-None-clause-gives
-returns-in-None-clause-gives g c zone shows =
-    let none = subst (λ (o : Option Cut). IsCutOver c.args.origin.now c.args.name.now zone o) c.in_default.is (c.in_ok-cut.ensures.cut zone shows) in
-    let searched = subst (λ s. Shows (g.V.Reading.holds s) zone) (sym c.in_ok-cut.ensures.same) shows in
-    let found = subst (λ (o : Option Entry). IsFound c.args.name.now zone o) c.in-None.is (c.in_ok-entry.ensures.found zone searched) in
-    let now = subst (λ s. Shows (g.V.Reading.holds s) zone) (sym c.in_ok-entry.ensures.same) searched in
-    c.give_absent.ensures.gives zone c.args.origin.now now none found
+pub returns-then-len-gt0-clause-gives : goal.returns-then-len-gt0-clause-gives
+returns-then-len-gt0-clause-gives g c zone shows =
+    let none = none_over c.args.origin.now c.args.name.now zone c.labels-2.result c.saturating_sub.result (c.saturating_sub.ensures ∙ ap (λ (n : ℕ). n - 1) c.labels.ensures) (omega arith)
+    (none_to_origin c.args.origin.now c.args.name.now zone c.labels-2.result c.labels-2.ensures) in
+    let read = c.read_owned-len.ensures.read zone shows in
+    c.give_own.ensures zone none (c.of-entry.ensures (owned c.args.name.now zone) read.says) (read.there (omega arith))

@@ -1,8 +1,8 @@
-use Rattle.std.proofs.Common.{rules, ◌≡◌, ◌∙◌, [], List, ℕ, take, sym, subst}
-use Rattle.zone_model.specs.Records.{Entry}
+use Rattle.std.proofs.Common.{rules, ◌≡◌, ◌∙◌, [], List, ℕ, take, ap, sym, subst}
+use Rattle.zone_model.specs.Records.{Entry, item}
 use Rattle.zone_model.specs.Versions.{Version, put}
 use Rattle.zone_change.specs.Stores.{WorksOn}
-use Rattle.zone_change.proofs.StoreLaws.{unchanged_gone, unchanged_put, one_entry}
+use Rattle.zone_change.proofs.StoreLaws.{unchanged_gone, unchanged_put, one_entry, said_item}
 use Rattle.zone_change.proofs.storing.store.Goals as goal
 
 pub returns-then-is_empty-2-clause-stores : goal.returns-then-is_empty-2-clause-stores
@@ -14,6 +14,14 @@ returns-then-is_empty-2-clause-stores g c base version on is =
 
 pub returns-then-eq-clause-stores : goal.returns-then-eq-clause-stores
 returns-then-eq-clause-stores g c base version on is =
-    let bytes : take c.in-Some.len c.encode.new.out ≡ take c.in-Some-encode.old_len c.encode-2.new.out = search (rules, c.if-eq.ensures, c.if-eq.true) in
-    let same = one_entry c.args.name.now (take c.in-Some.len c.encode.new.out) (take c.in-Some-encode.old_len c.encode-2.new.out) c.args.entry.now c.args.before.now c.in-Some.ensures.item c.in-Some-encode.ensures.item bytes in
+    let some : c.args.before.now ≡ [] → ⊥ = search (rules, c.if-is_empty-3.ensures, c.if-is_empty-3.false) in
+    let bytes : take c.in-Some.len c.encode.new.out ≡ c.args.octets.now = search (rules, c.if-eq.ensures, c.if-eq.true) in
+    let same = one_entry c.args.name.now (take c.in-Some.len c.encode.new.out) c.args.octets.now c.args.entry.now c.args.before.now c.in-Some.ensures.item (said_item c.args.name.now c.args.octets.now c.args.before.now c.requires.says some) bytes in
     subst (λ (v : Version). WorksOn (g.T.Transaction.works c.args.transaction.now) base v) (sym (unchanged_put c.args.name.now c.args.entry.now version on.valid c.in-Some.ensures.item.some (same ∙ is))) on
+
+pub exchange-requires-clause-other : goal.exchange-requires-clause-other
+exchange-requires-clause-other g c e =
+    let some : c.args.before.now ≡ [] → ⊥ = search (rules, c.if-is_empty-3.ensures, c.if-is_empty-3.false) in
+    let old = said_item c.args.name.now c.args.octets.now c.args.before.now c.requires.says some in
+    let never : take c.in-Some.len c.encode.new.out ≡ c.args.octets.now → ⊥ = search (rules, c.if-eq.ensures, c.if-eq.false) in
+    never (c.in-Some.ensures.item.octets ∙ ap (item c.args.name.now) e ∙ sym old.octets)

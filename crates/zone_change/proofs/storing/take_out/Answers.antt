@@ -8,12 +8,12 @@ use Rattle.zone_change.proofs.storing.take_out.Goals as goal
 pub unreachable-requires : goal.unreachable-requires
 unreachable-requires g c =
     let o = c.requires.owns in
-    somebody c.args.name.now c.of.result o.version c.args.before.now c.requires.some o.owned_is c.of.ensures
+    somebody c.args.name.now c.args.key.now o.version c.args.before.now c.requires.some o.owned_is c.requires.key
     ((c.delete.ensures.absent o.base (trie_entries o.version) o.on.held).0 (c.in-Err-NotFound.is ∙ ap (λ x. Err x) c.in-Err-NotFound.field-0-is))
 
 pub returns-in-Ok-clause-stores : goal.returns-in-Ok-clause-stores
 returns-in-Ok-clause-stores g c base version on is =
-    deleted_on (g.T.Transaction.works c.delete.new.self) base version c.args.name.now c.of.result c.of.ensures c.wire-wire.ensures.name on.valid (c.in-Ok.ensures.deleted base (trie_entries version) on.held)
+    deleted_on (g.T.Transaction.works c.delete.new.self) base version c.args.name.now c.args.key.now c.requires.key c.wire-wire.ensures.name on.valid (c.in-Ok.ensures.deleted base (trie_entries version) on.held)
 
 pub returns-in-Err-Full-clause-stores : goal.returns-in-Err-Full-clause-stores
 returns-in-Err-Full-clause-stores g c base version on is =

@@ -1,16 +1,23 @@
-use Rattle.std.proofs.Common.{ℕ, List, [], map, sym, subst}
-use Rattle.trie_model.specs.Order.{IsSplitAt}
-use Rattle.zone_answer.specs.Standing.{trie_entry}
+use Rattle.std.proofs.Common.{sym, subst}
+use Rattle.std.specs.Option.{option_map}
+use Rattle.zone_model.specs.Keys.{key_of}
+use Rattle.zone_answer.proofs.HeldLaws.{named_by}
 use Rattle.zone_answer.proofs.SplitLaws.{neighbours_at}
 use Rattle.zone_answer.proofs.near.Neighbours.of.Goals as goal
 
+pub name_behind-before-requires : goal.name_behind-before-requires
+name_behind-before-requires g c =
+    let h = c.requires in
+    (h.0, (h.1.0, subst (λ s. g.V.Reading.stands s c.name_ahead-after.new.iter h.0 h.1.0) (sym c.name_ahead-after.ensures.same) (c.name_ahead-after.ensures.stays h.0 h.1.0 h.1.1)))
+
+pub returns-clause-stays : goal.returns-clause-stays
+returns-clause-stays g c before after s =
+    let there = subst (λ s. g.V.Reading.stands s c.name_ahead-after.new.iter before after) (sym c.name_ahead-after.ensures.same) (c.name_ahead-after.ensures.stays before after s) in
+    subst (λ s. g.V.Reading.stands s c.name_behind-before.new.iter before after) c.name_ahead-after.ensures.same (c.name_behind-before.ensures.stays before after there)
+
 pub returns-clause-neighbours : goal.returns-clause-neighbours
-returns-clause-neighbours g c zone shows =
-    let all = map trie_entry zone in
-    let start = subst (λ s. g.V.Reading.stands s c.iter-iter.result [] all) (sym c.iter-iter.ensures.same) (c.iter-iter.ensures.start all shows.held) in
-    let split = c.seek.ensures.split [] all start in
-    let there = subst (λ s. g.V.Reading.stands s c.seek.new.iter split.before split.after) (sym c.seek.ensures.same) split.standing in
-    let still = subst (λ s. g.V.Reading.stands s c.peek.new.iter split.before split.after) (sym c.peek.ensures.same) (c.peek.ensures.stays split.before split.after there) in
-    neighbours_at c.args.name.now zone (record { before = c.name_of-before.result; after = c.name_of-after.result }) split.before split.after (g.V.Reading.stands c.peek.new.version c.peek.new.iter) c.prev.result c.peek.result
-    c.wire-wire.ensures.name shows.version_is (subst (λ (k : List ℕ). IsSplitAt k all split.before split.after) c.of.ensures split.split)
-    (c.peek.ensures.first split.before split.after there) c.name_of-after.ensures still (λ before after e s. c.prev.ensures.prev before after e s) (λ after s. c.prev.ensures.beginning after s) c.name_of-before.ensures
+returns-clause-neighbours g c name zone is v at =
+    let there = subst (λ s. g.V.Reading.stands s c.name_ahead-after.new.iter at.before at.after) (sym c.name_ahead-after.ensures.same) (c.name_ahead-after.ensures.stays at.before at.after at.standing) in
+    neighbours_at name zone (record { before = c.name_behind-before.result; after = c.name_ahead-after.result }) at.before at.after (g.V.Reading.stands c.name_ahead-after.new.version c.name_ahead-after.new.iter)
+    (option_map key_of c.name_behind-before.result) (option_map key_of c.name_ahead-after.result) is v at.split (c.name_ahead-after.ensures.next at.before at.after at.standing) (named_by c.name_ahead-after.result c.name_ahead-after.ensures.name) there
+    (λ before after e s. c.name_behind-before.ensures.prev before after e s) (λ after s. c.name_behind-before.ensures.beginning after s) (named_by c.name_behind-before.result c.name_behind-before.ensures.name)
