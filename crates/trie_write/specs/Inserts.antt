@@ -10,7 +10,7 @@ use Rattle.trie_model.specs.Trees.{Tree, entries_of, cells_in, IsRow, IsTree}
 use Rattle.chunk_usage.specs.Rooms.{Account}
 use Rattle.trie_read.specs.Reads.{IsTop}
 use Rattle.trie_write.specs.declared.change.Change.{Change}
-use Rattle.trie_write.specs.declared.near.Difference.{Difference}
+use Rattle.shift_key.specs.declared.difference.Difference.{Difference}
 use Rattle.trie_write.specs.Puts.{Makes}
 use Rattle.trie_write.specs.Standing.{StandsIn}
 use Rattle.trie_write.specs.Tops.{NotBefore}

@@ -9,13 +9,12 @@ ghost use Rattle.trie_write.specs.Paths.{twigs_on_path};
 ghost use Rattle.trie_write.specs.Spaces.{Ready, Frame, Refused};
 
 use super::change::{Change, NO_CELLS, Span, leaf_span};
-use super::near::Difference;
 use super::place::{copy_apart, room_for};
 use super::top::branch_at;
 use chunk_cells::CellWrite;
 use chunk_usage::{Full, Space};
 use packed_node::{Branch, Cell, Leaf, Node, bitmap};
-use shift_key::Key;
+use shift_key::{Difference, Key};
 
 /// The place of one of two twigs.
 fn place_of_two(position: u8, other: u8) -> u32

@@ -5,7 +5,7 @@ use Rattle.chunk_usage.specs.Ledger.{is_used, is_fresh}
 use Rattle.trie_write.specs.Entries.{entries_of_items}
 use Rattle.trie_write.specs.Standing.{Standing}
 use Rattle.trie_write.proofs.RootLaws.{stands_of}
-use Rattle.trie_write.proofs.RunLaws.{items_tell}
+use Rattle.trie_write.proofs.ItemLaws.{items_tell}
 use Rattle.trie_write.proofs.place_tests.seen_beside.Goals as goal
 
 pub seen-before-requires : goal.seen-before-requires
