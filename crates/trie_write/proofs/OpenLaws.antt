@@ -22,7 +22,7 @@ tree_lower low far (leaf e w) l h = h
 tree_lower low far (branch o w below) l h = ((let a = h.0 in omega arith), h.1, h.2, h.3, h.4, h.5)
 
 pub front_lower : {low far : ℕ} {es rest : List Entry} {next : Option BranchPoint} {t : Tree} → Front far es rest next t → low ≤ far → Before low next → Front low es rest next t
-front_lower {low} {far} {t = t} f l b = record { shape = tree_lower low far t l f.shape; whole = f.whole; last = f.last; there = f.there; ahead = f.ahead; short = b }
+front_lower {low} {far} {t = t} f l b = record { shape = tree_lower low far t l f.shape; whole = f.whole; last = f.last; there = f.there; ahead = f.ahead; short = b; rises = f.rises }
 
 -- a branch can be made at the next point
 pub front_point : {far : ℕ} {es rest : List Entry} {next : Option BranchPoint} {t : Tree} (point : BranchPoint) → next ≡ Some point → Front far es rest next t → Front (suc point.offset) es rest (Some point) t
@@ -41,8 +41,8 @@ before_all : (e : Entry) (rest : List Entry) (next : Option BranchPoint) → Ahe
 before_all e rest None a = tt
 before_all e rest (Some p) a = let l = a.3.early in omega arith
 
-pub leaf_front : {e : Entry} {rest : List Entry} {next : Option BranchPoint} {w : ℕ} → IsTree 0 (leaf e w) → Ahead e rest next → Front 504 (e ∷ rest) rest next (leaf e w)
-leaf_front {e} {rest} {next} is ahead = record { shape = is; whole = refl; last = e; there = inl refl; ahead = ahead; short = before_all e rest next ahead }
+pub leaf_front : {e : Entry} {rest : List Entry} {next : Option BranchPoint} {w : ℕ} → IsTree 0 (leaf e w) → Rises (e ∷ rest) → Ahead e rest next → Front 504 (e ∷ rest) rest next (leaf e w)
+leaf_front {e} {rest} {next} is rises ahead = record { shape = is; whole = refl; last = e; there = inl refl; ahead = ahead; short = before_all e rest next ahead; rises = rises.1 }
 
 in_nil : (x : Entry) (es : List Entry) → InList x (es ++ []) → InList x es
 in_nil x es i = subst (InList x) (append-nil es) i
@@ -78,6 +78,7 @@ pub record Opened (o : ℕ) (es rest : List Entry) (next : Option BranchPoint) (
   pub whole : es ≡ entries made ++ rest
   pub ahead : Ahead last rest next
   pub short : Before (suc o) next
+  pub rises : Rises rest
   -- as long as there is one alone, another comes
   pub two : Before o next → 2 ≤ count made
 
@@ -92,6 +93,7 @@ open_first {point} {es} {rest} {t} f = record {
   whole = f.whole ∙ ap (λ (xs : List Entry). xs ++ rest) (sym (append-nil (entries_of t)));
   ahead = f.ahead;
   short = f.short;
+  rises = f.rises;
   two = λ b. absurd (omega arith);
 }
   where
@@ -161,6 +163,7 @@ module _ {o : ℕ} {es rest : List Entry} {point : BranchPoint} {made : Twigs} (
     whole = j.whole;
     ahead = f.ahead;
     short = f.short;
+    rises = f.rises;
     two = λ b. j.two;
   }
 
@@ -181,6 +184,7 @@ open_close so_far b w row = record {
   there = so_far.there;
   ahead = so_far.ahead;
   short = b;
+  rises = so_far.rises;
 }
 
 -- the cells of an open branch, as far as 64 bits hold them

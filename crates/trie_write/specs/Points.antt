@@ -1,6 +1,6 @@
 -- Where the keys of neighbours part, and the tree of the entries that come first.
 use Rattle.std.specs.Prelude.{◌≡◌, ℕ, ◌<◌, ◌≤◌, List, ◌∷◌, [], ◌++◌, Option, Some, None}
-use Rattle.trie_model.specs.Keys.{at, Same, Entry, InList}
+use Rattle.trie_model.specs.Keys.{at, Same, Entry, InList, Rises}
 use Rattle.trie_model.specs.Trees.{Tree, entries_of, IsTree}
 use Rattle.trie_write.specs.declared.points.BranchPoint.{BranchPoint}
 
@@ -22,7 +22,7 @@ abbrev pub Before : ℕ → Option BranchPoint → Type 0
 Before low None = Unit {0}
 Before low (Some point) = point.offset < low
 
--- the tree has the first of these entries, with offsets from low on; the next parts from its last one before
+-- the tree has the first of these entries, with offsets from low on; the next parts from its last one before, and all to come rise
 pub record Front (low : ℕ) (es rest : List Entry) (next : Option BranchPoint) (t : Tree) : Type 0 where
   pub shape : IsTree low t
   pub whole : es ≡ entries_of t ++ rest
@@ -30,3 +30,4 @@ pub record Front (low : ℕ) (es rest : List Entry) (next : Option BranchPoint) 
   pub there : InList last (entries_of t)
   pub ahead : Ahead last rest next
   pub short : Before low next
+  pub rises : Rises rest

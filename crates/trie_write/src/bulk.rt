@@ -112,7 +112,6 @@ fn build_front<'a, C: CellWrite, U: Space>(
     requires low { low ≤ 504 }
     requires ready { Ready C.kept C.given U.account cells.old usage.old }
     ensures built { IfOk result (λ part. BuiltFront (C.has cells.new) (U.account usage.old) (U.account usage.new) low (entries_of_items items.now) (entries_of_items part.rest.now) part.next part.cell) }
-    ensures rising { IfOk result (λ part. Rises (entries_of_items part.rest.now)) }
     ensures shorter { IfOk result (λ part. length part.rest.now < length items.now) }
     ensures stopped { IfErr result (λ _. Stopped (U.account usage.old) (U.account usage.new) low (entries_of_items items.now)) }
     ensures full { IfErr result (λ f. U.lacks usage.new f) }
@@ -138,12 +137,10 @@ fn build_branch<'a, C: CellWrite, U: Space>(
     point: BranchPoint,
 ) -> Result<Part<'a>, Full>
     requires first { (base : Account) × (es : List Entry) × BuiltFront (C.has cells.old) base (U.account usage.old) (suc point.offset) es (entries_of_items first.rest.now) (Some point) first.cell }
-    requires rising { Rises (entries_of_items first.rest.now) }
     requires point { first.next ≡ Some point }
     requires ready { Ready C.kept C.given U.account cells.old usage.old }
     ensures built { IfOk result (λ part. (base : Account) (es : List Entry) → BuiltFront (C.has cells.old) base (U.account usage.old) (suc point.offset) es (entries_of_items first.entry.rest.now) (Some point) first.entry.cell
         → BuiltFront (C.has cells.new) base (U.account usage.new) point.offset es (entries_of_items part.rest.now) part.next part.cell) }
-    ensures rising { IfOk result (λ part. Rises (entries_of_items part.rest.now)) }
     ensures shorter { IfOk result (λ part. length part.rest.now < length first.entry.rest.now) }
     ensures stopped { IfErr result (λ _. (base : Account) (es : List Entry) → BuiltFront (C.has cells.old) base (U.account usage.old) (suc point.offset) es (entries_of_items first.entry.rest.now) (Some point) first.entry.cell
         → Stopped base (U.account usage.new) point.offset es) }
@@ -151,14 +148,13 @@ fn build_branch<'a, C: CellWrite, U: Space>(
     ensures frame { Frame C.has C.kept C.given U.account cells.old usage.old cells.new usage.new }
     ensures ready { Ready C.kept C.given U.account cells.new usage.new }
 {
-    let offset = point.offset;
     let mut row = Row::new();
     row.push(first.cell);
     let mut positions = bitmap::bit(point.before);
     let mut rest = first.rest;
     let mut next = first.next;
-    while let Some(beside) = from_offset(next, offset) {
-        let twig = build_front(cells, usage, rest, offset + 1)?;
+    while let Some(beside) = from_offset(next, point.offset) {
+        let twig = build_front(cells, usage, rest, point.offset + 1)?;
         row.push(twig.cell);
         positions = bitmap::with(positions, beside.after);
         rest = twig.rest;
@@ -166,7 +162,7 @@ fn build_branch<'a, C: CellWrite, U: Space>(
     }
     let twigs = lay_row(cells, usage, row.as_slice())?;
     let branch = Branch {
-        offset,
+        offset: point.offset,
         bitmap: positions,
         twigs,
     };

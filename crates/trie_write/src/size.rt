@@ -41,7 +41,6 @@ fn count_front<'a>(items: &'a [Item], low: u16) -> Counted<'a>
     requires rising { Rises (entries_of_items items.now) }
     requires low { low ≤ 504 }
     ensures counted { (t : Tree) × Front low (entries_of_items items.now) (entries_of_items result.rest.now) result.next t × (result.cells ≡ min (cells_of (entries_of t)) u64.MAX) }
-    ensures rising { Rises (entries_of_items result.rest.now) }
     ensures shorter { length result.rest.now < length items.now }
 {
     let (item, rest) = items.split_first().unwrap();
@@ -60,11 +59,9 @@ fn count_front<'a>(items: &'a [Item], low: u16) -> Counted<'a>
 #[cycle(count)]
 fn count_branch<'a>(first: Counted<'a>, point: BranchPoint) -> Counted<'a>
     requires first { (es : List Entry) × (t : Tree) × Front (suc point.offset) es (entries_of_items first.rest.now) (Some point) t × (first.cells ≡ min (cells_of (entries_of t)) u64.MAX) }
-    requires rising { Rises (entries_of_items first.rest.now) }
     requires point { first.next ≡ Some point }
     ensures counted { (es : List Entry) (t : Tree) → Front (suc point.offset) es (entries_of_items first.entry.rest.now) (Some point) t → first.entry.cells ≡ min (cells_of (entries_of t)) u64.MAX
         → (new : Tree) × Front point.offset es (entries_of_items result.rest.now) result.next new × (result.cells ≡ min (cells_of (entries_of new)) u64.MAX) }
-    ensures rising { Rises (entries_of_items result.rest.now) }
     ensures shorter { length result.rest.now < length first.entry.rest.now }
 {
     let mut cells = first.cells.saturating_add(1);

@@ -19,7 +19,6 @@ use Rattle.trie_write.proofs.bulk.+build.Goals as goal
 pub build_branch-loop-beside-init : goal.build_branch-loop-beside-init
 build_branch-loop-beside-init g t c = record {
   making = λ base es b. building.making_as c.requires.point c.bit-positions.ensures.value (c.push.ensures ∙ ap (λ (cs : List Cell). cs ++ (c.args.first.cell ∷ [])) c.new-row.ensures) (building.making_first b);
-  rising = c.requires.rising;
   shorter = omega arith;
   went = λ b. absurd (let a = subst (λ (x : Option BranchPoint). Before c.args.point.offset x) c.requires.point b in omega arith);
   frame = frame_refl c.args.cells.now c.args.usage.now;
@@ -32,7 +31,7 @@ build_branch-build_front-requires g t c κs within =
     let short : 2 * length c.loop-beside.rest.now < 2 * length c.args.first.rest.now + 1 = omega arith in
     let h = c.requires.first in
     let m = c.loop-beside.invariant.making h.0 h.1 h.2 in
-    (search (rules, short), (within.0, (within.1, (some_left c.loop-beside.rest.now c.in-Some.beside c.in-Some.ensures.some.0 m.so_far, (c.loop-beside.invariant.rising, ((let e = m.so_far.early in omega arith), c.loop-beside.invariant.ready))))))
+    (search (rules, short), (within.0, (within.1, (some_left c.loop-beside.rest.now c.in-Some.beside c.in-Some.ensures.some.0 m.so_far, (m.so_far.rises, ((let e = m.so_far.early in omega arith), c.loop-beside.invariant.ready))))))
 
 pub build_branch-returns-in_err-twig-clause-stopped : goal.build_branch-returns-in_err-twig-clause-stopped
 build_branch-returns-in_err-twig-clause-stopped g t c = err_all c.from_residual.result (λ _ base es b.
@@ -69,7 +68,6 @@ build_branch-loop-beside-preserved g t c =
       making = λ base es b.
           let m = building.making_as (sym c.in-Some.ensures.some.0) refl refl (c.loop-beside.invariant.making base es b) in
           building.making_as refl c.with-positions.ensures c.push-in-Some.ensures (building.making_more m c.in-Some.ensures.some.1 twig frame.stays frame.grows.stays);
-      rising = c.in_ok-twig.ensures.rising;
       shorter = (let a = c.in_ok-twig.ensures.shorter in let b = c.loop-beside.invariant.shorter in omega arith);
       went = λ _. let a = c.in_ok-twig.ensures.shorter in let b = c.loop-beside.invariant.shorter in omega arith;
       frame = frame_then c.loop-beside.invariant.frame frame;
@@ -121,11 +119,10 @@ build_front-loop-above-init g t c =
         c.requires.low,
         (
           leaf (entry_of c.unwrap.result.0.now) made.0,
-          subst (λ (es : List Entry). Front 504 es (entries_of_items c.unwrap.result.1.now) c.point_ahead-next.result (leaf (entry_of c.unwrap.result.0.now) made.0)) (sym all) (leaf_front made.1 c.point_ahead-next.ensures),
+          subst (λ (es : List Entry). Front 504 es (entries_of_items c.unwrap.result.1.now) c.point_ahead-next.result (leaf (entry_of c.unwrap.result.0.now) made.0)) (sym all) (leaf_front made.1 (subst Rises all c.requires.rising) c.point_ahead-next.ensures),
           made.2,
         ),
       );
-      rising = (subst Rises all c.requires.rising).1;
       shorter = (let n = split.1 in omega arith);
       frame = c.in_ok-cell.ensures.frame;
       ready = c.in_ok-cell.ensures.ready;
@@ -136,7 +133,7 @@ build_front-build_branch-requires g t c κs within =
     let shorter = c.loop-above.invariant.shorter in
     let short : 2 * length c.loop-above.part.rest.now + 1 < 2 * length c.args.items.now = omega arith in
     let w = c.loop-above.invariant.built in
-    (search (rules, short), (within.0, (within.1, ((g.U.Space.account c.args.usage.now, entries_of_items c.args.items.now, building.built_point c.in-Some.above c.in-Some.ensures.some.0 w.2), (c.loop-above.invariant.rising, (c.in-Some.ensures.some.0, c.loop-above.invariant.ready))))))
+    (search (rules, short), (within.0, (within.1, ((g.U.Space.account c.args.usage.now, entries_of_items c.args.items.now, building.built_point c.in-Some.above c.in-Some.ensures.some.0 w.2), (c.in-Some.ensures.some.0, c.loop-above.invariant.ready)))))
 
 pub build_front-returns-in_err-part-clause-stopped : goal.build_front-returns-in_err-part-clause-stopped
 build_front-returns-in_err-part-clause-stopped g t c =
@@ -148,7 +145,6 @@ build_front-loop-above-preserved g t c =
     let w = c.loop-above.invariant.built in
     record {
       built = (c.in-Some.above.offset, c.in-Some.ensures.some.1, c.in_ok-part.ensures.built (g.U.Space.account c.args.usage.now) (entries_of_items c.args.items.now) (building.built_point c.in-Some.above c.in-Some.ensures.some.0 w.2));
-      rising = c.in_ok-part.ensures.rising;
       shorter = (let a = c.in_ok-part.ensures.shorter in let b = c.loop-above.invariant.shorter in omega arith);
       frame = frame_then c.loop-above.invariant.frame c.in_ok-part.ensures.frame;
       ready = c.in_ok-part.ensures.ready;

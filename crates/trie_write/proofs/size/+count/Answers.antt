@@ -18,7 +18,6 @@ count_branch-loop-beside-init t c = record {
     subst (λ (x : Option BranchPoint). Opened c.args.point.offset es (entries_of_items c.args.first.rest.now) x (twig c.args.point.before tree none)) (sym c.requires.point) (open_first f),
     let s = c.saturating_add-cells.ensures in let k = count_first f n in omega arith,
   );
-  rising = c.requires.rising;
   shorter = omega arith;
   went = λ b. absurd (let a = subst (λ (x : Option BranchPoint). Before c.args.point.offset x) c.requires.point b in omega arith);
 }
@@ -29,7 +28,7 @@ count_branch-count_front-twig-requires t c =
     let short : 2 * length c.loop-beside.rest.now < 2 * length c.args.first.rest.now + 1 = omega arith in
     let h = c.requires.first in
     let w = c.loop-beside.invariant.counted h.0 h.1 h.2 h.3 in
-    (search (rules, short), (some_left c.loop-beside.rest.now c.in-Some._beside c.in-Some.ensures.some.0 w.1, (c.loop-beside.invariant.rising, let e = w.1.early in omega arith)))
+    (search (rules, short), (some_left c.loop-beside.rest.now c.in-Some._beside c.in-Some.ensures.some.0 w.1, (w.1.rises, let e = w.1.early in omega arith)))
 
 pub count_branch-loop-beside-preserved : goal.count_branch-loop-beside-preserved
 count_branch-loop-beside-preserved t c = record {
@@ -44,7 +43,6 @@ count_branch-loop-beside-preserved t c = record {
         open_more so_far c.in-Some.ensures.some.1 below,
         let s = c.saturating_add-cells-in-Some.ensures in let k = count_more w.0 c.in-Some._beside.after w.2 below u.2 in omega arith,
       );
-  rising = c.count_front-twig.ensures.rising;
   shorter = (let a = c.count_front-twig.ensures.shorter in let b = c.loop-beside.invariant.shorter in omega arith);
   went = λ _. let a = c.count_front-twig.ensures.shorter in let b = c.loop-beside.invariant.shorter in omega arith;
 }
@@ -66,10 +64,9 @@ count_front-loop-above-init t c =
         504,
         c.requires.low,
         leaf e 0,
-        subst (λ (es : List Entry). Front 504 es (entries_of_items c.unwrap.result.1.now) c.point_ahead.result (leaf e 0)) (sym all) (leaf_front (is, item_row e is) c.point_ahead.ensures),
+        subst (λ (es : List Entry). Front 504 es (entries_of_items c.unwrap.result.1.now) c.point_ahead.result (leaf e 0)) (sym all) (leaf_front (is, item_row e is) (subst Rises all c.requires.rising) c.point_ahead.ensures),
         let l = ap (λ (xs : List ℕ). length xs) c.octets.ensures.octets in let s = is.item.short in let n = c.cells_for.ensures in let k = entry_cells e is in omega arith,
       );
-      rising = (subst Rises all c.requires.rising).1;
       shorter = (let n = split.1 in omega arith);
     }
 
@@ -78,7 +75,7 @@ count_front-count_branch-front-requires t c =
     let w = c.loop-above.invariant.counted in
     let shorter = c.loop-above.invariant.shorter in
     let short : 2 * length c.loop-above.front.rest.now + 1 < 2 * length c.args.items.now = omega arith in
-    (search (rules, short), ((entries_of_items c.args.items.now, w.2, front_point c.in-Some.above c.in-Some.ensures.some.0 w.3, w.4), (c.loop-above.invariant.rising, c.in-Some.ensures.some.0)))
+    (search (rules, short), ((entries_of_items c.args.items.now, w.2, front_point c.in-Some.above c.in-Some.ensures.some.0 w.3, w.4), c.in-Some.ensures.some.0))
 
 pub count_front-loop-above-preserved : goal.count_front-loop-above-preserved
 count_front-loop-above-preserved t c =
@@ -86,7 +83,6 @@ count_front-loop-above-preserved t c =
     let new = c.count_branch-front.ensures.counted (entries_of_items c.args.items.now) w.2 (front_point c.in-Some.above c.in-Some.ensures.some.0 w.3) w.4 in
     record {
       counted = (c.in-Some.above.offset, c.in-Some.ensures.some.1, new.0, new.1, new.2);
-      rising = c.count_branch-front.ensures.rising;
       shorter = (let a = c.count_branch-front.ensures.shorter in let b = c.loop-above.invariant.shorter in omega arith);
     }
 
