@@ -6,9 +6,9 @@ ghost use Rattle.trie_model.specs.Shape.{nodes as nodes_of_keys, keys_of};
 ghost use Rattle.qp_multi.specs.Shows.{Tells};
 
 use chunk_cells::PlainCells;
-use shift_key::Key;
 use dns_name::Name;
 use packed_node::Leaf;
+use shift_key::Key;
 use trie_read::{Ancestors, CellReading, Found, Iter, Reading};
 
 /// One version of the index. It doesn't change.

@@ -86,9 +86,9 @@ last_near front z e lower l = record {
   apart = λ y i. elim (in_both y front (z ∷ []) i) [
     | inl before ↦ further y (lower y before) (cases_lt (lower y before).place l.place)
     | inr last ↦ elim last [
-        | inl same ↦ (l.place, omega arith, λ f. let low = l.lower in let g = ap (λ (x : Entry). at x.key l.place) same in omega arith)
-        | inr none ↦ absurd none
-      ]
+      | inl same ↦ (l.place, omega arith, λ f. let low = l.lower in let g = ap (λ (x : Entry). at x.key l.place) same in omega arith)
+      | inr none ↦ absurd none
+    ]
   ];
 }
   where

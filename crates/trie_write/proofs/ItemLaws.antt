@@ -161,11 +161,10 @@ module _ (item next : Item) (rest later : List Item) (is : rest ≡ next ∷ lat
   keys_part_at d before differ before_is =
       let n = next_name in
       let x = differ n.name n.is_name (n.rest, octets_are ∙ n.octets_are) in
-      let first = subst (λ (a : List ℕ). IsFirstDifference a (entry_of next).key d.place) key_is (subst (λ (b : List ℕ). IsFirstDifference key b d.place) (sym n.key) x.0) in
-      (
+      let first = subst (λ (a : List ℕ). IsFirstDifference a (entry_of next).key d.place) key_is (subst (λ (b : List ℕ). IsFirstDifference key b d.place) (sym n.key) x.0) in (
         entry_of next,
         entries_of_items later,
         ap entries_of_items is,
         point_of (entry_of item) (entry_of next) (record { offset = d.place; before = before; after = d.position }) (item_entry next) less first
-        (sym (before_is ∙ ap (λ (k : List ℕ). at k d.place) key_is)) (sym (x.1 ∙ ap (λ (k : List ℕ). at k d.place) (sym n.key))),
+            (sym (before_is ∙ ap (λ (k : List ℕ). at k d.place) key_is)) (sym (x.1 ∙ ap (λ (k : List ℕ). at k d.place) (sym n.key))),
       )

@@ -33,10 +33,9 @@ returns-clause-built g c =
     let same = c.octets.ensures.octets in
     let handed = subst (λ (xs : List ℕ). Handed (g.U.Space.account c.args.usage.now) (g.U.Space.account c.lay_item.new.usage) c.in_ok-leaf.leaf.at (cells_in xs)) same c.in_ok-leaf.ensures.handed in
     let spends = c.in_ok-leaf.ensures.spends in
-    let cells = ap (λ (xs : List ℕ). cells_in xs) same in
-    (
+    let cells = ap (λ (xs : List ℕ). cells_in xs) same in (
       c.in_ok-leaf.leaf.at,
       (is, handed.twigs),
       leaf_built (entry_of c.args.item.now) is (c.in_ok-leaf.ensures.len ∙ ap (λ (xs : List ℕ). length xs) same) handed c.in_ok-leaf.ensures.frame.grows.stays (omega arith)
-      (subst (ItemLies (g.C.CellRead.has c.lay_item.new.cells) c.in_ok-leaf.leaf.at) same c.in_ok-leaf.ensures.lies) c.pack.ensures,
+          (subst (ItemLies (g.C.CellRead.has c.lay_item.new.cells) c.in_ok-leaf.leaf.at) same c.in_ok-leaf.ensures.lies) c.pack.ensures,
     )

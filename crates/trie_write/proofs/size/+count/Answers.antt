@@ -37,8 +37,7 @@ count_branch-loop-beside-preserved t c = record {
       let so_far = subst (λ (x : Option BranchPoint). Opened c.args.point.offset es (entries_of_items c.loop-beside.rest.now) x w.0) c.in-Some.ensures.some.0 w.1 in
       let u = c.count_front-twig.ensures.counted in
       let next : c.args.point.offset + 1 ≡ suc c.args.point.offset = omega arith in
-      let below = subst (λ (k : ℕ). Front k (entries_of_items c.loop-beside.rest.now) (entries_of_items c.count_front-twig.result.rest.now) c.count_front-twig.result.next u.0) next u.1 in
-      (
+      let below = subst (λ (k : ℕ). Front k (entries_of_items c.loop-beside.rest.now) (entries_of_items c.count_front-twig.result.rest.now) c.count_front-twig.result.next u.0) next u.1 in (
         beside w.0 (twig c.in-Some._beside.after u.0 none),
         open_more so_far c.in-Some.ensures.some.1 below,
         let s = c.saturating_add-cells-in-Some.ensures in let k = count_more w.0 c.in-Some._beside.after w.2 below u.2 in omega arith,
