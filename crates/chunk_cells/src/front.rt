@@ -8,7 +8,7 @@ ghost use Rattle.trie_model.specs.Trees.{IsRow};
 ghost use Rattle.trie_model.specs.Memory.{ItemLies};
 
 use super::CellRead;
-use super::item::cells_for;
+use super::item::{cells_for, whole_word};
 use packed_node::{Cell, Leaf};
 
 /// Whether a leaf's item begins with these octets, at most 256. Nothing is copied.
@@ -60,22 +60,4 @@ fn says(word: u64, octets: &[u8], start: usize) -> bool
         }
     }
     true
-}
-
-/// The word of the eight octets from `start` on, the first the lowest.
-#[inline]
-fn whole_word(octets: &[u8], start: usize) -> u64
-    requires { start + 8 ≤ length octets.now }
-    ensures { result ≡ from_le_bytes w64 (drop start octets.now) }
-{
-    u64::from_le_bytes([
-        octets[start],
-        octets[start + 1],
-        octets[start + 2],
-        octets[start + 3],
-        octets[start + 4],
-        octets[start + 5],
-        octets[start + 6],
-        octets[start + 7],
-    ])
 }

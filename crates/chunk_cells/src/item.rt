@@ -97,8 +97,38 @@ fn cell_of(item: &[u8], start: usize) -> Cell
     Cell { big, small }
 }
 
-/// The word of the eight octets from `start` on, the first the lowest.
+/// The word of the eight octets from `start` on, the first the lowest; 0 stands for those past the item's end.
+#[inline]
 fn word_of(item: &[u8], start: usize) -> u64
+    requires { start < 8200 }
+    ensures { result ≡ from_le_bytes w64 (drop start item.now) }
+{
+    if start + 8 <= item.len() {
+        return whole_word(item, start);
+    }
+    last_word(item, start)
+}
+
+/// The same of octets that are all there.
+#[inline]
+pub(crate) fn whole_word(octets: &[u8], start: usize) -> u64
+    requires { start + 8 ≤ length octets.now }
+    ensures { result ≡ from_le_bytes w64 (drop start octets.now) }
+{
+    u64::from_le_bytes([
+        octets[start],
+        octets[start + 1],
+        octets[start + 2],
+        octets[start + 3],
+        octets[start + 4],
+        octets[start + 5],
+        octets[start + 6],
+        octets[start + 7],
+    ])
+}
+
+/// The same where the item may end before.
+fn last_word(item: &[u8], start: usize) -> u64
     requires { start < 8200 }
     ensures { result ≡ from_le_bytes w64 (drop start item.now) }
 {

@@ -23,7 +23,7 @@ use Rattle.trie_write.specs.Paths.{twigs_on_path}
 use Rattle.trie_write.specs.Roots.{OnPath}
 use Rattle.trie_write.specs.Standing.{StandsIn, Standing}
 use Rattle.trie_model.proofs.MoveLaws.{Keeps}
-use Rattle.trie_write.proofs.PlanLaws.{size_is}
+use Rattle.trie_model.proofs.SizeLaws.{size_is}
 use Rattle.trie_write.proofs.RootLaws.{stands_later}
 use Rattle.qp_multi.proofs.CountedLaws.{row_le}
 use Rattle.qp_multi.proofs.MeetLaws.{firsts, branches, met_first, row_add, firsts_sum, firsts_few, equal_once, path_few, set_few}

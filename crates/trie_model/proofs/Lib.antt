@@ -12,6 +12,8 @@ pub mod CountLaws
 pub mod ReachLaws
 pub mod FewLaws
 pub mod ShapeLaws
+pub mod SizeLaws
+pub mod OutlineLaws
 pub mod ChainLaws
 pub mod SideLaws
 pub mod NameLaws

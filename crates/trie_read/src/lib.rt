@@ -19,7 +19,7 @@ mod size;
 pub use ancestors::{Ancestor, Ancestors};
 pub use found::{Chain, Found, Kind, find};
 pub use iter::Iter;
-pub use leaf::{key_at, name_at};
+pub use leaf::{difference_at, key_at, name_at};
 pub use look_up::get;
 pub use reading::{CellReading, Reading};
 pub use size::{count, nodes};

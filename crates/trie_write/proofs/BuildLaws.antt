@@ -1,207 +1,206 @@
--- The branch that grows as its twigs are built.
+-- The trie that grows as items are built.
 use Rattle.std.specs.Int.{bit_at}
 use Rattle.std.proofs.lemmas.Nat.{shr_high}
-use Rattle.std.proofs.Common.{pow_mono, ◌≡◌, ℕ, suc, ◌+◌, ◌*◌, ◌/◌, ◌%◌, ◌^◌, ◌<◌, ◌≤◌, true, List, [], ◌∷◌, ◌++◌, length, take, drop, slice_get, Some, arith, refl, sym, ◌∙◌, ap, subst}
+use Rattle.std.proofs.Common.{pow_mono, ◌≡◌, ℕ, suc, ◌+◌, ◌*◌, ◌/◌, ◌%◌, ◌^◌, ◌<◌, ◌≤◌, true, List, [], ◌∷◌, ◌++◌, length, slice_get, Option, Some, None, arith, refl, sym, ◌∙◌, ap, subst}
 use Rattle.packed_node.specs.declared.Cell.{Cell}
 use Rattle.packed_node.specs.declared.Leaf.{Leaf}
 use Rattle.packed_node.specs.declared.Node.TheVariants as node
 use Rattle.packed_node.specs.Nodes.{IsNode, packed}
-use Rattle.trie_model.specs.Keys.{Entry, IsEntry, InList}
+use Rattle.trie_model.specs.Keys.{at, Entry, IsEntry, Rises}
 use Rattle.trie_model.specs.Memory.{ItemLies}
 use Rattle.trie_model.specs.Reach.{row, in_chunk}
 use Rattle.trie_model.specs.Shape.{cells}
-use Rattle.trie_model.specs.Trees.{Twigs, entries_of, entries, count, bitmap_of, cells_in, IsRow, AllAt, Agree, IsTree, AreTwigs, beside}
+use Rattle.trie_model.specs.Trees.{Tree, Twigs, entries_of, entries, count, bitmap_of, cells_in, IsRow, IsTree, beside}
 use Rattle.trie_model.specs.Trees.Tree.{leaf, branch}
 use Rattle.trie_model.specs.Trees.Twigs.{none, twig}
-use Rattle.trie_model.proofs.BitmapLaws.{Rising, below_all, few, count-beside, bitmap_of-beside}
-use Rattle.trie_model.proofs.SplitLaws.{entries-beside, twigs_join}
+use Rattle.trie_model.proofs.BitmapLaws.{below_all, few, count-beside, bitmap_of-beside}
 use Rattle.trie_model.proofs.CountLaws.{under, weigh_is, under-beside}
 use Rattle.trie_model.proofs.MoveLaws.{Keeps, beneath_kept}
+use Rattle.trie_model.proofs.OutlineLaws.{EachIsEntry, fewer_cells}
 use Rattle.trie_model.proofs.ReachLaws.{met, live_is}
+use Rattle.trie_model.proofs.SizeLaws.{size, twig_sizes, twig_sizes-beside, size_is, size_branch, short_row, item_row, entry_cells}
 use Rattle.trie_model.proofs.TopLaws.{is_node}
 use Rattle.chunk_usage.specs.Rooms.{Account, Handed}
+use Rattle.trie_write.specs.declared.points.BranchPoint.{BranchPoint}
 use Rattle.trie_write.specs.Weights.{at_place, mark}
-use Rattle.trie_write.specs.Runs.{IsFirstRun}
-use Rattle.trie_write.specs.Builds.{Built}
+use Rattle.trie_write.specs.Points.{Before, Front}
+use Rattle.trie_write.specs.Builds.{Built, BuiltFront, Stopped}
 use Rattle.trie_write.specs.Standing.{Standing}
+use Rattle.trie_write.proofs.OpenLaws.{Opened, Joined, open_first, open_join, open_more, open_close, later, parts, twigs_few, tree_lower, front_lower, front_point, nothing_left}
 use Rattle.trie_write.proofs.WeightLaws.{handed_fresh, mark_tells, mark_le, within_met}
-use Rattle.trie_write.proofs.OutlineLaws.{item_row}
-use Rattle.trie_write.proofs.PlanLaws.{Plan, Step, Planned, plan_start, plan_end, size_is, row_ones}
-use Rattle.trie_write.proofs.TwigLaws.{tops_of, AllBeneath, lie_of, tops-beside, length-tops, beneath_join, all_kept, all_within_met, rising_push, agree_tree, deepen}
+use Rattle.trie_write.proofs.TwigLaws.{tops_of, AllBeneath, lie_of, tops-beside, length-tops, beneath_join, all_kept, all_within_met}
 
 clear_above : (b p : ℕ) → b < 2 ^ p → bit_at b p ≡ 0
 clear_above b p l = let e : b ≡ 0 * 2 ^ p + b = omega arith in ap (λ (n : ℕ). n / 2 ^ p % 2) e ∙ ap (λ (n : ℕ). n % 2) (shr_high 0 p b l)
 
-rising_wider : (lo low p : ℕ) (ts : Twigs) → Rising lo low ts → low ≤ p → Rising lo p ts
-rising_wider lo low p none r l = omega arith
-rising_wider lo low p (twig q t rest) r l = (r.0, (let b = r.1 in omega arith), rising_wider (suc q) low p rest r.2 l)
-
 -- a leaf
-pub entry_cells : (e : Entry) → IsEntry e → cells (e ∷ []) ≡ suc (cells_in e.item)
-entry_cells e is = size_is 0 (leaf e 0) (is, item_row e is) ∙ ap suc (row_ones 0 (cells_in e.item))
-
 pub leaf_built : {has : ℕ → Cell → Type 0} {old new : Account} {l : Leaf} {cell : Cell} (e : Entry) → IsEntry e → l.len ≡ length e.item → Handed old new l.at (cells_in e.item) → ((q : ℕ) → old.used q ≡ true → new.used q ≡ true) →
-    ItemLies has l.at e.item → cell ≡ packed (node.Leaf l) → Built has old new (e ∷ []) cell
-leaf_built {l = l} e is len handed stays lies made = record {
-  tree = leaf e l.at;
-  shape = (is, handed.twigs);
+    new.spent ≤ old.spent + cells_in e.item → ItemLies has l.at e.item → cell ≡ packed (node.Leaf l) → Built has old new (leaf e l.at) cell
+leaf_built {l = l} e is len handed stays spends lies made = record {
   is = made ∙ ap (λ (n : ℕ). packed (node.Leaf (record { len = n; at = l.at }))) len;
   beneath = lies;
-  holds = refl;
   counts = handed.counts;
   fresh = handed_fresh handed stays;
+  cost = (let n = entry_cells e is in omega arith);
 }
 
 pub leaf_node : {l : Leaf} (e : Entry) → IsEntry e → l.len ≡ length e.item → IsRow l.at (cells_in e.item) → IsNode (node.Leaf l)
 leaf_node {l = l} e is len room = subst (λ (n : ℕ). IsNode (node.Leaf (record { len = n; at = l.at }))) (sym len) (is_node 0 (leaf e l.at) (is, room))
 
--- The twigs that are built so far: those of the plan, in new cells.
-pub record Made (has : ℕ → Cell → Type 0) (old now : Account) (o : ℕ) (all rest : List Entry) (bits : ℕ) (cs : List Cell) (done : ℕ) : Type 0 where
-  pub plan : Plan o all rest done
+pub stopped_lower : {old new : Account} {low far : ℕ} {es : List Entry} → Stopped old new far es → low ≤ far → Stopped old new low es
+stopped_lower {low = low} {far = far} s l = record { t = s.t; rest = s.rest; shape = tree_lower low far s.t l s.shape; whole = s.whole; cost = s.cost }
+
+pub leaf_stopped : {old new : Account} {low : ℕ} {es : List Entry} (e : Entry) (rest : List Entry) → IsEntry e → es ≡ e ∷ rest → new.spent < old.spent + cells (e ∷ []) → Stopped old new low es
+leaf_stopped e rest is whole l = record { t = leaf e 0; rest = rest; shape = (is, item_row e is); whole = whole; cost = l }
+
+pub built_lower : {has : ℕ → Cell → Type 0} {old new : Account} {low far : ℕ} {es rest : List Entry} {next : Option BranchPoint} {cell : Cell} → BuiltFront has old new far es rest next cell → low ≤ far → Before low next → BuiltFront has old new low es rest next cell
+built_lower (t, f, b) l s = (t, front_lower f l s, b)
+
+pub built_point : {has : ℕ → Cell → Type 0} {old new : Account} {far : ℕ} {es rest : List Entry} {next : Option BranchPoint} {cell : Cell} (point : BranchPoint) → next ≡ Some point → BuiltFront has old new far es rest next cell → BuiltFront has old new (suc point.offset) es rest (Some point) cell
+built_point point e (t, f, b) = (t, front_point point e f, b)
+
+-- The twigs of an open branch, in new cells.
+pub record Making (has : ℕ → Cell → Type 0) (base now : Account) (o : ℕ) (es rest : List Entry) (next : Option BranchPoint) (bits : ℕ) (cs : List Cell) : Type 0 where
   pub made : Twigs
-  pub holds : entries made ≡ entries plan.gone
-  pub as_many : count made ≡ count plan.gone
-  pub twigs : AreTwigs o 0 made
-  pub rising : Rising 0 plan.low made
+  pub so_far : Opened o es rest next made
   pub bits_are : bits ≡ bitmap_of made
   pub tops : cs ≡ tops_of made
   pub beneath : AllBeneath has made
-  pub counts : (k : ℕ) → now.live k ≡ old.live k + under (in_chunk k) made
-  pub fresh : (q : ℕ) → under (at_place q) made + mark old.used q ≤ mark now.used q
+  pub counts : (k : ℕ) → now.live k ≡ base.live k + under (in_chunk k) made
+  pub fresh : (q : ℕ) → under (at_place q) made + mark base.used q ≤ mark now.used q
+  -- each twig's own cell is still to come
+  pub cost : now.spent + count made ≤ base.spent + twig_sizes made
 
-pub made_start : {has : ℕ → Cell → Type 0} {old : Account} (o w : ℕ) (below : Twigs) (all : List Entry) → IsTree 0 (branch o w below) → entries below ≡ all → Made has old old o all all 0 [] 0
-made_start o w below all tree holds = record {
-  plan = plan_start o w below all tree holds;
-  made = none;
-  holds = refl;
-  as_many = refl;
-  twigs = tt;
-  rising = omega arith;
-  bits_are = refl;
-  tops = refl;
-  beneath = tt;
-  counts = λ k. omega arith;
-  fresh = λ q. omega arith;
+pub making_as : {has : ℕ → Cell → Type 0} {base now : Account} {o : ℕ} {es rest : List Entry} {next next_new : Option BranchPoint} {bits bits_new : ℕ} {cs cs_new : List Cell} → next_new ≡ next → bits_new ≡ bits → cs_new ≡ cs → Making has base now o es rest next bits cs → Making has base now o es rest next_new bits_new cs_new
+making_as {has} {base} {now} {o} {es} {rest} {next} {next_new} {bits} {bits_new} {cs} {cs_new} n b c m =
+    subst (λ (x : Option BranchPoint). Making has base now o es rest x bits_new cs_new) (sym n)
+    (subst (λ (x : ℕ). Making has base now o es rest next x cs_new) (sym b) (subst (λ (x : List Cell). Making has base now o es rest next bits x) (sym c) m))
+
+pub making_first : {has : ℕ → Cell → Type 0} {base now : Account} {point : BranchPoint} {es rest : List Entry} {cell : Cell} → BuiltFront has base now (suc point.offset) es rest (Some point) cell → Making has base now point.offset es rest (Some point) (2 ^ point.before) (cell ∷ [])
+making_first {point = point} (t, f, b) = record {
+  made = twig point.before t none;
+  so_far = open_first f;
+  bits_are = omega arith;
+  tops = ap (λ (c : Cell). c ∷ []) b.is;
+  beneath = (b.beneath, tt);
+  counts = λ k. let a = b.counts k in omega arith;
+  fresh = λ q. let a = b.fresh q in omega arith;
+  cost = (let a = b.cost in let s = size_is (suc point.offset) t f.shape in omega arith);
 }
 
 -- a twig more
-module _ {has : ℕ → Cell → Type 0} {old now : Account} {o done : ℕ} {all rest : List Entry} {bits : ℕ} {cs : List Cell} (m : Made has old now o all rest bits cs done) {p n : ℕ} (run : IsFirstRun o rest p n) (step : Step m.plan p n) where
+module _ {has : ℕ → Cell → Type 0} {base now : Account} {o : ℕ} {es rest : List Entry} {point : BranchPoint} {bits : ℕ} {cs : List Cell} (m : Making has base now o es rest (Some point) bits cs) (from : o ≤ point.offset) where
   pub push_few : length cs < 47
   push_few =
       let a = ap (λ (xs : List Cell). length xs) m.tops in let b = length-tops m.made in
-      let c = few 0 m.plan.low m.made m.rising in let d = step.later in let e = run.inside in omega arith
+      let c = few 0 (suc (at m.so_far.last.key o)) m.made m.so_far.rising in let d = later m.so_far from in let e = (parts m.so_far from).inside in omega arith
 
-  pub bits_small : bits < 2 ^ m.plan.low
-  bits_small = let a = below_all 0 m.plan.low m.made m.rising in let b = m.bits_are in omega arith
+  bits_before : bits < 2 ^ point.after
+  bits_before =
+      let a = below_all 0 (suc (at m.so_far.last.key o)) m.made m.so_far.rising in let b = m.bits_are in
+      let c = pow_mono {i = suc (at m.so_far.last.key o)} {j = point.after} (later m.so_far from) in omega arith
 
-  pub bits_before : bits < 2 ^ p
-  bits_before = let a = bits_small in let b = pow_mono {i = m.plan.low} {j = p} step.later in omega arith
-
-  pub position_absent : bit_at bits p ≡ 0
-  position_absent = clear_above bits p bits_before
+  pub position_absent : bit_at bits point.after ≡ 0
+  position_absent = clear_above bits point.after bits_before
 
   pub bits_fit : bits < 2 ^ 47
-  bits_fit = let a = bits_before in let b = pow_mono {i = p} {j = 47} (let c = run.inside in omega arith) in omega arith
+  bits_fit = let a = bits_before in let b = pow_mono {i = point.after} {j = 47} (let c = (parts m.so_far from).inside in omega arith) in omega arith
 
-  pub made_step : {has_new : ℕ → Cell → Type 0} {new : Account} {cell : Cell} → Built has_new now new (take n rest) cell → Keeps now.used has has_new → ((q : ℕ) → now.used q ≡ true → new.used q ≡ true) → Made has_new old new o all (drop n rest) (bits + 2 ^ p) (cs ++ (cell ∷ [])) (done + cells (take n rest))
-  made_step {has_new} {new} {cell} b keep stays = record {
-    plan = step.next;
-    made = beside m.made (twig p b.tree none);
-    holds = holds;
-    as_many = as_many;
-    twigs = twigs_join o 0 p m.made (twig p b.tree none) m.twigs (rising_wider 0 m.plan.low p m.made m.rising step.later) (omega arith, run.inside, alike, deep, tt);
-    rising = subst (λ (x : ℕ). Rising 0 x (beside m.made (twig p b.tree none))) (sym step.next_low) (rising_push 0 m.plan.low 47 p m.made b.tree m.rising (omega arith) step.later run.inside);
-    bits_are = (let a = m.bits_are in let d = bitmap_of-beside m.made (twig p b.tree none) in omega arith);
-    tops = ap (λ (xs : List Cell). xs ++ (cell ∷ [])) m.tops ∙ ap (λ (c : Cell). tops_of m.made ++ (c ∷ [])) b.is ∙ sym (tops-beside m.made (twig p b.tree none));
-    beneath = beneath_join has_new m.made (twig p b.tree none) (all_kept now.used has has_new keep m.made (all_within_met now.used m.made (λ q l. mark_tells now.used q (let f = m.fresh q in omega arith))) m.beneath) (b.beneath, tt);
-    counts = λ k. let a = m.counts k in let d = b.counts k in let e = under-beside (in_chunk k) m.made (twig p b.tree none) in omega arith;
-    fresh = λ q. let a = m.fresh q in let d = b.fresh q in let e = under-beside (at_place q) m.made (twig p b.tree none) in omega arith;
+  pub making_more : {has_new : ℕ → Cell → Type 0} {new : Account} {cell : Cell} {rest_new : List Entry} {next : Option BranchPoint} → BuiltFront has_new now new (suc o) rest rest_new next cell → Keeps now.used has has_new → ((q : ℕ) → now.used q ≡ true → new.used q ≡ true) →
+      Making has_new base new o es rest_new next (bits + 2 ^ point.after) (cs ++ (cell ∷ []))
+  making_more {has_new} {new} {cell} (u, f, b) keep stays = record {
+    made = beside m.made (twig point.after u none);
+    so_far = open_more m.so_far from f;
+    bits_are = (let a = m.bits_are in let d = bitmap_of-beside m.made (twig point.after u none) in omega arith);
+    tops = ap (λ (xs : List Cell). xs ++ (cell ∷ [])) m.tops ∙ ap (λ (c : Cell). tops_of m.made ++ (c ∷ [])) b.is ∙ sym (tops-beside m.made (twig point.after u none));
+    beneath = beneath_join has_new m.made (twig point.after u none) (all_kept now.used has has_new keep m.made (all_within_met now.used m.made (λ q l. mark_tells now.used q (let g = m.fresh q in omega arith))) m.beneath) (b.beneath, tt);
+    counts = λ k. let a = m.counts k in let d = b.counts k in let e = under-beside (in_chunk k) m.made (twig point.after u none) in omega arith;
+    fresh = λ q. let a = m.fresh q in let d = b.fresh q in let e = under-beside (at_place q) m.made (twig point.after u none) in omega arith;
+    cost = (let a = m.cost in let d = b.cost in let s = size_is (suc o) u f.shape in let e = twig_sizes-beside m.made (twig point.after u none) in let g = count-beside m.made (twig point.after u none) in omega arith);
   }
+
+  pub stopped_more : {new : Account} → Stopped now new (suc o) rest → Stopped base new o es
+  stopped_more {new} s = record { t = branch o 0 more; rest = s.rest; shape = shape; whole = j.whole; cost = cost }
     where
-      same_entries : entries_of step.here ≡ entries_of b.tree
-      same_entries = step.holds ∙ sym b.holds
+      more : Twigs
+      more = beside m.made (twig point.after s.t none)
 
-      alike : AllAt o p (entries_of b.tree)
-      alike x i = run.alike x (subst (InList x) b.holds i)
+      j : Joined o es s.rest point.after s.t m.made
+      j = open_join m.so_far from s.t s.rest s.shape s.whole
 
-      deep : IsTree (suc o) b.tree
-      deep = deepen (suc o) b.tree b.shape (subst (Agree (suc o)) same_entries (agree_tree (suc o) step.here step.deeper))
+      shape : IsTree o (branch o 0 more)
+      shape = (omega arith, m.so_far.early, short_row (count more) (let n = twigs_few o more j.twigs in omega arith), j.two, j.agree, j.twigs)
 
-      holds : entries (beside m.made (twig p b.tree none)) ≡ entries step.next.gone
-      holds =
-          entries-beside m.made (twig p b.tree none) ∙ ap (λ (es : List Entry). es ++ (entries_of b.tree ++ [])) m.holds ∙ ap (λ (es : List Entry). entries m.plan.gone ++ (es ++ [])) (sym same_entries)
-          ∙ sym (ap entries step.next_gone ∙ entries-beside m.plan.gone (twig p step.here none))
+      cost : new.spent < base.spent + cells (entries more)
+      cost =
+          let a = m.cost in let b = s.cost in let c = size_is (suc o) s.t s.shape in let d = size_is o (branch o 0 more) shape in
+          let e = size_branch o 0 more in let f = twig_sizes-beside m.made (twig point.after s.t none) in omega arith
 
-      as_many : count (beside m.made (twig p b.tree none)) ≡ count step.next.gone
-      as_many =
-          let a = count-beside m.made (twig p b.tree none) in
-          let d = ap count step.next_gone ∙ count-beside m.plan.gone (twig p step.here none) in
-          let e = m.as_many in omega arith
-
--- no item is left: the branch
-module _ {has : ℕ → Cell → Type 0} {old now : Account} {o done : ℕ} {all rest : List Entry} {bits : ℕ} {cs : List Cell} (m : Made has old now o all rest bits cs done) (empty : length rest ≡ 0) where
-  planned : Planned o all m.plan.gone done
-  planned = plan_end m.plan empty
-
-  pub all_cells : cells all ≡ suc done
-  all_cells = planned.sizes
-
-  pub row_length : length cs ≡ count m.made
+-- no twig is left: the branch
+module _ {has : ℕ → Cell → Type 0} {base now : Account} {o : ℕ} {es rest : List Entry} {next : Option BranchPoint} {bits : ℕ} {cs : List Cell} (m : Making has base now o es rest next bits cs) (short : Before o next) where
+  row_length : length cs ≡ count m.made
   row_length = ap (λ (xs : List Cell). length xs) m.tops ∙ length-tops m.made
 
   pub row_some : 2 ≤ length cs
-  row_some = let a = row_length in let b = m.as_many in let c = planned.tree.3 in omega arith
+  row_some = let a = row_length in let b = m.so_far.two short in omega arith
 
-  branch_tree : (wn : ℕ) → IsRow wn (length cs) → IsTree 0 (branch o wn m.made)
-  branch_tree wn is = (
-    planned.tree.0,
-    planned.tree.1,
-    subst (IsRow wn) row_length is,
-    (let a = m.as_many in let b = planned.tree.3 in omega arith),
-    subst (Agree o) (sym m.holds) planned.tree.4,
-    m.twigs,
-  )
+  closed : (w : ℕ) → IsRow w (length cs) → Front o es rest next (branch o w m.made)
+  closed w is = open_close m.so_far short w (subst (IsRow w) row_length is)
 
-  module _ {new : Account} {wn : ℕ} (handed : Handed now new wn (length cs)) where
-    pub branch_node : IsNode (node.Branch (record { offset = o; bitmap = bits; twigs = wn }))
-    branch_node = subst (λ (b : ℕ). IsNode (node.Branch (record { offset = o; bitmap = b; twigs = wn }))) (sym m.bits_are) (is_node 0 (branch o wn m.made) (branch_tree wn handed.twigs))
+  cost_of : (w : ℕ) → IsRow w (length cs) → (spent : ℕ) → spent ≤ now.spent + length cs → spent < base.spent + cells (entries m.made)
+  cost_of w is spent l = let a = m.cost in let b = row_length in let c = size_is o (branch o w m.made) (closed w is).shape in let d = size_branch o w m.made in omega arith
 
-    pub branch_built : {has_new : ℕ → Cell → Type 0} {cell : Cell} → Keeps now.used has has_new → ((q : ℕ) → now.used q ≡ true → new.used q ≡ true) → ((i : ℕ) (c : Cell) → slice_get cs i ≡ Some c → has_new (wn + i) c) →
-        cell ≡ packed (node.Branch (record { offset = o; bitmap = bits; twigs = wn })) → Built has_new old new all cell
-    branch_built {has_new} {cell} keep stays written is = record {
-      tree = branch o wn m.made;
-      shape = branch_tree wn handed.twigs;
-      is = is ∙ ap (λ (b : ℕ). packed (node.Branch (record { offset = o; bitmap = b; twigs = wn }))) m.bits_are;
-      beneath = lie_of has_new wn m.made (λ i c e. written i c (subst (λ (xs : List Cell). slice_get xs i ≡ Some c) (sym m.tops) e))
-          (all_kept now.used has has_new keep m.made (all_within_met now.used m.made (λ q l. mark_tells now.used q (let f = m.fresh q in omega arith))) m.beneath);
-      holds = m.holds ∙ planned.holds;
-      counts = λ k. let a = m.counts k in let b = handed.counts k in let c = weigh_is (in_chunk k) wn m.made in let d = ap (row (in_chunk k) wn) row_length in omega arith;
-      fresh = λ q. let a = m.fresh q in let b = handed_fresh handed stays q in let c = weigh_is (at_place q) wn m.made in let d = ap (row (at_place q) wn) row_length in omega arith;
-    }
+  pub stopped_here : {new : Account} → new.spent ≤ now.spent + length cs → Stopped base new o es
+  stopped_here {new} l =
+      let is = short_row (length cs) (let n = twigs_few o m.made m.so_far.twigs in let a = row_length in omega arith) in
+      record { t = branch o 0 m.made; rest = rest; shape = (closed 0 is).shape; whole = m.so_far.whole; cost = cost_of 0 is new.spent l }
 
--- with what it has cost
-pub record Making (has : ℕ → Cell → Type 0) (old now : Account) (o : ℕ) (all rest : List Entry) (bits : ℕ) (cs : List Cell) : Type 0 where
-  pub done : ℕ
-  pub made : Made has old now o all rest bits cs done
-  -- each twig's own cell is still to come
-  pub cost : now.spent + length cs ≤ old.spent + done
+  module _ {new : Account} {w : ℕ} (handed : Handed now new w (length cs)) where
+    pub branch_node : IsNode (node.Branch (record { offset = o; bitmap = bits; twigs = w }))
+    branch_node = subst (λ (b : ℕ). IsNode (node.Branch (record { offset = o; bitmap = b; twigs = w }))) (sym m.bits_are) (is_node o (branch o w m.made) (closed w handed.twigs).shape)
+
+    pub branch_built : {has_new : ℕ → Cell → Type 0} {cell : Cell} → Keeps now.used has has_new → ((q : ℕ) → now.used q ≡ true → new.used q ≡ true) → ((i : ℕ) (c : Cell) → slice_get cs i ≡ Some c → has_new (w + i) c) →
+        new.spent ≤ now.spent + length cs → cell ≡ packed (node.Branch (record { offset = o; bitmap = bits; twigs = w })) → BuiltFront has_new base new o es rest next cell
+    branch_built {has_new} {cell} keep stays written spends is = (
+      branch o w m.made,
+      closed w handed.twigs,
+      record {
+        is = is ∙ ap (λ (b : ℕ). packed (node.Branch (record { offset = o; bitmap = b; twigs = w }))) m.bits_are;
+        beneath = lie_of has_new w m.made (λ i c e. written i c (subst (λ (xs : List Cell). slice_get xs i ≡ Some c) (sym m.tops) e))
+            (all_kept now.used has has_new keep m.made (all_within_met now.used m.made (λ q l. mark_tells now.used q (let f = m.fresh q in omega arith))) m.beneath);
+        counts = λ k. let a = m.counts k in let b = handed.counts k in let c = weigh_is (in_chunk k) w m.made in let d = ap (row (in_chunk k) w) row_length in omega arith;
+        fresh = λ q. let a = m.fresh q in let b = handed_fresh handed stays q in let c = weigh_is (at_place q) w m.made in let d = ap (row (at_place q) w) row_length in omega arith;
+        cost = cost_of w handed.twigs new.spent spends;
+      },
+    )
 
 -- a root of its own
-pub root_stands : {has has_new : ℕ → Cell → Type 0} {old now new : Account} {es : List Entry} {cell : Cell} {r : ℕ} → ((k : ℕ) → old.live k ≡ 0) → Built has old now es cell → Handed now new r 1 → Keeps now.used has has_new → ((q : ℕ) → now.used q ≡ true → new.used q ≡ true) →
-    has_new (r + 0) cell → Standing has_new new.used new.live (Some r) es
-root_stands {has} {has_new} {old} {now} {new} {cell = cell} {r = r} uncounted b handed keep stays written = (
-  b.tree,
+pub root_stands : {has has_new : ℕ → Cell → Type 0} {old now new : Account} {es rest : List Entry} {next : Option BranchPoint} {cell : Cell} {r : ℕ} → ((k : ℕ) → old.live k ≡ 0) → BuiltFront has old now 0 es rest next cell → Handed now new r 1 → Keeps now.used has has_new →
+    ((q : ℕ) → now.used q ≡ true → new.used q ≡ true) → has_new (r + 0) cell → Standing has_new new.used new.live (Some r) es
+root_stands {has} {has_new} {old} {now} {new} {cell = cell} {r = r} uncounted (t, f, b) handed keep stays written = (
+  t,
   record {
     trie = record {
-      shape = b.shape;
+      shape = f.shape;
       inside = (let i = handed.twigs.inside in omega arith);
       top = subst (has_new r) b.is (let e : r + 0 ≡ r = omega arith in subst (λ (q : ℕ). has_new q cell) e written);
-      beneath = beneath_kept now.used has has_new keep b.tree (within_met now.used b.tree (λ q l. mark_tells now.used q (let f = b.fresh q in omega arith))) b.beneath;
-      once = λ q. let a = met q r b.tree in let f = b.fresh q in let h = handed_fresh handed stays q in let m = mark_le new.used q in omega arith;
-      holds = b.holds;
+      beneath = beneath_kept now.used has has_new keep t (within_met now.used t (λ q l. mark_tells now.used q (let g = b.fresh q in omega arith))) b.beneath;
+      once = λ q. let a = met q r t in let g = b.fresh q in let h = handed_fresh handed stays q in let m = mark_le new.used q in omega arith;
+      holds = nothing_left f;
     };
     top_in_use = (let e : r + 0 ≡ r = omega arith in subst (λ (q : ℕ). new.used q ≡ true) e (handed.taken 0 (omega arith)));
-    in_use = within_met new.used b.tree (λ q l. stays q (mark_tells now.used q (let f = b.fresh q in omega arith)));
-    counted = λ k. let a = live_is k r b.tree in let z = uncounted k in let f = b.counts k in let d = handed.counts k in omega arith;
+    in_use = within_met new.used t (λ q l. stays q (mark_tells now.used q (let g = b.fresh q in omega arith)));
+    counted = λ k. let a = live_is k r t in let z = uncounted k in let g = b.counts k in let d = handed.counts k in omega arith;
   },
 )
+
+-- what was asked for is no more than all need
+pub root_cost : {has : ℕ → Cell → Type 0} {old new : Account} {es rest : List Entry} {next : Option BranchPoint} {cell : Cell} → BuiltFront has old new 0 es rest next cell → new.spent < old.spent + cells es
+root_cost (t, f, b) = let a = b.cost in let c = ap cells (nothing_left f) in omega arith
+
+later_entries : (xs ys : List Entry) → EachIsEntry (xs ++ ys) → EachIsEntry ys
+later_entries [] ys each = each
+later_entries (x ∷ xs) ys each = later_entries xs ys each.1
+
+pub stopped_cost : {old new : Account} {es : List Entry} → EachIsEntry es → Rises es → Stopped old new 0 es → new.spent < old.spent + cells es
+stopped_cost {es = es} each rises s = let a = s.cost in let b = fewer_cells 0 s.t s.rest es s.shape s.whole (later_entries (entries_of s.t) s.rest (subst EachIsEntry s.whole each)) rises in omega arith

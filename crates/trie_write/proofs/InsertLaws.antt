@@ -17,7 +17,7 @@ use Rattle.trie_model.proofs.MoveLaws.{beneath_kept, tree_weaker}
 use Rattle.chunk_usage.specs.Rooms.{Account, Handed}
 use Rattle.trie_read.specs.Reads.{IsTop, EachTells}
 use Rattle.trie_write.specs.declared.change.Change.{Change}
-use Rattle.trie_write.specs.declared.near.Difference.{Difference}
+use Rattle.shift_key.specs.declared.difference.Difference.{Difference}
 use Rattle.trie_write.specs.Mutable.{Rooted}
 use Rattle.trie_write.specs.Inserts.{IsLaid, WithAsks, IsWith, LacksKey}
 use Rattle.trie_write.specs.Nearness.{FirstDiffers, Differs}

@@ -1,13 +1,22 @@
 -- What the octets of an item say.
-use Rattle.std.proofs.Common.{◌≡◌, ℕ, zero, suc, ◌<◌, ◌≤◌, true, List, [], ◌∷◌, ◌++◌, length, slice_index, Option, Some, None, arith, refl, sym, ◌∙◌, ap, subst, true≢false, length-append}
+use Rattle.std.proofs.Common.{◌≡◌, ℕ, zero, suc, ◌<◌, ◌≤◌, true, List, [], ◌∷◌, ◌++◌, length, slice_index, slice_get, Option, Some, None, arith, inl, inr, refl, sym, ◌∙◌, ap, subst, true≢false, length-append}
 use Rattle.zone_model.specs.Names.{Name, IsName, IsLabel, BeginsWith, wire}
 use Rattle.std.specs.List.{AllByRecursion}
+use Rattle.std.proofs.lemmas.Bool.{cases_lt}
 use Rattle.std.specs.Option.{IsSome, IsNone}
-use Rattle.zone_model.specs.Keys.{key_of, Leads}
+use Rattle.zone_model.specs.Keys.{key_of, IsFirstDifference, Leads}
 use Rattle.zone_model.specs.Splits.{split_name}
 use Rattle.zone_model.proofs.SplitLemmas.{name_back, name_sound}
-use Rattle.trie_model.specs.Keys.{IsEntry}
+use Rattle.trie_model.specs.Keys.{at, Same, Entry, IsEntry, Less, InList, Rises}
 use Rattle.trie_model.proofs.NameLaws.{name_key}
+use Rattle.trie_model.proofs.OutlineLaws.{EachIsEntry, Outline, outline_of, place_short}
+use Rattle.trie_read.specs.Reads.{EachTells}
+use Rattle.trie_write.specs.declared.item.Item.{Item}
+use Rattle.trie_write.specs.declared.points.BranchPoint.{BranchPoint}
+use Rattle.trie_write.specs.Entries.{entry_of, entries_of_items}
+use Rattle.trie_write.specs.Points.{IsPoint, Ahead}
+use Rattle.shift_key.specs.declared.difference.Difference.{Difference}
+use Rattle.shift_key.specs.Differences.{IsDifference}
 use Rattle.trie_write.specs.Named.{is_split, begins_with_name, key_of_split, key_in}
 
 -- what is known of an item's octets
@@ -87,3 +96,75 @@ stored_of name payload octets is small e short = record {
   named = ap begins_with_name e ∙ begins_with_name-wire name payload is;
   small = subst AreSmall (sym e) (small-append (wire name) payload (small_labels name is.each) small);
 }
+
+-- ---- the entries of items
+pub item_entry : (x : Item) → IsEntry (entry_of x)
+item_entry x = entry_is x.octets.items (record { short = x.short; named = x.named; small = x.small })
+
+pub each_entry : (items : List Item) → EachIsEntry (entries_of_items items)
+each_entry [] = tt
+each_entry (x ∷ xs) = (item_entry x, each_entry xs)
+
+pub no_items : (items : List Item) → length items ≡ 0 → entries_of_items items ≡ []
+no_items [] e = refl
+no_items (x ∷ items) e = absurd (omega arith)
+
+pub outline_items : (items : List Item) → 0 < length items → Rises (entries_of_items items) → Outline 0 (entries_of_items items)
+outline_items [] l rises = absurd (omega arith)
+outline_items (x ∷ xs) l rises = outline_of (entry_of x) (entries_of_items xs) (each_entry (x ∷ xs)) rises
+
+pub items_tell : (items : List Item) → EachTells Leads (entries_of_items items)
+items_tell [] x i = absurd i
+items_tell (y ∷ items) x (inl same) = subst (λ (e : Entry). Leads e.key e.item) (sym same) (leads_of y.octets.items (record { short = y.short; named = y.named; small = y.small }))
+items_tell (y ∷ items) x (inr later) = items_tell items x later
+
+pub first_item : (items : List Item) (x : Item) → slice_get items 0 ≡ Some x → (later : List Item) × (items ≡ x ∷ later)
+first_item [] x e = absurd cc
+first_item (y ∷ items) x e = let f : x ≡ y = cc in (items, ap (λ (z : Item). z ∷ items) (sym f))
+
+-- keys that agree before a place and differ there first differ there
+one_place : (a b : List ℕ) (d o : ℕ) → IsFirstDifference a b d → Same o a b → at a o < at b o → d ≡ o
+one_place a b d o first same low = elim (cases_lt d o) [
+  | inl l ↦ absurd (first.differ (same d l))
+  | inr g ↦ elim (cases_lt o d) [ inl l ↦ absurd (let e = first.before o l in omega arith) | inr h ↦ omega arith ]
+]
+
+-- where the keys of two entries part
+pub point_of : (a b : Entry) (point : BranchPoint) → IsEntry b → Less a.key b.key → IsFirstDifference a.key b.key point.offset → at a.key point.offset ≡ point.before → at b.key point.offset ≡ point.after → IsPoint a.key b.key point
+point_of a b point is l first before after =
+    let place : point.offset ≡ l.place = one_place a.key b.key point.offset l.place first l.same l.lower in
+    let lower : at a.key point.offset < at b.key point.offset = subst (λ (n : ℕ). at a.key n < at b.key n) (sym place) l.lower in
+    record {
+      same = first.before;
+      before = before;
+      after = after;
+      rises = omega arith;
+      early = (let s = place_short a.key b.key is.key l in omega arith);
+      inside = (let p = is.key.positions point.offset in omega arith);
+    }
+
+module _ (item next : Item) (rest later : List Item) (is : rest ≡ next ∷ later) (rises : Rises (entry_of item ∷ entries_of_items rest)) {key octets : List ℕ} (key_is : key ≡ (entry_of item).key) (octets_are : octets ≡ next.octets.items) where
+  next_name : HasName next.octets.items
+  next_name = name_of next.octets.items (record { short = next.short; named = next.named; small = next.small })
+
+  less : Less (entry_of item).key (entry_of next).key
+  less = rises.0 (entry_of next) (subst (λ (xs : List Item). InList (entry_of next) (entries_of_items xs)) (sym is) (inl refl))
+
+  -- an item's key isn't that of the next one
+  pub keys_part : ((other : Name) → IsName other → BeginsWith octets other → key ≡ key_of other) → ⊥
+  keys_part same =
+      let n = next_name in let l = less in let lower = l.lower in
+      let e = ap (λ (k : List ℕ). at k l.place) (sym key_is ∙ same n.name n.is_name (n.rest, octets_are ∙ n.octets_are) ∙ sym n.key) in omega arith
+
+  -- and where it differs, the two part
+  pub keys_part_at : (d : Difference) (before : ℕ) → ((other : Name) → IsName other → BeginsWith octets other → IsDifference key (key_of other) (Some d)) → before ≡ at key d.place → Ahead (entry_of item) (entries_of_items rest) (Some (record { offset = d.place; before = before; after = d.position }))
+  keys_part_at d before differ before_is =
+      let n = next_name in
+      let x = differ n.name n.is_name (n.rest, octets_are ∙ n.octets_are) in
+      let first = subst (λ (a : List ℕ). IsFirstDifference a (entry_of next).key d.place) key_is (subst (λ (b : List ℕ). IsFirstDifference key b d.place) (sym n.key) x.0) in (
+        entry_of next,
+        entries_of_items later,
+        ap entries_of_items is,
+        point_of (entry_of item) (entry_of next) (record { offset = d.place; before = before; after = d.position }) (item_entry next) less first
+            (sym (before_is ∙ ap (λ (k : List ℕ). at k d.place) key_is)) (sym (x.1 ∙ ap (λ (k : List ℕ). at k d.place) (sym n.key))),
+      )

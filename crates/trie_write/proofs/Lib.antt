@@ -1,9 +1,7 @@
 pub mod ItemLaws
 pub mod WeightLaws
-pub mod OutlineLaws
-pub mod RunLaws
-pub mod PlanLaws
 pub mod TwigLaws
+pub mod OpenLaws
 pub mod BuildLaws
 pub mod NearLaws
 pub mod InsertLaws

@@ -1,13 +1,14 @@
 -- The leaf that a walk comes to, and the first place where its key differs.
-use Rattle.std.proofs.Common.{◌≡◌, ℕ, suc, ◌+◌, ◌-◌, ◌/◌, ◌%◌, ◌^◌, ◌<◌, ◌≤◌, ◌⊎◌, List, length, take, count_ones, Option, Some, None, IsNone, IsSome, length-take, arith, refl, sym, ◌∙◌, ap, subst, inl, inr}
+use Rattle.std.proofs.Common.{◌≡◌, ℕ, suc, ◌+◌, ◌-◌, ◌/◌, ◌%◌, ◌^◌, ◌<◌, ◌≤◌, ◌⊎◌, List, count_ones, Option, Some, None, arith, refl, sym, ◌∙◌, ap, subst, inl, inr}
 use Rattle.std.proofs.lemmas.Bool.{cases_lt, cases_eq}
 use Rattle.std.proofs.lemmas.List.{get_or_past}
 use Rattle.packed_node.specs.declared.Cell.{Cell}
 use Rattle.packed_node.specs.declared.Leaf.{Leaf}
 use Rattle.packed_node.specs.declared.Branch.{Branch}
-use Rattle.zone_model.specs.Names.{Name, IsName, BeginsWith}
-use Rattle.zone_model.specs.Keys.{key_of, Leads, IsFirstDifference}
-use Rattle.trie_model.specs.Keys.{at, IsKey, IsItem, Entry, InList}
+use Rattle.zone_model.specs.Keys.{IsFirstDifference}
+use Rattle.shift_key.specs.declared.difference.Difference.{Difference}
+use Rattle.shift_key.specs.Differences.{IsDifference}
+use Rattle.trie_model.specs.Keys.{at, IsKey, Entry, InList}
 use Rattle.trie_model.specs.Memory.{top_cell, Beneath, Lie}
 use Rattle.trie_model.specs.Trees.{Tree, Twigs, IsTree, Agree, entries_of, entries, bitmap_of}
 use Rattle.trie_model.specs.Trees.Tree.{branch}
@@ -16,22 +17,9 @@ use Rattle.trie_model.proofs.KeyLaws.{in_left}
 use Rattle.trie_model.proofs.SplitLaws.{Found, Missing, look, rising_of, lie_right, in_found, not_missing}
 use Rattle.trie_model.proofs.AddLaws.{found_twigs, from_here}
 use Rattle.trie_model.proofs.GrowthLaws.{each_entry}
-use Rattle.trie_model.proofs.NameLaws.{one_key_leads, leads_by_front}
 use Rattle.trie_read.specs.Reads.{IsTop}
 use Rattle.trie_write.specs.Tops.{IsBranchTop, IsLeafTop}
-use Rattle.trie_write.specs.Nearness.{Apart, Closest, FirstDiffers}
-
--- the front of an item has a name, which is the key's
-pub has_name : (key item front : List ℕ) (r : Option Name) → IsItem item → front ≡ take 256 item → Leads key item → (IsNone r → (name : Name) → IsName name → BeginsWith front name → ⊥) → IsSome r
-has_name key item front None is e leads never = let there = subst (Leads key) (sym e) ((leads_by_front key item is).0 leads) in absurd (never refl there.name there.is_name there.front)
-has_name key item front (Some name) is e leads never = refl
-
-pub name_is : (key item front : List ℕ) (name : Name) → IsItem item → front ≡ take 256 item → Leads key item → IsName name → BeginsWith front name → key_of name ≡ key
-name_is key item front name is e leads is_name begins =
-    let here : Leads (key_of name) front = record { short = (let n = ap (λ (xs : List ℕ). length xs) e in let m = length-take 256 item in omega arith); name = name; is_name = is_name; key = refl; front = begins } in
-    one_key_leads (key_of name) key front here (subst (Leads key) (sym e) ((leads_by_front key item is).0 leads))
-
--- ---- the walk
+use Rattle.trie_write.specs.Nearness.{Apart, Closest, FirstDiffers, Differs}
 
 widen : (o d : ℕ) (k : List ℕ) (near x : Entry) (es : List Entry) → Agree o es → InList near es → InList x es → (at k d ≡ at near.key d → ⊥) → (at x.key o ≡ at k o → ⊥) → (d < o) ⊎ (o ≤ d) → (i : ℕ) × (i ≤ d) × (at k i ≡ at x.key i → ⊥)
 widen o d k near x es agree n i other ne (inl lt) = (d, omega arith, λ e. other (e ∙ agree x near i n d lt))
@@ -110,12 +98,13 @@ place_inside a b d ka kb first = elim (cases_lt d 504) [
   | inr g ↦ absurd (first.differ (get_or_past a d 0 (let s = ka.short in omega arith) ∙ sym (get_or_past b d 0 (let s = kb.short in omega arith))))
 ]
 
-pub differs_some : {has : ℕ → Cell → Type 0} {k : List ℕ} {l : Leaf} (low : ℕ) (t : Tree) (place position : ℕ) (c : Closest has k (entries_of t) l) → IsTree low t → IsKey k → IsFirstDifference k c.near.key place → position ≡ at c.near.key place → FirstDiffers k (entries_of t) (record { place = place; position = position })
-differs_some {k = k} low t place position c tree is first e =
-    let other : (at k place ≡ at c.near.key place) → ⊥ = first.differ in
+pub differs_of : {has : ℕ → Cell → Type 0} {k : List ℕ} {l : Leaf} (low : ℕ) (t : Tree) (c : Closest has k (entries_of t) l) → IsTree low t → IsKey k → (r : Option Difference) → IsDifference k c.near.key r → Differs k (entries_of t) r
+differs_of low t c tree is None same = (c.near, c.there, sym same)
+differs_of {k = k} low t c tree is (Some d) (first, e) =
+    let other : (at k d.place ≡ at c.near.key d.place) → ⊥ = first.differ in
     let near_is = each_entry low t tree c.near c.there in
     record {
-      nearest = record { near = c.near; there = c.there; same = first.before; position = sym e; other = λ f. other (f ∙ e); apart = c.apart place first.before other };
-      short = place_inside k c.near.key place is near_is.key first;
-      inside = (let p = near_is.key.positions place in omega arith);
+      nearest = record { near = c.near; there = c.there; same = first.before; position = sym e; other = λ f. other (f ∙ e); apart = c.apart d.place first.before other };
+      short = place_inside k c.near.key d.place is near_is.key first;
+      inside = (let p = near_is.key.positions d.place in omega arith);
     }

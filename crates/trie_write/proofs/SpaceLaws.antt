@@ -241,3 +241,7 @@ ok_map (Err e) f h = tt
 pub err_map : {A E : Type 0} (r : Result A E) {P Q : E → Type 0} → ((e : E) → P e → Q e) → IfErr r P → IfErr r Q
 err_map (Ok x) f h = tt
 err_map (Err e) f h = f e h
+
+pub err_all : {A E : Type 0} (r : Result A E) {P : E → Type 0} → ((e : E) → P e) → IfErr r P
+err_all (Ok x) h = tt
+err_all (Err e) h = h e

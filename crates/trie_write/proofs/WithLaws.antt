@@ -23,7 +23,7 @@ use Rattle.trie_model.proofs.TopLaws.{is_node}
 use Rattle.chunk_usage.specs.Rooms.{Account}
 use Rattle.trie_write.specs.declared.change.Change.{Change}
 use Rattle.trie_write.specs.declared.change.Span.{Span}
-use Rattle.trie_write.specs.declared.near.Difference.{Difference}
+use Rattle.shift_key.specs.declared.difference.Difference.{Difference}
 use Rattle.trie_write.specs.Inserts.{WithAsks, IsWith}
 use Rattle.trie_write.specs.Paths.{twigs_on_path}
 use Rattle.trie_write.specs.Puts.{span, Makes}

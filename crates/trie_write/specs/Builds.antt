@@ -1,20 +1,33 @@
 -- What building gives.
-use Rattle.std.specs.Prelude.{◌≡◌, ℕ, ◌+◌, ◌≤◌, List}
+use Rattle.std.specs.Prelude.{◌≡◌, ℕ, ◌+◌, ◌<◌, ◌≤◌, List, ◌++◌, Option}
 use Rattle.packed_node.specs.declared.Cell.{Cell}
 use Rattle.trie_model.specs.Keys.{Entry}
+use Rattle.trie_model.specs.Shape.{cells}
 use Rattle.trie_model.specs.Trees.{Tree, entries_of, IsTree}
 use Rattle.trie_model.specs.Memory.{Beneath, top_cell}
 use Rattle.trie_model.specs.Reach.{weigh_tree, in_chunk}
 use Rattle.chunk_usage.specs.Rooms.{Account}
+use Rattle.trie_write.specs.declared.points.BranchPoint.{BranchPoint}
+use Rattle.trie_write.specs.Points.{Front}
 use Rattle.trie_write.specs.Weights.{at_place, mark}
 
--- The cell is the top of a trie of these entries. What lies below it counts, and is in cells that weren't in use and now
--- are, each once.
-pub record Built (has : ℕ → Cell → Type 0) (old new : Account) (es : List Entry) (cell : Cell) : Type 0 where
-  pub tree : Tree
-  pub shape : IsTree 0 tree
-  pub is : cell ≡ top_cell tree
-  pub beneath : Beneath has tree
-  pub holds : entries_of tree ≡ es
-  pub counts : (k : ℕ) → new.live k ≡ old.live k + weigh_tree (in_chunk k) tree
-  pub fresh : (q : ℕ) → weigh_tree (at_place q) tree + mark old.used q ≤ mark new.used q
+-- The cell is the tree's top. What lies below it counts, and is in cells that weren't in use and now are, each once. The top's own
+-- cell is still to come.
+pub record Built (has : ℕ → Cell → Type 0) (old new : Account) (t : Tree) (cell : Cell) : Type 0 where
+  pub is : cell ≡ top_cell t
+  pub beneath : Beneath has t
+  pub counts : (k : ℕ) → new.live k ≡ old.live k + weigh_tree (in_chunk k) t
+  pub fresh : (q : ℕ) → weigh_tree (at_place q) t + mark old.used q ≤ mark new.used q
+  pub cost : new.spent < old.spent + cells (entries_of t)
+
+-- the tree of the first of these entries is built
+abbrev pub BuiltFront : (ℕ → Cell → Type 0) → Account → Account → ℕ → List Entry → List Entry → Option BranchPoint → Cell → Type 0
+BuiltFront has old new low es rest next cell = (t : Tree) × Front low es rest next t × Built has old new t cell
+
+-- there was no room for it; what was asked for is less than it has
+pub record Stopped (old new : Account) (low : ℕ) (es : List Entry) : Type 0 where
+  pub t : Tree
+  pub rest : List Entry
+  pub shape : IsTree low t
+  pub whole : es ≡ entries_of t ++ rest
+  pub cost : new.spent < old.spent + cells (entries_of t)

@@ -1,8 +1,9 @@
 -- What an insertion below a root is asked, and what it makes.
 use Rattle.std.specs.Prelude.{◌≡◌, ℕ, ◌+◌, ◌<◌, ◌≤◌, true, List, length}
 use Rattle.packed_node.specs.declared.Cell.{Cell}
+use Rattle.packed_node.specs.declared.Branch.{Branch}
 use Rattle.packed_node.specs.declared.Leaf.{Leaf}
-use Rattle.trie_model.specs.Changes.{Nearest, Grown}
+use Rattle.trie_model.specs.Changes.{Nearest, Grown, Deep}
 use Rattle.trie_model.specs.Keys.{Entry, IsEntry}
 use Rattle.trie_model.specs.Memory.{ItemLies}
 use Rattle.trie_model.specs.Reach.{WithinTree}
@@ -10,10 +11,10 @@ use Rattle.trie_model.specs.Trees.{Tree, entries_of, cells_in, IsRow, IsTree}
 use Rattle.chunk_usage.specs.Rooms.{Account}
 use Rattle.trie_read.specs.Reads.{IsTop}
 use Rattle.trie_write.specs.declared.change.Change.{Change}
-use Rattle.trie_write.specs.declared.near.Difference.{Difference}
+use Rattle.shift_key.specs.declared.difference.Difference.{Difference}
 use Rattle.trie_write.specs.Puts.{Makes}
 use Rattle.trie_write.specs.Standing.{StandsIn}
-use Rattle.trie_write.specs.Tops.{NotBefore}
+use Rattle.trie_write.specs.Tops.{NotBefore, IsBranchTop}
 use Rattle.trie_write.specs.Ways.{Fork, plug, IsWay}
 
 -- the item lies in cells in use, where the leaf says
@@ -42,6 +43,21 @@ pub record WithAsked {S A : Type 0} (has : S → ℕ → Cell → Type 0) (accou
   pub item : List ℕ
   pub end : Tree
   pub asks : WithAsks has account s a key item first node l end
+
+-- where the tree's top lies deeper, and where it is a branch at the place
+pub record PairAsked {S A : Type 0} (has : S → ℕ → Cell → Type 0) (account : A → Account) (s : S) (a : A) (key : List ℕ) (first : Difference) (node : Cell) (l : Leaf) : Type 0 where
+  pub item : List ℕ
+  pub end : Tree
+  pub asks : WithAsks has account s a key item first node l end
+  pub deep : Deep first.place end
+
+pub record JoinAsked {S A : Type 0} (has : S → ℕ → Cell → Type 0) (account : A → Account) (s : S) (a : A) (key : List ℕ) (first : Difference) (b : Branch) (l : Leaf) : Type 0 where
+  pub node : Cell
+  pub item : List ℕ
+  pub end : Tree
+  pub asks : WithAsks has account s a key item first node l end
+  pub top : IsBranchTop end b
+  pub here : b.offset ≡ first.place
 
 -- the change makes of the tree what it is with the entry
 pub record IsWith {S : Type 0} (has : S → ℕ → Cell → Type 0) (s : S) (c : Change) (place : ℕ) (e : Entry) (old : Tree) : Type 0 where

@@ -1,7 +1,7 @@
 pub mod Named
 pub mod Entries
 pub mod Weights
-pub mod Runs
+pub mod Points
 pub mod Builds
 pub mod Standing
 pub mod Paths

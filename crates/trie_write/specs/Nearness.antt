@@ -5,7 +5,7 @@ use Rattle.packed_node.specs.declared.Leaf.{Leaf}
 use Rattle.trie_model.specs.Keys.{at, Same, Entry, InList}
 use Rattle.trie_model.specs.Changes.{Nearest}
 use Rattle.trie_read.specs.Reads.{IsLeafOf}
-use Rattle.trie_write.specs.declared.near.Difference.{Difference}
+use Rattle.shift_key.specs.declared.difference.Difference.{Difference}
 
 -- wherever the key first differs from the nearest one, it has differed from each
 abbrev pub Apart : List ℕ → Entry → List Entry → Type 0

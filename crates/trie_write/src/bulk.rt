@@ -1,21 +1,37 @@
 //! A trie of items, made at once.
+//!
+//! The items are in the order of their keys, and where each key first differs from the next one tells the whole shape: there a branch parts the two.
+//! So one pass is enough, which makes each leaf, and above it all branches that end with it.
 
-ghost use Rattle.std.specs.Prelude.{◌≡◌, ◌+◌, ◌<◌, ◌≤◌, ℕ, List, [], ◌∷◌, IfOk, IfErr, Some, length, map};
+ghost use Rattle.std.specs.Prelude.{◌≡◌, ◌+◌, ◌<◌, ◌≤◌, ℕ, suc, List, [], ◌∷◌, IfOk, IfErr, Some, length};
 ghost use Rattle.packed_node.specs.declared.Cell.{Cell};
 ghost use Rattle.trie_model.specs.Keys.{Entry, Rises};
 ghost use Rattle.trie_model.specs.Shape.{cells as cells_of};
+ghost use Rattle.trie_model.specs.Trees.{IsTree};
+ghost use Rattle.trie_model.specs.Trees.Tree.{leaf};
+ghost use Rattle.chunk_usage.specs.Rooms.{Account};
 ghost use Rattle.trie_write.specs.Entries.{entry_of, entries_of_items};
-ghost use Rattle.trie_write.specs.Builds.{Built};
+ghost use Rattle.trie_write.specs.Builds.{Built, BuiltFront, Stopped};
 ghost use Rattle.trie_write.specs.Spaces.{Ready, Frame};
 ghost use Rattle.trie_write.specs.Standing.{HasTrie};
 
 use super::Item;
 use super::place::{lay_item, lay_row};
+use super::points::{BranchPoint, from_offset, point_ahead};
 use super::row::Row;
-use super::runs::{first_run, offset_of};
 use chunk_cells::CellWrite;
 use chunk_usage::{Full, Space};
 use packed_node::{Branch, Cell, Node, Ref, bitmap};
+
+/// The trie of the first of some items, all written but for the cell of its top.
+#[derive(Clone, Copy)]
+struct Part<'a> {
+    cell: Cell,
+    /// The items that are left.
+    rest: &'a [Item],
+    /// Where the first of these parts from the last of the trie.
+    next: Option<BranchPoint>,
+}
 
 /// The root of the trie of the items, which is written. No cell counts before; where there is no room, none does afterwards.
 pub fn build<C: CellWrite, U: Space>(
@@ -61,8 +77,8 @@ fn build_root<C: CellWrite, U: Space>(
     ensures frame { Frame C.has C.kept C.given U.account cells.old usage.old cells.new usage.new }
     ensures ready { Ready C.kept C.given U.account cells.new usage.new }
 {
-    let node = build_below(cells, usage, items)?;
-    let root = lay_row(cells, usage, &[node])?;
+    let whole = build_front(cells, usage, items, 0)?;
+    let root = lay_row(cells, usage, &[whole.cell])?;
     Ok(root)
 }
 
@@ -73,8 +89,8 @@ fn build_leaf<C: CellWrite, U: Space>(
     item: &Item,
 ) -> Result<Cell, Full>
     requires { Ready C.kept C.given U.account cells.old usage.old }
-    ensures built { IfOk result (λ cell. Built (C.has cells.new) (U.account usage.old) (U.account usage.new) (map entry_of (item.now ∷ [])) cell) }
-    ensures spends { (U.account usage.new).spent < (U.account usage.old).spent + cells_of (map entry_of (item.now ∷ [])) }
+    ensures built { IfOk result (λ cell. (at : ℕ) × IsTree 0 (leaf (entry_of item.now) at) × Built (C.has cells.new) (U.account usage.old) (U.account usage.new) (leaf (entry_of item.now) at) cell) }
+    ensures spends { (U.account usage.new).spent < (U.account usage.old).spent + cells_of (entry_of item.now ∷ []) }
     ensures full { IfErr result (λ f. U.lacks usage.new f) }
     ensures frame { Frame C.has C.kept C.given U.account cells.old usage.old cells.new usage.new }
     ensures ready { Ready C.kept C.given U.account cells.new usage.new }
@@ -83,41 +99,73 @@ fn build_leaf<C: CellWrite, U: Space>(
     Ok(Node::Leaf(leaf).pack())
 }
 
-/// The cell of the top of the items' trie. All below it is written.
-fn build_below<C: CellWrite, U: Space>(
+/// The trie of the first items, as many as agree before `low`.
+#[cycle(build)]
+fn build_front<'a, C: CellWrite, U: Space>(
     cells: &mut C,
     usage: &mut U,
-    items: &[Item],
-) -> Result<Cell, Full>
+    items: &'a [Item],
+    low: u16,
+) -> Result<Part<'a>, Full>
     requires some { 0 < length items.now }
     requires rising { Rises (entries_of_items items.now) }
+    requires low { low ≤ 504 }
     requires ready { Ready C.kept C.given U.account cells.old usage.old }
-    ensures built { IfOk result (λ cell. Built (C.has cells.new) (U.account usage.old) (U.account usage.new) (entries_of_items items.now) cell) }
-    ensures spends { (U.account usage.new).spent < (U.account usage.old).spent + cells_of (entries_of_items items.now) }
+    ensures built { IfOk result (λ part. BuiltFront (C.has cells.new) (U.account usage.old) (U.account usage.new) low (entries_of_items items.now) (entries_of_items part.rest.now) part.next part.cell) }
+    ensures shorter { IfOk result (λ part. length part.rest.now < length items.now) }
+    ensures stopped { IfErr result (λ _. Stopped (U.account usage.old) (U.account usage.new) low (entries_of_items items.now)) }
     ensures full { IfErr result (λ f. U.lacks usage.new f) }
     ensures frame { Frame C.has C.kept C.given U.account cells.old usage.old cells.new usage.new }
     ensures ready { Ready C.kept C.given U.account cells.new usage.new }
 {
-    if items.len() == 1 {
-        return build_leaf(cells, usage, &items[0]);
+    let (item, rest) = items.split_first().unwrap();
+    let cell = build_leaf(cells, usage, item)?;
+    let next = point_ahead(item, rest);
+    let mut part = Part { cell, rest, next };
+    while let Some(above) = from_offset(part.next, low) {
+        part = build_branch(cells, usage, part, above)?;
     }
-    let offset = offset_of(items);
+    Ok(part)
+}
+
+/// The trie with a branch above it, whose first twig it is.
+#[cycle(build)]
+fn build_branch<'a, C: CellWrite, U: Space>(
+    cells: &mut C,
+    usage: &mut U,
+    first: Part<'a>,
+    point: BranchPoint,
+) -> Result<Part<'a>, Full>
+    requires first { (base : Account) × (es : List Entry) × BuiltFront (C.has cells.old) base (U.account usage.old) (suc point.offset) es (entries_of_items first.rest.now) (Some point) first.cell }
+    requires point { first.next ≡ Some point }
+    requires ready { Ready C.kept C.given U.account cells.old usage.old }
+    ensures built { IfOk result (λ part. (base : Account) (es : List Entry) → BuiltFront (C.has cells.old) base (U.account usage.old) (suc point.offset) es (entries_of_items first.entry.rest.now) (Some point) first.entry.cell
+        → BuiltFront (C.has cells.new) base (U.account usage.new) point.offset es (entries_of_items part.rest.now) part.next part.cell) }
+    ensures shorter { IfOk result (λ part. length part.rest.now < length first.entry.rest.now) }
+    ensures stopped { IfErr result (λ _. (base : Account) (es : List Entry) → BuiltFront (C.has cells.old) base (U.account usage.old) (suc point.offset) es (entries_of_items first.entry.rest.now) (Some point) first.entry.cell
+        → Stopped base (U.account usage.new) point.offset es) }
+    ensures full { IfErr result (λ f. U.lacks usage.new f) }
+    ensures frame { Frame C.has C.kept C.given U.account cells.old usage.old cells.new usage.new }
+    ensures ready { Ready C.kept C.given U.account cells.new usage.new }
+{
     let mut row = Row::new();
-    let mut positions = 0;
-    let mut rest = items;
-    while !rest.is_empty() {
-        let run = first_run(rest, offset);
-        let (below, later) = rest.split_at(run.count);
-        let cell = build_below(cells, usage, below)?;
-        row.push(cell);
-        positions = bitmap::with(positions, run.position);
-        rest = later;
+    row.push(first.cell);
+    let mut positions = bitmap::bit(point.before);
+    let mut rest = first.rest;
+    let mut next = first.next;
+    while let Some(beside) = from_offset(next, point.offset) {
+        let twig = build_front(cells, usage, rest, point.offset + 1)?;
+        row.push(twig.cell);
+        positions = bitmap::with(positions, beside.after);
+        rest = twig.rest;
+        next = twig.next;
     }
     let twigs = lay_row(cells, usage, row.as_slice())?;
-    Ok(Node::Branch(Branch {
-        offset,
+    let branch = Branch {
+        offset: point.offset,
         bitmap: positions,
         twigs,
-    })
-    .pack())
+    };
+    let cell = Node::Branch(branch).pack();
+    Ok(Part { cell, rest, next })
 }

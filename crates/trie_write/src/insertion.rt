@@ -15,7 +15,7 @@ ghost use Rattle.trie_write.specs.Spaces.{Ready, Frame, Fenced, Unchanged, Refus
 ghost use Rattle.trie_write.specs.Standing.{HasTrie};
 
 use super::change::{Change, put_change};
-use super::near::{Difference, compare};
+use super::near::compare;
 use super::place::{lay_item, room_for};
 use super::turn::end_node;
 use super::with::with_leaf;
@@ -23,7 +23,7 @@ use chunk_cells::CellWrite;
 use chunk_cells::item::cells_for;
 use chunk_usage::{Full, Space};
 use packed_node::{Node, Ref};
-use shift_key::Key;
+use shift_key::{Difference, Key};
 
 /// The root of the trie of one name.
 fn insert_first<C: CellWrite, U: Space>(

@@ -3,25 +3,16 @@
 ghost use Rattle.std.specs.Prelude.{◌≡◌, ◌%◌, ◌^◌, ◌<◌, ℕ, List, count_ones};
 ghost use Rattle.std.specs.Int.{bit_at};
 ghost use Rattle.zone_model.specs.Keys.{Leads};
-ghost use Rattle.trie_model.specs.Keys.{at, IsKey, Entry};
+ghost use Rattle.trie_model.specs.Keys.{at, IsKey};
 ghost use Rattle.trie_model.specs.Trees.{Tree, entries_of};
-ghost use Rattle.trie_read.specs.Reads.{IsTop, IsLeafOf, EachTells};
+ghost use Rattle.trie_read.specs.Reads.{IsTop, EachTells};
 ghost use Rattle.trie_write.specs.Nearness.{Closest, Differs};
 
 use super::top::top_of;
-use chunk_cells::{CellRead, read_front};
-use dns_name::Name;
+use chunk_cells::CellRead;
 use packed_node::{Branch, Cell, Leaf};
-use shift_key::Key;
-
-/// Where a key first differs from the nearest one.
-#[derive(Clone, Copy)]
-pub struct Difference {
-    /// The place.
-    pub place: u16,
-    /// The position that the nearest key has there.
-    pub position: u8,
-}
+use shift_key::{Difference, Key};
+use trie_read::difference_at;
 
 /// Where the key first differs from the nearest one below a node; `None` where the key is there.
 pub fn compare<C: CellRead>(cells: &mut C, node: Cell, key: &Key) -> Option<Difference>
@@ -31,14 +22,7 @@ pub fn compare<C: CellRead>(cells: &mut C, node: Cell, key: &Key) -> Option<Diff
     ensures value { (t : Tree) → IsTop (C.has cells.old) 0 node t → EachTells Leads (entries_of t) → Differs key.now (entries_of t) result }
 {
     let leaf = nearest(cells, node, 0, key);
-    let other = key_at(cells, leaf);
-    match key.first_difference(&other) {
-        None => None,
-        Some(place) => Some(Difference {
-            place,
-            position: other.at(place),
-        }),
-    }
+    difference_at(cells, leaf, key)
 }
 
 /// The leaf below a node whose key has the longest beginning in common with the key. Offsets are at least `low`.
@@ -69,15 +53,4 @@ fn way(branch: Branch, key: &Key) -> u32
     } else {
         0
     }
-}
-
-/// The key that a leaf's item says.
-fn key_at<C: CellRead>(cells: &mut C, leaf: Leaf) -> Key
-    requires { (e : Entry) × IsLeafOf (C.has cells.old) e leaf × Leads e.key e.item }
-    ensures same { cells.new ≡ cells.old }
-    ensures key { (e : Entry) → IsLeafOf (C.has cells.old) e leaf → Leads e.key e.item → result ≡ e.key }
-{
-    let mut front = [0; 256];
-    let len = read_front(cells, leaf, &mut front);
-    Key::of(&Name::from_wire(&front[..len]).unwrap())
 }

@@ -4,7 +4,7 @@ use Rattle.zone_model.specs.Keys.{Leads}
 use Rattle.trie_write.specs.Spaces.{Ready}
 use Rattle.trie_write.specs.Entries.{entry_of, entries_of_items}
 use Rattle.trie_write.specs.Standing.{Standing}
-use Rattle.trie_write.proofs.RunLaws.{items_tell}
+use Rattle.trie_write.proofs.ItemLaws.{items_tell}
 use Rattle.trie_write.proofs.RootLaws.{stands_of}
 use Rattle.trie_tests.proofs.few_names.sizes_with.Goals as goal
 

@@ -1,7 +1,17 @@
-use Rattle.std.proofs.Common.{refl}
-use Rattle.trie_write.proofs.BuildLaws.{root_stands}
+use Rattle.std.proofs.Common.{ℕ, arith, refl}
+use Rattle.trie_write.proofs.BuildLaws.{root_stands, root_cost, stopped_cost}
+use Rattle.trie_write.proofs.ItemLaws.{each_entry}
 use Rattle.trie_write.proofs.bulk.build_root.Goals as goal
+
+pub returns-in_err-whole-clause-spends : goal.returns-in_err-whole-clause-spends
+returns-in_err-whole-clause-spends g c = let s = stopped_cost (each_entry c.args.items.now) c.requires.rising c.in_err-whole.ensures.stopped in omega arith
+
+pub returns-in_err-root-clause-spends : goal.returns-in_err-root-clause-spends
+returns-in_err-root-clause-spends g c = let s = root_cost c.in_ok-whole.ensures.built in let n = c.lay_row.ensures.spends in omega arith
+
+pub returns-clause-spends : goal.returns-clause-spends
+returns-clause-spends g c = let s = root_cost c.in_ok-whole.ensures.built in let n = c.lay_row.ensures.spends in omega arith
 
 pub returns-clause-built : goal.returns-clause-built
 returns-clause-built g c =
-    root_stands c.requires.uncounted c.in_ok-node.ensures.built c.in_ok-root.ensures.handed c.in_ok-root.ensures.frame.stays c.in_ok-root.ensures.frame.grows.stays (c.in_ok-root.ensures.written 0 c.in_ok-node.node refl)
+    root_stands c.requires.uncounted c.in_ok-whole.ensures.built c.in_ok-root.ensures.handed c.in_ok-root.ensures.frame.stays c.in_ok-root.ensures.frame.grows.stays (c.in_ok-root.ensures.written 0 c.in_ok-whole.whole.cell refl)
