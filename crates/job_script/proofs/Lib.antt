@@ -1,3 +1,4 @@
 pub mod PartsLemmas
 pub mod PhraseLemmas
 pub mod ScriptLemmas
+pub mod ReportLemmas

@@ -2,3 +2,5 @@ pub mod Phrases
 pub mod Views
 pub mod Parts
 pub mod Scripts
+pub mod Replies
+pub mod Outcomes

@@ -1,0 +1,4 @@
+pub mod RunLemmas
+pub mod StepLemmas
+pub mod JobLemmas
+pub mod TransactLemmas
