@@ -114,17 +114,17 @@ is_both false d h = absurd cc
 
 found : (origin : Name) (versions : List Version) (j : ℕ) (pairs : Pairs) → times_made j pairs ≡ 1 → AllByRecursion (Replayed origin versions) pairs → whole origin (operations_at j pairs) (at versions (j - 1)) ≡ Ok (at versions j)
 found origin versions j [] once r = absurd cc
-found origin versions j (p ∷ pairs) once r = by_made (made j p) refl
+found origin versions j (p ∷ pairs) once r = by_made (λ fewer. found origin versions j pairs fewer r.1) (made j p) refl
   where
-    by_made : (b : Bool) → made j p ≡ b → whole origin (operations_at j (p ∷ pairs)) (at versions (j - 1)) ≡ Ok (at versions j)
-    by_made true e =
+    by_made : (times_made j pairs ≡ 1 → whole origin (operations_at j pairs) (at versions (j - 1)) ≡ Ok (at versions j)) → (b : Bool) → made j p ≡ b → whole origin (operations_at j (p ∷ pairs)) (at versions (j - 1)) ≡ Ok (at versions j)
+    by_made rest true e =
         let both = is_both (is_committed p.1.ended) (eqb p.1.version j) e in
         let here : p.1.version ≡ j = (let t : eqb p.1.version j ≡ true = both.1 in grind (arith, nat_tests)) in
         ap (λ (b : Bool). whole origin (cond b (operations_of p.0) (operations_at j pairs)) (at versions (j - 1))) e
         ∙ subst (λ (n : ℕ). whole origin (operations_of p.0) (at versions (n - 1)) ≡ Ok (at versions n)) here (r.0 both.0).1
-    by_made false e =
+    by_made rest false e =
         let fewer : times_made j pairs ≡ 1 = sym (ap (λ (b : Bool). cond b 1 0 + times_made j pairs) e ∙ (let z : 0 + times_made j pairs ≡ times_made j pairs = omega arith in z)) ∙ once in
-        ap (λ (b : Bool). whole origin (cond b (operations_of p.0) (operations_at j pairs)) (at versions (j - 1))) e ∙ found origin versions j pairs fewer r.1
+        ap (λ (b : Bool). whole origin (cond b (operations_of p.0) (operations_at j pairs)) (at versions (j - 1))) e ∙ rest fewer
 
 pub replays : (chunks : ℕ) (origin : Name) (zone : Version) (ws : List (List Command)) (os : List Outcomes) (versions : List Version) → Works chunks origin zone ws os versions → Agree (at versions) (versions_made origin zone ws os) (length versions)
 replays chunks origin zone ws os versions k zero h = sym k.first

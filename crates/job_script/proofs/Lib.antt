@@ -2,3 +2,4 @@ pub mod PartsLemmas
 pub mod PhraseLemmas
 pub mod ScriptLemmas
 pub mod ReportLemmas
+pub mod SpelledLemmas

@@ -4,3 +4,4 @@ pub mod Parts
 pub mod Scripts
 pub mod Replies
 pub mod Outcomes
+pub mod Spelled

@@ -5,6 +5,7 @@
 mod changes;
 mod commands;
 mod inside;
+mod laws;
 mod operations;
 mod outcomes;
 mod outside;
@@ -17,6 +18,7 @@ mod report;
 mod script;
 
 pub use commands::{Block, Command, Job, Question, Stretch, Worker};
+pub use laws::jobs_are_spelled;
 pub use operations::{NewRecord, Operation};
 pub use outcomes::{Cause, Outcome, Outcomes, Told, any_refused};
 pub use parts::{Parts, split};
