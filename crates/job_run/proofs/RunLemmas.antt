@@ -1,5 +1,5 @@
 -- How a worker's run goes on by one command.
-use Rattle.std.proofs.Common.{◌≡◌, ◌∙◌, ℕ, zero, suc, ◌+◌, ◌-◌, ◌/◌, ◌<◌, ◌≤◌, Bool, true, false, cond, ◌&&◌, eqb, List, [], ◌∷◌, ◌++◌, length, map, sym, ap, subst, refl, arith, append_assoc, append-nil, length-append, length-map, Option, Some, None, Result, Ok, Err, inl, inr, IsOk}
+use Rattle.std.proofs.Common.{◌≡◌, ◌∙◌, ℕ, zero, suc, ◌+◌, ◌-◌, ◌/◌, ◌<◌, ◌≤◌, Bool, true, false, cond, ◌&&◌, eqb, List, [], ◌∷◌, ◌++◌, length, map, sym, ap, subst, refl, arith, append_assoc, append-nil, length-append, Option, Some, None, Result, Ok, Err, inl, inr, IsOk}
 use Rattle.std.proofs.lemmas.Bool.{cases_eq}
 use Rattle.std.specs.Option.{is_some}
 use Rattle.std.specs.List.{AllByRecursion}
@@ -30,7 +30,7 @@ use Rattle.job_run.specs.Transactions.{KeptAlone, on_version, CausesOn, Transact
 use Rattle.job_run.specs.Runs.{IsReady, HoldsSome, Stepped, setting_on, Replayed, Made, Work}
 use Rattle.job_run.specs.declared.snapshots.Snapshot.{Snapshot}
 
-abbrev Pairs : Type 0
+abbrev pub Pairs : Type 0
 Pairs = List Pair
 
 -- ---- versions by their numbers
@@ -108,7 +108,7 @@ causes_alike s other n operations ending base (Full operation kept) a h l =
 causes_alike s other n operations ending base Spent a h l = (l.0, l.1, subst (λ (w : Version). IsOk (whole s.origin operations w)) (sym (a base h)) l.2)
 
 -- the cause on a base that is known, which alone is kept
-causes_at : (chunks passes : ℕ) (origin : Name) (operations : List Operation) (ending : Ending) (set : ℕ → Version) (old : Version) (base : ℕ) (shown : List ℕ) (c : Cause) → set base ≡ old → KeptAlone base c
+pub causes_at : (chunks passes : ℕ) (origin : Name) (operations : List Operation) (ending : Ending) (set : ℕ → Version) (old : Version) (base : ℕ) (shown : List ℕ) (c : Cause) → set base ≡ old → KeptAlone base c
     → Causes (on_version chunks passes origin old shown) operations ending base c → Causes (record { chunks = chunks; passes = passes; origin = origin; set = set; shown = shown }) operations ending base c
 causes_at chunks passes origin operations ending set old base shown (Rule refusal) e alone l = ap (whole origin operations) e ∙ l
 causes_at chunks passes origin operations ending set old base shown (Full operation kept) e alone l =
@@ -159,7 +159,7 @@ abbrev pub sight_behind : Sight → Pairs → Sight
 sight_behind sight [] = sight
 sight_behind sight (p ∷ pairs) = sight_behind (sight_after sight p.0 p.1.version) pairs
 
-sight_behind-push : (sight : Sight) (pairs : Pairs) (p : Pair) → sight_behind sight (pairs ++ p ∷ []) ≡ sight_after (sight_behind sight pairs) p.0 p.1.version
+pub sight_behind-push : (sight : Sight) (pairs : Pairs) (p : Pair) → sight_behind sight (pairs ++ p ∷ []) ≡ sight_after (sight_behind sight pairs) p.0 p.1.version
 sight_behind-push sight [] p = refl
 sight_behind-push sight (q ∷ pairs) p = sight_behind-push (sight_after sight q.0 q.1.version) pairs p
 
@@ -235,7 +235,7 @@ all_replayed origin versions more [] w r = tt
 all_replayed origin versions more (p ∷ pairs) w r = (replayed_more origin versions more p w.0 r.0, all_replayed origin versions more pairs w.1 r.1)
 
 -- a command that makes no version
-made_same : (chunks : ℕ) (origin : Name) (before : List Version) (pairs : Pairs) (versions : List Version) (p : Pair) → Made chunks origin before pairs versions → is_committed p.1.ended ≡ false → p.1.version < length versions
+pub made_same : (chunks : ℕ) (origin : Name) (before : List Version) (pairs : Pairs) (versions : List Version) (p : Pair) → Made chunks origin before pairs versions → is_committed p.1.ended ≡ false → p.1.version < length versions
     → ((passes : ℕ) (shown : List ℕ) → EndsLawfully (setting_on chunks passes origin versions shown) (sight_behind at_first pairs) p.0 p.1.version p.1.ended) → Made chunks origin before (pairs ++ p ∷ []) versions
 made_same chunks origin before pairs versions p m plain below ends =
     let unmade : (j : ℕ) → made j p ≡ false = λ j. ap (λ (b : Bool). b && eqb p.1.version j) plain in
@@ -252,7 +252,7 @@ made_same chunks origin before pairs versions p m plain below ends =
     }
 
 -- a command that makes the next version
-made_next : (chunks : ℕ) (origin : Name) (before : List Version) (pairs : Pairs) (versions : List Version) (p : Pair) (next : Version) → Made chunks origin before pairs versions → 0 < length versions
+pub made_next : (chunks : ℕ) (origin : Name) (before : List Version) (pairs : Pairs) (versions : List Version) (p : Pair) (next : Version) → Made chunks origin before pairs versions → 0 < length versions
     → is_committed p.1.ended ≡ true → p.1.version ≡ length versions → whole origin (operations_of p.0) (at versions (length versions - 1)) ≡ Ok next
     → ((passes : ℕ) (shown : List ℕ) → EndsLawfully (setting_on chunks passes origin (versions ++ next ∷ []) shown) (sight_behind at_first pairs) p.0 p.1.version p.1.ended) → Made chunks origin before (pairs ++ p ∷ []) (versions ++ next ∷ [])
 made_next chunks origin before pairs versions p next m some commits here accepted ends =

@@ -1,5 +1,6 @@
 -- How far a worker's run has come, and how one command takes it further.
-use Rattle.std.proofs.Common.{◌≡◌, ◌∙◌, ℕ, zero, suc, ◌+◌, ◌-◌, ◌<◌, ◌≤◌, Bool, true, false, List, [], ◌∷◌, ◌++◌, length, map, sym, ap, subst, refl, arith, append_assoc, append-nil, length-append, length-map, Option, Some, None, Result, Ok, Err, IsOk}
+use Rattle.std.proofs.Common.{◌≡◌, ◌∙◌, ℕ, zero, suc, ◌+◌, ◌-◌, ◌<◌, ◌≤◌, Bool, true, false, List, [], ◌∷◌, ◌++◌, length, map, sym, ap, subst, refl, arith, append_assoc, append-nil, length-append, Option, Some, None, Result, Ok, Err, IsOk}
+use Rattle.std.proofs.lemmas.List.{length-map}
 use Rattle.std.specs.Option.{is_some}
 use Rattle.zone_model.specs.Names.{Name}
 use Rattle.zone_model.specs.Versions.{Version, Operation, whole}
@@ -21,7 +22,7 @@ use Rattle.job_run.specs.Indexes.{Keeps}
 use Rattle.job_run.specs.Histories.{at, Stands}
 use Rattle.job_run.specs.Snapshots.{held_questions, HoldsAt, CanReply, CanRelease, TellsHeld, TellsFirst, Releases}
 use Rattle.job_run.specs.Transactions.{Transacts, version_of, BlockRan}
-use Rattle.job_run.specs.Runs.{IsReady, HoldsSome, Stepped, setting_on, Made, Work}
+use Rattle.job_run.specs.Runs.{IsReady, HoldsSome, Stepped, setting_on, Made, Work, WorkerRan}
 use Rattle.job_run.specs.declared.snapshots.Snapshot.{Snapshot}
 use Rattle.job_run.proofs.RunLemmas.{Pairs, Agree, at-front, at-last, sight_behind, sight_behind-push, causes_at, made_same, made_next, each_alike, each-push, pairs-push}
 
@@ -336,3 +337,7 @@ worker_goes_on chunks origin before done c behind os o held held' index new w s 
       ran = subst (λ (pairs : Pairs). Ran chunks origin before behind pairs step.after held') (sym (pairs-push origin (at w.versions) done os c o w.told)) step.ran;
       turn = subst (λ (b : Bool). InTurn b behind) (sym (still_in_turn chunks origin c behind (at w.versions (length w.versions - 1)) (length w.versions - 1) held held' new o s)) w.turn.1;
     }
+
+pub worker_ran : (chunks : ℕ) (origin : Name) (before : List Version) (commands done ahead : List Command) (os : List Told_outcome) (held : Option Snapshot) (index : Index) → done ≡ commands → WorkerAt chunks origin before done ahead os held index → WorkerRan chunks origin before commands os index
+worker_ran chunks origin before commands done ahead os held index all w =
+    subst (λ (l : List Command). WorkerRan chunks origin before l os index) all (record { versions = w.versions; stands = w.stands; work = record { told = w.told; made = w.ran.made } })

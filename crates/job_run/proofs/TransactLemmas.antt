@@ -1,5 +1,5 @@
 -- How a block ends whose operations stopped.
-use Rattle.std.proofs.Common.{◌≡◌, ℕ, ◌+◌, ◌-◌, ◌/◌, ◌≤◌, List, [], ◌∷◌, Result, Ok, Err, IfOk, IsOk, length, refl, sym, ap, subst, arith}
+use Rattle.std.proofs.Common.{◌≡◌, ◌∙◌, ℕ, ◌+◌, ◌-◌, ◌/◌, ◌≤◌, List, [], ◌∷◌, Result, Ok, Err, IfOk, IsOk, length, refl, sym, ap, subst, arith}
 use Rattle.std.specs.List.Sorted.{IsStrictlySortedBy}
 use Rattle.std.specs.Ordering.{nat_cmp}
 use Rattle.std.specs.declared.alloc.AllocError.{AllocError}
@@ -7,10 +7,11 @@ use Rattle.zone_model.specs.Names.{Name}
 use Rattle.zone_model.specs.Versions.{Version, Operation}
 use Rattle.trie_model.specs.Keys as trie
 use Rattle.job_model.specs.Sizes.{trie_entries, cell_count}
-use Rattle.job_model.specs.Outcomes.{FullCause, cells_kept, Ended}
+use Rattle.job_model.specs.Outcomes.{FullCause, cells_kept, Ended, Shown, Committed, RolledBack, Refused}
 use Rattle.job_model.specs.declared.Ending.{Ending}
 use Rattle.job_script.specs.Outcomes.{ended_view}
 use Rattle.job_script.specs.declared.outcomes.Told.{Told}
+use Rattle.job_script.specs.declared.outcomes.Outcome.{Outcome}
 use Rattle.qp_multi.specs.Fulls.{kept_versions}
 use Rattle.qp_multi.specs.declared.index.Index.{Index}
 use Rattle.qp_multi.specs.declared.refusal.Kept.{Kept}
@@ -19,7 +20,7 @@ use Rattle.zone_change.specs.Blocks.{AppliesAll, IsFullAt}
 use Rattle.zone_change.specs.declared.applying.Halt.{Halt}
 use Rattle.zone_change.specs.declared.applying.Halt.TheVariants as halts
 use Rattle.job_run.specs.Indexes.{Keeps}
-use Rattle.job_run.specs.Transactions.{on_version, StoppedBy, Transacts}
+use Rattle.job_run.specs.Transactions.{on_version, StoppedBy, Transacts, version_of, BlockRan}
 
 one_rises : (n : ℕ) → IsStrictlySortedBy nat_cmp (n ∷ [])
 unfolding IsStrictlySortedBy
@@ -70,3 +71,14 @@ stopped_keeps works chunks number origin operations ending version (halts.Full o
 pub ok_is : {A E : Type 0} {r : Result A E} {x : A} → r ≡ Ok x → IsOk r
 ok_is {r = Ok y} e = refl
 ok_is {r = Err y} e = absurd cc
+
+-- the version that the index then has is the outcome's
+version_told : (chunks : ℕ) (origin : Name) (operations : List Operation) (ending : Ending) (version : Version) (last : ℕ) (index : Index) (e : Ended) → Transacts chunks origin operations ending version last index e → index.version ≡ version_of last e
+version_told chunks origin operations ending version last index Shown t = absurd t
+version_told chunks origin operations ending version last index Committed t = t.1.2.numbered
+version_told chunks origin operations ending version last index RolledBack t = t.2.numbered
+version_told chunks origin operations ending version last index (Refused cause) t = t.1.numbered
+
+pub block_ran : (chunks : ℕ) (origin : Name) (operations : List Operation) (ending : Ending) (version : Version) (last : ℕ) (index : Index) (o : Outcome) → Transacts chunks origin operations ending version last index (ended_view o.told) → o.version ≡ index.version
+    → BlockRan chunks origin operations ending version last index o
+block_ran chunks origin operations ending version last index o t e = record { transacts = t; numbered = e ∙ version_told chunks origin operations ending version last index (ended_view o.told) t }

@@ -1,5 +1,5 @@
 -- Snapshots: what they will be asked, and what they tell.
-use Rattle.std.specs.Prelude.{◌≡◌, ℕ, ◌<◌, List, [], ◌∷◌, length, map, Option, Some, None}
+use Rattle.std.specs.Prelude.{◌≡◌, ℕ, ◌<◌, Bool, if◌then◌else◌, List, [], ◌∷◌, ◌++◌, length, map, Option, Some, None}
 use Rattle.zone_model.specs.Names.{Name}
 use Rattle.zone_model.specs.Versions.{Version}
 use Rattle.job_model.specs.Commands.{Question, Command, Ask, Hold, AskHeld, Release, Block}
@@ -23,6 +23,14 @@ held_questions (Block _ operations ending ∷ commands) = held_questions command
 pub record HoldsAt (origin : Name) (version : Version) (number : ℕ) (questions : List Question) (s : Snapshot) : Type 0 where
   pub numbered : s.version ≡ number
   pub replies : map reply_view s.ahead.items ≡ map (reply_of origin version) questions
+
+-- What was replied of all that commands ask, and what is left of it, by whether the snapshot may still be asked.
+abbrev pub questions_left : Bool → List Command → List Question
+questions_left goes_on commands = if goes_on then held_questions commands else []
+
+-- a command's reply, if it asks the snapshot, stands behind the others
+pub record TakesReply (origin : Name) (version : Version) (command : Command) (old new : List Reply) (goes_on : Bool) : Type 0 where
+  pub replies : (rest : List Command) → map reply_view new ++ map (reply_of origin version) (questions_left goes_on rest) ≡ map reply_view old ++ map (reply_of origin version) (held_questions (command ∷ rest))
 
 -- there is a snapshot, with a reply
 abbrev pub CanReply : Option Snapshot → Type 0

@@ -16,8 +16,8 @@ use trie_read::Reading;
 use zone_answer::answer_by;
 use zone_names::{back, find, walk};
 
-/// What a version replies to a question, by way of a buffer that items are read into.
-pub fn reply<V: Reading>(
+// What a version replies to a question, by way of a buffer that items are read into.
+fn reply<V: Reading>(
     alloc: Global,
     origin: &Name,
     version: &mut V,
@@ -53,6 +53,22 @@ pub fn reply<V: Reading>(
     }
 }
 
+/// What the current version replies.
+pub fn current_reply(
+    alloc: Global,
+    origin: &Name,
+    index: &Index,
+    question: &Question,
+    item: &mut [u8; 4096],
+) -> Result<Reply, AllocError>
+    requires { KeepsSome index.now }
+    ensures { (version : Version) (last chunks : ℕ) → Keeps index.now version last chunks
+        → IfOk result (λ r. reply_view r ≡ reply_of origin.now version (question_view question.now)) }
+{
+    let mut query = index.query();
+    reply(alloc, origin, &mut query, question, item)
+}
+
 /// Asks the current version.
 pub fn run_question(
     alloc: Global,
@@ -65,10 +81,9 @@ pub fn run_question(
     ensures { (version : Version) (last chunks : ℕ) → Keeps index.now version last chunks
         → IfOk result (λ o. (o.version ≡ last) × Replies (reply_of origin.now version (question_view question.now)) o.told) }
 {
-    let mut query = index.query();
-    let reply = reply(alloc, origin, &mut query, question, item)?;
+    let reply = current_reply(alloc, origin, index, question, item)?;
     Ok(Outcome {
-        version: query.version(),
+        version: index.query().version(),
         told: Told::Reply(reply),
     })
 }

@@ -6,9 +6,9 @@ ghost use Rattle.job_model.specs.Replies.{reply_of};
 ghost use Rattle.job_script.specs.Replies.{reply_view};
 ghost use Rattle.job_script.specs.Views.{command_view};
 ghost use Rattle.job_run.specs.Indexes.{Keeps, KeepsSome};
-ghost use Rattle.job_run.specs.Snapshots.{held_questions, HoldsAt, CanReply, CanRelease, TellsHeld, Releases};
+ghost use Rattle.job_run.specs.Snapshots.{held_questions, HoldsAt, CanReply, CanRelease, TellsHeld, Releases, TakesReply};
 
-use crate::replying::reply;
+use crate::replying::current_reply;
 use dns_name::Name;
 use job_script::{Command, Outcome, Reply, Told};
 use qp_multi::Index;
@@ -20,6 +20,29 @@ use std::collections::VecDeque;
 pub struct Snapshot {
     pub version: u64,
     pub ahead: VecDeque<Reply>,
+}
+
+// Puts the reply behind the others, if the command asks the snapshot. Answers whether the snapshot may still be asked.
+fn take_reply(
+    alloc: Global,
+    origin: &Name,
+    index: &Index,
+    command: &Command,
+    ahead: &mut VecDeque<Reply>,
+    item: &mut [u8; 4096],
+) -> Result<bool, AllocError>
+    requires { KeepsSome index.now }
+    ensures { (version : Version) (last chunks : ℕ) → Keeps index.now version last chunks
+        → IfOk result (TakesReply origin.now version (command_view command.now) ahead.old.items ahead.new.items) }
+{
+    match command {
+        Command::AskHeld(question) => {
+            ahead.push_back(current_reply(alloc, origin, index, question, item)?)?;
+            Ok(true)
+        }
+        Command::Release => Ok(false),
+        Command::Ask(_) | Command::Hold | Command::Block(_) => Ok(true),
+    }
 }
 
 // What the current version replies to the questions that the commands ask of a snapshot until it is given back.
@@ -34,15 +57,10 @@ fn replies_ahead(
     ensures { (version : Version) (last chunks : ℕ) → Keeps index.now version last chunks
         → IfOk result (λ ahead. map reply_view ahead.items ≡ map (reply_of origin.now version) (held_questions (map command_view behind.now))) }
 {
-    let mut query = index.query();
     let mut ahead = VecDeque::new(alloc);
     for command in behind {
-        match command {
-            Command::AskHeld(question) => {
-                ahead.push_back(reply(alloc, origin, &mut query, question, item)?)?;
-            }
-            Command::Release => return Ok(ahead),
-            Command::Ask(_) | Command::Hold | Command::Block(_) => {}
+        if !take_reply(alloc, origin, index, command, &mut ahead, item)? {
+            return Ok(ahead);
         }
     }
     Ok(ahead)

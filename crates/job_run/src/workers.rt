@@ -33,7 +33,10 @@ fn run_command(
         → IfOk result (Stepped chunks origin.now (command_view command.now) (map command_view behind.now) version last held.old held.new index.new) }
 {
     match command {
-        Command::Ask(question) => run_question(alloc, origin, index, question, item),
+        Command::Ask(question) => {
+            let outcome = run_question(alloc, origin, index, question, item)?;
+            Ok(outcome)
+        }
         Command::Hold => {
             let snapshot = hold(alloc, origin, index, behind, item)?;
             let version = snapshot.version;
@@ -45,13 +48,16 @@ fn run_command(
         }
         Command::AskHeld(_) => Ok(ask_held(held)),
         Command::Release => Ok(release(held)),
-        Command::Block(block) => run_block(alloc, origin, index, block),
+        Command::Block(block) => {
+            let outcome = run_block(alloc, origin, index, block)?;
+            Ok(outcome)
+        }
     }
 }
 
 // A place in a list as the gate counts it.
 fn counted(place: usize) -> u32 {
-    u32::try_from(place as u64 + 1).unwrap_or(u32::MAX)
+    u32::try_from(place.saturating_add(1)).unwrap_or(u32::MAX)
 }
 
 // Runs a worker's commands, each between the gate's two calls.
