@@ -12,7 +12,9 @@ use Rattle.job_script.specs.Outcomes.{outcome_view, pairs_of, job_pairs, version
 use Rattle.job_script.specs.declared.outcomes.Outcome.{Outcome as Told_outcome}
 use Rattle.job_script.specs.declared.outcomes.Outcomes.{Outcomes}
 use Rattle.job_run.specs.Histories.{at, Stands}
-use Rattle.job_run.specs.Runs.{setting_on, Replayed, Made, Work, Works, IsRun}
+use Rattle.qp_multi.specs.declared.index.Index.{Index}
+use Rattle.job_run.specs.Indexes.{Keeps}
+use Rattle.job_run.specs.Runs.{setting_on, Replayed, Made, Work, WorkerRan, Works, JobRan, IsRun}
 use Rattle.job_run.specs.declared.workers.Finished.{Finished}
 use Rattle.job_run.proofs.RunLemmas.{Pairs, Agree, Within, at-front, all-append, within_more, along_alike, each_alike, times-append, none_made, all_replayed}
 
@@ -61,7 +63,7 @@ all_along-push s (x ∷ lists) pairs l a = (l.0, all_along-push s lists pairs l.
 
 -- ---- one worker more
 
-pub works_begin : (chunks : ℕ) (origin : Name) (zone : Version) → Works chunks origin zone [] [] (zone ∷ [])
+works_begin : (chunks : ℕ) (origin : Name) (zone : Version) → Works chunks origin zone [] [] (zone ∷ [])
 works_begin chunks origin zone = record {
   first = refl;
   told = tt;
@@ -71,7 +73,7 @@ works_begin chunks origin zone = record {
   once = λ j h k. absurd (omega arith);
 }
 
-pub works_more : (chunks : ℕ) (origin : Name) (zone : Version) (ws : List (List Command)) (os : List Outcomes) (versions : List Version) (w : List Command) (o : Outcomes) (next : List Version) → 0 < length versions → Works chunks origin zone ws os versions → Work chunks origin versions w o.list.items next
+works_more : (chunks : ℕ) (origin : Name) (zone : Version) (ws : List (List Command)) (os : List Outcomes) (versions : List Version) (w : List Command) (o : Outcomes) (next : List Version) → 0 < length versions → Works chunks origin zone ws os versions → Work chunks origin versions w o.list.items next
     → Works chunks origin zone (ws ++ w ∷ []) (os ++ o ∷ []) next
 works_more chunks origin zone ws os versions w o next some k work =
     let m = work.made in
@@ -103,6 +105,12 @@ works_more chunks origin zone ws os versions w o next some k work =
         let here : times_made j (pairs_of w o.list.items) ≡ 1 = work.made.once j ge below in
         omega arith
 
+pub job_begins : (chunks : ℕ) (origin : Name) (zone : Version) (index : Index) → Keeps index zone 0 chunks → JobRan chunks origin zone [] [] index
+job_begins chunks origin zone index keeps = record { versions = zone ∷ []; stands = record { some = omega arith; keeps = keeps }; works = works_begin chunks origin zone }
+
+pub job_goes_on : (chunks : ℕ) (origin : Name) (zone : Version) (ws : List (List Command)) (os : List Outcomes) (w : List Command) (o : Outcomes) (index new : Index) (r : JobRan chunks origin zone ws os index) → WorkerRan chunks origin r.versions w o.list.items new → JobRan chunks origin zone (ws ++ w ∷ []) (os ++ o ∷ []) new
+job_goes_on chunks origin zone ws os w o index new r ran = record { versions = ran.versions; stands = ran.stands; works = works_more chunks origin zone ws os r.versions w o ran.versions r.stands.some r.works ran.work }
+
 -- ---- the versions that the outcomes make are those that the index had
 
 after_ok : (origin : Name) (operations : List Operation) (v w : Version) → whole origin operations v ≡ Ok w → after origin operations v ≡ w
@@ -126,7 +134,7 @@ found origin versions j (p ∷ pairs) once r = by_made (λ fewer. found origin v
         let fewer : times_made j pairs ≡ 1 = sym (ap (λ (b : Bool). cond b 1 0 + times_made j pairs) e ∙ (let z : 0 + times_made j pairs ≡ times_made j pairs = omega arith in z)) ∙ once in
         ap (λ (b : Bool). whole origin (cond b (operations_of p.0) (operations_at j pairs)) (at versions (j - 1))) e ∙ rest fewer
 
-pub replays : (chunks : ℕ) (origin : Name) (zone : Version) (ws : List (List Command)) (os : List Outcomes) (versions : List Version) → Works chunks origin zone ws os versions → Agree (at versions) (versions_made origin zone ws os) (length versions)
+replays : (chunks : ℕ) (origin : Name) (zone : Version) (ws : List (List Command)) (os : List Outcomes) (versions : List Version) → Works chunks origin zone ws os versions → Agree (at versions) (versions_made origin zone ws os) (length versions)
 replays chunks origin zone ws os versions k zero h = sym k.first
 replays chunks origin zone ws os versions k (suc j) h =
     let lt : j < length versions = omega arith in

@@ -1,6 +1,7 @@
 -- Replies that a snapshot is taken with.
-use Rattle.std.proofs.Common.{◌≡◌, ◌∙◌, ℕ, ◌+◌, ◌<◌, ◌≤◌, Bool, true, false, List, [], ◌∷◌, ◌++◌, length, map, drop, take, get_or, refl, sym, ap, arith, append_assoc, append-nil}
-use Rattle.std.proofs.lemmas.List.{map-append, map_more, drop_more, drop_all}
+use Rattle.std.proofs.Common.{◌≡◌, ◌∙◌, ℕ, ◌+◌, ◌-◌, ◌<◌, ◌≤◌, Bool, true, false, List, [], ◌∷◌, ◌++◌, length, map, drop, take, get_or, zero, suc, refl, sym, ap, subst, arith, append_assoc, append-nil}
+use Rattle.std.proofs.lemmas.List.{map-append, map_more, drop_more, drop_all, take_all, length-drop}
+use Rattle.std.specs.List.{AllByRecursion}
 use Rattle.zone_model.specs.Names.{Name}
 use Rattle.zone_model.specs.Versions.{Version}
 use Rattle.job_model.specs.Commands.{Question, Command, AskHeld}
@@ -15,6 +16,16 @@ drop_here view xs i here lt is = ap (map view) (drop_more xs i here lt ∙ ap (�
 
 pub take_here : {X Y : Type 0} (view : X → Y) (xs : List X) (i : ℕ) (here : X) → i < length xs → here ≡ get_or xs i here → map view (take (i + 1) xs) ≡ map view (take i xs) ++ view here ∷ []
 take_here view xs i here lt is = map_more view xs i here lt ∙ ap (λ (x : _). map view (take i xs) ++ view x ∷ []) (sym is)
+
+-- what stands behind an element
+pub behind_is : {X : Type 0} (xs : List X) (n : ℕ) → take (length xs - n) (drop n xs) ≡ drop n xs
+behind_is xs n = take_all (length xs - n) (drop n xs) (omega (arith, length-drop n xs))
+
+-- a fact of all elements, as they are seen, of one
+pub all_here : {X Y : Type 0} (P : Y → Type 0) (view : X → Y) (xs : List X) (i : ℕ) (here : X) → i < length xs → here ≡ get_or xs i here → AllByRecursion P (map view xs) → P (view here)
+all_here P view [] i here lt is a = absurd (omega arith)
+all_here P view (x ∷ xs) zero here lt is a = subst (λ (y : _). P (view y)) (sym is) a.0
+all_here P view (x ∷ xs) (suc i) here lt is a = let less : i < length xs = omega arith in all_here P view xs i here less is a.1
 
 pub takes_reply : (origin : Name) (version : Version) (question : Question) (old new : List Said) (r : Said) → new ≡ old ++ r ∷ [] → reply_view r ≡ reply_of origin version question → TakesReply origin version (AskHeld question) old new true
 takes_reply origin version question old new r e is = record {

@@ -6,10 +6,9 @@ use Rattle.job_script.specs.Views.{command_view}
 use Rattle.job_script.specs.declared.outcomes.Outcome.{Outcome}
 use Rattle.job_script.specs.declared.commands.Command.{Command as Said}
 use Rattle.job_run.specs.Histories.{at}
-use Rattle.job_run.specs.Runs.{WorkerRan}
-use Rattle.job_run.proofs.RunLemmas.{sight_behind}
+use Rattle.job_run.specs.Runs.{Stepped}
 use Rattle.job_run.proofs.StepLemmas.{WorkerAt, is_ready, worker_begins, worker_goes_on, worker_ran}
-use Rattle.job_run.proofs.SnapshotLemmas.{drop_here, take_here}
+use Rattle.job_run.proofs.SnapshotLemmas.{drop_here, take_here, behind_is}
 use Rattle.job_run.proofs.workers.run_worker.Goals as goal
 
 pub loop-place-init : goal.loop-place-init
@@ -30,13 +29,11 @@ run_command-requires-clause-ready g c =
 
 pub loop-place-preserved : goal.loop-place-preserved
 loop-place-preserved g c = λ before chunks stands.
-    let done = map command_view (take c.loop-place.place c.args.commands.now) in
-    let behind = map command_view (drop (c.loop-place.place + 1) c.args.commands.now) in
-    let here = command_view c.index-commands-place.result in
     let w = subst (λ (l : List Command). WorkerAt chunks c.args.origin.now before (map command_view (take c.loop-place.place c.args.commands.now)) l c.loop-place.list.items c.loop-place.held c.loop-place.index)
     (drop_here command_view c.args.commands.now c.loop-place.place c.index-commands-place.result c.loop-place-test.true c.index-commands-place.is) (c.loop-place.invariant before chunks stands) in
     let next = worker_goes_on chunks c.args.origin.now before (map command_view (take c.loop-place.place c.args.commands.now)) (command_view c.index-commands-place.result) (map command_view (drop (c.loop-place.place + 1) c.args.commands.now)) c.loop-place.list.items c.in_ok-outcome.outcome c.loop-place.held c.run_command.new.held c.loop-place.index c.run_command.new.index w
-    (c.in_ok-outcome.ensures (at w.versions (length w.versions - 1)) (length w.versions - 1) chunks w.stands.keeps) in
+    (subst (λ (l : List Said). Stepped chunks c.args.origin.now (command_view c.index-commands-place.result) (map command_view l) (at w.versions (length w.versions - 1)) (length w.versions - 1) c.loop-place.held c.run_command.new.held c.run_command.new.index c.in_ok-outcome.outcome)
+    (behind_is c.args.commands.now (c.loop-place.place + 1)) (c.in_ok-outcome.ensures (at w.versions (length w.versions - 1)) (length w.versions - 1) chunks w.stands.keeps)) in
     subst (λ (l : List Command). WorkerAt chunks c.args.origin.now before l (map command_view (drop (c.loop-place.place + 1) c.args.commands.now)) c.push.new.self.items c.run_command.new.held c.run_command.new.index)
     (sym (take_here command_view c.args.commands.now c.loop-place.place c.index-commands-place.result c.loop-place-test.true c.index-commands-place.is))
     (subst (λ (os : List Outcome). WorkerAt chunks c.args.origin.now before (map command_view (take c.loop-place.place c.args.commands.now) ++ command_view c.index-commands-place.result ∷ []) (map command_view (drop (c.loop-place.place + 1) c.args.commands.now)) os c.run_command.new.held c.run_command.new.index)
