@@ -12,7 +12,8 @@
 //! | `zone` | the zone of four lines goes into the input, with the line `%%` behind it |
 //! | `\| TEXT` | a line of the input; behind `due`, of the output |
 //! | `+ TEXT` | the same without an end of line |
-//! | `* N TEXT` | the text N times |
+//! | `* N TEXT` | the text N times, without an end of line |
+//! | `x N TEXT` | the line N times |
 //! | `due STATUS` | the exit status; the lines of the output follow |
 ghost use Rattle.std.specs.Prelude.{◌<◌};
 

@@ -17,12 +17,13 @@ use std::sync::Wait;
 use std::thread::Threads;
 
 /// The files of cases, one a topic.
-const TOPICS: [&str; 5] = [
+const TOPICS: [&str; 6] = [
     "answers.cases",
     "faults.cases",
     "jobs.cases",
     "refusals.cases",
     "room.cases",
+    "workers.cases",
 ];
 
 /// Judges each case of a topic, and answers how many differ from what is due.

@@ -23,7 +23,7 @@ pub(crate) fn read_cases(alloc: Global, text: &str) -> anyhow::Result<Vec<Case>>
 fn read_line(alloc: Global, line: &str, case: &mut Case, due: bool) -> anyhow::Result<bool> {
     let (kind, rest) = line.split_once(' ').unwrap_or((line, ""));
     match kind {
-        "|" | "+" | "*" => {
+        "|" | "+" | "*" | "x" => {
             let text = if due {
                 &mut case.output
             } else {
@@ -55,11 +55,20 @@ fn push_text(text: &mut String, kind: &str, rest: &str) -> anyhow::Result<()> {
                 text.push_str(part)?;
             }
         }
-        _ => {
-            text.push_str(rest)?;
-            text.push('\n')?;
+        "x" => {
+            let (count, line) = rest.split_once(' ').unwrap_or((rest, ""));
+            for _ in 0..count.parse::<u32>()? {
+                push_line(text, line)?;
+            }
         }
+        _ => push_line(text, rest)?,
     }
+    Ok(())
+}
+
+fn push_line(text: &mut String, line: &str) -> anyhow::Result<()> {
+    text.push_str(line)?;
+    text.push('\n')?;
     Ok(())
 }
 

@@ -1,11 +1,11 @@
 -- How the commands of a job may end.
-use Rattle.std.specs.Prelude.{◌≡◌, ℕ, zero, suc, ◌+◌, ◌-◌, ◌*◌, ◌/◌, ◌^◌, ◌<◌, ◌≤◌, Bool, true, false, ◌&&◌, List, [], ◌∷◌, ◌++◌, length, ◌==◌, if◌then◌else◌, Result, Ok, Err, IsOk}
+use Rattle.std.specs.Prelude.{◌≡◌, ℕ, zero, suc, ◌+◌, ◌-◌, ◌*◌, ◌/◌, ◌^◌, ◌<◌, ◌≤◌, Bool, true, false, ◌&&◌, List, [], ◌∷◌, ◌++◌, length, Contains, ◌==◌, if◌then◌else◌, Option, Some, None, Result, Ok, Err, IsOk}
 use Rattle.std.specs.List.{AllByRecursion, list_any}
 use Rattle.std.specs.List.Sorted.{IsStrictlySortedBy}
 use Rattle.std.specs.Ordering.{nat_cmp}
 use Rattle.zone_model.specs.Names.{Name}
 use Rattle.zone_model.specs.Versions.{Version, Operation, apply, whole}
-use Rattle.job_model.specs.Jobs.{Command, Ask, Block}
+use Rattle.job_model.specs.Commands.{Command, Ask, Hold, AskHeld, Release, Block}
 use Rattle.job_model.specs.Sizes.{cell_count}
 use Rattle.zone_model.specs.declared.Refusal.{Refusal}
 use Rattle.job_model.specs.declared.Ending.{Ending}
@@ -18,14 +18,14 @@ pub data Cause : Type 0 where
   Full : (operation : ℕ) (kept : List ℕ) → Cause
   Spent : Cause
 
--- how a command ended
+-- How a command ended. One that is no transaction shows a version.
 pub data Ended : Type 0 where
   Shown : Ended
   Committed : Ended
   RolledBack : Ended
   Refused : (cause : Cause) → Ended
 
--- the version that an answer shows, a commit made, or a block that changed nothing was on
+-- the version that a command shows, a commit made, or a block that changed nothing was on
 pub record Outcome : Type 0 where
   pub version : ℕ
   pub ended : Ended
@@ -53,6 +53,9 @@ made j pair = is_committed pair.1.ended && (pair.1.version == j)
 
 abbrev pub operations_of : Command → List Operation
 operations_of (Ask question) = []
+operations_of Hold = []
+operations_of (AskHeld question) = []
+operations_of Release = []
 operations_of (Block _ operations ending) = operations
 
 -- the operations that made version j
@@ -74,12 +77,33 @@ abbrev pub times_made : ℕ → List Pair → ℕ
 times_made j [] = 0
 times_made j (pair ∷ rest) = (if made j pair then 1 else 0) + times_made j rest
 
--- version j of the zone of an origin, under these outcomes
+-- version j of the zone of an origin, under these outcomes: the zone after the operations that made versions 1 to j
 abbrev pub version_at : Name → Version → List Pair → ℕ → Version
 version_at origin zone pairs zero = zone
 version_at origin zone pairs (suc j) = after origin (operations_at (suc j) pairs) (version_at origin zone pairs j)
 
+-- the versions that questions and holds show
+abbrev pub shown_by : Command → ℕ → List ℕ
+shown_by (Ask question) v = v ∷ []
+shown_by Hold v = v ∷ []
+shown_by (AskHeld question) v = v ∷ []
+shown_by Release v = []
+shown_by (Block _ operations ending) v = []
+
+abbrev pub shown_in : List Pair → List ℕ
+shown_in [] = []
+shown_in (pair ∷ rest) = shown_by pair.0 pair.1.version ++ shown_in rest
+
 -- ---- which outcomes may be
+
+-- What outcomes are judged by: the chunks of the index and its passes, the origin, the versions by their numbers, and those that
+-- questions and holds show.
+pub record Setting : Type 0 where
+  pub chunks : ℕ
+  pub passes : ℕ
+  pub origin : Name
+  pub set : ℕ → Version
+  pub shown : List ℕ
 
 -- how many cells the tries of some versions have together
 abbrev pub cells_kept : (ℕ → Version) → List ℕ → ℕ
@@ -87,69 +111,109 @@ cells_kept set [] = 0
 cells_kept set (v ∷ vs) = cell_count (set v) + cells_kept set vs
 
 -- There was no room for an operation that is accepted and changes what the ones before it made of the base: the tries of that and of
--- the kept versions, of which the base is the last, have almost as many cells as there are chunks but for the reserve of a quarter.
-pub record FullCause (chunks passes : ℕ) (origin : Name) (operations : List Operation) (set : ℕ → Version) (base operation : ℕ) (kept : List ℕ) : Type 0 where
+-- the kept versions have almost as many cells as there are chunks but for the reserve of a quarter. The base is the last kept
+-- version, and each other one is kept since a question or a hold shows it.
+pub record FullCause (s : Setting) (operations : List Operation) (base operation : ℕ) (kept : List ℕ) : Type 0 where
   pub front : List Operation
   pub refused : Operation
   pub back : List Operation
   pub all : operations ≡ front ++ refused ∷ back
   pub number : operation ≡ length front + 1
   pub working : Version
-  pub before : whole origin front (set base) ≡ Ok working
+  pub before : whole s.origin front (s.set base) ≡ Ok working
   pub next : Version
-  pub accepted : apply origin refused working ≡ Ok next
+  pub accepted : apply s.origin refused working ≡ Ok next
   pub changes : next ≡ working → ⊥
   pub older : List ℕ
   pub base_last : kept ≡ older ++ base ∷ []
+  pub older_shown : AllByRecursion (Contains s.shown) older
   pub rising : IsStrictlySortedBy nat_cmp kept
-  pub few : length kept ≤ passes + 1
-  pub full : chunks - chunks / 4 - 2 ≤ cell_count working + cells_kept set kept
+  pub few : length kept ≤ s.passes + 1
+  pub full : s.chunks - s.chunks / 4 - 2 ≤ cell_count working + cells_kept s.set kept
 
 -- the greatest number of a version
 abbrev pub last_version : ℕ
 last_version = 2 ^ 40 - 1
 
 -- why a block was refused on a base
-abbrev pub Causes : ℕ → ℕ → Name → List Operation → Ending → (ℕ → Version) → ℕ → Cause → Type 0
-Causes chunks passes origin operations ending set base (Rule refusal) = whole origin operations (set base) ≡ Err refusal
-Causes chunks passes origin operations ending set base (Full operation kept) = FullCause chunks passes origin operations set base operation kept
-Causes chunks passes origin operations ending set base Spent = (base ≡ last_version) × (ending ≡ Commit) × IsOk (whole origin operations (set base))
+abbrev pub Causes : Setting → List Operation → Ending → ℕ → Cause → Type 0
+Causes s operations ending base (Rule refusal) = whole s.origin operations (s.set base) ≡ Err refusal
+Causes s operations ending base (Full operation kept) = FullCause s operations base operation kept
+Causes s operations ending base Spent = (base ≡ last_version) × (ending ≡ Commit) × IsOk (whole s.origin operations (s.set base))
 
--- a command that ended so, on the versions `set`, by a worker that had seen a version
-abbrev pub EndsLawfully : ℕ → ℕ → Name → (ℕ → Version) → ℕ → Command → ℕ → Ended → Type 0
-EndsLawfully chunks passes origin set seen (Ask question) v Shown = seen ≤ v
-EndsLawfully chunks passes origin set seen (Ask question) v Committed = ⊥
-EndsLawfully chunks passes origin set seen (Ask question) v RolledBack = ⊥
-EndsLawfully chunks passes origin set seen (Ask question) v (Refused cause) = ⊥
-EndsLawfully chunks passes origin set seen (Block _ operations ending) v Shown = ⊥
-EndsLawfully chunks passes origin set seen (Block _ operations ending) v Committed = (ending ≡ Commit) × (seen < v) × IsOk (whole origin operations (set (v - 1)))
-EndsLawfully chunks passes origin set seen (Block _ operations ending) v RolledBack = (ending ≡ Rollback) × (seen ≤ v) × IsOk (whole origin operations (set v))
-EndsLawfully chunks passes origin set seen (Block _ operations ending) v (Refused cause) = (seen ≤ v) × Causes chunks passes origin operations ending set v cause
+-- a block that ended so, by a worker that had seen a version
+abbrev pub BlockEnds : Setting → ℕ → List Operation → Ending → ℕ → Ended → Type 0
+BlockEnds s seen operations ending v Shown = ⊥
+BlockEnds s seen operations ending v Committed = (ending ≡ Commit) × (seen < v) × IsOk (whole s.origin operations (s.set (v - 1)))
+BlockEnds s seen operations ending v RolledBack = (ending ≡ Rollback) × (seen ≤ v) × IsOk (whole s.origin operations (s.set v))
+BlockEnds s seen operations ending v (Refused cause) = (seen ≤ v) × Causes s operations ending v cause
 
--- the commands of one worker, each of which sees what the one before saw or made
-abbrev pub Along : ℕ → ℕ → Name → (ℕ → Version) → ℕ → List Pair → Type 0
-Along chunks passes origin set seen [] = Unit {0}
-Along chunks passes origin set seen (pair ∷ rest) =
-    EndsLawfully chunks passes origin set seen pair.0 pair.1.version pair.1.ended × Along chunks passes origin set pair.1.version rest
+-- What a worker has come to: the version that it saw or made last, and that of the snapshot that it holds.
+pub record Sight : Type 0 where
+  pub seen : ℕ
+  pub held : Option ℕ
+
+abbrev pub at_first : Sight
+at_first = record { seen = 0; held = None }
+
+-- behind a command that shows, made or was on a version
+abbrev pub sight_after : Sight → Command → ℕ → Sight
+sight_after sight (Ask question) v = record sight { seen = v }
+sight_after sight Hold v = record { seen = v; held = Some v }
+sight_after sight (AskHeld question) v = sight
+sight_after sight Release v = record sight { held = None }
+sight_after sight (Block _ operations ending) v = record sight { seen = v }
+
+-- it shows a version, which may be that one
+abbrev pub Shows : Type 0 → Ended → Type 0
+Shows May Shown = May
+Shows May Committed = ⊥
+Shows May RolledBack = ⊥
+Shows May (Refused cause) = ⊥
+
+-- A command ended so. What it shows of the current version is nothing older than what the worker saw or made; of a snapshot it is the
+-- version that was held.
+abbrev pub EndsLawfully : Setting → Sight → Command → ℕ → Ended → Type 0
+EndsLawfully s sight (Ask question) v ended = Shows (sight.seen ≤ v) ended
+EndsLawfully s sight Hold v ended = Shows (sight.seen ≤ v) ended
+EndsLawfully s sight (AskHeld question) v ended = Shows (sight.held ≡ Some v) ended
+EndsLawfully s sight Release v ended = Shows (sight.held ≡ Some v) ended
+EndsLawfully s sight (Block _ operations ending) v ended = BlockEnds s sight.seen operations ending v ended
+
+-- the commands of one worker, from what it has come to
+abbrev pub Along : Setting → Sight → List Pair → Type 0
+Along s sight [] = Unit {0}
+Along s sight (pair ∷ rest) =
+    EndsLawfully s sight pair.0 pair.1.version pair.1.ended × Along s (sight_after sight pair.0 pair.1.version) rest
 
 -- the commands of all workers with their outcomes
 abbrev pub all_pairs : List (List Pair) → List Pair
 all_pairs [] = []
 all_pairs (w ∷ ws) = w ++ all_pairs ws
 
-abbrev pub AllAlong : ℕ → ℕ → Name → (ℕ → Version) → List (List Pair) → Type 0
-AllAlong chunks passes origin set [] = Unit {0}
-AllAlong chunks passes origin set (w ∷ ws) = Along chunks passes origin set 0 w × AllAlong chunks passes origin set ws
+abbrev pub AllAlong : Setting → List (List Pair) → Type 0
+AllAlong s [] = Unit {0}
+AllAlong s (w ∷ ws) = Along s at_first w × AllAlong s ws
 
--- a pass of the index for the queries of each worker, one for what it holds, and one for the last line
-abbrev pub passes_of : List (List Pair) → ℕ
-passes_of workers = 2 * length workers + 1
+-- a pass of the index for the queries and transactions of each worker, one for what it holds, and one for the last line
+abbrev pub passes_for : ℕ → ℕ
+passes_for workers = 2 * workers + 1
+
+-- the outcomes of a job are judged by the versions that they themselves make
+abbrev pub setting_of : ℕ → Name → Version → List (List Pair) → Setting
+setting_of chunks origin zone workers = record {
+  chunks = chunks;
+  passes = passes_for (length workers);
+  origin = origin;
+  set = version_at origin zone (all_pairs workers);
+  shown = shown_in (all_pairs workers);
+}
 
 -- Each version from 1 to the last was made once, none is above the last, and each worker's commands ended as they may.
 pub record Lawful (chunks : ℕ) (origin : Name) (zone : Version) (workers : List (List Pair)) (last : ℕ) : Type 0 where
   pub once : (j : ℕ) → 0 < j → j ≤ last → times_made j (all_pairs workers) ≡ 1
   pub none_above : AllByRecursion (λ pair. pair.1.version ≤ last) (all_pairs workers)
-  pub along : AllAlong chunks (passes_of workers) origin (version_at origin zone (all_pairs workers)) workers
+  pub along : AllAlong (setting_of chunks origin zone workers) workers
 
 -- some block was refused
 abbrev pub some_refused : List (List Pair) → Bool

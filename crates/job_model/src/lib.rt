@@ -37,6 +37,10 @@ pub enum ScriptKind {
     BadNumber,
     /// A block is open where a worker begins or the script ends.
     OpenBlock,
-    /// There are more workers, commands or operations than are taken.
-    TooMany,
+    /// A snapshot is asked or given back while none is held.
+    NotHeld,
+    /// A snapshot is taken while one is held.
+    AlreadyHeld,
+    /// There are more workers, commands or operations than the limit says.
+    TooMany { limit: u32 },
 }

@@ -1,3 +1,6 @@
 pub mod PartsLemmas
 pub mod PhraseLemmas
 pub mod ScriptLemmas
+pub mod ReportLemmas
+pub mod SpelledLemmas
+mod AnswerTexts

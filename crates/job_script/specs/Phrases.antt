@@ -1,27 +1,30 @@
 -- Phrases as the definitions see them.
 use Rattle.std.specs.Prelude.{ℕ, List, map}
 use Rattle.std.specs.List.{All}
-use Rattle.job_model.specs.Jobs as jobs
+use Rattle.job_model.specs.Phrases as phrases
 use Rattle.rr_data.specs.Tokens.{IsPlaced, token_view}
 use Rattle.job_script.specs.declared.phrases.Asked.{Asked}
 use Rattle.job_script.specs.declared.phrases.Asked.TheVariants as asked
 use Rattle.job_script.specs.declared.phrases.Phrase.{Phrase}
 use Rattle.job_script.specs.declared.phrases.Phrase.TheVariants as phrase
 
-abbrev pub asked_view : List ℕ → Asked → jobs.Asked
-asked_view bytes (asked.Gets name rtype) = jobs.Gets (token_view bytes name) (token_view bytes rtype)
-asked_view bytes (asked.Finds name) = jobs.Finds (token_view bytes name)
-asked_view bytes (asked.Walks name number) = jobs.Walks (token_view bytes name) (token_view bytes number)
-asked_view bytes (asked.Backs name number) = jobs.Backs (token_view bytes name) (token_view bytes number)
-asked_view bytes asked.Stats = jobs.Stats
+abbrev pub asked_view : List ℕ → Asked → phrases.Asked
+asked_view bytes (asked.Gets name rtype) = phrases.Gets (token_view bytes name) (token_view bytes rtype)
+asked_view bytes (asked.Finds name) = phrases.Finds (token_view bytes name)
+asked_view bytes (asked.Walks name number) = phrases.Walks (token_view bytes name) (token_view bytes number)
+asked_view bytes (asked.Backs name number) = phrases.Backs (token_view bytes name) (token_view bytes number)
+asked_view bytes asked.Stats = phrases.Stats
 
-abbrev pub phrase_view : List ℕ → Phrase → jobs.Phrase
-phrase_view bytes phrase.Worker = jobs.Worker
-phrase_view bytes (phrase.Asks question) = jobs.Asks (asked_view bytes question)
-phrase_view bytes (phrase.Opens weight) = jobs.Opens weight
-phrase_view bytes (phrase.Adds owner ttl rtype rest) = jobs.Adds (token_view bytes owner) (token_view bytes ttl) (token_view bytes rtype) (map (token_view bytes) rest.now)
-phrase_view bytes (phrase.Deletes owner rest) = jobs.Deletes (token_view bytes owner) (map (token_view bytes) rest.now)
-phrase_view bytes (phrase.Ends ending) = jobs.Ends ending
+abbrev pub phrase_view : List ℕ → Phrase → phrases.Phrase
+phrase_view bytes phrase.Worker = phrases.Worker
+phrase_view bytes (phrase.Asks question) = phrases.Asks (asked_view bytes question)
+phrase_view bytes phrase.Holds = phrases.Holds
+phrase_view bytes (phrase.AsksHeld question) = phrases.AsksHeld (asked_view bytes question)
+phrase_view bytes phrase.Releases = phrases.Releases
+phrase_view bytes (phrase.Opens weight) = phrases.Opens weight
+phrase_view bytes (phrase.Adds owner ttl rtype rest) = phrases.Adds (token_view bytes owner) (token_view bytes ttl) (token_view bytes rtype) (map (token_view bytes) rest.now)
+phrase_view bytes (phrase.Deletes owner rest) = phrases.Deletes (token_view bytes owner) (map (token_view bytes) rest.now)
+phrase_view bytes (phrase.Ends ending) = phrases.Ends ending
 
 -- the tokens lie inside the bytes
 abbrev pub AskedPlaced : List ℕ → Asked → Type 0
@@ -34,6 +37,9 @@ AskedPlaced bytes asked.Stats = Unit {0}
 abbrev pub PhrasePlaced : List ℕ → Phrase → Type 0
 PhrasePlaced bytes phrase.Worker = Unit {0}
 PhrasePlaced bytes (phrase.Asks question) = AskedPlaced bytes question
+PhrasePlaced bytes phrase.Holds = Unit {0}
+PhrasePlaced bytes (phrase.AsksHeld question) = AskedPlaced bytes question
+PhrasePlaced bytes phrase.Releases = Unit {0}
 PhrasePlaced bytes (phrase.Opens _) = Unit {0}
 PhrasePlaced bytes (phrase.Adds owner ttl rtype rest) = IsPlaced bytes owner × IsPlaced bytes ttl × IsPlaced bytes rtype × All (IsPlaced bytes) rest.now
 PhrasePlaced bytes (phrase.Deletes owner rest) = IsPlaced bytes owner × All (IsPlaced bytes) rest.now

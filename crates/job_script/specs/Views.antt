@@ -1,7 +1,7 @@
 -- The commands of a script as the definitions see them.
-use Rattle.std.specs.Prelude.{map}
+use Rattle.std.specs.Prelude.{List, map}
 use Rattle.zone_model.specs.Versions as versions
-use Rattle.job_model.specs.Jobs as jobs
+use Rattle.job_model.specs.Commands as jobs
 use Rattle.job_script.specs.declared.operations.NewRecord.{NewRecord}
 use Rattle.job_script.specs.declared.operations.Operation.{Operation}
 use Rattle.job_script.specs.declared.operations.Operation.TheVariants.{Add, DeleteName, DeleteSet, DeleteRecord}
@@ -11,6 +11,8 @@ use Rattle.job_script.specs.declared.commands.Question.TheVariants as question
 use Rattle.job_script.specs.declared.commands.Command.{Command}
 use Rattle.job_script.specs.declared.commands.Command.TheVariants as command
 use Rattle.job_script.specs.declared.commands.Block.{Block}
+use Rattle.job_script.specs.declared.commands.Worker.{Worker}
+use Rattle.job_script.specs.declared.commands.Job.{Job}
 
 abbrev pub addition_view : NewRecord → versions.Addition
 addition_view a = record { owner = a.owner; rtype = a.rtype; ttl = a.ttl; octets = a.rdata }
@@ -36,4 +38,16 @@ block_view b = jobs.Block b.weight (map operation_view b.operations.items) b.end
 
 abbrev pub command_view : Command → jobs.Command
 command_view (command.Ask asked) = jobs.Ask (question_view asked)
+command_view command.Hold = jobs.Hold
+command_view (command.AskHeld asked) = jobs.AskHeld (question_view asked)
+command_view command.Release = jobs.Release
 command_view (command.Block b) = block_view b
+
+abbrev pub worker_view : Worker → List jobs.Command
+worker_view w = map command_view w.commands.items
+
+abbrev pub workers_view : List Worker → List (List jobs.Command)
+workers_view workers = map worker_view workers
+
+abbrev pub job_view : Job → List (List jobs.Command)
+job_view job = workers_view job.workers.items

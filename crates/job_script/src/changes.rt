@@ -1,14 +1,14 @@
 // What the words of an operation say.
 ghost use Rattle.std.specs.Prelude.{◌≡◌, ◌∷◌, List, map};
 ghost use Rattle.std.specs.List.{All};
-ghost use Rattle.job_model.specs.Jobs as jobs;
+ghost use Rattle.job_model.specs.Arguments as jobs;
 ghost use Rattle.zone_model.specs.Data.{data_of};
 ghost use Rattle.rr_data.specs.Tokens.{IsPlaced, token_view};
 ghost use Rattle.job_script.specs.Scripts.{Says};
 ghost use Rattle.job_script.specs.Views.{operation_view};
 
 use crate::operations::{NewRecord, Operation};
-use crate::refusal::{ScriptRefusal, refused};
+use crate::refusal::{JobRefusal, refused};
 use dns_name::Name;
 use job_model::ScriptKind;
 use master_file::{name_word, time_word, type_word};
@@ -36,20 +36,20 @@ fn rdata_of(
     line: u32,
     rtype: u16,
     tokens: &[Token],
-) -> Result<Rdata, ScriptRefusal>
+) -> Result<Rdata, JobRefusal>
     requires { All (IsPlaced bytes.now) tokens.now }
     ensures { Says result (λ r. r) (jobs.octets_needed line (data_of origin.now rtype (map (token_view bytes.now) tokens.now))) }
 {
     match Rdata::read(alloc, rtype, bytes, tokens, origin) {
         Ok(rdata) => Ok(rdata),
-        Err(RdataRefusal::Memory) => Err(ScriptRefusal::Memory),
+        Err(RdataRefusal::Memory) => Err(JobRefusal::Memory),
         Err(RdataRefusal::BadRdata { .. }) => Err(refused(line, ScriptKind::BadRdata)),
         Err(RdataRefusal::LongString { .. }) => Err(refused(line, ScriptKind::BadRdata)),
     }
 }
 
 // An addition.
-#[tactic(auto, unfolding(job_model::specs::Jobs::addition_of))]
+#[tactic(auto, unfolding(job_model::specs::Arguments::addition_of))]
 pub fn addition_of(
     alloc: Global,
     bytes: &[u8],
@@ -59,7 +59,7 @@ pub fn addition_of(
     ttl: Token,
     rtype: Token,
     tokens: &[Token],
-) -> Result<Operation, ScriptRefusal>
+) -> Result<Operation, JobRefusal>
     requires owner { IsPlaced bytes.now owner }
     requires ttl { IsPlaced bytes.now ttl }
     requires rtype { IsPlaced bytes.now rtype }
@@ -87,7 +87,7 @@ pub fn addition_of(
 }
 
 // A deletion of the RRset of a type, or of one record.
-#[tactic(auto, unfolding(job_model::specs::Jobs::deletion_of))]
+#[tactic(auto, unfolding(job_model::specs::Arguments::deletion_of))]
 fn typed_deletion(
     alloc: Global,
     bytes: &[u8],
@@ -96,7 +96,7 @@ fn typed_deletion(
     owner: Token,
     rtype: Token,
     tokens: &[Token],
-) -> Result<Operation, ScriptRefusal>
+) -> Result<Operation, JobRefusal>
     requires owner { IsPlaced bytes.now owner }
     requires rtype { IsPlaced bytes.now rtype }
     requires tokens { All (IsPlaced bytes.now) tokens.now }
@@ -118,7 +118,7 @@ fn typed_deletion(
 }
 
 // A deletion.
-#[tactic(auto, unfolding(job_model::specs::Jobs::deletion_of))]
+#[tactic(auto, unfolding(job_model::specs::Arguments::deletion_of))]
 pub fn deletion_of(
     alloc: Global,
     bytes: &[u8],
@@ -126,7 +126,7 @@ pub fn deletion_of(
     line: u32,
     owner: Token,
     rest: &[Token],
-) -> Result<Operation, ScriptRefusal>
+) -> Result<Operation, JobRefusal>
     requires owner { IsPlaced bytes.now owner }
     requires rest { All (IsPlaced bytes.now) rest.now }
     ensures { Says result operation_view (jobs.deletion_of origin.now line (token_view bytes.now owner) (map (token_view bytes.now) rest.now)) }

@@ -1,4 +1,4 @@
-// Commands of a script.
+//! Commands of a script.
 use crate::operations::Operation;
 use dns_name::Name;
 use job_model::{Ending, Weight};
@@ -27,7 +27,7 @@ pub enum Question {
     Stat,
 }
 
-/// A transaction.
+/// A transaction: how it writes, its operations in order, and its last word.
 #[derive(Drop)]
 pub struct Block {
     pub weight: Weight,
@@ -38,6 +38,25 @@ pub struct Block {
 /// A command of a worker.
 #[derive(Drop)]
 pub enum Command {
+    /// A question to the current version.
     Ask(Question),
+    /// A snapshot of the current version is taken.
+    Hold,
+    /// A question to the snapshot.
+    AskHeld(Question),
+    /// The snapshot is given back.
+    Release,
     Block(Block),
+}
+
+/// A worker's list, in order.
+#[derive(Drop)]
+pub struct Worker {
+    pub commands: Vec<Command>,
+}
+
+/// What the script of a job says: its workers, in order.
+#[derive(Drop)]
+pub struct Job {
+    pub workers: Vec<Worker>,
 }

@@ -1,17 +1,28 @@
-//! The script of a job: where it begins in an input, and the commands that its lines say.
+//! The script of a job, and the report of what became of it: where the script begins in an input, the commands that its
+//! lines say, how commands end, and what is printed of that.
 #![tactic(auto)]
 
 mod changes;
 mod commands;
+mod inside;
+mod laws;
 mod operations;
+mod outcomes;
+mod outside;
 mod parts;
 mod phrases;
 mod questions;
 mod refusal;
+mod replies;
+mod report;
 mod script;
 
-pub use commands::{Block, Command, Question, Stretch};
+pub use commands::{Block, Command, Job, Question, Stretch, Worker};
+pub use laws::jobs_are_spelled;
 pub use operations::{NewRecord, Operation};
+pub use outcomes::{Cause, Outcome, Outcomes, Told, any_refused};
 pub use parts::{Parts, split};
-pub use refusal::ScriptRefusal;
-pub use script::read_script;
+pub use refusal::JobRefusal;
+pub use replies::{Reply, push_number, push_size};
+pub use report::{print_outcomes, print_report};
+pub use script::read_job;

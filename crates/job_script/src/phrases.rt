@@ -2,7 +2,7 @@
 ghost use Rattle.std.specs.Prelude.{◌≡◌, ◌<◌, ◌≤◌, ◌∷◌, [], ℕ, List, length, map, Some, None, Option, IfSome};
 ghost use Rattle.std.specs.Option.{option_map};
 ghost use Rattle.std.specs.List.{All};
-ghost use Rattle.job_model.specs.Jobs as jobs;
+ghost use Rattle.job_model.specs.Phrases as phrases;
 ghost use Rattle.rr_data.specs.Tokens.{IsPlaced, token_view};
 ghost use Rattle.job_script.specs.Phrases.{asked_view, AskedPlaced, phrase_view, PhrasePlaced};
 
@@ -30,6 +30,12 @@ pub enum Phrase<'a> {
     Worker,
     /// A question.
     Asks(Asked),
+    /// A snapshot is taken.
+    Holds,
+    /// A question to the snapshot.
+    AsksHeld(Asked),
+    /// The snapshot is given back.
+    Releases,
     /// A block begins.
     Opens(Weight),
     /// An addition of an owner, time to live, type and data.
@@ -43,7 +49,7 @@ pub enum Phrase<'a> {
 // Whether a token is a command word.
 fn says(bytes: &[u8], token: Token, word: &[u8]) -> bool
     requires { IsPlaced bytes.now token }
-    ensures { result ≡ jobs.says (token_view bytes.now token) word.now }
+    ensures { result ≡ phrases.says (token_view bytes.now token) word.now }
 {
     if token.quoted {
         return false;
@@ -53,7 +59,7 @@ fn says(bytes: &[u8], token: Token, word: &[u8]) -> bool
 
 // The token that stands alone.
 fn lone(tokens: &[Token]) -> Option<Token>
-    ensures lone { (bytes : List ℕ) → option_map (token_view bytes) result ≡ jobs.lone (map (token_view bytes) tokens.now) }
+    ensures lone { (bytes : List ℕ) → option_map (token_view bytes) result ≡ phrases.lone (map (token_view bytes) tokens.now) }
     ensures placed { (bytes : List ℕ) → All (IsPlaced bytes) tokens.now → IfSome result (IsPlaced bytes) }
 {
     let (first, behind) = tokens.split_first()?;
@@ -65,12 +71,12 @@ fn lone(tokens: &[Token]) -> Option<Token>
 }
 
 // A question whose word has a name behind it.
-#[tactic(auto, unfolding(job_model::specs::Jobs::asked_of))]
+#[tactic(auto, unfolding(job_model::specs::Phrases::asked_of))]
 fn named_question(bytes: &[u8], word: Token, name: Token, rest: &[Token]) -> Option<Asked>
     requires word { IsPlaced bytes.now word }
     requires name { IsPlaced bytes.now name }
     requires rest { All (IsPlaced bytes.now) rest.now }
-    ensures said { option_map (asked_view bytes.now) result ≡ jobs.asked_of (token_view bytes.now word ∷ token_view bytes.now name ∷ map (token_view bytes.now) rest.now) }
+    ensures said { option_map (asked_view bytes.now) result ≡ phrases.asked_of (token_view bytes.now word ∷ token_view bytes.now name ∷ map (token_view bytes.now) rest.now) }
     ensures placed { IfSome result (AskedPlaced bytes.now) }
 {
     if says(bytes, word, b"get") {
@@ -92,14 +98,36 @@ fn named_question(bytes: &[u8], word: Token, name: Token, rest: &[Token]) -> Opt
     None
 }
 
-#[tactic(auto, unfolding(job_model::specs::Jobs::asked_of))]
+// The question that a word says with what stands behind it.
+#[tactic(auto, unfolding(job_model::specs::Phrases::asked_of))]
+fn asked_of(bytes: &[u8], word: Token, arguments: &[Token]) -> Option<Asked>
+    requires word { IsPlaced bytes.now word }
+    requires arguments { All (IsPlaced bytes.now) arguments.now }
+    ensures said { option_map (asked_view bytes.now) result ≡ phrases.asked_of (token_view bytes.now word ∷ map (token_view bytes.now) arguments.now) }
+    ensures placed { IfSome result (AskedPlaced bytes.now) }
+{
+    let Some((name, rest)) = arguments.split_first() else {
+        return if says(bytes, word, b"stat") {
+            Some(Asked::Stats)
+        } else {
+            None
+        };
+    };
+    named_question(bytes, word, *name, rest)
+}
+
+#[tactic(auto, unfolding(job_model::specs::Phrases::asked_of))]
 fn lone_word<'a>(bytes: &[u8], word: Token) -> Option<Phrase<'a>>
     requires { IsPlaced bytes.now word }
-    ensures said { option_map (phrase_view bytes.now) result ≡ jobs.lone_word (token_view bytes.now word) }
+    ensures said { option_map (phrase_view bytes.now) result ≡ phrases.lone_word (token_view bytes.now word) }
     ensures placed { IfSome result (PhrasePlaced bytes.now) }
 {
     if says(bytes, word, b"worker") {
         Some(Phrase::Worker)
+    } else if says(bytes, word, b"hold") {
+        Some(Phrase::Holds)
+    } else if says(bytes, word, b"release") {
+        Some(Phrase::Releases)
     } else if says(bytes, word, b"write") {
         Some(Phrase::Opens(Weight::Light))
     } else if says(bytes, word, b"update") {
@@ -118,7 +146,7 @@ fn lone_word<'a>(bytes: &[u8], word: Token) -> Option<Phrase<'a>>
 fn adds<'a>(bytes: &[u8], owner: Token, rest: &'a [Token]) -> Option<Phrase<'a>>
     requires owner { IsPlaced bytes.now owner }
     requires rest { All (IsPlaced bytes.now) rest.now }
-    ensures said { option_map (phrase_view bytes.now) result ≡ jobs.adds (token_view bytes.now owner) (map (token_view bytes.now) rest.now) }
+    ensures said { option_map (phrase_view bytes.now) result ≡ phrases.adds (token_view bytes.now owner) (map (token_view bytes.now) rest.now) }
     ensures placed { IfSome result (PhrasePlaced bytes.now) }
 {
     let Some((ttl, behind_ttl)) = rest.split_first() else {
@@ -134,10 +162,10 @@ fn adds<'a>(bytes: &[u8], owner: Token, rest: &'a [Token]) -> Option<Phrase<'a>>
 }
 
 /// What tokens say; None where they are no command.
-#[tactic(auto, unfolding(job_model::specs::Jobs::phrase_of))]
+#[tactic(auto, unfolding(job_model::specs::Phrases::phrase_of))]
 pub fn phrase_of<'a>(bytes: &[u8], tokens: &'a [Token]) -> Option<Phrase<'a>>
     requires { All (IsPlaced bytes.now) tokens.now }
-    ensures said { option_map (phrase_view bytes.now) result ≡ jobs.phrase_of (map (token_view bytes.now) tokens.now) }
+    ensures said { option_map (phrase_view bytes.now) result ≡ phrases.phrase_of (map (token_view bytes.now) tokens.now) }
     ensures placed { IfSome result (PhrasePlaced bytes.now) }
 {
     let Some((word, arguments)) = tokens.split_first() else {
@@ -151,6 +179,12 @@ pub fn phrase_of<'a>(bytes: &[u8], tokens: &'a [Token]) -> Option<Phrase<'a>>
     }
     if says(bytes, *word, b"del") {
         return Some(Phrase::Deletes(*first, rest));
+    }
+    if says(bytes, *word, b"at") {
+        return match asked_of(bytes, *first, rest) {
+            Some(asked) => Some(Phrase::AsksHeld(asked)),
+            None => None,
+        };
     }
     match named_question(bytes, *word, *first, rest) {
         Some(asked) => Some(Phrase::Asks(asked)),

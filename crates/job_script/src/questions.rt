@@ -1,6 +1,7 @@
 // What the words of a question say.
 ghost use Rattle.std.specs.Prelude.{◌≡◌, IfSome, ◌≤◌, ◌<◌};
-ghost use Rattle.job_model.specs.Jobs as jobs;
+ghost use Rattle.job_model.specs.Arguments as jobs;
+ghost use Rattle.job_model.specs.Phrases as phrases;
 ghost use Rattle.rr_data.specs.Tokens.{IsPlaced, token_view};
 ghost use Rattle.job_script.specs.Phrases.{asked_view, AskedPlaced};
 ghost use Rattle.job_script.specs.Scripts.{Says};
@@ -8,7 +9,7 @@ ghost use Rattle.job_script.specs.Views.{question_view, stretch_view};
 
 use crate::commands::{Question, Stretch};
 use crate::phrases::Asked;
-use crate::refusal::{ScriptRefusal, refused};
+use crate::refusal::{JobRefusal, refused};
 use dns_name::Name;
 use job_model::ScriptKind;
 use master_file::{name_word, type_word};
@@ -29,14 +30,14 @@ fn names_word(bytes: &[u8], token: Token) -> Option<u32>
     if most == 0 { None } else { Some(most) }
 }
 
-#[tactic(auto, unfolding(job_model::specs::Jobs::stretch_of))]
+#[tactic(auto, unfolding(job_model::specs::Arguments::stretch_of))]
 fn stretch_of(
     bytes: &[u8],
     origin: &Name,
     line: u32,
     name: Token,
     number: Token,
-) -> Result<Stretch, ScriptRefusal>
+) -> Result<Stretch, JobRefusal>
     requires name { IsPlaced bytes.now name }
     requires number { IsPlaced bytes.now number }
     ensures { Says result stretch_view (jobs.stretch_of origin.now line (token_view bytes.now name) (token_view bytes.now number)) }
@@ -50,17 +51,17 @@ fn stretch_of(
     }
 }
 
-#[tactic(auto, unfolding(job_model::specs::Jobs::question_of))]
+#[tactic(auto, unfolding(job_model::specs::Arguments::question_of))]
 fn typed_question(
     bytes: &[u8],
     origin: &Name,
     line: u32,
     name: Token,
     rtype: Token,
-) -> Result<Question, ScriptRefusal>
+) -> Result<Question, JobRefusal>
     requires name { IsPlaced bytes.now name }
     requires rtype { IsPlaced bytes.now rtype }
-    ensures { Says result question_view (jobs.question_of origin.now line (jobs.Gets (token_view bytes.now name) (token_view bytes.now rtype))) }
+    ensures { Says result question_view (jobs.question_of origin.now line (phrases.Gets (token_view bytes.now name) (token_view bytes.now rtype))) }
 {
     let Some(asked) = name_word(bytes, origin, name) else {
         return Err(refused(line, ScriptKind::BadName));
@@ -72,13 +73,13 @@ fn typed_question(
 }
 
 /// The question that its words say.
-#[tactic(auto, unfolding(job_model::specs::Jobs::question_of))]
+#[tactic(auto, unfolding(job_model::specs::Arguments::question_of))]
 pub fn question_of(
     bytes: &[u8],
     origin: &Name,
     line: u32,
     asked: Asked,
-) -> Result<Question, ScriptRefusal>
+) -> Result<Question, JobRefusal>
     requires { AskedPlaced bytes.now asked }
     ensures { Says result question_view (jobs.question_of origin.now line (asked_view bytes.now asked)) }
 {

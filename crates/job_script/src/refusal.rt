@@ -1,38 +1,45 @@
-// Why a script is not read.
+//! Why a script is not read.
 ghost use Rattle.std.specs.Prelude.{◌≡◌};
-ghost use Rattle.job_script.specs.declared.refusal.ScriptRefusal.TheVariants.{Memory, Refused};
+ghost use Rattle.job_script.specs.declared.refusal.JobRefusal.TheVariants.{Memory, Refused};
 
 use job_model::ScriptKind;
 use std::alloc::{AllocError, AllocFailed};
 
-/// Why a script is not read.
+/// Why a job's script is not read.
 #[derive(Clone, Copy, Debug, PartialEq, Eq)]
-pub enum ScriptRefusal {
+pub enum JobRefusal {
     /// The first line that is refused, and why.
     Refused { line: u32, kind: ScriptKind },
     /// Want of memory.
     Memory,
 }
 
-impl From<AllocError> for ScriptRefusal {
+impl From<AllocError> for JobRefusal {
     ghost from_gives = { λ _ e. e ≡ Memory };
 
     fn from(_: AllocError) -> Self {
-        ScriptRefusal::Memory
+        JobRefusal::Memory
     }
 }
 
-impl<T: Drop> From<AllocFailed<T>> for ScriptRefusal {
+impl<T: Drop> From<AllocFailed<T>> for JobRefusal {
     ghost from_gives = { λ _ e. e ≡ Memory };
 
     fn from(_: AllocFailed<T>) -> Self {
-        ScriptRefusal::Memory
+        JobRefusal::Memory
     }
 }
 
 /// The refusal of a line.
-pub fn refused(line: u32, kind: ScriptKind) -> ScriptRefusal
+pub fn refused(line: u32, kind: ScriptKind) -> JobRefusal
     ensures { result ≡ Refused line kind }
 {
-    ScriptRefusal::Refused { line, kind }
+    JobRefusal::Refused { line, kind }
+}
+
+/// The refusal of a line that is one worker, command or operation too many.
+pub fn too_many(line: u32, limit: u32) -> JobRefusal
+    ensures { result ≡ Refused line (ScriptKind.TooMany limit) }
+{
+    refused(line, ScriptKind::TooMany { limit })
 }

@@ -7,7 +7,8 @@ use Rattle.zone_model.specs.Names.{Name}
 use Rattle.zone_model.specs.Versions.{Version}
 use Rattle.zone_model.specs.Refusals.{Refused, ◌>>=◌}
 use Rattle.zone_model.specs.MasterFile.{zone_of}
-use Rattle.job_model.specs.Jobs.{Command, Job, JobRefusal, ZoneRefused, ScriptRefused, zone_lines, script_lines, script_start, script_of, zone_refused, script_refused, job_of_lines, job_of}
+use Rattle.job_model.specs.Commands.{Command, Job}
+use Rattle.job_model.specs.Jobs.{JobRefusal, ZoneRefused, ScriptRefused, zone_lines, script_lines, script_start, script_of, zone_refused, script_refused, job_of_lines, job_of}
 use Rattle.job_model.specs.Outcomes.{some_refused}
 use Rattle.zone_model.specs.declared.ZoneKind.{ZoneKind}
 use Rattle.job_model.specs.declared.ScriptKind.{ScriptKind}

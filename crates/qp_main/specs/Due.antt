@@ -5,13 +5,14 @@ use Rattle.zone_model.specs.Names.{Name}
 use Rattle.zone_model.specs.Versions.{Version}
 use Rattle.zone_model.specs.Refusals.{Refused}
 use Rattle.zone_model.specs.MasterFile.{zone_of}
-use Rattle.job_model.specs.Jobs.{Job, JobRefusal, ZoneRefused, ScriptRefused, zone_lines, job_of}
+use Rattle.job_model.specs.Commands.{Job}
+use Rattle.job_model.specs.Jobs.{JobRefusal, ZoneRefused, ScriptRefused, zone_lines, job_of}
 use Rattle.job_model.specs.Outcomes.{Pair, Lawful, some_refused}
 use Rattle.job_model.specs.Reports.{report}
 use Rattle.zone_model.specs.declared.ZoneKind.{ZoneKind}
 use Rattle.zone_model.specs.declared.ZoneKind.TheVariants as zone_kind
 use Rattle.job_model.specs.declared.ScriptKind.{ScriptKind}
-use Rattle.job_model.specs.declared.ScriptKind.TheVariants.{NoWorker, BadCommand, BadName, BadType, BadRdata, BadNumber, OpenBlock, TooMany}
+use Rattle.job_model.specs.declared.ScriptKind.TheVariants.{NoWorker, BadCommand, BadName, BadType, BadRdata, BadNumber, OpenBlock, NotHeld, AlreadyHeld, TooMany}
 use Rattle.outer_io.specs.Bytes.{Grows, GrowsByFront}
 use Rattle.qp_main.specs.Invocations.{Invocation}
 use Rattle.qp_main.specs.Fits.{fits, no_room_text, opened_text}
@@ -45,7 +46,9 @@ script_kind_text BadType = codes "BadType"
 script_kind_text BadRdata = codes "BadRdata"
 script_kind_text BadNumber = codes "BadNumber"
 script_kind_text OpenBlock = codes "OpenBlock"
-script_kind_text TooMany = codes "TooMany"
+script_kind_text NotHeld = codes "NotHeld"
+script_kind_text AlreadyHeld = codes "AlreadyHeld"
+script_kind_text (TooMany limit) = codes "TooMany"
 
 abbrev pub refusal_text : List ℕ → ℕ → List ℕ → List ℕ
 refusal_text what line kind = what ++ codes " refused line " ++ decimal line ++ codes " " ++ kind ++ codes "\n"

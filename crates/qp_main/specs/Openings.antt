@@ -1,35 +1,14 @@
--- What it says whether a version fits, and an index that has one.
+-- What it says whether a version fits.
 use Rattle.std.specs.Prelude.{◌≡◌, ℕ, true, false}
 use Rattle.zone_model.specs.Versions.{Version}
-use Rattle.zone_answer.specs.Standing.{IsVersion}
-use Rattle.job_model.specs.Sizes.{trie_entries, cell_count}
+use Rattle.job_model.specs.Sizes.{cell_count}
+use Rattle.job_run.specs.Indexes.{Keeps}
 use Rattle.qp_multi.specs.Openings.{room_in}
-use Rattle.qp_multi.specs.Shows.{Shows, chunks_of}
-use Rattle.qp_multi.specs.declared.index.Index.{Index}
 use Rattle.qp_main.specs.Fits.{fits}
 use Rattle.qp_main.specs.declared.opening.Opening.{Opening}
 use Rattle.qp_main.specs.declared.opening.Opening.TheVariants.{Fits, DoesNotFit}
 
--- the index's current version, by its number, and its chunks
-pub record Keeps (index : Index) (version : Version) (number chunks : ℕ) : Type 0 where
-  pub shows : Shows index (trie_entries version)
-  pub valid : IsVersion version
-  pub numbered : index.version ≡ number
-  pub size : chunks_of index ≡ chunks
-
--- it has some version
-pub record KeepsSome (index : Index) : Type 0 where
-  pub version : Version
-  pub number : ℕ
-  pub chunks : ℕ
-  pub keeps : Keeps index version number chunks
-
--- its version is some zone, as it was opened
-pub record KeepsFirst (index : Index) : Type 0 where
-  pub zone : Version
-  pub chunks : ℕ
-  pub keeps : Keeps index zone 0 chunks
-
+-- an index that has the version as it was opened; or the numbers by which it may not fit
 abbrev pub Opens : ℕ → Version → Opening → Type 0
 Opens chunks version (Fits index) = (fits chunks version ≡ true) × Keeps index version 0 chunks
 Opens chunks version (DoesNotFit cells limit) = (fits chunks version ≡ false) × (cells ≡ cell_count version) × (limit ≡ room_in chunks)

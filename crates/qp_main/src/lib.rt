@@ -2,17 +2,14 @@
 //! reads a zone and says how large its index is.
 #![tactic(auto)]
 
-mod answers;
 mod command_line;
-mod gate;
 mod invocation;
 mod opening;
 mod program;
 mod report;
+mod reporting;
 mod status;
-mod transactions;
-mod worker;
 
-pub use gate::Gate;
+pub use job_run::Gate;
 pub use program::run;
 pub use status::Status;

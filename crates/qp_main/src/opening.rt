@@ -1,9 +1,10 @@
 //! The index of a zone's version 0.
-ghost use Rattle.std.specs.Prelude.{◌≡◌, ◌≤◌, ℕ, List, IfOk, map};
+ghost use Rattle.std.specs.Prelude.{◌≡◌, ◌≤◌, ℕ, List, IfOk, map, min};
 ghost use Rattle.std.specs.List.{AllByRecursion};
 ghost use Rattle.zone_model.specs.Names.{Name as Labels};
 ghost use Rattle.zone_model.specs.Records.{Entry, IsItem};
 ghost use Rattle.zone_answer.specs.Standing.{IsStorable, trie_entry};
+ghost use Rattle.job_model.specs.Outcomes.{passes_for};
 ghost use Rattle.job_model.specs.Sizes.{trie_entries};
 ghost use Rattle.trie_write.specs.Entries.{entry_of, entries_of_items};
 ghost use Rattle.qp_main.specs.Openings.{Opens};
@@ -14,8 +15,8 @@ use qp_multi::{Index, OpenRefusal};
 use std::alloc::{AllocError, Global};
 use trie_write::{Item, ItemRefusal};
 
-// Two for a worker, and one for the last line.
-const PASSES: u32 = 3;
+// The most workers of a job.
+const WORKER_LIMIT: usize = 16;
 
 /// Whether a version fits into chunks.
 #[derive(Drop)]
@@ -55,8 +56,16 @@ fn items_of(alloc: Global, mut left: ZoneItems) -> Result<Vec<Item>, AllocError>
     Ok(items)
 }
 
-/// Builds the index of a zone over some chunks.
-pub fn open(alloc: Global, zone: Zone, chunks: u32) -> Result<Opening, AllocError>
+// Two passes of the index for each worker, one for its questions and transactions and one for what it holds, and one for
+// the last line.
+fn passes_for(workers: usize) -> u32
+    ensures { result ≡ passes_for (min workers 16) }
+{
+    2 * workers.min(WORKER_LIMIT) as u32 + 1
+}
+
+/// Builds the index of a zone over some chunks, for so many workers.
+pub fn open(alloc: Global, zone: Zone, chunks: u32, workers: usize) -> Result<Opening, AllocError>
     requires enough { 16 ≤ chunks }
     requires few { chunks ≤ 4096 }
     ensures { IfOk result (λ o. Opens chunks zone.pairs o) }
@@ -64,7 +73,7 @@ pub fn open(alloc: Global, zone: Zone, chunks: u32) -> Result<Opening, AllocErro
     // The zone's length tells that its names rise.
     let _names = zone.len();
     let items = items_of(alloc, zone.into_items())?;
-    match Index::open(alloc, &items, chunks, PASSES) {
+    match Index::open(alloc, &items, chunks, passes_for(workers)) {
         Ok(index) => Ok(Opening::Fits(index)),
         Err(OpenRefusal::Full { cells, limit }) => Ok(Opening::DoesNotFit { cells, limit }),
         Err(OpenRefusal::Memory) => Err(AllocError),

@@ -12,13 +12,13 @@ ghost use Rattle.qp_main.specs.InvocationViews.{invocation_view};
 ghost use Rattle.qp_main.specs.Due.{Answers, Checks, DueInput, IsWritten, IsUnwritten, Written, CutShort};
 
 use crate::command_line::invocation_of;
-use crate::gate::Gate;
 use crate::invocation::{Invocation, Verb};
 use crate::opening::{Opening, open};
 use crate::report::{no_room, script_refused, size_line, zone_refused};
+use crate::reporting::report_job;
 use crate::status::Status;
-use crate::worker::report_job;
-use job_script::{Parts, ScriptRefusal, read_script, split};
+use job_run::Gate;
+use job_script::{JobRefusal, Parts, read_job, split};
 use master_file::{Zone, ZoneRefusal, read_zone};
 use outer_io::{ReadRefusal, Sink, Source, read_all, write_all};
 use std::alloc::{AllocError, Global};
@@ -45,20 +45,20 @@ fn run_script<G: Gate>(
     ensures { IfOk result (λ x. Answers invocation.now.chunks (job_of invocation.now.origin bytes.items) x.0 x.1.items) }
 {
     let origin = &invocation.origin;
-    let text = bytes.as_slice();
-    let commands = match read_script(alloc, text, origin, parts.script_from, parts.first_line) {
-        Ok(commands) => commands,
-        Err(ScriptRefusal::Refused { line, kind }) => {
+    let script = &bytes.as_slice()[parts.script_from as usize..];
+    let job = match read_job(alloc, script, parts.first_line, origin) {
+        Ok(job) => job,
+        Err(JobRefusal::Refused { line, kind }) => {
             return Ok((
                 Status::ScriptRefused,
                 script_refused(alloc, u64::from(line), kind)?,
             ));
         }
-        Err(ScriptRefusal::Memory) => return Err(AllocError),
+        Err(JobRefusal::Memory) => return Err(AllocError),
     };
     drop(bytes);
-    match open(alloc, zone, invocation.chunks)? {
-        Opening::Fits(mut index) => report_job(alloc, origin, &mut index, &commands, gate),
+    match open(alloc, zone, invocation.chunks, job.workers.len())? {
+        Opening::Fits(mut index) => report_job(alloc, origin, &mut index, &job, gate),
         Opening::DoesNotFit { cells, limit } => {
             Ok((Status::DoesNotFit, no_room(alloc, cells, limit)?))
         }
@@ -71,7 +71,7 @@ fn check_zone(alloc: Global, chunks: u32, zone: Zone) -> Result<(Status, Vec<u8>
     requires few { chunks ≤ 4096 }
     ensures { IfOk result (λ x. Checks chunks (Ok zone.pairs) x.0 x.1.items) }
 {
-    match open(alloc, zone, chunks)? {
+    match open(alloc, zone, chunks, 0)? {
         Opening::Fits(index) => {
             let query = index.query();
             let line = size_line(alloc, query.count(), query.nodes())?;
@@ -115,7 +115,7 @@ fn answer_parts<G: Gate>(
     }
 }
 
-// The status and the text for the bytes of an input. Its worker runs on the caller's thread.
+// The status and the text for the bytes of an input. Its workers run on the caller's thread.
 fn answer<R: Threads + Wait + Sync, G: Gate>(
     _rt: &R,
     alloc: Global,
@@ -177,7 +177,7 @@ fn serve<R: Threads + Wait + Sync, S: Source, K: Sink, G: Gate>(
 
 /// Runs the program: reads a job from the source, runs it, and writes its report to the sink. The words are those of
 /// the command line, the first of which is the program's name. The gate is told of each command. Threads and waiting
-/// are the runtime's leave, which one worker doesn't need.
+/// are the runtime's leave, which workers that run one after another don't need.
 pub fn run<R: Threads + Wait + Sync, S: Source, K: Sink, G: Gate>(
     rt: &R,
     alloc: Global,
@@ -197,8 +197,10 @@ pub fn run<R: Threads + Wait + Sync, S: Source, K: Sink, G: Gate>(
     ensures source_fault { result ≡ Status.SourceFault → Rose (S.faults source.old) (S.faults source.new) }
     ensures unwritten { IsUnwritten result → K.held sink.new ≡ K.held sink.old }
 
-    // Refused words leave the source as it is, and an input that is too long is read to one byte past the limit.
-    ensures unread { result ≡ Status.WordsRefused → source.new ≡ source.old }
+    // Refused words leave the source as it is, and no other words are told to be so. An input that is too long is read to
+    // one byte past the limit.
+    ensures unread { invocation_of (map string_bytes words.now) ≡ None → source.new ≡ source.old }
+    ensures words { result ≡ Status.WordsRefused → invocation_of (map string_bytes words.now) ≡ None }
     ensures taken { result ≡ Status.TooLong → (bytes : List ℕ) × Consumes (S.left source.old) (S.left source.new) bytes × (length bytes ≡ 16777217) }
 {
     match invocation_of(words) {

@@ -1,109 +1,12 @@
-// Lines of the report, and of refusals.
-ghost use Rattle.std.specs.Prelude.{◌≡◌, ◌<◌, ◌≤◌, ◌++◌, ◌∷◌, [], ℕ, List, length, OnOk, IfOk, codes, decimal};
-ghost use Rattle.std.specs.List.{flat_map};
-ghost use Rattle.job_model.specs.Reports.{head_text, ended_text, cause_text, rule_text};
-ghost use Rattle.job_model.specs.Outcomes as outcomes;
-ghost use Rattle.job_model.specs.Outcomes.{Committed, RolledBack};
-ghost use Rattle.qp_multi.specs.Fulls.{kept_versions};
-ghost use Rattle.qp_main.specs.Transactions.{cause_view};
+//! Lines that are no report: refusals, and how large a zone is.
+ghost use Rattle.std.specs.Prelude.{◌≡◌, ◌++◌, ℕ, List, OnOk, IfOk, codes, decimal};
+ghost use Rattle.job_model.specs.Replies.{size_text};
 ghost use Rattle.qp_main.specs.Due.{zone_kind_text, script_kind_text, refusal_text};
 
-use crate::answers::{push_number, push_size};
-use crate::transactions::Cause;
 use job_model::ScriptKind;
-use qp_multi::Kept;
+use job_script::{push_number, push_size};
 use std::alloc::{AllocError, Global};
-use zone_model::{Refusal, ZoneKind};
-
-/// Pushes worker, command and version.
-pub fn push_head(
-    out: &mut Vec<u8>,
-    worker: u64,
-    command: u64,
-    version: u64,
-) -> Result<(), AllocError>
-    ensures { OnOk result (out.new.items ≡ out.old.items ++ head_text worker command version) }
-{
-    push_number(out, worker)?;
-    out.extend_from_slice(b".")?;
-    push_number(out, command)?;
-    out.extend_from_slice(b" v")?;
-    push_number(out, version)?;
-    out.extend_from_slice(b" ")
-}
-
-/// Pushes how a block ended that was committed.
-pub fn push_committed(out: &mut Vec<u8>) -> Result<(), AllocError>
-    ensures { OnOk result (out.new.items ≡ out.old.items ++ ended_text Committed) }
-{
-    out.extend_from_slice(b"COMMITTED\n")
-}
-
-/// Pushes how a block ended that was rolled back.
-pub fn push_rolled_back(out: &mut Vec<u8>) -> Result<(), AllocError>
-    ensures { OnOk result (out.new.items ≡ out.old.items ++ ended_text RolledBack) }
-{
-    out.extend_from_slice(b"ROLLED BACK\n")
-}
-
-fn push_rule(out: &mut Vec<u8>, refusal: Refusal) -> Result<(), AllocError>
-    ensures { OnOk result (out.new.items ≡ out.old.items ++ rule_text refusal) }
-{
-    match refusal {
-        Refusal::Soa => out.extend_from_slice(b"soa"),
-        Refusal::Cname => out.extend_from_slice(b"cname"),
-        Refusal::Long => out.extend_from_slice(b"long"),
-    }
-}
-
-fn push_kept(out: &mut Vec<u8>, kept: Kept) -> Result<(), AllocError>
-    ensures { OnOk result (out.new.items ≡ out.old.items ++ flat_map (λ v. codes " " ++ decimal v) (kept_versions kept)) }
-{
-    for i in 0..kept.len() {
-        out.extend_from_slice(b" ")?;
-        push_number(out, kept.at(i))?;
-    }
-    Ok(())
-}
-
-fn push_full(out: &mut Vec<u8>, operation: u64, kept: Kept) -> Result<(), AllocError>
-    ensures { OnOk result (out.new.items ≡ out.old.items ++ cause_text (outcomes.Full operation (kept_versions kept))) }
-{
-    out.extend_from_slice(b"full at ")?;
-    push_number(out, operation)?;
-    out.extend_from_slice(b" kept")?;
-    push_kept(out, kept)
-}
-
-fn push_cause(out: &mut Vec<u8>, cause: Cause) -> Result<(), AllocError>
-    ensures { OnOk result (out.new.items ≡ out.old.items ++ cause_text (cause_view cause)) }
-{
-    match cause {
-        Cause::Rule(refusal) => push_rule(out, refusal),
-        Cause::Full { operation, kept } => push_full(out, operation, kept),
-        Cause::Spent => out.extend_from_slice(b"spent"),
-    }
-}
-
-/// Pushes how a block ended that was refused.
-pub fn push_refused(out: &mut Vec<u8>, cause: Cause) -> Result<(), AllocError>
-    ensures { OnOk result (out.new.items ≡ out.old.items ++ ended_text (outcomes.Refused (cause_view cause))) }
-{
-    out.extend_from_slice(b"REFUSED ")?;
-    push_cause(out, cause)?;
-    out.extend_from_slice(b"\n")
-}
-
-/// Pushes the last line: the last version, and how many names it has.
-pub fn push_end(out: &mut Vec<u8>, last: u64, names: u64) -> Result<(), AllocError>
-    ensures { OnOk result (out.new.items ≡ out.old.items ++ (codes "end v" ++ decimal last ++ codes " names " ++ decimal names ++ codes "\n")) }
-{
-    out.extend_from_slice(b"end v")?;
-    push_number(out, last)?;
-    out.extend_from_slice(b" names ")?;
-    push_number(out, names)?;
-    out.extend_from_slice(b"\n")
-}
+use zone_model::ZoneKind;
 
 fn zone_kind_name(kind: ZoneKind) -> &'static [u8]
     ensures { result.now ≡ zone_kind_text kind }
@@ -138,7 +41,9 @@ fn script_kind_name(kind: ScriptKind) -> &'static [u8]
         ScriptKind::BadRdata => b"BadRdata",
         ScriptKind::BadNumber => b"BadNumber",
         ScriptKind::OpenBlock => b"OpenBlock",
-        ScriptKind::TooMany => b"TooMany",
+        ScriptKind::NotHeld => b"NotHeld",
+        ScriptKind::AlreadyHeld => b"AlreadyHeld",
+        ScriptKind::TooMany { limit: _ } => b"TooMany",
     }
 }
 
@@ -185,7 +90,7 @@ pub fn no_room(alloc: Global, cells: u64, limit: u64) -> Result<Vec<u8>, AllocEr
 
 /// The line of a zone that was checked: how many names and nodes version 0 has.
 pub fn size_line(alloc: Global, names: u64, nodes: u64) -> Result<Vec<u8>, AllocError>
-    ensures { IfOk result (λ v. v.items ≡ codes "v0 " ++ (codes "names " ++ decimal names ++ codes " nodes " ++ decimal nodes ++ codes "\n")) }
+    ensures { IfOk result (λ v. v.items ≡ codes "v0 " ++ size_text names nodes) }
 {
     let mut out = Vec::new(alloc);
     out.extend_from_slice(b"v0 ")?;

@@ -34,3 +34,13 @@ returns-then-says-2-clause-placed c =
       first_placed c.args.bytes.now c.in-Some.arguments.now c.in-Some-split_first.first.now c.in-Some-split_first.rest.now c.in-Some-split_first.ensures.cases.0 arguments,
       rest_placed c.args.bytes.now c.in-Some.arguments.now c.in-Some-split_first.first.now c.in-Some-split_first.rest.now c.in-Some-split_first.ensures.cases.0 arguments,
     )
+
+pub asked_of-requires-clause-word : goal.asked_of-requires-clause-word
+asked_of-requires-clause-word c =
+    first_placed c.args.bytes.now c.in-Some.arguments.now c.in-Some-split_first.first.now c.in-Some-split_first.rest.now c.in-Some-split_first.ensures.cases.0
+    (rest_placed c.args.bytes.now c.args.tokens.now c.in-Some.word.now c.in-Some.arguments.now c.in-Some.ensures.cases.0 c.requires)
+
+pub asked_of-requires-clause-arguments : goal.asked_of-requires-clause-arguments
+asked_of-requires-clause-arguments c =
+    rest_placed c.args.bytes.now c.in-Some.arguments.now c.in-Some-split_first.first.now c.in-Some-split_first.rest.now c.in-Some-split_first.ensures.cases.0
+    (rest_placed c.args.bytes.now c.args.tokens.now c.in-Some.word.now c.in-Some.arguments.now c.in-Some.ensures.cases.0 c.requires)

@@ -6,10 +6,10 @@ use Rattle.job_script.proofs.script.script_from.Given as goal
 
 abbrev pub invariant-loop-at : goal.invariant-loop-at
 invariant-loop-at l = record {
-  so_far : jobs.script_from l.origin l.first (lines_of (drop l.from l.bytes)) (script_view l.fn.script) ≡ jobs.script_from l.origin l.line (lines_of (drop l.at l.bytes)) (script_view l.script);
-  counted : l.line + length (lines_of (drop l.at l.bytes)) ≡ l.first + length (lines_of (drop l.from l.bytes));
+  so_far : jobs.script_from l.origin l.first (lines_of l.bytes) (script_view l.fn.script) ≡ jobs.script_from l.origin l.line (lines_of (drop l.at l.bytes)) (script_view l.script);
+  counted : l.line + length (lines_of (drop l.at l.bytes)) ≡ l.first + length (lines_of l.bytes);
   inside : l.at ≤ length l.bytes;
-  few : l.line ≤ l.at + 1;
+  few : l.line ≤ l.first + l.at;
 }
 
 abbrev pub decreases-loop-at : goal.decreases-loop-at

@@ -1,0 +1,57 @@
+-- What workers are told to do.
+use Rattle.std.specs.Prelude.{◌≡◌, ℕ, Bool, true, false, List, [], ◌∷◌}
+use Rattle.zone_model.specs.Names.{Name}
+use Rattle.zone_model.specs.Versions.{Version, Operation}
+use Rattle.job_model.specs.declared.Ending.{Ending}
+use Rattle.job_model.specs.declared.Weight.{Weight}
+
+-- names that follow a name in one direction, at most so many
+pub record Stretch : Type 0 where
+  pub start : Name
+  pub most : ℕ
+
+-- A question to one version: the answer for a name and a type; what there is of a name; names from a name on, or those before it;
+-- how large the version is.
+pub data Question : Type 0 where
+  Get : (name : Name) (rtype : ℕ) → Question
+  Find : (name : Name) → Question
+  Walk : (stretch : Stretch) → Question
+  Back : (stretch : Stretch) → Question
+  Stat : Question
+
+-- A question to the current version; a snapshot of that is taken, is asked, and is given back; a transaction.
+pub data Command : Type 0 where
+  Ask : (question : Question) → Command
+  Hold : Command
+  AskHeld : (question : Question) → Command
+  Release : Command
+  Block : (weight : Weight) (operations : List Operation) (ending : Ending) → Command
+
+-- a zone of an origin, and the commands of each worker
+pub record Job : Type 0 where
+  pub origin : Name
+  pub zone : Version
+  pub workers : List (List Command)
+
+-- ---- snapshots of a worker
+
+-- whether a snapshot is held behind a command
+abbrev pub held_after : Bool → Command → Bool
+held_after held (Ask question) = held
+held_after held Hold = true
+held_after held (AskHeld question) = held
+held_after held Release = false
+held_after held (Block _ operations ending) = held
+
+-- A snapshot is taken only while none is held, and asked or given back only while one is.
+abbrev pub MayCome : Bool → Command → Type 0
+MayCome held (Ask question) = Unit {0}
+MayCome held Hold = held ≡ false
+MayCome held (AskHeld question) = held ≡ true
+MayCome held Release = held ≡ true
+MayCome held (Block _ operations ending) = Unit {0}
+
+-- each of a worker's commands may come where it stands
+abbrev pub InTurn : Bool → List Command → Type 0
+InTurn held [] = Unit {0}
+InTurn held (command ∷ commands) = MayCome held command × InTurn (held_after held command) commands

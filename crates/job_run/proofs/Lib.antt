@@ -1,0 +1,5 @@
+pub mod RunLemmas
+pub mod StepLemmas
+pub mod JobLemmas
+pub mod SnapshotLemmas
+pub mod TransactLemmas

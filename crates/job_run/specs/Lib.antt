@@ -1,0 +1,5 @@
+pub mod Indexes
+pub mod Transactions
+pub mod Snapshots
+pub mod Histories
+pub mod Runs

@@ -1,0 +1,100 @@
+//! Lines inside a block.
+ghost use Rattle.std.specs.Prelude.{◌≡◌, ◌<◌, ◌≤◌, ◌+◌, ◌∷◌, ◌++◌, [], ℕ, List, length, map, Some, None, Option, Ok, Err, Result};
+ghost use Rattle.job_model.specs.Jobs as jobs;
+ghost use Rattle.job_script.specs.Phrases.{phrase_view, PhrasePlaced};
+ghost use Rattle.job_script.specs.Scripts.{unfinished_view, script_view, ScriptReads};
+ghost use Rattle.job_script.specs.Views.{operation_view};
+
+use crate::changes::{addition_of, deletion_of};
+use crate::commands::{Block, Command};
+use crate::operations::Operation;
+use crate::phrases::Phrase;
+use crate::refusal::{JobRefusal, refused, too_many};
+use crate::script::{Script, Unfinished};
+use dns_name::Name;
+use job_model::{Ending, ScriptKind, Weight};
+use std::alloc::Global;
+
+const OPERATION_LIMIT: usize = 10000;
+
+/// Takes a line, with the block that is open.
+pub fn inside(
+    script: &mut Script,
+    alloc: Global,
+    bytes: &[u8],
+    origin: &Name,
+    block: Unfinished,
+    line: u32,
+    phrase: Phrase,
+) -> Result<(), JobRefusal>
+    requires none { script.old.block ≡ None }
+    requires placed { PhrasePlaced bytes.now phrase }
+    ensures { ScriptReads result (script_view script.new) (jobs.inside origin.now line (unfinished_view block) (phrase_view bytes.now phrase.entry) (script_view script.old)) }
+{
+    match phrase {
+        Phrase::Worker => Err(refused(block.start, ScriptKind::OpenBlock)),
+        Phrase::Asks(_)
+        | Phrase::Holds
+        | Phrase::AsksHeld(_)
+        | Phrase::Releases
+        | Phrase::Opens(_) => Err(refused(line, ScriptKind::BadCommand)),
+        Phrase::Adds(_, _, _, _) | Phrase::Deletes(_, _)
+            if block.operations.len() >= OPERATION_LIMIT => Err(too_many(line, 10000)),
+        Phrase::Adds(owner, ttl, rtype, tokens) => {
+            match addition_of(alloc, bytes, origin, line, owner, ttl, rtype, tokens) {
+                Ok(operation) => join(script, block, operation),
+                Err(refusal) => Err(refusal),
+            }
+        }
+        Phrase::Deletes(owner, rest) => {
+            match deletion_of(alloc, bytes, origin, line, owner, rest) {
+                Ok(operation) => join(script, block, operation),
+                Err(refusal) => Err(refusal),
+            }
+        }
+        Phrase::Ends(ending) => end_block(script, block, line, ending),
+    }
+}
+
+// An operation joins a block that has room for it.
+fn join(script: &mut Script, mut block: Unfinished, operation: Operation) -> Result<(), JobRefusal>
+    requires { script.old.block ≡ None }
+    ensures { ScriptReads result (script_view script.new) (jobs.with_operation (unfinished_view block) (script_view script.old) (operation_view operation)) }
+{
+    block.operations.push(operation)?;
+    script.block = Some(block);
+    Ok(())
+}
+
+// Only a heavy transaction may be rolled back.
+fn may_end(weight: Weight, ending: Ending) -> bool
+    ensures { result ≡ jobs.may_end weight ending }
+{
+    match (weight, ending) {
+        (Weight::Light, Ending::Commit) => true,
+        (Weight::Light, Ending::Rollback) => false,
+        (Weight::Heavy, Ending::Commit) => true,
+        (Weight::Heavy, Ending::Rollback) => true,
+    }
+}
+
+// A block ends.
+fn end_block(
+    script: &mut Script,
+    block: Unfinished,
+    line: u32,
+    ending: Ending,
+) -> Result<(), JobRefusal>
+    requires { script.old.block ≡ None }
+    ensures { ScriptReads result (script_view script.new) (jobs.ended line (unfinished_view block) ending (script_view script.old)) }
+{
+    if !may_end(block.weight, ending) {
+        return Err(refused(line, ScriptKind::BadCommand));
+    }
+    script.commands.push(Command::Block(Block {
+        weight: block.weight,
+        operations: block.operations,
+        ending,
+    }))?;
+    Ok(())
+}

@@ -1,0 +1,72 @@
+//! How commands ended.
+ghost use Rattle.std.specs.Prelude.{◌≡◌};
+ghost use Rattle.std.specs.List.{list_any};
+ghost use Rattle.job_model.specs.Outcomes.{is_refused};
+ghost use Rattle.job_script.specs.Outcomes.{ended_view};
+
+use crate::replies::Reply;
+use zone_model::Refusal;
+
+/// Why a transaction makes no version.
+#[derive(Drop)]
+pub enum Cause {
+    /// A rule of zones.
+    Rule(Refusal),
+    /// No room for an operation, by its number from 1, while these versions are kept. They rise.
+    Full { operation: u64, kept: Vec<u64> },
+    /// No number is left for the next version.
+    Spent,
+}
+
+/// What a command came to.
+#[derive(Drop)]
+pub enum Told {
+    /// A question's reply.
+    Reply(Reply),
+    /// A snapshot was taken.
+    Held,
+    /// It was given back.
+    Released,
+    /// A transaction made a version.
+    Committed,
+    RolledBack,
+    Refused(Cause),
+}
+
+/// A command's version and what is printed of it. The version is the one that a question or a snapshot shows, that a
+/// commit made, or that a transaction was on which changed nothing.
+#[derive(Drop)]
+pub struct Outcome {
+    pub version: u64,
+    pub told: Told,
+}
+
+/// One worker's outcomes, one for each command, in order.
+#[derive(Drop)]
+pub struct Outcomes {
+    pub list: Vec<Outcome>,
+}
+
+// Whether a transaction was refused.
+fn is_refused(outcome: &Outcome) -> bool
+    ensures { result ≡ is_refused (ended_view outcome.now.told) }
+{
+    match &outcome.told {
+        Told::Refused(_) => true,
+        Told::Reply(_) | Told::Held | Told::Released | Told::Committed | Told::RolledBack => false,
+    }
+}
+
+// Whether one of a worker's transactions was refused.
+fn some_refused(worker: &Outcomes) -> bool
+    ensures { result ≡ list_any (λ o. is_refused (ended_view o.told)) worker.now.list.items }
+{
+    worker.list.iter().any(|outcome| is_refused(outcome))
+}
+
+/// Whether some worker's transaction was refused.
+pub fn any_refused(outcomes: &[Outcomes]) -> bool
+    ensures { result ≡ list_any (λ os. list_any (λ o. is_refused (ended_view o.told)) os.list.items) outcomes.now }
+{
+    outcomes.iter().any(|worker| some_refused(worker))
+}

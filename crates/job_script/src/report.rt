@@ -1,0 +1,160 @@
+//! The report of a job.
+ghost use Rattle.std.specs.Prelude.{◌≡◌, ◌<◌, ◌≤◌, ◌+◌, ◌++◌, ◌∷◌, [], ℕ, List, length, OnOk, IfOk, codes, decimal};
+ghost use Rattle.std.specs.List.{flat_map};
+ghost use Rattle.job_model.specs.Outcomes as outcomes;
+ghost use Rattle.job_model.specs.Reports.{head_text, ended_text, cause_text, end_text, report, rule_text};
+ghost use Rattle.job_script.specs.Outcomes.{cause_view, told_text, outcome_text, outcomes_text, all_text, AllTell, job_pairs, versions_made};
+ghost use Rattle.job_script.specs.Views.{job_view};
+
+use crate::commands::Job;
+use crate::outcomes::{Cause, Outcome, Outcomes, Told};
+use crate::replies::{push_number, push_reply};
+use master_file::Zone;
+use std::alloc::{AllocError, Global};
+use zone_model::Refusal;
+
+// Worker, command and version.
+fn push_head(out: &mut Vec<u8>, worker: u64, command: u64, version: u64) -> Result<(), AllocError>
+    ensures { OnOk result (out.new.items ≡ out.old.items ++ head_text worker command version) }
+{
+    push_number(out, worker)?;
+    out.extend_from_slice(b".")?;
+    push_number(out, command)?;
+    out.extend_from_slice(b" v")?;
+    push_number(out, version)?;
+    out.extend_from_slice(b" ")
+}
+
+fn push_rule(out: &mut Vec<u8>, refusal: Refusal) -> Result<(), AllocError>
+    ensures { OnOk result (out.new.items ≡ out.old.items ++ rule_text refusal) }
+{
+    match refusal {
+        Refusal::Soa => out.extend_from_slice(b"soa"),
+        Refusal::Cname => out.extend_from_slice(b"cname"),
+        Refusal::Long => out.extend_from_slice(b"long"),
+    }
+}
+
+fn push_kept(out: &mut Vec<u8>, kept: &[u64]) -> Result<(), AllocError>
+    ensures { OnOk result (out.new.items ≡ out.old.items ++ flat_map (λ v. codes " " ++ decimal v) kept.now) }
+{
+    for version in kept {
+        out.extend_from_slice(b" ")?;
+        push_number(out, *version)?;
+    }
+    Ok(())
+}
+
+fn push_full(out: &mut Vec<u8>, operation: u64, kept: &[u64]) -> Result<(), AllocError>
+    ensures { OnOk result (out.new.items ≡ out.old.items ++ cause_text (outcomes.Full operation kept.now)) }
+{
+    out.extend_from_slice(b"full at ")?;
+    push_number(out, operation)?;
+    out.extend_from_slice(b" kept")?;
+    push_kept(out, kept)
+}
+
+fn push_cause(out: &mut Vec<u8>, cause: &Cause) -> Result<(), AllocError>
+    ensures { OnOk result (out.new.items ≡ out.old.items ++ cause_text (cause_view cause.now)) }
+{
+    match cause {
+        Cause::Rule(refusal) => push_rule(out, *refusal),
+        Cause::Full { operation, kept } => push_full(out, *operation, kept),
+        Cause::Spent => out.extend_from_slice(b"spent"),
+    }
+}
+
+fn push_refused(out: &mut Vec<u8>, cause: &Cause) -> Result<(), AllocError>
+    ensures { OnOk result (out.new.items ≡ out.old.items ++ ended_text (outcomes.Refused (cause_view cause.now))) }
+{
+    out.extend_from_slice(b"REFUSED ")?;
+    push_cause(out, cause)?;
+    out.extend_from_slice(b"\n")
+}
+
+fn push_told(out: &mut Vec<u8>, told: &Told) -> Result<(), AllocError>
+    ensures { OnOk result (out.new.items ≡ out.old.items ++ told_text told.now) }
+{
+    match told {
+        Told::Reply(reply) => push_reply(out, reply),
+        Told::Held => out.extend_from_slice(b"HELD\n"),
+        Told::Released => out.extend_from_slice(b"RELEASED\n"),
+        Told::Committed => out.extend_from_slice(b"COMMITTED\n"),
+        Told::RolledBack => out.extend_from_slice(b"ROLLED BACK\n"),
+        Told::Refused(cause) => push_refused(out, cause),
+    }
+}
+
+fn push_outcome(
+    out: &mut Vec<u8>,
+    worker: u64,
+    command: u64,
+    outcome: &Outcome,
+) -> Result<(), AllocError>
+    ensures { OnOk result (out.new.items ≡ out.old.items ++ outcome_text worker command outcome.now) }
+{
+    push_head(out, worker, command, outcome.version)?;
+    push_told(out, &outcome.told)
+}
+
+fn push_outcomes(out: &mut Vec<u8>, worker: u64, list: &[Outcome]) -> Result<(), AllocError>
+    ensures { OnOk result (out.new.items ≡ out.old.items ++ outcomes_text worker 1 list.now) }
+{
+    for (place, outcome) in list.iter().enumerate() {
+        push_outcome(out, worker, place as u64 + 1, outcome)?;
+    }
+    Ok(())
+}
+
+fn push_all(out: &mut Vec<u8>, workers: &[Outcomes]) -> Result<(), AllocError>
+    ensures { OnOk result (out.new.items ≡ out.old.items ++ all_text 1 workers.now) }
+{
+    for (place, outcomes) in workers.iter().enumerate() {
+        push_outcomes(out, place as u64 + 1, &outcomes.list)?;
+    }
+    Ok(())
+}
+
+// The last line: the last version, and how many names it has.
+fn push_end(out: &mut Vec<u8>, last: u64, names: u64) -> Result<(), AllocError>
+    ensures { OnOk result (out.new.items ≡ out.old.items ++ end_text last names) }
+{
+    out.extend_from_slice(b"end v")?;
+    push_number(out, last)?;
+    out.extend_from_slice(b" names ")?;
+    push_number(out, names)?;
+    out.extend_from_slice(b"\n")
+}
+
+/// Prints the outcomes of workers, the last version, and how many names that has. Where the outcomes are those of a
+/// job, this is its report.
+pub fn print_outcomes(
+    alloc: Global,
+    outcomes: &[Outcomes],
+    version: u64,
+    names: u64,
+) -> Result<Vec<u8>, AllocError>
+    ensures { IfOk result (λ text. text.items ≡ all_text 1 outcomes.now ++ end_text version names) }
+{
+    let mut out = Vec::new(alloc);
+    push_all(&mut out, outcomes)?;
+    push_end(&mut out, version, names)?;
+    Ok(out)
+}
+
+/// Prints the report of a job that was run on a zone: its outcomes, a list for each worker, then the last version and
+/// how many names that has. The zone and the job are read by the conditions alone.
+pub fn print_report(
+    alloc: Global,
+    _zone: &Zone,
+    _job: &Job,
+    outcomes: &[Outcomes],
+    version: u64,
+    names: u64,
+) -> Result<Vec<u8>, AllocError>
+    requires tell { AllTell _zone.now.origin (versions_made _zone.now.origin _zone.now.pairs (job_view _job.now) outcomes.now) (job_view _job.now) outcomes.now }
+    requires names { names ≡ length (versions_made _zone.now.origin _zone.now.pairs (job_view _job.now) outcomes.now version) }
+    ensures { IfOk result (λ text. text.items ≡ report _zone.now.origin _zone.now.pairs (job_pairs (job_view _job.now) outcomes.now) version) }
+{
+    print_outcomes(alloc, outcomes, version, names)
+}
