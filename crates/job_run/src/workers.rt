@@ -35,7 +35,7 @@ fn run_command(
 {
     match command {
         Command::Ask(question) => {
-            let outcome = run_question(alloc, origin, index, question, item)?;
+            let outcome = run_question(alloc, origin, index, question, &mut buffers.before)?;
             Ok(outcome)
         }
         Command::Hold => {
@@ -50,7 +50,7 @@ fn run_command(
         Command::AskHeld(_) => Ok(ask_held(held)),
         Command::Release => Ok(release(held)),
         Command::Block(block) => {
-            let outcome = run_block(alloc, origin, index, block)?;
+            let outcome = run_block(alloc, origin, index, block, buffers)?;
             Ok(outcome)
         }
     }
