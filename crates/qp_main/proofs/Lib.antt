@@ -1,3 +1,4 @@
 pub mod InvocationLemmas
 pub mod DueLemmas
 pub mod OpeningLemmas
+pub mod ReportingLemmas

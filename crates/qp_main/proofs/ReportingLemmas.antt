@@ -1,0 +1,43 @@
+-- What is reported of a job that was run.
+use Rattle.std.proofs.Common.{◌≡◌, ◌∙◌, ℕ, ◌-◌, Bool, cond, List, ◌++◌, length, take, drop, Result, sym, ap, subst, arith}
+use Rattle.std.proofs.lemmas.List.{take_all, length-drop}
+use Rattle.std.specs.List.{list_any}
+use Rattle.zone_model.specs.Names.{Name}
+use Rattle.zone_model.specs.Versions.{Version}
+use Rattle.zone_model.specs.Refusals.{Refused}
+use Rattle.zone_model.specs.Lines.{lines_of}
+use Rattle.job_model.specs.declared.ScriptKind.{ScriptKind}
+use Rattle.job_model.specs.Commands.{Command}
+use Rattle.job_model.specs.Jobs.{script_of, script_start, script_lines}
+use Rattle.job_model.specs.Outcomes.{is_refused, some_refused}
+use Rattle.job_model.specs.Reports.{end_text}
+use Rattle.job_script.specs.Parts.{IsCutAt}
+use Rattle.job_script.specs.declared.parts.Parts.{Parts}
+use Rattle.job_script.specs.Outcomes.{ended_view, job_pairs, versions_made, all_text}
+use Rattle.job_script.specs.declared.outcomes.Outcome.{Outcome}
+use Rattle.job_script.specs.declared.outcomes.Outcomes.{Outcomes}
+use Rattle.job_script.proofs.ReportLemmas.{reported, refused_told, workers_same}
+use Rattle.job_run.specs.Runs.{IsRun}
+use Rattle.job_run.specs.declared.workers.Finished.{Finished}
+use Rattle.qp_main.specs.Due.{Reported}
+use Rattle.qp_main.specs.declared.status.Status.{Status}
+use Rattle.qp_main.specs.declared.status.Status.TheVariants as status
+
+pub job_reported : (chunks : ℕ) (origin : Name) (zone : Version) (ws : List (List Command)) (f : Finished) (text : List ℕ) (refused : Bool) (s : Status) → IsRun chunks origin zone ws f → text ≡ all_text 1 f.outcomes.items ++ end_text f.version f.names
+    → refused ≡ list_any (λ (w : Outcomes). list_any (λ (o : Outcome). is_refused (ended_view o.told)) w.list.items) f.outcomes.items → s ≡ cond refused status.SomeRefused status.Done
+    → Reported chunks (record { origin = origin; zone = zone; workers = ws }) s text
+job_reported chunks origin zone ws f text refused s r printed some ended = record {
+  workers = job_pairs ws f.outcomes.items;
+  last = f.version;
+  same = workers_same origin (versions_made origin zone ws f.outcomes.items) ws f.outcomes.items r.tell;
+  lawful = r.lawful;
+  is = printed ∙ reported origin zone ws f.outcomes.items f.version f.names r.tell r.names;
+  ended = ended ∙ ap (λ (b : Bool). cond b status.SomeRefused status.Done) (some ∙ refused_told origin (versions_made origin zone ws f.outcomes.items) ws f.outcomes.items r.tell);
+}
+
+-- the script behind the place where an input is cut
+pub script_read : (origin : Name) (bytes : List ℕ) (p : Parts) (out : Result (List (List Command)) (Refused ScriptKind)) → IsCutAt bytes p → script_of origin p.first_line (lines_of (take (length bytes - p.script_from) (drop p.script_from bytes))) ≡ out
+    → script_of origin (script_start bytes) (script_lines bytes) ≡ out
+script_read origin bytes p out cut read =
+    let whole : take (length bytes - p.script_from) (drop p.script_from bytes) ≡ drop p.script_from bytes = take_all (length bytes - p.script_from) (drop p.script_from bytes) (omega (arith, length-drop p.script_from bytes)) in
+    ap (λ (n : ℕ). script_of origin n (script_lines bytes)) (sym cut.first) ∙ ap (script_of origin p.first_line) (sym cut.script) ∙ ap (λ (l : List ℕ). script_of origin p.first_line (lines_of l)) (sym whole) ∙ read
