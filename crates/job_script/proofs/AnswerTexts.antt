@@ -1,5 +1,5 @@
 -- The records of an answer as text.
-use Rattle.std.proofs.Common.{◌≡◌, ◌∙◌, ℕ, List, [], ◌∷◌, ◌++◌, map, refl, sym, ap, append_assoc}
+use Rattle.std.proofs.Common.{◌≡◌, ◌∙◌, ℕ, zero, suc, ◌≤◌, List, [], ◌∷◌, ◌++◌, length, take, map, refl, sym, ap, arith, append_assoc}
 use Rattle.std.proofs.lemmas.Grind.{flat_map-append}
 use Rattle.std.specs.List.{flat_map}
 use Rattle.zone_model.specs.Names.{Name}
@@ -26,3 +26,14 @@ pushed_one owner rtype ttl octets old now wanted all rest h e p =
 pub rows_text : (sets : List OwnedSet) → flat_map set_text sets ≡ flat_map row_text (rows_in sets)
 rows_text [] = refl
 rows_text (s ∷ sets) = ap (λ (l : List ℕ). set_text s ++ l) (rows_text sets) ∙ sym (flat_map-append row_text (rows_of s.owner s.set) (rows_in sets))
+
+take_all : (sets : List OwnedSet) (i : ℕ) → length sets ≤ i → take i sets ≡ sets
+take_all [] zero h = refl
+take_all [] (suc i) h = refl
+take_all (s ∷ sets) zero h = absurd (omega arith)
+take_all (s ∷ sets) (suc i) h = ap (λ (l : List OwnedSet). s ∷ l) (take_all sets i (omega arith))
+
+-- all were pushed
+pub all_pushed : (old now : List ℕ) (sets : List OwnedSet) (rows : List Row) (i : ℕ) → now ≡ old ++ flat_map set_text (take i sets) → length sets ≤ i → rows_in sets ≡ rows → now ≡ old ++ flat_map row_text rows
+all_pushed old now sets rows i h l e =
+    h ∙ ap (λ (x : List OwnedSet). old ++ flat_map set_text x) (take_all sets i l) ∙ ap (λ (x : List ℕ). old ++ x) (rows_text sets ∙ ap (flat_map row_text) e)
