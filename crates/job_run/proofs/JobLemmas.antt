@@ -1,20 +1,17 @@
 -- How a job's run goes on by one worker, and what it has come to in the end.
-use Rattle.std.proofs.Common.{◌≡◌, ◌∙◌, ℕ, zero, suc, ◌+◌, ◌-◌, ◌<◌, ◌≤◌, Bool, true, false, cond, ◌&&◌, eqb, ◌⊎◌, List, [], ◌∷◌, ◌++◌, length, sym, ap, subst, refl, arith, append_assoc, append-nil, length-append, Result, Ok, Err, inl, inr}
-use Rattle.std.proofs.lemmas.Bool.{cases_eq}
+use Rattle.std.proofs.Common.{◌≡◌, ◌∙◌, ℕ, zero, suc, ◌+◌, ◌-◌, ◌<◌, ◌≤◌, Bool, true, false, cond, ◌&&◌, eqb, ◌⊎◌, List, [], ◌∷◌, ◌++◌, length, sym, ap, subst, refl, arith, append_assoc, append-nil, length-append, Ok, inl, inr}
 use Rattle.std.proofs.lemmas.Bool.Decides.{nat_tests}
 use Rattle.std.specs.List.{AllByRecursion}
 use Rattle.zone_model.specs.Names.{Name}
 use Rattle.zone_model.specs.Versions.{Version, Operation, whole}
-use Rattle.zone_model.specs.declared.Refusal.{Refusal}
 use Rattle.job_model.specs.Commands.{Command}
-use Rattle.job_model.specs.Outcomes.{Setting, Pair, is_committed, made, operations_of, operations_at, accepted_or, after, times_made, version_at, at_first, Along, AllAlong, all_pairs, passes_for, shown_in, setting_of, Lawful}
-use Rattle.job_script.specs.Outcomes.{outcome_view, pairs_of, job_pairs, versions_made, EachTells, AllTell}
-use Rattle.job_script.specs.declared.outcomes.Outcome.{Outcome as Told_outcome}
+use Rattle.job_model.specs.Outcomes.{Setting, Pair, is_committed, made, operations_of, operations_at, accepted_or, after, times_made, at_first, Along, AllAlong, all_pairs, passes_for, shown_in}
+use Rattle.job_script.specs.Outcomes.{pairs_of, job_pairs, versions_made, EachTells, AllTell}
 use Rattle.job_script.specs.declared.outcomes.Outcomes.{Outcomes}
-use Rattle.job_run.specs.Histories.{at, Stands}
+use Rattle.job_run.specs.Histories.{at}
 use Rattle.qp_multi.specs.declared.index.Index.{Index}
 use Rattle.job_run.specs.Indexes.{Keeps}
-use Rattle.job_run.specs.Runs.{setting_on, Replayed, Made, Work, WorkerRan, Works, JobRan, IsRun}
+use Rattle.job_run.specs.Runs.{setting_on, Replayed, Work, WorkerRan, Works, JobRan, IsRun}
 use Rattle.job_run.specs.declared.workers.Finished.{Finished}
 use Rattle.job_run.proofs.RunLemmas.{Pairs, Agree, Within, at-front, all-append, within_more, along_alike, each_alike, times-append, none_made, all_replayed}
 

@@ -1,7 +1,6 @@
 -- How a worker's run goes on by one command.
-use Rattle.std.proofs.Common.{◌≡◌, ◌∙◌, ℕ, zero, suc, ◌+◌, ◌-◌, ◌/◌, ◌<◌, ◌≤◌, Bool, true, false, cond, ◌&&◌, eqb, List, [], ◌∷◌, ◌++◌, length, map, sym, ap, subst, refl, arith, append_assoc, append-nil, length-append, Option, Some, None, Result, Ok, Err, inl, inr, IsOk}
+use Rattle.std.proofs.Common.{◌≡◌, ◌∙◌, ℕ, zero, suc, ◌+◌, ◌-◌, ◌/◌, ◌<◌, ◌≤◌, Bool, true, false, cond, ◌&&◌, eqb, List, [], ◌∷◌, ◌++◌, length, sym, ap, subst, refl, arith, append_assoc, length-append, Ok, inl, inr, IsOk}
 use Rattle.std.proofs.lemmas.Bool.{cases_eq}
-use Rattle.std.specs.Option.{is_some}
 use Rattle.std.specs.List.{AllByRecursion}
 use Rattle.std.specs.List.Sorted.{IsStrictlySortedBy}
 use Rattle.std.specs.Ordering.{nat_cmp}
@@ -9,26 +8,17 @@ use Rattle.std.specs.Cmp.{ranked}
 use Rattle.std.specs.declared.cmp.Ordering.TheVariants.{Less}
 use Rattle.zone_model.specs.Names.{Name}
 use Rattle.zone_model.specs.Versions.{Version, Operation, whole}
-use Rattle.zone_model.specs.declared.Refusal.{Refusal}
 use Rattle.job_model.specs.declared.Ending.{Ending}
-use Rattle.job_model.specs.declared.Ending.TheVariants.{Commit}
-use Rattle.job_model.specs.declared.Weight.{Weight}
 use Rattle.job_model.specs.Sizes.{cell_count}
-use Rattle.job_model.specs.Commands.{Question, Command, Ask, Hold, AskHeld, Release, Block, held_after, MayCome, InTurn}
+use Rattle.job_model.specs.Commands.{Command, Ask, Hold, AskHeld, Release, Block}
 use Rattle.job_model.specs.Replies.{Reply, reply_of}
-use Rattle.job_model.specs.Outcomes.{Setting, Outcome, Pair, Cause, Rule, Full, Spent, Causes, cells_kept, Ended, Shown, Committed, RolledBack, Refused, is_committed, made, operations_of, times_made, Sight, at_first, sight_after, Shows, BlockEnds, EndsLawfully, Along}
-use Rattle.job_script.specs.Replies.{reply_view}
-use Rattle.job_script.specs.Outcomes.{ended_view, outcome_view, pairs_of, Replies, EndsBlock, Tells, EachTells}
+use Rattle.job_model.specs.Outcomes.{Setting, Pair, Cause, Rule, Full, Spent, Causes, cells_kept, Ended, Shown, Committed, RolledBack, Refused, is_committed, made, operations_of, times_made, Sight, at_first, sight_after, BlockEnds, EndsLawfully, Along}
+use Rattle.job_script.specs.Outcomes.{outcome_view, pairs_of, Replies, Tells, EachTells}
 use Rattle.job_script.specs.declared.outcomes.Told.{Told}
-use Rattle.job_script.specs.declared.outcomes.Told.TheVariants as told
 use Rattle.job_script.specs.declared.outcomes.Outcome.{Outcome as Told_outcome}
-use Rattle.qp_multi.specs.declared.index.Index.{Index}
-use Rattle.job_run.specs.Indexes.{Keeps}
-use Rattle.job_run.specs.Histories.{at, Stands}
-use Rattle.job_run.specs.Snapshots.{held_questions, HoldsAt, CanReply, CanRelease, TellsHeld, TellsFirst, Releases}
-use Rattle.job_run.specs.Transactions.{KeptAlone, on_version, CausesOn, Transacts, version_of, BlockRan}
-use Rattle.job_run.specs.Runs.{IsReady, HoldsSome, Stepped, setting_on, Replayed, Made, Work}
-use Rattle.job_run.specs.declared.snapshots.Snapshot.{Snapshot}
+use Rattle.job_run.specs.Histories.{at}
+use Rattle.job_run.specs.Transactions.{KeptAlone, on_version}
+use Rattle.job_run.specs.Runs.{setting_on, Replayed, Made}
 
 abbrev pub Pairs : Type 0
 Pairs = List Pair

@@ -1,6 +1,6 @@
 -- Replies that a snapshot is taken with.
-use Rattle.std.proofs.Common.{◌≡◌, ◌∙◌, ℕ, ◌+◌, ◌-◌, ◌<◌, ◌≤◌, Bool, true, false, List, [], ◌∷◌, ◌++◌, length, map, drop, take, get_or, zero, suc, refl, sym, ap, subst, arith, append_assoc, append-nil}
-use Rattle.std.proofs.lemmas.List.{map-append, map_more, drop_more, drop_all, take_all, length-drop}
+use Rattle.std.proofs.Common.{◌≡◌, ◌∙◌, ℕ, ◌+◌, ◌-◌, ◌<◌, true, false, List, [], ◌∷◌, ◌++◌, length, map, drop, take, get_or, zero, suc, sym, ap, subst, arith, append_assoc, append-nil}
+use Rattle.std.proofs.lemmas.List.{map-append, map_more, drop_more, take_all, length-drop}
 use Rattle.std.specs.List.{AllByRecursion}
 use Rattle.zone_model.specs.Names.{Name}
 use Rattle.zone_model.specs.Versions.{Version}
@@ -8,7 +8,7 @@ use Rattle.job_model.specs.Commands.{Question, Command, AskHeld}
 use Rattle.job_model.specs.Replies.{Reply, reply_of}
 use Rattle.job_script.specs.Replies.{reply_view}
 use Rattle.job_script.specs.declared.replies.Reply.{Reply as Said}
-use Rattle.job_run.specs.Snapshots.{held_questions, questions_left, TakesReply}
+use Rattle.job_run.specs.Snapshots.{held_questions, TakesReply}
 
 -- an element and what stands behind it, as they are seen
 pub drop_here : {X Y : Type 0} (view : X → Y) (xs : List X) (i : ℕ) (here : X) → i < length xs → here ≡ get_or xs i here → map view (drop i xs) ≡ view here ∷ map view (drop (i + 1) xs)

@@ -1,28 +1,26 @@
 -- How far a worker's run has come, and how one command takes it further.
-use Rattle.std.proofs.Common.{◌≡◌, ◌∙◌, ℕ, zero, suc, ◌+◌, ◌-◌, ◌<◌, ◌≤◌, Bool, true, false, List, [], ◌∷◌, ◌++◌, length, map, sym, ap, subst, refl, arith, append_assoc, append-nil, length-append, Option, Some, None, Result, Ok, Err, IsOk}
+use Rattle.std.proofs.Common.{◌≡◌, ◌∙◌, ℕ, ◌+◌, ◌-◌, ◌<◌, ◌≤◌, Bool, false, List, [], ◌∷◌, ◌++◌, length, map, sym, ap, subst, refl, arith, append-nil, length-append, Option, Some, None, Result, Ok, Err, IsOk}
 use Rattle.std.proofs.lemmas.List.{length-map}
 use Rattle.std.specs.Option.{is_some}
 use Rattle.zone_model.specs.Names.{Name}
 use Rattle.zone_model.specs.Versions.{Version, Operation, whole}
 use Rattle.zone_model.specs.declared.Refusal.{Refusal}
 use Rattle.job_model.specs.declared.Ending.{Ending}
-use Rattle.job_model.specs.declared.Ending.TheVariants.{Commit}
 use Rattle.job_model.specs.declared.Weight.{Weight}
 use Rattle.job_model.specs.Commands.{Question, Command, Ask, Hold, AskHeld, Release, Block, held_after, MayCome, InTurn}
 use Rattle.job_model.specs.Replies.{Reply, reply_of}
 use Rattle.job_model.specs.Outcomes.{Outcome, Pair, Ended, Shown, Committed, RolledBack, Refused, is_committed, Sight, at_first, sight_after, Shows, EndsLawfully, BlockEnds}
 use Rattle.job_script.specs.Replies.{reply_view}
 use Rattle.job_script.specs.Outcomes.{ended_view, outcome_view, pairs_of, Replies, EndsBlock, Tells, EachTells}
-use Rattle.job_script.specs.declared.replies.Reply.{Reply as Said}
 use Rattle.job_script.specs.declared.outcomes.Told.{Told}
 use Rattle.job_script.specs.declared.outcomes.Told.TheVariants as told
 use Rattle.job_script.specs.declared.outcomes.Outcome.{Outcome as Told_outcome}
 use Rattle.qp_multi.specs.declared.index.Index.{Index}
 use Rattle.job_run.specs.Indexes.{Keeps}
 use Rattle.job_run.specs.Histories.{at, Stands}
-use Rattle.job_run.specs.Snapshots.{held_questions, HoldsAt, CanReply, CanRelease, TellsHeld, TellsFirst, Releases}
+use Rattle.job_run.specs.Snapshots.{held_questions, HoldsAt, TellsHeld, TellsFirst, Releases}
 use Rattle.job_run.specs.Transactions.{Transacts, version_of, BlockRan}
-use Rattle.job_run.specs.Runs.{IsReady, HoldsSome, Stepped, setting_on, Made, Work, WorkerRan}
+use Rattle.job_run.specs.Runs.{IsReady, HoldsSome, Stepped, setting_on, Made, WorkerRan}
 use Rattle.job_run.specs.declared.snapshots.Snapshot.{Snapshot}
 use Rattle.job_run.proofs.RunLemmas.{Pairs, Agree, at-front, at-last, sight_behind, sight_behind-push, causes_at, made_same, made_next, each_alike, each-push, pairs-push}
 

@@ -1,5 +1,5 @@
 -- The versions of an index, from version 0 on.
-use Rattle.std.specs.Prelude.{ℕ, zero, suc, ◌+◌, ◌-◌, ◌<◌, List, [], ◌∷◌, ◌++◌, length}
+use Rattle.std.specs.Prelude.{ℕ, zero, suc, ◌-◌, ◌<◌, List, [], ◌∷◌, length}
 use Rattle.zone_model.specs.Versions.{Version}
 use Rattle.qp_multi.specs.declared.index.Index.{Index}
 use Rattle.job_run.specs.Indexes.{Keeps}

@@ -1,4 +1,4 @@
-use Rattle.std.proofs.Common.{◌≡◌, ◌∙◌, ℕ, ◌+◌, ◌++◌, ◌≤◌, Bool, true, false, List, [], length, drop, map, sym, ap, subst, arith, append-nil}
+use Rattle.std.proofs.Common.{◌∙◌, ◌+◌, ◌++◌, ◌≤◌, Bool, List, length, drop, map, sym, ap, subst, arith, append-nil}
 use Rattle.std.proofs.lemmas.List.{drop_all}
 use Rattle.job_model.specs.Replies.{reply_of}
 use Rattle.job_script.specs.Replies.{reply_view}

@@ -1,4 +1,4 @@
-use Rattle.std.proofs.Common.{◌∙◌, ℕ, ◌-◌, List, length, sym, ap, subst}
+use Rattle.std.proofs.Common.{◌∙◌, ◌-◌, List, length, subst}
 use Rattle.std.proofs.lemmas.List.{length-map}
 use Rattle.zone_answer.specs.Standing.{trie_entry}
 use Rattle.job_model.specs.Sizes.{trie_entries}

@@ -1,4 +1,4 @@
-use Rattle.std.proofs.Common.{◌≡◌, ◌∙◌, ℕ, ◌+◌, ◌-◌, ◌≤◌, List, [], ◌∷◌, ◌++◌, false, length, take, map, sym, ap, subst, arith}
+use Rattle.std.proofs.Common.{◌≤◌, List, [], ◌∷◌, ◌++◌, false, length, take, map, sym, subst, arith}
 use Rattle.std.proofs.lemmas.List.{take_all}
 use Rattle.job_model.specs.Commands.{Command, InTurn}
 use Rattle.job_script.specs.Views.{command_view, worker_view, workers_view}
