@@ -3,3 +3,4 @@ pub mod InvocationLemmas
 pub mod DueLemmas
 pub mod OpeningLemmas
 pub mod TransactLemmas
+pub mod AnswerTexts

@@ -1,7 +1,7 @@
 // Answers to questions, as they are printed.
 ghost use Rattle.std.specs.Prelude.{◌≡◌, ◌++◌, OnOk, codes, decimal};
 ghost use Rattle.std.specs.List.{flat_map};
-ghost use Rattle.zone_model.specs.Rows.{row_text};
+ghost use Rattle.zone_model.specs.Rows.{row_text, rows_of};
 ghost use Rattle.zone_model.specs.Versions.{Version};
 ghost use Rattle.zone_answer.specs.Standing.{Shows, ShowsSome};
 ghost use Rattle.job_script.specs.Views.{question_view};
@@ -11,10 +11,10 @@ ghost use Rattle.job_model.specs.Reports.{answer_text, count_text, kind_text};
 use dns_name::Name;
 use itoa::Buffer;
 use job_script::Question;
-use rr_data::push_type;
+use rr_data::{SetView, push_data, push_type};
 use std::alloc::{AllocError, Global};
 use trie_read::{Kind as Presence, Reading};
-use zone_answer::{Answer, Kind, Row, answer_by};
+use zone_answer::{Answer, Kind, OwnedSet, Rows, answer_by};
 use zone_names::{Found, back, find, walk};
 
 pub fn push_number(out: &mut Vec<u8>, number: u64) -> Result<(), AllocError>
@@ -24,25 +24,42 @@ pub fn push_number(out: &mut Vec<u8>, number: u64) -> Result<(), AllocError>
     out.extend_from_slice(buffer.format(number).as_bytes())
 }
 
-// A record as a line of a master file.
-fn push_row(out: &mut Vec<u8>, row: &Row) -> Result<(), AllocError>
-    ensures { OnOk result (out.new.items ≡ out.old.items ++ row_text row.now) }
+// A record of an RRset as a line of a master file.
+fn push_row(
+    out: &mut Vec<u8>,
+    owner: &Name,
+    set: &SetView<'_>,
+    octets: &[u8],
+) -> Result<(), AllocError>
+    ensures { OnOk result (out.new.items ≡ out.old.items ++ row_text (record { owner = owner.now; rtype = set.now.rtype; ttl = set.now.ttl; octets = octets.now })) }
 {
-    row.owner().push_text(out)?;
+    owner.push_text(out)?;
     out.extend_from_slice(b" ")?;
-    push_number(out, u64::from(row.ttl()))?;
+    push_number(out, u64::from(set.ttl()))?;
     out.extend_from_slice(b" IN ")?;
-    push_type(row.rtype(), out)?;
+    push_type(set.rtype(), out)?;
     out.extend_from_slice(b" ")?;
-    row.rdata().push_text(row.rtype(), out)?;
+    push_data(set.rtype(), octets, out)?;
     out.extend_from_slice(b"\n")
 }
 
-fn push_rows(out: &mut Vec<u8>, rows: &[Row]) -> Result<(), AllocError>
+// The records of an RRset.
+fn push_set(out: &mut Vec<u8>, owned: &OwnedSet) -> Result<(), AllocError>
+    ensures { OnOk result (out.new.items ≡ out.old.items ++ flat_map row_text (rows_of owned.now.owner owned.now.set)) }
+{
+    let set = owned.set();
+    let mut records = set.records();
+    while let Some(octets) = records.next() {
+        push_row(out, owned.owner(), &set, octets)?;
+    }
+    Ok(())
+}
+
+fn push_rows(out: &mut Vec<u8>, rows: &Rows) -> Result<(), AllocError>
     ensures { OnOk result (out.new.items ≡ out.old.items ++ flat_map row_text rows.now) }
 {
-    for row in rows {
-        push_row(out, row)?;
+    for owned in rows.sets() {
+        push_set(out, owned)?;
     }
     Ok(())
 }
@@ -76,7 +93,7 @@ fn push_answer(out: &mut Vec<u8>, answer: &Answer) -> Result<(), AllocError>
     ensures { OnOk result (out.new.items ≡ out.old.items ++ answer_text answer.now) }
 {
     let rows = answer.rows();
-    push_kind(out, kind_name(answer.kind()), rows.len() as u64)?;
+    push_kind(out, kind_name(answer.kind()), rows.len())?;
     push_rows(out, rows)
 }
 

@@ -11,7 +11,7 @@ use job_model::{Ending, Weight};
 use job_script::Block;
 use qp_multi::{Index, Kept};
 use std::alloc::{AllocError, Global};
-use zone_change::{Halt, apply_all};
+use zone_change::{Halt, ItemBuffers, apply_all};
 use zone_model::Refusal;
 
 /// Why a block makes no version.
@@ -52,13 +52,14 @@ fn write_block(
     origin: &Name,
     index: &mut Index,
     block: &Block,
+    buffers: &mut ItemBuffers,
 ) -> Result<Transacted, AllocError>
     requires { KeepsSome index.old }
     ensures { (version : Version) (number chunks : ℕ) → Keeps index.old version number chunks
         → IfOk result (Transacts chunks worker_passes origin.now (map operation_view block.now.operations.items) block.now.ending version number index.new) }
 {
     let mut write = index.write();
-    match apply_all(alloc, origin, &mut write, &block.operations) {
+    match apply_all(alloc, origin, &mut write, &block.operations, buffers) {
         Ok(()) => match block.ending {
             Ending::Commit => match write.commit() {
                 Ok(_) => Ok(Transacted::Committed),
@@ -76,13 +77,14 @@ fn update_block(
     origin: &Name,
     index: &mut Index,
     block: &Block,
+    buffers: &mut ItemBuffers,
 ) -> Result<Transacted, AllocError>
     requires { KeepsSome index.old }
     ensures { (version : Version) (number chunks : ℕ) → Keeps index.old version number chunks
         → IfOk result (Transacts chunks worker_passes origin.now (map operation_view block.now.operations.items) block.now.ending version number index.new) }
 {
     let mut update = index.update();
-    match apply_all(alloc, origin, &mut update, &block.operations) {
+    match apply_all(alloc, origin, &mut update, &block.operations, buffers) {
         Ok(()) => match block.ending {
             Ending::Commit => match update.commit() {
                 Ok(_) => Ok(Transacted::Committed),
@@ -97,19 +99,20 @@ fn update_block(
     }
 }
 
-/// Runs a block: its operations are all made the next version, or none.
+/// Runs a block: its operations are all made the next version, or none. Items are laid down in buffers.
 pub fn transact(
     alloc: Global,
     origin: &Name,
     index: &mut Index,
     block: &Block,
+    buffers: &mut ItemBuffers,
 ) -> Result<Transacted, AllocError>
     requires { KeepsSome index.old }
     ensures { (version : Version) (number chunks : ℕ) → Keeps index.old version number chunks
         → IfOk result (Transacts chunks worker_passes origin.now (map operation_view block.now.operations.items) block.now.ending version number index.new) }
 {
     match block.weight {
-        Weight::Light => write_block(alloc, origin, index, block),
-        Weight::Heavy => update_block(alloc, origin, index, block),
+        Weight::Light => write_block(alloc, origin, index, block, buffers),
+        Weight::Heavy => update_block(alloc, origin, index, block, buffers),
     }
 }

@@ -16,6 +16,7 @@ use dns_name::Name;
 use job_script::{Block, Command, Question};
 use qp_multi::Index;
 use std::alloc::{AllocError, Global};
+use zone_change::ItemBuffers;
 
 // Runs one block. Answers whether it was refused.
 fn run_block(
@@ -24,13 +25,14 @@ fn run_block(
     index: &mut Index,
     block: &Block,
     number: u64,
+    buffers: &mut ItemBuffers,
     out: &mut Vec<u8>,
 ) -> Result<bool, AllocError>
     requires { KeepsSome index.old }
     ensures { (version : Version) (last chunks : ℕ) → Keeps index.old version last chunks
         → IfOk result (StepsOn chunks origin.now (block_view block.now) number last version index.new out.old.items out.new.items) }
 {
-    let transacted = transact(alloc, origin, index, block)?;
+    let transacted = transact(alloc, origin, index, block, buffers)?;
     push_head(out, 1, number, index.query().version())?;
     match transacted {
         Transacted::Committed => {
@@ -68,14 +70,14 @@ fn run_question(
     Ok(false)
 }
 
-// Runs one command. Answers whether it was refused.
+// Runs one command, by way of buffers for items. Answers whether it was refused.
 fn run_command(
     alloc: Global,
     origin: &Name,
     index: &mut Index,
     command: &Command,
     number: u64,
-    item: &mut [u8; 4096],
+    buffers: &mut ItemBuffers,
     out: &mut Vec<u8>,
 ) -> Result<bool, AllocError>
     requires { KeepsSome index.old }
@@ -84,9 +86,9 @@ fn run_command(
 {
     match command {
         Command::Ask(question) => {
-            run_question(alloc, origin, index, question, number, item, out)
+            run_question(alloc, origin, index, question, number, &mut buffers.before, out)
         }
-        Command::Block(block) => run_block(alloc, origin, index, block, number, out),
+        Command::Block(block) => run_block(alloc, origin, index, block, number, buffers, out),
     }
 }
 
@@ -120,13 +122,13 @@ fn run_commands<G: Gate>(
     ensures { (zone : Version) (chunks : ℕ) → Keeps index.old zone 0 chunks
         → IfOk result (RunsOn chunks origin.now zone (map command_view commands.now) index.new out.old.items out.new.items) }
 {
-    let mut item = [0; 4096];
+    let mut buffers = ItemBuffers::new();
     let mut refused = false;
     for (place, command) in commands.iter().enumerate() {
         let number = place as u64 + 1;
         let told = u32::try_from(number).unwrap_or(u32::MAX);
         gate.before(1, told);
-        let here = run_command(alloc, origin, index, command, number, &mut item, out)?;
+        let here = run_command(alloc, origin, index, command, number, &mut buffers, out)?;
         gate.after(1, told);
         refused = either(refused, here);
     }
