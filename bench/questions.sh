@@ -1,6 +1,6 @@
 #!/usr/bin/env bash
-# Counts the instructions of a question with valgrind's callgrind: the difference between 10,000 of them and one, with reading the
-# line and printing the outcome. Usage: bench/questions.sh [RECORDS [PROGRAM]] (100,000 records); build the program first, as the
+# Counts the instructions of a question, and of a transaction of one addition, with valgrind's callgrind: the difference between 10,000
+# of them and one question, with reading the lines and printing the outcome. Usage: bench/questions.sh [RECORDS [PROGRAM]] (100,000 records); build the program first, as the
 # README says. It takes minutes, and changes nothing but files of its own in a temporary folder.
 set -eu
 here=$(cd "$(dirname "$0")" && pwd)
@@ -14,6 +14,6 @@ instructions() {
         <"$folder/job" 2>&1 >/dev/null | sed -n 's/.*Collected : //p'
 }
 one=$(instructions one)
-for commands in questions absent below; do
+for commands in questions absent below blocks; do
     printf '%s: %s instructions each\n' "$commands" "$((($(instructions "$commands") - one) / 9999))"
 done
