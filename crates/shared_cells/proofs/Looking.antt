@@ -1,5 +1,5 @@
 -- A look by the seat that has the turn keeps the rule, and tells what the rule knows of it.
-use Rattle.std.proofs.Common.{◌≡◌, ⊎_elim, ℕ, ◌<◌, ◌≤◌, List, length, get_or, true, refl, sym, ap, ◌∙◌, subst, arith, Option, Some}
+use Rattle.std.proofs.Common.{◌≡◌, ⊎_elim, ℕ, ◌+◌, ◌<◌, ◌≤◌, List, length, get_or, true, refl, sym, ap, ◌∙◌, subst, arith, Option, Some}
 use Rattle.std.specs.List.{All, Contains}
 use Rattle.std.proofs.lemmas.List.{set-get_or}
 use Rattle.std.proofs.lemmas.List.Elements.{All-weaker}
@@ -8,8 +8,8 @@ use lib.ListN.{get_elem?}
 use Rattle.atomic_table.specs.Table.{State, Me, Allows, step, keeps}
 use Rattle.atomic_table.proofs.Lists.{set_again}
 use Rattle.pin_core.specs.declared.kept.CellAt.{CellAt}
-use Rattle.pin_core.specs.Words.{pin_at, version_of}
-use Rattle.pin_core.specs.Sound.{turn_of, PinFits}
+use Rattle.pin_core.specs.Words.{pin_at, cell_at, version_of}
+use Rattle.pin_core.specs.Sound.{turn_of, AgreesWith, PinFits}
 use Rattle.pin_core.proofs.Pins.{current_fits}
 use Rattle.shared_cells.specs.declared.view.TableSize.{TableSize}
 use Rattle.shared_cells.specs.declared.view.Naming.{Naming}
@@ -45,6 +45,13 @@ module _ {O E : Type 0} (applied : O → E → O) (lawful : O → O → Type 0) 
     versions_all : (o : O) → r.facts.all.opening ≡ Some o → VersionsFit applied lawful stands size r.facts (Some o)
     versions_all o is = subst (VersionsFit applied lawful stands size r.facts) is r.versions
 
+    -- a cell as it is in the words is so in the turn's copy
+    mirrored : (c : CellAt) → AgreesWith s.words c → AgreesWith r.facts.turn.words c
+    mirrored c agrees =
+        let big = r.mirror (cell_at c.at) (omega arith) in
+        let small = r.mirror (cell_at c.at + 1) (omega arith) in
+        (sym big ∙ agrees.0, sym small ∙ agrees.1)
+
     confirms : Confirmed applied lawful stands v turn (get_or s.words 0 0)
     confirms = subst (λ (x : Seen O E × TurnView). Confirmed applied lawful stands (record v { seen = x.0 }) x.1 (get_or s.words 0 0)) (λ i. (sym h.seen_is i, sym h.turn_is i)) (record {
       told = (r.seats id v at).told;
@@ -55,6 +62,7 @@ module _ {O E : Type 0} (applied : O → E → O) (lawful : O → O → Type 0) 
       fits = current_fits (core_size size) s.words r.facts.stages r.facts.seen (turn_of (length r.facts.all.history) r.facts.turn.kept r.facts.turn.marks) r.sound;
       newest = r.sound.newest;
       rising = r.sound.rising;
+      unchanged = All-weaker (λ k. All (AgreesWith s.words) k.image) (λ k. All (AgreesWith r.facts.turn.words) k.image) (λ k. All-weaker (AgreesWith s.words) (AgreesWith r.facts.turn.words) mirrored k.image) r.facts.turn.kept r.sound.unchanged;
       namers = subst (λ (k : ℕ). All (λ (n : Naming). n.pass < k) r.facts.all.namings) (sym r.sound.marked) r.namers;
       versions = λ o is. (versions_all o is).0;
       images = λ o is. (versions_all o is).1;

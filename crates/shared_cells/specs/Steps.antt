@@ -98,6 +98,8 @@ module _ {O E : Type 0} (applied : O → E → O) (lawful : O → O → Type 0) 
     -- the kept versions are of the history, and rise
     pub newest : All (λ k. k.version ≤ length v.seen.history) turn.kept
     pub rising : AllPairs (λ k j. k.version < j.version) turn.kept
+    -- the turn's words have the cells of each kept image
+    pub unchanged : All (λ k. All (AgreesWith turn.words) k.image) turn.kept
     -- each naming is of a pass that there is
     pub namers : All (λ n. n.pass < length turn.marks) v.seen.namings
     -- all versions are lawful

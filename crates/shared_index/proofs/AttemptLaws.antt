@@ -1,0 +1,135 @@
+-- An operation on lent cells, as the seat that lent them knows it.
+use Rattle.std.proofs.Common.{◌≡◌, ◌↔◌, ◌∙◌, ℕ, ◌+◌, ◌*◌, ◌/◌, ◌≤◌, ◌==◌, Bool, true, false, List, map, length, slice_index, Option, Some, None, Result, Ok, Err, refl, sym, ap, subst, arith}
+use Rattle.std.specs.Prelude.{IfOk, IfErr}
+use Rattle.std.specs.List.{Contains, range_with_len}
+use Rattle.std.proofs.lemmas.List.FromFn.{length-map-range_with_len}
+use Rattle.std.proofs.lemmas.Option.{get_or_from_slice_get}
+use Rattle.packed_node.specs.declared.Cell.{Cell}
+use Rattle.pin_core.specs.Words.{status_at}
+use Rattle.pin_core.specs.declared.kept.Kept.{Kept}
+use Rattle.chunk_cells.specs.Chunks.{IsGiven}
+use Rattle.chunk_usage.specs.declared.space.Full.{Full as NoRoom}
+use Rattle.chunk_usage.specs.Ledger.{Ledger, Frozen, is_used, is_fresh, is_given, frozen_part}
+use Rattle.chunk_usage.specs.Handing.{Lacks, spent}
+use Rattle.chunk_usage.specs.Rooms.{Grows, account_of}
+use Rattle.chunk_usage.proofs.FlagLemmas.{get_set}
+use Rattle.trie_model.specs.Keys.{Entry}
+use Rattle.trie_model.proofs.MoveLaws.{Keeps}
+use Rattle.trie_write.specs.Roots.{OnPath, TwigsOnPath}
+use Rattle.trie_write.specs.Spaces.{Ready, Fenced, Unchanged as Same}
+use Rattle.trie_write.proofs.RootLaws.{stands_later, standing_later}
+use Rattle.shared_cells.specs.Views.{words_of, kept_in}
+use Rattle.shared_cells.specs.Cells.{Cells, cells_of, given_chunks, kept_references, HasCell, with_words}
+use Rattle.shared_index.specs.declared.change.Change.{Change}
+use Rattle.shared_index.specs.declared.change.Unchanged.{Unchanged}
+use Rattle.shared_index.specs.declared.change.Unchanged.TheVariants.{Refused, Full}
+use Rattle.shared_index.specs.Operations.{operated}
+use Rattle.shared_index.specs.Passes.{Known}
+use Rattle.shared_index.specs.Turns.{Agrees, cells_with, row_for, cell_counts, current_image, is_immutable}
+use Rattle.shared_index.specs.Bases.{IsRooted, StandsFor}
+use Rattle.shared_index.specs.Changes.{operation_of, key_of, written_by, IsRefused}
+use Rattle.shared_index.specs.Tries.{Tried, PathHas}
+use Rattle.shared_index.proofs.Lists.{all_of, all_from}
+use Rattle.shared_index.proofs.KeepLaws.{immutable_used, immutable_old, immutable_of}
+
+pub if_ok : {T E : Type 0} (P Q : T → Type 0) (r : Result T E) → ((x : T) → P x → Q x) → IfOk r P → IfOk r Q
+if_ok P Q (Ok x) f h = f x h
+if_ok P Q (Err e) f h = h
+
+pub if_err : {T E : Type 0} (P Q : E → Type 0) (r : Result T E) → ((x : E) → P x → Q x) → IfErr r P → IfErr r Q
+if_err P Q (Ok x) f h = h
+if_err P Q (Err e) f h = f e h
+
+-- chunks and words alone say what the cells are
+has_there : (a b : Cells) → b.chunks ≡ a.chunks → b.words ≡ a.words → (q : ℕ) (c : Cell) → HasCell a q c → HasCell b q c
+has_there a b chunks words q c h = record {
+  given = subst (λ (n : ℕ). IsGiven (map (λ chunk. slice_index b.words (status_at chunk) == 1) (range_with_len 0 n)) (q / 1024)) (sym chunks)
+      (subst (λ (ws : List ℕ). IsGiven (map (λ chunk. slice_index ws (status_at chunk) == 1) (range_with_len 0 a.chunks)) (q / 1024)) (sym words) h.given);
+  big = ap (λ (ws : List ℕ). slice_index ws (4161 + 2 * q)) words ∙ h.big;
+  small = ap (λ (ws : List ℕ). slice_index ws (4161 + 2 * q + 1)) words ∙ h.small;
+}
+
+pub rooted_there : (a b : Cells) → b.chunks ≡ a.chunks → b.words ≡ a.words → (u : Ledger) (root : Option ℕ) (es : List Entry) → IsRooted (HasCell a) u root es → IsRooted (HasCell b) u root es
+rooted_there a b chunks words u root es s = record {
+  stands = standing_later es root s.stands (λ q c used h. has_there a b chunks words q c h) (λ q used. used) (λ k. refl);
+  tells = s.tells;
+}
+
+path_later : {has new : ℕ → Cell → Type 0} {used used_new : ℕ → Bool} {live live_new : ℕ → ℕ} (root : Option ℕ) (key : List ℕ) (n : ℕ) → Keeps used has new → ((q : ℕ) → used q ≡ true → used_new q ≡ true) → ((k : ℕ) → live_new k ≡ live k)
+    → OnPath has used live root key n → OnPath new used_new live_new root key n
+path_later None key n keep stays live p = p
+path_later (Some r) key n keep stays live p = (p.0, p.1, stands_later p.2 keep stays live, p.3, p.4)
+
+path_there : (a b : Cells) → b.chunks ≡ a.chunks → b.words ≡ a.words → (u : Ledger) (root : Option ℕ) (key : List ℕ) (n : ℕ) → TwigsOnPath HasCell account_of a u root key n → TwigsOnPath HasCell account_of b u root key n
+path_there a b chunks words u root key n p = path_later root key n (λ q c used h. has_there a b chunks words q c h) (λ q used. used) (λ k. refl) p
+
+-- while cells are handed out what the usage agrees on stays
+agrees_grown : (cells new : Cells) (u n : Ledger) (count : ℕ) → new.chunks ≡ cells.chunks → new.kept ≡ cells.kept → given_chunks new ≡ n.given → frozen_part n ≡ frozen_part u
+    → Grows (is_used u) (is_used n) (is_fresh u) (is_fresh n) → Agrees cells u count → Agrees new n count
+agrees_grown cells new u n count chunks kept given frozen grows a = record {
+  given = given;
+  rows = ap (λ (f : Frozen). f.rows) frozen ∙ a.rows ∙ ap (λ (k : ℕ). map (row_for k) cells.kept) (sym chunks) ∙ ap (map (row_for new.chunks)) (sym kept);
+  few_rows = subst (λ (f : Frozen). length f.rows ≤ count + 1) (sym frozen) a.few_rows;
+  last_live = ap (λ (f : Frozen). f.live) frozen ∙ a.last_live ∙ ap (λ (k : ℕ). cell_counts k (current_image cells.kept)) (sym chunks) ∙ ap (λ (ks : List Kept). cell_counts new.chunks (current_image ks)) (sym kept);
+  immutable = all_from (is_immutable n) (kept_references new) (λ q c.
+      let old = subst (λ (ks : List Kept). Contains (kept_references (record cells { kept = ks })) q) kept c in
+      let h = all_of (is_immutable u) (kept_references cells) q a.immutable old in
+      let used = immutable_used u q h in
+      immutable_of n q (grows.stays q used) (grows.settled q used ∙ immutable_old u q h));
+  passes = ap (λ (f : Frozen). f.passes) frozen ∙ a.passes;
+}
+
+pub ready_of : (cells : Cells) (u : Ledger) (count : ℕ) → Agrees cells u count → Ready kept_references given_chunks account_of cells u
+ready_of cells u count a = record {
+  same = a.given;
+  in_use = λ q c. immutable_used u q (all_of (is_immutable u) (kept_references cells) q a.immutable c);
+  settled = λ q c. immutable_old u q (all_of (is_immutable u) (kept_references cells) q a.immutable c);
+}
+
+-- The cells were lent by a seat that knew so much, and came back as they are now.
+module _ (first lent : Cells) (v w : Known) (u n : Ledger) (root : Option ℕ) (c : Change) (r : Result (Option ℕ) Unchanged)
+    (begun : first ≡ cells_with u v.turn) (back : cells_of lent.chunks w.turn ≡ record lent { kept = kept_in v.turn }) (seat : w ≡ with_words v lent.words)
+    (frame : Fenced HasCell kept_references given_chunks account_of first u lent n) (ready : Ready kept_references given_chunks account_of lent n) (wide : lent.chunks ≡ length u.given)
+    (count : ℕ) (agrees : Agrees (cells_with u v.turn) u count) where
+  pub chunks_now : length n.given ≡ lent.chunks
+  chunks_now = ap (λ (bs : List Bool). length bs) (sym ready.same) ∙ length-map-range_with_len (λ chunk. slice_index lent.words (status_at chunk) == 1) 0 lent.chunks
+
+  words_now : words_of w.turn ≡ lent.words
+  words_now = ap (λ (k : Cells). k.words) back
+
+  enter : (es : List Entry) → StandsFor v u root es → IsRooted (HasCell first) u root es
+  enter es s = subst (λ (k : Cells). IsRooted (HasCell k) u root es) (sym begun) s
+
+  leave : (new : Option ℕ) (es : List Entry) → IsRooted (HasCell lent) n new es → StandsFor w n new es
+  leave new es s = rooted_there lent (cells_with n w.turn) chunks_now words_now n new es s
+
+  path_in : (twigs : ℕ) → PathHas v u root (key_of c) twigs → TwigsOnPath HasCell account_of first u root (key_of c) twigs
+  path_in twigs p = subst (λ (k : Cells). TwigsOnPath HasCell account_of k u root (key_of c) twigs) (sym begun) p
+
+  pub agrees_later : Agrees (cells_with n w.turn) n count
+  agrees_later =
+      let now : cells_with n w.turn ≡ record lent { kept = kept_in v.turn } = ap (λ (k : ℕ). cells_of k w.turn) chunks_now ∙ back in
+      agrees_grown (cells_with u v.turn) (cells_with n w.turn) u n count (chunks_now ∙ wide) (ap (λ (k : Cells). k.kept) now) (ap given_chunks now ∙ ready.same) frame.last frame.grows agrees
+
+  pub tried_of : IfOk r (λ new. (es : List Entry) → IsRooted (HasCell first) u root es → IsRooted (HasCell lent) n new (operated es (operation_of c)))
+      → ((es : List Entry) → IsRooted (HasCell first) u root es → (r ≡ Err Refused) ↔ IsRefused c es)
+      → IfErr r (λ _. (es : List Entry) → IsRooted (HasCell first) u root es → IsRooted (HasCell lent) n root es)
+      → IfErr r (λ _. Same HasCell account_of first u lent n)
+      → ((f : NoRoom) → r ≡ Err (Full f) → Lacks n f)
+      → ((twigs : ℕ) → TwigsOnPath HasCell account_of first u root (key_of c) twigs → spent n ≤ spent u + (written_by c + twigs))
+      → Tried c root v u w n r
+  tried_of done refused stays same full spends = record {
+    done = if_ok _ _ r (λ new h es s. leave new (operated es (operation_of c)) (h es (enter es s))) done;
+    refused = λ es s. refused es (enter es s);
+    stays = if_err _ _ r (λ e h es s. leave root es (h es (enter es s))) stays;
+    full = full;
+    same = seat ∙ ap (with_words v) (sym words_now);
+    wide = chunks_now ∙ wide;
+    frozen = frame.last;
+    given = λ k h.
+        let old : IsGiven (given_chunks first) k = subst (λ (bs : List Bool). IsGiven bs k) (sym (ap given_chunks begun ∙ agrees.given)) (get_set u.given k h) in
+        get_or_from_slice_get n.given k true false (subst (λ (bs : List Bool). IsGiven bs k) ready.same (frame.given_stays k old));
+    counts = if_err _ _ r (λ e s. s.counts) same;
+    path = if_err _ _ r (λ e s twigs p. path_there lent (cells_with n w.turn) chunks_now words_now n root (key_of c) twigs (path_later root (key_of c) twigs s.untouched frame.grows.stays s.counts (path_in twigs p))) same;
+    spends = λ twigs p. spends twigs (path_in twigs p);
+  }

@@ -1,0 +1,97 @@
+-- Why a call of a transaction finds no room.
+use Rattle.std.proofs.Common.{◌≡◌, ◌∙◌, ◌⊎◌, ℕ, ◌+◌, ◌-◌, ◌*◌, ◌/◌, ◌≤◌, List, [], length, map, take, slice_index, Option, Result, Err, refl, sym, ap, subst, arith, true, false}
+use Rattle.std.specs.Prelude.{IfErr, unwrap_or}
+use Rattle.std.specs.List.{All, Contains, sum_by}
+use Rattle.std.proofs.lemmas.List.Elements.{All-weaker}
+use Rattle.pin_core.specs.declared.kept.Kept.{Kept}
+use Rattle.zone_model.specs.Keys.{Leads}
+use Rattle.trie_model.specs.Keys.{Entry}
+use Rattle.trie_model.specs.Shape.{cells}
+use Rattle.trie_model.specs.Reach.{row}
+use Rattle.trie_model.specs.Trees.{cells_in}
+use Rattle.chunk_usage.specs.declared.space.Full.{Full as NoRoom}
+use Rattle.chunk_usage.specs.Ledger.{Ledger, Row, is_given, is_open, is_used}
+use Rattle.chunk_usage.specs.Keeping.{freed}
+use Rattle.chunk_usage.specs.Handing.{Lacks}
+use Rattle.shared_cells.specs.declared.view.Entry.{Entry as Commit}
+use Rattle.shared_cells.specs.History.{version_after}
+use Rattle.shared_cells.specs.Views.{kept_in}
+use Rattle.shared_cells.specs.Cells.{HasCell}
+use Rattle.shared_index.specs.declared.change.Change.{Change}
+use Rattle.shared_index.specs.declared.change.Change.TheVariants as change
+use Rattle.shared_index.specs.declared.change.Unchanged.{Unchanged}
+use Rattle.shared_index.specs.declared.change.Unchanged.TheVariants as unchanged
+use Rattle.shared_index.specs.declared.desk.Draft.{Draft}
+use Rattle.shared_index.specs.declared.kept.Versions.{Versions}
+use Rattle.shared_index.specs.declared.refusal.Full.{Full}
+use Rattle.shared_index.specs.declared.meaning.Operation.{Operation}
+use Rattle.shared_index.specs.Operations.{applied}
+use Rattle.shared_index.specs.Meanings.{IsVersion}
+use Rattle.shared_index.specs.Passes.{Known, first_version}
+use Rattle.shared_index.specs.Turns.{cells_with, row_for}
+use Rattle.shared_index.specs.Changes.{key_of, written_by, LeadsItem}
+use Rattle.shared_index.specs.Drafts.{Works, working_set}
+use Rattle.shared_index.specs.Tries.{Tried, PathHas}
+use Rattle.shared_index.specs.Keepings.{GoesOn, narrowed, numbers_of, versions_in}
+use Rattle.shared_index.specs.Fulls.{FullCause, Grown, after_room, cells_kept, version_at}
+use Rattle.shared_index.proofs.CauseLaws.{NeededBy, each_needed, given_few, kept_images, live_of, many, met_or_opened, opened_is, few_taken, path_of, rows_met, some_live, some_row, taken}
+use Rattle.shared_index.proofs.RisenLaws.{with_open}
+
+-- what was seen is the same
+
+pub version_at_on : {v w : Known} (n : ℕ) → GoesOn v w → version_at w n ≡ version_at v n
+version_at_on {v} {w} n g =
+    ap (λ (o : Option (List Entry)). version_after applied (unwrap_or o []) (take n w.seen.history)) g.opening
+    ∙ ap (λ (h : List (Commit (List Operation))). version_after applied (first_version v.seen) (take n h)) g.history
+
+pub cells_kept_on : {v w : Known} (versions : List ℕ) → GoesOn v w → cells_kept w versions ≡ cells_kept v versions
+cells_kept_on {v} {w} versions g =
+    ap (λ (o : Option (List Entry)). sum_by (λ n. cells (version_after applied (unwrap_or o []) (take n w.seen.history))) versions) g.opening
+    ∙ ap (λ (h : List (Commit (List Operation))). sum_by (λ n. cells (version_after applied (first_version v.seen) (take n h))) versions) g.history
+
+pub images_on : (v w x : Known) → GoesOn v x → kept_in x.turn ≡ kept_in w.turn → All (λ k. IsVersion k.image k.root (version_at v k.version)) (kept_in w.turn) → All (λ k. IsVersion k.image k.root (version_at x k.version)) (kept_in x.turn)
+images_on v w x g same all =
+    subst (All (λ (k : Kept). IsVersion k.image k.root (version_at x k.version))) (sym same)
+    (All-weaker (λ (k : Kept). IsVersion k.image k.root (version_at v k.version)) (λ (k : Kept). IsVersion k.image k.root (version_at x k.version))
+    (λ k h. subst (IsVersion k.image k.root) (sym (version_at_on k.version g)) h) (kept_in w.turn) all)
+
+-- a call writes few cells beside the path's twigs
+pub few_written : (c : Change) → LeadsItem c → written_by c ≤ 259
+few_written (change.Insert key item) leads = let l = leads.short in omega arith
+few_written (change.Replace key item) leads = let l = leads.short in omega arith
+few_written (change.Delete key) leads = omega arith
+
+pub cause_of : (u : Ledger) (room d : Draft) (c : Change) (full : NoRoom) (f : Full) → room.usage ≡ after_room u f → f.kept ≡ room.kept → Works room → All (λ k. IsVersion k.image k.root (version_at room.seat.place.me.0 k.version)) (kept_in room.seat.place.me.0.turn)
+    → LeadsItem c → Tried c room.root room.seat.place.me.0 room.usage d.seat.place.me.0 d.usage (Err (unchanged.Full full)) → d.root ≡ room.root → GoesOn room.seat.place.me.0 d.seat.place.me.0 → working_set d ≡ working_set room → Lacks d.usage full
+    → FullCause (after_room u f) d (key_of c) (written_by c) f
+cause_of u room d c full f after same works images leads t root on set lacks =
+    let m = room.usage in
+    let v : Known = room.seat.place.me.0 in
+    let w : Known = d.seat.place.me.0 in
+    let key = key_of c in
+    let kept = kept_in v.turn in
+    let n = length m.given in
+    let needed : (k : ℕ) → is_given m k ≡ true → NeededBy m k = subst (λ (l : Ledger). (k : ℕ) → is_given l k ≡ true → NeededBy l k) (sym after) (each_needed (narrowed u (versions_in f.kept))) in
+    let p = path_of {has = HasCell (cells_with m v.turn)} {used = is_used m} {live = live_of m} room.root key (working_set room) works.stands works.tells in
+    let spends = t.spends p.n p.on_path in
+    let rows : row (some_row m.rows) 0 n ≤ cells_kept w (versions_in f.kept) = (
+    let a = rows_met n kept in
+    let b = kept_images v kept images in
+    let e : row (some_row m.rows) 0 n ≡ row (some_row (map (row_for n) kept)) 0 n = ap (λ (rs : List Row). row (some_row rs) 0 n) room.agrees.rows in
+    let g : cells_kept w (versions_in f.kept) ≡ cells_kept v (numbers_of kept) = cells_kept_on (versions_in f.kept) on ∙ ap (cells_kept v) (ap versions_in same ∙ room.kept_are) in
+    omega arith) in
+    let few = given_few m needed in
+    let meets = p.meets n in
+    record {
+      none_free = lacks.0.none_free;
+      opened = with_open m.open_chunk (taken m d.usage);
+      opened_here = λ k h. subst (λ (l : Ledger). (is_open l.open_chunk k ≡ true) ⊎ ((is_given l k ≡ false) × (is_given d.usage k ≡ true))) after (opened_is m d.usage k h);
+      path = p.n;
+      on_path = subst (λ (r : Option ℕ). PathHas w d.usage r key p.n) (sym root) (t.path p.n p.on_path);
+      few_opened = few_taken m d.usage full (written_by c + p.n) t.wide t.given spends lacks;
+      others_met = met_or_opened m d.usage needed t.wide t.frozen t.counts;
+      many_cells =
+          let a = many m d.usage full n (cells (working_set room)) (cells_kept w (versions_in f.kept)) (row (some_live (live_of m)) 0 n) (row (some_row m.rows) 0 n) p.b p.n (written_by c) refl t.wide few meets rows p.few (few_written c leads) spends lacks in
+          let b = ap cells set in
+          let g = t.wide in omega arith;
+    }

@@ -1,0 +1,105 @@
+-- What a transaction's working set is after an operation, and after a round.
+use Rattle.std.proofs.Common.{◌≡◌, ◌⊎◌, ◌∙◌, ⊎_elim, inl, inr, ℕ, List, [], ◌∷◌, ◌++◌, length, Option, Some, None, Result, Ok, Err, refl, sym, ap, subst}
+use Rattle.std.specs.Prelude.{IfOk, IsOk}
+use Rattle.std.specs.List.{Contains}
+use Rattle.std.proofs.lemmas.List.Elements.{Contains-append_left}
+use Rattle.trie_model.specs.Keys.{Entry}
+use Rattle.chunk_usage.specs.declared.space.Full.{Full as NoRoom}
+use Rattle.chunk_usage.specs.Ledger.{Ledger}
+use Rattle.chunk_usage.specs.Handing.{Lacks}
+use Rattle.shared_cells.specs.declared.view.Naming.{Naming}
+use Rattle.shared_cells.specs.Views.{words_of}
+use Rattle.shared_cells.specs.Cells.{HasCell}
+use Rattle.shared_cells.specs.Steps.{IsNamed}
+use Rattle.shared_index.specs.declared.change.Change.{Change}
+use Rattle.shared_index.specs.declared.change.Unchanged.{Unchanged}
+use Rattle.shared_index.specs.declared.change.Unchanged.TheVariants.{Refused}
+use Rattle.shared_index.specs.declared.desk.Draft.{Draft}
+use Rattle.shared_index.specs.declared.kept.Versions.{Versions}
+use Rattle.shared_index.specs.declared.refusal.Full.{Full}
+use Rattle.shared_index.specs.declared.meaning.Operation.{Operation}
+use Rattle.shared_index.specs.Operations.{operated, applied}
+use Rattle.shared_index.specs.Passes.{Known, version_seen}
+use Rattle.shared_index.specs.Turns.{cells_with}
+use Rattle.shared_index.specs.Bases.{IsRooted, StandsFor}
+use Rattle.shared_index.specs.Changes.{operation_of, IsRefused}
+use Rattle.shared_index.specs.Drafts.{Works, Operates, IsFull, Between, working_set}
+use Rattle.shared_index.specs.Tries.{Tried}
+use Rattle.shared_index.specs.Keepings.{GoesOn, narrowed, versions_in}
+use Rattle.shared_index.proofs.AttemptLaws.{rooted_there}
+use Rattle.shared_index.proofs.GoesLaws.{words_go_on, goes_further, base_goes_on, applied_more}
+
+-- the operation was done
+pub operates_done : (c : Change) (old new : Draft) → Works old → Tried c old.root old.seat.place.me.0 old.usage new.seat.place.me.0 new.usage (Ok new.root) → new.log.operations ≡ old.log.operations ++ operation_of c ∷ []
+    → Operates (operation_of c) (IsRefused c) old new (IsOk {T = Unit {0}} {E = Unchanged} (Ok tt)) (◌≡◌ {A = Result (Unit {0}) Unchanged} (Ok tt) (Err Refused))
+operates_done c old new works t log =
+    let v : Known = old.seat.place.me.0 in
+    let w : Known = new.seat.place.me.0 in
+    let known : GoesOn v w = words_go_on v w (words_of w.turn) t.same in
+    let made : applied (version_seen w.seen) new.log.operations ≡ operated (working_set old) (operation_of c) =
+    ap (applied (version_seen w.seen)) log
+    ∙ ap (λ (es : List Entry). applied es (old.log.operations ++ operation_of c ∷ [])) (base_goes_on known)
+    ∙ applied_more (version_seen v.seen) old.log.operations (operation_of c) in
+    let told = t.refused (working_set old) works in
+    record {
+      known = known;
+      works = subst (StandsFor w new.usage new.root) (sym made) (t.done (working_set old) works);
+      done = λ d. log;
+      stays = λ no. absurd (no refl);
+      refused = (λ e. cc, λ denied. let e = told.1 denied in cc);
+    }
+
+-- the words are the same, and rows are dropped
+pub stands_narrowed : (v w : Known) (u new : Ledger) (versions : List ℕ) (root : Option ℕ) (es : List Entry) → words_of w.turn ≡ words_of v.turn → new ≡ narrowed u versions → StandsFor v u root es → StandsFor w new root es
+stands_narrowed v w u new versions root es words after s =
+    let there = rooted_there (cells_with u v.turn) (cells_with u w.turn) refl words u root es s in
+    subst (λ (l : Ledger). StandsFor w l root es) (sym after) (record { stands = there.stands; tells = there.tells })
+
+-- the same set, known by a view that goes on
+pub stands_on : (v w : Known) (u : Ledger) (root : Option ℕ) (operations : List Operation) → GoesOn v w → StandsFor w u root (applied (version_seen v.seen) operations) → StandsFor w u root (applied (version_seen w.seen) operations)
+stands_on v w u root operations g s = subst (λ (es : List Entry). StandsFor w u root (applied es operations)) (sym (base_goes_on g)) s
+
+-- what was named is so later
+pub named_on : {v w : Known} (n : ℕ) → GoesOn v w → IsNamed v n → IsNamed w n
+named_on {v} {w} n g named = (named.0, subst (λ (ns : List Naming). Contains ns named.0) (sym g.namings.1) (Contains-append_left v.seen.namings g.namings.0 named.0 named.1), named.2)
+
+pub version_on : {v w : Known} (a b : ℕ) → GoesOn v w → a ≡ length v.seen.history → b ≡ length w.seen.history → b ≡ a
+version_on {v} {w} a b g old new = new ∙ ap length g.history ∙ sym old
+
+-- why the call found no room
+pub full_of : (room d : Draft) (full : NoRoom) (f : Full) → GoesOn room.seat.place.me.0 d.seat.place.me.0 → d.kept ≡ room.kept → ((n : ℕ) → Contains (versions_in room.kept) n → (n ≡ room.seat.version) ⊎ IsNamed room.seat.place.me.0 n)
+    → Lacks d.usage full → (f.needed ≡ full.needed) × (f.left ≡ full.left) × (f.free ≡ full.free) × (f.reserve ≡ full.reserve) → f.kept ≡ d.kept → IsFull d f
+full_of room d full f on same named lacks request kept =
+    let made : ℕ → ℕ → ℕ → ℕ → NoRoom = λ needed left free reserve. record { needed = needed; left = left; free = free; reserve = reserve } in
+    let asked : made f.needed f.left f.free f.reserve ≡ full =
+    ap (λ (n : ℕ). made n f.left f.free f.reserve) request.0 ∙ ap (λ (n : ℕ). made full.needed n f.free f.reserve) request.1
+    ∙ ap (λ (n : ℕ). made full.needed full.left n f.reserve) request.2 ∙ ap (made full.needed full.left full.free) request.3 in
+    record {
+      lacks = subst (Lacks d.usage) (sym asked) lacks;
+      kept = ap versions_in kept;
+      named = λ n h. ⊎_elim
+          (λ (e : n ≡ room.seat.version). inl (e ∙ sym (version_on room.seat.version d.seat.version on room.seat.version_is d.seat.version_is)))
+          (λ (named_so : IsNamed room.seat.place.me.0 n). inr (named_on n on named_so))
+          (named n (subst (λ (v : Versions). Contains (versions_in v) n) (kept ∙ same) h));
+    }
+
+-- the same outcome under other names
+
+operates_as : (o : Operation) (denied : List Entry → Type 0) (old new : Draft) (A B C D : Type 0) → (C → A) → (A → C) → (B → D) → (D → B) → Operates o denied old new A B → Operates o denied old new C D
+operates_as o denied old new A B C D done still forth back h = record {
+  known = h.known;
+  works = h.works;
+  done = λ c. h.done (done c);
+  stays = λ no. h.stays (λ a. no (still a));
+  refused = (λ d. h.refused.0 (back d), λ p. forth (h.refused.1 p));
+}
+
+pub between_as : (o : Operation) (denied : List Entry → Type 0) (A B C D : Type 0) (old new : Option Draft) → (C → A) → (A → C) → (B → D) → (D → B) → Between (λ d e. Operates o denied d e A B) old new → Between (λ d e. Operates o denied d e C D) old new
+between_as o denied A B C D (Some d) (Some e) done still forth back h = operates_as o denied d e A B C D done still forth back h
+between_as o denied A B C D (Some d) None done still forth back h = h
+between_as o denied A B C D None (Some e) done still forth back h = h
+between_as o denied A B C D None None done still forth back h = h
+
+-- the working set stays where no operation was done
+pub set_stays : (room d : Draft) → GoesOn room.seat.place.me.0 d.seat.place.me.0 → d.log.operations ≡ room.log.operations → working_set d ≡ working_set room
+set_stays room d g log = ap (applied (version_seen d.seat.place.me.0.seen)) log ∙ ap (λ (es : List Entry). applied es room.log.operations) (base_goes_on g)

@@ -1,0 +1,17 @@
+use Rattle.std.proofs.Common.{Err}
+use Rattle.trie_write.specs.declared.insertion.InsertRefusal.TheVariants.{Exists, Full}
+use Rattle.shared_index.proofs.ChangeLaws.{insert_refused_as, rooted_inserted}
+use Rattle.shared_index.proofs.change.insert.Goals as goal
+
+pub returns-in-Ok-clause-done : goal.returns-in-Ok-clause-done
+returns-in-Ok-clause-done g c es is =
+    rooted_inserted (g.C.CellRead.has c.args.cells.now) (g.C.CellRead.has c.insert.new.cells) c.args.usage.now c.insert.new.usage c.args.root c.in-Ok.new es is (record { key = c.args.key.now; item = c.args.item.now }) c.requires.leads (c.in-Ok.ensures.inserted es is.stands is.tells)
+
+pub returns-in-Ok-clause-refused : goal.returns-in-Ok-clause-refused
+returns-in-Ok-clause-refused g c es is = insert_refused_as c.insert.result _ c.in-Ok.is (c.insert.ensures.exists es is.stands is.tells)
+
+pub returns-in-Err-Exists-clause-refused : goal.returns-in-Err-Exists-clause-refused
+returns-in-Err-Exists-clause-refused g c es is = insert_refused_as c.insert.result (Err Exists) (cc) (c.insert.ensures.exists es is.stands is.tells)
+
+pub returns-in-Err-Full-clause-refused : goal.returns-in-Err-Full-clause-refused
+returns-in-Err-Full-clause-refused g c es is = insert_refused_as c.insert.result (Err (Full c.in-Err-Full.full)) (cc) (c.insert.ensures.exists es is.stands is.tells)

@@ -1,0 +1,17 @@
+use Rattle.std.proofs.Common.{Err}
+use Rattle.trie_write.specs.declared.replacement.ChangeRefusal.TheVariants.{NotFound, Full}
+use Rattle.shared_index.proofs.ChangeLaws.{change_refused_as, rooted_exchanged}
+use Rattle.shared_index.proofs.change.replace.Goals as goal
+
+pub returns-in-Ok-clause-done : goal.returns-in-Ok-clause-done
+returns-in-Ok-clause-done g c es is =
+    rooted_exchanged (g.C.CellRead.has c.args.cells.now) (g.C.CellRead.has c.replace.new.cells) c.args.usage.now c.replace.new.usage c.args.root c.in-Ok.new es is (record { key = c.args.key.now; item = c.args.item.now }) c.requires.leads (c.in-Ok.ensures.replaced es is.stands is.tells)
+
+pub returns-in-Ok-clause-refused : goal.returns-in-Ok-clause-refused
+returns-in-Ok-clause-refused g c es is = change_refused_as c.replace.result _ c.in-Ok.is (c.replace.ensures.absent es is.stands is.tells)
+
+pub returns-in-Err-NotFound-clause-refused : goal.returns-in-Err-NotFound-clause-refused
+returns-in-Err-NotFound-clause-refused g c es is = change_refused_as c.replace.result (Err NotFound) (cc) (c.replace.ensures.absent es is.stands is.tells)
+
+pub returns-in-Err-Full-clause-refused : goal.returns-in-Err-Full-clause-refused
+returns-in-Err-Full-clause-refused g c es is = change_refused_as c.replace.result (Err (Full c.in-Err-Full.full)) (cc) (c.replace.ensures.absent es is.stands is.tells)

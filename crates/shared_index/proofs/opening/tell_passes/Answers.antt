@@ -1,0 +1,44 @@
+use Rattle.std.proofs.Common.{◌≡◌, ◌∙◌, ◌+◌, ◌-◌, ◌<◌, ◌∷◌, ◌++◌, [], ℕ, List, length, take, slice_index_or, vec_len, refl, sym, ap, subst, arith, length-append}
+use Rattle.std.specs.Prelude.{IsSome}
+use Rattle.std.specs.List.{All}
+use Rattle.std.proofs.lemmas.List.Elements.{All-push, All-take}
+use Rattle.shared_cells.specs.History.{IsPartOf}
+use Rattle.shared_index.specs.Passes.{Known, first_version, known_at}
+use Rattle.shared_index.specs.Openings.{SeesFirst}
+use Rattle.shared_index.proofs.TellLaws.{none_longer, sees_first}
+use Rattle.shared_index.proofs.opening.tell_passes.Goals as goal
+
+pub loop-seat-preserved : goal.loop-seat-preserved
+loop-seat-preserved g c =
+    let table = c.args.shared.now.table.shared.table_id in
+    let inv = c.loop-seat.invariant in
+    let note = c.note-note.ensures in
+    let pop = c.pop.ensures in
+    let seat = c.in-Some.seat in
+    let v : Known = c.loop-seat.turn.place.me.0 in
+    let w : Known = c.learn-seat.result.place.me.0 in
+    let some : 0 < vec_len c.loop-seat.seats = pop.variant.0 (subst IsSome (sym c.in-Some.is) refl) in
+    let value = pop.value seat some in
+    let popped : seat ≡ slice_index_or c.loop-seat.seats.items (vec_len c.loop-seat.seats - 1) seat = cc in
+    let unseen : length seat.place.me.0.seen.history ≡ 0 = ap (λ s. length s.place.me.0.seen.history) popped ∙ inv.unseen (vec_len c.loop-seat.seats - 1) seat (omega arith) in
+    let told_none : length v.seen.history ≡ 0 = ap (λ (x : Known). length x.seen.history) inv.known ∙ c.requires.no_history in
+    let told : c.note-note.result.place.me.0.seen ≡ v.seen = ap (λ (x : Known). x.seen) note.note in
+    let none : length w.seen.history ≡ 0 =
+    ap (λ (x : Known). length x.seen.history) c.learn-seat.ensures.learnt.0
+    ∙ none_longer seat.place.me.0.seen.history c.note-note.result.place.me.0.seen.history unseen (ap (λ s. length s.history) told ∙ told_none) in
+    let part : IsPartOf w.seen v.seen = subst (IsPartOf w.seen) told c.learn-seat.ensures.learnt.2 in
+    let sees : SeesFirst (first_version c.args.turn.now.place.me.0.seen) w = subst (λ (x : Known). SeesFirst (first_version x.seen) w) inv.known (sees_first v w c.loop-seat.turn.told part none) in
+    let items = c.in_ok-push.ensures.items in
+    record {
+      table = note.table.0 ∙ inv.table;
+      known = note.same.0 ∙ inv.known;
+      count = note.same.2 ∙ inv.count;
+      here = subst (All (λ s. s.place.table_id ≡ table)) (sym pop.rest) (All-take (λ s. s.place.table_id ≡ table) (vec_len c.loop-seat.seats - 1) c.loop-seat.seats.items inv.here);
+      unseen = subst (All (λ s. length s.place.me.0.seen.history ≡ 0)) (sym pop.rest) (All-take (λ s. length s.place.me.0.seen.history ≡ 0) (vec_len c.loop-seat.seats - 1) c.loop-seat.seats.items inv.unseen);
+      told = subst (All (λ p. (IsSome p.seat) × (p.place ≡ c.args.place) × (SeesFirst (first_version c.args.turn.now.place.me.0.seen) (known_at p.seat)))) (sym items)
+          (All-push (λ p. (IsSome p.seat) × (p.place ≡ c.args.place) × (SeesFirst (first_version c.args.turn.now.place.me.0.seen) (known_at p.seat))) c.loop-seat.passes.items _ inv.told (refl, refl, sees));
+      many =
+          let more = ap (λ ps. length ps) items ∙ length-append c.loop-seat.passes.items _ in
+          let fewer = ap (λ ss. length ss) c.in-Some.ensures.items ∙ length-append c.pop.new.self.items _ in
+          let all = inv.many in omega arith;
+    }

@@ -1,0 +1,20 @@
+use Rattle.std.proofs.Common.{◌≡◌, ◌+◌, length, vec_len}
+use Rattle.std.specs.Prelude.{IsSome}
+use Rattle.std.specs.List.{All}
+use Rattle.shared_index.specs.Passes.{first_version, known_at}
+use Rattle.shared_index.specs.Openings.{SeesFirst}
+use Rattle.shared_index.proofs.opening.tell_passes.Given as goal
+
+abbrev pub decreases-loop-seat : goal.decreases-loop-seat
+decreases-loop-seat g l = vec_len l.seats
+
+abbrev pub invariant-loop-seat : goal.invariant-loop-seat
+invariant-loop-seat g l = record {
+  table : l.turn.place.table_id ≡ l.initial.turn.place.table_id;
+  known : l.turn.place.me.0 ≡ l.initial.turn.place.me.0;
+  count : l.turn.passes ≡ l.initial.turn.passes;
+  here : All (λ s. s.place.table_id ≡ l.shared.table.shared.table_id) l.seats.items;
+  unseen : All (λ s. length s.place.me.0.seen.history ≡ 0) l.seats.items;
+  told : All (λ p. (IsSome p.seat) × (p.place ≡ l.place) × (SeesFirst (first_version l.initial.turn.place.me.0.seen) (known_at p.seat))) l.passes.items;
+  many : length l.passes.items + length l.seats.items ≡ length l.initial.seats.items;
+}

@@ -1,0 +1,31 @@
+-- What a transaction has: its base, and roots that stand for versions in the turn's cells.
+use Rattle.std.specs.Prelude.{◌≡◌, ℕ, List, Option, Some, slice_index}
+use Rattle.packed_node.specs.declared.Cell.{Cell}
+use Rattle.zone_model.specs.Keys.{Leads}
+use Rattle.trie_model.specs.Keys.{Entry}
+use Rattle.chunk_usage.specs.Ledger.{Ledger, is_used}
+use Rattle.trie_read.specs.Reads.{EachTells}
+use Rattle.trie_write.specs.Standing.{Standing}
+use Rattle.shared_cells.specs.declared.view.PassView.{PassView}
+use Rattle.shared_cells.specs.History.{IsPartOf, entries_by}
+use Rattle.shared_cells.specs.Cells.{HasCell}
+use Rattle.shared_index.specs.declared.meaning.Operation.{Operation}
+use Rattle.shared_index.specs.Passes.{Known, first_version, version_seen}
+use Rattle.shared_index.specs.Turns.{cells_with}
+
+-- The root stands for these entries, in cells that are in use and that count, and each item tells its key.
+pub record IsRooted (has : ℕ → Cell → Type 0) (u : Ledger) (root : Option ℕ) (es : List Entry) : Type 0 where
+  pub stands : Standing has (is_used u) (λ k. slice_index u.live k) root es
+  pub tells : EachTells Leads es
+
+-- the same in the cells of who has the turn
+abbrev pub StandsFor : Known → Ledger → Option ℕ → List Entry → Type 0
+StandsFor v u root es = IsRooted (HasCell (cells_with u v.turn)) u root es
+
+-- A pass has joined the turn. What it had seen is a beginning of what the turn has, and of its commits the history has those
+-- that it made and no others. The base is lawful.
+pub record Joined (lawful : List Entry → List Entry → Type 0) (before now : Known) : Type 0 where
+  pub pass : now.pass ≡ before.pass
+  pub grows : IsPartOf now.seen before.seen
+  pub commits : (own : PassView (List Operation)) → now.pass ≡ Some own → own.entries ≡ entries_by own.number now.seen.history
+  pub good : lawful (first_version now.seen) (version_seen now.seen)

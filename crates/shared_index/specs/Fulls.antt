@@ -1,0 +1,54 @@
+-- Why a transaction's call finds no room.
+use Rattle.std.specs.Prelude.{◌≡◌, ◌⊎◌, ℕ, ◌+◌, ◌-◌, ◌*◌, ◌<◌, ◌≤◌, Bool, true, false, List, Contains, length, take, slice_index}
+use Rattle.std.specs.List.{sum_by}
+use Rattle.trie_model.specs.Shape.{cells}
+use Rattle.chunk_usage.specs.Ledger.{Ledger, frozen_part, is_open, is_given, free_count, reserve_of}
+use Rattle.chunk_usage.specs.Keeping.{is_in_rows, freed}
+use Rattle.shared_cells.specs.History.{version_after}
+use Rattle.shared_index.specs.declared.desk.Draft.{Draft}
+use Rattle.shared_index.specs.declared.refusal.Full.{Full}
+use Rattle.shared_index.specs.Operations.{applied}
+use Rattle.shared_index.specs.Passes.{Known, first_version}
+use Rattle.shared_index.specs.Drafts.{working_set}
+use Rattle.shared_index.specs.Keepings.{narrowed, versions_in}
+use Rattle.shared_index.specs.Tries.{PathHas}
+use Rattle.trie_model.specs.Keys.{Entry}
+
+-- the version of a number that was seen
+abbrev pub version_at : Known → ℕ → List Entry
+version_at v n = version_after applied (first_version v.seen) (take n v.seen.history)
+
+-- how many cells these versions have together
+abbrev pub cells_kept : Known → List ℕ → ℕ
+cells_kept v versions = sum_by (λ n. cells (version_at v n)) versions
+
+-- At the refused request of a call that made a round and freed what nothing needed, so that the usage was this.
+-- The call is for a key, and writes so many cells beside the twigs on the key's path.
+pub record FullCause (after : Ledger) (d : Draft) (key : List ℕ) (written : ℕ) (f : Full) : Type 0 where
+  -- no chunk but the reserve is free
+  pub none_free : free_count d.usage ≤ reserve_of d.usage
+  -- the bump chunk of that round, and the chunks that were allocated since: of 769 cells that were written one, at most
+  pub opened : List ℕ
+  pub opened_here : (k : ℕ) → Contains opened k → (is_open after.open_chunk k ≡ true) ⊎ ((is_given after k ≡ false) × (is_given d.usage k ≡ true))
+  pub path : ℕ
+  pub on_path : PathHas d.seat.place.me.0 d.usage d.root key path
+  pub few_opened : 769 * length opened ≤ 769 + (written + path)
+  -- each other allocated chunk is the one to which a rollback returns, or has a cell of the working set or of a kept version
+  pub others_met : (k : ℕ) → is_given d.usage k ≡ true
+      → ((is_open d.usage.last_open k ≡ true) ⊎ Contains opened k) ⊎ ((0 < slice_index d.usage.live k) ⊎ (is_in_rows d.usage.rows k ≡ true))
+  -- So the cells are many: a root meets no more chunks than it has cells less branches, and each chunk that the call filled
+  -- goes with a branch of the key's path.
+  pub many_cells : length d.usage.given - reserve_of d.usage - 2 ≤ cells (working_set d) + cells_kept d.seat.place.me.0 (versions_in f.kept)
+
+-- the usage after the call's round and freeing, which kept the versions that are told
+abbrev pub after_room : Ledger → Full → Ledger
+after_room u f = freed (narrowed u (versions_in f.kept))
+
+-- While cells are handed out allocated chunks stay so, and what was frozen stays.
+pub record Grown (old new : Ledger) : Type 0 where
+  pub frozen : frozen_part new ≡ frozen_part old
+  pub given : (k : ℕ) → is_given old k ≡ true → is_given new k ≡ true
+
+-- The same, where the call's first try left some usage to the round.
+abbrev pub CausedFrom : Ledger → Draft → List ℕ → ℕ → Full → Type 0
+CausedFrom old d key written f = (u : Ledger) × Grown old u × FullCause (after_room u f) d key written f

@@ -1,0 +1,13 @@
+pub mod Operations
+pub mod Meanings
+pub mod Passes
+pub mod Turns
+pub mod Bases
+pub mod Drafts
+pub mod Logged
+pub mod Changes
+pub mod Tries
+pub mod Keepings
+pub mod Images
+pub mod Openings
+pub mod Fulls

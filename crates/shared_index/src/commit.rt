@@ -1,0 +1,167 @@
+//! Commits: the working set becomes the next version.
+ghost use Rattle.std.specs.Prelude.{◌≡◌, ◌↔◌, ◌+◌, ◌^◌, ◌<◌, ◌≤◌, All, Some, IfOk, IfErr, IsErr, length};
+ghost use Rattle.chunk_usage.specs.Ledger.{free_count};
+ghost use Rattle.chunk_usage.specs.Keeping.{freed, frozen};
+ghost use Rattle.shared_cells.specs.Views.{kept_in, pass_of, words_of};
+ghost use Rattle.shared_cells.specs.Steps.{CanPublish, Published};
+ghost use Rattle.shared_index.specs.Operations.{applied};
+ghost use Rattle.shared_index.specs.Meanings.{IsVersion};
+ghost use Rattle.shared_index.specs.Passes.{first_version};
+ghost use Rattle.shared_index.specs.Images.{image_at};
+ghost use Rattle.shared_index.specs.Keepings.{narrowed, versions_in};
+
+use crate::desk::{Desk, Draft};
+use crate::log::Log;
+use crate::meaning::{Law, Meaning, Operations, Version};
+use crate::recycling::free_unreached;
+use crate::rounds::make_round;
+use packed_node::Ref;
+use pin_core::{LAST_VERSION, Spent, next_version};
+use shared_cells::{JoinedSeat, PassSeat, Payload, Shared};
+use std::marker::Brand;
+
+/// What a commit made.
+#[derive(Clone, Copy, PartialEq, Eq, Debug)]
+pub struct Receipt {
+    /// The new version.
+    pub version: u64,
+    /// How many chunks were freed after the round that follows publishing.
+    pub freed: u32,
+    /// How many versions that round kept.
+    pub kept: usize,
+}
+
+/// Publishes the trie of a root, as what is named.
+fn publish_named<L: Law, M: Payload<Operations>>(
+    shared: &Shared<Version, Operations, Meaning<L>>,
+    seat: &mut JoinedSeat<Version, Operations>,
+    root: Option<Ref>,
+    _log: &Log,
+) -> u64
+    requires table { seat.old.place.table_id ≡ shared.now.table.shared.table_id }
+    requires can { CanPublish applied L.lawful IsVersion shared.now.table.shared.key seat.old.place.me.0 M.change root M.image }
+    ensures table { seat.new.place.table_id ≡ seat.old.place.table_id }
+    ensures numbers { (seat.new.number ≡ seat.old.number) × (seat.new.passes ≡ seat.old.passes) }
+    ensures version { result ≡ seat.old.version + 1 }
+    ensures published { Published seat.old.place.me.0 M.change root M.image seat.new.place.me.0 }
+{
+    seat.publish::<Meaning<L>, M>(shared, root)
+}
+
+/// Publishes the trie of a root, whose cells are in the words, as what the logged operations make of the current version.
+fn publish<L: Law>(
+    shared: &Shared<Version, Operations, Meaning<L>>,
+    seat: &mut JoinedSeat<Version, Operations>,
+    root: Option<Ref>,
+    log: &Log,
+) -> u64
+    requires table { seat.old.place.table_id ≡ shared.now.table.shared.table_id }
+    requires can { CanPublish applied L.lawful IsVersion shared.now.table.shared.key seat.old.place.me.0 (Some log.now.operations) root
+        (image_at (words_of seat.old.place.me.0.turn) root) }
+    ensures table { seat.new.place.table_id ≡ seat.old.place.table_id }
+    ensures numbers { (seat.new.number ≡ seat.old.number) × (seat.new.passes ≡ seat.old.passes) }
+    ensures version { result ≡ seat.old.version + 1 }
+    ensures published { Published seat.old.place.me.0 (Some log.now.operations) root (image_at (words_of seat.old.place.me.0.turn) root) seat.new.place.me.0 }
+{
+    publish_named::<L, Brand>(shared, seat, root, log)
+}
+
+impl Draft {
+    ghost use Rattle.shared_index.specs.Drafts.{Works, Commits, working_set};
+
+    // The number of the next version, if there is one.
+    fn next_version<L: Law>(
+        &mut self,
+        shared: &Shared<Version, Operations, Meaning<L>>,
+    ) -> Result<u64, Spent>
+        requires { self.old.seat.place.table_id ≡ shared.now.table.shared.table_id }
+        ensures table { self.new.seat.place.table_id ≡ self.old.seat.place.table_id }
+        ensures known { self.new.seat.place.me.0 ≡ self.old.seat.place.me.0 }
+        ensures version { self.new.seat.version ≡ self.old.seat.version }
+        ensures usage { self.new.usage ≡ self.old.usage }
+        ensures roots { (self.new.base ≡ self.old.base) × (self.new.root ≡ self.old.root) }
+        ensures log { self.new.log.operations ≡ self.old.log.operations }
+        ensures newest { All (λ k. k.version ≤ self.old.seat.version) (kept_in self.old.seat.place.me.0.turn) }
+        ensures next { IfOk result (λ _. self.old.seat.version + 1 < 2 ^ 40) }
+        ensures spent { IfErr result (λ s. (s.version ≡ self.old.seat.version) × (self.old.seat.version ≡ LAST_VERSION)) }
+    {
+        self.seat.look(shared);
+        next_version(self.seat.version)
+    }
+
+    // Publishes the working set, drops the versions that no pass reads, frees what nothing needs, and gives the pass back.
+    fn publish<L: Law>(
+        self,
+        shared: &Shared<Version, Operations, Meaning<L>>,
+    ) -> (Desk, PassSeat<Version, Operations>, Receipt)
+        requires table { self.seat.place.table_id ≡ shared.now.table.shared.table_id }
+        requires newest { All (λ k. k.version ≤ self.seat.version) (kept_in self.seat.place.me.0.turn) }
+        requires next { self.seat.version + 1 < 2 ^ 40 }
+        requires works { Works self }
+        requires lawful { L.lawful (first_version self.seat.place.me.0.seen) (working_set self) }
+        ensures tables { (result.0.seat.place.table_id ≡ self.seat.place.table_id) × (result.1.place.table_id ≡ self.seat.place.table_id) }
+        ensures commits { Commits self.seat.place.me.0 self.log.operations result.1.place.me.0 }
+        ensures version { result.2.version ≡ self.seat.version + 1 }
+        ensures kept { result.2.kept ≡ length (versions_in result.0.kept) }
+        ensures freed { free_count result.0.usage ≡ free_count self.usage + result.2.freed }
+        ensures recycled { result.0.usage ≡ freed (narrowed (frozen self.usage result.2.version) (versions_in result.0.kept)) }
+    {
+        let Draft {
+            mut seat,
+            mut usage,
+            base: _,
+            root,
+            log,
+            kept: before,
+        } = self;
+        usage.known();
+        let version = publish(shared, &mut seat, root, &log);
+        usage.freeze(version);
+        let kept = make_round(shared, &mut seat, &mut usage, &before);
+        let (seat, freed) = free_unreached(shared, seat, &mut usage);
+        let (seat, pass) = seat.split(shared);
+        let receipt = Receipt {
+            version,
+            freed,
+            kept: kept.as_slice().len(),
+        };
+        let desk = Desk {
+            seat,
+            usage,
+            root,
+            kept,
+        };
+        (desk, pass, receipt)
+    }
+
+    /// Makes the working set the next version. Where there is none, the base stays.
+    pub(crate) fn commit<L: Law>(
+        self,
+        shared: &Shared<Version, Operations, Meaning<L>>,
+    ) -> (Desk, PassSeat<Version, Operations>, Result<Receipt, Spent>)
+        requires table { self.seat.place.table_id ≡ shared.now.table.shared.table_id }
+        requires works { Works self }
+        requires lawful { L.lawful (first_version self.seat.place.me.0.seen) (working_set self) }
+        ensures tables { (result.0.seat.place.table_id ≡ self.seat.place.table_id) × (result.1.place.table_id ≡ self.seat.place.table_id) }
+        ensures commits { IfOk result.2 (λ _. Commits self.seat.place.me.0 self.log.operations result.1.place.me.0) }
+        ensures version { IfOk result.2 (λ r. r.version ≡ self.seat.version + 1) }
+        ensures kept { IfOk result.2 (λ r. r.kept ≡ length (versions_in result.0.kept)) }
+        ensures freed { IfOk result.2 (λ r. free_count result.0.usage ≡ free_count self.usage + r.freed) }
+        ensures recycled { IfOk result.2 (λ r. result.0.usage ≡ freed (narrowed (frozen self.usage r.version) (versions_in result.0.kept))) }
+        ensures back { IfErr result.2 (λ _. result.1.place.me.0 ≡ pass_of self.seat.place.me.0) }
+        ensures spent { IsErr result.2 ↔ (self.seat.version ≡ LAST_VERSION) }
+        ensures last { IfErr result.2 (λ s. s.version ≡ self.seat.version) }
+    {
+        let mut draft = self;
+        match draft.next_version(shared) {
+            Ok(_) => {
+                let (desk, pass, receipt) = draft.publish(shared);
+                (desk, pass, Ok(receipt))
+            }
+            Err(spent) => {
+                let (desk, pass) = draft.undo(shared);
+                (desk, pass, Err(spent))
+            }
+        }
+    }
+}

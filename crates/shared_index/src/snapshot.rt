@@ -1,0 +1,198 @@
+//! Snapshots: a version that is held for as long as wanted.
+ghost use Rattle.std.specs.Prelude.{◌≡◌, Some, IsSome, slice_get};
+ghost use Rattle.shared_cells.specs.declared.view.Progress.TheVariants as progress;
+ghost use Rattle.shared_cells.specs.Views.{with_progress, pinned_image};
+ghost use Rattle.shared_index.specs.Passes.{known_at, version_seen, Pinned};
+ghost use Rattle.shared_index.specs.Meanings.{Holds, IsVersion};
+
+use crate::index::Index;
+use crate::meaning::{Law, Meaning, Named, Operations, Version};
+use crate::note::Note;
+use crate::pass::Pass;
+use chunk_cells::{CellRead, read_item};
+use dns_name::Name;
+use packed_node::{Cell, Leaf, Ref};
+use shared_cells::{PinnedCells, PinnedSeat, Shared};
+use shift_key::Key;
+use std::marker::PhantomData;
+use trie_read::{Ancestors, Found, Iter, Reading, name_at};
+
+/// A published version with the pass that holds it. It doesn't change, and may go to another thread.
+///
+/// One that is dropped gives up its pass: the version is held no more, and the index has a pass less.
+pub struct Snapshot<'i, L: Law, N: Named> {
+    pub(crate) seat: PinnedSeat<Version, Operations>,
+    pub(crate) place: u32,
+    pub(crate) shared: &'i Shared<Version, Operations, Meaning<L>>,
+    names: PhantomData<N>,
+    ghost here: { seat.place.table_id ≡ shared.now.table.shared.table_id },
+    ghost named: { slice_get N.tables place ≡ Some seat.place.table_id },
+}
+
+impl<N: Named> Pass<N> {
+    /// Holds the version that is current at some moment of the call: no older than what the pass had seen.
+    pub fn hold<'i, L: Law>(self, index: &'i Index<L, N>) -> Snapshot<'i, L, N>
+        requires here { IsSome self.seat }
+        requires place { self.place ≡ index.now.place }
+        ensures place { result.place ≡ self.place }
+        ensures pinned { Pinned L.lawful (known_at self.seat) result.seat.place.me.0 result.seat.version }
+        ensures shows { IsVersion (pinned_image result.seat.place.me.0.progress) result.seat.root (version_seen result.seat.place.me.0.seen) }
+        ensures holds { Holds (pinned_image result.seat.place.me.0.progress) result.seat.root (version_seen result.seat.place.me.0.seen) }
+    {
+        let Pass { place, seat, .. } = self;
+        let Some(seat) = seat else { unreachable!() };
+        let shared = &index.shared;
+        let seat = seat.pin(shared);
+        Snapshot {
+            seat,
+            place,
+            shared,
+            names: PhantomData,
+        }
+    }
+}
+
+impl<L: Law, N: Named> Snapshot<'_, L, N> {
+    /// The pass is idle again.
+    pub fn release(self) -> Pass<N>
+        ensures here { IsSome result.seat }
+        ensures place { result.place ≡ self.entry.place }
+        ensures left { known_at result.seat ≡ with_progress self.entry.seat.place.me.0 progress.Idle }
+    {
+        let Self {
+            seat,
+            place,
+            shared,
+            names,
+        } = self;
+        Pass {
+            place,
+            seat: Some(seat.unpin(shared)),
+            names,
+        }
+    }
+
+    /// A note of what the pass of this snapshot has seen, its version among it.
+    pub fn note(&mut self, index: &Index<L, N>) -> Note<N>
+        requires { self.old.place ≡ index.now.place }
+        ensures place { (self.new.place ≡ self.old.place) × (result.place ≡ self.old.place) }
+        ensures same { self.new.seat.place.me.0 ≡ self.old.seat.place.me.0 }
+        ensures told { result.told.place.me.0.seen ≡ self.old.seat.place.me.0.seen }
+    {
+        let told = self.seat.note(&index.shared);
+        Note {
+            place: self.place,
+            told,
+            names: PhantomData,
+        }
+    }
+}
+
+impl<L: Law, N: Named> Drop for Snapshot<'_, L, N> {
+    fn drop(self) {
+        let Self {
+            seat,
+            place: _,
+            shared,
+            names: _,
+        } = self;
+        let _idle = seat.unpin(shared);
+    }
+}
+
+/// A cell is two loads. No cell of the version is written while it is pinned.
+impl<L: Law, N: Named> CellRead for Snapshot<'_, L, N> {
+    ghost use Rattle.shared_index.specs.Meanings.{in_image};
+
+    ghost has = { λ s. in_image (pinned_image s.seat.place.me.0.progress) };
+
+    fn cell(&mut self, at: Ref) -> Cell {
+        let shared = self.shared;
+        PinnedCells::new(shared, &mut self.seat).cell(at)
+    }
+}
+
+impl<L: Law, N: Named> Reading for Snapshot<'_, L, N> {
+    ghost use Rattle.trie_read.specs.Reads.{IsNamed};
+    ghost use Rattle.trie_read.specs.Walks.{StandsBetween};
+    ghost use Rattle.shared_index.specs.Meanings.{in_image, Holds};
+
+    ghost number = { λ s. s.seat.version };
+
+    ghost holds = { λ s. Holds (pinned_image s.seat.place.me.0.progress) s.seat.root };
+
+    ghost stands = { λ s. StandsBetween (in_image (pinned_image s.seat.place.me.0.progress)) s.seat.root };
+
+    ghost lies = { λ s. IsNamed (in_image (pinned_image s.seat.place.me.0.progress)) };
+
+    fn version(&mut self) -> u64 {
+        self.seat.version
+    }
+
+    fn fetch(&mut self, key: &Key, out: &mut [u8; 4096]) -> Option<usize> {
+        let root = self.seat.root;
+        match trie_read::get(self, root, key) {
+            None => None,
+            Some(leaf) => Some(read_item(self, leaf, out)),
+        }
+    }
+
+    fn find(&mut self, key: &Key) -> Found {
+        let root = self.seat.root;
+        trie_read::find(self, root, key)
+    }
+
+    fn iter(&mut self) -> Iter {
+        Iter::start(self.seat.root)
+    }
+
+    fn seek(&mut self, iter: &mut Iter, key: &Key) {
+        iter.seek(self, key);
+    }
+
+    fn next(&mut self, iter: &mut Iter) -> Option<Key> {
+        iter.next(self)
+    }
+
+    fn prev(&mut self, iter: &mut Iter) -> Option<Key> {
+        iter.prev(self)
+    }
+
+    fn lookup(&mut self, iter: &mut Iter, key: &Key, above: &mut Ancestors) -> Option<Leaf> {
+        iter.lookup(self, key, above)
+    }
+
+    fn next_leaf(&mut self, iter: &mut Iter) -> Option<Leaf> {
+        iter.next_leaf(self)
+    }
+
+    fn prev_leaf(&mut self, iter: &mut Iter) -> Option<Leaf> {
+        iter.prev_leaf(self)
+    }
+
+    fn ahead(&mut self, iter: &mut Iter) -> Option<Leaf> {
+        iter.ahead(self)
+    }
+
+    fn behind(&mut self, iter: &mut Iter) -> Option<Leaf> {
+        iter.behind(self)
+    }
+
+    fn read(&mut self, leaf: Leaf, out: &mut [u8; 4096]) -> usize {
+        read_item(self, leaf, out)
+    }
+
+    fn name(&mut self, leaf: Leaf) -> Name {
+        name_at(self, leaf)
+    }
+
+    fn count(&mut self) -> u64 {
+        let root = self.seat.root;
+        trie_read::count(self, root)
+    }
+
+    fn nodes(&mut self) -> u64 {
+        let root = self.seat.root;
+        trie_read::nodes(self, root)
+    }
+}

@@ -1,0 +1,407 @@
+//! Transactions: one at a time, each of a pass that has joined the turn.
+ghost use Rattle.std.specs.Prelude.{◌≡◌, ◌↔◌, ◌+◌, Some, Err, IsSome, IsNone, IfSome, IsSomeAnd, IsOk, IsErr, IfOk, IfErr, length, slice_get};
+ghost use Rattle.shared_index.specs.Passes.{known_at};
+ghost use Rattle.std.specs.Option.{ForSome};
+ghost use Rattle.chunk_usage.specs.Keeping.{full};
+
+use crate::change::Change;
+use crate::commit::Receipt;
+use crate::desk::{Desk, Draft};
+use crate::index::{Index, Turn};
+use crate::meaning::{Law, Meaning, Named, Operations, Version};
+use crate::pass::Pass;
+use crate::refusal::{ChangeRefusal, InsertRefusal};
+use crate::working::Refusal;
+use pin_core::{LAST_VERSION, Spent};
+use shared_cells::{PassSeat, Shared};
+use shift_key::Key;
+use std::marker::PhantomData;
+use std::sync::{MutexGuard, Wait};
+
+/// Where a transaction keeps the lock and its working set: a local of the caller, which outlives the transaction.
+#[derive(Drop)]
+pub struct Locked<'i, L: Law, N: Named> {
+    guard: Option<MutexGuard<'i, Option<Turn<N>>>>,
+    pub(crate) place: u32,
+    pub(crate) shared: &'i Shared<Version, Operations, Meaning<L>>,
+    /// It is away while a call works on it, and between transactions.
+    pub(crate) draft: Option<Draft>,
+    ghost named: { slice_get N.tables place ≡ Some shared.now.table.shared.table_id },
+    ghost here: { ForSome draft (λ d. d.seat.place.table_id ≡ shared.now.table.shared.table_id) },
+}
+
+/// A light transaction: what it writes goes on in the bump chunk.
+pub struct Light;
+
+/// A heavy transaction: it begins a chunk of its own.
+pub struct Heavy;
+
+/// A transaction on the current version, its base. Until it commits, what it writes is seen by nobody else. Dropping it rolls
+/// it back.
+pub struct Transaction<'t, 'i, L: Law, N: Named, K> {
+    pub(crate) home: &'t mut Pass<N>,
+    pub(crate) locked: &'t mut Locked<'i, L, N>,
+    kind: PhantomData<K>,
+}
+
+pub type Write<'t, 'i, L, N> = Transaction<'t, 'i, L, N, Light>;
+
+pub type Update<'t, 'i, L, N> = Transaction<'t, 'i, L, N, Heavy>;
+
+impl<'i, L: Law, N: Named> Locked<'i, L, N> {
+    ghost use Rattle.shared_index.specs.Changes.{operation_of, key_of, written_by, LeadsItem, IsRefused};
+    ghost use Rattle.trie_read.specs.Readings.{Fetched};
+    ghost use Rattle.shared_index.specs.Drafts.{Works, Operates, IsFull, IsSame, Between, Commits, working_set};
+    ghost use Rattle.shared_index.specs.Fulls.{CausedFrom};
+    ghost use Rattle.shared_index.specs.Passes.{first_version};
+    ghost use Rattle.shared_cells.specs.Views.{pass_of};
+
+    /// For transactions of an index, none of which has the lock by it yet.
+    pub fn of(index: &'i Index<L, N>) -> Self
+        ensures place { result.place ≡ index.now.place }
+        ensures none { IsNone result.draft }
+    {
+        Locked {
+            guard: None,
+            place: index.place,
+            shared: &index.shared,
+            draft: None,
+        }
+    }
+
+    // The turn goes back, and the lock with it.
+    fn put_back(&mut self, turn: Turn<N>)
+        ensures { (self.new.place ≡ self.old.place) × (self.new.draft ≡ self.old.draft) }
+    {
+        if let Some(mut guard) = self.guard.take() {
+            *guard = Some(turn);
+        }
+    }
+
+    // Gives the turn back with this desk.
+    fn leave(&mut self, desk: Desk)
+        requires { desk.seat.place.table_id ≡ self.old.shared.now.table.shared.table_id }
+        ensures { (self.new.place ≡ self.old.place) × (self.new.draft ≡ self.old.draft) }
+    {
+        let place = self.place;
+        self.put_back(Turn {
+            place,
+            desk,
+            names: PhantomData,
+        });
+    }
+
+    // The pass of this seat, in its place.
+    fn pass_of(&self, seat: PassSeat<Version, Operations>) -> Pass<N>
+        requires { seat.place.table_id ≡ self.now.shared.now.table.shared.table_id }
+        ensures place { result.place ≡ self.now.place }
+        ensures here { IsSome result.seat }
+        ensures known { known_at result.seat ≡ seat.place.me.0 }
+    {
+        Pass {
+            place: self.place,
+            seat: Some(seat),
+            names: PhantomData,
+        }
+    }
+
+    // Does an operation on the working set.
+    fn change(&mut self, change: &Change<'_>) -> Result<(), Refusal>
+        requires works { IsSomeAnd self.old.draft Works }
+        requires leads { LeadsItem change.now }
+        ensures place { self.new.place ≡ self.old.place }
+        ensures operates { Between (λ d e. Operates (operation_of change.now) (IsRefused change.now) d e (IsOk result) (result ≡ Err Refusal.Name))
+            self.old.draft self.new.draft }
+        ensures full { (f : _) → result ≡ Err (Refusal.Full f) → IsSomeAnd self.new.draft (λ d. IsFull d f) }
+        ensures cause { (f : _) → result ≡ Err (Refusal.Full f)
+            → Between (λ d e. CausedFrom d.usage e (key_of change.now) (written_by change.now) f) self.old.draft self.new.draft }
+    {
+        let Some(draft) = self.draft.take() else {
+            unreachable!()
+        };
+        let (draft, outcome) = draft.change(self.shared, change);
+        self.draft = Some(draft);
+        outcome
+    }
+
+    // Reads an item of the working set.
+    fn fetch(&mut self, key: &Key, out: &mut [u8; 4096]) -> Option<usize>
+        requires { IsSomeAnd self.old.draft Works }
+        ensures place { self.new.place ≡ self.old.place }
+        ensures same { Between IsSame self.old.draft self.new.draft }
+        ensures item { IfSome self.old.draft (λ d. Fetched key.now (working_set d) out.old out.new result) }
+    {
+        let Some(draft) = self.draft.take() else {
+            unreachable!()
+        };
+        let (draft, found) = draft.fetch(self.shared, key, out);
+        self.draft = Some(draft);
+        found
+    }
+
+    // Makes the working set the next version, and gives the turn back. The pass has seen what was published.
+    fn commit(&mut self) -> (Pass<N>, Result<Receipt, Spent>)
+        requires works { IsSomeAnd self.old.draft Works }
+        requires lawful { IsSomeAnd self.old.draft (λ d. L.lawful (first_version d.seat.place.me.0.seen) (working_set d)) }
+        ensures here { IsSome result.0.seat }
+        ensures place { result.0.place ≡ self.old.place }
+        ensures commits { IfOk result.1 (λ _. IfSome self.old.draft (λ d. Commits d.seat.place.me.0 d.log.operations (known_at result.0.seat))) }
+        ensures version { IfOk result.1 (λ r. IfSome self.old.draft (λ d. r.version ≡ d.seat.version + 1)) }
+        ensures back { IfErr result.1 (λ _. IfSome self.old.draft (λ d. known_at result.0.seat ≡ pass_of d.seat.place.me.0)) }
+        ensures spent { IfSome self.old.draft (λ d. IsErr result.1 ↔ (d.seat.version ≡ LAST_VERSION)) }
+        ensures last { IfErr result.1 (λ s. IfSome self.old.draft (λ d. s.version ≡ d.seat.version)) }
+    {
+        let Some(draft) = self.draft.take() else {
+            unreachable!()
+        };
+        let (desk, seat, outcome) = draft.commit(self.shared);
+        self.leave(desk);
+        (self.pass_of(seat), outcome)
+    }
+}
+
+impl<L: Law, N: Named> Index<L, N> {
+    ghost use Rattle.shared_index.specs.Drafts.{Begins};
+
+    // The lock, and the turn out of it.
+    fn wait<'i, R: Wait>(&'i self, rt: &R) -> (MutexGuard<'i, Option<Turn<N>>>, Desk)
+        ensures { slice_get N.tables self.now.place ≡ Some result.1.seat.place.table_id }
+    {
+        for _ in rt.forever() {
+            let mut guard = self.turn.lock(rt);
+            if let Some(turn) = guard.take() {
+                let Turn { place, desk, names } = turn;
+                if place == self.place {
+                    return (guard, desk);
+                }
+                *guard = Some(Turn { place, desk, names });
+            }
+        }
+        unreachable!()
+    }
+
+    // Waits for the turn, and joins the pass to it. The pass is then away.
+    fn join<'i, R: Wait>(
+        &'i self,
+        rt: &R,
+        pass: &mut Pass<N>,
+    ) -> (MutexGuard<'i, Option<Turn<N>>>, Draft)
+        requires here { IsSome pass.old.seat }
+        requires place { pass.old.place ≡ self.now.place }
+        ensures table { result.1.seat.place.table_id ≡ self.now.shared.table.shared.table_id }
+        ensures begins { Begins L.lawful (known_at pass.old.seat) result.1 }
+        ensures goes_on { result.1.usage.open_chunk ≡ result.1.usage.last_open }
+    {
+        let Some(seat) = pass.seat.take() else {
+            unreachable!()
+        };
+        let (guard, desk) = self.wait(rt);
+        (guard, desk.begin(&self.shared, seat))
+    }
+
+    /// Waits for the turn, and begins a light transaction.
+    pub fn write<'t, 'i, R: Wait>(
+        &'i self,
+        rt: &R,
+        locked: &'t mut Locked<'i, L, N>,
+        pass: &'t mut Pass<N>,
+    ) -> Write<'t, 'i, L, N>
+        requires here { IsSome pass.old.seat }
+        requires place { pass.old.place ≡ self.now.place }
+        ensures same_reference { result.home.ghost_name ≡ pass.entry.ghost_name }
+        ensures place { result.locked.now.place ≡ self.now.place }
+        ensures begins { IsSomeAnd result.locked.now.draft (Begins L.lawful (known_at pass.old.seat)) }
+        // What is written goes on in the bump chunk.
+        ensures goes_on { IsSomeAnd result.locked.now.draft (λ d. d.usage.open_chunk ≡ d.usage.last_open) }
+    {
+        let (guard, draft) = self.join(rt, pass);
+        *locked = Locked {
+            guard: Some(guard),
+            place: self.place,
+            shared: &self.shared,
+            draft: Some(draft),
+        };
+        Transaction {
+            home: pass,
+            locked,
+            kind: PhantomData,
+        }
+    }
+
+    /// Waits for the turn, and begins a heavy transaction.
+    pub fn update<'t, 'i, R: Wait>(
+        &'i self,
+        rt: &R,
+        locked: &'t mut Locked<'i, L, N>,
+        pass: &'t mut Pass<N>,
+    ) -> Update<'t, 'i, L, N>
+        requires here { IsSome pass.old.seat }
+        requires place { pass.old.place ≡ self.now.place }
+        ensures same_reference { result.home.ghost_name ≡ pass.entry.ghost_name }
+        ensures place { result.locked.now.place ≡ self.now.place }
+        ensures begins { IsSomeAnd result.locked.now.draft (Begins L.lawful (known_at pass.old.seat)) }
+        // What is written begins a chunk.
+        ensures own_chunk { IsSomeAnd result.locked.now.draft (λ d. d.usage.open_chunk ≡ full d.usage.last_open) }
+    {
+        let (guard, mut draft) = self.join(rt, pass);
+        draft.start_chunk();
+        *locked = Locked {
+            guard: Some(guard),
+            place: self.place,
+            shared: &self.shared,
+            draft: Some(draft),
+        };
+        Transaction {
+            home: pass,
+            locked,
+            kind: PhantomData,
+        }
+    }
+}
+
+impl<L: Law, N: Named, K> Drop for Transaction<'_, '_, L, N, K> {
+    ghost use Rattle.shared_index.specs.Drafts.{IsBack};
+
+    fn drop(self)
+        ensures back { IfSome self.entry.locked.now.draft (λ d. IsBack d.seat.place.me.0 self.exit.0.now.seat) }
+        ensures place { IfSome self.entry.locked.now.draft (λ _. self.exit.0.now.place ≡ self.entry.locked.now.place) }
+    {
+        let Self {
+            home,
+            locked,
+            kind: _,
+        } = self;
+        let shared = locked.shared;
+        if let Some(draft) = locked.draft.take() {
+            let (desk, seat) = draft.undo(shared);
+            locked.leave(desk);
+            *home = locked.pass_of(seat);
+        }
+    }
+}
+
+impl<L: Law, N: Named, K> Transaction<'_, '_, L, N, K> {
+    /// The base's number.
+    pub fn version(&self) -> u64
+        requires { IsSome self.now.locked.now.draft }
+        ensures { IfSome self.now.locked.now.draft (λ d. result ≡ length d.seat.place.me.0.seen.history) }
+    {
+        match &self.locked.draft {
+            Some(draft) => draft.seat.version,
+            None => unreachable!(),
+        }
+    }
+}
+
+impl<L: Law, N: Named, K> Transaction<'_, '_, L, N, K> {
+    ghost use Rattle.trie_model.specs.Keys.{Entry, InList};
+    ghost use Rattle.zone_model.specs.Keys.{Leads};
+    ghost use Rattle.shared_index.specs.Drafts.{Works, Operates, IsFull, IsSame, Between, Commits, IsBack, working_set};
+    ghost use Rattle.trie_read.specs.Readings.{Fetched};
+    ghost use Rattle.shared_index.specs.Fulls.{CausedFrom};
+    ghost use Rattle.trie_model.specs.Trees.{cells_in};
+    ghost use Rattle.shared_index.specs.declared.meaning.Operation.TheVariants as operation;
+    ghost use Rattle.shared_index.specs.Passes.{first_version};
+
+    /// Reads the item of a key of the working set into the beginning of `out`, and gives its length; `None` where the key is not
+    /// there.
+    pub fn fetch(&mut self, key: &Key, out: &mut [u8; 4096]) -> Option<usize>
+        requires { IsSomeAnd self.old.locked.now.draft Works }
+        ensures same_reference { (self.new.home.ghost_name ≡ self.old.home.ghost_name) × (self.new.locked.ghost_name ≡ self.old.locked.ghost_name) }
+        ensures place { self.new.locked.now.place ≡ self.old.locked.now.place }
+        ensures same { Between IsSame self.old.locked.now.draft self.new.locked.now.draft }
+        ensures item { IfSome self.old.locked.now.draft (λ d. Fetched key.now (working_set d) out.old out.new result) }
+    {
+        self.locked.fetch(key, out)
+    }
+
+    /// Puts a name in. The item begins with the name's wire form. After a refusal the working set is as before.
+    pub fn insert(&mut self, key: &Key, item: &[u8]) -> Result<(), InsertRefusal>
+        requires works { IsSomeAnd self.old.locked.now.draft Works }
+        requires leads { Leads key.now item.now }
+        ensures same_reference { (self.new.home.ghost_name ≡ self.old.home.ghost_name) × (self.new.locked.ghost_name ≡ self.old.locked.ghost_name) }
+        ensures place { self.new.locked.now.place ≡ self.old.locked.now.place }
+        ensures inserts { Between (λ d e. Operates (operation.Insert (record { key = key.now; item = item.now })) (λ es. (x : Entry) × InList x es × (x.key ≡ key.now))
+            d e (IsOk result) (result ≡ Err InsertRefusal.Exists)) self.old.locked.now.draft self.new.locked.now.draft }
+        ensures full { (f : _) → result ≡ Err (InsertRefusal.Full f) → IsSomeAnd self.new.locked.now.draft (λ d. IsFull d f) }
+        ensures cause { (f : _) → result ≡ Err (InsertRefusal.Full f)
+            → Between (λ d e. CausedFrom d.usage e key.now (3 + cells_in item.now) f) self.old.locked.now.draft self.new.locked.now.draft }
+    {
+        match self.locked.change(&Change::Insert(key, item)) {
+            Ok(()) => Ok(()),
+            Err(Refusal::Name) => Err(InsertRefusal::Exists),
+            Err(Refusal::Full(full)) => Err(InsertRefusal::Full(full)),
+        }
+    }
+
+    /// Exchanges a name's item. The item begins with the name's wire form. After a refusal the working set is as before.
+    pub fn replace(&mut self, key: &Key, item: &[u8]) -> Result<(), ChangeRefusal>
+        requires works { IsSomeAnd self.old.locked.now.draft Works }
+        requires leads { Leads key.now item.now }
+        ensures same_reference { (self.new.home.ghost_name ≡ self.old.home.ghost_name) × (self.new.locked.ghost_name ≡ self.old.locked.ghost_name) }
+        ensures place { self.new.locked.now.place ≡ self.old.locked.now.place }
+        ensures replaces { Between (λ d e. Operates (operation.Replace (record { key = key.now; item = item.now })) (λ es. (x : Entry) → InList x es → x.key ≡ key.now → ⊥)
+            d e (IsOk result) (result ≡ Err ChangeRefusal.NotFound)) self.old.locked.now.draft self.new.locked.now.draft }
+        ensures full { (f : _) → result ≡ Err (ChangeRefusal.Full f) → IsSomeAnd self.new.locked.now.draft (λ d. IsFull d f) }
+        ensures cause { (f : _) → result ≡ Err (ChangeRefusal.Full f)
+            → Between (λ d e. CausedFrom d.usage e key.now (3 + cells_in item.now) f) self.old.locked.now.draft self.new.locked.now.draft }
+    {
+        match self.locked.change(&Change::Replace(key, item)) {
+            Ok(()) => Ok(()),
+            Err(Refusal::Name) => Err(ChangeRefusal::NotFound),
+            Err(Refusal::Full(full)) => Err(ChangeRefusal::Full(full)),
+        }
+    }
+
+    /// Takes a name out. After a refusal the working set is as before.
+    pub fn delete(&mut self, key: &Key) -> Result<(), ChangeRefusal>
+        requires { IsSomeAnd self.old.locked.now.draft Works }
+        ensures same_reference { (self.new.home.ghost_name ≡ self.old.home.ghost_name) × (self.new.locked.ghost_name ≡ self.old.locked.ghost_name) }
+        ensures place { self.new.locked.now.place ≡ self.old.locked.now.place }
+        ensures deletes { Between (λ d e. Operates (operation.Delete key.now) (λ es. (x : Entry) → InList x es → x.key ≡ key.now → ⊥)
+            d e (IsOk result) (result ≡ Err ChangeRefusal.NotFound)) self.old.locked.now.draft self.new.locked.now.draft }
+        ensures full { (f : _) → result ≡ Err (ChangeRefusal.Full f) → IsSomeAnd self.new.locked.now.draft (λ d. IsFull d f) }
+        ensures cause { (f : _) → result ≡ Err (ChangeRefusal.Full f)
+            → Between (λ d e. CausedFrom d.usage e key.now 1 f) self.old.locked.now.draft self.new.locked.now.draft }
+    {
+        match self.locked.change(&Change::Delete(key)) {
+            Ok(()) => Ok(()),
+            Err(Refusal::Name) => Err(ChangeRefusal::NotFound),
+            Err(Refusal::Full(full)) => Err(ChangeRefusal::Full(full)),
+        }
+    }
+
+    /// Makes the working set the next version; where there is none, the base stays.
+    pub fn commit(self) -> Result<Receipt, Spent>
+        requires works { IsSomeAnd self.locked.now.draft Works }
+        requires lawful { IsSomeAnd self.locked.now.draft (λ d. L.lawful (first_version d.seat.place.me.0.seen) (working_set d)) }
+        ensures here { IsSome self.exit.0.now.seat }
+        ensures place { self.exit.0.now.place ≡ self.entry.locked.now.place }
+        ensures commits { IfOk result (λ _. IfSome self.entry.locked.now.draft (λ d. Commits d.seat.place.me.0 d.log.operations (known_at self.exit.0.now.seat))) }
+        ensures version { IfOk result (λ r. IfSome self.entry.locked.now.draft (λ d. r.version ≡ d.seat.version + 1)) }
+        ensures back { IfErr result (λ _. IfSome self.entry.locked.now.draft (λ d. IsBack d.seat.place.me.0 self.exit.0.now.seat)) }
+        ensures spent { IfSome self.entry.locked.now.draft (λ d. IsErr result ↔ (d.seat.version ≡ LAST_VERSION)) }
+        ensures last { IfErr result (λ s. IfSome self.entry.locked.now.draft (λ d. s.version ≡ d.seat.version)) }
+    {
+        let Self {
+            home,
+            locked,
+            kind: _,
+        } = self;
+        let (pass, outcome) = locked.commit();
+        *home = pass;
+        outcome
+    }
+}
+
+impl<L: Law, N: Named> Transaction<'_, '_, L, N, Heavy> {
+    ghost use Rattle.shared_index.specs.Drafts.{IsBack};
+
+    /// Goes back to the base. No version is made.
+    pub fn rollback(self)
+        ensures back { IfSome self.entry.locked.now.draft (λ d. IsBack d.seat.place.me.0 self.exit.0.now.seat) }
+        ensures place { IfSome self.entry.locked.now.draft (λ _. self.exit.0.now.place ≡ self.entry.locked.now.place) }
+    {
+        drop(self);
+    }
+}

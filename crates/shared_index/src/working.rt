@@ -1,0 +1,166 @@
+//! A transaction's operations: each is tried, and once more after a round where there is no room.
+ghost use Rattle.std.specs.Prelude.{◌≡◌, ◌⊎◌, ℕ, Err, IsOk, IfErr, All, Contains};
+ghost use Rattle.chunk_usage.specs.Handing.{Lacks};
+ghost use Rattle.chunk_usage.specs.Keeping.{freed};
+ghost use Rattle.shared_cells.specs.Views.{kept_in};
+ghost use Rattle.shared_cells.specs.Steps.{IsNamed};
+ghost use Rattle.shared_index.specs.Meanings.{IsVersion};
+ghost use Rattle.shared_index.specs.Changes.{operation_of, key_of, written_by, LeadsItem, IsRefused};
+ghost use Rattle.shared_index.specs.Keepings.{GoesOn, narrowed, versions_in};
+ghost use Rattle.shared_index.specs.Tries.{Tried};
+
+use crate::attempt::attempt;
+use crate::change::{Change, Unchanged};
+use crate::desk::Draft;
+use crate::meaning::{Law, Meaning, Operations, Version};
+use crate::recycling::free_unreached;
+use crate::refusal::Full;
+use crate::rounds::make_round;
+use shared_cells::Shared;
+
+/// Why a working set isn't changed.
+#[derive(Clone, Copy)]
+pub(crate) enum Refusal {
+    /// The name is there already, or isn't there.
+    Name,
+    /// There is no room.
+    Full(Full),
+}
+
+impl Draft {
+    ghost use Rattle.shared_index.specs.Drafts.{Works, Operates, IsFull, working_set};
+    ghost use Rattle.shared_index.specs.Fulls.{CausedFrom, FullCause, Grown, after_room, version_at};
+
+    // Tries an operation once.
+    fn attempt<L: Law>(
+        self,
+        shared: &Shared<Version, Operations, Meaning<L>>,
+        change: &Change<'_>,
+    ) -> (Draft, Result<(), Unchanged>)
+        requires table { self.seat.place.table_id ≡ shared.now.table.shared.table_id }
+        requires leads { LeadsItem change.now }
+        requires works { Works self }
+        ensures table { result.0.seat.place.table_id ≡ self.seat.place.table_id }
+        ensures operates { Operates (operation_of change.now) (IsRefused change.now) self result.0 (IsOk result.1) (result.1 ≡ Err Unchanged.Refused) }
+        ensures full { (f : _) → result.1 ≡ Err (Unchanged.Full f) → Lacks result.0.usage f }
+        ensures kept { result.0.kept ≡ self.kept }
+        ensures tried { IfErr result.1 (λ e. Tried change.now self.root self.seat.place.me.0 self.usage result.0.seat.place.me.0 result.0.usage (Err e)) }
+        ensures grown { Grown self.usage result.0.usage }
+        ensures root { IfErr result.1 (λ _. result.0.root ≡ self.root) }
+    {
+        let Draft {
+            seat,
+            mut usage,
+            base,
+            root,
+            log,
+            kept,
+        } = self;
+        let (seat, outcome) = attempt(shared, seat, &mut usage, root, change);
+        match outcome {
+            Ok(root) => {
+                let draft = Draft {
+                    seat,
+                    usage,
+                    base,
+                    root,
+                    log: log.then(change),
+                    kept,
+                };
+                (draft, Ok(()))
+            }
+            Err(unchanged) => {
+                let draft = Draft {
+                    seat,
+                    usage,
+                    base,
+                    root,
+                    log,
+                    kept,
+                };
+                (draft, Err(unchanged))
+            }
+        }
+    }
+
+    // Makes a round, and frees what nothing needs.
+    fn make_room<L: Law>(self, shared: &Shared<Version, Operations, Meaning<L>>) -> Draft
+        requires table { self.seat.place.table_id ≡ shared.now.table.shared.table_id }
+        requires works { Works self }
+        ensures table { result.seat.place.table_id ≡ self.seat.place.table_id }
+        ensures goes_on { GoesOn self.seat.place.me.0 result.seat.place.me.0 }
+        ensures log { result.log.operations ≡ self.log.operations }
+        ensures works { Works result }
+        ensures named { (v : ℕ) → Contains (versions_in result.kept) v → (v ≡ result.seat.version) ⊎ IsNamed result.seat.place.me.0 v }
+        ensures after { result.usage ≡ freed (narrowed self.usage (versions_in result.kept)) }
+        ensures images { All (λ k. IsVersion k.image k.root (version_at result.seat.place.me.0 k.version)) (kept_in result.seat.place.me.0.turn) }
+    {
+        let Draft {
+            mut seat,
+            mut usage,
+            base,
+            root,
+            log,
+            kept: before,
+        } = self;
+        let kept = make_round(shared, &mut seat, &mut usage, &before);
+        let (seat, _) = free_unreached(shared, seat, &mut usage);
+        Draft {
+            seat,
+            usage,
+            base,
+            root,
+            log,
+            kept,
+        }
+    }
+
+    // Makes room, and tries the operation once more.
+    fn change_in_room<L: Law>(
+        self,
+        shared: &Shared<Version, Operations, Meaning<L>>,
+        change: &Change<'_>,
+    ) -> (Draft, Result<(), Refusal>)
+        requires table { self.seat.place.table_id ≡ shared.now.table.shared.table_id }
+        requires leads { LeadsItem change.now }
+        requires works { Works self }
+        ensures table { result.0.seat.place.table_id ≡ self.seat.place.table_id }
+        ensures operates { Operates (operation_of change.now) (IsRefused change.now) self result.0 (IsOk result.1) (result.1 ≡ Err Refusal.Name) }
+        ensures full { (f : _) → result.1 ≡ Err (Refusal.Full f) → IsFull result.0 f }
+        ensures cause { (f : _) → result.1 ≡ Err (Refusal.Full f) → FullCause (after_room self.usage f) result.0 (key_of change.now) (written_by change.now) f }
+    {
+        let draft = self.make_room(shared);
+        let (draft, outcome) = draft.attempt(shared, change);
+        match outcome {
+            Ok(()) => (draft, Ok(())),
+            Err(Unchanged::Refused) => (draft, Err(Refusal::Name)),
+            Err(Unchanged::Full(full)) => {
+                let full = Full::of(full, draft.kept);
+                (draft, Err(Refusal::Full(full)))
+            }
+        }
+    }
+
+    /// Does an operation on the working set. Where there is no room it makes a round, frees what nothing needs, and tries once
+    /// more. After a refusal the working set is as before.
+    pub(crate) fn change<L: Law>(
+        self,
+        shared: &Shared<Version, Operations, Meaning<L>>,
+        change: &Change<'_>,
+    ) -> (Draft, Result<(), Refusal>)
+        requires table { self.seat.place.table_id ≡ shared.now.table.shared.table_id }
+        requires leads { LeadsItem change.now }
+        requires works { Works self }
+        ensures table { result.0.seat.place.table_id ≡ self.seat.place.table_id }
+        ensures operates { Operates (operation_of change.now) (IsRefused change.now) self result.0 (IsOk result.1) (result.1 ≡ Err Refusal.Name) }
+        ensures full { (f : _) → result.1 ≡ Err (Refusal.Full f) → IsFull result.0 f }
+        ensures cause { (f : _) → result.1 ≡ Err (Refusal.Full f) → CausedFrom self.usage result.0 (key_of change.now) (written_by change.now) f }
+    {
+        let (draft, outcome) = self.attempt(shared, change);
+        match outcome {
+            Ok(()) => (draft, Ok(())),
+            Err(Unchanged::Refused) => (draft, Err(Refusal::Name)),
+            Err(Unchanged::Full(_)) => draft.change_in_room(shared, change),
+        }
+    }
+}
