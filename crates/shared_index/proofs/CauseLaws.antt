@@ -22,7 +22,7 @@ use Rattle.trie_read.specs.Reads.{EachTells}
 use Rattle.trie_write.specs.Paths.{twigs_on_path}
 use Rattle.trie_write.specs.Roots.{OnPath}
 use Rattle.trie_write.specs.Standing.{StandsIn, Standing}
-use Rattle.trie_write.proofs.PlanLaws.{size_is}
+use Rattle.trie_model.proofs.SizeLaws.{size_is, no_cells}
 use Rattle.shared_index.proofs.CountedLaws.{row_le}
 use Rattle.shared_index.proofs.MeetLaws.{firsts, branches, met_first, row_add, firsts_sum, firsts_few, equal_once, path_few, set_few}
 use Rattle.shared_index.proofs.OpenLaws.{none_unspent, clear_is}
@@ -34,7 +34,6 @@ use Rattle.pin_core.specs.declared.kept.CellAt.{CellAt}
 use Rattle.pin_core.specs.declared.kept.Kept.{Kept}
 use Rattle.pin_core.proofs.Lists.{contains_cases}
 use Rattle.trie_model.proofs.ShapeLaws.{cells_are}
-use Rattle.trie_write.proofs.PlanLaws.{no_cells}
 use Rattle.shared_index.specs.Meanings.{IsVersion}
 use Rattle.shared_index.specs.Passes.{Known}
 use Rattle.shared_index.specs.Turns.{row_for}

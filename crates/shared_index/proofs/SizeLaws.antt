@@ -8,8 +8,8 @@ use Rattle.trie_model.specs.Trees.Twigs.{none, twig}
 use Rattle.trie_model.specs.Shape.{cells}
 use Rattle.trie_write.specs.declared.item.Item.{Item}
 use Rattle.trie_write.specs.Entries.{entry_of, entries_of_items}
-use Rattle.trie_write.proofs.PlanLaws.{size, twig_sizes, size_is, size_branch, row_ones, no_cells}
-use Rattle.trie_write.proofs.RunLaws.{outline_items}
+use Rattle.trie_model.proofs.SizeLaws.{size, twig_sizes, size_is, size_branch, row_ones, no_cells}
+use Rattle.trie_write.proofs.ItemLaws.{outline_items}
 
 mutual
   size_most : (low : ℕ) (t : Tree) → IsTree low t → size t + 1 ≤ 259 * length (entries_of t)
