@@ -86,7 +86,15 @@ fn run_command(
 {
     match command {
         Command::Ask(question) => {
-            run_question(alloc, origin, index, question, number, &mut buffers.before, out)
+            run_question(
+                alloc,
+                origin,
+                index,
+                question,
+                number,
+                &mut buffers.before,
+                out,
+            )
         }
         Command::Block(block) => run_block(alloc, origin, index, block, number, buffers, out),
     }

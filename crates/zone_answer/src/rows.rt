@@ -84,12 +84,7 @@ impl Rows {
     }
 
     /// Adds the records of an RRset, with this owner. More of them than 64 bits count are taken for want of memory.
-    pub fn push(
-        &mut self,
-        alloc: Global,
-        owner: &Name,
-        set: &SetView<'_>,
-    ) -> Result<(), AllocError>
+    pub fn push(&mut self, alloc: Global, owner: &Name, set: &SetView<'_>) -> Result<(), AllocError>
         ensures { OnOk result (self.new ≡ self.old ++ rows_of owner.now set.now) }
     {
         let Some(len) = self.len.checked_add(u64::from(set.len())) else {

@@ -50,7 +50,15 @@ fn apply<T: Transaction>(
     let octets = &buffers.before[..len];
     let before = entry_of(alloc, owner, octets)?;
     let entry = changed(alloc, origin, operation, before.clone()?)?;
-    match store(transaction, owner, &key, octets, &before, &entry, &mut buffers.after) {
+    match store(
+        transaction,
+        owner,
+        &key,
+        octets,
+        &before,
+        &entry,
+        &mut buffers.after,
+    ) {
         Ok(()) => Ok(()),
         Err(kept) => Err(Stopped::Full(kept)),
     }

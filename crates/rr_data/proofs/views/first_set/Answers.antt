@@ -29,6 +29,8 @@ returns c s more h =
     (record { a_is = c.split_at.ensures.front; behind_a_is = c.split_at.ensures.back; b_is = c.split_at-2.ensures.front; behind_b_is = c.split_at-2.ensures.back; c_is = c.split_at-3.ensures.front; behind_c_is = c.split_at-3.ensures.back }) in
     let records = set_records s more c.split_at.result.0.now c.split_at-2.result.0.now c.split_at-3.result.0.now c.split_at-3.result.1.now c.short_of-count.result head c.short_of-count.ensures in
     let behind = c.behind_records-behind.ensures s.records more records in
-    let b = before_more c.short_of-count.result c.split_at-3.result.1.now s.records more c.behind_records-behind.result.now records behind in
-    (set_view s c.short_of.result c.number_of.result c.short_of-count.result c.split_at-4.result.0.now (c.short_of.ensures ∙ head.rtype) (c.number_of.ensures ∙ head.ttl)
-    (record { rising = h.proper.rising; counted = records.counted; laid = c.split_at-4.ensures.front ∙ b.1 }), behind)
+    let b = before_more c.short_of-count.result c.split_at-3.result.1.now s.records more c.behind_records-behind.result.now records behind in (
+      set_view s c.short_of.result c.number_of.result c.short_of-count.result c.split_at-4.result.0.now (c.short_of.ensures ∙ head.rtype) (c.number_of.ensures ∙ head.ttl)
+          (record { rising = h.proper.rising; counted = records.counted; laid = c.split_at-4.ensures.front ∙ b.1 }),
+      behind,
+    )
