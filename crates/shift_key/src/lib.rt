@@ -64,13 +64,9 @@ impl Key {
     pub fn of(name: &Name) -> Key
         ensures { result ≡ key_of name.now }
     {
-        let mut places = [0; 512];
-        let len = put_labels(&mut places, name.wire()) as u16;
-        Key {
-            name: *name,
-            places,
-            len,
-        }
+        let mut key = Key::root();
+        key.set(name);
+        key
     }
 
     /// Makes it the key of this name. Where many keys are wanted one after another, this is cheaper than new ones.
