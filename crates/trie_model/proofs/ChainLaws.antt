@@ -5,7 +5,6 @@ use Rattle.std.proofs.lemmas.Bool.Decides.{nat_tests}
 use Rattle.std.proofs.lemmas.List.{get_or_past, get_or_append_left, length-map, take_at}
 use Rattle.std.proofs.lemmas.List.Elements.{filter-append}
 use Rattle.std.proofs.lemmas.List.Sums.{sum_by-cons, sum_by-append}
-use Rattle.std.specs.List.{filter}
 use Rattle.trie_model.specs.Keys.{at, Same, IsKey, Entry, InList, Less, Rises}
 use Rattle.trie_model.specs.Order.{begins, EndsAt, chain, chain_labels, labels_in}
 use Rattle.trie_model.specs.Trees.{Tree, Twigs, entries_of, entries, IsTree, AreTwigs}

@@ -5,7 +5,7 @@ use Rattle.std.proofs.lemmas.List.{get_or_past}
 use Rattle.trie_model.specs.Keys.{at, IsKey, Entry, IsEntry, Less, InList, Rises}
 use Rattle.trie_model.specs.Changes.{Inserted, Nearest, Grown, Deep}
 use Rattle.trie_model.specs.Shape.{cells}
-use Rattle.trie_model.specs.Trees.{Tree, Twigs, entries_of, entries, count, cells_in, IsTree, AreTwigs, beside}
+use Rattle.trie_model.specs.Trees.{Tree, Twigs, entries_of, entries, count, IsTree, AreTwigs, beside}
 use Rattle.trie_model.specs.Trees.Tree.{leaf, branch}
 use Rattle.trie_model.specs.Trees.Twigs.{twig}
 use Rattle.trie_model.proofs.KeyLaws.{in_right, in_both}

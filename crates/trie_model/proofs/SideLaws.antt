@@ -1,16 +1,9 @@
 -- What stands on each side of a key among the entries below a branch.
-use Rattle.std.proofs.Common.{◌≡◌, ℕ, suc, ◌<◌, ◌≤◌, false, List, [], ◌∷◌, ◌++◌, length, append_assoc, arith, inl, inr, refl, sym, ◌∙◌, ap, subst}
-use Rattle.std.proofs.lemmas.Bool.{cases_lt}
+use Rattle.std.proofs.Common.{ℕ, suc, ◌≤◌, List, arith, sym, ◌∙◌}
 use Rattle.trie_model.specs.Keys.{at, Same, Entry, InList, Less}
-use Rattle.trie_model.specs.Order.{begins}
-use Rattle.trie_model.specs.Trees.{Twigs, entries, Agree, IsTree, AreTwigs}
-use Rattle.trie_model.specs.Trees.Tree.{branch}
-use Rattle.trie_model.proofs.KeyLaws.{in_both, past_end}
-use Rattle.trie_model.proofs.GrowthLaws.{each_of}
-use Rattle.trie_model.proofs.ShapeLaws.{two_of}
+use Rattle.trie_model.specs.Trees.{Twigs, entries, Agree, AreTwigs}
 use Rattle.trie_model.proofs.BitmapLaws.{Rising}
 use Rattle.trie_model.proofs.SplitLaws.{keys_lower, keys_upper}
-use Rattle.trie_model.proofs.ChainLaws.{not_so, begins_reads}
 
 -- a key agrees before o with each key of the list
 abbrev pub AgreesWith : ℕ → List ℕ → List Entry → Type 0

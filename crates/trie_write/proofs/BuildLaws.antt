@@ -1,7 +1,7 @@
 -- The trie that grows as items are built.
 use Rattle.std.specs.Int.{bit_at}
 use Rattle.std.proofs.lemmas.Nat.{shr_high}
-use Rattle.std.proofs.Common.{pow_mono, ◌≡◌, ℕ, suc, ◌+◌, ◌*◌, ◌/◌, ◌%◌, ◌^◌, ◌<◌, ◌≤◌, true, List, [], ◌∷◌, ◌++◌, length, slice_get, Option, Some, None, arith, refl, sym, ◌∙◌, ap, subst}
+use Rattle.std.proofs.Common.{pow_mono, ◌≡◌, ℕ, suc, ◌+◌, ◌*◌, ◌/◌, ◌%◌, ◌^◌, ◌<◌, ◌≤◌, true, List, [], ◌∷◌, ◌++◌, length, slice_get, Option, Some, arith, sym, ◌∙◌, ap, subst}
 use Rattle.packed_node.specs.declared.Cell.{Cell}
 use Rattle.packed_node.specs.declared.Leaf.{Leaf}
 use Rattle.packed_node.specs.declared.Node.TheVariants as node
@@ -10,7 +10,7 @@ use Rattle.trie_model.specs.Keys.{at, Entry, IsEntry, Rises}
 use Rattle.trie_model.specs.Memory.{ItemLies}
 use Rattle.trie_model.specs.Reach.{row, in_chunk}
 use Rattle.trie_model.specs.Shape.{cells}
-use Rattle.trie_model.specs.Trees.{Tree, Twigs, entries_of, entries, count, bitmap_of, cells_in, IsRow, IsTree, beside}
+use Rattle.trie_model.specs.Trees.{Twigs, entries_of, entries, count, bitmap_of, cells_in, IsRow, IsTree, beside}
 use Rattle.trie_model.specs.Trees.Tree.{leaf, branch}
 use Rattle.trie_model.specs.Trees.Twigs.{none, twig}
 use Rattle.trie_model.proofs.BitmapLaws.{below_all, few, count-beside, bitmap_of-beside}
@@ -18,7 +18,7 @@ use Rattle.trie_model.proofs.CountLaws.{under, weigh_is, under-beside}
 use Rattle.trie_model.proofs.MoveLaws.{Keeps, beneath_kept}
 use Rattle.trie_model.proofs.OutlineLaws.{EachIsEntry, fewer_cells}
 use Rattle.trie_model.proofs.ReachLaws.{met, live_is}
-use Rattle.trie_model.proofs.SizeLaws.{size, twig_sizes, twig_sizes-beside, size_is, size_branch, short_row, item_row, entry_cells}
+use Rattle.trie_model.proofs.SizeLaws.{twig_sizes, twig_sizes-beside, size_is, size_branch, short_row, item_row, entry_cells}
 use Rattle.trie_model.proofs.TopLaws.{is_node}
 use Rattle.chunk_usage.specs.Rooms.{Account, Handed}
 use Rattle.trie_write.specs.declared.points.BranchPoint.{BranchPoint}

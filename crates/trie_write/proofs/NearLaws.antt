@@ -19,7 +19,7 @@ use Rattle.trie_model.proofs.AddLaws.{found_twigs, from_here}
 use Rattle.trie_model.proofs.GrowthLaws.{each_entry}
 use Rattle.trie_read.specs.Reads.{IsTop}
 use Rattle.trie_write.specs.Tops.{IsBranchTop, IsLeafTop}
-use Rattle.trie_write.specs.Nearness.{Apart, Closest, FirstDiffers, Differs}
+use Rattle.trie_write.specs.Nearness.{Apart, Closest, Differs}
 
 widen : (o d : ℕ) (k : List ℕ) (near x : Entry) (es : List Entry) → Agree o es → InList near es → InList x es → (at k d ≡ at near.key d → ⊥) → (at x.key o ≡ at k o → ⊥) → (d < o) ⊎ (o ≤ d) → (i : ℕ) × (i ≤ d) × (at k i ≡ at x.key i → ⊥)
 widen o d k near x es agree n i other ne (inl lt) = (d, omega arith, λ e. other (e ∙ agree x near i n d lt))

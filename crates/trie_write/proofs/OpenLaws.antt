@@ -1,15 +1,15 @@
 -- A branch that is open: more of its twigs may come.
 use Rattle.std.proofs.Common.{◌≡◌, ℕ, suc, ◌+◌, ◌<◌, ◌≤◌, List, [], ◌∷◌, ◌++◌, length, min, Option, Some, None, append_assoc, append-nil, arith, inl, inr, refl, sym, ◌∙◌, ap, subst}
-use Rattle.trie_model.specs.Keys.{at, Same, Entry, IsEntry, InList, Rises}
+use Rattle.trie_model.specs.Keys.{at, Same, Entry, InList, Rises}
 use Rattle.trie_model.specs.Shape.{cells}
-use Rattle.trie_model.specs.Trees.{Tree, Twigs, entries_of, entries, count, cells_in, AllAt, Agree, IsRow, IsTree, AreTwigs, Rising, beside}
+use Rattle.trie_model.specs.Trees.{Tree, Twigs, entries_of, entries, count, AllAt, Agree, IsRow, IsTree, AreTwigs, Rising, beside}
 use Rattle.trie_model.specs.Trees.Tree.{leaf, branch}
 use Rattle.trie_model.specs.Trees.Twigs.{none, twig}
 use Rattle.trie_model.proofs.KeyLaws.{in_left, in_right, in_both}
 use Rattle.trie_model.proofs.BitmapLaws.{few, count-beside}
 use Rattle.trie_model.proofs.SplitLaws.{entries-beside, twigs_join, rising_of}
 use Rattle.trie_model.proofs.GrowthLaws.{some_entry}
-use Rattle.trie_model.proofs.SizeLaws.{size, twig_sizes, size_is, size_branch, twig_sizes-beside, short_row}
+use Rattle.trie_model.proofs.SizeLaws.{twig_sizes, size_is, size_branch, twig_sizes-beside, short_row}
 use Rattle.trie_write.specs.declared.points.BranchPoint.{BranchPoint}
 use Rattle.trie_write.specs.declared.item.Item.{Item}
 use Rattle.trie_write.specs.Entries.{entries_of_items}

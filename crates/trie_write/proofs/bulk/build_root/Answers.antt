@@ -1,4 +1,4 @@
-use Rattle.std.proofs.Common.{ℕ, arith, refl}
+use Rattle.std.proofs.Common.{arith, refl}
 use Rattle.trie_write.proofs.BuildLaws.{root_stands, root_cost, stopped_cost}
 use Rattle.trie_write.proofs.ItemLaws.{each_entry}
 use Rattle.trie_write.proofs.bulk.build_root.Goals as goal

@@ -1,6 +1,6 @@
-use Rattle.std.proofs.Common.{◌≡◌, ℕ, suc, ◌+◌, ◌*◌, ◌<◌, ◌≤◌, List, length, min, Option, Some, arith, rules, sym, ◌∙◌, ap, subst, refl}
+use Rattle.std.proofs.Common.{◌≡◌, ℕ, suc, ◌+◌, ◌*◌, ◌<◌, List, length, Option, arith, rules, sym, ap, subst, refl}
 use Rattle.trie_model.specs.Keys.{Entry, Rises}
-use Rattle.trie_model.specs.Trees.{Tree, Twigs, beside}
+use Rattle.trie_model.specs.Trees.{beside}
 use Rattle.trie_model.specs.Trees.Tree.{leaf}
 use Rattle.trie_model.specs.Trees.Twigs.{none, twig}
 use Rattle.trie_model.proofs.SizeLaws.{item_row, entry_cells}
@@ -8,7 +8,7 @@ use Rattle.trie_write.specs.declared.points.BranchPoint.{BranchPoint}
 use Rattle.trie_write.specs.Entries.{entry_of, entries_of_items}
 use Rattle.trie_write.specs.Points.{Before, Front}
 use Rattle.trie_write.proofs.ItemLaws.{item_entry}
-use Rattle.trie_write.proofs.OpenLaws.{Opened, open_first, open_more, open_close, some_left, front_point, front_lower, leaf_front, count_first, count_more, count_close}
+use Rattle.trie_write.proofs.OpenLaws.{Opened, open_first, open_more, some_left, front_point, front_lower, leaf_front, count_first, count_more, count_close}
 use Rattle.trie_write.proofs.size.+count.Goals as goal
 
 pub count_branch-loop-beside-init : goal.count_branch-loop-beside-init

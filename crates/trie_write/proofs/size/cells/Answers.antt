@@ -1,4 +1,4 @@
-use Rattle.std.proofs.Common.{◌≡◌, length, min, List, [], arith, eqb-true, ◌∙◌, sym, ap}
+use Rattle.std.proofs.Common.{◌≡◌, length, min, arith, eqb-true, ◌∙◌, sym, ap}
 use Rattle.trie_model.specs.Shape.{cells}
 use Rattle.trie_model.proofs.SizeLaws.{no_cells}
 use Rattle.trie_write.specs.Entries.{entries_of_items}
