@@ -149,6 +149,77 @@ returns-in-Ok-clause-put c base es works = let n = c.in-Ok.ensures.inserted base
 
 pub returns-in-Err-clause-put : goal.returns-in-Err-clause-put
 returns-in-Err-clause-put c base es works = (es, c.in-Err.ensures.refused base es works)
+== rise/Answers.antt
+use Rattle.std.proofs.Common.{◌≡◌, ℕ, zero, suc, ◌-◌, ◌<◌, ◌≤◌, inl, inr, List, [], ◌∷◌, length, drop, get_or, arith, rules, refl, sym, ◌∙◌, subst}
+use Rattle.std.proofs.lemmas.Bool.{cases_lt}
+use Rattle.trie_model.specs.Keys.{at, Entry, Less, Rises}
+use Rattle.trie_write.specs.declared.item.Item.{Item}
+use Rattle.trie_write.specs.Entries.{entry_of, entries_of_items}
+use Rattle.index.proofs.rise.Goals as goal
+
+less_then : (a b c : List ℕ) → Less a b → Less b c → Less a c
+less_then a b c l m = elim (cases_lt l.place m.place) [
+  | inl x ↦ record { place = l.place; same = λ i k. l.same i k ∙ m.same i (omega arith); lower = (let e = m.same l.place x in let f = l.lower in omega arith) }
+  | inr y ↦ elim (cases_lt m.place l.place) [
+    | inl x ↦ record { place = m.place; same = λ i k. l.same i (omega arith) ∙ m.same i k; lower = (let e = l.same m.place x in let f = m.lower in omega arith) }
+    | inr z ↦ (
+        let e : l.place ≡ m.place = omega arith in
+        let f = subst (λ (i : ℕ). at b i < at c i) (sym e) m.lower in
+        record { place = l.place; same = λ i k. l.same i k ∙ m.same i (omega arith); lower = (let g = l.lower in omega arith) }
+        )
+  ]
+]
+
+rises_at : (items : List Item) (k : ℕ) (x y : Item) → suc k < length items → x ≡ get_or items k x → y ≡ get_or items (suc k) y → Less (entry_of x).key (entry_of y).key → Rises (entries_of_items (drop (suc k) items)) → Rises (entries_of_items (drop k items))
+rises_at [] k x y n ex ey l r = absurd (omega arith)
+rises_at (a ∷ []) k x y n ex ey l r = absurd (omega arith)
+rises_at (a ∷ (b ∷ more)) zero x y n ex ey l r =
+    let here : Less (entry_of a).key (entry_of b).key = subst (λ (u : Item). Less (entry_of u).key (entry_of b).key) ex (subst (λ (v : Item). Less (entry_of x).key (entry_of v).key) ey l) in
+    (λ z i. elim i [ inl e ↦ subst (λ (w : Entry). Less (entry_of a).key w.key) (sym e) here | inr j ↦ less_then (entry_of a).key (entry_of b).key z.key here (r.0 z j) ], r)
+rises_at (a ∷ (b ∷ more)) (suc k) x y n ex ey l r = rises_at (b ∷ more) k x y (omega arith) ex ey l r
+
+end_rises : (items : List Item) → Rises (entries_of_items (drop (length items - 1) items))
+end_rises [] = tt
+end_rises (a ∷ []) = (λ z i. absurd i, tt)
+end_rises (a ∷ (b ∷ more)) = let e : length (a ∷ (b ∷ more)) - 1 ≡ suc (length (b ∷ more) - 1) = omega arith in subst (λ (n : ℕ). Rises (entries_of_items (drop n (a ∷ (b ∷ more))))) (sym e) (end_rises (b ∷ more))
+
+pub loop-left-init : goal.loop-left-init
+loop-left-init c = record { rising = end_rises c.args.items.now; within = omega arith }
+
+pub loop-left-preserved : goal.loop-left-preserved
+loop-left-preserved c =
+    let inv = c.loop-left.invariant in
+    let test = c.loop-left-test.true in
+    let within = inv.within in
+    let before = subst (λ (k : List ℕ). Less k c.key-in-loop-left.result) c.key.ensures (c.comes_before.ensures (search rules)) in
+    let l = subst (Less (entry_of c.index-items-first.result).key) c.key-in-loop-left.ensures before in
+    let e : c.loop-left.left - 1 ≡ suc (c.loop-left.left - 2) = omega arith in
+    let f : c.loop-left.left - 1 - 1 ≡ c.loop-left.left - 2 = omega arith in
+    record {
+      rising = subst (λ (n : ℕ). Rises (entries_of_items (drop n c.args.items.now))) (sym f) (rises_at c.args.items.now (c.loop-left.left - 2) c.index-items-first.result c.index-items-second.result (omega arith) c.index-items-first.is
+          (subst (λ (n : ℕ). c.index-items-second.result ≡ get_or c.args.items.now n c.index-items-second.result) e c.index-items-second.is) l (subst (λ (n : ℕ). Rises (entries_of_items (drop n c.args.items.now))) e inv.rising));
+      within = omega arith;
+    }
+
+pub returns : goal.returns
+returns c all =
+    let test = c.loop-left-test.false in
+    let e : c.loop-left.left - 1 ≡ 0 = omega arith in
+    subst (λ (n : ℕ). Rises (entries_of_items (drop n c.args.items.now))) e c.loop-left.invariant.rising
+== rise/Invariants.antt
+use Rattle.std.proofs.Common.{◌-◌, ◌≤◌, length, drop}
+use Rattle.trie_model.specs.Keys.{Rises}
+use Rattle.trie_write.specs.Entries.{entries_of_items}
+use Rattle.index.proofs.rise.Given as goal
+
+abbrev pub invariant-loop-left : goal.invariant-loop-left
+invariant-loop-left l = record {
+  rising : Rises (entries_of_items (drop (l.left - 1) l.items));
+  within : l.left ≤ length l.items;
+}
+
+abbrev pub decreases-loop-left : goal.decreases-loop-left
+decreases-loop-left l = l.left
 == run/Answers.antt
 use Rattle.std.proofs.Common.{[]}
 use Rattle.trie_write.specs.Entries.{entries_of_items}
@@ -212,3 +283,11 @@ for work in get:present get:absent lookup:present lookup:absent lookup:beside lo
     whole=$(counted "${work%:*}" "$folder/$kind")
     printf '%s, names %s: %s instructions\n' "${work%:*}" "$kind" $(((whole - $(cat "$folder/$kind.open")) / asked))
 done
+
+# opening an index with names in order, beside finding out that they are; its memory is counted too
+python3 -c 'import sys; print("example."); print("".join(host + ".example.\n" for host in sorted(f"n{i}" for i in range(int(sys.argv[1])))) + "ns.example.")' "$names" >"$folder/sorted"
+ordered=$(counted rise "$folder/sorted")
+printf 'open, a name: %s instructions\n' $((($(counted build "$folder/sorted") - ordered) / names))
+# of that, what is in build and in cells, as the profile says
+valgrind --tool=callgrind --callgrind-out-file="$folder/profile" "$program/out/index" build <"$folder/sorted" >/dev/null 2>&1
+callgrind_annotate --inclusive=yes "$folder/profile" | grep -E "build_front|count_front" | grep -v "'2"
