@@ -1,5 +1,5 @@
 -- What is printed of outcomes that tell what is so is the report.
-use Rattle.std.proofs.Common.{◌≡◌, ◌∙◌, ℕ, ◌+◌, List, [], ◌∷◌, ◌++◌, length, drop, refl, sym, ap, append_assoc, codes, Result, Ok, Err, IfOk, Bool, true, false, ◌||◌, map}
+use Rattle.std.proofs.Common.{◌≡◌, ◌∙◌, ℕ, ◌+◌, List, [], ◌∷◌, ◌++◌, length, refl, sym, ap, append_assoc, Result, Ok, Err, IfOk, Bool, true, false, ◌||◌, map}
 use Rattle.std.specs.List.{list_any}
 use Rattle.zone_model.specs.Names.{Name}
 use Rattle.zone_model.specs.Versions.{Version}
@@ -8,7 +8,6 @@ use Rattle.job_model.specs.Outcomes.{Pair, all_pairs, is_refused, some_refused}
 use Rattle.job_model.specs.Replies as replies
 use Rattle.job_model.specs.Replies.{reply_of, reply_text}
 use Rattle.job_model.specs.Reports.{head_text, ended_text, end_text, command_text, worker_text, workers_text, report}
-use Rattle.job_script.specs.Replies.{reply_view}
 use Rattle.job_script.specs.Outcomes.{ended_view, outcome_view, pairs_of, job_pairs, versions_made, Replies, EndsBlock, Tells, EachTells, AllTell, told_text, outcome_text, outcomes_text, all_text}
 use Rattle.job_script.specs.declared.outcomes.Told.{Told}
 use Rattle.job_script.specs.declared.outcomes.Told.TheVariants as told

@@ -1,20 +1,18 @@
 -- The job that bytes say is the one that the grammar spells.
-use Rattle.std.proofs.Common.{◌≡◌, ◌∙◌, ℕ, zero, suc, ◌+◌, ◌-◌, ◌≤◌, Bool, true, false, cond, List, [], ◌∷◌, length, Option, Some, None, Result, Ok, Err, refl, sym, ap, subst, arith}
+use Rattle.std.proofs.Common.{◌≡◌, ◌∙◌, ℕ, zero, suc, ◌+◌, ◌-◌, ◌≤◌, Bool, true, false, cond, List, [], ◌∷◌, length, Some, None, Result, Ok, Err, refl, sym, ap, subst, arith}
 use Rattle.zone_model.specs.Names.{Name}
 use Rattle.zone_model.specs.Versions.{Version}
 use Rattle.zone_model.specs.Refusals.{Refused, ◌>>=◌}
-use Rattle.zone_model.specs.Grammar.{Spelled, Spells, EntryTokens, SpellsEntry, NoLine as NoEntryLine, ParenOpen, Broken, Last, GoesOn, begins_blank, behind, line_says, Token, LineTokens}
-use Rattle.zone_model.specs.Tokens.{fresh, entry_from, single_line}
+use Rattle.zone_model.specs.Grammar.{Spelled, Spells, EntryTokens, SpellsEntry, NoLine as NoEntryLine, ParenOpen, Broken, Last, GoesOn, begins_blank, behind, line_says}
+use Rattle.zone_model.specs.Tokens.{fresh, entry_from}
 use Rattle.zone_model.specs.MasterFile.{Reader, zone_from, zone_of, entry_says, at_first, with_soa}
 use Rattle.zone_model.specs.declared.ZoneKind.{ZoneKind}
 use Rattle.zone_model.proofs.GrammarLemmas.{line_is, line_spelled, entry_is, entry_spelled}
 use Rattle.master_file.proofs.ZoneLemmas.{after_entry, zone_begins}
 use Rattle.job_model.specs.declared.ScriptKind.{ScriptKind}
-use Rattle.job_model.specs.declared.ScriptKind.TheVariants.{BadCommand}
 use Rattle.job_model.specs.Commands.{Command, Job}
 use Rattle.job_model.specs.Phrases.{without_parens, script_tokens}
-use Rattle.job_model.specs.Arguments.{refuse}
-use Rattle.job_model.specs.Jobs.{JobRefusal, ZoneRefused, ScriptRefused, Script, tokens_say, script_line, script_from, script_of, no_lines, finished, zone_lines, script_lines, script_start, zone_refused, script_refused, job_of_lines, job_of}
+use Rattle.job_model.specs.Jobs.{JobRefusal, Script, tokens_say, script_line, script_from, script_of, no_lines, finished, zone_lines, script_lines, script_start, zone_refused, script_refused, job_of_lines, job_of}
 use Rattle.job_script.specs.Spelled.{ReadsZone, NoEntry, EntryBroken, EntryRefused, EntryRead, SaysZone, ReadsScript, NoLine, LineBroken, LineOpen, LineRefused, LineRead, SaysScript, SaysJob, NoZone, NoScript, IsJob}
 
 -- ---- zones

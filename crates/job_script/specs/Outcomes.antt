@@ -1,5 +1,5 @@
 -- Outcomes as the definitions see them, and what is printed of them.
-use Rattle.std.specs.Prelude.{◌≡◌, ℕ, ◌+◌, List, [], ◌∷◌, ◌++◌, length, codes}
+use Rattle.std.specs.Prelude.{◌≡◌, ℕ, ◌+◌, List, [], ◌∷◌, ◌++◌, codes}
 use Rattle.zone_model.specs.Names.{Name}
 use Rattle.zone_model.specs.Versions.{Version}
 use Rattle.job_model.specs.Commands as jobs
@@ -7,7 +7,7 @@ use Rattle.job_model.specs.Outcomes as outcomes
 use Rattle.job_model.specs.Outcomes.{Pair, all_pairs, version_at}
 use Rattle.job_model.specs.Replies.{reply_of, reply_text}
 use Rattle.job_model.specs.Replies as replies
-use Rattle.job_model.specs.Reports.{head_text, ended_text, end_text}
+use Rattle.job_model.specs.Reports.{head_text, ended_text}
 use Rattle.job_script.specs.Replies.{reply_view}
 use Rattle.job_script.specs.declared.outcomes.Cause.{Cause}
 use Rattle.job_script.specs.declared.outcomes.Cause.TheVariants as cause

@@ -1,5 +1,5 @@
 -- What is reported of a job that was run.
-use Rattle.std.proofs.Common.{◌≡◌, ◌∙◌, ℕ, ◌-◌, Bool, cond, List, ◌++◌, length, take, drop, Result, sym, ap, subst, arith}
+use Rattle.std.proofs.Common.{◌≡◌, ◌∙◌, ℕ, ◌-◌, Bool, cond, List, ◌++◌, length, take, drop, Result, sym, ap, arith}
 use Rattle.std.proofs.lemmas.List.{take_all, length-drop}
 use Rattle.std.specs.List.{list_any}
 use Rattle.zone_model.specs.Names.{Name}
@@ -9,7 +9,7 @@ use Rattle.zone_model.specs.Lines.{lines_of}
 use Rattle.job_model.specs.declared.ScriptKind.{ScriptKind}
 use Rattle.job_model.specs.Commands.{Command}
 use Rattle.job_model.specs.Jobs.{script_of, script_start, script_lines}
-use Rattle.job_model.specs.Outcomes.{is_refused, some_refused}
+use Rattle.job_model.specs.Outcomes.{is_refused}
 use Rattle.job_model.specs.Reports.{end_text}
 use Rattle.job_script.specs.Parts.{IsCutAt}
 use Rattle.job_script.specs.declared.parts.Parts.{Parts}

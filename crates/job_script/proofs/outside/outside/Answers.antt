@@ -1,4 +1,4 @@
-use Rattle.std.proofs.Common.{rules, sym, subst}
+use Rattle.std.proofs.Common.{sym, subst}
 use Rattle.job_model.specs.Jobs as jobs
 use Rattle.job_script.specs.Phrases.{phrase_view}
 use Rattle.job_script.specs.Scripts.{script_view, ScriptReads}
