@@ -2,3 +2,4 @@ pub mod Faults
 pub mod Calls
 pub mod Bytes
 pub mod Memory
+pub mod Streams

@@ -1,6 +1,6 @@
 ghost use Rattle.std.specs.Prelude.{◌≡◌, ◌<◌, ◌≤◌, ◌↔◌, ℕ, List, [], Option, None, Some, MatchOption, take, length, min, IsErr, IfOk, OnErr, IsOkAnd, Contains};
 ghost use Rattle.outer_io.specs.Faults.{Rose};
-ghost use Rattle.outer_io.specs.Bytes.{Grows, GrowsByFront};
+ghost use Rattle.outer_io.specs.Bytes.{Held, held_in, Grows, GrowsByFront};
 ghost use Rattle.outer_io.specs.Calls.{next_count};
 ghost use Rattle.outer_io.specs.Memory.{told};
 
@@ -12,7 +12,7 @@ use std::marker::Model;
 /// Where bytes go.
 pub trait Sink {
     /// The bytes written, where the sink tells them.
-    ghost held: { Self → Option (List ℕ) };
+    ghost held: { Self → Held };
 
     /// How many calls have failed.
     ghost faults: { Self → ℕ };
@@ -75,15 +75,15 @@ impl MemSink {
 }
 
 impl Sink for MemSink {
-    ghost held = { λ s. s.held };
+    ghost held = { λ s. held_in s.held };
 
     ghost faults = { λ s. s.calls.faults };
 
     fn write(&mut self, piece: &[u8]) -> Result<usize, Failed>
         ensures bound { IfOk result (λ n. n ≤ length piece.now) }
         ensures some { IfOk result (λ n. 0 < length piece.now → 0 < n) }
-        ensures ok { IfOk result (λ n. Grows self.old.held self.new.held (take n piece.now)) }
-        ensures err { OnErr result (GrowsByFront self.old.held self.new.held piece.now) }
+        ensures ok { IfOk result (λ n. Grows (held_in self.old.held) (held_in self.new.held) (take n piece.now)) }
+        ensures err { OnErr result (GrowsByFront (held_in self.old.held) (held_in self.new.held) piece.now) }
         ensures later { self.old.calls.faults ≤ self.new.calls.faults }
         ensures failed { OnErr result (Rose self.old.calls.faults self.new.calls.faults) }
 
@@ -142,15 +142,15 @@ impl QuietSink {
 }
 
 impl Sink for QuietSink {
-    ghost held = { λ s. s.held };
+    ghost held = { λ s. held_in s.held };
 
     ghost faults = { λ _. 0 };
 
     fn write(&mut self, piece: &[u8]) -> Result<usize, Failed>
         ensures bound { IfOk result (λ n. n ≤ length piece.now) }
         ensures some { IfOk result (λ n. 0 < length piece.now → 0 < n) }
-        ensures ok { IfOk result (λ n. Grows self.old.held self.new.held (take n piece.now)) }
-        ensures err { OnErr result (GrowsByFront self.old.held self.new.held piece.now) }
+        ensures ok { IfOk result (λ n. Grows (held_in self.old.held) (held_in self.new.held) (take n piece.now)) }
+        ensures err { OnErr result (GrowsByFront (held_in self.old.held) (held_in self.new.held) piece.now) }
         ensures later { 0 ≤ 0 }
         ensures failed { OnErr result (Rose 0 0) }
 

@@ -1,4 +1,6 @@
-ghost use Rattle.std.specs.Prelude.{◌≡◌, None};
+//! Readers and writers of std as sources and sinks.
+ghost use Rattle.std.specs.Prelude.{◌≡◌};
+ghost use Rattle.outer_io.specs.Bytes.{held_by};
 
 use crate::schedule::Failed;
 use crate::sinks::Sink;
@@ -6,7 +8,7 @@ use crate::sources::Source;
 use std::io::{Read, Write};
 use std::marker::Model;
 
-/// A reader, as standard input. It tells no bytes. Its count of faults stops at its last value.
+/// A reader, as standard input. It tells the bytes that the reader tells. Its count of faults stops at its last value.
 #[derive(Drop)]
 pub struct StdSource<R: Read> {
     inner: R,
@@ -14,26 +16,27 @@ pub struct StdSource<R: Read> {
 }
 
 impl<R: Read> Model for StdSource<R> {
-    ghost use Rattle.std.specs.Prelude.{ℕ};
+    ghost use Rattle.outer_io.specs.Streams.{Reading};
 
-    ghost Value = { ℕ };
+    ghost Value = { Reading };
 
-    ghost view = { λ s. s.faults };
+    ghost view = { λ s. record { left = R.remaining s.inner; faults = s.faults } };
 }
 
 impl<R: Read> StdSource<R> {
     /// No call has failed yet.
     pub fn new(inner: R) -> Self
-        ensures { result ≡ 0 }
+        ensures left { result.left ≡ R.remaining inner }
+        ensures faults { result.faults ≡ 0 }
     {
         StdSource { inner, faults: 0 }
     }
 }
 
 impl<R: Read> Source for StdSource<R> {
-    ghost left = { λ _. None };
+    ghost left = { λ s. s.left };
 
-    ghost faults = { λ s. s };
+    ghost faults = { λ s. s.faults };
 
     fn read(&mut self, piece: &mut [u8]) -> Result<usize, Failed> {
         match self.inner.read(piece) {
@@ -46,7 +49,7 @@ impl<R: Read> Source for StdSource<R> {
     }
 }
 
-/// A writer, as standard output. It tells no bytes. Its count of faults stops at its last value, and
+/// A writer, as standard output. It tells the bytes that the writer tells. Its count of faults stops at its last value, and
 /// taking nothing of a piece that isn't empty counts as a fault.
 #[derive(Drop)]
 pub struct StdSink<W: Write> {
@@ -55,26 +58,27 @@ pub struct StdSink<W: Write> {
 }
 
 impl<W: Write> Model for StdSink<W> {
-    ghost use Rattle.std.specs.Prelude.{ℕ};
+    ghost use Rattle.outer_io.specs.Streams.{Writing};
 
-    ghost Value = { ℕ };
+    ghost Value = { Writing };
 
-    ghost view = { λ s. s.faults };
+    ghost view = { λ s. record { held = W.contents s.inner; faults = s.faults } };
 }
 
 impl<W: Write> StdSink<W> {
     /// No call has failed yet.
     pub fn new(inner: W) -> Self
-        ensures { result ≡ 0 }
+        ensures held { result.held ≡ W.contents inner }
+        ensures faults { result.faults ≡ 0 }
     {
         StdSink { inner, faults: 0 }
     }
 }
 
 impl<W: Write> Sink for StdSink<W> {
-    ghost held = { λ _. None };
+    ghost held = { λ s. held_by s.held };
 
-    ghost faults = { λ s. s };
+    ghost faults = { λ s. s.faults };
 
     fn write(&mut self, piece: &[u8]) -> Result<usize, Failed> {
         match self.inner.write(piece) {

@@ -12,7 +12,7 @@ use Rattle.zone_model.specs.declared.ZoneKind.{ZoneKind}
 use Rattle.zone_model.specs.declared.ZoneKind.TheVariants as zone_kind
 use Rattle.job_model.specs.declared.ScriptKind.{ScriptKind}
 use Rattle.job_model.specs.declared.ScriptKind.TheVariants.{NoWorker, BadCommand, BadName, BadType, BadRdata, BadNumber, OpenBlock, TooMany}
-use Rattle.outer_io.specs.Bytes.{Grows, GrowsByFront}
+use Rattle.outer_io.specs.Bytes.{Held, Grows, GrowsByFront}
 use Rattle.qp_main.specs.Invocations.{Invocation}
 use Rattle.qp_main.specs.Fits.{fits, no_room_text, opened_text}
 use Rattle.qp_main.specs.declared.invocation.Verb.{Verb}
@@ -131,13 +131,13 @@ IsUnwritten status.DoesNotFit = ⊥
 IsUnwritten status.SinkFault = ⊥
 
 -- what is due was written whole
-pub record Written (invocation : Option Invocation) (left before now : Option (List ℕ)) (s : Status) : Type 0 where
+pub record Written (invocation : Option Invocation) (left : Option (List ℕ)) (before now : Held) (s : Status) : Type 0 where
   pub text : List ℕ
   pub due : Due invocation left s text
   pub grew : Grows before now text
 
 -- what is due, under a status of its own, was written up to some place
-pub record CutShort (invocation : Option Invocation) (left before now : Option (List ℕ)) : Type 0 where
+pub record CutShort (invocation : Option Invocation) (left : Option (List ℕ)) (before now : Held) : Type 0 where
   pub status : Status
   pub text : List ℕ
   pub due : Due invocation left status text
