@@ -1,5 +1,5 @@
 -- Digits of a seed.
-use Rattle.std.proofs.Common.{◌≡◌, ◌∙◌, ◌<◌, ◌+◌, ◌-◌, ◌*◌, ℕ, zero, suc, true, false, ◌&&◌, leb, List, [], ◌∷◌, length, get_or, drop, refl, sym, ap, arith, None, Option, option_and_then}
+use Rattle.std.proofs.Common.{◌≡◌, ◌∙◌, ◌<◌, ◌+◌, ℕ, false, ◌&&◌, leb, List, [], ◌∷◌, length, get_or, drop, refl, sym, ap, None, option_and_then}
 use Rattle.std.proofs.lemmas.List.{drop_more}
 use Rattle.zone_model.specs.Texts.{at_most, digits_from, number}
 

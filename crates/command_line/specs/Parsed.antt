@@ -1,6 +1,5 @@
 -- The command line as clap reads it.
 use Rattle.std.specs.Prelude.{ℕ, Bool, true, false, List, [], ◌∷◌, if◌then◌else◌, Option, Some, None, codes, option_and_then}
-use Rattle.std.specs.Option.{option_map}
 use Rattle.std.specs.Str.{bytes_eq}
 use Rattle.zone_model.specs.Names.{Name}
 use Rattle.zone_model.specs.NameText.{name_of}

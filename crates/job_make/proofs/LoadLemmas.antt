@@ -1,17 +1,15 @@
 -- The lines of a load, one more at a time.
-use Rattle.std.proofs.Common.{◌≡◌, ◌∙◌, ◌<◌, ◌≤◌, ◌+◌, ◌-◌, ◌*◌, ◌%◌, ℕ, zero, suc, Bool, true, false, cond, eqb, List, [], ◌∷◌, ◌++◌, refl, sym, ap, subst, arith, codes, append_assoc, append-nil}
+use Rattle.std.proofs.Common.{◌≡◌, ◌∙◌, ◌<◌, ◌≤◌, ◌+◌, ◌-◌, ◌%◌, ℕ, suc, Bool, false, cond, eqb, List, [], ◌∷◌, ◌++◌, refl, sym, ap, arith, codes, append_assoc, append-nil}
 use Rattle.std.proofs.lemmas.List.Concat.{flat_map-append}
 use Rattle.std.specs.List.{flat_map}
-use Rattle.std.specs.Fmt.{decimal}
 use Rattle.job_model.specs.Loads.{Load, Part, Moves, Removes, address_text, first_lines, line_text, made_text, name_text, names_lines, part_of, share, state_after, state_behind, turn_from, turn_lines, turns_from, turns_of, worker_lines, worker_state, workers_from}
-
 
 -- one name more
 pub names_more : (start mid now : List ℕ) (name : ℕ) → mid ≡ start ++ flat_map line_text (names_lines name) → now ≡ (mid ++ name_text name) ++ codes " A 10.0.0.1\n" → now ≡ start ++ flat_map line_text (names_lines (name + 1))
 unfolding names_lines
 names_more start mid now name m e =
     let more : ((start ++ flat_map line_text (names_lines name)) ++ name_text name) ++ codes " A 10.0.0.1\n" ≡ start ++ flat_map line_text (names_lines name ++ (name_text name ++ codes " A 10.0.0.1") ∷ []) =
-        rw flat_map-append (simp append_assoc) in
+    rw flat_map-append (simp append_assoc) in
     e ∙ ap (λ (t : List ℕ). (t ++ name_text name) ++ codes " A 10.0.0.1\n") m ∙ more ∙ ap (λ (n : ℕ). start ++ flat_map line_text (names_lines n)) (let n : suc name ≡ name + 1 = omega arith in n)
 
 -- one number more is looked at
@@ -118,8 +116,8 @@ removal_pieces o0 o1 o2 o3 name e1 e2 e3 =
 pub text_pieces : (load : Load) (o0 o1 o2 o3 o4 : List ℕ) → o0 ≡ [] → o1 ≡ o0 ++ flat_map line_text first_lines → o2 ≡ o1 ++ flat_map line_text (names_lines load.names) → o3 ≡ o2 ++ codes "%%\n" → o4 ≡ o3 ++ flat_map line_text (workers_from load load.workers 0 load.seed) → o4 ≡ made_text load
 text_pieces load o0 o1 o2 o3 o4 e0 e1 e2 e3 e4 =
     let parts : made_text load ≡ (flat_map line_text first_lines ++ flat_map line_text (names_lines load.names)) ++ flat_map line_text (codes "%%" ∷ workers_from load load.workers 0 load.seed) =
-        flat_map-append line_text (first_lines ++ names_lines load.names) (codes "%%" ∷ workers_from load load.workers 0 load.seed)
-        ∙ ap (λ (t : List ℕ). t ++ flat_map line_text (codes "%%" ∷ workers_from load load.workers 0 load.seed)) (flat_map-append line_text first_lines (names_lines load.names)) in
+    flat_map-append line_text (first_lines ++ names_lines load.names) (codes "%%" ∷ workers_from load load.workers 0 load.seed)
+    ∙ ap (λ (t : List ℕ). t ++ flat_map line_text (codes "%%" ∷ workers_from load load.workers 0 load.seed)) (flat_map-append line_text first_lines (names_lines load.names)) in
     e4 ∙ ap (λ (t : List ℕ). t ++ flat_map line_text (workers_from load load.workers 0 load.seed)) (e3 ∙ ap (λ (t : List ℕ). t ++ codes "%%\n") (e2 ∙ ap (λ (t : List ℕ). t ++ flat_map line_text (names_lines load.names)) (e1 ∙ ap (λ (t : List ℕ). t ++ flat_map line_text first_lines) e0)))
     ∙ append_assoc (flat_map line_text first_lines ++ flat_map line_text (names_lines load.names)) (codes "%%\n") (flat_map line_text (workers_from load load.workers 0 load.seed))
     ∙ sym parts

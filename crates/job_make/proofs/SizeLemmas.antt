@@ -1,12 +1,12 @@
 -- How long the text of a load may be.
-use Rattle.std.proofs.Common.{◌≡◌, ◌∙◌, ◌<◌, ◌≤◌, ◌+◌, ◌*◌, ◌/◌, ◌%◌, ℕ, zero, suc, Bool, true, false, cond, eqb, List, [], ◌∷◌, ◌++◌, length, refl, ap, arith, codes, length-append, inl, inr}
+use Rattle.std.proofs.Common.{◌≡◌, ◌∙◌, ◌<◌, ◌≤◌, ◌+◌, ◌*◌, ◌/◌, ◌%◌, ℕ, zero, suc, Bool, true, false, cond, eqb, List, [], ◌∷◌, ◌++◌, length, ap, arith, codes, length-append, inl, inr}
 use Rattle.std.proofs.lemmas.Bool.{cases_eq}
 use Rattle.std.proofs.Math.Nat.{mul-le-mul}
 use Rattle.std.proofs.lemmas.Fmt.{length-decimal-le}
 use Rattle.std.proofs.lemmas.List.Concat.{flat_map-append}
 use Rattle.std.specs.List.{flat_map}
 use Rattle.std.specs.Fmt.{decimal}
-use Rattle.job_model.specs.Loads.{Load, Part, Turn, Gets, Moves, Removes, Finds, address_text, drawn, first_lines, line_text, load_lines, made_text, name_text, names_lines, next_state, part_of, share, state_after, state_behind, turn_from, turn_lines, turn_of, turns_from, turns_of, worker_lines, worker_state, workers_from}
+use Rattle.job_model.specs.Loads.{Load, Part, Turn, Gets, Moves, Removes, Finds, address_text, drawn, first_lines, line_text, made_text, name_text, names_lines, next_state, part_of, share, state_behind, turn_from, turn_lines, turn_of, turns_from, turns_of, worker_lines, worker_state, workers_from}
 
 abbrev size : List (List ℕ) → ℕ
 size lines = length (flat_map line_text lines)

@@ -1,5 +1,4 @@
-use Rattle.std.proofs.Common.{◌≡◌, ◌∙◌, ℕ, List, [], ◌∷◌, Ok, refl, ap, sym, codes}
-use Rattle.zone_model.specs.Names.{Name}
+use Rattle.std.proofs.Common.{◌≡◌, ◌∙◌, [], Ok, refl, ap, codes}
 use Rattle.zone_model.specs.NameText.{completed, fitting, labels_from, name_of, onto, pieces_from}
 use Rattle.job_model.specs.Loads.{made_origin}
 use Rattle.command_line.proofs.making.made_origin.Goals as goal

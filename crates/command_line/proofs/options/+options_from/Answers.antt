@@ -1,4 +1,4 @@
-use Rattle.std.proofs.Common.{rules, ◌≡◌, ◌∙◌, ◌<◌, List, length, sym, ap, map, Global}
+use Rattle.std.proofs.Common.{rules, ◌∙◌, ◌<◌, List, length, sym, ap, map, Global}
 use Rattle.std.specs.Option.{option_map}
 use Rattle.std.specs.String.{string_bytes}
 use Rattle.std.specs.Prelude.{String}
