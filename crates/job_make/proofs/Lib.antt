@@ -1,2 +1,4 @@
 pub mod LoadLemmas
+pub mod ScriptLines
 pub mod SizeLemmas
+pub mod ZoneLines

@@ -54,13 +54,13 @@ turn_size a i c h =
     (either_size (eqb (a % 4) 2) (Removes i) (Finds i) (removal_size i h) (find_size i h)))
 
 -- a worker's names have numbers of six digits at most
-record IsSmall (part : Part) : Type 0 where
-  some : 0 < part.count
-  few : part.count ≤ 20000
-  remainder : part.remainder < 16
-  workers : part.workers ≤ 16
+pub record IsSmall (part : Part) : Type 0 where
+  pub some : 0 < part.count
+  pub few : part.count ≤ 20000
+  pub remainder : part.remainder < 16
+  pub workers : part.workers ≤ 16
 
-small_name : (part : Part) (d : ℕ) → IsSmall part → part.remainder + part.workers * (d % part.count) < 1000000
+pub small_name : (part : Part) (d : ℕ) → IsSmall part → part.remainder + part.workers * (d % part.count) < 1000000
 small_name part d s =
     let some = s.some in
     let few = s.few in
@@ -83,7 +83,7 @@ share_one : (n m : ℕ) (b : Bool) → n ≤ m → n + cond b 1 0 ≤ suc m
 share_one n m true h = omega arith
 share_one n m false h = omega arith
 
-share_le : (workers remainder names : ℕ) → share workers remainder names ≤ names
+pub share_le : (workers remainder names : ℕ) → share workers remainder names ≤ names
 unfolding share
 share_le workers remainder zero = omega arith
 share_le workers remainder (suc name) = share_one (share workers remainder name) name (eqb (name % workers) remainder) (share_le workers remainder name)
