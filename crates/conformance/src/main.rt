@@ -17,10 +17,12 @@ use std::sync::Wait;
 use std::thread::Threads;
 
 /// The files of cases, one a topic.
-const TOPICS: [&str; 5] = [
+const TOPICS: [&str; 7] = [
     "answers.cases",
+    "examples.cases",
     "faults.cases",
     "jobs.cases",
+    "loads.cases",
     "refusals.cases",
     "room.cases",
 ];

@@ -1,5 +1,4 @@
 pub mod RunLemmas
-pub mod InvocationLemmas
 pub mod DueLemmas
 pub mod OpeningLemmas
 pub mod TransactLemmas

@@ -1,8 +1,7 @@
 pub mod Transactions
 pub mod Statuses
-pub mod Invocations
 pub mod Fits
 pub mod Due
 pub mod Runs
-pub mod InvocationViews
 pub mod Openings
+pub mod Tellings

@@ -105,6 +105,34 @@ pub fn push_end(out: &mut Vec<u8>, last: u64, names: u64) -> Result<(), AllocErr
     out.extend_from_slice(b"\n")
 }
 
+/// Pushes the last line of a summary: the last version, and how large it is.
+pub fn push_sized_end(out: &mut Vec<u8>, last: u64, names: u64, nodes: u64) -> Result<(), AllocError>
+    ensures { OnOk result (out.new.items ≡ out.old.items ++ (codes "end v" ++ decimal last ++ codes " " ++ (codes "names " ++ decimal names ++ codes " nodes " ++ decimal nodes ++ codes "\n"))) }
+{
+    out.extend_from_slice(b"end v")?;
+    push_number(out, last)?;
+    out.extend_from_slice(b" ")?;
+    push_size(out, names, nodes)
+}
+
+/// Pushes the first line of a summary: how many commands there were, and how many blocks were committed and refused.
+pub fn push_counts(
+    out: &mut Vec<u8>,
+    commands: u64,
+    committed: u64,
+    refused: u64,
+) -> Result<(), AllocError>
+    ensures { OnOk result (out.new.items ≡ out.old.items ++ (codes "make commands " ++ decimal commands ++ codes " committed " ++ decimal committed ++ codes " refused " ++ decimal refused ++ codes "\n")) }
+{
+    out.extend_from_slice(b"make commands ")?;
+    push_number(out, commands)?;
+    out.extend_from_slice(b" committed ")?;
+    push_number(out, committed)?;
+    out.extend_from_slice(b" refused ")?;
+    push_number(out, refused)?;
+    out.extend_from_slice(b"\n")
+}
+
 fn zone_kind_name(kind: ZoneKind) -> &'static [u8]
     ensures { result.now ≡ zone_kind_text kind }
 {

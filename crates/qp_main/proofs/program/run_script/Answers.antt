@@ -12,6 +12,6 @@ returns-in-Fits g c =
     let script : script_of c.args.invocation.now.origin (script_start c.args.bytes.items) (script_lines c.args.bytes.items) ≡ Ok (map command_view c.deref.result.now ∷ []) = search (rules, c.requires.cut) in
     let fit : fits c.args.invocation.now.chunks c.args.zone.pairs ≡ true = search (rules, c.open.ensures) in
     let keeps : Keeps c.in-Fits.index c.args.zone.pairs 0 c.args.invocation.now.chunks = search (rules, c.open.ensures) in
-    ok_map c.report_job.result (λ x r.
-    job_answers c.args.invocation.now.chunks c.args.invocation.now.origin c.args.bytes.items c.args.zone.pairs (map command_view c.deref.result.now ∷ []) c.requires.read script x.0 x.1.items
-    (fitting c.args.invocation.now.chunks c.args.zone.pairs (Reported c.args.invocation.now.chunks _) x.0 x.1.items fit r)) (c.report_job.ensures c.args.zone.pairs c.args.invocation.now.chunks keeps)
+    ok_map c.run_job.result (λ x r.
+    job_answers c.args.telling c.args.invocation.now.chunks c.args.invocation.now.origin c.args.bytes.items c.args.zone.pairs (map command_view c.deref.result.now ∷ []) c.requires.read script x.0 x.1.items
+    (fitting c.args.invocation.now.chunks c.args.zone.pairs (Reported c.args.telling c.args.invocation.now.chunks _) x.0 x.1.items fit r)) (c.run_job.ensures c.args.zone.pairs c.args.invocation.now.chunks keeps)
