@@ -17,10 +17,12 @@ use std::sync::Wait;
 use std::thread::Threads;
 
 /// The files of cases, one a topic.
-const TOPICS: [&str; 6] = [
+const TOPICS: [&str; 8] = [
     "answers.cases",
+    "examples.cases",
     "faults.cases",
     "jobs.cases",
+    "loads.cases",
     "refusals.cases",
     "room.cases",
     "workers.cases",

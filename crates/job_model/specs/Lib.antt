@@ -6,3 +6,5 @@ pub mod Jobs
 pub mod Outcomes
 pub mod Replies
 pub mod Reports
+pub mod Loads
+pub mod Summaries

@@ -16,6 +16,7 @@ mod refusal;
 mod replies;
 mod report;
 mod script;
+mod summary;
 
 pub use commands::{Block, Command, Job, Question, Stretch, Worker};
 pub use laws::jobs_are_spelled;
@@ -26,3 +27,4 @@ pub use refusal::JobRefusal;
 pub use replies::{Reply, push_number, push_size};
 pub use report::{print_outcomes, print_report};
 pub use script::read_job;
+pub use summary::print_summary;

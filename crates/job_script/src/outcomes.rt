@@ -1,7 +1,7 @@
 //! How commands ended.
 ghost use Rattle.std.specs.Prelude.{◌≡◌};
 ghost use Rattle.std.specs.List.{list_any};
-ghost use Rattle.job_model.specs.Outcomes.{is_refused};
+ghost use Rattle.job_model.specs.Outcomes.{is_committed, is_refused};
 ghost use Rattle.job_script.specs.Outcomes.{ended_view};
 
 use crate::replies::Reply;
@@ -47,8 +47,18 @@ pub struct Outcomes {
     pub list: Vec<Outcome>,
 }
 
+// Whether a transaction made a version.
+pub(crate) fn is_committed(outcome: &Outcome) -> bool
+    ensures { result ≡ is_committed (ended_view outcome.now.told) }
+{
+    match &outcome.told {
+        Told::Committed => true,
+        Told::Reply(_) | Told::Held | Told::Released | Told::RolledBack | Told::Refused(_) => false,
+    }
+}
+
 // Whether a transaction was refused.
-fn is_refused(outcome: &Outcome) -> bool
+pub(crate) fn is_refused(outcome: &Outcome) -> bool
     ensures { result ≡ is_refused (ended_view outcome.now.told) }
 {
     match &outcome.told {

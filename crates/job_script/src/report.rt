@@ -85,7 +85,7 @@ fn push_told(out: &mut Vec<u8>, told: &Told) -> Result<(), AllocError>
     }
 }
 
-fn push_outcome(
+pub(crate) fn push_outcome(
     out: &mut Vec<u8>,
     worker: u64,
     command: u64,

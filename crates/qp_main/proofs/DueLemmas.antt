@@ -1,8 +1,9 @@
 -- What is due for an input.
-use Rattle.std.proofs.Common.{◌≡◌, ◌∙◌, ℕ, ◌+◌, Bool, true, false, cond, leb, List, length, Option, Some, None, Result, Ok, Err, IfOk, refl, sym, ap, subst, arith, codes, length-append}
+use Rattle.std.proofs.Common.{◌≡◌, ◌∙◌, ℕ, ◌+◌, Bool, true, false, cond, leb, List, length, Option, Some, None, Result, Ok, Err, IfOk, refl, sym, ap, subst, arith, codes, length-append, append-nil, ◌++◌, ◌≤◌, []}
 use Rattle.std.proofs.lemmas.Bool.Decides.{nat_tests}
-use Rattle.std.specs.Io.KnownBytes.{Consumes}
-use Rattle.qp_main.specs.Invocations.{Invocation}
+use Rattle.std.specs.Io.KnownBytes.{Consumes, IsAtEnd}
+use Rattle.command_line.specs.Invocations.{Invocation, Verb, Run, Check, Make}
+use Rattle.job_model.specs.Loads.{Load, made_text}
 use Rattle.zone_model.specs.Names.{Name}
 use Rattle.zone_model.specs.Versions.{Version}
 use Rattle.zone_model.specs.Refusals.{Refused, ◌>>=◌}
@@ -13,18 +14,39 @@ use Rattle.job_model.specs.Outcomes.{some_refused}
 use Rattle.zone_model.specs.declared.ZoneKind.{ZoneKind}
 use Rattle.job_model.specs.declared.ScriptKind.{ScriptKind}
 use Rattle.qp_main.specs.Fits.{fits, no_room_text, opened_text}
-use Rattle.qp_main.specs.Due.{Due, DueBytes, DueInput, Answers, Checks, IfFits, Ends, ZoneRefuses, Reported, IsWritten}
+use Rattle.qp_main.specs.Due.{Due, DueBytes, DueGiven, DueInput, Answers, Checks, IfFits, Ends, ZoneRefuses, Reported, IsWritten, input_of}
+use Rattle.qp_main.specs.declared.telling.Telling.{Telling}
+use Rattle.qp_main.specs.declared.telling.Telling.TheVariants.{Report, Summary}
 use Rattle.qp_main.specs.declared.status.Status.{Status}
 use Rattle.qp_main.specs.declared.status.Status.TheVariants as status
-use Rattle.qp_main.specs.declared.invocation.Verb.{Verb}
-use Rattle.qp_main.specs.declared.invocation.Verb.TheVariants.{Run, Check}
 
-pub too_long : (invocation : Invocation) (before now : Option (List ℕ)) (bytes : List ℕ) → Consumes before now bytes → length bytes ≡ 16777217 → Due (Some invocation) before status.TooLong (codes "input over 16777216 bytes\n")
+-- what was read is due as the source's bytes are
+pub given_due : (i : Invocation) (left : Option (List ℕ)) (s : Status) (text : List ℕ) → input_of i.verb left ≡ left → DueGiven i left s text → Due (Some i) left s text
+given_due i left s text e h = subst (λ (o : Option (List ℕ)). DueGiven i o s text) (sym e) h
+
+pub too_long : (invocation : Invocation) (before now : Option (List ℕ)) (bytes : List ℕ) → Consumes before now bytes → length bytes ≡ 16777217 → DueGiven invocation before status.TooLong (codes "input over 16777216 bytes\n")
 too_long invocation None now bytes c e = tt
 too_long invocation (Some all) None bytes c e = absurd c
 too_long invocation (Some all) (Some rest) bytes c e =
     let long : leb (length all) 16777216 ≡ false = (let n : 16777217 + length rest ≡ length all = omega (arith, ap (λ (l : List ℕ). length l) c, length-append bytes rest, e) in grind (arith, nat_tests)) in
     subst (λ (b : Bool). DueBytes invocation all b status.TooLong (codes "input over 16777216 bytes\n")) (sym long) (refl, refl)
+
+within_limit : (n : ℕ) → n ≤ 16777216 → leb n 16777216 ≡ true
+within_limit n h = grind (arith, nat_tests)
+
+-- an input that was read whole
+pub read_due : (i : Invocation) (before now : Option (List ℕ)) (bytes : List ℕ) (s : Status) (text : List ℕ) → Consumes before now bytes → IsAtEnd now → length bytes ≤ 16777216 → DueInput i.verb i.chunks i.origin bytes s text → DueGiven i before s text
+read_due i None now bytes s text c e le h = tt
+read_due i (Some all) None bytes s text c e le h = absurd c
+read_due i (Some all) (Some rest) bytes s text c e le h =
+    let whole : all ≡ bytes = c ∙ ap (λ (l : List ℕ). bytes ++ l) e ∙ append-nil bytes in
+    subst (λ (l : List ℕ). DueBytes i l (leb (length l) 16777216) s text) (sym whole) (subst (λ (b : Bool). DueBytes i bytes b s text) (sym (within_limit (length bytes) le)) h)
+
+-- an input that was made
+pub made_due : (i : Invocation) (load : Load) (bytes : List ℕ) (s : Status) (text : List ℕ) (left : Option (List ℕ)) → i.verb ≡ Make load → bytes ≡ made_text load → length bytes ≤ 16777216 → DueInput i.verb i.chunks i.origin bytes s text → Due (Some i) left s text
+made_due i load bytes s text left v made le h =
+    let given : input_of i.verb left ≡ Some bytes = ap (λ (w : Verb). input_of w left) v ∙ ap (λ (l : List ℕ). Some l) (sym made) in
+    subst (λ (o : Option (List ℕ)). DueGiven i o s text) (sym given) (subst (λ (b : Bool). DueBytes i bytes b s text) (sym (within_limit (length bytes) le)) h)
 
 pub ok_map : {A E : Type 0} (r : Result A E) {P Q : A → Type 0} → ((x : A) → P x → Q x) → IfOk r P → IfOk r Q
 ok_map (Ok x) f h = f x h
@@ -57,22 +79,23 @@ no_zone : (origin : Name) (bytes : List ℕ) (e : Refused ZoneKind) → zone_of 
 unfolding job_of_lines
 no_zone origin bytes e z = ap (λ r. zone_refused r >>= (λ version. script_refused (script_of origin (script_start bytes) (script_lines bytes)) >>= (λ ws. Ok (record { origin = origin; zone = version; workers = ws })))) z
 
-answers_as : (chunks : ℕ) (q r : Result Job JobRefusal) (s : Status) (text : List ℕ) → q ≡ r → Answers chunks r s text → Answers chunks q s text
-answers_as chunks q r s text e h = subst (λ (x : Result Job JobRefusal). Answers chunks x s text) (sym e) h
+answers_as : (telling : Telling) (chunks : ℕ) (q r : Result Job JobRefusal) (s : Status) (text : List ℕ) → q ≡ r → Answers telling chunks r s text → Answers telling chunks q s text
+answers_as telling chunks q r s text e h = subst (λ (x : Result Job JobRefusal). Answers telling chunks x s text) (sym e) h
 
 -- the answers of a job that is read
-pub job_answers : (chunks : ℕ) (origin : Name) (bytes : List ℕ) (zone : Version) (workers : List (List Command)) → zone_of origin (zone_lines bytes) ≡ Ok zone → script_of origin (script_start bytes) (script_lines bytes) ≡ Ok workers
-    → (s : Status) (text : List ℕ) → IfFits (fits chunks zone) chunks zone (Reported chunks (record { origin = origin; zone = zone; workers = workers })) s text → Answers chunks (job_of origin bytes) s text
-job_answers chunks origin bytes zone workers z w s text h = answers_as chunks (job_of origin bytes) (Ok (record { origin = origin; zone = zone; workers = workers })) s text (whole_job origin bytes zone workers z w) h
+pub job_answers : (telling : Telling) (chunks : ℕ) (origin : Name) (bytes : List ℕ) (zone : Version) (workers : List (List Command)) → zone_of origin (zone_lines bytes) ≡ Ok zone → script_of origin (script_start bytes) (script_lines bytes) ≡ Ok workers
+    → (s : Status) (text : List ℕ) → IfFits (fits chunks zone) chunks zone (Reported telling chunks (record { origin = origin; zone = zone; workers = workers })) s text → Answers telling chunks (job_of origin bytes) s text
+job_answers telling chunks origin bytes zone workers z w s text h = answers_as telling chunks (job_of origin bytes) (Ok (record { origin = origin; zone = zone; workers = workers })) s text (whole_job origin bytes zone workers z w) h
 
 -- a script that is refused
-pub script_refuses : (chunks : ℕ) (origin : Name) (bytes : List ℕ) (zone : Version) (e : Refused ScriptKind) → zone_of origin (zone_lines bytes) ≡ Ok zone → script_of origin (script_start bytes) (script_lines bytes) ≡ Err e
-    → (s : Status) (text : List ℕ) → Answers chunks (Err (ScriptRefused e)) s text → Answers chunks (job_of origin bytes) s text
-script_refuses chunks origin bytes zone e z w s text h = answers_as chunks (job_of origin bytes) (Err (ScriptRefused e)) s text (no_script origin bytes zone e z w) h
+pub script_refuses : (telling : Telling) (chunks : ℕ) (origin : Name) (bytes : List ℕ) (zone : Version) (e : Refused ScriptKind) → zone_of origin (zone_lines bytes) ≡ Ok zone → script_of origin (script_start bytes) (script_lines bytes) ≡ Err e
+    → (s : Status) (text : List ℕ) → Answers telling chunks (Err (ScriptRefused e)) s text → Answers telling chunks (job_of origin bytes) s text
+script_refuses telling chunks origin bytes zone e z w s text h = answers_as telling chunks (job_of origin bytes) (Err (ScriptRefused e)) s text (no_script origin bytes zone e z w) h
 
 -- a zone that is refused is refused for each command
 pub zone_refuses : (verb : Verb) (chunks : ℕ) (origin : Name) (bytes : List ℕ) (e : Refused ZoneKind) (s : Status) (text : List ℕ) → zone_of origin (zone_lines bytes) ≡ Err e → ZoneRefuses e s text → DueInput verb chunks origin bytes s text
-zone_refuses Run chunks origin bytes e s text z h = answers_as chunks (job_of origin bytes) (Err (ZoneRefused e)) s text (no_zone origin bytes e z) h
+zone_refuses Run chunks origin bytes e s text z h = answers_as Report chunks (job_of origin bytes) (Err (ZoneRefused e)) s text (no_zone origin bytes e z) h
+zone_refuses (Make load) chunks origin bytes e s text z h = answers_as Summary chunks (job_of origin bytes) (Err (ZoneRefused e)) s text (no_zone origin bytes e z) h
 zone_refuses Check chunks origin bytes e s text z h = subst (λ (x : Result Version (Refused ZoneKind)). Checks chunks x s text) (sym z) h
 
 -- ---- what is due for an input that was read
@@ -97,24 +120,25 @@ if_fits_answers : (b : Bool) (chunks : ℕ) (zone : Version) (F : Status → Lis
 if_fits_answers true chunks zone F s text f h = f h
 if_fits_answers false chunks zone F s text f h = answer_as s status.DoesNotFit h.0 tt
 
-reported_answers : (chunks : ℕ) (job : Job) (s : Status) (text : List ℕ) → Reported chunks job s text → IsAnswer s
-reported_answers chunks job s text h = answer_as s (cond (some_refused h.workers) status.SomeRefused status.Done) h.ended (by_refused (some_refused h.workers))
+reported_answers : (telling : Telling) (chunks : ℕ) (job : Job) (s : Status) (text : List ℕ) → Reported telling chunks job s text → IsAnswer s
+reported_answers telling chunks job s text h = answer_as s (cond (some_refused h.workers) status.SomeRefused status.Done) h.ended (by_refused (some_refused h.workers))
   where
     by_refused : (b : Bool) → IsAnswer (cond b status.SomeRefused status.Done)
     by_refused true = tt
     by_refused false = tt
 
-job_answer : (chunks : ℕ) (r : Result Job JobRefusal) (s : Status) (text : List ℕ) → Answers chunks r s text → IsAnswer s
-job_answer chunks (Ok job) s text h = if_fits_answers (fits chunks job.zone) chunks job.zone (Reported chunks job) s text (reported_answers chunks job s text) h
-job_answer chunks (Err (ZoneRefused e)) s text h = answer_as s status.ZoneRefused h.0 tt
-job_answer chunks (Err (ScriptRefused e)) s text h = answer_as s status.ScriptRefused h.0 tt
+job_answer : (telling : Telling) (chunks : ℕ) (r : Result Job JobRefusal) (s : Status) (text : List ℕ) → Answers telling chunks r s text → IsAnswer s
+job_answer telling chunks (Ok job) s text h = if_fits_answers (fits chunks job.zone) chunks job.zone (Reported telling chunks job) s text (reported_answers telling chunks job s text) h
+job_answer telling chunks (Err (ZoneRefused e)) s text h = answer_as s status.ZoneRefused h.0 tt
+job_answer telling chunks (Err (ScriptRefused e)) s text h = answer_as s status.ScriptRefused h.0 tt
 
 check_answer : (chunks : ℕ) (r : Result Version (Refused ZoneKind)) (s : Status) (text : List ℕ) → Checks chunks r s text → IsAnswer s
 check_answer chunks (Ok zone) s text h = if_fits_answers (fits chunks zone) chunks zone (Ends status.Done (opened_text zone)) s text (λ k. answer_as s status.Done k.0 tt) h
 check_answer chunks (Err e) s text h = answer_as s status.ZoneRefused h.0 tt
 
 pub due_answer : (verb : Verb) (chunks : ℕ) (origin : Name) (bytes : List ℕ) (s : Status) (text : List ℕ) → DueInput verb chunks origin bytes s text → IsAnswer s
-due_answer Run chunks origin bytes s text h = job_answer chunks (job_of origin bytes) s text h
+due_answer Run chunks origin bytes s text h = job_answer Report chunks (job_of origin bytes) s text h
+due_answer (Make load) chunks origin bytes s text h = job_answer Summary chunks (job_of origin bytes) s text h
 due_answer Check chunks origin bytes s text h = check_answer chunks (zone_of origin (zone_lines bytes)) s text h
 
 pub answer_written : (s : Status) → IsAnswer s → IsWritten s

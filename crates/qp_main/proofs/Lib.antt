@@ -1,4 +1,3 @@
-pub mod InvocationLemmas
 pub mod DueLemmas
 pub mod OpeningLemmas
 pub mod ReportingLemmas

@@ -8,16 +8,17 @@ use Rattle.zone_model.specs.MasterFile.{zone_of}
 use Rattle.job_model.specs.Commands.{Job}
 use Rattle.job_model.specs.Jobs.{JobRefusal, ZoneRefused, ScriptRefused, zone_lines, job_of}
 use Rattle.job_model.specs.Outcomes.{Pair, Lawful, some_refused}
-use Rattle.job_model.specs.Reports.{report}
 use Rattle.zone_model.specs.declared.ZoneKind.{ZoneKind}
 use Rattle.zone_model.specs.declared.ZoneKind.TheVariants as zone_kind
 use Rattle.job_model.specs.declared.ScriptKind.{ScriptKind}
 use Rattle.job_model.specs.declared.ScriptKind.TheVariants.{NoWorker, BadCommand, BadName, BadType, BadRdata, BadNumber, OpenBlock, NotHeld, AlreadyHeld, TooMany}
+use Rattle.job_model.specs.Loads.{made_text}
 use Rattle.outer_io.specs.Bytes.{Held, Grows, GrowsByFront}
-use Rattle.qp_main.specs.Invocations.{Invocation}
+use Rattle.command_line.specs.Invocations.{Invocation, Verb, Run, Check, Make}
 use Rattle.qp_main.specs.Fits.{fits, no_room_text, opened_text}
-use Rattle.qp_main.specs.declared.invocation.Verb.{Verb}
-use Rattle.qp_main.specs.declared.invocation.Verb.TheVariants.{Run, Check}
+use Rattle.qp_main.specs.Tellings.{told_text}
+use Rattle.qp_main.specs.declared.telling.Telling.{Telling}
+use Rattle.qp_main.specs.declared.telling.Telling.TheVariants.{Report, Summary}
 use Rattle.qp_main.specs.declared.status.Status.{Status}
 use Rattle.qp_main.specs.declared.status.Status.TheVariants as status
 
@@ -53,14 +54,14 @@ script_kind_text (TooMany limit) = codes "TooMany"
 abbrev pub refusal_text : List ℕ → ℕ → List ℕ → List ℕ
 refusal_text what line kind = what ++ codes " refused line " ++ decimal line ++ codes " " ++ kind ++ codes "\n"
 
--- The answers of committed versions: the text is the report of the job's commands with some lawful outcomes, and the
--- status says whether one of these is refused.
-pub record Reported (chunks : ℕ) (job : Job) (s : Status) (text : List ℕ) : Type 0 where
+-- The answers of committed versions: the text tells the job's commands with some lawful outcomes, and the status says
+-- whether one of these is refused.
+pub record Reported (telling : Telling) (chunks : ℕ) (job : Job) (s : Status) (text : List ℕ) : Type 0 where
   pub workers : List (List Pair)
   pub last : ℕ
   pub same : map (map (λ pair. pair.0)) workers ≡ job.workers
   pub lawful : Lawful chunks job.origin job.zone workers last
-  pub is : text ≡ report job.origin job.zone workers last
+  pub is : text ≡ told_text telling job.origin job.zone workers last
   pub ended : s ≡ (if some_refused workers then status.SomeRefused else status.Done)
 
 -- a status and a text
@@ -76,10 +77,10 @@ IfFits true chunks zone Fitting = Fitting
 IfFits false chunks zone Fitting = Ends status.DoesNotFit (no_room_text chunks zone)
 
 -- the status and the text for the job that bytes say
-abbrev pub Answers : ℕ → Result Job JobRefusal → Status → List ℕ → Type 0
-Answers chunks (Ok job) = IfFits (fits chunks job.zone) chunks job.zone (Reported chunks job)
-Answers chunks (Err (ZoneRefused e)) = ZoneRefuses e
-Answers chunks (Err (ScriptRefused e)) = Ends status.ScriptRefused (refusal_text (codes "script") e.line (script_kind_text e.kind))
+abbrev pub Answers : Telling → ℕ → Result Job JobRefusal → Status → List ℕ → Type 0
+Answers telling chunks (Ok job) = IfFits (fits chunks job.zone) chunks job.zone (Reported telling chunks job)
+Answers telling chunks (Err (ZoneRefused e)) = ZoneRefuses e
+Answers telling chunks (Err (ScriptRefused e)) = Ends status.ScriptRefused (refusal_text (codes "script") e.line (script_kind_text e.kind))
 
 -- the status and the text for the zone that bytes say: how many names and nodes it has
 abbrev pub Checks : ℕ → Result Version (Refused ZoneKind) → Status → List ℕ → Type 0
@@ -88,7 +89,8 @@ Checks chunks (Err e) = ZoneRefuses e
 
 -- what is due for bytes within the limit; a check reads the zone alone
 abbrev pub DueInput : Verb → ℕ → Name → List ℕ → Status → List ℕ → Type 0
-DueInput Run chunks origin bytes = Answers chunks (job_of origin bytes)
+DueInput Run chunks origin bytes = Answers Report chunks (job_of origin bytes)
+DueInput (Make load) chunks origin bytes = Answers Summary chunks (job_of origin bytes)
 DueInput Check chunks origin bytes = Checks chunks (zone_of origin (zone_lines bytes))
 
 -- the most bytes of an input
@@ -100,12 +102,31 @@ abbrev pub DueBytes : Invocation → List ℕ → Bool → Status → List ℕ �
 DueBytes i bytes true = DueInput i.verb i.chunks i.origin bytes
 DueBytes i bytes false = Ends status.TooLong (codes "input over 16777216 bytes\n")
 
--- What is due for the words of the command line and the bytes that a source has left. Of a source that doesn't tell
--- its bytes nothing is said.
+-- the bytes that are read: those that a source has left, or a load's text
+abbrev pub input_of : Verb → Option (List ℕ) → Option (List ℕ)
+input_of Run left = left
+input_of Check left = left
+input_of (Make load) left = Some (made_text load)
+
+-- Of a source that doesn't tell its bytes nothing is said.
+abbrev pub DueGiven : Invocation → Option (List ℕ) → Status → List ℕ → Type 0
+DueGiven i None s text = Unit {0}
+DueGiven i (Some bytes) s text = DueBytes i bytes (nat_le (length bytes) input_limit) s text
+
+-- what is due for the words of the command line and the bytes that a source has left
 abbrev pub Due : Option Invocation → Option (List ℕ) → Status → List ℕ → Type 0
 Due None left s text = (s ≡ status.WordsRefused) × (text ≡ codes "words refused\n")
-Due (Some invocation) None s text = Unit {0}
-Due (Some invocation) (Some bytes) s text = DueBytes invocation bytes (nat_le (length bytes) input_limit) s text
+Due (Some invocation) left s text = DueGiven invocation (input_of invocation.verb left) s text
+
+-- the input is a load's text, so that nothing is read
+abbrev pub MakesInput : Verb → Type 0
+MakesInput Run = ⊥
+MakesInput Check = ⊥
+MakesInput (Make load) = Unit {0}
+
+abbrev pub IsMade : Option Invocation → Type 0
+IsMade None = ⊥
+IsMade (Some invocation) = MakesInput invocation.verb
 
 -- the status says that its text was written whole
 abbrev pub IsWritten : Status → Type 0

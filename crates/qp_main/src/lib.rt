@@ -1,15 +1,15 @@
-//! The program: reads a job (a zone and its workers' script), runs it, and prints the report; or
-//! reads a zone and says how large its index is.
+//! The program: reads a job (a zone and its workers' script), runs it, and prints the report; or reads a zone and says how
+//! large its index is; or makes a job, runs it, and sums it up.
 #![tactic(auto)]
 
-mod command_line;
-mod invocation;
 mod opening;
 mod program;
 mod report;
 mod reporting;
 mod status;
+mod telling;
 
+pub use job_make::{Load, make_text};
 pub use job_run::Gate;
 pub use program::run;
 pub use status::Status;

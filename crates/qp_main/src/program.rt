@@ -1,5 +1,5 @@
 //! The program over any source and sink.
-ghost use Rattle.std.specs.Prelude.{◌≡◌, ◌<◌, ◌≤◌, ◌+◌, ◌^◌, ◌++◌, ◌∷◌, [], ℕ, List, length, IfOk, OnOk, map, codes, Ok, Result, IfSome, MatchOption, IsSome, Some, None};
+ghost use Rattle.std.specs.Prelude.{◌≡◌, ◌<◌, ◌≤◌, ◌+◌, ◌^◌, ◌++◌, ◌∷◌, [], ℕ, List, length, IfOk, OnOk, map, codes, Ok, Option, Result, IfSome, MatchOption, IsSome, Some, None};
 ghost use Rattle.std.specs.String.{string_bytes};
 ghost use Rattle.std.specs.Io.KnownBytes.{Consumes};
 ghost use Rattle.zone_model.specs.MasterFile.{zone_of};
@@ -7,16 +7,19 @@ ghost use Rattle.job_model.specs.Jobs.{zone_lines, job_of};
 ghost use Rattle.job_script.specs.Parts.{IsCutAt};
 ghost use Rattle.outer_io.specs.Faults.{Rose};
 ghost use Rattle.outer_io.specs.Bytes.{Grows, GrowsByFront};
-ghost use Rattle.qp_main.specs.Invocations.{invocation_of};
-ghost use Rattle.qp_main.specs.InvocationViews.{invocation_view};
-ghost use Rattle.qp_main.specs.Due.{Answers, Checks, DueInput, IsWritten, IsUnwritten, Written, CutShort};
+ghost use Rattle.job_make.specs.Views.{load_view};
+ghost use Rattle.command_line.specs.Invocations.{Make};
+ghost use Rattle.command_line.specs.Views.{invocation_view, verb_view};
+ghost use Rattle.command_line.specs.Words.{invocation_of};
+ghost use Rattle.qp_main.specs.Due.{Answers, Checks, CutShort, DueInput, IsMade, IsUnwritten, IsWritten, Written, input_of};
 
-use crate::command_line::invocation_of;
-use crate::invocation::{Invocation, Verb};
 use crate::opening::{Opening, open};
 use crate::report::{no_room, script_refused, size_line, zone_refused};
 use crate::reporting::report_job;
 use crate::status::Status;
+use crate::telling::Telling;
+use command_line::{Invocation, Verb, invocation_of};
+use job_make::{Load, make_text};
 use job_run::Gate;
 use job_script::{JobRefusal, Parts, read_job, split};
 use master_file::{Zone, ZoneRefusal, read_zone};
@@ -37,12 +40,13 @@ fn run_script<G: Gate>(
     bytes: Vec<u8>,
     parts: Parts,
     zone: Zone,
+    telling: Telling,
     gate: &G,
 ) -> Result<(Status, Vec<u8>), AllocError>
     requires short { length bytes.items ≤ 2 ^ 24 }
     requires cut { IsCutAt bytes.items parts }
     requires read { zone_of invocation.now.origin (zone_lines bytes.items) ≡ Ok zone.pairs }
-    ensures { IfOk result (λ x. Answers invocation.now.chunks (job_of invocation.now.origin bytes.items) x.0 x.1.items) }
+    ensures { IfOk result (λ x. Answers telling invocation.now.chunks (job_of invocation.now.origin bytes.items) x.0 x.1.items) }
 {
     let origin = &invocation.origin;
     let script = &bytes.as_slice()[parts.script_from as usize..];
@@ -58,7 +62,7 @@ fn run_script<G: Gate>(
     };
     drop(bytes);
     match open(alloc, zone, invocation.chunks, job.workers.len())? {
-        Opening::Fits(mut index) => report_job(alloc, origin, &mut index, &job, gate),
+        Opening::Fits(mut index) => report_job(alloc, origin, &mut index, &job, telling, gate),
         Opening::DoesNotFit { cells, limit } => {
             Ok((Status::DoesNotFit, no_room(alloc, cells, limit)?))
         }
@@ -93,7 +97,7 @@ fn answer_parts<G: Gate>(
 ) -> Result<(Status, Vec<u8>), AllocError>
     requires short { length bytes.items ≤ 2 ^ 24 }
     requires cut { IsCutAt bytes.items parts }
-    ensures { IfOk result (λ x. DueInput invocation.now.verb invocation.now.chunks invocation.now.origin bytes.items x.0 x.1.items) }
+    ensures { IfOk result (λ x. DueInput (verb_view invocation.now.verb) invocation.now.chunks invocation.now.origin bytes.items x.0 x.1.items) }
 {
     let zone_bytes = &bytes.as_slice()[..parts.zone_end as usize];
     let zone = match read_zone(alloc, zone_bytes, &invocation.origin) {
@@ -107,7 +111,16 @@ fn answer_parts<G: Gate>(
         Err(ZoneRefusal::Memory) => return Err(AllocError),
     };
     match invocation.verb {
-        Verb::Run => run_script(alloc, invocation, bytes, parts, zone, gate),
+        Verb::Run => run_script(alloc, invocation, bytes, parts, zone, Telling::Report, gate),
+        Verb::Make(_) => run_script(
+            alloc,
+            invocation,
+            bytes,
+            parts,
+            zone,
+            Telling::Summary,
+            gate,
+        ),
         Verb::Check => {
             drop(bytes);
             check_zone(alloc, invocation.chunks, zone)
@@ -124,7 +137,7 @@ fn answer<R: Threads + Wait + Sync, G: Gate>(
     gate: &G,
 ) -> Result<(Status, Vec<u8>), AllocError>
     requires { length bytes.items ≤ 16777216 }
-    ensures { IfOk result (λ x. DueInput invocation.now.verb invocation.now.chunks invocation.now.origin bytes.items x.0 x.1.items) }
+    ensures { IfOk result (λ x. DueInput (verb_view invocation.now.verb) invocation.now.chunks invocation.now.origin bytes.items x.0 x.1.items) }
 {
     let parts = split(&bytes);
     answer_parts(alloc, invocation, bytes, parts, gate)
@@ -144,6 +157,31 @@ fn write_due<K: Sink>(sink: &mut K, status: Status, text: &[u8]) -> Status
     }
 }
 
+// Makes a load's text, runs it and writes the summary.
+fn serve_made<R: Threads + Wait + Sync, K: Sink, G: Gate>(
+    rt: &R,
+    alloc: Global,
+    invocation: &Invocation,
+    load: &Load,
+    sink: &mut K,
+    gate: &G,
+) -> Status
+    requires { verb_view invocation.now.verb ≡ Make (load_view load.now) }
+    ensures written { (left : Option (List ℕ)) → IsWritten result → Written (Some (invocation_view invocation.now)) left (K.held sink.old) (K.held sink.new) result }
+    ensures cut_short { (left : Option (List ℕ)) → result ≡ Status.SinkFault → CutShort (Some (invocation_view invocation.now)) left (K.held sink.old) (K.held sink.new) }
+    ensures sink_fault { result ≡ Status.SinkFault → Rose (K.faults sink.old) (K.faults sink.new) }
+    ensures unwritten { IsUnwritten result → K.held sink.new ≡ K.held sink.old }
+    ensures others { (result ≡ Status.SourceFault → ⊥) × (result ≡ Status.TooLong → ⊥) × (result ≡ Status.WordsRefused → ⊥) }
+{
+    let Ok(bytes) = make_text(alloc, load) else {
+        return Status::NoMemory;
+    };
+    let Ok((status, text)) = answer(rt, alloc, invocation, bytes, gate) else {
+        return Status::NoMemory;
+    };
+    write_due(sink, status, &text)
+}
+
 // Reads, runs and writes.
 fn serve<R: Threads + Wait + Sync, S: Source, K: Sink, G: Gate>(
     rt: &R,
@@ -153,6 +191,7 @@ fn serve<R: Threads + Wait + Sync, S: Source, K: Sink, G: Gate>(
     sink: &mut K,
     gate: &G,
 ) -> Status
+    requires { (left : Option (List ℕ)) → input_of (verb_view invocation.now.verb) left ≡ left }
     ensures written { IsWritten result → Written (Some (invocation_view invocation.now)) (S.left source.old) (K.held sink.old) (K.held sink.new) result }
     ensures cut_short { result ≡ Status.SinkFault → CutShort (Some (invocation_view invocation.now)) (S.left source.old) (K.held sink.old) (K.held sink.new) }
     ensures sink_fault { result ≡ Status.SinkFault → Rose (K.faults sink.old) (K.faults sink.new) }
@@ -175,7 +214,32 @@ fn serve<R: Threads + Wait + Sync, S: Source, K: Sink, G: Gate>(
     write_due(sink, status, &text)
 }
 
-/// Runs the program: reads a job from the source, runs it, and writes its report to the sink. The words are those of
+// Reads or makes an input, runs it and writes.
+fn serve_invocation<R: Threads + Wait + Sync, S: Source, K: Sink, G: Gate>(
+    rt: &R,
+    alloc: Global,
+    invocation: &Invocation,
+    source: &mut S,
+    sink: &mut K,
+    gate: &G,
+) -> Status
+    ensures written { IsWritten result → Written (Some (invocation_view invocation.now)) (S.left source.old) (K.held sink.old) (K.held sink.new) result }
+    ensures cut_short { result ≡ Status.SinkFault → CutShort (Some (invocation_view invocation.now)) (S.left source.old) (K.held sink.old) (K.held sink.new) }
+    ensures sink_fault { result ≡ Status.SinkFault → Rose (K.faults sink.old) (K.faults sink.new) }
+    ensures source_fault { result ≡ Status.SourceFault → Rose (S.faults source.old) (S.faults source.new) }
+    ensures unwritten { IsUnwritten result → K.held sink.new ≡ K.held sink.old }
+    ensures taken { result ≡ Status.TooLong → (bytes : List ℕ) × Consumes (S.left source.old) (S.left source.new) bytes × (length bytes ≡ 16777217) }
+    ensures words { result ≡ Status.WordsRefused → ⊥ }
+    ensures made { IsMade (Some (invocation_view invocation.now)) → source.new ≡ source.old }
+{
+    match invocation.verb {
+        Verb::Run => serve(rt, alloc, invocation, source, sink, gate),
+        Verb::Check => serve(rt, alloc, invocation, source, sink, gate),
+        Verb::Make(load) => serve_made(rt, alloc, invocation, &load, sink, gate),
+    }
+}
+
+/// Runs the program: reads a job from the source, or makes one, runs it, and writes to the sink what is due. The words are those of
 /// the command line, the first of which is the program's name. The gate is told of each command. Threads and waiting
 /// are the runtime's leave, which workers that run one after another don't need.
 pub fn run<R: Threads + Wait + Sync, S: Source, K: Sink, G: Gate>(
@@ -197,14 +261,16 @@ pub fn run<R: Threads + Wait + Sync, S: Source, K: Sink, G: Gate>(
     ensures source_fault { result ≡ Status.SourceFault → Rose (S.faults source.old) (S.faults source.new) }
     ensures unwritten { IsUnwritten result → K.held sink.new ≡ K.held sink.old }
 
-    // Refused words leave the source as it is, and no other words are told to be so. An input that is too long is read to
-    // one byte past the limit.
+    // Refused words leave the source as it is, and no other words are told to be so. So does a load. An input that is too long is
+    // read to one byte past the limit.
     ensures unread { invocation_of (map string_bytes words.now) ≡ None → source.new ≡ source.old }
     ensures words { result ≡ Status.WordsRefused → invocation_of (map string_bytes words.now) ≡ None }
+    ensures made { IsMade (invocation_of (map string_bytes words.now)) → source.new ≡ source.old }
     ensures taken { result ≡ Status.TooLong → (bytes : List ℕ) × Consumes (S.left source.old) (S.left source.new) bytes × (length bytes ≡ 16777217) }
 {
-    match invocation_of(words) {
-        Some(invocation) => serve(rt, alloc, &invocation, source, sink, gate),
-        None => write_due(sink, Status::WordsRefused, b"words refused\n"),
+    match invocation_of(alloc, words) {
+        Ok(Some(invocation)) => serve_invocation(rt, alloc, &invocation, source, sink, gate),
+        Ok(None) => write_due(sink, Status::WordsRefused, b"words refused\n"),
+        Err(_) => Status::NoMemory,
     }
 }

@@ -15,5 +15,5 @@ returns-in-Fits g c =
     let fit : fits c.args.invocation.now.chunks c.args.zone.pairs ≡ true = search (rules, c.open.ensures) in
     let keeps : Keeps c.in-Fits.index c.args.zone.pairs 0 c.args.invocation.now.chunks = search (rules, c.open.ensures) in
     ok_map c.report_job.result (λ x r.
-    job_answers c.args.invocation.now.chunks c.args.invocation.now.origin c.args.bytes.items c.args.zone.pairs (job_view c.in-Ok.job) c.requires.read script x.0 x.1.items
-    (fitting c.args.invocation.now.chunks c.args.zone.pairs (Reported c.args.invocation.now.chunks _) x.0 x.1.items fit r)) (c.report_job.ensures c.args.zone.pairs c.args.invocation.now.chunks keeps)
+    job_answers c.args.telling c.args.invocation.now.chunks c.args.invocation.now.origin c.args.bytes.items c.args.zone.pairs (job_view c.in-Ok.job) c.requires.read script x.0 x.1.items
+    (fitting c.args.invocation.now.chunks c.args.zone.pairs (Reported c.args.telling c.args.invocation.now.chunks _) x.0 x.1.items fit r)) (c.report_job.ensures c.args.zone.pairs c.args.invocation.now.chunks keeps)

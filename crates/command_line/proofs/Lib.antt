@@ -1,0 +1,4 @@
+pub mod InvocationLemmas
+pub mod WordLemmas
+pub mod SeedLemmas
+pub mod ParsedLemmas

@@ -1,0 +1,6 @@
+pub mod Numbers
+pub mod Options
+pub mod Invocations
+pub mod Parsed
+pub mod Words
+pub mod Views

@@ -1,0 +1,76 @@
+-- The command line as clap reads it.
+use Rattle.std.specs.Prelude.{ℕ, Bool, true, false, List, [], ◌∷◌, if◌then◌else◌, Option, Some, None, codes, option_and_then}
+use Rattle.std.specs.Str.{bytes_eq}
+use Rattle.zone_model.specs.Names.{Name}
+use Rattle.zone_model.specs.NameText.{name_of}
+use Rattle.zone_model.specs.Texts.{named}
+use Rattle.job_model.specs.Loads.{Load, made_origin}
+use Rattle.clap.specs.Walk.{Row, Rule, first_of, is_empty}
+use Rattle.clap.specs.Simple.{App, Shape, new_rule, new_shape, subcommand_of}
+use Rattle.clap.specs.Faults.{fault_of}
+use Rattle.clap.specs.declared.builder.action.ArgAction.TheVariants.{Set}
+use Rattle.command_line.specs.Numbers.{chunks_of, default_chunks, seed_of, names_of, turns_of, workers_of}
+use Rattle.command_line.specs.Options.{load_by}
+use Rattle.command_line.specs.Invocations.{Invocation, Verb, Run, Check, Make, invocation}
+
+-- ---- the command line that clap is given
+
+-- an option with a value
+abbrev pub option_rule : List ℕ → Bool → Rule
+option_rule name required = record (new_rule name) { long = Some name; action = Some Set; required = required }
+
+abbrev pub reading_shape : List ℕ → Shape
+reading_shape name = record (new_shape name) { rules = option_rule (codes "origin") true ∷ option_rule (codes "chunks") false ∷ [] }
+
+abbrev pub making_shape : Shape
+making_shape = record (new_shape (codes "make")) {
+  rules = option_rule (codes "seed") true
+      ∷ option_rule (codes "names") true
+      ∷ option_rule (codes "turns") true
+      ∷ option_rule (codes "workers") true
+      ∷ option_rule (codes "chunks") false
+      ∷ [];
+}
+
+abbrev pub program_app : App
+program_app = record {
+  top = record (new_shape (codes "qpzone")) { is_leaf = false; subcommand_required = true };
+  subs = reading_shape (codes "run") ∷ reading_shape (codes "check") ∷ making_shape ∷ [];
+}
+
+-- ---- what is meant by what clap gives
+
+-- a value that may be left out
+abbrev pub chunks_in : Option (List ℕ) → Option ℕ
+chunks_in None = Some default_chunks
+chunks_in (Some value) = chunks_of value
+
+abbrev pub origin_in : Option (List ℕ) → Option Name
+origin_in value = option_and_then (λ v. named (name_of v [])) value
+
+abbrev pub reading_in : Verb → List Row → Option Invocation
+reading_in verb rows = invocation verb (origin_in (first_of (codes "origin") rows)) (chunks_in (first_of (codes "chunks") rows))
+
+abbrev pub load_in : List Row → Option Load
+load_in rows = load_by (option_and_then seed_of (first_of (codes "seed") rows)) (option_and_then names_of (first_of (codes "names") rows)) (option_and_then turns_of (first_of (codes "turns") rows)) (option_and_then workers_of (first_of (codes "workers") rows))
+
+abbrev pub making_by : Option Load → Option ℕ → Option Invocation
+making_by None chunks = None
+making_by (Some load) None = None
+making_by (Some load) (Some chunks) = Some (record { verb = Make load; origin = made_origin; chunks = chunks })
+
+-- a subcommand's name and its options
+abbrev pub asked_by : List ℕ → List Row → Option Invocation
+asked_by name rows =
+    if bytes_eq name (codes "run") then reading_in Run rows
+    else if bytes_eq name (codes "check") then reading_in Check rows
+    else if bytes_eq name (codes "make") then making_by (load_in rows) (chunks_in (first_of (codes "chunks") rows))
+    else None
+
+abbrev pub asked_in : Option (List ℕ × List Row) → Option Invocation
+asked_in found = option_and_then (λ x. asked_by x.0 x.1) found
+
+-- what the words say as clap reads them; None where it refuses them, or an origin isn't a name, or a number isn't decimal digits
+-- within its limits
+abbrev pub parsed_of : List (List ℕ) → Option Invocation
+parsed_of words = if is_empty (fault_of program_app words) then asked_in (subcommand_of program_app words) else None

@@ -1,0 +1,15 @@
+//! What the words of the command line ask for.
+#![tactic(auto)]
+
+mod given;
+mod invocation;
+mod making;
+mod numbers;
+mod options;
+mod parsed;
+mod program;
+mod reading;
+mod words;
+
+pub use invocation::{Invocation, Verb};
+pub use words::invocation_of;

@@ -1,0 +1,50 @@
+//! Numbers of the command line: decimal digits within limits.
+ghost use Rattle.std.specs.Prelude.{◌≡◌, ◌≤◌, ◌-◌, ◌^◌, ℕ, List, Some, None, Option, IfSome};
+ghost use Rattle.zone_model.specs.Texts.{number, digits_from};
+ghost use Rattle.command_line.specs.Numbers.{chunks_of, seed_of, within};
+
+use rr_data::number;
+
+/// The number of chunks where none is given.
+pub const DEFAULT_CHUNKS: u32 = 64;
+
+/// A number from a least to a greatest one.
+pub fn within(value: &[u8], least: u32, most: u32) -> Option<u32>
+    ensures value { result ≡ within least most value.now }
+    ensures limits { IfSome result (λ n. (least ≤ n) × (n ≤ most)) }
+{
+    match number(value, most) {
+        Some(given) if given >= least => Some(given),
+        _ => None,
+    }
+}
+
+/// A number of chunks.
+pub fn chunks_of(value: &[u8]) -> Option<u32>
+    ensures value { result ≡ chunks_of value.now }
+    ensures limits { IfSome result (λ n. (16 ≤ n) × (n ≤ 4096)) }
+{
+    within(value, 16, 4096)
+}
+
+/// A seed: any number of 64 bits.
+#[tactic(auto, unfolding(zone_model::specs::Texts::number, zone_model::specs::Texts::digits_from))]
+pub fn seed_of(value: &[u8]) -> Option<u64>
+    ensures { result ≡ seed_of value.now }
+{
+    if value.is_empty() {
+        return None;
+    }
+    let mut seed = 0u64;
+    for octet in value {
+        if !octet.is_ascii_digit() {
+            return None;
+        }
+        let digit = u64::from(*octet - b'0');
+        if seed > (u64::MAX - digit) / 10 {
+            return None;
+        }
+        seed = seed * 10 + digit;
+    }
+    Some(seed)
+}

@@ -1,0 +1,166 @@
+//! Words that aren't plain, as clap reads them.
+ghost use Rattle.std.specs.Prelude.{◌≡◌, ◌≤◌, ℕ, List, map, codes, Some, None, Option, IfOk, IfSome, option_and_then};
+ghost use Rattle.std.specs.Option.{option_map};
+ghost use Rattle.std.specs.String.{string_bytes};
+ghost use Rattle.clap.specs.Matches.{found_of};
+ghost use Rattle.clap.specs.Simple.{subcommand_rows_of};
+ghost use Rattle.clap.specs.Walk.{first_of, rows_of};
+ghost use Rattle.job_make.specs.Views.{load_view};
+ghost use Rattle.command_line.specs.Parsed as parsed;
+ghost use Rattle.command_line.specs.Numbers as numbers;
+ghost use Rattle.command_line.specs.Views.{invocation_view, verb_view};
+
+use crate::invocation::{Invocation, Verb};
+use crate::making::made_origin;
+use crate::numbers::{DEFAULT_CHUNKS, chunks_of, seed_of, within};
+use crate::program::program;
+use clap::ArgMatches;
+use clap::error::ErrorKind;
+use dns_name::Name;
+use job_make::Load;
+use std::alloc::{AllocError, Global};
+
+// The value of an option.
+fn value_in<'a>(matches: &ArgMatches<'a>, id: &str) -> Option<&'a str>
+    ensures { option_map (λ s. s.now) result ≡ first_of id.now (rows_of (found_of matches.now)) }
+{
+    matches.get_str(id)
+}
+
+// A number within limits, if it is given.
+fn number_in(value: Option<&str>, least: u32, most: u32) -> Option<u32>
+    ensures value { result ≡ option_and_then (numbers.within least most) (option_map (λ s. s.now) value.entry) }
+    ensures limits { IfSome result (λ n. (least ≤ n) × (n ≤ most)) }
+{
+    match value {
+        Some(value) => within(value.as_bytes(), least, most),
+        None => None,
+    }
+}
+
+// A seed, if it is given.
+fn seed_in(value: Option<&str>) -> Option<u64>
+    ensures { result ≡ option_and_then numbers.seed_of (option_map (λ s. s.now) value.entry) }
+{
+    match value {
+        Some(value) => seed_of(value.as_bytes()),
+        None => None,
+    }
+}
+
+// The number of chunks, which may be left out.
+fn chunks_in(value: Option<&str>) -> Option<u32>
+    ensures value { result ≡ parsed.chunks_in (option_map (λ s. s.now) value.entry) }
+    ensures limits { IfSome result (λ n. (16 ≤ n) × (n ≤ 4096)) }
+{
+    match value {
+        Some(value) => chunks_of(value.as_bytes()),
+        None => Some(DEFAULT_CHUNKS),
+    }
+}
+
+// The origin, read under the root.
+fn origin_in(value: Option<&str>) -> Option<Name>
+    ensures { result ≡ parsed.origin_in (option_map (λ s. s.now) value.entry) }
+{
+    let Some(value) = value else {
+        return None;
+    };
+    match Name::read(value.as_bytes(), &Name::root()) {
+        Ok(origin) => Some(origin),
+        Err(_) => None,
+    }
+}
+
+// What the options of a command that reads say.
+fn reading_in(matches: &ArgMatches<'_>, verb: Verb) -> Option<Invocation>
+    ensures { option_map invocation_view result ≡ parsed.reading_in (verb_view verb) (rows_of (found_of matches.now)) }
+{
+    let Some(origin) = origin_in(value_in(matches, "origin")) else {
+        return None;
+    };
+    match chunks_in(value_in(matches, "chunks")) {
+        Some(chunks) => Some(Invocation {
+            verb,
+            origin,
+            chunks,
+        }),
+        None => None,
+    }
+}
+
+// The load that options say.
+fn load_in(matches: &ArgMatches<'_>) -> Option<Load>
+    ensures { option_map load_view result ≡ parsed.load_in (rows_of (found_of matches.now)) }
+{
+    let Some(seed) = seed_in(value_in(matches, "seed")) else {
+        return None;
+    };
+    let Some(names) = number_in(value_in(matches, "names"), 1, 20000) else {
+        return None;
+    };
+    let Some(turns) = number_in(value_in(matches, "turns"), 1, 10000) else {
+        return None;
+    };
+    match number_in(value_in(matches, "workers"), 1, 1) {
+        Some(workers) => Some(Load {
+            seed,
+            names,
+            turns,
+            workers,
+        }),
+        None => None,
+    }
+}
+
+// What the options of the command that makes a load say.
+fn making_in(matches: &ArgMatches<'_>) -> Option<Invocation>
+    ensures { option_map invocation_view result ≡ parsed.making_by (parsed.load_in (rows_of (found_of matches.now))) (parsed.chunks_in (first_of (codes "chunks") (rows_of (found_of matches.now)))) }
+{
+    let Some(load) = load_in(matches) else {
+        return None;
+    };
+    match chunks_in(value_in(matches, "chunks")) {
+        Some(chunks) => Some(Invocation {
+            verb: Verb::Make(load),
+            origin: made_origin(),
+            chunks,
+        }),
+        None => None,
+    }
+}
+
+// What a command with its options says.
+fn asked_by(name: &str, matches: &ArgMatches<'_>) -> Option<Invocation>
+    ensures { option_map invocation_view result ≡ parsed.asked_by name.now (rows_of (found_of matches.now)) }
+{
+    match name {
+        "run" => reading_in(matches, Verb::Run),
+        "check" => reading_in(matches, Verb::Check),
+        "make" => making_in(matches),
+        _ => None,
+    }
+}
+
+// What the matches of a command line say.
+fn asked_in(matches: &ArgMatches<'_>) -> Option<Invocation>
+    ensures { option_map invocation_view result ≡ parsed.asked_in (subcommand_rows_of matches.now) }
+{
+    match matches.subcommand() {
+        Some((name, inner)) => asked_by(name, inner),
+        None => None,
+    }
+}
+
+/// What words say as clap reads them; None where it refuses them, or an origin isn't a name, or a number isn't decimal digits
+/// within its limits.
+pub fn parsed_of(alloc: Global, words: &[String]) -> Result<Option<Invocation>, AllocError>
+    ensures { IfOk result (λ i. option_map invocation_view i ≡ parsed.parsed_of (map string_bytes words.now)) }
+{
+    let command = program(alloc)?;
+    match command.try_get_matches_from(words) {
+        Ok(matches) => Ok(asked_in(&matches)),
+        Err(error) if error.kind() == ErrorKind::OutOfMemory => Err(AllocError),
+        Err(_) => Ok(None),
+    }
+}

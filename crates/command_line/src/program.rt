@@ -1,0 +1,91 @@
+//! The command line that clap is given.
+ghost use Rattle.std.specs.Prelude.{◌≡◌, ◌∷◌, [], IfOk, codes, false, true};
+ghost use Rattle.clap.specs.Simple.{app_of, new_shape};
+ghost use Rattle.clap.specs.Walk.{rule_of};
+ghost use Rattle.clap.specs.declared.builder.command.Command.TheViews.{out-Command as fields_of};
+ghost use Rattle.command_line.specs.Parsed.{making_shape, option_rule, program_app, reading_shape};
+
+use clap::{Arg, ArgAction, Command};
+use std::alloc::{AllocError, Global};
+
+// An option with a value.
+fn option<'a>(alloc: Global, name: &'a str, help: &'a str, required: bool) -> Arg<'a>
+    ensures rule { rule_of result ≡ option_rule name.entry.now required }
+    ensures local { result.global ≡ false }
+{
+    Arg::new(alloc, name)
+        .long(name)
+        .help(help)
+        .action(ArgAction::Set)
+        .required(required)
+}
+
+// The number of chunks, which each command takes.
+fn chunks<'a>(alloc: Global) -> Arg<'a>
+    ensures rule { rule_of result ≡ option_rule (codes "chunks") false }
+    ensures local { result.global ≡ false }
+{
+    option(
+        alloc,
+        "chunks",
+        "How many chunks of 1,024 cells the index has, 16 to 4096; 64 if not said",
+        false,
+    )
+}
+
+// A command that reads.
+fn reading<'a>(alloc: Global, name: &'a str, about: &'a str) -> Result<Command<'a>, AllocError>
+    ensures app { IfOk result (λ c. app_of c ≡ record { top = reading_shape name.entry.now; subs = [] }) }
+    ensures local { IfOk result (λ c. (fields_of c).has_globals ≡ false) }
+{
+    let help = "The zone's origin, read under the root";
+    let origin = option(alloc, "origin", help, true);
+    let chunks = chunks(alloc);
+    let command = Command::new(alloc, name).about(about);
+    let with_origin = command.arg(origin)?;
+    let with_chunks = with_origin.arg(chunks)?;
+    Ok(with_chunks)
+}
+
+// The command that makes a load.
+fn making<'a>(alloc: Global) -> Result<Command<'a>, AllocError>
+    ensures app { IfOk result (λ c. app_of c ≡ record { top = making_shape; subs = [] }) }
+    ensures local { IfOk result (λ c. (fields_of c).has_globals ≡ false) }
+{
+    let seed_help = "What the draws begin with, below 2^64";
+    let seed = option(alloc, "seed", seed_help, true);
+    let names_help = "How many numbered names the zone has, 1 to 20000";
+    let names = option(alloc, "names", names_help, true);
+    let turns_help = "How many turns each worker has, 1 to 10000";
+    let turns = option(alloc, "turns", turns_help, true);
+    let workers_help = "How many workers the script has: 1, until scripts have more";
+    let workers = option(alloc, "workers", workers_help, true);
+    let chunks = chunks(alloc);
+    let about = "Make a job, run it, and print a summary";
+    let command = Command::new(alloc, "make").about(about);
+    let with_seed = command.arg(seed)?;
+    let with_names = with_seed.arg(names)?;
+    let with_turns = with_names.arg(turns)?;
+    let with_workers = with_turns.arg(workers)?;
+    let with_chunks = with_workers.arg(chunks)?;
+    Ok(with_chunks)
+}
+
+/// The program's command line.
+pub fn program<'a>(alloc: Global) -> Result<Command<'a>, AllocError>
+    ensures { IfOk result (λ c. app_of c ≡ program_app) }
+{
+    let run_about = "Read a job, run it, and print a report";
+    let run_command = reading(alloc, "run", run_about)?;
+    let check_about = "Read a zone, and print how large its index is";
+    let check_command = reading(alloc, "check", check_about)?;
+    let make_command = making(alloc)?;
+    let about = "Answers questions about a DNS zone while it is being changed";
+    let top = Command::new(alloc, "qpzone")
+        .about(about)
+        .subcommand_required(true);
+    let with_run = top.subcommand(run_command)?;
+    let with_check = with_run.subcommand(check_command)?;
+    let with_make = with_check.subcommand(make_command)?;
+    Ok(with_make)
+}

@@ -1,0 +1,4 @@
+pub mod LoadLemmas
+pub mod ScriptLines
+pub mod SizeLemmas
+pub mod ZoneLines

@@ -1,0 +1,16 @@
+#!/usr/bin/env bash
+# Prints the examples as cases for the program `conformance`, which keeps them in crates/conformance/data/examples.cases:
+# each job with its report, and the made load with its summary. After a change:
+#   examples/cases.sh > crates/conformance/data/examples.cases
+set -eu
+cd "$(dirname "$0")"
+echo "# The jobs of examples/, with their reports. Written by examples/cases.sh."
+for job in first:0 delegations:0 transactions:1 made:0; do
+  name=${job%:*}
+  printf '\n= %s.job\n' "$name"
+  sed 's/^/| /' "$name.job"
+  echo "due ${job#*:}"
+  sed 's/^/| /' "$name.report"
+done
+printf '\n= the load that made.job is the text of\nwords make --seed 7 --names 5 --turns 8 --workers 1\ndue 0\n'
+sed 's/^/| /' made.summary
