@@ -1,5 +1,5 @@
 -- What was read of a name is what it owns.
-use Rattle.std.proofs.Common.{◌≡◌, ◌∙◌, ℕ, zero, suc, ◌+◌, ◌-◌, ◌≤◌, Bool, true, false, cond, eqb, ◌||◌, List, [], ◌∷◌, ◌++◌, length, take, drop, map, inl, inr, Option, Some, None, IfSome, refl, sym, ap, subst, arith, length-append}
+use Rattle.std.proofs.Common.{◌≡◌, ◌∙◌, ℕ, zero, suc, ◌-◌, Bool, true, false, cond, eqb, ◌||◌, List, [], ◌∷◌, ◌++◌, length, take, drop, map, inl, inr, Option, Some, None, IfSome, refl, sym, ap, subst, arith, length-append}
 use Rattle.std.proofs.lemmas.List.{drop_at}
 use borrow.Author.Tests.{eqb-true}
 use Rattle.std.specs.List.{find, list_any}
@@ -7,10 +7,9 @@ use Rattle.std.specs.Option.{option_map}
 use Rattle.packed_node.specs.declared.Leaf.{Leaf}
 use Rattle.zone_model.specs.Names.{Name, IsName, ancestor, is_under, wire}
 use Rattle.zone_model.specs.Keys.{key_of}
-use Rattle.zone_model.specs.Records.{Entry, IsItem}
+use Rattle.zone_model.specs.Records.{IsItem}
 use Rattle.zone_model.specs.Versions.{Version, owned}
 use Rattle.zone_model.proofs.OrderLemmas.{under_ends}
-use Rattle.rr_data.specs.ItemViews.{SaysEntry}
 use Rattle.rr_data.proofs.ItemViewLemmas.{item_says}
 use Rattle.trie_model.specs.Keys as trie
 use Rattle.trie_model.specs.Order.{begins, chain, labels_in, IsThere}

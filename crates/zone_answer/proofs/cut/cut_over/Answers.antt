@@ -1,8 +1,5 @@
-use Rattle.std.proofs.Common.{◌∙◌, refl, sym, ap, subst, arith, Option, ℕ, ◌+◌, ◌-◌}
-use Rattle.zone_model.specs.Names.{ancestor}
+use Rattle.std.proofs.Common.{◌∙◌, refl, sym, ap, subst, arith, ℕ, ◌-◌}
 use Rattle.zone_answer.specs.Standing.{ShowsAbove}
-use Rattle.zone_answer.specs.Parts.{delegated, IsCutOf}
-use Rattle.zone_answer.specs.declared.records.Held.{Held}
 use Rattle.zone_answer.proofs.CutLaws.{none_to_origin, none_to_next, cut_found, none_over}
 use Rattle.zone_answer.proofs.cut.cut_over.Goals as goal
 

@@ -1,4 +1,4 @@
-use Rattle.std.proofs.Common.{◌≡◌, ◌∙◌, ℕ, List, false, true, map, refl, rules, sym, ap, subst, Option, Some, None}
+use Rattle.std.proofs.Common.{◌≡◌, ◌∙◌, false, true, map, refl, rules, sym, ap, subst, Option, Some}
 use Rattle.std.specs.Option.{is_some}
 use Rattle.zone_model.specs.Names.{Name, ancestor}
 use Rattle.zone_model.specs.Keys.{key_of}

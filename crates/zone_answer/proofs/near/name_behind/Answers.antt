@@ -1,5 +1,4 @@
-use Rattle.std.proofs.Common.{◌≡◌, ℕ, List, Option, Some, None, ap, sym, subst}
-use Rattle.packed_node.specs.declared.Leaf.{Leaf}
+use Rattle.std.proofs.Common.{◌≡◌, ℕ, List, Some, None, ap, sym, subst}
 use Rattle.zone_answer.proofs.HeldLaws.{passed_leaf}
 use Rattle.zone_answer.proofs.near.name_behind.Goals as goal
 

@@ -1,10 +1,7 @@
-use Rattle.std.proofs.Common.{◌≡◌, ◌∙◌, ℕ, List, [], ◌++◌, true, false, map, refl, sym, ap, subst, arith, Option, Some}
+use Rattle.std.proofs.Common.{◌≡◌, ◌∙◌, ℕ, List, ◌++◌, true, false, map, sym, ap, subst, arith, Option, Some}
 use Rattle.zone_model.specs.Names.{Name, star_under}
-use Rattle.zone_model.specs.Keys.{key_of}
-use Rattle.zone_model.specs.Records.{Entry}
 use Rattle.zone_model.specs.Versions.{owned, exists}
 use Rattle.trie_model.specs.Keys as trie
-use Rattle.trie_read.specs.Reads.{FindsLeaf}
 use Rattle.trie_read.specs.Readings.{AtSplit}
 use Rattle.zone_answer.specs.Answers.{wildcard_under}
 use Rattle.zone_answer.specs.Parts.{IsNodeOf}

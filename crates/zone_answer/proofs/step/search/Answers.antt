@@ -1,11 +1,9 @@
-use Rattle.std.proofs.Common.{◌≡◌, ◌∙◌, ℕ, List, [], map, sym, ap, subst}
+use Rattle.std.proofs.Common.{◌∙◌, ℕ, List, [], map, sym, subst}
 use Rattle.zone_model.specs.Keys.{key_of}
 use Rattle.zone_model.specs.Versions.{owned}
-use Rattle.trie_model.specs.Keys as trie
 use Rattle.trie_model.specs.Order.{chain}
 use Rattle.trie_read.specs.Above.{AreAncestors}
 use Rattle.trie_read.specs.Readings.{AtSplit}
-use Rattle.trie_read.specs.declared.ancestors.Ancestor.{Ancestor}
 use Rattle.zone_answer.specs.Standing.{IsPlaced, Shows, ShowsAbove, trie_entry}
 use Rattle.zone_answer.proofs.ChainLaws.{there_exists}
 use Rattle.zone_answer.proofs.OwnedLaws.{nothing_owned}
