@@ -37,8 +37,6 @@ mod recycling;
 mod refusal;
 mod rounds;
 mod snapshot;
-#[cfg(test)]
-mod tests;
 mod transaction;
 mod working;
 
