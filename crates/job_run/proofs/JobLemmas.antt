@@ -8,10 +8,10 @@ use Rattle.job_model.specs.Commands.{Command}
 use Rattle.job_model.specs.Outcomes.{Setting, Pair, is_committed, made, operations_of, operations_at, accepted_or, after, times_made, at_first, Along, AllAlong, all_pairs, passes_for, shown_in}
 use Rattle.job_script.specs.Outcomes.{pairs_of, job_pairs, versions_made, EachTells, AllTell}
 use Rattle.job_script.specs.declared.outcomes.Outcomes.{Outcomes}
-use Rattle.job_run.specs.Histories.{at}
+use Rattle.job_run.specs.Histories.{at, Stands}
 use Rattle.qp_multi.specs.declared.index.Index.{Index}
 use Rattle.job_run.specs.Indexes.{Keeps}
-use Rattle.job_run.specs.Runs.{setting_on, Replayed, Work, WorkerRan, Works, JobRan, IsRun}
+use Rattle.job_run.specs.Runs.{setting_on, Replayed, Work, WorkerRan, Works, JobRan, IsRun, RunsTo}
 use Rattle.job_run.specs.declared.workers.Finished.{Finished}
 use Rattle.job_run.proofs.RunLemmas.{Pairs, Agree, Within, at-front, all-append, within_more, along_alike, each_alike, times-append, none_made, all_replayed}
 
@@ -161,4 +161,15 @@ is_run chunks origin zone ws f versions k some last names =
       };
       tell = all_tell-alike origin (at versions) (versions_made origin zone ws f.outcomes.items) (length versions) ws f.outcomes.items agree k.none_above k.told;
       names = names ∙ ap (λ (v : Version). length v) (sym (agree (length versions - 1) lt)) ∙ ap (λ (n : ℕ). length (versions_made origin zone ws f.outcomes.items n)) (sym last);
+    }
+
+pub run_to : (chunks : ℕ) (origin : Name) (zone : Version) (ws : List (List Command)) (f : Finished) (versions : List Version) (index : Index) → Works chunks origin zone ws f.outcomes.items versions → Stands index versions chunks → f.version ≡ length versions - 1
+    → f.names ≡ length (at versions (length versions - 1)) → RunsTo chunks origin zone ws f index
+run_to chunks origin zone ws f versions index k stands last names =
+    let some = stands.some in
+    let lt : length versions - 1 < length versions = omega arith in
+    let agree = replays chunks origin zone ws f.outcomes.items versions k in
+    record {
+      run = is_run chunks origin zone ws f versions k stands.some last names;
+      keeps = subst (λ (n : ℕ). Keeps index (versions_made origin zone ws f.outcomes.items n) n chunks) (sym last) (subst (λ (v : Version). Keeps index v (length versions - 1) chunks) (sym (agree (length versions - 1) lt)) stands.keeps);
     }

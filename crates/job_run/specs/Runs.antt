@@ -94,3 +94,8 @@ pub record IsRun (chunks : ℕ) (origin : Name) (zone : Version) (workers : List
   pub lawful : Lawful chunks origin zone (job_pairs workers f.outcomes.items) f.version
   pub tell : AllTell origin (versions_made origin zone workers f.outcomes.items) workers f.outcomes.items
   pub names : f.names ≡ length (versions_made origin zone workers f.outcomes.items f.version)
+
+-- and the index has the last version
+pub record RunsTo (chunks : ℕ) (origin : Name) (zone : Version) (workers : List (List Command)) (f : Finished) (index : Index) : Type 0 where
+  pub run : IsRun chunks origin zone workers f
+  pub keeps : Keeps index (versions_made origin zone workers f.outcomes.items f.version) f.version chunks

@@ -6,7 +6,7 @@ ghost use Rattle.job_model.specs.Commands.{InTurn};
 ghost use Rattle.job_script.specs.Views.{command_view, worker_view, workers_view, job_view};
 ghost use Rattle.job_run.specs.Indexes.{Keeps, KeepsFirst, KeepsSome};
 ghost use Rattle.job_run.specs.Histories.{Stands, StandsSome};
-ghost use Rattle.job_run.specs.Runs.{IsReady, Stepped, WorkerRan, JobRan, IsRun};
+ghost use Rattle.job_run.specs.Runs.{IsReady, Stepped, WorkerRan, JobRan, RunsTo};
 
 use crate::gate::Gate;
 use crate::replying::run_question;
@@ -136,7 +136,7 @@ pub fn run_job<G: Gate>(
     requires first { KeepsFirst index.old }
     requires in_turn { AllByRecursion (InTurn false) (job_view job.now) }
     ensures { (zone : Version) (chunks : ℕ) → Keeps index.old zone 0 chunks
-        → IfOk result (IsRun chunks origin.now zone (job_view job.now)) }
+        → IfOk result (λ f. RunsTo chunks origin.now zone (job_view job.now) f index.new) }
 {
     let outcomes = run_workers(alloc, origin, index, &job.workers, gate)?;
     let query = index.query();

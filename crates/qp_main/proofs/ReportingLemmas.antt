@@ -17,21 +17,32 @@ use Rattle.job_script.specs.Outcomes.{ended_view, job_pairs, versions_made, all_
 use Rattle.job_script.specs.declared.outcomes.Outcome.{Outcome}
 use Rattle.job_script.specs.declared.outcomes.Outcomes.{Outcomes}
 use Rattle.job_script.proofs.ReportLemmas.{reported, refused_told, workers_same}
+use Rattle.job_script.proofs.SummaryLemmas.{summed_up}
+use Rattle.job_model.specs.Sizes.{node_count}
+use Rattle.qp_main.specs.Tellings.{finished_text, told_text}
+use Rattle.qp_main.specs.declared.telling.Telling.{Telling}
+use Rattle.qp_main.specs.declared.telling.Telling.TheVariants.{Report, Summary}
 use Rattle.job_run.specs.Runs.{IsRun}
 use Rattle.job_run.specs.declared.workers.Finished.{Finished}
 use Rattle.qp_main.specs.Due.{Reported}
 use Rattle.qp_main.specs.declared.status.Status.{Status}
 use Rattle.qp_main.specs.declared.status.Status.TheVariants as status
 
-pub job_reported : (chunks : ℕ) (origin : Name) (zone : Version) (ws : List (List Command)) (f : Finished) (text : List ℕ) (refused : Bool) (s : Status) → IsRun chunks origin zone ws f → text ≡ all_text 1 f.outcomes.items ++ end_text f.version f.names
+-- what is printed of a job that was run tells of it
+told : (telling : Telling) (chunks : ℕ) (origin : Name) (zone : Version) (ws : List (List Command)) (f : Finished) → IsRun chunks origin zone ws f
+    → finished_text telling f (node_count (versions_made origin zone ws f.outcomes.items f.version)) ≡ told_text telling origin zone (job_pairs ws f.outcomes.items) f.version
+told Report chunks origin zone ws f r = reported origin zone ws f.outcomes.items f.version f.names r.tell r.names
+told Summary chunks origin zone ws f r = summed_up origin zone ws f.outcomes.items f.version f.names (node_count (versions_made origin zone ws f.outcomes.items f.version)) r.tell r.names refl
+
+pub job_reported : (telling : Telling) (chunks : ℕ) (origin : Name) (zone : Version) (ws : List (List Command)) (f : Finished) (text : List ℕ) (refused : Bool) (s : Status) → IsRun chunks origin zone ws f → text ≡ finished_text telling f (node_count (versions_made origin zone ws f.outcomes.items f.version))
     → refused ≡ list_any (λ (w : Outcomes). list_any (λ (o : Outcome). is_refused (ended_view o.told)) w.list.items) f.outcomes.items → s ≡ cond refused status.SomeRefused status.Done
-    → Reported chunks (record { origin = origin; zone = zone; workers = ws }) s text
-job_reported chunks origin zone ws f text refused s r printed some ended = record {
+    → Reported telling chunks (record { origin = origin; zone = zone; workers = ws }) s text
+job_reported telling chunks origin zone ws f text refused s r printed some ended = record {
   workers = job_pairs ws f.outcomes.items;
   last = f.version;
   same = workers_same origin (versions_made origin zone ws f.outcomes.items) ws f.outcomes.items r.tell;
   lawful = r.lawful;
-  is = printed ∙ reported origin zone ws f.outcomes.items f.version f.names r.tell r.names;
+  is = printed ∙ told telling chunks origin zone ws f r;
   ended = ended ∙ ap (λ (b : Bool). cond b status.SomeRefused status.Done) (some ∙ refused_told origin (versions_made origin zone ws f.outcomes.items) ws f.outcomes.items r.tell);
 }
 

@@ -6,7 +6,7 @@ use Rattle.job_script.specs.Views.{job_view, workers_view}
 use Rattle.job_script.specs.declared.commands.Worker.{Worker}
 use Rattle.job_run.specs.Histories.{at}
 use Rattle.job_run.specs.Runs.{JobRan}
-use Rattle.job_run.proofs.JobLemmas.{is_run}
+use Rattle.job_run.proofs.JobLemmas.{run_to}
 use Rattle.job_run.proofs.workers.run_job.Goals as goal
 
 pub count-requires : goal.count-requires
@@ -19,6 +19,6 @@ pub returns : goal.returns
 returns g c = λ zone chunks keeps.
     let r = subst (λ (l : List Worker). JobRan chunks c.args.origin.now zone (workers_view l) c.in_ok-outcomes.outcomes.items c.run_workers.new.index) c.deref.ensures.value (c.in_ok-outcomes.ensures zone chunks keeps) in
     let last = at r.versions (length r.versions - 1) in
-    is_run chunks c.args.origin.now zone (job_view c.args.job.now) _ r.versions r.works r.stands.some
+    run_to chunks c.args.origin.now zone (job_view c.args.job.now) _ r.versions c.run_workers.new.index r.works r.stands
     (c.version.ensures ∙ c.query-query.ensures.version ∙ r.stands.keeps.numbered)
     (c.count.ensures (trie_entries last) (c.query-query.ensures.tells (trie_entries last) r.stands.keeps.shows) ∙ length-map last trie_entry)
