@@ -417,7 +417,7 @@ all_read load workers n x w few =
     record {
       lists = others.lists;
       last = others.last;
-      many = others.many;
+      many = (let m = others.many in let e : length others.lists ≡ workers = omega (arith, m) in e);
       read = step_read n (codes "worker") (turns ++ rest) no_lines (between [] []) (first_worker n) ∙ own.read rest ∙ others.read;
     }
 
