@@ -69,12 +69,6 @@ whole_job origin bytes zone workers z w =
     ap (λ r. zone_refused r >>= (λ version. script_refused (script_of origin (script_start bytes) (script_lines bytes)) >>= (λ ws. Ok (record { origin = origin; zone = version; workers = ws })))) z
     ∙ ap (λ r. script_refused r >>= (λ ws. Ok (record { origin = origin; zone = zone; workers = ws }))) w
 
-no_script : (origin : Name) (bytes : List ℕ) (zone : Version) (e : Refused ScriptKind) → zone_of origin (zone_lines bytes) ≡ Ok zone → script_of origin (script_start bytes) (script_lines bytes) ≡ Err e → job_of origin bytes ≡ Err (ScriptRefused e)
-unfolding job_of_lines
-no_script origin bytes zone e z w =
-    ap (λ r. zone_refused r >>= (λ version. script_refused (script_of origin (script_start bytes) (script_lines bytes)) >>= (λ ws. Ok (record { origin = origin; zone = version; workers = ws })))) z
-    ∙ ap (λ r. script_refused r >>= (λ ws. Ok (record { origin = origin; zone = zone; workers = ws }))) w
-
 no_zone : (origin : Name) (bytes : List ℕ) (e : Refused ZoneKind) → zone_of origin (zone_lines bytes) ≡ Err e → job_of origin bytes ≡ Err (ZoneRefused e)
 unfolding job_of_lines
 no_zone origin bytes e z = ap (λ r. zone_refused r >>= (λ version. script_refused (script_of origin (script_start bytes) (script_lines bytes)) >>= (λ ws. Ok (record { origin = origin; zone = version; workers = ws })))) z
@@ -86,11 +80,6 @@ answers_as telling chunks q r s text e h = subst (λ (x : Result Job JobRefusal)
 pub job_answers : (telling : Telling) (chunks : ℕ) (origin : Name) (bytes : List ℕ) (zone : Version) (workers : List (List Command)) → zone_of origin (zone_lines bytes) ≡ Ok zone → script_of origin (script_start bytes) (script_lines bytes) ≡ Ok workers
     → (s : Status) (text : List ℕ) → IfFits (fits chunks zone) chunks zone (Reported telling chunks (record { origin = origin; zone = zone; workers = workers })) s text → Answers telling chunks (job_of origin bytes) s text
 job_answers telling chunks origin bytes zone workers z w s text h = answers_as telling chunks (job_of origin bytes) (Ok (record { origin = origin; zone = zone; workers = workers })) s text (whole_job origin bytes zone workers z w) h
-
--- a script that is refused
-pub script_refuses : (telling : Telling) (chunks : ℕ) (origin : Name) (bytes : List ℕ) (zone : Version) (e : Refused ScriptKind) → zone_of origin (zone_lines bytes) ≡ Ok zone → script_of origin (script_start bytes) (script_lines bytes) ≡ Err e
-    → (s : Status) (text : List ℕ) → Answers telling chunks (Err (ScriptRefused e)) s text → Answers telling chunks (job_of origin bytes) s text
-script_refuses telling chunks origin bytes zone e z w s text h = answers_as telling chunks (job_of origin bytes) (Err (ScriptRefused e)) s text (no_script origin bytes zone e z w) h
 
 -- a zone that is refused is refused for each command
 pub zone_refuses : (verb : Verb) (chunks : ℕ) (origin : Name) (bytes : List ℕ) (e : Refused ZoneKind) (s : Status) (text : List ℕ) → zone_of origin (zone_lines bytes) ≡ Err e → ZoneRefuses e s text → DueInput verb chunks origin bytes s text
