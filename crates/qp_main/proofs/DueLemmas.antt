@@ -52,13 +52,10 @@ pub ok_map : {A E : Type 0} (r : Result A E) {P Q : A → Type 0} → ((x : A) �
 ok_map (Ok x) f h = f x h
 ok_map (Err e) f h = tt
 
--- ---- zones that fit and that don't
+-- ---- zones that fit
 
 pub fitting : (chunks : ℕ) (zone : Version) (F : Status → List ℕ → Type 0) (s : Status) (text : List ℕ) → fits chunks zone ≡ true → F s text → IfFits (fits chunks zone) chunks zone F s text
 fitting chunks zone F s text e h = subst (λ (b : Bool). IfFits b chunks zone F s text) (sym e) h
-
-pub unfitting : (chunks : ℕ) (zone : Version) (F : Status → List ℕ → Type 0) (s : Status) (text : List ℕ) → fits chunks zone ≡ false → s ≡ status.DoesNotFit → text ≡ no_room_text chunks zone → IfFits (fits chunks zone) chunks zone F s text
-unfitting chunks zone F s text e a b = subst (λ (t : Bool). IfFits t chunks zone F s text) (sym e) (a, b)
 
 -- ---- jobs
 
