@@ -5,7 +5,7 @@
 set -eu
 cd "$(dirname "$0")"
 echo "# The jobs of examples/, with their reports. Written by examples/cases.sh."
-for job in first:0 delegations:0 transactions:1 made:0; do
+for job in first:0 delegations:0 transactions:1 writers:0 made:0; do
   name=${job%:*}
   printf '\n= %s.job\n' "$name"
   sed 's/^/| /' "$name.job"

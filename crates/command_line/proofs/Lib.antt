@@ -1,4 +1,5 @@
 pub mod InvocationLemmas
+pub mod OriginLemmas
 pub mod WordLemmas
 pub mod SeedLemmas
 pub mod ParsedLemmas

@@ -1,5 +1,5 @@
 -- Plain words of the command line.
-use Rattle.std.specs.Prelude.{ℕ, Bool, false, ◌&&◌, not, List, [], ◌∷◌, ◌==◌, if◌then◌else◌, Option, Some, None, codes, option_and_then, drop}
+use Rattle.std.specs.Prelude.{◌≡◌, ℕ, Bool, false, ◌&&◌, not, List, [], ◌∷◌, ◌==◌, if◌then◌else◌, Option, Some, None, codes, option_and_then, drop}
 use Rattle.std.specs.Option.{option_map}
 use Rattle.std.specs.Str.{bytes_eq}
 use Rattle.zone_model.specs.Names.{Name}
@@ -20,6 +20,12 @@ pub record Invocation : Type 0 where
   pub verb : Verb
   pub origin : Name
   pub chunks : ℕ
+
+-- a load's names are under an origin of their own
+abbrev pub IsUnder : Verb → Name → Type 0
+IsUnder Run origin = Unit {0}
+IsUnder Check origin = Unit {0}
+IsUnder (Make load) origin = origin ≡ made_origin
 
 -- ---- run and check
 

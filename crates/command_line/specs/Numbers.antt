@@ -22,6 +22,6 @@ names_of value = within 1 20000 value
 abbrev pub turns_of : List ℕ → Option ℕ
 turns_of value = within 1 10000 value
 
--- how many workers a script may have
+-- how many workers a script has
 abbrev pub workers_of : List ℕ → Option ℕ
-workers_of value = within 1 1 value
+workers_of value = within 1 16 value

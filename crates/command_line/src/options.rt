@@ -57,14 +57,14 @@ fn with_turns(mut options: Options, value: &[u8]) -> Option<Options>
     }
 }
 
-// A number of workers that wasn't given before. A script has one today.
+// A number of workers that wasn't given before.
 fn with_workers(mut options: Options, value: &[u8]) -> Option<Options>
     ensures { option_map options_view result ≡ once options.workers (workers_of value.now) (λ n. record (options_view options) { workers = Some n }) }
 {
     if options.workers.is_some() {
         return None;
     }
-    match within(value, 1, 1) {
+    match within(value, 1, 16) {
         Some(workers) => {
             options.workers = Some(workers);
             Some(options)

@@ -102,7 +102,7 @@ fn load_in(matches: &ArgMatches<'_>) -> Option<Load>
     let Some(turns) = number_in(value_in(matches, "turns"), 1, 10000) else {
         return None;
     };
-    match number_in(value_in(matches, "workers"), 1, 1) {
+    match number_in(value_in(matches, "workers"), 1, 16) {
         Some(workers) => Some(Load {
             seed,
             names,

@@ -58,7 +58,7 @@ fn making<'a>(alloc: Global) -> Result<Command<'a>, AllocError>
     let names = option(alloc, "names", names_help, true);
     let turns_help = "How many turns each worker has, 1 to 10000";
     let turns = option(alloc, "turns", turns_help, true);
-    let workers_help = "How many workers the script has: 1, until scripts have more";
+    let workers_help = "How many workers the script has, 1 to 16";
     let workers = option(alloc, "workers", workers_help, true);
     let chunks = chunks(alloc);
     let about = "Make a job, run it, and print a summary";

@@ -1,5 +1,6 @@
 -- The lines of a made load's script say commands.
-use Rattle.std.proofs.Common.{◌≡◌, ◌∙◌, ℕ, zero, suc, ◌+◌, ◌*◌, ◌/◌, ◌%◌, ◌^◌, ◌<◌, ◌≤◌, Bool, true, false, cond, ◌&&◌, eqb, ltb, List, [], ◌∷◌, ◌++◌, length, refl, sym, ap, subst, arith, Option, Some, None, Result, Ok, Err, append_assoc, append-nil, length-append, codes}
+use Rattle.std.proofs.Common.{◌≡◌, ◌∙◌, ℕ, zero, suc, ◌+◌, ◌*◌, ◌/◌, ◌%◌, ◌^◌, ◌<◌, ◌≤◌, Bool, true, false, cond, ◌&&◌, eqb, ltb, List, [], ◌∷◌, ◌++◌, length, refl, sym, ap, subst, arith, Option, Some, None, Result, Ok, Err, append_assoc, append-nil, length-append, codes, inl, inr}
+use Rattle.std.proofs.lemmas.Bool.{cases_eq}
 use Rattle.std.proofs.lemmas.Bool.Decides.{nat_tests}
 use Rattle.std.proofs.lemmas.Fmt.{decimal_digit, decimal_nonempty, decimal_step, length-decimal-le}
 use Rattle.std.specs.List.{list_all}
@@ -27,8 +28,12 @@ use Rattle.rr_data.proofs.PrintedDataLemmas.{plain, spell_word, spell_word_then,
 use Rattle.job_model.specs.declared.Ending.TheVariants.{Commit}
 use Rattle.job_model.specs.declared.Weight.{Weight}
 use Rattle.job_model.specs.declared.Weight.TheVariants.{Light, Heavy}
-use Rattle.job_model.specs.Jobs.{Command, Ask, Block, Get, Find, Script, Unfinished, addition_of, asked_of, deletion_of, finished, phrase_of, question_of, script_from, script_line, script_of, tokens_say, without_parens}
-use Rattle.job_model.specs.Loads.{Finds, Gets, Moves, Part, Removes, Turn, address_text, drawn, made_origin, name_text, next_state, state_behind, turn_from, turn_lines, turn_of, turns_from}
+use Rattle.job_model.specs.Commands.{Command, Ask, Block, Get, Find}
+use Rattle.job_model.specs.Phrases.{asked_of, phrase_of, without_parens}
+use Rattle.job_model.specs.Arguments.{addition_of, deletion_of, question_of}
+use Rattle.job_model.specs.Jobs.{Script, Unfinished, finished, no_lines, script_from, script_line, script_of, tokens_say}
+use Rattle.job_model.specs.Loads.{Finds, Gets, Load, Moves, Part, Removes, Turn, address_text, drawn, made_origin, name_text, next_state, part_of, share, state_behind, turn_from, turn_lines, turn_of, turns_from, turns_of, worker_state, workers_from}
+use Rattle.job_make.proofs.SizeLemmas.{IsSmall, IsWithin, share_le, small_name}
 
 -- ---- a name's word
 
@@ -104,11 +109,11 @@ tokens_said n text tokens s h = ap (λ r. tokens_say made_origin n s (without_pa
 -- ---- commands
 
 -- a script between commands, and one in a block
-abbrev pub between : List Command → Script
-between commands = record { begun = true; commands = commands; block = None }
+abbrev pub between : List (List Command) → List Command → Script
+between earlier commands = record { earlier = earlier; begun = true; commands = commands; held = false; block = None }
 
-abbrev pub inside_block : List Command → Unfinished → Script
-inside_block commands block = record { begun = true; commands = commands; block = Some block }
+abbrev pub inside_block : List (List Command) → List Command → Unfinished → Script
+inside_block earlier commands block = record { earlier = earlier; begun = true; commands = commands; held = false; block = Some block }
 
 room_of : (n : ℕ) → n < 10000 → ltb n 10000 ≡ true
 room_of n h = grind (arith, nat_tests)
@@ -123,52 +128,52 @@ get_spelled n i h =
     subst (λ (t : List ℕ). Spells n [] t (plain (word n (codes "get") ∷ word n (name_text i) ∷ word n (codes "A") ∷ []))) (regroup_get (codes "get") (codes " ") (name_text i) (codes "A"))
     (three_words n (codes "get") (name_text i) (codes "A") (omega arith) (alphabetic_word (codes "get") refl) (name_some i) (name_shows i h) (omega arith) (alphabetic_word (codes "A") refl))
 
-get_line : (n i : ℕ) (cs : List Command) → i < 1000000 → length cs < 10000 → script_line made_origin n (codes "get " ++ name_text i ++ codes " A") (between cs) ≡ Ok (between (cs ++ Ask (Get (owner i) 1) ∷ []))
+get_line : (n i : ℕ) (es : List (List Command)) (cs : List Command) → i < 1000000 → length cs < 10000 → script_line made_origin n (codes "get " ++ name_text i ++ codes " A") (between es cs) ≡ Ok (between es (cs ++ Ask (Get (owner i) 1) ∷ []))
 unfolding phrase_of asked_of question_of type_named
-get_line n i cs h few =
-    tokens_said n (codes "get " ++ name_text i ++ codes " A") (word n (codes "get") ∷ word n (name_text i) ∷ word n (codes "A") ∷ []) (between cs) (get_spelled n i h)
+get_line n i es cs h few =
+    tokens_said n (codes "get " ++ name_text i ++ codes " A") (word n (codes "get") ∷ word n (name_text i) ∷ word n (codes "A") ∷ []) (between es cs) (get_spelled n i h)
     ∙ rw (room_of (length cs) few) (rw (name_said i h) refl)
 
 find_spelled : (n i : ℕ) → i < 1000000 → Spells n [] (codes "find " ++ name_text i) (plain (word n (codes "find") ∷ word n (name_text i) ∷ []))
 find_spelled n i h = two_words n (codes "find") (name_text i) (omega arith) (alphabetic_word (codes "find") refl) (name_some i) (name_shows i h)
 
-find_line : (n i : ℕ) (cs : List Command) → i < 1000000 → length cs < 10000 → script_line made_origin n (codes "find " ++ name_text i) (between cs) ≡ Ok (between (cs ++ Ask (Find (owner i)) ∷ []))
+find_line : (n i : ℕ) (es : List (List Command)) (cs : List Command) → i < 1000000 → length cs < 10000 → script_line made_origin n (codes "find " ++ name_text i) (between es cs) ≡ Ok (between es (cs ++ Ask (Find (owner i)) ∷ []))
 unfolding phrase_of asked_of question_of
-find_line n i cs h few =
-    tokens_said n (codes "find " ++ name_text i) (word n (codes "find") ∷ word n (name_text i) ∷ []) (between cs) (find_spelled n i h)
+find_line n i es cs h few =
+    tokens_said n (codes "find " ++ name_text i) (word n (codes "find") ∷ word n (name_text i) ∷ []) (between es cs) (find_spelled n i h)
     ∙ rw (room_of (length cs) few) (rw (name_said i h) refl)
 
 -- ---- the lines of a block
 
-write_line : (n : ℕ) (cs : List Command) → length cs < 10000 → script_line made_origin n (codes "write") (between cs) ≡ Ok (inside_block cs (record { start = n; weight = Light; operations = [] }))
+write_line : (n : ℕ) (es : List (List Command)) (cs : List Command) → length cs < 10000 → script_line made_origin n (codes "write") (between es cs) ≡ Ok (inside_block es cs (record { start = n; weight = Light; operations = [] }))
 unfolding phrase_of
-write_line n cs few =
-    tokens_said n (codes "write") (word n (codes "write") ∷ []) (between cs) (spell_word n (codes "write") (omega arith) (alphabetic_word (codes "write") refl).run)
+write_line n es cs few =
+    tokens_said n (codes "write") (word n (codes "write") ∷ []) (between es cs) (spell_word n (codes "write") (omega arith) (alphabetic_word (codes "write") refl).run)
     ∙ rw (room_of (length cs) few) refl
 
-update_line : (n : ℕ) (cs : List Command) → length cs < 10000 → script_line made_origin n (codes "update") (between cs) ≡ Ok (inside_block cs (record { start = n; weight = Heavy; operations = [] }))
+update_line : (n : ℕ) (es : List (List Command)) (cs : List Command) → length cs < 10000 → script_line made_origin n (codes "update") (between es cs) ≡ Ok (inside_block es cs (record { start = n; weight = Heavy; operations = [] }))
 unfolding phrase_of
-update_line n cs few =
-    tokens_said n (codes "update") (word n (codes "update") ∷ []) (between cs) (spell_word n (codes "update") (omega arith) (alphabetic_word (codes "update") refl).run)
+update_line n es cs few =
+    tokens_said n (codes "update") (word n (codes "update") ∷ []) (between es cs) (spell_word n (codes "update") (omega arith) (alphabetic_word (codes "update") refl).run)
     ∙ rw (room_of (length cs) few) refl
 
-commit_light : (n m : ℕ) (cs : List Command) (operations : List Operation) → script_line made_origin n (codes "commit") (inside_block cs (record { start = m; weight = Light; operations = operations })) ≡ Ok (between (cs ++ Block Light operations Commit ∷ []))
+commit_light : (n m : ℕ) (es : List (List Command)) (cs : List Command) (operations : List Operation) → script_line made_origin n (codes "commit") (inside_block es cs (record { start = m; weight = Light; operations = operations })) ≡ Ok (between es (cs ++ Block Light operations Commit ∷ []))
 unfolding phrase_of
-commit_light n m cs operations =
-    tokens_said n (codes "commit") (word n (codes "commit") ∷ []) (inside_block cs (record { start = m; weight = Light; operations = operations })) (spell_word n (codes "commit") (omega arith) (alphabetic_word (codes "commit") refl).run)
+commit_light n m es cs operations =
+    tokens_said n (codes "commit") (word n (codes "commit") ∷ []) (inside_block es cs (record { start = m; weight = Light; operations = operations })) (spell_word n (codes "commit") (omega arith) (alphabetic_word (codes "commit") refl).run)
 
-commit_heavy : (n m : ℕ) (cs : List Command) (operations : List Operation) → script_line made_origin n (codes "commit") (inside_block cs (record { start = m; weight = Heavy; operations = operations })) ≡ Ok (between (cs ++ Block Heavy operations Commit ∷ []))
+commit_heavy : (n m : ℕ) (es : List (List Command)) (cs : List Command) (operations : List Operation) → script_line made_origin n (codes "commit") (inside_block es cs (record { start = m; weight = Heavy; operations = operations })) ≡ Ok (between es (cs ++ Block Heavy operations Commit ∷ []))
 unfolding phrase_of
-commit_heavy n m cs operations =
-    tokens_said n (codes "commit") (word n (codes "commit") ∷ []) (inside_block cs (record { start = m; weight = Heavy; operations = operations })) (spell_word n (codes "commit") (omega arith) (alphabetic_word (codes "commit") refl).run)
+commit_heavy n m es cs operations =
+    tokens_said n (codes "commit") (word n (codes "commit") ∷ []) (inside_block es cs (record { start = m; weight = Heavy; operations = operations })) (spell_word n (codes "commit") (omega arith) (alphabetic_word (codes "commit") refl).run)
 
 owner_under : (i : ℕ) → is_under (owner i) made_origin ≡ true
 owner_under i = ends_under (name_text i ∷ []) made_origin
 
-removal_line : (n m i : ℕ) (cs : List Command) (how : Weight) → i < 1000000 → script_line made_origin n (codes "del " ++ name_text i) (inside_block cs (record { start = m; weight = how; operations = [] })) ≡ Ok (inside_block cs (record { start = m; weight = how; operations = DeleteName (owner i) ∷ [] }))
+removal_line : (n m i : ℕ) (es : List (List Command)) (cs : List Command) (how : Weight) → i < 1000000 → script_line made_origin n (codes "del " ++ name_text i) (inside_block es cs (record { start = m; weight = how; operations = [] })) ≡ Ok (inside_block es cs (record { start = m; weight = how; operations = DeleteName (owner i) ∷ [] }))
 unfolding phrase_of deletion_of
-removal_line n m i cs how h =
-    tokens_said n (codes "del " ++ name_text i) (word n (codes "del") ∷ word n (name_text i) ∷ []) (inside_block cs (record { start = m; weight = how; operations = [] }))
+removal_line n m i es cs how h =
+    tokens_said n (codes "del " ++ name_text i) (word n (codes "del") ∷ word n (name_text i) ∷ []) (inside_block es cs (record { start = m; weight = how; operations = [] }))
     (two_words n (codes "del") (name_text i) (omega arith) (alphabetic_word (codes "del") refl) (name_some i) (name_shows i h))
     ∙ rw (name_said i h) (rw (owner_under i) refl)
 
@@ -177,10 +182,10 @@ del_spelled n i h =
     subst (λ (t : List ℕ). Spells n [] t (plain (word n (codes "del") ∷ word n (name_text i) ∷ word n (codes "A") ∷ []))) (regroup_get (codes "del") (codes " ") (name_text i) (codes "A"))
     (three_words n (codes "del") (name_text i) (codes "A") (omega arith) (alphabetic_word (codes "del") refl) (name_some i) (name_shows i h) (omega arith) (alphabetic_word (codes "A") refl))
 
-del_line : (n m i : ℕ) (cs : List Command) → i < 1000000 → script_line made_origin n (codes "del " ++ name_text i ++ codes " A") (inside_block cs (record { start = m; weight = Light; operations = [] })) ≡ Ok (inside_block cs (record { start = m; weight = Light; operations = DeleteSet (owner i) 1 ∷ [] }))
+del_line : (n m i : ℕ) (es : List (List Command)) (cs : List Command) → i < 1000000 → script_line made_origin n (codes "del " ++ name_text i ++ codes " A") (inside_block es cs (record { start = m; weight = Light; operations = [] })) ≡ Ok (inside_block es cs (record { start = m; weight = Light; operations = DeleteSet (owner i) 1 ∷ [] }))
 unfolding phrase_of deletion_of type_named
-del_line n m i cs h =
-    tokens_said n (codes "del " ++ name_text i ++ codes " A") (word n (codes "del") ∷ word n (name_text i) ∷ word n (codes "A") ∷ []) (inside_block cs (record { start = m; weight = Light; operations = [] })) (del_spelled n i h)
+del_line n m i es cs h =
+    tokens_said n (codes "del " ++ name_text i ++ codes " A") (word n (codes "del") ∷ word n (name_text i) ∷ word n (codes "A") ∷ []) (inside_block es cs (record { start = m; weight = Light; operations = [] })) (del_spelled n i h)
     ∙ rw (name_said i h) (rw (owner_under i) refl)
 
 -- ---- an address
@@ -231,12 +236,12 @@ add_spelled n i c h =
     (spell_word_then n (name_text i) (codes "300" ++ codes " " ++ (codes "A" ++ codes " " ++ address_text c)) (word n (codes "300") ∷ word n (codes "A") ∷ word n (address_text c) ∷ []) (name_some i) (name_shows i h).run
     (three_words n (codes "300") (codes "A") (address_text c) (omega arith) (hex_word (codes "300") refl) (omega arith) (alphabetic_word (codes "A") refl) (omega arith) (address_shows c))))
 
-add_line : (n m i c : ℕ) (cs : List Command) → i < 1000000 → script_line made_origin n (codes "add " ++ name_text i ++ codes " 300 A " ++ address_text c) (inside_block cs (record { start = m; weight = Light; operations = DeleteSet (owner i) 1 ∷ [] }))
-    ≡ Ok (inside_block cs (record { start = m; weight = Light; operations = DeleteSet (owner i) 1 ∷ Add (record { owner = owner i; rtype = 1; ttl = 300; octets = octets c }) ∷ [] }))
+add_line : (n m i c : ℕ) (es : List (List Command)) (cs : List Command) → i < 1000000 → script_line made_origin n (codes "add " ++ name_text i ++ codes " 300 A " ++ address_text c) (inside_block es cs (record { start = m; weight = Light; operations = DeleteSet (owner i) 1 ∷ [] }))
+    ≡ Ok (inside_block es cs (record { start = m; weight = Light; operations = DeleteSet (owner i) 1 ∷ Add (record { owner = owner i; rtype = 1; ttl = 300; octets = octets c }) ∷ [] }))
 unfolding phrase_of addition_of type_named time_of groups number digits_from
-add_line n m i c cs h =
+add_line n m i c es cs h =
     tokens_said n (codes "add " ++ name_text i ++ codes " 300 A " ++ address_text c) (word n (codes "add") ∷ word n (name_text i) ∷ word n (codes "300") ∷ word n (codes "A") ∷ word n (address_text c) ∷ [])
-    (inside_block cs (record { start = m; weight = Light; operations = DeleteSet (owner i) 1 ∷ [] })) (add_spelled n i c h)
+    (inside_block es cs (record { start = m; weight = Light; operations = DeleteSet (owner i) 1 ∷ [] })) (add_spelled n i c h)
     ∙ rw (name_said i h) (rw (owner_under i) (rw (data_said n c) refl))
 
 -- ---- lines after lines
@@ -246,107 +251,196 @@ unfolding script_from
 step_read n line rest s next e = ap (λ r. r >>= script_from made_origin (n + 1) rest) e
 
 -- lines say so many commands more
-pub record Reads (n : ℕ) (lines : List (List ℕ)) (before : List Command) (more : ℕ) : Type 0 where
+pub record Reads (n : ℕ) (lines : List (List ℕ)) (earlier : List (List Command)) (before : List Command) (more : ℕ) : Type 0 where
   pub after : List Command
   pub many : length after ≡ length before + more
-  pub read : (rest : List (List ℕ)) → script_from made_origin n (lines ++ rest) (between before) ≡ script_from made_origin (n + length lines) rest (between after)
+  pub read : (rest : List (List ℕ)) → script_from made_origin n (lines ++ rest) (between earlier before) ≡ script_from made_origin (n + length lines) rest (between earlier after)
 
-get_reads : (n i : ℕ) (cs : List Command) → i < 1000000 → length cs < 10000 → Reads n (turn_lines (Gets i)) cs 1
-get_reads n i cs h few =
+get_reads : (n i : ℕ) (es : List (List Command)) (cs : List Command) → i < 1000000 → length cs < 10000 → Reads n (turn_lines (Gets i)) es cs 1
+get_reads n i es cs h few =
     record {
       after = cs ++ Ask (Get (owner i) 1) ∷ [];
-      many = length-append cs (Ask (Get (owner i) 1) ∷ []);
-      read = λ rest. step_read n (codes "get " ++ name_text i ++ codes " A") rest (between cs) (between (cs ++ Ask (Get (owner i) 1) ∷ [])) (get_line n i cs h few);
+      many = length-append es cs (Ask (Get (owner i) 1) ∷ []);
+      read = λ rest. step_read n (codes "get " ++ name_text i ++ codes " A") rest (between es cs) (between es (cs ++ Ask (Get (owner i) 1) ∷ [])) (get_line n i es cs h few);
     }
 
-find_reads : (n i : ℕ) (cs : List Command) → i < 1000000 → length cs < 10000 → Reads n (turn_lines (Finds i)) cs 1
-find_reads n i cs h few =
+find_reads : (n i : ℕ) (es : List (List Command)) (cs : List Command) → i < 1000000 → length cs < 10000 → Reads n (turn_lines (Finds i)) es cs 1
+find_reads n i es cs h few =
     record {
       after = cs ++ Ask (Find (owner i)) ∷ [];
-      many = length-append cs (Ask (Find (owner i)) ∷ []);
-      read = λ rest. step_read n (codes "find " ++ name_text i) rest (between cs) (between (cs ++ Ask (Find (owner i)) ∷ [])) (find_line n i cs h few);
+      many = length-append es cs (Ask (Find (owner i)) ∷ []);
+      read = λ rest. step_read n (codes "find " ++ name_text i) rest (between es cs) (between es (cs ++ Ask (Find (owner i)) ∷ [])) (find_line n i es cs h few);
     }
 
-removal_reads : (n i : ℕ) (cs : List Command) → i < 1000000 → length cs < 10000 → Reads n (turn_lines (Removes i)) cs 1
-removal_reads n i cs h few =
+removal_reads : (n i : ℕ) (es : List (List Command)) (cs : List Command) → i < 1000000 → length cs < 10000 → Reads n (turn_lines (Removes i)) es cs 1
+removal_reads n i es cs h few =
     record {
       after = cs ++ Block Heavy (DeleteName (owner i) ∷ []) Commit ∷ [];
-      many = length-append cs (Block Heavy (DeleteName (owner i) ∷ []) Commit ∷ []);
+      many = length-append es cs (Block Heavy (DeleteName (owner i) ∷ []) Commit ∷ []);
       read = λ rest.
-      step_read n (codes "update") ((codes "del " ++ name_text i) ∷ codes "commit" ∷ rest) (between cs) _ (update_line n cs few)
-      ∙ step_read (n + 1) (codes "del " ++ name_text i) (codes "commit" ∷ rest) _ _ (removal_line (n + 1) n i cs Heavy h)
-      ∙ step_read (n + 1 + 1) (codes "commit") rest _ _ (commit_heavy (n + 1 + 1) n cs (DeleteName (owner i) ∷ []))
-      ∙ ap (λ (k : ℕ). script_from made_origin k rest (between (cs ++ Block Heavy (DeleteName (owner i) ∷ []) Commit ∷ []))) (let e : n + 1 + 1 + 1 ≡ n + 3 = omega arith in e);
+      step_read n (codes "update") ((codes "del " ++ name_text i) ∷ codes "commit" ∷ rest) (between es cs) _ (update_line n es cs few)
+      ∙ step_read (n + 1) (codes "del " ++ name_text i) (codes "commit" ∷ rest) _ _ (removal_line (n + 1) n i es cs Heavy h)
+      ∙ step_read (n + 1 + 1) (codes "commit") rest _ _ (commit_heavy (n + 1 + 1) n es cs (DeleteName (owner i) ∷ []))
+      ∙ ap (λ (k : ℕ). script_from made_origin k rest (between es (cs ++ Block Heavy (DeleteName (owner i) ∷ []) Commit ∷ []))) (let e : n + 1 + 1 + 1 ≡ n + 3 = omega arith in e);
     }
 
 moved : ℕ → ℕ → List Operation
 moved i c = DeleteSet (owner i) 1 ∷ Add (record { owner = owner i; rtype = 1; ttl = 300; octets = octets c }) ∷ []
 
-move_reads : (n i c : ℕ) (cs : List Command) → i < 1000000 → length cs < 10000 → Reads n (turn_lines (Moves i c)) cs 1
+move_reads : (n i c : ℕ) (es : List (List Command)) (cs : List Command) → i < 1000000 → length cs < 10000 → Reads n (turn_lines (Moves i c)) es cs 1
 unfolding moved
-move_reads n i c cs h few =
+move_reads n i c es cs h few =
     record {
       after = cs ++ Block Light (moved i c) Commit ∷ [];
-      many = length-append cs (Block Light (moved i c) Commit ∷ []);
+      many = length-append es cs (Block Light (moved i c) Commit ∷ []);
       read = λ rest.
-      step_read n (codes "write") ((codes "del " ++ name_text i ++ codes " A") ∷ (codes "add " ++ name_text i ++ codes " 300 A " ++ address_text c) ∷ codes "commit" ∷ rest) (between cs) _ (write_line n cs few)
-      ∙ step_read (n + 1) (codes "del " ++ name_text i ++ codes " A") ((codes "add " ++ name_text i ++ codes " 300 A " ++ address_text c) ∷ codes "commit" ∷ rest) _ _ (del_line (n + 1) n i cs h)
-      ∙ step_read (n + 1 + 1) (codes "add " ++ name_text i ++ codes " 300 A " ++ address_text c) (codes "commit" ∷ rest) _ _ (add_line (n + 1 + 1) n i c cs h)
-      ∙ step_read (n + 1 + 1 + 1) (codes "commit") rest _ _ (commit_light (n + 1 + 1 + 1) n cs (moved i c))
-      ∙ ap (λ (k : ℕ). script_from made_origin k rest (between (cs ++ Block Light (moved i c) Commit ∷ []))) (let e : n + 1 + 1 + 1 + 1 ≡ n + 4 = omega arith in e);
+      step_read n (codes "write") ((codes "del " ++ name_text i ++ codes " A") ∷ (codes "add " ++ name_text i ++ codes " 300 A " ++ address_text c) ∷ codes "commit" ∷ rest) (between es cs) _ (write_line n es cs few)
+      ∙ step_read (n + 1) (codes "del " ++ name_text i ++ codes " A") ((codes "add " ++ name_text i ++ codes " 300 A " ++ address_text c) ∷ codes "commit" ∷ rest) _ _ (del_line (n + 1) n i es cs h)
+      ∙ step_read (n + 1 + 1) (codes "add " ++ name_text i ++ codes " 300 A " ++ address_text c) (codes "commit" ∷ rest) _ _ (add_line (n + 1 + 1) n i c es cs h)
+      ∙ step_read (n + 1 + 1 + 1) (codes "commit") rest _ _ (commit_light (n + 1 + 1 + 1) n es cs (moved i c))
+      ∙ ap (λ (k : ℕ). script_from made_origin k rest (between es (cs ++ Block Light (moved i c) Commit ∷ []))) (let e : n + 1 + 1 + 1 + 1 ≡ n + 4 = omega arith in e);
     }
 
-either_reads : (b : Bool) (t u : Turn) (n : ℕ) (cs : List Command) → Reads n (turn_lines t) cs 1 → Reads n (turn_lines u) cs 1 → Reads n (turn_lines (cond b t u)) cs 1
-either_reads true t u n cs h k = h
-either_reads false t u n cs h k = k
+either_reads : (b : Bool) (t u : Turn) (n : ℕ) (es : List (List Command)) (cs : List Command) → Reads n (turn_lines t) es cs 1 → Reads n (turn_lines u) es cs 1 → Reads n (turn_lines (cond b t u)) es cs 1
+either_reads true t u n es cs h k = h
+either_reads false t u n es cs h k = k
 
-turn_reads : (n a i c : ℕ) (cs : List Command) → i < 1000000 → length cs < 10000 → Reads n (turn_lines (turn_of a i c)) cs 1
-turn_reads n a i c cs h few =
-    either_reads (eqb (a % 4) 0) (Gets i) (cond (eqb (a % 4) 1) (Moves i c) (cond (eqb (a % 4) 2) (Removes i) (Finds i))) n cs (get_reads n i cs h few)
-    (either_reads (eqb (a % 4) 1) (Moves i c) (cond (eqb (a % 4) 2) (Removes i) (Finds i)) n cs (move_reads n i c cs h few)
-    (either_reads (eqb (a % 4) 2) (Removes i) (Finds i) n cs (removal_reads n i cs h few) (find_reads n i cs h few)))
+turn_reads : (n a i c : ℕ) (es : List (List Command)) (cs : List Command) → i < 1000000 → length cs < 10000 → Reads n (turn_lines (turn_of a i c)) es cs 1
+turn_reads n a i c es cs h few =
+    either_reads (eqb (a % 4) 0) (Gets i) (cond (eqb (a % 4) 1) (Moves i c) (cond (eqb (a % 4) 2) (Removes i) (Finds i))) n es cs (get_reads n i es cs h few)
+    (either_reads (eqb (a % 4) 1) (Moves i c) (cond (eqb (a % 4) 2) (Removes i) (Finds i)) n es cs (move_reads n i c es cs h few)
+    (either_reads (eqb (a % 4) 2) (Removes i) (Finds i) n es cs (removal_reads n i es cs h few) (find_reads n i es cs h few)))
 
-no_lines_read : (n : ℕ) (cs : List Command) → Reads n [] cs 0
-no_lines_read n cs =
+no_lines_read : (n : ℕ) (es : List (List Command)) (cs : List Command) → Reads n [] es cs 0
+no_lines_read n es cs =
     record {
       after = cs;
       many = (let e : length cs ≡ length cs + 0 = omega arith in e);
-      read = λ rest. ap (λ (k : ℕ). script_from made_origin k rest (between cs)) (let e : n ≡ n + 0 = omega arith in e);
+      read = λ rest. ap (λ (k : ℕ). script_from made_origin k rest (between es cs)) (let e : n ≡ n + 0 = omega arith in e);
     }
 
-then_reads : (n : ℕ) (xs ys : List (List ℕ)) (cs : List Command) (j k : ℕ) (r : Reads n xs cs j) → Reads (n + length xs) ys r.after k → Reads n (xs ++ ys) cs (j + k)
-then_reads n xs ys cs j k r s =
+then_reads : (n : ℕ) (xs ys : List (List ℕ)) (es : List (List Command)) (cs : List Command) (j k : ℕ) (r : Reads n xs es cs j) → Reads (n + length xs) ys es r.after k → Reads n (xs ++ ys) es cs (j + k)
+then_reads n xs ys es cs j k r s =
     record {
       after = s.after;
       many = s.many ∙ ap (λ (m : ℕ). m + k) r.many ∙ (let e : (length cs + j) + k ≡ length cs + (j + k) = omega arith in e);
       read = λ rest.
-      ap (λ (l : List (List ℕ)). script_from made_origin n l (between cs)) (append_assoc xs ys rest) ∙ r.read (ys ++ rest) ∙ s.read rest
-      ∙ ap (λ (m : ℕ). script_from made_origin m rest (between s.after)) (let a = length-append xs ys in let e : (n + length xs) + length ys ≡ n + length (xs ++ ys) = omega arith in e);
+      ap (λ (l : List (List ℕ)). script_from made_origin n l (between es cs)) (append_assoc xs ys rest) ∙ r.read (ys ++ rest) ∙ s.read rest
+      ∙ ap (λ (m : ℕ). script_from made_origin m rest (between es s.after)) (let a = length-append xs ys in let e : (n + length xs) + length ys ≡ n + length (xs ++ ys) = omega arith in e);
     }
 
-turns_read : (part : Part) (turns n x : ℕ) (cs : List Command) → ((d : ℕ) → part.remainder + part.workers * (d % part.count) < 1000000) → length cs + turns ≤ 10000 → Reads n (turns_from part turns x) cs turns
+turns_read : (part : Part) (turns n x : ℕ) (es : List (List Command)) (cs : List Command) → ((d : ℕ) → part.remainder + part.workers * (d % part.count) < 1000000) → length cs + turns ≤ 10000 → Reads n (turns_from part turns x) es cs turns
 unfolding turns_from
-turns_read part zero n x cs small few = no_lines_read n cs
-turns_read part (suc turns) n x cs small few =
-    let first = turn_reads n (drawn (next_state x)) (part.remainder + part.workers * (drawn (next_state (next_state x)) % part.count)) (drawn (next_state (next_state (next_state x)))) cs (small (drawn (next_state (next_state x)))) (omega arith) in
+turns_read part zero n x es cs small few = no_lines_read n es cs
+turns_read part (suc turns) n x es cs small few =
+    let first = turn_reads n (drawn (next_state x)) (part.remainder + part.workers * (drawn (next_state (next_state x)) % part.count)) (drawn (next_state (next_state (next_state x)))) es cs (small (drawn (next_state (next_state x)))) (omega arith) in
     let long = first.many in
-    let others = turns_read part turns (n + length (turn_lines (turn_from part x))) (state_behind x) first.after small (omega arith) in
-    subst (λ (k : ℕ). Reads n (turn_lines (turn_from part x) ++ turns_from part turns (state_behind x)) cs k) (let e : 1 + turns ≡ suc turns = omega arith in e)
-    (then_reads n (turn_lines (turn_from part x)) (turns_from part turns (state_behind x)) cs 1 turns first others)
+    let others = turns_read part turns (n + length (turn_lines (turn_from part x))) (state_behind x) es first.after small (omega arith) in
+    subst (λ (k : ℕ). Reads n (turn_lines (turn_from part x) ++ turns_from part turns (state_behind x)) es cs k) (let e : 1 + turns ≡ suc turns = omega arith in e)
+    (then_reads n (turn_lines (turn_from part x)) (turns_from part turns (state_behind x)) es cs 1 turns first others)
+
+-- ---- the turns of a worker
+
+-- a worker without names has none
+pub own_turns_read : (part : Part) (turns n x : ℕ) (es : List (List Command)) → part.count ≤ 20000 → part.remainder < 16 → part.workers ≤ 16 → turns ≤ 10000
+    → Reads n (turns_from part (turns_of part turns) x) es [] (turns_of part turns)
+unfolding turns_from
+own_turns_read part turns n x es few first workers within =
+    elim (cases_eq part.count 0) [
+      | inl none ↦
+          let e : 0 ≡ turns_of part turns = ap (λ (k : ℕ). cond (eqb k 0) 0 turns) (sym none) in
+          subst (λ (t : ℕ). Reads n (turns_from part t x) es [] t) e (no_lines_read n es [])
+      | inr some ↦
+          let f : eqb part.count 0 ≡ false = grind arith in
+          let positive : 0 < part.count = omega arith in
+          let e : turns ≡ turns_of part turns = ap (λ (b : Bool). cond b 0 turns) (sym f) in
+          let small : (d : ℕ) → part.remainder + part.workers * (d % part.count) < 1000000 = λ d. small_name part d (record { some = positive; few = few; remainder = first; workers = workers }) in
+          subst (λ (t : ℕ). Reads n (turns_from part t x) es [] t) e (turns_read part turns n x es [] small (omega arith))
+    ]
+
+-- ---- workers after workers
+
+worker_spelled : (n : ℕ) → Spells n [] (codes "worker") (plain (word n (codes "worker") ∷ []))
+worker_spelled n = spell_word n (codes "worker") (omega arith) (alphabetic_word (codes "worker") refl).run
+
+first_worker : (n : ℕ) → script_line made_origin n (codes "worker") no_lines ≡ Ok (between [] [])
+unfolding phrase_of
+first_worker n = tokens_said n (codes "worker") (word n (codes "worker") ∷ []) no_lines (worker_spelled n)
+
+few_lists : (n : ℕ) → n < 16 → ltb n 16 ≡ true
+few_lists n h = grind (arith, nat_tests)
+
+later_worker : (n : ℕ) (es : List (List Command)) (cs : List Command) → length es + 1 < 16 → script_line made_origin n (codes "worker") (between es cs) ≡ Ok (between (es ++ cs ∷ []) [])
+unfolding phrase_of
+later_worker n es cs few =
+    let long : length (es ++ cs ∷ []) ≡ length es + 1 = length-append es (cs ∷ []) in
+    tokens_said n (codes "worker") (word n (codes "worker") ∷ []) (between es cs) (worker_spelled n)
+    ∙ rw (few_lists (length (es ++ cs ∷ [])) (omega (arith, long))) refl
+
+-- the lines of so many workers say so many lists more, of which the last is told apart
+record ReadsLists (n : ℕ) (lines : List (List ℕ)) (before : Script) (more : ℕ) : Type 0 where
+  lists : List (List Command)
+  last : List Command
+  many : length lists ≡ more
+  read : script_from made_origin n lines before ≡ Ok (between lists last)
+
+own_few : (load : Load) (r : ℕ) → IsWithin load → share load.workers r load.names ≤ 20000
+own_few load r w =
+    let few = share_le load.workers r load.names in
+    let names = w.names in
+    omega arith
+
+workers_read : (load : Load) (workers r n x : ℕ) (es : List (List Command)) (cs : List Command) → IsWithin load → r + workers ≤ 16 → length es + 1 + workers ≤ 16
+    → ReadsLists n (workers_from load workers r x) (between es cs) (length es + workers)
+unfolding workers_from script_from
+workers_read load zero r n x es cs w first room = record { lists = es; last = cs; many = (let e : length es ≡ length es + 0 = omega arith in e); read = refl }
+workers_read load (suc workers) r n x es cs w first room =
+    let long : length (es ++ cs ∷ []) ≡ length es + 1 = length-append es (cs ∷ []) in
+    let turns : List (List ℕ) = turns_from (part_of load r) (turns_of (part_of load r) load.turns) x in
+    let rest : List (List ℕ) = workers_from load workers (r + 1) (worker_state load r x) in
+    let own = own_turns_read (part_of load r) load.turns (n + 1) x (es ++ cs ∷ []) (own_few load r w) (omega arith) w.workers w.turns in
+    let others = workers_read load workers (r + 1) (n + 1 + length turns) (worker_state load r x) (es ++ cs ∷ []) own.after w (omega arith) (omega (arith, long)) in
+    record {
+      lists = others.lists;
+      last = others.last;
+      many = others.many ∙ (let e : length (es ++ cs ∷ []) + workers ≡ length es + suc workers = omega (arith, long) in e);
+      read = step_read n (codes "worker") (turns ++ rest) (between es cs) (between (es ++ cs ∷ []) []) (later_worker n es cs (omega arith)) ∙ own.read rest ∙ others.read;
+    }
+
+all_read : (load : Load) (workers n x : ℕ) → IsWithin load → workers < 16 → ReadsLists n (workers_from load (suc workers) 0 x) no_lines workers
+unfolding workers_from
+all_read load workers n x w few =
+    let turns : List (List ℕ) = turns_from (part_of load 0) (turns_of (part_of load 0) load.turns) x in
+    let rest : List (List ℕ) = workers_from load workers 1 (worker_state load 0 x) in
+    let own = own_turns_read (part_of load 0) load.turns (n + 1) x [] (own_few load 0 w) (omega arith) w.workers w.turns in
+    let others = workers_read load workers 1 (n + 1 + length turns) (worker_state load 0 x) [] own.after w (omega arith) (omega arith) in
+    record {
+      lists = others.lists;
+      last = others.last;
+      many = (let m = others.many in let e : length others.lists ≡ workers = omega (arith, m) in e);
+      read = step_read n (codes "worker") (turns ++ rest) no_lines (between [] []) (first_worker n) ∙ own.read rest ∙ others.read;
+    }
 
 -- ---- the whole script
 
-worker_line : (n : ℕ) → script_line made_origin n (codes "worker") (record { begun = false; commands = []; block = None }) ≡ Ok (between [])
-unfolding phrase_of
-worker_line n = tokens_said n (codes "worker") (word n (codes "worker") ∷ []) (record { begun = false; commands = []; block = None }) (spell_word n (codes "worker") (omega arith) (alphabetic_word (codes "worker") refl).run)
+-- the lines of so many workers are a script of so many lists
+pub record SaysLists (start : ℕ) (lines : List (List ℕ)) (workers : ℕ) : Type 0 where
+  pub lists : List (List Command)
+  pub many : length lists ≡ workers
+  pub said : script_of made_origin start lines ≡ Ok lists
 
--- a worker's line and so many turns are a script of one worker
-pub script_said : (part : Part) (turns x start : ℕ) → ((d : ℕ) → part.remainder + part.workers * (d % part.count) < 1000000) → turns ≤ 10000 → (commands : List Command) × (script_of made_origin start (codes "worker" ∷ turns_from part turns x) ≡ Ok (commands ∷ []))
-unfolding script_of script_from
-script_said part turns x start small few =
-    let r = turns_read part turns (start + 1) x [] small (omega arith) in
-    let none = append-nil (turns_from part turns x) in
-    (r.after,
-      ap (λ s. s >>= finished (start + length (codes "worker" ∷ turns_from part turns x)))
-      (step_read start (codes "worker") (turns_from part turns x) (record { begun = false; commands = []; block = None }) (between []) (worker_line start)
-      ∙ ap (λ (l : List (List ℕ)). script_from made_origin (start + 1) l (between [])) (sym none) ∙ r.read []))
+script_by : (load : Load) (workers x start : ℕ) → IsWithin load → 0 < workers → workers ≤ 16 → SaysLists start (workers_from load workers 0 x) workers
+unfolding script_of
+script_by load zero x start w some few = absurd (omega arith)
+script_by load (suc workers) x start w some few =
+    let r = all_read load workers start x w (omega arith) in
+    let long : length (r.lists ++ r.last ∷ []) ≡ length r.lists + 1 = length-append r.lists (r.last ∷ []) in
+    let many = r.many in
+    record {
+      lists = r.lists ++ r.last ∷ [];
+      many = (let e : length (r.lists ++ r.last ∷ []) ≡ suc workers = omega (arith, long, many) in e);
+      said = ap (λ s. s >>= finished (start + length (workers_from load (suc workers) 0 x))) r.read;
+    }
+
+pub script_said : (load : Load) (start : ℕ) → IsWithin load → 0 < load.workers → SaysLists start (workers_from load load.workers 0 load.seed) load.workers
+script_said load start w some = script_by load load.workers load.seed start w some w.workers

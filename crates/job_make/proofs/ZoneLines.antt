@@ -32,8 +32,9 @@ use Rattle.rr_data.proofs.FormLemmas.{all_append}
 use Rattle.rr_data.proofs.PrintedFieldLemmas.{no_stop}
 use Rattle.rr_data.proofs.PrintedWordLemmas.{Shows, alphabetic_word, hex_word, is_shown, shows_append, shows_one}
 use Rattle.rr_data.proofs.PrintedDataLemmas.{plain, spell_word, spell_word_then, word}
-use Rattle.job_model.specs.Jobs.{Command, Job, JobRefusal, is_cut, job_of, job_of_lines, script_lines, script_of, script_refused, script_start, zone_lines, zone_refused}
-use Rattle.job_model.specs.Loads.{Finds, Gets, Load, Moves, Part, Removes, Turn, address_text, drawn, first_lines, line_text, load_lines, made_origin, made_text, name_text, names_lines, next_state, part_of, share, state_behind, turn_from, turn_lines, turn_of, turns_from, turns_of, worker_lines, workers_from}
+use Rattle.job_model.specs.Commands.{Command, Job}
+use Rattle.job_model.specs.Jobs.{JobRefusal, is_cut, job_of, job_of_lines, script_lines, script_of, script_refused, script_start, zone_lines, zone_refused}
+use Rattle.job_model.specs.Loads.{Finds, Gets, Load, Moves, Part, Removes, Turn, address_text, drawn, first_lines, line_text, load_lines, made_origin, made_text, name_text, names_lines, next_state, part_of, share, state_behind, turn_from, turn_lines, turn_of, turns_from, turns_of, worker_state, workers_from}
 use Rattle.job_make.proofs.SizeLemmas.{IsSmall, IsWithin, share_le, small_name}
 use Rattle.job_make.proofs.ScriptLines.{address_shows, name_said, name_shows, name_some, owner, script_said, three_words}
 
@@ -352,33 +353,26 @@ zone_said names h =
 
 -- ---- the whole
 
--- what a worker's lines say, the first of which has a number
-record PartSaid (part : Part) (turns x start : ℕ) : Type 0 where
-  pub shown : AllShown (turns_from part turns x)
-  pub commands : List Command
-  pub said : script_of made_origin start (codes "worker" ∷ turns_from part turns x) ≡ Ok (commands ∷ [])
-
-none_said : (part : Part) (x start : ℕ) → PartSaid part 0 x start
+own_turns_shown : (part : Part) (turns x : ℕ) → part.count ≤ 20000 → part.remainder < 16 → part.workers ≤ 16 → AllShown (turns_from part (turns_of part turns) x)
 unfolding turns_from
-none_said part x start =
-    let s = script_said (record { count = 1; remainder = 0; workers = 1 }) 0 x start (λ d. omega arith) (omega arith) in
-    record { shown = tt; commands = s.0; said = s.1 }
-
-part_said : (part : Part) (turns x start : ℕ) → part.count ≤ 20000 → part.remainder < 16 → part.workers ≤ 16 → turns ≤ 10000 → PartSaid part (turns_of part turns) x start
-part_said part turns x start few first workers within =
+own_turns_shown part turns x few first workers =
     elim (cases_eq part.count 0) [
-      | inl none ↦
-          let e : 0 ≡ turns_of part turns = ap (λ (n : ℕ). cond (eqb n 0) 0 turns) (sym none) in
-          subst (λ (t : ℕ). PartSaid part t x start) e (none_said part x start)
+      | inl none ↦ subst (λ (t : ℕ). AllShown (turns_from part t x)) (ap (λ (n : ℕ). cond (eqb n 0) 0 turns) (sym none)) tt
       | inr some ↦
           let f : eqb part.count 0 ≡ false = grind arith in
           let positive : 0 < part.count = omega arith in
-          let small : (d : ℕ) → part.remainder + part.workers * (d % part.count) < 1000000 = λ d. small_name part d (record { some = positive; few = few; remainder = first; workers = workers }) in
-          let s = script_said part turns x start small within in
-          let e : turns ≡ turns_of part turns = ap (λ (b : Bool). cond b 0 turns) (sym f) in
-          let one : PartSaid part turns x start = record { shown = turns_shown part turns x small; commands = s.0; said = s.1 } in
-          subst (λ (t : ℕ). PartSaid part t x start) e one
+          subst (λ (t : ℕ). AllShown (turns_from part t x)) (ap (λ (b : Bool). cond b 0 turns) (sym f))
+          (turns_shown part turns x (λ d. small_name part d (record { some = positive; few = few; remainder = first; workers = workers })))
     ]
+
+workers_shown : (load : Load) (workers r x : ℕ) → IsWithin load → r + workers ≤ 16 → AllShown (workers_from load workers r x)
+unfolding workers_from
+workers_shown load zero r x w few = tt
+workers_shown load (suc workers) r x w few =
+    let names = w.names in
+    let share_few = share_le load.workers r load.names in
+    let own = own_turns_shown (part_of load r) load.turns x (omega arith) (omega arith) w.workers in
+    (refl, shown_append (turns_from (part_of load r) (turns_of (part_of load r) load.turns) x) (workers_from load workers (r + 1) (worker_state load r x)) own (workers_shown load workers (r + 1) (worker_state load r x) w (omega arith)))
 
 job_by : (zone_is front script_is script : List (List ℕ)) (start : ℕ) (version : Version) (workers : List (List Command)) → zone_is ≡ front → script_is ≡ script → zone_of made_origin front ≡ Ok version → script_of made_origin start script ≡ Ok workers
     → job_of_lines made_origin zone_is start script_is ≡ Ok (record { origin = made_origin; zone = version; workers = workers })
@@ -390,31 +384,28 @@ job_by zone_is front script_is script start version workers a b z s =
     ∙ ap (λ r. script_refused r >>= (λ ws. Ok (record { origin = made_origin; zone = version; workers = ws }))) s
 
 abbrev script_of_load : Load → List (List ℕ)
-script_of_load load = worker_lines load 0 load.seed
+script_of_load load = workers_from load load.workers 0 load.seed
 
-lines_one : (load : Load) → load.workers ≡ 1 → load_lines load ≡ (first_lines ++ names_lines load.names) ++ codes "%%" ∷ script_of_load load
-unfolding workers_from
-lines_one load one =
-    ap (λ (k : ℕ). (first_lines ++ names_lines load.names) ++ codes "%%" ∷ workers_from load k 0 load.seed) one
-    ∙ ap (λ (l : List (List ℕ)). (first_lines ++ names_lines load.names) ++ codes "%%" ∷ l) (append-nil (script_of_load load))
+-- a text says a job of so many workers
+pub record SaysJob (text : List ℕ) (workers : ℕ) : Type 0 where
+  pub job : Job
+  pub many : length job.workers ≡ workers
+  pub said : job_of made_origin text ≡ Ok job
 
--- the text of a load of one worker says a job
-pub made_job : (load : Load) → IsWithin load → load.workers ≡ 1 → (job : Job) × (job_of made_origin (made_text load) ≡ Ok job)
-made_job load w one =
+-- the text of a load says a job
+pub made_job : (load : Load) → IsWithin load → 0 < load.workers → SaysJob (made_text load) load.workers
+made_job load w some =
     let front : List (List ℕ) = first_lines ++ names_lines load.names in
-    let names = w.names in
-    let share_few = share_le load.workers 0 load.names in
-    let count : share load.workers 0 load.names ≤ 20000 = omega arith in
     let z = zone_said load.names w.names in
-    let s = part_said (part_of load 0) load.turns load.seed (script_start (made_text load)) count (omega arith) w.workers w.turns in
+    let s = script_said load (script_start (made_text load)) w some in
     let shown : AllShown ((first_lines ++ names_lines load.names) ++ codes "%%" ∷ script_of_load load) =
-        shown_append (first_lines ++ names_lines load.names) (codes "%%" ∷ script_of_load load) (shown_append first_lines (names_lines load.names) (refl, (refl, (refl, (refl, tt)))) (names_shown load.names w.names)) (refl, (refl, s.shown)) in
+        shown_append (first_lines ++ names_lines load.names) (codes "%%" ∷ script_of_load load) (shown_append first_lines (names_lines load.names) (refl, (refl, (refl, (refl, tt)))) (names_shown load.names w.names)) (refl, workers_shown load load.workers 0 load.seed w w.workers) in
     let uncut : list_any is_cut (first_lines ++ names_lines load.names) ≡ false = any_append first_lines (names_lines load.names) refl (names_uncut load.names) in
-    let lines : lines_of (made_text load) ≡ (first_lines ++ names_lines load.names) ++ codes "%%" ∷ script_of_load load =
-        ap (λ (ls : List (List ℕ)). lines_of (flat_map line_text ls)) (lines_one load one) ∙ lines_back ((first_lines ++ names_lines load.names) ++ codes "%%" ∷ script_of_load load) shown in
+    let lines : lines_of (made_text load) ≡ (first_lines ++ names_lines load.names) ++ codes "%%" ∷ script_of_load load = lines_back ((first_lines ++ names_lines load.names) ++ codes "%%" ∷ script_of_load load) shown in
     let zone_is : zone_lines (made_text load) ≡ first_lines ++ names_lines load.names = ap (before_first is_cut) lines ∙ zone_part (first_lines ++ names_lines load.names) (script_of_load load) uncut in
     let script_is : script_lines (made_text load) ≡ script_of_load load = ap (after_first is_cut) lines ∙ script_part (first_lines ++ names_lines load.names) (script_of_load load) uncut in
-    (
-      record { origin = made_origin; zone = z.0; workers = s.commands ∷ [] },
-      job_by (zone_lines (made_text load)) (first_lines ++ names_lines load.names) (script_lines (made_text load)) (script_of_load load) (script_start (made_text load)) z.0 (s.commands ∷ []) zone_is script_is z.1 s.said,
-    )
+    record {
+      job = record { origin = made_origin; zone = z.0; workers = s.lists };
+      many = s.many;
+      said = job_by (zone_lines (made_text load)) (first_lines ++ names_lines load.names) (script_lines (made_text load)) (script_of_load load) (script_start (made_text load)) z.0 s.lists zone_is script_is z.1 s.said;
+    }

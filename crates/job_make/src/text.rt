@@ -1,7 +1,8 @@
 //! The text of a load.
 ghost use Rattle.std.specs.Prelude.{◌≡◌, ◌<◌, ◌≤◌, ◌+◌, ◌-◌, ◌^◌, ◌++◌, IfOk, OnOk, Ok, codes, length, if◌then◌else◌};
 ghost use Rattle.std.specs.List.{flat_map};
-ghost use Rattle.job_model.specs.Jobs.{Job, job_of};
+ghost use Rattle.job_model.specs.Commands.{Job};
+ghost use Rattle.job_model.specs.Jobs.{job_of};
 ghost use Rattle.job_model.specs.Loads.{first_lines, line_text, made_origin, made_text, names_lines, share, worker_lines, worker_state, workers_from};
 ghost use Rattle.job_make.specs.Views.{load_view};
 
@@ -86,7 +87,7 @@ fn push_workers(out: &mut Vec<u8>, load: &Load) -> Result<(), AllocError>
 pub fn make_text(alloc: Global, load: &Load) -> Result<Vec<u8>, AllocError>
     ensures text { IfOk result (λ v. v.items ≡ made_text (load_view load.now)) }
     ensures short { IfOk result (λ v. length v.items ≤ 16777216) }
-    ensures job { load.now.workers ≡ 1 → IfOk result (λ v. (job : Job) × (job_of made_origin v.items ≡ Ok job)) }
+    ensures job { IfOk result (λ v. (job : Job) × (job_of made_origin v.items ≡ Ok job) × (length job.workers ≡ load.now.workers)) }
 {
     let mut out = Vec::new(alloc);
     out.extend_from_slice(FIRST_LINES)?;

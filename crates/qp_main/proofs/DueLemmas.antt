@@ -3,7 +3,7 @@ use Rattle.std.proofs.Common.{◌≡◌, ◌∙◌, ℕ, ◌+◌, Bool, true, fa
 use Rattle.std.proofs.lemmas.Bool.Decides.{nat_tests}
 use Rattle.std.specs.Io.KnownBytes.{Consumes, IsAtEnd}
 use Rattle.command_line.specs.Invocations.{Invocation, Verb, Run, Check, Make}
-use Rattle.job_model.specs.Loads.{Load, made_text}
+use Rattle.job_model.specs.Loads.{Load, made_origin, made_text}
 use Rattle.zone_model.specs.Names.{Name}
 use Rattle.zone_model.specs.Versions.{Version}
 use Rattle.zone_model.specs.Refusals.{Refused, ◌>>=◌}
@@ -14,7 +14,7 @@ use Rattle.job_model.specs.Outcomes.{some_refused}
 use Rattle.zone_model.specs.declared.ZoneKind.{ZoneKind}
 use Rattle.job_model.specs.declared.ScriptKind.{ScriptKind}
 use Rattle.qp_main.specs.Fits.{fits, no_room_text, opened_text}
-use Rattle.qp_main.specs.Due.{Due, DueBytes, DueGiven, DueInput, Answers, Checks, IfFits, Ends, ZoneRefuses, Reported, IsWritten, input_of}
+use Rattle.qp_main.specs.Due.{Due, DueBytes, DueGiven, DueInput, Answers, Checks, EndsLoad, IfFits, Ends, ZoneRefuses, Reported, IsWritten, input_of}
 use Rattle.qp_main.specs.declared.telling.Telling.{Telling}
 use Rattle.qp_main.specs.declared.telling.Telling.TheVariants.{Report, Summary}
 use Rattle.qp_main.specs.declared.status.Status.{Status}
@@ -52,13 +52,10 @@ pub ok_map : {A E : Type 0} (r : Result A E) {P Q : A → Type 0} → ((x : A) �
 ok_map (Ok x) f h = f x h
 ok_map (Err e) f h = tt
 
--- ---- zones that fit and that don't
+-- ---- zones that fit
 
 pub fitting : (chunks : ℕ) (zone : Version) (F : Status → List ℕ → Type 0) (s : Status) (text : List ℕ) → fits chunks zone ≡ true → F s text → IfFits (fits chunks zone) chunks zone F s text
 fitting chunks zone F s text e h = subst (λ (b : Bool). IfFits b chunks zone F s text) (sym e) h
-
-pub unfitting : (chunks : ℕ) (zone : Version) (F : Status → List ℕ → Type 0) (s : Status) (text : List ℕ) → fits chunks zone ≡ false → s ≡ status.DoesNotFit → text ≡ no_room_text chunks zone → IfFits (fits chunks zone) chunks zone F s text
-unfitting chunks zone F s text e a b = subst (λ (t : Bool). IfFits t chunks zone F s text) (sym e) (a, b)
 
 -- ---- jobs
 
@@ -66,12 +63,6 @@ whole_job : (origin : Name) (bytes : List ℕ) (zone : Version) (workers : List 
     → job_of origin bytes ≡ Ok (record { origin = origin; zone = zone; workers = workers })
 unfolding job_of_lines
 whole_job origin bytes zone workers z w =
-    ap (λ r. zone_refused r >>= (λ version. script_refused (script_of origin (script_start bytes) (script_lines bytes)) >>= (λ ws. Ok (record { origin = origin; zone = version; workers = ws })))) z
-    ∙ ap (λ r. script_refused r >>= (λ ws. Ok (record { origin = origin; zone = zone; workers = ws }))) w
-
-no_script : (origin : Name) (bytes : List ℕ) (zone : Version) (e : Refused ScriptKind) → zone_of origin (zone_lines bytes) ≡ Ok zone → script_of origin (script_start bytes) (script_lines bytes) ≡ Err e → job_of origin bytes ≡ Err (ScriptRefused e)
-unfolding job_of_lines
-no_script origin bytes zone e z w =
     ap (λ r. zone_refused r >>= (λ version. script_refused (script_of origin (script_start bytes) (script_lines bytes)) >>= (λ ws. Ok (record { origin = origin; zone = version; workers = ws })))) z
     ∙ ap (λ r. script_refused r >>= (λ ws. Ok (record { origin = origin; zone = zone; workers = ws }))) w
 
@@ -86,11 +77,6 @@ answers_as telling chunks q r s text e h = subst (λ (x : Result Job JobRefusal)
 pub job_answers : (telling : Telling) (chunks : ℕ) (origin : Name) (bytes : List ℕ) (zone : Version) (workers : List (List Command)) → zone_of origin (zone_lines bytes) ≡ Ok zone → script_of origin (script_start bytes) (script_lines bytes) ≡ Ok workers
     → (s : Status) (text : List ℕ) → IfFits (fits chunks zone) chunks zone (Reported telling chunks (record { origin = origin; zone = zone; workers = workers })) s text → Answers telling chunks (job_of origin bytes) s text
 job_answers telling chunks origin bytes zone workers z w s text h = answers_as telling chunks (job_of origin bytes) (Ok (record { origin = origin; zone = zone; workers = workers })) s text (whole_job origin bytes zone workers z w) h
-
--- a script that is refused
-pub script_refuses : (telling : Telling) (chunks : ℕ) (origin : Name) (bytes : List ℕ) (zone : Version) (e : Refused ScriptKind) → zone_of origin (zone_lines bytes) ≡ Ok zone → script_of origin (script_start bytes) (script_lines bytes) ≡ Err e
-    → (s : Status) (text : List ℕ) → Answers telling chunks (Err (ScriptRefused e)) s text → Answers telling chunks (job_of origin bytes) s text
-script_refuses telling chunks origin bytes zone e z w s text h = answers_as telling chunks (job_of origin bytes) (Err (ScriptRefused e)) s text (no_script origin bytes zone e z w) h
 
 -- a zone that is refused is refused for each command
 pub zone_refuses : (verb : Verb) (chunks : ℕ) (origin : Name) (bytes : List ℕ) (e : Refused ZoneKind) (s : Status) (text : List ℕ) → zone_of origin (zone_lines bytes) ≡ Err e → ZoneRefuses e s text → DueInput verb chunks origin bytes s text
@@ -153,6 +139,35 @@ answer_written status.SourceFault a = a
 answer_written status.SinkFault a = a
 answer_written status.NoMemory a = a
 
--- so it is no status of another kind, when it was written whole
+-- ---- what is due for a load
+
+load_fits : (b : Bool) (chunks : ℕ) (job : Job) (s : Status) (text : List ℕ) → IfFits b chunks job.zone (Reported Summary chunks job) s text → EndsLoad s
+load_fits true chunks job s text h = subst EndsLoad (sym h.ended) (by_refused (some_refused h.workers))
+  where
+    by_refused : (b : Bool) → EndsLoad (cond b status.SomeRefused status.Done)
+    by_refused true = tt
+    by_refused false = tt
+load_fits false chunks job s text h = subst EndsLoad (sym h.0) tt
+
+-- its text says a job, so neither its zone nor its script is refused
+pub load_answer : (load : Load) (verb : Verb) (chunks : ℕ) (origin : Name) (bytes : List ℕ) (job : Job) (s : Status) (text : List ℕ) → verb ≡ Make load → origin ≡ made_origin → job_of made_origin bytes ≡ Ok job → DueInput verb chunks origin bytes s text → EndsLoad s
+load_answer load verb chunks origin bytes job s text v o says h =
+    let answers : Answers Summary chunks (job_of origin bytes) s text = subst (λ (w : Verb). DueInput w chunks origin bytes s text) v h in
+    load_fits (fits chunks job.zone) chunks job s text (subst (λ (r : Result Job JobRefusal). Answers Summary chunks r s text) (ap (λ (n : Name). job_of n bytes) o ∙ says) answers)
+
+pub load_ends : (r s : Status) → EndsLoad s → (IsWritten r → r ≡ s) → (r ≡ status.SourceFault → ⊥) → EndsLoad r
+load_ends status.Done s e same n = tt
+load_ends status.SomeRefused s e same n = tt
+load_ends status.DoesNotFit s e same n = tt
+load_ends status.SinkFault s e same n = tt
+load_ends status.NoMemory s e same n = tt
+load_ends status.SourceFault s e same n = n refl
+load_ends status.WordsRefused s e same n = subst EndsLoad (sym (same tt)) e
+load_ends status.ZoneRefused s e same n = subst EndsLoad (sym (same tt)) e
+load_ends status.ScriptRefused s e same n = subst EndsLoad (sym (same tt)) e
+load_ends status.TooLong s e same n = subst EndsLoad (sym (same tt)) e
+
+-- ---- so it is no status of another kind, when it was written whole
+
 pub no_other : (s r : Status) → IsAnswer s → (IsWritten r → r ≡ s) → IsWritten r → (IsAnswer r → ⊥) → ⊥
 no_other s r a same w n = n (subst IsAnswer (sym (same w)) a)

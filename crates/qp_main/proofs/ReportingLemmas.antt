@@ -1,5 +1,5 @@
 -- What is reported of a job that was run.
-use Rattle.std.proofs.Common.{◌≡◌, ◌∙◌, ℕ, ◌-◌, Bool, cond, List, ◌++◌, length, take, drop, Result, sym, ap, arith}
+use Rattle.std.proofs.Common.{◌≡◌, ◌∙◌, ℕ, ◌-◌, Bool, cond, List, ◌++◌, length, take, drop, Result, refl, sym, ap, arith}
 use Rattle.std.proofs.lemmas.List.{take_all, length-drop}
 use Rattle.std.specs.List.{list_any}
 use Rattle.zone_model.specs.Names.{Name}

@@ -128,6 +128,19 @@ abbrev pub IsMade : Option Invocation → Type 0
 IsMade None = ⊥
 IsMade (Some invocation) = MakesInput invocation.verb
 
+-- The run of a load ends so: it reads nothing, and its text says a job.
+abbrev pub EndsLoad : Status → Type 0
+EndsLoad status.Done = Unit {0}
+EndsLoad status.SomeRefused = Unit {0}
+EndsLoad status.DoesNotFit = Unit {0}
+EndsLoad status.SinkFault = Unit {0}
+EndsLoad status.NoMemory = Unit {0}
+EndsLoad status.WordsRefused = ⊥
+EndsLoad status.ZoneRefused = ⊥
+EndsLoad status.ScriptRefused = ⊥
+EndsLoad status.SourceFault = ⊥
+EndsLoad status.TooLong = ⊥
+
 -- the status says that its text was written whole
 abbrev pub IsWritten : Status → Type 0
 IsWritten status.Done = Unit {0}

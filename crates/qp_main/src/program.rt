@@ -4,14 +4,15 @@ ghost use Rattle.std.specs.String.{string_bytes};
 ghost use Rattle.std.specs.Io.KnownBytes.{Consumes};
 ghost use Rattle.zone_model.specs.MasterFile.{zone_of};
 ghost use Rattle.job_model.specs.Jobs.{zone_lines, job_of};
+ghost use Rattle.job_model.specs.Loads.{made_origin};
 ghost use Rattle.job_script.specs.Parts.{IsCutAt};
 ghost use Rattle.outer_io.specs.Faults.{Rose};
 ghost use Rattle.outer_io.specs.Bytes.{Grows, GrowsByFront};
 ghost use Rattle.job_make.specs.Views.{load_view};
-ghost use Rattle.command_line.specs.Invocations.{Make};
+ghost use Rattle.command_line.specs.Invocations.{IsUnder, Make};
 ghost use Rattle.command_line.specs.Views.{invocation_view, verb_view};
 ghost use Rattle.command_line.specs.Words.{invocation_of};
-ghost use Rattle.qp_main.specs.Due.{Answers, Checks, CutShort, DueInput, IsMade, IsUnwritten, IsWritten, Written, input_of};
+ghost use Rattle.qp_main.specs.Due.{Answers, Checks, CutShort, DueInput, EndsLoad, IsMade, IsUnwritten, IsWritten, Written, input_of};
 
 use crate::opening::{Opening, open};
 use crate::report::{no_room, script_refused, size_line, zone_refused};
@@ -166,12 +167,14 @@ fn serve_made<R: Threads + Wait + Sync, K: Sink, G: Gate>(
     sink: &mut K,
     gate: &G,
 ) -> Status
-    requires { verb_view invocation.now.verb ≡ Make (load_view load.now) }
+    requires made { verb_view invocation.now.verb ≡ Make (load_view load.now) }
+    requires under { invocation.now.origin ≡ made_origin }
     ensures written { (left : Option (List ℕ)) → IsWritten result → Written (Some (invocation_view invocation.now)) left (K.held sink.old) (K.held sink.new) result }
     ensures cut_short { (left : Option (List ℕ)) → result ≡ Status.SinkFault → CutShort (Some (invocation_view invocation.now)) left (K.held sink.old) (K.held sink.new) }
     ensures sink_fault { result ≡ Status.SinkFault → Rose (K.faults sink.old) (K.faults sink.new) }
     ensures unwritten { IsUnwritten result → K.held sink.new ≡ K.held sink.old }
     ensures others { (result ≡ Status.SourceFault → ⊥) × (result ≡ Status.TooLong → ⊥) × (result ≡ Status.WordsRefused → ⊥) }
+    ensures load { EndsLoad result }
 {
     let Ok(bytes) = make_text(alloc, load) else {
         return Status::NoMemory;
@@ -223,6 +226,7 @@ fn serve_invocation<R: Threads + Wait + Sync, S: Source, K: Sink, G: Gate>(
     sink: &mut K,
     gate: &G,
 ) -> Status
+    requires { IsUnder (verb_view invocation.now.verb) invocation.now.origin }
     ensures written { IsWritten result → Written (Some (invocation_view invocation.now)) (S.left source.old) (K.held sink.old) (K.held sink.new) result }
     ensures cut_short { result ≡ Status.SinkFault → CutShort (Some (invocation_view invocation.now)) (S.left source.old) (K.held sink.old) (K.held sink.new) }
     ensures sink_fault { result ≡ Status.SinkFault → Rose (K.faults sink.old) (K.faults sink.new) }
@@ -231,6 +235,7 @@ fn serve_invocation<R: Threads + Wait + Sync, S: Source, K: Sink, G: Gate>(
     ensures taken { result ≡ Status.TooLong → (bytes : List ℕ) × Consumes (S.left source.old) (S.left source.new) bytes × (length bytes ≡ 16777217) }
     ensures words { result ≡ Status.WordsRefused → ⊥ }
     ensures made { IsMade (Some (invocation_view invocation.now)) → source.new ≡ source.old }
+    ensures load { IsMade (Some (invocation_view invocation.now)) → EndsLoad result }
 {
     match invocation.verb {
         Verb::Run => serve(rt, alloc, invocation, source, sink, gate),
@@ -261,11 +266,12 @@ pub fn run<R: Threads + Wait + Sync, S: Source, K: Sink, G: Gate>(
     ensures source_fault { result ≡ Status.SourceFault → Rose (S.faults source.old) (S.faults source.new) }
     ensures unwritten { IsUnwritten result → K.held sink.new ≡ K.held sink.old }
 
-    // Refused words leave the source as it is, and no other words are told to be so. So does a load. An input that is too long is
-    // read to one byte past the limit.
+    // Refused words leave the source as it is, and no other words are told to be so. So does a load, of
+    // which neither the zone nor the script is refused. An input that is too long is read to one byte past the limit.
     ensures unread { invocation_of (map string_bytes words.now) ≡ None → source.new ≡ source.old }
     ensures words { result ≡ Status.WordsRefused → invocation_of (map string_bytes words.now) ≡ None }
     ensures made { IsMade (invocation_of (map string_bytes words.now)) → source.new ≡ source.old }
+    ensures load { IsMade (invocation_of (map string_bytes words.now)) → EndsLoad result }
     ensures taken { result ≡ Status.TooLong → (bytes : List ℕ) × Consumes (S.left source.old) (S.left source.new) bytes × (length bytes ≡ 16777217) }
 {
     match invocation_of(alloc, words) {

@@ -16,9 +16,9 @@ returns-clause-short c =
     omega (arith, ap (λ (l : List ℕ). length l) text)
 
 pub returns-clause-job : goal.returns-clause-job
-returns-clause-job c one =
+returns-clause-job c =
     let text : c.push_workers.new.out.items ≡ made_text (load_view c.args.load.now) =
     text_pieces (load_view c.args.load.now) c.new-out.result.items c.extend_from_slice.new.self.items c.push_names.new.out.items c.extend_from_slice-2.new.self.items c.push_workers.new.out.items
     c.new-out.ensures.items c.in_ok-extend_from_slice.ensures.items c.in_ok-push_names.ensures c.in_ok-extend_from_slice-2.ensures.items c.in_ok-push_workers.ensures in
-    let j = made_job (load_view c.args.load.now) (record { names = c.args.load.now.few_names; turns = c.args.load.now.few_turns; workers = c.args.load.now.few_workers }) one in
-    (j.0, ap (job_of made_origin) text ∙ j.1)
+    let j = made_job (load_view c.args.load.now) (record { names = c.args.load.now.few_names; turns = c.args.load.now.few_turns; workers = c.args.load.now.few_workers }) c.args.load.now.some_workers in
+    (j.job, (ap (job_of made_origin) text ∙ j.said, j.many))
