@@ -6,7 +6,7 @@ pub returns-in_err-parting : goal.returns-in_err-parting
 returns-in_err-parting c =
     let h = first_item c.args.rest.now c.in_ok-next.next.now (sym c.in_ok-next.ensures.value) in
     absurd (keys_part c.args.item.now c.in_ok-next.next.now c.args.rest.now h.0 h.1 c.requires
-        (neighbours_part c.args.item.now c.in_ok-next.next.now c.args.rest.now h.0 h.1 c.requires c.octets.ensures.octets c.octets-2.ensures.octets None c.in_err-parting.ensures))
+    (neighbours_part c.args.item.now c.in_ok-next.next.now c.args.rest.now h.0 h.1 c.requires c.octets.ensures.octets c.octets-2.ensures.octets None c.in_err-parting.ensures))
 
 pub returns : goal.returns
 returns c =
