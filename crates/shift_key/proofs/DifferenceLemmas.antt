@@ -101,7 +101,7 @@ octet_step key front label start at i next lt a more =
     let flat : flat_map octet_positions (take i label) ++ octet_positions (get_or label i 0) ≡ flat_map octet_positions (take (i + 1) label) = sym (octets-push (take i label) (get_or label i 0)) ∙ ap (flat_map octet_positions) (sym (take_more label i 0 lt)) in
     subst (λ (l : List ℕ). Agrees key l next) (append_assoc front (flat_map octet_positions (take i label)) (octet_positions (get_or label i 0)) ∙ ap (λ (l : List ℕ). front ++ l) flat) (more (front ++ flat_map octet_positions (take i label)) a)
 
-octets-split : (label : List ℕ) (i : ℕ) → i < length label → (more : List ℕ) × (label_positions label ≡ flat_map octet_positions (take i label) ++ (octet_positions (get_or label i 0) ++ more))
+pub octets-split : (label : List ℕ) (i : ℕ) → i < length label → (more : List ℕ) × (label_positions label ≡ flat_map octet_positions (take i label) ++ (octet_positions (get_or label i 0) ++ more))
 octets-split [] i lt = absurd (omega arith)
 octets-split (c ∷ cs) zero lt = (label_positions cs, append_assoc (octet_positions c) (flat_map octet_positions cs) (0 ∷ []))
 octets-split (c ∷ cs) (suc i) lt =

@@ -4,3 +4,4 @@ pub mod EncodeLemmas
 pub mod LeadLemmas
 pub mod ShapeLemmas
 pub mod DifferenceLemmas
+mod PartingLemmas

@@ -1,3 +1,4 @@
 pub mod Laid
 pub mod Differences
 pub mod Shape
+pub mod Partings

@@ -10,12 +10,14 @@ ghost use Rattle.shift_key.specs.Differences.{IsDifference};
 mod difference;
 mod encode;
 pub mod laws;
+mod names;
 mod table;
 
 use crate::difference::compare_labels;
 use crate::encode::put_labels;
 pub use difference::Difference;
 use dns_name::Name;
+pub use names::{Parting, parting_of};
 use std::marker::Model;
 
 // The most octets of an item.

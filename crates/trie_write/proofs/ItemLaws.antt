@@ -15,8 +15,8 @@ use Rattle.trie_write.specs.declared.item.Item.{Item}
 use Rattle.trie_write.specs.declared.points.BranchPoint.{BranchPoint}
 use Rattle.trie_write.specs.Entries.{entry_of, entries_of_items}
 use Rattle.trie_write.specs.Points.{IsPoint, Ahead}
-use Rattle.shift_key.specs.declared.difference.Difference.{Difference}
-use Rattle.shift_key.specs.Differences.{IsDifference}
+use Rattle.shift_key.specs.declared.names.Parting.{Parting}
+use Rattle.shift_key.specs.Partings.{PartAt, IsParting}
 use Rattle.trie_write.specs.Named.{is_split, begins_with_name, key_of_split, key_in}
 
 -- what is known of an item's octets
@@ -143,28 +143,30 @@ point_of a b point is l first before after =
       inside = (let p = is.key.positions point.offset in omega arith);
     }
 
-module _ (item next : Item) (rest later : List Item) (is : rest ≡ next ∷ later) (rises : Rises (entry_of item ∷ entries_of_items rest)) {key octets : List ℕ} (key_is : key ≡ (entry_of item).key) (octets_are : octets ≡ next.octets.items) where
-  next_name : HasName next.octets.items
-  next_name = name_of next.octets.items (record { short = next.short; named = next.named; small = next.small })
+named : (x : Item) → HasName x.octets.items
+named x = name_of x.octets.items (record { short = x.short; named = x.named; small = x.small })
 
+module _ (item next : Item) (rest later : List Item) (is : rest ≡ next ∷ later) (rises : Rises (entry_of item ∷ entries_of_items rest)) where
   less : Less (entry_of item).key (entry_of next).key
   less = rises.0 (entry_of next) (subst (λ (xs : List Item). InList (entry_of next) (entries_of_items xs)) (sym is) (inl refl))
 
-  -- an item's key isn't that of the next one
-  pub keys_part : ((other : Name) → IsName other → BeginsWith octets other → key ≡ key_of other) → ⊥
-  keys_part same =
-      let n = next_name in let l = less in let lower = l.lower in
-      let e = ap (λ (k : List ℕ). at k l.place) (sym key_is ∙ same n.name n.is_name (n.rest, octets_are ∙ n.octets_are) ∙ sym n.key) in omega arith
+  -- the keys of neighbours part as those of the names that their octets begin with
+  pub neighbours_part : {first second : List ℕ} → first ≡ item.octets.items → second ≡ next.octets.items → (r : Option Parting)
+      → ((a b : Name) → IsName a → IsName b → BeginsWith first a → BeginsWith second b → IsParting (key_of a) (key_of b) r) → IsParting (entry_of item).key (entry_of next).key r
+  neighbours_part e f r parts =
+      let n = named item in let m = named next in
+      subst (λ (k : List ℕ). IsParting k (entry_of next).key r) (sym n.key)
+      (subst (λ (k : List ℕ). IsParting (key_of n.name) k r) (sym m.key) (parts n.name m.name n.is_name m.is_name (n.rest, e ∙ n.octets_are) (m.rest, f ∙ m.octets_are)))
 
-  -- and where it differs, the two part
-  pub keys_part_at : (d : Difference) (before : ℕ) → ((other : Name) → IsName other → BeginsWith octets other → IsDifference key (key_of other) (Some d)) → before ≡ at key d.place → Ahead (entry_of item) (entries_of_items rest) (Some (record { offset = d.place; before = before; after = d.position }))
-  keys_part_at d before differ before_is =
-      let n = next_name in
-      let x = differ n.name n.is_name (n.rest, octets_are ∙ n.octets_are) in
-      let first = subst (λ (a : List ℕ). IsFirstDifference a (entry_of next).key d.place) key_is (subst (λ (b : List ℕ). IsFirstDifference key b d.place) (sym n.key) x.0) in (
-        entry_of next,
-        entries_of_items later,
-        ap entries_of_items is,
-        point_of (entry_of item) (entry_of next) (record { offset = d.place; before = before; after = d.position }) (item_entry next) less first
-            (sym (before_is ∙ ap (λ (k : List ℕ). at k d.place) key_is)) (sym (x.1 ∙ ap (λ (k : List ℕ). at k d.place) (sym n.key))),
-      )
+  -- they aren't one
+  pub keys_part : (entry_of item).key ≡ (entry_of next).key → ⊥
+  keys_part same = let l = less in let lower = l.lower in let e = ap (λ (k : List ℕ). at k l.place) same in omega arith
+
+  -- and part where they first differ
+  pub keys_part_at : (p : Parting) → PartAt (entry_of item).key (entry_of next).key p → Ahead (entry_of item) (entries_of_items rest) (Some (record { offset = p.place; before = p.before; after = p.after }))
+  keys_part_at p h = (
+    entry_of next,
+    entries_of_items later,
+    ap entries_of_items is,
+    point_of (entry_of item) (entry_of next) (record { offset = p.place; before = p.before; after = p.after }) (item_entry next) less h.first (sym h.before) (sym h.after),
+  )

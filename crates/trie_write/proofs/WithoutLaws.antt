@@ -186,3 +186,11 @@ pub taken_twigs : {old new : Account} {c : Change} (to m : ℕ) → Handed old n
 taken_twigs {old} {new} {c} to m h stays new_twigs no_item =
     let w = λ (w : ℕ → ℕ). ap (λ x. span x w) new_twigs in let v = λ (w : ℕ → ℕ). ap (λ x. span x w) no_item in
     record { counts = λ k. let x = h.counts k in let y = w (in_chunk k) in let z = v (in_chunk k) in omega arith; fresh = λ q. let x = handed_fresh h stays q in let y = w (at_place q) in let z = v (at_place q) in omega arith }
+
+pub none_taken : {a : Account} {c : Change} → c.new_twigs ≡ record { at = 0; n = 0 } → c.new_item ≡ record { at = 0; n = 0 } → IsTaken a a c
+none_taken {a} {c} no_twigs no_item =
+    let w = λ (w : ℕ → ℕ). ap (λ x. span x w) no_twigs in let v = λ (w : ℕ → ℕ). ap (λ x. span x w) no_item in
+    record { counts = λ k. let y = w (in_chunk k) in let z = v (in_chunk k) in omega arith; fresh = λ q. let y = w (at_place q) in let z = v (at_place q) in omega arith }
+
+abbrev pub the_span : ℕ → ℕ → Span
+the_span at n = record { at = at; n = n }

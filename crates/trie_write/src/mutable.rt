@@ -39,15 +39,25 @@ pub struct Copied {
     pub seat: Ref,
 }
 
-/// The cell of a branch whose twigs are copied to others, but for one in whose place another cell goes. The old ones count no more.
+/// What copying gives where nothing below a cell is copied.
+fn left_alone(spot: Spot) -> Copied
+    ensures { result ≡ record { node = spot.node; seat = spot.at } }
+{
+    Copied {
+        node: spot.node,
+        seat: spot.at,
+    }
+}
+
+/// What copying gives above a branch. Its twigs are copied to others, but for one in whose place goes what copying gave below. The old ones count no more.
 fn move_twigs<C: CellWrite, U: Space>(
     cells: &mut C,
     usage: &mut U,
     branch: Branch,
     to: Ref,
     index: u32,
-    twig: Cell,
-) -> Cell
+    below: Copied,
+) -> Copied
     requires index { index < count_ones branch.bitmap }
     requires node { IsBranch (record branch { twigs = to }) }
     requires old { IsRow branch.twigs (count_ones branch.bitmap) }
@@ -56,8 +66,9 @@ fn move_twigs<C: CellWrite, U: Space>(
     requires apart { (i j : ℕ) → i < count_ones branch.bitmap → j < count_ones branch.bitmap → branch.twigs + i ≢ to + j }
     requires blank { MayWrite C.kept C.given cells.old to (count_ones branch.bitmap) }
     requires counted { (k : ℕ) → row (in_chunk k) branch.twigs (count_ones branch.bitmap) ≤ (U.account usage.old).live k }
-    ensures cell { result ≡ branch_cell (record branch { twigs = to }) }
-    ensures twig { C.has cells.new (to + index) twig }
+    ensures node { result.node ≡ branch_cell (record branch { twigs = to }) }
+    ensures seat { result.seat ≡ below.seat }
+    ensures twig { C.has cells.new (to + index) below.node }
     ensures copied { (i : ℕ) (c : Cell) → i < count_ones branch.bitmap → i ≢ index → C.has cells.old (branch.twigs + i) c → C.has cells.new (to + i) c }
     ensures wrote { Wrote C.has C.kept C.given cells.old cells.new to (count_ones branch.bitmap) }
     ensures counts { (k : ℕ) → (U.account usage.new).live k + row (in_chunk k) branch.twigs (count_ones branch.bitmap) ≡ (U.account usage.old).live k }
@@ -65,14 +76,17 @@ fn move_twigs<C: CellWrite, U: Space>(
 {
     let n = branch.twig_count();
     copy_twigs(cells, branch.twigs, to, n);
-    cells.put(to + index, twig);
+    cells.put(to + index, below.node);
     usage.release(branch.twigs, n);
     let moved = Branch {
         offset: branch.offset,
         bitmap: branch.bitmap,
         twigs: to,
     };
-    Node::Branch(moved).pack()
+    Copied {
+        node: Node::Branch(moved).pack(),
+        seat: below.seat,
+    }
 }
 
 /// Copies the twigs of each branch on the way. What is said for the cell that the way begins at isn't put there yet. Offsets are at
@@ -96,10 +110,7 @@ fn copy_way<C: CellWrite, U: Space>(
     ensures ready { Ready C.kept C.given U.account cells.new usage.new }
 {
     match next_turn(cells, key, place, from.node) {
-        None => Ok(Copied {
-            node: from.node,
-            seat: from.at,
-        }),
+        None => Ok(left_alone(from)),
         Some(turn) => {
             let n = turn.branch.twig_count();
             let to = room_for(cells, usage, n)?;
@@ -112,10 +123,7 @@ fn copy_way<C: CellWrite, U: Space>(
                     usage.release(to, n);
                     Err(full)
                 }
-                Ok(copied) => Ok(Copied {
-                    node: move_twigs(cells, usage, turn.branch, to, turn.index, copied.node),
-                    seat: copied.seat,
-                }),
+                Ok(copied) => Ok(move_twigs(cells, usage, turn.branch, to, turn.index, copied)),
             }
         }
     }

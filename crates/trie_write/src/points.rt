@@ -6,6 +6,7 @@ ghost use Rattle.trie_write.specs.Entries.{entry_of, entries_of_items};
 ghost use Rattle.trie_write.specs.Points.{Ahead, Before};
 
 use super::Item;
+use shift_key::parting_of;
 
 /// The first place at which two neighbouring keys differ: a branch parts them there.
 #[derive(Clone, Copy)]
@@ -23,12 +24,11 @@ pub fn point_ahead(item: &Item, rest: &[Item]) -> Option<BranchPoint>
     ensures { Ahead (entry_of item.now) (entries_of_items rest.now) result }
 {
     let next = rest.first()?;
-    let key = item.key();
-    let difference = key.difference(next.octets())?;
+    let parting = parting_of(item.octets(), next.octets())?;
     Some(BranchPoint {
-        offset: difference.place,
-        before: key.at(difference.place),
-        after: difference.position,
+        offset: parting.place,
+        before: parting.before,
+        after: parting.after,
     })
 }
 

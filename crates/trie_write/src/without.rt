@@ -14,8 +14,25 @@ use super::place::copy_apart;
 use super::turn::Turn;
 use chunk_cells::CellWrite;
 use chunk_usage::{Full, Space};
-use packed_node::{Branch, Node, bitmap};
+use packed_node::{Branch, Cell, Node, bitmap};
 use shift_key::Key;
+
+/// The change to what is left of a branch, in these cells.
+fn leaf_gone(cell: Cell, new_twigs: Span, old_twigs: Span, old_item: Span) -> Change
+    ensures cell { result.cell ≡ cell }
+    ensures new_twigs { result.new_twigs ≡ new_twigs }
+    ensures new_item { result.new_item ≡ record { at = 0; n = 0 } }
+    ensures old_twigs { result.old_twigs ≡ old_twigs }
+    ensures old_item { result.old_item ≡ old_item }
+{
+    Change {
+        cell,
+        new_twigs,
+        new_item: NO_CELLS,
+        old_twigs,
+        old_item,
+    }
+}
 
 /// What makes of a branch the same without the key's leaf: the others side by side in other cells, or of two twigs the other one.
 pub fn without_leaf<C: CellWrite, U: Space>(
@@ -40,28 +57,16 @@ pub fn without_leaf<C: CellWrite, U: Space>(
     };
     let old_item = item_span(turn.next);
     if old_twigs.n == 2 {
-        return Ok(Change {
-            cell: cells.cell(turn.branch.twigs + (1 - turn.index)),
-            new_twigs: NO_CELLS,
-            new_item: NO_CELLS,
-            old_twigs,
-            old_item,
-        });
+        let other = cells.cell(turn.branch.twigs + (1 - turn.index));
+        return Ok(leaf_gone(other, NO_CELLS, old_twigs, old_item));
     }
     let to = copy_apart(cells, usage, old_twigs, turn.index, 1, 0)?;
+    let n = old_twigs.n - 1;
     let fewer = Branch {
         offset: turn.branch.offset,
         bitmap: bitmap::without(turn.branch.bitmap, key.at(turn.branch.offset)),
         twigs: to,
     };
-    Ok(Change {
-        cell: Node::Branch(fewer).pack(),
-        new_twigs: Span {
-            at: to,
-            n: old_twigs.n - 1,
-        },
-        new_item: NO_CELLS,
-        old_twigs,
-        old_item,
-    })
+    let cell = Node::Branch(fewer).pack();
+    Ok(leaf_gone(cell, Span { at: to, n }, old_twigs, old_item))
 }

@@ -1,13 +1,18 @@
-use Rattle.std.proofs.Common.{◌+◌, ◌-◌, ◌<◌, Fits-lit, arith, sym, ap, subst, rules}
+use Rattle.std.proofs.Common.{◌≡◌, ◌+◌, ◌-◌, ◌<◌, ℕ, Fits-lit, arith, sym, ap, ap₂, subst, rules}
 use Rattle.std.proofs.Math.Facts.{Fits-lt}
 use Rattle.packed_node.specs.declared.Cell.{Cell}
+use Rattle.packed_node.specs.Nodes.{branch_cell}
 use Rattle.chunk_usage.specs.Rooms.{Account, Handed}
 use Rattle.trie_write.specs.Spaces.{MayWrite}
+use Rattle.trie_write.specs.declared.mutable.Copied.{Copied}
 use Rattle.trie_write.specs.Mutable.{IsCopied}
 use Rattle.trie_write.proofs.SpaceLaws.{apart_from, frame_then, frame_same, frame_counts, frame_wrote, ready_counts, ready_wrote, refused_room, handed_counted, blank_later}
 use Rattle.trie_write.proofs.TurnLaws.{known}
 use Rattle.trie_write.proofs.CopyLaws.{n_here, cell_there, cell_used, part_counted, old_lies, moved_branch, asks_after, along_here, same_asks, copied_step, copied_none}
 use Rattle.trie_write.proofs.mutable.+copy_way.Goals as goal
+
+abbrev gives : Cell → ℕ → Copied
+gives node seat = record { node = node; seat = seat }
 
 pub next_turn-requires : goal.next_turn-requires
 next_turn-requires g t c = let a = c.requires.asks.asks in record { way = (c.args.low, record { way = c.requires.asks.way; end = c.requires.asks.end; top = a.hangs.top; is_way = a.is_way }) }
@@ -39,7 +44,9 @@ copy_way-requires g t c κs within =
     (search (rules, f), (within.0, (within.1, (record { way = told.through.rest; end = c.requires.asks.end; asks = asks_after a (told.through) c.in_ok-to-in-Some.ensures.handed c.in_ok-to-in-Some.ensures.frame told.next_is }, c.in_ok-to-in-Some.ensures.ready))))
 
 pub returns-in-None-clause-copied : goal.returns-in-None-clause-copied
-returns-in-None-clause-copied g t c way end asks = copied_none (same_asks c.next_turn.ensures.same asks) (c.next_turn.ensures.none c.in-None.is c.args.low way end asks.hangs.top asks.is_way)
+returns-in-None-clause-copied g t c way end asks =
+    subst (λ (x : Copied). IsCopied g.C.CellRead.has g.C.CellWrite.given g.U.Space.account c.args.usage.now c.next_turn.new.cells c.args.usage.now c.args.place c.args.low c.args.key.now c.args.from.at way end x.node x.seat) (sym c.left_alone.ensures)
+    (copied_none (same_asks c.next_turn.ensures.same asks) (c.next_turn.ensures.none c.in-None.is c.args.low way end asks.hangs.top asks.is_way))
 
 pub returns-in-Err-clause-spends : goal.returns-in-Err-clause-spends
 returns-in-Err-clause-spends g t c way end asks =
@@ -87,7 +94,8 @@ returns-in-Ok-clause-copied g t c way end asks =
     let told = c.in-Some.ensures.on c.args.low way end asks.hangs.top asks.is_way in
     let turn = told.through in
     let n = c.twig_count-n.ensures in
-    subst (λ (cell : Cell). IsCopied g.C.CellRead.has g.C.CellWrite.given g.U.Space.account c.args.usage.now c.move_twigs.new.cells c.move_twigs.new.usage c.args.place c.args.low c.args.key.now c.args.from.at way end cell c.in-Ok.copied.seat) (sym c.move_twigs.ensures.cell)
+    let is : c.move_twigs.result ≡ gives (branch_cell (record c.in-Some.turn.branch { twigs = c.in_ok-to-in-Some.to })) c.in-Ok.copied.seat = ap₂ gives c.move_twigs.ensures.node c.move_twigs.ensures.seat in
+    subst (λ (x : Copied). IsCopied g.C.CellRead.has g.C.CellWrite.given g.U.Space.account c.args.usage.now c.move_twigs.new.cells c.move_twigs.new.usage c.args.place c.args.low c.args.key.now c.args.from.at way end x.node x.seat) (sym is)
     (copied_step a turn told.index_is (subst (Handed (g.U.Space.account c.args.usage.now) (g.U.Space.account c.room_for.new.usage) c.in_ok-to-in-Some.to) n c.in_ok-to-in-Some.ensures.handed)
     (subst (MayWrite g.C.CellWrite.kept g.C.CellWrite.given c.room_for.new.cells c.in_ok-to-in-Some.to) n c.in_ok-to-in-Some.ensures.blank) c.in_ok-to-in-Some.ensures.frame c.in-Ok.ensures.frame
     (c.in-Ok.ensures.copied told.through.rest end (asks_after a turn c.in_ok-to-in-Some.ensures.handed c.in_ok-to-in-Some.ensures.frame told.next_is))

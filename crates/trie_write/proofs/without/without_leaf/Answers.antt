@@ -2,19 +2,19 @@ use Rattle.std.proofs.Common.{ℕ, ◌+◌, ◌-◌, ◌^◌, arith, refl, sym, 
 use Rattle.std.specs.Int.{bit_at}
 use Rattle.chunk_usage.specs.Rooms.{Handed}
 use Rattle.trie_write.proofs.CopyLaws.{cell_there, cell_used, old_lies}
-use Rattle.trie_write.proofs.WithoutLaws.{last_n, last_known, leaf_alone, key_position, key_bit, next_leaf, fewer_branch, dropped, collapsed, same_without, taken_twigs}
+use Rattle.trie_write.proofs.WithoutLaws.{last_n, last_known, leaf_alone, key_position, key_bit, next_leaf, fewer_branch, dropped, collapsed, same_without, the_span, taken_twigs, none_taken}
 use Rattle.trie_write.proofs.without.without_leaf.Goals as goal
 
-pub cell-requires : goal.cell-requires
-cell-requires g c = let x = c.requires.last.last in record { there = cell_there x.asks x.turn.through (1 - c.args.turn.index) (let n = c.twig_count.ensures in let e = c.if-old_twigs-eq2.true in omega arith) }
+pub cell-other-requires : goal.cell-other-requires
+cell-other-requires g c = let x = c.requires.last.last in record { there = cell_there x.asks x.turn.through (1 - c.args.turn.index) (let n = c.twig_count.ensures in let e = c.if-old_twigs-eq2.true in omega arith) }
 
 pub overflow_sub-turn : goal.overflow_sub-turn
 overflow_sub-turn g c = let x = c.requires.last.last in let i = x.turn.index_is in let m = last_n x in let n = c.twig_count.ensures in let e = c.if-old_twigs-eq2.true in omega arith
 
 pub returns-then-old_twigs-eq2-clause-without : goal.returns-then-old_twigs-eq2-clause-without
 returns-then-old_twigs-eq2-clause-without g c lower e first x =
-    let n = c.twig_count.ensures in
-    same_without c.cell.ensures.same (collapsed x (sym n ∙ c.if-old_twigs-eq2.true) c.cell.ensures.value refl refl (ap (λ (m : ℕ). record { at = c.args.turn.branch.twigs; n = m }) n) (c.item_span-old_item.ensures e first (leaf_alone x) (next_leaf x)))
+    let n = c.twig_count.ensures in let gone = c.leaf_gone.ensures in
+    same_without c.cell-other.ensures.same (collapsed x (sym n ∙ c.if-old_twigs-eq2.true) (λ d h. gone.cell ∙ c.cell-other.ensures.value d h) gone.new_twigs gone.new_item (gone.old_twigs ∙ ap (the_span c.args.turn.branch.twigs) n) (gone.old_item ∙ c.item_span-old_item.ensures e first (leaf_alone x) (next_leaf x)))
 
 pub returns-then-old_twigs-eq2-clause-spends : goal.returns-then-old_twigs-eq2-clause-spends
 returns-then-old_twigs-eq2-clause-spends g c = let n = c.twig_count.ensures in let e = c.if-old_twigs-eq2.true in omega arith
@@ -46,28 +46,28 @@ without-requires-clause-position g c = let x = c.requires.last.last in let p = k
 pub without-requires-clause-present : goal.without-requires-clause-present
 without-requires-clause-present g c = ap (λ (q : ℕ). bit_at c.args.turn.branch.bitmap q) c.at.ensures ∙ key_bit c.requires.last.last
 
-pub pack-requires : goal.pack-requires
-pack-requires g c =
+pub pack-cell-requires : goal.pack-cell-requires
+pack-cell-requires g c =
     let x = c.requires.last.last in let n = c.twig_count.ensures in
     fewer_branch x c.without.result c.in_ok-to.ensures.frame (subst (Handed (g.U.Space.account c.args.usage.now) (g.U.Space.account c.copy_apart.new.usage) c.in_ok-to.to) (omega arith) c.in_ok-to.ensures.handed)
     (let m = last_n x in let k = (last_known x).two in let d = c.if-old_twigs-eq2.false in omega arith) (ap (λ (q : ℕ). c.without.result + 2 ^ q) (sym c.at.ensures) ∙ c.without.ensures)
 
-pub overflow_sub-result : goal.overflow_sub-result
-overflow_sub-result g c = let x = c.requires.last.last in let m = last_n x in let n = c.twig_count.ensures in let k = (last_known x).two in omega arith
+pub overflow_sub-n : goal.overflow_sub-n
+overflow_sub-n g c = let x = c.requires.last.last in let m = last_n x in let n = c.twig_count.ensures in let k = (last_known x).two in omega arith
 
 pub returns-clause-without : goal.returns-clause-without
 returns-clause-without g c lower e first x =
-    let n = c.twig_count.ensures in
+    let n = c.twig_count.ensures in let gone = c.leaf_gone-2.ensures in
     dropped x c.without.result c.in_ok-to.ensures.frame (subst (Handed (g.U.Space.account c.args.usage.now) (g.U.Space.account c.copy_apart.new.usage) c.in_ok-to.to) (omega arith) c.in_ok-to.ensures.handed)
     (let m = last_n x in let k = (last_known x).two in let d = c.if-old_twigs-eq2.false in omega arith) (ap (λ (q : ℕ). c.without.result + 2 ^ q) (sym c.at.ensures) ∙ c.without.ensures)
-    c.in_ok-to.ensures.before (λ i d l. c.in_ok-to.ensures.after i d (omega arith)) c.pack.ensures (ap (λ (m : ℕ). record { at = c.in_ok-to.to; n = m - 1 }) n) refl (ap (λ (m : ℕ). record { at = c.args.turn.branch.twigs; n = m }) n)
-    (c.item_span-old_item.ensures e first (leaf_alone x) (next_leaf x))
+    c.in_ok-to.ensures.before (λ i d l. c.in_ok-to.ensures.after i d (omega arith)) (gone.cell ∙ c.pack-cell.ensures) (gone.new_twigs ∙ ap (λ (m : ℕ). the_span c.in_ok-to.to (m - 1)) n) gone.new_item (gone.old_twigs ∙ ap (the_span c.args.turn.branch.twigs) n)
+    (gone.old_item ∙ c.item_span-old_item.ensures e first (leaf_alone x) (next_leaf x))
 
 pub returns-clause-taken : goal.returns-clause-taken
-returns-clause-taken g c = taken_twigs c.in_ok-to.to (c.twig_count.result - 1) (subst (Handed (g.U.Space.account c.args.usage.now) (g.U.Space.account c.copy_apart.new.usage) c.in_ok-to.to) (omega arith) c.in_ok-to.ensures.handed) c.in_ok-to.ensures.frame.grows.stays refl refl
+returns-clause-taken g c = taken_twigs c.in_ok-to.to (c.twig_count.result - 1) (subst (Handed (g.U.Space.account c.args.usage.now) (g.U.Space.account c.copy_apart.new.usage) c.in_ok-to.to) (omega arith) c.in_ok-to.ensures.handed) c.in_ok-to.ensures.frame.grows.stays c.leaf_gone-2.ensures.new_twigs c.leaf_gone-2.ensures.new_item
 
 pub returns-then-old_twigs-eq2-clause-taken : goal.returns-then-old_twigs-eq2-clause-taken
-returns-then-old_twigs-eq2-clause-taken g c = record { counts = λ k. omega arith; fresh = λ q. omega arith }
+returns-then-old_twigs-eq2-clause-taken g c = none_taken c.leaf_gone.ensures.new_twigs c.leaf_gone.ensures.new_item
 
 pub returns-clause-spends : goal.returns-clause-spends
 returns-clause-spends g c = let x = c.requires.last.last in let m = last_n x in let n = c.twig_count.ensures in let k = (last_known x).two in let s = c.copy_apart.ensures.spends in omega arith
