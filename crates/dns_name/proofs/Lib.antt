@@ -10,3 +10,4 @@ pub mod PrintedLemmas
 pub mod ScanLemmas
 pub mod SortKeyLemmas
 pub mod BelowLemmas
+pub mod UnderLemmas

@@ -81,16 +81,18 @@ fn compare_alike(a: &[u8], b: &[u8], tie: Ordering) -> Ordering
     order
 }
 
-// The first name is at or under the second.
+// The first name is at or under the second: from some label on they are the same bytes.
 pub fn under(a: &[u8], b: &[u8]) -> bool
     requires a { IsSpelled a.now }
     requires b { IsSpelled b.now }
     ensures { (x y : Labels) → Spells a.now x → Spells b.now y → result ≡ is_under x y }
 {
-    let depth_a = count(a);
-    let depth_b = count(b);
-    if depth_a < depth_b {
-        return false;
+    let mut rest = a;
+    while rest.len() > b.len() {
+        let Some((_, after)) = first(rest) else {
+            return false;
+        };
+        rest = after;
     }
-    compare(skip(a, depth_a - depth_b), b).is_eq()
+    rest == b
 }

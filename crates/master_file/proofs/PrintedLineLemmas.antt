@@ -149,22 +149,22 @@ name_no_dollar ((c ∷ label) ∷ labels) h =
     ap (begins_with 36) (append_assoc (octet_text c ++ flat_map octet_text label) (46 ∷ []) (flat_map label_text labels) ∙ append_assoc (octet_text c) (flat_map octet_text label) (46 ∷ flat_map label_text labels))
     ∙ octet_no_dollar c (flat_map octet_text label ++ 46 ∷ flat_map label_text labels)
 
-record_back : (top owner : Name) (n ttl rtype : ℕ) (octets : List ℕ) (rest : List Token) (r : Reader) → ttl ≤ 2147483647 → rtype ≤ 65535 → data_type rtype ≡ Some rtype → data_of r.origin rtype rest ≡ Ok octets
-    → record_says top n owner (word n (decimal ttl) ∷ word n (73 ∷ 78 ∷ []) ∷ word n (type_text rtype) ∷ rest) r ≡ added top n owner rtype ttl octets r.version >>= (λ version. Ok (after_record (Some ttl) rtype octets owner r version))
+record_back : (apex owner : Name) (n ttl rtype : ℕ) (octets : List ℕ) (rest : List Token) (r : Reader) → ttl ≤ 2147483647 → rtype ≤ 65535 → data_type rtype ≡ Some rtype → data_of r.origin rtype rest ≡ Ok octets
+    → record_says apex n owner (word n (decimal ttl) ∷ word n (73 ∷ 78 ∷ []) ∷ word n (type_text rtype) ∷ rest) r ≡ added apex n owner rtype ttl octets r.version >>= (λ version. Ok (after_record (Some ttl) rtype octets owner r version))
 unfolding record_says
-record_back top owner n ttl rtype octets rest r ht hr d e = rw (front_back n n ttl rtype rest ht hr d) (rw e refl)
+record_back apex owner n ttl rtype octets rest r ht hr d e = rw (front_back n n ttl rtype rest ht hr d) (rw e refl)
 
-entry_back : (top owner : Name) (n ttl rtype : ℕ) (octets : List ℕ) (rest : List Token) (r : Reader) → IsName owner → ttl ≤ 2147483647 → rtype ≤ 65535 → data_type rtype ≡ Some rtype → data_of r.origin rtype rest ≡ Ok octets → last_line n rest ≡ n
-    → entry_says top n false (word n (text_of owner) ∷ word n (decimal ttl) ∷ word n (73 ∷ 78 ∷ []) ∷ word n (type_text rtype) ∷ rest) r ≡ added top n owner rtype ttl octets r.version >>= (λ version. Ok (after_record (Some ttl) rtype octets owner r version))
+entry_back : (apex owner : Name) (n ttl rtype : ℕ) (octets : List ℕ) (rest : List Token) (r : Reader) → IsName owner → ttl ≤ 2147483647 → rtype ≤ 65535 → data_type rtype ≡ Some rtype → data_of r.origin rtype rest ≡ Ok octets → last_line n rest ≡ n
+    → entry_says apex n false (word n (text_of owner) ∷ word n (decimal ttl) ∷ word n (73 ∷ 78 ∷ []) ∷ word n (type_text rtype) ∷ rest) r ≡ added apex n owner rtype ttl octets r.version >>= (λ version. Ok (after_record (Some ttl) rtype octets owner r version))
 unfolding entry_says
-entry_back top owner n ttl rtype octets rest r name ht hr d e l =
-    rw (name_no_dollar owner name.each) (rw (name_of-text_of owner r.origin name) (rw l (record_back top owner n ttl rtype octets rest r ht hr d e)))
+entry_back apex owner n ttl rtype octets rest r name ht hr d e l =
+    rw (name_no_dollar owner name.each) (rw (name_of-text_of owner r.origin name) (rw l (record_back apex owner n ttl rtype octets rest r ht hr d e)))
 
-zone_step : (top : Name) (n : ℕ) (text : List ℕ) (lines : List (List ℕ)) (tokens : List Token) (r : Reader) → ReadsLine n text tokens → zone_from top n (text ∷ lines) None r ≡ entry_says top n (begins_blank text) tokens r >>= zone_from top (n + 1) lines None
+zone_step : (apex : Name) (n : ℕ) (text : List ℕ) (lines : List (List ℕ)) (tokens : List Token) (r : Reader) → ReadsLine n text tokens → zone_from apex n (text ∷ lines) None r ≡ entry_says apex n (begins_blank text) tokens r >>= zone_from apex (n + 1) lines None
 unfolding zone_from
-zone_step top n text lines tokens r l =
+zone_step apex n text lines tokens r l =
     let closed : eqb l.scan.depth 0 ≡ true = ap (λ (k : ℕ). eqb k 0) l.depth in
-    rw l.read (rw closed (ap (λ (ts : List Token). entry_says top n (begins_blank text) ts r >>= zone_from top (n + 1) lines None) l.tokens_are))
+    rw l.read (rw closed (ap (λ (ts : List Token). entry_says apex n (begins_blank text) ts r >>= zone_from apex (n + 1) lines None) l.tokens_are))
 
 -- the line of a record
 abbrev line_text : Row → List ℕ
@@ -214,34 +214,34 @@ row_words n row h =
 pub row_line : (row : Row) (rest : List ℕ) → IsRecord row → lines_of (row_text row ++ rest) ≡ line_text row ∷ lines_of rest
 row_line row rest h = ap lines_of (row_parts (text_of row.owner) (decimal row.ttl) (type_text row.rtype) (data_text row.rtype row.octets) rest) ∙ shown_line (line_text row) rest (row_words 1 row h).shown
 
-pub row_back : (row : Row) (top : Name) (n : ℕ) (rest : List ℕ) (r : Reader) → IsRecord row → zone_from top n (lines_of (row_text row ++ rest)) None r ≡ row_added top n row r >>= zone_from top (n + 1) (lines_of rest) None
-row_back row top n rest r h =
+pub row_back : (row : Row) (apex : Name) (n : ℕ) (rest : List ℕ) (r : Reader) → IsRecord row → zone_from apex n (lines_of (row_text row ++ rest)) None r ≡ row_added apex n row r >>= zone_from apex (n + 1) (lines_of rest) None
+row_back row apex n rest r h =
     let w : RowWords n row = row_words n row h in
     let words : List Token = word n (text_of row.owner) ∷ word n (decimal row.ttl) ∷ word n (73 ∷ 78 ∷ []) ∷ word n (type_text row.rtype) ∷ w.others in
-    ap (λ (ls : List (List ℕ)). zone_from top n ls None r) (row_line row rest h)
-    ∙ zone_step top n (line_text row) (lines_of rest) words r (reads_line n (line_text row) words w.spelled)
-    ∙ ap (λ b. entry_says top n b words r >>= zone_from top (n + 1) (lines_of rest) None) w.begins
-    ∙ ap (λ x. x >>= zone_from top (n + 1) (lines_of rest) None) (entry_back top row.owner n row.ttl row.rtype row.octets w.others r h.owner h.time h.number h.kind (w.read r.origin) w.last)
+    ap (λ (ls : List (List ℕ)). zone_from apex n ls None r) (row_line row rest h)
+    ∙ zone_step apex n (line_text row) (lines_of rest) words r (reads_line n (line_text row) words w.spelled)
+    ∙ ap (λ b. entry_says apex n b words r >>= zone_from apex (n + 1) (lines_of rest) None) w.begins
+    ∙ ap (λ x. x >>= zone_from apex (n + 1) (lines_of rest) None) (entry_back apex row.owner n row.ttl row.rtype row.octets w.others r h.owner h.time h.number h.kind (w.read r.origin) w.last)
 
 -- ---- all records
 
-no_lines : (top : Name) (n : ℕ) (r : Reader) → zone_from top n [] None r ≡ Ok r
+no_lines : (apex : Name) (n : ℕ) (r : Reader) → zone_from apex n [] None r ≡ Ok r
 unfolding zone_from
-no_lines top n r = refl
+no_lines apex n r = refl
 
 on_from : {A B E : Type 0} (a : Result A E) (f g : A → Result B E) → ((x : A) → f x ≡ g x) → a >>= f ≡ a >>= g
 on_from (Ok x) f g h = h x
 on_from (Err e) f g h = refl
 
-pub rows_back : (rows : List Row) (top : Name) (n : ℕ) (r : Reader) → AllByRecursion IsRecord rows → zone_from top n (lines_of (flat_map row_text rows)) None r ≡ rows_added top n rows r
-rows_back [] top n r h = no_lines top n r
-rows_back (row ∷ rows) top n r h = row_back row top n (flat_map row_text rows) r h.0 ∙ on_from (row_added top n row r) (zone_from top (n + 1) (lines_of (flat_map row_text rows)) None) (rows_added top (n + 1) rows) (λ x. rows_back rows top (n + 1) x h.1)
+pub rows_back : (rows : List Row) (apex : Name) (n : ℕ) (r : Reader) → AllByRecursion IsRecord rows → zone_from apex n (lines_of (flat_map row_text rows)) None r ≡ rows_added apex n rows r
+rows_back [] apex n r h = no_lines apex n r
+rows_back (row ∷ rows) apex n r h = row_back row apex n (flat_map row_text rows) r h.0 ∙ on_from (row_added apex n row r) (zone_from apex (n + 1) (lines_of (flat_map row_text rows)) None) (rows_added apex (n + 1) rows) (λ x. rows_back rows apex (n + 1) x h.1)
 
 rows_lines : (rows : List Row) → AllByRecursion IsRecord rows → length (lines_of (flat_map row_text rows)) ≡ length rows
 rows_lines [] h = refl
 rows_lines (row ∷ rows) h = ap (λ (l : List (List ℕ)). length l) (row_line row (flat_map row_text rows) h.0) ∙ ap suc (rows_lines rows h.1)
 
-pub zone_back : (rows : List Row) (top : Name) → AllByRecursion IsRecord rows → zone_of top (lines_of (flat_map row_text rows)) ≡ rows_added top 1 rows (at_first top) >>= with_soa top (length rows + 1)
+pub zone_back : (rows : List Row) (apex : Name) → AllByRecursion IsRecord rows → zone_of apex (lines_of (flat_map row_text rows)) ≡ rows_added apex 1 rows (at_first apex) >>= with_soa apex (length rows + 1)
 unfolding zone_of
-zone_back rows top h =
-    ap (λ x. x >>= with_soa top (length (lines_of (flat_map row_text rows)) + 1)) (rows_back rows top 1 (at_first top) h) ∙ ap (λ (k : ℕ). rows_added top 1 rows (at_first top) >>= with_soa top (k + 1)) (rows_lines rows h)
+zone_back rows apex h =
+    ap (λ x. x >>= with_soa apex (length (lines_of (flat_map row_text rows)) + 1)) (rows_back rows apex 1 (at_first apex) h) ∙ ap (λ (k : ℕ). rows_added apex 1 rows (at_first apex) >>= with_soa apex (k + 1)) (rows_lines rows h)

@@ -18,7 +18,7 @@ use Rattle.zone_model.specs.MasterFile.{Reader, Pending, zone_from, entry_says}
 
 -- what an entry and then the lines behind it say
 abbrev pub after_entry : List (List ℕ) → ℕ → Bool → Reader → EntryTokens → Result Reader (Refused ZoneKind)
-after_entry top first blank r e = entry_says top first blank e.tokens r >>= zone_from top e.next e.rest None
+after_entry apex first blank r e = entry_says apex first blank e.tokens r >>= zone_from apex e.next e.rest None
 
 bind_same : {A B C : Type 0} (res : Result A (Refused ZoneKind)) (a : A → Result C (Refused ZoneKind)) (b : A → Result B (Refused ZoneKind)) (k : B → Result C (Refused ZoneKind)) → ((s : A) → a s ≡ b s >>= k) → res >>= a ≡ (res >>= b) >>= k
 bind_same (Ok s) a b k h = h s
@@ -28,23 +28,23 @@ depth_case : {B C : Type 0} (t : Bool) (x y : Result C (Refused ZoneKind)) (e f 
 depth_case true x y e f k g h = g
 depth_case false x y e f k g h = h refl
 
-pub zone_pending : (top : List (List ℕ)) (n : ℕ) (lines : List (List ℕ)) (p : Pending) (r : Reader) → 0 < p.scan.depth → zone_from top n lines (Some p) r ≡ entry_from n lines p.scan >>= after_entry top p.first p.blank r
+pub zone_pending : (apex : List (List ℕ)) (n : ℕ) (lines : List (List ℕ)) (p : Pending) (r : Reader) → 0 < p.scan.depth → zone_from apex n lines (Some p) r ≡ entry_from n lines p.scan >>= after_entry apex p.first p.blank r
 unfolding zone_from entry_from
-zone_pending top n [] p r h =
+zone_pending apex n [] p r h =
     let t : eqb p.scan.depth 0 ≡ false = grind (arith, nat_tests) in
-    sym (ap (λ b. cond b (Ok (entry_of p.scan n [])) (refused p.scan.outer OpenParen) >>= after_entry top p.first p.blank r) t)
-zone_pending top n (line ∷ lines) p r h =
-    bind_same (line_tokens n line p.scan) _ _ (after_entry top p.first p.blank r) (λ s.
-    depth_case (eqb s.depth 0) _ _ (Ok (entry_of s (n + 1) lines)) (entry_from (n + 1) lines s) (after_entry top p.first p.blank r) refl
-    (λ t. zone_pending top (n + 1) lines (record p { scan = s }) r (grind (arith, nat_tests))))
+    sym (ap (λ b. cond b (Ok (entry_of p.scan n [])) (refused p.scan.outer OpenParen) >>= after_entry apex p.first p.blank r) t)
+zone_pending apex n (line ∷ lines) p r h =
+    bind_same (line_tokens n line p.scan) _ _ (after_entry apex p.first p.blank r) (λ s.
+    depth_case (eqb s.depth 0) _ _ (Ok (entry_of s (n + 1) lines)) (entry_from (n + 1) lines s) (after_entry apex p.first p.blank r) refl
+    (λ t. zone_pending apex (n + 1) lines (record p { scan = s }) r (grind (arith, nat_tests))))
 
 -- an entry begins at a line
-pub zone_begins : (top : List (List ℕ)) (n : ℕ) (line : List ℕ) (lines : List (List ℕ)) (r : Reader) → zone_from top n (line ∷ lines) None r ≡ entry_from n (line ∷ lines) fresh >>= after_entry top n (begins_blank line) r
+pub zone_begins : (apex : List (List ℕ)) (n : ℕ) (line : List ℕ) (lines : List (List ℕ)) (r : Reader) → zone_from apex n (line ∷ lines) None r ≡ entry_from n (line ∷ lines) fresh >>= after_entry apex n (begins_blank line) r
 unfolding zone_from entry_from
-zone_begins top n line lines r =
-    bind_same (line_tokens n line fresh) _ _ (after_entry top n (begins_blank line) r) (λ s.
-    depth_case (eqb s.depth 0) _ _ (Ok (entry_of s (n + 1) lines)) (entry_from (n + 1) lines s) (after_entry top n (begins_blank line) r) refl
-    (λ t. zone_pending top (n + 1) lines (record { first = n; blank = begins_blank line; scan = s }) r (grind (arith, nat_tests))))
+zone_begins apex n line lines r =
+    bind_same (line_tokens n line fresh) _ _ (after_entry apex n (begins_blank line) r) (λ s.
+    depth_case (eqb s.depth 0) _ _ (Ok (entry_of s (n + 1) lines)) (entry_from (n + 1) lines s) (after_entry apex n (begins_blank line) r) refl
+    (λ t. zone_pending apex (n + 1) lines (record { first = n; blank = begins_blank line; scan = s }) r (grind (arith, nat_tests))))
 
 -- an entry takes lines from those that are there
 on_depth : (n : ℕ) (lines : List (List ℕ)) (s : Scan) (b : Bool) (e : EntryTokens) → ((e : EntryTokens) → entry_from (n + 1) lines s ≡ Ok e → e.next + length e.rest ≡ n + 1 + length lines) → cond b (Ok (entry_of s (n + 1) lines)) (entry_from (n + 1) lines s) ≡ Ok e → e.next + length e.rest ≡ n + 1 + length lines
@@ -68,36 +68,36 @@ entry_counts n (line ∷ lines) s e h =
 
 -- ---- as the reader has it
 
-pub zone_lexed : (bytes : List ℕ) (top : List (List ℕ)) (at n : ℕ) (r : Reader) → at < length bytes → zone_from top n (lines_of (drop at bytes)) None r ≡ entry_from n (lines_of (drop at bytes)) fresh >>= after_entry top n (begins_blank (drop at bytes)) r
-zone_lexed bytes top at n r h =
+pub zone_lexed : (bytes : List ℕ) (apex : List (List ℕ)) (at n : ℕ) (r : Reader) → at < length bytes → zone_from apex n (lines_of (drop at bytes)) None r ≡ entry_from n (lines_of (drop at bytes)) fresh >>= after_entry apex n (begins_blank (drop at bytes)) r
+zone_lexed bytes apex at n r h =
     let f = first_blank (drop at bytes) (omega (arith, length-drop at bytes)) in
-    ap (λ (l : List (List ℕ)). zone_from top n l None r) f.lines ∙ zone_begins top n f.line f.rest r
-    ∙ ap (λ (b : Bool). entry_from n (f.line ∷ f.rest) fresh >>= after_entry top n b r) f.blank
-    ∙ ap (λ (l : List (List ℕ)). entry_from n l fresh >>= after_entry top n (begins_blank (drop at bytes)) r) (sym f.lines)
+    ap (λ (l : List (List ℕ)). zone_from apex n l None r) f.lines ∙ zone_begins apex n f.line f.rest r
+    ∙ ap (λ (b : Bool). entry_from n (f.line ∷ f.rest) fresh >>= after_entry apex n b r) f.blank
+    ∙ ap (λ (l : List (List ℕ)). entry_from n l fresh >>= after_entry apex n (begins_blank (drop at bytes)) r) (sym f.lines)
 
-pub lex_refused : (bytes : List ℕ) (top : List (List ℕ)) (at n : ℕ) (old new : Reader) (e : ZoneRefusal) → at < length bytes → Reads (Err e) (lexed_view bytes) (entry_from n (lines_of (drop at bytes)) fresh) → ReadsNext bytes top at n old new (Err e)
-lex_refused bytes top at n old new refusal.Memory h g = tt
-lex_refused bytes top at n old new (refusal.Refused line kind) h g = zone_lexed bytes top at n old h ∙ ap (λ (x : Result EntryTokens (Refused ZoneKind)). x >>= after_entry top n (begins_blank (drop at bytes)) old) g
+pub lex_refused : (bytes : List ℕ) (apex : List (List ℕ)) (at n : ℕ) (old new : Reader) (e : ZoneRefusal) → at < length bytes → Reads (Err e) (lexed_view bytes) (entry_from n (lines_of (drop at bytes)) fresh) → ReadsNext bytes apex at n old new (Err e)
+lex_refused bytes apex at n old new refusal.Memory h g = tt
+lex_refused bytes apex at n old new (refusal.Refused line kind) h g = zone_lexed bytes apex at n old h ∙ ap (λ (x : Result EntryTokens (Refused ZoneKind)). x >>= after_entry apex n (begins_blank (drop at bytes)) old) g
 
-pub entry_refused : (bytes : List ℕ) (top : List (List ℕ)) (at n : ℕ) (old new : Reader) (l : Lexed) (e : ZoneRefusal) → at < length bytes → entry_from n (lines_of (drop at bytes)) fresh ≡ Ok (lexed_view bytes l) → l.blank ≡ begins_blank (drop at bytes)
-    → Gives (Err e) new (entry_says top n l.blank (map (token_view bytes) l.tokens.items) old) → ReadsNext bytes top at n old new (Err e)
-entry_refused bytes top at n old new l refusal.Memory h g b k = tt
-entry_refused bytes top at n old new l (refusal.Refused line kind) h g b k =
-    zone_lexed bytes top at n old h ∙ ap (λ (x : Result EntryTokens (Refused ZoneKind)). x >>= after_entry top n (begins_blank (drop at bytes)) old) g
-    ∙ ap (λ (x : Bool). after_entry top n x old (lexed_view bytes l)) (sym b) ∙ ap (λ x. x >>= zone_from top l.next_line (lines_of (drop l.next bytes)) None) k
+pub entry_refused : (bytes : List ℕ) (apex : List (List ℕ)) (at n : ℕ) (old new : Reader) (l : Lexed) (e : ZoneRefusal) → at < length bytes → entry_from n (lines_of (drop at bytes)) fresh ≡ Ok (lexed_view bytes l) → l.blank ≡ begins_blank (drop at bytes)
+    → Gives (Err e) new (entry_says apex n l.blank (map (token_view bytes) l.tokens.items) old) → ReadsNext bytes apex at n old new (Err e)
+entry_refused bytes apex at n old new l refusal.Memory h g b k = tt
+entry_refused bytes apex at n old new l (refusal.Refused line kind) h g b k =
+    zone_lexed bytes apex at n old h ∙ ap (λ (x : Result EntryTokens (Refused ZoneKind)). x >>= after_entry apex n (begins_blank (drop at bytes)) old) g
+    ∙ ap (λ (x : Bool). after_entry apex n x old (lexed_view bytes l)) (sym b) ∙ ap (λ x. x >>= zone_from apex l.next_line (lines_of (drop l.next bytes)) None) k
 
-pub entry_read : (bytes : List ℕ) (top : List (List ℕ)) (at n : ℕ) (old new : Reader) (l : Lexed) → at < length bytes → entry_from n (lines_of (drop at bytes)) fresh ≡ Ok (lexed_view bytes l) → l.blank ≡ begins_blank (drop at bytes)
-    → entry_says top n l.blank (map (token_view bytes) l.tokens.items) old ≡ Ok new → ReadsNext bytes top at n old new (Ok (l.next, l.next_line))
-entry_read bytes top at n old new l h g b k =
-    zone_lexed bytes top at n old h ∙ ap (λ (x : Result EntryTokens (Refused ZoneKind)). x >>= after_entry top n (begins_blank (drop at bytes)) old) g
-    ∙ ap (λ (x : Bool). after_entry top n x old (lexed_view bytes l)) (sym b) ∙ ap (λ x. x >>= zone_from top l.next_line (lines_of (drop l.next bytes)) None) k
+pub entry_read : (bytes : List ℕ) (apex : List (List ℕ)) (at n : ℕ) (old new : Reader) (l : Lexed) → at < length bytes → entry_from n (lines_of (drop at bytes)) fresh ≡ Ok (lexed_view bytes l) → l.blank ≡ begins_blank (drop at bytes)
+    → entry_says apex n l.blank (map (token_view bytes) l.tokens.items) old ≡ Ok new → ReadsNext bytes apex at n old new (Ok (l.next, l.next_line))
+entry_read bytes apex at n old new l h g b k =
+    zone_lexed bytes apex at n old h ∙ ap (λ (x : Result EntryTokens (Refused ZoneKind)). x >>= after_entry apex n (begins_blank (drop at bytes)) old) g
+    ∙ ap (λ (x : Bool). after_entry apex n x old (lexed_view bytes l)) (sym b) ∙ ap (λ x. x >>= zone_from apex l.next_line (lines_of (drop l.next bytes)) None) k
 
 pub entry_counted : (bytes : List ℕ) (at n : ℕ) (l : Lexed) → entry_from n (lines_of (drop at bytes)) fresh ≡ Ok (lexed_view bytes l) → l.next_line + length (lines_of (drop l.next bytes)) ≡ n + length (lines_of (drop at bytes))
 entry_counted bytes at n l g = entry_counts n (lines_of (drop at bytes)) fresh (lexed_view bytes l) g
 
-pub zone_end : (bytes : List ℕ) (top : List (List ℕ)) (at n : ℕ) (r : Reader) → length bytes ≤ at → zone_from top n (lines_of (drop at bytes)) None r ≡ Ok r
+pub zone_end : (bytes : List ℕ) (apex : List (List ℕ)) (at n : ℕ) (r : Reader) → length bytes ≤ at → zone_from apex n (lines_of (drop at bytes)) None r ≡ Ok r
 unfolding zone_from
-zone_end bytes top at n r h = ap (λ (l : List ℕ). zone_from top n (lines_of l) None r) (drop_all at bytes h)
+zone_end bytes apex at n r h = ap (λ (l : List ℕ). zone_from apex n (lines_of l) None r) (drop_all at bytes h)
 
 pub no_lines_left : (bytes : List ℕ) (at : ℕ) → length bytes ≤ at → length (lines_of (drop at bytes)) ≡ 0
 no_lines_left bytes at h = ap (λ (l : List ℕ). length (lines_of l)) (drop_all at bytes h)

@@ -23,17 +23,17 @@ pub record IsRecord (row : Row) : Type 0 where
 
 -- a record of line n joins what was read so far
 abbrev pub row_added : Name → ℕ → Row → Reader → Result Reader (Refused ZoneKind)
-row_added top n row r = added top n row.owner row.rtype row.ttl row.octets r.version >>= (λ version. Ok (after_record (Some row.ttl) row.rtype row.octets row.owner r version))
+row_added apex n row r = added apex n row.owner row.rtype row.ttl row.octets r.version >>= (λ version. Ok (after_record (Some row.ttl) row.rtype row.octets row.owner r version))
 
 -- what was read, and behind it the text from line n on
 abbrev pub read_on : Name → ℕ → List ℕ → Result Reader (Refused ZoneKind) → Result Reader (Refused ZoneKind)
-read_on top n text so_far = so_far >>= zone_from top n (lines_of text) None
+read_on apex n text so_far = so_far >>= zone_from apex n (lines_of text) None
 
 -- records join, one a line, up to the first that is refused
 abbrev pub rows_added : Name → ℕ → List Row → Reader → Result Reader (Refused ZoneKind)
-rows_added top n [] r = Ok r
-rows_added top n (row ∷ rows) r = row_added top n row r >>= rows_added top (n + 1) rows
+rows_added apex n [] r = Ok r
+rows_added apex n (row ∷ rows) r = row_added apex n row r >>= rows_added apex (n + 1) rows
 
 -- the zone of these records alone
 abbrev pub zone_of_rows : Name → List Row → Result Version (Refused ZoneKind)
-zone_of_rows top rows = rows_added top 1 rows (at_first top) >>= with_soa top (length rows + 1)
+zone_of_rows apex rows = rows_added apex 1 rows (at_first apex) >>= with_soa apex (length rows + 1)

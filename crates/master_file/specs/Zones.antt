@@ -27,9 +27,9 @@ ReadsAll (Err (refusal.Refused line kind)) new wanted = wanted ≡ Err (record {
 
 -- an entry was read, and the zone goes on at the next one
 abbrev pub ReadsNext : List ℕ → List (List ℕ) → ℕ → ℕ → says.Reader → says.Reader → Result (ℕ × ℕ) ZoneRefusal → Type 0
-ReadsNext bytes top at n old new (Ok x) = says.zone_from top n (lines_of (drop at bytes)) None old ≡ says.zone_from top x.1 (lines_of (drop x.0 bytes)) None new
-ReadsNext bytes top at n old new (Err refusal.Memory) = Unit {0}
-ReadsNext bytes top at n old new (Err (refusal.Refused line kind)) = says.zone_from top n (lines_of (drop at bytes)) None old ≡ Err (record { line = line; kind = kind })
+ReadsNext bytes apex at n old new (Ok x) = says.zone_from apex n (lines_of (drop at bytes)) None old ≡ says.zone_from apex x.1 (lines_of (drop x.0 bytes)) None new
+ReadsNext bytes apex at n old new (Err refusal.Memory) = Unit {0}
+ReadsNext bytes apex at n old new (Err (refusal.Refused line kind)) = says.zone_from apex n (lines_of (drop at bytes)) None old ≡ Err (record { line = line; kind = kind })
 
 -- an entry is taken, or the refusal wanted was given
 abbrev pub Checks : Result (Unit {0}) ZoneRefusal → ℕ → List (List ℕ) → List Rrset → Type 0

@@ -44,7 +44,7 @@ fn read_data(
 #[tactic(auto, unfolding(zone_model::specs::MasterFile::record_says))]
 fn read_record(
     alloc: Global,
-    top: &Name,
+    apex: &Name,
     last: u32,
     owner: &Name,
     bytes: &[u8],
@@ -52,9 +52,9 @@ fn read_record(
     reader: &mut Reader,
 ) -> Result<(), ZoneRefusal>
     requires placed { All (IsPlaced bytes.now) words.now }
-    requires held { AllHeld top.now reader.old.owners.owned.entries }
-    ensures held { OnOk result (AllHeld top.now reader.new.owners.owned.entries) }
-    ensures gives { Gives result (reader_view reader.new) (record_says top.now last owner.now (map (token_view bytes.now) words.now) (reader_view reader.old)) }
+    requires held { AllHeld apex.now reader.old.owners.owned.entries }
+    ensures held { OnOk result (AllHeld apex.now reader.new.owners.owned.entries) }
+    ensures gives { Gives result (reader_view reader.new) (record_says apex.now last owner.now (map (token_view bytes.now) words.now) (reader_view reader.old)) }
 {
     let front = front_of(bytes, last, words)?;
     let rdata = read_data(alloc, last, front, bytes, words, &reader.origin)?;
@@ -68,7 +68,7 @@ fn read_record(
     };
     reader
         .owners
-        .add(alloc, top, last, owner, front.rtype, time, rdata)?;
+        .add(alloc, apex, last, owner, front.rtype, time, rdata)?;
     if front.time.is_some() {
         reader.last_time = front.time;
     }
@@ -160,7 +160,7 @@ fn last_line(first: u32, tokens: &[Token]) -> u32
 #[tactic(auto, unfolding(zone_model::specs::MasterFile::entry_says))]
 pub fn read_entry(
     alloc: Global,
-    top: &Name,
+    apex: &Name,
     line: u32,
     blank: bool,
     bytes: &[u8],
@@ -168,9 +168,9 @@ pub fn read_entry(
     reader: &mut Reader,
 ) -> Result<(), ZoneRefusal>
     requires placed { All (IsPlaced bytes.now) tokens.now }
-    requires held { AllHeld top.now reader.old.owners.owned.entries }
-    ensures held { OnOk result (AllHeld top.now reader.new.owners.owned.entries) }
-    ensures gives { Gives result (reader_view reader.new) (entry_says top.now line blank (map (token_view bytes.now) tokens.now) (reader_view reader.old)) }
+    requires held { AllHeld apex.now reader.old.owners.owned.entries }
+    ensures held { OnOk result (AllHeld apex.now reader.new.owners.owned.entries) }
+    ensures gives { Gives result (reader_view reader.new) (entry_says apex.now line blank (map (token_view bytes.now) tokens.now) (reader_view reader.old)) }
 {
     let Some((first, rest)) = tokens.split_first() else {
         return Ok(());
@@ -180,7 +180,7 @@ pub fn read_entry(
         let Some(owner) = reader.owner else {
             return Err(refuse(line, ZoneKind::NoOwner));
         };
-        return read_record(alloc, top, last, &owner, bytes, tokens, reader);
+        return read_record(alloc, apex, last, &owner, bytes, tokens, reader);
     }
     if is_directive(bytes, *first) {
         return read_directive(bytes, *first, rest, reader);
@@ -188,5 +188,5 @@ pub fn read_entry(
     let Some(owner) = name_word(bytes, &reader.origin, *first) else {
         return Err(refuse(first.line, ZoneKind::BadName));
     };
-    read_record(alloc, top, last, &owner, bytes, rest, reader)
+    read_record(alloc, apex, last, &owner, bytes, rest, reader)
 }

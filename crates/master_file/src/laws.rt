@@ -11,13 +11,13 @@ ghost use Rattle.master_file.specs.Rows.{IsRecord, row_added, read_on, zone_of_r
 /// A printed record is read as that record, whatever was read before and whatever the origin; and reading goes on at the
 /// line behind it.
 pub fn printed_records_read_back()
-    ensures { (row : Row) → IsRecord row → (top : Name) (line : ℕ) (rest : List ℕ) (reader : Reader) →
-        zone_from top line (lines_of (row_text row ++ rest)) None reader
-        ≡ read_on top (line + 1) rest (row_added top line row reader) }
+    ensures { (row : Row) → IsRecord row → (apex : Name) (line : ℕ) (rest : List ℕ) (reader : Reader) →
+        zone_from apex line (lines_of (row_text row ++ rest)) None reader
+        ≡ read_on apex (line + 1) rest (row_added apex line row reader) }
 {}
 
 /// Printed records are read as the zone that these records make, or refused where one of them can't join those before it.
 pub fn printed_zones_read_back()
-    ensures { (rows : List Row) → AllByRecursion IsRecord rows → (top : Name) →
-        zone_of top (lines_of (flat_map row_text rows)) ≡ zone_of_rows top rows }
+    ensures { (rows : List Row) → AllByRecursion IsRecord rows → (apex : Name) →
+        zone_of apex (lines_of (flat_map row_text rows)) ≡ zone_of_rows apex rows }
 {}

@@ -24,12 +24,12 @@ use std::marker::Model;
 use std::mem::replace;
 use zone_model::ZoneKind;
 
-fn new_reader(alloc: Global, top: &Name) -> Reader
-    ensures first { reader_view result ≡ at_first top.now }
+fn new_reader(alloc: Global, apex: &Name) -> Reader
+    ensures first { reader_view result ≡ at_first apex.now }
     ensures none { result.owners.owned.entries ≡ [] }
 {
     Reader {
-        origin: *top,
+        origin: *apex,
         set_time: None,
         last_time: None,
         minimum: None,
@@ -45,23 +45,23 @@ fn read_next(
     bytes: &[u8],
     at: u32,
     line: u32,
-    top: &Name,
+    apex: &Name,
     reader: &mut Reader,
     lent: &mut Vec<Token>,
 ) -> Result<(u32, u32), ZoneRefusal>
     requires inside { at < length bytes.now }
     requires short { length bytes.now ≤ 2 ^ 24 }
     requires below { line ≤ at + 1 }
-    requires held { AllHeld top.now reader.old.owners.owned.entries }
-    ensures held { IfOk result (λ _. AllHeld top.now reader.new.owners.owned.entries) }
-    ensures reads { ReadsNext bytes.now top.now at line (reader_view reader.old) (reader_view reader.new) result }
+    requires held { AllHeld apex.now reader.old.owners.owned.entries }
+    ensures held { IfOk result (λ _. AllHeld apex.now reader.new.owners.owned.entries) }
+    ensures reads { ReadsNext bytes.now apex.now at line (reader_view reader.old) (reader_view reader.new) result }
     ensures places { IfOk result (λ x. (at < x.0) × (x.0 ≤ length bytes.now) × (x.1 ≤ x.0 + 1) × (x.1 + length (lines_of (drop x.0 bytes.now)) ≡ line + length (lines_of (drop at bytes.now)))) }
 {
     let lexed = match scan_entry(replace(lent, Vec::new(alloc)), bytes, at, line) {
         Ok(lexed) => lexed,
         Err(refusal) => return Err(refusal),
     };
-    match read_entry(alloc, top, line, lexed.blank, bytes, &lexed.tokens, reader) {
+    match read_entry(alloc, apex, line, lexed.blank, bytes, &lexed.tokens, reader) {
         Ok(()) => {
             let behind = (lexed.next, lexed.next_line);
             *lent = lexed.tokens;
@@ -76,20 +76,20 @@ fn read_next(
 fn read_entries(
     alloc: Global,
     bytes: &[u8],
-    top: &Name,
+    apex: &Name,
     reader: &mut Reader,
 ) -> Result<u32, ZoneRefusal>
     requires short { length bytes.now ≤ 2 ^ 24 }
-    requires held { AllHeld top.now reader.old.owners.owned.entries }
-    ensures held { IfOk result (λ _. AllHeld top.now reader.new.owners.owned.entries) }
-    ensures zone { ReadsAll result (reader_view reader.new) (zone_from top.now 1 (lines_of bytes.now) None (reader_view reader.old)) }
+    requires held { AllHeld apex.now reader.old.owners.owned.entries }
+    ensures held { IfOk result (λ _. AllHeld apex.now reader.new.owners.owned.entries) }
+    ensures zone { ReadsAll result (reader_view reader.new) (zone_from apex.now 1 (lines_of bytes.now) None (reader_view reader.old)) }
     ensures lines { IfOk result (λ n. n ≡ length (lines_of bytes.now) + 1) }
 {
     let mut lent = Vec::new(alloc);
     let mut at = 0;
     let mut line = 1;
     while (at as usize) < bytes.len() {
-        match read_next(alloc, bytes, at, line, top, reader, &mut lent) {
+        match read_next(alloc, bytes, at, line, apex, reader, &mut lent) {
             Ok((next, next_line)) => {
                 at = next;
                 line = next_line;

@@ -9,8 +9,8 @@ use Rattle.zone_model.specs.Data.{ahead, taken, read_fields, word_octets}
 use Rattle.rr_data.specs.Tokens.{IsPlaced, token_view}
 use Rattle.rr_data.specs.Fields.{field_view}
 use Rattle.rr_data.specs.declared.token.Token.{Token}
-use Rattle.rr_data.specs.declared.fields.Field.{Field}
-use Rattle.rr_data.specs.declared.fields.Field.TheVariants.{Name}
+use Rattle.rr_data.specs.declared.types.Field.{Field}
+use Rattle.rr_data.specs.declared.types.Field.TheVariants.{Name}
 
 -- what is ahead of a refusal is refused alike
 pub ahead_refused : (first : List ℕ) (wanted : Result (List ℕ) DataRefusal) (e : DataRefusal) → ahead first wanted ≡ Err e → wanted ≡ Err e

@@ -19,9 +19,10 @@ use Rattle.zone_model.specs.Splits.{split_octets, split_name}
 use Rattle.zone_model.specs.Grammar as says
 use Rattle.zone_model.specs.Grammar.{Token, Run, stops_word, stops_quote, Spelled, Spells}
 use Rattle.zone_model.specs.DataWords.{paired}
-use Rattle.zone_model.specs.DataForms.{Field, NameField, ShortField, NumberField, TimeField, AddressField, Address6Field, fields_of, split_time, field_rest, fits_behind, fields_fit, strings_fit, known_fit, form_fits}
-use Rattle.zone_model.specs.Data.{word_octets, ahead, taken, read_fields, string_octets, read_strings, read_digits, read_counted, read_generic, is_generic, of_form, by_fields, read_typed, data_of}
-use Rattle.zone_model.specs.DataText.{address_text, groups_text, field_text, fields_text, string_text, quoted_text, strings_text, hex_text, generic_text, typed_text, data_text}
+use Rattle.zone_model.specs.Types.{Field, NameField, ShortField, NumberField, TimeField, AddressField, Address6Field, Form, Fields, Strings, form_of}
+use Rattle.zone_model.specs.DataForms.{split_time, field_rest, fits_behind, fields_fit, strings_fit, fits_form, form_fits}
+use Rattle.zone_model.specs.Data.{word_octets, ahead, taken, read_fields, string_octets, read_strings, read_digits, read_counted, read_generic, is_generic, of_form, read_formed, read_typed, data_of}
+use Rattle.zone_model.specs.DataText.{address_text, groups_text, field_text, fields_text, string_text, quoted_text, strings_text, hex_text, generic_text, formed_text, typed_text, data_text}
 use Rattle.zone_model.proofs.SplitLemmas.{IsBytes, name_sound, SplitsName}
 use Rattle.rr_data.proofs.FormLemmas.{all_append}
 use Rattle.rr_data.proofs.PrintedLemmas.{bytes_of, string_back, number_back, digits_back_of}
@@ -330,7 +331,7 @@ pub record DataBack (n rtype : ℕ) (octets : List ℕ) : Type 0 where
   pub read : (origin : Name) → data_of origin rtype tokens ≡ of_form rtype octets
 
 typed_read : (origin : Name) (rtype : ℕ) (first : Token) (others : List Token) → is_generic (first ∷ others) ≡ false
-    → data_of origin rtype (first ∷ others) ≡ cond (eqb rtype 16) (read_strings 0 65535 (first ∷ others)) (by_fields origin (fields_of rtype) (first ∷ others))
+    → data_of origin rtype (first ∷ others) ≡ read_formed origin (form_of rtype) (first ∷ others)
 unfolding data_of
 typed_read origin rtype first others g = ap (λ t. cond t (read_generic others >>= of_form rtype) (read_typed origin rtype (first ∷ others))) g
 
@@ -343,33 +344,32 @@ unfolding strings_text
 some_strings left [] text h = absurd cc
 some_strings left (c ∷ octets) text h = grind (arith, nat_tests)
 
-fits_form : (rtype : ℕ) (octets : List ℕ) → form_fits rtype octets ≡ true → of_form rtype octets ≡ Ok octets
-fits_form rtype octets h = ap (λ t. cond t (Ok octets) (Err (BadRdata 0))) h
+data_fits : (rtype : ℕ) (octets : List ℕ) → form_fits rtype octets ≡ true → of_form rtype octets ≡ Ok octets
+data_fits rtype octets h = ap (λ t. cond t (Ok octets) (Err (BadRdata 0))) h
 
-by_type : (n rtype : ℕ) (octets text : List ℕ) → IsBytes octets → length octets ≤ 65535 → (s : Bool) → eqb rtype 16 ≡ s → (fs : Option (List Field)) → fields_of rtype ≡ fs
-    → cond s (strings_text (length octets) octets) (option_and_then (λ fields. fields_text fields octets) fs) ≡ Some text → data_text rtype octets ≡ text → DataBack n rtype octets
+by_form : (n rtype : ℕ) (octets text : List ℕ) → IsBytes octets → length octets ≤ 65535 → (o : Option Form) → form_of rtype ≡ o → formed_text o octets ≡ Some text → data_text rtype octets ≡ text → DataBack n rtype octets
 unfolding fields_text
-by_type n rtype octets text b le true e fs f h t =
+by_form n rtype octets text b le None f h t = absurd cc
+by_form n rtype octets text b le (Some Strings) f h t =
     let i : StringsBack n (length octets) text octets = strings_back n (length octets) octets text b h in
     let some = some_strings (length octets) octets text h in
-    let form : form_fits rtype octets ≡ true = rw (e, some) i.fit in
+    let fit : (ltb 0 (length octets) && strings_fit (length octets) octets) ≡ true = rw some i.fit in
+    let form : form_fits rtype octets ≡ true = ap (λ o. fits_form o octets) f ∙ fit in
     record {
       tokens = i.first ∷ i.others;
       spelled = subst (λ (l : List ℕ). Spells n [] l (plain (i.first ∷ i.others))) (sym t) i.spelled;
       shown = subst AllShown (sym t) i.shown;
-      read = λ origin. typed_read origin rtype i.first i.others i.typed ∙ ap (λ s. cond s (read_strings 0 65535 (i.first ∷ i.others)) (by_fields origin (fields_of rtype) (i.first ∷ i.others))) e ∙ i.read 0 65535 le ∙ sym (fits_form rtype octets form);
+      read = λ origin. typed_read origin rtype i.first i.others i.typed ∙ ap (λ o. read_formed origin o (i.first ∷ i.others)) f ∙ i.read 0 65535 le ∙ sym (data_fits rtype octets form);
     }
-by_type n rtype octets text b le false e None f h t = absurd cc
-by_type n rtype octets text b le false e (Some []) f h t = absurd cc
-by_type n rtype octets text b le false e (Some (field ∷ fields)) f h t =
+by_form n rtype octets text b le (Some (Fields [])) f h t = absurd cc
+by_form n rtype octets text b le (Some (Fields (field ∷ fields))) f h t =
     let i : FieldsBack n (field ∷ fields) text octets = fields_back n field fields octets text b h in
-    let form : form_fits rtype octets ≡ true = ap (λ s. cond s (ltb 0 (length octets) && strings_fit (length octets) octets) (known_fit (fields_of rtype) octets)) e ∙ ap (λ o. known_fit o octets) f ∙ i.fit in
+    let form : form_fits rtype octets ≡ true = ap (λ o. fits_form o octets) f ∙ i.fit in
     record {
       tokens = i.first ∷ i.others;
       spelled = subst (λ (l : List ℕ). Spells n [] l (plain (i.first ∷ i.others))) (sym t) i.spelled;
       shown = subst AllShown (sym t) i.shown;
-      read = λ origin. typed_read origin rtype i.first i.others i.typed ∙ ap (λ s. cond s (read_strings 0 65535 (i.first ∷ i.others)) (by_fields origin (fields_of rtype) (i.first ∷ i.others))) e
-          ∙ ap (λ o. by_fields origin o (i.first ∷ i.others)) f ∙ i.read origin 0 ∙ sym (fits_form rtype octets form);
+      read = λ origin. typed_read origin rtype i.first i.others i.typed ∙ ap (λ o. read_formed origin o (i.first ∷ i.others)) f ∙ i.read origin 0 ∙ sym (data_fits rtype octets form);
     }
 
 pub data_back : (n rtype : ℕ) (octets : List ℕ) → IsBytes octets → length octets ≤ 65535 → DataBack n rtype octets
@@ -384,4 +384,4 @@ data_back n rtype octets b le = by_text (typed_text rtype octets) refl
           shown = subst AllShown (sym (ap (λ o. unwrap_or o (generic_text octets)) e)) g.shown;
           read = λ origin. generic_read origin rtype g.tokens octets g.generic g.read;
         }
-    by_text (Some text) e = by_type n rtype octets text b le (eqb rtype 16) refl (fields_of rtype) refl e (ap (λ o. unwrap_or o (generic_text octets)) e)
+    by_text (Some text) e = by_form n rtype octets text b le (form_of rtype) refl e (ap (λ o. unwrap_or o (generic_text octets)) e)

@@ -17,7 +17,8 @@ use Rattle.zone_model.specs.Splits.{split_octets, split_name}
 use Rattle.zone_model.specs.Texts.{named, number, address, address_part, all_some}
 use Rattle.zone_model.specs.Addresses.{hex_from, group, last_group, last_groups_of, parts_of, begins_with_colon, double_at, by_double, address6, whole_address, joined}
 use Rattle.zone_model.specs.DataWords.{most_time}
-use Rattle.zone_model.specs.DataForms.{Field, NameField, ShortField, NumberField, TimeField, AddressField, Address6Field, split_time}
+use Rattle.zone_model.specs.Types.{Field, NameField, ShortField, NumberField, TimeField, AddressField, Address6Field}
+use Rattle.zone_model.specs.DataForms.{split_time}
 use Rattle.zone_model.specs.Data.{field_octets}
 use Rattle.zone_model.specs.DataText.{hex_digit, digit_at, group_text, groups_text, address_text, field_text}
 use Rattle.zone_model.proofs.SplitLemmas.{IsBytes, name_sound, SplitsName}

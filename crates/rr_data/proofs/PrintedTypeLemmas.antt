@@ -1,56 +1,79 @@
--- A printed type is read as that type, unless it is none that data has.
-use Rattle.std.proofs.Common.{◌≡◌, ℕ, ◌<◌, ◌≤◌, ◌^◌, Bool, true, false, cond, eqb, List, ◌++◌, length, codes, refl, sym, ap, subst, arith, option_and_then, length-append}
-use borrow.Author.Tests.{eqb-true}
+-- A printed type is read as that type, unless it is none that data has. What is said of named types is a test of the table's rows,
+-- which is computed.
+use Rattle.std.proofs.Common.{◌≡◌, ◌∙◌, ℕ, ◌<◌, ◌≤◌, ◌^◌, Bool, true, false, ◌&&◌, eqb, ltb, List, ◌++◌, length, codes, refl, sym, ap, subst, arith, Option, Some, None, option_and_then, length-append}
+use borrow.Author.Tests.{eqb-true, ltb-true}
 use Rattle.std.specs.Fmt.{decimal}
 use Rattle.std.specs.List.{list_all}
-use Rattle.std.specs.Char.{is_ascii_alphabetic}
+use Rattle.std.specs.Char.{is_ascii_alphanumeric}
+use Rattle.zone_model.specs.Types.{NamedType, named_types, type_numbered}
 use Rattle.zone_model.specs.DataWords.{data_type, type_named}
-use Rattle.zone_model.specs.DataText.{type_text}
+use Rattle.zone_model.specs.DataText.{type_text, mnemonic_in}
 use Rattle.zone_model.specs.Grammar.{stops_word}
+use Rattle.zone_model.proofs.TypeLaws.{found_passes}
 use Rattle.rr_data.proofs.PrintedLemmas.{number_back}
-use Rattle.rr_data.proofs.PrintedWordLemmas.{Shows, alphabetic_word, decimal_word, shows_append}
+use Rattle.rr_data.proofs.PrintedWordLemmas.{Shows, both, alphanumeric_word, decimal_word, shows_append}
 
--- one type's mnemonic, or else what other types are printed as
-choose : (P : List ℕ → ℕ → Type 0) (n k : ℕ) (mnemonic others : List ℕ) → P mnemonic k → P others n → P (cond (eqb n k) mnemonic others) n
-choose P n k mnemonic others h f = by_test (eqb n k) refl
-  where
-    by_test : (b : Bool) → eqb n k ≡ b → P (cond b mnemonic others) n
-    by_test true e = subst (P mnemonic) (sym (eqb-true n k e)) h
-    by_test false e = f
+-- ---- a mnemonic is read as its number, which is one of data
 
-abbrev IsRead : List ℕ → ℕ → Type 0
-IsRead text n = type_named text ≡ data_type n
+is_number : Option ℕ → ℕ → Bool
+is_number None k = false
+is_number (Some n) k = eqb n k
+
+number_is : (o : Option ℕ) (k : ℕ) → is_number o k ≡ true → o ≡ Some k
+unfolding is_number
+number_is None k h = absurd cc
+number_is (Some n) k h = ap Some (eqb-true n k h)
+
+is_told : NamedType → Bool
+unfolding type_named
+is_told t = is_number (type_named t.mnemonic) t.number && is_number (data_type t.number) t.number
+
+all_told : list_all is_told named_types ≡ true
+unfolding is_told is_number type_named
+all_told = refl
 
 numbered_type : (n : ℕ) → n ≤ 65535 → type_named (codes "TYPE" ++ decimal n) ≡ data_type n
 unfolding type_named
 numbered_type n h = ap (option_and_then data_type) (number_back 65535 n (omega arith) h)
 
 pub type_back : (n : ℕ) → n ≤ 65535 → type_named (type_text n) ≡ data_type n
-unfolding type_named
-type_back n h =
-    choose IsRead n 1 (codes "A") _ refl (choose IsRead n 2 (codes "NS") _ refl (choose IsRead n 5 (codes "CNAME") _ refl (choose IsRead n 6 (codes "SOA") _ refl
-    (choose IsRead n 12 (codes "PTR") _ refl (choose IsRead n 15 (codes "MX") _ refl (choose IsRead n 16 (codes "TXT") _ refl (choose IsRead n 28 (codes "AAAA") _ refl
-    (choose IsRead n 33 (codes "SRV") (codes "TYPE" ++ decimal n) refl (numbered_type n h)))))))))
+unfolding is_told
+type_back n h = by_row (type_numbered n) refl
+  where
+    by_row : (o : Option NamedType) → type_numbered n ≡ o → type_named (mnemonic_in o n) ≡ data_type n
+    by_row None e = numbered_type n h
+    by_row (Some t) e =
+        let f = found_passes is_told (λ (t : NamedType). eqb t.number n) named_types t all_told e in
+        let g = both (is_number (type_named t.mnemonic) t.number) (is_number (data_type t.number) t.number) f.0 in
+        number_is (type_named t.mnemonic) t.number g.0 ∙ sym (number_is (data_type t.number) t.number g.1) ∙ ap data_type (eqb-true t.number n f.1)
 
--- a word of letters and digits
+-- ---- a printed type is a word of letters and digits
+
 pub record IsTypeWord (text : List ℕ) (n : ℕ) : Type 0 where
   pub some : 0 < length text
   pub shows : Shows stops_word text
 
-letters : (text : List ℕ) (n : ℕ) → 0 < length text → list_all is_ascii_alphabetic text ≡ true → IsTypeWord text n
-letters text n l h = record { some = l; shows = alphabetic_word text h }
+is_mnemonic : NamedType → Bool
+is_mnemonic t = ltb 0 (length t.mnemonic) && list_all is_ascii_alphanumeric t.mnemonic
+
+all_mnemonics : list_all is_mnemonic named_types ≡ true
+unfolding is_mnemonic
+all_mnemonics = refl
 
 numbered_word : (n : ℕ) → n ≤ 65535 → IsTypeWord (codes "TYPE" ++ decimal n) n
 numbered_word n h =
     let small : n < 2 ^ 64 = omega arith in record {
       some = omega (arith, length-append (codes "TYPE") (decimal n));
-      shows = shows_append (alphabetic_word (codes "TYPE") refl) (decimal n) (decimal_word n small);
+      shows = shows_append (alphanumeric_word (codes "TYPE") refl) (decimal n) (decimal_word n small);
     }
 
 pub type_is_word : (n : ℕ) → n ≤ 65535 → IsTypeWord (type_text n) n
-type_is_word n h =
-    choose IsTypeWord n 1 (codes "A") _ (letters _ _ (omega arith) refl) (choose IsTypeWord n 2 (codes "NS") _ (letters _ _ (omega arith) refl)
-    (choose IsTypeWord n 5 (codes "CNAME") _ (letters _ _ (omega arith) refl) (choose IsTypeWord n 6 (codes "SOA") _ (letters _ _ (omega arith) refl)
-    (choose IsTypeWord n 12 (codes "PTR") _ (letters _ _ (omega arith) refl) (choose IsTypeWord n 15 (codes "MX") _ (letters _ _ (omega arith) refl)
-    (choose IsTypeWord n 16 (codes "TXT") _ (letters _ _ (omega arith) refl) (choose IsTypeWord n 28 (codes "AAAA") _ (letters _ _ (omega arith) refl)
-    (choose IsTypeWord n 33 (codes "SRV") (codes "TYPE" ++ decimal n) (letters _ _ (omega arith) refl) (numbered_word n h)))))))))
+unfolding is_mnemonic
+type_is_word n h = by_row (type_numbered n) refl
+  where
+    by_row : (o : Option NamedType) → type_numbered n ≡ o → IsTypeWord (mnemonic_in o n) n
+    by_row None e = numbered_word n h
+    by_row (Some t) e =
+        let f = found_passes is_mnemonic (λ (t : NamedType). eqb t.number n) named_types t all_mnemonics e in
+        let g = both (ltb 0 (length t.mnemonic)) (list_all is_ascii_alphanumeric t.mnemonic) f.0 in
+        record { some = ltb-true 0 (length t.mnemonic) g.0; shows = alphanumeric_word t.mnemonic g.1 }

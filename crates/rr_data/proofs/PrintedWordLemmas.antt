@@ -5,7 +5,7 @@ use Rattle.std.proofs.lemmas.Slice.Eq.{bytes_eq-Decides}
 use Rattle.std.specs.Str.{bytes_eq}
 use Rattle.std.specs.List.{list_all, flat_map, AllByRecursion}
 use Rattle.std.specs.Int.{w16, from_be_bytes}
-use Rattle.std.specs.Char.{is_ascii_alphabetic, is_ascii_digit, is_ascii_hexdigit}
+use Rattle.std.specs.Char.{is_ascii_alphabetic, is_ascii_alphanumeric, is_ascii_digit, is_ascii_hexdigit}
 use Rattle.std.specs.Fmt.{decimal}
 use Rattle.std.proofs.lemmas.Fmt.{decimal_nonempty}
 use Rattle.zone_model.specs.Names.{Name, Label}
@@ -22,7 +22,7 @@ run_append says.Empty b r = r
 run_append (says.Plain c text e h) b r = says.Plain c (text ++ b) e (run_append h b r)
 run_append (says.Escaped c text h) b r = says.Escaped c (text ++ b) (run_append h b r)
 
-both : (a b : Bool) → (a && b) ≡ true → (a ≡ true) × (b ≡ true)
+pub both : (a b : Bool) → (a && b) ≡ true → (a ≡ true) × (b ≡ true)
 both true b h = (refl, h)
 both false b h = absurd cc
 
@@ -95,6 +95,15 @@ letter_shown c h = grind (arith, nat_tests)
 
 pub alphabetic_word : (text : List ℕ) → list_all is_ascii_alphabetic text ≡ true → Shows stops_word text
 alphabetic_word text h = record { run = run_all stops_word is_ascii_alphabetic text letter_goes_on h; shown = shown_all is_ascii_alphabetic text letter_shown h }
+
+alphanumeric_goes_on : (c : ℕ) → is_ascii_alphanumeric c ≡ true → stops_word c ≡ false
+alphanumeric_goes_on c h = grind (arith, nat_tests)
+
+alphanumeric_shown : (c : ℕ) → is_ascii_alphanumeric c ≡ true → is_shown c ≡ true
+alphanumeric_shown c h = grind (arith, nat_tests)
+
+pub alphanumeric_word : (text : List ℕ) → list_all is_ascii_alphanumeric text ≡ true → Shows stops_word text
+alphanumeric_word text h = record { run = run_all stops_word is_ascii_alphanumeric text alphanumeric_goes_on h; shown = shown_all is_ascii_alphanumeric text alphanumeric_shown h }
 
 pub hex_word : (text : List ℕ) → list_all is_ascii_hexdigit text ≡ true → Shows stops_word text
 hex_word text h = record { run = run_all stops_word is_ascii_hexdigit text hexdigit_goes_on h; shown = shown_all is_ascii_hexdigit text hexdigit_shown h }

@@ -5,13 +5,13 @@ ghost use Rattle.std.specs.Option.{option_map};
 ghost use Rattle.std.specs.List.{flat_map};
 ghost use Rattle.std.specs.Int.{w32, from_be_bytes};
 ghost use Rattle.zone_model.specs.DataText.{type_text, data_text, typed_text, fields_text, strings_text, field_text, address_text, groups_text, group_text, digit_at, generic_text, hex_digit, hex_text, string_octet, string_text, quoted_text};
-ghost use Rattle.zone_model.specs.DataForms.{NameField, ShortField, NumberField, TimeField};
+ghost use Rattle.zone_model.specs.Types.{NameField, ShortField, NumberField, TimeField};
 ghost use Rattle.rr_data.specs.Printing.{PrintsField, PrintsFields};
 ghost use Rattle.rr_data.specs.Fields.{field_view};
 
-use crate::fields::{Field, fields_of};
 use crate::rdata::Rdata;
 use crate::splits::{number_of, short_of, split_name, split_octets, split_time};
+use crate::types::{Field, Form, form_of, type_numbered};
 use itoa::Buffer;
 use std::alloc::AllocError;
 
@@ -28,17 +28,9 @@ pub fn push_type(rtype: u16, out: &mut Vec<u8>) -> Result<(), AllocError>
     ensures ok { OnOk result (out.new.items ≡ out.old.items ++ type_text rtype) }
     ensures kept { StartsWith out.new.items out.old.items }
 {
-    match rtype {
-        1 => out.extend_from_slice(b"A"),
-        2 => out.extend_from_slice(b"NS"),
-        5 => out.extend_from_slice(b"CNAME"),
-        6 => out.extend_from_slice(b"SOA"),
-        12 => out.extend_from_slice(b"PTR"),
-        15 => out.extend_from_slice(b"MX"),
-        16 => out.extend_from_slice(b"TXT"),
-        28 => out.extend_from_slice(b"AAAA"),
-        33 => out.extend_from_slice(b"SRV"),
-        _ => {
+    match type_numbered(rtype) {
+        Some(row) => out.extend_from_slice(row.mnemonic),
+        None => {
             out.extend_from_slice(b"TYPE")?;
             push_decimal(out, u32::from(rtype))
         }
@@ -308,11 +300,9 @@ fn push_typed(rtype: u16, octets: &[u8], out: &mut Vec<u8>) -> Result<bool, Allo
     ensures ok { IfOk result (λ fits. PrintsFields fits out.old.items out.new.items (typed_text rtype octets.now)) }
     ensures kept { StartsWith out.new.items out.old.items }
 {
-    if rtype == 16 {
-        return push_strings(octets, out);
-    }
-    match fields_of(rtype) {
-        Some(fields) => push_fields(fields, octets, out),
+    match form_of(rtype) {
+        Some(Form::Fields(fields)) => push_fields(fields, octets, out),
+        Some(Form::Strings) => push_strings(octets, out),
         None => Ok(false),
     }
 }

@@ -5,7 +5,7 @@ ghost use Rattle.zone_model.specs.Data.{field_octets, word_octets, read_fields};
 ghost use Rattle.std.specs.Option.{option_map};
 ghost use Rattle.std.specs.Int.{w16, w32, to_be_bytes};
 ghost use Rattle.zone_model.specs.Texts.{number};
-ghost use Rattle.zone_model.specs.DataForms.{fields_of, NameField};
+ghost use Rattle.zone_model.specs.Types.{NameField};
 ghost use Rattle.zone_model.specs.DataWords.{time_of};
 ghost use Rattle.rr_data.specs.Tokens.{IsPlaced, token_view};
 ghost use Rattle.rr_data.specs.Pushing.{PushesAll};
@@ -15,45 +15,10 @@ ghost use Rattle.rr_data.specs.Fields.{field_view};
 use crate::addresses::{push_address, push_address6};
 use crate::refusal::RdataRefusal;
 use crate::token::Token;
+use crate::types::Field;
 use crate::words::{number, time_of};
 use dns_name::Name;
 use std::alloc::{AllocError, Global};
-
-// A part of a type's data, which one word says.
-#[derive(Clone, Copy)]
-pub enum Field {
-    Name,
-    Short,
-    Number,
-    Time,
-    Address,
-    Address6,
-}
-
-const SOA: [Field; 7] = [
-    Field::Name,
-    Field::Name,
-    Field::Number,
-    Field::Time,
-    Field::Time,
-    Field::Time,
-    Field::Time,
-];
-
-// The fields of a type's data, for the types whose data is a row of them.
-pub fn fields_of(rtype: u16) -> Option<&'static [Field]>
-    ensures { option_map (λ f. map field_view f.now) result ≡ fields_of rtype }
-{
-    match rtype {
-        1 => Some(&[Field::Address]),
-        2 | 5 | 12 => Some(&[Field::Name]),
-        6 => Some(&SOA),
-        15 => Some(&[Field::Short, Field::Name]),
-        28 => Some(&[Field::Address6]),
-        33 => Some(&[Field::Short, Field::Short, Field::Short, Field::Name]),
-        _ => None,
-    }
-}
 
 fn push_name(origin: &Name, text: &[u8], out: &mut Vec<u8>) -> Result<bool, AllocError>
     ensures { IfOk result (λ good. PushesAll good out.old.items out.new.items (field_octets origin.now NameField text.now)) }

@@ -3,12 +3,13 @@ ghost use Rattle.std.specs.Prelude.{◌≡◌, ◌<◌, ◌≤◌, ◌+◌, ◌+
 ghost use Rattle.std.specs.Option.{option_map};
 ghost use Rattle.std.specs.List.{list_all};
 ghost use Rattle.std.specs.Char.{to_ascii_lowercase};
-ghost use Rattle.zone_model.specs.DataForms.{NameField, TimeField, field_rest, fields_fit, strings_fit, form_fits};
+ghost use Rattle.zone_model.specs.Types.{NameField, TimeField};
+ghost use Rattle.zone_model.specs.DataForms.{field_rest, fields_fit, strings_fit, form_fits};
 ghost use Rattle.zone_model.specs.Splits.{split_octets};
 ghost use Rattle.rr_data.specs.Fields.{field_view};
 
-use crate::fields::{Field, fields_of};
 use crate::splits::{split_name, split_octets, split_time};
+use crate::types::{Field, Form, form_of};
 
 // What stands behind a field that octets begin with.
 fn field_rest(field: Field, octets: &[u8]) -> Option<&[u8]>
@@ -86,11 +87,9 @@ fn strings_fit(octets: &[u8]) -> bool
 pub fn form_fits(rtype: u16, octets: &[u8]) -> bool
     ensures { result ≡ form_fits rtype octets.now }
 {
-    if rtype == 16 {
-        return !octets.is_empty() && strings_fit(octets);
-    }
-    match fields_of(rtype) {
-        Some(fields) => fields_fit(fields, octets),
+    match form_of(rtype) {
+        Some(Form::Fields(fields)) => fields_fit(fields, octets),
+        Some(Form::Strings) => !octets.is_empty() && strings_fit(octets),
         None => true,
     }
 }

@@ -7,7 +7,7 @@ ghost use Rattle.zone_model.specs.Records.{Entry, IsItem};
 ghost use Rattle.zone_model.specs.Texts.{number};
 ghost use Rattle.zone_model.specs.Escapes.{escaped_octet, escape_len};
 ghost use Rattle.zone_model.specs.DataWords.{octets_from, unescaped, Slash, paired, time_of, data_type, type_named};
-ghost use Rattle.zone_model.specs.DataForms.{Field};
+ghost use Rattle.zone_model.specs.Types.{Field};
 ghost use Rattle.zone_model.specs.Data.{field_octets, of_form, data_of};
 ghost use Rattle.zone_model.specs.DataText.{field_text, string_text, hex_text, type_text, data_text};
 ghost use Rattle.zone_model.specs.Grammar.{Token, Spells};

@@ -22,6 +22,7 @@ mod single;
 mod splits;
 mod strings;
 mod token;
+mod types;
 mod views;
 mod words;
 

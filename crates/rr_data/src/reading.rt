@@ -5,13 +5,14 @@ ghost use Rattle.zone_model.specs.Data.{read_typed, data_of};
 ghost use Rattle.rr_data.specs.Tokens.{IsPlaced, token_view};
 ghost use Rattle.rr_data.specs.Pushing.{Pushes, ReadsData};
 
-use crate::fields::{fields_of, push_fields};
+use crate::fields::push_fields;
 use crate::forms::form_fits;
 use crate::generic::{is_generic, push_generic};
 use crate::rdata::Rdata;
 use crate::refusal::RdataRefusal;
 use crate::strings::push_strings;
 use crate::token::Token;
+use crate::types::{Form, form_of};
 use dns_name::Name;
 use std::alloc::Global;
 
@@ -27,15 +28,10 @@ fn push_typed(
     requires placed { All (IsPlaced bytes.now) tokens.now }
     ensures { Pushes result out.old.items out.new.items (read_typed origin.now rtype (map (token_view bytes.now) tokens.now)) }
 {
-    if rtype == 16 {
-        if tokens.is_empty() {
-            return Err(RdataRefusal::BadRdata { at: 0 });
-        }
-        return push_strings(bytes, tokens, out);
-    }
-    match fields_of(rtype) {
-        Some(fields) => push_fields(alloc, origin, bytes, fields, tokens, out),
-        None => Err(RdataRefusal::BadRdata { at: 0 }),
+    match form_of(rtype) {
+        Some(Form::Fields(fields)) => push_fields(alloc, origin, bytes, fields, tokens, out),
+        Some(Form::Strings) if !tokens.is_empty() => push_strings(bytes, tokens, out),
+        _ => Err(RdataRefusal::BadRdata { at: 0 }),
     }
 }
 

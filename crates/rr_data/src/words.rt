@@ -5,6 +5,8 @@ ghost use Rattle.std.specs.List.{list_all};
 ghost use Rattle.zone_model.specs.Texts.{number, at_most};
 ghost use Rattle.zone_model.specs.DataWords.{most_time, seconds, groups, time_of, is_word, type_named, numbered, data_type};
 
+use crate::types::type_spelled;
+
 /// The most seconds of a time to live (RFC 2181, section 8).
 pub const MOST_TIME: u32 = 2147483647;
 
@@ -140,25 +142,8 @@ fn data_type(number: u16) -> Option<u16>
 pub fn read_type(text: &[u8]) -> Option<u16>
     ensures { result ≡ type_named text.now }
 {
-    if is_word(text, b"A") {
-        Some(1)
-    } else if is_word(text, b"NS") {
-        Some(2)
-    } else if is_word(text, b"CNAME") {
-        Some(5)
-    } else if is_word(text, b"SOA") {
-        Some(6)
-    } else if is_word(text, b"PTR") {
-        Some(12)
-    } else if is_word(text, b"MX") {
-        Some(15)
-    } else if is_word(text, b"TXT") {
-        Some(16)
-    } else if is_word(text, b"AAAA") {
-        Some(28)
-    } else if is_word(text, b"SRV") {
-        Some(33)
-    } else {
-        data_type(numbered(text, b"TYPE")?)
+    match type_spelled(text) {
+        Some(row) => Some(row.number),
+        None => data_type(numbered(text, b"TYPE")?),
     }
 }

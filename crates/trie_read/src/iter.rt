@@ -52,6 +52,15 @@ impl Iter {
         }
     }
 
+    /// Before the first name of a trie, from wherever in whatever trie it stood. It clears nothing, so one iterator serves many walks.
+    pub fn restart(&mut self, root: Option<Ref>)
+        ensures { IsStart root self.new }
+    {
+        self.root = root;
+        self.path.depth = 0;
+        self.place = Place::Start;
+    }
+
     /// The next name's key; the place is then after it. `None` exactly at the end, and the place stays.
     pub fn next<C: CellRead>(&mut self, cells: &mut C) -> Option<Key>
         requires { StandsSomewhere (C.has cells.old) self.old }

@@ -69,6 +69,14 @@ pub trait Reading {
         ensures same { self.new ≡ self.old }
         ensures start { (version : List Entry) → holds self.old version → stands self.old result [] version };
 
+    /// Stands an iterator before the first name, from wherever in whatever version it stood. It may take less than another iterator.
+    fn restart(&mut self, iter: &mut Iter)
+        ensures same { self.new ≡ self.old }
+        ensures start { (version : List Entry) → holds self.old version → stands self.old iter.new [] version }
+    {
+        *iter = self.iter();
+    }
+
     /// Stands the iterator before the first name at or after the key's.
     fn seek(&mut self, iter: &mut Iter, key: &Key)
         requires { IsStanding (stands self.old iter.old) }
@@ -228,6 +236,10 @@ impl<C: CellRead + Drop> Reading for CellReading<C> {
 
     fn iter(&mut self) -> Iter {
         Iter::start(self.root)
+    }
+
+    fn restart(&mut self, iter: &mut Iter) {
+        iter.restart(self.root);
     }
 
     fn seek(&mut self, iter: &mut Iter, key: &Key) {

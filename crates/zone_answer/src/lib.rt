@@ -12,9 +12,11 @@ mod question;
 mod records;
 mod rows;
 mod step;
+mod walker;
 
 pub use answers::Answer;
 pub use kind::Kind;
-pub use question::{answer, answer_by};
+pub use question::{answer, answer_by, answer_with};
 pub use records::{entry_of, read_owned};
 pub use rows::{OwnedSet, Rows};
+pub use walker::Walker;

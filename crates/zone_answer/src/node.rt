@@ -9,9 +9,10 @@ ghost use Rattle.zone_answer.specs.Standing.{IsPlaced, IsVersion, StandsOn};
 
 use crate::near::Neighbours;
 use crate::records::Held;
+use crate::walker::Walker;
 use dns_name::Name;
 use shift_key::Key;
-use trie_read::{Ancestors, Iter, Reading};
+use trie_read::Reading;
 
 /// The longest name at or above a name that exists: each name at or above it exists exactly where a neighbour of its
 /// place is at or under it.
@@ -28,43 +29,42 @@ fn encloser(near: &Neighbours, name: &Name) -> Option<Name>
 /// The wildcard right under a name, if it exists. What it owns is read into a buffer.
 fn wildcard_under<V: Reading>(
     version: &mut V,
-    iter: &mut Iter,
+    walker: &mut Walker,
     name: &Name,
     item: &mut [u8; 4096],
 ) -> Option<Held>
-    requires { (zone : Version) × StandsOn (V.holds version.old) (V.stands version.old iter.old) zone }
+    requires { (zone : Version) × StandsOn (V.holds version.old) (V.stands version.old walker.old.iter) zone }
     ensures same { version.new ≡ version.old }
-    ensures node { (zone : Version) → StandsOn (V.holds version.old) (V.stands version.old iter.old) zone
+    ensures node { (zone : Version) → StandsOn (V.holds version.old) (V.stands version.old walker.old.iter) zone
         → IsNodeOf item.new (wildcard_under zone (Some name.now)) result }
 {
     let star = name.star()?;
     let _wire = star.wire();
-    let mut above = Ancestors::new();
-    if let Some(leaf) = version.lookup(iter, &Key::of(&star), &mut above) {
+    if let Some(leaf) = version.lookup(&mut walker.iter, &Key::of(&star), &mut walker.above) {
         let len = version.read(leaf, item);
         return Some(Held { name: star, len });
     }
-    if !Neighbours::of(version, iter).show(&star) {
+    if !Neighbours::of(version, &mut walker.iter).show(&star) {
         return None;
     }
     Some(Held { name: star, len: 0 })
 }
 
-/// What answers for a name that owns nothing, where the iterator stands at its place: no records where names under it are there,
+/// What answers for a name that owns nothing, where the walker's iterator stands at its place: no records where names under it are there,
 /// else a wildcard's; `None` where there is no wildcard for it.
 pub fn absent_node<V: Reading>(
     version: &mut V,
-    iter: &mut Iter,
+    walker: &mut Walker,
     name: &Name,
     item: &mut [u8; 4096],
 ) -> Option<Held>
-    requires { (zone : Version) × IsPlaced (V.holds version.old) (V.stands version.old iter.old) name.now zone }
+    requires { (zone : Version) × IsPlaced (V.holds version.old) (V.stands version.old walker.old.iter) name.now zone }
     ensures same { version.new ≡ version.old }
-    ensures node { (zone : Version) → IsPlaced (V.holds version.old) (V.stands version.old iter.old) name.now zone → [] ≡ owned name.now zone
+    ensures node { (zone : Version) → IsPlaced (V.holds version.old) (V.stands version.old walker.old.iter) name.now zone → [] ≡ owned name.now zone
         → IsNodeOf item.new (node zone name.now) result }
 {
     let _wire = name.wire();
-    let near = Neighbours::of(version, iter);
+    let near = Neighbours::of(version, &mut walker.iter);
     if near.show(name) {
         return Some(Held {
             name: *name,
@@ -72,5 +72,5 @@ pub fn absent_node<V: Reading>(
         });
     }
     let above = encloser(&near, name)?;
-    wildcard_under(version, iter, &above, item)
+    wildcard_under(version, walker, &above, item)
 }

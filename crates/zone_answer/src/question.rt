@@ -9,6 +9,7 @@ use crate::answers::Answer;
 use crate::kind::Kind;
 use crate::rows::Rows;
 use crate::step::{Next, step};
+use crate::walker::Walker;
 use dns_name::Name;
 use std::alloc::{AllocError, Global};
 use trie_read::Reading;
@@ -46,13 +47,32 @@ pub fn answer_by<V: Reading>(
     ensures same { version.new ≡ version.old }
     ensures answer { (zone : Version) → Shows (V.holds version.old) zone → IfOk result (λ a. a ≡ answer origin.now zone name.now rtype) }
 {
+    answer_with(alloc, version, origin, name, rtype, item, None)
+}
+
+/// The same, with a walker that a run of questions may share too; without one it is made where it is needed.
+pub fn answer_with<V: Reading>(
+    alloc: Global,
+    version: &mut V,
+    origin: &Name,
+    name: &Name,
+    rtype: u16,
+    item: &mut [u8; 4096],
+    walker: Option<&mut Walker>,
+) -> Result<Answer, AllocError>
+    requires { ShowsSome (V.holds version.old) }
+    ensures same { version.new ≡ version.old }
+    ensures answer { (zone : Version) → Shows (V.holds version.old) zone → IfOk result (λ a. a ≡ answer origin.now zone name.now rtype) }
+{
     let mut rows = Rows::new(alloc);
     if !name.is_under(origin) {
         return Ok(Answer::new(Kind::Outside, rows));
     }
+    let mut walker = walker;
     let mut asked = *name;
     for _ in 0..MOST_ALIASES {
-        match step(alloc, version, origin, &asked, rtype, item, &mut rows)? {
+        let lent = walker.as_deref_mut();
+        match step(alloc, version, origin, &asked, rtype, lent, item, &mut rows)? {
             Next::Ends(kind) => return Ok(Answer::new(kind, rows)),
             Next::LeadsTo(None) => return Ok(Answer::new(Kind::Answered, rows)),
             Next::LeadsTo(Some(target)) => asked = target,

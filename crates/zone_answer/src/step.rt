@@ -16,11 +16,12 @@ use crate::kind::Kind;
 use crate::node::absent_node;
 use crate::records::read_owned;
 use crate::rows::Rows;
+use crate::walker::Walker;
 use dns_name::Name;
 use rr_data::{ItemView, SetView};
 use shift_key::Key;
 use std::alloc::{AllocError, Global};
-use trie_read::{Ancestors, Iter, Reading};
+use trie_read::Reading;
 
 /// The type of an alias.
 const CNAME: u16 = 5;
@@ -121,22 +122,22 @@ fn give_own(
     give(alloc, entry, name, rtype, rows)
 }
 
-/// What a name that isn't there gives, where none above it is a cut and the iterator stands at its place.
+/// What a name that isn't there gives, where none above it is a cut and the walker's iterator stands at its place.
 fn give_absent<V: Reading>(
     alloc: Global,
     version: &mut V,
-    iter: &mut Iter,
+    walker: &mut Walker,
     name: &Name,
     rtype: u16,
     item: &mut [u8; 4096],
     rows: &mut Rows,
 ) -> Result<Next, AllocError>
-    requires { (zone : Version) × IsPlaced (V.holds version.old) (V.stands version.old iter.old) name.now zone × ([] ≡ owned name.now zone) }
+    requires { (zone : Version) × IsPlaced (V.holds version.old) (V.stands version.old walker.old.iter) name.now zone × ([] ≡ owned name.now zone) }
     ensures same { version.new ≡ version.old }
-    ensures gives { (zone : Version) (origin : Labels) → IsPlaced (V.holds version.old) (V.stands version.old iter.old) name.now zone → NoneOver origin name.now zone
+    ensures gives { (zone : Version) (origin : Labels) → IsPlaced (V.holds version.old) (V.stands version.old walker.old.iter) name.now zone → NoneOver origin name.now zone
         → [] ≡ owned name.now zone → Gives (step origin zone rtype name.now) rows.old rows.new result }
 {
-    match absent_node(version, iter, name, item) {
+    match absent_node(version, walker, name, item) {
         Some(held) => give(alloc, &held.view(item), name, rtype, rows),
         None => Ok(Next::Ends(Kind::Nxdomain)),
     }
@@ -150,6 +151,7 @@ fn search<V: Reading>(
     name: &Name,
     key: &Key,
     rtype: u16,
+    walker: &mut Walker,
     item: &mut [u8; 4096],
     rows: &mut Rows,
 ) -> Result<Next, AllocError>
@@ -161,10 +163,9 @@ fn search<V: Reading>(
         → Gives (step origin.now zone rtype name.now) rows.old rows.new result }
 {
     let _wire = name.wire();
-    let mut iter = version.iter();
-    let mut above = Ancestors::new();
-    let found = version.lookup(&mut iter, key, &mut above);
-    if let Some(cut) = cut_over(version, origin, name, above.as_slice(), item) {
+    version.restart(&mut walker.iter);
+    let found = version.lookup(&mut walker.iter, key, &mut walker.above);
+    if let Some(cut) = cut_over(version, origin, name, walker.above.as_slice(), item) {
         return refer(alloc, &cut.name, &cut.view(item), rows);
     }
     match found {
@@ -173,17 +174,19 @@ fn search<V: Reading>(
             let entry = ItemView::of(name, &item[..len]);
             give_own(alloc, origin, name, &entry, rtype, rows)
         }
-        None => give_absent(alloc, version, &mut iter, name, rtype, item, rows),
+        None => give_absent(alloc, version, walker, name, rtype, item, rows),
     }
 }
 
-/// Adds the rows that a name at or under the origin gives, and tells how the answer goes on. Items are read into `item`.
+/// Adds the rows that a name at or under the origin gives, and tells how the answer goes on. Items are read into `item`; without a
+/// walker one is made where it is needed.
 pub fn step<V: Reading>(
     alloc: Global,
     version: &mut V,
     origin: &Name,
     name: &Name,
     rtype: u16,
+    walker: Option<&mut Walker>,
     item: &mut [u8; 4096],
     rows: &mut Rows,
 ) -> Result<Next, AllocError>
@@ -202,5 +205,15 @@ pub fn step<V: Reading>(
             return give_own(alloc, origin, name, &entry, rtype, rows);
         }
     }
-    search(alloc, version, origin, name, &key, rtype, item, rows)
+    let mut made;
+    let walker = match walker {
+        Some(walker) => walker,
+        None => {
+            made = Walker::new();
+            &mut made
+        }
+    };
+    search(
+        alloc, version, origin, name, &key, rtype, walker, item, rows,
+    )
 }

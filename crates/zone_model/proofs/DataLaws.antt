@@ -16,9 +16,11 @@ use Rattle.zone_model.specs.Texts.{named, number, at_most, address, address_part
 use Rattle.zone_model.specs.Tokens.{Token}
 use Rattle.zone_model.specs.Refusals.{◌>>=◌}
 use Rattle.zone_model.specs.DataWords.{unescaped, paired, time_of}
-use Rattle.zone_model.specs.DataForms.{Field, NameField, ShortField, NumberField, TimeField, AddressField, Address6Field, fields_of, form_fits}
+use Rattle.zone_model.specs.Types.{Field, NameField, ShortField, NumberField, TimeField, AddressField, Address6Field, Form, Fields, Strings, form_of}
+use Rattle.zone_model.specs.DataForms.{form_fits}
+use Rattle.zone_model.proofs.TypeLaws.{few_fields}
 use Rattle.zone_model.specs.Addresses.{address6, by_double, filled, whole_address, groups_of, last_groups_of, parts_of, double_at}
-use Rattle.zone_model.specs.Data.{field_octets, word_octets, ahead, taken, read_fields, string_octets, read_strings, read_digits, word_number, read_counted, read_generic, is_generic, of_form, by_fields, read_typed, data_of}
+use Rattle.zone_model.specs.Data.{field_octets, word_octets, ahead, taken, read_fields, string_octets, read_strings, read_digits, word_number, read_counted, read_generic, is_generic, of_form, read_formed, read_typed, data_of}
 
 -- ---- names
 
@@ -223,30 +225,11 @@ generic_short (t ∷ tokens) octets h = counted_short (word_number 65535 t) toke
 
 -- ---- data
 
-few_fields : (rtype : ℕ) (fields : List Field) → fields_of rtype ≡ Some fields → length fields ≤ 7
-few_fields rtype fields h =
-    by_test (eqb rtype 1) _ _ (λ _. omega arith) (λ h. by_test (eqb rtype 2) _ _ (λ _. omega arith) (λ h. by_test (eqb rtype 5) _ _ (λ _. omega arith) (λ h. by_test (eqb rtype 6) _ _ (λ _. omega arith)
-    (λ h. by_test (eqb rtype 12) _ _ (λ _. omega arith) (λ h. by_test (eqb rtype 15) _ _ (λ _. omega arith) (λ h. by_test (eqb rtype 28) _ _ (λ _. omega arith) (λ h. by_test (eqb rtype 33) _ None (λ _. omega arith) (λ h. absurd cc) h) h) h) h) h) h) h) h
-  where
-    by_test : (t : Bool) (here : List Field) (o : Option (List Field)) → (Unit {0} → length here ≤ 7) → (o ≡ Some fields → length fields ≤ 7) → cond t (Some here) o ≡ Some fields → length fields ≤ 7
-    by_test true here o f g k = let s : here ≡ fields = cc in subst (λ (l : List Field). length l ≤ 7) s (f tt)
-    by_test false here o f g k = g k
-
-by_fields_short : (origin : Name) (rtype : ℕ) (o : Option (List Field)) (tokens : List Token) (octets : List ℕ) → length (wire origin) ≤ 255 → fields_of rtype ≡ o → by_fields origin o tokens ≡ Ok octets → length octets ≤ 65535
-by_fields_short origin rtype None tokens octets l e h = absurd cc
-by_fields_short origin rtype (Some fields) tokens octets l e h = omega (arith, fields_short origin 0 fields tokens octets l h, few_fields rtype fields e)
-
-typed_short : (origin : Name) (rtype : ℕ) (tokens : List Token) (octets : List ℕ) → length (wire origin) ≤ 255 → read_typed origin rtype tokens ≡ Ok octets → length octets ≤ 65535
-typed_short origin rtype [] octets l h = by_type (eqb rtype 16) h
-  where
-    by_type : (t : Bool) → cond t (Err (BadRdata 0)) (by_fields origin (fields_of rtype) []) ≡ Ok octets → length octets ≤ 65535
-    by_type true k = absurd cc
-    by_type false k = by_fields_short origin rtype (fields_of rtype) [] octets l refl k
-typed_short origin rtype (t ∷ tokens) octets l h = by_type (eqb rtype 16) h
-  where
-    by_type : (b : Bool) → cond b (read_strings 0 65535 (t ∷ tokens)) (by_fields origin (fields_of rtype) (t ∷ tokens)) ≡ Ok octets → length octets ≤ 65535
-    by_type true k = strings_short 0 65535 (t ∷ tokens) octets k
-    by_type false k = by_fields_short origin rtype (fields_of rtype) (t ∷ tokens) octets l refl k
+formed_short : (origin : Name) (rtype : ℕ) (o : Option Form) (tokens : List Token) (octets : List ℕ) → length (wire origin) ≤ 255 → form_of rtype ≡ o → read_formed origin o tokens ≡ Ok octets → length octets ≤ 65535
+formed_short origin rtype None tokens octets l e h = absurd cc
+formed_short origin rtype (Some (Fields fields)) tokens octets l e h = omega (arith, fields_short origin 0 fields tokens octets l h, few_fields rtype fields e)
+formed_short origin rtype (Some Strings) [] octets l e h = absurd cc
+formed_short origin rtype (Some Strings) (t ∷ tokens) octets l e h = strings_short 0 65535 (t ∷ tokens) octets h
 
 form_same : (rtype : ℕ) (x octets : List ℕ) → of_form rtype x ≡ Ok octets → x ≡ octets
 form_same rtype x octets h = by_test (form_fits rtype x) h
@@ -263,4 +246,4 @@ data_short origin rtype tokens octets l h = by_form (is_generic tokens) h
     by_form true k =
         let b = bind_ok (read_generic (drop 1 tokens)) (of_form rtype) octets k in
         subst (λ (x : List ℕ). length x ≤ 65535) (form_same rtype b.0 octets b.2) (generic_short (drop 1 tokens) b.0 b.1)
-    by_form false k = typed_short origin rtype tokens octets l k
+    by_form false k = formed_short origin rtype (form_of rtype) tokens octets l refl k

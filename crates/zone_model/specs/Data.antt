@@ -14,7 +14,8 @@ use Rattle.zone_model.specs.declared.DataRefusal.TheVariants.{BadRdata, LongStri
 use Rattle.zone_model.specs.Tokens.{Token}
 use Rattle.zone_model.specs.DataWords.{time_of, unescaped, paired}
 use Rattle.zone_model.specs.Addresses.{address6}
-use Rattle.zone_model.specs.DataForms.{Field, NameField, ShortField, NumberField, TimeField, AddressField, Address6Field, fields_of, form_fits}
+use Rattle.zone_model.specs.Types.{Field, NameField, ShortField, NumberField, TimeField, AddressField, Address6Field, Form, Fields, Strings, form_of}
+use Rattle.zone_model.specs.DataForms.{form_fits}
 
 abbrev pub field_octets : Name → Field → List ℕ → Option (List ℕ)
 field_octets origin NameField text = option_map wire (named (name_of text origin))
@@ -86,13 +87,14 @@ is_generic (t ∷ tokens) = not t.quoted && bytes_eq t.text (92 ∷ 35 ∷ [])
 abbrev pub of_form : ℕ → List ℕ → Result (List ℕ) DataRefusal
 of_form rtype octets = if form_fits rtype octets then Ok octets else Err (BadRdata 0)
 
-abbrev pub by_fields : Name → Option (List Field) → List Token → Result (List ℕ) DataRefusal
-by_fields origin None tokens = Err (BadRdata 0)
-by_fields origin (Some fields) tokens = read_fields origin 0 fields tokens
+abbrev pub read_formed : Name → Option Form → List Token → Result (List ℕ) DataRefusal
+read_formed origin None tokens = Err (BadRdata 0)
+read_formed origin (Some (Fields fields)) tokens = read_fields origin 0 fields tokens
+read_formed origin (Some Strings) [] = Err (BadRdata 0)
+read_formed origin (Some Strings) (t ∷ tokens) = read_strings 0 65535 (t ∷ tokens)
 
 abbrev pub read_typed : Name → ℕ → List Token → Result (List ℕ) DataRefusal
-read_typed origin rtype [] = if rtype == 16 then Err (BadRdata 0) else by_fields origin (fields_of rtype) []
-read_typed origin rtype (t ∷ tokens) = if rtype == 16 then read_strings 0 65535 (t ∷ tokens) else by_fields origin (fields_of rtype) (t ∷ tokens)
+read_typed origin rtype tokens = read_formed origin (form_of rtype) tokens
 
 -- the octets that tokens say for a type, or the first token that is refused
 unfoldable pub data_of : Name → ℕ → List Token → Result (List ℕ) DataRefusal

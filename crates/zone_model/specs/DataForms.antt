@@ -1,31 +1,10 @@
--- The form that a type's data has as octets (RFC 1035, section 3.3; RFC 3596, section 2.2; RFC 2782).
+-- The form that a type's data has as octets.
 use Rattle.std.specs.Prelude.{ℕ, zero, suc, Bool, true, false, ◌&&◌, List, [], ◌∷◌, length, drop, nat_le, nat_lt, ◌==◌, if◌then◌else◌, Option, Some, None, option_and_then}
 use Rattle.std.specs.Option.{option_map}
 use Rattle.std.specs.Int.{w32, from_be_bytes}
 use Rattle.zone_model.specs.DataWords.{most_time}
+use Rattle.zone_model.specs.Types.{Field, NameField, ShortField, NumberField, TimeField, AddressField, Address6Field, Form, Fields, Strings, form_of}
 use Rattle.zone_model.specs.Splits.{split_octets, split_name}
-
--- a part of a type's data, which one word says
-pub data Field : Type 0 where
-  NameField : Field
-  ShortField : Field
-  NumberField : Field
-  TimeField : Field
-  AddressField : Field
-  Address6Field : Field
-
--- the fields of a type's data, for the types whose data is a row of them
-abbrev pub fields_of : ℕ → Option (List Field)
-fields_of rtype =
-    if rtype == 1 then Some (AddressField ∷ [])
-    else if rtype == 2 then Some (NameField ∷ [])
-    else if rtype == 5 then Some (NameField ∷ [])
-    else if rtype == 6 then Some (NameField ∷ NameField ∷ NumberField ∷ TimeField ∷ TimeField ∷ TimeField ∷ TimeField ∷ [])
-    else if rtype == 12 then Some (NameField ∷ [])
-    else if rtype == 15 then Some (ShortField ∷ NameField ∷ [])
-    else if rtype == 28 then Some (Address6Field ∷ [])
-    else if rtype == 33 then Some (ShortField ∷ ShortField ∷ ShortField ∷ NameField ∷ [])
-    else None
 
 -- ---- octets that are of a form
 
@@ -57,11 +36,11 @@ strings_fit left [] = true
 strings_fit zero (n ∷ rest) = false
 strings_fit (suc left) (n ∷ rest) = nat_le n (length rest) && strings_fit left (drop n rest)
 
-abbrev pub known_fit : Option (List Field) → List ℕ → Bool
-known_fit None octets = true
-known_fit (Some fields) octets = fields_fit fields octets
+abbrev pub fits_form : Option Form → List ℕ → Bool
+fits_form None octets = true
+fits_form (Some (Fields fields)) octets = fields_fit fields octets
+fits_form (Some Strings) octets = nat_lt 0 (length octets) && strings_fit (length octets) octets
 
 -- the octets are of a type's form; any are where the form is not known
 abbrev pub form_fits : ℕ → List ℕ → Bool
-form_fits rtype octets =
-    if rtype == 16 then nat_lt 0 (length octets) && strings_fit (length octets) octets else known_fit (fields_of rtype) octets
+form_fits rtype octets = fits_form (form_of rtype) octets

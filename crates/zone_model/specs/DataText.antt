@@ -6,21 +6,17 @@ use Rattle.std.specs.Int.{w16, w32, from_be_bytes}
 use Rattle.std.specs.Fmt.{decimal}
 use Rattle.zone_model.specs.NameText.{text_of, three_digits}
 use Rattle.zone_model.specs.Splits.{split_octets, split_name}
-use Rattle.zone_model.specs.DataForms.{Field, NameField, ShortField, NumberField, TimeField, AddressField, Address6Field, fields_of, split_time}
+use Rattle.zone_model.specs.Types.{Field, NameField, ShortField, NumberField, TimeField, AddressField, Address6Field, Form, Fields, Strings, NamedType, type_numbered, form_of}
+use Rattle.zone_model.specs.DataForms.{split_time}
+
+-- a row's mnemonic, or the word TYPE and the number
+abbrev pub mnemonic_in : Option NamedType → ℕ → List ℕ
+mnemonic_in (Some t) rtype = t.mnemonic
+mnemonic_in None rtype = codes "TYPE" ++ decimal rtype
 
 -- a type's mnemonic, or its number (RFC 3597, section 5)
 abbrev pub type_text : ℕ → List ℕ
-type_text rtype =
-    if rtype == 1 then codes "A"
-    else if rtype == 2 then codes "NS"
-    else if rtype == 5 then codes "CNAME"
-    else if rtype == 6 then codes "SOA"
-    else if rtype == 12 then codes "PTR"
-    else if rtype == 15 then codes "MX"
-    else if rtype == 16 then codes "TXT"
-    else if rtype == 28 then codes "AAAA"
-    else if rtype == 33 then codes "SRV"
-    else codes "TYPE" ++ decimal rtype
+type_text rtype = mnemonic_in (type_numbered rtype) rtype
 
 -- ---- addresses
 
@@ -98,9 +94,14 @@ hex_text octet = hex_digit (octet / 16) ∷ hex_digit (octet % 16) ∷ []
 abbrev pub generic_text : List ℕ → List ℕ
 generic_text octets = codes "\\# " ++ decimal (length octets) ++ (if length octets == 0 then [] else codes " " ++ flat_map hex_text octets)
 
+abbrev pub formed_text : Option Form → List ℕ → Option (List ℕ)
+formed_text None octets = None
+formed_text (Some (Fields fields)) octets = fields_text fields octets
+formed_text (Some Strings) octets = strings_text (length octets) octets
+
 -- data in the form of its type, where it has that form
 abbrev pub typed_text : ℕ → List ℕ → Option (List ℕ)
-typed_text rtype octets = if rtype == 16 then strings_text (length octets) octets else option_and_then (λ fields. fields_text fields octets) (fields_of rtype)
+typed_text rtype octets = formed_text (form_of rtype) octets
 
 abbrev pub data_text : ℕ → List ℕ → List ℕ
 data_text rtype octets = unwrap_or (typed_text rtype octets) (generic_text octets)

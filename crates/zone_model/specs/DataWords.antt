@@ -5,6 +5,7 @@ use Rattle.std.specs.List.{list_all}
 use Rattle.std.specs.Char.{is_ascii_digit, to_ascii_lowercase}
 use Rattle.std.specs.Str.{str_eq_ignore_ascii_case}
 use Rattle.zone_model.specs.Texts.{number, at_most}
+use Rattle.zone_model.specs.Types.{NamedType, type_spelled}
 
 -- ---- times to live
 
@@ -46,18 +47,13 @@ numbered word text = if is_word (take (length word) text) word then number 65535
 abbrev pub data_type : ℕ → Option ℕ
 data_type n = if n == 0 then None else if n == 41 then None else if nat_le 128 n && nat_le n 255 then None else Some n
 
+-- the number of a row, or that behind the word TYPE
+abbrev pub number_in : Option NamedType → List ℕ → Option ℕ
+number_in (Some t) text = Some t.number
+number_in None text = option_and_then data_type (numbered (codes "TYPE") text)
+
 unfoldable pub type_named : List ℕ → Option ℕ
-type_named text =
-    if is_word text (codes "A") then Some 1
-    else if is_word text (codes "NS") then Some 2
-    else if is_word text (codes "CNAME") then Some 5
-    else if is_word text (codes "SOA") then Some 6
-    else if is_word text (codes "PTR") then Some 12
-    else if is_word text (codes "MX") then Some 15
-    else if is_word text (codes "TXT") then Some 16
-    else if is_word text (codes "AAAA") then Some 28
-    else if is_word text (codes "SRV") then Some 33
-    else option_and_then data_type (numbered (codes "TYPE") text)
+type_named text = number_in (type_spelled text) text
 
 abbrev pub class_numbered : List ℕ → Option Bool
 class_numbered text =

@@ -158,9 +158,9 @@ placed_in last owner rtype time octets version =
 
 -- a record is added to the zone of an origin
 unfoldable pub added : Name → ℕ → Name → ℕ → ℕ → List ℕ → Version → Result Version (Refused ZoneKind)
-added top last owner rtype time octets version =
-    if not (is_under owner top) then refused last OutsideZone
-    else if (rtype == 6) && not (same_name owner top) then refused last SoaRule
+added apex last owner rtype time octets version =
+    if not (is_under owner apex) then refused last OutsideZone
+    else if (rtype == 6) && not (same_name owner apex) then refused last SoaRule
     else placed_in last owner rtype time octets version
 
 abbrev pub after_record : Option ℕ → ℕ → List ℕ → Name → Reader → Version → Reader
@@ -169,11 +169,11 @@ after_record written rtype octets owner r version =
 
 -- the record of an owner that words say
 unfoldable pub record_says : Name → ℕ → Name → List Token → Reader → Result Reader (Refused ZoneKind)
-record_says top last owner words r =
+record_says apex last owner words r =
     front_of last None false words >>= (λ front.
     placed last front.rest (data_of r.origin front.rtype front.rest) >>= (λ octets.
     required last NoTtl (time_for front.time front.rtype octets r) >>= (λ time.
-    added top last owner front.rtype time octets r.version >>= (λ version.
+    added apex last owner front.rtype time octets r.version >>= (λ version.
     Ok (after_record front.time front.rtype octets owner r version)))))
 
 -- ---- entries
@@ -184,11 +184,11 @@ last_line n (t ∷ tokens) = last_line t.line tokens
 
 -- an entry that begins on line n, perhaps with a space or tab
 unfoldable pub entry_says : Name → ℕ → Bool → List Token → Reader → Result Reader (Refused ZoneKind)
-entry_says top n blank [] r = Ok r
-entry_says top n blank (t ∷ tokens) r =
-    if blank then required n NoOwner r.owner >>= (λ owner. record_says top (last_line t.line tokens) owner (t ∷ tokens) r)
+entry_says apex n blank [] r = Ok r
+entry_says apex n blank (t ∷ tokens) r =
+    if blank then required n NoOwner r.owner >>= (λ owner. record_says apex (last_line t.line tokens) owner (t ∷ tokens) r)
     else if is_directive t then directive t tokens r
-    else required t.line BadName (name_word r.origin t) >>= (λ owner. record_says top (last_line t.line tokens) owner tokens r)
+    else required t.line BadName (name_word r.origin t) >>= (λ owner. record_says apex (last_line t.line tokens) owner tokens r)
 
 -- an entry that isn't at its end: its first line, how that begins, and its tokens so far
 pub record Pending : Type 0 where
@@ -202,19 +202,19 @@ goes_on n line None = record { first = n; blank = begins_blank line; scan = fres
 
 -- the lines from line n on
 unfoldable pub zone_from : Name → ℕ → List (List ℕ) → Option Pending → Reader → Result Reader (Refused ZoneKind)
-zone_from top n [] None r = Ok r
-zone_from top n [] (Some p) r = refused p.scan.outer OpenParen
-zone_from top n (line ∷ lines) pending r =
+zone_from apex n [] None r = Ok r
+zone_from apex n [] (Some p) r = refused p.scan.outer OpenParen
+zone_from apex n (line ∷ lines) pending r =
     let p = goes_on n line pending in
     line_tokens n line p.scan >>= (λ s.
-    if s.depth == 0 then entry_says top p.first p.blank s.tokens r >>= zone_from top (n + 1) lines None
-    else zone_from top (n + 1) lines (Some (record p { scan = s })) r)
+    if s.depth == 0 then entry_says apex p.first p.blank s.tokens r >>= zone_from apex (n + 1) lines None
+    else zone_from apex (n + 1) lines (Some (record p { scan = s })) r)
 
 abbrev pub at_first : Name → Reader
-at_first top = record { origin = top; set_time = None; last_time = None; minimum = None; owner = None; version = [] }
+at_first apex = record { origin = apex; set_time = None; last_time = None; minimum = None; owner = None; version = [] }
 
 abbrev pub with_soa : Name → ℕ → Reader → Result Version (Refused ZoneKind)
-with_soa top n r = if has_soa top r.version then Ok r.version else refused n SoaRule
+with_soa apex n r = if has_soa apex r.version then Ok r.version else refused n SoaRule
 
 -- the names of a zone with their entries, and its origin
 pub record Zone : Type 0 where
@@ -223,4 +223,4 @@ pub record Zone : Type 0 where
 
 -- the zone of an origin that lines say
 unfoldable pub zone_of : Name → List (List ℕ) → Result Version (Refused ZoneKind)
-zone_of top lines = zone_from top 1 lines None (at_first top) >>= with_soa top (length lines + 1)
+zone_of apex lines = zone_from apex 1 lines None (at_first apex) >>= with_soa apex (length lines + 1)

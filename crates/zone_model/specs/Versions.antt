@@ -51,7 +51,7 @@ holds rtype octets entry = among (rrset_of rtype entry)
     among None = false
     among (Some s) = has_record octets s.records
 
--- the version has an SOA at its top
+-- the version has an SOA at its apex
 abbrev pub has_soa : Name → Version → Bool
 has_soa origin version = is_some (rrset_of soa_type (owned origin version))
 
@@ -74,7 +74,7 @@ is_lone [] = true
 is_lone (s ∷ []) = not (s.rtype == cname_type) || nat_le (length s.records) 1
 is_lone (s ∷ t ∷ more) = is_none (rrset_of cname_type (s ∷ t ∷ more))
 
--- an SOA below the top
+-- an SOA below the apex
 abbrev pub is_low_soa : Name → Addition → Bool
 is_low_soa origin a = (a.rtype == soa_type) && not (same_name a.owner origin)
 
@@ -84,7 +84,7 @@ fitting owner entry =
     if not (is_lone entry) then Err Cname
     else if nat_lt item_limit (length (item owner entry)) then Err Long else Ok entry
 
--- The SOA would leave. It stands at the top alone.
+-- The SOA would leave. It stands at the apex alone.
 abbrev pub loses_soa : Entry → Entry → Bool
 loses_soa before after = is_some (rrset_of soa_type before) && is_none (rrset_of soa_type after)
 

@@ -1,18 +1,18 @@
-use Rattle.std.proofs.Common.{◌≡◌, ◌<◌, ◌-◌, ◌+◌, length, arith, sym, ap, ◌∙◌}
-use Rattle.std.specs.Ordering.{is_eq}
-use Rattle.zone_model.proofs.NameLemmas.{is_under-shorter, is_under-drop}
+use Rattle.std.proofs.Common.{◌≤◌, ◌<◌, length, arith, ◌∙◌}
+use Rattle.dns_name.proofs.UnderLemmas.{passed_more, passed_none, passed_end}
 use Rattle.dns_name.proofs.wire.under.Goals as goal
 
-pub returns-then-depth_a-depth_b : goal.returns-then-depth_a-depth_b
-returns-then-depth_a-depth_b c = λ x y hx hy.
-    let ex = c.count-depth_a.ensures x hx in
-    let ey = c.count-depth_b.ensures y hy in
-    let lt : length x < length y = omega arith in
-    sym (is_under-shorter x y lt)
+pub returns-in_default : goal.returns-in_default
+returns-in_default c = λ x y hx hy.
+    let longer : length c.args.b.now < length c.loop-rest.rest.now = omega arith in
+    passed_none c.args.a.now c.loop-rest.rest.now c.args.b.now c.loop-rest.invariant y hy longer (c.in_default.ensures _ c.loop-rest.invariant.is_left)
+
+pub loop-rest-preserved : goal.loop-rest-preserved
+loop-rest-preserved c =
+    let longer : length c.args.b.now < length c.loop-rest.rest.now = omega arith in
+    passed_more c.args.a.now c.loop-rest.rest.now c.args.b.now (c.in-Some.field-0-0, c.in-Some.after) c.loop-rest.invariant longer (c.in-Some.ensures _ c.loop-rest.invariant.is_left)
 
 pub returns : goal.returns
 returns c = λ x y hx hy.
-    let ex : c.count-depth_a.result ≡ length x = c.count-depth_a.ensures x hx in
-    let ey : c.count-depth_b.result ≡ length y = c.count-depth_b.ensures y hy in
-    let n : length x ≡ (c.count-depth_a.result - c.count-depth_b.result) + length y = omega arith in
-    c.is_eq.ensures ∙ ap is_eq (c.compare.ensures _ y (c.skip.ensures x hx) hy) ∙ sym (is_under-drop x y (c.count-depth_a.result - c.count-depth_b.result) n)
+    let within : length c.loop-rest.rest.now ≤ length c.args.b.now = omega arith in
+    c.eq.ensures ∙ passed_end c.args.a.now c.loop-rest.rest.now c.args.b.now c.loop-rest.invariant within x y hx hy

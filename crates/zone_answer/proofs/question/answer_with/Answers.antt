@@ -4,7 +4,7 @@ use Rattle.zone_answer.specs.Standing.{Shows, ShowsSome}
 use Rattle.zone_answer.specs.Parts.{next_view}
 use Rattle.zone_answer.specs.declared.step.Next.TheVariants.{LeadsTo}
 use Rattle.zone_answer.proofs.AnswerLaws.{leads_on, leads_nowhere, ends, last_alias, leads_out}
-use Rattle.zone_answer.proofs.question.answer_by.Goals as goal
+use Rattle.zone_answer.proofs.question.answer_with.Goals as goal
 
 pub returns-in-Ends-clause-answer : goal.returns-in-Ends-clause-answer
 returns-in-Ends-clause-answer g c zone shows =

@@ -3,7 +3,7 @@ use Rattle.zone_model.specs.Names.{is_under}
 use Rattle.zone_model.specs.Versions.{Version}
 use Rattle.zone_answer.specs.Answers.{answer, behind, followed}
 use Rattle.zone_answer.specs.Standing.{Shows, ShowsSome}
-use Rattle.zone_answer.proofs.question.answer_by.Given as goal
+use Rattle.zone_answer.proofs.question.answer_with.Given as goal
 
 abbrev pub invariant-loop : goal.invariant-loop
 invariant-loop g l = record {
