@@ -26,3 +26,5 @@ pub mod RisenLaws
 pub mod CauseLaws
 pub mod FullLaws
 pub mod NamedLaws
+pub mod CloseLaws
+pub mod ReadingLaws

@@ -22,6 +22,7 @@
 
 mod attempt;
 mod change;
+mod close;
 mod commit;
 mod desk;
 mod fetch;
@@ -33,6 +34,7 @@ mod note;
 mod opening;
 mod pass;
 mod query;
+mod reading;
 mod recycling;
 mod refusal;
 mod rounds;
@@ -49,6 +51,7 @@ pub use opening::{Blank, OpenRefusal};
 pub use pass::Pass;
 pub use pin_core::Spent;
 pub use query::Query;
+pub use reading::WorkingCells;
 pub use refusal::{ChangeRefusal, Full, InsertRefusal};
 pub use snapshot::Snapshot;
 pub use transaction::{Heavy, Light, Locked, Transaction, Update, Write};
