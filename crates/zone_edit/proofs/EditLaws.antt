@@ -1,6 +1,6 @@
 -- What a transaction's call makes of a working set that is a version.
-use Rattle.std.proofs.Common.{◌≡◌, ◌∙◌, ◌⊎◌, ◌<◌, ℕ, ◌+◌, ◌-◌, ◌≤◌, List, [], ◌∷◌, ◌++◌, length, Option, Some, None, Result, Ok, Err, refl, sym, ap, subst, arith}
-use Rattle.std.specs.Prelude.{IsSomeAnd, Contains}
+use Rattle.std.proofs.Common.{◌≡◌, ◌∙◌, ◌⊎◌, ◌<◌, ℕ, ◌+◌, ◌-◌, ◌≤◌, List, [], ◌∷◌, ◌++◌, length, Option, Some, None, Result, Ok, Err, refl, sym, ap, subst, arith, append-nil}
+use Rattle.std.specs.Prelude.{IsSomeAnd, IfSome, Contains}
 use Rattle.zone_model.specs.Names.{Name, IsName}
 use Rattle.zone_model.specs.Keys.{key_of}
 use Rattle.zone_model.specs.Records.{Entry, IsItem}
@@ -16,12 +16,17 @@ use Rattle.shared_index.specs.declared.meaning.Operation.{Operation}
 use Rattle.shared_index.specs.declared.meaning.Operation.TheVariants as operation
 use Rattle.shared_index.specs.Operations.{operated, applied, with_entry, without}
 use Rattle.shared_index.specs.Drafts.{Works, Operates, IsFull, IsSame, Between, base_of, working_set}
-use Rattle.shared_index.specs.Fulls.{CausedFrom}
+use Rattle.shared_index.specs.Fulls.{CausedFrom, cells_kept}
+use Rattle.shared_index.specs.Passes.{Known, version_seen}
+use Rattle.chunk_usage.specs.Ledger.{reserve_of}
+use Rattle.trie_model.specs.Shape.{cells}
 use Rattle.shared_index.specs.Keepings.{GoesOn, versions_in}
 use Rattle.shared_index.proofs.GoesLaws.{base_goes_on, applied_more, goes_further}
 use Rattle.zone_change.proofs.VersionLaws.{version_put, version_gone}
 use Rattle.zone_change.proofs.StoreLaws.{put_some, storable, same_entry, record_of}
-use Rattle.zone_edit.specs.Stores.{WorksOn, WorksOnSome, Owns, EditsOne, Edits, IsFullOn, Stored, Stores}
+use Rattle.trie_read.specs.Readings.{Fetched}
+use Rattle.zone_answer.specs.Parts.{IsRead}
+use Rattle.zone_edit.specs.Stores.{WorksOn, WorksOnSome, Owns, EditsOne, Edits, Reads, IsFullOn, Stored, Stores}
 use Rattle.zone_edit.proofs.SetLaws.{IsOwner, inserted, exchanged, deleted}
 
 -- ---- drafts that are there
@@ -109,3 +114,103 @@ put_out name key denied d e A B version k is there op a on = record {
   set = done_set (operation.Delete key) denied d e A B op a ∙ ap (λ (es : List trie.Entry). without es key) on.set ∙ ap (without (trie_entries version)) k ∙ deleted name version is on.valid there;
   valid = version_gone name version on.valid;
 }
+
+-- ---- two facts of one call
+
+between_both : (R S T : Draft → Draft → Type 0) (old new : Option Draft) → ((d e : Draft) → R d e → S d e → T d e) → Between R old new → Between S old new → Between T old new
+between_both R S T (Some d) (Some e) f r s = f d e r s
+between_both R S T (Some d) None f r s = r
+between_both R S T None (Some e) f r s = r
+between_both R S T None None f r s = r
+
+between_and : (R : Draft → Draft → Type 0) (P : Draft → Type 0) (T : Draft → Draft → Type 0) (old new : Option Draft) → ((d e : Draft) → R d e → P e → T d e) → Between R old new → IsSomeAnd new P → Between T old new
+between_and R P T (Some d) (Some e) f r p = f d e r p
+between_and R P T (Some d) None f r p = r
+between_and R P T None (Some e) f r p = r
+between_and R P T None None f r p = r
+
+-- ---- edits, one after another
+
+pub goes_same : (v : Known) → GoesOn v v
+goes_same v = record { pass = refl; opening = refl; history = refl; namings = ([], sym (append-nil v.seen.namings)) }
+
+pub edits_same : (P : Draft → Type 0) (told : Version → Draft → Type 0) (old : Option Draft) → IsSomeAnd old P → ((d : Draft) (version : Version) → WorksOn d version → told version d) → Edits told old old
+edits_same P told (Some d) p f = record { known = goes_same d.seat.place.me.0; becomes = λ version on. f d version on }
+edits_same P told None p f = absurd p
+
+pub edits_as : (A B : Version → Draft → Type 0) (old new : Option Draft) → ((version : Version) (e : Draft) → A version e → B version e) → Edits A old new → Edits B old new
+edits_as A B old new f = between_as (EditsOne A) (EditsOne B) old new (λ d e _ _ r. record { known = r.known; becomes = λ version on. f version e (r.becomes version on) })
+
+-- what the first made is a version, on which the second went on
+pub edits_on : (A B C : Version → Draft → Type 0) (a b c : Option Draft) → ((version : Version) (e f : Draft) → A version e → (now : Version) × WorksOn e now × (B now f → C version f)) → Edits A a b → Edits B b c → Edits C a c
+edits_on A B C a b c h = between_then (EditsOne A) (EditsOne B) (EditsOne C) a b c (λ d e f r s. record {
+  known = goes_further r.known s.known;
+  becomes = λ version on. (let m = h version e f (r.becomes version on) in m.2 (s.becomes m.0 m.1));
+})
+
+-- some version is worked on still
+pub edits_some : (A : Version → Draft → Type 0) (old new : Option Draft) → IsSomeAnd old WorksOnSome → ((version : Version) (e : Draft) → A version e → WorksOnSome e) → Edits A old new → IsSomeAnd new WorksOnSome
+edits_some A (Some d) (Some e) p f r = f p.version e (r.becomes p.version p.on)
+edits_some A (Some d) None p f r = absurd r
+edits_some A None (Some e) p f r = absurd p
+edits_some A None None p f r = p
+
+-- ---- an entry stored
+
+module _ (o : Operation) (denied : List trie.Entry → Type 0) (A B : Type 0) (name : Name) (before entry : Entry) (old new : Option Draft) where
+  abbrev Called : Type 0
+  Called = Between (λ d e. Operates o denied d e A B) old new
+
+  pub stored : A → ((version : Version) (d e : Draft) → Operates o denied d e A B → WorksOn d version → before ≡ owned name version → WorksOn e (put name entry version)) → Called → Edits (Stores name before entry (Ok tt)) old new
+  stored a puts call = between_as (λ d e. Operates o denied d e A B) (EditsOne (Stores name before entry (Ok tt))) old new (λ d e _ _ op. record { known = op.known; becomes = λ version on is. puts version d e op on is }) call
+
+  -- there was no room
+  pub no_room : (f : Full) (key : List ℕ) (written : ℕ) → (A → ⊥) → ((version : Version) → IsVersion version → before ≡ owned name version → put name entry version ≡ version → ⊥) → Called → IsSomeAnd new (λ d. IsFull d f)
+      → Between (λ d e. CausedFrom d.usage e key written f) old new → Edits (Stores name before entry (Err f.kept)) old new
+  no_room f key written no changes call full cause =
+      between_both (λ d e. CausedFrom d.usage e key written f) (λ d e. Operates o denied d e A B × IsFull e f) (EditsOne (Stores name before entry (Err f.kept))) old new
+      (λ d e cause both. record {
+        known = both.0.known;
+        becomes = λ version on is. (
+            works_same o denied d e A B version both.0 no on,
+            record {
+              named = both.1.named;
+              many = subst (λ (es : List trie.Entry). length e.usage.given - reserve_of e.usage - 2 ≤ cells es + cells_kept e.seat.place.me.0 (versions_in f.kept)) (same_set o denied d e A B both.0 no ∙ on.set) cause.2.many_cells;
+            },
+            changes version on.valid is,
+          );
+      }) cause (between_and (λ d e. Operates o denied d e A B) (λ d. IsFull d f) (λ d e. Operates o denied d e A B × IsFull e f) old new (λ d e op p. (op, p)) call full)
+
+  -- the name was refused
+  pub refused_set : IsSomeAnd old (Owns name before) → B → Called → (version : Version) × (IsVersion version) × (before ≡ owned name version) × denied (trie_entries version)
+  refused_set owns b call =
+      let x = both (Owns name before) (λ d e. Operates o denied d e A B) old new owns call in
+      (x.met.version, x.met.on.valid, x.met.owned_is, subst denied x.met.on.set (x.related.refused.0 b))
+
+-- ---- an item read
+
+pub some_weaker : (P Q : Draft → Type 0) (o : Option Draft) → ((d : Draft) → P d → Q d) → IsSomeAnd o P → IsSomeAnd o Q
+some_weaker P Q (Some d) f p = f d p
+some_weaker P Q None f p = absurd p
+
+module _ (name : Name) (key before after : List ℕ) (found : Option ℕ) (len : ℕ) (reads : (version : Version) → IsVersion version → Fetched key (trie_entries version) before after found → IsRead name version after len) where
+  read_one : (d e : Draft) → IsSame d e → Fetched key (working_set d) before after found → EditsOne (Reads name after len) d e
+  read_one d e same item = record {
+    known = subst (GoesOn d.seat.place.me.0) (sym same.known) (goes_same d.seat.place.me.0);
+    becomes = λ version on.
+        let set : working_set e ≡ working_set d = ap (λ (v : Known). applied (version_seen v.seen) e.log.operations) same.known ∙ ap (applied (base_of d)) same.log in
+        record {
+          stays = record { works = same.works; set = set ∙ on.set; valid = on.valid };
+          read = reads version on.valid (subst (λ (es : List trie.Entry). Fetched key es before after found) on.set item);
+        };
+  }
+
+  pub read_as : (old new : Option Draft) → Between IsSame old new → IfSome old (λ d. Fetched key (working_set d) before after found) → Edits (Reads name after len) old new
+  read_as (Some d) (Some e) same item = read_one d e same item
+  read_as (Some d) None same item = same
+  read_as None (Some e) same item = same
+  read_as None None same item = same
+
+  pub read_within : (old : Option Draft) → IsSomeAnd old WorksOnSome → IfSome old (λ d. Fetched key (working_set d) before after found) → len ≤ 4096
+  read_within (Some d) p item = (reads p.version p.on.valid (subst (λ (es : List trie.Entry). Fetched key es before after found) p.on.set item)).within
+  read_within None p item = absurd p
