@@ -13,3 +13,4 @@ pub mod Chunks
 pub mod RoundLaws
 pub mod KeptLaws
 pub mod OneCellLaws
+pub mod Accounts

@@ -12,6 +12,7 @@ use Rattle.pin_core.specs.Machine.{is_settled, names_version, mark_of}
 use Rattle.shared_cells.specs.declared.view.TableSize.{TableSize}
 use Rattle.shared_cells.specs.declared.view.Entry.{Entry}
 use Rattle.shared_cells.specs.declared.view.Naming.{Naming}
+use Rattle.shared_cells.specs.declared.view.Seen.{Seen}
 use Rattle.shared_cells.specs.declared.view.Progress.TheVariants as progress
 use Rattle.shared_cells.specs.declared.view.PassView.{PassView}
 use Rattle.shared_cells.specs.declared.view.TurnView.{TurnView}
@@ -125,6 +126,21 @@ module _ {O E : Type 0} where
   -- what a pass has seen once it has learnt begins with what it had seen, and with what it was told
   abbrev pub Learns : View O E → View O E → Type 0
   Learns v w = (w ≡ learnt_view v) × IsPartOf w.seen v.seen × IsPartOf w.seen v.told
+
+  -- What the rule tells of an idle pass: all that was published and named so far, the beginning of which the pass has seen.
+  pub record Accounts (passes : ℕ) (v : View O E) (all : Seen O E) : Type 0 where
+    pub seen : IsPartOf all v.seen
+    -- the history has the pass's entries, and no others of it
+    pub entries : (own : PassView E) → v.pass ≡ Some own → own.entries ≡ entries_by own.number all.history
+    -- its namings are of versions that it has pinned
+    pub namings : (own : PassView E) → v.pass ≡ Some own → All (λ n. n.pass ≡ own.number → Contains own.pinned n.version) all.namings
+    -- each entry and each naming is of a pass that there is
+    pub authors : All (λ e. e.author < passes) all.history
+    pub namers : All (λ n. n.pass < passes) all.namings
+
+  -- an idle pass looks at CUR
+  abbrev pub accounted : ℕ → WordStep → Knower O E → ℕ → Knower O E → Type 0
+  accounted passes step m word m' = (m' ≡ m) × ((all : Seen O E) × Accounts passes m.0 all)
 
   -- the turn stores a word of CUR, which has the number of version 0's root
   abbrev pub opened : Option O → List CellAt → WordStep → Knower O E → ℕ → Knower O E → Type 0

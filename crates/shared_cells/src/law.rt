@@ -57,3 +57,14 @@ impl<E> Payload<E> for Brand {
 
     ghost image = { [] };
 }
+
+/// How many passes an index has. The call that asks what is known of a pass picks it.
+pub trait Counted {
+    ghost use Rattle.std.specs.Prelude.{ℕ};
+
+    ghost passes: { ℕ };
+}
+
+impl Counted for Brand {
+    ghost passes = { 0 };
+}

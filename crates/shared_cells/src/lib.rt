@@ -20,8 +20,8 @@ mod tests;
 mod turn;
 mod view;
 
-pub use cells::PinnedCells;
-pub use law::{Law, Opening, Payload};
+pub use cells::{JoinedCells, PinnedCells};
+pub use law::{Counted, Law, Opening, Payload};
 pub use lent::{Lent, TurnCells};
 pub use pass::{NewPassSeat, PassSeat, SeatNote};
 pub use pinned::PinnedSeat;

@@ -1,10 +1,10 @@
 //! The seats of passes, and the notes by which one tells another what it has seen.
 ghost use Rattle.std.specs.Prelude.{◌≡◌, ℕ, ◌+◌, ◌*◌, ◌<◌, ◌≤◌, length, true, false, []};
 ghost use Rattle.shared_cells.specs.Views.{number_of, has_turn, is_told, is_idle, chunks_of, with_note, note_of};
-ghost use Rattle.shared_cells.specs.Steps.{Learns};
+ghost use Rattle.shared_cells.specs.Steps.{Learns, Accounts};
 
-use crate::law::Law;
-use crate::plays::{Hear, Learn, Tell};
+use crate::law::{Counted, Law};
+use crate::plays::{Account, Hear, Learn, Tell};
 use crate::shared::Shared;
 use crate::view::Place;
 use pin_core::words::CUR;
@@ -83,6 +83,17 @@ impl<O, E> PassSeat<O, E> {
         ensures learnt { Learns (with_note self.old.place.me.0 note.place.me.0) self.new.place.me.0 }
     {
         hear(shared, &mut self.place, note);
+    }
+
+    /// Looks at the current version's word, which tells what the rule knows of this pass.
+    pub fn look<L: Law<O, E>, M: Counted>(&mut self, shared: &Shared<O, E, L>)
+        requires table { self.old.place.table_id ≡ shared.now.table.shared.table_id }
+        requires passes { M.passes ≡ shared.now.table.shared.key.passes }
+        ensures table { self.new.place.table_id ≡ self.old.place.table_id }
+        ensures same { (self.new.place.me.0 ≡ self.old.place.me.0) × (self.new.number ≡ self.old.number) }
+        ensures accounted { (all : _) × Accounts M.passes self.old.place.me.0 all }
+    {
+        shared.table.shared.load::<Account<M>>(&mut self.place, CUR);
     }
 }
 

@@ -1,8 +1,8 @@
 //! What each step tells its seat, and how seats are split and joined.
 ghost use Rattle.shared_cells.specs.Views.{with_new_pass, new_pass_of, note_of, pass_of, without_pass, with_pass, with_note, spent_view};
-ghost use Rattle.shared_cells.specs.Steps.{looked, learnt, opened, published, entered, glanced, settled, left, read, stored, recalled, scanned, assigned};
+ghost use Rattle.shared_cells.specs.Steps.{looked, learnt, opened, published, accounted, entered, glanced, settled, left, read, stored, recalled, scanned, assigned};
 
-use crate::law::{Law, Opening, Payload};
+use crate::law::{Counted, Law, Opening, Payload};
 use crate::view::View;
 use atomic_table::{Join, Play, Split};
 use std::marker::PhantomData;
@@ -39,6 +39,15 @@ pub(crate) struct Learn;
 
 impl<O, E> Play<(), View<O, E>> for Learn {
     ghost then = { learnt };
+}
+
+/// An idle pass loads the current version's word.
+pub(crate) struct Account<M> {
+    count: PhantomData<M>,
+}
+
+impl<O, E, M: Counted> Play<(), View<O, E>> for Account<M> {
+    ghost then = { accounted M.passes };
 }
 
 /// A pass stores that it is about to look.

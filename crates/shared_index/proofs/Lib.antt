@@ -26,3 +26,4 @@ pub mod RisenLaws
 pub mod CauseLaws
 pub mod FullLaws
 pub mod NamedLaws
+pub mod CloseLaws

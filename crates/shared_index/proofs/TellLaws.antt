@@ -1,14 +1,18 @@
 -- Passes that are told of the opening.
-use Rattle.std.proofs.Common.{◌≡◌, ◌∙◌, ℕ, zero, suc, ◌<◌, Bool, true, false, List, [], ◌∷◌, map, length, Option, Some, cond, nat_lt, refl, sym, ap, subst, arith}
+use Rattle.std.proofs.Common.{◌≡◌, ◌∙◌, ⊎_elim, ℕ, zero, suc, ◌+◌, ◌-◌, ◌<◌, ◌≤◌, Bool, true, false, List, [], ◌∷◌, ◌++◌, map, length, take, get_or, get_or-take, take-take, length-take-le, eq-or-lt_of_le, Option, Some, cond, nat_lt, refl, sym, ap, subst, arith}
 use Rattle.std.specs.Prelude.{unwrap_or}
-use Rattle.std.specs.List.{All}
+use Rattle.std.specs.List.{All, Contains, range_with_len}
+use Rattle.std.proofs.lemmas.List.{get_or-map, length-map, map-append}
+use Rattle.std.proofs.lemmas.List.Elements.{Contains-append_left, Contains-push}
+use Rattle.std.proofs.lemmas.List.FromFn.{length-range_with_len, get_or-range_with_len}
 use Rattle.trie_model.specs.Keys.{Entry}
 use Rattle.shared_cells.specs.declared.view.Entry.{Entry as Commit}
 use Rattle.shared_cells.specs.History.{IsPartOf, OpeningFits, longer_of}
-use Rattle.shared_cells.specs.Views.{is_told, pass_view}
+use Rattle.shared_cells.specs.Views.{is_told, number_of, pass_view}
 use Rattle.shared_cells.proofs.Seats.{told_there}
 use Rattle.shared_index.specs.declared.meaning.Operation.{Operation}
 use Rattle.shared_index.specs.Passes.{Known, first_version}
+use Rattle.shared_index.specs.Closings.{IsThere}
 use Rattle.shared_index.specs.Openings.{SeesFirst}
 
 -- no pass has seen anything when the table is made
@@ -17,6 +21,44 @@ all_unseen f [] ns chunks e k d l = absurd (omega arith)
 all_unseen f (x ∷ xs) [] chunks e k d l = absurd cc
 all_unseen f (x ∷ xs) (n ∷ ns) chunks e zero d l = let h : f x ≡ pass_view n chunks = cc in ap (λ (v : Known). length v.seen.history) h
 all_unseen f (x ∷ xs) (n ∷ ns) chunks e (suc k) d l = all_unseen f xs ns chunks (let t : map f xs ≡ map (λ n. pass_view n chunks) ns = cc in t) k d (omega arith)
+
+-- the passes are numbered from 0
+pub all_numbered : {A : Type 0} (f : A → Known) (xs : List A) (first count chunks : ℕ) → map f xs ≡ map (λ n. pass_view n chunks) (range_with_len first count) → map (λ x. number_of (f x).pass) xs ≡ range_with_len (first + 1) count
+all_numbered f [] first zero chunks e = refl
+all_numbered f [] first (suc count) chunks e = absurd cc
+all_numbered f (x ∷ xs) first zero chunks e = absurd cc
+all_numbered f (x ∷ xs) first (suc count) chunks e =
+    let h : f x ≡ pass_view first chunks = cc in
+    let t : map f xs ≡ map (λ n. pass_view n chunks) (range_with_len (suc first) count) = cc in
+    let more = all_numbered f xs (suc first) count chunks t in
+    let here : number_of (f x).pass ≡ first + 1 = ap (λ (v : Known). number_of v.pass) h in
+    ap (λ (n : ℕ). n ∷ map (λ y. number_of (f y).pass) xs) here ∙ ap (λ (ns : List ℕ). (first + 1) ∷ ns) more
+
+-- what is left of a list from which the last was taken
+pub fewer_left : {A : Type 0} (now old all : List A) → 0 < length old → old ≡ take (length old) all → now ≡ take (length old - 1) old → (length now + 1 ≡ length old) × (now ≡ take (length now) all)
+fewer_left now old all some is taken =
+    let long : length now ≡ length old - 1 = ap (λ (xs : List A). length xs) taken ∙ length-take-le (length old - 1) old (omega arith) in (
+      omega arith,
+      taken ∙ ap (take (length old - 1)) is ∙ take-take (length old - 1) (length old) all (omega arith) ∙ ap (λ (n : ℕ). take n all) (sym long),
+    )
+
+-- the last that is left has the number of those before it
+pub last_number : {A : Type 0} (g : A → ℕ) (old all : List A) (count : ℕ) (d : A) → 0 < length old → length old ≤ length all → old ≡ take (length old) all → map g all ≡ range_with_len 1 count
+    → g (get_or old (length old - 1) d) ≡ length old
+last_number g old all count d some within is numbered =
+    let n = length old - 1 in
+    let long : length all ≡ count = sym (length-map g all) ∙ ap (λ (ns : List ℕ). length ns) numbered ∙ length-range_with_len 1 count in
+    ap (λ (xs : List A). g (get_or xs n d)) is ∙ ap g (get_or-take (length old) all n d (omega arith)) ∙ sym (get_or-map g all n d (g d) (omega arith)) ∙ ap (λ (ns : List ℕ). get_or ns n (g d)) numbered
+    ∙ get_or-range_with_len 1 count n (g d) (omega arith) ∙ omega arith
+
+-- a pass more is there
+pub there_more : {A : Type 0} (f : A → Known) (ps : List A) (p : A) (left count : ℕ) → number_of (f p).pass ≡ left + 1
+    → ((number : ℕ) → left + 1 ≤ number → number < count → IsThere (map f ps) number) → (number : ℕ) → left ≤ number → number < count → IsThere (map f (ps ++ p ∷ [])) number
+there_more f ps p left count is others number some few =
+    subst (λ (vs : List Known). IsThere vs number) (sym (map-append f ps (p ∷ []))) (⊎_elim
+      (λ (e : left ≡ number). (f p, Contains-push (map f ps) (f p), is ∙ ap (λ (n : ℕ). n + 1) e))
+      (λ (l : left < number). let t = others number (omega arith) few in (t.0, Contains-append_left (map f ps) (f p ∷ []) t.0 t.1, t.2))
+      (eq-or-lt_of_le some))
 
 -- the longer of two that are empty
 pub none_longer : (xs ys : List (Commit (List Operation))) → length xs ≡ 0 → length ys ≡ 0 → length (longer_of xs ys) ≡ 0

@@ -11,3 +11,4 @@ pub mod Keepings
 pub mod Images
 pub mod Openings
 pub mod Fulls
+pub mod Closings

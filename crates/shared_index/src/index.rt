@@ -1,5 +1,5 @@
 //! The index, and what its lock keeps.
-ghost use Rattle.std.specs.Prelude.{◌≡◌, Some, slice_get};
+ghost use Rattle.std.specs.Prelude.{◌≡◌, ◌≤◌, Some, slice_get};
 
 use crate::desk::Desk;
 use crate::meaning::{Law, Meaning, Named, Operations, Version};
@@ -15,6 +15,7 @@ pub struct Index<L: Law, N: Named> {
     /// The turn is away while a transaction has it, which then has the lock.
     pub(crate) turn: Mutex<Option<Turn<N>>>,
     ghost here: { slice_get N.tables place ≡ Some shared.table.shared.table_id },
+    ghost some: { 1 ≤ shared.table.shared.key.passes },
 }
 
 /// The turn, as the lock keeps it.

@@ -22,6 +22,7 @@
 
 mod attempt;
 mod change;
+mod close;
 mod commit;
 mod desk;
 mod fetch;

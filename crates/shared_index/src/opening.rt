@@ -1,12 +1,13 @@
 //! How an index begins.
-ghost use Rattle.std.specs.Prelude.{◌≡◌, ◌+◌, ◌*◌, ◌<◌, ◌≤◌, Some, IsSome, IfOk, IfErr, All, length, slice_get};
+ghost use Rattle.std.specs.Prelude.{◌≡◌, ◌+◌, ◌*◌, ◌<◌, ◌≤◌, Some, IsSome, IfOk, IfErr, All, length, map, slice_get};
+ghost use Rattle.std.specs.List.{range_with_len};
 ghost use Rattle.std.proofs.Props.{props};
 ghost use Rattle.trie_model.specs.Keys.{Rises};
 ghost use Rattle.trie_model.specs.Shape.{cells as cells_in_trie};
 ghost use Rattle.chunk_usage.specs.Ledger.{frozen_part};
 ghost use Rattle.chunk_usage.specs.Handing.{Lacks, spent};
 ghost use Rattle.trie_write.specs.Entries.{entries_of_items};
-ghost use Rattle.shared_cells.specs.Views.{words_of};
+ghost use Rattle.shared_cells.specs.Views.{number_of, words_of};
 ghost use Rattle.shared_cells.specs.Cells.{given_chunks, with_words};
 ghost use Rattle.shared_cells.specs.Steps.{CanOpen, Opened};
 ghost use Rattle.shared_index.specs.Operations.{applied};
@@ -15,6 +16,7 @@ ghost use Rattle.shared_index.specs.Passes.{first_version, known_at};
 ghost use Rattle.shared_index.specs.Turns.{cells_with};
 ghost use Rattle.shared_index.specs.Bases.{StandsFor};
 ghost use Rattle.shared_index.specs.Images.{image_at};
+ghost use Rattle.shared_index.specs.Closings.{AreAll};
 ghost use Rattle.shared_index.specs.Openings.{IsUnused, SeesFirst, Refuses, room_in};
 
 use crate::desk::Desk;
@@ -44,7 +46,9 @@ pub struct Blank<L: Law> {
     ghost turn_here: { turn.place.table_id ≡ shared.table.shared.table_id },
     ghost seats_here: { All (λ s. s.place.table_id ≡ shared.table.shared.table_id) seats.items },
     ghost unseen: { All (λ s. length s.place.me.0.seen.history ≡ 0) seats.items },
+    ghost numbered: { map (λ s. number_of s.place.me.0.pass) seats.items ≡ range_with_len 1 shared.table.shared.key.passes },
     ghost size: { shared.table.shared.key.chunks ≡ length usage.given },
+    ghost some: { 1 ≤ shared.table.shared.key.passes },
     ghost enough: { 16 ≤ length usage.given },
     ghost unused: { IsUnused turn.place.me.0.turn usage turn.passes } by { Prim.hlevel props },
 }
@@ -75,7 +79,8 @@ impl<L: Law> Blank<L> {
         requires few { chunks ≤ 4096 }
         requires some_passes { 1 ≤ passes }
         requires few_passes { passes ≤ 64 }
-        ensures { IfOk result (λ blank. blank.shared.table.shared.key.chunks ≡ chunks) }
+        ensures chunks { IfOk result (λ blank. blank.shared.table.shared.key.chunks ≡ chunks) }
+        ensures passes { IfOk result (λ blank. blank.shared.table.shared.key.passes ≡ passes) }
     {
         let (shared, seats, turn) = Shared::new(alloc, chunks, passes)?;
         let usage = Usage::new(alloc, chunks, passes)?;
@@ -198,11 +203,13 @@ fn tell_passes<L: Law, N: Named>(
     requires table { turn.old.place.table_id ≡ shared.now.table.shared.table_id }
     requires seats { All (λ s. s.place.table_id ≡ shared.now.table.shared.table_id) seats.items }
     requires unseen { All (λ s. length s.place.me.0.seen.history ≡ 0) seats.items }
+    requires numbered { map (λ s. number_of s.place.me.0.pass) seats.items ≡ range_with_len 1 shared.now.table.shared.key.passes }
     requires no_history { length turn.old.place.me.0.seen.history ≡ 0 }
     ensures same { (turn.new.place.table_id ≡ turn.old.place.table_id) × (turn.new.place.me.0 ≡ turn.old.place.me.0) × (turn.new.passes ≡ turn.old.passes) }
     ensures passes { IfOk result (λ passes. All (λ p. (IsSome p.seat) × (p.place ≡ place)
         × (SeesFirst (first_version turn.old.place.me.0.seen) (known_at p.seat))) passes.items) }
-    ensures count { IfOk result (λ passes. length passes.items ≡ length seats.items) }
+    ensures count { IfOk result (λ passes. length passes.items ≡ shared.now.table.shared.key.passes) }
+    ensures all { IfOk result (λ passes. AreAll shared.now.table.shared.key.passes (map (λ p. known_at p.seat) passes.items)) }
 {
     let mut seats = seats;
     let mut passes = Vec::new(alloc);
@@ -266,6 +273,9 @@ impl<L: Law, N: Named> Index<L, N> {
         requires room { cells_in_trie (entries_of_items items.now) ≤ room_in blank.shared.table.shared.key.chunks }
         ensures place { IfOk result (λ made. made.0.place ≡ place) }
         ensures passes { IfOk result (λ made. All (λ p. (IsSome p.seat) × (p.place ≡ place) × (SeesFirst (entries_of_items items.now) (known_at p.seat))) made.1.items) }
+        ensures size { IfOk result (λ made. made.0.shared.table.shared.key ≡ blank.shared.table.shared.key) }
+        ensures count { IfOk result (λ made. length made.1.items ≡ blank.shared.table.shared.key.passes) }
+        ensures all { IfOk result (λ made. AreAll blank.shared.table.shared.key.passes (map (λ p. known_at p.seat) made.1.items)) }
     {
         let Blank {
             shared,
@@ -300,6 +310,9 @@ impl<L: Law, N: Named> Index<L, N> {
         requires lawful { L.lawful (entries_of_items items.now) (entries_of_items items.now) }
         ensures place { IfOk result (λ made. made.0.place ≡ place) }
         ensures passes { IfOk result (λ made. All (λ p. (IsSome p.seat) × (p.place ≡ place) × (SeesFirst (entries_of_items items.now) (known_at p.seat))) made.1.items) }
+        ensures size { IfOk result (λ made. made.0.shared.table.shared.key ≡ blank.shared.table.shared.key) }
+        ensures count { IfOk result (λ made. length made.1.items ≡ blank.shared.table.shared.key.passes) }
+        ensures all { IfOk result (λ made. AreAll blank.shared.table.shared.key.passes (map (λ p. known_at p.seat) made.1.items)) }
         ensures fits { IfOk result (λ _. cells_in_trie (entries_of_items items.now) ≤ room_in blank.shared.table.shared.key.chunks) }
         ensures full { IfErr result (λ refusal. Refuses blank.shared.table.shared.key.chunks (entries_of_items items.now) refusal) }
     {

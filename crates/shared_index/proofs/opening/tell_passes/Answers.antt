@@ -1,11 +1,13 @@
-use Rattle.std.proofs.Common.{◌≡◌, ◌∙◌, ◌+◌, ◌-◌, ◌<◌, ◌∷◌, ◌++◌, [], ℕ, List, length, take, slice_index_or, vec_len, refl, sym, ap, subst, arith, length-append}
+use Rattle.std.proofs.Common.{◌≡◌, ◌∙◌, ◌+◌, ◌-◌, ◌<◌, ◌∷◌, ◌++◌, [], ℕ, List, length, map, take, slice_index_or, vec_len, refl, sym, ap, subst, arith, length-append}
 use Rattle.std.specs.Prelude.{IsSome}
 use Rattle.std.specs.List.{All}
 use Rattle.std.proofs.lemmas.List.Elements.{All-push, All-take}
 use Rattle.shared_cells.specs.History.{IsPartOf}
+use Rattle.shared_cells.specs.Views.{number_of}
+use Rattle.shared_index.specs.Closings.{IsThere}
 use Rattle.shared_index.specs.Passes.{Known, first_version, known_at}
 use Rattle.shared_index.specs.Openings.{SeesFirst}
-use Rattle.shared_index.proofs.TellLaws.{none_longer, sees_first}
+use Rattle.shared_index.proofs.TellLaws.{none_longer, sees_first, fewer_left, last_number, there_more}
 use Rattle.shared_index.proofs.opening.tell_passes.Goals as goal
 
 pub loop-seat-preserved : goal.loop-seat-preserved
@@ -29,6 +31,12 @@ loop-seat-preserved g c =
     let part : IsPartOf w.seen v.seen = subst (IsPartOf w.seen) told c.learn-seat.ensures.learnt.2 in
     let sees : SeesFirst (first_version c.args.turn.now.place.me.0.seen) w = subst (λ (x : Known). SeesFirst (first_version x.seen) w) inv.known (sees_first v w c.loop-seat.turn.told part none) in
     let items = c.in_ok-push.ensures.items in
+    let left = fewer_left c.pop.new.self.items c.loop-seat.seats.items c.args.seats.items some inv.rest pop.rest in
+    let numbered : number_of w.pass ≡ length c.pop.new.self.items + 1 =
+    ap (λ (x : Known). number_of x.pass) c.learn-seat.ensures.learnt.0
+    ∙ ap (λ s. number_of s.place.me.0.pass) popped
+    ∙ last_number (λ s. number_of s.place.me.0.pass) c.loop-seat.seats.items c.args.seats.items c.args.shared.now.table.shared.key.passes seat some (let m = inv.many in omega arith) inv.rest c.requires.numbered
+    ∙ sym left.0 in
     record {
       table = note.table.0 ∙ inv.table;
       known = note.same.0 ∙ inv.known;
@@ -41,4 +49,8 @@ loop-seat-preserved g c =
           let more = ap (λ ps. length ps) items ∙ length-append c.loop-seat.passes.items _ in
           let fewer = ap (λ ss. length ss) c.in-Some.ensures.items ∙ length-append c.pop.new.self.items _ in
           let all = inv.many in omega arith;
+      rest = left.1;
+      all = λ number some small. subst (λ ps. IsThere (map (λ p. known_at p.seat) ps) number) (sym items)
+          (there_more (λ p. known_at p.seat) c.loop-seat.passes.items _ (length c.pop.new.self.items) (length c.args.seats.items) numbered
+          (λ n more few. inv.all n (let k = left.0 in omega arith) few) number some small);
     }

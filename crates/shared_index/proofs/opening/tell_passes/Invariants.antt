@@ -1,7 +1,8 @@
-use Rattle.std.proofs.Common.{◌≡◌, ◌+◌, length, vec_len}
+use Rattle.std.proofs.Common.{◌≡◌, ℕ, ◌+◌, ◌<◌, ◌≤◌, length, map, take, vec_len}
 use Rattle.std.specs.Prelude.{IsSome}
 use Rattle.std.specs.List.{All}
 use Rattle.shared_index.specs.Passes.{first_version, known_at}
+use Rattle.shared_index.specs.Closings.{IsThere}
 use Rattle.shared_index.specs.Openings.{SeesFirst}
 use Rattle.shared_index.proofs.opening.tell_passes.Given as goal
 
@@ -17,4 +18,6 @@ invariant-loop-seat g l = record {
   unseen : All (λ s. length s.place.me.0.seen.history ≡ 0) l.seats.items;
   told : All (λ p. (IsSome p.seat) × (p.place ≡ l.place) × (SeesFirst (first_version l.initial.turn.place.me.0.seen) (known_at p.seat))) l.passes.items;
   many : length l.passes.items + length l.seats.items ≡ length l.initial.seats.items;
+  rest : l.seats.items ≡ take (length l.seats.items) l.initial.seats.items;
+  all : (number : ℕ) → length l.seats.items ≤ number → number < length l.initial.seats.items → IsThere (map (λ p. known_at p.seat) l.passes.items) number;
 }
