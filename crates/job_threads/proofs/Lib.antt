@@ -1,3 +1,4 @@
 pub mod HistoryLaws
+pub mod StepLaws
 pub mod WorkLaws
 pub mod JobLaws

@@ -17,7 +17,7 @@ use Rattle.shared_index.specs.declared.meaning.Operation.{Operation}
 use Rattle.shared_index.specs.Operations.{applied}
 use Rattle.shared_index.specs.Passes.{Known, first_version}
 use Rattle.job_threads.specs.Histories.{Setup, Commit, Entries, index_at, StandsAs, AreVersions, CoversNamings, judged_by, times_by}
-use Rattle.job_threads.specs.Steps.{Station, IsSight, Adds, Stays, Writes, Step}
+use Rattle.job_threads.specs.Steps.{Station, HoldsLast, IsSight, IsUnder, Adds, Stays, Writes, Step}
 use Rattle.job_threads.specs.Works.{Replayed, Work, Numbers, WorkerRan}
 use Rattle.job_threads.proofs.HistoryLaws.{begins_same, begins_more, begins_length, begins_other, index_front, index_last, versions_front, covers_front, by-push, times_front, times_past, times_there, times_else}
 
@@ -112,7 +112,7 @@ replayed_more s all part b p le r = λ c.
 pub record WorkerAt (s : Setup) (numbers : Numbers) (t : Station) (done ahead : List Command) (os : List Told_outcome) : Type 0 where
   pub alike : Alike done os
   pub sight : IsSight t (sight_behind at_first (pairs_of done os))
-  pub under : StartsWith t.asks.seen.history t.holds.seen.history
+  pub under : IsUnder t.asks t.holds
   pub told : (set : ℕ → Version) → AreVersions s t.asks.seen.history set → EachTells s.origin set done os
   pub work : Work s t (pairs_of done os)
   pub asker : work.asker.number ≡ numbers.asker
@@ -201,10 +201,10 @@ grows s numbers old new pairs p w true number g c a = grows_more s numbers old n
 grows s numbers old new pairs p w false number g c y = grows_same s numbers old new pairs p w number g c y
 
 pub worker_begins : (s : Setup) (t : Station) (asker holder : Own) (commands : List Command) → first_version t.asks.seen ≡ s.opening → t.asks.pass ≡ Some asker → t.holds.pass ≡ Some holder → asker.entries ≡ [] → holder.entries ≡ [] → asker.pinned ≡ [] → holder.pinned ≡ []
-    → StartsWith t.asks.seen.history t.holds.seen.history → t.held ≡ false → InTurn false commands → WorkerAt s (record { asker = asker.number; holder = holder.number }) t [] commands []
+    → IsUnder t.asks t.holds → t.held ≡ false → InTurn false commands → WorkerAt s (record { asker = asker.number; holder = holder.number }) t [] commands []
 worker_begins s t asker holder commands opened is_asker is_holder none none_held unpinned unpinned_held under free turn = record {
   alike = refl;
-  sight = record { seen = omega arith; held = subst (λ (b : Bool). Rattle.job_threads.specs.Steps.HoldsLast t b None) (sym free) refl };
+  sight = record { seen = omega arith; held = subst (λ (b : Bool). HoldsLast t b None) (sym free) refl };
   under = under;
   told = λ set are. tt;
   work = record {

@@ -40,6 +40,7 @@ pub record Asked (origin : Name) (question : Question) (old new : Known) (o : Ou
   pub grows : IsPartOf new.seen old.seen
   pub version : o.version ≡ length new.seen.history
   pub pass : new.pass ≡ with_pinned old.pass o.version
+  pub shown : ended_view o.told ≡ Shown
   pub replies : (zone : Version) → StandsAs (version_seen new.seen) zone → Replies (reply_of origin zone question) o.told
 
 -- a pinned seat shows the version that its pass has seen last, which is one of a zone
@@ -62,6 +63,7 @@ pub record Held (old second new : Known) (seat : PinnedSeat (List trie.Entry) (L
 -- a snapshot replied
 pub record AskedHeld (origin : Name) (question : Question) (seat : PinnedSeat (List trie.Entry) (List Operation)) (o : Outcome) : Type 0 where
   pub version : o.version ≡ seat.version
+  pub shown : ended_view o.told ≡ Shown
   pub replies : (zone : Version) → StandsAs (version_seen seat.place.me.0.seen) zone → Replies (reply_of origin zone question) o.told
 
 -- it was given back

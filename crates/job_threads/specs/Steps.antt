@@ -2,14 +2,14 @@
 use Rattle.std.specs.Prelude.{◌≡◌, ◌⊎◌, ℕ, ◌+◌, ◌≤◌, Bool, true, false, List, [], ◌∷◌, ◌++◌, length, Option, Some, None, Ok, Contains}
 use Rattle.zone_model.specs.Versions.{Version, whole}
 use Rattle.job_model.specs.Commands.{Command, held_after}
-use Rattle.job_model.specs.Outcomes.{Sight, is_committed, operations_of, shown_by, EndsLawfully}
+use Rattle.job_model.specs.Outcomes.{Sight, sight_after, is_committed, operations_of, shown_by, EndsLawfully}
 use Rattle.job_script.specs.Outcomes.{ended_view, Tells}
 use Rattle.job_script.specs.declared.outcomes.Outcome.{Outcome}
 use Rattle.shared_cells.specs.declared.view.PassView.{PassView}
 use Rattle.shared_cells.specs.History.{StartsWith, IsPartOf, entries_by, entry_of, version_after}
 use Rattle.shared_index.specs.declared.meaning.Operation.{Operation}
 use Rattle.shared_index.specs.Operations.{applied}
-use Rattle.shared_index.specs.Passes.{Known, commits_in, pinned_in}
+use Rattle.shared_index.specs.Passes.{Known, first_version}
 use Rattle.job_threads.specs.Histories.{Setup, Commit, StandsAs, AreVersions, CoversNamings, judged_by}
 
 -- What a worker's two passes know, that of its questions and transactions and that of its snapshots; and whether it holds a snapshot.
@@ -26,6 +26,11 @@ HoldsLast t true v = v ≡ Some (length t.holds.seen.history)
 pub record IsSight (t : Station) (sight : Sight) : Type 0 where
   pub seen : sight.seen ≤ length t.asks.seen.history
   pub held : HoldsLast t t.held sight.held
+
+-- what the second pass has seen of the history the first has seen too
+pub record IsUnder (asks holds : Known) : Type 0 where
+  pub opening : first_version holds.seen ≡ first_version asks.seen
+  pub history : StartsWith asks.seen.history holds.seen.history
 
 -- The pass of this number has committed a block: the history has its operations behind those of the base, which has of the
 -- pass's commits those that it made before. The version that stands as the base becomes what the block makes of it.
@@ -57,13 +62,13 @@ Writes s own c version true old new = Adds s own c version old new
 pub record Step (s : Setup) (c : Command) (o : Outcome) (old new : Station) : Type 0 where
   pub asks : IsPartOf new.asks.seen old.asks.seen
   pub holds : IsPartOf new.holds.seen old.holds.seen
-  pub under : StartsWith new.asks.seen.history new.holds.seen.history
+  pub under : IsUnder new.asks new.holds
   pub held : new.held ≡ held_after old.held c
   pub tells : (set : ℕ → Version) → AreVersions s new.asks.seen.history set → Tells s.origin set c o
   pub ends : (sight : Sight) → IsSight old sight → (set : ℕ → Version) (shown : List ℕ) → AreVersions s new.asks.seen.history set → CoversNamings shown new.asks.seen
       → EndsLawfully (judged_by s set shown) sight c o.version (ended_view o.told)
   pub below : o.version ≤ length new.asks.seen.history
   -- what it holds now is of that version, if it took it
-  pub holding : (sight : Sight) → IsSight old sight → IsSight new (Rattle.job_model.specs.Outcomes.sight_after sight c o.version)
+  pub holding : (sight : Sight) → IsSight old sight → IsSight new (sight_after sight c o.version)
   pub writes : (own : PassView (List Operation)) → old.asks.pass ≡ Some own → Writes s own c o.version (is_committed (ended_view o.told)) old.asks new.asks
   pub kept : (own : PassView (List Operation)) → old.holds.pass ≡ Some own → Stays c o.version own new.holds

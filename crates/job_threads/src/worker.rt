@@ -3,11 +3,10 @@ ghost use Rattle.std.specs.Prelude.{◌≡◌, List, IsSome, IfSome, IfOk, map, 
 ghost use Rattle.std.specs.Option.{option_map, is_some};
 ghost use Rattle.job_model.specs.Commands.{InTurn, MayCome};
 ghost use Rattle.job_script.specs.Views.{command_view};
-ghost use Rattle.shared_cells.specs.History.{StartsWith};
 ghost use Rattle.shared_index.specs.Passes.{known_at};
 ghost use Rattle.job_threads.specs.Histories.{Setup};
 ghost use Rattle.job_threads.specs.Commands.{IsSetup};
-ghost use Rattle.job_threads.specs.Steps.{Step};
+ghost use Rattle.job_threads.specs.Steps.{IsUnder, Step};
 ghost use Rattle.job_threads.specs.Stations.{IsPlaced, holder_view, station};
 ghost use Rattle.job_threads.specs.Works.{Numbers, WorkerRan, IsFresh};
 
@@ -68,7 +67,7 @@ fn run_command<'i, R: Wait, N: Named>(
     ensures places { IfOk result (λ _. IfSome passes.new.spare (λ p. p.place ≡ index.now.place)) }
     ensures placed { IfOk result (λ _. IsPlaced (option_map (λ p. p.seat) passes.new.spare) (option_map (λ s. s.seat) passes.new.held)) }
     ensures steps { (s : Setup) → IsSetup s origin.now index.now.shared.table.shared.key (known_at passes.old.asks.seat)
-        → StartsWith (known_at passes.old.asks.seat).seen.history (holder_view (option_map (λ p. p.seat) passes.old.spare) (option_map (λ s. s.seat) passes.old.held)).seen.history
+        → IsUnder (known_at passes.old.asks.seat) (holder_view (option_map (λ p. p.seat) passes.old.spare) (option_map (λ s. s.seat) passes.old.held))
         → IfOk result (λ o. Step s (command_view command.now) o
             (station passes.old.asks.seat (option_map (λ p. p.seat) passes.old.spare) (option_map (λ s. s.seat) passes.old.held))
             (station passes.new.asks.seat (option_map (λ p. p.seat) passes.new.spare) (option_map (λ s. s.seat) passes.new.held))) }

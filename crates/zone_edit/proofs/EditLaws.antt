@@ -18,9 +18,13 @@ use Rattle.shared_index.specs.Operations.{operated, applied, with_entry, without
 use Rattle.shared_index.specs.Drafts.{Works, Operates, IsFull, IsSame, Between, base_of, working_set}
 use Rattle.shared_index.specs.Fulls.{CausedFrom, cells_kept}
 use Rattle.shared_index.specs.Passes.{Known, version_seen}
-use Rattle.chunk_usage.specs.Ledger.{reserve_of}
+use Rattle.chunk_usage.specs.Ledger.{Ledger, reserve_of}
 use Rattle.trie_model.specs.Shape.{cells}
-use Rattle.shared_index.specs.Keepings.{GoesOn, versions_in}
+use Rattle.pin_core.specs.declared.kept.Kept.{Kept}
+use Rattle.std.proofs.lemmas.List.{length-map}
+use Rattle.shared_cells.specs.Views.{kept_in}
+use Rattle.shared_index.specs.Turns.{row_for}
+use Rattle.shared_index.specs.Keepings.{GoesOn, numbers_of, versions_in}
 use Rattle.shared_index.proofs.GoesLaws.{base_goes_on, applied_more, goes_further}
 use Rattle.zone_change.proofs.VersionLaws.{version_put, version_gone}
 use Rattle.zone_change.proofs.StoreLaws.{put_some, storable, same_entry, record_of}
@@ -135,16 +139,17 @@ pub goes_same : (v : Known) → GoesOn v v
 goes_same v = record { pass = refl; opening = refl; history = refl; namings = ([], sym (append-nil v.seen.namings)) }
 
 pub edits_same : (P : Draft → Type 0) (told : Version → Draft → Type 0) (old : Option Draft) → IsSomeAnd old P → ((d : Draft) (version : Version) → WorksOn d version → told version d) → Edits told old old
-edits_same P told (Some d) p f = record { known = goes_same d.seat.place.me.0; becomes = λ version on. f d version on }
+edits_same P told (Some d) p f = record { known = goes_same d.seat.place.me.0; passes = refl; becomes = λ version on. f d version on }
 edits_same P told None p f = absurd p
 
 pub edits_as : (A B : Version → Draft → Type 0) (old new : Option Draft) → ((version : Version) (e : Draft) → A version e → B version e) → Edits A old new → Edits B old new
-edits_as A B old new f = between_as (EditsOne A) (EditsOne B) old new (λ d e _ _ r. record { known = r.known; becomes = λ version on. f version e (r.becomes version on) })
+edits_as A B old new f = between_as (EditsOne A) (EditsOne B) old new (λ d e _ _ r. record { known = r.known; passes = r.passes; becomes = λ version on. f version e (r.becomes version on) })
 
 -- what the first made is a version, on which the second went on
 pub edits_on : (A B C : Version → Draft → Type 0) (a b c : Option Draft) → ((version : Version) (e f : Draft) → A version e → (now : Version) × WorksOn e now × (B now f → C version f)) → Edits A a b → Edits B b c → Edits C a c
 edits_on A B C a b c h = between_then (EditsOne A) (EditsOne B) (EditsOne C) a b c (λ d e f r s. record {
   known = goes_further r.known s.known;
+  passes = s.passes ∙ r.passes;
   becomes = λ version on. (let m = h version e f (r.becomes version on) in m.2 (s.becomes m.0 m.1));
 })
 
@@ -157,12 +162,21 @@ edits_some A None None p f r = p
 
 -- ---- an entry stored
 
+-- of kept versions there are no more than passes and one
+few_kept : (d : Draft) (f : Full) → IsFull d f → length (versions_in f.kept) ≤ d.seat.passes + 1
+few_kept d f full =
+    let same : length (versions_in f.kept) ≡ length (numbers_of (kept_in d.seat.place.me.0.turn)) = ap length (full.kept ∙ d.kept_are) in
+    let numbers = length-map (kept_in d.seat.place.me.0.turn) (λ (k : Kept). k.version) in
+    let rows = ap length d.agrees.rows ∙ length-map (kept_in d.seat.place.me.0.turn) (row_for (length d.usage.given)) in
+    let most = d.agrees.few_rows in
+    omega (arith, same, numbers, rows, most)
+
 module _ (o : Operation) (denied : List trie.Entry → Type 0) (A B : Type 0) (name : Name) (before entry : Entry) (old new : Option Draft) where
   abbrev Called : Type 0
   Called = Between (λ d e. Operates o denied d e A B) old new
 
   pub stored : A → ((version : Version) (d e : Draft) → Operates o denied d e A B → WorksOn d version → before ≡ owned name version → WorksOn e (put name entry version)) → Called → Edits (Stores name before entry (Ok tt)) old new
-  stored a puts call = between_as (λ d e. Operates o denied d e A B) (EditsOne (Stores name before entry (Ok tt))) old new (λ d e _ _ op. record { known = op.known; becomes = λ version on is. puts version d e op on is }) call
+  stored a puts call = between_as (λ d e. Operates o denied d e A B) (EditsOne (Stores name before entry (Ok tt))) old new (λ d e _ _ op. record { known = op.known; passes = op.passes; becomes = λ version on is. puts version d e op on is }) call
 
   -- there was no room
   pub no_room : (f : Full) (key : List ℕ) (written : ℕ) → (A → ⊥) → ((version : Version) → IsVersion version → before ≡ owned name version → put name entry version ≡ version → ⊥) → Called → IsSomeAnd new (λ d. IsFull d f)
@@ -171,10 +185,13 @@ module _ (o : Operation) (denied : List trie.Entry → Type 0) (A B : Type 0) (n
       between_both (λ d e. CausedFrom d.usage e key written f) (λ d e. Operates o denied d e A B × IsFull e f) (EditsOne (Stores name before entry (Err f.kept))) old new
       (λ d e cause both. record {
         known = both.0.known;
+        passes = both.0.passes;
         becomes = λ version on is. (
             works_same o denied d e A B version both.0 no on,
             record {
               named = both.1.named;
+              ends = both.1.ends;
+              few = few_kept e f both.1;
               many = subst (λ (es : List trie.Entry). length e.usage.given - reserve_of e.usage - 2 ≤ cells es + cells_kept e.seat.place.me.0 (versions_in f.kept)) (same_set o denied d e A B both.0 no ∙ on.set) cause.2.many_cells;
             },
             changes version on.valid is,
@@ -196,6 +213,7 @@ some_weaker P Q None f p = absurd p
 module _ (name : Name) (key before after : List ℕ) (found : Option ℕ) (len : ℕ) (reads : (version : Version) → IsVersion version → Fetched key (trie_entries version) before after found → IsRead name version after len) where
   read_one : (d e : Draft) → IsSame d e → Fetched key (working_set d) before after found → EditsOne (Reads name after len) d e
   read_one d e same item = record {
+    passes = sym e.agrees.passes ∙ ap (λ (u : Ledger). u.passes) same.usage ∙ d.agrees.passes;
     known = subst (GoesOn d.seat.place.me.0) (sym same.known) (goes_same d.seat.place.me.0);
     becomes = λ version on.
         let set : working_set e ≡ working_set d = ap (λ (v : Known). applied (version_seen v.seen) e.log.operations) same.known ∙ ap (applied (base_of d)) same.log in
@@ -214,3 +232,16 @@ module _ (name : Name) (key before after : List ℕ) (found : Option ℕ) (len :
   pub read_within : (old : Option Draft) → IsSomeAnd old WorksOnSome → IfSome old (λ d. Fetched key (working_set d) before after found) → len ≤ 4096
   read_within (Some d) p item = (reads p.version p.on.valid (subst (λ (es : List trie.Entry). Fetched key es before after found) p.on.set item)).within
   read_within None p item = absurd p
+
+-- what a name owns is what was read
+module _ (name : Name) (octets : List ℕ) (len : ℕ) (old new : Option Draft) (works : IsSomeAnd old WorksOnSome) (reads : Edits (Reads name octets len) old new) where
+  pub read_some : (version : Version) × IsVersion version × IsRead name version octets len
+  read_some =
+      let x = both WorksOnSome (EditsOne (Reads name octets len)) old new works reads in
+      (x.met.version, x.met.on.valid, (x.related.becomes x.met.version x.met.on).read)
+
+  pub owns_after : (before : Entry) → ((version : Version) → IsRead name version octets len → before ≡ owned name version) → IsSomeAnd new (Owns name before)
+  owns_after before is =
+      let x = both WorksOnSome (EditsOne (Reads name octets len)) old new works reads in
+      let r = x.related.becomes x.met.version x.met.on in
+      subst (λ (o : Option Draft). IsSomeAnd o (Owns name before)) (sym x.new_is) (record { version = x.met.version; on = r.stays; owned_is = is x.met.version r.read })

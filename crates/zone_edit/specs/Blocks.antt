@@ -1,6 +1,8 @@
 -- What operations make of a transaction whose working set is a version of a zone.
 use Rattle.std.specs.Prelude.{◌≡◌, ℕ, ◌+◌, List, ◌∷◌, ◌++◌, length, Result, Ok, Err}
 use Rattle.zone_model.specs.Names.{Name}
+use Rattle.zone_model.specs.Records.{Entry}
+use Rattle.zone_model.specs.declared.Refusal.{Refusal}
 use Rattle.zone_model.specs.Versions.{Version, Operation, apply, whole}
 use Rattle.shared_index.specs.declared.desk.Draft.{Draft}
 use Rattle.shared_index.specs.declared.kept.Versions.{Versions}
@@ -9,6 +11,13 @@ use Rattle.zone_edit.specs.declared.applying.Stopped.{Stopped}
 use Rattle.zone_edit.specs.declared.applying.Stopped.TheVariants as stops
 use Rattle.zone_edit.specs.declared.applying.Halt.{Halt}
 use Rattle.zone_edit.specs.declared.applying.Halt.TheVariants as halts
+
+-- an entry is the one wanted, or the refusal is; want of memory says nothing
+abbrev pub Gives : Result Entry Stopped → Result Entry Refusal → Type 0
+Gives (Ok entry) wanted = wanted ≡ Ok entry
+Gives (Err stops.Memory) wanted = Unit {0}
+Gives (Err (stops.Refused refusal)) wanted = wanted ≡ Err refusal
+Gives (Err (stops.Full kept)) wanted = ⊥
 
 -- An operation is accepted, and the working set is the version that it makes; or it isn't, and the working set stays. Want of memory
 -- says nothing.

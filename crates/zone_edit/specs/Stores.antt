@@ -1,5 +1,5 @@
 -- A transaction whose working set is a version of a zone.
-use Rattle.std.specs.Prelude.{◌≡◌, ◌⊎◌, ℕ, ◌+◌, ◌-◌, ◌≤◌, List, [], length, Option, Some, None, Result, Ok, Err, Contains}
+use Rattle.std.specs.Prelude.{◌≡◌, ◌⊎◌, ℕ, ◌+◌, ◌-◌, ◌≤◌, List, [], ◌∷◌, ◌++◌, length, Option, Some, None, Result, Ok, Err, Contains}
 use Rattle.zone_model.specs.Names.{Name}
 use Rattle.zone_model.specs.Records.{Entry}
 use Rattle.zone_model.specs.Versions.{Version, owned, put}
@@ -34,6 +34,7 @@ pub record Owns (name : Name) (entry : Entry) (d : Draft) : Type 0 where
 -- the transaction goes on, and a working set that is a version becomes what is told of that
 pub record EditsOne (told : Version → Draft → Type 0) (old new : Draft) : Type 0 where
   pub known : GoesOn old.seat.place.me.0 new.seat.place.me.0
+  pub passes : new.seat.passes ≡ old.seat.passes
   pub becomes : (version : Version) → WorksOn old version → told version new
 
 abbrev pub Edits : (Version → Draft → Type 0) → Option Draft → Option Draft → Type 0
@@ -44,10 +45,13 @@ pub record Reads (name : Name) (octets : List ℕ) (len : ℕ) (version : Versio
   pub stays : WorksOn new version
   pub read : IsRead name version octets len
 
--- There is no room while these versions are kept: the current one, and others that some pass was found reading. Their tries and
--- that of the working set have almost as many cells as there are chunks but for the reserve.
+-- There is no room while these versions are kept: the current one, which is the last, and others that some pass was found reading,
+-- at most one for each pass. Their tries and that of the working set have almost as many cells as there are chunks but for the
+-- reserve.
 pub record IsFullOn (d : Draft) (version : Version) (kept : Versions) : Type 0 where
   pub named : (v : ℕ) → Contains (versions_in kept) v → (v ≡ d.seat.version) ⊎ IsNamed d.seat.place.me.0 v
+  pub ends : (older : List ℕ) × (versions_in kept ≡ older ++ d.seat.version ∷ [])
+  pub few : length (versions_in kept) ≤ d.seat.passes + 1
   pub many : length d.usage.given - reserve_of d.usage - 2 ≤ cell_count version + cells_kept d.seat.place.me.0 (versions_in kept)
 
 -- An entry was put under a name that owned this one; or there was no room for it, though it would have changed the version, and the

@@ -2,15 +2,16 @@
 
 ghost use Rattle.std.specs.Prelude.{◌≡◌, ◌≤◌, IfOk, IsSomeAnd, List, map};
 ghost use Rattle.zone_model.specs.Keys.{key_of};
-ghost use Rattle.zone_change.specs.Changes.{Gives};
+ghost use Rattle.zone_model.specs.Versions.{changed};
 ghost use Rattle.job_script.specs.Views.{operation_view};
 ghost use Rattle.zone_edit.specs.Stores.{WorksOnSome, Reads, Edits};
-ghost use Rattle.zone_edit.specs.Blocks.{Applies, AppliesAll};
+ghost use Rattle.zone_edit.specs.Blocks.{Gives, Applies, AppliesAll};
 ghost use Rattle.zone_edit.specs.declared.applying.Stopped.TheVariants.{Memory};
 
 use crate::storing::store;
 use dns_name::Name;
 use job_script::Operation;
+use rr_data::Entry;
 use shared_index::{Law, Named, Transaction, Versions};
 use shift_key::Key;
 use std::alloc::{AllocError, AllocFailed, Global};
@@ -77,6 +78,23 @@ fn read_owned<L: Law, N: Named, K>(
     }
 }
 
+/// What an operation makes of its owner's entry.
+fn next_entry(
+    alloc: Global,
+    origin: &Name,
+    operation: &Operation,
+    before: &Entry,
+) -> Result<Entry, Stopped>
+    ensures { Gives result (changed origin.now (operation_view operation.now) before.now) }
+{
+    match changed(alloc, origin, operation, before.clone()?) {
+        Ok(entry) => Ok(entry),
+        Err(zone_change::Stopped::Memory) => Err(Stopped::Memory),
+        Err(zone_change::Stopped::Refused(refusal)) => Err(Stopped::Refused(refusal)),
+        Err(zone_change::Stopped::Full(_)) => unreachable!(),
+    }
+}
+
 /// Makes an operation's change in the working set.
 fn apply<L: Law, N: Named, K>(
     alloc: Global,
@@ -95,12 +113,7 @@ fn apply<L: Law, N: Named, K>(
     let len = read_owned(transaction, owner, &key, &mut buffers.before);
     let octets = &buffers.before[..len];
     let before = entry_of(alloc, owner, octets)?;
-    let entry = match changed(alloc, origin, operation, before.clone()?) {
-        Ok(entry) => entry,
-        Err(zone_change::Stopped::Memory) => return Err(Stopped::Memory),
-        Err(zone_change::Stopped::Refused(refusal)) => return Err(Stopped::Refused(refusal)),
-        Err(zone_change::Stopped::Full(_)) => unreachable!(),
-    };
+    let entry = next_entry(alloc, origin, operation, &before)?;
     match store(
         transaction,
         owner,
