@@ -2,3 +2,4 @@ pub mod HistoryLaws
 pub mod StepLaws
 pub mod WorkLaws
 pub mod JobLaws
+pub mod CloseLaws

@@ -1,5 +1,5 @@
 -- What a worker's run promises, whatever the other workers did.
-use Rattle.std.specs.Prelude.{◌≡◌, ◌⊎◌, ℕ, ◌-◌, ◌<◌, ◌≤◌, Bool, true, List, [], ◌∷◌, length, Some, Ok, Contains}
+use Rattle.std.specs.Prelude.{◌≡◌, ◌⊎◌, ℕ, ◌-◌, ◌<◌, ◌≤◌, Bool, true, false, List, [], ◌∷◌, length, Some, Ok, Contains}
 use Rattle.std.specs.List.{AllByRecursion}
 use Rattle.zone_model.specs.Versions.{Version, whole}
 use Rattle.job_model.specs.Commands.{Command}
@@ -9,8 +9,8 @@ use Rattle.job_script.specs.declared.outcomes.Outcome.{Outcome}
 use Rattle.shared_cells.specs.declared.view.PassView.{PassView}
 use Rattle.shared_cells.specs.History.{StartsWith, entries_by}
 use Rattle.shared_index.specs.declared.meaning.Operation.{Operation}
-use Rattle.shared_index.specs.Passes.{first_version}
-use Rattle.job_threads.specs.Histories.{Setup, Commit, index_at, StandsAs, AreVersions, CoversNamings, judged_by, times_by}
+use Rattle.shared_index.specs.Passes.{Known, first_version}
+use Rattle.job_threads.specs.Histories.{Setup, Commit, Entries, index_at, StandsAs, AreVersions, CoversNamings, judged_by, times_by}
 use Rattle.job_threads.specs.Steps.{Station}
 
 -- a version that was made is what its operations make of the version before
@@ -43,6 +43,24 @@ pub record Work (s : Setup) (t : Station) (pairs : List Pair) : Type 0 where
 pub record Numbers : Type 0 where
   pub asker : ℕ
   pub holder : ℕ
+
+-- passes of these numbers that have asked and committed nothing, and have seen version 0 alone
+pub record IsNew (number : ℕ) (opening : Entries) (v : Known) : Type 0 where
+  pub own : PassView (List Operation)
+  pub is_own : v.pass ≡ Some own
+  pub numbered : own.number ≡ number
+  pub none : own.entries ≡ []
+  pub unpinned : own.pinned ≡ []
+  pub opened : first_version v.seen ≡ opening
+  pub no_history : v.seen.history ≡ []
+
+pub record Begins (s : Setup) (numbers : Numbers) (asks spare : Known) : Type 0 where
+  pub asker : IsNew numbers.asker s.opening asks
+  pub holder : IsNew numbers.holder s.opening spare
+
+-- no snapshot is held
+abbrev pub ended : Known → Known → Station
+ended asks spare = record { asks = asks; holds = spare; held = false }
 
 -- a worker's commands came to these outcomes
 pub record WorkerRan (s : Setup) (numbers : Numbers) (t : Station) (commands : List Command) (os : List Outcome) : Type 0 where

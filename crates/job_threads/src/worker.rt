@@ -8,7 +8,7 @@ ghost use Rattle.job_threads.specs.Histories.{Setup};
 ghost use Rattle.job_threads.specs.Commands.{IsSetup};
 ghost use Rattle.job_threads.specs.Steps.{IsUnder, Step};
 ghost use Rattle.job_threads.specs.Stations.{IsPlaced, holder_view, station};
-ghost use Rattle.job_threads.specs.Works.{Numbers, WorkerRan, IsFresh};
+ghost use Rattle.job_threads.specs.Works.{Begins, Numbers, WorkerRan, ended};
 
 use crate::asking::run_question;
 use crate::gate::Gate;
@@ -131,4 +131,57 @@ fn second_pass<N: Named>(passes: Passes<'_, N>) -> (Pass<N>, Pass<N>)
 // A place in a list, counted from 1.
 fn counted(place: usize) -> u32 {
     u32::try_from(place.saturating_add(1)).unwrap_or(u32::MAX)
+}
+
+/// Runs a worker's commands, each between the gate's two calls.
+pub fn run_worker<R: Wait, N: Named, G: Gate>(
+    rt: &R,
+    alloc: Global,
+    origin: &Name,
+    index: &Index<ZoneLaw, N>,
+    task: Task<'_, N>,
+    gate: &G,
+) -> Result<Done<N>, AllocError>
+    requires here { (IsSome task.asks.seat) × (IsSome task.spare.seat) }
+    requires places { (task.asks.place ≡ index.now.place) × (task.spare.place ≡ index.now.place) }
+    requires in_turn { InTurn false (map command_view task.commands.now) }
+    ensures here { IfOk result (λ d. (IsSome d.asks.seat) × (IsSome d.spare.seat)) }
+    ensures places { IfOk result (λ d. (d.asks.place ≡ index.now.place) × (d.spare.place ≡ index.now.place)) }
+    ensures ran { (s : Setup) (numbers : Numbers) → IsSetup s origin.now index.now.shared.table.shared.key (known_at task.entry.asks.seat)
+        → Begins s numbers (known_at task.entry.asks.seat) (known_at task.entry.spare.seat)
+        → IfOk result (λ d. WorkerRan s numbers (ended (known_at d.asks.seat) (known_at d.spare.seat)) (map command_view task.entry.commands.now) d.outcomes.list.items) }
+{
+    let Task {
+        number,
+        commands,
+        asks,
+        spare,
+    } = task;
+    let mut buffers = ItemBuffers::new();
+    let mut passes = Passes {
+        asks,
+        spare: Some(spare),
+        held: None,
+    };
+    let mut list = Vec::with_capacity(alloc, commands.len())?;
+    for (place, command) in commands.iter().enumerate() {
+        gate.before(number, counted(place));
+        let outcome = run_command(
+            rt,
+            alloc,
+            origin,
+            index,
+            &mut passes,
+            command,
+            &mut buffers,
+        )?;
+        gate.after(number, counted(place));
+        list.push(outcome)?;
+    }
+    let (asks, spare) = second_pass(passes);
+    Ok(Done {
+        outcomes: Outcomes { list },
+        asks,
+        spare,
+    })
 }
