@@ -140,10 +140,9 @@ pub fn walk<V: Reading>(reading: &mut V) -> u64
 pub fn numbered(alloc: Global, letters: [u8; 2], number: u64, octets: usize) -> Result<Item, Fail>
     requires { octets ≤ 4096 }
 {
-    let mut payload = vec![in alloc; 0; octets.max(12) - 4]?;
-    for (place, octet) in number.to_be_bytes().iter().enumerate() {
-        payload[place] = *octet;
-    }
+    let mut payload = Vec::new(alloc);
+    payload.extend_from_slice(&number.to_be_bytes())?;
+    payload.resize(octets.max(12) - 4, 0)?;
     item(alloc, &[2, letters[0], letters[1], 0], payload.as_slice())
 }
 

@@ -27,3 +27,4 @@ pub mod CauseLaws
 pub mod FullLaws
 pub mod NamedLaws
 pub mod CloseLaws
+pub mod ReadingLaws
