@@ -3,3 +3,4 @@ pub mod StepLaws
 pub mod WorkLaws
 pub mod JobLaws
 pub mod CloseLaws
+pub mod TransactLaws

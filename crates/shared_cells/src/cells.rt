@@ -64,7 +64,7 @@ impl<'a, O, E, L: Law<O, E>> JoinedCells<'a, O, E, L> {
         requires { seat.old.place.table_id ≡ shared.now.table.shared.table_id }
         ensures same_reference { result.seat.ghost_name ≡ seat.entry.ghost_name }
         ensures seat { result.seat.now ≡ seat.old }
-        ensures shared { result.shared ≡ shared }
+        ensures shared { result.shared.now ≡ shared.now }
     {
         JoinedCells { shared, seat }
     }
