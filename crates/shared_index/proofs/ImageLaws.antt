@@ -1,5 +1,5 @@
 -- A kept image, read in the turn's cells: a root stands there for its version.
-use Rattle.std.proofs.Common.{◌≡◌, ◌∙◌, ⊎_elim, inl, inr, ℕ, suc, ◌/◌, ◌<◌, ◌≤◌, ◌==◌, Bool, true, List, [], ◌∷◌, map, count_by, slice_index, Option, Some, None, refl, sym, ap, arith}
+use Rattle.std.proofs.Common.{◌≡◌, ◌∙◌, ⊎_elim, inl, inr, ℕ, suc, ◌/◌, ◌<◌, ◌≤◌, ◌==◌, Bool, true, List, [], ◌∷◌, ◌++◌, map, count_by, slice_index, Option, Some, None, refl, sym, ap, arith}
 use Rattle.std.specs.List.{All, AllPairs, Contains, list_all}
 use Rattle.std.proofs.lemmas.List.Folds.{list_all-map}
 use Rattle.std.proofs.lemmas.List.FromFn.{get_or-map-range_with_len, length-map-range_with_len}
@@ -17,6 +17,7 @@ use Rattle.trie_write.specs.Standing.{Standing, StandsIn}
 use Rattle.trie_write.proofs.RootLaws.{stands_later}
 use Rattle.shared_index.specs.Meanings.{in_image, Holds, IsImageOf, IsVersion}
 use Rattle.shared_index.specs.Turns.{cell_counts, current_image, current_root}
+use Rattle.shared_index.specs.Keepings.{numbers_of}
 use Rattle.shared_index.proofs.Lists.{all_from, none_counts, count_map}
 use Rattle.shared_index.proofs.QueryLaws.{in_cells}
 
@@ -37,6 +38,21 @@ current_is (j ∷ (i ∷ kept)) n k rising newest c e = ⊎_elim
     let v : j.version ≡ k.version = ap (λ (x : Kept). x.version) same in omega arith))
     (λ (later : Contains (i ∷ kept) k). current_is (i ∷ kept) n k
     (λ a b d l m. rising (suc a) (suc b) d (omega arith) (omega arith)) (λ a d l. newest (suc a) d (omega arith)) later e) (contains_cases j k (i ∷ kept) c)
+
+-- and has the last number
+pub ends_with : (kept : List Kept) (n : ℕ) (k : Kept) → AllPairs (λ k j. k.version < j.version) kept → All (λ k. k.version ≤ n) kept → Contains kept k → k.version ≡ n → (older : List ℕ) × (numbers_of kept ≡ older ++ n ∷ [])
+ends_with [] n k rising newest c e = absurd (let l = c.1 in omega arith)
+ends_with (j ∷ []) n k rising newest c e = ⊎_elim
+    (λ (same : j ≡ k). ([], ap (λ (v : ℕ). v ∷ []) (ap (λ (x : Kept). x.version) same ∙ e)))
+    (λ (none : Contains [] k). absurd (let l = none.1 in omega arith)) (contains_cases j k [] c)
+ends_with (j ∷ (i ∷ kept)) n k rising newest c e = ⊎_elim
+    (λ (same : j ≡ k). absurd (
+    let first : j.version < i.version = rising 0 1 j (omega arith) (omega arith) in
+    let last : i.version ≤ n = newest 1 j (omega arith) in
+    let v : j.version ≡ k.version = ap (λ (x : Kept). x.version) same in omega arith))
+    (λ (later : Contains (i ∷ kept) k).
+    let rest = ends_with (i ∷ kept) n k (λ a b d l m. rising (suc a) (suc b) d (omega arith) (omega arith)) (λ a d l. newest (suc a) d (omega arith)) later e in
+    (j.version ∷ rest.0, ap (λ (vs : List ℕ). j.version ∷ vs) rest.1)) (contains_cases j k (i ∷ kept) c)
 
 -- the counts of an image, whose cells lie in so many chunks
 pub counts_of : (chunks : ℕ) (image : List CellAt) → ((c : CellAt) → Contains image c → c.at / 1024 < chunks) → (k : ℕ) → slice_index (cell_counts chunks image) k ≡ count_by (λ (c : CellAt). c.at / 1024 == k) image

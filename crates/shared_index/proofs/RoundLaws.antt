@@ -1,5 +1,5 @@
 -- What a round leaves in place: the kept versions that it names, with their rows.
-use Rattle.std.proofs.Common.{◌≡◌, ◌⊎◌, ◌∙◌, ⊎_elim, inl, inr, ℕ, suc, ◌+◌, ◌<◌, ◌≤◌, ◌==◌, ◌||◌, Bool, true, false, true≢false, cond, List, [], ◌∷◌, map, length, take, slice_index, Option, Some, None, refl, sym, ap, subst, arith, eq-eqb}
+use Rattle.std.proofs.Common.{◌≡◌, ◌⊎◌, ◌∙◌, ⊎_elim, inl, inr, ℕ, suc, ◌+◌, ◌<◌, ◌≤◌, ◌==◌, ◌||◌, Bool, true, false, true≢false, cond, List, [], ◌∷◌, ◌++◌, map, length, take, slice_index, Option, Some, None, refl, sym, ap, subst, arith, eq-eqb}
 use Rattle.std.specs.Prelude.{IfSome, unwrap_or}
 use Rattle.std.specs.List.{All, AllPairs, Contains, filter, list_any, list_all, range_with_len}
 use Rattle.std.proofs.lemmas.Bool.Decides.{eqb_tells}
@@ -25,7 +25,7 @@ use Rattle.shared_index.specs.Passes.{Known}
 use Rattle.shared_index.specs.Turns.{Agrees, AgreesWithin, cells_with, row_for, cell_counts, current_image, current_root, is_immutable}
 use Rattle.shared_index.specs.Keepings.{AreKept, GoesOn, is_among, numbers_of, rows_of, rows_without}
 use Rattle.shared_index.specs.Fulls.{version_at}
-use Rattle.shared_index.proofs.ImageLaws.{current_is}
+use Rattle.shared_index.proofs.ImageLaws.{current_is, ends_with}
 use Rattle.shared_index.proofs.Lists.{either_true, all_flat, all_from_flat, any_from, in_map, of_map}
 use Rattle.shared_index.proofs.RowLaws.{filter_same, among_of, of_among, left_rows}
 
@@ -120,6 +120,12 @@ module _ (lawful : List Entry → List Entry → Type 0) (v : Known) (turn : Tur
 
   pub root_same : current_root (kept_in w.turn) ≡ current_root (kept_in v.turn)
   root_same = ap current_root kept_now ∙ now_is.1 ∙ sym before_is.1 ∙ ap current_root (sym kept_before)
+
+  -- it is the last of those that are left
+  pub ends_left : (older : List ℕ) × (numbers_of (kept_in w.turn) ≡ older ++ current ∷ [])
+  ends_left = subst (λ (kept : List Kept). (older : List ℕ) × (numbers_of kept ≡ older ++ current ∷ [])) (sym kept_now)
+      (ends_with (filter test turn.kept) current last (AllPairs-filter (λ k j. k.version < j.version) test turn.kept told.rising)
+      (All-filter test (λ k. k.version ≤ current) turn.kept told.newest) (contains_filter test turn.kept last told.current.1 last_passes) told.current.2)
 
   -- each version that is left has its image
   pub images_left : is_told v.seen.opening ≡ true → All (λ k. IsVersion k.image k.root (version_at v k.version)) (kept_in w.turn)

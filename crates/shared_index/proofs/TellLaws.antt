@@ -11,7 +11,7 @@ use Rattle.shared_cells.specs.History.{IsPartOf, OpeningFits, longer_of}
 use Rattle.shared_cells.specs.Views.{is_told, number_of, pass_view}
 use Rattle.shared_cells.proofs.Seats.{told_there}
 use Rattle.shared_index.specs.declared.meaning.Operation.{Operation}
-use Rattle.shared_index.specs.Passes.{Known, first_version}
+use Rattle.shared_index.specs.Passes.{Known, commits_in, first_version, pinned_in}
 use Rattle.shared_index.specs.Closings.{IsThere}
 use Rattle.shared_index.specs.Openings.{SeesFirst}
 
@@ -21,6 +21,13 @@ all_unseen f [] ns chunks e k d l = absurd (omega arith)
 all_unseen f (x ∷ xs) [] chunks e k d l = absurd cc
 all_unseen f (x ∷ xs) (n ∷ ns) chunks e zero d l = let h : f x ≡ pass_view n chunks = cc in ap (λ (v : Known). length v.seen.history) h
 all_unseen f (x ∷ xs) (n ∷ ns) chunks e (suc k) d l = all_unseen f xs ns chunks (let t : map f xs ≡ map (λ n. pass_view n chunks) ns = cc in t) k d (omega arith)
+
+-- nor has it done anything
+pub all_unused : {A : Type 0} (f : A → Known) (xs : List A) (ns : List ℕ) (chunks : ℕ) → map f xs ≡ map (λ n. pass_view n chunks) ns → All (λ x. (commits_in (f x).pass ≡ []) × (pinned_in (f x).pass ≡ [])) xs
+all_unused f [] ns chunks e k d l = absurd (omega arith)
+all_unused f (x ∷ xs) [] chunks e k d l = absurd cc
+all_unused f (x ∷ xs) (n ∷ ns) chunks e zero d l = let h : f x ≡ pass_view n chunks = cc in (ap (λ (v : Known). commits_in v.pass) h, ap (λ (v : Known). pinned_in v.pass) h)
+all_unused f (x ∷ xs) (n ∷ ns) chunks e (suc k) d l = all_unused f xs ns chunks (let t : map f xs ≡ map (λ n. pass_view n chunks) ns = cc in t) k d (omega arith)
 
 -- the passes are numbered from 0
 pub all_numbered : {A : Type 0} (f : A → Known) (xs : List A) (first count chunks : ℕ) → map f xs ≡ map (λ n. pass_view n chunks) (range_with_len first count) → map (λ x. number_of (f x).pass) xs ≡ range_with_len (first + 1) count

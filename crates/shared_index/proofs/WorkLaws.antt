@@ -30,9 +30,9 @@ use Rattle.shared_index.proofs.AttemptLaws.{rooted_there}
 use Rattle.shared_index.proofs.GoesLaws.{words_go_on, goes_further, base_goes_on, applied_more}
 
 -- the operation was done
-pub operates_done : (c : Change) (old new : Draft) → Works old → Tried c old.root old.seat.place.me.0 old.usage new.seat.place.me.0 new.usage (Ok new.root) → new.log.operations ≡ old.log.operations ++ operation_of c ∷ []
+pub operates_done : (c : Change) (old new : Draft) → Works old → Tried c old.root old.seat.place.me.0 old.usage new.seat.place.me.0 new.usage (Ok new.root) → new.log.operations ≡ old.log.operations ++ operation_of c ∷ [] → new.seat.passes ≡ old.seat.passes
     → Operates (operation_of c) (IsRefused c) old new (IsOk {T = Unit {0}} {E = Unchanged} (Ok tt)) (◌≡◌ {A = Result (Unit {0}) Unchanged} (Ok tt) (Err Refused))
-operates_done c old new works t log =
+operates_done c old new works t log passes =
     let v : Known = old.seat.place.me.0 in
     let w : Known = new.seat.place.me.0 in
     let known : GoesOn v w = words_go_on v w (words_of w.turn) t.same in
@@ -46,6 +46,7 @@ operates_done c old new works t log =
       works = subst (StandsFor w new.usage new.root) (sym made) (t.done (working_set old) works);
       done = λ d. log;
       stays = λ no. absurd (no refl);
+      passes = passes;
       refused = (λ e. cc, λ denied. let e = told.1 denied in cc);
     }
 
@@ -68,8 +69,8 @@ version_on {v} {w} a b g old new = new ∙ ap length g.history ∙ sym old
 
 -- why the call found no room
 pub full_of : (room d : Draft) (full : NoRoom) (f : Full) → GoesOn room.seat.place.me.0 d.seat.place.me.0 → d.kept ≡ room.kept → ((n : ℕ) → Contains (versions_in room.kept) n → (n ≡ room.seat.version) ⊎ IsNamed room.seat.place.me.0 n)
-    → Lacks d.usage full → (f.needed ≡ full.needed) × (f.left ≡ full.left) × (f.free ≡ full.free) × (f.reserve ≡ full.reserve) → f.kept ≡ d.kept → IsFull d f
-full_of room d full f on same named lacks request kept =
+    → (older : List ℕ) × (versions_in room.kept ≡ older ++ room.seat.version ∷ []) → Lacks d.usage full → (f.needed ≡ full.needed) × (f.left ≡ full.left) × (f.free ≡ full.free) × (f.reserve ≡ full.reserve) → f.kept ≡ d.kept → IsFull d f
+full_of room d full f on same named ends lacks request kept =
     let made : ℕ → ℕ → ℕ → ℕ → NoRoom = λ needed left free reserve. record { needed = needed; left = left; free = free; reserve = reserve } in
     let asked : made f.needed f.left f.free f.reserve ≡ full =
     ap (λ (n : ℕ). made n f.left f.free f.reserve) request.0 ∙ ap (λ (n : ℕ). made full.needed n f.free f.reserve) request.1
@@ -81,6 +82,7 @@ full_of room d full f on same named lacks request kept =
           (λ (e : n ≡ room.seat.version). inl (e ∙ sym (version_on room.seat.version d.seat.version on room.seat.version_is d.seat.version_is)))
           (λ (named_so : IsNamed room.seat.place.me.0 n). inr (named_on n on named_so))
           (named n (subst (λ (v : Versions). Contains (versions_in v) n) (kept ∙ same) h));
+      ends = (ends.0, ap versions_in (kept ∙ same) ∙ ends.1 ∙ ap (λ (n : ℕ). ends.0 ++ n ∷ []) (sym (version_on room.seat.version d.seat.version on room.seat.version_is d.seat.version_is)));
     }
 
 -- the same outcome under other names
@@ -91,6 +93,7 @@ operates_as o denied old new A B C D done still forth back h = record {
   works = h.works;
   done = λ c. h.done (done c);
   stays = λ no. h.stays (λ a. no (still a));
+  passes = h.passes;
   refused = (λ d. h.refused.0 (back d), λ p. forth (h.refused.1 p));
 }
 

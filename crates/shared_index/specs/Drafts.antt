@@ -52,14 +52,16 @@ pub record Operates (o : Operation) (denied : List Entry → Type 0) (old new : 
   pub works : Works new
   pub done : is_done → new.log.operations ≡ old.log.operations ++ o ∷ []
   pub stays : (is_done → ⊥) → new.log.operations ≡ old.log.operations
+  pub passes : new.seat.passes ≡ old.seat.passes
   pub refused : is_denied ↔ denied (working_set old)
 
--- The numbers are those of a request that the usage refuses. Kept are the current version, and others that some pass was found
--- reading.
+-- The numbers are those of a request that the usage refuses. Kept are the current version, which is the last, and others that some
+-- pass was found reading.
 pub record IsFull (d : Draft) (f : Full) : Type 0 where
   pub lacks : Lacks d.usage (record { needed = f.needed; left = f.left; free = f.free; reserve = f.reserve })
   pub kept : versions_in f.kept ≡ versions_in d.kept
   pub named : (v : ℕ) → Contains (versions_in f.kept) v → (v ≡ d.seat.version) ⊎ IsNamed d.seat.place.me.0 v
+  pub ends : (older : List ℕ) × (versions_in f.kept ≡ older ++ d.seat.version ∷ [])
 
 -- The operations were published as one commit of the joined pass, which has seen it: the history has it behind the base's, and of
 -- the pass's commits it is the last.

@@ -59,6 +59,7 @@ impl Desk {
     ) -> Draft
         requires { (self.seat.place.table_id ≡ shared.now.table.shared.table_id) × (pass.place.table_id ≡ shared.now.table.shared.table_id) }
         ensures table { result.seat.place.table_id ≡ self.seat.place.table_id }
+        ensures passes { result.seat.passes ≡ self.seat.passes }
         ensures joined { Joined L.lawful pass.place.me.0 result.seat.place.me.0 }
         ensures usage { result.usage ≡ self.usage }
         ensures log { result.log.operations ≡ [] }

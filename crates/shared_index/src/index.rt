@@ -11,10 +11,13 @@ use std::sync::Mutex;
 #[derive(Drop)]
 pub struct Index<L: Law, N: Named> {
     pub(crate) place: u32,
+    /// How many passes it has.
+    pub(crate) passes: u32,
     pub(crate) shared: Shared<Version, Operations, Meaning<L>>,
     /// The turn is away while a transaction has it, which then has the lock.
     pub(crate) turn: Mutex<Option<Turn<N>>>,
     ghost here: { slice_get N.tables place ≡ Some shared.table.shared.table_id },
+    ghost counted: { passes ≡ shared.table.shared.key.passes },
     ghost some: { 1 ≤ shared.table.shared.key.passes },
 }
 

@@ -1,5 +1,5 @@
 //! How an index begins.
-ghost use Rattle.std.specs.Prelude.{◌≡◌, ◌+◌, ◌*◌, ◌<◌, ◌≤◌, Some, IsSome, IfOk, IfErr, All, length, map, slice_get};
+ghost use Rattle.std.specs.Prelude.{◌≡◌, ◌+◌, ◌*◌, ◌<◌, ◌≤◌, [], Some, IsSome, IfOk, IfErr, All, length, map, slice_get};
 ghost use Rattle.std.specs.List.{range_with_len};
 ghost use Rattle.std.proofs.Props.{props};
 ghost use Rattle.trie_model.specs.Keys.{Rises};
@@ -12,7 +12,7 @@ ghost use Rattle.shared_cells.specs.Cells.{given_chunks, with_words};
 ghost use Rattle.shared_cells.specs.Steps.{CanOpen, Opened};
 ghost use Rattle.shared_index.specs.Operations.{applied};
 ghost use Rattle.shared_index.specs.Meanings.{IsVersion};
-ghost use Rattle.shared_index.specs.Passes.{first_version, known_at};
+ghost use Rattle.shared_index.specs.Passes.{commits_in, first_version, known_at, pinned_in};
 ghost use Rattle.shared_index.specs.Turns.{cells_with};
 ghost use Rattle.shared_index.specs.Bases.{StandsFor};
 ghost use Rattle.shared_index.specs.Images.{image_at};
@@ -46,6 +46,7 @@ pub struct Blank<L: Law> {
     ghost turn_here: { turn.place.table_id ≡ shared.table.shared.table_id },
     ghost seats_here: { All (λ s. s.place.table_id ≡ shared.table.shared.table_id) seats.items },
     ghost unseen: { All (λ s. length s.place.me.0.seen.history ≡ 0) seats.items },
+    ghost unused_seats: { All (λ s. (commits_in s.place.me.0.pass ≡ []) × (pinned_in s.place.me.0.pass ≡ [])) seats.items },
     ghost numbered: { map (λ s. number_of s.place.me.0.pass) seats.items ≡ range_with_len 1 shared.table.shared.key.passes },
     ghost size: { shared.table.shared.key.chunks ≡ length usage.given },
     ghost some: { 1 ≤ shared.table.shared.key.passes },
@@ -203,11 +204,13 @@ fn tell_passes<L: Law, N: Named>(
     requires table { turn.old.place.table_id ≡ shared.now.table.shared.table_id }
     requires seats { All (λ s. s.place.table_id ≡ shared.now.table.shared.table_id) seats.items }
     requires unseen { All (λ s. length s.place.me.0.seen.history ≡ 0) seats.items }
+    requires unused { All (λ s. (commits_in s.place.me.0.pass ≡ []) × (pinned_in s.place.me.0.pass ≡ [])) seats.items }
     requires numbered { map (λ s. number_of s.place.me.0.pass) seats.items ≡ range_with_len 1 shared.now.table.shared.key.passes }
     requires no_history { length turn.old.place.me.0.seen.history ≡ 0 }
     ensures same { (turn.new.place.table_id ≡ turn.old.place.table_id) × (turn.new.place.me.0 ≡ turn.old.place.me.0) × (turn.new.passes ≡ turn.old.passes) }
     ensures passes { IfOk result (λ passes. All (λ p. (IsSome p.seat) × (p.place ≡ place)
         × (SeesFirst (first_version turn.old.place.me.0.seen) (known_at p.seat))) passes.items) }
+    ensures unused { IfOk result (λ passes. All (λ p. (commits_in (known_at p.seat).pass ≡ []) × (pinned_in (known_at p.seat).pass ≡ [])) passes.items) }
     ensures count { IfOk result (λ passes. length passes.items ≡ shared.now.table.shared.key.passes) }
     ensures all { IfOk result (λ passes. AreAll shared.now.table.shared.key.passes (map (λ p. known_at p.seat) passes.items)) }
 {
@@ -273,6 +276,8 @@ impl<L: Law, N: Named> Index<L, N> {
         requires room { cells_in_trie (entries_of_items items.now) ≤ room_in blank.shared.table.shared.key.chunks }
         ensures place { IfOk result (λ made. made.0.place ≡ place) }
         ensures passes { IfOk result (λ made. All (λ p. (IsSome p.seat) × (p.place ≡ place) × (SeesFirst (entries_of_items items.now) (known_at p.seat))) made.1.items) }
+        // No pass has committed or asked.
+        ensures unused { IfOk result (λ made. All (λ p. (commits_in (known_at p.seat).pass ≡ []) × (pinned_in (known_at p.seat).pass ≡ [])) made.1.items) }
         ensures size { IfOk result (λ made. made.0.shared.table.shared.key ≡ blank.shared.table.shared.key) }
         ensures count { IfOk result (λ made. length made.1.items ≡ blank.shared.table.shared.key.passes) }
         ensures all { IfOk result (λ made. AreAll blank.shared.table.shared.key.passes (map (λ p. known_at p.seat) made.1.items)) }
@@ -285,6 +290,7 @@ impl<L: Law, N: Named> Index<L, N> {
         } = blank;
         let mut desk = Index::<L, N>::first_desk(&shared, turn, usage, items);
         let passes = tell_passes(alloc, &shared, &mut desk.seat, seats, place)?;
+        let count = passes.len() as u32;
         let turn = Turn {
             place,
             desk,
@@ -292,6 +298,7 @@ impl<L: Law, N: Named> Index<L, N> {
         };
         let index = Index {
             place,
+            passes: count,
             shared,
             turn: Mutex::new(Some(turn)),
         };
@@ -310,6 +317,8 @@ impl<L: Law, N: Named> Index<L, N> {
         requires lawful { L.lawful (entries_of_items items.now) (entries_of_items items.now) }
         ensures place { IfOk result (λ made. made.0.place ≡ place) }
         ensures passes { IfOk result (λ made. All (λ p. (IsSome p.seat) × (p.place ≡ place) × (SeesFirst (entries_of_items items.now) (known_at p.seat))) made.1.items) }
+        // No pass has committed or asked.
+        ensures unused { IfOk result (λ made. All (λ p. (commits_in (known_at p.seat).pass ≡ []) × (pinned_in (known_at p.seat).pass ≡ [])) made.1.items) }
         ensures size { IfOk result (λ made. made.0.shared.table.shared.key ≡ blank.shared.table.shared.key) }
         ensures count { IfOk result (λ made. length made.1.items ≡ blank.shared.table.shared.key.passes) }
         ensures all { IfOk result (λ made. AreAll blank.shared.table.shared.key.passes (map (λ p. known_at p.seat) made.1.items)) }

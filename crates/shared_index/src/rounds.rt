@@ -1,5 +1,5 @@
 //! Rounds of the turn: which versions are kept, and their rows.
-ghost use Rattle.std.specs.Prelude.{◌≡◌, ◌⊎◌, ◌+◌, ◌*◌, ◌<◌, ◌≤◌, ℕ, true, All, length, IfSome, Contains};
+ghost use Rattle.std.specs.Prelude.{◌≡◌, ◌⊎◌, ◌+◌, ◌*◌, ◌<◌, ◌≤◌, ◌∷◌, ◌++◌, [], ℕ, List, true, All, length, IfSome, Contains};
 ghost use Rattle.std.specs.List.{AllPairs};
 ghost use Rattle.chunk_usage.specs.Ledger.{newest};
 ghost use Rattle.chunk_usage.specs.Keeping.{is_kept};
@@ -58,6 +58,8 @@ pub(crate) fn make_round<L: Law>(
     ensures images { All (λ k. IsVersion k.image k.root (version_at seat.old.place.me.0 k.version)) (kept_in seat.new.place.me.0.turn) }
     ensures rounded { Rounded seat.old.place.me.0 seat.new.place.me.0 (versions_in result) }
     ensures few { length (versions_in result) ≤ seat.old.passes + 1 }
+    // The current version is the last.
+    ensures ends { (older : List ℕ) × (versions_in result ≡ older ++ seat.old.version ∷ []) }
     ensures named { (v : ℕ) → Contains (versions_in result) v → (v ≡ seat.old.version) ⊎ IsNamed seat.new.place.me.0 v }
 {
     seat.look(shared);

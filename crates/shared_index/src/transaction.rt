@@ -165,13 +165,14 @@ impl<L: Law, N: Named> Index<L, N> {
 
     // The lock, and the turn out of it.
     fn wait<'i, R: Wait>(&'i self, rt: &R) -> (MutexGuard<'i, Option<Turn<N>>>, Desk)
-        ensures { slice_get N.tables self.now.place ≡ Some result.1.seat.place.table_id }
+        ensures table { slice_get N.tables self.now.place ≡ Some result.1.seat.place.table_id }
+        ensures passes { result.1.seat.passes ≡ self.now.passes }
     {
         for _ in rt.forever() {
             let mut guard = self.turn.lock(rt);
             if let Some(turn) = guard.take() {
                 let Turn { place, desk, names } = turn;
-                if place == self.place {
+                if place == self.place && desk.seat.passes == self.passes {
                     return (guard, desk);
                 }
                 *guard = Some(Turn { place, desk, names });
@@ -189,6 +190,7 @@ impl<L: Law, N: Named> Index<L, N> {
         requires here { IsSome pass.old.seat }
         requires place { pass.old.place ≡ self.now.place }
         ensures table { result.1.seat.place.table_id ≡ self.now.shared.table.shared.table_id }
+        ensures passes { result.1.seat.passes ≡ self.now.shared.table.shared.key.passes }
         ensures begins { Begins L.lawful (known_at pass.old.seat) result.1 }
         ensures goes_on { result.1.usage.open_chunk ≡ result.1.usage.last_open }
     {
@@ -210,6 +212,7 @@ impl<L: Law, N: Named> Index<L, N> {
         requires place { pass.old.place ≡ self.now.place }
         ensures same_reference { result.home.ghost_name ≡ pass.entry.ghost_name }
         ensures place { result.locked.now.place ≡ self.now.place }
+        ensures passes { IsSomeAnd result.locked.now.draft (λ d. d.seat.passes ≡ self.now.shared.table.shared.key.passes) }
         ensures begins { IsSomeAnd result.locked.now.draft (Begins L.lawful (known_at pass.old.seat)) }
         // What is written goes on in the bump chunk.
         ensures goes_on { IsSomeAnd result.locked.now.draft (λ d. d.usage.open_chunk ≡ d.usage.last_open) }
@@ -239,6 +242,7 @@ impl<L: Law, N: Named> Index<L, N> {
         requires place { pass.old.place ≡ self.now.place }
         ensures same_reference { result.home.ghost_name ≡ pass.entry.ghost_name }
         ensures place { result.locked.now.place ≡ self.now.place }
+        ensures passes { IsSomeAnd result.locked.now.draft (λ d. d.seat.passes ≡ self.now.shared.table.shared.key.passes) }
         ensures begins { IsSomeAnd result.locked.now.draft (Begins L.lawful (known_at pass.old.seat)) }
         // What is written begins a chunk.
         ensures own_chunk { IsSomeAnd result.locked.now.draft (λ d. d.usage.open_chunk ≡ full d.usage.last_open) }

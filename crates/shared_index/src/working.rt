@@ -1,5 +1,5 @@
 //! A transaction's operations: each is tried, and once more after a round where there is no room.
-ghost use Rattle.std.specs.Prelude.{◌≡◌, ◌⊎◌, ℕ, Err, IsOk, IfErr, All, Contains};
+ghost use Rattle.std.specs.Prelude.{◌≡◌, ◌⊎◌, ◌∷◌, ◌++◌, [], ℕ, List, Err, IsOk, IfErr, All, Contains};
 ghost use Rattle.chunk_usage.specs.Handing.{Lacks};
 ghost use Rattle.chunk_usage.specs.Keeping.{freed};
 ghost use Rattle.shared_cells.specs.Views.{kept_in};
@@ -92,6 +92,8 @@ impl Draft {
         ensures log { result.log.operations ≡ self.log.operations }
         ensures works { Works result }
         ensures named { (v : ℕ) → Contains (versions_in result.kept) v → (v ≡ result.seat.version) ⊎ IsNamed result.seat.place.me.0 v }
+        ensures ends { (older : List ℕ) × (versions_in result.kept ≡ older ++ result.seat.version ∷ []) }
+        ensures passes { result.seat.passes ≡ self.seat.passes }
         ensures after { result.usage ≡ freed (narrowed self.usage (versions_in result.kept)) }
         ensures images { All (λ k. IsVersion k.image k.root (version_at result.seat.place.me.0 k.version)) (kept_in result.seat.place.me.0.turn) }
     {

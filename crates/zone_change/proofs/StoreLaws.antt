@@ -136,13 +136,13 @@ item_leads name bytes entry is = record { short = is.short; name = name; is_name
 
 -- ---- a transaction's working set after a change
 
-abbrev record_of : List ℕ → List ℕ → trie.Entry
+abbrev pub record_of : List ℕ → List ℕ → trie.Entry
 record_of key bytes = record { key = key; item = bytes }
 
-storable : (name : Name) (bytes : List ℕ) (entry : Entry) → IsItem bytes name entry → IsStorable (name, entry)
+pub storable : (name : Name) (bytes : List ℕ) (entry : Entry) → IsItem bytes name entry → IsStorable (name, entry)
 storable name bytes entry is = subst (λ (x : List ℕ). IsItem x name entry) is.octets is
 
-same_entry : (name : Name) (key bytes : List ℕ) (entry : Entry) → key ≡ key_of name → IsItem bytes name entry → record_of key bytes ≡ trie_entry (name, entry)
+pub same_entry : (name : Name) (key bytes : List ℕ) (entry : Entry) → key ≡ key_of name → IsItem bytes name entry → record_of key bytes ≡ trie_entry (name, entry)
 same_entry name key bytes entry k is = ap (λ (x : List ℕ). record_of x bytes) k ∙ ap (record_of (key_of name)) is.octets
 
 pub inserted_on : (works : List trie.Entry → List trie.Entry → Type 0) (base : List trie.Entry) (version : Version) (name : Name) (key bytes : List ℕ) (entry : Entry) → key ≡ key_of name → IsItem bytes name entry → IsVersion version

@@ -8,3 +8,4 @@ mod storing;
 
 pub use applying::{Halt, apply_all};
 pub use buffers::ItemBuffers;
+pub use entries::{Stopped, changed};

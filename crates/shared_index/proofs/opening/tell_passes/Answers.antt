@@ -5,7 +5,7 @@ use Rattle.std.proofs.lemmas.List.Elements.{All-push, All-take}
 use Rattle.shared_cells.specs.History.{IsPartOf}
 use Rattle.shared_cells.specs.Views.{number_of}
 use Rattle.shared_index.specs.Closings.{IsThere}
-use Rattle.shared_index.specs.Passes.{Known, first_version, known_at}
+use Rattle.shared_index.specs.Passes.{Known, commits_in, first_version, known_at, pinned_in}
 use Rattle.shared_index.specs.Openings.{SeesFirst}
 use Rattle.shared_index.proofs.TellLaws.{none_longer, sees_first, fewer_left, last_number, there_more}
 use Rattle.shared_index.proofs.opening.tell_passes.Goals as goal
@@ -23,6 +23,7 @@ loop-seat-preserved g c =
     let value = pop.value seat some in
     let popped : seat ≡ slice_index_or c.loop-seat.seats.items (vec_len c.loop-seat.seats - 1) seat = cc in
     let unseen : length seat.place.me.0.seen.history ≡ 0 = ap (λ s. length s.place.me.0.seen.history) popped ∙ inv.unseen (vec_len c.loop-seat.seats - 1) seat (omega arith) in
+    let done = inv.unused (vec_len c.loop-seat.seats - 1) seat (omega arith) in
     let told_none : length v.seen.history ≡ 0 = ap (λ (x : Known). length x.seen.history) inv.known ∙ c.requires.no_history in
     let told : c.note-note.result.place.me.0.seen ≡ v.seen = ap (λ (x : Known). x.seen) note.note in
     let none : length w.seen.history ≡ 0 =
@@ -43,6 +44,12 @@ loop-seat-preserved g c =
       count = note.same.2 ∙ inv.count;
       here = subst (All (λ s. s.place.table_id ≡ table)) (sym pop.rest) (All-take (λ s. s.place.table_id ≡ table) (vec_len c.loop-seat.seats - 1) c.loop-seat.seats.items inv.here);
       unseen = subst (All (λ s. length s.place.me.0.seen.history ≡ 0)) (sym pop.rest) (All-take (λ s. length s.place.me.0.seen.history ≡ 0) (vec_len c.loop-seat.seats - 1) c.loop-seat.seats.items inv.unseen);
+      unused = subst (All (λ s. (commits_in s.place.me.0.pass ≡ []) × (pinned_in s.place.me.0.pass ≡ []))) (sym pop.rest) (All-take (λ s. (commits_in s.place.me.0.pass ≡ []) × (pinned_in s.place.me.0.pass ≡ [])) (vec_len c.loop-seat.seats - 1) c.loop-seat.seats.items inv.unused);
+      idle = subst (All (λ p. (commits_in (known_at p.seat).pass ≡ []) × (pinned_in (known_at p.seat).pass ≡ []))) (sym items)
+          (All-push (λ p. (commits_in (known_at p.seat).pass ≡ []) × (pinned_in (known_at p.seat).pass ≡ [])) c.loop-seat.passes.items _ inv.idle (
+          ap (λ (x : Known). commits_in x.pass) c.learn-seat.ensures.learnt.0 ∙ ap (λ s. commits_in s.place.me.0.pass) popped ∙ done.0,
+          ap (λ (x : Known). pinned_in x.pass) c.learn-seat.ensures.learnt.0 ∙ ap (λ s. pinned_in s.place.me.0.pass) popped ∙ done.1,
+        ));
       told = subst (All (λ p. (IsSome p.seat) × (p.place ≡ c.args.place) × (SeesFirst (first_version c.args.turn.now.place.me.0.seen) (known_at p.seat)))) (sym items)
           (All-push (λ p. (IsSome p.seat) × (p.place ≡ c.args.place) × (SeesFirst (first_version c.args.turn.now.place.me.0.seen) (known_at p.seat))) c.loop-seat.passes.items _ inv.told (refl, refl, sees));
       many =

@@ -1,4 +1,4 @@
-use Rattle.std.proofs.Common.{◌≡◌, ◌∙◌, ◌+◌, ◌<◌, ◌≤◌, ◌⊎◌, ℕ, List, true, length, sym, ap, subst, arith}
+use Rattle.std.proofs.Common.{◌≡◌, ◌∙◌, ◌+◌, ◌<◌, ◌≤◌, ◌⊎◌, ◌∷◌, ◌++◌, [], ℕ, List, true, length, sym, ap, subst, arith}
 use Rattle.std.specs.Prelude.{IfSome}
 use Rattle.std.specs.List.{AllPairs, Contains}
 use Rattle.trie_model.specs.Keys.{Entry}
@@ -9,7 +9,7 @@ use Rattle.shared_index.specs.declared.meaning.Operation.{Operation}
 use Rattle.shared_index.specs.Passes.{Known}
 use Rattle.shared_index.specs.Turns.{Agrees, cells_with}
 use Rattle.shared_index.specs.Keepings.{AreKept, is_among, narrowed, rows_without, versions_in}
-use Rattle.shared_index.proofs.RoundLaws.{words_same, goes_on, root_same, each_kept, newest_left, narrowed_rows, agrees_rounded, images_left}
+use Rattle.shared_index.proofs.RoundLaws.{words_same, goes_on, root_same, each_kept, newest_left, narrowed_rows, agrees_rounded, images_left, ends_left}
 use Rattle.shared_index.proofs.rounds.make_round.Goals as goal
 
 pub of-kept-requires : goal.of-kept-requires
@@ -70,5 +70,8 @@ returns g c =
       images = images_left g.L.Law.lawful v told.0 c.look.result told.1 told.2 w list rounded seat.told;
       rounded = rounded;
       few = few;
+      ends =
+          let e = ends_left g.L.Law.lawful v told.0 c.look.result told.1 told.2 w list rounded in
+          (e.0, rounded.kept ∙ e.1 ∙ ap (λ (n : ℕ). e.0 ++ n ∷ []) (sym seat.version_is));
       named = λ n h. subst (λ (m : ℕ). (n ≡ m) ⊎ IsNamed w n) look.same.1 (round.named n (subst (λ (ns : List ℕ). Contains ns n) same h));
     }

@@ -34,7 +34,7 @@ returns-in-Err-Full-clause-full g c f e =
     let tried = c.attempt-draft in
     let same : c.of-full.result ≡ f = cc in
     subst (IsFull tried.result.0) same
-    (full_of room.result tried.result.0 c.in-Err-Full.full c.of-full.result tried.ensures.operates.known tried.ensures.kept room.ensures.named (tried.ensures.full c.in-Err-Full.full (told g c))
+    (full_of room.result tried.result.0 c.in-Err-Full.full c.of-full.result tried.ensures.operates.known tried.ensures.kept room.ensures.named room.ensures.ends (tried.ensures.full c.in-Err-Full.full (told g c))
     c.of-full.ensures.request c.of-full.ensures.kept)
 
 pub returns-in-Err-Full-clause-cause : goal.returns-in-Err-Full-clause-cause

@@ -1,4 +1,4 @@
-use Rattle.std.proofs.Common.{◌≡◌, ◌∙◌, ◌⊎◌, ⊎_elim, inl, inr, ℕ, length, sym, ap}
+use Rattle.std.proofs.Common.{◌≡◌, ◌∙◌, ◌⊎◌, ⊎_elim, inl, inr, ◌∷◌, ◌++◌, [], ℕ, length, sym, ap}
 use Rattle.shared_cells.specs.Views.{words_of}
 use Rattle.shared_cells.specs.Steps.{IsNamed}
 use Rattle.shared_index.specs.Drafts.{working_set}
@@ -19,6 +19,16 @@ returns-clause-works g c =
     let on : GoesOn v x = goes_further round.goes_on (words_go_on w x (words_of x.turn) free.same) in
     stands_on v x c.free_unreached-seat.new.usage d.root d.log.operations on
     (free.stands d.root (working_set d) (stands_narrowed v w d.usage c.make_round-kept.new.usage (versions_in c.make_round-kept.result) d.root (working_set d) round.words round.usage c.requires.works))
+
+pub returns-clause-ends : goal.returns-clause-ends
+returns-clause-ends g c =
+    let w : Known = c.make_round-kept.new.seat.place.me.0 in
+    let x : Known = c.free_unreached-seat.result.0.place.me.0 in
+    let round = c.make_round-kept.ensures in
+    let on : GoesOn w x = words_go_on w x (words_of x.turn) c.free_unreached-seat.ensures.same in
+    let same : c.free_unreached-seat.result.0.version ≡ c.args.self.seat.version =
+    version_on c.make_round-kept.new.seat.version c.free_unreached-seat.result.0.version on c.make_round-kept.new.seat.version_is c.free_unreached-seat.result.0.version_is ∙ round.numbers.0 in
+    (round.ends.0, round.ends.1 ∙ ap (λ (n : ℕ). round.ends.0 ++ n ∷ []) (sym same))
 
 pub returns-clause-named : goal.returns-clause-named
 returns-clause-named g c n h =

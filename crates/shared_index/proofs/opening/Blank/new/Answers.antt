@@ -6,7 +6,7 @@ use Rattle.shared_cells.specs.declared.view.TurnView.{TurnView}
 use Rattle.shared_index.specs.Openings.{IsUnused}
 use Rattle.shared_index.specs.Passes.{Known}
 use Rattle.shared_index.proofs.FirstLaws.{is_unused}
-use Rattle.shared_index.proofs.TellLaws.{all_numbered, all_unseen}
+use Rattle.shared_index.proofs.TellLaws.{all_numbered, all_unseen, all_unused}
 use Rattle.shared_index.proofs.opening.Blank.new.Goals as goal
 
 pub invariant_of-result : goal.invariant_of-result
@@ -20,6 +20,7 @@ invariant_of-result g c =
       turn_here = made.turn.0;
       seats_here = made.places;
       unseen = all_unseen (λ s. s.place.me.0) c.in_ok-shared.seats.items (range_with_len 0 c.args.passes) c.args.chunks made.passes;
+      unused_seats = all_unused (λ s. s.place.me.0) c.in_ok-shared.seats.items (range_with_len 0 c.args.passes) c.args.chunks made.passes;
       numbered = all_numbered (λ s. s.place.me.0) c.in_ok-shared.seats.items 0 c.args.passes c.args.chunks made.passes ∙ ap (range_with_len 1) (sym made.size.0);
       size = made.size.1 ∙ sym long;
       some = (let h = c.requires.some_passes in let e : 1 ≤ key.passes = subst (λ (n : ℕ). 1 ≤ n) (sym made.size.0) h in e);

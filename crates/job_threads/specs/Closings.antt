@@ -1,0 +1,59 @@
+-- What is known when all workers are done.
+use Rattle.std.specs.Prelude.{◌≡◌, ◌≢◌, ◌⊎◌, ℕ, List, [], ◌∷◌, length, map, Some, Contains}
+use Rattle.std.specs.List.{AllByRecursion}
+use Rattle.job_model.specs.Commands.{Command}
+use Rattle.job_script.specs.declared.outcomes.Outcomes.{Outcomes}
+use Rattle.shared_cells.specs.declared.view.Naming.{Naming}
+use Rattle.shared_cells.specs.declared.view.PassView.{PassView}
+use Rattle.shared_cells.specs.History.{StartsWith, entries_by}
+use Rattle.shared_cells.specs.Views.{number_of}
+use Rattle.shared_index.specs.declared.meaning.Operation.{Operation}
+use Rattle.shared_index.specs.Passes.{Known}
+use Rattle.job_threads.specs.Histories.{Setup, Commit}
+use Rattle.job_threads.specs.Steps.{Station}
+use Rattle.job_threads.specs.Works.{Numbers, WorkerRan}
+
+-- some element is so
+abbrev pub Some' : {A : Type 0} → (A → Type 0) → List A → Type 0
+Some' P [] = ⊥
+Some' P (x ∷ xs) = P x ⊎ Some' P xs
+
+-- no number comes twice
+abbrev pub AreApart : List ℕ → Type 0
+AreApart [] = Unit {0}
+AreApart (x ∷ xs) = AllByRecursion (λ y. x ≢ y) xs × AreApart xs
+
+-- what the passes of all workers know, and main's
+abbrev pub views_of : Known → List Station → List Known
+views_of main [] = main ∷ []
+views_of main (t ∷ ts) = t.asks ∷ t.holds ∷ views_of main ts
+
+-- a pass is this one, by its number
+abbrev pub IsPass : ℕ → Known → Type 0
+IsPass number v = (own : PassView (List Operation)) × (v.pass ≡ Some own) × (own.number ≡ number)
+
+-- All passes of an index have been given back. There is one history, which begins with what each has seen, and each commit of it is
+-- by one of them and stands in its list. There is one list of namings, which begins with those that each has seen, and each of
+-- it is of a version that its pass pinned.
+pub record Closed (views : List Known) (history : List Commit) (namings : List Naming) : Type 0 where
+  pub begins : AllByRecursion (λ v. StartsWith history v.seen.history) views
+  pub names : AllByRecursion (λ v. StartsWith namings v.seen.namings) views
+  pub entries : AllByRecursion (λ v. (own : PassView (List Operation)) → v.pass ≡ Some own → own.entries ≡ entries_by own.number history) views
+  pub authors : (e : Commit) → Contains history e → Some' (IsPass e.author) views
+  pub namers : (n : Naming) → Contains namings n
+      → Some' (λ v. (own : PassView (List Operation)) × (v.pass ≡ Some own) × (own.number ≡ n.pass) × Contains own.pinned n.version) views
+  pub apart : AreApart (map (λ (v : Known). number_of v.pass) views)
+
+-- Main has learnt what all workers had seen, has committed nothing, and has asked for the last version.
+pub record MainSees (main : Known) (ts : List Station) : Type 0 where
+  pub own : PassView (List Operation)
+  pub is_own : main.pass ≡ Some own
+  pub none : own.entries ≡ []
+  pub pinned : (v : ℕ) → Contains own.pinned v → v ≡ length main.seen.history
+  pub learnt : AllByRecursion (λ t. StartsWith main.seen.history t.asks.seen.history) ts
+
+-- each worker's commands came to outcomes
+abbrev pub AllRan : Setup → List Numbers → List Station → List (List Command) → List Outcomes → Type 0
+AllRan s [] [] [] [] = Unit {0}
+AllRan s (n ∷ ns) (t ∷ ts) (w ∷ ws) (o ∷ os) = WorkerRan s n t w o.list.items × AllRan s ns ts ws os
+AllRan s _ _ _ _ = ⊥
