@@ -260,7 +260,7 @@ get_reads : (n i : ℕ) (es : List (List Command)) (cs : List Command) → i < 1
 get_reads n i es cs h few =
     record {
       after = cs ++ Ask (Get (owner i) 1) ∷ [];
-      many = length-append es cs (Ask (Get (owner i) 1) ∷ []);
+      many = length-append cs (Ask (Get (owner i) 1) ∷ []);
       read = λ rest. step_read n (codes "get " ++ name_text i ++ codes " A") rest (between es cs) (between es (cs ++ Ask (Get (owner i) 1) ∷ [])) (get_line n i es cs h few);
     }
 
@@ -268,7 +268,7 @@ find_reads : (n i : ℕ) (es : List (List Command)) (cs : List Command) → i < 
 find_reads n i es cs h few =
     record {
       after = cs ++ Ask (Find (owner i)) ∷ [];
-      many = length-append es cs (Ask (Find (owner i)) ∷ []);
+      many = length-append cs (Ask (Find (owner i)) ∷ []);
       read = λ rest. step_read n (codes "find " ++ name_text i) rest (between es cs) (between es (cs ++ Ask (Find (owner i)) ∷ [])) (find_line n i es cs h few);
     }
 
@@ -276,7 +276,7 @@ removal_reads : (n i : ℕ) (es : List (List Command)) (cs : List Command) → i
 removal_reads n i es cs h few =
     record {
       after = cs ++ Block Heavy (DeleteName (owner i) ∷ []) Commit ∷ [];
-      many = length-append es cs (Block Heavy (DeleteName (owner i) ∷ []) Commit ∷ []);
+      many = length-append cs (Block Heavy (DeleteName (owner i) ∷ []) Commit ∷ []);
       read = λ rest.
       step_read n (codes "update") ((codes "del " ++ name_text i) ∷ codes "commit" ∷ rest) (between es cs) _ (update_line n es cs few)
       ∙ step_read (n + 1) (codes "del " ++ name_text i) (codes "commit" ∷ rest) _ _ (removal_line (n + 1) n i es cs Heavy h)
@@ -292,7 +292,7 @@ unfolding moved
 move_reads n i c es cs h few =
     record {
       after = cs ++ Block Light (moved i c) Commit ∷ [];
-      many = length-append es cs (Block Light (moved i c) Commit ∷ []);
+      many = length-append cs (Block Light (moved i c) Commit ∷ []);
       read = λ rest.
       step_read n (codes "write") ((codes "del " ++ name_text i ++ codes " A") ∷ (codes "add " ++ name_text i ++ codes " 300 A " ++ address_text c) ∷ codes "commit" ∷ rest) (between es cs) _ (write_line n es cs few)
       ∙ step_read (n + 1) (codes "del " ++ name_text i ++ codes " A") ((codes "add " ++ name_text i ++ codes " 300 A " ++ address_text c) ∷ codes "commit" ∷ rest) _ _ (del_line (n + 1) n i es cs h)

@@ -398,8 +398,10 @@ made_job load w some =
     let front : List (List ℕ) = first_lines ++ names_lines load.names in
     let z = zone_said load.names w.names in
     let s = script_said load (script_start (made_text load)) w some in
+    let most = w.workers in
+    let few : 0 + load.workers ≤ 16 = omega arith in
     let shown : AllShown ((first_lines ++ names_lines load.names) ++ codes "%%" ∷ script_of_load load) =
-        shown_append (first_lines ++ names_lines load.names) (codes "%%" ∷ script_of_load load) (shown_append first_lines (names_lines load.names) (refl, (refl, (refl, (refl, tt)))) (names_shown load.names w.names)) (refl, workers_shown load load.workers 0 load.seed w w.workers) in
+        shown_append (first_lines ++ names_lines load.names) (codes "%%" ∷ script_of_load load) (shown_append first_lines (names_lines load.names) (refl, (refl, (refl, (refl, tt)))) (names_shown load.names w.names)) (refl, workers_shown load load.workers 0 load.seed w few) in
     let uncut : list_any is_cut (first_lines ++ names_lines load.names) ≡ false = any_append first_lines (names_lines load.names) refl (names_uncut load.names) in
     let lines : lines_of (made_text load) ≡ (first_lines ++ names_lines load.names) ++ codes "%%" ∷ script_of_load load = lines_back ((first_lines ++ names_lines load.names) ++ codes "%%" ∷ script_of_load load) shown in
     let zone_is : zone_lines (made_text load) ≡ first_lines ++ names_lines load.names = ap (before_first is_cut) lines ∙ zone_part (first_lines ++ names_lines load.names) (script_of_load load) uncut in

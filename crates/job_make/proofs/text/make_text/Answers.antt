@@ -21,4 +21,4 @@ returns-clause-job c =
     text_pieces (load_view c.args.load.now) c.new-out.result.items c.extend_from_slice.new.self.items c.push_names.new.out.items c.extend_from_slice-2.new.self.items c.push_workers.new.out.items
     c.new-out.ensures.items c.in_ok-extend_from_slice.ensures.items c.in_ok-push_names.ensures c.in_ok-extend_from_slice-2.ensures.items c.in_ok-push_workers.ensures in
     let j = made_job (load_view c.args.load.now) (record { names = c.args.load.now.few_names; turns = c.args.load.now.few_turns; workers = c.args.load.now.few_workers }) c.args.load.now.some_workers in
-    (j.job, (ap (job_of made_origin) text ∙ j.said, j.many))
+    (j.job, ap (job_of made_origin) text ∙ j.said, j.many)
