@@ -5,7 +5,7 @@ use Rattle.std.specs.List.{flat_map, AllByRecursion}
 use Rattle.std.specs.Int.{w16, w32, to_be_bytes, from_be_bytes}
 use Rattle.std.proofs.lemmas.Nat.{from_be_bytes-to_be_bytes_2, from_be_bytes-to_be_bytes_4}
 use Rattle.zone_model.specs.Names.{Name, wire}
-use Rattle.zone_model.specs.Records.{Rrset, Entry, record_bytes, rrset_bytes, item, RisingOctets, RisingSets, IsRrset, IsItem, rrset_of}
+use Rattle.zone_model.specs.Records.{Rrset, Entry, record_bytes, rrset_bytes, RisingOctets, RisingSets, IsItem, rrset_of}
 use Rattle.zone_model.specs.Items.{split_records, split_sets}
 use Rattle.zone_model.proofs.ItemLemmas.{records_back, sets_back, few_in_set, few_in_item}
 use Rattle.rr_data.specs.ItemViews.{records_seen, sets_seen, BeginsWithRecord, BeginsWithRecords, BeginsWithSet, AreRecords, AreSets, SaysEntry}

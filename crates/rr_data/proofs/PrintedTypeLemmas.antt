@@ -1,6 +1,6 @@
 -- A printed type is read as that type, unless it is none that data has. What is said of named types is a test of the table's rows,
 -- which is computed.
-use Rattle.std.proofs.Common.{◌≡◌, ◌∙◌, ℕ, ◌<◌, ◌≤◌, ◌^◌, Bool, true, false, ◌&&◌, eqb, ltb, List, ◌++◌, length, codes, refl, sym, ap, subst, arith, Option, Some, None, option_and_then, length-append}
+use Rattle.std.proofs.Common.{◌≡◌, ◌∙◌, ℕ, ◌<◌, ◌≤◌, ◌^◌, Bool, true, false, ◌&&◌, eqb, ltb, List, ◌++◌, length, codes, refl, sym, ap, arith, Option, Some, None, option_and_then, length-append}
 use borrow.Author.Tests.{eqb-true, ltb-true}
 use Rattle.std.specs.Fmt.{decimal}
 use Rattle.std.specs.List.{list_all}
