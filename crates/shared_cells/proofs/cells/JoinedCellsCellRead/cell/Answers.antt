@@ -30,13 +30,13 @@ read-requires-clause-inside g c =
     let s = c.args.self.now in
     let n = s.shared.now.table.shared.key.chunks in
     let small : c.args.at / 1024 < n = chunk_within (cells_of n s.seat.now.place.me.0.turn) _ true c.requires.there.1.given in
-    let l = word_inside c.args.at c.place_of_half.result _ n c.place_of_half.ensures small s.shared.now.wide in
+    let l = word_inside c.args.at c.place_of_half-word.result _ n c.place_of_half-word.ensures small s.shared.now.wide in
     (l.0, (let m = l.1 in omega arith))
 
-pub read-2-requires-clause-inside : goal.read-2-requires-clause-inside
-read-2-requires-clause-inside g c =
+pub read-requires-2-clause-inside : goal.read-requires-2-clause-inside
+read-requires-2-clause-inside g c =
     let s = c.args.self.now in
     let n = s.shared.now.table.shared.key.chunks in
     let small : c.args.at / 1024 < n = chunk_within (cells_of n s.seat.now.place.me.0.turn) _ true c.requires.there.1.given in
-    let l = word_inside c.args.at c.place_of_half.result _ n c.place_of_half.ensures small s.shared.now.wide in
+    let l = word_inside c.args.at c.place_of_half-word.result _ n c.place_of_half-word.ensures small s.shared.now.wide in
     ((let m = l.0 in omega arith), l.1)
