@@ -24,7 +24,7 @@ use Rattle.shared_index.specs.Passes.{Known}
 use Rattle.job_threads.specs.Histories.{Setup, Commit, Entries, index_at, StandsAs, AreVersions, CoversNamings, judged_by, times_by}
 use Rattle.job_threads.specs.Steps.{Station}
 use Rattle.job_threads.specs.Works.{Replayed, Work, Numbers, WorkerRan}
-use Rattle.job_threads.specs.Closings.{Some', AreApart, views_of, IsPass, Closed, MainSees, AllRan}
+use Rattle.job_threads.specs.Closings.{Some', AreApart, views_of, numbers_in, IsPass, Closed, MainSees, AllRan}
 use Rattle.job_threads.specs.Runs.{IsRun}
 use Rattle.job_threads.proofs.HistoryLaws.{begins_same, begins_more, begins_length, index_front, index_last, versions_front, times_none, times_front, times_past}
 use Rattle.job_threads.proofs.WorkLaws.{Pairs, Own, all_weaker, all_both, times-append, shown-append, replayed_more}
@@ -149,14 +149,14 @@ module _ (s : Setup) (history : List Commit) (namings : List Naming) (main : Kno
       differs (m ∷ ms) (inr further) others = differs ms further others.1
 
   -- the numbers of the workers' passes are those of their views
-  apart_numbers : (ns : List Numbers) (ts : List Station) (ws : List (List Command)) (os : List Outcomes) → AllRan s ns ts ws os → AreApart (map (λ (v : Known). number_of v.pass) (views_of main ts)) → Apart ns
+  apart_numbers : (ns : List Numbers) (ts : List Station) (ws : List (List Command)) (os : List Outcomes) → AllRan s ns ts ws os → AreApart (numbers_in (views_of main ts)) → Apart ns
   apart_numbers [] [] [] [] r a = tt
   apart_numbers (n ∷ ns) (t ∷ ts) (w ∷ ws) (o ∷ os) r a = (others ns ts ws os r.1 a.0.1, apart_numbers ns ts ws os r.1 a.1.1)
     where
       asker_number : (m : Numbers) (u : Station) (x : List Command) (p : Outcomes) → WorkerRan s m u x p.list.items → number_of u.asks.pass ≡ m.asker + 1
       asker_number m u x p k = ap number_of k.work.is_asker ∙ ap (λ (i : ℕ). i + 1) k.asker
 
-      others : (ms : List Numbers) (us : List Station) (xs : List (List Command)) (ps : List Outcomes) → AllRan s ms us xs ps → AllByRecursion (λ (y : ℕ). number_of t.asks.pass ≢ y) (map (λ (v : Known). number_of v.pass) (views_of main us)) → AllByRecursion (λ (m : Numbers). n.asker ≢ m.asker) ms
+      others : (ms : List Numbers) (us : List Station) (xs : List (List Command)) (ps : List Outcomes) → AllRan s ms us xs ps → AllByRecursion (λ (y : ℕ). number_of t.asks.pass ≢ y) (numbers_in (views_of main us)) → AllByRecursion (λ (m : Numbers). n.asker ≢ m.asker) ms
       others [] [] [] [] k b = tt
       others (m ∷ ms) (u ∷ us) (x ∷ xs) (p ∷ ps) k b = (
         λ e. b.0 (asker_number n t w o r.0 ∙ ap (λ (i : ℕ). i + 1) e ∙ sym (asker_number m u x p k.0)),

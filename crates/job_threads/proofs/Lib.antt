@@ -6,3 +6,4 @@ pub mod JobLaws
 pub mod CloseLaws
 pub mod TransactLaws
 pub mod BlockLaws
+pub mod GatherLaws
