@@ -1,6 +1,7 @@
 pub mod HistoryLaws
 pub mod ShowLaws
 pub mod StepLaws
+pub mod StationLaws
 pub mod WorkLaws
 pub mod JobLaws
 pub mod CloseLaws
