@@ -1,14 +1,16 @@
 -- A line inside a block; commands that may come where they stand.
-use Rattle.std.proofs.Common.{◌≡◌, ◌∙◌, ℕ, false, List, [], ◌∷◌, Option, Some, None, Result, Ok, Err, IfOk, refl, ap, sym}
+use Rattle.std.proofs.Common.{◌≡◌, ◌∙◌, ℕ, ◌≤◌, false, List, [], ◌∷◌, length, arith, Option, Some, None, Result, Ok, Err, IfOk, refl, ap, sym}
 use Rattle.std.specs.List.{AllByRecursion}
+use Rattle.std.proofs.lemmas.List.{length-map}
 use Rattle.zone_model.specs.Names.{Name}
 use Rattle.zone_model.specs.Tokens.{Token}
 use Rattle.job_model.specs.Phrases.{Phrase, Worker, Asks, Holds, AsksHeld, Releases, Opens, Adds, Deletes, Ends, phrase_of}
 use Rattle.job_model.specs.Commands.{InTurn}
 use Rattle.job_model.specs.Jobs.{Script, Unfinished, inside, taken, tokens_say, script_of}
 use Rattle.job_model.proofs.TurnLemmas.{read_in_turn}
+use Rattle.job_model.proofs.ManyLemmas.{few_workers}
 use Rattle.job_script.specs.Scripts.{Says}
-use Rattle.job_script.specs.Views.{job_view}
+use Rattle.job_script.specs.Views.{job_view, worker_view}
 use Rattle.job_script.specs.declared.commands.Job.{Job}
 use Rattle.job_script.specs.declared.refusal.JobRefusal.{JobRefusal}
 
@@ -35,3 +37,7 @@ tokens_inside origin n s (t ∷ tokens) p b said here =
 pub read_turn : (origin : Name) (n : ℕ) (lines : List (List ℕ)) (r : Result Job JobRefusal) → Says r job_view (script_of origin n lines) → IfOk r (λ job. AllByRecursion (InTurn false) (job_view job))
 read_turn origin n lines (Ok job) s = read_in_turn origin n lines (job_view job) s
 read_turn origin n lines (Err refusal) s = tt
+
+pub read_few : (origin : Name) (n : ℕ) (lines : List (List ℕ)) (r : Result Job JobRefusal) → Says r job_view (script_of origin n lines) → IfOk r (λ job. length job.workers.items ≤ 16)
+read_few origin n lines (Ok job) s = let few = few_workers origin n lines (job_view job) s in omega (arith, few, length-map job.workers.items worker_view)
+read_few origin n lines (Err refusal) s = tt

@@ -157,6 +157,7 @@ pub fn read_job(
     requires few { first_line + length bytes.now < 2 ^ 32 }
     ensures reads { Says result job_view (jobs.script_of origin.now first_line (lines_of bytes.now)) }
     ensures in_turn { IfOk result (λ job. AllByRecursion (InTurn false) (job_view job)) }
+    ensures few_workers { IfOk result (λ job. length job.workers.items ≤ 16) }
 {
     let mut script = Script {
         earlier: Vec::new(alloc),

@@ -17,7 +17,7 @@ use Rattle.job_script.specs.declared.outcomes.Outcomes.{Outcomes}
 use Rattle.job_threads.specs.Histories.{Setup, Commit}
 use Rattle.job_threads.specs.Steps.{Station}
 use Rattle.job_threads.specs.Works.{Numbers, WorkerRan}
-use Rattle.job_threads.specs.Closings.{Some', AreApart, views_of, IsPass, Closed, MainSees, AllRan}
+use Rattle.job_threads.specs.Closings.{Some', AreApart, views_of, numbers_in, IsPass, Closed, MainSees, AllRan}
 use Rattle.job_threads.proofs.HistoryLaws.{by-append, begins_more}
 use Rattle.job_threads.proofs.JobLaws.{here, there}
 
@@ -84,7 +84,7 @@ apart_from n front (x ∷ back) c e = (
   apart_from n (front ++ x ∷ []) back (subst (Covers n) (sym (append_assoc front (x ∷ []) back)) c) (ap length (append_assoc front (x ∷ []) back) ∙ e),
 )
 
-pub apart : (count : ℕ) (views : List Known) → AreAll count views → length views ≡ count → AreApart (map (λ (v : Known). number_of v.pass) views)
+pub apart : (count : ℕ) (views : List Known) → AreAll count views → length views ≡ count → AreApart (numbers_in views)
 apart count views all e =
     apart_from count [] (map (λ (v : Known). number_of v.pass) views)
     (λ m lt. let v = all m lt in subst (Contains (map (λ (v : Known). number_of v.pass) views)) v.2 (in_map (λ (v : Known). number_of v.pass) views v.0 v.1))

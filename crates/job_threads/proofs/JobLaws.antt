@@ -10,7 +10,8 @@ use Rattle.zone_model.specs.Names.{Name}
 use Rattle.zone_model.specs.Versions.{Version, Operation as ZoneOperation, whole}
 use Rattle.zone_answer.specs.Standing.{trie_entry}
 use Rattle.job_model.specs.Commands.{Command}
-use Rattle.job_model.specs.Sizes.{trie_entries}
+use Rattle.trie_model.specs.Shape.{nodes, keys_of}
+use Rattle.job_model.specs.Sizes.{trie_entries, node_count}
 use Rattle.job_model.specs.Outcomes.{Setting, Pair, is_committed, made, operations_of, operations_at, accepted_or, after, times_made, version_at, at_first, Along, AllAlong, all_pairs, passes_for, shown_in}
 use Rattle.job_script.specs.Outcomes.{pairs_of, job_pairs, versions_made, AllTell}
 use Rattle.job_script.specs.declared.outcomes.Outcomes.{Outcomes}
@@ -24,7 +25,7 @@ use Rattle.shared_index.specs.Passes.{Known}
 use Rattle.job_threads.specs.Histories.{Setup, Commit, Entries, index_at, StandsAs, AreVersions, CoversNamings, judged_by, times_by}
 use Rattle.job_threads.specs.Steps.{Station}
 use Rattle.job_threads.specs.Works.{Replayed, Work, Numbers, WorkerRan}
-use Rattle.job_threads.specs.Closings.{Some', AreApart, views_of, IsPass, Closed, MainSees, AllRan}
+use Rattle.job_threads.specs.Closings.{Some', AreApart, views_of, numbers_in, IsPass, Closed, MainSees, AllRan}
 use Rattle.job_threads.specs.Runs.{IsRun}
 use Rattle.job_threads.proofs.HistoryLaws.{begins_same, begins_more, begins_length, index_front, index_last, versions_front, times_none, times_front, times_past}
 use Rattle.job_threads.proofs.WorkLaws.{Pairs, Own, all_weaker, all_both, times-append, shown-append, replayed_more}
@@ -149,14 +150,14 @@ module _ (s : Setup) (history : List Commit) (namings : List Naming) (main : Kno
       differs (m ∷ ms) (inr further) others = differs ms further others.1
 
   -- the numbers of the workers' passes are those of their views
-  apart_numbers : (ns : List Numbers) (ts : List Station) (ws : List (List Command)) (os : List Outcomes) → AllRan s ns ts ws os → AreApart (map (λ (v : Known). number_of v.pass) (views_of main ts)) → Apart ns
+  apart_numbers : (ns : List Numbers) (ts : List Station) (ws : List (List Command)) (os : List Outcomes) → AllRan s ns ts ws os → AreApart (numbers_in (views_of main ts)) → Apart ns
   apart_numbers [] [] [] [] r a = tt
   apart_numbers (n ∷ ns) (t ∷ ts) (w ∷ ws) (o ∷ os) r a = (others ns ts ws os r.1 a.0.1, apart_numbers ns ts ws os r.1 a.1.1)
     where
       asker_number : (m : Numbers) (u : Station) (x : List Command) (p : Outcomes) → WorkerRan s m u x p.list.items → number_of u.asks.pass ≡ m.asker + 1
       asker_number m u x p k = ap number_of k.work.is_asker ∙ ap (λ (i : ℕ). i + 1) k.asker
 
-      others : (ms : List Numbers) (us : List Station) (xs : List (List Command)) (ps : List Outcomes) → AllRan s ms us xs ps → AllByRecursion (λ (y : ℕ). number_of t.asks.pass ≢ y) (map (λ (v : Known). number_of v.pass) (views_of main us)) → AllByRecursion (λ (m : Numbers). n.asker ≢ m.asker) ms
+      others : (ms : List Numbers) (us : List Station) (xs : List (List Command)) (ps : List Outcomes) → AllRan s ms us xs ps → AllByRecursion (λ (y : ℕ). number_of t.asks.pass ≢ y) (numbers_in (views_of main us)) → AllByRecursion (λ (m : Numbers). n.asker ≢ m.asker) ms
       others [] [] [] [] k b = tt
       others (m ∷ ms) (u ∷ us) (x ∷ xs) (p ∷ ps) k b = (
         λ e. b.0 (asker_number n t w o r.0 ∙ ap (λ (i : ℕ). i + 1) e ∙ sym (asker_number m u x p k.0)),
@@ -316,9 +317,9 @@ module _ (s : Setup) (history : List Commit) (namings : List Naming) (main : Kno
   as_many (n ∷ ns) (t ∷ ts) (w ∷ ws) (o ∷ os) r = ap suc (as_many ns ts ws os r.1)
 
   -- The job's run, where main's last question showed a version with so many names.
-  pub is_run : (zone : Version) (ns : List Numbers) (ts : List Station) (ws : List (List Command)) (os : List Outcomes) (version names : ℕ) → StandsAs s.opening zone → s.passes ≡ passes_for (length ws) → AllRan s ns ts ws os → Closed (views_of main ts) history namings → MainSees main ts
-      → version ≡ length main.seen.history → names ≡ length (version_after applied s.opening main.seen.history) → IsRun s.chunks s.origin zone ws os version names
-  is_run zone ns ts ws os version names opens passes r c m last count =
+  pub is_run : (zone : Version) (ns : List Numbers) (ts : List Station) (ws : List (List Command)) (os : List Outcomes) (version names count : ℕ) → StandsAs s.opening zone → s.passes ≡ passes_for (length ws) → AllRan s ns ts ws os → Closed (views_of main ts) history namings → MainSees main ts
+      → version ≡ length main.seen.history → names ≡ length (version_after applied s.opening main.seen.history) → count ≡ nodes (keys_of (version_after applied s.opening main.seen.history)) → IsRun s.chunks s.origin zone ws os version names count
+  is_run zone ns ts ws os version names count opens passes r c m last many_names many_nodes =
       let pairs = all_pairs (job_pairs ws os) in
       let set = versions_made s.origin zone ws os in
       let same = ends_there ns ts ws os r c m in
@@ -338,7 +339,11 @@ module _ (s : Setup) (history : List Commit) (namings : List Naming) (main : Kno
         };
         tell = all_tell ns ts ws os (versions_made s.origin zone ws os) are r c.begins;
         names_are =
-            count ∙ ap (λ (h : List Commit). length (version_after applied s.opening h)) (sym same)
+            many_names ∙ ap (λ (h : List Commit). length (version_after applied s.opening h)) (sym same)
             ∙ ap (λ (es : Entries). length es) (sym (index_last s.opening history (length history) refl)) ∙ ap (λ (es : Entries). length es) (sym stands.entries) ∙ length-map (versions_made s.origin zone ws os (length history)) trie_entry
             ∙ ap (λ (n : ℕ). length (versions_made s.origin zone ws os n)) (sym long);
+        nodes_are =
+            many_nodes ∙ ap (λ (h : List Commit). nodes (keys_of (version_after applied s.opening h))) (sym same)
+            ∙ ap (λ (es : Entries). nodes (keys_of es)) (sym (index_last s.opening history (length history) refl)) ∙ ap (λ (es : Entries). nodes (keys_of es)) (sym stands.entries)
+            ∙ ap (λ (n : ℕ). node_count (versions_made s.origin zone ws os n)) (sym long);
       }

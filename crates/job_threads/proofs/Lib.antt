@@ -1,6 +1,10 @@
 pub mod HistoryLaws
+pub mod ShowLaws
 pub mod StepLaws
+pub mod StationLaws
 pub mod WorkLaws
 pub mod JobLaws
 pub mod CloseLaws
 pub mod TransactLaws
+pub mod BlockLaws
+pub mod GatherLaws

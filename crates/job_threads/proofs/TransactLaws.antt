@@ -42,7 +42,7 @@ use Rattle.job_threads.proofs.JobLaws.{here, there}
 abbrev Own : Type 0
 Own = PassView (List Operation)
 
-abbrev Lawful : Entries → Entries → Type 0
+abbrev pub Lawful : Entries → Entries → Type 0
 Lawful first es = IsZone es
 
 -- ---- numbers that rise

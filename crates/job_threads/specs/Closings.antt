@@ -1,5 +1,5 @@
 -- What is known when all workers are done.
-use Rattle.std.specs.Prelude.{◌≡◌, ◌≢◌, ◌⊎◌, ℕ, List, [], ◌∷◌, length, map, Some, Contains}
+use Rattle.std.specs.Prelude.{◌≡◌, ◌≢◌, ◌⊎◌, ℕ, List, [], ◌∷◌, ◌++◌, length, map, Some, Contains}
 use Rattle.std.specs.List.{AllByRecursion}
 use Rattle.job_model.specs.Commands.{Command}
 use Rattle.job_script.specs.declared.outcomes.Outcomes.{Outcomes}
@@ -23,10 +23,18 @@ abbrev pub AreApart : List ℕ → Type 0
 AreApart [] = Unit {0}
 AreApart (x ∷ xs) = AllByRecursion (λ y. x ≢ y) xs × AreApart xs
 
--- what the passes of all workers know, and main's
+-- what the passes of workers know, and of all with main's behind them
+
+abbrev pub workers_views : List Station → List Known
+workers_views [] = []
+workers_views (t ∷ ts) = t.asks ∷ t.holds ∷ workers_views ts
+
 abbrev pub views_of : Known → List Station → List Known
-views_of main [] = main ∷ []
-views_of main (t ∷ ts) = t.asks ∷ t.holds ∷ views_of main ts
+views_of main ts = workers_views ts ++ main ∷ []
+
+-- the numbers of passes, each one more than the pass's own
+abbrev pub numbers_in : List Known → List ℕ
+numbers_in views = map (λ (v : Known). number_of v.pass) views
 
 -- a pass is this one, by its number
 abbrev pub IsPass : ℕ → Known → Type 0
@@ -42,7 +50,7 @@ pub record Closed (views : List Known) (history : List Commit) (namings : List N
   pub authors : (e : Commit) → Contains history e → Some' (IsPass e.author) views
   pub namers : (n : Naming) → Contains namings n
       → Some' (λ v. (own : PassView (List Operation)) × (v.pass ≡ Some own) × (own.number ≡ n.pass) × Contains own.pinned n.version) views
-  pub apart : AreApart (map (λ (v : Known). number_of v.pass) views)
+  pub apart : AreApart (numbers_in views)
 
 -- Main has learnt what all workers had seen, has committed nothing, and has asked for the last version.
 pub record MainSees (main : Known) (ts : List Station) : Type 0 where
@@ -57,3 +65,17 @@ abbrev pub AllRan : Setup → List Numbers → List Station → List (List Comma
 AllRan s [] [] [] [] = Unit {0}
 AllRan s (n ∷ ns) (t ∷ ts) (w ∷ ws) (o ∷ os) = WorkerRan s n t w o.list.items × AllRan s ns ts ws os
 AllRan s _ _ _ _ = ⊥
+
+-- Passes that have asked and committed nothing were given to workers, two to each, and the last one to main. All are back: their
+-- numbers are those that there were, and main has learnt what the workers' first passes have seen.
+pub record Gathers (s : Setup) (before : List Known) (ws : List (List Command)) (os : List Outcomes) (views : List Known) (main : Known) : Type 0 where
+  pub numbers : List Numbers
+  pub stations : List Station
+  pub ran : AllRan s numbers stations ws os
+  pub views_are : views ≡ workers_views stations
+  pub all_back : (m : ℕ) → Contains (numbers_in before) m → Contains (numbers_in (views_of main stations)) m
+  pub own : PassView (List Operation)
+  pub is_own : main.pass ≡ Some own
+  pub none : own.entries ≡ []
+  pub unpinned : own.pinned ≡ []
+  pub learnt : AllByRecursion (λ t. StartsWith main.seen.history t.asks.seen.history) stations

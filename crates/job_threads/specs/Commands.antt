@@ -27,11 +27,15 @@ use Rattle.zone_edit.specs.declared.applying.Halt.{Halt}
 use Rattle.zone_edit.specs.declared.applying.Halt.TheVariants as halts
 use Rattle.job_threads.specs.Histories.{Setup, Commit as Commit', IsZone, StandsAs, AreVersions, CoversNamings, judged_by}
 
--- an index of this size, and a pass that knows of its opening
-pub record IsSetup (s : Setup) (origin : Name) (size : TableSize) (v : Known) : Type 0 where
+-- an index of this size
+pub record IsIndex (s : Setup) (origin : Name) (size : TableSize) : Type 0 where
   pub origin_is : s.origin ≡ origin
   pub chunks : s.chunks ≡ size.chunks
   pub passes : s.passes ≡ size.passes
+
+-- and a pass that knows of its opening
+pub record IsSetup (s : Setup) (origin : Name) (size : TableSize) (v : Known) : Type 0 where
+  pub index : IsIndex s origin size
   pub opening : first_version v.seen ≡ s.opening
 
 -- A pass took the current version, which is no older than what it had seen. The reply is that of the version that it has then seen

@@ -54,6 +54,9 @@ pub record IsNew (number : ℕ) (opening : Entries) (v : Known) : Type 0 where
   pub opened : first_version v.seen ≡ opening
   pub no_history : v.seen.history ≡ []
 
+abbrev pub AreNew : Entries → List Known → Type 0
+AreNew opening views = AllByRecursion (λ v. (number : ℕ) × IsNew number opening v) views
+
 pub record Begins (s : Setup) (numbers : Numbers) (asks spare : Known) : Type 0 where
   pub asker : IsNew numbers.asker s.opening asks
   pub holder : IsNew numbers.holder s.opening spare

@@ -1,10 +1,18 @@
 //! All workers of a job, each in a thread of its own where one can be started.
-ghost use Rattle.std.specs.Prelude.{◌≡◌, ◌+◌, ◌*◌, List, All, IsSome, IfOk, length, map, false};
+ghost use Rattle.std.specs.Prelude.{◌≡◌, ◌+◌, ◌*◌, ◌∷◌, List, All, IsSome, IfOk, length, map, false};
 ghost use Rattle.std.specs.List.{AllByRecursion};
+ghost use Rattle.std.specs.Thread.{IsSync};
 ghost use Rattle.zone_model.specs.Versions.{Version};
 ghost use Rattle.job_model.specs.Commands.{InTurn};
-ghost use Rattle.job_script.specs.Views.{job_view, workers_view};
-ghost use Rattle.shared_index.specs.Passes.{known_at};
+ghost use Rattle.job_model.specs.Outcomes.{passes_for};
+ghost use Rattle.job_script.specs.Views.{command_view, job_view, workers_view};
+ghost use Rattle.shared_index.specs.Passes.{known_at, Learnt};
+ghost use Rattle.shared_index.specs.Closings.{AreAll};
+ghost use Rattle.job_threads.specs.Histories.{Setup, StandsAs};
+ghost use Rattle.job_threads.specs.Works.{AreNew, Begins, Numbers, WorkerRan, ended};
+ghost use Rattle.job_threads.specs.Commands.{IsIndex, IsSetup};
+ghost use Rattle.job_threads.specs.Closings.{Gathers};
+ghost use Rattle.job_threads.specs.Runs.{IsRun};
 
 use crate::gate::Gate;
 use crate::law::ZoneLaw;
@@ -14,8 +22,7 @@ use job_script::{Job, Outcomes, Worker};
 use shared_index::{Index, Named, Pass};
 use std::alloc::{AllocError, Global};
 use std::sync::Wait;
-use std::thread;
-use std::thread::Threads;
+use std::thread::{Threads, join};
 use trie_read::Reading;
 
 /// What became of a job: the outcomes of each worker, the last version, and how many names and nodes that has.
@@ -27,44 +34,116 @@ pub struct Finished {
     pub nodes: u64,
 }
 
-// The number of a place in a list, from 1.
-fn counted(place: usize) -> u32 {
-    u32::try_from(place.saturating_add(1)).unwrap_or(u32::MAX)
+// What became of workers. All passes are back; main's has learnt what they have seen.
+#[derive(Drop)]
+struct Gathered<N: Named> {
+    outcomes: Vec<Outcomes>,
+    passes: Vec<Pass<N>>,
+    main: Pass<N>,
 }
 
-// Each worker's list, with two of the passes.
-fn tasks<'a, N: Named>(
-    alloc: Global,
-    workers: &'a [Worker],
-    passes: &mut Vec<Pass<N>>,
-) -> Result<Vec<Task<'a, N>>, AllocError>
-    requires { 2 * length workers.now + 1 ≡ length passes.old.items }
+// A worker is done beside others.
+fn with_done<N: Named>(
+    index: &Index<ZoneLaw, N>,
+    done: Done<N>,
+    others: Gathered<N>,
+) -> Result<Gathered<N>, AllocError>
+    requires here { (IsSome done.asks.seat) × (IsSome done.spare.seat) × (IsSome others.main.seat) }
+    requires places { (done.asks.place ≡ index.now.place) × (done.spare.place ≡ index.now.place) × (others.main.place ≡ index.now.place) }
+    requires others { All (λ p. (IsSome p.seat) × (p.place ≡ index.now.place)) others.passes.items }
+    ensures main { IfOk result (λ g. (IsSome g.main.seat) × (g.main.place ≡ index.now.place)) }
+    ensures here { IfOk result (λ g. All (λ p. (IsSome p.seat) × (p.place ≡ index.now.place)) g.passes.items) }
+    ensures outcomes { IfOk result (λ g. g.outcomes.items ≡ done.entry.outcomes ∷ others.entry.outcomes.items) }
+    ensures passes { IfOk result (λ g. map (λ p. known_at p.seat) g.passes.items
+        ≡ known_at done.entry.asks.seat ∷ known_at done.entry.spare.seat ∷ map (λ p. known_at p.seat) others.entry.passes.items) }
+    ensures learnt { IfOk result (λ g. Learnt (known_at others.entry.main.seat) (known_at g.main.seat) (known_at done.entry.asks.seat).seen) }
 {
-    let mut tasks = Vec::with_capacity(alloc, workers.len())?;
-    for (place, worker) in workers.iter().enumerate() {
-        let (Some(asks), Some(spare)) = (passes.pop(), passes.pop()) else {
-            unreachable!();
-        };
-        tasks.push(Task {
-            number: counted(place),
-            commands: &worker.commands,
-            asks,
-            spare,
-        })?;
-    }
-    Ok(tasks)
+    let Done {
+        outcomes: list,
+        mut asks,
+        spare,
+    } = done;
+    let Gathered {
+        mut outcomes,
+        mut passes,
+        mut main,
+    } = others;
+    let seen = asks.note(index);
+    main.learn(index, seen);
+    passes.insert(0, spare)?;
+    passes.insert(0, asks)?;
+    outcomes.insert(0, list)?;
+    Ok(Gathered {
+        outcomes,
+        passes,
+        main,
+    })
 }
 
-// Runs them beside each other; where no thread can be started, one after another.
-fn run_tasks<R: Threads + Wait + Sync, N: Named + Send + Sync, G: Gate>(
+// Runs the workers beside each other, from the one of a number on. Each has two of the passes, from the end on, and main the first.
+fn run_workers<R: Threads + Wait + Sync, N: Named + Send + Sync, G: Gate>(
     rt: &R,
     alloc: Global,
     origin: &Name,
     index: &Index<ZoneLaw, N>,
-    tasks: Vec<Task<'_, N>>,
+    workers: &[Worker],
+    number: u32,
+    passes: Vec<Pass<N>>,
     gate: &G,
-) -> Result<Vec<Result<Done<N>, AllocError>>, AllocError> {
-    thread::map_vec(rt, tasks, &|task: Task<'_, N>| run_worker(rt, alloc, origin, index, task, gate))
+) -> Result<Gathered<N>, AllocError>
+    requires count { length passes.items ≡ 2 * length workers.now + 1 }
+    requires here { All (λ p. (IsSome p.seat) × (p.place ≡ index.now.place)) passes.items }
+    requires in_turn { AllByRecursion (InTurn false) (workers_view workers.now) }
+    ensures main { IfOk result (λ g. (IsSome g.main.seat) × (g.main.place ≡ index.now.place)) }
+    ensures here { IfOk result (λ g. All (λ p. (IsSome p.seat) × (p.place ≡ index.now.place)) g.passes.items) }
+    ensures ran { (s : Setup) → IsIndex s origin.now index.now.shared.table.shared.key → AreNew s.opening (map (λ p. known_at p.seat) passes.entry.items)
+        → IfOk result (λ g. Gathers s (map (λ p. known_at p.seat) passes.entry.items) (workers_view workers.now) g.outcomes.items (map (λ p. known_at p.seat) g.passes.items) (known_at g.main.seat)) }
+{
+    let mut passes = passes;
+    let Some(asks) = passes.pop() else {
+        unreachable!();
+    };
+    let Some((worker, others)) = workers.split_first() else {
+        return Ok(Gathered {
+            outcomes: Vec::new(alloc),
+            passes,
+            main: asks,
+        });
+    };
+    let Some(spare) = passes.pop() else {
+        unreachable!();
+    };
+    let task = Task {
+        number,
+        commands: &worker.commands,
+        asks,
+        spare,
+    };
+    let next = number.saturating_add(1);
+    let (done, others) = join(
+        rt,
+        move || -> Result<Done<N>, AllocError>
+            requires here { (IsSome task.asks.seat) × (IsSome task.spare.seat) }
+            requires places { (task.asks.place ≡ index.now.place) × (task.spare.place ≡ index.now.place) }
+            requires in_turn { InTurn false (map command_view task.commands.now) }
+            ensures here { IfOk result (λ d. (IsSome d.asks.seat) × (IsSome d.spare.seat)) }
+            ensures places { IfOk result (λ d. (d.asks.place ≡ index.entry.now.place) × (d.spare.place ≡ index.entry.now.place)) }
+            ensures ran { (s : Setup) (numbers : Numbers) → IsSetup s origin.entry.now index.entry.now.shared.table.shared.key (known_at task.entry.asks.seat)
+                → Begins s numbers (known_at task.entry.asks.seat) (known_at task.entry.spare.seat)
+                → IfOk result (λ d. WorkerRan s numbers (ended (known_at d.asks.seat) (known_at d.spare.seat)) (map command_view task.entry.commands.now) d.outcomes.list.items) }
+        { run_worker(rt, alloc, origin, index, task, gate) },
+        move || -> Result<Gathered<N>, AllocError>
+            requires sync { IsSync R.row }
+            requires count { length passes.items ≡ 2 * length others.now + 1 }
+            requires here { All (λ p. (IsSome p.seat) × (p.place ≡ index.now.place)) passes.items }
+            requires in_turn { AllByRecursion (InTurn false) (workers_view others.now) }
+            ensures main { IfOk result (λ g. (IsSome g.main.seat) × (g.main.place ≡ index.entry.now.place)) }
+            ensures here { IfOk result (λ g. All (λ p. (IsSome p.seat) × (p.place ≡ index.entry.now.place)) g.passes.items) }
+            ensures ran { (s : Setup) → IsIndex s origin.entry.now index.entry.now.shared.table.shared.key → AreNew s.opening (map (λ p. known_at p.seat) passes.entry.items)
+                → IfOk result (λ g. Gathers s (map (λ p. known_at p.seat) passes.entry.items) (workers_view others.entry.now) g.outcomes.items (map (λ p. known_at p.seat) g.passes.items) (known_at g.main.seat)) }
+        { run_workers(rt, alloc, origin, index, others, next, passes, gate) },
+    );
+    with_done(index, done?, others?)
 }
 
 /// Runs a job's workers from version 0 on. The gate is told of each command.
@@ -76,24 +155,20 @@ pub fn run_job<R: Threads + Wait + Sync, N: Named + Send + Sync, G: Gate>(
     passes: Vec<Pass<N>>,
     job: &Job,
     gate: &G,
-) -> Result<Finished, AllocError> {
-    let mut passes = passes;
-    let tasks = tasks(alloc, &job.workers, &mut passes)?;
-    let Some(mut main) = passes.pop() else {
-        unreachable!();
-    };
-    let mut outcomes = Vec::with_capacity(alloc, job.workers.len())?;
-    for done in run_tasks(rt, alloc, origin, &index, tasks, gate)? {
-        let Done {
-            outcomes: list,
-            mut asks,
-            spare,
-        } = done?;
-        main.learn(&index, asks.note(&index));
-        passes.push(asks)?;
-        passes.push(spare)?;
-        outcomes.push(list)?;
-    }
+) -> Result<Finished, AllocError>
+    requires count { length passes.items ≡ passes_for (length job.now.workers.items) }
+    requires size { index.shared.table.shared.key.passes ≡ length passes.items }
+    requires all { AreAll (length passes.items) (map (λ p. known_at p.seat) passes.items) }
+    requires here { All (λ p. (IsSome p.seat) × (p.place ≡ index.place)) passes.items }
+    requires in_turn { AllByRecursion (InTurn false) (job_view job.now) }
+    ensures ran { (s : Setup) (zone : Version) → IsIndex s origin.now index.entry.shared.table.shared.key → StandsAs s.opening zone → AreNew s.opening (map (λ p. known_at p.seat) passes.entry.items)
+        → IfOk result (λ f. IsRun s.chunks origin.now zone (job_view job.now) f.outcomes.items f.version f.names f.nodes) }
+{
+    let Gathered {
+        outcomes,
+        mut passes,
+        mut main,
+    } = run_workers(rt, alloc, origin, &index, &job.workers, 1, passes, gate)?;
     let mut query = main.query(&index);
     let names = query.count();
     let nodes = query.nodes();

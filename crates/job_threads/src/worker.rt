@@ -1,7 +1,7 @@
 //! A worker that runs its commands.
 ghost use Rattle.std.specs.Prelude.{◌≡◌, List, IsSome, IfSome, IfOk, map, false};
 ghost use Rattle.std.specs.Option.{option_map, is_some};
-ghost use Rattle.job_model.specs.Commands.{InTurn, MayCome};
+ghost use Rattle.job_model.specs.Commands.{InTurn, MayCome, held_after};
 ghost use Rattle.job_script.specs.Views.{command_view};
 ghost use Rattle.shared_index.specs.Passes.{known_at};
 ghost use Rattle.job_threads.specs.Histories.{Setup};
@@ -61,11 +61,14 @@ fn run_command<'i, R: Wait, N: Named>(
     requires place { passes.old.asks.place ≡ index.now.place }
     requires places { IfSome passes.old.spare (λ p. p.place ≡ index.now.place) }
     requires placed { IsPlaced (option_map (λ p. p.seat) passes.old.spare) (option_map (λ s. s.seat) passes.old.held) }
-    requires may { MayCome (is_some passes.old.held) (command_view command.now) }
+    requires held_at { IfSome passes.old.held (λ s. s.place ≡ index.now.place) }
+    requires may { MayCome (is_some (option_map (λ s. s.seat) passes.old.held)) (command_view command.now) }
     ensures here { IfOk result (λ _. IsSome passes.new.asks.seat) }
     ensures place { IfOk result (λ _. passes.new.asks.place ≡ index.now.place) }
     ensures places { IfOk result (λ _. IfSome passes.new.spare (λ p. p.place ≡ index.now.place)) }
     ensures placed { IfOk result (λ _. IsPlaced (option_map (λ p. p.seat) passes.new.spare) (option_map (λ s. s.seat) passes.new.held)) }
+    ensures held_at { IfOk result (λ _. IfSome passes.new.held (λ s. s.place ≡ index.now.place)) }
+    ensures held { IfOk result (λ _. is_some (option_map (λ s. s.seat) passes.new.held) ≡ held_after (is_some (option_map (λ s. s.seat) passes.old.held)) (command_view command.now)) }
     ensures steps { (s : Setup) → IsSetup s origin.now index.now.shared.table.shared.key (known_at passes.old.asks.seat)
         → IsUnder (known_at passes.old.asks.seat) (holder_view (option_map (λ p. p.seat) passes.old.spare) (option_map (λ s. s.seat) passes.old.held))
         → IfOk result (λ o. Step s (command_view command.now) o
@@ -111,9 +114,12 @@ fn run_command<'i, R: Wait, N: Named>(
 
 // The second pass, which a snapshot gives back.
 fn second_pass<N: Named>(passes: Passes<'_, N>) -> (Pass<N>, Pass<N>)
-    requires here { IsSome passes.asks.seat }
     requires placed { IsPlaced (option_map (λ p. p.seat) passes.spare) (option_map (λ s. s.seat) passes.held) }
-    ensures same { (result.0 ≡ passes.entry.asks) × (IsSome result.1.seat) }
+    requires place { IfSome passes.spare (λ p. p.place ≡ passes.asks.place) }
+    requires held_at { IfSome passes.held (λ s. s.place ≡ passes.asks.place) }
+    ensures same { result.0 ≡ passes.entry.asks }
+    ensures here { IsSome result.1.seat }
+    ensures place { result.1.place ≡ passes.entry.asks.place }
     ensures seen { (known_at result.1.seat).seen ≡ (holder_view (option_map (λ p. p.seat) passes.entry.spare) (option_map (λ s. s.seat) passes.entry.held)).seen }
     ensures pass { (known_at result.1.seat).pass ≡ (holder_view (option_map (λ p. p.seat) passes.entry.spare) (option_map (λ s. s.seat) passes.entry.held)).pass }
 {
