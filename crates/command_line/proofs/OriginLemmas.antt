@@ -1,5 +1,5 @@
 -- A load that words ask for is under its own origin.
-use Rattle.std.proofs.Common.{ℕ, Bool, true, false, cond, List, [], ◌∷◌, Option, Some, None, codes, drop, option_and_then, refl}
+use Rattle.std.proofs.Common.{ℕ, Bool, true, false, cond, ◌&&◌, List, [], ◌∷◌, Option, Some, None, codes, drop, option_and_then, refl}
 use Rattle.std.specs.Option.{option_map}
 use Rattle.std.specs.Str.{bytes_eq}
 use Rattle.zone_model.specs.Names.{Name}
@@ -21,6 +21,12 @@ either_under : (b : Bool) (x y : Option Invocation) → AllUnder x → AllUnder 
 either_under true x y h k = h
 either_under false x y h k = k
 
+first_under : (a b c : Bool) (x y z : Option Invocation) → AllUnder x → AllUnder y → AllUnder z → AllUnder (cond a x (cond b y (cond c z None)))
+first_under true b c x y z h k l = h
+first_under false true c x y z h k l = k
+first_under false false true x y z h k l = l
+first_under false false false x y z h k l = tt
+
 -- what run and check say
 invocation_under : (verb : Verb) (origin : Option Name) (chunks : Option ℕ) → ((name : Name) → IsUnder verb name) → AllUnder (invocation verb origin chunks)
 invocation_under verb None chunks any = tt
@@ -33,8 +39,8 @@ settings_under verb (option ∷ []) any = tt
 settings_under verb (option ∷ value ∷ []) any = either_under (is_origin option) (invocation verb (origin_of value) (Some default_chunks)) None (invocation_under verb (origin_of value) (Some default_chunks) any) tt
 settings_under verb (first ∷ a ∷ second ∷ []) any = tt
 settings_under verb (first ∷ a ∷ second ∷ b ∷ []) any =
-    either_under _ (invocation verb (origin_of a) (chunks_of b)) _ (invocation_under verb (origin_of a) (chunks_of b) any)
-    (either_under _ (invocation verb (origin_of b) (chunks_of a)) None (invocation_under verb (origin_of b) (chunks_of a) any) tt)
+    first_under (is_origin first && is_chunks second) (is_chunks first && is_origin second) false (invocation verb (origin_of a) (chunks_of b)) (invocation verb (origin_of b) (chunks_of a)) None
+    (invocation_under verb (origin_of a) (chunks_of b) any) (invocation_under verb (origin_of b) (chunks_of a) any) tt
 settings_under verb (first ∷ a ∷ second ∷ b ∷ more ∷ rest) any = tt
 
 verb_under : (run check : Bool) (options : List (List ℕ)) → AllUnder (option_and_then (λ verb. settings_of verb options) (cond run (Some Run) (cond check (Some Check) None)))
@@ -69,9 +75,10 @@ making_under (Some load) (Some chunks) = refl
 asked_under : (found : Option (List ℕ × List Row)) → AllUnder (asked_in found)
 asked_under None = tt
 asked_under (Some x) =
-    either_under _ (reading_in Run x.1) _ (invocation_under Run (origin_in (first_of (codes "origin") x.1)) (chunks_in (first_of (codes "chunks") x.1)) (λ name. tt))
-    (either_under _ (reading_in Check x.1) _ (invocation_under Check (origin_in (first_of (codes "origin") x.1)) (chunks_in (first_of (codes "chunks") x.1)) (λ name. tt))
-    (either_under _ (making_by (load_in x.1) (chunks_in (first_of (codes "chunks") x.1))) None (making_under (load_in x.1) (chunks_in (first_of (codes "chunks") x.1))) tt))
+    first_under (bytes_eq x.0 (codes "run")) (bytes_eq x.0 (codes "check")) (bytes_eq x.0 (codes "make")) (reading_in Run x.1) (reading_in Check x.1) (making_by (load_in x.1) (chunks_in (first_of (codes "chunks") x.1)))
+    (invocation_under Run (origin_in (first_of (codes "origin") x.1)) (chunks_in (first_of (codes "chunks") x.1)) (λ name. tt))
+    (invocation_under Check (origin_in (first_of (codes "origin") x.1)) (chunks_in (first_of (codes "chunks") x.1)) (λ name. tt))
+    (making_under (load_in x.1) (chunks_in (first_of (codes "chunks") x.1)))
 
 parsed_under : (words : List (List ℕ)) → AllUnder (parsed_of words)
 parsed_under words = either_under (is_empty (fault_of program_app words)) (asked_in (subcommand_of program_app words)) None (asked_under (subcommand_of program_app words)) tt

@@ -278,10 +278,10 @@ removal_reads n i es cs h few =
       after = cs ++ Block Heavy (DeleteName (owner i) ∷ []) Commit ∷ [];
       many = length-append cs (Block Heavy (DeleteName (owner i) ∷ []) Commit ∷ []);
       read = λ rest.
-      step_read n (codes "update") ((codes "del " ++ name_text i) ∷ codes "commit" ∷ rest) (between es cs) _ (update_line n es cs few)
-      ∙ step_read (n + 1) (codes "del " ++ name_text i) (codes "commit" ∷ rest) _ _ (removal_line (n + 1) n i es cs Heavy h)
-      ∙ step_read (n + 1 + 1) (codes "commit") rest _ _ (commit_heavy (n + 1 + 1) n es cs (DeleteName (owner i) ∷ []))
-      ∙ ap (λ (k : ℕ). script_from made_origin k rest (between es (cs ++ Block Heavy (DeleteName (owner i) ∷ []) Commit ∷ []))) (let e : n + 1 + 1 + 1 ≡ n + 3 = omega arith in e);
+          step_read n (codes "update") ((codes "del " ++ name_text i) ∷ codes "commit" ∷ rest) (between es cs) _ (update_line n es cs few)
+          ∙ step_read (n + 1) (codes "del " ++ name_text i) (codes "commit" ∷ rest) _ _ (removal_line (n + 1) n i es cs Heavy h)
+          ∙ step_read (n + 1 + 1) (codes "commit") rest _ _ (commit_heavy (n + 1 + 1) n es cs (DeleteName (owner i) ∷ []))
+          ∙ ap (λ (k : ℕ). script_from made_origin k rest (between es (cs ++ Block Heavy (DeleteName (owner i) ∷ []) Commit ∷ []))) (let e : n + 1 + 1 + 1 ≡ n + 3 = omega arith in e);
     }
 
 moved : ℕ → ℕ → List Operation
@@ -294,11 +294,11 @@ move_reads n i c es cs h few =
       after = cs ++ Block Light (moved i c) Commit ∷ [];
       many = length-append cs (Block Light (moved i c) Commit ∷ []);
       read = λ rest.
-      step_read n (codes "write") ((codes "del " ++ name_text i ++ codes " A") ∷ (codes "add " ++ name_text i ++ codes " 300 A " ++ address_text c) ∷ codes "commit" ∷ rest) (between es cs) _ (write_line n es cs few)
-      ∙ step_read (n + 1) (codes "del " ++ name_text i ++ codes " A") ((codes "add " ++ name_text i ++ codes " 300 A " ++ address_text c) ∷ codes "commit" ∷ rest) _ _ (del_line (n + 1) n i es cs h)
-      ∙ step_read (n + 1 + 1) (codes "add " ++ name_text i ++ codes " 300 A " ++ address_text c) (codes "commit" ∷ rest) _ _ (add_line (n + 1 + 1) n i c es cs h)
-      ∙ step_read (n + 1 + 1 + 1) (codes "commit") rest _ _ (commit_light (n + 1 + 1 + 1) n es cs (moved i c))
-      ∙ ap (λ (k : ℕ). script_from made_origin k rest (between es (cs ++ Block Light (moved i c) Commit ∷ []))) (let e : n + 1 + 1 + 1 + 1 ≡ n + 4 = omega arith in e);
+          step_read n (codes "write") ((codes "del " ++ name_text i ++ codes " A") ∷ (codes "add " ++ name_text i ++ codes " 300 A " ++ address_text c) ∷ codes "commit" ∷ rest) (between es cs) _ (write_line n es cs few)
+          ∙ step_read (n + 1) (codes "del " ++ name_text i ++ codes " A") ((codes "add " ++ name_text i ++ codes " 300 A " ++ address_text c) ∷ codes "commit" ∷ rest) _ _ (del_line (n + 1) n i es cs h)
+          ∙ step_read (n + 1 + 1) (codes "add " ++ name_text i ++ codes " 300 A " ++ address_text c) (codes "commit" ∷ rest) _ _ (add_line (n + 1 + 1) n i c es cs h)
+          ∙ step_read (n + 1 + 1 + 1) (codes "commit") rest _ _ (commit_light (n + 1 + 1 + 1) n es cs (moved i c))
+          ∙ ap (λ (k : ℕ). script_from made_origin k rest (between es (cs ++ Block Light (moved i c) Commit ∷ []))) (let e : n + 1 + 1 + 1 + 1 ≡ n + 4 = omega arith in e);
     }
 
 either_reads : (b : Bool) (t u : Turn) (n : ℕ) (es : List (List Command)) (cs : List Command) → Reads n (turn_lines t) es cs 1 → Reads n (turn_lines u) es cs 1 → Reads n (turn_lines (cond b t u)) es cs 1
@@ -325,8 +325,8 @@ then_reads n xs ys es cs j k r s =
       after = s.after;
       many = s.many ∙ ap (λ (m : ℕ). m + k) r.many ∙ (let e : (length cs + j) + k ≡ length cs + (j + k) = omega arith in e);
       read = λ rest.
-      ap (λ (l : List (List ℕ)). script_from made_origin n l (between es cs)) (append_assoc xs ys rest) ∙ r.read (ys ++ rest) ∙ s.read rest
-      ∙ ap (λ (m : ℕ). script_from made_origin m rest (between es s.after)) (let a = length-append xs ys in let e : (n + length xs) + length ys ≡ n + length (xs ++ ys) = omega arith in e);
+          ap (λ (l : List (List ℕ)). script_from made_origin n l (between es cs)) (append_assoc xs ys rest) ∙ r.read (ys ++ rest) ∙ s.read rest
+          ∙ ap (λ (m : ℕ). script_from made_origin m rest (between es s.after)) (let a = length-append xs ys in let e : (n + length xs) + length ys ≡ n + length (xs ++ ys) = omega arith in e);
     }
 
 turns_read : (part : Part) (turns n x : ℕ) (es : List (List Command)) (cs : List Command) → ((d : ℕ) → part.remainder + part.workers * (d % part.count) < 1000000) → length cs + turns ≤ 10000 → Reads n (turns_from part turns x) es cs turns

@@ -346,9 +346,9 @@ unfolding zone_of zone_from apex_first
 zone_said names h =
     let r = names_read 5 names [] (Some server) apex_first ((server, server_address) ∷ []) h (Server, tt) in
     let read : zone_from made_origin 1 (first_lines ++ names_lines names) None (at_first made_origin) ≡ Ok (reading r.owner_last (zone_with apex_first r.others)) =
-        first_read (names_lines names)
-        ∙ ap (λ (l : List (List ℕ)). zone_from made_origin 5 l None (reading (Some server) (zone_with apex_first ((server, server_address) ∷ [])))) (sym (append-nil (names_lines names)))
-        ∙ r.read in
+    first_read (names_lines names)
+    ∙ ap (λ (l : List (List ℕ)). zone_from made_origin 5 l None (reading (Some server) (zone_with apex_first ((server, server_address) ∷ [])))) (sym (append-nil (names_lines names)))
+    ∙ r.read in
     (zone_with apex_first r.others, ap (λ x. x >>= with_soa made_origin (length (first_lines ++ names_lines names) + 1)) read)
 
 -- ---- the whole
@@ -401,7 +401,7 @@ made_job load w some =
     let most = w.workers in
     let few : 0 + load.workers ≤ 16 = omega arith in
     let shown : AllShown ((first_lines ++ names_lines load.names) ++ codes "%%" ∷ script_of_load load) =
-        shown_append (first_lines ++ names_lines load.names) (codes "%%" ∷ script_of_load load) (shown_append first_lines (names_lines load.names) (refl, (refl, (refl, (refl, tt)))) (names_shown load.names w.names)) (refl, workers_shown load load.workers 0 load.seed w few) in
+    shown_append (first_lines ++ names_lines load.names) (codes "%%" ∷ script_of_load load) (shown_append first_lines (names_lines load.names) (refl, (refl, (refl, (refl, tt)))) (names_shown load.names w.names)) (refl, workers_shown load load.workers 0 load.seed w few) in
     let uncut : list_any is_cut (first_lines ++ names_lines load.names) ≡ false = any_append first_lines (names_lines load.names) refl (names_uncut load.names) in
     let lines : lines_of (made_text load) ≡ (first_lines ++ names_lines load.names) ++ codes "%%" ∷ script_of_load load = lines_back ((first_lines ++ names_lines load.names) ++ codes "%%" ∷ script_of_load load) shown in
     let zone_is : zone_lines (made_text load) ≡ first_lines ++ names_lines load.names = ap (before_first is_cut) lines ∙ zone_part (first_lines ++ names_lines load.names) (script_of_load load) uncut in

@@ -1,4 +1,6 @@
-use Rattle.std.proofs.Common.{rules, codes}
+use Rattle.std.proofs.Common.{rules, codes, map, subst, sym}
+use Rattle.std.specs.String.{string_bytes}
+use Rattle.command_line.proofs.OriginLemmas.{AllUnder, words_under}
 use Rattle.qp_main.specs.declared.status.Status.TheVariants as status
 use Rattle.qp_main.proofs.program.run.Goals as goal
 
@@ -9,3 +11,6 @@ returns-in-Ok-None-clause-cut_short g c = λ failed. record {
   due = search rules;
   grew = search (rules, c.write_due.ensures.front failed);
 }
+
+pub serve_invocation-requires : goal.serve_invocation-requires
+serve_invocation-requires g c = subst AllUnder (sym c.in-Ok-Some.ensures) (words_under (map string_bytes c.args.words.now))
