@@ -104,6 +104,10 @@ impl<'t, 'i, L: Law, N: Named, K> Transaction<'t, 'i, L, N, K> {
         ensures holds { IfSome self.old.locked.now.draft (λ d. ⟦<CellReading<WorkingCells<'w, 't, 'i, L, N, K>> as Reading>⟧.holds result (working_set d)) }
     {
         let (root, number) = self.locked.top();
-        CellReading::new(WorkingCells { transaction: self }, root, number)
+        CellReading {
+            cells: WorkingCells { transaction: self },
+            root,
+            number,
+        }
     }
 }
