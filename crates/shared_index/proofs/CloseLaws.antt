@@ -1,5 +1,5 @@
 -- What passes that account for themselves tell of the end of an index.
-use Rattle.std.proofs.Common.{◌≡◌, ◌∙◌, ℕ, ◌+◌, ◌<◌, ◌≤◌, ◌==◌, true, List, [], ◌∷◌, ◌++◌, length, filter, get_or, Option, Some, None, refl, sym, ap, subst, arith, append-nil}
+use Rattle.std.proofs.Common.{◌≡◌, ◌∙◌, ℕ, ◌+◌, ◌<◌, ◌≤◌, ◌==◌, true, List, [], ◌∷◌, ◌++◌, length, take, get_or, Option, Some, None, refl, sym, ap, subst, arith, append-nil}
 use Rattle.std.specs.List.{All, Contains}
 use Rattle.std.proofs.lemmas.Bool.Decides.{eqb_tells}
 use Rattle.std.proofs.lemmas.List.{append_assoc, take-append-le, take_all}
@@ -100,6 +100,15 @@ gathers_more count v learnt w u taught others n last all l g t a =
       history = g.history;
       namings = g.namings;
     }
+
+-- the same, as a call finds them
+pub gathers_found : (count : ℕ) (v learnt w w' u u' taught : Known) (seen then : AllSeen) (others passes : List Known) (n : ℕ) (last all : AllSeen)
+    → Learnt v learnt seen → seen ≡ u.seen → Gathers count learnt w others n last → Learnt u' taught then → u' ≡ u → then ≡ w.seen → Accounts count taught all
+    → w' ≡ w → passes ≡ others ++ u ∷ [] → Gathers count v w' passes n last
+gathers_found count v learnt w w' u u' taught seen then others passes n last all l seen_is g t same then_is a after is =
+    subst (λ (vs : List Known). Gathers count v w' vs n last) (sym is) (subst (λ (x : Known). Gathers count v x (others ++ u ∷ []) n last) (sym after)
+      (gathers_more count v learnt w u taught others n last all (subst (Learnt v learnt) seen_is l) g
+      (subst (λ (x : Known). Learnt x taught w.seen) same (subst (Learnt u' taught) then_is t)) a))
 
 module _ (count : ℕ) (passes : List Known) (last : AllSeen) (each : All (Includes last) passes) (whole : AreAll count passes) where
   commit_of : (e : Commit (List Operation)) → Contains last.history e → e.author < count → IsCommitOf passes e

@@ -36,27 +36,30 @@ all_numbered f [] first (suc count) chunks e = absurd cc
 all_numbered f (x ∷ xs) first zero chunks e = absurd cc
 all_numbered f (x ∷ xs) first (suc count) chunks e =
     let h : f x ≡ pass_view first chunks = cc in
-    let t : map f xs ≡ map (λ n. pass_view n chunks) (range_with_len (suc first) count) = cc in
-    let more = all_numbered f xs (suc first) count chunks t in
+    let t : map f xs ≡ map (λ n. pass_view n chunks) (range_with_len (first + 1) count) = cc in
+    let more = all_numbered f xs (first + 1) count chunks t in
     let here : number_of (f x).pass ≡ first + 1 = ap (λ (v : Known). number_of v.pass) h in
     ap (λ (n : ℕ). n ∷ map (λ y. number_of (f y).pass) xs) here ∙ ap (λ (ns : List ℕ). (first + 1) ∷ ns) more
 
--- what is left of a list from which the last was taken
-pub fewer_left : {A : Type 0} (now old all : List A) → 0 < length old → old ≡ take (length old) all → now ≡ take (length old - 1) old → (length now + 1 ≡ length old) × (now ≡ take (length now) all)
-fewer_left now old all some is taken =
-    let long : length now ≡ length old - 1 = ap (λ (xs : List A). length xs) taken ∙ length-take-le (length old - 1) old (omega arith) in (
+-- what is left of a list of n from which the last was taken
+pub fewer_left : {A : Type 0} (now old all : List A) (n : ℕ) → n ≡ length old → 0 < n → old ≡ take (length old) all → now ≡ take (n - 1) old → (length now + 1 ≡ n) × (now ≡ take (length now) all)
+fewer_left now old all n count some is taken =
+    let long : length now ≡ n - 1 = ap (λ xs. length xs) taken ∙ length-take-le (n - 1) old (omega arith) in (
       omega arith,
-      taken ∙ ap (take (length old - 1)) is ∙ take-take (length old - 1) (length old) all (omega arith) ∙ ap (λ (n : ℕ). take n all) (sym long),
+      taken ∙ ap (take (n - 1)) is ∙ take-take (n - 1) (length old) all (omega arith) ∙ ap (λ (k : ℕ). take k all) (sym long),
     )
 
 -- the last that is left has the number of those before it
-pub last_number : {A : Type 0} (g : A → ℕ) (old all : List A) (count : ℕ) (d : A) → 0 < length old → length old ≤ length all → old ≡ take (length old) all → map g all ≡ range_with_len 1 count
-    → g (get_or old (length old - 1) d) ≡ length old
-last_number g old all count d some within is numbered =
-    let n = length old - 1 in
-    let long : length all ≡ count = sym (length-map g all) ∙ ap (λ (ns : List ℕ). length ns) numbered ∙ length-range_with_len 1 count in
-    ap (λ (xs : List A). g (get_or xs n d)) is ∙ ap g (get_or-take (length old) all n d (omega arith)) ∙ sym (get_or-map g all n d (g d) (omega arith)) ∙ ap (λ (ns : List ℕ). get_or ns n (g d)) numbered
-    ∙ get_or-range_with_len 1 count n (g d) (omega arith) ∙ omega arith
+pub last_number : {A : Type 0} (g : A → ℕ) (old all : List A) (n count : ℕ) (d : A) → n ≡ length old → 0 < n → n ≤ length all → old ≡ take (length old) all → map g all ≡ range_with_len 1 count
+    → g (get_or old (n - 1) d) ≡ n
+last_number g old all n count d same some within is numbered =
+    let long : length all ≡ count = sym (length-map all g) ∙ ap (λ (ns : List ℕ). length ns) numbered ∙ length-range_with_len 1 count in
+    ap (λ xs. g (get_or xs (n - 1) d)) is ∙ ap g (get_or-take (length old) all (n - 1) d (omega arith)) ∙ sym (get_or-map g all (n - 1) d (g d) (omega arith)) ∙ ap (λ (ns : List ℕ). get_or ns (n - 1) (g d)) numbered
+    ∙ get_or-range_with_len 1 count (n - 1) (g d) (omega arith) ∙ omega arith
+
+-- as many as there are numbers
+pub numbered_long : {A : Type 0} (g : A → ℕ) (xs : List A) (count : ℕ) → map g xs ≡ range_with_len 1 count → length xs ≡ count
+numbered_long g xs count numbered = sym (length-map xs g) ∙ ap (λ (ns : List ℕ). length ns) numbered ∙ length-range_with_len 1 count
 
 -- a pass more is there
 pub there_more : {A : Type 0} (f : A → Known) (ps : List A) (p : A) (left count : ℕ) → number_of (f p).pass ≡ left + 1

@@ -105,10 +105,10 @@ impl<L: Law, N: Named> Index<L, N> {
         ensures { (last : AllSeen) × (result ≡ length last.history) }
     {
         let Index { turn, .. } = self;
-        match turn.into_inner() {
-            Some(turn) => turn.desk.seat.version,
-            None => 0,
-        }
+        let Some(turn) = turn.into_inner() else {
+            return 0;
+        };
+        turn.desk.seat.version
     }
 
     /// Ends the index, and tells the number of its current version: as many commits were made. It is no less than what these

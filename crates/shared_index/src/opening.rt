@@ -211,8 +211,8 @@ fn tell_passes<L: Law, N: Named>(
     ensures passes { IfOk result (λ passes. All (λ p. (IsSome p.seat) × (p.place ≡ place)
         × (SeesFirst (first_version turn.old.place.me.0.seen) (known_at p.seat))) passes.items) }
     ensures unused { IfOk result (λ passes. All (λ p. (commits_in (known_at p.seat).pass ≡ []) × (pinned_in (known_at p.seat).pass ≡ [])) passes.items) }
-    ensures count { IfOk result (λ passes. length passes.items ≡ shared.now.table.shared.key.passes) }
-    ensures all { IfOk result (λ passes. AreAll shared.now.table.shared.key.passes (map (λ p. known_at p.seat) passes.items)) }
+    ensures count { IfOk result (λ passes. length passes.items ≡ length seats.items) }
+    ensures all { IfOk result (λ passes. AreAll (length seats.items) (map (λ p. known_at p.seat) passes.items)) }
 {
     let mut seats = seats;
     let mut passes = Vec::new(alloc);

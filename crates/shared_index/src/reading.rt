@@ -1,5 +1,5 @@
 //! The working set of a transaction, read as a version.
-ghost use Rattle.std.specs.Prelude.{◌≡◌, IfSome, IsSomeAnd};
+ghost use Rattle.std.specs.Prelude.{◌≡◌, IsSome, IfSome, IsSomeAnd};
 ghost use Rattle.packed_node.specs.declared.Cell.{Cell};
 ghost use Rattle.shared_cells.specs.Cells.{HasCell};
 ghost use Rattle.shared_index.specs.Turns.{cells_with};
@@ -69,6 +69,19 @@ impl<L: Law, N: Named> Locked<'_, L, N> {
     }
 }
 
+impl<L: Law, N: Named> Locked<'_, L, N> {
+    // The root of the working set, and the base's number.
+    fn top(&self) -> (Option<Ref>, u64)
+        requires { IsSome self.now.draft }
+        ensures { IfSome self.now.draft (λ d. (result.0 ≡ d.root) × (result.1 ≡ d.seat.version)) }
+    {
+        match &self.draft {
+            Some(draft) => (draft.root, draft.seat.version),
+            None => unreachable!(),
+        }
+    }
+}
+
 impl<L: Law, N: Named, K> CellRead for WorkingCells<'_, '_, '_, L, N, K> {
     ghost use Rattle.shared_index.specs.Drafts.{HasIn};
 
@@ -90,10 +103,11 @@ impl<'t, 'i, L: Law, N: Named, K> Transaction<'t, 'i, L, N, K> {
         ensures number { IfSome self.old.locked.now.draft (λ d. ⟦<CellReading<WorkingCells<'w, 't, 'i, L, N, K>> as Reading>⟧.number result ≡ d.seat.version) }
         ensures holds { IfSome self.old.locked.now.draft (λ d. ⟦<CellReading<WorkingCells<'w, 't, 'i, L, N, K>> as Reading>⟧.holds result (working_set d)) }
     {
-        let Some(draft) = &self.locked.draft else {
-            unreachable!()
-        };
-        let (root, number) = (draft.root, draft.seat.version);
-        CellReading::new(WorkingCells { transaction: self }, root, number)
+        let (root, number) = self.locked.top();
+        CellReading {
+            cells: WorkingCells { transaction: self },
+            root,
+            number,
+        }
     }
 }

@@ -32,11 +32,12 @@ loop-seat-preserved g c =
     let part : IsPartOf w.seen v.seen = subst (IsPartOf w.seen) told c.learn-seat.ensures.learnt.2 in
     let sees : SeesFirst (first_version c.args.turn.now.place.me.0.seen) w = subst (λ (x : Known). SeesFirst (first_version x.seen) w) inv.known (sees_first v w c.loop-seat.turn.told part none) in
     let items = c.in_ok-push.ensures.items in
-    let left = fewer_left c.pop.new.self.items c.loop-seat.seats.items c.args.seats.items some inv.rest pop.rest in
+    let long : vec_len c.loop-seat.seats ≡ length c.loop-seat.seats.items = omega (arith, c.loop-seat.seats.ok.0) in
+    let left = fewer_left c.pop.new.self.items c.loop-seat.seats.items c.args.seats.items (vec_len c.loop-seat.seats) long some inv.rest pop.rest in
     let numbered : number_of w.pass ≡ length c.pop.new.self.items + 1 =
     ap (λ (x : Known). number_of x.pass) c.learn-seat.ensures.learnt.0
     ∙ ap (λ s. number_of s.place.me.0.pass) popped
-    ∙ last_number (λ s. number_of s.place.me.0.pass) c.loop-seat.seats.items c.args.seats.items c.args.shared.now.table.shared.key.passes seat some (let m = inv.many in omega arith) inv.rest c.requires.numbered
+    ∙ last_number (λ s. number_of s.place.me.0.pass) c.loop-seat.seats.items c.args.seats.items (vec_len c.loop-seat.seats) c.args.shared.now.table.shared.key.passes seat long some (let m = inv.many in omega (arith, long)) inv.rest c.requires.numbered
     ∙ sym left.0 in
     record {
       table = note.table.0 ∙ inv.table;
@@ -59,5 +60,5 @@ loop-seat-preserved g c =
       rest = left.1;
       all = λ number some small. subst (λ ps. IsThere (map (λ p. known_at p.seat) ps) number) (sym items)
           (there_more (λ p. known_at p.seat) c.loop-seat.passes.items _ (length c.pop.new.self.items) (length c.args.seats.items) numbered
-          (λ n more few. inv.all n (let k = left.0 in omega arith) few) number some small);
+          (λ n more few. inv.all n (let k = left.0 in omega (arith, long)) few) number some small);
     }

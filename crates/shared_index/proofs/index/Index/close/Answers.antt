@@ -1,0 +1,14 @@
+use Rattle.std.proofs.Common.{◌∙◌, ◌∷◌, [], ap, map}
+use Rattle.std.proofs.lemmas.List.{map-append}
+use Rattle.shared_index.specs.Passes.{known_at}
+use Rattle.shared_index.proofs.CloseLaws.{ends}
+use Rattle.shared_index.proofs.index.Index.close.Goals as goal
+
+pub returns-in-Some : goal.returns-in-Some
+returns-in-Some g c =
+    let e = c.gather-first.ensures.gathers in record {
+      ends = (
+        e.0,
+        ends _ _ _ _ _ _ e.0 e.1 (ap (map (λ p. known_at p.seat)) c.in-Some.ensures.items ∙ map-append (λ p. known_at p.seat) c.pop.new.self.items (c.in-Some.first ∷ [])),
+      );
+    }
