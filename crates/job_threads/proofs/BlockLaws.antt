@@ -2,6 +2,7 @@
 use Rattle.std.proofs.Common.{◌≡◌, ◌∙◌, true, ℕ, ◌+◌, List, Option, Some, None, Result, Ok, Err, IfOk, length, refl, sym, ap, subst}
 use Rattle.std.specs.Prelude.{IsSome, IsSomeAnd, IfSome}
 use Rattle.std.specs.declared.alloc.AllocError.{AllocError}
+use Rattle.zone_model.specs.Names.{Name}
 use Rattle.zone_model.specs.declared.Refusal.{Refusal}
 use Rattle.zone_model.specs.Versions.{Operation as ZoneOperation}
 use Rattle.job_model.specs.declared.Ending.{Ending}
@@ -17,14 +18,14 @@ use Rattle.shared_index.specs.declared.desk.Draft.{Draft}
 use Rattle.shared_index.specs.declared.kept.Versions.{Versions}
 use Rattle.shared_index.specs.Passes.{Known, first_version, known_at}
 use Rattle.shared_index.specs.Drafts as drafts
-use Rattle.shared_index.specs.Drafts.{Begins, IsBack}
+use Rattle.shared_index.specs.Drafts.{Begins, IsBack, Works, working_set}
 use Rattle.shared_index.specs.Keepings.{versions_in}
-use Rattle.zone_edit.specs.Stores.{EditsOne, Edits}
+use Rattle.zone_edit.specs.Stores.{WorksOnSome, EditsOne, Edits}
 use Rattle.zone_edit.specs.Blocks.{AppliesAll}
 use Rattle.zone_edit.specs.declared.applying.Halt.{Halt}
 use Rattle.zone_edit.specs.declared.applying.Halt.TheVariants as halts
-use Rattle.zone_edit.proofs.EditLaws.{Both, both}
-use Rattle.job_threads.specs.Histories.{Setup}
+use Rattle.zone_edit.proofs.EditLaws.{Both, both, edits_some, some_weaker}
+use Rattle.job_threads.specs.Histories.{Setup, IsZone}
 use Rattle.job_threads.specs.Commands.{Transacts, BlockRan, StoppedBy}
 use Rattle.job_threads.proofs.TransactLaws.{Lawful, begun_some, commits_block, commits_grow, commits_version, back_grows, back_pass, back_version, rolled_back, rule_broken, spent_block, full_block}
 
@@ -91,3 +92,26 @@ module _ (s : Setup) (operations : List ZoneOperation) (ends : Ending) (old : Kn
         (full_block s operations old x.before x.after x.met told opening x.related.known (known_at seat) (known_back (Err (halts.Full operation kept)) x) ends operation kept
         (there_is (λ d. s.chunks ≡ length d.usage.given) second x.after x.new_is chunks)
         (there_is (λ d. s.passes ≡ d.seat.passes) first x.before x.old_is passes ∙ sym x.related.passes) x.related.becomes)
+
+-- ---- what calls ask of a transaction
+
+module _ (old : Known) (first : Option Draft) (begins : IsSomeAnd first (Begins Lawful old)) where
+  pub begun_there : IsSome first
+  begun_there = by_draft first begins
+    where
+      by_draft : (o : Option Draft) → IsSomeAnd o (Begins Lawful old) → IsSome o
+      by_draft (Some d) b = refl
+      by_draft None b = absurd b
+
+  pub begun_works : IsSomeAnd first WorksOnSome
+  begun_works = some_weaker (Begins Lawful old) WorksOnSome first (begun_some old) begins
+
+  module _ (origin : Name) (operations : List ZoneOperation) (second : Option Draft) (edits : Edits (AppliesAll origin operations (Ok tt)) first second) where
+    works_still : IsSomeAnd second WorksOnSome
+    works_still = edits_some (AppliesAll origin operations (Ok tt)) first second begun_works (λ version e a. record { version = a.0; on = a.2 }) edits
+
+    pub after_works : IsSomeAnd second Works
+    after_works = some_weaker WorksOnSome Works second (λ d w. w.on.works) works_still
+
+    pub after_zone : IsSomeAnd second (λ d. IsZone (working_set d))
+    after_zone = some_weaker WorksOnSome (λ d. IsZone (working_set d)) second (λ d w. record { version = w.version; stands = record { valid = w.on.valid; entries = sym w.on.set } }) works_still

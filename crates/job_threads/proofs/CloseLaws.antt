@@ -12,12 +12,8 @@ use Rattle.shared_cells.specs.Views.{number_of}
 use Rattle.shared_index.specs.declared.meaning.Operation.{Operation}
 use Rattle.shared_index.specs.Passes.{Known, pinned_in}
 use Rattle.shared_index.specs.Closings.{AllSeen, Includes, IsThere, AreAll, IsCommitOf, IsNamingOf, Ends}
-use Rattle.job_model.specs.Commands.{Command}
-use Rattle.job_script.specs.declared.outcomes.Outcomes.{Outcomes}
 use Rattle.job_threads.specs.Histories.{Setup, Commit}
-use Rattle.job_threads.specs.Steps.{Station}
-use Rattle.job_threads.specs.Works.{Numbers, WorkerRan}
-use Rattle.job_threads.specs.Closings.{Some', AreApart, views_of, numbers_in, IsPass, Closed, MainSees, AllRan}
+use Rattle.job_threads.specs.Closings.{Some', AreApart, Worker, views_of, numbers_in, IsPass, Closed, MainSees}
 use Rattle.job_threads.proofs.HistoryLaws.{by-append, begins_more}
 use Rattle.job_threads.proofs.JobLaws.{here, there}
 
@@ -121,21 +117,21 @@ module _ (s : Setup) (last : AllSeen) (main : Known) where
       entries_of None = []
       entries_of (Some o) = o.entries
 
-  asker_entries : (n : Numbers) (t : Station) (w : List Command) (o : Outcomes) → WorkerRan s n t w o.list.items → Includes last t.asks → HasEntries t.asks
-  asker_entries n t w o r i = λ own is.
-      let k = r.work in
+  asker_entries : (w : Worker s) → Includes last w.station.asks → HasEntries w.station.asks
+  asker_entries w i = λ own is.
+      let k = w.ran.work in
       let same : ◌≡◌ {A = Option Own} (Some k.asker) (Some own) = sym k.is_asker ∙ is in
       let exact : k.asker.entries ≡ entries_by k.asker.number last.history =
-      exact_entries k.asker.number k.asker.entries last.history k.committed (i.commits k.asker k.is_asker) k.mine (begins_more last.history t.asks.seen.history k.committed i.seen.history k.front) in
+      exact_entries k.asker.number k.asker.entries last.history k.committed (i.commits k.asker k.is_asker) k.mine (begins_more last.history w.station.asks.seen.history k.committed i.seen.history k.front) in
       let one : k.asker ≡ own = cc in
       subst (λ (x : Own). x.entries ≡ entries_by x.number last.history) one exact
 
-  all_entries : (ns : List Numbers) (ts : List Station) (ws : List (List Command)) (os : List Outcomes) (own : Own) → main.pass ≡ Some own → own.entries ≡ [] → AllRan s ns ts ws os → AllByRecursion (Includes last) (views_of main ts) → AllByRecursion HasEntries (views_of main ts)
-  all_entries [] [] [] [] own is none r i = (none_entries main own is none i.0, tt)
-  all_entries (n ∷ ns) (t ∷ ts) (w ∷ ws) (o ∷ os) own is none r i = (
-    asker_entries n t w o r.0 i.0,
-    none_entries t.holds r.0.work.holder r.0.work.is_holder r.0.work.none_held i.1.0,
-    all_entries ns ts ws os own is none r.1 i.1.1,
+  all_entries : (ws : List (Worker s)) (own : Own) → main.pass ≡ Some own → own.entries ≡ [] → AllByRecursion (Includes last) (views_of main ws) → AllByRecursion HasEntries (views_of main ws)
+  all_entries [] own is none i = (none_entries main own is none i.0, tt)
+  all_entries (w ∷ ws) own is none i = (
+    asker_entries w i.0,
+    none_entries w.station.holds w.ran.work.holder w.ran.work.is_holder w.ran.work.none_held i.1.0,
+    all_entries ws own is none i.1.1,
   )
 
   seen_all : (views : List Known) → AllByRecursion (Includes last) views → AllByRecursion (λ (v : Known). StartsWith last.history v.seen.history) views × AllByRecursion (λ (v : Known). StartsWith last.namings v.seen.namings) views
@@ -149,22 +145,21 @@ module _ (s : Setup) (last : AllSeen) (main : Known) where
       by_pass None is h = absurd (omega arith)
       by_pass (Some own) is h = (own, is, omega arith)
 
-  pub closed : (count version : ℕ) (ns : List Numbers) (ts : List Station) (ws : List (List Command)) (os : List Outcomes) → AllRan s ns ts ws os → MainSees main ts → Ends count (views_of main ts) version last → AreAll count (views_of main ts) → length (views_of main ts) ≡ count
-      → Closed (views_of main ts) last.history last.namings
-  closed count version ns ts ws os r m e all long =
-      let each = all_rec (Includes last) (views_of main ts) e.each in
-      let seen = seen_all (views_of main ts) each in
+  pub closed : (count version : ℕ) (ws : List (Worker s)) → MainSees main ws → Ends count (views_of main ws) version last → AreAll count (views_of main ws) → length (views_of main ws) ≡ count → Closed (views_of main ws) last.history last.namings
+  closed count version ws m e all long =
+      let each = all_rec (Includes last) (views_of main ws) e.each in
+      let seen = seen_all (views_of main ws) each in
       record {
         begins = seen.0;
         names = seen.1;
-        entries = all_entries ns ts ws os m.own m.is_own m.none r each;
+        entries = all_entries ws m.own m.is_own m.none each;
         authors = λ x inside.
-            let c = All-contains (IsCommitOf (views_of main ts)) last.history x (e.commits all) inside in
-            some_of (IsPass x.author) (views_of main ts) c.0 c.1 (pass_of c.0 x.author c.2);
+            let c = All-contains (IsCommitOf (views_of main ws)) last.history x (e.commits all) inside in
+            some_of (IsPass x.author) (views_of main ws) c.0 c.1 (pass_of c.0 x.author c.2);
         namers = λ n inside.
-            let c = All-contains (IsNamingOf (views_of main ts)) last.namings n (e.namings all) inside in
+            let c = All-contains (IsNamingOf (views_of main ws)) last.namings n (e.namings all) inside in
             let p = pass_of c.0 n.pass c.2 in
-            some_of (λ (v : Known). (own : Own) × (v.pass ≡ Some own) × (own.number ≡ n.pass) × Contains own.pinned n.version) (views_of main ts) c.0 c.1
+            some_of (λ (v : Known). (own : Own) × (v.pass ≡ Some own) × (own.number ≡ n.pass) × Contains own.pinned n.version) (views_of main ws) c.0 c.1
             (p.0, p.1, p.2, subst (λ (o : Option Own). Contains (pinned_in o) n.version) p.1 c.3);
-        apart = apart count (views_of main ts) all long;
+        apart = apart count (views_of main ws) all long;
       }

@@ -11,9 +11,8 @@ use Rattle.shared_cells.specs.History.{StartsWith}
 use Rattle.shared_cells.specs.Views.{number_of}
 use Rattle.shared_index.specs.Passes.{Known, Learnt}
 use Rattle.job_threads.specs.Histories.{Setup}
-use Rattle.job_threads.specs.Steps.{Station}
 use Rattle.job_threads.specs.Works.{IsNew, Numbers, WorkerRan, ended}
-use Rattle.job_threads.specs.Closings.{workers_views, views_of, numbers_in, AllRan, Gathers}
+use Rattle.job_threads.specs.Closings.{Worker, workers_views, views_of, numbers_in, commands_in, outcomes_in, Gathers}
 use Rattle.job_threads.proofs.HistoryLaws.{begins_more}
 use Rattle.job_threads.proofs.JobLaws.{here, there}
 use Rattle.job_threads.proofs.WorkLaws.{all_weaker}
@@ -21,9 +20,9 @@ use Rattle.job_threads.proofs.WorkLaws.{all_weaker}
 -- main's pass alone
 pub gathers_none : (s : Setup) (main : Known) (number : ℕ) → IsNew number s.opening main → Gathers s (main ∷ []) [] [] [] main
 gathers_none s main number new = record {
-  numbers = [];
-  stations = [];
-  ran = tt;
+  done = [];
+  commands_are = refl;
+  outcomes_are = refl;
   views_are = refl;
   all_back = λ m c. c;
   own = new.own;
@@ -41,23 +40,21 @@ pub gathers_more : (s : Setup) (before : List Known) (spare asks : Known) (ws : 
     → Gathers s before ws os views main → WorkerRan s n (ended asks' spare') w o.list.items → number_of asks.pass ≡ number_of asks'.pass → number_of spare.pass ≡ number_of spare'.pass → Learnt main after asks'.seen
     → Gathers s (before ++ spare ∷ asks ∷ []) (w ∷ ws) (o ∷ os) (asks' ∷ spare' ∷ views) after
 gathers_more s before spare asks ws os views main after spare' asks' n w o g r same_asks same_spare l =
-    let t : Station = ended asks' spare' in
-    let rest = numbers_in (views_of after g.stations) in
     record {
-      numbers = n ∷ g.numbers;
-      stations = ended asks' spare' ∷ g.stations;
-      ran = (r, g.ran);
+      done = record { numbers = n; station = ended asks' spare'; commands = w; outcomes = o; ran = r } ∷ g.done;
+      commands_are = ap (λ (ls : List (List Command)). w ∷ ls) g.commands_are;
+      outcomes_are = ap (λ (ls : List Outcomes). o ∷ ls) g.outcomes_are;
       views_are = ap (λ (vs : List Known). asks' ∷ spare' ∷ vs) g.views_are;
       all_back = λ m c.
           ⊎_elim
           (λ (old : Contains (numbers_in before) m).
-          there (number_of asks'.pass) m (number_of spare'.pass ∷ numbers_in (views_of after g.stations)) (there (number_of spare'.pass) m (numbers_in (views_of after g.stations))
-          (subst (λ (ks : List ℕ). Contains ks m) (main_same (workers_views g.stations)) (g.all_back m old))))
+          there (number_of asks'.pass) m (number_of spare'.pass ∷ numbers_in (views_of after g.done)) (there (number_of spare'.pass) m (numbers_in (views_of after g.done))
+          (subst (λ (ks : List ℕ). Contains ks m) (main_same (workers_views g.done)) (g.all_back m old))))
           (λ (new : Contains (number_of spare.pass ∷ number_of asks.pass ∷ []) m). ⊎_elim
-          (λ (is : number_of spare.pass ≡ m). there (number_of asks'.pass) m (number_of spare'.pass ∷ numbers_in (views_of after g.stations))
-          (subst (λ (k : ℕ). Contains (number_of spare'.pass ∷ numbers_in (views_of after g.stations)) k) (sym same_spare ∙ is) (here (number_of spare'.pass) (numbers_in (views_of after g.stations)))))
+          (λ (is : number_of spare.pass ≡ m). there (number_of asks'.pass) m (number_of spare'.pass ∷ numbers_in (views_of after g.done))
+          (subst (λ (k : ℕ). Contains (number_of spare'.pass ∷ numbers_in (views_of after g.done)) k) (sym same_spare ∙ is) (here (number_of spare'.pass) (numbers_in (views_of after g.done)))))
           (λ (more : Contains (number_of asks.pass ∷ []) m). ⊎_elim
-          (λ (is : number_of asks.pass ≡ m). subst (λ (k : ℕ). Contains (number_of asks'.pass ∷ number_of spare'.pass ∷ numbers_in (views_of after g.stations)) k) (sym same_asks ∙ is) (here (number_of asks'.pass) (number_of spare'.pass ∷ numbers_in (views_of after g.stations))))
+          (λ (is : number_of asks.pass ≡ m). subst (λ (k : ℕ). Contains (number_of asks'.pass ∷ number_of spare'.pass ∷ numbers_in (views_of after g.done)) k) (sym same_asks ∙ is) (here (number_of asks'.pass) (number_of spare'.pass ∷ numbers_in (views_of after g.done))))
           (λ (none : Contains [] m). absurd (let lt = none.1 in omega arith)) (contains_cases (number_of asks.pass) m [] more))
           (contains_cases (number_of spare.pass) m (number_of asks.pass ∷ []) new))
           (Contains-append_cases (numbers_in before) (number_of spare.pass ∷ number_of asks.pass ∷ []) m (subst (λ (ks : List ℕ). Contains ks m) (numbers_append before (spare ∷ asks ∷ [])) c));
@@ -67,8 +64,8 @@ gathers_more s before spare asks ws os views main after spare' asks' n w o g r s
       unpinned = g.unpinned;
       learnt = (
         l.learns.history,
-        all_weaker (λ (u : Station). StartsWith main.seen.history u.asks.seen.history) (λ (u : Station). StartsWith after.seen.history u.asks.seen.history) g.stations
-            (λ u b. begins_more after.seen.history main.seen.history u.asks.seen.history l.grows.history b) g.learnt,
+        all_weaker (λ (u : Worker s). StartsWith main.seen.history u.station.asks.seen.history) (λ (u : Worker s). StartsWith after.seen.history u.station.asks.seen.history) g.done
+            (λ u b. begins_more after.seen.history main.seen.history u.station.asks.seen.history l.grows.history b) g.learnt,
       );
     }
   where

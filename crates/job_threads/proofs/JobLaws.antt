@@ -25,7 +25,7 @@ use Rattle.shared_index.specs.Passes.{Known}
 use Rattle.job_threads.specs.Histories.{Setup, Commit, Entries, index_at, StandsAs, AreVersions, CoversNamings, judged_by, times_by}
 use Rattle.job_threads.specs.Steps.{Station}
 use Rattle.job_threads.specs.Works.{Replayed, Work, Numbers, WorkerRan}
-use Rattle.job_threads.specs.Closings.{Some', AreApart, views_of, numbers_in, IsPass, Closed, MainSees, AllRan}
+use Rattle.job_threads.specs.Closings.{Some', AreApart, Worker, workers_views, views_of, numbers_in, commands_in, outcomes_in, IsPass, Closed, MainSees}
 use Rattle.job_threads.specs.Runs.{IsRun}
 use Rattle.job_threads.proofs.HistoryLaws.{begins_same, begins_more, begins_length, index_front, index_last, versions_front, times_none, times_front, times_past}
 use Rattle.job_threads.proofs.WorkLaws.{Pairs, Own, all_weaker, all_both, times-append, shown-append, replayed_more}
@@ -62,9 +62,9 @@ author_of (e ∷ history) (suc (suc j)) some le = further (author_of history (su
 
 module _ (s : Setup) (history : List Commit) (namings : List Naming) (main : Known) where
   -- how often a version was made by passes of these numbers
-  total : ℕ → List Numbers → ℕ
+  total : ℕ → List (Worker s) → ℕ
   total j [] = 0
-  total j (n ∷ ns) = times_by n.asker j history + total j ns
+  total j (w ∷ ws) = times_by w.numbers.asker j history + total j ws
 
   abbrev HasEntries : Known → Type 0
   HasEntries v = (own : Own) → v.pass ≡ Some own → own.entries ≡ entries_by own.number history
@@ -73,153 +73,149 @@ module _ (s : Setup) (history : List Commit) (namings : List Naming) (main : Kno
   Sees v = StartsWith history v.seen.history
 
   -- of a worker's commits the history has those up to its last one
-  whole_times : (n : Numbers) (t : Station) (w : List Command) (o : Outcomes) (j : ℕ) → WorkerRan s n t w o.list.items → HasEntries t.asks → Sees t.asks → times_made j (pairs_of w o.list.items) ≡ times_by n.asker j history
-  whole_times n t w o j r entries sees =
-      let k = r.work in
+  whole_times : (w : Worker s) (j : ℕ) → HasEntries w.station.asks → Sees w.station.asks → times_made j (pairs_of w.commands w.outcomes.list.items) ≡ times_by w.numbers.asker j history
+  whole_times w j entries sees =
+      let k = w.ran.work in
       let all = entries k.asker k.is_asker in
       k.made j
-      ∙ sym (times_front k.asker.number j history k.committed (begins_more history t.asks.seen.history k.committed sees k.front) (sym all ∙ k.mine))
-      ∙ ap (λ (m : ℕ). times_by m j history) r.asker
+      ∙ sym (times_front k.asker.number j history k.committed (begins_more history w.station.asks.seen.history k.committed sees k.front) (sym all ∙ k.mine))
+      ∙ ap (λ (m : ℕ). times_by m j history) w.ran.asker
 
-  all_times : (ns : List Numbers) (ts : List Station) (ws : List (List Command)) (os : List Outcomes) (j : ℕ) → AllRan s ns ts ws os → AllByRecursion HasEntries (views_of main ts) → AllByRecursion Sees (views_of main ts)
-      → times_made j (all_pairs (job_pairs ws os)) ≡ total j ns
-  all_times [] [] [] [] j r e b = refl
-  all_times (n ∷ ns) (t ∷ ts) (w ∷ ws) (o ∷ os) j r e b =
-      times-append j (pairs_of w o.list.items) (all_pairs (job_pairs ws os))
-      ∙ ap (λ (k : ℕ). k + times_made j (all_pairs (job_pairs ws os))) (whole_times n t w o j r.0 e.0 b.0)
-      ∙ ap (λ (k : ℕ). times_by n.asker j history + k) (all_times ns ts ws os j r.1 e.1.1 b.1.1)
+  abbrev Made : List (Worker s) → Pairs
+  Made ws = all_pairs (job_pairs (commands_in ws) (outcomes_in ws))
+
+  all_times : (ws : List (Worker s)) (j : ℕ) → AllByRecursion HasEntries (views_of main ws) → AllByRecursion Sees (views_of main ws) → times_made j (Made ws) ≡ total j ws
+  all_times [] j e b = refl
+  all_times (w ∷ ws) j e b =
+      times-append j (pairs_of w.commands w.outcomes.list.items) (Made ws)
+      ∙ ap (λ (k : ℕ). k + times_made j (Made ws)) (whole_times w j e.0 b.0)
+      ∙ ap (λ (k : ℕ). times_by w.numbers.asker j history + k) (all_times ws j e.1.1 b.1.1)
 
   -- a commit's pass is one of the workers' first passes
-  abbrev Among : ℕ → List Numbers → Type 0
-  Among author ns = Some' (λ (n : Numbers). n.asker ≡ author) ns
+  abbrev Among : ℕ → List (Worker s) → Type 0
+  Among author ws = Some' (λ (w : Worker s). w.numbers.asker ≡ author) ws
+
+  number_in : Option Own → ℕ
+  number_in None = 0
+  number_in (Some o) = o.number
 
   no_commits : (author j : ℕ) (v : Known) (own : Own) (a : Author history j) → v.pass ≡ Some own → own.entries ≡ [] → HasEntries v → IsPass a.commit.author v → ⊥
   no_commits author j v own a is none entries pass =
-      let same : own.number ≡ a.commit.author = ap number_of' (sym is ∙ pass.1) ∙ pass.2 in
+      let same : own.number ≡ a.commit.author = ap number_in (sym is ∙ pass.1) ∙ pass.2 in
       let empty : entries_by own.number history ≡ [] = sym (entries own is) ∙ none in
       let zero_times : times_by own.number j history ≡ 0 = times_none own.number j history empty in
       let one : times_by own.number j history ≡ 1 = a.times own.number ∙ ap (λ (b : Bool). cond b 1 0) (eq-eqb a.commit.author own.number (sym same)) in
       absurd (let z : 0 ≡ 1 = sym zero_times ∙ one in cc)
-    where
-      number_of' : Option Own → ℕ
-      number_of' None = 0
-      number_of' (Some o) = o.number
 
-  among : (ns : List Numbers) (ts : List Station) (ws : List (List Command)) (os : List Outcomes) (j : ℕ) (a : Author history j) (own : Own) → main.pass ≡ Some own → own.entries ≡ [] → AllRan s ns ts ws os → AllByRecursion HasEntries (views_of main ts)
-      → Some' (IsPass a.commit.author) (views_of main ts) → Among a.commit.author ns
-  among [] [] [] [] j a own is none r e (inl pass) = absurd (no_commits 0 j main own a is none e.0 pass)
-  among [] [] [] [] j a own is none r e (inr more) = absurd more
-  among (n ∷ ns) (t ∷ ts) (w ∷ ws) (o ∷ os) j a own is none r e (inl pass) =
-      inl (sym r.0.asker ∙ ap number_of' (sym r.0.work.is_asker ∙ pass.1) ∙ pass.2)
-    where
-      number_of' : Option Own → ℕ
-      number_of' None = 0
-      number_of' (Some o) = o.number
-  among (n ∷ ns) (t ∷ ts) (w ∷ ws) (o ∷ os) j a own is none r e (inr (inl pass)) = absurd (no_commits 0 j t.holds r.0.work.holder a r.0.work.is_holder r.0.work.none_held e.1.0 pass)
-  among (n ∷ ns) (t ∷ ts) (w ∷ ws) (o ∷ os) j a own is none r e (inr (inr more)) = inr (among ns ts ws os j a own is none r.1 e.1.1 more)
+  among : (ws : List (Worker s)) (j : ℕ) (a : Author history j) (own : Own) → main.pass ≡ Some own → own.entries ≡ [] → AllByRecursion HasEntries (views_of main ws) → Some' (IsPass a.commit.author) (views_of main ws) → Among a.commit.author ws
+  among [] j a own is none e (inl pass) = absurd (no_commits 0 j main own a is none e.0 pass)
+  among [] j a own is none e (inr more) = absurd more
+  among (w ∷ ws) j a own is none e (inl pass) = inl (sym w.ran.asker ∙ ap number_in (sym w.ran.work.is_asker ∙ pass.1) ∙ pass.2)
+  among (w ∷ ws) j a own is none e (inr (inl pass)) = absurd (no_commits 0 j w.station.holds w.ran.work.holder a w.ran.work.is_holder w.ran.work.none_held e.1.0 pass)
+  among (w ∷ ws) j a own is none e (inr (inr more)) = inr (among ws j a own is none e.1.1 more)
 
   -- once, since their numbers are apart
-  none_else : (ns : List Numbers) (j : ℕ) (a : Author history j) → AllByRecursion (λ (n : Numbers). n.asker ≢ a.commit.author) ns → total j ns ≡ 0
+  none_else : (ws : List (Worker s)) (j : ℕ) (a : Author history j) → AllByRecursion (λ (w : Worker s). w.numbers.asker ≢ a.commit.author) ws → total j ws ≡ 0
   none_else [] j a others = refl
-  none_else (n ∷ ns) j a others =
-      let no : eqb a.commit.author n.asker ≡ false = (let m = others.0 in grind (arith, nat_tests)) in
-      let none : times_by n.asker j history ≡ 0 = a.times n.asker ∙ ap (λ (b : Bool). cond b 1 0) no in
-      let rest : total j ns ≡ 0 = none_else ns j a others.1 in
+  none_else (w ∷ ws) j a others =
+      let no : eqb a.commit.author w.numbers.asker ≡ false = (let m = others.0 in grind (arith, nat_tests)) in
+      let none : times_by w.numbers.asker j history ≡ 0 = a.times w.numbers.asker ∙ ap (λ (b : Bool). cond b 1 0) no in
+      let rest : total j ws ≡ 0 = none_else ws j a others.1 in
       omega (arith, none, rest)
 
-  abbrev Apart : List Numbers → Type 0
+  abbrev Apart : List (Worker s) → Type 0
   Apart [] = Unit {0}
-  Apart (n ∷ ns) = AllByRecursion (λ (m : Numbers). n.asker ≢ m.asker) ns × Apart ns
+  Apart (w ∷ ws) = AllByRecursion (λ (v : Worker s). w.numbers.asker ≢ v.numbers.asker) ws × Apart ws
 
-  total_one : (ns : List Numbers) (j : ℕ) (a : Author history j) → Among a.commit.author ns → Apart ns → total j ns ≡ 1
+  total_one : (ws : List (Worker s)) (j : ℕ) (a : Author history j) → Among a.commit.author ws → Apart ws → total j ws ≡ 1
   total_one [] j a among apart = absurd among
-  total_one (n ∷ ns) j a (inl same) apart =
-      let one : times_by n.asker j history ≡ 1 = a.times n.asker ∙ ap (λ (b : Bool). cond b 1 0) (eq-eqb a.commit.author n.asker (sym same)) in
-      let rest : total j ns ≡ 0 = none_else ns j a (all_weaker (λ (m : Numbers). n.asker ≢ m.asker) (λ (m : Numbers). m.asker ≢ a.commit.author) ns (λ m differ e. differ (same ∙ sym e)) apart.0) in
+  total_one (w ∷ ws) j a (inl same) apart =
+      let one : times_by w.numbers.asker j history ≡ 1 = a.times w.numbers.asker ∙ ap (λ (b : Bool). cond b 1 0) (eq-eqb a.commit.author w.numbers.asker (sym same)) in
+      let rest : total j ws ≡ 0 = none_else ws j a (all_weaker (λ (v : Worker s). w.numbers.asker ≢ v.numbers.asker) (λ (v : Worker s). v.numbers.asker ≢ a.commit.author) ws (λ v differ e. differ (same ∙ sym e)) apart.0) in
       omega (arith, one, rest)
-  total_one (n ∷ ns) j a (inr more) apart =
-      let other = apart.0 in
-      let no : eqb a.commit.author n.asker ≡ false = (let m = differs ns more apart.0 in grind (arith, nat_tests)) in
-      let none : times_by n.asker j history ≡ 0 = a.times n.asker ∙ ap (λ (b : Bool). cond b 1 0) no in
-      let rest : total j ns ≡ 1 = total_one ns j a more apart.1 in
+  total_one (w ∷ ws) j a (inr more) apart =
+      let m : w.numbers.asker ≢ a.commit.author = differs ws more apart.0 in
+      let no : eqb a.commit.author w.numbers.asker ≡ false = grind (arith, nat_tests) in
+      let none : times_by w.numbers.asker j history ≡ 0 = a.times w.numbers.asker ∙ ap (λ (b : Bool). cond b 1 0) no in
+      let rest : total j ws ≡ 1 = total_one ws j a more apart.1 in
       omega (arith, none, rest)
     where
-      differs : (ms : List Numbers) → Among a.commit.author ms → AllByRecursion (λ (m : Numbers). n.asker ≢ m.asker) ms → n.asker ≢ a.commit.author
+      differs : (vs : List (Worker s)) → Among a.commit.author vs → AllByRecursion (λ (v : Worker s). w.numbers.asker ≢ v.numbers.asker) vs → w.numbers.asker ≢ a.commit.author
       differs [] among others = absurd among
-      differs (m ∷ ms) (inl e) others = λ h. others.0 (h ∙ sym e)
-      differs (m ∷ ms) (inr further) others = differs ms further others.1
+      differs (v ∷ vs) (inl e) others = λ h. others.0 (h ∙ sym e)
+      differs (v ∷ vs) (inr further) others = differs vs further others.1
 
   -- the numbers of the workers' passes are those of their views
-  apart_numbers : (ns : List Numbers) (ts : List Station) (ws : List (List Command)) (os : List Outcomes) → AllRan s ns ts ws os → AreApart (numbers_in (views_of main ts)) → Apart ns
-  apart_numbers [] [] [] [] r a = tt
-  apart_numbers (n ∷ ns) (t ∷ ts) (w ∷ ws) (o ∷ os) r a = (others ns ts ws os r.1 a.0.1, apart_numbers ns ts ws os r.1 a.1.1)
-    where
-      asker_number : (m : Numbers) (u : Station) (x : List Command) (p : Outcomes) → WorkerRan s m u x p.list.items → number_of u.asks.pass ≡ m.asker + 1
-      asker_number m u x p k = ap number_of k.work.is_asker ∙ ap (λ (i : ℕ). i + 1) k.asker
+  asker_number : (w : Worker s) → number_of w.station.asks.pass ≡ w.numbers.asker + 1
+  asker_number w = ap number_of w.ran.work.is_asker ∙ ap (λ (i : ℕ). i + 1) w.ran.asker
 
-      others : (ms : List Numbers) (us : List Station) (xs : List (List Command)) (ps : List Outcomes) → AllRan s ms us xs ps → AllByRecursion (λ (y : ℕ). number_of t.asks.pass ≢ y) (numbers_in (views_of main us)) → AllByRecursion (λ (m : Numbers). n.asker ≢ m.asker) ms
-      others [] [] [] [] k b = tt
-      others (m ∷ ms) (u ∷ us) (x ∷ xs) (p ∷ ps) k b = (
-        λ e. b.0 (asker_number n t w o r.0 ∙ ap (λ (i : ℕ). i + 1) e ∙ sym (asker_number m u x p k.0)),
-        others ms us xs ps k.1 b.1.1,
-      )
+  others_apart : (w : Worker s) (ws : List (Worker s)) → AllByRecursion (λ (y : ℕ). number_of w.station.asks.pass ≢ y) (numbers_in (views_of main ws)) → AllByRecursion (λ (v : Worker s). w.numbers.asker ≢ v.numbers.asker) ws
+  others_apart w [] b = tt
+  others_apart w (v ∷ vs) b = (
+    (λ e. b.0 (asker_number w ∙ ap (λ (i : ℕ). i + 1) e ∙ sym (asker_number v))),
+    others_apart w vs b.1.1,
+  )
+
+  apart_numbers : (ws : List (Worker s)) → AreApart (numbers_in (views_of main ws)) → Apart ws
+  apart_numbers [] a = tt
+  apart_numbers (w ∷ ws) a = (others_apart w ws a.0.1, apart_numbers ws a.1.1)
 
   -- ---- each version was made once
 
-  pub made_once : (ns : List Numbers) (ts : List Station) (ws : List (List Command)) (os : List Outcomes) (own : Own) → main.pass ≡ Some own → own.entries ≡ [] → AllRan s ns ts ws os → Closed (views_of main ts) history namings
-      → (j : ℕ) → 0 < j → j ≤ length history → times_made j (all_pairs (job_pairs ws os)) ≡ 1
-  made_once ns ts ws os own is none r c j some le =
+  pub made_once : (ws : List (Worker s)) (own : Own) → main.pass ≡ Some own → own.entries ≡ [] → Closed (views_of main ws) history namings → (j : ℕ) → 0 < j → j ≤ length history → times_made j (Made ws) ≡ 1
+  made_once ws own is none c j some le =
       let a = author_of history j some le in
-      all_times ns ts ws os j r c.entries c.begins
-      ∙ total_one ns j a (among ns ts ws os j a own is none r c.entries (c.authors a.commit a.inside)) (apart_numbers ns ts ws os r c.apart)
+      all_times ws j c.entries c.begins ∙ total_one ws j a (among ws j a own is none c.entries (c.authors a.commit a.inside)) (apart_numbers ws c.apart)
 
   -- ---- the history ends with what main has seen
 
-  beyond : (ns : List Numbers) (ts : List Station) (ws : List (List Command)) (os : List Outcomes) (j most : ℕ) → AllRan s ns ts ws os → AllByRecursion HasEntries (views_of main ts) → AllByRecursion Sees (views_of main ts)
-      → AllByRecursion (λ (t : Station). length t.asks.seen.history ≤ most) ts → most < j → total j ns ≡ 0
-  beyond [] [] [] [] j most r e b l past = refl
-  beyond (n ∷ ns) (t ∷ ts) (w ∷ ws) (o ∷ os) j most r e b l past =
-      let k = r.0.work in
-      let short = begins_length t.asks.seen.history k.committed k.front in
+  beyond : (ws : List (Worker s)) (j most : ℕ) → AllByRecursion HasEntries (views_of main ws) → AllByRecursion Sees (views_of main ws) → AllByRecursion (λ (w : Worker s). length w.station.asks.seen.history ≤ most) ws → most < j → total j ws ≡ 0
+  beyond [] j most e b l past = refl
+  beyond (w ∷ ws) j most e b l past =
+      let k = w.ran.work in
+      let short = begins_length w.station.asks.seen.history k.committed k.front in
       let long = l.0 in
-      let none : times_by n.asker j history ≡ 0 = sym (whole_times n t w o j r.0 e.0 b.0) ∙ k.made j ∙ times_past k.asker.number j k.committed (omega (arith, short, long, past)) in
-      let rest : total j ns ≡ 0 = beyond ns ts ws os j most r.1 e.1.1 b.1.1 l.1 past in
+      let beyond_it : length k.committed < j = omega (arith, short, long, past) in
+      let none : times_by w.numbers.asker j history ≡ 0 = sym (whole_times w j e.0 b.0) ∙ k.made j ∙ times_past k.asker.number j k.committed beyond_it in
+      let rest : total j ws ≡ 0 = beyond ws j most e.1.1 b.1.1 l.1 past in
       omega (arith, none, rest)
 
-  main_sees : (ts : List Station) → AllByRecursion Sees (views_of main ts) → Sees main
+  main_sees : (ws : List (Worker s)) → AllByRecursion Sees (views_of main ws) → Sees main
   main_sees [] b = b.0
-  main_sees (t ∷ ts) b = main_sees ts b.1.1
+  main_sees (w ∷ ws) b = main_sees ws b.1.1
 
-  pub ends_there : (ns : List Numbers) (ts : List Station) (ws : List (List Command)) (os : List Outcomes) → AllRan s ns ts ws os → Closed (views_of main ts) history namings → MainSees main ts → history ≡ main.seen.history
-  ends_there ns ts ws os r c m = by_rest (main_sees ts c.begins)
+  pub ends_there : (ws : List (Worker s)) → Closed (views_of main ws) history namings → MainSees main ws → history ≡ main.seen.history
+  ends_there ws c m = let b = main_sees ws c.begins in by_rest b.0 b.1
     where
-      by_rest : Sees main → history ≡ main.seen.history
-      by_rest ([], e) = e ∙ append-nil main.seen.history
-      by_rest (x ∷ rest, e) =
+      by_rest : (rest : List Commit) → history ≡ main.seen.history ++ rest → history ≡ main.seen.history
+      by_rest [] e = e ∙ append-nil main.seen.history
+      by_rest (x ∷ rest) e =
           let long : length history ≡ length main.seen.history + suc (length rest) = ap length e ∙ length-append main.seen.history (x ∷ rest) in
+          let some : 0 < length history = omega (arith, long) in
+          let past : length main.seen.history < length history = omega (arith, long) in
           let le : length history ≤ length history = omega arith in
-          let one = made_once ns ts ws os m.own m.is_own m.none r c (length history) (omega (arith, long)) le in
-          let none = beyond ns ts ws os (length history) (length main.seen.history) r c.entries c.begins
-              (all_weaker (λ (t : Station). StartsWith main.seen.history t.asks.seen.history) (λ (t : Station). length t.asks.seen.history ≤ length main.seen.history) ts (λ t b. begins_length main.seen.history t.asks.seen.history b) m.learnt) (omega (arith, long)) in
-          absurd (let z : 1 ≡ 0 = sym one ∙ all_times ns ts ws os (length history) r c.entries c.begins ∙ none in cc)
+          let one = made_once ws m.own m.is_own m.none c (length history) some le in
+          let none = beyond ws (length history) (length main.seen.history) c.entries c.begins
+              (all_weaker (λ (w : Worker s). StartsWith main.seen.history w.station.asks.seen.history) (λ (w : Worker s). length w.station.asks.seen.history ≤ length main.seen.history) ws (λ w b. begins_length main.seen.history w.station.asks.seen.history b) m.learnt) past in
+          absurd (let z : 1 ≡ 0 = sym one ∙ all_times ws (length history) c.entries c.begins ∙ none in cc)
 
   -- ---- the versions that the outcomes make are those of the history
 
-  all_replayed : (ns : List Numbers) (ts : List Station) (ws : List (List Command)) (os : List Outcomes) → AllRan s ns ts ws os → AllByRecursion Sees (views_of main ts) → AllByRecursion (Replayed s history) (all_pairs (job_pairs ws os))
-  all_replayed [] [] [] [] r b = tt
-  all_replayed (n ∷ ns) (t ∷ ts) (w ∷ ws) (o ∷ os) r b =
-      all-append (Replayed s history) (pairs_of w o.list.items) (all_pairs (job_pairs ws os))
-      (all_both (λ (q : Pair). q.1.version ≤ length t.asks.seen.history) (Replayed s t.asks.seen.history) (Replayed s history) (pairs_of w o.list.items)
-      (λ q le h. replayed_more s history t.asks.seen.history b.0 q le h) r.0.work.none_above r.0.work.replayed)
-      (all_replayed ns ts ws os r.1 b.1.1)
+  all_replayed : (ws : List (Worker s)) → AllByRecursion Sees (views_of main ws) → AllByRecursion (Replayed s history) (Made ws)
+  all_replayed [] b = tt
+  all_replayed (w ∷ ws) b =
+      all-append (Replayed s history) (pairs_of w.commands w.outcomes.list.items) (Made ws)
+      (all_both (λ (q : Pair). q.1.version ≤ length w.station.asks.seen.history) (Replayed s w.station.asks.seen.history) (Replayed s history) (pairs_of w.commands w.outcomes.list.items)
+      (λ q le h. replayed_more s history w.station.asks.seen.history b.0 q le h) w.ran.work.none_above w.ran.work.replayed)
+      (all_replayed ws b.1.1)
 
-  pub all_below : (ns : List Numbers) (ts : List Station) (ws : List (List Command)) (os : List Outcomes) → AllRan s ns ts ws os → AllByRecursion Sees (views_of main ts) → AllByRecursion (λ (p : Pair). p.1.version ≤ length history) (all_pairs (job_pairs ws os))
-  all_below [] [] [] [] r b = tt
-  all_below (n ∷ ns) (t ∷ ts) (w ∷ ws) (o ∷ os) r b =
-      let long = begins_length history t.asks.seen.history b.0 in
-      all-append (λ (p : Pair). p.1.version ≤ length history) (pairs_of w o.list.items) (all_pairs (job_pairs ws os))
-      (all_weaker (λ (p : Pair). p.1.version ≤ length t.asks.seen.history) (λ (p : Pair). p.1.version ≤ length history) (pairs_of w o.list.items) (λ p le. omega (arith, le, long)) r.0.work.none_above)
-      (all_below ns ts ws os r.1 b.1.1)
+  pub all_below : (ws : List (Worker s)) → AllByRecursion Sees (views_of main ws) → AllByRecursion (λ (p : Pair). p.1.version ≤ length history) (Made ws)
+  all_below [] b = tt
+  all_below (w ∷ ws) b =
+      let long = begins_length history w.station.asks.seen.history b.0 in
+      all-append (λ (p : Pair). p.1.version ≤ length history) (pairs_of w.commands w.outcomes.list.items) (Made ws)
+      (all_weaker (λ (p : Pair). p.1.version ≤ length w.station.asks.seen.history) (λ (p : Pair). p.1.version ≤ length history) (pairs_of w.commands w.outcomes.list.items) (λ p le. omega (arith, le, long)) w.ran.work.none_above)
+      (all_below ws b.1.1)
 
   is_both : (c d : Bool) → (c && d) ≡ true → (c ≡ true) × (d ≡ true)
   is_both true d h = (refl, h)
@@ -276,16 +272,15 @@ module _ (s : Setup) (history : List Commit) (namings : List Naming) (main : Kno
       pinned_of None = []
       pinned_of (Some o) = o.pinned
 
-  covered : (ns : List Numbers) (ts : List Station) (ws : List (List Command)) (os : List Outcomes) (n : Naming) (own : Own) → main.pass ≡ Some own → ((v : ℕ) → Contains own.pinned v → v ≡ length main.seen.history) → n.version < length main.seen.history
-      → AllRan s ns ts ws os → Some' (Pinned n) (views_of main ts) → Contains (shown_in (all_pairs (job_pairs ws os))) n.version
-  covered [] [] [] [] n own is pinned below r (inl p) = let e = pinned n.version (pinned_as main own n is p) in absurd (omega (arith, e, below))
-  covered [] [] [] [] n own is pinned below r (inr more) = absurd more
-  covered (m ∷ ns) (t ∷ ts) (w ∷ ws) (o ∷ os) n own is pinned below r (inl p) =
-      shown_left (pairs_of w o.list.items) (all_pairs (job_pairs ws os)) n.version (r.0.work.pinned n.version (inl (pinned_as t.asks r.0.work.asker n r.0.work.is_asker p)))
-  covered (m ∷ ns) (t ∷ ts) (w ∷ ws) (o ∷ os) n own is pinned below r (inr (inl p)) =
-      shown_left (pairs_of w o.list.items) (all_pairs (job_pairs ws os)) n.version (r.0.work.pinned n.version (inr (pinned_as t.holds r.0.work.holder n r.0.work.is_holder p)))
-  covered (m ∷ ns) (t ∷ ts) (w ∷ ws) (o ∷ os) n own is pinned below r (inr (inr more)) =
-      shown_right (pairs_of w o.list.items) (all_pairs (job_pairs ws os)) n.version (covered ns ts ws os n own is pinned below r.1 more)
+  covered : (ws : List (Worker s)) (n : Naming) (own : Own) → main.pass ≡ Some own → ((v : ℕ) → Contains own.pinned v → v ≡ length main.seen.history) → n.version < length main.seen.history → Some' (Pinned n) (views_of main ws) → Contains (shown_in (Made ws)) n.version
+  covered [] n own is pinned below (inl p) = let e = pinned n.version (pinned_as main own n is p) in absurd (omega (arith, e, below))
+  covered [] n own is pinned below (inr more) = absurd more
+  covered (w ∷ ws) n own is pinned below (inl p) =
+      shown_left (pairs_of w.commands w.outcomes.list.items) (Made ws) n.version (w.ran.work.pinned n.version (inl (pinned_as w.station.asks w.ran.work.asker n w.ran.work.is_asker p)))
+  covered (w ∷ ws) n own is pinned below (inr (inl p)) =
+      shown_left (pairs_of w.commands w.outcomes.list.items) (Made ws) n.version (w.ran.work.pinned n.version (inr (pinned_as w.station.holds w.ran.work.holder n w.ran.work.is_holder p)))
+  covered (w ∷ ws) n own is pinned below (inr (inr more)) =
+      shown_right (pairs_of w.commands w.outcomes.list.items) (Made ws) n.version (covered ws n own is pinned below more)
 
   -- ---- all are lawful
 
@@ -297,53 +292,51 @@ module _ (s : Setup) (history : List Commit) (namings : List Naming) (main : Kno
       let long = begins_length history v.seen.history b in
       c n (subst (λ (l : List Naming). Contains l n) (sym names.1) (Contains-append_left v.seen.namings names.0 n inside)) (omega (arith, below, long))
 
-  all_along : (ns : List Numbers) (ts : List Station) (ws : List (List Command)) (os : List Outcomes) (set : ℕ → Version) (shown : List ℕ) → AreVersions s history set → Covers shown → AllRan s ns ts ws os
-      → AllByRecursion Sees (views_of main ts) → AllByRecursion (λ (v : Known). StartsWith namings v.seen.namings) (views_of main ts) → AllAlong (judged_by s set shown) (job_pairs ws os)
-  all_along [] [] [] [] set shown are covers r b names = tt
-  all_along (n ∷ ns) (t ∷ ts) (w ∷ ws) (o ∷ os) set shown are covers r b names = (
-    r.0.work.along set shown (versions_front s history t.asks.seen.history set b.0 are) (covers_each shown t.asks covers b.0 names.0),
-    all_along ns ts ws os set shown are covers r.1 b.1.1 names.1.1,
+  all_along : (ws : List (Worker s)) (set : ℕ → Version) (shown : List ℕ) → AreVersions s history set → Covers shown → AllByRecursion Sees (views_of main ws) → AllByRecursion (λ (v : Known). StartsWith namings v.seen.namings) (views_of main ws)
+      → AllAlong (judged_by s set shown) (job_pairs (commands_in ws) (outcomes_in ws))
+  all_along [] set shown are covers b names = tt
+  all_along (w ∷ ws) set shown are covers b names = (
+    w.ran.work.along set shown (versions_front s history w.station.asks.seen.history set b.0 are) (covers_each shown w.station.asks covers b.0 names.0),
+    all_along ws set shown are covers b.1.1 names.1.1,
   )
 
-  all_tell : (ns : List Numbers) (ts : List Station) (ws : List (List Command)) (os : List Outcomes) (set : ℕ → Version) → AreVersions s history set → AllRan s ns ts ws os → AllByRecursion Sees (views_of main ts) → AllTell s.origin set ws os
-  all_tell [] [] [] [] set are r b = tt
-  all_tell (n ∷ ns) (t ∷ ts) (w ∷ ws) (o ∷ os) set are r b = (
-    r.0.told set (versions_front s history t.asks.seen.history set b.0 are),
-    all_tell ns ts ws os set are r.1 b.1.1,
+  all_tell : (ws : List (Worker s)) (set : ℕ → Version) → AreVersions s history set → AllByRecursion Sees (views_of main ws) → AllTell s.origin set (commands_in ws) (outcomes_in ws)
+  all_tell [] set are b = tt
+  all_tell (w ∷ ws) set are b = (
+    w.ran.told set (versions_front s history w.station.asks.seen.history set b.0 are),
+    all_tell ws set are b.1.1,
   )
 
-  as_many : (ns : List Numbers) (ts : List Station) (ws : List (List Command)) (os : List Outcomes) → AllRan s ns ts ws os → length (job_pairs ws os) ≡ length ws
-  as_many [] [] [] [] r = refl
-  as_many (n ∷ ns) (t ∷ ts) (w ∷ ws) (o ∷ os) r = ap suc (as_many ns ts ws os r.1)
+  as_many : (ws : List (Worker s)) → length (job_pairs (commands_in ws) (outcomes_in ws)) ≡ length (commands_in ws)
+  as_many [] = refl
+  as_many (w ∷ ws) = ap suc (as_many ws)
 
   -- The job's run, where main's last question showed a version with so many names.
-  pub is_run : (zone : Version) (ns : List Numbers) (ts : List Station) (ws : List (List Command)) (os : List Outcomes) (version names count : ℕ) → StandsAs s.opening zone → s.passes ≡ passes_for (length ws) → AllRan s ns ts ws os → Closed (views_of main ts) history namings → MainSees main ts
-      → version ≡ length main.seen.history → names ≡ length (version_after applied s.opening main.seen.history) → count ≡ nodes (keys_of (version_after applied s.opening main.seen.history)) → IsRun s.chunks s.origin zone ws os version names count
-  is_run zone ns ts ws os version names count opens passes r c m last many_names many_nodes =
-      let pairs = all_pairs (job_pairs ws os) in
-      let set = versions_made s.origin zone ws os in
-      let same = ends_there ns ts ws os r c m in
+  pub is_run : (zone : Version) (ws : List (Worker s)) (version names count : ℕ) → StandsAs s.opening zone → s.passes ≡ passes_for (length (commands_in ws)) → Closed (views_of main ws) history namings → MainSees main ws
+      → version ≡ length main.seen.history → names ≡ length (version_after applied s.opening main.seen.history) → count ≡ nodes (keys_of (version_after applied s.opening main.seen.history))
+      → IsRun s.chunks s.origin zone (commands_in ws) (outcomes_in ws) version names count
+  is_run zone ws version names count opens passes c m last many_names many_nodes =
+      let same = ends_there ws c m in
       let long : version ≡ length history = last ∙ sym (ap length same) in
-      let once = made_once ns ts ws os m.own m.is_own m.none r c in
-      let are = versions_stand zone (all_pairs (job_pairs ws os)) opens (all_replayed ns ts ws os r c.begins) once in
-      let shown = shown_in (all_pairs (job_pairs ws os)) in
-      let covers : Covers (shown_in (all_pairs (job_pairs ws os))) = λ n inside below. covered ns ts ws os n m.own m.is_own m.pinned (subst (λ (h : List Commit). n.version < length h) same below) r (c.namers n inside) in
-      let many : s.passes ≡ passes_for (length (job_pairs ws os)) = passes ∙ ap passes_for (sym (as_many ns ts ws os r)) in
+      let once = made_once ws m.own m.is_own m.none c in
+      let are = versions_stand zone (Made ws) opens (all_replayed ws c.begins) once in
+      let covers : Covers (shown_in (Made ws)) = λ n inside below. covered ws n m.own m.is_own m.pinned (subst (λ (h : List Commit). n.version < length h) same below) (c.namers n inside) in
+      let many : s.passes ≡ passes_for (length (job_pairs (commands_in ws) (outcomes_in ws))) = passes ∙ ap passes_for (sym (as_many ws)) in
       let stands = are (length history) (omega arith) in
       record {
         lawful = record {
           once = λ j some le. once j some (omega (arith, le, long));
-          none_above = all_weaker (λ (p : Pair). p.1.version ≤ length history) (λ (p : Pair). p.1.version ≤ version) (all_pairs (job_pairs ws os)) (λ p le. omega (arith, le, long)) (all_below ns ts ws os r c.begins);
-          along = subst (λ (k : ℕ). AllAlong (record { chunks = s.chunks; passes = k; origin = s.origin; set = versions_made s.origin zone ws os; shown = shown_in (all_pairs (job_pairs ws os)) }) (job_pairs ws os)) many
-              (all_along ns ts ws os (versions_made s.origin zone ws os) (shown_in (all_pairs (job_pairs ws os))) are covers r c.begins c.names);
+          none_above = all_weaker (λ (p : Pair). p.1.version ≤ length history) (λ (p : Pair). p.1.version ≤ version) (Made ws) (λ p le. omega (arith, le, long)) (all_below ws c.begins);
+          along = subst (λ (k : ℕ). AllAlong (record { chunks = s.chunks; passes = k; origin = s.origin; set = versions_made s.origin zone (commands_in ws) (outcomes_in ws); shown = shown_in (Made ws) }) (job_pairs (commands_in ws) (outcomes_in ws))) many
+              (all_along ws (versions_made s.origin zone (commands_in ws) (outcomes_in ws)) (shown_in (Made ws)) are covers c.begins c.names);
         };
-        tell = all_tell ns ts ws os (versions_made s.origin zone ws os) are r c.begins;
+        tell = all_tell ws (versions_made s.origin zone (commands_in ws) (outcomes_in ws)) are c.begins;
         names_are =
             many_names ∙ ap (λ (h : List Commit). length (version_after applied s.opening h)) (sym same)
-            ∙ ap (λ (es : Entries). length es) (sym (index_last s.opening history (length history) refl)) ∙ ap (λ (es : Entries). length es) (sym stands.entries) ∙ length-map (versions_made s.origin zone ws os (length history)) trie_entry
-            ∙ ap (λ (n : ℕ). length (versions_made s.origin zone ws os n)) (sym long);
+            ∙ ap (λ (es : Entries). length es) (sym (index_last s.opening history (length history) refl)) ∙ ap (λ (es : Entries). length es) (sym stands.entries) ∙ length-map (versions_made s.origin zone (commands_in ws) (outcomes_in ws) (length history)) trie_entry
+            ∙ ap (λ (n : ℕ). length (versions_made s.origin zone (commands_in ws) (outcomes_in ws) n)) (sym long);
         nodes_are =
             many_nodes ∙ ap (λ (h : List Commit). nodes (keys_of (version_after applied s.opening h))) (sym same)
             ∙ ap (λ (es : Entries). nodes (keys_of es)) (sym (index_last s.opening history (length history) refl)) ∙ ap (λ (es : Entries). nodes (keys_of es)) (sym stands.entries)
-            ∙ ap (λ (n : ℕ). node_count (versions_made s.origin zone ws os n)) (sym long);
+            ∙ ap (λ (n : ℕ). node_count (versions_made s.origin zone (commands_in ws) (outcomes_in ws) n)) (sym long);
       }

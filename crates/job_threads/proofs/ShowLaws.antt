@@ -9,6 +9,7 @@ use Rattle.zone_answer.specs.Standing.{Shows, ShowsSome}
 use Rattle.job_model.specs.Commands.{Question}
 use Rattle.job_model.specs.Replies.{reply_of}
 use Rattle.job_script.specs.Outcomes.{Replies, ended_view}
+use Rattle.job_script.specs.declared.outcomes.Told.TheVariants as told
 use Rattle.job_script.specs.declared.outcomes.Outcome.{Outcome}
 use Rattle.shared_cells.specs.declared.pass.PassSeat.{PassSeat}
 use Rattle.shared_cells.specs.declared.view.PassView.{PassView}
@@ -17,10 +18,11 @@ use Rattle.shared_cells.specs.Views.{number_of, is_told, with_pinned, with_progr
 use Rattle.shared_cells.specs.History.{IsPartOf}
 use Rattle.shared_index.specs.declared.meaning.Operation.{Operation}
 use Rattle.shared_index.specs.Meanings.{Holds}
-use Rattle.shared_index.specs.Passes.{Known, known_at, version_seen, Pinned}
+use Rattle.shared_index.specs.Passes.{Known, known_at, version_seen, Pinned, Learnt}
 use Rattle.job_model.specs.Outcomes.{Shown}
-use Rattle.job_threads.specs.Histories.{Entries, IsZone, StandsAs}
-use Rattle.job_threads.specs.Commands.{Asked, IsHeld}
+use Rattle.job_threads.specs.Histories.{Entries, Sighting, IsZone, StandsAs}
+use Rattle.job_threads.proofs.HistoryLaws.{part_more}
+use Rattle.job_threads.specs.Commands.{Asked, IsHeld, Held}
 use Rattle.job_threads.specs.Stations.{Seat, Pinned as PinnedSeat', holder_view, IsPlaced}
 
 -- a reading that holds what a version stands as shows that version
@@ -77,3 +79,18 @@ placed_spare (Some seat) None h e = (seat, refl, refl, h)
 placed_spare None (Some s) h e = absurd cc
 placed_spare (Some seat) (Some s) h e = absurd h
 placed_spare None None h e = absurd h
+
+-- a snapshot was taken, when the second pass had learnt what the first had seen, and then the first learnt what it has seen
+pub held_of : (lawful : Entries → Entries → Type 0) (old noted second taught new : Known) (seat : PinnedSeat') (first then : Sighting) (number : ℕ) (o : Outcome) → is_told old.seen.opening ≡ true → is_told second.seen.opening ≡ true → noted ≡ old → first ≡ old.seen → Learnt second taught first
+    → Pinned lawful taught seat.place.me.0 number → then ≡ seat.place.me.0.seen → Learnt noted new then → o.version ≡ number → number ≡ seat.version → o.told ≡ told.Held → Held old second new seat o
+held_of lawful old noted second taught new seat first then number o told_old told_second same is_first l p is_then m version here said =
+    let learns : IsPartOf taught.seen old.seen = subst (IsPartOf taught.seen) is_first l.learns in record {
+      grows = part_more seat.place.me.0.seen taught.seen second.seen told_second p.grows l.grows;
+      learns = part_more seat.place.me.0.seen taught.seen old.seen told_old p.grows learns;
+      first = subst (λ (v : Known). IsPartOf new.seen v.seen) same m.grows;
+      tells = subst (IsPartOf new.seen) is_then m.learns;
+      same = m.pass ∙ ap (λ (v : Known). v.pass) same;
+      pass = p.pass ∙ ap (λ x. with_pinned x number) l.pass ∙ ap (with_pinned second.pass) (sym version);
+      version = version ∙ here;
+      is_told = said;
+    }

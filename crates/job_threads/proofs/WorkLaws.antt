@@ -1,8 +1,9 @@
 -- How a worker's run goes on by one command.
-use Rattle.std.proofs.Common.{◌≡◌, ◌∙◌, ◌⊎◌, inl, inr, ℕ, ◌+◌, ◌-◌, ◌<◌, ◌≤◌, Bool, true, false, cond, ◌&&◌, eqb, List, [], ◌∷◌, ◌++◌, length, map, Option, Some, None, refl, sym, ap, subst, arith, append_assoc, length-append, Ok}
+use Rattle.std.proofs.Common.{◌≡◌, ◌∙◌, ◌⊎◌, inl, inr, ℕ, ◌+◌, ◌-◌, ◌<◌, ◌≤◌, Bool, true, false, cond, ◌&&◌, eqb, List, [], ◌∷◌, ◌++◌, length, map, take, drop, get_or, Option, Some, None, refl, sym, ap, subst, arith, append_assoc, length-append, Ok}
 use Rattle.std.specs.Prelude.{Contains}
 use Rattle.std.proofs.lemmas.Bool.{cases_eq}
 use Rattle.std.proofs.lemmas.Bool.Decides.{nat_tests}
+use Rattle.std.proofs.lemmas.List.{map_more, drop_more}
 use Rattle.std.proofs.lemmas.List.Elements.{Contains-append_left, Contains-append_right}
 use Rattle.std.specs.List.{AllByRecursion}
 use Rattle.zone_model.specs.Names.{Name}
@@ -18,7 +19,7 @@ use Rattle.shared_index.specs.Operations.{applied}
 use Rattle.shared_index.specs.Passes.{Known, first_version}
 use Rattle.job_threads.specs.Histories.{Setup, Commit, Entries, index_at, StandsAs, AreVersions, CoversNamings, judged_by, times_by}
 use Rattle.job_threads.specs.Steps.{Station, HoldsLast, IsSight, IsUnder, Adds, Stays, Writes, Step}
-use Rattle.job_threads.specs.Works.{Replayed, Work, Numbers, WorkerRan}
+use Rattle.job_threads.specs.Works.{Replayed, Work, Numbers, Begins, WorkerRan, ended}
 use Rattle.job_threads.proofs.HistoryLaws.{begins_same, begins_more, begins_length, begins_other, index_front, index_last, versions_front, covers_front, by-push, times_front, times_past, times_there, times_else}
 
 abbrev pub Pairs : Type 0
@@ -281,3 +282,55 @@ worker_goes_on s numbers old new done c behind os o opened w step =
 pub worker_ran : (s : Setup) (numbers : Numbers) (t : Station) (commands done ahead : List Command) (os : List Told_outcome) → done ≡ commands → WorkerAt s numbers t done ahead os → WorkerRan s numbers t commands os
 worker_ran s numbers t commands done ahead os all w =
     subst (λ (l : List Command). WorkerRan s numbers t l os) all (record { told = w.told; work = w.work; asker = w.asker; holder = w.holder })
+
+-- two passes that have done nothing, and no snapshot is held
+pub worker_starts : (s : Setup) (numbers : Numbers) (asks spare : Known) (commands : List Command) → Begins s numbers asks spare → InTurn false commands → WorkerAt s numbers (ended asks spare) [] commands []
+worker_starts s numbers asks spare commands b turn =
+    let under : IsUnder asks spare = record {
+      opening = b.holder.opened ∙ sym b.asker.opened;
+      history = (asks.seen.history, sym (ap (λ (l : List Commit). l ++ asks.seen.history) b.holder.no_history));
+    } in
+    let w = worker_begins s (ended asks spare) b.asker.own b.holder.own commands b.asker.opened b.asker.is_own b.holder.is_own b.asker.none b.holder.none b.asker.unpinned b.holder.unpinned under refl turn in
+    record {
+      alike = w.alike;
+      sight = w.sight;
+      under = w.under;
+      told = w.told;
+      work = w.work;
+      asker = w.asker ∙ b.asker.numbered;
+      holder = w.holder ∙ b.holder.numbered;
+      turn = w.turn;
+    }
+
+-- the same commits and pinned versions, at a pass that has left its snapshot
+pub worker_back : (s : Setup) (numbers : Numbers) (t : Station) (spare : Known) (commands : List Command) (os : List Told_outcome) → spare.pass ≡ t.holds.pass → WorkerRan s numbers t commands os → WorkerRan s numbers (ended t.asks spare) commands os
+worker_back s numbers t spare commands os pass r = record {
+  told = r.told;
+  work = record {
+    opened = r.work.opened;
+    along = r.work.along;
+    none_above = r.work.none_above;
+    replayed = r.work.replayed;
+    asker = r.work.asker;
+    is_asker = r.work.is_asker;
+    holder = r.work.holder;
+    is_holder = pass ∙ r.work.is_holder;
+    committed = r.work.committed;
+    front = r.work.front;
+    mine = r.work.mine;
+    made = r.work.made;
+    none_held = r.work.none_held;
+    pinned = r.work.pinned;
+  };
+  asker = r.asker;
+  holder = r.holder;
+}
+
+-- ---- a list and its elements, as they are seen
+
+-- an element and what stands behind it
+pub drop_here : {X Y : Type 0} (view : X → Y) (xs : List X) (i : ℕ) (here : X) → i < length xs → here ≡ get_or xs i here → map view (drop i xs) ≡ view here ∷ map view (drop (i + 1) xs)
+drop_here view xs i here lt is = ap (map view) (drop_more xs i here lt ∙ ap (λ (x : _). x ∷ drop (i + 1) xs) (sym is))
+
+pub take_here : {X Y : Type 0} (view : X → Y) (xs : List X) (i : ℕ) (here : X) → i < length xs → here ≡ get_or xs i here → map view (take (i + 1) xs) ≡ map view (take i xs) ++ view here ∷ []
+take_here view xs i here lt is = map_more view xs i here lt ∙ ap (λ (x : _). map view (take i xs) ++ view x ∷ []) (sym is)

@@ -23,14 +23,28 @@ abbrev pub AreApart : List ℕ → Type 0
 AreApart [] = Unit {0}
 AreApart (x ∷ xs) = AllByRecursion (λ y. x ≢ y) xs × AreApart xs
 
+-- a worker that is done: the numbers of its passes, what these know, its commands and their outcomes
+pub record Worker (s : Setup) : Type 0 where
+  pub numbers : Numbers
+  pub station : Station
+  pub commands : List Command
+  pub outcomes : Outcomes
+  pub ran : WorkerRan s numbers station commands outcomes.list.items
+
 -- what the passes of workers know, and of all with main's behind them
 
-abbrev pub workers_views : List Station → List Known
+abbrev pub workers_views : {s : Setup} → List (Worker s) → List Known
 workers_views [] = []
-workers_views (t ∷ ts) = t.asks ∷ t.holds ∷ workers_views ts
+workers_views (w ∷ ws) = w.station.asks ∷ w.station.holds ∷ workers_views ws
 
-abbrev pub views_of : Known → List Station → List Known
-views_of main ts = workers_views ts ++ main ∷ []
+abbrev pub views_of : {s : Setup} → Known → List (Worker s) → List Known
+views_of main ws = workers_views ws ++ main ∷ []
+
+abbrev pub commands_in : {s : Setup} → List (Worker s) → List (List Command)
+commands_in ws = map (λ w. w.commands) ws
+
+abbrev pub outcomes_in : {s : Setup} → List (Worker s) → List Outcomes
+outcomes_in ws = map (λ w. w.outcomes) ws
 
 -- the numbers of passes, each one more than the pass's own
 abbrev pub numbers_in : List Known → List ℕ
@@ -53,29 +67,23 @@ pub record Closed (views : List Known) (history : List Commit) (namings : List N
   pub apart : AreApart (numbers_in views)
 
 -- Main has learnt what all workers had seen, has committed nothing, and has asked for the last version.
-pub record MainSees (main : Known) (ts : List Station) : Type 0 where
+pub record MainSees {s : Setup} (main : Known) (ws : List (Worker s)) : Type 0 where
   pub own : PassView (List Operation)
   pub is_own : main.pass ≡ Some own
   pub none : own.entries ≡ []
   pub pinned : (v : ℕ) → Contains own.pinned v → v ≡ length main.seen.history
-  pub learnt : AllByRecursion (λ t. StartsWith main.seen.history t.asks.seen.history) ts
-
--- each worker's commands came to outcomes
-abbrev pub AllRan : Setup → List Numbers → List Station → List (List Command) → List Outcomes → Type 0
-AllRan s [] [] [] [] = Unit {0}
-AllRan s (n ∷ ns) (t ∷ ts) (w ∷ ws) (o ∷ os) = WorkerRan s n t w o.list.items × AllRan s ns ts ws os
-AllRan s _ _ _ _ = ⊥
+  pub learnt : AllByRecursion (λ w. StartsWith main.seen.history w.station.asks.seen.history) ws
 
 -- Passes that have asked and committed nothing were given to workers, two to each, and the last one to main. All are back: their
 -- numbers are those that there were, and main has learnt what the workers' first passes have seen.
 pub record Gathers (s : Setup) (before : List Known) (ws : List (List Command)) (os : List Outcomes) (views : List Known) (main : Known) : Type 0 where
-  pub numbers : List Numbers
-  pub stations : List Station
-  pub ran : AllRan s numbers stations ws os
-  pub views_are : views ≡ workers_views stations
-  pub all_back : (m : ℕ) → Contains (numbers_in before) m → Contains (numbers_in (views_of main stations)) m
+  pub done : List (Worker s)
+  pub commands_are : ws ≡ commands_in done
+  pub outcomes_are : os ≡ outcomes_in done
+  pub views_are : views ≡ workers_views done
+  pub all_back : (m : ℕ) → Contains (numbers_in before) m → Contains (numbers_in (views_of main done)) m
   pub own : PassView (List Operation)
   pub is_own : main.pass ≡ Some own
   pub none : own.entries ≡ []
   pub unpinned : own.pinned ≡ []
-  pub learnt : AllByRecursion (λ t. StartsWith main.seen.history t.asks.seen.history) stations
+  pub learnt : AllByRecursion (λ w. StartsWith main.seen.history w.station.asks.seen.history) done

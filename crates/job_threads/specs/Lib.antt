@@ -5,3 +5,4 @@ pub mod Stations
 pub mod Works
 pub mod Closings
 pub mod Runs
+pub mod Zones

@@ -9,7 +9,9 @@ mod law;
 mod replying;
 mod transactions;
 mod worker;
+mod zone;
 
 pub use gate::Gate;
 pub use job::{Finished, run_job};
 pub use law::ZoneLaw;
+pub use zone::{Ran, run_zone};
