@@ -1,5 +1,5 @@
 -- What becomes of old and new chunks as cells are handed out and released.
-use Rattle.std.proofs.Common.{◌≡◌, ℕ, zero, suc, ◌+◌, ◌-◌, ◌/◌, ◌<◌, ◌≤◌, Bool, true, false, not, cond, List, [], ◌∷◌, length, slice_index, slice_index_or, slice_set, refl, ◌∙◌, sym, subst, ap, inl, inr, arith}
+use Rattle.std.proofs.Common.{◌≡◌, ℕ, zero, suc, ◌+◌, ◌-◌, ◌*◌, ◌/◌, ◌<◌, ◌≤◌, Bool, true, false, not, cond, List, [], ◌∷◌, length, slice_index, slice_index_or, slice_set, refl, ◌∙◌, sym, subst, ap, inl, inr, arith}
 use Rattle.std.specs.Prelude.{Option, None, Some, Result, Ok, Err, IfOk, nat_le, ◌==◌, ◌&&◌, ◌||◌, if◌then◌else◌}
 use Rattle.std.proofs.lemmas.Bool.{cases_Bool, cases_eq, true≢false, ne_eqb, eqb-true}
 use Rattle.std.proofs.lemmas.Bool.Decides.{nat_tests}
@@ -8,11 +8,12 @@ use Rattle.chunk_usage.specs.declared.open.Open.{Open}
 use Rattle.chunk_usage.specs.declared.space.Grant.{Grant}
 use Rattle.chunk_usage.specs.declared.space.Full.{Full}
 use Rattle.chunk_usage.specs.Counting.{is_low, is_sparse}
-use Rattle.chunk_usage.specs.Ledger.{Ledger, IsLedger, IsOpen, is_given, is_open, is_used, is_fresh, filled, left, free_count}
+use Rattle.chunk_usage.specs.Ledger.{Ledger, IsLedger, IsOpen, is_given, is_open, is_used, is_fresh, filled, left, free_count, frozen_part}
 use Rattle.chunk_usage.specs.Handing.{IsSpent, lowest_free, newly_taken, new_grant, next_cell, taken, roomy, shortage, spent, released, reserve_granted_from, reserve_allocated_from, reserve_grant_of, reserve_allocated}
 use Rattle.chunk_usage.specs.Keeping.{closed, full}
 use Rattle.chunk_usage.proofs.FlagLemmas.{set_stays, set_within, First, first_is}
 use Rattle.chunk_usage.proofs.SpaceLaws.{Hands, used_given}
+use Rattle.evacuate.proofs.ReserveLaws.{reserve_handed, reserve_frozen}
 use Rattle.evacuate.specs.Fillings.{Fills, Moves, Paid, is_old, old_live}
 
 -- ---- how many cells of the old chunks count
@@ -167,7 +168,7 @@ module _ (given : List Bool) (l : Ledger) (f : Fills given l) where
       stays = f.stays;
       recent = f.recent;
       left = λ k g new shut. let e = get_or-set_other l.live (at / 1024) k (slice_index l.live (at / 1024) - n) 0 (apart k new) in let m = f.left k g new shut in omega arith;
-      bump = λ k open new. let e = get_or-set_other l.live (at / 1024) k (slice_index l.live (at / 1024) - n) 0 (apart k new) in let m = f.bump k open new in omega arith;
+      bump = λ k at_open new. let e = get_or-set_other l.live (at / 1024) k (slice_index l.live (at / 1024) - n) 0 (apart k new) in let m = f.bump k at_open new in omega arith;
       closed = f.closed;
     }
 
@@ -193,6 +194,9 @@ module _ (given : List Bool) (l : Ledger) (f : Fills given l) where
       fresh true b e s = true≢false s
       fresh false b e s = true≢false (sym e)
 
+pub same_chunk_old : (given : List Bool) (q p : ℕ) → q / 1024 ≡ p / 1024 → is_old given p ≡ true → is_old given q ≡ true
+same_chunk_old given q p e old = ap (λ (k : ℕ). slice_index_or given k false) e ∙ old
+
 -- as an evacuation begins all given chunks are old, and the bump chunk is closed
 pub fills_begin : (l : Ledger) → IsLedger l → Fills l.given (closed l)
 fills_begin l h = record {
@@ -200,8 +204,8 @@ fills_begin l h = record {
   stays = λ k old. old;
   recent = λ k g new. absurd (true≢false (sym g ∙ new));
   left = λ k g new shut. absurd (true≢false (sym g ∙ new));
-  bump = λ k open new. absurd (true≢false (sym (given_open l.open_chunk h.opened k open) ∙ new));
-  closed = λ k open old. filled_full l.open_chunk k open;
+  bump = λ k at new. absurd (true≢false (sym (given_open l.open_chunk h.opened k at) ∙ new));
+  closed = λ k at old. filled_full l.open_chunk k at;
 }
   where
     given_open : (o : Option Open) → IsOpen l.given l.live o → (k : ℕ) → is_open (full o) k ≡ true → slice_index_or l.given k false ≡ true
@@ -223,6 +227,19 @@ moves_then a b = record { fills = b.fills; fewer = (let x = a.fewer in let y = b
 -- cells are handed out
 pub moves_handed : {given : List Bool} {n : ℕ} {l new : Ledger} {r : Result Grant Full} → FillsMore given l new r → Hands l new n r → Moves given n l new
 moves_handed f h = record { fills = f.fills; fewer = (let e = f.same in omega arith); paid = (let e = f.same in let s = h.spends in omega arith) }
+
+-- an allocation that was granted
+pub record Granted (l new : Ledger) (n : ℕ) (g : Grant) : Type 0 where
+  pub hands : Hands l new n (Ok g)
+  pub fills : (given : List Bool) → Fills given l → FillsMore given l new (Ok g)
+  pub frozen : frozen_part new ≡ frozen_part l
+
+pub granted : {l new : Ledger} {n : ℕ} {g : Grant} → IsLedger l → 0 < n → n ≤ 256 → new ≡ reserve_allocated l n → Ok g ≡ reserve_grant_of l n → Granted l new n g
+granted {l} {new} {n} {g} h some few e f = record {
+  hands = reserve_handed l h n some few new (Ok g) e f;
+  fills = λ given fills. fills_handed given l h fills n some few new (Ok g) e f;
+  frozen = ap frozen_part e ∙ reserve_frozen l n;
+}
 
 -- and those that they stand for are released
 pub moves_paid : {given : List Bool} {n : ℕ} {l l1 l2 : Ledger} (at : ℕ) → Moves given n l l1 → is_old given at ≡ true → n ≤ slice_index l1.live (at / 1024) → l2 ≡ released l1 at n → Paid given n l l2

@@ -1,5 +1,5 @@
 -- Cells handed out where the reserve is handed out too.
-use Rattle.std.proofs.Common.{◌≡◌, ◌≢◌, ℕ, ◌+◌, ◌*◌, ◌/◌, ◌%◌, ◌<◌, ◌≤◌, Bool, true, false, not, length, slice_index_or, refl, ◌∙◌, sym, subst, ap, inl, inr, arith}
+use Rattle.std.proofs.Common.{◌≡◌, ◌≢◌, ℕ, ◌+◌, ◌-◌, ◌*◌, ◌/◌, ◌%◌, ◌<◌, ◌≤◌, Bool, true, false, not, length, slice_index_or, refl, ◌∙◌, sym, subst, ap, inl, inr, arith}
 use Rattle.std.specs.Prelude.{Option, None, Some, Result, Ok, Err, nat_le, ◌==◌, ◌||◌, ◌&&◌, if◌then◌else◌}
 use Rattle.std.proofs.lemmas.Bool.{cases_Bool, true≢false, eq-eqb}
 use Rattle.std.proofs.lemmas.Bool.Decides.{nat_tests}
@@ -10,7 +10,7 @@ use Rattle.chunk_usage.specs.declared.open.Open.{Open}
 use Rattle.chunk_usage.specs.declared.space.Grant.{Grant}
 use Rattle.chunk_usage.specs.declared.space.Full.{Full}
 use Rattle.chunk_usage.specs.Rooms.{Handed, account_of}
-use Rattle.chunk_usage.specs.Ledger.{Ledger, IsLedger, is_given, is_open, is_used, is_fresh, filled, left, free_count}
+use Rattle.chunk_usage.specs.Ledger.{Ledger, IsLedger, is_given, is_open, is_used, is_fresh, filled, left, free_count, frozen_part}
 use Rattle.chunk_usage.specs.Handing.{IsSpent, lowest_free, newly_taken, new_grant, roomy, shortage, spent, unspent, granted_from, allocated_from, reserve_granted_from, reserve_allocated_from, reserve_grant_of, reserve_allocated}
 use Rattle.chunk_usage.proofs.FlagLemmas.{set_stays, get_set, get_clear, one_fewer_clear, First, first_is}
 use Rattle.chunk_usage.proofs.RowLemmas.{counts_more}
@@ -122,3 +122,15 @@ spent_same l n h = ap (reserve_allocated_from l n) (none l.open_chunk h.few_left
         no : (b : Bool) → nat_le n (1024 - o.filled) ≡ b → nat_le n (1024 - o.filled) ≡ false
         no false e = e
         no true e = grind (arith, nat_tests, e)
+
+-- what freezes left stays
+pub reserve_frozen : (l : Ledger) (n : ℕ) → frozen_part (reserve_allocated l n) ≡ frozen_part l
+reserve_frozen l n = by_room (roomy l.open_chunk n)
+  where
+    by_clear : (b : Bool) → frozen_part (if b then l else newly_taken l n) ≡ frozen_part l
+    by_clear true = refl
+    by_clear false = refl
+
+    by_room : (o : Option Open) → frozen_part (reserve_allocated_from l n o) ≡ frozen_part l
+    by_room None = by_clear (free_count l == 0)
+    by_room (Some o) = refl

@@ -110,7 +110,7 @@ clear_leaf l low t x tree said clear k sparse =
     ap (weigh_tree (in_chunk k)) said.is ∙ clear_row l k x.at _ shape.1 clear sparse
 
 pub clear_branch : (l : Ledger) (low : ℕ) (t : Tree) (b : Branch) (x : BranchTold t b) → IsTree low t → is_sparse l (b.twigs / 1024) ≡ false → (k : ℕ) → is_sparse l k ≡ true → under (in_chunk k) x.below ≡ 0 → weigh_tree (in_chunk k) t ≡ 0
-clear_branch l low t b x tree clear k sparse none =
+clear_branch l low t b x tree clear k sparse empty =
     let shape : IsTree low (branch b.offset b.twigs x.below) = subst (IsTree low) x.is tree in
     let a = ap (weigh_tree (in_chunk k)) x.is in
     let w = weigh_is (in_chunk k) b.twigs x.below in

@@ -20,7 +20,8 @@ use Rattle.chunk_usage.specs.Rooms.{Handed, account_of}
 use Rattle.chunk_usage.proofs.RowLemmas.{row_here, counts_fewer}
 use Rattle.trie_write.specs.Mutable.{Rooted, Hangs}
 use Rattle.trie_write.specs.Puts.{no_spare}
-use Rattle.trie_write.specs.Spaces.{Frame}
+use Rattle.trie_write.specs.Spaces.{Frame, IsWritable}
+use Rattle.chunk_cells.specs.Chunks.{IsGiven}
 use Rattle.trie_write.specs.Ways.{Fork, plug, end_at}
 use Rattle.trie_write.specs.Weights.{at_place, mark}
 use Rattle.trie_write.proofs.PutLaws.{met_used, rooted_within, end_hangs, put_rooted}
@@ -105,9 +106,9 @@ module _ {S : Type 0} {has : S → ℕ → Cell → Type 0} {s : S} {l : Ledger}
   moved_is_node {to} row = subst IsNode (moved_node t to) (is_node 0 (moved t to) (moved_tree 0 t to hung_tree row))
 
   -- its cells are copied, the cell above says where they are, and the old ones count no more
-  pub hung_moved : {kept : S → List ℕ} {given : S → List Bool} {s1 s2 : S} {l1 l2 : Ledger} {to : ℕ} {cell : Cell} → Handed (account_of l) (account_of l1) to (width t) → Frame has kept given account_of s l s1 l1 →
+  moved_here : {kept : S → List ℕ} {given : S → List Bool} {s1 s2 : S} {l1 l2 : Ledger} {to : ℕ} {cell : Cell} → Handed (account_of l) (account_of l1) to (width t) → Frame has kept given account_of s l s1 l1 →
       ((i : ℕ) (c : Cell) → i < width t → has s (first t + i) c → has s1 (to + i) c) → cell ≡ packed (put_at (node_of t) to) → has s2 at cell → ((q : ℕ) (c : Cell) → (q ≡ at → ⊥) → has s1 q c → has s2 q c) → l2 ≡ released l1 (first t) (width t) → Hung has s2 l2 r at es way (moved t to)
-  hung_moved {s1 = s1} {s2} {l1} {l2} {to} {cell} handed f copies is put others e = record {
+  moved_here {s1 = s1} {s2} {l1} {l2} {to} {cell} handed f copies is put others e = record {
     stood = record {
       tree = plug_tree 0 way t (moved t to) h.stood.tree (moved_tree (low_at 0 way) t to hung_low handed.twigs) (follows_same (low_at 0 way) (entries_of t) (entries_of (moved t to)) (moved_entries t to));
       rooted = put_rooted way t (moved t to) h.stood.rooted f.stays (moved_lies (is_used l) (has s) (has s1) f.stays 0 t to hung_tree copies hung_hangs.within hung_hangs.top.beneath)
@@ -127,6 +128,50 @@ module _ {S : Type 0} {has : S → ℕ → Cell → Type 0} {s : S} {l : Ledger}
 
       same_used : (q : ℕ) → mark (is_used l2) q ≡ mark (is_used l1) q
       same_used q = ap (λ (m : Ledger). mark (is_used m) q) e
+
+  pub hung_moved : {kept : S → List ℕ} {given : S → List Bool} {s1 s2 : S} {l1 l2 : Ledger} {from n to : ℕ} {cell : Cell} → from ≡ first t → n ≡ width t → Handed (account_of l) (account_of l1) to n → Frame has kept given account_of s l s1 l1 →
+      ((i : ℕ) (c : Cell) → i < n → has s (from + i) c → has s1 (to + i) c) → cell ≡ packed (put_at (node_of t) to) → has s2 at cell → ((q : ℕ) (c : Cell) → (q ≡ at → ⊥) → has s1 q c → has s2 q c) → l2 ≡ released l1 from n → Hung has s2 l2 r at es way (moved t to)
+  hung_moved {l1 = l1} {from = from} {n} {to} e m handed f copies is put others released_is =
+      moved_here (subst (Handed (account_of l) (account_of l1) to) m handed) f (λ i c lt h. copies i c (omega arith) (subst (λ x. has s (x + i) c) (sym e) h)) is put others (released_is ∙ ap (λ x. released l1 x n) e ∙ ap (released l1 (first t)) m)
+
+  -- cells that are known as its own
+  pub record Cells (from n : ℕ) : Type 0 where
+    pub row : Row from n
+    pub there : (i : ℕ) → i < n → (c : Cell) × has s (from + i) c
+    pub in_use : (i : ℕ) → i < n → is_used l (from + i) ≡ true
+    pub counted : n ≤ slice_index l.live (from / 1024)
+
+  pub hung_cells : {from n : ℕ} → from ≡ first t → n ≡ width t → Cells from n
+  hung_cells {from} {n} e f = subst (λ x. Cells x n) (sym e) (subst (Cells (first t)) (sym f) (record {
+    row = row_of 0 t hung_tree;
+    there = cell_there (has s) 0 t hung_tree hung_hangs.top.beneath;
+    in_use = cell_within (is_used l) 0 t hung_tree hung_hangs.within;
+    counted = hung_counted;
+  }))
+
+-- what counts still does once cells are handed out
+pub later_counted : (l l1 : Ledger) {to n m : ℕ} (k : ℕ) → Handed (account_of l) (account_of l1) to n → m ≤ slice_index l.live k → m ≤ slice_index l1.live k
+later_counted l l1 k h e = let c = h.counts k in omega arith
+
+-- where the old cells are released the new ones may be written
+pub handed_writable : {S : Type 0} {given : S → List Bool} {s : S} (l l1 : Ledger) {l2 : Ledger} {to n : ℕ} (at m : ℕ) → Handed (account_of l) (account_of l1) to n → given s ≡ l1.given → l2 ≡ released l1 at m → (i : ℕ) → i < n → IsWritable given account_of s l2 (to + i)
+handed_writable {given = given} {s} l l1 {to = to} at m handed same e i lt = subst (λ z. IsWritable given account_of s z (to + i)) (sym e) (record {
+  in_use = handed.taken i lt;
+  mutable = handed.writable i lt;
+  in_given = subst (λ (x : List Bool). IsGiven x ((to + i) / 1024)) (sym same) (subst (IsGiven l1.given) (let t = handed.twigs.together in omega arith) handed.in_given);
+})
+
+pub released_rest : (l1 : Ledger) {l2 : Ledger} (at m : ℕ) → l2 ≡ released l1 at m → account_of l2 ≡ record (account_of l1) { live = slice_index l2.live }
+released_rest l1 at m e = subst (λ z. account_of z ≡ record (account_of l1) { live = slice_index z.live }) (sym e) refl
+
+-- a row at which a tree's cells lie now
+pub moved_row : (t : Tree) (to : ℕ) → IsTree 0 (moved t to) → IsRow to (width t)
+moved_row (leaf e w) to h = (row_of 0 (leaf e to) h).row
+moved_row (branch o w below) to h = (row_of 0 (branch o to below) h).row
+
+pub moved_itself : (t : Tree) → moved t (first t) ≡ t
+moved_itself (leaf e w) = refl
+moved_itself (branch o w below) = refl
 
 -- ---- the root's cell is moved
 

@@ -89,7 +89,7 @@ pub fn move_found<C: CellWrite>(
     let mut at = root;
     let mut node = Node::of(cells.cell(root));
     while let Some(branch) = branch_before(node, trail.end) {
-        let index = trail.indices[branch.offset as usize] as u32;
+        let index = trail.index_at(branch.offset);
         at = open_twig(cells, usage, at, branch, index)?;
         node = Node::of(cells.cell(at));
     }

@@ -1,6 +1,6 @@
 //! The walk through a trie to what lies in sparse chunks.
 
-ghost use Rattle.std.specs.Prelude.{◌≡◌, ◌+◌, ◌<◌, ◌≤◌, ℕ, true, false, IsTrue, slice_index};
+ghost use Rattle.std.specs.Prelude.{◌≡◌, ◌≢◌, ◌+◌, ◌<◌, ◌≤◌, ℕ, true, false, slice_index};
 ghost use Rattle.trie_model.specs.Reach.{in_chunk, weigh_tree};
 ghost use Rattle.trie_model.specs.Trees.{Tree};
 ghost use Rattle.trie_read.specs.Reads.{IsTop};
@@ -35,10 +35,28 @@ impl Trail {
         ensures { resumed ≡ false → result ≡ 0 }
     {
         if resumed && branch.offset < self.end {
-            self.indices[branch.offset as usize] as u32
+            self.index_at(branch.offset)
         } else {
             0
         }
+    }
+
+    /// Which twig it takes of the branch at an offset.
+    pub fn index_at(&self, offset: u16) -> u32
+        requires { offset ≤ 503 }
+        ensures { result ≡ slice_index self.now.indices offset }
+    {
+        self.indices[offset as usize] as u32
+    }
+
+    /// Takes a twig of the branch at an offset.
+    fn take(&mut self, offset: u16, index: u32)
+        requires early { offset ≤ 503 }
+        requires few { index < 256 }
+        ensures taken { slice_index self.new.indices offset ≡ index }
+        ensures others { (i : ℕ) → i ≢ offset → slice_index self.new.indices i ≡ slice_index self.old.indices i }
+    {
+        self.indices[offset as usize] = index as u8;
     }
 }
 
@@ -75,7 +93,7 @@ pub fn next_sparse<C: CellRead>(
             }
             let first = trail.first_twig(branch, resumed);
             for i in first..branch.twig_count() {
-                trail.indices[branch.offset as usize] = i as u8;
+                trail.take(branch.offset, i);
                 let twig = cells.cell(branch.twigs + i);
                 let on = resumed && i == first;
                 if next_sparse(cells, usage, trail, twig, branch.offset + 1, on) {
