@@ -33,6 +33,10 @@ module _ {S : Type 0} {has : S → ℕ → Cell → Type 0} {s : S} {l : Ledger}
   pub hung_read : {c : Cell} {n : Node} → c ≡ top_cell t → ((m : Node) → IsNode m → packed m ≡ c → n ≡ m) → n ≡ node_of t
   hung_read {c} {n} is back = node_read 0 t c n (hung_tree h) is back
 
+-- where nothing has changed
+pub stood_same : {S : Type 0} {has : S → ℕ → Cell → Type 0} {s s1 : S} {l l1 : Ledger} {r : ℕ} {es : List Entry} {t : Tree} → s1 ≡ s → l1 ≡ l → Stood has s l r es t → Stood has s1 l1 r es t
+stood_same {has = has} {s} {s1} {l} {l1} {r} {es} {t} e f h = subst (λ z. Stood has z l1 r es t) (sym e) (subst (λ z. Stood has s z r es t) (sym f) h)
+
 pub begins : {S : Type 0} {has : S → ℕ → Cell → Type 0} {s : S} {l : Ledger} {r : ℕ} {es : List Entry} {t : Tree} → Stood has s l r es t → Hung has s l r r es [] t
 begins h = record { stood = h; at_is = refl }
 

@@ -4,3 +4,4 @@ pub mod TreeLaws
 pub mod TrailLaws
 pub mod SumLaws
 pub mod DescentLaws
+pub mod EndLaws

@@ -4,13 +4,12 @@ ghost use Rattle.std.specs.Prelude.{◌≡◌, ◌+◌, ◌*◌, ◌-◌, ◌/�
 ghost use Rattle.trie_model.specs.Keys.{Entry};
 ghost use Rattle.trie_model.specs.Shape.{cells as cells_of};
 ghost use Rattle.trie_model.specs.Trees.{Tree};
-ghost use Rattle.chunk_usage.specs.Counting.{is_sparse};
-ghost use Rattle.chunk_usage.specs.Ledger.{free_count, is_open};
+ghost use Rattle.chunk_usage.specs.Ledger.{free_count};
 ghost use Rattle.chunk_usage.specs.Handing.{spent};
 ghost use Rattle.chunk_usage.specs.Rooms.{account_of};
 ghost use Rattle.trie_write.specs.Spaces.{Ready, Fenced};
 ghost use Rattle.trie_write.specs.Standing.{HasTrie};
-ghost use Rattle.evacuate.specs.Evacuations.{IsDense, refused};
+ghost use Rattle.evacuate.specs.Evacuations.{IsDense, IsCleared, refused};
 ghost use Rattle.evacuate.specs.Fillings.{IsFull, old_live};
 ghost use Rattle.evacuate.specs.Places.{Stood, IsStood};
 
@@ -52,8 +51,10 @@ pub fn evacuate<C: CellWrite>(
         Some(at) => {
             if is_any_sparse(usage) {
                 let (new, done) = empty_sparse(cells, usage, at);
+                usage.known();
                 return (Some(new), done);
             }
+            usage.known();
             (Some(at), Done::Whole)
         }
     }
@@ -65,8 +66,9 @@ fn empty_sparse<C: CellWrite>(cells: &mut C, usage: &mut Usage, root: Ref) -> (R
     requires stood { IsStood C.has cells.old usage.old root }
     requires ready { Ready C.kept C.given account_of cells.old usage.old }
     ensures stood { (es : List Entry) (t : Tree) → Stood C.has cells.old usage.old root es t → (u : Tree) × Stood C.has cells.new usage.new result.0 es u }
-    ensures whole { result.1 ≡ Done.Whole → (chunk : ℕ) → is_sparse usage.new chunk ≡ true → slice_index usage.new.live chunk ≡ 0 }
+    ensures whole { result.1 ≡ Done.Whole → IsCleared usage.new }
     ensures stopped { result.1 ≡ Done.Stopped → IsFull usage.new }
+    ensures count { length usage.new.given ≡ length usage.old.given }
     ensures paid { spent usage.new ≤ 769 * (length usage.old.given - free_count usage.old) + old_live usage.old.given usage.old.live }
     ensures frame { Fenced C.has C.kept C.given account_of cells.old usage.old cells.new usage.new }
     ensures ready { Ready C.kept C.given account_of cells.new usage.new }
@@ -82,14 +84,25 @@ fn empty_sparse<C: CellWrite>(cells: &mut C, usage: &mut Usage, root: Ref) -> (R
     'passes: loop {
         let node = cells.cell(at);
         if next_sparse(cells, usage, &mut trail, node, 0, resumed) {
-            if move_found(cells, usage, at, &trail).is_err() {
-                return (at, Done::Stopped);
+            match move_found(cells, usage, at, &trail) {
+                Err(_) => return (at, Done::Stopped),
+                Ok(()) => resumed = true,
             }
-            resumed = true;
-        } else if resumed && is_any_sparse(usage) {
+        } else if begins_again(usage, resumed) {
             resumed = false;
         } else {
             return (at, Done::Whole);
         }
     }
+}
+
+/// Whether a walk that went on, and came to the end, has to begin again.
+fn begins_again(usage: &Usage, resumed: bool) -> bool
+    ensures resumed { result ≡ true → resumed ≡ true }
+    ensures dense { result ≡ false → resumed ≡ true → IsCleared usage.now }
+{
+    if resumed {
+        return is_any_sparse(usage);
+    }
+    false
 }

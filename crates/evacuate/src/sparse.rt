@@ -1,13 +1,13 @@
 //! Whether there is anything to be moved.
 
-ghost use Rattle.std.specs.Prelude.{◌≡◌, ℕ, true, false, slice_index};
-ghost use Rattle.chunk_usage.specs.Counting.{is_sparse};
+ghost use Rattle.std.specs.Prelude.{◌≡◌, false};
+ghost use Rattle.evacuate.specs.Evacuations.{IsCleared};
 
 use chunk_usage::Usage;
 
 /// Whether cells of some sparse chunk count.
 pub fn is_any_sparse(usage: &Usage) -> bool
-    ensures { result ≡ false → (chunk : ℕ) → is_sparse usage.now chunk ≡ true → slice_index usage.now.live chunk ≡ 0 }
+    ensures { result ≡ false → IsCleared usage.now }
 {
     if usage.sparse() == 0 {
         return false;
