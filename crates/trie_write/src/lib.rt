@@ -23,5 +23,6 @@ pub use bulk::build;
 pub use deletion::delete;
 pub use insertion::{InsertRefusal, insert};
 pub use item::{Item, ItemRefusal};
+pub use place::copy_twigs;
 pub use replacement::{ChangeRefusal, replace};
 pub use size::cells;

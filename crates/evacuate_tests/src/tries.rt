@@ -1,0 +1,63 @@
+//! Tries of which most names have gone.
+
+ghost use Rattle.std.specs.Prelude.{◌≡◌, ◌≤◌, ℕ, List, [], IfOk, IfSome, length};
+ghost use Rattle.trie_model.specs.Keys.{Entry, Rises};
+ghost use Rattle.trie_write.specs.Entries.{entries_of_items};
+ghost use Rattle.trie_write.specs.Spaces.{Ready};
+ghost use Rattle.trie_write.specs.Standing.{HasTrie};
+
+use chunk_cells::{CellRead, CellWrite, PlainCells};
+use chunk_usage::{Space, Usage};
+use packed_node::Ref;
+use std::alloc::{AllocError, Global};
+use trie_write::{Item, build, delete};
+
+/// So many chunks, none of which is given.
+pub fn unused_room(alloc: Global, chunks: u32) -> Result<(PlainCells, Usage), AllocError>
+    requires some_chunks { 1 ≤ chunks }
+    requires few_chunks { chunks ≤ 4096 }
+    ensures uncounted { IfOk result (λ r. (k : ℕ) → (⟦<Usage as Space>⟧.account r.1).live k ≡ 0) }
+    ensures ready { IfOk result (λ r. Ready ⟦<PlainCells as CellWrite>⟧.kept ⟦<PlainCells as CellWrite>⟧.given ⟦<Usage as Space>⟧.account r.0 r.1) }
+{
+    let memory = PlainCells::new(alloc, chunks)?;
+    let usage = Usage::new(alloc, chunks, 2)?;
+    Ok((memory, usage))
+}
+
+/// The root of the trie of the items, once the first of them are taken out.
+pub fn built_without<C: CellWrite, U: Space>(
+    cells: &mut C,
+    usage: &mut U,
+    items: &[Item],
+    gone: usize,
+) -> Option<Option<Ref>>
+    requires rising { Rises (entries_of_items items.now) }
+    requires inside { gone ≤ length items.now }
+    requires uncounted { (k : ℕ) → (U.account usage.old).live k ≡ 0 }
+    requires ready { Ready C.kept C.given U.account cells.old usage.old }
+    ensures stands { IfSome result (λ root. (version : List Entry) × HasTrie C.has U.account cells.new usage.new root version) }
+    ensures ready { Ready C.kept C.given U.account cells.new usage.new }
+{
+    let mut root = match build(cells, usage, items) {
+        Err(_) => return None,
+        Ok(root) => root,
+    };
+    for i in 0..gone {
+        match delete(cells, usage, root, &items[i].key()) {
+            Err(_) => return None,
+            Ok(new) => root = new,
+        }
+    }
+    Some(root)
+}
+
+/// How many chunks have cells that count.
+pub fn counted_chunks(usage: &Usage) -> u32 {
+    let mut counted = 0;
+    for chunk in 0..usage.chunks() {
+        if usage.live(chunk) > 0 {
+            counted += 1;
+        }
+    }
+    counted
+}
