@@ -1,6 +1,4 @@
 use Rattle.std.proofs.Common.{◌∙◌, ℕ, List, Option, subst}
-use Rattle.std.specs.Option.{option_map}
-use Rattle.zone_model.specs.Keys.{key_of}
 use Rattle.zone_answer.specs.Neighbours.{Names}
 use Rattle.zone_answer.proofs.AheadLaws.{ahead_shows}
 use Rattle.zone_answer.proofs.HeldLaws.{named_by}

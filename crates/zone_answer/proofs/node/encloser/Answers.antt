@@ -36,7 +36,7 @@ pub returns-in_err-above-2 : goal.returns-in_err-above-2
 returns-in_err-above-2 c = λ zone v n none.
     let shown = near_shows c.args.name.now c.loop-above.above zone c.args.near.now v n c.loop-above.invariant.above in
     let never : exists c.loop-above.above zone ≡ false = sym shown ∙ sym c.show.ensures ∙ c.loop-above-test.true in
-    c.from_residual-2.ensures
+    c.from_residual-in_err-above-2.ensures
     ∙ sym (c.loop-above.invariant.same zone v n none ∙ ap (encloser zone) c.in_err-above-2.ensures ∙ encloser_none zone (subst (λ (x : Name). exists x zone ≡ false) c.in_err-above-2.ensures never))
 
 pub returns : goal.returns
