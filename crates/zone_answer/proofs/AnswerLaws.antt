@@ -3,9 +3,9 @@ use Rattle.std.proofs.Common.{◌≡◌, ◌∙◌, ℕ, zero, suc, true, false,
 use Rattle.zone_model.specs.Names.{Name, is_under}
 use Rattle.zone_model.specs.Versions.{Version}
 use Rattle.zone_model.specs.Rows.{Row}
-use Rattle.zone_answer.specs.Answers.{Next, Ends, LeadsTo, Answer, step, behind, going_on, followed, no_more}
+use Rattle.zone_answer.specs.Answers.{Next, Ends, LeadsTo, Answer, answer, step, behind, going_on, followed, no_more, most_aliases}
 use Rattle.zone_answer.specs.declared.kind.Kind.{Kind}
-use Rattle.zone_answer.specs.declared.kind.Kind.TheVariants.{Answered}
+use Rattle.zone_answer.specs.declared.kind.Kind.TheVariants.{Answered, Outside}
 
 abbrev told : Kind → List Row → Answer
 told kind rows = record { kind = kind; rows = rows }
@@ -19,6 +19,10 @@ behind_none rows kind = ap (told kind) (append-nil rows)
 goes_on : (left : ℕ) (origin : Name) (version : Version) (rtype : ℕ) (name : Name) → is_under name origin ≡ true → followed (suc left) origin version rtype name ≡ behind (step origin version rtype name).rows (going_on (followed left origin version rtype) (step origin version rtype name).next)
 unfolding followed
 goes_on left origin version rtype name u = ap (λ b. cond b (behind (step origin version rtype name).rows (going_on (followed left origin version rtype) (step origin version rtype name).next)) no_more) u
+
+-- nothing is gathered yet
+pub at_first : (origin : Name) (version : Version) (name : Name) (rtype : ℕ) → is_under name origin ≡ true → answer origin version name rtype ≡ behind [] (followed 16 origin version rtype name)
+at_first origin version name rtype u = ap (λ b. cond b (followed most_aliases origin version rtype name) (record { kind = Outside; rows = [] })) u
 
 -- what is gathered, before a name's own rows and behind them
 module _ (whole : Answer) (left : ℕ) (origin : Name) (version : Version) (rtype : ℕ) (name : Name) (old new : List Row) (so_far : whole ≡ behind old (followed (suc left) origin version rtype name)) (under : is_under name origin ≡ true) (rows : new ≡ old ++ (step origin version rtype name).rows) where

@@ -1,6 +1,7 @@
 pub mod KeyOrder
 pub mod NearLaws
 pub mod SplitLaws
+pub mod AheadLaws
 pub mod OwnedLaws
 pub mod AncestorLaws
 pub mod NodeLaws

@@ -28,7 +28,7 @@ le_of Less h = refl
 le_of Equal h = refl
 le_of Greater h = absurd cc
 
-then_less : (a b c : Name) → is_gt (name_cmp a b) ≡ false → name_cmp b c ≡ Less → name_cmp a c ≡ Less
+pub then_less : (a b c : Name) → is_gt (name_cmp a b) ≡ false → name_cmp b c ≡ Less → name_cmp a c ≡ Less
 then_less a b c h k = le_lt_trans name_cmp_total a b c (le_of (name_cmp a b) h) k
 
 then_not_gt : (a b c : Name) → is_gt (name_cmp a b) ≡ false → is_gt (name_cmp b c) ≡ false → is_gt (name_cmp a c) ≡ false
@@ -67,7 +67,7 @@ or-assoc : (a b c : Bool) → ((a || b) || c) ≡ (a || (b || c))
 or-assoc true b c = refl
 or-assoc false b c = refl
 
-exists-append : (name : Name) (x y : Version) → exists name (x ++ y) ≡ (exists name x || exists name y)
+pub exists-append : (name : Name) (x y : Version) → exists name (x ++ y) ≡ (exists name x || exists name y)
 exists-append name [] y = refl
 exists-append name (pair ∷ x) y = ap (λ (b : Bool). is_under pair.0 name || b) (exists-append name x y) ∙ sym (or-assoc (is_under pair.0 name) (exists name x) (exists name y))
 
@@ -109,7 +109,7 @@ near_before q a front back (Some p) s h u =
     let rising = subst (λ (v : Version). IsStrictlySortedBy name_cmp (keys_of v)) whole s in
     alone_last a h.0 (p, h.1) (λ n. none_before a p q h.0 u n h.3 (rising_before h.0 (p, h.1) back rising)) ∙ sym (ap (exists a) h.2)
 
-near_after : (q a : Name) (front back : Version) (n : Option Name) → IsStrictlySortedBy name_cmp (keys_of (front ++ back)) → IsFirst q back n → is_under q a ≡ true → is_near n a ≡ exists a back
+pub near_after : (q a : Name) (front back : Version) (n : Option Name) → IsStrictlySortedBy name_cmp (keys_of (front ++ back)) → IsFirst q back n → is_under q a ≡ true → is_near n a ≡ exists a back
 near_after q a front back None s h u = sym (ap (exists a) h)
 near_after q a front back (Some p) s h u =
     let rising = subst (λ (v : Version). IsStrictlySortedBy name_cmp (keys_of (front ++ v))) h.2 s in

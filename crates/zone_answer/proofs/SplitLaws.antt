@@ -46,7 +46,7 @@ all_back (pair ∷ x) y h = all_back x y h.1
 
 -- ---- the first after the place
 
-first_is : (q : Name) (back : Version) (n : Option Name) → IsName q → AllByRecursion IsStorable back → ((x : trie.Entry) → trie.InList x (map trie_entry back) → IsUpTo (key_of q) x.key) → Names (first_key (map trie_entry back)) n → IsFirst q back n
+pub first_is : (q : Name) (back : Version) (n : Option Name) → IsName q → AllByRecursion IsStorable back → ((x : trie.Entry) → trie.InList x (map trie_entry back) → IsUpTo (key_of q) x.key) → Names (first_key (map trie_entry back)) n → IsFirst q back n
 first_is q [] None is items upper h = refl
 first_is q [] (Some m) is items upper h = absurd cc
 first_is q (pair ∷ rest) None is items upper h = absurd h

@@ -75,3 +75,9 @@ next_view (LeadsTo target) = answers.LeadsTo target
 abbrev pub Gives : Step → List Row → List Row → Result Next AllocError → Type 0
 Gives step old new (Ok next) = (next_view next ≡ step.next) × (new ≡ old ++ step.rows)
 Gives step old new (Err e) = Unit {0}
+
+-- the same, where anything is told
+abbrev pub GivesAtOnce : Step → List Row → List Row → Result (Option Next) AllocError → Type 0
+GivesAtOnce step old new (Ok None) = new ≡ old
+GivesAtOnce step old new (Ok (Some next)) = (next_view next ≡ step.next) × (new ≡ old ++ step.rows)
+GivesAtOnce step old new (Err e) = Unit {0}

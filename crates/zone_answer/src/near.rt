@@ -4,7 +4,7 @@ ghost use Rattle.std.specs.Prelude.{◌≡◌, ◌++◌, ◌∷◌, [], List, So
 ghost use Rattle.std.specs.Option.{option_map};
 ghost use Rattle.zone_model.specs.Keys.{key_of};
 ghost use Rattle.zone_model.specs.Names.{Name as Labels, IsName};
-ghost use Rattle.zone_model.specs.Versions.{Version};
+ghost use Rattle.zone_model.specs.Versions.{Version, exists};
 ghost use Rattle.trie_model.specs.Keys.{Entry};
 ghost use Rattle.trie_read.specs.Readings.{AtSplit, IsStanding};
 ghost use Rattle.zone_answer.specs.Standing.{IsVersion, trie_entry};
@@ -58,6 +58,17 @@ fn name_behind<V: Reading>(version: &mut V, iter: &mut Iter) -> Option<Name>
         Some(leaf) => Some(version.name(leaf)),
         None => None,
     }
+}
+
+/// Whether a name exists, at whose place the iterator stands: only the first name behind it can be at or under it.
+pub fn shows_ahead<V: Reading>(version: &mut V, iter: &mut Iter, name: &Name) -> bool
+    requires { IsStanding (V.stands version.old iter.old) }
+    ensures same { version.new ≡ version.old }
+    ensures shows { (zone : Version) → IsName name.now → IsVersion zone
+        → AtSplit (V.stands version.old iter.old) (key_of name.now) (map trie_entry zone) → result ≡ exists name.now zone }
+{
+    let after = name_ahead(version, iter);
+    is_near(&after, name)
 }
 
 impl Neighbours {

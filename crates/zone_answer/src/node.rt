@@ -1,25 +1,25 @@
 //! What answers for a name.
 
-ghost use Rattle.std.specs.Prelude.{◌≡◌, [], Some};
-ghost use Rattle.zone_model.specs.Versions.{Version, owned};
+ghost use Rattle.std.specs.Prelude.{◌≡◌, [], Some, false};
+ghost use Rattle.zone_model.specs.Versions.{Version, exists, owned};
 ghost use Rattle.zone_answer.specs.Answers.{encloser, node, wildcard_under};
 ghost use Rattle.zone_answer.specs.Neighbours.{AreNeighbours};
 ghost use Rattle.zone_answer.specs.Parts.{IsNodeOf};
 ghost use Rattle.zone_answer.specs.Standing.{IsPlaced, IsVersion, StandsOn};
 
-use crate::near::Neighbours;
+use crate::near::{Neighbours, shows_ahead};
 use crate::records::Held;
 use crate::walker::Walker;
 use dns_name::Name;
 use shift_key::Key;
 use trie_read::Reading;
 
-/// The longest name at or above a name that exists: each name at or above it exists exactly where a neighbour of its
-/// place is at or under it.
+/// The closest encloser of a name that doesn't exist: a name above it exists exactly where a neighbour of its place is at or
+/// under that.
 fn encloser(near: &Neighbours, name: &Name) -> Option<Name>
-    ensures { (zone : Version) → IsVersion zone → AreNeighbours name.now zone near.now → result ≡ encloser zone name.now }
+    ensures { (zone : Version) → IsVersion zone → AreNeighbours name.now zone near.now → exists name.now zone ≡ false → result ≡ encloser zone name.now }
 {
-    let mut above = *name;
+    let mut above = name.parent()?;
     while !near.show(&above) {
         above = above.parent()?;
     }
@@ -44,7 +44,7 @@ fn wildcard_under<V: Reading>(
         let len = version.read(leaf, item);
         return Some(Held { name: star, len });
     }
-    if !Neighbours::of(version, &mut walker.iter).show(&star) {
+    if !shows_ahead(version, &mut walker.iter, &star) {
         return None;
     }
     Some(Held { name: star, len: 0 })

@@ -1,6 +1,7 @@
 //! Questions and their answers.
 
-ghost use Rattle.std.specs.Prelude.{◌≡◌, IfOk};
+ghost use Rattle.std.specs.Prelude.{◌≡◌, IfOk, IfSome, true};
+ghost use Rattle.zone_model.specs.Names.{is_under};
 ghost use Rattle.zone_model.specs.Versions.{Version};
 ghost use Rattle.zone_answer.specs.Answers.{answer};
 ghost use Rattle.zone_answer.specs.Standing.{Shows, ShowsSome};
@@ -8,9 +9,10 @@ ghost use Rattle.zone_answer.specs.Standing.{Shows, ShowsSome};
 use crate::answers::Answer;
 use crate::kind::Kind;
 use crate::rows::Rows;
-use crate::step::{Next, step};
+use crate::step::{Next, give_there, step};
 use crate::walker::Walker;
 use dns_name::Name;
+use shift_key::Key;
 use std::alloc::{AllocError, Global};
 use trie_read::Reading;
 
@@ -33,6 +35,29 @@ pub fn answer<V: Reading>(
     answer_by(alloc, version, origin, name, rtype, &mut item)
 }
 
+/// The answer where a name right under the origin is there, and no alias leads on.
+fn answer_at_once<V: Reading>(
+    alloc: Global,
+    version: &mut V,
+    origin: &Name,
+    name: &Name,
+    rtype: u16,
+    item: &mut [u8; 4096],
+) -> Result<Option<Answer>, AllocError>
+    requires shown { ShowsSome (V.holds version.old) }
+    requires under { is_under name.now origin.now ≡ true }
+    ensures same { version.new ≡ version.old }
+    ensures answer { (zone : Version) → Shows (V.holds version.old) zone
+        → IfOk result (λ o. IfSome o (λ a. a ≡ answer origin.now zone name.now rtype)) }
+{
+    let mut rows = Rows::new(alloc);
+    let key = Key::of(name);
+    match give_there(alloc, version, origin, name, &key, rtype, item, &mut rows)? {
+        Some(Next::Ends(kind)) => Ok(Some(Answer::new(kind, rows))),
+        _ => Ok(None),
+    }
+}
+
 /// The same, by way of a buffer that items are read into. A run of questions may share one: it takes longer to clear than an item to
 /// read.
 pub fn answer_by<V: Reading>(
@@ -47,10 +72,16 @@ pub fn answer_by<V: Reading>(
     ensures same { version.new ≡ version.old }
     ensures answer { (zone : Version) → Shows (V.holds version.old) zone → IfOk result (λ a. a ≡ answer origin.now zone name.now rtype) }
 {
-    answer_with(alloc, version, origin, name, rtype, item, None)
+    if name.is_under(origin) {
+        if let Some(answer) = answer_at_once(alloc, version, origin, name, rtype, item)? {
+            return Ok(answer);
+        }
+    }
+    let mut walker = Walker::new();
+    answer_with(alloc, version, origin, name, rtype, item, &mut walker)
 }
 
-/// The same, with a walker that a run of questions may share too; without one it is made where it is needed.
+/// The same, with a walker that a run of questions may share as well.
 pub fn answer_with<V: Reading>(
     alloc: Global,
     version: &mut V,
@@ -58,7 +89,7 @@ pub fn answer_with<V: Reading>(
     name: &Name,
     rtype: u16,
     item: &mut [u8; 4096],
-    walker: Option<&mut Walker>,
+    walker: &mut Walker,
 ) -> Result<Answer, AllocError>
     requires { ShowsSome (V.holds version.old) }
     ensures same { version.new ≡ version.old }
@@ -68,11 +99,11 @@ pub fn answer_with<V: Reading>(
     if !name.is_under(origin) {
         return Ok(Answer::new(Kind::Outside, rows));
     }
-    let mut walker = walker;
     let mut asked = *name;
     for _ in 0..MOST_ALIASES {
-        let lent = walker.as_deref_mut();
-        match step(alloc, version, origin, &asked, rtype, lent, item, &mut rows)? {
+        match step(
+            alloc, version, origin, &asked, rtype, walker, item, &mut rows,
+        )? {
             Next::Ends(kind) => return Ok(Answer::new(kind, rows)),
             Next::LeadsTo(None) => return Ok(Answer::new(Kind::Answered, rows)),
             Next::LeadsTo(Some(target)) => asked = target,

@@ -8,7 +8,7 @@ ghost use Rattle.zone_model.specs.Records.{rrset_of};
 ghost use Rattle.zone_model.specs.Splits.{split_name};
 ghost use Rattle.zone_model.specs.Versions.{Version, exists, owned};
 ghost use Rattle.zone_answer.specs.Answers.{Ends, alias_in, by_alias, step, target_of, set_rows, ns_type};
-ghost use Rattle.zone_answer.specs.Parts.{Gives, NoneOver};
+ghost use Rattle.zone_answer.specs.Parts.{Gives, GivesAtOnce, NoneOver};
 ghost use Rattle.zone_answer.specs.Standing.{IsPlaced, Shows, ShowsSome};
 
 use crate::cut::{NS, cut_over, is_cut};
@@ -178,15 +178,44 @@ fn search<V: Reading>(
     }
 }
 
-/// Adds the rows that a name at or under the origin gives, and tells how the answer goes on. Items are read into `item`; without a
-/// walker one is made where it is needed.
+/// What a name gives that is right under the origin, if it is there: no cut can lie above it. No rows are added where it tells nothing.
+pub fn give_there<V: Reading>(
+    alloc: Global,
+    version: &mut V,
+    origin: &Name,
+    name: &Name,
+    key: &Key,
+    rtype: u16,
+    item: &mut [u8; 4096],
+    rows: &mut Rows,
+) -> Result<Option<Next>, AllocError>
+    requires shown { ShowsSome (V.holds version.old) }
+    requires under { is_under name.now origin.now ≡ true }
+    requires key { key.now ≡ key_of name.now }
+    ensures same { version.new ≡ version.old }
+    ensures gives { (zone : Version) → Shows (V.holds version.old) zone
+        → GivesAtOnce (step origin.now zone rtype name.now) rows.old rows.new result }
+{
+    if name.labels().saturating_sub(1) > origin.labels() {
+        return Ok(None);
+    }
+    let len = read_owned(version, name, key, item);
+    if len == 0 {
+        return Ok(None);
+    }
+    let entry = ItemView::of(name, &item[..len]);
+    let next = give_own(alloc, origin, name, &entry, rtype, rows)?;
+    Ok(Some(next))
+}
+
+/// Adds the rows that a name at or under the origin gives, and tells how the answer goes on. Items are read into `item`.
 pub fn step<V: Reading>(
     alloc: Global,
     version: &mut V,
     origin: &Name,
     name: &Name,
     rtype: u16,
-    walker: Option<&mut Walker>,
+    walker: &mut Walker,
     item: &mut [u8; 4096],
     rows: &mut Rows,
 ) -> Result<Next, AllocError>
@@ -197,23 +226,10 @@ pub fn step<V: Reading>(
         → Gives (step origin.now zone rtype name.now) rows.old rows.new result }
 {
     let key = Key::of(name);
-    // above a name right under the origin there is no cut, so it needn't be searched for
-    if name.labels().saturating_sub(1) <= origin.labels() {
-        let len = read_owned(version, name, &key, item);
-        if len > 0 {
-            let entry = ItemView::of(name, &item[..len]);
-            return give_own(alloc, origin, name, &entry, rtype, rows);
-        }
+    match give_there(alloc, version, origin, name, &key, rtype, item, rows)? {
+        Some(next) => Ok(next),
+        None => search(
+            alloc, version, origin, name, &key, rtype, walker, item, rows,
+        ),
     }
-    let mut made;
-    let walker = match walker {
-        Some(walker) => walker,
-        None => {
-            made = Walker::new();
-            &mut made
-        }
-    };
-    search(
-        alloc, version, origin, name, &key, rtype, walker, item, rows,
-    )
 }

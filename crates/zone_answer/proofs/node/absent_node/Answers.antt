@@ -24,7 +24,7 @@ returns-in_err-above-clause-node g c zone placed none =
     let near = c.of-near.ensures.neighbours c.args.name.now zone c.wire-wire.ensures.name placed.shows.version_is placed.at in
     let never : exists c.args.name.now zone ≡ false = sym (near_shows c.args.name.now c.args.name.now zone c.of-near.result placed.shows.version_is near (self_under c.args.name.now)) ∙ sym c.show.ensures ∙ c.if-show.false in
     subst (λ (o : Option Held). IsNodeOf c.args.item.now (node zone c.args.name.now) o) (sym c.from_residual.ensures)
-    (sym (ap (wildcard_under zone) (c.in_err-above.ensures zone placed.shows.version_is near) ∙ other_node zone c.args.name.now never))
+    (sym (ap (wildcard_under zone) (c.in_err-above.ensures zone placed.shows.version_is near never) ∙ other_node zone c.args.name.now never))
 
 pub wildcard_under-requires : goal.wildcard_under-requires
 wildcard_under-requires g c =
@@ -50,4 +50,4 @@ returns-clause-node g c zone placed none =
       whole = placed.at.split.whole;
       standing = subst (λ s. g.V.Reading.stands s c.of-near.new.iter placed.at.before placed.at.after) (sym c.of-near.ensures.same) (c.of-near.ensures.stays placed.at.before placed.at.after placed.at.standing);
     } in
-    subst (λ (o : Option Entry). IsNodeOf c.wildcard_under.new.item o c.wildcard_under.result) (ap (wildcard_under zone) (c.in_ok-above.ensures zone placed.shows.version_is near) ∙ other_node zone c.args.name.now never) (c.wildcard_under.ensures.node zone on)
+    subst (λ (o : Option Entry). IsNodeOf c.wildcard_under.new.item o c.wildcard_under.result) (ap (wildcard_under zone) (c.in_ok-above.ensures zone placed.shows.version_is near never) ∙ other_node zone c.args.name.now never) (c.wildcard_under.ensures.node zone on)

@@ -8,8 +8,7 @@ use Rattle.zone_answer.specs.Parts.{IsNodeOf}
 use Rattle.zone_answer.specs.Standing.{trie_entry}
 use Rattle.zone_answer.specs.declared.records.Held.{Held}
 use Rattle.zone_answer.proofs.NodeLaws.{no_wildcard, wildcard}
-use Rattle.zone_answer.proofs.NearLaws.{near_shows}
-use Rattle.zone_answer.proofs.AncestorLaws.{none_too_long, self_under}
+use Rattle.zone_answer.proofs.AncestorLaws.{none_too_long}
 use Rattle.zone_answer.proofs.ChainLaws.{there_exists}
 use Rattle.zone_answer.proofs.OwnedLaws.{nothing_owned}
 use Rattle.zone_answer.proofs.HeldLaws.{read_of}
@@ -40,20 +39,19 @@ returns-in-Some-clause-node g c zone on =
     let exist : exists c.in_ok-star.star zone ≡ true = there_exists c.in_ok-star.star zone c.wire-wire.ensures.name on.shows.version_is.items (leaf.0, there, key) in
     (owned c.in_ok-star.star zone, sym (ap (λ (n : Name). Some (owned n zone)) star ∙ wildcard zone c.args.name.now (subst (λ (n : Name). exists n zone ≡ true) star exist)), record { within = is.within; says = is.says })
 
-pub of-requires-2 : goal.of-requires-2
-of-requires-2 g c =
+pub shows_ahead-requires : goal.shows_ahead-requires
+shows_ahead-requires g c =
     let on = c.requires.1 in
     let at = c.lookup.ensures.split on.before on.after on.standing in
     (at.before, (at.after, subst (λ s. g.V.Reading.stands s c.lookup.new.iter at.before at.after) (sym c.lookup.ensures.same) at.standing))
 
-pub returns-then-not-show-clause-node : goal.returns-then-not-show-clause-node
-returns-then-not-show-clause-node g c zone on =
+pub returns-then-not-shows_ahead-clause-node : goal.returns-then-not-shows_ahead-clause-node
+returns-then-not-shows_ahead-clause-node g c zone on =
     let at = c.lookup.ensures.split on.before on.after on.standing in
     let placed = subst (λ s. AtSplit (g.V.Reading.stands s c.lookup.new.iter) c.of.result (on.before ++ on.after)) (sym c.lookup.ensures.same) at in
     let here = subst (λ (k : List ℕ). AtSplit (g.V.Reading.stands c.lookup.new.self c.lookup.new.iter) k (map trie_entry zone)) c.of.ensures (subst (AtSplit (g.V.Reading.stands c.lookup.new.self c.lookup.new.iter) c.of.result) (sym on.whole) placed) in
-    let near = c.of-2.ensures.neighbours c.in_ok-star.star zone c.wire-wire.ensures.name on.shows.version_is here in
-    let shown = near_shows c.in_ok-star.star c.in_ok-star.star zone c.of-2.result on.shows.version_is near (self_under c.in_ok-star.star) in
-    let never : exists c.in_ok-star.star zone ≡ false = sym shown ∙ sym c.show.ensures ∙ c.if-not-show.true in
+    let shown = c.shows_ahead.ensures.shows zone c.wire-wire.ensures.name on.shows.version_is here in
+    let never : exists c.in_ok-star.star zone ≡ false = sym shown ∙ c.if-not-shows_ahead.true in
     sym (no_wildcard zone c.args.name.now (subst (λ (n : Name). exists n zone ≡ false) c.in_ok-star.ensures never))
 
 pub returns-clause-node : goal.returns-clause-node
@@ -61,9 +59,8 @@ returns-clause-node g c zone on =
     let at = c.lookup.ensures.split on.before on.after on.standing in
     let placed = subst (λ s. AtSplit (g.V.Reading.stands s c.lookup.new.iter) c.of.result (on.before ++ on.after)) (sym c.lookup.ensures.same) at in
     let here = subst (λ (k : List ℕ). AtSplit (g.V.Reading.stands c.lookup.new.self c.lookup.new.iter) k (map trie_entry zone)) c.of.ensures (subst (AtSplit (g.V.Reading.stands c.lookup.new.self c.lookup.new.iter) c.of.result) (sym on.whole) placed) in
-    let near = c.of-2.ensures.neighbours c.in_ok-star.star zone c.wire-wire.ensures.name on.shows.version_is here in
-    let shown = near_shows c.in_ok-star.star c.in_ok-star.star zone c.of-2.result on.shows.version_is near (self_under c.in_ok-star.star) in
-    let exist : exists c.in_ok-star.star zone ≡ true = sym shown ∙ sym c.show.ensures ∙ c.if-not-show.false in
+    let shown = c.shows_ahead.ensures.shows zone c.wire-wire.ensures.name on.shows.version_is here in
+    let exist : exists c.in_ok-star.star zone ≡ true = sym shown ∙ c.if-not-shows_ahead.false in
     let star : c.in_ok-star.star ≡ star_under c.args.name.now = c.in_ok-star.ensures in
     let leaf = c.in_default.ensures.leaf on.before on.after on.standing in
     let none = nothing_owned c.in_ok-star.star zone (λ t. leaf t.0 (subst (trie.InList t.0) on.whole t.1) (t.2 ∙ sym c.of.ensures)) in
