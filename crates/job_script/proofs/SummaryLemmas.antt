@@ -89,7 +89,6 @@ jobs_lines origin set w (x ∷ ws) (o ∷ os) t =
 pub summed_up : (origin : Name) (zone : Version) (ws : List (List Command)) (os : List Outcomes) (last names nodes : ℕ) → AllTell origin (versions_made origin zone ws os) ws os
     → names ≡ length (versions_made origin zone ws os last) → nodes ≡ node_count (versions_made origin zone ws os last) → summary_text os last names nodes ≡ summary origin zone (job_pairs ws os) last
 summed_up origin zone ws os last names nodes t n k =
-
     ap (λ (l : List ℕ). counts_text (commands_in os) (all_count is_committed os) (all_count is_refused os) ++ l ++ sized_end_text last names nodes) (sym (jobs_lines origin (versions_made origin zone ws os) 1 ws os t))
     ∙ ap (λ (m : ℕ). counts_text m (all_count is_committed os) (all_count is_refused os) ++ all_refused_text 1 (job_pairs ws os) ++ sized_end_text last names nodes) (sym (jobs_length origin (versions_made origin zone ws os) ws os t))
     ∙ ap (λ (m : ℕ). counts_text (length (all_pairs (job_pairs ws os))) m (all_count is_refused os) ++ all_refused_text 1 (job_pairs ws os) ++ sized_end_text last names nodes) (sym (jobs_count is_committed origin (versions_made origin zone ws os) ws os t))
