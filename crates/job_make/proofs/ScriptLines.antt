@@ -1,5 +1,5 @@
 -- The lines of a made load's script say commands.
-use Rattle.std.proofs.Common.{◌≡◌, ◌∙◌, ℕ, zero, suc, ◌+◌, ◌*◌, ◌/◌, ◌%◌, ◌^◌, ◌<◌, ◌≤◌, Bool, true, false, cond, ◌&&◌, eqb, ltb, List, [], ◌∷◌, ◌++◌, length, refl, sym, ap, subst, arith, Option, Some, None, Result, Ok, Err, append_assoc, append-nil, length-append, codes, inl, inr}
+use Rattle.std.proofs.Common.{◌≡◌, ◌∙◌, ℕ, zero, suc, ◌+◌, ◌*◌, ◌/◌, ◌%◌, ◌^◌, ◌<◌, ◌≤◌, Bool, true, false, cond, ◌&&◌, eqb, ltb, List, [], ◌∷◌, ◌++◌, length, refl, sym, ap, subst, arith, Some, None, Ok, append_assoc, append-nil, length-append, codes, inl, inr}
 use Rattle.std.proofs.lemmas.Bool.{cases_eq}
 use Rattle.std.proofs.lemmas.Bool.Decides.{nat_tests}
 use Rattle.std.proofs.lemmas.Fmt.{decimal_digit, decimal_nonempty, decimal_step, length-decimal-le}
@@ -7,17 +7,14 @@ use Rattle.std.specs.List.{list_all}
 use Rattle.std.specs.Char.{is_ascii_digit, to_ascii_lowercase}
 use Rattle.std.specs.Fmt.{decimal}
 use Rattle.zone_model.specs.Names.{Name, is_under, wire}
-use Rattle.zone_model.specs.NameText.{Octet, completed, fitting, labels_from, name_of, pieces_from}
-use Rattle.zone_model.specs.Refusals.{Refused, ◌>>=◌}
+use Rattle.zone_model.specs.NameText.{completed, fitting, labels_from, name_of, pieces_from}
+use Rattle.zone_model.specs.Refusals.{◌>>=◌}
 use Rattle.zone_model.specs.Grammar.{Token, stops_word, Spells}
 use Rattle.zone_model.specs.Data.{data_of, read_fields}
 use Rattle.zone_model.specs.Texts.{address, digits_from, number}
 use Rattle.zone_model.specs.Versions.{Operation, Add, DeleteName, DeleteSet}
 use Rattle.zone_model.specs.DataText as print
-use Rattle.zone_model.specs.DataForms.{fields_fit, form_fits}
 use Rattle.zone_model.specs.DataWords.{groups, time_of, type_named}
-use Rattle.zone_model.specs.MasterFile.{name_word}
-use Rattle.zone_model.specs.declared.NameRefusal.{NameRefusal}
 use Rattle.zone_model.proofs.GrammarLemmas.{line_is}
 use Rattle.zone_model.proofs.OrderLemmas.{ends_under}
 use Rattle.zone_model.proofs.SplitLemmas.{IsBytes}
@@ -33,7 +30,7 @@ use Rattle.job_model.specs.Phrases.{asked_of, phrase_of, without_parens}
 use Rattle.job_model.specs.Arguments.{addition_of, deletion_of, question_of}
 use Rattle.job_model.specs.Jobs.{Script, Unfinished, finished, no_lines, script_from, script_line, script_of, tokens_say}
 use Rattle.job_model.specs.Loads.{Finds, Gets, Load, Moves, Part, Removes, Turn, address_text, drawn, made_origin, name_text, next_state, part_of, share, state_behind, turn_from, turn_lines, turn_of, turns_from, turns_of, worker_state, workers_from}
-use Rattle.job_make.proofs.SizeLemmas.{IsSmall, IsWithin, share_le, small_name}
+use Rattle.job_make.proofs.SizeLemmas.{IsWithin, share_le, small_name}
 
 -- ---- a name's word
 

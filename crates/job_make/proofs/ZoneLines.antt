@@ -12,17 +12,17 @@ use Rattle.std.specs.Map.{lookup}
 use Rattle.std.specs.Ordering.{match_ordering}
 use Rattle.std.specs.declared.cmp.Ordering.{Ordering}
 use Rattle.std.specs.declared.cmp.Ordering.TheVariants.{Less, Equal, Greater}
-use Rattle.zone_model.specs.Names.{Name, is_under, name_cmp, wire}
+use Rattle.zone_model.specs.Names.{Name, is_under, name_cmp}
 use Rattle.zone_model.specs.NameText.{completed, fitting, labels_from, name_of, onto, pieces_from}
 use Rattle.zone_model.specs.Refusals.{Refused, ◌>>=◌}
 use Rattle.zone_model.specs.Lines.{lines_of}
-use Rattle.zone_model.specs.Grammar.{Token, Spelled, Spells, begins_blank, stops_word}
+use Rattle.zone_model.specs.Grammar.{Token, Spells, begins_blank, stops_word}
 use Rattle.zone_model.specs.Tokens.{Scan, fresh, line_end, line_tokens, step, steps}
 use Rattle.zone_model.specs.Data.{data_of, read_fields}
 use Rattle.zone_model.specs.DataWords.{class_named, groups, time_of, type_named}
 use Rattle.zone_model.specs.Texts.{address, digits_from, number}
-use Rattle.zone_model.specs.Records.{Entry, Rrset, item, with_rr}
-use Rattle.zone_model.specs.Versions.{Version, entry_of}
+use Rattle.zone_model.specs.Records.{Entry, item, with_rr}
+use Rattle.zone_model.specs.Versions.{Version}
 use Rattle.zone_model.specs.MasterFile.{Reader, added, at_first, directive, entry_says, front_of, entry_fault, placed_in, record_says, unless_fault, with_soa, zone_from, zone_of}
 use Rattle.zone_model.specs.declared.ZoneKind.{ZoneKind}
 use Rattle.zone_model.specs.declared.ZoneKind.TheVariants.{OutsideZone}
@@ -31,11 +31,11 @@ use Rattle.zone_model.proofs.OrderLemmas.{ends_under}
 use Rattle.rr_data.proofs.FormLemmas.{all_append}
 use Rattle.rr_data.proofs.PrintedFieldLemmas.{no_stop}
 use Rattle.rr_data.proofs.PrintedWordLemmas.{Shows, alphabetic_word, hex_word, is_shown, shows_append, shows_one}
-use Rattle.rr_data.proofs.PrintedDataLemmas.{plain, spell_word, spell_word_then, word}
+use Rattle.rr_data.proofs.PrintedDataLemmas.{plain, word}
 use Rattle.job_model.specs.Commands.{Command, Job}
-use Rattle.job_model.specs.Jobs.{JobRefusal, is_cut, job_of, job_of_lines, script_lines, script_of, script_refused, script_start, zone_lines, zone_refused}
-use Rattle.job_model.specs.Loads.{Finds, Gets, Load, Moves, Part, Removes, Turn, address_text, drawn, first_lines, line_text, load_lines, made_origin, made_text, name_text, names_lines, next_state, part_of, share, state_behind, turn_from, turn_lines, turn_of, turns_from, turns_of, worker_state, workers_from}
-use Rattle.job_make.proofs.SizeLemmas.{IsSmall, IsWithin, share_le, small_name}
+use Rattle.job_model.specs.Jobs.{is_cut, job_of, job_of_lines, script_lines, script_of, script_refused, script_start, zone_lines, zone_refused}
+use Rattle.job_model.specs.Loads.{Finds, Gets, Load, Moves, Part, Removes, Turn, address_text, drawn, first_lines, line_text, made_origin, made_text, name_text, names_lines, next_state, part_of, state_behind, turn_from, turn_lines, turns_from, turns_of, worker_state, workers_from}
+use Rattle.job_make.proofs.SizeLemmas.{IsWithin, share_le, small_name}
 use Rattle.job_make.proofs.ScriptLines.{address_shows, name_said, name_shows, name_some, owner, script_said, three_words}
 
 -- ---- lines

@@ -3,7 +3,7 @@ use Rattle.job_model.specs.Jobs.{job_of}
 use Rattle.job_model.specs.Loads.{made_origin, made_text}
 use Rattle.job_make.specs.Views.{load_view}
 use Rattle.job_make.proofs.LoadLemmas.{text_pieces}
-use Rattle.job_make.proofs.SizeLemmas.{IsWithin, made_size}
+use Rattle.job_make.proofs.SizeLemmas.{made_size}
 use Rattle.job_make.proofs.ZoneLines.{made_job}
 use Rattle.job_make.proofs.text.make_text.Goals as goal
 

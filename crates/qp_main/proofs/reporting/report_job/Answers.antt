@@ -17,3 +17,14 @@ returns g c = λ zone chunks keeps.
     (c.in_ok-text.ensures last f.version chunks ran.keeps)
     (c.any_refused-refused.ensures ∙ ap (λ (l : List Outcomes). list_any (λ (w : Outcomes). list_any (λ (o : Outcome). is_refused (ended_view o.told)) w.list.items) l) c.deref.ensures.value)
     c.status_of.ensures
+
+pub told-requires : goal.told-requires
+told-requires g c =
+    let first = c.requires.first in
+    let f = c.in_ok-finished.finished in
+    record {
+      version = versions_made c.args.origin.now first.zone (job_view c.args.job.now) f.outcomes.items f.version;
+      number = f.version;
+      chunks = first.chunks;
+      keeps = (c.in_ok-finished.ensures first.zone first.chunks first.keeps).keeps;
+    }
