@@ -5,7 +5,7 @@ ghost use Rattle.trie_write.specs.Entries.{entries_of_items};
 
 use crate::crowd::{at_once, crowd, moved};
 use crate::rows::{dropped, full, held, kept, told};
-use crate::steps::Any;
+use crate::steps::{Any, put};
 use crate::worker::{numbered, workers};
 use shared_index::{Blank, Index, Named};
 use std::alloc::Global;
@@ -54,6 +54,28 @@ fn run<N: Named + Send + Sync, R: Threads + Wait + Sync>(
         Scene::Moved => moved(rt, alloc, workers, first),
         Scene::Crowd => crowd(rt, alloc, workers),
     }
+}
+
+/// One pass commits, and the index is closed. The version that it then had.
+fn close<N: Named, R: Wait>(
+    rt: &R,
+    alloc: Global,
+    blank: Blank<Any>,
+    items: &[Item],
+    second: &Item,
+) -> Result<u64, Fail>
+    requires named { slice_get N.tables 0 ≡ Some blank.shared.table.shared.table_id }
+    requires rising { Rises (entries_of_items items.now) }
+{
+    let Ok((index, mut passes)) = Index::<Any, N>::open(alloc, blank, 0, items) else {
+        return Err(Fail::from("no index"));
+    };
+    let Some(mut writer) = passes.pop() else {
+        return Err(Fail::from("no passes"));
+    };
+    put(rt, &index, &mut writer, second);
+    passes.push(writer)?;
+    Ok(index.close(passes))
 }
 
 /// Plays a scene on an index of one item, which has so many octets.
@@ -117,5 +139,16 @@ fn a_snapshot_is_read_in_another_thread(rt: HostRuntime) -> Result<(), Fail> {
 #[test]
 fn readers_beside_a_writer(rt: HostRuntime) -> Result<(), Fail> {
     assert!(rt; play(&rt, rt.alloc(), 64, 9, 600, Scene::Crowd)?);
+    Ok(())
+}
+
+#[test]
+fn a_closed_index_tells_its_version(rt: HostRuntime) -> Result<(), Fail> {
+    let alloc = rt.alloc();
+    let items = [numbered(alloc, [b'a', b'a'], 1, 600)?];
+    let second = numbered(alloc, [b'a', b'b'], 1, 600)?;
+    let blank = Blank::<Any>::new(alloc, 16, 8)?;
+    let version = close::<Brand, _>(&rt, alloc, blank, &items, &second)?;
+    assert_eq!(rt; version, 1);
     Ok(())
 }
