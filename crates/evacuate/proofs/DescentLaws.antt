@@ -111,14 +111,14 @@ module _ {S : Type 0} {has : S → ℕ → Cell → Type 0} {l0 : Ledger} {trail
         let p = ap (λ (x : Branch). count_ones x.bitmap) pass.branch_is in omega arith
 
     -- its twigs lie where they did, or elsewhere; the way goes on at the trail's twig
-    module _ {s1 : S} {l1 : Ledger} {next : ℕ} (at_twig : TwigsAt has s1 l1 r at es u.upper (plug u.rest u.end) (slice_index trail.indices b.offset) next) where
+    module _ {s1 : S} {l1 : Ledger} {next index : ℕ} (said : index ≡ slice_index trail.indices b.offset) (at_twig : TwigsAt has s1 l1 r at es u.upper (plug u.rest u.end) index next) where
       abbrev new_fork : Fork
       new_fork = record pass.f { first = at_twig.to }
 
       further_hung : Hung has s1 l1 r next es (u.upper ++ (new_fork ∷ [])) below
       further_hung = record {
         stood = subst (Stood has s1 l1 r es) (ap (λ t. plug u.upper (moved t at_twig.to)) fork_is ∙ sym (plug-append u.upper (new_fork ∷ []) below)) at_twig.hung.stood;
-        at_is = at_twig.twig_is ∙ ap (λ (i : ℕ). at_twig.to + i) index_is ∙ sym (end_at-append r u.upper (new_fork ∷ []));
+        at_is = at_twig.twig_is ∙ ap (λ (i : ℕ). at_twig.to + i) (said ∙ index_is) ∙ sym (end_at-append r u.upper (new_fork ∷ []));
       }
 
       pub further_there : has s1 next (top_cell below)
