@@ -1,5 +1,5 @@
 -- The way down to what is to be moved.
-use Rattle.std.proofs.Common.{◌≡◌, ℕ, suc, ◌+◌, ◌/◌, ◌<◌, ◌≤◌, ◌++◌, true, List, [], ◌∷◌, slice_index, count_ones, arith, refl, sym, ◌∙◌, ap, subst}
+use Rattle.std.proofs.Common.{◌≡◌, ℕ, ◌+◌, ◌<◌, ◌≤◌, ◌++◌, List, [], ◌∷◌, slice_index, count_ones, arith, refl, sym, ◌∙◌, ap, subst}
 use Rattle.packed_node.specs.declared.Cell.{Cell}
 use Rattle.packed_node.specs.declared.Branch.{Branch}
 use Rattle.packed_node.specs.declared.Node.{Node}
@@ -14,11 +14,11 @@ use Rattle.trie_model.proofs.NodeLaws.{branch_told, node_read, says_node, places
 use Rattle.trie_model.proofs.SplitLaws.{rising_of}
 use Rattle.chunk_usage.specs.Ledger.{Ledger}
 use Rattle.trie_write.specs.Tops.{NotBefore}
-use Rattle.trie_write.specs.Ways.{Fork, fork, plug, end_at, twigs_of}
+use Rattle.trie_write.specs.Ways.{Fork, fork, plug}
 use Rattle.trie_write.proofs.PutLaws.{plug-append, end_at-append}
 use Rattle.trie_write.proofs.WayLaws.{IsFork, is_fork, fork_count, low_at, end_lies}
 use Rattle.evacuate.specs.declared.trail.Trail.{Trail}
-use Rattle.evacuate.specs.Places.{first_of, moved, Stood, Hung, IsHung}
+use Rattle.evacuate.specs.Places.{moved, Stood, Hung, IsHung}
 use Rattle.evacuate.specs.Trails.{Steps, LeadsTo, Found, Underway, TwigsAt}
 use Rattle.evacuate.proofs.TreeLaws.{hung_low, hung_tree}
 
