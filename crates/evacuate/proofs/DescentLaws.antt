@@ -1,5 +1,5 @@
 -- The way down to what is to be moved.
-use Rattle.std.proofs.Common.{◌≡◌, ℕ, suc, ◌+◌, ◌/◌, ◌<◌, ◌≤◌, ◌++◌, true, List, [], ◌∷◌, slice_index, count_ones, arith, refl, sym, ◌∙◌, ap, subst}
+use Rattle.std.proofs.Common.{◌≡◌, ℕ, ◌+◌, ◌<◌, ◌≤◌, ◌++◌, List, [], ◌∷◌, slice_index, count_ones, arith, refl, sym, ◌∙◌, ap, subst}
 use Rattle.packed_node.specs.declared.Cell.{Cell}
 use Rattle.packed_node.specs.declared.Branch.{Branch}
 use Rattle.packed_node.specs.declared.Node.{Node}
@@ -14,11 +14,11 @@ use Rattle.trie_model.proofs.NodeLaws.{branch_told, node_read, says_node, places
 use Rattle.trie_model.proofs.SplitLaws.{rising_of}
 use Rattle.chunk_usage.specs.Ledger.{Ledger}
 use Rattle.trie_write.specs.Tops.{NotBefore}
-use Rattle.trie_write.specs.Ways.{Fork, fork, plug, end_at, twigs_of}
+use Rattle.trie_write.specs.Ways.{Fork, fork, plug}
 use Rattle.trie_write.proofs.PutLaws.{plug-append, end_at-append}
 use Rattle.trie_write.proofs.WayLaws.{IsFork, is_fork, fork_count, low_at, end_lies}
 use Rattle.evacuate.specs.declared.trail.Trail.{Trail}
-use Rattle.evacuate.specs.Places.{first_of, moved, Stood, Hung, IsHung}
+use Rattle.evacuate.specs.Places.{moved, Stood, Hung, IsHung}
 use Rattle.evacuate.specs.Trails.{Steps, LeadsTo, Found, Underway, TwigsAt}
 use Rattle.evacuate.proofs.TreeLaws.{hung_low, hung_tree}
 
@@ -111,14 +111,14 @@ module _ {S : Type 0} {has : S → ℕ → Cell → Type 0} {l0 : Ledger} {trail
         let p = ap (λ (x : Branch). count_ones x.bitmap) pass.branch_is in omega arith
 
     -- its twigs lie where they did, or elsewhere; the way goes on at the trail's twig
-    module _ {s1 : S} {l1 : Ledger} {next : ℕ} (at_twig : TwigsAt has s1 l1 r at es u.upper (plug u.rest u.end) (slice_index trail.indices b.offset) next) where
+    module _ {s1 : S} {l1 : Ledger} {next index : ℕ} (said : index ≡ slice_index trail.indices b.offset) (at_twig : TwigsAt has s1 l1 r at es u.upper (plug u.rest u.end) index next) where
       abbrev new_fork : Fork
       new_fork = record pass.f { first = at_twig.to }
 
       further_hung : Hung has s1 l1 r next es (u.upper ++ (new_fork ∷ [])) below
       further_hung = record {
         stood = subst (Stood has s1 l1 r es) (ap (λ t. plug u.upper (moved t at_twig.to)) fork_is ∙ sym (plug-append u.upper (new_fork ∷ []) below)) at_twig.hung.stood;
-        at_is = at_twig.twig_is ∙ ap (λ (i : ℕ). at_twig.to + i) index_is ∙ sym (end_at-append r u.upper (new_fork ∷ []));
+        at_is = at_twig.twig_is ∙ ap (λ (i : ℕ). at_twig.to + i) (said ∙ index_is) ∙ sym (end_at-append r u.upper (new_fork ∷ []));
       }
 
       pub further_there : has s1 next (top_cell below)

@@ -1,6 +1,6 @@
 -- How an evacuation begins, and what is known at its end.
 use Rattle.std.proofs.Common.{◌≡◌, ℕ, zero, suc, ◌+◌, ◌-◌, ◌*◌, ◌/◌, ◌<◌, ◌≤◌, Bool, true, false, not, cond, List, length, slice_index, slice_index_or, inl, inr, refl, sym, ◌∙◌, ap, subst, arith}
-use Rattle.std.specs.Prelude.{Option, None, Some, nat_le, ◌&&◌, count_by}
+use Rattle.std.specs.Prelude.{Option, None, Some, ◌&&◌, count_by}
 use Rattle.std.specs.List.{range_with_len}
 use Rattle.std.proofs.lemmas.Bool.{cases_lt, cases_eq, true≢false}
 use Rattle.std.proofs.lemmas.Bool.Decides.{nat_tests}
@@ -22,7 +22,6 @@ use Rattle.chunk_usage.specs.Rooms.{Grows, account_of}
 use Rattle.chunk_usage.proofs.FlagLemmas.{set_within}
 use Rattle.chunk_usage.proofs.SpaceLaws.{used_given}
 use Rattle.trie_model.proofs.ReachLaws.{first_true}
-use Rattle.trie_write.specs.Puts.{no_spare}
 use Rattle.trie_write.specs.Spaces.{Ready, Fenced}
 use Rattle.trie_write.specs.Standing.{StandsIn}
 use Rattle.trie_write.proofs.ChangeLaws.{stands_rooted, rooted_stands}

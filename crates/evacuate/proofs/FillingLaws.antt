@@ -1,7 +1,7 @@
 -- What becomes of old and new chunks as cells are handed out and released.
-use Rattle.std.proofs.Common.{◌≡◌, ℕ, zero, suc, ◌+◌, ◌-◌, ◌*◌, ◌/◌, ◌<◌, ◌≤◌, Bool, true, false, not, cond, List, [], ◌∷◌, length, slice_index, slice_index_or, slice_set, refl, ◌∙◌, sym, subst, ap, inl, inr, arith}
+use Rattle.std.proofs.Common.{◌≡◌, ℕ, zero, suc, ◌+◌, ◌-◌, ◌*◌, ◌/◌, ◌<◌, ◌≤◌, Bool, true, false, not, List, [], ◌∷◌, length, slice_index, slice_index_or, slice_set, refl, ◌∙◌, sym, subst, ap, inl, inr, arith}
 use Rattle.std.specs.Prelude.{Option, None, Some, Result, Ok, Err, IfOk, nat_le, ◌==◌, ◌&&◌, ◌||◌, if◌then◌else◌}
-use Rattle.std.proofs.lemmas.Bool.{cases_Bool, cases_eq, true≢false, ne_eqb, eqb-true}
+use Rattle.std.proofs.lemmas.Bool.{cases_Bool, cases_eq, true≢false, eqb-true}
 use Rattle.std.proofs.lemmas.Bool.Decides.{nat_tests}
 use Rattle.std.proofs.lemmas.List.{length-set, get_or-set_same, get_or-set_other}
 use Rattle.chunk_usage.specs.declared.open.Open.{Open}
@@ -9,7 +9,7 @@ use Rattle.chunk_usage.specs.declared.space.Grant.{Grant}
 use Rattle.chunk_usage.specs.declared.space.Full.{Full}
 use Rattle.chunk_usage.specs.Counting.{is_low, is_sparse}
 use Rattle.chunk_usage.specs.Ledger.{Ledger, IsLedger, IsOpen, is_given, is_open, is_used, is_fresh, filled, left, free_count, frozen_part}
-use Rattle.chunk_usage.specs.Handing.{IsSpent, lowest_free, newly_taken, new_grant, next_cell, taken, roomy, shortage, spent, released, reserve_granted_from, reserve_allocated_from, reserve_grant_of, reserve_allocated}
+use Rattle.chunk_usage.specs.Handing.{lowest_free, newly_taken, new_grant, next_cell, taken, roomy, shortage, released, reserve_granted_from, reserve_allocated_from, reserve_grant_of, reserve_allocated}
 use Rattle.chunk_usage.specs.Keeping.{closed, full}
 use Rattle.chunk_usage.proofs.FlagLemmas.{set_stays, set_within, First, first_is}
 use Rattle.chunk_usage.proofs.SpaceLaws.{Hands, used_given}
@@ -244,7 +244,7 @@ granted {l} {new} {n} {g} h some few e f = record {
 -- and those that they stand for are released
 pub moves_paid : {given : List Bool} {n : ℕ} {l l1 l2 : Ledger} (at : ℕ) → Moves given n l l1 → is_old given at ≡ true → n ≤ slice_index l1.live (at / 1024) → l2 ≡ released l1 at n → Paid given n l l2
 moves_paid {given} {n} {l} {l1} at m old enough e = subst (Paid given n l) (sym e) (
-  let s = set_fewer given l1.live (at / 1024) n old enough in
-  let fewer = m.fewer in let paid = m.paid in
-  record { moves = record { fills = fills_released given l1 m.fills at n old; fewer = omega arith; paid = omega arith }; less = omega arith }
-  )
+    let s = set_fewer given l1.live (at / 1024) n old enough in
+    let fewer = m.fewer in let paid = m.paid in
+    record { moves = record { fills = fills_released given l1 m.fills at n old; fewer = omega arith; paid = omega arith }; less = omega arith }
+    )

@@ -1,30 +1,28 @@
 -- The walk to what lies in sparse chunks.
-use Rattle.std.proofs.Common.{◌≡◌, ℕ, zero, suc, ◌+◌, ◌/◌, ◌<◌, ◌≤◌, Bool, true, false, List, [], ◌∷◌, slice_index, slice_set, length, count_ones, arith, refl, sym, ◌∙◌, ap, subst}
+use Rattle.std.proofs.Common.{◌≡◌, ℕ, zero, suc, ◌+◌, ◌/◌, ◌<◌, ◌≤◌, true, false, [], ◌∷◌, slice_index, count_ones, arith, refl, sym, ◌∙◌, ap, subst}
 use Rattle.std.proofs.lemmas.Bool.{true≢false}
 use Rattle.packed_node.specs.declared.Cell.{Cell}
 use Rattle.packed_node.specs.declared.Branch.{Branch}
 use Rattle.packed_node.specs.declared.Leaf.{Leaf}
 use Rattle.packed_node.specs.declared.Node.{Node}
-use Rattle.packed_node.specs.declared.Node.TheVariants as node
 use Rattle.packed_node.specs.Nodes.{IsNode, packed}
 use Rattle.trie_model.specs.Memory.{top_cell, node_of, Beneath, Lie}
 use Rattle.trie_model.specs.Reach.{row, in_chunk, weigh_tree}
-use Rattle.trie_model.specs.Trees.{Tree, Twigs, count, bitmap_of, beside, IsTree, AreTwigs, IsRow}
+use Rattle.trie_model.specs.Trees.{Tree, Twigs, count, beside, IsTree, AreTwigs, IsRow}
 use Rattle.trie_model.specs.Trees.Tree.{leaf, branch}
 use Rattle.trie_model.specs.Trees.Twigs.{none, twig}
 use Rattle.trie_model.proofs.BitmapLaws.{ones_of}
 use Rattle.trie_model.proofs.CountLaws.{weigh_is, under}
-use Rattle.trie_model.proofs.NodeLaws.{BranchTold, branch_told, LeafSaid, leaf_said, node_read, says_node}
+use Rattle.trie_model.proofs.NodeLaws.{BranchTold, LeafSaid, node_read, says_node}
 use Rattle.trie_model.proofs.SplitLaws.{rising_of}
 use Rattle.chunk_usage.specs.Counting.{is_sparse}
 use Rattle.chunk_usage.specs.Ledger.{Ledger}
 use Rattle.chunk_usage.proofs.RowLemmas.{row_there}
 use Rattle.trie_read.specs.Reads.{IsTop}
 use Rattle.trie_write.specs.Tops.{NotBefore}
-use Rattle.trie_write.specs.Ways.{Fork, plug}
 use Rattle.evacuate.specs.declared.trail.Trail.{Trail}
 use Rattle.evacuate.specs.Places.{first_of}
-use Rattle.evacuate.specs.Trails.{Steps, LeadsTo, Found}
+use Rattle.evacuate.specs.Trails.{Found}
 
 -- the twigs from the i-th on
 abbrev pub past : ℕ → Twigs → Twigs

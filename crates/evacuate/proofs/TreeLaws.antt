@@ -1,15 +1,14 @@
 -- A tree of which the cells that hang on one node are moved.
-use Rattle.std.proofs.Common.{◌≡◌, ℕ, suc, ◌+◌, ◌-◌, ◌/◌, ◌%◌, ◌<◌, ◌≤◌, ◌^◌, ◌++◌, Bool, true, List, slice_index, count_ones, length, arith, refl, sym, ◌∙◌, ap, subst}
+use Rattle.std.proofs.Common.{◌≡◌, ℕ, ◌+◌, ◌/◌, ◌<◌, ◌≤◌, ◌++◌, Bool, true, List, slice_index, count_ones, arith, refl, sym, ◌∙◌, ap, subst}
 use Rattle.packed_node.specs.declared.Cell.{Cell}
-use Rattle.packed_node.specs.declared.Node.{Node}
 use Rattle.packed_node.specs.Nodes.{IsNode, packed}
 use Rattle.trie_model.specs.Keys.{Entry}
 use Rattle.trie_model.specs.Memory.{top_cell, node_of, item_cell, Beneath}
 use Rattle.trie_model.specs.Reach.{row, in_chunk, weigh_tree, WithinTree}
-use Rattle.trie_model.specs.Trees.{Tree, Twigs, entries_of, count, bitmap_of, cells_in, IsRow, IsTree}
+use Rattle.trie_model.specs.Trees.{Tree, Twigs, entries_of, count, bitmap_of, IsRow, IsTree}
 use Rattle.trie_model.specs.Trees.Tree.{leaf, branch}
 use Rattle.trie_model.proofs.BitmapLaws.{ones_of, few}
-use Rattle.trie_model.proofs.CountLaws.{weigh_is, under}
+use Rattle.trie_model.proofs.CountLaws.{weigh_is}
 use Rattle.trie_model.proofs.DropLaws.{higher}
 use Rattle.trie_model.proofs.MoveLaws.{Keeps, beneath_kept, lie_moved, lie_cell, within_cell}
 use Rattle.trie_model.proofs.SplitLaws.{rising_of}
@@ -18,11 +17,10 @@ use Rattle.chunk_usage.specs.Ledger.{Ledger, is_used}
 use Rattle.chunk_usage.specs.Handing.{released}
 use Rattle.chunk_usage.specs.Rooms.{Handed, account_of}
 use Rattle.chunk_usage.proofs.RowLemmas.{row_here, counts_fewer}
-use Rattle.trie_write.specs.Mutable.{Rooted, Hangs}
-use Rattle.trie_write.specs.Puts.{no_spare}
+use Rattle.trie_write.specs.Mutable.{Hangs}
 use Rattle.trie_write.specs.Spaces.{Frame, IsWritable}
 use Rattle.chunk_cells.specs.Chunks.{IsGiven}
-use Rattle.trie_write.specs.Ways.{Fork, plug, end_at}
+use Rattle.trie_write.specs.Ways.{Fork}
 use Rattle.trie_write.specs.Weights.{at_place, mark}
 use Rattle.trie_write.proofs.PutLaws.{met_used, rooted_within, end_hangs, put_rooted}
 use Rattle.trie_write.proofs.WayLaws.{low_at, end_tree, plug_tree, follows_same, before, after, entries_plug}

@@ -1,5 +1,5 @@
 -- The chunks that an evacuation finds given, and those that it fills.
-use Rattle.std.specs.Prelude.{◌≡◌, ℕ, ◌+◌, ◌/◌, ◌<◌, ◌≤◌, Bool, true, false, List, [], ◌∷◌, length, if◌then◌else◌, slice_index, slice_index_or}
+use Rattle.std.specs.Prelude.{◌≡◌, ℕ, ◌+◌, ◌/◌, ◌≤◌, Bool, true, false, List, [], ◌∷◌, length, if◌then◌else◌, slice_index, slice_index_or}
 use Rattle.chunk_usage.specs.Ledger.{Ledger, is_given, is_open, filled}
 use Rattle.chunk_usage.specs.Handing.{IsSpent, spent}
 

@@ -19,12 +19,7 @@ use packed_node::{Node, Ref};
 use trie_write::copy_twigs;
 
 /// Copies cells in use to new ones.
-fn copy_out<C: CellWrite>(
-    cells: &mut C,
-    usage: &mut Usage,
-    from: Ref,
-    n: u32,
-) -> Result<Ref, Full>
+fn copy_out<C: CellWrite>(cells: &mut C, usage: &mut Usage, from: Ref, n: u32) -> Result<Ref, Full>
     requires some { 0 < n }
     requires few { n ≤ 256 }
     requires row { IsRow from n }

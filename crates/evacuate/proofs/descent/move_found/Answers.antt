@@ -1,14 +1,12 @@
-use Rattle.std.proofs.Common.{◌≡◌, ℕ, ◌+◌, ◌/◌, ◌<◌, Bool, List, true, count_ones, arith, refl, sym, ◌∙◌, ap, subst}
-use Rattle.trie_model.specs.Keys.{Entry}
-use Rattle.trie_model.specs.Memory.{top_cell, node_of}
-use Rattle.trie_model.specs.Trees.{Tree}
+use Rattle.std.proofs.Common.{◌/◌, arith, refl, sym, ◌∙◌, ap, subst}
+use Rattle.trie_model.specs.Memory.{node_of}
 use Rattle.chunk_usage.specs.Rooms.{account_of}
-use Rattle.trie_write.specs.Spaces.{Ready, Fenced, IsWritable}
+use Rattle.trie_write.specs.Spaces.{Fenced, IsWritable}
 use Rattle.trie_write.specs.Ways.{plug}
 use Rattle.trie_write.proofs.SpaceLaws.{frame_refl, fenced_of, fenced_then, ready_put}
-use Rattle.evacuate.specs.Fillings.{Fills, Moves, is_old}
-use Rattle.evacuate.specs.Places.{first_of, width_of, Stood}
-use Rattle.evacuate.specs.Trails.{Found, Underway, TwigsAt}
+use Rattle.evacuate.specs.Fillings.{Moves, is_old}
+use Rattle.evacuate.specs.Places.{first_of, width_of}
+use Rattle.evacuate.specs.Trails.{Underway}
 use Rattle.evacuate.proofs.FillingLaws.{moves_none, moves_then, sparse_old}
 use Rattle.evacuate.proofs.TreeLaws.{hung_tree, row_of}
 use Rattle.evacuate.proofs.DescentLaws.{begins, stood_same, hung_there, hung_says, hung_read, underway_first, underway_hung, branch_node_is, early, index_inside, further_there, further_says, underway_further, fewer_places, end_node}
@@ -54,30 +52,30 @@ pub cell-requires-in-Some : goal.cell-requires-in-Some
 cell-requires-in-Some g c =
     let u = c.loop-branch.invariant.way _ _ c.requires.found.stood c.requires.found.found in
     let b = c.in-Some.branch in
-    let w = subst (λ (i : ℕ). TwigsAt g.C.CellRead.has c.open_twig.new.cells c.open_twig.new.usage c.args.root c.loop-branch.at c.requires.found.es u.upper (plug u.rest u.end) i c.in_ok-at.at) c.index_at-index.ensures (c.in_ok-at.ensures.hung c.args.root c.requires.found.es u.upper (plug u.rest u.end) u.hung (branch_node_is u b c.in-Some.ensures.branch c.in-Some.ensures.before)) in
-    record { there = (_, further_there u b c.in-Some.ensures.branch c.in-Some.ensures.before w) }
+    let w = c.in_ok-at.ensures.hung c.args.root c.requires.found.es u.upper (plug u.rest u.end) u.hung (branch_node_is u b c.in-Some.ensures.branch c.in-Some.ensures.before) in
+    record { there = (_, further_there u b c.in-Some.ensures.branch c.in-Some.ensures.before c.index_at-index.ensures w) }
 
 pub of-node-requires-in-Some : goal.of-node-requires-in-Some
 of-node-requires-in-Some g c =
     let u = c.loop-branch.invariant.way _ _ c.requires.found.stood c.requires.found.found in
     let b = c.in-Some.branch in
-    let w = subst (λ (i : ℕ). TwigsAt g.C.CellRead.has c.open_twig.new.cells c.open_twig.new.usage c.args.root c.loop-branch.at c.requires.found.es u.upper (plug u.rest u.end) i c.in_ok-at.at) c.index_at-index.ensures (c.in_ok-at.ensures.hung c.args.root c.requires.found.es u.upper (plug u.rest u.end) u.hung (branch_node_is u b c.in-Some.ensures.branch c.in-Some.ensures.before)) in
-    further_says u b c.in-Some.ensures.branch c.in-Some.ensures.before w (c.cell-in-Some.ensures.value _ (further_there u b c.in-Some.ensures.branch c.in-Some.ensures.before w))
+    let w = c.in_ok-at.ensures.hung c.args.root c.requires.found.es u.upper (plug u.rest u.end) u.hung (branch_node_is u b c.in-Some.ensures.branch c.in-Some.ensures.before) in
+    further_says u b c.in-Some.ensures.branch c.in-Some.ensures.before c.index_at-index.ensures w (c.cell-in-Some.ensures.value _ (further_there u b c.in-Some.ensures.branch c.in-Some.ensures.before c.index_at-index.ensures w))
 
 pub loop-branch-smaller : goal.loop-branch-smaller
 loop-branch-smaller g c =
     let u = c.loop-branch.invariant.way _ _ c.requires.found.stood c.requires.found.found in
     let b = c.in-Some.branch in
-    let w = subst (λ (i : ℕ). TwigsAt g.C.CellRead.has c.open_twig.new.cells c.open_twig.new.usage c.args.root c.loop-branch.at c.requires.found.es u.upper (plug u.rest u.end) i c.in_ok-at.at) c.index_at-index.ensures (c.in_ok-at.ensures.hung c.args.root c.requires.found.es u.upper (plug u.rest u.end) u.hung (branch_node_is u b c.in-Some.ensures.branch c.in-Some.ensures.before)) in
-    fewer_places u b c.in-Some.ensures.branch c.in-Some.ensures.before w (c.cell-in-Some.ensures.value _ (further_there u b c.in-Some.ensures.branch c.in-Some.ensures.before w)) c.of-node-in-Some.ensures.back
+    let w = c.in_ok-at.ensures.hung c.args.root c.requires.found.es u.upper (plug u.rest u.end) u.hung (branch_node_is u b c.in-Some.ensures.branch c.in-Some.ensures.before) in
+    fewer_places u b c.in-Some.ensures.branch c.in-Some.ensures.before c.index_at-index.ensures w (c.cell-in-Some.ensures.value _ (further_there u b c.in-Some.ensures.branch c.in-Some.ensures.before c.index_at-index.ensures w)) c.of-node-in-Some.ensures.back
 
 pub loop-branch-preserved : goal.loop-branch-preserved
 loop-branch-preserved g c = record {
   way = λ es t stood found.
       let u = c.loop-branch.invariant.way es t stood found in
       let b = c.in-Some.branch in
-      let w = subst (λ (i : ℕ). TwigsAt g.C.CellRead.has c.open_twig.new.cells c.open_twig.new.usage c.args.root c.loop-branch.at es u.upper (plug u.rest u.end) i c.in_ok-at.at) c.index_at-index.ensures (c.in_ok-at.ensures.hung c.args.root es u.upper (plug u.rest u.end) u.hung (branch_node_is u b c.in-Some.ensures.branch c.in-Some.ensures.before)) in
-      underway_further u b c.in-Some.ensures.branch c.in-Some.ensures.before w c.cell-in-Some.ensures.same (c.cell-in-Some.ensures.value _ (further_there u b c.in-Some.ensures.branch c.in-Some.ensures.before w)) c.of-node-in-Some.ensures.back;
+      let w = c.in_ok-at.ensures.hung c.args.root es u.upper (plug u.rest u.end) u.hung (branch_node_is u b c.in-Some.ensures.branch c.in-Some.ensures.before) in
+      underway_further u b c.in-Some.ensures.branch c.in-Some.ensures.before c.index_at-index.ensures w c.cell-in-Some.ensures.same (c.cell-in-Some.ensures.value _ (further_there u b c.in-Some.ensures.branch c.in-Some.ensures.before c.index_at-index.ensures w)) c.of-node-in-Some.ensures.back;
   writable = subst (λ s. IsWritable g.C.CellWrite.given account_of s c.open_twig.new.usage c.in_ok-at.at) (sym c.cell-in-Some.ensures.same) c.in_ok-at.ensures.writable;
   moves = λ given fills. let m = c.loop-branch.invariant.moves given fills in moves_then m (c.in_ok-at.ensures.moves given m.fills);
   frame = subst (λ s. Fenced g.C.CellRead.has g.C.CellWrite.kept g.C.CellWrite.given account_of c.args.cells.now c.args.usage.now s c.open_twig.new.usage) (sym c.cell-in-Some.ensures.same) (fenced_then c.loop-branch.invariant.frame c.in_ok-at.ensures.frame);

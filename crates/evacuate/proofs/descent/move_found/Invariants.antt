@@ -1,4 +1,4 @@
-use Rattle.std.proofs.Common.{◌≡◌, Bool, List}
+use Rattle.std.proofs.Common.{Bool, List}
 use Rattle.trie_model.specs.Keys.{Entry}
 use Rattle.trie_model.specs.Trees.{Tree}
 use Rattle.trie_model.proofs.NodeLaws.{places_left}

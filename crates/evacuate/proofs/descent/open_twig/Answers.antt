@@ -1,11 +1,8 @@
-use Rattle.std.proofs.Common.{◌≡◌, ◌+◌, ◌/◌, ◌%◌, ◌<◌, Bool, List, true, count_ones, Fits-lit, arith, refl, sym, ◌∙◌, ap, subst}
+use Rattle.std.proofs.Common.{◌+◌, ◌/◌, Bool, List, Fits-lit, arith, refl, sym, ◌∙◌, ap, subst}
 use Rattle.std.proofs.Math.Facts.{Fits-lt}
-use Rattle.packed_node.specs.declared.Node.TheVariants as node
 use Rattle.chunk_cells.specs.Chunks.{IsGiven}
-use Rattle.chunk_usage.specs.Ledger.{is_used}
 use Rattle.chunk_usage.proofs.FlagLemmas.{get_set}
 use Rattle.chunk_usage.proofs.SpaceLaws.{used_given}
-use Rattle.evacuate.specs.Fillings.{is_old}
 use Rattle.evacuate.specs.Places.{first_of, width_of}
 use Rattle.evacuate.proofs.FillingLaws.{settled_old, same_chunk_old}
 use Rattle.evacuate.proofs.TreeLaws.{hung_cells, hung_tree, moved_row}

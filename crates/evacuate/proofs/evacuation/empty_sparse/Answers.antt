@@ -1,10 +1,8 @@
-use Rattle.std.proofs.Common.{◌≡◌, ◌+◌, ◌-◌, ◌*◌, ◌≤◌, ℕ, true, false, length, inl, inr, refl, sym, ◌∙◌, ap, subst, arith}
+use Rattle.std.proofs.Common.{inl, inr, refl, sym, ◌∙◌, ap, subst, arith}
 use Rattle.std.proofs.lemmas.Bool.{cases_Bool}
-use Rattle.chunk_usage.specs.Keeping.{closed}
 use Rattle.chunk_usage.specs.Rooms.{account_of}
-use Rattle.trie_write.specs.Spaces.{Ready, Fenced, IsWritable}
+use Rattle.trie_write.specs.Spaces.{Fenced, IsWritable}
 use Rattle.trie_write.proofs.SpaceLaws.{fenced_then, fenced_same, ready_put, writable_later}
-use Rattle.evacuate.specs.Evacuations.{IsCleared}
 use Rattle.evacuate.specs.Fillings.{Fills, Moves}
 use Rattle.evacuate.proofs.DescentLaws.{stood_same}
 use Rattle.evacuate.proofs.EndLaws.{stood_closed, fenced_closed, ready_closed, closed_spent, root_old, all_cleared, node_top}

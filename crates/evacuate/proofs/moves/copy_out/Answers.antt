@@ -1,4 +1,4 @@
-use Rattle.std.proofs.Common.{◌+◌, sym}
+use Rattle.std.proofs.Common.{◌+◌}
 use Rattle.trie_write.proofs.SpaceLaws.{apart_from, frame_wrote, frame_refl, ready_wrote}
 use Rattle.evacuate.proofs.moves.copy_out.Goals as goal
 

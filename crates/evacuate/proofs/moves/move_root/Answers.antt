@@ -1,4 +1,4 @@
-use Rattle.std.proofs.Common.{◌≡◌, ◌+◌, ◌/◌, ℕ, arith, sym, ◌∙◌, subst}
+use Rattle.std.proofs.Common.{◌≡◌, ◌+◌, ◌/◌, ℕ, arith, subst}
 use Rattle.trie_model.specs.Memory.{top_cell}
 use Rattle.chunk_usage.specs.Rooms.{account_of}
 use Rattle.trie_write.specs.Spaces.{IsWritable}

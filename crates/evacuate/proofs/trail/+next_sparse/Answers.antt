@@ -1,11 +1,11 @@
-use Rattle.std.proofs.Common.{◌≡◌, ℕ, suc, ◌+◌, ◌-◌, ◌<◌, ◌≤◌, ◌/◌, true, false, slice_index, slice_set, count_ones, arith, refl, sym, ◌∙◌, ap, subst, rules}
+use Rattle.std.proofs.Common.{◌≡◌, ℕ, suc, ◌+◌, ◌-◌, ◌<◌, false, count_ones, arith, refl, sym, ◌∙◌, ap, subst, rules}
 use Rattle.std.proofs.lemmas.Bool.{true≢false}
 use Rattle.trie_model.specs.Memory.{top_cell}
 use Rattle.trie_model.specs.Reach.{in_chunk}
 use Rattle.trie_model.proofs.CountLaws.{under}
 use Rattle.trie_model.proofs.NodeLaws.{branch_told, leaf_said}
 use Rattle.chunk_usage.specs.Counting.{is_sparse}
-use Rattle.evacuate.proofs.TrailLaws.{past, past_all, says, read_is, early, late, counted, twig_here, twig_top, clear_leaf, clear_branch, found_leaf, found_branch, found_below}
+use Rattle.evacuate.proofs.TrailLaws.{past, past_all, says, read_is, early, late, counted, twig_here, twig_top, clear_leaf, clear_branch, found_branch, found_below}
 use Rattle.evacuate.proofs.trail.+next_sparse.Goals as goal
 use Rattle.evacuate.proofs.trail.+next_sparse.Goals.{then-resumed, else-resumed}
 
@@ -56,7 +56,7 @@ loop-i-preserved g t c =
       same = c.next_sparse.ensures.same ∙ c.cell-twig.ensures.same ∙ c.loop-i.invariant.same;
       above = λ j l.
           let top = c.requires.top.1 in
-    let b = branch_told c.requires.top.0 (c.in-Branch.branch) (sym (read_is top c.of.ensures.back) ∙ c.in-Branch.is) in
+          let b = branch_told c.requires.top.0 (c.in-Branch.branch) (sym (read_is top c.of.ensures.back) ∙ c.in-Branch.is) in
           let a = late top b in
           c.next_sparse.ensures.above j (omega arith) ∙ c.take.ensures.others j (λ e. omega arith) ∙ c.loop-i.invariant.above j l;
       none = λ off u b top k sparse.

@@ -1,4 +1,4 @@
-use Rattle.std.proofs.Common.{◌≡◌, ◌+◌, ◌-◌, ◌<◌, ℕ, true, false, slice_index}
+use Rattle.std.proofs.Common.{◌≡◌, ◌-◌, ◌<◌, ℕ, true, false, slice_index}
 use Rattle.trie_model.specs.Reach.{in_chunk}
 use Rattle.trie_model.specs.Trees.{Tree}
 use Rattle.trie_model.proofs.CountLaws.{under}
