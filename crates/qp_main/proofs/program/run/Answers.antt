@@ -18,5 +18,5 @@ returns-in-Ok-None-clause-cut_short g c = λ failed. record {
 pub serve_invocation-requires : goal.serve_invocation-requires
 serve_invocation-requires g c =
     let under : IsUnder (verb_view c.in-Ok-Some.invocation.verb) c.in-Ok-Some.invocation.origin =
-        subst AllUnder (ap (option_map invocation_view) c.in-Ok-Some.field-0-is) (subst AllUnder (sym c.in-Ok-Some.ensures) (words_under (map string_bytes c.args.words.now))) in
+    subst AllUnder (ap (option_map invocation_view) c.in-Ok-Some.field-0-is) (subst AllUnder (sym c.in-Ok-Some.ensures) (words_under (map string_bytes c.args.words.now))) in
     search (rules, under)
