@@ -1,4 +1,0 @@
-pub mod Evacuations
-pub mod Fillings
-pub mod Places
-pub mod Trails
