@@ -130,8 +130,7 @@ module _ (s : Setup) (last : AllSeen) (main : Known) where
   all_entries [] own is none i = (none_entries main own is none i.0, tt)
   all_entries (w ∷ ws) own is none i = (
     asker_entries w i.0,
-    none_entries w.station.holds w.ran.work.holder w.ran.work.is_holder w.ran.work.none_held i.1.0,
-    all_entries ws own is none i.1.1,
+    (none_entries w.station.holds w.ran.work.holder w.ran.work.is_holder w.ran.work.none_held i.1.0, all_entries ws own is none i.1.1),
   )
 
   seen_all : (views : List Known) → AllByRecursion (Includes last) views → AllByRecursion (λ (v : Known). StartsWith last.history v.seen.history) views × AllByRecursion (λ (v : Known). StartsWith last.namings v.seen.namings) views

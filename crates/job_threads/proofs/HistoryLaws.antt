@@ -118,7 +118,7 @@ times_none author j [] e = refl
 times_none author zero (x ∷ rest) e = refl
 times_none author (suc zero) (x ∷ rest) e = by_test (eqb x.author author) e
   where
-    by_test : (b : Bool) → cond b (x ∷ entries_by author rest) (entries_by author rest) ≡ [] → cond b 1 0 ≡ 0
+    by_test : (b : Bool) → cond b (x ∷ entries_by author rest) (entries_by author rest) ≡ [] → ◌≡◌ {A = ℕ} (cond b 1 0) 0
     by_test true h = absurd cc
     by_test false h = refl
 times_none author (suc (suc j)) (x ∷ rest) e = times_none author (suc j) rest (by_test (eqb x.author author) e)

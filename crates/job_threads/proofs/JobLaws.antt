@@ -62,7 +62,7 @@ author_of (e ∷ history) (suc (suc j)) some le = further (author_of history (su
 
 module _ (s : Setup) (history : List Commit) (namings : List Naming) (main : Known) where
   -- how often a version was made by passes of these numbers
-  total : ℕ → List (Worker s) → ℕ
+  abbrev total : ℕ → List (Worker s) → ℕ
   total j [] = 0
   total j (w ∷ ws) = times_by w.numbers.asker j history + total j ws
 
@@ -95,7 +95,7 @@ module _ (s : Setup) (history : List Commit) (namings : List Naming) (main : Kno
   abbrev Among : ℕ → List (Worker s) → Type 0
   Among author ws = Some' (λ (w : Worker s). w.numbers.asker ≡ author) ws
 
-  number_in : Option Own → ℕ
+  abbrev number_in : Option Own → ℕ
   number_in None = 0
   number_in (Some o) = o.number
 
@@ -128,7 +128,7 @@ module _ (s : Setup) (history : List Commit) (namings : List Naming) (main : Kno
   Apart (w ∷ ws) = AllByRecursion (λ (v : Worker s). w.numbers.asker ≢ v.numbers.asker) ws × Apart ws
 
   total_one : (ws : List (Worker s)) (j : ℕ) (a : Author history j) → Among a.commit.author ws → Apart ws → total j ws ≡ 1
-  total_one [] j a among apart = absurd among
+  total_one [] j a one_of apart = absurd one_of
   total_one (w ∷ ws) j a (inl same) apart =
       let one : times_by w.numbers.asker j history ≡ 1 = a.times w.numbers.asker ∙ ap (λ (b : Bool). cond b 1 0) (eq-eqb a.commit.author w.numbers.asker (sym same)) in
       let rest : total j ws ≡ 0 = none_else ws j a (all_weaker (λ (v : Worker s). w.numbers.asker ≢ v.numbers.asker) (λ (v : Worker s). v.numbers.asker ≢ a.commit.author) ws (λ v differ e. differ (same ∙ sym e)) apart.0) in
@@ -141,7 +141,7 @@ module _ (s : Setup) (history : List Commit) (namings : List Naming) (main : Kno
       omega (arith, none, rest)
     where
       differs : (vs : List (Worker s)) → Among a.commit.author vs → AllByRecursion (λ (v : Worker s). w.numbers.asker ≢ v.numbers.asker) vs → w.numbers.asker ≢ a.commit.author
-      differs [] among others = absurd among
+      differs [] one_of others = absurd one_of
       differs (v ∷ vs) (inl e) others = λ h. others.0 (h ∙ sym e)
       differs (v ∷ vs) (inr further) others = differs vs further others.1
 

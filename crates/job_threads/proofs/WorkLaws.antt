@@ -98,7 +98,7 @@ and-false false = refl
 
 -- ---- histories that grow
 
-replayed_more : (s : Setup) (all part : List Commit) → StartsWith all part → (p : Pair) → p.1.version ≤ length part → Replayed s part p → Replayed s all p
+pub replayed_more : (s : Setup) (all part : List Commit) → StartsWith all part → (p : Pair) → p.1.version ≤ length part → Replayed s part p → Replayed s all p
 replayed_more s all part b p le r = λ c.
     let was = r c in
     let below : p.1.version - 1 ≤ length part = omega (arith, le) in (

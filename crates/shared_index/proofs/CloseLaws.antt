@@ -81,9 +81,9 @@ pub gathers_more : (count : ℕ) (v learnt w u taught : Known) (others : List Kn
     → Gathers count v w (others ++ u ∷ []) n last
 gathers_more count v learnt w u taught others n last all l g t a =
     let history : StartsWith all.history last.history =
-        begins_through all.history taught.seen.history last.history a.seen.history (begins_through taught.seen.history w.seen.history last.history t.learns.history g.history) in
+    begins_through all.history taught.seen.history last.history a.seen.history (begins_through taught.seen.history w.seen.history last.history t.learns.history g.history) in
     let namings : StartsWith all.namings last.namings =
-        begins_through all.namings taught.seen.namings last.namings a.seen.namings (begins_through taught.seen.namings w.seen.namings last.namings t.learns.namings g.namings) in record {
+    begins_through all.namings taught.seen.namings last.namings a.seen.namings (begins_through taught.seen.namings w.seen.namings last.namings t.learns.namings g.namings) in record {
       version_is = g.version_is;
       own = record {
         seen = part_through last learnt.seen v.seen g.own.seen l.grows;
@@ -107,8 +107,8 @@ pub gathers_found : (count : ℕ) (v learnt w w' u u' taught : Known) (seen then
     → w' ≡ w → passes ≡ others ++ u ∷ [] → Gathers count v w' passes n last
 gathers_found count v learnt w w' u u' taught seen then others passes n last all l seen_is g t same then_is a after is =
     subst (λ (vs : List Known). Gathers count v w' vs n last) (sym is) (subst (λ (x : Known). Gathers count v x (others ++ u ∷ []) n last) (sym after)
-      (gathers_more count v learnt w u taught others n last all (subst (Learnt v learnt) seen_is l) g
-      (subst (λ (x : Known). Learnt x taught w.seen) same (subst (Learnt u' taught) then_is t)) a))
+    (gathers_more count v learnt w u taught others n last all (subst (Learnt v learnt) seen_is l) g
+    (subst (λ (x : Known). Learnt x taught w.seen) same (subst (Learnt u' taught) then_is t)) a))
 
 module _ (count : ℕ) (passes : List Known) (last : AllSeen) (each : All (Includes last) passes) (whole : AreAll count passes) where
   commit_of : (e : Commit (List Operation)) → Contains last.history e → e.author < count → IsCommitOf passes e
@@ -118,9 +118,13 @@ module _ (count : ℕ) (passes : List Known) (last : AllSeen) (each : All (Inclu
       let number : own.0.number ≡ e.author = (let m : own.0.number + 1 ≡ e.author + 1 = ap number_of (sym own.1) ∙ v.2 in omega arith) in
       let same : (e.author == own.0.number) ≡ true = grind (arith, eqb_tells e.author own.0.number) in
       let begins = (All-contains (Includes last) passes v.0 each v.1).commits own.0 own.1 in
-      let found : Contains (entries_by own.0.number last.history) e = contains_filter (λ (c : Commit (List Operation)). c.author == own.0.number) last.history e there same in
-      (v.0, v.1, v.2, subst (λ (p : Option (PassView (List Operation))). Contains (commits_in p) e) (sym own.1)
-          (subst (λ (es : List (Commit (List Operation))). Contains es e) (sym begins.1) (Contains-append_left (entries_by own.0.number last.history) begins.0 e found)))
+      let found : Contains (entries_by own.0.number last.history) e = contains_filter (λ (c : Commit (List Operation)). c.author == own.0.number) last.history e there same in (
+        v.0,
+        v.1,
+        v.2,
+        subst (λ (p : Option (PassView (List Operation))). Contains (commits_in p) e) (sym own.1)
+            (subst (λ (es : List (Commit (List Operation))). Contains es e) (sym begins.1) (Contains-append_left (entries_by own.0.number last.history) begins.0 e found)),
+      )
 
   naming_of : (n : Naming) → Contains last.namings n → n.pass < count → IsNamingOf passes n
   naming_of n there few =

@@ -66,9 +66,9 @@ pub there_more : {A : Type 0} (f : A → Known) (ps : List A) (p : A) (left coun
     → ((number : ℕ) → left + 1 ≤ number → number < count → IsThere (map f ps) number) → (number : ℕ) → left ≤ number → number < count → IsThere (map f (ps ++ p ∷ [])) number
 there_more f ps p left count is others number some few =
     subst (λ (vs : List Known). IsThere vs number) (sym (map-append f ps (p ∷ []))) (⊎_elim
-      (λ (e : left ≡ number). (f p, Contains-push (map f ps) (f p), is ∙ ap (λ (n : ℕ). n + 1) e))
-      (λ (l : left < number). let t = others number (omega arith) few in (t.0, Contains-append_left (map f ps) (f p ∷ []) t.0 t.1, t.2))
-      (eq-or-lt_of_le some))
+    (λ (e : left ≡ number). (f p, Contains-push (map f ps) (f p), is ∙ ap (λ (n : ℕ). n + 1) e))
+    (λ (l : left < number). let t = others number (omega arith) few in (t.0, Contains-append_left (map f ps) (f p ∷ []) t.0 t.1, t.2))
+    (eq-or-lt_of_le some))
 
 -- the longer of two that are empty
 pub none_longer : (xs ys : List (Commit (List Operation))) → length xs ≡ 0 → length ys ≡ 0 → length (longer_of xs ys) ≡ 0

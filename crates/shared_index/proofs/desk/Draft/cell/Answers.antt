@@ -13,4 +13,4 @@ returns-clause-value g c x h =
     let seat = c.new.ensures.seat in
     let table = ap (λ (s : JoinedSeat (List Entry) (List Operation)). s.place.table_id) (sym seat) ∙ cells.here in
     c.cell-cell.ensures.value x (cell_there cells.shared.now.table.shared.key.chunks _ _ d.seat.place.me.0.turn _ _ x (cells.shared.now.wide ∙ sym (same_words d.seat.place.table_id cells.shared.now.table.shared.table_id table)) d.wide
-      (ap (λ (s : JoinedSeat (List Entry) (List Operation)). s.place.me.0.turn) seat) h)
+    (ap (λ (s : JoinedSeat (List Entry) (List Operation)). s.place.me.0.turn) seat) h)

@@ -10,6 +10,6 @@ returns-clause-gathers g t c =
     let a = c.account.ensures.accounted in (
       e.0,
       gathers_found _ _ _ (known_at c.gather-first.result.0.seat) _ (known_at c.in-Some.pass.seat) _ _ _ _ _ _ _ e.0 a.0
-        c.learn.ensures.learnt c.note-seen.ensures.told e.1 c.learn-2.ensures.learnt c.note-seen.ensures.same c.note-last.ensures.told a.1 c.note-last.ensures.same
-        (ap (map (λ p. known_at p.seat)) c.in-Some.ensures.items ∙ map-append (λ p. known_at p.seat) c.pop.new.self.items (c.in-Some.pass ∷ [])),
+          c.learn.ensures.learnt c.note-seen.ensures.told e.1 c.learn-2.ensures.learnt c.note-seen.ensures.same c.note-last.ensures.told a.1 c.note-last.ensures.same
+          (ap (map (λ p. known_at p.seat)) c.in-Some.ensures.items ∙ map-append (λ p. known_at p.seat) c.pop.new.self.items (c.in-Some.pass ∷ [])),
     )

@@ -15,7 +15,7 @@ returns-clause-gathers g c =
     let is : w ≡ with_progress s progress.Idle = c.account-2.ensures.same ∙ c.release-pass.ensures.left in (
       _,
       takes_last _ _ (known_at c.args.pass.seat) s w _ before.0 after.0 before.1
-        (subst (λ (x : Known). Pinned g.L.Law.lawful x s c.hold-snapshot.result.seat.version) c.account.ensures.same c.hold-snapshot.ensures.pinned)
-        (ap (λ (x : Known). x.seen) is) (ap (λ (x : Known). x.pass) is)
-        (subst (λ (x : Known). Accounts c.args.self.now.shared.table.shared.key.passes x after.0) (sym c.account-2.ensures.same) after.1),
+          (subst (λ (x : Known). Pinned g.L.Law.lawful x s c.hold-snapshot.result.seat.version) c.account.ensures.same c.hold-snapshot.ensures.pinned)
+          (ap (λ (x : Known). x.seen) is) (ap (λ (x : Known). x.pass) is)
+          (subst (λ (x : Known). Accounts c.args.self.now.shared.table.shared.key.passes x after.0) (sym c.account-2.ensures.same) after.1),
     )
