@@ -1,13 +1,30 @@
-use Rattle.std.proofs.Common.{◌∙◌, map, subst}
+use Rattle.std.proofs.Common.{◌≡◌, ◌∙◌, ◌≤◌, ℕ, List, length, map, sym, ap, arith}
+use Rattle.std.specs.List.{range_with_len}
+use Rattle.std.proofs.lemmas.List.{length-map}
+use Rattle.std.proofs.lemmas.List.FromFn.{length-range_with_len}
 use Rattle.shared_cells.specs.Views.{number_of}
-use Rattle.shared_index.specs.Passes.{known_at}
-use Rattle.shared_index.specs.Closings.{AreAll}
-use Rattle.shared_index.proofs.TellLaws.{numbered_long}
 use Rattle.shared_index.proofs.index.Index.filled.Goals as goal
 
-pub returns-clause-count : goal.returns-clause-count
-returns-clause-count g c = c.in_ok-passes.ensures.count ∙ numbered_long (λ s. number_of s.place.me.0.pass) c.args.blank.seats.items c.args.blank.shared.table.shared.key.passes c.args.blank.numbered
+-- as many seats as there are numbers
+many : {A : Type 0} (f : A → ℕ) (seats : List A) (key : ℕ) → map f seats ≡ range_with_len 1 key → length seats ≡ key
+many f seats key e = sym (length-map seats f) ∙ ap length e ∙ length-range_with_len 1 key
 
-pub returns-clause-all : goal.returns-clause-all
-returns-clause-all g c = subst (λ n. AreAll n (map (λ p. known_at p.seat) c.in_ok-passes.passes.items))
-    (numbered_long (λ s. number_of s.place.me.0.pass) c.args.blank.seats.items c.args.blank.shared.table.shared.key.passes c.args.blank.numbered) c.in_ok-passes.ensures.all
+pub overflow_cast-count : goal.overflow_cast-count
+overflow_cast-count g c =
+    let few = c.args.blank.shared.few.0 in
+    let e = many (λ s. number_of s.place.me.0.pass) c.args.blank.seats.items c.args.blank.shared.table.shared.key.passes c.args.blank.numbered in
+    let l = c.len-count.ensures in
+    let m = c.in_ok-passes.ensures.count in
+    omega arith
+
+pub invariant_of-index : goal.invariant_of-index
+invariant_of-index g c =
+    let e = many (λ s. number_of s.place.me.0.pass) c.args.blank.seats.items c.args.blank.shared.table.shared.key.passes c.args.blank.numbered in
+    let l = c.len-count.ensures in
+    let m = c.in_ok-passes.ensures.count in
+    let n : c.len-count.result ≡ c.args.blank.shared.table.shared.key.passes = omega arith in
+    record {
+      here = c.requires.named;
+      counted = n;
+      some = c.args.blank.some;
+    }
