@@ -83,10 +83,10 @@ done_set o denied d e A B op a =
 
 -- or it wasn't
 pub same_set : (o : Operation) (denied : List trie.Entry → Type 0) (d e : Draft) (A B : Type 0) → Operates o denied d e A B → (A → ⊥) → working_set e ≡ working_set d
-same_set o denied d e A B op no = ap (applied (base_of e)) (op.stays no) ∙ ap (λ (es : List trie.Entry). applied es d.log.operations) (base_goes_on op.known)
+same_set o denied d e A B op undone = ap (applied (base_of e)) (op.stays undone) ∙ ap (λ (es : List trie.Entry). applied es d.log.operations) (base_goes_on op.known)
 
 pub works_same : (o : Operation) (denied : List trie.Entry → Type 0) (d e : Draft) (A B : Type 0) (version : Version) → Operates o denied d e A B → (A → ⊥) → WorksOn d version → WorksOn e version
-works_same o denied d e A B version op no on = record { works = op.works; set = same_set o denied d e A B op no ∙ on.set; valid = on.valid }
+works_same o denied d e A B version op undone on = record { works = op.works; set = same_set o denied d e A B op undone ∙ on.set; valid = on.valid }
 
 -- a name was put in
 pub put_new : (name : Name) (key bytes : List ℕ) (entry : Entry) (denied : List trie.Entry → Type 0) (d e : Draft) (A B : Type 0) (version : Version) → key ≡ key_of name → IsItem bytes name entry
@@ -181,18 +181,18 @@ module _ (o : Operation) (denied : List trie.Entry → Type 0) (A B : Type 0) (n
   -- there was no room
   pub no_room : (f : Full) (key : List ℕ) (written : ℕ) → (A → ⊥) → ((version : Version) → IsVersion version → before ≡ owned name version → put name entry version ≡ version → ⊥) → Called → IsSomeAnd new (λ d. IsFull d f)
       → Between (λ d e. CausedFrom d.usage e key written f) old new → Edits (Stores name before entry (Err f.kept)) old new
-  no_room f key written no changes call full cause =
+  no_room f key written undone changes call full cause =
       between_both (λ d e. CausedFrom d.usage e key written f) (λ d e. Operates o denied d e A B × IsFull e f) (EditsOne (Stores name before entry (Err f.kept))) old new
       (λ d e cause both. record {
         known = both.0.known;
         passes = both.0.passes;
         becomes = λ version on is. (
-            works_same o denied d e A B version both.0 no on,
+            works_same o denied d e A B version both.0 undone on,
             record {
               named = both.1.named;
               ends = both.1.ends;
               few = few_kept e f both.1;
-              many = subst (λ (es : List trie.Entry). length e.usage.given - reserve_of e.usage - 2 ≤ cells es + cells_kept e.seat.place.me.0 (versions_in f.kept)) (same_set o denied d e A B both.0 no ∙ on.set) cause.2.many_cells;
+              many = subst (λ (es : List trie.Entry). length e.usage.given - reserve_of e.usage - 2 ≤ cells es + cells_kept e.seat.place.me.0 (versions_in f.kept)) (same_set o denied d e A B both.0 undone ∙ on.set) cause.2.many_cells;
             },
             changes version on.valid is,
           );
