@@ -38,7 +38,9 @@ fn report<R: Threads + Wait + Sync, G: Gate>(
     script: &str,
     gate: &G,
 ) -> Result<Vec<u8>, Fail> {
-    let origin = Name::from_wire(&[7, b'e', b'x', b'a', b'm', b'p', b'l', b'e', 0]).ok_or("no origin")?;
+    let origin = Name::from_wire(&[7, b'e', b'x', b'a', b'm', b'p', b'l', b'e', 0]).ok_or(
+        "no origin",
+    )?;
     let Ok(zone) = read_zone(alloc, ZONE.as_bytes(), &origin) else {
         return Err(Fail::from("no zone"));
     };
@@ -55,7 +57,8 @@ fn report<R: Threads + Wait + Sync, G: Gate>(
 #[test]
 fn each_command_stands_between_its_two_calls(rt: HostRuntime) -> Result<(), Fail> {
     let gate = Counting::new();
-    let script = "worker\nget ns A\nwrite\nadd a 60 A 192.0.2.2\ncommit\nget a A\nworker\nhold\nat get ns A\nrelease\n";
+    let script =
+        "worker\nget ns A\nwrite\nadd a 60 A 192.0.2.2\ncommit\nget a A\nworker\nhold\nat get ns A\nrelease\n";
     report(&rt, rt.alloc(), script, &gate)?;
     assert_eq!(rt; gate.calls.load(Ordering::SeqCst), 12);
     assert_eq!(rt; gate.wrong.load(Ordering::SeqCst), 0);
@@ -68,7 +71,8 @@ fn two_workers_meet(rt: HostRuntime) -> Result<(), Fail> {
     let script = "worker\nget ns A\nworker\nget ns A\n";
     let text = report(&rt, rt.alloc(), script, &gate)?;
     assert_eq!(rt; gate.given_up.load(Ordering::SeqCst), 0);
-    let due = "1.1 v0 ANSWER 1\nns.example. 300 IN A 192.0.2.1\n2.1 v0 ANSWER 1\nns.example. 300 IN A 192.0.2.1\nend v0 names 2\n";
+    let due =
+        "1.1 v0 ANSWER 1\nns.example. 300 IN A 192.0.2.1\n2.1 v0 ANSWER 1\nns.example. 300 IN A 192.0.2.1\nend v0 names 2\n";
     assert_eq!(rt; text.as_slice(), due.as_bytes());
     Ok(())
 }
@@ -79,7 +83,8 @@ fn a_snapshot_keeps_no_writer_out(rt: HostRuntime) -> Result<(), Fail> {
     let script = "worker\nhold\nat get ns A\nworker\nwrite\ndel ns\ncommit\nget ns A\n";
     let text = report(&rt, rt.alloc(), script, &gate)?;
     assert_eq!(rt; gate.given_up.load(Ordering::SeqCst), 0);
-    let due = "1.1 v0 HELD\n1.2 v0 ANSWER 1\nns.example. 300 IN A 192.0.2.1\n2.1 v1 COMMITTED\n2.2 v1 NXDOMAIN\nend v1 names 1\n";
+    let due =
+        "1.1 v0 HELD\n1.2 v0 ANSWER 1\nns.example. 300 IN A 192.0.2.1\n2.1 v1 COMMITTED\n2.2 v1 NXDOMAIN\nend v1 names 1\n";
     assert_eq!(rt; text.as_slice(), due.as_bytes());
     Ok(())
 }

@@ -74,9 +74,9 @@ apart_from : (n : ℕ) (front back : List ℕ) → Covers n (front ++ back) → 
 apart_from n front [] c e = tt
 apart_from n front (x ∷ back) c e = (
   each_rec (λ (y : ℕ). x ≢ y) back (λ y inside same.
-    let fewer : Covers n (front ++ back) = λ m lt. beside x (m + 1) front back (λ is. Contains-append_right front back (m + 1) (subst (Contains back) (sym same ∙ is) inside)) (c m lt) in
-    let le = cover_long n (front ++ back) fewer in
-    omega (arith, le, e, length-append front back, length-append front (x ∷ back))),
+      let fewer : Covers n (front ++ back) = λ m lt. beside x (m + 1) front back (λ is. Contains-append_right front back (m + 1) (subst (Contains back) (sym same ∙ is) inside)) (c m lt) in
+      let le = cover_long n (front ++ back) fewer in
+      omega (arith, le, e, length-append front back, length-append front (x ∷ back))),
   apart_from n (front ++ x ∷ []) back (subst (Covers n) (sym (append_assoc front (x ∷ []) back)) c) (ap length (append_assoc front (x ∷ []) back) ∙ e),
 )
 

@@ -196,7 +196,7 @@ module _ (s : Setup) (history : List Commit) (namings : List Naming) (main : Kno
           let le : length history ≤ length history = omega arith in
           let one = made_once ws m.own m.is_own m.none c (length history) some le in
           let none = beyond ws (length history) (length main.seen.history) c.entries c.begins
-              (all_weaker (λ (w : Worker s). StartsWith main.seen.history w.station.asks.seen.history) (λ (w : Worker s). length w.station.asks.seen.history ≤ length main.seen.history) ws (λ w b. begins_length main.seen.history w.station.asks.seen.history b) m.learnt) past in
+          (all_weaker (λ (w : Worker s). StartsWith main.seen.history w.station.asks.seen.history) (λ (w : Worker s). length w.station.asks.seen.history ≤ length main.seen.history) ws (λ w b. begins_length main.seen.history w.station.asks.seen.history b) m.learnt) past in
           absurd (let z : 1 ≡ 0 = sym one ∙ all_times ws (length history) c.entries c.begins ∙ none in cc)
 
   -- ---- the versions that the outcomes make are those of the history

@@ -59,9 +59,9 @@ stays_pinned c version own old new shown is pass = record {
   number = refl;
   entries = refl;
   pinned = λ n here. elim (Contains-push_cases own.pinned version n here) [
-      | inl was ↦ inl was
-      | inr e ↦ inr (subst (λ (l : List ℕ). Contains l n) (sym shown) (subst (Contains (version ∷ [])) e (Contains-push [] version)))
-    ];
+    | inl was ↦ inl was
+    | inr e ↦ inr (subst (λ (l : List ℕ). Contains l n) (sym shown) (subst (Contains (version ∷ [])) e (Contains-push [] version)))
+  ];
 }
 
 writes_nothing : (s : Setup) (own : Own) (c : Command) (version : ℕ) (b : Bool) (old new : Known) → b ≡ false → Stays c version own new → Writes s own c version b old new

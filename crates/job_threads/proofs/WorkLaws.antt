@@ -104,8 +104,8 @@ replayed_more s all part b p le r = λ c.
     let below : p.1.version - 1 ≤ length part = omega (arith, le) in (
       was.0,
       (λ base stands.
-        let made = was.1 base (subst (λ (es : Entries). StandsAs es base) (index_front s.opening all part (p.1.version - 1) b below) stands) in
-        (made.0, made.1, subst (λ (es : Entries). StandsAs es made.0) (sym (index_front s.opening all part p.1.version b le)) made.2)),
+          let made = was.1 base (subst (λ (es : Entries). StandsAs es base) (index_front s.opening all part (p.1.version - 1) b below) stands) in
+          (made.0, made.1, subst (λ (es : Entries). StandsAs es made.0) (sym (index_front s.opening all part p.1.version b le)) made.2)),
     )
 
 -- ---- how far a worker has come
@@ -148,9 +148,9 @@ grows_same s numbers old new pairs p w number grows plain y = record {
   made = λ j. times-push j pairs p false (ap (λ (b : Bool). b && eqb p.1.version j) plain) ∙ (let z : times_made j pairs + 0 ≡ times_made j pairs = omega arith in z)
       ∙ w.made j ∙ ap (λ (n : ℕ). times_by n j w.committed) (sym y.number);
   pinned = λ v here. elim (y.pinned v here) [
-      | inl was ↦ shown_before pairs p v (w.pinned v (inl was))
-      | inr now ↦ shown_now pairs p v now
-    ];
+    | inl was ↦ shown_before pairs p v (w.pinned v (inl was))
+    | inr now ↦ shown_now pairs p v now
+  ];
 }
 
 grows_more : (s : Setup) (numbers : Numbers) (old new : Station) (pairs : Pairs) (p : Pair) (w : Work s old pairs) → w.asker.number ≡ numbers.asker → StartsWith new.asks.seen.history old.asks.seen.history → is_committed p.1.ended ≡ true
@@ -170,10 +170,10 @@ grows_more s numbers old new pairs p w number grows commits a =
           (λ _. (
             omega (arith, a.numbered),
             (λ zone stands.
-              let in_base : index_at s.opening new.asks.seen.history (p.1.version - 1) ≡ version_after applied s.opening a.base =
-              index_front s.opening new.asks.seen.history a.base (p.1.version - 1) base_front (omega (arith, before_it)) ∙ index_last s.opening a.base (p.1.version - 1) before_it in
-              let made = a.makes zone (subst (λ (es : Entries). StandsAs es zone) in_base stands) in
-              (made.0, made.1, subst (λ (es : Entries). StandsAs es made.0) (sym (index_last s.opening new.asks.seen.history p.1.version last)) made.2)),
+                let in_base : index_at s.opening new.asks.seen.history (p.1.version - 1) ≡ version_after applied s.opening a.base =
+                index_front s.opening new.asks.seen.history a.base (p.1.version - 1) base_front (omega (arith, before_it)) ∙ index_last s.opening a.base (p.1.version - 1) before_it in
+                let made = a.makes zone (subst (λ (es : Entries). StandsAs es zone) in_base stands) in
+                (made.0, made.1, subst (λ (es : Entries). StandsAs es made.0) (sym (index_last s.opening new.asks.seen.history p.1.version last)) made.2)),
           ));
       asker = record w.asker { entries = w.asker.entries ++ entry_of w.asker.number a.operations ∷ [] };
       is_asker = a.pass;
@@ -182,17 +182,17 @@ grows_more s numbers old new pairs p w number grows commits a =
       front = begins_same new.asks.seen.history;
       mine = ap (λ (l : List Commit). l ++ entry_of w.asker.number a.operations ∷ []) a.mine ∙ sym (by-push w.asker.number a.base a.operations) ∙ ap (entries_by w.asker.number) (sym a.history);
       made = λ j. elim (cases_eq j p.1.version) [
-          | inl e ↦
-              let here : made j p ≡ true = (let t : eqb p.1.version j ≡ true = grind arith in ap (λ (b : Bool). b && eqb p.1.version j) commits ∙ t) in
-              let past : length a.base < j = omega (arith, e, a.numbered) in
-              let none : times_made j pairs ≡ 0 = w.made j ∙ sym (same j) ∙ times_past w.asker.number j a.base past in
-              times-push j pairs p true here ∙ (let z : times_made j pairs + 1 ≡ 1 = omega (arith, none) in z)
-              ∙ sym (ap (times_by w.asker.number j) a.history ∙ times_there w.asker.number j a.base a.operations (omega (arith, e, a.numbered)))
-          | inr m ↦
-              let here : made j p ≡ false = (let t : eqb p.1.version j ≡ false = grind arith in ap (λ (b : Bool). is_committed p.1.ended && b) t ∙ and-false (is_committed p.1.ended)) in
-              times-push j pairs p false here ∙ (let z : times_made j pairs + 0 ≡ times_made j pairs = omega arith in z) ∙ w.made j ∙ sym (same j)
-              ∙ sym (ap (times_by w.asker.number j) a.history ∙ times_else w.asker.number j a.base (entry_of w.asker.number a.operations) (λ e. m (omega (arith, e, a.numbered))))
-        ];
+        | inl e ↦
+            let here : made j p ≡ true = (let t : eqb p.1.version j ≡ true = grind arith in ap (λ (b : Bool). b && eqb p.1.version j) commits ∙ t) in
+            let past : length a.base < j = omega (arith, e, a.numbered) in
+            let none : times_made j pairs ≡ 0 = w.made j ∙ sym (same j) ∙ times_past w.asker.number j a.base past in
+            times-push j pairs p true here ∙ (let z : times_made j pairs + 1 ≡ 1 = omega (arith, none) in z)
+            ∙ sym (ap (times_by w.asker.number j) a.history ∙ times_there w.asker.number j a.base a.operations (omega (arith, e, a.numbered)))
+        | inr m ↦
+            let here : made j p ≡ false = (let t : eqb p.1.version j ≡ false = grind arith in ap (λ (b : Bool). is_committed p.1.ended && b) t ∙ and-false (is_committed p.1.ended)) in
+            times-push j pairs p false here ∙ (let z : times_made j pairs + 0 ≡ times_made j pairs = omega arith in z) ∙ w.made j ∙ sym (same j)
+            ∙ sym (ap (times_by w.asker.number j) a.history ∙ times_else w.asker.number j a.base (entry_of w.asker.number a.operations) (λ e. m (omega (arith, e, a.numbered))))
+      ];
       pinned = λ v here. shown_before pairs p v (w.pinned v (inl here));
     }
 
@@ -223,9 +223,9 @@ worker_begins s t asker holder commands opened is_asker is_holder none none_held
     made = λ j. refl;
     none_held = none_held;
     pinned = λ v here. elim here [
-        | inl a ↦ subst (λ (l : List ℕ). Contains l v) unpinned a
-        | inr b ↦ subst (λ (l : List ℕ). Contains l v) unpinned_held b
-      ];
+      | inl a ↦ subst (λ (l : List ℕ). Contains l v) unpinned a
+      | inr b ↦ subst (λ (l : List ℕ). Contains l v) unpinned_held b
+    ];
   };
   asker = refl;
   holder = refl;
@@ -267,12 +267,12 @@ worker_goes_on s numbers old new done c behind os o opened w step =
         made = λ j. ap (times_made j) more ∙ g.made j;
         none_held = h.entries ∙ w.work.none_held;
         pinned = λ v here. subst (λ (l : Pairs). Contains (shown_in l) v) (sym more) (elim here [
-            | inl a ↦ g.pinned v a
-            | inr b ↦ elim (h.pinned v b) [
-                | inl was ↦ shown_before (pairs_of done os) (c, outcome_view o) v (w.work.pinned v (inr was))
-                | inr now ↦ shown_now (pairs_of done os) (c, outcome_view o) v now
-              ]
-          ]);
+          | inl a ↦ g.pinned v a
+          | inr b ↦ elim (h.pinned v b) [
+            | inl was ↦ shown_before (pairs_of done os) (c, outcome_view o) v (w.work.pinned v (inr was))
+            | inr now ↦ shown_now (pairs_of done os) (c, outcome_view o) v now
+          ]
+        ]);
       };
       asker = g.number;
       holder = h.number ∙ w.holder;

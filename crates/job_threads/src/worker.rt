@@ -72,8 +72,8 @@ fn run_command<'i, R: Wait, N: Named>(
     ensures steps { (s : Setup) → IsSetup s origin.now index.now.shared.table.shared.key (known_at passes.old.asks.seat)
         → IsUnder (known_at passes.old.asks.seat) (holder_view (option_map (λ p. p.seat) passes.old.spare) (option_map (λ s. s.seat) passes.old.held))
         → IfOk result (λ o. Step s (command_view command.now) o
-            (station passes.old.asks.seat (option_map (λ p. p.seat) passes.old.spare) (option_map (λ s. s.seat) passes.old.held))
-            (station passes.new.asks.seat (option_map (λ p. p.seat) passes.new.spare) (option_map (λ s. s.seat) passes.new.held))) }
+        (station passes.old.asks.seat (option_map (λ p. p.seat) passes.old.spare) (option_map (λ s. s.seat) passes.old.held))
+        (station passes.new.asks.seat (option_map (λ p. p.seat) passes.new.spare) (option_map (λ s. s.seat) passes.new.held))) }
 {
     let item = &mut buffers.before;
     match command {
@@ -172,15 +172,7 @@ pub fn run_worker<R: Wait, N: Named, G: Gate>(
     let mut list = Vec::with_capacity(alloc, commands.len())?;
     for (place, command) in commands.iter().enumerate() {
         gate.before(number, counted(place));
-        let outcome = run_command(
-            rt,
-            alloc,
-            origin,
-            index,
-            &mut passes,
-            command,
-            &mut buffers,
-        )?;
+        let outcome = run_command(rt, alloc, origin, index, &mut passes, command, &mut buffers)?;
         gate.after(number, counted(place));
         list.push(outcome)?;
     }

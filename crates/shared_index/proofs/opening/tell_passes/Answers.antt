@@ -48,9 +48,9 @@ loop-seat-preserved g c =
       unused = subst (All (λ s. (commits_in s.place.me.0.pass ≡ []) × (pinned_in s.place.me.0.pass ≡ []))) (sym pop.rest) (All-take (λ s. (commits_in s.place.me.0.pass ≡ []) × (pinned_in s.place.me.0.pass ≡ [])) (vec_len c.loop-seat.seats - 1) c.loop-seat.seats.items inv.unused);
       idle = subst (All (λ p. (commits_in (known_at p.seat).pass ≡ []) × (pinned_in (known_at p.seat).pass ≡ []))) (sym items)
           (All-push (λ p. (commits_in (known_at p.seat).pass ≡ []) × (pinned_in (known_at p.seat).pass ≡ [])) c.loop-seat.passes.items _ inv.idle (
-          ap (λ (x : Known). commits_in x.pass) c.learn-seat.ensures.learnt.0 ∙ ap (λ s. commits_in s.place.me.0.pass) popped ∙ done.0,
-          ap (λ (x : Known). pinned_in x.pass) c.learn-seat.ensures.learnt.0 ∙ ap (λ s. pinned_in s.place.me.0.pass) popped ∙ done.1,
-        ));
+            ap (λ (x : Known). commits_in x.pass) c.learn-seat.ensures.learnt.0 ∙ ap (λ s. commits_in s.place.me.0.pass) popped ∙ done.0,
+            ap (λ (x : Known). pinned_in x.pass) c.learn-seat.ensures.learnt.0 ∙ ap (λ s. pinned_in s.place.me.0.pass) popped ∙ done.1,
+          ));
       told = subst (All (λ p. (IsSome p.seat) × (p.place ≡ c.args.place) × (SeesFirst (first_version c.args.turn.now.place.me.0.seen) (known_at p.seat)))) (sym items)
           (All-push (λ p. (IsSome p.seat) × (p.place ≡ c.args.place) × (SeesFirst (first_version c.args.turn.now.place.me.0.seen) (known_at p.seat))) c.loop-seat.passes.items _ inv.told (refl, refl, sees));
       many =
