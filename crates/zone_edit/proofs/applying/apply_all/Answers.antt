@@ -1,3 +1,4 @@
+use Rattle.zone_model.specs.Names.{Name}
 use Rattle.std.proofs.Common.{◌≡◌, ◌∙◌, ℕ, ◌+◌, ◌-◌, ◌≤◌, ◌∷◌, [], length, List, map, take, drop, Ok, Err, Result, refl, ap, sym, subst, arith}
 use Rattle.std.proofs.lemmas.List.{length-map, length-take-le, take_all}
 use Rattle.zone_model.specs.Versions.{Version, Operation, whole}
@@ -16,7 +17,7 @@ use Rattle.zone_edit.proofs.EditLaws.{edits_same, edits_as, edits_on, edits_some
 use Rattle.zone_edit.proofs.applying.apply_all.Goals as goal
 
 -- the first so many operations made a version
-abbrev SoFar : _ → List Said → ℕ → Version → Draft → Type 0
+abbrev SoFar : Name → List Said → ℕ → Version → Draft → Type 0
 SoFar origin operations i version new = (now : Version) × (whole origin (map operation_view (take i operations)) version ≡ Ok now) × WorksOn new now
 
 pub loop-index-init : goal.loop-index-init
