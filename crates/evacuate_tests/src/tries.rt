@@ -8,8 +8,10 @@ ghost use Rattle.trie_write.specs.Standing.{HasTrie};
 
 use chunk_cells::{CellRead, CellWrite, PlainCells};
 use chunk_usage::{Space, Usage};
+use evacuate::{Done, evacuate};
 use packed_node::Ref;
 use std::alloc::{AllocError, Global};
+use trie_read::count;
 use trie_write::{Item, build, delete};
 
 /// So many chunks, none of which is given.
@@ -49,6 +51,39 @@ pub fn built_without<C: CellWrite, U: Space>(
         }
     }
     Some(root)
+}
+
+/// What an evacuation did.
+#[derive(Clone, Copy, PartialEq, Eq, Debug)]
+pub struct Outcome {
+    /// How many chunks were sparse before.
+    pub sparse: u32,
+    pub done: Done,
+    /// How many names there are afterwards.
+    pub names: u64,
+}
+
+/// Builds the trie of the items, takes the first of them out, and moves what lies in sparse chunks.
+pub fn evacuated<C: CellWrite>(
+    cells: &mut C,
+    usage: &mut Usage,
+    items: &[Item],
+    gone: usize,
+) -> Option<Outcome>
+    requires rising { Rises (entries_of_items items.now) }
+    requires inside { gone ≤ length items.now }
+    requires uncounted { (k : ℕ) → (⟦<Usage as Space>⟧.account usage.old).live k ≡ 0 }
+    requires ready { Ready C.kept C.given ⟦<Usage as Space>⟧.account cells.old usage.old }
+{
+    let root = built_without(cells, usage, items, gone)?;
+    let sparse = usage.sparse();
+    let (new, done) = evacuate(cells, usage, root);
+    let names = count(cells, new);
+    Some(Outcome {
+        sparse,
+        done,
+        names,
+    })
 }
 
 /// How many chunks have cells that count.
