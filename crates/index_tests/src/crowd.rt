@@ -1,6 +1,9 @@
 //! Passes in threads of their own, beside each other.
 ghost use Rattle.std.specs.Prelude.{◌≡◌, IsSome};
 ghost use Rattle.trie_read.specs.Readings.{IsHeld};
+ghost use Rattle.shared_cells.specs.Views.{pinned_image};
+ghost use Rattle.shared_index.specs.Passes.{version_seen};
+ghost use Rattle.shared_index.specs.Meanings.{Holds};
 
 use crate::steps::Any;
 use crate::worker::{Outcome, Worker, numbered, tag, walk};
@@ -72,12 +75,8 @@ fn commit_on<N: Named, R: Wait>(
 }
 
 /// Reads a snapshot until all commits are done, and once more. Whether it always was as at first.
-fn read_held<'i, N: Named>(
-    snapshot: Snapshot<'i, Any, N>,
-    first: &Item,
-    done: &AtomicU32,
-) -> bool
-    requires { IsHeld (⟦<Snapshot<'i, Any, N> as Reading>⟧.holds snapshot) }
+fn read_held<N: Named>(snapshot: Snapshot<'_, Any, N>, first: &Item, done: &AtomicU32) -> bool
+    requires { Holds (pinned_image snapshot.seat.place.me.0.progress) snapshot.seat.root (version_seen snapshot.seat.place.me.0.seen) }
 {
     let mut snapshot = snapshot;
     let key = first.key();
@@ -109,7 +108,7 @@ pub fn moved<N: Named + Send + Sync, R: Threads + Wait + Sync>(
         rt,
         || commit_on(rt, alloc, writer, &done),
         || -> bool
-            requires { IsHeld (⟦<Snapshot<Any, N> as Reading>⟧.holds snapshot) }
+            requires { Holds (pinned_image snapshot.seat.place.me.0.progress) snapshot.seat.root (version_seen snapshot.seat.place.me.0.seen) }
         { read_held(snapshot, first, &done) },
     );
     Ok(last? == 100 && right)

@@ -24,7 +24,8 @@ pub fn held<N: Named, R: Wait>(
     let key = first.key();
     let second = numbered(alloc, [b'a', b'a'], 2, 600)?;
     let mut snapshot = pass.hold(index);
-    let committed = matches!(writer.replace(rt, &second), Outcome::Committed(receipt) if receipt.version == 1);
+    let committed =
+        matches!(writer.replace(rt, &second), Outcome::Committed(receipt) if receipt.version == 1);
     let old = (snapshot.version(), tag(&mut snapshot, &key));
     let seen = writer.look(&key);
     let mut snapshot = snapshot.release().hold(index);
@@ -44,7 +45,8 @@ pub fn told<N: Named, R: Wait>(
         return Err(Fail::from("no passes"));
     };
     let second = numbered(alloc, [b'a', b'a'], 2, 600)?;
-    let committed = matches!(p.replace(rt, &second), Outcome::Committed(receipt) if receipt.version == 1);
+    let committed =
+        matches!(p.replace(rt, &second), Outcome::Committed(receipt) if receipt.version == 1);
     let learnt = q.learn_of(&mut p);
     Ok(committed && learnt && q.look(&first.key()) == (1, Some(2)))
 }
@@ -65,7 +67,9 @@ pub fn dropped<N: Named, R: Wait>(
             return Ok(false);
         }
     }
-    Ok(matches!(worker.replace(rt, &second), Outcome::Committed(receipt) if receipt.version == 1 && receipt.kept == 1))
+    Ok(
+        matches!(worker.replace(rt, &second), Outcome::Committed(receipt) if receipt.version == 1 && receipt.kept == 1),
+    )
 }
 
 /// An operation that finds no room leaves the working set as it was, and its transaction commits.
@@ -143,7 +147,8 @@ fn kept_beside<N: Named, R: Wait>(
     let mut query = reader.query(index);
     for number in 0..100 {
         let item = numbered(alloc, [b'a', b'a'], number + 2, 4096)?;
-        right = right && matches!(writer.replace(rt, &item), Outcome::Committed(receipt) if receipt.kept == 2);
+        right = right
+            && matches!(writer.replace(rt, &item), Outcome::Committed(receipt) if receipt.kept == 2);
     }
     Ok(right && query.version() == 0 && tag(&mut query, &first.key()) == Some(1))
 }
@@ -161,6 +166,8 @@ pub fn kept<N: Named, R: Wait>(
     };
     let beside = kept_beside(rt, alloc, &mut pass, index, &mut writer, first)?;
     let last = numbered(alloc, [b'a', b'a'], 200, 4096)?;
-    Ok(beside
-        && matches!(writer.replace(rt, &last), Outcome::Committed(receipt) if receipt.kept == 1))
+    Ok(
+        beside
+            && matches!(writer.replace(rt, &last), Outcome::Committed(receipt) if receipt.kept == 1),
+    )
 }
