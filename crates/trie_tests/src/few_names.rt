@@ -8,6 +8,8 @@ ghost use Rattle.trie_write.specs.Entries.{entries_of_items};
 ghost use Rattle.trie_write.specs.Spaces.{Ready};
 ghost use Rattle.trie_write.specs.Standing.{HasTrie};
 
+use crate::made::{item, items, octets};
+use crate::many_names::rise;
 use crate::room::unused_room;
 use chunk_cells::CellWrite;
 use chunk_usage::Space;
@@ -19,16 +21,15 @@ use trie_write::{InsertRefusal, Item, ItemRefusal, build, cells, insert, replace
 
 #[test]
 fn items_have_4096_octets_at_most(rt: HostRuntime) -> Result<(), Fail> {
-    let payload = [7; 4096];
-    let longest = Item::of(rt.alloc(), &Name::root(), &payload[1..])
+    let most = octets(rt.alloc(), 4095)?;
+    let longest = Item::of(rt.alloc(), &Name::root(), &most)
         .ok()
         .ok_or("no item")?;
     assert_eq!(rt; longest.octets().len(), 4096);
     assert_eq!(rt; longest.key().len(), 0);
-    assert!(rt;
-        Item::of(rt.alloc(), &Name::root(), &payload).err()
-            == Some(ItemRefusal::Long { bytes: 4097 })
-    );
+    let more = octets(rt.alloc(), 4096)?;
+    let refused = Item::of(rt.alloc(), &Name::root(), &more).err();
+    assert!(rt; refused == Some(ItemRefusal::Long { bytes: 4097 }));
     Ok(())
 }
 
@@ -75,11 +76,9 @@ fn sizes_with<C: CellWrite, U: Space>(
 #[test]
 fn a_name_is_put_beside_another(rt: HostRuntime) -> Result<(), Fail> {
     let (mut memory, mut usage) = unused_room(rt.alloc(), 16)?;
-    let name = Name::from_wire(b"\x07example\0").ok_or("no name")?;
-    let example = Item::of(rt.alloc(), &name, b"1").ok().ok_or("no item")?;
-    let name = Name::from_wire(b"\x02ns\x07example\0").ok_or("no name")?;
-    let beside = Item::of(rt.alloc(), &name, b"22222").ok().ok_or("no item")?;
-    let first = [example];
+    let first = items(rt.alloc(), "example.", b"1")?;
+    let beside = item(rt.alloc(), "ns.example.", b"22222")?;
+    assert!(rt; rise(&first));
     assert_eq!(rt; cells(&first), 2);
     let sizes = sizes_with(&mut memory, &mut usage, &first, &beside);
     assert_eq!(rt; sizes, Ok((2, 3)));
@@ -91,9 +90,10 @@ fn a_name_is_put_beside_another(rt: HostRuntime) -> Result<(), Fail> {
 #[test]
 fn a_name_is_put_in_once(rt: HostRuntime) -> Result<(), Fail> {
     let (mut memory, mut usage) = unused_room(rt.alloc(), 16)?;
-    let name = Name::from_wire(b"\x07example\0").ok_or("no name")?;
-    let first = [Item::of(rt.alloc(), &name, b"1").ok().ok_or("no item")?];
-    let sizes = sizes_with(&mut memory, &mut usage, &first, &first[0]);
+    let first = items(rt.alloc(), "example.", b"1")?;
+    let again = item(rt.alloc(), "example.", b"2")?;
+    assert!(rt; rise(&first));
+    let sizes = sizes_with(&mut memory, &mut usage, &first, &again);
     assert_eq!(rt; sizes, Err(InsertRefusal::Exists));
     assert_eq!(rt; usage.live(0), 2);
     Ok(())

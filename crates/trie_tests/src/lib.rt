@@ -8,6 +8,8 @@ mod items;
 #[cfg(test)]
 mod keys;
 #[cfg(test)]
+mod made;
+#[cfg(test)]
 mod many_names;
 #[cfg(test)]
 mod reading;

@@ -9,10 +9,10 @@ ghost use Rattle.trie_write.specs.Entries.{entries_of_items};
 ghost use Rattle.trie_write.specs.Spaces.{Ready, Fenced};
 ghost use Rattle.trie_write.specs.Standing.{HasTrie};
 
+use crate::made::{items, numbers};
 use crate::room::unused_room;
 use chunk_cells::{CellRead, CellWrite};
 use chunk_usage::{Full, Space};
-use dns_name::Name;
 use packed_node::Ref;
 use shift_key::Key;
 use std::alloc::Global;
@@ -117,70 +117,80 @@ fn change_each<C: CellWrite, U: Space>(
     Ok(root)
 }
 
-/// The root once items are inserted one by one, replaced by others of the same names and deleted again.
+/// Items that come, are replaced by others of the same names, and go, each with how many nodes there are after each of them.
+#[derive(Drop)]
+struct Rounds {
+    first: Vec<Item>,
+    grown: Vec<u64>,
+    second: Vec<Item>,
+    same: Vec<u64>,
+    last: Vec<Item>,
+    shrunk: Vec<u64>,
+}
+
+/// The root once they have come and gone.
 fn come_and_go<C: CellWrite, U: Space>(
     cells: &mut C,
     usage: &mut U,
-    first: &[Item],
-    second: &[Item],
-    last: &[Item],
-    grown: &[u64],
-    shrunk: &[u64],
+    rounds: &Rounds,
 ) -> Result<Option<Ref>, usize>
     requires uncounted { (k : ℕ) → (U.account usage.old).live k ≡ 0 }
     requires ready { Ready C.kept C.given U.account cells.old usage.old }
 {
-    let root = change_each(cells, usage, None, Change::Insert, first, grown)?;
-    let root = change_each(cells, usage, root, Change::Replace, second, &[24; 20])?;
-    change_each(cells, usage, root, Change::Delete, last, shrunk)
-}
-
-/// The items of names, with one payload.
-fn items_of(alloc: Global, names: &[&str], payload: &[u8]) -> Result<Vec<Item>, Fail> {
-    let mut items = Vec::new(alloc);
-    for text in names {
-        let name = Name::read(text.as_bytes(), &Name::root())
-            .ok()
-            .ok_or("no name")?;
-        items.push(Item::of(alloc, &name, payload).ok().ok_or("no item")?)?;
-    }
-    Ok(items)
+    let root = change_each(
+        cells,
+        usage,
+        None,
+        Change::Insert,
+        &rounds.first,
+        &rounds.grown,
+    )?;
+    let root = change_each(
+        cells,
+        usage,
+        root,
+        Change::Replace,
+        &rounds.second,
+        &rounds.same,
+    )?;
+    change_each(
+        cells,
+        usage,
+        root,
+        Change::Delete,
+        &rounds.last,
+        &rounds.shrunk,
+    )
 }
 
 /// Twenty names, in the order of their keys.
-fn rising_names() -> [&'static str; 20] {
-    [
-        "a.", "a.a.", "b.a.", "c.a.", "b.", "bb.", "bc.", "c.", "x.c.", "y.c.", "d.", "e.", "f.",
-        "g.", "h.", "i.", "j.", "k.", "l.", "m.",
-    ]
+const RISING: &str = "a. a.a. b.a. c.a. b. bb. bc. c. x.c. y.c. d. e. f. g. h. i. j. k. l. m.";
+
+/// The same in another order.
+const MIXED: &str = "a. c. h. a.a. x.c. i. b.a. y.c. j. c.a. d. k. b. e. l. bb. f. m. bc. g.";
+
+fn twenty_names(alloc: Global) -> Result<Rounds, Fail> {
+    Ok(Rounds {
+        first: items(alloc, RISING, b"1")?,
+        grown: numbers(
+            alloc,
+            "1 3 4 5 7 9 10 11 13 14 15 16 17 18 19 20 21 22 23 24",
+        )?,
+        second: items(alloc, RISING, b"a longer payload than before")?,
+        same: numbers(
+            alloc,
+            "24 24 24 24 24 24 24 24 24 24 24 24 24 24 24 24 24 24 24 24",
+        )?,
+        last: items(alloc, MIXED, b"")?,
+        shrunk: numbers(alloc, "23 22 21 20 18 17 15 14 13 12 11 10 9 8 7 5 4 3 1 0")?,
+    })
 }
 
 #[test]
 fn twenty_names_come_and_go(rt: HostRuntime) -> Result<(), Fail> {
     let (mut memory, mut usage) = unused_room(rt.alloc(), 16)?;
-    let rising = rising_names();
-    let first = items_of(rt.alloc(), &rising, b"1")?;
-    let second = items_of(rt.alloc(), &rising, b"a longer payload than before")?;
-    let mixed = [
-        "a.", "c.", "h.", "a.a.", "x.c.", "i.", "b.a.", "y.c.", "j.", "c.a.", "d.", "k.", "b.",
-        "e.", "l.", "bb.", "f.", "m.", "bc.", "g.",
-    ];
-    let last = items_of(rt.alloc(), &mixed, b"")?;
-    let grown = [
-        1, 3, 4, 5, 7, 9, 10, 11, 13, 14, 15, 16, 17, 18, 19, 20, 21, 22, 23, 24,
-    ];
-    let shrunk = [
-        23, 22, 21, 20, 18, 17, 15, 14, 13, 12, 11, 10, 9, 8, 7, 5, 4, 3, 1, 0,
-    ];
-    let root = come_and_go(
-        &mut memory,
-        &mut usage,
-        &first,
-        &second,
-        &last,
-        &grown,
-        &shrunk,
-    );
+    let rounds = twenty_names(rt.alloc())?;
+    let root = come_and_go(&mut memory, &mut usage, &rounds);
     assert_eq!(rt; root, Ok(None));
     Ok(())
 }
@@ -196,7 +206,7 @@ fn comes_before(key: &Key, other: &Key) -> bool
 }
 
 /// Whether items rise by their keys.
-fn rise(items: &[Item]) -> bool
+pub fn rise(items: &[Item]) -> bool
     ensures { IsTrue result → Rises (entries_of_items items.now) }
 {
     if items.len() < 2 {
@@ -226,7 +236,7 @@ fn sizes<C: CellWrite, U: Space>(
 #[test]
 fn twenty_names_are_built(rt: HostRuntime) -> Result<(), Fail> {
     let (mut memory, mut usage) = unused_room(rt.alloc(), 16)?;
-    let items = items_of(rt.alloc(), &rising_names(), b"1")?;
+    let items = items(rt.alloc(), RISING, b"1")?;
     assert!(rt; rise(&items));
     let sizes = sizes(&mut memory, &mut usage, &items);
     assert_eq!(rt; sizes, Ok((20, 24)));
