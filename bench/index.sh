@@ -284,10 +284,9 @@ for work in get:present get:absent lookup:present lookup:absent lookup:beside lo
     printf '%s, names %s: %s instructions\n' "${work%:*}" "$kind" $(((whole - $(cat "$folder/$kind.open")) / asked))
 done
 
-# opening an index with names in order, beside finding out that they are; its memory is counted too
-python3 -c 'import sys; print("example."); print("".join(host + ".example.\n" for host in sorted(f"n{i}" for i in range(int(sys.argv[1])))) + "ns.example.")' "$names" >"$folder/sorted"
-ordered=$(counted rise "$folder/sorted")
-printf 'open, a name: %s instructions\n' $((($(counted build "$folder/sorted") - ordered) / names))
-# of that, what is in build and in cells, as the profile says
-valgrind --tool=callgrind --callgrind-out-file="$folder/profile" "$program/out/index" build <"$folder/sorted" >/dev/null 2>&1
-callgrind_annotate --inclusive=yes "$folder/profile" | grep -E "build_front|count_front" | grep -v "'2"
+# opening an index with names in order: finding out that they are is taken off, and what opening one of two names takes, for the memory is counted too
+opened() {
+    python3 -c 'import sys; print("example."); print("".join(host + ".example.\n" for host in sorted(f"n{i}" for i in range(int(sys.argv[1])))) + "ns.example.")' "$1" >"$folder/sorted"
+    echo $(($(counted build "$folder/sorted") - $(counted rise "$folder/sorted")))
+}
+printf 'open, a name: %s instructions\n' $((($(opened "$names") - $(opened 0)) / names))

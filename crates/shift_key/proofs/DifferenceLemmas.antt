@@ -1,19 +1,19 @@
 -- A key compared with another's positions as they come.
-use Rattle.std.proofs.Common.{◌≡◌, ◌≢◌, ℕ, zero, suc, ◌+◌, ◌-◌, ◌<◌, ◌≤◌, List, [], ◌∷◌, ◌++◌, length, take, drop, get_or, sym, ap, ◌∙◌, refl, subst, arith, append_assoc, append-nil, length-append, inl, inr, Result, Ok, Err}
+use Rattle.std.proofs.Common.{◌≡◌, ℕ, zero, suc, ◌+◌, ◌<◌, ◌≤◌, List, [], ◌∷◌, ◌++◌, length, take, drop, get_or, sym, ap, ◌∙◌, refl, subst, arith, append_assoc, length-append, inl, inr, Result}
 use Rattle.std.proofs.lemmas.Bool.{cases_lt}
 use Rattle.std.proofs.lemmas.List.{take_at, drop_at, take_more, take_all, get_or_append_left, get_or_past}
 use Rattle.std.proofs.Math.Seq.{get_or-append_seam}
 use Rattle.std.specs.List.{AllByRecursion, flat_map}
 use Rattle.zone_model.specs.Names.{Label, Name, wire, IsName, IsLabel, BeginsWith}
-use Rattle.zone_model.specs.Keys.{octet_positions, label_positions, key_of, IsKey, IsFirstDifference}
+use Rattle.zone_model.specs.Keys.{octet_positions, label_positions, key_of, IsFirstDifference}
 use Rattle.zone_model.proofs.KeyLaws.{key_of-cons, length-key_of}
 use Rattle.dns_name.proofs.BodyLemmas.{wire_positive}
-use Rattle.dns_name.proofs.ScanLemmas.{front_label, begins_once}
+use Rattle.dns_name.proofs.ScanLemmas.{front_label}
 use Rattle.dns_name.proofs.WireLemmas.{name_rest}
 use Rattle.shift_key.specs.declared.difference.Difference.{Difference}
-use Rattle.shift_key.specs.Differences.{Agrees, DiffersAt, Compares, IsDifference}
+use Rattle.shift_key.specs.Differences.{Agrees, DiffersAt, Compares}
 use Rattle.shift_key.specs.Shape.{KeyShape}
-use Rattle.shift_key.proofs.PositionLemmas.{octets-push, one_position, two_positions}
+use Rattle.shift_key.proofs.PositionLemmas.{octets-push}
 use Rattle.shift_key.proofs.PlaceLemmas.{same_keys, all_places}
 use Rattle.shift_key.proofs.ShapeLemmas.{key_shape}
 

@@ -1,5 +1,5 @@
 -- Where a key first differs from another, whose positions come one after another.
-use Rattle.std.specs.Prelude.{◌≡◌, ◌≢◌, ℕ, ◌<◌, List, length, slice_index, Option, Some, None, Result, Ok, Err}
+use Rattle.std.specs.Prelude.{◌≡◌, ℕ, ◌<◌, List, length, slice_index, Option, Some, None, Result, Ok, Err}
 use Rattle.zone_model.specs.Keys.{IsFirstDifference}
 use Rattle.shift_key.specs.declared.difference.Difference.{Difference}
 

@@ -1,5 +1,4 @@
-use Rattle.std.proofs.Common.{length, ap, arith}
-use Rattle.zone_model.specs.Keys.{key_of}
+use Rattle.std.proofs.Common.{arith}
 use Rattle.zone_model.proofs.KeyLaws.{length-key_of}
 use Rattle.shift_key.proofs.Key.at.Goals as goal
 

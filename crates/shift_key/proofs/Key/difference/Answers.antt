@@ -1,5 +1,4 @@
-use Rattle.std.proofs.Common.{ℕ, List, take, subst, ◌∙◌, arith}
-use Rattle.zone_model.specs.Names.{Name, IsName, BeginsWith}
+use Rattle.std.proofs.Common.{ℕ, List, subst, ◌∙◌, arith}
 use Rattle.zone_model.specs.Keys.{key_of}
 use Rattle.zone_model.proofs.KeyLaws.{length-key_of}
 use Rattle.shift_key.specs.Differences.{Agrees}

@@ -1,4 +1,4 @@
-use Rattle.std.proofs.Common.{ℕ, List, refl}
+use Rattle.std.proofs.Common.{refl}
 use Rattle.shift_key.proofs.PlaceLemmas.{agree_whole}
 use Rattle.shift_key.proofs.Key.first_difference.Goals as goal
 

@@ -2,7 +2,7 @@ use Rattle.std.proofs.Common.{[], ◌∷◌, arith, length-append}
 use Rattle.std.specs.List.{flat_map}
 use Rattle.zone_model.specs.Keys.{octet_positions}
 use Rattle.shift_key.proofs.EncodeLemmas.{part_fits}
-use Rattle.shift_key.proofs.DifferenceLemmas.{octet_step, octet_differs, label_ends}
+use Rattle.shift_key.proofs.DifferenceLemmas.{octet_differs}
 use Rattle.shift_key.proofs.difference.compare_label.Goals as goal
 
 pub compare_octet-requires : goal.compare_octet-requires

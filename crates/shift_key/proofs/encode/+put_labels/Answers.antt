@@ -1,7 +1,6 @@
-use Rattle.std.proofs.Common.{arith, ◌<◌, length, sym, ap, subst, List, ℕ, ◌++◌}
+use Rattle.std.proofs.Common.{arith, ◌<◌, length}
 use Rattle.dns_name.proofs.WireLemmas.{stepped, shorter}
-use Rattle.shift_key.specs.Laid.{IsFront}
-use Rattle.shift_key.proofs.EncodeLemmas.{needs, longer}
+use Rattle.shift_key.proofs.EncodeLemmas.{needs}
 use Rattle.shift_key.proofs.encode.+put_labels.Goals as goal
 
 pub put_labels-at-requires : goal.put_labels-at-requires

@@ -1,4 +1,4 @@
-use Rattle.shift_key.proofs.EncodeLemmas.{octet_fits, octet_more, end_fits, label_end}
+use Rattle.shift_key.proofs.EncodeLemmas.{octet_fits}
 use Rattle.shift_key.proofs.encode.put_label.Goals as goal
 
 pub put_octet-at-requires : goal.put_octet-at-requires

@@ -1,4 +1,4 @@
-use Rattle.std.proofs.Common.{◌≡◌, ◌+◌, ◌-◌, ◌<◌, ℕ, length, ap, sym, subst, ◌∙◌, arith, rules}
+use Rattle.std.proofs.Common.{◌+◌, ◌-◌, ◌<◌, ℕ, length, ap, sym, subst, ◌∙◌, arith, rules}
 use Rattle.zone_model.specs.Keys.{key_of}
 use Rattle.zone_model.proofs.KeyLaws.{length-key_of}
 use Rattle.shift_key.specs.Partings.{NamesDiffer}

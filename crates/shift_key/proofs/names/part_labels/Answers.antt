@@ -1,4 +1,4 @@
-use Rattle.std.proofs.Common.{◌≡◌, ◌+◌, ◌<◌, ◌≤◌, ◌++◌, [], ◌∷◌, ℕ, length, take, get_or, ap, sym, subst, ◌∙◌, arith, Fits-lit, length-append}
+use Rattle.std.proofs.Common.{◌≡◌, ◌++◌, [], ◌∷◌, ℕ, length, ap, sym, subst, ◌∙◌, arith, Fits-lit, length-append}
 use Rattle.std.proofs.Math.Facts.{Fits-lt}
 use Rattle.std.specs.List.{flat_map}
 use Rattle.zone_model.specs.Keys.{octet_positions, label_positions}

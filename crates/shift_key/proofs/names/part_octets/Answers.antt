@@ -1,7 +1,7 @@
-use Rattle.std.proofs.Common.{◌≡◌, ◌+◌, ◌++◌, ℕ, arith, ap, ap₂, sym, subst, ◌∙◌}
+use Rattle.std.proofs.Common.{◌≡◌, ◌+◌, ◌++◌, arith, ap₂, sym, subst, ◌∙◌}
 use Rattle.zone_model.specs.Keys.{octet_positions, first_position}
 use Rattle.shift_key.specs.Partings.{PartInside}
-use Rattle.shift_key.proofs.PartingLemmas.{first_parts, second_parts, at_place}
+use Rattle.shift_key.proofs.PartingLemmas.{second_parts, at_place}
 use Rattle.shift_key.proofs.names.part_octets.Goals as goal
 
 pub returns : goal.returns
