@@ -9,7 +9,7 @@ use chunk_usage::{Full, Grant, Space, Usage};
 use packed_node::Ref;
 use std::test::Fail;
 
-/// Whether the cells of these chunks are handed out in fours of 256, the first of which comes with the chunk.
+/// Whether the cells of these chunks, of 16, are handed out in fours of 256, the first of which comes with the chunk.
 fn fills(usage: &mut Usage, from: u32, to: u32, reserve: bool) -> bool {
     for at in from..to.min(16) {
         for quarter in 0..4 {
