@@ -13,16 +13,17 @@ use job_script::{Outcome, Question, Reply, Told};
 use qp_multi::Index;
 use std::alloc::{AllocError, Global};
 use trie_read::Reading;
-use zone_answer::answer_by;
+use zone_answer::{Walker, answer_with};
 use zone_names::{back, find, walk};
 
-// What a version replies to a question, by way of a buffer that items are read into.
+// What a version replies to a question, by way of a buffer that items are read into and of a walker.
 fn reply<V: Reading>(
     alloc: Global,
     origin: &Name,
     version: &mut V,
     question: &Question,
     item: &mut [u8; 4096],
+    walker: &mut Walker,
 ) -> Result<Reply, AllocError>
     requires { ShowsSome (V.holds version.old) }
     ensures same { version.new ≡ version.old }
@@ -31,7 +32,7 @@ fn reply<V: Reading>(
 {
     match question {
         Question::Get(name, rtype) => {
-            let answer = answer_by(alloc, version, origin, name, *rtype, item)?;
+            let answer = answer_with(alloc, version, origin, name, *rtype, item, walker)?;
             Ok(Reply::Get(answer))
         }
         Question::Find(name) => {
@@ -60,13 +61,14 @@ pub fn current_reply(
     index: &Index,
     question: &Question,
     item: &mut [u8; 4096],
+    walker: &mut Walker,
 ) -> Result<Reply, AllocError>
     requires { KeepsSome index.now }
     ensures { (version : Version) (last chunks : ℕ) → Keeps index.now version last chunks
         → IfOk result (λ r. reply_view r ≡ reply_of origin.now version (question_view question.now)) }
 {
     let mut query = index.query();
-    reply(alloc, origin, &mut query, question, item)
+    reply(alloc, origin, &mut query, question, item, walker)
 }
 
 /// Asks the current version.
@@ -76,12 +78,13 @@ pub fn run_question(
     index: &Index,
     question: &Question,
     item: &mut [u8; 4096],
+    walker: &mut Walker,
 ) -> Result<Outcome, AllocError>
     requires { KeepsSome index.now }
     ensures { (version : Version) (last chunks : ℕ) → Keeps index.now version last chunks
         → IfOk result (λ o. (o.version ≡ last) × Replies (reply_of origin.now version (question_view question.now)) o.told) }
 {
-    let reply = current_reply(alloc, origin, index, question, item)?;
+    let reply = current_reply(alloc, origin, index, question, item, walker)?;
     Ok(Outcome {
         version: index.query().version(),
         told: Told::Reply(reply),

@@ -14,6 +14,7 @@ use job_script::{Command, Outcome, Reply, Told};
 use qp_multi::Index;
 use std::alloc::{AllocError, Global};
 use std::collections::VecDeque;
+use zone_answer::Walker;
 
 /// A snapshot: its version, and the replies to what it will be asked, in order.
 #[derive(Drop)]
@@ -30,6 +31,7 @@ fn take_reply(
     command: &Command,
     ahead: &mut VecDeque<Reply>,
     item: &mut [u8; 4096],
+    walker: &mut Walker,
 ) -> Result<bool, AllocError>
     requires { KeepsSome index.now }
     ensures { (version : Version) (last chunks : ℕ) → Keeps index.now version last chunks
@@ -37,7 +39,7 @@ fn take_reply(
 {
     match command {
         Command::AskHeld(question) => {
-            ahead.push_back(current_reply(alloc, origin, index, question, item)?)?;
+            ahead.push_back(current_reply(alloc, origin, index, question, item, walker)?)?;
             Ok(true)
         }
         Command::Release => Ok(false),
@@ -52,6 +54,7 @@ fn replies_ahead(
     index: &Index,
     behind: &[Command],
     item: &mut [u8; 4096],
+    walker: &mut Walker,
 ) -> Result<VecDeque<Reply>, AllocError>
     requires { KeepsSome index.now }
     ensures { (version : Version) (last chunks : ℕ) → Keeps index.now version last chunks
@@ -59,7 +62,7 @@ fn replies_ahead(
 {
     let mut ahead = VecDeque::new(alloc);
     for command in behind {
-        if !take_reply(alloc, origin, index, command, &mut ahead, item)? {
+        if !take_reply(alloc, origin, index, command, &mut ahead, item, walker)? {
             return Ok(ahead);
         }
     }
@@ -73,12 +76,13 @@ pub fn hold(
     index: &Index,
     behind: &[Command],
     item: &mut [u8; 4096],
+    walker: &mut Walker,
 ) -> Result<Snapshot, AllocError>
     requires { KeepsSome index.now }
     ensures { (version : Version) (last chunks : ℕ) → Keeps index.now version last chunks
         → IfOk result (λ s. HoldsAt origin.now version last (held_questions (map command_view behind.now)) s) }
 {
-    let ahead = replies_ahead(alloc, origin, index, behind, item)?;
+    let ahead = replies_ahead(alloc, origin, index, behind, item, walker)?;
     Ok(Snapshot {
         version: index.query().version(),
         ahead,

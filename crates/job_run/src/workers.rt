@@ -16,9 +16,10 @@ use dns_name::Name;
 use job_script::{Command, Job, Outcome, Outcomes, Told, Worker};
 use qp_multi::Index;
 use std::alloc::{AllocError, Global};
+use zone_answer::Walker;
 use zone_change::ItemBuffers;
 
-// Runs one command, by way of buffers for items. Those behind it tell what a snapshot will be asked.
+// Runs one command, by way of buffers for items and of a walker. Those behind it tell what a snapshot will be asked.
 fn run_command(
     alloc: Global,
     origin: &Name,
@@ -27,6 +28,7 @@ fn run_command(
     command: &Command,
     behind: &[Command],
     buffers: &mut ItemBuffers,
+    walker: &mut Walker,
 ) -> Result<Outcome, AllocError>
     requires some { KeepsSome index.old }
     requires ready { IsReady held.old (command_view command.now) }
@@ -35,11 +37,18 @@ fn run_command(
 {
     match command {
         Command::Ask(question) => {
-            let outcome = run_question(alloc, origin, index, question, &mut buffers.before)?;
+            let outcome = run_question(
+                alloc,
+                origin,
+                index,
+                question,
+                &mut buffers.before,
+                walker,
+            )?;
             Ok(outcome)
         }
         Command::Hold => {
-            let snapshot = hold(alloc, origin, index, behind, &mut buffers.before)?;
+            let snapshot = hold(alloc, origin, index, behind, &mut buffers.before, walker)?;
             let version = snapshot.version;
             *held = Some(snapshot);
             Ok(Outcome {
@@ -76,6 +85,7 @@ fn run_worker<G: Gate>(
         → IfOk result (λ os. WorkerRan chunks origin.now before (map command_view commands.now) os.list.items index.new) }
 {
     let mut buffers = ItemBuffers::new();
+    let mut walker = Walker::new();
     let mut held = None;
     let mut list = Vec::with_capacity(alloc, commands.len())?;
     for (place, command) in commands.iter().enumerate() {
@@ -89,6 +99,7 @@ fn run_worker<G: Gate>(
             command,
             behind,
             &mut buffers,
+            &mut walker,
         )?;
         gate.after(number, counted(place));
         list.push(outcome)?;

@@ -71,6 +71,10 @@ impl Reading for Query<'_> {
         self.reading.iter()
     }
 
+    fn restart(&mut self, iter: &mut Iter) {
+        self.reading.restart(iter);
+    }
+
     fn seek(&mut self, iter: &mut Iter, key: &Key) {
         self.reading.seek(iter, key);
     }
