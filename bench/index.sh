@@ -1,6 +1,7 @@
 #!/usr/bin/env bash
-# Counts the instructions of the index's calls, for each name: builds bench/index.rattle in a copy of the crates that it needs, which takes some minutes the
-# first time, and runs it with valgrind's callgrind on 100,000 names. Usage: bench/index.sh [NAMES]. Changes nothing but files in a temporary folder.
+# Counts the instructions of the index's calls, for each name: builds bench/index.rattle in a copy of the crates that it
+# needs, which takes some minutes the first time, and runs it with valgrind's callgrind on 100,000 names.
+# Usage: bench/index.sh [NAMES]. Changes nothing but files in a temporary folder.
 set -eu
 here=$(cd "$(dirname "$0")" && pwd)
 names=${1:-100000}

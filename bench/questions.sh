@@ -1,7 +1,8 @@
 #!/usr/bin/env bash
-# Counts the instructions of a question, and of a transaction of one addition, with valgrind's callgrind: the difference between 10,000
-# of them and one question, with reading the lines and printing the outcome. Usage: bench/questions.sh [RECORDS [PROGRAM]] (100,000 records); build the program first, as the
-# README says. It takes minutes, and changes nothing but files of its own in a temporary folder.
+# Counts the instructions of a question, and of a transaction of one addition, with valgrind's callgrind: the difference
+# between 10,000 of them and one question, with reading the lines and printing the outcome.
+# Usage: bench/questions.sh [RECORDS [PROGRAM]] (100,000 records); build the program first, as the README says. It takes
+# minutes, and changes nothing but files of its own in a temporary folder.
 set -eu
 here=$(cd "$(dirname "$0")" && pwd)
 records=${1:-100000}
