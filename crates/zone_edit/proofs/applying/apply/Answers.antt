@@ -8,6 +8,7 @@ use Rattle.job_script.specs.Views.{operation_view}
 use Rattle.zone_change.proofs.ApplyLaws.{owned_short, changed_short, accepted, refused}
 use Rattle.zone_edit.specs.Stores.{WorksOn, Reads, Stores}
 use Rattle.zone_edit.specs.Blocks.{Applies}
+use Rattle.zone_edit.specs.declared.applying.Stopped.TheVariants as stops
 use Rattle.zone_edit.proofs.EditLaws.{edits_as, edits_on, read_some, owns_after}
 use Rattle.zone_edit.proofs.applying.apply.Goals as goal
 
@@ -51,7 +52,7 @@ returns-in-Ok-clause-applies g c =
 
 pub returns-clause-applies : goal.returns-clause-applies
 returns-clause-applies g c =
-    edits_on (Reads c.owner-owner.result.now c.read_owned-len.new.item c.read_owned-len.result) (Stores c.owner-owner.result.now c.in_ok-before.before c.in_ok-entry.entry _) (Applies c.args.origin.now (operation_view c.args.operation.now) _)
+    edits_on (Reads c.owner-owner.result.now c.read_owned-len.new.item c.read_owned-len.result) (Stores c.owner-owner.result.now c.in_ok-before.before c.in_ok-entry.entry (Err c.in-Err.kept)) (Applies c.args.origin.now (operation_view c.args.operation.now) (Err (stops.Full c.in-Err.kept)))
     c.args.transaction.now.locked.now.draft c.read_owned-len.new.transaction.locked.now.draft c.store.new.transaction.locked.now.draft
     (λ version e f r.
       let before_is : c.in_ok-before.before ≡ owned c.owner-owner.result.now version = c.in_ok-before.ensures (owned c.owner-owner.result.now version) r.read.says in

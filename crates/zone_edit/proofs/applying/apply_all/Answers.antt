@@ -55,25 +55,26 @@ returns-in-Err-Memory-clause-applies g c =
 pub returns-in-Err-Refused-clause-applies : goal.returns-in-Err-Refused-clause-applies
 returns-in-Err-Refused-clause-applies g c =
     let all = all_around operation_view c.args.operations.now c.loop-index.index c.index-operations-index.result c.loop-index-test.true c.index-operations-index.is in
-    edits_on (SoFar c.args.origin.now c.args.operations.now c.loop-index.index) (Applies c.args.origin.now (operation_view c.index-operations-index.result) (Err c.in-Err-Refused.field-0)) (AppliesAll c.args.origin.now (map operation_view c.args.operations.now) _)
+    subst (λ (r : Refusal). Edits (AppliesAll c.args.origin.now (map operation_view c.args.operations.now) (Err (halts.Refused r))) c.args.transaction.now.locked.now.draft c.apply.new.transaction.locked.now.draft) (sym c.in-Err-Refused.refusal-is)
+    (edits_on (SoFar c.args.origin.now c.args.operations.now c.loop-index.index) (Applies c.args.origin.now (operation_view c.index-operations-index.result) (Err c.in-Err-Refused.field-0)) (AppliesAll c.args.origin.now (map operation_view c.args.operations.now) (Err (halts.Refused c.in-Err-Refused.refusal)))
     c.args.transaction.now.locked.now.draft c.loop-index.transaction.locked.now.draft c.apply.new.transaction.locked.now.draft
     (λ version e f x. (x.0, x.2, λ y.
       let step = subst (λ (s : Stopped). Applies c.args.origin.now (operation_view c.index-operations-index.result) (Err s) x.0 f) c.in-Err-Refused.field-0-is y in
-      subst (λ (r : Refusal). whole c.args.origin.now (map operation_view c.args.operations.now) version ≡ Err r) (sym c.in-Err-Refused.refusal-is)
-      (ap (λ (l : List Operation). whole c.args.origin.now l version) all
-      ∙ refused_whole c.args.origin.now (map operation_view (take c.loop-index.index c.args.operations.now)) (map operation_view (drop (c.loop-index.index + 1) c.args.operations.now)) (operation_view c.index-operations-index.result) version x.0 c.in-Err-Refused.refusal x.1 step)))
-    c.loop-index.invariant.so_far c.in-Err-Refused.ensures.applies
+      ap (λ (l : List Operation). whole c.args.origin.now l version) all
+      ∙ refused_whole c.args.origin.now (map operation_view (take c.loop-index.index c.args.operations.now)) (map operation_view (drop (c.loop-index.index + 1) c.args.operations.now)) (operation_view c.index-operations-index.result) version x.0 c.in-Err-Refused.refusal x.1 step))
+    c.loop-index.invariant.so_far c.in-Err-Refused.ensures.applies)
 
 pub returns-in-Err-Full-clause-applies : goal.returns-in-Err-Full-clause-applies
 returns-in-Err-Full-clause-applies g c =
     let lt = c.loop-index-test.true in
     let le : c.loop-index.index ≤ length c.args.operations.now = omega arith in
     let long = length-map (take c.loop-index.index c.args.operations.now) operation_view ∙ length-take-le c.loop-index.index c.args.operations.now le in
-    edits_on (SoFar c.args.origin.now c.args.operations.now c.loop-index.index) (Applies c.args.origin.now (operation_view c.index-operations-index.result) (Err c.in-Err-Full.field-0)) (AppliesAll c.args.origin.now (map operation_view c.args.operations.now) _)
+    subst (λ (k : Versions). Edits (AppliesAll c.args.origin.now (map operation_view c.args.operations.now) (Err (halts.Full (c.loop-index.index + 1) k))) c.args.transaction.now.locked.now.draft c.apply.new.transaction.locked.now.draft) (sym c.in-Err-Full.kept-is)
+    (edits_on (SoFar c.args.origin.now c.args.operations.now c.loop-index.index) (Applies c.args.origin.now (operation_view c.index-operations-index.result) (Err c.in-Err-Full.field-0)) (AppliesAll c.args.origin.now (map operation_view c.args.operations.now) (Err (halts.Full (c.loop-index.index + 1) c.in-Err-Full.kept)))
     c.args.transaction.now.locked.now.draft c.loop-index.transaction.locked.now.draft c.apply.new.transaction.locked.now.draft
     (λ version e f x. (x.0, x.2, λ y.
       let step = subst (λ (s : Stopped). Applies c.args.origin.now (operation_view c.index-operations-index.result) (Err s) x.0 f) c.in-Err-Full.field-0-is y in
-      subst (λ (k : Versions). IsFullAt f c.args.origin.now (map operation_view c.args.operations.now) version (c.loop-index.index + 1) k) (sym c.in-Err-Full.kept-is) (record {
+      record {
         front = map operation_view (take c.loop-index.index c.args.operations.now);
         refused = operation_view c.index-operations-index.result;
         back = map operation_view (drop (c.loop-index.index + 1) c.args.operations.now);
@@ -85,8 +86,8 @@ returns-in-Err-Full-clause-applies g c =
         accepted = step.1;
         changes = step.2;
         full = step.3;
-      })))
-    c.loop-index.invariant.so_far c.in-Err-Full.ensures.applies
+      }))
+    c.loop-index.invariant.so_far c.in-Err-Full.ensures.applies)
 
 pub returns-clause-applies : goal.returns-clause-applies
 returns-clause-applies g c =
