@@ -34,7 +34,7 @@ some_of : {A : Type 0} (P : A → Type 0) (xs : List A) (x : A) → Contains xs 
 some_of P [] x c p = absurd (let l = c.1 in omega arith)
 some_of P (y ∷ ys) x c p = ⊎_elim (λ e. inl (subst P (sym e) p)) (λ more. inr (some_of P ys x more p)) (contains_cases y x ys c)
 
-in_map : {A B : Type 0} (f : A → B) (xs : List A) (x : A) → Contains xs x → Contains (map f xs) (f x)
+pub in_map : {A B : Type 0} (f : A → B) (xs : List A) (x : A) → Contains xs x → Contains (map f xs) (f x)
 in_map f [] x c = absurd (let l = c.1 in omega arith)
 in_map f (y ∷ ys) x c = ⊎_elim (λ (e : y ≡ x). subst (λ z. Contains (f y ∷ map f ys) (f z)) e (here (f y) (map f ys))) (λ more. there (f y) (f x) (map f ys) (in_map f ys x more)) (contains_cases y x ys c)
 

@@ -1,5 +1,5 @@
 -- Workers that are done, one after another.
-use Rattle.std.proofs.Common.{◌≡◌, ◌∙◌, ◌⊎◌, inl, inr, ⊎_elim, ℕ, List, [], ◌∷◌, ◌++◌, length, map, Option, Some, refl, sym, ap, subst, arith}
+use Rattle.std.proofs.Common.{true, ◌≡◌, ◌∙◌, ◌⊎◌, inl, inr, ⊎_elim, ℕ, List, [], ◌∷◌, ◌++◌, length, map, Option, Some, refl, sym, ap, subst, arith}
 use Rattle.std.specs.Prelude.{Contains}
 use Rattle.std.specs.List.{AllByRecursion}
 use Rattle.std.proofs.lemmas.List.{map-append}
@@ -8,12 +8,12 @@ use Rattle.pin_core.proofs.Lists.{contains_cases}
 use Rattle.job_model.specs.Commands.{Command}
 use Rattle.job_script.specs.declared.outcomes.Outcomes.{Outcomes}
 use Rattle.shared_cells.specs.History.{StartsWith}
-use Rattle.shared_cells.specs.Views.{number_of}
+use Rattle.shared_cells.specs.Views.{number_of, is_told}
 use Rattle.shared_index.specs.Passes.{Known, Learnt}
 use Rattle.job_threads.specs.Histories.{Setup}
 use Rattle.job_threads.specs.Works.{IsNew, Numbers, WorkerRan, ended}
 use Rattle.job_threads.specs.Closings.{Worker, workers_views, views_of, numbers_in, commands_in, outcomes_in, Gathers}
-use Rattle.job_threads.proofs.HistoryLaws.{begins_more}
+use Rattle.job_threads.proofs.HistoryLaws.{begins_more, opened_same}
 use Rattle.job_threads.proofs.JobLaws.{here, there}
 use Rattle.job_threads.proofs.WorkLaws.{all_weaker}
 
@@ -29,6 +29,7 @@ gathers_none s main number new = record {
   is_own = new.is_own;
   none = new.none;
   unpinned = new.unpinned;
+  opened = new.opened;
   learnt = tt;
 }
 
@@ -37,9 +38,9 @@ numbers_append xs ys = map-append (λ (v : Known). number_of v.pass) xs ys
 
 -- another worker, whose passes were the last two
 pub gathers_more : (s : Setup) (before : List Known) (spare asks : Known) (ws : List (List Command)) (os : List Outcomes) (views : List Known) (main after spare' asks' : Known) (n : Numbers) (w : List Command) (o : Outcomes)
-    → Gathers s before ws os views main → WorkerRan s n (ended asks' spare') w o.list.items → number_of asks.pass ≡ number_of asks'.pass → number_of spare.pass ≡ number_of spare'.pass → Learnt main after asks'.seen
+    → Gathers s before ws os views main → WorkerRan s n (ended asks' spare') w o.list.items → number_of asks.pass ≡ number_of asks'.pass → number_of spare.pass ≡ number_of spare'.pass → is_told main.seen.opening ≡ true → Learnt main after asks'.seen
     → Gathers s (before ++ spare ∷ asks ∷ []) (w ∷ ws) (o ∷ os) (asks' ∷ spare' ∷ views) after
-gathers_more s before spare asks ws os views main after spare' asks' n w o g r same_asks same_spare l =
+gathers_more s before spare asks ws os views main after spare' asks' n w o g r same_asks same_spare told l =
     record {
       done = record { numbers = n; station = ended asks' spare'; commands = w; outcomes = o; ran = r } ∷ g.done;
       commands_are = ap (λ (ls : List (List Command)). w ∷ ls) g.commands_are;
@@ -62,6 +63,7 @@ gathers_more s before spare asks ws os views main after spare' asks' n w o g r s
       is_own = l.pass ∙ g.is_own;
       none = g.none;
       unpinned = g.unpinned;
+      opened = opened_same after.seen main.seen told l.grows ∙ g.opened;
       learnt = (
         l.learns.history,
         all_weaker (λ (u : Worker s). StartsWith main.seen.history u.station.asks.seen.history) (λ (u : Worker s). StartsWith after.seen.history u.station.asks.seen.history) g.done

@@ -8,3 +8,4 @@ pub mod CloseLaws
 pub mod TransactLaws
 pub mod BlockLaws
 pub mod GatherLaws
+pub mod EndLaws

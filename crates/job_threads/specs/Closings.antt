@@ -8,7 +8,7 @@ use Rattle.shared_cells.specs.declared.view.PassView.{PassView}
 use Rattle.shared_cells.specs.History.{StartsWith, entries_by}
 use Rattle.shared_cells.specs.Views.{number_of}
 use Rattle.shared_index.specs.declared.meaning.Operation.{Operation}
-use Rattle.shared_index.specs.Passes.{Known}
+use Rattle.shared_index.specs.Passes.{Known, first_version}
 use Rattle.job_threads.specs.Histories.{Setup, Commit}
 use Rattle.job_threads.specs.Steps.{Station}
 use Rattle.job_threads.specs.Works.{Numbers, WorkerRan}
@@ -75,7 +75,7 @@ pub record MainSees {s : Setup} (main : Known) (ws : List (Worker s)) : Type 0 w
   pub learnt : AllByRecursion (λ w. StartsWith main.seen.history w.station.asks.seen.history) ws
 
 -- Passes that have asked and committed nothing were given to workers, two to each, and the last one to main. All are back: their
--- numbers are those that there were, and main has learnt what the workers' first passes have seen.
+-- numbers are those that there were, and main, which knows of version 0, has learnt what the workers' first passes have seen.
 pub record Gathers (s : Setup) (before : List Known) (ws : List (List Command)) (os : List Outcomes) (views : List Known) (main : Known) : Type 0 where
   pub done : List (Worker s)
   pub commands_are : ws ≡ commands_in done
@@ -86,4 +86,5 @@ pub record Gathers (s : Setup) (before : List Known) (ws : List (List Command)) 
   pub is_own : main.pass ≡ Some own
   pub none : own.entries ≡ []
   pub unpinned : own.pinned ≡ []
+  pub opened : first_version main.seen ≡ s.opening
   pub learnt : AllByRecursion (λ w. StartsWith main.seen.history w.station.asks.seen.history) done

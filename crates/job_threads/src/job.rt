@@ -81,6 +81,7 @@ fn with_done<N: Named>(
 }
 
 // Runs the workers beside each other, from the one of a number on. Each has two of the passes, from the end on, and main the first.
+#[cycle(workers)]
 fn run_workers<R: Threads + Wait + Sync, N: Named + Send + Sync, G: Gate>(
     rt: &R,
     alloc: Global,
@@ -120,29 +121,27 @@ fn run_workers<R: Threads + Wait + Sync, N: Named + Send + Sync, G: Gate>(
         spare,
     };
     let next = number.saturating_add(1);
-    let (done, others) = join(
-        rt,
-        move || -> Result<Done<N>, AllocError>
-            requires here { (IsSome task.asks.seat) × (IsSome task.spare.seat) }
-            requires places { (task.asks.place ≡ index.now.place) × (task.spare.place ≡ index.now.place) }
-            requires in_turn { InTurn false (map command_view task.commands.now) }
-            ensures here { IfOk result (λ d. (IsSome d.asks.seat) × (IsSome d.spare.seat)) }
-            ensures places { IfOk result (λ d. (d.asks.place ≡ index.entry.now.place) × (d.spare.place ≡ index.entry.now.place)) }
-            ensures ran { (s : Setup) (numbers : Numbers) → IsSetup s origin.entry.now index.entry.now.shared.table.shared.key (known_at task.entry.asks.seat)
-                → Begins s numbers (known_at task.entry.asks.seat) (known_at task.entry.spare.seat)
-                → IfOk result (λ d. WorkerRan s numbers (ended (known_at d.asks.seat) (known_at d.spare.seat)) (map command_view task.entry.commands.now) d.outcomes.list.items) }
-        { run_worker(rt, alloc, origin, index, task, gate) },
-        move || -> Result<Gathered<N>, AllocError>
-            requires sync { IsSync R.row }
-            requires count { length passes.items ≡ 2 * length others.now + 1 }
-            requires here { All (λ p. (IsSome p.seat) × (p.place ≡ index.now.place)) passes.items }
-            requires in_turn { AllByRecursion (InTurn false) (workers_view others.now) }
-            ensures main { IfOk result (λ g. (IsSome g.main.seat) × (g.main.place ≡ index.entry.now.place)) }
-            ensures here { IfOk result (λ g. All (λ p. (IsSome p.seat) × (p.place ≡ index.entry.now.place)) g.passes.items) }
-            ensures ran { (s : Setup) → IsIndex s origin.entry.now index.entry.now.shared.table.shared.key → AreNew s.opening (map (λ p. known_at p.seat) passes.entry.items)
-                → IfOk result (λ g. Gathers s (map (λ p. known_at p.seat) passes.entry.items) (workers_view others.entry.now) g.outcomes.items (map (λ p. known_at p.seat) g.passes.items) (known_at g.main.seat)) }
-        { run_workers(rt, alloc, origin, index, others, next, passes, gate) },
-    );
+    let first = move || -> Result<Done<N>, AllocError>
+        requires here { (IsSome task.asks.seat) × (IsSome task.spare.seat) }
+        requires places { (task.asks.place ≡ index.now.place) × (task.spare.place ≡ index.now.place) }
+        requires in_turn { InTurn false (map command_view task.commands.now) }
+        ensures here { IfOk result (λ d. (IsSome d.asks.seat) × (IsSome d.spare.seat)) }
+        ensures places { IfOk result (λ d. (d.asks.place ≡ index.entry.now.place) × (d.spare.place ≡ index.entry.now.place)) }
+        ensures ran { (s : Setup) (numbers : Numbers) → IsSetup s origin.entry.now index.entry.now.shared.table.shared.key (known_at task.entry.asks.seat)
+            → Begins s numbers (known_at task.entry.asks.seat) (known_at task.entry.spare.seat)
+            → IfOk result (λ d. WorkerRan s numbers (ended (known_at d.asks.seat) (known_at d.spare.seat)) (map command_view task.entry.commands.now) d.outcomes.list.items) }
+    { run_worker(rt, alloc, origin, index, task, gate) };
+    let rest = move || -> Result<Gathered<N>, AllocError>
+        requires sync { IsSync R.row }
+        requires count { length passes.items ≡ 2 * length others.now + 1 }
+        requires here { All (λ p. (IsSome p.seat) × (p.place ≡ index.now.place)) passes.items }
+        requires in_turn { AllByRecursion (InTurn false) (workers_view others.now) }
+        ensures main { IfOk result (λ g. (IsSome g.main.seat) × (g.main.place ≡ index.entry.now.place)) }
+        ensures here { IfOk result (λ g. All (λ p. (IsSome p.seat) × (p.place ≡ index.entry.now.place)) g.passes.items) }
+        ensures ran { (s : Setup) → IsIndex s origin.entry.now index.entry.now.shared.table.shared.key → AreNew s.opening (map (λ p. known_at p.seat) passes.entry.items)
+            → IfOk result (λ g. Gathers s (map (λ p. known_at p.seat) passes.entry.items) (workers_view others.entry.now) g.outcomes.items (map (λ p. known_at p.seat) g.passes.items) (known_at g.main.seat)) }
+    { run_workers(rt, alloc, origin, index, others, next, passes, gate) };
+    let (done, others) = join(rt, first, rest);
     with_done(index, done?, others?)
 }
 
