@@ -1,6 +1,8 @@
 -- How a block ends, by what its transaction's calls say.
-use Rattle.std.proofs.Common.{◌≡◌, ◌∙◌, true, ℕ, ◌+◌, List, Option, Some, None, Result, Ok, Err, IfOk, length, refl, sym, ap, subst}
-use Rattle.std.specs.Prelude.{IsSome, IsSomeAnd, IfSome}
+use Rattle.std.proofs.Common.{◌≡◌, ◌∙◌, true, ℕ, ◌+◌, ◌*◌, arith, List, Option, Some, None, Result, Ok, Err, IfOk, length, refl, sym, ap, subst}
+use Rattle.std.specs.Prelude.{IsSome, IsSomeAnd, IfSome, slice_get}
+use Rattle.std.specs.Option.{ForSome}
+use Rattle.atomic_table.specs.Seated.{TableId}
 use Rattle.std.specs.declared.alloc.AllocError.{AllocError}
 use Rattle.zone_model.specs.Names.{Name}
 use Rattle.zone_model.specs.declared.Refusal.{Refusal}
@@ -115,3 +117,13 @@ module _ (old : Known) (first : Option Draft) (begins : IsSomeAnd first (Begins 
 
     pub after_zone : IsSomeAnd second (λ d. IsZone (working_set d))
     after_zone = some_weaker WorksOnSome (λ d. IsZone (working_set d)) second (λ d w. record { version = w.version; stands = record { valid = w.on.valid; entries = sym w.on.set } }) works_still
+
+-- ---- a transaction has as many chunks as its index, by the table that both are on
+
+pub full_chunks : (names : List TableId) (place place' chunks : ℕ) (a b : TableId) (second : Option Draft) → slice_get names place ≡ Some a → slice_get names place' ≡ Some b → place' ≡ place → 4161 + 2048 * chunks ≡ a.words → ForSome second (λ d. d.seat.place.table_id ≡ b) → IfSome second (λ d. chunks ≡ length d.usage.given)
+full_chunks names place place' chunks a b None is_a is_b same wide there = tt
+full_chunks names place place' chunks a b (Some d) is_a is_b same wide there =
+    let table : ◌≡◌ {A = Option TableId} (Some a) (Some b) = sym is_a ∙ ap (slice_get names) (sym same) ∙ is_b in
+    let words : a.words ≡ b.words = (let e : a ≡ b = cc in ap (λ (t : TableId). t.words) e) in
+    let mine : 4161 + 2048 * length d.usage.given ≡ b.words = d.wide ∙ ap (λ (t : TableId). t.words) (there d refl) in
+    omega (arith, wide, words, mine)

@@ -8,11 +8,14 @@ use Rattle.std.proofs.lemmas.List.Elements.{Contains-append_left, Contains-appen
 use Rattle.std.specs.List.{AllByRecursion}
 use Rattle.zone_model.specs.Names.{Name}
 use Rattle.zone_model.specs.Versions.{Version, whole}
-use Rattle.job_model.specs.Commands.{Command, held_after, InTurn}
+use Rattle.job_model.specs.Commands.{Command, held_after, InTurn, MayCome}
 use Rattle.job_model.specs.Outcomes.{Setting, Pair, is_committed, made, operations_of, times_made, Sight, at_first, sight_after, EndsLawfully, Along, shown_by, shown_in}
+use Rattle.job_script.specs.Views.{command_view}
+use Rattle.job_script.specs.declared.commands.Command.{Command as Said}
 use Rattle.job_script.specs.Outcomes.{ended_view, outcome_view, pairs_of, Tells, EachTells}
 use Rattle.job_script.specs.declared.outcomes.Outcome.{Outcome as Told_outcome}
 use Rattle.shared_cells.specs.declared.view.PassView.{PassView}
+use Rattle.shared_cells.specs.Views.{is_told}
 use Rattle.shared_cells.specs.History.{StartsWith, IsPartOf, entries_by, entry_of, version_after}
 use Rattle.shared_index.specs.declared.meaning.Operation.{Operation}
 use Rattle.shared_index.specs.Operations.{applied}
@@ -20,7 +23,7 @@ use Rattle.shared_index.specs.Passes.{Known, first_version}
 use Rattle.job_threads.specs.Histories.{Setup, Commit, Entries, index_at, StandsAs, AreVersions, CoversNamings, judged_by, times_by}
 use Rattle.job_threads.specs.Steps.{Station, HoldsLast, IsSight, IsUnder, Adds, Stays, Writes, Step}
 use Rattle.job_threads.specs.Works.{Replayed, Work, Numbers, Begins, WorkerRan, ended}
-use Rattle.job_threads.proofs.HistoryLaws.{begins_same, begins_more, begins_length, begins_other, index_front, index_last, versions_front, covers_front, by-push, times_front, times_past, times_there, times_else}
+use Rattle.job_threads.proofs.HistoryLaws.{opened_same, begins_same, begins_more, begins_length, begins_other, index_front, index_last, versions_front, covers_front, by-push, times_front, times_past, times_there, times_else}
 
 abbrev pub Pairs : Type 0
 Pairs = List Pair
@@ -334,3 +337,16 @@ drop_here view xs i here lt is = ap (map view) (drop_more xs i here lt ∙ ap (�
 
 pub take_here : {X Y : Type 0} (view : X → Y) (xs : List X) (i : ℕ) (here : X) → i < length xs → here ≡ get_or xs i here → map view (take (i + 1) xs) ≡ map view (take i xs) ++ view here ∷ []
 take_here view xs i here lt is = map_more view xs i here lt ∙ ap (λ (x : _). map view (take i xs) ++ view x ∷ []) (sym is)
+
+-- a worker's next command
+pub turn_here : (held : Bool) (commands : List Said) (i : ℕ) (here : Said) → i < length commands → here ≡ get_or commands i here → InTurn held (map command_view (drop i commands))
+    → MayCome held (command_view here) × InTurn (held_after held (command_view here)) (map command_view (drop (i + 1) commands))
+turn_here held commands i here lt is turn = subst (InTurn held) (drop_here command_view commands i here lt is) turn
+
+pub worker_next : (s : Setup) (numbers : Numbers) (old new : Station) (commands : List Said) (i : ℕ) (here : Said) (os : List Told_outcome) (o : Told_outcome) → i < length commands → here ≡ get_or commands i here → is_told old.asks.seen.opening ≡ true
+    → WorkerAt s numbers old (map command_view (take i commands)) (map command_view (drop i commands)) os → Step s (command_view here) o old new → WorkerAt s numbers new (map command_view (take (i + 1) commands)) (map command_view (drop (i + 1) commands)) (os ++ o ∷ [])
+worker_next s numbers old new commands i here os o lt is told w step =
+    let ahead : WorkerAt s numbers old (map command_view (take i commands)) (command_view here ∷ map command_view (drop (i + 1) commands)) os =
+    subst (λ (l : List Command). WorkerAt s numbers old (map command_view (take i commands)) l os) (drop_here command_view commands i here lt is) w in
+    subst (λ (l : List Command). WorkerAt s numbers new l (map command_view (drop (i + 1) commands)) (os ++ o ∷ [])) (sym (take_here command_view commands i here lt is))
+    (worker_goes_on s numbers old new (map command_view (take i commands)) (command_view here) (map command_view (drop (i + 1) commands)) os o (opened_same new.asks.seen old.asks.seen told step.asks) ahead step)
