@@ -14,7 +14,7 @@ use Rattle.job_script.specs.declared.outcomes.Outcome.{Outcome}
 use Rattle.shared_cells.specs.declared.pass.PassSeat.{PassSeat}
 use Rattle.shared_cells.specs.declared.view.PassView.{PassView}
 use Rattle.shared_cells.specs.declared.view.Progress.TheVariants as progress
-use Rattle.shared_cells.specs.Views.{number_of, is_told, with_pinned, with_progress}
+use Rattle.shared_cells.specs.Views.{number_of, is_told, with_pinned, with_progress, pinned_image, pinned_version, pinned_root}
 use Rattle.shared_cells.specs.History.{IsPartOf}
 use Rattle.shared_index.specs.declared.meaning.Operation.{Operation}
 use Rattle.shared_index.specs.Meanings.{Holds}
@@ -24,6 +24,9 @@ use Rattle.job_threads.specs.Histories.{Entries, Sighting, IsZone, StandsAs}
 use Rattle.job_threads.proofs.HistoryLaws.{part_more}
 use Rattle.job_threads.specs.Commands.{Asked, IsHeld, Held}
 use Rattle.job_threads.specs.Stations.{Seat, Pinned as PinnedSeat', holder_view, IsPlaced}
+
+abbrev Lawful : Entries → Entries → Type 0
+Lawful first es = IsZone es
 
 -- a reading that holds what a version stands as shows that version
 pub shown : (image : List CellAt) (root : Option ℕ) (es : Entries) (zone : Version) → Holds image root es → StandsAs es zone → Shows (Holds image root) zone
@@ -94,3 +97,25 @@ held_of lawful old noted second taught new seat first then number o told_old tol
       version = version ∙ here;
       is_told = said;
     }
+
+-- ---- snapshots
+
+-- a pass has taken one
+pub held_first : (old : Known) (seat : PinnedSeat') → Pinned Lawful old seat.place.me.0 seat.version → Holds (pinned_image seat.place.me.0.progress) seat.root (version_seen seat.place.me.0.seen) → IsHeld seat
+held_first old seat p holds = record { version = p.version; holds = holds; zone = p.good }
+
+-- it is the same for as long as its place knows the same
+pub held_same : (old new : PinnedSeat') → new.place.me.0 ≡ old.place.me.0 → IsHeld old → IsHeld new
+held_same old new same h =
+    let version : new.version ≡ old.version = new.version_is ∙ ap (λ (v : Known). pinned_version v.progress) same ∙ sym old.version_is in
+    let root : new.root ≡ old.root = new.root_is ∙ ap (λ (v : Known). pinned_root v.progress) same ∙ sym old.root_is in
+    record {
+      version = version ∙ h.version ∙ sym (ap (λ (v : Known). length v.seen.history) same);
+      holds = subst (λ (r : Option ℕ). Holds (pinned_image new.place.me.0.progress) r (version_seen new.place.me.0.seen)) (sym root)
+          (subst (λ (v : Known). Holds (pinned_image v.progress) old.root (version_seen v.seen)) (sym same) h.holds);
+      zone = subst (λ (v : Known). IsZone (version_seen v.seen)) (sym same) h.zone;
+    }
+
+-- it shows each version that stands as what its pass has seen
+pub held_shows : (seat : PinnedSeat') → IsHeld seat → ShowsSome (Holds (pinned_image seat.place.me.0.progress) seat.root)
+held_shows seat h = shown_some (pinned_image seat.place.me.0.progress) seat.root (version_seen seat.place.me.0.seen) h.holds h.zone

@@ -53,10 +53,10 @@ fn with_done<N: Named>(
     requires others { All (λ p. (IsSome p.seat) × (p.place ≡ index.now.place)) others.passes.items }
     ensures main { IfOk result (λ g. (IsSome g.main.seat) × (g.main.place ≡ index.now.place)) }
     ensures here { IfOk result (λ g. All (λ p. (IsSome p.seat) × (p.place ≡ index.now.place)) g.passes.items) }
-    ensures outcomes { IfOk result (λ g. g.outcomes.items ≡ done.entry.outcomes ∷ others.entry.outcomes.items) }
+    ensures outcomes { IfOk result (λ g. g.outcomes.items ≡ done.outcomes ∷ others.outcomes.items) }
     ensures passes { IfOk result (λ g. map (λ p. known_at p.seat) g.passes.items
-        ≡ known_at done.entry.asks.seat ∷ known_at done.entry.spare.seat ∷ map (λ p. known_at p.seat) others.entry.passes.items) }
-    ensures learnt { IfOk result (λ g. Learnt (known_at others.entry.main.seat) (known_at g.main.seat) (known_at done.entry.asks.seat).seen) }
+        ≡ known_at done.asks.seat ∷ known_at done.spare.seat ∷ map (λ p. known_at p.seat) others.passes.items) }
+    ensures learnt { IfOk result (λ g. Learnt (known_at others.main.seat) (known_at g.main.seat) (known_at done.asks.seat).seen) }
 {
     let Done {
         outcomes: list,
@@ -97,8 +97,8 @@ fn run_workers<R: Threads + Wait + Sync, N: Named + Send + Sync, G: Gate>(
     requires in_turn { AllByRecursion (InTurn false) (workers_view workers.now) }
     ensures main { IfOk result (λ g. (IsSome g.main.seat) × (g.main.place ≡ index.now.place)) }
     ensures here { IfOk result (λ g. All (λ p. (IsSome p.seat) × (p.place ≡ index.now.place)) g.passes.items) }
-    ensures ran { (s : Setup) → IsIndex s origin.now index.now.shared.table.shared.key → AreNew s.opening (map (λ p. known_at p.seat) passes.entry.items)
-        → IfOk result (λ g. Gathers s (map (λ p. known_at p.seat) passes.entry.items) (workers_view workers.now) g.outcomes.items (map (λ p. known_at p.seat) g.passes.items) (known_at g.main.seat)) }
+    ensures ran { (s : Setup) → IsIndex s origin.now index.now.shared.table.shared.key → AreNew s.opening (map (λ p. known_at p.seat) passes.items)
+        → IfOk result (λ g. Gathers s (map (λ p. known_at p.seat) passes.items) (workers_view workers.now) g.outcomes.items (map (λ p. known_at p.seat) g.passes.items) (known_at g.main.seat)) }
 {
     let mut passes = passes;
     let Some(asks) = passes.pop() else {
@@ -138,8 +138,8 @@ fn run_workers<R: Threads + Wait + Sync, N: Named + Send + Sync, G: Gate>(
         requires in_turn { AllByRecursion (InTurn false) (workers_view others.now) }
         ensures main { IfOk result (λ g. (IsSome g.main.seat) × (g.main.place ≡ index.entry.now.place)) }
         ensures here { IfOk result (λ g. All (λ p. (IsSome p.seat) × (p.place ≡ index.entry.now.place)) g.passes.items) }
-        ensures ran { (s : Setup) → IsIndex s origin.entry.now index.entry.now.shared.table.shared.key → AreNew s.opening (map (λ p. known_at p.seat) passes.entry.items)
-            → IfOk result (λ g. Gathers s (map (λ p. known_at p.seat) passes.entry.items) (workers_view others.entry.now) g.outcomes.items (map (λ p. known_at p.seat) g.passes.items) (known_at g.main.seat)) }
+        ensures ran { (s : Setup) → IsIndex s origin.entry.now index.entry.now.shared.table.shared.key → AreNew s.opening (map (λ p. known_at p.seat) passes.items)
+            → IfOk result (λ g. Gathers s (map (λ p. known_at p.seat) passes.items) (workers_view others.entry.now) g.outcomes.items (map (λ p. known_at p.seat) g.passes.items) (known_at g.main.seat)) }
     { run_workers(rt, alloc, origin, index, others, next, passes, gate) };
     let (done, others) = join(rt, first, rest);
     with_done(index, done?, others?)
@@ -160,7 +160,7 @@ pub fn run_job<R: Threads + Wait + Sync, N: Named + Send + Sync, G: Gate>(
     requires all { AreAll (length passes.items) (map (λ p. known_at p.seat) passes.items) }
     requires here { All (λ p. (IsSome p.seat) × (p.place ≡ index.place)) passes.items }
     requires in_turn { AllByRecursion (InTurn false) (job_view job.now) }
-    ensures ran { (s : Setup) (zone : Version) → IsIndex s origin.now index.entry.shared.table.shared.key → StandsAs s.opening zone → AreNew s.opening (map (λ p. known_at p.seat) passes.entry.items)
+    ensures ran { (s : Setup) (zone : Version) → IsIndex s origin.now index.shared.table.shared.key → StandsAs s.opening zone → AreNew s.opening (map (λ p. known_at p.seat) passes.items)
         → IfOk result (λ f. IsRun s.chunks origin.now zone (job_view job.now) f.outcomes.items f.version f.names f.nodes) }
 {
     let Gathered {

@@ -1,5 +1,5 @@
 //! A job on the index of its zone.
-ghost use Rattle.std.specs.Prelude.{◌≡◌, ◌≤◌, IfOk, List, length, Some, slice_get};
+ghost use Rattle.std.specs.Prelude.{◌≡◌, ◌≤◌, IfOk, List, length, Some, slice_get, false};
 ghost use Rattle.std.specs.List.{AllByRecursion};
 ghost use Rattle.zone_model.specs.Versions.{Version};
 ghost use Rattle.trie_write.specs.Entries.{entries_of_items};
@@ -44,7 +44,7 @@ fn run_named<R: Threads + Wait + Sync, N: Named + Send + Sync, G: Gate>(
     requires zone { IsZone (entries_of_items items.now) }
     requires in_turn { AllByRecursion (InTurn false) (job_view job.now) }
     ensures { (zone : Version) → StandsAs (entries_of_items items.now) zone
-        → IfOk result (RanOn blank.entry.shared.table.shared.key.chunks origin.now zone (job_view job.now)) }
+        → IfOk result (RanOn blank.shared.table.shared.key.chunks origin.now zone (job_view job.now)) }
 {
     match Index::<ZoneLaw, N>::open(alloc, blank, 0, items) {
         Ok((index, passes)) => {
