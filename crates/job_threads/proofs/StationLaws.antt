@@ -35,3 +35,16 @@ module _ (s : Setup) (o : Outcome) (asks : Option Seat) (some : IsSome asks) (op
   pub release_done : (seat : Pinned) → IsHeld seat → IsUnder (known_at asks) seat.place.me.0 → (second : Option Seat) → Released seat (known_at second) o → Step s Release o (station asks None (Some seat)) (station asks (Some second) None)
   release_done seat h under second r =
       release_step s o (station asks None (Some seat)) opened (seat_told asks some) seat.told under seat refl refl h (station asks (Some second) None) refl refl r
+
+-- ---- where the second pass is when a worker ends
+
+pub placed_some : (spare : Option (Option Seat)) (held : Option Pinned) (seat : Pinned) → held ≡ Some seat → IsPlaced spare held → IsHeld seat × (holder_view spare held ≡ seat.place.me.0)
+placed_some (Some other) (Some pinned) seat is placed = absurd placed
+placed_some (Some other) None seat is placed = absurd cc
+placed_some None (Some pinned) seat is placed = let same : pinned ≡ seat = cc in (subst IsHeld same placed, ap (λ (x : Pinned). x.place.me.0) same)
+placed_some None None seat is placed = absurd placed
+
+pub placed_none : (spare : Option (Option Seat)) (held : Option Pinned) (seat : Option Seat) → spare ≡ Some seat → held ≡ None → IsPlaced spare held → IsSome seat × (holder_view spare held ≡ known_at seat)
+placed_none (Some other) None seat is none placed = let same : other ≡ seat = cc in (subst IsSome same placed, ap known_at same)
+placed_none (Some other) (Some pinned) seat is none placed = absurd placed
+placed_none None held seat is none placed = absurd cc
