@@ -119,11 +119,3 @@ held_same old new same h =
 -- it shows each version that stands as what its pass has seen
 pub held_shows : (seat : PinnedSeat') → IsHeld seat → ShowsSome (Holds (pinned_image seat.place.me.0.progress) seat.root)
 held_shows seat h = shown_some (pinned_image seat.place.me.0.progress) seat.root (version_seen seat.place.me.0.seen) h.holds h.zone
-
--- a snapshot was taken between two notes, and its place knows the same since
-pub hold_told : (old noted second taught new : Known) (took seat : PinnedSeat') (first then : Sighting) (o : Outcome) → is_told old.seen.opening ≡ true → is_told second.seen.opening ≡ true → noted ≡ old → first ≡ old.seen → Learnt second taught first
-    → Pinned Lawful taught took.place.me.0 took.version → seat.place.me.0 ≡ took.place.me.0 → then ≡ took.place.me.0.seen → Learnt noted new then → o.version ≡ seat.version → o.told ≡ told.Held → Held old second new seat o
-hold_told old noted second taught new took seat first then o told_old told_second same is_first l p place is_then m version said =
-    let number : seat.version ≡ took.version = seat.version_is ∙ ap (λ (v : Known). pinned_version v.progress) place ∙ sym took.version_is in
-    let pinned : Pinned Lawful taught seat.place.me.0 took.version = subst (λ (v : Known). Pinned Lawful taught v took.version) (sym place) p in
-    held_of Lawful old noted second taught new seat first then took.version o told_old told_second same is_first l pinned (is_then ∙ ap (λ (v : Known). v.seen) (sym place)) m (version ∙ number) (sym number) said
