@@ -1,3 +1,5 @@
+//! Names in their canonical order (RFC 4034, section 6.1).
+
 ghost use Rattle.std.specs.Cmp.{partial_order_from_own_ties, partial_equiv_from_equiv};
 ghost use Rattle.std.specs.Ordering.{as_partial_cmp};
 ghost use Rattle.zone_model.specs.Names.{name_cmp, same_name};

@@ -1,4 +1,4 @@
-// A text as the dots and octets that it stands for.
+//! A text as the dots and octets that it stands for.
 ghost use Rattle.std.specs.Prelude.{◌≡◌, ◌<◌, ◌≤◌, length, MatchOption, None, Some, ⊤};
 ghost use Rattle.zone_model.specs.Escapes.{escaped_octet, escape_len};
 ghost use Rattle.dns_name.specs.Pieces.{IsPieceAt};

@@ -1,4 +1,4 @@
-// Wire forms among bytes of any kind.
+//! Wire forms among bytes of any kind.
 ghost use Rattle.std.specs.Prelude.{◌≡◌, ◌<◌, ◌≤◌, ◌↔◌, length, List, ℕ, IsTrue, IfSome, IsNone, take};
 ghost use Rattle.std.specs.List.{AllByRecursion};
 ghost use Rattle.zone_model.specs.Names.{Name as Labels, wire, IsName, IsLabel, IsFolded, BeginsWith};

@@ -1,4 +1,4 @@
-// Names as text.
+//! Names as text.
 ghost use Rattle.std.specs.Prelude.{◌≡◌, ◌<◌, ◌≤◌, ◌+◌, ◌^◌, [], ℕ, List, ◌++◌, length, Result, Ok, IfOk, true, false};
 ghost use Rattle.zone_model.specs.Names.{Name as Labels, wire, IsName};
 ghost use Rattle.zone_model.specs.NameText.{labels_of, name_of, completed, fitting};

@@ -1,4 +1,4 @@
-// Walks over wire forms.
+//! Walks over wire forms.
 ghost use Rattle.std.specs.Prelude.{◌≡◌, ◌≤◌, ◌<◌, length, drop, [], List, ℕ};
 ghost use Rattle.std.specs.Ordering.{ordering_then};
 ghost use Rattle.zone_model.specs.Names.{Name as Labels, wire, name_cmp, is_under};

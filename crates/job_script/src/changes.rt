@@ -1,4 +1,4 @@
-// What the words of an operation say.
+//! What the words of an operation say.
 ghost use Rattle.std.specs.Prelude.{◌≡◌, ◌∷◌, List, map};
 ghost use Rattle.std.specs.List.{All};
 ghost use Rattle.job_model.specs.Arguments as jobs;

@@ -1,4 +1,4 @@
-// Operations of a block.
+//! Operations of a block.
 ghost use Rattle.std.specs.Prelude.{◌≡◌};
 ghost use Rattle.job_script.specs.Views.{operation_view};
 ghost use Rattle.zone_model.specs.Versions.{owner_of};

@@ -1,4 +1,4 @@
-// The two parts of a job's input.
+//! The two parts of a job's input.
 ghost use Rattle.std.specs.Prelude.{◌≡◌, ◌<◌, ◌≤◌, ◌+◌, ◌^◌, ℕ, List, length, take, drop};
 ghost use Rattle.job_model.specs.Jobs.{zone_lines, script_lines, script_start};
 ghost use Rattle.zone_model.specs.Lines.{lines_of};

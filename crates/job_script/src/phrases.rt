@@ -1,4 +1,4 @@
-// What the tokens of a script's line are, by the command word and the number of tokens.
+//! What the tokens of a script's line are, by the command word and the number of tokens.
 ghost use Rattle.std.specs.Prelude.{◌≡◌, ◌<◌, ◌≤◌, ◌∷◌, [], ℕ, List, length, map, Some, None, Option, IfSome};
 ghost use Rattle.std.specs.Option.{option_map};
 ghost use Rattle.std.specs.List.{All};

@@ -1,4 +1,4 @@
-// What the words of a question say.
+//! What the words of a question say.
 ghost use Rattle.std.specs.Prelude.{◌≡◌, IfSome, ◌≤◌, ◌<◌};
 ghost use Rattle.job_model.specs.Arguments as jobs;
 ghost use Rattle.job_model.specs.Phrases as phrases;

@@ -1,4 +1,4 @@
-// The classes of records (RFC 1035, section 3.2.4).
+//! The classes of records (RFC 1035, section 3.2.4).
 ghost use Rattle.std.specs.Prelude.{◌≡◌, Some, None, Option};
 ghost use Rattle.std.specs.Char.{is_ascii_digit};
 ghost use Rattle.std.specs.List.{list_all};

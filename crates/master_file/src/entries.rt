@@ -1,4 +1,4 @@
-// What entries say.
+//! What entries say.
 ghost use Rattle.std.specs.Prelude.{◌≡◌, ◌<◌, ◌≤◌, ◌+◌, ◌-◌, ◌∷◌, [], ◌^◌, ℕ, List, length, map, Some, None, Option, Ok, Err, Result, IfOk, OnOk};
 ghost use Rattle.std.specs.List.{All};
 ghost use Rattle.zone_model.specs.MasterFile.{directive, record_says, entry_says, last_line, set_time_word, set_origin_word, one_argument, placed};
@@ -13,7 +13,7 @@ use crate::front::{Front, front_of, is_directive, name_word, time_word};
 use crate::records::{Reader, line_of, minimum_of, time_for};
 use crate::refusal::{ZoneRefusal, refuse};
 use dns_name::Name;
-use rr_data::{Rdata, RdataRefusal, Token};
+use rr_data::{Rdata, RdataRefusal, SOA, Token};
 use std::alloc::Global;
 use zone_model::ZoneKind;
 
@@ -61,7 +61,7 @@ fn read_record(
     let Some(time) = time_for(front.time, front.rtype, rdata.octets(), reader) else {
         return Err(refuse(last, ZoneKind::NoTtl));
     };
-    let minimum = if front.rtype == 6 {
+    let minimum = if front.rtype == SOA {
         Some(minimum_of(rdata.octets()))
     } else {
         reader.minimum

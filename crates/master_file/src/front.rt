@@ -1,4 +1,4 @@
-// What stands before a record's data.
+//! What stands before a record's data.
 ghost use Rattle.std.specs.Prelude.{◌≡◌, ◌<◌, ◌≤◌, ◌+◌, ◌∷◌, [], ◌^◌, ℕ, List, length, drop, map, Some, None, Option, Ok, Err, Result, IfOk, false};
 ghost use Rattle.std.specs.List.{All, slice_range};
 ghost use Rattle.zone_model.specs.MasterFile.{front_of, time_word, type_word, class_word, is_time, name_word, is_directive};

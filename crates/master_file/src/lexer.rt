@@ -1,4 +1,4 @@
-// The tokens of a line.
+//! The tokens of a line.
 ghost use Rattle.std.specs.Prelude.{◌≡◌, ◌<◌, ◌≤◌, ◌+◌, ◌^◌, ◌++◌, ◌∷◌, [], ℕ, List, length, slice_index, OnOk, Result, Ok, Err, true, if◌then◌else◌};
 ghost use Rattle.std.specs.List.{slice_range, All};
 ghost use Rattle.zone_model.specs.Tokens.{apart, in_word, in_quote, step, steps, line_end, line_tokens, with_token, parts_words, Word, Quote};

@@ -1,4 +1,4 @@
-// The lines of a text.
+//! The lines of a text.
 ghost use Rattle.std.specs.Prelude.{◌≡◌, ◌<◌, ◌≤◌, ◌+◌, ◌^◌, ◌∷◌, [], ℕ, List, length, take, ◌==◌, Some, None, Option};
 ghost use Rattle.std.specs.List.{slice_range, position};
 ghost use Rattle.std.specs.Str.Lines.{strip_carriage_return};

@@ -9,7 +9,7 @@ ghost use Rattle.master_file.specs.Owners.{CanBeItem};
 
 use crate::refusal::{ZoneRefusal, refuse};
 use dns_name::{Name, OwnedName};
-use rr_data::{DecodeRefusal, Entry, Rdata, single_item};
+use rr_data::{CNAME, DecodeRefusal, Entry, ITEM_LIMIT, Rdata, SOA, single_item};
 use std::alloc::{AllocError, Global};
 use std::marker::Model;
 use zone_model::ZoneKind;
@@ -56,16 +56,16 @@ fn is_lone(entry: &Entry) -> bool
         0 => true,
         1 => {
             let set = entry.set_at(0);
-            set.rtype() != 5 || set.len() <= 1
+            set.rtype() != CNAME || set.len() <= 1
         }
-        _ => entry.find_set(5).is_none(),
+        _ => entry.find_set(CNAME).is_none(),
     }
 }
 
 fn soa_count(entry: &Entry) -> usize
     ensures { result ≡ soa_count entry.now }
 {
-    match entry.find_set(6) {
+    match entry.find_set(SOA) {
         Some(set) => set.len(),
         None => 0,
     }
@@ -81,7 +81,7 @@ fn check_entry(entry: &Entry, owner: &Name, last: u32) -> Result<(), ZoneRefusal
     if !is_lone(entry) {
         return Err(refuse(last, ZoneKind::CnameAndOther));
     }
-    if entry.item_len(owner) > 4096 {
+    if entry.item_len(owner) > ITEM_LIMIT {
         return Err(refuse(last, ZoneKind::LongEntry));
     }
     Ok(())

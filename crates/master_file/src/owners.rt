@@ -2,7 +2,7 @@
 ghost use Rattle.std.specs.Prelude.{◌≡◌, ◌<◌, ◌≤◌, ◌+◌, ◌-◌, ◌∷◌, [], ◌^◌, ℕ, List, length, map, Some, None, Option, Ok, Err, Result, IfOk, OnOk, unwrap_or, ◌==◌, ◌&&◌, not};
 ghost use Rattle.zone_model.specs.Names.{same_name};
 ghost use Rattle.zone_model.specs.Records.{with_rr};
-ghost use Rattle.zone_model.specs.Versions.{is_lone, has_soa};
+ghost use Rattle.zone_model.specs.Versions.{is_lone, has_soa, soa_type};
 ghost use Rattle.zone_model.specs.MasterFile.{soa_count, added};
 ghost use Rattle.dns_name.specs.SortKeys.{KeyBelow};
 ghost use Rattle.master_file.specs.Views.{Gives};
@@ -12,7 +12,7 @@ ghost use Rattle.master_file.specs.Owners.{placed_at, version_of, AllHeld};
 use crate::owned::Owned;
 use crate::refusal::{ZoneRefusal, refuse};
 use dns_name::{Name, SortKey};
-use rr_data::Rdata;
+use rr_data::{Rdata, SOA};
 use std::alloc::{AllocError, Global};
 use std::collections::BTreeMap;
 use std::collections::btree_map::Entry as Place;
@@ -56,9 +56,9 @@ fn grow(
 
 // An SOA below the apex.
 fn is_low_soa(rtype: u16, owner: &Name, apex: &Name) -> bool
-    ensures { result ≡ ((rtype == 6) && not (same_name owner.now apex.now)) }
+    ensures { result ≡ ((rtype == soa_type) && not (same_name owner.now apex.now)) }
 {
-    rtype == 6 && owner != apex
+    rtype == SOA && owner != apex
 }
 
 impl Owners {
@@ -109,7 +109,7 @@ impl Owners {
             return Ok(false);
         };
         match self.owned.get(&key) {
-            Some(kept) => kept.has_set(alloc, 6),
+            Some(kept) => kept.has_set(alloc, SOA),
             None => Ok(false),
         }
     }

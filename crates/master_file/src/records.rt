@@ -6,7 +6,7 @@ ghost use Rattle.master_file.specs.Zones.{reader_view};
 
 use crate::owners::Owners;
 use dns_name::Name;
-use rr_data::Token;
+use rr_data::{SOA, Token};
 
 /// What the entries so far leave.
 #[derive(Drop)]
@@ -53,7 +53,7 @@ pub fn time_for(written: Option<u32>, rtype: u16, octets: &[u8], reader: &Reader
     if reader.last_time.is_some() {
         return reader.last_time;
     }
-    if rtype == 6 {
+    if rtype == SOA {
         return Some(minimum_of(octets));
     }
     reader.minimum

@@ -1,4 +1,4 @@
-// Why a text is no zone.
+//! Why a text is no zone.
 ghost use Rattle.std.specs.Prelude.{◌≡◌};
 ghost use Rattle.master_file.specs.declared.refusal.ZoneRefusal.TheVariants.{Refused, Memory};
 

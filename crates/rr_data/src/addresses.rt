@@ -1,4 +1,4 @@
-// Texts of addresses.
+//! Texts of addresses.
 ghost use Rattle.std.specs.Prelude.{◌≡◌, ◌<◌, ◌≤◌, ◌+◌, ◌*◌, ◌++◌, ◌∷◌, [], ◌^◌, ℕ, List, length, drop, take, map, Some, None, Option, IfOk, IfSome, OnOk, true, ◌==◌, ◌-◌, replicate};
 ghost use Rattle.std.specs.Option.{option_map};
 ghost use Rattle.std.specs.List.{slice_split, list_all, list_any, position};

@@ -1,4 +1,4 @@
-// Types and data as they are printed.
+//! Types and data as they are printed.
 ghost use Rattle.std.specs.Prelude.{◌≡◌, ◌<◌, ◌≤◌, ◌+◌, ◌++◌, ◌∷◌, ◌^◌, [], ℕ, List, length, map, take, drop, Some, None, Option, OnOk, OnErr, IfOk, codes, decimal, if◌then◌else◌, ◌==◌, MatchOption};
 ghost use Rattle.std.specs.Io.{StartsWith};
 ghost use Rattle.std.specs.Option.{option_map};

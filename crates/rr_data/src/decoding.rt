@@ -1,9 +1,10 @@
-// The records that the octets of an item say.
+//! The records that the octets of an item say.
 ghost use Rattle.std.specs.Prelude.{◌≡◌, ℕ, ◌≤◌, List, length, map, Some, None, Option, IfOk, IfSome};
 ghost use Rattle.std.specs.Option.{option_map};
 ghost use Rattle.zone_model.specs.Items.{split_short, split_number, split_record, is_above, split_records, split_set, type_above, split_sets, entry_of, item_of};
 ghost use Rattle.rr_data.specs.Items.{part_view};
 
+use crate::entry::ITEM_LIMIT;
 use crate::rdata::Rdata;
 use crate::rrset::RrSet;
 use crate::splits::{number_of, short_of, split_name, split_octets};
@@ -157,7 +158,7 @@ fn read_entry(alloc: Global, bytes: &[u8]) -> Result<Option<Vec<RrSet>>, AllocEr
 pub fn read_item(alloc: Global, bytes: &[u8]) -> Result<Option<Vec<RrSet>>, AllocError>
     ensures { IfOk result (λ o. option_map (λ v. v.items) o ≡ option_map (λ x. x.1) (item_of bytes.now)) }
 {
-    if bytes.len() > 4096 {
+    if bytes.len() > ITEM_LIMIT {
         return Ok(None);
     }
     match split_name(bytes) {

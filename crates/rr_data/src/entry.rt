@@ -1,4 +1,4 @@
-// An entry.
+//! An entry.
 ghost use Rattle.std.specs.Prelude.{◌≡◌, ◌<◌, ◌≤◌, ◌++◌, ◌∷◌, [], ℕ, List, Option, length, OnOk, OnErr, MatchOption, take, drop, Some, None, min, ◌-◌, ◌^◌, slice_get, IsTrue, IsNone, IfSome, IfOk, ◌↔◌};
 ghost use Rattle.zone_model.specs.Records.{Rrset, with_rr, without_rr, without_set, rrset_of, item, item_limit, rrset_bytes, IsItem};
 ghost use Rattle.rr_data.specs.Changes.{TellsChange};
@@ -13,6 +13,9 @@ use crate::rrset::RrSet;
 use dns_name::Name;
 use std::alloc::{AllocError, Global};
 use std::marker::Model;
+
+/// The most octets of an item.
+pub const ITEM_LIMIT: usize = 4096;
 
 /// The records of one name: its RRsets in rising type.
 #[derive(Drop)]
@@ -208,7 +211,7 @@ impl Entry {
         ensures long { IsNone result ↔ (item_limit < length (item owner.now self.now)) }
         ensures kept { IsNone result → out.new ≡ out.old }
     {
-        if self.item_len(owner) > 4096 {
+        if self.item_len(owner) > ITEM_LIMIT {
             return None;
         }
         let behind_owner = put(out, 0, owner.wire());

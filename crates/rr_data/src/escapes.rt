@@ -1,4 +1,4 @@
-// Texts with escapes.
+//! Texts with escapes.
 ghost use Rattle.std.specs.Prelude.{◌≡◌, ◌<◌, ◌≤◌, ◌+◌, ◌++◌, ◌∷◌, [], ◌^◌, ℕ, List, length, drop, Some, None, Option, IfOk, IfSome, if◌then◌else◌};
 ghost use Rattle.std.specs.Option.{option_map};
 ghost use Rattle.zone_model.specs.DataWords.{octets_from, unescaped};

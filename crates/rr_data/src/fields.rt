@@ -1,4 +1,4 @@
-// Data that is a row of words.
+//! Data that is a row of words.
 ghost use Rattle.std.specs.Prelude.{◌≡◌, ◌<◌, ◌≤◌, ◌+◌, ◌++◌, ◌∷◌, [], ◌^◌, ℕ, List, length, drop, map, Some, None, Option, Ok, Err, Result, IfOk};
 ghost use Rattle.std.specs.List.{All};
 ghost use Rattle.zone_model.specs.Data.{field_octets, word_octets, read_fields};

@@ -1,4 +1,4 @@
-// Octets that are of a type's form.
+//! Octets that are of a type's form.
 ghost use Rattle.std.specs.Prelude.{◌≡◌, ◌<◌, ◌≤◌, ◌+◌, ◌++◌, ◌∷◌, [], ◌^◌, ℕ, List, length, drop, map, Some, None, Option, option_and_then, ◌==◌, true};
 ghost use Rattle.std.specs.Option.{option_map};
 ghost use Rattle.std.specs.List.{list_all};

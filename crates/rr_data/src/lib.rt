@@ -27,12 +27,13 @@ mod views;
 mod words;
 
 pub use data_text::{push_data, push_type};
-pub use entry::Entry;
+pub use entry::{Entry, ITEM_LIMIT};
 pub use packed::PackedSet;
 pub use rdata::Rdata;
 pub use refusal::{DecodeRefusal, RdataRefusal};
 pub use rrset::RrSet;
 pub use single::single_item;
 pub use token::Token;
+pub use types::{CNAME, NS, SOA};
 pub use views::{ItemView, RecordViews, SetView};
 pub use words::{number, read_type, time_of};

@@ -1,4 +1,4 @@
-// Where the RRset of a type stands among the RRsets of an entry.
+//! Where the RRset of a type stands among the RRsets of an entry.
 ghost use Rattle.std.specs.Prelude.{◌≡◌, ◌<◌, ◌≤◌, ◌++◌, ◌∷◌, [], ℕ, List, length, MatchResult};
 ghost use Rattle.rr_data.specs.Places.{StandsAt, MissingAt};
 

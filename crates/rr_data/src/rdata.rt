@@ -1,4 +1,4 @@
-// The data of a record.
+//! The data of a record.
 ghost use Rattle.std.specs.Prelude.{◌≡◌, ◌≤◌, ℕ, List, length};
 
 use std::alloc::AllocError;

@@ -1,4 +1,4 @@
-// The data of a type.
+//! The data of a type.
 ghost use Rattle.std.specs.Prelude.{◌≡◌, ◌<◌, ◌≤◌, ◌+◌, ◌++◌, ◌∷◌, [], ◌^◌, ℕ, List, length, drop, map, Some, None, Option, Ok, Err, Result};
 ghost use Rattle.std.specs.List.{All};
 ghost use Rattle.zone_model.specs.Data.{read_typed, data_of};

@@ -1,4 +1,4 @@
-// Why tokens are no data, and octets no item.
+//! Why tokens are no data, and octets no item.
 ghost use Rattle.std.specs.Prelude.{◌≡◌};
 ghost use Rattle.rr_data.specs.declared.refusal.RdataRefusal.TheVariants.{Memory};
 ghost use Rattle.rr_data.specs.declared.refusal.DecodeRefusal.TheVariants as decode;

@@ -1,4 +1,4 @@
-// An RRset.
+//! An RRset.
 ghost use Rattle.std.specs.Prelude.{◌≡◌, ◌<◌, ◌≤◌, ◌++◌, ◌∷◌, [], ℕ, List, length, IfOk, OnOk, OnErr, take, drop, slice_get, Some, IsTrue, ◌↔◌};
 ghost use Rattle.zone_model.specs.Records.{Rrset, with_record, without_record, has_record, fresh};
 ghost use Rattle.rr_data.specs.Changes.{TellsChange};

@@ -3,6 +3,7 @@ ghost use Rattle.std.specs.Prelude.{◌≡◌, ℕ, ◌<◌, ◌≤◌, ◌++◌
 ghost use Rattle.std.specs.Int.{w16, w32, to_be_bytes};
 ghost use Rattle.zone_model.specs.Records.{fresh, item, item_limit, IsItem};
 
+use crate::entry::ITEM_LIMIT;
 use byteorder::{BigEndian, ByteOrder};
 use dns_name::Name;
 use std::alloc::{AllocError, Global};
@@ -37,7 +38,7 @@ pub fn single_item(
 {
     let wire = owner.wire();
     let len = wire.len() + 12 + octets.len();
-    if len > 4096 {
+    if len > ITEM_LIMIT {
         return Ok(None);
     }
     let mut item = Vec::with_capacity(alloc, len)?;

@@ -1,4 +1,4 @@
-// What octets begin with, and what is left behind it.
+//! What octets begin with, and what is left behind it.
 ghost use Rattle.std.specs.Prelude.{◌≡◌, ℕ, List, Option, IfSome, length};
 ghost use Rattle.std.specs.Option.{option_map};
 ghost use Rattle.std.specs.Int.{w16, w32, from_be_bytes};

@@ -1,4 +1,4 @@
-// Strings as tokens.
+//! Strings as tokens.
 ghost use Rattle.std.specs.Prelude.{◌≡◌, ◌<◌, ◌≤◌, ◌+◌, ◌++◌, ◌∷◌, [], ◌^◌, ℕ, List, length, drop, map, Some, None, Option, Ok, Err, Result, IfOk, if◌then◌else◌};
 ghost use Rattle.std.specs.List.{slice_range, All};
 ghost use Rattle.zone_model.specs.DataWords.{unescaped};

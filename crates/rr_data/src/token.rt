@@ -1,4 +1,4 @@
-// Tokens of a text.
+//! Tokens of a text.
 ghost use Rattle.std.specs.Prelude.{◌≡◌};
 ghost use Rattle.std.specs.List.{slice_range};
 ghost use Rattle.rr_data.specs.Tokens.{IsPlaced};

@@ -1,5 +1,5 @@
-// The types of data that have a name here, and the form of each one's data (RFC 1035, sections 3.2.2 and 3.3; RFC 3596, section 2.1;
-// RFC 2782): one table.
+//! The types of data that have a name here, and the form of each one's data (RFC 1035, sections 3.2.2 and 3.3; RFC 3596, section 2.1;
+//! RFC 2782): one table.
 ghost use Rattle.std.specs.Prelude.{◌≡◌, ◌^◌, ◌<◌, ℕ, List, map, drop, Some, None, Option};
 ghost use Rattle.std.specs.Option.{option_map};
 ghost use Rattle.zone_model.specs.Types.{NamedType as Row, type_numbered, type_spelled, form_of};
@@ -34,7 +34,7 @@ pub struct NamedType {
 }
 
 macro_rules! named {
-    ($mnemonic:literal, $number:literal, $form:expr) => {
+    ($mnemonic:literal, $number:expr, $form:expr) => {
         NamedType {
             mnemonic: $mnemonic,
             number: $number,
@@ -43,13 +43,22 @@ macro_rules! named {
     };
 }
 
-const SOA: &[Field] = &[Name, Name, Number, Time, Time, Time, Time];
+/// The type of an authoritative server.
+pub const NS: u16 = 2;
+
+/// The type of an alias.
+pub const CNAME: u16 = 5;
+
+/// The type of a zone's start of authority.
+pub const SOA: u16 = 6;
+
+const SOA_FIELDS: &[Field] = &[Name, Name, Number, Time, Time, Time, Time];
 
 static TYPES: &[NamedType] = &[
     named!(b"A", 1, Fields(&[Address])),
-    named!(b"NS", 2, Fields(&[Name])),
-    named!(b"CNAME", 5, Fields(&[Name])),
-    named!(b"SOA", 6, Fields(SOA)),
+    named!(b"NS", NS, Fields(&[Name])),
+    named!(b"CNAME", CNAME, Fields(&[Name])),
+    named!(b"SOA", SOA, Fields(SOA_FIELDS)),
     named!(b"PTR", 12, Fields(&[Name])),
     named!(b"MX", 15, Fields(&[Short, Name])),
     named!(b"TXT", 16, Strings),

@@ -1,4 +1,4 @@
-// What words say.
+//! What words say.
 ghost use Rattle.std.specs.Prelude.{◌≡◌, ◌<◌, ◌≤◌, ◌+◌, ◌^◌, ℕ, List, length, drop, Some, None, Option, IfSome, option_and_then, unwrap_or, true, ◌*◌, ◌-◌};
 ghost use Rattle.std.specs.Char.{is_ascii_digit};
 ghost use Rattle.std.specs.List.{list_all};

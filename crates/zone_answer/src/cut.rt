@@ -13,11 +13,8 @@ ghost use Rattle.zone_answer.specs.Standing.{ShowsAbove};
 use crate::records::Held;
 use dns_name::Name;
 use packed_node::Leaf;
-use rr_data::ItemView;
+use rr_data::{ItemView, NS};
 use trie_read::{Ancestor, Reading};
-
-/// The type of an authoritative server.
-pub const NS: u16 = 2;
 
 /// The leaf of the name of so many labels, if that is there.
 fn leaf_of(above: &[Ancestor], labels: u8) -> Option<Leaf>

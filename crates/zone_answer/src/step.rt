@@ -11,20 +11,17 @@ ghost use Rattle.zone_answer.specs.Answers.{Ends, alias_in, by_alias, step, targ
 ghost use Rattle.zone_answer.specs.Parts.{Gives, GivesAtOnce, NoneOver};
 ghost use Rattle.zone_answer.specs.Standing.{IsPlaced, Shows, ShowsSome};
 
-use crate::cut::{NS, cut_over, is_cut};
+use crate::cut::{cut_over, is_cut};
 use crate::kind::Kind;
 use crate::node::absent_node;
 use crate::records::read_owned;
 use crate::rows::Rows;
 use crate::walker::Walker;
 use dns_name::Name;
-use rr_data::{ItemView, SetView};
+use rr_data::{CNAME, ItemView, NS, SetView};
 use shift_key::Key;
 use std::alloc::{AllocError, Global};
 use trie_read::Reading;
-
-/// The type of an alias.
-const CNAME: u16 = 5;
 
 /// How an answer goes on.
 #[derive(Clone, Copy)]

@@ -10,18 +10,9 @@ ghost use Rattle.zone_change.specs.declared.entries.Stopped.TheVariants.{Memory}
 use dns_name::Name;
 use job_script::{NewRecord, Operation};
 use qp_multi::Kept;
-use rr_data::{Entry, Rdata};
+use rr_data::{CNAME, Entry, ITEM_LIMIT, Rdata, SOA};
 use std::alloc::{AllocError, AllocFailed, Global};
 use zone_model::Refusal;
-
-/// The type of the start of authority.
-const SOA: u16 = 6;
-
-/// The type of an alias.
-const CNAME: u16 = 5;
-
-/// The most octets of an item.
-const ITEM_LIMIT: usize = 4096;
 
 /// Why an operation changes nothing.
 #[derive(Clone, Copy, Debug)]

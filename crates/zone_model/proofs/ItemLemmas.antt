@@ -1,11 +1,11 @@
 -- The octets of an item say its owner and entry, and only an item's octets say any.
-use Rattle.std.proofs.Common.{◌≡◌, ◌∙◌, ℕ, zero, suc, ◌<◌, ◌≤◌, ◌^◌, Bool, true, false, cond, leb, eqb, List, [], ◌∷◌, ◌++◌, length, take, drop, refl, sym, ap, subst, arith, Option, Some, None, option_and_then, length-append, append_assoc}
+use Rattle.std.proofs.Common.{◌≡◌, ◌∙◌, ℕ, zero, suc, ◌<◌, ◌≤◌, ◌^◌, true, false, cond, leb, eqb, List, [], ◌∷◌, ◌++◌, length, refl, sym, ap, subst, arith, Option, Some, None, option_and_then, length-append, append_assoc}
 use Rattle.std.proofs.lemmas.Bool.Decides.{nat_tests}
 use Rattle.std.specs.Option.{option_map}
 use Rattle.std.specs.List.{flat_map}
 use Rattle.std.specs.Int.{w16, w32, to_be_bytes, from_be_bytes}
 use Rattle.std.proofs.lemmas.Nat.{from_be_bytes-to_be_bytes_2, be_bytes_2, from_be_bytes-to_be_bytes_4, be_bytes_4}
-use Rattle.std.proofs.lemmas.List.{length-take-le, take-append-drop, append-nil, nil_from_length}
+use Rattle.std.proofs.lemmas.List.{append-nil, nil_from_length}
 use borrow.Author.Tests.{leb-true, ltb-true, eqb-true}
 use Rattle.std.specs.Ordering.{is_lt}
 use Rattle.std.specs.declared.cmp.Ordering.{Ordering}
@@ -14,7 +14,7 @@ use Rattle.zone_model.specs.Names.{Name, wire}
 use Rattle.zone_model.specs.Records.{Rrset, Entry, octets_cmp, record_bytes, rrset_bytes, item, item_limit, AboveOctets, RisingOctets, IsRrset, RisingSets, IsEntry, IsItem}
 use Rattle.zone_model.specs.Splits.{split_octets, split_name}
 use Rattle.zone_model.specs.Items.{split_short, split_number, split_record, is_above, split_records, set_of, split_set, type_above, split_sets, ended, entry_of, item_of}
-use Rattle.zone_model.proofs.SplitLemmas.{octets_back, name_back, name_sound, SplitsName, IsBytes}
+use Rattle.zone_model.proofs.SplitLemmas.{octets_back, name_back, name_sound, SplitsName, IsBytes, and_some, map_some, cond_some, bytes_behind, bytes_before, octets_sound}
 
 pub short_back : (n : ℕ) (rest : List ℕ) → n < 2 ^ 16 → split_short (to_be_bytes w16 n ++ rest) ≡ Some (n, rest)
 short_back n rest h =
@@ -130,34 +130,6 @@ item_back bytes owner entry h =
     ∙ ap (option_map (λ (e : Entry). (owner, e))) (entry_back entry h.some (short_entry owner entry l) h.proper)
 
 -- ---- only what was written
-
-and_some : {A B : Type 0} (f : A → Option B) (o : Option A) (y : B) → option_and_then f o ≡ Some y → (x : A) × (o ≡ Some x) × (f x ≡ Some y)
-and_some f None y h = absurd cc
-and_some f (Some x) y h = (x, refl, h)
-
-map_some : {A B : Type 0} (f : A → B) (o : Option A) (y : B) → option_map f o ≡ Some y → (x : A) × (o ≡ Some x) × (f x ≡ y)
-map_some f None y h = absurd cc
-map_some f (Some x) y h = (x, refl, cc)
-
-cond_some : {A : Type 0} (b : Bool) (o : Option A) (y : A) → cond b o None ≡ Some y → (b ≡ true) × (o ≡ Some y)
-cond_some true o y h = (refl, h)
-cond_some false o y h = absurd cc
-
-bytes_behind : (a r : List ℕ) → IsBytes (a ++ r) → IsBytes r
-bytes_behind [] r h = h
-bytes_behind (x ∷ a) r h = bytes_behind a r (λ i. h (suc i))
-
-bytes_before : (a r : List ℕ) → IsBytes (a ++ r) → IsBytes a
-bytes_before [] r h i = omega arith
-bytes_before (x ∷ a) r h zero = h zero
-bytes_before (x ∷ a) r h (suc i) = bytes_before a r (λ j. h (suc j)) i
-
-octets_sound : (n : ℕ) (bytes : List ℕ) (x : List ℕ × List ℕ) → split_octets n bytes ≡ Some x → (length x.0 ≡ n) × (bytes ≡ x.0 ++ x.1)
-octets_sound n bytes x h =
-    let c = cond_some (leb n (length bytes)) (Some (take n bytes, drop n bytes)) x h in
-    let le : n ≤ length bytes = leb-true n (length bytes) c.0 in
-    let e : (take n bytes, drop n bytes) ≡ x = cc in
-    (ap (λ (y : List ℕ × List ℕ). length y.0) (sym e) ∙ length-take-le n bytes le, sym (take-append-drop n bytes) ∙ ap (λ (y : List ℕ × List ℕ). y.0 ++ y.1) e)
 
 short_small : (l : List ℕ) → length l ≡ 2 → IsBytes l → from_be_bytes w16 l < 2 ^ 16
 short_small [] e b = absurd (omega arith)

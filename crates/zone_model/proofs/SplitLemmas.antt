@@ -71,28 +71,28 @@ name_back name rest h =
 abbrev pub IsBytes : List ℕ → Type 0
 IsBytes bs = (i : ℕ) → get_or bs i 0 < 256
 
-and_some : {A B : Type 0} (f : A → Option B) (o : Option A) (y : B) → option_and_then f o ≡ Some y → (x : A) × (o ≡ Some x) × (f x ≡ Some y)
+pub and_some : {A B : Type 0} (f : A → Option B) (o : Option A) (y : B) → option_and_then f o ≡ Some y → (x : A) × (o ≡ Some x) × (f x ≡ Some y)
 and_some f None y h = absurd cc
 and_some f (Some x) y h = (x, refl, h)
 
-map_some : {A B : Type 0} (f : A → B) (o : Option A) (y : B) → option_map f o ≡ Some y → (x : A) × (o ≡ Some x) × (f x ≡ y)
+pub map_some : {A B : Type 0} (f : A → B) (o : Option A) (y : B) → option_map f o ≡ Some y → (x : A) × (o ≡ Some x) × (f x ≡ y)
 map_some f None y h = absurd cc
 map_some f (Some x) y h = (x, refl, cc)
 
-cond_some : {A : Type 0} (b : Bool) (o : Option A) (y : A) → cond b o None ≡ Some y → (b ≡ true) × (o ≡ Some y)
+pub cond_some : {A : Type 0} (b : Bool) (o : Option A) (y : A) → cond b o None ≡ Some y → (b ≡ true) × (o ≡ Some y)
 cond_some true o y h = (refl, h)
 cond_some false o y h = absurd cc
 
-bytes_behind : (a r : List ℕ) → IsBytes (a ++ r) → IsBytes r
+pub bytes_behind : (a r : List ℕ) → IsBytes (a ++ r) → IsBytes r
 bytes_behind [] r h = h
 bytes_behind (x ∷ a) r h = bytes_behind a r (λ i. h (suc i))
 
-bytes_before : (a r : List ℕ) → IsBytes (a ++ r) → IsBytes a
+pub bytes_before : (a r : List ℕ) → IsBytes (a ++ r) → IsBytes a
 bytes_before [] r h i = omega arith
 bytes_before (x ∷ a) r h zero = h zero
 bytes_before (x ∷ a) r h (suc i) = bytes_before a r (λ j. h (suc j)) i
 
-octets_sound : (n : ℕ) (bytes : List ℕ) (x : List ℕ × List ℕ) → split_octets n bytes ≡ Some x → (length x.0 ≡ n) × (bytes ≡ x.0 ++ x.1)
+pub octets_sound : (n : ℕ) (bytes : List ℕ) (x : List ℕ × List ℕ) → split_octets n bytes ≡ Some x → (length x.0 ≡ n) × (bytes ≡ x.0 ++ x.1)
 octets_sound n bytes x h =
     let c = cond_some (leb n (length bytes)) (Some (take n bytes, drop n bytes)) x h in
     let le : n ≤ length bytes = leb-true n (length bytes) c.0 in

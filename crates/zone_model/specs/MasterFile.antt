@@ -5,8 +5,8 @@ use Rattle.std.specs.Char.{is_ascii_digit}
 use Rattle.zone_model.specs.Names.{Name, is_under, same_name, name_cmp}
 use Rattle.zone_model.specs.NameText.{name_of}
 use Rattle.zone_model.specs.Texts.{named}
-use Rattle.zone_model.specs.Records.{Rrset, Entry, rrset_of, with_rr, item}
-use Rattle.zone_model.specs.Versions.{Version, entry_of, has_soa, is_lone}
+use Rattle.zone_model.specs.Records.{Rrset, Entry, rrset_of, with_rr, item, item_limit}
+use Rattle.zone_model.specs.Versions.{Version, entry_of, has_soa, is_lone, soa_type}
 use Rattle.zone_model.specs.Refusals.{Refused, ◌>>=◌}
 use Rattle.zone_model.specs.declared.ZoneKind.{ZoneKind}
 use Rattle.zone_model.specs.declared.ZoneKind.TheVariants.{BadName, BadToken, OpenParen, NoOwner, NoTtl, BadTtl, BadClass, UnknownType, BadRdata, Include, OutsideZone, CnameAndOther, SoaRule, LongEntry}
@@ -129,7 +129,7 @@ or_else None other = other
 
 -- the time of a record: written, set by a directive, last written, or an SOA's minimum
 abbrev pub time_for : Option ℕ → ℕ → List ℕ → Reader → Option ℕ
-time_for written rtype octets r = or_else written (or_else r.set_time (or_else r.last_time (if rtype == 6 then Some (minimum_of octets) else r.minimum)))
+time_for written rtype octets r = or_else written (or_else r.set_time (or_else r.last_time (if rtype == soa_type then Some (minimum_of octets) else r.minimum)))
 
 abbrev pub soa_count : Entry → ℕ
 soa_count entry = count_in (rrset_of 6 entry)
@@ -143,7 +143,7 @@ abbrev pub entry_fault : Name → Entry → Option ZoneKind
 entry_fault owner entry =
     if nat_lt 1 (soa_count entry) then Some SoaRule
     else if not (is_lone entry) then Some CnameAndOther
-    else if nat_lt 4096 (length (item owner entry)) then Some LongEntry
+    else if nat_lt item_limit (length (item owner entry)) then Some LongEntry
     else None
 
 abbrev pub unless_fault : {A : Type 0} → ℕ → Option ZoneKind → A → Result A (Refused ZoneKind)
@@ -160,12 +160,12 @@ placed_in last owner rtype time octets version =
 unfoldable pub added : Name → ℕ → Name → ℕ → ℕ → List ℕ → Version → Result Version (Refused ZoneKind)
 added apex last owner rtype time octets version =
     if not (is_under owner apex) then refused last OutsideZone
-    else if (rtype == 6) && not (same_name owner apex) then refused last SoaRule
+    else if (rtype == soa_type) && not (same_name owner apex) then refused last SoaRule
     else placed_in last owner rtype time octets version
 
 abbrev pub after_record : Option ℕ → ℕ → List ℕ → Name → Reader → Version → Reader
 after_record written rtype octets owner r version =
-    record r { last_time = or_else written r.last_time; minimum = (if rtype == 6 then Some (minimum_of octets) else r.minimum); owner = Some owner; version = version }
+    record r { last_time = or_else written r.last_time; minimum = (if rtype == soa_type then Some (minimum_of octets) else r.minimum); owner = Some owner; version = version }
 
 -- the record of an owner that words say
 unfoldable pub record_says : Name → ℕ → Name → List Token → Reader → Result Reader (Refused ZoneKind)
