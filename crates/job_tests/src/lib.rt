@@ -1,0 +1,7 @@
+//! Tests of a job's workers, run: beside each other, with a gate that counts and orders what it is told.
+#![tactic(auto)]
+
+#[cfg(test)]
+mod gates;
+#[cfg(test)]
+mod workers;

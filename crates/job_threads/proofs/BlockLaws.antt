@@ -1,0 +1,129 @@
+-- How a block ends, by what its transaction's calls say.
+use Rattle.std.proofs.Common.{◌≡◌, ◌∙◌, true, ℕ, ◌+◌, ◌*◌, arith, List, Option, Some, None, Result, Ok, Err, IfOk, length, refl, sym, ap, subst}
+use Rattle.std.specs.Prelude.{IsSome, IsSomeAnd, IfSome, slice_get}
+use Rattle.std.specs.Option.{ForSome}
+use Rattle.atomic_table.specs.Seated.{TableId}
+use Rattle.std.specs.declared.alloc.AllocError.{AllocError}
+use Rattle.zone_model.specs.Names.{Name}
+use Rattle.zone_model.specs.declared.Refusal.{Refusal}
+use Rattle.zone_model.specs.Versions.{Operation as ZoneOperation}
+use Rattle.job_model.specs.declared.Ending.{Ending}
+use Rattle.job_model.specs.declared.Ending.TheVariants as ending
+use Rattle.job_model.specs.Outcomes.{Cause, Rule, Full, Spent, Ended, Committed, RolledBack, Refused, last_version}
+use Rattle.job_script.specs.Outcomes.{ended_view}
+use Rattle.job_script.specs.declared.outcomes.Outcome.{Outcome}
+use Rattle.shared_cells.specs.declared.pass.PassSeat.{PassSeat}
+use Rattle.shared_cells.specs.Views.{is_told, pass_of}
+use Rattle.trie_model.specs.Keys.{Entry}
+use Rattle.shared_index.specs.declared.meaning.Operation.{Operation}
+use Rattle.shared_index.specs.declared.desk.Draft.{Draft}
+use Rattle.shared_index.specs.declared.kept.Versions.{Versions}
+use Rattle.shared_index.specs.Passes.{Known, first_version, known_at}
+use Rattle.shared_index.specs.Drafts as drafts
+use Rattle.shared_index.specs.Drafts.{Begins, IsBack, Works, working_set}
+use Rattle.shared_index.specs.Keepings.{versions_in}
+use Rattle.zone_edit.specs.Stores.{WorksOnSome, EditsOne, Edits}
+use Rattle.zone_edit.specs.Blocks.{AppliesAll}
+use Rattle.zone_edit.specs.declared.applying.Halt.{Halt}
+use Rattle.zone_edit.specs.declared.applying.Halt.TheVariants as halts
+use Rattle.zone_edit.proofs.EditLaws.{Both, both, edits_some, some_weaker}
+use Rattle.job_threads.specs.Histories.{Setup, IsZone}
+use Rattle.job_threads.specs.Commands.{Transacts, BlockRan, StoppedBy}
+use Rattle.job_threads.proofs.TransactLaws.{Lawful, begun_some, commits_block, commits_grow, commits_version, back_grows, back_pass, back_version, rolled_back, rule_broken, spent_block, full_block}
+
+abbrev Seat : Type 0
+Seat = PassSeat (List Entry) (List Operation)
+
+there_is : (P : Draft → Type 0) (o : Option Draft) (d : Draft) → o ≡ Some d → IfSome o P → P d
+there_is P o d is h = subst (λ (x : Option Draft). IfSome x P) is h
+
+module _ (s : Setup) (operations : List ZoneOperation) (ends : Ending) (old : Known) (o : Outcome) (first second : Option Draft) (told : is_told old.seen.opening ≡ true) (opening : first_version old.seen ≡ s.opening) (begins : IsSomeAnd first (Begins Lawful old)) where
+  abbrev Edited : Result (Unit {0}) Halt → Type 0
+  Edited r = Edits (AppliesAll s.origin operations r) first second
+
+  pub commit_ran : (new : Known) (version : ℕ) → Edited (Ok tt) → ends ≡ ending.Commit → IfSome second (λ d. drafts.Commits d.seat.place.me.0 d.log.operations new) → IfSome second (λ d. version ≡ d.seat.version + 1)
+      → o.version ≡ version → ended_view o.told ≡ Committed → BlockRan s operations ends old new o
+  commit_ran new version edits is commits next here said =
+      let x = both (Begins Lawful old) (EditsOne (AppliesAll s.origin operations (Ok tt))) first second begins edits in
+      let c = there_is (λ d. drafts.Commits d.seat.place.me.0 d.log.operations new) second x.after x.new_is commits in
+      let v = there_is (λ d. version ≡ d.seat.version + 1) second x.after x.new_is next in
+      record {
+        grows = commits_grow s operations old x.before x.after x.met told opening x.related.known new c;
+        version = here ∙ commits_version s operations old x.before x.after x.met told opening x.related.known new version c v;
+        transacts = subst (Transacts s operations ends old new) (sym said) (is, commits_block s operations old x.before x.after x.met told opening x.related.known new x.related.becomes c);
+      }
+
+  -- the pass is back, and the block was on the base
+  module _ (seat : Option Seat) (version : ℕ) (back : IfSome second (λ d. IsBack d.seat.place.me.0 seat)) (base : IfSome first (λ d. version ≡ length d.seat.place.me.0.seen.history)) (here : o.version ≡ version) where
+    abbrev Two : Result (Unit {0}) Halt → Type 0
+    Two r = Both (Begins Lawful old) (EditsOne (AppliesAll s.origin operations r)) first second
+
+    two : (r : Result (Unit {0}) Halt) → Edited r → Two r
+    two r edits = both (Begins Lawful old) (EditsOne (AppliesAll s.origin operations r)) first second begins edits
+
+    known_back : (r : Result (Unit {0}) Halt) (x : Two r) → known_at seat ≡ pass_of x.after.seat.place.me.0
+    known_back r x = (there_is (λ d. IsBack d.seat.place.me.0 seat) second x.after x.new_is back).1
+
+    ran : (r : Result (Unit {0}) Halt) (x : Two r) (e : Ended) → ended_view o.told ≡ e → Transacts s operations ends old (known_at seat) e → BlockRan s operations ends old (known_at seat) o
+    ran r x e said t = record {
+      grows = back_grows s operations old x.before x.after x.met told opening x.related.known (known_at seat) (known_back r x);
+      version = here ∙ back_version s operations old x.before x.after x.met told opening x.related.known (known_at seat) (known_back r x) version (there_is (λ d. version ≡ length d.seat.place.me.0.seen.history) first x.before x.old_is base);
+      transacts = subst (Transacts s operations ends old (known_at seat)) (sym said) t;
+    }
+
+    pub rollback_ran : Edited (Ok tt) → ends ≡ ending.Rollback → ended_view o.told ≡ RolledBack → BlockRan s operations ends old (known_at seat) o
+    rollback_ran edits is said =
+        let x = two (Ok tt) edits in
+        ran (Ok tt) x RolledBack said (rolled_back s operations old x.before x.after x.met told opening x.related.known (known_at seat) (known_back (Ok tt) x) ends is x.related.becomes)
+
+    pub spent_ran : Edited (Ok tt) → ends ≡ ending.Commit → IfSome second (λ d. d.seat.version ≡ last_version) → ended_view o.told ≡ Refused Spent → BlockRan s operations ends old (known_at seat) o
+    spent_ran edits is spent said =
+        let x = two (Ok tt) edits in
+        ran (Ok tt) x (Refused Spent) said (spent_block s operations old x.before x.after x.met told opening x.related.known (known_at seat) (known_back (Ok tt) x) ends is (there_is (λ d. d.seat.version ≡ last_version) second x.after x.new_is spent) x.related.becomes)
+
+    pub refused_ran : (refusal : Refusal) → Edited (Err (halts.Refused refusal)) → ended_view o.told ≡ Refused (Rule refusal) → BlockRan s operations ends old (known_at seat) o
+    refused_ran refusal edits said =
+        let x = two (Err (halts.Refused refusal)) edits in
+        ran (Err (halts.Refused refusal)) x (Refused (Rule refusal)) said (rule_broken s operations old x.before x.after x.met told opening x.related.known (known_at seat) (known_back (Err (halts.Refused refusal)) x) ends refusal x.related.becomes)
+
+    pub full_ran : (operation : ℕ) (kept : Versions) → Edited (Err (halts.Full operation kept)) → IfSome second (λ d. s.chunks ≡ length d.usage.given) → IfSome first (λ d. s.passes ≡ d.seat.passes)
+        → ended_view o.told ≡ Refused (Full operation (versions_in kept)) → BlockRan s operations ends old (known_at seat) o
+    full_ran operation kept edits chunks passes said =
+        let x = two (Err (halts.Full operation kept)) edits in
+        ran (Err (halts.Full operation kept)) x (Refused (Full operation (versions_in kept))) said
+        (full_block s operations old x.before x.after x.met told opening x.related.known (known_at seat) (known_back (Err (halts.Full operation kept)) x) ends operation kept
+        (there_is (λ d. s.chunks ≡ length d.usage.given) second x.after x.new_is chunks)
+        (there_is (λ d. s.passes ≡ d.seat.passes) first x.before x.old_is passes ∙ sym x.related.passes) x.related.becomes)
+
+-- ---- what calls ask of a transaction
+
+module _ (old : Known) (first : Option Draft) (begins : IsSomeAnd first (Begins Lawful old)) where
+  pub begun_there : IsSome first
+  begun_there = by_draft first begins
+    where
+      by_draft : (o : Option Draft) → IsSomeAnd o (Begins Lawful old) → IsSome o
+      by_draft (Some d) b = refl
+      by_draft None b = absurd b
+
+  pub begun_works : IsSomeAnd first WorksOnSome
+  begun_works = some_weaker (Begins Lawful old) WorksOnSome first (begun_some old) begins
+
+  module _ (origin : Name) (operations : List ZoneOperation) (second : Option Draft) (edits : Edits (AppliesAll origin operations (Ok tt)) first second) where
+    works_still : IsSomeAnd second WorksOnSome
+    works_still = edits_some (AppliesAll origin operations (Ok tt)) first second begun_works (λ version e a. record { version = a.0; on = a.2 }) edits
+
+    pub after_works : IsSomeAnd second Works
+    after_works = some_weaker WorksOnSome Works second (λ d w. w.on.works) works_still
+
+    pub after_zone : IsSomeAnd second (λ d. IsZone (working_set d))
+    after_zone = some_weaker WorksOnSome (λ d. IsZone (working_set d)) second (λ d w. record { version = w.version; stands = record { valid = w.on.valid; entries = sym w.on.set } }) works_still
+
+-- ---- a transaction has as many chunks as its index, by the table that both are on
+
+pub full_chunks : (names : List TableId) (place place' chunks : ℕ) (a b : TableId) (second : Option Draft) → slice_get names place ≡ Some a → slice_get names place' ≡ Some b → place' ≡ place → 4161 + 2048 * chunks ≡ a.words → ForSome second (λ d. d.seat.place.table_id ≡ b) → IfSome second (λ d. chunks ≡ length d.usage.given)
+full_chunks names place place' chunks a b None is_a is_b same wide there = tt
+full_chunks names place place' chunks a b (Some d) is_a is_b same wide there =
+    let table : ◌≡◌ {A = Option TableId} (Some a) (Some b) = sym is_a ∙ ap (slice_get names) (sym same) ∙ is_b in
+    let words : a.words ≡ b.words = (let e : a ≡ b = cc in ap (λ (t : TableId). t.words) e) in
+    let mine : 4161 + 2048 * length d.usage.given ≡ b.words = d.wide ∙ ap (λ (t : TableId). t.words) (there d refl) in
+    omega (arith, wide, words, mine)

@@ -1,0 +1,11 @@
+pub mod HistoryLaws
+pub mod ShowLaws
+pub mod StepLaws
+pub mod StationLaws
+pub mod WorkLaws
+pub mod JobLaws
+pub mod CloseLaws
+pub mod TransactLaws
+pub mod BlockLaws
+pub mod GatherLaws
+pub mod EndLaws

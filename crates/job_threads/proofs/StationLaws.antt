@@ -1,0 +1,50 @@
+-- Steps of a worker, by where its passes are.
+use Rattle.std.proofs.Common.{◌≡◌, ◌∙◌, ℕ, true, false, List, Option, Some, None, refl, sym, ap, subst}
+use Rattle.std.specs.Prelude.{IsSome}
+use Rattle.zone_model.specs.Versions.{Operation as ZoneOperation}
+use Rattle.job_model.specs.declared.Ending.{Ending}
+use Rattle.job_model.specs.declared.Weight.{Weight}
+use Rattle.job_model.specs.Commands.{Question, Ask, Hold, AskHeld, Release, Block}
+use Rattle.job_script.specs.declared.outcomes.Outcome.{Outcome}
+use Rattle.shared_index.specs.Passes.{Known, known_at, first_version}
+use Rattle.job_threads.specs.Histories.{Setup}
+use Rattle.job_threads.specs.Commands.{Asked, IsHeld, Held, AskedHeld, Released, BlockRan}
+use Rattle.job_threads.specs.Steps.{IsUnder, Step}
+use Rattle.job_threads.specs.Stations.{Seat, Pinned, holder_view, station, IsPlaced}
+use Rattle.job_threads.proofs.ShowLaws.{seat_told, holder_told, seat_pass}
+use Rattle.job_threads.proofs.StepLaws.{ask_step, block_step, hold_step, held_step, release_step}
+
+module _ (s : Setup) (o : Outcome) (asks : Option Seat) (some : IsSome asks) (opened : first_version (known_at asks).seen ≡ s.opening) where
+  module _ (spare : Option (Option Seat)) (held : Option Pinned) (placed : IsPlaced spare held) (under : IsUnder (known_at asks) (holder_view spare held)) (asks' : Option Seat) where
+    pub ask_done : (question : Question) → Asked s.origin question (known_at asks) (known_at asks') o → Step s (Ask question) o (station asks spare held) (station asks' spare held)
+    ask_done question a = ask_step s o (station asks spare held) (station asks' spare held) opened (seat_told asks some) (holder_told spare held placed) under refl refl a.grows question a
+
+    pub block_done : (weight : Weight) (operations : List ZoneOperation) (ending : Ending) → BlockRan s operations ending (known_at asks) (known_at asks') o → Step s (Block weight operations ending) o (station asks spare held) (station asks' spare held)
+    block_done weight operations ending b =
+        let own = seat_pass asks some in
+        block_step s o (station asks spare held) (station asks' spare held) opened (seat_told asks some) (holder_told spare held placed) under refl refl b.grows weight operations ending own.0 own.1 b
+
+  pub hold_done : (second : Option Seat) → IsSome second → IsUnder (known_at asks) (known_at second) → (asks' : Option Seat) (seat : Pinned) → IsHeld seat → Held (known_at asks) (known_at second) (known_at asks') seat o
+      → Step s Hold o (station asks (Some second) None) (station asks' None (Some seat))
+  hold_done second there under asks' seat h t =
+      hold_step s o (station asks (Some second) None) (station asks' None (Some seat)) opened (seat_told asks some) (seat_told second there) under seat refl refl h t
+
+  pub held_done : (seat : Pinned) → IsHeld seat → IsUnder (known_at asks) seat.place.me.0 → (question : Question) → AskedHeld s.origin question seat o → Step s (AskHeld question) o (station asks None (Some seat)) (station asks None (Some seat))
+  held_done seat h under question a = held_step s o (station asks None (Some seat)) opened (seat_told asks some) seat.told under seat refl refl h question a
+
+  pub release_done : (seat : Pinned) → IsHeld seat → IsUnder (known_at asks) seat.place.me.0 → (second : Option Seat) → Released seat (known_at second) o → Step s Release o (station asks None (Some seat)) (station asks (Some second) None)
+  release_done seat h under second r =
+      release_step s o (station asks None (Some seat)) opened (seat_told asks some) seat.told under seat refl refl h (station asks (Some second) None) refl refl r
+
+-- ---- where the second pass is when a worker ends
+
+pub placed_some : (spare : Option (Option Seat)) (held : Option Pinned) (seat : Pinned) → held ≡ Some seat → IsPlaced spare held → IsHeld seat × (holder_view spare held ≡ seat.place.me.0)
+placed_some (Some other) (Some pinned) seat is placed = absurd placed
+placed_some (Some other) None seat is placed = absurd cc
+placed_some None (Some pinned) seat is placed = let same : pinned ≡ seat = cc in (subst IsHeld same placed, ap (λ (x : Pinned). x.place.me.0) same)
+placed_some None None seat is placed = absurd placed
+
+pub placed_none : (spare : Option (Option Seat)) (held : Option Pinned) (seat : Option Seat) → spare ≡ Some seat → held ≡ None → IsPlaced spare held → IsSome seat × (holder_view spare held ≡ known_at seat)
+placed_none (Some other) None seat is none placed = let same : other ≡ seat = cc in (subst IsSome same placed, ap known_at same)
+placed_none (Some other) (Some pinned) seat is none placed = absurd placed
+placed_none None held seat is none placed = absurd cc

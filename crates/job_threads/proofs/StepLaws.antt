@@ -1,0 +1,266 @@
+-- What each kind of command does is a step of its worker.
+use Rattle.std.proofs.Common.{◌≡◌, ◌∙◌, ◌⊎◌, inl, inr, ℕ, ◌+◌, ◌-◌, ◌<◌, ◌≤◌, Bool, true, false, List, [], ◌∷◌, ◌++◌, length, Option, Some, None, Result, Ok, Err, refl, sym, ap, subst, arith, length-append}
+use Rattle.std.specs.Prelude.{Contains, IsOk}
+use Rattle.std.proofs.lemmas.List.Elements.{Contains-push, Contains-push_cases}
+use Rattle.zone_model.specs.Versions.{Version, Operation as ZoneOperation, whole}
+use Rattle.zone_model.specs.declared.Refusal.{Refusal}
+use Rattle.trie_model.specs.Keys as trie
+use Rattle.job_model.specs.declared.Ending.{Ending}
+use Rattle.job_model.specs.declared.Weight.{Weight}
+use Rattle.job_model.specs.Commands.{Question, Command, Ask, Hold, AskHeld, Release, Block}
+use Rattle.job_model.specs.Replies.{Reply, reply_of}
+use Rattle.job_model.specs.Outcomes.{Ended, Shown, Committed, RolledBack, Refused, is_committed, Sight, Shows, Causes, BlockEnds, EndsLawfully, shown_by}
+use Rattle.job_script.specs.Outcomes.{ended_view, Replies, EndsBlock, Tells}
+use Rattle.job_script.specs.declared.outcomes.Told.{Told}
+use Rattle.job_script.specs.declared.outcomes.Told.TheVariants as told
+use Rattle.job_script.specs.declared.outcomes.Outcome.{Outcome}
+use Rattle.shared_cells.specs.declared.pinned.PinnedSeat.{PinnedSeat}
+use Rattle.shared_cells.specs.declared.view.PassView.{PassView}
+use Rattle.shared_cells.specs.History.{StartsWith, IsPartOf, version_after}
+use Rattle.shared_cells.specs.Views.{is_told, with_pinned}
+use Rattle.shared_index.specs.declared.meaning.Operation.{Operation}
+use Rattle.shared_index.specs.Operations.{applied}
+use Rattle.shared_index.specs.Passes.{Known, first_version, version_seen}
+use Rattle.job_threads.specs.Histories.{Setup, Entries, StandsAs, AreVersions, CoversNamings, judged_by}
+use Rattle.job_threads.specs.Commands.{Asked, IsHeld, Held, AskedHeld, Released, Commits, Transacts, BlockRan}
+use Rattle.job_threads.specs.Steps.{Station, HoldsLast, IsSight, IsUnder, Adds, Stays, Writes, Step}
+use Rattle.job_threads.proofs.HistoryLaws.{begins_same, begins_more, begins_length, last_stands, opened_same, part_same}
+
+abbrev Own : Type 0
+Own = PassView (List Operation)
+
+-- ---- outcomes
+
+ends_block : (t : Told) (e : Ended) → ended_view t ≡ e → (e ≡ Shown → ⊥) → EndsBlock t
+ends_block (told.Reply reply) e is n = n (sym is)
+ends_block told.Held e is n = n (sym is)
+ends_block told.Released e is n = n (sym is)
+ends_block told.Committed e is n = tt
+ends_block told.RolledBack e is n = tt
+ends_block (told.Refused refused) e is n = tt
+
+shows_at : (May : Type 0) (e : Ended) → e ≡ Shown → May → Shows May e
+shows_at May e is may = subst (Shows May) (sym is) may
+
+ok_from : (r : Result Version Refusal) (v : Version) → r ≡ Ok v → IsOk r
+ok_from (Ok w) v e = refl
+ok_from (Err x) v e = cc
+
+-- ---- what a pass has done
+
+stays_same : (c : Command) (version : ℕ) (own : Own) (v : Known) → v.pass ≡ Some own → Stays c version own v
+stays_same c version own v is = record { now = own; pass = is; number = refl; entries = refl; pinned = λ n here. inl here }
+
+-- it has pinned the version that the outcome shows
+stays_pinned : (c : Command) (version : ℕ) (own : Own) (old new : Known) → shown_by c version ≡ version ∷ [] → old.pass ≡ Some own → new.pass ≡ with_pinned old.pass version → Stays c version own new
+stays_pinned c version own old new shown is pass = record {
+  now = record own { pinned = own.pinned ++ version ∷ [] };
+  pass = pass ∙ ap (λ (p : Option Own). with_pinned p version) is;
+  number = refl;
+  entries = refl;
+  pinned = λ n here. elim (Contains-push_cases own.pinned version n here) [
+    | inl was ↦ inl was
+    | inr e ↦ inr (subst (λ (l : List ℕ). Contains l n) (sym shown) (subst (Contains (version ∷ [])) e (Contains-push [] version)))
+  ];
+}
+
+writes_nothing : (s : Setup) (own : Own) (c : Command) (version : ℕ) (b : Bool) (old new : Known) → b ≡ false → Stays c version own new → Writes s own c version b old new
+writes_nothing s own c version b old new e y = subst (λ (x : Bool). Writes s own c version x old new) (sym e) y
+
+shown_plain : (e : Ended) → e ≡ Shown → is_committed e ≡ false
+shown_plain e is = ap is_committed is
+
+-- a version that was seen stands as the set has it
+seen_stands : (s : Setup) (set : ℕ → Version) (asks part : Known) (v : ℕ) → first_version part.seen ≡ s.opening → StartsWith asks.seen.history part.seen.history → v ≡ length part.seen.history → AreVersions s asks.seen.history set → StandsAs (version_seen part.seen) (set v)
+seen_stands s set asks part v opening front e are =
+    subst (λ (o : Entries). StandsAs (version_after applied o part.seen.history) (set v)) (sym opening) (last_stands s asks.seen.history part.seen.history set v front e are)
+
+module _ (s : Setup) (o : Outcome) (old new : Station) (opened : first_version old.asks.seen ≡ s.opening) (told_asks : is_told old.asks.seen.opening ≡ true) (told_holds : is_told old.holds.seen.opening ≡ true) (under : IsUnder old.asks old.holds) where
+  module _ (same : new.holds ≡ old.holds) (held : new.held ≡ old.held) (grows : IsPartOf new.asks.seen old.asks.seen) where
+    -- the first pass alone went on
+    still_under : IsUnder new.asks new.holds
+    still_under = subst (IsUnder new.asks) (sym same) (record {
+      opening = under.opening ∙ sym (opened_same new.asks.seen old.asks.seen told_asks grows);
+      history = begins_more new.asks.seen.history old.asks.seen.history old.holds.seen.history grows.history under.history;
+    })
+
+    still_part : IsPartOf new.holds.seen old.holds.seen
+    still_part = subst (λ (v : Known). IsPartOf v.seen old.holds.seen) (sym same) (part_same old.holds.seen told_holds)
+
+    still_holds : (v : Option ℕ) → HoldsLast old old.held v → HoldsLast new new.held v
+    still_holds v h = subst (λ (b : Bool). HoldsLast new b v) (sym held) (by_held old.held h)
+      where
+        by_held : (b : Bool) → HoldsLast old b v → HoldsLast new b v
+        by_held false h = h
+        by_held true h = h ∙ ap (λ (k : Known). Some (length k.seen.history)) (sym same)
+
+    still_kept : (c : Command) (own : Own) → old.holds.pass ≡ Some own → Stays c o.version own new.holds
+    still_kept c own is = stays_same c o.version own new.holds (ap (λ (k : Known). k.pass) same ∙ is)
+
+    opened_now : first_version new.asks.seen ≡ s.opening
+    opened_now = opened_same new.asks.seen old.asks.seen told_asks grows ∙ opened
+
+    pub ask_step : (question : Question) → Asked s.origin question old.asks new.asks o → Step s (Ask question) o old new
+    ask_step question a =
+        let replies : (set : ℕ → Version) → AreVersions s new.asks.seen.history set → Replies (reply_of s.origin (set o.version) question) o.told =
+        λ set are. a.replies (set o.version) (seen_stands s set new.asks new.asks o.version opened_now (begins_same new.asks.seen.history) a.version are) in
+        let long = begins_length new.asks.seen.history old.asks.seen.history grows.history in
+        record {
+          asks = a.grows;
+          holds = still_part;
+          under = still_under;
+          held = held;
+          tells = replies;
+          ends = λ sight is set shown are covers.
+              let seen = is.seen in
+              let le : sight.seen ≤ o.version = omega (arith, seen, long, a.version) in
+              shows_at (sight.seen ≤ o.version) (ended_view o.told) a.shown le;
+          below = omega (arith, a.version);
+          holding = λ sight is. record { seen = omega (arith, a.version); held = still_holds sight.held is.held };
+          writes = λ own is. writes_nothing s own (Ask question) o.version (is_committed (ended_view o.told)) old.asks new.asks (shown_plain (ended_view o.told) a.shown) (stays_pinned (Ask question) o.version own old.asks new.asks refl is a.pass);
+          kept = still_kept (Ask question);
+        }
+
+    pub block_step : (weight : Weight) (operations : List ZoneOperation) (ending : Ending) (own : Own) → old.asks.pass ≡ Some own → BlockRan s operations ending old.asks new.asks o → Step s (Block weight operations ending) o old new
+    block_step weight operations ending own is b = record {
+      asks = b.grows;
+      holds = still_part;
+      under = still_under;
+      held = held;
+      tells = λ set are. by_told (ended_view o.told) refl b.transacts;
+      ends = λ sight is' set shown are covers. by_end sight is' set shown are covers (ended_view o.told) b.transacts;
+      below = omega (arith, b.version);
+      holding = λ sight is'. record { seen = omega (arith, b.version); held = still_holds sight.held is'.held };
+      writes = λ own' is'. by_write own' is' (ended_view o.told) b.transacts;
+      kept = still_kept (Block weight operations ending);
+    }
+      where
+        long : length old.asks.seen.history ≤ length new.asks.seen.history
+        long = begins_length new.asks.seen.history old.asks.seen.history grows.history
+
+        by_told : (e : Ended) → ended_view o.told ≡ e → Transacts s operations ending old.asks new.asks e → EndsBlock o.told
+        by_told Shown e t = absurd t
+        by_told Committed e t = ends_block o.told Committed e (λ x. cc)
+        by_told RolledBack e t = ends_block o.told RolledBack e (λ x. cc)
+        by_told (Refused cause) e t = ends_block o.told (Refused cause) e (λ x. cc)
+
+        stands_at : (set : ℕ → Version) → AreVersions s new.asks.seen.history set → StandsAs (version_seen new.asks.seen) (set o.version)
+        stands_at set are = seen_stands s set new.asks new.asks o.version opened_now (begins_same new.asks.seen.history) b.version are
+
+        by_end : (sight : Sight) → IsSight old sight → (set : ℕ → Version) (shown : List ℕ) → AreVersions s new.asks.seen.history set → CoversNamings shown new.asks.seen → (e : Ended) → Transacts s operations ending old.asks new.asks e → BlockEnds (judged_by s set shown) sight.seen operations ending o.version e
+        by_end sight is' set shown are covers Shown t = t
+        by_end sight is' set shown are covers Committed t =
+            let c = t.1 own is in
+            let seen = is'.seen in
+            let base_long = begins_length c.base old.asks.seen.history c.before in
+            let longer : length new.asks.seen.history ≡ length c.base + 1 = ap length c.history ∙ length-append c.base _ in
+            let before_it : sight.seen < o.version = (let v = b.version in omega arith) in
+            let last : o.version - 1 ≡ length c.base = (let v = b.version in omega arith) in
+            let base = last_stands s new.asks.seen.history c.base set (o.version - 1) (_, c.history) last are in
+            let made = c.makes (set (o.version - 1)) base in
+            (t.0, before_it, ok_from (whole s.origin operations (set (o.version - 1))) made.0 made.1)
+        by_end sight is' set shown are covers RolledBack t =
+            let seen = is'.seen in
+            let l = long in
+            let le : sight.seen ≤ o.version = (let v = b.version in omega arith) in
+            (t.0, le, t.2 (set o.version) (stands_at set are))
+        by_end sight is' set shown are covers (Refused cause) t =
+            let seen = is'.seen in
+            let l = long in
+            let le : sight.seen ≤ o.version = (let v = b.version in omega arith) in
+            (le, subst (λ (n : ℕ). Causes (judged_by s set shown) operations ending n cause) (sym b.version) (t.1 set shown are covers))
+
+        by_write : (own' : Own) → old.asks.pass ≡ Some own' → (e : Ended) → Transacts s operations ending old.asks new.asks e → Writes s own' (Block weight operations ending) o.version (is_committed e) old.asks new.asks
+        by_write own' is' Shown t = absurd t
+        by_write own' is' Committed t =
+            let c = t.1 own' is' in
+            let longer : length new.asks.seen.history ≡ length c.base + 1 = ap length c.history ∙ length-append c.base _ in
+            record {
+              base = c.base;
+              operations = c.changes;
+              before = c.before;
+              mine = c.mine;
+              history = c.history;
+              pass = c.pass;
+              numbered = b.version ∙ longer;
+              makes = c.makes;
+            }
+        by_write own' is' RolledBack t = stays_same (Block weight operations ending) o.version own' new.asks (t.1 ∙ is')
+        by_write own' is' (Refused cause) t = stays_same (Block weight operations ending) o.version own' new.asks (t.0 ∙ is')
+
+  -- the second pass took a snapshot
+  pub hold_step : (seat : PinnedSeat (List trie.Entry) (List Operation)) → new.holds ≡ seat.place.me.0 → new.held ≡ true → IsHeld seat → Held old.asks old.holds new.asks seat o → Step s Hold o old new
+  hold_step seat now taken h t =
+      let grows = begins_length seat.place.me.0.seen.history old.asks.seen.history t.learns.history in
+      let long = begins_length new.asks.seen.history seat.place.me.0.seen.history t.tells.history in
+      let last : o.version ≡ length seat.place.me.0.seen.history = t.version ∙ h.version in
+      let shown : ended_view o.told ≡ Shown = ap ended_view t.is_told in
+      record {
+        asks = t.first;
+        holds = subst (λ (v : Known). IsPartOf v.seen old.holds.seen) (sym now) t.grows;
+        under = subst (IsUnder new.asks) (sym now) (record { opening = sym (opened_same new.asks.seen seat.place.me.0.seen seat.told t.tells); history = t.tells.history });
+        held = taken;
+        tells = λ set are. t.is_told;
+        ends = λ sight is set shown' are covers.
+            let seen = is.seen in
+            let le : sight.seen ≤ o.version = omega (arith, seen, grows, last) in
+            shows_at (sight.seen ≤ o.version) (ended_view o.told) shown le;
+        below = omega (arith, long, last);
+        holding = λ sight is. record {
+          seen = omega (arith, long, last);
+          held = subst (λ (b : Bool). HoldsLast new b (Some o.version)) (sym taken) (ap (λ (n : ℕ). Some n) (last ∙ sym (ap (λ (v : Known). length v.seen.history) now)));
+        };
+        writes = λ own is. writes_nothing s own Hold o.version (is_committed (ended_view o.told)) old.asks new.asks (shown_plain (ended_view o.told) shown) (stays_same Hold o.version own new.asks (t.same ∙ is));
+        kept = λ own is. stays_pinned Hold o.version own old.holds new.holds refl is (ap (λ (v : Known). v.pass) now ∙ t.pass);
+      }
+
+-- nothing more was seen
+module _ (s : Setup) (o : Outcome) (old : Station) (opened : first_version old.asks.seen ≡ s.opening) (told_asks : is_told old.asks.seen.opening ≡ true) (told_holds : is_told old.holds.seen.opening ≡ true) (under : IsUnder old.asks old.holds) (seat : PinnedSeat (List trie.Entry) (List Operation)) (now : old.holds ≡ seat.place.me.0) (taken : old.held ≡ true) (h : IsHeld seat) where
+  below_asks : o.version ≡ seat.version → o.version ≤ length old.asks.seen.history
+  below_asks e =
+      let long = begins_length old.asks.seen.history old.holds.seen.history under.history in
+      let same = ap (λ (v : Known). length v.seen.history) now in
+      omega (arith, e, h.version, long, same)
+
+  held_version : (sight : Sight) → IsSight old sight → o.version ≡ seat.version → sight.held ≡ Some o.version
+  held_version sight is e =
+      subst (λ (b : Bool). HoldsLast old b sight.held) taken is.held ∙ ap (λ (n : ℕ). Some n) (ap (λ (v : Known). length v.seen.history) now ∙ sym h.version ∙ sym e)
+
+  pub held_step : (question : Question) → AskedHeld s.origin question seat o → Step s (AskHeld question) o old old
+  held_step question a = record {
+    asks = part_same old.asks.seen told_asks;
+    holds = part_same old.holds.seen told_holds;
+    under = under;
+    held = refl;
+    tells = λ set are. a.replies (set o.version)
+        (subst (λ (v : Known). StandsAs (version_seen v.seen) (set o.version)) now (seen_stands s set old.asks old.holds o.version (under.opening ∙ opened) under.history (a.version ∙ h.version ∙ sym (ap (λ (v : Known). length v.seen.history) now)) are));
+    ends = λ sight is set shown are covers. shows_at (sight.held ≡ Some o.version) (ended_view o.told) a.shown (held_version sight is a.version);
+    below = below_asks a.version;
+    holding = λ sight is. is;
+    writes = λ own is. writes_nothing s own (AskHeld question) o.version (is_committed (ended_view o.told)) old.asks old.asks (shown_plain (ended_view o.told) a.shown) (stays_same (AskHeld question) o.version own old.asks is);
+    kept = λ own is. stays_same (AskHeld question) o.version own old.holds is;
+  }
+
+  pub release_step : (new : Station) → new.asks ≡ old.asks → new.held ≡ false → Released seat new.holds o → Step s Release o old new
+  release_step new same free r =
+      let shown : ended_view o.told ≡ Shown = ap ended_view r.is_told in
+      let seen : new.holds.seen ≡ old.holds.seen = ap (λ (v : Known). v.seen) r.left ∙ sym (ap (λ (v : Known). v.seen) now) in
+      let pass : new.holds.pass ≡ old.holds.pass = ap (λ (v : Known). v.pass) r.left ∙ sym (ap (λ (v : Known). v.pass) now) in
+      record {
+        asks = subst (λ (v : Known). IsPartOf v.seen old.asks.seen) (sym same) (part_same old.asks.seen told_asks);
+        holds = subst (λ x. IsPartOf x old.holds.seen) (sym seen) (part_same old.holds.seen told_holds);
+        under = subst (λ (v : Known). IsUnder v new.holds) (sym same) (record {
+          opening = ap first_version seen ∙ under.opening;
+          history = subst (λ x. StartsWith old.asks.seen.history x.history) (sym seen) under.history;
+        });
+        held = free;
+        tells = λ set are. r.is_told;
+        ends = λ sight is set shown' are covers. shows_at (sight.held ≡ Some o.version) (ended_view o.told) shown (held_version sight is r.version);
+        below = (let b = below_asks r.version in let e = ap (λ (v : Known). length v.seen.history) same in omega arith);
+        holding = λ sight is. record {
+          seen = (let l = is.seen in let e = ap (λ (v : Known). length v.seen.history) same in omega arith);
+          held = subst (λ (b : Bool). HoldsLast new b None) (sym free) refl;
+        };
+        writes = λ own is. writes_nothing s own Release o.version (is_committed (ended_view o.told)) old.asks new.asks (shown_plain (ended_view o.told) shown) (stays_same Release o.version own new.asks (ap (λ (v : Known). v.pass) same ∙ is));
+        kept = λ own is. stays_same Release o.version own new.holds (pass ∙ is);
+      }

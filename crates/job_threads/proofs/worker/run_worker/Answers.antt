@@ -1,0 +1,60 @@
+use Rattle.std.proofs.Common.{◌≡◌, ◌∙◌, ◌+◌, ◌≤◌, List, [], ◌∷◌, ◌++◌, None, length, take, drop, map, refl, sym, ap, subst, arith}
+use Rattle.std.proofs.lemmas.List.{take_all}
+use Rattle.std.specs.Option.{option_map, is_some}
+use Rattle.job_model.specs.Commands.{Command, InTurn}
+use Rattle.job_script.specs.Views.{command_view}
+use Rattle.job_script.specs.declared.outcomes.Outcome.{Outcome}
+use Rattle.job_script.specs.declared.commands.Command.{Command as Said}
+use Rattle.shared_index.specs.Passes.{known_at}
+use Rattle.job_threads.specs.Commands.{IsSetup}
+use Rattle.job_threads.specs.Steps.{Step}
+use Rattle.job_threads.specs.Stations.{station, holder_view}
+use Rattle.job_threads.specs.Works.{Begins, Numbers, WorkerRan, ended}
+use Rattle.job_threads.proofs.HistoryLaws.{opened_same}
+use Rattle.job_threads.proofs.ShowLaws.{seat_told}
+use Rattle.job_threads.proofs.WorkLaws.{WorkerAt, worker_starts, worker_next, worker_ran, worker_back, turn_here}
+use Rattle.job_threads.proofs.worker.run_worker.Goals as goal
+
+pub loop-place-init : goal.loop-place-init
+loop-place-init g c = record {
+  here = c.requires.here.0;
+  place = c.requires.places.0;
+  places = c.requires.places.1;
+  held_at = tt;
+  placed = c.requires.here.1;
+  turn = c.requires.in_turn;
+  at = λ s numbers setup begins. subst (λ (os : List Outcome). WorkerAt s numbers (ended (known_at c.args.task.asks.seat) (known_at c.args.task.spare.seat)) [] (map command_view c.args.task.commands.now) os) (sym c.in_ok-list.ensures.items)
+      (worker_starts s numbers (known_at c.args.task.asks.seat) (known_at c.args.task.spare.seat) (map command_view c.args.task.commands.now) begins c.requires.in_turn);
+}
+
+pub run_command-requires-clause-may : goal.run_command-requires-clause-may
+run_command-requires-clause-may g c =
+    (turn_here (is_some (option_map (λ s. s.seat) c.loop-place.passes.held)) c.args.task.commands.now c.loop-place.place c.index-commands-place.result c.loop-place-test.true c.index-commands-place.is c.loop-place.invariant.turn).0
+
+pub loop-place-preserved : goal.loop-place-preserved
+loop-place-preserved g c =
+    let i = c.loop-place.invariant in
+    let commands = c.args.task.commands.now in
+    let here = c.index-commands-place.result in
+    let next = turn_here (is_some (option_map (λ s. s.seat) c.loop-place.passes.held)) commands c.loop-place.place here c.loop-place-test.true c.index-commands-place.is i.turn in
+    record {
+      here = c.in_ok-outcome.ensures.here;
+      place = c.in_ok-outcome.ensures.place;
+      places = c.in_ok-outcome.ensures.places;
+      held_at = c.in_ok-outcome.ensures.held_at;
+      placed = c.in_ok-outcome.ensures.placed;
+      turn = subst (λ b. InTurn b (map command_view (drop (c.loop-place.place + 1) commands))) (sym c.in_ok-outcome.ensures.held) next.1;
+      at = λ s numbers setup begins.
+          let w = i.at s numbers setup begins in
+          let step = c.in_ok-outcome.ensures.steps s (record { index = setup.index; opening = w.work.opened }) w.under in
+          subst (λ (os : List Outcome). WorkerAt s numbers _ _ _ os) (sym c.in_ok-push.ensures.items)
+          (worker_next s numbers _ _ commands c.loop-place.place here _ _ c.loop-place-test.true c.index-commands-place.is (seat_told c.loop-place.passes.asks.seat i.here) w step);
+    }
+
+pub returns-clause-ran : goal.returns-clause-ran
+returns-clause-ran g c = λ s numbers setup begins.
+    let commands = c.args.task.commands.now in
+    let past : length commands ≤ c.loop-place.place = omega (arith, c.loop-place-test.false) in
+    let w = c.loop-place.invariant.at s numbers setup begins in
+    worker_back s numbers _ _ _ _ c.second_pass.ensures.pass
+    (worker_ran s numbers _ (map command_view commands) (map command_view (take c.loop-place.place commands)) _ _ (ap (map command_view) (take_all c.loop-place.place commands past)) w)

@@ -1,0 +1,112 @@
+-- What each kind of command does.
+use Rattle.std.specs.Prelude.{◌≡◌, ℕ, ◌+◌, List, ◌∷◌, [], ◌++◌, length, Some, Ok, Result, IsOk, IsErr, IfOk}
+use Rattle.std.specs.declared.alloc.AllocError.{AllocError}
+use Rattle.zone_model.specs.Names.{Name}
+use Rattle.zone_model.specs.Versions.{Version, Operation as ZoneOperation, whole}
+use Rattle.trie_model.specs.Keys as trie
+use Rattle.job_model.specs.declared.Ending.{Ending}
+use Rattle.job_model.specs.declared.Ending.TheVariants.{Commit, Rollback}
+use Rattle.job_model.specs.Commands.{Question}
+use Rattle.job_model.specs.Replies.{reply_of}
+use Rattle.job_model.specs.Outcomes.{Cause, Rule, Full, Causes, Ended, Shown, Committed, RolledBack, Refused}
+use Rattle.job_script.specs.Outcomes.{ended_view, Replies}
+use Rattle.job_script.specs.declared.outcomes.Told.TheVariants as told
+use Rattle.job_script.specs.declared.outcomes.Outcome.{Outcome}
+use Rattle.shared_cells.specs.declared.view.TableSize.{TableSize}
+use Rattle.shared_cells.specs.declared.view.Progress.TheVariants as progress
+use Rattle.shared_cells.specs.declared.view.PassView.{PassView}
+use Rattle.shared_cells.specs.declared.pinned.PinnedSeat.{PinnedSeat}
+use Rattle.shared_cells.specs.History.{StartsWith, IsPartOf, entries_by, entry_of, version_after}
+use Rattle.shared_cells.specs.Views.{with_pinned, with_progress, pinned_image}
+use Rattle.shared_index.specs.declared.meaning.Operation.{Operation}
+use Rattle.shared_index.specs.Meanings.{Holds}
+use Rattle.shared_index.specs.Keepings.{versions_in}
+use Rattle.shared_index.specs.Operations.{applied}
+use Rattle.shared_index.specs.Passes.{Known, first_version, version_seen}
+use Rattle.zone_edit.specs.declared.applying.Halt.{Halt}
+use Rattle.zone_edit.specs.declared.applying.Halt.TheVariants as halts
+use Rattle.job_threads.specs.Histories.{Setup, Commit as Commit', IsZone, StandsAs, AreVersions, CoversNamings, judged_by}
+
+-- an index of this size
+pub record IsIndex (s : Setup) (origin : Name) (size : TableSize) : Type 0 where
+  pub origin_is : s.origin ≡ origin
+  pub chunks : s.chunks ≡ size.chunks
+  pub passes : s.passes ≡ size.passes
+
+-- and a pass that knows of its opening
+pub record IsSetup (s : Setup) (origin : Name) (size : TableSize) (v : Known) : Type 0 where
+  pub index : IsIndex s origin size
+  pub opening : first_version v.seen ≡ s.opening
+
+-- A pass took the current version, which is no older than what it had seen. The reply is that of the version that it has then seen
+-- last.
+pub record Asked (origin : Name) (question : Question) (old new : Known) (o : Outcome) : Type 0 where
+  pub grows : IsPartOf new.seen old.seen
+  pub version : o.version ≡ length new.seen.history
+  pub pass : new.pass ≡ with_pinned old.pass o.version
+  pub shown : ended_view o.told ≡ Shown
+  pub replies : (zone : Version) → StandsAs (version_seen new.seen) zone → Replies (reply_of origin zone question) o.told
+
+-- a pinned seat shows the version that its pass has seen last, which is one of a zone
+pub record IsHeld (seat : PinnedSeat (List trie.Entry) (List Operation)) : Type 0 where
+  pub version : seat.version ≡ length seat.place.me.0.seen.history
+  pub holds : Holds (pinned_image seat.place.me.0.progress) seat.root (version_seen seat.place.me.0.seen)
+  pub zone : IsZone (version_seen seat.place.me.0.seen)
+
+-- The second pass took a snapshot, when it had learnt what the first had seen, and then the first learnt what it has seen.
+pub record Held (old second new : Known) (seat : PinnedSeat (List trie.Entry) (List Operation)) (o : Outcome) : Type 0 where
+  pub grows : IsPartOf seat.place.me.0.seen second.seen
+  pub learns : IsPartOf seat.place.me.0.seen old.seen
+  pub first : IsPartOf new.seen old.seen
+  pub tells : IsPartOf new.seen seat.place.me.0.seen
+  pub same : new.pass ≡ old.pass
+  pub pass : seat.place.me.0.pass ≡ with_pinned second.pass o.version
+  pub version : o.version ≡ seat.version
+  pub is_told : o.told ≡ told.Held
+
+-- a snapshot replied
+pub record AskedHeld (origin : Name) (question : Question) (seat : PinnedSeat (List trie.Entry) (List Operation)) (o : Outcome) : Type 0 where
+  pub version : o.version ≡ seat.version
+  pub shown : ended_view o.told ≡ Shown
+  pub replies : (zone : Version) → StandsAs (version_seen seat.place.me.0.seen) zone → Replies (reply_of origin zone question) o.told
+
+-- it was given back
+pub record Released (seat : PinnedSeat (List trie.Entry) (List Operation)) (new : Known) (o : Outcome) : Type 0 where
+  pub version : o.version ≡ seat.version
+  pub is_told : o.told ≡ told.Released
+  pub left : new ≡ with_progress seat.place.me.0 progress.Idle
+
+-- ---- transactions
+
+-- the version that stands as the base becomes what the block makes of it, by the next commit
+pub record Commits (s : Setup) (operations : List ZoneOperation) (own : PassView (List Operation)) (old new : Known) : Type 0 where
+  pub base : List Commit'
+  pub changes : List Operation
+  pub before : StartsWith base old.seen.history
+  pub mine : own.entries ≡ entries_by own.number base
+  pub history : new.seen.history ≡ base ++ entry_of own.number changes ∷ []
+  pub pass : new.pass ≡ Some (record own { entries = own.entries ++ entry_of own.number changes ∷ [] })
+  pub makes : (zone : Version) → StandsAs (version_after applied s.opening base) zone
+      → (next : Version) × (whole s.origin operations zone ≡ Ok next) × StandsAs (version_after applied s.opening new.seen.history) next
+
+-- A block that is committed makes the next version. One that is rolled back or refused was on the version that the pass has then
+-- seen last, and makes none.
+abbrev pub Transacts : Setup → List ZoneOperation → Ending → Known → Known → Ended → Type 0
+Transacts s operations ending old new Shown = ⊥
+Transacts s operations ending old new Committed = (ending ≡ Commit) × ((own : PassView (List Operation)) → old.pass ≡ Some own → Commits s operations own old new)
+Transacts s operations ending old new RolledBack =
+    (ending ≡ Rollback) × (new.pass ≡ old.pass) × ((zone : Version) → StandsAs (version_seen new.seen) zone → IsOk (whole s.origin operations zone))
+Transacts s operations ending old new (Refused cause) =
+    (new.pass ≡ old.pass)
+    × ((set : ℕ → Version) (shown : List ℕ) → AreVersions s new.seen.history set → CoversNamings shown new.seen → Causes (judged_by s set shown) operations ending (length new.seen.history) cause)
+
+pub record BlockRan (s : Setup) (operations : List ZoneOperation) (ending : Ending) (old new : Known) (o : Outcome) : Type 0 where
+  pub grows : IsPartOf new.seen old.seen
+  pub version : o.version ≡ length new.seen.history
+  pub transacts : Transacts s operations ending old new (ended_view o.told)
+
+-- the block is refused for the cause of the halt; want of memory says nothing
+abbrev pub StoppedBy : Halt → ℕ → Result Outcome AllocError → Type 0
+StoppedBy halts.Memory version result = IsErr result
+StoppedBy (halts.Refused refusal) version result = IfOk result (λ o. (ended_view o.told ≡ Refused (Rule refusal)) × (o.version ≡ version))
+StoppedBy (halts.Full operation kept) version result = IfOk result (λ o. (ended_view o.told ≡ Refused (Full operation (versions_in kept))) × (o.version ≡ version))

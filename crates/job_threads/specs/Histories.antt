@@ -1,0 +1,64 @@
+-- The versions of a zone that an index's history makes.
+use Rattle.std.specs.Prelude.{◌≡◌, ℕ, ◌+◌, ◌<◌, ◌≤◌, List, [], ◌∷◌, length, take, zero, suc, ◌==◌, if◌then◌else◌, Contains}
+use Rattle.zone_model.specs.Names.{Name}
+use Rattle.zone_model.specs.Versions.{Version}
+use Rattle.trie_model.specs.Keys as trie
+use Rattle.zone_answer.specs.Standing.{IsVersion}
+use Rattle.job_model.specs.Sizes.{trie_entries}
+use Rattle.job_model.specs.Outcomes.{Setting}
+use Rattle.shared_cells.specs.declared.view.Entry.{Entry as Commit'}
+use Rattle.shared_cells.specs.declared.view.Naming.{Naming}
+use Rattle.shared_cells.specs.declared.view.Seen.{Seen}
+use Rattle.shared_cells.specs.History.{version_after}
+use Rattle.shared_index.specs.declared.meaning.Operation.{Operation}
+use Rattle.shared_index.specs.Operations.{applied}
+
+abbrev pub Entries : Type 0
+Entries = List trie.Entry
+
+-- a transaction of the history, by the number of its pass
+abbrev pub Commit : Type 0
+Commit = Commit' (List Operation)
+
+abbrev pub Sighting : Type 0
+Sighting = Seen (List trie.Entry) (List Operation)
+
+-- An index, and the zone that it was opened with: how many chunks and passes it has, the zone's origin, and the entries of version 0.
+pub record Setup : Type 0 where
+  pub chunks : ℕ
+  pub passes : ℕ
+  pub origin : Name
+  pub opening : Entries
+
+-- the entries of version j
+abbrev pub index_at : Entries → List Commit → ℕ → Entries
+index_at opening history j = version_after applied opening (take j history)
+
+-- a version of a zone stands as these entries
+pub record StandsAs (es : Entries) (version : Version) : Type 0 where
+  pub valid : IsVersion version
+  pub entries : trie_entries version ≡ es
+
+-- these versions, by their numbers, are those of the history
+abbrev pub AreVersions : Setup → List Commit → (ℕ → Version) → Type 0
+AreVersions s history set = (j : ℕ) → j ≤ length history → StandsAs (index_at s.opening history j) (set j)
+
+-- an older version that a pass was found reading is one of these
+abbrev pub CoversNamings : List ℕ → Sighting → Type 0
+CoversNamings shown seen = (n : Naming) → Contains seen.namings n → n.version < length seen.history → Contains shown n.version
+
+-- what outcomes are judged by
+abbrev pub judged_by : Setup → (ℕ → Version) → List ℕ → Setting
+judged_by s set shown = record { chunks = s.chunks; passes = s.passes; origin = s.origin; set = set; shown = shown }
+
+-- 1 if the pass of this number made version j, and else 0
+abbrev pub times_by : ℕ → ℕ → List Commit → ℕ
+times_by author j [] = 0
+times_by author zero (e ∷ history) = 0
+times_by author (suc zero) (e ∷ history) = if e.author == author then 1 else 0
+times_by author (suc (suc j)) (e ∷ history) = times_by author (suc j) history
+
+-- they are those of some version of a zone
+pub record IsZone (es : Entries) : Type 0 where
+  pub version : Version
+  pub stands : StandsAs es version

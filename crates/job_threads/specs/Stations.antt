@@ -1,0 +1,33 @@
+-- Where a worker's passes are.
+use Rattle.std.specs.Prelude.{◌≡◌, List, Bool, Option, Some, None, IsSome}
+use Rattle.std.specs.Option.{is_some}
+use Rattle.trie_model.specs.Keys as trie
+use Rattle.shared_cells.specs.declared.pass.PassSeat.{PassSeat}
+use Rattle.shared_cells.specs.declared.pinned.PinnedSeat.{PinnedSeat}
+use Rattle.shared_cells.specs.Views.{spent_view}
+use Rattle.shared_index.specs.declared.meaning.Operation.{Operation}
+use Rattle.shared_index.specs.Passes.{Known, known_at}
+use Rattle.job_threads.specs.Commands.{IsHeld}
+use Rattle.job_threads.specs.Steps.{Station}
+
+abbrev pub Seat : Type 0
+Seat = PassSeat (List trie.Entry) (List Operation)
+
+abbrev pub Pinned : Type 0
+Pinned = PinnedSeat (List trie.Entry) (List Operation)
+
+-- what the second pass knows, which is spare or with a snapshot
+abbrev pub holder_view : Option (Option Seat) → Option Pinned → Known
+holder_view (Some seat) held = known_at seat
+holder_view None (Some pinned) = pinned.place.me.0
+holder_view None None = spent_view
+
+abbrev pub station : Option Seat → Option (Option Seat) → Option Pinned → Station
+station asks spare held = record { asks = known_at asks; holds = holder_view spare held; held = is_some held }
+
+-- it is one of these
+abbrev pub IsPlaced : Option (Option Seat) → Option Pinned → Type 0
+IsPlaced (Some seat) None = IsSome seat
+IsPlaced None (Some pinned) = IsHeld pinned
+IsPlaced (Some seat) (Some pinned) = ⊥
+IsPlaced None None = ⊥

@@ -1,0 +1,37 @@
+//! Questions to the current version.
+ghost use Rattle.std.specs.Prelude.{◌≡◌, IsSome, IfOk};
+ghost use Rattle.job_script.specs.Views.{question_view};
+ghost use Rattle.shared_index.specs.Passes.{known_at};
+ghost use Rattle.job_threads.specs.Commands.{Asked};
+
+use crate::law::ZoneLaw;
+use crate::replying::reply;
+use dns_name::Name;
+use job_script::{Outcome, Question, Told};
+use shared_index::{Index, Named, Pass};
+use std::alloc::{AllocError, Global};
+use trie_read::Reading;
+
+/// Asks the current version. It is pinned while the reply is made.
+pub fn run_question<N: Named>(
+    alloc: Global,
+    origin: &Name,
+    index: &Index<ZoneLaw, N>,
+    pass: &mut Pass<N>,
+    question: &Question,
+    item: &mut [u8; 4096],
+) -> Result<Outcome, AllocError>
+    requires here { IsSome pass.old.seat }
+    requires place { pass.old.place ≡ index.now.place }
+    ensures here { IsSome pass.new.seat }
+    ensures place { pass.new.place ≡ pass.old.place }
+    ensures asked { IfOk result (Asked origin.now (question_view question.now) (known_at pass.old.seat) (known_at pass.new.seat)) }
+{
+    let mut query = pass.query(index);
+    let version = query.version();
+    let reply = reply(alloc, origin, &mut query, question, item)?;
+    Ok(Outcome {
+        version,
+        told: Told::Reply(reply),
+    })
+}

@@ -1,0 +1,78 @@
+//! Snapshots of a worker. While it holds one its second pass is away.
+ghost use Rattle.std.specs.Prelude.{◌≡◌, ℕ, Some, None, IsSome, IsNone, IfSome, IfOk, IsSomeAnd};
+ghost use Rattle.job_script.specs.Views.{question_view};
+ghost use Rattle.job_script.specs.declared.outcomes.Told.TheVariants as told;
+ghost use Rattle.shared_index.specs.Passes.{known_at};
+ghost use Rattle.job_threads.specs.Commands.{IsHeld, Held, AskedHeld, Released};
+
+use crate::law::ZoneLaw;
+use crate::replying::reply;
+use dns_name::Name;
+use job_script::{Outcome, Question, Told};
+use shared_index::{Index, Named, Pass, Snapshot};
+use std::alloc::{AllocError, Global};
+use trie_read::Reading;
+
+/// Takes a snapshot of the current version by the second pass, which is no older than what the first has seen. The first pass has
+/// then seen it.
+pub fn hold<'i, N: Named>(
+    index: &'i Index<ZoneLaw, N>,
+    pass: &mut Pass<N>,
+    second: Pass<N>,
+) -> (Snapshot<'i, ZoneLaw, N>, Outcome)
+    requires here { (IsSome pass.old.seat) × (IsSome second.seat) }
+    requires places { (pass.old.place ≡ index.now.place) × (second.place ≡ index.now.place) }
+    ensures here { IsSome pass.new.seat }
+    ensures places { (pass.new.place ≡ pass.old.place) × (result.0.place ≡ index.now.place) }
+    ensures held { IsHeld result.0.seat }
+    ensures told { Held (known_at pass.old.seat) (known_at second.seat) (known_at pass.new.seat) result.0.seat result.1 }
+{
+    let mut second = second;
+    let seen = pass.note(index);
+    second.learn(index, seen);
+    let mut snapshot = second.hold(index);
+    let seen = snapshot.note(index);
+    pass.learn(index, seen);
+    let version = snapshot.version();
+    let outcome = Outcome {
+        version,
+        told: Told::Held,
+    };
+    (snapshot, outcome)
+}
+
+/// Asks the snapshot.
+pub fn ask_held<N: Named>(
+    alloc: Global,
+    origin: &Name,
+    snapshot: &mut Snapshot<'_, ZoneLaw, N>,
+    question: &Question,
+    item: &mut [u8; 4096],
+) -> Result<Outcome, AllocError>
+    requires { IsHeld snapshot.old.seat }
+    ensures same { snapshot.new ≡ snapshot.old }
+    ensures asked { IfOk result (AskedHeld origin.now (question_view question.now) snapshot.old.seat) }
+{
+    let version = snapshot.version();
+    let reply = reply(alloc, origin, snapshot, question, item)?;
+    Ok(Outcome {
+        version,
+        told: Told::Reply(reply),
+    })
+}
+
+/// Gives the snapshot back.
+pub fn release<N: Named>(snapshot: Snapshot<'_, ZoneLaw, N>) -> (Pass<N>, Outcome)
+    requires { IsHeld snapshot.seat }
+    ensures here { IsSome result.0.seat }
+    ensures place { result.0.place ≡ snapshot.entry.place }
+    ensures released { Released snapshot.entry.seat (known_at result.0.seat) result.1 }
+{
+    let mut snapshot = snapshot;
+    let version = snapshot.version();
+    let outcome = Outcome {
+        version,
+        told: Told::Released,
+    };
+    (snapshot.release(), outcome)
+}

@@ -1,0 +1,183 @@
+//! All workers of a job, each in a thread of its own where one can be started.
+ghost use Rattle.std.specs.Prelude.{◌≡◌, ◌+◌, ◌*◌, ◌∷◌, List, All, IsSome, IfOk, length, map, false};
+ghost use Rattle.std.specs.List.{AllByRecursion};
+ghost use Rattle.std.specs.Thread.{IsSync};
+ghost use Rattle.zone_model.specs.Versions.{Version};
+ghost use Rattle.job_model.specs.Commands.{InTurn};
+ghost use Rattle.job_model.specs.Outcomes.{passes_for};
+ghost use Rattle.job_script.specs.Views.{command_view, job_view, workers_view};
+ghost use Rattle.shared_index.specs.Passes.{known_at, Learnt};
+ghost use Rattle.shared_index.specs.Closings.{AreAll};
+ghost use Rattle.job_threads.specs.Histories.{Setup, StandsAs};
+ghost use Rattle.job_threads.specs.Works.{AreNew, Begins, Numbers, WorkerRan, ended};
+ghost use Rattle.job_threads.specs.Commands.{IsIndex, IsSetup};
+ghost use Rattle.job_threads.specs.Closings.{Gathers};
+ghost use Rattle.job_threads.specs.Runs.{IsRun};
+
+use crate::gate::Gate;
+use crate::law::ZoneLaw;
+use crate::worker::{Done, Task, run_worker};
+use dns_name::Name;
+use job_script::{Job, Outcomes, Worker};
+use shared_index::{Index, Named, Pass};
+use std::alloc::{AllocError, Global};
+use std::sync::Wait;
+use std::thread::{Threads, join};
+use trie_read::Reading;
+
+/// What became of a job: the outcomes of each worker, the last version, and how many names and nodes that has.
+#[derive(Drop)]
+pub struct Finished {
+    pub outcomes: Vec<Outcomes>,
+    pub version: u64,
+    pub names: u64,
+    pub nodes: u64,
+}
+
+// What became of workers. All passes are back; main's has learnt what they have seen.
+#[derive(Drop)]
+struct Gathered<N: Named> {
+    outcomes: Vec<Outcomes>,
+    passes: Vec<Pass<N>>,
+    main: Pass<N>,
+}
+
+// A worker is done beside others.
+fn with_done<N: Named>(
+    index: &Index<ZoneLaw, N>,
+    done: Done<N>,
+    others: Gathered<N>,
+) -> Result<Gathered<N>, AllocError>
+    requires here { (IsSome done.asks.seat) × (IsSome done.spare.seat) × (IsSome others.main.seat) }
+    requires places { (done.asks.place ≡ index.now.place) × (done.spare.place ≡ index.now.place) × (others.main.place ≡ index.now.place) }
+    requires others { All (λ p. (IsSome p.seat) × (p.place ≡ index.now.place)) others.passes.items }
+    ensures main { IfOk result (λ g. (IsSome g.main.seat) × (g.main.place ≡ index.now.place)) }
+    ensures here { IfOk result (λ g. All (λ p. (IsSome p.seat) × (p.place ≡ index.now.place)) g.passes.items) }
+    ensures outcomes { IfOk result (λ g. g.outcomes.items ≡ done.outcomes ∷ others.outcomes.items) }
+    ensures passes { IfOk result (λ g. map (λ p. known_at p.seat) g.passes.items
+        ≡ known_at done.asks.seat ∷ known_at done.spare.seat ∷ map (λ p. known_at p.seat) others.passes.items) }
+    ensures learnt { IfOk result (λ g. Learnt (known_at others.main.seat) (known_at g.main.seat) (known_at done.asks.seat).seen) }
+{
+    let Done {
+        outcomes: list,
+        mut asks,
+        spare,
+    } = done;
+    let Gathered {
+        mut outcomes,
+        mut passes,
+        mut main,
+    } = others;
+    let seen = asks.note(index);
+    main.learn(index, seen);
+    passes.insert(0, spare)?;
+    passes.insert(0, asks)?;
+    outcomes.insert(0, list)?;
+    Ok(Gathered {
+        outcomes,
+        passes,
+        main,
+    })
+}
+
+// Runs the workers beside each other, from the one of a number on. Each has two of the passes, from the end on, and main the first.
+#[cycle(workers)]
+fn run_workers<R: Threads + Wait + Sync, N: Named + Send + Sync, G: Gate>(
+    rt: &R,
+    alloc: Global,
+    origin: &Name,
+    index: &Index<ZoneLaw, N>,
+    workers: &[Worker],
+    number: u32,
+    passes: Vec<Pass<N>>,
+    gate: &G,
+) -> Result<Gathered<N>, AllocError>
+    requires count { length passes.items ≡ 2 * length workers.now + 1 }
+    requires here { All (λ p. (IsSome p.seat) × (p.place ≡ index.now.place)) passes.items }
+    requires in_turn { AllByRecursion (InTurn false) (workers_view workers.now) }
+    ensures main { IfOk result (λ g. (IsSome g.main.seat) × (g.main.place ≡ index.now.place)) }
+    ensures here { IfOk result (λ g. All (λ p. (IsSome p.seat) × (p.place ≡ index.now.place)) g.passes.items) }
+    ensures ran { (s : Setup) → IsIndex s origin.now index.now.shared.table.shared.key → AreNew s.opening (map (λ p. known_at p.seat) passes.items)
+        → IfOk result (λ g. Gathers s (map (λ p. known_at p.seat) passes.items) (workers_view workers.now) g.outcomes.items (map (λ p. known_at p.seat) g.passes.items) (known_at g.main.seat)) }
+{
+    let mut passes = passes;
+    let Some(asks) = passes.pop() else {
+        unreachable!();
+    };
+    let Some((worker, others)) = workers.split_first() else {
+        return Ok(Gathered {
+            outcomes: Vec::new(alloc),
+            passes,
+            main: asks,
+        });
+    };
+    let Some(spare) = passes.pop() else {
+        unreachable!();
+    };
+    let task = Task {
+        number,
+        commands: &worker.commands,
+        asks,
+        spare,
+    };
+    let next = number.saturating_add(1);
+    let first = move || -> Result<Done<N>, AllocError>
+        requires here { (IsSome task.asks.seat) × (IsSome task.spare.seat) }
+        requires places { (task.asks.place ≡ index.now.place) × (task.spare.place ≡ index.now.place) }
+        requires in_turn { InTurn false (map command_view task.commands.now) }
+        ensures here { IfOk result (λ d. (IsSome d.asks.seat) × (IsSome d.spare.seat)) }
+        ensures places { IfOk result (λ d. (d.asks.place ≡ index.entry.now.place) × (d.spare.place ≡ index.entry.now.place)) }
+        ensures ran { (s : Setup) (numbers : Numbers) → IsSetup s origin.entry.now index.entry.now.shared.table.shared.key (known_at task.entry.asks.seat)
+            → Begins s numbers (known_at task.entry.asks.seat) (known_at task.entry.spare.seat)
+            → IfOk result (λ d. WorkerRan s numbers (ended (known_at d.asks.seat) (known_at d.spare.seat)) (map command_view task.entry.commands.now) d.outcomes.list.items) }
+    { run_worker(rt, alloc, origin, index, task, gate) };
+    let rest = move || -> Result<Gathered<N>, AllocError>
+        requires sync { IsSync R.row }
+        requires count { length passes.items ≡ 2 * length others.now + 1 }
+        requires here { All (λ p. (IsSome p.seat) × (p.place ≡ index.now.place)) passes.items }
+        requires in_turn { AllByRecursion (InTurn false) (workers_view others.now) }
+        ensures main { IfOk result (λ g. (IsSome g.main.seat) × (g.main.place ≡ index.entry.now.place)) }
+        ensures here { IfOk result (λ g. All (λ p. (IsSome p.seat) × (p.place ≡ index.entry.now.place)) g.passes.items) }
+        ensures ran { (s : Setup) → IsIndex s origin.entry.now index.entry.now.shared.table.shared.key → AreNew s.opening (map (λ p. known_at p.seat) passes.items)
+            → IfOk result (λ g. Gathers s (map (λ p. known_at p.seat) passes.items) (workers_view others.entry.now) g.outcomes.items (map (λ p. known_at p.seat) g.passes.items) (known_at g.main.seat)) }
+    { run_workers(rt, alloc, origin, index, others, next, passes, gate) };
+    let (done, others) = join(rt, first, rest);
+    with_done(index, done?, others?)
+}
+
+/// Runs a job's workers from version 0 on. The gate is told of each command.
+pub fn run_job<R: Threads + Wait + Sync, N: Named + Send + Sync, G: Gate>(
+    rt: &R,
+    alloc: Global,
+    origin: &Name,
+    index: Index<ZoneLaw, N>,
+    passes: Vec<Pass<N>>,
+    job: &Job,
+    gate: &G,
+) -> Result<Finished, AllocError>
+    requires count { length passes.items ≡ passes_for (length job.now.workers.items) }
+    requires size { index.shared.table.shared.key.passes ≡ length passes.items }
+    requires all { AreAll (length passes.items) (map (λ p. known_at p.seat) passes.items) }
+    requires here { All (λ p. (IsSome p.seat) × (p.place ≡ index.place)) passes.items }
+    requires in_turn { AllByRecursion (InTurn false) (job_view job.now) }
+    ensures ran { (s : Setup) (zone : Version) → IsIndex s origin.now index.shared.table.shared.key → StandsAs s.opening zone → AreNew s.opening (map (λ p. known_at p.seat) passes.items)
+        → IfOk result (λ f. IsRun s.chunks origin.now zone (job_view job.now) f.outcomes.items f.version f.names f.nodes) }
+{
+    let Gathered {
+        outcomes,
+        mut passes,
+        mut main,
+    } = run_workers(rt, alloc, origin, &index, &job.workers, 1, passes, gate)?;
+    let mut query = main.query(&index);
+    let names = query.count();
+    let nodes = query.nodes();
+    drop(query);
+    passes.push(main)?;
+    let version = index.close(passes);
+    Ok(Finished {
+        outcomes,
+        version,
+        names,
+        nodes,
+    })
+}

@@ -1,0 +1,158 @@
+//! Transactions.
+ghost use Rattle.std.specs.Prelude.{◌≡◌, IsSome, IfOk, map};
+ghost use Rattle.job_script.specs.Outcomes.{ended_view};
+ghost use Rattle.job_script.specs.Views.{operation_view};
+ghost use Rattle.shared_index.specs.Passes.{known_at};
+ghost use Rattle.shared_index.specs.Keepings.{versions_in};
+ghost use Rattle.job_threads.specs.Histories.{Setup};
+ghost use Rattle.job_threads.specs.Commands.{IsSetup, BlockRan, StoppedBy};
+
+use crate::law::ZoneLaw;
+use dns_name::Name;
+use job_model::{Ending, Weight};
+use job_script::{Block, Cause, Outcome, Told};
+use shared_index::{Index, Locked, Named, Pass, Versions};
+use std::alloc::{AllocError, Global};
+use std::sync::Wait;
+use zone_change::ItemBuffers;
+use zone_edit::{Halt, apply_all};
+
+// The kept versions, as an outcome has them.
+fn kept_list(alloc: Global, kept: &Versions) -> Result<Vec<u64>, AllocError>
+    ensures { IfOk result (λ list. list.items ≡ versions_in kept.now) }
+{
+    let mut list = Vec::new(alloc);
+    for version in kept.as_slice() {
+        list.push(*version)?;
+    }
+    Ok(list)
+}
+
+// How a block ends whose operations stopped.
+fn stopped(alloc: Global, version: u64, halt: Halt) -> Result<Outcome, AllocError>
+    ensures { StoppedBy halt version result }
+{
+    let cause = match halt {
+        Halt::Memory => return Err(AllocError),
+        Halt::Refused(refusal) => Cause::Rule(refusal),
+        Halt::Full { operation, kept } => {
+            let kept = kept_list(alloc, &kept)?;
+            Cause::Full { operation, kept }
+        }
+    };
+    Ok(Outcome {
+        version,
+        told: Told::Refused(cause),
+    })
+}
+
+// Runs a block as a light transaction, by way of buffers for items.
+fn write_block<R: Wait, N: Named>(
+    rt: &R,
+    alloc: Global,
+    origin: &Name,
+    index: &Index<ZoneLaw, N>,
+    pass: &mut Pass<N>,
+    block: &Block,
+    buffers: &mut ItemBuffers,
+) -> Result<Outcome, AllocError>
+    requires here { IsSome pass.old.seat }
+    requires place { pass.old.place ≡ index.now.place }
+    requires light { block.now.weight ≡ Weight.Light }
+    ensures here { IsSome pass.new.seat }
+    ensures place { pass.new.place ≡ pass.old.place }
+    ensures ran { (s : Setup) → IsSetup s origin.now index.now.shared.table.shared.key (known_at pass.old.seat)
+        → IfOk result (BlockRan s (map operation_view block.now.operations.items) block.now.ending (known_at pass.old.seat) (known_at pass.new.seat)) }
+{
+    let mut locked = Locked::of(index);
+    let mut write = index.write(rt, &mut locked, pass);
+    let version = write.version();
+    match apply_all(alloc, origin, &mut write, &block.operations, buffers) {
+        Ok(()) => match block.ending {
+            Ending::Commit => match write.commit() {
+                Ok(receipt) => Ok(Outcome {
+                    version: receipt.version,
+                    told: Told::Committed,
+                }),
+                Err(spent) => Ok(Outcome {
+                    version: spent.version,
+                    told: Told::Refused(Cause::Spent),
+                }),
+            },
+            Ending::Rollback => Ok(Outcome {
+                version,
+                told: Told::RolledBack,
+            }),
+        },
+        Err(halt) => stopped(alloc, version, halt),
+    }
+}
+
+// Runs a block as a heavy transaction.
+fn update_block<R: Wait, N: Named>(
+    rt: &R,
+    alloc: Global,
+    origin: &Name,
+    index: &Index<ZoneLaw, N>,
+    pass: &mut Pass<N>,
+    block: &Block,
+    buffers: &mut ItemBuffers,
+) -> Result<Outcome, AllocError>
+    requires here { IsSome pass.old.seat }
+    requires place { pass.old.place ≡ index.now.place }
+    requires heavy { block.now.weight ≡ Weight.Heavy }
+    ensures here { IsSome pass.new.seat }
+    ensures place { pass.new.place ≡ pass.old.place }
+    ensures ran { (s : Setup) → IsSetup s origin.now index.now.shared.table.shared.key (known_at pass.old.seat)
+        → IfOk result (BlockRan s (map operation_view block.now.operations.items) block.now.ending (known_at pass.old.seat) (known_at pass.new.seat)) }
+{
+    let mut locked = Locked::of(index);
+    let mut update = index.update(rt, &mut locked, pass);
+    let version = update.version();
+    match apply_all(alloc, origin, &mut update, &block.operations, buffers) {
+        Ok(()) => match block.ending {
+            Ending::Commit => match update.commit() {
+                Ok(receipt) => Ok(Outcome {
+                    version: receipt.version,
+                    told: Told::Committed,
+                }),
+                Err(spent) => Ok(Outcome {
+                    version: spent.version,
+                    told: Told::Refused(Cause::Spent),
+                }),
+            },
+            Ending::Rollback => {
+                update.rollback();
+                Ok(Outcome {
+                    version,
+                    told: Told::RolledBack,
+                })
+            }
+        },
+        Err(halt) => stopped(alloc, version, halt),
+    }
+}
+
+/// Runs a block: its operations are all made the next version, or none. Its outcome's version is the one that it made, or else the
+/// one that it was on.
+pub fn run_block<R: Wait, N: Named>(
+    rt: &R,
+    alloc: Global,
+    origin: &Name,
+    index: &Index<ZoneLaw, N>,
+    pass: &mut Pass<N>,
+    block: &Block,
+    buffers: &mut ItemBuffers,
+) -> Result<Outcome, AllocError>
+    requires here { IsSome pass.old.seat }
+    requires place { pass.old.place ≡ index.now.place }
+    ensures here { IsSome pass.new.seat }
+    ensures place { pass.new.place ≡ pass.old.place }
+    ensures ran { (s : Setup) → IsSetup s origin.now index.now.shared.table.shared.key (known_at pass.old.seat)
+        → IfOk result (BlockRan s (map operation_view block.now.operations.items) block.now.ending (known_at pass.old.seat) (known_at pass.new.seat)) }
+{
+    match block.weight {
+        Weight::Light => write_block(rt, alloc, origin, index, pass, block, buffers),
+        Weight::Heavy => update_block(rt, alloc, origin, index, pass, block, buffers),
+    }
+}

@@ -1,0 +1,185 @@
+//! A worker that runs its commands.
+ghost use Rattle.std.specs.Prelude.{◌≡◌, List, IsSome, IfSome, IfOk, map, false};
+ghost use Rattle.std.specs.Option.{option_map, is_some};
+ghost use Rattle.job_model.specs.Commands.{InTurn, MayCome, held_after};
+ghost use Rattle.job_script.specs.Views.{command_view};
+ghost use Rattle.shared_index.specs.Passes.{known_at};
+ghost use Rattle.job_threads.specs.Histories.{Setup};
+ghost use Rattle.job_threads.specs.Commands.{IsSetup};
+ghost use Rattle.job_threads.specs.Steps.{IsUnder, Step};
+ghost use Rattle.job_threads.specs.Stations.{IsPlaced, holder_view, station};
+ghost use Rattle.job_threads.specs.Works.{Begins, Numbers, WorkerRan, ended};
+
+use crate::asking::run_question;
+use crate::gate::Gate;
+use crate::holding::{ask_held, hold, release};
+use crate::law::ZoneLaw;
+use crate::transactions::run_block;
+use dns_name::Name;
+use job_script::{Command, Outcome, Outcomes};
+use shared_index::{Index, Named, Pass, Snapshot};
+use std::alloc::{AllocError, Global};
+use std::sync::Wait;
+use zone_change::ItemBuffers;
+
+/// A worker's two passes: one asks and writes, and the other is with the snapshot while one is held.
+#[derive(Drop)]
+pub struct Passes<'i, N: Named> {
+    pub asks: Pass<N>,
+    pub spare: Option<Pass<N>>,
+    pub held: Option<Snapshot<'i, ZoneLaw, N>>,
+}
+
+/// A worker's number, from 1, its commands, and its passes.
+#[derive(Drop)]
+pub struct Task<'a, N: Named> {
+    pub number: u32,
+    pub commands: &'a [Command],
+    pub asks: Pass<N>,
+    pub spare: Pass<N>,
+}
+
+/// What became of a worker's commands. Its passes are back.
+#[derive(Drop)]
+pub struct Done<N: Named> {
+    pub outcomes: Outcomes,
+    pub asks: Pass<N>,
+    pub spare: Pass<N>,
+}
+
+// Runs one command, by way of buffers for items.
+fn run_command<'i, R: Wait, N: Named>(
+    rt: &R,
+    alloc: Global,
+    origin: &Name,
+    index: &'i Index<ZoneLaw, N>,
+    passes: &mut Passes<'i, N>,
+    command: &Command,
+    buffers: &mut ItemBuffers,
+) -> Result<Outcome, AllocError>
+    requires here { IsSome passes.old.asks.seat }
+    requires place { passes.old.asks.place ≡ index.now.place }
+    requires places { IfSome passes.old.spare (λ p. p.place ≡ index.now.place) }
+    requires placed { IsPlaced (option_map (λ p. p.seat) passes.old.spare) (option_map (λ s. s.seat) passes.old.held) }
+    requires held_at { IfSome passes.old.held (λ s. s.place ≡ index.now.place) }
+    requires may { MayCome (is_some (option_map (λ s. s.seat) passes.old.held)) (command_view command.now) }
+    ensures here { IfOk result (λ _. IsSome passes.new.asks.seat) }
+    ensures place { IfOk result (λ _. passes.new.asks.place ≡ index.now.place) }
+    ensures places { IfOk result (λ _. IfSome passes.new.spare (λ p. p.place ≡ index.now.place)) }
+    ensures placed { IfOk result (λ _. IsPlaced (option_map (λ p. p.seat) passes.new.spare) (option_map (λ s. s.seat) passes.new.held)) }
+    ensures held_at { IfOk result (λ _. IfSome passes.new.held (λ s. s.place ≡ index.now.place)) }
+    ensures held { IfOk result (λ _. is_some (option_map (λ s. s.seat) passes.new.held) ≡ held_after (is_some (option_map (λ s. s.seat) passes.old.held)) (command_view command.now)) }
+    ensures steps { (s : Setup) → IsSetup s origin.now index.now.shared.table.shared.key (known_at passes.old.asks.seat)
+        → IsUnder (known_at passes.old.asks.seat) (holder_view (option_map (λ p. p.seat) passes.old.spare) (option_map (λ s. s.seat) passes.old.held))
+        → IfOk result (λ o. Step s (command_view command.now) o
+        (station passes.old.asks.seat (option_map (λ p. p.seat) passes.old.spare) (option_map (λ s. s.seat) passes.old.held))
+        (station passes.new.asks.seat (option_map (λ p. p.seat) passes.new.spare) (option_map (λ s. s.seat) passes.new.held))) }
+{
+    let item = &mut buffers.before;
+    match command {
+        Command::Ask(question) => {
+            let outcome = run_question(alloc, origin, index, &mut passes.asks, question, item)?;
+            Ok(outcome)
+        }
+        Command::Hold => {
+            let Some(second) = passes.spare.take() else {
+                unreachable!();
+            };
+            let (snapshot, outcome) = hold(index, &mut passes.asks, second);
+            passes.held = Some(snapshot);
+            Ok(outcome)
+        }
+        Command::AskHeld(question) => {
+            let Some(mut snapshot) = passes.held.take() else {
+                unreachable!();
+            };
+            let outcome = ask_held(alloc, origin, &mut snapshot, question, item)?;
+            passes.held = Some(snapshot);
+            Ok(outcome)
+        }
+        Command::Release => {
+            let Some(snapshot) = passes.held.take() else {
+                unreachable!();
+            };
+            let (second, outcome) = release(snapshot);
+            passes.spare = Some(second);
+            Ok(outcome)
+        }
+        Command::Block(block) => {
+            let outcome = run_block(rt, alloc, origin, index, &mut passes.asks, block, buffers)?;
+            Ok(outcome)
+        }
+    }
+}
+
+// The second pass, which a snapshot gives back.
+fn second_pass<N: Named>(passes: Passes<'_, N>) -> (Pass<N>, Pass<N>)
+    requires placed { IsPlaced (option_map (λ p. p.seat) passes.spare) (option_map (λ s. s.seat) passes.held) }
+    requires place { IfSome passes.spare (λ p. p.place ≡ passes.asks.place) }
+    requires held_at { IfSome passes.held (λ s. s.place ≡ passes.asks.place) }
+    ensures same { result.0 ≡ passes.entry.asks }
+    ensures here { IsSome result.1.seat }
+    ensures place { result.1.place ≡ passes.entry.asks.place }
+    ensures seen { (known_at result.1.seat).seen ≡ (holder_view (option_map (λ p. p.seat) passes.entry.spare) (option_map (λ s. s.seat) passes.entry.held)).seen }
+    ensures pass { (known_at result.1.seat).pass ≡ (holder_view (option_map (λ p. p.seat) passes.entry.spare) (option_map (λ s. s.seat) passes.entry.held)).pass }
+{
+    let Passes { asks, spare, held } = passes;
+    if let Some(snapshot) = held {
+        let (second, _) = release(snapshot);
+        return (asks, second);
+    }
+    let Some(second) = spare else {
+        unreachable!();
+    };
+    (asks, second)
+}
+
+// A place in a list, counted from 1.
+fn counted(place: usize) -> u32 {
+    u32::try_from(place.saturating_add(1)).unwrap_or(u32::MAX)
+}
+
+/// Runs a worker's commands, each between the gate's two calls.
+pub fn run_worker<R: Wait, N: Named, G: Gate>(
+    rt: &R,
+    alloc: Global,
+    origin: &Name,
+    index: &Index<ZoneLaw, N>,
+    task: Task<'_, N>,
+    gate: &G,
+) -> Result<Done<N>, AllocError>
+    requires here { (IsSome task.asks.seat) × (IsSome task.spare.seat) }
+    requires places { (task.asks.place ≡ index.now.place) × (task.spare.place ≡ index.now.place) }
+    requires in_turn { InTurn false (map command_view task.commands.now) }
+    ensures here { IfOk result (λ d. (IsSome d.asks.seat) × (IsSome d.spare.seat)) }
+    ensures places { IfOk result (λ d. (d.asks.place ≡ index.now.place) × (d.spare.place ≡ index.now.place)) }
+    ensures ran { (s : Setup) (numbers : Numbers) → IsSetup s origin.now index.now.shared.table.shared.key (known_at task.entry.asks.seat)
+        → Begins s numbers (known_at task.entry.asks.seat) (known_at task.entry.spare.seat)
+        → IfOk result (λ d. WorkerRan s numbers (ended (known_at d.asks.seat) (known_at d.spare.seat)) (map command_view task.entry.commands.now) d.outcomes.list.items) }
+{
+    let Task {
+        number,
+        commands,
+        asks,
+        spare,
+    } = task;
+    let mut buffers = ItemBuffers::new();
+    let mut passes = Passes {
+        asks,
+        spare: Some(spare),
+        held: None,
+    };
+    let mut list = Vec::with_capacity(alloc, commands.len())?;
+    for (place, command) in commands.iter().enumerate() {
+        gate.before(number, counted(place));
+        let outcome = run_command(rt, alloc, origin, index, &mut passes, command, &mut buffers)?;
+        gate.after(number, counted(place));
+        list.push(outcome)?;
+    }
+    let (asks, spare) = second_pass(passes);
+    Ok(Done {
+        outcomes: Outcomes { list },
+        asks,
+        spare,
+    })
+}

@@ -1,0 +1,247 @@
+-- What a transaction's call makes of a working set that is a version.
+use Rattle.std.proofs.Common.{◌≡◌, ◌∙◌, ◌⊎◌, ◌<◌, ℕ, ◌+◌, ◌-◌, ◌≤◌, List, [], ◌∷◌, ◌++◌, length, Option, Some, None, Result, Ok, Err, refl, sym, ap, subst, arith, append-nil}
+use Rattle.std.specs.Prelude.{IsSomeAnd, IfSome, Contains}
+use Rattle.zone_model.specs.Names.{Name, IsName}
+use Rattle.zone_model.specs.Keys.{key_of}
+use Rattle.zone_model.specs.Records.{Entry, IsItem}
+use Rattle.zone_model.specs.Versions.{Version, owned, put}
+use Rattle.trie_model.specs.Keys as trie
+use Rattle.trie_model.specs.Keys.{InList}
+use Rattle.zone_answer.specs.Standing.{IsVersion, trie_entry}
+use Rattle.job_model.specs.Sizes.{trie_entries}
+use Rattle.shared_index.specs.declared.desk.Draft.{Draft}
+use Rattle.shared_index.specs.declared.kept.Versions.{Versions}
+use Rattle.shared_index.specs.declared.refusal.Full.{Full}
+use Rattle.shared_index.specs.declared.meaning.Operation.{Operation}
+use Rattle.shared_index.specs.declared.meaning.Operation.TheVariants as operation
+use Rattle.shared_index.specs.Operations.{operated, applied, with_entry, without}
+use Rattle.shared_index.specs.Drafts.{Works, Operates, IsFull, IsSame, Between, base_of, working_set}
+use Rattle.shared_index.specs.Fulls.{CausedFrom, cells_kept}
+use Rattle.shared_index.specs.Passes.{Known, version_seen}
+use Rattle.chunk_usage.specs.Ledger.{Ledger, reserve_of}
+use Rattle.trie_model.specs.Shape.{cells}
+use Rattle.pin_core.specs.declared.kept.Kept.{Kept}
+use Rattle.std.proofs.lemmas.List.{length-map}
+use Rattle.shared_cells.specs.Views.{kept_in}
+use Rattle.shared_index.specs.Turns.{row_for}
+use Rattle.shared_index.specs.Keepings.{GoesOn, numbers_of, versions_in}
+use Rattle.shared_index.proofs.GoesLaws.{base_goes_on, applied_more, goes_further}
+use Rattle.zone_change.proofs.VersionLaws.{version_put, version_gone}
+use Rattle.zone_change.proofs.StoreLaws.{put_some, storable, same_entry, record_of}
+use Rattle.trie_read.specs.Readings.{Fetched}
+use Rattle.zone_answer.specs.Parts.{IsRead}
+use Rattle.zone_edit.specs.Stores.{WorksOn, WorksOnSome, Owns, EditsOne, Edits, Reads, IsFullOn, Stored, Stores}
+use Rattle.zone_edit.proofs.SetLaws.{IsOwner, inserted, exchanged, deleted}
+
+-- ---- drafts that are there
+
+pub record Both (P : Draft → Type 0) (R : Draft → Draft → Type 0) (old new : Option Draft) : Type 0 where
+  pub before : Draft
+  pub after : Draft
+  pub old_is : old ≡ Some before
+  pub new_is : new ≡ Some after
+  pub met : P before
+  pub related : R before after
+
+pub both : (P : Draft → Type 0) (R : Draft → Draft → Type 0) (old new : Option Draft) → IsSomeAnd old P → Between R old new → Both P R old new
+both P R (Some d) (Some e) p r = record { before = d; after = e; old_is = refl; new_is = refl; met = p; related = r }
+both P R (Some d) None p r = absurd r
+both P R None (Some e) p r = absurd r
+both P R None None p r = absurd r
+
+pub between_as : (R S : Draft → Draft → Type 0) (old new : Option Draft) → ((d e : Draft) → old ≡ Some d → new ≡ Some e → R d e → S d e) → Between R old new → Between S old new
+between_as R S (Some d) (Some e) f r = f d e refl refl r
+between_as R S (Some d) None f r = r
+between_as R S None (Some e) f r = r
+between_as R S None None f r = r
+
+pub between_then : (R S T : Draft → Draft → Type 0) (a b c : Option Draft) → ((d e f : Draft) → R d e → S e f → T d f) → Between R a b → Between S b c → Between T a c
+between_then R S T (Some d) (Some e) (Some f) h r s = h d e f r s
+between_then R S T (Some d) (Some e) None h r s = s
+between_then R S T (Some d) None (Some f) h r s = absurd r
+between_then R S T (Some d) None None h r s = r
+between_then R S T None b c h r s = absurd (nothing b r)
+  where
+    nothing : (x : Option Draft) → Between R None x → ⊥
+    nothing (Some e) q = q
+    nothing None q = q
+
+pub some_after : (P : Draft → Type 0) (R : Draft → Draft → Type 0) (old new : Option Draft) → ((d e : Draft) → R d e → P e) → Between R old new → IsSomeAnd new P
+some_after P R (Some d) (Some e) f r = f d e r
+some_after P R (Some d) None f r = absurd r
+some_after P R None (Some e) f r = absurd r
+some_after P R None None f r = absurd r
+
+-- ---- the working set after a call
+
+-- the operation was done
+done_set : (o : Operation) (denied : List trie.Entry → Type 0) (d e : Draft) (A B : Type 0) → Operates o denied d e A B → A → working_set e ≡ operated (working_set d) o
+done_set o denied d e A B op a =
+    ap (applied (base_of e)) (op.done a)
+    ∙ ap (λ (es : List trie.Entry). applied es (d.log.operations ++ o ∷ [])) (base_goes_on op.known)
+    ∙ applied_more (base_of d) d.log.operations o
+
+-- or it wasn't
+pub same_set : (o : Operation) (denied : List trie.Entry → Type 0) (d e : Draft) (A B : Type 0) → Operates o denied d e A B → (A → ⊥) → working_set e ≡ working_set d
+same_set o denied d e A B op undone = ap (applied (base_of e)) (op.stays undone) ∙ ap (λ (es : List trie.Entry). applied es d.log.operations) (base_goes_on op.known)
+
+pub works_same : (o : Operation) (denied : List trie.Entry → Type 0) (d e : Draft) (A B : Type 0) (version : Version) → Operates o denied d e A B → (A → ⊥) → WorksOn d version → WorksOn e version
+works_same o denied d e A B version op undone on = record { works = op.works; set = same_set o denied d e A B op undone ∙ on.set; valid = on.valid }
+
+-- a name was put in
+pub put_new : (name : Name) (key bytes : List ℕ) (entry : Entry) (denied : List trie.Entry → Type 0) (d e : Draft) (A B : Type 0) (version : Version) → key ≡ key_of name → IsItem bytes name entry
+    → ((x : trie.Entry) → InList x (trie_entries version) → x.key ≡ key_of name → ⊥) → Operates (operation.Insert (record_of key bytes)) denied d e A B → A → WorksOn d version → WorksOn e (put name entry version)
+put_new name key bytes entry denied d e A B version k is none op a on =
+    subst (WorksOn e) (sym (put_some name entry version is.some)) (record {
+      works = op.works;
+      set = done_set (operation.Insert (record_of key bytes)) denied d e A B op a ∙ ap (λ (es : List trie.Entry). with_entry es (record_of key bytes)) on.set
+          ∙ ap (with_entry (trie_entries version)) (same_entry name key bytes entry k is) ∙ inserted name entry version is.name on.valid none;
+      valid = version_put name entry version (storable name bytes entry is) on.valid;
+    })
+
+-- its item was exchanged
+pub put_over : (name : Name) (key bytes : List ℕ) (entry : Entry) (denied : List trie.Entry → Type 0) (d e : Draft) (A B : Type 0) (version : Version) → key ≡ key_of name → IsItem bytes name entry
+    → IsOwner name version → Operates (operation.Replace (record_of key bytes)) denied d e A B → A → WorksOn d version → WorksOn e (put name entry version)
+put_over name key bytes entry denied d e A B version k is there op a on =
+    subst (WorksOn e) (sym (put_some name entry version is.some)) (record {
+      works = op.works;
+      set = done_set (operation.Replace (record_of key bytes)) denied d e A B op a ∙ ap (λ (es : List trie.Entry). with_entry es (record_of key bytes)) on.set
+          ∙ ap (with_entry (trie_entries version)) (same_entry name key bytes entry k is) ∙ exchanged name entry version is.name on.valid there;
+      valid = version_put name entry version (storable name bytes entry is) on.valid;
+    })
+
+-- it was taken out
+pub put_out : (name : Name) (key : List ℕ) (denied : List trie.Entry → Type 0) (d e : Draft) (A B : Type 0) (version : Version) → key ≡ key_of name → IsName name
+    → IsOwner name version → Operates (operation.Delete key) denied d e A B → A → WorksOn d version → WorksOn e (put name [] version)
+put_out name key denied d e A B version k is there op a on = record {
+  works = op.works;
+  set = done_set (operation.Delete key) denied d e A B op a ∙ ap (λ (es : List trie.Entry). without es key) on.set ∙ ap (without (trie_entries version)) k ∙ deleted name version is on.valid there;
+  valid = version_gone name version on.valid;
+}
+
+-- ---- two facts of one call
+
+between_both : (R S T : Draft → Draft → Type 0) (old new : Option Draft) → ((d e : Draft) → R d e → S d e → T d e) → Between R old new → Between S old new → Between T old new
+between_both R S T (Some d) (Some e) f r s = f d e r s
+between_both R S T (Some d) None f r s = r
+between_both R S T None (Some e) f r s = r
+between_both R S T None None f r s = r
+
+between_and : (R : Draft → Draft → Type 0) (P : Draft → Type 0) (T : Draft → Draft → Type 0) (old new : Option Draft) → ((d e : Draft) → R d e → P e → T d e) → Between R old new → IsSomeAnd new P → Between T old new
+between_and R P T (Some d) (Some e) f r p = f d e r p
+between_and R P T (Some d) None f r p = r
+between_and R P T None (Some e) f r p = r
+between_and R P T None None f r p = r
+
+-- ---- edits, one after another
+
+pub goes_same : (v : Known) → GoesOn v v
+goes_same v = record { pass = refl; opening = refl; history = refl; namings = ([], sym (append-nil v.seen.namings)) }
+
+pub edits_same : (P : Draft → Type 0) (told : Version → Draft → Type 0) (old : Option Draft) → IsSomeAnd old P → ((d : Draft) (version : Version) → WorksOn d version → told version d) → Edits told old old
+edits_same P told (Some d) p f = record { known = goes_same d.seat.place.me.0; passes = refl; becomes = λ version on. f d version on }
+edits_same P told None p f = absurd p
+
+pub edits_as : (A B : Version → Draft → Type 0) (old new : Option Draft) → ((version : Version) (e : Draft) → A version e → B version e) → Edits A old new → Edits B old new
+edits_as A B old new f = between_as (EditsOne A) (EditsOne B) old new (λ d e _ _ r. record { known = r.known; passes = r.passes; becomes = λ version on. f version e (r.becomes version on) })
+
+-- what the first made is a version, on which the second went on
+pub edits_on : (A B C : Version → Draft → Type 0) (a b c : Option Draft) → ((version : Version) (e f : Draft) → A version e → (now : Version) × WorksOn e now × (B now f → C version f)) → Edits A a b → Edits B b c → Edits C a c
+edits_on A B C a b c h = between_then (EditsOne A) (EditsOne B) (EditsOne C) a b c (λ d e f r s. record {
+  known = goes_further r.known s.known;
+  passes = s.passes ∙ r.passes;
+  becomes = λ version on. (let m = h version e f (r.becomes version on) in m.2 (s.becomes m.0 m.1));
+})
+
+-- some version is worked on still
+pub edits_some : (A : Version → Draft → Type 0) (old new : Option Draft) → IsSomeAnd old WorksOnSome → ((version : Version) (e : Draft) → A version e → WorksOnSome e) → Edits A old new → IsSomeAnd new WorksOnSome
+edits_some A (Some d) (Some e) p f r = f p.version e (r.becomes p.version p.on)
+edits_some A (Some d) None p f r = absurd r
+edits_some A None (Some e) p f r = absurd p
+edits_some A None None p f r = p
+
+-- ---- an entry stored
+
+-- of kept versions there are no more than passes and one
+few_kept : (d : Draft) (f : Full) → IsFull d f → length (versions_in f.kept) ≤ d.seat.passes + 1
+few_kept d f full =
+    let same : length (versions_in f.kept) ≡ length (numbers_of (kept_in d.seat.place.me.0.turn)) = ap length (full.kept ∙ d.kept_are) in
+    let numbers = length-map (kept_in d.seat.place.me.0.turn) (λ (k : Kept). k.version) in
+    let rows = ap length d.agrees.rows ∙ length-map (kept_in d.seat.place.me.0.turn) (row_for (length d.usage.given)) in
+    let most = d.agrees.few_rows in
+    omega (arith, same, numbers, rows, most)
+
+module _ (o : Operation) (denied : List trie.Entry → Type 0) (A B : Type 0) (name : Name) (before entry : Entry) (old new : Option Draft) where
+  abbrev Called : Type 0
+  Called = Between (λ d e. Operates o denied d e A B) old new
+
+  pub stored : A → ((version : Version) (d e : Draft) → Operates o denied d e A B → WorksOn d version → before ≡ owned name version → WorksOn e (put name entry version)) → Called → Edits (Stores name before entry (Ok tt)) old new
+  stored a puts call = between_as (λ d e. Operates o denied d e A B) (EditsOne (Stores name before entry (Ok tt))) old new (λ d e _ _ op. record { known = op.known; passes = op.passes; becomes = λ version on is. puts version d e op on is }) call
+
+  -- there was no room
+  pub no_room : (f : Full) (key : List ℕ) (written : ℕ) → (A → ⊥) → ((version : Version) → IsVersion version → before ≡ owned name version → put name entry version ≡ version → ⊥) → Called → IsSomeAnd new (λ d. IsFull d f)
+      → Between (λ d e. CausedFrom d.usage e key written f) old new → Edits (Stores name before entry (Err f.kept)) old new
+  no_room f key written undone changes call full cause =
+      between_both (λ d e. CausedFrom d.usage e key written f) (λ d e. Operates o denied d e A B × IsFull e f) (EditsOne (Stores name before entry (Err f.kept))) old new
+      (λ d e cause both. record {
+        known = both.0.known;
+        passes = both.0.passes;
+        becomes = λ version on is. (
+            works_same o denied d e A B version both.0 undone on,
+            record {
+              named = both.1.named;
+              ends = both.1.ends;
+              few = few_kept e f both.1;
+              many = subst (λ (es : List trie.Entry). length e.usage.given - reserve_of e.usage - 2 ≤ cells es + cells_kept e.seat.place.me.0 (versions_in f.kept)) (same_set o denied d e A B both.0 undone ∙ on.set) cause.2.many_cells;
+            },
+            changes version on.valid is,
+          );
+      }) cause (between_and (λ d e. Operates o denied d e A B) (λ d. IsFull d f) (λ d e. Operates o denied d e A B × IsFull e f) old new (λ d e op p. (op, p)) call full)
+
+  -- the name was refused
+  pub refused_set : IsSomeAnd old (Owns name before) → B → Called → (version : Version) × (IsVersion version) × (before ≡ owned name version) × denied (trie_entries version)
+  refused_set owns b call =
+      let x = both (Owns name before) (λ d e. Operates o denied d e A B) old new owns call in
+      (x.met.version, x.met.on.valid, x.met.owned_is, subst denied x.met.on.set (x.related.refused.0 b))
+
+-- ---- an item read
+
+pub some_weaker : (P Q : Draft → Type 0) (o : Option Draft) → ((d : Draft) → P d → Q d) → IsSomeAnd o P → IsSomeAnd o Q
+some_weaker P Q (Some d) f p = f d p
+some_weaker P Q None f p = absurd p
+
+module _ (name : Name) (key before after : List ℕ) (found : Option ℕ) (len : ℕ) (reads : (version : Version) → IsVersion version → Fetched key (trie_entries version) before after found → IsRead name version after len) where
+  read_one : (d e : Draft) → IsSame d e → Fetched key (working_set d) before after found → EditsOne (Reads name after len) d e
+  read_one d e same item = record {
+    passes = sym e.agrees.passes ∙ ap (λ (u : Ledger). u.passes) same.usage ∙ d.agrees.passes;
+    known = subst (GoesOn d.seat.place.me.0) (sym same.known) (goes_same d.seat.place.me.0);
+    becomes = λ version on.
+        let set : working_set e ≡ working_set d = ap (λ (v : Known). applied (version_seen v.seen) e.log.operations) same.known ∙ ap (applied (base_of d)) same.log in
+        record {
+          stays = record { works = same.works; set = set ∙ on.set; valid = on.valid };
+          read = reads version on.valid (subst (λ (es : List trie.Entry). Fetched key es before after found) on.set item);
+        };
+  }
+
+  pub read_as : (old new : Option Draft) → Between IsSame old new → IfSome old (λ d. Fetched key (working_set d) before after found) → Edits (Reads name after len) old new
+  read_as (Some d) (Some e) same item = read_one d e same item
+  read_as (Some d) None same item = same
+  read_as None (Some e) same item = same
+  read_as None None same item = same
+
+  pub read_within : (old : Option Draft) → IsSomeAnd old WorksOnSome → IfSome old (λ d. Fetched key (working_set d) before after found) → len ≤ 4096
+  read_within (Some d) p item = (reads p.version p.on.valid (subst (λ (es : List trie.Entry). Fetched key es before after found) p.on.set item)).within
+  read_within None p item = absurd p
+
+-- what a name owns is what was read
+module _ (name : Name) (octets : List ℕ) (len : ℕ) (old new : Option Draft) (works : IsSomeAnd old WorksOnSome) (reads : Edits (Reads name octets len) old new) where
+  pub read_some : (version : Version) × IsVersion version × IsRead name version octets len
+  read_some =
+      let x = both WorksOnSome (EditsOne (Reads name octets len)) old new works reads in
+      (x.met.version, x.met.on.valid, (x.related.becomes x.met.version x.met.on).read)
+
+  pub owns_after : (before : Entry) → ((version : Version) → IsRead name version octets len → before ≡ owned name version) → IsSomeAnd new (Owns name before)
+  owns_after before is =
+      let x = both WorksOnSome (EditsOne (Reads name octets len)) old new works reads in
+      let r = x.related.becomes x.met.version x.met.on in
+      subst (λ (o : Option Draft). IsSomeAnd o (Owns name before)) (sym x.new_is) (record { version = x.met.version; on = r.stays; owned_is = is x.met.version r.read })

@@ -1,0 +1,50 @@
+-- What operations make of a transaction whose working set is a version of a zone.
+use Rattle.std.specs.Prelude.{◌≡◌, ℕ, ◌+◌, List, ◌∷◌, ◌++◌, length, Result, Ok, Err}
+use Rattle.zone_model.specs.Names.{Name}
+use Rattle.zone_model.specs.Records.{Entry}
+use Rattle.zone_model.specs.declared.Refusal.{Refusal}
+use Rattle.zone_model.specs.Versions.{Version, Operation, apply, whole}
+use Rattle.shared_index.specs.declared.desk.Draft.{Draft}
+use Rattle.shared_index.specs.declared.kept.Versions.{Versions}
+use Rattle.zone_edit.specs.Stores.{WorksOn, IsFullOn}
+use Rattle.zone_edit.specs.declared.applying.Stopped.{Stopped}
+use Rattle.zone_edit.specs.declared.applying.Stopped.TheVariants as stops
+use Rattle.zone_edit.specs.declared.applying.Halt.{Halt}
+use Rattle.zone_edit.specs.declared.applying.Halt.TheVariants as halts
+
+-- an entry is the one wanted, or the refusal is; want of memory says nothing
+abbrev pub Gives : Result Entry Stopped → Result Entry Refusal → Type 0
+Gives (Ok entry) wanted = wanted ≡ Ok entry
+Gives (Err stops.Memory) wanted = Unit {0}
+Gives (Err (stops.Refused refusal)) wanted = wanted ≡ Err refusal
+Gives (Err (stops.Full kept)) wanted = ⊥
+
+-- An operation is accepted, and the working set is the version that it makes; or it isn't, and the working set stays. Want of memory
+-- says nothing.
+abbrev pub Applies : Name → Operation → Result (Unit {0}) Stopped → Version → Draft → Type 0
+Applies origin operation (Ok u) version new = (next : Version) × (apply origin operation version ≡ Ok next) × WorksOn new next
+Applies origin operation (Err stops.Memory) version new = Unit {0}
+Applies origin operation (Err (stops.Refused refusal)) version new = apply origin operation version ≡ Err refusal
+Applies origin operation (Err (stops.Full kept)) version new =
+    (next : Version) × (apply origin operation version ≡ Ok next) × (next ≡ version → ⊥) × IsFullOn new version kept
+
+-- There is no room for an operation that is accepted and changes what the ones before it made.
+pub record IsFullAt (new : Draft) (origin : Name) (operations : List Operation) (version : Version) (operation : ℕ) (kept : Versions) : Type 0 where
+  pub front : List Operation
+  pub refused : Operation
+  pub back : List Operation
+  pub all : operations ≡ front ++ refused ∷ back
+  pub place : operation ≡ length front + 1
+  pub working : Version
+  pub before : whole origin front version ≡ Ok working
+  pub next : Version
+  pub accepted : apply origin refused working ≡ Ok next
+  pub changes : next ≡ working → ⊥
+  pub full : IsFullOn new working kept
+
+-- the same for a block's operations
+abbrev pub AppliesAll : Name → List Operation → Result (Unit {0}) Halt → Version → Draft → Type 0
+AppliesAll origin operations (Ok u) version new = (next : Version) × (whole origin operations version ≡ Ok next) × WorksOn new next
+AppliesAll origin operations (Err halts.Memory) version new = Unit {0}
+AppliesAll origin operations (Err (halts.Refused refusal)) version new = whole origin operations version ≡ Err refusal
+AppliesAll origin operations (Err (halts.Full operation kept)) version new = IsFullAt new origin operations version operation kept

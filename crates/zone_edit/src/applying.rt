@@ -1,0 +1,158 @@
+//! Operations on a transaction's working set.
+
+ghost use Rattle.std.specs.Prelude.{◌≡◌, ◌≤◌, IfOk, IsSomeAnd, List, map};
+ghost use Rattle.zone_model.specs.Keys.{key_of};
+ghost use Rattle.zone_model.specs.Versions.{changed};
+ghost use Rattle.job_script.specs.Views.{operation_view};
+ghost use Rattle.zone_edit.specs.Stores.{WorksOnSome, Reads, Edits};
+ghost use Rattle.zone_edit.specs.Blocks.{Gives, Applies, AppliesAll};
+ghost use Rattle.zone_edit.specs.declared.applying.Stopped.TheVariants.{Memory};
+
+use crate::storing::store;
+use dns_name::Name;
+use job_script::Operation;
+use rr_data::Entry;
+use shared_index::{Law, Named, Transaction, Versions};
+use shift_key::Key;
+use std::alloc::{AllocError, AllocFailed, Global};
+use zone_answer::entry_of;
+use zone_change::{ItemBuffers, changed};
+use zone_model::Refusal;
+
+/// Why operations change nothing.
+#[derive(Clone, Copy)]
+pub enum Halt {
+    /// Want of memory.
+    Memory,
+    /// A rule of zones.
+    Refused(Refusal),
+    /// No room for an operation, by its number from 1, while these versions are kept.
+    Full { operation: u64, kept: Versions },
+}
+
+/// Why an operation changes nothing.
+#[derive(Clone, Copy)]
+enum Stopped {
+    /// Want of memory.
+    Memory,
+    /// A rule of zones.
+    Refused(Refusal),
+    /// No room, while these versions are kept.
+    Full(Versions),
+}
+
+impl From<AllocError> for Stopped {
+    ghost from_gives = { λ _ e. e ≡ Memory };
+
+    fn from(_: AllocError) -> Self {
+        Stopped::Memory
+    }
+}
+
+impl<T: Drop> From<AllocFailed<T>> for Stopped {
+    ghost from_gives = { λ _ e. e ≡ Memory };
+
+    fn from(_: AllocFailed<T>) -> Self {
+        Stopped::Memory
+    }
+}
+
+/// Reads the item of a name into the beginning of a buffer, and gives its length: 0 where the name owns nothing.
+fn read_owned<L: Law, N: Named, K>(
+    transaction: &mut Transaction<'_, '_, L, N, K>,
+    name: &Name,
+    key: &Key,
+    item: &mut [u8; 4096],
+) -> usize
+    requires works { IsSomeAnd transaction.old.locked.now.draft WorksOnSome }
+    requires key { key.now ≡ key_of name.now }
+    ensures same_reference { (transaction.new.home.ghost_name ≡ transaction.old.home.ghost_name) × (transaction.new.locked.ghost_name ≡ transaction.old.locked.ghost_name) }
+    ensures place { transaction.new.locked.now.place ≡ transaction.old.locked.now.place }
+    ensures within { result ≤ 4096 }
+    ensures read { Edits (Reads name.now item.new result) transaction.old.locked.now.draft transaction.new.locked.now.draft }
+{
+    let _wire = name.wire();
+    match transaction.fetch(key, item) {
+        Some(len) => len,
+        None => 0,
+    }
+}
+
+/// What an operation makes of its owner's entry.
+fn next_entry(
+    alloc: Global,
+    origin: &Name,
+    operation: &Operation,
+    before: &Entry,
+) -> Result<Entry, Stopped>
+    ensures { Gives result (changed origin.now (operation_view operation.now) before.now) }
+{
+    match changed(alloc, origin, operation, before.clone()?) {
+        Ok(entry) => Ok(entry),
+        Err(zone_change::Stopped::Memory) => Err(Stopped::Memory),
+        Err(zone_change::Stopped::Refused(refusal)) => Err(Stopped::Refused(refusal)),
+        Err(zone_change::Stopped::Full(_)) => unreachable!(),
+    }
+}
+
+/// Makes an operation's change in the working set.
+fn apply<L: Law, N: Named, K>(
+    alloc: Global,
+    origin: &Name,
+    transaction: &mut Transaction<'_, '_, L, N, K>,
+    operation: &Operation,
+    buffers: &mut ItemBuffers,
+) -> Result<(), Stopped>
+    requires { IsSomeAnd transaction.old.locked.now.draft WorksOnSome }
+    ensures same_reference { (transaction.new.home.ghost_name ≡ transaction.old.home.ghost_name) × (transaction.new.locked.ghost_name ≡ transaction.old.locked.ghost_name) }
+    ensures place { transaction.new.locked.now.place ≡ transaction.old.locked.now.place }
+    ensures applies { Edits (Applies origin.now (operation_view operation.now) result) transaction.old.locked.now.draft transaction.new.locked.now.draft }
+{
+    let owner = operation.owner();
+    let key = Key::of(owner);
+    let len = read_owned(transaction, owner, &key, &mut buffers.before);
+    let octets = &buffers.before[..len];
+    let before = entry_of(alloc, owner, octets)?;
+    let entry = next_entry(alloc, origin, operation, &before)?;
+    match store(
+        transaction,
+        owner,
+        &key,
+        octets,
+        &before,
+        &entry,
+        &mut buffers.after,
+    ) {
+        Ok(()) => Ok(()),
+        Err(kept) => Err(Stopped::Full(kept)),
+    }
+}
+
+/// Makes the changes of operations in the working set, in order, up to the first that is refused, by way of buffers for items.
+pub fn apply_all<L: Law, N: Named, K>(
+    alloc: Global,
+    origin: &Name,
+    transaction: &mut Transaction<'_, '_, L, N, K>,
+    operations: &[Operation],
+    buffers: &mut ItemBuffers,
+) -> Result<(), Halt>
+    requires { IsSomeAnd transaction.old.locked.now.draft WorksOnSome }
+    ensures same_reference { (transaction.new.home.ghost_name ≡ transaction.old.home.ghost_name) × (transaction.new.locked.ghost_name ≡ transaction.old.locked.ghost_name) }
+    ensures place { transaction.new.locked.now.place ≡ transaction.old.locked.now.place }
+    ensures applies { Edits (AppliesAll origin.now (map operation_view operations.now) result) transaction.old.locked.now.draft transaction.new.locked.now.draft }
+{
+    for (index, operation) in operations.iter().enumerate() {
+        match apply(alloc, origin, transaction, operation, buffers) {
+            Ok(()) => {}
+            Err(Stopped::Memory) => return Err(Halt::Memory),
+            Err(Stopped::Refused(refusal)) => return Err(Halt::Refused(refusal)),
+            Err(Stopped::Full(kept)) => {
+                return Err(Halt::Full {
+                    operation: index as u64 + 1,
+                    kept,
+                });
+            }
+        }
+    }
+    Ok(())
+}

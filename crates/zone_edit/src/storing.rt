@@ -1,0 +1,121 @@
+//! An entry put under a name in a transaction's working set.
+
+ghost use Rattle.std.specs.Prelude.{◌≡◌, ◌<◌, ◌≤◌, [], List, length, IsSomeAnd};
+ghost use Rattle.zone_model.specs.Keys.{key_of};
+ghost use Rattle.zone_model.specs.Records.{item, IsItem};
+ghost use Rattle.zone_model.specs.Versions.{owned};
+ghost use Rattle.rr_data.specs.ItemViews.{SaysEntry};
+ghost use Rattle.zone_edit.specs.Stores.{Owns, Stores, Edits};
+
+use dns_name::Name;
+use rr_data::Entry;
+use shared_index::{ChangeRefusal, InsertRefusal, Law, Named, Transaction, Versions};
+use shift_key::Key;
+
+/// A name that owns something loses it.
+fn take_out<L: Law, N: Named, K>(
+    transaction: &mut Transaction<'_, '_, L, N, K>,
+    name: &Name,
+    key: &Key,
+    before: &Entry,
+) -> Result<(), Versions>
+    requires key { key.now ≡ key_of name.now }
+    requires owns { IsSomeAnd transaction.old.locked.now.draft (Owns name.now before.now) }
+    requires some { 0 < length before.now }
+    ensures same_reference { (transaction.new.home.ghost_name ≡ transaction.old.home.ghost_name) × (transaction.new.locked.ghost_name ≡ transaction.old.locked.ghost_name) }
+    ensures place { transaction.new.locked.now.place ≡ transaction.old.locked.now.place }
+    ensures stores { Edits (Stores name.now before.now [] result) transaction.old.locked.now.draft transaction.new.locked.now.draft }
+{
+    let _wire = name.wire();
+    match transaction.delete(key) {
+        Ok(()) => Ok(()),
+        Err(ChangeRefusal::NotFound) => unreachable!(),
+        Err(ChangeRefusal::Full(full)) => Err(full.kept),
+    }
+}
+
+/// A name that owns nothing gets an entry, of which this is the item.
+fn put_in<L: Law, N: Named, K>(
+    transaction: &mut Transaction<'_, '_, L, N, K>,
+    name: &Name,
+    key: &Key,
+    entry: &Entry,
+    item: &[u8],
+) -> Result<(), Versions>
+    requires key { key.now ≡ key_of name.now }
+    requires owns { IsSomeAnd transaction.old.locked.now.draft (Owns name.now []) }
+    requires item { IsItem item.now name.now entry.now }
+    ensures same_reference { (transaction.new.home.ghost_name ≡ transaction.old.home.ghost_name) × (transaction.new.locked.ghost_name ≡ transaction.old.locked.ghost_name) }
+    ensures place { transaction.new.locked.now.place ≡ transaction.old.locked.now.place }
+    ensures stores { Edits (Stores name.now [] entry.now result) transaction.old.locked.now.draft transaction.new.locked.now.draft }
+{
+    let _wire = name.wire();
+    match transaction.insert(key, item) {
+        Ok(()) => Ok(()),
+        Err(InsertRefusal::Exists) => unreachable!(),
+        Err(InsertRefusal::Full(full)) => Err(full.kept),
+    }
+}
+
+/// A name that owns something gets another entry, of which this is the item.
+fn exchange<L: Law, N: Named, K>(
+    transaction: &mut Transaction<'_, '_, L, N, K>,
+    name: &Name,
+    key: &Key,
+    before: &Entry,
+    entry: &Entry,
+    item: &[u8],
+) -> Result<(), Versions>
+    requires key { key.now ≡ key_of name.now }
+    requires owns { IsSomeAnd transaction.old.locked.now.draft (Owns name.now before.now) }
+    requires some { 0 < length before.now }
+    requires item { IsItem item.now name.now entry.now }
+    requires other { entry.now ≡ before.now → ⊥ }
+    ensures same_reference { (transaction.new.home.ghost_name ≡ transaction.old.home.ghost_name) × (transaction.new.locked.ghost_name ≡ transaction.old.locked.ghost_name) }
+    ensures place { transaction.new.locked.now.place ≡ transaction.old.locked.now.place }
+    ensures stores { Edits (Stores name.now before.now entry.now result) transaction.old.locked.now.draft transaction.new.locked.now.draft }
+{
+    let _wire = name.wire();
+    match transaction.replace(key, item) {
+        Ok(()) => Ok(()),
+        Err(ChangeRefusal::NotFound) => unreachable!(),
+        Err(ChangeRefusal::Full(full)) => Err(full.kept),
+    }
+}
+
+/// Puts an entry under a name, where octets say what it owned before; one that owns nothing isn't in the version. What is as it was
+/// isn't written. The entry's item is laid down in a buffer.
+pub fn store<L: Law, N: Named, K>(
+    transaction: &mut Transaction<'_, '_, L, N, K>,
+    name: &Name,
+    key: &Key,
+    octets: &[u8],
+    before: &Entry,
+    entry: &Entry,
+    out: &mut [u8; 4096],
+) -> Result<(), Versions>
+    requires key { key.now ≡ key_of name.now }
+    requires says { SaysEntry name.now octets.now before.now }
+    requires owns { IsSomeAnd transaction.old.locked.now.draft (Owns name.now before.now) }
+    requires short { 0 < length entry.now → length (item name.now entry.now) ≤ 4096 }
+    ensures same_reference { (transaction.new.home.ghost_name ≡ transaction.old.home.ghost_name) × (transaction.new.locked.ghost_name ≡ transaction.old.locked.ghost_name) }
+    ensures place { transaction.new.locked.now.place ≡ transaction.old.locked.now.place }
+    ensures stores { Edits (Stores name.now before.now entry.now result) transaction.old.locked.now.draft transaction.new.locked.now.draft }
+{
+    if entry.is_empty() {
+        if before.is_empty() {
+            return Ok(());
+        }
+        return take_out(transaction, name, key, before);
+    }
+    let Some(len) = entry.encode(name, out) else {
+        unreachable!();
+    };
+    if before.is_empty() {
+        return put_in(transaction, name, key, entry, &out[..len]);
+    }
+    if &out[..len] == octets {
+        return Ok(());
+    }
+    exchange(transaction, name, key, before, entry, &out[..len])
+}
