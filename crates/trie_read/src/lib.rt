@@ -7,6 +7,7 @@
 
 mod above;
 mod ancestors;
+mod counted;
 mod found;
 mod iter;
 mod labels;
@@ -17,6 +18,7 @@ mod reading;
 mod size;
 
 pub use ancestors::{Ancestor, Ancestors};
+pub use counted::{Steps, get_counted};
 pub use found::{Chain, Found, Kind, find};
 pub use iter::Iter;
 pub use leaf::{difference_at, key_at, name_at};

@@ -1,0 +1,142 @@
+//! The leaf of a key, with the cells counted that are read for it.
+
+ghost use Rattle.std.specs.Prelude.{◌≡◌, ◌+◌, ◌<◌, ◌≤◌, ℕ, List, Some, length, IsTrue, ◌↔◌};
+ghost use Rattle.packed_node.specs.declared.Cell.{Cell};
+ghost use Rattle.zone_model.specs.Keys.{Leads};
+ghost use Rattle.trie_model.specs.Keys.{Entry};
+ghost use Rattle.trie_model.specs.Memory.{Stands};
+ghost use Rattle.trie_read.specs.Reads.{EachTells, Gives, IsLeafOf, LeadsKey};
+
+use super::leaf::is_of;
+use chunk_cells::CellRead;
+use chunk_cells::item::cells_for;
+use packed_node::{Cell, Leaf, Node, Ref};
+use shift_key::Key;
+use std::marker::Model;
+use std::sync::ledger::{Blank, Book, Ledger, Share};
+
+/// How many steps were taken. It takes no bytes, and does nothing when it runs.
+#[derive(Drop)]
+pub struct Steps<L: Ledger> {
+    book: Book<L>,
+    share: Share<L>,
+}
+
+impl<L: Ledger> Model for Steps<L> {
+    ghost use Rattle.std.specs.Prelude.{ℕ, ◌<◌};
+
+    ghost Value = { ℕ };
+
+    ghost view = { λ s. s.book.total };
+
+    ghost invariant = { λ s. 0 < s.share.parts };
+}
+
+impl<L: Ledger> Steps<L> {
+    /// None was taken.
+    pub fn new(blank: Blank) -> Steps<L>
+        requires name { blank.name ≡ L.name }
+        requires parts { blank.parts ≡ L.parts }
+        requires some { 0 < L.parts }
+        ensures { result ≡ 0 }
+    {
+        let (book, share) = blank.open();
+        Steps { book, share }
+    }
+
+    fn take(&mut self, n: u64)
+        ensures { self.new ≡ self.old + n }
+    {
+        self.book.add(&mut self.share, n);
+    }
+}
+
+/// Where the item of the key lies; `None` where the key is not there. Each cell that is read is a step.
+pub fn get_counted<C: CellRead, L: Ledger>(
+    cells: &mut C,
+    root: Option<Ref>,
+    key: &Key,
+    steps: &mut Steps<L>,
+) -> Option<Leaf>
+    requires { (version : List Entry) × Stands (C.has cells.old) root version × EachTells Leads version }
+    ensures same { cells.new ≡ cells.old }
+    ensures value { (version : List Entry) → Stands (C.has cells.old) root version → EachTells Leads version
+        → Gives (C.has cells.old) key.now version result }
+    ensures counted { (at : ℕ) → root ≡ Some at → steps.old < steps.new }
+    ensures few { steps.new ≤ steps.old + (length key.now + 18) }
+{
+    match root {
+        None => None,
+        Some(at) => match leaf_counted(cells, at, key, steps) {
+            None => None,
+            Some(leaf) => {
+                if is_of_counted(cells, leaf, key, steps) {
+                    Some(leaf)
+                } else {
+                    None
+                }
+            }
+        },
+    }
+}
+
+/// A cell. Reading it is a step.
+fn read<C: CellRead, L: Ledger>(cells: &mut C, at: Ref, steps: &mut Steps<L>) -> Cell
+    requires there { (c : Cell) × C.has cells.old at c }
+    ensures same { cells.new ≡ cells.old }
+    ensures value { (c : Cell) → C.has cells.old at c → result ≡ c }
+    ensures counted { steps.new ≡ steps.old + 1 }
+{
+    steps.take(1);
+    cells.cell(at)
+}
+
+/// The leaf that the key's positions lead to, which may be that of another key.
+fn leaf_counted<C: CellRead, L: Ledger>(
+    cells: &mut C,
+    root: Ref,
+    key: &Key,
+    steps: &mut Steps<L>,
+) -> Option<Leaf>
+    requires { (version : List Entry) × Stands (C.has cells.old) (Some root) version }
+    ensures same { cells.new ≡ cells.old }
+    ensures leaf { (version : List Entry) → Stands (C.has cells.old) (Some root) version → LeadsKey (C.has cells.old) key.now version result }
+    ensures counted { steps.old < steps.new }
+    ensures few { steps.new ≤ steps.old + (length key.now + 2) }
+{
+    let mut node = Node::of(read(cells, root, steps));
+    loop {
+        match node {
+            Node::Leaf(leaf) => return Some(leaf),
+            Node::Branch(branch) => {
+                if branch.offset > key.len() {
+                    return None;
+                }
+                let position = key.at(branch.offset);
+                if !branch.has_twig(position) {
+                    return None;
+                }
+                let twig = branch.twigs + branch.twig_index(position);
+                node = Node::of(read(cells, twig, steps));
+            }
+        }
+    }
+}
+
+/// Whether the item of a leaf is that of the key. As many cells are counted as the key's name takes.
+fn is_of_counted<C: CellRead, L: Ledger>(
+    cells: &mut C,
+    leaf: Leaf,
+    key: &Key,
+    steps: &mut Steps<L>,
+) -> bool
+    requires { (e : Entry) × IsLeafOf (C.has cells.old) e leaf × Leads e.key e.item }
+    ensures same { cells.new ≡ cells.old }
+    ensures value { (e : Entry) → IsLeafOf (C.has cells.old) e leaf → Leads e.key e.item → IsTrue result ↔ (e.key ≡ key.now) }
+    ensures counted { steps.old ≤ steps.new }
+    ensures few { steps.new ≤ steps.old + 16 }
+{
+    let octets = key.wire();
+    steps.take(cells_for(octets.len() as u16) as u64);
+    is_of(cells, leaf, key)
+}
