@@ -7,7 +7,6 @@
 
 mod above;
 mod ancestors;
-mod counted;
 mod found;
 mod iter;
 mod labels;
@@ -16,12 +15,13 @@ mod look_up;
 mod path;
 mod reading;
 mod size;
+mod steps;
 
 pub use ancestors::{Ancestor, Ancestors};
-pub use counted::{Steps, get_counted};
 pub use found::{Chain, Found, Kind, find};
 pub use iter::Iter;
 pub use leaf::{difference_at, key_at, name_at};
-pub use look_up::get;
+pub use look_up::{get, get_counted};
 pub use reading::{CellReading, Reading};
 pub use size::{count, nodes};
+pub use steps::Steps;

@@ -1,15 +1,20 @@
-//! The leaf of a key.
+//! The leaf of a key, and how many cells are read for it.
 
-ghost use Rattle.std.specs.Prelude.{◌≡◌, List, Some};
+ghost use Rattle.std.specs.Prelude.{◌≡◌, ◌+◌, ◌<◌, ◌≤◌, ℕ, List, Some, length, IsTrue, ◌↔◌};
+ghost use Rattle.packed_node.specs.declared.Cell.{Cell};
 ghost use Rattle.zone_model.specs.Keys.{Leads};
 ghost use Rattle.trie_model.specs.Keys.{Entry};
 ghost use Rattle.trie_model.specs.Memory.{Stands};
-ghost use Rattle.trie_read.specs.Reads.{EachTells, Gives, LeadsKey};
+ghost use Rattle.trie_read.specs.Reads.{EachTells, Gives, IsLeafOf, LeadsKey};
 
 use super::leaf::is_of;
+use super::steps::Steps;
 use chunk_cells::CellRead;
-use packed_node::{Leaf, Node, Ref};
+use chunk_cells::item::cells_for;
+use packed_node::{Cell, Leaf, Node, Ref};
 use shift_key::Key;
+use std::marker::Brand;
+use std::sync::ledger::{Blank, Ledger};
 
 /// Where the item of the key lies; `None` where the key is not there.
 pub fn get<C: CellRead>(cells: &mut C, root: Option<Ref>, key: &Key) -> Option<Leaf>
@@ -18,12 +23,48 @@ pub fn get<C: CellRead>(cells: &mut C, root: Option<Ref>, key: &Key) -> Option<L
     ensures value { (version : List Entry) → Stands (C.has cells.old) root version → EachTells Leads version
         → Gives (C.has cells.old) key.now version result }
 {
+    get_from::<C, Brand>(cells, root, key, Blank::new(1))
+}
+
+/// The same; nobody asks for what was counted.
+fn get_from<C: CellRead, L: Ledger>(
+    cells: &mut C,
+    root: Option<Ref>,
+    key: &Key,
+    blank: Blank,
+) -> Option<Leaf>
+    requires stands { (version : List Entry) × Stands (C.has cells.old) root version × EachTells Leads version }
+    requires name { blank.name ≡ L.name }
+    requires parts { blank.parts ≡ L.parts }
+    requires some { 0 < L.parts }
+    ensures same { cells.new ≡ cells.old }
+    ensures value { (version : List Entry) → Stands (C.has cells.old) root version → EachTells Leads version
+        → Gives (C.has cells.old) key.now version result }
+{
+    let mut steps = Steps::<L>::new(blank);
+    get_counted(cells, root, key, &mut steps)
+}
+
+/// Where the item of the key lies, as `get` tells it. Each cell that is read is a step.
+pub fn get_counted<C: CellRead, L: Ledger>(
+    cells: &mut C,
+    root: Option<Ref>,
+    key: &Key,
+    steps: &mut Steps<L>,
+) -> Option<Leaf>
+    requires { (version : List Entry) × Stands (C.has cells.old) root version × EachTells Leads version }
+    ensures same { cells.new ≡ cells.old }
+    ensures value { (version : List Entry) → Stands (C.has cells.old) root version → EachTells Leads version
+        → Gives (C.has cells.old) key.now version result }
+    ensures counted { (at : ℕ) → root ≡ Some at → steps.old < steps.new }
+    ensures few { steps.new ≤ steps.old + (length key.now + 18) }
+{
     match root {
         None => None,
-        Some(at) => match leaf_for(cells, at, key) {
+        Some(at) => match leaf_for(cells, at, key, steps) {
             None => None,
             Some(leaf) => {
-                if is_of(cells, leaf, key) {
+                if is_of_key(cells, leaf, key, steps) {
                     Some(leaf)
                 } else {
                     None
@@ -33,13 +74,31 @@ pub fn get<C: CellRead>(cells: &mut C, root: Option<Ref>, key: &Key) -> Option<L
     }
 }
 
-/// The leaf that the key's positions lead to. All that lies between the branches' offsets isn't looked at, so it may be that of another key.
-fn leaf_for<C: CellRead>(cells: &mut C, root: Ref, key: &Key) -> Option<Leaf>
+/// A cell. Reading it is a step.
+fn read<C: CellRead, L: Ledger>(cells: &mut C, at: Ref, steps: &mut Steps<L>) -> Cell
+    requires there { (c : Cell) × C.has cells.old at c }
+    ensures same { cells.new ≡ cells.old }
+    ensures value { (c : Cell) → C.has cells.old at c → result ≡ c }
+    ensures counted { steps.new ≡ steps.old + 1 }
+{
+    steps.take(1);
+    cells.cell(at)
+}
+
+/// The leaf that the key's positions lead to, which may be that of another key.
+fn leaf_for<C: CellRead, L: Ledger>(
+    cells: &mut C,
+    root: Ref,
+    key: &Key,
+    steps: &mut Steps<L>,
+) -> Option<Leaf>
     requires { (version : List Entry) × Stands (C.has cells.old) (Some root) version }
     ensures same { cells.new ≡ cells.old }
     ensures leaf { (version : List Entry) → Stands (C.has cells.old) (Some root) version → LeadsKey (C.has cells.old) key.now version result }
+    ensures counted { steps.old < steps.new }
+    ensures few { steps.new ≤ steps.old + (length key.now + 2) }
 {
-    let mut node = Node::of(cells.cell(root));
+    let mut node = Node::of(read(cells, root, steps));
     loop {
         match node {
             Node::Leaf(leaf) => return Some(leaf),
@@ -52,8 +111,26 @@ fn leaf_for<C: CellRead>(cells: &mut C, root: Ref, key: &Key) -> Option<Leaf>
                     return None;
                 }
                 let twig = branch.twigs + branch.twig_index(position);
-                node = Node::of(cells.cell(twig));
+                node = Node::of(read(cells, twig, steps));
             }
         }
     }
+}
+
+/// Whether the item of a leaf is that of the key. As many cells are counted as the key's name takes.
+fn is_of_key<C: CellRead, L: Ledger>(
+    cells: &mut C,
+    leaf: Leaf,
+    key: &Key,
+    steps: &mut Steps<L>,
+) -> bool
+    requires { (e : Entry) × IsLeafOf (C.has cells.old) e leaf × Leads e.key e.item }
+    ensures same { cells.new ≡ cells.old }
+    ensures value { (e : Entry) → IsLeafOf (C.has cells.old) e leaf → Leads e.key e.item → IsTrue result ↔ (e.key ≡ key.now) }
+    ensures counted { steps.old ≤ steps.new }
+    ensures few { steps.new ≤ steps.old + 16 }
+{
+    let octets = key.wire();
+    steps.take(cells_for(octets.len() as u16) as u64);
+    is_of(cells, leaf, key)
 }
