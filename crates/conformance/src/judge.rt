@@ -19,6 +19,18 @@ impl Gate for Open {
 /// The most bytes of an output that is compared.
 const ROOM: usize = 200_000;
 
+/// Whether a text is one that is due, in which `v?` stands for any version.
+fn is_like(text: &str, due: &str) -> bool {
+    let mut parts = due.split("v?");
+    let mut left = parts.next().and_then(|part| text.strip_prefix(part));
+    for part in parts {
+        left = left
+            .and_then(|rest| rest.strip_prefix('v'))
+            .and_then(|rest| rest.trim_start_matches(|c: char| c.is_ascii_digit()).strip_prefix(part));
+    }
+    left == Some("")
+}
+
 /// Runs a case, and says on standard output how it differs from what is due. Answers whether it does not.
 pub(crate) fn is_as_due<R: Threads + Wait + Sync + Print>(
     rt: &R,
@@ -32,11 +44,12 @@ pub(crate) fn is_as_due<R: Threads + Wait + Sync + Print>(
     );
     let mut sink = MemSink::new(alloc, ROOM, case.writes.most, case.writes.fails.clone()?)?;
     let status = run(rt, alloc, &case.words, &mut source, &mut sink, &Open).code();
-    let written = sink.held().unwrap_or(b"more than there is room for");
-    if status == case.status && written == case.output.as_bytes() {
+    let held = sink.held().unwrap_or(b"more than there is room for");
+    let written = String::from_utf8_lossy(alloc, held)?;
+    if status == case.status && case.outputs.iter().any(|due| is_like(&written, due.as_str())) {
         return Ok(true);
     }
     println!(rt; "{}: status {status}, and written was", case.name)?;
-    println!(rt; "{}", String::from_utf8_lossy(alloc, written)?)?;
+    println!(rt; "{written}")?;
     Ok(false)
 }
