@@ -14,7 +14,7 @@
 //! | `+ TEXT` | the same without an end of line |
 //! | `* N TEXT` | the text N times, without an end of line |
 //! | `x N TEXT` | the line N times |
-//! | `due STATUS` | the exit status; the lines of the output follow, in which `v?` stands for any version |
+//! | `due STATUS` | the exit status; the lines of the output follow, in which `?` stands for any number |
 //! | `or` | the lines of another output that may come |
 //!
 //! Workers run beside each other, so what each order of their steps gives is listed, or only what is the same in all of them.

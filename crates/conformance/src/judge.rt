@@ -19,16 +19,19 @@ impl Gate for Open {
 /// The most bytes of an output that is compared.
 const ROOM: usize = 200_000;
 
-/// Whether a text is one that is due, in which `v?` stands for any version.
+/// Whether a text is one that is due, in which `?` stands for any number.
 fn is_like(text: &str, due: &str) -> bool {
-    let mut parts = due.split("v?");
-    let mut left = parts.next().and_then(|part| text.strip_prefix(part));
-    for part in parts {
-        left = left
-            .and_then(|rest| rest.strip_prefix('v'))
-            .and_then(|rest| rest.trim_start_matches(|c: char| c.is_ascii_digit()).strip_prefix(part));
+    let mut left = text;
+    for (place, part) in due.split('?').enumerate() {
+        if place > 0 {
+            left = left.trim_start_matches(|c: char| c.is_ascii_digit());
+        }
+        let Some(behind) = left.strip_prefix(part) else {
+            return false;
+        };
+        left = behind;
     }
-    left == Some("")
+    left.is_empty()
 }
 
 /// Runs a case, and says on standard output how it differs from what is due. Answers whether it does not.
