@@ -75,7 +75,7 @@ answers_as telling chunks q r s text e h = subst (λ (x : Result Job JobRefusal)
 
 -- the answers of a job that is read
 pub job_answers : (telling : Telling) (chunks : ℕ) (origin : Name) (bytes : List ℕ) (zone : Version) (workers : List (List Command)) → zone_of origin (zone_lines bytes) ≡ Ok zone → script_of origin (script_start bytes) (script_lines bytes) ≡ Ok workers
-    → (s : Status) (text : List ℕ) → IfFits (fits chunks zone) chunks zone (Reported telling chunks (record { origin = origin; zone = zone; workers = workers })) s text → Answers telling chunks (job_of origin bytes) s text
+    → (s : Status) (text : List ℕ) → Answers telling chunks (Ok (record { origin = origin; zone = zone; workers = workers })) s text → Answers telling chunks (job_of origin bytes) s text
 job_answers telling chunks origin bytes zone workers z w s text h = answers_as telling chunks (job_of origin bytes) (Ok (record { origin = origin; zone = zone; workers = workers })) s text (whole_job origin bytes zone workers z w) h
 
 -- a zone that is refused is refused for each command

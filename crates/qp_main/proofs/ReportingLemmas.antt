@@ -53,19 +53,11 @@ job_reported telling chunks origin zone ws f text refused s r printed some ended
   ended = ended ∙ ap (λ (b : Bool). cond b status.SomeRefused status.Done) (some ∙ refused_told origin (versions_made origin zone ws f.outcomes.items) ws f.outcomes.items r.tell);
 }
 
--- ---- zones that fit, and zones that don't
-
 it_fits : (chunks : ℕ) (zone : Version) → cell_count zone ≤ room_in chunks → fits chunks zone ≡ true
 it_fits chunks zone h = below (cell_count zone) (room_in chunks) h
   where
     below : (m n : ℕ) → m ≤ n → leb m n ≡ true
     below m n l = grind (arith, nat_tests)
-
-too_large : (chunks : ℕ) (zone : Version) → room_in chunks < cell_count zone → fits chunks zone ≡ false
-too_large chunks zone h = above (cell_count zone) (room_in chunks) h
-  where
-    above : (m n : ℕ) → n < m → leb m n ≡ false
-    above m n l = grind (arith, nat_tests)
 
 -- a job that was run on a zone that fits
 pub job_told : (telling : Telling) (chunks : ℕ) (origin : Name) (zone : Version) (ws : List (List Command)) (f : Finished) (text : List ℕ) (refused : Bool) (s : Status) → RanOn chunks origin zone ws (ran.Finished f) → text ≡ finished_text telling f
@@ -73,31 +65,6 @@ pub job_told : (telling : Telling) (chunks : ℕ) (origin : Name) (zone : Versio
     → Answers telling chunks (Ok (record { origin = origin; zone = zone; workers = ws })) s text
 job_told telling chunks origin zone ws f text refused s r printed some ended =
     fitting chunks zone (Reported telling chunks (record { origin = origin; zone = zone; workers = ws })) s text (it_fits chunks zone r.0) (job_reported telling chunks origin zone ws f text refused s r.1 printed some ended)
-
--- a zone that doesn't fit
-pub no_room_told : (chunks : ℕ) (origin : Name) (zone : Version) (ws : List (List Command)) (cells limit : ℕ) (F : Status → List ℕ → Type 0) (text : List ℕ) → RanOn chunks origin zone ws (ran.DoesNotFit cells limit)
-    → text ≡ codes "zone does not fit: " ++ decimal cells ++ codes " cells over " ++ decimal limit ++ codes "\n" → IfFits (fits chunks zone) chunks zone F status.DoesNotFit text
-no_room_told chunks origin zone ws cells limit F text r printed =
-    let is : text ≡ no_room_text chunks zone =
-    printed ∙ ap (λ (n : ℕ). codes "zone does not fit: " ++ decimal n ++ codes " cells over " ++ decimal limit ++ codes "\n") r.0
-    ∙ ap (λ (n : ℕ). codes "zone does not fit: " ++ decimal (cell_count zone) ++ codes " cells over " ++ decimal n ++ codes "\n") r.1 in
-    let large : room_in chunks < cell_count zone = subst (λ (n : ℕ). n < cell_count zone) r.1 (subst (λ (n : ℕ). limit < n) r.0 r.2) in
-    subst (λ (b : Bool). IfFits b chunks zone F status.DoesNotFit text) (sym (too_large chunks zone large)) (refl, is)
-
--- ---- a job of no worker
-
-none_made : (last : ℕ) → ((j : ℕ) → 0 < j → j ≤ last → 0 ≡ 1) → last ≡ 0
-none_made zero h = refl
-none_made (suc n) h = let none : 0 ≡ 1 = h (suc n) (omega arith) (omega arith) in absurd (omega arith)
-
--- it leaves version 0, whose size is told
-pub size_told : (chunks : ℕ) (origin : Name) (zone : Version) (f : Finished) (text : List ℕ) → RanOn chunks origin zone [] (ran.Finished f) → text ≡ codes "v0 " ++ size_text f.names f.nodes → Checks chunks (Ok zone) status.Done text
-size_told chunks origin zone f text r printed =
-    let first : f.version ≡ 0 = none_made f.version r.1.lawful.once in
-    let names : f.names ≡ length zone = r.1.names_are ∙ ap (λ (n : ℕ). length (versions_made origin zone [] f.outcomes.items n)) first in
-    let nodes : f.nodes ≡ node_count zone = r.1.nodes_are ∙ ap (λ (n : ℕ). node_count (versions_made origin zone [] f.outcomes.items n)) first in
-    fitting chunks zone (Ends status.Done (opened_text zone)) status.Done text (it_fits chunks zone r.0)
-    (refl, printed ∙ ap (λ (n : ℕ). codes "v0 " ++ size_text n f.nodes) names ∙ ap (λ (n : ℕ). codes "v0 " ++ size_text (length zone) n) nodes)
 
 -- the script behind the place where an input is cut
 pub script_read : (origin : Name) (bytes : List ℕ) (p : Parts) (out : Result (List (List Command)) (Refused ScriptKind)) → IsCutAt bytes p → script_of origin p.first_line (lines_of (take (length bytes - p.script_from) (drop p.script_from bytes))) ≡ out
