@@ -1,5 +1,5 @@
 -- What is due for an input.
-use Rattle.std.proofs.Common.{◌≡◌, ◌∙◌, ℕ, ◌+◌, Bool, true, false, cond, leb, List, length, Option, Some, None, Result, Ok, Err, IfOk, refl, sym, ap, subst, arith, codes, length-append, append-nil, ◌++◌, ◌≤◌, []}
+use Rattle.std.proofs.Common.{◌≡◌, ◌∙◌, ℕ, ◌+◌, Bool, true, false, cond, leb, List, length, Option, Some, None, Result, Ok, Err, IfOk, refl, sym, ap, subst, arith, codes, length-append, append-nil, ◌++◌, ◌≤◌}
 use Rattle.std.proofs.lemmas.Bool.Decides.{nat_tests}
 use Rattle.std.specs.Io.KnownBytes.{Consumes, IsAtEnd}
 use Rattle.command_line.specs.Invocations.{Invocation, Verb, Run, Check, Make}
@@ -12,8 +12,7 @@ use Rattle.job_model.specs.Commands.{Command, Job}
 use Rattle.job_model.specs.Jobs.{JobRefusal, ZoneRefused, ScriptRefused, zone_lines, script_lines, script_start, script_of, zone_refused, script_refused, job_of_lines, job_of}
 use Rattle.job_model.specs.Outcomes.{some_refused}
 use Rattle.zone_model.specs.declared.ZoneKind.{ZoneKind}
-use Rattle.job_model.specs.declared.ScriptKind.{ScriptKind}
-use Rattle.qp_main.specs.Fits.{fits, no_room_text, opened_text}
+use Rattle.qp_main.specs.Fits.{fits, opened_text}
 use Rattle.qp_main.specs.Due.{Due, DueBytes, DueGiven, DueInput, Answers, Checks, EndsLoad, IfFits, Ends, ZoneRefuses, Reported, IsWritten, input_of}
 use Rattle.qp_main.specs.declared.telling.Telling.{Telling}
 use Rattle.qp_main.specs.declared.telling.Telling.TheVariants.{Report, Summary}

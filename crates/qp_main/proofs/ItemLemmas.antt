@@ -1,24 +1,14 @@
 -- Items of a version.
-use Rattle.std.proofs.Common.{◌≡◌, ◌∙◌, ℕ, zero, suc, ◌<◌, ◌-◌, inl, inr, take, List, [], ◌∷◌, ◌++◌, length, drop, refl, sym, ap, subst, arith, length-append, append_assoc}
+use Rattle.std.proofs.Common.{◌≡◌, ◌∙◌, ℕ, ◌-◌, take, List, ◌++◌, length, drop, sym, ap, subst, arith, length-append, append_assoc}
 use Rattle.std.proofs.lemmas.List.{drop_at, take_all}
-use Rattle.std.specs.List.{AllByRecursion, flat_map}
-use Rattle.std.specs.List.Sorted.{IsStrictlySortedBy}
-use Rattle.std.specs.Map.{keys_of}
+use Rattle.std.specs.List.{flat_map}
 use Rattle.std.specs.Int.{w16, to_be_bytes}
-use Rattle.std.specs.declared.cmp.Ordering.{Ordering}
-use Rattle.std.specs.declared.cmp.Ordering.TheVariants as order
-use Rattle.std.specs.Ordering.{nat_cmp, ordering_then}
-use Rattle.zone_model.specs.Names.{Name, IsName, BeginsWith, wire, name_cmp}
+use Rattle.zone_model.specs.Names.{Name, IsName, BeginsWith, wire}
 use Rattle.dns_name.proofs.ScanLemmas.{begins_once}
-use Rattle.zone_model.specs.Keys.{key_of, key_cmp}
+use Rattle.zone_model.specs.Keys.{key_of}
 use Rattle.zone_model.specs.Records.{Entry, IsItem, item, rrset_bytes}
-use Rattle.zone_model.specs.Versions.{Version}
-use Rattle.std.specs.Cmp.{ranked}
-use Rattle.zone_model.proofs.KeyLaws.{key_cmp-key_of}
-use Rattle.trie_model.specs.Keys.{at, Less, InList, Rises}
 use Rattle.trie_model.specs.Keys.{Entry as TrieEntry}
 use Rattle.zone_answer.specs.Standing.{IsStorable, trie_entry}
-use Rattle.job_model.specs.Sizes.{trie_entries}
 
 abbrev record_of : List ℕ → List ℕ → TrieEntry
 record_of key octets = record { key = key; item = octets }

@@ -1,8 +1,7 @@
 -- What is reported of a job that was run.
-use Rattle.std.proofs.Common.{◌≡◌, ◌∙◌, ℕ, zero, suc, ◌-◌, ◌<◌, ◌≤◌, leb, Bool, true, false, cond, List, [], ◌++◌, length, take, drop, Result, Ok, refl, sym, ap, subst, arith, codes}
+use Rattle.std.proofs.Common.{◌≡◌, ◌∙◌, ℕ, ◌-◌, ◌≤◌, leb, Bool, true, cond, List, length, take, drop, Result, Ok, sym, ap, arith}
 use Rattle.std.proofs.lemmas.List.{take_all, length-drop}
 use Rattle.std.proofs.lemmas.Bool.Decides.{nat_tests}
-use Rattle.std.specs.Fmt.{decimal}
 use Rattle.std.specs.List.{list_any}
 use Rattle.zone_model.specs.Names.{Name}
 use Rattle.zone_model.specs.Versions.{Version}
@@ -22,15 +21,14 @@ use Rattle.job_script.proofs.SummaryLemmas.{summed_up}
 use Rattle.qp_main.specs.Tellings.{finished_text, told_text}
 use Rattle.qp_main.specs.declared.telling.Telling.{Telling}
 use Rattle.qp_main.specs.declared.telling.Telling.TheVariants.{Report, Summary}
-use Rattle.job_model.specs.Replies.{size_text}
-use Rattle.job_model.specs.Sizes.{cell_count, node_count}
+use Rattle.job_model.specs.Sizes.{cell_count}
 use Rattle.shared_index.specs.Openings.{room_in}
 use Rattle.job_threads.specs.Runs.{IsRun}
 use Rattle.job_threads.specs.Zones.{RanOn}
 use Rattle.job_threads.specs.declared.job.Finished.{Finished}
 use Rattle.job_threads.specs.declared.zone.Ran.TheVariants as ran
-use Rattle.qp_main.specs.Fits.{fits, no_room_text, opened_text}
-use Rattle.qp_main.specs.Due.{Answers, Checks, Ends, IfFits, Reported}
+use Rattle.qp_main.specs.Fits.{fits}
+use Rattle.qp_main.specs.Due.{Answers, Reported}
 use Rattle.qp_main.proofs.DueLemmas.{fitting}
 use Rattle.qp_main.specs.declared.status.Status.{Status}
 use Rattle.qp_main.specs.declared.status.Status.TheVariants as status

@@ -106,7 +106,16 @@ fn answer_parts<R: Threads + Wait + Sync, G: Gate>(
         Err(ZoneRefusal::Memory) => return Err(AllocError),
     };
     match invocation.verb {
-        Verb::Run => run_script(rt, alloc, invocation, bytes, parts, zone, Telling::Report, gate),
+        Verb::Run => run_script(
+            rt,
+            alloc,
+            invocation,
+            bytes,
+            parts,
+            zone,
+            Telling::Report,
+            gate,
+        ),
         Verb::Make(_) => run_script(
             rt,
             alloc,
