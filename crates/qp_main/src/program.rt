@@ -81,30 +81,21 @@ fn check_zone<R: Threads + Wait + Sync, G: Gate>(
     report_size(rt, alloc, invocation, &items, gate)
 }
 
-// The status and the text for bytes that were cut into a zone's and a script's.
-fn answer_parts<R: Threads + Wait + Sync, G: Gate>(
+// The status and the text for a zone that was read, and the bytes that it and a script were cut from.
+fn answer_zone<R: Threads + Wait + Sync, G: Gate>(
     rt: &R,
     alloc: Global,
     invocation: &Invocation,
     bytes: Vec<u8>,
     parts: Parts,
+    zone: Zone,
     gate: &G,
 ) -> Result<(Status, Vec<u8>), AllocError>
     requires short { length bytes.items ≤ 2 ^ 24 }
     requires cut { IsCutAt bytes.items parts }
+    requires read { zone_of invocation.now.origin (zone_lines bytes.items) ≡ Ok zone.pairs }
     ensures { IfOk result (λ x. DueInput (verb_view invocation.now.verb) invocation.now.chunks invocation.now.origin bytes.items x.0 x.1.items) }
 {
-    let zone_bytes = &bytes.as_slice()[..parts.zone_end as usize];
-    let zone = match read_zone(alloc, zone_bytes, &invocation.origin) {
-        Ok(zone) => zone,
-        Err(ZoneRefusal::Refused { line, kind }) => {
-            return Ok((
-                Status::ZoneRefused,
-                zone_refused(alloc, u64::from(line), kind)?,
-            ));
-        }
-        Err(ZoneRefusal::Memory) => return Err(AllocError),
-    };
     match invocation.verb {
         Verb::Run => run_script(
             rt,
@@ -130,6 +121,30 @@ fn answer_parts<R: Threads + Wait + Sync, G: Gate>(
             drop(bytes);
             check_zone(rt, alloc, invocation, zone, gate)
         }
+    }
+}
+
+// The status and the text for bytes that were cut into a zone's and a script's.
+fn answer_parts<R: Threads + Wait + Sync, G: Gate>(
+    rt: &R,
+    alloc: Global,
+    invocation: &Invocation,
+    bytes: Vec<u8>,
+    parts: Parts,
+    gate: &G,
+) -> Result<(Status, Vec<u8>), AllocError>
+    requires short { length bytes.items ≤ 2 ^ 24 }
+    requires cut { IsCutAt bytes.items parts }
+    ensures { IfOk result (λ x. DueInput (verb_view invocation.now.verb) invocation.now.chunks invocation.now.origin bytes.items x.0 x.1.items) }
+{
+    let zone_bytes = &bytes.as_slice()[..parts.zone_end as usize];
+    match read_zone(alloc, zone_bytes, &invocation.origin) {
+        Ok(zone) => answer_zone(rt, alloc, invocation, bytes, parts, zone, gate),
+        Err(ZoneRefusal::Refused { line, kind }) => {
+            let line = zone_refused(alloc, u64::from(line), kind)?;
+            Ok((Status::ZoneRefused, line))
+        }
+        Err(ZoneRefusal::Memory) => Err(AllocError),
     }
 }
 
