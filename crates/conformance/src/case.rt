@@ -14,7 +14,10 @@
 //! | `+ TEXT` | the same without an end of line |
 //! | `* N TEXT` | the text N times, without an end of line |
 //! | `x N TEXT` | the line N times |
-//! | `due STATUS` | the exit status; the lines of the output follow |
+//! | `due STATUS` | the exit status; the lines of the output follow, in which `?` stands for any number |
+//! | `or` | the lines of another output that may come |
+//!
+//! Workers run beside each other, so what each order of their steps gives is listed, or only what is the same in all of them.
 ghost use Rattle.std.specs.Prelude.{◌<◌};
 
 use std::alloc::{AllocError, Global};
@@ -56,8 +59,8 @@ pub struct Case {
     pub input: String,
     /// The exit status that is due.
     pub status: u8,
-    /// What is due to be written.
-    pub output: String,
+    /// What is due to be written: one of these.
+    pub outputs: Vec<String>,
 }
 
 impl Case {
@@ -70,7 +73,7 @@ impl Case {
             writes: Calls::of(alloc, 5),
             input: String::new(alloc),
             status: 0,
-            output: String::new(alloc),
+            outputs: Vec::new(alloc),
         })
     }
 }

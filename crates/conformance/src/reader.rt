@@ -6,43 +6,42 @@ use std::alloc::Global;
 /// The cases of a file.
 pub(crate) fn read_cases(alloc: Global, text: &str) -> anyhow::Result<Vec<Case>> {
     let mut cases = Vec::new(alloc);
-    let mut due = false;
     for line in text.lines() {
         if let Some(name) = line.strip_prefix("= ") {
             cases.push(Case::new(alloc, name)?)?;
-            due = false;
         } else if !line.is_empty() && !line.starts_with('#') {
             let case = cases.last_mut().context("no case has begun")?;
-            due = read_line(alloc, line, case, due)?;
+            read_line(alloc, line, case)?;
         }
     }
     Ok(cases)
 }
 
-/// What a line says of its case. Answers whether the lines that follow are of the output.
-fn read_line(alloc: Global, line: &str, case: &mut Case, due: bool) -> anyhow::Result<bool> {
+/// What a line says of its case.
+fn read_line(alloc: Global, line: &str, case: &mut Case) -> anyhow::Result<()> {
     let (kind, rest) = line.split_once(' ').unwrap_or((line, ""));
     match kind {
-        "|" | "+" | "*" | "x" => {
-            let text = if due {
-                &mut case.output
-            } else {
-                &mut case.input
-            };
-            push_text(text, kind, rest)?;
-            return Ok(due);
-        }
+        "|" | "+" | "*" | "x" => push_text(text_of(case), kind, rest)?,
         "zone" => case.input.push_str(ZONE)?,
         "words" => case.words = command_line(alloc, rest)?,
         "read" => case.reads = read_calls(alloc, rest)?,
         "write" => case.writes = read_calls(alloc, rest)?,
         "due" => {
             case.status = rest.parse::<u8>()?;
-            return Ok(true);
+            case.outputs.push(String::new(alloc))?;
         }
+        "or" => case.outputs.push(String::new(alloc))?,
         _ => bail!("no line of a case begins with {kind}"),
     }
-    Ok(due)
+    Ok(())
+}
+
+/// The text that lines go into: the last output that has begun, or before that the input.
+fn text_of(case: &mut Case) -> &mut String {
+    match case.outputs.last_mut() {
+        Some(output) => output,
+        None => &mut case.input,
+    }
 }
 
 /// Puts a line's text behind what there is.

@@ -1,5 +1,5 @@
 -- What is due for an input.
-use Rattle.std.proofs.Common.{◌≡◌, ◌∙◌, ℕ, ◌+◌, Bool, true, false, cond, leb, List, length, Option, Some, None, Result, Ok, Err, IfOk, refl, sym, ap, subst, arith, codes, length-append, append-nil, ◌++◌, ◌≤◌, []}
+use Rattle.std.proofs.Common.{◌≡◌, ◌∙◌, ℕ, ◌+◌, Bool, true, false, cond, leb, List, length, Option, Some, None, Result, Ok, Err, IfOk, refl, sym, ap, subst, arith, codes, length-append, append-nil, ◌++◌, ◌≤◌}
 use Rattle.std.proofs.lemmas.Bool.Decides.{nat_tests}
 use Rattle.std.specs.Io.KnownBytes.{Consumes, IsAtEnd}
 use Rattle.command_line.specs.Invocations.{Invocation, Verb, Run, Check, Make}
@@ -12,8 +12,7 @@ use Rattle.job_model.specs.Commands.{Command, Job}
 use Rattle.job_model.specs.Jobs.{JobRefusal, ZoneRefused, ScriptRefused, zone_lines, script_lines, script_start, script_of, zone_refused, script_refused, job_of_lines, job_of}
 use Rattle.job_model.specs.Outcomes.{some_refused}
 use Rattle.zone_model.specs.declared.ZoneKind.{ZoneKind}
-use Rattle.job_model.specs.declared.ScriptKind.{ScriptKind}
-use Rattle.qp_main.specs.Fits.{fits, no_room_text, opened_text}
+use Rattle.qp_main.specs.Fits.{fits, opened_text}
 use Rattle.qp_main.specs.Due.{Due, DueBytes, DueGiven, DueInput, Answers, Checks, EndsLoad, IfFits, Ends, ZoneRefuses, Reported, IsWritten, input_of}
 use Rattle.qp_main.specs.declared.telling.Telling.{Telling}
 use Rattle.qp_main.specs.declared.telling.Telling.TheVariants.{Report, Summary}
@@ -75,7 +74,7 @@ answers_as telling chunks q r s text e h = subst (λ (x : Result Job JobRefusal)
 
 -- the answers of a job that is read
 pub job_answers : (telling : Telling) (chunks : ℕ) (origin : Name) (bytes : List ℕ) (zone : Version) (workers : List (List Command)) → zone_of origin (zone_lines bytes) ≡ Ok zone → script_of origin (script_start bytes) (script_lines bytes) ≡ Ok workers
-    → (s : Status) (text : List ℕ) → IfFits (fits chunks zone) chunks zone (Reported telling chunks (record { origin = origin; zone = zone; workers = workers })) s text → Answers telling chunks (job_of origin bytes) s text
+    → (s : Status) (text : List ℕ) → Answers telling chunks (Ok (record { origin = origin; zone = zone; workers = workers })) s text → Answers telling chunks (job_of origin bytes) s text
 job_answers telling chunks origin bytes zone workers z w s text h = answers_as telling chunks (job_of origin bytes) (Ok (record { origin = origin; zone = zone; workers = workers })) s text (whole_job origin bytes zone workers z w) h
 
 -- a zone that is refused is refused for each command

@@ -1,3 +1,3 @@
 pub mod DueLemmas
-pub mod OpeningLemmas
+pub mod ItemLemmas
 pub mod ReportingLemmas

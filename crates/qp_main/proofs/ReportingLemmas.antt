@@ -1,6 +1,7 @@
 -- What is reported of a job that was run.
-use Rattle.std.proofs.Common.{◌≡◌, ◌∙◌, ℕ, ◌-◌, Bool, cond, List, ◌++◌, length, take, drop, Result, refl, sym, ap, arith}
+use Rattle.std.proofs.Common.{◌≡◌, ◌∙◌, ℕ, ◌-◌, ◌≤◌, leb, Bool, true, cond, List, length, take, drop, Result, Ok, sym, ap, arith}
 use Rattle.std.proofs.lemmas.List.{take_all, length-drop}
+use Rattle.std.proofs.lemmas.Bool.Decides.{nat_tests}
 use Rattle.std.specs.List.{list_any}
 use Rattle.zone_model.specs.Names.{Name}
 use Rattle.zone_model.specs.Versions.{Version}
@@ -10,31 +11,35 @@ use Rattle.job_model.specs.declared.ScriptKind.{ScriptKind}
 use Rattle.job_model.specs.Commands.{Command}
 use Rattle.job_model.specs.Jobs.{script_of, script_start, script_lines}
 use Rattle.job_model.specs.Outcomes.{is_refused}
-use Rattle.job_model.specs.Reports.{end_text}
 use Rattle.job_script.specs.Parts.{IsCutAt}
 use Rattle.job_script.specs.declared.parts.Parts.{Parts}
-use Rattle.job_script.specs.Outcomes.{ended_view, job_pairs, versions_made, all_text}
+use Rattle.job_script.specs.Outcomes.{ended_view, job_pairs, versions_made}
 use Rattle.job_script.specs.declared.outcomes.Outcome.{Outcome}
 use Rattle.job_script.specs.declared.outcomes.Outcomes.{Outcomes}
 use Rattle.job_script.proofs.ReportLemmas.{reported, refused_told, workers_same}
 use Rattle.job_script.proofs.SummaryLemmas.{summed_up}
-use Rattle.job_model.specs.Sizes.{node_count}
 use Rattle.qp_main.specs.Tellings.{finished_text, told_text}
 use Rattle.qp_main.specs.declared.telling.Telling.{Telling}
 use Rattle.qp_main.specs.declared.telling.Telling.TheVariants.{Report, Summary}
-use Rattle.job_run.specs.Runs.{IsRun}
-use Rattle.job_run.specs.declared.workers.Finished.{Finished}
-use Rattle.qp_main.specs.Due.{Reported}
+use Rattle.job_model.specs.Sizes.{cell_count}
+use Rattle.shared_index.specs.Openings.{room_in}
+use Rattle.job_threads.specs.Runs.{IsRun}
+use Rattle.job_threads.specs.Zones.{RanOn}
+use Rattle.job_threads.specs.declared.job.Finished.{Finished}
+use Rattle.job_threads.specs.declared.zone.Ran.TheVariants as ran
+use Rattle.qp_main.specs.Fits.{fits}
+use Rattle.qp_main.specs.Due.{Answers, Reported}
+use Rattle.qp_main.proofs.DueLemmas.{fitting}
 use Rattle.qp_main.specs.declared.status.Status.{Status}
 use Rattle.qp_main.specs.declared.status.Status.TheVariants as status
 
 -- what is printed of a job that was run tells of it
-told : (telling : Telling) (chunks : ℕ) (origin : Name) (zone : Version) (ws : List (List Command)) (f : Finished) → IsRun chunks origin zone ws f
-    → finished_text telling f (node_count (versions_made origin zone ws f.outcomes.items f.version)) ≡ told_text telling origin zone (job_pairs ws f.outcomes.items) f.version
-told Report chunks origin zone ws f r = reported origin zone ws f.outcomes.items f.version f.names r.tell r.names
-told Summary chunks origin zone ws f r = summed_up origin zone ws f.outcomes.items f.version f.names (node_count (versions_made origin zone ws f.outcomes.items f.version)) r.tell r.names refl
+told : (telling : Telling) (chunks : ℕ) (origin : Name) (zone : Version) (ws : List (List Command)) (f : Finished) → IsRun chunks origin zone ws f.outcomes.items f.version f.names f.nodes
+    → finished_text telling f ≡ told_text telling origin zone (job_pairs ws f.outcomes.items) f.version
+told Report chunks origin zone ws f r = reported origin zone ws f.outcomes.items f.version f.names r.tell r.names_are
+told Summary chunks origin zone ws f r = summed_up origin zone ws f.outcomes.items f.version f.names f.nodes r.tell r.names_are r.nodes_are
 
-pub job_reported : (telling : Telling) (chunks : ℕ) (origin : Name) (zone : Version) (ws : List (List Command)) (f : Finished) (text : List ℕ) (refused : Bool) (s : Status) → IsRun chunks origin zone ws f → text ≡ finished_text telling f (node_count (versions_made origin zone ws f.outcomes.items f.version))
+job_reported : (telling : Telling) (chunks : ℕ) (origin : Name) (zone : Version) (ws : List (List Command)) (f : Finished) (text : List ℕ) (refused : Bool) (s : Status) → IsRun chunks origin zone ws f.outcomes.items f.version f.names f.nodes → text ≡ finished_text telling f
     → refused ≡ list_any (λ (w : Outcomes). list_any (λ (o : Outcome). is_refused (ended_view o.told)) w.list.items) f.outcomes.items → s ≡ cond refused status.SomeRefused status.Done
     → Reported telling chunks (record { origin = origin; zone = zone; workers = ws }) s text
 job_reported telling chunks origin zone ws f text refused s r printed some ended = record {
@@ -45,6 +50,19 @@ job_reported telling chunks origin zone ws f text refused s r printed some ended
   is = printed ∙ told telling chunks origin zone ws f r;
   ended = ended ∙ ap (λ (b : Bool). cond b status.SomeRefused status.Done) (some ∙ refused_told origin (versions_made origin zone ws f.outcomes.items) ws f.outcomes.items r.tell);
 }
+
+it_fits : (chunks : ℕ) (zone : Version) → cell_count zone ≤ room_in chunks → fits chunks zone ≡ true
+it_fits chunks zone h = below (cell_count zone) (room_in chunks) h
+  where
+    below : (m n : ℕ) → m ≤ n → leb m n ≡ true
+    below m n l = grind (arith, nat_tests)
+
+-- a job that was run on a zone that fits
+pub job_told : (telling : Telling) (chunks : ℕ) (origin : Name) (zone : Version) (ws : List (List Command)) (f : Finished) (text : List ℕ) (refused : Bool) (s : Status) → RanOn chunks origin zone ws (ran.Finished f) → text ≡ finished_text telling f
+    → refused ≡ list_any (λ (w : Outcomes). list_any (λ (o : Outcome). is_refused (ended_view o.told)) w.list.items) f.outcomes.items → s ≡ cond refused status.SomeRefused status.Done
+    → Answers telling chunks (Ok (record { origin = origin; zone = zone; workers = ws })) s text
+job_told telling chunks origin zone ws f text refused s r printed some ended =
+    fitting chunks zone (Reported telling chunks (record { origin = origin; zone = zone; workers = ws })) s text (it_fits chunks zone r.0) (job_reported telling chunks origin zone ws f text refused s r.1 printed some ended)
 
 -- the script behind the place where an input is cut
 pub script_read : (origin : Name) (bytes : List ℕ) (p : Parts) (out : Result (List (List Command)) (Refused ScriptKind)) → IsCutAt bytes p → script_of origin p.first_line (lines_of (take (length bytes - p.script_from) (drop p.script_from bytes))) ≡ out

@@ -7,7 +7,7 @@ use Rattle.job_model.specs.Reports.{end_text, report}
 use Rattle.job_model.specs.Summaries.{summary}
 use Rattle.job_script.specs.Outcomes.{all_text}
 use Rattle.job_script.specs.Summaries.{summary_text}
-use Rattle.job_run.specs.declared.workers.Finished.{Finished}
+use Rattle.job_threads.specs.declared.job.Finished.{Finished}
 use Rattle.qp_main.specs.declared.telling.Telling.{Telling}
 use Rattle.qp_main.specs.declared.telling.Telling.TheVariants.{Report, Summary}
 
@@ -16,7 +16,7 @@ abbrev pub told_text : Telling → Name → Version → List (List Pair) → ℕ
 told_text Report origin zone workers last = report origin zone workers last
 told_text Summary origin zone workers last = summary origin zone workers last
 
--- what is printed of a job that was run, whose last version's trie has so many nodes
-abbrev pub finished_text : Telling → Finished → ℕ → List ℕ
-finished_text Report f nodes = all_text 1 f.outcomes.items ++ end_text f.version f.names
-finished_text Summary f nodes = summary_text f.outcomes.items f.version f.names nodes
+-- what is printed of a job that was run
+abbrev pub finished_text : Telling → Finished → List ℕ
+finished_text Report f = all_text 1 f.outcomes.items ++ end_text f.version f.names
+finished_text Summary f = summary_text f.outcomes.items f.version f.names f.nodes

@@ -2,7 +2,7 @@
 //! large its index is; or makes a job, runs it, and sums it up.
 #![tactic(auto)]
 
-mod opening;
+mod items;
 mod program;
 mod report;
 mod reporting;
@@ -10,6 +10,6 @@ mod status;
 mod telling;
 
 pub use job_make::{Load, make_text};
-pub use job_run::Gate;
+pub use job_threads::Gate;
 pub use program::run;
 pub use status::Status;

@@ -14,15 +14,15 @@ ghost use Rattle.command_line.specs.Views.{invocation_view, verb_view};
 ghost use Rattle.command_line.specs.Words.{invocation_of};
 ghost use Rattle.qp_main.specs.Due.{Answers, Checks, CutShort, DueInput, EndsLoad, IsMade, IsUnwritten, IsWritten, Written, input_of};
 
-use crate::opening::{Opening, open};
-use crate::report::{no_room, script_refused, size_line, zone_refused};
-use crate::reporting::report_job;
+use crate::items::zone_items;
+use crate::report::{script_refused, zone_refused};
+use crate::reporting::{report_job, report_size};
 use crate::status::Status;
 use crate::telling::Telling;
 use command_line::{Invocation, Verb, invocation_of};
 use job_make::{Load, make_text};
-use job_run::Gate;
 use job_script::{JobRefusal, Parts, read_job, split};
+use job_threads::Gate;
 use master_file::{Zone, ZoneRefusal, read_zone};
 use outer_io::{ReadRefusal, Sink, Source, read_all, write_all};
 use std::alloc::{AllocError, Global};
@@ -35,7 +35,8 @@ const INPUT_LIMIT: u32 = 16777216;
 // The status and the text for a zone that was read and the script that begins at a place, on a line with a number. The
 // bytes go before the index is made.
 #[tactic(auto, unfolding(job_model::specs::Jobs::job_of_lines))]
-fn run_script<G: Gate>(
+fn run_script<R: Threads + Wait + Sync, G: Gate>(
+    rt: &R,
     alloc: Global,
     invocation: &Invocation,
     bytes: Vec<u8>,
@@ -62,34 +63,70 @@ fn run_script<G: Gate>(
         Err(JobRefusal::Memory) => return Err(AllocError),
     };
     drop(bytes);
-    match open(alloc, zone, invocation.chunks, job.workers.len())? {
-        Opening::Fits(mut index) => report_job(alloc, origin, &mut index, &job, telling, gate),
-        Opening::DoesNotFit { cells, limit } => {
-            Ok((Status::DoesNotFit, no_room(alloc, cells, limit)?))
-        }
-    }
+    let items = zone_items(alloc, zone)?;
+    report_job(rt, alloc, invocation, &items, &job, telling, gate)
 }
 
 // The status and the text for a zone that was read and is only to be checked.
-fn check_zone(alloc: Global, chunks: u32, zone: Zone) -> Result<(Status, Vec<u8>), AllocError>
-    requires enough { 16 ≤ chunks }
-    requires few { chunks ≤ 4096 }
-    ensures { IfOk result (λ x. Checks chunks (Ok zone.pairs) x.0 x.1.items) }
+fn check_zone<R: Threads + Wait + Sync, G: Gate>(
+    rt: &R,
+    alloc: Global,
+    invocation: &Invocation,
+    zone: Zone,
+    gate: &G,
+) -> Result<(Status, Vec<u8>), AllocError>
+    ensures { IfOk result (λ x. Checks invocation.now.chunks (Ok zone.pairs) x.0 x.1.items) }
 {
-    match open(alloc, zone, chunks, 0)? {
-        Opening::Fits(index) => {
-            let query = index.query();
-            let line = size_line(alloc, query.count(), query.nodes())?;
-            Ok((Status::Done, line))
-        }
-        Opening::DoesNotFit { cells, limit } => {
-            Ok((Status::DoesNotFit, no_room(alloc, cells, limit)?))
+    let items = zone_items(alloc, zone)?;
+    report_size(rt, alloc, invocation, &items, gate)
+}
+
+// The status and the text for a zone that was read, and the bytes that it and a script were cut from.
+fn answer_zone<R: Threads + Wait + Sync, G: Gate>(
+    rt: &R,
+    alloc: Global,
+    invocation: &Invocation,
+    bytes: Vec<u8>,
+    parts: Parts,
+    zone: Zone,
+    gate: &G,
+) -> Result<(Status, Vec<u8>), AllocError>
+    requires short { length bytes.items ≤ 2 ^ 24 }
+    requires cut { IsCutAt bytes.items parts }
+    requires read { zone_of invocation.now.origin (zone_lines bytes.items) ≡ Ok zone.pairs }
+    ensures { IfOk result (λ x. DueInput (verb_view invocation.now.verb) invocation.now.chunks invocation.now.origin bytes.items x.0 x.1.items) }
+{
+    match invocation.verb {
+        Verb::Run => run_script(
+            rt,
+            alloc,
+            invocation,
+            bytes,
+            parts,
+            zone,
+            Telling::Report,
+            gate,
+        ),
+        Verb::Make(_) => run_script(
+            rt,
+            alloc,
+            invocation,
+            bytes,
+            parts,
+            zone,
+            Telling::Summary,
+            gate,
+        ),
+        Verb::Check => {
+            drop(bytes);
+            check_zone(rt, alloc, invocation, zone, gate)
         }
     }
 }
 
 // The status and the text for bytes that were cut into a zone's and a script's.
-fn answer_parts<G: Gate>(
+fn answer_parts<R: Threads + Wait + Sync, G: Gate>(
+    rt: &R,
     alloc: Global,
     invocation: &Invocation,
     bytes: Vec<u8>,
@@ -101,37 +138,19 @@ fn answer_parts<G: Gate>(
     ensures { IfOk result (λ x. DueInput (verb_view invocation.now.verb) invocation.now.chunks invocation.now.origin bytes.items x.0 x.1.items) }
 {
     let zone_bytes = &bytes.as_slice()[..parts.zone_end as usize];
-    let zone = match read_zone(alloc, zone_bytes, &invocation.origin) {
-        Ok(zone) => zone,
+    match read_zone(alloc, zone_bytes, &invocation.origin) {
+        Ok(zone) => answer_zone(rt, alloc, invocation, bytes, parts, zone, gate),
         Err(ZoneRefusal::Refused { line, kind }) => {
-            return Ok((
-                Status::ZoneRefused,
-                zone_refused(alloc, u64::from(line), kind)?,
-            ));
+            let line = zone_refused(alloc, u64::from(line), kind)?;
+            Ok((Status::ZoneRefused, line))
         }
-        Err(ZoneRefusal::Memory) => return Err(AllocError),
-    };
-    match invocation.verb {
-        Verb::Run => run_script(alloc, invocation, bytes, parts, zone, Telling::Report, gate),
-        Verb::Make(_) => run_script(
-            alloc,
-            invocation,
-            bytes,
-            parts,
-            zone,
-            Telling::Summary,
-            gate,
-        ),
-        Verb::Check => {
-            drop(bytes);
-            check_zone(alloc, invocation.chunks, zone)
-        }
+        Err(ZoneRefusal::Memory) => Err(AllocError),
     }
 }
 
-// The status and the text for the bytes of an input. Its workers run on the caller's thread.
+// The status and the text for the bytes of an input.
 fn answer<R: Threads + Wait + Sync, G: Gate>(
-    _rt: &R,
+    rt: &R,
     alloc: Global,
     invocation: &Invocation,
     bytes: Vec<u8>,
@@ -141,7 +160,7 @@ fn answer<R: Threads + Wait + Sync, G: Gate>(
     ensures { IfOk result (λ x. DueInput (verb_view invocation.now.verb) invocation.now.chunks invocation.now.origin bytes.items x.0 x.1.items) }
 {
     let parts = split(&bytes);
-    answer_parts(alloc, invocation, bytes, parts, gate)
+    answer_parts(rt, alloc, invocation, bytes, parts, gate)
 }
 
 // Writes the text that is due under a status.
@@ -245,8 +264,8 @@ fn serve_invocation<R: Threads + Wait + Sync, S: Source, K: Sink, G: Gate>(
 }
 
 /// Runs the program: reads a job from the source, or makes one, runs it, and writes to the sink what is due. The words are those of
-/// the command line, the first of which is the program's name. The gate is told of each command. Threads and waiting
-/// are the runtime's leave, which workers that run one after another don't need.
+/// the command line, the first of which is the program's name. Each worker has a thread of its own where one can be started, and
+/// waits for its turn to write. The gate is told of each command by the worker's thread.
 pub fn run<R: Threads + Wait + Sync, S: Source, K: Sink, G: Gate>(
     rt: &R,
     alloc: Global,

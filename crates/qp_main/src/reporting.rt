@@ -1,21 +1,24 @@
-//! The report of a job.
-ghost use Rattle.std.specs.Prelude.{◌≡◌, ℕ, IfOk, false, if◌then◌else◌};
+//! What is told of a job that is run, and of a zone that is opened.
+ghost use Rattle.std.specs.Prelude.{◌≡◌, ◌≤◌, IfOk, Ok, false, length, if◌then◌else◌};
 ghost use Rattle.std.specs.List.{AllByRecursion};
 ghost use Rattle.zone_model.specs.Versions.{Version};
 ghost use Rattle.job_model.specs.Commands.{InTurn};
 ghost use Rattle.job_script.specs.Views.{job_view};
-ghost use Rattle.job_model.specs.Sizes.{node_count};
-ghost use Rattle.job_run.specs.Indexes.{Keeps, KeepsFirst, KeepsSome};
+ghost use Rattle.job_threads.specs.Histories.{IsZone, StandsAs};
+ghost use Rattle.trie_write.specs.Entries.{entries_of_items};
 ghost use Rattle.qp_main.specs.Tellings.{finished_text};
-ghost use Rattle.qp_main.specs.Due.{Reported};
+ghost use Rattle.qp_main.specs.Due.{Answers, Checks};
 
+use crate::report::{no_room, size_line};
 use crate::status::Status;
 use crate::telling::Telling;
-use dns_name::Name;
-use job_run::{Finished, Gate, run_job};
+use command_line::Invocation;
 use job_script::{Job, any_refused, print_outcomes, print_summary};
-use qp_multi::Index;
+use job_threads::{Finished, Gate, Ran, run_zone};
 use std::alloc::{AllocError, Global};
+use std::sync::Wait;
+use std::thread::Threads;
+use trie_write::Item;
 
 // The status says whether a block was refused.
 fn status_of(refused: bool) -> Status
@@ -28,43 +31,74 @@ fn status_of(refused: bool) -> Status
     }
 }
 
-// What is told of a job that was run. The index has its last version.
-fn told(
-    alloc: Global,
-    index: &Index,
-    finished: &Finished,
-    telling: Telling,
-) -> Result<Vec<u8>, AllocError>
-    requires { KeepsSome index.now }
-    ensures { (version : Version) (number chunks : ℕ) → Keeps index.now version number chunks
-        → IfOk result (λ text. text.items ≡ finished_text telling finished.now (node_count version)) }
+// What is told of a job that was run.
+fn told(alloc: Global, finished: &Finished, telling: Telling) -> Result<Vec<u8>, AllocError>
+    ensures { IfOk result (λ text. text.items ≡ finished_text telling finished.now) }
 {
     let outcomes = &finished.outcomes;
     match telling {
         Telling::Report => print_outcomes(alloc, outcomes, finished.version, finished.names),
-        Telling::Summary => {
-            let nodes = index.query().nodes();
-            print_summary(alloc, outcomes, finished.version, finished.names, nodes)
-        }
+        Telling::Summary => print_summary(
+            alloc,
+            outcomes,
+            finished.version,
+            finished.names,
+            finished.nodes,
+        ),
     }
 }
 
-/// Runs a job, and answers the status and what is told of it, which is printed when all is done.
-pub fn report_job<G: Gate>(
+/// Runs a job on the index of its zone, and answers the status and what is told of it, which is printed when all is done.
+pub fn report_job<R: Threads + Wait + Sync, G: Gate>(
+    rt: &R,
     alloc: Global,
-    origin: &Name,
-    index: &mut Index,
+    invocation: &Invocation,
+    items: &[Item],
     job: &Job,
     telling: Telling,
     gate: &G,
 ) -> Result<(Status, Vec<u8>), AllocError>
-    requires first { KeepsFirst index.old }
+    requires few_workers { length job.now.workers.items ≤ 16 }
+    requires zone { IsZone (entries_of_items items.now) }
     requires in_turn { AllByRecursion (InTurn false) (job_view job.now) }
-    ensures { (zone : Version) (chunks : ℕ) → Keeps index.old zone 0 chunks
-        → IfOk result (λ x. Reported telling chunks (record { origin = origin.now; zone = zone; workers = job_view job.now }) x.0 x.1.items) }
+    ensures { (zone : Version) → StandsAs (entries_of_items items.now) zone
+        → IfOk result (λ x. Answers telling invocation.now.chunks (Ok (record { origin = invocation.now.origin; zone = zone; workers = job_view job.now })) x.0 x.1.items) }
 {
-    let finished = run_job(alloc, origin, index, job, gate)?;
-    let refused = any_refused(&finished.outcomes);
-    let text = told(alloc, index, &finished, telling)?;
-    Ok((status_of(refused), text))
+    let origin = &invocation.origin;
+    match run_zone(rt, alloc, invocation.chunks, origin, items, job, gate)? {
+        Ran::Finished(finished) => {
+            let refused = any_refused(&finished.outcomes);
+            let text = told(alloc, &finished, telling)?;
+            Ok((status_of(refused), text))
+        }
+        Ran::DoesNotFit { cells, limit } => {
+            Ok((Status::DoesNotFit, no_room(alloc, cells, limit)?))
+        }
+    }
+}
+
+/// Opens the index of a zone, with no worker, and answers the status and how large version 0 is.
+pub fn report_size<R: Threads + Wait + Sync, G: Gate>(
+    rt: &R,
+    alloc: Global,
+    invocation: &Invocation,
+    items: &[Item],
+    gate: &G,
+) -> Result<(Status, Vec<u8>), AllocError>
+    requires zone { IsZone (entries_of_items items.now) }
+    ensures { (zone : Version) → StandsAs (entries_of_items items.now) zone → IfOk result (λ x. Checks invocation.now.chunks (Ok zone) x.0 x.1.items) }
+{
+    let job = Job {
+        workers: Vec::new(alloc),
+    };
+    let origin = &invocation.origin;
+    match run_zone(rt, alloc, invocation.chunks, origin, items, &job, gate)? {
+        Ran::Finished(finished) => {
+            let line = size_line(alloc, finished.names, finished.nodes)?;
+            Ok((Status::Done, line))
+        }
+        Ran::DoesNotFit { cells, limit } => {
+            Ok((Status::DoesNotFit, no_room(alloc, cells, limit)?))
+        }
+    }
 }

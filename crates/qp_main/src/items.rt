@@ -1,31 +1,17 @@
-//! The index of a zone's version 0.
-ghost use Rattle.std.specs.Prelude.{◌≡◌, ◌≤◌, ℕ, List, IfOk, map, min};
+//! The items that version 0 of a zone is opened with.
+ghost use Rattle.std.specs.Prelude.{◌≡◌, IfOk};
 ghost use Rattle.std.specs.List.{AllByRecursion};
 ghost use Rattle.zone_model.specs.Names.{Name as Labels};
 ghost use Rattle.zone_model.specs.Records.{Entry, IsItem};
 ghost use Rattle.zone_answer.specs.Standing.{IsStorable, trie_entry};
-ghost use Rattle.job_model.specs.Outcomes.{passes_for};
 ghost use Rattle.job_model.specs.Sizes.{trie_entries};
+ghost use Rattle.job_threads.specs.Histories.{StandsAs};
 ghost use Rattle.trie_write.specs.Entries.{entry_of, entries_of_items};
-ghost use Rattle.qp_main.specs.Openings.{Opens};
 
 use dns_name::Name;
 use master_file::{Zone, ZoneItems};
-use qp_multi::{Index, OpenRefusal};
 use std::alloc::{AllocError, Global};
 use trie_write::{Item, ItemRefusal};
-
-// The most workers of a job.
-const WORKER_LIMIT: usize = 16;
-
-/// Whether a version fits into chunks.
-#[derive(Drop)]
-pub enum Opening {
-    /// It does: the index that begins with it.
-    Fits(Index),
-    /// It may need so many cells, over a limit.
-    DoesNotFit { cells: u64, limit: u64 },
-}
 
 // The item of these octets.
 fn item_of(alloc: Global, octets: &[u8]) -> Result<Item, AllocError>
@@ -56,26 +42,12 @@ fn items_of(alloc: Global, mut left: ZoneItems) -> Result<Vec<Item>, AllocError>
     Ok(items)
 }
 
-// Two passes of the index for each worker, one for its questions and transactions and one for what it holds, and one for
-// the last line.
-fn passes_for(workers: usize) -> u32
-    ensures { result ≡ passes_for (min workers 16) }
-{
-    2 * workers.min(WORKER_LIMIT) as u32 + 1
-}
-
-/// Builds the index of a zone over some chunks, for so many workers.
-pub fn open(alloc: Global, zone: Zone, chunks: u32, workers: usize) -> Result<Opening, AllocError>
-    requires enough { 16 ≤ chunks }
-    requires few { chunks ≤ 4096 }
-    ensures { IfOk result (λ o. Opens chunks zone.pairs o) }
+/// The items of a zone's names, in order.
+pub fn zone_items(alloc: Global, zone: Zone) -> Result<Vec<Item>, AllocError>
+    ensures { IfOk result (λ items. StandsAs (entries_of_items items.items) zone.pairs) }
 {
     // The zone's length tells that its names rise.
     let _names = zone.len();
     let items = items_of(alloc, zone.into_items())?;
-    match Index::open(alloc, &items, chunks, passes_for(workers)) {
-        Ok(index) => Ok(Opening::Fits(index)),
-        Err(OpenRefusal::Full { cells, limit }) => Ok(Opening::DoesNotFit { cells, limit }),
-        Err(OpenRefusal::Memory) => Err(AllocError),
-    }
+    Ok(items)
 }
