@@ -306,8 +306,8 @@ worker_starts s numbers asks spare commands b turn =
     }
 
 -- the same commits and pinned versions, at a pass that has left its snapshot
-pub worker_back : (s : Setup) (numbers : Numbers) (t : Station) (spare : Known) (commands : List Command) (os : List Told_outcome) → spare.pass ≡ t.holds.pass → WorkerRan s numbers t commands os → WorkerRan s numbers (ended t.asks spare) commands os
-worker_back s numbers t spare commands os pass r = record {
+pub worker_back : (s : Setup) (numbers : Numbers) (t : Station) (asks spare : Known) (commands : List Command) (os : List Told_outcome) → asks ≡ t.asks → spare.pass ≡ t.holds.pass → WorkerRan s numbers t commands os → WorkerRan s numbers (ended asks spare) commands os
+worker_back s numbers t asks spare commands os same pass r = subst (λ (v : Known). WorkerRan s numbers (ended v spare) commands os) (sym same) (record {
   told = r.told;
   work = record {
     opened = r.work.opened;
@@ -327,7 +327,7 @@ worker_back s numbers t spare commands os pass r = record {
   };
   asker = r.asker;
   holder = r.holder;
-}
+})
 
 -- ---- a list and its elements, as they are seen
 
@@ -343,10 +343,13 @@ pub turn_here : (held : Bool) (commands : List Said) (i : ℕ) (here : Said) →
     → MayCome held (command_view here) × InTurn (held_after held (command_view here)) (map command_view (drop (i + 1) commands))
 turn_here held commands i here lt is turn = subst (InTurn held) (drop_here command_view commands i here lt is) turn
 
-pub worker_next : (s : Setup) (numbers : Numbers) (old new : Station) (commands : List Said) (i : ℕ) (here : Said) (os : List Told_outcome) (o : Told_outcome) → i < length commands → here ≡ get_or commands i here → is_told old.asks.seen.opening ≡ true
-    → WorkerAt s numbers old (map command_view (take i commands)) (map command_view (drop i commands)) os → Step s (command_view here) o old new → WorkerAt s numbers new (map command_view (take (i + 1) commands)) (map command_view (drop (i + 1) commands)) (os ++ o ∷ [])
-worker_next s numbers old new commands i here os o lt is told w step =
+-- a worker has run its next command, and its outcome stands behind the others
+pub worker_next : (s : Setup) (numbers : Numbers) (old new : Station) (commands : List Said) (i : ℕ) (here : Said) (os : List Told_outcome) (o : Told_outcome) (after : List Told_outcome) → i < length commands → here ≡ get_or commands i here → after ≡ os ++ o ∷ []
+    → is_told old.asks.seen.opening ≡ true → WorkerAt s numbers old (map command_view (take i commands)) (map command_view (drop i commands)) os → Step s (command_view here) o old new
+    → WorkerAt s numbers new (map command_view (take (i + 1) commands)) (map command_view (drop (i + 1) commands)) after
+worker_next s numbers old new commands i here os o after lt is pushed told w step =
     let ahead : WorkerAt s numbers old (map command_view (take i commands)) (command_view here ∷ map command_view (drop (i + 1) commands)) os =
     subst (λ (l : List Command). WorkerAt s numbers old (map command_view (take i commands)) l os) (drop_here command_view commands i here lt is) w in
-    subst (λ (l : List Command). WorkerAt s numbers new l (map command_view (drop (i + 1) commands)) (os ++ o ∷ [])) (sym (take_here command_view commands i here lt is))
-    (worker_goes_on s numbers old new (map command_view (take i commands)) (command_view here) (map command_view (drop (i + 1) commands)) os o (opened_same new.asks.seen old.asks.seen told step.asks) ahead step)
+    subst (λ (l : List Told_outcome). WorkerAt s numbers new (map command_view (take (i + 1) commands)) (map command_view (drop (i + 1) commands)) l) (sym pushed)
+    (subst (λ (l : List Command). WorkerAt s numbers new l (map command_view (drop (i + 1) commands)) (os ++ o ∷ [])) (sym (take_here command_view commands i here lt is))
+    (worker_goes_on s numbers old new (map command_view (take i commands)) (command_view here) (map command_view (drop (i + 1) commands)) os o (opened_same new.asks.seen old.asks.seen told step.asks) ahead step))

@@ -47,8 +47,7 @@ loop-place-preserved g c =
       at = λ s numbers setup begins.
           let w = i.at s numbers setup begins in
           let step = c.in_ok-outcome.ensures.steps s (record { index = setup.index; opening = w.work.opened }) w.under in
-          subst (λ (os : List Outcome). WorkerAt s numbers _ _ _ os) (sym c.in_ok-push.ensures.items)
-          (worker_next s numbers _ _ commands c.loop-place.place here _ _ c.loop-place-test.true c.index-commands-place.is (seat_told c.loop-place.passes.asks.seat i.here) w step);
+          worker_next s numbers _ _ commands c.loop-place.place here c.loop-place.list.items c.in_ok-outcome.outcome c.push.new.self.items c.loop-place-test.true c.index-commands-place.is c.in_ok-push.ensures.items (seat_told c.loop-place.passes.asks.seat i.here) w step;
     }
 
 pub returns-clause-ran : goal.returns-clause-ran
@@ -56,5 +55,7 @@ returns-clause-ran g c = λ s numbers setup begins.
     let commands = c.args.task.commands.now in
     let past : length commands ≤ c.loop-place.place = omega (arith, c.loop-place-test.false) in
     let w = c.loop-place.invariant.at s numbers setup begins in
-    worker_back s numbers _ _ _ _ c.second_pass.ensures.pass
-    (worker_ran s numbers _ (map command_view commands) (map command_view (take c.loop-place.place commands)) _ _ (ap (map command_view) (take_all c.loop-place.place commands past)) w)
+    let passes = c.loop-place.passes in
+    let at = station passes.asks.seat (option_map (λ p. p.seat) passes.spare) (option_map (λ h. h.seat) passes.held) in
+    worker_back s numbers at (known_at c.second_pass-asks.result.0.seat) (known_at c.second_pass-asks.result.1.seat) (map command_view commands) c.loop-place.list.items (ap (λ p. known_at p.seat) c.second_pass-asks.ensures.same) c.second_pass-asks.ensures.pass
+    (worker_ran s numbers at (map command_view commands) (map command_view (take c.loop-place.place commands)) _ c.loop-place.list.items (ap (map command_view) (take_all c.loop-place.place commands past)) w)
