@@ -1,5 +1,5 @@
 -- Steps of a worker, by where its passes are.
-use Rattle.std.proofs.Common.{◌≡◌, ◌∙◌, ℕ, true, false, List, Option, Some, None, refl, sym, ap, subst}
+use Rattle.std.proofs.Common.{◌≡◌, List, Option, Some, None, refl, sym, ap, subst}
 use Rattle.std.specs.Prelude.{IsSome}
 use Rattle.std.specs.Option.{option_map}
 use Rattle.zone_model.specs.Versions.{Operation as ZoneOperation}
@@ -7,7 +7,7 @@ use Rattle.job_model.specs.declared.Ending.{Ending}
 use Rattle.job_model.specs.declared.Weight.{Weight}
 use Rattle.job_model.specs.Commands.{Question, Ask, Hold, AskHeld, Release, Block}
 use Rattle.job_script.specs.declared.outcomes.Outcome.{Outcome}
-use Rattle.shared_index.specs.Passes.{Known, known_at, first_version}
+use Rattle.shared_index.specs.Passes.{known_at, first_version}
 use Rattle.job_threads.specs.Histories.{Setup}
 use Rattle.job_threads.specs.Commands.{Asked, IsHeld, Held, AskedHeld, Released, BlockRan}
 use Rattle.job_threads.specs.Steps.{IsUnder, Step}
@@ -72,17 +72,6 @@ module _ (s : Setup) (o : Outcome) (asks : Option Seat) (some : IsSome asks) (op
         (release_done (seat there) placed under second (subst (λ (x : A). Released (seat x) (known_at second) o) same r))
 
 -- ---- where the second pass is
-
-pub placed_some : (spare : Option (Option Seat)) (held : Option Pinned) (seat : Pinned) → held ≡ Some seat → IsPlaced spare held → IsHeld seat × (holder_view spare held ≡ seat.place.me.0)
-placed_some (Some other) (Some pinned) seat is placed = absurd placed
-placed_some (Some other) None seat is placed = absurd cc
-placed_some None (Some pinned) seat is placed = let same : pinned ≡ seat = cc in (subst IsHeld same placed, ap (λ (x : Pinned). x.place.me.0) same)
-placed_some None None seat is placed = absurd placed
-
-pub placed_none : (spare : Option (Option Seat)) (held : Option Pinned) (seat : Option Seat) → spare ≡ Some seat → held ≡ None → IsPlaced spare held → IsSome seat × (holder_view spare held ≡ known_at seat)
-placed_none (Some other) None seat is none placed = let same : other ≡ seat = cc in (subst IsSome same placed, ap known_at same)
-placed_none (Some other) (Some pinned) seat is none placed = absurd placed
-placed_none None held seat is none placed = absurd cc
 
 -- the snapshot that is there is held
 pub held_there : {A : Type 0} (seat : A → Pinned) (spare : Option (Option Seat)) (held : Option A) (snapshot : A) → Some snapshot ≡ held → IsPlaced spare (option_map seat held) → IsHeld (seat snapshot)

@@ -1,29 +1,28 @@
 -- How a worker's run goes on by one command.
-use Rattle.std.proofs.Common.{◌≡◌, ◌∙◌, ◌⊎◌, inl, inr, ℕ, ◌+◌, ◌-◌, ◌<◌, ◌≤◌, Bool, true, false, cond, ◌&&◌, eqb, List, [], ◌∷◌, ◌++◌, length, map, take, drop, get_or, Option, Some, None, refl, sym, ap, subst, arith, append_assoc, length-append, Ok}
+use Rattle.std.proofs.Common.{◌≡◌, ◌∙◌, inl, inr, ℕ, ◌+◌, ◌-◌, ◌<◌, ◌≤◌, Bool, true, false, cond, ◌&&◌, eqb, List, [], ◌∷◌, ◌++◌, length, map, take, drop, get_or, Some, None, refl, sym, ap, subst, arith, append_assoc, length-append}
 use Rattle.std.specs.Prelude.{Contains}
 use Rattle.std.proofs.lemmas.Bool.{cases_eq}
-use Rattle.std.proofs.lemmas.Bool.Decides.{nat_tests}
 use Rattle.std.proofs.lemmas.List.{map_more, drop_more}
 use Rattle.std.proofs.lemmas.List.Elements.{Contains-append_left, Contains-append_right}
 use Rattle.std.specs.List.{AllByRecursion}
 use Rattle.zone_model.specs.Names.{Name}
-use Rattle.zone_model.specs.Versions.{Version, whole}
+use Rattle.zone_model.specs.Versions.{Version}
 use Rattle.job_model.specs.Commands.{Command, held_after, InTurn, MayCome}
-use Rattle.job_model.specs.Outcomes.{Setting, Pair, is_committed, made, operations_of, times_made, Sight, at_first, sight_after, EndsLawfully, Along, shown_by, shown_in}
+use Rattle.job_model.specs.Outcomes.{Setting, Pair, is_committed, made, times_made, Sight, at_first, sight_after, EndsLawfully, Along, shown_by, shown_in}
 use Rattle.job_script.specs.Views.{command_view}
 use Rattle.job_script.specs.declared.commands.Command.{Command as Said}
 use Rattle.job_script.specs.Outcomes.{ended_view, outcome_view, pairs_of, Tells, EachTells}
 use Rattle.job_script.specs.declared.outcomes.Outcome.{Outcome as Told_outcome}
 use Rattle.shared_cells.specs.declared.view.PassView.{PassView}
 use Rattle.shared_cells.specs.Views.{is_told}
-use Rattle.shared_cells.specs.History.{StartsWith, IsPartOf, entries_by, entry_of, version_after}
+use Rattle.shared_cells.specs.History.{StartsWith, entries_by, entry_of, version_after}
 use Rattle.shared_index.specs.declared.meaning.Operation.{Operation}
 use Rattle.shared_index.specs.Operations.{applied}
 use Rattle.shared_index.specs.Passes.{Known, first_version}
-use Rattle.job_threads.specs.Histories.{Setup, Commit, Entries, index_at, StandsAs, AreVersions, CoversNamings, judged_by, times_by}
+use Rattle.job_threads.specs.Histories.{Setup, Commit, Entries, index_at, StandsAs, AreVersions, judged_by, times_by}
 use Rattle.job_threads.specs.Steps.{Station, HoldsLast, IsSight, IsUnder, Adds, Stays, Writes, Step}
 use Rattle.job_threads.specs.Works.{Replayed, Work, Numbers, Begins, WorkerRan, ended}
-use Rattle.job_threads.proofs.HistoryLaws.{opened_same, begins_same, begins_more, begins_length, begins_other, index_front, index_last, versions_front, covers_front, by-push, times_front, times_past, times_there, times_else}
+use Rattle.job_threads.proofs.HistoryLaws.{opened_same, begins_same, begins_more, begins_length, index_front, index_last, versions_front, covers_front, by-push, times_front, times_past, times_there, times_else}
 
 abbrev pub Pairs : Type 0
 Pairs = List Pair

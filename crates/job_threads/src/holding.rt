@@ -1,7 +1,6 @@
 //! Snapshots of a worker. While it holds one its second pass is away.
-ghost use Rattle.std.specs.Prelude.{◌≡◌, ℕ, Some, None, IsSome, IsNone, IfSome, IfOk, IsSomeAnd};
+ghost use Rattle.std.specs.Prelude.{◌≡◌, IsSome, IfOk};
 ghost use Rattle.job_script.specs.Views.{question_view};
-ghost use Rattle.job_script.specs.declared.outcomes.Told.TheVariants as told;
 ghost use Rattle.shared_index.specs.Passes.{known_at};
 ghost use Rattle.job_threads.specs.Commands.{IsHeld, Held, AskedHeld, Released};
 

@@ -5,7 +5,6 @@ ghost use Rattle.job_model.specs.Commands.{Hold, AskHeld, Release};
 ghost use Rattle.job_script.specs.Views.{question_view};
 ghost use Rattle.shared_index.specs.Passes.{known_at, first_version};
 ghost use Rattle.job_threads.specs.Histories.{Setup};
-ghost use Rattle.job_threads.specs.Commands.{IsSetup};
 ghost use Rattle.job_threads.specs.Steps.{IsUnder, Step};
 ghost use Rattle.job_threads.specs.Stations.{IsPlaced, holder_view, station};
 

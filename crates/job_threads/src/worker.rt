@@ -1,5 +1,5 @@
 //! A worker that runs its commands.
-ghost use Rattle.std.specs.Prelude.{◌≡◌, List, IsSome, IfSome, IfOk, map, false};
+ghost use Rattle.std.specs.Prelude.{◌≡◌, IsSome, IfSome, IfOk, map, false};
 ghost use Rattle.std.specs.Option.{option_map, is_some};
 ghost use Rattle.job_model.specs.Commands.{InTurn, MayCome, held_after};
 ghost use Rattle.job_script.specs.Views.{command_view};

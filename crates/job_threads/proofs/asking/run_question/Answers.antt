@@ -1,4 +1,4 @@
-use Rattle.std.proofs.Common.{rules, ◌≡◌, ◌∙◌, refl, sym, ap, subst}
+use Rattle.std.proofs.Common.{rules, ◌∙◌, refl, sym, ap, subst}
 use Rattle.shared_cells.specs.declared.view.Progress.TheVariants as progress
 use Rattle.shared_cells.specs.Views.{with_progress, pinned_image}
 use Rattle.shared_index.specs.Meanings.{Holds}
@@ -26,4 +26,4 @@ returns-clause-asked g c =
     (asked_of Lawful c.args.origin.now (question_view c.args.question.now) (known_at c.args.pass.now.seat) c.query-query.result.seat.place.me.0 (known_at c.drop-query-2.new.self.0.seat) c.query-query.result.seat.version o
     q.pinned (c.drop-query-2.ensures.left ∙ ap (λ x. with_progress x.seat.place.me.0 progress.Idle) (c.reply.ensures.same ∙ c.version-version.ensures.same)) c.version-version.ensures.number refl
     (λ zone stands. c.in_ok-reply.ensures.reply zone
-        (subst (λ x. Shows (Holds (pinned_image x.seat.place.me.0.progress) x.seat.root) zone) (sym c.version-version.ensures.same) (shown _ _ _ zone q.holds stands))))
+    (subst (λ x. Shows (Holds (pinned_image x.seat.place.me.0.progress) x.seat.root) zone) (sym c.version-version.ensures.same) (shown _ _ _ zone q.holds stands))))

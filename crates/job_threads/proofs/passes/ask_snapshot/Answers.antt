@@ -1,4 +1,4 @@
-use Rattle.std.proofs.Common.{◌≡◌, sym, subst}
+use Rattle.std.proofs.Common.{sym, subst}
 use Rattle.std.specs.Option.{option_map}
 use Rattle.job_script.specs.Views.{question_view}
 use Rattle.job_threads.specs.Commands.{AskedHeld}

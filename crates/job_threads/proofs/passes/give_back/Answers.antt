@@ -1,4 +1,3 @@
-use Rattle.std.proofs.Common.{◌≡◌}
 use Rattle.std.specs.Option.{option_map}
 use Rattle.job_threads.proofs.StationLaws.{held_there, release_from}
 use Rattle.job_threads.proofs.passes.give_back.Goals as goal

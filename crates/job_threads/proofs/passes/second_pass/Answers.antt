@@ -1,4 +1,4 @@
-use Rattle.std.proofs.Common.{◌≡◌, sym}
+use Rattle.std.proofs.Common.{sym}
 use Rattle.std.specs.Option.{option_map}
 use Rattle.job_threads.proofs.StationLaws.{held_there}
 use Rattle.job_threads.proofs.passes.second_pass.Goals as goal

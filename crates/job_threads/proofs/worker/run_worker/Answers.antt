@@ -1,16 +1,12 @@
-use Rattle.std.proofs.Common.{◌≡◌, ◌∙◌, ◌+◌, ◌≤◌, List, [], ◌∷◌, ◌++◌, None, length, take, drop, map, refl, sym, ap, subst, arith}
+use Rattle.std.proofs.Common.{◌+◌, ◌≤◌, List, [], length, take, drop, map, sym, ap, subst, arith}
 use Rattle.std.proofs.lemmas.List.{take_all}
 use Rattle.std.specs.Option.{option_map, is_some}
-use Rattle.job_model.specs.Commands.{Command, InTurn}
+use Rattle.job_model.specs.Commands.{InTurn}
 use Rattle.job_script.specs.Views.{command_view}
 use Rattle.job_script.specs.declared.outcomes.Outcome.{Outcome}
-use Rattle.job_script.specs.declared.commands.Command.{Command as Said}
 use Rattle.shared_index.specs.Passes.{known_at}
-use Rattle.job_threads.specs.Commands.{IsSetup}
-use Rattle.job_threads.specs.Steps.{Step}
-use Rattle.job_threads.specs.Stations.{station, holder_view}
-use Rattle.job_threads.specs.Works.{Begins, Numbers, WorkerRan, ended}
-use Rattle.job_threads.proofs.HistoryLaws.{opened_same}
+use Rattle.job_threads.specs.Stations.{station}
+use Rattle.job_threads.specs.Works.{ended}
 use Rattle.job_threads.proofs.ShowLaws.{seat_told}
 use Rattle.job_threads.proofs.WorkLaws.{WorkerAt, worker_starts, worker_next, worker_ran, worker_back, turn_here}
 use Rattle.job_threads.proofs.worker.run_worker.Goals as goal
