@@ -8,7 +8,7 @@ use Rattle.shared_index.specs.Passes.{known_at}
 use Rattle.job_threads.specs.Stations.{station}
 use Rattle.job_threads.specs.Works.{ended}
 use Rattle.job_threads.proofs.ShowLaws.{seat_told}
-use Rattle.job_threads.proofs.WorkLaws.{WorkerAt, worker_starts, worker_next, worker_ran, worker_back, turn_here}
+use Rattle.job_threads.proofs.WorkLaws.{WorkerAt, worker_starts, worker_next, worker_ran, worker_back, turn_here, turn_next}
 use Rattle.job_threads.proofs.worker.run_worker.Goals as goal
 
 pub loop-place-init : goal.loop-place-init
@@ -32,18 +32,21 @@ loop-place-preserved g c =
     let i = c.loop-place.invariant in
     let commands = c.args.task.commands.now in
     let here = c.index-commands-place.result in
-    let next = turn_here (is_some (option_map (λ s. s.seat) c.loop-place.passes.held)) commands c.loop-place.place here c.loop-place-test.true c.index-commands-place.is i.turn in
     record {
       here = c.in_ok-outcome.ensures.here;
       place = c.in_ok-outcome.ensures.place;
       places = c.in_ok-outcome.ensures.places;
       held_at = c.in_ok-outcome.ensures.held_at;
       placed = c.in_ok-outcome.ensures.placed;
-      turn = subst (λ b. InTurn b (map command_view (drop (c.loop-place.place + 1) commands))) (sym c.in_ok-outcome.ensures.held) next.1;
+      turn = turn_next (is_some (option_map (λ h. h.seat) c.loop-place.passes.held)) (is_some (option_map (λ h. h.seat) c.run_command.new.passes.held)) commands c.loop-place.place here c.loop-place-test.true c.index-commands-place.is c.in_ok-outcome.ensures.held i.turn;
       at = λ s numbers setup begins.
           let w = i.at s numbers setup begins in
+          let was = c.loop-place.passes in
+          let is = c.run_command.new.passes in
+          let old = station was.asks.seat (option_map (λ p. p.seat) was.spare) (option_map (λ h. h.seat) was.held) in
+          let new = station is.asks.seat (option_map (λ p. p.seat) is.spare) (option_map (λ h. h.seat) is.held) in
           let step = c.in_ok-outcome.ensures.steps s (record { index = setup.index; opening = w.work.opened }) w.under in
-          worker_next s numbers _ _ commands c.loop-place.place here c.loop-place.list.items c.in_ok-outcome.outcome c.push.new.self.items c.loop-place-test.true c.index-commands-place.is c.in_ok-push.ensures.items (seat_told c.loop-place.passes.asks.seat i.here) w step;
+          worker_next s numbers old new commands c.loop-place.place here c.loop-place.list.items c.in_ok-outcome.outcome c.push.new.self.items c.loop-place-test.true c.index-commands-place.is c.in_ok-push.ensures.items (seat_told c.loop-place.passes.asks.seat i.here) w step;
     }
 
 pub returns-clause-ran : goal.returns-clause-ran
