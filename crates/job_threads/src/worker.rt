@@ -1,5 +1,5 @@
 //! A worker that runs its commands.
-ghost use Rattle.std.specs.Prelude.{◌≡◌, IsSome, IfSome, IfOk, map, false};
+ghost use Rattle.std.specs.Prelude.{◌≡◌, ◌<◌, ◌+◌, IsSome, IfSome, IfOk, map, false};
 ghost use Rattle.std.specs.Option.{option_map, is_some};
 ghost use Rattle.job_model.specs.Commands.{InTurn, MayCome, held_after};
 ghost use Rattle.job_script.specs.Views.{command_view};
@@ -90,7 +90,9 @@ fn run_command<'i, R: Wait, N: Named>(
 }
 
 // A place in a list, counted from 1.
-fn counted(place: usize) -> u32 {
+fn counted(place: usize) -> u32
+    ensures { place < u32.MAX → result ≡ place + 1 }
+{
     u32::try_from(place.saturating_add(1)).unwrap_or(u32::MAX)
 }
 
