@@ -1,12 +1,13 @@
 -- Steps of a worker, by where its passes are.
-use Rattle.std.proofs.Common.{◌≡◌, ◌∙◌, ℕ, true, false, List, Option, Some, None, refl, sym, ap, subst}
+use Rattle.std.proofs.Common.{◌≡◌, List, Option, Some, None, refl, sym, ap, subst}
 use Rattle.std.specs.Prelude.{IsSome}
+use Rattle.std.specs.Option.{option_map}
 use Rattle.zone_model.specs.Versions.{Operation as ZoneOperation}
 use Rattle.job_model.specs.declared.Ending.{Ending}
 use Rattle.job_model.specs.declared.Weight.{Weight}
 use Rattle.job_model.specs.Commands.{Question, Ask, Hold, AskHeld, Release, Block}
 use Rattle.job_script.specs.declared.outcomes.Outcome.{Outcome}
-use Rattle.shared_index.specs.Passes.{Known, known_at, first_version}
+use Rattle.shared_index.specs.Passes.{known_at, first_version}
 use Rattle.job_threads.specs.Histories.{Setup}
 use Rattle.job_threads.specs.Commands.{Asked, IsHeld, Held, AskedHeld, Released, BlockRan}
 use Rattle.job_threads.specs.Steps.{IsUnder, Step}
@@ -36,15 +37,44 @@ module _ (s : Setup) (o : Outcome) (asks : Option Seat) (some : IsSome asks) (op
   release_done seat h under second r =
       release_step s o (station asks None (Some seat)) opened (seat_told asks some) seat.told under seat refl refl h (station asks (Some second) None) refl refl r
 
--- ---- where the second pass is when a worker ends
+  -- the same of a spare pass and a snapshot that are seen in their places
 
-pub placed_some : (spare : Option (Option Seat)) (held : Option Pinned) (seat : Pinned) → held ≡ Some seat → IsPlaced spare held → IsHeld seat × (holder_view spare held ≡ seat.place.me.0)
-placed_some (Some other) (Some pinned) seat is placed = absurd placed
-placed_some (Some other) None seat is placed = absurd cc
-placed_some None (Some pinned) seat is placed = let same : pinned ≡ seat = cc in (subst IsHeld same placed, ap (λ (x : Pinned). x.place.me.0) same)
-placed_some None None seat is placed = absurd placed
+  module _ {A : Type 0} (seat : A → Option Seat) (held : Option Pinned) (asks' : Option Seat) (now : Pinned) (h : IsHeld now) where
+    pub hold_from : (spare : Option A) (second : A) → Some second ≡ spare → IsPlaced (option_map seat spare) held → IsUnder (known_at asks) (holder_view (option_map seat spare) held) → Held (known_at asks) (known_at (seat second)) (known_at asks') now o
+        → (after : Option A) → after ≡ None → Step s Hold o (station asks (option_map seat spare) held) (station asks' (option_map seat after) (Some now))
+    hold_from None second is placed under t after none = absurd (let e : Some second ≡ None = is in cc)
+    hold_from (Some other) second is placed under t after none = by_held held placed under
+      where
+        same : second ≡ other
+        same = cc
 
-pub placed_none : (spare : Option (Option Seat)) (held : Option Pinned) (seat : Option Seat) → spare ≡ Some seat → held ≡ None → IsPlaced spare held → IsSome seat × (holder_view spare held ≡ known_at seat)
-placed_none (Some other) None seat is none placed = let same : other ≡ seat = cc in (subst IsSome same placed, ap known_at same)
-placed_none (Some other) (Some pinned) seat is none placed = absurd placed
-placed_none None held seat is none placed = absurd cc
+        by_held : (held : Option Pinned) → IsPlaced (Some (seat other)) held → IsUnder (known_at asks) (holder_view (Some (seat other)) held) → Step s Hold o (station asks (Some (seat other)) held) (station asks' (option_map seat after) (Some now))
+        by_held None placed under =
+            subst (λ (x : Option A). Step s Hold o (station asks (Some (seat other)) None) (station asks' (option_map seat x) (Some now))) (sym none)
+            (hold_done (seat other) placed under asks' now h (subst (λ (x : A). Held (known_at asks) (known_at (seat x)) (known_at asks') now o) same t))
+        by_held (Some pinned) placed under = absurd placed
+
+  module _ {A : Type 0} (seat : A → Pinned) where
+    pub held_from : (spare : Option (Option Seat)) (held : Option A) (snapshot : A) → Some snapshot ≡ held → IsPlaced spare (option_map seat held) → IsUnder (known_at asks) (holder_view spare (option_map seat held)) → (question : Question) → AskedHeld s.origin question (seat snapshot) o
+        → Step s (AskHeld question) o (station asks spare (option_map seat held)) (station asks spare (option_map seat held))
+    held_from spare None snapshot is placed under question a = absurd (let e : Some snapshot ≡ None = is in cc)
+    held_from (Some other) (Some there) snapshot is placed under question a = absurd placed
+    held_from None (Some there) snapshot is placed under question a =
+        let same : snapshot ≡ there = cc in held_done (seat there) placed under question (subst (λ (x : A). AskedHeld s.origin question (seat x) o) same a)
+
+    pub release_from : (spare : Option (Option Seat)) (held : Option A) (snapshot : A) → Some snapshot ≡ held → IsPlaced spare (option_map seat held) → IsUnder (known_at asks) (holder_view spare (option_map seat held)) → (second : Option Seat) → Released (seat snapshot) (known_at second) o
+        → (after : Option A) → after ≡ None → Step s Release o (station asks spare (option_map seat held)) (station asks (Some second) (option_map seat after))
+    release_from spare None snapshot is placed under second r after none = absurd (let e : Some snapshot ≡ None = is in cc)
+    release_from (Some other) (Some there) snapshot is placed under second r after none = absurd placed
+    release_from None (Some there) snapshot is placed under second r after none =
+        let same : snapshot ≡ there = cc in
+        subst (λ (x : Option A). Step s Release o (station asks None (Some (seat there))) (station asks (Some second) (option_map seat x))) (sym none)
+        (release_done (seat there) placed under second (subst (λ (x : A). Released (seat x) (known_at second) o) same r))
+
+-- ---- where the second pass is
+
+-- the snapshot that is there is held
+pub held_there : {A : Type 0} (seat : A → Pinned) (spare : Option (Option Seat)) (held : Option A) (snapshot : A) → Some snapshot ≡ held → IsPlaced spare (option_map seat held) → IsHeld (seat snapshot)
+held_there seat spare None snapshot is placed = absurd (let e : Some snapshot ≡ None = is in cc)
+held_there seat (Some other) (Some there) snapshot is placed = absurd placed
+held_there seat None (Some there) snapshot is placed = let same : there ≡ snapshot = cc in subst (λ x. IsHeld (seat x)) same placed

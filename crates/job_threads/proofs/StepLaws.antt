@@ -1,5 +1,5 @@
 -- What each kind of command does is a step of its worker.
-use Rattle.std.proofs.Common.{◌≡◌, ◌∙◌, ◌⊎◌, inl, inr, ℕ, ◌+◌, ◌-◌, ◌<◌, ◌≤◌, Bool, true, false, List, [], ◌∷◌, ◌++◌, length, Option, Some, None, Result, Ok, Err, refl, sym, ap, subst, arith, length-append}
+use Rattle.std.proofs.Common.{◌≡◌, ◌∙◌, inl, inr, ℕ, ◌+◌, ◌-◌, ◌<◌, ◌≤◌, Bool, true, false, List, [], ◌∷◌, ◌++◌, length, Option, Some, None, Result, Ok, Err, refl, sym, ap, subst, arith, length-append}
 use Rattle.std.specs.Prelude.{Contains, IsOk}
 use Rattle.std.proofs.lemmas.List.Elements.{Contains-push, Contains-push_cases}
 use Rattle.zone_model.specs.Versions.{Version, Operation as ZoneOperation, whole}
@@ -8,9 +8,9 @@ use Rattle.trie_model.specs.Keys as trie
 use Rattle.job_model.specs.declared.Ending.{Ending}
 use Rattle.job_model.specs.declared.Weight.{Weight}
 use Rattle.job_model.specs.Commands.{Question, Command, Ask, Hold, AskHeld, Release, Block}
-use Rattle.job_model.specs.Replies.{Reply, reply_of}
-use Rattle.job_model.specs.Outcomes.{Ended, Shown, Committed, RolledBack, Refused, is_committed, Sight, Shows, Causes, BlockEnds, EndsLawfully, shown_by}
-use Rattle.job_script.specs.Outcomes.{ended_view, Replies, EndsBlock, Tells}
+use Rattle.job_model.specs.Replies.{reply_of}
+use Rattle.job_model.specs.Outcomes.{Ended, Shown, Committed, RolledBack, Refused, is_committed, Sight, Shows, Causes, BlockEnds, shown_by}
+use Rattle.job_script.specs.Outcomes.{ended_view, Replies, EndsBlock}
 use Rattle.job_script.specs.declared.outcomes.Told.{Told}
 use Rattle.job_script.specs.declared.outcomes.Told.TheVariants as told
 use Rattle.job_script.specs.declared.outcomes.Outcome.{Outcome}
@@ -22,8 +22,8 @@ use Rattle.shared_index.specs.declared.meaning.Operation.{Operation}
 use Rattle.shared_index.specs.Operations.{applied}
 use Rattle.shared_index.specs.Passes.{Known, first_version, version_seen}
 use Rattle.job_threads.specs.Histories.{Setup, Entries, StandsAs, AreVersions, CoversNamings, judged_by}
-use Rattle.job_threads.specs.Commands.{Asked, IsHeld, Held, AskedHeld, Released, Commits, Transacts, BlockRan}
-use Rattle.job_threads.specs.Steps.{Station, HoldsLast, IsSight, IsUnder, Adds, Stays, Writes, Step}
+use Rattle.job_threads.specs.Commands.{Asked, IsHeld, Held, AskedHeld, Released, Transacts, BlockRan}
+use Rattle.job_threads.specs.Steps.{Station, HoldsLast, IsSight, IsUnder, Stays, Writes, Step}
 use Rattle.job_threads.proofs.HistoryLaws.{begins_same, begins_more, begins_length, last_stands, opened_same, part_same}
 
 abbrev Own : Type 0

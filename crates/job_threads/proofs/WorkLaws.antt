@@ -1,29 +1,28 @@
 -- How a worker's run goes on by one command.
-use Rattle.std.proofs.Common.{◌≡◌, ◌∙◌, ◌⊎◌, inl, inr, ℕ, ◌+◌, ◌-◌, ◌<◌, ◌≤◌, Bool, true, false, cond, ◌&&◌, eqb, List, [], ◌∷◌, ◌++◌, length, map, take, drop, get_or, Option, Some, None, refl, sym, ap, subst, arith, append_assoc, length-append, Ok}
+use Rattle.std.proofs.Common.{◌≡◌, ◌∙◌, inl, inr, ℕ, ◌+◌, ◌-◌, ◌<◌, ◌≤◌, Bool, true, false, cond, ◌&&◌, eqb, List, [], ◌∷◌, ◌++◌, length, map, take, drop, get_or, Some, None, refl, sym, ap, subst, arith, append_assoc, length-append}
 use Rattle.std.specs.Prelude.{Contains}
 use Rattle.std.proofs.lemmas.Bool.{cases_eq}
-use Rattle.std.proofs.lemmas.Bool.Decides.{nat_tests}
 use Rattle.std.proofs.lemmas.List.{map_more, drop_more}
 use Rattle.std.proofs.lemmas.List.Elements.{Contains-append_left, Contains-append_right}
 use Rattle.std.specs.List.{AllByRecursion}
 use Rattle.zone_model.specs.Names.{Name}
-use Rattle.zone_model.specs.Versions.{Version, whole}
+use Rattle.zone_model.specs.Versions.{Version}
 use Rattle.job_model.specs.Commands.{Command, held_after, InTurn, MayCome}
-use Rattle.job_model.specs.Outcomes.{Setting, Pair, is_committed, made, operations_of, times_made, Sight, at_first, sight_after, EndsLawfully, Along, shown_by, shown_in}
+use Rattle.job_model.specs.Outcomes.{Setting, Pair, is_committed, made, times_made, Sight, at_first, sight_after, EndsLawfully, Along, shown_by, shown_in}
 use Rattle.job_script.specs.Views.{command_view}
 use Rattle.job_script.specs.declared.commands.Command.{Command as Said}
 use Rattle.job_script.specs.Outcomes.{ended_view, outcome_view, pairs_of, Tells, EachTells}
 use Rattle.job_script.specs.declared.outcomes.Outcome.{Outcome as Told_outcome}
 use Rattle.shared_cells.specs.declared.view.PassView.{PassView}
 use Rattle.shared_cells.specs.Views.{is_told}
-use Rattle.shared_cells.specs.History.{StartsWith, IsPartOf, entries_by, entry_of, version_after}
+use Rattle.shared_cells.specs.History.{StartsWith, entries_by, entry_of, version_after}
 use Rattle.shared_index.specs.declared.meaning.Operation.{Operation}
 use Rattle.shared_index.specs.Operations.{applied}
 use Rattle.shared_index.specs.Passes.{Known, first_version}
-use Rattle.job_threads.specs.Histories.{Setup, Commit, Entries, index_at, StandsAs, AreVersions, CoversNamings, judged_by, times_by}
+use Rattle.job_threads.specs.Histories.{Setup, Commit, Entries, index_at, StandsAs, AreVersions, judged_by, times_by}
 use Rattle.job_threads.specs.Steps.{Station, HoldsLast, IsSight, IsUnder, Adds, Stays, Writes, Step}
 use Rattle.job_threads.specs.Works.{Replayed, Work, Numbers, Begins, WorkerRan, ended}
-use Rattle.job_threads.proofs.HistoryLaws.{opened_same, begins_same, begins_more, begins_length, begins_other, index_front, index_last, versions_front, covers_front, by-push, times_front, times_past, times_there, times_else}
+use Rattle.job_threads.proofs.HistoryLaws.{opened_same, begins_same, begins_more, begins_length, index_front, index_last, versions_front, covers_front, by-push, times_front, times_past, times_there, times_else}
 
 abbrev pub Pairs : Type 0
 Pairs = List Pair
@@ -306,8 +305,8 @@ worker_starts s numbers asks spare commands b turn =
     }
 
 -- the same commits and pinned versions, at a pass that has left its snapshot
-pub worker_back : (s : Setup) (numbers : Numbers) (t : Station) (spare : Known) (commands : List Command) (os : List Told_outcome) → spare.pass ≡ t.holds.pass → WorkerRan s numbers t commands os → WorkerRan s numbers (ended t.asks spare) commands os
-worker_back s numbers t spare commands os pass r = record {
+pub worker_back : (s : Setup) (numbers : Numbers) (t : Station) (asks spare : Known) (commands : List Command) (os : List Told_outcome) → asks ≡ t.asks → spare.pass ≡ t.holds.pass → WorkerRan s numbers t commands os → WorkerRan s numbers (ended asks spare) commands os
+worker_back s numbers t asks spare commands os same pass r = subst (λ (v : Known). WorkerRan s numbers (ended v spare) commands os) (sym same) (record {
   told = r.told;
   work = record {
     opened = r.work.opened;
@@ -327,7 +326,7 @@ worker_back s numbers t spare commands os pass r = record {
   };
   asker = r.asker;
   holder = r.holder;
-}
+})
 
 -- ---- a list and its elements, as they are seen
 
@@ -343,10 +342,17 @@ pub turn_here : (held : Bool) (commands : List Said) (i : ℕ) (here : Said) →
     → MayCome held (command_view here) × InTurn (held_after held (command_view here)) (map command_view (drop (i + 1) commands))
 turn_here held commands i here lt is turn = subst (InTurn held) (drop_here command_view commands i here lt is) turn
 
-pub worker_next : (s : Setup) (numbers : Numbers) (old new : Station) (commands : List Said) (i : ℕ) (here : Said) (os : List Told_outcome) (o : Told_outcome) → i < length commands → here ≡ get_or commands i here → is_told old.asks.seen.opening ≡ true
-    → WorkerAt s numbers old (map command_view (take i commands)) (map command_view (drop i commands)) os → Step s (command_view here) o old new → WorkerAt s numbers new (map command_view (take (i + 1) commands)) (map command_view (drop (i + 1) commands)) (os ++ o ∷ [])
-worker_next s numbers old new commands i here os o lt is told w step =
+-- and those behind it
+pub turn_next : (held after : Bool) (commands : List Said) (i : ℕ) (here : Said) → i < length commands → here ≡ get_or commands i here → after ≡ held_after held (command_view here) → InTurn held (map command_view (drop i commands)) → InTurn after (map command_view (drop (i + 1) commands))
+turn_next held after commands i here lt is same turn = subst (λ (b : Bool). InTurn b (map command_view (drop (i + 1) commands))) (sym same) (turn_here held commands i here lt is turn).1
+
+-- a worker has run its next command, and its outcome stands behind the others
+pub worker_next : (s : Setup) (numbers : Numbers) (old new : Station) (commands : List Said) (i : ℕ) (here : Said) (os : List Told_outcome) (o : Told_outcome) (after : List Told_outcome) → i < length commands → here ≡ get_or commands i here → after ≡ os ++ o ∷ []
+    → is_told old.asks.seen.opening ≡ true → WorkerAt s numbers old (map command_view (take i commands)) (map command_view (drop i commands)) os → Step s (command_view here) o old new
+    → WorkerAt s numbers new (map command_view (take (i + 1) commands)) (map command_view (drop (i + 1) commands)) after
+worker_next s numbers old new commands i here os o after lt is pushed told w step =
     let ahead : WorkerAt s numbers old (map command_view (take i commands)) (command_view here ∷ map command_view (drop (i + 1) commands)) os =
     subst (λ (l : List Command). WorkerAt s numbers old (map command_view (take i commands)) l os) (drop_here command_view commands i here lt is) w in
-    subst (λ (l : List Command). WorkerAt s numbers new l (map command_view (drop (i + 1) commands)) (os ++ o ∷ [])) (sym (take_here command_view commands i here lt is))
-    (worker_goes_on s numbers old new (map command_view (take i commands)) (command_view here) (map command_view (drop (i + 1) commands)) os o (opened_same new.asks.seen old.asks.seen told step.asks) ahead step)
+    subst (λ (l : List Told_outcome). WorkerAt s numbers new (map command_view (take (i + 1) commands)) (map command_view (drop (i + 1) commands)) l) (sym pushed)
+    (subst (λ (l : List Command). WorkerAt s numbers new l (map command_view (drop (i + 1) commands)) (os ++ o ∷ [])) (sym (take_here command_view commands i here lt is))
+    (worker_goes_on s numbers old new (map command_view (take i commands)) (command_view here) (map command_view (drop (i + 1) commands)) os o (opened_same new.asks.seen old.asks.seen told step.asks) ahead step))

@@ -11,6 +11,7 @@ use job_script::{Outcome, Question, Told};
 use shared_index::{Index, Named, Pass};
 use std::alloc::{AllocError, Global};
 use trie_read::Reading;
+use zone_answer::Walker;
 
 /// Asks the current version. It is pinned while the reply is made.
 pub fn run_question<N: Named>(
@@ -20,6 +21,7 @@ pub fn run_question<N: Named>(
     pass: &mut Pass<N>,
     question: &Question,
     item: &mut [u8; 4096],
+    walker: &mut Walker,
 ) -> Result<Outcome, AllocError>
     requires here { IsSome pass.old.seat }
     requires place { pass.old.place ≡ index.now.place }
@@ -29,7 +31,7 @@ pub fn run_question<N: Named>(
 {
     let mut query = pass.query(index);
     let version = query.version();
-    let reply = reply(alloc, origin, &mut query, question, item)?;
+    let reply = reply(alloc, origin, &mut query, question, item, walker)?;
     Ok(Outcome {
         version,
         told: Told::Reply(reply),

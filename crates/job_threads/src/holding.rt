@@ -1,7 +1,6 @@
 //! Snapshots of a worker. While it holds one its second pass is away.
-ghost use Rattle.std.specs.Prelude.{◌≡◌, ℕ, Some, None, IsSome, IsNone, IfSome, IfOk, IsSomeAnd};
+ghost use Rattle.std.specs.Prelude.{◌≡◌, IsSome, IfOk};
 ghost use Rattle.job_script.specs.Views.{question_view};
-ghost use Rattle.job_script.specs.declared.outcomes.Told.TheVariants as told;
 ghost use Rattle.shared_index.specs.Passes.{known_at};
 ghost use Rattle.job_threads.specs.Commands.{IsHeld, Held, AskedHeld, Released};
 
@@ -12,6 +11,7 @@ use job_script::{Outcome, Question, Told};
 use shared_index::{Index, Named, Pass, Snapshot};
 use std::alloc::{AllocError, Global};
 use trie_read::Reading;
+use zone_answer::Walker;
 
 /// Takes a snapshot of the current version by the second pass, which is no older than what the first has seen. The first pass has
 /// then seen it.
@@ -48,13 +48,14 @@ pub fn ask_held<N: Named>(
     snapshot: &mut Snapshot<'_, ZoneLaw, N>,
     question: &Question,
     item: &mut [u8; 4096],
+    walker: &mut Walker,
 ) -> Result<Outcome, AllocError>
     requires { IsHeld snapshot.old.seat }
     ensures same { snapshot.new ≡ snapshot.old }
     ensures asked { IfOk result (AskedHeld origin.now (question_view question.now) snapshot.old.seat) }
 {
     let version = snapshot.version();
-    let reply = reply(alloc, origin, snapshot, question, item)?;
+    let reply = reply(alloc, origin, snapshot, question, item, walker)?;
     Ok(Outcome {
         version,
         told: Told::Reply(reply),

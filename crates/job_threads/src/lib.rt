@@ -6,6 +6,7 @@ mod gate;
 mod holding;
 mod job;
 mod law;
+mod passes;
 mod replying;
 mod transactions;
 mod worker;

@@ -10,16 +10,17 @@ use dns_name::Name;
 use job_script::{Question, Reply};
 use std::alloc::{AllocError, Global};
 use trie_read::Reading;
-use zone_answer::answer_by;
+use zone_answer::{Walker, answer_with};
 use zone_names::{back, find, walk};
 
-/// What a version replies to a question, by way of a buffer that items are read into.
+/// What a version replies to a question, by way of a buffer that items are read into and of a walker.
 pub fn reply<V: Reading>(
     alloc: Global,
     origin: &Name,
     version: &mut V,
     question: &Question,
     item: &mut [u8; 4096],
+    walker: &mut Walker,
 ) -> Result<Reply, AllocError>
     requires { ShowsSome (V.holds version.old) }
     ensures same { version.new ≡ version.old }
@@ -28,7 +29,7 @@ pub fn reply<V: Reading>(
 {
     match question {
         Question::Get(name, rtype) => {
-            let answer = answer_by(alloc, version, origin, name, *rtype, item)?;
+            let answer = answer_with(alloc, version, origin, name, *rtype, item, walker)?;
             Ok(Reply::Get(answer))
         }
         Question::Find(name) => {

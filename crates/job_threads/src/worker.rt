@@ -1,5 +1,5 @@
 //! A worker that runs its commands.
-ghost use Rattle.std.specs.Prelude.{◌≡◌, List, IsSome, IfSome, IfOk, map, false};
+ghost use Rattle.std.specs.Prelude.{◌≡◌, ◌<◌, ◌+◌, IsSome, IfSome, IfOk, map, false};
 ghost use Rattle.std.specs.Option.{option_map, is_some};
 ghost use Rattle.job_model.specs.Commands.{InTurn, MayCome, held_after};
 ghost use Rattle.job_script.specs.Views.{command_view};
@@ -12,23 +12,16 @@ ghost use Rattle.job_threads.specs.Works.{Begins, Numbers, WorkerRan, ended};
 
 use crate::asking::run_question;
 use crate::gate::Gate;
-use crate::holding::{ask_held, hold, release};
 use crate::law::ZoneLaw;
+use crate::passes::{Passes, ask_snapshot, give_back, second_pass, take_snapshot};
 use crate::transactions::run_block;
 use dns_name::Name;
 use job_script::{Command, Outcome, Outcomes};
-use shared_index::{Index, Named, Pass, Snapshot};
+use shared_index::{Index, Named, Pass};
 use std::alloc::{AllocError, Global};
 use std::sync::Wait;
+use zone_answer::Walker;
 use zone_change::ItemBuffers;
-
-/// A worker's two passes: one asks and writes, and the other is with the snapshot while one is held.
-#[derive(Drop)]
-pub struct Passes<'i, N: Named> {
-    pub asks: Pass<N>,
-    pub spare: Option<Pass<N>>,
-    pub held: Option<Snapshot<'i, ZoneLaw, N>>,
-}
 
 /// A worker's number, from 1, its commands, and its passes.
 #[derive(Drop)]
@@ -47,7 +40,7 @@ pub struct Done<N: Named> {
     pub spare: Pass<N>,
 }
 
-// Runs one command, by way of buffers for items.
+// Runs one command, by way of buffers for items and of a walker.
 fn run_command<'i, R: Wait, N: Named>(
     rt: &R,
     alloc: Global,
@@ -56,6 +49,7 @@ fn run_command<'i, R: Wait, N: Named>(
     passes: &mut Passes<'i, N>,
     command: &Command,
     buffers: &mut ItemBuffers,
+    walker: &mut Walker,
 ) -> Result<Outcome, AllocError>
     requires here { IsSome passes.old.asks.seat }
     requires place { passes.old.asks.place ≡ index.now.place }
@@ -78,33 +72,16 @@ fn run_command<'i, R: Wait, N: Named>(
     let item = &mut buffers.before;
     match command {
         Command::Ask(question) => {
-            let outcome = run_question(alloc, origin, index, &mut passes.asks, question, item)?;
+            let asks = &mut passes.asks;
+            let outcome = run_question(alloc, origin, index, asks, question, item, walker)?;
             Ok(outcome)
         }
-        Command::Hold => {
-            let Some(second) = passes.spare.take() else {
-                unreachable!();
-            };
-            let (snapshot, outcome) = hold(index, &mut passes.asks, second);
-            passes.held = Some(snapshot);
-            Ok(outcome)
-        }
+        Command::Hold => Ok(take_snapshot(index, passes)),
         Command::AskHeld(question) => {
-            let Some(mut snapshot) = passes.held.take() else {
-                unreachable!();
-            };
-            let outcome = ask_held(alloc, origin, &mut snapshot, question, item)?;
-            passes.held = Some(snapshot);
+            let outcome = ask_snapshot(alloc, origin, passes, question, item, walker)?;
             Ok(outcome)
         }
-        Command::Release => {
-            let Some(snapshot) = passes.held.take() else {
-                unreachable!();
-            };
-            let (second, outcome) = release(snapshot);
-            passes.spare = Some(second);
-            Ok(outcome)
-        }
+        Command::Release => Ok(give_back(passes)),
         Command::Block(block) => {
             let outcome = run_block(rt, alloc, origin, index, &mut passes.asks, block, buffers)?;
             Ok(outcome)
@@ -112,30 +89,10 @@ fn run_command<'i, R: Wait, N: Named>(
     }
 }
 
-// The second pass, which a snapshot gives back.
-fn second_pass<N: Named>(passes: Passes<'_, N>) -> (Pass<N>, Pass<N>)
-    requires placed { IsPlaced (option_map (λ p. p.seat) passes.spare) (option_map (λ s. s.seat) passes.held) }
-    requires place { IfSome passes.spare (λ p. p.place ≡ passes.asks.place) }
-    requires held_at { IfSome passes.held (λ s. s.place ≡ passes.asks.place) }
-    ensures same { result.0 ≡ passes.entry.asks }
-    ensures here { IsSome result.1.seat }
-    ensures place { result.1.place ≡ passes.entry.asks.place }
-    ensures seen { (known_at result.1.seat).seen ≡ (holder_view (option_map (λ p. p.seat) passes.entry.spare) (option_map (λ s. s.seat) passes.entry.held)).seen }
-    ensures pass { (known_at result.1.seat).pass ≡ (holder_view (option_map (λ p. p.seat) passes.entry.spare) (option_map (λ s. s.seat) passes.entry.held)).pass }
-{
-    let Passes { asks, spare, held } = passes;
-    if let Some(snapshot) = held {
-        let (second, _) = release(snapshot);
-        return (asks, second);
-    }
-    let Some(second) = spare else {
-        unreachable!();
-    };
-    (asks, second)
-}
-
 // A place in a list, counted from 1.
-fn counted(place: usize) -> u32 {
+fn counted(place: usize) -> u32
+    ensures { place < u32.MAX → result ≡ place + 1 }
+{
     u32::try_from(place.saturating_add(1)).unwrap_or(u32::MAX)
 }
 
@@ -164,6 +121,7 @@ pub fn run_worker<R: Wait, N: Named, G: Gate>(
         spare,
     } = task;
     let mut buffers = ItemBuffers::new();
+    let mut walker = Walker::new();
     let mut passes = Passes {
         asks,
         spare: Some(spare),
@@ -172,7 +130,16 @@ pub fn run_worker<R: Wait, N: Named, G: Gate>(
     let mut list = Vec::with_capacity(alloc, commands.len())?;
     for (place, command) in commands.iter().enumerate() {
         gate.before(number, counted(place));
-        let outcome = run_command(rt, alloc, origin, index, &mut passes, command, &mut buffers)?;
+        let outcome = run_command(
+            rt,
+            alloc,
+            origin,
+            index,
+            &mut passes,
+            command,
+            &mut buffers,
+            &mut walker,
+        )?;
         gate.after(number, counted(place));
         list.push(outcome)?;
     }

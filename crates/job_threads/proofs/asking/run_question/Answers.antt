@@ -1,10 +1,13 @@
-use Rattle.std.proofs.Common.{◌≡◌, ◌∙◌, refl, sym, ap, subst}
+use Rattle.std.proofs.Common.{rules, ◌∙◌, refl, sym, ap, subst}
 use Rattle.shared_cells.specs.declared.view.Progress.TheVariants as progress
 use Rattle.shared_cells.specs.Views.{with_progress, pinned_image}
 use Rattle.shared_index.specs.Meanings.{Holds}
-use Rattle.shared_index.specs.Passes.{known_at}
+use Rattle.shared_index.specs.Passes.{Known, known_at}
 use Rattle.zone_answer.specs.Standing.{Shows, ShowsSome}
 use Rattle.job_script.specs.Views.{question_view}
+use Rattle.job_script.specs.declared.outcomes.Told.TheVariants as told
+use Rattle.job_script.specs.declared.outcomes.Outcome.{Outcome}
+use Rattle.job_threads.specs.Commands.{Asked}
 use Rattle.job_threads.proofs.ShowLaws.{shown, shown_some, asked_of}
 use Rattle.job_threads.proofs.TransactLaws.{Lawful}
 use Rattle.job_threads.proofs.asking.run_question.Goals as goal
@@ -17,7 +20,10 @@ reply-requires g c =
 pub returns-clause-asked : goal.returns-clause-asked
 returns-clause-asked g c =
     let q = c.query-query.ensures in
-    asked_of Lawful c.args.origin.now (question_view c.args.question.now) (known_at c.args.pass.now.seat) c.query-query.result.seat.place.me.0 _ c.query-query.result.seat.version _
+    let o : Outcome = record { version = c.version-version.result; told = told.Reply c.in_ok-reply.reply } in
+    -- the pass is back as the query left it
+    subst (λ (v : Known). Asked c.args.origin.now (question_view c.args.question.now) (known_at c.args.pass.now.seat) v o) (search rules)
+    (asked_of Lawful c.args.origin.now (question_view c.args.question.now) (known_at c.args.pass.now.seat) c.query-query.result.seat.place.me.0 (known_at c.drop-query-2.new.self.0.seat) c.query-query.result.seat.version o
     q.pinned (c.drop-query-2.ensures.left ∙ ap (λ x. with_progress x.seat.place.me.0 progress.Idle) (c.reply.ensures.same ∙ c.version-version.ensures.same)) c.version-version.ensures.number refl
     (λ zone stands. c.in_ok-reply.ensures.reply zone
-        (subst (λ x. Shows (Holds (pinned_image x.seat.place.me.0.progress) x.seat.root) zone) (sym c.version-version.ensures.same) (shown _ _ _ zone q.holds stands)))
+    (subst (λ x. Shows (Holds (pinned_image x.seat.place.me.0.progress) x.seat.root) zone) (sym c.version-version.ensures.same) (shown _ _ _ zone q.holds stands))))

@@ -1,4 +1,4 @@
-use Rattle.std.proofs.Common.{◌≡◌, ◌∙◌, refl, sym, ap, subst}
+use Rattle.std.proofs.Common.{refl, sym, subst}
 use Rattle.shared_cells.specs.Views.{pinned_image}
 use Rattle.shared_index.specs.Meanings.{Holds}
 use Rattle.shared_index.specs.Passes.{version_seen}

@@ -1,4 +1,4 @@
-use Rattle.std.proofs.Common.{◌≡◌, sym, subst}
+use Rattle.std.proofs.Common.{sym, subst}
 use Rattle.shared_index.specs.Passes.{known_at}
 use Rattle.job_threads.specs.Commands.{IsHeld}
 use Rattle.job_threads.proofs.ShowLaws.{held_first, held_same}

@@ -1,18 +1,14 @@
-use Rattle.std.proofs.Common.{◌≡◌, ◌∙◌, ◌+◌, ◌≤◌, List, [], ◌∷◌, ◌++◌, None, length, take, drop, map, refl, sym, ap, subst, arith}
+use Rattle.std.proofs.Common.{◌+◌, ◌≤◌, List, [], length, take, drop, map, sym, ap, subst, arith}
 use Rattle.std.proofs.lemmas.List.{take_all}
 use Rattle.std.specs.Option.{option_map, is_some}
-use Rattle.job_model.specs.Commands.{Command, InTurn}
+use Rattle.job_model.specs.Commands.{InTurn}
 use Rattle.job_script.specs.Views.{command_view}
 use Rattle.job_script.specs.declared.outcomes.Outcome.{Outcome}
-use Rattle.job_script.specs.declared.commands.Command.{Command as Said}
 use Rattle.shared_index.specs.Passes.{known_at}
-use Rattle.job_threads.specs.Commands.{IsSetup}
-use Rattle.job_threads.specs.Steps.{Step}
-use Rattle.job_threads.specs.Stations.{station, holder_view}
-use Rattle.job_threads.specs.Works.{Begins, Numbers, WorkerRan, ended}
-use Rattle.job_threads.proofs.HistoryLaws.{opened_same}
+use Rattle.job_threads.specs.Stations.{station}
+use Rattle.job_threads.specs.Works.{ended}
 use Rattle.job_threads.proofs.ShowLaws.{seat_told}
-use Rattle.job_threads.proofs.WorkLaws.{WorkerAt, worker_starts, worker_next, worker_ran, worker_back, turn_here}
+use Rattle.job_threads.proofs.WorkLaws.{WorkerAt, worker_starts, worker_next, worker_ran, worker_back, turn_here, turn_next}
 use Rattle.job_threads.proofs.worker.run_worker.Goals as goal
 
 pub loop-place-init : goal.loop-place-init
@@ -36,19 +32,21 @@ loop-place-preserved g c =
     let i = c.loop-place.invariant in
     let commands = c.args.task.commands.now in
     let here = c.index-commands-place.result in
-    let next = turn_here (is_some (option_map (λ s. s.seat) c.loop-place.passes.held)) commands c.loop-place.place here c.loop-place-test.true c.index-commands-place.is i.turn in
     record {
       here = c.in_ok-outcome.ensures.here;
       place = c.in_ok-outcome.ensures.place;
       places = c.in_ok-outcome.ensures.places;
       held_at = c.in_ok-outcome.ensures.held_at;
       placed = c.in_ok-outcome.ensures.placed;
-      turn = subst (λ b. InTurn b (map command_view (drop (c.loop-place.place + 1) commands))) (sym c.in_ok-outcome.ensures.held) next.1;
+      turn = turn_next (is_some (option_map (λ h. h.seat) c.loop-place.passes.held)) (is_some (option_map (λ h. h.seat) c.run_command.new.passes.held)) commands c.loop-place.place here c.loop-place-test.true c.index-commands-place.is c.in_ok-outcome.ensures.held i.turn;
       at = λ s numbers setup begins.
           let w = i.at s numbers setup begins in
+          let was = c.loop-place.passes in
+          let is = c.run_command.new.passes in
+          let old = station was.asks.seat (option_map (λ p. p.seat) was.spare) (option_map (λ h. h.seat) was.held) in
+          let new = station is.asks.seat (option_map (λ p. p.seat) is.spare) (option_map (λ h. h.seat) is.held) in
           let step = c.in_ok-outcome.ensures.steps s (record { index = setup.index; opening = w.work.opened }) w.under in
-          subst (λ (os : List Outcome). WorkerAt s numbers _ _ _ os) (sym c.in_ok-push.ensures.items)
-          (worker_next s numbers _ _ commands c.loop-place.place here _ _ c.loop-place-test.true c.index-commands-place.is (seat_told c.loop-place.passes.asks.seat i.here) w step);
+          worker_next s numbers old new commands c.loop-place.place here c.loop-place.list.items c.in_ok-outcome.outcome c.push.new.self.items c.loop-place-test.true c.index-commands-place.is c.in_ok-push.ensures.items (seat_told c.loop-place.passes.asks.seat i.here) w step;
     }
 
 pub returns-clause-ran : goal.returns-clause-ran
@@ -56,5 +54,7 @@ returns-clause-ran g c = λ s numbers setup begins.
     let commands = c.args.task.commands.now in
     let past : length commands ≤ c.loop-place.place = omega (arith, c.loop-place-test.false) in
     let w = c.loop-place.invariant.at s numbers setup begins in
-    worker_back s numbers _ _ _ _ c.second_pass.ensures.pass
-    (worker_ran s numbers _ (map command_view commands) (map command_view (take c.loop-place.place commands)) _ _ (ap (map command_view) (take_all c.loop-place.place commands past)) w)
+    let passes = c.loop-place.passes in
+    let at = station passes.asks.seat (option_map (λ p. p.seat) passes.spare) (option_map (λ h. h.seat) passes.held) in
+    worker_back s numbers at (known_at c.second_pass-asks.result.0.seat) (known_at c.second_pass-asks.result.1.seat) (map command_view commands) c.loop-place.list.items (ap (λ p. known_at p.seat) c.second_pass-asks.ensures.same) c.second_pass-asks.ensures.pass
+    (worker_ran s numbers at (map command_view commands) (map command_view (take c.loop-place.place commands)) _ c.loop-place.list.items (ap (map command_view) (take_all c.loop-place.place commands past)) w)

@@ -14,11 +14,11 @@ use Rattle.job_threads.proofs.worker.run_worker.Given as goal
 abbrev pub invariant-loop-place : goal.invariant-loop-place
 invariant-loop-place g l = record {
   here : IsSome l.passes.asks.seat;
-  place : l.passes.asks.place ≡ l.index.now.place;
-  places : IfSome l.passes.spare (λ p. p.place ≡ l.index.now.place);
-  held_at : IfSome l.passes.held (λ s. s.place ≡ l.index.now.place);
+  place : l.passes.asks.place ≡ l.index.place;
+  places : IfSome l.passes.spare (λ p. p.place ≡ l.index.place);
+  held_at : IfSome l.passes.held (λ s. s.place ≡ l.index.place);
   placed : IsPlaced (option_map (λ p. p.seat) l.passes.spare) (option_map (λ s. s.seat) l.passes.held);
-  turn : InTurn (is_some (option_map (λ s. s.seat) l.passes.held)) (map command_view (drop l.place l.commands.now));
-  at : (s : Setup) (numbers : Numbers) → IsSetup s l.origin.now l.index.now.shared.table.shared.key (known_at l.fn.task.asks.seat) → Begins s numbers (known_at l.fn.task.asks.seat) (known_at l.fn.task.spare.seat)
-      → WorkerAt s numbers (station l.passes.asks.seat (option_map (λ p. p.seat) l.passes.spare) (option_map (λ s. s.seat) l.passes.held)) (map command_view (take l.place l.commands.now)) (map command_view (drop l.place l.commands.now)) l.list.items;
+  turn : InTurn (is_some (option_map (λ s. s.seat) l.passes.held)) (map command_view (drop l.place l.commands));
+  at : (s : Setup) (numbers : Numbers) → IsSetup s l.origin l.index.shared.table.shared.key (known_at l.fn.task.asks.seat) → Begins s numbers (known_at l.fn.task.asks.seat) (known_at l.fn.task.spare.seat)
+      → WorkerAt s numbers (station l.passes.asks.seat (option_map (λ p. p.seat) l.passes.spare) (option_map (λ s. s.seat) l.passes.held)) (map command_view (take l.place l.commands)) (map command_view (drop l.place l.commands)) l.list.items;
 }

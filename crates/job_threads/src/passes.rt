@@ -1,0 +1,128 @@
+//! A worker's two passes: one asks and writes, and the other is with the snapshot while one is held.
+ghost use Rattle.std.specs.Prelude.{◌≡◌, IsSome, IfSome, IfOk, None, true, false};
+ghost use Rattle.std.specs.Option.{option_map, is_some};
+ghost use Rattle.job_model.specs.Commands.{Hold, AskHeld, Release};
+ghost use Rattle.job_script.specs.Views.{question_view};
+ghost use Rattle.shared_index.specs.Passes.{known_at, first_version};
+ghost use Rattle.job_threads.specs.Histories.{Setup};
+ghost use Rattle.job_threads.specs.Steps.{IsUnder, Step};
+ghost use Rattle.job_threads.specs.Stations.{IsPlaced, holder_view, station};
+
+use crate::holding::{ask_held, hold, release};
+use crate::law::ZoneLaw;
+use dns_name::Name;
+use job_script::{Outcome, Question};
+use shared_index::{Index, Named, Pass, Snapshot};
+use std::alloc::{AllocError, Global};
+use zone_answer::Walker;
+
+/// A worker's passes. The second is spare while no snapshot is held.
+#[derive(Drop)]
+pub struct Passes<'i, N: Named> {
+    pub asks: Pass<N>,
+    pub spare: Option<Pass<N>>,
+    pub held: Option<Snapshot<'i, ZoneLaw, N>>,
+}
+
+/// Takes a snapshot of the current version.
+pub fn take_snapshot<'i, N: Named>(
+    index: &'i Index<ZoneLaw, N>,
+    passes: &mut Passes<'i, N>,
+) -> Outcome
+    requires here { IsSome passes.old.asks.seat }
+    requires place { passes.old.asks.place ≡ index.now.place }
+    requires places { IfSome passes.old.spare (λ p. p.place ≡ index.now.place) }
+    requires placed { IsPlaced (option_map (λ p. p.seat) passes.old.spare) (option_map (λ s. s.seat) passes.old.held) }
+    requires free { is_some (option_map (λ s. s.seat) passes.old.held) ≡ false }
+    ensures here { IsSome passes.new.asks.seat }
+    ensures place { passes.new.asks.place ≡ index.now.place }
+    ensures places { IfSome passes.new.spare (λ p. p.place ≡ index.now.place) }
+    ensures placed { IsPlaced (option_map (λ p. p.seat) passes.new.spare) (option_map (λ s. s.seat) passes.new.held) }
+    ensures held_at { IfSome passes.new.held (λ s. s.place ≡ index.now.place) }
+    ensures held { is_some (option_map (λ s. s.seat) passes.new.held) ≡ true }
+    ensures steps { (s : Setup) → first_version (known_at passes.old.asks.seat).seen ≡ s.opening
+        → IsUnder (known_at passes.old.asks.seat) (holder_view (option_map (λ p. p.seat) passes.old.spare) (option_map (λ s. s.seat) passes.old.held))
+        → Step s Hold result
+        (station passes.old.asks.seat (option_map (λ p. p.seat) passes.old.spare) (option_map (λ s. s.seat) passes.old.held))
+        (station passes.new.asks.seat (option_map (λ p. p.seat) passes.new.spare) (option_map (λ s. s.seat) passes.new.held)) }
+{
+    let Some(second) = passes.spare.take() else {
+        unreachable!();
+    };
+    let (snapshot, outcome) = hold(index, &mut passes.asks, second);
+    passes.held = Some(snapshot);
+    outcome
+}
+
+/// Asks the snapshot.
+pub fn ask_snapshot<N: Named>(
+    alloc: Global,
+    origin: &Name,
+    passes: &mut Passes<'_, N>,
+    question: &Question,
+    item: &mut [u8; 4096],
+    walker: &mut Walker,
+) -> Result<Outcome, AllocError>
+    requires here { IsSome passes.old.asks.seat }
+    requires placed { IsPlaced (option_map (λ p. p.seat) passes.old.spare) (option_map (λ s. s.seat) passes.old.held) }
+    requires taken { is_some (option_map (λ s. s.seat) passes.old.held) ≡ true }
+    ensures same { IfOk result (λ _. passes.new ≡ passes.old) }
+    ensures steps { (s : Setup) → s.origin ≡ origin.now → first_version (known_at passes.old.asks.seat).seen ≡ s.opening
+        → IsUnder (known_at passes.old.asks.seat) (holder_view (option_map (λ p. p.seat) passes.old.spare) (option_map (λ s. s.seat) passes.old.held))
+        → IfOk result (λ o. Step s (AskHeld (question_view question.now)) o
+        (station passes.old.asks.seat (option_map (λ p. p.seat) passes.old.spare) (option_map (λ s. s.seat) passes.old.held))
+        (station passes.old.asks.seat (option_map (λ p. p.seat) passes.old.spare) (option_map (λ s. s.seat) passes.old.held))) }
+{
+    let Some(mut snapshot) = passes.held.take() else {
+        unreachable!();
+    };
+    let outcome = ask_held(alloc, origin, &mut snapshot, question, item, walker)?;
+    passes.held = Some(snapshot);
+    Ok(outcome)
+}
+
+/// Gives the snapshot back.
+pub fn give_back<N: Named>(passes: &mut Passes<'_, N>) -> Outcome
+    requires here { IsSome passes.old.asks.seat }
+    requires placed { IsPlaced (option_map (λ p. p.seat) passes.old.spare) (option_map (λ s. s.seat) passes.old.held) }
+    requires place { IfSome passes.old.held (λ s. s.place ≡ passes.old.asks.place) }
+    requires taken { is_some (option_map (λ s. s.seat) passes.old.held) ≡ true }
+    ensures same { passes.new.asks ≡ passes.old.asks }
+    ensures places { IfSome passes.new.spare (λ p. p.place ≡ passes.old.asks.place) }
+    ensures placed { IsPlaced (option_map (λ p. p.seat) passes.new.spare) (option_map (λ s. s.seat) passes.new.held) }
+    ensures held { passes.new.held ≡ None }
+    ensures steps { (s : Setup) → first_version (known_at passes.old.asks.seat).seen ≡ s.opening
+        → IsUnder (known_at passes.old.asks.seat) (holder_view (option_map (λ p. p.seat) passes.old.spare) (option_map (λ s. s.seat) passes.old.held))
+        → Step s Release result
+        (station passes.old.asks.seat (option_map (λ p. p.seat) passes.old.spare) (option_map (λ s. s.seat) passes.old.held))
+        (station passes.new.asks.seat (option_map (λ p. p.seat) passes.new.spare) (option_map (λ s. s.seat) passes.new.held)) }
+{
+    let Some(snapshot) = passes.held.take() else {
+        unreachable!();
+    };
+    let (second, outcome) = release(snapshot);
+    passes.spare = Some(second);
+    outcome
+}
+
+/// Both passes. A snapshot that is still held is given back.
+pub fn second_pass<N: Named>(passes: Passes<'_, N>) -> (Pass<N>, Pass<N>)
+    requires placed { IsPlaced (option_map (λ p. p.seat) passes.spare) (option_map (λ s. s.seat) passes.held) }
+    requires place { IfSome passes.spare (λ p. p.place ≡ passes.asks.place) }
+    requires held_at { IfSome passes.held (λ s. s.place ≡ passes.asks.place) }
+    ensures same { result.0 ≡ passes.entry.asks }
+    ensures here { IsSome result.1.seat }
+    ensures place { result.1.place ≡ passes.entry.asks.place }
+    ensures seen { (known_at result.1.seat).seen ≡ (holder_view (option_map (λ p. p.seat) passes.entry.spare) (option_map (λ s. s.seat) passes.entry.held)).seen }
+    ensures pass { (known_at result.1.seat).pass ≡ (holder_view (option_map (λ p. p.seat) passes.entry.spare) (option_map (λ s. s.seat) passes.entry.held)).pass }
+{
+    let Passes { asks, spare, held } = passes;
+    if let Some(snapshot) = held {
+        let (second, _) = release(snapshot);
+        return (asks, second);
+    }
+    let Some(second) = spare else {
+        unreachable!();
+    };
+    (asks, second)
+}
