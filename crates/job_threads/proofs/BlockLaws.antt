@@ -108,7 +108,7 @@ module _ (s : Setup) (operations : List ZoneOperation) (ends : Ending) (old : Kn
       let number : t.version ≡ x.after.seat.version = there_is (λ d. t.version ≡ d.seat.version) second x.after x.new_is last in
       let history : length x.after.seat.place.me.0.seen.history ≡ length x.before.seat.place.me.0.seen.history = ap length x.related.known.history in
       let base : t.version ≡ length x.before.seat.place.me.0.seen.history = number ∙ x.after.seat.version_is ∙ history in
-      let none = there_is (λ d. IsErr {A = Receipt} (Err t) ↔ (d.seat.version ≡ last_version)) second x.after x.new_is spent in
+      let none = there_is (λ d. IsErr {T = Receipt} (Err t) ↔ (d.seat.version ≡ last_version)) second x.after x.new_is spent in
       spent_ran seat t.version back (subst (λ (d : Option Draft). IfSome d (λ d. t.version ≡ length d.seat.place.me.0.seen.history)) (sym x.old_is) base) lost.0 edits is
       (subst (λ (d : Option Draft). IfSome d (λ d. d.seat.version ≡ last_version)) (sym x.new_is) (none.0 refl)) lost.1
 

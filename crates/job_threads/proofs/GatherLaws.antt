@@ -80,18 +80,18 @@ gathers_more s before spare asks ws os views main after spare' asks' n w o g r s
 
 -- ---- passes taken from the end of a list, and put in in front of one
 
-pub popped : {A : Type 0} (P : A → Type 0) (old new : List A) (x : A) → old ≡ new ++ x ∷ [] → All P old → All P new × P x
-popped P old new x is all = split new (subst (All P) is all)
-  where
-    split : (ys : List _) → All P (ys ++ x ∷ []) → All P ys × P x
-    split [] all = ((λ k d l. absurd (omega arith)), all 0 x (omega arith))
-    split (y ∷ ys) all = let more = split ys (λ k d l. all (suc k) d (omega arith)) in (All-cons P y ys (all 0 y (omega arith)) more.0, more.1)
+split_last : {A : Type 0} (ys : List A) (x : A) (P : A → Type 0) → All P (ys ++ x ∷ []) → All P ys × P x
+split_last [] x P all = ((λ k d l. absurd (omega arith)), all 0 x (omega arith))
+split_last (y ∷ ys) x P all = let more = split_last ys x P (λ k d l. all (suc k) d (omega arith)) in (All-cons P y ys (all 0 y (omega arith)) more.0, more.1)
 
-pub two_more : {A : Type 0} (P : A → Type 0) (x y : A) (xs more most : List A) → more ≡ y ∷ xs → most ≡ x ∷ more → P x → P y → All P xs → All P most
-two_more P x y xs more most is_more is_most px py all = subst (All P) (sym (is_most ∙ ap (λ (l : List _). x ∷ l) is_more)) (All-cons P x (y ∷ xs) px (All-cons P y xs py all))
+pub popped : {A : Type 0} (old new : List A) (x : A) (P : A → Type 0) → old ≡ new ++ x ∷ [] → All P old → All P new × P x
+popped old new x P is all = split_last new x P (subst (All P) is all)
 
-pub two_views : {A : Type 0} (known : A → Known) (x y : A) (xs more most : List A) (old : Known) → more ≡ y ∷ xs → most ≡ x ∷ more → known x ≡ old → map known most ≡ old ∷ known y ∷ map known xs
-two_views known x y xs more most old is_more is_most same = ap (map known) (is_most ∙ ap (λ (l : List _). x ∷ l) is_more) ∙ ap (λ (v : Known). v ∷ known y ∷ map known xs) same
+pub two_more : {A : Type 0} (x y : A) (xs more most : List A) (P : A → Type 0) → more ≡ y ∷ xs → most ≡ x ∷ more → P x → P y → All P xs → All P most
+two_more x y xs more most P is_more is_most px py all = subst (All P) (sym (is_most ∙ ap (λ (l : List _). x ∷ l) is_more)) (All-cons P x (y ∷ xs) px (All-cons P y xs py all))
+
+pub two_views : {A : Type 0} (x y : A) (xs more most : List A) (known : A → Known) (old : Known) → more ≡ y ∷ xs → most ≡ x ∷ more → known x ≡ old → map known most ≡ old ∷ known y ∷ map known xs
+two_views x y xs more most known old is_more is_most same = ap (map known) (is_most ∙ ap (λ (l : List _). x ∷ l) is_more) ∙ ap (λ (v : Known). v ∷ known y ∷ map known xs) same
 
 new_split : (opening : Entries) (xs ys : List Known) → AreNew opening (xs ++ ys) → AreNew opening xs × AreNew opening ys
 new_split opening [] ys new = (tt, new)
@@ -99,7 +99,7 @@ new_split opening (x ∷ xs) ys new = let more = new_split opening xs ys new.1 i
 
 -- ---- one more worker, of all passes
 
-module _ {A : Type 0} (known : A → Known) (s : Setup) (passes front rest : List A) (spare asks : A) (last : passes ≡ front ++ asks ∷ []) (next : front ≡ rest ++ spare ∷ []) (new : AreNew s.opening (map known passes)) where
+module _ {A : Type 0} (passes front rest : List A) (spare asks : A) (known : A → Known) (s : Setup) (last : passes ≡ front ++ asks ∷ []) (next : front ≡ rest ++ spare ∷ []) (new : AreNew s.opening (map known passes)) where
   views_are : map known passes ≡ map known rest ++ known spare ∷ known asks ∷ []
   views_are =
       ap (map known) (last ∙ ap (λ (l : List A). l ++ asks ∷ []) next ∙ append_assoc rest (spare ∷ []) (asks ∷ []))
@@ -127,9 +127,12 @@ module _ {A : Type 0} (known : A → Known) (s : Setup) (passes front rest : Lis
       (ap number_of holder.is_own ∙ ap (λ (n : ℕ). n + 1) (holder.numbered ∙ sym r.holder) ∙ sym (ap number_of r.work.is_holder)) told l)
 
 -- what one more worker comes to, if there is memory for it
-pub gathers_done : {G E : Type 0} (outcomes_of : G → List Outcomes) (views_of' : G → List Known) (main_of : G → Known) (r : Result G E) (s : Setup) (before : List Known) (ws : List (List Command)) (os : List Outcomes) (views : List Known) (main seen : Known)
+pub gathers_done : {G E : Type 0} (r : Result G E) (outcomes_of : G → List Outcomes) (views_of' : G → List Known) (main_of : G → Known) (s : Setup) (before : List Known) (ws : List (List Command)) (os : List Outcomes) (views : List Known) (main seen : Known)
     → IfOk r (λ g. outcomes_of g ≡ os) → IfOk r (λ g. views_of' g ≡ views) → IfOk r (λ g. Learnt main (main_of g) seen.seen) → ((after : Known) → Learnt main after seen.seen → Gathers s before ws os views after)
     → IfOk r (λ g. Gathers s before ws (outcomes_of g) (views_of' g) (main_of g))
-gathers_done outcomes_of views_of' main_of (Ok g) s before ws os views main seen is_os is_views learnt gathers =
+gathers_done (Ok g) outcomes_of views_of' main_of s before ws os views main seen is_os is_views learnt gathers =
     subst (λ (l : List Outcomes). Gathers s before ws l (views_of' g) (main_of g)) (sym is_os) (subst (λ (l : List Known). Gathers s before ws os l (main_of g)) (sym is_views) (gathers (main_of g) learnt))
-gathers_done outcomes_of views_of' main_of (Err e) s before ws os views main seen is_os is_views learnt gathers = tt
+gathers_done (Err e) outcomes_of views_of' main_of s before ws os views main seen is_os is_views learnt gathers = tt
+
+pub at_ok : {A E : Type 0} (r : Result A E) (x : A) (P : A → Type 0) → r ≡ Ok x → IfOk r P → P x
+at_ok r x P is h = subst (λ (q : Result _ _). IfOk q P) is h

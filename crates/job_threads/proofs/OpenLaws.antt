@@ -1,7 +1,7 @@
 -- An index that was opened on the entries of a zone's version.
-use Rattle.std.proofs.Common.{◌≡◌, ◌∙◌, inl, inr, List, [], ◌∷◌, map, Option, Some, refl, sym, ap, subst}
+use Rattle.std.proofs.Common.{◌≡◌, ◌∙◌, inl, inr, ℕ, List, [], ◌∷◌, map, Option, Some, refl, sym, ap, subst}
 use Rattle.std.specs.Prelude.{IsSome}
-use Rattle.std.specs.List.{AllByRecursion}
+use Rattle.std.specs.List.{All, AllByRecursion}
 use Rattle.std.specs.List.Sorted.{IsStrictlySortedBy}
 use Rattle.std.specs.Map.{keys_of}
 use Rattle.std.specs.declared.cmp.Ordering.TheVariants.{Less as IsLess}
@@ -20,6 +20,7 @@ use Rattle.job_threads.specs.Histories.{Entries, IsZone}
 use Rattle.job_threads.specs.Stations.{Seat}
 use Rattle.job_threads.specs.Works.{IsNew, AreNew}
 use Rattle.job_threads.proofs.ShowLaws.{seat_pass}
+use Rattle.job_threads.proofs.CloseLaws.{all_rec}
 
 -- ---- they rise
 
@@ -40,14 +41,14 @@ zone_rises es z = subst Rises z.stands.entries (entries_rise z.version z.stands.
 
 -- ---- its passes have asked and committed nothing
 
-module _ {A : Type 0} (seat_of : A → Option Seat) (es : Entries) where
+module _ {A : Type 0} (ps : List A) (seat_of : A → Option Seat) (es : Entries) where
   abbrev pub IsFirst : A → Type 0
   IsFirst p = IsSome (seat_of p) × SeesFirst es (known_at (seat_of p))
 
   abbrev pub IsUnused : A → Type 0
   IsUnused p = (commits_in (known_at (seat_of p)).pass ≡ []) × (pinned_in (known_at (seat_of p)).pass ≡ [])
 
-  new_pass : (p : A) → IsFirst p → IsUnused p → (number : _) × IsNew number es (known_at (seat_of p))
+  new_pass : (p : A) → IsFirst p → IsUnused p → (number : ℕ) × IsNew number es (known_at (seat_of p))
   new_pass p first unused =
       let own = seat_pass (seat_of p) first.0 in
       (
@@ -63,6 +64,11 @@ module _ {A : Type 0} (seat_of : A → Option Seat) (es : Entries) where
         },
       )
 
-  pub new_passes : (ps : List A) → AllByRecursion IsFirst ps → AllByRecursion IsUnused ps → AreNew es (map (λ p. known_at (seat_of p)) ps)
-  new_passes [] first unused = tt
-  new_passes (p ∷ ps) first unused = (new_pass p first.0 unused.0, new_passes ps first.1 unused.1)
+  new_each : (xs : List A) → AllByRecursion IsFirst xs → AllByRecursion IsUnused xs → AreNew es (map (λ p. known_at (seat_of p)) xs)
+  new_each [] first unused = tt
+  new_each (p ∷ xs) first unused = (new_pass p first.0 unused.0, new_each xs first.1 unused.1)
+
+  -- at a place of their index
+  pub new_passes : (at_place : A → Type 0) → All (λ p. IsSome (seat_of p) × at_place p × SeesFirst es (known_at (seat_of p))) ps → All IsUnused ps → AreNew es (map (λ p. known_at (seat_of p)) ps)
+  new_passes at_place first unused =
+      new_each ps (all_rec IsFirst ps (λ k d l. let f = first k d l in (f.0, f.2))) (all_rec IsUnused ps unused)
