@@ -125,6 +125,14 @@ stopped_ran s operations ends old first second told opening begins seat version 
     full_ran s operations ends old o first second told opening begins seat version back base stopped.1 operation kept edits chunks passes stopped.0
 stopped_ran s operations ends old first second told opening begins seat version (halts.Full operation kept) (Err e) back base edits chunks passes stopped = tt
 
+-- the same of a pass that is known by another name
+
+pub ran_as : (s : Setup) (operations : List ZoneOperation) (ends : Ending) (old new new' : Known) (o : Outcome) → BlockRan s operations ends old new o → new' ≡ new → BlockRan s operations ends old new' o
+ran_as s operations ends old new new' o ran same = subst (λ (v : Known). BlockRan s operations ends old v o) (sym same) ran
+
+pub result_as : (s : Setup) (operations : List ZoneOperation) (ends : Ending) (old new new' : Known) (r : Result Outcome AllocError) → IfOk r (BlockRan s operations ends old new) → new' ≡ new → IfOk r (BlockRan s operations ends old new')
+result_as s operations ends old new new' r ran same = subst (λ (v : Known). IfOk r (BlockRan s operations ends old v)) (sym same) ran
+
 -- ---- a transaction that was dropped
 
 pub if_there : {P : Type 0} (told : Version → Draft → Type 0) (first second : Option Draft) → Edits told first second → IfSome second (λ _. P) → P
