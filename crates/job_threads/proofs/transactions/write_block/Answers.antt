@@ -27,9 +27,9 @@ returns-in-Commit-clause-ran g c = λ s setup.
 
 pub returns-clause-ran : goal.returns-clause-ran
 returns-clause-ran g c = λ s setup.
-    ran_as s _ _ _ (known_at c.drop-write-in-Rollback.new.self.0.seat) _ _
+    ran_as s _ _ _ (known_at c.drop-write-2.new.self.0.seat) _ _
     (rollback_ran s (map operation_view c.args.block.now.operations.items) c.args.block.now.ending (known_at c.args.pass.now.seat) _ c.write-write.result.locked.now.draft c.apply_all.new.transaction.locked.now.draft
-        (seat_told c.args.pass.now.seat c.requires.here) setup.opening c.write-write.ensures.begins c.drop-write-in-Rollback.new.self.0.seat c.version-version.result c.drop-write-in-Rollback.ensures.back c.version-version.ensures refl
+        (seat_told c.args.pass.now.seat c.requires.here) setup.opening c.write-write.ensures.begins c.drop-write-2.new.self.0.seat c.version-version.result c.drop-write-2.ensures.back c.version-version.ensures refl
         (edits_as c.args.origin.now s.origin _ _ (Ok tt) _ _ setup.index.origin_is (ap (map operation_view) c.deref.ensures.value) c.in_default.ensures.applies) c.in-Rollback.is refl)
     (search rules)
 
