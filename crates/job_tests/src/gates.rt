@@ -50,94 +50,113 @@ impl Gate for Counting {
     }
 }
 
+/// What one worker tells and another waits for.
+#[derive(Drop)]
+struct Sign {
+    given: AtomicU64,
+    missed: AtomicU64,
+}
+
+impl Sign {
+    fn new() -> Sign {
+        Sign {
+            given: AtomicU64::new(0),
+            missed: AtomicU64::new(0),
+        }
+    }
+
+    fn give(&self) {
+        self.given.store(1, Ordering::SeqCst);
+    }
+
+    // Waits until it was given. Where that takes too long it is missed.
+    fn wait(&self) {
+        for _ in 0..TURNS {
+            if self.given.load(Ordering::SeqCst) != 0 {
+                return;
+            }
+            thread::yield_now();
+        }
+        self.missed.store(1, Ordering::SeqCst);
+    }
+
+    fn missed(&self) -> u64 {
+        self.missed.load(Ordering::SeqCst)
+    }
+}
+
 /// Two workers, of which neither begins before the other.
 #[derive(Drop)]
 pub struct Meeting {
-    pub first: AtomicU64,
-    pub second: AtomicU64,
-    pub given_up: AtomicU64,
+    first: Sign,
+    second: Sign,
 }
 
 impl Meeting {
     pub fn new() -> Meeting {
         Meeting {
-            first: AtomicU64::new(0),
-            second: AtomicU64::new(0),
-            given_up: AtomicU64::new(0),
+            first: Sign::new(),
+            second: Sign::new(),
         }
     }
 
-    // Waits until it was set.
-    fn wait(&self, other: &AtomicU64) {
-        for _ in 0..TURNS {
-            if other.load(Ordering::SeqCst) != 0 {
-                return;
-            }
-            thread::yield_now();
-        }
-        self.given_up.fetch_add(1, Ordering::SeqCst);
+    /// Not 0 where one has waited for nothing.
+    pub fn missed(&self) -> u64 {
+        self.first.missed() | self.second.missed()
     }
 }
 
 impl Gate for Meeting {
     fn before(&self, worker: u32, _command: u32) {
         if worker == 1 {
-            self.first.store(1, Ordering::SeqCst);
-            self.wait(&self.second);
+            self.first.give();
+            self.second.wait();
         } else {
-            self.second.store(1, Ordering::SeqCst);
-            self.wait(&self.first);
+            self.second.give();
+            self.first.wait();
         }
     }
 
     fn after(&self, _worker: u32, _command: u32) {}
 }
 
-/// The second worker waits until the first has done its first command, and the first until the second is done.
+/// The second worker waits until the first has done its first command, and then the first until the second is done.
 #[derive(Drop)]
 pub struct Overtaking {
-    pub held: AtomicU64,
-    pub written: AtomicU64,
-    pub given_up: AtomicU64,
+    held: Sign,
+    written: Sign,
 }
 
 impl Overtaking {
     pub fn new() -> Overtaking {
         Overtaking {
-            held: AtomicU64::new(0),
-            written: AtomicU64::new(0),
-            given_up: AtomicU64::new(0),
+            held: Sign::new(),
+            written: Sign::new(),
         }
     }
 
-    // Waits until it was set.
-    fn wait(&self, other: &AtomicU64) {
-        for _ in 0..TURNS {
-            if other.load(Ordering::SeqCst) != 0 {
-                return;
-            }
-            thread::yield_now();
-        }
-        self.given_up.fetch_add(1, Ordering::SeqCst);
+    /// Not 0 where one has waited for nothing.
+    pub fn missed(&self) -> u64 {
+        self.held.missed() | self.written.missed()
     }
 }
 
 impl Gate for Overtaking {
     fn before(&self, worker: u32, command: u32) {
         if worker == 2 && command == 1 {
-            self.wait(&self.held);
+            self.held.wait();
         }
         if worker == 1 && command == 2 {
-            self.wait(&self.written);
+            self.written.wait();
         }
     }
 
     fn after(&self, worker: u32, command: u32) {
         if worker == 1 && command == 1 {
-            self.held.store(1, Ordering::SeqCst);
+            self.held.give();
         }
         if worker == 2 && command == 1 {
-            self.written.store(1, Ordering::SeqCst);
+            self.written.give();
         }
     }
 }

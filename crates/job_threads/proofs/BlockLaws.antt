@@ -1,12 +1,12 @@
 -- How a block ends, by what its transaction's calls say.
 use Rattle.std.proofs.Common.{◌≡◌, ◌∙◌, true, ℕ, ◌+◌, ◌*◌, arith, List, Option, Some, None, Result, Ok, Err, IfOk, length, refl, sym, ap, subst}
-use Rattle.std.specs.Prelude.{IsSome, IsSomeAnd, IfSome, slice_get}
+use Rattle.std.specs.Prelude.{◌↔◌, IsSome, IsSomeAnd, IfSome, IfErr, IsErr, slice_get}
 use Rattle.std.specs.Option.{ForSome}
 use Rattle.atomic_table.specs.Seated.{TableId}
 use Rattle.std.specs.declared.alloc.AllocError.{AllocError}
 use Rattle.zone_model.specs.Names.{Name}
 use Rattle.zone_model.specs.declared.Refusal.{Refusal}
-use Rattle.zone_model.specs.Versions.{Operation as ZoneOperation}
+use Rattle.zone_model.specs.Versions.{Version, Operation as ZoneOperation}
 use Rattle.job_model.specs.declared.Ending.{Ending}
 use Rattle.job_model.specs.declared.Ending.TheVariants as ending
 use Rattle.job_model.specs.Outcomes.{Cause, Rule, Full, Spent, Ended, Committed, RolledBack, Refused, last_version}
@@ -16,6 +16,8 @@ use Rattle.shared_cells.specs.declared.pass.PassSeat.{PassSeat}
 use Rattle.shared_cells.specs.Views.{is_told, pass_of}
 use Rattle.trie_model.specs.Keys.{Entry}
 use Rattle.shared_index.specs.declared.meaning.Operation.{Operation}
+use Rattle.pin_core.specs.declared.version.Spent.{Spent as NoNumber}
+use Rattle.shared_index.specs.declared.commit.Receipt.{Receipt}
 use Rattle.shared_index.specs.declared.desk.Draft.{Draft}
 use Rattle.shared_index.specs.declared.kept.Versions.{Versions}
 use Rattle.shared_index.specs.Passes.{Known, first_version, known_at}
@@ -95,6 +97,56 @@ module _ (s : Setup) (operations : List ZoneOperation) (ends : Ending) (old : Kn
         (there_is (λ d. s.chunks ≡ length d.usage.given) second x.after x.new_is chunks)
         (there_is (λ d. s.passes ≡ d.seat.passes) first x.before x.old_is passes ∙ sym x.related.passes) x.related.becomes)
 
+  -- it was to be committed
+  pub committed_ran : (seat : Option Seat) (r : Result Receipt NoNumber) → Edited (Ok tt) → ends ≡ ending.Commit
+      → IfOk r (λ _. IfSome second (λ d. drafts.Commits d.seat.place.me.0 d.log.operations (known_at seat))) → IfOk r (λ t. IfSome second (λ d. t.version ≡ d.seat.version + 1))
+      → IfErr r (λ _. IfSome second (λ d. IsBack d.seat.place.me.0 seat)) → IfSome second (λ d. IsErr r ↔ (d.seat.version ≡ last_version)) → IfErr r (λ t. IfSome second (λ d. t.version ≡ d.seat.version))
+      → IfOk r (λ t. (o.version ≡ t.version) × (ended_view o.told ≡ Committed)) → IfErr r (λ t. (o.version ≡ t.version) × (ended_view o.told ≡ Refused Spent)) → BlockRan s operations ends old (known_at seat) o
+  committed_ran seat (Ok t) edits is commits next back spent last made lost = commit_ran (known_at seat) t.version edits is commits next made.0 made.1
+  committed_ran seat (Err t) edits is commits next back spent last made lost =
+      let x = both (Begins Lawful old) (EditsOne (AppliesAll s.origin operations (Ok tt))) first second begins edits in
+      let number : t.version ≡ x.after.seat.version = there_is (λ d. t.version ≡ d.seat.version) second x.after x.new_is last in
+      let history : length x.after.seat.place.me.0.seen.history ≡ length x.before.seat.place.me.0.seen.history = ap length x.related.known.history in
+      let base : t.version ≡ length x.before.seat.place.me.0.seen.history = number ∙ x.after.seat.version_is ∙ history in
+      let none = there_is (λ d. IsErr {T = Receipt} (Err t) ↔ (d.seat.version ≡ last_version)) second x.after x.new_is spent in
+      spent_ran seat t.version back (subst (λ (d : Option Draft). IfSome d (λ d. t.version ≡ length d.seat.place.me.0.seen.history)) (sym x.old_is) base) lost.0 edits is
+      (subst (λ (d : Option Draft). IfSome d (λ d. d.seat.version ≡ last_version)) (sym x.new_is) (none.0 refl)) lost.1
+
+-- its operations stopped
+pub stopped_ran : (s : Setup) (operations : List ZoneOperation) (ends : Ending) (old : Known) (first second : Option Draft) → is_told old.seen.opening ≡ true → first_version old.seen ≡ s.opening → IsSomeAnd first (Begins Lawful old)
+    → (seat : Option Seat) (version : ℕ) (halt : Halt) (r : Result Outcome AllocError) → IfSome second (λ d. IsBack d.seat.place.me.0 seat) → IfSome first (λ d. version ≡ length d.seat.place.me.0.seen.history) → Edits (AppliesAll s.origin operations (Err halt)) first second
+    → IfSome second (λ d. s.chunks ≡ length d.usage.given) → IfSome first (λ d. s.passes ≡ d.seat.passes) → StoppedBy halt version r → IfOk r (BlockRan s operations ends old (known_at seat))
+stopped_ran s operations ends old first second told opening begins seat version halts.Memory (Ok o) back base edits chunks passes stopped = absurd cc
+stopped_ran s operations ends old first second told opening begins seat version halts.Memory (Err e) back base edits chunks passes stopped = tt
+stopped_ran s operations ends old first second told opening begins seat version (halts.Refused refusal) (Ok o) back base edits chunks passes stopped =
+    refused_ran s operations ends old o first second told opening begins seat version back base stopped.1 refusal edits stopped.0
+stopped_ran s operations ends old first second told opening begins seat version (halts.Refused refusal) (Err e) back base edits chunks passes stopped = tt
+stopped_ran s operations ends old first second told opening begins seat version (halts.Full operation kept) (Ok o) back base edits chunks passes stopped =
+    full_ran s operations ends old o first second told opening begins seat version back base stopped.1 operation kept edits chunks passes stopped.0
+stopped_ran s operations ends old first second told opening begins seat version (halts.Full operation kept) (Err e) back base edits chunks passes stopped = tt
+
+-- the same of a pass that is known by another name
+
+pub ran_as : (s : Setup) (operations : List ZoneOperation) (ends : Ending) (old new new' : Known) (o : Outcome) → BlockRan s operations ends old new o → new' ≡ new → BlockRan s operations ends old new' o
+ran_as s operations ends old new new' o ran same = subst (λ (v : Known). BlockRan s operations ends old v o) (sym same) ran
+
+pub result_as : (s : Setup) (operations : List ZoneOperation) (ends : Ending) (old new new' : Known) (r : Result Outcome AllocError) → IfOk r (BlockRan s operations ends old new) → new' ≡ new → IfOk r (BlockRan s operations ends old new')
+result_as s operations ends old new new' r ran same = subst (λ (v : Known). IfOk r (BlockRan s operations ends old v)) (sym same) ran
+
+-- ---- a transaction that was dropped
+
+pub if_there : {P : Type 0} (told : Version → Draft → Type 0) (first second : Option Draft) → Edits told first second → IfSome second (λ _. P) → P
+if_there told (Some d) (Some e) edits p = p
+if_there told (Some d) None edits p = absurd edits
+if_there told None (Some e) edits p = absurd edits
+if_there told None None edits p = absurd edits
+
+pub back_there : (told : Version → Draft → Type 0) (first second : Option Draft) (seat : Option Seat) → Edits told first second → IfSome second (λ d. IsBack d.seat.place.me.0 seat) → IsSome seat
+back_there told (Some d) (Some e) seat edits back = back.0
+back_there told (Some d) None seat edits back = absurd edits
+back_there told None (Some e) seat edits back = absurd edits
+back_there told None None seat edits back = absurd edits
+
 -- ---- what calls ask of a transaction
 
 module _ (old : Known) (first : Option Draft) (begins : IsSomeAnd first (Begins Lawful old)) where
@@ -117,6 +169,15 @@ module _ (old : Known) (first : Option Draft) (begins : IsSomeAnd first (Begins 
 
     pub after_zone : IsSomeAnd second (λ d. IsZone (working_set d))
     after_zone = some_weaker WorksOnSome (λ d. IsZone (working_set d)) second (λ d w. record { version = w.version; stands = record { valid = w.on.valid; entries = sym w.on.set } }) works_still
+
+-- what was edited, in the words of a setup
+pub edits_as : (origin origin' : Name) (operations operations' : List ZoneOperation) (r : Result (Unit {0}) Halt) (first second : Option Draft) → origin' ≡ origin → operations ≡ operations' → Edits (AppliesAll origin operations r) first second → Edits (AppliesAll origin' operations' r) first second
+edits_as origin origin' operations operations' r first second e f edits =
+    subst (λ (o : Name). Edits (AppliesAll o operations' r) first second) (sym e) (subst (λ (os : List ZoneOperation). Edits (AppliesAll origin os r) first second) f edits)
+
+pub has_passes : (s : Setup) (passes : ℕ) (first : Option Draft) → s.passes ≡ passes → IsSomeAnd first (λ d. d.seat.passes ≡ passes) → IfSome first (λ d. s.passes ≡ d.seat.passes)
+has_passes s passes (Some d) same has = same ∙ sym has
+has_passes s passes None same has = absurd has
 
 -- ---- a transaction has as many chunks as its index, by the table that both are on
 

@@ -22,7 +22,7 @@ Own = PassView (List Operation)
 
 -- ---- elements
 
-all_rec : {A : Type 0} (P : A → Type 0) (xs : List A) → All P xs → AllByRecursion P xs
+pub all_rec : {A : Type 0} (P : A → Type 0) (xs : List A) → All P xs → AllByRecursion P xs
 all_rec P [] h = tt
 all_rec P (x ∷ xs) h = (h 0 x (omega arith), all_rec P xs (λ k d l. h (suc k) d (omega arith)))
 

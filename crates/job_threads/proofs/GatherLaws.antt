@@ -1,17 +1,20 @@
 -- Workers that are done, one after another.
-use Rattle.std.proofs.Common.{true, ◌≡◌, ◌∙◌, ◌⊎◌, inl, inr, ⊎_elim, ℕ, List, [], ◌∷◌, ◌++◌, length, map, Option, Some, refl, sym, ap, subst, arith}
+use Rattle.std.proofs.Common.{true, ◌≡◌, ◌∙◌, ◌⊎◌, inl, inr, ⊎_elim, ℕ, suc, ◌+◌, ◌<◌, List, [], ◌∷◌, ◌++◌, length, map, Option, Some, Result, Ok, Err, IfOk, refl, sym, ap, subst, arith, append_assoc}
 use Rattle.std.specs.Prelude.{Contains}
-use Rattle.std.specs.List.{AllByRecursion}
+use Rattle.std.specs.List.{All, AllByRecursion}
 use Rattle.std.proofs.lemmas.List.{map-append}
-use Rattle.std.proofs.lemmas.List.Elements.{Contains-append_left, Contains-append_right, Contains-append_cases}
+use Rattle.std.proofs.lemmas.List.Elements.{All-cons, Contains-append_left, Contains-append_right, Contains-append_cases}
 use Rattle.pin_core.proofs.Lists.{contains_cases}
+use Rattle.zone_model.specs.Names.{Name}
 use Rattle.job_model.specs.Commands.{Command}
 use Rattle.job_script.specs.declared.outcomes.Outcomes.{Outcomes}
+use Rattle.shared_cells.specs.declared.view.TableSize.{TableSize}
 use Rattle.shared_cells.specs.History.{StartsWith}
 use Rattle.shared_cells.specs.Views.{number_of, is_told}
 use Rattle.shared_index.specs.Passes.{Known, Learnt}
-use Rattle.job_threads.specs.Histories.{Setup}
-use Rattle.job_threads.specs.Works.{IsNew, Numbers, WorkerRan, ended}
+use Rattle.job_threads.specs.Histories.{Setup, Entries}
+use Rattle.job_threads.specs.Commands.{IsIndex, IsSetup}
+use Rattle.job_threads.specs.Works.{IsNew, AreNew, Begins, Numbers, WorkerRan, ended}
 use Rattle.job_threads.specs.Closings.{Worker, workers_views, views_of, numbers_in, commands_in, outcomes_in, Gathers}
 use Rattle.job_threads.proofs.HistoryLaws.{begins_more, opened_same}
 use Rattle.job_threads.proofs.JobLaws.{here, there}
@@ -74,3 +77,62 @@ gathers_more s before spare asks ws os views main after spare' asks' n w o g r s
     main_same : (vs : List Known) → numbers_in (vs ++ main ∷ []) ≡ numbers_in (vs ++ after ∷ [])
     main_same [] = ap (λ p. number_of p ∷ []) (sym l.pass)
     main_same (v ∷ vs) = ap (λ (ks : List ℕ). number_of v.pass ∷ ks) (main_same vs)
+
+-- ---- passes taken from the end of a list, and put in in front of one
+
+split_last : {A : Type 0} (ys : List A) (x : A) (P : A → Type 0) → All P (ys ++ x ∷ []) → All P ys × P x
+split_last [] x P all = ((λ k d l. absurd (omega arith)), all 0 x (omega arith))
+split_last (y ∷ ys) x P all = let more = split_last ys x P (λ k d l. all (suc k) d (omega arith)) in (All-cons P y ys (all 0 y (omega arith)) more.0, more.1)
+
+pub popped : {A : Type 0} (old new : List A) (x : A) (P : A → Type 0) → old ≡ new ++ x ∷ [] → All P old → All P new × P x
+popped old new x P is all = split_last new x P (subst (All P) is all)
+
+pub two_more : {A : Type 0} (x y : A) (xs more most : List A) (P : A → Type 0) → more ≡ y ∷ xs → most ≡ x ∷ more → P x → P y → All P xs → All P most
+two_more x y xs more most P is_more is_most px py all = subst (All P) (sym (is_most ∙ ap (λ (l : List _). x ∷ l) is_more)) (All-cons P x (y ∷ xs) px (All-cons P y xs py all))
+
+pub two_views : {A : Type 0} (x y : A) (xs more most : List A) (known : A → Known) (old : Known) → more ≡ y ∷ xs → most ≡ x ∷ more → known x ≡ old → map known most ≡ old ∷ known y ∷ map known xs
+two_views x y xs more most known old is_more is_most same = ap (map known) (is_most ∙ ap (λ (l : List _). x ∷ l) is_more) ∙ ap (λ (v : Known). v ∷ known y ∷ map known xs) same
+
+new_split : (opening : Entries) (xs ys : List Known) → AreNew opening (xs ++ ys) → AreNew opening xs × AreNew opening ys
+new_split opening [] ys new = (tt, new)
+new_split opening (x ∷ xs) ys new = let more = new_split opening xs ys new.1 in ((new.0, more.0), more.1)
+
+-- ---- one more worker, of all passes
+
+module _ {A : Type 0} (passes front rest : List A) (spare asks : A) (known : A → Known) (s : Setup) (last : passes ≡ front ++ asks ∷ []) (next : front ≡ rest ++ spare ∷ []) (new : AreNew s.opening (map known passes)) where
+  views_are : map known passes ≡ map known rest ++ known spare ∷ known asks ∷ []
+  views_are =
+      ap (map known) (last ∙ ap (λ (l : List A). l ++ asks ∷ []) next ∙ append_assoc rest (spare ∷ []) (asks ∷ []))
+      ∙ map-append known rest (spare ∷ asks ∷ [])
+
+  parts : AreNew s.opening (map known rest) × AreNew s.opening (known spare ∷ known asks ∷ [])
+  parts = new_split s.opening (map known rest) (known spare ∷ known asks ∷ []) (subst (AreNew s.opening) views_are new)
+
+  pub others_new : AreNew s.opening (map known rest)
+  others_new = parts.0
+
+  numbers : Numbers
+  numbers = record { asker = parts.1.1.0.0; holder = parts.1.0.0 }
+
+  pub gathers_worker : (origin : Name) (size : TableSize) → IsIndex s origin size → (ws : List (List Command)) (os : List Outcomes) (views : List Known) (main after spare' asks' : Known) (w : List Command) (o : Outcomes) → Gathers s (map known rest) ws os views main
+      → ((n : Numbers) → IsSetup s origin size (known asks) → Begins s n (known asks) (known spare) → WorkerRan s n (ended asks' spare') w o.list.items) → is_told main.seen.opening ≡ true → Learnt main after asks'.seen
+      → Gathers s (map known passes) (w ∷ ws) (o ∷ os) (asks' ∷ spare' ∷ views) after
+  gathers_worker origin size index ws os views main after spare' asks' w o g runs told l =
+      let asker = parts.1.1.0.1 in
+      let holder = parts.1.0.1 in
+      let r = runs numbers (record { index = index; opening = asker.opened }) (record { asker = asker; holder = holder }) in
+      subst (λ (vs : List Known). Gathers s vs (w ∷ ws) (o ∷ os) (asks' ∷ spare' ∷ views) after) (sym views_are)
+      (gathers_more s (map known rest) (known spare) (known asks) ws os views main after spare' asks' numbers w o g r
+      (ap number_of asker.is_own ∙ ap (λ (n : ℕ). n + 1) (asker.numbered ∙ sym r.asker) ∙ sym (ap number_of r.work.is_asker))
+      (ap number_of holder.is_own ∙ ap (λ (n : ℕ). n + 1) (holder.numbered ∙ sym r.holder) ∙ sym (ap number_of r.work.is_holder)) told l)
+
+-- what one more worker comes to, if there is memory for it
+pub gathers_done : {G E : Type 0} (r : Result G E) (outcomes_of : G → List Outcomes) (views_of' : G → List Known) (main_of : G → Known) (s : Setup) (before : List Known) (ws : List (List Command)) (os : List Outcomes) (views : List Known) (main seen : Known)
+    → IfOk r (λ g. outcomes_of g ≡ os) → IfOk r (λ g. views_of' g ≡ views) → IfOk r (λ g. Learnt main (main_of g) seen.seen) → ((after : Known) → Learnt main after seen.seen → Gathers s before ws os views after)
+    → IfOk r (λ g. Gathers s before ws (outcomes_of g) (views_of' g) (main_of g))
+gathers_done (Ok g) outcomes_of views_of' main_of s before ws os views main seen is_os is_views learnt gathers =
+    subst (λ (l : List Outcomes). Gathers s before ws l (views_of' g) (main_of g)) (sym is_os) (subst (λ (l : List Known). Gathers s before ws os l (main_of g)) (sym is_views) (gathers (main_of g) learnt))
+gathers_done (Err e) outcomes_of views_of' main_of s before ws os views main seen is_os is_views learnt gathers = tt
+
+pub at_ok : {A E : Type 0} (r : Result A E) (x : A) (P : A → Type 0) → r ≡ Ok x → IfOk r P → P x
+at_ok r x P is h = subst (λ (q : Result _ _). IfOk q P) is h

@@ -9,3 +9,4 @@ pub mod TransactLaws
 pub mod BlockLaws
 pub mod GatherLaws
 pub mod EndLaws
+pub mod OpenLaws

@@ -5,7 +5,7 @@ ghost use Rattle.std.specs.Thread.{IsSync};
 ghost use Rattle.zone_model.specs.Versions.{Version};
 ghost use Rattle.job_model.specs.Commands.{InTurn};
 ghost use Rattle.job_model.specs.Outcomes.{passes_for};
-ghost use Rattle.job_script.specs.Views.{command_view, job_view, workers_view};
+ghost use Rattle.job_script.specs.Views.{job_view, worker_view, workers_view};
 ghost use Rattle.shared_index.specs.Passes.{known_at, Learnt};
 ghost use Rattle.shared_index.specs.Closings.{AreAll};
 ghost use Rattle.job_threads.specs.Histories.{Setup, StandsAs};
@@ -114,23 +114,25 @@ fn run_workers<R: Threads + Wait + Sync, N: Named + Send + Sync, G: Gate>(
     let Some(spare) = passes.pop() else {
         unreachable!();
     };
-    let task = Task {
-        number,
-        commands: &worker.commands,
-        asks,
-        spare,
-    };
     let next = number.saturating_add(1);
     let first = move || -> Result<Done<N>, AllocError>
-        requires here { (IsSome task.asks.seat) × (IsSome task.spare.seat) }
-        requires places { (task.asks.place ≡ index.now.place) × (task.spare.place ≡ index.now.place) }
-        requires in_turn { InTurn false (map command_view task.commands.now) }
+        requires here { (IsSome asks.seat) × (IsSome spare.seat) }
+        requires places { (asks.place ≡ index.now.place) × (spare.place ≡ index.now.place) }
+        requires in_turn { InTurn false (worker_view worker.now) }
         ensures here { IfOk result (λ d. (IsSome d.asks.seat) × (IsSome d.spare.seat)) }
         ensures places { IfOk result (λ d. (d.asks.place ≡ index.entry.now.place) × (d.spare.place ≡ index.entry.now.place)) }
-        ensures ran { (s : Setup) (numbers : Numbers) → IsSetup s origin.entry.now index.entry.now.shared.table.shared.key (known_at task.entry.asks.seat)
-            → Begins s numbers (known_at task.entry.asks.seat) (known_at task.entry.spare.seat)
-            → IfOk result (λ d. WorkerRan s numbers (ended (known_at d.asks.seat) (known_at d.spare.seat)) (map command_view task.entry.commands.now) d.outcomes.list.items) }
-    { run_worker(rt, alloc, origin, index, task, gate) };
+        ensures ran { (s : Setup) (numbers : Numbers) → IsSetup s origin.entry.now index.entry.now.shared.table.shared.key (known_at asks.seat)
+            → Begins s numbers (known_at asks.seat) (known_at spare.seat)
+            → IfOk result (λ d. WorkerRan s numbers (ended (known_at d.asks.seat) (known_at d.spare.seat)) (worker_view worker.entry.now) d.outcomes.list.items) }
+    {
+        let task = Task {
+            number,
+            commands: &worker.commands,
+            asks,
+            spare,
+        };
+        run_worker(rt, alloc, origin, index, task, gate)
+    };
     let rest = move || -> Result<Gathered<N>, AllocError>
         requires sync { IsSync R.row }
         requires count { length passes.items ≡ 2 * length others.now + 1 }

@@ -1,5 +1,6 @@
 //! Transactions.
-ghost use Rattle.std.specs.Prelude.{◌≡◌, IsSome, IfOk, map};
+ghost use Rattle.std.specs.Prelude.{◌≡◌, IsSome, IfOk, IfErr, map};
+ghost use Rattle.job_model.specs.Outcomes.{Committed, Refused, Spent as NoNumber};
 ghost use Rattle.job_script.specs.Outcomes.{ended_view};
 ghost use Rattle.job_script.specs.Views.{operation_view};
 ghost use Rattle.shared_index.specs.Passes.{known_at};
@@ -11,7 +12,7 @@ use crate::law::ZoneLaw;
 use dns_name::Name;
 use job_model::{Ending, Weight};
 use job_script::{Block, Cause, Outcome, Told};
-use shared_index::{Index, Locked, Named, Pass, Versions};
+use shared_index::{Index, Locked, Named, Pass, Receipt, Spent, Versions};
 use std::alloc::{AllocError, Global};
 use std::sync::Wait;
 use zone_change::ItemBuffers;
@@ -21,11 +22,7 @@ use zone_edit::{Halt, apply_all};
 fn kept_list(alloc: Global, kept: &Versions) -> Result<Vec<u64>, AllocError>
     ensures { IfOk result (λ list. list.items ≡ versions_in kept.now) }
 {
-    let mut list = Vec::new(alloc);
-    for version in kept.as_slice() {
-        list.push(*version)?;
-    }
-    Ok(list)
+    kept.as_slice().iter().copied().collect(alloc)
 }
 
 // How a block ends whose operations stopped.
@@ -44,6 +41,23 @@ fn stopped(alloc: Global, version: u64, halt: Halt) -> Result<Outcome, AllocErro
         version,
         told: Told::Refused(cause),
     })
+}
+
+// How a block ends that was to be committed.
+fn committed(receipt: Result<Receipt, Spent>) -> Outcome
+    ensures made { IfOk receipt (λ r. (result.version ≡ r.version) × (ended_view result.told ≡ Committed)) }
+    ensures spent { IfErr receipt (λ s. (result.version ≡ s.version) × (ended_view result.told ≡ Refused NoNumber)) }
+{
+    match receipt {
+        Ok(receipt) => Outcome {
+            version: receipt.version,
+            told: Told::Committed,
+        },
+        Err(spent) => Outcome {
+            version: spent.version,
+            told: Told::Refused(Cause::Spent),
+        },
+    }
 }
 
 // Runs a block as a light transaction, by way of buffers for items.
@@ -67,24 +81,15 @@ fn write_block<R: Wait, N: Named>(
     let mut locked = Locked::of(index);
     let mut write = index.write(rt, &mut locked, pass);
     let version = write.version();
-    match apply_all(alloc, origin, &mut write, &block.operations, buffers) {
-        Ok(()) => match block.ending {
-            Ending::Commit => match write.commit() {
-                Ok(receipt) => Ok(Outcome {
-                    version: receipt.version,
-                    told: Told::Committed,
-                }),
-                Err(spent) => Ok(Outcome {
-                    version: spent.version,
-                    told: Told::Refused(Cause::Spent),
-                }),
-            },
-            Ending::Rollback => Ok(Outcome {
-                version,
-                told: Told::RolledBack,
-            }),
-        },
-        Err(halt) => stopped(alloc, version, halt),
+    if let Err(halt) = apply_all(alloc, origin, &mut write, &block.operations, buffers) {
+        return stopped(alloc, version, halt);
+    }
+    match block.ending {
+        Ending::Commit => Ok(committed(write.commit())),
+        Ending::Rollback => Ok(Outcome {
+            version,
+            told: Told::RolledBack,
+        }),
     }
 }
 
@@ -109,27 +114,18 @@ fn update_block<R: Wait, N: Named>(
     let mut locked = Locked::of(index);
     let mut update = index.update(rt, &mut locked, pass);
     let version = update.version();
-    match apply_all(alloc, origin, &mut update, &block.operations, buffers) {
-        Ok(()) => match block.ending {
-            Ending::Commit => match update.commit() {
-                Ok(receipt) => Ok(Outcome {
-                    version: receipt.version,
-                    told: Told::Committed,
-                }),
-                Err(spent) => Ok(Outcome {
-                    version: spent.version,
-                    told: Told::Refused(Cause::Spent),
-                }),
-            },
-            Ending::Rollback => {
-                update.rollback();
-                Ok(Outcome {
-                    version,
-                    told: Told::RolledBack,
-                })
-            }
-        },
-        Err(halt) => stopped(alloc, version, halt),
+    if let Err(halt) = apply_all(alloc, origin, &mut update, &block.operations, buffers) {
+        return stopped(alloc, version, halt);
+    }
+    match block.ending {
+        Ending::Commit => Ok(committed(update.commit())),
+        Ending::Rollback => {
+            update.rollback();
+            Ok(Outcome {
+                version,
+                told: Told::RolledBack,
+            })
+        }
     }
 }
 

@@ -1,33 +1,45 @@
-use Rattle.std.proofs.Common.{rules, ◌≡◌, ◌∙◌, ℕ, ◌+◌, ◌*◌, List, Ok, Err, Result, refl, ap, sym, subst, map}
+use Rattle.std.proofs.Common.{rules, ◌≡◌, ◌∙◌, ◌+◌, ◌*◌, Ok, Err, refl, ap, map}
 use Rattle.job_script.specs.Views.{operation_view}
-use Rattle.job_script.specs.declared.operations.Operation.{Operation}
 use Rattle.shared_index.specs.Passes.{known_at}
-use Rattle.zone_edit.specs.Stores.{Edits}
-use Rattle.zone_edit.specs.Blocks.{AppliesAll}
 use Rattle.job_threads.proofs.ShowLaws.{seat_told}
-use Rattle.job_threads.proofs.BlockLaws.{begun_there, begun_works, after_works, after_zone, commit_ran, rollback_ran, spent_ran, refused_ran, full_ran}
+use Rattle.job_threads.proofs.BlockLaws.{begun_works, after_works, after_zone, edits_as, committed_ran, rollback_ran, stopped_ran, ran_as, result_as, has_passes, full_chunks}
 use Rattle.job_threads.proofs.transactions.write_block.Goals as goal
-
-pub version-requires : goal.version-requires
-version-requires g c = begun_there (known_at c.args.pass.now.seat) c.write-write.result.locked.now.draft c.write-write.ensures.begins
 
 pub apply_all-requires : goal.apply_all-requires
 apply_all-requires g c = begun_works (known_at c.args.pass.now.seat) c.write-write.result.locked.now.draft c.write-write.ensures.begins
 
 pub commit-requires-clause-works : goal.commit-requires-clause-works
 commit-requires-clause-works g c =
-    after_works (known_at c.args.pass.now.seat) c.write-write.result.locked.now.draft c.write-write.ensures.begins c.args.origin.now (map operation_view c.deref.result.now) c.apply_all.new.transaction.locked.now.draft c.in-Ok.ensures.applies
+    after_works (known_at c.args.pass.now.seat) c.write-write.result.locked.now.draft c.write-write.ensures.begins c.args.origin.now (map operation_view c.deref.result.now) c.apply_all.new.transaction.locked.now.draft c.in_default.ensures.applies
 
 pub commit-requires-clause-lawful : goal.commit-requires-clause-lawful
 commit-requires-clause-lawful g c =
-    after_zone (known_at c.args.pass.now.seat) c.write-write.result.locked.now.draft c.write-write.ensures.begins c.args.origin.now (map operation_view c.deref.result.now) c.apply_all.new.transaction.locked.now.draft c.in-Ok.ensures.applies
+    after_zone (known_at c.args.pass.now.seat) c.write-write.result.locked.now.draft c.write-write.ensures.begins c.args.origin.now (map operation_view c.deref.result.now) c.apply_all.new.transaction.locked.now.draft c.in_default.ensures.applies
 
--- what was edited, in the words of the setup
-edited : (origin origin' : _) (operations : _) (r : Result _ _) (first second : _) → origin' ≡ origin → Edits (AppliesAll origin operations r) first second → Edits (AppliesAll origin' operations r) first second
-edited origin origin' operations r first second e edits = subst (λ o. Edits (AppliesAll o operations r) first second) (sym e) edits
+pub returns-in-Commit-clause-ran : goal.returns-in-Commit-clause-ran
+returns-in-Commit-clause-ran g c = λ s setup.
+    ran_as s _ _ _ (known_at c.commit.new.self.0.seat) _ _
+    (committed_ran s (map operation_view c.args.block.now.operations.items) c.args.block.now.ending (known_at c.args.pass.now.seat) c.committed.result c.write-write.result.locked.now.draft c.apply_all.new.transaction.locked.now.draft
+        (seat_told c.args.pass.now.seat c.requires.here) setup.opening c.write-write.ensures.begins c.commit.new.self.0.seat c.commit.result
+        (edits_as c.args.origin.now s.origin _ _ (Ok tt) _ _ setup.index.origin_is (ap (map operation_view) c.deref.ensures.value) c.in_default.ensures.applies)
+        c.in-Commit.is c.commit.ensures.commits c.commit.ensures.version c.commit.ensures.back c.commit.ensures.spent c.commit.ensures.last c.committed.ensures.made c.committed.ensures.spent)
+    (search rules)
 
-pub returns-in-Ok-commit-clause-ran : goal.returns-in-Ok-commit-clause-ran
-returns-in-Ok-commit-clause-ran g c = λ s setup.
-    commit_ran s (map operation_view c.args.block.now.operations.items) c.args.block.now.ending (known_at c.args.pass.now.seat) _ c.write-write.result.locked.now.draft c.apply_all.new.transaction.locked.now.draft
-    (seat_told c.args.pass.now.seat c.requires.here) setup.opening c.write-write.ensures.begins _ _
-    (edited c.args.origin.now s.origin _ (Ok tt) _ _ setup.index.origin_is c.in-Ok.ensures.applies) c.in-Commit.is c.in-Ok-commit.ensures.commits c.in-Ok-commit.ensures.version refl refl
+pub returns-clause-ran : goal.returns-clause-ran
+returns-clause-ran g c = λ s setup.
+    ran_as s _ _ _ (known_at c.drop-write-2.new.self.0.seat) _ _
+    (rollback_ran s (map operation_view c.args.block.now.operations.items) c.args.block.now.ending (known_at c.args.pass.now.seat) _ c.write-write.result.locked.now.draft c.apply_all.new.transaction.locked.now.draft
+        (seat_told c.args.pass.now.seat c.requires.here) setup.opening c.write-write.ensures.begins c.drop-write-2.new.self.0.seat c.version-version.result c.drop-write-2.ensures.back c.version-version.ensures refl
+        (edits_as c.args.origin.now s.origin _ _ (Ok tt) _ _ setup.index.origin_is (ap (map operation_view) c.deref.ensures.value) c.in_default.ensures.applies) c.in-Rollback.is refl)
+    (search rules)
+
+pub returns-in-Err-clause-ran : goal.returns-in-Err-clause-ran
+returns-in-Err-clause-ran g c = λ s setup.
+    result_as s _ _ _ (known_at c.drop-write.new.self.0.seat) _ _
+    (stopped_ran s (map operation_view c.args.block.now.operations.items) c.args.block.now.ending (known_at c.args.pass.now.seat) c.write-write.result.locked.now.draft c.apply_all.new.transaction.locked.now.draft
+        (seat_told c.args.pass.now.seat c.requires.here) setup.opening c.write-write.ensures.begins c.drop-write.new.self.0.seat c.version-version.result c.in-Err.halt c.stopped.result c.drop-write.ensures.back c.version-version.ensures
+        (edits_as c.args.origin.now s.origin _ _ (Err c.in-Err.halt) _ _ setup.index.origin_is (ap (map operation_view) c.deref.ensures.value) c.in-Err.ensures.applies)
+        (full_chunks g.N.Named.tables c.args.index.now.place c.apply_all.new.transaction.locked.now.place s.chunks c.args.index.now.shared.table.shared.table_id c.apply_all.new.transaction.locked.now.shared.now.table.shared.table_id c.apply_all.new.transaction.locked.now.draft
+            c.args.index.now.here c.apply_all.new.transaction.locked.now.named (c.apply_all.ensures.place ∙ c.write-write.ensures.place) (ap (λ n. 4161 + 2048 * n) setup.index.chunks ∙ c.args.index.now.shared.wide) c.apply_all.new.transaction.locked.now.here)
+        (has_passes s _ _ setup.index.passes c.write-write.ensures.passes) c.stopped.ensures)
+    (search rules)

@@ -1,0 +1,74 @@
+-- An index that was opened on the entries of a zone's version.
+use Rattle.std.proofs.Common.{◌≡◌, ◌∙◌, inl, inr, ℕ, List, [], ◌∷◌, map, Option, Some, refl, sym, ap, subst}
+use Rattle.std.specs.Prelude.{IsSome}
+use Rattle.std.specs.List.{All, AllByRecursion}
+use Rattle.std.specs.List.Sorted.{IsStrictlySortedBy}
+use Rattle.std.specs.Map.{keys_of}
+use Rattle.std.specs.declared.cmp.Ordering.TheVariants.{Less as IsLess}
+use Rattle.zone_model.specs.Names.{Name, IsName, name_cmp}
+use Rattle.zone_model.specs.Keys.{key_of}
+use Rattle.zone_model.specs.Versions.{Version}
+use Rattle.zone_model.proofs.KeyLaws.{key_cmp-key_of}
+use Rattle.trie_model.specs.Keys.{Entry, Less, InList, Rises}
+use Rattle.trie_model.proofs.AboveLaws.{cmp_before}
+use Rattle.zone_answer.specs.Standing.{IsStorable}
+use Rattle.job_model.specs.Sizes.{trie_entries}
+use Rattle.shared_cells.specs.Views.{number_of}
+use Rattle.shared_index.specs.Passes.{commits_in, pinned_in, known_at}
+use Rattle.shared_index.specs.Openings.{SeesFirst}
+use Rattle.job_threads.specs.Histories.{Entries, IsZone}
+use Rattle.job_threads.specs.Stations.{Seat}
+use Rattle.job_threads.specs.Works.{IsNew, AreNew}
+use Rattle.job_threads.proofs.ShowLaws.{seat_pass}
+use Rattle.job_threads.proofs.CloseLaws.{all_rec}
+
+-- ---- they rise
+
+below_all : (name : Name) → IsName name → (pairs : Version) → AllByRecursion (λ y. name_cmp name y ≡ IsLess) (keys_of pairs) → AllByRecursion IsStorable pairs → (e : Entry) → InList e (trie_entries pairs) → Less (key_of name) e.key
+below_all name is [] above names e i = absurd i
+below_all name is (pair ∷ pairs) above names e i = elim i [
+  | inl s ↦ subst (λ (x : Entry). Less (key_of name) x.key) (sym s) (cmp_before (key_of name) (key_of pair.0) (key_cmp-key_of name pair.0 is.each names.0.name.each ∙ above.0))
+  | inr r ↦ below_all name is pairs above.1 names.1 e r
+]
+
+entries_rise : (pairs : Version) → IsStrictlySortedBy name_cmp (keys_of pairs) → AllByRecursion IsStorable pairs → Rises (trie_entries pairs)
+unfolding IsStrictlySortedBy
+entries_rise [] sorted names = tt
+entries_rise (pair ∷ pairs) sorted names = (below_all pair.0 names.0.name pairs sorted.0 names.1, entries_rise pairs sorted.1 names.1)
+
+pub zone_rises : (es : Entries) → IsZone es → Rises es
+zone_rises es z = subst Rises z.stands.entries (entries_rise z.version z.stands.valid.rising z.stands.valid.items)
+
+-- ---- its passes have asked and committed nothing
+
+module _ {A : Type 0} (ps : List A) (seat_of : A → Option Seat) (es : Entries) where
+  abbrev pub IsFirst : A → Type 0
+  IsFirst p = IsSome (seat_of p) × SeesFirst es (known_at (seat_of p))
+
+  abbrev pub IsUnused : A → Type 0
+  IsUnused p = (commits_in (known_at (seat_of p)).pass ≡ []) × (pinned_in (known_at (seat_of p)).pass ≡ [])
+
+  new_pass : (p : A) → IsFirst p → IsUnused p → (number : ℕ) × IsNew number es (known_at (seat_of p))
+  new_pass p first unused =
+      let own = seat_pass (seat_of p) first.0 in
+      (
+        own.0.number,
+        record {
+          own = own.0;
+          is_own = own.1;
+          numbered = refl;
+          none = ap commits_in (sym own.1) ∙ unused.0;
+          unpinned = ap pinned_in (sym own.1) ∙ unused.1;
+          opened = first.1.opening;
+          no_history = first.1.history;
+        },
+      )
+
+  new_each : (xs : List A) → AllByRecursion IsFirst xs → AllByRecursion IsUnused xs → AreNew es (map (λ p. known_at (seat_of p)) xs)
+  new_each [] first unused = tt
+  new_each (p ∷ xs) first unused = (new_pass p first.0 unused.0, new_each xs first.1 unused.1)
+
+  -- at a place of their index
+  pub new_passes : (at_place : A → Type 0) → All (λ p. IsSome (seat_of p) × at_place p × SeesFirst es (known_at (seat_of p))) ps → All IsUnused ps → AreNew es (map (λ p. known_at (seat_of p)) ps)
+  new_passes at_place first unused =
+      new_each ps (all_rec IsFirst ps (λ k d l. let f = first k d l in (f.0, f.2))) (all_rec IsUnused ps unused)

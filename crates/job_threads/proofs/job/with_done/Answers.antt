@@ -1,0 +1,17 @@
+use Rattle.std.proofs.Common.{◌≡◌, ◌∙◌, sym, subst}
+use Rattle.std.specs.Prelude.{IsSome}
+use Rattle.shared_index.specs.Passes.{known_at, Learnt}
+use Rattle.job_threads.proofs.GatherLaws.{two_more, two_views}
+use Rattle.job_threads.proofs.job.with_done.Goals as goal
+
+pub returns-clause-here : goal.returns-clause-here
+returns-clause-here g c =
+    two_more c.note-seen.new.self c.args.done.spare c.args.others.passes.items _ _ (λ p. (IsSome p.seat) × (p.place ≡ c.args.index.now.place)) c.in_ok-insert.ensures.items c.in_ok-insert-2.ensures.items
+    (c.note-seen.ensures.here, c.note-seen.ensures.place.0 ∙ c.requires.places.0) (c.requires.here.1, c.requires.places.1) c.requires.others
+
+pub returns-clause-passes : goal.returns-clause-passes
+returns-clause-passes g c =
+    two_views c.note-seen.new.self c.args.done.spare c.args.others.passes.items _ _ (λ p. known_at p.seat) (known_at c.args.done.asks.seat) c.in_ok-insert.ensures.items c.in_ok-insert-2.ensures.items c.note-seen.ensures.same
+
+pub returns-clause-learnt : goal.returns-clause-learnt
+returns-clause-learnt g c = subst (Learnt (known_at c.args.others.main.seat) (known_at c.learn.new.self.seat)) c.note-seen.ensures.told c.learn.ensures.learnt
