@@ -21,7 +21,6 @@ use Rattle.zone_answer.specs.Standing.{IsStorable, IsVersion, trie_entry}
 use Rattle.zone_answer.proofs.OwnedLaws.{self_equal, kept, entry_there, nothing_owned}
 use Rattle.job_model.specs.Sizes.{trie_entries}
 use Rattle.zone_change.proofs.VersionLaws.{by_name, put_here, put_over, put_later, gone_here, gone_later, turned, after_all, inserted_is, exchanged_is, deleted_is, version_put, version_gone}
-use Rattle.zone_change.specs.Stores.{WorksOn}
 
 pub put_some : (name : Name) (entry : Entry) (version : Version) → 0 < length entry → put name entry version ≡ insert_entry name_cmp version name entry
 put_some name [] version some = absurd (omega arith)
@@ -144,26 +143,6 @@ storable name bytes entry is = subst (λ (x : List ℕ). IsItem x name entry) is
 
 pub same_entry : (name : Name) (key bytes : List ℕ) (entry : Entry) → key ≡ key_of name → IsItem bytes name entry → record_of key bytes ≡ trie_entry (name, entry)
 same_entry name key bytes entry k is = ap (λ (x : List ℕ). record_of x bytes) k ∙ ap (record_of (key_of name)) is.octets
-
-pub inserted_on : (works : List trie.Entry → List trie.Entry → Type 0) (base : List trie.Entry) (version : Version) (name : Name) (key bytes : List ℕ) (entry : Entry) → key ≡ key_of name → IsItem bytes name entry → IsVersion version
-    → (next : List trie.Entry) × Inserted (record { key = key; item = bytes }) (trie_entries version) next × works base next → WorksOn works base (put name entry version)
-inserted_on works base version name key bytes entry k is v made =
-    let put_is = put_some name entry version is.some in
-    let next_is = inserted_is name entry version made.0 is.name v (subst (λ (x : trie.Entry). Inserted x (trie_entries version) made.0) (same_entry name key bytes entry k is) made.1) in
-    subst (WorksOn works base) (sym put_is) (record { held = subst (works base) next_is made.2; valid = version_put name entry version (storable name bytes entry is) v })
-
-pub exchanged_on : (works : List trie.Entry → List trie.Entry → Type 0) (base : List trie.Entry) (version : Version) (name : Name) (key bytes : List ℕ) (entry : Entry) → key ≡ key_of name → IsItem bytes name entry → IsVersion version
-    → (next : List trie.Entry) × Exchanged (record { key = key; item = bytes }) (trie_entries version) next × works base next → WorksOn works base (put name entry version)
-exchanged_on works base version name key bytes entry k is v made =
-    let put_is = put_some name entry version is.some in
-    let next_is = exchanged_is name entry version made.0 is.name v (subst (λ (x : trie.Entry). Exchanged x (trie_entries version) made.0) (same_entry name key bytes entry k is) made.1) in
-    subst (WorksOn works base) (sym put_is) (record { held = subst (works base) next_is made.2; valid = version_put name entry version (storable name bytes entry is) v })
-
-pub deleted_on : (works : List trie.Entry → List trie.Entry → Type 0) (base : List trie.Entry) (version : Version) (name : Name) (key : List ℕ) → key ≡ key_of name → IsName name → IsVersion version
-    → (next : List trie.Entry) × Deleted key (trie_entries version) next × works base next → WorksOn works base (put name [] version)
-deleted_on works base version name key k is v made =
-    let next_is = deleted_is name version made.0 is v (subst (λ (x : List ℕ). Deleted x (trie_entries version) made.0) k made.1) in
-    record { held = subst (works base) next_is made.2; valid = version_gone name version v }
 
 pub nobody : (name : Name) (key : List ℕ) (version : Version) → IsName name → IsVersion version → [] ≡ owned name version → key ≡ key_of name → (x : trie.Entry) × trie.InList x (trie_entries version) × (x.key ≡ key) → ⊥
 nobody name key version is v none k x =

@@ -9,7 +9,6 @@ ghost use Rattle.zone_change.specs.declared.entries.Stopped.TheVariants.{Memory}
 
 use dns_name::Name;
 use job_script::{NewRecord, Operation};
-use qp_multi::Kept;
 use rr_data::{CNAME, Entry, ITEM_LIMIT, Rdata, SOA};
 use std::alloc::{AllocError, AllocFailed, Global};
 use zone_model::Refusal;
@@ -21,8 +20,6 @@ pub enum Stopped {
     Memory,
     /// A rule of zones.
     Refused(Refusal),
-    /// No room, while these versions are kept.
-    Full(Kept),
 }
 
 impl From<AllocError> for Stopped {
