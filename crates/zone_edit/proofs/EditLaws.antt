@@ -187,15 +187,15 @@ module _ (o : Operation) (denied : List trie.Entry → Type 0) (A B : Type 0) (n
         known = both.0.known;
         passes = both.0.passes;
         becomes = λ version on is. (
-            works_same o denied d e A B version both.0 undone on,
-            record {
-              named = both.1.named;
-              ends = both.1.ends;
-              few = few_kept e f both.1;
-              many = subst (λ (es : List trie.Entry). length e.usage.given - reserve_of e.usage - 2 ≤ cells es + cells_kept e.seat.place.me.0 (versions_in f.kept)) (same_set o denied d e A B both.0 undone ∙ on.set) cause.2.many_cells;
-            },
-            changes version on.valid is,
-          );
+          works_same o denied d e A B version both.0 undone on,
+          record {
+            named = both.1.named;
+            ends = both.1.ends;
+            few = few_kept e f both.1;
+            many = subst (λ (es : List trie.Entry). length e.usage.given - reserve_of e.usage - 2 ≤ cells es + cells_kept e.seat.place.me.0 (versions_in f.kept)) (same_set o denied d e A B both.0 undone ∙ on.set) cause.2.many_cells;
+          },
+          changes version on.valid is,
+        );
       }) cause (between_and (λ d e. Operates o denied d e A B) (λ d. IsFull d f) (λ d e. Operates o denied d e A B × IsFull e f) old new (λ d e op p. (op, p)) call full)
 
   -- the name was refused

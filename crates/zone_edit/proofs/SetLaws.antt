@@ -75,9 +75,9 @@ parting name (pair ∷ rest) is rising items none =
       after = p.after;
       whole = ap (λ (xs : Entries). trie_entry pair ∷ xs) p.whole;
       lower = λ x i. elim i [
-          | inl s ↦ subst (λ (y : trie.Entry). Less y.key (key_of name)) (sym s) (name_less pair.0 name items.0.name is l)
-          | inr r ↦ p.lower x r
-        ];
+        | inl s ↦ subst (λ (y : trie.Entry). Less y.key (key_of name)) (sym s) (name_less pair.0 name items.0.name is l)
+        | inr r ↦ p.lower x r
+      ];
       upper = p.upper;
     }
 

@@ -42,24 +42,30 @@ returns-in-Ok-clause-applies g c =
     edits_on (Reads c.owner-owner.result.now c.read_owned-len.new.item c.read_owned-len.result) (Stores c.owner-owner.result.now c.in_ok-before.before c.in_ok-entry.entry (Ok tt)) (Applies c.args.origin.now (operation_view c.args.operation.now) (Ok tt))
     c.args.transaction.now.locked.now.draft c.read_owned-len.new.transaction.locked.now.draft c.store.new.transaction.locked.now.draft
     (λ version e f r.
-      let before_is : c.in_ok-before.before ≡ owned c.owner-owner.result.now version = c.in_ok-before.ensures (owned c.owner-owner.result.now version) r.read.says in
-      let mine : c.in_ok-before.before ≡ owned (owner_of (operation_view c.args.operation.now)) version = subst (λ (n : Name). c.in_ok-before.before ≡ owned n version) c.owner-owner.ensures before_is in
-      (version, r.stays, λ y. (
+    let before_is : c.in_ok-before.before ≡ owned c.owner-owner.result.now version = c.in_ok-before.ensures (owned c.owner-owner.result.now version) r.read.says in
+    let mine : c.in_ok-before.before ≡ owned (owner_of (operation_view c.args.operation.now)) version = subst (λ (n : Name). c.in_ok-before.before ≡ owned n version) c.owner-owner.ensures before_is in (
+      version,
+      r.stays,
+      λ y. (
         put (owner_of (operation_view c.args.operation.now)) c.in_ok-entry.entry version,
         accepted c.args.origin.now (operation_view c.args.operation.now) c.in_ok-before.before c.in_ok-entry.entry version mine c.in_ok-entry.ensures,
         subst (λ (n : Name). WorksOn f (put n c.in_ok-entry.entry version)) c.owner-owner.ensures (y before_is),
-      ))) c.read_owned-len.ensures.read c.in-Ok.ensures.stores
+      ),
+    )) c.read_owned-len.ensures.read c.in-Ok.ensures.stores
 
 pub returns-clause-applies : goal.returns-clause-applies
 returns-clause-applies g c =
     edits_on (Reads c.owner-owner.result.now c.read_owned-len.new.item c.read_owned-len.result) (Stores c.owner-owner.result.now c.in_ok-before.before c.in_ok-entry.entry (Err c.in-Err.kept)) (Applies c.args.origin.now (operation_view c.args.operation.now) (Err (stops.Full c.in-Err.kept)))
     c.args.transaction.now.locked.now.draft c.read_owned-len.new.transaction.locked.now.draft c.store.new.transaction.locked.now.draft
     (λ version e f r.
-      let before_is : c.in_ok-before.before ≡ owned c.owner-owner.result.now version = c.in_ok-before.ensures (owned c.owner-owner.result.now version) r.read.says in
-      let mine : c.in_ok-before.before ≡ owned (owner_of (operation_view c.args.operation.now)) version = subst (λ (n : Name). c.in_ok-before.before ≡ owned n version) c.owner-owner.ensures before_is in
-      (version, r.stays, λ y. (
+    let before_is : c.in_ok-before.before ≡ owned c.owner-owner.result.now version = c.in_ok-before.ensures (owned c.owner-owner.result.now version) r.read.says in
+    let mine : c.in_ok-before.before ≡ owned (owner_of (operation_view c.args.operation.now)) version = subst (λ (n : Name). c.in_ok-before.before ≡ owned n version) c.owner-owner.ensures before_is in (
+      version,
+      r.stays,
+      λ y. (
         put (owner_of (operation_view c.args.operation.now)) c.in_ok-entry.entry version,
         accepted c.args.origin.now (operation_view c.args.operation.now) c.in_ok-before.before c.in_ok-entry.entry version mine c.in_ok-entry.ensures,
         subst (λ (n : Name). put n c.in_ok-entry.entry version ≡ version → ⊥) c.owner-owner.ensures (y before_is).2,
         (y before_is).1,
-      ))) c.read_owned-len.ensures.read c.in-Err.ensures.stores
+      ),
+    )) c.read_owned-len.ensures.read c.in-Err.ensures.stores

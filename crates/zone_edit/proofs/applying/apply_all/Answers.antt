@@ -40,11 +40,15 @@ loop-index-preserved g c =
       works = edits_some (Applies c.args.origin.now (operation_view c.index-operations-index.result) (Ok tt)) c.loop-index.transaction.locked.now.draft c.apply.new.transaction.locked.now.draft c.loop-index.invariant.works (λ version e a. record { version = a.0; on = a.2 }) c.in-Ok.ensures.applies;
       so_far = edits_on (SoFar c.args.origin.now c.args.operations.now c.loop-index.index) (Applies c.args.origin.now (operation_view c.index-operations-index.result) (Ok tt)) (SoFar c.args.origin.now c.args.operations.now (c.loop-index.index + 1))
           c.args.transaction.now.locked.now.draft c.loop-index.transaction.locked.now.draft c.apply.new.transaction.locked.now.draft
-          (λ version e f x. (x.0, x.2, λ y. (
-            y.0,
-            ap (λ (l : List Operation). whole c.args.origin.now l version) further ∙ next_whole c.args.origin.now (map operation_view (take c.loop-index.index c.args.operations.now)) (operation_view c.index-operations-index.result) version x.0 y.0 x.1 y.1,
-            y.2,
-          ))) c.loop-index.invariant.so_far c.in-Ok.ensures.applies;
+          (λ version e f x. (
+            x.0,
+            x.2,
+            λ y. (
+              y.0,
+              ap (λ (l : List Operation). whole c.args.origin.now l version) further ∙ next_whole c.args.origin.now (map operation_view (take c.loop-index.index c.args.operations.now)) (operation_view c.index-operations-index.result) version x.0 y.0 x.1 y.1,
+              y.2,
+            ),
+          )) c.loop-index.invariant.so_far c.in-Ok.ensures.applies;
     }
 
 pub returns-in-Err-Memory-clause-applies : goal.returns-in-Err-Memory-clause-applies
@@ -58,10 +62,14 @@ returns-in-Err-Refused-clause-applies g c =
     subst (λ (r : Refusal). Edits (AppliesAll c.args.origin.now (map operation_view c.args.operations.now) (Err (halts.Refused r))) c.args.transaction.now.locked.now.draft c.apply.new.transaction.locked.now.draft) (sym c.in-Err-Refused.refusal-is)
     (edits_on (SoFar c.args.origin.now c.args.operations.now c.loop-index.index) (Applies c.args.origin.now (operation_view c.index-operations-index.result) (Err c.in-Err-Refused.field-0)) (AppliesAll c.args.origin.now (map operation_view c.args.operations.now) (Err (halts.Refused c.in-Err-Refused.refusal)))
     c.args.transaction.now.locked.now.draft c.loop-index.transaction.locked.now.draft c.apply.new.transaction.locked.now.draft
-    (λ version e f x. (x.0, x.2, λ y.
-      let step = subst (λ (s : Stopped). Applies c.args.origin.now (operation_view c.index-operations-index.result) (Err s) x.0 f) c.in-Err-Refused.field-0-is y in
-      ap (λ (l : List Operation). whole c.args.origin.now l version) all
-      ∙ refused_whole c.args.origin.now (map operation_view (take c.loop-index.index c.args.operations.now)) (map operation_view (drop (c.loop-index.index + 1) c.args.operations.now)) (operation_view c.index-operations-index.result) version x.0 c.in-Err-Refused.refusal x.1 step))
+    (λ version e f x. (
+      x.0,
+      x.2,
+      λ y.
+          let step = subst (λ (s : Stopped). Applies c.args.origin.now (operation_view c.index-operations-index.result) (Err s) x.0 f) c.in-Err-Refused.field-0-is y in
+          ap (λ (l : List Operation). whole c.args.origin.now l version) all
+          ∙ refused_whole c.args.origin.now (map operation_view (take c.loop-index.index c.args.operations.now)) (map operation_view (drop (c.loop-index.index + 1) c.args.operations.now)) (operation_view c.index-operations-index.result) version x.0 c.in-Err-Refused.refusal x.1 step,
+    ))
     c.loop-index.invariant.so_far c.in-Err-Refused.ensures.applies)
 
 pub returns-in-Err-Full-clause-applies : goal.returns-in-Err-Full-clause-applies
@@ -72,21 +80,25 @@ returns-in-Err-Full-clause-applies g c =
     subst (λ (k : Versions). Edits (AppliesAll c.args.origin.now (map operation_view c.args.operations.now) (Err (halts.Full (c.loop-index.index + 1) k))) c.args.transaction.now.locked.now.draft c.apply.new.transaction.locked.now.draft) (sym c.in-Err-Full.kept-is)
     (edits_on (SoFar c.args.origin.now c.args.operations.now c.loop-index.index) (Applies c.args.origin.now (operation_view c.index-operations-index.result) (Err c.in-Err-Full.field-0)) (AppliesAll c.args.origin.now (map operation_view c.args.operations.now) (Err (halts.Full (c.loop-index.index + 1) c.in-Err-Full.kept)))
     c.args.transaction.now.locked.now.draft c.loop-index.transaction.locked.now.draft c.apply.new.transaction.locked.now.draft
-    (λ version e f x. (x.0, x.2, λ y.
-      let step = subst (λ (s : Stopped). Applies c.args.origin.now (operation_view c.index-operations-index.result) (Err s) x.0 f) c.in-Err-Full.field-0-is y in
-      record {
-        front = map operation_view (take c.loop-index.index c.args.operations.now);
-        refused = operation_view c.index-operations-index.result;
-        back = map operation_view (drop (c.loop-index.index + 1) c.args.operations.now);
-        all = all_around operation_view c.args.operations.now c.loop-index.index c.index-operations-index.result c.loop-index-test.true c.index-operations-index.is;
-        place = ap (λ (n : ℕ). n + 1) (sym long);
-        working = x.0;
-        before = x.1;
-        next = step.0;
-        accepted = step.1;
-        changes = step.2;
-        full = step.3;
-      }))
+    (λ version e f x. (
+      x.0,
+      x.2,
+      λ y.
+          let step = subst (λ (s : Stopped). Applies c.args.origin.now (operation_view c.index-operations-index.result) (Err s) x.0 f) c.in-Err-Full.field-0-is y in
+          record {
+            front = map operation_view (take c.loop-index.index c.args.operations.now);
+            refused = operation_view c.index-operations-index.result;
+            back = map operation_view (drop (c.loop-index.index + 1) c.args.operations.now);
+            all = all_around operation_view c.args.operations.now c.loop-index.index c.index-operations-index.result c.loop-index-test.true c.index-operations-index.is;
+            place = ap (λ (n : ℕ). n + 1) (sym long);
+            working = x.0;
+            before = x.1;
+            next = step.0;
+            accepted = step.1;
+            changes = step.2;
+            full = step.3;
+          },
+    ))
     c.loop-index.invariant.so_far c.in-Err-Full.ensures.applies)
 
 pub returns-clause-applies : goal.returns-clause-applies
