@@ -12,5 +12,4 @@ pub mod Marks
 pub mod Chunks
 pub mod RoundLaws
 pub mod KeptLaws
-pub mod OneCellLaws
 pub mod Accounts

@@ -3,4 +3,3 @@ pub mod Views
 pub mod Rule
 pub mod Steps
 pub mod Cells
-pub mod OneCell

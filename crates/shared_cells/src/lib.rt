@@ -13,10 +13,6 @@ mod pinned;
 mod plays;
 mod round;
 mod shared;
-#[cfg(test)]
-mod stress;
-#[cfg(test)]
-mod tests;
 mod turn;
 mod view;
 

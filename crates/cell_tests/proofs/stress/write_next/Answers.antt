@@ -1,7 +1,7 @@
 use Rattle.std.proofs.Common.{sym, ap, ◌∙◌}
 use Rattle.atomic_table.specs.Seated.{TableId}
-use Rattle.shared_cells.proofs.OneCellLaws.{same_count, has_back}
-use Rattle.shared_cells.proofs.stress.write_next.Goals as goal
+use Rattle.cell_tests.proofs.OneCellLaws.{same_count, has_back}
+use Rattle.cell_tests.proofs.stress.write_next.Goals as goal
 
 pub returns-clause-written : goal.returns-clause-written
 returns-clause-written g c =

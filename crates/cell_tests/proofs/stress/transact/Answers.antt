@@ -6,10 +6,10 @@ use Rattle.shared_cells.specs.declared.view.Seen.{Seen}
 use Rattle.shared_cells.specs.declared.view.View.{View}
 use Rattle.shared_cells.specs.Views.{kept_in}
 use Rattle.shared_cells.specs.Cells.{cells_of}
-use Rattle.shared_cells.specs.OneCell.{place_of, cell_of, IsVersion}
+use Rattle.cell_tests.specs.OneCell.{place_of, cell_of, IsVersion}
 use Rattle.shared_cells.proofs.Seats.{turn_there, pass_there}
-use Rattle.shared_cells.proofs.OneCellLaws.{all_counted, kept_are_of, counted, one_image}
-use Rattle.shared_cells.proofs.stress.transact.Goals as goal
+use Rattle.cell_tests.proofs.OneCellLaws.{all_counted, kept_are_of, counted, one_image}
+use Rattle.cell_tests.proofs.stress.transact.Goals as goal
 
 pub write_next-turn-requires-clause-kept : goal.write_next-turn-requires-clause-kept
 write_next-turn-requires-clause-kept c =

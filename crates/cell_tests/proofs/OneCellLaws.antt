@@ -19,7 +19,7 @@ use Rattle.shared_cells.specs.declared.view.View.{View}
 use Rattle.shared_cells.specs.Views.{pinned_image, pinned_root}
 use Rattle.shared_cells.specs.Steps.{Confirmed, IsImage, Pins}
 use Rattle.shared_cells.specs.Cells.{Cells, cells_of, given_chunks, kept_references, HasCell, HasAt}
-use Rattle.shared_cells.specs.OneCell.{place_of, cell_of, IsVersion, AreOf}
+use Rattle.cell_tests.specs.OneCell.{place_of, cell_of, IsVersion, AreOf}
 use Rattle.shared_cells.proofs.Chunks.{given_by_words, has_by_words, contains_map, cells_are_image}
 
 -- no reference is in a chunk that none of the versions is in

@@ -6,7 +6,7 @@ use Rattle.shared_cells.specs.declared.view.Entry.{Entry}
 use Rattle.shared_cells.specs.declared.view.View.{View}
 use Rattle.shared_cells.specs.Views.{core_size}
 use Rattle.shared_cells.proofs.Seats.{turn_there, pass_there, told_there}
-use Rattle.shared_cells.proofs.tests.pay.Goals as goal
+use Rattle.cell_tests.proofs.account.pay.Goals as goal
 
 -- payments lower no sum
 sums_rise : (sum : ℕ) (entries : List (Entry ℕ)) → sum ≤ fold (λ s e. s + e.change) sum entries

@@ -1,8 +1,8 @@
 use Rattle.std.proofs.Common.{sym, subst}
 use Rattle.shared_cells.specs.Views.{pinned_image, pinned_root}
-use Rattle.shared_cells.specs.OneCell.{IsVersion}
-use Rattle.shared_cells.proofs.OneCellLaws.{pinned_is}
-use Rattle.shared_cells.proofs.stress.read_once.Goals as goal
+use Rattle.cell_tests.specs.OneCell.{IsVersion}
+use Rattle.cell_tests.proofs.OneCellLaws.{pinned_is}
+use Rattle.cell_tests.proofs.stress.read_once.Goals as goal
 
 pub is_its_version-is_right-requires-clause-stood : goal.is_its_version-is_right-requires-clause-stood
 is_its_version-is_right-requires-clause-stood c =

@@ -1,9 +1,9 @@
 use Rattle.std.proofs.Common.{◌≡◌, ℕ, ◌*◌, ◌/◌, ◌%◌, List, Bool, false, length, sym, ap, ◌∙◌, subst, arith, length-set}
 use Rattle.std.specs.List.{Contains}
 use Rattle.chunk_cells.specs.Chunks.{IsGiven}
-use Rattle.shared_cells.proofs.OneCellLaws.{not_in_use, just_given}
-use Rattle.shared_cells.proofs.stress.lay.Goals as goal
-use Rattle.shared_cells.proofs.stress.lay.Goals.{then-given-chunk, else-given-chunk}
+use Rattle.cell_tests.proofs.OneCellLaws.{not_in_use, just_given}
+use Rattle.cell_tests.proofs.stress.lay.Goals as goal
+use Rattle.cell_tests.proofs.stress.lay.Goals.{then-given-chunk, else-given-chunk}
 
 pub free-requires-clause-unkept : goal.free-requires-clause-unkept
 free-requires-clause-unkept g c = not_in_use c.args.versions.now (g.C.CellWrite.kept c.args.cells.now) (c.args.next % 6) (sym c.is_in_use.ensures ∙ c.if-is_in_use.false) c.requires.kept

@@ -1,7 +1,7 @@
 use Rattle.std.proofs.Common.{true, refl}
 use Rattle.shared_cells.proofs.Seats.{turn_there}
-use Rattle.shared_cells.proofs.OneCellLaws.{one_image}
-use Rattle.shared_cells.proofs.stress.open.Goals as goal
+use Rattle.cell_tests.proofs.OneCellLaws.{one_image}
+use Rattle.cell_tests.proofs.stress.open.Goals as goal
 
 pub open-turn-requires-clause-can : goal.open-turn-requires-clause-can
 open-turn-requires-clause-can c =

@@ -6,9 +6,9 @@ ghost use Rattle.std.specs.Bool.{OnTrue};
 ghost use Rattle.shared_cells.specs.Views.{words_of, unopened_view, pinned_image, pinned_root};
 ghost use Rattle.shared_cells.specs.Cells.{cells_of, given_chunks, kept_references, with_words, HasCell};
 ghost use Rattle.shared_cells.specs.Steps.{CanPublish, Published};
-ghost use Rattle.shared_cells.specs.OneCell.{place_of, cell_of, IsVersion, AreOf, IsTold};
+ghost use Rattle.cell_tests.specs.OneCell.{place_of, cell_of, IsVersion, AreOf, IsTold};
 
-use crate::{
+use shared_cells::{
     JoinedSeat, KeptVersions, Law, Lent, NewPassSeat, NewTurnSeat, Opening, PassSeat, Payload,
     PinnedCells, PinnedSeat, Shared, TurnSeat,
 };
@@ -23,7 +23,7 @@ struct Numbers;
 
 impl Law<u64, u64> for Numbers {
     ghost use Rattle.std.specs.Prelude.{◌+◌};
-    ghost use Rattle.shared_cells.specs.OneCell.{IsVersion};
+    ghost use Rattle.cell_tests.specs.OneCell.{IsVersion};
 
     ghost applied = { λ n change. n + 1 };
 
@@ -37,7 +37,7 @@ struct Zero;
 
 impl Opening<u64> for Zero {
     ghost use Rattle.std.specs.Prelude.{Some, [], ◌∷◌};
-    ghost use Rattle.shared_cells.specs.OneCell.{cell_of};
+    ghost use Rattle.cell_tests.specs.OneCell.{cell_of};
 
     ghost version = { Some 0 };
 

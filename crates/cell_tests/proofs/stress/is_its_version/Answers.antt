@@ -2,8 +2,8 @@ use Rattle.std.proofs.Common.{sym, ap, ◌∙◌, subst, eq-eqb}
 use Rattle.std.specs.List.{Contains}
 use Rattle.packed_node.specs.declared.Cell.{Cell}
 use Rattle.shared_cells.specs.Views.{pinned_image}
-use Rattle.shared_cells.proofs.OneCellLaws.{one_cell}
-use Rattle.shared_cells.proofs.stress.is_its_version.Goals as goal
+use Rattle.cell_tests.proofs.OneCellLaws.{one_cell}
+use Rattle.cell_tests.proofs.stress.is_its_version.Goals as goal
 
 pub cell-cell-requires : goal.cell-cell-requires
 cell-cell-requires c =

@@ -1,5 +1,5 @@
 use Rattle.std.proofs.Common.{Some, []}
-use Rattle.shared_cells.proofs.tests.pay.Given as goal
+use Rattle.cell_tests.proofs.account.pay.Given as goal
 
 abbrev pub ghosts-publish : goal.ghosts-publish
 ghosts-publish a = record { change = Some a._amount; image = [] }

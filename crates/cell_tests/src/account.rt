@@ -3,7 +3,7 @@ ghost use Rattle.std.specs.Prelude.{◌≡◌, ◌+◌, ◌<◌, [], ◌∷◌, 
 ghost use Rattle.shared_cells.specs.History.{IsPartOf, entry_of};
 ghost use Rattle.shared_cells.specs.Steps.{CanPublish, Published};
 
-use crate::{
+use shared_cells::{
     JoinedSeat, Law, NewPassSeat, NewTurnSeat, Opening, PassSeat, Payload, SeatNote, Shared,
     TurnSeat,
 };
