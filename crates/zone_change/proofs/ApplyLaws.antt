@@ -10,17 +10,9 @@ use Rattle.zone_model.specs.Versions.{Version, Operation, Addition, Add, DeleteN
 use Rattle.zone_model.specs.declared.Refusal.{Refusal}
 use Rattle.zone_model.specs.declared.Refusal.TheVariants.{Soa, Cname, Long}
 use Rattle.zone_model.proofs.NameLemmas.{same_name-true}
-use Rattle.zone_answer.specs.Standing.{IsStorable, IsVersion, Shows}
-use Rattle.job_model.specs.Sizes.{trie_entries}
-use Rattle.qp_multi.specs.Shows.{Tells, Holds}
-use Rattle.qp_multi.specs.declared.query.Query.{Query}
+use Rattle.zone_answer.specs.Standing.{IsStorable, IsVersion}
 use Rattle.zone_change.proofs.ShrinkLaws.{IsLess, set_less, record_less, item_less}
 use Rattle.zone_change.proofs.StoreLaws.{owns_some}
-
--- ---- what a query shows
-
-pub shown : (q : Query) (version : Version) → IsVersion version → Tells q (trie_entries version) → Shows (Holds q) version
-shown q version v t = record { version_is = v; held = (t.stands, t.tells) }
 
 -- ---- items that are short enough
 

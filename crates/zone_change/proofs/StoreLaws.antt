@@ -1,27 +1,22 @@
 -- What storing an entry under a name needs of the version, and makes of it.
-use Rattle.std.proofs.Common.{◌≡◌, ◌∙◌, ℕ, ◌<◌, ◌≤◌, Bool, true, false, cond, List, [], ◌∷◌, length, take, inl, inr, Option, Some, None, unwrap_or, map, refl, sym, ap, subst, arith, append_assoc}
-use Rattle.std.specs.List.{AllByRecursion, flat_map}
-use Rattle.std.specs.Int.{w16, to_be_bytes}
+use Rattle.std.proofs.Common.{◌≡◌, ◌∙◌, ℕ, ◌<◌, Bool, true, false, cond, List, [], ◌∷◌, length, Option, Some, None, unwrap_or, refl, sym, ap, subst, arith}
+use Rattle.std.specs.List.{AllByRecursion}
 use Rattle.std.specs.List.Sorted.{IsStrictlySortedBy}
 use Rattle.std.specs.Map.{keys_of, remove_entry}
 use Rattle.std.specs.BTreeMap.{insert_entry, is_at}
 use Rattle.std.specs.declared.cmp.Ordering.TheVariants as order
 use Rattle.std.specs.Ordering.{is_eq}
-use Rattle.zone_model.specs.Names.{Name, IsName, name_cmp, wire}
-use Rattle.zone_model.specs.Keys.{key_of, Leads}
-use Rattle.zone_model.specs.Records.{Entry, IsItem, item, rrset_bytes}
+use Rattle.zone_model.specs.Names.{Name, IsName, name_cmp}
+use Rattle.zone_model.specs.Keys.{key_of}
+use Rattle.zone_model.specs.Records.{Entry, IsItem}
 use Rattle.zone_model.specs.Versions.{Version, entry_of, owned, put}
 use Rattle.rr_data.specs.ItemViews.{SaysEntry}
 use Rattle.rr_data.proofs.EntryChanges.{item_once}
 use Rattle.trie_model.specs.Keys as trie
-use Rattle.trie_model.specs.Changes.{Inserted}
-use Rattle.trie_write.specs.Exchanges.{Exchanged}
-use Rattle.trie_write.specs.Deletions.{Deleted}
 use Rattle.zone_answer.specs.Standing.{IsStorable, IsVersion, trie_entry}
 use Rattle.zone_answer.proofs.OwnedLaws.{self_equal, kept, entry_there, nothing_owned}
 use Rattle.job_model.specs.Sizes.{trie_entries}
-use Rattle.zone_change.proofs.VersionLaws.{by_name, put_here, put_over, put_later, gone_here, gone_later, turned, after_all, inserted_is, exchanged_is, deleted_is, version_put, version_gone}
-use Rattle.zone_change.specs.Stores.{WorksOn}
+use Rattle.zone_change.proofs.VersionLaws.{by_name, put_here, put_over, put_later, gone_here, gone_later, turned, after_all}
 
 pub put_some : (name : Name) (entry : Entry) (version : Version) → 0 < length entry → put name entry version ≡ insert_entry name_cmp version name entry
 put_some name [] version some = absurd (omega arith)
@@ -129,12 +124,7 @@ gone_changes name version v some same =
     let zero : length (owned name version) ≡ 0 = ap (λ (l : Entry). length l) none in
     omega (arith, zero, some)
 
--- ---- the item of a name leads with its key
-
-pub item_leads : (name : Name) (bytes : List ℕ) (entry : Entry) → IsItem bytes name entry → Leads (key_of name) bytes
-item_leads name bytes entry is = record { short = is.short; name = name; is_name = is.name; key = refl; front = (_, is.octets ∙ append_assoc (wire name) (to_be_bytes w16 (length entry)) (flat_map rrset_bytes entry)) }
-
--- ---- a transaction's working set after a change
+-- ---- the trie's entry of a name
 
 abbrev pub record_of : List ℕ → List ℕ → trie.Entry
 record_of key bytes = record { key = key; item = bytes }
@@ -144,26 +134,6 @@ storable name bytes entry is = subst (λ (x : List ℕ). IsItem x name entry) is
 
 pub same_entry : (name : Name) (key bytes : List ℕ) (entry : Entry) → key ≡ key_of name → IsItem bytes name entry → record_of key bytes ≡ trie_entry (name, entry)
 same_entry name key bytes entry k is = ap (λ (x : List ℕ). record_of x bytes) k ∙ ap (record_of (key_of name)) is.octets
-
-pub inserted_on : (works : List trie.Entry → List trie.Entry → Type 0) (base : List trie.Entry) (version : Version) (name : Name) (key bytes : List ℕ) (entry : Entry) → key ≡ key_of name → IsItem bytes name entry → IsVersion version
-    → (next : List trie.Entry) × Inserted (record { key = key; item = bytes }) (trie_entries version) next × works base next → WorksOn works base (put name entry version)
-inserted_on works base version name key bytes entry k is v made =
-    let put_is = put_some name entry version is.some in
-    let next_is = inserted_is name entry version made.0 is.name v (subst (λ (x : trie.Entry). Inserted x (trie_entries version) made.0) (same_entry name key bytes entry k is) made.1) in
-    subst (WorksOn works base) (sym put_is) (record { held = subst (works base) next_is made.2; valid = version_put name entry version (storable name bytes entry is) v })
-
-pub exchanged_on : (works : List trie.Entry → List trie.Entry → Type 0) (base : List trie.Entry) (version : Version) (name : Name) (key bytes : List ℕ) (entry : Entry) → key ≡ key_of name → IsItem bytes name entry → IsVersion version
-    → (next : List trie.Entry) × Exchanged (record { key = key; item = bytes }) (trie_entries version) next × works base next → WorksOn works base (put name entry version)
-exchanged_on works base version name key bytes entry k is v made =
-    let put_is = put_some name entry version is.some in
-    let next_is = exchanged_is name entry version made.0 is.name v (subst (λ (x : trie.Entry). Exchanged x (trie_entries version) made.0) (same_entry name key bytes entry k is) made.1) in
-    subst (WorksOn works base) (sym put_is) (record { held = subst (works base) next_is made.2; valid = version_put name entry version (storable name bytes entry is) v })
-
-pub deleted_on : (works : List trie.Entry → List trie.Entry → Type 0) (base : List trie.Entry) (version : Version) (name : Name) (key : List ℕ) → key ≡ key_of name → IsName name → IsVersion version
-    → (next : List trie.Entry) × Deleted key (trie_entries version) next × works base next → WorksOn works base (put name [] version)
-deleted_on works base version name key k is v made =
-    let next_is = deleted_is name version made.0 is v (subst (λ (x : List ℕ). Deleted x (trie_entries version) made.0) k made.1) in
-    record { held = subst (works base) next_is made.2; valid = version_gone name version v }
 
 pub nobody : (name : Name) (key : List ℕ) (version : Version) → IsName name → IsVersion version → [] ≡ owned name version → key ≡ key_of name → (x : trie.Entry) × trie.InList x (trie_entries version) × (x.key ≡ key) → ⊥
 nobody name key version is v none k x =

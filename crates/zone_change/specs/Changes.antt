@@ -10,4 +10,3 @@ abbrev pub Gives : Result Entry Stopped → Result Entry Refusal → Type 0
 Gives (Ok entry) wanted = wanted ≡ Ok entry
 Gives (Err stops.Memory) wanted = Unit {0}
 Gives (Err (stops.Refused refusal)) wanted = wanted ≡ Err refusal
-Gives (Err (stops.Full kept)) wanted = ⊥

@@ -9,20 +9,17 @@ ghost use Rattle.zone_change.specs.declared.entries.Stopped.TheVariants.{Memory}
 
 use dns_name::Name;
 use job_script::{NewRecord, Operation};
-use qp_multi::Kept;
 use rr_data::{CNAME, Entry, ITEM_LIMIT, Rdata, SOA};
 use std::alloc::{AllocError, AllocFailed, Global};
 use zone_model::Refusal;
 
-/// Why an operation changes nothing.
+/// Why an operation makes no entry.
 #[derive(Clone, Copy, Debug)]
 pub enum Stopped {
     /// Want of memory.
     Memory,
     /// A rule of zones.
     Refused(Refusal),
-    /// No room, while these versions are kept.
-    Full(Kept),
 }
 
 impl From<AllocError> for Stopped {

@@ -1,11 +1,8 @@
-//! What operations make of a zone that stands as a trie.
+//! What an operation makes of the entry of its owner.
 #![tactic(auto)]
 
-mod applying;
 mod buffers;
 mod entries;
-mod storing;
 
-pub use applying::{Halt, apply_all};
 pub use buffers::ItemBuffers;
 pub use entries::{Stopped, changed};
