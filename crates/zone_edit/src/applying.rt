@@ -91,7 +91,6 @@ fn next_entry(
         Ok(entry) => Ok(entry),
         Err(zone_change::Stopped::Memory) => Err(Stopped::Memory),
         Err(zone_change::Stopped::Refused(refusal)) => Err(Stopped::Refused(refusal)),
-        Err(zone_change::Stopped::Full(_)) => unreachable!(),
     }
 }
 
