@@ -10,8 +10,7 @@ use Rattle.zone_model.specs.Versions.{Version, Operation, Addition, Add, DeleteN
 use Rattle.zone_model.specs.declared.Refusal.{Refusal}
 use Rattle.zone_model.specs.declared.Refusal.TheVariants.{Soa, Cname, Long}
 use Rattle.zone_model.proofs.NameLemmas.{same_name-true}
-use Rattle.zone_answer.specs.Standing.{IsStorable, IsVersion, Shows}
-use Rattle.job_model.specs.Sizes.{trie_entries}
+use Rattle.zone_answer.specs.Standing.{IsStorable, IsVersion}
 use Rattle.zone_change.proofs.ShrinkLaws.{IsLess, set_less, record_less, item_less}
 use Rattle.zone_change.proofs.StoreLaws.{owns_some}
 

@@ -1,26 +1,22 @@
 -- What storing an entry under a name needs of the version, and makes of it.
-use Rattle.std.proofs.Common.{◌≡◌, ◌∙◌, ℕ, ◌<◌, ◌≤◌, Bool, true, false, cond, List, [], ◌∷◌, length, take, inl, inr, Option, Some, None, unwrap_or, map, refl, sym, ap, subst, arith, append_assoc}
-use Rattle.std.specs.List.{AllByRecursion, flat_map}
-use Rattle.std.specs.Int.{w16, to_be_bytes}
+use Rattle.std.proofs.Common.{◌≡◌, ◌∙◌, ℕ, ◌<◌, Bool, true, false, cond, List, [], ◌∷◌, length, Option, Some, None, unwrap_or, refl, sym, ap, subst, arith}
+use Rattle.std.specs.List.{AllByRecursion}
 use Rattle.std.specs.List.Sorted.{IsStrictlySortedBy}
 use Rattle.std.specs.Map.{keys_of, remove_entry}
 use Rattle.std.specs.BTreeMap.{insert_entry, is_at}
 use Rattle.std.specs.declared.cmp.Ordering.TheVariants as order
 use Rattle.std.specs.Ordering.{is_eq}
-use Rattle.zone_model.specs.Names.{Name, IsName, name_cmp, wire}
-use Rattle.zone_model.specs.Keys.{key_of, Leads}
-use Rattle.zone_model.specs.Records.{Entry, IsItem, item, rrset_bytes}
+use Rattle.zone_model.specs.Names.{Name, IsName, name_cmp}
+use Rattle.zone_model.specs.Keys.{key_of}
+use Rattle.zone_model.specs.Records.{Entry, IsItem}
 use Rattle.zone_model.specs.Versions.{Version, entry_of, owned, put}
 use Rattle.rr_data.specs.ItemViews.{SaysEntry}
 use Rattle.rr_data.proofs.EntryChanges.{item_once}
 use Rattle.trie_model.specs.Keys as trie
-use Rattle.trie_model.specs.Changes.{Inserted}
-use Rattle.trie_write.specs.Exchanges.{Exchanged}
-use Rattle.trie_write.specs.Deletions.{Deleted}
 use Rattle.zone_answer.specs.Standing.{IsStorable, IsVersion, trie_entry}
 use Rattle.zone_answer.proofs.OwnedLaws.{self_equal, kept, entry_there, nothing_owned}
 use Rattle.job_model.specs.Sizes.{trie_entries}
-use Rattle.zone_change.proofs.VersionLaws.{by_name, put_here, put_over, put_later, gone_here, gone_later, turned, after_all, inserted_is, exchanged_is, deleted_is, version_put, version_gone}
+use Rattle.zone_change.proofs.VersionLaws.{by_name, put_here, put_over, put_later, gone_here, gone_later, turned, after_all}
 
 pub put_some : (name : Name) (entry : Entry) (version : Version) → 0 < length entry → put name entry version ≡ insert_entry name_cmp version name entry
 put_some name [] version some = absurd (omega arith)
@@ -128,12 +124,7 @@ gone_changes name version v some same =
     let zero : length (owned name version) ≡ 0 = ap (λ (l : Entry). length l) none in
     omega (arith, zero, some)
 
--- ---- the item of a name leads with its key
-
-pub item_leads : (name : Name) (bytes : List ℕ) (entry : Entry) → IsItem bytes name entry → Leads (key_of name) bytes
-item_leads name bytes entry is = record { short = is.short; name = name; is_name = is.name; key = refl; front = (_, is.octets ∙ append_assoc (wire name) (to_be_bytes w16 (length entry)) (flat_map rrset_bytes entry)) }
-
--- ---- a transaction's working set after a change
+-- ---- the trie's entry of a name
 
 abbrev pub record_of : List ℕ → List ℕ → trie.Entry
 record_of key bytes = record { key = key; item = bytes }

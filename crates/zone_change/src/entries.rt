@@ -13,7 +13,7 @@ use rr_data::{CNAME, Entry, ITEM_LIMIT, Rdata, SOA};
 use std::alloc::{AllocError, AllocFailed, Global};
 use zone_model::Refusal;
 
-/// Why an operation changes nothing.
+/// Why an operation makes no entry.
 #[derive(Clone, Copy, Debug)]
 pub enum Stopped {
     /// Want of memory.

@@ -1,4 +1,4 @@
-//! What an operation makes of an entry, and of a zone that stands as a trie.
+//! What an operation makes of the entry of its owner.
 #![tactic(auto)]
 
 mod buffers;
