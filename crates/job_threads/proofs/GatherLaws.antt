@@ -111,7 +111,7 @@ module _ {A : Type 0} (passes front rest : List A) (spare asks : A) (known : A �
   pub others_new : AreNew s.opening (map known rest)
   others_new = parts.0
 
-  numbers : Numbers
+  abbrev numbers : Numbers
   numbers = record { asker = parts.1.1.0.0; holder = parts.1.0.0 }
 
   pub gathers_worker : (origin : Name) (size : TableSize) → IsIndex s origin size → (ws : List (List Command)) (os : List Outcomes) (views : List Known) (main after spare' asks' : Known) (w : List Command) (o : Outcomes) → Gathers s (map known rest) ws os views main
