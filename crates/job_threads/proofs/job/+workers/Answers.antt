@@ -1,10 +1,29 @@
-use Rattle.std.proofs.Common.{◌≡◌, ◌∙◌, ◌∷◌, map, sym, ap, subst}
+use Rattle.std.proofs.Common.{rules, false, ◌≡◌, ◌∷◌, map, sym, ap, subst}
+use Rattle.std.specs.Prelude.{IsSome}
+use Rattle.std.specs.List.{AllByRecursion}
+use Rattle.job_model.specs.Commands.{InTurn}
 use Rattle.job_script.specs.Views.{worker_view, workers_view}
 use Rattle.shared_index.specs.Passes.{known_at}
 use Rattle.job_threads.specs.Closings.{Gathers}
 use Rattle.job_threads.proofs.ShowLaws.{seat_told}
-use Rattle.job_threads.proofs.GatherLaws.{gathers_none, others_new, gathers_worker, gathers_done, at_ok}
+use Rattle.job_threads.proofs.GatherLaws.{popped, gathers_start, others_new, gathers_worker, gathers_done, at_ok}
 use Rattle.job_threads.proofs.job.+workers.Goals as goal
+
+pub returns-in_default-split_first-clause-ran : goal.returns-in_default-split_first-clause-ran
+returns-in_default-split_first-clause-ran g t c = λ s index new.
+    gathers_start c.args.passes.items c.pop.new.self.items c.in-Some.asks (λ p. known_at p.seat) c.args.workers.now worker_view s c.new.result.items c.in-Some.ensures.items c.requires.count c.in_default-split_first.ensures.cases c.new.ensures.items new
+
+pub join-done-requires-after_bounds : goal.join-done-requires-after_bounds
+join-done-requires-after_bounds g t c =
+    let turn = subst (AllByRecursion (InTurn false)) (ap workers_view c.in-Some-split_first.ensures.cases.0) c.requires.in_turn in
+    let mine : InTurn false (worker_view c.in-Some-split_first.worker.now) = turn.0 in
+    let theirs : AllByRecursion (InTurn false) (workers_view c.in-Some-split_first.others.now) = turn.1 in
+    let first = popped c.args.passes.items c.pop.new.self.items c.in-Some.asks (λ p. (IsSome p.seat) × (p.place ≡ c.args.index.now.place)) c.in-Some.ensures.items c.requires.here in
+    let second = popped c.pop.new.self.items c.pop-2.new.self.items c.in-Some-pop.spare (λ p. (IsSome p.seat) × (p.place ≡ c.args.index.now.place)) c.in-Some-pop.ensures.items first.0 in
+    λ κs bounds. (
+      ((first.1.0, second.1.0), ((first.1.1, second.1.1), (mine, search rules))),
+      (search rules, (search rules, (search rules, (search rules, (search rules, (search rules, (second.0, (theirs, search rules)))))))),
+    )
 
 pub returns-clause-ran : goal.returns-clause-ran
 returns-clause-ran g t c = λ s index new.
