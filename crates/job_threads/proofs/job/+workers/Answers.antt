@@ -44,7 +44,7 @@ returns-clause-ran g t c = λ s index new.
     gathers_done c.with_done.result (λ g. g.outcomes.items) (λ g. map (λ p. known_at p.seat) g.passes.items) (λ g. known_at g.main.seat) s _ _ _ _ _ (known_at done.asks.seat)
     c.with_done.ensures.outcomes c.with_done.ensures.passes c.with_done.ensures.learnt
     (λ after learnt. subst (λ ws. Gathers s (map (λ p. known_at p.seat) passes) ws (done.outcomes ∷ others.outcomes.items) (known_at done.asks.seat ∷ known_at done.spare.seat ∷ map (λ p. known_at p.seat) others.passes.items) after) (sym (ap workers_view c.in-Some-split_first.ensures.cases.0))
-        (gathers_worker passes front rest spare asks (λ p. known_at p.seat) s last next new origin size index (workers_view c.in-Some-split_first.others.now) others.outcomes.items (map (λ p. known_at p.seat) others.passes.items) (known_at others.main.seat) after
-        (known_at done.spare.seat) (known_at done.asks.seat) (worker_view c.in-Some-split_first.worker.now) done.outcomes
-        (at_ok _ others _ c.in_ok-others.was (second.1.1 s index (others_new passes front rest spare asks (λ p. known_at p.seat) s last next new)))
-        (λ n setup begins. at_ok _ done _ c.in_ok-done.was (first s n setup begins)) (seat_told others.main.seat main.0) learnt))
+    (gathers_worker passes front rest spare asks (λ p. known_at p.seat) s last next new origin size index (workers_view c.in-Some-split_first.others.now) others.outcomes.items (map (λ p. known_at p.seat) others.passes.items) (known_at others.main.seat) after
+    (known_at done.spare.seat) (known_at done.asks.seat) (worker_view c.in-Some-split_first.worker.now) done.outcomes
+    (at_ok _ others _ c.in_ok-others.was (second.1.1 s index (others_new passes front rest spare asks (λ p. known_at p.seat) s last next new)))
+    (λ n setup begins. at_ok _ done _ c.in_ok-done.was (first s n setup begins)) (seat_told others.main.seat main.0) learnt))

@@ -15,9 +15,8 @@ returns-in_ok-finished-in-Ok g c = λ zone stands.
     let es = entries_of_items c.args.items.now in
     let size = c.args.blank.shared.table.shared.key in
     let s : Setup = record { chunks = size.chunks; passes = size.passes; origin = c.args.origin.now; opening = es } in
-    let same = c.in-Ok.ensures.size in
-    (
+    let same = c.in-Ok.ensures.size in (
       subst (λ es. cells es ≤ room_in size.chunks) (sym stands.entries) c.in-Ok.ensures.fits,
       c.in_ok-finished-in-Ok.ensures.ran s zone (record { origin_is = refl; chunks = ap (λ k. k.chunks) (sym same); passes = ap (λ k. k.passes) (sym same) }) stands
-      (new_passes c.in-Ok.passes.items (λ p. p.seat) es (λ p. p.place ≡ 0) c.in-Ok.ensures.passes c.in-Ok.ensures.unused),
+          (new_passes c.in-Ok.passes.items (λ p. p.seat) es (λ p. p.place ≡ 0) c.in-Ok.ensures.passes c.in-Ok.ensures.unused),
     )
