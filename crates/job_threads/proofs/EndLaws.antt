@@ -1,8 +1,9 @@
 -- How a job ends, by what main's last question and the end of the index tell.
 use Rattle.std.proofs.Common.{◌≡◌, ◌∙◌, ◌⊎◌, ⊎_elim, ℕ, suc, ◌+◌, ◌*◌, ◌<◌, true, List, [], ◌∷◌, ◌++◌, length, map, Option, Some, None, refl, sym, ap, subst, arith, length-append}
 use Rattle.std.specs.Prelude.{Contains}
-use Rattle.std.specs.List.{AllByRecursion}
+use Rattle.std.specs.List.{All, AllByRecursion}
 use Rattle.std.proofs.lemmas.List.{length-map, map-append}
+use Rattle.std.proofs.lemmas.List.Elements.{All-push}
 use Rattle.pin_core.proofs.Lists.{contains_cases}
 use Rattle.zone_model.specs.Names.{Name}
 use Rattle.zone_model.specs.Versions.{Version}
@@ -98,14 +99,19 @@ module _ (s : Setup) (before : List Known) (ws : List (List Command)) (os : List
       subst (λ (cs : List (List Command)). IsRun s.chunks s.origin zone cs os version names many) (sym g.commands_are)
       (subst (λ (os' : List Outcomes). IsRun s.chunks s.origin zone (commands_in g.done) os' version names many) (sym g.outcomes_are) r)
 
+-- what is left and main's
+pub all_handed : {A : Type 0} (whole rest : List A) (main : A) (P : A → Type 0) → whole ≡ rest ++ main ∷ [] → All P rest → P main → All P whole
+all_handed whole rest main P is all one = subst (All P) (sym is) (All-push P rest main all one)
+
 -- The same, by the lists of passes: all were given, and what is left of them and main's are handed in.
-pub job_ended : {A B : Type 0} (passes rest whole : List A) (main : A) (known : A → Known) (workers : List B) (view : B → List Command) (s : Setup) (origin : Name) (size : TableSize) → IsIndex s origin size → size.passes ≡ length passes → length passes ≡ passes_for (length workers)
-    → AreAll (length passes) (map known passes) → whole ≡ rest ++ main ∷ [] → (os : List Outcomes) (old pinned : Known) (number : ℕ) → Gathers s (map known passes) (map view workers) os (map known rest) old → is_told old.seen.opening ≡ true → Pinned Lawful old pinned number
-    → known main ≡ with_progress pinned progress.Idle → (zone : Version) → StandsAs s.opening zone → (version names many : ℕ) (last : AllSeen) → Ends size.passes (map known whole) version last → names ≡ length (version_seen pinned.seen) → many ≡ nodes (keys_of (version_seen pinned.seen))
+pub job_ended : {A B : Type 0} (passes rest whole : List A) (main : A) (known : A → Known) (workers handed : List B) (view : B → List Command) → handed ≡ workers → (s : Setup) (origin : Name) (size : TableSize) → IsIndex s origin size → size.passes ≡ length passes → length passes ≡ passes_for (length workers)
+    → AreAll (length passes) (map known passes) → whole ≡ rest ++ main ∷ [] → (os : List Outcomes) (old pinned : Known) (number : ℕ) → Gathers s (map known passes) (map view handed) os (map known rest) old → is_told old.seen.opening ≡ true → Pinned Lawful old pinned number
+    → (after : Known) → known main ≡ after → after ≡ with_progress pinned progress.Idle → (zone : Version) → StandsAs s.opening zone → (version names many : ℕ) (last : AllSeen) → Ends size.passes (map known whole) version last → names ≡ length (version_seen pinned.seen) → many ≡ nodes (keys_of (version_seen pinned.seen))
     → IsRun s.chunks origin zone (map view workers) os version names many
-job_ended passes rest whole main known workers view s origin size index counted few all is_whole os old pinned number g told p left zone opens version names many last ends names_are many_are =
+job_ended passes rest whole main known workers handed view same_workers s origin size index counted few all is_whole os old pinned number given told p after same left zone opens version names many last ends names_are many_are =
+    let g : Gathers s (map known passes) (map view workers) os (map known rest) old = subst (λ (l : List _). Gathers s (map known passes) (map view l) os (map known rest) old) same_workers given in
     let long : passes_for (length workers) ≡ passes_for (length (map view workers)) = ap passes_for (sym (length-map workers view)) in
     let views : map known whole ≡ map known rest ++ known main ∷ [] = ap (map known) is_whole ∙ map-append known rest (main ∷ []) in
     let ended : Ends (length passes) (map known rest ++ known main ∷ []) version last = subst (λ (n : ℕ). Ends n (map known rest ++ known main ∷ []) version last) counted (subst (λ (vs : List Known). Ends size.passes vs version last) views ends) in
     subst (λ (o : Name). IsRun s.chunks o zone (map view workers) os version names many) index.origin_is
-    (job_ends s (map known passes) (map view workers) os (map known rest) old pinned (known main) number g told p left zone (length passes) version names many last opens (index.passes ∙ counted ∙ few ∙ long) (few ∙ long) all ended names_are many_are)
+    (job_ends s (map known passes) (map view workers) os (map known rest) old pinned (known main) number g told p (same ∙ left) zone (length passes) version names many last opens (index.passes ∙ counted ∙ few ∙ long) (few ∙ long) all ended names_are many_are)

@@ -1,5 +1,5 @@
 -- Workers that are done, one after another.
-use Rattle.std.proofs.Common.{true, ◌≡◌, ◌∙◌, ◌⊎◌, inl, inr, ⊎_elim, ℕ, suc, ◌+◌, ◌<◌, List, [], ◌∷◌, ◌++◌, length, map, Option, Some, Result, Ok, Err, IfOk, refl, sym, ap, subst, arith, append_assoc}
+use Rattle.std.proofs.Common.{true, ◌≡◌, ◌∙◌, ◌⊎◌, inl, inr, ⊎_elim, ℕ, suc, ◌+◌, ◌*◌, ◌<◌, List, [], ◌∷◌, ◌++◌, length, map, Option, Some, Result, Ok, Err, IfOk, refl, sym, ap, subst, arith, append_assoc, length-append}
 use Rattle.std.specs.Prelude.{Contains}
 use Rattle.std.specs.List.{All, AllByRecursion}
 use Rattle.std.proofs.lemmas.List.{map-append}
@@ -35,6 +35,15 @@ gathers_none s main number new = record {
   opened = new.opened;
   learnt = tt;
 }
+
+-- no worker is left, and of the passes main's alone
+pub gathers_start : {A B : Type 0} (passes front : List A) (asks : A) (known : A → Known) (workers : List B) (view : B → List Command) (s : Setup) (os : List Outcomes) → passes ≡ front ++ asks ∷ [] → length passes ≡ 2 * length workers + 1 → length workers ≡ 0 → os ≡ [] → AreNew s.opening (map known passes)
+    → Gathers s (map known passes) (map view workers) os (map known front) (known asks)
+gathers_start passes [] asks known [] view s os is long none no_outcomes new =
+    let first = subst (λ (l : List _). AreNew s.opening (map known l)) is new in
+    subst (λ (l : List _). Gathers s (map known l) [] os [] (known asks)) (sym is) (subst (λ (l : List Outcomes). Gathers s (known asks ∷ []) [] l [] (known asks)) (sym no_outcomes) (gathers_none s (known asks) first.0.0 first.0.1))
+gathers_start passes (p ∷ front) asks known [] view s os is long none no_outcomes new = absurd (omega (arith, long, ap length is, length-append front (asks ∷ [])))
+gathers_start passes front asks known (w ∷ workers) view s os is long none no_outcomes new = absurd (omega (arith, none))
 
 numbers_append : (xs ys : List Known) → numbers_in (xs ++ ys) ≡ numbers_in xs ++ numbers_in ys
 numbers_append xs ys = map-append (λ (v : Known). number_of v.pass) xs ys
@@ -111,7 +120,7 @@ module _ {A : Type 0} (passes front rest : List A) (spare asks : A) (known : A �
   pub others_new : AreNew s.opening (map known rest)
   others_new = parts.0
 
-  numbers : Numbers
+  abbrev numbers : Numbers
   numbers = record { asker = parts.1.1.0.0; holder = parts.1.0.0 }
 
   pub gathers_worker : (origin : Name) (size : TableSize) → IsIndex s origin size → (ws : List (List Command)) (os : List Outcomes) (views : List Known) (main after spare' asks' : Known) (w : List Command) (o : Outcomes) → Gathers s (map known rest) ws os views main

@@ -50,8 +50,7 @@ module _ {A : Type 0} (ps : List A) (seat_of : A → Option Seat) (es : Entries)
 
   new_pass : (p : A) → IsFirst p → IsUnused p → (number : ℕ) × IsNew number es (known_at (seat_of p))
   new_pass p first unused =
-      let own = seat_pass (seat_of p) first.0 in
-      (
+      let own = seat_pass (seat_of p) first.0 in (
         own.0.number,
         record {
           own = own.0;

@@ -1,15 +1,34 @@
-use Rattle.std.proofs.Common.{◌≡◌, ◌∙◌, map, sym, ap, subst}
+use Rattle.std.proofs.Common.{rules, false, ◌≡◌, ◌∷◌, map, sym, ap, subst}
+use Rattle.std.specs.Prelude.{IsSome}
+use Rattle.std.specs.List.{AllByRecursion}
+use Rattle.job_model.specs.Commands.{InTurn}
 use Rattle.job_script.specs.Views.{worker_view, workers_view}
 use Rattle.shared_index.specs.Passes.{known_at}
 use Rattle.job_threads.specs.Closings.{Gathers}
 use Rattle.job_threads.proofs.ShowLaws.{seat_told}
-use Rattle.job_threads.proofs.GatherLaws.{gathers_none, others_new, gathers_worker, gathers_done, at_ok}
+use Rattle.job_threads.proofs.GatherLaws.{popped, gathers_start, others_new, gathers_worker, gathers_done, at_ok}
 use Rattle.job_threads.proofs.job.+workers.Goals as goal
+
+pub returns-in_default-split_first-clause-ran : goal.returns-in_default-split_first-clause-ran
+returns-in_default-split_first-clause-ran g t c = λ s index new.
+    gathers_start c.args.passes.items c.pop.new.self.items c.in-Some.asks (λ p. known_at p.seat) c.args.workers.now worker_view s c.new.result.items c.in-Some.ensures.items c.requires.count c.in_default-split_first.ensures.cases c.new.ensures.items new
+
+pub join-done-requires-after_bounds : goal.join-done-requires-after_bounds
+join-done-requires-after_bounds g t c =
+    let turn = subst (AllByRecursion (InTurn false)) (ap workers_view c.in-Some-split_first.ensures.cases.0) c.requires.in_turn in
+    let mine : InTurn false (worker_view c.in-Some-split_first.worker.now) = turn.0 in
+    let theirs : AllByRecursion (InTurn false) (workers_view c.in-Some-split_first.others.now) = turn.1 in
+    let first = popped c.args.passes.items c.pop.new.self.items c.in-Some.asks (λ p. (IsSome p.seat) × (p.place ≡ c.args.index.now.place)) c.in-Some.ensures.items c.requires.here in
+    let second = popped c.pop.new.self.items c.pop-2.new.self.items c.in-Some-pop.spare (λ p. (IsSome p.seat) × (p.place ≡ c.args.index.now.place)) c.in-Some-pop.ensures.items first.0 in
+    λ κs bounds. (
+      ((first.1.0, second.1.0), ((first.1.1, second.1.1), (mine, search rules))),
+      (search rules, (search rules, (search rules, (search rules, (search rules, (search rules, (second.0, (theirs, search rules)))))))),
+    )
 
 pub returns-clause-ran : goal.returns-clause-ran
 returns-clause-ran g t c = λ s index new.
-    let first = c.join-done.ensures.first.1 in
-    let second = c.join-done.ensures.second.1 in
+    let first = c.join-done.ensures.first.1.1 in
+    let second = c.join-done.ensures.second in
     let done = c.in_ok-done.field-0 in
     let others = c.in_ok-others.field-0 in
     let passes = c.args.passes.items in
@@ -21,11 +40,11 @@ returns-clause-ran g t c = λ s index new.
     let size = c.args.index.now.shared.table.shared.key in
     let last = c.in-Some.ensures.items in
     let next = c.in-Some-pop.ensures.items in
-    let main = at_ok _ others _ c.in_ok-others.was second.main in
+    let main = at_ok _ others _ c.in_ok-others.was second.0 in
     gathers_done c.with_done.result (λ g. g.outcomes.items) (λ g. map (λ p. known_at p.seat) g.passes.items) (λ g. known_at g.main.seat) s _ _ _ _ _ (known_at done.asks.seat)
     c.with_done.ensures.outcomes c.with_done.ensures.passes c.with_done.ensures.learnt
-    (λ after learnt. subst (λ ws. Gathers s _ ws _ _ after) (sym (ap workers_view c.in-Some-split_first.ensures.cases.0))
-        (gathers_worker passes front rest spare asks (λ p. known_at p.seat) s last next new origin size index (workers_view c.in-Some-split_first.others.now) others.outcomes.items (map (λ p. known_at p.seat) others.passes.items) (known_at others.main.seat) after
-        (known_at done.spare.seat) (known_at done.asks.seat) (worker_view c.in-Some-split_first.worker.now) done.outcomes
-        (at_ok _ others _ c.in_ok-others.was (second.ran s index (others_new passes front rest spare asks (λ p. known_at p.seat) s last next new)))
-        (λ n setup begins. at_ok _ done _ c.in_ok-done.was (first.ran s n setup begins)) (seat_told others.main.seat main.0) learnt))
+    (λ after learnt. subst (λ ws. Gathers s (map (λ p. known_at p.seat) passes) ws (done.outcomes ∷ others.outcomes.items) (known_at done.asks.seat ∷ known_at done.spare.seat ∷ map (λ p. known_at p.seat) others.passes.items) after) (sym (ap workers_view c.in-Some-split_first.ensures.cases.0))
+    (gathers_worker passes front rest spare asks (λ p. known_at p.seat) s last next new origin size index (workers_view c.in-Some-split_first.others.now) others.outcomes.items (map (λ p. known_at p.seat) others.passes.items) (known_at others.main.seat) after
+    (known_at done.spare.seat) (known_at done.asks.seat) (worker_view c.in-Some-split_first.worker.now) done.outcomes
+    (at_ok _ others _ c.in_ok-others.was (second.1.1 s index (others_new passes front rest spare asks (λ p. known_at p.seat) s last next new)))
+    (λ n setup begins. at_ok _ done _ c.in_ok-done.was (first s n setup begins)) (seat_told others.main.seat main.0) learnt))
