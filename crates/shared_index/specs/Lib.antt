@@ -12,4 +12,3 @@ pub mod Images
 pub mod Openings
 pub mod Fulls
 pub mod Closings
-pub mod Receipts

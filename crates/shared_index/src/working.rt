@@ -16,7 +16,6 @@ use crate::meaning::{Law, Meaning, Operations, Version};
 use crate::recycling::free_unreached;
 use crate::refusal::Full;
 use crate::rounds::make_round;
-use packed_node::Ref;
 use shared_cells::Shared;
 
 /// Why a working set isn't changed.
@@ -31,20 +30,6 @@ pub(crate) enum Refusal {
 impl Draft {
     ghost use Rattle.shared_index.specs.Drafts.{Works, Operates, IsFull, working_set};
     ghost use Rattle.shared_index.specs.Fulls.{CausedFrom, FullCause, Grown, after_room, version_at};
-
-    // The operation is done: its trie has this root.
-    fn with_done(self, root: Option<Ref>, change: &Change<'_>) -> Draft
-        ensures seat { result.seat ≡ self.seat }
-        ensures usage { result.usage ≡ self.usage }
-        ensures root { result.root ≡ root }
-        ensures log { result.log.operations ≡ self.log.operations ++ operation_of change.now ∷ [] }
-        ensures kept { result.kept ≡ self.kept }
-    {
-        let mut draft = self;
-        draft.root = root;
-        draft.log = draft.log.then(change);
-        draft
-    }
 
     // Tries an operation once.
     fn attempt<L: Law>(
@@ -72,17 +57,29 @@ impl Draft {
             kept,
         } = self;
         let (seat, outcome) = attempt(shared, seat, &mut usage, root, change);
-        let draft = Draft {
-            seat,
-            usage,
-            base,
-            root,
-            log,
-            kept,
-        };
         match outcome {
-            Ok(new) => (draft.with_done(new, change), Ok(())),
-            Err(unchanged) => (draft, Err(unchanged)),
+            Ok(root) => {
+                let draft = Draft {
+                    seat,
+                    usage,
+                    base,
+                    root,
+                    log: log.then(change),
+                    kept,
+                };
+                (draft, Ok(()))
+            }
+            Err(unchanged) => {
+                let draft = Draft {
+                    seat,
+                    usage,
+                    base,
+                    root,
+                    log,
+                    kept,
+                };
+                (draft, Err(unchanged))
+            }
         }
     }
 
