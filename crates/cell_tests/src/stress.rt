@@ -8,12 +8,12 @@ ghost use Rattle.shared_cells.specs.Cells.{cells_of, given_chunks, kept_referenc
 ghost use Rattle.shared_cells.specs.Steps.{CanPublish, Published};
 ghost use Rattle.cell_tests.specs.OneCell.{place_of, cell_of, IsVersion, AreOf, IsTold};
 
+use chunk_cells::{CellRead, CellWrite};
+use packed_node::Cell;
 use shared_cells::{
     JoinedSeat, KeptVersions, Law, Lent, NewPassSeat, NewTurnSeat, Opening, PassSeat, Payload,
     PinnedCells, PinnedSeat, Shared, TurnSeat,
 };
-use chunk_cells::{CellRead, CellWrite};
-use packed_node::Cell;
 use std::marker::Brand;
 use std::test::Fail;
 use std::thread::{Threads, join};

@@ -55,10 +55,12 @@ fn two_workers_meet(rt: HostRuntime) -> Result<(), Fail> {
 #[test]
 fn a_snapshot_keeps_no_writer_out(rt: HostRuntime) -> Result<(), Fail> {
     let gate = Overtaking::new();
-    let script = b"worker\nhold\nat get ns A\nworker\nwrite\nadd ns 300 A 192.0.2.1\ncommit\nget ns A\n";
+    let script =
+        b"worker\nhold\nat get ns A\nworker\nwrite\nadd ns 300 A 192.0.2.1\ncommit\nget ns A\n";
     let text = report(&rt, rt.alloc(), script, &gate)?;
     assert_eq!(rt; gate.missed(), 0);
-    let due = b"1.1 v0 HELD\n1.2 v0 NXDOMAIN\n2.1 v1 COMMITTED\n2.2 v1 ANSWER 1\nns.example. 300 IN A 192.0.2.1\nend v1 names 1\n";
+    let due =
+        b"1.1 v0 HELD\n1.2 v0 NXDOMAIN\n2.1 v1 COMMITTED\n2.2 v1 ANSWER 1\nns.example. 300 IN A 192.0.2.1\nend v1 names 1\n";
     assert_eq!(rt; text.as_slice(), due.as_slice());
     Ok(())
 }
