@@ -5,7 +5,7 @@ ghost use Rattle.std.specs.Thread.{IsSync};
 ghost use Rattle.zone_model.specs.Versions.{Version};
 ghost use Rattle.job_model.specs.Commands.{InTurn};
 ghost use Rattle.job_model.specs.Outcomes.{passes_for};
-ghost use Rattle.job_script.specs.Views.{job_view, worker_view, workers_view};
+ghost use Rattle.job_script.specs.Views.{command_view, job_view, worker_view, workers_view};
 ghost use Rattle.shared_index.specs.Passes.{known_at, Learnt};
 ghost use Rattle.shared_index.specs.Closings.{AreAll};
 ghost use Rattle.job_threads.specs.Histories.{Setup, StandsAs};
@@ -80,6 +80,19 @@ fn with_done<N: Named>(
     })
 }
 
+// What a worker is to do, with its passes.
+fn task_of<N: Named>(number: u32, worker: &Worker, asks: Pass<N>, spare: Pass<N>) -> Task<'_, N>
+    ensures commands { map command_view result.commands.now ≡ worker_view worker.now }
+    ensures passes { (result.asks ≡ asks) × (result.spare ≡ spare) }
+{
+    Task {
+        number,
+        commands: &worker.commands,
+        asks,
+        spare,
+    }
+}
+
 // Runs the workers beside each other, from the one of a number on. Each has two of the passes, from the end on, and main the first.
 #[cycle(workers)]
 fn run_workers<R: Threads + Wait + Sync, N: Named + Send + Sync, G: Gate>(
@@ -125,13 +138,14 @@ fn run_workers<R: Threads + Wait + Sync, N: Named + Send + Sync, G: Gate>(
             → Begins s numbers (known_at asks.seat) (known_at spare.seat)
             → IfOk result (λ d. WorkerRan s numbers (ended (known_at d.asks.seat) (known_at d.spare.seat)) (worker_view worker.entry.now) d.outcomes.list.items) }
     {
-        let task = Task {
-            number,
-            commands: &worker.commands,
-            asks,
-            spare,
-        };
-        run_worker(rt, alloc, origin, index, task, gate)
+        run_worker(
+            rt,
+            alloc,
+            origin,
+            index,
+            task_of(number, worker, asks, spare),
+            gate,
+        )
     };
     let rest = move || -> Result<Gathered<N>, AllocError>
         requires sync { IsSync R.row }
