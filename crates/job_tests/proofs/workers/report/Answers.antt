@@ -1,8 +1,13 @@
 use Rattle.std.proofs.Common.{[], refl}
 use Rattle.std.specs.List.Sorted.{IsStrictlySortedBy}
+use Rattle.trie_write.specs.Entries.{entries_of_items}
+use Rattle.job_threads.specs.Histories.{IsZone}
 use Rattle.job_tests.proofs.workers.report.Goals as goal
 
 -- a version that has no names
-pub run_zone-requires-clause-zone : goal.run_zone-requires-clause-zone
+no_names : IsZone (entries_of_items [])
 unfolding IsStrictlySortedBy
-run_zone-requires-clause-zone g c = record { version = []; stands = record { valid = record { rising = tt; items = tt }; entries = refl } }
+no_names = record { version = []; stands = record { valid = record { rising = tt; items = tt }; entries = refl } }
+
+pub run_zone-requires-clause-zone : goal.run_zone-requires-clause-zone
+run_zone-requires-clause-zone g c k l = no_names
