@@ -5,7 +5,7 @@ ghost use Rattle.std.specs.Thread.{IsSync};
 ghost use Rattle.zone_model.specs.Versions.{Version};
 ghost use Rattle.job_model.specs.Commands.{InTurn};
 ghost use Rattle.job_model.specs.Outcomes.{passes_for};
-ghost use Rattle.job_script.specs.Views.{job_view, worker_view, workers_view};
+ghost use Rattle.job_script.specs.Views.{command_view, job_view, worker_view, workers_view};
 ghost use Rattle.shared_index.specs.Passes.{known_at, Learnt};
 ghost use Rattle.shared_index.specs.Closings.{AreAll};
 ghost use Rattle.job_threads.specs.Histories.{Setup, StandsAs};
@@ -80,6 +80,19 @@ fn with_done<N: Named>(
     })
 }
 
+// What a worker is to do, with its passes.
+fn task_of<N: Named>(number: u32, worker: &Worker, asks: Pass<N>, spare: Pass<N>) -> Task<'_, N>
+    ensures commands { map command_view result.commands.now ≡ worker_view worker.now }
+    ensures passes { (result.asks ≡ asks) × (result.spare ≡ spare) }
+{
+    Task {
+        number,
+        commands: &worker.commands,
+        asks,
+        spare,
+    }
+}
+
 // Runs the workers beside each other, from the one of a number on. Each has two of the passes, from the end on, and main the first.
 #[cycle(workers)]
 fn run_workers<R: Threads + Wait + Sync, N: Named + Send + Sync, G: Gate>(
@@ -89,7 +102,7 @@ fn run_workers<R: Threads + Wait + Sync, N: Named + Send + Sync, G: Gate>(
     index: &Index<ZoneLaw, N>,
     workers: &[Worker],
     number: u32,
-    passes: Vec<Pass<N>>,
+    mut passes: Vec<Pass<N>>,
     gate: &G,
 ) -> Result<Gathered<N>, AllocError>
     requires count { length passes.items ≡ 2 * length workers.now + 1 }
@@ -100,7 +113,6 @@ fn run_workers<R: Threads + Wait + Sync, N: Named + Send + Sync, G: Gate>(
     ensures ran { (s : Setup) → IsIndex s origin.now index.now.shared.table.shared.key → AreNew s.opening (map (λ p. known_at p.seat) passes.items)
         → IfOk result (λ g. Gathers s (map (λ p. known_at p.seat) passes.items) (workers_view workers.now) g.outcomes.items (map (λ p. known_at p.seat) g.passes.items) (known_at g.main.seat)) }
 {
-    let mut passes = passes;
     let Some(asks) = passes.pop() else {
         unreachable!();
     };
@@ -125,12 +137,7 @@ fn run_workers<R: Threads + Wait + Sync, N: Named + Send + Sync, G: Gate>(
             → Begins s numbers (known_at asks.seat) (known_at spare.seat)
             → IfOk result (λ d. WorkerRan s numbers (ended (known_at d.asks.seat) (known_at d.spare.seat)) (worker_view worker.entry.now) d.outcomes.list.items) }
     {
-        let task = Task {
-            number,
-            commands: &worker.commands,
-            asks,
-            spare,
-        };
+        let task = task_of(number, worker, asks, spare);
         run_worker(rt, alloc, origin, index, task, gate)
     };
     let rest = move || -> Result<Gathered<N>, AllocError>
