@@ -13,7 +13,7 @@ trap 'rm -rf "$folder"' EXIT
 part() {
     python3 "$here/hosts.py" "$records" 1 "$1" | sed '1,/^%%$/d'
 }
-python3 "$here/hosts.py" "$records" 1 one | sed '/^%%$/q' >"$folder/zone"
+python3 "$here/hosts.py" "$records" 1 one | sed -n '1,/^%%$/p' >"$folder/zone"
 for commands in one questions blocks; do
     part "$commands" >"$folder/$commands"
 done
