@@ -102,7 +102,7 @@ fn run_workers<R: Threads + Wait + Sync, N: Named + Send + Sync, G: Gate>(
     index: &Index<ZoneLaw, N>,
     workers: &[Worker],
     number: u32,
-    passes: Vec<Pass<N>>,
+    mut passes: Vec<Pass<N>>,
     gate: &G,
 ) -> Result<Gathered<N>, AllocError>
     requires count { length passes.items ≡ 2 * length workers.now + 1 }
@@ -113,7 +113,6 @@ fn run_workers<R: Threads + Wait + Sync, N: Named + Send + Sync, G: Gate>(
     ensures ran { (s : Setup) → IsIndex s origin.now index.now.shared.table.shared.key → AreNew s.opening (map (λ p. known_at p.seat) passes.items)
         → IfOk result (λ g. Gathers s (map (λ p. known_at p.seat) passes.items) (workers_view workers.now) g.outcomes.items (map (λ p. known_at p.seat) g.passes.items) (known_at g.main.seat)) }
 {
-    let mut passes = passes;
     let Some(asks) = passes.pop() else {
         unreachable!();
     };
@@ -138,14 +137,8 @@ fn run_workers<R: Threads + Wait + Sync, N: Named + Send + Sync, G: Gate>(
             → Begins s numbers (known_at asks.seat) (known_at spare.seat)
             → IfOk result (λ d. WorkerRan s numbers (ended (known_at d.asks.seat) (known_at d.spare.seat)) (worker_view worker.entry.now) d.outcomes.list.items) }
     {
-        run_worker(
-            rt,
-            alloc,
-            origin,
-            index,
-            task_of(number, worker, asks, spare),
-            gate,
-        )
+        let task = task_of(number, worker, asks, spare);
+        run_worker(rt, alloc, origin, index, task, gate)
     };
     let rest = move || -> Result<Gathered<N>, AllocError>
         requires sync { IsSync R.row }
