@@ -1,17 +1,16 @@
 -- What an ended index tells, where all its passes were handed in.
-use Rattle.std.proofs.Common.{◌≡◌, ◌∙◌, ◌≢◌, ◌⊎◌, inl, inr, ⊎_elim, ℕ, zero, suc, ◌+◌, ◌<◌, ◌≤◌, List, [], ◌∷◌, ◌++◌, length, map, Option, Some, None, refl, sym, ap, subst, arith, append_assoc, length-append}
+use Rattle.std.proofs.Common.{◌≡◌, ◌∙◌, ◌≢◌, inl, inr, ⊎_elim, ℕ, zero, suc, ◌+◌, ◌<◌, ◌≤◌, List, [], ◌∷◌, ◌++◌, length, map, Option, Some, None, refl, sym, ap, subst, arith, append_assoc, length-append}
 use Rattle.std.specs.Prelude.{Contains}
 use Rattle.std.specs.List.{All, AllByRecursion}
 use Rattle.std.proofs.lemmas.List.{length-map}
-use Rattle.std.proofs.lemmas.List.Elements.{Contains-append_left, Contains-append_right, Contains-append_cases, All-contains, Contains-get_or}
+use Rattle.std.proofs.lemmas.List.Elements.{Contains-append_left, Contains-append_right, Contains-append_cases, All-contains}
 use Rattle.pin_core.proofs.Lists.{contains_cases}
-use Rattle.shared_cells.specs.declared.view.Naming.{Naming}
 use Rattle.shared_cells.specs.declared.view.PassView.{PassView}
-use Rattle.shared_cells.specs.History.{StartsWith, IsPartOf, entries_by}
+use Rattle.shared_cells.specs.History.{StartsWith, entries_by}
 use Rattle.shared_cells.specs.Views.{number_of}
 use Rattle.shared_index.specs.declared.meaning.Operation.{Operation}
 use Rattle.shared_index.specs.Passes.{Known, pinned_in}
-use Rattle.shared_index.specs.Closings.{AllSeen, Includes, IsThere, AreAll, IsCommitOf, IsNamingOf, Ends}
+use Rattle.shared_index.specs.Closings.{AllSeen, Includes, AreAll, IsCommitOf, IsNamingOf, Ends}
 use Rattle.job_threads.specs.Histories.{Setup, Commit}
 use Rattle.job_threads.specs.Closings.{Some', AreApart, Worker, views_of, numbers_in, IsPass, Closed, MainSees}
 use Rattle.job_threads.proofs.HistoryLaws.{by-append, begins_more}

@@ -1,9 +1,9 @@
 -- Workers that are done, one after another.
-use Rattle.std.proofs.Common.{true, ◌≡◌, ◌∙◌, ◌⊎◌, inl, inr, ⊎_elim, ℕ, suc, ◌+◌, ◌*◌, ◌<◌, List, [], ◌∷◌, ◌++◌, length, map, Option, Some, Result, Ok, Err, IfOk, refl, sym, ap, subst, arith, append_assoc, length-append}
+use Rattle.std.proofs.Common.{true, ◌≡◌, ◌∙◌, ⊎_elim, ℕ, suc, ◌+◌, ◌*◌, List, [], ◌∷◌, ◌++◌, length, map, Result, Ok, Err, IfOk, refl, sym, ap, subst, arith, append_assoc, length-append}
 use Rattle.std.specs.Prelude.{Contains}
-use Rattle.std.specs.List.{All, AllByRecursion}
+use Rattle.std.specs.List.{All}
 use Rattle.std.proofs.lemmas.List.{map-append}
-use Rattle.std.proofs.lemmas.List.Elements.{All-cons, Contains-append_left, Contains-append_right, Contains-append_cases}
+use Rattle.std.proofs.lemmas.List.Elements.{All-cons, Contains-append_cases}
 use Rattle.pin_core.proofs.Lists.{contains_cases}
 use Rattle.zone_model.specs.Names.{Name}
 use Rattle.job_model.specs.Commands.{Command}
@@ -15,7 +15,7 @@ use Rattle.shared_index.specs.Passes.{Known, Learnt}
 use Rattle.job_threads.specs.Histories.{Setup, Entries}
 use Rattle.job_threads.specs.Commands.{IsIndex, IsSetup}
 use Rattle.job_threads.specs.Works.{IsNew, AreNew, Begins, Numbers, WorkerRan, ended}
-use Rattle.job_threads.specs.Closings.{Worker, workers_views, views_of, numbers_in, commands_in, outcomes_in, Gathers}
+use Rattle.job_threads.specs.Closings.{Worker, workers_views, views_of, numbers_in, Gathers}
 use Rattle.job_threads.proofs.HistoryLaws.{begins_more, opened_same}
 use Rattle.job_threads.proofs.JobLaws.{here, there}
 use Rattle.job_threads.proofs.WorkLaws.{all_weaker}

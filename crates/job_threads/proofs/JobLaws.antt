@@ -1,33 +1,26 @@
 -- What all workers together have come to.
-use Rattle.std.proofs.Common.{◌≡◌, ◌∙◌, ◌≢◌, ◌⊎◌, inl, inr, ⊎_elim, ℕ, zero, suc, ◌+◌, ◌-◌, ◌<◌, ◌≤◌, Bool, true, false, cond, ◌&&◌, eqb, List, [], ◌∷◌, ◌++◌, length, map, take, Option, Some, None, refl, sym, ap, subst, arith, append_assoc, append-nil, length-append, Ok, Result, eq-eqb}
+use Rattle.std.proofs.Common.{◌≡◌, ◌∙◌, ◌≢◌, inl, inr, ℕ, zero, suc, ◌+◌, ◌-◌, ◌<◌, ◌≤◌, Bool, true, false, cond, ◌&&◌, eqb, List, [], ◌∷◌, ◌++◌, length, Option, Some, None, refl, sym, ap, subst, arith, append-nil, length-append, Ok, eq-eqb}
 use Rattle.std.specs.Prelude.{Contains}
-use Rattle.std.proofs.lemmas.Bool.{cases_eq}
 use Rattle.std.proofs.lemmas.Bool.Decides.{nat_tests}
 use Rattle.std.proofs.lemmas.List.{length-map}
 use Rattle.std.proofs.lemmas.List.Elements.{Contains-append_left, Contains-append_right, Contains-push}
 use Rattle.std.specs.List.{AllByRecursion}
-use Rattle.zone_model.specs.Names.{Name}
-use Rattle.zone_model.specs.Versions.{Version, Operation as ZoneOperation, whole}
+use Rattle.zone_model.specs.Versions.{Version, whole}
 use Rattle.zone_answer.specs.Standing.{trie_entry}
-use Rattle.job_model.specs.Commands.{Command}
 use Rattle.trie_model.specs.Shape.{nodes, keys_of}
-use Rattle.job_model.specs.Sizes.{trie_entries, node_count}
-use Rattle.job_model.specs.Outcomes.{Setting, Pair, is_committed, made, operations_of, operations_at, accepted_or, after, times_made, version_at, at_first, Along, AllAlong, all_pairs, passes_for, shown_in}
+use Rattle.job_model.specs.Sizes.{node_count}
+use Rattle.job_model.specs.Outcomes.{Pair, is_committed, made, operations_of, operations_at, accepted_or, times_made, version_at, AllAlong, all_pairs, passes_for, shown_in}
 use Rattle.job_script.specs.Outcomes.{pairs_of, job_pairs, versions_made, AllTell}
-use Rattle.job_script.specs.declared.outcomes.Outcomes.{Outcomes}
 use Rattle.shared_cells.specs.declared.view.Naming.{Naming}
-use Rattle.shared_cells.specs.declared.view.PassView.{PassView}
 use Rattle.shared_cells.specs.History.{StartsWith, entries_by, version_after}
 use Rattle.shared_cells.specs.Views.{number_of}
-use Rattle.shared_index.specs.declared.meaning.Operation.{Operation}
 use Rattle.shared_index.specs.Operations.{applied}
 use Rattle.shared_index.specs.Passes.{Known}
 use Rattle.job_threads.specs.Histories.{Setup, Commit, Entries, index_at, StandsAs, AreVersions, CoversNamings, judged_by, times_by}
-use Rattle.job_threads.specs.Steps.{Station}
-use Rattle.job_threads.specs.Works.{Replayed, Work, Numbers, WorkerRan}
-use Rattle.job_threads.specs.Closings.{Some', AreApart, Worker, workers_views, views_of, numbers_in, commands_in, outcomes_in, IsPass, Closed, MainSees}
+use Rattle.job_threads.specs.Works.{Replayed}
+use Rattle.job_threads.specs.Closings.{Some', AreApart, Worker, views_of, numbers_in, commands_in, outcomes_in, IsPass, Closed, MainSees}
 use Rattle.job_threads.specs.Runs.{IsRun}
-use Rattle.job_threads.proofs.HistoryLaws.{begins_same, begins_more, begins_length, index_front, index_last, versions_front, times_none, times_front, times_past}
+use Rattle.job_threads.proofs.HistoryLaws.{begins_more, begins_length, index_last, versions_front, times_none, times_front, times_past}
 use Rattle.job_threads.proofs.WorkLaws.{Pairs, Own, all_weaker, all_both, times-append, shown-append, replayed_more}
 
 -- ---- elements

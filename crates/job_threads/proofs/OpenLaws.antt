@@ -1,5 +1,5 @@
 -- An index that was opened on the entries of a zone's version.
-use Rattle.std.proofs.Common.{◌≡◌, ◌∙◌, inl, inr, ℕ, List, [], ◌∷◌, map, Option, Some, refl, sym, ap, subst}
+use Rattle.std.proofs.Common.{◌≡◌, ◌∙◌, inl, inr, ℕ, List, [], ◌∷◌, map, Option, refl, sym, ap, subst}
 use Rattle.std.specs.Prelude.{IsSome}
 use Rattle.std.specs.List.{All, AllByRecursion}
 use Rattle.std.specs.List.Sorted.{IsStrictlySortedBy}
@@ -13,7 +13,6 @@ use Rattle.trie_model.specs.Keys.{Entry, Less, InList, Rises}
 use Rattle.trie_model.proofs.AboveLaws.{cmp_before}
 use Rattle.zone_answer.specs.Standing.{IsStorable}
 use Rattle.job_model.specs.Sizes.{trie_entries}
-use Rattle.shared_cells.specs.Views.{number_of}
 use Rattle.shared_index.specs.Passes.{commits_in, pinned_in, known_at}
 use Rattle.shared_index.specs.Openings.{SeesFirst}
 use Rattle.job_threads.specs.Histories.{Entries, IsZone}

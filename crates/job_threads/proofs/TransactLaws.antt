@@ -1,23 +1,22 @@
 -- What a transaction makes of a block, by its drafts.
-use Rattle.std.proofs.Common.{◌≡◌, ◌∙◌, ◌⊎◌, inl, inr, ⊎_elim, ℕ, zero, suc, ◌+◌, ◌-◌, ◌*◌, ◌/◌, ◌^◌, ◌<◌, ◌≤◌, Bool, true, List, [], ◌∷◌, ◌++◌, length, take, get_or, Option, Some, None, Result, Ok, Err, refl, sym, ap, subst, arith, length-append}
+use Rattle.std.proofs.Common.{◌≡◌, ◌∙◌, ◌⊎◌, ⊎_elim, ℕ, suc, ◌+◌, ◌-◌, ◌/◌, ◌<◌, ◌≤◌, true, List, [], ◌∷◌, ◌++◌, length, take, get_or, Option, Some, None, Result, Ok, Err, refl, sym, ap, subst, arith, length-append}
 use Rattle.std.specs.Prelude.{Contains, IsOk, unwrap_or}
-use Rattle.std.specs.List.{All, AllByRecursion, AllPairs, sum_by}
+use Rattle.std.specs.List.{AllByRecursion, AllPairs}
 use Rattle.std.specs.List.Sorted.{IsStrictlySortedBy}
 use Rattle.std.specs.Ordering.{nat_cmp}
 use Rattle.std.specs.declared.cmp.Ordering.TheVariants.{Less}
 use Rattle.std.proofs.lemmas.Bool.Decides.{nat_tests}
 use Rattle.std.proofs.lemmas.List.Sums.{fold-append, sum_by-cons}
-use Rattle.std.proofs.lemmas.List.Elements.{Contains-append_left, Contains-append_right, Contains-push}
+use Rattle.std.proofs.lemmas.List.Elements.{Contains-append_left}
 use Rattle.zone_model.specs.Versions.{Version, Operation as ZoneOperation, whole}
 use Rattle.zone_model.specs.declared.Refusal.{Refusal}
 use Rattle.trie_model.specs.Shape.{cells}
-use Rattle.chunk_usage.specs.Ledger.{reserve_of}
 use Rattle.job_model.specs.declared.Ending.{Ending}
 use Rattle.job_model.specs.declared.Ending.TheVariants as ending
 use Rattle.job_model.specs.Sizes.{cell_count, trie_entries}
 use Rattle.job_model.specs.Outcomes.{Cause, Rule, Full, Spent, Causes, FullCause, cells_kept, last_version}
 use Rattle.shared_cells.specs.declared.view.PassView.{PassView}
-use Rattle.shared_cells.specs.History.{StartsWith, IsPartOf, OpeningFits, entries_by, entry_of, version_after}
+use Rattle.shared_cells.specs.History.{StartsWith, IsPartOf, OpeningFits, entry_of, version_after}
 use Rattle.shared_cells.specs.Views.{is_told, pass_of}
 use Rattle.shared_cells.specs.Steps.{IsNamed}
 use Rattle.shared_index.specs.declared.meaning.Operation.{Operation}
@@ -25,18 +24,17 @@ use Rattle.shared_index.specs.declared.desk.Draft.{Draft}
 use Rattle.shared_index.specs.declared.kept.Versions.{Versions}
 use Rattle.shared_index.specs.Operations.{applied}
 use Rattle.shared_index.specs.Passes.{Known, first_version, version_seen}
-use Rattle.shared_index.specs.Bases.{Joined}
 use Rattle.shared_index.specs.Drafts as drafts
 use Rattle.shared_index.specs.Drafts.{Begins, Works, base_of, working_set}
 use Rattle.shared_index.specs.Fulls.{version_at}
 use Rattle.shared_index.specs.Fulls as fulls
 use Rattle.shared_index.specs.Keepings.{GoesOn, versions_in}
-use Rattle.zone_edit.specs.Stores.{WorksOn, WorksOnSome, EditsOne, IsFullOn}
-use Rattle.zone_edit.specs.Blocks.{AppliesAll, IsFullAt}
+use Rattle.zone_edit.specs.Stores.{WorksOn, WorksOnSome}
+use Rattle.zone_edit.specs.Blocks.{AppliesAll}
 use Rattle.zone_edit.specs.declared.applying.Halt.TheVariants as halts
 use Rattle.job_threads.specs.Histories.{Setup, Commit, Entries, IsZone, StandsAs, AreVersions, CoversNamings, index_at, judged_by}
-use Rattle.job_threads.specs.Commands.{Commits, Transacts}
-use Rattle.job_threads.proofs.HistoryLaws.{begins_same, begins_more, begins_length, last_stands, opened_same, part_same, part_more}
+use Rattle.job_threads.specs.Commands.{Commits}
+use Rattle.job_threads.proofs.HistoryLaws.{begins_same, begins_more, last_stands, opened_same, part_more}
 use Rattle.job_threads.proofs.JobLaws.{here, there}
 
 abbrev Own : Type 0
