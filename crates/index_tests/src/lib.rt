@@ -5,4 +5,12 @@
 #[cfg(test)]
 mod beside;
 #[cfg(test)]
+mod crowd;
+#[cfg(test)]
+mod rows;
+#[cfg(test)]
+mod scenes;
+#[cfg(test)]
 mod steps;
+#[cfg(test)]
+mod worker;

@@ -12,3 +12,4 @@ pub mod Images
 pub mod Openings
 pub mod Fulls
 pub mod Closings
+pub mod Receipts

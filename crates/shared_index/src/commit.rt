@@ -11,6 +11,7 @@ ghost use Rattle.shared_index.specs.Images.{image_at};
 ghost use Rattle.shared_index.specs.Keepings.{narrowed, versions_in};
 
 use crate::desk::{Desk, Draft};
+use crate::kept::Versions;
 use crate::log::Log;
 use crate::meaning::{Law, Meaning, Operations, Version};
 use crate::recycling::free_unreached;
@@ -29,6 +30,19 @@ pub struct Receipt {
     pub freed: u32,
     /// How many versions that round kept.
     pub kept: usize,
+}
+
+impl Receipt {
+    // The round kept these versions.
+    fn of(version: u64, freed: u32, kept: &Versions) -> Receipt
+        ensures { (result.version ≡ version) × (result.freed ≡ freed) × (result.kept ≡ length (versions_in kept.now)) }
+    {
+        Receipt {
+            version,
+            freed,
+            kept: kept.as_slice().len(),
+        }
+    }
 }
 
 /// Publishes the trie of a root, as what is named.
@@ -68,6 +82,7 @@ fn publish<L: Law>(
 
 impl Draft {
     ghost use Rattle.shared_index.specs.Drafts.{Works, Commits, working_set};
+    ghost use Rattle.shared_index.specs.Receipts.{Recycles};
 
     // The number of the next version, if there is one.
     fn next_version<L: Law>(
@@ -82,7 +97,7 @@ impl Draft {
         ensures roots { (self.new.base ≡ self.old.base) × (self.new.root ≡ self.old.root) }
         ensures log { self.new.log.operations ≡ self.old.log.operations }
         ensures newest { All (λ k. k.version ≤ self.old.seat.version) (kept_in self.old.seat.place.me.0.turn) }
-        ensures next { IfOk result (λ _. self.old.seat.version + 1 < 2 ^ 40) }
+        ensures next { IfOk result (λ n. (n ≡ self.old.seat.version + 1) × (self.old.seat.version + 1 < 2 ^ 40)) }
         ensures spent { IfErr result (λ s. (s.version ≡ self.old.seat.version) × (self.old.seat.version ≡ LAST_VERSION)) }
     {
         self.seat.look(shared);
@@ -105,6 +120,7 @@ impl Draft {
         ensures kept { result.2.kept ≡ length (versions_in result.0.kept) }
         ensures freed { free_count result.0.usage ≡ free_count self.usage + result.2.freed }
         ensures recycled { result.0.usage ≡ freed (narrowed (frozen self.usage result.2.version) (versions_in result.0.kept)) }
+        ensures receipt { Recycles self.usage self.seat.passes result.1.place.me.0 result.2 }
     {
         let Draft {
             mut seat,
@@ -120,11 +136,7 @@ impl Draft {
         let kept = make_round(shared, &mut seat, &mut usage, &before);
         let (seat, freed) = free_unreached(shared, seat, &mut usage);
         let (seat, pass) = seat.split(shared);
-        let receipt = Receipt {
-            version,
-            freed,
-            kept: kept.as_slice().len(),
-        };
+        let receipt = Receipt::of(version, freed, &kept);
         let desk = Desk {
             seat,
             usage,
@@ -148,6 +160,7 @@ impl Draft {
         ensures kept { IfOk result.2 (λ r. r.kept ≡ length (versions_in result.0.kept)) }
         ensures freed { IfOk result.2 (λ r. free_count result.0.usage ≡ free_count self.usage + r.freed) }
         ensures recycled { IfOk result.2 (λ r. result.0.usage ≡ freed (narrowed (frozen self.usage r.version) (versions_in result.0.kept))) }
+        ensures receipt { IfOk result.2 (λ r. Recycles self.usage self.seat.passes result.1.place.me.0 r) }
         ensures back { IfErr result.2 (λ _. result.1.place.me.0 ≡ pass_of self.seat.place.me.0) }
         ensures spent { IsErr result.2 ↔ (self.seat.version ≡ LAST_VERSION) }
         ensures last { IfErr result.2 (λ s. s.version ≡ self.seat.version) }

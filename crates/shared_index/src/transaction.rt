@@ -53,6 +53,7 @@ impl<'i, L: Law, N: Named> Locked<'i, L, N> {
     ghost use Rattle.trie_read.specs.Readings.{Fetched};
     ghost use Rattle.shared_index.specs.Drafts.{Works, Operates, IsFull, IsSame, Between, Commits, working_set};
     ghost use Rattle.shared_index.specs.Fulls.{CausedFrom};
+    ghost use Rattle.shared_index.specs.Receipts.{Recycles};
     ghost use Rattle.shared_index.specs.Passes.{first_version};
     ghost use Rattle.shared_cells.specs.Views.{pass_of};
 
@@ -71,7 +72,8 @@ impl<'i, L: Law, N: Named> Locked<'i, L, N> {
 
     // The turn goes back, and the lock with it.
     fn put_back(&mut self, turn: Turn<N>)
-        ensures { (self.new.place ≡ self.old.place) × (self.new.draft ≡ self.old.draft) }
+        ensures same { (self.new.place ≡ self.old.place) × (self.new.draft ≡ self.old.draft) }
+        ensures unlocked { IsNone self.new.guard }
     {
         if let Some(mut guard) = self.guard.take() {
             *guard = Some(turn);
@@ -81,7 +83,8 @@ impl<'i, L: Law, N: Named> Locked<'i, L, N> {
     // Gives the turn back with this desk.
     fn leave(&mut self, desk: Desk)
         requires { desk.seat.place.table_id ≡ self.old.shared.now.table.shared.table_id }
-        ensures { (self.new.place ≡ self.old.place) × (self.new.draft ≡ self.old.draft) }
+        ensures same { (self.new.place ≡ self.old.place) × (self.new.draft ≡ self.old.draft) }
+        ensures unlocked { IsNone self.new.guard }
     {
         let place = self.place;
         self.put_back(Turn {
@@ -150,6 +153,7 @@ impl<'i, L: Law, N: Named> Locked<'i, L, N> {
         ensures back { IfErr result.1 (λ _. IfSome self.old.draft (λ d. known_at result.0.seat ≡ pass_of d.seat.place.me.0)) }
         ensures spent { IfSome self.old.draft (λ d. IsErr result.1 ↔ (d.seat.version ≡ LAST_VERSION)) }
         ensures last { IfErr result.1 (λ s. IfSome self.old.draft (λ d. s.version ≡ d.seat.version)) }
+        ensures receipt { IfOk result.1 (λ r. IfSome self.old.draft (λ d. Recycles d.usage d.seat.passes (known_at result.0.seat) r)) }
     {
         let Some(draft) = self.draft.take() else {
             unreachable!()
@@ -303,6 +307,7 @@ impl<L: Law, N: Named, K> Transaction<'_, '_, L, N, K> {
     ghost use Rattle.shared_index.specs.Drafts.{Works, Operates, IsFull, IsSame, Between, Commits, IsBack, working_set};
     ghost use Rattle.trie_read.specs.Readings.{Fetched};
     ghost use Rattle.shared_index.specs.Fulls.{CausedFrom};
+    ghost use Rattle.shared_index.specs.Receipts.{Recycles};
     ghost use Rattle.trie_model.specs.Trees.{cells_in};
     ghost use Rattle.shared_index.specs.declared.meaning.Operation.TheVariants as operation;
     ghost use Rattle.shared_index.specs.Passes.{first_version};
@@ -386,6 +391,7 @@ impl<L: Law, N: Named, K> Transaction<'_, '_, L, N, K> {
         ensures back { IfErr result (λ _. IfSome self.entry.locked.now.draft (λ d. IsBack d.seat.place.me.0 self.exit.0.now.seat)) }
         ensures spent { IfSome self.entry.locked.now.draft (λ d. IsErr result ↔ (d.seat.version ≡ LAST_VERSION)) }
         ensures last { IfErr result (λ s. IfSome self.entry.locked.now.draft (λ d. s.version ≡ d.seat.version)) }
+        ensures receipt { IfOk result (λ r. IfSome self.entry.locked.now.draft (λ d. Recycles d.usage d.seat.passes (known_at self.exit.0.now.seat) r)) }
     {
         let Self {
             home,

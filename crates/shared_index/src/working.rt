@@ -48,38 +48,16 @@ impl Draft {
         ensures grown { Grown self.usage result.0.usage }
         ensures root { IfErr result.1 (λ _. result.0.root ≡ self.root) }
     {
-        let Draft {
-            seat,
-            mut usage,
-            base,
-            root,
-            log,
-            kept,
-        } = self;
-        let (seat, outcome) = attempt(shared, seat, &mut usage, root, change);
+        let mut draft = self;
+        let (seat, outcome) = attempt(shared, draft.seat, &mut draft.usage, draft.root, change);
+        draft.seat = seat;
         match outcome {
             Ok(root) => {
-                let draft = Draft {
-                    seat,
-                    usage,
-                    base,
-                    root,
-                    log: log.then(change),
-                    kept,
-                };
+                draft.root = root;
+                draft.log = draft.log.then(change);
                 (draft, Ok(()))
             }
-            Err(unchanged) => {
-                let draft = Draft {
-                    seat,
-                    usage,
-                    base,
-                    root,
-                    log,
-                    kept,
-                };
-                (draft, Err(unchanged))
-            }
+            Err(unchanged) => (draft, Err(unchanged)),
         }
     }
 

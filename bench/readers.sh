@@ -1,0 +1,108 @@
+#!/usr/bin/env bash
+# Counts how many items threads read of one shared index in a second, without and with a writer beside them, and what a query
+# costs: builds bench/readers.rattle in a copy of the crates that it needs, which takes some minutes the first time. A run's time
+# is less that of a run which reads nothing. Usage: bench/readers.sh [GETS]. Changes nothing but files in a temporary folder.
+set -eu
+here=$(cd "$(dirname "$0")" && pwd)
+gets=${1:-4000000}
+folder=$(mktemp -d)
+trap 'rm -rf "$folder"' EXIT
+program=$folder/crates/readers
+below='zone_model dns_name shift_key pin_core packed_node trie_model chunk_cells trie_read chunk_usage trie_write shared_cells shared_index'
+mkdir -p "$program/src" "$program/proofs"
+cp "$here/../HANDLES" "$folder/"
+for crate in $below; do
+    cp -r "$here/../crates/$crate" "$folder/crates/"
+done
+cp "$here/readers.rattle" "$program/src/main.rt"
+{
+    grep -E "^($(tr ' ' '|' <<<"$below"))[ :]" "$here/../crates.txt"
+    printf '%s\n' 'readers may_wait=8: dns_name shift_key packed_node trie_model chunk_cells trie_read trie_write shared_index'
+} >"$folder/crates.txt"
+
+# the program's proofs, each under a line with its name
+(cd "$program/proofs" && while IFS= read -r line; do
+    case $line in
+        '== '*) file=${line#== } && mkdir -p "$(dirname "$file")" && : >"$file" ;;
+        *) printf '%s\n' "$line" >>"$file" ;;
+    esac
+done) <<'PROOFS'
+== fill/Invariants.antt
+use Rattle.std.proofs.Common.{◌≡◌}
+use Rattle.std.specs.Prelude.{IsSome}
+use Rattle.readers.proofs.fill.Given as goal
+
+abbrev pub invariant-loop-number : goal.invariant-loop-number
+invariant-loop-number g l = (IsSome l.pass.seat) × (l.pass.place ≡ l.index.place)
+== get_each/Invariants.antt
+use Rattle.std.proofs.Common.{◌≡◌}
+use Rattle.readers.proofs.get_each.Given as goal
+
+abbrev pub invariant-loop-number : goal.invariant-loop-number
+invariant-loop-number g l = l.reading ≡ l.initial.reading
+== read_on/Invariants.antt
+use Rattle.std.proofs.Common.{◌≡◌}
+use Rattle.std.specs.Prelude.{IsSome}
+use Rattle.readers.proofs.read_on.Given as goal
+
+abbrev pub invariant-loop-query : goal.invariant-loop-query
+invariant-loop-query g l = (IsSome l.pass.seat) × (l.pass.place ≡ l.index.place)
+== write_on/Invariants.antt
+use Rattle.std.proofs.Common.{◌≡◌}
+use Rattle.std.specs.Prelude.{IsSome}
+use Rattle.readers.proofs.write_on.Given as goal
+
+abbrev pub invariant-loop-number : goal.invariant-loop-number
+invariant-loop-number g l = (IsSome l.pass.seat) × (l.pass.place ≡ l.index.place)
+== workers/Invariants.antt
+use Rattle.std.proofs.Common.{◌≡◌, vec_len}
+use Rattle.std.specs.Prelude.{IsSome}
+use Rattle.std.specs.List.{All}
+use Rattle.readers.proofs.workers.Given as goal
+
+abbrev pub decreases-loop-pass : goal.decreases-loop-pass
+decreases-loop-pass g l = vec_len l.passes
+
+abbrev pub invariant-loop-pass : goal.invariant-loop-pass
+invariant-loop-pass g l = All (λ p. (IsSome p.seat) × (p.place ≡ l.index.place)) l.passes.items
+== run/Answers.antt
+use Rattle.std.proofs.Common.{◌∙◌, sym}
+use Rattle.readers.proofs.run.Goals as goal
+
+pub workers-requires : goal.workers-requires
+workers-requires g c k p l = let h = c.in-Some-2.ensures.passes k p l in (h.0, h.1.0 ∙ sym c.in-Some-2.ensures.place)
+== play/Invariants.antt
+use Rattle.std.proofs.Common.{[], ◌∷◌}
+use Rattle.readers.proofs.play.Given as goal
+
+abbrev pub ghosts-run : goal.ghosts-run
+ghosts-run g a = record { tables = a.blank.shared.table.shared.table_id ∷ [] }
+PROOFS
+
+git -C "$folder" init -q
+(cd "$program" && rt run </dev/null >"$folder/build" 2>&1) || true
+[ -x "$program/out/readers" ] || { tail -20 "$folder/build"; exit 1; }
+
+# nanoseconds that a run takes
+took() {
+    local begin
+    begin=$(date +%s%N)
+    "$program/out/readers" "$@" >"$folder/told"
+    echo $(($(date +%s%N) - begin))
+}
+for writes in 0 1; do
+    for readers in 1 2 4; do
+        idle=$(took "$readers" 0 100 0)
+        busy=$(took "$readers" "$gets" 100 "$writes")
+        printf '%s readers, %s: %s gets a second; %s\n' "$readers" "$([ "$writes" = 1 ] && echo 'one writes' || echo 'nobody writes')" \
+            $((readers * gets * 1000 / ((busy - idle) / 1000000 + 1))) "$(cat "$folder/told")"
+    done
+done
+
+counted() {
+    valgrind --tool=callgrind --callgrind-out-file=/dev/null "$program/out/readers" "$@" 2>&1 >/dev/null | sed -n 's/.*Collected : //p'
+}
+nothing=$(counted 1 0 100 0)
+for each in 1 100; do
+    printf 'a get, %s in a query: %s instructions\n' "$each" $((($(counted 1 10000 "$each" 0) - nothing) / 10000))
+done
