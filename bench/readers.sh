@@ -1,7 +1,8 @@
 #!/usr/bin/env bash
 # Counts how many items threads read of one shared index in a second, without and with a writer beside them, and what a query
 # costs: builds bench/readers.rattle in a copy of the crates that it needs, which takes some minutes the first time. A run's time
-# is less that of a run which reads nothing. Usage: bench/readers.sh [GETS]. Changes nothing but files in a temporary folder.
+# is less that of a run which reads nothing. Usage: bench/readers.sh [GETS], where 0 leaves the seconds out. Changes nothing but
+# files in a temporary folder.
 set -eu
 here=$(cd "$(dirname "$0")" && pwd)
 gets=${1:-4000000}
@@ -91,6 +92,7 @@ took() {
     echo $(($(date +%s%N) - begin))
 }
 for writes in 0 1; do
+    [ "$gets" -gt 0 ] || break
     for readers in 1 2 4; do
         idle=$(took "$readers" 0 100 0)
         busy=$(took "$readers" "$gets" 100 "$writes")

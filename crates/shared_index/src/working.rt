@@ -16,6 +16,7 @@ use crate::meaning::{Law, Meaning, Operations, Version};
 use crate::recycling::free_unreached;
 use crate::refusal::Full;
 use crate::rounds::make_round;
+use packed_node::Ref;
 use shared_cells::Shared;
 
 /// Why a working set isn't changed.
@@ -30,6 +31,20 @@ pub(crate) enum Refusal {
 impl Draft {
     ghost use Rattle.shared_index.specs.Drafts.{Works, Operates, IsFull, working_set};
     ghost use Rattle.shared_index.specs.Fulls.{CausedFrom, FullCause, Grown, after_room, version_at};
+
+    // The operation is done: its trie has this root.
+    fn with_done(self, root: Option<Ref>, change: &Change<'_>) -> Draft
+        ensures seat { result.seat ≡ self.seat }
+        ensures usage { result.usage ≡ self.usage }
+        ensures root { result.root ≡ root }
+        ensures log { result.log.operations ≡ self.log.operations ++ operation_of change.now ∷ [] }
+        ensures kept { result.kept ≡ self.kept }
+    {
+        let mut draft = self;
+        draft.root = root;
+        draft.log = draft.log.then(change);
+        draft
+    }
 
     // Tries an operation once.
     fn attempt<L: Law>(
@@ -48,15 +63,25 @@ impl Draft {
         ensures grown { Grown self.usage result.0.usage }
         ensures root { IfErr result.1 (λ _. result.0.root ≡ self.root) }
     {
-        let mut draft = self;
-        let (seat, outcome) = attempt(shared, draft.seat, &mut draft.usage, draft.root, change);
-        draft.seat = seat;
+        let Draft {
+            seat,
+            mut usage,
+            base,
+            root,
+            log,
+            kept,
+        } = self;
+        let (seat, outcome) = attempt(shared, seat, &mut usage, root, change);
+        let draft = Draft {
+            seat,
+            usage,
+            base,
+            root,
+            log,
+            kept,
+        };
         match outcome {
-            Ok(root) => {
-                draft.root = root;
-                draft.log = draft.log.then(change);
-                (draft, Ok(()))
-            }
+            Ok(new) => (draft.with_done(new, change), Ok(())),
             Err(unchanged) => (draft, Err(unchanged)),
         }
     }

@@ -1,4 +1,9 @@
-use Rattle.std.proofs.Common.{subst}
+use Rattle.std.proofs.Common.{◌≡◌, ◌∙◌, ℕ, List, Option, Ok, sym, ap, subst}
+use Rattle.trie_model.specs.Keys.{Entry}
+use Rattle.chunk_usage.specs.Ledger.{Ledger}
+use Rattle.shared_cells.specs.declared.turn.JoinedSeat.{JoinedSeat}
+use Rattle.shared_index.specs.declared.meaning.Operation.{Operation}
+use Rattle.shared_index.specs.Fulls.{Grown}
 use Rattle.shared_index.specs.Tries.{Tried}
 use Rattle.shared_index.proofs.WorkLaws.{operates_done}
 use Rattle.shared_index.proofs.desk.Draft.attempt.Goals as goal
@@ -6,5 +11,17 @@ use Rattle.shared_index.proofs.desk.Draft.attempt.Goals as goal
 pub returns-in-Ok-clause-operates : goal.returns-in-Ok-clause-operates
 returns-in-Ok-clause-operates g c =
     let d = c.args.self in
-    operates_done c.args.change.now d _ c.requires.works
-    (subst (Tried c.args.change.now d.root d.seat.place.me.0 d.usage c.attempt-seat.result.0.place.me.0 c.attempt-seat.new.usage) c.in-Ok.is c.attempt-seat.ensures.tried) c.then.ensures c.attempt-seat.ensures.passes
+    let n = c.with_done.result in
+    let done = c.with_done.ensures in
+    let change = c.args.change.now in
+    let by_call = subst (Tried change d.root d.seat.place.me.0 d.usage c.attempt-seat.result.0.place.me.0 c.attempt-seat.new.usage) c.in-Ok.is c.attempt-seat.ensures.tried in
+    let by_seat = subst (λ (s : JoinedSeat (List Entry) (List Operation)). Tried change d.root d.seat.place.me.0 d.usage s.place.me.0 c.attempt-seat.new.usage (Ok c.in-Ok.new)) (sym done.seat) by_call in
+    let by_usage = subst (λ (u : Ledger). Tried change d.root d.seat.place.me.0 d.usage n.seat.place.me.0 u (Ok c.in-Ok.new)) (sym done.usage) by_seat in
+    operates_done change d n c.requires.works
+    (subst (λ (r : Option ℕ). Tried change d.root d.seat.place.me.0 d.usage n.seat.place.me.0 n.usage (Ok r)) (sym done.root) by_usage) done.log
+    (ap (λ (s : JoinedSeat (List Entry) (List Operation)). s.passes) done.seat ∙ c.attempt-seat.ensures.passes)
+
+pub returns-in-Ok-clause-grown : goal.returns-in-Ok-clause-grown
+returns-in-Ok-clause-grown g c =
+    let tried = c.attempt-seat.ensures.tried in
+    subst (Grown c.args.self.usage) (sym c.with_done.ensures.usage) (record { frozen = tried.frozen; given = tried.given })
