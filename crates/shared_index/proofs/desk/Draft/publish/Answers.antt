@@ -103,7 +103,10 @@ invariant_of-desk g c =
 
 pub returns-clause-recycled : goal.returns-clause-recycled
 returns-clause-recycled g c =
-    c.free_unreached-seat.ensures.after ∙ ap freed (c.make_round-kept.ensures.usage ∙ ap (λ (l : Ledger). narrowed l (versions_in c.make_round-kept.result)) c.freeze.ensures.after)
+    c.free_unreached-seat.ensures.after
+    ∙ ap freed
+    (c.make_round-kept.ensures.usage
+    ∙ ap (λ (l : Ledger). narrowed l (versions_in c.make_round-kept.result)) (c.freeze.ensures.after ∙ ap (frozen c.args.self.usage) (sym c.of-receipt.ensures.0)))
 
 pub returns-clause-receipt : goal.returns-clause-receipt
 returns-clause-receipt g c =
