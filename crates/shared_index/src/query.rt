@@ -118,6 +118,10 @@ impl<L: Law, N: Named> Reading for Query<'_, L, N> {
         Iter::start(self.seat.root)
     }
 
+    fn restart(&mut self, iter: &mut Iter) {
+        iter.restart(self.seat.root);
+    }
+
     fn seek(&mut self, iter: &mut Iter, key: &Key) {
         iter.seek(self, key);
     }
