@@ -24,7 +24,7 @@ fn report<R: Threads + Wait + Sync, G: Gate>(
     let Ok(job) = read_job(alloc, script, 1, &origin) else {
         return Err(Fail::from("no job"));
     };
-    match run_zone(rt, alloc, 16, &origin, &[], &job, gate)? {
+    match run_zone(rt, alloc, 16, &origin, Vec::new(alloc), &job, gate)? {
         Ran::Finished(f) => Ok(print_outcomes(alloc, &f.outcomes, f.version, f.names)?),
         Ran::DoesNotFit { .. } => Err(Fail::from("no room")),
     }
