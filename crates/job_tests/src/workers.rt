@@ -1,33 +1,50 @@
 //! Jobs that are run.
-ghost use Rattle.std.specs.Prelude.{◌≤◌, length};
+ghost use Rattle.std.specs.Prelude.{◌≤◌};
 
 use crate::gates::{Counting, Meeting, Overtaking};
 use dns_name::Name;
 use job_script::{print_outcomes, read_job};
-use job_threads::{Gate, Ran, run_zone};
+use job_threads::{Finished, Gate, Ran, run_zone};
 use std::alloc::Global;
 use std::sync::Wait;
 use std::sync::atomic::Ordering;
 use std::test::Fail;
 use std::thread::Threads;
 
-/// The report of a script, run by way of a gate on a zone of example. that has no names yet.
+/// What becomes of a script, run by way of a gate on a zone that has no names yet.
+pub fn run_script<R: Threads + Wait + Sync, G: Gate>(
+    rt: &R,
+    alloc: Global,
+    chunks: u32,
+    origin: &Name,
+    script: &[u8],
+    gate: &G,
+) -> Result<Finished, Fail>
+    requires enough { 16 ≤ chunks }
+    requires few { chunks ≤ 4096 }
+{
+    if script.len() > 16_000_000 {
+        return Err(Fail::from("a long script"));
+    }
+    let Ok(job) = read_job(alloc, script, 1, origin) else {
+        return Err(Fail::from("no job"));
+    };
+    match run_zone(rt, alloc, chunks, origin, Vec::new(alloc), &job, gate)? {
+        Ran::Finished(finished) => Ok(finished),
+        Ran::DoesNotFit { .. } => Err(Fail::from("no room")),
+    }
+}
+
+/// The report of a script that is so run, on the zone of example.
 fn report<R: Threads + Wait + Sync, G: Gate>(
     rt: &R,
     alloc: Global,
     script: &[u8],
     gate: &G,
-) -> Result<Vec<u8>, Fail>
-    requires { length script.now ≤ 1000 }
-{
+) -> Result<Vec<u8>, Fail> {
     let origin = Name::from_wire(b"\x07example\x00").ok_or("no origin")?;
-    let Ok(job) = read_job(alloc, script, 1, &origin) else {
-        return Err(Fail::from("no job"));
-    };
-    match run_zone(rt, alloc, 16, &origin, Vec::new(alloc), &job, gate)? {
-        Ran::Finished(f) => Ok(print_outcomes(alloc, &f.outcomes, f.version, f.names)?),
-        Ran::DoesNotFit { .. } => Err(Fail::from("no room")),
-    }
+    let f = run_script(rt, alloc, 16, &origin, script, gate)?;
+    Ok(print_outcomes(alloc, &f.outcomes, f.version, f.names)?)
 }
 
 #[test]
