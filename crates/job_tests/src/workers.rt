@@ -12,7 +12,7 @@ use std::test::Fail;
 use std::thread::Threads;
 
 /// What becomes of a script, run by way of a gate on a zone that has no names yet.
-pub fn run_script<R: Threads + Wait + Sync, G: Gate>(
+pub(crate) fn run_script<R: Threads + Wait + Sync, G: Gate>(
     rt: &R,
     alloc: Global,
     chunks: u32,
