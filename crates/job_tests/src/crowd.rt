@@ -1,10 +1,11 @@
 //! Sixteen workers beside each other on a table that is too small for all that they write.
-use crate::workers::run_script;
 use dns_name::Name;
-use job_script::{Cause, Outcomes, Told};
-use job_threads::Gate;
+use job_script::{Cause, Outcomes, Told, read_job};
+use job_threads::{Finished, Gate, Ran, run_zone};
 use std::alloc::{AllocError, Global};
+use std::sync::Wait;
 use std::test::Fail;
+use std::thread::Threads;
 
 /// How many workers there are.
 const WORKERS: u32 = 16;
@@ -65,6 +66,25 @@ fn crowded_script(alloc: Global) -> Result<Vec<u8>, AllocError> {
     Ok(script)
 }
 
+/// What becomes of a script on a zone that has no names yet, over 64 chunks.
+fn run_script<R: Threads + Wait + Sync>(
+    rt: &R,
+    alloc: Global,
+    script: &[u8],
+) -> Result<Finished, Fail> {
+    if script.len() > 16_000_000 {
+        return Err(Fail::from("a long script"));
+    }
+    let origin = Name::from_wire(b"\x07example\x00").ok_or("no origin")?;
+    let Ok(job) = read_job(alloc, script, 1, &origin) else {
+        return Err(Fail::from("no job"));
+    };
+    match run_zone(rt, alloc, 64, &origin, Vec::new(alloc), &job, &Open)? {
+        Ran::Finished(finished) => Ok(finished),
+        Ran::DoesNotFit { .. } => Err(Fail::from("no room")),
+    }
+}
+
 /// What is counted of outcomes.
 #[derive(Drop)]
 struct Tally {
@@ -106,9 +126,8 @@ impl Tally {
 // found no room.
 #[test]
 fn a_crowd_fills_a_small_table(rt: HostRuntime) -> Result<(), Fail> {
-    let origin = Name::from_wire(b"\x07example\x00").ok_or("no origin")?;
     let script = crowded_script(rt.alloc())?;
-    let finished = run_script(&rt, rt.alloc(), 64, &origin, &script, &Open)?;
+    let finished = run_script(&rt, rt.alloc(), &script)?;
     let mut tally = Tally {
         made: Vec::from_elem(rt.alloc(), 0, 4001)?,
         committed: 0,
