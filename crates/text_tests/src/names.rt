@@ -48,7 +48,7 @@ fn texts_are_read_and_printed(rt: HostRuntime) -> Result<(), Fail> {
 }
 
 // What is refused, with its number.
-fn refusal(kind: &str, number: u16) -> Option<NameRefusal> {
+fn refusal(kind: &str, number: usize) -> Option<NameRefusal> {
     match kind {
         "empty" => Some(NameRefusal::EmptyLabel(number)),
         "long" => Some(NameRefusal::LongLabel(number)),
@@ -59,7 +59,6 @@ fn refusal(kind: &str, number: u16) -> Option<NameRefusal> {
 
 // What is refused, with its number, and the text.
 const REFUSED: &str = "empty 2 a..b
-empty 0 
 long 63 aaaaaaaaaaaaaaaaaaaaaaaaaaaaaaaaaaaaaaaaaaaaaaaaaaaaaaaaaaaaaaaa
 escape 1 a\\256
 escape 1 a\\2
@@ -72,11 +71,13 @@ fn the_first_fault_of_a_text_is_refused(rt: HostRuntime) -> Result<(), Fail> {
     for line in REFUSED.lines() {
         let (kind, rest) = line.split_once(' ').ok_or("no row")?;
         let (number, text) = rest.split_once(' ').ok_or("no text")?;
-        let number = number.parse::<u16>().ok().ok_or("no number")?;
+        let number = number.parse::<usize>().ok().ok_or("no number")?;
         let want = refusal(kind, number);
         assert!(rt; want.is_some());
         assert_eq!(rt; Name::read(text.as_bytes(), &root).err(), want);
     }
+    let nothing = Name::read(b"", &root).err();
+    assert_eq!(rt; nothing, Some(NameRefusal::EmptyLabel(0)));
     let long = labels_of_ff(rt.alloc(), &[63, 63, 63, 61])?;
     let name = Name::read(long.as_slice(), &root).ok().ok_or("refused")?;
     assert_eq!(rt; name.wire().len(), 255);
