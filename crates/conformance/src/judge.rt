@@ -101,11 +101,7 @@ fn is_cut_short(case: &Case, found: &Outcome) -> bool {
 }
 
 /// The reads and the writes that fail in a run whose number is given; without one, those that the case names.
-fn failing(
-    alloc: Global,
-    case: &Case,
-    number: u64,
-) -> Result<(Vec<u64>, Vec<u64>), AllocError> {
+fn failing(alloc: Global, case: &Case, number: u64) -> Result<(Vec<u64>, Vec<u64>), AllocError> {
     match case.in_turn {
         InTurn::None => Ok((case.reads.fails.clone()?, case.writes.fails.clone()?)),
         InTurn::Reads => Ok((vec![in alloc; number]?, Vec::new(alloc))),
