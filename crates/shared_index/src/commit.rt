@@ -120,7 +120,7 @@ impl Draft {
         ensures kept { result.2.kept ≡ length (versions_in result.0.kept) }
         ensures freed { free_count result.0.usage ≡ free_count self.usage + result.2.freed }
         ensures recycled { result.0.usage ≡ freed (narrowed (frozen self.usage result.2.version) (versions_in result.0.kept)) }
-        ensures receipt { Recycles self.usage self.seat.passes result.1.place.me.0 result.2 }
+        ensures receipt { Recycles self.seat.place.me.0 self.usage self.seat.passes result.1.place.me.0 result.2 }
     {
         let Draft {
             mut seat,
@@ -160,7 +160,7 @@ impl Draft {
         ensures kept { IfOk result.2 (λ r. r.kept ≡ length (versions_in result.0.kept)) }
         ensures freed { IfOk result.2 (λ r. free_count result.0.usage ≡ free_count self.usage + r.freed) }
         ensures recycled { IfOk result.2 (λ r. result.0.usage ≡ freed (narrowed (frozen self.usage r.version) (versions_in result.0.kept))) }
-        ensures receipt { IfOk result.2 (λ r. Recycles self.usage self.seat.passes result.1.place.me.0 r) }
+        ensures receipt { IfOk result.2 (λ r. Recycles self.seat.place.me.0 self.usage self.seat.passes result.1.place.me.0 r) }
         ensures back { IfErr result.2 (λ _. result.1.place.me.0 ≡ pass_of self.seat.place.me.0) }
         ensures spent { IsErr result.2 ↔ (self.seat.version ≡ LAST_VERSION) }
         ensures last { IfErr result.2 (λ s. s.version ≡ self.seat.version) }

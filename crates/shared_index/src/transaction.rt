@@ -153,7 +153,7 @@ impl<'i, L: Law, N: Named> Locked<'i, L, N> {
         ensures back { IfErr result.1 (λ _. IfSome self.old.draft (λ d. known_at result.0.seat ≡ pass_of d.seat.place.me.0)) }
         ensures spent { IfSome self.old.draft (λ d. IsErr result.1 ↔ (d.seat.version ≡ LAST_VERSION)) }
         ensures last { IfErr result.1 (λ s. IfSome self.old.draft (λ d. s.version ≡ d.seat.version)) }
-        ensures receipt { IfOk result.1 (λ r. IfSome self.old.draft (λ d. Recycles d.usage d.seat.passes (known_at result.0.seat) r)) }
+        ensures receipt { IfOk result.1 (λ r. IfSome self.old.draft (λ d. Recycles d.seat.place.me.0 d.usage d.seat.passes (known_at result.0.seat) r)) }
     {
         let Some(draft) = self.draft.take() else {
             unreachable!()
@@ -391,7 +391,7 @@ impl<L: Law, N: Named, K> Transaction<'_, '_, L, N, K> {
         ensures back { IfErr result (λ _. IfSome self.entry.locked.now.draft (λ d. IsBack d.seat.place.me.0 self.exit.0.now.seat)) }
         ensures spent { IfSome self.entry.locked.now.draft (λ d. IsErr result ↔ (d.seat.version ≡ LAST_VERSION)) }
         ensures last { IfErr result (λ s. IfSome self.entry.locked.now.draft (λ d. s.version ≡ d.seat.version)) }
-        ensures receipt { IfOk result (λ r. IfSome self.entry.locked.now.draft (λ d. Recycles d.usage d.seat.passes (known_at self.exit.0.now.seat) r)) }
+        ensures receipt { IfOk result (λ r. IfSome self.entry.locked.now.draft (λ d. Recycles d.seat.place.me.0 d.usage d.seat.passes (known_at self.exit.0.now.seat) r)) }
     {
         let Self {
             home,
