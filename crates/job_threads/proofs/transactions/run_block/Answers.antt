@@ -24,11 +24,11 @@ returns-in-Light-clause-ran g c = λ s setup.
     (has_passes s _ _ setup.index.passes c.write-write.ensures.passes)))
     (search rules)
 
-pub run_in-requires-clause-begun-2 : goal.run_in-requires-clause-begun-2
-run_in-requires-clause-begun-2 g c = has_begun (known_at c.args.pass.now.seat) c.update-update.result.locked.now.draft c.update-update.ensures.begins
+pub run_in-2-requires-clause-begun : goal.run_in-2-requires-clause-begun
+run_in-2-requires-clause-begun g c = has_begun (known_at c.args.pass.now.seat) c.update-update.result.locked.now.draft c.update-update.ensures.begins
 
-pub run_in-requires-clause-weight-2 : goal.run_in-requires-clause-weight-2
-run_in-requires-clause-weight-2 g c = subst (λ (w : Weight). IsSomeAnd c.update-update.result.locked.now.draft (IsOfWeight w)) (sym c.in-Heavy.is) c.update-update.ensures.own_chunk
+pub run_in-2-requires-clause-weight : goal.run_in-2-requires-clause-weight
+run_in-2-requires-clause-weight g c = subst (λ (w : Weight). IsSomeAnd c.update-update.result.locked.now.draft (IsOfWeight w)) (sym c.in-Heavy.is) c.update-update.ensures.own_chunk
 
 pub returns-in-Heavy-clause-ran : goal.returns-in-Heavy-clause-ran
 returns-in-Heavy-clause-ran g c = λ s setup.

@@ -25,14 +25,14 @@ returns-in-Commit-clause-ran g c = λ s old began.
     b.told b.opening b.begins c.commit.new.self.0.seat c.commit.result
     (edits_as c.args.origin.now s.origin _ _ (Ok tt) _ _ b.origin_is (ap (map operation_view) c.deref.ensures.value) c.in_default.ensures.applies)
     c.in-Commit.is c.commit.ensures.commits c.commit.ensures.version c.commit.ensures.back c.commit.ensures.spent c.commit.ensures.last c.committed.ensures.made c.committed.ensures.spent)
-    (search rules)
+    (let t = c.t3-in-Commit-1 in let l = c.lifetimes in ?)
 
 pub returns-in-Rollback-clause-ran : goal.returns-in-Rollback-clause-ran
 returns-in-Rollback-clause-ran g c = λ s old began.
     let b = began_on s c.args.origin.now old c.args.transaction.locked.now.draft began in
-    ran_as s _ _ _ (known_at c.drop-transaction-2.new.self.0.seat) _ _
+    ran_as s _ _ _ (known_at c.drop-transaction-in-Rollback-1.new.self.0.seat) _ _
     (rollback_ran s (map operation_view c.args.block.now.operations.items) c.args.block.now.ending old _ c.args.transaction.locked.now.draft c.apply_all.new.transaction.locked.now.draft
-    b.told b.opening b.begins c.drop-transaction-2.new.self.0.seat c.version-version.result c.drop-transaction-2.ensures.back c.version-version.ensures refl
+    b.told b.opening b.begins c.drop-transaction-in-Rollback-1.new.self.0.seat c.version-version.result c.drop-transaction-in-Rollback-1.ensures.back c.version-version.ensures refl
     (edits_as c.args.origin.now s.origin _ _ (Ok tt) _ _ b.origin_is (ap (map operation_view) c.deref.ensures.value) c.in_default.ensures.applies) c.in-Rollback.is refl)
     (search rules)
 
