@@ -1,7 +1,6 @@
 -- Texts are cut where an octet first stands.
-use Rattle.std.proofs.Common.{◌≡◌, ◌∙◌, ℕ, ◌<◌, Bool, true, false, ◌&&◌, not, eqb, List, [], ◌∷◌, ◌++◌, get_or, drop, refl, sym, ap, ap₂, arith, append_assoc}
+use Rattle.std.proofs.Common.{◌≡◌, ◌∙◌, ℕ, ◌<◌, Bool, true, false, ◌&&◌, not, eqb, List, [], ◌∷◌, ◌++◌, get_or, drop, refl, sym, ap, ap₂, arith}
 use Rattle.std.proofs.lemmas.Bool.Decides.{nat_tests}
-use Rattle.std.proofs.lemmas.List.{append_cancel_left}
 use Rattle.std.specs.List.{list_all, flat_map}
 
 -- ---- texts without an octet
@@ -67,8 +66,3 @@ cut stop (c ∷ a) (d ∷ b) x y f g s t e =
     let heads : c ≡ d = ap (λ (l : List ℕ). get_or l 0 0) e in
     let more = cut stop a b x y (rest_free stop c a f) (rest_free stop d b g) s t (ap (drop 1) e) in
     (ap₂ (λ (h : ℕ) (l : List ℕ). h ∷ l) heads more.0, more.1)
-
--- ---- the same text in front
-
-pub behind : (a x y s t : List ℕ) → (a ++ x) ++ s ≡ (a ++ y) ++ t → x ++ s ≡ y ++ t
-behind a x y s t e = append_cancel_left a (x ++ s) (y ++ t) (sym (append_assoc a x s) ∙ e ∙ append_assoc a y t)

@@ -1,5 +1,5 @@
 -- How a transaction ended is told by what is printed of it, as long as its numbers have 64 bits.
-use Rattle.std.proofs.Common.{◌≡◌, ◌∙◌, ℕ, ◌+◌, ◌*◌, ◌<◌, ◌^◌, List, [], ◌∷◌, ◌++◌, length, get_or, drop, refl, sym, ap, ap₂, arith, codes}
+use Rattle.std.proofs.Common.{◌≡◌, ◌∙◌, ℕ, ◌+◌, ◌*◌, ◌<◌, ◌^◌, List, [], ◌∷◌, ◌++◌, length, get_or, drop, refl, sym, ap, ap₂, arith, append_assoc, codes}
 use Rattle.std.proofs.lemmas.Fmt.{decimal_injective}
 use Rattle.std.proofs.lemmas.List.{append_cancel_left, append_cancel_right}
 use Rattle.std.specs.List.{flat_map, AllByRecursion}
@@ -9,8 +9,8 @@ use Rattle.zone_model.specs.declared.Refusal.TheVariants.{Soa, Cname, Long}
 use Rattle.job_model.specs.Outcomes.{Cause, Rule, Full, Spent, Ended, Shown, Committed, RolledBack, Refused}
 use Rattle.job_model.specs.Reports.{rule_text, cause_text, ended_text}
 use Rattle.report_laws.proofs.CutLemmas.{Free, free_append, free_map, stands, cut}
-use Rattle.report_laws.proofs.TextLemmas.{decimal_free}
-use Rattle.report_laws.proofs.LineLemmas.{IsLine, line_end, line_more, line_cut}
+use Rattle.report_laws.proofs.TextLemmas.{decimal_free, spaced_free}
+use Rattle.report_laws.proofs.LineLemmas.{IsLine, line, line_cut}
 
 -- the numbers of a cause, and of an ending, have 64 bits
 
@@ -62,10 +62,14 @@ ranked (Rule Long) = refl
 ranked (Full operation kept) = refl
 ranked Spent = refl
 
+in_four : (a b c d : List ℕ) → a ++ b ++ c ++ d ≡ a ++ (b ++ (c ++ d))
+in_four a b c d = simp append_assoc
+
 full_same : (m n : ℕ) (ks js : List ℕ) → SmallCause (Full m ks) → SmallCause (Full n js) → cause_text (Full m ks) ≡ cause_text (Full n js) → Full m ks ≡ Full n js
 full_same m n ks js small less e =
     let parts = cut 32 (decimal m) (decimal n) (codes " kept" ++ flat_map kept_text ks) (codes " kept" ++ flat_map kept_text js) (decimal_free 32 m (omega arith)) (decimal_free 32 n (omega arith)) refl refl
-        (append_cancel_left (codes "full at ") (decimal m ++ codes " kept" ++ flat_map kept_text ks) (decimal n ++ codes " kept" ++ flat_map kept_text js) e) in
+        (append_cancel_left (codes "full at ") (decimal m ++ (codes " kept" ++ flat_map kept_text ks)) (decimal n ++ (codes " kept" ++ flat_map kept_text js))
+        (sym (in_four (codes "full at ") (decimal m) (codes " kept") (flat_map kept_text ks)) ∙ e ∙ in_four (codes "full at ") (decimal n) (codes " kept") (flat_map kept_text js))) in
     ap₂ (λ (operation : ℕ) (kept : List ℕ). Full operation kept) (decimal_injective m n small.0 less.0 parts.0)
     (kept_same ks js small.1 less.1 (append_cancel_left (codes " kept") (flat_map kept_text ks) (flat_map kept_text js) parts.1))
 
@@ -88,18 +92,17 @@ rule_free Long = refl
 cause_free : (a : Cause) → Free 10 (cause_text a)
 cause_free (Rule refusal) = rule_free refusal
 cause_free (Full operation kept) =
-    free_append 10 (codes "full at ") (decimal operation ++ codes " kept" ++ flat_map kept_text kept) refl
-    (free_append 10 (decimal operation) (codes " kept" ++ flat_map kept_text kept) (decimal_free 10 operation (omega arith))
-    (free_append 10 (codes " kept") (flat_map kept_text kept) refl (free_map 10 kept_text (λ (v : ℕ). free_append 10 (codes " ") (decimal v) refl (decimal_free 10 v (omega arith))) kept)))
+    spaced_free (codes "full at " ++ decimal operation) (codes " kept") (flat_map kept_text kept) (free_append 10 (codes "full at ") (decimal operation) refl (decimal_free 10 operation (omega arith))) refl
+    (free_map 10 kept_text (λ (v : ℕ). free_append 10 (codes " ") (decimal v) refl (decimal_free 10 v (omega arith))) kept)
 cause_free Spent = refl
 
 -- ---- endings
 
 ended_line : (a : Ended) → (a ≡ Shown → ⊥) → IsLine (ended_text a)
 ended_line Shown n = absurd (n refl)
-ended_line Committed n = line_more (codes "COMMITTED") refl line_end
-ended_line RolledBack n = line_more (codes "ROLLED BACK") refl line_end
-ended_line (Refused cause) n = line_more (codes "REFUSED ") refl (line_more (cause_text cause) (cause_free cause) line_end)
+ended_line Committed n = line (codes "COMMITTED") refl
+ended_line RolledBack n = line (codes "ROLLED BACK") refl
+ended_line (Refused cause) n = line (codes "REFUSED " ++ cause_text cause) (free_append 10 (codes "REFUSED ") (cause_text cause) refl (cause_free cause))
 
 ended_same : (a b : Ended) → (a ≡ Shown → ⊥) → (b ≡ Shown → ⊥) → SmallEnded a → SmallEnded b → first_two (ended_text a) ≡ first_two (ended_text b) → ended_text a ≡ ended_text b → a ≡ b
 ended_same Shown b n m small less r e = absurd (n refl)
@@ -107,7 +110,7 @@ ended_same a Shown n m small less r e = absurd (m refl)
 ended_same Committed Committed n m small less r e = refl
 ended_same RolledBack RolledBack n m small less r e = refl
 ended_same (Refused a) (Refused b) n m small less r e =
-    ap Refused (cause_same a b small less (append_cancel_right (cause_text a) (cause_text b) (10 ∷ []) (append_cancel_left (codes "REFUSED ") (cause_text a ++ 10 ∷ []) (cause_text b ++ 10 ∷ []) e)))
+    ap Refused (cause_same a b small less (append_cancel_left (codes "REFUSED ") (cause_text a) (cause_text b) (append_cancel_right (codes "REFUSED " ++ cause_text a) (codes "REFUSED " ++ cause_text b) (10 ∷ []) e)))
 ended_same a b n m small less r e = absurd (omega (arith, r))
 
 -- how a transaction ended, and what is behind it, is told

@@ -76,14 +76,14 @@ all_made (suc n) pairs once =
 -- ---- no more commands than octets
 
 head_some : (w n v : ℕ) → 0 < length (head_text w n v)
-head_some w n v = omega (arith, length-append (decimal w) (codes "." ++ decimal n ++ codes " v" ++ decimal v ++ codes " "))
+head_some w n v = omega (arith, length-append (decimal w ++ codes "." ++ decimal n ++ codes " v" ++ decimal v) (codes " "))
 
 worker_long : (origin : Name) (set : ℕ → Version) (w n : ℕ) (pairs : List Pair) → length pairs ≤ length (worker_text origin set w n pairs)
 worker_long origin set w n [] = omega arith
 worker_long origin set w n (pair ∷ pairs) =
     let some = head_some w n pair.1.version in
     let more = worker_long origin set w (n + 1) pairs in
-    omega (arith, some, more, length-append (head_text w n pair.1.version) (command_text origin set pair.0 pair.1 ++ worker_text origin set w (n + 1) pairs), length-append (command_text origin set pair.0 pair.1) (worker_text origin set w (n + 1) pairs))
+    omega (arith, some, more, length-append (head_text w n pair.1.version ++ command_text origin set pair.0 pair.1) (worker_text origin set w (n + 1) pairs), length-append (head_text w n pair.1.version) (command_text origin set pair.0 pair.1))
 
 workers_long : (origin : Name) (set : ℕ → Version) (w : ℕ) (ws : List (List Pair)) → length (all_pairs ws) ≤ length (workers_text origin set w ws)
 workers_long origin set w [] = omega arith

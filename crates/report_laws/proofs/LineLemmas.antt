@@ -13,15 +13,8 @@ pub record IsLine (text : List ℕ) : Type 0 where
   pub free : Free 10 front
   pub is : text ≡ front ++ 10 ∷ []
 
-pub line_end : IsLine (10 ∷ [])
-line_end = record { front = []; free = refl; is = refl }
-
-pub line_more : (a : List ℕ) → Free 10 a → {text : List ℕ} → IsLine text → IsLine (a ++ text)
-line_more a f l = record {
-  front = a ++ l.front;
-  free = free_append 10 a l.front f l.free;
-  is = ap (λ (t : List ℕ). a ++ t) l.is ∙ sym (append_assoc a l.front (10 ∷ []));
-}
+pub line : (front : List ℕ) → Free 10 front → IsLine (front ++ 10 ∷ [])
+line front f = record { front = front; free = f; is = refl }
 
 -- a line, and what is behind it, is told
 pub line_cut : (a b x y : List ℕ) → IsLine a → IsLine b → a ++ x ≡ b ++ y → (a ≡ b) × (x ≡ y)
@@ -32,21 +25,21 @@ line_cut a b x y l m e =
 
 -- what is behind as many lines is told
 pub lines_cut : {A : Type 0} (f : A → List ℕ) → ((a : A) → IsLine (f a)) → (xs ys : List A) (s t : List ℕ) → length xs ≡ length ys → flat_map f xs ++ s ≡ flat_map f ys ++ t → s ≡ t
-lines_cut f line [] [] s t n e = e
-lines_cut f line [] (y ∷ ys) s t n e = absurd (omega arith)
-lines_cut f line (x ∷ xs) [] s t n e = absurd (omega arith)
-lines_cut f line (x ∷ xs) (y ∷ ys) s t n e =
-    lines_cut f line xs ys s t (omega arith)
-    (line_cut (f x) (f y) (flat_map f xs ++ s) (flat_map f ys ++ t) (line x) (line y) (sym (append_assoc (f x) (flat_map f xs) s) ∙ e ∙ append_assoc (f y) (flat_map f ys) t)).1
+lines_cut f each [] [] s t n e = e
+lines_cut f each [] (y ∷ ys) s t n e = absurd (omega arith)
+lines_cut f each (x ∷ xs) [] s t n e = absurd (omega arith)
+lines_cut f each (x ∷ xs) (y ∷ ys) s t n e =
+    lines_cut f each xs ys s t (omega arith)
+    (line_cut (f x) (f y) (flat_map f xs ++ s) (flat_map f ys ++ t) (each x) (each y) (sym (append_assoc (f x) (flat_map f xs) s) ∙ e ∙ append_assoc (f y) (flat_map f ys) t)).1
 
 line_some : (text : List ℕ) → IsLine text → 0 < length text
 line_some text l = subst (λ (t : List ℕ). 0 < length t) (sym l.is) (omega (arith, length-append l.front (10 ∷ [])))
 
 lines_some : {A : Type 0} (f : A → List ℕ) → ((a : A) → IsLine (f a)) → (xs : List A) → length xs ≤ length (flat_map f xs)
-lines_some f line [] = omega arith
-lines_some f line (x ∷ xs) =
-    let some = line_some (f x) (line x) in
-    let more = lines_some f line xs in
+lines_some f each [] = omega arith
+lines_some f each (x ∷ xs) =
+    let some = line_some (f x) (each x) in
+    let more = lines_some f each xs in
     omega (arith, some, more, length-append (f x) (flat_map f xs))
 
 -- ---- counts
@@ -82,22 +75,22 @@ pub record IsWord (text : List ℕ) : Type 0 where
   pub in_line : Free 10 text
   pub in_one : Free 32 text
 
-spread : (v c l s : List ℕ) → (v ++ (c ++ (10 ∷ l))) ++ s ≡ (v ++ c) ++ (10 ∷ (l ++ s))
-spread v c l s = append_assoc v (c ++ (10 ∷ l)) s ∙ ap (λ (z : List ℕ). v ++ z) (append_assoc c (10 ∷ l) s) ∙ sym (append_assoc v c (10 ∷ (l ++ s)))
+spread : (first lines rest : List ℕ) → (first ++ 10 ∷ [] ++ lines) ++ rest ≡ first ++ 10 ∷ (lines ++ rest)
+spread first lines rest = append_assoc (first ++ 10 ∷ []) lines rest ∙ append_assoc first (10 ∷ []) (lines ++ rest)
 
-shorter : (v c l s : List ℕ) → length l ≤ length ((v ++ (c ++ (10 ∷ l))) ++ s)
-shorter v c l s = omega (arith, length-append (v ++ (c ++ (10 ∷ l))) s, length-append v (c ++ (10 ∷ l)), length-append c (10 ∷ l))
+shorter : (first lines rest : List ℕ) → length lines ≤ length ((first ++ 10 ∷ [] ++ lines) ++ rest)
+shorter first lines rest = omega (arith, length-append (first ++ 10 ∷ [] ++ lines) rest, length-append (first ++ 10 ∷ []) lines)
 
 -- What is behind is told, as long as all has fewer octets than 64 bits count.
 pub counted_cut : {A : Type 0} (f : A → List ℕ) → ((a : A) → IsLine (f a)) → (v w : List ℕ) → IsWord v → IsWord w → (xs ys : List A) (s t : List ℕ)
-    → length ((v ++ (count_text (length xs) ++ (10 ∷ flat_map f xs))) ++ s) < 2 ^ 64
-    → (v ++ (count_text (length xs) ++ (10 ∷ flat_map f xs))) ++ s ≡ (w ++ (count_text (length ys) ++ (10 ∷ flat_map f ys))) ++ t → s ≡ t
-counted_cut f line v w is_v is_w xs ys s t small e =
-    let few : length xs < 2 ^ 64 = omega (arith, small, shorter v (count_text (length xs)) (flat_map f xs) s, lines_some f line xs) in
+    → length ((v ++ count_text (length xs) ++ codes "\n" ++ flat_map f xs) ++ s) < 2 ^ 64
+    → (v ++ count_text (length xs) ++ codes "\n" ++ flat_map f xs) ++ s ≡ (w ++ count_text (length ys) ++ codes "\n" ++ flat_map f ys) ++ t → s ≡ t
+counted_cut f each v w is_v is_w xs ys s t small e =
+    let few : length xs < 2 ^ 64 = omega (arith, small, shorter (v ++ count_text (length xs)) (flat_map f xs) s, lines_some f each xs) in
     let alike = ap (λ (l : List ℕ). length l) e in
-    let few_too : length ys < 2 ^ 64 = omega (arith, small, alike, shorter w (count_text (length ys)) (flat_map f ys) t, lines_some f line ys) in
+    let few_too : length ys < 2 ^ 64 = omega (arith, small, alike, shorter (w ++ count_text (length ys)) (flat_map f ys) t, lines_some f each ys) in
     let first = cut 10 (v ++ count_text (length xs)) (w ++ count_text (length ys)) (10 ∷ (flat_map f xs ++ s)) (10 ∷ (flat_map f ys ++ t))
         (free_append 10 v (count_text (length xs)) is_v.in_line (count_free (length xs))) (free_append 10 w (count_text (length ys)) is_w.in_line (count_free (length ys))) refl refl
-        (sym (spread v (count_text (length xs)) (flat_map f xs) s) ∙ e ∙ spread w (count_text (length ys)) (flat_map f ys) t) in
+        (sym (spread (v ++ count_text (length xs)) (flat_map f xs) s) ∙ e ∙ spread (w ++ count_text (length ys)) (flat_map f ys) t) in
     let word = cut 32 v w (count_text (length xs)) (count_text (length ys)) is_v.in_one is_w.in_one (count_stands (length xs)) (count_stands (length ys)) first.0 in
-    lines_cut f line xs ys s t (count_same (length xs) (length ys) few few_too word.1) (ap (drop 1) first.1)
+    lines_cut f each xs ys s t (count_same (length xs) (length ys) few few_too word.1) (ap (drop 1) first.1)

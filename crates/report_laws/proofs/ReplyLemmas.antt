@@ -16,19 +16,21 @@ use Rattle.trie_read.specs.declared.found.Kind.TheVariants as there
 use Rattle.job_model.specs.Sizes.{node_count}
 use Rattle.job_model.specs.Commands.{Question, Get, Find, Walk, Back, Stat}
 use Rattle.job_model.specs.Replies.{reply_of, reply_text, kind_text, answer_text, name_line, names_text, found_kind_text, name_or_none, found_text, size_text}
-use Rattle.report_laws.proofs.CutLemmas.{Free}
-use Rattle.report_laws.proofs.TextLemmas.{decimal_free, name_free, type_free, data_free}
-use Rattle.report_laws.proofs.LineLemmas.{IsLine, line_end, line_more, line_cut, IsWord, counted_cut}
+use Rattle.report_laws.proofs.CutLemmas.{Free, free_append}
+use Rattle.report_laws.proofs.TextLemmas.{spaced_free, decimal_free, name_free, type_free, data_free}
+use Rattle.report_laws.proofs.LineLemmas.{IsLine, line, line_cut, IsWord, counted_cut}
 
 -- ---- lines
 
 row_line : (r : Row) → IsLine (row_text r)
 row_line r =
-    line_more (text_of r.owner) (name_free r.owner) (line_more (codes " ") refl (line_more (decimal r.ttl) (decimal_free 10 r.ttl (omega arith)) (line_more (codes " IN ") refl
-    (line_more (type_text r.rtype) (type_free r.rtype) (line_more (codes " ") refl (line_more (data_text r.rtype r.octets) (data_free r.rtype r.octets) line_end))))))
+    let owner = spaced_free (text_of r.owner) (codes " ") (decimal r.ttl) (name_free r.owner) refl (decimal_free 10 r.ttl (omega arith)) in
+    let class = spaced_free (text_of r.owner ++ codes " " ++ decimal r.ttl) (codes " IN ") (type_text r.rtype) owner refl (type_free r.rtype) in
+    line (text_of r.owner ++ codes " " ++ decimal r.ttl ++ codes " IN " ++ type_text r.rtype ++ codes " " ++ data_text r.rtype r.octets)
+    (spaced_free (text_of r.owner ++ codes " " ++ decimal r.ttl ++ codes " IN " ++ type_text r.rtype) (codes " ") (data_text r.rtype r.octets) class refl (data_free r.rtype r.octets))
 
 named_line : (name : Name) → IsLine (name_line name)
-named_line name = line_more (text_of name) (name_free name) line_end
+named_line name = line (text_of name) (name_free name)
 
 or_none_free : (o : Option Name) → Free 10 (name_or_none o)
 or_none_free None = refl
@@ -36,7 +38,8 @@ or_none_free (Some name) = name_free name
 
 size_line : (names nodes : ℕ) → IsLine (size_text names nodes)
 size_line names nodes =
-    line_more (codes "names ") refl (line_more (decimal names) (decimal_free 10 names (omega arith)) (line_more (codes " nodes ") refl (line_more (decimal nodes) (decimal_free 10 nodes (omega arith)) line_end)))
+    let many = free_append 10 (codes "names ") (decimal names) refl (decimal_free 10 names (omega arith)) in
+    line (codes "names " ++ decimal names ++ codes " nodes " ++ decimal nodes) (spaced_free (codes "names " ++ decimal names) (codes " nodes ") (decimal nodes) many refl (decimal_free 10 nodes (omega arith)))
 
 -- ---- words
 
@@ -65,11 +68,14 @@ before_line o = codes "pred " ++ name_or_none o ++ codes "\n"
 
 before_is_line : (o : Option Name) → IsLine (before_line o)
 unfolding before_line
-before_is_line o = line_more (codes "pred ") refl (line_more (name_or_none o) (or_none_free o) line_end)
+before_is_line o = line (codes "pred " ++ name_or_none o) (free_append 10 (codes "pred ") (name_or_none o) refl (or_none_free o))
+
+in_two : (a b c d s : List ℕ) → (a ++ b ++ c ++ d) ++ s ≡ a ++ (b ++ c ++ d ++ s)
+in_two a b c d s = simp append_assoc
 
 found_parts : (f : Found) (s : List ℕ) → found_text f ++ s ≡ names_text (found_kind_text f.kind) f.chain ++ (before_line f.predecessor ++ s)
 unfolding before_line
-found_parts f s = append_assoc (names_text (found_kind_text f.kind) f.chain) (codes "pred " ++ name_or_none f.predecessor ++ codes "\n") s
+found_parts f s = in_two (names_text (found_kind_text f.kind) f.chain) (codes "pred ") (name_or_none f.predecessor) (codes "\n") s
 
 found_cut : (f g : Found) (s t : List ℕ) → length (found_text f ++ s) < 2 ^ 64 → found_text f ++ s ≡ found_text g ++ t → s ≡ t
 found_cut f g s t small e =

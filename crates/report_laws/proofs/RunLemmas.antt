@@ -9,7 +9,7 @@ use Rattle.zone_model.specs.Versions.{Version}
 use Rattle.job_model.specs.Commands.{Command, Ask, Hold, AskHeld, Release, Block}
 use Rattle.job_model.specs.Outcomes.{Ended, Shown, Outcome, Pair}
 use Rattle.job_model.specs.Reports.{head_text, ended_text, command_text, worker_text, workers_text, end_text}
-use Rattle.report_laws.proofs.CutLemmas.{cut, behind}
+use Rattle.report_laws.proofs.CutLemmas.{cut}
 use Rattle.report_laws.proofs.TextLemmas.{decimal_free}
 use Rattle.report_laws.proofs.ReplyLemmas.{reply_cut}
 use Rattle.report_laws.proofs.EndLemmas.{SmallEnded, ended_cut}
@@ -36,13 +36,14 @@ numbered_cut m n s t small less e =
     let parts = cut 32 (decimal m) (decimal n) (32 ∷ s) (32 ∷ t) (decimal_free 32 m (omega arith)) (decimal_free 32 n (omega arith)) refl refl e in
     (decimal_injective m n small less parts.0, ap (drop 1) parts.1)
 
+in_three : (a b c s : List ℕ) → (a ++ b ++ c) ++ s ≡ a ++ (b ++ (c ++ s))
+in_three a b c s = append_assoc (a ++ b) c s ∙ append_assoc a b (c ++ s)
+
 head_cut : (w c m n : ℕ) (s t : List ℕ) → m < 2 ^ 64 → n < 2 ^ 64 → head_text w c m ++ s ≡ head_text w c n ++ t → (m ≡ n) × (s ≡ t)
 head_cut w c m n s t small less e =
-    let worker = behind (decimal w) (codes "." ++ decimal c ++ codes " v" ++ decimal m ++ codes " ") (codes "." ++ decimal c ++ codes " v" ++ decimal n ++ codes " ") s t e in
-    let dot = behind (codes ".") (decimal c ++ codes " v" ++ decimal m ++ codes " ") (decimal c ++ codes " v" ++ decimal n ++ codes " ") s t worker in
-    let command = behind (decimal c) (codes " v" ++ decimal m ++ codes " ") (codes " v" ++ decimal n ++ codes " ") s t dot in
-    let version = behind (codes " v") (decimal m ++ codes " ") (decimal n ++ codes " ") s t command in
-    numbered_cut m n s t small less (sym (append_assoc (decimal m) (codes " ") s) ∙ version ∙ append_assoc (decimal n) (codes " ") t)
+    let front = decimal w ++ codes "." ++ decimal c ++ codes " v" in
+    numbered_cut m n s t small less
+    (append_cancel_left front (decimal m ++ (32 ∷ s)) (decimal n ++ (32 ∷ t)) (sym (in_three front (decimal m) (codes " ") s) ∙ e ∙ in_three front (decimal n) (codes " ") t))
 
 told_cut : (origin : Name) (before after : ℕ → Version) (c : Command) (o p : Outcome) (s t : List ℕ) → OfKind c o.ended → OfKind c p.ended → SmallEnded o.ended → SmallEnded p.ended
     → length (command_text origin before c o ++ s) < 2 ^ 64 → command_text origin before c o ++ s ≡ command_text origin after c p ++ t → (o.ended ≡ p.ended) × (s ≡ t)
@@ -56,19 +57,18 @@ outcome_of : ℕ → Ended → Outcome
 outcome_of version ended = record { version = version; ended = ended }
 
 -- a command's text stands inside of what is printed
-inside : (head text rest s : List ℕ) → length (text ++ (rest ++ s)) ≤ length ((head ++ (text ++ rest)) ++ s)
-inside head text rest s = omega (arith, length-append (head ++ (text ++ rest)) s, length-append head (text ++ rest), length-append text rest, length-append text (rest ++ s), length-append rest s)
+inside : (head text rest s : List ℕ) → length (text ++ (rest ++ s)) ≤ length ((head ++ text ++ rest) ++ s)
+inside head text rest s = let same = ap (λ (l : List ℕ). length l) (in_three head text rest s) in omega (arith, same, length-append head (text ++ (rest ++ s)))
 
 outcome_cut : (origin : Name) (before after : ℕ → Version) (w n : ℕ) (c : Command) (o p : Outcome) → IsPlain c o → IsPlain c p → (x y s t : List ℕ)
-    → length ((head_text w n o.version ++ (command_text origin before c o ++ x)) ++ s) < 2 ^ 64
-    → (head_text w n o.version ++ (command_text origin before c o ++ x)) ++ s ≡ (head_text w n p.version ++ (command_text origin after c p ++ y)) ++ t → (o ≡ p) × (x ++ s ≡ y ++ t)
+    → length ((head_text w n o.version ++ command_text origin before c o ++ x) ++ s) < 2 ^ 64
+    → (head_text w n o.version ++ command_text origin before c o ++ x) ++ s ≡ (head_text w n p.version ++ command_text origin after c p ++ y) ++ t → (o ≡ p) × (x ++ s ≡ y ++ t)
 unfolding outcome_of
 outcome_cut origin before after w n c o p is_o is_p x y s t few e =
-    let first = head_cut w n o.version p.version ((command_text origin before c o ++ x) ++ s) ((command_text origin after c p ++ y) ++ t) is_o.version is_p.version
-        (sym (append_assoc (head_text w n o.version) (command_text origin before c o ++ x) s) ∙ e ∙ append_assoc (head_text w n p.version) (command_text origin after c p ++ y) t) in
+    let first = head_cut w n o.version p.version (command_text origin before c o ++ (x ++ s)) (command_text origin after c p ++ (y ++ t)) is_o.version is_p.version
+        (sym (in_three (head_text w n o.version) (command_text origin before c o) x s) ∙ e ∙ in_three (head_text w n p.version) (command_text origin after c p) y t) in
     let next = told_cut origin before after c o p (x ++ s) (y ++ t) is_o.kind is_p.kind is_o.small is_p.small
-        (omega (arith, few, inside (head_text w n o.version) (command_text origin before c o) x s))
-        (sym (append_assoc (command_text origin before c o) x s) ∙ first.1 ∙ append_assoc (command_text origin after c p) y t) in
+        (omega (arith, few, inside (head_text w n o.version) (command_text origin before c o) x s)) first.1 in
     (ap₂ outcome_of first.0 next.0, next.1)
 
 -- ---- a worker
@@ -85,7 +85,7 @@ AllPlain pairs = AllByRecursion (λ pair. IsPlain pair.0 pair.1) pairs
 behind_few : (a b : List ℕ) → length b ≤ length (a ++ b)
 behind_few a b = omega (arith, length-append a b)
 
-rest_few : (head text rest s : List ℕ) → length (rest ++ s) ≤ length ((head ++ (text ++ rest)) ++ s)
+rest_few : (head text rest s : List ℕ) → length (rest ++ s) ≤ length ((head ++ text ++ rest) ++ s)
 rest_few head text rest s = omega (arith, inside head text rest s, behind_few text (rest ++ s))
 
 worker_cut : (origin : Name) (before after : ℕ → Version) (w n : ℕ) (xs ys : List Pair) → map command_in xs ≡ map command_in ys → AllPlain xs → AllPlain ys → (s t : List ℕ)
@@ -98,7 +98,7 @@ worker_cut origin before after w n (x ∷ xs) (y ∷ ys) same plain also s t few
     let first : x.0 ≡ y.0 = cc in
     let others : map command_in xs ≡ map command_in ys = cc in
     let now = outcome_cut origin before after w n x.0 x.1 y.1 plain.0 (subst (λ (c : Command). IsPlain c y.1) (sym first) also.0) (worker_text origin before w (n + 1) xs) (worker_text origin after w (n + 1) ys) s t few
-        (e ∙ ap (λ (c : Command). (head_text w n y.1.version ++ (command_text origin after c y.1 ++ worker_text origin after w (n + 1) ys)) ++ t) (sym first)) in
+        (e ∙ ap (λ (c : Command). (head_text w n y.1.version ++ command_text origin after c y.1 ++ worker_text origin after w (n + 1) ys) ++ t) (sym first)) in
     let more = worker_cut origin before after w (n + 1) xs ys others plain.1 also.1 s t
         (omega (arith, few, rest_few (head_text w n x.1.version) (command_text origin before x.0 x.1) (worker_text origin before w (n + 1) xs) s)) now.1 in
     (ap₂ (λ (pair : Pair) (l : List Pair). pair ∷ l) (ap₂ pair_of first now.0) more.0, more.1)
@@ -122,11 +122,15 @@ workers_cut origin before after w (x ∷ xs) (y ∷ ys) same plain also s t few 
         (omega (arith, few, long, behind_few (worker_text origin before w 1 x) (workers_text origin before (w + 1) xs ++ s))) now.1 in
     (ap₂ (λ (pairs : List Pair) (l : List (List Pair)). pairs ∷ l) now.0 more.0, more.1)
 
+in_five : (a b c d e : List ℕ) → a ++ b ++ c ++ d ++ e ≡ a ++ (b ++ (c ++ (d ++ e)))
+in_five a b c d e = simp append_assoc
+
 -- the last line tells the last version
 end_same : (m n names also : ℕ) → m < 2 ^ 64 → n < 2 ^ 64 → end_text m names ≡ end_text n also → m ≡ n
 end_same m n names also small less e =
-    (numbered_cut m n (codes "names " ++ decimal names ++ codes "\n") (codes "names " ++ decimal also ++ codes "\n") small less
-    (append_cancel_left (codes "end v") (decimal m ++ codes " names " ++ decimal names ++ codes "\n") (decimal n ++ codes " names " ++ decimal also ++ codes "\n") e)).0
+    (numbered_cut m n (codes "names " ++ (decimal names ++ codes "\n")) (codes "names " ++ (decimal also ++ codes "\n")) small less
+    (append_cancel_left (codes "end v") (decimal m ++ (codes " names " ++ (decimal names ++ codes "\n"))) (decimal n ++ (codes " names " ++ (decimal also ++ codes "\n")))
+    (sym (in_five (codes "end v") (decimal m) (codes " names ") (decimal names) (codes "\n")) ∙ e ∙ in_five (codes "end v") (decimal n) (codes " names ") (decimal also) (codes "\n")))).0
 
 pub told_same : (origin : Name) (before after : ℕ → Version) (xs ys : List (List Pair)) (m n names also : ℕ) → map (map command_in) xs ≡ map (map command_in) ys
     → AllByRecursion AllPlain xs → AllByRecursion AllPlain ys → m < 2 ^ 64 → n < 2 ^ 64 → length (workers_text origin before 1 xs ++ end_text m names) < 2 ^ 64

@@ -44,6 +44,9 @@ three_free c =
     (free_above 10 (c / 100 + 48) ((c / 10 % 10 + 48) ∷ (c % 10 + 48) ∷ []) (omega arith)
     (free_above 10 (c / 10 % 10 + 48) ((c % 10 + 48) ∷ []) (omega arith) (free_above 10 (c % 10 + 48) [] (omega arith) refl)))
 
+pub spaced_free : (a b c : List ℕ) → Free 10 a → Free 10 b → Free 10 c → Free 10 (a ++ b ++ c)
+spaced_free a b c f g h = free_append 10 (a ++ b) c (free_append 10 a b f g) h
+
 -- ---- names
 
 special_above : (c : ℕ) → is_special c ≡ true → 10 < c
@@ -94,24 +97,22 @@ place_free place n = by_test (leb place n)
 
 group_free : (n : ℕ) → Free 10 (group_text n)
 group_free n =
-    free_append 10 (digit_at 4096 n) (digit_at 256 n ++ digit_at 16 n ++ hex_digit (n % 16) ∷ []) (place_free 4096 n)
-    (free_append 10 (digit_at 256 n) (digit_at 16 n ++ hex_digit (n % 16) ∷ []) (place_free 256 n)
-    (free_append 10 (digit_at 16 n) (hex_digit (n % 16) ∷ []) (place_free 16 n) (free_above 10 (hex_digit (n % 16)) [] (hex_above (n % 16)) refl)))
+    free_append 10 (digit_at 4096 n ++ digit_at 256 n ++ digit_at 16 n) (hex_digit (n % 16) ∷ [])
+    (free_append 10 (digit_at 4096 n ++ digit_at 256 n) (digit_at 16 n) (free_append 10 (digit_at 4096 n) (digit_at 256 n) (place_free 4096 n) (place_free 256 n)) (place_free 16 n))
+    (free_above 10 (hex_digit (n % 16)) [] (hex_above (n % 16)) refl)
 
 groups_free : (octets : List ℕ) → Free 10 (groups_text octets)
 groups_free [] = refl
 groups_free (a ∷ []) = refl
 groups_free (a ∷ b ∷ []) = group_free (from_be_bytes w16 (a ∷ b ∷ []))
 groups_free (a ∷ b ∷ next ∷ rest) =
-    free_append 10 (group_text (from_be_bytes w16 (a ∷ b ∷ []))) (codes ":" ++ groups_text (next ∷ rest)) (group_free (from_be_bytes w16 (a ∷ b ∷ [])))
-    (free_append 10 (codes ":") (groups_text (next ∷ rest)) refl (groups_free (next ∷ rest)))
+    spaced_free (group_text (from_be_bytes w16 (a ∷ b ∷ []))) (codes ":") (groups_text (next ∷ rest)) (group_free (from_be_bytes w16 (a ∷ b ∷ []))) refl (groups_free (next ∷ rest))
 
 address_free : (octets : List ℕ) → Free 10 (address_text octets)
 address_free [] = refl
 address_free (octet ∷ []) = decimal_free 10 octet (omega arith)
 address_free (octet ∷ next ∷ rest) =
-    free_append 10 (decimal octet) (codes "." ++ address_text (next ∷ rest)) (decimal_free 10 octet (omega arith))
-    (free_append 10 (codes ".") (address_text (next ∷ rest)) refl (address_free (next ∷ rest)))
+    spaced_free (decimal octet) (codes ".") (address_text (next ∷ rest)) (decimal_free 10 octet (omega arith)) refl (address_free (next ∷ rest))
 
 -- ---- fields
 
@@ -146,7 +147,7 @@ last_free (Some x) f = by_test (eqb (length x.1) 0)
 
 joined_free : (o : Option (List ℕ)) (front : List ℕ) → Free 10 front → IfFree o → IfFree (option_map (λ t. front ++ codes " " ++ t) o)
 joined_free None front f g = tt
-joined_free (Some t) front f g = free_append 10 front (codes " " ++ t) f (free_append 10 (codes " ") t refl g)
+joined_free (Some t) front f g = spaced_free front (codes " ") t f refl g
 
 more_free : (o : Option (List ℕ × List ℕ)) (more : List ℕ → Option (List ℕ)) → IfFirstFree o → ((rest : List ℕ) → IfFree (more rest)) → IfFree (option_and_then (λ x. option_map (λ t. x.0 ++ codes " " ++ t) (more x.1)) o)
 more_free None more f g = tt
@@ -194,8 +195,7 @@ hex_free octet = free_above 10 (hex_digit (octet / 16)) (hex_digit (octet % 16) 
 
 generic_free : (octets : List ℕ) → Free 10 (generic_text octets)
 generic_free octets =
-    free_append 10 (codes "\\# ") (decimal (length octets) ++ cond (eqb (length octets) 0) [] (codes " " ++ flat_map hex_text octets)) refl
-    (free_append 10 (decimal (length octets)) (cond (eqb (length octets) 0) [] (codes " " ++ flat_map hex_text octets)) (decimal_free 10 (length octets) (omega arith)) (by_test (eqb (length octets) 0)))
+    spaced_free (codes "\\# ") (decimal (length octets)) (cond (eqb (length octets) 0) [] (codes " " ++ flat_map hex_text octets)) refl (decimal_free 10 (length octets) (omega arith)) (by_test (eqb (length octets) 0))
   where
     by_test : (b : Bool) → Free 10 (cond b [] (codes " " ++ flat_map hex_text octets))
     by_test true = refl
