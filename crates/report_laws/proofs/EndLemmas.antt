@@ -1,5 +1,5 @@
 -- How a transaction ended is told by what is printed of it, as long as its numbers have 64 bits.
-use Rattle.std.proofs.Common.{◌≡◌, ◌∙◌, ℕ, ◌+◌, ◌*◌, ◌<◌, ◌^◌, List, [], ◌∷◌, ◌++◌, length, get_or, drop, refl, sym, ap, ap₂, arith, append_assoc, codes}
+use Rattle.std.proofs.Common.{◌≡◌, ◌∙◌, ℕ, ◌+◌, ◌*◌, ◌<◌, ◌^◌, true, List, [], ◌∷◌, ◌++◌, length, get_or, drop, refl, sym, ap, ap₂, arith, append_assoc, codes}
 use Rattle.std.proofs.lemmas.Fmt.{decimal_injective}
 use Rattle.std.proofs.lemmas.List.{append_cancel_left, append_cancel_right}
 use Rattle.std.specs.List.{flat_map, AllByRecursion}
@@ -79,6 +79,9 @@ cause_by (Rule Cname) (Rule Cname) small less r e = refl
 cause_by (Rule Long) (Rule Long) small less r e = refl
 cause_by (Full m ks) (Full n js) small less r e = full_same m n ks js small less e
 cause_by Spent Spent small less r e = refl
+cause_by a (Rule Soa) small less r e = absurd (omega (arith, r))
+cause_by a (Rule Cname) small less r e = absurd (omega (arith, r))
+cause_by a (Rule Long) small less r e = absurd (omega (arith, r))
 cause_by a b small less r e = absurd (omega (arith, r))
 
 cause_same : (a b : Cause) → SmallCause a → SmallCause b → cause_text a ≡ cause_text b → a ≡ b

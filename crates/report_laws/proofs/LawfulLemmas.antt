@@ -29,7 +29,7 @@ once_to (suc n) pair = cond (made (suc n) pair) 1 0 + once_to n pair
 nothing_made : (n : ℕ) → made_to n [] ≡ 0
 unfolding made_to
 nothing_made zero = refl
-nothing_made (suc n) = nothing_made n
+nothing_made (suc n) = let k = nothing_made n in omega (arith, k)
 
 made_first : (n : ℕ) (pair : Pair) (pairs : List Pair) → made_to n (pair ∷ pairs) ≡ once_to n pair + made_to n pairs
 unfolding made_to once_to
@@ -50,7 +50,6 @@ at_most_one zero pair = record { one = omega arith; none = λ _. refl }
 at_most_one (suc n) pair = by_test (at_most_one n pair) (made (suc n) pair) refl
   where
     by_test : AtMostOne n pair → (b : Bool) → made (suc n) pair ≡ b → AtMostOne (suc n) pair
-    unfolding once_to
     by_test few true is =
         let last : pair.1.version ≡ suc n = eqb-true pair.1.version (suc n) (both_true (is_committed pair.1.ended) (eqb pair.1.version (suc n)) is) in
         let before : once_to n pair ≡ 0 = few.none (omega (arith, last)) in
@@ -150,7 +149,7 @@ plain s sight (Ask question) o small short ends = shown_plain (Ask question) (si
 plain s sight Hold o small short ends = shown_plain Hold (sight.seen ≤ o.version) o (λ (ended : Ended) (e : ended ≡ Shown). e) small ends
 plain s sight (AskHeld question) o small short ends = shown_plain (AskHeld question) (sight.held ≡ Some o.version) o (λ (ended : Ended) (e : ended ≡ Shown). e) small ends
 plain s sight Release o small short ends = shown_plain Release (sight.held ≡ Some o.version) o (λ (ended : Ended) (e : ended ≡ Shown). e) small ends
-plain s sight (Block weight operations ending) o small short ends =
+plain s sight (Block _ operations ending) o small short ends =
     let told = block_plain s sight.seen operations ending o.version o.ended small (omega (arith, short)) ends in
     record { version = small; kind = told.0; small = told.1 }
 

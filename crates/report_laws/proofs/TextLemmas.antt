@@ -1,10 +1,9 @@
 -- No printed number, name or record has a line feed inside.
-use Rattle.std.proofs.Common.{◌≡◌, ℕ, zero, suc, ◌+◌, ◌/◌, ◌%◌, ◌<◌, Bool, true, false, cond, ◌&&◌, ◌||◌, eqb, ltb, leb, List, [], ◌∷◌, ◌++◌, length, Option, Some, None, unwrap_or, option_and_then, option_map, refl, subst, arith, codes}
+use Rattle.std.proofs.Common.{◌≡◌, ℕ, zero, suc, ◌+◌, ◌/◌, ◌%◌, ◌<◌, ◌≤◌, Bool, true, false, cond, ◌&&◌, ◌||◌, eqb, ltb, leb, List, [], ◌∷◌, ◌++◌, length, Option, Some, None, unwrap_or, option_and_then, option_map, refl, subst, arith, codes}
 use Rattle.std.proofs.lemmas.Bool.Decides.{nat_tests}
-use Rattle.core.proofs.fmt.DigitsParse.{digits_onto-nil}
 use Rattle.std.specs.List.{list_all, flat_map}
 use Rattle.std.specs.Int.{w16, w32, from_be_bytes}
-use Rattle.std.specs.Fmt.{decimal, digits_onto, digit_glyph}
+use Rattle.std.specs.Fmt.{decimal, digits, digits_onto, digit_glyph}
 use Rattle.zone_model.specs.Names.{Name, Label}
 use Rattle.zone_model.specs.NameText.{text_of, label_text, octet_text, is_special, three_digits}
 use Rattle.zone_model.specs.Splits.{split_octets, split_name}
@@ -34,9 +33,13 @@ digits_free stop (suc k) n acc h f =
     by_test true now more = now
     by_test false now more = more
 
+digits_are : (n : ℕ) → digits_onto 64 10 false n [] ≡ decimal n
+unfolding digits
+digits_are n = refl
+
 -- neither a line feed nor a space stands among digits
 pub decimal_free : (stop n : ℕ) → stop < 48 → Free stop (decimal n)
-decimal_free stop n h = subst (λ (l : List ℕ). Free stop l) (digits_onto-nil 10 false n) (digits_free stop 64 n [] h refl)
+decimal_free stop n h = subst (λ (l : List ℕ). Free stop l) (digits_are n) (digits_free stop 64 n [] h refl)
 
 three_free : (c : ℕ) → Free 10 (92 ∷ three_digits c)
 three_free c =
