@@ -1,5 +1,5 @@
 -- Lawful outcomes are of their commands' kinds, and their numbers have 64 bits where the report is no longer than that.
-use Rattle.std.proofs.Common.{◌≡◌, ◌∙◌, ℕ, zero, suc, ◌+◌, ◌<◌, ◌≤◌, ◌^◌, Bool, true, false, cond, ◌&&◌, eqb, List, [], ◌∷◌, ◌++◌, map, length, refl, sym, ap, subst, arith, length-append, eqb-true, codes, Some, Less}
+use Rattle.std.proofs.Common.{◌≡◌, ℕ, zero, suc, ◌+◌, ◌<◌, ◌≤◌, ◌^◌, Bool, true, false, cond, ◌&&◌, eqb, List, [], ◌∷◌, ◌++◌, map, length, refl, sym, ap, subst, arith, length-append, eqb-true, codes, Some, Less}
 use Rattle.std.proofs.lemmas.Bool.Decides.{nat_tests}
 use Rattle.std.specs.List.{AllByRecursion}
 use Rattle.std.specs.List.Sorted.{IsStrictlySortedBy}
@@ -9,7 +9,7 @@ use Rattle.zone_model.specs.Names.{Name}
 use Rattle.zone_model.specs.Versions.{Version, Operation}
 use Rattle.job_model.specs.declared.Ending.{Ending}
 use Rattle.job_model.specs.Commands.{Command, Ask, Hold, AskHeld, Release, Block}
-use Rattle.job_model.specs.Outcomes.{Cause, Rule, Full, Spent, Ended, Shown, Committed, RolledBack, Refused, Outcome, Pair, is_committed, made, operations_of, times_made, Setting, setting_of, FullCause, Causes, BlockEnds, Sight, at_first, sight_after, Shows, EndsLawfully, Along, all_pairs, AllAlong, Lawful}
+use Rattle.job_model.specs.Outcomes.{Cause, Rule, Full, Spent, Ended, Shown, Committed, RolledBack, Refused, Outcome, Pair, is_committed, made, times_made, Setting, setting_of, FullCause, Causes, BlockEnds, Sight, at_first, sight_after, Shows, EndsLawfully, Along, all_pairs, AllAlong, Lawful}
 use Rattle.job_model.specs.Reports.{head_text, command_text, worker_text, workers_text}
 use Rattle.report_laws.proofs.EndLemmas.{SmallCause, SmallEnded}
 use Rattle.report_laws.proofs.RunLemmas.{OfKind, IsPlain, command_in, AllPlain}

@@ -1,13 +1,13 @@
 -- A report tells the outcomes that it is of.
-use Rattle.std.proofs.Common.{◌≡◌, ◌∙◌, ℕ, ◌<◌, ◌^◌, List, ◌++◌, map, length, Ok, sym, ap, subst, arith, length-append}
+use Rattle.std.proofs.Common.{◌≡◌, ◌∙◌, ℕ, ◌<◌, ◌^◌, List, length, Ok, sym, ap, subst, arith, length-append}
 use Rattle.zone_model.specs.Names.{Name}
 use Rattle.zone_model.specs.Versions.{Version}
-use Rattle.job_model.specs.Commands.{Command, Job}
+use Rattle.job_model.specs.Commands.{Job}
 use Rattle.job_model.specs.Jobs.{job_of}
 use Rattle.job_model.specs.Outcomes.{Pair, all_pairs, version_at}
 use Rattle.job_model.specs.Reports.{workers_text, end_text}
 use Rattle.report_laws.specs.Reports.{IsReportOf}
-use Rattle.report_laws.proofs.RunLemmas.{command_in, told_same}
+use Rattle.report_laws.proofs.RunLemmas.{told_same}
 use Rattle.report_laws.proofs.ShortLemmas.{AllShort, blocks_short}
 use Rattle.report_laws.proofs.LawfulLemmas.{last_small, lawful_plain}
 

@@ -1,5 +1,5 @@
 -- Outcomes are told by what is printed of them, worker by worker and command by command.
-use Rattle.std.proofs.Common.{◌≡◌, ◌∙◌, ℕ, ◌+◌, ◌<◌, ◌≤◌, ◌^◌, List, [], ◌∷◌, ◌++◌, map, length, get_or, drop, refl, sym, ap, ap₂, subst, arith, append_assoc, length-append, codes}
+use Rattle.std.proofs.Common.{◌≡◌, ◌∙◌, ℕ, ◌+◌, ◌<◌, ◌≤◌, ◌^◌, List, [], ◌∷◌, ◌++◌, map, length, drop, refl, sym, ap, ap₂, subst, arith, append_assoc, length-append, codes}
 use Rattle.std.proofs.lemmas.Fmt.{decimal_injective}
 use Rattle.std.proofs.lemmas.List.{append_cancel_left}
 use Rattle.std.specs.List.{AllByRecursion}
@@ -8,7 +8,7 @@ use Rattle.zone_model.specs.Names.{Name}
 use Rattle.zone_model.specs.Versions.{Version}
 use Rattle.job_model.specs.Commands.{Command, Ask, Hold, AskHeld, Release, Block}
 use Rattle.job_model.specs.Outcomes.{Ended, Shown, Outcome, Pair}
-use Rattle.job_model.specs.Reports.{head_text, ended_text, command_text, worker_text, workers_text, end_text}
+use Rattle.job_model.specs.Reports.{head_text, command_text, worker_text, workers_text, end_text}
 use Rattle.report_laws.proofs.CutLemmas.{cut}
 use Rattle.report_laws.proofs.TextLemmas.{decimal_free}
 use Rattle.report_laws.proofs.ReplyLemmas.{reply_cut}
