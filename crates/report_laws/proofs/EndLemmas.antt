@@ -68,8 +68,8 @@ in_four a b c d = simp append_assoc
 full_same : (m n : ℕ) (ks js : List ℕ) → SmallCause (Full m ks) → SmallCause (Full n js) → cause_text (Full m ks) ≡ cause_text (Full n js) → Full m ks ≡ Full n js
 full_same m n ks js small less e =
     let parts = cut 32 (decimal m) (decimal n) (codes " kept" ++ flat_map kept_text ks) (codes " kept" ++ flat_map kept_text js) (decimal_free 32 m (omega arith)) (decimal_free 32 n (omega arith)) refl refl
-        (append_cancel_left (codes "full at ") (decimal m ++ (codes " kept" ++ flat_map kept_text ks)) (decimal n ++ (codes " kept" ++ flat_map kept_text js))
-        (sym (in_four (codes "full at ") (decimal m) (codes " kept") (flat_map kept_text ks)) ∙ e ∙ in_four (codes "full at ") (decimal n) (codes " kept") (flat_map kept_text js))) in
+    (append_cancel_left (codes "full at ") (decimal m ++ (codes " kept" ++ flat_map kept_text ks)) (decimal n ++ (codes " kept" ++ flat_map kept_text js))
+    (sym (in_four (codes "full at ") (decimal m) (codes " kept") (flat_map kept_text ks)) ∙ e ∙ in_four (codes "full at ") (decimal n) (codes " kept") (flat_map kept_text js))) in
     ap₂ (λ (operation : ℕ) (kept : List ℕ). Full operation kept) (decimal_injective m n small.0 less.0 parts.0)
     (kept_same ks js small.1 less.1 (append_cancel_left (codes " kept") (flat_map kept_text ks) (flat_map kept_text js) parts.1))
 

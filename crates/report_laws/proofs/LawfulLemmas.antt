@@ -118,9 +118,10 @@ kept_small n base (v ∷ older) small sorted =
 full_small : (s : Setting) (operations : List Operation) (base operation : ℕ) (kept : List ℕ) → base < 2 ^ 64 → length operations < 2 ^ 64 → FullCause s operations base operation kept → SmallCause (Full operation kept)
 full_small s operations base operation kept small short full =
     let all = ap (λ (l : List Operation). length l) full.all in
-    let number = full.number in
-    (omega (arith, all, number, short, length-append full.front (full.refused ∷ full.back)),
-     subst (λ (l : List ℕ). AllByRecursion (λ v. v < 2 ^ 64) l) (sym full.base_last) (kept_small (2 ^ 64) base full.older small (subst (λ (l : List ℕ). IsStrictlySortedBy nat_cmp l) full.base_last full.rising)))
+    let number = full.number in (
+      omega (arith, all, number, short, length-append full.front (full.refused ∷ full.back)),
+      subst (λ (l : List ℕ). AllByRecursion (λ v. v < 2 ^ 64) l) (sym full.base_last) (kept_small (2 ^ 64) base full.older small (subst (λ (l : List ℕ). IsStrictlySortedBy nat_cmp l) full.base_last full.rising)),
+    )
 
 cause_small : (s : Setting) (operations : List Operation) (ending : Ending) (base : ℕ) (cause : Cause) → base < 2 ^ 64 → length operations < 2 ^ 64 → Causes s operations ending base cause → SmallCause cause
 cause_small s operations ending base (Rule refusal) small short causes = tt
@@ -157,9 +158,10 @@ plain s sight (Block _ operations ending) o small short ends =
 
 along_plain : (s : Setting) (sight : Sight) (last : ℕ) (pairs : List Pair) → last < 2 ^ 64 → AllByRecursion (λ pair. pair.1.version ≤ last) pairs → AllByRecursion IsShort (map command_in pairs) → Along s sight pairs → AllPlain pairs
 along_plain s sight last [] small below short along = tt
-along_plain s sight last (pair ∷ pairs) small below short along =
-    (plain s sight pair.0 pair.1 (let l = below.0 in omega (arith, l, small)) short.0 along.0,
-     along_plain s (sight_after sight pair.0 pair.1.version) last pairs small below.1 short.1 along.1)
+along_plain s sight last (pair ∷ pairs) small below short along = (
+  plain s sight pair.0 pair.1 (let l = below.0 in omega (arith, l, small)) short.0 along.0,
+  along_plain s (sight_after sight pair.0 pair.1.version) last pairs small below.1 short.1 along.1,
+)
 
 both_of : (P : Pair → Type 0) (xs ys : List Pair) → AllByRecursion P (xs ++ ys) → AllByRecursion P xs × AllByRecursion P ys
 both_of P [] ys all = (tt, all)

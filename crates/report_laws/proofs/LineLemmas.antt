@@ -20,7 +20,7 @@ line front f = record { front = front; free = f; is = refl }
 pub line_cut : (a b x y : List ℕ) → IsLine a → IsLine b → a ++ x ≡ b ++ y → (a ≡ b) × (x ≡ y)
 line_cut a b x y l m e =
     let parts = cut 10 l.front m.front (10 ∷ x) (10 ∷ y) l.free m.free refl refl
-        (sym (append_assoc l.front (10 ∷ []) x) ∙ ap (λ (z : List ℕ). z ++ x) (sym l.is) ∙ e ∙ ap (λ (z : List ℕ). z ++ y) m.is ∙ append_assoc m.front (10 ∷ []) y) in
+    (sym (append_assoc l.front (10 ∷ []) x) ∙ ap (λ (z : List ℕ). z ++ x) (sym l.is) ∙ e ∙ ap (λ (z : List ℕ). z ++ y) m.is ∙ append_assoc m.front (10 ∷ []) y) in
     (l.is ∙ ap (λ (z : List ℕ). z ++ 10 ∷ []) parts.0 ∙ sym m.is, ap (drop 1) parts.1)
 
 -- what is behind as many lines is told
@@ -90,7 +90,7 @@ counted_cut f each v w is_v is_w xs ys s t small e =
     let alike = ap (λ (l : List ℕ). length l) e in
     let few_too : length ys < 2 ^ 64 = omega (arith, small, alike, shorter (w ++ count_text (length ys)) (flat_map f ys) t, lines_some f each ys) in
     let first = cut 10 (v ++ count_text (length xs)) (w ++ count_text (length ys)) (10 ∷ (flat_map f xs ++ s)) (10 ∷ (flat_map f ys ++ t))
-        (free_append 10 v (count_text (length xs)) is_v.in_line (count_free (length xs))) (free_append 10 w (count_text (length ys)) is_w.in_line (count_free (length ys))) refl refl
-        (sym (spread (v ++ count_text (length xs)) (flat_map f xs) s) ∙ e ∙ spread (w ++ count_text (length ys)) (flat_map f ys) t) in
+    (free_append 10 v (count_text (length xs)) is_v.in_line (count_free (length xs))) (free_append 10 w (count_text (length ys)) is_w.in_line (count_free (length ys))) refl refl
+    (sym (spread (v ++ count_text (length xs)) (flat_map f xs) s) ∙ e ∙ spread (w ++ count_text (length ys)) (flat_map f ys) t) in
     let word = cut 32 v w (count_text (length xs)) (count_text (length ys)) is_v.in_one is_w.in_one (count_stands (length xs)) (count_stands (length ys)) first.0 in
     lines_cut f each xs ys s t (count_same (length xs) (length ys) few few_too word.1) (ap (drop 1) first.1)

@@ -80,7 +80,7 @@ found_cut : (f g : Found) (s t : List ℕ) → length (found_text f ++ s) < 2 ^ 
 found_cut f g s t small e =
     let parts = ap (λ (l : List ℕ). length l) (found_parts f s) in
     let last = names_cut (found_kind_text f.kind) (found_kind_text g.kind) (found_word f.kind) (found_word g.kind) f.chain g.chain (before_line f.predecessor ++ s) (before_line g.predecessor ++ t)
-        (omega (arith, small, parts)) (sym (found_parts f s) ∙ e ∙ found_parts g t) in
+    (omega (arith, small, parts)) (sym (found_parts f s) ∙ e ∙ found_parts g t) in
     (line_cut (before_line f.predecessor) (before_line g.predecessor) s t (before_is_line f.predecessor) (before_is_line g.predecessor) last).1
 
 -- what is behind two versions' replies to one question is told

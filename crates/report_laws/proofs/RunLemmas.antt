@@ -66,9 +66,9 @@ outcome_cut : (origin : Name) (before after : ℕ → Version) (w n : ℕ) (c : 
 unfolding outcome_of
 outcome_cut origin before after w n c o p is_o is_p x y s t few e =
     let first = head_cut w n o.version p.version (command_text origin before c o ++ (x ++ s)) (command_text origin after c p ++ (y ++ t)) is_o.version is_p.version
-        (sym (in_three (head_text w n o.version) (command_text origin before c o) x s) ∙ e ∙ in_three (head_text w n p.version) (command_text origin after c p) y t) in
+    (sym (in_three (head_text w n o.version) (command_text origin before c o) x s) ∙ e ∙ in_three (head_text w n p.version) (command_text origin after c p) y t) in
     let next = told_cut origin before after c o p (x ++ s) (y ++ t) is_o.kind is_p.kind is_o.small is_p.small
-        (omega (arith, few, inside (head_text w n o.version) (command_text origin before c o) x s)) first.1 in
+    (omega (arith, few, inside (head_text w n o.version) (command_text origin before c o) x s)) first.1 in
     (ap₂ outcome_of first.0 next.0, next.1)
 
 -- ---- a worker
@@ -98,9 +98,9 @@ worker_cut origin before after w n (x ∷ xs) (y ∷ ys) same plain also s t few
     let first : x.0 ≡ y.0 = cc in
     let others : map command_in xs ≡ map command_in ys = cc in
     let now = outcome_cut origin before after w n x.0 x.1 y.1 plain.0 (subst (λ (c : Command). IsPlain c y.1) (sym first) also.0) (worker_text origin before w (n + 1) xs) (worker_text origin after w (n + 1) ys) s t few
-        (e ∙ ap (λ (c : Command). (head_text w n y.1.version ++ command_text origin after c y.1 ++ worker_text origin after w (n + 1) ys) ++ t) (sym first)) in
+    (e ∙ ap (λ (c : Command). (head_text w n y.1.version ++ command_text origin after c y.1 ++ worker_text origin after w (n + 1) ys) ++ t) (sym first)) in
     let more = worker_cut origin before after w (n + 1) xs ys others plain.1 also.1 s t
-        (omega (arith, few, rest_few (head_text w n x.1.version) (command_text origin before x.0 x.1) (worker_text origin before w (n + 1) xs) s)) now.1 in
+    (omega (arith, few, rest_few (head_text w n x.1.version) (command_text origin before x.0 x.1) (worker_text origin before w (n + 1) xs) s)) now.1 in
     (ap₂ (λ (pair : Pair) (l : List Pair). pair ∷ l) (ap₂ pair_of first now.0) more.0, more.1)
 
 -- ---- all workers
@@ -117,9 +117,9 @@ workers_cut origin before after w (x ∷ xs) (y ∷ ys) same plain also s t few 
     let here = append_assoc (worker_text origin before w 1 x) (workers_text origin before (w + 1) xs) s in
     let long = ap (λ (l : List ℕ). length l) here in
     let now = worker_cut origin before after w 1 x y first plain.0 also.0 (workers_text origin before (w + 1) xs ++ s) (workers_text origin after (w + 1) ys ++ t) (omega (arith, few, long))
-        (sym here ∙ e ∙ append_assoc (worker_text origin after w 1 y) (workers_text origin after (w + 1) ys) t) in
+    (sym here ∙ e ∙ append_assoc (worker_text origin after w 1 y) (workers_text origin after (w + 1) ys) t) in
     let more = workers_cut origin before after (w + 1) xs ys others plain.1 also.1 s t
-        (omega (arith, few, long, behind_few (worker_text origin before w 1 x) (workers_text origin before (w + 1) xs ++ s))) now.1 in
+    (omega (arith, few, long, behind_few (worker_text origin before w 1 x) (workers_text origin before (w + 1) xs ++ s))) now.1 in
     (ap₂ (λ (pairs : List Pair) (l : List (List Pair)). pairs ∷ l) now.0 more.0, more.1)
 
 in_five : (a b c d e : List ℕ) → a ++ b ++ c ++ d ++ e ≡ a ++ (b ++ (c ++ (d ++ e)))

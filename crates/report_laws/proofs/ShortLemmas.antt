@@ -95,9 +95,9 @@ joined_kept : (n : ℕ) (b : Unfinished) (s : Script) (r : Result Operation (Ref
 joined_kept n b s r short =
     if_kept (nat_lt (length b.operations) operation_limit) (r >>= with_operation b s) (refuse n (TooMany operation_limit))
     (λ room. bind_kept r (with_operation b s) (λ operation. record {
-        lists = short.lists;
-        list = short.list;
-        few = (let less = ltb-true (length b.operations) operation_limit room in omega (arith, less, length-append b.operations (operation ∷ [])));
+      lists = short.lists;
+      list = short.list;
+      few = (let less = ltb-true (length b.operations) operation_limit room in omega (arith, less, length-append b.operations (operation ∷ [])));
     })) tt
 
 ended_kept : (n : ℕ) (b : Unfinished) (ending : Ending) (s : Script) → Short s.earlier s.commands (Some b) → Kept (ended n b ending s)
