@@ -16,6 +16,9 @@
 //! | `x N TEXT` | the line N times |
 //! | `due STATUS` | the exit status; the lines of the output follow, in which `?` stands for any number |
 //! | `or` | the lines of another output that may come |
+//! | `each read` | the case is run for each number K, up to the last, with the read K failing, and at last with none: status 5, and nothing written |
+//! | `each write` | the same of writes: status 6, and what is due is written up to the call that failed |
+//! | `cut N STATUS` | the case is run with its input cut after each byte up to N, and behind what a `cut` before says: the status, and the lines of the output follow |
 //!
 //! Workers run beside each other, so what each order of their steps gives is listed, or only what is the same in all of them.
 ghost use Rattle.std.specs.Prelude.{◌<◌};
@@ -48,6 +51,23 @@ impl Calls {
     }
 }
 
+/// Which of a case's calls fail in turn, each in a run of its own.
+#[derive(Clone, Copy)]
+pub enum InTurn {
+    None,
+    Reads,
+    Writes,
+}
+
+/// What is due of an input that is cut.
+#[derive(Drop)]
+pub struct Cut {
+    /// The most bytes that are left of it.
+    pub upto: usize,
+    pub status: u8,
+    pub output: String,
+}
+
 /// One run, and what is due.
 #[derive(Drop)]
 pub struct Case {
@@ -61,6 +81,9 @@ pub struct Case {
     pub status: u8,
     /// What is due to be written: one of these.
     pub outputs: Vec<String>,
+    pub in_turn: InTurn,
+    /// If there are any, the input is cut after each byte.
+    pub cuts: Vec<Cut>,
 }
 
 impl Case {
@@ -74,6 +97,8 @@ impl Case {
             input: String::new(alloc),
             status: 0,
             outputs: Vec::new(alloc),
+            in_turn: InTurn::None,
+            cuts: Vec::new(alloc),
         })
     }
 }

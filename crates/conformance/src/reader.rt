@@ -1,5 +1,5 @@
 //! Reads a file of cases.
-use crate::case::{Calls, Case, ZONE, command_line};
+use crate::case::{Calls, Case, Cut, InTurn, ZONE, command_line};
 use anyhow::{Context, bail};
 use std::alloc::Global;
 
@@ -31,6 +31,9 @@ fn read_line(alloc: Global, line: &str, case: &mut Case) -> anyhow::Result<()> {
             case.outputs.push(String::new(alloc))?;
         }
         "or" => case.outputs.push(String::new(alloc))?,
+        "each" if rest == "read" => case.in_turn = InTurn::Reads,
+        "each" if rest == "write" => case.in_turn = InTurn::Writes,
+        "cut" => case.cuts.push(read_cut(alloc, rest)?)?,
         _ => bail!("no line of a case begins with {kind}"),
     }
     Ok(())
@@ -38,10 +41,21 @@ fn read_line(alloc: Global, line: &str, case: &mut Case) -> anyhow::Result<()> {
 
 /// The text that lines go into: the last output that has begun, or before that the input.
 fn text_of(case: &mut Case) -> &mut String {
-    match case.outputs.last_mut() {
-        Some(output) => output,
-        None => &mut case.input,
+    match (case.cuts.last_mut(), case.outputs.last_mut()) {
+        (Some(cut), _) => &mut cut.output,
+        (None, Some(output)) => output,
+        (None, None) => &mut case.input,
     }
+}
+
+/// The most bytes that are left, and the status.
+fn read_cut(alloc: Global, text: &str) -> anyhow::Result<Cut> {
+    let (upto, status) = text.split_once(' ').context("no status of a cut")?;
+    Ok(Cut {
+        upto: upto.parse::<usize>()?,
+        status: status.parse::<u8>()?,
+        output: String::new(alloc),
+    })
 }
 
 /// Puts a line's text behind what there is.

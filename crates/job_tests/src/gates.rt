@@ -8,7 +8,7 @@ const TURNS: u32 = 10_000_000;
 
 /// Counts its calls, and those that don't stand where they should: each worker's commands come in order, each between its two calls.
 #[derive(Drop)]
-pub struct Counting {
+pub(crate) struct Counting {
     /// For each worker, twice the commands that are done, and one more during a command.
     pub steps: [AtomicU64; 4],
     pub calls: AtomicU64,
@@ -16,7 +16,7 @@ pub struct Counting {
 }
 
 impl Counting {
-    pub fn new() -> Counting {
+    pub(crate) fn new() -> Counting {
         Counting {
             steps: [
                 AtomicU64::new(0),
@@ -87,13 +87,13 @@ impl Sign {
 
 /// Two workers, of which neither begins before the other.
 #[derive(Drop)]
-pub struct Meeting {
+pub(crate) struct Meeting {
     first: Sign,
     second: Sign,
 }
 
 impl Meeting {
-    pub fn new() -> Meeting {
+    pub(crate) fn new() -> Meeting {
         Meeting {
             first: Sign::new(),
             second: Sign::new(),
@@ -101,7 +101,7 @@ impl Meeting {
     }
 
     /// Not 0 where one has waited for nothing.
-    pub fn missed(&self) -> u64 {
+    pub(crate) fn missed(&self) -> u64 {
         self.first.missed() | self.second.missed()
     }
 }
@@ -122,13 +122,13 @@ impl Gate for Meeting {
 
 /// The second worker waits until the first has done its first command, and then the first until the second is done.
 #[derive(Drop)]
-pub struct Overtaking {
+pub(crate) struct Overtaking {
     held: Sign,
     written: Sign,
 }
 
 impl Overtaking {
-    pub fn new() -> Overtaking {
+    pub(crate) fn new() -> Overtaking {
         Overtaking {
             held: Sign::new(),
             written: Sign::new(),
@@ -136,7 +136,7 @@ impl Overtaking {
     }
 
     /// Not 0 where one has waited for nothing.
-    pub fn missed(&self) -> u64 {
+    pub(crate) fn missed(&self) -> u64 {
         self.held.missed() | self.written.missed()
     }
 }

@@ -1,33 +1,43 @@
-//! Jobs that are run.
-ghost use Rattle.std.specs.Prelude.{◌≤◌, length};
-
+//! Jobs that are run by the program's own call, with a gate that orders or counts its calls.
 use crate::gates::{Counting, Meeting, Overtaking};
-use dns_name::Name;
-use job_script::{print_outcomes, read_job};
-use job_threads::{Gate, Ran, run_zone};
-use std::alloc::Global;
+use outer_io::{MemSink, MemSource};
+use qp_main::{Gate, run};
+use std::alloc::{AllocError, Global};
 use std::sync::Wait;
 use std::sync::atomic::Ordering;
 use std::test::Fail;
 use std::thread::Threads;
 
-/// The report of a script, run by way of a gate on a zone of example. that has no names yet.
+/// A zone with two names, and the line behind it.
+const ZONE: &[u8] =
+    b"$TTL 300\n@ SOA ns hostmaster 1 3600 600 86400 60\n@ NS ns\nns A 192.0.2.1\n%%\n";
+
+/// The words of the command line.
+fn command_line(alloc: Global) -> Result<Vec<String>, AllocError> {
+    let mut words = Vec::new(alloc);
+    for word in ["qpzone", "run", "--origin", "example."] {
+        words.push(String::from_str(alloc, word)?)?;
+    }
+    Ok(words)
+}
+
+/// The report of a script on the zone, run by way of a gate.
 fn report<R: Threads + Wait + Sync, G: Gate>(
     rt: &R,
     alloc: Global,
     script: &[u8],
     gate: &G,
-) -> Result<Vec<u8>, Fail>
-    requires { length script.now ≤ 1000 }
-{
-    let origin = Name::from_wire(b"\x07example\x00").ok_or("no origin")?;
-    let Ok(job) = read_job(alloc, script, 1, &origin) else {
-        return Err(Fail::from("no job"));
-    };
-    match run_zone(rt, alloc, 16, &origin, &[], &job, gate)? {
-        Ran::Finished(f) => Ok(print_outcomes(alloc, &f.outcomes, f.version, f.names)?),
-        Ran::DoesNotFit { .. } => Err(Fail::from("no room")),
+) -> Result<Vec<u8>, Fail> {
+    let mut input = Vec::from_slice(alloc, ZONE)?;
+    input.extend_from_slice(script)?;
+    let mut source = MemSource::new(input, 4096, Vec::new(alloc));
+    let mut sink = MemSink::new(alloc, 4096, 4096, Vec::new(alloc))?;
+    let words = command_line(alloc)?;
+    if run(rt, alloc, &words, &mut source, &mut sink, gate).code() != 0 {
+        return Err(Fail::from("not run"));
     }
+    let written = sink.held().ok_or("no room")?;
+    Ok(Vec::from_slice(alloc, written)?)
 }
 
 #[test]
@@ -41,13 +51,15 @@ fn each_command_stands_between_its_two_calls(rt: HostRuntime) -> Result<(), Fail
     Ok(())
 }
 
+// Workers one after another would wait in vain.
 #[test]
 fn two_workers_meet(rt: HostRuntime) -> Result<(), Fail> {
     let gate = Meeting::new();
     let script = b"worker\nget ns A\nworker\nget ns A\n";
     let text = report(&rt, rt.alloc(), script, &gate)?;
     assert_eq!(rt; gate.missed(), 0);
-    let due = b"1.1 v0 NXDOMAIN\n2.1 v0 NXDOMAIN\nend v0 names 0\n";
+    let due =
+        b"1.1 v0 ANSWER 1\nns.example. 300 IN A 192.0.2.1\n2.1 v0 ANSWER 1\nns.example. 300 IN A 192.0.2.1\nend v0 names 2\n";
     assert_eq!(rt; text.as_slice(), due.as_slice());
     Ok(())
 }
@@ -55,12 +67,11 @@ fn two_workers_meet(rt: HostRuntime) -> Result<(), Fail> {
 #[test]
 fn a_snapshot_keeps_no_writer_out(rt: HostRuntime) -> Result<(), Fail> {
     let gate = Overtaking::new();
-    let script =
-        b"worker\nhold\nat get ns A\nworker\nwrite\nadd ns 300 A 192.0.2.1\ncommit\nget ns A\n";
+    let script = b"worker\nhold\nat get ns A\nworker\nwrite\ndel ns\ncommit\nget ns A\n";
     let text = report(&rt, rt.alloc(), script, &gate)?;
     assert_eq!(rt; gate.missed(), 0);
     let due =
-        b"1.1 v0 HELD\n1.2 v0 NXDOMAIN\n2.1 v1 COMMITTED\n2.2 v1 ANSWER 1\nns.example. 300 IN A 192.0.2.1\nend v1 names 1\n";
+        b"1.1 v0 HELD\n1.2 v0 ANSWER 1\nns.example. 300 IN A 192.0.2.1\n2.1 v1 COMMITTED\n2.2 v1 NXDOMAIN\nend v1 names 1\n";
     assert_eq!(rt; text.as_slice(), due.as_slice());
     Ok(())
 }

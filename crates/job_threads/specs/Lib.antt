@@ -1,4 +1,5 @@
 pub mod Histories
+pub mod Beginnings
 pub mod Commands
 pub mod Steps
 pub mod Stations

@@ -9,8 +9,6 @@ mod image;
 mod kept;
 mod run;
 mod state;
-#[cfg(test)]
-mod tests;
 mod version;
 pub mod words;
 

@@ -94,92 +94,97 @@ fn strings_at_their_limits(rt: HostRuntime) -> Result<(), Fail> {
     Ok(())
 }
 
-// Both sides of each limit.
+// A line of a table: a number, a text, and what becomes of it behind `=`.
+fn row(line: &str) -> Result<(u16, &str, &str), Fail> {
+    let (left, want) = line.split_once(" = ").ok_or("no row")?;
+    let (number, text) = left.split_once(' ').ok_or("no text")?;
+    let number = number.parse::<u16>().ok().ok_or("no number")?;
+    Ok((number, text, want))
+}
+
+// Types by their numbers, data, and how it is printed: both sides of each limit.
+const PRINTED: &str = "1 001.2.3.255 = 1.2.3.255
+2 NS = ns.example.
+5 @ = example.
+12 Host. = host.
+6 ns h 4294967295 1h30m 2147483647 0 1 = ns.example. h.example. 4294967295 5400 2147483647 0 1
+15 65535 mx = 65535 mx.example.
+16 a b\\\"\\200 = \"a\" \"b\\\"\\200\"
+28 2001:DB8::1 = 2001:db8:0:0:0:0:0:1
+28 ::192.0.2.1 = 0:0:0:0:0:0:c000:201
+28 1:2:3:4:5:6:7:: = 1:2:3:4:5:6:7:0
+33 0 1 65535 a. = 0 1 65535 a.
+1 \\# 4 c0000201 = 192.0.2.1
+2 \\# 3 016100 = a.
+16 \\# 2 0141 = \"A\"
+6 \\# 22 0000 00000001 00000002 00000003 00000004 7fffffff = . . 1 2 3 4 2147483647
+65280 \\# 0 = \\# 0
+65280 \\# 2 0A 0F = \\# 2 0a0f
+65280 \\# 2 0 A0f = \\# 2 0a0f";
+
 #[test]
 fn data_is_read_and_printed(rt: HostRuntime) -> Result<(), Fail> {
     let origin = Name::read(b"example.", &Name::root()).ok().ok_or("origin")?;
-    let rows: [(u16, &[u8], &[u8]); 18] = [
-        (1, b"001.2.3.255", b"1.2.3.255"),
-        (2, b"NS", b"ns.example."),
-        (5, b"@", b"example."),
-        (12, b"Host.", b"host."),
-        (
-            6,
-            b"ns h 4294967295 1h30m 2147483647 0 1",
-            b"ns.example. h.example. 4294967295 5400 2147483647 0 1",
-        ),
-        (15, b"65535 mx", b"65535 mx.example."),
-        (16, b"a b\\\"\\200", b"\"a\" \"b\\\"\\200\""),
-        (28, b"2001:DB8::1", b"2001:db8:0:0:0:0:0:1"),
-        (28, b"::192.0.2.1", b"0:0:0:0:0:0:c000:201"),
-        (28, b"1:2:3:4:5:6:7::", b"1:2:3:4:5:6:7:0"),
-        (33, b"0 1 65535 a.", b"0 1 65535 a."),
-        (1, b"\\# 4 c0000201", b"192.0.2.1"),
-        (2, b"\\# 3 016100", b"a."),
-        (16, b"\\# 2 0141", b"\"A\""),
-        (
-            6,
-            b"\\# 22 0000 00000001 00000002 00000003 00000004 7fffffff",
-            b". . 1 2 3 4 2147483647",
-        ),
-        (65280, b"\\# 0", b"\\# 0"),
-        (65280, b"\\# 2 0A 0F", b"\\# 2 0a0f"),
-        (65280, b"\\# 2 0 A0f", b"\\# 2 0a0f"),
-    ];
-    for (rtype, text, want) in rows {
-        let out = printed(rt.alloc(), rtype, text, &origin)?
+    for line in PRINTED.lines() {
+        let (rtype, text, want) = row(line)?;
+        let out = printed(rt.alloc(), rtype, text.as_bytes(), &origin)?
             .ok()
             .ok_or("refused")?;
-        assert_eq!(rt; out.as_slice(), want);
+        assert_eq!(rt; out.as_slice(), want.as_bytes());
     }
     Ok(())
 }
 
+// Types by their numbers, data, and the place of its first bad token.
+const REFUSED: &str = "1 192.0.2.256 = 0
+1 192.0.2 = 0
+1 192.0.2.1 x = 1
+2 a..b = 0
+6 ns h 4294967296 1 1 1 1 = 2
+6 ns h 1 2147483648 1 1 1 = 3
+6 ns h 1 1 1 1 = 6
+15 65536 mx = 0
+16 a \\256 = 1
+28 1:2:3:4::5:6:7:8 = 0
+28 ::12345 = 0
+1 \\# 3 c00002 = 0
+1 \\# 65536 00 = 1
+1 \\# 4 c00002010 = 2
+1 \\# 4 c00002 = 3
+65280 x = 0";
+
 #[test]
 fn data_is_refused_at_its_first_bad_token(rt: HostRuntime) -> Result<(), Fail> {
     let origin = Name::read(b"example.", &Name::root()).ok().ok_or("origin")?;
-    let rows: [(u16, &[u8], usize); 16] = [
-        (1, b"192.0.2.256", 0),
-        (1, b"192.0.2", 0),
-        (1, b"192.0.2.1 x", 1),
-        (2, b"a..b", 0),
-        (6, b"ns h 4294967296 1 1 1 1", 2),
-        (6, b"ns h 1 2147483648 1 1 1", 3),
-        (6, b"ns h 1 1 1 1", 6),
-        (15, b"65536 mx", 0),
-        (16, b"a \\256", 1),
-        (28, b"1:2:3:4::5:6:7:8", 0),
-        (28, b"::12345", 0),
-        (1, b"\\# 3 c00002", 0),
-        (1, b"\\# 65536 00", 1),
-        (1, b"\\# 4 c00002010", 2),
-        (1, b"\\# 4 c00002", 3),
-        (65280, b"x", 0),
-    ];
-    for (rtype, text, want) in rows {
-        match printed(rt.alloc(), rtype, text, &origin)?.err() {
-            Some(RdataRefusal::BadRdata { at }) => assert_eq!(rt; at, want),
+    for line in REFUSED.lines() {
+        let (rtype, text, want) = row(line)?;
+        match printed(rt.alloc(), rtype, text.as_bytes(), &origin)?.err() {
+            Some(RdataRefusal::BadRdata { at }) => {
+                assert_eq!(rt; Some(at), want.parse::<usize>().ok());
+            }
             _ => return Err("not refused".into()),
         }
     }
     Ok(())
 }
 
+// Names of types, and their numbers; 0 where there is no such type.
+const TYPES: &str = "28 aaaa
+1 type1
+0 TYPE0
+0 TYPE41
+127 TYPE127
+0 TYPE128
+0 TYPE255
+256 TYPE256
+0 HINFO";
+
 #[test]
 fn types_are_read_and_printed(rt: HostRuntime) -> Result<(), Fail> {
-    let rows: [(&[u8], Option<u16>); 9] = [
-        (b"aaaa", Some(28)),
-        (b"type1", Some(1)),
-        (b"TYPE0", None),
-        (b"TYPE41", None),
-        (b"TYPE127", Some(127)),
-        (b"TYPE128", None),
-        (b"TYPE255", None),
-        (b"TYPE256", Some(256)),
-        (b"HINFO", None),
-    ];
-    for (text, want) in rows {
-        assert_eq!(rt; read_type(text), want);
+    for line in TYPES.lines() {
+        let (want, text) = line.split_once(' ').ok_or("no row")?;
+        let number = read_type(text.as_bytes()).unwrap_or(0);
+        assert_eq!(rt; Some(number), want.parse::<u16>().ok());
     }
     let mut out = Vec::new(rt.alloc());
     push_type(28, &mut out)?;

@@ -22,41 +22,62 @@ fn labels_of_ff(alloc: Global, counts: &[u8]) -> Result<Vec<u8>, AllocError> {
     Ok(text)
 }
 
+// Texts of names under example., and how the names are printed.
+const PRINTED: &str = "@ = example.
+. = .
+NS = ns.example.
+a.B. = a.b.
+\\001.\\065 = \\001.a.example.
+\\a\\.b\\046 = a\\.b\\..example.
+a.@ = a.\\@.example.";
+
 #[test]
 fn texts_are_read_and_printed(rt: HostRuntime) -> Result<(), Fail> {
     let origin = Name::read(b"Example.", &Name::root()).ok().ok_or("origin")?;
-    let texts: [(&[u8], &[u8]); 8] = [
-        (b"@", b"example."),
-        (b".", b"."),
-        (b"NS", b"ns.example."),
-        (b"a.B.", b"a.b."),
-        (b"\\001.\\065", b"\\001.a.example."),
-        (b"\\a\\.b\\046", b"a\\.b\\..example."),
-        (b"\\@.\\200\x80", b"\\@.\\200\\128.example."),
-        (b"a.@", b"a.\\@.example."),
-    ];
-    for (text, want) in texts {
-        let name = Name::read(text, &origin).ok().ok_or("refused")?;
-        assert_eq!(rt; printed(rt.alloc(), &name)?.as_slice(), want);
+    for line in PRINTED.lines() {
+        let (text, want) = line.split_once(" = ").ok_or("no row")?;
+        let name = Name::read(text.as_bytes(), &origin).ok().ok_or("refused")?;
+        assert_eq!(rt; printed(rt.alloc(), &name)?.as_slice(), want.as_bytes());
     }
+    let name = Name::read(b"\\@.\\200\x80", &origin).ok().ok_or("refused")?;
+    assert_eq!(rt;
+        printed(rt.alloc(), &name)?.as_slice(),
+        b"\\@.\\200\\128.example.".as_slice()
+    );
     Ok(())
 }
+
+// What is refused, with its number.
+fn refusal(kind: &str, number: usize) -> Option<NameRefusal> {
+    match kind {
+        "empty" => Some(NameRefusal::EmptyLabel(number)),
+        "long" => Some(NameRefusal::LongLabel(number)),
+        "escape" => Some(NameRefusal::BadEscape(number)),
+        _ => None,
+    }
+}
+
+// What is refused, with its number, and the text.
+const REFUSED: &str = "empty 2 a..b
+long 63 aaaaaaaaaaaaaaaaaaaaaaaaaaaaaaaaaaaaaaaaaaaaaaaaaaaaaaaaaaaaaaaa
+escape 1 a\\256
+escape 1 a\\2
+escape 1 a\\
+escape 1 a\\1.2..";
 
 #[test]
 fn the_first_fault_of_a_text_is_refused(rt: HostRuntime) -> Result<(), Fail> {
     let root = Name::root();
-    let texts: [(&[u8], NameRefusal); 7] = [
-        (b"a..b", NameRefusal::EmptyLabel(2)),
-        (b"", NameRefusal::EmptyLabel(0)),
-        (&[b'a'; 64], NameRefusal::LongLabel(63)),
-        (b"a\\256", NameRefusal::BadEscape(1)),
-        (b"a\\2", NameRefusal::BadEscape(1)),
-        (b"a\\", NameRefusal::BadEscape(1)),
-        (b"a\\1.2..", NameRefusal::BadEscape(1)),
-    ];
-    for (text, want) in texts {
-        assert_eq!(rt; Name::read(text, &root).err(), Some(want));
+    for line in REFUSED.lines() {
+        let (kind, rest) = line.split_once(' ').ok_or("no row")?;
+        let (number, text) = rest.split_once(' ').ok_or("no text")?;
+        let number = number.parse::<usize>().ok().ok_or("no number")?;
+        let want = refusal(kind, number);
+        assert!(rt; want.is_some());
+        assert_eq!(rt; Name::read(text.as_bytes(), &root).err(), want);
     }
+    let nothing = Name::read(b"", &root).err();
+    assert_eq!(rt; nothing, Some(NameRefusal::EmptyLabel(0)));
     let long = labels_of_ff(rt.alloc(), &[63, 63, 63, 61])?;
     let name = Name::read(long.as_slice(), &root).ok().ok_or("refused")?;
     assert_eq!(rt; name.wire().len(), 255);
@@ -69,22 +90,23 @@ fn the_first_fault_of_a_text_is_refused(rt: HostRuntime) -> Result<(), Fail> {
 }
 
 // The example of RFC 4034, section 6.1.
+const RISING: &str = "example.
+a.example.
+yljkjljk.a.example.
+Z.a.example.
+zABC.a.EXAMPLE.
+z.example.
+\\001.z.example.
+*.z.example.
+\\200.z.example.";
+
 #[test]
 fn names_stand_in_canonical_order(rt: HostRuntime) -> Result<(), Fail> {
-    let texts: [&[u8]; 9] = [
-        b"example.",
-        b"a.example.",
-        b"yljkjljk.a.example.",
-        b"Z.a.example.",
-        b"zABC.a.EXAMPLE.",
-        b"z.example.",
-        b"\\001.z.example.",
-        b"*.z.example.",
-        b"\\200.z.example.",
-    ];
     let mut before = Name::root();
-    for text in texts {
-        let name = Name::read(text, &Name::root()).ok().ok_or("refused")?;
+    for line in RISING.lines() {
+        let name = Name::read(line.as_bytes(), &Name::root())
+            .ok()
+            .ok_or("refused")?;
         assert!(rt; before < name);
         assert!(rt; name == name);
         before = name;

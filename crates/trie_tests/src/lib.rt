@@ -12,6 +12,8 @@ mod made;
 #[cfg(test)]
 mod many_names;
 #[cfg(test)]
+mod packing;
+#[cfg(test)]
 mod reading;
 #[cfg(test)]
 mod room;

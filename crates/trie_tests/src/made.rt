@@ -6,7 +6,7 @@ use std::test::Fail;
 use trie_write::Item;
 
 /// So many octets.
-pub fn octets(alloc: Global, count: usize) -> Result<Vec<u8>, AllocError> {
+pub(crate) fn octets(alloc: Global, count: usize) -> Result<Vec<u8>, AllocError> {
     let mut octets = Vec::new(alloc);
     for _ in 0..count {
         octets.push(7)?;
@@ -15,7 +15,7 @@ pub fn octets(alloc: Global, count: usize) -> Result<Vec<u8>, AllocError> {
 }
 
 /// An item of the name that a text says.
-pub fn item(alloc: Global, text: &str, payload: &[u8]) -> Result<Item, Fail> {
+pub(crate) fn item(alloc: Global, text: &str, payload: &[u8]) -> Result<Item, Fail> {
     let name = Name::read(text.as_bytes(), &Name::root())
         .ok()
         .ok_or("no name")?;
@@ -23,7 +23,7 @@ pub fn item(alloc: Global, text: &str, payload: &[u8]) -> Result<Item, Fail> {
 }
 
 /// Items of names with spaces between them.
-pub fn items(alloc: Global, names: &str, payload: &[u8]) -> Result<Vec<Item>, Fail> {
+pub(crate) fn items(alloc: Global, names: &str, payload: &[u8]) -> Result<Vec<Item>, Fail> {
     let mut items = Vec::new(alloc);
     for text in names.split_whitespace() {
         items.push(item(alloc, text, payload)?)?;
@@ -32,7 +32,7 @@ pub fn items(alloc: Global, names: &str, payload: &[u8]) -> Result<Vec<Item>, Fa
 }
 
 /// Numbers with spaces between them.
-pub fn numbers(alloc: Global, text: &str) -> Result<Vec<u64>, Fail> {
+pub(crate) fn numbers(alloc: Global, text: &str) -> Result<Vec<u64>, Fail> {
     let mut numbers = Vec::new(alloc);
     for word in text.split_whitespace() {
         numbers.push(word.parse::<u64>().ok().ok_or("no number")?)?;

@@ -206,7 +206,7 @@ fn comes_before(key: &Key, other: &Key) -> bool
 }
 
 /// Whether items rise by their keys.
-pub fn rise(items: &[Item]) -> bool
+pub(crate) fn rise(items: &[Item]) -> bool
     ensures { IsTrue result → Rises (entries_of_items items.now) }
 {
     if items.len() < 2 {

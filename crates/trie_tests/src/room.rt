@@ -8,7 +8,7 @@ use chunk_usage::{Space, Usage};
 use std::alloc::{AllocError, Global};
 
 /// So many chunks, none of which is given, for two passes.
-pub fn unused_room(alloc: Global, chunks: u32) -> Result<(PlainCells, Usage), AllocError>
+pub(crate) fn unused_room(alloc: Global, chunks: u32) -> Result<(PlainCells, Usage), AllocError>
     requires some_chunks { 1 ≤ chunks }
     requires few_chunks { chunks ≤ 4096 }
     ensures rows { IfOk result (λ r. r.1.rows ≡ []) }

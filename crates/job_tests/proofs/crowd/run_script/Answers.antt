@@ -2,7 +2,7 @@ use Rattle.std.proofs.Common.{[], refl}
 use Rattle.std.specs.List.Sorted.{IsStrictlySortedBy}
 use Rattle.trie_write.specs.Entries.{entries_of_items}
 use Rattle.job_threads.specs.Histories.{IsZone}
-use Rattle.job_tests.proofs.workers.report.Goals as goal
+use Rattle.job_tests.proofs.crowd.run_script.Goals as goal
 
 -- a version that has no names
 no_names : IsZone (entries_of_items [])

@@ -1,5 +1,5 @@
-//! Two worked runs, by `drive` and event by event.
-use crate::{
+//! The machine of pins: two worked runs, by `drive` and event by event.
+use pin_core::{
     CellAt, Event, Half, Image, LAST_VERSION, References, Spent, State, Step, drive, next_version,
 };
 use std::alloc::{AllocError, Global};

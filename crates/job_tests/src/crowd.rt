@@ -1,0 +1,150 @@
+//! Sixteen workers beside each other on a table that is too small for all that they write.
+use dns_name::Name;
+use job_script::{Cause, Outcomes, Told, read_job};
+use job_threads::{Finished, Gate, Ran, run_zone};
+use std::alloc::{AllocError, Global};
+use std::sync::Wait;
+use std::test::Fail;
+use std::thread::Threads;
+
+/// How many workers there are.
+const WORKERS: u32 = 16;
+
+/// How many blocks each has; a question follows each.
+const BLOCKS: u32 = 250;
+
+/// A gate that does nothing.
+struct Open;
+
+impl Gate for Open {
+    fn before(&self, _worker: u32, _command: u32) {}
+
+    fn after(&self, _worker: u32, _command: u32) {}
+}
+
+/// Puts a number of three digits behind a text.
+fn push_number(text: &mut Vec<u8>, number: u32) -> Result<(), AllocError> {
+    for unit in [100, 10, 1] {
+        text.push(b"0123456789"[(number / unit % 10) as usize])?;
+    }
+    Ok(())
+}
+
+/// Puts the name of a worker's block behind a text.
+fn push_owner(text: &mut Vec<u8>, worker: u32, block: u32) -> Result<(), AllocError> {
+    text.push(b'w')?;
+    push_number(text, worker)?;
+    text.push(b'b')?;
+    push_number(text, block)
+}
+
+/// Puts a block behind a script, which adds a record of 300 octets, and a question for it.
+fn push_block(script: &mut Vec<u8>, worker: u32, block: u32) -> Result<(), AllocError> {
+    script.extend_from_slice(b"update\nadd ")?;
+    push_owner(script, worker, block)?;
+    script.extend_from_slice(b" 60 TYPE65280 \\# 300 ")?;
+    script.extend_from_slice(&[b'5'; 600])?;
+    script.extend_from_slice(b"\ncommit\nget ")?;
+    push_owner(script, worker, block)?;
+    script.extend_from_slice(b" A\n")
+}
+
+/// Puts a worker behind a script.
+fn push_worker(script: &mut Vec<u8>, worker: u32) -> Result<(), AllocError> {
+    script.extend_from_slice(b"worker\n")?;
+    for block in 0..BLOCKS {
+        push_block(script, worker, block)?;
+    }
+    Ok(())
+}
+
+fn crowded_script(alloc: Global) -> Result<Vec<u8>, AllocError> {
+    let mut script = Vec::new(alloc);
+    for worker in 0..WORKERS {
+        push_worker(&mut script, worker)?;
+    }
+    Ok(script)
+}
+
+/// What becomes of a script on a zone that has no names yet, over 64 chunks.
+fn run_script<R: Threads + Wait + Sync>(
+    rt: &R,
+    alloc: Global,
+    script: &[u8],
+) -> Result<Finished, Fail> {
+    if script.len() > 16_000_000 {
+        return Err(Fail::from("a long script"));
+    }
+    let origin = Name::from_wire(b"\x07example\x00").ok_or("no origin")?;
+    let Ok(job) = read_job(alloc, script, 1, &origin) else {
+        return Err(Fail::from("no job"));
+    };
+    match run_zone(rt, alloc, 64, &origin, Vec::new(alloc), &job, &Open)? {
+        Ran::Finished(finished) => Ok(finished),
+        Ran::DoesNotFit { .. } => Err(Fail::from("no room")),
+    }
+}
+
+/// What is counted of outcomes.
+#[derive(Drop)]
+struct Tally {
+    /// By its number, how often a version was made.
+    made: Vec<u32>,
+    committed: u64,
+    full: u64,
+    /// How often a worker was shown an older version than before.
+    fell: u64,
+}
+
+impl Tally {
+    /// Counts a block that made a version.
+    fn commit(&mut self, version: u64) {
+        self.committed = self.committed.saturating_add(1);
+        if let Some(times) = self.made.get_mut(version as usize) {
+            *times = times.saturating_add(1);
+        }
+    }
+
+    /// Counts a worker's outcomes.
+    fn count(&mut self, outcomes: &Outcomes) {
+        let mut seen = 0;
+        for outcome in outcomes.list.iter() {
+            if outcome.version < seen {
+                self.fell = self.fell.saturating_add(1);
+            }
+            seen = outcome.version;
+            match &outcome.told {
+                Told::Committed => self.commit(outcome.version),
+                Told::Refused(Cause::Full { .. }) => self.full = self.full.saturating_add(1),
+                _ => {}
+            }
+        }
+    }
+}
+
+// However they meet: each version was made once, no worker was shown an older one than before, and each block has made one or
+// found no room.
+#[test]
+fn a_crowd_fills_a_small_table(rt: HostRuntime) -> Result<(), Fail> {
+    let script = crowded_script(rt.alloc())?;
+    let finished = run_script(&rt, rt.alloc(), &script)?;
+    let mut tally = Tally {
+        made: Vec::from_elem(rt.alloc(), 0, 4001)?,
+        committed: 0,
+        full: 0,
+        fell: 0,
+    };
+    for outcomes in finished.outcomes.iter() {
+        assert_eq!(rt; outcomes.list.len(), 500);
+        tally.count(outcomes);
+    }
+    assert_eq!(rt; finished.outcomes.len(), 16);
+    assert_eq!(rt; tally.committed, finished.version);
+    assert_eq!(rt; finished.names, finished.version);
+    assert_eq!(rt; tally.committed.saturating_add(tally.full), 4000);
+    assert!(rt; tally.full > 0);
+    assert_eq!(rt; tally.fell, 0);
+    let once = tally.made.iter().filter(|times| **times == 1).count();
+    assert_eq!(rt; once as u64, finished.version);
+    Ok(())
+}
