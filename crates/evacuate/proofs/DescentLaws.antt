@@ -1,5 +1,6 @@
 -- The way down to what is to be moved.
-use Rattle.std.proofs.Common.{◌≡◌, ℕ, ◌+◌, ◌<◌, ◌≤◌, ◌++◌, Bool, List, [], ◌∷◌, ◌/◌, slice_index, count_ones, arith, refl, sym, ◌∙◌, ap, subst}
+use Rattle.std.proofs.Common.{◌≡◌, ℕ, ◌+◌, ◌<◌, ◌≤◌, ◌++◌, Bool, List, [], ◌∷◌, ◌/◌, slice_index, count_ones, Result, Ok, Err, arith, refl, sym, ◌∙◌, ap, subst}
+use Rattle.std.specs.Prelude.{IfErr}
 use Rattle.packed_node.specs.declared.Cell.{Cell}
 use Rattle.packed_node.specs.declared.Branch.{Branch}
 use Rattle.packed_node.specs.declared.Node.{Node}
@@ -34,6 +35,11 @@ module _ {S : Type 0} {has : S → ℕ → Cell → Type 0} {s : S} {l : Ledger}
 
   pub hung_read : {c : Cell} {n : Node} → c ≡ top_cell t → ((m : Node) → IsNode m → packed m ≡ c → n ≡ m) → n ≡ node_of t
   hung_read {c} {n} is back = node_read 0 t c n (hung_tree h) is back
+
+-- what holds anyway holds of a refusal
+pub by_err : {T E A : Type 0} (r : Result T E) → A → IfErr r (λ _. A)
+by_err (Ok x) a = tt
+by_err (Err e) a = a
 
 -- where nothing has changed
 pub stood_same : {S : Type 0} {has : S → ℕ → Cell → Type 0} {s s1 : S} {l l1 : Ledger} {r : ℕ} {es : List Entry} {t : Tree} → s1 ≡ s → l1 ≡ l → Stood has s l r es t → Stood has s1 l1 r es t

@@ -10,7 +10,7 @@ use Rattle.evacuate.specs.Places.{first_of, width_of}
 use Rattle.evacuate.specs.Trails.{Underway}
 use Rattle.evacuate.proofs.FillingLaws.{moves_none, moves_then, sparse_old}
 use Rattle.evacuate.proofs.TreeLaws.{hung_tree, row_of}
-use Rattle.evacuate.proofs.DescentLaws.{begins, stood_same, hung_there, hung_says, hung_read, underway_first, underway_hung, branch_node_is, early, index_inside, further_there, further_says, underway_further, underway_left, fewer_places, end_node}
+use Rattle.evacuate.proofs.DescentLaws.{begins, by_err, stood_same, hung_there, hung_says, hung_read, underway_first, underway_hung, branch_node_is, early, index_inside, further_there, further_says, underway_further, underway_left, fewer_places, end_node}
 use Rattle.evacuate.proofs.descent.move_found.Goals as goal
 
 pub of-node-requires : goal.of-node-requires
@@ -50,9 +50,9 @@ pub returns-in_err-at-clause-moves : goal.returns-in_err-at-clause-moves
 returns-in_err-at-clause-moves g c given fills = subst (Moves given 0 c.args.usage.now) (sym c.in_err-at.ensures.unchanged) (c.loop-branch.invariant.moves given fills)
 
 pub returns-in_err-at-clause-left : goal.returns-in_err-at-clause-left
-returns-in_err-at-clause-left g c given fills =
+returns-in_err-at-clause-left g c = by_err c.from_residual.result (λ given fills.
     let u = c.loop-branch.invariant.way _ _ c.requires.found.stood c.requires.found.found in
-    subst HasSparse (sym c.in_err-at.ensures.unchanged) (underway_left u (c.loop-branch.invariant.moves given fills))
+    subst HasSparse (sym c.in_err-at.ensures.unchanged) (underway_left u (c.loop-branch.invariant.moves given fills)))
 
 pub cell-requires-in-Some : goal.cell-requires-in-Some
 cell-requires-in-Some g c =
@@ -99,9 +99,9 @@ pub returns-in_err-move_node-clause-moves : goal.returns-in_err-move_node-clause
 returns-in_err-move_node-clause-moves g c given fills = subst (Moves given 0 c.args.usage.now) (sym c.in_err-move_node.ensures.unchanged) (c.loop-branch.invariant.moves given fills)
 
 pub returns-in_err-move_node-clause-left : goal.returns-in_err-move_node-clause-left
-returns-in_err-move_node-clause-left g c given fills =
+returns-in_err-move_node-clause-left g c = by_err c.from_residual-in_err-move_node.result (λ given fills.
     let u = c.loop-branch.invariant.way _ _ c.requires.found.stood c.requires.found.found in
-    subst HasSparse (sym c.in_err-move_node.ensures.unchanged) (underway_left u (c.loop-branch.invariant.moves given fills))
+    subst HasSparse (sym c.in_err-move_node.ensures.unchanged) (underway_left u (c.loop-branch.invariant.moves given fills)))
 
 pub returns-clause-stood : goal.returns-clause-stood
 returns-clause-stood g c es t stood found =

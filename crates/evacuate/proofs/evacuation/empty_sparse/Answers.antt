@@ -69,8 +69,24 @@ returns-in-Err-move_found-clause-frame g c = fenced_then c.passes.invariant.fram
 pub returns-in-Err-move_found-clause-left : goal.returns-in-Err-move_found-clause-left
 returns-in-Err-move_found-clause-left g c e = c.in-Err-move_found.ensures.left c.args.usage.now.given c.passes.invariant.moves.fills
 
-pub passes-preserved-in-Ok-move_found : goal.passes-preserved-in-Ok-move_found
-passes-preserved-in-Ok-move_found g c =
+pub returns-in-Ok-move_found-clause-stood : goal.returns-in-Ok-move_found-clause-stood
+returns-in-Ok-move_found-clause-stood g c es t h =
+    let n = c.passes.invariant.stood es t h in
+    c.move_found.ensures.stood es n.0 (stood_same (c.next_sparse.ensures.same ∙ c.cell-node.ensures.same) refl n.1) (c.next_sparse.ensures.found c.if-next_sparse.true n.0 (node_top n.1 c.cell-node.ensures.same c.cell-node.ensures.value))
+
+pub returns-in-Ok-move_found-clause-count : goal.returns-in-Ok-move_found-clause-count
+returns-in-Ok-move_found-clause-count g c = (c.move_found.ensures.moves c.args.usage.now.given c.passes.invariant.moves.fills).fills.count
+
+pub returns-in-Ok-move_found-clause-paid : goal.returns-in-Ok-move_found-clause-paid
+returns-in-Ok-move_found-clause-paid g c =
+    let m = moves_then c.passes.invariant.moves (c.move_found.ensures.moves c.args.usage.now.given c.passes.invariant.moves.fills) in
+    let p = m.paid in let s = closed_spent c.args.usage.now in omega arith
+
+pub returns-in-Ok-move_found-clause-frame : goal.returns-in-Ok-move_found-clause-frame
+returns-in-Ok-move_found-clause-frame g c = fenced_then c.passes.invariant.frame (fenced_same (c.next_sparse.ensures.same ∙ c.cell-node.ensures.same) c.move_found.ensures.frame)
+
+pub passes-preserved-in-Ok-2 : goal.passes-preserved-in-Ok-2
+passes-preserved-in-Ok-2 g c =
     let i = c.passes.invariant in
     record {
       stood = λ es t h.
