@@ -1,20 +1,17 @@
-use Rattle.std.proofs.Common.{◌≡◌, ◌≤◌, List, refl, sym, ap, subst}
-use Rattle.trie_model.specs.Keys.{Rises}
-use Rattle.trie_write.specs.declared.item.Item.{Item}
+use Rattle.std.proofs.Common.{◌≡◌, ◌≤◌, refl, sym, ap, subst}
 use Rattle.shared_index.specs.Openings.{room_in}
 use Rattle.trie_model.specs.Shape.{cells}
 use Rattle.trie_write.specs.Entries.{entries_of_items}
-use Rattle.job_threads.specs.Histories.{Setup, StandsAs}
+use Rattle.job_threads.specs.Histories.{Setup}
 use Rattle.job_threads.proofs.OpenLaws.{zone_rises, new_passes}
 use Rattle.job_threads.proofs.zone.run_named.Goals as goal
 
 pub open-requires-clause-rising : goal.open-requires-clause-rising
-open-requires-clause-rising g c = subst (λ (l : List Item). Rises (entries_of_items l)) (sym c.deref.ensures.value) (zone_rises (entries_of_items c.args.items.items) c.requires.zone)
+open-requires-clause-rising g c = zone_rises (entries_of_items c.args.items.now) c.requires.zone
 
-pub returns-in_ok-finished : goal.returns-in_ok-finished
-returns-in_ok-finished g c = λ zone stands_as.
-    let es = entries_of_items c.deref.result.now in
-    let stands = subst (λ (l : List Item). StandsAs (entries_of_items l) zone) (sym c.deref.ensures.value) stands_as in
+pub returns-in_ok-finished-in-Ok : goal.returns-in_ok-finished-in-Ok
+returns-in_ok-finished-in-Ok g c = λ zone stands.
+    let es = entries_of_items c.args.items.now in
     let size = c.args.blank.shared.table.shared.key in
     let s : Setup = record { chunks = size.chunks; passes = size.passes; origin = c.args.origin.now; opening = es } in
     let same = c.in-Ok.ensures.size in (
