@@ -1,9 +1,10 @@
 //! A pass with its index, as tests use it.
-ghost use Rattle.std.specs.Prelude.{◌≡◌, ◌≤◌, IsSome, All};
+ghost use Rattle.std.specs.Prelude.{◌≡◌, ◌≤◌, IsSome, IsSomeAnd, All};
 ghost use Rattle.trie_read.specs.Readings.{IsHeld};
+ghost use Rattle.shared_index.specs.Drafts.{Works};
 
 use crate::steps::{Any, item};
-use shared_index::{ChangeRefusal, Full, Index, Locked, Named, Pass, Receipt};
+use shared_index::{ChangeRefusal, Full, Index, Locked, Named, Note, Pass, Receipt, Transaction};
 use shift_key::Key;
 use std::alloc::Global;
 use std::sync::Wait;
@@ -86,6 +87,38 @@ fn replace_and_drop<N: Named, R: Wait>(
     update.replace(&item.key(), item.octets()).is_ok()
 }
 
+/// The base's number, and the number at a key of the working set.
+fn peek<N: Named, K>(
+    transaction: &mut Transaction<'_, '_, Any, N, K>,
+    key: &Key,
+) -> (u64, Option<u64>)
+    requires { IsSomeAnd transaction.old.locked.now.draft Works }
+    ensures { transaction.new ≡ transaction.old }
+{
+    let mut reading = transaction.working();
+    (reading.version(), tag(&mut reading, key))
+}
+
+/// Exchanges an item by a heavy transaction, looks at it there, and rolls it back.
+fn replace_and_roll_back<N: Named, R: Wait>(
+    rt: &R,
+    index: &Index<Any, N>,
+    pass: &mut Pass<N>,
+    item: &Item,
+) -> (u64, Option<u64>)
+    requires here { IsSome pass.old.seat }
+    requires place { pass.old.place ≡ index.now.place }
+    ensures here { IsSome pass.new.seat }
+    ensures place { pass.new.place ≡ index.now.place }
+{
+    let mut locked = Locked::of(index);
+    let mut update = index.update(rt, &mut locked, pass);
+    let _done = update.replace(&item.key(), item.octets());
+    let seen = peek(&mut update, &item.key());
+    update.rollback();
+    seen
+}
+
 /// Puts a name in, or takes it out, by a light transaction. Whether a version was made.
 fn turn_over<N: Named, R: Wait>(
     rt: &R,
@@ -157,6 +190,11 @@ impl<'i, N: Named> Worker<'i, N> {
         replace_and_drop(rt, self.index, &mut self.pass, item)
     }
 
+    /// Exchanges an item by a heavy transaction, looks at it there, and rolls it back.
+    pub fn replace_and_roll_back<R: Wait>(&mut self, rt: &R, item: &Item) -> (u64, Option<u64>) {
+        replace_and_roll_back(rt, self.index, &mut self.pass, item)
+    }
+
     /// Puts a name in, or takes it out, by a light transaction. Whether a version was made.
     pub fn turn_over<R: Wait>(&mut self, rt: &R, item: &Item, out: bool) -> bool {
         turn_over(rt, self.index, &mut self.pass, item, out)
@@ -165,6 +203,11 @@ impl<'i, N: Named> Worker<'i, N> {
     /// The version that a query shows, and the number at a key.
     pub fn look(&mut self, key: &Key) -> (u64, Option<u64>) {
         look(self.index, &mut self.pass, key)
+    }
+
+    /// Learns what a note tells, if it is of the same index.
+    pub fn learn(&mut self, note: Note<N>) -> bool {
+        learn(self.index, &mut self.pass, note)
     }
 
     /// Learns what another has seen.
@@ -197,6 +240,16 @@ fn learn_of<N: Named>(
     ensures places { (pass.new.place ≡ index.now.place) × (other.new.place ≡ of.now.place) }
 {
     let note = other.note(of);
+    learn(index, pass, note)
+}
+
+/// The pass learns what a note tells, if it is of the same index.
+fn learn<N: Named>(index: &Index<Any, N>, pass: &mut Pass<N>, note: Note<N>) -> bool
+    requires here { IsSome pass.old.seat }
+    requires place { pass.old.place ≡ index.now.place }
+    ensures here { IsSome pass.new.seat }
+    ensures place { pass.new.place ≡ index.now.place }
+{
     let same = note.place() == pass.place();
     if same {
         pass.learn(index, note);
