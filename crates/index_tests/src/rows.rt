@@ -2,7 +2,7 @@
 ghost use Rattle.std.specs.Prelude.{◌≡◌, IsSome};
 
 use crate::steps::Any;
-use crate::worker::{Outcome, Worker, numbered, replace, tag};
+use crate::worker::{Outcome, Worker, look_inside, numbered, replace, tag};
 use shared_index::{ChangeRefusal, Index, Locked, Named, Pass};
 use std::alloc::Global;
 use std::sync::Wait;
@@ -60,12 +60,13 @@ pub fn rolled_back<N: Named, R: Wait>(
     first: &Item,
 ) -> Result<bool, Fail> {
     let mut workers = workers;
-    let Some(mut worker) = workers.pop() else {
-        return Err(Fail::from("no pass"));
+    let (Some(mut p), Some(q)) = (workers.pop(), workers.pop()) else {
+        return Err(Fail::from("no passes"));
     };
-    let second = numbered(alloc, [b'a', b'a'], 2, 600)?;
-    let meanwhile = worker.replace_and_roll_back(rt, &second);
-    Ok(meanwhile == (0, Some(2)) && worker.look(&first.key()) == (0, Some(1)))
+    let second = numbered(alloc, [b'a', b'a'], 2, 700)?;
+    let inside = look_inside(rt, q, &second);
+    let done = p.replace_and_roll_back(rt, &second);
+    Ok(done && inside == (0, Some(700)) && p.look(&first.key()) == (0, Some(1)))
 }
 
 /// Transactions that are dropped give back all that they took.

@@ -58,7 +58,7 @@ fn run<N: Named + Send + Sync, R: Threads + Wait + Sync>(
     }
 }
 
-/// One pass commits, and the index is closed. The version that it then had.
+/// One pass commits, and the others close the index. The version that it then had.
 fn close<N: Named, R: Wait>(
     rt: &R,
     alloc: Global,
@@ -76,7 +76,6 @@ fn close<N: Named, R: Wait>(
         return Err(Fail::from("no passes"));
     };
     put(rt, &index, &mut writer, second);
-    passes.push(writer)?;
     Ok(index.close(passes))
 }
 
@@ -110,7 +109,7 @@ fn a_note_tells_of_a_commit(rt: HostRuntime) -> Result<(), Fail> {
 
 #[test]
 fn a_working_set_is_gone_after_a_rollback(rt: HostRuntime) -> Result<(), Fail> {
-    assert!(rt; play(&rt, rt.alloc(), 16, 1, 600, Scene::RolledBack)?);
+    assert!(rt; play(&rt, rt.alloc(), 16, 2, 600, Scene::RolledBack)?);
     Ok(())
 }
 

@@ -70,7 +70,7 @@ pub fn replace<N: Named, R: Wait>(
     }
 }
 
-/// Exchanges an item by a heavy transaction, and rolls it back. Whether it was exchanged meanwhile.
+/// Exchanges an item by a heavy transaction, and drops it. Whether it was exchanged meanwhile.
 fn replace_and_drop<N: Named, R: Wait>(
     rt: &R,
     index: &Index<Any, N>,
@@ -87,25 +87,39 @@ fn replace_and_drop<N: Named, R: Wait>(
     update.replace(&item.key(), item.octets()).is_ok()
 }
 
-/// The base's number, and the number at a key of the working set.
+/// The base's number, and how long the item of a key is in the working set.
 fn peek<N: Named, K>(
     transaction: &mut Transaction<'_, '_, Any, N, K>,
     key: &Key,
-) -> (u64, Option<u64>)
+) -> (u64, Option<usize>)
     requires { IsSomeAnd transaction.old.locked.now.draft Works }
-    ensures { transaction.new ≡ transaction.old }
 {
+    let mut out = [0; 4096];
     let mut reading = transaction.working();
-    (reading.version(), tag(&mut reading, key))
+    let number = reading.version();
+    (number, reading.fetch(key, &mut out))
 }
 
-/// Exchanges an item by a heavy transaction, looks at it there, and rolls it back.
+/// Exchanges an item by a light transaction, and looks at it there. No version is made.
+pub fn look_inside<N: Named, R: Wait>(
+    rt: &R,
+    worker: Worker<N>,
+    item: &Item,
+) -> (u64, Option<usize>) {
+    let Worker { index, mut pass } = worker;
+    let mut locked = Locked::of(index);
+    let mut write = index.write(rt, &mut locked, &mut pass);
+    let _done = write.replace(&item.key(), item.octets());
+    peek(&mut write, &item.key())
+}
+
+/// Exchanges an item by a heavy transaction, and rolls it back. Whether it was exchanged meanwhile.
 fn replace_and_roll_back<N: Named, R: Wait>(
     rt: &R,
     index: &Index<Any, N>,
     pass: &mut Pass<N>,
     item: &Item,
-) -> (u64, Option<u64>)
+) -> bool
     requires here { IsSome pass.old.seat }
     requires place { pass.old.place ≡ index.now.place }
     ensures here { IsSome pass.new.seat }
@@ -113,10 +127,9 @@ fn replace_and_roll_back<N: Named, R: Wait>(
 {
     let mut locked = Locked::of(index);
     let mut update = index.update(rt, &mut locked, pass);
-    let _done = update.replace(&item.key(), item.octets());
-    let seen = peek(&mut update, &item.key());
+    let done = update.replace(&item.key(), item.octets()).is_ok();
     update.rollback();
-    seen
+    done
 }
 
 /// Puts a name in, or takes it out, by a light transaction. Whether a version was made.
@@ -185,13 +198,13 @@ impl<'i, N: Named> Worker<'i, N> {
         replace(rt, self.index, &mut self.pass, item)
     }
 
-    /// Exchanges an item by a heavy transaction, and rolls it back. Whether it was exchanged meanwhile.
+    /// Exchanges an item by a heavy transaction, and drops it. Whether it was exchanged meanwhile.
     pub fn replace_and_drop<R: Wait>(&mut self, rt: &R, item: &Item) -> bool {
         replace_and_drop(rt, self.index, &mut self.pass, item)
     }
 
-    /// Exchanges an item by a heavy transaction, looks at it there, and rolls it back.
-    pub fn replace_and_roll_back<R: Wait>(&mut self, rt: &R, item: &Item) -> (u64, Option<u64>) {
+    /// Exchanges an item by a heavy transaction, and rolls it back. Whether it was exchanged meanwhile.
+    pub fn replace_and_roll_back<R: Wait>(&mut self, rt: &R, item: &Item) -> bool {
         replace_and_roll_back(rt, self.index, &mut self.pass, item)
     }
 
