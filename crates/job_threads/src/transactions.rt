@@ -14,7 +14,7 @@ use crate::law::ZoneLaw;
 use dns_name::Name;
 use job_model::{Ending, Weight};
 use job_script::{Block, Cause, Outcome, Told};
-use shared_index::{Index, Locked, Named, Pass, Receipt, Spent, Transaction, Versions};
+use shared_index::{Index, Kind, Locked, Named, Pass, Receipt, Spent, Transaction, Versions};
 use std::alloc::{AllocError, Global};
 use std::sync::Wait;
 use zone_change::ItemBuffers;
@@ -63,7 +63,7 @@ fn committed(receipt: Result<Receipt, Spent>) -> Outcome
 }
 
 // Runs a block in a transaction that has begun as its weight says, by way of buffers for items.
-fn run_in<N: Named, K>(
+fn run_in<N: Named, K: Kind>(
     alloc: Global,
     origin: &Name,
     mut transaction: Transaction<'_, '_, ZoneLaw, N, K>,

@@ -10,7 +10,7 @@ use Rattle.shared_cells.specs.declared.view.Naming.{Naming}
 use Rattle.shared_cells.specs.Cells.{Cells, with_words}
 use Rattle.shared_index.specs.declared.meaning.Operation.{Operation}
 use Rattle.shared_index.specs.Operations.{operated, applied}
-use Rattle.shared_index.specs.Passes.{Known, version_seen}
+use Rattle.shared_index.specs.Passes.{Known, first_version, version_seen}
 use Rattle.shared_cells.specs.History.{version_after}
 use Rattle.std.specs.Prelude.{unwrap_or}
 use Rattle.shared_index.specs.Turns.{AgreesWithin, Agrees}
@@ -35,6 +35,9 @@ goes_further {u} {v} {w} a b = record {
 -- the base is the same
 pub base_goes_on : {v w : Known} → GoesOn v w → version_seen w.seen ≡ version_seen v.seen
 base_goes_on {v} {w} g = ap (λ (o : Option (List Entry)). version_after applied (unwrap_or o []) w.seen.history) g.opening ∙ ap (version_after applied (unwrap_or v.seen.opening [])) g.history
+
+pub first_goes_on : {v w : Known} → GoesOn v w → first_version w.seen ≡ first_version v.seen
+first_goes_on g = ap (λ (o : Option (List Entry)). unwrap_or o []) g.opening
 
 -- one operation more
 pub applied_more : (es : List Entry) (operations : List Operation) (o : Operation) → applied es (operations ++ o ∷ []) ≡ operated (applied es operations) o

@@ -1,21 +1,23 @@
-use Rattle.std.proofs.Common.{◌≡◌, ◌∙◌, ◌⊎◌, ⊎_elim, inl, inr, ◌+◌, ◌*◌, ◌≤◌, ◌++◌, ◌∷◌, [], ℕ, List, length, Option, Some, refl, sym, ap, subst, arith, length-append}
+use Rattle.std.proofs.Common.{◌≡◌, ◌∙◌, ◌↔◌, ◌+◌, ◌*◌, ◌≤◌, ◌++◌, ◌∷◌, [], ℕ, List, length, Option, Some, refl, sym, ap, subst, arith, length-append}
+use Rattle.std.specs.List.{Contains}
+use Rattle.std.proofs.lemmas.List.{length-replicate}
 use Rattle.pin_core.specs.declared.kept.Kept.{Kept}
+use Rattle.pin_core.specs.declared.kept.Mark.{Mark}
+use Rattle.pin_core.specs.declared.kept.Mark.TheVariants as mark
 use Rattle.chunk_usage.specs.Ledger.{Ledger, Row, free_count}
 use Rattle.chunk_usage.specs.Keeping.{AreOlder, freed, frozen}
 use Rattle.shared_cells.specs.declared.view.Entry.{Entry as Commit}
 use Rattle.shared_cells.specs.declared.view.TurnView.{TurnView}
-use Rattle.shared_cells.specs.Views.{kept_in, kept_of, words_of}
+use Rattle.shared_cells.specs.Views.{kept_in, kept_of, marks_of, namings_by, words_of}
 use Rattle.shared_cells.specs.Cells.{cells_of}
-use Rattle.shared_cells.specs.Steps.{IsNamed}
+use Rattle.shared_cells.specs.Steps.{IsDue}
 use Rattle.shared_cells.proofs.Seats.{turn_there, pass_there, told_there}
 use Rattle.shared_index.specs.declared.meaning.Operation.{Operation}
 use Rattle.shared_index.specs.Drafts.{working_set}
 use Rattle.shared_index.specs.Images.{image_at}
 use Rattle.shared_index.specs.Passes.{Known}
 use Rattle.shared_index.specs.Turns.{Agrees, AgreesWithin, cells_with, current_root, row_for}
-use Rattle.shared_index.specs.Keepings.{AreKept, GoesOn, narrowed, numbers_of, versions_in}
-use Rattle.shared_index.proofs.GoesLaws.{words_go_on}
-use Rattle.shared_index.proofs.WorkLaws.{named_on}
+use Rattle.shared_index.specs.Keepings.{AreKept, narrowed, numbers_of, versions_in}
 use Rattle.shared_index.proofs.PublishLaws.{all_older, can_publish, agrees_published, root_published, kept_published}
 use Rattle.shared_index.proofs.WordsLaws.{freed_chunks, same_chunks, same_words, words_kept}
 use Rattle.shared_index.proofs.desk.Draft.publish.Goals as goal
@@ -113,26 +115,33 @@ returns-clause-receipt g c =
     let d = c.args.self in
     let v : Known = d.seat.place.me.0 in
     let w : Known = c.publish-version.new.seat.place.me.0 in
-    let x : Known = c.make_round-kept.new.seat.place.me.0 in
-    let y : Known = c.free_unreached-seat.result.0.place.me.0 in
     let list = versions_in c.make_round-kept.result in
     let round = c.make_round-kept.ensures in
+    let rounded = round.rounded in
     let free = c.free_unreached-seat.ensures in
     let receipt = c.of-receipt.ensures in
     let p = c.publish-version.ensures.published in
     let number : c.publish-version.result ≡ length v.seen.history + 1 = c.publish-version.ensures.version ∙ ap (λ (n : ℕ). n + 1) d.seat.version_is in
     let long : length w.seen.history ≡ length v.seen.history + 1 = ap (λ (k : Known). length k.seen.history) p.6 ∙ length-append v.seen.history (record { author = p.1.number; change = p.2 } ∷ []) in
-    let current : c.publish-version.new.seat.version ≡ c.of-receipt.result.version = c.publish-version.new.seat.version_is ∙ long ∙ sym number ∙ sym receipt.0 in
+    let latest : length w.seen.history ≡ c.of-receipt.result.version = long ∙ sym number ∙ sym receipt.0 in
     let usage : c.free_unreached-seat.new.usage ≡ freed (narrowed (frozen d.usage c.of-receipt.result.version) list) =
     free.after ∙ ap freed (round.usage ∙ ap (λ (l : Ledger). narrowed l list) (c.freeze.ensures.after ∙ ap (frozen d.usage) (sym receipt.0))) in
-    let on : GoesOn x y = words_go_on x y (words_of y.turn) free.same in
     record {
+      marks = rounded.marks;
+      each = rounded.each
+          ∙ ap (λ (t : Option TurnView). length (marks_of t)) (sym rounded.is_turn)
+          ∙ ap (λ (ms : List Mark). length ms) c.publish-version.new.seat.blank
+          ∙ length-replicate c.publish-version.new.seat.passes mark.Blank ∙ c.publish-version.ensures.numbers.1;
+      listed = ap (λ (k : Known). k.seen.namings) c.split-seat.ensures.pass.0
+          ∙ ap (λ (k : Known). k.seen.namings) free.same
+          ∙ ap (λ (k : Known). k.seen.namings) rounded.after
+          ∙ ap (λ (k : Known). k.seen.namings ++ namings_by 0 rounded.marks) p.6;
       versions = list;
+      rising = c.make_round-kept.result.rising;
+      exact = λ k. subst (λ (n : ℕ). Contains list k ↔ IsDue n rounded.marks k) latest (rounded.exact k);
+      ends = (round.ends.0, round.ends.1 ∙ ap (λ (n : ℕ). round.ends.0 ++ n ∷ []) (c.publish-version.new.seat.version_is ∙ latest));
       count = receipt.2;
       few = subst (λ (n : ℕ). length list ≤ n + 1) c.publish-version.ensures.numbers.1 round.few;
-      ends = (round.ends.0, round.ends.1 ∙ ap (λ (n : ℕ). round.ends.0 ++ n ∷ []) current);
-      named = λ n h. subst (λ (k : Known). (n ≡ c.of-receipt.result.version) ⊎ IsNamed k n) (sym c.split-seat.ensures.pass.0)
-          (⊎_elim (λ (e : n ≡ c.publish-version.new.seat.version). inl (e ∙ current)) (λ (named : IsNamed x n). inr (named_on n on named)) (round.named n h));
       recycled = ap free_count (sym usage) ∙ free.count
           ∙ ap (λ (l : Ledger). free_count l + c.free_unreached-seat.result.1) (round.usage ∙ ap (λ (l : Ledger). narrowed l list) c.freeze.ensures.after)
           ∙ ap (λ (n : ℕ). free_count d.usage + n) (sym receipt.1);
