@@ -20,7 +20,7 @@ use trie_write::Item;
 const LAST: u64 = 10_000;
 
 /// How often each reader of a crowd asks at most.
-const ASKED: u32 = 2_000;
+const ASKED: u32 = 200;
 
 /// How many names come and go.
 const NAMES: u64 = 64;

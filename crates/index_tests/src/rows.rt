@@ -119,7 +119,7 @@ pub fn full<N: Named, R: Wait>(
             Outcome::Full(full) => {
                 let told = full.free <= full.reserve
                     && full.left < full.needed
-                    && full.kept.as_slice().len() > 1;
+                    && full.kept.as_slice().len() as u64 == round;
                 let same = refused(rt, index, &mut pass, &item, round + 1);
                 drop(snapshots);
                 let after = replace(rt, index, &mut pass, &item);
