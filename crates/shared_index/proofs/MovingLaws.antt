@@ -20,7 +20,8 @@ use Rattle.evacuate.specs.Fillings.{IsFull as IsUsedUp}
 use Rattle.shared_cells.specs.Views.{kept_in}
 use Rattle.shared_cells.specs.Cells.{Cells, cells_of, given_chunks, kept_references, HasCell, with_words}
 use Rattle.shared_index.specs.declared.desk.Draft.{Draft}
-use Rattle.shared_index.specs.Fulls.{Evacuated, Grown}
+use Rattle.shared_index.specs.declared.refusal.Full.{Full}
+use Rattle.shared_index.specs.Fulls.{CausedFrom, Evacuated, Grown}
 use Rattle.shared_index.specs.Keepings.{narrowed}
 use Rattle.shared_index.specs.Passes.{Known}
 use Rattle.shared_index.specs.Turns.{Agrees, cells_with}
@@ -104,6 +105,19 @@ evacuated_of old room u versions d done after grown whole stopped some counts = 
   passes = ap (λ (f : Frozen). f.passes) grown.frozen ∙ ap (λ (l : Ledger). l.passes) after;
   moved = either_end done (λ e k here shut. let c = counts k in let more = whole e k (omega arith) shut in omega arith) (λ e. (stopped e, some e));
 }
+
+-- where a try before it left that usage
+pub caused_from : (old mid : Ledger) (d : Draft) (key : List ℕ) (written : ℕ) (f : Full) → Grown old mid → CausedFrom mid d key written f → CausedFrom old d key written f
+caused_from old mid d key written f g c = (
+  c.0,
+  record {
+    last_live = c.1.last_live ∙ ap (λ (x : Frozen). x.live) g.frozen;
+    last_open = c.1.last_open ∙ ap (λ (x : Frozen). x.open_chunk) g.frozen;
+    passes = c.1.passes ∙ ap (λ (x : Frozen). x.passes) g.frozen;
+    moved = c.1.moved;
+  },
+  c.2,
+)
 
 -- ---- the cells were lent by a seat that knew so much, and came back as they are now
 
