@@ -110,10 +110,10 @@ pub fn evacuated<C: CellWrite>(
 
 /// How many chunks have cells that count.
 pub fn counted_chunks(usage: &Usage) -> u32 {
-    let mut counted = 0;
+    let mut counted: u32 = 0;
     for chunk in 0..usage.chunks() {
         if usage.live(chunk) > 0 {
-            counted += 1;
+            counted = counted.saturating_add(1);
         }
     }
     counted

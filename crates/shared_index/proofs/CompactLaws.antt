@@ -1,6 +1,7 @@
 -- What a compaction makes.
 use Rattle.std.proofs.Common.{◌≡◌, ◌↔◌, ◌≢◌, ◌∙◌, ℕ, ◌+◌, List, [], length, Result, Ok, Err, refl, sym, ap, subst, arith}
 use Rattle.std.specs.Prelude.{IfOk, IfErr, IsErr}
+use Rattle.std.proofs.lemmas.Bool.{true≢false}
 use Rattle.pin_core.specs.declared.version.Spent.{Spent}
 use Rattle.trie_model.specs.Keys.{Entry}
 use Rattle.shared_cells.specs.Views.{pass_of}
@@ -47,7 +48,7 @@ module _ (lawful : List Entry → List Entry → Type 0) (before : Known) (d : D
     not_last version spent = by_case r version spent
       where
         by_case : (q : Result Receipt Spent) → IfOk q (λ x. x.version ≡ d.seat.version + 1) → (IsErr q ↔ (d.seat.version ≡ last)) → IfOk q (λ x. x.version ≢ last + 1)
-        by_case (Ok x) v s = λ e. s.1 (omega arith)
+        by_case (Ok x) v s = λ e. let here : d.seat.version ≡ last = omega (arith, v, e) in true≢false (sym (s.1 here))
         by_case (Err e) v s = tt
 
     pub last_number : IfErr r (λ s. s.version ≡ d.seat.version) → (IsErr r ↔ (d.seat.version ≡ last)) → IfErr r (λ s. s.version ≡ last)
@@ -55,4 +56,4 @@ module _ (lawful : List Entry → List Entry → Type 0) (before : Known) (d : D
       where
         by_case : (q : Result Receipt Spent) → IfErr q (λ s. s.version ≡ d.seat.version) → (IsErr q ↔ (d.seat.version ≡ last)) → IfErr q (λ s. s.version ≡ last)
         by_case (Ok x) v s = tt
-        by_case (Err e) v s = v ∙ s.0 tt
+        by_case (Err e) v s = v ∙ s.0 refl
