@@ -1,5 +1,5 @@
 -- What a compaction makes.
-use Rattle.std.proofs.Common.{◌≡◌, ◌↔◌, ◌≢◌, ◌∙◌, ℕ, ◌+◌, List, [], length, Result, Ok, Err, refl, sym, ap, subst, arith}
+use Rattle.std.proofs.Common.{◌≡◌, ◌↔◌, ◌≢◌, ◌∙◌, ℕ, ◌+◌, List, Result, Ok, Err, refl, sym, ap, subst, arith}
 use Rattle.std.specs.Prelude.{IfOk, IfErr, IsErr}
 use Rattle.std.proofs.lemmas.Bool.{true≢false}
 use Rattle.pin_core.specs.declared.version.Spent.{Spent}
@@ -7,8 +7,6 @@ use Rattle.trie_model.specs.Keys.{Entry}
 use Rattle.shared_cells.specs.Views.{pass_of}
 use Rattle.shared_index.specs.declared.commit.Receipt.{Receipt}
 use Rattle.shared_index.specs.declared.desk.Draft.{Draft}
-use Rattle.shared_index.specs.declared.meaning.Operation.{Operation}
-use Rattle.shared_index.specs.Bases.{Joined}
 use Rattle.shared_index.specs.Compactions.{Compacts, IsLast}
 use Rattle.shared_index.specs.Drafts.{Begins, Commits, working_set}
 use Rattle.shared_index.specs.Operations.{applied}

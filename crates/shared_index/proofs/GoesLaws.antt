@@ -1,11 +1,10 @@
 -- What a transaction's calls leave known.
-use Rattle.std.proofs.Common.{◌≡◌, ◌∙◌, inr, ℕ, ◌+◌, ◌≤◌, List, [], ◌∷◌, ◌++◌, length, Option, refl, sym, ap, subst, arith, append-nil, append_assoc}
+use Rattle.std.proofs.Common.{◌≡◌, ◌∙◌, inr, ℕ, ◌≤◌, List, [], ◌∷◌, ◌++◌, Option, sym, ap, subst, arith, append-nil, append_assoc}
 use Rattle.std.specs.List.{Contains}
 use Rattle.std.proofs.lemmas.List.Sums.{fold-append}
 use Rattle.pin_core.specs.declared.kept.Kept.{Kept}
 use Rattle.trie_model.specs.Keys.{Entry}
 use Rattle.chunk_usage.specs.Ledger.{Ledger}
-use Rattle.shared_cells.specs.declared.view.Entry.{Entry as Commit}
 use Rattle.shared_cells.specs.declared.view.Naming.{Naming}
 use Rattle.shared_cells.specs.Cells.{Cells, with_words}
 use Rattle.shared_index.specs.declared.meaning.Operation.{Operation}
@@ -13,7 +12,7 @@ use Rattle.shared_index.specs.Operations.{operated, applied}
 use Rattle.shared_index.specs.Passes.{Known, first_version, version_seen}
 use Rattle.shared_cells.specs.History.{version_after}
 use Rattle.std.specs.Prelude.{unwrap_or}
-use Rattle.shared_index.specs.Turns.{AgreesWithin, Agrees}
+use Rattle.shared_index.specs.Turns.{AgreesWithin}
 use Rattle.shared_index.specs.Keepings.{AreKept, GoesOn, numbers_of}
 
 pub words_go_on : (v w : Known) (words : List ℕ) → w ≡ with_words v words → GoesOn v w

@@ -1,5 +1,5 @@
 -- What lies in sparse chunks, moved on lent cells, as the seat that lent them knows it.
-use Rattle.std.proofs.Common.{◌≡◌, ◌⊎◌, ◌∙◌, inl, inr, ℕ, zero, suc, ◌+◌, ◌<◌, ◌≤◌, nat_lt, Bool, true, false, not, cond, ◌&&◌, List, [], ◌∷◌, length, slice_index, Option, Some, None, refl, sym, ap, subst, arith}
+use Rattle.std.proofs.Common.{◌≡◌, ◌⊎◌, ◌∙◌, inl, inr, ℕ, ◌≤◌, nat_lt, Bool, true, false, not, cond, ◌&&◌, List, [], ◌∷◌, length, slice_index, Option, Some, None, refl, sym, ap, arith}
 use Rattle.std.specs.Prelude.{count_by}
 use Rattle.std.specs.List.{range_with_len}
 use Rattle.std.proofs.lemmas.Bool.{true≢false}
@@ -25,7 +25,7 @@ use Rattle.shared_index.specs.Fulls.{CausedFrom, Evacuated, Grown}
 use Rattle.shared_index.specs.Keepings.{narrowed}
 use Rattle.shared_index.specs.Passes.{Known}
 use Rattle.shared_index.specs.Turns.{Agrees, cells_with}
-use Rattle.shared_index.specs.Bases.{IsRooted, StandsFor}
+use Rattle.shared_index.specs.Bases.{IsRooted}
 use Rattle.shared_index.specs.Receipts.{AreCountsOf}
 use Rattle.shared_index.specs.Movings.{Moved, is_thin, FewThin}
 use Rattle.shared_index.proofs.AttemptLaws.{entered, left, wide_now, given_now, words_seat}

@@ -1,15 +1,13 @@
 -- What a commit tells of the working set that was made ready for it, told of the working set before.
-use Rattle.std.proofs.Common.{◌≡◌, ◌∙◌, ℕ, ◌+◌, ◌≤◌, ◌++◌, Bool, true, false, List, length, Option, sym, ap, subst}
-use Rattle.std.specs.List.{All}
-use Rattle.pin_core.specs.declared.kept.Kept.{Kept}
+use Rattle.std.proofs.Common.{◌≡◌, ◌∙◌, ℕ, ◌++◌, Bool, true, false, List, sym, ap, subst}
 use Rattle.trie_model.specs.Keys.{Entry}
 use Rattle.chunk_usage.specs.Ledger.{Ledger, free_count}
 use Rattle.shared_cells.specs.declared.view.Seen.{Seen}
-use Rattle.shared_cells.specs.Views.{kept_in, namings_by}
+use Rattle.shared_cells.specs.Views.{namings_by}
 use Rattle.shared_index.specs.declared.commit.Receipt.{Receipt}
 use Rattle.shared_index.specs.declared.desk.Draft.{Draft}
 use Rattle.shared_index.specs.declared.meaning.Operation.{Operation}
-use Rattle.shared_index.specs.Bases.{IsRooted, StandsFor}
+use Rattle.shared_index.specs.Bases.{StandsFor}
 use Rattle.shared_index.specs.Drafts.{Works, Commits, working_set}
 use Rattle.shared_index.specs.Fulls.{Grown}
 use Rattle.shared_index.specs.Keepings.{GoesOn}

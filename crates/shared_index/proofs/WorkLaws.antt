@@ -1,6 +1,6 @@
 -- What a transaction's working set is after an operation, and after a round.
 use Rattle.std.proofs.Common.{◌≡◌, ◌↔◌, ◌⊎◌, ◌∙◌, ⊎_elim, inl, inr, ℕ, List, [], ◌∷◌, ◌++◌, length, Option, Some, None, Result, Ok, Err, refl, sym, ap, subst, append_assoc}
-use Rattle.std.specs.Prelude.{IfOk, IsOk}
+use Rattle.std.specs.Prelude.{IsOk}
 use Rattle.std.specs.List.{Contains}
 use Rattle.std.proofs.lemmas.List.Elements.{Contains-append_left}
 use Rattle.trie_model.specs.Keys.{Entry}
@@ -11,7 +11,6 @@ use Rattle.shared_cells.specs.declared.view.Entry.{Entry as Commit}
 use Rattle.shared_cells.specs.declared.view.Naming.{Naming}
 use Rattle.shared_cells.specs.History.{entry_of}
 use Rattle.shared_cells.specs.Views.{words_of}
-use Rattle.shared_cells.specs.Cells.{HasCell}
 use Rattle.shared_cells.specs.Steps.{IsNamed}
 use Rattle.shared_index.specs.declared.change.Change.{Change}
 use Rattle.shared_index.specs.declared.change.Unchanged.{Unchanged}
@@ -23,7 +22,7 @@ use Rattle.shared_index.specs.declared.meaning.Operation.{Operation}
 use Rattle.shared_index.specs.Operations.{operated, applied}
 use Rattle.shared_index.specs.Passes.{Known, version_seen}
 use Rattle.shared_index.specs.Turns.{cells_with}
-use Rattle.shared_index.specs.Bases.{IsRooted, StandsFor}
+use Rattle.shared_index.specs.Bases.{StandsFor}
 use Rattle.shared_index.specs.Changes.{operation_of, IsRefused}
 use Rattle.shared_index.specs.Drafts.{Works, Operates, IsFull, Between, Commits, working_set}
 use Rattle.shared_index.specs.Tries.{Tried}

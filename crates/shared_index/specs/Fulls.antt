@@ -1,5 +1,5 @@
 -- Why a transaction's call finds no room.
-use Rattle.std.specs.Prelude.{◌≡◌, ◌⊎◌, ℕ, ◌+◌, ◌-◌, ◌*◌, ◌<◌, ◌≤◌, Bool, true, false, List, Contains, length, take, slice_index}
+use Rattle.std.specs.Prelude.{◌≡◌, ◌⊎◌, ℕ, ◌+◌, ◌-◌, ◌*◌, ◌<◌, ◌≤◌, true, false, List, Contains, length, take, slice_index}
 use Rattle.std.specs.List.{sum_by}
 use Rattle.trie_model.specs.Shape.{cells}
 use Rattle.chunk_usage.specs.Ledger.{Ledger, frozen_part, is_open, is_given, free_count, reserve_of}

@@ -428,7 +428,6 @@ impl<L: Law, N: Named, K> Transaction<'_, '_, L, N, K> {
             Err(Refusal::Full(full)) => Err(ChangeRefusal::Full(full)),
         }
     }
-
 }
 
 impl<L: Law, N: Named, K: Kind> Transaction<'_, '_, L, N, K> {

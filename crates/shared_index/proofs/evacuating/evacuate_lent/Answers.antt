@@ -1,5 +1,4 @@
-use Rattle.std.proofs.Common.{◌≡◌, ◌↔◌, ℕ, List, length, slice_index, sym}
-use Rattle.trie_model.specs.Keys.{Entry}
+use Rattle.std.proofs.Common.{◌≡◌, length, sym}
 use Rattle.shared_index.proofs.WordsLaws.{same_words, same_chunks, same_passes, lent_begins, lent_seat, lent_back}
 use Rattle.shared_index.proofs.AttemptLaws.{agrees_later}
 use Rattle.shared_index.proofs.MovingLaws.{moved_of}

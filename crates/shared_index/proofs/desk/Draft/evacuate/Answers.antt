@@ -1,4 +1,4 @@
-use Rattle.std.proofs.Common.{◌≡◌, ◌∙◌, ap}
+use Rattle.std.proofs.Common.{◌∙◌, ap}
 use Rattle.shared_cells.specs.Views.{kept_in, words_of}
 use Rattle.shared_index.specs.Drafts.{working_set}
 use Rattle.shared_index.specs.Keepings.{GoesOn}

@@ -1,4 +1,4 @@
-use Rattle.std.proofs.Common.{◌≤◌, arith}
+use Rattle.std.proofs.Common.{arith}
 use Rattle.shared_index.proofs.MovingLaws.{thin_sparse, thin_dense}
 use Rattle.shared_index.proofs.desk.Draft.settle.Goals as goal
 

@@ -1,5 +1,3 @@
-use Rattle.std.proofs.Common.{◌≡◌, ◌∙◌, refl}
-use Rattle.pin_core.specs.declared.version.Spent.{Spent}
 use Rattle.shared_index.specs.Passes.{known_at}
 use Rattle.shared_index.proofs.CompactLaws.{base_lawful, compacts_of, last_of, not_last, last_number}
 use Rattle.shared_index.proofs.index.Index.compact.Goals as goal
