@@ -44,8 +44,6 @@ pub enum Phrase<'a> {
     Deletes(Token, &'a [Token]),
     /// A block ends.
     Ends(Ending),
-    /// A compaction.
-    Compacts,
 }
 
 // Whether a token is a command word.
@@ -138,8 +136,6 @@ fn lone_word<'a>(bytes: &[u8], word: Token) -> Option<Phrase<'a>>
         Some(Phrase::Ends(Ending::Commit))
     } else if says(bytes, word, b"rollback") {
         Some(Phrase::Ends(Ending::Rollback))
-    } else if says(bytes, word, b"compact") {
-        Some(Phrase::Compacts)
     } else if says(bytes, word, b"stat") {
         Some(Phrase::Asks(Asked::Stats))
     } else {

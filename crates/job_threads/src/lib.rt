@@ -2,7 +2,6 @@
 #![tactic(auto)]
 
 mod asking;
-mod compactions;
 mod gate;
 mod holding;
 mod job;

@@ -1,7 +1,7 @@
 //! Transactions.
 ghost use Rattle.std.specs.Prelude.{◌≡◌, IsSome, IsSomeAnd, IfOk, IfErr, map};
 ghost use Rattle.job_model.specs.Outcomes.{Committed, Refused, Spent as NoNumber};
-ghost use Rattle.job_script.specs.Outcomes.{ended_view, EndsBlock};
+ghost use Rattle.job_script.specs.Outcomes.{ended_view};
 ghost use Rattle.job_script.specs.Views.{operation_view};
 ghost use Rattle.shared_index.specs.Passes.{known_at};
 ghost use Rattle.shared_index.specs.Keepings.{versions_in};
@@ -14,7 +14,7 @@ use crate::law::ZoneLaw;
 use dns_name::Name;
 use job_model::{Ending, Weight};
 use job_script::{Block, Cause, Outcome, Told};
-use shared_index::{Index, Kind, Locked, Named, Pass, Receipt, Spent, Transaction, Versions};
+use shared_index::{Index, Locked, Named, Pass, Receipt, Spent, Transaction, Versions};
 use std::alloc::{AllocError, Global};
 use std::sync::Wait;
 use zone_change::ItemBuffers;
@@ -29,8 +29,7 @@ fn kept_list(alloc: Global, kept: &Versions) -> Result<Vec<u64>, AllocError>
 
 // How a block ends whose operations stopped.
 fn stopped(alloc: Global, version: u64, halt: Halt) -> Result<Outcome, AllocError>
-    ensures stopped { StoppedBy halt version result }
-    ensures ends { IfOk result (λ o. EndsBlock o.told) }
+    ensures { StoppedBy halt version result }
 {
     let cause = match halt {
         Halt::Memory => return Err(AllocError),
@@ -50,7 +49,6 @@ fn stopped(alloc: Global, version: u64, halt: Halt) -> Result<Outcome, AllocErro
 fn committed(receipt: Result<Receipt, Spent>) -> Outcome
     ensures made { IfOk receipt (λ r. (result.version ≡ r.version) × (ended_view result.told ≡ Committed)) }
     ensures spent { IfErr receipt (λ s. (result.version ≡ s.version) × (ended_view result.told ≡ Refused NoNumber)) }
-    ensures ends { EndsBlock result.told }
 {
     match receipt {
         Ok(receipt) => Outcome {
@@ -65,7 +63,7 @@ fn committed(receipt: Result<Receipt, Spent>) -> Outcome
 }
 
 // Runs a block in a transaction that has begun as its weight says, by way of buffers for items.
-fn run_in<N: Named, K: Kind>(
+fn run_in<N: Named, K>(
     alloc: Global,
     origin: &Name,
     mut transaction: Transaction<'_, '_, ZoneLaw, N, K>,
@@ -77,7 +75,6 @@ fn run_in<N: Named, K: Kind>(
     requires weight { IsSomeAnd transaction.locked.now.draft (IsOfWeight block.now.weight) }
     ensures here { IsSome transaction.exit.0.now.seat }
     ensures place { transaction.exit.0.now.place ≡ transaction.entry.locked.now.place }
-    ensures ends { IfOk result (λ o. EndsBlock o.told) }
     ensures ran { (s : Setup) (old : Known) → IsSomeAnd transaction.entry.locked.now.draft (Began s origin.now old)
         → IfOk result (BlockRan s (map operation_view block.now.operations.items) block.now.ending old (known_at transaction.exit.0.now.seat)) }
 {
@@ -110,7 +107,6 @@ pub fn run_block<R: Wait, N: Named>(
     requires place { pass.old.place ≡ index.now.place }
     ensures here { IsSome pass.new.seat }
     ensures place { pass.new.place ≡ pass.old.place }
-    ensures ends { IfOk result (λ o. EndsBlock o.told) }
     ensures ran { (s : Setup) → IsSetup s origin.now index.now.shared.table.shared.key (known_at pass.old.seat)
         → IfOk result (BlockRan s (map operation_view block.now.operations.items) block.now.ending (known_at pass.old.seat) (known_at pass.new.seat)) }
 {

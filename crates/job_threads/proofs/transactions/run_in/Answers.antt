@@ -47,5 +47,5 @@ returns-in-Err-clause-ran g c = λ s old began.
     (edits_as c.args.origin.now s.origin _ _ (Err c.in-Err.halt) _ _ b.origin_is (ap (map operation_view) c.deref.ensures.value) c.in-Err.ensures.applies)
     (full_chunks g.N.Named.tables was.place is.place s.chunks was.shared.now.table.shared.table_id is.shared.now.table.shared.table_id is.draft
     was.named is.named c.apply_all.ensures.place (b.wide was.shared.now.table.shared.table_id was.here) is.here)
-    b.passes c.stopped.ensures.stopped)
+    b.passes c.stopped.ensures)
     (search rules)
