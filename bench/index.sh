@@ -201,7 +201,7 @@ use Rattle.std.proofs.Common.{◌∙◌, sym}
 use Rattle.index.proofs.work_on.Goals as goal
 
 pub workers-requires : goal.workers-requires
-workers-requires g c k p l = let h = c.in-Some-2.ensures.passes k p l in (h.0, h.1.0 ∙ sym c.in-Some-2.ensures.place)
+workers-requires g c k p l = let h = c.in-Some-2.ensures.passes k p l in (h.0, h.1 ∙ sym c.in-Some-2.ensures.place)
 == workers/Invariants.antt
 use Rattle.std.proofs.Common.{◌≡◌, vec_len}
 use Rattle.std.specs.Prelude.{IsSome}

@@ -10,3 +10,7 @@ pub last_two : {X : Type 0} (P : X → Type 0) (xs ys : List X) (k j : ℕ) (a b
 last_two P xs ys k j a b all one_in one rest two_in two =
     let fewer : All P ys = subst (All P) (sym rest) (All-take P k xs all) in
     (subst (λ o. IfSome o P) (sym one) (all k a one_in), subst (λ o. IfSome o P) (sym two) (fewer j b two_in))
+
+-- the others, when the last is taken off
+pub but_last : {X : Type 0} (P : X → Type 0) (xs ys : List X) (k : ℕ) → All P xs → ys ≡ take k xs → All P ys
+but_last P xs ys k all rest = subst (All P) (sym rest) (All-take P k xs all)

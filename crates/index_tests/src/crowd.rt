@@ -8,7 +8,8 @@ ghost use Rattle.shared_index.specs.Meanings.{Holds};
 use crate::steps::Any;
 use crate::worker::{Outcome, Worker, numbered, tag, walk};
 use shared_index::{Index, Named, Pass, Snapshot};
-use std::alloc::Global;
+use shift_key::Key;
+use std::alloc::{AllocError, Global};
 use std::sync::Wait;
 use std::sync::atomic::{AtomicU32, Ordering};
 use std::test::Fail;
@@ -74,6 +75,16 @@ fn commit_on<N: Named, R: Wait>(
     Ok(last)
 }
 
+/// Whether a reading is of version 0, and has the first item at the key.
+fn is_as_opened<V: Reading>(reading: &mut V, key: &Key) -> bool
+    requires { IsHeld (V.holds reading.old) }
+    ensures { reading.new ≡ reading.old }
+{
+    let version = reading.version();
+    let number = tag(reading, key);
+    version == 0 && number == Some(1)
+}
+
 /// Reads a snapshot until all commits are done, and once more. Whether it always was as at first.
 fn read_held<N: Named>(snapshot: Snapshot<'_, Any, N>, first: &Item, done: &AtomicU32) -> bool
     requires { Holds (pinned_image snapshot.seat.place.me.0.progress) snapshot.seat.root (version_seen snapshot.seat.place.me.0.seen) }
@@ -83,7 +94,8 @@ fn read_held<N: Named>(snapshot: Snapshot<'_, Any, N>, first: &Item, done: &Atom
     let mut right = true;
     for _ in 0..10_000_000 {
         let last = done.load(Ordering::SeqCst) == 1;
-        right = right && snapshot.version() == 0 && tag(&mut snapshot, &key) == Some(1);
+        let same = is_as_opened(&mut snapshot, &key);
+        right = right && same;
         if last {
             return right;
         }
@@ -201,6 +213,22 @@ fn names(alloc: Global) -> Result<Vec<Item>, Fail> {
     Ok(names)
 }
 
+/// All ask beside each other.
+fn read_all<N: Named + Send + Sync, R: Threads + Sync>(
+    rt: &R,
+    workers: Vec<Worker<N>>,
+    names: &[Item],
+) -> Result<Vec<bool>, AllocError> {
+    // What is inferred of a closure isn't proved where its argument has a lifetime, so it has a clause.
+    map_vec(
+        rt,
+        workers,
+        &|worker: Worker<N>| -> bool
+            ensures { Unit {0} }
+        { read_on(worker, names) },
+    )
+}
+
 /// One writes, and all others ask: which names are there, and each of them.
 pub fn crowd<N: Named + Send + Sync, R: Threads + Wait + Sync>(
     rt: &R,
@@ -215,7 +243,7 @@ pub fn crowd<N: Named + Send + Sync, R: Threads + Wait + Sync>(
     let (written, read) = join(
         rt,
         || write_on(rt, alloc, writer),
-        || map_vec(rt, workers, &|worker| read_on(worker, names.as_slice())),
+        || read_all(rt, workers, names.as_slice()),
     );
     Ok(written? && read?.iter().all(|right| *right))
 }

@@ -2,7 +2,7 @@
 ghost use Rattle.std.specs.Prelude.{◌≡◌, IsSome};
 
 use crate::steps::Any;
-use crate::worker::{Outcome, Worker, numbered, replace, tag};
+use crate::worker::{Outcome, Worker, look_inside, numbered, replace, tag};
 use shared_index::{ChangeRefusal, Index, Locked, Named, Pass};
 use std::alloc::Global;
 use std::sync::Wait;
@@ -27,10 +27,11 @@ pub fn held<N: Named, R: Wait>(
     let committed =
         matches!(writer.replace(rt, &second), Outcome::Committed(receipt) if receipt.version == 1);
     let old = (snapshot.version(), tag(&mut snapshot, &key));
+    let told = writer.learn(snapshot.note(index));
     let seen = writer.look(&key);
     let mut snapshot = snapshot.release().hold(index);
     let new = (snapshot.version(), tag(&mut snapshot, &key));
-    Ok(committed && old == (0, Some(1)) && seen == (1, Some(2)) && new == (1, Some(2)))
+    Ok(committed && told && old == (0, Some(1)) && seen == (1, Some(2)) && new == (1, Some(2)))
 }
 
 /// A pass that has learnt what another committed sees it.
@@ -49,6 +50,23 @@ pub fn told<N: Named, R: Wait>(
         matches!(p.replace(rt, &second), Outcome::Committed(receipt) if receipt.version == 1);
     let learnt = q.learn_of(&mut p);
     Ok(committed && learnt && q.look(&first.key()) == (1, Some(2)))
+}
+
+/// A working set is read under the base's number, and is gone after a rollback.
+pub fn rolled_back<N: Named, R: Wait>(
+    rt: &R,
+    alloc: Global,
+    workers: Vec<Worker<N>>,
+    first: &Item,
+) -> Result<bool, Fail> {
+    let mut workers = workers;
+    let (Some(mut p), Some(q)) = (workers.pop(), workers.pop()) else {
+        return Err(Fail::from("no passes"));
+    };
+    let second = numbered(alloc, [b'a', b'a'], 2, 700)?;
+    let inside = look_inside(rt, q, &second);
+    let done = p.replace_and_roll_back(rt, &second);
+    Ok(done && inside == (0, Some(700)) && p.look(&first.key()) == (0, Some(1)))
 }
 
 /// Transactions that are dropped give back all that they took.

@@ -5,7 +5,7 @@ ghost use Rattle.trie_write.specs.Entries.{entries_of_items};
 
 use crate::crowd::{at_once, crowd, moved};
 use crate::rewriting::{compacted, rewritten};
-use crate::rows::{dropped, full, held, kept, told};
+use crate::rows::{dropped, full, held, kept, rolled_back, told};
 use crate::steps::{Any, put};
 use crate::worker::{numbered, workers};
 use shared_index::{Blank, Index, Named};
@@ -21,6 +21,7 @@ use trie_write::Item;
 enum Scene {
     Held,
     Told,
+    RolledBack,
     Dropped,
     Full,
     Kept,
@@ -50,6 +51,7 @@ fn run<N: Named + Send + Sync, R: Threads + Wait + Sync>(
     match scene {
         Scene::Held => held(rt, alloc, workers, first),
         Scene::Told => told(rt, alloc, workers, first),
+        Scene::RolledBack => rolled_back(rt, alloc, workers, first),
         Scene::Dropped => dropped(rt, alloc, workers),
         Scene::Full => full(rt, alloc, workers),
         Scene::Kept => kept(rt, alloc, workers, first),
@@ -61,7 +63,7 @@ fn run<N: Named + Send + Sync, R: Threads + Wait + Sync>(
     }
 }
 
-/// One pass commits, and the index is closed. The version that it then had.
+/// One pass commits, and the others close the index. The version that it then had.
 fn close<N: Named, R: Wait>(
     rt: &R,
     alloc: Global,
@@ -79,7 +81,6 @@ fn close<N: Named, R: Wait>(
         return Err(Fail::from("no passes"));
     };
     put(rt, &index, &mut writer, second);
-    passes.push(writer)?;
     Ok(index.close(passes))
 }
 
@@ -108,6 +109,12 @@ fn a_snapshot_stays_and_the_next_is_newer(rt: HostRuntime) -> Result<(), Fail> {
 #[test]
 fn a_note_tells_of_a_commit(rt: HostRuntime) -> Result<(), Fail> {
     assert!(rt; play(&rt, rt.alloc(), 64, 2, 600, Scene::Told)?);
+    Ok(())
+}
+
+#[test]
+fn a_working_set_is_gone_after_a_rollback(rt: HostRuntime) -> Result<(), Fail> {
+    assert!(rt; play(&rt, rt.alloc(), 16, 2, 600, Scene::RolledBack)?);
     Ok(())
 }
 

@@ -1,9 +1,10 @@
 //! A pass with its index, as tests use it.
-ghost use Rattle.std.specs.Prelude.{◌≡◌, ◌≤◌, IsSome, All};
+ghost use Rattle.std.specs.Prelude.{◌≡◌, ◌≤◌, IsSome, IsSomeAnd, All};
 ghost use Rattle.trie_read.specs.Readings.{IsHeld};
+ghost use Rattle.shared_index.specs.Drafts.{Works};
 
 use crate::steps::{Any, item};
-use shared_index::{ChangeRefusal, Full, Index, Locked, Named, Pass, Receipt};
+use shared_index::{ChangeRefusal, Full, Index, Locked, Named, Note, Pass, Receipt, Transaction};
 use shift_key::Key;
 use std::alloc::Global;
 use std::sync::Wait;
@@ -69,7 +70,7 @@ pub fn replace<N: Named, R: Wait>(
     }
 }
 
-/// Exchanges an item by a heavy transaction, and rolls it back. Whether it was exchanged meanwhile.
+/// Exchanges an item by a heavy transaction, and drops it. Whether it was exchanged meanwhile.
 fn replace_and_drop<N: Named, R: Wait>(
     rt: &R,
     index: &Index<Any, N>,
@@ -84,6 +85,51 @@ fn replace_and_drop<N: Named, R: Wait>(
     let mut locked = Locked::of(index);
     let mut update = index.update(rt, &mut locked, pass);
     update.replace(&item.key(), item.octets()).is_ok()
+}
+
+/// The base's number, and how long the item of a key is in the working set.
+fn peek<N: Named, K>(
+    transaction: &mut Transaction<'_, '_, Any, N, K>,
+    key: &Key,
+) -> (u64, Option<usize>)
+    requires { IsSomeAnd transaction.old.locked.now.draft Works }
+{
+    let mut out = [0; 4096];
+    let mut reading = transaction.working();
+    let number = reading.version();
+    (number, reading.fetch(key, &mut out))
+}
+
+/// Exchanges an item by a light transaction, and looks at it there. No version is made.
+pub fn look_inside<N: Named, R: Wait>(
+    rt: &R,
+    worker: Worker<N>,
+    item: &Item,
+) -> (u64, Option<usize>) {
+    let Worker { index, mut pass } = worker;
+    let mut locked = Locked::of(index);
+    let mut write = index.write(rt, &mut locked, &mut pass);
+    let _done = write.replace(&item.key(), item.octets());
+    peek(&mut write, &item.key())
+}
+
+/// Exchanges an item by a heavy transaction, and rolls it back. Whether it was exchanged meanwhile.
+fn replace_and_roll_back<N: Named, R: Wait>(
+    rt: &R,
+    index: &Index<Any, N>,
+    pass: &mut Pass<N>,
+    item: &Item,
+) -> bool
+    requires here { IsSome pass.old.seat }
+    requires place { pass.old.place ≡ index.now.place }
+    ensures here { IsSome pass.new.seat }
+    ensures place { pass.new.place ≡ index.now.place }
+{
+    let mut locked = Locked::of(index);
+    let mut update = index.update(rt, &mut locked, pass);
+    let done = update.replace(&item.key(), item.octets()).is_ok();
+    update.rollback();
+    done
 }
 
 /// Puts a name in, or takes it out, by a light transaction. Whether a version was made.
@@ -152,9 +198,14 @@ impl<'i, N: Named> Worker<'i, N> {
         replace(rt, self.index, &mut self.pass, item)
     }
 
-    /// Exchanges an item by a heavy transaction, and rolls it back. Whether it was exchanged meanwhile.
+    /// Exchanges an item by a heavy transaction, and drops it. Whether it was exchanged meanwhile.
     pub fn replace_and_drop<R: Wait>(&mut self, rt: &R, item: &Item) -> bool {
         replace_and_drop(rt, self.index, &mut self.pass, item)
+    }
+
+    /// Exchanges an item by a heavy transaction, and rolls it back. Whether it was exchanged meanwhile.
+    pub fn replace_and_roll_back<R: Wait>(&mut self, rt: &R, item: &Item) -> bool {
+        replace_and_roll_back(rt, self.index, &mut self.pass, item)
     }
 
     /// Puts a name in, or takes it out, by a light transaction. Whether a version was made.
@@ -165,6 +216,11 @@ impl<'i, N: Named> Worker<'i, N> {
     /// The version that a query shows, and the number at a key.
     pub fn look(&mut self, key: &Key) -> (u64, Option<u64>) {
         look(self.index, &mut self.pass, key)
+    }
+
+    /// Learns what a note tells, if it is of the same index.
+    pub fn learn(&mut self, note: Note<N>) -> bool {
+        learn(self.index, &mut self.pass, note)
     }
 
     /// Learns what another has seen.
@@ -197,6 +253,16 @@ fn learn_of<N: Named>(
     ensures places { (pass.new.place ≡ index.now.place) × (other.new.place ≡ of.now.place) }
 {
     let note = other.note(of);
+    learn(index, pass, note)
+}
+
+/// The pass learns what a note tells, if it is of the same index.
+fn learn<N: Named>(index: &Index<Any, N>, pass: &mut Pass<N>, note: Note<N>) -> bool
+    requires here { IsSome pass.old.seat }
+    requires place { pass.old.place ≡ index.now.place }
+    ensures here { IsSome pass.new.seat }
+    ensures place { pass.new.place ≡ index.now.place }
+{
     let same = note.place() == pass.place();
     if same {
         pass.learn(index, note);
