@@ -7,6 +7,8 @@ mod beside;
 #[cfg(test)]
 mod crowd;
 #[cfg(test)]
+mod rewriting;
+#[cfg(test)]
 mod rows;
 #[cfg(test)]
 mod scenes;

@@ -4,6 +4,7 @@ ghost use Rattle.trie_model.specs.Keys.{Rises};
 ghost use Rattle.trie_write.specs.Entries.{entries_of_items};
 
 use crate::crowd::{at_once, crowd, moved};
+use crate::rewriting::{compacted, rewritten};
 use crate::rows::{dropped, full, held, kept, rolled_back, told};
 use crate::steps::{Any, put};
 use crate::worker::{numbered, workers};
@@ -27,6 +28,8 @@ enum Scene {
     AtOnce,
     Moved,
     Crowd,
+    Rewritten,
+    Compacted,
 }
 
 /// Whether all was right.
@@ -55,6 +58,8 @@ fn run<N: Named + Send + Sync, R: Threads + Wait + Sync>(
         Scene::AtOnce => at_once(rt, workers),
         Scene::Moved => moved(rt, alloc, workers, first),
         Scene::Crowd => crowd(rt, alloc, workers),
+        Scene::Rewritten => rewritten(rt, alloc, workers),
+        Scene::Compacted => compacted(rt, workers),
     }
 }
 
@@ -146,6 +151,18 @@ fn a_snapshot_is_read_in_another_thread(rt: HostRuntime) -> Result<(), Fail> {
 #[test]
 fn readers_beside_a_writer(rt: HostRuntime) -> Result<(), Fail> {
     assert!(rt; play(&rt, rt.alloc(), 64, 9, 600, Scene::Crowd)?);
+    Ok(())
+}
+
+#[test]
+fn a_table_is_rewritten_for_long(rt: HostRuntime) -> Result<(), Fail> {
+    assert!(rt; play(&rt, rt.alloc(), 16, 1, 600, Scene::Rewritten)?);
+    Ok(())
+}
+
+#[test]
+fn compactions_keep_the_names(rt: HostRuntime) -> Result<(), Fail> {
+    assert!(rt; play(&rt, rt.alloc(), 16, 1, 600, Scene::Compacted)?);
     Ok(())
 }
 

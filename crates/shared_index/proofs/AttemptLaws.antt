@@ -1,5 +1,5 @@
 -- An operation on lent cells, as the seat that lent them knows it.
-use Rattle.std.proofs.Common.{◌≡◌, ◌↔◌, ◌∙◌, ℕ, ◌+◌, ◌*◌, ◌/◌, ◌≤◌, ◌==◌, Bool, true, false, List, map, length, slice_index, Option, Some, None, Result, Ok, Err, refl, sym, ap, subst, arith}
+use Rattle.std.proofs.Common.{◌≡◌, ◌↔◌, ◌∙◌, ℕ, ◌+◌, ◌*◌, ◌/◌, ◌≤◌, ◌==◌, Bool, true, false, List, map, length, slice_index, Option, Some, None, Result, Ok, Err, refl, sym, ap, subst}
 use Rattle.std.specs.Prelude.{IfOk, IfErr}
 use Rattle.std.specs.List.{Contains, range_with_len}
 use Rattle.std.proofs.lemmas.List.FromFn.{length-map-range_with_len}
@@ -87,7 +87,7 @@ ready_of cells u count a = record {
 }
 
 -- The cells were lent by a seat that knew so much, and came back as they are now.
-module _ (first lent : Cells) (v w : Known) (u n : Ledger) (root : Option ℕ) (c : Change) (r : Result (Option ℕ) Unchanged)
+module _ (first lent : Cells) (v w : Known) (u n : Ledger)
     (begun : first ≡ cells_with u v.turn) (back : cells_of lent.chunks w.turn ≡ record lent { kept = kept_in v.turn }) (seat : w ≡ with_words v lent.words)
     (frame : Fenced HasCell kept_references given_chunks account_of first u lent n) (ready : Ready kept_references given_chunks account_of lent n) (wide : lent.chunks ≡ length u.given)
     (count : ℕ) (agrees : Agrees (cells_with u v.turn) u count) where
@@ -97,39 +97,51 @@ module _ (first lent : Cells) (v w : Known) (u n : Ledger) (root : Option ℕ) (
   words_now : words_of w.turn ≡ lent.words
   words_now = ap (λ (k : Cells). k.words) back
 
-  enter : (es : List Entry) → StandsFor v u root es → IsRooted (HasCell first) u root es
-  enter es s = subst (λ (k : Cells). IsRooted (HasCell k) u root es) (sym begun) s
+  pub entered : (root : Option ℕ) (es : List Entry) → StandsFor v u root es → IsRooted (HasCell first) u root es
+  entered root es s = subst (λ (k : Cells). IsRooted (HasCell k) u root es) (sym begun) s
 
-  leave : (new : Option ℕ) (es : List Entry) → IsRooted (HasCell lent) n new es → StandsFor w n new es
-  leave new es s = rooted_there lent (cells_with n w.turn) chunks_now words_now n new es s
+  pub left : (new : Option ℕ) (es : List Entry) → IsRooted (HasCell lent) n new es → StandsFor w n new es
+  left new es s = rooted_there lent (cells_with n w.turn) chunks_now words_now n new es s
 
-  path_in : (twigs : ℕ) → PathHas v u root (key_of c) twigs → TwigsOnPath HasCell account_of first u root (key_of c) twigs
-  path_in twigs p = subst (λ (k : Cells). TwigsOnPath HasCell account_of k u root (key_of c) twigs) (sym begun) p
+  pub words_seat : w ≡ with_words v (words_of w.turn)
+  words_seat = seat ∙ ap (with_words v) (sym words_now)
+
+  pub wide_now : length n.given ≡ length u.given
+  wide_now = chunks_now ∙ wide
+
+  -- allocated chunks stay so
+  pub given_now : (k : ℕ) → is_given u k ≡ true → is_given n k ≡ true
+  given_now k h =
+      let old : IsGiven (given_chunks first) k = subst (λ (bs : List Bool). IsGiven bs k) (sym (ap given_chunks begun ∙ agrees.given)) (get_set u.given k h) in
+      get_or_from_slice_get n.given k true false (subst (λ (bs : List Bool). IsGiven bs k) ready.same (frame.given_stays k old))
 
   pub agrees_later : Agrees (cells_with n w.turn) n count
   agrees_later =
       let now : cells_with n w.turn ≡ record lent { kept = kept_in v.turn } = ap (λ (k : ℕ). cells_of k w.turn) chunks_now ∙ back in
-      agrees_grown (cells_with u v.turn) (cells_with n w.turn) u n count (chunks_now ∙ wide) (ap (λ (k : Cells). k.kept) now) (ap given_chunks now ∙ ready.same) frame.last frame.grows agrees
+      agrees_grown (cells_with u v.turn) (cells_with n w.turn) u n count wide_now (ap (λ (k : Cells). k.kept) now) (ap given_chunks now ∙ ready.same) frame.last frame.grows agrees
 
-  pub tried_of : IfOk r (λ new. (es : List Entry) → IsRooted (HasCell first) u root es → IsRooted (HasCell lent) n new (operated es (operation_of c)))
-      → ((es : List Entry) → IsRooted (HasCell first) u root es → (r ≡ Err Refused) ↔ IsRefused c es)
-      → IfErr r (λ _. (es : List Entry) → IsRooted (HasCell first) u root es → IsRooted (HasCell lent) n root es)
-      → IfErr r (λ _. Same HasCell account_of first u lent n)
-      → ((f : NoRoom) → r ≡ Err (Full f) → Lacks n f)
-      → ((twigs : ℕ) → TwigsOnPath HasCell account_of first u root (key_of c) twigs → spent n ≤ spent u + (written_by c + twigs))
-      → Tried c root v u w n r
-  tried_of done refused stays same full spends = record {
-    done = if_ok _ _ r (λ new h es s. leave new (operated es (operation_of c)) (h es (enter es s))) done;
-    refused = λ es s. refused es (enter es s);
-    stays = if_err _ _ r (λ e h es s. leave root es (h es (enter es s))) stays;
-    full = full;
-    same = seat ∙ ap (with_words v) (sym words_now);
-    wide = chunks_now ∙ wide;
-    frozen = frame.last;
-    given = λ k h.
-        let old : IsGiven (given_chunks first) k = subst (λ (bs : List Bool). IsGiven bs k) (sym (ap given_chunks begun ∙ agrees.given)) (get_set u.given k h) in
-        get_or_from_slice_get n.given k true false (subst (λ (bs : List Bool). IsGiven bs k) ready.same (frame.given_stays k old));
-    counts = if_err _ _ r (λ e s. s.counts) same;
-    path = if_err _ _ r (λ e s twigs p. path_there lent (cells_with n w.turn) chunks_now words_now n root (key_of c) twigs (path_later root (key_of c) twigs s.untouched frame.grows.stays s.counts (path_in twigs p))) same;
-    spends = λ twigs p. spends twigs (path_in twigs p);
-  }
+  -- an operation was tried on them
+  module _ (root : Option ℕ) (c : Change) (r : Result (Option ℕ) Unchanged) where
+    path_in : (twigs : ℕ) → PathHas v u root (key_of c) twigs → TwigsOnPath HasCell account_of first u root (key_of c) twigs
+    path_in twigs p = subst (λ (k : Cells). TwigsOnPath HasCell account_of k u root (key_of c) twigs) (sym begun) p
+
+    pub tried_of : IfOk r (λ new. (es : List Entry) → IsRooted (HasCell first) u root es → IsRooted (HasCell lent) n new (operated es (operation_of c)))
+        → ((es : List Entry) → IsRooted (HasCell first) u root es → (r ≡ Err Refused) ↔ IsRefused c es)
+        → IfErr r (λ _. (es : List Entry) → IsRooted (HasCell first) u root es → IsRooted (HasCell lent) n root es)
+        → IfErr r (λ _. Same HasCell account_of first u lent n)
+        → ((f : NoRoom) → r ≡ Err (Full f) → Lacks n f)
+        → ((twigs : ℕ) → TwigsOnPath HasCell account_of first u root (key_of c) twigs → spent n ≤ spent u + (written_by c + twigs))
+        → Tried c root v u w n r
+    tried_of done refused stays same full spends = record {
+      done = if_ok _ _ r (λ new h es s. left new (operated es (operation_of c)) (h es (entered root es s))) done;
+      refused = λ es s. refused es (entered root es s);
+      stays = if_err _ _ r (λ e h es s. left root es (h es (entered root es s))) stays;
+      full = full;
+      same = words_seat;
+      wide = wide_now;
+      frozen = frame.last;
+      given = given_now;
+      counts = if_err _ _ r (λ e s. s.counts) same;
+      path = if_err _ _ r (λ e s twigs p. path_there lent (cells_with n w.turn) chunks_now words_now n root (key_of c) twigs (path_later root (key_of c) twigs s.untouched frame.grows.stays s.counts (path_in twigs p))) same;
+      spends = λ twigs p. spends twigs (path_in twigs p);
+    }

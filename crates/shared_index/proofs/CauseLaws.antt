@@ -12,10 +12,9 @@ use Rattle.trie_model.specs.Reach.{row, in_chunk, weigh_tree}
 use Rattle.trie_model.proofs.ReachLaws.{live_is, second_true}
 use Rattle.chunk_usage.specs.declared.open.Open.{Open}
 use Rattle.chunk_usage.specs.declared.space.Full.{Full}
-use Rattle.chunk_usage.specs.Ledger.{Ledger, Frozen, Row, is_in_row, frozen_part, is_open, is_given, is_used, free_count, reserve_of}
+use Rattle.chunk_usage.specs.Ledger.{Ledger, Frozen, Row, is_in_row, frozen_part, is_open, is_given, free_count, reserve_of}
 use Rattle.chunk_usage.specs.Handing.{Lacks, spent}
 use Rattle.chunk_usage.specs.Keeping.{is_in_rows, is_needed, freed}
-use Rattle.chunk_usage.proofs.FlagLemmas.{set_within}
 use Rattle.chunk_usage.proofs.RecyclingLaws.{freed_by_chunk}
 use Rattle.zone_model.specs.Keys.{Leads}
 use Rattle.trie_read.specs.Reads.{EachTells}

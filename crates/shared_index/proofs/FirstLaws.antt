@@ -1,21 +1,19 @@
 -- An index is opened: what that asks for, and what the turn then agrees on.
-use Rattle.std.proofs.Common.{◌≡◌, ◌∙◌, ⊎_elim, inl, inr, ℕ, ◌+◌, ◌<◌, ◌≤◌, ◌==◌, Bool, true, false, List, [], ◌∷◌, ◌++◌, map, length, replicate, slice_index, get_or, set, Option, Some, None, refl, sym, ap, subst, arith}
-use Rattle.std.specs.List.{Contains, range_with_len, fold}
+use Rattle.std.proofs.Common.{◌≡◌, ◌∙◌, ⊎_elim, inl, inr, ℕ, ◌==◌, Bool, true, false, List, [], ◌∷◌, ◌++◌, map, length, replicate, slice_index, Option, Some, None, refl, sym, ap, subst, arith}
+use Rattle.std.specs.List.{Contains, range_with_len}
 use Rattle.std.proofs.lemmas.List.{same_lists, length-replicate, get_or-replicate, get_or-set_other, get_or_past}
 use Rattle.std.proofs.lemmas.Bool.{cases_lt}
 use Rattle.std.proofs.lemmas.List.FromFn.{get_or-map-range_with_len, length-map-range_with_len}
 use Rattle.pin_core.specs.declared.kept.CellAt.{CellAt}
 use Rattle.pin_core.specs.declared.kept.Kept.{Kept}
 use Rattle.pin_core.specs.Words.{status_at, size_of, word_count, current_word}
-use Rattle.pin_core.specs.Machine.{started}
 use Rattle.pin_core.proofs.Lists.{contains_cases}
 use Rattle.trie_model.specs.Keys.{Entry}
-use Rattle.chunk_usage.specs.Ledger.{Ledger, Row, Frozen, IsLedger, row_of, is_used, is_fresh, frozen_part, unused}
+use Rattle.chunk_usage.specs.Ledger.{Ledger, Row, IsLedger, row_of, is_used, is_fresh, unused}
 use Rattle.chunk_usage.specs.Keeping.{frozen}
-use Rattle.chunk_usage.specs.Handing.{spent}
 use Rattle.shared_cells.specs.declared.view.TableSize.{TableSize}
 use Rattle.shared_cells.specs.declared.view.TurnView.{TurnView}
-use Rattle.shared_cells.specs.Cells.{cells_of, given_chunks, kept_references}
+use Rattle.shared_cells.specs.Cells.{cells_of, given_chunks}
 use Rattle.shared_cells.specs.Views.{core_size, kept_in, kept_of, words_of, first_turn}
 use Rattle.shared_cells.specs.Steps.{CanOpen, IsImage}
 use Rattle.shared_index.specs.Operations.{applied}

@@ -1,11 +1,9 @@
 -- What is found by the words of the table is what the trie reaches.
-use Rattle.std.proofs.Common.{◌≡◌, ◌∙◌, ℕ, zero, suc, ◌+◌, ◌*◌, ◌/◌, ◌%◌, ◌^◌, ◌<◌, ◌≤◌, ◌==◌, Bool, true, false, if◌then◌else◌, List, [], ◌∷◌, ◌++◌, length, count_ones, slice_index, Option, Some, None, refl, sym, ap, arith, eq-eqb}
-use Rattle.std.proofs.lemmas.Bool.Decides.{nat_tests}
+use Rattle.std.proofs.Common.{◌≡◌, ◌∙◌, ℕ, zero, suc, ◌+◌, ◌*◌, ◌/◌, ◌%◌, ◌^◌, ◌<◌, ◌≤◌, ◌==◌, Bool, true, false, if◌then◌else◌, List, ◌∷◌, ◌++◌, length, count_ones, slice_index, refl, ap, arith, eq-eqb}
 use Rattle.std.proofs.lemmas.Nat.{mod-mul-add}
 use Rattle.packed_node.specs.declared.Cell.{Cell}
-use Rattle.packed_node.specs.Nodes.{IsNode}
 use Rattle.pin_core.specs.Words.{cell_at}
-use Rattle.trie_model.specs.Trees.{Tree, Twigs, IsTree, AreTwigs, count, cells_in, bitmap_of}
+use Rattle.trie_model.specs.Trees.{Tree, Twigs, IsTree, AreTwigs, count, bitmap_of}
 use Rattle.trie_model.specs.Trees.Tree.{leaf, branch}
 use Rattle.trie_model.specs.Trees.Twigs.{none, twig}
 use Rattle.trie_model.specs.Memory.{top_cell, Beneath, Lie}

@@ -1,17 +1,14 @@
 -- Why a call of a transaction finds no room.
-use Rattle.std.proofs.Common.{◌≡◌, ◌∙◌, ◌⊎◌, ℕ, ◌+◌, ◌-◌, ◌*◌, ◌/◌, ◌≤◌, List, [], length, map, take, slice_index, Option, Result, Err, refl, sym, ap, subst, arith, true, false}
-use Rattle.std.specs.Prelude.{IfErr, unwrap_or}
-use Rattle.std.specs.List.{All, Contains, sum_by}
+use Rattle.std.proofs.Common.{◌≡◌, ◌∙◌, ◌⊎◌, ℕ, ◌+◌, ◌≤◌, List, [], length, map, take, Option, Err, refl, sym, ap, subst, arith, true, false}
+use Rattle.std.specs.Prelude.{unwrap_or}
+use Rattle.std.specs.List.{All, sum_by}
 use Rattle.std.proofs.lemmas.List.Elements.{All-weaker}
 use Rattle.pin_core.specs.declared.kept.Kept.{Kept}
-use Rattle.zone_model.specs.Keys.{Leads}
 use Rattle.trie_model.specs.Keys.{Entry}
 use Rattle.trie_model.specs.Shape.{cells}
 use Rattle.trie_model.specs.Reach.{row}
-use Rattle.trie_model.specs.Trees.{cells_in}
 use Rattle.chunk_usage.specs.declared.space.Full.{Full as NoRoom}
 use Rattle.chunk_usage.specs.Ledger.{Ledger, Row, is_given, is_open, is_used}
-use Rattle.chunk_usage.specs.Keeping.{freed}
 use Rattle.chunk_usage.specs.Handing.{Lacks}
 use Rattle.shared_cells.specs.declared.view.Entry.{Entry as Commit}
 use Rattle.shared_cells.specs.History.{version_after}
@@ -19,10 +16,8 @@ use Rattle.shared_cells.specs.Views.{kept_in}
 use Rattle.shared_cells.specs.Cells.{HasCell}
 use Rattle.shared_index.specs.declared.change.Change.{Change}
 use Rattle.shared_index.specs.declared.change.Change.TheVariants as change
-use Rattle.shared_index.specs.declared.change.Unchanged.{Unchanged}
 use Rattle.shared_index.specs.declared.change.Unchanged.TheVariants as unchanged
 use Rattle.shared_index.specs.declared.desk.Draft.{Draft}
-use Rattle.shared_index.specs.declared.kept.Versions.{Versions}
 use Rattle.shared_index.specs.declared.refusal.Full.{Full}
 use Rattle.shared_index.specs.declared.meaning.Operation.{Operation}
 use Rattle.shared_index.specs.Operations.{applied}
@@ -33,7 +28,7 @@ use Rattle.shared_index.specs.Changes.{key_of, written_by, LeadsItem}
 use Rattle.shared_index.specs.Drafts.{Works, working_set}
 use Rattle.shared_index.specs.Tries.{Tried, PathHas}
 use Rattle.shared_index.specs.Keepings.{GoesOn, narrowed, numbers_of, versions_in}
-use Rattle.shared_index.specs.Fulls.{FullCause, Grown, after_room, cells_kept, version_at}
+use Rattle.shared_index.specs.Fulls.{FullCause, after_room, cells_kept, version_at}
 use Rattle.shared_index.proofs.CauseLaws.{NeededBy, each_needed, given_few, kept_images, live_of, many, met_or_opened, opened_is, few_taken, path_of, rows_met, some_live, some_row, taken}
 use Rattle.shared_index.proofs.RisenLaws.{with_open}
 

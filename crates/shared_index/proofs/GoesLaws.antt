@@ -1,19 +1,18 @@
 -- What a transaction's calls leave known.
-use Rattle.std.proofs.Common.{◌≡◌, ◌∙◌, inr, ℕ, ◌+◌, ◌≤◌, List, [], ◌∷◌, ◌++◌, length, Option, refl, sym, ap, subst, arith, append-nil, append_assoc}
+use Rattle.std.proofs.Common.{◌≡◌, ◌∙◌, inr, ℕ, ◌≤◌, List, [], ◌∷◌, ◌++◌, Option, sym, ap, subst, arith, append-nil, append_assoc}
 use Rattle.std.specs.List.{Contains}
 use Rattle.std.proofs.lemmas.List.Sums.{fold-append}
 use Rattle.pin_core.specs.declared.kept.Kept.{Kept}
 use Rattle.trie_model.specs.Keys.{Entry}
 use Rattle.chunk_usage.specs.Ledger.{Ledger}
-use Rattle.shared_cells.specs.declared.view.Entry.{Entry as Commit}
 use Rattle.shared_cells.specs.declared.view.Naming.{Naming}
 use Rattle.shared_cells.specs.Cells.{Cells, with_words}
 use Rattle.shared_index.specs.declared.meaning.Operation.{Operation}
 use Rattle.shared_index.specs.Operations.{operated, applied}
-use Rattle.shared_index.specs.Passes.{Known, version_seen}
+use Rattle.shared_index.specs.Passes.{Known, first_version, version_seen}
 use Rattle.shared_cells.specs.History.{version_after}
 use Rattle.std.specs.Prelude.{unwrap_or}
-use Rattle.shared_index.specs.Turns.{AgreesWithin, Agrees}
+use Rattle.shared_index.specs.Turns.{AgreesWithin}
 use Rattle.shared_index.specs.Keepings.{AreKept, GoesOn, numbers_of}
 
 pub words_go_on : (v w : Known) (words : List ℕ) → w ≡ with_words v words → GoesOn v w
@@ -35,6 +34,9 @@ goes_further {u} {v} {w} a b = record {
 -- the base is the same
 pub base_goes_on : {v w : Known} → GoesOn v w → version_seen w.seen ≡ version_seen v.seen
 base_goes_on {v} {w} g = ap (λ (o : Option (List Entry)). version_after applied (unwrap_or o []) w.seen.history) g.opening ∙ ap (version_after applied (unwrap_or v.seen.opening [])) g.history
+
+pub first_goes_on : {v w : Known} → GoesOn v w → first_version w.seen ≡ first_version v.seen
+first_goes_on g = ap (λ (o : Option (List Entry)). unwrap_or o []) g.opening
 
 -- one operation more
 pub applied_more : (es : List Entry) (operations : List Operation) (o : Operation) → applied es (operations ++ o ∷ []) ≡ operated (applied es operations) o

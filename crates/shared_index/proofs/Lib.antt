@@ -8,6 +8,7 @@ pub mod Walks
 pub mod OperationLaws
 pub mod ChangeLaws
 pub mod AttemptLaws
+pub mod MovingLaws
 pub mod RowLaws
 pub mod RoundLaws
 pub mod CountedLaws
@@ -28,3 +29,5 @@ pub mod FullLaws
 pub mod NamedLaws
 pub mod CloseLaws
 pub mod ReadingLaws
+pub mod CompactLaws
+pub mod SettleLaws

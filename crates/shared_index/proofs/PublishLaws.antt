@@ -1,5 +1,5 @@
 -- The working set is published, and frozen: what a publish asks for, and what the turn then agrees on.
-use Rattle.std.proofs.Common.{◌≡◌, ◌⊎◌, ◌∙◌, ⊎_elim, inl, inr, ℕ, suc, ◌+◌, ◌/◌, ◌<◌, ◌≤◌, ◌==◌, ◌^◌, Bool, true, false, List, [], ◌∷◌, ◌++◌, map, length, slice_index, Option, Some, None, refl, sym, ap, subst, arith, length-append}
+use Rattle.std.proofs.Common.{◌≡◌, ◌∙◌, ⊎_elim, inl, inr, ℕ, suc, ◌+◌, ◌<◌, ◌≤◌, ◌==◌, ◌^◌, Bool, true, false, List, [], ◌∷◌, ◌++◌, map, length, slice_index, Option, Some, refl, sym, ap, subst, arith, length-append}
 use Rattle.std.specs.Prelude.{unwrap_or}
 use Rattle.std.specs.List.{All, Contains, range_with_len}
 use Rattle.std.proofs.lemmas.List.{map-append}
@@ -8,7 +8,7 @@ use Rattle.std.proofs.lemmas.List.Sums.{fold-append}
 use Rattle.pin_core.specs.declared.kept.CellAt.{CellAt}
 use Rattle.pin_core.specs.declared.kept.Kept.{Kept}
 use Rattle.pin_core.specs.Words.{status_at, size_of}
-use Rattle.pin_core.proofs.Lists.{contains_cases, contains_later}
+use Rattle.pin_core.proofs.Lists.{contains_cases}
 use Rattle.trie_model.specs.Keys.{Entry}
 use Rattle.chunk_usage.specs.Ledger.{Ledger, Row, IsLedger, row_of, is_used, is_fresh}
 use Rattle.chunk_usage.specs.Keeping.{AreOlder, frozen}
@@ -18,7 +18,7 @@ use Rattle.shared_cells.specs.declared.view.TableSize.{TableSize}
 use Rattle.shared_cells.specs.declared.view.TurnView.{TurnView}
 use Rattle.shared_cells.specs.History.{entry_of, with_entry, version_after}
 use Rattle.shared_cells.specs.Views.{core_size, kept_in, kept_of, words_of}
-use Rattle.shared_cells.specs.Steps.{CanPublish, IsImage, Published}
+use Rattle.shared_cells.specs.Steps.{CanPublish, IsImage}
 use Rattle.shared_index.specs.declared.meaning.Operation.{Operation}
 use Rattle.shared_index.specs.Operations.{applied}
 use Rattle.shared_index.specs.Meanings.{IsVersion}
@@ -28,7 +28,7 @@ use Rattle.shared_index.specs.Bases.{StandsFor}
 use Rattle.shared_index.specs.Images.{image_at}
 use Rattle.shared_index.specs.Keepings.{AreKept, numbers_of}
 use Rattle.shared_index.proofs.KeepLaws.{immutable_used, immutable_of}
-use Rattle.shared_index.proofs.Lists.{all_of, all_from, all_flat, all_from_flat, contains_first, in_map, of_map}
+use Rattle.shared_index.proofs.Lists.{all_of, all_from, all_flat, all_from_flat, in_map, of_map}
 use Rattle.shared_index.proofs.VersionLaws.{version_image, image_fits, image_used, image_counts, live_counts, row_set}
 
 -- the last of the kept versions

@@ -1,7 +1,7 @@
 -- What a round leaves in place: the kept versions that it names, with their rows.
-use Rattle.std.proofs.Common.{◌≡◌, ◌⊎◌, ◌∙◌, ⊎_elim, inl, inr, ℕ, suc, ◌+◌, ◌<◌, ◌≤◌, ◌==◌, ◌||◌, Bool, true, false, true≢false, cond, List, [], ◌∷◌, ◌++◌, map, length, take, slice_index, Option, Some, None, refl, sym, ap, subst, arith, eq-eqb}
+use Rattle.std.proofs.Common.{◌≡◌, ◌⊎◌, ◌∙◌, ⊎_elim, inl, inr, ℕ, suc, ◌+◌, ◌<◌, ◌≤◌, ◌==◌, ◌||◌, Bool, true, false, cond, List, [], ◌∷◌, ◌++◌, map, length, take, slice_index, Option, Some, refl, sym, ap, subst, arith, eq-eqb}
 use Rattle.std.specs.Prelude.{IfSome, unwrap_or}
-use Rattle.std.specs.List.{All, AllPairs, Contains, filter, list_any, list_all, range_with_len}
+use Rattle.std.specs.List.{All, AllPairs, Contains, filter, list_any, range_with_len}
 use Rattle.std.proofs.lemmas.Bool.Decides.{eqb_tells}
 use Rattle.std.proofs.lemmas.List.{length-map}
 use Rattle.std.proofs.lemmas.List.Elements.{All-filter}
@@ -10,7 +10,7 @@ use Rattle.pin_core.specs.Words.{status_at}
 use Rattle.pin_core.specs.Machine.{names_version}
 use Rattle.pin_core.specs.declared.kept.CellAt.{CellAt}
 use Rattle.pin_core.specs.declared.kept.Kept.{Kept}
-use Rattle.pin_core.proofs.Lists.{contains_cases, contains_filter, contains_from_filter, pairs_head, pairs_tail}
+use Rattle.pin_core.proofs.Lists.{contains_cases, contains_filter, contains_from_filter}
 use Rattle.trie_model.specs.Keys.{Entry}
 use Rattle.chunk_usage.specs.Ledger.{Ledger, Row, newest}
 use Rattle.chunk_usage.specs.Keeping.{is_kept, is_row_of}
@@ -18,7 +18,7 @@ use Rattle.shared_cells.specs.declared.view.TurnView.{TurnView}
 use Rattle.shared_cells.specs.History.{version_after}
 use Rattle.shared_cells.specs.Views.{is_told, kept_in, words_of, namings_by}
 use Rattle.shared_cells.proofs.Seats.{told_there}
-use Rattle.shared_cells.specs.Steps.{Confirmed, Rounded, IsDue}
+use Rattle.shared_cells.specs.Steps.{Confirmed, Rounded}
 use Rattle.shared_index.specs.Operations.{applied}
 use Rattle.shared_index.specs.Meanings.{IsVersion}
 use Rattle.shared_index.specs.Passes.{Known}

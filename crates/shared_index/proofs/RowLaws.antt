@@ -1,12 +1,12 @@
 -- The rows of kept versions, some of which are dropped.
-use Rattle.std.proofs.Common.{◌≡◌, ◌≢◌, ◌⊎◌, ◌∙◌, inl, inr, ⊎_elim, ℕ, ◌<◌, ◌≤◌, ◌==◌, Bool, true, false, true≢false, not, cond, ◌&&◌, ◌||◌, List, [], ◌∷◌, ◌++◌, length, take, slice_index, Option, Some, None, refl, sym, ap, subst, arith, eq-eqb}
+use Rattle.std.proofs.Common.{◌≡◌, ◌≢◌, ◌∙◌, ⊎_elim, ℕ, ◌<◌, ◌≤◌, ◌==◌, Bool, true, false, true≢false, not, cond, ◌&&◌, ◌||◌, List, [], ◌∷◌, ◌++◌, length, take, slice_index, Option, Some, None, refl, sym, ap, arith, eq-eqb}
 use Rattle.std.specs.Prelude.{IfSome}
-use Rattle.std.specs.List.{AllPairs, Contains, filter, list_any}
+use Rattle.std.specs.List.{AllPairs, Contains, filter}
 use Rattle.std.proofs.lemmas.Bool.Decides.{nat_tests, eqb_tells}
 use Rattle.std.proofs.lemmas.List.{get_or-take, get_or_default, length-take-le}
 use Rattle.chunk_usage.specs.Ledger.{Row, newest}
 use Rattle.chunk_usage.specs.Keeping.{is_kept, is_row_of, without_row}
-use Rattle.pin_core.proofs.Lists.{contains_cases, contains_later, pairs_head, pairs_tail}
+use Rattle.pin_core.proofs.Lists.{contains_cases, contains_later}
 use Rattle.shared_index.specs.Keepings.{is_among, rows_of, rows_without}
 use Rattle.shared_index.proofs.Lists.{contains_first}
 

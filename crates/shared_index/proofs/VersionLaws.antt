@@ -1,28 +1,27 @@
 -- The cells that the working root reaches make the image of its version.
-use Rattle.std.proofs.Common.{◌≡◌, ◌≢◌, ◌∙◌, ⊎_elim, inl, inr, ℕ, zero, suc, ◌/◌, ◌<◌, ◌≤◌, ◌==◌, ◌+◌, ◌||◌, nat_lt, Bool, true, false, true≢false, cond, List, [], ◌∷◌, map, length, count_by, slice_index, get_or, Option, Some, None, refl, sym, ap, subst, arith, eq-eqb}
-use Rattle.std.specs.List.{All, AllPairs, Contains, list_all, list_any, range_with_len}
+use Rattle.std.proofs.Common.{◌≡◌, ◌≢◌, ◌∙◌, ⊎_elim, ℕ, zero, suc, ◌/◌, ◌<◌, ◌≤◌, ◌==◌, ◌+◌, ◌||◌, nat_lt, Bool, true, false, cond, List, [], ◌∷◌, map, length, count_by, slice_index, get_or, Option, Some, None, refl, sym, ap, subst, arith, eq-eqb}
+use Rattle.std.specs.List.{AllPairs, Contains, list_all, list_any, range_with_len}
 use Rattle.std.proofs.lemmas.Bool.Decides.{nat_tests}
 use Rattle.std.proofs.lemmas.Grind.{same_number_lists}
-use Rattle.std.proofs.lemmas.List.{same_lists, length-map, get_or-map, get_or_default}
+use Rattle.std.proofs.lemmas.List.{length-map, get_or-map, get_or_default}
 use Rattle.std.proofs.lemmas.List.FromFn.{get_or-map-range_with_len, length-map-range_with_len}
 use Rattle.std.proofs.lemmas.List.Elements.{All-weaker, All-contains_itself}
 use Rattle.std.proofs.lemmas.List.Sums.{sum_by-cons}
 use Rattle.packed_node.specs.declared.Cell.{Cell}
 use Rattle.pin_core.specs.declared.kept.CellAt.{CellAt}
-use Rattle.pin_core.specs.Words.{Size, cell_at, size_of}
-use Rattle.pin_core.specs.Sound.{HasRoot}
+use Rattle.pin_core.specs.Words.{cell_at, size_of}
 use Rattle.pin_core.specs.Machine.{image_of}
-use Rattle.pin_core.proofs.Lists.{contains_cases, contains_later}
+use Rattle.pin_core.proofs.Lists.{contains_cases}
 use Rattle.trie_model.specs.Keys.{Entry}
 use Rattle.trie_model.specs.Trees.{Tree}
-use Rattle.trie_model.specs.Memory.{top_cell, Beneath}
+use Rattle.trie_model.specs.Memory.{top_cell}
 use Rattle.trie_model.specs.Reach.{reach, reach_below}
 use Rattle.trie_model.proofs.MoveLaws.{beneath_kept, tree_weaker}
 use Rattle.trie_model.proofs.ReachLaws.{tested, tests, both_true, first_true, second_true}
 use Rattle.chunk_usage.specs.Ledger.{Ledger, IsLedger, is_used, row_of}
 use Rattle.zone_model.specs.Keys.{Leads}
 use Rattle.trie_read.specs.Reads.{EachTells}
-use Rattle.trie_write.specs.Standing.{Standing, StandsIn}
+use Rattle.trie_write.specs.Standing.{StandsIn}
 use Rattle.trie_write.proofs.RootLaws.{stands_later}
 use Rattle.chunk_usage.proofs.FlagLemmas.{get_set}
 use Rattle.chunk_usage.proofs.SpaceLaws.{used_given}

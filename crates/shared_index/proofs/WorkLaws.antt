@@ -1,15 +1,16 @@
 -- What a transaction's working set is after an operation, and after a round.
-use Rattle.std.proofs.Common.{◌≡◌, ◌⊎◌, ◌∙◌, ⊎_elim, inl, inr, ℕ, List, [], ◌∷◌, ◌++◌, length, Option, Some, None, Result, Ok, Err, refl, sym, ap, subst}
-use Rattle.std.specs.Prelude.{IfOk, IsOk}
+use Rattle.std.proofs.Common.{◌≡◌, ◌↔◌, ◌⊎◌, ◌∙◌, ⊎_elim, inl, inr, ℕ, List, [], ◌∷◌, ◌++◌, length, Option, Some, None, Result, Ok, Err, refl, sym, ap, subst, append_assoc}
+use Rattle.std.specs.Prelude.{IsOk}
 use Rattle.std.specs.List.{Contains}
 use Rattle.std.proofs.lemmas.List.Elements.{Contains-append_left}
 use Rattle.trie_model.specs.Keys.{Entry}
 use Rattle.chunk_usage.specs.declared.space.Full.{Full as NoRoom}
 use Rattle.chunk_usage.specs.Ledger.{Ledger}
 use Rattle.chunk_usage.specs.Handing.{Lacks}
+use Rattle.shared_cells.specs.declared.view.Entry.{Entry as Commit}
 use Rattle.shared_cells.specs.declared.view.Naming.{Naming}
+use Rattle.shared_cells.specs.History.{entry_of}
 use Rattle.shared_cells.specs.Views.{words_of}
-use Rattle.shared_cells.specs.Cells.{HasCell}
 use Rattle.shared_cells.specs.Steps.{IsNamed}
 use Rattle.shared_index.specs.declared.change.Change.{Change}
 use Rattle.shared_index.specs.declared.change.Unchanged.{Unchanged}
@@ -21,9 +22,9 @@ use Rattle.shared_index.specs.declared.meaning.Operation.{Operation}
 use Rattle.shared_index.specs.Operations.{operated, applied}
 use Rattle.shared_index.specs.Passes.{Known, version_seen}
 use Rattle.shared_index.specs.Turns.{cells_with}
-use Rattle.shared_index.specs.Bases.{IsRooted, StandsFor}
+use Rattle.shared_index.specs.Bases.{StandsFor}
 use Rattle.shared_index.specs.Changes.{operation_of, IsRefused}
-use Rattle.shared_index.specs.Drafts.{Works, Operates, IsFull, Between, working_set}
+use Rattle.shared_index.specs.Drafts.{Works, Operates, IsFull, Between, Commits, working_set}
 use Rattle.shared_index.specs.Tries.{Tried}
 use Rattle.shared_index.specs.Keepings.{GoesOn, narrowed, versions_in}
 use Rattle.shared_index.proofs.AttemptLaws.{rooted_there}
@@ -85,6 +86,33 @@ full_of room d full f on same named ends lacks request kept =
       ends = (ends.0, ap versions_in (kept ∙ same) ∙ ends.1 ∙ ap (λ (n : ℕ). ends.0 ++ n ∷ []) (sym (version_on room.seat.version d.seat.version on room.seat.version_is d.seat.version_is)));
     }
 
+-- the working set stays where no operation was done
+pub set_stays : (room d : Draft) → GoesOn room.seat.place.me.0 d.seat.place.me.0 → d.log.operations ≡ room.log.operations → working_set d ≡ working_set room
+set_stays room d g log = ap (applied (version_seen d.seat.place.me.0.seen)) log ∙ ap (λ (es : List Entry). applied es room.log.operations) (base_goes_on g)
+
+-- what a commit of it makes, after a view that goes on
+pub commits_from : {v w : Known} (operations : List Operation) (x : Known) → GoesOn v w → Commits w operations x → Commits v operations x
+commits_from {v} {w} operations x g c = record {
+  own = c.own;
+  joined = sym g.pass ∙ c.joined;
+  opening = c.opening ∙ g.opening;
+  history = c.history ∙ ap (λ (h : List (Commit (List Operation))). h ++ entry_of c.own.number operations ∷ []) g.history;
+  namings = (g.namings.0 ++ c.namings.0, c.namings.1 ∙ ap (λ (ns : List Naming). ns ++ c.namings.0) g.namings.1 ∙ append_assoc v.seen.namings g.namings.0 c.namings.0);
+  pass = c.pass;
+}
+
+-- an operation after a step that changed nothing of the working set
+pub operates_after : (o : Operation) (denied : List Entry → Type 0) (first room d : Draft) (A B : Type 0) → GoesOn first.seat.place.me.0 room.seat.place.me.0 → room.log.operations ≡ first.log.operations → room.seat.passes ≡ first.seat.passes
+    → Operates o denied room d A B → Operates o denied first d A B
+operates_after o denied first room d A B on log passes h = record {
+  known = goes_further on h.known;
+  works = h.works;
+  done = λ a. h.done a ∙ ap (λ (os : List Operation). os ++ o ∷ []) log;
+  stays = λ no. h.stays no ∙ log;
+  passes = h.passes ∙ passes;
+  refused = subst (λ (es : List Entry). B ↔ denied es) (set_stays first room on log) h.refused;
+}
+
 -- the same outcome under other names
 
 operates_as : (o : Operation) (denied : List Entry → Type 0) (old new : Draft) (A B C D : Type 0) → (C → A) → (A → C) → (B → D) → (D → B) → Operates o denied old new A B → Operates o denied old new C D
@@ -102,7 +130,3 @@ between_as o denied A B C D (Some d) (Some e) done still forth back h = operates
 between_as o denied A B C D (Some d) None done still forth back h = h
 between_as o denied A B C D None (Some e) done still forth back h = h
 between_as o denied A B C D None None done still forth back h = h
-
--- the working set stays where no operation was done
-pub set_stays : (room d : Draft) → GoesOn room.seat.place.me.0 d.seat.place.me.0 → d.log.operations ≡ room.log.operations → working_set d ≡ working_set room
-set_stays room d g log = ap (applied (version_seen d.seat.place.me.0.seen)) log ∙ ap (λ (es : List Entry). applied es room.log.operations) (base_goes_on g)

@@ -1,9 +1,11 @@
 -- Why a transaction's call finds no room.
-use Rattle.std.specs.Prelude.{◌≡◌, ◌⊎◌, ℕ, ◌+◌, ◌-◌, ◌*◌, ◌<◌, ◌≤◌, Bool, true, false, List, Contains, length, take, slice_index}
+use Rattle.std.specs.Prelude.{◌≡◌, ◌⊎◌, ℕ, ◌+◌, ◌-◌, ◌*◌, ◌<◌, ◌≤◌, true, false, List, Contains, length, take, slice_index}
 use Rattle.std.specs.List.{sum_by}
 use Rattle.trie_model.specs.Shape.{cells}
 use Rattle.chunk_usage.specs.Ledger.{Ledger, frozen_part, is_open, is_given, free_count, reserve_of}
 use Rattle.chunk_usage.specs.Keeping.{is_in_rows, freed}
+use Rattle.evacuate.specs.Evacuations.{HasSparse}
+use Rattle.evacuate.specs.Fillings.{IsFull as IsUsedUp}
 use Rattle.shared_cells.specs.History.{version_after}
 use Rattle.shared_index.specs.declared.desk.Draft.{Draft}
 use Rattle.shared_index.specs.declared.refusal.Full.{Full}
@@ -49,6 +51,15 @@ pub record Grown (old new : Ledger) : Type 0 where
   pub frozen : frozen_part new ≡ frozen_part old
   pub given : (k : ℕ) → is_given old k ≡ true → is_given new k ≡ true
 
--- The same, where the call's first try left some usage to the round.
+-- A call that found no room had made a round before, and had moved what lay in sparse chunks, so that the usage was u. What was frozen
+-- is as it was, but for the rows of versions that no pass reads.
+pub record Evacuated (old u : Ledger) (d : Draft) : Type 0 where
+  pub last_live : u.last_live ≡ old.last_live
+  pub last_open : u.last_open ≡ old.last_open
+  pub passes : u.passes ≡ old.passes
+  -- no chunk was free for what is left in sparse ones; or of each chunk that has cells that count, but the bump chunk, over 256 do
+  pub moved : (IsUsedUp u × HasSparse u) ⊎ ((k : ℕ) → 0 < slice_index d.usage.live k → is_open u.open_chunk k ≡ false → 256 < slice_index d.usage.live k)
+
+-- The same, where the call's first try, a round and an evacuation left some usage to the last round.
 abbrev pub CausedFrom : Ledger → Draft → List ℕ → ℕ → Full → Type 0
-CausedFrom old d key written f = (u : Ledger) × Grown old u × FullCause (after_room u f) d key written f
+CausedFrom old d key written f = (u : Ledger) × Evacuated old u d × FullCause (after_room u f) d key written f

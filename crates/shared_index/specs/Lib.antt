@@ -7,9 +7,11 @@ pub mod Drafts
 pub mod Logged
 pub mod Changes
 pub mod Tries
+pub mod Movings
 pub mod Keepings
 pub mod Images
 pub mod Openings
 pub mod Fulls
 pub mod Closings
 pub mod Receipts
+pub mod Compactions

@@ -1,5 +1,5 @@
 //! Commits: the working set becomes the next version.
-ghost use Rattle.std.specs.Prelude.{◌≡◌, ◌↔◌, ◌+◌, ◌^◌, ◌<◌, ◌≤◌, All, Some, IfOk, IfErr, IsErr, length};
+ghost use Rattle.std.specs.Prelude.{◌≡◌, ◌↔◌, ◌+◌, ◌^◌, ◌<◌, ◌≤◌, true, false, All, Some, IfOk, IfErr, IsErr, length};
 ghost use Rattle.chunk_usage.specs.Ledger.{free_count};
 ghost use Rattle.chunk_usage.specs.Keeping.{freed, frozen};
 ghost use Rattle.shared_cells.specs.Views.{kept_in, pass_of, words_of};
@@ -16,6 +16,7 @@ use crate::log::Log;
 use crate::meaning::{Law, Meaning, Operations, Version};
 use crate::recycling::free_unreached;
 use crate::rounds::make_round;
+use evacuate::Done;
 use packed_node::Ref;
 use pin_core::{LAST_VERSION, Spent, next_version};
 use shared_cells::{JoinedSeat, PassSeat, Payload, Shared};
@@ -30,17 +31,20 @@ pub struct Receipt {
     pub freed: u32,
     /// How many versions that round kept.
     pub kept: usize,
+    /// Not where cells were to be moved out of sparse chunks, and no chunk was free for them.
+    pub whole: bool,
 }
 
 impl Receipt {
     // The round kept these versions.
-    fn of(version: u64, freed: u32, kept: &Versions) -> Receipt
-        ensures { (result.version ≡ version) × (result.freed ≡ freed) × (result.kept ≡ length (versions_in kept.now)) }
+    fn of(version: u64, freed: u32, kept: &Versions, whole: bool) -> Receipt
+        ensures { (result.version ≡ version) × (result.freed ≡ freed) × (result.kept ≡ length (versions_in kept.now)) × (result.whole ≡ whole) }
     {
         Receipt {
             version,
             freed,
             kept: kept.as_slice().len(),
+            whole,
         }
     }
 }
@@ -82,7 +86,10 @@ fn publish<L: Law>(
 
 impl Draft {
     ghost use Rattle.shared_index.specs.Drafts.{Works, Commits, working_set};
-    ghost use Rattle.shared_index.specs.Receipts.{Recycles};
+    ghost use Rattle.shared_index.specs.Fulls.{Grown};
+    ghost use Rattle.shared_index.specs.Keepings.{GoesOn};
+    ghost use Rattle.shared_index.specs.Movings.{FewThin};
+    ghost use Rattle.shared_index.specs.Receipts.{Recycles, Rounds};
 
     // The number of the next version, if there is one.
     fn next_version<L: Law>(
@@ -104,10 +111,40 @@ impl Draft {
         next_version(self.seat.version)
     }
 
+    // Moves what the working set has in sparse chunks, where these are more than so many. Tells whether no more of them are left.
+    fn settle<L: Law>(
+        self,
+        shared: &Shared<Version, Operations, Meaning<L>>,
+        most: u32,
+    ) -> (Draft, bool)
+        requires table { self.seat.place.table_id ≡ shared.now.table.shared.table_id }
+        requires works { Works self }
+        ensures table { result.0.seat.place.table_id ≡ self.seat.place.table_id }
+        ensures goes_on { GoesOn self.seat.place.me.0 result.0.seat.place.me.0 }
+        ensures seen { result.0.seat.place.me.0.seen ≡ self.seat.place.me.0.seen }
+        ensures numbers { (result.0.seat.version ≡ self.seat.version) × (result.0.seat.passes ≡ self.seat.passes) }
+        ensures versions { kept_in result.0.seat.place.me.0.turn ≡ kept_in self.seat.place.me.0.turn }
+        ensures works { Works result.0 }
+        ensures log { result.0.log.operations ≡ self.log.operations }
+        ensures grown { Grown self.usage result.0.usage }
+        ensures whole { result.1 ≡ true → FewThin most result.0.usage }
+        ensures stopped { result.1 ≡ false → free_count result.0.usage ≡ 0 }
+    {
+        if self.usage.sparse() <= most {
+            return (self, true);
+        }
+        let (draft, done) = self.evacuate(shared);
+        match done {
+            Done::Whole => (draft, true),
+            Done::Stopped => (draft, false),
+        }
+    }
+
     // Publishes the working set, drops the versions that no pass reads, frees what nothing needs, and gives the pass back.
     fn publish<L: Law>(
         self,
         shared: &Shared<Version, Operations, Meaning<L>>,
+        whole: bool,
     ) -> (Desk, PassSeat<Version, Operations>, Receipt)
         requires table { self.seat.place.table_id ≡ shared.now.table.shared.table_id }
         requires newest { All (λ k. k.version ≤ self.seat.version) (kept_in self.seat.place.me.0.turn) }
@@ -120,7 +157,8 @@ impl Draft {
         ensures kept { result.2.kept ≡ length (versions_in result.0.kept) }
         ensures freed { free_count result.0.usage ≡ free_count self.usage + result.2.freed }
         ensures recycled { result.0.usage ≡ freed (narrowed (frozen self.usage result.2.version) (versions_in result.0.kept)) }
-        ensures receipt { Recycles self.seat.place.me.0 self.usage self.seat.passes result.1.place.me.0 result.2 }
+        ensures whole { result.2.whole ≡ whole }
+        ensures receipt { Rounds self.seat.place.me.0 self.usage self.seat.passes result.1.place.me.0 result.2 }
     {
         let Draft {
             mut seat,
@@ -136,7 +174,7 @@ impl Draft {
         let kept = make_round(shared, &mut seat, &mut usage, &before);
         let (seat, freed) = free_unreached(shared, seat, &mut usage);
         let (seat, pass) = seat.split(shared);
-        let receipt = Receipt::of(version, freed, &kept);
+        let receipt = Receipt::of(version, freed, &kept, whole);
         let desk = Desk {
             seat,
             usage,
@@ -146,10 +184,12 @@ impl Draft {
         (desk, pass, receipt)
     }
 
-    /// Makes the working set the next version. Where there is none, the base stays.
+    /// Makes the working set the next version. Where there is none, the base stays. What lies in sparse chunks is moved first, where
+    /// these are more than so many.
     pub(crate) fn commit<L: Law>(
         self,
         shared: &Shared<Version, Operations, Meaning<L>>,
+        most: u32,
     ) -> (Desk, PassSeat<Version, Operations>, Result<Receipt, Spent>)
         requires table { self.seat.place.table_id ≡ shared.now.table.shared.table_id }
         requires works { Works self }
@@ -157,10 +197,7 @@ impl Draft {
         ensures tables { (result.0.seat.place.table_id ≡ self.seat.place.table_id) × (result.1.place.table_id ≡ self.seat.place.table_id) }
         ensures commits { IfOk result.2 (λ _. Commits self.seat.place.me.0 self.log.operations result.1.place.me.0) }
         ensures version { IfOk result.2 (λ r. r.version ≡ self.seat.version + 1) }
-        ensures kept { IfOk result.2 (λ r. r.kept ≡ length (versions_in result.0.kept)) }
-        ensures freed { IfOk result.2 (λ r. free_count result.0.usage ≡ free_count self.usage + r.freed) }
-        ensures recycled { IfOk result.2 (λ r. result.0.usage ≡ freed (narrowed (frozen self.usage r.version) (versions_in result.0.kept))) }
-        ensures receipt { IfOk result.2 (λ r. Recycles self.seat.place.me.0 self.usage self.seat.passes result.1.place.me.0 r) }
+        ensures receipt { IfOk result.2 (λ r. Recycles most (working_set self) self.seat.place.me.0 self.usage self.seat.passes result.1.place.me.0 r) }
         ensures back { IfErr result.2 (λ _. result.1.place.me.0 ≡ pass_of self.seat.place.me.0) }
         ensures spent { IsErr result.2 ↔ (self.seat.version ≡ LAST_VERSION) }
         ensures last { IfErr result.2 (λ s. s.version ≡ self.seat.version) }
@@ -168,7 +205,8 @@ impl Draft {
         let mut draft = self;
         match draft.next_version(shared) {
             Ok(_) => {
-                let (desk, pass, receipt) = draft.publish(shared);
+                let (draft, whole) = draft.settle(shared, most);
+                let (desk, pass, receipt) = draft.publish(shared, whole);
                 (desk, pass, Ok(receipt))
             }
             Err(spent) => {

@@ -1,5 +1,5 @@
 //! Transactions: one at a time, each of a pass that has joined the turn.
-ghost use Rattle.std.specs.Prelude.{◌≡◌, ◌↔◌, ◌+◌, Some, Err, IsSome, IsNone, IfSome, IsSomeAnd, IsOk, IsErr, IfOk, IfErr, length, slice_get};
+ghost use Rattle.std.specs.Prelude.{◌≡◌, ◌≢◌, ◌↔◌, ◌+◌, Some, Err, IsSome, IsNone, IfSome, IsSomeAnd, IsOk, IsErr, IfOk, IfErr, length, slice_get};
 ghost use Rattle.shared_index.specs.Passes.{known_at};
 ghost use Rattle.std.specs.Option.{ForSome};
 ghost use Rattle.chunk_usage.specs.Keeping.{full};
@@ -30,11 +30,33 @@ pub struct Locked<'i, L: Law, N: Named> {
     ghost here: { ForSome draft (λ d. d.seat.place.table_id ≡ shared.now.table.shared.table_id) },
 }
 
+/// A kind of transaction.
+pub trait Kind {
+    ghost use Rattle.std.specs.Prelude.{ℕ};
+
+    // A commit moves what lies in sparse chunks where these are more than so many.
+    ghost MOST_SPARSE: { ℕ };
+
+    const MOST_SPARSE: u32;
+}
+
 /// A light transaction: what it writes goes on in the bump chunk.
 pub struct Light;
 
+impl Kind for Light {
+    ghost MOST_SPARSE = { 8 };
+
+    const MOST_SPARSE: u32 = 8;
+}
+
 /// A heavy transaction: it begins a chunk of its own.
 pub struct Heavy;
+
+impl Kind for Heavy {
+    ghost MOST_SPARSE = { 0 };
+
+    const MOST_SPARSE: u32 = 0;
+}
 
 /// A transaction on the current version, its base. Until it commits, what it writes is seen by nobody else. Dropping it rolls
 /// it back.
@@ -143,7 +165,7 @@ impl<'i, L: Law, N: Named> Locked<'i, L, N> {
     }
 
     // Makes the working set the next version, and gives the turn back. The pass has seen what was published.
-    fn commit(&mut self) -> (Pass<N>, Result<Receipt, Spent>)
+    fn commit(&mut self, most: u32) -> (Pass<N>, Result<Receipt, Spent>)
         requires works { IsSomeAnd self.old.draft Works }
         requires lawful { IsSomeAnd self.old.draft (λ d. L.lawful (first_version d.seat.place.me.0.seen) (working_set d)) }
         ensures here { IsSome result.0.seat }
@@ -153,12 +175,12 @@ impl<'i, L: Law, N: Named> Locked<'i, L, N> {
         ensures back { IfErr result.1 (λ _. IfSome self.old.draft (λ d. known_at result.0.seat ≡ pass_of d.seat.place.me.0)) }
         ensures spent { IfSome self.old.draft (λ d. IsErr result.1 ↔ (d.seat.version ≡ LAST_VERSION)) }
         ensures last { IfErr result.1 (λ s. IfSome self.old.draft (λ d. s.version ≡ d.seat.version)) }
-        ensures receipt { IfOk result.1 (λ r. IfSome self.old.draft (λ d. Recycles d.seat.place.me.0 d.usage d.seat.passes (known_at result.0.seat) r)) }
+        ensures receipt { IfOk result.1 (λ r. IfSome self.old.draft (λ d. Recycles most (working_set d) d.seat.place.me.0 d.usage d.seat.passes (known_at result.0.seat) r)) }
     {
         let Some(draft) = self.draft.take() else {
             unreachable!()
         };
-        let (desk, seat, outcome) = draft.commit(self.shared);
+        let (desk, seat, outcome) = draft.commit(self.shared, most);
         self.leave(desk);
         (self.pass_of(seat), outcome)
     }
@@ -267,6 +289,35 @@ impl<L: Law, N: Named> Index<L, N> {
     }
 }
 
+impl<L: Law, N: Named> Index<L, N> {
+    ghost use Rattle.shared_index.specs.Compactions.{Compacts, IsLast};
+
+    /// Waits for the turn, and makes the next version of the entries that the current one has. What it has in sparse chunks is moved to
+    /// others first. Where there is no next version, the current one stays.
+    pub fn compact<R: Wait>(&self, rt: &R, pass: &mut Pass<N>) -> Result<Receipt, Spent>
+        requires here { IsSome pass.old.seat }
+        requires place { pass.old.place ≡ self.now.place }
+        ensures here { IsSome pass.new.seat }
+        ensures place { pass.new.place ≡ pass.old.place }
+        ensures compacts { IfOk result (Compacts L.lawful self.now.shared.table.shared.key.passes (known_at pass.old.seat) (known_at pass.new.seat)) }
+        ensures next { IfOk result (λ r. r.version ≢ LAST_VERSION + 1) }
+        ensures back { IfErr result (IsLast L.lawful (known_at pass.old.seat) (known_at pass.new.seat)) }
+        ensures last { IfErr result (λ s. s.version ≡ LAST_VERSION) }
+    {
+        let (guard, draft) = self.join(rt, pass);
+        let (desk, seat, outcome) = draft.commit(&self.shared, 0);
+        let mut locked = Locked {
+            guard: Some(guard),
+            place: self.place,
+            shared: &self.shared,
+            draft: None,
+        };
+        locked.leave(desk);
+        *pass = locked.pass_of(seat);
+        outcome
+    }
+}
+
 impl<L: Law, N: Named, K> Drop for Transaction<'_, '_, L, N, K> {
     ghost use Rattle.shared_index.specs.Drafts.{IsBack};
 
@@ -304,13 +355,11 @@ impl<L: Law, N: Named, K> Transaction<'_, '_, L, N, K> {
 impl<L: Law, N: Named, K> Transaction<'_, '_, L, N, K> {
     ghost use Rattle.trie_model.specs.Keys.{Entry, InList};
     ghost use Rattle.zone_model.specs.Keys.{Leads};
-    ghost use Rattle.shared_index.specs.Drafts.{Works, Operates, IsFull, IsSame, Between, Commits, IsBack, working_set};
+    ghost use Rattle.shared_index.specs.Drafts.{Works, Operates, IsFull, IsSame, Between, working_set};
     ghost use Rattle.trie_read.specs.Readings.{Fetched};
     ghost use Rattle.shared_index.specs.Fulls.{CausedFrom};
-    ghost use Rattle.shared_index.specs.Receipts.{Recycles};
     ghost use Rattle.trie_model.specs.Trees.{cells_in};
     ghost use Rattle.shared_index.specs.declared.meaning.Operation.TheVariants as operation;
-    ghost use Rattle.shared_index.specs.Passes.{first_version};
 
     /// Reads the item of a key of the working set into the beginning of `out`, and gives its length; `None` where the key is not
     /// there.
@@ -379,8 +428,15 @@ impl<L: Law, N: Named, K> Transaction<'_, '_, L, N, K> {
             Err(Refusal::Full(full)) => Err(ChangeRefusal::Full(full)),
         }
     }
+}
 
-    /// Makes the working set the next version; where there is none, the base stays.
+impl<L: Law, N: Named, K: Kind> Transaction<'_, '_, L, N, K> {
+    ghost use Rattle.shared_index.specs.Drafts.{Works, Commits, IsBack, working_set};
+    ghost use Rattle.shared_index.specs.Receipts.{Recycles};
+    ghost use Rattle.shared_index.specs.Passes.{first_version};
+
+    /// Makes the working set the next version; where there is none, the base stays. What the working set has in sparse chunks is moved
+    /// first: by a heavy transaction always, by a light one where more than 8 chunks are sparse.
     pub fn commit(self) -> Result<Receipt, Spent>
         requires works { IsSomeAnd self.locked.now.draft Works }
         requires lawful { IsSomeAnd self.locked.now.draft (λ d. L.lawful (first_version d.seat.place.me.0.seen) (working_set d)) }
@@ -391,14 +447,14 @@ impl<L: Law, N: Named, K> Transaction<'_, '_, L, N, K> {
         ensures back { IfErr result (λ _. IfSome self.entry.locked.now.draft (λ d. IsBack d.seat.place.me.0 self.exit.0.now.seat)) }
         ensures spent { IfSome self.entry.locked.now.draft (λ d. IsErr result ↔ (d.seat.version ≡ LAST_VERSION)) }
         ensures last { IfErr result (λ s. IfSome self.entry.locked.now.draft (λ d. s.version ≡ d.seat.version)) }
-        ensures receipt { IfOk result (λ r. IfSome self.entry.locked.now.draft (λ d. Recycles d.seat.place.me.0 d.usage d.seat.passes (known_at self.exit.0.now.seat) r)) }
+        ensures receipt { IfOk result (λ r. IfSome self.entry.locked.now.draft (λ d. Recycles K.MOST_SPARSE (working_set d) d.seat.place.me.0 d.usage d.seat.passes (known_at self.exit.0.now.seat) r)) }
     {
         let Self {
             home,
             locked,
             kind: _,
         } = self;
-        let (pass, outcome) = locked.commit();
+        let (pass, outcome) = locked.commit(K::MOST_SPARSE);
         *home = pass;
         outcome
     }

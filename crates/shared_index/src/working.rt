@@ -1,5 +1,5 @@
-//! A transaction's operations: each is tried, and once more after a round where there is no room.
-ghost use Rattle.std.specs.Prelude.{◌≡◌, ◌⊎◌, ◌∷◌, ◌++◌, [], ℕ, List, Err, IsOk, IfErr, All, Contains};
+//! A transaction's operations: each is tried, and once more where there is no room, after rounds and an evacuation.
+ghost use Rattle.std.specs.Prelude.{◌≡◌, ◌⊎◌, ◌∷◌, ◌++◌, [], ℕ, List, Err, IsOk, IfErr, All, Contains, slice_index};
 ghost use Rattle.chunk_usage.specs.Handing.{Lacks};
 ghost use Rattle.chunk_usage.specs.Keeping.{freed};
 ghost use Rattle.shared_cells.specs.Views.{kept_in};
@@ -133,6 +133,7 @@ impl Draft {
         ensures operates { Operates (operation_of change.now) (IsRefused change.now) self result.0 (IsOk result.1) (result.1 ≡ Err Refusal.Name) }
         ensures full { (f : _) → result.1 ≡ Err (Refusal.Full f) → IsFull result.0 f }
         ensures cause { (f : _) → result.1 ≡ Err (Refusal.Full f) → FullCause (after_room self.usage f) result.0 (key_of change.now) (written_by change.now) f }
+        ensures counts { (f : _) → result.1 ≡ Err (Refusal.Full f) → (k : ℕ) → slice_index result.0.usage.live k ≡ slice_index self.usage.live k }
     {
         let draft = self.make_room(shared);
         let (draft, outcome) = draft.attempt(shared, change);
@@ -146,8 +147,27 @@ impl Draft {
         }
     }
 
-    /// Does an operation on the working set. Where there is no room it makes a round, frees what nothing needs, and tries once
-    /// more. After a refusal the working set is as before.
+    // Makes room, moves what lies in sparse chunks, for which the reserve is there, and makes room again; then it tries the operation.
+    fn change_at_last<L: Law>(
+        self,
+        shared: &Shared<Version, Operations, Meaning<L>>,
+        change: &Change<'_>,
+    ) -> (Draft, Result<(), Refusal>)
+        requires table { self.seat.place.table_id ≡ shared.now.table.shared.table_id }
+        requires leads { LeadsItem change.now }
+        requires works { Works self }
+        ensures table { result.0.seat.place.table_id ≡ self.seat.place.table_id }
+        ensures operates { Operates (operation_of change.now) (IsRefused change.now) self result.0 (IsOk result.1) (result.1 ≡ Err Refusal.Name) }
+        ensures full { (f : _) → result.1 ≡ Err (Refusal.Full f) → IsFull result.0 f }
+        ensures cause { (f : _) → result.1 ≡ Err (Refusal.Full f) → CausedFrom self.usage result.0 (key_of change.now) (written_by change.now) f }
+    {
+        let draft = self.make_room(shared);
+        let (draft, _done) = draft.evacuate(shared);
+        draft.change_in_room(shared, change)
+    }
+
+    /// Does an operation on the working set. Where there is no room it makes a round, frees what nothing needs, moves what lies in
+    /// sparse chunks, makes a round and frees again, and tries once more. After a refusal the working set is as before.
     pub(crate) fn change<L: Law>(
         self,
         shared: &Shared<Version, Operations, Meaning<L>>,
@@ -165,7 +185,7 @@ impl Draft {
         match outcome {
             Ok(()) => (draft, Ok(())),
             Err(Unchanged::Refused) => (draft, Err(Refusal::Name)),
-            Err(Unchanged::Full(_)) => draft.change_in_room(shared, change),
+            Err(Unchanged::Full(_)) => draft.change_at_last(shared, change),
         }
     }
 }

@@ -18,7 +18,7 @@ returns-clause-agrees g c =
     let back = c.into_joined.ensures in
     let chunks : length u.given ≡ c.args.shared.now.table.shared.key.chunks = same_chunks _ _ _ _ c.requires.wide c.args.shared.now.wide (same_words _ _ c.requires.table) in
     let wide : lent.chunks ≡ length u.given = same_chunks _ _ _ _ back.size c.requires.wide (same_words _ _ (sym c.requires.lent.0)) in
-    agrees_later c.lend-cells.result lent seat.place.me.0 c.into_joined.result.place.me.0 u c.change_trie-outcome.new.usage c.args.root c.args.change.now c.change_trie-outcome.result
+    agrees_later c.lend-cells.result lent seat.place.me.0 c.into_joined.result.place.me.0 u c.change_trie-outcome.new.usage
     (lent_begins _ _ _ _ _ c.lend-cells.ensures.cells c.requires.lent.1 chunks) (lent_back _ lent _ _ back.cells c.requires.lent.1) (lent_seat _ _ _ _ back.seat c.requires.lent.1)
     trie.frame trie.ready wide seat.passes c.requires.agrees
 
@@ -31,6 +31,6 @@ returns-clause-tried g c =
     let back = c.into_joined.ensures in
     let chunks : length u.given ≡ c.args.shared.now.table.shared.key.chunks = same_chunks _ _ _ _ c.requires.wide c.args.shared.now.wide (same_words _ _ c.requires.table) in
     let wide : lent.chunks ≡ length u.given = same_chunks _ _ _ _ back.size c.requires.wide (same_words _ _ (sym c.requires.lent.0)) in
-    tried_of c.lend-cells.result lent seat.place.me.0 c.into_joined.result.place.me.0 u c.change_trie-outcome.new.usage c.args.root c.args.change.now c.change_trie-outcome.result
+    tried_of c.lend-cells.result lent seat.place.me.0 c.into_joined.result.place.me.0 u c.change_trie-outcome.new.usage
     (lent_begins _ _ _ _ _ c.lend-cells.ensures.cells c.requires.lent.1 chunks) (lent_back _ lent _ _ back.cells c.requires.lent.1) (lent_seat _ _ _ _ back.seat c.requires.lent.1)
-    trie.frame trie.ready wide seat.passes c.requires.agrees trie.done trie.refused trie.stays trie.unchanged trie.full trie.spends
+    trie.frame trie.ready wide seat.passes c.requires.agrees c.args.root c.args.change.now c.change_trie-outcome.result trie.done trie.refused trie.stays trie.unchanged trie.full trie.spends

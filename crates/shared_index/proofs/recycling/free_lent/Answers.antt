@@ -1,4 +1,4 @@
-use Rattle.std.proofs.Common.{◌≡◌, ◌∙◌, ℕ, List, length, sym, ap, subst, refl}
+use Rattle.std.proofs.Common.{◌≡◌, ◌∙◌, ℕ, length, sym, ap, subst, refl}
 use Rattle.chunk_usage.specs.Ledger.{Ledger}
 use Rattle.chunk_usage.specs.Keeping.{freed}
 use Rattle.shared_cells.specs.Views.{kept_in, words_of}

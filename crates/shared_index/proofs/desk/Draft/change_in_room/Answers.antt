@@ -1,10 +1,11 @@
-use Rattle.std.proofs.Common.{◌≡◌, ◌∙◌, Result, Err, IfErr, ap, subst, sym}
+use Rattle.std.proofs.Common.{◌≡◌, ◌∙◌, Result, Err, IfErr, slice_index, ap, subst, sym}
 use borrow.Enum.Total.{values_d}
 use denote.Builtin.{unit}
 use Rattle.std.proofs.lemmas.Bool.{true≢false}
 use Rattle.std.specs.Prelude.{IsOk}
 use Rattle.std.specs.contracts.result.Result.{enum}
 use Rattle.shared_index.specs.contracts.change.Unchanged.{the_row}
+use Rattle.chunk_usage.specs.Ledger.{Ledger}
 use Rattle.chunk_usage.specs.Keeping.{freed}
 use Rattle.shared_index.specs.declared.kept.Versions.{Versions}
 use Rattle.shared_index.specs.Keepings.{narrowed}
@@ -52,3 +53,12 @@ returns-in-Err-Full-clause-cause g c f e =
     subst (λ full. FullCause (after_room u full) tried.result.0 (key_of change) (written_by change) full) same
     (cause_of u room.result tried.result.0 change c.in-Err-Full.full c.of-full.result (room.ensures.after ∙ ap (λ (v : Versions). freed (narrowed u (versions_in v))) (sym kept)) kept room.ensures.works room.ensures.images c.requires.leads stays root on
     (set_stays room.result tried.result.0 on (tried.ensures.operates.stays (λ h. true≢false (sym (subst (λ r. IsOk r) is h))))) (tried.ensures.full c.in-Err-Full.full is))
+
+pub returns-in-Err-Full-clause-counts : goal.returns-in-Err-Full-clause-counts
+returns-in-Err-Full-clause-counts g c f e k =
+    let room = c.make_room-draft in
+    let tried = c.attempt-draft in
+    let change = c.args.change.now in
+    let is = told g c in
+    let stays = subst (λ r. IfErr r (λ x. Tried change room.result.root room.result.seat.place.me.0 room.result.usage tried.result.0.seat.place.me.0 tried.result.0.usage (Err x))) is tried.ensures.tried in
+    stays.counts k ∙ ap (λ (l : Ledger). slice_index l.live k) room.ensures.after

@@ -1,4 +1,4 @@
-use Rattle.std.proofs.Common.{◌≡◌, ◌∙◌, ◌⊎◌, ⊎_elim, inl, inr, ◌∷◌, ◌++◌, [], ℕ, length, sym, ap}
+use Rattle.std.proofs.Common.{◌≡◌, ◌∙◌, ⊎_elim, inl, inr, ◌∷◌, ◌++◌, [], ℕ, sym, ap}
 use Rattle.shared_cells.specs.Views.{words_of}
 use Rattle.shared_cells.specs.Steps.{IsNamed}
 use Rattle.shared_index.specs.Drafts.{working_set}

@@ -1,4 +1,4 @@
-use Rattle.std.proofs.Common.{◌≡◌, ◌∙◌, ◌↔◌, ◌+◌, ◌*◌, ◌≤◌, ◌++◌, ◌∷◌, [], ℕ, List, length, Option, Some, refl, sym, ap, subst, arith, length-append}
+use Rattle.std.proofs.Common.{◌≡◌, ◌∙◌, ◌↔◌, ◌+◌, ◌*◌, ◌≤◌, ◌++◌, ◌∷◌, [], ℕ, List, length, Option, refl, sym, ap, subst, arith, length-append}
 use Rattle.std.specs.List.{Contains}
 use Rattle.std.proofs.lemmas.List.{length-replicate}
 use Rattle.pin_core.specs.declared.kept.Kept.{Kept}
@@ -6,17 +6,14 @@ use Rattle.pin_core.specs.declared.kept.Mark.{Mark}
 use Rattle.pin_core.specs.declared.kept.Mark.TheVariants as mark
 use Rattle.chunk_usage.specs.Ledger.{Ledger, Row, free_count}
 use Rattle.chunk_usage.specs.Keeping.{AreOlder, freed, frozen}
-use Rattle.shared_cells.specs.declared.view.Entry.{Entry as Commit}
 use Rattle.shared_cells.specs.declared.view.TurnView.{TurnView}
 use Rattle.shared_cells.specs.Views.{kept_in, kept_of, marks_of, namings_by, words_of}
-use Rattle.shared_cells.specs.Cells.{cells_of}
 use Rattle.shared_cells.specs.Steps.{IsDue}
 use Rattle.shared_cells.proofs.Seats.{turn_there, pass_there, told_there}
-use Rattle.shared_index.specs.declared.meaning.Operation.{Operation}
 use Rattle.shared_index.specs.Drafts.{working_set}
 use Rattle.shared_index.specs.Images.{image_at}
 use Rattle.shared_index.specs.Passes.{Known}
-use Rattle.shared_index.specs.Turns.{Agrees, AgreesWithin, cells_with, current_root, row_for}
+use Rattle.shared_index.specs.Turns.{Agrees, AgreesWithin, cells_with, current_root}
 use Rattle.shared_index.specs.Keepings.{AreKept, narrowed, numbers_of, versions_in}
 use Rattle.shared_index.proofs.PublishLaws.{all_older, can_publish, agrees_published, root_published, kept_published}
 use Rattle.shared_index.proofs.WordsLaws.{freed_chunks, same_chunks, same_words, words_kept}

@@ -1,10 +1,9 @@
-use Rattle.std.proofs.Common.{◌≡◌, ◌∙◌, ◌+◌, ◌*◌, ◌∷◌, [], ℕ, List, length, Option, Result, Some, refl, sym, ap, subst}
+use Rattle.std.proofs.Common.{◌≡◌, ◌∙◌, ◌+◌, ◌*◌, ◌∷◌, [], ℕ, length, Option, Result, sym, ap, subst}
 use Rattle.std.specs.Prelude.{IfOk}
 use Rattle.pin_core.specs.declared.kept.Kept.{Kept}
 use Rattle.chunk_usage.specs.declared.space.Full.{Full}
 use Rattle.chunk_usage.specs.Ledger.{Ledger, Frozen}
 use Rattle.trie_write.specs.Entries.{entries_of_items}
-use Rattle.shared_cells.specs.declared.view.TurnView.{TurnView}
 use Rattle.shared_cells.specs.Views.{kept_in, kept_of, words_of}
 use Rattle.shared_cells.proofs.Seats.{turn_there}
 use Rattle.shared_index.specs.Bases.{StandsFor}

@@ -1,4 +1,4 @@
-use Rattle.std.proofs.Common.{◌^◌, ◌<◌, ◌∙◌, ℕ, length, sym, ap, arith}
+use Rattle.std.proofs.Common.{◌^◌, ◌<◌, ◌∙◌, length, sym, ap, arith}
 use Rattle.shared_index.specs.Openings.{room_in}
 use Rattle.shared_index.proofs.SizeLaws.{cells_few}
 use Rattle.shared_index.proofs.index.Index.open.Goals as goal

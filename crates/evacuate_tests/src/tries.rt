@@ -1,0 +1,129 @@
+//! Tries of which most names have gone.
+
+ghost use Rattle.std.specs.Prelude.{◌≡◌, ◌<◌, ◌≤◌, ℕ, List, [], IfOk, IfSome, length};
+ghost use Rattle.zone_model.specs.Keys.{Leads};
+ghost use Rattle.trie_model.specs.Keys.{Entry, Rises};
+ghost use Rattle.trie_read.specs.Reads.{EachTells};
+ghost use Rattle.trie_write.specs.Entries.{entries_of_items};
+ghost use Rattle.trie_write.specs.Spaces.{Ready};
+ghost use Rattle.trie_write.specs.Standing.{HasTrie};
+
+use chunk_cells::{CellRead, CellWrite, PlainCells};
+use chunk_usage::{Space, Usage};
+use evacuate::{Done, evacuate};
+use packed_node::Ref;
+use std::alloc::{AllocError, Global};
+use trie_read::{count, nodes};
+use trie_write::{Item, build, delete};
+
+/// So many chunks, none of which is given.
+pub fn unused_room(alloc: Global, chunks: u32) -> Result<(PlainCells, Usage), AllocError>
+    requires some_chunks { 1 ≤ chunks }
+    requires few_chunks { chunks ≤ 4096 }
+    ensures uncounted { IfOk result (λ r. (k : ℕ) → (⟦<Usage as Space>⟧.account r.1).live k ≡ 0) }
+    ensures ready { IfOk result (λ r. Ready ⟦<PlainCells as CellWrite>⟧.kept ⟦<PlainCells as CellWrite>⟧.given ⟦<Usage as Space>⟧.account r.0 r.1) }
+{
+    let memory = PlainCells::new(alloc, chunks)?;
+    let usage = Usage::new(alloc, chunks, 2)?;
+    Ok((memory, usage))
+}
+
+/// The root with a name taken out, or as it is where the name stays.
+fn without<C: CellWrite, U: Space>(
+    cells: &mut C,
+    usage: &mut U,
+    root: Option<Ref>,
+    item: &Item,
+    stays: bool,
+) -> Option<Option<Ref>>
+    requires stands { (version : List Entry) × HasTrie C.has U.account cells.old usage.old root version × EachTells Leads version }
+    requires ready { Ready C.kept C.given U.account cells.old usage.old }
+    ensures stands { IfSome result (λ new. (version : List Entry) × HasTrie C.has U.account cells.new usage.new new version × EachTells Leads version) }
+    ensures ready { Ready C.kept C.given U.account cells.new usage.new }
+{
+    if stays {
+        return Some(root);
+    }
+    match delete(cells, usage, root, &item.key()) {
+        Err(_) => None,
+        Ok(new) => Some(new),
+    }
+}
+
+/// The root of the trie of the items, once all but one of so many are taken out.
+pub fn built_without<C: CellWrite, U: Space>(
+    cells: &mut C,
+    usage: &mut U,
+    items: &[Item],
+    so_many: usize,
+) -> Option<Option<Ref>>
+    requires rising { Rises (entries_of_items items.now) }
+    requires some { 0 < so_many }
+    requires uncounted { (k : ℕ) → (U.account usage.old).live k ≡ 0 }
+    requires ready { Ready C.kept C.given U.account cells.old usage.old }
+    ensures stands { IfSome result (λ root. (version : List Entry) × HasTrie C.has U.account cells.new usage.new root version) }
+    ensures ready { Ready C.kept C.given U.account cells.new usage.new }
+{
+    let mut root = match build(cells, usage, items) {
+        Err(_) => return None,
+        Ok(root) => root,
+    };
+    for i in 0..items.len() {
+        root = without(cells, usage, root, &items[i], i % so_many == 0)?;
+    }
+    Some(root)
+}
+
+/// What an evacuation did.
+#[derive(Clone, Copy, PartialEq, Eq, Debug)]
+pub struct Outcome {
+    /// How many chunks were sparse before.
+    pub sparse: u32,
+    pub done: Done,
+    /// How many names and nodes there are afterwards.
+    pub names: u64,
+    pub nodes: u64,
+}
+
+/// Builds the trie of the items, takes all but one of so many out, and moves what lies in sparse chunks.
+pub fn evacuated<C: CellWrite>(
+    cells: &mut C,
+    usage: &mut Usage,
+    items: &[Item],
+    so_many: usize,
+) -> Option<Outcome>
+    requires rising { Rises (entries_of_items items.now) }
+    requires some { 0 < so_many }
+    requires uncounted { (k : ℕ) → (⟦<Usage as Space>⟧.account usage.old).live k ≡ 0 }
+    requires ready { Ready C.kept C.given ⟦<Usage as Space>⟧.account cells.old usage.old }
+{
+    let root = built_without(cells, usage, items, so_many)?;
+    let sparse = usage.sparse();
+    let (new, done) = evacuate(cells, usage, root);
+    Some(Outcome {
+        sparse,
+        done,
+        names: count(cells, new),
+        nodes: nodes(cells, new),
+    })
+}
+
+/// How many chunks have cells that count.
+pub fn counted_chunks(usage: &Usage) -> u32 {
+    let mut counted: u32 = 0;
+    for chunk in 0..usage.chunks() {
+        if usage.live(chunk) > 0 {
+            counted = counted.saturating_add(1);
+        }
+    }
+    counted
+}
+
+/// How many cells count.
+pub fn live_cells(usage: &Usage) -> u64 {
+    let mut cells: u64 = 0;
+    for chunk in 0..usage.chunks() {
+        cells = cells.saturating_add(u64::from(usage.live(chunk)));
+    }
+    cells
+}

@@ -1,0 +1,37 @@
+use Rattle.std.proofs.Common.{◌≡◌, length, sym}
+use Rattle.shared_index.proofs.WordsLaws.{same_words, same_chunks, same_passes, lent_begins, lent_seat, lent_back}
+use Rattle.shared_index.proofs.AttemptLaws.{agrees_later}
+use Rattle.shared_index.proofs.MovingLaws.{moved_of}
+use Rattle.shared_index.proofs.evacuating.evacuate_lent.Goals as goal
+
+pub returns-clause-passes : goal.returns-clause-passes
+returns-clause-passes g c =
+    let seat = c.args.seat in
+    let view = lent_seat _ _ _ _ c.into_joined.ensures.seat c.requires.lent.1 in
+    same_passes seat.place.me.0 c.into_joined.result.place.me.0 c.evacuate-root.new.cells.words seat.passes c.into_joined.result.passes view seat.blank c.into_joined.result.blank
+
+pub returns-clause-agrees : goal.returns-clause-agrees
+returns-clause-agrees g c =
+    let seat = c.args.seat in
+    let u = c.args.usage.now in
+    let lent = c.evacuate-root.new.cells in
+    let trie = c.evacuate-root.ensures in
+    let back = c.into_joined.ensures in
+    let chunks : length u.given ≡ c.args.shared.now.table.shared.key.chunks = same_chunks _ _ _ _ c.requires.wide c.args.shared.now.wide (same_words _ _ c.requires.table) in
+    let wide : lent.chunks ≡ length u.given = same_chunks _ _ _ _ back.size c.requires.wide (same_words _ _ (sym c.requires.lent.0)) in
+    agrees_later c.lend-cells.result lent seat.place.me.0 c.into_joined.result.place.me.0 u c.evacuate-root.new.usage
+    (lent_begins _ _ _ _ _ c.lend-cells.ensures.cells c.requires.lent.1 chunks) (lent_back _ lent _ _ back.cells c.requires.lent.1) (lent_seat _ _ _ _ back.seat c.requires.lent.1)
+    trie.frame trie.ready wide seat.passes c.requires.agrees
+
+pub returns-clause-moved : goal.returns-clause-moved
+returns-clause-moved g c =
+    let seat = c.args.seat in
+    let u = c.args.usage.now in
+    let lent = c.evacuate-root.new.cells in
+    let trie = c.evacuate-root.ensures in
+    let back = c.into_joined.ensures in
+    let chunks : length u.given ≡ c.args.shared.now.table.shared.key.chunks = same_chunks _ _ _ _ c.requires.wide c.args.shared.now.wide (same_words _ _ c.requires.table) in
+    let wide : lent.chunks ≡ length u.given = same_chunks _ _ _ _ back.size c.requires.wide (same_words _ _ (sym c.requires.lent.0)) in
+    moved_of c.lend-cells.result lent seat.place.me.0 c.into_joined.result.place.me.0 u c.evacuate-root.new.usage
+    (lent_begins _ _ _ _ _ c.lend-cells.ensures.cells c.requires.lent.1 chunks) (lent_back _ lent _ _ back.cells c.requires.lent.1) (lent_seat _ _ _ _ back.seat c.requires.lent.1)
+    trie.frame trie.ready wide seat.passes c.requires.agrees c.args.root c.evacuate-root.result.0 c.evacuate-root.result.1 trie.stands trie.whole trie.stopped trie.left

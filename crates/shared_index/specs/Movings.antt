@@ -1,0 +1,35 @@
+-- What lies in sparse chunks, moved: on the turn's cells, from a root.
+use Rattle.std.specs.Prelude.{◌≡◌, ℕ, ◌≤◌, nat_lt, Bool, true, ◌&&◌, List, length, count_by, Option, slice_index}
+use Rattle.std.specs.List.{range_with_len}
+use Rattle.trie_model.specs.Keys.{Entry}
+use Rattle.chunk_usage.specs.Ledger.{Ledger, is_given, frozen_part}
+use Rattle.chunk_usage.specs.Counting.{is_sparse}
+use Rattle.evacuate.specs.declared.evacuation.Done.{Done}
+use Rattle.evacuate.specs.declared.evacuation.Done.TheVariants.{Whole, Stopped}
+use Rattle.evacuate.specs.Evacuations.{IsDense, HasSparse}
+use Rattle.evacuate.specs.Fillings.{IsFull as IsUsedUp}
+use Rattle.shared_cells.specs.Views.{words_of}
+use Rattle.shared_cells.specs.Cells.{with_words}
+use Rattle.shared_index.specs.Passes.{Known}
+use Rattle.shared_index.specs.Bases.{StandsFor}
+
+-- The new root stands for what the root stood for.
+pub record Moved (root : Option ℕ) (v : Known) (u : Ledger) (w : Known) (n : Ledger) (new : Option ℕ) (done : Done) : Type 0 where
+  pub stands : (es : List Entry) → StandsFor v u root es → StandsFor w n new es
+  -- what the turn knows is the same but for the words, and so is what was frozen; allocated chunks stay so
+  pub same : w ≡ with_words v (words_of w.turn)
+  pub wide : length n.given ≡ length u.given
+  pub frozen : frozen_part n ≡ frozen_part u
+  pub given : (k : ℕ) → is_given u k ≡ true → is_given n k ≡ true
+  -- of each chunk that has cells that count, but the bump chunk, over 256 do; or no chunk was free
+  pub whole : done ≡ Whole → IsDense n
+  pub stopped : done ≡ Stopped → IsUsedUp n
+  pub left : done ≡ Stopped → HasSparse n
+
+-- cells of the chunk count, but few of them do
+abbrev pub is_thin : Ledger → ℕ → Bool
+is_thin u k = is_sparse u k && nat_lt 0 (slice_index u.live k)
+
+-- at most so many chunks, beside the bump chunk, have cells that count and no more than 256 of them
+abbrev pub FewThin : ℕ → Ledger → Type 0
+FewThin most u = count_by (is_thin u) (range_with_len 0 (length u.given)) ≤ most

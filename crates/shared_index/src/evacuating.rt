@@ -1,0 +1,104 @@
+//! What lies in sparse chunks, moved by who has the turn.
+ghost use Rattle.std.specs.Prelude.{◌≡◌, ◌+◌, ◌*◌, List, length};
+ghost use Rattle.trie_model.specs.Keys.{Entry};
+ghost use Rattle.evacuate.specs.Evacuations.{IsDense, HasSparse};
+ghost use Rattle.evacuate.specs.Fillings.{IsFull as IsUsedUp};
+ghost use Rattle.shared_cells.specs.Views.{kept_in};
+ghost use Rattle.shared_index.specs.Turns.{Agrees, cells_with};
+ghost use Rattle.shared_index.specs.Bases.{StandsFor};
+ghost use Rattle.shared_index.specs.Movings.{Moved};
+
+use crate::desk::Draft;
+use crate::meaning::{Law, Meaning, Operations, Version};
+use chunk_usage::Usage;
+use evacuate::Done;
+use packed_node::Ref;
+use shared_cells::{JoinedSeat, Lent, Shared};
+use std::marker::Brand;
+
+/// The same, of cells whose seat is named.
+fn evacuate_lent<L: Law, B: Lent<Version, Operations>>(
+    shared: &Shared<Version, Operations, Meaning<L>>,
+    seat: JoinedSeat<Version, Operations>,
+    usage: &mut Usage,
+    root: Option<Ref>,
+) -> (JoinedSeat<Version, Operations>, Option<Ref>, Done)
+    requires table { seat.place.table_id ≡ shared.now.table.shared.table_id }
+    requires lent { (seat.place.table_id ≡ B.table) × (seat.place.me.0 ≡ B.view) }
+    requires wide { 4161 + 2048 * length usage.old.given ≡ seat.place.table_id.words }
+    requires agrees { Agrees (cells_with usage.old seat.place.me.0.turn) usage.old seat.passes }
+    requires stands { (es : List Entry) × StandsFor seat.place.me.0 usage.old root es }
+    ensures table { result.0.place.table_id ≡ seat.place.table_id }
+    ensures passes { result.0.passes ≡ seat.passes }
+    ensures agrees { Agrees (cells_with usage.new result.0.place.me.0.turn) usage.new seat.passes }
+    ensures moved { Moved root seat.place.me.0 usage.old result.0.place.me.0 usage.new result.1 result.2 }
+{
+    usage.known();
+    let mut cells = seat.lend::<Meaning<L>, B>(shared);
+    let (root, done) = evacuate::evacuate(&mut cells, usage, root);
+    (cells.into_joined(), root, done)
+}
+
+/// Moves what the trie of a root has in sparse chunks.
+fn evacuate<L: Law>(
+    shared: &Shared<Version, Operations, Meaning<L>>,
+    seat: JoinedSeat<Version, Operations>,
+    usage: &mut Usage,
+    root: Option<Ref>,
+) -> (JoinedSeat<Version, Operations>, Option<Ref>, Done)
+    requires table { seat.place.table_id ≡ shared.now.table.shared.table_id }
+    requires wide { 4161 + 2048 * length usage.old.given ≡ seat.place.table_id.words }
+    requires agrees { Agrees (cells_with usage.old seat.place.me.0.turn) usage.old seat.passes }
+    requires stands { (es : List Entry) × StandsFor seat.place.me.0 usage.old root es }
+    ensures table { result.0.place.table_id ≡ seat.place.table_id }
+    ensures passes { result.0.passes ≡ seat.passes }
+    ensures agrees { Agrees (cells_with usage.new result.0.place.me.0.turn) usage.new seat.passes }
+    ensures moved { Moved root seat.place.me.0 usage.old result.0.place.me.0 usage.new result.1 result.2 }
+{
+    evacuate_lent::<L, Brand>(shared, seat, usage, root)
+}
+
+impl Draft {
+    ghost use Rattle.shared_index.specs.Drafts.{Works};
+    ghost use Rattle.shared_index.specs.Fulls.{Grown};
+    ghost use Rattle.shared_index.specs.Keepings.{GoesOn};
+
+    /// Moves what the working set has in sparse chunks. The set is the same.
+    pub(crate) fn evacuate<L: Law>(
+        self,
+        shared: &Shared<Version, Operations, Meaning<L>>,
+    ) -> (Draft, Done)
+        requires table { self.seat.place.table_id ≡ shared.now.table.shared.table_id }
+        requires works { Works self }
+        ensures table { result.0.seat.place.table_id ≡ self.seat.place.table_id }
+        ensures goes_on { GoesOn self.seat.place.me.0 result.0.seat.place.me.0 }
+        ensures seen { result.0.seat.place.me.0.seen ≡ self.seat.place.me.0.seen }
+        ensures numbers { (result.0.seat.version ≡ self.seat.version) × (result.0.seat.passes ≡ self.seat.passes) }
+        ensures versions { kept_in result.0.seat.place.me.0.turn ≡ kept_in self.seat.place.me.0.turn }
+        ensures works { Works result.0 }
+        ensures log { result.0.log.operations ≡ self.log.operations }
+        ensures grown { Grown self.usage result.0.usage }
+        ensures whole { result.1 ≡ Done.Whole → IsDense result.0.usage }
+        ensures stopped { result.1 ≡ Done.Stopped → IsUsedUp result.0.usage }
+        ensures left { result.1 ≡ Done.Stopped → HasSparse result.0.usage }
+    {
+        let Draft {
+            seat,
+            mut usage,
+            base,
+            root,
+            log,
+            kept,
+        } = self;
+        let (seat, root, done) = evacuate(shared, seat, &mut usage, root);
+        let draft = Draft {
+            seat,
+            usage,
+            base,
+            root,
+            log,
+            kept,
+        };
+        (draft, done)
+    }
+}
