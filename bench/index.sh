@@ -35,6 +35,18 @@ use Rattle.index.proofs.ask_each.Given as goal
 
 abbrev pub invariant-loop-name : goal.invariant-loop-name
 invariant-loop-name g l = (IsSome l.pass.seat) × (l.pass.place ≡ l.index.place)
+== build_all/Invariants.antt
+use Rattle.std.proofs.Common.{[], ◌∷◌}
+use Rattle.index.proofs.build_all.Given as goal
+
+abbrev pub ghosts-open_all : goal.ghosts-open_all
+ghosts-open_all a = record { tables = a.blank.shared.table.shared.table_id ∷ [] }
+== work_alone/Invariants.antt
+use Rattle.std.proofs.Common.{[], ◌∷◌}
+use Rattle.index.proofs.work_alone.Given as goal
+
+abbrev pub ghosts-work_on : goal.ghosts-work_on
+ghosts-work_on g a = record { tables = a.blank.shared.table.shared.table_id ∷ [] }
 == get_each/Invariants.antt
 use Rattle.std.proofs.Common.{◌≡◌}
 use Rattle.index.proofs.get_each.Given as goal
@@ -166,15 +178,6 @@ invariant-loop-left l = record {
 
 abbrev pub decreases-loop-left : goal.decreases-loop-left
 decreases-loop-left l = l.left
-== run/Invariants.antt
-use Rattle.std.proofs.Common.{[], ◌∷◌}
-use Rattle.index.proofs.run.Given as goal
-
-abbrev pub ghosts-open_all : goal.ghosts-open_all
-ghosts-open_all g a = record { tables = a.blank.shared.table.shared.table_id ∷ [] }
-
-abbrev pub ghosts-work_on : goal.ghosts-work_on
-ghosts-work_on g a = record { tables = a.blank.shared.table.shared.table_id ∷ [] }
 == walk/Answers.antt
 use Rattle.std.proofs.Common.{List, [], ◌∷◌, ◌++◌, sym, subst}
 use Rattle.trie_model.specs.Keys.{Entry}
@@ -201,7 +204,7 @@ use Rattle.std.proofs.Common.{◌∙◌, sym}
 use Rattle.index.proofs.work_on.Goals as goal
 
 pub workers-requires : goal.workers-requires
-workers-requires g c k p l = let h = c.in-Some-2.ensures.passes k p l in (h.0, h.1 ∙ sym c.in-Some-2.ensures.place)
+workers-requires g c k p l = let h = c.in-Ok.ensures.passes k p l in (h.0, h.1 ∙ sym c.in-Ok.ensures.place)
 == workers/Invariants.antt
 use Rattle.std.proofs.Common.{◌≡◌, vec_len}
 use Rattle.std.specs.Prelude.{IsSome}

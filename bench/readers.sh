@@ -71,7 +71,7 @@ use Rattle.std.proofs.Common.{◌∙◌, sym}
 use Rattle.readers.proofs.run.Goals as goal
 
 pub workers-requires : goal.workers-requires
-workers-requires g c k p l = let h = c.in-Some-2.ensures.passes k p l in (h.0, h.1 ∙ sym c.in-Some-2.ensures.place)
+workers-requires g c k p l = let h = c.in-Ok.ensures.passes k p l in (h.0, h.1 ∙ sym c.in-Ok.ensures.place)
 == play/Invariants.antt
 use Rattle.std.proofs.Common.{[], ◌∷◌}
 use Rattle.readers.proofs.play.Given as goal
