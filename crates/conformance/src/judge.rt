@@ -54,7 +54,7 @@ struct Outcome {
 }
 
 /// Runs a case on an input, with the reads and writes of these numbers failing.
-fn outcome<R: Threads + Wait + Sync>(
+fn run_case<R: Threads + Wait + Sync>(
     rt: &R,
     alloc: Global,
     case: &Case,
@@ -101,11 +101,7 @@ fn is_cut_short(case: &Case, found: &Outcome) -> bool {
 }
 
 /// The reads and the writes that fail in a run whose number is given; without one, those that the case names.
-fn failing(
-    alloc: Global,
-    case: &Case,
-    number: u64,
-) -> Result<(Vec<u64>, Vec<u64>), AllocError> {
+fn failing(alloc: Global, case: &Case, number: u64) -> Result<(Vec<u64>, Vec<u64>), AllocError> {
     match case.in_turn {
         InTurn::None => Ok((case.reads.fails.clone()?, case.writes.fails.clone()?)),
         InTurn::Reads => Ok((vec![in alloc; number]?, Vec::new(alloc))),
@@ -121,7 +117,7 @@ fn runs_as_due<R: Threads + Wait + Sync + Print>(
 ) -> anyhow::Result<bool> {
     for number in 1..=MOST_CALLS {
         let (reads, writes) = failing(alloc, case, number)?;
-        let found = outcome(rt, alloc, case, case.input.as_bytes(), reads, writes)?;
+        let found = run_case(rt, alloc, case, case.input.as_bytes(), reads, writes)?;
         if is_one_of(&found, case.status, &case.outputs) {
             return Ok(true);
         }
@@ -145,7 +141,7 @@ fn cuts_as_due<R: Threads + Wait + Sync + Print>(
             bail!("nothing is due of {len} bytes");
         };
         let (reads, writes) = failing(alloc, case, 0)?;
-        let found = outcome(rt, alloc, case, &input[..len], reads, writes)?;
+        let found = run_case(rt, alloc, case, &input[..len], reads, writes)?;
         if found.status != cut.status || !is_like(&found.written, cut.output.as_bytes()) {
             println!(rt; "of {len} bytes")?;
             say_other(rt, alloc, case.name.as_str(), &found)?;

@@ -21,7 +21,7 @@ pub(crate) fn read_cases(alloc: Global, text: &str) -> anyhow::Result<Vec<Case>>
 fn read_line(alloc: Global, line: &str, case: &mut Case) -> anyhow::Result<()> {
     let (kind, rest) = line.split_once(' ').unwrap_or((line, ""));
     match kind {
-        "|" | "+" | "*" | "x" => push_text(text_of(case), kind, rest)?,
+        "|" | "+" | "*" | "x" => push_into(case, kind, rest)?,
         "zone" => case.input.push_str(ZONE)?,
         "words" => case.words = command_line(alloc, rest)?,
         "read" => case.reads = read_calls(alloc, rest)?,
@@ -41,11 +41,18 @@ fn read_line(alloc: Global, line: &str, case: &mut Case) -> anyhow::Result<()> {
 
 /// The text that lines go into: the last output that has begun, or before that the input.
 fn text_of(case: &mut Case) -> &mut String {
-    match (case.cuts.last_mut(), case.outputs.last_mut()) {
-        (Some(cut), _) => &mut cut.output,
-        (None, Some(output)) => output,
-        (None, None) => &mut case.input,
+    match case.outputs.last_mut() {
+        Some(output) => output,
+        None => &mut case.input,
     }
+}
+
+/// Puts a line's text behind what a cut input gives, if the case has come to that.
+fn push_into(case: &mut Case, kind: &str, rest: &str) -> anyhow::Result<()> {
+    if let Some(cut) = case.cuts.last_mut() {
+        return push_text(&mut cut.output, kind, rest);
+    }
+    push_text(text_of(case), kind, rest)
 }
 
 /// The most bytes that are left, and the status.

@@ -79,7 +79,7 @@ fn run_script<R: Threads + Wait + Sync>(
     let Ok(job) = read_job(alloc, script, 1, &origin) else {
         return Err(Fail::from("no job"));
     };
-    match run_zone(rt, alloc, 64, &origin, Vec::new(alloc), &job, &Open)? {
+    match run_zone(rt, alloc, 64, &origin, &[], &job, &Open)? {
         Ran::Finished(finished) => Ok(finished),
         Ran::DoesNotFit { .. } => Err(Fail::from("no room")),
     }

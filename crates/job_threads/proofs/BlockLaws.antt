@@ -30,7 +30,6 @@ use Rattle.zone_edit.specs.declared.applying.Halt.{Halt}
 use Rattle.zone_edit.specs.declared.applying.Halt.TheVariants as halts
 use Rattle.zone_edit.proofs.EditLaws.{Both, both, edits_some, some_weaker}
 use Rattle.job_threads.specs.Histories.{Setup, IsZone}
-use Rattle.job_threads.specs.Beginnings.{Began, HasBegun}
 use Rattle.job_threads.specs.Commands.{Transacts, BlockRan, StoppedBy}
 use Rattle.job_threads.proofs.TransactLaws.{Lawful, begun_some, commits_block, commits_grow, commits_version, back_grows, back_pass, back_version, rolled_back, rule_broken, spent_block, full_block}
 
@@ -189,39 +188,3 @@ full_chunks names place place' chunks a b (Some d) is_a is_b same wide there =
     let words : a.words ≡ b.words = (let e : a ≡ b = cc in ap (λ (t : TableId). t.words) e) in
     let mine : 4161 + 2048 * length d.usage.given ≡ b.words = d.wide ∙ ap (λ (t : TableId). t.words) (there d refl) in
     omega (arith, wide, words, mine)
-
--- ---- a transaction that has begun
-
--- some pass knew of its base
-pub begun_by : (first : Option Draft) → IsSomeAnd first HasBegun → (old : Known) × IsSomeAnd first (Begins Lawful old)
-begun_by (Some d) h = (h.old, h.begins)
-begun_by None h = absurd h
-
-pub has_begun : (old : Known) (first : Option Draft) → IsSomeAnd first (Begins Lawful old) → IsSomeAnd first HasBegun
-has_begun old (Some d) b = record { old = old; begins = b }
-has_begun old None b = absurd b
-
-pub began_as : (s : Setup) (origin : Name) (old : Known) (first : Option Draft) → s.origin ≡ origin → is_told old.seen.opening ≡ true → first_version old.seen ≡ s.opening → IsSomeAnd first (Begins Lawful old)
-    → IfSome first (λ d. s.chunks ≡ length d.usage.given) → IfSome first (λ d. s.passes ≡ d.seat.passes) → IsSomeAnd first (Began s origin old)
-began_as s origin old (Some d) same told opening begins chunks passes = record { origin_is = same; told = told; opening = opening; begins = begins; chunks = chunks; passes = passes }
-began_as s origin old None same told opening begins chunks passes = absurd begins
-
--- what is so of it, whatever its draft
-pub record BeganOn (s : Setup) (origin : Name) (old : Known) (first : Option Draft) : Type 0 where
-  pub origin_is : s.origin ≡ origin
-  pub told : is_told old.seen.opening ≡ true
-  pub opening : first_version old.seen ≡ s.opening
-  pub begins : IsSomeAnd first (Begins Lawful old)
-  pub passes : IfSome first (λ d. s.passes ≡ d.seat.passes)
-  pub wide : (a : TableId) → ForSome first (λ d. d.seat.place.table_id ≡ a) → 4161 + 2048 * s.chunks ≡ a.words
-
-pub began_on : (s : Setup) (origin : Name) (old : Known) (first : Option Draft) → IsSomeAnd first (Began s origin old) → BeganOn s origin old first
-began_on s origin old (Some d) b = record {
-  origin_is = b.origin_is;
-  told = b.told;
-  opening = b.opening;
-  begins = b.begins;
-  passes = b.passes;
-  wide = λ a there. ap (λ n. 4161 + 2048 * n) b.chunks ∙ d.wide ∙ ap (λ (t : TableId). t.words) (there d refl);
-}
-began_on s origin old None b = absurd b

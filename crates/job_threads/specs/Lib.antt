@@ -1,5 +1,5 @@
 pub mod Histories
-pub mod Beginnings
+pub mod Weights
 pub mod Commands
 pub mod Steps
 pub mod Stations

@@ -5,10 +5,11 @@ ghost use Rattle.job_script.specs.Outcomes.{ended_view};
 ghost use Rattle.job_script.specs.Views.{operation_view};
 ghost use Rattle.shared_index.specs.Passes.{known_at};
 ghost use Rattle.shared_index.specs.Keepings.{versions_in};
+ghost use Rattle.zone_edit.specs.Stores.{WorksOnSome, Edits};
+ghost use Rattle.zone_edit.specs.Blocks.{AppliesAll};
 ghost use Rattle.job_threads.specs.Histories.{Setup};
-ghost use Rattle.job_threads.specs.Beginnings.{Began, HasBegun, IsOfWeight};
 ghost use Rattle.job_threads.specs.Commands.{IsSetup, BlockRan, StoppedBy};
-ghost use Rattle.shared_index.specs.Passes.{Known};
+ghost use Rattle.job_threads.specs.Weights.{IsOfWeight};
 
 use crate::law::ZoneLaw;
 use dns_name::Name;
@@ -62,33 +63,90 @@ fn committed(receipt: Result<Receipt, Spent>) -> Outcome
     }
 }
 
-// Runs a block in a transaction that has begun as its weight says, by way of buffers for items.
-fn run_in<N: Named, K>(
+// Makes a block's changes in a transaction that began as its weight says: a heavy block's cells begin a chunk of their own, and a
+// light one's go on in the bump chunk.
+fn edit<N: Named, K>(
     alloc: Global,
     origin: &Name,
-    mut transaction: Transaction<'_, '_, ZoneLaw, N, K>,
+    transaction: &mut Transaction<'_, '_, ZoneLaw, N, K>,
+    block: &Block,
+    buffers: &mut ItemBuffers,
+) -> Result<(), Halt>
+    requires works { IsSomeAnd transaction.old.locked.now.draft WorksOnSome }
+    requires weight { IsSomeAnd transaction.old.locked.now.draft (IsOfWeight block.now.weight) }
+    ensures same_reference { (transaction.new.home.ghost_name ≡ transaction.old.home.ghost_name) × (transaction.new.locked.ghost_name ≡ transaction.old.locked.ghost_name) }
+    ensures place { transaction.new.locked.now.place ≡ transaction.old.locked.now.place }
+    ensures applies { Edits (AppliesAll origin.now (map operation_view block.now.operations.items) result) transaction.old.locked.now.draft transaction.new.locked.now.draft }
+{
+    apply_all(alloc, origin, transaction, &block.operations, buffers)
+}
+
+// Runs a block as a light transaction, by way of buffers for items.
+fn write_block<R: Wait, N: Named>(
+    rt: &R,
+    alloc: Global,
+    origin: &Name,
+    index: &Index<ZoneLaw, N>,
+    pass: &mut Pass<N>,
     block: &Block,
     buffers: &mut ItemBuffers,
 ) -> Result<Outcome, AllocError>
-    requires begun { IsSomeAnd transaction.locked.now.draft HasBegun }
-    // A heavy block's cells begin a chunk of their own, and a light one's go on in the bump chunk.
-    requires weight { IsSomeAnd transaction.locked.now.draft (IsOfWeight block.now.weight) }
-    ensures here { IsSome transaction.exit.0.now.seat }
-    ensures place { transaction.exit.0.now.place ≡ transaction.entry.locked.now.place }
-    ensures ran { (s : Setup) (old : Known) → IsSomeAnd transaction.entry.locked.now.draft (Began s origin.now old)
-        → IfOk result (BlockRan s (map operation_view block.now.operations.items) block.now.ending old (known_at transaction.exit.0.now.seat)) }
+    requires here { IsSome pass.old.seat }
+    requires place { pass.old.place ≡ index.now.place }
+    requires light { block.now.weight ≡ Weight.Light }
+    ensures here { IsSome pass.new.seat }
+    ensures place { pass.new.place ≡ pass.old.place }
+    ensures ran { (s : Setup) → IsSetup s origin.now index.now.shared.table.shared.key (known_at pass.old.seat)
+        → IfOk result (BlockRan s (map operation_view block.now.operations.items) block.now.ending (known_at pass.old.seat) (known_at pass.new.seat)) }
 {
-    let version = transaction.version();
-    let operations = &block.operations;
-    if let Err(halt) = apply_all(alloc, origin, &mut transaction, operations, buffers) {
+    let mut locked = Locked::of(index);
+    let mut write = index.write(rt, &mut locked, pass);
+    let version = write.version();
+    if let Err(halt) = edit(alloc, origin, &mut write, block, buffers) {
         return stopped(alloc, version, halt);
     }
     match block.ending {
-        Ending::Commit => Ok(committed(transaction.commit())),
+        Ending::Commit => Ok(committed(write.commit())),
         Ending::Rollback => Ok(Outcome {
             version,
             told: Told::RolledBack,
         }),
+    }
+}
+
+// Runs a block as a heavy transaction.
+fn update_block<R: Wait, N: Named>(
+    rt: &R,
+    alloc: Global,
+    origin: &Name,
+    index: &Index<ZoneLaw, N>,
+    pass: &mut Pass<N>,
+    block: &Block,
+    buffers: &mut ItemBuffers,
+) -> Result<Outcome, AllocError>
+    requires here { IsSome pass.old.seat }
+    requires place { pass.old.place ≡ index.now.place }
+    requires heavy { block.now.weight ≡ Weight.Heavy }
+    ensures here { IsSome pass.new.seat }
+    ensures place { pass.new.place ≡ pass.old.place }
+    ensures ran { (s : Setup) → IsSetup s origin.now index.now.shared.table.shared.key (known_at pass.old.seat)
+        → IfOk result (BlockRan s (map operation_view block.now.operations.items) block.now.ending (known_at pass.old.seat) (known_at pass.new.seat)) }
+{
+    let mut locked = Locked::of(index);
+    let mut update = index.update(rt, &mut locked, pass);
+    let version = update.version();
+    if let Err(halt) = edit(alloc, origin, &mut update, block, buffers) {
+        return stopped(alloc, version, halt);
+    }
+    match block.ending {
+        Ending::Commit => Ok(committed(update.commit())),
+        Ending::Rollback => {
+            update.rollback();
+            Ok(Outcome {
+                version,
+                told: Told::RolledBack,
+            })
+        }
     }
 }
 
@@ -110,15 +168,8 @@ pub fn run_block<R: Wait, N: Named>(
     ensures ran { (s : Setup) → IsSetup s origin.now index.now.shared.table.shared.key (known_at pass.old.seat)
         → IfOk result (BlockRan s (map operation_view block.now.operations.items) block.now.ending (known_at pass.old.seat) (known_at pass.new.seat)) }
 {
-    let mut locked = Locked::of(index);
     match block.weight {
-        Weight::Light => {
-            let write = index.write(rt, &mut locked, pass);
-            run_in(alloc, origin, write, block, buffers)
-        }
-        Weight::Heavy => {
-            let update = index.update(rt, &mut locked, pass);
-            run_in(alloc, origin, update, block, buffers)
-        }
+        Weight::Light => write_block(rt, alloc, origin, index, pass, block, buffers),
+        Weight::Heavy => update_block(rt, alloc, origin, index, pass, block, buffers),
     }
 }

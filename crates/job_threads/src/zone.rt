@@ -29,26 +29,25 @@ pub enum Ran {
     DoesNotFit { cells: u64, limit: u64 },
 }
 
-// The same, on a table that is named. The items go once the index has its own copy.
+// The same, on a table that is named.
 fn run_named<R: Threads + Wait + Sync, N: Named + Send + Sync, G: Gate>(
     rt: &R,
     alloc: Global,
     blank: Blank<ZoneLaw>,
     origin: &Name,
-    items: Vec<Item>,
+    items: &[Item],
     job: &Job,
     gate: &G,
 ) -> Result<Ran, AllocError>
     requires named { slice_get N.tables 0 ≡ Some blank.shared.table.shared.table_id }
     requires passes { blank.shared.table.shared.key.passes ≡ passes_for (length job.now.workers.items) }
-    requires zone { IsZone (entries_of_items items.items) }
+    requires zone { IsZone (entries_of_items items.now) }
     requires in_turn { AllByRecursion (InTurn false) (job_view job.now) }
-    ensures { (zone : Version) → StandsAs (entries_of_items items.items) zone
+    ensures { (zone : Version) → StandsAs (entries_of_items items.now) zone
         → IfOk result (RanOn blank.shared.table.shared.key.chunks origin.now zone (job_view job.now)) }
 {
-    match Index::<ZoneLaw, N>::open(alloc, blank, 0, &items) {
+    match Index::<ZoneLaw, N>::open(alloc, blank, 0, items) {
         Ok((index, passes)) => {
-            drop(items);
             let finished = run_job(rt, alloc, origin, index, passes, job, gate)?;
             Ok(Ran::Finished(finished))
         }
@@ -63,16 +62,16 @@ pub fn run_zone<R: Threads + Wait + Sync, G: Gate>(
     alloc: Global,
     chunks: u32,
     origin: &Name,
-    items: Vec<Item>,
+    items: &[Item],
     job: &Job,
     gate: &G,
 ) -> Result<Ran, AllocError>
     requires enough { 16 ≤ chunks }
     requires few { chunks ≤ 4096 }
     requires few_workers { length job.now.workers.items ≤ 16 }
-    requires zone { IsZone (entries_of_items items.items) }
+    requires zone { IsZone (entries_of_items items.now) }
     requires in_turn { AllByRecursion (InTurn false) (job_view job.now) }
-    ensures { (zone : Version) → StandsAs (entries_of_items items.items) zone → IfOk result (RanOn chunks origin.now zone (job_view job.now)) }
+    ensures { (zone : Version) → StandsAs (entries_of_items items.now) zone → IfOk result (RanOn chunks origin.now zone (job_view job.now)) }
 {
     let passes = 2 * job.workers.len() as u32 + 1;
     let blank = Blank::<ZoneLaw>::new(alloc, chunks, passes)?;

@@ -64,7 +64,7 @@ fn run_script<R: Threads + Wait + Sync, G: Gate>(
     };
     drop(bytes);
     let items = zone_items(alloc, zone)?;
-    report_job(rt, alloc, invocation, items, &job, telling, gate)
+    report_job(rt, alloc, invocation, &items, &job, telling, gate)
 }
 
 // The status and the text for a zone that was read and is only to be checked.
@@ -78,7 +78,7 @@ fn check_zone<R: Threads + Wait + Sync, G: Gate>(
     ensures { IfOk result (λ x. Checks invocation.now.chunks (Ok zone.pairs) x.0 x.1.items) }
 {
     let items = zone_items(alloc, zone)?;
-    report_size(rt, alloc, invocation, items, gate)
+    report_size(rt, alloc, invocation, &items, gate)
 }
 
 // The status and the text for a zone that was read, and the bytes that it and a script were cut from.

@@ -53,15 +53,15 @@ pub fn report_job<R: Threads + Wait + Sync, G: Gate>(
     rt: &R,
     alloc: Global,
     invocation: &Invocation,
-    items: Vec<Item>,
+    items: &[Item],
     job: &Job,
     telling: Telling,
     gate: &G,
 ) -> Result<(Status, Vec<u8>), AllocError>
     requires few_workers { length job.now.workers.items ≤ 16 }
-    requires zone { IsZone (entries_of_items items.items) }
+    requires zone { IsZone (entries_of_items items.now) }
     requires in_turn { AllByRecursion (InTurn false) (job_view job.now) }
-    ensures { (zone : Version) → StandsAs (entries_of_items items.items) zone
+    ensures { (zone : Version) → StandsAs (entries_of_items items.now) zone
         → IfOk result (λ x. Answers telling invocation.now.chunks (Ok (record { origin = invocation.now.origin; zone = zone; workers = job_view job.now })) x.0 x.1.items) }
 {
     let origin = &invocation.origin;
@@ -82,11 +82,11 @@ pub fn report_size<R: Threads + Wait + Sync, G: Gate>(
     rt: &R,
     alloc: Global,
     invocation: &Invocation,
-    items: Vec<Item>,
+    items: &[Item],
     gate: &G,
 ) -> Result<(Status, Vec<u8>), AllocError>
-    requires zone { IsZone (entries_of_items items.items) }
-    ensures { (zone : Version) → StandsAs (entries_of_items items.items) zone → IfOk result (λ x. Checks invocation.now.chunks (Ok zone) x.0 x.1.items) }
+    requires zone { IsZone (entries_of_items items.now) }
+    ensures { (zone : Version) → StandsAs (entries_of_items items.now) zone → IfOk result (λ x. Checks invocation.now.chunks (Ok zone) x.0 x.1.items) }
 {
     let job = Job {
         workers: Vec::new(alloc),

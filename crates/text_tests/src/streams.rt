@@ -3,14 +3,33 @@ use outer_io::{
     Failed, MemSink, MemSource, QuietSink, QuietSource, ReadRefusal, Sink, Source, StdSink,
     StdSource, read_all, write_all,
 };
+use std::alloc::{AllocError, Global};
 use std::test::Fail;
+
+// The bytes of a text. A proof sees none of them.
+fn bytes(alloc: Global, text: &str) -> Result<Vec<u8>, AllocError> {
+    Vec::from_slice(alloc, text.as_bytes())
+}
+
+// A call's number.
+fn number(alloc: Global, call: u64) -> Result<Vec<u64>, AllocError> {
+    Ok(vec![in alloc; call]?)
+}
+
+// Five bytes at most.
+fn read_five<S: Source>(alloc: Global, source: &mut S) -> Result<Vec<u8>, ReadRefusal> {
+    read_all(alloc, source, 5)
+}
+
+fn write_text<K: Sink>(sink: &mut K, text: &str) -> Result<(), Failed> {
+    write_all(sink, text.as_bytes())
+}
 
 // Eleven bytes by at most four, the second call failing.
 #[test]
 fn a_source_gives_pieces_and_fails_at_its_numbers(rt: HostRuntime) -> Result<(), Fail> {
-    let bytes = b"hello world".to_vec(rt.alloc())?;
-    let fails = [2].to_vec(rt.alloc())?;
-    let mut source = MemSource::new(bytes, 4, fails);
+    let text = bytes(rt.alloc(), "hello world")?;
+    let mut source = MemSource::new(text, 4, number(rt.alloc(), 2)?);
     let mut piece = [0u8; 8];
     let wanted = [Ok(4), Err(Failed), Ok(4), Ok(3), Ok(0)];
     for want in wanted {
@@ -21,35 +40,48 @@ fn a_source_gives_pieces_and_fails_at_its_numbers(rt: HostRuntime) -> Result<(),
 }
 
 #[test]
-fn reads_to_the_end_or_says_why_not(rt: HostRuntime) -> Result<(), Fail> {
-    let mut quiet = QuietSource::new(b"hello".to_vec(rt.alloc())?, 2);
-    let all = read_all(rt.alloc(), &mut quiet, 5).ok().ok_or("refused")?;
-    assert_eq!(rt; all.as_slice(), b"hello".as_slice());
-    let mut long = QuietSource::new(b"hello!".to_vec(rt.alloc())?, 9);
-    assert_eq!(rt;
-        read_all(rt.alloc(), &mut long, 5).err(),
-        Some(ReadRefusal::TooLong(5))
-    );
-    let fails = [2].to_vec(rt.alloc())?;
-    let mut faulty = MemSource::new(b"hello".to_vec(rt.alloc())?, 2, fails);
-    assert_eq!(rt;
-        read_all(rt.alloc(), &mut faulty, 5).err(),
-        Some(ReadRefusal::Fault)
-    );
+fn reads_to_the_end(rt: HostRuntime) -> Result<(), Fail> {
+    let mut quiet = QuietSource::new(bytes(rt.alloc(), "hello")?, 2);
+    let all = read_five(rt.alloc(), &mut quiet).ok().ok_or("refused")?;
+    assert_eq!(rt; all.as_slice(), bytes(rt.alloc(), "hello")?.as_slice());
     Ok(())
 }
 
-// The third call fails, so a prefix is held. A sink with too little room tells nothing.
 #[test]
-fn writes_all_or_a_prefix(rt: HostRuntime) -> Result<(), Fail> {
-    let fails = [3].to_vec(rt.alloc())?;
-    let mut faulty = MemSink::new(rt.alloc(), 16, 4, fails)?;
-    assert_eq!(rt; write_all(&mut faulty, b"hello world"), Err(Failed));
-    assert_eq!(rt; faulty.held().ok_or("over")?, b"hello wo".as_slice());
+fn tells_that_there_is_more_than_the_limit(rt: HostRuntime) -> Result<(), Fail> {
+    let mut long = QuietSource::new(bytes(rt.alloc(), "hello!")?, 9);
+    let refusal = read_five(rt.alloc(), &mut long).err();
+    assert_eq!(rt; refusal, Some(ReadRefusal::TooLong(5)));
+    Ok(())
+}
+
+#[test]
+fn tells_that_a_read_failed(rt: HostRuntime) -> Result<(), Fail> {
+    let text = bytes(rt.alloc(), "hello")?;
+    let mut faulty = MemSource::new(text, 2, number(rt.alloc(), 2)?);
+    let refusal = read_five(rt.alloc(), &mut faulty).err();
+    assert_eq!(rt; refusal, Some(ReadRefusal::Fault));
+    Ok(())
+}
+
+// The third call fails, so a prefix is held.
+#[test]
+fn a_faulty_sink_holds_a_prefix(rt: HostRuntime) -> Result<(), Fail> {
+    let mut faulty = MemSink::new(rt.alloc(), 16, 4, number(rt.alloc(), 3)?)?;
+    assert_eq!(rt; write_text(&mut faulty, "hello world"), Err(Failed));
+    let held = faulty.held().ok_or("over")?;
+    assert_eq!(rt; held, bytes(rt.alloc(), "hello wo")?.as_slice());
+    Ok(())
+}
+
+// A sink with too little room tells nothing.
+#[test]
+fn a_sink_holds_what_it_has_room_for(rt: HostRuntime) -> Result<(), Fail> {
     let mut quiet = QuietSink::new(rt.alloc(), 11, 4)?;
-    assert_eq!(rt; write_all(&mut quiet, b"hello world"), Ok(()));
-    assert_eq!(rt; quiet.held().ok_or("over")?, b"hello world".as_slice());
-    assert_eq!(rt; write_all(&mut quiet, b"!"), Ok(()));
+    assert_eq!(rt; write_text(&mut quiet, "hello world"), Ok(()));
+    let held = quiet.held().ok_or("over")?;
+    assert_eq!(rt; held, bytes(rt.alloc(), "hello world")?.as_slice());
+    assert_eq!(rt; write_text(&mut quiet, "!"), Ok(()));
     assert!(rt; quiet.held().is_none());
     Ok(())
 }

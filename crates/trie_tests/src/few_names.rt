@@ -15,6 +15,7 @@ use chunk_cells::CellWrite;
 use chunk_usage::Space;
 use dns_name::Name;
 use packed_node::Ref;
+use std::alloc::{AllocError, Global};
 use std::test::Fail;
 use trie_read::{count, nodes};
 use trie_write::{InsertRefusal, Item, ItemRefusal, build, cells, insert, replace};
@@ -73,28 +74,37 @@ fn sizes_with<C: CellWrite, U: Space>(
     }
 }
 
+/// The same in a room of its own, with how many cells of its first chunk count in the end.
+fn sizes_alone(
+    alloc: Global,
+    items: &[Item],
+    item: &Item,
+) -> Result<(Result<(u64, u64), InsertRefusal>, u32), AllocError>
+    requires { Rises (entries_of_items items.now) }
+{
+    let (mut memory, mut usage) = unused_room(alloc, 16)?;
+    let sizes = sizes_with(&mut memory, &mut usage, items, item);
+    Ok((sizes, usage.live(0)))
+}
+
 #[test]
 fn a_name_is_put_beside_another(rt: HostRuntime) -> Result<(), Fail> {
-    let (mut memory, mut usage) = unused_room(rt.alloc(), 16)?;
     let first = items(rt.alloc(), "example.", b"1")?;
     let beside = item(rt.alloc(), "ns.example.", b"22222")?;
     assert!(rt; rise(&first));
     assert_eq!(rt; cells(&first), 2);
-    let sizes = sizes_with(&mut memory, &mut usage, &first, &beside);
-    assert_eq!(rt; sizes, Ok((2, 3)));
     // Three nodes; one item has one cell, the other two.
-    assert_eq!(rt; usage.live(0), 6);
+    let sizes = sizes_alone(rt.alloc(), &first, &beside)?;
+    assert_eq!(rt; sizes, (Ok((2, 3)), 6));
     Ok(())
 }
 
 #[test]
 fn a_name_is_put_in_once(rt: HostRuntime) -> Result<(), Fail> {
-    let (mut memory, mut usage) = unused_room(rt.alloc(), 16)?;
     let first = items(rt.alloc(), "example.", b"1")?;
     let again = item(rt.alloc(), "example.", b"2")?;
     assert!(rt; rise(&first));
-    let sizes = sizes_with(&mut memory, &mut usage, &first, &again);
-    assert_eq!(rt; sizes, Err(InsertRefusal::Exists));
-    assert_eq!(rt; usage.live(0), 2);
+    let sizes = sizes_alone(rt.alloc(), &first, &again)?;
+    assert_eq!(rt; sizes, (Err(InsertRefusal::Exists), 2));
     Ok(())
 }

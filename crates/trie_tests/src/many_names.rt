@@ -15,7 +15,7 @@ use chunk_cells::{CellRead, CellWrite};
 use chunk_usage::{Full, Space};
 use packed_node::Ref;
 use shift_key::Key;
-use std::alloc::Global;
+use std::alloc::{AllocError, Global};
 use std::test::Fail;
 use trie_read::{count, get, nodes};
 use trie_write::{Item, build, cells, delete, insert, replace};
@@ -188,8 +188,8 @@ fn twenty_names(alloc: Global) -> Result<Rounds, Fail> {
 
 #[test]
 fn twenty_names_come_and_go(rt: HostRuntime) -> Result<(), Fail> {
-    let (mut memory, mut usage) = unused_room(rt.alloc(), 16)?;
     let rounds = twenty_names(rt.alloc())?;
+    let (mut memory, mut usage) = unused_room(rt.alloc(), 16)?;
     let root = come_and_go(&mut memory, &mut usage, &rounds);
     assert_eq!(rt; root, Ok(None));
     Ok(())
@@ -233,15 +233,22 @@ fn sizes<C: CellWrite, U: Space>(
     Ok((names, nodes(cells, root)))
 }
 
+/// The same in a room of its own, with how many cells of its first chunk count in the end.
+fn sizes_alone(alloc: Global, items: &[Item]) -> Result<(Result<(u64, u64), Full>, u32), AllocError>
+    requires { Rises (entries_of_items items.now) }
+{
+    let (mut memory, mut usage) = unused_room(alloc, 16)?;
+    let sizes = sizes(&mut memory, &mut usage, items);
+    Ok((sizes, usage.live(0)))
+}
+
 #[test]
 fn twenty_names_are_built(rt: HostRuntime) -> Result<(), Fail> {
-    let (mut memory, mut usage) = unused_room(rt.alloc(), 16)?;
     let items = items(rt.alloc(), RISING, b"1")?;
     assert!(rt; rise(&items));
-    let sizes = sizes(&mut memory, &mut usage, &items);
-    assert_eq!(rt; sizes, Ok((20, 24)));
     // One cell for each node and each item.
-    assert_eq!(rt; usage.live(0), 44);
     assert_eq!(rt; cells(&items), 44);
+    let sizes = sizes_alone(rt.alloc(), &items)?;
+    assert_eq!(rt; sizes, (Ok((20, 24)), 44));
     Ok(())
 }

@@ -27,12 +27,7 @@ fn a_branch_is_packed_by_its_layout(rt: HostRuntime) {
     assert_eq!(rt; packed_and_read(Node::Branch(branch)), Node::Branch(branch));
     assert_eq!(rt; unpack(cell), Some(Node::Branch(branch)));
     assert_eq!(rt; branch.twig_count(), 3);
-    for (position, there, index) in [
-        (0, true, 0),
-        (1, false, 1),
-        (30, true, 1),
-        (39, true, 2),
-    ] {
+    for (position, there, index) in [(0, true, 0), (1, false, 1), (30, true, 1), (39, true, 2)] {
         assert_eq!(rt; branch.has_twig(position), there, "at {position}");
         assert_eq!(rt; branch.twig_index(position), index, "at {position}");
     }

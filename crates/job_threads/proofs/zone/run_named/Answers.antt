@@ -7,11 +7,11 @@ use Rattle.job_threads.proofs.OpenLaws.{zone_rises, new_passes}
 use Rattle.job_threads.proofs.zone.run_named.Goals as goal
 
 pub open-requires-clause-rising : goal.open-requires-clause-rising
-open-requires-clause-rising g c = zone_rises (entries_of_items c.args.items.items) c.requires.zone
+open-requires-clause-rising g c = zone_rises (entries_of_items c.args.items.now) c.requires.zone
 
 pub returns-in_ok-finished-in-Ok : goal.returns-in_ok-finished-in-Ok
 returns-in_ok-finished-in-Ok g c = λ zone stands.
-    let es = entries_of_items c.args.items.items in
+    let es = entries_of_items c.args.items.now in
     let size = c.args.blank.shared.table.shared.key in
     let s : Setup = record { chunks = size.chunks; passes = size.passes; origin = c.args.origin.now; opening = es } in
     let same = c.in-Ok.ensures.size in (

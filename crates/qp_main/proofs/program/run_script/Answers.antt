@@ -11,6 +11,6 @@ pub returns : goal.returns
 returns g c =
     let script : script_of c.args.invocation.now.origin (script_start c.args.bytes.items) (script_lines c.args.bytes.items) ≡ Ok (job_view c.in-Ok.job) =
     script_read c.args.invocation.now.origin c.args.bytes.items c.args.parts (Ok (job_view c.in-Ok.job)) c.requires.cut (search rules) in
-    let stands : StandsAs (entries_of_items c.in_ok-items.items.items) c.args.zone.pairs = search (rules, c.in_ok-items.ensures) in
+    let stands : StandsAs (entries_of_items c.deref.result.now) c.args.zone.pairs = search (rules, c.in_ok-items.ensures, c.deref.ensures.value) in
     ok_map c.report_job.result (λ x r.
     job_answers c.args.telling c.args.invocation.now.chunks c.args.invocation.now.origin c.args.bytes.items c.args.zone.pairs (job_view c.in-Ok.job) c.requires.read script x.0 x.1.items r) (c.report_job.ensures c.args.zone.pairs stands)

@@ -1,0 +1,125 @@
+use Rattle.std.proofs.Common.{inl, inr, refl, sym, ◌∙◌, ap, subst, arith}
+use Rattle.std.proofs.lemmas.Bool.{cases_Bool}
+use Rattle.chunk_usage.specs.Rooms.{account_of}
+use Rattle.trie_write.specs.Spaces.{Fenced, IsWritable}
+use Rattle.trie_write.proofs.SpaceLaws.{fenced_then, fenced_same, ready_put, writable_later}
+use Rattle.evacuate.specs.Evacuations.{HasSparse}
+use Rattle.evacuate.specs.Fillings.{Fills, Moves}
+use Rattle.evacuate.proofs.DescentLaws.{stood_same}
+use Rattle.evacuate.proofs.EndLaws.{stood_closed, fenced_closed, ready_closed, closed_spent, left_closed, root_old, all_cleared, node_top}
+use Rattle.evacuate.proofs.FillingLaws.{fills_begin, moves_then}
+use Rattle.evacuate.proofs.evacuation.empty_sparse.Goals as goal
+
+pub move_root-requires-clause-stood : goal.move_root-requires-clause-stood
+move_root-requires-clause-stood g c = let h = c.requires.stood in record { es = h.es; t = h.t; stood = stood_closed c.start_chunk.ensures.after c.start_chunk.ensures.grows h.stood }
+
+pub move_root-requires-clause-ready : goal.move_root-requires-clause-ready
+move_root-requires-clause-ready g c = ready_closed g.C.CellRead.has g.C.CellWrite.kept g.C.CellWrite.given c.start_chunk.ensures.after c.start_chunk.ensures.grows c.requires.ready
+
+pub returns-in-Err-clause-stood : goal.returns-in-Err-clause-stood
+returns-in-Err-clause-stood g c es t h = (t, stood_same c.in-Err.ensures.same c.in-Err.ensures.unchanged (stood_closed c.start_chunk.ensures.after c.start_chunk.ensures.grows h))
+
+pub returns-in-Err-clause-left : goal.returns-in-Err-clause-left
+returns-in-Err-clause-left g c e = subst HasSparse (sym (c.in-Err.ensures.unchanged ∙ c.start_chunk.ensures.after)) (left_closed c.args.usage.now c.requires.sparse)
+
+pub passes-init : goal.passes-init
+passes-init g c =
+    let begins = subst (Fills c.args.usage.now.given) (sym c.start_chunk.ensures.after) (fills_begin c.args.usage.now c.known.ensures) in
+    record {
+      stood = λ es t h. (t, c.in-Ok.ensures.stood es t (stood_closed c.start_chunk.ensures.after c.start_chunk.ensures.grows h));
+      moves = subst (λ l. Moves c.args.usage.now.given 0 l c.move_root.new.usage) c.start_chunk.ensures.after (c.in-Ok.ensures.paid c.args.usage.now.given begins (root_old c.known.ensures c.requires.stood.stood)).moves;
+      elsewhere = c.in-Ok.ensures.elsewhere c.args.usage.now.given begins;
+      writable = c.in-Ok.ensures.writable;
+      frame = fenced_then (fenced_closed g.C.CellRead.has g.C.CellWrite.kept g.C.CellWrite.given c.start_chunk.ensures.after c.start_chunk.ensures.grows) c.in-Ok.ensures.frame;
+      ready = c.in-Ok.ensures.ready;
+    }
+
+pub cell-node-requires : goal.cell-node-requires
+cell-node-requires g c =
+    let i = c.passes.invariant in
+    let n = i.stood c.requires.stood.es c.requires.stood.t c.requires.stood.stood in record { there = (_, n.1.rooted.top) }
+
+pub next_sparse-requires-clause-top : goal.next_sparse-requires-clause-top
+next_sparse-requires-clause-top g c =
+    let i = c.passes.invariant in
+    let n = i.stood c.requires.stood.es c.requires.stood.t c.requires.stood.stood in (n.0, node_top n.1 c.cell-node.ensures.same c.cell-node.ensures.value)
+
+pub move_found-requires-clause-found : goal.move_found-requires-clause-found
+move_found-requires-clause-found g c =
+    let i = c.passes.invariant in
+    let n = i.stood c.requires.stood.es c.requires.stood.t c.requires.stood.stood in
+    record { es = c.requires.stood.es; t = n.0; stood = stood_same (c.next_sparse.ensures.same ∙ c.cell-node.ensures.same) refl n.1; found = c.next_sparse.ensures.found c.if-next_sparse.true n.0 (node_top n.1 c.cell-node.ensures.same c.cell-node.ensures.value) }
+
+pub returns-in-Err-move_found-clause-stood : goal.returns-in-Err-move_found-clause-stood
+returns-in-Err-move_found-clause-stood g c es t h =
+    let n = c.passes.invariant.stood es t h in
+    c.move_found.ensures.stood es n.0 (stood_same (c.next_sparse.ensures.same ∙ c.cell-node.ensures.same) refl n.1) (c.next_sparse.ensures.found c.if-next_sparse.true n.0 (node_top n.1 c.cell-node.ensures.same c.cell-node.ensures.value))
+
+pub returns-in-Err-move_found-clause-count : goal.returns-in-Err-move_found-clause-count
+returns-in-Err-move_found-clause-count g c = (c.move_found.ensures.moves c.args.usage.now.given c.passes.invariant.moves.fills).fills.count
+
+pub returns-in-Err-move_found-clause-paid : goal.returns-in-Err-move_found-clause-paid
+returns-in-Err-move_found-clause-paid g c =
+    let m = moves_then c.passes.invariant.moves (c.move_found.ensures.moves c.args.usage.now.given c.passes.invariant.moves.fills) in
+    let p = m.paid in let s = closed_spent c.args.usage.now in omega arith
+
+pub returns-in-Err-move_found-clause-frame : goal.returns-in-Err-move_found-clause-frame
+returns-in-Err-move_found-clause-frame g c = fenced_then c.passes.invariant.frame (fenced_same (c.next_sparse.ensures.same ∙ c.cell-node.ensures.same) c.move_found.ensures.frame)
+
+pub returns-in-Err-move_found-clause-left : goal.returns-in-Err-move_found-clause-left
+returns-in-Err-move_found-clause-left g c e = c.in-Err-move_found.ensures.left c.args.usage.now.given c.passes.invariant.moves.fills
+
+pub returns-in-Ok-move_found-clause-stood : goal.returns-in-Ok-move_found-clause-stood
+returns-in-Ok-move_found-clause-stood g c es t h =
+    let n = c.passes.invariant.stood es t h in
+    c.move_found.ensures.stood es n.0 (stood_same (c.next_sparse.ensures.same ∙ c.cell-node.ensures.same) refl n.1) (c.next_sparse.ensures.found c.if-next_sparse.true n.0 (node_top n.1 c.cell-node.ensures.same c.cell-node.ensures.value))
+
+pub returns-in-Ok-move_found-clause-count : goal.returns-in-Ok-move_found-clause-count
+returns-in-Ok-move_found-clause-count g c = (c.move_found.ensures.moves c.args.usage.now.given c.passes.invariant.moves.fills).fills.count
+
+pub returns-in-Ok-move_found-clause-paid : goal.returns-in-Ok-move_found-clause-paid
+returns-in-Ok-move_found-clause-paid g c =
+    let m = moves_then c.passes.invariant.moves (c.move_found.ensures.moves c.args.usage.now.given c.passes.invariant.moves.fills) in
+    let p = m.paid in let s = closed_spent c.args.usage.now in omega arith
+
+pub returns-in-Ok-move_found-clause-frame : goal.returns-in-Ok-move_found-clause-frame
+returns-in-Ok-move_found-clause-frame g c = fenced_then c.passes.invariant.frame (fenced_same (c.next_sparse.ensures.same ∙ c.cell-node.ensures.same) c.move_found.ensures.frame)
+
+pub passes-preserved-in-Ok-2 : goal.passes-preserved-in-Ok-2
+passes-preserved-in-Ok-2 g c =
+    let i = c.passes.invariant in
+    record {
+      stood = λ es t h.
+          let n = i.stood es t h in
+          c.move_found.ensures.stood es n.0 (stood_same (c.next_sparse.ensures.same ∙ c.cell-node.ensures.same) refl n.1) (c.next_sparse.ensures.found c.if-next_sparse.true n.0 (node_top n.1 c.cell-node.ensures.same c.cell-node.ensures.value));
+      moves = moves_then i.moves (c.move_found.ensures.moves c.args.usage.now.given i.moves.fills);
+      elsewhere = i.elsewhere;
+      writable = writable_later (subst (λ s. IsWritable g.C.CellWrite.given account_of s c.passes.usage c.in-Ok.at) (sym (c.next_sparse.ensures.same ∙ c.cell-node.ensures.same)) i.writable) c.move_found.ensures.frame.grows c.move_found.ensures.frame.given_stays;
+      frame = fenced_then i.frame (fenced_same (c.next_sparse.ensures.same ∙ c.cell-node.ensures.same) c.move_found.ensures.frame);
+      ready = c.move_found.ensures.ready;
+    }
+
+pub passes-preserved : goal.passes-preserved
+passes-preserved g c =
+    let i = c.passes.invariant in
+    record {
+      stood = λ es t h. let n = i.stood es t h in (n.0, stood_same (c.next_sparse.ensures.same ∙ c.cell-node.ensures.same) refl n.1);
+      moves = i.moves;
+      elsewhere = i.elsewhere;
+      writable = subst (λ s. IsWritable g.C.CellWrite.given account_of s c.passes.usage c.in-Ok.at) (sym (c.next_sparse.ensures.same ∙ c.cell-node.ensures.same)) i.writable;
+      frame = subst (λ s. Fenced g.C.CellRead.has g.C.CellWrite.kept g.C.CellWrite.given account_of c.args.cells.now c.args.usage.now s c.passes.usage) (sym (c.next_sparse.ensures.same ∙ c.cell-node.ensures.same)) i.frame;
+      ready = ready_put i.ready (ap g.C.CellWrite.given (c.next_sparse.ensures.same ∙ c.cell-node.ensures.same)) (ap g.C.CellWrite.kept (c.next_sparse.ensures.same ∙ c.cell-node.ensures.same));
+    }
+
+pub returns-else-begins_again-clause-stood : goal.returns-else-begins_again-clause-stood
+returns-else-begins_again-clause-stood g c es t h = let n = c.passes.invariant.stood es t h in (n.0, stood_same (c.next_sparse.ensures.same ∙ c.cell-node.ensures.same) refl n.1)
+
+pub returns-else-begins_again-clause-whole : goal.returns-else-begins_again-clause-whole
+returns-else-begins_again-clause-whole g c e = elim (cases_Bool c.passes.resumed) [
+  | inl on ↦ c.begins_again.ensures.dense c.if-begins_again.false on
+  | inr off ↦ (
+      let i = c.passes.invariant in
+      let n = i.stood c.requires.stood.es c.requires.stood.t c.requires.stood.stood in
+      all_cleared c.args.usage.now.given i.moves.fills i.elsewhere n.1 (c.next_sparse.ensures.none c.if-next_sparse.false off n.0 (node_top n.1 c.cell-node.ensures.same c.cell-node.ensures.value))
+      )
+]

@@ -1,0 +1,24 @@
+use Rattle.std.proofs.Common.{◌+◌, ◌*◌, ◌-◌, ◌≤◌, ℕ, Option, length, slice_index, subst, arith}
+use Rattle.trie_model.specs.Shape.{cells}
+use Rattle.chunk_usage.specs.Handing.{spent}
+use Rattle.chunk_usage.specs.Ledger.{is_used, free_count}
+use Rattle.trie_write.specs.Standing.{Standing}
+use Rattle.evacuate.proofs.EndLaws.{stood_of, stands_again, asked_by, old_cells}
+use Rattle.evacuate.proofs.evacuation.evacuate.Goals as goal
+
+pub empty_sparse-new-requires-clause-stood : goal.empty_sparse-new-requires-clause-stood
+empty_sparse-new-requires-clause-stood g c =
+    let h = subst (λ (r : Option ℕ). Standing (g.C.CellRead.has c.args.cells.now) (is_used c.args.usage.now) (slice_index c.args.usage.now.live) r c.requires.stands.0) c.in-Some.is c.requires.stands.1 in
+    record { es = c.requires.stands.0; t = h.0; stood = stood_of h.1 }
+
+pub returns-then-is_any_sparse-clause-stands : goal.returns-then-is_any_sparse-clause-stands
+returns-then-is_any_sparse-clause-stands g c version stands =
+    let h = subst (λ (r : Option ℕ). Standing (g.C.CellRead.has c.args.cells.now) (is_used c.args.usage.now) (slice_index c.args.usage.now.live) r version) c.in-Some.is stands in
+    let n = c.empty_sparse-new.ensures.stood version h.0 (stood_of h.1) in (n.0, stands_again n.1)
+
+pub returns-then-is_any_sparse-clause-asks : goal.returns-then-is_any_sparse-clause-asks
+returns-then-is_any_sparse-clause-asks g c version stands =
+    let h = subst (λ (r : Option ℕ). Standing (g.C.CellRead.has c.args.cells.now) (is_used c.args.usage.now) (slice_index c.args.usage.now.live) r version) c.in-Some.is stands in
+    let most = old_cells {has = g.C.CellRead.has} {s = c.args.cells.now} {l = c.args.usage.now} (stood_of h.1) in
+    let paid : spent c.empty_sparse-new.new.usage ≤ 769 * (length c.args.usage.now.given - free_count c.args.usage.now) + cells version = let p = c.empty_sparse-new.ensures.paid in omega arith in
+    asked_by c.args.usage.now c.empty_sparse-new.new.usage c.empty_sparse-new.ensures.count (cells version) paid c.empty_sparse-new.result.1 c.empty_sparse-new.ensures.stopped

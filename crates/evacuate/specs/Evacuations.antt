@@ -1,0 +1,25 @@
+-- What an evacuation promises.
+use Rattle.std.specs.Prelude.{◌≡◌, ℕ, ◌<◌, true, false, slice_index}
+use Rattle.chunk_usage.specs.Counting.{is_sparse}
+use Rattle.chunk_usage.specs.Ledger.{Ledger, is_open}
+use Rattle.evacuate.specs.declared.evacuation.Done.{Done}
+use Rattle.evacuate.specs.declared.evacuation.Done.TheVariants.{Whole, Stopped}
+
+-- each chunk with a cell that counts, but the bump chunk, has over 256
+abbrev pub IsDense : Ledger → Type 0
+IsDense l = (chunk : ℕ) → 0 < slice_index l.live chunk → is_open l.open_chunk chunk ≡ false → 256 < slice_index l.live chunk
+
+-- no cell of a sparse chunk counts
+abbrev pub IsCleared : Ledger → Type 0
+IsCleared l = (chunk : ℕ) → is_sparse l chunk ≡ true → slice_index l.live chunk ≡ 0
+
+-- cells of a sparse chunk count
+pub record HasSparse (l : Ledger) : Type 0 where
+  pub chunk : ℕ
+  pub sparse : is_sparse l chunk ≡ true
+  pub some : 0 < slice_index l.live chunk
+
+-- how many chunks were asked for in vain
+abbrev pub refused : Done → ℕ
+refused Whole = 0
+refused Stopped = 1

@@ -1,0 +1,44 @@
+-- The chunks that an evacuation finds given, and those that it fills.
+use Rattle.std.specs.Prelude.{◌≡◌, ℕ, ◌+◌, ◌/◌, ◌≤◌, Bool, true, false, List, [], ◌∷◌, length, if◌then◌else◌, slice_index, slice_index_or}
+use Rattle.chunk_usage.specs.Counting.{is_sparse}
+use Rattle.chunk_usage.specs.Ledger.{Ledger, is_given, is_open, filled}
+use Rattle.chunk_usage.specs.Handing.{IsSpent, spent}
+
+-- the cell lies in a chunk that was given as the evacuation began
+abbrev pub is_old : List Bool → ℕ → Bool
+is_old given q = slice_index_or given (q / 1024) false
+
+-- how many cells of those chunks count
+abbrev pub old_live : List Bool → List ℕ → ℕ
+old_live [] live = 0
+old_live (g ∷ given) [] = 0
+old_live (g ∷ given) (n ∷ live) = (if g then n else 0) + old_live given live
+
+-- Cells are handed out of new chunks alone. Each new chunk that is left for another has at least 769 cells that count, and of the bump
+-- chunk all that are handed out do.
+pub record Fills (given : List Bool) (l : Ledger) : Type 0 where
+  pub count : length l.given ≡ length given
+  pub stays : (k : ℕ) → slice_index_or given k false ≡ true → is_given l k ≡ true
+  pub recent : (k : ℕ) → is_given l k ≡ true → slice_index_or given k false ≡ false → slice_index_or l.since k false ≡ true
+  pub left : (k : ℕ) → is_given l k ≡ true → slice_index_or given k false ≡ false → is_open l.open_chunk k ≡ false → 769 ≤ slice_index l.live k
+  pub bump : (k : ℕ) → is_open l.open_chunk k ≡ true → slice_index_or given k false ≡ false → filled l.open_chunk ≤ slice_index l.live k
+  pub closed : (k : ℕ) → is_open l.open_chunk k ≡ true → slice_index_or given k false ≡ true → filled l.open_chunk ≡ 1024
+
+-- Cells were moved, and n more were asked for. Each cell that was asked for and is in its place has one less count in the old chunks.
+-- A chunk that was sparse stays so.
+pub record Moves (given : List Bool) (n : ℕ) (l new : Ledger) : Type 0 where
+  pub fills : Fills given new
+  pub sparse : (k : ℕ) → is_sparse l k ≡ true → is_sparse new k ≡ true
+  pub fewer : old_live given new.live ≤ old_live given l.live
+  pub paid : spent new + old_live given new.live ≤ spent l + old_live given l.live + n
+
+-- and they were moved whole
+pub record Paid (given : List Bool) (n : ℕ) (l new : Ledger) : Type 0 where
+  pub moves : Moves given 0 l new
+  pub less : old_live given new.live + n ≤ old_live given l.live
+
+-- no chunk is free, and the bump chunk has fewer cells left than some row or item needs
+pub record IsFull (l : Ledger) : Type 0 where
+  pub needed : ℕ
+  pub few : needed ≤ 256
+  pub spent : IsSpent l needed

@@ -1,0 +1,4 @@
+pub mod Evacuations
+pub mod Fillings
+pub mod Places
+pub mod Trails

@@ -1,0 +1,120 @@
+//! Evacuation: sparse chunks are emptied.
+
+ghost use Rattle.std.specs.Prelude.{◌≡◌, ◌+◌, ◌*◌, ◌-◌, ◌/◌, ◌<◌, ◌≤◌, ℕ, List, Bool, true, false, length, slice_index};
+ghost use Rattle.trie_model.specs.Keys.{Entry};
+ghost use Rattle.trie_model.specs.Shape.{cells as cells_of};
+ghost use Rattle.trie_model.specs.Trees.{Tree};
+ghost use Rattle.chunk_usage.specs.Ledger.{free_count};
+ghost use Rattle.chunk_usage.specs.Handing.{spent};
+ghost use Rattle.chunk_usage.specs.Rooms.{account_of};
+ghost use Rattle.trie_write.specs.Spaces.{Ready, Fenced};
+ghost use Rattle.trie_write.specs.Standing.{HasTrie};
+ghost use Rattle.evacuate.specs.Evacuations.{IsDense, IsCleared, HasSparse, refused};
+ghost use Rattle.evacuate.specs.Fillings.{IsFull, old_live};
+ghost use Rattle.evacuate.specs.Places.{Stood, IsStood};
+
+use super::descent::move_found;
+use super::moves::move_root;
+use super::sparse::is_any_sparse;
+use super::trail::{Trail, next_sparse};
+use chunk_cells::CellWrite;
+use chunk_usage::Usage;
+use packed_node::{Ref, chunk_of};
+
+/// How an evacuation ended.
+#[derive(Clone, Copy, PartialEq, Eq, Debug)]
+pub enum Done {
+    /// No cell of a sparse chunk counts any more.
+    Whole,
+    /// No chunk was free.
+    Stopped,
+}
+
+/// Moves what a root reaches out of the sparse chunks. The same trie stands at the root that is answered, and what was moved stays so where
+/// no chunk was free for the rest.
+pub fn evacuate<C: CellWrite>(
+    cells: &mut C,
+    usage: &mut Usage,
+    root: Option<Ref>,
+) -> (Option<Ref>, Done)
+    requires stands { (version : List Entry) × HasTrie C.has account_of cells.old usage.old root version }
+    requires ready { Ready C.kept C.given account_of cells.old usage.old }
+    ensures stands { (version : List Entry) → HasTrie C.has account_of cells.old usage.old root version → HasTrie C.has account_of cells.new usage.new result.0 version }
+    ensures whole { result.1 ≡ Done.Whole → IsDense usage.new }
+    ensures stopped { result.1 ≡ Done.Stopped → IsFull usage.new }
+    ensures left { result.1 ≡ Done.Stopped → HasSparse usage.new }
+    ensures asks { (version : List Entry) → HasTrie C.has account_of cells.old usage.old root version → free_count usage.old + refused result.1 ≤ free_count usage.new + (cells_of version / 769 + 1) }
+    ensures frame { Fenced C.has C.kept C.given account_of cells.old usage.old cells.new usage.new }
+    ensures ready { Ready C.kept C.given account_of cells.new usage.new }
+{
+    match root {
+        None => (None, Done::Whole),
+        Some(at) => {
+            if is_any_sparse(usage) {
+                let (new, done) = empty_sparse(cells, usage, at);
+                usage.known();
+                return (Some(new), done);
+            }
+            usage.known();
+            (Some(at), Done::Whole)
+        }
+    }
+}
+
+/// Moves all that lies in sparse chunks to chunks that are free now. It ends where none of them has a cell that counts: once something
+/// was moved that was the last of its chunk, or at the end of a walk. A walk that came to the end begins again where moving has made
+/// more chunks sparse.
+fn empty_sparse<C: CellWrite>(cells: &mut C, usage: &mut Usage, root: Ref) -> (Ref, Done)
+    requires stood { IsStood C.has cells.old usage.old root }
+    requires sparse { HasSparse usage.old }
+    requires ready { Ready C.kept C.given account_of cells.old usage.old }
+    ensures stood { (es : List Entry) (t : Tree) → Stood C.has cells.old usage.old root es t → (u : Tree) × Stood C.has cells.new usage.new result.0 es u }
+    ensures whole { result.1 ≡ Done.Whole → IsCleared usage.new }
+    ensures stopped { result.1 ≡ Done.Stopped → IsFull usage.new }
+    ensures left { result.1 ≡ Done.Stopped → HasSparse usage.new }
+    ensures count { length usage.new.given ≡ length usage.old.given }
+    ensures paid { spent usage.new ≤ 769 * (length usage.old.given - free_count usage.old) + old_live usage.old.given usage.old.live }
+    ensures frame { Fenced C.has C.kept C.given account_of cells.old usage.old cells.new usage.new }
+    ensures ready { Ready C.kept C.given account_of cells.new usage.new }
+{
+    usage.known();
+    usage.start_chunk();
+    let at = match move_root(cells, usage, root) {
+        Err(_) => return (root, Done::Stopped),
+        Ok(at) => at,
+    };
+    let mut trail = Trail::new();
+    let mut resumed = false;
+    'passes: loop {
+        let node = cells.cell(at);
+        if next_sparse(cells, usage, &mut trail, node, 0, resumed) {
+            match move_found(cells, usage, at, &trail) {
+                Err(_) => return (at, Done::Stopped),
+                Ok(from) if was_last(usage, from) => return (at, Done::Whole),
+                Ok(_) => resumed = true,
+            }
+        } else if begins_again(usage, resumed) {
+            resumed = false;
+        } else {
+            return (at, Done::Whole);
+        }
+    }
+}
+
+/// Whether what was moved was the last of its chunk, and of all sparse chunks.
+fn was_last(usage: &Usage, from: Ref) -> bool
+    ensures { result ≡ true → IsCleared usage.now }
+{
+    usage.live(chunk_of(from)) == 0 && !is_any_sparse(usage)
+}
+
+/// Whether a walk that went on, and came to the end, has to begin again.
+fn begins_again(usage: &Usage, resumed: bool) -> bool
+    ensures resumed { result ≡ true → resumed ≡ true }
+    ensures dense { result ≡ false → resumed ≡ true → IsCleared usage.now }
+{
+    if resumed {
+        return is_any_sparse(usage);
+    }
+    false
+}

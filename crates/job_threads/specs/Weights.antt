@@ -1,0 +1,11 @@
+-- How a transaction begins by its weight.
+use Rattle.std.specs.Prelude.{◌≡◌}
+use Rattle.job_model.specs.declared.Weight.{Weight}
+use Rattle.job_model.specs.declared.Weight.TheVariants.{Light, Heavy}
+use Rattle.chunk_usage.specs.Keeping.{full}
+use Rattle.shared_index.specs.declared.desk.Draft.{Draft}
+
+-- what is written goes on in the bump chunk, or begins a chunk of its own
+abbrev pub IsOfWeight : Weight → Draft → Type 0
+IsOfWeight Light d = d.usage.open_chunk ≡ d.usage.last_open
+IsOfWeight Heavy d = d.usage.open_chunk ≡ full d.usage.last_open

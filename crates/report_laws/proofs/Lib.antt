@@ -1,0 +1,9 @@
+pub mod CutLemmas
+pub mod TextLemmas
+pub mod LineLemmas
+pub mod ReplyLemmas
+pub mod EndLemmas
+pub mod RunLemmas
+pub mod ShortLemmas
+pub mod LawfulLemmas
+pub mod ReportLemmas
