@@ -1,33 +1,37 @@
 #!/usr/bin/env bash
 # Counts the instructions of the shared index's calls, for each name: builds bench/index.rattle in a copy of the crates that it
 # needs, which takes some minutes the first time, and runs it with valgrind's callgrind on 100,000 names.
-# Usage: bench/index.sh [NAMES]. Changes nothing but files in a temporary folder.
+# Usage: bench/index.sh [NAMES [PROGRAM]], where PROGRAM is one that was built before. Changes nothing but files in a temporary folder.
 set -eu
 here=$(cd "$(dirname "$0")" && pwd)
 names=${1:-100000}
 asked=10000
 folder=$(mktemp -d)
 trap 'rm -rf "$folder"' EXIT
-program=$folder/crates/index
-below='zone_model dns_name shift_key pin_core packed_node trie_model chunk_cells trie_read chunk_usage trie_write shared_cells shared_index'
-mkdir -p "$program/src" "$program/proofs"
-cp "$here/../HANDLES" "$folder/"
-for crate in $below; do
-    cp -r "$here/../crates/$crate" "$folder/crates/"
-done
-cp "$here/index.rattle" "$program/src/main.rt"
-{
-    grep -E "^($(tr ' ' '|' <<<"$below"))[ :]" "$here/../crates.txt"
-    printf '%s\n' 'index may_wait=7: dns_name shift_key packed_node trie_model chunk_cells trie_read trie_write shared_index'
-} >"$folder/crates.txt"
+program=${2:-$folder/crates/index/out/index}
 
-# the program's proofs, each under a line with its name
-(cd "$program/proofs" && while IFS= read -r line; do
-    case $line in
-        '== '*) file=${line#== } && mkdir -p "$(dirname "$file")" && : >"$file" ;;
-        *) printf '%s\n' "$line" >>"$file" ;;
-    esac
-done) <<'PROOFS'
+# builds the program
+build() {
+    below='zone_model dns_name shift_key pin_core packed_node trie_model chunk_cells trie_read chunk_usage trie_write shared_cells shared_index'
+    crate=$folder/crates/index
+    mkdir -p "$crate/src" "$crate/proofs"
+    cp "$here/../HANDLES" "$folder/"
+    for name in $below; do
+        cp -r "$here/../crates/$name" "$folder/crates/"
+    done
+    cp "$here/index.rattle" "$crate/src/main.rt"
+    {
+        grep -E "^($(tr ' ' '|' <<<"$below"))[ :]" "$here/../crates.txt"
+        printf '%s\n' 'index may_wait=8: dns_name shift_key packed_node trie_model chunk_cells trie_read trie_write shared_index'
+    } >"$folder/crates.txt"
+
+    # the program's proofs, each under a line with its name
+    (cd "$crate/proofs" && while IFS= read -r line; do
+        case $line in
+            '== '*) file=${line#== } && mkdir -p "$(dirname "$file")" && : >"$file" ;;
+            *) printf '%s\n' "$line" >>"$file" ;;
+        esac
+    done) <<'PROOFS'
 == ask_each/Invariants.antt
 use Rattle.std.proofs.Common.{◌≡◌}
 use Rattle.std.specs.Prelude.{IsSome}
@@ -218,9 +222,11 @@ abbrev pub invariant-loop-pass : goal.invariant-loop-pass
 invariant-loop-pass g l = All (λ p. (IsSome p.seat) × (p.place ≡ l.index.place)) l.passes.items
 PROOFS
 
-git -C "$folder" init -q
-(cd "$program" && rt run </dev/null >"$folder/build" 2>&1) || true
-[ -x "$program/out/index" ] || { tail -5 "$folder/build"; exit 1; }
+    git -C "$folder" init -q
+    (cd "$crate" && rt run </dev/null >"$folder/build" 2>&1) || true
+    [ -x "$program" ] || { tail -20 "$folder/build"; exit 1; }
+}
+[ $# -gt 1 ] || build
 
 # KIND: names that are there, that aren't, beside one that is, or below one
 input() {
@@ -240,7 +246,7 @@ for number in range(asked):
 PY
 }
 counted() {
-    valgrind --tool=callgrind --callgrind-out-file=/dev/null "$program/out/index" "$1" <"$2" 2>&1 >/dev/null | sed -n 's/.*Collected : //p'
+    valgrind --tool=callgrind --callgrind-out-file=/dev/null "$program" "$1" <"$2" 2>&1 >/dev/null | sed -n 's/.*Collected : //p'
 }
 for kind in present absent beside below; do
     input "$kind" >"$folder/$kind"

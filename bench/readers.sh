@@ -1,33 +1,37 @@
 #!/usr/bin/env bash
 # Counts how many items threads read of one shared index in a second, without and with a writer beside them, and what a query
 # costs: builds bench/readers.rattle in a copy of the crates that it needs, which takes some minutes the first time. A run's time
-# is less that of a run which reads nothing. Usage: bench/readers.sh [GETS], where 0 leaves the seconds out. Changes nothing but
-# files in a temporary folder.
+# is less that of a run which reads nothing. Usage: bench/readers.sh [GETS [PROGRAM]], where 0 gets leave the seconds out, and
+# PROGRAM is one that was built before. Changes nothing but files in a temporary folder.
 set -eu
 here=$(cd "$(dirname "$0")" && pwd)
 gets=${1:-4000000}
 folder=$(mktemp -d)
 trap 'rm -rf "$folder"' EXIT
-program=$folder/crates/readers
-below='zone_model dns_name shift_key pin_core packed_node trie_model chunk_cells trie_read chunk_usage trie_write shared_cells shared_index'
-mkdir -p "$program/src" "$program/proofs"
-cp "$here/../HANDLES" "$folder/"
-for crate in $below; do
-    cp -r "$here/../crates/$crate" "$folder/crates/"
-done
-cp "$here/readers.rattle" "$program/src/main.rt"
-{
-    grep -E "^($(tr ' ' '|' <<<"$below"))[ :]" "$here/../crates.txt"
-    printf '%s\n' 'readers may_wait=8: dns_name shift_key packed_node trie_model chunk_cells trie_read trie_write shared_index'
-} >"$folder/crates.txt"
+program=${2:-$folder/crates/readers/out/readers}
 
-# the program's proofs, each under a line with its name
-(cd "$program/proofs" && while IFS= read -r line; do
-    case $line in
-        '== '*) file=${line#== } && mkdir -p "$(dirname "$file")" && : >"$file" ;;
-        *) printf '%s\n' "$line" >>"$file" ;;
-    esac
-done) <<'PROOFS'
+# builds the program
+build() {
+    below='zone_model dns_name shift_key pin_core packed_node trie_model chunk_cells trie_read chunk_usage trie_write shared_cells shared_index'
+    crate=$folder/crates/readers
+    mkdir -p "$crate/src" "$crate/proofs"
+    cp "$here/../HANDLES" "$folder/"
+    for name in $below; do
+        cp -r "$here/../crates/$name" "$folder/crates/"
+    done
+    cp "$here/readers.rattle" "$crate/src/main.rt"
+    {
+        grep -E "^($(tr ' ' '|' <<<"$below"))[ :]" "$here/../crates.txt"
+        printf '%s\n' 'readers may_wait=8: dns_name shift_key packed_node trie_model chunk_cells trie_read trie_write shared_index'
+    } >"$folder/crates.txt"
+
+    # the program's proofs, each under a line with its name
+    (cd "$crate/proofs" && while IFS= read -r line; do
+        case $line in
+            '== '*) file=${line#== } && mkdir -p "$(dirname "$file")" && : >"$file" ;;
+            *) printf '%s\n' "$line" >>"$file" ;;
+        esac
+    done) <<'PROOFS'
 == fill/Invariants.antt
 use Rattle.std.proofs.Common.{◌≡◌}
 use Rattle.std.specs.Prelude.{IsSome}
@@ -80,15 +84,17 @@ abbrev pub ghosts-run : goal.ghosts-run
 ghosts-run g a = record { tables = a.blank.shared.table.shared.table_id ∷ [] }
 PROOFS
 
-git -C "$folder" init -q
-(cd "$program" && rt run </dev/null >"$folder/build" 2>&1) || true
-[ -x "$program/out/readers" ] || { tail -20 "$folder/build"; exit 1; }
+    git -C "$folder" init -q
+    (cd "$crate" && rt run </dev/null >"$folder/build" 2>&1) || true
+    [ -x "$program" ] || { tail -20 "$folder/build"; exit 1; }
+}
+[ $# -gt 1 ] || build
 
 # nanoseconds that a run takes
 took() {
     local begin
     begin=$(date +%s%N)
-    "$program/out/readers" "$@" >"$folder/told"
+    "$program" "$@" >"$folder/told"
     echo $(($(date +%s%N) - begin))
 }
 for writes in 0 1; do
@@ -102,7 +108,7 @@ for writes in 0 1; do
 done
 
 counted() {
-    valgrind --tool=callgrind --callgrind-out-file=/dev/null "$program/out/readers" "$@" 2>&1 >/dev/null | sed -n 's/.*Collected : //p'
+    valgrind --tool=callgrind --callgrind-out-file=/dev/null "$program" "$@" 2>&1 >/dev/null | sed -n 's/.*Collected : //p'
 }
 nothing=$(counted 1 0 100 0)
 for each in 1 100; do
