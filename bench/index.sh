@@ -1,7 +1,8 @@
 #!/usr/bin/env bash
 # Counts the instructions of the shared index's calls, for each name: builds bench/index.rattle in a copy of the crates that it
 # needs, which takes some minutes the first time, and runs it with valgrind's callgrind on 100,000 names.
-# Usage: bench/index.sh [NAMES [PROGRAM]], where PROGRAM is one that was built before. Changes nothing but files in a temporary folder.
+# Usage: bench/index.sh [NAMES [PROGRAM]], where PROGRAM is one that was built before. Changes nothing but files in a temporary
+# folder.
 set -eu
 here=$(cd "$(dirname "$0")" && pwd)
 names=${1:-100000}

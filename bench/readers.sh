@@ -1,8 +1,8 @@
 #!/usr/bin/env bash
 # Counts how many items threads read of one shared index in a second, without and with a writer beside them, and what a query
 # costs: builds bench/readers.rattle in a copy of the crates that it needs, which takes some minutes the first time. A run's time
-# is less that of a run which reads nothing. Usage: bench/readers.sh [GETS [PROGRAM]], where 0 gets leave the seconds out, and
-# PROGRAM is one that was built before. Changes nothing but files in a temporary folder.
+# is that of the quickest of five, less that of the quickest that reads nothing. Usage: bench/readers.sh [GETS [PROGRAM]], where 0
+# gets leave the seconds out, and PROGRAM is one that was built before. Changes nothing but files in a temporary folder.
 set -eu
 here=$(cd "$(dirname "$0")" && pwd)
 gets=${1:-4000000}
@@ -22,7 +22,7 @@ build() {
     cp "$here/readers.rattle" "$crate/src/main.rt"
     {
         grep -E "^($(tr ' ' '|' <<<"$below"))[ :]" "$here/../crates.txt"
-        printf '%s\n' 'readers may_wait=8: dns_name shift_key packed_node trie_model chunk_cells trie_read trie_write shared_index'
+        printf '%s\n' 'readers may_wait=7: dns_name shift_key packed_node trie_model chunk_cells trie_read trie_write shared_index'
     } >"$folder/crates.txt"
 
     # the program's proofs, each under a line with its name
@@ -32,13 +32,6 @@ build() {
             *) printf '%s\n' "$line" >>"$file" ;;
         esac
     done) <<'PROOFS'
-== fill/Invariants.antt
-use Rattle.std.proofs.Common.{◌≡◌}
-use Rattle.std.specs.Prelude.{IsSome}
-use Rattle.readers.proofs.fill.Given as goal
-
-abbrev pub invariant-loop-number : goal.invariant-loop-number
-invariant-loop-number g l = (IsSome l.pass.seat) × (l.pass.place ≡ l.index.place)
 == get_each/Invariants.antt
 use Rattle.std.proofs.Common.{◌≡◌}
 use Rattle.readers.proofs.get_each.Given as goal
@@ -57,8 +50,21 @@ use Rattle.std.proofs.Common.{◌≡◌}
 use Rattle.std.specs.Prelude.{IsSome}
 use Rattle.readers.proofs.write_on.Given as goal
 
+abbrev pub invariant-loop-place : goal.invariant-loop-place
+invariant-loop-place g l = (IsSome l.pass.seat) × (l.pass.place ≡ l.index.place)
+== put_all/Invariants.antt
+use Rattle.std.proofs.Common.{◌≡◌}
+use Rattle.std.specs.Prelude.{IsSomeAnd}
+use Rattle.shared_index.specs.Drafts.{Works}
+use Rattle.readers.proofs.put_all.Given as goal
+
 abbrev pub invariant-loop-number : goal.invariant-loop-number
-invariant-loop-number g l = (IsSome l.pass.seat) × (l.pass.place ≡ l.index.place)
+invariant-loop-number g l = record {
+  home : l.update.home.ghost_name ≡ l.fn.update.home.ghost_name;
+  locked : l.update.locked.ghost_name ≡ l.fn.update.locked.ghost_name;
+  place : l.update.locked.now.place ≡ l.fn.update.locked.now.place;
+  works : IsSomeAnd l.update.locked.now.draft Works;
+}
 == workers/Invariants.antt
 use Rattle.std.proofs.Common.{◌≡◌, vec_len}
 use Rattle.std.specs.Prelude.{IsSome}
@@ -90,12 +96,19 @@ PROOFS
 }
 [ $# -gt 1 ] || build
 
-# nanoseconds that a run takes
+# the fewest nanoseconds that one of five runs takes; what that run told is left in a file
 took() {
-    local begin
-    begin=$(date +%s%N)
-    "$program" "$@" >"$folder/told"
-    echo $(($(date +%s%N) - begin))
+    local begin spent best=
+    for _ in 1 2 3 4 5; do
+        begin=$(date +%s%N)
+        "$program" "$@" >"$folder/tells"
+        spent=$(($(date +%s%N) - begin))
+        if [ -z "$best" ] || [ "$spent" -lt "$best" ]; then
+            best=$spent
+            mv "$folder/tells" "$folder/told"
+        fi
+    done
+    echo "$best"
 }
 for writes in 0 1; do
     [ "$gets" -gt 0 ] || break
