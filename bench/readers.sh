@@ -96,27 +96,36 @@ PROOFS
 }
 [ $# -gt 1 ] || build
 
-# the fewest nanoseconds that one of five runs takes; what that run told is left in a file
+# the fewest nanoseconds that one of five runs takes, and the fewest milliseconds of processors; what the quickest told is left in
+# a file
+TIMEFORMAT=%3U
 took() {
-    local begin spent best=
+    local begin spent used best= least=
     for _ in 1 2 3 4 5; do
         begin=$(date +%s%N)
-        "$program" "$@" >"$folder/tells"
+        used=$({ time "$program" "$@" >"$folder/tells"; } 2>&1)
         spent=$(($(date +%s%N) - begin))
+        used=$((10#${used/./}))
         if [ -z "$best" ] || [ "$spent" -lt "$best" ]; then
             best=$spent
             mv "$folder/tells" "$folder/told"
         fi
+        if [ -z "$least" ] || [ "$used" -lt "$least" ]; then
+            least=$used
+        fi
     done
-    echo "$best"
+    echo "$best $least"
 }
 for writes in 0 1; do
     [ "$gets" -gt 0 ] || break
     for readers in 1 2 4; do
-        idle=$(took "$readers" 0 100 0)
-        busy=$(took "$readers" "$gets" 100 "$writes")
-        printf '%s readers, %s: %s gets a second; %s\n' "$readers" "$([ "$writes" = 1 ] && echo 'one writes' || echo 'nobody writes')" \
-            $((readers * gets * 1000 / ((busy - idle) / 1000000 + 1))) "$(cat "$folder/told")"
+        read -r idle idly <<<"$(took "$readers" 0 100 0)"
+        read -r busy used <<<"$(took "$readers" "$gets" 100 "$writes")"
+        printf '%s readers, %s: %s gets a second, ' "$readers" "$([ "$writes" = 1 ] && echo 'one writes' || echo 'nobody writes')" \
+            $((readers * gets * 1000 / ((busy - idle) / 1000000 + 1)))
+        # (the writer's time is among what the processors spent)
+        [ "$writes" = 1 ] || printf '%s ns of a processor for each, ' $(((used - idly) * 1000000 / (readers * gets)))
+        cat "$folder/told"
     done
 done
 
