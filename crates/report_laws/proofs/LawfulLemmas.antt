@@ -164,13 +164,7 @@ plain s sight Compact o small short ends = let told = compaction_plain s sight.s
 
 -- ---- all commands
 
-along_compaction_plain : (s : Setting) (seen v : ℕ) (ended : Ended) → v < 2 ^ 64 → BlockEnds s seen [] Commit v ended → EndsCompaction ended × SmallEnded ended
-compaction_plain s seen v Shown small ends = absurd ends
-compaction_plain s seen v Committed small ends = (tt, tt)
-compaction_plain s seen v RolledBack small ends = let never : Commit ≡ Rollback = ends.0 in absurd cc
-compaction_plain s seen v (Refused cause) small ends = (tt, cause_small s [] Commit v cause small (omega arith) ends.1)
-
-plain : (s : Setting) (sight : Sight) (last : ℕ) (pairs : List Pair) → last < 2 ^ 64 → AllByRecursion (λ pair. pair.1.version ≤ last) pairs → AllByRecursion IsShort (map command_in pairs) → Along s sight pairs → AllPlain pairs
+along_plain : (s : Setting) (sight : Sight) (last : ℕ) (pairs : List Pair) → last < 2 ^ 64 → AllByRecursion (λ pair. pair.1.version ≤ last) pairs → AllByRecursion IsShort (map command_in pairs) → Along s sight pairs → AllPlain pairs
 along_plain s sight last [] small below short along = tt
 along_plain s sight last (pair ∷ pairs) small below short along = (
   plain s sight pair.0 pair.1 (let l = below.0 in omega (arith, l, small)) short.0 along.0,
