@@ -18,7 +18,10 @@ fn ten_names_of_three_hundred_need_few_chunks(rt: HostRuntime) -> Result<(), Fai
     assert!(rt; outcome.sparse >= 10);
     assert_eq!(rt; outcome.done, Done::Whole);
     assert_eq!(rt; outcome.names, 10);
-    assert_eq!(rt; live_cells(&usage), outcome.nodes.saturating_add(10 * ITEM_CELLS));
+    assert_eq!(rt;
+        live_cells(&usage),
+        outcome.nodes.saturating_add(10 * ITEM_CELLS)
+    );
     assert!(rt; counted_chunks(&usage) <= 3);
     Ok(())
 }
@@ -34,7 +37,10 @@ fn an_evacuation_stops_where_no_chunk_is_free(rt: HostRuntime) -> Result<(), Fai
     assert_eq!(rt; outcome.sparse, 1);
     assert_eq!(rt; outcome.done, Done::Stopped);
     assert_eq!(rt; outcome.names, 3);
-    assert_eq!(rt; live_cells(&usage), outcome.nodes.saturating_add(3 * ITEM_CELLS));
+    assert_eq!(rt;
+        live_cells(&usage),
+        outcome.nodes.saturating_add(3 * ITEM_CELLS)
+    );
     assert_eq!(rt; usage.free(), 0);
     Ok(())
 }
