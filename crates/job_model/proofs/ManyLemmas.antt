@@ -9,8 +9,8 @@ use Rattle.zone_model.specs.Versions.{Operation}
 use Rattle.job_model.specs.declared.ScriptKind.{ScriptKind}
 use Rattle.job_model.specs.declared.ScriptKind.TheVariants.{NoWorker, BadCommand, NotHeld, AlreadyHeld, TooMany}
 use Rattle.job_model.specs.declared.Ending.{Ending}
-use Rattle.job_model.specs.Commands.{Command, Block}
-use Rattle.job_model.specs.Phrases.{Phrase, Worker, Asks, Holds, AsksHeld, Releases, Opens, Adds, Deletes, Ends, phrase_of, script_tokens}
+use Rattle.job_model.specs.Commands.{Command, Block, Compact}
+use Rattle.job_model.specs.Phrases.{Phrase, Worker, Asks, Holds, AsksHeld, Releases, Opens, Adds, Deletes, Ends, Compacts, phrase_of, script_tokens}
 use Rattle.job_model.specs.Arguments.{refuse, question_of, addition_of, deletion_of}
 use Rattle.job_model.specs.Jobs.{Unfinished, Script, lists_of, worker_limit, command_limit, operation_limit, of_worker, while_held, while_free, with_room, with_command, with_question, with_held_question, holding, released, opened, next_worker, outside, with_operation, joined, may_end, ended, inside, taken, tokens_say, script_line, script_from, finished, no_lines, script_of}
 
@@ -64,6 +64,7 @@ outside_kept origin n (Opens weight) s few = of_worker_kept n s (with_room n s (
 outside_kept origin n (Adds owner ttl rtype tokens) s few = tt
 outside_kept origin n (Deletes owner rest) s few = tt
 outside_kept origin n (Ends ending) s few = tt
+outside_kept origin n Compacts s few = of_worker_kept n s (with_room n s (Ok (with_command s Compact))) (with_room_kept n s (Ok (with_command s Compact)) few)
 
 joined_kept : (n : ℕ) (b : Unfinished) (s : Script) (r : Result Operation (Refused ScriptKind)) → Few s.begun s.earlier → Kept (joined n b s r)
 joined_kept n b s r few = if_kept (nat_lt (length b.operations) operation_limit) (r >>= with_operation b s) (refuse n (TooMany operation_limit)) (λ _. bind_kept r (with_operation b s) (λ operation. few)) tt
@@ -82,6 +83,7 @@ inside_kept origin n b (Opens _) s few = tt
 inside_kept origin n b (Adds owner ttl rtype tokens) s few = joined_kept n b s (addition_of origin n owner ttl rtype tokens) few
 inside_kept origin n b (Deletes owner rest) s few = joined_kept n b s (deletion_of origin n owner rest) few
 inside_kept origin n b (Ends ending) s few = ended_kept n b ending s few
+inside_kept origin n b Compacts s few = tt
 
 -- ---- the lines
 

@@ -10,8 +10,8 @@ use Rattle.job_model.specs.declared.ScriptKind.{ScriptKind}
 use Rattle.job_model.specs.declared.ScriptKind.TheVariants.{NoWorker, BadCommand, NotHeld, AlreadyHeld, TooMany}
 use Rattle.job_model.specs.declared.Ending.{Ending}
 use Rattle.job_model.specs.declared.Weight.{Weight}
-use Rattle.job_model.specs.Commands.{Question, Command, Ask, Hold, AskHeld, Release, Block, held_after, MayCome, InTurn}
-use Rattle.job_model.specs.Phrases.{Phrase, Worker, Asks, Holds, AsksHeld, Releases, Opens, Adds, Deletes, Ends, phrase_of, script_tokens}
+use Rattle.job_model.specs.Commands.{Question, Command, Ask, Hold, AskHeld, Release, Block, Compact, held_after, MayCome, InTurn}
+use Rattle.job_model.specs.Phrases.{Phrase, Worker, Asks, Holds, AsksHeld, Releases, Opens, Adds, Deletes, Ends, Compacts, phrase_of, script_tokens}
 use Rattle.job_model.specs.Arguments.{refuse, question_of, addition_of, deletion_of}
 use Rattle.job_model.specs.Jobs.{Unfinished, Script, lists_of, worker_limit, command_limit, operation_limit, of_worker, while_held, while_free, with_room, with_command, with_question, with_held_question, holding, released, opened, next_worker, outside, with_operation, joined, may_end, ended, inside, taken, tokens_say, script_line, script_from, finished, no_lines, script_of}
 
@@ -93,6 +93,8 @@ outside_kept origin n (Opens weight) s sound = of_worker_kept n s (with_room n s
 outside_kept origin n (Adds owner ttl rtype tokens) s sound = tt
 outside_kept origin n (Deletes owner rest) s sound = tt
 outside_kept origin n (Ends ending) s sound = tt
+outside_kept origin n Compacts s sound =
+    of_worker_kept n s (with_room n s (Ok (with_command s Compact))) (with_room_kept n s (Ok (with_command s Compact)) (sound-push s.earlier s.commands s.held Compact sound tt))
 
 -- ---- a line inside a block
 
@@ -115,6 +117,7 @@ inside_kept origin n b (Opens _) s sound = tt
 inside_kept origin n b (Adds owner ttl rtype tokens) s sound = joined_kept n b s (addition_of origin n owner ttl rtype tokens) sound
 inside_kept origin n b (Deletes owner rest) s sound = joined_kept n b s (deletion_of origin n owner rest) sound
 inside_kept origin n b (Ends ending) s sound = ended_kept n b ending s sound
+inside_kept origin n b Compacts s sound = tt
 
 -- ---- the lines
 

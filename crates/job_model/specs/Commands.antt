@@ -19,13 +19,15 @@ pub data Question : Type 0 where
   Back : (stretch : Stretch) → Question
   Stat : Question
 
--- A question to the current version; a snapshot of that is taken, is asked, and is given back; a transaction.
+-- A question to the current version; a snapshot of that is taken, is asked, and is given back; a transaction; a compaction, which is
+-- a transaction without operations.
 pub data Command : Type 0 where
   Ask : (question : Question) → Command
   Hold : Command
   AskHeld : (question : Question) → Command
   Release : Command
   Block : (weight : Weight) (operations : List Operation) (ending : Ending) → Command
+  Compact : Command
 
 -- a zone of an origin, and the commands of each worker
 pub record Job : Type 0 where
@@ -42,6 +44,7 @@ held_after held Hold = true
 held_after held (AskHeld question) = held
 held_after held Release = false
 held_after held (Block _ operations ending) = held
+held_after held Compact = held
 
 -- A snapshot is taken only while none is held, and asked or given back only while one is.
 abbrev pub MayCome : Bool → Command → Type 0
@@ -50,6 +53,7 @@ MayCome held Hold = held ≡ false
 MayCome held (AskHeld question) = held ≡ true
 MayCome held Release = held ≡ true
 MayCome held (Block _ operations ending) = Unit {0}
+MayCome held Compact = Unit {0}
 
 -- each of a worker's commands may come where it stands
 abbrev pub InTurn : Bool → List Command → Type 0

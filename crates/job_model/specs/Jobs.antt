@@ -15,8 +15,8 @@ use Rattle.job_model.specs.declared.ScriptKind.{ScriptKind}
 use Rattle.job_model.specs.declared.ScriptKind.TheVariants.{NoWorker, BadCommand, OpenBlock, NotHeld, AlreadyHeld, TooMany}
 use Rattle.job_model.specs.declared.Weight.{Weight}
 use Rattle.job_model.specs.declared.Weight.TheVariants.{Light, Heavy}
-use Rattle.job_model.specs.Commands.{Question, Command, Ask, Hold, AskHeld, Release, Block, Job}
-use Rattle.job_model.specs.Phrases.{Asked, Phrase, Worker, Asks, Holds, AsksHeld, Releases, Opens, Adds, Deletes, Ends, phrase_of, script_tokens}
+use Rattle.job_model.specs.Commands.{Question, Command, Ask, Hold, AskHeld, Release, Block, Compact, Job}
+use Rattle.job_model.specs.Phrases.{Asked, Phrase, Worker, Asks, Holds, AsksHeld, Releases, Opens, Adds, Deletes, Ends, Compacts, phrase_of, script_tokens}
 use Rattle.job_model.specs.Arguments.{refuse, question_of, addition_of, deletion_of}
 
 -- why bytes are no job
@@ -104,6 +104,7 @@ outside origin n (Opens weight) s = of_worker n s (with_room n s (Ok (opened n w
 outside origin n (Adds owner ttl rtype tokens) s = refuse n BadCommand
 outside origin n (Deletes owner rest) s = refuse n BadCommand
 outside origin n (Ends ending) s = refuse n BadCommand
+outside origin n Compacts s = of_worker n s (with_room n s (Ok (with_command s Compact)))
 
 -- ---- a line inside a block
 
@@ -136,6 +137,7 @@ inside origin n b (Opens _) s = refuse n BadCommand
 inside origin n b (Adds owner ttl rtype tokens) s = joined n b s (addition_of origin n owner ttl rtype tokens)
 inside origin n b (Deletes owner rest) s = joined n b s (deletion_of origin n owner rest)
 inside origin n b (Ends ending) s = ended n b ending s
+inside origin n b Compacts s = refuse n BadCommand
 
 -- ---- the lines
 

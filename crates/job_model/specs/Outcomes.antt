@@ -5,7 +5,7 @@ use Rattle.std.specs.List.Sorted.{IsStrictlySortedBy}
 use Rattle.std.specs.Ordering.{nat_cmp}
 use Rattle.zone_model.specs.Names.{Name}
 use Rattle.zone_model.specs.Versions.{Version, Operation, apply, whole}
-use Rattle.job_model.specs.Commands.{Command, Ask, Hold, AskHeld, Release, Block}
+use Rattle.job_model.specs.Commands.{Command, Ask, Hold, AskHeld, Release, Block, Compact}
 use Rattle.job_model.specs.Sizes.{cell_count}
 use Rattle.zone_model.specs.declared.Refusal.{Refusal}
 use Rattle.job_model.specs.declared.Ending.{Ending}
@@ -57,6 +57,7 @@ operations_of Hold = []
 operations_of (AskHeld question) = []
 operations_of Release = []
 operations_of (Block _ operations ending) = operations
+operations_of Compact = []
 
 -- the operations that made version j
 abbrev pub operations_at : ℕ → List Pair → List Operation
@@ -89,6 +90,7 @@ shown_by Hold v = v ∷ []
 shown_by (AskHeld question) v = v ∷ []
 shown_by Release v = []
 shown_by (Block _ operations ending) v = []
+shown_by Compact v = []
 
 abbrev pub shown_in : List Pair → List ℕ
 shown_in [] = []
@@ -163,6 +165,7 @@ sight_after sight Hold v = record { seen = v; held = Some v }
 sight_after sight (AskHeld question) v = sight
 sight_after sight Release v = record sight { held = None }
 sight_after sight (Block _ operations ending) v = record sight { seen = v }
+sight_after sight Compact v = record sight { seen = v }
 
 -- it shows a version, which may be that one
 abbrev pub Shows : Type 0 → Ended → Type 0
@@ -179,6 +182,7 @@ EndsLawfully s sight Hold v ended = Shows (sight.seen ≤ v) ended
 EndsLawfully s sight (AskHeld question) v ended = Shows (sight.held ≡ Some v) ended
 EndsLawfully s sight Release v ended = Shows (sight.held ≡ Some v) ended
 EndsLawfully s sight (Block _ operations ending) v ended = BlockEnds s sight.seen operations ending v ended
+EndsLawfully s sight Compact v ended = BlockEnds s sight.seen [] Commit v ended
 
 -- the commands of one worker, from what it has come to
 abbrev pub Along : Setting → Sight → List Pair → Type 0

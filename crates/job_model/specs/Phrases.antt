@@ -41,6 +41,7 @@ pub data Phrase : Type 0 where
   Adds : (owner ttl rtype : Token) (rdata : List Token) → Phrase
   Deletes : (owner : Token) (rest : List Token) → Phrase
   Ends : (ending : Ending) → Phrase
+  Compacts : Phrase
 
 -- the token is a command word, which stands in lower case and without quotes
 abbrev pub says : Token → List ℕ → Bool
@@ -76,6 +77,7 @@ lone_word w =
     else if says w (codes "update") then Some (Opens Heavy)
     else if says w (codes "commit") then Some (Ends Commit)
     else if says w (codes "rollback") then Some (Ends Rollback)
+    else if says w (codes "compact") then Some Compacts
     else option_map Asks (asked_of (w ∷ []))
 
 -- an addition has an owner, a time to live, a type, and data of one token or more

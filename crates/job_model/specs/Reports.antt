@@ -4,7 +4,7 @@ use Rattle.std.specs.List.{flat_map}
 use Rattle.std.specs.Fmt.{decimal}
 use Rattle.zone_model.specs.Names.{Name}
 use Rattle.zone_model.specs.Versions.{Version}
-use Rattle.job_model.specs.Commands.{Command, Ask, Hold, AskHeld, Release, Block}
+use Rattle.job_model.specs.Commands.{Command, Ask, Hold, AskHeld, Release, Block, Compact}
 use Rattle.job_model.specs.Replies.{reply_of, reply_text}
 use Rattle.job_model.specs.Outcomes.{Cause, Rule, Full, Spent, Ended, Shown, Committed, RolledBack, Refused, Outcome, Pair, all_pairs, version_at}
 use Rattle.zone_model.specs.declared.Refusal.{Refusal}
@@ -32,12 +32,20 @@ ended_text Committed = codes "COMMITTED\n"
 ended_text RolledBack = codes "ROLLED BACK\n"
 ended_text (Refused cause) = codes "REFUSED " ++ cause_text cause ++ codes "\n"
 
+-- how a compaction ended
+abbrev pub compacted_text : Ended → List ℕ
+compacted_text Shown = []
+compacted_text Committed = codes "COMPACTED\n"
+compacted_text RolledBack = []
+compacted_text (Refused cause) = ended_text (Refused cause)
+
 abbrev pub command_text : Name → (ℕ → Version) → Command → Outcome → List ℕ
 command_text origin set (Ask question) o = reply_text (reply_of origin (set o.version) question)
 command_text origin set Hold o = codes "HELD\n"
 command_text origin set (AskHeld question) o = reply_text (reply_of origin (set o.version) question)
 command_text origin set Release o = codes "RELEASED\n"
 command_text origin set (Block _ operations ending) o = ended_text o.ended
+command_text origin set Compact o = compacted_text o.ended
 
 abbrev pub worker_text : Name → (ℕ → Version) → ℕ → ℕ → List Pair → List ℕ
 worker_text origin set w c [] = []

@@ -3,12 +3,12 @@ use Rattle.std.proofs.Common.{◌≡◌, ◌∙◌, ℕ, ◌+◌, List, [], ◌�
 use Rattle.std.specs.List.{list_any}
 use Rattle.zone_model.specs.Names.{Name}
 use Rattle.zone_model.specs.Versions.{Version}
-use Rattle.job_model.specs.Commands.{Command, Ask, Hold, AskHeld, Release, Block}
+use Rattle.job_model.specs.Commands.{Command, Ask, Hold, AskHeld, Release, Block, Compact}
 use Rattle.job_model.specs.Outcomes.{Pair, all_pairs, is_refused, some_refused}
 use Rattle.job_model.specs.Replies as replies
 use Rattle.job_model.specs.Replies.{reply_of, reply_text}
-use Rattle.job_model.specs.Reports.{head_text, ended_text, end_text, command_text, worker_text, workers_text, report}
-use Rattle.job_script.specs.Outcomes.{ended_view, outcome_view, pairs_of, job_pairs, versions_made, Replies, EndsBlock, Tells, EachTells, AllTell, told_text, outcome_text, outcomes_text, all_text}
+use Rattle.job_model.specs.Reports.{head_text, ended_text, compacted_text, end_text, command_text, worker_text, workers_text, report}
+use Rattle.job_script.specs.Outcomes.{ended_view, outcome_view, pairs_of, job_pairs, versions_made, Replies, EndsBlock, EndsCompaction, Tells, EachTells, AllTell, told_text, outcome_text, outcomes_text, all_text}
 use Rattle.job_script.specs.declared.outcomes.Told.{Told}
 use Rattle.job_script.specs.declared.outcomes.Told.TheVariants as told
 use Rattle.job_script.specs.declared.outcomes.Outcome.{Outcome}
@@ -19,6 +19,7 @@ replied wanted (told.Reply reply) r = ap reply_text (sym r)
 replied wanted told.Held r = absurd r
 replied wanted told.Released r = absurd r
 replied wanted told.Committed r = absurd r
+replied wanted told.Compacted r = absurd r
 replied wanted told.RolledBack r = absurd r
 replied wanted (told.Refused refused) r = absurd r
 
@@ -27,8 +28,18 @@ block_ended (told.Reply reply) e = absurd e
 block_ended told.Held e = absurd e
 block_ended told.Released e = absurd e
 block_ended told.Committed e = refl
+block_ended told.Compacted e = absurd e
 block_ended told.RolledBack e = refl
 block_ended (told.Refused refused) e = refl
+
+compaction_ended : (t : Told) → EndsCompaction t → compacted_text (ended_view t) ≡ told_text t
+compaction_ended (told.Reply reply) e = absurd e
+compaction_ended told.Held e = absurd e
+compaction_ended told.Released e = absurd e
+compaction_ended told.Committed e = absurd e
+compaction_ended told.Compacted e = refl
+compaction_ended told.RolledBack e = absurd e
+compaction_ended (told.Refused refused) e = refl
 
 command_told : (origin : Name) (set : ℕ → Version) (c : Command) (o : Outcome) → Tells origin set c o → command_text origin set c (outcome_view o) ≡ told_text o.told
 command_told origin set (Ask question) o t = replied (reply_of origin (set o.version) question) o.told t
@@ -36,6 +47,7 @@ command_told origin set Hold o t = sym (ap told_text t)
 command_told origin set (AskHeld question) o t = replied (reply_of origin (set o.version) question) o.told t
 command_told origin set Release o t = sym (ap told_text t)
 command_told origin set (Block _ operations ending) o t = block_ended o.told t
+command_told origin set Compact o t = compaction_ended o.told t
 
 worker_told : (origin : Name) (set : ℕ → Version) (w c : ℕ) (cs : List Command) (os : List Outcome) → EachTells origin set cs os → worker_text origin set w c (pairs_of cs os) ≡ outcomes_text w c os
 worker_told origin set w c [] [] t = refl

@@ -66,6 +66,7 @@ line_told w c v (told.Reply reply) = refl
 line_told w c v told.Held = refl
 line_told w c v told.Released = refl
 line_told w c v told.Committed = refl
+line_told w c v told.Compacted = refl
 line_told w c v told.RolledBack = refl
 line_told w c v (told.Refused refused) = refl
 

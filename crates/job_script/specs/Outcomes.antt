@@ -7,7 +7,7 @@ use Rattle.job_model.specs.Outcomes as outcomes
 use Rattle.job_model.specs.Outcomes.{Pair, all_pairs, version_at}
 use Rattle.job_model.specs.Replies.{reply_of, reply_text}
 use Rattle.job_model.specs.Replies as replies
-use Rattle.job_model.specs.Reports.{head_text, ended_text}
+use Rattle.job_model.specs.Reports.{head_text, ended_text, compacted_text}
 use Rattle.job_script.specs.Replies.{reply_view}
 use Rattle.job_script.specs.declared.outcomes.Cause.{Cause}
 use Rattle.job_script.specs.declared.outcomes.Cause.TheVariants as cause
@@ -26,6 +26,7 @@ ended_view (told.Reply reply) = outcomes.Shown
 ended_view told.Held = outcomes.Shown
 ended_view told.Released = outcomes.Shown
 ended_view told.Committed = outcomes.Committed
+ended_view told.Compacted = outcomes.Committed
 ended_view told.RolledBack = outcomes.RolledBack
 ended_view (told.Refused refused) = outcomes.Refused (cause_view refused)
 
@@ -55,6 +56,7 @@ Replies wanted (told.Reply reply) = reply_view reply ≡ wanted
 Replies wanted told.Held = ⊥
 Replies wanted told.Released = ⊥
 Replies wanted told.Committed = ⊥
+Replies wanted told.Compacted = ⊥
 Replies wanted told.RolledBack = ⊥
 Replies wanted (told.Refused refused) = ⊥
 
@@ -63,8 +65,18 @@ EndsBlock (told.Reply reply) = ⊥
 EndsBlock told.Held = ⊥
 EndsBlock told.Released = ⊥
 EndsBlock told.Committed = Unit {0}
+EndsBlock told.Compacted = ⊥
 EndsBlock told.RolledBack = Unit {0}
 EndsBlock (told.Refused refused) = Unit {0}
+
+abbrev pub EndsCompaction : Told → Type 0
+EndsCompaction (told.Reply reply) = ⊥
+EndsCompaction told.Held = ⊥
+EndsCompaction told.Released = ⊥
+EndsCompaction told.Committed = ⊥
+EndsCompaction told.Compacted = Unit {0}
+EndsCompaction told.RolledBack = ⊥
+EndsCompaction (told.Refused refused) = Unit {0}
 
 -- The outcome is of its command's kind, and a question's reply is what the version replies that it shows.
 abbrev pub Tells : Name → (ℕ → Version) → jobs.Command → Outcome → Type 0
@@ -73,6 +85,7 @@ Tells origin set jobs.Hold o = o.told ≡ told.Held
 Tells origin set (jobs.AskHeld question) o = Replies (reply_of origin (set o.version) question) o.told
 Tells origin set jobs.Release o = o.told ≡ told.Released
 Tells origin set (jobs.Block _ operations ending) o = EndsBlock o.told
+Tells origin set jobs.Compact o = EndsCompaction o.told
 
 -- there is one for each command of a worker, and a list for each worker
 abbrev pub EachTells : Name → (ℕ → Version) → List jobs.Command → List Outcome → Type 0
@@ -94,6 +107,7 @@ told_text (told.Reply reply) = reply_text (reply_view reply)
 told_text told.Held = codes "HELD\n"
 told_text told.Released = codes "RELEASED\n"
 told_text told.Committed = ended_text outcomes.Committed
+told_text told.Compacted = compacted_text outcomes.Committed
 told_text told.RolledBack = ended_text outcomes.RolledBack
 told_text (told.Refused refused) = ended_text (outcomes.Refused (cause_view refused))
 

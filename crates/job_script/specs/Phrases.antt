@@ -25,6 +25,7 @@ phrase_view bytes (phrase.Opens weight) = phrases.Opens weight
 phrase_view bytes (phrase.Adds owner ttl rtype rest) = phrases.Adds (token_view bytes owner) (token_view bytes ttl) (token_view bytes rtype) (map (token_view bytes) rest.now)
 phrase_view bytes (phrase.Deletes owner rest) = phrases.Deletes (token_view bytes owner) (map (token_view bytes) rest.now)
 phrase_view bytes (phrase.Ends ending) = phrases.Ends ending
+phrase_view bytes phrase.Compacts = phrases.Compacts
 
 -- the tokens lie inside the bytes
 abbrev pub AskedPlaced : List ℕ → Asked → Type 0
@@ -44,3 +45,4 @@ PhrasePlaced bytes (phrase.Opens _) = Unit {0}
 PhrasePlaced bytes (phrase.Adds owner ttl rtype rest) = IsPlaced bytes owner × IsPlaced bytes ttl × IsPlaced bytes rtype × All (IsPlaced bytes) rest.now
 PhrasePlaced bytes (phrase.Deletes owner rest) = IsPlaced bytes owner × All (IsPlaced bytes) rest.now
 PhrasePlaced bytes (phrase.Ends _) = Unit {0}
+PhrasePlaced bytes phrase.Compacts = Unit {0}

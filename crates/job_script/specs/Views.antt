@@ -42,6 +42,7 @@ command_view command.Hold = jobs.Hold
 command_view (command.AskHeld asked) = jobs.AskHeld (question_view asked)
 command_view command.Release = jobs.Release
 command_view (command.Block b) = block_view b
+command_view command.Compact = jobs.Compact
 
 abbrev pub worker_view : Worker → List jobs.Command
 worker_view w = map command_view w.commands.items

@@ -47,6 +47,8 @@ pub enum Command {
     /// The snapshot is given back.
     Release,
     Block(Block),
+    /// A compaction.
+    Compact,
 }
 
 /// A worker's list, in order.

@@ -37,7 +37,8 @@ pub fn inside(
         | Phrase::Holds
         | Phrase::AsksHeld(_)
         | Phrase::Releases
-        | Phrase::Opens(_) => Err(refused(line, ScriptKind::BadCommand)),
+        | Phrase::Opens(_)
+        | Phrase::Compacts => Err(refused(line, ScriptKind::BadCommand)),
         Phrase::Adds(_, _, _, _) | Phrase::Deletes(_, _)
             if block.operations.len() >= OPERATION_LIMIT => Err(too_many(line, 10000)),
         Phrase::Adds(owner, ttl, rtype, tokens) => {

@@ -29,6 +29,8 @@ pub enum Told {
     Released,
     /// A transaction made a version.
     Committed,
+    /// A compaction made a version.
+    Compacted,
     RolledBack,
     Refused(Cause),
 }
@@ -52,7 +54,7 @@ pub(crate) fn is_committed(outcome: &Outcome) -> bool
     ensures { result ≡ is_committed (ended_view outcome.now.told) }
 {
     match &outcome.told {
-        Told::Committed => true,
+        Told::Committed | Told::Compacted => true,
         Told::Reply(_) | Told::Held | Told::Released | Told::RolledBack | Told::Refused(_) => false,
     }
 }
@@ -63,7 +65,12 @@ pub(crate) fn is_refused(outcome: &Outcome) -> bool
 {
     match &outcome.told {
         Told::Refused(_) => true,
-        Told::Reply(_) | Told::Held | Told::Released | Told::Committed | Told::RolledBack => false,
+        Told::Reply(_)
+        | Told::Held
+        | Told::Released
+        | Told::Committed
+        | Told::Compacted
+        | Told::RolledBack => false,
     }
 }
 

@@ -40,6 +40,7 @@ pub fn outside(
         Phrase::AsksHeld(asked) => add_held_question(script, bytes, origin, line, asked),
         Phrase::Releases => release(script, line),
         Phrase::Opens(weight) => open_block(script, alloc, line, weight),
+        Phrase::Compacts => compact(script, line),
         Phrase::Adds(_, _, _, _) | Phrase::Deletes(_, _) | Phrase::Ends(_) => Err(refused(
             line,
             ScriptKind::BadCommand,
@@ -153,6 +154,20 @@ fn release(script: &mut Script, line: u32) -> Result<(), JobRefusal>
     }
     script.commands.push(Command::Release)?;
     script.held = false;
+    Ok(())
+}
+
+// A compaction.
+fn compact(script: &mut Script, line: u32) -> Result<(), JobRefusal>
+    ensures { (origin : Labels) → ScriptReads result (script_view script.new) (jobs.outside origin line phrases.Compacts (script_view script.old)) }
+{
+    if !script.begun {
+        return Err(refused(line, ScriptKind::NoWorker));
+    }
+    if script.commands.len() >= COMMAND_LIMIT {
+        return Err(too_many(line, 10000));
+    }
+    script.commands.push(Command::Compact)?;
     Ok(())
 }
 

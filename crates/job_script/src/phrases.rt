@@ -44,6 +44,8 @@ pub enum Phrase<'a> {
     Deletes(Token, &'a [Token]),
     /// A block ends.
     Ends(Ending),
+    /// A compaction.
+    Compacts,
 }
 
 // Whether a token is a command word.
@@ -136,6 +138,8 @@ fn lone_word<'a>(bytes: &[u8], word: Token) -> Option<Phrase<'a>>
         Some(Phrase::Ends(Ending::Commit))
     } else if says(bytes, word, b"rollback") {
         Some(Phrase::Ends(Ending::Rollback))
+    } else if says(bytes, word, b"compact") {
+        Some(Phrase::Compacts)
     } else if says(bytes, word, b"stat") {
         Some(Phrase::Asks(Asked::Stats))
     } else {

@@ -80,6 +80,7 @@ fn push_told(out: &mut Vec<u8>, told: &Told) -> Result<(), AllocError>
         Told::Held => out.extend_from_slice(b"HELD\n"),
         Told::Released => out.extend_from_slice(b"RELEASED\n"),
         Told::Committed => out.extend_from_slice(b"COMMITTED\n"),
+        Told::Compacted => out.extend_from_slice(b"COMPACTED\n"),
         Told::RolledBack => out.extend_from_slice(b"ROLLED BACK\n"),
         Told::Refused(cause) => push_refused(out, cause),
     }

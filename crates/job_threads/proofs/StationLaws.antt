@@ -1,11 +1,13 @@
 -- Steps of a worker, by where its passes are.
-use Rattle.std.proofs.Common.{◌≡◌, List, Option, Some, None, refl, sym, ap, subst}
+use Rattle.std.proofs.Common.{◌≡◌, List, [], Option, Some, None, refl, sym, ap, subst}
 use Rattle.std.specs.Prelude.{IsSome}
 use Rattle.std.specs.Option.{option_map}
 use Rattle.zone_model.specs.Versions.{Operation as ZoneOperation}
 use Rattle.job_model.specs.declared.Ending.{Ending}
+use Rattle.job_model.specs.declared.Ending.TheVariants.{Commit}
 use Rattle.job_model.specs.declared.Weight.{Weight}
-use Rattle.job_model.specs.Commands.{Question, Ask, Hold, AskHeld, Release, Block}
+use Rattle.job_model.specs.Commands.{Question, Ask, Hold, AskHeld, Release, Block, Compact}
+use Rattle.job_script.specs.Outcomes.{EndsBlock, EndsCompaction}
 use Rattle.job_script.specs.declared.outcomes.Outcome.{Outcome}
 use Rattle.shared_index.specs.Passes.{known_at, first_version}
 use Rattle.job_threads.specs.Histories.{Setup}
@@ -13,17 +15,22 @@ use Rattle.job_threads.specs.Commands.{Asked, IsHeld, Held, AskedHeld, Released,
 use Rattle.job_threads.specs.Steps.{IsUnder, Step}
 use Rattle.job_threads.specs.Stations.{Seat, Pinned, holder_view, station, IsPlaced}
 use Rattle.job_threads.proofs.ShowLaws.{seat_told, holder_told, seat_pass}
-use Rattle.job_threads.proofs.StepLaws.{ask_step, block_step, hold_step, held_step, release_step}
+use Rattle.job_threads.proofs.StepLaws.{ask_step, block_step, compact_step, hold_step, held_step, release_step}
 
 module _ (s : Setup) (o : Outcome) (asks : Option Seat) (some : IsSome asks) (opened : first_version (known_at asks).seen ≡ s.opening) where
   module _ (spare : Option (Option Seat)) (held : Option Pinned) (placed : IsPlaced spare held) (under : IsUnder (known_at asks) (holder_view spare held)) (asks' : Option Seat) where
     pub ask_done : (question : Question) → Asked s.origin question (known_at asks) (known_at asks') o → Step s (Ask question) o (station asks spare held) (station asks' spare held)
     ask_done question a = ask_step s o (station asks spare held) (station asks' spare held) opened (seat_told asks some) (holder_told spare held placed) under refl refl a.grows question a
 
-    pub block_done : (weight : Weight) (operations : List ZoneOperation) (ending : Ending) → BlockRan s operations ending (known_at asks) (known_at asks') o → Step s (Block weight operations ending) o (station asks spare held) (station asks' spare held)
-    block_done weight operations ending b =
+    pub block_done : (weight : Weight) (operations : List ZoneOperation) (ending : Ending) → EndsBlock o.told → BlockRan s operations ending (known_at asks) (known_at asks') o → Step s (Block weight operations ending) o (station asks spare held) (station asks' spare held)
+    block_done weight operations ending ends b =
         let own = seat_pass asks some in
-        block_step s o (station asks spare held) (station asks' spare held) opened (seat_told asks some) (holder_told spare held placed) under refl refl b.grows weight operations ending own.0 own.1 b
+        block_step s o (station asks spare held) (station asks' spare held) opened (seat_told asks some) (holder_told spare held placed) under refl refl b.grows weight operations ending own.0 own.1 ends b
+
+    pub compact_done : EndsCompaction o.told → BlockRan s [] Commit (known_at asks) (known_at asks') o → Step s Compact o (station asks spare held) (station asks' spare held)
+    compact_done ends b =
+        let own = seat_pass asks some in
+        compact_step s o (station asks spare held) (station asks' spare held) opened (seat_told asks some) (holder_told spare held placed) under refl refl b.grows own.0 own.1 ends b
 
   pub hold_done : (second : Option Seat) → IsSome second → IsUnder (known_at asks) (known_at second) → (asks' : Option Seat) (seat : Pinned) → IsHeld seat → Held (known_at asks) (known_at second) (known_at asks') seat o
       → Step s Hold o (station asks (Some second) None) (station asks' None (Some seat))

@@ -6,11 +6,13 @@ use Rattle.zone_model.specs.Versions.{Version, Operation as ZoneOperation, whole
 use Rattle.zone_model.specs.declared.Refusal.{Refusal}
 use Rattle.trie_model.specs.Keys as trie
 use Rattle.job_model.specs.declared.Ending.{Ending}
+use Rattle.job_model.specs.declared.Ending.TheVariants.{Commit}
 use Rattle.job_model.specs.declared.Weight.{Weight}
-use Rattle.job_model.specs.Commands.{Question, Command, Ask, Hold, AskHeld, Release, Block}
+use Rattle.job_model.specs.declared.Weight.TheVariants.{Heavy}
+use Rattle.job_model.specs.Commands.{Question, Command, Ask, Hold, AskHeld, Release, Block, Compact}
 use Rattle.job_model.specs.Replies.{reply_of}
-use Rattle.job_model.specs.Outcomes.{Ended, Shown, Committed, RolledBack, Refused, is_committed, Sight, Shows, Causes, BlockEnds, shown_by}
-use Rattle.job_script.specs.Outcomes.{ended_view, Replies, EndsBlock}
+use Rattle.job_model.specs.Outcomes.{Ended, Shown, Committed, RolledBack, Refused, is_committed, Sight, Shows, Causes, BlockEnds, EndsLawfully, shown_by, sight_after}
+use Rattle.job_script.specs.Outcomes.{ended_view, Replies, EndsBlock, EndsCompaction}
 use Rattle.job_script.specs.declared.outcomes.Told.{Told}
 use Rattle.job_script.specs.declared.outcomes.Told.TheVariants as told
 use Rattle.job_script.specs.declared.outcomes.Outcome.{Outcome}
@@ -30,14 +32,6 @@ abbrev Own : Type 0
 Own = PassView (List Operation)
 
 -- ---- outcomes
-
-ends_block : (t : Told) (e : Ended) → ended_view t ≡ e → (e ≡ Shown → ⊥) → EndsBlock t
-ends_block (told.Reply reply) e is n = n (sym is)
-ends_block told.Held e is n = n (sym is)
-ends_block told.Released e is n = n (sym is)
-ends_block told.Committed e is n = tt
-ends_block told.RolledBack e is n = tt
-ends_block (told.Refused refused) e is n = tt
 
 shows_at : (May : Type 0) (e : Ended) → e ≡ Shown → May → Shows May e
 shows_at May e is may = subst (Shows May) (sym is) may
@@ -121,28 +115,26 @@ module _ (s : Setup) (o : Outcome) (old new : Station) (opened : first_version o
           kept = still_kept (Ask question);
         }
 
-    pub block_step : (weight : Weight) (operations : List ZoneOperation) (ending : Ending) (own : Own) → old.asks.pass ≡ Some own → BlockRan s operations ending old.asks new.asks o → Step s (Block weight operations ending) o old new
-    block_step weight operations ending own is b = record {
+    -- what a transaction's step is, whatever is told of it
+    record Rest (c : Command) : Type 0 where
+      asks : IsPartOf new.asks.seen old.asks.seen
+      ends : (sight : Sight) → IsSight old sight → (set : ℕ → Version) (shown : List ℕ) → AreVersions s new.asks.seen.history set → CoversNamings shown new.asks.seen
+          → EndsLawfully (judged_by s set shown) sight c o.version (ended_view o.told)
+      below : o.version ≤ length new.asks.seen.history
+      holding : (sight : Sight) → IsSight old sight → IsSight new (sight_after sight c o.version)
+      writes : (own : Own) → old.asks.pass ≡ Some own → Writes s own c o.version (is_committed (ended_view o.told)) old.asks new.asks
+
+    block_rest : (weight : Weight) (operations : List ZoneOperation) (ending : Ending) (own : Own) → old.asks.pass ≡ Some own → BlockRan s operations ending old.asks new.asks o → Rest (Block weight operations ending)
+    block_rest weight operations ending own is b = record {
       asks = b.grows;
-      holds = still_part;
-      under = still_under;
-      held = held;
-      tells = λ set are. by_told (ended_view o.told) refl b.transacts;
       ends = λ sight is' set shown are covers. by_end sight is' set shown are covers (ended_view o.told) b.transacts;
       below = omega (arith, b.version);
       holding = λ sight is'. record { seen = omega (arith, b.version); held = still_holds sight.held is'.held };
       writes = λ own' is'. by_write own' is' (ended_view o.told) b.transacts;
-      kept = still_kept (Block weight operations ending);
     }
       where
         long : length old.asks.seen.history ≤ length new.asks.seen.history
         long = begins_length new.asks.seen.history old.asks.seen.history grows.history
-
-        by_told : (e : Ended) → ended_view o.told ≡ e → Transacts s operations ending old.asks new.asks e → EndsBlock o.told
-        by_told Shown e t = absurd t
-        by_told Committed e t = ends_block o.told Committed e (λ x. cc)
-        by_told RolledBack e t = ends_block o.told RolledBack e (λ x. cc)
-        by_told (Refused cause) e t = ends_block o.told (Refused cause) e (λ x. cc)
 
         stands_at : (set : ℕ → Version) → AreVersions s new.asks.seen.history set → StandsAs (version_seen new.asks.seen) (set o.version)
         stands_at set are = seen_stands s set new.asks new.asks o.version opened_now (begins_same new.asks.seen.history) b.version are
@@ -187,6 +179,46 @@ module _ (s : Setup) (o : Outcome) (old new : Station) (opened : first_version o
             }
         by_write own' is' RolledBack t = stays_same (Block weight operations ending) o.version own' new.asks (t.1 ∙ is')
         by_write own' is' (Refused cause) t = stays_same (Block weight operations ending) o.version own' new.asks (t.0 ∙ is')
+
+    pub block_step : (weight : Weight) (operations : List ZoneOperation) (ending : Ending) (own : Own) → old.asks.pass ≡ Some own → EndsBlock o.told → BlockRan s operations ending old.asks new.asks o → Step s (Block weight operations ending) o old new
+    block_step weight operations ending own is ends b =
+        let rest = block_rest weight operations ending own is b in
+        record {
+          asks = rest.asks;
+          holds = still_part;
+          under = still_under;
+          held = held;
+          tells = λ set are. ends;
+          ends = rest.ends;
+          below = rest.below;
+          holding = rest.holding;
+          writes = rest.writes;
+          kept = still_kept (Block weight operations ending);
+        }
+
+    -- a compaction ends as a block without operations does
+    pub compact_step : (own : Own) → old.asks.pass ≡ Some own → EndsCompaction o.told → BlockRan s [] Commit old.asks new.asks o → Step s Compact o old new
+    compact_step own is ends b =
+        let rest = block_rest Heavy [] Commit own is b in
+        record {
+          asks = rest.asks;
+          holds = still_part;
+          under = still_under;
+          held = held;
+          tells = λ set are. ends;
+          ends = rest.ends;
+          below = rest.below;
+          holding = rest.holding;
+          writes = λ own' is'. writes_as own' (is_committed (ended_view o.told)) (rest.writes own' is');
+          kept = still_kept Compact;
+        }
+      where
+        stays_as : (own' : Own) (v : Known) → Stays (Block Heavy [] Commit) o.version own' v → Stays Compact o.version own' v
+        stays_as own' v y = record { now = y.now; pass = y.pass; number = y.number; entries = y.entries; pinned = y.pinned }
+
+        writes_as : (own' : Own) (c : Bool) → Writes s own' (Block Heavy [] Commit) o.version c old.asks new.asks → Writes s own' Compact o.version c old.asks new.asks
+        writes_as own' false y = stays_as own' new.asks y
+        writes_as own' true y = record { base = y.base; operations = y.operations; before = y.before; mine = y.mine; history = y.history; pass = y.pass; numbered = y.numbered; makes = y.makes }
 
   -- the second pass took a snapshot
   pub hold_step : (seat : PinnedSeat (List trie.Entry) (List Operation)) → new.holds ≡ seat.place.me.0 → new.held ≡ true → IsHeld seat → Held old.asks old.holds new.asks seat o → Step s Hold o old new

@@ -2,6 +2,7 @@
 #![tactic(auto)]
 
 mod asking;
+mod compactions;
 mod gate;
 mod holding;
 mod job;

@@ -1,7 +1,7 @@
 //! Transactions.
 ghost use Rattle.std.specs.Prelude.{◌≡◌, IsSome, IsSomeAnd, IfOk, IfErr, map};
 ghost use Rattle.job_model.specs.Outcomes.{Committed, Refused, Spent as NoNumber};
-ghost use Rattle.job_script.specs.Outcomes.{ended_view};
+ghost use Rattle.job_script.specs.Outcomes.{ended_view, EndsBlock};
 ghost use Rattle.job_script.specs.Views.{operation_view};
 ghost use Rattle.shared_index.specs.Passes.{known_at};
 ghost use Rattle.shared_index.specs.Keepings.{versions_in};
@@ -30,7 +30,8 @@ fn kept_list(alloc: Global, kept: &Versions) -> Result<Vec<u64>, AllocError>
 
 // How a block ends whose operations stopped.
 fn stopped(alloc: Global, version: u64, halt: Halt) -> Result<Outcome, AllocError>
-    ensures { StoppedBy halt version result }
+    ensures stopped { StoppedBy halt version result }
+    ensures ends { IfOk result (λ o. EndsBlock o.told) }
 {
     let cause = match halt {
         Halt::Memory => return Err(AllocError),
@@ -50,6 +51,7 @@ fn stopped(alloc: Global, version: u64, halt: Halt) -> Result<Outcome, AllocErro
 fn committed(receipt: Result<Receipt, Spent>) -> Outcome
     ensures made { IfOk receipt (λ r. (result.version ≡ r.version) × (ended_view result.told ≡ Committed)) }
     ensures spent { IfErr receipt (λ s. (result.version ≡ s.version) × (ended_view result.told ≡ Refused NoNumber)) }
+    ensures ends { EndsBlock result.told }
 {
     match receipt {
         Ok(receipt) => Outcome {
@@ -96,6 +98,7 @@ fn write_block<R: Wait, N: Named>(
     requires light { block.now.weight ≡ Weight.Light }
     ensures here { IsSome pass.new.seat }
     ensures place { pass.new.place ≡ pass.old.place }
+    ensures ends { IfOk result (λ o. EndsBlock o.told) }
     ensures ran { (s : Setup) → IsSetup s origin.now index.now.shared.table.shared.key (known_at pass.old.seat)
         → IfOk result (BlockRan s (map operation_view block.now.operations.items) block.now.ending (known_at pass.old.seat) (known_at pass.new.seat)) }
 {
@@ -129,6 +132,7 @@ fn update_block<R: Wait, N: Named>(
     requires heavy { block.now.weight ≡ Weight.Heavy }
     ensures here { IsSome pass.new.seat }
     ensures place { pass.new.place ≡ pass.old.place }
+    ensures ends { IfOk result (λ o. EndsBlock o.told) }
     ensures ran { (s : Setup) → IsSetup s origin.now index.now.shared.table.shared.key (known_at pass.old.seat)
         → IfOk result (BlockRan s (map operation_view block.now.operations.items) block.now.ending (known_at pass.old.seat) (known_at pass.new.seat)) }
 {
@@ -165,6 +169,7 @@ pub fn run_block<R: Wait, N: Named>(
     requires place { pass.old.place ≡ index.now.place }
     ensures here { IsSome pass.new.seat }
     ensures place { pass.new.place ≡ pass.old.place }
+    ensures ends { IfOk result (λ o. EndsBlock o.told) }
     ensures ran { (s : Setup) → IsSetup s origin.now index.now.shared.table.shared.key (known_at pass.old.seat)
         → IfOk result (BlockRan s (map operation_view block.now.operations.items) block.now.ending (known_at pass.old.seat) (known_at pass.new.seat)) }
 {

@@ -11,6 +11,7 @@ ghost use Rattle.job_threads.specs.Stations.{IsPlaced, holder_view, station};
 ghost use Rattle.job_threads.specs.Works.{Begins, Numbers, WorkerRan, ended};
 
 use crate::asking::run_question;
+use crate::compactions::run_compaction;
 use crate::gate::Gate;
 use crate::law::ZoneLaw;
 use crate::passes::{Passes, ask_snapshot, give_back, second_pass, take_snapshot};
@@ -82,6 +83,7 @@ fn run_command<'i, R: Wait, N: Named>(
             Ok(outcome)
         }
         Command::Release => Ok(give_back(passes)),
+        Command::Compact => Ok(run_compaction(rt, index, &mut passes.asks)),
         Command::Block(block) => {
             let outcome = run_block(rt, alloc, origin, index, &mut passes.asks, block, buffers)?;
             Ok(outcome)

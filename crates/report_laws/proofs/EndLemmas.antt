@@ -7,7 +7,7 @@ use Rattle.std.specs.Fmt.{decimal}
 use Rattle.zone_model.specs.declared.Refusal.{Refusal}
 use Rattle.zone_model.specs.declared.Refusal.TheVariants.{Soa, Cname, Long}
 use Rattle.job_model.specs.Outcomes.{Cause, Rule, Full, Spent, Ended, Shown, Committed, RolledBack, Refused}
-use Rattle.job_model.specs.Reports.{rule_text, cause_text, ended_text}
+use Rattle.job_model.specs.Reports.{rule_text, cause_text, ended_text, compacted_text}
 use Rattle.report_laws.proofs.CutLemmas.{Free, free_append, free_map, stands, cut}
 use Rattle.report_laws.proofs.TextLemmas.{decimal_free, spaced_free}
 use Rattle.report_laws.proofs.LineLemmas.{IsLine, line, line_cut}
@@ -121,3 +121,35 @@ pub ended_cut : (a b : Ended) → (a ≡ Shown → ⊥) → (b ≡ Shown → ⊥
 ended_cut a b n m small less s t e =
     let parts = line_cut (ended_text a) (ended_text b) s t (ended_line a n) (ended_line b m) e in
     (ended_same a b n m small less (ap first_two parts.0) parts.0, parts.1)
+
+-- ---- endings of compactions
+
+abbrev pub EndsCompaction : Ended → Type 0
+EndsCompaction Shown = ⊥
+EndsCompaction Committed = Unit {0}
+EndsCompaction RolledBack = ⊥
+EndsCompaction (Refused cause) = Unit {0}
+
+compacted_line : (a : Ended) → EndsCompaction a → IsLine (compacted_text a)
+compacted_line Shown n = absurd n
+compacted_line Committed n = line (codes "COMPACTED") refl
+compacted_line RolledBack n = absurd n
+compacted_line (Refused cause) n = ended_line (Refused cause) (λ e. cc)
+
+compacted_same : (a b : Ended) → EndsCompaction a → EndsCompaction b → SmallEnded a → SmallEnded b → first_two (compacted_text a) ≡ first_two (compacted_text b) → compacted_text a ≡ compacted_text b → a ≡ b
+compacted_same Shown b n m small less r e = absurd n
+compacted_same RolledBack b n m small less r e = absurd n
+compacted_same Committed Shown n m small less r e = absurd m
+compacted_same Committed RolledBack n m small less r e = absurd m
+compacted_same Committed Committed n m small less r e = refl
+compacted_same Committed (Refused b) n m small less r e = absurd (omega (arith, r))
+compacted_same (Refused a) Shown n m small less r e = absurd m
+compacted_same (Refused a) RolledBack n m small less r e = absurd m
+compacted_same (Refused a) Committed n m small less r e = absurd (omega (arith, r))
+compacted_same (Refused a) (Refused b) n m small less r e = ended_same (Refused a) (Refused b) (λ x. cc) (λ x. cc) small less r e
+
+-- how a compaction ended, and what is behind it, is told
+pub compacted_cut : (a b : Ended) → EndsCompaction a → EndsCompaction b → SmallEnded a → SmallEnded b → (s t : List ℕ) → compacted_text a ++ s ≡ compacted_text b ++ t → (a ≡ b) × (s ≡ t)
+compacted_cut a b n m small less s t e =
+    let parts = line_cut (compacted_text a) (compacted_text b) s t (compacted_line a n) (compacted_line b m) e in
+    (compacted_same a b n m small less (ap first_two parts.0) parts.0, parts.1)

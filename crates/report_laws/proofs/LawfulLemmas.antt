@@ -8,10 +8,11 @@ use Rattle.std.specs.Fmt.{decimal}
 use Rattle.zone_model.specs.Names.{Name}
 use Rattle.zone_model.specs.Versions.{Version, Operation}
 use Rattle.job_model.specs.declared.Ending.{Ending}
-use Rattle.job_model.specs.Commands.{Command, Ask, Hold, AskHeld, Release, Block}
+use Rattle.job_model.specs.declared.Ending.TheVariants.{Commit, Rollback}
+use Rattle.job_model.specs.Commands.{Command, Ask, Hold, AskHeld, Release, Block, Compact}
 use Rattle.job_model.specs.Outcomes.{Cause, Rule, Full, Spent, Ended, Shown, Committed, RolledBack, Refused, Outcome, Pair, is_committed, made, times_made, Setting, setting_of, FullCause, Causes, BlockEnds, Sight, at_first, sight_after, Shows, EndsLawfully, Along, all_pairs, AllAlong, Lawful}
 use Rattle.job_model.specs.Reports.{head_text, command_text, worker_text, workers_text}
-use Rattle.report_laws.proofs.EndLemmas.{SmallCause, SmallEnded}
+use Rattle.report_laws.proofs.EndLemmas.{SmallCause, SmallEnded, EndsCompaction}
 use Rattle.report_laws.proofs.RunLemmas.{OfKind, IsPlain, command_in, AllPlain}
 use Rattle.report_laws.proofs.ShortLemmas.{IsShort, AllShort}
 
@@ -145,6 +146,12 @@ block_plain s seen operations ending v Committed small short ends = (λ (e : Com
 block_plain s seen operations ending v RolledBack small short ends = (λ (e : RolledBack ≡ Shown). cc, tt)
 block_plain s seen operations ending v (Refused cause) small short ends = (λ (e : Refused cause ≡ Shown). cc, cause_small s operations ending v cause small short ends.1)
 
+compaction_plain : (s : Setting) (seen v : ℕ) (ended : Ended) → v < 2 ^ 64 → BlockEnds s seen [] Commit v ended → EndsCompaction ended × SmallEnded ended
+compaction_plain s seen v Shown small ends = absurd ends
+compaction_plain s seen v Committed small ends = (tt, tt)
+compaction_plain s seen v RolledBack small ends = let never : Commit ≡ Rollback = ends.0 in absurd cc
+compaction_plain s seen v (Refused cause) small ends = (tt, cause_small s [] Commit v cause small (omega arith) ends.1)
+
 plain : (s : Setting) (sight : Sight) (command : Command) (o : Outcome) → o.version < 2 ^ 64 → IsShort command → EndsLawfully s sight command o.version o.ended → IsPlain command o
 plain s sight (Ask question) o small short ends = shown_plain (Ask question) (sight.seen ≤ o.version) o (λ (ended : Ended) (e : ended ≡ Shown). e) small ends
 plain s sight Hold o small short ends = shown_plain Hold (sight.seen ≤ o.version) o (λ (ended : Ended) (e : ended ≡ Shown). e) small ends
@@ -153,6 +160,7 @@ plain s sight Release o small short ends = shown_plain Release (sight.held ≡ S
 plain s sight (Block _ operations ending) o small short ends =
     let told = block_plain s sight.seen operations ending o.version o.ended small (omega (arith, short)) ends in
     record { version = small; kind = told.0; small = told.1 }
+plain s sight Compact o small short ends = let told = compaction_plain s sight.seen o.version o.ended small ends in record { version = small; kind = told.0; small = told.1 }
 
 -- ---- all commands
 

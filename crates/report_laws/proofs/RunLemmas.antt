@@ -6,13 +6,13 @@ use Rattle.std.specs.List.{AllByRecursion}
 use Rattle.std.specs.Fmt.{decimal}
 use Rattle.zone_model.specs.Names.{Name}
 use Rattle.zone_model.specs.Versions.{Version}
-use Rattle.job_model.specs.Commands.{Command, Ask, Hold, AskHeld, Release, Block}
+use Rattle.job_model.specs.Commands.{Command, Ask, Hold, AskHeld, Release, Block, Compact}
 use Rattle.job_model.specs.Outcomes.{Ended, Shown, Outcome, Pair}
 use Rattle.job_model.specs.Reports.{head_text, command_text, worker_text, workers_text, end_text}
 use Rattle.report_laws.proofs.CutLemmas.{cut}
 use Rattle.report_laws.proofs.TextLemmas.{decimal_free}
 use Rattle.report_laws.proofs.ReplyLemmas.{reply_cut}
-use Rattle.report_laws.proofs.EndLemmas.{SmallEnded, ended_cut}
+use Rattle.report_laws.proofs.EndLemmas.{SmallEnded, EndsCompaction, ended_cut, compacted_cut}
 
 -- ---- a command
 
@@ -23,6 +23,7 @@ OfKind Hold ended = ended ≡ Shown
 OfKind (AskHeld question) ended = ended ≡ Shown
 OfKind Release ended = ended ≡ Shown
 OfKind (Block _ operations ending) ended = ended ≡ Shown → ⊥
+OfKind Compact ended = EndsCompaction ended
 
 -- an outcome of the command's kind, whose numbers have 64 bits
 pub record IsPlain (command : Command) (o : Outcome) : Type 0 where
@@ -52,6 +53,7 @@ told_cut origin before after Hold o p s t k l small less few e = (k ∙ sym l, a
 told_cut origin before after (AskHeld question) o p s t k l small less few e = (k ∙ sym l, reply_cut origin (before o.version) (after p.version) question s t few e)
 told_cut origin before after Release o p s t k l small less few e = (k ∙ sym l, append_cancel_left (codes "RELEASED\n") s t e)
 told_cut origin before after (Block _ operations ending) o p s t k l small less few e = ended_cut o.ended p.ended k l small less s t e
+told_cut origin before after Compact o p s t k l small less few e = compacted_cut o.ended p.ended k l small less s t e
 
 outcome_of : ℕ → Ended → Outcome
 outcome_of version ended = record { version = version; ended = ended }

@@ -11,9 +11,9 @@ use Rattle.zone_model.specs.declared.ZoneKind.{ZoneKind}
 use Rattle.job_model.specs.declared.ScriptKind.{ScriptKind}
 use Rattle.job_model.specs.declared.ScriptKind.TheVariants.{NoWorker, BadCommand, NotHeld, AlreadyHeld, TooMany}
 use Rattle.job_model.specs.declared.Ending.{Ending}
-use Rattle.job_model.specs.Commands.{Command, Ask, Hold, AskHeld, Release, Block, Job}
+use Rattle.job_model.specs.Commands.{Command, Ask, Hold, AskHeld, Release, Block, Compact, Job}
 use Rattle.job_model.specs.Outcomes.{operations_of}
-use Rattle.job_model.specs.Phrases.{Phrase, Worker, Asks, Holds, AsksHeld, Releases, Opens, Adds, Deletes, Ends, phrase_of, script_tokens}
+use Rattle.job_model.specs.Phrases.{Phrase, Worker, Asks, Holds, AsksHeld, Releases, Opens, Adds, Deletes, Ends, Compacts, phrase_of, script_tokens}
 use Rattle.job_model.specs.Arguments.{refuse, question_of, addition_of, deletion_of}
 use Rattle.job_model.specs.Jobs.{JobRefusal, Unfinished, Script, lists_of, worker_limit, command_limit, operation_limit, of_worker, while_held, while_free, with_room, with_command, with_question, with_held_question, holding, released, opened, next_worker, outside, with_operation, joined, may_end, ended, inside, taken, tokens_say, script_line, script_from, finished, no_lines, script_of, zone_refused, script_refused, zone_lines, script_lines, script_start, job_of_lines, job_of}
 
@@ -88,6 +88,8 @@ outside_kept origin n (Opens weight) s short =
 outside_kept origin n (Adds owner ttl rtype tokens) s short = tt
 outside_kept origin n (Deletes owner rest) s short = tt
 outside_kept origin n (Ends ending) s short = tt
+outside_kept origin n Compacts s short =
+    of_worker_kept n s (with_room n s (Ok (with_command s Compact))) (with_room_kept n s (Ok (with_command s Compact)) (command_kept s Compact (omega arith) short))
 
 -- ---- a line inside a block
 
@@ -115,6 +117,7 @@ inside_kept origin n b (Opens _) s short = tt
 inside_kept origin n b (Adds owner ttl rtype tokens) s short = joined_kept n b s (addition_of origin n owner ttl rtype tokens) short
 inside_kept origin n b (Deletes owner rest) s short = joined_kept n b s (deletion_of origin n owner rest) short
 inside_kept origin n b (Ends ending) s short = ended_kept n b ending s short
+inside_kept origin n b Compacts s short = tt
 
 -- ---- the lines
 

@@ -20,3 +20,7 @@ returns-in-Releases c =
 pub returns-in-Opens : goal.returns-in-Opens
 returns-in-Opens c =
     subst (λ (p : Phrase). ScriptReads c.open_block.result (script_view c.open_block.new.script) (jobs.outside c.args.origin.now c.args.line (phrase_view c.args.bytes.now p) (script_view c.args.script.now))) (sym c.in-Opens.is) (c.open_block.ensures c.args.origin.now)
+
+pub returns-in-Compacts : goal.returns-in-Compacts
+returns-in-Compacts c =
+    subst (λ (p : Phrase). ScriptReads c.compact.result (script_view c.compact.new.script) (jobs.outside c.args.origin.now c.args.line (phrase_view c.args.bytes.now p) (script_view c.args.script.now))) (sym c.in-Compacts.is) (c.compact.ensures c.args.origin.now)

@@ -47,5 +47,5 @@ returns-in-Err-clause-ran g c = λ s setup.
     (edits_as c.args.origin.now s.origin (map operation_view c.args.block.now.operations.items) (map operation_view c.args.block.now.operations.items) (Err c.in-Err.halt) c.update-update.result.locked.now.draft c.edit.new.transaction.locked.now.draft setup.index.origin_is refl c.in-Err.ensures.applies)
     (full_chunks g.N.Named.tables c.args.index.now.place c.edit.new.transaction.locked.now.place s.chunks c.args.index.now.shared.table.shared.table_id c.edit.new.transaction.locked.now.shared.now.table.shared.table_id c.edit.new.transaction.locked.now.draft
     c.args.index.now.here c.edit.new.transaction.locked.now.named (c.edit.ensures.place ∙ c.update-update.ensures.place) (ap (λ n. 4161 + 2048 * n) setup.index.chunks ∙ c.args.index.now.shared.wide) c.edit.new.transaction.locked.now.here)
-    (has_passes s _ _ setup.index.passes c.update-update.ensures.passes) c.stopped.ensures)
+    (has_passes s _ _ setup.index.passes c.update-update.ensures.passes) c.stopped.ensures.stopped)
     (search rules)
