@@ -5,7 +5,7 @@
 # gets leave the seconds out, and PROGRAM is one that was built before. Changes nothing but files in a temporary folder.
 set -eu
 here=$(cd "$(dirname "$0")" && pwd)
-gets=${1:-4000000}
+gets=${1:-20000000}
 folder=$(mktemp -d)
 trap 'rm -rf "$folder"' EXIT
 program=${2:-$folder/crates/readers/out/readers}
