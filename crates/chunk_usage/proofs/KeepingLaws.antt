@@ -1,13 +1,13 @@
 -- Each change of the kept versions leaves a ledger.
-use Rattle.std.proofs.Common.{◌≡◌, ◌≢◌, ℕ, ◌+◌, ◌/◌, ◌<◌, ◌≤◌, nat_lt, Bool, true, false, not, List, [], ◌∷◌, ◌++◌, length, replicate, slice_index, slice_index_or, refl, ◌∙◌, sym, subst, inl, inr, arith, length-append}
-use Rattle.std.specs.Prelude.{None, Some, IfSome, cond}
-use Rattle.std.specs.List.{AllByRecursion}
+use Rattle.std.proofs.Common.{◌≡◌, ◌≢◌, ℕ, ◌+◌, ◌/◌, ◌<◌, ◌≤◌, nat_lt, Bool, true, false, not, List, [], ◌∷◌, ◌++◌, length, replicate, slice_index, slice_index_or, refl, ◌∙◌, sym, ap, subst, inl, inr, arith, length-append}
+use Rattle.std.specs.Prelude.{Option, None, Some, IfSome, cond}
+use Rattle.std.specs.List.{AllByRecursion, filter}
 use Rattle.std.proofs.lemmas.Bool.{cases_lt}
 use Rattle.std.proofs.lemmas.Bool.Decides.{nat_tests}
 use Rattle.std.proofs.lemmas.List.{length-map, length-replicate, get_or-map, get_or-replicate, get_or_past}
 use Rattle.chunk_usage.specs.Ledger.{Row, Ledger, IsLedger, AreCounts, IsRowOf, unused, Rising, IsNewest, newest, row_of}
 use Rattle.chunk_usage.specs.Counting.{Counted}
-use Rattle.chunk_usage.specs.Keeping.{AreOlder, frozen, dropped, without_row, is_row_of}
+use Rattle.chunk_usage.specs.Keeping.{AreOlder, frozen, is_row_of}
 use Rattle.chunk_usage.proofs.FlagLemmas.{set_within}
 
 -- a row put behind older ones
@@ -67,72 +67,82 @@ frozen_alike l m same h version room older live since last rows z a b c =
     let e : record l { live = live; since = since; last_live = last; last_open = l.open_chunk; rows = rows } ≡ frozen l version = cc in
     subst IsLedger (sym e) (frozen_ledger l h version (subst (λ (n : Ledger). length n.rows < n.passes + 2) (sym same) room) (subst (λ (n : Ledger). AreOlder n.rows version) (sym same) older))
 
--- what is left of rows without one version
-all_left : (P : Row → Type 0) (rows : List Row) (version : ℕ) → AllByRecursion P rows → AllByRecursion P (without_row version rows)
-all_left P [] version h = tt
-all_left P (r ∷ rows) version h = go (is_row_of version r) (all_left P rows version h.1)
-  where
-    go : (b : Bool) → AllByRecursion P (without_row version rows) → AllByRecursion P (cond (not b) (r ∷ without_row version rows) (without_row version rows))
-    go true rest = rest
-    go false rest = (h.0, rest)
-
-rising_left : (rows : List Row) (version : ℕ) → Rising rows → Rising (without_row version rows)
-rising_left [] version h = tt
-rising_left (r ∷ rows) version h = go (is_row_of version r) (rising_left rows version h.1)
-  where
-    go : (b : Bool) → Rising (without_row version rows) → Rising (cond (not b) (r ∷ without_row version rows) (without_row version rows))
-    go true rest = rest
-    go false rest = (all_left (λ (s : Row). r.version < s.version) rows version h.0, rest)
-
-fewer_left : (rows : List Row) (version : ℕ) → length (without_row version rows) ≤ length rows
-fewer_left [] version = omega arith
-fewer_left (r ∷ rows) version = go (is_row_of version r) (fewer_left rows version)
-  where
-    go : (b : Bool) → length (without_row version rows) ≤ length rows → length (cond (not b) (r ∷ without_row version rows) (without_row version rows)) ≤ length (r ∷ rows)
-    go true rest = omega arith
-    go false rest = omega arith
-
 some_newest : (r : Row) (rows : List Row) → None ≡ newest (r ∷ rows) → ⊥
 some_newest r [] e = cc
 some_newest r (s ∷ rows) e = some_newest s rows e
 
-newest_left : (rows : List Row) (version : ℕ) → IfSome (newest rows) (λ r. r.version ≢ version) → newest (without_row version rows) ≡ newest rows
-newest_left [] version other = refl
-newest_left (r ∷ []) version other = go (is_row_of version r) (λ e. other (grind (arith, nat_tests)))
-  where
-    go : (b : Bool) → (b ≡ true → ⊥) → newest (cond (not b) (r ∷ []) []) ≡ Some r
-    go true n = absurd (n refl)
-    go false n = refl
-newest_left (r ∷ s ∷ rows) version other = go (is_row_of version r) (without_row version (s ∷ rows)) (newest_left (s ∷ rows) version other)
-  where
-    go : (b : Bool) (rest : List Row) → newest rest ≡ newest (s ∷ rows) → newest (cond (not b) (r ∷ rest) rest) ≡ newest (s ∷ rows)
-    go true rest e = e
-    go false [] e = absurd (some_newest s rows e)
-    go false (t ∷ rest) e = e
+-- what is left of rows where only some stay
+module _ (stays : Row → Bool) where
+  all_left : (P : Row → Type 0) (rows : List Row) → AllByRecursion P rows → AllByRecursion P (filter stays rows)
+  all_left P [] h = tt
+  all_left P (r ∷ rows) h = go (stays r) (all_left P rows h.1)
+    where
+      go : (b : Bool) → AllByRecursion P (filter stays rows) → AllByRecursion P (cond b (r ∷ filter stays rows) (filter stays rows))
+      go true rest = (h.0, rest)
+      go false rest = rest
 
-pub dropped_ledger : (l : Ledger) → IsLedger l → (version : ℕ) → IfSome (newest l.rows) (λ r. r.version ≢ version) → IsLedger (dropped l version)
-dropped_ledger l h version other = record {
-  some = h.some;
-  few = h.few;
-  counted = h.counted;
-  known_since = h.known_since;
-  counted_last = h.counted_last;
-  some_passes = h.some_passes;
-  few_passes = h.few_passes;
-  counts = h.counts;
-  last_counts = h.last_counts;
-  opened = h.opened;
-  last_opened = h.last_opened;
-  left_fresh = h.left_fresh;
-  few_rows = let n = fewer_left l.rows version in let m = h.few_rows in omega arith;
-  rising = rising_left l.rows version h.rising;
-  rows_given = all_left (IsRowOf l.given) l.rows version h.rows_given;
-  newest_row = subst (IsNewest l.last_live) (sym (newest_left l.rows version other)) h.newest_row;
-}
+  rising_left : (rows : List Row) → Rising rows → Rising (filter stays rows)
+  rising_left [] h = tt
+  rising_left (r ∷ rows) h = go (stays r) (rising_left rows h.1)
+    where
+      go : (b : Bool) → Rising (filter stays rows) → Rising (cond b (r ∷ filter stays rows) (filter stays rows))
+      go true rest = (all_left (λ (s : Row). r.version < s.version) rows h.0, rest)
+      go false rest = rest
 
-pub dropped_alike : (l m : Ledger) → l ≡ m → IsLedger l → (version : ℕ) → IfSome (newest m.rows) (λ r. r.version ≢ version) → (rows : List Row) → rows ≡ without_row version l.rows → IsLedger (record l { rows = rows })
-dropped_alike l m same h version other rows e =
-    subst (λ (rs : List Row). IsLedger (record l { rows = rs })) (sym e) (dropped_ledger l h version (subst (λ (n : Ledger). IfSome (newest n.rows) (λ r. r.version ≢ version)) (sym same) other))
+  fewer_left : (rows : List Row) → length (filter stays rows) ≤ length rows
+  fewer_left [] = omega arith
+  fewer_left (r ∷ rows) = go (stays r) (fewer_left rows)
+    where
+      go : (b : Bool) → length (filter stays rows) ≤ length rows → length (cond b (r ∷ filter stays rows) (filter stays rows)) ≤ length (r ∷ rows)
+      go true rest = omega arith
+      go false rest = omega arith
+
+  newest_left : (rows : List Row) → IfSome (newest rows) (λ r. stays r ≡ true) → newest (filter stays rows) ≡ newest rows
+  newest_left [] last = refl
+  newest_left (r ∷ []) last = ap (λ (b : Bool). newest (cond b (r ∷ []) [])) last
+  newest_left (r ∷ s ∷ rows) last = go (stays r) (filter stays (s ∷ rows)) (newest_left (s ∷ rows) last)
+    where
+      go : (b : Bool) (rest : List Row) → newest rest ≡ newest (s ∷ rows) → newest (cond b (r ∷ rest) rest) ≡ newest (s ∷ rows)
+      go false rest e = e
+      go true [] e = absurd (some_newest s rows e)
+      go true (t ∷ rest) e = e
+
+  left_ledger : (l : Ledger) → IsLedger l → IfSome (newest l.rows) (λ r. stays r ≡ true) → IsLedger (record l { rows = filter stays l.rows })
+  left_ledger l h last = record {
+    some = h.some;
+    few = h.few;
+    counted = h.counted;
+    known_since = h.known_since;
+    counted_last = h.counted_last;
+    some_passes = h.some_passes;
+    few_passes = h.few_passes;
+    counts = h.counts;
+    last_counts = h.last_counts;
+    opened = h.opened;
+    last_opened = h.last_opened;
+    left_fresh = h.left_fresh;
+    few_rows = let n = fewer_left l.rows in let m = h.few_rows in omega arith;
+    rising = rising_left l.rows h.rising;
+    rows_given = all_left (IsRowOf l.given) l.rows h.rows_given;
+    newest_row = subst (IsNewest l.last_live) (sym (newest_left l.rows last)) h.newest_row;
+  }
+
+  -- the same of a ledger whose rows are those
+  pub left_alike : (l m : Ledger) → l ≡ m → IsLedger l → IfSome (newest m.rows) (λ r. stays r ≡ true) → (rows : List Row) → rows ≡ filter stays l.rows → IsLedger (record l { rows = rows })
+  left_alike l m same h last rows e =
+      subst (λ (rs : List Row). IsLedger (record l { rows = rs })) (sym e) (left_ledger l h (subst (λ (n : Ledger). IfSome (newest n.rows) (λ r. stays r ≡ true)) (sym same) last))
+
+-- another version than the newest's leaves the newest row
+pub others_newest : (rows : List Row) (version : ℕ) → IfSome (newest rows) (λ r. r.version ≢ version) → IfSome (newest rows) (λ r. not (is_row_of version r) ≡ true)
+others_newest rows version other = go (newest rows) other
+  where
+    go : (o : Option Row) → IfSome o (λ r. r.version ≢ version) → IfSome o (λ r. not (is_row_of version r) ≡ true)
+    go None h = h
+    go (Some r) h = not_so (is_row_of version r) (λ e. h (grind (arith, nat_tests)))
+      where
+        not_so : (b : Bool) → (b ≡ true → ⊥) → not b ≡ true
+        not_so true n = absurd (n refl)
+        not_so false n = refl
 
 -- nothing is given, and nothing is kept
 unused_ledger : (chunks passes : ℕ) → 1 ≤ chunks → chunks ≤ 4096 → 1 ≤ passes → passes ≤ 64 → IsLedger (unused chunks passes)

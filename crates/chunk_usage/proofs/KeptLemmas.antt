@@ -1,9 +1,13 @@
 -- The row of a version among the kept ones.
 use Rattle.std.proofs.Common.{◌≡◌, ℕ, suc, ◌+◌, ◌-◌, ◌<◌, Bool, true, false, not, cond, List, [], ◌∷◌, ◌++◌, length, take, refl, ◌∙◌, sym, ap, subst, arith}
-use Rattle.std.specs.Prelude.{◌||◌, remove}
-use Rattle.std.specs.List.{AllByRecursion, position_or_len}
+use Rattle.std.specs.Prelude.{◌≤◌, ◌||◌, drop, inl, inr, remove}
+use Rattle.std.specs.List.{All, AllByRecursion, filter, position_or_len, swap}
+use Rattle.std.proofs.Common.{get_or, set}
+use Rattle.std.proofs.lemmas.Bool.{cases_lt}
+use Rattle.std.proofs.lemmas.List.{append-nil, drop-drop, drop-set-lt, get_or-drop, length-set, take-set, take-set-le, take_more_set}
+use Rattle.std.proofs.lemmas.List.Elements.{All-set, filter_more}
 use Rattle.std.proofs.lemmas.Bool.Decides.{nat_tests}
-use Rattle.std.proofs.lemmas.List.Edits.{length-remove}
+use Rattle.std.proofs.lemmas.List.Edits.{length-remove, length-swap, swap_is}
 use Rattle.std.proofs.Math.Seq.{take-append_seam}
 use Rattle.chunk_usage.specs.Ledger.{Row, Rising}
 use Rattle.chunk_usage.specs.Keeping.{is_row_of, is_kept, without_row}
@@ -47,3 +51,77 @@ pub rotated : (rows new : List Row) (place : ℕ) (r : Row) → place < length r
 rotated rows new place r l e =
     let n : length (remove rows place) ≡ length rows - 1 = (let m = length-remove rows place l in omega arith) in
     ap (take (length rows - 1)) e ∙ subst (λ (k : ℕ). take k (remove rows place ++ r ∷ []) ≡ remove rows place) n (take-append_seam (remove rows place) (r ∷ []))
+
+-- two elements change places: what is left in front of the first, and behind the second
+module _ {X : Type 0} (xs : List X) (n i : ℕ) (d : X) (below : n ≤ i) (within : i < length xs) where
+  swapped : set (set xs n (get_or xs i d)) i (get_or xs n d) ≡ swap xs n i
+  swapped = swap_is xs n i d (omega arith) within
+
+  front_swapped : take (n + 1) (swap xs n i) ≡ take n xs ++ get_or xs i d ∷ []
+  front_swapped = elim (cases_lt n i) [
+    | inl l ↦ sym (ap (take (n + 1)) swapped) ∙ take-set-le (n + 1) (set xs n (get_or xs i d)) i (get_or xs n d) (omega arith) ∙ take_more_set xs n (get_or xs i d) (omega arith)
+    | inr past ↦ (
+        let same : i ≡ n = omega arith in
+        let inside : n < length (set xs n (get_or xs i d)) = (let e = length-set xs n (get_or xs i d) in omega arith) in
+        sym (ap (take (n + 1)) swapped)
+        ∙ ap (λ (k : ℕ). take (n + 1) (set (set xs n (get_or xs i d)) k (get_or xs n d))) same
+        ∙ take_more_set (set xs n (get_or xs i d)) n (get_or xs n d) inside
+        ∙ ap (λ (ys : List X). ys ++ get_or xs n d ∷ []) (take-set xs n (get_or xs i d))
+        ∙ ap (λ (k : ℕ). take n xs ++ get_or xs k d ∷ []) (sym same))
+  ]
+
+  back_swapped : drop (i + 1) (swap xs n i) ≡ drop (i + 1) xs
+  back_swapped = sym (ap (drop (i + 1)) swapped)
+      ∙ drop-set-lt (i + 1) (set xs n (get_or xs i d)) i (get_or xs n d) (omega arith)
+      ∙ drop-set-lt (i + 1) xs n (get_or xs i d) (omega arith)
+
+  all_swapped : (P : X → Type 0) → All P xs → All P (swap xs n i)
+  all_swapped P each = subst (All P) swapped
+      (All-set P (set xs n (get_or xs i d)) i (get_or xs n d) (each n d (omega arith)) (All-set P xs n (get_or xs i d) (each i d within) each))
+
+-- The rows that pass a test, moved to the front of the slots one after another: of `place` slots, `kept` passed.
+pub record Gathered (passes : Row → Bool) (first slots : List Row) (place kept : ℕ) : Type 0 where
+  pub long : length slots ≡ length first
+  pub within : kept ≤ place
+  pub front : take kept slots ≡ filter passes (take place first)
+  pub rest : drop place slots ≡ drop place first
+  pub each : (P : Row → Type 0) → All P first → All P slots
+
+module _ (passes : Row → Bool) (first slots : List Row) (place kept : ℕ) (d : Row) (inside : place < length slots) (g : Gathered passes first slots place kept) where
+  same_row : get_or slots place d ≡ get_or first place d
+  same_row = by_zero ∙ ap (λ (rows : List Row). get_or rows 0 d) g.rest ∙ sym from_zero
+    where
+      by_zero : get_or slots place d ≡ get_or (drop place slots) 0 d
+      by_zero = sym (get_or-drop place slots 0 d ∙ ap (λ (k : ℕ). get_or slots k d) (let e : place + 0 ≡ place = omega arith in e))
+      from_zero : get_or first place d ≡ get_or (drop place first) 0 d
+      from_zero = sym (get_or-drop place first 0 d ∙ ap (λ (k : ℕ). get_or first k d) (let e : place + 0 ≡ place = omega arith in e))
+
+  more : filter passes (take (place + 1) first) ≡ filter passes (take place first) ++ cond (passes (get_or first place d)) (get_or first place d ∷ []) []
+  more = filter_more passes first place d (let e = g.long in omega arith)
+
+  rest_more : (xs : List Row) → drop place xs ≡ drop place first → drop (place + 1) xs ≡ drop (place + 1) first
+  rest_more xs e = sym (drop-drop 1 place xs) ∙ ap (drop 1) e ∙ drop-drop 1 place first
+
+  -- the next one passes, and changes places with the first that didn't
+  pub gathered_more : passes (get_or slots place d) ≡ true → Gathered passes first (swap slots kept place) (place + 1) (kept + 1)
+  gathered_more passed = record {
+    long = length-swap slots kept place ∙ g.long;
+    within = let w = g.within in omega arith;
+    front =
+        front_swapped slots kept place d g.within inside
+        ∙ ap (λ (rows : List Row). rows ++ get_or slots place d ∷ []) g.front
+        ∙ ap (λ (r : Row). filter passes (take place first) ++ r ∷ []) same_row
+        ∙ sym (more ∙ ap (λ (b : Bool). filter passes (take place first) ++ cond b (get_or first place d ∷ []) []) (sym (ap passes same_row) ∙ passed));
+    rest = back_swapped slots kept place d g.within inside ∙ rest_more slots g.rest;
+    each = λ P all. all_swapped slots kept place d g.within inside P (g.each P all);
+  }
+
+  -- it doesn't
+  pub gathered_past : passes (get_or slots place d) ≡ false → Gathered passes first slots (place + 1) kept
+  gathered_past failed = record {
+    long = g.long;
+    within = let w = g.within in omega arith;
+    front = g.front ∙ sym (more ∙ ap (λ (b : Bool). filter passes (take place first) ++ cond b (get_or first place d ∷ []) []) (sym (ap passes same_row) ∙ failed) ∙ append-nil (filter passes (take place first)));
+    rest = rest_more slots g.rest;
+    each = g.each;
+  }

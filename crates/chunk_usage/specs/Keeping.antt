@@ -43,6 +43,20 @@ without_row version rows = filter (λ r. not (is_row_of version r)) rows
 abbrev pub dropped : Ledger → ℕ → Ledger
 dropped l version = record l { rows = without_row version l.rows }
 
+-- the version is one of these; the rows of these versions; and the ledger that has no others
+abbrev pub is_among : List ℕ → ℕ → Bool
+is_among versions version = list_any (λ v. v == version) versions
+
+abbrev pub rows_of : List ℕ → List Row → List Row
+rows_of versions rows = filter (λ r. is_among versions r.version) rows
+
+abbrev pub narrowed : Ledger → List ℕ → Ledger
+narrowed l versions = record l { rows = rows_of versions l.rows }
+
+-- the numbers of the kept versions
+abbrev pub kept_versions : Ledger → List ℕ
+kept_versions l = map (λ r. r.version) l.rows
+
 -- some kept version has cells in the chunk
 abbrev pub is_in_rows : List Row → ℕ → Bool
 is_in_rows rows chunk = list_any (λ r. is_in_row r chunk) rows

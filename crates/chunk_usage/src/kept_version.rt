@@ -1,7 +1,7 @@
 //! Kept versions, each with its chunk set.
 
 ghost use Rattle.std.specs.Prelude.{◌≡◌, ◌≤◌, IfOk, false, length, replicate};
-ghost use Rattle.chunk_usage.specs.Keeping.{is_row_of};
+ghost use Rattle.chunk_usage.specs.Keeping.{is_among, is_row_of};
 
 use crate::chunk_set::ChunkSet;
 use std::alloc::{AllocError, Global};
@@ -39,6 +39,21 @@ impl KeptVersion {
     {
         self.version = version;
         self.chunks.copy_from(chunks);
+    }
+
+    /// Its number.
+    #[inline]
+    pub fn version(&self) -> u64
+        ensures { result ≡ self.now.version }
+    {
+        self.version
+    }
+
+    /// Whether it is one of these versions.
+    pub fn is_among(&self, versions: &[u64]) -> bool
+        ensures { result ≡ is_among versions.now self.now.version }
+    {
+        versions.iter().any(|version| *version == self.version)
     }
 
     /// Whether it is this version.

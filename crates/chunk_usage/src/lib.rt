@@ -17,6 +17,7 @@ mod open;
 pub mod space;
 mod usage;
 
+pub use kept_version::KeptVersion;
 pub use open::Open;
 pub use space::{Full, Grant, Space};
 pub use usage::Usage;

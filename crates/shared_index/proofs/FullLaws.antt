@@ -10,6 +10,8 @@ use Rattle.trie_model.specs.Reach.{row}
 use Rattle.chunk_usage.specs.declared.space.Full.{Full as NoRoom}
 use Rattle.chunk_usage.specs.Ledger.{Ledger, Row, is_given, is_open, is_used}
 use Rattle.chunk_usage.specs.Handing.{Lacks}
+use Rattle.chunk_usage.specs.Keeping.{kept_versions, narrowed}
+use Rattle.std.proofs.lemmas.Simd.{map-map}
 use Rattle.shared_cells.specs.declared.view.Entry.{Entry as Commit}
 use Rattle.shared_cells.specs.History.{version_after}
 use Rattle.shared_cells.specs.Views.{kept_in}
@@ -27,7 +29,7 @@ use Rattle.shared_index.specs.Turns.{cells_with, row_for}
 use Rattle.shared_index.specs.Changes.{key_of, written_by, LeadsItem}
 use Rattle.shared_index.specs.Drafts.{Works, working_set}
 use Rattle.shared_index.specs.Tries.{Tried, PathHas}
-use Rattle.shared_index.specs.Keepings.{GoesOn, narrowed, numbers_of, versions_in}
+use Rattle.shared_index.specs.Keepings.{GoesOn, numbers_of, versions_in}
 use Rattle.shared_index.specs.Fulls.{FullCause, after_room, cells_kept, version_at}
 use Rattle.shared_index.proofs.CauseLaws.{NeededBy, each_needed, given_few, kept_images, live_of, many, met_or_opened, opened_is, few_taken, path_of, rows_met, some_live, some_row, taken}
 use Rattle.shared_index.proofs.RisenLaws.{with_open}
@@ -56,7 +58,7 @@ few_written (change.Insert key item) leads = let l = leads.short in omega arith
 few_written (change.Replace key item) leads = let l = leads.short in omega arith
 few_written (change.Delete key) leads = omega arith
 
-pub cause_of : (u : Ledger) (room d : Draft) (c : Change) (full : NoRoom) (f : Full) → room.usage ≡ after_room u f → f.kept ≡ room.kept → Works room → All (λ k. IsVersion k.image k.root (version_at room.seat.place.me.0 k.version)) (kept_in room.seat.place.me.0.turn)
+pub cause_of : (u : Ledger) (room d : Draft) (c : Change) (full : NoRoom) (f : Full) → room.usage ≡ after_room u f → versions_in f.kept ≡ kept_versions room.usage → Works room → All (λ k. IsVersion k.image k.root (version_at room.seat.place.me.0 k.version)) (kept_in room.seat.place.me.0.turn)
     → LeadsItem c → Tried c room.root room.seat.place.me.0 room.usage d.seat.place.me.0 d.usage (Err (unchanged.Full full)) → d.root ≡ room.root → GoesOn room.seat.place.me.0 d.seat.place.me.0 → working_set d ≡ working_set room → Lacks d.usage full
     → FullCause (after_room u f) d (key_of c) (written_by c) f
 cause_of u room d c full f after same works images leads t root on set lacks =
@@ -73,7 +75,7 @@ cause_of u room d c full f after same works images leads t root on set lacks =
     let a = rows_met n kept in
     let b = kept_images v kept images in
     let e : row (some_row m.rows) 0 n ≡ row (some_row (map (row_for n) kept)) 0 n = ap (λ (rs : List Row). row (some_row rs) 0 n) room.agrees.rows in
-    let g : cells_kept w (versions_in f.kept) ≡ cells_kept v (numbers_of kept) = cells_kept_on (versions_in f.kept) on ∙ ap (cells_kept v) (ap versions_in same ∙ room.kept_are) in
+    let g : cells_kept w (versions_in f.kept) ≡ cells_kept v (numbers_of kept) = cells_kept_on (versions_in f.kept) on ∙ ap (cells_kept v) (same ∙ ap (map (λ (row : Row). row.version)) room.agrees.rows ∙ map-map (λ (row : Row). row.version) (row_for n) kept) in
     omega arith) in
     let few = given_few m needed in
     let meets = p.meets n in

@@ -13,7 +13,7 @@ use Rattle.shared_index.specs.Passes.{Known, first_version, version_seen}
 use Rattle.shared_cells.specs.History.{version_after}
 use Rattle.std.specs.Prelude.{unwrap_or}
 use Rattle.shared_index.specs.Turns.{AgreesWithin}
-use Rattle.shared_index.specs.Keepings.{AreKept, GoesOn, numbers_of}
+use Rattle.shared_index.specs.Keepings.{GoesOn}
 
 pub words_go_on : (v w : Known) (words : List ℕ) → w ≡ with_words v words → GoesOn v w
 words_go_on v w words e = record {
@@ -44,9 +44,3 @@ applied_more es operations o = fold-append operated es operations (o ∷ [])
 
 pub agrees_wider : (least most : ℕ) (cells : Cells) (u : Ledger) (count : ℕ) → least ≤ most → AgreesWithin least cells u count → AgreesWithin most cells u count
 agrees_wider least most cells u count le a = record { given = a.given; rows = a.rows; few_rows = (let l = a.few_rows in omega arith); last_live = a.last_live; immutable = a.immutable; passes = a.passes }
-
-pub all_kept : (before : List ℕ) (current : ℕ) (kept : List Kept) → before ≡ numbers_of kept → AreKept before current kept
-all_kept before current kept e = record {
-  each = λ v c. subst (λ (ns : List ℕ). Contains ns v) e c;
-  all = λ v c. inr (subst (λ (ns : List ℕ). Contains ns v) (sym e) c);
-}

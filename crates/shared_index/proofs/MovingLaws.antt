@@ -9,7 +9,7 @@ use Rattle.packed_node.specs.declared.Cell.{Cell}
 use Rattle.trie_model.specs.Keys.{Entry}
 use Rattle.chunk_usage.specs.Counting.{is_low, is_sparse, sparse_count}
 use Rattle.chunk_usage.specs.Ledger.{Ledger, Frozen, is_given, is_open, is_used}
-use Rattle.chunk_usage.specs.Keeping.{freed}
+use Rattle.chunk_usage.specs.Keeping.{freed, narrowed}
 use Rattle.chunk_usage.specs.Rooms.{account_of}
 use Rattle.trie_write.specs.Spaces.{Ready, Fenced}
 use Rattle.trie_write.specs.Standing.{Standing}
@@ -22,7 +22,6 @@ use Rattle.shared_cells.specs.Cells.{Cells, cells_of, given_chunks, kept_referen
 use Rattle.shared_index.specs.declared.desk.Draft.{Draft}
 use Rattle.shared_index.specs.declared.refusal.Full.{Full}
 use Rattle.shared_index.specs.Fulls.{CausedFrom, Evacuated, Grown}
-use Rattle.shared_index.specs.Keepings.{narrowed}
 use Rattle.shared_index.specs.Passes.{Known}
 use Rattle.shared_index.specs.Turns.{Agrees, cells_with}
 use Rattle.shared_index.specs.Bases.{IsRooted}

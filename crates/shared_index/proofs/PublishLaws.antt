@@ -26,7 +26,6 @@ use Rattle.shared_index.specs.Passes.{Known, first_version, version_seen}
 use Rattle.shared_index.specs.Turns.{Agrees, AgreesWithin, cells_with, row_for, cell_counts, current_image, current_root, is_immutable}
 use Rattle.shared_index.specs.Bases.{StandsFor}
 use Rattle.shared_index.specs.Images.{image_at}
-use Rattle.shared_index.specs.Keepings.{AreKept, numbers_of}
 use Rattle.shared_index.proofs.KeepLaws.{immutable_used, immutable_of}
 use Rattle.shared_index.proofs.Lists.{all_of, all_from, all_flat, all_from_flat, in_map, of_map}
 use Rattle.shared_index.proofs.VersionLaws.{version_image, image_fits, image_used, image_counts, live_counts, row_set}
@@ -130,19 +129,3 @@ module _ (v : Known) (u : Ledger) (is : IsLedger u) (count : ℕ) (agrees : Agre
 
     pub root_published : current_root (kept_in w.turn) ≡ root
     root_published = ap current_root kept_now ∙ last_root (kept_in v.turn) latest
-
-    pub kept_published : (before : List ℕ) → before ≡ numbers_of (kept_in v.turn) → AreKept before version (kept_in w.turn)
-    kept_published before same = record {
-      each = λ n c.
-          let k = of_map (λ (k : Kept). k.version) (kept_in v.turn) n (subst (λ (ns : List ℕ). Contains ns n) same c) in
-          subst (λ (ks : List Kept). Contains (numbers_of ks) n) (sym kept_now) (subst (Contains (numbers_of (kept_in v.turn ++ latest ∷ []))) k.2
-          (in_map (λ (k : Kept). k.version) (kept_in v.turn ++ latest ∷ []) k.0 (Contains-append_left (kept_in v.turn) (latest ∷ []) k.0 k.1)));
-      all = λ n c.
-          let k = of_map (λ (k : Kept). k.version) (kept_in v.turn ++ latest ∷ []) n (subst (λ (ks : List Kept). Contains (numbers_of ks) n) kept_now c) in
-          ⊎_elim
-          (λ (old : Contains (kept_in v.turn) k.0). inr (subst (λ (ns : List ℕ). Contains ns n) (sym same) (subst (Contains (numbers_of (kept_in v.turn))) k.2 (in_map (λ (k : Kept). k.version) (kept_in v.turn) k.0 old))))
-          (λ (last : Contains (latest ∷ []) k.0). ⊎_elim
-          (λ (e : latest ≡ k.0). inl (sym k.2 ∙ ap (λ (x : Kept). x.version) (sym e) ∙ sym number))
-          (λ (none : Contains [] k.0). absurd (let l = none.1 in omega arith)) (contains_cases latest k.0 [] last))
-          (Contains-append_cases (kept_in v.turn) (latest ∷ []) k.0 k.1);
-    }

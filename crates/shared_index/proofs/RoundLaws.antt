@@ -4,6 +4,7 @@ use Rattle.std.specs.Prelude.{IfSome, unwrap_or}
 use Rattle.std.specs.List.{All, AllPairs, Contains, filter, list_any, range_with_len}
 use Rattle.std.proofs.lemmas.Bool.Decides.{eqb_tells}
 use Rattle.std.proofs.lemmas.List.{length-map}
+use Rattle.std.proofs.lemmas.Simd.{map-map}
 use Rattle.std.proofs.lemmas.List.Elements.{All-filter}
 use Rattle.std.proofs.lemmas.List.Kept.{AllPairs-filter}
 use Rattle.pin_core.specs.Words.{status_at}
@@ -13,7 +14,7 @@ use Rattle.pin_core.specs.declared.kept.Kept.{Kept}
 use Rattle.pin_core.proofs.Lists.{contains_cases, contains_filter, contains_from_filter}
 use Rattle.trie_model.specs.Keys.{Entry}
 use Rattle.chunk_usage.specs.Ledger.{Ledger, Row, newest}
-use Rattle.chunk_usage.specs.Keeping.{is_kept, is_row_of}
+use Rattle.chunk_usage.specs.Keeping.{is_among, kept_versions, narrowed, rows_of}
 use Rattle.shared_cells.specs.declared.view.TurnView.{TurnView}
 use Rattle.shared_cells.specs.History.{version_after}
 use Rattle.shared_cells.specs.Views.{is_told, kept_in, words_of, namings_by}
@@ -23,11 +24,11 @@ use Rattle.shared_index.specs.Operations.{applied}
 use Rattle.shared_index.specs.Meanings.{IsVersion}
 use Rattle.shared_index.specs.Passes.{Known}
 use Rattle.shared_index.specs.Turns.{Agrees, AgreesWithin, cells_with, row_for, cell_counts, current_image, current_root, is_immutable}
-use Rattle.shared_index.specs.Keepings.{AreKept, GoesOn, is_among, numbers_of, rows_of, rows_without}
+use Rattle.shared_index.specs.Keepings.{GoesOn, numbers_of}
 use Rattle.shared_index.specs.Fulls.{version_at}
 use Rattle.shared_index.proofs.ImageLaws.{current_is, ends_with}
 use Rattle.shared_index.proofs.Lists.{either_true, all_flat, all_from_flat, any_from, in_map, of_map}
-use Rattle.shared_index.proofs.RowLaws.{filter_same, among_of, of_among, left_rows}
+use Rattle.shared_index.proofs.RowLaws.{filter_same, among_of, of_among}
 
 -- tests that hold together are the same
 both_ways : (a b : Bool) → (a ≡ true → b ≡ true) → (b ≡ true → a ≡ true) → a ≡ b
@@ -135,35 +136,17 @@ module _ (lawful : List Entry → List Entry → Type 0) (v : Known) (turn : Tur
       subst (All IsKept) (sym kept_now) (All-filter test IsKept turn.kept
       (subst (λ (opening : Option (List Entry)). All (λ (k : Kept). IsVersion k.image k.root (version_after applied (unwrap_or opening []) (take k.version v.seen.history))) turn.kept) (sym o.1) (told.images o.0 o.1)))
 
-  module _ (u : Ledger) (count most : ℕ) (agrees : AgreesWithin most (cells_with u v.turn) u count) (before : List ℕ) (kept : AreKept before current (kept_in v.turn)) where
+  module _ (u : Ledger) (count most : ℕ) (agrees : AgreesWithin most (cells_with u v.turn) u count) where
     abbrev chunks : ℕ
     chunks = length u.given
 
     rows_are : u.rows ≡ map (row_for chunks) turn.kept
     rows_are = agrees.rows ∙ ap (map (row_for chunks)) kept_before
 
-    pub each_kept : (n : ℕ) → Contains before n → is_kept u.rows n ≡ true
-    each_kept n c =
-        let k = of_map (λ (k : Kept). k.version) (kept_in v.turn) n (kept.each n c) in
-        ap (λ (rows : List Row). is_kept rows n) agrees.rows
-        ∙ any_from (is_row_of n) (map (row_for chunks) (kept_in v.turn)) (row_for chunks k.0) (in_map (row_for chunks) (kept_in v.turn) k.0 k.1) (eq-eqb k.0.version n k.2)
-
     pub newest_left : IfSome (newest u.rows) (λ row. is_among versions row.version ≡ true)
     newest_left = subst (λ (o : Option Row). IfSome o (λ row. is_among versions row.version ≡ true))
         (sym (ap newest rows_are ∙ newest_row chunks turn.kept current last told.rising told.newest told.current.1 told.current.2))
         (ap (is_among versions) told.current.2 ∙ current_left)
-
-    each_told : (row : Row) → Contains u.rows row → (is_among before row.version || is_among versions row.version) ≡ true
-    each_told row c =
-        let k = of_map (row_for chunks) (kept_in v.turn) row (subst (λ (rows : List Row). Contains rows row) agrees.rows c) in
-        let number : k.0.version ≡ row.version = ap (λ (x : Row). x.version) k.2 in
-        either_true (is_among before row.version) (is_among versions row.version) (⊎_elim
-        (λ (e : k.0.version ≡ current). inr (ap (is_among versions) (sym number ∙ e) ∙ current_left))
-        (λ (d : Contains before k.0.version). inl (ap (is_among before) (sym number) ∙ among_of before k.0.version d))
-        (kept.all k.0.version (in_map (λ (x : Kept). x.version) (kept_in v.turn) k.0 k.1)))
-
-    pub narrowed_rows : rows_without before versions u.rows ≡ rows_of versions u.rows
-    narrowed_rows = left_rows before versions u.rows each_told
 
     rows_now : rows_of versions u.rows ≡ map (row_for chunks) (kept_in w.turn)
     rows_now =
@@ -172,7 +155,10 @@ module _ (lawful : List Entry → List Entry → Type 0) (v : Known) (turn : Tur
         ∙ ap (map (row_for chunks)) (filter_same (λ (k : Kept). is_among versions k.version) test turn.kept (λ k c. due k.version))
         ∙ ap (map (row_for chunks)) (sym kept_now)
 
-    pub agrees_rounded : length versions ≤ count + 1 → Agrees (cells_with u w.turn) (record u { rows = rows_of versions u.rows }) count
+    pub numbers_now : kept_versions (narrowed u versions) ≡ versions
+    numbers_now = ap (map (λ (row : Row). row.version)) rows_now ∙ map-map (λ (row : Row). row.version) (row_for chunks) (kept_in w.turn) ∙ sym r.kept
+
+    pub agrees_rounded : length versions ≤ count + 1 → Agrees (cells_with u w.turn) (narrowed u versions) count
     agrees_rounded few = record {
       given = ap (λ (words : List ℕ). map (λ chunk. slice_index words (status_at chunk) == 1) (range_with_len 0 chunks)) words_same ∙ agrees.given;
       rows = rows_now;

@@ -32,7 +32,7 @@ use Rattle.shared_cells.proofs.Chunks.{cells_are_image}
 use Rattle.shared_index.specs.Meanings.{in_image, IsVersion}
 use Rattle.shared_index.specs.Bases.{IsRooted}
 use Rattle.shared_index.specs.Turns.{chunk_set, cell_counts}
-use Rattle.shared_index.specs.Keepings.{is_among}
+use Rattle.chunk_usage.specs.Keeping.{is_among}
 use Rattle.shared_index.specs.Images.{found, image_at}
 use Rattle.shared_index.proofs.FoundLaws.{Says, found_is}
 use Rattle.shared_index.proofs.Lists.{all_of, all_from, contains_first, count_map, in_map, of_map}

@@ -16,7 +16,7 @@ use Rattle.shared_index.specs.declared.change.Change.{Change}
 use Rattle.shared_index.specs.declared.change.Unchanged.{Unchanged}
 use Rattle.shared_index.specs.declared.change.Unchanged.TheVariants.{Refused}
 use Rattle.shared_index.specs.declared.desk.Draft.{Draft}
-use Rattle.shared_index.specs.declared.kept.Versions.{Versions}
+use Rattle.chunk_usage.specs.Keeping.{kept_versions, narrowed}
 use Rattle.shared_index.specs.declared.refusal.Full.{Full}
 use Rattle.shared_index.specs.declared.meaning.Operation.{Operation}
 use Rattle.shared_index.specs.Operations.{operated, applied}
@@ -26,7 +26,7 @@ use Rattle.shared_index.specs.Bases.{StandsFor}
 use Rattle.shared_index.specs.Changes.{operation_of, IsRefused}
 use Rattle.shared_index.specs.Drafts.{Works, Operates, IsFull, Between, Commits, working_set}
 use Rattle.shared_index.specs.Tries.{Tried}
-use Rattle.shared_index.specs.Keepings.{GoesOn, narrowed, versions_in}
+use Rattle.shared_index.specs.Keepings.{GoesOn, versions_in}
 use Rattle.shared_index.proofs.AttemptLaws.{rooted_there}
 use Rattle.shared_index.proofs.GoesLaws.{words_go_on, goes_further, base_goes_on, applied_more}
 
@@ -69,8 +69,8 @@ pub version_on : {v w : Known} (a b : ℕ) → GoesOn v w → a ≡ length v.see
 version_on {v} {w} a b g old new = new ∙ ap length g.history ∙ sym old
 
 -- why the call found no room
-pub full_of : (room d : Draft) (full : NoRoom) (f : Full) → GoesOn room.seat.place.me.0 d.seat.place.me.0 → d.kept ≡ room.kept → ((n : ℕ) → Contains (versions_in room.kept) n → (n ≡ room.seat.version) ⊎ IsNamed room.seat.place.me.0 n)
-    → (older : List ℕ) × (versions_in room.kept ≡ older ++ room.seat.version ∷ []) → Lacks d.usage full → (f.needed ≡ full.needed) × (f.left ≡ full.left) × (f.free ≡ full.free) × (f.reserve ≡ full.reserve) → f.kept ≡ d.kept → IsFull d f
+pub full_of : (room d : Draft) (full : NoRoom) (f : Full) → GoesOn room.seat.place.me.0 d.seat.place.me.0 → kept_versions d.usage ≡ kept_versions room.usage → ((n : ℕ) → Contains (kept_versions room.usage) n → (n ≡ room.seat.version) ⊎ IsNamed room.seat.place.me.0 n)
+    → (older : List ℕ) × (kept_versions room.usage ≡ older ++ room.seat.version ∷ []) → Lacks d.usage full → (f.needed ≡ full.needed) × (f.left ≡ full.left) × (f.free ≡ full.free) × (f.reserve ≡ full.reserve) → versions_in f.kept ≡ kept_versions d.usage → IsFull d f
 full_of room d full f on same named ends lacks request kept =
     let made : ℕ → ℕ → ℕ → ℕ → NoRoom = λ needed left free reserve. record { needed = needed; left = left; free = free; reserve = reserve } in
     let asked : made f.needed f.left f.free f.reserve ≡ full =
@@ -78,12 +78,12 @@ full_of room d full f on same named ends lacks request kept =
     ∙ ap (λ (n : ℕ). made full.needed full.left n f.reserve) request.2 ∙ ap (made full.needed full.left full.free) request.3 in
     record {
       lacks = subst (Lacks d.usage) (sym asked) lacks;
-      kept = ap versions_in kept;
+      kept = kept;
       named = λ n h. ⊎_elim
           (λ (e : n ≡ room.seat.version). inl (e ∙ sym (version_on room.seat.version d.seat.version on room.seat.version_is d.seat.version_is)))
           (λ (named_so : IsNamed room.seat.place.me.0 n). inr (named_on n on named_so))
-          (named n (subst (λ (v : Versions). Contains (versions_in v) n) (kept ∙ same) h));
-      ends = (ends.0, ap versions_in (kept ∙ same) ∙ ends.1 ∙ ap (λ (n : ℕ). ends.0 ++ n ∷ []) (sym (version_on room.seat.version d.seat.version on room.seat.version_is d.seat.version_is)));
+          (named n (subst (λ (ns : List ℕ). Contains ns n) (kept ∙ same) h));
+      ends = (ends.0, kept ∙ same ∙ ends.1 ∙ ap (λ (n : ℕ). ends.0 ++ n ∷ []) (sym (version_on room.seat.version d.seat.version on room.seat.version_is d.seat.version_is)));
     }
 
 -- the working set stays where no operation was done

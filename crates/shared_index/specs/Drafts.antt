@@ -4,6 +4,7 @@ use Rattle.packed_node.specs.declared.Cell.{Cell}
 use Rattle.trie_model.specs.Keys.{Entry}
 use Rattle.shared_cells.specs.declared.pass.PassSeat.{PassSeat}
 use Rattle.chunk_usage.specs.Handing.{Lacks}
+use Rattle.chunk_usage.specs.Keeping.{kept_versions}
 use Rattle.shared_cells.specs.declared.view.PassView.{PassView}
 use Rattle.shared_cells.specs.History.{StartsWith, entry_of}
 use Rattle.shared_cells.specs.Views.{pass_of}
@@ -59,7 +60,7 @@ pub record Operates (o : Operation) (denied : List Entry → Type 0) (old new : 
 -- pass was found reading.
 pub record IsFull (d : Draft) (f : Full) : Type 0 where
   pub lacks : Lacks d.usage (record { needed = f.needed; left = f.left; free = f.free; reserve = f.reserve })
-  pub kept : versions_in f.kept ≡ versions_in d.kept
+  pub kept : versions_in f.kept ≡ kept_versions d.usage
   pub named : (v : ℕ) → Contains (versions_in f.kept) v → (v ≡ d.seat.version) ⊎ IsNamed d.seat.place.me.0 v
   pub ends : (older : List ℕ) × (versions_in f.kept ≡ older ++ d.seat.version ∷ [])
 

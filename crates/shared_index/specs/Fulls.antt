@@ -3,7 +3,7 @@ use Rattle.std.specs.Prelude.{◌≡◌, ◌⊎◌, ℕ, ◌+◌, ◌-◌, ◌*�
 use Rattle.std.specs.List.{sum_by}
 use Rattle.trie_model.specs.Shape.{cells}
 use Rattle.chunk_usage.specs.Ledger.{Ledger, frozen_part, is_open, is_given, free_count, reserve_of}
-use Rattle.chunk_usage.specs.Keeping.{is_in_rows, freed}
+use Rattle.chunk_usage.specs.Keeping.{is_in_rows, freed, narrowed}
 use Rattle.evacuate.specs.Evacuations.{HasSparse}
 use Rattle.evacuate.specs.Fillings.{IsFull as IsUsedUp}
 use Rattle.shared_cells.specs.History.{version_after}
@@ -12,7 +12,7 @@ use Rattle.shared_index.specs.declared.refusal.Full.{Full}
 use Rattle.shared_index.specs.Operations.{applied}
 use Rattle.shared_index.specs.Passes.{Known, first_version}
 use Rattle.shared_index.specs.Drafts.{working_set}
-use Rattle.shared_index.specs.Keepings.{narrowed, versions_in}
+use Rattle.shared_index.specs.Keepings.{versions_in}
 use Rattle.shared_index.specs.Tries.{PathHas}
 use Rattle.trie_model.specs.Keys.{Entry}
 

@@ -6,13 +6,12 @@ use Rattle.trie_model.specs.Keys.{Entry}
 use Rattle.trie_model.specs.Trees.{Tree, entries_of, IsTree}
 use Rattle.trie_model.specs.Reach.{live_in}
 use Rattle.chunk_usage.specs.Ledger.{Ledger, free_count}
-use Rattle.chunk_usage.specs.Keeping.{freed, frozen}
+use Rattle.chunk_usage.specs.Keeping.{freed, frozen, narrowed}
 use Rattle.shared_cells.specs.Views.{namings_by}
 use Rattle.shared_cells.specs.Steps.{IsDue}
 use Rattle.shared_index.specs.declared.commit.Receipt.{Receipt}
 use Rattle.shared_index.specs.Fulls.{Grown}
 use Rattle.shared_index.specs.Passes.{Known}
-use Rattle.shared_index.specs.Keepings.{narrowed}
 use Rattle.shared_index.specs.Movings.{FewThin}
 
 -- the counts are those of a trie of these entries at the root

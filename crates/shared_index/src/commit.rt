@@ -1,21 +1,19 @@
 //! Commits: the working set becomes the next version.
 ghost use Rattle.std.specs.Prelude.{◌≡◌, ◌↔◌, ◌+◌, ◌^◌, ◌<◌, ◌≤◌, true, false, All, Some, IfOk, IfErr, IsErr, length};
 ghost use Rattle.chunk_usage.specs.Ledger.{free_count};
-ghost use Rattle.chunk_usage.specs.Keeping.{freed, frozen};
 ghost use Rattle.shared_cells.specs.Views.{kept_in, pass_of, words_of};
 ghost use Rattle.shared_cells.specs.Steps.{CanPublish, Published};
 ghost use Rattle.shared_index.specs.Operations.{applied};
 ghost use Rattle.shared_index.specs.Meanings.{IsVersion};
 ghost use Rattle.shared_index.specs.Passes.{first_version};
 ghost use Rattle.shared_index.specs.Images.{image_at};
-ghost use Rattle.shared_index.specs.Keepings.{narrowed, versions_in};
 
 use crate::desk::{Desk, Draft};
-use crate::kept::Versions;
 use crate::log::Log;
 use crate::meaning::{Law, Meaning, Operations, Version};
 use crate::recycling::free_unreached;
 use crate::rounds::make_round;
+use chunk_usage::Usage;
 use evacuate::Done;
 use packed_node::Ref;
 use pin_core::{LAST_VERSION, Spent, next_version};
@@ -36,14 +34,14 @@ pub struct Receipt {
 }
 
 impl Receipt {
-    // The round kept these versions.
-    fn of(version: u64, freed: u32, kept: &Versions, whole: bool) -> Receipt
-        ensures { (result.version ≡ version) × (result.freed ≡ freed) × (result.kept ≡ length (versions_in kept.now)) × (result.whole ≡ whole) }
+    // The round left this usage.
+    fn of(version: u64, freed: u32, usage: &Usage, whole: bool) -> Receipt
+        ensures { (result.version ≡ version) × (result.freed ≡ freed) × (result.kept ≡ length usage.now.rows) × (result.whole ≡ whole) }
     {
         Receipt {
             version,
             freed,
-            kept: kept.as_slice().len(),
+            kept: usage.kept().len(),
             whole,
         }
     }
@@ -154,9 +152,7 @@ impl Draft {
         ensures tables { (result.0.seat.place.table_id ≡ self.seat.place.table_id) × (result.1.place.table_id ≡ self.seat.place.table_id) }
         ensures commits { Commits self.seat.place.me.0 self.log.operations result.1.place.me.0 }
         ensures version { result.2.version ≡ self.seat.version + 1 }
-        ensures kept { result.2.kept ≡ length (versions_in result.0.kept) }
         ensures freed { free_count result.0.usage ≡ free_count self.usage + result.2.freed }
-        ensures recycled { result.0.usage ≡ freed (narrowed (frozen self.usage result.2.version) (versions_in result.0.kept)) }
         ensures whole { result.2.whole ≡ whole }
         ensures receipt { Rounds self.seat.place.me.0 self.usage self.seat.passes result.1.place.me.0 result.2 }
     {
@@ -166,20 +162,18 @@ impl Draft {
             base: _,
             root,
             log,
-            kept: before,
         } = self;
         usage.known();
         let version = publish(shared, &mut seat, root, &log);
         usage.freeze(version);
-        let kept = make_round(shared, &mut seat, &mut usage, &before);
+        make_round(shared, &mut seat, &mut usage);
         let (seat, freed) = free_unreached(shared, seat, &mut usage);
         let (seat, pass) = seat.split(shared);
-        let receipt = Receipt::of(version, freed, &kept, whole);
+        let receipt = Receipt::of(version, freed, &usage, whole);
         let desk = Desk {
             seat,
             usage,
             root,
-            kept,
         };
         (desk, pass, receipt)
     }

@@ -5,11 +5,9 @@ ghost use Rattle.shared_cells.specs.Views.{kept_in, pass_of};
 ghost use Rattle.shared_index.specs.Passes.{version_seen};
 ghost use Rattle.shared_index.specs.Turns.{Agrees, AtRest, cells_with, current_root};
 ghost use Rattle.shared_index.specs.Bases.{StandsFor, Joined};
-ghost use Rattle.shared_index.specs.Keepings.{numbers_of, versions_in};
 ghost use Rattle.trie_model.specs.Keys.{Entry};
 ghost use Rattle.chunk_usage.specs.Keeping.{closed, freed, restored};
 
-use crate::kept::Versions;
 use crate::log::Log;
 use crate::meaning::{Law, Meaning, Operations, Version};
 use crate::recycling::free_unreached;
@@ -24,12 +22,10 @@ pub struct Desk {
     pub(crate) usage: Usage,
     /// The current version's.
     pub(crate) root: Option<Ref>,
-    pub(crate) kept: Versions,
     ghost wide: { 4161 + 2048 * length usage.given ≡ seat.place.table_id.words },
     ghost agrees: { Agrees (cells_with usage seat.place.me.0.turn) usage seat.passes } by { Prim.hlevel props },
     ghost at_rest: { AtRest usage } by { Prim.hlevel props },
     ghost root_is: { root ≡ current_root (kept_in seat.place.me.0.turn) } by { Prim.hlevel props },
-    ghost kept_are: { versions_in kept ≡ numbers_of (kept_in seat.place.me.0.turn) } by { Prim.hlevel props },
 }
 
 /// The turn during a transaction of the joined pass.
@@ -43,11 +39,9 @@ pub struct Draft {
     pub(crate) root: Option<Ref>,
     /// What was done to the base.
     pub(crate) log: Log,
-    pub(crate) kept: Versions,
     ghost wide: { 4161 + 2048 * length usage.given ≡ seat.place.table_id.words },
     ghost agrees: { Agrees (cells_with usage seat.place.me.0.turn) usage seat.passes } by { Prim.hlevel props },
     ghost base_is: { base ≡ current_root (kept_in seat.place.me.0.turn) } by { Prim.hlevel props },
-    ghost kept_are: { versions_in kept ≡ numbers_of (kept_in seat.place.me.0.turn) } by { Prim.hlevel props },
 }
 
 impl Desk {
@@ -69,7 +63,6 @@ impl Desk {
             seat,
             usage,
             root,
-            kept,
         } = self;
         usage.known();
         let mut seat = seat.join(shared, pass);
@@ -80,7 +73,6 @@ impl Desk {
             base: root,
             root,
             log: Log::new(),
-            kept,
         }
     }
 }
@@ -92,7 +84,6 @@ impl Draft {
         ensures usage { self.new.usage ≡ closed self.old.usage }
         ensures root { self.new.root ≡ self.old.root }
         ensures log { self.new.log.operations ≡ self.old.log.operations }
-        ensures kept { self.new.kept ≡ self.old.kept }
         ensures stands { (es : List Entry) → StandsFor self.old.seat.place.me.0 self.old.usage self.old.root es
             → StandsFor self.new.seat.place.me.0 self.new.usage self.new.root es }
     {
@@ -115,7 +106,6 @@ impl Draft {
             base,
             root: _,
             log: _,
-            kept,
         } = self;
         usage.restore();
         let (seat, _) = free_unreached(shared, seat, &mut usage);
@@ -124,7 +114,6 @@ impl Draft {
             seat,
             usage,
             root: base,
-            kept,
         };
         (desk, pass)
     }

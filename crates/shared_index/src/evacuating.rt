@@ -88,7 +88,6 @@ impl Draft {
             base,
             root,
             log,
-            kept,
         } = self;
         let (seat, root, done) = evacuate(shared, seat, &mut usage, root);
         let draft = Draft {
@@ -97,7 +96,6 @@ impl Draft {
             base,
             root,
             log,
-            kept,
         };
         (draft, done)
     }

@@ -86,7 +86,6 @@ impl Draft {
             base,
             root,
             log,
-            kept,
         } = self;
         let (seat, found) = fetch_item(shared, seat, &usage, root, key, out);
         let draft = Draft {
@@ -95,7 +94,6 @@ impl Draft {
             base,
             root,
             log,
-            kept,
         };
         (draft, found)
     }

@@ -1,8 +1,9 @@
 //! The numbers of kept versions.
-ghost use Rattle.std.specs.Prelude.{◌≡◌, ◌≤◌, ◌<◌, ◌∷◌, [], length, take};
+ghost use Rattle.std.specs.Prelude.{◌≡◌, ◌≤◌, ◌<◌, ◌+◌, length, take};
 ghost use Rattle.std.specs.List.{AllPairs};
+ghost use Rattle.chunk_usage.specs.Keeping.{kept_versions};
 
-use shared_cells::KeptVersions;
+use chunk_usage::Usage;
 
 /// How many versions are kept at most: the current one, and one for each of 64 passes.
 const MOST: usize = 65;
@@ -27,28 +28,19 @@ impl Versions {
         &self.numbers[..self.len]
     }
 
-    /// Version 0 alone.
-    pub(crate) fn first() -> Versions
-        ensures { versions_in result ≡ 0 ∷ [] }
+    /// Those that a usage keeps.
+    pub(crate) fn of(usage: &Usage) -> Versions
+        requires { length usage.now.rows ≤ usage.now.passes + 1 }
+        ensures { versions_in result ≡ kept_versions usage.now }
     {
-        Versions {
-            len: 1,
-            numbers: [0; MOST],
-        }
-    }
-
-    /// The same, out of a round's list.
-    pub(crate) fn of(list: &KeptVersions) -> Versions
-        requires { length list.now ≤ 65 }
-        ensures { versions_in result ≡ list.now }
-    {
-        let found = list.as_slice();
+        usage.known();
+        let kept = usage.kept();
         let mut numbers = [0; MOST];
-        for i in 0..found.len() {
-            numbers[i] = found[i];
+        for i in 0..kept.len() {
+            numbers[i] = kept[i].version();
         }
         Versions {
-            len: found.len(),
+            len: kept.len(),
             numbers,
         }
     }

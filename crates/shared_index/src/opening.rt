@@ -21,7 +21,6 @@ ghost use Rattle.shared_index.specs.Openings.{IsUnused, SeesFirst, Refuses, room
 
 use crate::desk::Desk;
 use crate::index::{Index, Turn};
-use crate::kept::Versions;
 use crate::meaning::{Law, Meaning, Named, Operations, Version};
 use crate::pass::Pass;
 use chunk_usage::Usage;
@@ -259,7 +258,6 @@ impl<L: Law, N: Named> Index<L, N> {
             seat,
             usage,
             root,
-            kept: Versions::first(),
         }
     }
 

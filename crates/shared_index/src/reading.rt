@@ -36,7 +36,6 @@ impl Draft {
             base,
             root,
             log,
-            kept,
         } = self;
         let cell = JoinedCells::new(shared, &mut seat).cell(at);
         let draft = Draft {
@@ -45,7 +44,6 @@ impl Draft {
             base,
             root,
             log,
-            kept,
         };
         (draft, cell)
     }

@@ -1,17 +1,18 @@
 //! A transaction's operations: each is tried, and once more where there is no room, after rounds and an evacuation.
 ghost use Rattle.std.specs.Prelude.{◌≡◌, ◌⊎◌, ◌∷◌, ◌++◌, [], ℕ, List, Err, IsOk, IfErr, All, Contains, slice_index};
 ghost use Rattle.chunk_usage.specs.Handing.{Lacks};
-ghost use Rattle.chunk_usage.specs.Keeping.{freed};
+ghost use Rattle.chunk_usage.specs.Keeping.{freed, kept_versions, narrowed};
 ghost use Rattle.shared_cells.specs.Views.{kept_in};
 ghost use Rattle.shared_cells.specs.Steps.{IsNamed};
 ghost use Rattle.shared_index.specs.Meanings.{IsVersion};
 ghost use Rattle.shared_index.specs.Changes.{operation_of, key_of, written_by, LeadsItem, IsRefused};
-ghost use Rattle.shared_index.specs.Keepings.{GoesOn, narrowed, versions_in};
+ghost use Rattle.shared_index.specs.Keepings.{GoesOn};
 ghost use Rattle.shared_index.specs.Tries.{Tried};
 
 use crate::attempt::attempt;
 use crate::change::{Change, Unchanged};
 use crate::desk::Draft;
+use crate::kept::Versions;
 use crate::meaning::{Law, Meaning, Operations, Version};
 use crate::recycling::free_unreached;
 use crate::refusal::Full;
@@ -38,7 +39,6 @@ impl Draft {
         ensures usage { result.usage ≡ self.usage }
         ensures root { result.root ≡ root }
         ensures log { result.log.operations ≡ self.log.operations ++ operation_of change.now ∷ [] }
-        ensures kept { result.kept ≡ self.kept }
     {
         let mut draft = self;
         draft.root = root;
@@ -58,7 +58,6 @@ impl Draft {
         ensures table { result.0.seat.place.table_id ≡ self.seat.place.table_id }
         ensures operates { Operates (operation_of change.now) (IsRefused change.now) self result.0 (IsOk result.1) (result.1 ≡ Err Unchanged.Refused) }
         ensures full { (f : _) → result.1 ≡ Err (Unchanged.Full f) → Lacks result.0.usage f }
-        ensures kept { result.0.kept ≡ self.kept }
         ensures tried { IfErr result.1 (λ e. Tried change.now self.root self.seat.place.me.0 self.usage result.0.seat.place.me.0 result.0.usage (Err e)) }
         ensures grown { Grown self.usage result.0.usage }
         ensures root { IfErr result.1 (λ _. result.0.root ≡ self.root) }
@@ -69,7 +68,6 @@ impl Draft {
             base,
             root,
             log,
-            kept,
         } = self;
         let (seat, outcome) = attempt(shared, seat, &mut usage, root, change);
         let draft = Draft {
@@ -78,7 +76,6 @@ impl Draft {
             base,
             root,
             log,
-            kept,
         };
         match outcome {
             Ok(new) => (draft.with_done(new, change), Ok(())),
@@ -94,10 +91,10 @@ impl Draft {
         ensures goes_on { GoesOn self.seat.place.me.0 result.seat.place.me.0 }
         ensures log { result.log.operations ≡ self.log.operations }
         ensures works { Works result }
-        ensures named { (v : ℕ) → Contains (versions_in result.kept) v → (v ≡ result.seat.version) ⊎ IsNamed result.seat.place.me.0 v }
-        ensures ends { (older : List ℕ) × (versions_in result.kept ≡ older ++ result.seat.version ∷ []) }
+        ensures named { (v : ℕ) → Contains (kept_versions result.usage) v → (v ≡ result.seat.version) ⊎ IsNamed result.seat.place.me.0 v }
+        ensures ends { (older : List ℕ) × (kept_versions result.usage ≡ older ++ result.seat.version ∷ []) }
         ensures passes { result.seat.passes ≡ self.seat.passes }
-        ensures after { result.usage ≡ freed (narrowed self.usage (versions_in result.kept)) }
+        ensures after { result.usage ≡ freed (narrowed self.usage (kept_versions result.usage)) }
         ensures images { All (λ k. IsVersion k.image k.root (version_at result.seat.place.me.0 k.version)) (kept_in result.seat.place.me.0.turn) }
     {
         let Draft {
@@ -106,9 +103,8 @@ impl Draft {
             base,
             root,
             log,
-            kept: before,
         } = self;
-        let kept = make_round(shared, &mut seat, &mut usage, &before);
+        make_round(shared, &mut seat, &mut usage);
         let (seat, _) = free_unreached(shared, seat, &mut usage);
         Draft {
             seat,
@@ -116,7 +112,6 @@ impl Draft {
             base,
             root,
             log,
-            kept,
         }
     }
 
@@ -141,7 +136,7 @@ impl Draft {
             Ok(()) => (draft, Ok(())),
             Err(Unchanged::Refused) => (draft, Err(Refusal::Name)),
             Err(Unchanged::Full(full)) => {
-                let full = Full::of(full, draft.kept);
+                let full = Full::of(full, Versions::of(&draft.usage));
                 (draft, Err(Refusal::Full(full)))
             }
         }

@@ -3,12 +3,19 @@
 ghost use Rattle.std.specs.Prelude.{◌≡◌, ◌≢◌, ◌<◌, ◌≤◌, ◌+◌, ◌-◌, ℕ, true, false, length, IfSome, take};
 ghost use Rattle.std.specs.List.{All, position_or_len};
 ghost use Rattle.chunk_usage.specs.Ledger.{Row, Rising, is_used, is_fresh, newest};
-ghost use Rattle.chunk_usage.specs.Keeping.{AreOlder, dropped, frozen, is_kept, is_row_of, restored, without_row};
+ghost use Rattle.chunk_usage.specs.Keeping.{AreOlder, dropped, frozen, is_among, is_kept, is_row_of, narrowed, restored, rows_of, without_row};
 
 use super::Usage;
 use crate::kept_version::KeptVersion;
 
 impl Usage {
+    /// The kept versions, the oldest first.
+    pub fn kept(&self) -> &[KeptVersion]
+        ensures { result.now ≡ self.now.rows }
+    {
+        &self.slots[..self.kept]
+    }
+
     /// Keeps the chunks with live cells for a version. What is in use now is not written until the version is dropped.
     pub fn freeze(&mut self, version: u64)
         requires room { length self.old.rows < self.old.passes + 2 }
@@ -42,6 +49,32 @@ impl Usage {
         forget(&mut self.slots, self.kept, version);
         self.kept -= 1;
     }
+
+    /// Keeps no versions but these. The newest is one of them.
+    pub fn keep_only(&mut self, versions: &[u64])
+        requires { IfSome (newest self.old.rows) (λ r. is_among versions.now r.version ≡ true) }
+        ensures { self.new ≡ narrowed self.old versions.now }
+    {
+        self.kept = gather(&mut self.slots, self.kept, versions);
+    }
+}
+
+/// Moves those of the first slots that have one of these versions to the front, in their order. Tells how many they are.
+fn gather(slots: &mut [KeptVersion], rows: usize, versions: &[u64]) -> usize
+    requires { rows ≤ length slots.old }
+    ensures length { length slots.new ≡ length slots.old }
+    ensures within { result ≤ rows }
+    ensures rows { take result slots.new ≡ rows_of versions.now (take rows slots.old) }
+    ensures wide { (n : ℕ) → All (λ (r : Row). length r.chunks ≡ n) slots.old → All (λ (r : Row). length r.chunks ≡ n) slots.new }
+{
+    let mut kept = 0;
+    for place in 0..rows {
+        if slots[place].is_among(versions) {
+            slots.swap(kept, place);
+            kept += 1;
+        }
+    }
+    kept
 }
 
 /// Takes a version from those in the first slots. Its slot is then the last of theirs.

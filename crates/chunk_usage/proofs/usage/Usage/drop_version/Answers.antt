@@ -1,10 +1,10 @@
-use Rattle.std.proofs.Common.{◌≡◌, ◌-◌, List, length, take, sym, ap, ◌∙◌, subst, arith}
+use Rattle.std.proofs.Common.{◌≡◌, ◌-◌, List, not, length, take, sym, ap, ◌∙◌, subst, arith}
 use Rattle.std.specs.List.{All}
 use Rattle.std.proofs.lemmas.List.{with_items_is}
 use Rattle.chunk_usage.specs.Ledger.{Row}
-use Rattle.chunk_usage.specs.Keeping.{without_row}
+use Rattle.chunk_usage.specs.Keeping.{is_row_of, without_row}
 use Rattle.chunk_usage.specs.Inside.{ledger_of}
-use Rattle.chunk_usage.proofs.KeepingLaws.{dropped_alike}
+use Rattle.chunk_usage.proofs.KeepingLaws.{left_alike, others_newest}
 use Rattle.chunk_usage.proofs.usage.Usage.drop_version.Goals as goal
 
 pub invariant_of-self : goal.invariant_of-self
@@ -14,7 +14,7 @@ invariant_of-self c =
     let new = with_items_is s.slots c.forget.new.slots n in
     let old = c.deref_mut.ensures.value in
     record {
-      ledger = dropped_alike (ledger_of s) c.args.self.now c.self.view_is c.self.invariant.ledger c.args.version c.requires.old _
+      ledger = left_alike (λ (r : Row). not (is_row_of c.args.version r)) (ledger_of s) c.args.self.now c.self.view_is c.self.invariant.ledger (others_newest c.args.self.now.rows c.args.version c.requires.old) _
           (ap (take (s.kept - 1)) new ∙ c.forget.ensures.rows ∙ ap (λ (rows : List Row). without_row c.args.version (take s.kept rows)) old);
       free = c.self.invariant.free;
       slots = ap length new ∙ c.forget.ensures.length ∙ ap length old ∙ c.self.invariant.slots;

@@ -2,7 +2,7 @@ use Rattle.std.proofs.Common.{◌≡◌, ◌∙◌, Err}
 use Rattle.std.specs.Prelude.{IsOk}
 use Rattle.shared_index.specs.declared.working.Refusal.TheVariants as refusal
 use Rattle.shared_index.specs.Changes.{operation_of, IsRefused}
-use Rattle.shared_index.specs.Keepings.{versions_in}
+use Rattle.chunk_usage.specs.Keeping.{kept_versions}
 use Rattle.shared_index.proofs.GoesLaws.{goes_further}
 use Rattle.shared_index.proofs.MovingLaws.{evacuated_of}
 use Rattle.shared_index.proofs.WorkLaws.{operates_after}
@@ -24,6 +24,6 @@ returns-clause-cause g c f e =
     let dense = c.evacuate-draft in
     let tried = c.change_in_room in (
       dense.result.0.usage,
-      evacuated_of c.args.self.usage room.result.usage dense.result.0.usage (versions_in room.result.kept) tried.result.0 dense.result.1 room.ensures.after dense.ensures.grown dense.ensures.whole dense.ensures.stopped dense.ensures.left (tried.ensures.counts f e),
+      evacuated_of c.args.self.usage room.result.usage dense.result.0.usage (kept_versions room.result.usage) tried.result.0 dense.result.1 room.ensures.after dense.ensures.grown dense.ensures.whole dense.ensures.stopped dense.ensures.left (tried.ensures.counts f e),
       tried.ensures.cause f e,
     )

@@ -1,11 +1,11 @@
 use Rattle.std.proofs.Common.{◌≡◌, ◌∙◌, ◌↔◌, ◌+◌, ◌*◌, ◌≤◌, ◌++◌, ◌∷◌, [], ℕ, List, length, Option, refl, sym, ap, subst, arith, length-append}
 use Rattle.std.specs.List.{Contains}
-use Rattle.std.proofs.lemmas.List.{length-replicate}
+use Rattle.std.proofs.lemmas.List.{length-map, length-replicate}
 use Rattle.pin_core.specs.declared.kept.Kept.{Kept}
 use Rattle.pin_core.specs.declared.kept.Mark.{Mark}
 use Rattle.pin_core.specs.declared.kept.Mark.TheVariants as mark
 use Rattle.chunk_usage.specs.Ledger.{Ledger, Row, free_count}
-use Rattle.chunk_usage.specs.Keeping.{AreOlder, freed, frozen}
+use Rattle.chunk_usage.specs.Keeping.{AreOlder, freed, frozen, kept_versions, narrowed}
 use Rattle.shared_cells.specs.declared.view.TurnView.{TurnView}
 use Rattle.shared_cells.specs.Views.{kept_in, kept_of, marks_of, namings_by, words_of}
 use Rattle.shared_cells.specs.Steps.{IsDue}
@@ -14,8 +14,7 @@ use Rattle.shared_index.specs.Drafts.{working_set}
 use Rattle.shared_index.specs.Images.{image_at}
 use Rattle.shared_index.specs.Passes.{Known}
 use Rattle.shared_index.specs.Turns.{Agrees, AgreesWithin, cells_with, current_root}
-use Rattle.shared_index.specs.Keepings.{AreKept, narrowed, numbers_of, versions_in}
-use Rattle.shared_index.proofs.PublishLaws.{all_older, can_publish, agrees_published, root_published, kept_published}
+use Rattle.shared_index.proofs.PublishLaws.{all_older, can_publish, agrees_published, root_published}
 use Rattle.shared_index.proofs.WordsLaws.{freed_chunks, same_chunks, same_words, words_kept}
 use Rattle.shared_index.proofs.desk.Draft.publish.Goals as goal
 
@@ -37,8 +36,8 @@ freeze-requires-clause-newer g c =
     subst (AreOlder d.usage.rows) (sym c.publish-version.ensures.version)
     (subst (λ (rows : List Row). AreOlder rows (d.seat.version + 1)) (sym d.agrees.rows) (all_older (length d.usage.given) (kept_in d.seat.place.me.0.turn) d.seat.version c.requires.newest))
 
-pub make_round-kept-requires-clause-agrees : goal.make_round-kept-requires-clause-agrees
-make_round-kept-requires-clause-agrees g c =
+pub make_round-requires-clause-agrees : goal.make_round-requires-clause-agrees
+make_round-requires-clause-agrees g c =
     let d = c.args.self in
     let v : Known = d.seat.place.me.0 in
     let w : Known = c.publish-version.new.seat.place.me.0 in
@@ -51,69 +50,47 @@ make_round-kept-requires-clause-agrees g c =
     subst (λ (n : ℕ). AgreesWithin (n + 2) (cells_with new w.turn) new n) (sym c.publish-version.ensures.numbers.1)
     (agrees_published v d.usage c.known.ensures d.seat.passes d.agrees d.root (working_set d) c.requires.works w new c.publish-version.result number c.freeze.ensures.after c.freeze.ensures.settled kept_now words_now)
 
-pub make_round-kept-requires-clause-before : goal.make_round-kept-requires-clause-before
-make_round-kept-requires-clause-before g c =
-    let d = c.args.self in
-    let v : Known = d.seat.place.me.0 in
-    let w : Known = c.publish-version.new.seat.place.me.0 in
-    let p = c.publish-version.ensures.published in
-    let number : c.publish-version.result ≡ length v.seen.history + 1 = c.publish-version.ensures.version ∙ ap (λ (n : ℕ). n + 1) d.seat.version_is in
-    let latest : Kept = kept_of (length v.seen.history + 1) d.root (image_at (words_of v.turn) d.root) in
-    let kept_now : kept_in w.turn ≡ kept_in v.turn ++ latest ∷ [] = ap (λ (x : Known). kept_in x.turn) p.6 ∙ ap (λ (t : Option TurnView). kept_in t ++ latest ∷ []) (sym p.3) in
-    let words_now : words_of w.turn ≡ words_of v.turn = ap (λ (x : Known). words_of x.turn) p.6 ∙ ap words_of (sym p.3) in
-    let long : length w.seen.history ≡ length v.seen.history + 1 = ap (λ (x : Known). length x.seen.history) p.6 ∙ length-append v.seen.history (record { author = p.1.number; change = p.2 } ∷ []) in
-    subst (λ (n : ℕ). AreKept (versions_in d.kept) n (kept_in w.turn)) (number ∙ sym long ∙ sym c.publish-version.new.seat.version_is)
-    (kept_published v d.usage c.known.ensures d.seat.passes d.agrees d.root (working_set d) c.requires.works w c.freeze.new.self c.publish-version.result number c.freeze.ensures.after c.freeze.ensures.settled kept_now words_now (versions_in d.kept) d.kept_are)
-
 pub invariant_of-desk : goal.invariant_of-desk
 invariant_of-desk g c =
     let d = c.args.self in
     let v : Known = d.seat.place.me.0 in
     let w : Known = c.publish-version.new.seat.place.me.0 in
-    let x : Known = c.make_round-kept.new.seat.place.me.0 in
+    let x : Known = c.make_round.new.seat.place.me.0 in
     let y : Known = c.free_unreached-seat.result.0.place.me.0 in
     let z : Known = c.split-seat.result.0.place.me.0 in
     let last = c.free_unreached-seat.new.usage in
     let p = c.publish-version.ensures.published in
-    let round = c.make_round-kept.ensures in
+    let round = c.make_round.ensures in
     let free = c.free_unreached-seat.ensures in
     let split = c.split-seat.ensures in
     let number : c.publish-version.result ≡ length v.seen.history + 1 = c.publish-version.ensures.version ∙ ap (λ (n : ℕ). n + 1) d.seat.version_is in
     let latest : Kept = kept_of (length v.seen.history + 1) d.root (image_at (words_of v.turn) d.root) in
     let kept_now : kept_in w.turn ≡ kept_in v.turn ++ latest ∷ [] = ap (λ (k : Known). kept_in k.turn) p.6 ∙ ap (λ (t : Option TurnView). kept_in t ++ latest ∷ []) (sym p.3) in
     let words_now : words_of w.turn ≡ words_of v.turn = ap (λ (k : Known). words_of k.turn) p.6 ∙ ap words_of (sym p.3) in
-    let usage : last ≡ freed (narrowed (frozen d.usage c.publish-version.result) (versions_in c.make_round-kept.result)) =
-    free.after ∙ ap freed (round.usage ∙ ap (λ (l : Ledger). narrowed l (versions_in c.make_round-kept.result)) c.freeze.ensures.after) in
+    let usage : last ≡ freed (narrowed (frozen d.usage c.publish-version.result) (kept_versions c.make_round.new.usage)) =
+    free.after ∙ ap freed (round.usage ∙ ap (λ (l : Ledger). narrowed l (kept_versions c.make_round.new.usage)) c.freeze.ensures.after) in
     let turn : z.turn ≡ y.turn = ap (λ (k : Known). k.turn) split.turn.0 in
     let kept_last : kept_in z.turn ≡ kept_in x.turn = ap kept_in turn ∙ ap (λ (k : Known). kept_in k.turn) free.same ∙ words_kept x.turn (words_of y.turn) in
-    let passes : c.split-seat.result.0.passes ≡ c.make_round-kept.new.seat.passes = split.turn.2 ∙ free.passes in
+    let passes : c.split-seat.result.0.passes ≡ c.make_round.new.seat.passes = split.turn.2 ∙ free.passes in
     record {
-      wide = ap (λ (n : ℕ). 4161 + 2048 * n) (ap (λ (l : Ledger). length l.given) usage ∙ freed_chunks (narrowed (frozen d.usage c.publish-version.result) (versions_in c.make_round-kept.result)))
+      wide = ap (λ (n : ℕ). 4161 + 2048 * n) (ap (λ (l : Ledger). length l.given) usage ∙ freed_chunks (narrowed (frozen d.usage c.publish-version.result) (kept_versions c.make_round.new.usage)))
           ∙ d.wide ∙ sym (same_words _ _ (split.tables.0 ∙ free.table ∙ round.table ∙ c.publish-version.ensures.table));
-      agrees = subst (λ (n : ℕ). Agrees (cells_with last z.turn) last n) (sym passes) (subst (λ (t : Option TurnView). Agrees (cells_with last t) last c.make_round-kept.new.seat.passes) (sym turn) free.agrees);
+      agrees = subst (λ (n : ℕ). Agrees (cells_with last z.turn) last n) (sym passes) (subst (λ (t : Option TurnView). Agrees (cells_with last t) last c.make_round.new.seat.passes) (sym turn) free.agrees);
       at_rest = record {
         live = ap (λ (l : Ledger). l.live) usage ∙ sym (ap (λ (l : Ledger). l.last_live) usage);
         bump = ap (λ (l : Ledger). l.open_chunk) usage ∙ sym (ap (λ (l : Ledger). l.last_open) usage);
       };
       root_is = sym (ap current_root kept_last ∙ round.root
           ∙ root_published v d.usage c.known.ensures d.seat.passes d.agrees d.root (working_set d) c.requires.works w c.freeze.new.self c.publish-version.result number c.freeze.ensures.after c.freeze.ensures.settled kept_now words_now);
-      kept_are = round.kept ∙ sym (ap numbers_of kept_last);
     }
-
-pub returns-clause-recycled : goal.returns-clause-recycled
-returns-clause-recycled g c =
-    c.free_unreached-seat.ensures.after
-    ∙ ap freed
-    (c.make_round-kept.ensures.usage
-    ∙ ap (λ (l : Ledger). narrowed l (versions_in c.make_round-kept.result)) (c.freeze.ensures.after ∙ ap (frozen c.args.self.usage) (sym c.of-receipt.ensures.0)))
 
 pub returns-clause-receipt : goal.returns-clause-receipt
 returns-clause-receipt g c =
     let d = c.args.self in
     let v : Known = d.seat.place.me.0 in
     let w : Known = c.publish-version.new.seat.place.me.0 in
-    let list = versions_in c.make_round-kept.result in
-    let round = c.make_round-kept.ensures in
+    let list = kept_versions c.make_round.new.usage in
+    let round = c.make_round.ensures in
     let rounded = round.rounded in
     let free = c.free_unreached-seat.ensures in
     let receipt = c.of-receipt.ensures in
@@ -134,10 +111,10 @@ returns-clause-receipt g c =
           ∙ ap (λ (k : Known). k.seen.namings) rounded.after
           ∙ ap (λ (k : Known). k.seen.namings ++ namings_by 0 rounded.marks) p.6;
       versions = list;
-      rising = c.make_round-kept.result.rising;
+      rising = round.rising;
       exact = λ k. subst (λ (n : ℕ). Contains list k ↔ IsDue n rounded.marks k) latest (rounded.exact k);
       ends = (round.ends.0, round.ends.1 ∙ ap (λ (n : ℕ). round.ends.0 ++ n ∷ []) (c.publish-version.new.seat.version_is ∙ latest));
-      count = receipt.2;
+      count = receipt.2 ∙ ap (λ (l : Ledger). length l.rows) free.after ∙ sym (length-map c.make_round.new.usage.rows (λ (row : Row). row.version));
       few = subst (λ (n : ℕ). length list ≤ n + 1) c.publish-version.ensures.numbers.1 round.few;
       recycled = ap free_count (sym usage) ∙ free.count
           ∙ ap (λ (l : Ledger). free_count l + c.free_unreached-seat.result.1) (round.usage ∙ ap (λ (l : Ledger). narrowed l list) c.freeze.ensures.after)

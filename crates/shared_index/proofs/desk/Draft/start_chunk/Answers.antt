@@ -15,7 +15,6 @@ invariant_of-self c =
       agrees = subst (λ (n : ℕ). Agrees (cells_of n d.seat.place.me.0.turn) c.start_chunk.new.self d.seat.passes) (sym chunks)
           (agrees_closed (cells_with d.usage d.seat.place.me.0.turn) d.usage c.start_chunk.new.self d.seat.passes after c.start_chunk.ensures.grows d.agrees);
       base_is = d.base_is;
-      kept_are = d.kept_are;
     }
 
 pub returns-clause-stands : goal.returns-clause-stands

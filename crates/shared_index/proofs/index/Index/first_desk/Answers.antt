@@ -8,7 +8,6 @@ use Rattle.shared_cells.specs.Views.{kept_in, kept_of, words_of}
 use Rattle.shared_cells.proofs.Seats.{turn_there}
 use Rattle.shared_index.specs.Bases.{StandsFor}
 use Rattle.shared_index.specs.Images.{image_at}
-use Rattle.shared_index.specs.Keepings.{numbers_of}
 use Rattle.shared_index.specs.Passes.{Known}
 use Rattle.shared_index.specs.Turns.{current_root}
 use Rattle.shared_index.proofs.FirstLaws.{can_open, first_agrees}
@@ -51,5 +50,4 @@ invariant_of-result g c =
         bump = ap (λ (l : Ledger). l.open_chunk) c.freeze.ensures.after ∙ sym (ap (λ (l : Ledger). l.last_open) c.freeze.ensures.after);
       };
       root_is = sym (ap current_root kept_now);
-      kept_are = c.first.ensures ∙ sym (ap numbers_of kept_now);
     }

@@ -1,0 +1,1 @@
+use Rattle.shared_index.proofs.kept.Versions.of.Goals as goal
