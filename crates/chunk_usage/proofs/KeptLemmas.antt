@@ -1,8 +1,8 @@
 -- The row of a version among the kept ones.
 use Rattle.std.proofs.Common.{◌≡◌, ℕ, suc, ◌+◌, ◌-◌, ◌<◌, Bool, true, false, not, cond, List, [], ◌∷◌, ◌++◌, length, take, refl, ◌∙◌, sym, ap, subst, arith}
-use Rattle.std.specs.Prelude.{◌≤◌, ◌||◌, drop, inl, inr, remove}
+use Rattle.std.specs.Prelude.{◌≤◌, ◌||◌, drop, remove}
 use Rattle.std.specs.List.{All, AllByRecursion, filter, position_or_len, swap}
-use Rattle.std.proofs.Common.{get_or, set}
+use Rattle.std.proofs.Common.{get_or, set, inl, inr}
 use Rattle.std.proofs.lemmas.Bool.{cases_lt}
 use Rattle.std.proofs.lemmas.List.{append-nil, drop-drop, drop-set-lt, get_or-drop, length-set, take-set, take-set-le, take_more_set}
 use Rattle.std.proofs.lemmas.List.Elements.{All-set, filter_more}
@@ -85,7 +85,7 @@ pub record Gathered (passes : Row → Bool) (first slots : List Row) (place kept
   pub within : kept ≤ place
   pub front : take kept slots ≡ filter passes (take place first)
   pub rest : drop place slots ≡ drop place first
-  pub each : (P : Row → Type 0) → All P first → All P slots
+  pub wide : (n : ℕ) → All (λ (r : Row). length r.chunks ≡ n) first → All (λ (r : Row). length r.chunks ≡ n) slots
 
 module _ (passes : Row → Bool) (first slots : List Row) (place kept : ℕ) (d : Row) (inside : place < length slots) (g : Gathered passes first slots place kept) where
   same_row : get_or slots place d ≡ get_or first place d
@@ -113,7 +113,7 @@ module _ (passes : Row → Bool) (first slots : List Row) (place kept : ℕ) (d 
         ∙ ap (λ (r : Row). filter passes (take place first) ++ r ∷ []) same_row
         ∙ sym (more ∙ ap (λ (b : Bool). filter passes (take place first) ++ cond b (get_or first place d ∷ []) []) (sym (ap passes same_row) ∙ passed));
     rest = back_swapped slots kept place d g.within inside ∙ rest_more slots g.rest;
-    each = λ P all. all_swapped slots kept place d g.within inside P (g.each P all);
+    wide = λ n all. all_swapped slots kept place d g.within inside (λ (r : Row). length r.chunks ≡ n) (g.wide n all);
   }
 
   -- it doesn't
@@ -123,5 +123,5 @@ module _ (passes : Row → Bool) (first slots : List Row) (place kept : ℕ) (d 
     within = let w = g.within in omega arith;
     front = g.front ∙ sym (more ∙ ap (λ (b : Bool). filter passes (take place first) ++ cond b (get_or first place d ∷ []) []) (sym (ap passes same_row) ∙ failed) ∙ append-nil (filter passes (take place first)));
     rest = rest_more slots g.rest;
-    each = g.each;
+    wide = g.wide;
   }
