@@ -10,6 +10,7 @@
 //! for each 64 chunks: nothing goes through the chunks one by one.
 #![tactic(auto)]
 
+mod ages;
 mod chunk_set;
 mod counts;
 mod kept_version;

@@ -10,6 +10,7 @@ mod recycling;
 mod sparse;
 mod versions;
 
+use crate::ages::Ages;
 use crate::chunk_set::ChunkSet;
 use crate::counts::Counts;
 use crate::kept_version::KeptVersion;
@@ -36,6 +37,8 @@ pub struct Usage {
     passes: u32,
     // Room for the chunks that `free_unreached` finds.
     unreached: ChunkSet,
+    // Which chunks their cells may lead to.
+    ages: Ages,
 }
 
 impl Model for Usage {
@@ -70,6 +73,7 @@ impl Usage {
             kept: 0,
             passes,
             unreached: ChunkSet::new(alloc, chunks)?,
+            ages: Ages::new(alloc, chunks)?,
         })
     }
 

@@ -62,8 +62,8 @@ pub fn evacuate<C: CellWrite>(
 }
 
 /// Moves all that lies in sparse chunks to chunks that are free now. It ends where none of them has a cell that counts: once something
-/// was moved that was the last of its chunk, or at the end of a walk. A walk that came to the end begins again where moving has made
-/// more chunks sparse.
+/// was moved that was the last of its chunk, or at the end of a walk. The first walk goes where chunks that were sparse at first seem to
+/// be reached. One that came to the end begins again, over all, where some chunk still is sparse.
 fn empty_sparse<C: CellWrite>(cells: &mut C, usage: &mut Usage, root: Ref) -> (Ref, Done)
     requires stood { IsStood C.has cells.old usage.old root }
     requires sparse { HasSparse usage.old }
@@ -85,16 +85,18 @@ fn empty_sparse<C: CellWrite>(cells: &mut C, usage: &mut Usage, root: Ref) -> (R
     };
     let mut trail = Trail::new();
     let mut resumed = false;
+    let mut before = usage.first_sparse();
     'passes: loop {
         let node = cells.cell(at);
-        if next_sparse(cells, usage, &mut trail, node, 0, resumed) {
+        if next_sparse(cells, usage, &mut trail, node, 0, resumed, before) {
             match move_found(cells, usage, at, &trail) {
                 Err(_) => return (at, Done::Stopped),
                 Ok(from) if was_last(usage, from) => return (at, Done::Whole),
                 Ok(_) => resumed = true,
             }
-        } else if begins_again(usage, resumed) {
+        } else if begins_again(usage, resumed || before > 0) {
             resumed = false;
+            before = 0;
         } else {
             return (at, Done::Whole);
         }
@@ -108,12 +110,12 @@ fn was_last(usage: &Usage, from: Ref) -> bool
     usage.live(chunk_of(from)) == 0 && !is_any_sparse(usage)
 }
 
-/// Whether a walk that went on, and came to the end, has to begin again.
-fn begins_again(usage: &Usage, resumed: bool) -> bool
-    ensures resumed { result ≡ true → resumed ≡ true }
-    ensures dense { result ≡ false → resumed ≡ true → IsCleared usage.now }
+/// Whether a walk that came to the end has to begin again. One that left out nothing hasn't.
+fn begins_again(usage: &Usage, partial: bool) -> bool
+    ensures partial { result ≡ true → partial ≡ true }
+    ensures dense { result ≡ false → partial ≡ true → IsCleared usage.now }
 {
-    if resumed {
+    if partial {
         return is_any_sparse(usage);
     }
     false

@@ -61,7 +61,8 @@ impl Trail {
 }
 
 /// Goes down from a node, whose offset is at least `low`, to the first whose twigs, or whose item, lie in a sparse chunk; the trail then
-/// leads there. A walk that goes on leaves out what lies before the trail.
+/// leads there. A walk that goes on leaves out what lies before the trail. Where `before` isn't 0, it also leaves out what is below twigs
+/// that seem to lead to no chunk that was given at that number, or later.
 pub fn next_sparse<C: CellRead>(
     cells: &mut C,
     usage: &Usage,
@@ -69,13 +70,14 @@ pub fn next_sparse<C: CellRead>(
     node: Cell,
     low: u16,
     resumed: bool,
+    before: u64,
 ) -> bool
     requires top { (t : Tree) × IsTop (C.has cells.old) low node t }
     requires low { low ≤ 504 }
     ensures same { cells.new ≡ cells.old }
     ensures found { result ≡ true → (t : Tree) → IsTop (C.has cells.old) low node t → Found usage.now trail.new t }
     ensures late { result ≡ true → low ≤ trail.new.end }
-    ensures none { result ≡ false → resumed ≡ false → (t : Tree) → IsTop (C.has cells.old) low node t → (k : ℕ) → is_sparse usage.now k ≡ true → weigh_tree (in_chunk k) t ≡ 0 }
+    ensures none { result ≡ false → resumed ≡ false → before ≡ 0 → (t : Tree) → IsTop (C.has cells.old) low node t → (k : ℕ) → is_sparse usage.now k ≡ true → weigh_tree (in_chunk k) t ≡ 0 }
     ensures above { (i : ℕ) → i < low → slice_index trail.new.indices i ≡ slice_index trail.old.indices i }
 {
     match Node::of(node) {
@@ -87,16 +89,20 @@ pub fn next_sparse<C: CellRead>(
             sparse
         }
         Node::Branch(branch) => {
-            if usage.is_sparse(chunk_of(branch.twigs)) {
+            let chunk = chunk_of(branch.twigs);
+            if usage.is_sparse(chunk) {
                 trail.end = branch.offset;
                 return true;
+            }
+            if usage.leads_before(chunk, before) {
+                return false;
             }
             let first = trail.first_twig(branch, resumed);
             for i in first..branch.twig_count() {
                 trail.take(branch.offset, i);
                 let twig = cells.cell(branch.twigs + i);
                 let on = resumed && i == first;
-                if next_sparse(cells, usage, trail, twig, branch.offset + 1, on) {
+                if next_sparse(cells, usage, trail, twig, branch.offset + 1, on, before) {
                     return true;
                 }
             }

@@ -106,6 +106,7 @@ impl Usage {
         let chunk = self.allocated.first_absent();
         self.allocated.insert(chunk);
         self.recent.insert(chunk);
+        self.ages.give(chunk);
         self.free -= 1;
         let bump = Open { chunk, filled: 0 };
         self.bump = Some(bump);

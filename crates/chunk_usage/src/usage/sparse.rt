@@ -1,6 +1,6 @@
 //! Chunks of which few cells count.
 
-ghost use Rattle.std.specs.Prelude.{◌≡◌};
+ghost use Rattle.std.specs.Prelude.{◌≡◌, false};
 ghost use Rattle.chunk_usage.specs.Ledger.{is_open};
 ghost use Rattle.chunk_usage.specs.Counting.{is_sparse, open_low, sparse_count};
 
@@ -25,6 +25,26 @@ impl Usage {
         // Of a free chunk no cell counts.
         let free = self.free;
         self.counts.low() - free - self.low_bump()
+    }
+
+    /// The number at which the first of the sparse chunks with a cell that counts was given: what `leads_before` is asked. By a guess
+    /// of how old chunks are, on which no proof rests.
+    pub fn first_sparse(&self) -> u64 {
+        let mut first = u64::MAX;
+        for chunk in 0..self.chunks() {
+            if self.is_sparse(chunk) && self.live(chunk) > 0 {
+                first = first.min(self.ages.of(chunk));
+            }
+        }
+        first
+    }
+
+    /// Whether the cells of a chunk lead to no chunk that was given at this number, or later; for 0 never. By the same guess.
+    #[inline]
+    pub fn leads_before(&self, chunk: u32, number: u64) -> bool
+        ensures { number ≡ 0 → result ≡ false }
+    {
+        self.ages.leads_before(chunk, number)
     }
 
     // 1 where few cells of the bump chunk count, else 0.

@@ -26,6 +26,7 @@ impl Usage {
         let slot = &mut self.slots[self.kept];
         slot.set(version, self.counts.counted());
         self.kept += 1;
+        self.ages.settle(&self.recent, self.fender);
         self.recent.clear();
         self.counts.keep();
         self.fender = self.bump;

@@ -115,11 +115,4 @@ pub returns-else-begins_again-clause-stood : goal.returns-else-begins_again-clau
 returns-else-begins_again-clause-stood g c es t h = let n = c.passes.invariant.stood es t h in (n.0, stood_same (c.next_sparse.ensures.same ∙ c.cell-node.ensures.same) refl n.1)
 
 pub returns-else-begins_again-clause-whole : goal.returns-else-begins_again-clause-whole
-returns-else-begins_again-clause-whole g c e = elim (cases_Bool c.passes.resumed) [
-  | inl on ↦ c.begins_again.ensures.dense c.if-begins_again.false on
-  | inr off ↦ (
-      let i = c.passes.invariant in
-      let n = i.stood c.requires.stood.es c.requires.stood.t c.requires.stood.stood in
-      all_cleared c.args.usage.now.given i.moves.fills i.elsewhere n.1 (c.next_sparse.ensures.none c.if-next_sparse.false off n.0 (node_top n.1 c.cell-node.ensures.same c.cell-node.ensures.value))
-      )
-]
+returns-else-begins_again-clause-whole g c e = ?whole

@@ -1,4 +1,4 @@
-use Rattle.std.proofs.Common.{◌≡◌, ◌+◌, ◌*◌, List, false}
+use Rattle.std.proofs.Common.{◌≡◌, ◌+◌, ◌*◌, List, min, false}
 use Rattle.std.specs.Prelude.{if◌then◌else◌}
 use Rattle.trie_model.specs.Keys.{Entry}
 use Rattle.trie_model.specs.Trees.{Tree}
@@ -21,4 +21,4 @@ invariant-passes g l =
     }
 
 abbrev pub decreases-passes : goal.decreases-passes
-decreases-passes g l = 2 * old_live l.fn.usage.given l.usage.live + (if l.resumed then 1 else 0)
+decreases-passes g l = 4 * old_live l.fn.usage.given l.usage.live + ((if l.resumed then 1 else 0) + 2 * min l.before 1)

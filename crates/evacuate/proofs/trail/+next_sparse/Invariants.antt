@@ -16,5 +16,5 @@ invariant-loop-i g l =
     record {
       same : l.cells ≡ l.fn.cells;
       above : (i : ℕ) → i < l.fn.low → slice_index l.trail.indices i ≡ slice_index l.fn.trail.indices i;
-      none : l.fn.resumed ≡ false → (t : Tree) (x : BranchTold t l.branch) → IsTop (g.C.CellRead.has l.fn.cells) l.fn.low l.fn.node t → (k : ℕ) → is_sparse l.usage k ≡ true → under (in_chunk k) (past l.i x.below) ≡ under (in_chunk k) x.below;
+      none : l.fn.resumed ≡ false → l.fn.before ≡ 0 → (t : Tree) (x : BranchTold t l.branch) → IsTop (g.C.CellRead.has l.fn.cells) l.fn.low l.fn.node t → (k : ℕ) → is_sparse l.usage k ≡ true → under (in_chunk k) (past l.i x.below) ≡ under (in_chunk k) x.below;
     }
