@@ -55,4 +55,4 @@ replace_asks item branches = cells_in item ∷ 1 ∷ branches
 
 -- to take one out: one for a root, those of a branch, or one fewer
 abbrev pub delete_asks : List ℕ → List ℕ
-delete_asks branches = 1 ∷ (branches ++ map (λ n. n - 1) branches)
+delete_asks branches = 1 ∷ (branches ++ map (λ (n : ℕ). n - 1) branches)
