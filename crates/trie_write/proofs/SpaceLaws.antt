@@ -248,6 +248,6 @@ err_all (Ok x) h = tt
 err_all (Err e) h = h e
 
 -- the error that `?` hands on
-pub err_on : {A E : Type 0} {e : E} {P : E → Type 0} (r : Result A E) → IsErrAnd r (λ y. y ≡ e) → P e → IfErr r P
-err_on (Ok x) is h = tt
-err_on {P = P} (Err y) is h = subst P (sym is) h
+pub err_on : {A E : Type 0} {e : E} (P : E → Type 0) (r : Result A E) → IsErrAnd r (λ y. y ≡ e) → P e → IfErr r P
+err_on P (Ok x) is h = tt
+err_on P (Err y) is h = subst P (sym is) h

@@ -39,9 +39,9 @@ returns-in-Err-clause-spends g c n on =
 
 pub returns-in-Err-clause-asked : goal.returns-in-Err-clause-asked
 returns-in-Err-clause-asked g c f e branches on =
-    let o = on_branches c.in-Some.ensures.same c.in-Some.ensures.root branches on c.in-Some.ensures.there in
     let full = c.in-Err.full in
     let same : full ≡ f = cc in
+    let o = on_branches c.in-Some.ensures.same c.in-Some.ensures.root branches on c.in-Some.ensures.there in
     subst (λ (x : Full). Contains (delete_asks branches) x.needed) same (subst (λ (ns : List ℕ). Contains (delete_asks ns) full.needed) (sym o.3) (c.in-Err.ensures.asked o.0 o.1 o.2))
 
 pub returns-in-Ok-clause-copies : goal.returns-in-Ok-clause-copies

@@ -19,7 +19,7 @@ pub returns-in_err-change-clause-copies : goal.returns-in_err-change-clause-copi
 returns-in_err-change-clause-copies g c t version d = let s = c.without_leaf.ensures.spends in let n = last_n (leaf_turn d) in let k = (last_known (leaf_turn d)).few in omega arith
 
 pub returns-in_err-change-clause-asked : goal.returns-in_err-change-clause-asked
-returns-in_err-change-clause-asked g c = err_on c.from_residual.result c.from_residual.ensures.1 (λ t version d.
+returns-in_err-change-clause-asked g c = err_on _ c.from_residual.result c.from_residual.ensures.1 (λ t version d.
     delete_puts (branches_on_path c.args.key.now t) (map twigs_of d.last.upper) (branches_on_path c.args.key.now (plug d.last.lower (key_leaf d))) _ (parts_branches d)
     (count_ones c.args.turn.branch.bitmap) c.in_err-change.ensures.asked (last_branch d))
 

@@ -16,7 +16,7 @@ pub returns-in-Ok-clause-frame : goal.returns-in-Ok-clause-frame
 returns-in-Ok-clause-frame g c = frame_then c.in_ok-leaf.ensures.frame (frame_wrote c.in-Ok.ensures.handed c.in-Ok.ensures.frame (frame_refl _ _) (wrote_one c.in-Ok.root 0 (omega arith) (omega arith) c.put.ensures.others c.put.ensures.given c.put.ensures.kept))
 
 pub returns-in_err-leaf-clause-asked : goal.returns-in_err-leaf-clause-asked
-returns-in_err-leaf-clause-asked g c = err_on c.from_residual.result c.from_residual.ensures.1 (first_of (cells_in c.args.item.now) _ (1 ∷ []) (sym c.in_err-leaf.ensures.asked))
+returns-in_err-leaf-clause-asked g c = err_on _ c.from_residual.result c.from_residual.ensures.1 (first_of (cells_in c.args.item.now) _ (1 ∷ []) (sym c.in_err-leaf.ensures.asked))
 
 pub returns-in-Err-clause-asked : goal.returns-in-Err-clause-asked
 returns-in-Err-clause-asked g c = later_of (cells_in c.args.item.now) _ (1 ∷ []) (first_of 1 _ [] (sym c.in-Err.ensures.asked))

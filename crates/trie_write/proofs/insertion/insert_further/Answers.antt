@@ -20,7 +20,7 @@ pub returns-in_err-change-clause-copies : goal.returns-in_err-change-clause-copi
 returns-in_err-change-clause-copies g c t version h = let s = c.new_leaf.ensures.copies in omega arith
 
 pub returns-in_err-change-clause-asked : goal.returns-in_err-change-clause-asked
-returns-in_err-change-clause-asked g c = err_on c.from_residual.result c.from_residual.ensures.1
+returns-in_err-change-clause-asked g c = err_on _ c.from_residual.result c.from_residual.ensures.1
     (λ t version h. insert_puts (branches_on_path c.args.key.now t) (map twigs_of h.way) (branches_on_path c.args.key.now h.end) _ (lacks_branches h) c.args.item.now (c.in_err-change.ensures.asked t version h))
 
 pub returns : goal.returns

@@ -55,7 +55,7 @@ returns-in-Err-clause-spends g c t version h =
     let s = c.lay_item.ensures.spends in let r = ap (λ (z : Account). z.spent) c.release.ensures.rest in omega arith
 
 pub returns-in_err-leaf-clause-asked : goal.returns-in_err-leaf-clause-asked
-returns-in_err-leaf-clause-asked g c = err_on c.from_residual.result c.from_residual.ensures.1 (λ t version h. first_of (cells_in c.args.item.now) _ (2 ∷ map suc (branches_on_path c.args.key.now h.end)) (sym c.in_err-leaf.ensures.asked))
+returns-in_err-leaf-clause-asked g c = err_on _ c.from_residual.result c.from_residual.ensures.1 (λ t version h. first_of (cells_in c.args.item.now) _ (2 ∷ map suc (branches_on_path c.args.key.now h.end)) (sym c.in_err-leaf.ensures.asked))
 
 pub returns-in-Err-clause-asked : goal.returns-in-Err-clause-asked
 returns-in-Err-clause-asked g c t version h =

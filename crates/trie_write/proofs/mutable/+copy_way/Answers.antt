@@ -36,9 +36,9 @@ returns-in_err-to-in-Some-clause-spends g t c way end asks =
     let n = along_here asks turn in let m = c.twig_count-n.ensures in let s = c.room_for.ensures.spends in omega arith
 
 pub returns-in_err-to-in-Some-clause-asked : goal.returns-in_err-to-in-Some-clause-asked
-returns-in_err-to-in-Some-clause-asked g t c = err_on c.from_residual.result c.from_residual.ensures.1 (λ way end asks.
+returns-in_err-to-in-Some-clause-asked g t c = err_on _ c.from_residual.result c.from_residual.ensures.1 (λ way end asks.
     let turn = (c.in-Some.ensures.on c.args.low way end asks.hangs.top asks.is_way).through in
-    here_asked asks turn _ (c.in_err-to.ensures.asked ∙ c.twig_count-n.ensures))
+    here_asked asks turn _ (c.in_err-to-in-Some.ensures.asked ∙ c.twig_count-n.ensures))
 
 pub copy_way-requires : goal.copy_way-requires
 copy_way-requires g t c κs within =

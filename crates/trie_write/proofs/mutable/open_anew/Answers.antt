@@ -11,7 +11,7 @@ pub returns-in_err-root-clause-spends : goal.returns-in_err-root-clause-spends
 returns-in_err-root-clause-spends g c spare way end a = let s = c.room_for.ensures.spends in let e = copied_immutable (g.U.Space.account c.args.usage.now).mutable 1 c.args.top.at way c.requires.immutable in omega arith
 
 pub returns-in_err-root-clause-asked : goal.returns-in_err-root-clause-asked
-returns-in_err-root-clause-asked g c = err_on c.from_residual.result c.from_residual.ensures.1 (λ spare way end a. first_of 1 _ (map twigs_of way) (sym c.in_err-root.ensures.asked))
+returns-in_err-root-clause-asked g c = err_on _ c.from_residual.result c.from_residual.ensures.1 (λ spare way end a. first_of 1 _ (map twigs_of way) (sym c.in_err-root.ensures.asked))
 
 pub copy_way-requires-clause-asks : goal.copy_way-requires-clause-asks
 copy_way-requires-clause-asks g c = record { way = c.requires.asks.way; end = c.requires.asks.end; asks = root_asks_later c.requires.asks.asks c.requires.node c.in_ok-root.ensures.handed c.in_ok-root.ensures.frame }

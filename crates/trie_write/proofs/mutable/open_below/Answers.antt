@@ -21,7 +21,7 @@ returns-in_err-copied-clause-spends g c spare way end a =
     let e = p.copied 1 in omega arith
 
 pub returns-in_err-copied-clause-asked : goal.returns-in_err-copied-clause-asked
-returns-in_err-copied-clause-asked g c = err_on c.from_residual.result c.from_residual.ensures.1 (λ spare way end a.
+returns-in_err-copied-clause-asked g c = err_on _ c.from_residual.result c.from_residual.ensures.1 (λ spare way end a.
     let p = c.last_mutable-last.ensures.parted way end (root_asks a c.requires.node) in
     lower_asked p.upper p.lower way _ p.whole (c.in_err-copied.ensures.asked p.lower end (same_asks c.last_mutable-last.ensures.same (lower_asks a p))))
 

@@ -21,7 +21,7 @@ pub returns-in_err-change-clause-copies : goal.returns-in_err-change-clause-copi
 returns-in_err-change-clause-copies g c t version h = let s = c.other_leaf.ensures.spends in omega arith
 
 pub returns-in_err-change-clause-asked : goal.returns-in_err-change-clause-asked
-returns-in_err-change-clause-asked g c = err_on c.from_residual.result c.from_residual.ensures.1 (λ t version h. first_of (cells_in c.args.item.now) _ (1 ∷ branches_on_path c.args.key.now t) (sym c.in_err-change.ensures.asked))
+returns-in_err-change-clause-asked g c = err_on _ c.from_residual.result c.from_residual.ensures.1 (λ t version h. first_of (cells_in c.args.item.now) _ (1 ∷ branches_on_path c.args.key.now t) (sym c.in_err-change.ensures.asked))
 
 pub returns : goal.returns
 returns g c = record {
