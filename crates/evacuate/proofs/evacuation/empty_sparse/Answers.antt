@@ -1,5 +1,6 @@
-use Rattle.std.proofs.Common.{inl, inr, refl, sym, ◌∙◌, ap, subst, arith}
+use Rattle.std.proofs.Common.{◌≡◌, inl, inr, refl, sym, ◌∙◌, ap, subst, arith}
 use Rattle.std.proofs.lemmas.Bool.{cases_Bool}
+use Rattle.std.proofs.lemmas.Bool.Decides.{nat_tests}
 use Rattle.chunk_usage.specs.Rooms.{account_of}
 use Rattle.trie_write.specs.Spaces.{Fenced, IsWritable}
 use Rattle.trie_write.proofs.SpaceLaws.{fenced_then, fenced_same, ready_put, writable_later}
@@ -8,6 +9,7 @@ use Rattle.evacuate.specs.Fillings.{Fills, Moves}
 use Rattle.evacuate.proofs.DescentLaws.{stood_same}
 use Rattle.evacuate.proofs.EndLaws.{stood_closed, fenced_closed, ready_closed, closed_spent, left_closed, root_old, all_cleared, node_top}
 use Rattle.evacuate.proofs.FillingLaws.{fills_begin, moves_then}
+use Rattle.evacuate.proofs.evacuation.empty_sparse.Goals.{then-resumed, else-resumed}
 use Rattle.evacuate.proofs.evacuation.empty_sparse.Goals as goal
 
 pub move_root-requires-clause-stood : goal.move_root-requires-clause-stood
@@ -115,4 +117,16 @@ pub returns-else-begins_again-clause-stood : goal.returns-else-begins_again-clau
 returns-else-begins_again-clause-stood g c es t h = let n = c.passes.invariant.stood es t h in (n.0, stood_same (c.next_sparse.ensures.same ∙ c.cell-node.ensures.same) refl n.1)
 
 pub returns-else-begins_again-clause-whole : goal.returns-else-begins_again-clause-whole
-returns-else-begins_again-clause-whole g c e = ?whole
+returns-else-begins_again-clause-whole g c e = elim c.if-resumed.branch [
+  | then-resumed w ↦ c.begins_again.ensures.dense c.if-begins_again.false (w.begins_again-is ∙ w.if-resumed.true)
+  | else-resumed w ↦ (elim (cases_Bool c.if-resumed.begins_again) [
+      | inl partial ↦ c.begins_again.ensures.dense c.if-begins_again.false partial
+      | inr whole ↦ (
+          let i = c.passes.invariant in
+          let n = i.stood c.requires.stood.es c.requires.stood.t c.requires.stood.stood in
+          let test = sym w.begins_again-is ∙ whole in
+          let all : c.passes.before ≡ 0 = grind (arith, nat_tests, test) in
+          all_cleared c.args.usage.now.given i.moves.fills i.elsewhere n.1 (c.next_sparse.ensures.none c.if-next_sparse.false w.if-resumed.false all n.0 (node_top n.1 c.cell-node.ensures.same c.cell-node.ensures.value))
+          )
+    ])
+]
