@@ -65,9 +65,9 @@ few_written (change.Replace key item) leads = let l = leads.short in omega arith
 few_written (change.Delete key) leads = omega arith
 
 -- how many twigs each branch on the path has
-each_of : {has : ℕ → Cell → Type 0} {used : ℕ → Bool} {live : ℕ → ℕ} (root : Option ℕ) (key : List ℕ) (es : List Entry) → Standing has used live root es → EachTells Leads es → (branches : List ℕ) × OnBranches has used live root key branches
-each_of None key es s tells = ([], refl)
-each_of (Some r) key es s tells = (branches_on_path key s.0, (s.0, es, s.1, tells, refl))
+each_of : (has : ℕ → Cell → Type 0) (used : ℕ → Bool) (live : ℕ → ℕ) (root : Option ℕ) (key : List ℕ) (es : List Entry) → Standing has used live root es → EachTells Leads es → (branches : List ℕ) × OnBranches has used live root key branches
+each_of has used live None key es s tells = ([], refl)
+each_of has used live (Some r) key es s tells = (branches_on_path key s.0, (s.0, es, s.1, tells, refl))
 
 pub cause_of : (u : Ledger) (room d : Draft) (c : Change) (full : NoRoom) (f : Full) → room.usage ≡ after_room u f → f.needed ≡ full.needed → versions_in f.kept ≡ kept_versions room.usage → Works room → All (λ k. IsVersion k.image k.root (version_at room.seat.place.me.0 k.version)) (kept_in room.seat.place.me.0.turn)
     → LeadsItem c → Tried c room.root room.seat.place.me.0 room.usage d.seat.place.me.0 d.usage (Err (unchanged.Full full)) → d.root ≡ room.root → GoesOn room.seat.place.me.0 d.seat.place.me.0 → working_set d ≡ working_set room → Lacks d.usage full
@@ -81,7 +81,7 @@ cause_of u room d c full f after request same works images leads t root on set l
     let n = length m.given in
     let needed : (k : ℕ) → is_given m k ≡ true → NeededBy m k = subst (λ (l : Ledger). (k : ℕ) → is_given l k ≡ true → NeededBy l k) (sym after) (each_needed (narrowed u (versions_in f.kept))) in
     let p = path_of {has = HasCell (cells_with m v.turn)} {used = is_used m} {live = live_of m} room.root key (working_set room) works.stands works.tells in
-    let each = each_of {has = HasCell (cells_with m v.turn)} {used = is_used m} {live = live_of m} room.root key (working_set room) works.stands works.tells in
+    let each = each_of (HasCell (cells_with m v.turn)) (is_used m) (live_of m) room.root key (working_set room) works.stands works.tells in
     let spends = t.spends p.n p.on_path in
     let rows : row (some_row m.rows) 0 n ≤ cells_kept w (versions_in f.kept) = (
     let a = rows_met n kept in
