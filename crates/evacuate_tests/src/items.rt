@@ -43,7 +43,7 @@ fn push_hundred(alloc: Global, items: &mut Vec<Item>, first: u32) -> Result<(), 
 }
 
 /// The items of 300 names, from n0 to n299, in the order of their keys.
-pub fn three_hundred_items(alloc: Global) -> Result<Vec<Item>, Fail> {
+pub(crate) fn three_hundred_items(alloc: Global) -> Result<Vec<Item>, Fail> {
     let mut items = Vec::new(alloc);
     push_item(alloc, &mut items, 0)?;
     for first in 1..10 {
@@ -68,7 +68,7 @@ fn comes_before(key: &Key, other: &Key) -> bool
 }
 
 /// Whether items rise by their keys.
-pub fn rise(items: &[Item]) -> bool
+pub(crate) fn rise(items: &[Item]) -> bool
     ensures { IsTrue result → Rises (entries_of_items items.now) }
 {
     if items.len() < 2 {

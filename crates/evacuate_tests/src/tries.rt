@@ -17,7 +17,7 @@ use trie_read::{count, nodes};
 use trie_write::{Item, build, delete};
 
 /// So many chunks, none of which is given.
-pub fn unused_room(alloc: Global, chunks: u32) -> Result<(PlainCells, Usage), AllocError>
+pub(crate) fn unused_room(alloc: Global, chunks: u32) -> Result<(PlainCells, Usage), AllocError>
     requires some_chunks { 1 ≤ chunks }
     requires few_chunks { chunks ≤ 4096 }
     ensures uncounted { IfOk result (λ r. (k : ℕ) → (⟦<Usage as Space>⟧.account r.1).live k ≡ 0) }
@@ -51,7 +51,7 @@ fn without<C: CellWrite, U: Space>(
 }
 
 /// The root of the trie of the items, once all but one of so many are taken out.
-pub fn built_without<C: CellWrite, U: Space>(
+fn built_without<C: CellWrite, U: Space>(
     cells: &mut C,
     usage: &mut U,
     items: &[Item],
@@ -76,17 +76,17 @@ pub fn built_without<C: CellWrite, U: Space>(
 
 /// What an evacuation did.
 #[derive(Clone, Copy, PartialEq, Eq, Debug)]
-pub struct Outcome {
+pub(crate) struct Outcome {
     /// How many chunks were sparse before.
-    pub sparse: u32,
-    pub done: Done,
+    pub(crate) sparse: u32,
+    pub(crate) done: Done,
     /// How many names and nodes there are afterwards.
-    pub names: u64,
-    pub nodes: u64,
+    pub(crate) names: u64,
+    pub(crate) nodes: u64,
 }
 
 /// Builds the trie of the items, takes all but one of so many out, and moves what lies in sparse chunks.
-pub fn evacuated<C: CellWrite>(
+pub(crate) fn evacuated<C: CellWrite>(
     cells: &mut C,
     usage: &mut Usage,
     items: &[Item],
@@ -109,7 +109,7 @@ pub fn evacuated<C: CellWrite>(
 }
 
 /// How many chunks have cells that count.
-pub fn counted_chunks(usage: &Usage) -> u32 {
+pub(crate) fn counted_chunks(usage: &Usage) -> u32 {
     let mut counted: u32 = 0;
     for chunk in 0..usage.chunks() {
         if usage.live(chunk) > 0 {
@@ -120,7 +120,7 @@ pub fn counted_chunks(usage: &Usage) -> u32 {
 }
 
 /// How many cells count.
-pub fn live_cells(usage: &Usage) -> u64 {
+pub(crate) fn live_cells(usage: &Usage) -> u64 {
     let mut cells: u64 = 0;
     for chunk in 0..usage.chunks() {
         cells = cells.saturating_add(u64::from(usage.live(chunk)));

@@ -5,26 +5,20 @@ ghost use Rattle.shared_cells.specs.Views.{pinned_image};
 ghost use Rattle.shared_index.specs.Passes.{version_seen};
 ghost use Rattle.shared_index.specs.Meanings.{Holds};
 
-use crate::steps::Any;
-use crate::worker::{Outcome, Worker, numbered, tag, walk};
+use crate::course::{NAMES, due, name_at, visit_of};
+use crate::items::numbered;
+use crate::worker::{Any, Worker, pair, tag, walk};
 use shared_index::{Index, Named, Pass, Snapshot};
 use shift_key::Key;
-use std::alloc::{AllocError, Global};
+use std::alloc::Global;
 use std::sync::Wait;
 use std::sync::atomic::{AtomicU32, Ordering};
-use std::test::Fail;
 use std::thread::{Threads, join, map_vec};
 use trie_read::Reading;
 use trie_write::Item;
 
-/// How many transactions the writer of a crowd makes.
-const LAST: u64 = 10_000;
-
 /// How often each reader of a crowd asks at most.
-const ASKED: u32 = 200;
-
-/// How many names come and go.
-const NAMES: u64 = 64;
+const ASKED: u32 = 20_000;
 
 /// Holds a query until the other thread holds one too. Whether that came about.
 fn meet<N: Named>(worker: Worker<N>, here: &AtomicU32) -> bool {
@@ -43,36 +37,27 @@ fn meet<N: Named>(worker: Worker<N>, here: &AtomicU32) -> bool {
 }
 
 /// Two passes ask at the same time.
-pub fn at_once<N: Named + Send + Sync, R: Threads + Wait + Sync>(
+pub(crate) fn at_once<N: Named + Send + Sync, R: Threads + Wait + Sync>(
     rt: &R,
     workers: Vec<Worker<N>>,
-) -> Result<bool, Fail> {
-    let mut workers = workers;
-    let (Some(p), Some(q)) = (workers.pop(), workers.pop()) else {
-        return Err(Fail::from("no passes"));
-    };
+) -> Option<bool> {
+    let (p, q) = pair(workers)?;
     let here = AtomicU32::new(0);
     let (first, second) = join(rt, || meet(p, &here), || meet(q, &here));
-    Ok(first && second)
+    Some(first && second)
 }
 
 /// Commits a hundred times, and tells when that is done. The last version.
-fn commit_on<N: Named, R: Wait>(
-    rt: &R,
-    alloc: Global,
-    writer: Worker<N>,
-    done: &AtomicU32,
-) -> Result<u64, Fail> {
+fn commit_on<N: Named, R: Wait>(rt: &R, alloc: Global, writer: Worker<N>, done: &AtomicU32) -> u64 {
     let mut writer = writer;
     let mut last = 0;
     for number in 0..100 {
-        let item = numbered(alloc, [b'a', b'a'], number + 2, 600)?;
-        if let Outcome::Committed(receipt) = writer.replace(rt, &item) {
+        if let Some(receipt) = writer.renumber(rt, alloc, number + 2, 600) {
             last = receipt.version;
         }
     }
     done.store(1, Ordering::SeqCst);
-    Ok(last)
+    last
 }
 
 /// Whether a reading is of version 0, and has the first item at the key.
@@ -104,16 +89,14 @@ fn read_held<N: Named>(snapshot: Snapshot<'_, Any, N>, first: &Item, done: &Atom
 }
 
 /// A snapshot goes to another thread, and is read there while others commit.
-pub fn moved<N: Named + Send + Sync, R: Threads + Wait + Sync>(
+pub(crate) fn moved<N: Named + Send + Sync, R: Threads + Wait + Sync>(
     rt: &R,
     alloc: Global,
     workers: Vec<Worker<N>>,
     first: &Item,
-) -> Result<bool, Fail> {
-    let mut workers = workers;
-    let (Some(writer), Some(Worker { index, pass })) = (workers.pop(), workers.pop()) else {
-        return Err(Fail::from("no passes"));
-    };
+) -> Option<bool> {
+    let (writer, reader) = pair(workers)?;
+    let Worker { index, pass } = reader;
     let snapshot = pass.hold(index);
     let done = AtomicU32::new(0);
     let (last, right) = join(
@@ -123,28 +106,10 @@ pub fn moved<N: Named + Send + Sync, R: Threads + Wait + Sync>(
             requires { Holds (pinned_image snapshot.seat.place.me.0.progress) snapshot.seat.root (version_seen snapshot.seat.place.me.0.seen) }
         { read_held(snapshot, first, &done) },
     );
-    Ok(last? == 100 && right)
+    Some(last == 100 && right)
 }
 
-/// The letters of one of the names that come and go.
-fn letters(place: u64) -> [u8; 2] {
-    [b'b' + (place / 8 % 8) as u8, b'a' + (place % 8) as u8]
-}
-
-/// The number of the last transaction up to this version that put in the name of this place; none where it is out. Names come in
-/// turn, and go in turn.
-fn due(version: u64, place: u64) -> Option<u64> {
-    let last = version.checked_sub(1)?;
-    let back = (last % NAMES + NAMES - place % NAMES) % NAMES;
-    let at = last.checked_sub(back)?;
-    if at / NAMES % 2 == 0 {
-        at.checked_add(1)
-    } else {
-        None
-    }
-}
-
-/// Whether a version has as many names as it should have by its number, and what it should have at each eighth of them.
+/// Whether a version has as many names as its number says, and what it should have at each 25th of their places.
 fn fits<V: Reading>(reading: &mut V, names: &[Item], version: u64) -> bool
     requires { IsHeld (V.holds reading.old) }
     ensures { reading.new ≡ reading.old }
@@ -156,11 +121,13 @@ fn fits<V: Reading>(reading: &mut V, names: &[Item], version: u64) -> bool
         if due.is_some() {
             count = count.saturating_add(1);
         }
-        if place as u64 % 8 == version % 8 {
+        if place as u64 % 25 == version % 25 {
             right = right && tag(reading, &names[place].key()) == due;
         }
     }
-    right && walk(reading) == count
+    let walked = walk(reading);
+    let counted = reading.count();
+    right && walked == count && counted == count
 }
 
 /// The version that a query shows, and whether it has the names that it should have.
@@ -175,8 +142,8 @@ fn look<N: Named>(index: &Index<Any, N>, pass: &mut Pass<N>, names: &[Item]) -> 
     (version, fits(&mut query, names, version))
 }
 
-/// Asks often, until the last version is there. Whether all was right, and no version older than the one before.
-fn read_on<N: Named>(worker: Worker<N>, names: &[Item]) -> bool {
+/// Asks until the last version is there. Whether all was right, and no version older than the one before.
+fn read_on<N: Named>(worker: Worker<N>, names: &[Item], last: u64) -> bool {
     let Worker { index, mut pass } = worker;
     let mut seen = 0;
     for _ in 0..ASKED {
@@ -184,7 +151,7 @@ fn read_on<N: Named>(worker: Worker<N>, names: &[Item]) -> bool {
         if !right || version < seen {
             return false;
         }
-        if version == LAST {
+        if version == last {
             break;
         }
         seen = version;
@@ -192,58 +159,85 @@ fn read_on<N: Named>(worker: Worker<N>, names: &[Item]) -> bool {
     true
 }
 
-/// Lets names come and go, one by a transaction.
-fn write_on<N: Named, R: Wait>(rt: &R, alloc: Global, writer: Worker<N>) -> Result<bool, Fail> {
+/// Makes one transaction of the course. Whether a version was made, and all that was to be moved for it found room.
+fn take_turn<N: Named, R: Wait>(
+    rt: &R,
+    alloc: Global,
+    writer: &mut Worker<N>,
+    number: u64,
+) -> bool {
+    let visit = visit_of(number);
+    let octets = visit.octets as usize;
+    match numbered(alloc, name_at(visit.place), number.wrapping_add(1), octets) {
+        Some(item) => writer
+            .write(rt, &item, visit.act)
+            .is_some_and(|receipt| receipt.whole),
+        None => false,
+    }
+}
+
+/// Makes all transactions of the course, and looks at the last version.
+fn write_on<N: Named, R: Wait>(
+    rt: &R,
+    alloc: Global,
+    writer: Worker<N>,
+    names: &[Item],
+    last: u64,
+) -> bool {
     let mut writer = writer;
-    for number in 0..LAST {
-        let item = numbered(alloc, letters(number % NAMES), number + 1, 600)?;
-        if !writer.turn_over(rt, &item, number / NAMES % 2 == 1) {
-            return Ok(false);
+    for number in 0..last {
+        if !take_turn(rt, alloc, &mut writer, number) {
+            return false;
         }
     }
-    Ok(true)
+    let Worker { index, mut pass } = writer;
+    look(index, &mut pass, names) == (last, true)
 }
 
-/// The names that come and go.
-fn names(alloc: Global) -> Result<Vec<Item>, Fail> {
+/// The names of the course. None for want of memory.
+fn names(alloc: Global) -> Option<Vec<Item>> {
     let mut names = Vec::new(alloc);
     for place in 0..NAMES {
-        names.push(numbered(alloc, letters(place), 0, 12)?)?;
+        names.push(numbered(alloc, name_at(place), 0, 12)?).ok()?;
     }
-    Ok(names)
+    Some(names)
 }
 
-/// All ask beside each other.
+/// All ask beside each other. Whether all was right.
 fn read_all<N: Named + Send + Sync, R: Threads + Sync>(
     rt: &R,
     workers: Vec<Worker<N>>,
     names: &[Item],
-) -> Result<Vec<bool>, AllocError> {
+    last: u64,
+) -> bool {
     // What is inferred of a closure isn't proved where its argument has a lifetime, so it has a clause.
-    map_vec(
+    let read = map_vec(
         rt,
         workers,
         &|worker: Worker<N>| -> bool
             ensures { Unit {0} }
-        { read_on(worker, names) },
-    )
+        { read_on(worker, names, last) },
+    );
+    match read {
+        Ok(read) => read.iter().all(|right| *right),
+        Err(_) => false,
+    }
 }
 
-/// One writes, and all others ask: which names are there, and each of them.
-pub fn crowd<N: Named + Send + Sync, R: Threads + Wait + Sync>(
+/// One makes so many transactions of the course, and all others ask: which names are there, and each of them.
+pub(crate) fn crowd<N: Named + Send + Sync, R: Threads + Wait + Sync>(
     rt: &R,
     alloc: Global,
     workers: Vec<Worker<N>>,
-) -> Result<bool, Fail> {
-    let mut workers = workers;
-    let Some(writer) = workers.pop() else {
-        return Err(Fail::from("no passes"));
-    };
+    last: u64,
+) -> Option<bool> {
     let names = names(alloc)?;
+    let mut workers = workers;
+    let writer = workers.pop()?;
     let (written, read) = join(
         rt,
-        || write_on(rt, alloc, writer),
-        || read_all(rt, workers, names.as_slice()),
+        || write_on(rt, alloc, writer, names.as_slice(), last),
+        || read_all(rt, workers, names.as_slice(), last),
     );
-    Ok(written? && read?.iter().all(|right| *right))
+    Some(written && read)
 }

@@ -1,18 +1,19 @@
 //! Tests of the shared index, run: one pass after another, and readers beside a writer. They stand in a crate of their own, since
-//! a crate with tests is proved twice.
+//! a crate with tests is proved twice. A proof of a test costs what can be let go at each early return; so an item is made before
+//! the workers, or within a function of its own.
 #![tactic(auto)]
 
 #[cfg(test)]
-mod beside;
+mod course;
 #[cfg(test)]
 mod crowd;
+#[cfg(test)]
+mod items;
 #[cfg(test)]
 mod rewriting;
 #[cfg(test)]
 mod rows;
 #[cfg(test)]
 mod scenes;
-#[cfg(test)]
-mod steps;
 #[cfg(test)]
 mod worker;

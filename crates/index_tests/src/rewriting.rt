@@ -1,75 +1,63 @@
 //! A table that is written for long needs few chunks, since what lies in sparse ones is moved.
-ghost use Rattle.std.specs.Prelude.{◌≡◌, IsSome};
 
-use crate::steps::{Any, look};
-use crate::worker::{Worker, numbered};
-use shared_index::{Index, Locked, Named, Pass};
+use crate::items::numbered;
+use crate::worker::{Act, Worker, alone};
+use shared_index::Named;
 use std::alloc::Global;
 use std::sync::Wait;
-use std::test::Fail;
-use trie_write::Item;
 
-/// Puts a name in, or takes it out, by a heavy transaction. Whether a version was made of which nothing lies in sparse chunks.
-fn turn_over<N: Named, R: Wait>(
-    rt: &R,
-    index: &Index<Any, N>,
-    pass: &mut Pass<N>,
-    item: &Item,
-    out: bool,
-) -> bool
-    requires here { IsSome pass.old.seat }
-    requires place { pass.old.place ≡ index.now.place }
-    ensures here { IsSome pass.new.seat }
-    ensures place { pass.new.place ≡ index.now.place }
-{
-    let mut locked = Locked::of(index);
-    let mut update = index.update(rt, &mut locked, pass);
-    let done = if out {
-        update.delete(&item.key()).is_ok()
-    } else {
-        update.insert(&item.key(), item.octets()).is_ok()
-    };
-    done && matches!(update.commit(), Ok(receipt) if receipt.whole)
-}
-
-/// The letters of one of 200 names.
-fn letters(number: u64) -> [u8; 2] {
+/// The octets of one of 200 names.
+fn name_of(number: u64) -> [u8; 2] {
     let low = (number % 20) as u8;
     let high = (number / 20 % 10) as u8;
     [b'b' + high, b'a' + low]
 }
 
+/// Puts a name in, or takes it out, by a heavy transaction. Whether a version was made of which nothing lies in sparse chunks.
+fn turn_over<N: Named, R: Wait>(
+    rt: &R,
+    alloc: Global,
+    worker: &mut Worker<N>,
+    turn: u64,
+    act: Act,
+) -> bool {
+    match numbered(alloc, name_of(turn), turn, 100) {
+        Some(item) => worker
+            .update(rt, &item, act)
+            .is_some_and(|receipt| receipt.whole),
+        None => false,
+    }
+}
+
 /// So many heavy transactions, each of which puts a name in or takes one out: at most 200 are there beside the first.
-pub fn rewritten<N: Named, R: Wait>(
+pub(crate) fn rewritten<N: Named, R: Wait>(
     rt: &R,
     alloc: Global,
     workers: Vec<Worker<N>>,
-) -> Result<bool, Fail> {
-    let mut workers = workers;
-    let Some(Worker { index, mut pass }) = workers.pop() else {
-        return Err(Fail::from("no pass"));
-    };
+) -> Option<bool> {
+    let mut worker = alone(workers)?;
     for turn in 0..5000u64 {
-        let item = numbered(alloc, letters(turn), turn, 100)?;
-        if !turn_over(rt, index, &mut pass, &item, turn / 200 % 2 == 1) {
-            return Ok(false);
+        let act = if turn / 200 % 2 == 1 {
+            Act::Out
+        } else {
+            Act::In
+        };
+        if !turn_over(rt, alloc, &mut worker, turn, act) {
+            return Some(false);
         }
     }
-    Ok(look(index, &mut pass) == (5000, 201))
+    Some(worker.count() == (5000, 201))
 }
 
 /// Compactions make versions of the same names.
-pub fn compacted<N: Named, R: Wait>(rt: &R, workers: Vec<Worker<N>>) -> Result<bool, Fail> {
-    let mut workers = workers;
-    let Some(Worker { index, mut pass }) = workers.pop() else {
-        return Err(Fail::from("no pass"));
-    };
+pub(crate) fn compacted<N: Named, R: Wait>(rt: &R, workers: Vec<Worker<N>>) -> Option<bool> {
+    let mut worker = alone(workers)?;
     for turn in 1..10u64 {
-        let done =
-            matches!(index.compact(rt, &mut pass), Ok(receipt) if receipt.version == turn && receipt.whole);
-        if !done || look(index, &mut pass) != (turn, 1) {
-            return Ok(false);
+        let receipt = worker.compact(rt);
+        let done = receipt.is_some_and(|receipt| receipt.version == turn && receipt.whole);
+        if !done || worker.count() != (turn, 1) {
+            return Some(false);
         }
     }
-    Ok(true)
+    Some(true)
 }

@@ -1,93 +1,208 @@
 //! What passes of one index do in turn: snapshots, notes, full tables, rollbacks.
-ghost use Rattle.std.specs.Prelude.{◌≡◌, IsSome};
+ghost use Rattle.std.specs.Prelude.{◌≡◌, IsSome, IsSomeAnd};
+ghost use Rattle.shared_index.specs.Drafts.{Works};
 
-use crate::steps::Any;
-use crate::worker::{Outcome, Worker, look_inside, numbered, replace, tag};
-use shared_index::{ChangeRefusal, Index, Locked, Named, Pass};
+use crate::items::numbered;
+use crate::worker::{Act, Any, Worker, alone, pair, tag};
+use shared_index::{ChangeRefusal, Full, Index, Locked, Named, Pass, Snapshot, Transaction};
+use shift_key::Key;
 use std::alloc::Global;
 use std::sync::Wait;
-use std::test::Fail;
 use trie_read::Reading;
 use trie_write::Item;
 
+/// What came of an exchange.
+#[derive(Clone, Copy)]
+enum Outcome {
+    Done,
+    Full(Full),
+    /// Refused for another reason.
+    Other,
+}
+
 /// A snapshot stays at its version; the next one has what was committed.
-pub fn held<N: Named, R: Wait>(
+pub(crate) fn held<N: Named, R: Wait>(
     rt: &R,
-    alloc: Global,
     workers: Vec<Worker<N>>,
-    first: &Item,
-) -> Result<bool, Fail> {
-    let mut workers = workers;
-    let (Some(mut writer), Some(Worker { index, pass })) = (workers.pop(), workers.pop()) else {
-        return Err(Fail::from("no passes"));
-    };
-    let key = first.key();
-    let second = numbered(alloc, [b'a', b'a'], 2, 600)?;
+    second: &Item,
+) -> Option<bool> {
+    let (mut writer, reader) = pair(workers)?;
+    let Worker { index, pass } = reader;
+    let key = second.key();
     let mut snapshot = pass.hold(index);
-    let committed =
-        matches!(writer.replace(rt, &second), Outcome::Committed(receipt) if receipt.version == 1);
+    let receipt = writer.write(rt, second, Act::Exchange);
     let old = (snapshot.version(), tag(&mut snapshot, &key));
     let told = writer.learn(snapshot.note(index));
     let seen = writer.look(&key);
     let mut snapshot = snapshot.release().hold(index);
     let new = (snapshot.version(), tag(&mut snapshot, &key));
-    Ok(committed && told && old == (0, Some(1)) && seen == (1, Some(2)) && new == (1, Some(2)))
+    let right = old == (0, Some(1)) && seen == (1, Some(2)) && new == (1, Some(2));
+    Some(told && right && receipt.is_some_and(|receipt| receipt.version == 1))
+}
+
+/// A snapshot stays while one name is put in and another is taken out.
+pub(crate) fn in_turn<N: Named, R: Wait>(
+    rt: &R,
+    alloc: Global,
+    workers: Vec<Worker<N>>,
+    first: &Item,
+) -> Option<bool> {
+    let other = numbered(alloc, [b'a', b'b'], 1, 600)?;
+    let (mut writer, reader) = pair(workers)?;
+    let Worker { index, pass } = reader;
+    let mut snapshot = pass.hold(index);
+    let put_in = writer.write(rt, &other, Act::In).is_some() && writer.count() == (1, 2);
+    let taken_out = writer.update(rt, first, Act::Out).is_some() && writer.count() == (2, 1);
+    let kept = (snapshot.version(), snapshot.count());
+    let mut reader = Worker {
+        index,
+        pass: snapshot.release(),
+    };
+    Some(put_in && taken_out && kept == (0, 1) && reader.count() == (2, 1))
 }
 
 /// A pass that has learnt what another committed sees it.
-pub fn told<N: Named, R: Wait>(
+pub(crate) fn told<N: Named, R: Wait>(
     rt: &R,
-    alloc: Global,
     workers: Vec<Worker<N>>,
-    first: &Item,
-) -> Result<bool, Fail> {
-    let mut workers = workers;
-    let (Some(mut p), Some(mut q)) = (workers.pop(), workers.pop()) else {
-        return Err(Fail::from("no passes"));
-    };
-    let second = numbered(alloc, [b'a', b'a'], 2, 600)?;
-    let committed =
-        matches!(p.replace(rt, &second), Outcome::Committed(receipt) if receipt.version == 1);
+    second: &Item,
+) -> Option<bool> {
+    let (mut p, mut q) = pair(workers)?;
+    let committed = p.write(rt, second, Act::Exchange).is_some();
     let learnt = q.learn_of(&mut p);
-    Ok(committed && learnt && q.look(&first.key()) == (1, Some(2)))
+    Some(committed && learnt && q.look(&second.key()) == (1, Some(2)))
+}
+
+/// The base's number, and the last octet of the number at a key of the working set.
+fn peek<N: Named, K>(transaction: &mut Transaction<'_, '_, Any, N, K>, key: &Key) -> (u64, u8)
+    requires { IsSomeAnd transaction.old.locked.now.draft Works }
+{
+    let mut out = [0; 4096];
+    let mut reading = transaction.working();
+    let number = reading.version();
+    reading.fetch(key, &mut out);
+    (number, out[11])
+}
+
+/// Exchanges an item by a light transaction, and looks at it there. No version is made.
+fn look_inside<N: Named, R: Wait>(rt: &R, worker: Worker<N>, item: &Item) -> (u64, u8) {
+    let Worker { index, mut pass } = worker;
+    let mut locked = Locked::of(index);
+    let mut write = index.write(rt, &mut locked, &mut pass);
+    let _done = write.replace(&item.key(), item.octets());
+    peek(&mut write, &item.key())
+}
+
+/// Exchanges an item by a heavy transaction, and rolls it back. Whether it was exchanged meanwhile.
+fn roll_back<N: Named, R: Wait>(
+    rt: &R,
+    index: &Index<Any, N>,
+    pass: &mut Pass<N>,
+    item: &Item,
+) -> bool
+    requires here { IsSome pass.old.seat }
+    requires place { pass.old.place ≡ index.now.place }
+    ensures here { IsSome pass.new.seat }
+    ensures place { pass.new.place ≡ index.now.place }
+{
+    let mut locked = Locked::of(index);
+    let mut update = index.update(rt, &mut locked, pass);
+    let done = update.replace(&item.key(), item.octets()).is_ok();
+    update.rollback();
+    done
 }
 
 /// A working set is read under the base's number, and is gone after a rollback.
-pub fn rolled_back<N: Named, R: Wait>(
+pub(crate) fn rolled_back<N: Named, R: Wait>(
     rt: &R,
-    alloc: Global,
     workers: Vec<Worker<N>>,
-    first: &Item,
-) -> Result<bool, Fail> {
-    let mut workers = workers;
-    let (Some(mut p), Some(q)) = (workers.pop(), workers.pop()) else {
-        return Err(Fail::from("no passes"));
-    };
-    let second = numbered(alloc, [b'a', b'a'], 2, 700)?;
-    let inside = look_inside(rt, q, &second);
-    let done = p.replace_and_roll_back(rt, &second);
-    Ok(done && inside == (0, Some(700)) && p.look(&first.key()) == (0, Some(1)))
+    second: &Item,
+) -> Option<bool> {
+    let (mut p, q) = pair(workers)?;
+    let inside = look_inside(rt, q, second);
+    let done = roll_back(rt, p.index, &mut p.pass, second);
+    Some(done && inside == (0, 2) && p.look(&second.key()) == (0, Some(1)))
+}
+
+/// Exchanges an item by a heavy transaction, and drops it. Whether it was exchanged meanwhile.
+fn drop_change<N: Named, R: Wait>(
+    rt: &R,
+    index: &Index<Any, N>,
+    pass: &mut Pass<N>,
+    item: &Item,
+) -> bool
+    requires here { IsSome pass.old.seat }
+    requires place { pass.old.place ≡ index.now.place }
+    ensures here { IsSome pass.new.seat }
+    ensures place { pass.new.place ≡ index.now.place }
+{
+    let mut locked = Locked::of(index);
+    let mut update = index.update(rt, &mut locked, pass);
+    update.replace(&item.key(), item.octets()).is_ok()
+}
+
+impl<N: Named> Worker<'_, N> {
+    /// The same.
+    fn drop_change<R: Wait>(&mut self, rt: &R, item: &Item) -> bool {
+        drop_change(rt, self.index, &mut self.pass, item)
+    }
 }
 
 /// Transactions that are dropped give back all that they took.
-pub fn dropped<N: Named, R: Wait>(
+pub(crate) fn dropped<N: Named, R: Wait>(
     rt: &R,
-    alloc: Global,
     workers: Vec<Worker<N>>,
-) -> Result<bool, Fail> {
-    let mut workers = workers;
-    let Some(mut worker) = workers.pop() else {
-        return Err(Fail::from("no pass"));
-    };
-    let second = numbered(alloc, [b'a', b'a'], 2, 4096)?;
+    second: &Item,
+) -> Option<bool> {
+    let mut worker = alone(workers)?;
     for _ in 0..1000 {
-        if !worker.replace_and_drop(rt, &second) {
-            return Ok(false);
+        if !worker.drop_change(rt, second) {
+            return Some(false);
         }
     }
-    Ok(
-        matches!(worker.replace(rt, &second), Outcome::Committed(receipt) if receipt.version == 1 && receipt.kept == 1),
-    )
+    let receipt = worker.write(rt, second, Act::Exchange);
+    Some(receipt.is_some_and(|receipt| receipt.version == 1 && receipt.kept == 1))
+}
+
+/// Exchanges an item within a transaction. Whether it was exchanged, or why not.
+fn replace_within<N: Named, K>(
+    transaction: &mut Transaction<'_, '_, Any, N, K>,
+    item: &Item,
+) -> Outcome
+    requires { IsSomeAnd transaction.old.locked.now.draft Works }
+    ensures same_reference { (transaction.new.home.ghost_name ≡ transaction.old.home.ghost_name) × (transaction.new.locked.ghost_name ≡ transaction.old.locked.ghost_name) }
+    ensures place { transaction.new.locked.now.place ≡ transaction.old.locked.now.place }
+    ensures works { IsSomeAnd transaction.new.locked.now.draft Works }
+{
+    match transaction.replace(&item.key(), item.octets()) {
+        Ok(()) => Outcome::Done,
+        Err(ChangeRefusal::Full(full)) => Outcome::Full(full),
+        Err(ChangeRefusal::NotFound) => Outcome::Other,
+    }
+}
+
+/// Exchanges an item by a light transaction, and commits.
+fn replace<N: Named, R: Wait>(
+    rt: &R,
+    index: &Index<Any, N>,
+    pass: &mut Pass<N>,
+    item: &Item,
+) -> Outcome
+    requires here { IsSome pass.old.seat }
+    requires place { pass.old.place ≡ index.now.place }
+    ensures here { IsSome pass.new.seat }
+    ensures place { pass.new.place ≡ index.now.place }
+{
+    let mut locked = Locked::of(index);
+    let mut write = index.write(rt, &mut locked, pass);
+    let outcome = replace_within(&mut write, item);
+    if !matches!(outcome, Outcome::Done) {
+        return outcome;
+    }
+    match write.commit() {
+        Ok(_) => Outcome::Done,
+        Err(_) => Outcome::Other,
+    }
 }
 
 /// An operation that finds no room leaves the working set as it was, and its transaction commits.
@@ -106,47 +221,88 @@ fn refused<N: Named, R: Wait>(
     let mut locked = Locked::of(index);
     let mut write = index.write(rt, &mut locked, pass);
     let mut out = [0; 4096];
-    let full = matches!(
-        write.replace(&item.key(), item.octets()),
-        Err(ChangeRefusal::Full(_))
-    );
+    let full = matches!(replace_within(&mut write, item), Outcome::Full(_));
     let same = write.fetch(&item.key(), &mut out) == Some(4096)
         && &out[4..12] == number.to_be_bytes().as_slice();
     full && same && write.commit().is_ok()
 }
 
-/// Each commit's version is held, until there is no room. When all are released there is room again.
-pub fn full<N: Named, R: Wait>(
+/// Another pass holds the version that is current, if there is another.
+fn hold_one<'i, N: Named>(
+    workers: &mut Vec<Worker<'i, N>>,
+    held: &mut Vec<Snapshot<'i, Any, N>>,
+) -> bool {
+    match workers.pop() {
+        Some(Worker { index, pass }) => held.push(pass.hold(index)).is_ok(),
+        None => true,
+    }
+}
+
+/// Exchanges the first name's item for one of 4,096 octets with this number.
+fn replace_numbered<N: Named, R: Wait>(
+    rt: &R,
+    alloc: Global,
+    index: &Index<Any, N>,
+    pass: &mut Pass<N>,
+    number: u64,
+) -> Outcome
+    requires here { IsSome pass.old.seat }
+    requires place { pass.old.place ≡ index.now.place }
+    ensures here { IsSome pass.new.seat }
+    ensures place { pass.new.place ≡ index.now.place }
+{
+    match numbered(alloc, [b'a', b'a'], number, 4096) {
+        Some(item) => replace(rt, index, pass, &item),
+        None => Outcome::Other,
+    }
+}
+
+/// Each commit's version is held, until there is no room. Why there is none, and the number of the item that was put last.
+fn fill_up<'i, N: Named, R: Wait>(
+    rt: &R,
+    alloc: Global,
+    index: &'i Index<Any, N>,
+    pass: &mut Pass<N>,
+    workers: &mut Vec<Worker<'i, N>>,
+    held: &mut Vec<Snapshot<'i, Any, N>>,
+) -> Option<(Full, u64)>
+    requires here { IsSome pass.old.seat }
+    requires place { pass.old.place ≡ index.now.place }
+    ensures here { IsSome pass.new.seat }
+    ensures place { pass.new.place ≡ index.now.place }
+{
+    for round in 0..64u64 {
+        match replace_numbered(rt, alloc, index, pass, round + 2) {
+            Outcome::Done => {
+                if !hold_one(workers, held) {
+                    return None;
+                }
+            }
+            Outcome::Full(full) => return Some((full, round + 1)),
+            Outcome::Other => return None,
+        }
+    }
+    None
+}
+
+/// When there is no room all held versions are told, and when they are released there is room again.
+pub(crate) fn full<N: Named, R: Wait>(
     rt: &R,
     alloc: Global,
     workers: Vec<Worker<N>>,
-) -> Result<bool, Fail> {
+    second: &Item,
+) -> Option<bool> {
     let mut workers = workers;
-    let Some(Worker { index, mut pass }) = workers.pop() else {
-        return Err(Fail::from("no pass"));
-    };
-    let mut snapshots = Vec::new(alloc);
-    for round in 0..64u64 {
-        let item = numbered(alloc, [b'a', b'a'], round + 2, 4096)?;
-        match replace(rt, index, &mut pass, &item) {
-            Outcome::Committed(_) => {
-                if let Some(Worker { index, pass }) = workers.pop() {
-                    snapshots.push(pass.hold(index))?;
-                }
-            }
-            Outcome::Full(full) => {
-                let told = full.free <= full.reserve
-                    && full.left < full.needed
-                    && full.kept.as_slice().len() as u64 == round;
-                let same = refused(rt, index, &mut pass, &item, round + 1);
-                drop(snapshots);
-                let after = replace(rt, index, &mut pass, &item);
-                return Ok(told && same && matches!(after, Outcome::Committed(_)));
-            }
-            Outcome::Other => return Ok(false),
-        }
-    }
-    Ok(false)
+    let Worker { index, mut pass } = workers.pop()?;
+    let mut held = Vec::new(alloc);
+    let (full, number) = fill_up(rt, alloc, index, &mut pass, &mut workers, &mut held)?;
+    let told = full.free <= full.reserve
+        && full.left < full.needed
+        && full.kept.as_slice().len() as u64 + 1 == number;
+    let same = refused(rt, index, &mut pass, second, number);
+    drop(held);
+    let after = replace(rt, index, &mut pass, second);
+    Some(told && same && matches!(after, Outcome::Done))
 }
 
 /// A hundred commits while version 0 is read: each round keeps two versions.
@@ -156,36 +312,30 @@ fn kept_beside<N: Named, R: Wait>(
     reader: &mut Pass<N>,
     index: &Index<Any, N>,
     writer: &mut Worker<N>,
-    first: &Item,
-) -> Result<bool, Fail>
+    key: &Key,
+) -> bool
     requires here { IsSome reader.old.seat }
     requires place { reader.old.place ≡ index.now.place }
 {
     let mut right = true;
     let mut query = reader.query(index);
     for number in 0..100 {
-        let item = numbered(alloc, [b'a', b'a'], number + 2, 4096)?;
-        right = right
-            && matches!(writer.replace(rt, &item), Outcome::Committed(receipt) if receipt.kept == 2);
+        let receipt = writer.renumber(rt, alloc, number + 2, 4096);
+        right = right && receipt.is_some_and(|receipt| receipt.kept == 2);
     }
-    Ok(right && query.version() == 0 && tag(&mut query, &first.key()) == Some(1))
+    right && query.version() == 0 && tag(&mut query, key) == Some(1)
 }
 
 /// A version is kept while it is read, and no longer.
-pub fn kept<N: Named, R: Wait>(
+pub(crate) fn kept<N: Named, R: Wait>(
     rt: &R,
     alloc: Global,
     workers: Vec<Worker<N>>,
-    first: &Item,
-) -> Result<bool, Fail> {
-    let mut workers = workers;
-    let (Some(mut writer), Some(Worker { index, mut pass })) = (workers.pop(), workers.pop()) else {
-        return Err(Fail::from("no passes"));
-    };
-    let beside = kept_beside(rt, alloc, &mut pass, index, &mut writer, first)?;
-    let last = numbered(alloc, [b'a', b'a'], 200, 4096)?;
-    Ok(
-        beside
-            && matches!(writer.replace(rt, &last), Outcome::Committed(receipt) if receipt.kept == 1),
-    )
+    second: &Item,
+) -> Option<bool> {
+    let (mut writer, reader) = pair(workers)?;
+    let Worker { index, mut pass } = reader;
+    let beside = kept_beside(rt, alloc, &mut pass, index, &mut writer, &second.key());
+    let receipt = writer.write(rt, second, Act::Exchange);
+    Some(beside && receipt.is_some_and(|receipt| receipt.kept == 1))
 }

@@ -4,10 +4,10 @@ ghost use Rattle.trie_model.specs.Keys.{Rises};
 ghost use Rattle.trie_write.specs.Entries.{entries_of_items};
 
 use crate::crowd::{at_once, crowd, moved};
+use crate::items::numbered;
 use crate::rewriting::{compacted, rewritten};
-use crate::rows::{dropped, full, held, kept, rolled_back, told};
-use crate::steps::{Any, put};
-use crate::worker::{numbered, workers};
+use crate::rows::{dropped, full, held, in_turn, kept, rolled_back, told};
+use crate::worker::{Act, Any, Worker, workers, write};
 use shared_index::{Blank, Index, Named};
 use std::alloc::Global;
 use std::marker::Brand;
@@ -20,6 +20,7 @@ use trie_write::Item;
 #[derive(Clone, Copy)]
 enum Scene {
     Held,
+    InTurn,
     Told,
     RolledBack,
     Dropped,
@@ -27,61 +28,55 @@ enum Scene {
     Kept,
     AtOnce,
     Moved,
-    Crowd,
     Rewritten,
     Compacted,
+    /// So many transactions, and readers beside them.
+    Crowd(u64),
 }
 
-/// Whether all was right.
+/// Plays a scene. Whether all was right; nothing where passes or memory are wanting.
+fn act<N: Named + Send + Sync, R: Threads + Wait + Sync>(
+    rt: &R,
+    alloc: Global,
+    workers: Vec<Worker<N>>,
+    first: &Item,
+    second: &Item,
+    scene: Scene,
+) -> Option<bool> {
+    match scene {
+        Scene::Held => held(rt, workers, second),
+        Scene::InTurn => in_turn(rt, alloc, workers, first),
+        Scene::Told => told(rt, workers, second),
+        Scene::RolledBack => rolled_back(rt, workers, second),
+        Scene::Dropped => dropped(rt, workers, second),
+        Scene::Full => full(rt, alloc, workers, second),
+        Scene::Kept => kept(rt, alloc, workers, second),
+        Scene::AtOnce => at_once(rt, workers),
+        Scene::Moved => moved(rt, alloc, workers, first),
+        Scene::Rewritten => rewritten(rt, alloc, workers),
+        Scene::Compacted => compacted(rt, workers),
+        Scene::Crowd(last) => crowd(rt, alloc, workers, last),
+    }
+}
+
+/// The same on an index of its own.
 fn run<N: Named + Send + Sync, R: Threads + Wait + Sync>(
     rt: &R,
     alloc: Global,
     blank: Blank<Any>,
-    items: &[Item],
-    first: &Item,
+    first: &[Item],
+    second: &Item,
     scene: Scene,
-) -> Result<bool, Fail>
+) -> Option<bool>
     requires named { slice_get N.tables 0 ≡ Some blank.shared.table.shared.table_id }
-    requires rising { Rises (entries_of_items items.now) }
+    requires rising { Rises (entries_of_items first.now) }
 {
-    let Ok((index, passes)) = Index::<Any, N>::open(alloc, blank, 0, items) else {
-        return Err(Fail::from("no index"));
+    let item = first.first()?;
+    let Ok((index, passes)) = Index::<Any, N>::open(alloc, blank, 0, first) else {
+        return None;
     };
     let workers = workers(alloc, &index, passes)?;
-    match scene {
-        Scene::Held => held(rt, alloc, workers, first),
-        Scene::Told => told(rt, alloc, workers, first),
-        Scene::RolledBack => rolled_back(rt, alloc, workers, first),
-        Scene::Dropped => dropped(rt, alloc, workers),
-        Scene::Full => full(rt, alloc, workers),
-        Scene::Kept => kept(rt, alloc, workers, first),
-        Scene::AtOnce => at_once(rt, workers),
-        Scene::Moved => moved(rt, alloc, workers, first),
-        Scene::Crowd => crowd(rt, alloc, workers),
-        Scene::Rewritten => rewritten(rt, alloc, workers),
-        Scene::Compacted => compacted(rt, workers),
-    }
-}
-
-/// One pass commits, and the others close the index. The version that it then had.
-fn close<N: Named, R: Wait>(
-    rt: &R,
-    alloc: Global,
-    blank: Blank<Any>,
-    items: &[Item],
-    second: &Item,
-) -> Result<u64, Fail>
-    requires named { slice_get N.tables 0 ≡ Some blank.shared.table.shared.table_id }
-    requires rising { Rises (entries_of_items items.now) }
-{
-    let Ok((index, mut passes)) = Index::<Any, N>::open(alloc, blank, 0, items) else {
-        return Err(Fail::from("no index"));
-    };
-    let Some(mut writer) = passes.pop() else {
-        return Err(Fail::from("no passes"));
-    };
-    put(rt, &index, &mut writer, second);
-    Ok(index.close(passes))
+    act(rt, alloc, workers, item, second, scene)
 }
 
 /// Plays a scene on an index of one item, which has so many octets.
@@ -92,87 +87,150 @@ fn play<R: Threads + Wait + Sync>(
     passes: u32,
     octets: usize,
     scene: Scene,
-) -> Result<bool, Fail>
+) -> Option<bool>
     requires { (16 ≤ chunks) × (chunks ≤ 4096) × (1 ≤ passes) × (passes ≤ 64) × (octets ≤ 4096) }
 {
-    let items = [numbered(alloc, [b'a', b'a'], 1, octets)?];
-    let blank = Blank::<Any>::new(alloc, chunks, passes)?;
-    run::<Brand, _>(rt, alloc, blank, &items, &items[0], scene)
+    let second = numbered(alloc, [b'a', b'a'], 2, octets)?;
+    let first = [numbered(alloc, [b'a', b'a'], 1, octets)?];
+    let blank = Blank::<Any>::new(alloc, chunks, passes).ok()?;
+    run::<Brand, _>(rt, alloc, blank, &first, &second, scene)
+}
+
+/// One pass commits, and the others close the index. The version that it then had.
+fn close<N: Named, R: Wait>(
+    rt: &R,
+    alloc: Global,
+    blank: Blank<Any>,
+    items: &[Item],
+    second: &Item,
+) -> Option<u64>
+    requires named { slice_get N.tables 0 ≡ Some blank.shared.table.shared.table_id }
+    requires rising { Rises (entries_of_items items.now) }
+{
+    let Ok((index, mut passes)) = Index::<Any, N>::open(alloc, blank, 0, items) else {
+        return None;
+    };
+    let Some(mut writer) = passes.pop() else {
+        return None;
+    };
+    let _receipt = write(rt, &index, &mut writer, second, Act::In);
+    Some(index.close(passes))
+}
+
+/// The same on an index of one item.
+fn play_close<R: Wait>(rt: &R, alloc: Global) -> Option<u64> {
+    let second = numbered(alloc, [b'a', b'b'], 1, 600)?;
+    let first = [numbered(alloc, [b'a', b'a'], 1, 600)?];
+    let blank = Blank::<Any>::new(alloc, 16, 8).ok()?;
+    close::<Brand, _>(rt, alloc, blank, &first, &second)
 }
 
 #[test]
 fn a_snapshot_stays_and_the_next_is_newer(rt: HostRuntime) -> Result<(), Fail> {
-    assert!(rt; play(&rt, rt.alloc(), 64, 2, 600, Scene::Held)?);
+    assert_eq!(rt; play(&rt, rt.alloc(), 64, 2, 600, Scene::Held), Some(true));
+    Ok(())
+}
+
+#[test]
+fn a_snapshot_stays_while_others_commit(rt: HostRuntime) -> Result<(), Fail> {
+    assert_eq!(rt; play(&rt, rt.alloc(), 16, 2, 12, Scene::InTurn), Some(true));
     Ok(())
 }
 
 #[test]
 fn a_note_tells_of_a_commit(rt: HostRuntime) -> Result<(), Fail> {
-    assert!(rt; play(&rt, rt.alloc(), 64, 2, 600, Scene::Told)?);
+    assert_eq!(rt; play(&rt, rt.alloc(), 64, 2, 600, Scene::Told), Some(true));
     Ok(())
 }
 
 #[test]
 fn a_working_set_is_gone_after_a_rollback(rt: HostRuntime) -> Result<(), Fail> {
-    assert!(rt; play(&rt, rt.alloc(), 16, 2, 600, Scene::RolledBack)?);
+    assert_eq!(rt;
+        play(&rt, rt.alloc(), 16, 2, 600, Scene::RolledBack),
+        Some(true)
+    );
     Ok(())
 }
 
 #[test]
 fn dropped_transactions_take_nothing(rt: HostRuntime) -> Result<(), Fail> {
-    assert!(rt; play(&rt, rt.alloc(), 16, 1, 4096, Scene::Dropped)?);
+    assert_eq!(rt;
+        play(&rt, rt.alloc(), 16, 1, 4096, Scene::Dropped),
+        Some(true)
+    );
     Ok(())
 }
 
 #[test]
 fn held_versions_fill_the_table(rt: HostRuntime) -> Result<(), Fail> {
-    assert!(rt; play(&rt, rt.alloc(), 16, 64, 4096, Scene::Full)?);
+    assert_eq!(rt;
+        play(&rt, rt.alloc(), 16, 64, 4096, Scene::Full),
+        Some(true)
+    );
     Ok(())
 }
 
 #[test]
 fn a_version_is_kept_while_it_is_read(rt: HostRuntime) -> Result<(), Fail> {
-    assert!(rt; play(&rt, rt.alloc(), 64, 2, 4096, Scene::Kept)?);
+    assert_eq!(rt; play(&rt, rt.alloc(), 64, 2, 4096, Scene::Kept), Some(true));
     Ok(())
 }
 
 #[test]
 fn two_queries_at_once(rt: HostRuntime) -> Result<(), Fail> {
-    assert!(rt; play(&rt, rt.alloc(), 16, 2, 600, Scene::AtOnce)?);
+    assert_eq!(rt;
+        play(&rt, rt.alloc(), 16, 2, 600, Scene::AtOnce),
+        Some(true)
+    );
     Ok(())
 }
 
 #[test]
 fn a_snapshot_is_read_in_another_thread(rt: HostRuntime) -> Result<(), Fail> {
-    assert!(rt; play(&rt, rt.alloc(), 64, 2, 600, Scene::Moved)?);
-    Ok(())
-}
-
-#[test]
-fn readers_beside_a_writer(rt: HostRuntime) -> Result<(), Fail> {
-    assert!(rt; play(&rt, rt.alloc(), 64, 9, 600, Scene::Crowd)?);
+    assert_eq!(rt; play(&rt, rt.alloc(), 64, 2, 600, Scene::Moved), Some(true));
     Ok(())
 }
 
 #[test]
 fn a_table_is_rewritten_for_long(rt: HostRuntime) -> Result<(), Fail> {
-    assert!(rt; play(&rt, rt.alloc(), 16, 1, 600, Scene::Rewritten)?);
+    assert_eq!(rt;
+        play(&rt, rt.alloc(), 16, 1, 600, Scene::Rewritten),
+        Some(true)
+    );
     Ok(())
 }
 
 #[test]
 fn compactions_keep_the_names(rt: HostRuntime) -> Result<(), Fail> {
-    assert!(rt; play(&rt, rt.alloc(), 16, 1, 600, Scene::Compacted)?);
+    assert_eq!(rt;
+        play(&rt, rt.alloc(), 16, 1, 600, Scene::Compacted),
+        Some(true)
+    );
+    Ok(())
+}
+
+#[test]
+fn many_readers_beside_a_writer(rt: HostRuntime) -> Result<(), Fail> {
+    assert_eq!(rt;
+        play(&rt, rt.alloc(), 128, 9, 600, Scene::Crowd(10_000)),
+        Some(true)
+    );
+    Ok(())
+}
+
+// A version has some 2,000 cells, at most sixteen chunks with those that are left sparse. The table has no more than 48 beside its
+// reserve, so that three versions that are read, the current one and the next just fit, however long it is written.
+#[test]
+fn a_table_stays_small_for_long(rt: HostRuntime) -> Result<(), Fail> {
+    assert_eq!(rt;
+        play(&rt, rt.alloc(), 64, 4, 12, Scene::Crowd(100_000)),
+        Some(true)
+    );
     Ok(())
 }
 
 #[test]
 fn a_closed_index_tells_its_version(rt: HostRuntime) -> Result<(), Fail> {
-    let alloc = rt.alloc();
-    let items = [numbered(alloc, [b'a', b'a'], 1, 600)?];
-    let second = numbered(alloc, [b'a', b'b'], 1, 600)?;
-    let blank = Blank::<Any>::new(alloc, 16, 8)?;
-    let version = close::<Brand, _>(&rt, alloc, blank, &items, &second)?;
-    assert_eq!(rt; version, 1);
+    assert_eq!(rt; play_close(&rt, rt.alloc()), Some(1));
     Ok(())
 }

@@ -3,143 +3,95 @@ ghost use Rattle.std.specs.Prelude.{◌≡◌, ◌≤◌, IsSome, IsSomeAnd, All
 ghost use Rattle.trie_read.specs.Readings.{IsHeld};
 ghost use Rattle.shared_index.specs.Drafts.{Works};
 
-use crate::steps::{Any, item};
-use shared_index::{ChangeRefusal, Full, Index, Locked, Named, Note, Pass, Receipt, Transaction};
+use crate::items::numbered;
+use shared_index::{Index, Law, Locked, Named, Note, Pass, Receipt, Transaction};
 use shift_key::Key;
 use std::alloc::Global;
 use std::sync::Wait;
-use std::test::Fail;
 use trie_read::Reading;
 use trie_write::Item;
 
+/// Every version is lawful.
+pub(crate) struct Any;
+
+impl Law for Any {
+    ghost lawful = { λ first es. Unit {0} };
+}
+
 /// A pass that is in its place, with its index.
 #[derive(Drop)]
-pub struct Worker<'i, N: Named> {
-    pub index: &'i Index<Any, N>,
-    pub pass: Pass<N>,
+pub(crate) struct Worker<'i, N: Named> {
+    pub(crate) index: &'i Index<Any, N>,
+    pub(crate) pass: Pass<N>,
     ghost ready: { IsSome pass.seat },
     ghost here: { pass.place ≡ index.now.place },
 }
 
-/// How a transaction ended.
+/// What a transaction does with a name.
 #[derive(Clone, Copy)]
-pub enum Outcome {
-    Committed(Receipt),
-    Full(Full),
-    /// Refused for another reason.
-    Other,
+pub(crate) enum Act {
+    In,
+    Exchange,
+    Out,
 }
 
-/// A worker for each pass.
-pub fn workers<'i, N: Named>(
+/// A worker for each pass. None for want of memory.
+pub(crate) fn workers<'i, N: Named>(
     alloc: Global,
     index: &'i Index<Any, N>,
     passes: Vec<Pass<N>>,
-) -> Result<Vec<Worker<'i, N>>, Fail>
+) -> Option<Vec<Worker<'i, N>>>
     requires { All (λ p. (IsSome p.seat) × (p.place ≡ index.now.place)) passes.items }
 {
     let mut passes = passes;
     let mut workers = Vec::new(alloc);
     while let Some(pass) = passes.pop() {
-        workers.push(Worker { index, pass })?;
+        workers.push(Worker { index, pass }).ok()?;
     }
-    Ok(workers)
+    Some(workers)
 }
 
-/// Exchanges an item by a light transaction, and commits.
-pub fn replace<N: Named, R: Wait>(
-    rt: &R,
-    index: &Index<Any, N>,
-    pass: &mut Pass<N>,
-    item: &Item,
-) -> Outcome
-    requires here { IsSome pass.old.seat }
-    requires place { pass.old.place ≡ index.now.place }
-    ensures here { IsSome pass.new.seat }
-    ensures place { pass.new.place ≡ index.now.place }
-{
-    let mut locked = Locked::of(index);
-    let mut write = index.write(rt, &mut locked, pass);
-    match write.replace(&item.key(), item.octets()) {
-        Err(ChangeRefusal::Full(full)) => Outcome::Full(full),
-        Err(ChangeRefusal::NotFound) => Outcome::Other,
-        Ok(()) => match write.commit() {
-            Ok(receipt) => Outcome::Committed(receipt),
-            Err(_) => Outcome::Other,
-        },
-    }
+/// One of them.
+pub(crate) fn alone<'i, N: Named>(workers: Vec<Worker<'i, N>>) -> Option<Worker<'i, N>> {
+    let mut workers = workers;
+    workers.pop()
 }
 
-/// Exchanges an item by a heavy transaction, and drops it. Whether it was exchanged meanwhile.
-fn replace_and_drop<N: Named, R: Wait>(
-    rt: &R,
-    index: &Index<Any, N>,
-    pass: &mut Pass<N>,
-    item: &Item,
-) -> bool
-    requires here { IsSome pass.old.seat }
-    requires place { pass.old.place ≡ index.now.place }
-    ensures here { IsSome pass.new.seat }
-    ensures place { pass.new.place ≡ index.now.place }
-{
-    let mut locked = Locked::of(index);
-    let mut update = index.update(rt, &mut locked, pass);
-    update.replace(&item.key(), item.octets()).is_ok()
+/// Two of them.
+pub(crate) fn pair<'i, N: Named>(
+    workers: Vec<Worker<'i, N>>,
+) -> Option<(Worker<'i, N>, Worker<'i, N>)> {
+    let mut workers = workers;
+    let first = workers.pop()?;
+    Some((first, workers.pop()?))
 }
 
-/// The base's number, and how long the item of a key is in the working set.
-fn peek<N: Named, K>(
+/// Does something within a transaction. Whether it was done.
+fn act_within<N: Named, K>(
     transaction: &mut Transaction<'_, '_, Any, N, K>,
-    key: &Key,
-) -> (u64, Option<usize>)
+    item: &Item,
+    act: Act,
+) -> bool
     requires { IsSomeAnd transaction.old.locked.now.draft Works }
+    ensures same_reference { (transaction.new.home.ghost_name ≡ transaction.old.home.ghost_name) × (transaction.new.locked.ghost_name ≡ transaction.old.locked.ghost_name) }
+    ensures place { transaction.new.locked.now.place ≡ transaction.old.locked.now.place }
+    ensures works { IsSomeAnd transaction.new.locked.now.draft Works }
 {
-    let mut out = [0; 4096];
-    let mut reading = transaction.working();
-    let number = reading.version();
-    (number, reading.fetch(key, &mut out))
+    match act {
+        Act::In => transaction.insert(&item.key(), item.octets()).is_ok(),
+        Act::Exchange => transaction.replace(&item.key(), item.octets()).is_ok(),
+        Act::Out => transaction.delete(&item.key()).is_ok(),
+    }
 }
 
-/// Exchanges an item by a light transaction, and looks at it there. No version is made.
-pub fn look_inside<N: Named, R: Wait>(
-    rt: &R,
-    worker: Worker<N>,
-    item: &Item,
-) -> (u64, Option<usize>) {
-    let Worker { index, mut pass } = worker;
-    let mut locked = Locked::of(index);
-    let mut write = index.write(rt, &mut locked, &mut pass);
-    let _done = write.replace(&item.key(), item.octets());
-    peek(&mut write, &item.key())
-}
-
-/// Exchanges an item by a heavy transaction, and rolls it back. Whether it was exchanged meanwhile.
-fn replace_and_roll_back<N: Named, R: Wait>(
+/// Does something by a light transaction, and commits. What was made.
+pub(crate) fn write<N: Named, R: Wait>(
     rt: &R,
     index: &Index<Any, N>,
     pass: &mut Pass<N>,
     item: &Item,
-) -> bool
-    requires here { IsSome pass.old.seat }
-    requires place { pass.old.place ≡ index.now.place }
-    ensures here { IsSome pass.new.seat }
-    ensures place { pass.new.place ≡ index.now.place }
-{
-    let mut locked = Locked::of(index);
-    let mut update = index.update(rt, &mut locked, pass);
-    let done = update.replace(&item.key(), item.octets()).is_ok();
-    update.rollback();
-    done
-}
-
-/// Puts a name in, or takes it out, by a light transaction. Whether a version was made.
-fn turn_over<N: Named, R: Wait>(
-    rt: &R,
-    index: &Index<Any, N>,
-    pass: &mut Pass<N>,
-    item: &Item,
-    out: bool,
-) -> bool
+    act: Act,
+) -> Option<Receipt>
     requires here { IsSome pass.old.seat }
     requires place { pass.old.place ≡ index.now.place }
     ensures here { IsSome pass.new.seat }
@@ -147,86 +99,31 @@ fn turn_over<N: Named, R: Wait>(
 {
     let mut locked = Locked::of(index);
     let mut write = index.write(rt, &mut locked, pass);
-    let done = if out {
-        write.delete(&item.key()).is_ok()
-    } else {
-        write.insert(&item.key(), item.octets()).is_ok()
-    };
-    done && write.commit().is_ok()
+    if !act_within(&mut write, item, act) {
+        return None;
+    }
+    write.commit().ok()
 }
 
-/// The number behind the name in an item whose name has four octets. None where the key isn't there.
-pub fn tag<V: Reading>(reading: &mut V, key: &Key) -> Option<u64>
-    requires { IsHeld (V.holds reading.old) }
-    ensures { reading.new ≡ reading.old }
+/// The same by a heavy transaction.
+fn update<N: Named, R: Wait>(
+    rt: &R,
+    index: &Index<Any, N>,
+    pass: &mut Pass<N>,
+    item: &Item,
+    act: Act,
+) -> Option<Receipt>
+    requires here { IsSome pass.old.seat }
+    requires place { pass.old.place ≡ index.now.place }
+    ensures here { IsSome pass.new.seat }
+    ensures place { pass.new.place ≡ index.now.place }
 {
-    let mut out = [0; 4096];
-    reading.fetch(key, &mut out)?;
-    let octets = [
-        out[4], out[5], out[6], out[7], out[8], out[9], out[10], out[11],
-    ];
-    Some(u64::from_be_bytes(octets))
-}
-
-/// How many names a walk passes.
-pub fn walk<V: Reading>(reading: &mut V) -> u64
-    requires { IsHeld (V.holds reading.old) }
-    ensures { reading.new ≡ reading.old }
-{
-    let mut iter = reading.iter();
-    for names in 0..1000 {
-        if reading.next(&mut iter).is_none() {
-            return names;
-        }
+    let mut locked = Locked::of(index);
+    let mut update = index.update(rt, &mut locked, pass);
+    if !act_within(&mut update, item, act) {
+        return None;
     }
-    1000
-}
-
-/// The item of a name of two letters, with a number behind it and so many octets in all.
-pub fn numbered(alloc: Global, letters: [u8; 2], number: u64, octets: usize) -> Result<Item, Fail>
-    requires { octets ≤ 4096 }
-{
-    let mut payload = Vec::new(alloc);
-    payload.extend_from_slice(&number.to_be_bytes())?;
-    payload.resize(octets.max(12) - 4, 0)?;
-    item(alloc, &[2, letters[0], letters[1], 0], payload.as_slice())
-}
-
-impl<'i, N: Named> Worker<'i, N> {
-    /// Exchanges an item by a light transaction, and commits.
-    pub fn replace<R: Wait>(&mut self, rt: &R, item: &Item) -> Outcome {
-        replace(rt, self.index, &mut self.pass, item)
-    }
-
-    /// Exchanges an item by a heavy transaction, and drops it. Whether it was exchanged meanwhile.
-    pub fn replace_and_drop<R: Wait>(&mut self, rt: &R, item: &Item) -> bool {
-        replace_and_drop(rt, self.index, &mut self.pass, item)
-    }
-
-    /// Exchanges an item by a heavy transaction, and rolls it back. Whether it was exchanged meanwhile.
-    pub fn replace_and_roll_back<R: Wait>(&mut self, rt: &R, item: &Item) -> bool {
-        replace_and_roll_back(rt, self.index, &mut self.pass, item)
-    }
-
-    /// Puts a name in, or takes it out, by a light transaction. Whether a version was made.
-    pub fn turn_over<R: Wait>(&mut self, rt: &R, item: &Item, out: bool) -> bool {
-        turn_over(rt, self.index, &mut self.pass, item, out)
-    }
-
-    /// The version that a query shows, and the number at a key.
-    pub fn look(&mut self, key: &Key) -> (u64, Option<u64>) {
-        look(self.index, &mut self.pass, key)
-    }
-
-    /// Learns what a note tells, if it is of the same index.
-    pub fn learn(&mut self, note: Note<N>) -> bool {
-        learn(self.index, &mut self.pass, note)
-    }
-
-    /// Learns what another has seen.
-    pub fn learn_of(&mut self, other: &mut Worker<'i, N>) -> bool {
-        learn_of(self.index, &mut self.pass, other.index, &mut other.pass)
-    }
+    update.commit().ok()
 }
 
 /// The version that a query shows, and the number at a key.
@@ -238,6 +135,17 @@ fn look<N: Named>(index: &Index<Any, N>, pass: &mut Pass<N>, key: &Key) -> (u64,
 {
     let mut query = pass.query(index);
     (query.version(), tag(&mut query, key))
+}
+
+/// The version that a query shows, and how many names it has.
+fn count<N: Named>(index: &Index<Any, N>, pass: &mut Pass<N>) -> (u64, u64)
+    requires here { IsSome pass.old.seat }
+    requires place { pass.old.place ≡ index.now.place }
+    ensures here { IsSome pass.new.seat }
+    ensures place { pass.new.place ≡ index.now.place }
+{
+    let mut query = pass.query(index);
+    (query.version(), query.count())
 }
 
 /// The pass learns what another has seen, if both are of one index.
@@ -268,4 +176,82 @@ fn learn<N: Named>(index: &Index<Any, N>, pass: &mut Pass<N>, note: Note<N>) -> 
         pass.learn(index, note);
     }
     same
+}
+
+impl<'i, N: Named> Worker<'i, N> {
+    /// Does something by a light transaction, and commits. What was made.
+    pub(crate) fn write<R: Wait>(&mut self, rt: &R, item: &Item, act: Act) -> Option<Receipt> {
+        write(rt, self.index, &mut self.pass, item, act)
+    }
+
+    /// The same by a heavy transaction.
+    pub(crate) fn update<R: Wait>(&mut self, rt: &R, item: &Item, act: Act) -> Option<Receipt> {
+        update(rt, self.index, &mut self.pass, item, act)
+    }
+
+    /// Exchanges the first name's item for one with this number, by a light transaction.
+    pub(crate) fn renumber<R: Wait>(
+        &mut self,
+        rt: &R,
+        alloc: Global,
+        number: u64,
+        octets: usize,
+    ) -> Option<Receipt>
+        requires { octets ≤ 4096 }
+    {
+        let item = numbered(alloc, [b'a', b'a'], number, octets)?;
+        self.write(rt, &item, Act::Exchange)
+    }
+
+    /// Makes a version of the same names.
+    pub(crate) fn compact<R: Wait>(&mut self, rt: &R) -> Option<Receipt> {
+        self.index.compact(rt, &mut self.pass).ok()
+    }
+
+    /// The version that a query shows, and the number at a key.
+    pub(crate) fn look(&mut self, key: &Key) -> (u64, Option<u64>) {
+        look(self.index, &mut self.pass, key)
+    }
+
+    /// The version that a query shows, and how many names it has.
+    pub(crate) fn count(&mut self) -> (u64, u64) {
+        count(self.index, &mut self.pass)
+    }
+
+    /// Learns what a note tells, if it is of the same index.
+    pub(crate) fn learn(&mut self, note: Note<N>) -> bool {
+        learn(self.index, &mut self.pass, note)
+    }
+
+    /// Learns what another has seen.
+    pub(crate) fn learn_of(&mut self, other: &mut Worker<'i, N>) -> bool {
+        learn_of(self.index, &mut self.pass, other.index, &mut other.pass)
+    }
+}
+
+/// The number behind the name in an item whose name has four octets. None where the key isn't there.
+pub(crate) fn tag<V: Reading>(reading: &mut V, key: &Key) -> Option<u64>
+    requires { IsHeld (V.holds reading.old) }
+    ensures { reading.new ≡ reading.old }
+{
+    let mut out = [0; 4096];
+    reading.fetch(key, &mut out)?;
+    let octets = [
+        out[4], out[5], out[6], out[7], out[8], out[9], out[10], out[11],
+    ];
+    Some(u64::from_be_bytes(octets))
+}
+
+/// How many names a walk passes.
+pub(crate) fn walk<V: Reading>(reading: &mut V) -> u64
+    requires { IsHeld (V.holds reading.old) }
+    ensures { reading.new ≡ reading.old }
+{
+    let mut iter = reading.iter();
+    for names in 0..2000 {
+        if reading.next(&mut iter).is_none() {
+            return names;
+        }
+    }
+    2000
 }
