@@ -93,6 +93,7 @@ module _ (passes : Row → Bool) (first slots : List Row) (place kept : ℕ) (d 
     where
       by_zero : get_or slots place d ≡ get_or (drop place slots) 0 d
       by_zero = sym (get_or-drop place slots 0 d ∙ ap (λ (k : ℕ). get_or slots k d) (let e : place + 0 ≡ place = omega arith in e))
+
       from_zero : get_or first place d ≡ get_or (drop place first) 0 d
       from_zero = sym (get_or-drop place first 0 d ∙ ap (λ (k : ℕ). get_or first k d) (let e : place + 0 ≡ place = omega arith in e))
 

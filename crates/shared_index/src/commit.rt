@@ -170,11 +170,7 @@ impl Draft {
         let (seat, freed) = free_unreached(shared, seat, &mut usage);
         let (seat, pass) = seat.split(shared);
         let receipt = Receipt::of(version, freed, &usage, whole);
-        let desk = Desk {
-            seat,
-            usage,
-            root,
-        };
+        let desk = Desk { seat, usage, root };
         (desk, pass, receipt)
     }
 

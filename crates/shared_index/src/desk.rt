@@ -59,11 +59,7 @@ impl Desk {
         ensures log { result.log.operations ≡ [] }
         ensures stands { StandsFor result.seat.place.me.0 result.usage result.root (version_seen result.seat.place.me.0.seen) }
     {
-        let Desk {
-            seat,
-            usage,
-            root,
-        } = self;
+        let Desk { seat, usage, root } = self;
         usage.known();
         let mut seat = seat.join(shared, pass);
         seat.look(shared);

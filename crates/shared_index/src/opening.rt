@@ -254,11 +254,7 @@ impl<L: Law, N: Named> Index<L, N> {
         };
         let seat = open_turn(shared, turn, root, items);
         usage.freeze(0);
-        Desk {
-            seat,
-            usage,
-            root,
-        }
+        Desk { seat, usage, root }
     }
 
     // An index whose version 0 has these items, for which there is room.

@@ -120,13 +120,13 @@ pub returns-else-begins_again-clause-whole : goal.returns-else-begins_again-clau
 returns-else-begins_again-clause-whole g c e = elim c.if-resumed.branch [
   | then-resumed w ↦ c.begins_again.ensures.dense c.if-begins_again.false (w.begins_again-is ∙ w.if-resumed.true)
   | else-resumed w ↦ (elim (cases_Bool c.if-resumed.begins_again) [
-      | inl partial ↦ c.begins_again.ensures.dense c.if-begins_again.false partial
-      | inr whole ↦ (
-          let i = c.passes.invariant in
-          let n = i.stood c.requires.stood.es c.requires.stood.t c.requires.stood.stood in
-          let test = sym w.begins_again-is ∙ whole in
-          let all : c.passes.before ≡ 0 = grind (arith, nat_tests, test) in
-          all_cleared c.args.usage.now.given i.moves.fills i.elsewhere n.1 (c.next_sparse.ensures.none c.if-next_sparse.false w.if-resumed.false all n.0 (node_top n.1 c.cell-node.ensures.same c.cell-node.ensures.value))
-          )
-    ])
+    | inl partial ↦ c.begins_again.ensures.dense c.if-begins_again.false partial
+    | inr whole ↦ (
+        let i = c.passes.invariant in
+        let n = i.stood c.requires.stood.es c.requires.stood.t c.requires.stood.stood in
+        let test = sym w.begins_again-is ∙ whole in
+        let all : c.passes.before ≡ 0 = grind (arith, nat_tests, test) in
+        all_cleared c.args.usage.now.given i.moves.fills i.elsewhere n.1 (c.next_sparse.ensures.none c.if-next_sparse.false w.if-resumed.false all n.0 (node_top n.1 c.cell-node.ensures.same c.cell-node.ensures.value))
+        )
+  ])
 ]
