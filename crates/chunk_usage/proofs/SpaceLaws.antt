@@ -1,6 +1,6 @@
 -- What an allocation is to the crates that change a trie.
 use Rattle.std.proofs.Common.{◌≡◌, ◌≢◌, ℕ, ◌+◌, ◌-◌, ◌*◌, ◌/◌, ◌%◌, ◌<◌, ◌≤◌, Bool, true, false, not, length, slice_index_or, refl, ◌∙◌, sym, subst, ap, inl, inr, arith}
-use Rattle.std.specs.Prelude.{Option, None, Some, Result, Ok, Err, IfOk, nat_lt, nat_le, ◌==◌, ◌||◌, ◌&&◌, if◌then◌else◌}
+use Rattle.std.specs.Prelude.{Option, None, Some, Result, Ok, Err, IfOk, IfErr, nat_lt, nat_le, ◌==◌, ◌||◌, ◌&&◌, if◌then◌else◌}
 use Rattle.std.proofs.lemmas.Bool.{cases_eq, cases_Bool}
 use Rattle.std.proofs.lemmas.Bool.Decides.{nat_tests}
 use Rattle.std.proofs.lemmas.List.{length-set, get_or-set_other}
@@ -176,3 +176,18 @@ module _ (l : Ledger) (h : IsLedger l) (n : ℕ) (some : 0 < n) (few : n ≤ 256
 pub handed : (l : Ledger) → IsLedger l → (n : ℕ) → 0 < n → n ≤ 256 → (new : Ledger) (r : Result Grant Full) → new ≡ allocated l n → r ≡ grant_of l n → Hands l new n r
 handed l h n some few new r e f =
     subst (λ (m : Ledger). Hands l m n r) (sym e) (subst (Hands l (allocated l n) n) (sym f) (by_open l h n some few l.open_chunk refl))
+
+-- where there is no room, so many cells were wanted
+abbrev pub Wanted : ℕ → Result Grant Full → Type 0
+Wanted n r = IfErr r (λ f. f.needed ≡ n)
+
+pub wanted : (l : Ledger) (n : ℕ) (r : Result Grant Full) → r ≡ grant_of l n → Wanted n r
+wanted l n r is = subst (Wanted n) (sym is) (of_room (roomy l.open_chunk n))
+  where
+    of_free : (b : Bool) → Wanted n (if b then Err (shortage l n) else Ok (record { at = lowest_free l * 1024; given = Some (lowest_free l) }))
+    of_free true = refl
+    of_free false = tt
+
+    of_room : (o : Option Open) → Wanted n (granted_from l n o)
+    of_room None = of_free (nat_le (free_count l) (reserve_of l))
+    of_room (Some o) = tt

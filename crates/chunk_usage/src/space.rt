@@ -48,6 +48,7 @@ pub trait Space {
         ensures spends { (account self.new).spent ≤ (account self.old).spent + n }
         ensures frozen { (account self.new).frozen ≡ (account self.old).frozen }
         ensures full { IfErr result (λ f. lacks self.new f) }
+        ensures needed { IfErr result (λ f. f.needed ≡ n) }
         ensures refused { OnErr result (self.new ≡ self.old) };
 
     /// Whether no version that was frozen has a cell, so that it may be written.

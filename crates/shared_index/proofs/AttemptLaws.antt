@@ -15,7 +15,7 @@ use Rattle.chunk_usage.specs.Rooms.{Grows, account_of}
 use Rattle.chunk_usage.proofs.FlagLemmas.{get_set}
 use Rattle.trie_model.specs.Keys.{Entry}
 use Rattle.trie_model.proofs.MoveLaws.{Keeps}
-use Rattle.trie_write.specs.Roots.{OnPath, TwigsOnPath}
+use Rattle.trie_write.specs.Roots.{OnPath, TwigsOnPath, OnBranches, BranchesOnPath}
 use Rattle.trie_write.specs.Spaces.{Ready, Fenced, Unchanged as Same}
 use Rattle.trie_write.proofs.RootLaws.{stands_later, standing_later}
 use Rattle.shared_cells.specs.Views.{words_of, kept_in}
@@ -27,8 +27,8 @@ use Rattle.shared_index.specs.Operations.{operated}
 use Rattle.shared_index.specs.Passes.{Known}
 use Rattle.shared_index.specs.Turns.{Agrees, cells_with, row_for, cell_counts, current_image, is_immutable}
 use Rattle.shared_index.specs.Bases.{IsRooted, StandsFor}
-use Rattle.shared_index.specs.Changes.{operation_of, key_of, written_by, IsRefused}
-use Rattle.shared_index.specs.Tries.{Tried, PathHas}
+use Rattle.shared_index.specs.Changes.{operation_of, key_of, written_by, asked_by, IsRefused}
+use Rattle.shared_index.specs.Tries.{Tried, PathHas, PathHasEach}
 use Rattle.shared_index.proofs.Lists.{all_of, all_from}
 use Rattle.shared_index.proofs.KeepLaws.{immutable_used, immutable_old, immutable_of}
 
@@ -62,6 +62,14 @@ path_later (Some r) key n keep stays live p = (p.0, p.1, stands_later p.2 keep s
 
 path_there : (a b : Cells) → b.chunks ≡ a.chunks → b.words ≡ a.words → (u : Ledger) (root : Option ℕ) (key : List ℕ) (n : ℕ) → TwigsOnPath HasCell account_of a u root key n → TwigsOnPath HasCell account_of b u root key n
 path_there a b chunks words u root key n p = path_later root key n (λ q c used h. has_there a b chunks words q c h) (λ q used. used) (λ k. refl) p
+
+branches_later : {has new : ℕ → Cell → Type 0} {used used_new : ℕ → Bool} {live live_new : ℕ → ℕ} (root : Option ℕ) (key branches : List ℕ) → Keeps used has new → ((q : ℕ) → used q ≡ true → used_new q ≡ true) → ((k : ℕ) → live_new k ≡ live k)
+    → OnBranches has used live root key branches → OnBranches new used_new live_new root key branches
+branches_later None key branches keep stays live p = p
+branches_later (Some r) key branches keep stays live p = (p.0, p.1, stands_later p.2 keep stays live, p.3, p.4)
+
+branches_there : (a b : Cells) → b.chunks ≡ a.chunks → b.words ≡ a.words → (u : Ledger) (root : Option ℕ) (key branches : List ℕ) → BranchesOnPath HasCell account_of a u root key branches → BranchesOnPath HasCell account_of b u root key branches
+branches_there a b chunks words u root key branches p = branches_later root key branches (λ q c used h. has_there a b chunks words q c h) (λ q used. used) (λ k. refl) p
 
 -- while cells are handed out what the usage agrees on stays
 agrees_grown : (cells new : Cells) (u n : Ledger) (count : ℕ) → new.chunks ≡ cells.chunks → new.kept ≡ cells.kept → given_chunks new ≡ n.given → frozen_part n ≡ frozen_part u
@@ -125,23 +133,29 @@ module _ (first lent : Cells) (v w : Known) (u n : Ledger)
     path_in : (twigs : ℕ) → PathHas v u root (key_of c) twigs → TwigsOnPath HasCell account_of first u root (key_of c) twigs
     path_in twigs p = subst (λ (k : Cells). TwigsOnPath HasCell account_of k u root (key_of c) twigs) (sym begun) p
 
+    branches_in : (branches : List ℕ) → PathHasEach v u root (key_of c) branches → BranchesOnPath HasCell account_of first u root (key_of c) branches
+    branches_in branches p = subst (λ (k : Cells). BranchesOnPath HasCell account_of k u root (key_of c) branches) (sym begun) p
+
     pub tried_of : IfOk r (λ new. (es : List Entry) → IsRooted (HasCell first) u root es → IsRooted (HasCell lent) n new (operated es (operation_of c)))
         → ((es : List Entry) → IsRooted (HasCell first) u root es → (r ≡ Err Refused) ↔ IsRefused c es)
         → IfErr r (λ _. (es : List Entry) → IsRooted (HasCell first) u root es → IsRooted (HasCell lent) n root es)
         → IfErr r (λ _. Same HasCell account_of first u lent n)
         → ((f : NoRoom) → r ≡ Err (Full f) → Lacks n f)
+        → ((f : NoRoom) → r ≡ Err (Full f) → (branches : List ℕ) → BranchesOnPath HasCell account_of first u root (key_of c) branches → Contains (asked_by c branches) f.needed)
         → ((twigs : ℕ) → TwigsOnPath HasCell account_of first u root (key_of c) twigs → spent n ≤ spent u + (written_by c + twigs))
         → Tried c root v u w n r
-    tried_of done refused stays same full spends = record {
+    tried_of done refused stays same full asked spends = record {
       done = if_ok _ _ r (λ new h es s. left new (operated es (operation_of c)) (h es (entered root es s))) done;
       refused = λ es s. refused es (entered root es s);
       stays = if_err _ _ r (λ e h es s. left root es (h es (entered root es s))) stays;
       full = full;
+      asked = λ f e branches p. asked f e branches (branches_in branches p);
       same = words_seat;
       wide = wide_now;
       frozen = frame.last;
       given = given_now;
       counts = if_err _ _ r (λ e s. s.counts) same;
       path = if_err _ _ r (λ e s twigs p. path_there lent (cells_with n w.turn) chunks_now words_now n root (key_of c) twigs (path_later root (key_of c) twigs s.untouched frame.grows.stays s.counts (path_in twigs p))) same;
+      branches = if_err _ _ r (λ e s branches p. branches_there lent (cells_with n w.turn) chunks_now words_now n root (key_of c) branches (branches_later root (key_of c) branches s.untouched frame.grows.stays s.counts (branches_in branches p))) same;
       spends = λ twigs p. spends twigs (path_in twigs p);
     }

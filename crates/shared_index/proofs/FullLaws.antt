@@ -1,5 +1,5 @@
 -- Why a call of a transaction finds no room.
-use Rattle.std.proofs.Common.{◌≡◌, ◌∙◌, ◌⊎◌, ℕ, ◌+◌, ◌≤◌, List, [], length, map, take, Option, Err, refl, sym, ap, subst, arith, true, false}
+use Rattle.std.proofs.Common.{◌≡◌, ◌∙◌, ◌⊎◌, ℕ, ◌+◌, ◌≤◌, Bool, List, [], length, map, take, Contains, Option, Some, None, Err, refl, sym, ap, subst, arith, true, false}
 use Rattle.std.specs.Prelude.{unwrap_or}
 use Rattle.std.specs.List.{All, sum_by}
 use Rattle.std.proofs.lemmas.List.Elements.{All-weaker}
@@ -7,6 +7,12 @@ use Rattle.pin_core.specs.declared.kept.Kept.{Kept}
 use Rattle.trie_model.specs.Keys.{Entry}
 use Rattle.trie_model.specs.Shape.{cells}
 use Rattle.trie_model.specs.Reach.{row}
+use Rattle.zone_model.specs.Keys.{Leads}
+use Rattle.packed_node.specs.declared.Cell.{Cell}
+use Rattle.trie_read.specs.Reads.{EachTells}
+use Rattle.trie_write.specs.Paths.{branches_on_path}
+use Rattle.trie_write.specs.Roots.{OnBranches}
+use Rattle.trie_write.specs.Standing.{Standing}
 use Rattle.chunk_usage.specs.declared.space.Full.{Full as NoRoom}
 use Rattle.chunk_usage.specs.Ledger.{Ledger, Row, is_given, is_open, is_used}
 use Rattle.chunk_usage.specs.Handing.{Lacks}
@@ -24,9 +30,9 @@ use Rattle.shared_index.specs.Operations.{applied}
 use Rattle.shared_index.specs.Meanings.{IsVersion}
 use Rattle.shared_index.specs.Passes.{Known, first_version}
 use Rattle.shared_index.specs.Turns.{cells_with, row_for}
-use Rattle.shared_index.specs.Changes.{key_of, written_by, LeadsItem}
+use Rattle.shared_index.specs.Changes.{key_of, written_by, asked_by, LeadsItem}
 use Rattle.shared_index.specs.Drafts.{Works, working_set}
-use Rattle.shared_index.specs.Tries.{Tried, PathHas}
+use Rattle.shared_index.specs.Tries.{Tried, PathHas, PathHasEach}
 use Rattle.shared_index.specs.Keepings.{GoesOn, narrowed, numbers_of, versions_in}
 use Rattle.shared_index.specs.Fulls.{FullCause, after_room, cells_kept, version_at}
 use Rattle.shared_index.proofs.CauseLaws.{NeededBy, each_needed, given_few, kept_images, live_of, many, met_or_opened, opened_is, few_taken, path_of, rows_met, some_live, some_row, taken}
@@ -56,10 +62,15 @@ few_written (change.Insert key item) leads = let l = leads.short in omega arith
 few_written (change.Replace key item) leads = let l = leads.short in omega arith
 few_written (change.Delete key) leads = omega arith
 
-pub cause_of : (u : Ledger) (room d : Draft) (c : Change) (full : NoRoom) (f : Full) → room.usage ≡ after_room u f → f.kept ≡ room.kept → Works room → All (λ k. IsVersion k.image k.root (version_at room.seat.place.me.0 k.version)) (kept_in room.seat.place.me.0.turn)
+-- how many twigs each branch on the path has
+each_of : (has : ℕ → Cell → Type 0) (used : ℕ → Bool) (live : ℕ → ℕ) (root : Option ℕ) (key : List ℕ) (es : List Entry) → Standing has used live root es → EachTells Leads es → (branches : List ℕ) × OnBranches has used live root key branches
+each_of has used live None key es s tells = ([], refl)
+each_of has used live (Some r) key es s tells = (branches_on_path key s.0, (s.0, es, s.1, tells, refl))
+
+pub cause_of : (u : Ledger) (room d : Draft) (c : Change) (full : NoRoom) (f : Full) → room.usage ≡ after_room u f → f.needed ≡ full.needed → f.kept ≡ room.kept → Works room → All (λ k. IsVersion k.image k.root (version_at room.seat.place.me.0 k.version)) (kept_in room.seat.place.me.0.turn)
     → LeadsItem c → Tried c room.root room.seat.place.me.0 room.usage d.seat.place.me.0 d.usage (Err (unchanged.Full full)) → d.root ≡ room.root → GoesOn room.seat.place.me.0 d.seat.place.me.0 → working_set d ≡ working_set room → Lacks d.usage full
-    → FullCause (after_room u f) d (key_of c) (written_by c) f
-cause_of u room d c full f after same works images leads t root on set lacks =
+    → FullCause (after_room u f) d (key_of c) (written_by c) (asked_by c) f
+cause_of u room d c full f after request same works images leads t root on set lacks =
     let m = room.usage in
     let v : Known = room.seat.place.me.0 in
     let w : Known = d.seat.place.me.0 in
@@ -68,6 +79,7 @@ cause_of u room d c full f after same works images leads t root on set lacks =
     let n = length m.given in
     let needed : (k : ℕ) → is_given m k ≡ true → NeededBy m k = subst (λ (l : Ledger). (k : ℕ) → is_given l k ≡ true → NeededBy l k) (sym after) (each_needed (narrowed u (versions_in f.kept))) in
     let p = path_of {has = HasCell (cells_with m v.turn)} {used = is_used m} {live = live_of m} room.root key (working_set room) works.stands works.tells in
+    let each = each_of (HasCell (cells_with m v.turn)) (is_used m) (live_of m) room.root key (working_set room) works.stands works.tells in
     let spends = t.spends p.n p.on_path in
     let rows : row (some_row m.rows) 0 n ≤ cells_kept w (versions_in f.kept) = (
     let a = rows_met n kept in
@@ -83,6 +95,9 @@ cause_of u room d c full f after same works images leads t root on set lacks =
       opened_here = λ k h. subst (λ (l : Ledger). (is_open l.open_chunk k ≡ true) ⊎ ((is_given l k ≡ false) × (is_given d.usage k ≡ true))) after (opened_is m d.usage k h);
       path = p.n;
       on_path = subst (λ (r : Option ℕ). PathHas w d.usage r key p.n) (sym root) (t.path p.n p.on_path);
+      branches = each.0;
+      on_branches = subst (λ (r : Option ℕ). PathHasEach w d.usage r key each.0) (sym root) (t.branches each.0 each.1);
+      needed = subst (λ (n : ℕ). Contains (asked_by c each.0) n) (sym request) (t.asked full refl each.0 each.1);
       few_opened = few_taken m d.usage full (written_by c + p.n) t.wide t.given spends lacks;
       others_met = met_or_opened m d.usage needed t.wide t.frozen t.counts;
       many_cells =

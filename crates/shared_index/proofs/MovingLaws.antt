@@ -107,8 +107,8 @@ evacuated_of old room u versions d done after grown whole stopped some counts = 
 }
 
 -- where a try before it left that usage
-pub caused_from : (old mid : Ledger) (d : Draft) (key : List ℕ) (written : ℕ) (f : Full) → Grown old mid → CausedFrom mid d key written f → CausedFrom old d key written f
-caused_from old mid d key written f g c = (
+pub caused_from : (old mid : Ledger) (d : Draft) (key : List ℕ) (written : ℕ) (asks : List ℕ → List ℕ) (f : Full) → Grown old mid → CausedFrom mid d key written asks f → CausedFrom old d key written asks f
+caused_from old mid d key written asks f g c = (
   c.0,
   record {
     last_live = c.1.last_live ∙ ap (λ (x : Frozen). x.live) g.frozen;

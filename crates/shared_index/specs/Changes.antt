@@ -3,6 +3,7 @@ use Rattle.std.specs.Prelude.{◌≡◌, ℕ, ◌+◌, List}
 use Rattle.zone_model.specs.Keys.{Leads}
 use Rattle.trie_model.specs.Keys.{Entry, InList}
 use Rattle.trie_model.specs.Trees.{cells_in}
+use Rattle.trie_write.specs.Paths.{insert_asks, replace_asks, delete_asks}
 use Rattle.shared_index.specs.declared.change.Change.{Change}
 use Rattle.shared_index.specs.declared.change.Change.TheVariants as change
 use Rattle.shared_index.specs.declared.meaning.Operation.{Operation}
@@ -35,3 +36,9 @@ abbrev pub written_by : Change → ℕ
 written_by (change.Insert key item) = 3 + cells_in item.now
 written_by (change.Replace key item) = 3 + cells_in item.now
 written_by (change.Delete key) = 1
+
+-- how many cells side by side it may ask for, where the branches on its key's path have so many twigs
+abbrev pub asked_by : Change → List ℕ → List ℕ
+asked_by (change.Insert key item) = insert_asks item.now
+asked_by (change.Replace key item) = replace_asks item.now
+asked_by (change.Delete key) = delete_asks

@@ -13,7 +13,7 @@ use Rattle.shared_index.specs.Operations.{applied}
 use Rattle.shared_index.specs.Passes.{Known, first_version}
 use Rattle.shared_index.specs.Drafts.{working_set}
 use Rattle.shared_index.specs.Keepings.{narrowed, versions_in}
-use Rattle.shared_index.specs.Tries.{PathHas}
+use Rattle.shared_index.specs.Tries.{PathHas, PathHasEach}
 use Rattle.trie_model.specs.Keys.{Entry}
 
 -- the version of a number that was seen
@@ -25,8 +25,9 @@ abbrev pub cells_kept : Known → List ℕ → ℕ
 cells_kept v versions = sum_by (λ n. cells (version_at v n)) versions
 
 -- At the refused request of a call that made a round and freed what nothing needed, so that the usage was this.
--- The call is for a key, and writes so many cells beside the twigs on the key's path.
-pub record FullCause (after : Ledger) (d : Draft) (key : List ℕ) (written : ℕ) (f : Full) : Type 0 where
+-- The call is for a key, and writes so many cells beside the twigs on the key's path. Where the branches there have so many twigs, it
+-- asks for these numbers of cells.
+pub record FullCause (after : Ledger) (d : Draft) (key : List ℕ) (written : ℕ) (asks : List ℕ → List ℕ) (f : Full) : Type 0 where
   -- no chunk but the reserve is free
   pub none_free : free_count d.usage ≤ reserve_of d.usage
   -- the bump chunk of that round, and the chunks that were allocated since: of 769 cells that were written one, at most
@@ -34,6 +35,9 @@ pub record FullCause (after : Ledger) (d : Draft) (key : List ℕ) (written : �
   pub opened_here : (k : ℕ) → Contains opened k → (is_open after.open_chunk k ≡ true) ⊎ ((is_given after k ≡ false) × (is_given d.usage k ≡ true))
   pub path : ℕ
   pub on_path : PathHas d.seat.place.me.0 d.usage d.root key path
+  pub branches : List ℕ
+  pub on_branches : PathHasEach d.seat.place.me.0 d.usage d.root key branches
+  pub needed : Contains (asks branches) f.needed
   pub few_opened : 769 * length opened ≤ 769 + (written + path)
   -- each other allocated chunk is the one to which a rollback returns, or has a cell of the working set or of a kept version
   pub others_met : (k : ℕ) → is_given d.usage k ≡ true
@@ -61,5 +65,5 @@ pub record Evacuated (old u : Ledger) (d : Draft) : Type 0 where
   pub moved : (IsUsedUp u × HasSparse u) ⊎ ((k : ℕ) → 0 < slice_index d.usage.live k → is_open u.open_chunk k ≡ false → 256 < slice_index d.usage.live k)
 
 -- The same, where the call's first try, a round and an evacuation left some usage to the last round.
-abbrev pub CausedFrom : Ledger → Draft → List ℕ → ℕ → Full → Type 0
-CausedFrom old d key written f = (u : Ledger) × Evacuated old u d × FullCause (after_room u f) d key written f
+abbrev pub CausedFrom : Ledger → Draft → List ℕ → ℕ → (List ℕ → List ℕ) → Full → Type 0
+CausedFrom old d key written asks f = (u : Ledger) × Evacuated old u d × FullCause (after_room u f) d key written asks f

@@ -1,10 +1,10 @@
 -- An operation tried: on the turn's cells, from a root.
-use Rattle.std.specs.Prelude.{◌≡◌, ◌↔◌, ℕ, ◌+◌, ◌≤◌, true, List, length, Option, Result, Err, IfOk, IfErr, slice_index}
+use Rattle.std.specs.Prelude.{◌≡◌, ◌↔◌, ℕ, ◌+◌, ◌≤◌, true, List, Contains, length, Option, Result, Err, IfOk, IfErr, slice_index}
 use Rattle.trie_model.specs.Keys.{Entry}
 use Rattle.chunk_usage.specs.declared.space.Full.{Full as NoRoom}
 use Rattle.chunk_usage.specs.Ledger.{Ledger, is_used, is_given, frozen_part}
 use Rattle.chunk_usage.specs.Handing.{Lacks, spent}
-use Rattle.trie_write.specs.Roots.{OnPath}
+use Rattle.trie_write.specs.Roots.{OnPath, OnBranches}
 use Rattle.shared_cells.specs.Views.{words_of}
 use Rattle.shared_cells.specs.Cells.{HasCell, with_words}
 use Rattle.shared_index.specs.declared.change.Change.{Change}
@@ -14,11 +14,15 @@ use Rattle.shared_index.specs.Operations.{operated}
 use Rattle.shared_index.specs.Passes.{Known}
 use Rattle.shared_index.specs.Turns.{cells_with}
 use Rattle.shared_index.specs.Bases.{StandsFor}
-use Rattle.shared_index.specs.Changes.{operation_of, key_of, written_by, IsRefused}
+use Rattle.shared_index.specs.Changes.{operation_of, key_of, written_by, asked_by, IsRefused}
 
 -- how many twigs there are on the path of a key
 abbrev pub PathHas : Known → Ledger → Option ℕ → List ℕ → ℕ → Type 0
 PathHas v u root key n = OnPath (HasCell (cells_with u v.turn)) (is_used u) (λ k. slice_index u.live k) root key n
+
+-- and how many each branch there has
+abbrev pub PathHasEach : Known → Ledger → Option ℕ → List ℕ → List ℕ → Type 0
+PathHasEach v u root key branches = OnBranches (HasCell (cells_with u v.turn)) (is_used u) (λ k. slice_index u.live k) root key branches
 
 -- The new root stands for what the operation makes of the version; where there is none, the root stands for what it did.
 pub record Tried (c : Change) (root : Option ℕ) (v : Known) (u : Ledger) (w : Known) (n : Ledger) (r : Result (Option ℕ) Unchanged) : Type 0 where
@@ -26,6 +30,7 @@ pub record Tried (c : Change) (root : Option ℕ) (v : Known) (u : Ledger) (w : 
   pub refused : (es : List Entry) → StandsFor v u root es → (r ≡ Err Refused) ↔ IsRefused c es
   pub stays : IfErr r (λ _. (es : List Entry) → StandsFor v u root es → StandsFor w n root es)
   pub full : (f : NoRoom) → r ≡ Err (Full f) → Lacks n f
+  pub asked : (f : NoRoom) → r ≡ Err (Full f) → (branches : List ℕ) → PathHasEach v u root (key_of c) branches → Contains (asked_by c branches) f.needed
   -- what the turn knows is the same but for the words, and so is what was frozen; allocated chunks stay so
   pub same : w ≡ with_words v (words_of w.turn)
   pub wide : length n.given ≡ length u.given
@@ -34,4 +39,5 @@ pub record Tried (c : Change) (root : Option ℕ) (v : Known) (u : Ledger) (w : 
   -- without a new root the counts are as before
   pub counts : IfErr r (λ _. (k : ℕ) → slice_index n.live k ≡ slice_index u.live k)
   pub path : IfErr r (λ _. (twigs : ℕ) → PathHas v u root (key_of c) twigs → PathHas w n root (key_of c) twigs)
+  pub branches : IfErr r (λ _. (branches : List ℕ) → PathHasEach v u root (key_of c) branches → PathHasEach w n root (key_of c) branches)
   pub spends : (twigs : ℕ) → PathHas v u root (key_of c) twigs → spent n ≤ spent u + (written_by c + twigs)

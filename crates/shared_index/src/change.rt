@@ -1,17 +1,18 @@
 //! A call of a transaction that changes its working set, as one: what the trie's crate says of its three calls.
 //!
 //! Nothing else in this crate names those calls.
-ghost use Rattle.std.specs.Prelude.{◌≡◌, ◌↔◌, ◌+◌, ◌≤◌, ℕ, List, IfOk, IfErr, Err};
+ghost use Rattle.std.specs.Prelude.{◌≡◌, ◌↔◌, ◌+◌, ◌≤◌, ℕ, List, Contains, IfOk, IfErr, Err};
 ghost use Rattle.trie_model.specs.Keys.{Entry, InList};
 ghost use Rattle.zone_model.specs.Keys.{Leads};
 ghost use Rattle.chunk_usage.specs.Handing.{Lacks, spent};
 ghost use Rattle.chunk_usage.specs.Rooms.{account_of};
-ghost use Rattle.trie_write.specs.Roots.{TwigsOnPath};
+ghost use Rattle.trie_write.specs.Paths.{insert_asks, replace_asks, delete_asks};
+ghost use Rattle.trie_write.specs.Roots.{TwigsOnPath, BranchesOnPath};
 ghost use Rattle.trie_write.specs.Spaces.{Ready, Fenced, Unchanged as Same};
 ghost use Rattle.trie_model.specs.Trees.{cells_in};
 ghost use Rattle.shared_index.specs.Operations.{operated, with_entry, without};
 ghost use Rattle.shared_index.specs.Bases.{IsRooted};
-ghost use Rattle.shared_index.specs.Changes.{operation_of, key_of, written_by, LeadsItem, IsRefused};
+ghost use Rattle.shared_index.specs.Changes.{operation_of, key_of, written_by, asked_by, LeadsItem, IsRefused};
 
 use chunk_cells::CellWrite;
 use chunk_usage::{Full, Usage};
@@ -52,6 +53,8 @@ pub(crate) fn change_trie<C: CellWrite>(
     ensures stays { IfErr result (λ _. (es : List Entry) → IsRooted (C.has cells.old) usage.old root es → IsRooted (C.has cells.new) usage.new root es) }
     ensures unchanged { IfErr result (λ _. Same C.has account_of cells.old usage.old cells.new usage.new) }
     ensures full { (f : _) → result ≡ Err (Unchanged.Full f) → Lacks usage.new f }
+    ensures asked { (f : _) → result ≡ Err (Unchanged.Full f) → (branches : List ℕ) → BranchesOnPath C.has account_of cells.old usage.old root (key_of change.now) branches
+        → Contains (asked_by change.now branches) f.needed }
     ensures spends { (n : ℕ) → TwigsOnPath C.has account_of cells.old usage.old root (key_of change.now) n
         → spent usage.new ≤ spent usage.old + (written_by change.now + n) }
     ensures frame { Fenced C.has C.kept C.given account_of cells.old usage.old cells.new usage.new }
@@ -81,6 +84,8 @@ fn insert<C: CellWrite>(
     ensures stays { IfErr result (λ _. (es : List Entry) → IsRooted (C.has cells.old) usage.old root es → IsRooted (C.has cells.new) usage.new root es) }
     ensures unchanged { IfErr result (λ _. Same C.has account_of cells.old usage.old cells.new usage.new) }
     ensures full { (f : _) → result ≡ Err (Unchanged.Full f) → Lacks usage.new f }
+    ensures asked { (f : _) → result ≡ Err (Unchanged.Full f) → (branches : List ℕ) → BranchesOnPath C.has account_of cells.old usage.old root key.now branches
+        → Contains (insert_asks item.now branches) f.needed }
     ensures spends { (n : ℕ) → TwigsOnPath C.has account_of cells.old usage.old root key.now n
         → spent usage.new ≤ spent usage.old + (3 + cells_in item.now + n) }
     ensures frame { Fenced C.has C.kept C.given account_of cells.old usage.old cells.new usage.new }
@@ -110,6 +115,8 @@ fn replace<C: CellWrite>(
     ensures stays { IfErr result (λ _. (es : List Entry) → IsRooted (C.has cells.old) usage.old root es → IsRooted (C.has cells.new) usage.new root es) }
     ensures unchanged { IfErr result (λ _. Same C.has account_of cells.old usage.old cells.new usage.new) }
     ensures full { (f : _) → result ≡ Err (Unchanged.Full f) → Lacks usage.new f }
+    ensures asked { (f : _) → result ≡ Err (Unchanged.Full f) → (branches : List ℕ) → BranchesOnPath C.has account_of cells.old usage.old root key.now branches
+        → Contains (replace_asks item.now branches) f.needed }
     ensures spends { (n : ℕ) → TwigsOnPath C.has account_of cells.old usage.old root key.now n
         → spent usage.new ≤ spent usage.old + (3 + cells_in item.now + n) }
     ensures frame { Fenced C.has C.kept C.given account_of cells.old usage.old cells.new usage.new }
@@ -137,6 +144,8 @@ fn delete<C: CellWrite>(
     ensures stays { IfErr result (λ _. (es : List Entry) → IsRooted (C.has cells.old) usage.old root es → IsRooted (C.has cells.new) usage.new root es) }
     ensures unchanged { IfErr result (λ _. Same C.has account_of cells.old usage.old cells.new usage.new) }
     ensures full { (f : _) → result ≡ Err (Unchanged.Full f) → Lacks usage.new f }
+    ensures asked { (f : _) → result ≡ Err (Unchanged.Full f) → (branches : List ℕ) → BranchesOnPath C.has account_of cells.old usage.old root key.now branches
+        → Contains (delete_asks branches) f.needed }
     ensures spends { (n : ℕ) → TwigsOnPath C.has account_of cells.old usage.old root key.now n
         → spent usage.new ≤ spent usage.old + (1 + n) }
     ensures frame { Fenced C.has C.kept C.given account_of cells.old usage.old cells.new usage.new }

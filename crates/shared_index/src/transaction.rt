@@ -71,7 +71,7 @@ pub type Write<'t, 'i, L, N> = Transaction<'t, 'i, L, N, Light>;
 pub type Update<'t, 'i, L, N> = Transaction<'t, 'i, L, N, Heavy>;
 
 impl<'i, L: Law, N: Named> Locked<'i, L, N> {
-    ghost use Rattle.shared_index.specs.Changes.{operation_of, key_of, written_by, LeadsItem, IsRefused};
+    ghost use Rattle.shared_index.specs.Changes.{operation_of, key_of, written_by, asked_by, LeadsItem, IsRefused};
     ghost use Rattle.trie_read.specs.Readings.{Fetched};
     ghost use Rattle.shared_index.specs.Drafts.{Works, Operates, IsFull, IsSame, Between, Commits, working_set};
     ghost use Rattle.shared_index.specs.Fulls.{CausedFrom};
@@ -139,7 +139,7 @@ impl<'i, L: Law, N: Named> Locked<'i, L, N> {
             self.old.draft self.new.draft }
         ensures full { (f : _) → result ≡ Err (Refusal.Full f) → IsSomeAnd self.new.draft (λ d. IsFull d f) }
         ensures cause { (f : _) → result ≡ Err (Refusal.Full f)
-            → Between (λ d e. CausedFrom d.usage e (key_of change.now) (written_by change.now) f) self.old.draft self.new.draft }
+            → Between (λ d e. CausedFrom d.usage e (key_of change.now) (written_by change.now) (asked_by change.now) f) self.old.draft self.new.draft }
     {
         let Some(draft) = self.draft.take() else {
             unreachable!()
@@ -359,6 +359,7 @@ impl<L: Law, N: Named, K> Transaction<'_, '_, L, N, K> {
     ghost use Rattle.trie_read.specs.Readings.{Fetched};
     ghost use Rattle.shared_index.specs.Fulls.{CausedFrom};
     ghost use Rattle.trie_model.specs.Trees.{cells_in};
+    ghost use Rattle.trie_write.specs.Paths.{insert_asks, replace_asks, delete_asks};
     ghost use Rattle.shared_index.specs.declared.meaning.Operation.TheVariants as operation;
 
     /// Reads the item of a key of the working set into the beginning of `out`, and gives its length; `None` where the key is not
@@ -383,7 +384,7 @@ impl<L: Law, N: Named, K> Transaction<'_, '_, L, N, K> {
             d e (IsOk result) (result ≡ Err InsertRefusal.Exists)) self.old.locked.now.draft self.new.locked.now.draft }
         ensures full { (f : _) → result ≡ Err (InsertRefusal.Full f) → IsSomeAnd self.new.locked.now.draft (λ d. IsFull d f) }
         ensures cause { (f : _) → result ≡ Err (InsertRefusal.Full f)
-            → Between (λ d e. CausedFrom d.usage e key.now (3 + cells_in item.now) f) self.old.locked.now.draft self.new.locked.now.draft }
+            → Between (λ d e. CausedFrom d.usage e key.now (3 + cells_in item.now) (insert_asks item.now) f) self.old.locked.now.draft self.new.locked.now.draft }
     {
         match self.locked.change(&Change::Insert(key, item)) {
             Ok(()) => Ok(()),
@@ -402,7 +403,7 @@ impl<L: Law, N: Named, K> Transaction<'_, '_, L, N, K> {
             d e (IsOk result) (result ≡ Err ChangeRefusal.NotFound)) self.old.locked.now.draft self.new.locked.now.draft }
         ensures full { (f : _) → result ≡ Err (ChangeRefusal.Full f) → IsSomeAnd self.new.locked.now.draft (λ d. IsFull d f) }
         ensures cause { (f : _) → result ≡ Err (ChangeRefusal.Full f)
-            → Between (λ d e. CausedFrom d.usage e key.now (3 + cells_in item.now) f) self.old.locked.now.draft self.new.locked.now.draft }
+            → Between (λ d e. CausedFrom d.usage e key.now (3 + cells_in item.now) (replace_asks item.now) f) self.old.locked.now.draft self.new.locked.now.draft }
     {
         match self.locked.change(&Change::Replace(key, item)) {
             Ok(()) => Ok(()),
@@ -420,7 +421,7 @@ impl<L: Law, N: Named, K> Transaction<'_, '_, L, N, K> {
             d e (IsOk result) (result ≡ Err ChangeRefusal.NotFound)) self.old.locked.now.draft self.new.locked.now.draft }
         ensures full { (f : _) → result ≡ Err (ChangeRefusal.Full f) → IsSomeAnd self.new.locked.now.draft (λ d. IsFull d f) }
         ensures cause { (f : _) → result ≡ Err (ChangeRefusal.Full f)
-            → Between (λ d e. CausedFrom d.usage e key.now 1 f) self.old.locked.now.draft self.new.locked.now.draft }
+            → Between (λ d e. CausedFrom d.usage e key.now 1 delete_asks f) self.old.locked.now.draft self.new.locked.now.draft }
     {
         match self.locked.change(&Change::Delete(key)) {
             Ok(()) => Ok(()),

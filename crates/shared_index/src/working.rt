@@ -5,7 +5,7 @@ ghost use Rattle.chunk_usage.specs.Keeping.{freed};
 ghost use Rattle.shared_cells.specs.Views.{kept_in};
 ghost use Rattle.shared_cells.specs.Steps.{IsNamed};
 ghost use Rattle.shared_index.specs.Meanings.{IsVersion};
-ghost use Rattle.shared_index.specs.Changes.{operation_of, key_of, written_by, LeadsItem, IsRefused};
+ghost use Rattle.shared_index.specs.Changes.{operation_of, key_of, written_by, asked_by, LeadsItem, IsRefused};
 ghost use Rattle.shared_index.specs.Keepings.{GoesOn, narrowed, versions_in};
 ghost use Rattle.shared_index.specs.Tries.{Tried};
 
@@ -132,7 +132,7 @@ impl Draft {
         ensures table { result.0.seat.place.table_id ≡ self.seat.place.table_id }
         ensures operates { Operates (operation_of change.now) (IsRefused change.now) self result.0 (IsOk result.1) (result.1 ≡ Err Refusal.Name) }
         ensures full { (f : _) → result.1 ≡ Err (Refusal.Full f) → IsFull result.0 f }
-        ensures cause { (f : _) → result.1 ≡ Err (Refusal.Full f) → FullCause (after_room self.usage f) result.0 (key_of change.now) (written_by change.now) f }
+        ensures cause { (f : _) → result.1 ≡ Err (Refusal.Full f) → FullCause (after_room self.usage f) result.0 (key_of change.now) (written_by change.now) (asked_by change.now) f }
         ensures counts { (f : _) → result.1 ≡ Err (Refusal.Full f) → (k : ℕ) → slice_index result.0.usage.live k ≡ slice_index self.usage.live k }
     {
         let draft = self.make_room(shared);
@@ -159,7 +159,7 @@ impl Draft {
         ensures table { result.0.seat.place.table_id ≡ self.seat.place.table_id }
         ensures operates { Operates (operation_of change.now) (IsRefused change.now) self result.0 (IsOk result.1) (result.1 ≡ Err Refusal.Name) }
         ensures full { (f : _) → result.1 ≡ Err (Refusal.Full f) → IsFull result.0 f }
-        ensures cause { (f : _) → result.1 ≡ Err (Refusal.Full f) → CausedFrom self.usage result.0 (key_of change.now) (written_by change.now) f }
+        ensures cause { (f : _) → result.1 ≡ Err (Refusal.Full f) → CausedFrom self.usage result.0 (key_of change.now) (written_by change.now) (asked_by change.now) f }
     {
         let draft = self.make_room(shared);
         let (draft, _done) = draft.evacuate(shared);
@@ -179,7 +179,7 @@ impl Draft {
         ensures table { result.0.seat.place.table_id ≡ self.seat.place.table_id }
         ensures operates { Operates (operation_of change.now) (IsRefused change.now) self result.0 (IsOk result.1) (result.1 ≡ Err Refusal.Name) }
         ensures full { (f : _) → result.1 ≡ Err (Refusal.Full f) → IsFull result.0 f }
-        ensures cause { (f : _) → result.1 ≡ Err (Refusal.Full f) → CausedFrom self.usage result.0 (key_of change.now) (written_by change.now) f }
+        ensures cause { (f : _) → result.1 ≡ Err (Refusal.Full f) → CausedFrom self.usage result.0 (key_of change.now) (written_by change.now) (asked_by change.now) f }
     {
         let (draft, outcome) = self.attempt(shared, change);
         match outcome {

@@ -1,5 +1,5 @@
 -- One branch on the way, whose twigs are copied.
-use Rattle.std.proofs.Common.{◌≡◌, ℕ, suc, ◌+◌, ◌/◌, ◌^◌, ◌<◌, ◌≤◌, ◌++◌, Bool, true, false, List, [], ◌∷◌, count_ones, arith, refl, sym, ◌∙◌, ap, subst}
+use Rattle.std.proofs.Common.{◌≡◌, ℕ, suc, ◌+◌, ◌/◌, ◌^◌, ◌<◌, ◌≤◌, ◌++◌, Bool, true, false, List, [], ◌∷◌, map, Contains, count_ones, arith, refl, sym, ◌∙◌, ap, subst}
 use Rattle.packed_node.specs.declared.Cell.{Cell}
 use Rattle.packed_node.specs.declared.Branch.{Branch}
 use Rattle.packed_node.specs.Nodes.{IsBranch, branch_cell}
@@ -19,6 +19,7 @@ use Rattle.trie_write.specs.Ways.{Fork, fork, plug, end_at, Along, twigs_of, twi
 use Rattle.trie_write.specs.Turns.{Through}
 use Rattle.trie_write.specs.Mutable.{Hangs, WayAsks, IsCopied}
 use Rattle.trie_write.specs.Weights.{at_place}
+use Rattle.trie_write.proofs.AskLaws.{first_of, later_of}
 use Rattle.trie_write.proofs.SpaceLaws.{apart_from}
 use Rattle.trie_write.proofs.TurnLaws.{whole, known, way_on, n_is}
 use Rattle.trie_write.proofs.TwigLaws.{beneath_met}
@@ -85,6 +86,16 @@ module _ {S A : Type 0} {has : S → ℕ → Cell → Type 0} {account : A → A
   -- how many twigs there are
   pub along_here : twigs_along way ≡ count_ones b.bitmap + twigs_along t.rest
   along_here = ap twigs_along t.is ∙ (let n = n_here in omega arith)
+
+  each_here : map twigs_of way ≡ count_ones b.bitmap ∷ map twigs_of t.rest
+  each_here = ap (map twigs_of) t.is ∙ ap (λ (n : ℕ). n ∷ map twigs_of t.rest) (sym n_here)
+
+  -- room for its twigs was asked for, or for those of a branch below
+  pub here_asked : (n : ℕ) → n ≡ count_ones b.bitmap → Contains (map twigs_of way) n
+  here_asked n e = subst (λ (ns : List ℕ). Contains ns n) (sym each_here) (first_of (count_ones b.bitmap) n (map twigs_of t.rest) (sym e))
+
+  pub below_asked : (n : ℕ) → Contains (map twigs_of t.rest) n → Contains (map twigs_of way) n
+  below_asked n h = subst (λ (ns : List ℕ). Contains ns n) (sym each_here) (later_of (count_ones b.bitmap) n (map twigs_of t.rest) h)
 
 -- what was asked, where nothing has changed
 pub same_asks : {S A : Type 0} {has : S → ℕ → Cell → Type 0} {account : A → Account} {s s1 : S} {a : A} {place low : ℕ} {key : List ℕ} {cell : Cell} {way : List Fork} {end : Tree} → s1 ≡ s → WayAsks has account s a place low key cell way end → WayAsks has account s1 a place low key cell way end

@@ -1,5 +1,5 @@
 -- A name put in below a root that stands, and the first name.
-use Rattle.std.proofs.Common.{◌≡◌, ℕ, suc, ◌+◌, ◌/◌, ◌≤◌, ◌++◌, Bool, true, List, [], ◌∷◌, append_assoc, Option, Some, length, arith, inl, inr, refl, sym, ◌∙◌, ap, subst}
+use Rattle.std.proofs.Common.{◌≡◌, ℕ, suc, ◌+◌, ◌/◌, ◌≤◌, ◌++◌, Bool, true, List, [], ◌∷◌, map, append_assoc, Option, Some, length, arith, inl, inr, refl, sym, ◌∙◌, ap, subst}
 use Rattle.packed_node.specs.declared.Cell.{Cell}
 use Rattle.packed_node.specs.declared.Leaf.{Leaf}
 use Rattle.packed_node.specs.Nodes.{leaf_cell}
@@ -21,13 +21,14 @@ use Rattle.shift_key.specs.declared.difference.Difference.{Difference}
 use Rattle.trie_write.specs.Mutable.{Rooted}
 use Rattle.trie_write.specs.Inserts.{IsLaid, WithAsks, IsWith, LacksKey}
 use Rattle.trie_write.specs.Nearness.{FirstDiffers, Differs}
-use Rattle.trie_write.specs.Paths.{twigs_on_path, to_copy}
+use Rattle.trie_write.specs.Paths.{twigs_on_path, branches_on_path, to_copy}
 use Rattle.trie_write.specs.Puts.{span, IsTaken, IsPut, no_spare}
-use Rattle.trie_write.specs.Roots.{TwigsOnPath, ToCopy, IsOutside, Unreached, Beyond}
+use Rattle.trie_write.specs.Roots.{TwigsOnPath, BranchesOnPath, ToCopy, IsOutside, Unreached, Beyond}
 use Rattle.trie_write.specs.Spaces.{Frame}
 use Rattle.trie_write.specs.Standing.{StandsIn, HasTrie}
-use Rattle.trie_write.specs.Ways.{Fork, plug, Along, twigs_along}
+use Rattle.trie_write.specs.Ways.{Fork, plug, Along, twigs_of, twigs_along}
 use Rattle.trie_write.specs.Weights.{at_place}
+use Rattle.trie_write.proofs.AskLaws.{on_way}
 use Rattle.trie_write.proofs.ChangeLaws.{stands_rooted, rooted_stands, entries_before, put_stands}
 use Rattle.trie_write.proofs.PathLaws.{path_plug}
 use Rattle.trie_write.proofs.PutLaws.{end_hangs}
@@ -83,6 +84,9 @@ module _ {S A : Type 0} {has : S → ℕ → Cell → Type 0} {account : A → A
 
   pub lacks_path : twigs_on_path key t ≡ twigs_along h.way + twigs_on_path key h.end
   lacks_path = let p = path_plug first.place 0 key h.way h.end (subst (IsTree 0) h.is h.stands.trie.shape) h.is_way.along in let q = ap (twigs_on_path key) h.is in omega arith
+
+  pub lacks_branches : branches_on_path key t ≡ map twigs_of h.way ++ branches_on_path key h.end
+  lacks_branches = on_way first.place key t h.way h.end h.stands.trie.shape h.is h.is_way.along
 
   pub inserted : {s1 s2 : S} {a2 : A} {c : Change} {item : List ℕ} {root : ℕ} (w : IsWith has s1 c first.place (record { key = key; item = item }) h.end) → IsPut has account s2 a2 first.place key h.way h.end w.new root →
       (next : List Entry) × Inserted (record { key = key; item = item }) version next × ((u : Tree) × StandsIn (has s2) (account a2).used (account a2).live root u next)
@@ -146,6 +150,9 @@ module _ {S A : Type 0} (has : S → ℕ → Cell → Type 0) (account : A → A
 
   pub missing_path : (n : ℕ) → TwigsOnPath has account s a root key n → (t : Tree) × (version : List Entry) × LacksKey has account s2 a r key first t version × (n ≡ twigs_on_path key t)
   missing_path n on = let o = subst (λ (o : Option ℕ). TwigsOnPath has account s a o key n) e on in (o.0, o.1, here_lacks o.0 o.1 o.2 o.3, o.4)
+
+  pub missing_branches : (branches : List ℕ) → BranchesOnPath has account s a root key branches → (t : Tree) × (version : List Entry) × LacksKey has account s2 a r key first t version × (branches ≡ branches_on_path key t)
+  missing_branches branches on = let o = subst (λ (o : Option ℕ). BranchesOnPath has account s a o key branches) e on in (o.0, o.1, here_lacks o.0 o.1 o.2 o.3, o.4)
 
   pub missing_copied : (n : ℕ) → ToCopy has account s a root key n → (t : Tree) × (version : List Entry) × LacksKey has account s2 a r key first t version × (n ≡ to_copy (account a).mutable key r t)
   missing_copied n on = let o = subst (λ (o : Option ℕ). ToCopy has account s a o key n) e on in (o.0, o.1, here_lacks o.0 o.1 o.2 o.3, o.4)

@@ -13,6 +13,7 @@ pub mod CopyLaws
 pub mod TurnLaws
 pub mod PutLaws
 pub mod PathLaws
+pub mod AskLaws
 pub mod ChangeLaws
 pub mod ReplaceLaws
 pub mod WithLaws

@@ -1,12 +1,12 @@
 -- How many twigs there are on a way, and how many of them are copied.
-use Rattle.std.proofs.Common.{◌≡◌, ℕ, suc, ◌+◌, ◌<◌, ◌≤◌, Bool, true, false, cond, eqb, ◌⊎◌, List, [], ◌∷◌, arith, inl, inr, refl, sym, ◌∙◌, ap, subst}
+use Rattle.std.proofs.Common.{◌≡◌, ℕ, suc, ◌+◌, ◌<◌, ◌≤◌, Bool, true, false, cond, eqb, ◌⊎◌, List, [], ◌∷◌, ◌++◌, map, arith, inl, inr, refl, sym, ◌∙◌, ap, ap₂, subst}
 use Rattle.std.proofs.lemmas.Bool.Decides.{nat_tests}
 use Rattle.trie_model.specs.Keys.{at}
 use Rattle.trie_model.specs.Trees.{Tree, Twigs, count, IsTree, beside}
 use Rattle.trie_model.specs.Trees.Tree.{leaf, branch}
 use Rattle.trie_model.specs.Trees.Twigs.{none, twig}
 use Rattle.trie_model.proofs.BitmapLaws.{Rising}
-use Rattle.trie_write.specs.Paths.{twigs_on_path, twigs_past, copied_below, copied_past, to_copy}
+use Rattle.trie_write.specs.Paths.{twigs_on_path, twigs_past, branches_on_path, branches_past, copied_below, copied_past, to_copy}
 use Rattle.trie_write.specs.Ways.{Fork, plug, twig_at, Along, twigs_of, twigs_along, copied_along}
 use Rattle.trie_write.proofs.WayLaws.{is_fork, fork_count}
 
@@ -39,6 +39,18 @@ path_plug place low key (f ∷ way) end h a =
     let n = fork_count f (plug way end) in
     let e = ap (λ (p : ℕ). twigs_past key p (beside f.left (twig f.position (plug way end) f.right))) (sym a.1) ∙ past_left key f.position 0 f.left (plug way end) f.right k.lower in
     let g = path_plug place (suc f.offset) key way end k.tree a.2 in omega arith
+
+-- the same of each branch by itself
+branches_left : (key : List ℕ) (p lo : ℕ) (left : Twigs) (here : Tree) (rest : Twigs) → Rising lo p left → branches_past key p (beside left (twig p here rest)) ≡ branches_on_path key here
+branches_left key p lo none here rest r = ap (λ c. cond c (branches_on_path key here) (branches_past key p rest)) (eqb_itself p)
+branches_left key p lo (twig q t more) here rest r = ap (λ c. cond c (branches_on_path key t) (branches_past key p (beside more (twig p here rest)))) (eqb_less q p r.1) ∙ branches_left key p (suc q) more here rest r.2
+
+pub branches_plug : (place low : ℕ) (key : List ℕ) (way : List Fork) (end : Tree) → IsTree low (plug way end) → Along place key way → branches_on_path key (plug way end) ≡ map twigs_of way ++ branches_on_path key end
+branches_plug place low key [] end h a = refl
+branches_plug place low key (f ∷ way) end h a =
+    let k = is_fork low f (plug way end) h in
+    let e = ap (λ (p : ℕ). branches_past key p (beside f.left (twig f.position (plug way end) f.right))) (sym a.1) ∙ branches_left key f.position 0 f.left (plug way end) f.right k.lower in
+    ap₂ (λ (n : ℕ) (ns : List ℕ). n ∷ ns) (fork_count f (plug way end)) (e ∙ branches_plug place (suc f.offset) key way end k.tree a.2)
 
 -- no more is copied than there is to copy on the path
 pub copied_plug : (mutable : ℕ → Bool) (place low n r : ℕ) (key : List ℕ) (way : List Fork) (end : Tree) → IsTree low (plug way end) → Along place key way → copied_along mutable n r way ≤ cond (mutable r) (copied_below mutable key (plug way end)) (n + twigs_on_path key (plug way end))

@@ -1,5 +1,6 @@
 -- A leaf taken out below a root that stands.
-use Rattle.std.proofs.Common.{◌≡◌, ℕ, suc, ◌+◌, ◌%◌, ◌≤◌, ◌++◌, List, [], ◌∷◌, append_assoc, count_ones, arith, inl, inr, refl, sym, ◌∙◌, ap, subst}
+use Rattle.std.proofs.Common.{◌≡◌, ℕ, suc, ◌+◌, ◌%◌, ◌≤◌, ◌++◌, List, [], ◌∷◌, map, Contains, append_assoc, count_ones, arith, inl, inr, refl, sym, ◌∙◌, ap, subst}
+use Rattle.std.proofs.lemmas.List.Elements.{Contains-append_left}
 use Rattle.packed_node.specs.declared.Cell.{Cell}
 use Rattle.trie_model.specs.Changes.{Removed}
 use Rattle.trie_model.specs.Keys.{Entry, InList}
@@ -17,14 +18,16 @@ use Rattle.trie_write.specs.declared.turn.Turn.{Turn}
 use Rattle.trie_write.specs.Asks.{HasKey}
 use Rattle.trie_write.specs.Deletions.{Deleted, LeafTurn, IsWithout, DropAsks}
 use Rattle.trie_write.specs.Mutable.{Rooted}
-use Rattle.trie_write.specs.Paths.{twigs_on_path}
+use Rattle.trie_write.specs.Paths.{twigs_on_path, branches_on_path}
 use Rattle.trie_write.specs.Puts.{span, IsPut, no_spare}
 use Rattle.trie_write.specs.Standing.{StandsIn}
 use Rattle.trie_write.specs.Turns.{IsLastTurn}
 use Rattle.trie_write.specs.Tops.{NotBefore}
-use Rattle.trie_write.specs.Ways.{Fork, fork, plug, Along, IsWay, twigs_along}
+use Rattle.trie_write.specs.Ways.{Fork, fork, plug, Along, IsWay, twigs_of, twigs_along}
 use Rattle.trie_write.proofs.ChangeLaws.{stands_rooted, entries_before, put_stands}
-use Rattle.trie_write.proofs.PathLaws.{path_plug}
+use Rattle.trie_write.proofs.AskLaws.{on_way}
+use Rattle.trie_write.proofs.CopyLaws.{here_asked}
+use Rattle.trie_write.proofs.PathLaws.{path_plug, branches_plug}
 use Rattle.trie_write.proofs.PutLaws.{plug-append, along_parts, end_hangs}
 use Rattle.trie_write.proofs.WayLaws.{Follows, low_at, is_fork, end_tree, low_rises, before, after, entries_plug}
 use Rattle.trie_write.proofs.WithoutLaws.{last_is, last_along}
@@ -39,7 +42,7 @@ along_before place low key (g ∷ way) f x h a =
     (omega arith, a.1, along_before place (suc g.offset) key way f x k.tree a.2)
 
 module _ {S A : Type 0} {has : S → ℕ → Cell → Type 0} {account : A → Account} {s : S} {a : A} {r : ℕ} {key : List ℕ} {turn : Turn} {t : Tree} {version : List Entry} (d : DropAsks has account s a r key turn t version) where
-  abbrev key_leaf : Tree
+  abbrev pub key_leaf : Tree
   key_leaf = leaf d.there.entry d.there.first
 
   pub parts_is : t ≡ plug d.last.upper (plug d.last.lower key_leaf)
@@ -78,6 +81,15 @@ module _ {S A : Type 0} {has : S → ℕ → Cell → Type 0} {account : A → A
       let l = path_plug 65535 0 key d.last.lower key_leaf lower_tree parts_along.1 in
       let n = last_along leaf_turn in
       let p = ap (twigs_on_path key) parts_is in omega arith
+
+  pub parts_branches : branches_on_path key t ≡ map twigs_of d.last.upper ++ branches_on_path key (plug d.last.lower key_leaf)
+  parts_branches = on_way 65535 key t d.last.upper (plug d.last.lower key_leaf) d.there.stands.trie.shape parts_is parts_along.0
+
+  -- the leaf's branch is among the lower ones
+  pub last_branch : Contains (branches_on_path key (plug d.last.lower key_leaf)) (count_ones turn.branch.bitmap)
+  last_branch =
+      subst (λ (ns : List ℕ). Contains ns (count_ones turn.branch.bitmap)) (sym (branches_plug 65535 0 key d.last.lower key_leaf lower_tree parts_along.1))
+      (Contains-append_left (map twigs_of d.last.lower) (branches_on_path key key_leaf) (count_ones turn.branch.bitmap) (here_asked leaf_turn.asks leaf_turn.turn.through (count_ones turn.branch.bitmap) refl))
 
   pub removed : {s1 s2 : S} {a2 : A} {c : Change} {root : ℕ} (w : IsWithout has s1 c d.there.entry (plug d.last.lower key_leaf)) → IsPut has account s2 a2 turn.branch.offset key d.last.upper (plug d.last.lower key_leaf) w.new root →
       (next : List Entry) × Deleted key version next × ((u : Tree) × StandsIn (has s2) (account a2).used (account a2).live root u next)

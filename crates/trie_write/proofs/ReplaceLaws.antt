@@ -1,5 +1,5 @@
 -- The way to a key's leaf, and the leaf exchanged.
-use Rattle.std.proofs.Common.{◌≡◌, ℕ, ◌+◌, ◌/◌, ◌%◌, ◌<◌, ◌≤◌, Bool, true, List, Option, Some, length, arith, inl, inr, refl, sym, ◌∙◌, ap, subst}
+use Rattle.std.proofs.Common.{◌≡◌, ℕ, ◌+◌, ◌/◌, ◌%◌, ◌<◌, ◌≤◌, ◌++◌, Bool, true, List, map, Option, Some, length, arith, inl, inr, refl, sym, ◌∙◌, ap, subst}
 use Rattle.packed_node.specs.declared.Cell.{Cell}
 use Rattle.packed_node.specs.declared.Leaf.{Leaf}
 use Rattle.packed_node.specs.Nodes.{IsLeaf, leaf_cell}
@@ -20,13 +20,14 @@ use Rattle.trie_write.specs.Spaces.{Fenced, Refused}
 use Rattle.zone_model.specs.Keys.{Leads}
 use Rattle.trie_model.specs.Memory.{Stands}
 use Rattle.trie_read.specs.Reads.{IsTop, EachTells}
-use Rattle.trie_write.specs.Paths.{twigs_on_path, to_copy}
-use Rattle.trie_write.specs.Roots.{TwigsOnPath, ToCopy, IsOutside, Unreached, Beyond}
+use Rattle.trie_write.specs.Paths.{twigs_on_path, branches_on_path, to_copy}
+use Rattle.trie_write.specs.Roots.{TwigsOnPath, BranchesOnPath, ToCopy, IsOutside, Unreached, Beyond}
 use Rattle.trie_write.proofs.RootLaws.{standing_later}
 use Rattle.trie_write.specs.Standing.{StandsIn, HasTrie}
 use Rattle.trie_model.specs.Order.{IsThere}
-use Rattle.trie_write.specs.Ways.{Fork, plug, IsWay}
+use Rattle.trie_write.specs.Ways.{Fork, plug, IsWay, twigs_of}
 use Rattle.trie_write.specs.Weights.{at_place}
+use Rattle.trie_write.proofs.AskLaws.{on_way}
 use Rattle.trie_write.proofs.ChangeLaws.{entries_before, put_stands}
 use Rattle.trie_write.proofs.WayLaws.{low_at, end_tree, before, after, entries_plug, way_to}
 use Rattle.trie_write.proofs.WeightLaws.{handed_fresh}
@@ -73,6 +74,9 @@ module _ {S A : Type 0} {has : S → ℕ → Cell → Type 0} {account : A → A
   pub leaf_tree : IsTree 0 (leaf h.entry h.first)
   leaf_tree = higher (low_at 0 h.way) 0 (leaf h.entry h.first) (end_tree 0 h.way (leaf h.entry h.first) (subst (IsTree 0) h.is h.stands.trie.shape)) (omega arith)
 
+  pub key_branches : branches_on_path key t ≡ map twigs_of h.way ++ branches_on_path key (leaf h.entry h.first)
+  key_branches = on_way 65535 key t h.way (leaf h.entry h.first) h.stands.trie.shape h.is h.is_way.along
+
   pub other_makes : {s1 : S} {l : Leaf} {c : Change} (item : List ℕ) → l.len ≡ length item → IsRow l.at (cells_in item) → ItemLies (has s1) l.at item → c.cell ≡ leaf_cell l → c.new_twigs ≡ record { at = 0; n = 0 } → c.new_item ≡ record { at = l.at; n = cells_in item } →
       c.old_twigs ≡ record { at = 0; n = 0 } → c.old_item ≡ record { at = h.first; n = cells_in h.entry.item } → Makes has s1 c (leaf h.entry h.first) (leaf (record { key = key; item = item }) c.new_item.at)
   other_makes {s1} {l} {c} item n lies_row lies cell new_twigs new_item old_twigs old_item = subst (λ (x : ℕ). Makes has s1 c (leaf h.entry h.first) (leaf (record { key = key; item = item }) x)) (ap (λ (x : Span). x.at) (sym new_item)) (record {
@@ -116,6 +120,11 @@ module _ {S A : Type 0} {has : S → ℕ → Cell → Type 0} {account : A → A
 
   pub on_path : (n : ℕ) → TwigsOnPath has account s a root key n → ((version : List Entry) → Stands (has s) root version → EachTells Leads version → IsThere key version) → (t : Tree) × (version : List Entry) × HasKey has account s1 a r key t version × (n ≡ twigs_on_path key t)
   on_path n on there = let o = subst (λ (o : Option ℕ). TwigsOnPath has account s a o key n) e on in
+      let k = there o.1 (subst (λ (x : Option ℕ). Stands (has s) x o.1) (sym e) (o.0, o.2.trie)) o.3 in
+      (o.0, o.1, subst (λ s. HasKey has account s a r key o.0 o.1) (sym same) (key_of_entry o.2 k), o.4)
+
+  pub on_branches : (branches : List ℕ) → BranchesOnPath has account s a root key branches → ((version : List Entry) → Stands (has s) root version → EachTells Leads version → IsThere key version) → (t : Tree) × (version : List Entry) × HasKey has account s1 a r key t version × (branches ≡ branches_on_path key t)
+  on_branches branches on there = let o = subst (λ (o : Option ℕ). BranchesOnPath has account s a o key branches) e on in
       let k = there o.1 (subst (λ (x : Option ℕ). Stands (has s) x o.1) (sym e) (o.0, o.2.trie)) o.3 in
       (o.0, o.1, subst (λ s. HasKey has account s a r key o.0 o.1) (sym same) (key_of_entry o.2 k), o.4)
 

@@ -1,5 +1,6 @@
 -- Calls one after the other, and cells that are handed out.
 use Rattle.std.proofs.Common.{◌≡◌, ℕ, zero, suc, ◌+◌, ◌/◌, ◌<◌, ◌≤◌, Bool, true, false, List, [], ◌∷◌, Contains, Option, Some, None, Result, Ok, Err, IfOk, IfErr, slice_get, slice_set, arith, refl, sym, ◌∙◌, ap, subst, inl, inr}
+use Rattle.std.specs.Prelude.{IsErrAnd}
 use Rattle.std.proofs.lemmas.Bool.{true≢false, cases_eq}
 use Rattle.packed_node.specs.declared.Cell.{Cell}
 use Rattle.trie_model.specs.Reach.{row, in_chunk}
@@ -245,3 +246,8 @@ err_map (Err e) f h = f e h
 pub err_all : {A E : Type 0} (r : Result A E) {P : E → Type 0} → ((e : E) → P e) → IfErr r P
 err_all (Ok x) h = tt
 err_all (Err e) h = h e
+
+-- the error that `?` hands on
+pub err_on : {A E : Type 0} {e : E} (P : E → Type 0) (r : Result A E) → IsErrAnd r (λ y. y ≡ e) → P e → IfErr r P
+err_on P (Ok x) is h = tt
+err_on P (Err y) is h = subst P (sym is) h

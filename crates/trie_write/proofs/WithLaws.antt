@@ -1,5 +1,5 @@
 -- A leaf more, among the twigs of a branch or beside a node.
-use Rattle.std.proofs.Common.{◌≡◌, ℕ, suc, ◌+◌, ◌-◌, ◌/◌, ◌%◌, ◌^◌, ◌<◌, ◌≤◌, Bool, true, List, count_ones, arith, inl, inr, sym, ◌∙◌, ap, subst}
+use Rattle.std.proofs.Common.{◌≡◌, ℕ, suc, ◌+◌, ◌-◌, ◌/◌, ◌%◌, ◌^◌, ◌<◌, ◌≤◌, Bool, true, List, ◌∷◌, map, Contains, count_ones, arith, inl, inr, sym, ◌∙◌, ap, subst}
 use Rattle.std.specs.Int.{bit_at}
 use Rattle.std.proofs.lemmas.Bool.{cases_lt}
 use Rattle.packed_node.specs.declared.Cell.{Cell}
@@ -25,10 +25,11 @@ use Rattle.trie_write.specs.declared.change.Change.{Change}
 use Rattle.trie_write.specs.declared.change.Span.{Span}
 use Rattle.shift_key.specs.declared.difference.Difference.{Difference}
 use Rattle.trie_write.specs.Inserts.{WithAsks, IsWith}
-use Rattle.trie_write.specs.Paths.{twigs_on_path}
+use Rattle.trie_write.specs.Paths.{twigs_on_path, branches_on_path, branches_past}
 use Rattle.trie_write.specs.Puts.{span, Makes}
 use Rattle.trie_write.specs.Spaces.{Frame}
 use Rattle.trie_write.specs.Tops.{IsBranchTop}
+use Rattle.trie_write.proofs.AskLaws.{first_of, later_of, made_of}
 use Rattle.trie_write.proofs.ReplaceLaws.{laid_leaf, laid_top}
 
 pub span_is : {y : Span} {at n : ℕ} → y.at ≡ at → y.n ≡ n → y ≡ record { at = at; n = n }
@@ -145,6 +146,14 @@ module _ {S A : Type 0} {has : S → ℕ → Cell → Type 0} {account : A → A
 
     pub among_path : count_ones b.bitmap ≤ twigs_on_path key end
     among_path = let n = among_n in let e = ap (twigs_on_path key) is_branch in omega arith
+
+    among_branches : Contains (branches_on_path key end) (count_ones b.bitmap)
+    among_branches = subst (λ (z : Tree). Contains (branches_on_path key z) (count_ones b.bitmap)) (sym is_branch) (first_of (count t.below) (count_ones b.bitmap) (branches_past key (at key first.place) t.below) (sym among_n))
+
+    -- one cell more was asked for than it has twigs
+    pub among_asked : (n : ℕ) → n ≡ count_ones b.bitmap + 1 → Contains (2 ∷ map suc (branches_on_path key end)) n
+    among_asked n e = later_of 2 n (map suc (branches_on_path key end)) (let m : suc (count_ones b.bitmap) ≡ n = omega arith in
+        subst (λ (k : ℕ). Contains (map suc (branches_on_path key end)) k) m (made_of suc (count_ones b.bitmap) (branches_on_path key end) among_branches))
 
     pub among_index : count_ones (b.bitmap % 2 ^ at key first.place) ≡ count missing.left
     among_index = ap (λ (z : ℕ). count_ones (z % 2 ^ at key first.place)) t.bits ∙ missing.index

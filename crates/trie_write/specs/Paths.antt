@@ -1,7 +1,7 @@
 -- What lies on the path of a key.
-use Rattle.std.specs.Prelude.{ℕ, suc, ◌+◌, ◌==◌, Bool, List, if◌then◌else◌}
+use Rattle.std.specs.Prelude.{ℕ, suc, ◌+◌, ◌-◌, ◌==◌, Bool, List, [], ◌∷◌, ◌++◌, map, if◌then◌else◌}
 use Rattle.trie_model.specs.Keys.{at}
-use Rattle.trie_model.specs.Trees.{Tree, Twigs, count}
+use Rattle.trie_model.specs.Trees.{Tree, Twigs, count, cells_in}
 use Rattle.trie_model.specs.Trees.Tree.{leaf, branch}
 use Rattle.trie_model.specs.Trees.Twigs.{none, twig}
 
@@ -31,3 +31,28 @@ abbrev mutual
 -- with the root
 abbrev pub to_copy : (ℕ → Bool) → List ℕ → ℕ → Tree → ℕ
 to_copy mutable key r t = if mutable r then copied_below mutable key t else 1 + twigs_on_path key t
+
+-- how many twigs each branch on the path of a key has
+abbrev mutual
+  pub branches_on_path : List ℕ → Tree → List ℕ
+  branches_on_path key (leaf e where_at) = []
+  branches_on_path key (branch o where_at below) = count below ∷ branches_past key (at key o) below
+
+  -- each of those past a branch, at the twig of a position
+  pub branches_past : List ℕ → ℕ → Twigs → List ℕ
+  branches_past key position none = []
+  branches_past key position (twig p t rest) = if p == position then branches_on_path key t else branches_past key position rest
+
+-- How many cells side by side a call may ask for, where the branches on its key's path have so many twigs.
+
+-- to put an item in: its cells, two for a new branch, one for a root, those of a branch, or one more
+abbrev pub insert_asks : List ℕ → List ℕ → List ℕ
+insert_asks item branches = cells_in item ∷ 2 ∷ 1 ∷ (branches ++ map suc branches)
+
+-- to exchange one: its cells, one for a root, or those of a branch
+abbrev pub replace_asks : List ℕ → List ℕ → List ℕ
+replace_asks item branches = cells_in item ∷ 1 ∷ branches
+
+-- to take one out: one for a root, those of a branch, or one fewer
+abbrev pub delete_asks : List ℕ → List ℕ
+delete_asks branches = 1 ∷ (branches ++ map (λ (n : ℕ). n - 1) branches)

@@ -1,5 +1,5 @@
 -- What a root that stands tells of a key's path.
-use Rattle.std.specs.Prelude.{◌≡◌, ℕ, ◌+◌, Bool, true, List, Option, Some, None}
+use Rattle.std.specs.Prelude.{◌≡◌, ℕ, ◌+◌, Bool, true, List, [], Option, Some, None}
 use Rattle.packed_node.specs.declared.Cell.{Cell}
 use Rattle.trie_model.specs.Keys.{Entry}
 use Rattle.trie_model.specs.Reach.{weigh_tree}
@@ -7,7 +7,7 @@ use Rattle.trie_model.specs.Trees.{Tree}
 use Rattle.zone_model.specs.Keys.{Leads}
 use Rattle.trie_read.specs.Reads.{EachTells}
 use Rattle.chunk_usage.specs.Rooms.{Account}
-use Rattle.trie_write.specs.Paths.{twigs_on_path, to_copy}
+use Rattle.trie_write.specs.Paths.{twigs_on_path, branches_on_path, to_copy}
 use Rattle.trie_write.specs.Standing.{StandsIn}
 use Rattle.trie_write.specs.Weights.{at_place}
 
@@ -24,10 +24,18 @@ abbrev pub OnPath : (ℕ → Cell → Type 0) → (ℕ → Bool) → (ℕ → �
 OnPath has used live None key n = n ≡ 0
 OnPath has used live (Some r) key n = (t : Tree) × (version : List Entry) × StandsIn has used live r t version × EachTells Leads version × (n ≡ twigs_on_path key t)
 
+-- and how many each branch there has
+abbrev pub OnBranches : (ℕ → Cell → Type 0) → (ℕ → Bool) → (ℕ → ℕ) → Option ℕ → List ℕ → List ℕ → Type 0
+OnBranches has used live None key branches = branches ≡ []
+OnBranches has used live (Some r) key branches = (t : Tree) × (version : List Entry) × StandsIn has used live r t version × EachTells Leads version × (branches ≡ branches_on_path key t)
+
 -- the same of a root in some cells and a space; how many cells there are to copy before the end of the key's path may be written; and
 -- that a root that stands doesn't reach a cell
 abbrev pub TwigsOnPath : {S A : Type 0} → (S → ℕ → Cell → Type 0) → (A → Account) → S → A → Option ℕ → List ℕ → ℕ → Type 0
 TwigsOnPath has account s a root key n = OnPath (has s) (account a).used (account a).live root key n
+
+abbrev pub BranchesOnPath : {S A : Type 0} → (S → ℕ → Cell → Type 0) → (A → Account) → S → A → Option ℕ → List ℕ → List ℕ → Type 0
+BranchesOnPath has account s a root key branches = OnBranches (has s) (account a).used (account a).live root key branches
 
 abbrev pub ToCopy : {S A : Type 0} → (S → ℕ → Cell → Type 0) → (A → Account) → S → A → Option ℕ → List ℕ → ℕ → Type 0
 ToCopy has account s a None key n = n ≡ 0

@@ -1,6 +1,6 @@
 //! A change at a place of the trie: the way there is made mutable, and one cell is put.
 
-ghost use Rattle.std.specs.Prelude.{◌≡◌, ◌+◌, ◌/◌, ◌%◌, ◌≤◌, ℕ, true, List, IfOk, IfErr};
+ghost use Rattle.std.specs.Prelude.{◌≡◌, ◌+◌, ◌/◌, ◌%◌, ◌≤◌, ℕ, true, List, ◌∷◌, map, Contains, IfOk, IfErr};
 ghost use Rattle.packed_node.specs.declared.Cell.{Cell};
 ghost use Rattle.trie_model.specs.Reach.{in_chunk};
 ghost use Rattle.trie_model.specs.Keys.{Entry};
@@ -10,7 +10,7 @@ ghost use Rattle.trie_model.specs.Trees.Tree.{leaf};
 ghost use Rattle.trie_write.specs.Puts.{span, taken, PutAsks, PutAsked, IsPut, GivenBack};
 ghost use Rattle.trie_write.specs.Roots.{IsOutside};
 ghost use Rattle.trie_write.specs.Spaces.{Ready, Fenced};
-ghost use Rattle.trie_write.specs.Ways.{Fork, plug, copied_along};
+ghost use Rattle.trie_write.specs.Ways.{Fork, plug, twigs_of, copied_along};
 
 use super::mutable::make_mutable;
 use super::top::top_of;
@@ -75,6 +75,8 @@ pub fn put_change<C: CellWrite, U: Space>(
     ensures spends { (way : List Fork) (end u : Tree) → PutAsks C.has U.account cells.old usage.old place key.now root change way end u
         → (U.account usage.new).spent ≤ (U.account usage.old).spent + copied_along (U.account usage.old).mutable 1 root way }
     ensures refused { IfErr result (λ f. GivenBack C.has U.account U.lacks cells.old usage.old cells.new usage.new (taken change) f) }
+    ensures asked { IfErr result (λ f. (way : List Fork) (end u : Tree) → PutAsks C.has U.account cells.old usage.old place key.now root change way end u
+        → Contains (1 ∷ map twigs_of way) f.needed) }
     ensures frame { Fenced C.has C.kept C.given U.account cells.old usage.old cells.new usage.new }
     ensures ready { Ready C.kept C.given U.account cells.new usage.new }
 {

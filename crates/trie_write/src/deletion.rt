@@ -1,6 +1,6 @@
 //! A name taken out.
 
-ghost use Rattle.std.specs.Prelude.{◌≡◌, ◌+◌, ◌≤◌, ℕ, List, true, IfOk, IfErr, Err, Some, ◌↔◌};
+ghost use Rattle.std.specs.Prelude.{◌≡◌, ◌+◌, ◌≤◌, ℕ, List, Contains, true, IfOk, IfErr, Err, Some, ◌↔◌};
 ghost use Rattle.packed_node.specs.declared.Cell.{Cell};
 ghost use Rattle.zone_model.specs.Keys.{Leads};
 ghost use Rattle.trie_model.specs.Keys.{Entry, InList};
@@ -8,8 +8,8 @@ ghost use Rattle.trie_model.specs.Trees.{Tree};
 ghost use Rattle.trie_read.specs.Reads.{EachTells};
 ghost use Rattle.trie_write.specs.Asks.{HasKey, KeyIsThere};
 ghost use Rattle.trie_write.specs.Deletions.{Deleted, DropAsks, DropAsked};
-ghost use Rattle.trie_write.specs.Paths.{twigs_on_path, to_copy};
-ghost use Rattle.trie_write.specs.Roots.{TwigsOnPath, ToCopy, IsOutside, Beyond};
+ghost use Rattle.trie_write.specs.Paths.{twigs_on_path, branches_on_path, delete_asks, to_copy};
+ghost use Rattle.trie_write.specs.Roots.{TwigsOnPath, BranchesOnPath, ToCopy, IsOutside, Beyond};
 ghost use Rattle.trie_write.specs.Spaces.{Ready, Fenced, Unchanged, Refused};
 ghost use Rattle.trie_write.specs.Standing.{HasTrie};
 
@@ -42,6 +42,8 @@ fn drop_leaf<C: CellWrite, U: Space>(
     ensures copies { (t : Tree) (version : List Entry) → DropAsks C.has U.account cells.old usage.old root key.now turn t version
         → (U.account usage.new).spent ≤ (U.account usage.old).spent + (46 + to_copy (U.account usage.old).mutable key.now root t) }
     ensures refused { IfErr result (λ f. Refused C.has U.account U.lacks cells.old usage.old cells.new usage.new f) }
+    ensures asked { IfErr result (λ f. (t : Tree) (version : List Entry) → DropAsks C.has U.account cells.old usage.old root key.now turn t version
+        → Contains (delete_asks (branches_on_path key.now t)) f.needed) }
     ensures frame { Fenced C.has C.kept C.given U.account cells.old usage.old cells.new usage.new }
     ensures ready { Ready C.kept C.given U.account cells.new usage.new }
 {
@@ -67,6 +69,8 @@ fn delete_item<C: CellWrite, U: Space>(
     ensures copies { (t : Tree) (version : List Entry) → HasKey C.has U.account cells.old usage.old root key.now t version
         → (U.account usage.new).spent ≤ (U.account usage.old).spent + (46 + to_copy (U.account usage.old).mutable key.now root t) }
     ensures refused { IfErr result (λ f. Refused C.has U.account U.lacks cells.old usage.old cells.new usage.new f) }
+    ensures asked { IfErr result (λ f. (t : Tree) (version : List Entry) → HasKey C.has U.account cells.old usage.old root key.now t version
+        → Contains (delete_asks (branches_on_path key.now t)) f.needed) }
     ensures frame { Fenced C.has C.kept C.given U.account cells.old usage.old cells.new usage.new }
     ensures ready { Ready C.kept C.given U.account cells.new usage.new }
 {
@@ -100,6 +104,8 @@ pub fn delete<C: CellWrite, U: Space>(
     ensures unchanged { IfErr result (λ _. Unchanged C.has U.account cells.old usage.old cells.new usage.new) }
     ensures outside { (q : ℕ) (c : Cell) → Beyond C.has U.account cells.old usage.old root q → C.has cells.old q c → C.has cells.new q c }
     ensures full { (f : _) → result ≡ Err (ChangeRefusal.Full f) → U.lacks usage.new f }
+    ensures asked { (f : _) → result ≡ Err (ChangeRefusal.Full f) → (branches : List ℕ) → BranchesOnPath C.has U.account cells.old usage.old root key.now branches
+        → Contains (delete_asks branches) f.needed }
     ensures spends { (n : ℕ) → TwigsOnPath C.has U.account cells.old usage.old root key.now n → (U.account usage.new).spent ≤ (U.account usage.old).spent + (1 + n) }
     ensures copies { (n : ℕ) → ToCopy C.has U.account cells.old usage.old root key.now n → (U.account usage.new).spent ≤ (U.account usage.old).spent + (46 + n) }
     ensures frame { Fenced C.has C.kept C.given U.account cells.old usage.old cells.new usage.new }

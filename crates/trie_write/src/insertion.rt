@@ -1,6 +1,6 @@
 //! A name put in.
 
-ghost use Rattle.std.specs.Prelude.{◌≡◌, ◌+◌, ◌/◌, ◌<◌, ◌≤◌, ◌∷◌, [], ℕ, List, true, IfOk, IfErr, Err, Some, ◌↔◌, length};
+ghost use Rattle.std.specs.Prelude.{◌≡◌, ◌+◌, ◌/◌, ◌<◌, ◌≤◌, ◌∷◌, [], ℕ, suc, List, map, Contains, true, IfOk, IfErr, Err, Some, ◌↔◌, length};
 ghost use Rattle.packed_node.specs.declared.Cell.{Cell};
 ghost use Rattle.zone_model.specs.Keys.{Leads};
 ghost use Rattle.trie_model.specs.Keys.{Entry, IsEntry, InList};
@@ -8,9 +8,9 @@ ghost use Rattle.trie_model.specs.Trees.{Tree, cells_in};
 ghost use Rattle.trie_model.specs.Changes.{Inserted};
 ghost use Rattle.trie_read.specs.Reads.{EachTells};
 ghost use Rattle.trie_write.specs.Inserts.{LacksKey, KeyIsMissing, IsWith};
-ghost use Rattle.trie_write.specs.Paths.{twigs_on_path, to_copy};
+ghost use Rattle.trie_write.specs.Paths.{twigs_on_path, branches_on_path, insert_asks, to_copy};
 ghost use Rattle.trie_write.specs.Puts.{IsTaken};
-ghost use Rattle.trie_write.specs.Roots.{TwigsOnPath, ToCopy, IsOutside, Beyond};
+ghost use Rattle.trie_write.specs.Roots.{TwigsOnPath, BranchesOnPath, ToCopy, IsOutside, Beyond};
 ghost use Rattle.trie_write.specs.Spaces.{Ready, Frame, Fenced, Unchanged, Refused};
 ghost use Rattle.trie_write.specs.Standing.{HasTrie};
 
@@ -38,6 +38,7 @@ fn insert_first<C: CellWrite, U: Space>(
     ensures stands { IfOk result (λ root. (e : Entry) → IsEntry e → e.item ≡ item.now → HasTrie C.has U.account cells.new usage.new (Some root) (e ∷ [])) }
     ensures spends { (U.account usage.new).spent ≤ (U.account usage.old).spent + (cells_in item.now + 1) }
     ensures refused { IfErr result (λ f. Refused C.has U.account U.lacks cells.old usage.old cells.new usage.new f) }
+    ensures asked { IfErr result (λ f. Contains (cells_in item.now ∷ 1 ∷ []) f.needed) }
     ensures frame { Frame C.has C.kept C.given U.account cells.old usage.old cells.new usage.new }
     ensures ready { Ready C.kept C.given U.account cells.new usage.new }
 {
@@ -73,6 +74,8 @@ fn new_leaf<C: CellWrite, U: Space>(
         → (U.account usage.new).spent ≤ (U.account usage.old).spent + (cells_in item.now + (2 + twigs_on_path key.now h.end)) }
     ensures copies { (U.account usage.new).spent ≤ (U.account usage.old).spent + (cells_in item.now + 47) }
     ensures refused { IfErr result (λ f. Refused C.has U.account U.lacks cells.old usage.old cells.new usage.new f) }
+    ensures asked { IfErr result (λ f. (t : Tree) (version : List Entry) (h : LacksKey C.has U.account cells.old usage.old root key.now first t version)
+        → Contains (cells_in item.now ∷ 2 ∷ map suc (branches_on_path key.now h.end)) f.needed) }
     ensures frame { Frame C.has C.kept C.given U.account cells.old usage.old cells.new usage.new }
     ensures ready { Ready C.kept C.given U.account cells.new usage.new }
 {
@@ -109,6 +112,8 @@ fn insert_further<C: CellWrite, U: Space>(
     ensures copies { (t : Tree) (version : List Entry) → LacksKey C.has U.account cells.old usage.old root key.now first t version
         → (U.account usage.new).spent ≤ (U.account usage.old).spent + (47 + cells_in item.now + to_copy (U.account usage.old).mutable key.now root t) }
     ensures refused { IfErr result (λ f. Refused C.has U.account U.lacks cells.old usage.old cells.new usage.new f) }
+    ensures asked { IfErr result (λ f. (t : Tree) (version : List Entry) → LacksKey C.has U.account cells.old usage.old root key.now first t version
+        → Contains (insert_asks item.now (branches_on_path key.now t)) f.needed) }
     ensures frame { Fenced C.has C.kept C.given U.account cells.old usage.old cells.new usage.new }
     ensures ready { Ready C.kept C.given U.account cells.new usage.new }
 {
@@ -145,6 +150,8 @@ pub fn insert<C: CellWrite, U: Space>(
     ensures unchanged { IfErr result (λ _. Unchanged C.has U.account cells.old usage.old cells.new usage.new) }
     ensures outside { (q : ℕ) (c : Cell) → Beyond C.has U.account cells.old usage.old root q → C.has cells.old q c → C.has cells.new q c }
     ensures full { (f : _) → result ≡ Err (InsertRefusal.Full f) → U.lacks usage.new f }
+    ensures asked { (f : _) → result ≡ Err (InsertRefusal.Full f) → (branches : List ℕ) → BranchesOnPath C.has U.account cells.old usage.old root key.now branches
+        → Contains (insert_asks item.now branches) f.needed }
     ensures spends { (n : ℕ) → TwigsOnPath C.has U.account cells.old usage.old root key.now n → (U.account usage.new).spent ≤ (U.account usage.old).spent + (3 + cells_in item.now + n) }
     ensures copies { (n : ℕ) → ToCopy C.has U.account cells.old usage.old root key.now n → (U.account usage.new).spent ≤ (U.account usage.old).spent + (47 + cells_in item.now + n) }
     ensures frame { Fenced C.has C.kept C.given U.account cells.old usage.old cells.new usage.new }

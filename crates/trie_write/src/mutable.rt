@@ -1,12 +1,12 @@
 //! The way to a place on a key's path is made mutable: what isn't mutable yet is copied, and no entry changes.
 
-ghost use Rattle.std.specs.Prelude.{◌≡◌, ◌≢◌, ◌+◌, ◌<◌, ◌≤◌, ℕ, false, List, IfOk, IfErr, count_ones};
+ghost use Rattle.std.specs.Prelude.{◌≡◌, ◌≢◌, ◌+◌, ◌<◌, ◌≤◌, ℕ, false, List, ◌∷◌, map, Contains, IfOk, IfErr, count_ones};
 ghost use Rattle.packed_node.specs.declared.Cell.{Cell};
 ghost use Rattle.packed_node.specs.Nodes.{IsBranch, branch_cell};
 ghost use Rattle.trie_model.specs.Reach.{row, in_chunk};
 ghost use Rattle.trie_model.specs.Trees.{Tree, IsRow};
 ghost use Rattle.trie_write.specs.Spaces.{Ready, Frame, Fenced, Refused, MayWrite, Wrote, IsWritable};
-ghost use Rattle.trie_write.specs.Ways.{Fork, plug, IsWay, twigs_along, copied_along};
+ghost use Rattle.trie_write.specs.Ways.{Fork, plug, IsWay, twigs_of, twigs_along, copied_along};
 ghost use Rattle.trie_write.specs.Mutable.{WayAsks, WayAsked, IsCopied, IsParted, SeatAsks, SeatAsked, IsSeat};
 
 use super::place::{copy_twigs, room_for};
@@ -106,6 +106,9 @@ fn copy_way<C: CellWrite, U: Space>(
     ensures spends { (way : List Fork) (end : Tree) → WayAsks C.has U.account cells.old usage.old place low key.now from.node way end
         → (U.account usage.new).spent ≤ (U.account usage.old).spent + twigs_along way }
     ensures refused { IfErr result (λ f. Refused C.has U.account U.lacks cells.old usage.old cells.new usage.new f) }
+    // A branch on the way has so many twigs.
+    ensures asked { IfErr result (λ f. (way : List Fork) (end : Tree) → WayAsks C.has U.account cells.old usage.old place low key.now from.node way end
+        → Contains (map twigs_of way) f.needed) }
     ensures frame { Frame C.has C.kept C.given U.account cells.old usage.old cells.new usage.new }
     ensures ready { Ready C.kept C.given U.account cells.new usage.new }
 {
@@ -179,6 +182,8 @@ fn open_below<C: CellWrite, U: Space>(
     ensures spends { (spare : (ℕ → ℕ) → ℕ) (way : List Fork) (end : Tree) → SeatAsks C.has U.account cells.old usage.old place key.now spare top.at way end
         → (U.account usage.new).spent ≤ (U.account usage.old).spent + copied_along (U.account usage.old).mutable 1 top.at way }
     ensures refused { IfErr result (λ f. Refused C.has U.account U.lacks cells.old usage.old cells.new usage.new f) }
+    ensures asked { IfErr result (λ f. (spare : (ℕ → ℕ) → ℕ) (way : List Fork) (end : Tree) → SeatAsks C.has U.account cells.old usage.old place key.now spare top.at way end
+        → Contains (map twigs_of way) f.needed) }
     ensures frame { Fenced C.has C.kept C.given U.account cells.old usage.old cells.new usage.new }
     ensures ready { Ready C.kept C.given U.account cells.new usage.new }
 {
@@ -208,6 +213,8 @@ fn open_anew<C: CellWrite, U: Space>(
     ensures spends { (spare : (ℕ → ℕ) → ℕ) (way : List Fork) (end : Tree) → SeatAsks C.has U.account cells.old usage.old place key.now spare top.at way end
         → (U.account usage.new).spent ≤ (U.account usage.old).spent + copied_along (U.account usage.old).mutable 1 top.at way }
     ensures refused { IfErr result (λ f. Refused C.has U.account U.lacks cells.old usage.old cells.new usage.new f) }
+    ensures asked { IfErr result (λ f. (spare : (ℕ → ℕ) → ℕ) (way : List Fork) (end : Tree) → SeatAsks C.has U.account cells.old usage.old place key.now spare top.at way end
+        → Contains (1 ∷ map twigs_of way) f.needed) }
     ensures frame { Fenced C.has C.kept C.given U.account cells.old usage.old cells.new usage.new }
     ensures ready { Ready C.kept C.given U.account cells.new usage.new }
 {
@@ -248,6 +255,9 @@ pub fn make_mutable<C: CellWrite, U: Space>(
     ensures spends { (spare : (ℕ → ℕ) → ℕ) (way : List Fork) (end : Tree) → SeatAsks C.has U.account cells.old usage.old place key.now spare root way end
         → (U.account usage.new).spent ≤ (U.account usage.old).spent + copied_along (U.account usage.old).mutable 1 root way }
     ensures refused { IfErr result (λ f. Refused C.has U.account U.lacks cells.old usage.old cells.new usage.new f) }
+    // The root's cell alone, or as many as a branch on the way has twigs.
+    ensures asked { IfErr result (λ f. (spare : (ℕ → ℕ) → ℕ) (way : List Fork) (end : Tree) → SeatAsks C.has U.account cells.old usage.old place key.now spare root way end
+        → Contains (1 ∷ map twigs_of way) f.needed) }
     ensures frame { Fenced C.has C.kept C.given U.account cells.old usage.old cells.new usage.new }
     ensures ready { Ready C.kept C.given U.account cells.new usage.new }
 {

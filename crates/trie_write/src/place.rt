@@ -24,6 +24,7 @@ pub fn room_for<C: CellWrite, U: Space>(cells: &mut C, usage: &mut U, n: u32) ->
     ensures all { (q : ℕ) (c : Cell) → C.has cells.old q c → C.has cells.new q c }
     ensures spends { (U.account usage.new).spent ≤ (U.account usage.old).spent + n }
     ensures refused { IfErr result (λ f. Refused C.has U.account U.lacks cells.old usage.old cells.new usage.new f) }
+    ensures asked { IfErr result (λ f. f.needed ≡ n) }
     ensures frame { Frame C.has C.kept C.given U.account cells.old usage.old cells.new usage.new }
     ensures ready { Ready C.kept C.given U.account cells.new usage.new }
 {
@@ -76,6 +77,7 @@ pub fn lay_row<C: CellWrite, U: Space>(
     ensures written { IfOk result (λ at. (i : ℕ) (c : Cell) → slice_get row.now i ≡ Some c → C.has cells.new (at + i) c) }
     ensures spends { (U.account usage.new).spent ≤ (U.account usage.old).spent + length row.now }
     ensures refused { IfErr result (λ f. Refused C.has U.account U.lacks cells.old usage.old cells.new usage.new f) }
+    ensures asked { IfErr result (λ f. f.needed ≡ length row.now) }
     ensures frame { Frame C.has C.kept C.given U.account cells.old usage.old cells.new usage.new }
     ensures ready { Ready C.kept C.given U.account cells.new usage.new }
 {
@@ -98,6 +100,7 @@ pub fn lay_item<C: CellWrite, U: Space>(
     ensures lies { IfOk result (λ leaf. ItemLies (C.has cells.new) leaf.at item.now) }
     ensures spends { (U.account usage.new).spent ≤ (U.account usage.old).spent + cells_in item.now }
     ensures refused { IfErr result (λ f. Refused C.has U.account U.lacks cells.old usage.old cells.new usage.new f) }
+    ensures asked { IfErr result (λ f. f.needed ≡ cells_in item.now) }
     ensures frame { Frame C.has C.kept C.given U.account cells.old usage.old cells.new usage.new }
     ensures ready { Ready C.kept C.given U.account cells.new usage.new }
 {
@@ -129,6 +132,7 @@ pub fn copy_apart<C: CellWrite, U: Space>(
     ensures after { IfOk result (λ to. (i : ℕ) (c : Cell) → index + skip + i < from.n → C.has cells.old (from.at + (index + skip + i)) c → C.has cells.new (to + (index + gap + i)) c) }
     ensures spends { (U.account usage.new).spent ≤ (U.account usage.old).spent + (from.n - skip + gap) }
     ensures refused { IfErr result (λ f. Refused C.has U.account U.lacks cells.old usage.old cells.new usage.new f) }
+    ensures asked { IfErr result (λ f. f.needed ≡ from.n - skip + gap) }
     ensures frame { Frame C.has C.kept C.given U.account cells.old usage.old cells.new usage.new }
     ensures ready { Ready C.kept C.given U.account cells.new usage.new }
 {

@@ -1,6 +1,6 @@
 //! An item exchanged for another of the same name.
 
-ghost use Rattle.std.specs.Prelude.{◌≡◌, ◌+◌, ◌≤◌, ℕ, List, true, IfOk, IfErr, Err, Some, ◌↔◌};
+ghost use Rattle.std.specs.Prelude.{◌≡◌, ◌+◌, ◌≤◌, ℕ, List, Contains, true, IfOk, IfErr, Err, Some, ◌↔◌};
 ghost use Rattle.packed_node.specs.declared.Cell.{Cell};
 ghost use Rattle.zone_model.specs.Keys.{Leads};
 ghost use Rattle.trie_model.specs.Keys.{Entry, InList};
@@ -9,9 +9,9 @@ ghost use Rattle.trie_model.specs.Trees.Tree.{leaf};
 ghost use Rattle.trie_read.specs.Reads.{EachTells};
 ghost use Rattle.trie_write.specs.Asks.{HasKey, KeyIsThere};
 ghost use Rattle.trie_write.specs.Exchanges.{Exchanged};
-ghost use Rattle.trie_write.specs.Paths.{to_copy};
+ghost use Rattle.trie_write.specs.Paths.{branches_on_path, replace_asks, to_copy};
 ghost use Rattle.trie_write.specs.Puts.{Makes, IsTaken};
-ghost use Rattle.trie_write.specs.Roots.{TwigsOnPath, ToCopy, IsOutside, Beyond};
+ghost use Rattle.trie_write.specs.Roots.{TwigsOnPath, BranchesOnPath, ToCopy, IsOutside, Beyond};
 ghost use Rattle.trie_write.specs.Spaces.{Ready, Frame, Fenced, Unchanged, Refused};
 ghost use Rattle.trie_write.specs.Standing.{HasTrie};
 
@@ -41,6 +41,7 @@ fn other_leaf<C: CellWrite, U: Space>(
     ensures taken { IfOk result (λ change. IsTaken (U.account usage.old) (U.account usage.new) change) }
     ensures spends { (U.account usage.new).spent ≤ (U.account usage.old).spent + cells_in item.now }
     ensures refused { IfErr result (λ f. Refused C.has U.account U.lacks cells.old usage.old cells.new usage.new f) }
+    ensures asked { IfErr result (λ f. f.needed ≡ cells_in item.now) }
     ensures frame { Frame C.has C.kept C.given U.account cells.old usage.old cells.new usage.new }
     ensures ready { Ready C.kept C.given U.account cells.new usage.new }
 {
@@ -74,6 +75,8 @@ fn replace_item<C: CellWrite, U: Space>(
     ensures copies { (t : Tree) (version : List Entry) → HasKey C.has U.account cells.old usage.old root key.now t version
         → (U.account usage.new).spent ≤ (U.account usage.old).spent + (cells_in item.now + to_copy (U.account usage.old).mutable key.now root t) }
     ensures refused { IfErr result (λ f. Refused C.has U.account U.lacks cells.old usage.old cells.new usage.new f) }
+    ensures asked { IfErr result (λ f. (t : Tree) (version : List Entry) → HasKey C.has U.account cells.old usage.old root key.now t version
+        → Contains (replace_asks item.now (branches_on_path key.now t)) f.needed) }
     ensures frame { Fenced C.has C.kept C.given U.account cells.old usage.old cells.new usage.new }
     ensures ready { Ready C.kept C.given U.account cells.new usage.new }
 {
@@ -110,6 +113,8 @@ pub fn replace<C: CellWrite, U: Space>(
     ensures unchanged { IfErr result (λ _. Unchanged C.has U.account cells.old usage.old cells.new usage.new) }
     ensures outside { (q : ℕ) (c : Cell) → Beyond C.has U.account cells.old usage.old root q → C.has cells.old q c → C.has cells.new q c }
     ensures full { (f : _) → result ≡ Err (ChangeRefusal.Full f) → U.lacks usage.new f }
+    ensures asked { (f : _) → result ≡ Err (ChangeRefusal.Full f) → (branches : List ℕ) → BranchesOnPath C.has U.account cells.old usage.old root key.now branches
+        → Contains (replace_asks item.now branches) f.needed }
     ensures spends { (n : ℕ) → TwigsOnPath C.has U.account cells.old usage.old root key.now n → (U.account usage.new).spent ≤ (U.account usage.old).spent + (3 + cells_in item.now + n) }
     ensures copies { (n : ℕ) → ToCopy C.has U.account cells.old usage.old root key.now n → (U.account usage.new).spent ≤ (U.account usage.old).spent + (cells_in item.now + n) }
     ensures frame { Fenced C.has C.kept C.given U.account cells.old usage.old cells.new usage.new }

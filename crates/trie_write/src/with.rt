@@ -1,13 +1,13 @@
 //! A leaf more, at a node where its key first differs from those below.
 
-ghost use Rattle.std.specs.Prelude.{◌≡◌, ◌+◌, ◌/◌, ◌<◌, ◌≤◌, ℕ, List, IfOk, IfErr, count_ones};
+ghost use Rattle.std.specs.Prelude.{◌≡◌, ◌+◌, ◌/◌, ◌<◌, ◌≤◌, ℕ, suc, List, ◌∷◌, map, Contains, IfOk, IfErr, count_ones};
 ghost use Rattle.packed_node.specs.declared.Cell.{Cell};
 ghost use Rattle.packed_node.specs.Nodes.{IsBranch, branch_cell};
 ghost use Rattle.trie_model.specs.Changes.{Deep};
 ghost use Rattle.trie_model.specs.Trees.{Tree};
 ghost use Rattle.chunk_usage.specs.Rooms.{Handed};
 ghost use Rattle.trie_write.specs.Inserts.{WithAsks, WithAsked, PairAsked, JoinAsked, IsWith};
-ghost use Rattle.trie_write.specs.Paths.{twigs_on_path};
+ghost use Rattle.trie_write.specs.Paths.{twigs_on_path, branches_on_path};
 ghost use Rattle.trie_write.specs.Spaces.{Ready, Frame, Refused};
 ghost use Rattle.trie_write.specs.Tops.{IsBranchTop};
 
@@ -69,6 +69,7 @@ fn pair_with<C: CellWrite, U: Space>(
     ensures item { IfOk result (λ change. change.new_item ≡ record { at = leaf.at; n = (leaf.len + 15) / 16 }) }
     ensures spends { (U.account usage.new).spent ≤ (U.account usage.old).spent + 2 }
     ensures refused { IfErr result (λ f. Refused C.has U.account U.lacks cells.old usage.old cells.new usage.new f) }
+    ensures asked { IfErr result (λ f. f.needed ≡ 2) }
     ensures frame { Frame C.has C.kept C.given U.account cells.old usage.old cells.new usage.new }
     ensures ready { Ready C.kept C.given U.account cells.new usage.new }
 {
@@ -102,6 +103,7 @@ fn join_twigs<C: CellWrite, U: Space>(
     ensures item { IfOk result (λ change. change.new_item ≡ record { at = leaf.at; n = (leaf.len + 15) / 16 }) }
     ensures spends { (U.account usage.new).spent ≤ (U.account usage.old).spent + (count_ones branch.bitmap + 1) }
     ensures refused { IfErr result (λ f. Refused C.has U.account U.lacks cells.old usage.old cells.new usage.new f) }
+    ensures asked { IfErr result (λ f. f.needed ≡ count_ones branch.bitmap + 1) }
     ensures frame { Frame C.has C.kept C.given U.account cells.old usage.old cells.new usage.new }
     ensures ready { Ready C.kept C.given U.account cells.new usage.new }
 {
@@ -140,6 +142,8 @@ pub fn with_leaf<C: CellWrite, U: Space>(
         → (U.account usage.new).spent ≤ (U.account usage.old).spent + (2 + twigs_on_path key.now end) }
     ensures copies { (U.account usage.new).spent ≤ (U.account usage.old).spent + 47 }
     ensures refused { IfErr result (λ f. Refused C.has U.account U.lacks cells.old usage.old cells.new usage.new f) }
+    ensures asked { IfErr result (λ f. (item : List ℕ) (end : Tree) → WithAsks C.has U.account cells.old usage.old key.now item first node leaf end
+        → Contains (2 ∷ map suc (branches_on_path key.now end)) f.needed) }
     ensures frame { Frame C.has C.kept C.given U.account cells.old usage.old cells.new usage.new }
     ensures ready { Ready C.kept C.given U.account cells.new usage.new }
 {

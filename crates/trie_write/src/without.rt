@@ -1,6 +1,6 @@
 //! A branch without one of its leaves.
 
-ghost use Rattle.std.specs.Prelude.{◌≡◌, ◌+◌, ◌≤◌, ℕ, List, IfOk, IfErr, count_ones};
+ghost use Rattle.std.specs.Prelude.{◌≡◌, ◌+◌, ◌-◌, ◌≤◌, ℕ, List, IfOk, IfErr, count_ones};
 ghost use Rattle.trie_model.specs.Keys.{Entry};
 ghost use Rattle.trie_model.specs.Trees.{Tree};
 ghost use Rattle.trie_model.specs.Trees.Tree.{leaf};
@@ -48,6 +48,7 @@ pub fn without_leaf<C: CellWrite, U: Space>(
     ensures taken { IfOk result (λ change. IsTaken (U.account usage.old) (U.account usage.new) change) }
     ensures spends { (U.account usage.new).spent + 1 ≤ (U.account usage.old).spent + count_ones turn.branch.bitmap }
     ensures refused { IfErr result (λ f. Refused C.has U.account U.lacks cells.old usage.old cells.new usage.new f) }
+    ensures asked { IfErr result (λ f. f.needed ≡ count_ones turn.branch.bitmap - 1) }
     ensures frame { Frame C.has C.kept C.given U.account cells.old usage.old cells.new usage.new }
     ensures ready { Ready C.kept C.given U.account cells.new usage.new }
 {

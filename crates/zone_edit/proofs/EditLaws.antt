@@ -179,10 +179,10 @@ module _ (o : Operation) (denied : List trie.Entry → Type 0) (A B : Type 0) (n
   stored a puts call = between_as (λ d e. Operates o denied d e A B) (EditsOne (Stores name before entry (Ok tt))) old new (λ d e _ _ op. record { known = op.known; passes = op.passes; becomes = λ version on is. puts version d e op on is }) call
 
   -- there was no room
-  pub no_room : (f : Full) (key : List ℕ) (written : ℕ) → (A → ⊥) → ((version : Version) → IsVersion version → before ≡ owned name version → put name entry version ≡ version → ⊥) → Called → IsSomeAnd new (λ d. IsFull d f)
-      → Between (λ d e. CausedFrom d.usage e key written f) old new → Edits (Stores name before entry (Err f.kept)) old new
-  no_room f key written undone changes call full cause =
-      between_both (λ d e. CausedFrom d.usage e key written f) (λ d e. Operates o denied d e A B × IsFull e f) (EditsOne (Stores name before entry (Err f.kept))) old new
+  pub no_room : (f : Full) (key : List ℕ) (written : ℕ) (asks : List ℕ → List ℕ) → (A → ⊥) → ((version : Version) → IsVersion version → before ≡ owned name version → put name entry version ≡ version → ⊥) → Called → IsSomeAnd new (λ d. IsFull d f)
+      → Between (λ d e. CausedFrom d.usage e key written asks f) old new → Edits (Stores name before entry (Err f.kept)) old new
+  no_room f key written asks undone changes call full cause =
+      between_both (λ d e. CausedFrom d.usage e key written asks f) (λ d e. Operates o denied d e A B × IsFull e f) (EditsOne (Stores name before entry (Err f.kept))) old new
       (λ d e cause both. record {
         known = both.0.known;
         passes = both.0.passes;

@@ -1,4 +1,6 @@
-use Rattle.std.proofs.Common.{Err}
+use Rattle.std.proofs.Common.{◌≡◌, Contains, Err, subst}
+use Rattle.chunk_usage.specs.declared.space.Full.{Full as NoRoom}
+use Rattle.trie_write.specs.Paths.{insert_asks}
 use Rattle.trie_write.specs.declared.insertion.InsertRefusal.TheVariants.{Exists, Full}
 use Rattle.shared_index.proofs.ChangeLaws.{insert_refused_as, rooted_inserted}
 use Rattle.shared_index.proofs.change.insert.Goals as goal
@@ -15,3 +17,9 @@ returns-in-Err-Exists-clause-refused g c es is = insert_refused_as c.insert.resu
 
 pub returns-in-Err-Full-clause-refused : goal.returns-in-Err-Full-clause-refused
 returns-in-Err-Full-clause-refused g c es is = insert_refused_as c.insert.result (Err (Full c.in-Err-Full.full)) (cc) (c.insert.ensures.exists es is.stands is.tells)
+
+pub returns-in-Err-Full-clause-asked : goal.returns-in-Err-Full-clause-asked
+returns-in-Err-Full-clause-asked g c f e branches on =
+    let full : c.insert.result ≡ Err (Full c.in-Err-Full.full) = cc in
+    let same : c.in-Err-Full.full ≡ f = cc in
+    subst (λ (x : NoRoom). Contains (insert_asks c.args.item.now branches) x.needed) same (c.insert.ensures.asked c.in-Err-Full.full full branches on)

@@ -1,4 +1,6 @@
-use Rattle.std.proofs.Common.{Err}
+use Rattle.std.proofs.Common.{◌≡◌, Contains, Err, subst}
+use Rattle.chunk_usage.specs.declared.space.Full.{Full as NoRoom}
+use Rattle.trie_write.specs.Paths.{replace_asks}
 use Rattle.trie_write.specs.declared.replacement.ChangeRefusal.TheVariants.{NotFound, Full}
 use Rattle.shared_index.proofs.ChangeLaws.{change_refused_as, rooted_exchanged}
 use Rattle.shared_index.proofs.change.replace.Goals as goal
@@ -15,3 +17,9 @@ returns-in-Err-NotFound-clause-refused g c es is = change_refused_as c.replace.r
 
 pub returns-in-Err-Full-clause-refused : goal.returns-in-Err-Full-clause-refused
 returns-in-Err-Full-clause-refused g c es is = change_refused_as c.replace.result (Err (Full c.in-Err-Full.full)) (cc) (c.replace.ensures.absent es is.stands is.tells)
+
+pub returns-in-Err-Full-clause-asked : goal.returns-in-Err-Full-clause-asked
+returns-in-Err-Full-clause-asked g c f e branches on =
+    let full : c.replace.result ≡ Err (Full c.in-Err-Full.full) = cc in
+    let same : c.in-Err-Full.full ≡ f = cc in
+    subst (λ (x : NoRoom). Contains (replace_asks c.args.item.now branches) x.needed) same (c.replace.ensures.asked c.in-Err-Full.full full branches on)

@@ -20,6 +20,9 @@ let_go-requires-in-Ok-clause-counted g c = let a = c.requires.asks.asks in left_
 pub returns-in-Err-clause-spends : goal.returns-in-Err-clause-spends
 returns-in-Err-clause-spends g c way end u a = let s = c.make_mutable.ensures.spends _ way end a.seat in let r = ap (λ (z : Account). z.spent) c.let_go.ensures.rest in omega arith
 
+pub returns-in-Err-clause-asked : goal.returns-in-Err-clause-asked
+returns-in-Err-clause-asked g c way end u a = c.in-Err.ensures.asked _ way end a.seat
+
 pub returns-in-Ok-clause-put : goal.returns-in-Ok-clause-put
 returns-in-Ok-clause-put g c way end u a = put_is a (c.in-Ok.ensures.seat _ way end a.seat) c.put.ensures.written c.put.ensures.others c.let_go-in-Ok.ensures.counts c.let_go-in-Ok.ensures.rest
 

@@ -43,6 +43,7 @@ returns-in-None g c =
       spends = λ t version h. omega arith;
       copies = λ t version h. omega arith;
       refused = tt;
+      asked = tt;
       frame = fenced_of (frame_counts (frame_same same (frame_refl _ _)) c.let_go.ensures.rest);
       ready = ready_counts c.let_go.ensures.rest (ready_put c.requires.ready (ap g.C.CellWrite.given same) (ap g.C.CellWrite.kept same));
     }
@@ -56,6 +57,7 @@ returns-in-Ok g c =
       spends = λ t version h. c.drop_leaf.ensures.spends t version (drop_asks (c.in-Some.ensures.same ∙ c.cell-node.ensures.same) h (c.in-Some.ensures.last h.way _ (same_top g.C.CellRead.has c.cell-node.ensures.same (root_top h c.cell-node.ensures.value)) h.is_way));
       copies = λ t version h. c.drop_leaf.ensures.copies t version (drop_asks (c.in-Some.ensures.same ∙ c.cell-node.ensures.same) h (c.in-Some.ensures.last h.way _ (same_top g.C.CellRead.has c.cell-node.ensures.same (root_top h c.cell-node.ensures.value)) h.is_way));
       refused = tt;
+      asked = tt;
       frame = fenced_same same c.drop_leaf.ensures.frame;
       ready = c.drop_leaf.ensures.ready;
     }
@@ -69,6 +71,7 @@ returns-in-Err g c =
       spends = λ t version h. c.drop_leaf.ensures.spends t version (drop_asks (c.in-Some.ensures.same ∙ c.cell-node.ensures.same) h (c.in-Some.ensures.last h.way _ (same_top g.C.CellRead.has c.cell-node.ensures.same (root_top h c.cell-node.ensures.value)) h.is_way));
       copies = λ t version h. c.drop_leaf.ensures.copies t version (drop_asks (c.in-Some.ensures.same ∙ c.cell-node.ensures.same) h (c.in-Some.ensures.last h.way _ (same_top g.C.CellRead.has c.cell-node.ensures.same (root_top h c.cell-node.ensures.value)) h.is_way));
       refused = refused_same same c.in-Err.ensures.refused;
+      asked = λ t version h. c.in-Err.ensures.asked t version (drop_asks (c.in-Some.ensures.same ∙ c.cell-node.ensures.same) h (c.in-Some.ensures.last h.way _ (same_top g.C.CellRead.has c.cell-node.ensures.same (root_top h c.cell-node.ensures.value)) h.is_way));
       frame = fenced_same same c.drop_leaf.ensures.frame;
       ready = c.drop_leaf.ensures.ready;
     }

@@ -1,7 +1,11 @@
-use Rattle.std.proofs.Common.{w8, ℕ, [], ◌∷◌, Option, refl, sym, ◌∙◌, subst, arith}
+use Rattle.std.proofs.Common.{◌≡◌, w8, ℕ, List, [], ◌∷◌, Contains, Option, refl, sym, ◌∙◌, subst, arith}
 use Rattle.std.proofs.Math.Facts.{Fits-lt-pow}
+use Rattle.chunk_usage.specs.declared.space.Full.{Full}
+use Rattle.trie_write.specs.Paths.{insert_asks}
+use Rattle.trie_write.specs.Roots.{BranchesOnPath}
 use Rattle.trie_write.specs.Standing.{HasTrie}
-use Rattle.trie_write.proofs.InsertLaws.{missing_key, missing_path, missing_copied, missing_beyond, never_there}
+use Rattle.trie_write.proofs.AskLaws.{insert_begins}
+use Rattle.trie_write.proofs.InsertLaws.{missing_key, missing_path, missing_branches, missing_copied, missing_beyond, never_there}
 use Rattle.trie_write.proofs.ReplaceLaws.{trie_later}
 use Rattle.trie_write.proofs.RootLaws.{leads_key, leads_some, leads_entry, entry_with, inserted_first}
 use Rattle.trie_write.proofs.insertion.insert.Goals as goal
@@ -45,6 +49,19 @@ pub returns-in-Err-insert_further-clause-spends : goal.returns-in-Err-insert_fur
 returns-in-Err-insert_further-clause-spends g c n on =
     let o = missing_path g.C.CellRead.has g.U.Space.account c.args.usage.now c.in-Some.is c.cell-node.ensures.value c.cell-node.ensures.same c.compare.ensures.same c.compare.ensures.value c.in-Some-compare.is n on in
     let m = c.insert_further.ensures.spends o.0 o.1 o.2 in let e = o.3 in omega arith
+
+pub returns-in-Err-clause-asked : goal.returns-in-Err-clause-asked
+returns-in-Err-clause-asked g c f e branches on =
+    let none : branches ≡ [] = subst (λ (o : Option ℕ). BranchesOnPath g.C.CellRead.has g.U.Space.account c.args.cells.now c.args.usage.now o c.args.key.now branches) c.in-None.is on in
+    let same : c.in-Err.full ≡ f = cc in
+    subst (λ (x : Full). Contains (insert_asks c.args.item.now branches) x.needed) same (insert_begins c.args.item.now branches c.in-Err.full.needed none c.in-Err.ensures.asked)
+
+pub returns-in-Err-insert_further-clause-asked : goal.returns-in-Err-insert_further-clause-asked
+returns-in-Err-insert_further-clause-asked g c f e branches on =
+    let o = missing_branches g.C.CellRead.has g.U.Space.account c.args.usage.now c.in-Some.is c.cell-node.ensures.value c.cell-node.ensures.same c.compare.ensures.same c.compare.ensures.value c.in-Some-compare.is branches on in
+    let full = c.in-Err-insert_further.full in
+    let same : full ≡ f = cc in
+    subst (λ (x : Full). Contains (insert_asks c.args.item.now branches) x.needed) same (subst (λ (ns : List ℕ). Contains (insert_asks c.args.item.now ns) full.needed) (sym o.3) (c.in-Err-insert_further.ensures.asked o.0 o.1 o.2))
 
 pub returns-in-Ok-insert_further-clause-copies : goal.returns-in-Ok-insert_further-clause-copies
 returns-in-Ok-insert_further-clause-copies g c n on =

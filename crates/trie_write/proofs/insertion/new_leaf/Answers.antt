@@ -1,10 +1,13 @@
-use Rattle.std.proofs.Common.{w8, arith, sym, ◌∙◌, ap, subst}
+use Rattle.std.proofs.Common.{w8, suc, ◌∷◌, map, arith, sym, ◌∙◌, ap, subst}
 use Rattle.std.proofs.Math.Facts.{Fits-lt-pow}
 use Rattle.chunk_usage.specs.Rooms.{Account}
+use Rattle.trie_model.specs.Trees.{cells_in}
+use Rattle.trie_write.specs.Paths.{branches_on_path}
 use Rattle.trie_write.specs.Turns.{HasWay}
+use Rattle.trie_write.proofs.AskLaws.{first_of, later_of}
 use Rattle.trie_write.proofs.InsertLaws.{laid_is, lacks_top, with_asks, taken_both}
 use Rattle.trie_write.proofs.RootLaws.{leads_some, leads_entry}
-use Rattle.trie_write.proofs.SpaceLaws.{frame_then, frame_counts, frame_same, ready_counts}
+use Rattle.trie_write.proofs.SpaceLaws.{err_on, frame_then, frame_counts, frame_same, ready_counts}
 use Rattle.trie_write.proofs.TurnLaws.{same_top}
 use Rattle.trie_write.proofs.insertion.new_leaf.Goals as goal
 
@@ -50,6 +53,16 @@ returns-in-Err-clause-spends g c t version h =
     let m = c.with_leaf.ensures.spends c.args.item.now h.end (with_asks h (leads_entry c.requires.leads (λ i. Fits-lt-pow {w = w8} (c.type_inv.item i))) (laid_is c.lay_item.new.usage c.in_ok-leaf.ensures.len c.in_ok-leaf.ensures.handed c.in_ok-leaf.ensures.lies) (frame_same same c.in_ok-leaf.ensures.frame)
     (c.end_node-node.ensures.end h.way h.end (same_top g.C.CellRead.has c.cell-top.ensures.same (lacks_top h c.cell-top.ensures.value)) h.is_way)) in
     let s = c.lay_item.ensures.spends in let r = ap (λ (z : Account). z.spent) c.release.ensures.rest in omega arith
+
+pub returns-in_err-leaf-clause-asked : goal.returns-in_err-leaf-clause-asked
+returns-in_err-leaf-clause-asked g c = err_on _ c.from_residual.result c.from_residual.ensures.1 (λ t version h. first_of (cells_in c.args.item.now) _ (2 ∷ map suc (branches_on_path c.args.key.now h.end)) (sym c.in_err-leaf.ensures.asked))
+
+pub returns-in-Err-clause-asked : goal.returns-in-Err-clause-asked
+returns-in-Err-clause-asked g c t version h =
+    let same = c.end_node-node.ensures.same ∙ c.cell-top.ensures.same in
+    later_of (cells_in c.args.item.now) _ (2 ∷ map suc (branches_on_path c.args.key.now h.end))
+    (c.in-Err.ensures.asked c.args.item.now h.end (with_asks h (leads_entry c.requires.leads (λ i. Fits-lt-pow {w = w8} (c.type_inv.item i))) (laid_is c.lay_item.new.usage c.in_ok-leaf.ensures.len c.in_ok-leaf.ensures.handed c.in_ok-leaf.ensures.lies) (frame_same same c.in_ok-leaf.ensures.frame)
+    (c.end_node-node.ensures.end h.way h.end (same_top g.C.CellRead.has c.cell-top.ensures.same (lacks_top h c.cell-top.ensures.value)) h.is_way)))
 
 pub returns-in-Err-clause-copies : goal.returns-in-Err-clause-copies
 returns-in-Err-clause-copies g c = let m = c.with_leaf.ensures.copies in let s = c.lay_item.ensures.spends in let r = ap (λ (z : Account). z.spent) c.release.ensures.rest in omega arith

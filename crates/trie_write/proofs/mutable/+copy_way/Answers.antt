@@ -1,4 +1,4 @@
-use Rattle.std.proofs.Common.{◌≡◌, ◌+◌, ◌-◌, ◌<◌, ℕ, Fits-lit, arith, sym, ap, ap₂, subst, rules}
+use Rattle.std.proofs.Common.{◌≡◌, ◌+◌, ◌-◌, ◌<◌, ℕ, Fits-lit, arith, sym, ◌∙◌, ap, ap₂, subst, rules}
 use Rattle.std.proofs.Math.Facts.{Fits-lt}
 use Rattle.packed_node.specs.declared.Cell.{Cell}
 use Rattle.packed_node.specs.Nodes.{branch_cell}
@@ -6,9 +6,9 @@ use Rattle.chunk_usage.specs.Rooms.{Account, Handed}
 use Rattle.trie_write.specs.Spaces.{MayWrite}
 use Rattle.trie_write.specs.declared.mutable.Copied.{Copied}
 use Rattle.trie_write.specs.Mutable.{IsCopied}
-use Rattle.trie_write.proofs.SpaceLaws.{apart_from, frame_then, frame_same, frame_counts, frame_wrote, ready_counts, ready_wrote, refused_room, handed_counted, blank_later}
+use Rattle.trie_write.proofs.SpaceLaws.{apart_from, err_on, frame_then, frame_same, frame_counts, frame_wrote, ready_counts, ready_wrote, refused_room, handed_counted, blank_later}
 use Rattle.trie_write.proofs.TurnLaws.{known}
-use Rattle.trie_write.proofs.CopyLaws.{n_here, cell_there, cell_used, part_counted, old_lies, moved_branch, asks_after, along_here, same_asks, copied_step, copied_none}
+use Rattle.trie_write.proofs.CopyLaws.{n_here, cell_there, cell_used, part_counted, old_lies, moved_branch, asks_after, along_here, here_asked, below_asked, same_asks, copied_step, copied_none}
 use Rattle.trie_write.proofs.mutable.+copy_way.Goals as goal
 
 abbrev gives : Cell → ℕ → Copied
@@ -35,6 +35,11 @@ returns-in_err-to-in-Some-clause-spends g t c way end asks =
     let turn = (c.in-Some.ensures.on c.args.low way end asks.hangs.top asks.is_way).through in
     let n = along_here asks turn in let m = c.twig_count-n.ensures in let s = c.room_for.ensures.spends in omega arith
 
+pub returns-in_err-to-in-Some-clause-asked : goal.returns-in_err-to-in-Some-clause-asked
+returns-in_err-to-in-Some-clause-asked g t c = err_on _ c.from_residual.result c.from_residual.ensures.1 (λ way end asks.
+    let turn = (c.in-Some.ensures.on c.args.low way end asks.hangs.top asks.is_way).through in
+    here_asked asks turn _ (c.in_err-to-in-Some.ensures.asked ∙ c.twig_count-n.ensures))
+
 pub copy_way-requires : goal.copy_way-requires
 copy_way-requires g t c κs within =
     let a = same_asks c.next_turn.ensures.same c.requires.asks.asks in
@@ -55,6 +60,12 @@ returns-in-Err-clause-spends g t c way end asks =
     let n = along_here a (told.through) in let m = c.twig_count-n.ensures in let s = c.room_for.ensures.spends in
     let d = c.copy_way.ensures.spends told.through.rest end (asks_after a (told.through) c.in_ok-to-in-Some.ensures.handed c.in_ok-to-in-Some.ensures.frame told.next_is) in
     let r = ap (λ (z : Account). z.spent) c.release.ensures.rest in omega arith
+
+pub returns-in-Err-clause-asked : goal.returns-in-Err-clause-asked
+returns-in-Err-clause-asked g t c way end asks =
+    let a = same_asks c.next_turn.ensures.same asks in
+    let told = c.in-Some.ensures.on c.args.low way end asks.hangs.top asks.is_way in
+    below_asked a told.through _ (c.in-Err.ensures.asked told.through.rest end (asks_after a told.through c.in_ok-to-in-Some.ensures.handed c.in_ok-to-in-Some.ensures.frame told.next_is))
 
 pub release-requires : goal.release-requires
 release-requires g t c = record { counted = handed_counted (g.U.Space.account c.copy_way.new.usage) c.in_ok-to-in-Some.ensures.handed c.in-Err.ensures.refused.counts; together = c.in_ok-to-in-Some.ensures.handed.twigs.together }

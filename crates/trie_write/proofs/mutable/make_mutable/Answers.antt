@@ -1,5 +1,7 @@
-use Rattle.std.proofs.Common.{◌/◌, Bool, List, [], sym, ◌∙◌, ap, subst}
+use Rattle.std.proofs.Common.{◌/◌, Bool, List, [], map, sym, ◌∙◌, ap, subst}
 use Rattle.chunk_cells.specs.Chunks.{IsGiven}
+use Rattle.trie_write.specs.Ways.{twigs_of}
+use Rattle.trie_write.proofs.AskLaws.{later_of}
 use Rattle.trie_write.proofs.SpaceLaws.{fenced_same, refused_same, ready_put, ok_map, err_map}
 use Rattle.trie_write.proofs.PutLaws.{end_used, same_seat_asks, same_seat}
 use Rattle.trie_write.proofs.mutable.make_mutable.Goals as goal
@@ -34,6 +36,7 @@ returns-then-is_mutable g c = record {
   seat = ok_map c.open_below.result (λ seat made spare way end a. same_seat c.cell.ensures.same (made spare way end (same_seat_asks c.cell.ensures.same a))) c.open_below.ensures.seat;
   spends = λ spare way end a. c.open_below.ensures.spends spare way end (same_seat_asks c.cell.ensures.same a);
   refused = err_map c.open_below.result (λ full r. refused_same c.cell.ensures.same r) c.open_below.ensures.refused;
+  asked = err_map c.open_below.result (λ full n spare way end a. later_of 1 full.needed (map twigs_of way) (n spare way end (same_seat_asks c.cell.ensures.same a))) c.open_below.ensures.asked;
   frame = fenced_same c.cell.ensures.same c.open_below.ensures.frame;
   ready = c.open_below.ensures.ready;
 }
@@ -43,6 +46,7 @@ returns-else-is_mutable g c = record {
   seat = ok_map c.open_anew.result (λ seat made spare way end a. same_seat c.cell.ensures.same (made spare way end (same_seat_asks c.cell.ensures.same a))) c.open_anew.ensures.seat;
   spends = λ spare way end a. c.open_anew.ensures.spends spare way end (same_seat_asks c.cell.ensures.same a);
   refused = err_map c.open_anew.result (λ full r. refused_same c.cell.ensures.same r) c.open_anew.ensures.refused;
+  asked = err_map c.open_anew.result (λ full n spare way end a. n spare way end (same_seat_asks c.cell.ensures.same a)) c.open_anew.ensures.asked;
   frame = fenced_same c.cell.ensures.same c.open_anew.ensures.frame;
   ready = c.open_anew.ensures.ready;
 }

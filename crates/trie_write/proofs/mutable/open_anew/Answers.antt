@@ -1,12 +1,17 @@
-use Rattle.std.proofs.Common.{◌≡◌, ◌+◌, ◌/◌, ℕ, Contains, arith, refl, ap, subst}
+use Rattle.std.proofs.Common.{◌≡◌, ◌+◌, ◌/◌, ℕ, map, Contains, arith, refl, sym, ap, subst}
 use Rattle.chunk_cells.specs.Chunks.{IsGiven}
 use Rattle.chunk_usage.specs.Rooms.{Account}
-use Rattle.trie_write.proofs.SpaceLaws.{frame_then, frame_counts, frame_wrote, wrote_one, fenced_of, ready_counts, refused_room, handed_counted, blank_later}
+use Rattle.trie_write.specs.Ways.{twigs_of}
+use Rattle.trie_write.proofs.AskLaws.{first_of, later_of}
+use Rattle.trie_write.proofs.SpaceLaws.{err_on, frame_then, frame_counts, frame_wrote, wrote_one, fenced_of, ready_counts, refused_room, handed_counted, blank_later}
 use Rattle.trie_write.proofs.PutLaws.{root_asks_later, copied_immutable, opened_anew}
 use Rattle.trie_write.proofs.mutable.open_anew.Goals as goal
 
 pub returns-in_err-root-clause-spends : goal.returns-in_err-root-clause-spends
 returns-in_err-root-clause-spends g c spare way end a = let s = c.room_for.ensures.spends in let e = copied_immutable (g.U.Space.account c.args.usage.now).mutable 1 c.args.top.at way c.requires.immutable in omega arith
+
+pub returns-in_err-root-clause-asked : goal.returns-in_err-root-clause-asked
+returns-in_err-root-clause-asked g c = err_on _ c.from_residual.result c.from_residual.ensures.1 (λ spare way end a. first_of 1 _ (map twigs_of way) (sym c.in_err-root.ensures.asked))
 
 pub copy_way-requires-clause-asks : goal.copy_way-requires-clause-asks
 copy_way-requires-clause-asks g c = record { way = c.requires.asks.way; end = c.requires.asks.end; asks = root_asks_later c.requires.asks.asks c.requires.node c.in_ok-root.ensures.handed c.in_ok-root.ensures.frame }
@@ -20,6 +25,9 @@ returns-in-Err-clause-spends g c spare way end a =
     let d = c.copy_way.ensures.spends way end (root_asks_later a c.requires.node c.in_ok-root.ensures.handed c.in_ok-root.ensures.frame) in
     let r = ap (λ (z : Account). z.spent) c.release.ensures.rest in
     let e = copied_immutable (g.U.Space.account c.args.usage.now).mutable 1 c.args.top.at way c.requires.immutable in omega arith
+
+pub returns-in-Err-clause-asked : goal.returns-in-Err-clause-asked
+returns-in-Err-clause-asked g c spare way end a = later_of 1 _ (map twigs_of way) (c.in-Err.ensures.asked way end (root_asks_later a c.requires.node c.in_ok-root.ensures.handed c.in_ok-root.ensures.frame))
 
 pub returns-in-Err-clause-refused : goal.returns-in-Err-clause-refused
 returns-in-Err-clause-refused g c = refused_room refl c.in_ok-root.ensures.frame c.in_ok-root.ensures.handed c.in-Err.ensures.refused c.release.ensures.counts c.release.ensures.lacks

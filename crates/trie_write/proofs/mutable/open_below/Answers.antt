@@ -1,5 +1,6 @@
 use Rattle.std.proofs.Common.{arith}
-use Rattle.trie_write.proofs.SpaceLaws.{frame_same, fenced_of, fenced_put, ready_put, writable_later, seat_open}
+use Rattle.trie_write.proofs.SpaceLaws.{err_on, frame_same, fenced_of, fenced_put, ready_put, writable_later, seat_open}
+use Rattle.trie_write.proofs.AskLaws.{lower_asked}
 use Rattle.trie_write.proofs.CopyLaws.{same_asks}
 use Rattle.trie_write.proofs.PutLaws.{root_asks, lower_asks, opened_below}
 use Rattle.trie_write.proofs.mutable.open_below.Goals as goal
@@ -18,6 +19,11 @@ returns-in_err-copied-clause-spends g c spare way end a =
     let p = c.last_mutable-last.ensures.parted way end (root_asks a c.requires.node) in
     let s = c.copy_way.ensures.spends p.lower end (same_asks c.last_mutable-last.ensures.same (lower_asks a p)) in
     let e = p.copied 1 in omega arith
+
+pub returns-in_err-copied-clause-asked : goal.returns-in_err-copied-clause-asked
+returns-in_err-copied-clause-asked g c = err_on _ c.from_residual.result c.from_residual.ensures.1 (λ spare way end a.
+    let p = c.last_mutable-last.ensures.parted way end (root_asks a c.requires.node) in
+    lower_asked p.upper p.lower way _ p.whole (c.in_err-copied.ensures.asked p.lower end (same_asks c.last_mutable-last.ensures.same (lower_asks a p))))
 
 pub put-requires : goal.put-requires
 put-requires g c =

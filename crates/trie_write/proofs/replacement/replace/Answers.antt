@@ -1,7 +1,9 @@
-use Rattle.std.proofs.Common.{sym, subst, arith}
+use Rattle.std.proofs.Common.{◌≡◌, ℕ, List, Contains, sym, subst, arith}
+use Rattle.chunk_usage.specs.declared.space.Full.{Full}
+use Rattle.trie_write.specs.Paths.{replace_asks}
 use Rattle.trie_write.proofs.PathLaws.{to_copy_few}
 use Rattle.trie_write.proofs.RootLaws.{stands_of}
-use Rattle.trie_write.proofs.ReplaceLaws.{has_key, on_path, copied_path, beyond_key, trie_later}
+use Rattle.trie_write.proofs.ReplaceLaws.{has_key, on_path, on_branches, copied_path, beyond_key, trie_later}
 use Rattle.trie_write.proofs.replacement.replace.Goals as goal
 
 pub replace_item-requires-clause-there : goal.replace_item-requires-clause-there
@@ -37,6 +39,13 @@ returns-in-Err-clause-spends g c n on =
     let o = on_path c.in-Some.ensures.same c.in-Some.ensures.root n on c.in-Some.ensures.there in
     let m = c.replace_item.ensures.copies o.0 o.1 o.2 in let e = o.3 in
     let f = to_copy_few (g.U.Space.account c.args.usage.now).mutable c.args.key.now c.in-Some.at o.0 in omega arith
+
+pub returns-in-Err-clause-asked : goal.returns-in-Err-clause-asked
+returns-in-Err-clause-asked g c f e branches on =
+    let full = c.in-Err.full in
+    let same : full ≡ f = cc in
+    let o = on_branches c.in-Some.ensures.same c.in-Some.ensures.root branches on c.in-Some.ensures.there in
+    subst (λ (x : Full). Contains (replace_asks c.args.item.now branches) x.needed) same (subst (λ (ns : List ℕ). Contains (replace_asks c.args.item.now ns) full.needed) (sym o.3) (c.in-Err.ensures.asked o.0 o.1 o.2))
 
 pub returns-in-Ok-clause-copies : goal.returns-in-Ok-clause-copies
 returns-in-Ok-clause-copies g c n on =

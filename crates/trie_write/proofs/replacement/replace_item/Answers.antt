@@ -1,11 +1,15 @@
-use Rattle.std.proofs.Common.{w8, arith}
+use Rattle.std.proofs.Common.{w8, ◌∷◌, map, sym, arith}
 use Rattle.std.proofs.Math.Facts.{Fits-lt-pow}
+use Rattle.trie_model.specs.Trees.{cells_in}
 use Rattle.trie_model.specs.Trees.Tree.{leaf}
+use Rattle.trie_write.specs.Paths.{branches_on_path}
+use Rattle.trie_write.specs.Ways.{twigs_of}
+use Rattle.trie_write.proofs.AskLaws.{first_of, replace_opens}
 use Rattle.trie_write.proofs.ChangeLaws.{put_asks, refused_back, outside_put}
 use Rattle.trie_write.proofs.PathLaws.{copied_way}
 use Rattle.trie_write.proofs.RootLaws.{leads_entry}
-use Rattle.trie_write.proofs.ReplaceLaws.{replaced}
-use Rattle.trie_write.proofs.SpaceLaws.{fenced_of, fenced_then, ok_map, err_map}
+use Rattle.trie_write.proofs.ReplaceLaws.{key_branches, replaced}
+use Rattle.trie_write.proofs.SpaceLaws.{err_on, fenced_of, fenced_then, ok_map, err_map}
 use Rattle.trie_write.proofs.replacement.replace_item.Goals as goal
 
 pub put_change-requires-clause-asks : goal.put_change-requires-clause-asks
@@ -15,6 +19,9 @@ put_change-requires-clause-asks g c =
 
 pub returns-in_err-change-clause-copies : goal.returns-in_err-change-clause-copies
 returns-in_err-change-clause-copies g c t version h = let s = c.other_leaf.ensures.spends in omega arith
+
+pub returns-in_err-change-clause-asked : goal.returns-in_err-change-clause-asked
+returns-in_err-change-clause-asked g c = err_on _ c.from_residual.result c.from_residual.ensures.1 (λ t version h. first_of (cells_in c.args.item.now) _ (1 ∷ branches_on_path c.args.key.now t) (sym c.in_err-change.ensures.asked))
 
 pub returns : goal.returns
 returns g c = record {
@@ -27,6 +34,9 @@ returns g c = record {
       let p = c.put_change.ensures.spends h.way _ _ (put_asks h.stands h.way (leaf h.entry h.first) h.is h.is_way c.in_ok-change.ensures.frame c.in_ok-change.ensures.taken (c.in_ok-change.ensures.makes t version h)) in
       let w = copied_way (g.U.Space.account c.args.usage.now).mutable (g.U.Space.account c.other_leaf.new.usage).mutable 65535 c.args.key.now c.args.root t h.way (leaf h.entry h.first) h.stands.trie.shape h.is h.is_way.along c.in_ok-change.ensures.frame.grows.fresher in omega arith;
   refused = err_map c.put_change.result (λ full b. refused_back c.in_ok-change.ensures.frame c.in_ok-change.ensures.taken b) c.put_change.ensures.refused;
+  asked = err_map c.put_change.result (λ full n t version h.
+      replace_opens (branches_on_path c.args.key.now t) (map twigs_of h.way) (branches_on_path c.args.key.now (leaf h.entry h.first)) full.needed (key_branches h) c.args.item.now
+      (n h.way _ _ (put_asks h.stands h.way (leaf h.entry h.first) h.is h.is_way c.in_ok-change.ensures.frame c.in_ok-change.ensures.taken (c.in_ok-change.ensures.makes t version h)))) c.put_change.ensures.asked;
   frame = fenced_then (fenced_of c.in_ok-change.ensures.frame) c.put_change.ensures.frame;
   ready = c.put_change.ensures.ready;
 }

@@ -1,6 +1,8 @@
-use Rattle.std.proofs.Common.{arith}
-use Rattle.trie_write.proofs.SpaceLaws.{ok_map}
-use Rattle.trie_write.proofs.WithLaws.{among_path, among_few}
+use Rattle.std.proofs.Common.{suc, map, sym, arith}
+use Rattle.trie_write.specs.Paths.{branches_on_path}
+use Rattle.trie_write.proofs.AskLaws.{first_of}
+use Rattle.trie_write.proofs.SpaceLaws.{ok_map, err_map}
+use Rattle.trie_write.proofs.WithLaws.{among_path, among_asked, among_few}
 use Rattle.trie_write.proofs.with.with_leaf.Goals as goal
 
 pub pair_with-requires-clause-asks : goal.pair_with-requires-clause-asks
@@ -25,3 +27,10 @@ pub returns-in-Some-clause-copies : goal.returns-in-Some-clause-copies
 returns-in-Some-clause-copies g c =
     let a = c.requires.asks in let x = a.asks in
     let p = among_few x (c.in-Some.ensures.branch 0 a.end x.top.tree x.top.is) c.in-Some.ensures.at in let s = c.join_twigs.ensures.spends in omega arith
+
+pub returns-in-None-clause-asked : goal.returns-in-None-clause-asked
+returns-in-None-clause-asked g c = err_map c.pair_with.result (λ full two item end x. first_of 2 full.needed (map suc (branches_on_path c.args.key.now end)) (sym two)) c.pair_with.ensures.asked
+
+pub returns-in-Some-clause-asked : goal.returns-in-Some-clause-asked
+returns-in-Some-clause-asked g c =
+    err_map c.join_twigs.result (λ full more item end x. among_asked x (c.in-Some.ensures.branch 0 end x.top.tree x.top.is) c.in-Some.ensures.at full.needed more) c.join_twigs.ensures.asked

@@ -11,7 +11,7 @@ use Rattle.shared_index.specs.declared.kept.Versions.{Versions}
 use Rattle.shared_index.specs.Keepings.{narrowed}
 use Rattle.shared_index.specs.declared.change.Unchanged.{Unchanged}
 use Rattle.shared_index.specs.declared.change.Unchanged.TheVariants as unchanged
-use Rattle.shared_index.specs.Changes.{key_of, written_by}
+use Rattle.shared_index.specs.Changes.{key_of, written_by, asked_by}
 use Rattle.shared_index.specs.Drafts.{IsFull}
 use Rattle.shared_index.specs.Fulls.{FullCause, after_room}
 use Rattle.shared_index.specs.Keepings.{versions_in}
@@ -50,8 +50,8 @@ returns-in-Err-Full-clause-cause g c f e =
     let stays = subst (λ r. IfErr r (λ x. Tried change room.result.root room.result.seat.place.me.0 room.result.usage tried.result.0.seat.place.me.0 tried.result.0.usage (Err x))) is tried.ensures.tried in
     let root = subst (λ r. IfErr r (λ x. tried.result.0.root ≡ room.result.root)) is tried.ensures.root in
     let on = tried.ensures.operates.known in
-    subst (λ full. FullCause (after_room u full) tried.result.0 (key_of change) (written_by change) full) same
-    (cause_of u room.result tried.result.0 change c.in-Err-Full.full c.of-full.result (room.ensures.after ∙ ap (λ (v : Versions). freed (narrowed u (versions_in v))) (sym kept)) kept room.ensures.works room.ensures.images c.requires.leads stays root on
+    subst (λ full. FullCause (after_room u full) tried.result.0 (key_of change) (written_by change) (asked_by change) full) same
+    (cause_of u room.result tried.result.0 change c.in-Err-Full.full c.of-full.result (room.ensures.after ∙ ap (λ (v : Versions). freed (narrowed u (versions_in v))) (sym kept)) c.of-full.ensures.request.0 kept room.ensures.works room.ensures.images c.requires.leads stays root on
     (set_stays room.result tried.result.0 on (tried.ensures.operates.stays (λ h. true≢false (sym (subst (λ r. IsOk r) is h))))) (tried.ensures.full c.in-Err-Full.full is))
 
 pub returns-in-Err-Full-clause-counts : goal.returns-in-Err-Full-clause-counts

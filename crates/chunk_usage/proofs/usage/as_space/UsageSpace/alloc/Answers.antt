@@ -1,4 +1,4 @@
-use Rattle.chunk_usage.proofs.SpaceLaws.{Hands, handed}
+use Rattle.chunk_usage.proofs.SpaceLaws.{Hands, handed, wanted}
 use Rattle.chunk_usage.proofs.usage.as_space.UsageSpace.alloc.Goals as goal
 
 hands : (c : goal.After-alloc) → Hands c.args.self.now c.alloc.new.self c.args.n c.alloc.result
@@ -15,3 +15,6 @@ returns-clause-handed c = (hands c).handed
 
 pub returns-clause-spends : goal.returns-clause-spends
 returns-clause-spends c = (hands c).spends
+
+pub returns-clause-needed : goal.returns-clause-needed
+returns-clause-needed c = wanted c.args.self.now c.args.n c.alloc.result c.alloc.ensures.grant
