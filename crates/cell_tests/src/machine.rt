@@ -1,4 +1,5 @@
 //! The machine of pins: two worked runs, by `drive` and event by event.
+use pin_core::words::{ENTERING, IDLE, pin_after_exchange, version_of_pin, word_of_version};
 use pin_core::{
     CellAt, Event, Half, Image, LAST_VERSION, References, Spent, State, Step, drive, next_version,
 };
@@ -171,6 +172,17 @@ fn version_zero_has_an_image(rt: HostRuntime) -> Result<(), Fail> {
         .as_slice()
     );
     Ok(())
+}
+
+/// Version 3, whose root is cell 7 of chunk 5: what the table says of it, and what the pin of a pass that reads it does.
+#[test]
+fn words_of_a_version(rt: HostRuntime) {
+    let word = word_of_version(3, Some(5 * 1024 + 7));
+    assert_eq!(rt; word, 0x300_1407);
+    let pin = pin_after_exchange(ENTERING, word);
+    assert_eq!(rt; pin, 0x300_1409);
+    assert_eq!(rt; version_of_pin(pin), 3);
+    assert_eq!(rt; pin_after_exchange(IDLE, word), IDLE);
 }
 
 #[test]
