@@ -20,7 +20,7 @@ build() {
     cp "$here/commits.rattle" "$crate/src/main.rt"
     {
         grep -E "^($(tr ' ' '|' <<<"$below"))[ :]" "$here/../crates.txt"
-        printf '%s\n' 'commits may_wait=12: dns_name shift_key trie_model trie_write shared_index'
+        printf '%s\n' 'commits may_wait=11: dns_name shift_key trie_model trie_write shared_index'
     } >"$folder/crates.txt"
 
     # the program's proofs, each under a line with its name
@@ -30,19 +30,77 @@ build() {
             *) printf '%s\n' "$line" >>"$file" ;;
         esac
     done) <<'PROOFS'
-== put_all/Invariants.antt
-use Rattle.std.proofs.Common.{◌≡◌}
-use Rattle.std.specs.Prelude.{IsSomeAnd}
-use Rattle.shared_index.specs.Drafts.{Works}
-use Rattle.commits.proofs.put_all.Given as goal
+== rise/Answers.antt
+use Rattle.std.proofs.Common.{◌≡◌, ℕ, zero, suc, ◌-◌, ◌<◌, ◌≤◌, inl, inr, List, [], ◌∷◌, length, drop, get_or, arith, rules, refl, sym, ◌∙◌, subst}
+use Rattle.std.proofs.lemmas.Bool.{cases_lt}
+use Rattle.trie_model.specs.Keys.{at, Entry, Less, Rises}
+use Rattle.trie_write.specs.declared.item.Item.{Item}
+use Rattle.trie_write.specs.Entries.{entry_of, entries_of_items}
+use Rattle.commits.proofs.rise.Goals as goal
 
-abbrev pub invariant-loop-number : goal.invariant-loop-number
-invariant-loop-number g l = record {
-  home : l.transaction.home.ghost_name ≡ l.fn.transaction.home.ghost_name;
-  locked : l.transaction.locked.ghost_name ≡ l.fn.transaction.locked.ghost_name;
-  place : l.transaction.locked.now.place ≡ l.fn.transaction.locked.now.place;
-  works : IsSomeAnd l.transaction.locked.now.draft Works;
+less_then : (a b c : List ℕ) → Less a b → Less b c → Less a c
+less_then a b c l m = elim (cases_lt l.place m.place) [
+  | inl x ↦ record { place = l.place; same = λ i k. l.same i k ∙ m.same i (omega arith); lower = (let e = m.same l.place x in let f = l.lower in omega arith) }
+  | inr y ↦ elim (cases_lt m.place l.place) [
+    | inl x ↦ record { place = m.place; same = λ i k. l.same i (omega arith) ∙ m.same i k; lower = (let e = l.same m.place x in let f = m.lower in omega arith) }
+    | inr z ↦ (
+        let e : l.place ≡ m.place = omega arith in
+        let f = subst (λ (i : ℕ). at b i < at c i) (sym e) m.lower in
+        record { place = l.place; same = λ i k. l.same i k ∙ m.same i (omega arith); lower = (let g = l.lower in omega arith) }
+        )
+  ]
+]
+
+rises_at : (items : List Item) (k : ℕ) (x y : Item) → suc k < length items → x ≡ get_or items k x → y ≡ get_or items (suc k) y → Less (entry_of x).key (entry_of y).key → Rises (entries_of_items (drop (suc k) items)) → Rises (entries_of_items (drop k items))
+rises_at [] k x y n ex ey l r = absurd (omega arith)
+rises_at (a ∷ []) k x y n ex ey l r = absurd (omega arith)
+rises_at (a ∷ (b ∷ more)) zero x y n ex ey l r =
+    let here : Less (entry_of a).key (entry_of b).key = subst (λ (u : Item). Less (entry_of u).key (entry_of b).key) ex (subst (λ (v : Item). Less (entry_of x).key (entry_of v).key) ey l) in
+    (λ z i. elim i [ inl e ↦ subst (λ (w : Entry). Less (entry_of a).key w.key) (sym e) here | inr j ↦ less_then (entry_of a).key (entry_of b).key z.key here (r.0 z j) ], r)
+rises_at (a ∷ (b ∷ more)) (suc k) x y n ex ey l r = rises_at (b ∷ more) k x y (omega arith) ex ey l r
+
+end_rises : (items : List Item) → Rises (entries_of_items (drop (length items - 1) items))
+end_rises [] = tt
+end_rises (a ∷ []) = (λ z i. absurd i, tt)
+end_rises (a ∷ (b ∷ more)) = let e : length (a ∷ (b ∷ more)) - 1 ≡ suc (length (b ∷ more) - 1) = omega arith in subst (λ (n : ℕ). Rises (entries_of_items (drop n (a ∷ (b ∷ more))))) (sym e) (end_rises (b ∷ more))
+
+pub loop-left-init : goal.loop-left-init
+loop-left-init c = record { rising = end_rises c.args.items.now; within = omega arith }
+
+pub loop-left-preserved : goal.loop-left-preserved
+loop-left-preserved c =
+    let inv = c.loop-left.invariant in
+    let test = c.loop-left-test.true in
+    let within = inv.within in
+    let before = subst (λ (k : List ℕ). Less k c.key-in-loop-left.result) c.key.ensures (c.comes_before.ensures (search rules)) in
+    let l = subst (Less (entry_of c.index-items-first.result).key) c.key-in-loop-left.ensures before in
+    let e : c.loop-left.left - 1 ≡ suc (c.loop-left.left - 2) = omega arith in
+    let f : c.loop-left.left - 1 - 1 ≡ c.loop-left.left - 2 = omega arith in
+    record {
+      rising = subst (λ (n : ℕ). Rises (entries_of_items (drop n c.args.items.now))) (sym f) (rises_at c.args.items.now (c.loop-left.left - 2) c.index-items-first.result c.index-items-second.result (omega arith) c.index-items-first.is
+          (subst (λ (n : ℕ). c.index-items-second.result ≡ get_or c.args.items.now n c.index-items-second.result) e c.index-items-second.is) l (subst (λ (n : ℕ). Rises (entries_of_items (drop n c.args.items.now))) e inv.rising));
+      within = omega arith;
+    }
+
+pub returns : goal.returns
+returns c all =
+    let test = c.loop-left-test.false in
+    let e : c.loop-left.left - 1 ≡ 0 = omega arith in
+    subst (λ (n : ℕ). Rises (entries_of_items (drop n c.args.items.now))) e c.loop-left.invariant.rising
+== rise/Invariants.antt
+use Rattle.std.proofs.Common.{◌-◌, ◌≤◌, length, drop}
+use Rattle.trie_model.specs.Keys.{Rises}
+use Rattle.trie_write.specs.Entries.{entries_of_items}
+use Rattle.commits.proofs.rise.Given as goal
+
+abbrev pub invariant-loop-left : goal.invariant-loop-left
+invariant-loop-left l = record {
+  rising : Rises (entries_of_items (drop (l.left - 1) l.items));
+  within : l.left ≤ length l.items;
 }
+
+abbrev pub decreases-loop-left : goal.decreases-loop-left
+decreases-loop-left l = l.left
 == take_out_most/Invariants.antt
 use Rattle.std.proofs.Common.{◌≡◌}
 use Rattle.std.specs.Prelude.{IsSomeAnd}
@@ -81,14 +139,14 @@ PROOFS
 least() {
     for _ in 1 2 3 4 5; do "$program" "$@"; done | awk '
         { for (i = 1; i <= NF; i++) if (NR == 1 || $i < low[i]) low[i] = $i }
-        END { print low[1], low[2], low[3] }'
+        END { print low[1], low[2], low[3], low[4], low[5] }'
 }
 for names in 10000 100000 500000; do
     for kind in write update; do
-        read -r middle most compaction <<<"$(least "$kind" "$names")"
-        printf '%s names, each tenth rewritten by a %s: a commit %s ns, the slowest %s us; compaction behind that %s ns a name\n' \
-            "$names" "$kind" "$middle" $((most / 1000)) $((compaction / names))
+        read -r middle mean most compaction count <<<"$(least "$kind" "$names")"
+        printf '%s names, %s %ss: middle %s ns, mean %s ns, worst %s ns; compaction behind that %s ns\n' \
+            "$names" "$count" "$kind" "$middle" "$mean" "$most" "$compaction"
     done
-    read -r middle _ _ <<<"$(least thin "$names")"
-    printf '%s names, nine of ten taken out: the commit %s ns for each name that is left\n' "$names" $((middle / (names / 10)))
+    read -r left _ <<<"$(least thin "$names")"
+    printf '%s names, nine of ten taken out: the commit %s ns for each that is left\n' "$names" $((left / (names / 10)))
 done

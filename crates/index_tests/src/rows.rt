@@ -142,7 +142,7 @@ fn drop_change<N: Named, R: Wait>(
 }
 
 impl<N: Named> Worker<'_, N> {
-    /// The same.
+    /// The same, of a worker.
     fn drop_change<R: Wait>(&mut self, rt: &R, item: &Item) -> bool {
         drop_change(rt, self.index, &mut self.pass, item)
     }
