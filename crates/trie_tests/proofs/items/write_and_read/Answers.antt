@@ -1,26 +1,26 @@
 use Rattle.std.proofs.Common.{◌≡◌, ℕ, ◌+◌, Some, slice_get, subst, sym, ◌∙◌, arith}
 use Rattle.packed_node.specs.declared.Cell.{Cell}
 use Rattle.chunk_cells.specs.declared.plain.PlainCells.{PlainCells}
-use Rattle.trie_tests.proofs.items.an_item_is_written_and_read.Goals as goal
+use Rattle.trie_tests.proofs.items.write_and_read.Goals as goal
 
 -- a cell that was there is there still
 stays : (old new : PlainCells) (r : ℕ) (x : Cell) → new ≡ old → slice_get old.cells.items r ≡ Some x → (y : Cell) × (slice_get new.cells.items r ≡ Some y)
 stays old new r x same there = (x, subst (λ (s : PlainCells). slice_get s.cells.items r ≡ Some x) (sym same) there)
 
 pub read_item-len-requires-clause-there : goal.read_item-len-requires-clause-there
-read_item-len-requires-clause-there g c k l = (_, c.write_item.ensures.lies k l)
+read_item-len-requires-clause-there c k l = (_, c.write_item.ensures.lies k l)
 
 pub cell-first-requires : goal.cell-first-requires
-cell-first-requires g c = record { there = stays c.write_item.new.cells c.read_front-front_len.new.cells 1030 _ (c.read_front-front_len.ensures.same ∙ c.read_item-len.ensures.same) (c.write_item.ensures.lies 0 (omega arith)) }
+cell-first-requires c = record { there = stays c.write_item.new.cells c.read_front-front_len.new.cells 1030 _ (c.read_front-front_len.ensures.same ∙ c.read_item-len.ensures.same) (c.write_item.ensures.lies 0 (omega arith)) }
 
 pub cell-second-requires : goal.cell-second-requires
-cell-second-requires g c = record { there = stays c.write_item.new.cells c.cell-first.new.self 1031 _ (c.cell-first.ensures.same ∙ c.read_front-front_len.ensures.same ∙ c.read_item-len.ensures.same) (c.write_item.ensures.lies 1 (omega arith)) }
+cell-second-requires c = record { there = stays c.write_item.new.cells c.cell-first.new.self 1031 _ (c.cell-first.ensures.same ∙ c.read_front-front_len.ensures.same ∙ c.read_item-len.ensures.same) (c.write_item.ensures.lies 1 (omega arith)) }
 
-pub cell-requires : goal.cell-requires
-cell-requires g c = record {
+pub cell-third-requires : goal.cell-third-requires
+cell-third-requires c = record {
   there = stays c.write_item.new.cells c.cell-second.new.self 1032 _ (c.cell-second.ensures.same ∙ c.cell-first.ensures.same ∙ c.read_front-front_len.ensures.same ∙ c.read_item-len.ensures.same)
       (c.write_item.ensures.others 1032 _ (λ k l e. omega arith) c.put.ensures.written);
 }
 
 pub read_front-front_len-requires-clause-there : goal.read_front-front_len-requires-clause-there
-read_front-front_len-requires-clause-there g c k l = stays c.write_item.new.cells c.read_item-len.new.cells (1030 + k) _ c.read_item-len.ensures.same (c.write_item.ensures.lies k l)
+read_front-front_len-requires-clause-there c k l = stays c.write_item.new.cells c.read_item-len.new.cells (1030 + k) _ c.read_item-len.ensures.same (c.write_item.ensures.lies k l)
