@@ -55,6 +55,22 @@ fn is_key_of(key: Option<Key>, wire: &[u8]) -> bool {
     }
 }
 
+/// Whether this is found for a name in wire form: the kind, the number of names above, and the last name that isn't behind it, or no
+/// octets where there is none.
+fn is_found(cells: &mut PlainCells, wire: &[u8], kind: Kind, names: u8, pred: &[u8]) -> bool
+    requires stands { Stands (⟦<PlainCells as CellRead>⟧.has cells.old) (Some 0) two_names }
+    requires told { EachTells Leads two_names }
+    ensures { cells.new ≡ cells.old }
+{
+    let Some(name) = Name::from_wire(wire) else {
+        return false;
+    };
+    let found = find(cells, Some(0), &Key::of(&name));
+    let (is_first, kind_found, len) = (found.pred.is_none(), found.kind, found.chain.len);
+    let is_pred = is_key_of(found.pred, pred);
+    kind_found == kind && len == names && is_pred != is_first && is_first == pred.is_empty()
+}
+
 #[test]
 fn neighbours_are_found(rt: HostRuntime) -> Result<(), Fail> {
     let mut cells = PlainCells::new(rt.alloc(), 1)?;
@@ -66,16 +82,10 @@ fn neighbours_are_found(rt: HostRuntime) -> Result<(), Fail> {
         (b"\x01x\x01b\0", Kind::Partial, 1, b"\x01b\0"),
         (b"\x02aa\0", Kind::Absent, 0, b"\x01a\0"),
         (b"\x01c\0", Kind::Absent, 0, b"\x01b\0"),
+        (b"\0", Kind::Absent, 0, b""),
     ] {
-        let name = Name::from_wire(wire).ok_or("no name")?;
-        let found = find(&mut cells, Some(0), &Key::of(&name));
-        assert_eq!(rt; found.kind, kind);
-        assert_eq!(rt; found.chain.len, names);
-        assert!(rt; is_key_of(found.pred, pred));
+        assert!(rt; is_found(&mut cells, wire, kind, names, pred));
     }
-    let first = find(&mut cells, Some(0), &Key::of(&Name::root()));
-    assert_eq!(rt; first.kind, Kind::Absent);
-    assert!(rt; first.pred.is_none());
     Ok(())
 }
 
