@@ -18,13 +18,10 @@ use Rattle.shared_index.specs.Operations.{operated, applied, with_entry, without
 use Rattle.shared_index.specs.Drafts.{Works, Operates, IsFull, IsSame, Between, base_of, working_set}
 use Rattle.shared_index.specs.Fulls.{CausedFrom, cells_kept}
 use Rattle.shared_index.specs.Passes.{Known, version_seen}
-use Rattle.chunk_usage.specs.Ledger.{Ledger, reserve_of}
+use Rattle.chunk_usage.specs.Ledger.{Ledger, Row, reserve_of}
 use Rattle.trie_model.specs.Shape.{cells}
-use Rattle.pin_core.specs.declared.kept.Kept.{Kept}
 use Rattle.std.proofs.lemmas.List.{length-map}
-use Rattle.shared_cells.specs.Views.{kept_in}
-use Rattle.shared_index.specs.Turns.{row_for}
-use Rattle.shared_index.specs.Keepings.{GoesOn, numbers_of, versions_in}
+use Rattle.shared_index.specs.Keepings.{GoesOn, versions_in}
 use Rattle.shared_index.proofs.GoesLaws.{base_goes_on, applied_more, goes_further}
 use Rattle.zone_change.proofs.VersionLaws.{version_put, version_gone}
 use Rattle.zone_change.proofs.StoreLaws.{put_some, storable, same_entry, record_of}
@@ -165,11 +162,10 @@ edits_some A None None p f r = p
 -- of kept versions there are no more than passes and one
 few_kept : (d : Draft) (f : Full) → IsFull d f → length (versions_in f.kept) ≤ d.seat.passes + 1
 few_kept d f full =
-    let same : length (versions_in f.kept) ≡ length (numbers_of (kept_in d.seat.place.me.0.turn)) = ap length (full.kept ∙ d.kept_are) in
-    let numbers = length-map (kept_in d.seat.place.me.0.turn) (λ (k : Kept). k.version) in
-    let rows = ap length d.agrees.rows ∙ length-map (kept_in d.seat.place.me.0.turn) (row_for (length d.usage.given)) in
+    let same = ap length full.kept in
+    let numbers = length-map d.usage.rows (λ (r : Row). r.version) in
     let most = d.agrees.few_rows in
-    omega (arith, same, numbers, rows, most)
+    omega (arith, same, numbers, most)
 
 module _ (o : Operation) (denied : List trie.Entry → Type 0) (A B : Type 0) (name : Name) (before entry : Entry) (old new : Option Draft) where
   abbrev Called : Type 0
