@@ -27,7 +27,7 @@ use Rattle.shared_index.specs.Turns.{Agrees, AgreesWithin, cells_with, row_for, 
 use Rattle.shared_index.specs.Keepings.{GoesOn, numbers_of}
 use Rattle.shared_index.specs.Fulls.{version_at}
 use Rattle.shared_index.proofs.ImageLaws.{current_is, ends_with}
-use Rattle.shared_index.proofs.Lists.{either_true, all_flat, all_from_flat, any_from, in_map, of_map}
+use Rattle.shared_index.proofs.Lists.{either_true, all_flat, all_from_flat}
 use Rattle.shared_index.proofs.RowLaws.{filter_same, among_of, of_among}
 
 -- tests that hold together are the same

@@ -1,21 +1,20 @@
 -- What a transaction's call makes of a working set that is a version.
-use Rattle.std.proofs.Common.{◌≡◌, ◌∙◌, ◌⊎◌, ◌<◌, ℕ, ◌+◌, ◌-◌, ◌≤◌, List, [], ◌∷◌, ◌++◌, length, Option, Some, None, Result, Ok, Err, refl, sym, ap, subst, arith, append-nil}
-use Rattle.std.specs.Prelude.{IsSomeAnd, IfSome, Contains}
+use Rattle.std.proofs.Common.{◌≡◌, ◌∙◌, ℕ, ◌+◌, ◌-◌, ◌≤◌, List, [], ◌∷◌, ◌++◌, length, Option, Some, None, Ok, Err, refl, sym, ap, subst, arith, append-nil}
+use Rattle.std.specs.Prelude.{IsSomeAnd, IfSome}
 use Rattle.zone_model.specs.Names.{Name, IsName}
 use Rattle.zone_model.specs.Keys.{key_of}
 use Rattle.zone_model.specs.Records.{Entry, IsItem}
 use Rattle.zone_model.specs.Versions.{Version, owned, put}
 use Rattle.trie_model.specs.Keys as trie
 use Rattle.trie_model.specs.Keys.{InList}
-use Rattle.zone_answer.specs.Standing.{IsVersion, trie_entry}
+use Rattle.zone_answer.specs.Standing.{IsVersion}
 use Rattle.job_model.specs.Sizes.{trie_entries}
 use Rattle.shared_index.specs.declared.desk.Draft.{Draft}
-use Rattle.shared_index.specs.declared.kept.Versions.{Versions}
 use Rattle.shared_index.specs.declared.refusal.Full.{Full}
 use Rattle.shared_index.specs.declared.meaning.Operation.{Operation}
 use Rattle.shared_index.specs.declared.meaning.Operation.TheVariants as operation
 use Rattle.shared_index.specs.Operations.{operated, applied, with_entry, without}
-use Rattle.shared_index.specs.Drafts.{Works, Operates, IsFull, IsSame, Between, base_of, working_set}
+use Rattle.shared_index.specs.Drafts.{Operates, IsFull, IsSame, Between, base_of, working_set}
 use Rattle.shared_index.specs.Fulls.{CausedFrom, cells_kept}
 use Rattle.shared_index.specs.Passes.{Known, version_seen}
 use Rattle.chunk_usage.specs.Ledger.{Ledger, Row, reserve_of}
@@ -27,7 +26,7 @@ use Rattle.zone_change.proofs.VersionLaws.{version_put, version_gone}
 use Rattle.zone_change.proofs.StoreLaws.{put_some, storable, same_entry, record_of}
 use Rattle.trie_read.specs.Readings.{Fetched}
 use Rattle.zone_answer.specs.Parts.{IsRead}
-use Rattle.zone_edit.specs.Stores.{WorksOn, WorksOnSome, Owns, EditsOne, Edits, Reads, IsFullOn, Stored, Stores}
+use Rattle.zone_edit.specs.Stores.{WorksOn, WorksOnSome, Owns, EditsOne, Edits, Reads, Stores}
 use Rattle.zone_edit.proofs.SetLaws.{IsOwner, inserted, exchanged, deleted}
 
 -- ---- drafts that are there

@@ -1,4 +1,4 @@
-use Rattle.std.proofs.Common.{◌≡◌, ◌+◌, ◌<◌, ℕ, Bool, List, length, sym, ap, subst, ◌∙◌, arith}
+use Rattle.std.proofs.Common.{◌+◌, ◌<◌, Bool, List, length, sym, subst, ◌∙◌, arith}
 use Rattle.std.specs.List.{swap}
 use Rattle.chunk_usage.specs.Ledger.{Row}
 use Rattle.chunk_usage.specs.Keeping.{is_among}
