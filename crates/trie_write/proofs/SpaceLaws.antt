@@ -20,10 +20,6 @@ grows_then a b = record { stays = λ q u. b.stays q (a.stays q u); settled = λ 
 pub grows_refl : (u f : ℕ → Bool) → Grows u u f f
 grows_refl u f = record { stays = λ q h. h; settled = λ q h. refl; fresher = λ q h. h }
 
--- the same of the bump chunk
-opens_then : {given mid : List Bool} {o0 o1 o2 : ℕ → Bool} → OpensFree given o0 o1 → OpensFree mid o1 o2 → ((k : ℕ) → IsGiven given k → IsGiven mid k) → OpensFree given o0 o2
-opens_then a b stays = λ k o. elim (b k o) [ inl m ↦ a k m | inr no ↦ inr (λ h. no (stays k h)) ]
-
 -- what becomes of a chunk's state
 set_same : (given : List Bool) (k : ℕ) (b : Bool) → IsFree given k → slice_get (slice_set given k b) k ≡ Some b
 set_same [] zero b h = cc
@@ -62,7 +58,7 @@ module _ {S A : Type 0} {has : S → ℕ → Cell → Type 0} {kept : S → List
     frozen = λ q c m h. g.frozen q c m (f.frozen q c (fresh_before ((account a1).mutable q) ((account a2).mutable q) (g.grows.fresher q) m) h);
     keeps = g.keeps ∙ f.keeps;
     given_stays = λ k h. g.given_stays k (f.given_stays k h);
-    opens = opens_then f.opens g.opens f.given_stays;
+    opens = λ k o. elim (g.opens k o) [ inl m ↦ f.opens k m | inr no ↦ inr (λ h. no (f.given_stays k h)) ];
     grows = grows_then f.grows g.grows;
     last = g.last ∙ f.last;
   }
@@ -209,7 +205,7 @@ module _ {S A : Type 0} {has : S → ℕ → Cell → Type 0} {kept : S → List
     frozen = λ q c m h. g.frozen q c m (f.frozen q c (fresh_before ((account a1).mutable q) ((account a2).mutable q) (g.grows.fresher q) m) h);
     keeps = g.keeps ∙ f.keeps;
     given_stays = λ k h. g.given_stays k (f.given_stays k h);
-    opens = opens_then f.opens g.opens f.given_stays;
+    opens = λ k o. elim (g.opens k o) [ inl m ↦ f.opens k m | inr no ↦ inr (λ h. no (f.given_stays k h)) ];
     grows = grows_then f.grows g.grows;
     last = g.last ∙ f.last;
   }

@@ -30,11 +30,12 @@ returns-clause-blank g c =
     let gives = subst (GivesChunk (g.U.Space.account c.args.usage.now).given (g.U.Space.account c.alloc.new.self).given) c.in_default.is c.in_ok-grant.ensures.gives in
     handed_open c.in_ok-grant.ensures.handed c.requires.ready (ready_grows c.requires.ready (c.requires.ready.same ∙ sym gives) refl c.in_ok-grant.ensures.grows) refl
 
-opens : (g : _) (c : goal.After-alloc g) → OpensFree (g.C.CellWrite.given c.args.cells.now) (g.U.Space.account c.args.usage.now).opened (g.U.Space.account c.alloc.new.self).opened
-opens g c = subst (λ (flags : List Bool). OpensFree flags (g.U.Space.account c.args.usage.now).opened (g.U.Space.account c.alloc.new.self).opened) (sym c.requires.ready.same) c.alloc.ensures.opens
-
 pub returns-in_err-grant-clause-frame : goal.returns-in_err-grant-clause-frame
-returns-in_err-grant-clause-frame g c = record { stays = λ q x u h. h; frozen = λ q x m h. h; keeps = refl; given_stays = λ k h. h; opens = opens g c; grows = c.alloc.ensures.grows; last = c.alloc.ensures.frozen }
+returns-in_err-grant-clause-frame g c =
+    let opens = subst (λ (flags : List Bool). OpensFree flags (g.U.Space.account c.args.usage.now).opened (g.U.Space.account c.alloc.new.self).opened) (sym c.requires.ready.same) c.alloc.ensures.opens in
+    record { stays = λ q x u h. h; frozen = λ q x m h. h; keeps = refl; given_stays = λ k h. h; opens = opens; grows = c.alloc.ensures.grows; last = c.alloc.ensures.frozen }
 
 pub returns-clause-frame : goal.returns-clause-frame
-returns-clause-frame g c = record { stays = λ q x u h. h; frozen = λ q x m h. h; keeps = refl; given_stays = λ k h. h; opens = opens g c; grows = c.alloc.ensures.grows; last = c.alloc.ensures.frozen }
+returns-clause-frame g c =
+    let opens = subst (λ (flags : List Bool). OpensFree flags (g.U.Space.account c.args.usage.now).opened (g.U.Space.account c.alloc.new.self).opened) (sym c.requires.ready.same) c.alloc.ensures.opens in
+    record { stays = λ q x u h. h; frozen = λ q x m h. h; keeps = refl; given_stays = λ k h. h; opens = opens; grows = c.alloc.ensures.grows; last = c.alloc.ensures.frozen }
