@@ -126,11 +126,11 @@ module _ (first lent : Cells) (v w : Known) (u n : Ledger)
 
   -- a chunk that became the bump chunk was not given, so none of its cells counted
   pub opens_now : IsLedger u → OpensUnused u n
-  opens_now known = λ k o. elim (frame.opens k o) [ inl h ↦ inl h | inr no ↦ inr (none k no) ]
+  opens_now known = λ k o. elim (frame.opens k o) [ inl h ↦ inl h | inr free ↦ inr (unused k free) ]
     where
-      none : (k : ℕ) → (IsGiven (given_chunks first) k → ⊥) → slice_index u.live k ≡ 0
-      none k no = elim (cases_lt 0 (slice_index u.live k)) [
-        | inl some ↦ absurd (no (subst (λ (bs : List Bool). IsGiven bs k) (sym (ap given_chunks begun ∙ agrees.given)) (get_set u.given k (known.counts.in_given k some))))
+      unused : (k : ℕ) → (IsGiven (given_chunks first) k → ⊥) → slice_index u.live k ≡ 0
+      unused k free = elim (cases_lt 0 (slice_index u.live k)) [
+        | inl some ↦ absurd (free (subst (λ (bs : List Bool). IsGiven bs k) (sym (ap given_chunks begun ∙ agrees.given)) (get_set u.given k (known.counts.in_given k some))))
         | inr z ↦ omega arith
       ]
 

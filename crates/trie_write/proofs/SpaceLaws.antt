@@ -58,7 +58,7 @@ module _ {S A : Type 0} {has : S → ℕ → Cell → Type 0} {kept : S → List
     frozen = λ q c m h. g.frozen q c m (f.frozen q c (fresh_before ((account a1).mutable q) ((account a2).mutable q) (g.grows.fresher q) m) h);
     keeps = g.keeps ∙ f.keeps;
     given_stays = λ k h. g.given_stays k (f.given_stays k h);
-    opens = λ k o. elim (g.opens k o) [ inl m ↦ f.opens k m | inr no ↦ inr (λ h. no (f.given_stays k h)) ];
+    opens = λ k o. elim (g.opens k o) [ inl m ↦ f.opens k m | inr free ↦ inr (λ h. free (f.given_stays k h)) ];
     grows = grows_then f.grows g.grows;
     last = g.last ∙ f.last;
   }
@@ -205,7 +205,7 @@ module _ {S A : Type 0} {has : S → ℕ → Cell → Type 0} {kept : S → List
     frozen = λ q c m h. g.frozen q c m (f.frozen q c (fresh_before ((account a1).mutable q) ((account a2).mutable q) (g.grows.fresher q) m) h);
     keeps = g.keeps ∙ f.keeps;
     given_stays = λ k h. g.given_stays k (f.given_stays k h);
-    opens = λ k o. elim (g.opens k o) [ inl m ↦ f.opens k m | inr no ↦ inr (λ h. no (f.given_stays k h)) ];
+    opens = λ k o. elim (g.opens k o) [ inl m ↦ f.opens k m | inr free ↦ inr (λ h. free (f.given_stays k h)) ];
     grows = grows_then f.grows g.grows;
     last = g.last ∙ f.last;
   }
