@@ -6,11 +6,12 @@ use Rattle.std.proofs.lemmas.Bool.Decides.{nat_tests}
 use Rattle.std.proofs.lemmas.List.{length-set, get_or-set_other}
 use Rattle.std.proofs.lemmas.Grind.{get_or-set_at}
 use Rattle.std.proofs.lemmas.List.Sums.{count_by-le-length}
+use Rattle.std.proofs.lemmas.Option.{get_or_from_slice_get}
 use Rattle.trie_model.specs.Trees.{IsRow}
 use Rattle.chunk_usage.specs.declared.open.Open.{Open}
 use Rattle.chunk_usage.specs.declared.space.Grant.{Grant}
 use Rattle.chunk_usage.specs.declared.space.Full.{Full}
-use Rattle.chunk_usage.specs.Rooms.{Handed, GivesChunk, Grows, account_of}
+use Rattle.chunk_usage.specs.Rooms.{Handed, GivesChunk, OpensFree, Grows, account_of}
 use Rattle.chunk_usage.specs.Ledger.{Ledger, IsLedger, IsOpen, is_given, is_open, is_used, is_fresh, filled, left, free_count, reserve_of}
 use Rattle.chunk_usage.specs.Handing.{lowest_free, with_open, taken, next_cell, roomy, granted_from, allocated_from, grant_of, allocated, shortage, spent, unspent}
 use Rattle.chunk_usage.proofs.FlagLemmas.{set_stays, set_within, get_set, get_clear, one_fewer_clear, First, first_is}
@@ -191,3 +192,29 @@ wanted l n r is = subst (Wanted n) (sym is) (of_room (roomy l.open_chunk n))
     of_room : (o : Option Open) → Wanted n (granted_from l n o)
     of_room None = of_free (nat_le (free_count l) (reserve_of l))
     of_room (Some o) = tt
+
+-- ---- a chunk that becomes the bump chunk was free
+
+abbrev pub OpensIn : Ledger → Ledger → Type 0
+OpensIn l new = OpensFree l.given (is_open l.open_chunk) (is_open new.open_chunk)
+
+same_chunk : (c k : ℕ) → (c == k) ≡ true → k ≡ c
+same_chunk c k e = grind (arith, nat_tests)
+
+pub newly_opens : (l : Ledger) (n c : ℕ) → First c l.given → OpensIn l (newly l n c)
+newly_opens l n c first = λ k o. inr (λ h. differ (sym (get_or_from_slice_get l.given k true false h) ∙ (ap (λ (j : ℕ). slice_index_or l.given j false) (same_chunk c k o) ∙ first.clear)))
+
+pub opens : (l : Ledger) (n : ℕ) (new : Ledger) → new ≡ allocated l n → OpensIn l new
+opens l n new is = subst (OpensIn l) (sym is) (of_room l.open_chunk refl)
+  where
+    of_free : (b : Bool) → nat_le (free_count l) (reserve_of l) ≡ b → OpensIn l (if b then l else newly l n (lowest_free l))
+    of_free true e = λ k o. inl o
+    of_free false e = newly_opens l n (lowest_free l) (first_is l.given (lowest_free l) refl (grind (arith, nat_tests)))
+
+    of_room : (o : Option Open) → l.open_chunk ≡ o → OpensIn l (allocated_from l n (roomy o n))
+    of_room None is = of_free (nat_le (free_count l) (reserve_of l)) refl
+    of_room (Some o) is = of_left (nat_le n (1024 - o.filled))
+      where
+        of_left : (b : Bool) → OpensIn l (allocated_from l n (if b then Some o else None))
+        of_left true = λ k e. inl (ap (λ (p : Option Open). is_open p k) is ∙ e)
+        of_left false = of_free (nat_le (free_count l) (reserve_of l)) refl

@@ -1,9 +1,9 @@
 -- Cells that are handed out, and what stays as it is while they are.
-use Rattle.std.specs.Prelude.{◌≡◌, ℕ, ◌+◌, ◌/◌, ◌<◌, Bool, true, false, List, Option, Some, None, slice_set, slice_index}
+use Rattle.std.specs.Prelude.{◌≡◌, ◌⊎◌, ℕ, ◌+◌, ◌/◌, ◌<◌, Bool, true, false, List, Option, Some, None, slice_set, slice_index}
 use Rattle.trie_model.specs.Trees.{IsRow}
 use Rattle.trie_model.specs.Reach.{row, in_chunk}
 use Rattle.chunk_cells.specs.Chunks.{IsGiven, IsFree}
-use Rattle.chunk_usage.specs.Ledger.{Ledger, Frozen, is_used, is_fresh, frozen_part}
+use Rattle.chunk_usage.specs.Ledger.{Ledger, Frozen, is_open, is_used, is_fresh, frozen_part}
 use Rattle.chunk_usage.specs.Handing.{spent}
 
 -- What a space that hands out cells knows of them.
@@ -14,6 +14,8 @@ pub record Account : Type 0 where
   pub mutable : ℕ → Bool
   -- of each chunk, whether it is given
   pub given : List Bool
+  -- the chunk is the bump chunk
+  pub opened : ℕ → Bool
   -- how many cells of a chunk count
   pub live : ℕ → ℕ
   -- 769 for each given chunk but the bump chunk, and of that one what is handed out, at most 769. For a chunk is left for another
@@ -24,7 +26,7 @@ pub record Account : Type 0 where
 
 -- what a ledger tells
 abbrev pub account_of : Ledger → Account
-account_of l = record { used = is_used l; mutable = is_fresh l; given = l.given; live = slice_index l.live; spent = spent l; frozen = frozen_part l }
+account_of l = record { used = is_used l; mutable = is_fresh l; given = l.given; opened = is_open l.open_chunk; live = slice_index l.live; spent = spent l; frozen = frozen_part l }
 
 -- n cells of one given chunk that were not in use and now are, that may be written, and that count
 pub record Handed (old new : Account) (first n : ℕ) : Type 0 where
@@ -45,3 +47,7 @@ pub record Grows (used new fresh fresh_new : ℕ → Bool) : Type 0 where
   pub stays : (q : ℕ) → used q ≡ true → new q ≡ true
   pub settled : (q : ℕ) → used q ≡ true → fresh_new q ≡ fresh q
   pub fresher : (q : ℕ) → fresh q ≡ true → fresh_new q ≡ true
+
+-- a chunk that becomes the bump chunk was not given
+abbrev pub OpensFree : List Bool → (ℕ → Bool) → (ℕ → Bool) → Type 0
+OpensFree given opened new = (k : ℕ) → new k ≡ true → (opened k ≡ true) ⊎ (IsGiven given k → ⊥)

@@ -30,7 +30,7 @@ pub trait Space {
     ghost use Rattle.trie_model.specs.Reach.{row, in_chunk};
     ghost use Rattle.chunk_cells.specs.Chunks.{IsGiven};
     ghost use Rattle.chunk_usage.specs.declared.space.Full.{Full};
-    ghost use Rattle.chunk_usage.specs.Rooms.{Account, Handed, GivesChunk, Grows};
+    ghost use Rattle.chunk_usage.specs.Rooms.{Account, Handed, GivesChunk, OpensFree, Grows};
 
     // What is known of the cells.
     ghost account: { Self → Account };
@@ -44,6 +44,7 @@ pub trait Space {
         requires few { n ≤ 256 }
         ensures handed { IfOk result (λ g. Handed (account self.old) (account self.new) g.at n) }
         ensures gives { IfOk result (λ g. GivesChunk (account self.old).given (account self.new).given g.given) }
+        ensures opens { OpensFree (account self.old).given (account self.old).opened (account self.new).opened }
         ensures grows { Grows (account self.old).used (account self.new).used (account self.old).mutable (account self.new).mutable }
         ensures spends { (account self.new).spent ≤ (account self.old).spent + n }
         ensures frozen { (account self.new).frozen ≡ (account self.old).frozen }

@@ -54,7 +54,18 @@ module _ {S : Type 0} {has : S → ℕ → Cell → Type 0} {s : S} {l l1 : Ledg
 
 module _ {S : Type 0} (has : S → ℕ → Cell → Type 0) (kept : S → List ℕ) (given : S → List Bool) {s : S} {l l1 : Ledger} (e : l1 ≡ closed l) (grows : Grows (is_used l) (is_used l1) (is_fresh l) (is_fresh l1)) where
   pub fenced_closed : Fenced has kept given account_of s l s l1
-  fenced_closed = record { frozen = λ q c m h. h; keeps = refl; given_stays = λ k h. h; grows = grows; last = ap frozen_part e }
+  fenced_closed = record {
+    frozen = λ q c m h. h;
+    keeps = refl;
+    given_stays = λ k h. h;
+    opens = λ k o. inl (was_open l.open_chunk k (sym (ap (λ (m : Ledger). is_open m.open_chunk k) e) ∙ o));
+    grows = grows;
+    last = ap frozen_part e;
+  }
+    where
+      was_open : (o : Option Open) (k : ℕ) → is_open (full o) k ≡ true → is_open o k ≡ true
+      was_open None k h = h
+      was_open (Some o) k h = h
 
   pub ready_closed : Ready kept given account_of s l → Ready kept given account_of s l1
   ready_closed r = ready_grows r (r.same ∙ sym (ap (λ (m : Ledger). m.given) e)) refl grows

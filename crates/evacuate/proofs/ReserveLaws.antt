@@ -15,7 +15,7 @@ use Rattle.chunk_usage.specs.Handing.{IsSpent, lowest_free, newly_taken, new_gra
 use Rattle.chunk_usage.proofs.FlagLemmas.{set_stays, get_set, get_clear, one_fewer_clear, First, first_is}
 use Rattle.chunk_usage.proofs.RowLemmas.{counts_more}
 use Rattle.chunk_usage.proofs.HandingLaws.{opened_fresh}
-use Rattle.chunk_usage.proofs.SpaceLaws.{Hands, used_given, handed}
+use Rattle.chunk_usage.proofs.SpaceLaws.{Hands, OpensIn, used_given, handed, newly_opens}
 
 -- from a free chunk
 module _ (l : Ledger) (h : IsLedger l) (n : ℕ) (some : 0 < n) (few : n ≤ 256) (short : left l.open_chunk < n) (first : First (lowest_free l) l.given) where
@@ -134,3 +134,19 @@ reserve_frozen l n = by_room (roomy l.open_chunk n)
     by_room : (o : Option Open) → frozen_part (reserve_allocated_from l n o) ≡ frozen_part l
     by_room None = by_clear (free_count l == 0)
     by_room (Some o) = refl
+
+-- a chunk that becomes the bump chunk was free
+pub reserve_opens : (l : Ledger) (n : ℕ) (new : Ledger) → new ≡ reserve_allocated l n → OpensIn l new
+reserve_opens l n new is = subst (OpensIn l) (sym is) (of_room l.open_chunk refl)
+  where
+    of_clear : (b : Bool) → (free_count l == 0) ≡ b → OpensIn l (if b then l else newly_taken l n)
+    of_clear true e = λ k o. inl o
+    of_clear false e = newly_opens l n (lowest_free l) (first_is l.given (lowest_free l) refl (grind (arith, nat_tests, e)))
+
+    of_room : (o : Option Open) → l.open_chunk ≡ o → OpensIn l (reserve_allocated_from l n (roomy o n))
+    of_room None is = of_clear (free_count l == 0) refl
+    of_room (Some o) is = of_left (nat_le n (1024 - o.filled))
+      where
+        of_left : (b : Bool) → OpensIn l (reserve_allocated_from l n (if b then Some o else None))
+        of_left true = λ k e. inl (ap (λ (p : Option Open). is_open p k) is ∙ e)
+        of_left false = of_clear (free_count l == 0) refl

@@ -1,7 +1,8 @@
 -- An operation on lent cells, as the seat that lent them knows it.
-use Rattle.std.proofs.Common.{◌≡◌, ◌↔◌, ◌∙◌, ℕ, ◌+◌, ◌*◌, ◌/◌, ◌≤◌, ◌==◌, Bool, true, false, List, map, length, slice_index, Option, Some, None, Result, Ok, Err, refl, sym, ap, subst}
+use Rattle.std.proofs.Common.{◌≡◌, ◌↔◌, ◌∙◌, ℕ, ◌+◌, ◌*◌, ◌/◌, ◌≤◌, ◌==◌, Bool, true, false, List, map, length, slice_index, Option, Some, None, Result, Ok, Err, inl, inr, refl, sym, ap, subst, arith}
 use Rattle.std.specs.Prelude.{IfOk, IfErr}
 use Rattle.std.specs.List.{Contains, range_with_len}
+use Rattle.std.proofs.lemmas.Bool.{cases_lt}
 use Rattle.std.proofs.lemmas.List.FromFn.{length-map-range_with_len}
 use Rattle.std.proofs.lemmas.Option.{get_or_from_slice_get}
 use Rattle.packed_node.specs.declared.Cell.{Cell}
@@ -9,7 +10,7 @@ use Rattle.pin_core.specs.Words.{status_at}
 use Rattle.pin_core.specs.declared.kept.Kept.{Kept}
 use Rattle.chunk_cells.specs.Chunks.{IsGiven}
 use Rattle.chunk_usage.specs.declared.space.Full.{Full as NoRoom}
-use Rattle.chunk_usage.specs.Ledger.{Ledger, Frozen, is_used, is_fresh, is_given, frozen_part}
+use Rattle.chunk_usage.specs.Ledger.{Ledger, IsLedger, Frozen, is_used, is_fresh, is_given, frozen_part}
 use Rattle.chunk_usage.specs.Handing.{Lacks, spent}
 use Rattle.chunk_usage.specs.Rooms.{Grows, account_of}
 use Rattle.chunk_usage.proofs.FlagLemmas.{get_set}
@@ -28,7 +29,7 @@ use Rattle.shared_index.specs.Passes.{Known}
 use Rattle.shared_index.specs.Turns.{Agrees, cells_with, row_for, cell_counts, current_image, is_immutable}
 use Rattle.shared_index.specs.Bases.{IsRooted, StandsFor}
 use Rattle.shared_index.specs.Changes.{operation_of, key_of, written_by, asked_by, IsRefused}
-use Rattle.shared_index.specs.Tries.{Tried, PathHas, PathHasEach}
+use Rattle.shared_index.specs.Tries.{Tried, PathHas, PathHasEach, OpensUnused}
 use Rattle.shared_index.proofs.Lists.{all_of, all_from}
 use Rattle.shared_index.proofs.KeepLaws.{immutable_used, immutable_old, immutable_of}
 
@@ -123,6 +124,16 @@ module _ (first lent : Cells) (v w : Known) (u n : Ledger)
       let old : IsGiven (given_chunks first) k = subst (λ (bs : List Bool). IsGiven bs k) (sym (ap given_chunks begun ∙ agrees.given)) (get_set u.given k h) in
       get_or_from_slice_get n.given k true false (subst (λ (bs : List Bool). IsGiven bs k) ready.same (frame.given_stays k old))
 
+  -- a chunk that became the bump chunk was not given, so none of its cells counted
+  pub opens_now : IsLedger u → OpensUnused u n
+  opens_now known = λ k o. elim (frame.opens k o) [ inl h ↦ inl h | inr free ↦ inr (unused k free) ]
+    where
+      unused : (k : ℕ) → (IsGiven (given_chunks first) k → ⊥) → slice_index u.live k ≡ 0
+      unused k free = elim (cases_lt 0 (slice_index u.live k)) [
+        | inl some ↦ absurd (free (subst (λ (bs : List Bool). IsGiven bs k) (sym (ap given_chunks begun ∙ agrees.given)) (get_set u.given k (known.counts.in_given k some))))
+        | inr z ↦ omega arith
+      ]
+
   pub agrees_later : Agrees (cells_with n w.turn) n count
   agrees_later =
       let now : cells_with n w.turn ≡ record lent { kept = kept_in v.turn } = ap (λ (k : ℕ). cells_of k w.turn) chunks_now ∙ back in
@@ -136,7 +147,7 @@ module _ (first lent : Cells) (v w : Known) (u n : Ledger)
     branches_in : (branches : List ℕ) → PathHasEach v u root (key_of c) branches → BranchesOnPath HasCell account_of first u root (key_of c) branches
     branches_in branches p = subst (λ (k : Cells). BranchesOnPath HasCell account_of k u root (key_of c) branches) (sym begun) p
 
-    pub tried_of : IfOk r (λ new. (es : List Entry) → IsRooted (HasCell first) u root es → IsRooted (HasCell lent) n new (operated es (operation_of c)))
+    pub tried_of : IsLedger u → IfOk r (λ new. (es : List Entry) → IsRooted (HasCell first) u root es → IsRooted (HasCell lent) n new (operated es (operation_of c)))
         → ((es : List Entry) → IsRooted (HasCell first) u root es → (r ≡ Err Refused) ↔ IsRefused c es)
         → IfErr r (λ _. (es : List Entry) → IsRooted (HasCell first) u root es → IsRooted (HasCell lent) n root es)
         → IfErr r (λ _. Same HasCell account_of first u lent n)
@@ -144,7 +155,7 @@ module _ (first lent : Cells) (v w : Known) (u n : Ledger)
         → ((f : NoRoom) → r ≡ Err (Full f) → (branches : List ℕ) → BranchesOnPath HasCell account_of first u root (key_of c) branches → Contains (asked_by c branches) f.needed)
         → ((twigs : ℕ) → TwigsOnPath HasCell account_of first u root (key_of c) twigs → spent n ≤ spent u + (written_by c + twigs))
         → Tried c root v u w n r
-    tried_of done refused stays same full asked spends = record {
+    tried_of known done refused stays same full asked spends = record {
       done = if_ok _ _ r (λ new h es s. left new (operated es (operation_of c)) (h es (entered root es s))) done;
       refused = λ es s. refused es (entered root es s);
       stays = if_err _ _ r (λ e h es s. left root es (h es (entered root es s))) stays;
@@ -154,6 +165,7 @@ module _ (first lent : Cells) (v w : Known) (u n : Ledger)
       wide = wide_now;
       frozen = frame.last;
       given = given_now;
+      opens = opens_now known;
       counts = if_err _ _ r (λ e s. s.counts) same;
       path = if_err _ _ r (λ e s twigs p. path_there lent (cells_with n w.turn) chunks_now words_now n root (key_of c) twigs (path_later root (key_of c) twigs s.untouched frame.grows.stays s.counts (path_in twigs p))) same;
       branches = if_err _ _ r (λ e s branches p. branches_there lent (cells_with n w.turn) chunks_now words_now n root (key_of c) branches (branches_later root (key_of c) branches s.untouched frame.grows.stays s.counts (branches_in branches p))) same;

@@ -8,7 +8,7 @@ use Rattle.std.proofs.lemmas.List.Sums.{sum_by-cons}
 use Rattle.packed_node.specs.declared.Cell.{Cell}
 use Rattle.trie_model.specs.Keys.{Entry}
 use Rattle.chunk_usage.specs.Counting.{is_low, is_sparse, sparse_count}
-use Rattle.chunk_usage.specs.Ledger.{Ledger, Frozen, is_given, is_open, is_used}
+use Rattle.chunk_usage.specs.Ledger.{Ledger, IsLedger, Frozen, is_given, is_open, is_used}
 use Rattle.chunk_usage.specs.Keeping.{freed, narrowed}
 use Rattle.chunk_usage.specs.Rooms.{account_of}
 use Rattle.trie_write.specs.Spaces.{Ready, Fenced}
@@ -27,7 +27,7 @@ use Rattle.shared_index.specs.Turns.{Agrees, cells_with}
 use Rattle.shared_index.specs.Bases.{IsRooted}
 use Rattle.shared_index.specs.Receipts.{AreCountsOf}
 use Rattle.shared_index.specs.Movings.{Moved, is_thin, FewThin}
-use Rattle.shared_index.proofs.AttemptLaws.{entered, left, wide_now, given_now, words_seat}
+use Rattle.shared_index.proofs.AttemptLaws.{entered, left, wide_now, given_now, opens_now, words_seat}
 
 -- ---- which chunks are thin
 
@@ -102,17 +102,19 @@ evacuated_of old room u versions d done after grown whole stopped some counts = 
   last_live = ap (λ (f : Frozen). f.live) grown.frozen ∙ ap (λ (l : Ledger). l.last_live) after;
   last_open = ap (λ (f : Frozen). f.open_chunk) grown.frozen ∙ ap (λ (l : Ledger). l.last_open) after;
   passes = ap (λ (f : Frozen). f.passes) grown.frozen ∙ ap (λ (l : Ledger). l.passes) after;
+  opened = λ k o. elim (grown.opens k o) [ inl h ↦ inl (sym (ap (λ (l : Ledger). is_open l.open_chunk k) after) ∙ h) | inr z ↦ inr (sym (ap (λ (l : Ledger). slice_index l.live k) after) ∙ z) ];
   moved = either_end done (λ e k here shut. let c = counts k in let more = whole e k (omega arith) shut in omega arith) (λ e. (stopped e, some e));
 }
 
 -- where a try before it left that usage
-pub caused_from : (old mid : Ledger) (d : Draft) (key : List ℕ) (written : ℕ) (asks : List ℕ → List ℕ) (f : Full) → Grown old mid → CausedFrom mid d key written asks f → CausedFrom old d key written asks f
-caused_from old mid d key written asks f g c = (
+pub caused_from : (old mid : Ledger) (d : Draft) (key : List ℕ) (written : ℕ) (asks : List ℕ → List ℕ) (f : Full) → Grown old mid → ((k : ℕ) → slice_index mid.live k ≡ slice_index old.live k) → CausedFrom mid d key written asks f → CausedFrom old d key written asks f
+caused_from old mid d key written asks f g counts c = (
   c.0,
   record {
     last_live = c.1.last_live ∙ ap (λ (x : Frozen). x.live) g.frozen;
     last_open = c.1.last_open ∙ ap (λ (x : Frozen). x.open_chunk) g.frozen;
     passes = c.1.passes ∙ ap (λ (x : Frozen). x.passes) g.frozen;
+    opened = λ k o. elim (c.1.opened k o) [ inl h ↦ g.opens k h | inr z ↦ inr (sym (counts k) ∙ z) ];
     moved = c.1.moved;
   },
   c.2,
@@ -125,10 +127,10 @@ module _ (first lent : Cells) (v w : Known) (u n : Ledger)
     (frame : Fenced HasCell kept_references given_chunks account_of first u lent n) (ready : Ready kept_references given_chunks account_of lent n) (wide : lent.chunks ≡ length u.given)
     (count : ℕ) (agrees : Agrees (cells_with u v.turn) u count) where
   -- the trie stands for the same entries
-  pub moved_of : (root new : Option ℕ) (done : Done)
+  pub moved_of : (root new : Option ℕ) (done : Done) → IsLedger u
       → ((es : List Entry) → Standing (HasCell first) (is_used u) (slice_index u.live) root es → Standing (HasCell lent) (is_used n) (slice_index n.live) new es)
       → (done ≡ Whole → IsDense n) → (done ≡ Stopped → IsUsedUp n) → (done ≡ Stopped → HasSparse n) → Moved root v u w n new done
-  moved_of root new done stands whole stopped some = record {
+  moved_of root new done known stands whole stopped some = record {
     stands = λ es s.
         let h = entered first lent v w u n begun back seat frame ready wide count agrees root es s in
         left first lent v w u n begun back seat frame ready wide count agrees new es (record { stands = stands es h.stands; tells = h.tells });
@@ -136,6 +138,7 @@ module _ (first lent : Cells) (v w : Known) (u n : Ledger)
     wide = wide_now first lent v w u n begun back seat frame ready wide count agrees;
     frozen = frame.last;
     given = given_now first lent v w u n begun back seat frame ready wide count agrees;
+    opens = opens_now first lent v w u n begun back seat frame ready wide count agrees known;
     whole = whole;
     stopped = stopped;
     left = some;

@@ -13,7 +13,7 @@ use Rattle.shared_index.specs.Operations.{applied}
 use Rattle.shared_index.specs.Passes.{Known, first_version}
 use Rattle.shared_index.specs.Drafts.{working_set}
 use Rattle.shared_index.specs.Keepings.{versions_in}
-use Rattle.shared_index.specs.Tries.{PathHas, PathHasEach}
+use Rattle.shared_index.specs.Tries.{PathHas, PathHasEach, OpensUnused}
 use Rattle.trie_model.specs.Keys.{Entry}
 
 -- the version of a number that was seen
@@ -54,6 +54,7 @@ after_room u f = freed (narrowed u (versions_in f.kept))
 pub record Grown (old new : Ledger) : Type 0 where
   pub frozen : frozen_part new ≡ frozen_part old
   pub given : (k : ℕ) → is_given old k ≡ true → is_given new k ≡ true
+  pub opens : OpensUnused old new
 
 -- A call that found no room had made a round before, and had moved what lay in sparse chunks, so that the usage was u. What was frozen
 -- is as it was, but for the rows of versions that no pass reads.
@@ -61,6 +62,7 @@ pub record Evacuated (old u : Ledger) (d : Draft) : Type 0 where
   pub last_live : u.last_live ≡ old.last_live
   pub last_open : u.last_open ≡ old.last_open
   pub passes : u.passes ≡ old.passes
+  pub opened : OpensUnused old u
   -- no chunk was free for what is left in sparse ones; or of each chunk that has cells that count, but the bump chunk, over 256 do
   pub moved : (IsUsedUp u × HasSparse u) ⊎ ((k : ℕ) → 0 < slice_index d.usage.live k → is_open u.open_chunk k ≡ false → 256 < slice_index d.usage.live k)
 

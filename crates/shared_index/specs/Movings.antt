@@ -12,6 +12,7 @@ use Rattle.shared_cells.specs.Views.{words_of}
 use Rattle.shared_cells.specs.Cells.{with_words}
 use Rattle.shared_index.specs.Passes.{Known}
 use Rattle.shared_index.specs.Bases.{StandsFor}
+use Rattle.shared_index.specs.Tries.{OpensUnused}
 
 -- The new root stands for what the root stood for.
 pub record Moved (root : Option ℕ) (v : Known) (u : Ledger) (w : Known) (n : Ledger) (new : Option ℕ) (done : Done) : Type 0 where
@@ -21,6 +22,7 @@ pub record Moved (root : Option ℕ) (v : Known) (u : Ledger) (w : Known) (n : L
   pub wide : length n.given ≡ length u.given
   pub frozen : frozen_part n ≡ frozen_part u
   pub given : (k : ℕ) → is_given u k ≡ true → is_given n k ≡ true
+  pub opens : OpensUnused u n
   -- of each chunk that has cells that count, but the bump chunk, over 256 do; or no chunk was free
   pub whole : done ≡ Whole → IsDense n
   pub stopped : done ≡ Stopped → IsUsedUp n

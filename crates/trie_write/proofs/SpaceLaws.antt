@@ -6,7 +6,7 @@ use Rattle.packed_node.specs.declared.Cell.{Cell}
 use Rattle.trie_model.specs.Reach.{row, in_chunk}
 use Rattle.chunk_cells.specs.Chunks.{IsGiven, IsFree}
 use Rattle.chunk_usage.specs.declared.space.Full.{Full}
-use Rattle.chunk_usage.specs.Rooms.{Account, Handed, GivesChunk, Grows}
+use Rattle.chunk_usage.specs.Rooms.{Account, Handed, GivesChunk, OpensFree, Grows}
 use Rattle.trie_write.specs.Spaces.{Ready, Frame, Fenced, Refused, MayWrite, Wrote, IsWritable}
 
 -- what isn't fresh later wasn't before
@@ -50,7 +50,7 @@ apart_from {old} h z u i l e = true≢false (sym u ∙ ap old.used e ∙ h.unuse
 
 module _ {S A : Type 0} {has : S → ℕ → Cell → Type 0} {kept : S → List ℕ} {given : S → List Bool} {account : A → Account} where
   pub frame_refl : (s : S) (a : A) → Frame has kept given account s a s a
-  frame_refl s a = record { stays = λ q c m h. h; frozen = λ q c m h. h; keeps = refl; given_stays = λ k h. h; grows = grows_refl (account a).used (account a).mutable; last = refl }
+  frame_refl s a = record { stays = λ q c m h. h; frozen = λ q c m h. h; keeps = refl; given_stays = λ k h. h; opens = λ k o. inl o; grows = grows_refl (account a).used (account a).mutable; last = refl }
 
   pub frame_then : {s s1 s2 : S} {a a1 a2 : A} → Frame has kept given account s a s1 a1 → Frame has kept given account s1 a1 s2 a2 → Frame has kept given account s a s2 a2
   frame_then {a1 = a1} {a2 = a2} f g = record {
@@ -58,6 +58,7 @@ module _ {S A : Type 0} {has : S → ℕ → Cell → Type 0} {kept : S → List
     frozen = λ q c m h. g.frozen q c m (f.frozen q c (fresh_before ((account a1).mutable q) ((account a2).mutable q) (g.grows.fresher q) m) h);
     keeps = g.keeps ∙ f.keeps;
     given_stays = λ k h. g.given_stays k (f.given_stays k h);
+    opens = λ k o. elim (g.opens k o) [ inl m ↦ f.opens k m | inr free ↦ inr (λ h. free (f.given_stays k h)) ];
     grows = grows_then f.grows g.grows;
     last = g.last ∙ f.last;
   }
@@ -69,6 +70,7 @@ module _ {S A : Type 0} {has : S → ℕ → Cell → Type 0} {kept : S → List
     frozen = λ q c m h. f.frozen q c (sym (ap (λ (z : Account). z.mutable q) rest) ∙ m) h;
     keeps = f.keeps;
     given_stays = f.given_stays;
+    opens = λ k o. f.opens k (sym (ap (λ (z : Account). z.opened k) rest) ∙ o);
     grows = record { stays = λ q u. ap (λ (z : Account). z.used q) rest ∙ f.grows.stays q u; settled = λ q u. ap (λ (z : Account). z.mutable q) rest ∙ f.grows.settled q u; fresher = λ q m. ap (λ (z : Account). z.mutable q) rest ∙ f.grows.fresher q m };
     last = ap (λ (z : Account). z.frozen) rest ∙ f.last;
   }
@@ -80,18 +82,20 @@ module _ {S A : Type 0} {has : S → ℕ → Cell → Type 0} {kept : S → List
     frozen = λ q c m x. w.others q c (λ i l e. true≢false (sym (h.grows.fresher q (ap (account a1).mutable e ∙ handed.writable i l)) ∙ m)) (f.frozen q c m x);
     keeps = w.same_kept ∙ f.keeps;
     given_stays = λ k h. subst (λ (x : List Bool). IsGiven x k) (sym w.same_given) (f.given_stays k h);
+    opens = f.opens;
     grows = f.grows;
     last = f.last;
   }
 
   -- a chunk is given with the cells
   pub frame_given : {s s1 : S} {a a1 : A} (chunk : Option ℕ) → GivesChunk (given s) (given s1) chunk → ((q : ℕ) (c : Cell) → has s q c → has s1 q c) → kept s1 ≡ kept s →
-      Grows (account a).used (account a1).used (account a).mutable (account a1).mutable → (account a1).frozen ≡ (account a).frozen → Frame has kept given account s a s1 a1
-  frame_given {s} {s1} chunk gives all keeps grows last = record {
+      OpensFree (given s) (account a).opened (account a1).opened → Grows (account a).used (account a1).used (account a).mutable (account a1).mutable → (account a1).frozen ≡ (account a).frozen → Frame has kept given account s a s1 a1
+  frame_given {s} {s1} chunk gives all keeps opens grows last = record {
     stays = λ q c u h. all q c h;
     frozen = λ q c m h. all q c h;
     keeps = keeps;
     given_stays = given_by (given s) (given s1) chunk gives;
+    opens = opens;
     grows = grows;
     last = last;
   }
@@ -194,13 +198,14 @@ module _ {S A : Type 0} {has : S → ℕ → Cell → Type 0} {kept : S → List
   -- ---- calls that may write mutable cells
 
   pub fenced_of : {s s1 : S} {a a1 : A} → Frame has kept given account s a s1 a1 → Fenced has kept given account s a s1 a1
-  fenced_of f = record { frozen = f.frozen; keeps = f.keeps; given_stays = f.given_stays; grows = f.grows; last = f.last }
+  fenced_of f = record { frozen = f.frozen; keeps = f.keeps; given_stays = f.given_stays; opens = f.opens; grows = f.grows; last = f.last }
 
   pub fenced_then : {s s1 s2 : S} {a a1 a2 : A} → Fenced has kept given account s a s1 a1 → Fenced has kept given account s1 a1 s2 a2 → Fenced has kept given account s a s2 a2
   fenced_then {a1 = a1} {a2 = a2} f g = record {
     frozen = λ q c m h. g.frozen q c m (f.frozen q c (fresh_before ((account a1).mutable q) ((account a2).mutable q) (g.grows.fresher q) m) h);
     keeps = g.keeps ∙ f.keeps;
     given_stays = λ k h. g.given_stays k (f.given_stays k h);
+    opens = λ k o. elim (g.opens k o) [ inl m ↦ f.opens k m | inr free ↦ inr (λ h. free (f.given_stays k h)) ];
     grows = grows_then f.grows g.grows;
     last = g.last ∙ f.last;
   }
@@ -211,6 +216,7 @@ module _ {S A : Type 0} {has : S → ℕ → Cell → Type 0} {kept : S → List
     frozen = λ q c m h. others q c (λ e. true≢false (sym (ap (account a1).mutable e ∙ mutable) ∙ m)) (f.frozen q c m h);
     keeps = same_kept ∙ f.keeps;
     given_stays = λ k h. subst (λ (x : List Bool). IsGiven x k) (sym same_given) (f.given_stays k h);
+    opens = f.opens;
     grows = f.grows;
     last = f.last;
   }
@@ -220,6 +226,7 @@ module _ {S A : Type 0} {has : S → ℕ → Cell → Type 0} {kept : S → List
     frozen = λ q c m h. f.frozen q c (sym (ap (λ (z : Account). z.mutable q) rest) ∙ m) h;
     keeps = f.keeps;
     given_stays = f.given_stays;
+    opens = λ k o. f.opens k (sym (ap (λ (z : Account). z.opened k) rest) ∙ o);
     grows = record { stays = λ q u. ap (λ (z : Account). z.used q) rest ∙ f.grows.stays q u; settled = λ q u. ap (λ (z : Account). z.mutable q) rest ∙ f.grows.settled q u; fresher = λ q m. ap (λ (z : Account). z.mutable q) rest ∙ f.grows.fresher q m };
     last = ap (λ (z : Account). z.frozen) rest ∙ f.last;
   }

@@ -3,7 +3,7 @@ use Rattle.std.specs.Prelude.{◌≡◌, ℕ, ◌+◌, ◌/◌, ◌<◌, Bool, t
 use Rattle.packed_node.specs.declared.Cell.{Cell}
 use Rattle.chunk_cells.specs.Chunks.{IsGiven}
 use Rattle.chunk_usage.specs.declared.space.Full.{Full}
-use Rattle.chunk_usage.specs.Rooms.{Account, Grows}
+use Rattle.chunk_usage.specs.Rooms.{Account, OpensFree, Grows}
 
 -- both know the same given chunks; what is kept is in use, and immutable
 pub record Ready {S A : Type 0} (kept : S → List ℕ) (given : S → List Bool) (account : A → Account) (s : S) (a : A) : Type 0 where
@@ -12,12 +12,13 @@ pub record Ready {S A : Type 0} (kept : S → List ℕ) (given : S → List Bool
   pub settled : (q : ℕ) → Contains (kept s) q → (account a).mutable q ≡ false
 
 -- A call that leaves what is there: cells in use stay as they are and in use, and immutable cells as they are, in use or not.
--- What is kept is kept, and given chunks stay given.
+-- What is kept is kept, and given chunks stay given; one that becomes the bump chunk was not given.
 pub record Frame {S A : Type 0} (has : S → ℕ → Cell → Type 0) (kept : S → List ℕ) (given : S → List Bool) (account : A → Account) (s : S) (a : A) (s_new : S) (a_new : A) : Type 0 where
   pub stays : (q : ℕ) (c : Cell) → (account a).used q ≡ true → has s q c → has s_new q c
   pub frozen : (q : ℕ) (c : Cell) → (account a_new).mutable q ≡ false → has s q c → has s_new q c
   pub keeps : kept s_new ≡ kept s
   pub given_stays : (k : ℕ) → IsGiven (given s) k → IsGiven (given s_new) k
+  pub opens : OpensFree (given s) (account a).opened (account a_new).opened
   pub grows : Grows (account a).used (account a_new).used (account a).mutable (account a_new).mutable
   pub last : (account a_new).frozen ≡ (account a).frozen
 
@@ -26,6 +27,7 @@ pub record Fenced {S A : Type 0} (has : S → ℕ → Cell → Type 0) (kept : S
   pub frozen : (q : ℕ) (c : Cell) → (account a_new).mutable q ≡ false → has s q c → has s_new q c
   pub keeps : kept s_new ≡ kept s
   pub given_stays : (k : ℕ) → IsGiven (given s) k → IsGiven (given s_new) k
+  pub opens : OpensFree (given s) (account a).opened (account a_new).opened
   pub grows : Grows (account a).used (account a_new).used (account a).mutable (account a_new).mutable
   pub last : (account a_new).frozen ≡ (account a).frozen
 

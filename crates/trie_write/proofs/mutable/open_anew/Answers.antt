@@ -3,7 +3,7 @@ use Rattle.chunk_cells.specs.Chunks.{IsGiven}
 use Rattle.chunk_usage.specs.Rooms.{Account}
 use Rattle.trie_write.specs.Ways.{twigs_of}
 use Rattle.trie_write.proofs.AskLaws.{first_of, later_of}
-use Rattle.trie_write.proofs.SpaceLaws.{err_on, frame_then, frame_counts, frame_wrote, wrote_one, fenced_of, ready_counts, refused_room, handed_counted, blank_later}
+use Rattle.trie_write.proofs.SpaceLaws.{err_on, frame_then, frame_counts, frame_wrote, wrote_one, fenced_of, ready_counts, ready_put, refused_room, handed_counted, blank_later}
 use Rattle.trie_write.proofs.PutLaws.{root_asks_later, copied_immutable, opened_anew}
 use Rattle.trie_write.proofs.mutable.open_anew.Goals as goal
 
@@ -66,3 +66,6 @@ pub returns-in-Ok-clause-frame : goal.returns-in-Ok-clause-frame
 returns-in-Ok-clause-frame g c =
     let zeroth : c.in_ok-root.root ≡ c.in_ok-root.root + 0 = omega arith in
     fenced_of (frame_counts (frame_wrote c.in_ok-root.ensures.handed c.in_ok-root.ensures.frame c.in-Ok.ensures.frame (wrote_one c.in_ok-root.root 0 (omega arith) zeroth c.put.ensures.others c.put.ensures.given c.put.ensures.kept)) c.release-in-Ok.ensures.rest)
+
+pub returns-in-Ok-clause-ready : goal.returns-in-Ok-clause-ready
+returns-in-Ok-clause-ready g c = ready_counts c.release-in-Ok.ensures.rest (ready_put c.in-Ok.ensures.ready c.put.ensures.given c.put.ensures.kept)

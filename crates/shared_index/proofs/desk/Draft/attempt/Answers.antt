@@ -24,4 +24,4 @@ returns-in-Ok-clause-operates g c =
 pub returns-in-Ok-clause-grown : goal.returns-in-Ok-clause-grown
 returns-in-Ok-clause-grown g c =
     let tried = c.attempt-seat.ensures.tried in
-    subst (Grown c.args.self.usage) (sym c.with_done.ensures.usage) (record { frozen = tried.frozen; given = tried.given })
+    subst (Grown c.args.self.usage) (sym c.with_done.ensures.usage) (record { frozen = tried.frozen; given = tried.given; opens = tried.opens })

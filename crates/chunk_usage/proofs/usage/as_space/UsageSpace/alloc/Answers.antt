@@ -1,4 +1,4 @@
-use Rattle.chunk_usage.proofs.SpaceLaws.{Hands, handed, wanted}
+use Rattle.chunk_usage.proofs.SpaceLaws.{Hands, handed, wanted, opens}
 use Rattle.chunk_usage.proofs.usage.as_space.UsageSpace.alloc.Goals as goal
 
 hands : (c : goal.After-alloc) → Hands c.args.self.now c.alloc.new.self c.args.n c.alloc.result
@@ -18,3 +18,6 @@ returns-clause-spends c = (hands c).spends
 
 pub returns-clause-needed : goal.returns-clause-needed
 returns-clause-needed c = wanted c.args.self.now c.args.n c.alloc.result c.alloc.ensures.grant
+
+pub returns-clause-opens : goal.returns-clause-opens
+returns-clause-opens c = opens c.args.self.now c.args.n c.alloc.new.self c.alloc.ensures.after
