@@ -3,7 +3,8 @@ ghost use Rattle.std.specs.Prelude.{◌≡◌, ◌≤◌, ◌-◌, ◌^◌, ℕ,
 ghost use Rattle.zone_model.specs.Texts.{number, digits_from};
 ghost use Rattle.command_line.specs.Numbers.{chunks_of, seed_of, within};
 
-use rr_data::number;
+use zone_text::number;
+
 
 /// The number of chunks where none is given.
 pub const DEFAULT_CHUNKS: u32 = 64;

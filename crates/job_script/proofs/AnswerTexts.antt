@@ -4,7 +4,7 @@ use Rattle.std.proofs.lemmas.Grind.{flat_map-append}
 use Rattle.std.specs.List.{flat_map}
 use Rattle.zone_model.specs.Names.{Name}
 use Rattle.zone_model.specs.Rows.{Row, rows_of, row_text}
-use Rattle.zone_answer.specs.Parts.{OwnedSet, rows_in}
+use Rattle.zone_query.specs.Parts.{OwnedSet, rows_in}
 
 abbrev pub row_with : Name → ℕ → ℕ → List ℕ → Row
 row_with owner rtype ttl octets = record { owner = owner; rtype = rtype; ttl = ttl; octets = octets }

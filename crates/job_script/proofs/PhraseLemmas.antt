@@ -2,10 +2,10 @@
 use Rattle.std.proofs.Common.{◌≡◌, ◌∙◌, ℕ, suc, ◌<◌, List, [], ◌∷◌, length, slice_index_or, sym, ap, subst, arith}
 use Rattle.std.specs.List.{All}
 use Rattle.zone_model.specs.Lines.{lines_of}
-use Rattle.rr_data.specs.Tokens.{IsPlaced}
-use Rattle.rr_data.specs.declared.token.Token.{Token}
-use Rattle.master_file.specs.Places.{first_line}
-use Rattle.master_file.proofs.LineLemmas.{first_blank}
+use Rattle.zone_text.specs.Tokens.{IsPlaced}
+use Rattle.zone_text.specs.declared.token.Token.{Token}
+use Rattle.zone_text.specs.Places.{first_line}
+use Rattle.zone_text.proofs.LineLemmas.{first_blank}
 
 pub first_placed : (bytes : List ℕ) (tokens : List Token) (t : Token) (rest : List Token) → tokens ≡ t ∷ rest → All (IsPlaced bytes) tokens → IsPlaced bytes t
 first_placed bytes tokens t rest e a =

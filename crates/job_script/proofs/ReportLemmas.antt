@@ -15,7 +15,7 @@ use Rattle.job_script.specs.declared.outcomes.Outcome.{Outcome}
 use Rattle.job_script.specs.declared.outcomes.Outcomes.{Outcomes}
 
 replied : (wanted : replies.Reply) (t : Told) → Replies wanted t → reply_text wanted ≡ told_text t
-replied wanted (told.Reply reply) r = ap reply_text (sym r)
+replied wanted (told.Reply text) r = sym r
 replied wanted told.Held r = absurd r
 replied wanted told.Released r = absurd r
 replied wanted told.Committed r = absurd r
@@ -24,7 +24,7 @@ replied wanted told.RolledBack r = absurd r
 replied wanted (told.Refused refused) r = absurd r
 
 block_ended : (t : Told) → EndsBlock t → ended_text (ended_view t) ≡ told_text t
-block_ended (told.Reply reply) e = absurd e
+block_ended (told.Reply text) e = absurd e
 block_ended told.Held e = absurd e
 block_ended told.Released e = absurd e
 block_ended told.Committed e = refl
@@ -33,7 +33,7 @@ block_ended told.RolledBack e = refl
 block_ended (told.Refused refused) e = refl
 
 compaction_ended : (t : Told) → EndsCompaction t → compacted_text (ended_view t) ≡ told_text t
-compaction_ended (told.Reply reply) e = absurd e
+compaction_ended (told.Reply text) e = absurd e
 compaction_ended told.Held e = absurd e
 compaction_ended told.Released e = absurd e
 compaction_ended told.Committed e = absurd e

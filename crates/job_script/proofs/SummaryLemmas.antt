@@ -62,7 +62,7 @@ jobs_length origin set (w ∷ ws) (o ∷ os) t =
 -- ---- the lines of refused transactions
 
 line_told : (w c v : ℕ) (t : Told) → (if is_refused (ended_view t) then head_text w c v ++ ended_text (ended_view t) else []) ≡ (if is_refused (ended_view t) then head_text w c v ++ told_text t else [])
-line_told w c v (told.Reply reply) = refl
+line_told w c v (told.Reply text) = refl
 line_told w c v told.Held = refl
 line_told w c v told.Released = refl
 line_told w c v told.Committed = refl

@@ -2,7 +2,6 @@ pub mod Phrases
 pub mod Views
 pub mod Parts
 pub mod Scripts
-pub mod Replies
 pub mod Outcomes
 pub mod Spelled
 pub mod Summaries

@@ -8,7 +8,6 @@ use Rattle.job_model.specs.Outcomes.{Pair, all_pairs, version_at}
 use Rattle.job_model.specs.Replies.{reply_of, reply_text}
 use Rattle.job_model.specs.Replies as replies
 use Rattle.job_model.specs.Reports.{head_text, ended_text, compacted_text}
-use Rattle.job_script.specs.Replies.{reply_view}
 use Rattle.job_script.specs.declared.outcomes.Cause.{Cause}
 use Rattle.job_script.specs.declared.outcomes.Cause.TheVariants as cause
 use Rattle.job_script.specs.declared.outcomes.Told.{Told}
@@ -22,7 +21,7 @@ cause_view (cause.Full operation kept) = outcomes.Full operation kept.items
 cause_view cause.Spent = outcomes.Spent
 
 abbrev pub ended_view : Told → outcomes.Ended
-ended_view (told.Reply reply) = outcomes.Shown
+ended_view (told.Reply text) = outcomes.Shown
 ended_view told.Held = outcomes.Shown
 ended_view told.Released = outcomes.Shown
 ended_view told.Committed = outcomes.Committed
@@ -50,9 +49,9 @@ versions_made origin zone workers os = version_at origin zone (all_pairs (job_pa
 
 -- ---- outcomes that tell what is so
 
--- a reply, which is the one wanted
+-- the text of the reply that is wanted
 abbrev pub Replies : replies.Reply → Told → Type 0
-Replies wanted (told.Reply reply) = reply_view reply ≡ wanted
+Replies wanted (told.Reply text) = text.items ≡ reply_text wanted
 Replies wanted told.Held = ⊥
 Replies wanted told.Released = ⊥
 Replies wanted told.Committed = ⊥
@@ -61,7 +60,7 @@ Replies wanted told.RolledBack = ⊥
 Replies wanted (told.Refused refused) = ⊥
 
 abbrev pub EndsBlock : Told → Type 0
-EndsBlock (told.Reply reply) = ⊥
+EndsBlock (told.Reply text) = ⊥
 EndsBlock told.Held = ⊥
 EndsBlock told.Released = ⊥
 EndsBlock told.Committed = Unit {0}
@@ -70,7 +69,7 @@ EndsBlock told.RolledBack = Unit {0}
 EndsBlock (told.Refused refused) = Unit {0}
 
 abbrev pub EndsCompaction : Told → Type 0
-EndsCompaction (told.Reply reply) = ⊥
+EndsCompaction (told.Reply text) = ⊥
 EndsCompaction told.Held = ⊥
 EndsCompaction told.Released = ⊥
 EndsCompaction told.Committed = ⊥
@@ -103,7 +102,7 @@ AllTell origin set (w ∷ ws) (o ∷ os) = EachTells origin set w o.list.items �
 -- ---- what is printed
 
 abbrev pub told_text : Told → List ℕ
-told_text (told.Reply reply) = reply_text (reply_view reply)
+told_text (told.Reply text) = text.items
 told_text told.Held = codes "HELD\n"
 told_text told.Released = codes "RELEASED\n"
 told_text told.Committed = ended_text outcomes.Committed

@@ -2,7 +2,7 @@
 use Rattle.std.specs.Prelude.{ℕ, List, map}
 use Rattle.std.specs.List.{All}
 use Rattle.job_model.specs.Phrases as phrases
-use Rattle.rr_data.specs.Tokens.{IsPlaced, token_view}
+use Rattle.zone_text.specs.Tokens.{IsPlaced, token_view}
 use Rattle.job_script.specs.declared.phrases.Asked.{Asked}
 use Rattle.job_script.specs.declared.phrases.Asked.TheVariants as asked
 use Rattle.job_script.specs.declared.phrases.Phrase.{Phrase}

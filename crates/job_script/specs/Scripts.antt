@@ -6,7 +6,8 @@ use Rattle.zone_model.specs.Refusals.{Refused}
 use Rattle.zone_model.specs.Lines.{lines_of}
 use Rattle.job_model.specs.Jobs as jobs
 use Rattle.job_model.specs.declared.ScriptKind.{ScriptKind}
-use Rattle.job_script.specs.Views.{command_view, operation_view, workers_view}
+use Rattle.job_script.specs.Views.{command_view, workers_view}
+use Rattle.zone_change.specs.Views.{operation_view}
 use Rattle.job_script.specs.declared.script.Script.{Script}
 use Rattle.job_script.specs.declared.script.Unfinished.{Unfinished}
 use Rattle.job_script.specs.declared.refusal.JobRefusal.{JobRefusal}

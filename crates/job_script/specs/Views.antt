@@ -1,10 +1,7 @@
 -- The commands of a script as the definitions see them.
 use Rattle.std.specs.Prelude.{List, map}
-use Rattle.zone_model.specs.Versions as versions
+use Rattle.zone_change.specs.Views.{operation_view}
 use Rattle.job_model.specs.Commands as jobs
-use Rattle.job_script.specs.declared.operations.NewRecord.{NewRecord}
-use Rattle.job_script.specs.declared.operations.Operation.{Operation}
-use Rattle.job_script.specs.declared.operations.Operation.TheVariants.{Add, DeleteName, DeleteSet, DeleteRecord}
 use Rattle.job_script.specs.declared.commands.Stretch.{Stretch}
 use Rattle.job_script.specs.declared.commands.Question.{Question}
 use Rattle.job_script.specs.declared.commands.Question.TheVariants as question
@@ -13,15 +10,6 @@ use Rattle.job_script.specs.declared.commands.Command.TheVariants as command
 use Rattle.job_script.specs.declared.commands.Block.{Block}
 use Rattle.job_script.specs.declared.commands.Worker.{Worker}
 use Rattle.job_script.specs.declared.commands.Job.{Job}
-
-abbrev pub addition_view : NewRecord → versions.Addition
-addition_view a = record { owner = a.owner; rtype = a.rtype; ttl = a.ttl; octets = a.rdata }
-
-abbrev pub operation_view : Operation → versions.Operation
-operation_view (Add a) = versions.Add (addition_view a)
-operation_view (DeleteName owner) = versions.DeleteName owner
-operation_view (DeleteSet owner rtype) = versions.DeleteSet owner rtype
-operation_view (DeleteRecord owner rtype rdata) = versions.DeleteRecord owner rtype rdata
 
 abbrev pub stretch_view : Stretch → jobs.Stretch
 stretch_view s = record { start = s.start; most = s.most }

@@ -3,17 +3,18 @@ ghost use Rattle.std.specs.Prelude.{◌≡◌, ◌∷◌, List, map};
 ghost use Rattle.std.specs.List.{All};
 ghost use Rattle.job_model.specs.Arguments as jobs;
 ghost use Rattle.zone_model.specs.Data.{data_of};
-ghost use Rattle.rr_data.specs.Tokens.{IsPlaced, token_view};
+ghost use Rattle.zone_text.specs.Tokens.{IsPlaced, token_view};
 ghost use Rattle.job_script.specs.Scripts.{Says};
-ghost use Rattle.job_script.specs.Views.{operation_view};
+ghost use Rattle.zone_change.specs.Views.{operation_view};
 
-use crate::operations::{NewRecord, Operation};
+use zone_change::{NewRecord, Operation};
 use crate::refusal::{JobRefusal, refused};
 use dns_name::Name;
 use job_model::ScriptKind;
 use master_file::{name_word, time_word, type_word};
-use rr_data::{Rdata, RdataRefusal, Token};
+use rr_data::{Rdata, RdataRefusal};
 use std::alloc::Global;
+use zone_text::Token;
 
 // The name that a token says, at or under the origin.
 fn inner_name(bytes: &[u8], origin: &Name, token: Token) -> Option<Name>

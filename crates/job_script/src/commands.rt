@@ -1,5 +1,5 @@
 //! Commands of a script.
-use crate::operations::Operation;
+use zone_change::Operation;
 use dns_name::Name;
 use job_model::{Ending, Weight};
 

@@ -3,11 +3,11 @@ ghost use Rattle.std.specs.Prelude.{◌≡◌, ◌<◌, ◌≤◌, ◌+◌, ◌�
 ghost use Rattle.job_model.specs.Jobs as jobs;
 ghost use Rattle.job_script.specs.Phrases.{phrase_view, PhrasePlaced};
 ghost use Rattle.job_script.specs.Scripts.{unfinished_view, script_view, ScriptReads};
-ghost use Rattle.job_script.specs.Views.{operation_view};
+ghost use Rattle.zone_change.specs.Views.{operation_view};
 
 use crate::changes::{addition_of, deletion_of};
 use crate::commands::{Block, Command};
-use crate::operations::Operation;
+use zone_change::Operation;
 use crate::phrases::Phrase;
 use crate::refusal::{JobRefusal, refused, too_many};
 use crate::script::{Script, Unfinished};

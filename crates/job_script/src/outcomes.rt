@@ -4,7 +4,6 @@ ghost use Rattle.std.specs.List.{list_any};
 ghost use Rattle.job_model.specs.Outcomes.{is_committed, is_refused};
 ghost use Rattle.job_script.specs.Outcomes.{ended_view};
 
-use crate::replies::Reply;
 use zone_model::Refusal;
 
 /// Why a transaction makes no version.
@@ -21,8 +20,8 @@ pub enum Cause {
 /// What a command came to.
 #[derive(Drop)]
 pub enum Told {
-    /// A question's reply.
-    Reply(Reply),
+    /// The text of a question's reply.
+    Reply(Vec<u8>),
     /// A snapshot was taken.
     Held,
     /// It was given back.

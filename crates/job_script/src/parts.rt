@@ -4,7 +4,8 @@ ghost use Rattle.job_model.specs.Jobs.{zone_lines, script_lines, script_start};
 ghost use Rattle.zone_model.specs.Lines.{lines_of};
 ghost use Rattle.job_script.specs.Parts.{IsCutAt};
 
-use master_file::line_at;
+use zone_text::line_at;
+
 
 /// Where an input is cut: the bytes before `zone_end` are the zone's, those from `script_from` on the script's, whose first
 /// line has the number `first_line`.

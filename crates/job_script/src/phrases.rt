@@ -3,11 +3,11 @@ ghost use Rattle.std.specs.Prelude.{◌≡◌, ◌<◌, ◌≤◌, ◌∷◌, []
 ghost use Rattle.std.specs.Option.{option_map};
 ghost use Rattle.std.specs.List.{All};
 ghost use Rattle.job_model.specs.Phrases as phrases;
-ghost use Rattle.rr_data.specs.Tokens.{IsPlaced, token_view};
+ghost use Rattle.zone_text.specs.Tokens.{IsPlaced, token_view};
 ghost use Rattle.job_script.specs.Phrases.{asked_view, AskedPlaced, phrase_view, PhrasePlaced};
 
 use job_model::{Ending, Weight};
-use rr_data::Token;
+use zone_text::Token;
 
 /// The words of a question.
 #[derive(Clone, Copy)]

@@ -2,7 +2,7 @@
 ghost use Rattle.std.specs.Prelude.{◌≡◌, IfSome, ◌≤◌, ◌<◌};
 ghost use Rattle.job_model.specs.Arguments as jobs;
 ghost use Rattle.job_model.specs.Phrases as phrases;
-ghost use Rattle.rr_data.specs.Tokens.{IsPlaced, token_view};
+ghost use Rattle.zone_text.specs.Tokens.{IsPlaced, token_view};
 ghost use Rattle.job_script.specs.Phrases.{asked_view, AskedPlaced};
 ghost use Rattle.job_script.specs.Scripts.{Says};
 ghost use Rattle.job_script.specs.Views.{question_view, stretch_view};
@@ -13,7 +13,7 @@ use crate::refusal::{JobRefusal, refused};
 use dns_name::Name;
 use job_model::ScriptKind;
 use master_file::{name_word, type_word};
-use rr_data::{Token, number};
+use zone_text::{Token, number};
 
 /// The most names that are wanted at once.
 const NAME_LIMIT: u32 = 1000;

@@ -1,31 +1,16 @@
-//! What is replied to questions, and how that is printed.
+//! How replies to questions are printed.
 ghost use Rattle.std.specs.Prelude.{◌≡◌, ◌++◌, OnOk, codes, decimal};
 ghost use Rattle.std.specs.List.{flat_map};
 ghost use Rattle.zone_model.specs.Rows.{row_text, rows_of};
 ghost use Rattle.job_model.specs.Replies as replies;
 ghost use Rattle.job_model.specs.Replies.{answer_text, count_text, kind_text};
-ghost use Rattle.job_script.specs.Replies.{reply_view};
 
 use dns_name::Name;
 use itoa::Buffer;
 use rr_data::{SetView, push_data, push_type};
 use std::alloc::AllocError;
 use trie_read::Kind as Presence;
-use zone_answer::{Answer, Kind, OwnedSet, Rows};
-use zone_names::Found;
-
-/// What a version replies to a question, by the kind of that.
-#[derive(Drop)]
-pub enum Reply {
-    Get(Answer),
-    Find(Found),
-    /// The names at or after the name, in order.
-    Walk(Vec<Name>),
-    /// The names before the name, the nearest first.
-    Back(Vec<Name>),
-    /// How many names own records, and how many nodes the trie has.
-    Stat { names: u64, nodes: u64 },
-}
+use zone_query::{Answer, Found, Kind, OwnedSet, Rows};
 
 /// Pushes a number in decimal digits.
 pub fn push_number(out: &mut Vec<u8>, number: u64) -> Result<(), AllocError>
@@ -99,8 +84,8 @@ fn push_kind(out: &mut Vec<u8>, kind: &[u8], count: u64) -> Result<(), AllocErro
     out.extend_from_slice(b"\n")
 }
 
-// The kind of an answer, and its records.
-fn push_answer(out: &mut Vec<u8>, answer: &Answer) -> Result<(), AllocError>
+/// Pushes the kind of an answer, and its records.
+pub fn push_answer(out: &mut Vec<u8>, answer: &Answer) -> Result<(), AllocError>
     ensures { OnOk result (out.new.items ≡ out.old.items ++ answer_text answer.now) }
 {
     let rows = answer.rows();
@@ -146,8 +131,8 @@ fn push_predecessor(out: &mut Vec<u8>, found: &Found) -> Result<(), AllocError>
     }
 }
 
-// What there is of a name.
-fn push_found(out: &mut Vec<u8>, found: &Found) -> Result<(), AllocError>
+/// Pushes what there is of a name.
+pub fn push_found(out: &mut Vec<u8>, found: &Found) -> Result<(), AllocError>
     ensures { OnOk result (out.new.items ≡ out.old.items ++ replies.found_text found.now) }
 {
     push_list(out, presence_name(found.kind()), found.chain())?;
@@ -167,15 +152,16 @@ pub fn push_size(out: &mut Vec<u8>, names: u64, nodes: u64) -> Result<(), AllocE
     out.extend_from_slice(b"\n")
 }
 
-/// Pushes what is printed of a reply.
-pub fn push_reply(out: &mut Vec<u8>, reply: &Reply) -> Result<(), AllocError>
-    ensures { OnOk result (out.new.items ≡ out.old.items ++ replies.reply_text (reply_view reply.now)) }
+/// Pushes the names at or after a name, in order.
+pub fn push_walk(out: &mut Vec<u8>, names: &[Name]) -> Result<(), AllocError>
+    ensures { OnOk result (out.new.items ≡ out.old.items ++ replies.names_text (codes "WALK") names.now) }
 {
-    match reply {
-        Reply::Get(answer) => push_answer(out, answer),
-        Reply::Find(found) => push_found(out, found),
-        Reply::Walk(names) => push_list(out, b"WALK", names),
-        Reply::Back(names) => push_list(out, b"BACK", names),
-        Reply::Stat { names, nodes } => push_size(out, *names, *nodes),
-    }
+    push_list(out, b"WALK", names)
+}
+
+/// Pushes the names before a name, the nearest first.
+pub fn push_back(out: &mut Vec<u8>, names: &[Name]) -> Result<(), AllocError>
+    ensures { OnOk result (out.new.items ≡ out.old.items ++ replies.names_text (codes "BACK") names.now) }
+{
+    push_list(out, b"BACK", names)
 }

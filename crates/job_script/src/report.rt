@@ -8,7 +8,7 @@ ghost use Rattle.job_script.specs.Views.{job_view};
 
 use crate::commands::Job;
 use crate::outcomes::{Cause, Outcome, Outcomes, Told};
-use crate::replies::{push_number, push_reply};
+use crate::replies::push_number;
 use master_file::Zone;
 use std::alloc::{AllocError, Global};
 use zone_model::Refusal;
@@ -76,7 +76,7 @@ fn push_told(out: &mut Vec<u8>, told: &Told) -> Result<(), AllocError>
     ensures { OnOk result (out.new.items ≡ out.old.items ++ told_text told.now) }
 {
     match told {
-        Told::Reply(reply) => push_reply(out, reply),
+        Told::Reply(text) => out.extend_from_slice(text),
         Told::Held => out.extend_from_slice(b"HELD\n"),
         Told::Released => out.extend_from_slice(b"RELEASED\n"),
         Told::Committed => out.extend_from_slice(b"COMMITTED\n"),

@@ -5,22 +5,21 @@ ghost use Rattle.std.specs.List.{All, AllByRecursion};
 ghost use Rattle.job_model.specs.Commands.{InTurn};
 ghost use Rattle.job_model.specs.Jobs as jobs;
 ghost use Rattle.zone_model.specs.Lines.{lines_of};
-ghost use Rattle.rr_data.specs.Tokens.{IsPlaced, token_view};
+ghost use Rattle.zone_text.specs.Tokens.{IsPlaced, token_view};
 ghost use Rattle.job_script.specs.Phrases.{phrase_view, PhrasePlaced};
 ghost use Rattle.job_script.specs.Scripts.{unfinished_view, script_view, ScriptReads, ScriptSteps, Says};
 ghost use Rattle.job_script.specs.Views.{job_view};
 
 use crate::commands::{Command, Job, Worker};
 use crate::inside::inside;
-use crate::operations::Operation;
+use zone_change::Operation;
 use crate::outside::outside;
 use crate::phrases::phrase_of;
 use crate::refusal::{JobRefusal, refused};
 use dns_name::Name;
 use job_model::{ScriptKind, Weight};
-use master_file::{ZoneRefusal, line_tokens};
-use rr_data::Token;
 use std::alloc::Global;
+use zone_text::{Token, ZoneRefusal, line_tokens};
 
 /// A block that has not ended, with the line of its first word.
 #[derive(Drop)]

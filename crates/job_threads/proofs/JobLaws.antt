@@ -6,7 +6,7 @@ use Rattle.std.proofs.lemmas.List.{length-map}
 use Rattle.std.proofs.lemmas.List.Elements.{Contains-append_left, Contains-append_right, Contains-push}
 use Rattle.std.specs.List.{AllByRecursion}
 use Rattle.zone_model.specs.Versions.{Version, whole}
-use Rattle.zone_answer.specs.Standing.{trie_entry}
+use Rattle.zone_query.specs.Standing.{trie_entry}
 use Rattle.trie_model.specs.Shape.{nodes, keys_of}
 use Rattle.job_model.specs.Sizes.{node_count}
 use Rattle.job_model.specs.Outcomes.{Pair, is_committed, made, operations_of, operations_at, accepted_or, times_made, version_at, AllAlong, all_pairs, passes_for, shown_in}

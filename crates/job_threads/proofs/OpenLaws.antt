@@ -11,7 +11,7 @@ use Rattle.zone_model.specs.Versions.{Version}
 use Rattle.zone_model.proofs.KeyLaws.{key_cmp-key_of}
 use Rattle.trie_model.specs.Keys.{Entry, Less, InList, Rises}
 use Rattle.trie_model.proofs.AboveLaws.{cmp_before}
-use Rattle.zone_answer.specs.Standing.{IsStorable}
+use Rattle.zone_query.specs.Standing.{IsStorable}
 use Rattle.job_model.specs.Sizes.{trie_entries}
 use Rattle.shared_index.specs.Passes.{commits_in, pinned_in, known_at}
 use Rattle.shared_index.specs.Openings.{SeesFirst}

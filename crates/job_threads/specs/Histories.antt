@@ -3,7 +3,7 @@ use Rattle.std.specs.Prelude.{◌≡◌, ℕ, ◌+◌, ◌<◌, ◌≤◌, List,
 use Rattle.zone_model.specs.Names.{Name}
 use Rattle.zone_model.specs.Versions.{Version}
 use Rattle.trie_model.specs.Keys as trie
-use Rattle.zone_answer.specs.Standing.{IsVersion}
+use Rattle.zone_query.specs.Standing.{IsVersion}
 use Rattle.job_model.specs.Sizes.{trie_entries}
 use Rattle.job_model.specs.Outcomes.{Setting}
 use Rattle.shared_cells.specs.declared.view.Entry.{Entry as Commit'}

@@ -5,13 +5,13 @@ ghost use Rattle.shared_index.specs.Passes.{known_at};
 ghost use Rattle.job_threads.specs.Commands.{Asked};
 
 use crate::law::ZoneLaw;
-use crate::replying::reply;
+use crate::replying::reply_text;
+use crate::room::Room;
 use dns_name::Name;
 use job_script::{Outcome, Question, Told};
 use shared_index::{Index, Named, Pass};
 use std::alloc::{AllocError, Global};
 use trie_read::Reading;
-use zone_answer::Walker;
 
 /// Asks the current version. It is pinned while the reply is made.
 pub fn run_question<N: Named>(
@@ -20,8 +20,7 @@ pub fn run_question<N: Named>(
     index: &Index<ZoneLaw, N>,
     pass: &mut Pass<N>,
     question: &Question,
-    item: &mut [u8; 4096],
-    walker: &mut Walker,
+    room: &mut Room,
 ) -> Result<Outcome, AllocError>
     requires here { IsSome pass.old.seat }
     requires place { pass.old.place ≡ index.now.place }
@@ -31,9 +30,9 @@ pub fn run_question<N: Named>(
 {
     let mut query = pass.query(index);
     let version = query.version();
-    let reply = reply(alloc, origin, &mut query, question, item, walker)?;
+    let text = reply_text(alloc, origin, &mut query, question, room)?;
     Ok(Outcome {
         version,
-        told: Told::Reply(reply),
+        told: Told::Reply(text),
     })
 }

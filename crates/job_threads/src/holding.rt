@@ -5,13 +5,13 @@ ghost use Rattle.shared_index.specs.Passes.{known_at};
 ghost use Rattle.job_threads.specs.Commands.{IsHeld, Held, AskedHeld, Released};
 
 use crate::law::ZoneLaw;
-use crate::replying::reply;
+use crate::replying::reply_text;
+use crate::room::Room;
 use dns_name::Name;
 use job_script::{Outcome, Question, Told};
 use shared_index::{Index, Named, Pass, Snapshot};
 use std::alloc::{AllocError, Global};
 use trie_read::Reading;
-use zone_answer::Walker;
 
 /// Takes a snapshot of the current version by the second pass, which is no older than what the first has seen. The first pass has
 /// then seen it.
@@ -47,18 +47,17 @@ pub fn ask_held<N: Named>(
     origin: &Name,
     snapshot: &mut Snapshot<'_, ZoneLaw, N>,
     question: &Question,
-    item: &mut [u8; 4096],
-    walker: &mut Walker,
+    room: &mut Room,
 ) -> Result<Outcome, AllocError>
     requires { IsHeld snapshot.old.seat }
     ensures same { snapshot.new ≡ snapshot.old }
     ensures asked { IfOk result (AskedHeld origin.now (question_view question.now) snapshot.old.seat) }
 {
     let version = snapshot.version();
-    let reply = reply(alloc, origin, snapshot, question, item, walker)?;
+    let text = reply_text(alloc, origin, snapshot, question, room)?;
     Ok(Outcome {
         version,
-        told: Told::Reply(reply),
+        told: Told::Reply(text),
     })
 }
 

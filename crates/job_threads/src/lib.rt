@@ -9,6 +9,7 @@ mod job;
 mod law;
 mod passes;
 mod replying;
+mod room;
 mod transactions;
 mod worker;
 mod zone;

@@ -10,11 +10,11 @@ ghost use Rattle.job_threads.specs.Stations.{IsPlaced, holder_view, station};
 
 use crate::holding::{ask_held, hold, release};
 use crate::law::ZoneLaw;
+use crate::room::Room;
 use dns_name::Name;
 use job_script::{Outcome, Question};
 use shared_index::{Index, Named, Pass, Snapshot};
 use std::alloc::{AllocError, Global};
-use zone_answer::Walker;
 
 /// A worker's passes. The second is spare while no snapshot is held.
 #[derive(Drop)]
@@ -60,8 +60,7 @@ pub fn ask_snapshot<N: Named>(
     origin: &Name,
     passes: &mut Passes<'_, N>,
     question: &Question,
-    item: &mut [u8; 4096],
-    walker: &mut Walker,
+    room: &mut Room,
 ) -> Result<Outcome, AllocError>
     requires here { IsSome passes.old.asks.seat }
     requires placed { IsPlaced (option_map (λ p. p.seat) passes.old.spare) (option_map (λ s. s.seat) passes.old.held) }
@@ -76,7 +75,7 @@ pub fn ask_snapshot<N: Named>(
     let Some(mut snapshot) = passes.held.take() else {
         unreachable!();
     };
-    let outcome = ask_held(alloc, origin, &mut snapshot, question, item, walker)?;
+    let outcome = ask_held(alloc, origin, &mut snapshot, question, room)?;
     passes.held = Some(snapshot);
     Ok(outcome)
 }

@@ -1,52 +1,80 @@
 //! Questions to one version.
-ghost use Rattle.std.specs.Prelude.{◌≡◌, IfOk};
+ghost use Rattle.std.specs.Prelude.{◌≡◌, ◌++◌, IfOk, OnOk};
 ghost use Rattle.zone_model.specs.Versions.{Version};
-ghost use Rattle.zone_answer.specs.Standing.{Shows, ShowsSome};
-ghost use Rattle.job_model.specs.Replies.{reply_of};
-ghost use Rattle.job_script.specs.Replies.{reply_view};
+ghost use Rattle.zone_query.specs.Standing.{Shows, ShowsSome};
+ghost use Rattle.job_model.specs.Replies.{reply_of, reply_text};
 ghost use Rattle.job_script.specs.Views.{question_view};
 
+use crate::room::Room;
 use dns_name::Name;
-use job_script::{Question, Reply};
+use job_script::{Question, push_answer, push_back, push_found, push_size, push_walk};
 use std::alloc::{AllocError, Global};
 use trie_read::Reading;
-use zone_answer::{Walker, answer_with};
-use zone_names::{back, find, walk};
+use zone_query::{Walker, answer_with, back, find, walk};
 
-/// What a version replies to a question, by way of a buffer that items are read into and of a walker.
-pub fn reply<V: Reading>(
+// Pushes what is printed of a version's reply to a question.
+fn push_reply<V: Reading>(
     alloc: Global,
     origin: &Name,
     version: &mut V,
     question: &Question,
     item: &mut [u8; 4096],
     walker: &mut Walker,
-) -> Result<Reply, AllocError>
+    out: &mut Vec<u8>,
+) -> Result<(), AllocError>
     requires { ShowsSome (V.holds version.old) }
     ensures same { version.new ≡ version.old }
     ensures reply { (zone : Version) → Shows (V.holds version.old) zone
-        → IfOk result (λ r. reply_view r ≡ reply_of origin.now zone (question_view question.now)) }
+        → OnOk result (out.new.items ≡ out.old.items ++ reply_text (reply_of origin.now zone (question_view question.now))) }
 {
     match question {
         Question::Get(name, rtype) => {
             let answer = answer_with(alloc, version, origin, name, *rtype, item, walker)?;
-            Ok(Reply::Get(answer))
+            push_answer(out, &answer)
         }
         Question::Find(name) => {
             let found = find(alloc, version, name)?;
-            Ok(Reply::Find(found))
+            push_found(out, &found)
         }
         Question::Walk(stretch) => {
             let names = walk(alloc, version, &stretch.start, stretch.most as usize)?;
-            Ok(Reply::Walk(names))
+            push_walk(out, &names)
         }
         Question::Back(stretch) => {
             let names = back(alloc, version, &stretch.start, stretch.most as usize)?;
-            Ok(Reply::Back(names))
+            push_back(out, &names)
         }
-        Question::Stat => Ok(Reply::Stat {
-            names: version.count(),
-            nodes: version.nodes(),
-        }),
+        Question::Stat => {
+            let names = version.count();
+            push_size(out, names, version.nodes())
+        }
     }
+}
+
+/// What is printed of a version's reply to a question.
+pub fn reply_text<V: Reading>(
+    alloc: Global,
+    origin: &Name,
+    version: &mut V,
+    question: &Question,
+    room: &mut Room,
+) -> Result<Vec<u8>, AllocError>
+    requires { ShowsSome (V.holds version.old) }
+    ensures same { version.new ≡ version.old }
+    ensures reply { (zone : Version) → Shows (V.holds version.old) zone
+        → IfOk result (λ text. text.items ≡ reply_text (reply_of origin.now zone (question_view question.now))) }
+{
+    room.text.clear();
+    push_reply(
+        alloc,
+        origin,
+        version,
+        question,
+        &mut room.items.before,
+        &mut room.walker,
+        &mut room.text,
+    )?;
+    let mut text = Vec::with_capacity(alloc, room.text.len())?;
+    text.extend_from_slice(&room.text)?;
+    Ok(text)
 }

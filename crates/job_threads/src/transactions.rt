@@ -2,7 +2,7 @@
 ghost use Rattle.std.specs.Prelude.{◌≡◌, IsSome, IsSomeAnd, IfOk, IfErr, map};
 ghost use Rattle.job_model.specs.Outcomes.{Committed, Refused, Spent as NoNumber};
 ghost use Rattle.job_script.specs.Outcomes.{ended_view, EndsBlock};
-ghost use Rattle.job_script.specs.Views.{operation_view};
+ghost use Rattle.zone_change.specs.Views.{operation_view};
 ghost use Rattle.shared_index.specs.Passes.{known_at};
 ghost use Rattle.shared_index.specs.Keepings.{versions_in};
 ghost use Rattle.zone_edit.specs.Stores.{WorksOnSome, Edits};
@@ -18,8 +18,7 @@ use job_script::{Block, Cause, Outcome, Told};
 use shared_index::{Index, Locked, Named, Pass, Receipt, Spent, Transaction, Versions};
 use std::alloc::{AllocError, Global};
 use std::sync::Wait;
-use zone_change::ItemBuffers;
-use zone_edit::{Halt, apply_all};
+use zone_edit::{Halt, ItemBuffers, apply_all};
 
 // The kept versions, as an outcome has them.
 fn kept_list(alloc: Global, kept: &Versions) -> Result<Vec<u64>, AllocError>

@@ -15,14 +15,13 @@ use crate::compactions::run_compaction;
 use crate::gate::Gate;
 use crate::law::ZoneLaw;
 use crate::passes::{Passes, ask_snapshot, give_back, second_pass, take_snapshot};
+use crate::room::Room;
 use crate::transactions::run_block;
 use dns_name::Name;
 use job_script::{Command, Outcome, Outcomes};
 use shared_index::{Index, Named, Pass};
 use std::alloc::{AllocError, Global};
 use std::sync::Wait;
-use zone_answer::Walker;
-use zone_change::ItemBuffers;
 
 /// A worker's number, from 1, its commands, and its passes.
 #[derive(Drop)]
@@ -41,7 +40,7 @@ pub struct Done<N: Named> {
     pub spare: Pass<N>,
 }
 
-// Runs one command, by way of buffers for items and of a walker.
+// Runs one command.
 fn run_command<'i, R: Wait, N: Named>(
     rt: &R,
     alloc: Global,
@@ -49,8 +48,7 @@ fn run_command<'i, R: Wait, N: Named>(
     index: &'i Index<ZoneLaw, N>,
     passes: &mut Passes<'i, N>,
     command: &Command,
-    buffers: &mut ItemBuffers,
-    walker: &mut Walker,
+    room: &mut Room,
 ) -> Result<Outcome, AllocError>
     requires here { IsSome passes.old.asks.seat }
     requires place { passes.old.asks.place ≡ index.now.place }
@@ -70,22 +68,21 @@ fn run_command<'i, R: Wait, N: Named>(
         (station passes.old.asks.seat (option_map (λ p. p.seat) passes.old.spare) (option_map (λ s. s.seat) passes.old.held))
         (station passes.new.asks.seat (option_map (λ p. p.seat) passes.new.spare) (option_map (λ s. s.seat) passes.new.held))) }
 {
-    let item = &mut buffers.before;
     match command {
         Command::Ask(question) => {
             let asks = &mut passes.asks;
-            let outcome = run_question(alloc, origin, index, asks, question, item, walker)?;
+            let outcome = run_question(alloc, origin, index, asks, question, room)?;
             Ok(outcome)
         }
         Command::Hold => Ok(take_snapshot(index, passes)),
         Command::AskHeld(question) => {
-            let outcome = ask_snapshot(alloc, origin, passes, question, item, walker)?;
+            let outcome = ask_snapshot(alloc, origin, passes, question, room)?;
             Ok(outcome)
         }
         Command::Release => Ok(give_back(passes)),
         Command::Compact => Ok(run_compaction(rt, index, &mut passes.asks)),
         Command::Block(block) => {
-            let outcome = run_block(rt, alloc, origin, index, &mut passes.asks, block, buffers)?;
+            let outcome = run_block(rt, alloc, origin, index, &mut passes.asks, block, &mut room.items)?;
             Ok(outcome)
         }
     }
@@ -122,8 +119,7 @@ pub fn run_worker<R: Wait, N: Named, G: Gate>(
         asks,
         spare,
     } = task;
-    let mut buffers = ItemBuffers::new();
-    let mut walker = Walker::new();
+    let mut room = Room::new(alloc);
     let mut passes = Passes {
         asks,
         spare: Some(spare),
@@ -139,8 +135,7 @@ pub fn run_worker<R: Wait, N: Named, G: Gate>(
             index,
             &mut passes,
             command,
-            &mut buffers,
-            &mut walker,
+            &mut room,
         )?;
         gate.after(number, counted(place));
         list.push(outcome)?;

@@ -20,9 +20,9 @@ use Rattle.zone_model.proofs.OrderLemmas.{ends_under}
 use Rattle.dns_name.specs.declared.sort_key.SortKey.{SortKey}
 use Rattle.dns_name.specs.SortKeys.{KeyBelow, key_cmp}
 use Rattle.dns_name.proofs.SortKeyLemmas.{key_cmp-name}
-use Rattle.master_file.specs.declared.refusal.ZoneRefusal.{ZoneRefusal}
-use Rattle.master_file.specs.declared.refusal.ZoneRefusal.TheVariants as refusal
-use Rattle.master_file.specs.Views.{Gives}
+use Rattle.zone_text.specs.declared.refusal.ZoneRefusal.{ZoneRefusal}
+use Rattle.zone_text.specs.declared.refusal.ZoneRefusal.TheVariants as refusal
+use Rattle.zone_text.specs.Views.{Gives}
 use Rattle.master_file.specs.Owners.{Held, version_of, owned_at, placed_at, CanBeItem, IsHeld, AllHeld}
 
 -- a key, and the name that has it

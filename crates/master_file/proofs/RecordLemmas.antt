@@ -1,8 +1,8 @@
 -- The lines of tokens.
 use Rattle.std.proofs.Common.{◌≡◌, ℕ, zero, suc, ◌<◌, ◌≤◌, List, [], ◌∷◌, length, get_or, map, refl, arith, ap, ◌∙◌, ◌-◌}
 use Rattle.zone_model.specs.MasterFile.{line_of, last_line}
-use Rattle.rr_data.specs.Tokens.{token_view}
-use Rattle.rr_data.specs.declared.token.Token.{Token}
+use Rattle.zone_text.specs.Tokens.{token_view}
+use Rattle.zone_text.specs.declared.token.Token.{Token}
 
 pub line_here : (bytes : List ℕ) (last at : ℕ) (tokens : List Token) (d : Token) → at < length tokens → (get_or tokens at d).line ≡ line_of last at (map (token_view bytes) tokens)
 line_here bytes last at [] d h = absurd (omega arith)

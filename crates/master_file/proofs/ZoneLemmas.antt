@@ -4,13 +4,13 @@ use Rattle.std.proofs.lemmas.Bool.Decides.{nat_tests}
 use Rattle.zone_model.specs.Refusals.{Refused, ◌>>=◌}
 use Rattle.zone_model.specs.Lines.{lines_of}
 use Rattle.std.proofs.lemmas.List.{drop_all, length-drop}
-use Rattle.master_file.proofs.LineLemmas.{first_blank}
-use Rattle.rr_data.specs.Tokens.{token_view}
-use Rattle.master_file.specs.Views.{lexed_view, Reads, Gives}
+use Rattle.zone_text.proofs.LineLemmas.{first_blank}
+use Rattle.zone_text.specs.Tokens.{token_view}
+use Rattle.zone_text.specs.Views.{lexed_view, Reads, Gives}
 use Rattle.master_file.specs.Zones.{ReadsNext}
-use Rattle.master_file.specs.declared.entry_tokens.Lexed.{Lexed}
-use Rattle.master_file.specs.declared.refusal.ZoneRefusal.{ZoneRefusal}
-use Rattle.master_file.specs.declared.refusal.ZoneRefusal.TheVariants as refusal
+use Rattle.zone_text.specs.declared.entry_tokens.Lexed.{Lexed}
+use Rattle.zone_text.specs.declared.refusal.ZoneRefusal.{ZoneRefusal}
+use Rattle.zone_text.specs.declared.refusal.ZoneRefusal.TheVariants as refusal
 use Rattle.zone_model.specs.declared.ZoneKind.{ZoneKind}
 use Rattle.zone_model.specs.declared.ZoneKind.TheVariants.{OpenParen}
 use Rattle.zone_model.specs.Tokens.{Scan, EntryTokens, fresh, entry_from, entry_of, refused, line_tokens, begins_blank}

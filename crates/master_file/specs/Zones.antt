@@ -5,12 +5,12 @@ use Rattle.zone_model.specs.Lines.{lines_of}
 use Rattle.zone_model.specs.Records.{Rrset}
 use Rattle.zone_model.specs.declared.ZoneKind.{ZoneKind}
 use Rattle.zone_model.specs.MasterFile as says
-use Rattle.rr_data.specs.Tokens.{token_view}
-use Rattle.rr_data.specs.declared.token.Token.{Token}
+use Rattle.zone_text.specs.Tokens.{token_view}
+use Rattle.zone_text.specs.declared.token.Token.{Token}
 use Rattle.master_file.specs.Owners.{version_of}
 use Rattle.master_file.specs.declared.front.Front.{Front}
-use Rattle.master_file.specs.declared.refusal.ZoneRefusal.{ZoneRefusal}
-use Rattle.master_file.specs.declared.refusal.ZoneRefusal.TheVariants as refusal
+use Rattle.zone_text.specs.declared.refusal.ZoneRefusal.{ZoneRefusal}
+use Rattle.zone_text.specs.declared.refusal.ZoneRefusal.TheVariants as refusal
 use Rattle.master_file.specs.declared.records.Reader.{Reader}
 
 abbrev pub front_view : List ℕ → List Token → Front → says.Front

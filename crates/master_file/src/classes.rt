@@ -1,21 +1,8 @@
 //! The classes of records (RFC 1035, section 3.2.4).
 ghost use Rattle.std.specs.Prelude.{◌≡◌, Some, None, Option};
-ghost use Rattle.std.specs.Char.{is_ascii_digit};
-ghost use Rattle.std.specs.List.{list_all};
-ghost use Rattle.zone_model.specs.DataWords.{is_word, class_named, class_numbered};
+ghost use Rattle.zone_model.specs.DataWords.{class_named, class_numbered};
 
-/// A text is a word, letters of either case.
-pub fn is_word(text: &[u8], word: &[u8]) -> bool
-    ensures { result ≡ is_word text.now word.now }
-{
-    text.eq_ignore_ascii_case(word)
-}
-
-fn all_digits(text: &[u8]) -> bool
-    ensures { result ≡ list_all is_ascii_digit text.now }
-{
-    text.iter().all(|c| c.is_ascii_digit())
-}
+use zone_text::{all_digits, is_word};
 
 fn class_numbered(text: &[u8]) -> Option<bool>
     ensures { result ≡ class_numbered text.now }

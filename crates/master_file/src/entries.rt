@@ -3,19 +3,18 @@ ghost use Rattle.std.specs.Prelude.{◌≡◌, ◌<◌, ◌≤◌, ◌+◌, ◌-
 ghost use Rattle.std.specs.List.{All};
 ghost use Rattle.zone_model.specs.MasterFile.{directive, record_says, entry_says, last_line, set_time_word, set_origin_word, one_argument, placed};
 ghost use Rattle.zone_model.specs.Data.{data_of};
-ghost use Rattle.master_file.specs.Views.{Gives, Reads};
-ghost use Rattle.rr_data.specs.Tokens.{IsPlaced, token_view};
+ghost use Rattle.zone_text.specs.Views.{Gives, Reads};
+ghost use Rattle.zone_text.specs.Tokens.{IsPlaced, token_view};
 ghost use Rattle.master_file.specs.Zones.{reader_view, front_view};
 ghost use Rattle.master_file.specs.Owners.{AllHeld};
 
-use crate::classes::is_word;
 use crate::front::{Front, front_of, is_directive, name_word, time_word};
 use crate::records::{Reader, line_of, minimum_of, time_for};
-use crate::refusal::{ZoneRefusal, refuse};
 use dns_name::Name;
-use rr_data::{Rdata, RdataRefusal, SOA, Token};
+use rr_data::{Rdata, RdataRefusal, SOA};
 use std::alloc::Global;
 use zone_model::ZoneKind;
+use zone_text::{Token, ZoneRefusal, is_word, refuse};
 
 // The data behind the type. What is refused is the token's line, or the last line where one is missing.
 fn read_data(

@@ -3,15 +3,15 @@ ghost use Rattle.std.specs.Prelude.{◌≡◌, ◌<◌, ◌≤◌, ◌+◌, ◌�
 ghost use Rattle.std.specs.List.{All, slice_range};
 ghost use Rattle.zone_model.specs.MasterFile.{front_of, time_word, type_word, class_word, is_time, name_word, is_directive};
 ghost use Rattle.zone_model.specs.NameText.{name_of};
-ghost use Rattle.rr_data.specs.Tokens.{IsPlaced, token_view};
-ghost use Rattle.master_file.specs.Views.{Reads};
+ghost use Rattle.zone_text.specs.Tokens.{IsPlaced, token_view};
+ghost use Rattle.zone_text.specs.Views.{Reads};
 ghost use Rattle.master_file.specs.Zones.{front_view};
 
 use crate::classes::class_named;
-use crate::refusal::{ZoneRefusal, refuse};
 use dns_name::Name;
-use rr_data::{Token, read_type, time_of};
+use rr_data::read_type;
 use zone_model::ZoneKind;
+use zone_text::{Token, ZoneRefusal, refuse, time_of};
 
 /// The time, if one is written, the type, and how many tokens stand before the data.
 #[derive(Clone, Copy)]

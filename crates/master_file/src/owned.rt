@@ -7,12 +7,12 @@ ghost use Rattle.zone_model.specs.MasterFile.{soa_count};
 ghost use Rattle.master_file.specs.Zones.{Checks};
 ghost use Rattle.master_file.specs.Owners.{CanBeItem};
 
-use crate::refusal::{ZoneRefusal, refuse};
 use dns_name::{Name, OwnedName};
 use rr_data::{CNAME, DecodeRefusal, Entry, ITEM_LIMIT, Rdata, SOA, single_item};
 use std::alloc::{AllocError, Global};
 use std::marker::Model;
 use zone_model::ZoneKind;
+use zone_text::{ZoneRefusal, refuse};
 
 /// A name and its records. Contracts see the pair.
 #[derive(Drop)]

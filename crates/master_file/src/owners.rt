@@ -5,18 +5,18 @@ ghost use Rattle.zone_model.specs.Records.{with_rr};
 ghost use Rattle.zone_model.specs.Versions.{is_lone, has_soa, soa_type};
 ghost use Rattle.zone_model.specs.MasterFile.{soa_count, added};
 ghost use Rattle.dns_name.specs.SortKeys.{KeyBelow};
-ghost use Rattle.master_file.specs.Views.{Gives};
+ghost use Rattle.zone_text.specs.Views.{Gives};
 ghost use Rattle.master_file.specs.Zones.{Checks};
 ghost use Rattle.master_file.specs.Owners.{placed_at, version_of, AllHeld};
 
 use crate::owned::Owned;
-use crate::refusal::{ZoneRefusal, refuse};
 use dns_name::{Name, SortKey};
 use rr_data::{Rdata, SOA};
 use std::alloc::{AllocError, Global};
 use std::collections::BTreeMap;
 use std::collections::btree_map::Entry as Place;
 use zone_model::ZoneKind;
+use zone_text::{ZoneRefusal, refuse};
 
 /// What names own, in canonical order.
 #[derive(Drop)]

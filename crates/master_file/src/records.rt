@@ -1,12 +1,13 @@
 //! What the records of a file take from those before them.
 ghost use Rattle.std.specs.Prelude.{◌≡◌, ◌<◌, ◌≤◌, ◌+◌, ◌-◌, ◌∷◌, [], ◌^◌, ℕ, List, length, map, Some, None, Option, Ok, Err, Result, IfOk, unwrap_or, slice_index};
 ghost use Rattle.zone_model.specs.MasterFile.{number_at, minimum_of, time_for, line_of};
-ghost use Rattle.rr_data.specs.Tokens.{token_view};
+ghost use Rattle.zone_text.specs.Tokens.{token_view};
 ghost use Rattle.master_file.specs.Zones.{reader_view};
 
 use crate::owners::Owners;
 use dns_name::Name;
-use rr_data::{SOA, Token};
+use rr_data::SOA;
+use zone_text::Token;
 
 /// What the entries so far leave.
 #[derive(Drop)]

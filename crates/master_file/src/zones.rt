@@ -5,24 +5,22 @@ ghost use Rattle.std.specs.Map.{keys_of};
 ghost use Rattle.zone_model.specs.Names.{name_cmp};
 ghost use Rattle.zone_model.specs.Lines.{lines_of};
 ghost use Rattle.zone_model.specs.MasterFile.{zone_of, zone_from, at_first};
-ghost use Rattle.master_file.specs.Views.{Gives, Reads};
+ghost use Rattle.zone_text.specs.Views.{Gives, Reads};
 ghost use Rattle.master_file.specs.Zones.{reader_view, ReadsAll, ReadsNext};
 ghost use Rattle.master_file.specs.Owners.{AllHeld};
 
 use crate::entries::read_entry;
-use crate::entry_tokens::scan_entry;
 use crate::items::ZoneItems;
 use crate::owned::Owned;
 use crate::owners::Owners;
 use crate::records::Reader;
-use crate::refusal::{ZoneRefusal, refuse};
 use dns_name::{Name, SortKey};
-use rr_data::Token;
 use std::alloc::Global;
 use std::collections::BTreeMap;
 use std::marker::Model;
 use std::mem::replace;
 use zone_model::ZoneKind;
+use zone_text::{Token, ZoneRefusal, refuse, scan_entry};
 
 fn new_reader(alloc: Global, apex: &Name) -> Reader
     ensures first { reader_view result ≡ at_first apex.now }

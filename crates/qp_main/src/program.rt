@@ -23,11 +23,12 @@ use command_line::{Invocation, Verb, invocation_of};
 use job_make::{Load, make_text};
 use job_script::{JobRefusal, Parts, read_job, split};
 use job_threads::Gate;
-use master_file::{Zone, ZoneRefusal, read_zone};
+use master_file::{Zone, read_zone};
 use outer_io::{ReadRefusal, Sink, Source, read_all, write_all};
 use std::alloc::{AllocError, Global};
 use std::sync::Wait;
 use std::thread::Threads;
+use zone_text::ZoneRefusal;
 
 // The most bytes of an input.
 const INPUT_LIMIT: u32 = 16777216;

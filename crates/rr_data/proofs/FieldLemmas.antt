@@ -6,9 +6,9 @@ use Rattle.zone_model.specs.declared.DataRefusal.{DataRefusal}
 use Rattle.zone_model.specs.declared.DataRefusal.TheVariants.{BadRdata}
 use Rattle.std.proofs.lemmas.List.{drop_more, drop_all}
 use Rattle.zone_model.specs.Data.{ahead, taken, read_fields, word_octets}
-use Rattle.rr_data.specs.Tokens.{IsPlaced, token_view}
+use Rattle.zone_text.specs.Tokens.{IsPlaced, token_view}
 use Rattle.rr_data.specs.Fields.{field_view}
-use Rattle.rr_data.specs.declared.token.Token.{Token}
+use Rattle.zone_text.specs.declared.token.Token.{Token}
 use Rattle.rr_data.specs.declared.types.Field.{Field}
 use Rattle.rr_data.specs.declared.types.Field.TheVariants.{Name}
 

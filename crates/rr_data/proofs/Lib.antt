@@ -1,12 +1,9 @@
-pub mod AddressLemmas
 pub mod DecodingLemmas
 pub mod EntryChanges
 pub mod EntryLemmas
-pub mod EscapeLemmas
 pub mod FieldLemmas
 pub mod FormLemmas
 pub mod ItemViewLemmas
-pub mod NumberLemmas
 pub mod OneEscapeLemmas
 pub mod PlaceLemmas
 pub mod PrintedDataLemmas
@@ -17,4 +14,3 @@ pub mod PrintedWordLemmas
 pub mod StartsLemmas
 pub mod StringLemmas
 pub mod StringTextLemmas
-pub mod TimeLemmas

@@ -4,7 +4,7 @@ use Rattle.std.proofs.lemmas.Bool.Decides.{nat_tests}
 use Rattle.std.specs.Option.{option_map}
 use Rattle.zone_model.specs.declared.DataRefusal.TheVariants.{LongString}
 use Rattle.zone_model.specs.Data.{string_octets, ahead}
-use Rattle.rr_data.specs.Pushing.{PushesAll}
+use Rattle.zone_text.specs.Pushing.{PushesAll}
 
 some_of : (front now : List ℕ) (o : Option (List ℕ)) → option_map (λ cs. front ++ cs) o ≡ Some now → (cs : List ℕ) × (o ≡ Some cs) × (now ≡ front ++ cs)
 some_of front now None h = absurd cc

@@ -1,10 +1,7 @@
 pub mod Changes
-pub mod Escapes
 pub mod Fields
 pub mod Items
 pub mod ItemViews
 pub mod Places
 pub mod Printing
 pub mod Pushing
-pub mod Tokens
-pub mod Parts

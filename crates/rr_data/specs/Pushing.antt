@@ -1,16 +1,10 @@
 -- What the readers of data push, and what they refuse.
-use Rattle.std.specs.Prelude.{◌≡◌, Bool, true, false, ℕ, List, ◌++◌, Option, Some, None, Result, Ok, Err}
-use Rattle.std.specs.Option.{option_map}
+use Rattle.std.specs.Prelude.{◌≡◌, ℕ, List, Result, Ok, Err}
 use Rattle.zone_model.specs.declared.DataRefusal.{DataRefusal}
 use Rattle.zone_model.specs.declared.DataRefusal.TheVariants as says
 use Rattle.zone_model.specs.Data.{ahead}
 use Rattle.rr_data.specs.declared.refusal.RdataRefusal.{RdataRefusal}
 use Rattle.rr_data.specs.declared.refusal.RdataRefusal.TheVariants as refusal
-
--- all octets were pushed, or there are none
-abbrev pub PushesAll : Bool → List ℕ → List ℕ → Option (List ℕ) → Type 0
-PushesAll true old new wanted = option_map (λ cs. old ++ cs) wanted ≡ Some new
-PushesAll false old new wanted = wanted ≡ None
 
 -- The octets wanted were pushed, or the refusal wanted was given, or there was no memory.
 abbrev pub Pushes : Result (Unit {0}) RdataRefusal → List ℕ → List ℕ → Result (List ℕ) DataRefusal → Type 0

@@ -7,18 +7,16 @@ ghost use Rattle.std.specs.Int.{w16, w32, to_be_bytes};
 ghost use Rattle.zone_model.specs.Texts.{number};
 ghost use Rattle.zone_model.specs.Types.{NameField};
 ghost use Rattle.zone_model.specs.DataWords.{time_of};
-ghost use Rattle.rr_data.specs.Tokens.{IsPlaced, token_view};
-ghost use Rattle.rr_data.specs.Pushing.{PushesAll};
+ghost use Rattle.zone_text.specs.Tokens.{IsPlaced, token_view};
+ghost use Rattle.zone_text.specs.Pushing.{PushesAll};
 ghost use Rattle.rr_data.specs.Pushing.{Pushes};
 ghost use Rattle.rr_data.specs.Fields.{field_view};
 
-use crate::addresses::{push_address, push_address6};
 use crate::refusal::RdataRefusal;
-use crate::token::Token;
 use crate::types::Field;
-use crate::words::{number, time_of};
 use dns_name::Name;
 use std::alloc::{AllocError, Global};
+use zone_text::{Token, number, push_address, push_address6, time_of};
 
 fn push_name(origin: &Name, text: &[u8], out: &mut Vec<u8>) -> Result<bool, AllocError>
     ensures { IfOk result (λ good. PushesAll good out.old.items out.new.items (field_octets origin.now NameField text.now)) }

@@ -4,14 +4,12 @@ ghost use Rattle.std.specs.List.{All, list_all};
 ghost use Rattle.std.specs.Char.{is_ascii_hexdigit};
 ghost use Rattle.zone_model.specs.DataWords.{paired};
 ghost use Rattle.zone_model.specs.Data.{read_digits, read_generic, is_generic};
-ghost use Rattle.rr_data.specs.Tokens.{IsPlaced, token_view};
+ghost use Rattle.zone_text.specs.Tokens.{IsPlaced, token_view};
 ghost use Rattle.rr_data.specs.Pushing.{Pushes};
 
-use crate::addresses::{all_hex, digit_value};
 use crate::refusal::RdataRefusal;
-use crate::token::Token;
-use crate::words::number;
 use std::alloc::{AllocError, Global};
+use zone_text::{Token, all_hex, digit_value, number};
 
 // Pushes the digits of tokens, of which some are left to come.
 #[tactic(auto, using(crate::proofs::FormLemmas::digits_rules), unfolding(zone_model::specs::Data::read_digits))]

@@ -2,12 +2,10 @@
 //! section 5).
 #![tactic(auto)]
 
-mod addresses;
 mod data_text;
 mod decoding;
 mod encoding;
 mod entry;
-mod escapes;
 mod fields;
 mod forms;
 mod generic;
@@ -21,10 +19,9 @@ mod rrset;
 mod single;
 mod splits;
 mod strings;
-mod token;
+mod type_words;
 mod types;
 mod views;
-mod words;
 
 pub use data_text::{push_data, push_type};
 pub use entry::{Entry, ITEM_LIMIT};
@@ -33,7 +30,6 @@ pub use rdata::Rdata;
 pub use refusal::{DecodeRefusal, RdataRefusal};
 pub use rrset::RrSet;
 pub use single::single_item;
-pub use token::Token;
+pub use type_words::read_type;
 pub use types::{CNAME, NS, SOA};
 pub use views::{ItemView, RecordViews, SetView};
-pub use words::{number, read_type, time_of};

@@ -2,7 +2,7 @@
 ghost use Rattle.std.specs.Prelude.{◌≡◌, ◌<◌, ◌≤◌, ◌+◌, ◌++◌, ◌∷◌, [], ◌^◌, ℕ, List, length, drop, map, Some, None, Option, Ok, Err, Result};
 ghost use Rattle.std.specs.List.{All};
 ghost use Rattle.zone_model.specs.Data.{read_typed, data_of};
-ghost use Rattle.rr_data.specs.Tokens.{IsPlaced, token_view};
+ghost use Rattle.zone_text.specs.Tokens.{IsPlaced, token_view};
 ghost use Rattle.rr_data.specs.Pushing.{Pushes, ReadsData};
 
 use crate::fields::push_fields;
@@ -11,10 +11,10 @@ use crate::generic::{is_generic, push_generic};
 use crate::rdata::Rdata;
 use crate::refusal::RdataRefusal;
 use crate::strings::push_strings;
-use crate::token::Token;
 use crate::types::{Form, form_of};
 use dns_name::Name;
 use std::alloc::Global;
+use zone_text::Token;
 
 // Pushes the data of a type in the form of its own.
 fn push_typed(

@@ -5,8 +5,8 @@ ghost use Rattle.std.specs.Int.{w16, w32, from_be_bytes};
 ghost use Rattle.zone_model.specs.Splits.{split_octets, split_name};
 ghost use Rattle.zone_model.specs.DataForms.{split_time};
 
-use crate::words::MOST_TIME;
 use dns_name::Name;
+use zone_text::MOST_TIME;
 
 // Splits off a number of octets.
 pub fn split_octets(count: usize, octets: &[u8]) -> Option<(&[u8], &[u8])>

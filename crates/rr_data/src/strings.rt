@@ -3,12 +3,11 @@ ghost use Rattle.std.specs.Prelude.{◌≡◌, ◌<◌, ◌≤◌, ◌+◌, ◌+
 ghost use Rattle.std.specs.List.{slice_range, All};
 ghost use Rattle.zone_model.specs.DataWords.{unescaped};
 ghost use Rattle.zone_model.specs.Data.{string_octets, read_strings};
-ghost use Rattle.rr_data.specs.Tokens.{IsPlaced, token_view};
+ghost use Rattle.zone_text.specs.Tokens.{IsPlaced, token_view};
 ghost use Rattle.rr_data.specs.Pushing.{Pushes};
 
-use crate::escapes::push_unescaped;
 use crate::refusal::RdataRefusal;
-use crate::token::Token;
+use zone_text::{Token, push_unescaped};
 
 // Pushes a string behind its length.
 #[tactic(auto, using(crate::proofs::StringLemmas::string_rules))]

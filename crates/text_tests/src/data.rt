@@ -1,12 +1,13 @@
 //! Data of records, read and printed, and items.
 ghost use Rattle.std.specs.Prelude.{◌≡◌, ◌≤◌, false, IfOk, length};
 ghost use Rattle.std.specs.List.{All};
-ghost use Rattle.rr_data.specs.Tokens.{IsPlaced};
+ghost use Rattle.zone_text.specs.Tokens.{IsPlaced};
 
 use dns_name::Name;
-use rr_data::{Entry, Rdata, RdataRefusal, Token, push_type, read_type};
+use rr_data::{Entry, Rdata, RdataRefusal, push_type, read_type};
 use std::alloc::{AllocError, Global};
 use std::test::Fail;
+use zone_text::Token;
 
 // The words between the spaces of a short text.
 fn words_of(alloc: Global, text: &[u8]) -> Result<Vec<Token>, AllocError>

@@ -1,8 +1,9 @@
 //! A master file with entries of every form, and the places of tokens.
 use dns_name::Name;
-use master_file::{ZoneItems, line_tokens, read_zone, tokens};
+use master_file::{ZoneItems, read_zone};
 use rr_data::Entry;
 use std::test::Fail;
+use zone_text::{line_tokens, tokens};
 
 // A name under the root.
 fn name(text: &[u8]) -> Result<Name, Fail> {

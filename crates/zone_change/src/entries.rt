@@ -3,12 +3,12 @@
 ghost use Rattle.std.specs.Prelude.{◌≡◌, IfOk, OnOk};
 ghost use Rattle.zone_model.specs.Records.{without_set, without_rr};
 ghost use Rattle.zone_model.specs.Versions.{holds, with_soa, with_added, is_lone, loses_soa, keeping_soa, changed};
-ghost use Rattle.job_script.specs.Views.{addition_view, operation_view};
+ghost use Rattle.zone_change.specs.Views.{addition_view, operation_view};
 ghost use Rattle.zone_change.specs.Changes.{Gives};
 ghost use Rattle.zone_change.specs.declared.entries.Stopped.TheVariants.{Memory};
 
 use dns_name::Name;
-use job_script::{NewRecord, Operation};
+use crate::operations::{NewRecord, Operation};
 use rr_data::{CNAME, Entry, ITEM_LIMIT, Rdata, SOA};
 use std::alloc::{AllocError, AllocFailed, Global};
 use zone_model::Refusal;

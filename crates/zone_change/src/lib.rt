@@ -1,8 +1,8 @@
-//! What an operation makes of the entry of its owner.
+//! What an operation of a transaction is, and what it makes of the entry of its owner.
 #![tactic(auto)]
 
-mod buffers;
 mod entries;
+mod operations;
 
-pub use buffers::ItemBuffers;
 pub use entries::{Stopped, changed};
+pub use operations::{NewRecord, Operation};

@@ -7,7 +7,7 @@ use Rattle.zone_model.specs.Records.{Entry, IsItem}
 use Rattle.zone_model.specs.Versions.{Version, owned, put}
 use Rattle.trie_model.specs.Keys as trie
 use Rattle.trie_model.specs.Keys.{InList}
-use Rattle.zone_answer.specs.Standing.{IsVersion}
+use Rattle.zone_query.specs.Standing.{IsVersion}
 use Rattle.job_model.specs.Sizes.{trie_entries}
 use Rattle.shared_index.specs.declared.desk.Draft.{Draft}
 use Rattle.shared_index.specs.declared.refusal.Full.{Full}
@@ -22,10 +22,10 @@ use Rattle.trie_model.specs.Shape.{cells}
 use Rattle.std.proofs.lemmas.List.{length-map}
 use Rattle.shared_index.specs.Keepings.{GoesOn, versions_in}
 use Rattle.shared_index.proofs.GoesLaws.{base_goes_on, applied_more, goes_further}
-use Rattle.zone_change.proofs.VersionLaws.{version_put, version_gone}
-use Rattle.zone_change.proofs.StoreLaws.{put_some, storable, same_entry, record_of}
+use Rattle.zone_edit.proofs.VersionLaws.{version_put, version_gone}
+use Rattle.zone_edit.proofs.StoreLaws.{put_some, storable, same_entry, record_of}
 use Rattle.trie_read.specs.Readings.{Fetched}
-use Rattle.zone_answer.specs.Parts.{IsRead}
+use Rattle.zone_query.specs.Parts.{IsRead}
 use Rattle.zone_edit.specs.Stores.{WorksOn, WorksOnSome, Owns, EditsOne, Edits, Reads, Stores}
 use Rattle.zone_edit.proofs.SetLaws.{IsOwner, inserted, exchanged, deleted}
 

@@ -1,2 +1,6 @@
+pub mod VersionLaws
+pub mod ShrinkLaws
+pub mod StoreLaws
+pub mod ApplyLaws
 pub mod SetLaws
 pub mod EditLaws

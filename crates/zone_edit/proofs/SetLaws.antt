@@ -18,12 +18,12 @@ use Rattle.trie_model.specs.Changes.{Inserted}
 use Rattle.trie_model.proofs.AboveLaws.{cmp_before}
 use Rattle.trie_write.specs.Exchanges.{Exchanged}
 use Rattle.trie_write.specs.Deletions.{Deleted}
-use Rattle.zone_answer.specs.Standing.{IsStorable, IsVersion, trie_entry}
+use Rattle.zone_query.specs.Standing.{IsStorable, IsVersion, trie_entry}
 use Rattle.job_model.specs.Sizes.{trie_entries}
 use Rattle.shared_index.specs.Operations.{with_entry, without}
 use Rattle.shared_index.proofs.OperationLaws as sets
-use Rattle.zone_change.proofs.VersionLaws.{by_name, after_all, inserted_is, exchanged_is, deleted_is}
-use Rattle.zone_change.proofs.StoreLaws.{put_some}
+use Rattle.zone_edit.proofs.VersionLaws.{by_name, after_all, inserted_is, exchanged_is, deleted_is}
+use Rattle.zone_edit.proofs.StoreLaws.{put_some}
 
 abbrev Entries : Type 0
 Entries = List trie.Entry

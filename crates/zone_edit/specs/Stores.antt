@@ -4,8 +4,8 @@ use Rattle.zone_model.specs.Names.{Name}
 use Rattle.zone_model.specs.Records.{Entry}
 use Rattle.zone_model.specs.Versions.{Version, owned, put}
 use Rattle.chunk_usage.specs.Ledger.{reserve_of}
-use Rattle.zone_answer.specs.Parts.{IsRead}
-use Rattle.zone_answer.specs.Standing.{IsVersion}
+use Rattle.zone_query.specs.Parts.{IsRead}
+use Rattle.zone_query.specs.Standing.{IsVersion}
 use Rattle.job_model.specs.Sizes.{trie_entries, cell_count}
 use Rattle.shared_cells.specs.Steps.{IsNamed}
 use Rattle.shared_index.specs.declared.desk.Draft.{Draft}

@@ -3,20 +3,20 @@
 ghost use Rattle.std.specs.Prelude.{◌≡◌, ◌≤◌, IfOk, IsSomeAnd, List, map};
 ghost use Rattle.zone_model.specs.Keys.{key_of};
 ghost use Rattle.zone_model.specs.Versions.{changed};
-ghost use Rattle.job_script.specs.Views.{operation_view};
+ghost use Rattle.zone_change.specs.Views.{operation_view};
 ghost use Rattle.zone_edit.specs.Stores.{WorksOnSome, Reads, Edits};
 ghost use Rattle.zone_edit.specs.Blocks.{Gives, Applies, AppliesAll};
 ghost use Rattle.zone_edit.specs.declared.applying.Stopped.TheVariants.{Memory};
 
 use crate::storing::store;
 use dns_name::Name;
-use job_script::Operation;
 use rr_data::Entry;
 use shared_index::{Law, Named, Transaction, Versions};
 use shift_key::Key;
 use std::alloc::{AllocError, AllocFailed, Global};
-use zone_answer::entry_of;
-use zone_change::{ItemBuffers, changed};
+use zone_query::entry_of;
+use crate::buffers::ItemBuffers;
+use zone_change::{Operation, changed};
 use zone_model::Refusal;
 
 /// Why operations change nothing.

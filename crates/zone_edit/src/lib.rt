@@ -2,6 +2,8 @@
 #![tactic(auto)]
 
 mod applying;
+mod buffers;
 mod storing;
 
 pub use applying::{Halt, apply_all};
+pub use buffers::ItemBuffers;

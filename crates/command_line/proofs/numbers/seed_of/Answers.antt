@@ -1,5 +1,5 @@
 use Rattle.std.proofs.Common.{rules, tests, arith, ◌≡◌, length}
-use Rattle.rr_data.proofs.NumberLemmas.{too_great_at}
+use Rattle.zone_text.proofs.NumberLemmas.{too_great_at}
 use Rattle.command_line.proofs.SeedLemmas.{not_digit_at}
 use Rattle.command_line.proofs.numbers.seed_of.Goals as goal
 

@@ -1,5 +1,5 @@
 use Rattle.std.specs.List.{All}
-use Rattle.rr_data.specs.Tokens.{IsPlaced}
+use Rattle.zone_text.specs.Tokens.{IsPlaced}
 use Rattle.job_script.proofs.phrases.phrase_of.Goals as goal
 use Rattle.job_script.proofs.PhraseLemmas.{first_placed, rest_placed}
 

@@ -6,8 +6,8 @@ use Rattle.job_script.specs.Scripts.{ScriptSteps, script_view}
 use Rattle.job_script.proofs.script.script_line.Goals as goal
 use Rattle.std.proofs.Common.{ap, sym, subst, arith, length-drop}
 use Rattle.zone_model.specs.Tokens.{single_line}
-use Rattle.master_file.specs.Places.{first_line}
-use Rattle.master_file.specs.Views.{Reads, line_view}
+use Rattle.zone_text.specs.Places.{first_line}
+use Rattle.zone_text.specs.Views.{Reads, line_view}
 use Rattle.job_script.proofs.PhraseLemmas.{HasFirst, has_first}
 
 -- src/script.rt:386:13

@@ -3,7 +3,7 @@ use Rattle.job_model.specs.Jobs as jobs
 use Rattle.job_model.specs.Phrases as phrases
 use Rattle.job_model.specs.declared.ScriptKind.{ScriptKind}
 use Rattle.zone_model.specs.Refusals.{Refused}
-use Rattle.rr_data.specs.Tokens.{token_view}
+use Rattle.zone_text.specs.Tokens.{token_view}
 use Rattle.job_script.specs.Phrases.{phrase_view}
 use Rattle.job_script.specs.Scripts.{unfinished_view, script_view, ScriptReads}
 use Rattle.job_script.proofs.ScriptLemmas.{tokens_inside}

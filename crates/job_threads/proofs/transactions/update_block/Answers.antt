@@ -1,7 +1,7 @@
 use Rattle.std.proofs.Common.{rules, ◌≡◌, ◌∙◌, ◌+◌, ◌*◌, Ok, Err, refl, sym, subst, ap, map}
 use Rattle.std.specs.Prelude.{IsSomeAnd}
 use Rattle.job_model.specs.declared.Weight.{Weight}
-use Rattle.job_script.specs.Views.{operation_view}
+use Rattle.zone_change.specs.Views.{operation_view}
 use Rattle.shared_index.specs.Passes.{known_at}
 use Rattle.job_threads.specs.Weights.{IsOfWeight}
 use Rattle.job_threads.proofs.ShowLaws.{seat_told}

@@ -1,7 +1,8 @@
 use Rattle.std.proofs.Common.{◌≡◌, sym, subst, map}
 use Rattle.std.specs.Option.{option_map}
 use Rattle.job_model.specs.Commands.{AskHeld}
-use Rattle.job_script.specs.Views.{command_view, question_view, operation_view}
+use Rattle.job_script.specs.Views.{command_view, question_view}
+use Rattle.zone_change.specs.Views.{operation_view}
 use Rattle.job_script.specs.declared.commands.Command.{Command}
 use Rattle.job_script.specs.declared.outcomes.Outcome.{Outcome}
 use Rattle.shared_index.specs.Passes.{known_at}

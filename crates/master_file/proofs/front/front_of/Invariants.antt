@@ -1,6 +1,6 @@
 use Rattle.std.proofs.Common.{◌≡◌, drop, map, None, false}
 use Rattle.zone_model.specs.MasterFile as says
-use Rattle.rr_data.specs.Tokens.{token_view}
+use Rattle.zone_text.specs.Tokens.{token_view}
 use Rattle.master_file.proofs.front.front_of.Given as goal
 
 abbrev pub invariant-loop-index : goal.invariant-loop-index

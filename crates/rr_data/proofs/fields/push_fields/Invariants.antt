@@ -1,7 +1,7 @@
 use Rattle.std.proofs.Common.{◌≡◌, drop, map}
 use Rattle.std.specs.List.{All}
 use Rattle.zone_model.specs.Data.{read_fields, ahead}
-use Rattle.rr_data.specs.Tokens.{token_view, IsPlaced}
+use Rattle.zone_text.specs.Tokens.{token_view, IsPlaced}
 use Rattle.rr_data.specs.Fields.{field_view}
 use Rattle.rr_data.proofs.fields.push_fields.Given as goal
 

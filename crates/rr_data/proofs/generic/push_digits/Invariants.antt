@@ -2,7 +2,7 @@ use Rattle.std.proofs.Common.{◌≡◌, ◌+◌, drop, map, true}
 use Rattle.std.specs.List.{list_all}
 use Rattle.std.specs.Char.{is_ascii_hexdigit}
 use Rattle.zone_model.specs.Data.{read_digits, ahead}
-use Rattle.rr_data.specs.Tokens.{token_view}
+use Rattle.zone_text.specs.Tokens.{token_view}
 use Rattle.rr_data.proofs.generic.push_digits.Given as goal
 
 abbrev pub invariant-loop-index : goal.invariant-loop-index

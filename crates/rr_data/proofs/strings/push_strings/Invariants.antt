@@ -1,6 +1,6 @@
 use Rattle.std.proofs.Common.{◌≡◌, drop, map}
 use Rattle.zone_model.specs.Data.{read_strings, ahead}
-use Rattle.rr_data.specs.Tokens.{token_view}
+use Rattle.zone_text.specs.Tokens.{token_view}
 use Rattle.rr_data.proofs.strings.push_strings.Given as goal
 
 abbrev pub invariant-loop-at : goal.invariant-loop-at

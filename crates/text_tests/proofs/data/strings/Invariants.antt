@@ -1,5 +1,5 @@
 use Rattle.std.specs.List.{All}
-use Rattle.rr_data.specs.Tokens.{IsPlaced}
+use Rattle.zone_text.specs.Tokens.{IsPlaced}
 use Rattle.text_tests.proofs.data.strings.Given as goal
 
 abbrev pub invariant-loop : goal.invariant-loop

@@ -1,6 +1,6 @@
 use Rattle.std.proofs.Common.{◌≤◌}
 use Rattle.std.specs.List.{All}
-use Rattle.rr_data.specs.Tokens.{IsPlaced}
+use Rattle.zone_text.specs.Tokens.{IsPlaced}
 use Rattle.text_tests.proofs.data.words_of.Given as goal
 
 abbrev pub invariant-loop-at : goal.invariant-loop-at

@@ -2,7 +2,7 @@ use Rattle.std.proofs.Common.{◌≡◌, ◌∙◌, ℕ, Bool, false, cond, eqb,
 use Rattle.std.proofs.lemmas.Bool.Decides.{nat_tests}
 use Rattle.zone_model.specs.Records.{Entry, with_rr}
 use Rattle.zone_model.specs.Versions.{Addition, with_added, with_soa}
-use Rattle.job_script.specs.Views.{addition_view}
+use Rattle.zone_change.specs.Views.{addition_view}
 use Rattle.zone_change.proofs.entries.add_record.Goals as goal
 
 no_soa : (a : Addition) (octets : List ℕ) (entry new : Entry) → (a.rtype ≡ 6 → ⊥) → octets ≡ a.octets → new ≡ with_rr a.rtype a.ttl octets entry → new ≡ with_added a entry

@@ -1,8 +1,8 @@
 use Rattle.std.proofs.Common.{subst, sym}
 use Rattle.zone_model.specs.Versions.{changed}
-use Rattle.job_script.specs.Views.{operation_view}
+use Rattle.zone_change.specs.Views.{operation_view}
 use Rattle.zone_change.specs.Changes.{Gives}
-use Rattle.job_script.specs.declared.operations.Operation.{Operation}
+use Rattle.zone_change.specs.declared.operations.Operation.{Operation}
 use Rattle.zone_change.proofs.entries.changed.Goals as goal
 
 pub returns-in-DeleteRecord : goal.returns-in-DeleteRecord

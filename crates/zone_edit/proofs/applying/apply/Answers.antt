@@ -2,10 +2,10 @@ use Rattle.std.proofs.Common.{rules, ◌≡◌, ◌<◌, ◌≤◌, length, take
 use Rattle.zone_model.specs.Names.{Name}
 use Rattle.zone_model.specs.Records.{Entry, item}
 use Rattle.zone_model.specs.Versions.{Version, owned, owner_of, changed, put}
-use Rattle.zone_answer.specs.Parts.{IsRead}
+use Rattle.zone_query.specs.Parts.{IsRead}
 use Rattle.rr_data.specs.ItemViews.{SaysEntry}
-use Rattle.job_script.specs.Views.{operation_view}
-use Rattle.zone_change.proofs.ApplyLaws.{owned_short, changed_short, accepted, refused}
+use Rattle.zone_change.specs.Views.{operation_view}
+use Rattle.zone_edit.proofs.ApplyLaws.{owned_short, changed_short, accepted, refused}
 use Rattle.zone_edit.specs.Stores.{WorksOn, Reads, Stores}
 use Rattle.zone_edit.specs.Blocks.{Applies}
 use Rattle.zone_edit.specs.declared.applying.Stopped.TheVariants as stops

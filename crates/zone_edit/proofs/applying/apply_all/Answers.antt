@@ -3,11 +3,11 @@ use Rattle.std.proofs.Common.{◌≡◌, ◌∙◌, ℕ, ◌+◌, ◌-◌, ◌�
 use Rattle.std.proofs.lemmas.List.{length-map, length-take-le, take_all}
 use Rattle.zone_model.specs.Versions.{Version, Operation, whole}
 use Rattle.zone_model.specs.declared.Refusal.{Refusal}
-use Rattle.job_script.specs.Views.{operation_view}
-use Rattle.job_script.specs.declared.operations.Operation.{Operation as Said}
+use Rattle.zone_change.specs.Views.{operation_view}
+use Rattle.zone_change.specs.declared.operations.Operation.{Operation as Said}
 use Rattle.shared_index.specs.declared.desk.Draft.{Draft}
 use Rattle.shared_index.specs.declared.kept.Versions.{Versions}
-use Rattle.zone_change.proofs.ApplyLaws.{next_whole, refused_whole, up_to, all_around}
+use Rattle.zone_edit.proofs.ApplyLaws.{next_whole, refused_whole, up_to, all_around}
 use Rattle.zone_edit.specs.Stores.{WorksOn, WorksOnSome, Edits}
 use Rattle.zone_edit.specs.Blocks.{Applies, AppliesAll, IsFullAt}
 use Rattle.zone_edit.specs.declared.applying.Stopped.{Stopped}

@@ -2,7 +2,7 @@ use Rattle.std.proofs.Common.{◌≡◌, List, map, take, Ok}
 use Rattle.std.specs.Prelude.{IsSomeAnd}
 use Rattle.zone_model.specs.Versions.{Version, whole}
 use Rattle.shared_index.specs.declared.desk.Draft.{Draft}
-use Rattle.job_script.specs.Views.{operation_view}
+use Rattle.zone_change.specs.Views.{operation_view}
 use Rattle.zone_edit.specs.Stores.{WorksOn, WorksOnSome, Edits}
 use Rattle.zone_edit.proofs.applying.apply_all.Given as goal
 

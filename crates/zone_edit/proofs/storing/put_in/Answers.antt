@@ -4,7 +4,7 @@ use Rattle.trie_model.specs.Keys as trie
 use Rattle.trie_model.specs.Keys.{InList}
 use Rattle.shared_index.specs.declared.meaning.Operation.TheVariants as operation
 use Rattle.shared_index.specs.declared.refusal.InsertRefusal.TheVariants.{Exists}
-use Rattle.zone_change.proofs.StoreLaws.{nobody, put_changes, nothing_some, record_of}
+use Rattle.zone_edit.proofs.StoreLaws.{nobody, put_changes, nothing_some, record_of}
 use Rattle.zone_edit.proofs.EditLaws.{stored, no_room, refused_set, put_new}
 use Rattle.zone_edit.proofs.storing.put_in.Goals as goal
 

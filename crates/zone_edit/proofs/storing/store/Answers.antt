@@ -1,7 +1,7 @@
 use Rattle.std.proofs.Common.{rules, Ok, ◌≡◌, ◌∙◌, [], List, ℕ, take, refl, ap, sym, subst}
 use Rattle.zone_model.specs.Records.{Entry, item}
 use Rattle.zone_model.specs.Versions.{Version, put}
-use Rattle.zone_change.proofs.StoreLaws.{unchanged_gone, unchanged_put, one_entry, said_item}
+use Rattle.zone_edit.proofs.StoreLaws.{unchanged_gone, unchanged_put, one_entry, said_item}
 use Rattle.zone_edit.specs.Stores.{Owns, WorksOn, Stores}
 use Rattle.zone_edit.proofs.EditLaws.{edits_same}
 use Rattle.zone_edit.proofs.storing.store.Goals as goal

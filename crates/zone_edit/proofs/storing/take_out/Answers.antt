@@ -5,7 +5,7 @@ use Rattle.trie_model.specs.Keys as trie
 use Rattle.trie_model.specs.Keys.{InList}
 use Rattle.shared_index.specs.declared.meaning.Operation.TheVariants as operation
 use Rattle.shared_index.specs.declared.refusal.ChangeRefusal.TheVariants.{NotFound}
-use Rattle.zone_change.proofs.StoreLaws.{somebody, gone_changes}
+use Rattle.zone_edit.proofs.StoreLaws.{somebody, gone_changes}
 use Rattle.zone_edit.proofs.SetLaws.{owner_in}
 use Rattle.zone_edit.proofs.EditLaws.{stored, no_room, refused_set, put_out}
 use Rattle.zone_edit.proofs.storing.take_out.Goals as goal

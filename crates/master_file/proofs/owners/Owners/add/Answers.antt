@@ -1,6 +1,6 @@
 use Rattle.std.proofs.Common.{◌∙◌, sym, subst}
 use Rattle.dns_name.specs.SortKeys.{KeyBelow}
-use Rattle.master_file.specs.Views.{Gives}
+use Rattle.zone_text.specs.Views.{Gives}
 use Rattle.master_file.specs.Owners.{version_of}
 use Rattle.master_file.proofs.OwnerLemmas.{under, low_refused, added_placed, joins}
 use Rattle.master_file.proofs.owners.Owners.add.Goals as goal

@@ -1,5 +1,0 @@
-pub mod Answers
-pub mod Standing
-pub mod Neighbours
-pub mod Parts
-pub mod Example

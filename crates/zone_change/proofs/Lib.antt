@@ -1,4 +1,0 @@
-pub mod VersionLaws
-pub mod ShrinkLaws
-pub mod StoreLaws
-pub mod ApplyLaws

@@ -1,3 +1,0 @@
-pub mod FilterLaws
-pub mod WalkLaws
-pub mod FindLaws

@@ -1,0 +1,15 @@
+pub mod KeyOrder
+pub mod NearLaws
+pub mod SplitLaws
+pub mod AheadLaws
+pub mod OwnedLaws
+pub mod AncestorLaws
+pub mod NodeLaws
+pub mod CutLaws
+pub mod AnswerLaws
+pub mod ChainLaws
+pub mod StepLaws
+pub mod HeldLaws
+pub mod FilterLaws
+pub mod WalkLaws
+pub mod FindLaws

@@ -1,0 +1,25 @@
+use Rattle.std.proofs.Common.{◌∙◌, ap, sym, subst, append-nil, ◌++◌, None, Some}
+use Rattle.zone_model.specs.Records.{Entry}
+use Rattle.zone_query.specs.Answers.{Step, by_node}
+use Rattle.zone_query.specs.Parts.{Gives}
+use Rattle.zone_query.proofs.StepLaws.{step_absent}
+use Rattle.zone_query.proofs.step.give_absent.Goals as goal
+
+pub absent_node-requires : goal.absent_node-requires
+absent_node-requires g c = (c.requires.0, c.requires.1)
+
+pub view-requires : goal.view-requires
+view-requires g c = let n = c.in-Some.ensures.node c.requires.0 c.requires.1 c.requires.2 in (n.0, n.2)
+
+pub returns-in-Some-clause-gives : goal.returns-in-Some-clause-gives
+returns-in-Some-clause-gives g c zone origin placed none empty =
+    let n = c.in-Some.ensures.node zone placed empty in
+    let seen = c.view.ensures n.0 n.2 in
+    subst (λ (s : Step). Gives s c.args.rows.now c.give.new.rows c.give.result)
+    (ap (λ (e : Entry). by_node c.args.name.now c.args.rtype (Some e)) seen ∙ step_absent origin c.args.name.now zone c.args.rtype (Some n.0) none empty (sym n.1)) c.give.ensures
+
+pub returns-in-None-clause-gives : goal.returns-in-None-clause-gives
+returns-in-None-clause-gives g c zone origin placed none empty =
+    let n = c.in-None.ensures.node zone placed empty in
+    let is = step_absent origin c.args.name.now zone c.args.rtype None none empty (sym n) in
+    (ap (λ (s : Step). s.next) is, sym (append-nil c.args.rows.now) ∙ ap (λ (s : Step). c.args.rows.now ++ s.rows) is)

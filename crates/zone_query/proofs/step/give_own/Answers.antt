@@ -1,0 +1,15 @@
+use Rattle.std.proofs.Common.{◌∙◌, sym, subst}
+use Rattle.zone_query.specs.Answers.{Step}
+use Rattle.zone_query.specs.Parts.{Gives}
+use Rattle.zone_query.proofs.StepLaws.{step_own, step_own_cut}
+use Rattle.zone_query.proofs.step.give_own.Goals as goal
+
+pub returns-then-is_cut : goal.returns-then-is_cut
+returns-then-is_cut c = λ zone none own there.
+    let cut = sym (c.is_cut.ensures zone own) ∙ c.if-is_cut.true in
+    subst (λ (s : Step). Gives s c.args.rows.now c.refer.new.rows c.refer.result) (step_own_cut c.args.origin.now c.args.name.now zone c.args.rtype c.args.entry.now none cut own) c.refer.ensures
+
+pub returns : goal.returns
+returns c = λ zone none own there.
+    let cut = sym (c.is_cut.ensures zone own) ∙ c.if-is_cut.false in
+    subst (λ (s : Step). Gives s c.args.rows.now c.give.new.rows c.give.result) (step_own c.args.origin.now c.args.name.now zone c.args.rtype c.args.entry.now none cut there own) c.give.ensures

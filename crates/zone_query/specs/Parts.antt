@@ -1,0 +1,83 @@
+-- Parts of an answer as the code has them.
+use Rattle.std.specs.Prelude.{◌≡◌, ℕ, ◌-◌, ◌<◌, ◌≤◌, true, false, List, ◌++◌, length, take, if◌then◌else◌, Option, Some, None, Result, Ok, Err}
+use Rattle.std.specs.Option.{is_some}
+use Rattle.std.specs.List.{flat_map}
+use Rattle.std.specs.declared.alloc.AllocError.{AllocError}
+use Rattle.zone_model.specs.Names.{Name, ancestor}
+use Rattle.zone_model.specs.Records.{Rrset, Entry, rrset_of}
+use Rattle.zone_model.specs.Versions.{Version, owned, exists}
+use Rattle.zone_model.specs.Rows.{Row, rows_of}
+use Rattle.rr_data.specs.ItemViews.{SaysEntry}
+use Rattle.zone_query.specs.Answers as answers
+use Rattle.zone_query.specs.Answers.{Step, is_cut, cut_above, ns_type}
+use Rattle.zone_query.specs.declared.records.Held.{Held}
+use Rattle.zone_query.specs.declared.step.Next.{Next}
+use Rattle.zone_query.specs.declared.step.Next.TheVariants.{Ends, LeadsTo}
+
+-- an RRset with its owner
+pub record OwnedSet : Type 0 where
+  pub owner : Name
+  pub set : Rrset
+
+-- the records of RRsets, each with its owner
+abbrev pub rows_in : List OwnedSet → List Row
+rows_in sets = flat_map (λ s. rows_of s.owner s.set) sets
+
+-- ---- what was read
+
+-- the octets in front are those of what a name owns; there are some only where it is there
+pub record IsRead (name : Name) (version : Version) (octets : List ℕ) (len : ℕ) : Type 0 where
+  pub within : len ≤ 4096
+  pub says : SaysEntry name (take len octets) (owned name version)
+  pub there : 0 < len → exists name version ≡ true
+
+-- the octets in front are those of an entry
+pub record IsHeld (octets : List ℕ) (held : Held) (entry : Entry) : Type 0 where
+  pub within : held.len ≤ 4096
+  pub says : SaysEntry held.name (take held.len octets) entry
+
+-- what answers for a name was read, if anything does
+abbrev pub IsNodeOf : List ℕ → Option Entry → Option Held → Type 0
+IsNodeOf octets node None = node ≡ None
+IsNodeOf octets node (Some held) = (entry : Entry) × (node ≡ Some entry) × IsHeld octets held entry
+
+-- ---- cuts
+
+-- a name, if it owns an NS set
+abbrev pub delegated : Version → Name → Option Name
+delegated version name = if is_some (rrset_of ns_type (owned name version)) then Some name else None
+
+-- what the name of a cut owns was read
+abbrev pub IsCutOf : Version → List ℕ → Option Name → Option Held → Type 0
+IsCutOf version octets name None = name ≡ None
+IsCutOf version octets name (Some held) = (name ≡ Some held.name) × IsHeld octets held (owned held.name version)
+
+-- of the names at or above a name, none with so many labels or fewer is a cut
+abbrev pub NoneTo : Name → Name → Version → ℕ → Type 0
+NoneTo origin name version labels = (k : ℕ) → k ≤ labels → is_cut origin version (ancestor k name) ≡ false
+
+-- the names above a name have no cut
+abbrev pub NoneOver : Name → Name → Version → Type 0
+NoneOver origin name version = NoneTo origin name version (length name - 1)
+
+-- the first cut, where one of the names above a name is a cut
+abbrev pub IsCutOver : Name → Name → Version → List ℕ → Option Held → Type 0
+IsCutOver origin name version octets None = NoneOver origin name version
+IsCutOver origin name version octets (Some held) = IsCutOf version octets (cut_above origin version name) (Some held)
+
+-- ---- one name
+
+abbrev pub next_view : Next → answers.Next
+next_view (Ends kind) = answers.Ends kind
+next_view (LeadsTo target) = answers.LeadsTo target
+
+-- a step's rows were added, and it is told how the answer goes on
+abbrev pub Gives : Step → List Row → List Row → Result Next AllocError → Type 0
+Gives step old new (Ok next) = (next_view next ≡ step.next) × (new ≡ old ++ step.rows)
+Gives step old new (Err e) = Unit {0}
+
+-- the same, where anything is told
+abbrev pub GivesAtOnce : Step → List Row → List Row → Result (Option Next) AllocError → Type 0
+GivesAtOnce step old new (Ok None) = new ≡ old
+GivesAtOnce step old new (Ok (Some next)) = (next_view next ≡ step.next) × (new ≡ old ++ step.rows)
+GivesAtOnce step old new (Err e) = Unit {0}

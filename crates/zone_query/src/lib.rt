@@ -1,0 +1,28 @@
+//! Questions to one version of a zone: the answers that an authoritative server gives (RFC 1034, section 4.3.2; wildcards by
+//! RFC 4592), and the names around a name, in canonical order (RFC 4034, section 6.1): those at and above it, the last one
+//! before it, and those that follow it in either direction.
+#![tactic(auto)]
+
+pub mod answer_laws;
+mod answers;
+mod cut;
+mod found;
+mod kind;
+pub mod name_laws;
+mod near;
+mod node;
+mod question;
+mod records;
+mod rows;
+mod step;
+mod walker;
+mod walks;
+
+pub use answers::Answer;
+pub use found::{Found, find};
+pub use kind::Kind;
+pub use question::{answer, answer_by, answer_with};
+pub use records::{entry_of, read_owned};
+pub use rows::{OwnedSet, Rows};
+pub use walker::Walker;
+pub use walks::{back, walk};

@@ -1,0 +1,76 @@
+//! What answers for a name.
+
+ghost use Rattle.std.specs.Prelude.{◌≡◌, [], Some, false};
+ghost use Rattle.zone_model.specs.Versions.{Version, exists, owned};
+ghost use Rattle.zone_query.specs.Answers.{encloser, node, wildcard_under};
+ghost use Rattle.zone_query.specs.Neighbours.{AreNeighbours};
+ghost use Rattle.zone_query.specs.Parts.{IsNodeOf};
+ghost use Rattle.zone_query.specs.Standing.{IsPlaced, IsVersion, StandsOn};
+
+use crate::near::{Neighbours, shows_ahead};
+use crate::records::Held;
+use crate::walker::Walker;
+use dns_name::Name;
+use shift_key::Key;
+use trie_read::Reading;
+
+/// The closest encloser of a name that doesn't exist: a name above it exists exactly where a neighbour of its place is at or
+/// under that.
+fn encloser(near: &Neighbours, name: &Name) -> Option<Name>
+    ensures { (zone : Version) → IsVersion zone → AreNeighbours name.now zone near.now → exists name.now zone ≡ false → result ≡ encloser zone name.now }
+{
+    let mut above = name.parent()?;
+    while !near.show(&above) {
+        above = above.parent()?;
+    }
+    Some(above)
+}
+
+/// The wildcard right under a name, if it exists. What it owns is read into a buffer.
+fn wildcard_under<V: Reading>(
+    version: &mut V,
+    walker: &mut Walker,
+    name: &Name,
+    item: &mut [u8; 4096],
+) -> Option<Held>
+    requires { (zone : Version) × StandsOn (V.holds version.old) (V.stands version.old walker.old.iter) zone }
+    ensures same { version.new ≡ version.old }
+    ensures node { (zone : Version) → StandsOn (V.holds version.old) (V.stands version.old walker.old.iter) zone
+        → IsNodeOf item.new (wildcard_under zone (Some name.now)) result }
+{
+    let star = name.star()?;
+    let _wire = star.wire();
+    if let Some(leaf) = version.lookup(&mut walker.iter, &Key::of(&star), &mut walker.above) {
+        let len = version.read(leaf, item);
+        return Some(Held { name: star, len });
+    }
+    if !shows_ahead(version, &mut walker.iter, &star) {
+        return None;
+    }
+    Some(Held { name: star, len: 0 })
+}
+
+/// What answers for a name that owns nothing, where the walker's iterator stands at its place: no records where names under it are there,
+/// else a wildcard's; `None` where there is no wildcard for it.
+pub fn absent_node<V: Reading>(
+    version: &mut V,
+    walker: &mut Walker,
+    name: &Name,
+    item: &mut [u8; 4096],
+) -> Option<Held>
+    requires { (zone : Version) × IsPlaced (V.holds version.old) (V.stands version.old walker.old.iter) name.now zone }
+    ensures same { version.new ≡ version.old }
+    ensures node { (zone : Version) → IsPlaced (V.holds version.old) (V.stands version.old walker.old.iter) name.now zone → [] ≡ owned name.now zone
+        → IsNodeOf item.new (node zone name.now) result }
+{
+    let _wire = name.wire();
+    let near = Neighbours::of(version, &mut walker.iter);
+    if near.show(name) {
+        return Some(Held {
+            name: *name,
+            len: 0,
+        });
+    }
+    let above = encloser(&near, name)?;
+    wildcard_under(version, walker, &above, item)
+}

@@ -1,0 +1,70 @@
+//! What a name owns.
+
+ghost use Rattle.std.specs.Prelude.{◌≡◌, ◌≤◌, IfOk, List, ℕ};
+ghost use Rattle.zone_model.specs.Keys.{key_of};
+ghost use Rattle.zone_model.specs.Records.{Entry as Records};
+ghost use Rattle.zone_model.specs.Versions.{Version};
+ghost use Rattle.rr_data.specs.ItemViews.{SaysEntry};
+ghost use Rattle.zone_query.specs.Parts.{IsHeld, IsRead};
+ghost use Rattle.zone_query.specs.Standing.{Shows, ShowsSome};
+
+use dns_name::Name;
+use rr_data::{DecodeRefusal, Entry, ItemView};
+use shift_key::Key;
+use std::alloc::{AllocError, Global};
+use trie_read::Reading;
+
+/// A name whose item was read into a buffer.
+#[derive(Drop)]
+pub struct Held {
+    pub name: Name,
+    /// How many octets the item has; 0 where the name owns nothing.
+    pub len: usize,
+}
+
+impl Held {
+    /// What it owns.
+    pub fn view<'a>(&self, item: &'a [u8; 4096]) -> ItemView<'a>
+        requires { (entry : Records) × IsHeld item.now self.now entry }
+        ensures { (entry : Records) → IsHeld item.now self.now entry → result ≡ entry }
+    {
+        ItemView::of(&self.name, &item[..self.len])
+    }
+}
+
+/// What octets say that a name owns; nothing where there are none.
+pub fn entry_of(alloc: Global, name: &Name, octets: &[u8]) -> Result<Entry, AllocError>
+    requires { (entry : Records) × SaysEntry name.now octets.now entry }
+    ensures { (entry : Records) → SaysEntry name.now octets.now entry → IfOk result (λ e. e ≡ entry) }
+{
+    let _wire = name.wire();
+    if octets.is_empty() {
+        return Ok(Entry::empty(alloc));
+    }
+    match Entry::decode(alloc, octets) {
+        Ok(entry) => Ok(entry),
+        Err(DecodeRefusal::Memory) => Err(AllocError),
+        Err(DecodeRefusal::Malformed) => unreachable!(),
+    }
+}
+
+/// Reads the item of what a name owns into the beginning of a buffer, by the name's key, and gives its length; 0 where the name owns
+/// nothing.
+pub fn read_owned<V: Reading>(
+    version: &mut V,
+    name: &Name,
+    key: &Key,
+    item: &mut [u8; 4096],
+) -> usize
+    requires shown { ShowsSome (V.holds version.old) }
+    requires key { key.now ≡ key_of name.now }
+    ensures same { version.new ≡ version.old }
+    ensures within { result ≤ 4096 }
+    ensures read { (zone : Version) → Shows (V.holds version.old) zone → IsRead name.now zone item.new result }
+{
+    let _wire = name.wire();
+    match version.fetch(key, item) {
+        Some(len) => len,
+        None => 0,
+    }
+}

@@ -1,0 +1,232 @@
+//! What one name gives to an answer.
+
+ghost use Rattle.std.specs.Prelude.{◌≡◌, ◌∷◌, [], Some, None, MatchOption, true};
+ghost use Rattle.std.specs.Option.{option_map};
+ghost use Rattle.zone_model.specs.Keys.{key_of};
+ghost use Rattle.zone_model.specs.Names.{Name as Labels, is_under};
+ghost use Rattle.zone_model.specs.Records.{rrset_of};
+ghost use Rattle.zone_model.specs.Splits.{split_name};
+ghost use Rattle.zone_model.specs.Versions.{Version, exists, owned};
+ghost use Rattle.zone_query.specs.Answers.{Ends, alias_in, by_alias, step, target_of, set_rows, ns_type};
+ghost use Rattle.zone_query.specs.Parts.{Gives, GivesAtOnce, NoneOver};
+ghost use Rattle.zone_query.specs.Standing.{IsPlaced, Shows, ShowsSome};
+
+use crate::cut::{cut_over, is_cut};
+use crate::kind::Kind;
+use crate::node::absent_node;
+use crate::records::read_owned;
+use crate::rows::Rows;
+use crate::walker::Walker;
+use dns_name::Name;
+use rr_data::{CNAME, ItemView, NS, SetView};
+use shift_key::Key;
+use std::alloc::{AllocError, Global};
+use trie_read::Reading;
+
+/// How an answer goes on.
+#[derive(Clone, Copy)]
+pub enum Next {
+    /// It ends.
+    Ends(Kind),
+    /// An alias leads to this name; to none where its data are none.
+    LeadsTo(Option<Name>),
+}
+
+/// The name that octets begin with.
+fn name_in(octets: &[u8]) -> Option<Name>
+    ensures { result ≡ option_map (λ x. x.0) (split_name octets.now) }
+{
+    Name::from_wire(octets)
+}
+
+/// The name that an alias's data are.
+fn target_of(alias: &SetView<'_>) -> Option<Name>
+    ensures { result ≡ target_of alias.now.records }
+{
+    let mut records = alias.records();
+    match records.next() {
+        Some(octets) => name_in(octets),
+        None => None,
+    }
+}
+
+/// The alias among a name's records, unless it is itself asked for.
+fn alias_in<'a>(entry: &ItemView<'a>, rtype: u16) -> Option<SetView<'a>>
+    ensures { MatchOption result (alias_in rtype entry.now ≡ None) (λ s. alias_in rtype entry.now ≡ Some s) }
+{
+    if rtype == CNAME {
+        None
+    } else {
+        entry.find_set(CNAME)
+    }
+}
+
+/// What these records give under an owner.
+fn give(
+    alloc: Global,
+    entry: &ItemView<'_>,
+    owner: &Name,
+    rtype: u16,
+    rows: &mut Rows,
+) -> Result<Next, AllocError>
+    ensures { Gives (by_alias owner.now rtype entry.now (alias_in rtype entry.now)) rows.old rows.new result }
+{
+    if let Some(alias) = alias_in(entry, rtype) {
+        rows.push(alloc, owner, &alias)?;
+        return Ok(Next::LeadsTo(target_of(&alias)));
+    }
+    match entry.find_set(rtype) {
+        Some(set) => {
+            rows.push(alloc, owner, &set)?;
+            Ok(Next::Ends(Kind::Answered))
+        }
+        None => Ok(Next::Ends(Kind::Nodata)),
+    }
+}
+
+/// A referral to the servers of a cut.
+fn refer(
+    alloc: Global,
+    cut: &Name,
+    entry: &ItemView<'_>,
+    rows: &mut Rows,
+) -> Result<Next, AllocError>
+    ensures { Gives (record { rows = set_rows cut.now (rrset_of ns_type entry.now); next = Ends Kind.Referral }) rows.old rows.new result }
+{
+    if let Some(servers) = entry.find_set(NS) {
+        rows.push(alloc, cut, &servers)?;
+        return Ok(Next::Ends(Kind::Referral));
+    }
+    Ok(Next::Ends(Kind::Referral))
+}
+
+/// What a name that is there gives, where none above it is a cut.
+fn give_own(
+    alloc: Global,
+    origin: &Name,
+    name: &Name,
+    entry: &ItemView<'_>,
+    rtype: u16,
+    rows: &mut Rows,
+) -> Result<Next, AllocError>
+    requires { is_under name.now origin.now ≡ true }
+    ensures { (zone : Version) → NoneOver origin.now name.now zone → entry.now ≡ owned name.now zone → exists name.now zone ≡ true
+        → Gives (step origin.now zone rtype name.now) rows.old rows.new result }
+{
+    if is_cut(origin, name, entry) {
+        return refer(alloc, name, entry, rows);
+    }
+    give(alloc, entry, name, rtype, rows)
+}
+
+/// What a name that isn't there gives, where none above it is a cut and the walker's iterator stands at its place.
+fn give_absent<V: Reading>(
+    alloc: Global,
+    version: &mut V,
+    walker: &mut Walker,
+    name: &Name,
+    rtype: u16,
+    item: &mut [u8; 4096],
+    rows: &mut Rows,
+) -> Result<Next, AllocError>
+    requires { (zone : Version) × IsPlaced (V.holds version.old) (V.stands version.old walker.old.iter) name.now zone × ([] ≡ owned name.now zone) }
+    ensures same { version.new ≡ version.old }
+    ensures gives { (zone : Version) (origin : Labels) → IsPlaced (V.holds version.old) (V.stands version.old walker.old.iter) name.now zone → NoneOver origin name.now zone
+        → [] ≡ owned name.now zone → Gives (step origin zone rtype name.now) rows.old rows.new result }
+{
+    match absent_node(version, walker, name, item) {
+        Some(held) => give(alloc, &held.view(item), name, rtype, rows),
+        None => Ok(Next::Ends(Kind::Nxdomain)),
+    }
+}
+
+/// What a name gives, by one walk of the trie: the cuts above it, what it owns, and its neighbours.
+fn search<V: Reading>(
+    alloc: Global,
+    version: &mut V,
+    origin: &Name,
+    name: &Name,
+    key: &Key,
+    rtype: u16,
+    walker: &mut Walker,
+    item: &mut [u8; 4096],
+    rows: &mut Rows,
+) -> Result<Next, AllocError>
+    requires shown { ShowsSome (V.holds version.old) }
+    requires under { is_under name.now origin.now ≡ true }
+    requires key { key.now ≡ key_of name.now }
+    ensures same { version.new ≡ version.old }
+    ensures gives { (zone : Version) → Shows (V.holds version.old) zone
+        → Gives (step origin.now zone rtype name.now) rows.old rows.new result }
+{
+    let _wire = name.wire();
+    version.restart(&mut walker.iter);
+    let found = version.lookup(&mut walker.iter, key, &mut walker.above);
+    if let Some(cut) = cut_over(version, origin, name, walker.above.as_slice(), item) {
+        return refer(alloc, &cut.name, &cut.view(item), rows);
+    }
+    match found {
+        Some(leaf) => {
+            let len = version.read(leaf, item);
+            let entry = ItemView::of(name, &item[..len]);
+            give_own(alloc, origin, name, &entry, rtype, rows)
+        }
+        None => give_absent(alloc, version, walker, name, rtype, item, rows),
+    }
+}
+
+/// What a name gives that is right under the origin, if it is there: no cut can lie above it. No rows are added where it tells nothing.
+pub fn give_there<V: Reading>(
+    alloc: Global,
+    version: &mut V,
+    origin: &Name,
+    name: &Name,
+    key: &Key,
+    rtype: u16,
+    item: &mut [u8; 4096],
+    rows: &mut Rows,
+) -> Result<Option<Next>, AllocError>
+    requires shown { ShowsSome (V.holds version.old) }
+    requires under { is_under name.now origin.now ≡ true }
+    requires key { key.now ≡ key_of name.now }
+    ensures same { version.new ≡ version.old }
+    ensures gives { (zone : Version) → Shows (V.holds version.old) zone
+        → GivesAtOnce (step origin.now zone rtype name.now) rows.old rows.new result }
+{
+    if name.labels().saturating_sub(1) > origin.labels() {
+        return Ok(None);
+    }
+    let len = read_owned(version, name, key, item);
+    if len == 0 {
+        return Ok(None);
+    }
+    let entry = ItemView::of(name, &item[..len]);
+    let next = give_own(alloc, origin, name, &entry, rtype, rows)?;
+    Ok(Some(next))
+}
+
+/// Adds the rows that a name at or under the origin gives, and tells how the answer goes on. Items are read into `item`.
+pub fn step<V: Reading>(
+    alloc: Global,
+    version: &mut V,
+    origin: &Name,
+    name: &Name,
+    rtype: u16,
+    walker: &mut Walker,
+    item: &mut [u8; 4096],
+    rows: &mut Rows,
+) -> Result<Next, AllocError>
+    requires shown { ShowsSome (V.holds version.old) }
+    requires under { is_under name.now origin.now ≡ true }
+    ensures same { version.new ≡ version.old }
+    ensures gives { (zone : Version) → Shows (V.holds version.old) zone
+        → Gives (step origin.now zone rtype name.now) rows.old rows.new result }
+{
+    let key = Key::of(name);
+    match give_there(alloc, version, origin, name, &key, rtype, item, rows)? {
+        Some(next) => Ok(next),
+        None => search(
+            alloc, version, origin, name, &key, rtype, walker, item, rows,
+        ),
+    }
+}

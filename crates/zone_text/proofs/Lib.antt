@@ -1,0 +1,9 @@
+pub mod AddressLemmas
+pub mod EntryLemmas
+pub mod EscapeLemmas
+pub mod LineLemmas
+pub mod NumberLemmas
+pub mod ScanLemmas
+pub mod SingleLemmas
+pub mod SpellingLemmas
+pub mod TimeLemmas

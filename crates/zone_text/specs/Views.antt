@@ -1,0 +1,62 @@
+-- What the reader's types say in the words of the definitions.
+use Rattle.std.specs.Prelude.{◌≡◌, ℕ, ◌≤◌, List, map, drop, Result, Ok, Err}
+use Rattle.std.specs.List.{slice_range, All}
+use Rattle.zone_model.specs.Refusals.{Refused}
+use Rattle.zone_model.specs.Lines.{lines_of}
+use Rattle.zone_model.specs.declared.ZoneKind.{ZoneKind}
+use Rattle.zone_model.specs.Tokens as says
+use Rattle.zone_text.specs.Tokens.{token_view, IsPlaced}
+use Rattle.zone_text.specs.declared.entry_tokens.Lexed.{Lexed}
+use Rattle.zone_text.specs.declared.single_lines.LexedLine.{LexedLine}
+use Rattle.zone_text.specs.declared.refusal.ZoneRefusal.{ZoneRefusal}
+use Rattle.zone_text.specs.declared.refusal.ZoneRefusal.TheVariants as refusal
+use Rattle.zone_text.specs.declared.lexer.Begun.{Begun}
+use Rattle.zone_text.specs.declared.lexer.Begun.TheVariants as begun
+use Rattle.zone_text.specs.declared.lexer.Scan.{Scan}
+
+-- what has begun, as seen before the byte at a place
+abbrev pub begun_view : List ℕ → ℕ → Begun → says.Begun
+begun_view bytes at begun.Apart = says.Apart
+begun_view bytes at begun.Comment = says.Comment
+begun_view bytes at (begun.Word from) = says.Word (slice_range bytes from at)
+begun_view bytes at (begun.Quote from) = says.Quote (slice_range bytes from at)
+begun_view bytes at (begun.Escape quoted from) = says.Escape quoted (slice_range bytes from at)
+
+abbrev pub scan_view : List ℕ → ℕ → Scan → says.Scan
+scan_view bytes at s = record { tokens = map (token_view bytes) s.tokens.items; begun = begun_view bytes at s.begun; depth = s.depth; outer = s.outer; parens = s.parens }
+
+abbrev pub BegunBy : ℕ → Begun → Type 0
+BegunBy at begun.Apart = Unit {0}
+BegunBy at begun.Comment = Unit {0}
+BegunBy at (begun.Word from) = from ≤ at
+BegunBy at (begun.Quote from) = from ≤ at
+BegunBy at (begun.Escape quoted from) = from ≤ at
+
+pub record HasScanned (bytes : List ℕ) (at : ℕ) (s : Scan) : Type 0 where
+  pub began : BegunBy at s.begun
+  pub shallow : s.depth ≤ at
+  pub placed : All (IsPlaced bytes) s.tokens.items
+
+-- A call changed a scan to what the definition wants, or stopped with the definition's refusal, or had no memory.
+abbrev pub Gives : {A : Type 0} → Result (Unit {0}) ZoneRefusal → A → Result A (Refused ZoneKind) → Type 0
+Gives (Ok u) new wanted = wanted ≡ Ok new
+Gives (Err refusal.Memory) new wanted = Unit {0}
+Gives (Err (refusal.Refused line kind)) new wanted = wanted ≡ Err (record { line = line; kind = kind })
+
+-- the same for a result
+abbrev pub Reads : {R A : Type 0} → Result R ZoneRefusal → (R → A) → Result A (Refused ZoneKind) → Type 0
+Reads (Ok r) view wanted = wanted ≡ Ok (view r)
+Reads (Err refusal.Memory) view wanted = Unit {0}
+Reads (Err (refusal.Refused line kind)) view wanted = wanted ≡ Err (record { line = line; kind = kind })
+
+-- a line of an entry was read, and the next one begins at the place that the call gave
+abbrev pub ReadsLine : List ℕ → ℕ → ℕ → Scan → Scan → Result ℕ ZoneRefusal → Type 0
+ReadsLine bytes at n old new (Ok next) = says.entry_from n (lines_of (drop at bytes)) (scan_view bytes at old) ≡ says.after_line n (lines_of (drop next bytes)) (scan_view bytes next new)
+ReadsLine bytes at n old new (Err refusal.Memory) = Unit {0}
+ReadsLine bytes at n old new (Err (refusal.Refused line kind)) = says.entry_from n (lines_of (drop at bytes)) (scan_view bytes at old) ≡ Err (record { line = line; kind = kind })
+
+abbrev pub lexed_view : List ℕ → Lexed → says.EntryTokens
+lexed_view bytes l = record { tokens = map (token_view bytes) l.tokens.items; parens = l.parens; next = l.next_line; rest = lines_of (drop l.next bytes) }
+
+abbrev pub line_view : List ℕ → LexedLine → says.LineTokens
+line_view bytes l = record { tokens = map (token_view bytes) l.tokens.items; parens = l.parens }

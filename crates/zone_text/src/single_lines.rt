@@ -1,0 +1,77 @@
+//! The tokens of one line by itself.
+ghost use Rattle.std.specs.Prelude.{◌≡◌, ◌≤◌, ◌<◌, ◌+◌, ◌∷◌, ◌^◌, ℕ, List, length, drop, OnOk, IfOk, [], Result};
+ghost use Rattle.zone_model.specs.Grammar.{Spelled, Spells, line_says};
+ghost use Rattle.zone_model.specs.declared.ZoneKind.{ZoneKind};
+ghost use Rattle.zone_text.specs.Spelling.{LineSpelled};
+ghost use Rattle.std.specs.List.{All};
+ghost use Rattle.zone_model.specs.Tokens.{single_line};
+ghost use Rattle.zone_model.specs.Lines.{lines_of};
+ghost use Rattle.zone_text.specs.Tokens.{IsPlaced};
+ghost use Rattle.zone_text.specs.Views.{Reads, line_view};
+ghost use Rattle.zone_text.specs.Places.{first_line, FirstLine};
+
+use crate::entry_tokens::new_scan;
+use crate::lexer::{Scan, scan_tokens};
+use crate::lines::line_at;
+use crate::refusal::ZoneRefusal;
+use std::alloc::Global;
+use crate::token::Token;
+
+/// The tokens of a line, whether it has a parenthesis, and the byte that the next line begins at. A parenthesis that the
+/// line leaves open is none of this call's business.
+#[derive(Drop)]
+pub struct LexedLine {
+    pub tokens: Vec<Token>,
+    pub parens: bool,
+    pub next: u32,
+}
+
+// The tokens of the line that begins at a place.
+fn scan_line(alloc: Global, bytes: &[u8], from: u32, line: u32) -> Result<LexedLine, ZoneRefusal>
+    requires inside { from < length bytes.now }
+    requires short { length bytes.now ≤ 2 ^ 24 }
+    ensures reads { Reads result (line_view bytes.now) (single_line line (first_line (drop from bytes.now))) }
+    ensures placed { IfOk result (λ l. All (IsPlaced bytes.now) l.tokens.items) }
+    ensures next { IfOk result (λ l. (from < l.next) × (l.next ≤ length bytes.now)) }
+    ensures rest { IfOk result (λ l. lines_of (drop from bytes.now) ≡ first_line (drop from bytes.now) ∷ lines_of (drop l.next bytes.now)) }
+{
+    let (upto, next) = line_at(bytes, from);
+    let mut scan = new_scan(Vec::new(alloc));
+    match scan_tokens(&mut scan, bytes, from, upto, line) {
+        Ok(()) => Ok(line_of(scan, next)),
+        Err(refusal) => Err(refusal),
+    }
+}
+
+fn line_of(scan: Scan, next: u32) -> LexedLine
+    ensures tokens { result.tokens.items ≡ scan.tokens.items }
+    ensures parens { result.parens ≡ scan.parens }
+    ensures next { result.next ≡ next }
+{
+    let Scan { tokens, parens, .. } = scan;
+    LexedLine {
+        tokens,
+        parens,
+        next,
+    }
+}
+
+/// The tokens of the line that begins at byte `from`, which has the number `line`. Lines behind it are not read: where a
+/// parenthesis stays open, `parens` tells that there is one.
+pub fn line_tokens(
+    alloc: Global,
+    bytes: &[u8],
+    from: u32,
+    line: u32,
+) -> Result<LexedLine, ZoneRefusal>
+    requires inside { from < length bytes.now }
+    requires short { length bytes.now ≤ 2 ^ 24 }
+    ensures spelled { LineSpelled bytes.now line (first_line (drop from bytes.now)) result }
+    ensures only { (out : Result Spelled ZoneKind) → Spells line [] (first_line (drop from bytes.now)) out → Reads result (line_view bytes.now) (line_says line out) }
+    ensures reads { Reads result (line_view bytes.now) (single_line line (first_line (drop from bytes.now))) }
+    ensures placed { IfOk result (λ l. All (IsPlaced bytes.now) l.tokens.items) }
+    ensures next { IfOk result (λ l. (from < l.next) × (l.next ≤ length bytes.now)) }
+    ensures rest { IfOk result (λ l. lines_of (drop from bytes.now) ≡ first_line (drop from bytes.now) ∷ lines_of (drop l.next bytes.now)) }
+{
+    scan_line(alloc, bytes, from, line)
+}

@@ -1,0 +1,24 @@
+//! Tokens of a text.
+ghost use Rattle.std.specs.Prelude.{◌≡◌};
+ghost use Rattle.std.specs.List.{slice_range};
+ghost use Rattle.zone_text.specs.Tokens.{IsPlaced};
+
+/// A token: its text is the bytes from `from` up to but not including `upto` of the bytes that it was read from. The
+/// quotes around it lie outside, its escapes are still in it. Lines count from 1.
+#[derive(Clone, Copy, Debug)]
+pub struct Token {
+    pub from: u32,
+    pub upto: u32,
+    pub quoted: bool,
+    pub line: u32,
+}
+
+impl Token {
+    /// The token's text.
+    pub fn text(self, bytes: &[u8]) -> &[u8]
+        requires { IsPlaced bytes.now self }
+        ensures { result.now ≡ slice_range bytes.now self.from self.upto }
+    {
+        &bytes[self.from as usize..self.upto as usize]
+    }
+}
