@@ -1,9 +1,10 @@
 -- The rows that were gathered and the answer from there on are the whole answer.
-use Rattle.std.proofs.Common.{◌≡◌, ◌∙◌, ℕ, zero, suc, true, false, cond, List, [], ◌++◌, Some, None, refl, sym, ap, append_assoc, append-nil}
+use Rattle.std.proofs.Common.{◌≡◌, ◌∙◌, ℕ, zero, suc, true, false, cond, List, [], ◌++◌, Some, None, refl, sym, ap, subst, append_assoc, append-nil}
 use Rattle.zone_model.specs.Names.{Name, is_under}
 use Rattle.zone_model.specs.Versions.{Version}
 use Rattle.zone_model.specs.Rows.{Row}
 use Rattle.zone_query.specs.Answers.{Next, Ends, LeadsTo, Answer, answer, step, behind, going_on, followed, no_more, most_aliases}
+use Rattle.zone_query.specs.Parts.{IsGiven}
 use Rattle.zone_query.specs.declared.kind.Kind.{Kind}
 use Rattle.zone_query.specs.declared.kind.Kind.TheVariants.{Answered, Outside}
 
@@ -51,3 +52,7 @@ out (suc n) origin version rtype name u = ap (λ b. cond b (behind (step origin 
 
 pub leads_out : (whole : Answer) (left : ℕ) (origin : Name) (version : Version) (rtype : ℕ) (name : Name) (rows : List Row) → whole ≡ behind rows (followed left origin version rtype name) → is_under name origin ≡ false → told Answered rows ≡ whole
 leads_out whole left origin version rtype name rows e u = sym (e ∙ ap (behind rows) (out left origin version rtype name u) ∙ behind_none rows Answered)
+
+-- what a sink has is the whole answer's rows
+pub is_given : (has : List Row → Type 0) (whole : Answer) (kind : Kind) (rows : List Row) → has rows → told kind rows ≡ whole → IsGiven has whole kind
+is_given has whole kind rows h e = record { kind_is = ap (λ (a : Answer). a.kind) e; rows = subst has (ap (λ (a : Answer). a.rows) e) h }

@@ -9,7 +9,8 @@ use Rattle.zone_model.specs.Versions.{Version, owned, exists}
 use Rattle.zone_model.specs.Rows.{Row, rows_of}
 use Rattle.rr_data.specs.ItemViews.{SaysEntry}
 use Rattle.zone_query.specs.Answers as answers
-use Rattle.zone_query.specs.Answers.{Step, is_cut, cut_above, ns_type}
+use Rattle.zone_query.specs.Answers.{Answer, Step, is_cut, cut_above, ns_type}
+use Rattle.zone_query.specs.declared.kind.Kind.{Kind}
 use Rattle.zone_query.specs.declared.records.Held.{Held}
 use Rattle.zone_query.specs.declared.step.Next.{Next}
 use Rattle.zone_query.specs.declared.step.Next.TheVariants.{Ends, LeadsTo}
@@ -71,13 +72,24 @@ abbrev pub next_view : Next → answers.Next
 next_view (Ends kind) = answers.Ends kind
 next_view (LeadsTo target) = answers.LeadsTo target
 
+-- what a sink had, and has since: some rows were added to whatever it had
+abbrev pub Adds : (List Row → Type 0) → (List Row → Type 0) → List Row → Type 0
+Adds had has added = (rows : List Row) → had rows → has (rows ++ added)
+
 -- a step's rows were added, and it is told how the answer goes on
-abbrev pub Gives : Step → List Row → List Row → Result Next AllocError → Type 0
-Gives step old new (Ok next) = (next_view next ≡ step.next) × (new ≡ old ++ step.rows)
-Gives step old new (Err e) = Unit {0}
+abbrev pub Gives : Step → (List Row → Type 0) → (List Row → Type 0) → Result Next AllocError → Type 0
+Gives step had has (Ok next) = (next_view next ≡ step.next) × Adds had has step.rows
+Gives step had has (Err e) = Unit {0}
 
 -- the same, where anything is told
-abbrev pub GivesAtOnce : Step → List Row → List Row → Result (Option Next) AllocError → Type 0
-GivesAtOnce step old new (Ok None) = new ≡ old
-GivesAtOnce step old new (Ok (Some next)) = (next_view next ≡ step.next) × (new ≡ old ++ step.rows)
-GivesAtOnce step old new (Err e) = Unit {0}
+abbrev pub GivesAtOnce : Step → (List Row → Type 0) → (List Row → Type 0) → Result (Option Next) AllocError → Type 0
+GivesAtOnce step had has (Ok None) = (rows : List Row) → had rows → has rows
+GivesAtOnce step had has (Ok (Some next)) = (next_view next ≡ step.next) × Adds had has step.rows
+GivesAtOnce step had has (Err e) = Unit {0}
+
+-- ---- the answer
+
+-- a sink has an answer's rows, and its kind is told
+pub record IsGiven (has : List Row → Type 0) (answer : Answer) (kind : Kind) : Type 0 where
+  pub kind_is : kind ≡ answer.kind
+  pub rows : has answer.rows

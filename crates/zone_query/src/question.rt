@@ -1,14 +1,16 @@
 //! Questions and their answers.
 
-ghost use Rattle.std.specs.Prelude.{◌≡◌, IfOk, IfSome, true};
+ghost use Rattle.std.specs.Prelude.{◌≡◌, [], IfOk, IfSome, true};
 ghost use Rattle.zone_model.specs.Names.{is_under};
 ghost use Rattle.zone_model.specs.Versions.{Version};
 ghost use Rattle.zone_query.specs.Answers.{answer};
+ghost use Rattle.zone_query.specs.Parts.{IsGiven};
 ghost use Rattle.zone_query.specs.Standing.{Shows, ShowsSome};
 
 use crate::answers::Answer;
 use crate::kind::Kind;
 use crate::rows::Rows;
+use crate::sink::RowSink;
 use crate::step::{Next, give_there, step};
 use crate::walker::Walker;
 use dns_name::Name;
@@ -96,21 +98,40 @@ pub fn answer_with<V: Reading>(
     ensures answer { (zone : Version) → Shows (V.holds version.old) zone → IfOk result (λ a. a ≡ answer origin.now zone name.now rtype) }
 {
     let mut rows = Rows::new(alloc);
+    let kind = answer_into(alloc, version, origin, name, rtype, item, walker, &mut rows)?;
+    Ok(Answer::new(kind, rows))
+}
+
+/// Hands the records of an answer to a sink that has none yet, and tells the answer's kind.
+pub fn answer_into<V: Reading, S: RowSink>(
+    alloc: Global,
+    version: &mut V,
+    origin: &Name,
+    name: &Name,
+    rtype: u16,
+    item: &mut [u8; 4096],
+    walker: &mut Walker,
+    rows: &mut S,
+) -> Result<Kind, AllocError>
+    requires shown { ShowsSome (V.holds version.old) }
+    requires none { S.has rows.old [] }
+    ensures same { version.new ≡ version.old }
+    ensures answer { (zone : Version) → Shows (V.holds version.old) zone
+        → IfOk result (IsGiven (S.has rows.new) (answer origin.now zone name.now rtype)) }
+{
     if !name.is_under(origin) {
-        return Ok(Answer::new(Kind::Outside, rows));
+        return Ok(Kind::Outside);
     }
     let mut asked = *name;
     for _ in 0..MOST_ALIASES {
-        match step(
-            alloc, version, origin, &asked, rtype, walker, item, &mut rows,
-        )? {
-            Next::Ends(kind) => return Ok(Answer::new(kind, rows)),
-            Next::LeadsTo(None) => return Ok(Answer::new(Kind::Answered, rows)),
+        match step(alloc, version, origin, &asked, rtype, walker, item, rows)? {
+            Next::Ends(kind) => return Ok(kind),
+            Next::LeadsTo(None) => return Ok(Kind::Answered),
             Next::LeadsTo(Some(target)) => asked = target,
         }
         if !asked.is_under(origin) {
-            return Ok(Answer::new(Kind::Answered, rows));
+            return Ok(Kind::Answered);
         }
     }
-    Ok(Answer::new(Kind::Answered, rows))
+    Ok(Kind::Answered)
 }

@@ -4,6 +4,7 @@ ghost use Rattle.std.specs.Prelude.{◌≡◌, ◌++◌, [], length, OnOk};
 ghost use Rattle.zone_model.specs.Rows.{rows_of};
 ghost use Rattle.zone_query.specs.Parts.{rows_in};
 
+use crate::sink::RowSink;
 use dns_name::Name;
 use rr_data::{PackedSet, SetView};
 use std::alloc::{AllocError, Global};
@@ -97,5 +98,13 @@ impl Rows {
         self.sets.push(owned)?;
         self.len = len;
         Ok(())
+    }
+}
+
+impl RowSink for Rows {
+    ghost has = { λ r rows. r ≡ rows };
+
+    fn push(&mut self, alloc: Global, owner: &Name, set: &SetView<'_>) -> Result<(), AllocError> {
+        Rows::push(self, alloc, owner, set)
     }
 }

@@ -15,7 +15,7 @@ use crate::cut::{cut_over, is_cut};
 use crate::kind::Kind;
 use crate::node::absent_node;
 use crate::records::read_owned;
-use crate::rows::Rows;
+use crate::sink::RowSink;
 use crate::walker::Walker;
 use dns_name::Name;
 use rr_data::{CNAME, ItemView, NS, SetView};
@@ -62,14 +62,14 @@ fn alias_in<'a>(entry: &ItemView<'a>, rtype: u16) -> Option<SetView<'a>>
 }
 
 /// What these records give under an owner.
-fn give(
+fn give<S: RowSink>(
     alloc: Global,
     entry: &ItemView<'_>,
     owner: &Name,
     rtype: u16,
-    rows: &mut Rows,
+    rows: &mut S,
 ) -> Result<Next, AllocError>
-    ensures { Gives (by_alias owner.now rtype entry.now (alias_in rtype entry.now)) rows.old rows.new result }
+    ensures { Gives (by_alias owner.now rtype entry.now (alias_in rtype entry.now)) (S.has rows.old) (S.has rows.new) result }
 {
     if let Some(alias) = alias_in(entry, rtype) {
         rows.push(alloc, owner, &alias)?;
@@ -85,13 +85,13 @@ fn give(
 }
 
 /// A referral to the servers of a cut.
-fn refer(
+fn refer<S: RowSink>(
     alloc: Global,
     cut: &Name,
     entry: &ItemView<'_>,
-    rows: &mut Rows,
+    rows: &mut S,
 ) -> Result<Next, AllocError>
-    ensures { Gives (record { rows = set_rows cut.now (rrset_of ns_type entry.now); next = Ends Kind.Referral }) rows.old rows.new result }
+    ensures { Gives (record { rows = set_rows cut.now (rrset_of ns_type entry.now); next = Ends Kind.Referral }) (S.has rows.old) (S.has rows.new) result }
 {
     if let Some(servers) = entry.find_set(NS) {
         rows.push(alloc, cut, &servers)?;
@@ -101,17 +101,17 @@ fn refer(
 }
 
 /// What a name that is there gives, where none above it is a cut.
-fn give_own(
+fn give_own<S: RowSink>(
     alloc: Global,
     origin: &Name,
     name: &Name,
     entry: &ItemView<'_>,
     rtype: u16,
-    rows: &mut Rows,
+    rows: &mut S,
 ) -> Result<Next, AllocError>
     requires { is_under name.now origin.now ≡ true }
     ensures { (zone : Version) → NoneOver origin.now name.now zone → entry.now ≡ owned name.now zone → exists name.now zone ≡ true
-        → Gives (step origin.now zone rtype name.now) rows.old rows.new result }
+        → Gives (step origin.now zone rtype name.now) (S.has rows.old) (S.has rows.new) result }
 {
     if is_cut(origin, name, entry) {
         return refer(alloc, name, entry, rows);
@@ -120,19 +120,19 @@ fn give_own(
 }
 
 /// What a name that isn't there gives, where none above it is a cut and the walker's iterator stands at its place.
-fn give_absent<V: Reading>(
+fn give_absent<V: Reading, S: RowSink>(
     alloc: Global,
     version: &mut V,
     walker: &mut Walker,
     name: &Name,
     rtype: u16,
     item: &mut [u8; 4096],
-    rows: &mut Rows,
+    rows: &mut S,
 ) -> Result<Next, AllocError>
     requires { (zone : Version) × IsPlaced (V.holds version.old) (V.stands version.old walker.old.iter) name.now zone × ([] ≡ owned name.now zone) }
     ensures same { version.new ≡ version.old }
     ensures gives { (zone : Version) (origin : Labels) → IsPlaced (V.holds version.old) (V.stands version.old walker.old.iter) name.now zone → NoneOver origin name.now zone
-        → [] ≡ owned name.now zone → Gives (step origin zone rtype name.now) rows.old rows.new result }
+        → [] ≡ owned name.now zone → Gives (step origin zone rtype name.now) (S.has rows.old) (S.has rows.new) result }
 {
     match absent_node(version, walker, name, item) {
         Some(held) => give(alloc, &held.view(item), name, rtype, rows),
@@ -141,7 +141,7 @@ fn give_absent<V: Reading>(
 }
 
 /// What a name gives, by one walk of the trie: the cuts above it, what it owns, and its neighbours.
-fn search<V: Reading>(
+fn search<V: Reading, S: RowSink>(
     alloc: Global,
     version: &mut V,
     origin: &Name,
@@ -150,14 +150,14 @@ fn search<V: Reading>(
     rtype: u16,
     walker: &mut Walker,
     item: &mut [u8; 4096],
-    rows: &mut Rows,
+    rows: &mut S,
 ) -> Result<Next, AllocError>
     requires shown { ShowsSome (V.holds version.old) }
     requires under { is_under name.now origin.now ≡ true }
     requires key { key.now ≡ key_of name.now }
     ensures same { version.new ≡ version.old }
     ensures gives { (zone : Version) → Shows (V.holds version.old) zone
-        → Gives (step origin.now zone rtype name.now) rows.old rows.new result }
+        → Gives (step origin.now zone rtype name.now) (S.has rows.old) (S.has rows.new) result }
 {
     let _wire = name.wire();
     version.restart(&mut walker.iter);
@@ -176,7 +176,7 @@ fn search<V: Reading>(
 }
 
 /// What a name gives that is right under the origin, if it is there: no cut can lie above it. No rows are added where it tells nothing.
-pub fn give_there<V: Reading>(
+pub fn give_there<V: Reading, S: RowSink>(
     alloc: Global,
     version: &mut V,
     origin: &Name,
@@ -184,14 +184,14 @@ pub fn give_there<V: Reading>(
     key: &Key,
     rtype: u16,
     item: &mut [u8; 4096],
-    rows: &mut Rows,
+    rows: &mut S,
 ) -> Result<Option<Next>, AllocError>
     requires shown { ShowsSome (V.holds version.old) }
     requires under { is_under name.now origin.now ≡ true }
     requires key { key.now ≡ key_of name.now }
     ensures same { version.new ≡ version.old }
     ensures gives { (zone : Version) → Shows (V.holds version.old) zone
-        → GivesAtOnce (step origin.now zone rtype name.now) rows.old rows.new result }
+        → GivesAtOnce (step origin.now zone rtype name.now) (S.has rows.old) (S.has rows.new) result }
 {
     if name.labels().saturating_sub(1) > origin.labels() {
         return Ok(None);
@@ -206,7 +206,7 @@ pub fn give_there<V: Reading>(
 }
 
 /// Adds the rows that a name at or under the origin gives, and tells how the answer goes on. Items are read into `item`.
-pub fn step<V: Reading>(
+pub fn step<V: Reading, S: RowSink>(
     alloc: Global,
     version: &mut V,
     origin: &Name,
@@ -214,13 +214,13 @@ pub fn step<V: Reading>(
     rtype: u16,
     walker: &mut Walker,
     item: &mut [u8; 4096],
-    rows: &mut Rows,
+    rows: &mut S,
 ) -> Result<Next, AllocError>
     requires shown { ShowsSome (V.holds version.old) }
     requires under { is_under name.now origin.now ≡ true }
     ensures same { version.new ≡ version.old }
     ensures gives { (zone : Version) → Shows (V.holds version.old) zone
-        → Gives (step origin.now zone rtype name.now) rows.old rows.new result }
+        → Gives (step origin.now zone rtype name.now) (S.has rows.old) (S.has rows.new) result }
 {
     let key = Key::of(name);
     match give_there(alloc, version, origin, name, &key, rtype, item, rows)? {

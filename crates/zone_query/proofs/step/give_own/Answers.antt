@@ -5,11 +5,11 @@ use Rattle.zone_query.proofs.StepLaws.{step_own, step_own_cut}
 use Rattle.zone_query.proofs.step.give_own.Goals as goal
 
 pub returns-then-is_cut : goal.returns-then-is_cut
-returns-then-is_cut c = λ zone none own there.
+returns-then-is_cut g c = λ zone none own there.
     let cut = sym (c.is_cut.ensures zone own) ∙ c.if-is_cut.true in
-    subst (λ (s : Step). Gives s c.args.rows.now c.refer.new.rows c.refer.result) (step_own_cut c.args.origin.now c.args.name.now zone c.args.rtype c.args.entry.now none cut own) c.refer.ensures
+    subst (λ (s : Step). Gives s (g.S.RowSink.has c.args.rows.now) (g.S.RowSink.has c.refer.new.rows) c.refer.result) (step_own_cut c.args.origin.now c.args.name.now zone c.args.rtype c.args.entry.now none cut own) c.refer.ensures
 
 pub returns : goal.returns
-returns c = λ zone none own there.
+returns g c = λ zone none own there.
     let cut = sym (c.is_cut.ensures zone own) ∙ c.if-is_cut.false in
-    subst (λ (s : Step). Gives s c.args.rows.now c.give.new.rows c.give.result) (step_own c.args.origin.now c.args.name.now zone c.args.rtype c.args.entry.now none cut there own) c.give.ensures
+    subst (λ (s : Step). Gives s (g.S.RowSink.has c.args.rows.now) (g.S.RowSink.has c.give.new.rows) c.give.result) (step_own c.args.origin.now c.args.name.now zone c.args.rtype c.args.entry.now none cut there own) c.give.ensures
