@@ -3,5 +3,4 @@ pub mod PhraseLemmas
 pub mod ScriptLemmas
 pub mod ReportLemmas
 pub mod SpelledLemmas
-mod AnswerTexts
 pub mod SummaryLemmas

@@ -5,3 +5,4 @@ pub mod Scripts
 pub mod Outcomes
 pub mod Spelled
 pub mod Summaries
+pub mod Printed

@@ -1,16 +1,14 @@
 //! How replies to questions are printed.
 ghost use Rattle.std.specs.Prelude.{◌≡◌, ◌++◌, OnOk, codes, decimal};
 ghost use Rattle.std.specs.List.{flat_map};
-ghost use Rattle.zone_model.specs.Rows.{row_text, rows_of};
 ghost use Rattle.job_model.specs.Replies as replies;
-ghost use Rattle.job_model.specs.Replies.{answer_text, count_text, kind_text};
+ghost use Rattle.job_model.specs.Replies.{count_text};
 
 use dns_name::Name;
 use itoa::Buffer;
-use rr_data::{SetView, push_data, push_type};
 use std::alloc::AllocError;
 use trie_read::Kind as Presence;
-use zone_query::{Answer, Found, Kind, OwnedSet, Rows};
+use zone_query::Found;
 
 /// Pushes a number in decimal digits.
 pub fn push_number(out: &mut Vec<u8>, number: u64) -> Result<(), AllocError>
@@ -20,60 +18,8 @@ pub fn push_number(out: &mut Vec<u8>, number: u64) -> Result<(), AllocError>
     out.extend_from_slice(buffer.format(number).as_bytes())
 }
 
-// A record of an RRset as a line of a master file.
-fn push_row(
-    out: &mut Vec<u8>,
-    owner: &Name,
-    set: &SetView<'_>,
-    octets: &[u8],
-) -> Result<(), AllocError>
-    ensures { OnOk result (out.new.items ≡ out.old.items ++ row_text (record { owner = owner.now; rtype = set.now.rtype; ttl = set.now.ttl; octets = octets.now })) }
-{
-    owner.push_text(out)?;
-    out.extend_from_slice(b" ")?;
-    push_number(out, u64::from(set.ttl()))?;
-    out.extend_from_slice(b" IN ")?;
-    push_type(set.rtype(), out)?;
-    out.extend_from_slice(b" ")?;
-    push_data(set.rtype(), octets, out)?;
-    out.extend_from_slice(b"\n")
-}
-
-// The records of an RRset.
-fn push_set(out: &mut Vec<u8>, owned: &OwnedSet) -> Result<(), AllocError>
-    ensures { OnOk result (out.new.items ≡ out.old.items ++ flat_map row_text (rows_of owned.now.owner owned.now.set)) }
-{
-    let set = owned.set();
-    let mut records = set.records();
-    while let Some(octets) = records.next() {
-        push_row(out, owned.owner(), &set, octets)?;
-    }
-    Ok(())
-}
-
-fn push_rows(out: &mut Vec<u8>, rows: &Rows) -> Result<(), AllocError>
-    ensures { OnOk result (out.new.items ≡ out.old.items ++ flat_map row_text rows.now) }
-{
-    for owned in rows.sets() {
-        push_set(out, owned)?;
-    }
-    Ok(())
-}
-
-fn kind_name(kind: Kind) -> &'static [u8]
-    ensures { result.now ≡ kind_text kind }
-{
-    match kind {
-        Kind::Answered => b"ANSWER",
-        Kind::Nodata => b"NODATA",
-        Kind::Nxdomain => b"NXDOMAIN",
-        Kind::Referral => b"REFERRAL",
-        Kind::Outside => b"OUTSIDE",
-    }
-}
-
-// The kind of an answer, and its count where it isn't 0.
-fn push_kind(out: &mut Vec<u8>, kind: &[u8], count: u64) -> Result<(), AllocError>
+/// Pushes the kind of a reply, and its count where it isn't 0.
+pub fn push_kind(out: &mut Vec<u8>, kind: &[u8], count: u64) -> Result<(), AllocError>
     ensures { OnOk result (out.new.items ≡ out.old.items ++ kind.now ++ count_text count ++ codes "\n") }
 {
     out.extend_from_slice(kind)?;
@@ -82,15 +28,6 @@ fn push_kind(out: &mut Vec<u8>, kind: &[u8], count: u64) -> Result<(), AllocErro
         push_number(out, count)?;
     }
     out.extend_from_slice(b"\n")
-}
-
-/// Pushes the kind of an answer, and its records.
-pub fn push_answer(out: &mut Vec<u8>, answer: &Answer) -> Result<(), AllocError>
-    ensures { OnOk result (out.new.items ≡ out.old.items ++ answer_text answer.now) }
-{
-    let rows = answer.rows();
-    push_kind(out, kind_name(answer.kind()), rows.len())?;
-    push_rows(out, rows)
 }
 
 fn push_names(out: &mut Vec<u8>, names: &[Name]) -> Result<(), AllocError>

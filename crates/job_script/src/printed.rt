@@ -1,0 +1,107 @@
+//! How answers are printed: their records as they are found.
+ghost use Rattle.std.specs.Prelude.{◌≡◌, ◌++◌, [], List, OnOk};
+ghost use Rattle.std.specs.List.{flat_map};
+ghost use Rattle.zone_model.specs.Rows.{Row, row_text, rows_of};
+ghost use Rattle.job_model.specs.Replies.{answer_text, kind_text};
+ghost use Rattle.job_script.specs.Printed.{HasPrinted};
+
+use crate::replies::{push_kind, push_number};
+use dns_name::Name;
+use rr_data::{SetView, push_data, push_type};
+use std::alloc::{AllocError, Global};
+use zone_query::{Kind, RowSink};
+
+// A record of an RRset as a line of a master file.
+fn push_row(
+    out: &mut Vec<u8>,
+    owner: &Name,
+    set: &SetView<'_>,
+    octets: &[u8],
+) -> Result<(), AllocError>
+    ensures { OnOk result (out.new.items ≡ out.old.items ++ row_text (record { owner = owner.now; rtype = set.now.rtype; ttl = set.now.ttl; octets = octets.now })) }
+{
+    owner.push_text(out)?;
+    out.extend_from_slice(b" ")?;
+    push_number(out, u64::from(set.ttl()))?;
+    out.extend_from_slice(b" IN ")?;
+    push_type(set.rtype(), out)?;
+    out.extend_from_slice(b" ")?;
+    push_data(set.rtype(), octets, out)?;
+    out.extend_from_slice(b"\n")
+}
+
+// The records of an RRset.
+fn push_set(out: &mut Vec<u8>, owner: &Name, set: &SetView<'_>) -> Result<(), AllocError>
+    ensures { OnOk result (out.new.items ≡ out.old.items ++ flat_map row_text (rows_of owner.now set.now)) }
+{
+    let mut records = set.records();
+    while let Some(octets) = records.next() {
+        push_row(out, owner, set, octets)?;
+    }
+    Ok(())
+}
+
+/// Records as lines of a master file, printed as they come. One value serves many answers.
+#[derive(Drop)]
+pub struct PrintedRows {
+    text: Vec<u8>,
+    // How many lines it has.
+    count: u64,
+}
+
+impl PrintedRows {
+    /// None.
+    pub fn new(alloc: Global) -> PrintedRows
+        ensures { HasPrinted result [] }
+    {
+        PrintedRows {
+            text: Vec::new(alloc),
+            count: 0,
+        }
+    }
+
+    /// Leaves none, and keeps their memory.
+    pub fn clear(&mut self)
+        ensures { HasPrinted self.new [] }
+    {
+        self.text.clear();
+        self.count = 0;
+    }
+}
+
+impl RowSink for PrintedRows {
+    ghost use Rattle.job_script.specs.Printed.{HasPrinted};
+
+    ghost has = { HasPrinted };
+
+    // More of them than 64 bits count are taken for want of memory.
+    fn push(&mut self, _alloc: Global, owner: &Name, set: &SetView<'_>) -> Result<(), AllocError> {
+        let Some(count) = self.count.checked_add(u64::from(set.len())) else {
+            return Err(AllocError);
+        };
+        push_set(&mut self.text, owner, set)?;
+        self.count = count;
+        Ok(())
+    }
+}
+
+fn kind_name(kind: Kind) -> &'static [u8]
+    ensures { result.now ≡ kind_text kind }
+{
+    match kind {
+        Kind::Answered => b"ANSWER",
+        Kind::Nodata => b"NODATA",
+        Kind::Nxdomain => b"NXDOMAIN",
+        Kind::Referral => b"REFERRAL",
+        Kind::Outside => b"OUTSIDE",
+    }
+}
+
+/// Pushes the kind of an answer, and its records.
+pub fn push_answer(out: &mut Vec<u8>, kind: Kind, rows: &PrintedRows) -> Result<(), AllocError>
+    ensures { (records : List Row) → HasPrinted rows.now records
+        → OnOk result (out.new.items ≡ out.old.items ++ answer_text (record { kind = kind; rows = records })) }
+{
+    push_kind(out, kind_name(kind), rows.count)?;
+    out.extend_from_slice(&rows.text)
+}
