@@ -70,8 +70,6 @@ impl PrintedRows {
 }
 
 impl RowSink for PrintedRows {
-    ghost use Rattle.job_script.specs.Printed.{HasPrinted};
-
     ghost has = { HasPrinted };
 
     // More of them than 64 bits count are taken for want of memory.
