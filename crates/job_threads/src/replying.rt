@@ -7,10 +7,10 @@ ghost use Rattle.job_script.specs.Views.{question_view};
 
 use crate::room::Room;
 use dns_name::Name;
-use job_script::{Question, push_answer, push_back, push_found, push_size, push_walk};
+use job_script::{PrintedRows, Question, push_answer, push_back, push_found, push_size, push_walk};
 use std::alloc::{AllocError, Global};
 use trie_read::Reading;
-use zone_query::{Walker, answer_with, back, find, walk};
+use zone_query::{Walker, answer_into, back, find, walk};
 
 // Pushes what is printed of a version's reply to a question.
 fn push_reply<V: Reading>(
@@ -20,6 +20,7 @@ fn push_reply<V: Reading>(
     question: &Question,
     item: &mut [u8; 4096],
     walker: &mut Walker,
+    rows: &mut PrintedRows,
     out: &mut Vec<u8>,
 ) -> Result<(), AllocError>
     requires { ShowsSome (V.holds version.old) }
@@ -29,8 +30,9 @@ fn push_reply<V: Reading>(
 {
     match question {
         Question::Get(name, rtype) => {
-            let answer = answer_with(alloc, version, origin, name, *rtype, item, walker)?;
-            push_answer(out, &answer)
+            rows.clear();
+            let kind = answer_into(alloc, version, origin, name, *rtype, item, walker, rows)?;
+            push_answer(out, kind, rows)
         }
         Question::Find(name) => {
             let found = find(alloc, version, name)?;
@@ -72,6 +74,7 @@ pub fn reply_text<V: Reading>(
         question,
         &mut room.items.before,
         &mut room.walker,
+        &mut room.rows,
         &mut room.text,
     )?;
     let mut text = Vec::with_capacity(alloc, room.text.len())?;

@@ -1,14 +1,17 @@
 //! What a worker needs beside its passes.
 
+use job_script::PrintedRows;
 use std::alloc::Global;
 use zone_edit::ItemBuffers;
 use zone_query::Walker;
 
-/// Room for items, for a way through a trie, and for a reply that is printed. One value serves all commands of a worker.
+/// Room for items, for a way through a trie, for an answer's records, and for a reply that is printed. One value serves all
+/// commands of a worker.
 #[derive(Drop)]
 pub struct Room {
     pub items: ItemBuffers,
     pub walker: Walker,
+    pub rows: PrintedRows,
     pub text: Vec<u8>,
 }
 
@@ -18,6 +21,7 @@ impl Room {
         Room {
             items: ItemBuffers::new(),
             walker: Walker::new(),
+            rows: PrintedRows::new(alloc),
             text: Vec::new(alloc),
         }
     }
