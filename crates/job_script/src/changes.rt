@@ -7,13 +7,13 @@ ghost use Rattle.zone_text.specs.Tokens.{IsPlaced, token_view};
 ghost use Rattle.job_script.specs.Scripts.{Says};
 ghost use Rattle.zone_change.specs.Views.{operation_view};
 
-use zone_change::{NewRecord, Operation};
 use crate::refusal::{JobRefusal, refused};
 use dns_name::Name;
 use job_model::ScriptKind;
 use master_file::{name_word, time_word, type_word};
 use rr_data::{Rdata, RdataRefusal};
 use std::alloc::Global;
+use zone_change::{NewRecord, Operation};
 use zone_text::Token;
 
 // The name that a token says, at or under the origin.

@@ -1,7 +1,7 @@
 //! Commands of a script.
-use zone_change::Operation;
 use dns_name::Name;
 use job_model::{Ending, Weight};
+use zone_change::Operation;
 
 /// Names that follow a name in one direction.
 #[derive(Drop)]

@@ -7,13 +7,13 @@ ghost use Rattle.zone_change.specs.Views.{operation_view};
 
 use crate::changes::{addition_of, deletion_of};
 use crate::commands::{Block, Command};
-use zone_change::Operation;
 use crate::phrases::Phrase;
 use crate::refusal::{JobRefusal, refused, too_many};
 use crate::script::{Script, Unfinished};
 use dns_name::Name;
 use job_model::{Ending, ScriptKind, Weight};
 use std::alloc::Global;
+use zone_change::Operation;
 
 const OPERATION_LIMIT: usize = 10000;
 

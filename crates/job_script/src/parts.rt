@@ -6,7 +6,6 @@ ghost use Rattle.job_script.specs.Parts.{IsCutAt};
 
 use zone_text::line_at;
 
-
 /// Where an input is cut: the bytes before `zone_end` are the zone's, those from `script_from` on the script's, whose first
 /// line has the number `first_line`.
 #[derive(Clone, Copy, Debug)]

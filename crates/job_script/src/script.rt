@@ -12,13 +12,13 @@ ghost use Rattle.job_script.specs.Views.{job_view};
 
 use crate::commands::{Command, Job, Worker};
 use crate::inside::inside;
-use zone_change::Operation;
 use crate::outside::outside;
 use crate::phrases::phrase_of;
 use crate::refusal::{JobRefusal, refused};
 use dns_name::Name;
 use job_model::{ScriptKind, Weight};
 use std::alloc::Global;
+use zone_change::Operation;
 use zone_text::{Token, ZoneRefusal, line_tokens};
 
 /// A block that has not ended, with the line of its first word.

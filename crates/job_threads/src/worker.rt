@@ -82,7 +82,15 @@ fn run_command<'i, R: Wait, N: Named>(
         Command::Release => Ok(give_back(passes)),
         Command::Compact => Ok(run_compaction(rt, index, &mut passes.asks)),
         Command::Block(block) => {
-            let outcome = run_block(rt, alloc, origin, index, &mut passes.asks, block, &mut room.items)?;
+            let outcome = run_block(
+                rt,
+                alloc,
+                origin,
+                index,
+                &mut passes.asks,
+                block,
+                &mut room.items,
+            )?;
             Ok(outcome)
         }
     }
@@ -128,15 +136,7 @@ pub fn run_worker<R: Wait, N: Named, G: Gate>(
     let mut list = Vec::with_capacity(alloc, commands.len())?;
     for (place, command) in commands.iter().enumerate() {
         gate.before(number, counted(place));
-        let outcome = run_command(
-            rt,
-            alloc,
-            origin,
-            index,
-            &mut passes,
-            command,
-            &mut room,
-        )?;
+        let outcome = run_command(rt, alloc, origin, index, &mut passes, command, &mut room)?;
         gate.after(number, counted(place));
         list.push(outcome)?;
     }
