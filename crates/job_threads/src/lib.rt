@@ -17,4 +17,4 @@ mod zone;
 pub use gate::Gate;
 pub use job::{Finished, run_job};
 pub use law::ZoneLaw;
-pub use zone::{Ran, run_zone};
+pub use zone::{Ran, run_zone, table_for};

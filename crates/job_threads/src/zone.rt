@@ -56,24 +56,36 @@ fn run_named<R: Threads + Wait + Sync, N: Named + Send + Sync, G: Gate>(
     }
 }
 
-/// Opens an index of so many chunks on a zone that stands as these items, and runs the job's workers on it.
+/// The table of an index of so many chunks, for the passes of so many workers.
+pub fn table_for(
+    alloc: Global,
+    chunks: u32,
+    workers: usize,
+) -> Result<Blank<ZoneLaw>, AllocError>
+    requires enough { 16 ≤ chunks }
+    requires few { chunks ≤ 4096 }
+    requires few_workers { workers ≤ 16 }
+    ensures chunks { IfOk result (λ blank. blank.shared.table.shared.key.chunks ≡ chunks) }
+    ensures passes { IfOk result (λ blank. blank.shared.table.shared.key.passes ≡ passes_for workers) }
+{
+    Blank::new(alloc, chunks, 2 * workers as u32 + 1)
+}
+
+/// Opens an index on a zone that stands as these items, by a table for the job's workers, and runs these on it.
 pub fn run_zone<R: Threads + Wait + Sync, G: Gate>(
     rt: &R,
     alloc: Global,
-    chunks: u32,
+    blank: Blank<ZoneLaw>,
     origin: &Name,
     items: &[Item],
     job: &Job,
     gate: &G,
 ) -> Result<Ran, AllocError>
-    requires enough { 16 ≤ chunks }
-    requires few { chunks ≤ 4096 }
-    requires few_workers { length job.now.workers.items ≤ 16 }
+    requires passes { blank.shared.table.shared.key.passes ≡ passes_for (length job.now.workers.items) }
     requires zone { IsZone (entries_of_items items.now) }
     requires in_turn { AllByRecursion (InTurn false) (job_view job.now) }
-    ensures { (zone : Version) → StandsAs (entries_of_items items.now) zone → IfOk result (RanOn chunks origin.now zone (job_view job.now)) }
+    ensures { (zone : Version) → StandsAs (entries_of_items items.now) zone
+        → IfOk result (RanOn blank.shared.table.shared.key.chunks origin.now zone (job_view job.now)) }
 {
-    let passes = 2 * job.workers.len() as u32 + 1;
-    let blank = Blank::<ZoneLaw>::new(alloc, chunks, passes)?;
     run_named::<R, Brand, G>(rt, alloc, blank, origin, items, job, gate)
 }

@@ -12,8 +12,13 @@ use Rattle.job_model.specs.Commands.{Command, Job}
 use Rattle.job_model.specs.Jobs.{JobRefusal, ZoneRefused, ScriptRefused, zone_lines, script_lines, script_start, script_of, zone_refused, script_refused, job_of_lines, job_of}
 use Rattle.job_model.specs.Outcomes.{some_refused}
 use Rattle.zone_model.specs.declared.ZoneKind.{ZoneKind}
+use Rattle.job_model.specs.declared.ScriptKind.{ScriptKind}
+use Rattle.zone_model.specs.MasterFile.{Zone}
+use Rattle.zone_text.specs.Views.{Reads}
+use Rattle.zone_text.specs.declared.refusal.ZoneRefusal.{ZoneRefusal}
+use Rattle.zone_text.specs.declared.refusal.ZoneRefusal.TheVariants as refusal
 use Rattle.qp_main.specs.Fits.{fits, opened_text}
-use Rattle.qp_main.specs.Due.{Due, DueBytes, DueGiven, DueInput, Answers, Checks, EndsLoad, IfFits, Ends, ZoneRefuses, Reported, IsWritten, input_of}
+use Rattle.qp_main.specs.Due.{Due, DueBytes, DueGiven, DueInput, Answers, Checks, EndsLoad, IfFits, Ends, Refuses, Reported, IsWritten, input_of}
 use Rattle.qp_main.specs.declared.telling.Telling.{Telling}
 use Rattle.qp_main.specs.declared.telling.Telling.TheVariants.{Report, Summary}
 use Rattle.qp_main.specs.declared.status.Status.{Status}
@@ -77,11 +82,26 @@ pub job_answers : (telling : Telling) (chunks : ℕ) (origin : Name) (bytes : Li
     → (s : Status) (text : List ℕ) → Answers telling chunks (Ok (record { origin = origin; zone = zone; workers = workers })) s text → Answers telling chunks (job_of origin bytes) s text
 job_answers telling chunks origin bytes zone workers z w s text h = answers_as telling chunks (job_of origin bytes) (Ok (record { origin = origin; zone = zone; workers = workers })) s text (whole_job origin bytes zone workers z w) h
 
--- a zone that is refused is refused for each command
-pub zone_refuses : (verb : Verb) (chunks : ℕ) (origin : Name) (bytes : List ℕ) (e : Refused ZoneKind) (s : Status) (text : List ℕ) → zone_of origin (zone_lines bytes) ≡ Err e → ZoneRefuses e s text → DueInput verb chunks origin bytes s text
-zone_refuses Run chunks origin bytes e s text z h = answers_as Report chunks (job_of origin bytes) (Err (ZoneRefused e)) s text (no_zone origin bytes e z) h
-zone_refuses (Make load) chunks origin bytes e s text z h = answers_as Summary chunks (job_of origin bytes) (Err (ZoneRefused e)) s text (no_zone origin bytes e z) h
-zone_refuses Check chunks origin bytes e s text z h = subst (λ (x : Result Version (Refused ZoneKind)). Checks chunks x s text) (sym z) h
+-- a job whose script is refused
+whole_refusal : (origin : Name) (bytes : List ℕ) (zone : Version) (e : Refused ScriptKind) → zone_of origin (zone_lines bytes) ≡ Ok zone → script_of origin (script_start bytes) (script_lines bytes) ≡ Err e → job_of origin bytes ≡ Err (ScriptRefused e)
+unfolding job_of_lines
+whole_refusal origin bytes zone e z w =
+    ap (λ r. zone_refused r >>= (λ version. script_refused (script_of origin (script_start bytes) (script_lines bytes)) >>= (λ ws. Ok (record { origin = origin; zone = version; workers = ws })))) z
+    ∙ ap (λ r. script_refused r >>= (λ ws. Ok (record { origin = origin; zone = zone; workers = ws }))) w
+
+pub script_refuses : (telling : Telling) (chunks : ℕ) (origin : Name) (bytes : List ℕ) (zone : Version) (e : Refused ScriptKind) → zone_of origin (zone_lines bytes) ≡ Ok zone → script_of origin (script_start bytes) (script_lines bytes) ≡ Err e
+    → (s : Status) (text : List ℕ) → Answers telling chunks (Err (ScriptRefused e)) s text → Answers telling chunks (job_of origin bytes) s text
+script_refuses telling chunks origin bytes zone e z w s text h = answers_as telling chunks (job_of origin bytes) (Err (ScriptRefused e)) s text (whole_refusal origin bytes zone e z w) h
+
+-- a zone that its reader refused, where its lines are those of some bytes
+pub zone_stops : (telling : Telling) (chunks : ℕ) (origin : Name) (bytes : List ℕ) (lines : List (List ℕ)) (r : ZoneRefusal) (s : Status) (text : List ℕ) → lines ≡ zone_lines bytes → Reads {R = Zone} (Err r) (λ z. z.pairs) (zone_of origin lines) → Refuses r s text → Answers telling chunks (job_of origin bytes) s text
+zone_stops telling chunks origin bytes lines (refusal.Refused line kind) s text same z h =
+    answers_as telling chunks (job_of origin bytes) (Err (ZoneRefused (record { line = line; kind = kind }))) s text (no_zone origin bytes (record { line = line; kind = kind }) (ap (zone_of origin) (sym same) ∙ z)) h
+zone_stops telling chunks origin bytes lines refusal.Memory s text same z h = absurd h
+
+pub check_stops : (chunks : ℕ) (origin : Name) (bytes : List ℕ) (lines : List (List ℕ)) (r : ZoneRefusal) (s : Status) (text : List ℕ) → lines ≡ zone_lines bytes → Reads {R = Zone} (Err r) (λ z. z.pairs) (zone_of origin lines) → Refuses r s text → Checks chunks (zone_of origin (zone_lines bytes)) s text
+check_stops chunks origin bytes lines (refusal.Refused line kind) s text same z h = subst (λ (x : Result Version (Refused ZoneKind)). Checks chunks x s text) (sym (ap (zone_of origin) (sym same) ∙ z)) h
+check_stops chunks origin bytes lines refusal.Memory s text same z h = absurd h
 
 -- ---- what is due for an input that was read
 

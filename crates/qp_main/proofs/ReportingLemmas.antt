@@ -1,5 +1,5 @@
 -- What is reported of a job that was run.
-use Rattle.std.proofs.Common.{◌≡◌, ◌∙◌, ℕ, ◌-◌, ◌≤◌, leb, Bool, true, cond, List, length, take, drop, Result, Ok, sym, ap, arith}
+use Rattle.std.proofs.Common.{◌≡◌, ◌∙◌, ℕ, zero, suc, ◌-◌, ◌≤◌, leb, Bool, true, cond, List, [], ◌++◌, length, take, drop, Result, Ok, refl, sym, ap, arith, codes}
 use Rattle.std.proofs.lemmas.List.{take_all, length-drop}
 use Rattle.std.proofs.lemmas.Bool.Decides.{nat_tests}
 use Rattle.std.specs.List.{list_any}
@@ -10,7 +10,8 @@ use Rattle.zone_model.specs.Lines.{lines_of}
 use Rattle.job_model.specs.declared.ScriptKind.{ScriptKind}
 use Rattle.job_model.specs.Commands.{Command}
 use Rattle.job_model.specs.Jobs.{script_of, script_start, script_lines}
-use Rattle.job_model.specs.Outcomes.{is_refused}
+use Rattle.job_model.specs.Outcomes.{is_refused, Lawful}
+use Rattle.job_model.specs.Replies.{size_text}
 use Rattle.job_script.specs.Parts.{IsCutAt}
 use Rattle.job_script.specs.declared.parts.Parts.{Parts}
 use Rattle.job_script.specs.Outcomes.{ended_view, job_pairs, versions_made}
@@ -21,14 +22,14 @@ use Rattle.job_script.proofs.SummaryLemmas.{summed_up}
 use Rattle.qp_main.specs.Tellings.{finished_text, told_text}
 use Rattle.qp_main.specs.declared.telling.Telling.{Telling}
 use Rattle.qp_main.specs.declared.telling.Telling.TheVariants.{Report, Summary}
-use Rattle.job_model.specs.Sizes.{cell_count}
+use Rattle.job_model.specs.Sizes.{cell_count, node_count}
 use Rattle.shared_index.specs.Openings.{room_in}
 use Rattle.job_threads.specs.Runs.{IsRun}
 use Rattle.job_threads.specs.Zones.{RanOn}
 use Rattle.job_threads.specs.declared.job.Finished.{Finished}
 use Rattle.job_threads.specs.declared.zone.Ran.TheVariants as ran
-use Rattle.qp_main.specs.Fits.{fits}
-use Rattle.qp_main.specs.Due.{Answers, Reported}
+use Rattle.qp_main.specs.Fits.{fits, opened_text}
+use Rattle.qp_main.specs.Due.{Answers, Checks, Ends, Reported}
 use Rattle.qp_main.proofs.DueLemmas.{fitting}
 use Rattle.qp_main.specs.declared.status.Status.{Status}
 use Rattle.qp_main.specs.declared.status.Status.TheVariants as status
@@ -63,6 +64,18 @@ pub job_told : (telling : Telling) (chunks : ℕ) (origin : Name) (zone : Versio
     → Answers telling chunks (Ok (record { origin = origin; zone = zone; workers = ws })) s text
 job_told telling chunks origin zone ws f text refused s r printed some ended =
     fitting chunks zone (Reported telling chunks (record { origin = origin; zone = zone; workers = ws })) s text (it_fits chunks zone r.0) (job_reported telling chunks origin zone ws f text refused s r.1 printed some ended)
+
+-- an index on which no worker ran has version 0
+none_made : (chunks : ℕ) (origin : Name) (zone : Version) (last : ℕ) → Lawful chunks origin zone [] last → last ≡ 0
+none_made chunks origin zone zero l = refl
+none_made chunks origin zone (suc last) l = absurd (omega (arith, l.once (suc last) (omega arith) (omega arith)))
+
+pub size_told : (chunks : ℕ) (origin : Name) (zone : Version) (f : Finished) (text : List ℕ) → RanOn chunks origin zone [] (ran.Finished f) → text ≡ codes "v0 " ++ size_text f.names f.nodes → Checks chunks (Ok zone) status.Done text
+size_told chunks origin zone f text r printed =
+    let first : versions_made origin zone [] f.outcomes.items f.version ≡ zone = ap (versions_made origin zone [] f.outcomes.items) (none_made chunks origin zone f.version r.1.lawful) in
+    let names : f.names ≡ length zone = r.1.names_are ∙ ap length first in
+    let nodes : f.nodes ≡ node_count zone = r.1.nodes_are ∙ ap node_count first in
+    fitting chunks zone (Ends status.Done (opened_text zone)) status.Done text (it_fits chunks zone r.0) (refl, printed ∙ ap (λ (n : ℕ). codes "v0 " ++ size_text n f.nodes) names ∙ ap (λ (n : ℕ). codes "v0 " ++ size_text (length zone) n) nodes)
 
 -- the script behind the place where an input is cut
 pub script_read : (origin : Name) (bytes : List ℕ) (p : Parts) (out : Result (List (List Command)) (Refused ScriptKind)) → IsCutAt bytes p → script_of origin p.first_line (lines_of (take (length bytes - p.script_from) (drop p.script_from bytes))) ≡ out

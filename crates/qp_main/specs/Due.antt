@@ -13,6 +13,8 @@ use Rattle.zone_model.specs.declared.ZoneKind.TheVariants as zone_kind
 use Rattle.job_model.specs.declared.ScriptKind.{ScriptKind}
 use Rattle.job_model.specs.declared.ScriptKind.TheVariants.{NoWorker, BadCommand, BadName, BadType, BadRdata, BadNumber, OpenBlock, NotHeld, AlreadyHeld, TooMany}
 use Rattle.job_model.specs.Loads.{made_text}
+use Rattle.zone_text.specs.declared.refusal.ZoneRefusal.{ZoneRefusal}
+use Rattle.zone_text.specs.declared.refusal.ZoneRefusal.TheVariants as refusal
 use Rattle.outer_io.specs.Bytes.{Held, Grows, GrowsByFront}
 use Rattle.command_line.specs.Invocations.{Invocation, Verb, Run, Check, Make}
 use Rattle.qp_main.specs.Fits.{fits, no_room_text, opened_text}
@@ -70,6 +72,11 @@ Ends status text s t = (s ≡ status) × (t ≡ text)
 
 abbrev pub ZoneRefuses : Refused ZoneKind → Status → List ℕ → Type 0
 ZoneRefuses e = Ends status.ZoneRefused (refusal_text (codes "zone") e.line (zone_kind_text e.kind))
+
+-- a zone's reader refused it
+abbrev pub Refuses : ZoneRefusal → Status → List ℕ → Type 0
+Refuses (refusal.Refused line kind) s text = ZoneRefuses (record { line = line; kind = kind }) s text
+Refuses refusal.Memory s text = ⊥
 
 -- a zone that doesn't fit into the chunks is refused, by whether it does
 abbrev pub IfFits : Bool → ℕ → Version → (Status → List ℕ → Type 0) → Status → List ℕ → Type 0

@@ -1,9 +1,12 @@
 //! The program over any source and sink.
-ghost use Rattle.std.specs.Prelude.{◌≡◌, ◌<◌, ◌≤◌, ◌+◌, ◌^◌, ◌++◌, ◌∷◌, [], ℕ, List, length, IfOk, OnOk, map, codes, Ok, Option, Result, IfSome, MatchOption, IsSome, Some, None};
+ghost use Rattle.std.specs.Prelude.{◌≡◌, ◌<◌, ◌≤◌, ◌+◌, ◌^◌, ◌++◌, ◌∷◌, [], ℕ, List, length, IfOk, OnOk, map, codes, Ok, Err, false, Option, Result, IfSome, MatchOption, IsSome, Some, None};
+ghost use Rattle.std.specs.List.{AllByRecursion};
 ghost use Rattle.std.specs.String.{string_bytes};
 ghost use Rattle.std.specs.Io.KnownBytes.{Consumes};
 ghost use Rattle.zone_model.specs.MasterFile.{zone_of};
-ghost use Rattle.job_model.specs.Jobs.{zone_lines, job_of};
+ghost use Rattle.job_model.specs.Commands.{InTurn};
+ghost use Rattle.job_model.specs.Jobs.{zone_lines, script_lines, script_start, script_of, job_of};
+ghost use Rattle.job_script.specs.Views.{job_view};
 ghost use Rattle.job_model.specs.Loads.{made_origin};
 ghost use Rattle.job_script.specs.Parts.{IsCutAt};
 ghost use Rattle.outer_io.specs.Faults.{Rose};
@@ -12,7 +15,7 @@ ghost use Rattle.job_make.specs.Views.{load_view};
 ghost use Rattle.command_line.specs.Invocations.{IsUnder, Make};
 ghost use Rattle.command_line.specs.Views.{invocation_view, verb_view};
 ghost use Rattle.command_line.specs.Words.{invocation_of};
-ghost use Rattle.qp_main.specs.Due.{Answers, Checks, CutShort, DueInput, EndsLoad, IsMade, IsUnwritten, IsWritten, Written, input_of};
+ghost use Rattle.qp_main.specs.Due.{Answers, Checks, Refuses, CutShort, DueInput, EndsLoad, IsMade, IsUnwritten, IsWritten, Written, input_of};
 
 use crate::items::zone_items;
 use crate::report::{script_refused, zone_refused};
@@ -21,9 +24,10 @@ use crate::status::Status;
 use crate::telling::Telling;
 use command_line::{Invocation, Verb, invocation_of};
 use job_make::{Load, make_text};
-use job_script::{JobRefusal, Parts, read_job, split};
-use job_threads::Gate;
-use master_file::{Zone, read_zone};
+use job_script::{Job, JobRefusal, Parts, read_job, split};
+use job_model::ScriptKind;
+use job_threads::{Gate, table_for};
+use master_file::read_zone;
 use outer_io::{ReadRefusal, Sink, Source, read_all, write_all};
 use std::alloc::{AllocError, Global};
 use std::sync::Wait;
@@ -33,120 +37,118 @@ use zone_text::ZoneRefusal;
 // The most bytes of an input.
 const INPUT_LIMIT: u32 = 16777216;
 
-// The status and the text for a zone that was read and the script that begins at a place, on a line with a number. The
-// bytes go before the index is made.
-#[tactic(auto, unfolding(job_model::specs::Jobs::job_of_lines))]
+// The status and the line for a zone that is refused.
+fn zone_line(alloc: Global, refusal: ZoneRefusal) -> Result<(Status, Vec<u8>), AllocError>
+    ensures { IfOk result (λ x. Refuses refusal x.0 x.1.items) }
+{
+    match refusal {
+        ZoneRefusal::Refused { line, kind } => {
+            let text = zone_refused(alloc, u64::from(line), kind)?;
+            Ok((Status::ZoneRefused, text))
+        }
+        ZoneRefusal::Memory => Err(AllocError),
+    }
+}
+
+// The status and the text for a script that was read: its job is run on the zone that is read now. The table comes first, since
+// making it takes twice its memory for a while. The bytes go before the index is made.
 fn run_script<R: Threads + Wait + Sync, G: Gate>(
     rt: &R,
     alloc: Global,
     invocation: &Invocation,
     bytes: Vec<u8>,
     parts: Parts,
-    zone: Zone,
+    job: &Job,
     telling: Telling,
     gate: &G,
 ) -> Result<(Status, Vec<u8>), AllocError>
     requires short { length bytes.items ≤ 2 ^ 24 }
     requires cut { IsCutAt bytes.items parts }
-    requires read { zone_of invocation.now.origin (zone_lines bytes.items) ≡ Ok zone.pairs }
+    requires read { script_of invocation.now.origin (script_start bytes.items) (script_lines bytes.items) ≡ Ok (job_view job.now) }
+    requires few_workers { length job.now.workers.items ≤ 16 }
+    requires in_turn { AllByRecursion (InTurn false) (job_view job.now) }
     ensures { IfOk result (λ x. Answers telling invocation.now.chunks (job_of invocation.now.origin bytes.items) x.0 x.1.items) }
 {
-    let origin = &invocation.origin;
-    let script = &bytes.as_slice()[parts.script_from as usize..];
-    let job = match read_job(alloc, script, parts.first_line, origin) {
-        Ok(job) => job,
-        Err(JobRefusal::Refused { line, kind }) => {
-            return Ok((
-                Status::ScriptRefused,
-                script_refused(alloc, u64::from(line), kind)?,
-            ));
-        }
-        Err(JobRefusal::Memory) => return Err(AllocError),
+    let blank = table_for(alloc, invocation.chunks, job.workers.len())?;
+    let zone_bytes = &bytes.as_slice()[..parts.zone_end as usize];
+    let zone = match read_zone(alloc, zone_bytes, &invocation.origin) {
+        Ok(zone) => zone,
+        Err(refusal) => return zone_line(alloc, refusal),
     };
     drop(bytes);
     let items = zone_items(alloc, zone)?;
-    report_job(rt, alloc, invocation, &items, &job, telling, gate)
+    report_job(rt, alloc, invocation, blank, &items, job, telling, gate)
 }
 
-// The status and the text for a zone that was read and is only to be checked.
+// The status and the text for a script that is refused, on this line: those for the zone come first.
+fn refuse_script(
+    alloc: Global,
+    invocation: &Invocation,
+    bytes: &[u8],
+    parts: Parts,
+    line: u32,
+    kind: ScriptKind,
+) -> Result<(Status, Vec<u8>), AllocError>
+    requires short { length bytes.now ≤ 2 ^ 24 }
+    requires cut { IsCutAt bytes.now parts }
+    requires read { script_of invocation.now.origin (script_start bytes.now) (script_lines bytes.now) ≡ Err (record { line = line; kind = kind }) }
+    ensures { IfOk result (λ x. (telling : Telling) → Answers telling invocation.now.chunks (job_of invocation.now.origin bytes.now) x.0 x.1.items) }
+{
+    let zone_bytes = &bytes[..parts.zone_end as usize];
+    let _zone = match read_zone(alloc, zone_bytes, &invocation.origin) {
+        Ok(zone) => zone,
+        Err(refusal) => return zone_line(alloc, refusal),
+    };
+    let text = script_refused(alloc, u64::from(line), kind)?;
+    Ok((Status::ScriptRefused, text))
+}
+
+// The status and the text for bytes that were cut into a zone's and a script's.
+fn answer_job<R: Threads + Wait + Sync, G: Gate>(
+    rt: &R,
+    alloc: Global,
+    invocation: &Invocation,
+    bytes: Vec<u8>,
+    parts: Parts,
+    telling: Telling,
+    gate: &G,
+) -> Result<(Status, Vec<u8>), AllocError>
+    requires short { length bytes.items ≤ 2 ^ 24 }
+    requires cut { IsCutAt bytes.items parts }
+    ensures { IfOk result (λ x. Answers telling invocation.now.chunks (job_of invocation.now.origin bytes.items) x.0 x.1.items) }
+{
+    let script = &bytes.as_slice()[parts.script_from as usize..];
+    match read_job(alloc, script, parts.first_line, &invocation.origin) {
+        Ok(job) => run_script(rt, alloc, invocation, bytes, parts, &job, telling, gate),
+        Err(JobRefusal::Refused { line, kind }) => {
+            refuse_script(alloc, invocation, &bytes, parts, line, kind)
+        }
+        Err(JobRefusal::Memory) => Err(AllocError),
+    }
+}
+
+// The status and the text for a zone that is only to be checked: no worker asks it.
 fn check_zone<R: Threads + Wait + Sync, G: Gate>(
     rt: &R,
     alloc: Global,
     invocation: &Invocation,
-    zone: Zone,
-    gate: &G,
-) -> Result<(Status, Vec<u8>), AllocError>
-    ensures { IfOk result (λ x. Checks invocation.now.chunks (Ok zone.pairs) x.0 x.1.items) }
-{
-    let items = zone_items(alloc, zone)?;
-    report_size(rt, alloc, invocation, &items, gate)
-}
-
-// The status and the text for a zone that was read, and the bytes that it and a script were cut from.
-fn answer_zone<R: Threads + Wait + Sync, G: Gate>(
-    rt: &R,
-    alloc: Global,
-    invocation: &Invocation,
-    bytes: Vec<u8>,
-    parts: Parts,
-    zone: Zone,
-    gate: &G,
-) -> Result<(Status, Vec<u8>), AllocError>
-    requires short { length bytes.items ≤ 2 ^ 24 }
-    requires cut { IsCutAt bytes.items parts }
-    requires read { zone_of invocation.now.origin (zone_lines bytes.items) ≡ Ok zone.pairs }
-    ensures { IfOk result (λ x. DueInput (verb_view invocation.now.verb) invocation.now.chunks invocation.now.origin bytes.items x.0 x.1.items) }
-{
-    match invocation.verb {
-        Verb::Run => run_script(
-            rt,
-            alloc,
-            invocation,
-            bytes,
-            parts,
-            zone,
-            Telling::Report,
-            gate,
-        ),
-        Verb::Make(_) => run_script(
-            rt,
-            alloc,
-            invocation,
-            bytes,
-            parts,
-            zone,
-            Telling::Summary,
-            gate,
-        ),
-        Verb::Check => {
-            drop(bytes);
-            check_zone(rt, alloc, invocation, zone, gate)
-        }
-    }
-}
-
-// The status and the text for bytes that were cut into a zone's and a script's.
-fn answer_parts<R: Threads + Wait + Sync, G: Gate>(
-    rt: &R,
-    alloc: Global,
-    invocation: &Invocation,
     bytes: Vec<u8>,
     parts: Parts,
     gate: &G,
 ) -> Result<(Status, Vec<u8>), AllocError>
     requires short { length bytes.items ≤ 2 ^ 24 }
     requires cut { IsCutAt bytes.items parts }
-    ensures { IfOk result (λ x. DueInput (verb_view invocation.now.verb) invocation.now.chunks invocation.now.origin bytes.items x.0 x.1.items) }
+    ensures { IfOk result (λ x. Checks invocation.now.chunks (zone_of invocation.now.origin (zone_lines bytes.items)) x.0 x.1.items) }
 {
+    let blank = table_for(alloc, invocation.chunks, 0)?;
     let zone_bytes = &bytes.as_slice()[..parts.zone_end as usize];
-    match read_zone(alloc, zone_bytes, &invocation.origin) {
-        Ok(zone) => answer_zone(rt, alloc, invocation, bytes, parts, zone, gate),
-        Err(ZoneRefusal::Refused { line, kind }) => {
-            let line = zone_refused(alloc, u64::from(line), kind)?;
-            Ok((Status::ZoneRefused, line))
-        }
-        Err(ZoneRefusal::Memory) => Err(AllocError),
-    }
+    let zone = match read_zone(alloc, zone_bytes, &invocation.origin) {
+        Ok(zone) => zone,
+        Err(refusal) => return zone_line(alloc, refusal),
+    };
+    drop(bytes);
+    let items = zone_items(alloc, zone)?;
+    report_size(rt, alloc, invocation, blank, &items, gate)
 }
 
 // The status and the text for the bytes of an input.
@@ -161,7 +163,27 @@ fn answer<R: Threads + Wait + Sync, G: Gate>(
     ensures { IfOk result (λ x. DueInput (verb_view invocation.now.verb) invocation.now.chunks invocation.now.origin bytes.items x.0 x.1.items) }
 {
     let parts = split(&bytes);
-    answer_parts(rt, alloc, invocation, bytes, parts, gate)
+    match invocation.verb {
+        Verb::Run => answer_job(
+            rt,
+            alloc,
+            invocation,
+            bytes,
+            parts,
+            Telling::Report,
+            gate,
+        ),
+        Verb::Make(_) => answer_job(
+            rt,
+            alloc,
+            invocation,
+            bytes,
+            parts,
+            Telling::Summary,
+            gate,
+        ),
+        Verb::Check => check_zone(rt, alloc, invocation, bytes, parts, gate),
+    }
 }
 
 // Writes the text that is due under a status.

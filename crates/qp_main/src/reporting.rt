@@ -1,8 +1,9 @@
 //! What is told of a job that is run, and of a zone that is opened.
-ghost use Rattle.std.specs.Prelude.{◌≡◌, ◌≤◌, IfOk, Ok, false, length, if◌then◌else◌};
+ghost use Rattle.std.specs.Prelude.{◌≡◌, IfOk, Ok, false, length, if◌then◌else◌};
 ghost use Rattle.std.specs.List.{AllByRecursion};
 ghost use Rattle.zone_model.specs.Versions.{Version};
 ghost use Rattle.job_model.specs.Commands.{InTurn};
+ghost use Rattle.job_model.specs.Outcomes.{passes_for};
 ghost use Rattle.job_script.specs.Views.{job_view};
 ghost use Rattle.job_threads.specs.Histories.{IsZone, StandsAs};
 ghost use Rattle.trie_write.specs.Entries.{entries_of_items};
@@ -14,7 +15,8 @@ use crate::status::Status;
 use crate::telling::Telling;
 use command_line::Invocation;
 use job_script::{Job, any_refused, print_outcomes, print_summary};
-use job_threads::{Finished, Gate, Ran, run_zone};
+use job_threads::{Finished, Gate, Ran, ZoneLaw, run_zone};
+use shared_index::Blank;
 use std::alloc::{AllocError, Global};
 use std::sync::Wait;
 use std::thread::Threads;
@@ -48,24 +50,26 @@ fn told(alloc: Global, finished: &Finished, telling: Telling) -> Result<Vec<u8>,
     }
 }
 
-/// Runs a job on the index of its zone, and answers the status and what is told of it, which is printed when all is done.
+/// Runs a job on the index of its zone, by a table that was made for it, and answers the status and what is told of it, which is printed when all is done.
 pub fn report_job<R: Threads + Wait + Sync, G: Gate>(
     rt: &R,
     alloc: Global,
     invocation: &Invocation,
+    blank: Blank<ZoneLaw>,
     items: &[Item],
     job: &Job,
     telling: Telling,
     gate: &G,
 ) -> Result<(Status, Vec<u8>), AllocError>
-    requires few_workers { length job.now.workers.items ≤ 16 }
+    requires chunks { blank.shared.table.shared.key.chunks ≡ invocation.now.chunks }
+    requires passes { blank.shared.table.shared.key.passes ≡ passes_for (length job.now.workers.items) }
     requires zone { IsZone (entries_of_items items.now) }
     requires in_turn { AllByRecursion (InTurn false) (job_view job.now) }
     ensures { (zone : Version) → StandsAs (entries_of_items items.now) zone
         → IfOk result (λ x. Answers telling invocation.now.chunks (Ok (record { origin = invocation.now.origin; zone = zone; workers = job_view job.now })) x.0 x.1.items) }
 {
     let origin = &invocation.origin;
-    match run_zone(rt, alloc, invocation.chunks, origin, items, job, gate)? {
+    match run_zone(rt, alloc, blank, origin, items, job, gate)? {
         Ran::Finished(finished) => {
             let refused = any_refused(&finished.outcomes);
             let text = told(alloc, &finished, telling)?;
@@ -77,14 +81,17 @@ pub fn report_job<R: Threads + Wait + Sync, G: Gate>(
     }
 }
 
-/// Opens the index of a zone, with no worker, and answers the status and how large version 0 is.
+/// Opens the index of a zone, by a table that was made for no worker, and answers the status and how large version 0 is.
 pub fn report_size<R: Threads + Wait + Sync, G: Gate>(
     rt: &R,
     alloc: Global,
     invocation: &Invocation,
+    blank: Blank<ZoneLaw>,
     items: &[Item],
     gate: &G,
 ) -> Result<(Status, Vec<u8>), AllocError>
+    requires chunks { blank.shared.table.shared.key.chunks ≡ invocation.now.chunks }
+    requires passes { blank.shared.table.shared.key.passes ≡ passes_for 0 }
     requires zone { IsZone (entries_of_items items.now) }
     ensures { (zone : Version) → StandsAs (entries_of_items items.now) zone → IfOk result (λ x. Checks invocation.now.chunks (Ok zone) x.0 x.1.items) }
 {
@@ -92,7 +99,7 @@ pub fn report_size<R: Threads + Wait + Sync, G: Gate>(
         workers: Vec::new(alloc),
     };
     let origin = &invocation.origin;
-    match run_zone(rt, alloc, invocation.chunks, origin, items, &job, gate)? {
+    match run_zone(rt, alloc, blank, origin, items, &job, gate)? {
         Ran::Finished(finished) => {
             let line = size_line(alloc, finished.names, finished.nodes)?;
             Ok((Status::Done, line))
