@@ -5,7 +5,6 @@ ghost use Rattle.command_line.specs.Numbers.{chunks_of, seed_of, within};
 
 use zone_text::number;
 
-
 /// The number of chunks where none is given.
 pub const DEFAULT_CHUNKS: u32 = 64;
 

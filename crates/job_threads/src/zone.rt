@@ -57,11 +57,7 @@ fn run_named<R: Threads + Wait + Sync, N: Named + Send + Sync, G: Gate>(
 }
 
 /// The table of an index of so many chunks, for the passes of so many workers.
-pub fn table_for(
-    alloc: Global,
-    chunks: u32,
-    workers: usize,
-) -> Result<Blank<ZoneLaw>, AllocError>
+pub fn table_for(alloc: Global, chunks: u32, workers: usize) -> Result<Blank<ZoneLaw>, AllocError>
     requires enough { 16 ≤ chunks }
     requires few { chunks ≤ 4096 }
     requires few_workers { workers ≤ 16 }

@@ -24,8 +24,8 @@ use crate::status::Status;
 use crate::telling::Telling;
 use command_line::{Invocation, Verb, invocation_of};
 use job_make::{Load, make_text};
-use job_script::{Job, JobRefusal, Parts, read_job, split};
 use job_model::ScriptKind;
+use job_script::{Job, JobRefusal, Parts, read_job, split};
 use job_threads::{Gate, table_for};
 use master_file::read_zone;
 use outer_io::{ReadRefusal, Sink, Source, read_all, write_all};
@@ -164,24 +164,8 @@ fn answer<R: Threads + Wait + Sync, G: Gate>(
 {
     let parts = split(&bytes);
     match invocation.verb {
-        Verb::Run => answer_job(
-            rt,
-            alloc,
-            invocation,
-            bytes,
-            parts,
-            Telling::Report,
-            gate,
-        ),
-        Verb::Make(_) => answer_job(
-            rt,
-            alloc,
-            invocation,
-            bytes,
-            parts,
-            Telling::Summary,
-            gate,
-        ),
+        Verb::Run => answer_job(rt, alloc, invocation, bytes, parts, Telling::Report, gate),
+        Verb::Make(_) => answer_job(rt, alloc, invocation, bytes, parts, Telling::Summary, gate),
         Verb::Check => check_zone(rt, alloc, invocation, bytes, parts, gate),
     }
 }

@@ -7,8 +7,8 @@ ghost use Rattle.zone_change.specs.Views.{addition_view, operation_view};
 ghost use Rattle.zone_change.specs.Changes.{Gives};
 ghost use Rattle.zone_change.specs.declared.entries.Stopped.TheVariants.{Memory};
 
-use dns_name::Name;
 use crate::operations::{NewRecord, Operation};
+use dns_name::Name;
 use rr_data::{CNAME, Entry, ITEM_LIMIT, Rdata, SOA};
 use std::alloc::{AllocError, AllocFailed, Global};
 use zone_model::Refusal;

@@ -8,16 +8,16 @@ ghost use Rattle.zone_edit.specs.Stores.{WorksOnSome, Reads, Edits};
 ghost use Rattle.zone_edit.specs.Blocks.{Gives, Applies, AppliesAll};
 ghost use Rattle.zone_edit.specs.declared.applying.Stopped.TheVariants.{Memory};
 
+use crate::buffers::ItemBuffers;
 use crate::storing::store;
 use dns_name::Name;
 use rr_data::Entry;
 use shared_index::{Law, Named, Transaction, Versions};
 use shift_key::Key;
 use std::alloc::{AllocError, AllocFailed, Global};
-use zone_query::entry_of;
-use crate::buffers::ItemBuffers;
 use zone_change::{Operation, changed};
 use zone_model::Refusal;
+use zone_query::entry_of;
 
 /// Why operations change nothing.
 #[derive(Clone, Copy)]

@@ -14,9 +14,9 @@ ghost use Rattle.zone_text.specs.declared.lexer.Begun.{Begun};
 use crate::lexer::{Begun, Scan, scan_tokens};
 use crate::lines::line_at;
 use crate::refusal::{ZoneRefusal, refuse};
+use crate::token::Token;
 use std::alloc::Global;
 use zone_model::ZoneKind;
-use crate::token::Token;
 
 /// The tokens of an entry, whether it begins with a space or tab, whether a parenthesis was met, and the byte and the line
 /// that the next entry begins at.

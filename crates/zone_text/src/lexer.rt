@@ -7,9 +7,9 @@ ghost use Rattle.zone_text.specs.Tokens.{IsPlaced};
 ghost use Rattle.zone_text.specs.declared.lexer.Begun.{Begun};
 
 use crate::refusal::{ZoneRefusal, refuse};
+use crate::token::Token;
 use std::alloc::Global;
 use zone_model::ZoneKind;
-use crate::token::Token;
 
 // What the byte before belongs to, with the place where it began.
 #[derive(Clone, Copy)]

@@ -14,8 +14,8 @@ use crate::entry_tokens::new_scan;
 use crate::lexer::{Scan, scan_tokens};
 use crate::lines::line_at;
 use crate::refusal::ZoneRefusal;
-use std::alloc::Global;
 use crate::token::Token;
+use std::alloc::Global;
 
 /// The tokens of a line, whether it has a parenthesis, and the byte that the next line begins at. A parenthesis that the
 /// line leaves open is none of this call's business.
