@@ -1,14 +1,80 @@
 //! Names read, printed, ordered and taken apart.
 use dns_name::Name;
 use std::alloc::{AllocError, Global};
-use std::test::Fail;
 use zone_model::NameRefusal;
 
-fn printed(alloc: Global, name: &Name) -> Result<Vec<u8>, AllocError> {
+// Whether a name is printed so.
+fn is_printed(alloc: Global, name: &Name, want: &[u8]) -> bool {
     let mut text = Vec::new(alloc);
-    name.push_text(&mut text)?;
-    Ok(text)
+    name.push_text(&mut text).is_ok() && text.as_slice() == want
 }
+
+// Whether a text is a name, and printed so.
+fn prints(alloc: Global, text: &[u8], origin: &Name, want: &[u8]) -> bool {
+    match Name::read(text, origin) {
+        Ok(name) => is_printed(alloc, &name, want),
+        Err(_) => false,
+    }
+}
+
+fn all_print(alloc: Global, rows: &[(&[u8], &[u8])], origin: &[u8]) -> bool {
+    let Ok(origin) = Name::read(origin, &Name::root()) else {
+        return false;
+    };
+    for (text, want) in rows {
+        if !prints(alloc, text, &origin, want) {
+            return false;
+        }
+    }
+    true
+}
+
+// Texts of names under example., and how the names are printed.
+const PRINTED: &[(&[u8], &[u8])] = &[
+    (b"@", b"example."),
+    (b".", b"."),
+    (b"NS", b"ns.example."),
+    (b"a.B.", b"a.b."),
+    (b"\\001.\\065", b"\\001.a.example."),
+    (b"\\a\\.b\\046", b"a\\.b\\..example."),
+    (b"a.@", b"a.\\@.example."),
+    (b"\\@.\\200\x80", b"\\@.\\200\\128.example."),
+];
+
+#[test]
+fn texts_are_read_and_printed(rt: HostRuntime) {
+    assert!(rt; all_print(rt.alloc(), PRINTED, b"Example."));
+}
+
+fn is_refused(text: &[u8], refusal: NameRefusal) -> bool {
+    match Name::read(text, &Name::root()) {
+        Ok(_) => false,
+        Err(found) => found == refusal,
+    }
+}
+
+fn all_are_refused(rows: &[(&[u8], NameRefusal)]) -> bool {
+    for (text, refusal) in rows {
+        if !is_refused(text, *refusal) {
+            return false;
+        }
+    }
+    true
+}
+
+// Texts, and the first fault of each.
+const REFUSED: &[(&[u8], NameRefusal)] = &[
+    (b"a..b", NameRefusal::EmptyLabel(2)),
+    (
+        b"aaaaaaaaaaaaaaaaaaaaaaaaaaaaaaaaaaaaaaaaaaaaaaaaaaaaaaaaaaaaaaaa",
+        NameRefusal::LongLabel(63),
+    ),
+    (b"a\\256", NameRefusal::BadEscape(1)),
+    (b"a\\2", NameRefusal::BadEscape(1)),
+    (b"a\\", NameRefusal::BadEscape(1)),
+    (b"a\\1.2..", NameRefusal::BadEscape(1)),
+    (b"", NameRefusal::EmptyLabel(0)),
+];
 
 // Labels of so many octets FF, as text.
 fn labels_of_ff(alloc: Global, counts: &[u8]) -> Result<Vec<u8>, AllocError> {
@@ -22,119 +88,94 @@ fn labels_of_ff(alloc: Global, counts: &[u8]) -> Result<Vec<u8>, AllocError> {
     Ok(text)
 }
 
-// Texts of names under example., and how the names are printed.
-const PRINTED: &str = "@ = example.
-. = .
-NS = ns.example.
-a.B. = a.b.
-\\001.\\065 = \\001.a.example.
-\\a\\.b\\046 = a\\.b\\..example.
-a.@ = a.\\@.example.";
-
-#[test]
-fn texts_are_read_and_printed(rt: HostRuntime) -> Result<(), Fail> {
-    let origin = Name::read(b"Example.", &Name::root()).ok().ok_or("origin")?;
-    for line in PRINTED.lines() {
-        let (text, want) = line.split_once(" = ").ok_or("no row")?;
-        let name = Name::read(text.as_bytes(), &origin).ok().ok_or("refused")?;
-        assert_eq!(rt; printed(rt.alloc(), &name)?.as_slice(), want.as_bytes());
-    }
-    let name = Name::read(b"\\@.\\200\x80", &origin).ok().ok_or("refused")?;
-    assert_eq!(rt;
-        printed(rt.alloc(), &name)?.as_slice(),
-        b"\\@.\\200\\128.example.".as_slice()
-    );
-    Ok(())
-}
-
-// What is refused, with its number.
-fn refusal(kind: &str, number: usize) -> Option<NameRefusal> {
-    match kind {
-        "empty" => Some(NameRefusal::EmptyLabel(number)),
-        "long" => Some(NameRefusal::LongLabel(number)),
-        "escape" => Some(NameRefusal::BadEscape(number)),
-        _ => None,
+// How many octets the wire form of the name of such labels has, or why it is none.
+fn wire_len(alloc: Global, counts: &[u8]) -> Result<Result<usize, NameRefusal>, AllocError> {
+    let text = labels_of_ff(alloc, counts)?;
+    match Name::read(&text, &Name::root()) {
+        Ok(name) => Ok(Ok(name.wire().len())),
+        Err(refusal) => Ok(Err(refusal)),
     }
 }
 
-// What is refused, with its number, and the text.
-const REFUSED: &str = "empty 2 a..b
-long 63 aaaaaaaaaaaaaaaaaaaaaaaaaaaaaaaaaaaaaaaaaaaaaaaaaaaaaaaaaaaaaaaa
-escape 1 a\\256
-escape 1 a\\2
-escape 1 a\\
-escape 1 a\\1.2..";
-
 #[test]
-fn the_first_fault_of_a_text_is_refused(rt: HostRuntime) -> Result<(), Fail> {
-    let root = Name::root();
-    for line in REFUSED.lines() {
-        let (kind, rest) = line.split_once(' ').ok_or("no row")?;
-        let (number, text) = rest.split_once(' ').ok_or("no text")?;
-        let number = number.parse::<usize>().ok().ok_or("no number")?;
-        let want = refusal(kind, number);
-        assert!(rt; want.is_some());
-        assert_eq!(rt; Name::read(text.as_bytes(), &root).err(), want);
+fn the_first_fault_of_a_text_is_refused(rt: HostRuntime) {
+    assert!(rt; all_are_refused(REFUSED));
+    assert!(rt; matches!(wire_len(rt.alloc(), &[63, 63, 63, 61]), Ok(Ok(255))));
+    let over = wire_len(rt.alloc(), &[63, 63, 63, 62]);
+    assert!(rt; matches!(over, Ok(Err(NameRefusal::LongName(256)))));
+}
+
+// Whether texts are names, each of which comes before the next.
+fn rise(texts: &[&[u8]]) -> bool {
+    let mut before = Name::root();
+    for text in texts {
+        let Ok(name) = Name::read(text, &Name::root()) else {
+            return false;
+        };
+        if !(before < name && name == name) {
+            return false;
+        }
+        before = name;
     }
-    let nothing = Name::read(b"", &root).err();
-    assert_eq!(rt; nothing, Some(NameRefusal::EmptyLabel(0)));
-    let long = labels_of_ff(rt.alloc(), &[63, 63, 63, 61])?;
-    let name = Name::read(long.as_slice(), &root).ok().ok_or("refused")?;
-    assert_eq!(rt; name.wire().len(), 255);
-    let over = labels_of_ff(rt.alloc(), &[63, 63, 63, 62])?;
-    assert_eq!(rt;
-        Name::read(over.as_slice(), &root).err(),
-        Some(NameRefusal::LongName(256))
-    );
-    Ok(())
+    true
 }
 
 // The example of RFC 4034, section 6.1.
-const RISING: &str = "example.
-a.example.
-yljkjljk.a.example.
-Z.a.example.
-zABC.a.EXAMPLE.
-z.example.
-\\001.z.example.
-*.z.example.
-\\200.z.example.";
+const RISING: &[&[u8]] = &[
+    b"example.",
+    b"a.example.",
+    b"yljkjljk.a.example.",
+    b"Z.a.example.",
+    b"zABC.a.EXAMPLE.",
+    b"z.example.",
+    b"\\001.z.example.",
+    b"*.z.example.",
+    b"\\200.z.example.",
+];
 
 #[test]
-fn names_stand_in_canonical_order(rt: HostRuntime) -> Result<(), Fail> {
-    let mut before = Name::root();
-    for line in RISING.lines() {
-        let name = Name::read(line.as_bytes(), &Name::root())
-            .ok()
-            .ok_or("refused")?;
-        assert!(rt; before < name);
-        assert!(rt; name == name);
-        before = name;
+fn names_stand_in_canonical_order(rt: HostRuntime) {
+    assert!(rt; rise(RISING));
+}
+
+// Whether a name of two labels is this, and the names above it are told.
+fn is_taken_apart(alloc: Global, name: &Name, up: &[u8], star: &[u8]) -> bool {
+    let Some(above) = name.parent() else {
+        return false;
+    };
+    let Some(wildcard) = above.star() else {
+        return false;
+    };
+    name.labels() == 2
+        && name.cut(name.labels()) == *name
+        && is_printed(alloc, &above, up)
+        && is_printed(alloc, &wildcard, star)
+        && name.is_under(&above)
+        && name.is_under(name)
+        && !above.is_under(name)
+}
+
+// Whether octets begin with the wire form of a name, which has so many of them, and are taken apart so.
+fn begins(alloc: Global, octets: &[u8], len: usize, up: &[u8], star: &[u8]) -> bool {
+    match Name::from_wire(octets) {
+        Some(name) => {
+            octets.starts_with(name.wire())
+                && name.wire().len() == len
+                && is_taken_apart(alloc, &name, up, star)
+        }
+        None => false,
     }
-    Ok(())
+}
+
+fn is_no_name(octets: &[u8]) -> bool {
+    Name::from_wire(octets).is_none()
 }
 
 #[test]
-fn names_are_taken_apart(rt: HostRuntime) -> Result<(), Fail> {
-    let root = Name::root();
-    let bytes = b"\x03www\x07example\0behind";
-    let name = Name::from_wire(bytes).ok_or("no name")?;
-    assert_eq!(rt; name.wire(), &bytes[..13]);
-    assert_eq!(rt; name.labels(), 2);
-    let up = name.parent().ok_or("no parent")?;
-    assert_eq!(rt;
-        printed(rt.alloc(), &up)?.as_slice(),
-        b"example.".as_slice()
-    );
-    assert!(rt; name.is_under(&up) && name.is_under(&name) && !up.is_under(&name));
-    assert!(rt; root.parent().is_none());
-    assert!(rt; name.cut(name.labels()) == name);
-    let star = up.star().ok_or("no star")?;
-    assert_eq!(rt;
-        printed(rt.alloc(), &star)?.as_slice(),
-        b"*.example.".as_slice()
-    );
-    assert!(rt; Name::from_wire(b"\x03www").is_none());
-    assert!(rt; Name::from_wire(b"\x01A\0").is_none());
-    Ok(())
+fn names_are_taken_apart(rt: HostRuntime) {
+    let octets = b"\x03www\x07example\0behind";
+    assert!(rt; begins(rt.alloc(), octets, 13, b"example.", b"*.example."));
+    assert!(rt; Name::root().parent().is_none());
+    assert!(rt; is_no_name(b"\x03www"));
+    assert!(rt; is_no_name(b"\x01A\0"));
 }

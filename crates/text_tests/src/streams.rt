@@ -1,98 +1,153 @@
 //! Sources and sinks in memory, and the standard streams.
+ghost use Rattle.std.specs.Prelude.{◌<◌};
+
 use outer_io::{
     Failed, MemSink, MemSource, QuietSink, QuietSource, ReadRefusal, Sink, Source, StdSink,
     StdSource, read_all, write_all,
 };
 use std::alloc::{AllocError, Global};
-use std::test::Fail;
 
-// The bytes of a text. A proof sees none of them.
-fn bytes(alloc: Global, text: &str) -> Result<Vec<u8>, AllocError> {
-    Vec::from_slice(alloc, text.as_bytes())
+// A source of a text in memory, so many bytes at most in one call. The second call fails.
+fn faulty_source(alloc: Global, text: &[u8], most: usize) -> Result<MemSource, AllocError>
+    requires { 0 < most }
+{
+    let text = Vec::from_slice(alloc, text)?;
+    let fails = Vec::from_slice(alloc, &[2])?;
+    Ok(MemSource::new(text, most, fails))
 }
 
-// A call's number.
-fn number(alloc: Global, call: u64) -> Result<Vec<u64>, AllocError> {
-    Ok(vec![in alloc; call]?)
+// Whether reads into one piece answer so, and leave this in the piece.
+fn gives<S: Source>(source: &mut S, wanted: &[Result<usize, Failed>], left: &[u8]) -> bool {
+    let mut piece = [0u8; 8];
+    for want in wanted {
+        if source.read(&mut piece) != *want {
+            return false;
+        }
+    }
+    piece.as_slice() == left
 }
 
-// Five bytes at most.
-fn read_five<S: Source>(alloc: Global, source: &mut S) -> Result<Vec<u8>, ReadRefusal> {
-    read_all(alloc, source, 5)
-}
-
-fn write_text<K: Sink>(sink: &mut K, text: &str) -> Result<(), Failed> {
-    write_all(sink, text.as_bytes())
+// Whether a source of a text, four bytes at most in one call, gives this.
+fn gives_pieces(alloc: Global, text: &[u8], wanted: &[Result<usize, Failed>], left: &[u8]) -> bool {
+    match faulty_source(alloc, text, 4) {
+        Ok(source) => {
+            let mut source = source;
+            gives(&mut source, wanted, left)
+        }
+        Err(_) => false,
+    }
 }
 
 // Eleven bytes by at most four, the second call failing.
 #[test]
-fn a_source_gives_pieces_and_fails_at_its_numbers(rt: HostRuntime) -> Result<(), Fail> {
-    let text = bytes(rt.alloc(), "hello world")?;
-    let mut source = MemSource::new(text, 4, number(rt.alloc(), 2)?);
-    let mut piece = [0u8; 8];
+fn a_source_gives_pieces_and_fails_at_its_numbers(rt: HostRuntime) {
     let wanted = [Ok(4), Err(Failed), Ok(4), Ok(3), Ok(0)];
-    for want in wanted {
-        assert_eq!(rt; source.read(&mut piece), want);
+    assert!(rt; gives_pieces(rt.alloc(), b"hello world", &wanted, b"rldo\0\0\0\0"));
+}
+
+// Five bytes at most of a text, without a fault.
+fn read_quietly(alloc: Global, text: &[u8], most: usize) -> Result<Vec<u8>, ReadRefusal>
+    requires { 0 < most }
+{
+    let mut source = QuietSource::new(Vec::from_slice(alloc, text)?, most);
+    read_all(alloc, &mut source, 5)
+}
+
+// The same, the second call failing.
+fn read_faultily(alloc: Global, text: &[u8], most: usize) -> Result<Vec<u8>, ReadRefusal>
+    requires { 0 < most }
+{
+    let mut source = faulty_source(alloc, text, most)?;
+    read_all(alloc, &mut source, 5)
+}
+
+fn is_read(read: Result<Vec<u8>, ReadRefusal>, want: &[u8]) -> bool {
+    match read {
+        Ok(bytes) => bytes.as_slice() == want,
+        Err(_) => false,
     }
-    assert_eq!(rt; piece.as_slice(), b"rldo\0\0\0\0".as_slice());
-    Ok(())
+}
+
+fn is_refused(read: Result<Vec<u8>, ReadRefusal>, want: ReadRefusal) -> bool {
+    match read {
+        Ok(_) => false,
+        Err(refusal) => refusal == want,
+    }
 }
 
 #[test]
-fn reads_to_the_end(rt: HostRuntime) -> Result<(), Fail> {
-    let mut quiet = QuietSource::new(bytes(rt.alloc(), "hello")?, 2);
-    let all = read_five(rt.alloc(), &mut quiet).ok().ok_or("refused")?;
-    assert_eq!(rt; all.as_slice(), bytes(rt.alloc(), "hello")?.as_slice());
-    Ok(())
+fn reads_to_the_end(rt: HostRuntime) {
+    assert!(rt; is_read(read_quietly(rt.alloc(), b"hello", 2), b"hello"));
 }
 
 #[test]
-fn tells_that_there_is_more_than_the_limit(rt: HostRuntime) -> Result<(), Fail> {
-    let mut long = QuietSource::new(bytes(rt.alloc(), "hello!")?, 9);
-    let refusal = read_five(rt.alloc(), &mut long).err();
-    assert_eq!(rt; refusal, Some(ReadRefusal::TooLong(5)));
-    Ok(())
+fn tells_that_there_is_more_than_the_limit(rt: HostRuntime) {
+    let read = read_quietly(rt.alloc(), b"hello!", 9);
+    assert!(rt; is_refused(read, ReadRefusal::TooLong(5)));
 }
 
 #[test]
-fn tells_that_a_read_failed(rt: HostRuntime) -> Result<(), Fail> {
-    let text = bytes(rt.alloc(), "hello")?;
-    let mut faulty = MemSource::new(text, 2, number(rt.alloc(), 2)?);
-    let refusal = read_five(rt.alloc(), &mut faulty).err();
-    assert_eq!(rt; refusal, Some(ReadRefusal::Fault));
-    Ok(())
+fn tells_that_a_read_failed(rt: HostRuntime) {
+    let read = read_faultily(rt.alloc(), b"hello", 2);
+    assert!(rt; is_refused(read, ReadRefusal::Fault));
+}
+
+fn writes<K: Sink>(sink: &mut K, text: &[u8]) -> bool {
+    write_all(sink, text).is_ok()
+}
+
+fn is_held(held: Option<&[u8]>, want: &[u8]) -> bool {
+    match held {
+        Some(held) => held == want,
+        None => false,
+    }
+}
+
+// Whether a text isn't written by fours where the third call fails, and this is held then.
+fn holds_front(alloc: Global, text: &[u8], front: &[u8]) -> bool {
+    let Ok(fails) = Vec::from_slice(alloc, &[3]) else {
+        return false;
+    };
+    match MemSink::new(alloc, 16, 4, fails) {
+        Ok(sink) => {
+            let mut sink = sink;
+            !writes(&mut sink, text) && is_held(sink.held(), front)
+        }
+        Err(_) => false,
+    }
 }
 
 // The third call fails, so a prefix is held.
 #[test]
-fn a_faulty_sink_holds_a_prefix(rt: HostRuntime) -> Result<(), Fail> {
-    let mut faulty = MemSink::new(rt.alloc(), 16, 4, number(rt.alloc(), 3)?)?;
-    assert_eq!(rt; write_text(&mut faulty, "hello world"), Err(Failed));
-    let held = faulty.held().ok_or("over")?;
-    assert_eq!(rt; held, bytes(rt.alloc(), "hello wo")?.as_slice());
-    Ok(())
+fn a_faulty_sink_holds_a_prefix(rt: HostRuntime) {
+    assert!(rt; holds_front(rt.alloc(), b"hello world", b"hello wo"));
+}
+
+// Whether a sink with room for a text holds it, and nothing once there is more.
+fn holds_no_more(alloc: Global, text: &[u8], more: &[u8]) -> bool {
+    match QuietSink::new(alloc, text.len(), 4) {
+        Ok(sink) => {
+            let mut sink = sink;
+            writes(&mut sink, text)
+                && is_held(sink.held(), text)
+                && writes(&mut sink, more)
+                && sink.held().is_none()
+        }
+        Err(_) => false,
+    }
 }
 
 // A sink with too little room tells nothing.
 #[test]
-fn a_sink_holds_what_it_has_room_for(rt: HostRuntime) -> Result<(), Fail> {
-    let mut quiet = QuietSink::new(rt.alloc(), 11, 4)?;
-    assert_eq!(rt; write_text(&mut quiet, "hello world"), Ok(()));
-    let held = quiet.held().ok_or("over")?;
-    assert_eq!(rt; held, bytes(rt.alloc(), "hello world")?.as_slice());
-    assert_eq!(rt; write_text(&mut quiet, "!"), Ok(()));
-    assert!(rt; quiet.held().is_none());
-    Ok(())
+fn a_sink_holds_what_it_has_room_for(rt: HostRuntime) {
+    assert!(rt; holds_no_more(rt.alloc(), b"hello world", b"!"));
 }
 
 // The test's own standard input is empty.
 #[test]
-fn standard_streams(rt: HostRuntime) -> Result<(), Fail> {
+fn standard_streams(rt: HostRuntime) {
     let mut sink = StdSink::new(rt.stdout());
-    assert_eq!(rt; write_all(&mut sink, b"standard output\n"), Ok(()));
+    assert!(rt; writes(&mut sink, b"standard output\n"));
     let mut source = StdSource::new(rt.stdin());
-    let all = read_all(rt.alloc(), &mut source, 16).ok().ok_or("refused")?;
-    assert!(rt; all.is_empty());
-    Ok(())
+    assert!(rt; is_read(read_all(rt.alloc(), &mut source, 16), b""));
 }

@@ -1,70 +1,155 @@
-//! A master file with entries of every form, and the places of tokens.
+//! A master file with entries of every form, and the places of tokens. A proof computes with a text that it sees, so texts are passed
+//! to functions.
 use dns_name::Name;
 use master_file::{ZoneItems, read_zone};
 use rr_data::Entry;
-use std::test::Fail;
+use std::alloc::Global;
 use zone_text::{line_tokens, tokens};
 
-// A name under the root.
-fn name(text: &[u8]) -> Result<Name, Fail> {
-    Ok(Name::read(text, &Name::root()).ok().ok_or("a name")?)
-}
-
-// The next item of a zone: its owner's number of labels, and the time to live and number of records of its RRset of a type.
-fn next_set(
-    rt: &HostRuntime,
-    items: &mut ZoneItems,
+/// An RRset of a type: its owner's number of labels, its time to live and number of records, and how many names are left behind it.
+#[derive(Clone, Copy)]
+struct Due {
     rtype: u16,
-) -> Result<Option<(u8, u32, usize)>, Fail> {
-    let mut octets = [0; 4096];
-    let Some(len) = items.next(&mut octets) else {
-        return Ok(None);
+    labels: u8,
+    ttl: u32,
+    records: usize,
+    left: usize,
+}
+
+// Whether an item has such an RRset.
+fn has_set(alloc: Global, item: &[u8], due: Due) -> bool {
+    let labels = match Name::from_wire(item) {
+        Some(owner) => owner.labels(),
+        None => return false,
     };
-    let owner = Name::from_wire(&octets[..len]).ok_or("an owner")?;
-    let entry = Entry::decode(rt.alloc(), &octets[..len])
-        .ok()
-        .ok_or("an entry")?;
-    let set = entry.find_set(rtype).ok_or("an RRset")?;
-    Ok(Some((owner.labels(), set.ttl(), set.len())))
+    match Entry::decode(alloc, item) {
+        Ok(entry) => match entry.find_set(due.rtype) {
+            Some(set) => labels == due.labels && set.ttl() == due.ttl && set.len() == due.records,
+            None => false,
+        },
+        Err(_) => false,
+    }
 }
 
-#[test]
-fn reads_entries_of_every_form(rt: HostRuntime) -> Result<(), Fail> {
-    let text =
-        b"$TTL 1h ; for all\r\n@ IN SOA ns admin ( 1\n 2h30m\n 1D 2w 60 )\r\n$ORIGIN sub.example.\r\n\
-        www 30m class1 A 192.0.2.1\r\n\tTXT \"a ; b\" (c\\ d\n)\nmail A 192.0.2.2\n A 192.0.2.3";
-    let zone = read_zone(rt.alloc(), text, &name(b"example.")?)
-        .ok()
-        .ok_or("refused")?;
-    assert_eq!(rt; zone.len(), 3);
-    assert_eq!(rt; zone.origin().labels(), 1);
-    let mut items = zone.into_items();
-    assert_eq!(rt; next_set(&rt, &mut items, 6)?, Some((1, 3600, 1)));
-    assert_eq!(rt; next_set(&rt, &mut items, 1)?, Some((3, 3600, 2)));
-    assert_eq!(rt; items.len(), 1);
-    assert_eq!(rt; next_set(&rt, &mut items, 16)?, Some((3, 3600, 1)));
-    assert!(rt; items.is_empty());
-    assert_eq!(rt; next_set(&rt, &mut items, 1)?, None);
-    Ok(())
+// Whether the next item of a zone has such an RRset.
+fn comes_next(alloc: Global, items: &mut ZoneItems, due: Due) -> bool {
+    let mut octets = [0; 4096];
+    match items.next(&mut octets) {
+        Some(len) => has_set(alloc, &octets[..len], due) && items.len() == due.left,
+        None => false,
+    }
 }
 
+// Whether the items of a zone have such RRsets, one each, and there is no other item.
+fn come(alloc: Global, items: &mut ZoneItems, dues: &[Due]) -> bool {
+    for due in dues {
+        if !comes_next(alloc, items, *due) {
+            return false;
+        }
+    }
+    items.is_empty() && items.next(&mut [0; 4096]).is_none()
+}
+
+// Whether a text says a zone of as many names as there are RRsets, each of which has one of these.
+fn says(alloc: Global, text: &[u8], origin: &[u8], dues: &[Due]) -> bool {
+    let Ok(origin) = Name::read(origin, &Name::root()) else {
+        return false;
+    };
+    if text.len() > 1000 {
+        return false;
+    }
+    match read_zone(alloc, text, &origin) {
+        Ok(zone) => {
+            let right = zone.len() == dues.len() && zone.origin().labels() == origin.labels();
+            let mut items = zone.into_items();
+            right && come(alloc, &mut items, dues)
+        }
+        Err(_) => false,
+    }
+}
+
+const ZONE: &[u8] =
+    b"$TTL 1h ; for all\r\n@ IN SOA ns admin ( 1\n 2h30m\n 1D 2w 60 )\r\n$ORIGIN sub.example.\r\n\
+    www 30m class1 A 192.0.2.1\r\n\tTXT \"a ; b\" (c\\ d\n)\nmail A 192.0.2.2\n A 192.0.2.3";
+
+const SETS: [Due; 3] = [
+    Due {
+        rtype: 6,
+        labels: 1,
+        ttl: 3600,
+        records: 1,
+        left: 2,
+    },
+    Due {
+        rtype: 1,
+        labels: 3,
+        ttl: 3600,
+        records: 2,
+        left: 1,
+    },
+    Due {
+        rtype: 16,
+        labels: 3,
+        ttl: 3600,
+        records: 1,
+        left: 0,
+    },
+];
+
 #[test]
-fn tells_tokens_by_their_places(rt: HostRuntime) -> Result<(), Fail> {
-    let text = b"a\"b c\";d\n( e\\\"\n ) f\ng";
-    let first = tokens(rt.alloc(), text, 0, 1).ok().ok_or("refused")?;
-    assert_eq!(rt;
-        (first.tokens.len(), first.next, first.next_line),
-        (2, 9, 2)
-    );
-    assert_eq!(rt; first.tokens[1].text(text), b"b c".as_slice());
-    let second = tokens(rt.alloc(), text, 9, 2).ok().ok_or("refused")?;
-    assert_eq!(rt;
-        (second.tokens.len(), second.next, second.next_line),
-        (2, 20, 4)
-    );
-    assert!(rt; second.parens && !second.blank);
-    let line = line_tokens(rt.alloc(), text, 9, 2).ok().ok_or("refused")?;
-    assert_eq!(rt; (line.tokens.len(), line.next), (1, 15));
-    assert!(rt; line.parens);
-    Ok(())
+fn reads_entries_of_every_form(rt: HostRuntime) {
+    assert!(rt; says(rt.alloc(), ZONE, b"example.", &SETS));
+}
+
+/// How many tokens, where the next line begins and its number, and whether there is a parenthesis and the first line begins blank.
+type Places = (usize, u32, u32, bool, bool);
+
+// The entry at a place, in a line.
+fn entry_at(alloc: Global, text: &[u8], from: u32, line: u32) -> Option<Places> {
+    if text.len() > 100 || from as usize > text.len() || line > 100 {
+        return None;
+    }
+    match tokens(alloc, text, from, line) {
+        Ok(entry) => Some((
+            entry.tokens.len(),
+            entry.next,
+            entry.next_line,
+            entry.parens,
+            entry.blank,
+        )),
+        Err(_) => None,
+    }
+}
+
+// Whether this is the second token of the entry at the beginning.
+fn is_second_token(alloc: Global, text: &[u8], token: &[u8]) -> bool {
+    if text.len() > 100 {
+        return false;
+    }
+    match tokens(alloc, text, 0, 1) {
+        Ok(entry) => entry.tokens.len() == 2 && entry.tokens[1].text(text) == token,
+        Err(_) => false,
+    }
+}
+
+// The line at a place alone: how many tokens, where the next line begins, and whether there is a parenthesis.
+fn line_at(alloc: Global, text: &[u8], from: u32) -> Option<(usize, u32, bool)> {
+    if text.len() > 100 || from as usize >= text.len() {
+        return None;
+    }
+    match line_tokens(alloc, text, from, 2) {
+        Ok(line) => Some((line.tokens.len(), line.next, line.parens)),
+        Err(_) => None,
+    }
+}
+
+const ENTRIES: &[u8] = b"a\"b c\";d\n( e\\\"\n ) f\ng";
+
+#[test]
+fn tells_tokens_by_their_places(rt: HostRuntime) {
+    let alloc = rt.alloc();
+    assert!(rt; entry_at(alloc, ENTRIES, 0, 1) == Some((2, 9, 2, false, false)));
+    assert!(rt; is_second_token(alloc, ENTRIES, b"b c"));
+    assert!(rt; entry_at(alloc, ENTRIES, 9, 2) == Some((2, 20, 4, true, false)));
+    assert!(rt; line_at(alloc, ENTRIES, 9) == Some((1, 15, true)));
 }
