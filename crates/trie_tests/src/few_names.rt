@@ -8,30 +8,43 @@ ghost use Rattle.trie_write.specs.Entries.{entries_of_items};
 ghost use Rattle.trie_write.specs.Spaces.{Ready};
 ghost use Rattle.trie_write.specs.Standing.{HasTrie};
 
-use crate::made::{item, items, octets};
+use crate::made::{item, octets};
 use crate::many_names::rise;
 use crate::room::unused_room;
 use chunk_cells::CellWrite;
 use chunk_usage::Space;
 use dns_name::Name;
 use packed_node::Ref;
-use std::alloc::{AllocError, Global};
-use std::test::Fail;
+use std::alloc::Global;
 use trie_read::{count, nodes};
 use trie_write::{InsertRefusal, Item, ItemRefusal, build, cells, insert, replace};
 
+/// How long the root's item with so many octets behind the name is, and its key.
+fn item_len(alloc: Global, payload: usize) -> Option<(usize, u16)> {
+    let Ok(payload) = octets(alloc, payload) else {
+        return None;
+    };
+    match Item::of(alloc, &Name::root(), &payload) {
+        Ok(item) => Some((item.octets().len(), item.key().len())),
+        Err(_) => None,
+    }
+}
+
+/// How long the root's item with so many octets behind the name would be, where that is too long.
+fn too_long(alloc: Global, payload: usize) -> Option<u64> {
+    let Ok(payload) = octets(alloc, payload) else {
+        return None;
+    };
+    match Item::of(alloc, &Name::root(), &payload) {
+        Err(ItemRefusal::Long { bytes }) => Some(bytes),
+        _ => None,
+    }
+}
+
 #[test]
-fn items_have_4096_octets_at_most(rt: HostRuntime) -> Result<(), Fail> {
-    let most = octets(rt.alloc(), 4095)?;
-    let longest = Item::of(rt.alloc(), &Name::root(), &most)
-        .ok()
-        .ok_or("no item")?;
-    assert_eq!(rt; longest.octets().len(), 4096);
-    assert_eq!(rt; longest.key().len(), 0);
-    let more = octets(rt.alloc(), 4096)?;
-    let refused = Item::of(rt.alloc(), &Name::root(), &more).err();
-    assert!(rt; refused == Some(ItemRefusal::Long { bytes: 4097 }));
-    Ok(())
+fn items_have_4096_octets_at_most(rt: HostRuntime) {
+    assert!(rt; matches!(item_len(rt.alloc(), 4095), Some((4096, 0))));
+    assert!(rt; matches!(too_long(rt.alloc(), 4096), Some(4097)));
 }
 
 /// Puts in an item.
@@ -74,37 +87,32 @@ fn sizes_with<C: CellWrite, U: Space>(
     }
 }
 
-/// The same in a room of its own, with how many cells of its first chunk count in the end.
-fn sizes_alone(
-    alloc: Global,
-    items: &[Item],
-    item: &Item,
-) -> Result<(Result<(u64, u64), InsertRefusal>, u32), AllocError>
-    requires { Rises (entries_of_items items.now) }
-{
-    let (mut memory, mut usage) = unused_room(alloc, 16)?;
-    let sizes = sizes_with(&mut memory, &mut usage, items, item);
-    Ok((sizes, usage.live(0)))
+/// The same of two names in a room of its own, with how many cells of its first chunk count in the end. None for want of memory.
+fn sizes_alone(alloc: Global, name: &[u8], other: &[u8], payload: &[u8]) -> Option<Sizes> {
+    let second = item(alloc, other, payload)?;
+    let first = [item(alloc, name, b"1")?];
+    let Ok((memory, usage)) = unused_room(alloc, 16) else {
+        return None;
+    };
+    let (mut memory, mut usage) = (memory, usage);
+    if cells(&first) != 2 || !rise(&first) {
+        return None;
+    }
+    let sizes = sizes_with(&mut memory, &mut usage, &first, &second);
+    Some((sizes, usage.live(0)))
+}
+
+type Sizes = (Result<(u64, u64), InsertRefusal>, u32);
+
+// Three nodes; one item has one cell, the other two.
+#[test]
+fn a_name_is_put_beside_another(rt: HostRuntime) {
+    let sizes = sizes_alone(rt.alloc(), b"example.", b"ns.example.", b"22222");
+    assert!(rt; matches!(sizes, Some((Ok((2, 3)), 6))));
 }
 
 #[test]
-fn a_name_is_put_beside_another(rt: HostRuntime) -> Result<(), Fail> {
-    let first = items(rt.alloc(), "example.", b"1")?;
-    let beside = item(rt.alloc(), "ns.example.", b"22222")?;
-    assert!(rt; rise(&first));
-    assert_eq!(rt; cells(&first), 2);
-    // Three nodes; one item has one cell, the other two.
-    let sizes = sizes_alone(rt.alloc(), &first, &beside)?;
-    assert_eq!(rt; sizes, (Ok((2, 3)), 6));
-    Ok(())
-}
-
-#[test]
-fn a_name_is_put_in_once(rt: HostRuntime) -> Result<(), Fail> {
-    let first = items(rt.alloc(), "example.", b"1")?;
-    let again = item(rt.alloc(), "example.", b"2")?;
-    assert!(rt; rise(&first));
-    let sizes = sizes_alone(rt.alloc(), &first, &again)?;
-    assert_eq!(rt; sizes, (Err(InsertRefusal::Exists), 2));
-    Ok(())
+fn a_name_is_put_in_once(rt: HostRuntime) {
+    let sizes = sizes_alone(rt.alloc(), b"example.", b"example.", b"2");
+    assert!(rt; matches!(sizes, Some((Err(InsertRefusal::Exists), 2))));
 }

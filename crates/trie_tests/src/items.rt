@@ -12,21 +12,19 @@ const ITEM: [u8; 28] = [
     0, 4, 192, 0, 2, 1,
 ];
 
-/// What was read of an item that had been written, and of the cells that it lies in.
-#[derive(Clone, Copy, PartialEq, Eq, Debug)]
-struct Read {
-    len: usize,
-    /// Whether it was the item, and in front of it too.
-    is_whole: bool,
-    /// The last octet of its last cell, and the one behind.
-    behind: (u8, u8),
-    first: (u64, u64),
-    second: (u64, u64),
-    after: Cell,
-}
+// The cells of the item.
+const FIRST: Cell = Cell {
+    big: 0x6d61_7865_0773_6e02,
+    small: 0x0100_0100_0065_6c70,
+};
 
-// The item lies in cells 1030 and 1031, and there is a cell behind them.
-fn write_and_read(cells: &mut PlainCells, after: Cell) -> Read
+const SECOND: Cell = Cell {
+    big: 0x0400_0100_2c01_0000,
+    small: 0x0102_00c0,
+};
+
+// The item lies in cells 1030 and 1031, and there is a cell behind them. Whether they are as they should be, and the item is read back.
+fn is_written_and_read(cells: &mut PlainCells, after: Cell) -> bool
     requires { ⟦<PlainCells as CellWrite>⟧.given cells.old ≡ replicate 2 false }
 {
     cells.give(1);
@@ -40,33 +38,29 @@ fn write_and_read(cells: &mut PlainCells, after: Cell) -> Read
     let first = cells.cell(1030);
     let second = cells.cell(1031);
     let third = cells.cell(1032);
-    Read {
-        len,
-        is_whole: out.starts_with(&ITEM) && front.starts_with(&ITEM) && front_len == 28,
-        behind: (out[31], out[32]),
-        first: (first.big, first.small),
-        second: (second.big, second.small),
-        after: third,
-    }
+    // The last octet of its last cell is there, and none behind it.
+    len == 28
+        && front_len == 28
+        && out.starts_with(&ITEM)
+        && front.starts_with(&ITEM)
+        && out[31] == 0
+        && out[32] == 9
+        && first == FIRST
+        && second == SECOND
+        && third == after
 }
 
 #[test]
-fn an_item_is_written_and_read(rt: HostRuntime) -> Result<(), Fail> {
-    assert_eq!(rt; item::cells_for(28), 2);
-    let after = Cell { big: 7, small: 8 };
-    let mut cells = PlainCells::new(rt.alloc(), 2)?;
-    let read = write_and_read(&mut cells, after);
-    drop(cells);
-    let due = Read {
-        len: 28,
-        is_whole: true,
-        behind: (0, 9),
-        first: (0x6d61_7865_0773_6e02, 0x0100_0100_0065_6c70),
-        second: (0x0400_0100_2c01_0000, 0x0102_00c0),
-        after,
+fn an_item_is_written_and_read(rt: HostRuntime) {
+    assert!(rt; item::cells_for(28) == 2);
+    let right = match PlainCells::new(rt.alloc(), 2) {
+        Ok(cells) => {
+            let mut cells = cells;
+            is_written_and_read(&mut cells, Cell { big: 7, small: 8 })
+        }
+        Err(_) => false,
     };
-    assert_eq!(rt; read, due);
-    Ok(())
+    assert!(rt; right);
 }
 
 #[test]

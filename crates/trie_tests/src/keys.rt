@@ -1,127 +1,210 @@
-//! Keys of names, against the vectors of the layout.
+//! Keys of names, against the vectors of the layout. A proof computes with a text that it sees, so texts are passed to functions.
 
+use crate::many_names::comes_before;
 use dns_name::Name;
 use shift_key::{Difference, Key};
-use std::test::Fail;
 
-fn name(text: &[u8]) -> Result<Name, Fail> {
-    Ok(Name::read(text, &Name::root()).ok().ok_or("no name")?)
+fn key_of(text: &[u8]) -> Option<Key> {
+    match Name::read(text, &Name::root()) {
+        Ok(name) => Some(Key::of(&name)),
+        Err(_) => None,
+    }
 }
 
-// The positions of a key are these, and its name comes back.
-#[test]
-fn names_have_their_keys(rt: HostRuntime) -> Result<(), Fail> {
-    let names: [(&[u8], &[u8]); 5] = [
-        (b".", &[]),
-        (b"ns.example.", &[21, 40, 17, 29, 32, 28, 21, 0, 30, 35, 0]),
-        (
-            b"\\001.z.example.",
-            &[21, 40, 17, 29, 32, 28, 21, 0, 42, 0, 1, 2, 0],
-        ),
-        (
-            b"*.z.example.",
-            &[21, 40, 17, 29, 32, 28, 21, 0, 42, 0, 1, 43, 0],
-        ),
-        (
-            b"\\200.z.example.",
-            &[21, 40, 17, 29, 32, 28, 21, 0, 42, 0, 44, 32, 0],
-        ),
-    ];
-    for (text, positions) in names {
-        let name = name(text)?;
-        let key = Key::of(&name);
-        assert_eq!(rt; key.len() as usize, positions.len());
-        for place in 0..512 {
-            let want = positions.get(place as usize).copied().unwrap_or(0);
-            assert_eq!(rt; key.at(place), want, "at {place}");
+// Whether the positions of a key are these.
+fn has_positions(key: &Key, positions: &[u8]) -> bool {
+    for place in 0..512 {
+        let want = match positions.get(place as usize) {
+            Some(position) => *position,
+            None => 0,
+        };
+        if key.at(place) != want {
+            return false;
         }
-        assert!(rt; key.to_name() == name);
     }
-    Ok(())
+    key.len() as usize == positions.len()
+}
+
+// Whether the positions of a name's key are these, and the name comes back.
+fn has_key(text: &[u8], positions: &[u8]) -> bool {
+    match Name::read(text, &Name::root()) {
+        Ok(name) => {
+            let key = Key::of(&name);
+            has_positions(&key, positions) && key.to_name() == name
+        }
+        Err(_) => false,
+    }
+}
+
+fn all_have_keys(rows: &[(&[u8], &[u8])]) -> bool {
+    for (text, positions) in rows {
+        if !has_key(text, positions) {
+            return false;
+        }
+    }
+    true
+}
+
+const KEYS: &[(&[u8], &[u8])] = &[
+    (b".", &[]),
+    (b"ns.example.", &[21, 40, 17, 29, 32, 28, 21, 0, 30, 35, 0]),
+    (
+        b"\\001.z.example.",
+        &[21, 40, 17, 29, 32, 28, 21, 0, 42, 0, 1, 2, 0],
+    ),
+    (
+        b"*.z.example.",
+        &[21, 40, 17, 29, 32, 28, 21, 0, 42, 0, 1, 43, 0],
+    ),
+    (
+        b"\\200.z.example.",
+        &[21, 40, 17, 29, 32, 28, 21, 0, 42, 0, 44, 32, 0],
+    ),
+];
+
+#[test]
+fn names_have_their_keys(rt: HostRuntime) {
+    assert!(rt; all_have_keys(KEYS));
+}
+
+// Whether octets begin with a name that has a key so long, and comes back.
+fn has_key_of_len(wire: &[u8], len: u16) -> bool {
+    match Name::from_wire(wire) {
+        Some(name) => {
+            let key = Key::of(&name);
+            key.len() == len && key.to_name() == name
+        }
+        None => false,
+    }
 }
 
 // Labels of 63, 63, 63 and 61 octets FF.
 #[test]
-fn the_longest_key(rt: HostRuntime) -> Result<(), Fail> {
-    let mut text = Vec::new(rt.alloc());
-    for count in [63, 63, 63, 61] {
-        for _ in 0..count {
-            text.extend_from_slice(b"\\255")?;
+fn the_longest_key(rt: HostRuntime) {
+    let mut wire = [0xff; 255];
+    wire[0] = 63;
+    wire[64] = 63;
+    wire[128] = 63;
+    wire[192] = 61;
+    wire[254] = 0;
+    assert!(rt; has_key_of_len(&wire, 504));
+}
+
+// Whether texts are names, the key of each of which comes before the next.
+fn rise(texts: &[&[u8]]) -> bool {
+    let mut before = Key::root();
+    for text in texts {
+        let Some(key) = key_of(text) else {
+            return false;
+        };
+        if !comes_before(&before, &key) || key.first_difference(&key).is_some() {
+            return false;
         }
-        text.push(b'.')?;
+        before = key;
     }
-    let name = name(text.as_slice())?;
-    let key = Key::of(&name);
-    assert_eq!(rt; key.len(), 504);
-    assert!(rt; key.to_name() == name);
-    Ok(())
+    true
 }
 
 // The example of RFC 4034, section 6.1.
-#[test]
-fn keys_stand_in_canonical_order(rt: HostRuntime) -> Result<(), Fail> {
-    let texts: [&[u8]; 9] = [
-        b"example.",
-        b"a.example.",
-        b"yljkjljk.a.example.",
-        b"Z.a.example.",
-        b"zABC.a.EXAMPLE.",
-        b"z.example.",
-        b"\\001.z.example.",
-        b"*.z.example.",
-        b"\\200.z.example.",
-    ];
-    let mut before = Key::of(&Name::root());
-    for text in texts {
-        let key = Key::of(&name(text)?);
-        let place = before.first_difference(&key).ok_or("no difference")?;
-        assert!(rt; before.at(place) < key.at(place));
-        assert!(rt; key.first_difference(&key).is_none());
-        before = key;
-    }
-    Ok(())
-}
+const RISING: &[&[u8]] = &[
+    b"example.",
+    b"a.example.",
+    b"yljkjljk.a.example.",
+    b"Z.a.example.",
+    b"zABC.a.EXAMPLE.",
+    b"z.example.",
+    b"\\001.z.example.",
+    b"*.z.example.",
+    b"\\200.z.example.",
+];
 
 #[test]
-fn a_key_leads_items_of_its_name(rt: HostRuntime) -> Result<(), Fail> {
-    let key = Key::of(&name(b"ns.example.")?);
-    let items: [(&[u8], bool); 6] = [
-        (b"\x02ns\x07example\0", true),
-        (b"\x02ns\x07example\0behind", true),
-        (b"\x02nS\x07example\0", false),
-        (b"\x02ns\x07example", false),
-        (b"\x07example\0", false),
-        (b"", false),
-    ];
+fn keys_stand_in_canonical_order(rt: HostRuntime) {
+    assert!(rt; rise(RISING));
+}
+
+// Whether the key of a name leads those items that are marked, and no other.
+fn leads_just(text: &[u8], items: &[(&[u8], bool)]) -> bool {
+    let Some(key) = key_of(text) else {
+        return false;
+    };
     for (item, want) in items {
-        assert_eq!(rt; key.leads(item), want);
+        if key.leads(item) != *want {
+            return false;
+        }
     }
-    Ok(())
+    true
 }
 
-// Where a key differs from the name in front of an item.
-fn difference_of(text: &[u8], item: &[u8]) -> Result<Option<Difference>, Fail> {
-    let key = Key::of(&name(text)?);
-    let other = Name::from_wire(item).ok_or("no name")?;
-    Ok(key.difference(other.wire()))
+const ITEMS: &[(&[u8], bool)] = &[
+    (b"\x02ns\x07example\0", true),
+    (b"\x02ns\x07example\0behind", true),
+    (b"\x02nS\x07example\0", false),
+    (b"\x02ns\x07example", false),
+    (b"\x07example\0", false),
+    (b"", false),
+];
+
+#[test]
+fn a_key_leads_items_of_its_name(rt: HostRuntime) {
+    assert!(rt; leads_just(b"ns.example.", ITEMS));
+}
+
+// Whether a name's key differs so from the name in front of an item.
+fn differs(text: &[u8], item: &[u8], want: Option<Difference>) -> bool {
+    let Some(key) = key_of(text) else {
+        return false;
+    };
+    match Name::from_wire(item) {
+        Some(other) => key.difference(other.wire()) == want,
+        None => false,
+    }
+}
+
+fn all_differ(rows: &[(&[u8], &[u8], Option<Difference>)]) -> bool {
+    for (text, item, want) in rows {
+        if !differs(text, item, *want) {
+            return false;
+        }
+    }
+    true
+}
+
+fn at(place: u16, position: u8) -> Option<Difference> {
+    Some(Difference { place, position })
+}
+
+// Whether a key that was another name's is a name's with these positions and this wire form.
+fn is_set_anew(key: &mut Key, text: &[u8], positions: &[u8], wire: &[u8]) -> bool {
+    match Name::read(text, &Name::root()) {
+        Ok(name) => {
+            key.set(&name);
+            has_positions(key, positions) && key.wire() == wire
+        }
+        Err(_) => false,
+    }
+}
+
+fn is_exchanged(text: &[u8], by: &[u8], positions: &[u8], wire: &[u8]) -> bool {
+    match key_of(text) {
+        Some(key) => {
+            let mut key = key;
+            is_set_anew(&mut key, by, positions, wire)
+        }
+        None => false,
+    }
 }
 
 #[test]
-fn keys_differ_from_names(rt: HostRuntime) -> Result<(), Fail> {
-    let at = |place, position| Some(Difference { place, position });
-    for (text, item, want) in [
-        (&b"ns.example."[..], &b"\x02ns\x07example\0"[..], None),
+fn keys_differ_from_names(rt: HostRuntime) {
+    let rows: [(&[u8], &[u8], Option<Difference>); 6] = [
+        (b"ns.example.", b"\x02ns\x07example\0", None),
         (b"ns.example.", b"\x02nt\x07example\0", at(9, 36)),
         (b"ns.example.", b"\x07example\0", at(8, 0)),
         (b"example.", b"\x02ns\x07example\0", at(8, 30)),
         (b"*.z.", b"\x01\x01\x01z\0", at(3, 2)),
         (b".", b"\0", None),
-    ] {
-        assert_eq!(rt; difference_of(text, item)?, want);
-    }
-    let mut key = Key::of(&name(b"a.very.long.name.example.")?);
-    key.set(&name(b"z.")?);
-    assert_eq!(rt; (key.len(), key.at(0), key.at(1), key.at(2)), (2, 42, 0, 0));
-    assert_eq!(rt; key.wire(), &b"\x01z\0"[..]);
-    Ok(())
+    ];
+    assert!(rt; all_differ(&rows));
+    assert!(rt; is_exchanged(b"a.very.long.name.example.", b"z.", &[42, 0], b"\x01z\0"));
 }

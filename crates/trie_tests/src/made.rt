@@ -1,8 +1,7 @@
-//! Names, items and numbers, made of texts while a test runs: a proof sees none of them.
+//! Items, made of texts while a test runs: a proof sees none of them.
 
 use dns_name::Name;
 use std::alloc::{AllocError, Global};
-use std::test::Fail;
 use trie_write::Item;
 
 /// So many octets.
@@ -14,28 +13,24 @@ pub(crate) fn octets(alloc: Global, count: usize) -> Result<Vec<u8>, AllocError>
     Ok(octets)
 }
 
-/// An item of the name that a text says.
-pub(crate) fn item(alloc: Global, text: &str, payload: &[u8]) -> Result<Item, Fail> {
-    let name = Name::read(text.as_bytes(), &Name::root())
-        .ok()
-        .ok_or("no name")?;
-    Ok(Item::of(alloc, &name, payload).ok().ok_or("no item")?)
+/// An item of the name that a text says. None where there is none, or for want of memory.
+pub(crate) fn item(alloc: Global, text: &[u8], payload: &[u8]) -> Option<Item> {
+    match Name::read(text, &Name::root()) {
+        Ok(name) => match Item::of(alloc, &name, payload) {
+            Ok(item) => Some(item),
+            Err(_) => None,
+        },
+        Err(_) => None,
+    }
 }
 
-/// Items of names with spaces between them.
-pub(crate) fn items(alloc: Global, names: &str, payload: &[u8]) -> Result<Vec<Item>, Fail> {
+/// Items of some names.
+pub(crate) fn items(alloc: Global, names: &[&[u8]], payload: &[u8]) -> Option<Vec<Item>> {
     let mut items = Vec::new(alloc);
-    for text in names.split_whitespace() {
-        items.push(item(alloc, text, payload)?)?;
+    for name in names {
+        if items.push(item(alloc, name, payload)?).is_err() {
+            return None;
+        }
     }
-    Ok(items)
-}
-
-/// Numbers with spaces between them.
-pub(crate) fn numbers(alloc: Global, text: &str) -> Result<Vec<u64>, Fail> {
-    let mut numbers = Vec::new(alloc);
-    for word in text.split_whitespace() {
-        numbers.push(word.parse::<u64>().ok().ok_or("no number")?)?;
-    }
-    Ok(numbers)
+    Some(items)
 }

@@ -9,14 +9,13 @@ ghost use Rattle.trie_write.specs.Entries.{entries_of_items};
 ghost use Rattle.trie_write.specs.Spaces.{Ready, Fenced};
 ghost use Rattle.trie_write.specs.Standing.{HasTrie};
 
-use crate::made::{items, numbers};
+use crate::made::items;
 use crate::room::unused_room;
 use chunk_cells::{CellRead, CellWrite};
 use chunk_usage::{Full, Space};
 use packed_node::Ref;
 use shift_key::Key;
-use std::alloc::{AllocError, Global};
-use std::test::Fail;
+use std::alloc::Global;
 use trie_read::{count, get, nodes};
 use trie_write::{Item, build, cells, delete, insert, replace};
 
@@ -117,15 +116,12 @@ fn change_each<C: CellWrite, U: Space>(
     Ok(root)
 }
 
-/// Items that come, are replaced by others of the same names, and go, each with how many nodes there are after each of them.
+/// Items that come, are replaced by others of the same names, and go.
 #[derive(Drop)]
 struct Rounds {
     first: Vec<Item>,
-    grown: Vec<u64>,
     second: Vec<Item>,
-    same: Vec<u64>,
     last: Vec<Item>,
-    shrunk: Vec<u64>,
 }
 
 /// The root once they have come and gone.
@@ -133,6 +129,7 @@ fn come_and_go<C: CellWrite, U: Space>(
     cells: &mut C,
     usage: &mut U,
     rounds: &Rounds,
+    dues: &NodesDue,
 ) -> Result<Option<Ref>, usize>
     requires uncounted { (k : ℕ) → (U.account usage.old).live k ≡ 0 }
     requires ready { Ready C.kept C.given U.account cells.old usage.old }
@@ -143,7 +140,7 @@ fn come_and_go<C: CellWrite, U: Space>(
         None,
         Change::Insert,
         &rounds.first,
-        &rounds.grown,
+        dues.grown,
     )?;
     let root = change_each(
         cells,
@@ -151,7 +148,7 @@ fn come_and_go<C: CellWrite, U: Space>(
         root,
         Change::Replace,
         &rounds.second,
-        &rounds.same,
+        dues.same,
     )?;
     change_each(
         cells,
@@ -159,44 +156,72 @@ fn come_and_go<C: CellWrite, U: Space>(
         root,
         Change::Delete,
         &rounds.last,
-        &rounds.shrunk,
+        dues.shrunk,
     )
 }
 
+/// How many nodes there are after each of them.
+struct NodesDue {
+    grown: &'static [u64],
+    same: &'static [u64],
+    shrunk: &'static [u64],
+}
+
+const NODES_DUE: NodesDue = NodesDue {
+    grown: &[
+        1, 3, 4, 5, 7, 9, 10, 11, 13, 14, 15, 16, 17, 18, 19, 20, 21, 22, 23, 24,
+    ],
+    same: &[24; 20],
+    shrunk: &[
+        23, 22, 21, 20, 18, 17, 15, 14, 13, 12, 11, 10, 9, 8, 7, 5, 4, 3, 1, 0,
+    ],
+};
+
 /// Twenty names, in the order of their keys.
-const RISING: &str = "a. a.a. b.a. c.a. b. bb. bc. c. x.c. y.c. d. e. f. g. h. i. j. k. l. m.";
+const RISING: [&[u8]; 20] = [
+    b"a.", b"a.a.", b"b.a.", b"c.a.", b"b.", b"bb.", b"bc.", b"c.", b"x.c.", b"y.c.", b"d.", b"e.",
+    b"f.", b"g.", b"h.", b"i.", b"j.", b"k.", b"l.", b"m.",
+];
 
 /// The same in another order.
-const MIXED: &str = "a. c. h. a.a. x.c. i. b.a. y.c. j. c.a. d. k. b. e. l. bb. f. m. bc. g.";
+const MIXED: [&[u8]; 20] = [
+    b"a.", b"c.", b"h.", b"a.a.", b"x.c.", b"i.", b"b.a.", b"y.c.", b"j.", b"c.a.", b"d.", b"k.",
+    b"b.", b"e.", b"l.", b"bb.", b"f.", b"m.", b"bc.", b"g.",
+];
 
-fn twenty_names(alloc: Global) -> Result<Rounds, Fail> {
-    Ok(Rounds {
-        first: items(alloc, RISING, b"1")?,
-        grown: numbers(
-            alloc,
-            "1 3 4 5 7 9 10 11 13 14 15 16 17 18 19 20 21 22 23 24",
-        )?,
-        second: items(alloc, RISING, b"a longer payload than before")?,
-        same: numbers(
-            alloc,
-            "24 24 24 24 24 24 24 24 24 24 24 24 24 24 24 24 24 24 24 24",
-        )?,
-        last: items(alloc, MIXED, b"")?,
-        shrunk: numbers(alloc, "23 22 21 20 18 17 15 14 13 12 11 10 9 8 7 5 4 3 1 0")?,
+fn rounds_of(alloc: Global, rising: &[&[u8]], mixed: &[&[u8]]) -> Option<Rounds> {
+    let first = items(alloc, rising, b"1")?;
+    let second = items(alloc, rising, b"a longer payload than before")?;
+    let last = items(alloc, mixed, b"")?;
+    Some(Rounds {
+        first,
+        second,
+        last,
     })
 }
 
+/// Whether all of them are gone in the end.
+fn all_go(alloc: Global, rounds: &Rounds, dues: &NodesDue) -> bool {
+    match unused_room(alloc, 16) {
+        Ok((memory, usage)) => {
+            let (mut memory, mut usage) = (memory, usage);
+            matches!(come_and_go(&mut memory, &mut usage, rounds, dues), Ok(None))
+        }
+        Err(_) => false,
+    }
+}
+
 #[test]
-fn twenty_names_come_and_go(rt: HostRuntime) -> Result<(), Fail> {
-    let rounds = twenty_names(rt.alloc())?;
-    let (mut memory, mut usage) = unused_room(rt.alloc(), 16)?;
-    let root = come_and_go(&mut memory, &mut usage, &rounds);
-    assert_eq!(rt; root, Ok(None));
-    Ok(())
+fn twenty_names_come_and_go(rt: HostRuntime) {
+    let gone = match rounds_of(rt.alloc(), &RISING, &MIXED) {
+        Some(rounds) => all_go(rt.alloc(), &rounds, &NODES_DUE),
+        None => false,
+    };
+    assert!(rt; gone);
 }
 
 /// Whether a key comes before another.
-fn comes_before(key: &Key, other: &Key) -> bool
+pub(crate) fn comes_before(key: &Key, other: &Key) -> bool
     ensures { IsTrue result → Less key.now other.now }
 {
     match key.first_difference(other) {
@@ -233,22 +258,47 @@ fn sizes<C: CellWrite, U: Space>(
     Ok((names, nodes(cells, root)))
 }
 
-/// The same in a room of its own, with how many cells of its first chunk count in the end.
-fn sizes_alone(alloc: Global, items: &[Item]) -> Result<(Result<(u64, u64), Full>, u32), AllocError>
-    requires { Rises (entries_of_items items.now) }
-{
-    let (mut memory, mut usage) = unused_room(alloc, 16)?;
+/// What a trie of some names has: how many cells are said to be needed, its names and nodes, and how many cells of its first chunk count.
+#[derive(Clone, Copy)]
+struct Built {
+    needed: u64,
+    sizes: Result<(u64, u64), Full>,
+    live: u32,
+}
+
+/// Some names in a room of their own. None where they don't rise, or for want of memory.
+fn built_alone(alloc: Global, items: &[Item]) -> Option<Built> {
+    let Ok((memory, usage)) = unused_room(alloc, 16) else {
+        return None;
+    };
+    let (mut memory, mut usage) = (memory, usage);
+    if !rise(items) {
+        return None;
+    }
+    let needed = cells(items);
     let sizes = sizes(&mut memory, &mut usage, items);
-    Ok((sizes, usage.live(0)))
+    let live = usage.live(0);
+    Some(Built {
+        needed,
+        sizes,
+        live,
+    })
+}
+
+/// Whether there is one cell for each node and each item.
+fn are_built(alloc: Global, names: &[&[u8]]) -> bool {
+    match items(alloc, names, b"1") {
+        Some(items) => match built_alone(alloc, &items) {
+            Some(built) => {
+                built.needed == 44 && built.live == 44 && matches!(built.sizes, Ok((20, 24)))
+            }
+            None => false,
+        },
+        None => false,
+    }
 }
 
 #[test]
-fn twenty_names_are_built(rt: HostRuntime) -> Result<(), Fail> {
-    let items = items(rt.alloc(), RISING, b"1")?;
-    assert!(rt; rise(&items));
-    // One cell for each node and each item.
-    assert_eq!(rt; cells(&items), 44);
-    let sizes = sizes_alone(rt.alloc(), &items)?;
-    assert_eq!(rt; sizes, (Ok((20, 24)), 44));
-    Ok(())
+fn twenty_names_are_built(rt: HostRuntime) {
+    assert!(rt; are_built(rt.alloc(), &RISING));
 }

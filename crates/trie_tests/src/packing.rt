@@ -1,38 +1,74 @@
 //! Nodes, packed into cells and read back.
-ghost use Rattle.std.specs.Prelude.{◌≡◌};
-ghost use Rattle.packed_node.specs.Nodes.{IsNode};
 
 use packed_node::{Branch, Cell, Leaf, Node, bitmap, chunk_of, unpack};
 
-fn packed_and_read(node: Node) -> Node
-    requires { IsNode node }
-    ensures { result ≡ node }
-{
-    Node::of(node.pack())
+/// Whether a cell says this node, which is packed into it and read back.
+fn says(cell: Cell, node: Node) -> bool {
+    match unpack(cell) {
+        Some(found) => {
+            let packed = found.pack();
+            found == node && packed == cell && Node::of(packed) == node
+        }
+        None => false,
+    }
+}
+
+/// Whether a branch has twigs at these positions, or none, and so many at smaller ones.
+fn has_twigs(branch: Branch, rows: &[(u8, bool, u32)]) -> bool {
+    for (position, there, index) in rows {
+        if *position >= 47
+            || branch.has_twig(*position) != *there
+            || branch.twig_index(*position) != *index
+        {
+            return false;
+        }
+    }
+    true
 }
 
 #[test]
 fn a_branch_is_packed_by_its_layout(rt: HostRuntime) {
     let bitmap = bitmap::with(bitmap::pair(0, 30), 39);
+    assert!(rt; bitmap::without(bitmap, 30) == bitmap::pair(39, 0));
     let branch = Branch {
         offset: 8,
         bitmap,
         twigs: 5127,
     };
-    assert_eq!(rt; bitmap.count_ones(), 3);
-    let cell = Node::Branch(branch).pack();
-    assert_eq!(rt; cell.big, 0x0010_0201_0000_0005);
-    assert_eq!(rt; cell.small, 5127);
-    assert_eq!(rt; chunk_of(branch.twigs), 5);
-    assert_eq!(rt; packed_and_read(Node::Branch(branch)), Node::Branch(branch));
-    assert_eq!(rt; unpack(cell), Some(Node::Branch(branch)));
-    assert_eq!(rt; branch.twig_count(), 3);
-    for (position, there, index) in [(0, true, 0), (1, false, 1), (30, true, 1), (39, true, 2)] {
-        assert_eq!(rt; branch.has_twig(position), there, "at {position}");
-        assert_eq!(rt; branch.twig_index(position), index, "at {position}");
-    }
-    assert_eq!(rt; bitmap::without(bitmap, 30), bitmap::pair(39, 0));
+    let cell = Cell {
+        big: 0x0010_0201_0000_0005,
+        small: 5127,
+    };
+    assert!(rt; says(cell, Node::Branch(branch)));
+    assert!(rt; chunk_of(branch.twigs) == 5);
+    assert!(rt; bitmap.count_ones() == 3 && branch.twig_count() == 3);
+    let rows = [(0, true, 0), (1, false, 1), (30, true, 1), (39, true, 2)];
+    assert!(rt; has_twigs(branch, &rows));
 }
+
+fn are_no_nodes(cells: &[(u64, u64)]) -> bool {
+    for (big, small) in cells {
+        let cell = Cell {
+            big: *big,
+            small: *small,
+        };
+        if unpack(cell).is_some() {
+            return false;
+        }
+    }
+    true
+}
+
+// No length, one too long, two tags that mean nothing, one twig, an offset too large, a place past the last.
+const NO_NODES: &[(u64, u64)] = &[
+    (0, 0),
+    (4 * 4097, 0),
+    (2, 0),
+    (3, 0),
+    (5, 0),
+    (504 << 49 | 13, 0),
+    (4, 1 << 22),
+];
 
 #[test]
 fn other_words_are_no_node(rt: HostRuntime) {
@@ -40,19 +76,10 @@ fn other_words_are_no_node(rt: HostRuntime) {
         len: 28,
         at: 4_194_303,
     };
-    let cell = Node::Leaf(leaf).pack();
-    assert_eq!(rt; (cell.big, cell.small), (112, 4_194_303));
-    assert_eq!(rt; packed_and_read(Node::Leaf(leaf)), Node::Leaf(leaf));
-    assert_eq!(rt; unpack(cell), Some(Node::Leaf(leaf)));
-    // No length, one too long, two tags that mean nothing, one twig, an offset too large.
-    for big in [0, 4 * 4097, 2, 3, 5, 504 << 49 | 13] {
-        assert_eq!(rt; unpack(Cell { big, small: 0 }), None, "{big:x}");
-    }
-    assert_eq!(rt;
-        unpack(Cell {
-            big: 4,
-            small: 1 << 22
-        }),
-        None
-    );
+    let cell = Cell {
+        big: 112,
+        small: 4_194_303,
+    };
+    assert!(rt; says(cell, Node::Leaf(leaf)));
+    assert!(rt; are_no_nodes(NO_NODES));
 }

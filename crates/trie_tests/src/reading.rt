@@ -1,6 +1,6 @@
 //! A trie of the two names a. and b., written cell by cell.
 
-ghost use Rattle.std.specs.Prelude.{◌≡◌, ◌≤◌, ◌∷◌, [], Some, true};
+ghost use Rattle.std.specs.Prelude.{◌≡◌, ◌≤◌, ◌∷◌, [], Some, true, IfOk};
 ghost use Rattle.trie_model.specs.Memory.{Stands};
 ghost use Rattle.zone_model.specs.Keys.{Leads};
 ghost use Rattle.trie_read.specs.Reads.{EachTells};
@@ -10,8 +10,14 @@ use chunk_cells::{CellRead, CellWrite, PlainCells, write_item};
 use dns_name::Name;
 use packed_node::{Branch, Leaf, Node, bitmap};
 use shift_key::Key;
+use std::alloc::{AllocError, Global};
 use std::test::Fail;
 use trie_read::{Ancestors, CellReading, Iter, Kind, Reading, count, find, get, nodes};
+
+/// The leaves of the two names.
+const A: Leaf = Leaf { len: 3, at: 3 };
+
+const B: Leaf = Leaf { len: 3, at: 4 };
 
 /// Writes the trie into the first chunk, with the root at its beginning.
 fn write_two_names(cells: &mut PlainCells)
@@ -19,32 +25,65 @@ fn write_two_names(cells: &mut PlainCells)
     ensures stands { Stands (⟦<PlainCells as CellRead>⟧.has cells.new) (Some 0) two_names }
     ensures told { EachTells Leads two_names }
 {
-    let first = Leaf { len: 3, at: 3 };
-    let second = Leaf { len: 3, at: 4 };
     let branch = Branch {
         offset: 0,
         bitmap: bitmap::pair(17, 18),
         twigs: 1,
     };
-    write_item(cells, first.at, b"\x01a\0");
-    write_item(cells, second.at, b"\x01b\0");
-    cells.put(1, Node::Leaf(first).pack());
-    cells.put(2, Node::Leaf(second).pack());
+    write_item(cells, A.at, b"\x01a\0");
+    write_item(cells, B.at, b"\x01b\0");
+    cells.put(1, Node::Leaf(A).pack());
+    cells.put(2, Node::Leaf(B).pack());
     cells.put(0, Node::Branch(branch).pack());
+}
+
+/// Cells with the trie.
+fn example(alloc: Global) -> Result<PlainCells, AllocError>
+    ensures stands { IfOk result (λ cells. Stands (⟦<PlainCells as CellRead>⟧.has cells) (Some 0) two_names) }
+    ensures told { IfOk result (λ _. EachTells Leads two_names) }
+{
+    let mut cells = PlainCells::new(alloc, 1)?;
+    cells.give(0);
+    write_two_names(&mut cells);
+    Ok(cells)
+}
+
+/// Whether this is the leaf of a name in wire form.
+fn is_got(cells: &mut PlainCells, wire: &[u8], leaf: Option<Leaf>) -> bool
+    requires stands { Stands (⟦<PlainCells as CellRead>⟧.has cells.old) (Some 0) two_names }
+    requires told { EachTells Leads two_names }
+    ensures { cells.new ≡ cells.old }
+{
+    match Name::from_wire(wire) {
+        Some(name) => get(cells, Some(0), &Key::of(&name)) == leaf,
+        None => false,
+    }
+}
+
+/// Whether there are two names, and three nodes.
+fn is_counted(cells: &mut PlainCells) -> bool
+    requires stands { Stands (⟦<PlainCells as CellRead>⟧.has cells.old) (Some 0) two_names }
+    requires told { EachTells Leads two_names }
+    ensures { cells.new ≡ cells.old }
+{
+    let names = count(cells, Some(0));
+    let all = nodes(cells, Some(0));
+    names == 2 && all == 3
+}
+
+fn are_got_and_counted(cells: PlainCells) -> bool
+    requires stands { Stands (⟦<PlainCells as CellRead>⟧.has cells) (Some 0) two_names }
+    requires told { EachTells Leads two_names }
+{
+    let mut cells = cells;
+    let there = is_got(&mut cells, b"\x01b\0", Some(B));
+    let absent = is_got(&mut cells, b"\x01c\0", None);
+    there && absent && is_counted(&mut cells)
 }
 
 #[test]
 fn two_names_are_found_and_counted(rt: HostRuntime) -> Result<(), Fail> {
-    let mut cells = PlainCells::new(rt.alloc(), 1)?;
-    cells.give(0);
-    write_two_names(&mut cells);
-    let root = Some(0);
-    let b = Key::of(&Name::from_wire(b"\x01b\0").ok_or("no name")?);
-    assert_eq!(rt; get(&mut cells, root, &b), Some(Leaf { len: 3, at: 4 }));
-    let c = Key::of(&Name::from_wire(b"\x01c\0").ok_or("no name")?);
-    assert_eq!(rt; get(&mut cells, root, &c), None);
-    assert_eq!(rt; count(&mut cells, root), 2);
-    assert_eq!(rt; nodes(&mut cells, root), 3);
+    assert!(rt; are_got_and_counted(example(rt.alloc())?));
     Ok(())
 }
 
@@ -71,49 +110,118 @@ fn is_found(cells: &mut PlainCells, wire: &[u8], kind: Kind, names: u8, pred: &[
     kind_found == kind && len == names && is_pred != is_first && is_first == pred.is_empty()
 }
 
+/// What is found for a name in wire form: the kind, the number of names above, and the last name that isn't behind it.
+type Neighbours = (&'static [u8], Kind, u8, &'static [u8]);
+
+fn are_neighbours(cells: PlainCells, rows: &[Neighbours]) -> bool
+    requires stands { Stands (⟦<PlainCells as CellRead>⟧.has cells) (Some 0) two_names }
+    requires told { EachTells Leads two_names }
+{
+    let mut cells = cells;
+    for (wire, kind, names, pred) in rows {
+        if !is_found(&mut cells, wire, *kind, *names, pred) {
+            return false;
+        }
+    }
+    true
+}
+
+const NEIGHBOURS: &[Neighbours] = &[
+    (b"\x01b\0", Kind::Exact, 1, b"\x01b\0"),
+    (b"\x01x\x01a\0", Kind::Partial, 1, b"\x01a\0"),
+    (b"\x01x\x01b\0", Kind::Partial, 1, b"\x01b\0"),
+    (b"\x02aa\0", Kind::Absent, 0, b"\x01a\0"),
+    (b"\x01c\0", Kind::Absent, 0, b"\x01b\0"),
+    (b"\0", Kind::Absent, 0, b""),
+];
+
 #[test]
 fn neighbours_are_found(rt: HostRuntime) -> Result<(), Fail> {
-    let mut cells = PlainCells::new(rt.alloc(), 1)?;
-    cells.give(0);
-    write_two_names(&mut cells);
-    for (wire, kind, names, pred) in [
-        (&b"\x01b\0"[..], Kind::Exact, 1, &b"\x01b\0"[..]),
-        (b"\x01x\x01a\0", Kind::Partial, 1, b"\x01a\0"),
-        (b"\x01x\x01b\0", Kind::Partial, 1, b"\x01b\0"),
-        (b"\x02aa\0", Kind::Absent, 0, b"\x01a\0"),
-        (b"\x01c\0", Kind::Absent, 0, b"\x01b\0"),
-        (b"\0", Kind::Absent, 0, b""),
-    ] {
-        assert!(rt; is_found(&mut cells, wire, kind, names, pred));
-    }
+    assert!(rt; are_neighbours(example(rt.alloc())?, NEIGHBOURS));
     Ok(())
 }
 
-/// The leaf of the name, how many names are at or above it, and the leaves before and after its place.
-#[test]
-fn a_look_up_gives_all(rt: HostRuntime) -> Result<(), Fail> {
-    let mut cells = PlainCells::new(rt.alloc(), 1)?;
-    cells.give(0);
-    write_two_names(&mut cells);
-    let a = Leaf { len: 3, at: 3 };
-    let b = Leaf { len: 3, at: 4 };
+/// What a look-up gives.
+#[derive(Clone, Copy)]
+struct Place {
+    /// The name's leaf.
+    leaf: Option<Leaf>,
+    /// The last of the names at or above it, and how many labels that has.
+    last: Option<(Leaf, u8)>,
+    /// The leaves before and after its place.
+    before: Option<Leaf>,
+    after: Option<Leaf>,
+}
+
+fn are_same(place: Place, other: Place) -> bool {
+    place.leaf == other.leaf
+        && place.last == other.last
+        && place.before == other.before
+        && place.after == other.after
+}
+
+fn seen(
+    leaf: Option<Leaf>,
+    last: Option<(Leaf, u8)>,
+    before: Option<Leaf>,
+    after: Option<Leaf>,
+) -> Place {
+    Place {
+        leaf,
+        last,
+        before,
+        after,
+    }
+}
+
+fn last_of(above: &Ancestors) -> Option<(Leaf, u8)> {
+    match above.as_slice().last() {
+        Some(name) => Some((name.leaf, name.labels)),
+        None => None,
+    }
+}
+
+/// Whether look-ups one after another give these.
+fn looks_up(cells: PlainCells, rows: &[(&[u8], Place)]) -> bool
+    requires stands { Stands (⟦<PlainCells as CellRead>⟧.has cells) (Some 0) two_names }
+    requires told { EachTells Leads two_names }
+{
+    let mut cells = cells;
     let mut key = Key::root();
     let mut above = Ancestors::new();
     let mut place = Iter::start(Some(0));
-    for (wire, leaf, names, before, after) in [
-        (&b"\x01b\0"[..], Some(b), Some((b, 1)), Some(a), Some(b)),
-        (b"\x01x\x01a\0", None, Some((a, 1)), Some(a), Some(b)),
-        (b"\x02aa\0", None, None, Some(a), Some(b)),
-        (b"\0", None, None, None, Some(a)),
-        (b"\x01c\0", None, None, Some(b), None),
-    ] {
-        key.set(&Name::from_wire(wire).ok_or("no name")?);
-        assert_eq!(rt; place.lookup(&mut cells, &key, &mut above), leaf);
-        let last = above.as_slice().last();
-        assert_eq!(rt; last.map(|name| (name.leaf, name.labels)), names);
-        assert_eq!(rt; place.behind(&mut cells), before);
-        assert_eq!(rt; place.ahead(&mut cells), after);
+    for (wire, want) in rows {
+        let Some(name) = Name::from_wire(wire) else {
+            return false;
+        };
+        key.set(&name);
+        let leaf = place.lookup(&mut cells, &key, &mut above);
+        let before = place.behind(&mut cells);
+        let after = place.ahead(&mut cells);
+        let last = last_of(&above);
+        let found = Place {
+            leaf,
+            last,
+            before,
+            after,
+        };
+        if !are_same(found, *want) {
+            return false;
+        }
     }
+    true
+}
+
+#[test]
+fn a_look_up_gives_all(rt: HostRuntime) -> Result<(), Fail> {
+    let rows: [(&[u8], Place); 5] = [
+        (b"\x01b\0", seen(Some(B), Some((B, 1)), Some(A), Some(B))),
+        (b"\x01x\x01a\0", seen(None, Some((A, 1)), Some(A), Some(B))),
+        (b"\x02aa\0", seen(None, None, Some(A), Some(B))),
+        (b"\0", seen(None, None, None, Some(A))),
+        (b"\x01c\0", seen(None, None, Some(B), None)),
+    ];
+    assert!(rt; looks_up(example(rt.alloc())?, &rows));
     Ok(())
 }
 
@@ -138,22 +246,58 @@ fn comes_last<R: Reading>(reading: &mut R, key: &Key, last: &[u8]) -> bool
     is_key_of(reading.prev(&mut iter), last)
 }
 
+/// Whether a name has no item, and lies under one that has.
+fn is_below<R: Reading>(reading: &mut R, key: &Key) -> bool
+    requires { R.holds reading.old two_names }
+    ensures { reading.new ≡ reading.old }
+{
+    let mut item = [0; 4096];
+    let fetched = reading.fetch(key, &mut item);
+    let kind = reading.find(key).kind;
+    fetched.is_none() && kind == Kind::Partial
+}
+
+/// Whether a name has this item, with nothing behind it in the array.
+fn is_fetched<R: Reading>(reading: &mut R, key: &Key, want: &[u8]) -> bool
+    requires { R.holds reading.old two_names }
+    ensures { reading.new ≡ reading.old }
+{
+    let mut item = [0; 4096];
+    match reading.fetch(key, &mut item) {
+        Some(len) => &item[..len] == want && item[len..].first() == Some(&0),
+        None => false,
+    }
+}
+
+/// Whether a version of number 7 has two names, and three nodes.
+fn is_seventh<R: Reading>(reading: &mut R) -> bool
+    requires { R.holds reading.old two_names }
+    ensures { reading.new ≡ reading.old }
+{
+    let number = reading.version();
+    let names = reading.count();
+    let all = reading.nodes();
+    number == 7 && names == 2 && all == 3
+}
+
+/// Whether a reading gives all this, of a name between the two and the second.
+fn reads<R: Reading>(reading: &mut R, between: &[u8], second: &[u8]) -> bool
+    requires { R.holds reading.old two_names }
+{
+    let (Some(middle), Some(last)) = (Name::from_wire(between), Name::from_wire(second)) else {
+        return false;
+    };
+    let middle = Key::of(&middle);
+    is_seventh(reading)
+        && walks_over(reading, b"\x01a\0", second)
+        && comes_last(reading, &middle, b"\x01a\0")
+        && is_below(reading, &middle)
+        && is_fetched(reading, &Key::of(&last), second)
+}
+
 #[test]
 fn a_version_is_read(rt: HostRuntime) -> Result<(), Fail> {
-    let mut cells = PlainCells::new(rt.alloc(), 1)?;
-    cells.give(0);
-    write_two_names(&mut cells);
-    let mut reading = CellReading::new(cells, Some(0), 7);
-    assert_eq!(rt; reading.version(), 7);
-    assert!(rt; walks_over(&mut reading, b"\x01a\0", b"\x01b\0"));
-    let between = Key::of(&Name::from_wire(b"\x01x\x01a\0").ok_or("no name")?);
-    assert!(rt; comes_last(&mut reading, &between, b"\x01a\0"));
-    assert_eq!(rt; (reading.count(), reading.nodes()), (2, 3));
-    assert_eq!(rt; reading.find(&between).kind, Kind::Partial);
-    let mut item = [0; 4096];
-    assert_eq!(rt; reading.fetch(&between, &mut item), None);
-    let b = Key::of(&Name::from_wire(b"\x01b\0").ok_or("no name")?);
-    assert_eq!(rt; reading.fetch(&b, &mut item), Some(3));
-    assert!(rt; item[..4] == b"\x01b\0\0"[..]);
+    let mut reading = CellReading::new(example(rt.alloc())?, Some(0), 7);
+    assert!(rt; reads(&mut reading, b"\x01x\x01a\0", b"\x01b\0"));
     Ok(())
 }

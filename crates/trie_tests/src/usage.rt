@@ -7,6 +7,7 @@ use crate::room::unused_room;
 use chunk_cells::{CellWrite, PlainCells};
 use chunk_usage::{Full, Grant, Space, Usage};
 use packed_node::Ref;
+use std::alloc::{AllocError, Global};
 use std::test::Fail;
 
 /// Whether the cells of these chunks are handed out in fours of 256, the first of which comes with the chunk.
@@ -43,31 +44,52 @@ fn release_quarter(usage: &mut Usage, chunk: u32)
     }
 }
 
+/// Whether there is no room for a cell, with the reserve or without it, and so many chunks are free.
+fn is_full(usage: &mut Usage, reserve: bool, free: u32) -> bool {
+    match granted(usage, 1, reserve) {
+        Ok(_) => false,
+        Err(full) => full.needed == 1 && full.left == 0 && full.free == free && full.reserve == 4,
+    }
+}
+
+/// Hands out 12 of the 16 chunks.
+fn leaves_the_reserve(usage: &mut Usage) -> bool {
+    fills(usage, 0, 12, false)
+        && is_full(usage, false, 4)
+        && !usage.is_free(11)
+        && usage.is_free(12)
+}
+
+/// The reserve is four chunks.
+fn hands_out_the_reserve(usage: &mut Usage) -> bool {
+    release_quarter(usage, 11);
+    usage.live(10) == 1024
+        && usage.live(11) == 768
+        && fills(usage, 12, 16, true)
+        && is_full(usage, true, 0)
+        && usage.sparse() == 0
+}
+
+/// All chunks are sparse but the last, which cells are handed out from.
+fn releases_all(usage: &mut Usage) -> bool {
+    usage.release_all();
+    usage.live(10) == 0 && usage.sparse() == 15 && usage.is_sparse(14) && !usage.is_sparse(15)
+}
+
+fn hands_out_all(usage: Usage) -> bool {
+    let mut usage = usage;
+    usage.chunks() == 16
+        && usage.free() == 16
+        && usage.reserve() == 4
+        && leaves_the_reserve(&mut usage)
+        && hands_out_the_reserve(&mut usage)
+        && releases_all(&mut usage)
+}
+
 #[test]
 fn cells_are_handed_out_until_the_reserve_is_left(rt: HostRuntime) -> Result<(), Fail> {
-    let (_, mut usage) = unused_room(rt.alloc(), 16)?;
-    assert!(rt; (usage.chunks(), usage.free(), usage.reserve()) == (16, 16, 4));
-    // 12 of the 16 chunks are handed out.
-    assert!(rt; fills(&mut usage, 0, 12, false));
-    let full = Full {
-        needed: 1,
-        left: 0,
-        free: 4,
-        reserve: 4,
-    };
-    assert!(rt; granted(&mut usage, 1, false) == Err(full));
-    assert!(rt; !usage.is_free(11) && usage.is_free(12));
-    release_quarter(&mut usage, 11);
-    assert!(rt; (usage.live(10), usage.live(11)) == (1024, 768));
-    // The reserve is four chunks.
-    assert!(rt; fills(&mut usage, 12, 16, true));
-    let full = Full { free: 0, ..full };
-    assert!(rt; granted(&mut usage, 1, true) == Err(full));
-    assert!(rt; usage.sparse() == 0);
-    usage.release_all();
-    // All but the last, which cells are handed out from.
-    assert!(rt; (usage.live(10), usage.sparse()) == (0, 15));
-    assert!(rt; usage.is_sparse(14) && !usage.is_sparse(15));
+    let (_, usage) = unused_room(rt.alloc(), 16)?;
+    assert!(rt; hands_out_all(usage));
     Ok(())
 }
 
@@ -135,8 +157,8 @@ fn take(usage: &mut Usage, cells: &mut PlainCells, n: u32) -> Ref
     }
 }
 
-/// The first of the calls that doesn't answer the number beside it.
-fn first_wrong(usage: &mut Usage, cells: &mut PlainCells, calls: &[(Call, u32)]) -> Option<usize>
+/// Whether the calls answer the numbers beside them.
+fn answers(usage: &mut Usage, cells: &mut PlainCells, calls: &[(Call, u32)]) -> bool
     requires same { ⟦<PlainCells as CellWrite>⟧.given cells.old ≡ usage.old.given }
     ensures same { ⟦<PlainCells as CellWrite>⟧.given cells.new ≡ usage.new.given }
     ensures rows { usage.new.rows ≡ usage.old.rows }
@@ -145,55 +167,64 @@ fn first_wrong(usage: &mut Usage, cells: &mut PlainCells, calls: &[(Call, u32)])
     for i in 0..calls.len() {
         let (call, due) = calls[i];
         if answer(usage, cells, call) != due {
-            return Some(i);
+            return false;
         }
     }
-    None
+    true
+}
+
+const FIRST_VERSION: &[(Call, u32)] = &[(Call::Take(100), 0)];
+
+const SECOND_VERSION: &[(Call, u32)] = &[
+    (Call::IsFresh(99), 0),
+    (Call::IsFresh(100), 1),
+    (Call::IsFresh(1024), 0),
+    // A version that is given up: its chunk holds nothing.
+    (Call::Take(50), 100),
+    (Call::StartChunk, 0),
+    (Call::Take(5), 1024),
+    (Call::IsFresh(99), 0),
+    (Call::IsFresh(100), 1),
+    (Call::IsFresh(1024), 1),
+    (Call::Restore, 0),
+    (Call::Live(0), 100),
+    (Call::Live(1), 0),
+    (Call::Left, 14),
+    (Call::FreeUnreached, 1),
+    (Call::Left, 15),
+    (Call::IsFree(1), 1),
+    // The cells behind the last version's are handed out again.
+    (Call::Take(7), 100),
+    // A new version has nothing in the first chunk, and the old one goes.
+    (Call::ReleaseAll, 0),
+    (Call::StartChunk, 0),
+    (Call::Take(9), 1024),
+];
+
+const WITH_BOTH: &[(Call, u32)] = &[(Call::FreeUnreached, 0)];
+
+const WITHOUT_FIRST: &[(Call, u32)] = &[
+    (Call::FreeUnreached, 1),
+    (Call::IsFree(0), 1),
+    (Call::Live(0), 0),
+    (Call::Live(1), 9),
+    (Call::Left, 15),
+];
+
+/// Whether chunks are given back when no version has them.
+fn gives_back(alloc: Global) -> Result<bool, AllocError> {
+    let (mut cells, mut usage) = unused_room(alloc, 16)?;
+    let first = answers(&mut usage, &mut cells, FIRST_VERSION);
+    usage.freeze(0);
+    let second = answers(&mut usage, &mut cells, SECOND_VERSION);
+    usage.freeze(1);
+    let both = answers(&mut usage, &mut cells, WITH_BOTH);
+    usage.drop_version(0);
+    Ok(first && second && both && answers(&mut usage, &mut cells, WITHOUT_FIRST))
 }
 
 #[test]
 fn chunks_are_given_back_when_no_version_has_them(rt: HostRuntime) -> Result<(), Fail> {
-    let (mut cells, mut usage) = unused_room(rt.alloc(), 16)?;
-    let calls = [(Call::Take(100), 0)];
-    assert_eq!(rt; first_wrong(&mut usage, &mut cells, &calls), None);
-    usage.freeze(0);
-    let calls = [
-        (Call::IsFresh(99), 0),
-        (Call::IsFresh(100), 1),
-        (Call::IsFresh(1024), 0),
-        // A version that is given up: its chunk holds nothing.
-        (Call::Take(50), 100),
-        (Call::StartChunk, 0),
-        (Call::Take(5), 1024),
-        (Call::IsFresh(99), 0),
-        (Call::IsFresh(100), 1),
-        (Call::IsFresh(1024), 1),
-        (Call::Restore, 0),
-        (Call::Live(0), 100),
-        (Call::Live(1), 0),
-        (Call::Left, 14),
-        (Call::FreeUnreached, 1),
-        (Call::Left, 15),
-        (Call::IsFree(1), 1),
-        // The cells behind the last version's are handed out again.
-        (Call::Take(7), 100),
-        // A new version has nothing in the first chunk, and the old one goes.
-        (Call::ReleaseAll, 0),
-        (Call::StartChunk, 0),
-        (Call::Take(9), 1024),
-    ];
-    assert_eq!(rt; first_wrong(&mut usage, &mut cells, &calls), None);
-    usage.freeze(1);
-    let calls = [(Call::FreeUnreached, 0)];
-    assert_eq!(rt; first_wrong(&mut usage, &mut cells, &calls), None);
-    usage.drop_version(0);
-    let calls = [
-        (Call::FreeUnreached, 1),
-        (Call::IsFree(0), 1),
-        (Call::Live(0), 0),
-        (Call::Live(1), 9),
-        (Call::Left, 15),
-    ];
-    assert_eq!(rt; first_wrong(&mut usage, &mut cells, &calls), None);
+    assert!(rt; gives_back(rt.alloc())?);
     Ok(())
 }

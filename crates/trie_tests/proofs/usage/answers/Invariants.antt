@@ -1,5 +1,5 @@
 use Rattle.std.proofs.Common.{◌≡◌}
-use Rattle.trie_tests.proofs.usage.first_wrong.Given as goal
+use Rattle.trie_tests.proofs.usage.answers.Given as goal
 
 abbrev pub invariant-loop-i : goal.invariant-loop-i
 invariant-loop-i l = record {

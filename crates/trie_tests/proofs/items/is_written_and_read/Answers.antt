@@ -1,7 +1,7 @@
 use Rattle.std.proofs.Common.{◌≡◌, ℕ, ◌+◌, Some, slice_get, subst, sym, ◌∙◌, arith}
 use Rattle.packed_node.specs.declared.Cell.{Cell}
 use Rattle.chunk_cells.specs.declared.plain.PlainCells.{PlainCells}
-use Rattle.trie_tests.proofs.items.write_and_read.Goals as goal
+use Rattle.trie_tests.proofs.items.is_written_and_read.Goals as goal
 
 -- a cell that was there is there still
 stays : (old new : PlainCells) (r : ℕ) (x : Cell) → new ≡ old → slice_get old.cells.items r ≡ Some x → (y : Cell) × (slice_get new.cells.items r ≡ Some y)
