@@ -1,7 +1,7 @@
 //! Sixteen workers beside each other on a table that is too small for all that they write.
 use dns_name::Name;
 use job_script::{Cause, Outcomes, Told, read_job};
-use job_threads::{Finished, Gate, Ran, run_zone};
+use job_threads::{Finished, Gate, Ran, run_zone, table_for};
 use std::alloc::{AllocError, Global};
 use std::sync::Wait;
 use std::test::Fail;
@@ -79,7 +79,8 @@ fn run_script<R: Threads + Wait + Sync>(
     let Ok(job) = read_job(alloc, script, 1, &origin) else {
         return Err(Fail::from("no job"));
     };
-    match run_zone(rt, alloc, 64, &origin, &[], &job, &Open)? {
+    let blank = table_for(alloc, 64, job.workers.len())?;
+    match run_zone(rt, alloc, blank, &origin, &[], &job, &Open)? {
         Ran::Finished(finished) => Ok(finished),
         Ran::DoesNotFit { .. } => Err(Fail::from("no room")),
     }
