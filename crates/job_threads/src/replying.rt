@@ -12,10 +12,6 @@ use std::alloc::{AllocError, Global};
 use trie_read::Reading;
 use zone_query::{Walker, answer_into, back, find, walk};
 
-// The least memory of a reply that is kept. The C library lays smaller pieces aside when they go, and later joins them one by
-// one, which takes as long as finding a name does.
-const LEAST_TEXT: usize = 136;
-
 // Pushes what is printed of a version's reply to a question.
 fn push_reply<V: Reading>(
     alloc: Global,
@@ -81,7 +77,7 @@ pub fn reply_text<V: Reading>(
         &mut room.rows,
         &mut room.text,
     )?;
-    let mut text = Vec::with_capacity(alloc, room.text.len().max(LEAST_TEXT))?;
+    let mut text = Vec::with_capacity(alloc, room.text.len())?;
     text.extend_from_slice(&room.text)?;
     Ok(text)
 }
