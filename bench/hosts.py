@@ -1,10 +1,10 @@
 #!/usr/bin/env python3
 """Writes a job: a zone of N address records in random order, and a script that asks for one of them.
 
-Usage: hosts.py N [SEED] [COMMANDS]
-COMMANDS is `one` (one question, the default), `questions` (10,000 of them), `absent` (as many for names
-that aren't there), `below` (as many for names under those that are), `blocks` (10,000 blocks of one new
-address) or `block` (one block of 10,000 new addresses).
+Usage: hosts.py N [SEED] [COMMANDS [COUNT]]
+COMMANDS is `one` (one question, the default), `questions` (COUNT of them, 10,000 if not said), `absent` (as
+many for names that aren't there), `below` (as many for names under those that are), `blocks` (as many blocks
+of one new address) or `block` (one block of as many new addresses).
 """
 import random
 import sys
@@ -24,20 +24,20 @@ def zone(count, seed):
 QUESTIONS = {"questions": "get n{} A", "absent": "get m{} A", "below": "get a.n{} A"}
 
 
-def script(commands, count):
+def script(commands, count, most):
     yield "%%"
     yield "worker"
     if commands == "one":
         yield "get n7 A"
     elif commands in QUESTIONS:
-        for question in range(10_000):
+        for question in range(most):
             yield QUESTIONS[commands].format(question * 7919 % count)
     elif commands == "blocks":
-        for host in range(10_000):
+        for host in range(most):
             yield from ("write", f"add m{host} 300 A 192.0.2.7", "commit")
     elif commands == "block":
         yield "write"
-        for host in range(10_000):
+        for host in range(most):
             yield f"add m{host} 300 A 192.0.2.7"
         yield "commit"
     else:
@@ -49,9 +49,10 @@ def main():
         sys.exit(__doc__)
     seed = int(sys.argv[2]) if len(sys.argv) > 2 else 1
     commands = sys.argv[3] if len(sys.argv) > 3 else "one"
+    most = int(sys.argv[4]) if len(sys.argv) > 4 else 10_000
     for line in zone(int(sys.argv[1]), seed):
         print(line)
-    for line in script(commands, int(sys.argv[1])):
+    for line in script(commands, int(sys.argv[1]), most):
         print(line)
 
 
