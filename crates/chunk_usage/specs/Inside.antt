@@ -1,9 +1,9 @@
--- A usage's fields as a ledger.
+-- A usage's state as a ledger.
 use Rattle.std.specs.Prelude.{◌≡◌, ◌+◌, ◌≤◌, take, length, All}
-use Rattle.chunk_usage.specs.declared.usage.Usage.TheInside.{Inside}
+use Rattle.chunk_usage.specs.declared.usage.State.{State}
 use Rattle.chunk_usage.specs.Ledger.{Ledger, Row, IsLedger, free_count}
 
-abbrev pub ledger_of : Inside → Ledger
+abbrev pub ledger_of : State → Ledger
 ledger_of s = record {
   live = s.counts.live;
   given = s.allocated;
@@ -16,7 +16,7 @@ ledger_of s = record {
 }
 
 -- besides: the number of free chunks is known, and there is room for the kept versions and for the chunks that are to be freed
-pub record IsWhole (s : Inside) : Type 0 where
+pub record IsWhole (s : State) : Type 0 where
   pub ledger : IsLedger (ledger_of s)
   pub free : s.free ≡ free_count (ledger_of s)
   pub slots : length s.slots.items ≡ s.passes + 2

@@ -18,9 +18,15 @@ use crate::open::Open;
 use std::alloc::{AllocError, Global};
 use std::marker::Model;
 
-/// Which of 1 to 4,096 chunks are given, how many of their cells count, and which kept versions have cells in them.
+/// Which of 1 to 4,096 chunks are given, how many of their cells count, and which kept versions have cells in them. It is one piece of
+/// memory, so a usage goes from owner to owner as an address.
 #[derive(Drop)]
 pub struct Usage {
+    state: Box<State>,
+}
+
+#[derive(Drop)]
+struct State {
     // How many cells of each chunk count, now and at the last freeze.
     counts: Counts,
     // The chunks that are given, and those of them that were given since the last freeze.
@@ -48,9 +54,9 @@ impl Model for Usage {
 
     ghost use Rattle.chunk_usage.specs.Inside.{ledger_of, IsWhole};
 
-    ghost view = { ledger_of };
+    ghost view = { λ u. ledger_of u.state.value };
 
-    ghost invariant = { IsWhole };
+    ghost invariant = { λ u. IsWhole u.state.value };
 }
 
 impl Usage {
@@ -62,7 +68,7 @@ impl Usage {
         requires few_passes { passes ≤ 64 }
         ensures { IfOk result (λ u. u ≡ unused chunks passes) }
     {
-        Ok(Usage {
+        let state = State {
             counts: Counts::new(alloc, chunks)?,
             allocated: ChunkSet::new(alloc, chunks)?,
             recent: ChunkSet::new(alloc, chunks)?,
@@ -74,6 +80,9 @@ impl Usage {
             passes,
             unreached: ChunkSet::new(alloc, chunks)?,
             ages: Ages::new(alloc, chunks)?,
+        };
+        Ok(Usage {
+            state: Box::new(alloc, state)?,
         })
     }
 
@@ -81,7 +90,7 @@ impl Usage {
     pub fn known(&self)
         ensures { IsLedger self.now }
     {
-        let _ = &self.passes;
+        let _ = &self.state;
     }
 
     /// How many chunks there are.
@@ -89,7 +98,7 @@ impl Usage {
     pub fn chunks(&self) -> u32
         ensures { result ≡ length self.now.given }
     {
-        self.allocated.chunks()
+        self.state.allocated.chunks()
     }
 
     /// How many chunks are free.
@@ -97,7 +106,7 @@ impl Usage {
     pub fn free(&self) -> u32
         ensures { result ≡ free_count self.now }
     {
-        self.free
+        self.state.free
     }
 
     /// How many chunks are kept free by `alloc`.
@@ -105,7 +114,7 @@ impl Usage {
     pub fn reserve(&self) -> u32
         ensures { result ≡ reserve_of self.now }
     {
-        self.allocated.chunks() / 4
+        self.state.allocated.chunks() / 4
     }
 
     /// Whether there is such a chunk, and it is free.
@@ -113,7 +122,7 @@ impl Usage {
     pub fn is_free(&self, chunk: u32) -> bool
         ensures { IsTrue result ↔ IsFree self.now.given chunk }
     {
-        chunk < self.allocated.chunks() && !self.allocated.contains(chunk)
+        chunk < self.state.allocated.chunks() && !self.state.allocated.contains(chunk)
     }
 
     /// How many cells of a chunk count: 0 where there is no such chunk.
@@ -121,7 +130,7 @@ impl Usage {
     pub fn live(&self, chunk: u32) -> u32
         ensures { result ≡ slice_index self.now.live chunk }
     {
-        self.counts.of(chunk)
+        self.state.counts.of(chunk)
     }
 }
 

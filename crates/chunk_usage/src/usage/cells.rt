@@ -53,7 +53,7 @@ impl Usage {
     pub fn is_fresh(&self, at: Ref) -> bool
         ensures { result ≡ is_fresh self.now at }
     {
-        self.recent.contains(at / CHUNK_CELLS) || was_left(self.fender, at)
+        self.state.recent.contains(at / CHUNK_CELLS) || was_left(self.state.fender, at)
     }
 
     /// These cells, of one chunk, don't count any more.
@@ -63,9 +63,9 @@ impl Usage {
         ensures { self.new ≡ released self.old at n }
     {
         let chunk = at / CHUNK_CELLS;
-        if chunk < self.allocated.chunks() {
-            let live = self.counts.of(chunk);
-            self.counts.set(chunk, live - n);
+        if chunk < self.state.allocated.chunks() {
+            let live = self.state.counts.of(chunk);
+            self.state.counts.set(chunk, live - n);
         }
     }
 
@@ -73,7 +73,7 @@ impl Usage {
     pub fn release_all(&mut self)
         ensures { self.new ≡ all_released self.old }
     {
-        self.counts.clear();
+        self.state.counts.clear();
     }
 
     /// The bump chunk counts as filled, so that the next cells come from another one.
@@ -81,7 +81,7 @@ impl Usage {
         ensures after { self.new ≡ closed self.old }
         ensures grows { Grows (is_used self.old) (is_used self.new) (is_fresh self.old) (is_fresh self.new) }
     {
-        if let Some(bump) = &mut self.bump {
+        if let Some(bump) = &mut self.state.bump {
             bump.filled = CHUNK_CELLS;
         }
     }
@@ -90,7 +90,7 @@ impl Usage {
     fn roomy_bump(&self, n: u32) -> Option<Open>
         ensures { result ≡ roomy self.now.open_chunk n }
     {
-        match self.bump {
+        match self.state.bump {
             Some(bump) if n <= CHUNK_CELLS - bump.filled => Some(bump),
             _ => None,
         }
@@ -103,13 +103,14 @@ impl Usage {
         ensures filled { result.filled ≡ 0 }
         ensures after { self.new ≡ with_open self.old (lowest_free self.old) }
     {
-        let chunk = self.allocated.first_absent();
-        self.allocated.insert(chunk);
-        self.recent.insert(chunk);
-        self.ages.give(chunk);
-        self.free -= 1;
+        let state = &mut *self.state;
+        let chunk = state.allocated.first_absent();
+        state.allocated.insert(chunk);
+        state.recent.insert(chunk);
+        state.ages.give(chunk);
+        state.free -= 1;
         let bump = Open { chunk, filled: 0 };
-        self.bump = Some(bump);
+        state.bump = Some(bump);
         bump
     }
 
@@ -135,9 +136,9 @@ impl Usage {
         ensures at { result ≡ next_cell from }
         ensures after { self.new ≡ taken self.old from n }
     {
-        let live = self.counts.of(from.chunk);
-        self.counts.set(from.chunk, live + n);
-        self.bump = Some(Open {
+        let live = self.state.counts.of(from.chunk);
+        self.state.counts.set(from.chunk, live + n);
+        self.state.bump = Some(Open {
             chunk: from.chunk,
             filled: from.filled + n,
         });
@@ -148,7 +149,7 @@ impl Usage {
     fn shortage(&self, n: u32) -> Full
         ensures { result ≡ shortage self.now n }
     {
-        let left = match self.bump {
+        let left = match self.state.bump {
             Some(bump) => CHUNK_CELLS - bump.filled,
             None => 0,
         };

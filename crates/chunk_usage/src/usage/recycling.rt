@@ -25,14 +25,15 @@ impl Usage {
         ensures others { (q : ℕ) (c : Cell) → is_unreached self.old (q / 1024) ≡ false → C.has cells.old q c → C.has cells.new q c }
         ensures kept { C.kept cells.new ≡ C.kept cells.old }
     {
-        let found = &mut self.unreached;
-        found.copy_from(&self.allocated);
-        found.subtract(self.counts.counted());
-        leave_out_kept(found, &self.slots[..self.kept]);
-        leave_out(found, self.bump);
-        leave_out(found, self.fender);
-        let count = free_all(&self.unreached, &mut self.allocated, cells);
-        self.free += count;
+        let state = &mut *self.state;
+        let found = &mut state.unreached;
+        found.copy_from(&state.allocated);
+        found.subtract(state.counts.counted());
+        leave_out_kept(found, &state.slots[..state.kept]);
+        leave_out(found, state.bump);
+        leave_out(found, state.fender);
+        let count = free_all(&state.unreached, &mut state.allocated, cells);
+        state.free += count;
         count
     }
 }

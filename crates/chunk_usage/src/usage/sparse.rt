@@ -13,9 +13,9 @@ impl Usage {
     pub fn is_sparse(&self, chunk: u32) -> bool
         ensures { result ≡ is_sparse self.now chunk }
     {
-        self.allocated.contains(chunk)
-            && self.counts.of(chunk) <= SPARSE_CELLS
-            && !is_chunk_of(self.bump, chunk)
+        self.state.allocated.contains(chunk)
+            && self.state.counts.of(chunk) <= SPARSE_CELLS
+            && !is_chunk_of(self.state.bump, chunk)
     }
 
     /// How many chunks are sparse.
@@ -23,8 +23,8 @@ impl Usage {
         ensures { result ≡ sparse_count self.now }
     {
         // Of a free chunk no cell counts.
-        let free = self.free;
-        self.counts.low() - free - self.low_bump()
+        let state = &*self.state;
+        state.counts.low() - state.free - self.low_bump()
     }
 
     /// The number at which the first of the sparse chunks with a cell that counts was given: what `leads_before` is asked. By a guess
@@ -33,7 +33,7 @@ impl Usage {
         let mut first = u64::MAX;
         for chunk in 0..self.chunks() {
             if self.is_sparse(chunk) && self.live(chunk) > 0 {
-                first = first.min(self.ages.of(chunk));
+                first = first.min(self.state.ages.of(chunk));
             }
         }
         first
@@ -44,15 +44,15 @@ impl Usage {
     pub fn leads_before(&self, chunk: u32, number: u64) -> bool
         ensures { number ≡ 0 → result ≡ false }
     {
-        self.ages.leads_before(chunk, number)
+        self.state.ages.leads_before(chunk, number)
     }
 
     // 1 where few cells of the bump chunk count, else 0.
     fn low_bump(&self) -> u32
         ensures { result ≡ open_low self.now.live self.now.open_chunk }
     {
-        match self.bump {
-            Some(bump) => one_if_low(self.counts.of(bump.chunk)),
+        match self.state.bump {
+            Some(bump) => one_if_low(self.state.counts.of(bump.chunk)),
             None => 0,
         }
     }

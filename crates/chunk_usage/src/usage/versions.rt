@@ -13,7 +13,8 @@ impl Usage {
     pub fn kept(&self) -> &[KeptVersion]
         ensures { result.now ≡ self.now.rows }
     {
-        &self.slots[..self.kept]
+        let state = &*self.state;
+        &state.slots[..state.kept]
     }
 
     /// Keeps the chunks with live cells for a version. What is in use now is not written until the version is dropped.
@@ -23,13 +24,14 @@ impl Usage {
         ensures after { self.new ≡ frozen self.old version }
         ensures settled { (q : ℕ) → is_used self.new q ≡ true → is_fresh self.new q ≡ false }
     {
-        let slot = &mut self.slots[self.kept];
-        slot.set(version, self.counts.counted());
-        self.kept += 1;
-        self.ages.settle(&self.recent, self.fender);
-        self.recent.clear();
-        self.counts.keep();
-        self.fender = self.bump;
+        let state = &mut *self.state;
+        let slot = &mut state.slots[state.kept];
+        slot.set(version, state.counts.counted());
+        state.kept += 1;
+        state.ages.settle(&state.recent, state.fender);
+        state.recent.clear();
+        state.counts.keep();
+        state.fender = state.bump;
     }
 
     /// Goes back to the live cells and the bump chunk of the last freeze. Chunks that were given since stay given.
@@ -37,8 +39,9 @@ impl Usage {
         ensures after { self.new ≡ restored self.old }
         ensures used { (q : ℕ) → is_used self.old q ≡ true → is_fresh self.old q ≡ false → is_used self.new q ≡ true }
     {
-        self.counts.restore();
-        self.bump = self.fender;
+        let state = &mut *self.state;
+        state.counts.restore();
+        state.bump = state.fender;
     }
 
     /// Keeps a version no more.
@@ -47,8 +50,9 @@ impl Usage {
         requires old { IfSome (newest self.old.rows) (λ r. r.version ≢ version) }
         ensures { self.new ≡ dropped self.old version }
     {
-        forget(&mut self.slots, self.kept, version);
-        self.kept -= 1;
+        let state = &mut *self.state;
+        forget(&mut state.slots, state.kept, version);
+        state.kept -= 1;
     }
 
     /// Keeps no versions but these. The newest is one of them.
@@ -56,7 +60,8 @@ impl Usage {
         requires { IfSome (newest self.old.rows) (λ r. is_among versions.now r.version ≡ true) }
         ensures { self.new ≡ narrowed self.old versions.now }
     {
-        self.kept = gather(&mut self.slots, self.kept, versions);
+        let state = &mut *self.state;
+        state.kept = gather(&mut state.slots, state.kept, versions);
     }
 }
 
