@@ -2,12 +2,14 @@
 use Rattle.std.specs.Prelude.{◌≡◌, ◌⊎◌, ℕ, ◌+◌, ◌-◌, ◌*◌, ◌<◌, ◌≤◌, true, false, List, Contains, length, take, slice_index}
 use Rattle.std.specs.List.{sum_by}
 use Rattle.trie_model.specs.Shape.{cells}
+use Rattle.chunk_usage.specs.declared.space.Full.{Full as NoRoom}
 use Rattle.chunk_usage.specs.Ledger.{Ledger, frozen_part, is_open, is_given, free_count, reserve_of}
 use Rattle.chunk_usage.specs.Keeping.{is_in_rows, freed, narrowed}
 use Rattle.evacuate.specs.Evacuations.{HasSparse}
 use Rattle.evacuate.specs.Fillings.{IsFull as IsUsedUp}
 use Rattle.shared_cells.specs.History.{version_after}
 use Rattle.shared_index.specs.declared.desk.Draft.{Draft}
+use Rattle.shared_index.specs.declared.kept.Versions.{Versions}
 use Rattle.shared_index.specs.declared.refusal.Full.{Full}
 use Rattle.shared_index.specs.Operations.{applied}
 use Rattle.shared_index.specs.Passes.{Known, first_version}
@@ -23,6 +25,10 @@ version_at v n = version_after applied (first_version v.seen) (take n v.seen.his
 -- how many cells these versions have together
 abbrev pub cells_kept : Known → List ℕ → ℕ
 cells_kept v versions = sum_by (λ n. cells (version_at v n)) versions
+
+-- the numbers of a refused request, with the versions that are kept
+abbrev pub full_with : NoRoom → Versions → Full
+full_with f versions = record { needed = f.needed; left = f.left; free = f.free; reserve = f.reserve; kept = versions }
 
 -- At the refused request of a call that made a round and freed what nothing needed, so that the usage was this.
 -- The call is for a key, and writes so many cells beside the twigs on the key's path. Where the branches there have so many twigs, it

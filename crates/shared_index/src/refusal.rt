@@ -1,5 +1,6 @@
 //! Why a transaction's call changes nothing.
 ghost use Rattle.std.specs.Prelude.{◌≡◌};
+ghost use Rattle.shared_index.specs.Fulls.{full_with};
 
 use crate::kept::Versions;
 
@@ -21,8 +22,7 @@ pub struct Full {
 
 impl Full {
     pub(crate) fn of(full: chunk_usage::Full, kept: Versions) -> Full
-        ensures request { (result.needed ≡ full.needed) × (result.left ≡ full.left) × (result.free ≡ full.free) × (result.reserve ≡ full.reserve) }
-        ensures kept { result.kept ≡ kept }
+        ensures { result ≡ full_with full kept }
     {
         Full {
             needed: full.needed,

@@ -4,14 +4,14 @@ ghost use Rattle.shared_index.specs.Passes.{known_at};
 ghost use Rattle.std.specs.Option.{ForSome};
 ghost use Rattle.chunk_usage.specs.Keeping.{full};
 
-use crate::change::Change;
+use crate::change::{Change, Unchanged};
 use crate::commit::Receipt;
 use crate::desk::{Desk, Draft};
 use crate::index::{Index, Turn};
 use crate::meaning::{Law, Meaning, Named, Operations, Version};
 use crate::pass::Pass;
-use crate::refusal::{ChangeRefusal, InsertRefusal};
-use crate::working::Refusal;
+use crate::kept::Versions;
+use crate::refusal::{ChangeRefusal, Full, InsertRefusal};
 use pin_core::{LAST_VERSION, Spent};
 use shared_cells::{PassSeat, Shared};
 use shift_key::Key;
@@ -74,7 +74,10 @@ impl<'i, L: Law, N: Named> Locked<'i, L, N> {
     ghost use Rattle.shared_index.specs.Changes.{operation_of, key_of, written_by, asked_by, LeadsItem, IsRefused};
     ghost use Rattle.trie_read.specs.Readings.{Fetched};
     ghost use Rattle.shared_index.specs.Drafts.{Works, Operates, IsFull, IsSame, Between, Commits, working_set};
-    ghost use Rattle.shared_index.specs.Fulls.{CausedFrom};
+    ghost use Rattle.shared_index.specs.Fulls.{CausedFrom, full_with};
+    ghost use Rattle.shared_index.specs.Keepings.{versions_in};
+    ghost use Rattle.shared_index.specs.declared.kept.Versions.{Versions as Kept};
+    ghost use Rattle.chunk_usage.specs.Keeping.{kept_versions};
     ghost use Rattle.shared_index.specs.Receipts.{Recycles};
     ghost use Rattle.shared_index.specs.Passes.{first_version};
     ghost use Rattle.shared_cells.specs.Views.{pass_of};
@@ -131,15 +134,15 @@ impl<'i, L: Law, N: Named> Locked<'i, L, N> {
     }
 
     // Does an operation on the working set.
-    fn change(&mut self, change: &Change<'_>) -> Result<(), Refusal>
+    fn change(&mut self, change: &Change<'_>) -> Result<(), Unchanged>
         requires works { IsSomeAnd self.old.draft Works }
         requires leads { LeadsItem change.now }
         ensures place { self.new.place ≡ self.old.place }
-        ensures operates { Between (λ d e. Operates (operation_of change.now) (IsRefused change.now) d e (IsOk result) (result ≡ Err Refusal.Name))
+        ensures operates { Between (λ d e. Operates (operation_of change.now) (IsRefused change.now) d e (IsOk result) (result ≡ Err Unchanged.Refused))
             self.old.draft self.new.draft }
-        ensures full { (f : _) → result ≡ Err (Refusal.Full f) → IsSomeAnd self.new.draft (λ d. IsFull d f) }
-        ensures cause { (f : _) → result ≡ Err (Refusal.Full f)
-            → Between (λ d e. CausedFrom d.usage e (key_of change.now) (written_by change.now) (asked_by change.now) f) self.old.draft self.new.draft }
+        ensures full { (f : _) (kept : Kept) → result ≡ Err (Unchanged.Full f) → IfSome self.new.draft (λ d. versions_in kept ≡ kept_versions d.usage) → IsSomeAnd self.new.draft (λ d. IsFull d (full_with f kept)) }
+        ensures cause { (f : _) (kept : Kept) → result ≡ Err (Unchanged.Full f) → IfSome self.new.draft (λ d. versions_in kept ≡ kept_versions d.usage)
+            → Between (λ d e. CausedFrom d.usage e (key_of change.now) (written_by change.now) (asked_by change.now) (full_with f kept)) self.old.draft self.new.draft }
     {
         let Some(draft) = self.draft.take() else {
             unreachable!()
@@ -147,6 +150,25 @@ impl<'i, L: Law, N: Named> Locked<'i, L, N> {
         let (draft, outcome) = draft.change(self.shared, change);
         self.draft = Some(draft);
         outcome
+    }
+
+    // The versions that are kept.
+    fn kept(&self) -> Versions
+        requires { IsSome self.now.draft }
+        ensures { IfSome self.now.draft (λ d. versions_in result ≡ kept_versions d.usage) }
+    {
+        match &self.draft {
+            Some(draft) => Versions::of(&draft.usage),
+            None => unreachable!(),
+        }
+    }
+
+    // Why there is no room, with the versions that are kept.
+    fn full(&self, full: chunk_usage::Full) -> Full
+        requires { IsSome self.now.draft }
+        ensures { (kept : Kept) × IfSome self.now.draft (λ d. versions_in kept ≡ kept_versions d.usage) × (result ≡ full_with full kept) }
+    {
+        Full::of(full, self.kept())
     }
 
     // Reads an item of the working set.
@@ -388,8 +410,8 @@ impl<L: Law, N: Named, K> Transaction<'_, '_, L, N, K> {
     {
         match self.locked.change(&Change::Insert(key, item)) {
             Ok(()) => Ok(()),
-            Err(Refusal::Name) => Err(InsertRefusal::Exists),
-            Err(Refusal::Full(full)) => Err(InsertRefusal::Full(full)),
+            Err(Unchanged::Refused) => Err(InsertRefusal::Exists),
+            Err(Unchanged::Full(full)) => Err(InsertRefusal::Full(self.locked.full(full))),
         }
     }
 
@@ -407,8 +429,8 @@ impl<L: Law, N: Named, K> Transaction<'_, '_, L, N, K> {
     {
         match self.locked.change(&Change::Replace(key, item)) {
             Ok(()) => Ok(()),
-            Err(Refusal::Name) => Err(ChangeRefusal::NotFound),
-            Err(Refusal::Full(full)) => Err(ChangeRefusal::Full(full)),
+            Err(Unchanged::Refused) => Err(ChangeRefusal::NotFound),
+            Err(Unchanged::Full(full)) => Err(ChangeRefusal::Full(self.locked.full(full))),
         }
     }
 
@@ -425,8 +447,8 @@ impl<L: Law, N: Named, K> Transaction<'_, '_, L, N, K> {
     {
         match self.locked.change(&Change::Delete(key)) {
             Ok(()) => Ok(()),
-            Err(Refusal::Name) => Err(ChangeRefusal::NotFound),
-            Err(Refusal::Full(full)) => Err(ChangeRefusal::Full(full)),
+            Err(Unchanged::Refused) => Err(ChangeRefusal::NotFound),
+            Err(Unchanged::Full(full)) => Err(ChangeRefusal::Full(self.locked.full(full))),
         }
     }
 }

@@ -6,32 +6,22 @@ ghost use Rattle.shared_cells.specs.Views.{kept_in};
 ghost use Rattle.shared_cells.specs.Steps.{IsNamed};
 ghost use Rattle.shared_index.specs.Meanings.{IsVersion};
 ghost use Rattle.shared_index.specs.Changes.{operation_of, key_of, written_by, asked_by, LeadsItem, IsRefused};
-ghost use Rattle.shared_index.specs.Keepings.{GoesOn};
+ghost use Rattle.shared_index.specs.Keepings.{GoesOn, versions_in};
+ghost use Rattle.shared_index.specs.declared.kept.Versions.{Versions};
 ghost use Rattle.shared_index.specs.Tries.{Tried};
 
 use crate::attempt::attempt;
 use crate::change::{Change, Unchanged};
 use crate::desk::Draft;
-use crate::kept::Versions;
 use crate::meaning::{Law, Meaning, Operations, Version};
 use crate::recycling::free_unreached;
-use crate::refusal::Full;
 use crate::rounds::make_round;
 use packed_node::Ref;
 use shared_cells::Shared;
 
-/// Why a working set isn't changed.
-#[derive(Clone, Copy)]
-pub(crate) enum Refusal {
-    /// The name is there already, or isn't there.
-    Name,
-    /// There is no room.
-    Full(Full),
-}
-
 impl Draft {
     ghost use Rattle.shared_index.specs.Drafts.{Works, Operates, IsFull, working_set};
-    ghost use Rattle.shared_index.specs.Fulls.{CausedFrom, FullCause, Grown, after_room, version_at};
+    ghost use Rattle.shared_index.specs.Fulls.{CausedFrom, FullCause, Grown, after_room, full_with, version_at};
 
     // The operation is done: its trie has this root.
     fn with_done(self, root: Option<Ref>, change: &Change<'_>) -> Draft
@@ -120,26 +110,19 @@ impl Draft {
         self,
         shared: &Shared<Version, Operations, Meaning<L>>,
         change: &Change<'_>,
-    ) -> (Draft, Result<(), Refusal>)
+    ) -> (Draft, Result<(), Unchanged>)
         requires table { self.seat.place.table_id ≡ shared.now.table.shared.table_id }
         requires leads { LeadsItem change.now }
         requires works { Works self }
         ensures table { result.0.seat.place.table_id ≡ self.seat.place.table_id }
-        ensures operates { Operates (operation_of change.now) (IsRefused change.now) self result.0 (IsOk result.1) (result.1 ≡ Err Refusal.Name) }
-        ensures full { (f : _) → result.1 ≡ Err (Refusal.Full f) → IsFull result.0 f }
-        ensures cause { (f : _) → result.1 ≡ Err (Refusal.Full f) → FullCause (after_room self.usage f) result.0 (key_of change.now) (written_by change.now) (asked_by change.now) f }
-        ensures counts { (f : _) → result.1 ≡ Err (Refusal.Full f) → (k : ℕ) → slice_index result.0.usage.live k ≡ slice_index self.usage.live k }
+        ensures operates { Operates (operation_of change.now) (IsRefused change.now) self result.0 (IsOk result.1) (result.1 ≡ Err Unchanged.Refused) }
+        ensures full { (f : _) (kept : Versions) → result.1 ≡ Err (Unchanged.Full f) → versions_in kept ≡ kept_versions result.0.usage → IsFull result.0 (full_with f kept) }
+        ensures cause { (f : _) (kept : Versions) → result.1 ≡ Err (Unchanged.Full f) → versions_in kept ≡ kept_versions result.0.usage
+            → FullCause (after_room self.usage (full_with f kept)) result.0 (key_of change.now) (written_by change.now) (asked_by change.now) (full_with f kept) }
+        ensures counts { (f : _) → result.1 ≡ Err (Unchanged.Full f) → (k : ℕ) → slice_index result.0.usage.live k ≡ slice_index self.usage.live k }
     {
         let draft = self.make_room(shared);
-        let (draft, outcome) = draft.attempt(shared, change);
-        match outcome {
-            Ok(()) => (draft, Ok(())),
-            Err(Unchanged::Refused) => (draft, Err(Refusal::Name)),
-            Err(Unchanged::Full(full)) => {
-                let full = Full::of(full, Versions::of(&draft.usage));
-                (draft, Err(Refusal::Full(full)))
-            }
-        }
+        draft.attempt(shared, change)
     }
 
     // Makes room, moves what lies in sparse chunks, for which the reserve is there, and makes room again; then it tries the operation.
@@ -147,14 +130,15 @@ impl Draft {
         self,
         shared: &Shared<Version, Operations, Meaning<L>>,
         change: &Change<'_>,
-    ) -> (Draft, Result<(), Refusal>)
+    ) -> (Draft, Result<(), Unchanged>)
         requires table { self.seat.place.table_id ≡ shared.now.table.shared.table_id }
         requires leads { LeadsItem change.now }
         requires works { Works self }
         ensures table { result.0.seat.place.table_id ≡ self.seat.place.table_id }
-        ensures operates { Operates (operation_of change.now) (IsRefused change.now) self result.0 (IsOk result.1) (result.1 ≡ Err Refusal.Name) }
-        ensures full { (f : _) → result.1 ≡ Err (Refusal.Full f) → IsFull result.0 f }
-        ensures cause { (f : _) → result.1 ≡ Err (Refusal.Full f) → CausedFrom self.usage result.0 (key_of change.now) (written_by change.now) (asked_by change.now) f }
+        ensures operates { Operates (operation_of change.now) (IsRefused change.now) self result.0 (IsOk result.1) (result.1 ≡ Err Unchanged.Refused) }
+        ensures full { (f : _) (kept : Versions) → result.1 ≡ Err (Unchanged.Full f) → versions_in kept ≡ kept_versions result.0.usage → IsFull result.0 (full_with f kept) }
+        ensures cause { (f : _) (kept : Versions) → result.1 ≡ Err (Unchanged.Full f) → versions_in kept ≡ kept_versions result.0.usage
+            → CausedFrom self.usage result.0 (key_of change.now) (written_by change.now) (asked_by change.now) (full_with f kept) }
     {
         let draft = self.make_room(shared);
         let (draft, _done) = draft.evacuate(shared);
@@ -167,20 +151,20 @@ impl Draft {
         self,
         shared: &Shared<Version, Operations, Meaning<L>>,
         change: &Change<'_>,
-    ) -> (Draft, Result<(), Refusal>)
+    ) -> (Draft, Result<(), Unchanged>)
         requires table { self.seat.place.table_id ≡ shared.now.table.shared.table_id }
         requires leads { LeadsItem change.now }
         requires works { Works self }
         ensures table { result.0.seat.place.table_id ≡ self.seat.place.table_id }
-        ensures operates { Operates (operation_of change.now) (IsRefused change.now) self result.0 (IsOk result.1) (result.1 ≡ Err Refusal.Name) }
-        ensures full { (f : _) → result.1 ≡ Err (Refusal.Full f) → IsFull result.0 f }
-        ensures cause { (f : _) → result.1 ≡ Err (Refusal.Full f) → CausedFrom self.usage result.0 (key_of change.now) (written_by change.now) (asked_by change.now) f }
+        ensures operates { Operates (operation_of change.now) (IsRefused change.now) self result.0 (IsOk result.1) (result.1 ≡ Err Unchanged.Refused) }
+        ensures full { (f : _) (kept : Versions) → result.1 ≡ Err (Unchanged.Full f) → versions_in kept ≡ kept_versions result.0.usage → IsFull result.0 (full_with f kept) }
+        ensures cause { (f : _) (kept : Versions) → result.1 ≡ Err (Unchanged.Full f) → versions_in kept ≡ kept_versions result.0.usage
+            → CausedFrom self.usage result.0 (key_of change.now) (written_by change.now) (asked_by change.now) (full_with f kept) }
     {
         let (draft, outcome) = self.attempt(shared, change);
         match outcome {
-            Ok(()) => (draft, Ok(())),
-            Err(Unchanged::Refused) => (draft, Err(Refusal::Name)),
             Err(Unchanged::Full(_)) => draft.change_at_last(shared, change),
+            outcome => (draft, outcome),
         }
     }
 }

@@ -1,14 +1,28 @@
-use Rattle.std.proofs.Common.{◌≡◌, Err, refl, subst}
+use Rattle.std.proofs.Common.{◌≡◌, ◌∙◌, Err, refl, sym, subst}
 use Rattle.std.specs.Prelude.{IsOk}
-use Rattle.shared_index.specs.declared.working.Refusal.{Refusal}
-use Rattle.shared_index.specs.declared.working.Refusal.TheVariants as refusal
+use Rattle.trie_write.specs.Paths.{delete_asks}
+use Rattle.shared_index.specs.declared.refusal.Full.{Full}
+use Rattle.shared_index.specs.Drafts.{Between}
+use Rattle.shared_index.specs.Fulls.{CausedFrom}
+use Rattle.shared_index.specs.declared.change.Unchanged.{Unchanged}
+use Rattle.shared_index.specs.declared.change.Unchanged.TheVariants as unchanged
 use Rattle.shared_index.proofs.WorkLaws.{between_as}
 use Rattle.shared_index.proofs.transaction.Transaction.delete.Goals as goal
 
-pub returns-in-Err-Name-clause-deletes : goal.returns-in-Err-Name-clause-deletes
-returns-in-Err-Name-clause-deletes g c =
-    let field : c.in-Err-Name.field-0 ≡ refusal.Name = c.in-Err-Name.field-0-is in
-    let is : c.change.result ≡ Err c.in-Err-Name.field-0 = c.in-Err-Name.is in
-    let told : c.change.result ≡ Err refusal.Name = subst (λ (r : Refusal). c.change.result ≡ Err r) field is in
-    between_as _ _ (IsOk c.change.result) (c.change.result ≡ Err refusal.Name) _ _ c.args.self.now.locked.now.draft c.change.new.self.draft
+pub returns-in-Err-Refused-clause-deletes : goal.returns-in-Err-Refused-clause-deletes
+returns-in-Err-Refused-clause-deletes g c =
+    let field : c.in-Err-Refused.field-0 ≡ unchanged.Refused = c.in-Err-Refused.field-0-is in
+    let is : c.change.result ≡ Err c.in-Err-Refused.field-0 = c.in-Err-Refused.is in
+    let told : c.change.result ≡ Err unchanged.Refused = subst (λ (r : Unchanged). c.change.result ≡ Err r) field is in
+    between_as _ _ (IsOk c.change.result) (c.change.result ≡ Err unchanged.Refused) _ _ c.args.self.now.locked.now.draft c.change.new.self.draft
     (λ h. absurd cc) (λ h. subst (λ r. IsOk r) told h) (λ b. refl) (λ d. told) c.change.ensures.operates
+
+pub returns-in-Err-Full-clause-cause : goal.returns-in-Err-Full-clause-cause
+returns-in-Err-Full-clause-cause g c f e =
+    let field : c.in-Err-Full.field-0 ≡ unchanged.Full c.in-Err-Full.full = c.in-Err-Full.field-0-is in
+    let is : c.change.result ≡ Err c.in-Err-Full.field-0 = c.in-Err-Full.is in
+    let told : c.change.result ≡ Err (unchanged.Full c.in-Err-Full.full) = subst (λ (r : Unchanged). c.change.result ≡ Err r) field is in
+    let made = c.full.ensures in
+    let same : c.full.result ≡ f = cc in
+    subst (λ (f : Full). Between (λ d e. CausedFrom d.usage e c.args.key.now 1 delete_asks f) c.args.self.now.locked.now.draft c.change.new.self.draft)
+    (sym made.2 ∙ same) (c.change.ensures.cause c.in-Err-Full.full made.0 told made.1)

@@ -1,0 +1,12 @@
+use Rattle.std.proofs.Common.{◌∙◌, Option, Some, sym, subst}
+use Rattle.shared_index.specs.declared.desk.Draft.{Draft}
+use Rattle.shared_index.specs.Changes.{key_of, written_by, asked_by}
+use Rattle.shared_index.specs.Drafts.{Between}
+use Rattle.shared_index.specs.Fulls.{CausedFrom, full_with}
+use Rattle.shared_index.proofs.transaction.Locked.change.Goals as goal
+
+pub returns-clause-cause : goal.returns-clause-cause
+returns-clause-cause g c f kept e same =
+    let change = c.args.change.now in
+    subst (λ (o : Option Draft). Between (λ d e. CausedFrom d.usage e (key_of change) (written_by change) (asked_by change) (full_with f kept)) o (Some c.change-draft.result.0))
+    (sym (sym c.take.ensures.value ∙ c.in-Some.is)) (c.change-draft.ensures.cause f kept e same)
