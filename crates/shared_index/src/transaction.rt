@@ -362,6 +362,9 @@ impl<L: Law, N: Named, K> Drop for Transaction<'_, '_, L, N, K> {
 }
 
 impl<L: Law, N: Named, K> Transaction<'_, '_, L, N, K> {
+    ghost use Rattle.chunk_usage.specs.Keeping.{kept_versions};
+    ghost use Rattle.shared_index.specs.Keepings.{versions_in};
+
     /// The base's number.
     pub fn version(&self) -> u64
         requires { IsSome self.now.locked.now.draft }
@@ -371,6 +374,14 @@ impl<L: Law, N: Named, K> Transaction<'_, '_, L, N, K> {
             Some(draft) => draft.seat.version,
             None => unreachable!(),
         }
+    }
+
+    /// The versions that are kept, as the last round found them.
+    pub fn kept(&self) -> Versions
+        requires { IsSome self.now.locked.now.draft }
+        ensures { IfSome self.now.locked.now.draft (λ d. versions_in result ≡ kept_versions d.usage) }
+    {
+        self.locked.kept()
     }
 }
 

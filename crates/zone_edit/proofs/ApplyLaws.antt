@@ -1,12 +1,12 @@
 -- One operation, and operations in order.
-use Rattle.std.proofs.Common.{◌≡◌, ◌∙◌, ℕ, ◌+◌, ◌<◌, ◌≤◌, Bool, true, false, not, cond, ltb, List, [], ◌∷◌, ◌++◌, length, map, take, drop, get_or, Option, Some, None, Result, Ok, Err, refl, sym, ap, subst, arith, append_assoc}
+use Rattle.std.proofs.Common.{◌≡◌, ◌∙◌, ℕ, ◌+◌, ◌<◌, ◌≤◌, Bool, true, false, not, cond, ltb, List, [], ◌∷◌, ◌++◌, length, map, take, drop, get_or, Some, Result, Ok, Err, refl, sym, ap, subst, arith, append_assoc}
 use borrow.Author.Tests.{ltb-false}
-use Rattle.std.proofs.lemmas.List.{map-append, map_more, length-map, length-take-le, take-append-drop}
+use Rattle.std.proofs.lemmas.List.{map-append, map_more, take-append-drop}
 use Rattle.std.specs.List.{AllByRecursion}
 use Rattle.std.specs.Ordering.{is_eq}
 use Rattle.zone_model.specs.Names.{Name, name_cmp}
 use Rattle.zone_model.specs.Records.{Entry, item, without_set, without_rr}
-use Rattle.zone_model.specs.Versions.{Version, Operation, Addition, Add, DeleteName, DeleteSet, DeleteRecord, entry_of, owned, owner_of, changed, apply, whole, and_then, put, is_low_soa, is_lone, fitting, keeping_soa, loses_soa, with_added}
+use Rattle.zone_model.specs.Versions.{Version, Operation, Add, DeleteName, DeleteSet, DeleteRecord, entry_of, owned, owner_of, changed, apply, whole, and_then, put, is_low_soa, is_lone, fitting, keeping_soa, loses_soa, with_added}
 use Rattle.zone_model.specs.declared.Refusal.{Refusal}
 use Rattle.zone_model.specs.declared.Refusal.TheVariants.{Soa, Cname, Long}
 use Rattle.zone_model.proofs.NameLemmas.{same_name-true}

@@ -1,6 +1,6 @@
 -- What a transaction's call makes of a working set that is a version.
 use Rattle.std.proofs.Common.{◌≡◌, ◌∙◌, ℕ, ◌+◌, ◌-◌, ◌≤◌, List, [], ◌∷◌, ◌++◌, length, Option, Some, None, Ok, Err, refl, sym, ap, subst, arith, append-nil}
-use Rattle.std.specs.Prelude.{IsSomeAnd, IfSome}
+use Rattle.std.specs.Prelude.{IsSome, IsSomeAnd, IfSome}
 use Rattle.zone_model.specs.Names.{Name, IsName}
 use Rattle.zone_model.specs.Keys.{key_of}
 use Rattle.zone_model.specs.Records.{Entry, IsItem}
@@ -26,7 +26,8 @@ use Rattle.zone_edit.proofs.VersionLaws.{version_put, version_gone}
 use Rattle.zone_edit.proofs.StoreLaws.{put_some, storable, same_entry, record_of}
 use Rattle.trie_read.specs.Readings.{Fetched}
 use Rattle.zone_query.specs.Parts.{IsRead}
-use Rattle.zone_edit.specs.Stores.{WorksOn, WorksOnSome, Owns, EditsOne, Edits, Reads, Stores}
+use Rattle.zone_edit.specs.declared.storing.NoRoom.{NoRoom}
+use Rattle.zone_edit.specs.Stores.{WorksOn, WorksOnSome, Owns, EditsOne, Edits, Reads, Stores, IsFullOn}
 use Rattle.zone_edit.proofs.SetLaws.{IsOwner, inserted, exchanged, deleted}
 
 -- ---- drafts that are there
@@ -149,6 +150,19 @@ edits_on A B C a b c h = between_then (EditsOne A) (EditsOne B) (EditsOne C) a b
   becomes = λ version on. (let m = h version e f (r.becomes version on) in m.2 (s.becomes m.0 m.1));
 })
 
+-- what is told of the new working set besides
+pub edits_and : (A B : Version → Draft → Type 0) (P : Draft → Type 0) (old new : Option Draft) → ((version : Version) (e : Draft) → A version e → P e → B version e) → Edits A old new → IfSome new P → Edits B old new
+edits_and A B P (Some d) (Some e) f r p = record { known = r.known; passes = r.passes; becomes = λ version on. f version e (r.becomes version on) p }
+edits_and A B P (Some d) None f r p = r
+edits_and A B P None (Some e) f r p = r
+edits_and A B P None None f r p = r
+
+pub is_there : (A : Version → Draft → Type 0) (old new : Option Draft) → Edits A old new → IsSome new
+is_there A (Some d) (Some e) r = refl
+is_there A (Some d) None r = absurd r
+is_there A None (Some e) r = absurd r
+is_there A None None r = absurd r
+
 -- some version is worked on still
 pub edits_some : (A : Version → Draft → Type 0) (old new : Option Draft) → IsSomeAnd old WorksOnSome → ((version : Version) (e : Draft) → A version e → WorksOnSome e) → Edits A old new → IsSomeAnd new WorksOnSome
 edits_some A (Some d) (Some e) p f r = f p.version e (r.becomes p.version p.on)
@@ -174,21 +188,21 @@ module _ (o : Operation) (denied : List trie.Entry → Type 0) (A B : Type 0) (n
   stored a puts call = between_as (λ d e. Operates o denied d e A B) (EditsOne (Stores name before entry (Ok tt))) old new (λ d e _ _ op. record { known = op.known; passes = op.passes; becomes = λ version on is. puts version d e op on is }) call
 
   -- there was no room
-  pub no_room : (f : Full) (key : List ℕ) (written : ℕ) (asks : List ℕ → List ℕ) → (A → ⊥) → ((version : Version) → IsVersion version → before ≡ owned name version → put name entry version ≡ version → ⊥) → Called → IsSomeAnd new (λ d. IsFull d f)
-      → Between (λ d e. CausedFrom d.usage e key written asks f) old new → Edits (Stores name before entry (Err f.kept)) old new
-  no_room f key written asks undone changes call full cause =
-      between_both (λ d e. CausedFrom d.usage e key written asks f) (λ d e. Operates o denied d e A B × IsFull e f) (EditsOne (Stores name before entry (Err f.kept))) old new
+  pub no_room : (none : NoRoom) (f : Full) (key : List ℕ) (written : ℕ) (asks : List ℕ → List ℕ) → (A → ⊥) → ((version : Version) → IsVersion version → before ≡ owned name version → put name entry version ≡ version → ⊥) → Called → IsSomeAnd new (λ d. IsFull d f)
+      → Between (λ d e. CausedFrom d.usage e key written asks f) old new → Edits (Stores name before entry (Err none)) old new
+  no_room none f key written asks undone changes call full cause =
+      between_both (λ d e. CausedFrom d.usage e key written asks f) (λ d e. Operates o denied d e A B × IsFull e f) (EditsOne (Stores name before entry (Err none))) old new
       (λ d e cause both. record {
         known = both.0.known;
         passes = both.0.passes;
         becomes = λ version on is. (
           works_same o denied d e A B version both.0 undone on,
-          record {
+          subst (IsFullOn e version) both.1.kept (record {
             named = both.1.named;
             ends = both.1.ends;
             few = few_kept e f both.1;
             many = subst (λ (es : List trie.Entry). length e.usage.given - reserve_of e.usage - 2 ≤ cells es + cells_kept e.seat.place.me.0 (versions_in f.kept)) (same_set o denied d e A B both.0 undone ∙ on.set) cause.2.many_cells;
-          },
+          }),
           changes version on.valid is,
         );
       }) cause (between_and (λ d e. Operates o denied d e A B) (λ d. IsFull d f) (λ d e. Operates o denied d e A B × IsFull e f) old new (λ d e op p. (op, p)) call full)

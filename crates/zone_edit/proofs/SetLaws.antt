@@ -1,5 +1,5 @@
 -- What an operation of an index makes of a version's entries is what the version becomes.
-use Rattle.std.proofs.Common.{◌≡◌, ◌∙◌, ◌<◌, Bool, true, false, cond, List, [], ◌∷◌, ◌++◌, inl, inr, length, Option, Some, None, unwrap_or, refl, sym, ap, subst, arith}
+use Rattle.std.proofs.Common.{◌≡◌, ◌∙◌, ◌<◌, Bool, true, false, cond, List, [], ◌∷◌, ◌++◌, inl, inr, length, Some, unwrap_or, refl, sym, ap, subst, arith}
 use Rattle.std.specs.List.{AllByRecursion}
 use Rattle.std.specs.List.Sorted.{IsStrictlySortedBy}
 use Rattle.std.specs.Map.{keys_of, remove_entry}
@@ -8,8 +8,8 @@ use Rattle.std.specs.declared.cmp.Ordering.TheVariants as order
 use Rattle.std.specs.Ordering.{is_eq}
 use Rattle.zone_model.specs.Names.{Name, IsName, name_cmp}
 use Rattle.zone_model.specs.Keys.{key_of}
-use Rattle.zone_model.specs.Records.{Entry, IsItem}
-use Rattle.zone_model.specs.Versions.{Version, entry_of, owned, put}
+use Rattle.zone_model.specs.Records.{Entry}
+use Rattle.zone_model.specs.Versions.{Version, entry_of, owned}
 use Rattle.zone_model.proofs.NameLemmas.{same_name-true}
 use Rattle.zone_model.proofs.KeyLaws.{key_cmp-key_of}
 use Rattle.trie_model.specs.Keys as trie
@@ -23,7 +23,6 @@ use Rattle.job_model.specs.Sizes.{trie_entries}
 use Rattle.shared_index.specs.Operations.{with_entry, without}
 use Rattle.shared_index.proofs.OperationLaws as sets
 use Rattle.zone_edit.proofs.VersionLaws.{by_name, after_all, inserted_is, exchanged_is, deleted_is}
-use Rattle.zone_edit.proofs.StoreLaws.{put_some}
 
 abbrev Entries : Type 0
 Entries = List trie.Entry

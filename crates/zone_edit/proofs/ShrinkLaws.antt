@@ -1,5 +1,5 @@
 -- What is left of an entry when something is taken out has no more octets.
-use Rattle.std.proofs.Common.{◌≡◌, ◌∙◌, ℕ, suc, ◌+◌, ◌<◌, ◌≤◌, Bool, true, false, cond, eqb, ltb, List, [], ◌∷◌, ◌++◌, length, Option, Some, None, Result, Ok, Err, refl, sym, ap, subst, arith, length-append}
+use Rattle.std.proofs.Common.{◌≡◌, ◌∙◌, ℕ, ◌+◌, ◌≤◌, Bool, true, false, cond, eqb, List, [], ◌∷◌, ◌++◌, length, Option, Some, None, refl, sym, ap, subst, arith, length-append}
 use Rattle.std.proofs.lemmas.Grind.{flat_map-append}
 use Rattle.std.specs.List.{flat_map}
 use Rattle.std.specs.Int.{w16, w32, to_be_bytes}
@@ -7,7 +7,7 @@ use Rattle.std.specs.declared.cmp.Ordering.{Ordering}
 use Rattle.std.specs.declared.cmp.Ordering.TheVariants.{Less, Equal, Greater}
 use Rattle.std.specs.Ordering.{nat_cmp, match_ordering}
 use Rattle.zone_model.specs.Names.{Name, wire}
-use Rattle.zone_model.specs.Records.{Rrset, Entry, octets_cmp, changed_at, without_record, unless_empty, lessened, without_set, without_rr, record_bytes, rrset_bytes, item}
+use Rattle.zone_model.specs.Records.{Rrset, Entry, octets_cmp, changed_at, without_record, lessened, without_set, without_rr, record_bytes, rrset_bytes, item}
 
 -- ---- records
 

@@ -1,5 +1,5 @@
 -- What a change of the trie makes of the version that it stands for.
-use Rattle.std.proofs.Common.{◌≡◌, ◌∙◌, ℕ, Bool, true, false, cond, List, [], ◌∷◌, ◌++◌, inl, inr, map, refl, sym, ap, subst}
+use Rattle.std.proofs.Common.{◌≡◌, ◌∙◌, Bool, true, false, cond, List, [], ◌∷◌, ◌++◌, inl, inr, refl, sym, ap, subst}
 use Rattle.std.specs.List.{AllByRecursion}
 use Rattle.std.specs.List.Sorted.{IsStrictlySortedBy}
 use Rattle.std.specs.Map.{keys_of, remove_entry}
@@ -15,7 +15,7 @@ use Rattle.zone_model.specs.Versions.{Version}
 use Rattle.zone_model.proofs.NameLemmas.{name_cmp-IsAntisymmetric}
 use Rattle.zone_model.proofs.KeyLaws.{key_once}
 use Rattle.trie_model.specs.Keys as trie
-use Rattle.trie_model.specs.Changes.{Inserted, Removed}
+use Rattle.trie_model.specs.Changes.{Inserted}
 use Rattle.trie_model.proofs.KeyLaws.{in_right}
 use Rattle.trie_write.specs.Exchanges.{Exchanged}
 use Rattle.trie_write.specs.Deletions.{Deleted}

@@ -5,7 +5,9 @@ use Rattle.zone_model.specs.Records.{Entry}
 use Rattle.zone_model.specs.declared.Refusal.{Refusal}
 use Rattle.zone_model.specs.Versions.{Version, Operation, apply, whole}
 use Rattle.shared_index.specs.declared.desk.Draft.{Draft}
+use Rattle.chunk_usage.specs.Keeping.{kept_versions}
 use Rattle.shared_index.specs.declared.kept.Versions.{Versions}
+use Rattle.shared_index.specs.Keepings.{versions_in}
 use Rattle.zone_edit.specs.Stores.{WorksOn, IsFullOn}
 use Rattle.zone_edit.specs.declared.applying.Stopped.{Stopped}
 use Rattle.zone_edit.specs.declared.applying.Stopped.TheVariants as stops
@@ -17,7 +19,7 @@ abbrev pub Gives : Result Entry Stopped → Result Entry Refusal → Type 0
 Gives (Ok entry) wanted = wanted ≡ Ok entry
 Gives (Err stops.Memory) wanted = Unit {0}
 Gives (Err (stops.Refused refusal)) wanted = wanted ≡ Err refusal
-Gives (Err (stops.Full kept)) wanted = ⊥
+Gives (Err stops.Full) wanted = ⊥
 
 -- An operation is accepted, and the working set is the version that it makes; or it isn't, and the working set stays. Want of memory
 -- says nothing.
@@ -25,8 +27,8 @@ abbrev pub Applies : Name → Operation → Result (Unit {0}) Stopped → Versio
 Applies origin operation (Ok u) version new = (next : Version) × (apply origin operation version ≡ Ok next) × WorksOn new next
 Applies origin operation (Err stops.Memory) version new = Unit {0}
 Applies origin operation (Err (stops.Refused refusal)) version new = apply origin operation version ≡ Err refusal
-Applies origin operation (Err (stops.Full kept)) version new =
-    (next : Version) × (apply origin operation version ≡ Ok next) × (next ≡ version → ⊥) × IsFullOn new version kept
+Applies origin operation (Err stops.Full) version new =
+    (next : Version) × (apply origin operation version ≡ Ok next) × (next ≡ version → ⊥) × IsFullOn new version (kept_versions new.usage)
 
 -- There is no room for an operation that is accepted and changes what the ones before it made.
 pub record IsFullAt (new : Draft) (origin : Name) (operations : List Operation) (version : Version) (operation : ℕ) (kept : Versions) : Type 0 where
@@ -40,7 +42,7 @@ pub record IsFullAt (new : Draft) (origin : Name) (operations : List Operation) 
   pub next : Version
   pub accepted : apply origin refused working ≡ Ok next
   pub changes : next ≡ working → ⊥
-  pub full : IsFullOn new working kept
+  pub full : IsFullOn new working (versions_in kept)
 
 -- the same for a block's operations
 abbrev pub AppliesAll : Name → List Operation → Result (Unit {0}) Halt → Version → Draft → Type 0

@@ -1,18 +1,19 @@
 -- A transaction whose working set is a version of a zone.
-use Rattle.std.specs.Prelude.{◌≡◌, ◌⊎◌, ℕ, ◌+◌, ◌-◌, ◌≤◌, List, [], ◌∷◌, ◌++◌, length, Option, Some, None, Result, Ok, Err, Contains}
+use Rattle.std.specs.Prelude.{◌≡◌, ◌⊎◌, ℕ, ◌+◌, ◌-◌, ◌≤◌, List, [], ◌∷◌, ◌++◌, length, Option, Result, Ok, Err, Contains}
 use Rattle.zone_model.specs.Names.{Name}
 use Rattle.zone_model.specs.Records.{Entry}
 use Rattle.zone_model.specs.Versions.{Version, owned, put}
 use Rattle.chunk_usage.specs.Ledger.{reserve_of}
+use Rattle.chunk_usage.specs.Keeping.{kept_versions}
 use Rattle.zone_query.specs.Parts.{IsRead}
 use Rattle.zone_query.specs.Standing.{IsVersion}
 use Rattle.job_model.specs.Sizes.{trie_entries, cell_count}
 use Rattle.shared_cells.specs.Steps.{IsNamed}
 use Rattle.shared_index.specs.declared.desk.Draft.{Draft}
-use Rattle.shared_index.specs.declared.kept.Versions.{Versions}
 use Rattle.shared_index.specs.Drafts.{Works, Between, working_set}
 use Rattle.shared_index.specs.Fulls.{cells_kept}
-use Rattle.shared_index.specs.Keepings.{GoesOn, versions_in}
+use Rattle.shared_index.specs.Keepings.{GoesOn}
+use Rattle.zone_edit.specs.declared.storing.NoRoom.{NoRoom}
 
 -- the working set is the version
 pub record WorksOn (d : Draft) (version : Version) : Type 0 where
@@ -48,17 +49,17 @@ pub record Reads (name : Name) (octets : List ℕ) (len : ℕ) (version : Versio
 -- There is no room while these versions are kept: the current one, which is the last, and others that some pass was found reading,
 -- at most one for each pass. Their tries and that of the working set have almost as many cells as there are chunks but for the
 -- reserve.
-pub record IsFullOn (d : Draft) (version : Version) (kept : Versions) : Type 0 where
-  pub named : (v : ℕ) → Contains (versions_in kept) v → (v ≡ d.seat.version) ⊎ IsNamed d.seat.place.me.0 v
-  pub ends : (older : List ℕ) × (versions_in kept ≡ older ++ d.seat.version ∷ [])
-  pub few : length (versions_in kept) ≤ d.seat.passes + 1
-  pub many : length d.usage.given - reserve_of d.usage - 2 ≤ cell_count version + cells_kept d.seat.place.me.0 (versions_in kept)
+pub record IsFullOn (d : Draft) (version : Version) (kept : List ℕ) : Type 0 where
+  pub named : (v : ℕ) → Contains kept v → (v ≡ d.seat.version) ⊎ IsNamed d.seat.place.me.0 v
+  pub ends : (older : List ℕ) × (kept ≡ older ++ d.seat.version ∷ [])
+  pub few : length kept ≤ d.seat.passes + 1
+  pub many : length d.usage.given - reserve_of d.usage - 2 ≤ cell_count version + cells_kept d.seat.place.me.0 kept
 
--- An entry was put under a name that owned this one; or there was no room for it, though it would have changed the version, and the
+-- An entry was put under a name that owned this one; or there was no room for it while what is kept is kept, though it would have changed the version, and the
 -- working set is as before.
-abbrev pub Stored : Name → Entry → Result (Unit {0}) Versions → Version → Draft → Type 0
+abbrev pub Stored : Name → Entry → Result (Unit {0}) NoRoom → Version → Draft → Type 0
 Stored name entry (Ok u) version new = WorksOn new (put name entry version)
-Stored name entry (Err kept) version new = WorksOn new version × IsFullOn new version kept × (put name entry version ≡ version → ⊥)
+Stored name entry (Err full) version new = WorksOn new version × IsFullOn new version (kept_versions new.usage) × (put name entry version ≡ version → ⊥)
 
-abbrev pub Stores : Name → Entry → Entry → Result (Unit {0}) Versions → Version → Draft → Type 0
+abbrev pub Stores : Name → Entry → Entry → Result (Unit {0}) NoRoom → Version → Draft → Type 0
 Stores name before entry result version new = before ≡ owned name version → Stored name entry result version new

@@ -9,7 +9,7 @@ ghost use Rattle.zone_edit.specs.Blocks.{Gives, Applies, AppliesAll};
 ghost use Rattle.zone_edit.specs.declared.applying.Stopped.TheVariants.{Memory};
 
 use crate::buffers::ItemBuffers;
-use crate::storing::store;
+use crate::storing::{NoRoom, store};
 use dns_name::Name;
 use rr_data::Entry;
 use shared_index::{Law, Named, Transaction, Versions};
@@ -37,8 +37,8 @@ enum Stopped {
     Memory,
     /// A rule of zones.
     Refused(Refusal),
-    /// No room, while these versions are kept.
-    Full(Versions),
+    /// No room.
+    Full,
 }
 
 impl From<AllocError> for Stopped {
@@ -123,7 +123,7 @@ fn apply<L: Law, N: Named, K>(
         &mut buffers.after,
     ) {
         Ok(()) => Ok(()),
-        Err(kept) => Err(Stopped::Full(kept)),
+        Err(NoRoom) => Err(Stopped::Full),
     }
 }
 
@@ -145,10 +145,10 @@ pub fn apply_all<L: Law, N: Named, K>(
             Ok(()) => {}
             Err(Stopped::Memory) => return Err(Halt::Memory),
             Err(Stopped::Refused(refusal)) => return Err(Halt::Refused(refusal)),
-            Err(Stopped::Full(kept)) => {
+            Err(Stopped::Full) => {
                 return Err(Halt::Full {
                     operation: index as u64 + 1,
-                    kept,
+                    kept: transaction.kept(),
                 });
             }
         }

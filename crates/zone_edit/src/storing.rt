@@ -9,8 +9,12 @@ ghost use Rattle.zone_edit.specs.Stores.{Owns, Stores, Edits};
 
 use dns_name::Name;
 use rr_data::Entry;
-use shared_index::{ChangeRefusal, InsertRefusal, Law, Named, Transaction, Versions};
+use shared_index::{ChangeRefusal, InsertRefusal, Law, Named, Transaction};
 use shift_key::Key;
+
+/// There is no room for an entry.
+#[derive(Clone, Copy)]
+pub struct NoRoom;
 
 /// A name that owns something loses it.
 fn take_out<L: Law, N: Named, K>(
@@ -18,7 +22,7 @@ fn take_out<L: Law, N: Named, K>(
     name: &Name,
     key: &Key,
     before: &Entry,
-) -> Result<(), Versions>
+) -> Result<(), NoRoom>
     requires key { key.now ≡ key_of name.now }
     requires owns { IsSomeAnd transaction.old.locked.now.draft (Owns name.now before.now) }
     requires some { 0 < length before.now }
@@ -30,7 +34,7 @@ fn take_out<L: Law, N: Named, K>(
     match transaction.delete(key) {
         Ok(()) => Ok(()),
         Err(ChangeRefusal::NotFound) => unreachable!(),
-        Err(ChangeRefusal::Full(full)) => Err(full.kept),
+        Err(ChangeRefusal::Full(_)) => Err(NoRoom),
     }
 }
 
@@ -41,7 +45,7 @@ fn put_in<L: Law, N: Named, K>(
     key: &Key,
     entry: &Entry,
     item: &[u8],
-) -> Result<(), Versions>
+) -> Result<(), NoRoom>
     requires key { key.now ≡ key_of name.now }
     requires owns { IsSomeAnd transaction.old.locked.now.draft (Owns name.now []) }
     requires item { IsItem item.now name.now entry.now }
@@ -53,7 +57,7 @@ fn put_in<L: Law, N: Named, K>(
     match transaction.insert(key, item) {
         Ok(()) => Ok(()),
         Err(InsertRefusal::Exists) => unreachable!(),
-        Err(InsertRefusal::Full(full)) => Err(full.kept),
+        Err(InsertRefusal::Full(_)) => Err(NoRoom),
     }
 }
 
@@ -65,7 +69,7 @@ fn exchange<L: Law, N: Named, K>(
     before: &Entry,
     entry: &Entry,
     item: &[u8],
-) -> Result<(), Versions>
+) -> Result<(), NoRoom>
     requires key { key.now ≡ key_of name.now }
     requires owns { IsSomeAnd transaction.old.locked.now.draft (Owns name.now before.now) }
     requires some { 0 < length before.now }
@@ -79,7 +83,7 @@ fn exchange<L: Law, N: Named, K>(
     match transaction.replace(key, item) {
         Ok(()) => Ok(()),
         Err(ChangeRefusal::NotFound) => unreachable!(),
-        Err(ChangeRefusal::Full(full)) => Err(full.kept),
+        Err(ChangeRefusal::Full(_)) => Err(NoRoom),
     }
 }
 
@@ -93,7 +97,7 @@ pub fn store<L: Law, N: Named, K>(
     before: &Entry,
     entry: &Entry,
     out: &mut [u8; 4096],
-) -> Result<(), Versions>
+) -> Result<(), NoRoom>
     requires key { key.now ≡ key_of name.now }
     requires says { SaysEntry name.now octets.now before.now }
     requires owns { IsSomeAnd transaction.old.locked.now.draft (Owns name.now before.now) }

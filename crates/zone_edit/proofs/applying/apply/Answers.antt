@@ -1,15 +1,14 @@
-use Rattle.std.proofs.Common.{rules, ◌≡◌, ◌<◌, ◌≤◌, length, take, Ok, Err, sym, subst}
+use Rattle.std.proofs.Common.{◌≡◌, ◌<◌, ◌≤◌, length, take, Ok, Err, sym, subst}
 use Rattle.zone_model.specs.Names.{Name}
 use Rattle.zone_model.specs.Records.{Entry, item}
-use Rattle.zone_model.specs.Versions.{Version, owned, owner_of, changed, put}
-use Rattle.zone_query.specs.Parts.{IsRead}
+use Rattle.zone_model.specs.Versions.{owned, owner_of, changed, put}
 use Rattle.rr_data.specs.ItemViews.{SaysEntry}
 use Rattle.zone_change.specs.Views.{operation_view}
-use Rattle.zone_edit.proofs.ApplyLaws.{owned_short, changed_short, accepted, refused}
+use Rattle.zone_edit.proofs.ApplyLaws.{owned_short, changed_short, accepted}
 use Rattle.zone_edit.specs.Stores.{WorksOn, Reads, Stores}
 use Rattle.zone_edit.specs.Blocks.{Applies}
 use Rattle.zone_edit.specs.declared.applying.Stopped.TheVariants as stops
-use Rattle.zone_edit.proofs.EditLaws.{edits_as, edits_on, read_some, owns_after}
+use Rattle.zone_edit.proofs.EditLaws.{edits_on, read_some, owns_after}
 use Rattle.zone_edit.proofs.applying.apply.Goals as goal
 
 pub entry_of-requires : goal.entry_of-requires
@@ -55,7 +54,7 @@ returns-in-Ok-clause-applies g c =
 
 pub returns-clause-applies : goal.returns-clause-applies
 returns-clause-applies g c =
-    edits_on (Reads c.owner-owner.result.now c.read_owned-len.new.item c.read_owned-len.result) (Stores c.owner-owner.result.now c.in_ok-before.before c.in_ok-entry.entry (Err c.in-Err.kept)) (Applies c.args.origin.now (operation_view c.args.operation.now) (Err (stops.Full c.in-Err.kept)))
+    edits_on (Reads c.owner-owner.result.now c.read_owned-len.new.item c.read_owned-len.result) (Stores c.owner-owner.result.now c.in_ok-before.before c.in_ok-entry.entry (Err c.in-Err.field-0)) (Applies c.args.origin.now (operation_view c.args.operation.now) (Err stops.Full))
     c.args.transaction.now.locked.now.draft c.read_owned-len.new.transaction.locked.now.draft c.store.new.transaction.locked.now.draft
     (λ version e f r.
     let before_is : c.in_ok-before.before ≡ owned c.owner-owner.result.now version = c.in_ok-before.ensures (owned c.owner-owner.result.now version) r.read.says in

@@ -1,4 +1,4 @@
-use Rattle.std.proofs.Common.{◌≡◌, List, map, take, Ok}
+use Rattle.std.proofs.Common.{◌≡◌, map, take, Ok}
 use Rattle.std.specs.Prelude.{IsSomeAnd}
 use Rattle.zone_model.specs.Versions.{Version, whole}
 use Rattle.shared_index.specs.declared.desk.Draft.{Draft}

@@ -1,6 +1,6 @@
-use Rattle.std.proofs.Common.{rules, Ok, ◌≡◌, ◌∙◌, [], List, ℕ, take, refl, ap, sym, subst}
+use Rattle.std.proofs.Common.{rules, Ok, ◌≡◌, ◌∙◌, [], take, ap, sym, subst}
 use Rattle.zone_model.specs.Records.{Entry, item}
-use Rattle.zone_model.specs.Versions.{Version, put}
+use Rattle.zone_model.specs.Versions.{put}
 use Rattle.zone_edit.proofs.StoreLaws.{unchanged_gone, unchanged_put, one_entry, said_item}
 use Rattle.zone_edit.specs.Stores.{Owns, WorksOn, Stores}
 use Rattle.zone_edit.proofs.EditLaws.{edits_same}
