@@ -4,7 +4,8 @@ ghost use Rattle.std.specs.Io.{StartsWith};
 ghost use Rattle.zone_model.specs.Names.{Name as Labels};
 ghost use Rattle.zone_model.specs.NameText.{octet_text, label_text, text_of};
 ghost use Rattle.dns_name.specs.Spelling.{Spells, IsSpelled};
-ghost use Rattle.std.specs.List.{flat_map};
+ghost use Rattle.dns_name.specs.Plain.{is_plain};
+ghost use Rattle.std.specs.List.{flat_map, list_all};
 
 use crate::Name;
 use crate::wire::first;
@@ -30,13 +31,52 @@ fn push_octet(out: &mut Vec<u8>, octet: u8) -> Result<(), AllocError>
     Ok(())
 }
 
+// Whether an octet stands for itself.
+fn is_plain(octet: u8) -> bool
+    ensures { result ≡ is_plain octet }
+{
+    match octet {
+        b'"' | b'$' | b'(' | b')' | b'.' | b';' | b'@' | b'\\' => false,
+        33..=126 => true,
+        _ => false,
+    }
+}
+
+// Whether all octets stand for themselves.
+fn all_plain(octets: &[u8]) -> bool
+    ensures { result ≡ list_all is_plain octets.now }
+{
+    octets.iter().all(|octet| is_plain(*octet))
+}
+
+// Octets of which some may not stand for themselves.
+fn push_each(out: &mut Vec<u8>, octets: &[u8]) -> Result<(), AllocError>
+    ensures ok { OnOk result (out.new.items ≡ out.old.items ++ flat_map octet_text octets.now) }
+    ensures kept { StartsWith out.new.items out.old.items }
+{
+    for octet in octets {
+        push_octet(out, *octet)?;
+    }
+    Ok(())
+}
+
+#[tactic(auto, using(crate::proofs::PrintLemmas::plain_text))]
+fn push_octets(out: &mut Vec<u8>, octets: &[u8]) -> Result<(), AllocError>
+    ensures ok { OnOk result (out.new.items ≡ out.old.items ++ flat_map octet_text octets.now) }
+    ensures kept { StartsWith out.new.items out.old.items }
+{
+    if all_plain(octets) {
+        out.extend_from_slice(octets)
+    } else {
+        push_each(out, octets)
+    }
+}
+
 fn push_label(out: &mut Vec<u8>, label: &[u8]) -> Result<(), AllocError>
     ensures ok { OnOk result (out.new.items ≡ out.old.items ++ label_text label.now) }
     ensures kept { StartsWith out.new.items out.old.items }
 {
-    for octet in label {
-        push_octet(out, *octet)?;
-    }
+    push_octets(out, label)?;
     out.push(b'.')?;
     Ok(())
 }

@@ -7,22 +7,15 @@ ghost use Rattle.job_make.specs.Views.{part_view};
 
 use crate::draws::Draws;
 use crate::part::Part;
-use itoa::Buffer;
 use std::alloc::AllocError;
-
-fn push_number(out: &mut Vec<u8>, number: u64) -> Result<(), AllocError>
-    ensures { OnOk result (out.new.items ≡ out.old.items ++ decimal number) }
-{
-    let mut buffer = Buffer::new();
-    out.extend_from_slice(buffer.format(number).as_bytes())
-}
+use zone_text::push_decimal;
 
 /// Pushes the name with a number.
 pub fn push_name(out: &mut Vec<u8>, name: u64) -> Result<(), AllocError>
     ensures { OnOk result (out.new.items ≡ out.old.items ++ name_text name) }
 {
     out.extend_from_slice(b"n")?;
-    push_number(out, name)
+    push_decimal(out, name)
 }
 
 // The address of the network 10 that a number's last three octets say.
@@ -30,11 +23,11 @@ fn push_address(out: &mut Vec<u8>, number: u64) -> Result<(), AllocError>
     ensures { OnOk result (out.new.items ≡ out.old.items ++ address_text number) }
 {
     out.extend_from_slice(b"10.")?;
-    push_number(out, number / 65536 % 256)?;
+    push_decimal(out, number / 65536 % 256)?;
     out.extend_from_slice(b".")?;
-    push_number(out, number / 256 % 256)?;
+    push_decimal(out, number / 256 % 256)?;
     out.extend_from_slice(b".")?;
-    push_number(out, number % 256)
+    push_decimal(out, number % 256)
 }
 
 // A question for a name's address.

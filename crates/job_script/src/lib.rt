@@ -24,7 +24,7 @@ pub use outcomes::{Cause, Outcome, Outcomes, Told, any_refused};
 pub use parts::{Parts, split};
 pub use printed::{PrintedRows, push_answer};
 pub use refusal::JobRefusal;
-pub use replies::{push_back, push_found, push_number, push_size, push_walk};
+pub use replies::{push_back, push_found, push_size, push_walk};
 pub use report::{print_outcomes, print_report};
 pub use script::read_job;
 pub use summary::print_summary;

@@ -5,11 +5,12 @@ ghost use Rattle.zone_model.specs.Rows.{Row, row_text, rows_of};
 ghost use Rattle.job_model.specs.Replies.{answer_text, kind_text};
 ghost use Rattle.job_script.specs.Printed.{HasPrinted};
 
-use crate::replies::{push_kind, push_number};
+use crate::replies::push_kind;
 use dns_name::Name;
 use rr_data::{SetView, push_data, push_type};
 use std::alloc::{AllocError, Global};
 use zone_query::{Kind, RowSink};
+use zone_text::push_decimal;
 
 // A record of an RRset as a line of a master file.
 fn push_row(
@@ -22,7 +23,7 @@ fn push_row(
 {
     owner.push_text(out)?;
     out.extend_from_slice(b" ")?;
-    push_number(out, u64::from(set.ttl()))?;
+    push_decimal(out, u64::from(set.ttl()))?;
     out.extend_from_slice(b" IN ")?;
     push_type(set.rtype(), out)?;
     out.extend_from_slice(b" ")?;

@@ -5,18 +5,10 @@ ghost use Rattle.job_model.specs.Replies as replies;
 ghost use Rattle.job_model.specs.Replies.{count_text};
 
 use dns_name::Name;
-use itoa::Buffer;
 use std::alloc::AllocError;
 use trie_read::Kind as Presence;
 use zone_query::Found;
-
-/// Pushes a number in decimal digits.
-pub fn push_number(out: &mut Vec<u8>, number: u64) -> Result<(), AllocError>
-    ensures { OnOk result (out.new.items ≡ out.old.items ++ decimal number) }
-{
-    let mut buffer = Buffer::new();
-    out.extend_from_slice(buffer.format(number).as_bytes())
-}
+use zone_text::push_decimal;
 
 /// Pushes the kind of a reply, and its count where it isn't 0.
 pub fn push_kind(out: &mut Vec<u8>, kind: &[u8], count: u64) -> Result<(), AllocError>
@@ -25,7 +17,7 @@ pub fn push_kind(out: &mut Vec<u8>, kind: &[u8], count: u64) -> Result<(), Alloc
     out.extend_from_slice(kind)?;
     if count > 0 {
         out.extend_from_slice(b" ")?;
-        push_number(out, count)?;
+        push_decimal(out, count)?;
     }
     out.extend_from_slice(b"\n")
 }
@@ -83,9 +75,9 @@ pub fn push_size(out: &mut Vec<u8>, names: u64, nodes: u64) -> Result<(), AllocE
     ensures { OnOk result (out.new.items ≡ out.old.items ++ replies.size_text names nodes) }
 {
     out.extend_from_slice(b"names ")?;
-    push_number(out, names)?;
+    push_decimal(out, names)?;
     out.extend_from_slice(b" nodes ")?;
-    push_number(out, nodes)?;
+    push_decimal(out, nodes)?;
     out.extend_from_slice(b"\n")
 }
 

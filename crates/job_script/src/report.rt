@@ -8,20 +8,20 @@ ghost use Rattle.job_script.specs.Views.{job_view};
 
 use crate::commands::Job;
 use crate::outcomes::{Cause, Outcome, Outcomes, Told};
-use crate::replies::push_number;
 use master_file::Zone;
 use std::alloc::{AllocError, Global};
 use zone_model::Refusal;
+use zone_text::push_decimal;
 
 // Worker, command and version.
 fn push_head(out: &mut Vec<u8>, worker: u64, command: u64, version: u64) -> Result<(), AllocError>
     ensures { OnOk result (out.new.items ≡ out.old.items ++ head_text worker command version) }
 {
-    push_number(out, worker)?;
+    push_decimal(out, worker)?;
     out.extend_from_slice(b".")?;
-    push_number(out, command)?;
+    push_decimal(out, command)?;
     out.extend_from_slice(b" v")?;
-    push_number(out, version)?;
+    push_decimal(out, version)?;
     out.extend_from_slice(b" ")
 }
 
@@ -40,7 +40,7 @@ fn push_kept(out: &mut Vec<u8>, kept: &[u64]) -> Result<(), AllocError>
 {
     for version in kept {
         out.extend_from_slice(b" ")?;
-        push_number(out, *version)?;
+        push_decimal(out, *version)?;
     }
     Ok(())
 }
@@ -49,7 +49,7 @@ fn push_full(out: &mut Vec<u8>, operation: u64, kept: &[u64]) -> Result<(), Allo
     ensures { OnOk result (out.new.items ≡ out.old.items ++ cause_text (outcomes.Full operation kept.now)) }
 {
     out.extend_from_slice(b"full at ")?;
-    push_number(out, operation)?;
+    push_decimal(out, operation)?;
     out.extend_from_slice(b" kept")?;
     push_kept(out, kept)
 }
@@ -121,9 +121,9 @@ fn push_end(out: &mut Vec<u8>, last: u64, names: u64) -> Result<(), AllocError>
     ensures { OnOk result (out.new.items ≡ out.old.items ++ end_text last names) }
 {
     out.extend_from_slice(b"end v")?;
-    push_number(out, last)?;
+    push_decimal(out, last)?;
     out.extend_from_slice(b" names ")?;
-    push_number(out, names)?;
+    push_decimal(out, names)?;
     out.extend_from_slice(b"\n")
 }
 

@@ -18,6 +18,7 @@ use crate::refusal::{JobRefusal, refused};
 use dns_name::Name;
 use job_model::{ScriptKind, Weight};
 use std::alloc::Global;
+use std::mem::replace;
 use zone_change::Operation;
 use zone_text::{Token, ZoneRefusal, line_tokens};
 
@@ -64,7 +65,7 @@ fn take_tokens(
     }
 }
 
-// The line that begins at a place; the place where the next one begins.
+// The line that begins at a place; the place where the next one begins. Its tokens lie in memory that is lent.
 #[tactic(auto, unfolding(job_model::specs::Jobs::script_line))]
 fn script_line(
     script: &mut Script,
@@ -73,13 +74,14 @@ fn script_line(
     origin: &Name,
     at: u32,
     line: u32,
+    lent: &mut Vec<Token>,
 ) -> Result<u32, JobRefusal>
     requires inside { at < length bytes.now }
     requires short { length bytes.now ≤ 2 ^ 24 }
     ensures steps { ScriptSteps result bytes.now at line origin.now (script_view script.old) (script_view script.new) }
     ensures next { IfOk result (λ next. (at < next) × (next ≤ length bytes.now)) }
 {
-    let lexed = match line_tokens(alloc, bytes, at, line) {
+    let lexed = match line_tokens(replace(lent, Vec::new(alloc)), bytes, at, line) {
         Ok(lexed) => lexed,
         Err(ZoneRefusal::Memory) => return Err(JobRefusal::Memory),
         Err(ZoneRefusal::Refused { .. }) => {
@@ -90,7 +92,10 @@ fn script_line(
         return Err(refused(line, ScriptKind::BadCommand));
     }
     match take_tokens(script, alloc, bytes, origin, line, &lexed.tokens) {
-        Ok(()) => Ok(lexed.next),
+        Ok(()) => {
+            *lent = lexed.tokens;
+            Ok(lexed.next)
+        }
         Err(refusal) => Err(refusal),
     }
 }
@@ -109,10 +114,11 @@ fn script_from(
     ensures reads { ScriptReads result (script_view script.new) (jobs.script_from origin.now first (lines_of bytes.now) (script_view script.old)) }
     ensures lines { IfOk result (λ n. n ≡ first + length (lines_of bytes.now)) }
 {
+    let mut lent = Vec::new(alloc);
     let mut at = 0;
     let mut line = first;
     while (at as usize) < bytes.len() {
-        match script_line(script, alloc, bytes, origin, at, line) {
+        match script_line(script, alloc, bytes, origin, at, line, &mut lent) {
             Ok(next) => {
                 at = next;
                 line += 1;

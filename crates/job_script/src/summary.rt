@@ -4,9 +4,10 @@ ghost use Rattle.job_model.specs.Summaries.{counts_text, sized_end_text};
 ghost use Rattle.job_script.specs.Summaries.{Tallied, AllTallied, refused_lines, all_refused_lines, summary_text};
 
 use crate::outcomes::{Outcome, Outcomes, is_committed, is_refused};
-use crate::replies::{push_number, push_size};
+use crate::replies::push_size;
 use crate::report::push_outcome;
 use std::alloc::{AllocError, Global};
+use zone_text::push_decimal;
 
 /// How many commands there were, and how many transactions were committed and refused.
 #[derive(Clone, Copy)]
@@ -61,11 +62,11 @@ fn push_counts(out: &mut Vec<u8>, tally: Tally) -> Result<(), AllocError>
     ensures { OnOk result (out.new.items ≡ out.old.items ++ counts_text tally.commands tally.committed tally.refused) }
 {
     out.extend_from_slice(b"make commands ")?;
-    push_number(out, tally.commands)?;
+    push_decimal(out, tally.commands)?;
     out.extend_from_slice(b" committed ")?;
-    push_number(out, tally.committed)?;
+    push_decimal(out, tally.committed)?;
     out.extend_from_slice(b" refused ")?;
-    push_number(out, tally.refused)?;
+    push_decimal(out, tally.refused)?;
     out.extend_from_slice(b"\n")
 }
 
@@ -95,7 +96,7 @@ fn push_sized_end(out: &mut Vec<u8>, last: u64, names: u64, nodes: u64) -> Resul
     ensures { OnOk result (out.new.items ≡ out.old.items ++ sized_end_text last names nodes) }
 {
     out.extend_from_slice(b"end v")?;
-    push_number(out, last)?;
+    push_decimal(out, last)?;
     out.extend_from_slice(b" ")?;
     push_size(out, names, nodes)
 }

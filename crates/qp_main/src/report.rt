@@ -4,9 +4,10 @@ ghost use Rattle.job_model.specs.Replies.{size_text};
 ghost use Rattle.qp_main.specs.Due.{zone_kind_text, script_kind_text, refusal_text};
 
 use job_model::ScriptKind;
-use job_script::{push_number, push_size};
+use job_script::push_size;
 use std::alloc::{AllocError, Global};
 use zone_model::ZoneKind;
+use zone_text::push_decimal;
 
 fn zone_kind_name(kind: ZoneKind) -> &'static [u8]
     ensures { result.now ≡ zone_kind_text kind }
@@ -54,7 +55,7 @@ fn refusal_line(alloc: Global, what: &[u8], line: u64, kind: &[u8]) -> Result<Ve
     let mut out = Vec::new(alloc);
     out.extend_from_slice(what)?;
     out.extend_from_slice(b" refused line ")?;
-    push_number(&mut out, line)?;
+    push_decimal(&mut out, line)?;
     out.extend_from_slice(b" ")?;
     out.extend_from_slice(kind)?;
     out.extend_from_slice(b"\n")?;
@@ -81,9 +82,9 @@ pub fn no_room(alloc: Global, cells: u64, limit: u64) -> Result<Vec<u8>, AllocEr
 {
     let mut out = Vec::new(alloc);
     out.extend_from_slice(b"zone does not fit: ")?;
-    push_number(&mut out, cells)?;
+    push_decimal(&mut out, cells)?;
     out.extend_from_slice(b" cells over ")?;
-    push_number(&mut out, limit)?;
+    push_decimal(&mut out, limit)?;
     out.extend_from_slice(b"\n")?;
     Ok(out)
 }

@@ -12,16 +12,8 @@ ghost use Rattle.rr_data.specs.Fields.{field_view};
 use crate::rdata::Rdata;
 use crate::splits::{number_of, short_of, split_name, split_octets, split_time};
 use crate::types::{Field, Form, form_of, type_numbered};
-use itoa::Buffer;
 use std::alloc::AllocError;
-
-fn push_decimal(out: &mut Vec<u8>, number: u32) -> Result<(), AllocError>
-    ensures ok { OnOk result (out.new.items ≡ out.old.items ++ decimal number) }
-    ensures kept { StartsWith out.new.items out.old.items }
-{
-    let mut buffer = Buffer::new();
-    out.extend_from_slice(buffer.format(number).as_bytes())
-}
+use zone_text::push_decimal;
 
 /// Pushes the mnemonic of a type, or `TYPE` and its number (RFC 3597, section 5).
 pub fn push_type(rtype: u16, out: &mut Vec<u8>) -> Result<(), AllocError>
@@ -32,7 +24,7 @@ pub fn push_type(rtype: u16, out: &mut Vec<u8>) -> Result<(), AllocError>
         Some(row) => out.extend_from_slice(row.mnemonic),
         None => {
             out.extend_from_slice(b"TYPE")?;
-            push_decimal(out, u32::from(rtype))
+            push_decimal(out, u64::from(rtype))
         }
     }
 }
@@ -45,7 +37,7 @@ fn push_address(address: &[u8], out: &mut Vec<u8>) -> Result<(), AllocError>
     let Some((octet, rest)) = address.split_first() else {
         return Ok(());
     };
-    push_decimal(out, u32::from(*octet))?;
+    push_decimal(out, u64::from(*octet))?;
     if rest.is_empty() {
         return Ok(());
     }
@@ -116,7 +108,7 @@ fn push_short<'a>(octets: &'a [u8], out: &mut Vec<u8>) -> Result<Option<&'a [u8]
     let Some((short, rest)) = split_octets(2, octets) else {
         return Ok(None);
     };
-    push_decimal(out, u32::from(short_of(short)))?;
+    push_decimal(out, u64::from(short_of(short)))?;
     Ok(Some(rest))
 }
 
@@ -127,7 +119,7 @@ fn push_number<'a>(octets: &'a [u8], out: &mut Vec<u8>) -> Result<Option<&'a [u8
     let Some((number, rest)) = split_octets(4, octets) else {
         return Ok(None);
     };
-    push_decimal(out, number_of(number))?;
+    push_decimal(out, u64::from(number_of(number)))?;
     Ok(Some(rest))
 }
 
@@ -138,7 +130,7 @@ fn push_time<'a>(octets: &'a [u8], out: &mut Vec<u8>) -> Result<Option<&'a [u8]>
     let Some((time, rest)) = split_time(octets) else {
         return Ok(None);
     };
-    push_decimal(out, number_of(time))?;
+    push_decimal(out, u64::from(number_of(time)))?;
     Ok(Some(rest))
 }
 
@@ -220,8 +212,7 @@ fn push_generic(octets: &[u8], out: &mut Vec<u8>) -> Result<(), AllocError>
     ensures kept { StartsWith out.new.items out.old.items }
 {
     out.extend_from_slice(b"\\# ")?;
-    let mut buffer = Buffer::new();
-    out.extend_from_slice(buffer.format(octets.len()).as_bytes())?;
+    push_decimal(out, octets.len() as u64)?;
     if octets.is_empty() {
         return Ok(());
     }

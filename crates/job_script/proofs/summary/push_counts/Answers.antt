@@ -11,7 +11,7 @@ last_push (Err k) now whole part e f = tt
 
 pub returns : goal.returns
 returns c =
-    last_push c.extend_from_slice-4.result c.extend_from_slice-4.new.self.items (c.push_number-3.new.out.items ++ codes "\n") c.push_number-3.new.out.items c.extend_from_slice-4.ensures.items
-    (counts_pieces c.args.out.now.items c.extend_from_slice.new.self.items c.push_number.new.out.items c.extend_from_slice-2.new.self.items c.push_number-2.new.out.items c.extend_from_slice-3.new.self.items c.push_number-3.new.out.items c.extend_from_slice-4.new.self.items
+    last_push c.extend_from_slice-4.result c.extend_from_slice-4.new.self.items (c.push_decimal-3.new.out.items ++ codes "\n") c.push_decimal-3.new.out.items c.extend_from_slice-4.ensures.items
+    (counts_pieces c.args.out.now.items c.extend_from_slice.new.self.items c.push_decimal.new.out.items c.extend_from_slice-2.new.self.items c.push_decimal-2.new.out.items c.extend_from_slice-3.new.self.items c.push_decimal-3.new.out.items c.extend_from_slice-4.new.self.items
     (codes "make commands ") (decimal c.args.tally.commands) (codes " committed ") (decimal c.args.tally.committed) (codes " refused ") (decimal c.args.tally.refused) (codes "\n")
-    c.in_ok-extend_from_slice.ensures.items c.in_ok-push_number.ensures c.in_ok-extend_from_slice-2.ensures.items c.in_ok-push_number-2.ensures c.in_ok-extend_from_slice-3.ensures.items c.in_ok-push_number-3.ensures)
+    c.in_ok-extend_from_slice.ensures.items c.in_ok-push_decimal.ensures.ok c.in_ok-extend_from_slice-2.ensures.items c.in_ok-push_decimal-2.ensures.ok c.in_ok-extend_from_slice-3.ensures.items c.in_ok-push_decimal-3.ensures.ok)
