@@ -13,7 +13,7 @@ use Rattle.zone_query.specs.Answers.{Answer, Step, is_cut, cut_above, ns_type}
 use Rattle.zone_query.specs.declared.kind.Kind.{Kind}
 use Rattle.zone_query.specs.declared.records.Held.{Held}
 use Rattle.zone_query.specs.declared.step.Next.{Next}
-use Rattle.zone_query.specs.declared.step.Next.TheVariants.{Ends, LeadsTo}
+use Rattle.zone_query.specs.declared.step.Next.TheVariants.{Ends, Leads}
 
 -- an RRset with its owner
 pub record OwnedSet : Type 0 where
@@ -68,24 +68,25 @@ IsCutOver origin name version octets (Some held) = IsCutOf version octets (cut_a
 
 -- ---- one name
 
-abbrev pub next_view : Next → answers.Next
-next_view (Ends kind) = answers.Ends kind
-next_view (LeadsTo target) = answers.LeadsTo target
+-- how an answer goes on, where an alias's target lies apart
+abbrev pub next_view : Option Name → Next → answers.Next
+next_view target (Ends kind) = answers.Ends kind
+next_view target Leads = answers.LeadsTo target
 
 -- what a sink had, and has since: some rows were added to whatever it had
 abbrev pub Adds : (List Row → Type 0) → (List Row → Type 0) → List Row → Type 0
 Adds had has added = (rows : List Row) → had rows → has (rows ++ added)
 
 -- a step's rows were added, and it is told how the answer goes on
-abbrev pub Gives : Step → (List Row → Type 0) → (List Row → Type 0) → Result Next AllocError → Type 0
-Gives step had has (Ok next) = (next_view next ≡ step.next) × Adds had has step.rows
-Gives step had has (Err e) = Unit {0}
+abbrev pub Gives : Step → (List Row → Type 0) → (List Row → Type 0) → Option Name → Result Next AllocError → Type 0
+Gives step had has target (Ok next) = (next_view target next ≡ step.next) × Adds had has step.rows
+Gives step had has target (Err e) = Unit {0}
 
 -- the same, where anything is told
-abbrev pub GivesAtOnce : Step → (List Row → Type 0) → (List Row → Type 0) → Result (Option Next) AllocError → Type 0
-GivesAtOnce step had has (Ok None) = (rows : List Row) → had rows → has rows
-GivesAtOnce step had has (Ok (Some next)) = (next_view next ≡ step.next) × Adds had has step.rows
-GivesAtOnce step had has (Err e) = Unit {0}
+abbrev pub GivesAtOnce : Step → (List Row → Type 0) → (List Row → Type 0) → Option Name → Result (Option Next) AllocError → Type 0
+GivesAtOnce step had has target (Ok None) = (rows : List Row) → had rows → has rows
+GivesAtOnce step had has target (Ok (Some next)) = (next_view target next ≡ step.next) × Adds had has step.rows
+GivesAtOnce step had has target (Err e) = Unit {0}
 
 -- ---- the answer
 

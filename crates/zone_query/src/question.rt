@@ -53,8 +53,19 @@ fn answer_at_once<V: Reading>(
         → IfOk result (λ o. IfSome o (λ a. a ≡ answer origin.now zone name.now rtype)) }
 {
     let mut rows = Rows::new(alloc);
+    let mut target = None;
     let key = Key::of(name);
-    match give_there(alloc, version, origin, name, &key, rtype, item, &mut rows)? {
+    match give_there(
+        alloc,
+        version,
+        origin,
+        name,
+        &key,
+        rtype,
+        item,
+        &mut target,
+        &mut rows,
+    )? {
         Some(Next::Ends(kind)) => Ok(Some(Answer::new(kind, rows))),
         _ => Ok(None),
     }
@@ -123,12 +134,26 @@ pub fn answer_into<V: Reading, S: RowSink>(
         return Ok(Kind::Outside);
     }
     let mut asked = *name;
+    let mut target = None;
     for _ in 0..MOST_ALIASES {
-        match step(alloc, version, origin, &asked, rtype, walker, item, rows)? {
+        match step(
+            alloc,
+            version,
+            origin,
+            &asked,
+            rtype,
+            walker,
+            item,
+            &mut target,
+            rows,
+        )? {
             Next::Ends(kind) => return Ok(kind),
-            Next::LeadsTo(None) => return Ok(Kind::Answered),
-            Next::LeadsTo(Some(target)) => asked = target,
+            Next::Leads => {}
         }
+        let Some(next) = target else {
+            return Ok(Kind::Answered);
+        };
+        asked = next;
         if !asked.is_under(origin) {
             return Ok(Kind::Answered);
         }

@@ -1,6 +1,6 @@
 //! What one name gives to an answer.
 
-ghost use Rattle.std.specs.Prelude.{◌≡◌, ◌∷◌, [], Some, None, MatchOption, true};
+ghost use Rattle.std.specs.Prelude.{◌≡◌, ◌∷◌, [], Option, Some, None, MatchOption, true};
 ghost use Rattle.std.specs.Option.{option_map};
 ghost use Rattle.zone_model.specs.Keys.{key_of};
 ghost use Rattle.zone_model.specs.Names.{Name as Labels, is_under};
@@ -28,8 +28,8 @@ use trie_read::Reading;
 pub enum Next {
     /// It ends.
     Ends(Kind),
-    /// An alias leads to this name; to none where its data are none.
-    LeadsTo(Option<Name>),
+    /// An alias leads on. Its target lies where targets are put: none where the alias's data are no name.
+    Leads,
 }
 
 /// The name that octets begin with.
@@ -61,19 +61,21 @@ fn alias_in<'a>(entry: &ItemView<'a>, rtype: u16) -> Option<SetView<'a>>
     }
 }
 
-/// What these records give under an owner.
+/// What these records give under an owner. The target of an alias among them is put apart.
 fn give<S: RowSink>(
     alloc: Global,
     entry: &ItemView<'_>,
     owner: &Name,
     rtype: u16,
+    target: &mut Option<Name>,
     rows: &mut S,
 ) -> Result<Next, AllocError>
-    ensures { Gives (by_alias owner.now rtype entry.now (alias_in rtype entry.now)) (S.has rows.old) (S.has rows.new) result }
+    ensures { Gives (by_alias owner.now rtype entry.now (alias_in rtype entry.now)) (S.has rows.old) (S.has rows.new) target.new result }
 {
     if let Some(alias) = alias_in(entry, rtype) {
         rows.push(alloc, owner, &alias)?;
-        return Ok(Next::LeadsTo(target_of(&alias)));
+        *target = target_of(&alias);
+        return Ok(Next::Leads);
     }
     match entry.find_set(rtype) {
         Some(set) => {
@@ -91,7 +93,7 @@ fn refer<S: RowSink>(
     entry: &ItemView<'_>,
     rows: &mut S,
 ) -> Result<Next, AllocError>
-    ensures { Gives (record { rows = set_rows cut.now (rrset_of ns_type entry.now); next = Ends Kind.Referral }) (S.has rows.old) (S.has rows.new) result }
+    ensures { (target : Option Labels) → Gives (record { rows = set_rows cut.now (rrset_of ns_type entry.now); next = Ends Kind.Referral }) (S.has rows.old) (S.has rows.new) target result }
 {
     if let Some(servers) = entry.find_set(NS) {
         rows.push(alloc, cut, &servers)?;
@@ -107,16 +109,17 @@ fn give_own<S: RowSink>(
     name: &Name,
     entry: &ItemView<'_>,
     rtype: u16,
+    target: &mut Option<Name>,
     rows: &mut S,
 ) -> Result<Next, AllocError>
     requires { is_under name.now origin.now ≡ true }
     ensures { (zone : Version) → NoneOver origin.now name.now zone → entry.now ≡ owned name.now zone → exists name.now zone ≡ true
-        → Gives (step origin.now zone rtype name.now) (S.has rows.old) (S.has rows.new) result }
+        → Gives (step origin.now zone rtype name.now) (S.has rows.old) (S.has rows.new) target.new result }
 {
     if is_cut(origin, name, entry) {
         return refer(alloc, name, entry, rows);
     }
-    give(alloc, entry, name, rtype, rows)
+    give(alloc, entry, name, rtype, target, rows)
 }
 
 /// What a name that isn't there gives, where none above it is a cut and the walker's iterator stands at its place.
@@ -127,15 +130,16 @@ fn give_absent<V: Reading, S: RowSink>(
     name: &Name,
     rtype: u16,
     item: &mut [u8; 4096],
+    target: &mut Option<Name>,
     rows: &mut S,
 ) -> Result<Next, AllocError>
     requires { (zone : Version) × IsPlaced (V.holds version.old) (V.stands version.old walker.old.iter) name.now zone × ([] ≡ owned name.now zone) }
     ensures same { version.new ≡ version.old }
     ensures gives { (zone : Version) (origin : Labels) → IsPlaced (V.holds version.old) (V.stands version.old walker.old.iter) name.now zone → NoneOver origin name.now zone
-        → [] ≡ owned name.now zone → Gives (step origin zone rtype name.now) (S.has rows.old) (S.has rows.new) result }
+        → [] ≡ owned name.now zone → Gives (step origin zone rtype name.now) (S.has rows.old) (S.has rows.new) target.new result }
 {
     match absent_node(version, walker, name, item) {
-        Some(held) => give(alloc, &held.view(item), name, rtype, rows),
+        Some(held) => give(alloc, &held.view(item), name, rtype, target, rows),
         None => Ok(Next::Ends(Kind::Nxdomain)),
     }
 }
@@ -150,6 +154,7 @@ fn search<V: Reading, S: RowSink>(
     rtype: u16,
     walker: &mut Walker,
     item: &mut [u8; 4096],
+    target: &mut Option<Name>,
     rows: &mut S,
 ) -> Result<Next, AllocError>
     requires shown { ShowsSome (V.holds version.old) }
@@ -157,7 +162,7 @@ fn search<V: Reading, S: RowSink>(
     requires key { key.now ≡ key_of name.now }
     ensures same { version.new ≡ version.old }
     ensures gives { (zone : Version) → Shows (V.holds version.old) zone
-        → Gives (step origin.now zone rtype name.now) (S.has rows.old) (S.has rows.new) result }
+        → Gives (step origin.now zone rtype name.now) (S.has rows.old) (S.has rows.new) target.new result }
 {
     let _wire = name.wire();
     version.restart(&mut walker.iter);
@@ -169,9 +174,9 @@ fn search<V: Reading, S: RowSink>(
         Some(leaf) => {
             let len = version.read(leaf, item);
             let entry = ItemView::of(name, &item[..len]);
-            give_own(alloc, origin, name, &entry, rtype, rows)
+            give_own(alloc, origin, name, &entry, rtype, target, rows)
         }
-        None => give_absent(alloc, version, walker, name, rtype, item, rows),
+        None => give_absent(alloc, version, walker, name, rtype, item, target, rows),
     }
 }
 
@@ -184,6 +189,7 @@ pub fn give_there<V: Reading, S: RowSink>(
     key: &Key,
     rtype: u16,
     item: &mut [u8; 4096],
+    target: &mut Option<Name>,
     rows: &mut S,
 ) -> Result<Option<Next>, AllocError>
     requires shown { ShowsSome (V.holds version.old) }
@@ -191,7 +197,7 @@ pub fn give_there<V: Reading, S: RowSink>(
     requires key { key.now ≡ key_of name.now }
     ensures same { version.new ≡ version.old }
     ensures gives { (zone : Version) → Shows (V.holds version.old) zone
-        → GivesAtOnce (step origin.now zone rtype name.now) (S.has rows.old) (S.has rows.new) result }
+        → GivesAtOnce (step origin.now zone rtype name.now) (S.has rows.old) (S.has rows.new) target.new result }
 {
     if name.labels().saturating_sub(1) > origin.labels() {
         return Ok(None);
@@ -201,7 +207,7 @@ pub fn give_there<V: Reading, S: RowSink>(
         return Ok(None);
     }
     let entry = ItemView::of(name, &item[..len]);
-    let next = give_own(alloc, origin, name, &entry, rtype, rows)?;
+    let next = give_own(alloc, origin, name, &entry, rtype, target, rows)?;
     Ok(Some(next))
 }
 
@@ -214,19 +220,20 @@ pub fn step<V: Reading, S: RowSink>(
     rtype: u16,
     walker: &mut Walker,
     item: &mut [u8; 4096],
+    target: &mut Option<Name>,
     rows: &mut S,
 ) -> Result<Next, AllocError>
     requires shown { ShowsSome (V.holds version.old) }
     requires under { is_under name.now origin.now ≡ true }
     ensures same { version.new ≡ version.old }
     ensures gives { (zone : Version) → Shows (V.holds version.old) zone
-        → Gives (step origin.now zone rtype name.now) (S.has rows.old) (S.has rows.new) result }
+        → Gives (step origin.now zone rtype name.now) (S.has rows.old) (S.has rows.new) target.new result }
 {
     let key = Key::of(name);
-    match give_there(alloc, version, origin, name, &key, rtype, item, rows)? {
+    match give_there(alloc, version, origin, name, &key, rtype, item, target, rows)? {
         Some(next) => Ok(next),
         None => search(
-            alloc, version, origin, name, &key, rtype, walker, item, rows,
+            alloc, version, origin, name, &key, rtype, walker, item, target, rows,
         ),
     }
 }

@@ -15,7 +15,7 @@ pub returns-in-Some-clause-gives : goal.returns-in-Some-clause-gives
 returns-in-Some-clause-gives g c zone origin placed none empty =
     let n = c.in-Some.ensures.node zone placed empty in
     let seen = c.view.ensures n.0 n.2 in
-    subst (λ (s : Step). Gives s (g.S.RowSink.has c.args.rows.now) (g.S.RowSink.has c.give.new.rows) c.give.result)
+    subst (λ (s : Step). Gives s (g.S.RowSink.has c.args.rows.now) (g.S.RowSink.has c.give.new.rows) c.give.new.target c.give.result)
     (ap (λ (e : Entry). by_node c.args.name.now c.args.rtype (Some e)) seen ∙ step_absent origin c.args.name.now zone c.args.rtype (Some n.0) none empty (sym n.1)) c.give.ensures
 
 pub returns-in-None-clause-gives : goal.returns-in-None-clause-gives

@@ -1,4 +1,4 @@
-use Rattle.std.proofs.Common.{◌∙◌, ℕ, List, [], map, sym, subst}
+use Rattle.std.proofs.Common.{rules, ◌∙◌, ℕ, List, [], map, sym, subst}
 use Rattle.zone_model.specs.Keys.{key_of}
 use Rattle.zone_model.specs.Versions.{owned}
 use Rattle.trie_model.specs.Order.{chain}
@@ -35,6 +35,9 @@ give_absent-requires g c =
       at = subst (λ (k : List ℕ). AtSplit (g.V.Reading.stands c.cut_over.new.version c.lookup-found.new.iter) k all) c.requires.key split;
     } in
     (zone, placed, nothing_owned c.args.name.now zone (λ t. leaf t.0 t.1 (t.2 ∙ sym c.requires.key)))
+
+pub returns-in-Some-clause-gives : goal.returns-in-Some-clause-gives
+returns-in-Some-clause-gives g c = let referred = c.refer.ensures c.args.target.now in search (rules, referred)
 
 pub returns-in-Some-found-clause-gives : goal.returns-in-Some-found-clause-gives
 returns-in-Some-found-clause-gives g c zone shows =
