@@ -166,7 +166,8 @@ fn transact(
     if is_written {
         publish::<Numbers, Brand>(index, &mut turn, next);
     }
-    let kept = turn.round(index);
+    let mut kept = KeptVersions::new();
+    turn.round(index, &mut kept);
     let (turn, pass) = turn.split(index);
     (turn, pass, kept)
 }
@@ -261,7 +262,8 @@ fn open(
 {
     let turn = write_first::<Brand>(index, turn, given);
     let mut turn = turn.open::<Numbers, Zero>(index, Some(0));
-    let kept = turn.round(index);
+    let mut kept = KeptVersions::new();
+    turn.round(index, &mut kept);
     (turn, kept)
 }
 

@@ -41,12 +41,21 @@ impl KeptVersions {
         self.versions.as_slice()
     }
 
-    fn of(version: u64) -> KeptVersions
-        ensures { result ≡ version ∷ [] }
+    /// None.
+    pub fn new() -> KeptVersions
+        ensures { result ≡ [] }
     {
-        let mut versions = ArrayVec::new();
-        versions.push(version);
-        KeptVersions { versions }
+        KeptVersions {
+            versions: ArrayVec::new(),
+        }
+    }
+
+    // No version but this one.
+    fn begin(&mut self, version: u64)
+        ensures { self.new ≡ version ∷ [] }
+    {
+        self.versions.clear();
+        self.versions.push(version);
     }
 
     /// Adds a version, if it isn't there.
@@ -66,35 +75,35 @@ impl KeptVersions {
 
 impl<O, E> TurnSeat<O, E> {
     /// Looks at each pass's pin once, and helps the passes that are about to look. Kept are then the current version and
-    /// those that the pins named, and no others.
-    pub fn round<L: Law<O, E>>(&mut self, shared: &Shared<O, E, L>) -> KeptVersions
+    /// those that the pins named, and no others. What the list had is lost.
+    pub fn round<L: Law<O, E>>(&mut self, shared: &Shared<O, E, L>, kept: &mut KeptVersions)
         requires { self.old.place.table_id ≡ shared.now.table.shared.table_id }
         ensures table { self.new.place.table_id ≡ self.old.place.table_id }
         ensures numbers { (self.new.version ≡ self.old.version) × (self.new.passes ≡ self.old.passes) }
-        ensures rounded { Rounded self.old.place.me.0 self.new.place.me.0 result }
-        ensures few { length result ≤ self.old.passes + 1 }
-        ensures named { (v : ℕ) → Contains result v → (v ≡ self.old.version) ⊎ IsNamed self.new.place.me.0 v }
+        ensures rounded { Rounded self.old.place.me.0 self.new.place.me.0 kept.new }
+        ensures few { length kept.new ≤ self.old.passes + 1 }
+        ensures named { (v : ℕ) → Contains kept.new v → (v ≡ self.old.version) ⊎ IsNamed self.new.place.me.0 v }
     {
         let passes = self.passes;
         let version = self.version;
-        make_round(shared, &mut self.place, passes, version)
+        make_round(shared, &mut self.place, passes, version, kept);
     }
 }
 
 impl<O, E> JoinedSeat<O, E> {
     /// Looks at each pass's pin once, and helps the passes that are about to look. Kept are then the current version and
-    /// those that the pins named, and no others.
-    pub fn round<L: Law<O, E>>(&mut self, shared: &Shared<O, E, L>) -> KeptVersions
+    /// those that the pins named, and no others. What the list had is lost.
+    pub fn round<L: Law<O, E>>(&mut self, shared: &Shared<O, E, L>, kept: &mut KeptVersions)
         requires { self.old.place.table_id ≡ shared.now.table.shared.table_id }
         ensures table { self.new.place.table_id ≡ self.old.place.table_id }
         ensures numbers { (self.new.version ≡ self.old.version) × (self.new.passes ≡ self.old.passes) × (self.new.number ≡ self.old.number) }
-        ensures rounded { Rounded self.old.place.me.0 self.new.place.me.0 result }
-        ensures few { length result ≤ self.old.passes + 1 }
-        ensures named { (v : ℕ) → Contains result v → (v ≡ self.old.version) ⊎ IsNamed self.new.place.me.0 v }
+        ensures rounded { Rounded self.old.place.me.0 self.new.place.me.0 kept.new }
+        ensures few { length kept.new ≤ self.old.passes + 1 }
+        ensures named { (v : ℕ) → Contains kept.new v → (v ≡ self.old.version) ⊎ IsNamed self.new.place.me.0 v }
     {
         let passes = self.passes;
         let version = self.version;
-        make_round(shared, &mut self.place, passes, version)
+        make_round(shared, &mut self.place, passes, version, kept);
     }
 }
 
@@ -104,7 +113,8 @@ fn make_round<O, E, L: Law<O, E>>(
     place: &mut Place<O, E>,
     passes: u32,
     version: u64,
-) -> KeptVersions
+    kept: &mut KeptVersions,
+)
     requires table { place.old.table_id ≡ shared.now.table.shared.table_id }
     requires turn { has_turn place.old.me.0.turn ≡ true }
     requires told { is_told place.old.me.0.seen.opening ≡ true }
@@ -112,19 +122,18 @@ fn make_round<O, E, L: Law<O, E>>(
     requires blank { marks_of place.old.me.0.turn ≡ replicate passes mark.Blank }
     requires version { version ≡ length place.old.me.0.seen.history }
     ensures table { (place.new.table_id ≡ place.old.table_id) × (place.new.me.1 ≡ place.old.me.1) }
-    ensures rounded { Rounded place.old.me.0 place.new.me.0 result }
-    ensures few { length result ≤ passes + 1 }
-    ensures named { (v : ℕ) → Contains result v → (v ≡ version) ⊎ IsNamed place.new.me.0 v }
+    ensures rounded { Rounded place.old.me.0 place.new.me.0 kept.new }
+    ensures few { length kept.new ≤ passes + 1 }
+    ensures named { (v : ℕ) → Contains kept.new v → (v ≡ version) ⊎ IsNamed place.new.me.0 v }
 {
     let word = shared.table.shared.load::<Look<L>>(place, CUR);
-    let mut kept = KeptVersions::of(version);
+    kept.begin(version);
     for pass in 0..passes {
         let pin = mark_pass(shared, place, pass, word);
         if pin != IDLE {
             kept.add(version_of_pin(pin));
         }
     }
-    kept
 }
 
 /// Marks a pass as idle or pinned by its pin, which is answered. One that is about to look is pinned at the current version,

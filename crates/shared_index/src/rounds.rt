@@ -11,7 +11,7 @@ ghost use Rattle.shared_index.specs.Keepings.{GoesOn};
 
 use crate::meaning::{Law, Meaning, Operations, Version};
 use chunk_usage::Usage;
-use shared_cells::{JoinedSeat, Shared};
+use shared_cells::{JoinedSeat, KeptVersions, Shared};
 
 /// Makes a round: kept are then the current version and those that some pass was found reading, and no others.
 pub(crate) fn make_round<L: Law>(
@@ -37,6 +37,7 @@ pub(crate) fn make_round<L: Law>(
     ensures named { (v : ℕ) → Contains (kept_versions usage.new) v → (v ≡ seat.old.version) ⊎ IsNamed seat.new.place.me.0 v }
 {
     seat.look(shared);
-    let list = seat.round(shared);
+    let mut list = KeptVersions::new();
+    seat.round(shared, &mut list);
     usage.keep_only(list.as_slice());
 }

@@ -21,7 +21,7 @@ loop-pass-init g c =
     let v = c.load-word.new.seat.me.0 in
     let is = ap (λ (m : Me (Unit {0}) (View g.row.O.Denot g.row.E.Denot)). m.0.turn) look.0 ∙ look.1.1 in
     let blank = ap (λ (m : Me (Unit {0}) (View g.row.O.Denot g.row.E.Denot)). marks_of m.0.turn) look.0 ∙ c.requires.blank in
-    record { table = refl; slots = refl; gathered = gathers_first c.args.passes c.args.version v look.1.0 is blank c.requires.passes.0 c.of-kept.result c.of-kept.ensures }
+    record { table = refl; slots = refl; gathered = gathers_first c.args.passes c.args.version v look.1.0 is blank c.requires.passes.0 c.begin.new.self c.begin.ensures }
 
 pub mark_pass-pin-requires-clause-current : goal.mark_pass-pin-requires-clause-current
 mark_pass-pin-requires-clause-current g c =

@@ -13,10 +13,10 @@ pub keep_only-requires : goal.keep_only-requires
 keep_only-requires g c =
     let seat = c.args.seat.now in
     let v : Known = seat.place.me.0 in
-    let w : Known = c.round-list.new.self.place.me.0 in
-    let list = c.round-list.result in
+    let w : Known = c.round.new.self.place.me.0 in
+    let list = c.round.new.kept in
     let look = c.look.ensures in
-    let rounded : Rounded v w list = subst (λ (x : Known). Rounded x w list) look.same.0 c.round-list.ensures.rounded in
+    let rounded : Rounded v w list = subst (λ (x : Known). Rounded x w list) look.same.0 c.round.ensures.rounded in
     let told = look.confirmed in
     subst (λ (ns : List ℕ). IfSome (newest c.args.usage.now.rows) (λ (row : Row). is_among ns row.version ≡ true)) (sym c.as_slice.ensures.versions)
     (newest_left g.L.Law.lawful v told.0 c.look.result told.1 told.2 w list rounded c.args.usage.now seat.passes (seat.passes + 2) c.requires.agrees)
@@ -26,9 +26,9 @@ returns g c =
     let seat = c.args.seat.now in
     let u = c.args.usage.now in
     let v : Known = seat.place.me.0 in
-    let w : Known = c.round-list.new.self.place.me.0 in
-    let list = c.round-list.result in
-    let round = c.round-list.ensures in
+    let w : Known = c.round.new.self.place.me.0 in
+    let list = c.round.new.kept in
+    let round = c.round.ensures in
     let look = c.look.ensures in
     let told = look.confirmed in
     let rounded : Rounded v w list = subst (λ (x : Known). Rounded x w list) look.same.0 round.rounded in
