@@ -44,12 +44,12 @@ fn measure(text: &[u8]) -> Result<(usize, bool), NameRefusal>
     }
 }
 
-// The octets of the labels. A last dot adds that of the root.
-fn fill(text: &[u8]) -> Octets
-    requires { HasRoom (labels_of text.now) }
-    ensures { IsLaid result (labels_of text.now) }
+// The octets of the labels, laid down where none are. A last dot adds that of the root.
+fn fill(text: &[u8], octets: &mut Octets)
+    requires room { HasRoom (labels_of text.now) }
+    requires none { octets.old ≡ [] }
+    ensures { IsLaid octets.new (labels_of text.now) }
 {
-    let mut octets = Octets::new();
     octets.push(0);
     let mut start = 0;
     let mut at = 0;
@@ -73,7 +73,6 @@ fn fill(text: &[u8]) -> Octets
     if label > 0 {
         octets.set(start, label as u8);
     }
-    octets
 }
 
 // The name of a text that a last dot ends.
@@ -85,7 +84,8 @@ fn absolute(text: &[u8], octets: usize) -> Result<Name, NameRefusal>
     if total > MOST_OCTETS {
         return Err(NameRefusal::LongName(total));
     }
-    let laid = fill(text);
+    let mut laid = Octets::new();
+    fill(text, &mut laid);
     Ok(of_wire(laid.as_slice()))
 }
 
@@ -99,7 +99,8 @@ fn relative(text: &[u8], octets: usize, origin: &Name) -> Result<Name, NameRefus
     if total > MOST_OCTETS {
         return Err(NameRefusal::LongName(total));
     }
-    let mut laid = fill(text);
+    let mut laid = Octets::new();
+    fill(text, &mut laid);
     laid.append(behind);
     Ok(of_wire(laid.as_slice()))
 }

@@ -21,11 +21,10 @@ fn inner_name(bytes: &[u8], origin: &Name, token: Token) -> Option<Name>
     requires { IsPlaced bytes.now token }
     ensures { result ≡ jobs.inner_name origin.now (token_view bytes.now token) }
 {
-    let name = name_word(bytes, origin, token)?;
-    if name.is_under(origin) {
-        Some(name)
-    } else {
-        None
+    let name = name_word(bytes, origin, token);
+    match &name {
+        Some(inner) if inner.is_under(origin) => name,
+        _ => None,
     }
 }
 

@@ -15,11 +15,11 @@ short octets labels e h = omega arith
 pub of_wire-requires : goal.of_wire-requires
 of_wire-requires c =
     let m = c.requires in
-    (m.labels, record { each = m.each; short = short c.args.octets m.labels m.counted c.if-total-gt-MOST_OCTETS.false }, c.as_slice.ensures ∙ laid_dot _ _ m _ c.fill-laid.ensures)
+    (m.labels, record { each = m.each; short = short c.args.octets m.labels m.counted c.if-total-gt-MOST_OCTETS.false }, c.as_slice.ensures ∙ laid_dot _ _ m _ c.fill.ensures)
 
 pub returns : goal.returns
 returns c = λ y h.
     let m = c.requires in
     let le = short c.args.octets m.labels m.counted c.if-total-gt-MOST_OCTETS.false in
-    let name = c.of_wire.ensures m.labels (record { each = m.each; short = le }) (c.as_slice.ensures ∙ laid_dot _ _ m _ c.fill-laid.ensures) in
+    let name = c.of_wire.ensures m.labels (record { each = m.each; short = le }) (c.as_slice.ensures ∙ laid_dot _ _ m _ c.fill.ensures) in
     ap (λ (l : List (List ℕ)). Ok l) name ∙ sym (fitting-fits m.labels le) ∙ ap fitting (same_labels _ _ _ m y h)

@@ -14,8 +14,8 @@ wire_positive : (n : List (List ℕ)) → 0 < length (wire n)
 wire_positive [] = omega arith
 wire_positive (l ∷ ls) = omega arith
 
-pub fill-laid-requires : goal.fill-laid-requires
-fill-laid-requires c =
+pub fill-requires-clause-room : goal.fill-requires-clause-room
+fill-requires-clause-room c =
     let some : 0 < length (wire c.args.origin.now) = wire_positive c.args.origin.now in
     has_room _ _ _ c.requires (omega (arith, c.if-total-gt-MOST_OCTETS.false, ap length c.wire-behind.ensures.wire))
 
@@ -23,12 +23,12 @@ pub of_wire-requires : goal.of_wire-requires
 of_wire-requires c = (
   c.requires.labels ++ c.args.origin.now,
   joined_name _ _ c.requires c.args.origin.now c.wire-behind.ensures.name (omega (arith, c.if-total-gt-MOST_OCTETS.false, ap length c.wire-behind.ensures.wire)),
-  c.as_slice.ensures ∙ c.append.ensures ∙ ap (λ (w : List ℕ). c.fill-laid.result ++ w) c.wire-behind.ensures.wire ∙ laid_open _ _ c.requires _ c.args.origin.now c.fill-laid.ensures,
+  c.as_slice.ensures ∙ c.append.ensures ∙ ap (λ (w : List ℕ). c.fill.new.octets ++ w) c.wire-behind.ensures.wire ∙ laid_open _ _ c.requires _ c.args.origin.now c.fill.ensures,
 )
 
 pub returns : goal.returns
 returns c = λ y h.
     let m = c.requires in
     let is_name = joined_name _ _ m c.args.origin.now c.wire-behind.ensures.name (omega (arith, c.if-total-gt-MOST_OCTETS.false, ap length c.wire-behind.ensures.wire)) in
-    let name = c.of_wire.ensures (m.labels ++ c.args.origin.now) is_name (c.as_slice.ensures ∙ c.append.ensures ∙ ap (λ (w : List ℕ). c.fill-laid.result ++ w) c.wire-behind.ensures.wire ∙ laid_open _ _ m _ c.args.origin.now c.fill-laid.ensures) in
+    let name = c.of_wire.ensures (m.labels ++ c.args.origin.now) is_name (c.as_slice.ensures ∙ c.append.ensures ∙ ap (λ (w : List ℕ). c.fill.new.octets ++ w) c.wire-behind.ensures.wire ∙ laid_open _ _ m _ c.args.origin.now c.fill.ensures) in
     ap (λ (l : List (List ℕ)). Ok l) name ∙ sym (fitting-fits (m.labels ++ c.args.origin.now) is_name.short) ∙ ap (λ (l : List (List ℕ)). fitting (l ++ c.args.origin.now)) (same_labels _ _ _ m y h)
