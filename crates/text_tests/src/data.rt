@@ -13,7 +13,7 @@ fn read(alloc: Global, rtype: u16, text: &[u8], origin: &Name) -> Result<Rdata, 
     if text.is_empty() || text.len() > 100 {
         return Err(RdataRefusal::Memory);
     }
-    match line_tokens(alloc, text, 0, 1) {
+    match line_tokens(Vec::new(alloc), text, 0, 1) {
         Ok(line) => Rdata::read(alloc, rtype, text, &line.tokens, origin),
         Err(_) => Err(RdataRefusal::Memory),
     }

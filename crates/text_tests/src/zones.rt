@@ -137,7 +137,7 @@ fn line_at(alloc: Global, text: &[u8], from: u32) -> Option<(usize, u32, bool)> 
     if text.len() > 100 || from as usize >= text.len() {
         return None;
     }
-    match line_tokens(alloc, text, from, 2) {
+    match line_tokens(Vec::new(alloc), text, from, 2) {
         Ok(line) => Some((line.tokens.len(), line.next, line.parens)),
         Err(_) => None,
     }

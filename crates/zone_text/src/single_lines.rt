@@ -15,7 +15,6 @@ use crate::lexer::{Scan, scan_tokens};
 use crate::lines::line_at;
 use crate::refusal::ZoneRefusal;
 use crate::token::Token;
-use std::alloc::Global;
 
 /// The tokens of a line, whether it has a parenthesis, and the byte that the next line begins at. A parenthesis that the
 /// line leaves open is none of this call's business.
@@ -26,8 +25,8 @@ pub struct LexedLine {
     pub next: u32,
 }
 
-// The tokens of the line that begins at a place.
-fn scan_line(alloc: Global, bytes: &[u8], from: u32, line: u32) -> Result<LexedLine, ZoneRefusal>
+// The tokens of the line that begins at a place, in the memory of others.
+fn scan_line(lent: Vec<Token>, bytes: &[u8], from: u32, line: u32) -> Result<LexedLine, ZoneRefusal>
     requires inside { from < length bytes.now }
     requires short { length bytes.now ≤ 2 ^ 24 }
     ensures reads { Reads result (line_view bytes.now) (single_line line (first_line (drop from bytes.now))) }
@@ -36,7 +35,7 @@ fn scan_line(alloc: Global, bytes: &[u8], from: u32, line: u32) -> Result<LexedL
     ensures rest { IfOk result (λ l. lines_of (drop from bytes.now) ≡ first_line (drop from bytes.now) ∷ lines_of (drop l.next bytes.now)) }
 {
     let (upto, next) = line_at(bytes, from);
-    let mut scan = new_scan(Vec::new(alloc));
+    let mut scan = new_scan(lent);
     match scan_tokens(&mut scan, bytes, from, upto, line) {
         Ok(()) => Ok(line_of(scan, next)),
         Err(refusal) => Err(refusal),
@@ -57,9 +56,9 @@ fn line_of(scan: Scan, next: u32) -> LexedLine
 }
 
 /// The tokens of the line that begins at byte `from`, which has the number `line`. Lines behind it are not read: where a
-/// parenthesis stays open, `parens` tells that there is one.
+/// parenthesis stays open, `parens` tells that there is one. The tokens lie in the memory of those lent, which are lost.
 pub fn line_tokens(
-    alloc: Global,
+    lent: Vec<Token>,
     bytes: &[u8],
     from: u32,
     line: u32,
@@ -73,5 +72,5 @@ pub fn line_tokens(
     ensures next { IfOk result (λ l. (from < l.next) × (l.next ≤ length bytes.now)) }
     ensures rest { IfOk result (λ l. lines_of (drop from bytes.now) ≡ first_line (drop from bytes.now) ∷ lines_of (drop l.next bytes.now)) }
 {
-    scan_line(alloc, bytes, from, line)
+    scan_line(lent, bytes, from, line)
 }
