@@ -4,10 +4,16 @@ use Rattle.chunk_usage.specs.Ledger.{Ledger, is_given}
 use Rattle.chunk_usage.specs.Keeping.{freed, is_needed, is_unreached}
 use Rattle.chunk_usage.specs.ChunkSets.{has}
 use Rattle.chunk_usage.specs.Inside.{ledger_of}
-use Rattle.chunk_usage.proofs.RecyclingLaws.{found_is, left_needed, kept_stays, freed_ledger, freed_is}
+use Rattle.chunk_usage.proofs.RecyclingLaws.{found_is, left_needed, kept_stays, freed_ledger, freed_is, nothing_freed, each_stays}
 use Rattle.chunk_usage.proofs.usage.Usage.free_unreached.Given.{Over}
 use Rattle.chunk_usage.proofs.InsideLemmas.{known}
 use Rattle.chunk_usage.proofs.usage.Usage.free_unreached.Goals as goal
+
+pub returns-then-all_used-clause-after : goal.returns-then-all_used-clause-after
+returns-then-all_used-clause-after g c = nothing_freed c.args.self.now (c.all_used.ensures c.if-all_used.true)
+
+pub returns-then-all_used-clause-by_chunk : goal.returns-then-all_used-clause-by_chunk
+returns-then-all_used-clause-by_chunk g c = each_stays c.args.self.now (c.all_used.ensures c.if-all_used.true)
 
 pub free_all-count-requires-clause-unkept : goal.free_all-count-requires-clause-unkept
 free_all-count-requires-clause-unkept g c q kept =
