@@ -1,6 +1,6 @@
 //! Sets of chunks, a bit for each chunk.
 
-ghost use Rattle.std.specs.Prelude.{◌≡◌, ◌≤◌, ◌<◌, ◌*◌, ◌&&◌, ℕ, false, true, not, IfOk, IfSome, IfNone, count_by, length, replicate, slice_set};
+ghost use Rattle.std.specs.Prelude.{◌≡◌, ◌≤◌, ◌<◌, ◌*◌, ◌&&◌, ◌↔◌, ℕ, false, true, not, IfOk, IfSome, IfNone, IsTrue, count_by, length, replicate, slice_index, slice_set};
 ghost use Rattle.std.specs.List.{position_or_len};
 ghost use Rattle.chunk_usage.specs.ChunkSets.{IsFirstBit, IsFirstFrom, Without, has, has_bit};
 
@@ -155,16 +155,42 @@ fn first_bit(words: &[u64], from: u32) -> Option<u32>
 
 /// The first bit that is set, from a word on.
 fn first_bit_of_words(words: &[u64], from: usize) -> Option<u32>
-    requires { length words.now ≤ 64 }
+    requires few { length words.now ≤ 64 }
+    requires within { from ≤ length words.now }
     ensures found { IfSome result (λ k. IsFirstBit words.now (64 * from) k) }
     ensures none { IfNone result ((k : ℕ) → 64 * from ≤ k → has_bit words.now k ≡ false) }
 {
-    for place in from..words.len() {
+    for place in after_clear(words, from)..words.len() {
         if words[place] != 0 {
             return Some(64 * place as u32 + words[place].trailing_zeros());
         }
     }
     None
+}
+
+/// A word that only clear ones stand before, from a word on: they are passed by eights.
+fn after_clear(words: &[u64], from: usize) -> usize
+    requires { from ≤ length words.now }
+    ensures at_or_after { from ≤ result }
+    ensures within { result ≤ length words.now }
+    ensures clear { (i : ℕ) → from ≤ i → i < result → slice_index words.now i ≡ 0 }
+{
+    let mut place = from;
+    while words.len() - place >= 8 && are_clear(&words[place..place + 8]) {
+        place += 8;
+    }
+    place
+}
+
+/// Whether eight words are clear.
+#[inline]
+fn are_clear(words: &[u64]) -> bool
+    requires { length words.now ≡ 8 }
+    ensures { IsTrue result ↔ ((i : ℕ) → i < 8 → slice_index words.now i ≡ 0) }
+{
+    let front = words[0] | words[1] | words[2] | words[3];
+    let back = words[4] | words[5] | words[6] | words[7];
+    front | back == 0
 }
 
 /// The first bit that is clear, or how many bits there are.
