@@ -107,6 +107,15 @@ impl ChunkSet {
         clear_bits(&mut self.words, &other.words);
     }
 
+    /// Makes it one set without the chunks of another.
+    pub fn set_difference(&mut self, all: &ChunkSet, other: &ChunkSet)
+        requires all { length self.old ≡ length all.now }
+        requires other { length self.old ≡ length other.now }
+        ensures { Without all.now self.new (has other.now) }
+    {
+        put_difference(&mut self.words, &all.words, &other.words);
+    }
+
     /// The first chunk of the set that isn't before a place.
     #[inline]
     pub fn first_from(&self, from: u32) -> Option<u32>
@@ -133,6 +142,18 @@ fn clear_bits(words: &mut [u64], others: &[u64])
 {
     for (place, bits) in others.iter().enumerate() {
         words[place] &= !*bits;
+    }
+}
+
+/// Puts the bits that are set in the first words and not in the others.
+fn put_difference(words: &mut [u64], all: &[u64], others: &[u64])
+    requires all { length words.old ≡ length all.now }
+    requires others { length words.old ≡ length others.now }
+    ensures len { length words.new ≡ length words.old }
+    ensures left { (k : ℕ) → has_bit words.new k ≡ (has_bit all.now k && not (has_bit others.now k)) }
+{
+    for (place, bits) in others.iter().enumerate() {
+        words[place] = all[place] & !*bits;
     }
 }
 

@@ -30,8 +30,7 @@ impl Usage {
         }
         let state = &mut *self.state;
         let found = &mut state.unreached;
-        found.copy_from(&state.allocated);
-        found.subtract(state.counts.counted());
+        found.set_difference(&state.allocated, state.counts.counted());
         leave_out_kept(found, &state.slots[..state.kept]);
         leave_out(found, state.bump);
         leave_out(found, state.fender);
