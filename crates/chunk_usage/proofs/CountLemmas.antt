@@ -65,12 +65,12 @@ module _ (changed : List Bool) (noted live new : List ℕ) (c before count : ℕ
       one k (inl e) = subst (λ (j : ℕ). count_before (slice_set changed c true) new (slice_set live c count) j ≡ count_before changed noted live j) (sym e) (here _ refl is)
       one k (inr other) = there _ is k other
 
--- how many counts are low, where one is set
-pub low_set : (live : List ℕ) (c before count : ℕ) → c < length live → before ≡ slice_index live c
-    → count_by is_low (slice_set live c count) + cond (is_low before) 1 0 ≡ count_by is_low live + cond (is_low count) 1 0
-low_set live c before count l was =
-    subst (λ (b : ℕ). count_by is_low (slice_set live c count) + cond (is_low b) 1 0 ≡ count_by is_low live + cond (is_low count) 1 0) (sym was)
-    (sum_by-set (λ (x : ℕ). cond (is_low x) 1 0) live c count 0 l)
+-- how many counts pass a test, where one is set
+pub passing_set : (p : ℕ → Bool) (live : List ℕ) (c before count : ℕ) → c < length live → before ≡ slice_index live c
+    → count_by p (slice_set live c count) + cond (p before) 1 0 ≡ count_by p live + cond (p count) 1 0
+passing_set p live c before count l was =
+    subst (λ (b : ℕ). count_by p (slice_set live c count) + cond (p b) 1 0 ≡ count_by p live + cond (p count) 1 0) (sym was)
+    (sum_by-set (λ (x : ℕ). cond (p x) 1 0) live c count 0 l)
 
 pub length-row_of : (live : List ℕ) → length (row_of live) ≡ length live
 length-row_of live = length-map live (nat_lt 0)
@@ -79,6 +79,10 @@ length-row_of live = length-map live (nat_lt 0)
 pub all_low : (n : ℕ) → count_by is_low (replicate n 0) ≡ n
 all_low zero = refl
 all_low (suc n) = let e = all_low n in let f = sum_by-cons (λ (x : ℕ). cond (is_low x) 1 0) 0 (replicate n 0) in omega arith
+
+pub none_used : (n : ℕ) → count_by (nat_lt 0) (replicate n 0) ≡ 0
+none_used zero = refl
+none_used (suc n) = let e = none_used n in let f = sum_by-cons (λ (x : ℕ). cond (nat_lt 0 x) 1 0) 0 (replicate n 0) in omega arith
 
 pub no_row : (n : ℕ) → row_of (replicate n 0) ≡ replicate n false
 no_row zero = refl

@@ -10,4 +10,5 @@ pub mod RoundLemmas
 pub mod RowLemmas
 pub mod SpaceLaws
 pub mod SparseLaws
+pub mod UsedLaws
 pub mod WordLemmas

@@ -1,13 +1,14 @@
 -- Chunks that nothing needs: a ledger stays one without them.
-use Rattle.std.proofs.Common.{◌≡◌, ℕ, ◌<◌, ◌≤◌, nat_lt, Bool, true, false, not, List, [], ◌∷◌, length, slice_index, slice_index_or, refl, ◌∙◌, sym, ap, subst, inl, inr, arith}
-use Rattle.std.specs.Prelude.{Option, None, Some, ◌||◌, ◌&&◌}
+use Rattle.std.proofs.Common.{◌≡◌, ℕ, ◌+◌, ◌<◌, ◌≤◌, nat_lt, Bool, true, false, not, List, [], ◌∷◌, length, slice_index, slice_index_or, refl, ◌∙◌, sym, ap, subst, inl, inr, arith}
+use Rattle.std.specs.Prelude.{Option, None, Some, ◌||◌, ◌&&◌, count_by}
 use Rattle.std.specs.List.{AllByRecursion, list_any}
 use Rattle.std.proofs.lemmas.Bool.{cases_lt, and_from, or_left, or_right, eq-eqb, lt-ltb}
 use Rattle.std.proofs.lemmas.List.{length-map, get_or-map, get_or_past}
 use Rattle.std.proofs.lemmas.List.FromFn.{fill_by_all, get_or-map-range_with_len, length-map-range_with_len}
 use Rattle.chunk_usage.specs.declared.open.Open.{Open}
-use Rattle.chunk_usage.specs.Ledger.{Row, Ledger, IsLedger, IsOpen, IsRowOf, IsNewest, newest, row_of, is_in_row, is_given, is_open}
+use Rattle.chunk_usage.specs.Ledger.{Row, Ledger, IsLedger, IsOpen, IsRowOf, IsNewest, newest, row_of, is_in_row, is_given, is_open, free_count}
 use Rattle.chunk_usage.specs.Keeping.{is_in_rows, is_needed, is_unreached, freed}
+use Rattle.chunk_usage.proofs.UsedLaws.{given_used}
 
 -- the newest row is one of the rows
 newest_passes : (p : Row → Bool) (rows : List Row) (r : Row) → newest rows ≡ Some r → p r ≡ true → list_any p rows ≡ true
@@ -146,3 +147,25 @@ kept_stays l k t = ap (λ b. is_given l k && not b) (row_needed l k t) ∙ none 
     none : (b : Bool) → (b && false) ≡ false
     none true = refl
     none false = refl
+
+-- where each given chunk has a cell that counts, nothing is unreached, and nothing is freed
+pub none_unreached : (l : Ledger) → IsLedger l → count_by (nat_lt 0) l.live + free_count l ≡ length l.given → (k : ℕ) → is_unreached l k ≡ false
+none_unreached l h all k = go (is_given l k) refl
+  where
+    go : (g : Bool) → is_given l k ≡ g → is_unreached l k ≡ false
+    go false e = ap (λ b. b && not (is_needed l k)) e
+    go true e =
+        ap (λ b. b && not (is_needed l k)) e
+        ∙ ap not (live_needed l k (given_used l.live l.given h.counted h.counts.in_given all k e))
+
+all_stays : (given needed : Bool) → (given && not needed) ≡ false → given ≡ (given && needed)
+all_stays false needed h = refl
+all_stays true true h = refl
+all_stays true false h = h
+
+module _ (l : Ledger) (none : (k : ℕ) → is_unreached l k ≡ false) where
+  pub each_stays : (k : ℕ) → is_given l k ≡ (is_given l k && is_needed l k)
+  each_stays k = all_stays (is_given l k) (is_needed l k) (none k)
+
+  pub nothing_freed : l ≡ freed l
+  nothing_freed = ap (λ (flags : List Bool). record l { given = flags }) (fill_by_all (λ k. is_given l k && is_needed l k) l.given (length l.given) false refl (λ k lt. each_stays k))

@@ -1,11 +1,12 @@
 -- Bits of words: what a change of a bit, or of all words, makes of them, and where the first bit is.
-use Rattle.std.proofs.Common.{◌≡◌, ◌≢◌, ℕ, ◌+◌, ◌-◌, ◌*◌, ◌/◌, ◌%◌, ◌^◌, ◌<◌, ◌≤◌, true, false, not, List, length, replicate, slice_index, slice_index_or, slice_set, w64, ◌∙◌, sym, ap, subst, inl, inr, arith}
+use Rattle.std.proofs.Common.{◌≡◌, ◌≢◌, ℕ, ◌+◌, ◌-◌, ◌*◌, ◌/◌, ◌%◌, ◌^◌, ◌<◌, ◌≤◌, true, false, not, List, length, replicate, slice_index, slice_index_or, slice_set, w64, ◌∙◌, sym, ap, subst, inl, inr, take, drop, below_more, arith}
+use borrow.Author.Count.{below_none}
 use Rattle.std.specs.Prelude.{◌==◌, ◌&&◌, bit_and, bit_or, Option, None, Some, IfNone}
 use Rattle.std.specs.Int.{bit_at, bit_not, trailing_zeros, trailing_ones}
 use Rattle.std.proofs.lemmas.Bool.{cases_eq, cases_lt}
 use Rattle.std.proofs.lemmas.Bool.Decides.{nat_tests}
-use Rattle.std.proofs.lemmas.List.{get_or-set_same, get_or-set_other, get_or_past, get_or_read, get_or-replicate, length-replicate}
-use Rattle.std.proofs.lemmas.Nat.{shr-shr, shr_le}
+use Rattle.std.proofs.lemmas.List.{get_or-take, get_or-drop, get_or-set_same, get_or-set_other, get_or_past, get_or_read, get_or-replicate, length-replicate}
+use Rattle.std.proofs.lemmas.Nat.{shr-shr, shr_le, le_or_l, le_or_r}
 use Rattle.std.proofs.lemmas.Nat.Bits.{bit_at-zero, bit_at-lt, bit_at_and, bit_at_not, bit_at_above, bit_at_ones, shr_and_one, bit_at-trailing_zeros, bit_at-trailing_ones}
 use Rattle.std.proofs.lemmas.Nat.Bits.{bit_at_set_same, bit_at_set_other, bit_at_clear_same, bit_at_clear_other}
 use Rattle.chunk_usage.specs.ChunkSets.{has_bit, IsFirstBit}
@@ -150,6 +151,51 @@ found_word words from place small le none some =
         | inr inside ↦ f.none_between k inside lt
       ];
     }
+
+-- eight words of which no bit is set
+or_zero : (a b : ℕ) → bit_or a b ≡ 0 → (a ≡ 0) × (b ≡ 0)
+or_zero a b h = let l = le_or_l a b in let r = le_or_r a b in (omega arith, omega arith)
+
+abbrev pub bits_of_four : List ℕ → ℕ → ℕ
+bits_of_four words i = bit_or (bit_or (bit_or (slice_index words i) (slice_index words (i + 1))) (slice_index words (i + 2))) (slice_index words (i + 3))
+
+pub eight_clear : (words : List ℕ) → bit_or (bits_of_four words 0) (bits_of_four words 4) ≡ 0 → (i : ℕ) → i < 8 → slice_index words i ≡ 0
+eight_clear words h =
+    let halves = or_zero (bits_of_four words 0) (bits_of_four words 4) h in
+    let a = four 0 halves.0 in
+    let b = four 4 halves.1 in
+    let P : ℕ → Type 0 = λ i. slice_index words i ≡ 0 in
+    below_more P 7 (below_more P 6 (below_more P 5 (below_more P 4 (below_more P 3 (below_more P 2 (below_more P 1 (below_more P 0 (below_none P) a.0) a.1) a.2) a.3) b.0) b.1) b.2) b.3
+  where
+    four : (i : ℕ) → bits_of_four words i ≡ 0
+        → (slice_index words i ≡ 0) × (slice_index words (i + 1) ≡ 0) × (slice_index words (i + 2) ≡ 0) × (slice_index words (i + 3) ≡ 0)
+    four i e =
+        let p = or_zero _ _ e in
+        let q = or_zero _ _ p.0 in
+        let r = or_zero _ _ q.0 in
+        (r.0, r.1, q.1, p.1)
+
+pub clear_eight : (words : List ℕ) → ((i : ℕ) → i < 8 → slice_index words i ≡ 0) → bit_or (bits_of_four words 0) (bits_of_four words 4) ≡ 0
+clear_eight words z =
+    let a = z 0 (omega arith) in
+    let b = z 1 (omega arith) in
+    let c = z 2 (omega arith) in
+    let d = z 3 (omega arith) in
+    let e = z 4 (omega arith) in
+    let f = z 5 (omega arith) in
+    let g = z 6 (omega arith) in
+    let h = z 7 (omega arith) in
+    rw (a, b, c, d, e, f, g, h)
+
+-- they stand behind words that are clear
+pub eight_more : (words : List ℕ) (from place n : ℕ) → n ≡ 8 → ((i : ℕ) → from ≤ i → i < place → slice_index words i ≡ 0) → ((i : ℕ) → i < 8 → slice_index (take n (drop place words)) i ≡ 0)
+    → (i : ℕ) → from ≤ i → i < place + 8 → slice_index words i ≡ 0
+eight_more words from place n is before clear i le lt = elim (cases_lt i place) [
+  | inl l ↦ before i le l
+  | inr past ↦ (
+      let e : place + (i - place) ≡ i = omega arith in
+      ap (slice_index words) (sym e) ∙ sym (get_or-take n (drop place words) (i - place) 0 (omega arith) ∙ get_or-drop place words (i - place) 0) ∙ clear (i - place) (omega arith))
+]
 
 -- The first bit that is clear: full words, and the first that isn't.
 pub all_full : (words : List ℕ) (i : ℕ) → ((j : ℕ) → j < i → slice_index words j ≡ 2 ^ 64 - 1) → (k : ℕ) → k < 64 * i → has_bit words k ≡ true

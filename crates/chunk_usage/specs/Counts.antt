@@ -1,5 +1,5 @@
 -- The fields of the counts.
-use Rattle.std.specs.Prelude.{◌≡◌, ℕ, ◌≤◌, Bool, false, if◌then◌else◌, List, map, length, count_by, slice_index, slice_index_or}
+use Rattle.std.specs.Prelude.{◌≡◌, ℕ, ◌≤◌, nat_lt, Bool, false, if◌then◌else◌, List, map, length, count_by, slice_index, slice_index_or}
 use Rattle.std.specs.List.{range_with_len}
 use Rattle.chunk_usage.specs.declared.counts.Counts.TheInside.{Inside}
 use Rattle.chunk_usage.specs.Ledger.{row_of}
@@ -15,10 +15,11 @@ counts_before changed noted live = map (count_before changed noted live) (range_
 abbrev pub counted_of : Inside → Counted
 counted_of s = record { live = s.live.items; last = counts_before s.changed s.noted.items s.live.items }
 
--- one of each for a chunk; the set of counted chunks and the number of those with few cells go by the counts
+-- one of each for a chunk; the set of counted chunks, their number and that of the chunks with few cells go by the counts
 pub record IsCounted (s : Inside) : Type 0 where
   pub few : length s.live.items ≤ 4096
   pub noted : length s.noted.items ≡ length s.live.items
   pub changed : length s.changed ≡ length s.live.items
   pub counted : s.counted ≡ row_of s.live.items
+  pub used : s.used ≡ count_by (nat_lt 0) s.live.items
   pub low : s.low ≡ count_by is_low s.live.items

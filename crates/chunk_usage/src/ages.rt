@@ -16,8 +16,9 @@ pub struct Ages {
     given: Vec<u64>,
     // How many had been given at the first freeze behind a chunk's last cell. Until then it is a number that none reaches.
     settled: Vec<u64>,
-    // How many were given.
+    // How many were given, and how many had been at the last freeze.
     count: u64,
+    frozen: u64,
 }
 
 impl Ages {
@@ -27,6 +28,7 @@ impl Ages {
             given: vec![in alloc; 0; chunks as usize]?,
             settled: vec![in alloc; u64::MAX; chunks as usize]?,
             count: 0,
+            frozen: 0,
         })
     }
 
@@ -56,13 +58,24 @@ impl Ages {
         put(&mut self.settled, chunk, u64::MAX);
     }
 
-    /// The cells of these chunks, and of a bump chunk, are frozen.
-    pub fn settle(&mut self, chunks: &ChunkSet, bump: Option<Open>)
-        requires { length chunks.now ≤ 4096 }
+    /// The cells of a bump chunk, and of the chunks that were given since the last freeze, are frozen.
+    pub fn settle(&mut self, recent: &ChunkSet, bump: Option<Open>)
+        requires { length recent.now ≤ 4096 }
     {
         if let Some(bump) = bump {
             put(&mut self.settled, bump.chunk, self.count);
         }
+        // Mostly none was given, and no set is gone through.
+        if self.frozen != self.count {
+            self.frozen = self.count;
+            self.settle_all(recent);
+        }
+    }
+
+    // The cells of these chunks are frozen.
+    fn settle_all(&mut self, chunks: &ChunkSet)
+        requires { length chunks.now ≤ 4096 }
+    {
         let mut from = 0;
         while let Some(chunk) = chunks.first_from(from) {
             put(&mut self.settled, chunk, self.count);

@@ -1,6 +1,6 @@
 //! Sets of chunks, a bit for each chunk.
 
-ghost use Rattle.std.specs.Prelude.{◌≡◌, ◌≤◌, ◌<◌, ◌*◌, ◌&&◌, ℕ, false, true, not, IfOk, IfSome, IfNone, count_by, length, replicate, slice_set};
+ghost use Rattle.std.specs.Prelude.{◌≡◌, ◌≤◌, ◌<◌, ◌*◌, ◌&&◌, ◌↔◌, ℕ, false, true, not, IfOk, IfSome, IfNone, IsTrue, count_by, length, replicate, slice_index, slice_set};
 ghost use Rattle.std.specs.List.{position_or_len};
 ghost use Rattle.chunk_usage.specs.ChunkSets.{IsFirstBit, IsFirstFrom, Without, has, has_bit};
 
@@ -107,6 +107,15 @@ impl ChunkSet {
         clear_bits(&mut self.words, &other.words);
     }
 
+    /// Makes it one set without the chunks of another.
+    pub fn set_difference(&mut self, all: &ChunkSet, other: &ChunkSet)
+        requires all { length self.old ≡ length all.now }
+        requires other { length self.old ≡ length other.now }
+        ensures { Without all.now self.new (has other.now) }
+    {
+        put_difference(&mut self.words, &all.words, &other.words);
+    }
+
     /// The first chunk of the set that isn't before a place.
     #[inline]
     pub fn first_from(&self, from: u32) -> Option<u32>
@@ -136,6 +145,18 @@ fn clear_bits(words: &mut [u64], others: &[u64])
     }
 }
 
+/// Puts the bits that are set in the first words and not in the others.
+fn put_difference(words: &mut [u64], all: &[u64], others: &[u64])
+    requires all { length words.old ≡ length all.now }
+    requires others { length words.old ≡ length others.now }
+    ensures len { length words.new ≡ length words.old }
+    ensures left { (k : ℕ) → has_bit words.new k ≡ (has_bit all.now k && not (has_bit others.now k)) }
+{
+    for (place, bits) in others.iter().enumerate() {
+        words[place] = all[place] & !*bits;
+    }
+}
+
 /// The first bit from a place on that is set.
 fn first_bit(words: &[u64], from: u32) -> Option<u32>
     requires { length words.now ≤ 64 }
@@ -155,16 +176,42 @@ fn first_bit(words: &[u64], from: u32) -> Option<u32>
 
 /// The first bit that is set, from a word on.
 fn first_bit_of_words(words: &[u64], from: usize) -> Option<u32>
-    requires { length words.now ≤ 64 }
+    requires few { length words.now ≤ 64 }
+    requires within { from ≤ length words.now }
     ensures found { IfSome result (λ k. IsFirstBit words.now (64 * from) k) }
     ensures none { IfNone result ((k : ℕ) → 64 * from ≤ k → has_bit words.now k ≡ false) }
 {
-    for place in from..words.len() {
+    for place in after_clear(words, from)..words.len() {
         if words[place] != 0 {
             return Some(64 * place as u32 + words[place].trailing_zeros());
         }
     }
     None
+}
+
+/// A word that only clear ones stand before, from a word on: they are passed by eights.
+fn after_clear(words: &[u64], from: usize) -> usize
+    requires { from ≤ length words.now }
+    ensures at_or_after { from ≤ result }
+    ensures within { result ≤ length words.now }
+    ensures clear { (i : ℕ) → from ≤ i → i < result → slice_index words.now i ≡ 0 }
+{
+    let mut place = from;
+    while words.len() - place >= 8 && are_clear(&words[place..place + 8]) {
+        place += 8;
+    }
+    place
+}
+
+/// Whether eight words are clear.
+#[inline]
+fn are_clear(words: &[u64]) -> bool
+    requires { length words.now ≡ 8 }
+    ensures { IsTrue result ↔ ((i : ℕ) → i < 8 → slice_index words.now i ≡ 0) }
+{
+    let front = words[0] | words[1] | words[2] | words[3];
+    let back = words[4] | words[5] | words[6] | words[7];
+    front | back == 0
 }
 
 /// The first bit that is clear, or how many bits there are.

@@ -1,6 +1,6 @@
 //! Of each chunk, how many of its cells count: now, and at the last freeze.
 
-ghost use Rattle.std.specs.Prelude.{◌≡◌, ◌≤◌, ◌<◌, IfOk, false, true, count_by, if◌then◌else◌, length, replicate, slice_index, slice_set};
+ghost use Rattle.std.specs.Prelude.{◌≡◌, ◌≤◌, ◌<◌, ◌+◌, IfOk, false, true, count_by, if◌then◌else◌, length, nat_lt, replicate, slice_index, slice_set};
 ghost use Rattle.chunk_usage.specs.Ledger.{row_of};
 ghost use Rattle.chunk_usage.specs.ChunkSets.{has};
 ghost use Rattle.chunk_usage.specs.Counting.{is_low};
@@ -21,8 +21,9 @@ pub struct Counts {
     // The journal: of each chunk in `changed`, what its count was at the last freeze. The other counts are as they were.
     noted: Vec<u32>,
     changed: ChunkSet,
-    // The chunks with a cell that counts.
+    // The chunks with a cell that counts, and how many they are.
     counted: ChunkSet,
+    used: u32,
     // How many chunks have at most `SPARSE_CELLS` that count.
     low: u32,
 }
@@ -50,6 +51,7 @@ impl Counts {
             noted: vec![in alloc; 0; chunks as usize]?,
             changed: ChunkSet::new(alloc, chunks)?,
             counted: ChunkSet::new(alloc, chunks)?,
+            used: 0,
             low: chunks,
         })
     }
@@ -76,7 +78,7 @@ impl Counts {
         let before = self.live[chunk as usize];
         note(&mut self.noted, &mut self.changed, chunk, before);
         self.live[chunk as usize] = count;
-        self.counted.set(chunk, count > 0);
+        mark(&mut self.counted, &mut self.used, chunk, before, count);
         self.low = self.low + one_if_low(count) - one_if_low(before);
     }
 
@@ -119,6 +121,14 @@ impl Counts {
         &self.counted
     }
 
+    /// How many chunks have a cell that counts.
+    #[inline]
+    pub fn used(&self) -> u32
+        ensures { result ≡ count_by (nat_lt 0) self.now.live }
+    {
+        self.used
+    }
+
     /// How many chunks have few enough cells that count to be sparse.
     #[inline]
     pub fn low(&self) -> u32
@@ -139,6 +149,27 @@ fn note(noted: &mut [u32], changed: &mut ChunkSet, chunk: u32, count: u32)
     if !changed.contains(chunk) {
         noted[chunk as usize] = count;
         changed.insert(chunk);
+    }
+}
+
+/// Puts a chunk in the set of those with a cell that counts, or takes it out, where its count became another than 0, or 0.
+#[inline]
+fn mark(counted: &mut ChunkSet, used: &mut u32, chunk: u32, before: u32, count: u32)
+    requires inside { chunk < length counted.old }
+    requires was { has counted.old chunk ≡ nat_lt 0 before }
+    requires few { used.old ≤ 4096 }
+    requires some { (if nat_lt 0 before then 1 else 0) ≤ used.old }
+    ensures counted { counted.new ≡ slice_set counted.old chunk (nat_lt 0 count) }
+    ensures used { used.new + (if nat_lt 0 before then 1 else 0) ≡ used.old + (if nat_lt 0 count then 1 else 0) }
+{
+    if before == 0 {
+        if count != 0 {
+            counted.insert(chunk);
+            *used += 1;
+        }
+    } else if count == 0 {
+        counted.remove(chunk);
+        *used -= 1;
     }
 }
 

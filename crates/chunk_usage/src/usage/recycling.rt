@@ -25,16 +25,26 @@ impl Usage {
         ensures others { (q : ℕ) (c : Cell) → is_unreached self.old (q / 1024) ≡ false → C.has cells.old q c → C.has cells.new q c }
         ensures kept { C.kept cells.new ≡ C.kept cells.old }
     {
+        if self.all_used() {
+            return 0;
+        }
         let state = &mut *self.state;
         let found = &mut state.unreached;
-        found.copy_from(&state.allocated);
-        found.subtract(state.counts.counted());
+        found.set_difference(&state.allocated, state.counts.counted());
         leave_out_kept(found, &state.slots[..state.kept]);
         leave_out(found, state.bump);
         leave_out(found, state.fender);
         let count = free_all(&state.unreached, &mut state.allocated, cells);
         state.free += count;
         count
+    }
+
+    // Whether each given chunk has a cell that counts. Then something needs each.
+    fn all_used(&self) -> bool
+        ensures { result ≡ true → (k : ℕ) → is_unreached self.now k ≡ false }
+    {
+        let state = &*self.state;
+        state.counts.used() + state.free == state.allocated.chunks()
     }
 }
 

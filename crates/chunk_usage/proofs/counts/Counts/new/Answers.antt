@@ -1,9 +1,9 @@
-use Rattle.std.proofs.Common.{◌≡◌, ◌≤◌, List, ℕ, Bool, false, replicate, length, slice_index_or, sym, ap, subst, ◌∙◌}
+use Rattle.std.proofs.Common.{◌≡◌, ◌≤◌, nat_lt, List, ℕ, Bool, false, replicate, length, slice_index_or, sym, ap, subst, ◌∙◌}
 use Rattle.std.proofs.lemmas.List.{length-replicate}
 use Rattle.std.specs.Prelude.{count_by}
 use Rattle.chunk_usage.specs.Ledger.{row_of}
 use Rattle.chunk_usage.specs.Counting.{is_low}
-use Rattle.chunk_usage.proofs.CountLemmas.{none_changed, clear_flag, all_low, no_row}
+use Rattle.chunk_usage.proofs.CountLemmas.{none_changed, clear_flag, all_low, none_used, no_row}
 use Rattle.chunk_usage.proofs.counts.Counts.new.Goals as goal
 
 live : (c : goal.In_ok-new-2) → c.in_ok-vec.field-0.items ≡ replicate c.args.chunks 0
@@ -21,6 +21,7 @@ invariant_of-result c = record {
   noted = ap length (noted c) ∙ length-replicate c.args.chunks 0 ∙ sym (count c);
   changed = ap length c.in_ok-new.ensures ∙ length-replicate c.args.chunks false ∙ sym (count c);
   counted = c.in_ok-new-2.ensures ∙ sym (no_row c.args.chunks) ∙ sym (ap row_of (live c));
+  used = sym (none_used c.args.chunks) ∙ sym (ap (count_by (nat_lt 0)) (live c));
   low = sym (all_low c.args.chunks) ∙ sym (ap (count_by is_low) (live c));
 }
 

@@ -1,9 +1,9 @@
 use Rattle.std.proofs.Common.{◌≡◌, ◌<◌, List, ℕ, Bool, false, nat_lt, length, slice_index, slice_index_or, slice_set, sym, ap, subst, ◌∙◌, arith}
 use Rattle.std.specs.Prelude.{if◌then◌else◌}
 use Rattle.std.proofs.lemmas.List.{length-set, map-set, with_items_is, get_or_read}
-use Rattle.chunk_usage.specs.Counting.{Counted}
+use Rattle.chunk_usage.specs.Counting.{Counted, is_low}
 use Rattle.chunk_usage.specs.Counts.{counts_before}
-use Rattle.chunk_usage.proofs.CountLemmas.{set_keeps, low_set}
+use Rattle.chunk_usage.proofs.CountLemmas.{set_keeps, passing_set}
 use Rattle.chunk_usage.proofs.counts.Counts.set.Goals as goal
 
 inside : (c : goal.After-self-3-1) → c.args.chunk < length c.self.inside.live.items
@@ -27,12 +27,14 @@ invariant_of-self c =
     let s = c.self.inside in
     let old = c.self.invariant in
     let n = length-set s.live.items c.args.chunk c.args.count in
-    let low = low_set s.live.items c.args.chunk c.index-before.result.now c.args.count (inside c) (before c) in
+    let used = passing_set (nat_lt 0) s.live.items c.args.chunk c.index-before.result.now c.args.count (inside c) (before c) in
+    let low = passing_set is_low s.live.items c.args.chunk c.index-before.result.now c.args.count (inside c) (before c) in
     record {
       few = let f = old.few in omega arith;
       noted = ap length (with_items_is s.noted c.note.new.noted (noted_len c)) ∙ noted_len c ∙ s.noted.ok.0 ∙ old.noted ∙ sym n;
       changed = ap length c.note.ensures.changed ∙ length-set s.changed c.args.chunk _ ∙ old.changed ∙ sym n;
-      counted = c.set.ensures ∙ ap (λ (row : List Bool). slice_set row c.args.chunk (nat_lt 0 c.args.count)) old.counted ∙ sym (map-set (nat_lt 0) s.live.items c.args.chunk c.args.count);
+      counted = c.mark.ensures.counted ∙ ap (λ (row : List Bool). slice_set row c.args.chunk (nat_lt 0 c.args.count)) old.counted ∙ sym (map-set (nat_lt 0) s.live.items c.args.chunk c.args.count);
+      used = let f = old.used in let g = c.mark.ensures.used in omega arith;
       low = let f = old.low in let g = c.one_if_low.ensures in let h = c.one_if_low-2.ensures in omega arith;
     }
 
