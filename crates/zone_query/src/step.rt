@@ -230,7 +230,9 @@ pub fn step<V: Reading, S: RowSink>(
         → Gives (step origin.now zone rtype name.now) (S.has rows.old) (S.has rows.new) target.new result }
 {
     let key = Key::of(name);
-    match give_there(alloc, version, origin, name, &key, rtype, item, target, rows)? {
+    match give_there(
+        alloc, version, origin, name, &key, rtype, item, target, rows,
+    )? {
         Some(next) => Ok(next),
         None => search(
             alloc, version, origin, name, &key, rtype, walker, item, target, rows,
