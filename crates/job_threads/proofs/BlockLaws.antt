@@ -23,6 +23,7 @@ use Rattle.shared_index.specs.declared.kept.Versions.{Versions}
 use Rattle.shared_index.specs.Passes.{Known, first_version, known_at}
 use Rattle.shared_index.specs.Drafts as drafts
 use Rattle.shared_index.specs.Drafts.{Begins, IsBack, Works, working_set}
+use Rattle.chunk_usage.specs.Keeping.{kept_versions}
 use Rattle.shared_index.specs.Keepings.{versions_in}
 use Rattle.zone_edit.specs.Stores.{WorksOnSome, EditsOne, Edits}
 use Rattle.zone_edit.specs.Blocks.{AppliesAll}
@@ -88,12 +89,12 @@ module _ (s : Setup) (operations : List ZoneOperation) (ends : Ending) (old : Kn
         let x = two (Err (halts.Refused refusal)) edits in
         ran (Err (halts.Refused refusal)) x (Refused (Rule refusal)) said (rule_broken s operations old x.before x.after x.met told opening x.related.known (known_at seat) (known_back (Err (halts.Refused refusal)) x) ends refusal x.related.becomes)
 
-    pub full_ran : (operation : ℕ) (kept : Versions) → Edited (Err (halts.Full operation kept)) → IfSome second (λ d. s.chunks ≡ length d.usage.given) → IfSome first (λ d. s.passes ≡ d.seat.passes)
+    pub full_ran : (operation : ℕ) (kept : Versions) → IfSome second (λ d. versions_in kept ≡ kept_versions d.usage) → Edited (Err (halts.Full operation)) → IfSome second (λ d. s.chunks ≡ length d.usage.given) → IfSome first (λ d. s.passes ≡ d.seat.passes)
         → ended_view o.told ≡ Refused (Full operation (versions_in kept)) → BlockRan s operations ends old (known_at seat) o
-    full_ran operation kept edits chunks passes said =
-        let x = two (Err (halts.Full operation kept)) edits in
-        ran (Err (halts.Full operation kept)) x (Refused (Full operation (versions_in kept))) said
-        (full_block s operations old x.before x.after x.met told opening x.related.known (known_at seat) (known_back (Err (halts.Full operation kept)) x) ends operation kept
+    full_ran operation kept same edits chunks passes said =
+        let x = two (Err (halts.Full operation)) edits in
+        ran (Err (halts.Full operation)) x (Refused (Full operation (versions_in kept))) said
+        (full_block s operations old x.before x.after x.met told opening x.related.known (known_at seat) (known_back (Err (halts.Full operation)) x) ends operation kept (there_is (λ d. versions_in kept ≡ kept_versions d.usage) second x.after x.new_is same)
         (there_is (λ d. s.chunks ≡ length d.usage.given) second x.after x.new_is chunks)
         (there_is (λ d. s.passes ≡ d.seat.passes) first x.before x.old_is passes ∙ sym x.related.passes) x.related.becomes)
 
@@ -114,16 +115,16 @@ module _ (s : Setup) (operations : List ZoneOperation) (ends : Ending) (old : Kn
 
 -- its operations stopped
 pub stopped_ran : (s : Setup) (operations : List ZoneOperation) (ends : Ending) (old : Known) (first second : Option Draft) → is_told old.seen.opening ≡ true → first_version old.seen ≡ s.opening → IsSomeAnd first (Begins Lawful old)
-    → (seat : Option Seat) (version : ℕ) (halt : Halt) (r : Result Outcome AllocError) → IfSome second (λ d. IsBack d.seat.place.me.0 seat) → IfSome first (λ d. version ≡ length d.seat.place.me.0.seen.history) → Edits (AppliesAll s.origin operations (Err halt)) first second
-    → IfSome second (λ d. s.chunks ≡ length d.usage.given) → IfSome first (λ d. s.passes ≡ d.seat.passes) → StoppedBy halt version r → IfOk r (BlockRan s operations ends old (known_at seat))
-stopped_ran s operations ends old first second told opening begins seat version halts.Memory (Ok o) back base edits chunks passes stopped = absurd cc
-stopped_ran s operations ends old first second told opening begins seat version halts.Memory (Err e) back base edits chunks passes stopped = tt
-stopped_ran s operations ends old first second told opening begins seat version (halts.Refused refusal) (Ok o) back base edits chunks passes stopped =
+    → (seat : Option Seat) (version : ℕ) (halt : Halt) (kept : Versions) (r : Result Outcome AllocError) → IfSome second (λ d. versions_in kept ≡ kept_versions d.usage) → IfSome second (λ d. IsBack d.seat.place.me.0 seat) → IfSome first (λ d. version ≡ length d.seat.place.me.0.seen.history) → Edits (AppliesAll s.origin operations (Err halt)) first second
+    → IfSome second (λ d. s.chunks ≡ length d.usage.given) → IfSome first (λ d. s.passes ≡ d.seat.passes) → StoppedBy halt kept version r → IfOk r (BlockRan s operations ends old (known_at seat))
+stopped_ran s operations ends old first second told opening begins seat version halts.Memory kept (Ok o) same back base edits chunks passes stopped = absurd cc
+stopped_ran s operations ends old first second told opening begins seat version halts.Memory kept (Err e) same back base edits chunks passes stopped = tt
+stopped_ran s operations ends old first second told opening begins seat version (halts.Refused refusal) kept (Ok o) same back base edits chunks passes stopped =
     refused_ran s operations ends old o first second told opening begins seat version back base stopped.1 refusal edits stopped.0
-stopped_ran s operations ends old first second told opening begins seat version (halts.Refused refusal) (Err e) back base edits chunks passes stopped = tt
-stopped_ran s operations ends old first second told opening begins seat version (halts.Full operation kept) (Ok o) back base edits chunks passes stopped =
-    full_ran s operations ends old o first second told opening begins seat version back base stopped.1 operation kept edits chunks passes stopped.0
-stopped_ran s operations ends old first second told opening begins seat version (halts.Full operation kept) (Err e) back base edits chunks passes stopped = tt
+stopped_ran s operations ends old first second told opening begins seat version (halts.Refused refusal) kept (Err e) same back base edits chunks passes stopped = tt
+stopped_ran s operations ends old first second told opening begins seat version (halts.Full operation) kept (Ok o) same back base edits chunks passes stopped =
+    full_ran s operations ends old o first second told opening begins seat version back base stopped.1 operation kept same edits chunks passes stopped.0
+stopped_ran s operations ends old first second told opening begins seat version (halts.Full operation) kept (Err e) same back base edits chunks passes stopped = tt
 
 -- the same of a pass that is known by another name
 

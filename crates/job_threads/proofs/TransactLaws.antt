@@ -30,7 +30,8 @@ use Rattle.shared_index.specs.Fulls.{version_at}
 use Rattle.shared_index.specs.Fulls as fulls
 use Rattle.shared_index.specs.Keepings.{GoesOn, versions_in}
 use Rattle.zone_edit.specs.Stores.{WorksOn, WorksOnSome}
-use Rattle.zone_edit.specs.Blocks.{AppliesAll}
+use Rattle.zone_edit.specs.Blocks.{AppliesAll, IsFullAt}
+use Rattle.chunk_usage.specs.Keeping.{kept_versions}
 use Rattle.zone_edit.specs.declared.applying.Halt.TheVariants as halts
 use Rattle.job_threads.specs.Histories.{Setup, Commit, Entries, IsZone, StandsAs, AreVersions, CoversNamings, index_at, judged_by}
 use Rattle.job_threads.specs.Commands.{Commits}
@@ -221,15 +222,15 @@ module _ (s : Setup) (operations : List ZoneOperation) (old : Known) (d e : Draf
         sum_by-cons (λ (m : ℕ). cells (version_at e.seat.place.me.0 m)) n numbers
         ∙ ap (λ (es : Entries). cells es + fulls.cells_kept e.seat.place.me.0 numbers) same ∙ ap (λ (k : ℕ). cell_count (set n) + k) (kept_cells set are numbers low.1)
 
-    pub full_block : (ends : Ending) (operation : ℕ) (kept : Versions) → s.chunks ≡ length e.usage.given → s.passes ≡ e.seat.passes → ((version : Version) → WorksOn d version → AppliesAll s.origin operations (Err (halts.Full operation kept)) version e) → RefusedBlock ends (Full operation (versions_in kept))
-    full_block ends operation kept chunks passes becomes = (back_pass, λ set shown are covers. cause set shown are covers)
+    pub full_block : (ends : Ending) (operation : ℕ) (kept : Versions) → versions_in kept ≡ kept_versions e.usage → s.chunks ≡ length e.usage.given → s.passes ≡ e.seat.passes → ((version : Version) → WorksOn d version → AppliesAll s.origin operations (Err (halts.Full operation)) version e) → RefusedBlock ends (Full operation (versions_in kept))
+    full_block ends operation kept told chunks passes becomes = (back_pass, λ set shown are covers. cause set shown are covers)
       where
         base_is : e.seat.version ≡ length new.seen.history
         base_is = e.seat.version_is ∙ sym (ap (λ (v : Known). length v.seen.history) back)
 
         cause : (set : ℕ → Version) (shown : List ℕ) → AreVersions s new.seen.history set → CoversNamings shown new.seen → FullCause (judged_by s set shown) operations (length new.seen.history) operation (versions_in kept)
         cause set shown are covers =
-            let at = becomes (set (length new.seen.history)) (works_set set (length new.seen.history) refl are) in
+            let at = subst (IsFullAt e s.origin operations (set (length new.seen.history)) operation) (sym told) (becomes (set (length new.seen.history)) (works_set set (length new.seen.history) refl are)) in
             let last : versions_in kept ≡ at.full.ends.0 ++ length new.seen.history ∷ [] = at.full.ends.1 ∙ ap (λ (n : ℕ). at.full.ends.0 ++ n ∷ []) base_is in
             let rising : Rising (versions_in kept) = rising_of (versions_in kept) kept.rising in
             let below = front_below at.full.ends.0 (length new.seen.history) (subst Rising last rising) in

@@ -20,6 +20,7 @@ use Rattle.shared_cells.specs.History.{StartsWith, IsPartOf, entries_by, entry_o
 use Rattle.shared_cells.specs.Views.{with_pinned, with_progress, pinned_image}
 use Rattle.shared_index.specs.declared.meaning.Operation.{Operation}
 use Rattle.shared_index.specs.Meanings.{Holds}
+use Rattle.shared_index.specs.declared.kept.Versions.{Versions}
 use Rattle.shared_index.specs.Keepings.{versions_in}
 use Rattle.shared_index.specs.Operations.{applied}
 use Rattle.shared_index.specs.Passes.{Known, first_version, version_seen}
@@ -105,8 +106,8 @@ pub record BlockRan (s : Setup) (operations : List ZoneOperation) (ending : Endi
   pub version : o.version ≡ length new.seen.history
   pub transacts : Transacts s operations ending old new (ended_view o.told)
 
--- the block is refused for the cause of the halt; want of memory says nothing
-abbrev pub StoppedBy : Halt → ℕ → Result Outcome AllocError → Type 0
-StoppedBy halts.Memory version result = IsErr result
-StoppedBy (halts.Refused refusal) version result = IfOk result (λ o. (ended_view o.told ≡ Refused (Rule refusal)) × (o.version ≡ version))
-StoppedBy (halts.Full operation kept) version result = IfOk result (λ o. (ended_view o.told ≡ Refused (Full operation (versions_in kept))) × (o.version ≡ version))
+-- the block is refused for the cause of the halt, while these versions are kept; want of memory says nothing
+abbrev pub StoppedBy : Halt → Versions → ℕ → Result Outcome AllocError → Type 0
+StoppedBy halts.Memory kept version result = IsErr result
+StoppedBy (halts.Refused refusal) kept version result = IfOk result (λ o. (ended_view o.told ≡ Refused (Rule refusal)) × (o.version ≡ version))
+StoppedBy (halts.Full operation) kept version result = IfOk result (λ o. (ended_view o.told ≡ Refused (Full operation (versions_in kept))) × (o.version ≡ version))

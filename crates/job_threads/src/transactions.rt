@@ -27,16 +27,21 @@ fn kept_list(alloc: Global, kept: &Versions) -> Result<Vec<u64>, AllocError>
     kept.as_slice().iter().copied().collect(alloc)
 }
 
-// How a block ends whose operations stopped.
-fn stopped(alloc: Global, version: u64, halt: Halt) -> Result<Outcome, AllocError>
-    ensures stopped { StoppedBy halt version result }
+// How a block ends whose operations stopped, while these versions are kept.
+fn stopped(
+    alloc: Global,
+    version: u64,
+    halt: Halt,
+    kept: &Versions,
+) -> Result<Outcome, AllocError>
+    ensures stopped { StoppedBy halt kept.now version result }
     ensures ends { IfOk result (λ o. EndsBlock o.told) }
 {
     let cause = match halt {
         Halt::Memory => return Err(AllocError),
         Halt::Refused(refusal) => Cause::Rule(refusal),
-        Halt::Full { operation, kept } => {
-            let kept = kept_list(alloc, &kept)?;
+        Halt::Full { operation } => {
+            let kept = kept_list(alloc, kept)?;
             Cause::Full { operation, kept }
         }
     };
@@ -105,7 +110,7 @@ fn write_block<R: Wait, N: Named>(
     let mut write = index.write(rt, &mut locked, pass);
     let version = write.version();
     if let Err(halt) = edit(alloc, origin, &mut write, block, buffers) {
-        return stopped(alloc, version, halt);
+        return stopped(alloc, version, halt, &write.kept());
     }
     match block.ending {
         Ending::Commit => Ok(committed(write.commit())),
@@ -139,7 +144,7 @@ fn update_block<R: Wait, N: Named>(
     let mut update = index.update(rt, &mut locked, pass);
     let version = update.version();
     if let Err(halt) = edit(alloc, origin, &mut update, block, buffers) {
-        return stopped(alloc, version, halt);
+        return stopped(alloc, version, halt, &update.kept());
     }
     match block.ending {
         Ending::Commit => Ok(committed(update.commit())),

@@ -150,13 +150,7 @@ edits_on A B C a b c h = between_then (EditsOne A) (EditsOne B) (EditsOne C) a b
   becomes = λ version on. (let m = h version e f (r.becomes version on) in m.2 (s.becomes m.0 m.1));
 })
 
--- what is told of the new working set besides
-pub edits_and : (A B : Version → Draft → Type 0) (P : Draft → Type 0) (old new : Option Draft) → ((version : Version) (e : Draft) → A version e → P e → B version e) → Edits A old new → IfSome new P → Edits B old new
-edits_and A B P (Some d) (Some e) f r p = record { known = r.known; passes = r.passes; becomes = λ version on. f version e (r.becomes version on) p }
-edits_and A B P (Some d) None f r p = r
-edits_and A B P None (Some e) f r p = r
-edits_and A B P None None f r p = r
-
+-- a working set is there still
 pub is_there : (A : Version → Draft → Type 0) (old new : Option Draft) → Edits A old new → IsSome new
 is_there A (Some d) (Some e) r = refl
 is_there A (Some d) None r = absurd r

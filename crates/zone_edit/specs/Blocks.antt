@@ -6,8 +6,6 @@ use Rattle.zone_model.specs.declared.Refusal.{Refusal}
 use Rattle.zone_model.specs.Versions.{Version, Operation, apply, whole}
 use Rattle.shared_index.specs.declared.desk.Draft.{Draft}
 use Rattle.chunk_usage.specs.Keeping.{kept_versions}
-use Rattle.shared_index.specs.declared.kept.Versions.{Versions}
-use Rattle.shared_index.specs.Keepings.{versions_in}
 use Rattle.zone_edit.specs.Stores.{WorksOn, IsFullOn}
 use Rattle.zone_edit.specs.declared.applying.Stopped.{Stopped}
 use Rattle.zone_edit.specs.declared.applying.Stopped.TheVariants as stops
@@ -31,7 +29,7 @@ Applies origin operation (Err stops.Full) version new =
     (next : Version) × (apply origin operation version ≡ Ok next) × (next ≡ version → ⊥) × IsFullOn new version (kept_versions new.usage)
 
 -- There is no room for an operation that is accepted and changes what the ones before it made.
-pub record IsFullAt (new : Draft) (origin : Name) (operations : List Operation) (version : Version) (operation : ℕ) (kept : Versions) : Type 0 where
+pub record IsFullAt (new : Draft) (origin : Name) (operations : List Operation) (version : Version) (operation : ℕ) (kept : List ℕ) : Type 0 where
   pub front : List Operation
   pub refused : Operation
   pub back : List Operation
@@ -42,11 +40,11 @@ pub record IsFullAt (new : Draft) (origin : Name) (operations : List Operation) 
   pub next : Version
   pub accepted : apply origin refused working ≡ Ok next
   pub changes : next ≡ working → ⊥
-  pub full : IsFullOn new working (versions_in kept)
+  pub full : IsFullOn new working kept
 
 -- the same for a block's operations
 abbrev pub AppliesAll : Name → List Operation → Result (Unit {0}) Halt → Version → Draft → Type 0
 AppliesAll origin operations (Ok u) version new = (next : Version) × (whole origin operations version ≡ Ok next) × WorksOn new next
 AppliesAll origin operations (Err halts.Memory) version new = Unit {0}
 AppliesAll origin operations (Err (halts.Refused refusal)) version new = whole origin operations version ≡ Err refusal
-AppliesAll origin operations (Err (halts.Full operation kept)) version new = IsFullAt new origin operations version operation kept
+AppliesAll origin operations (Err (halts.Full operation)) version new = IsFullAt new origin operations version operation (kept_versions new.usage)

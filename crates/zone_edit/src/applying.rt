@@ -12,7 +12,7 @@ use crate::buffers::ItemBuffers;
 use crate::storing::{NoRoom, store};
 use dns_name::Name;
 use rr_data::Entry;
-use shared_index::{Law, Named, Transaction, Versions};
+use shared_index::{Law, Named, Transaction};
 use shift_key::Key;
 use std::alloc::{AllocError, AllocFailed, Global};
 use zone_change::{Operation, changed};
@@ -26,8 +26,8 @@ pub enum Halt {
     Memory,
     /// A rule of zones.
     Refused(Refusal),
-    /// No room for an operation, by its number from 1, while these versions are kept.
-    Full { operation: u64, kept: Versions },
+    /// No room for an operation, by its number from 1, while what the transaction's `kept` tells is kept.
+    Full { operation: u64 },
 }
 
 /// Why an operation changes nothing.
@@ -148,7 +148,6 @@ pub fn apply_all<L: Law, N: Named, K>(
             Err(Stopped::Full) => {
                 return Err(Halt::Full {
                     operation: index as u64 + 1,
-                    kept: transaction.kept(),
                 });
             }
         }

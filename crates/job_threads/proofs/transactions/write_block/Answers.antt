@@ -3,6 +3,8 @@ use Rattle.std.specs.Prelude.{IsSomeAnd}
 use Rattle.job_model.specs.declared.Weight.{Weight}
 use Rattle.zone_change.specs.Views.{operation_view}
 use Rattle.shared_index.specs.Passes.{known_at}
+use Rattle.zone_edit.specs.Blocks.{AppliesAll}
+use Rattle.zone_edit.proofs.EditLaws.{is_there}
 use Rattle.job_threads.specs.Weights.{IsOfWeight}
 use Rattle.job_threads.proofs.ShowLaws.{seat_told}
 use Rattle.job_threads.proofs.BlockLaws.{begun_works, after_works, after_zone, edits_as, committed_ran, rollback_ran, stopped_ran, ran_as, result_as, has_passes, full_chunks}
@@ -39,11 +41,14 @@ returns-clause-ran g c = λ s setup.
     (edits_as c.args.origin.now s.origin (map operation_view c.args.block.now.operations.items) (map operation_view c.args.block.now.operations.items) (Ok tt) c.write-write.result.locked.now.draft c.edit.new.transaction.locked.now.draft setup.index.origin_is refl c.in_default.ensures.applies) c.in-Rollback.is refl)
     (search rules)
 
+pub kept-requires : goal.kept-requires
+kept-requires g c = is_there (AppliesAll c.args.origin.now (map operation_view c.args.block.now.operations.items) (Err c.in-Err.halt)) c.write-write.result.locked.now.draft c.edit.new.transaction.locked.now.draft c.in-Err.ensures.applies
+
 pub returns-in-Err-clause-ran : goal.returns-in-Err-clause-ran
 returns-in-Err-clause-ran g c = λ s setup.
     result_as s _ _ _ (known_at c.drop-write.new.self.0.seat) _ _
     (stopped_ran s (map operation_view c.args.block.now.operations.items) c.args.block.now.ending (known_at c.args.pass.now.seat) c.write-write.result.locked.now.draft c.edit.new.transaction.locked.now.draft
-    (seat_told c.args.pass.now.seat c.requires.here) setup.opening c.write-write.ensures.begins c.drop-write.new.self.0.seat c.version-version.result c.in-Err.halt c.stopped.result c.drop-write.ensures.back c.version-version.ensures
+    (seat_told c.args.pass.now.seat c.requires.here) setup.opening c.write-write.ensures.begins c.drop-write.new.self.0.seat c.version-version.result c.in-Err.halt c.kept.result c.stopped.result c.kept.ensures c.drop-write.ensures.back c.version-version.ensures
     (edits_as c.args.origin.now s.origin (map operation_view c.args.block.now.operations.items) (map operation_view c.args.block.now.operations.items) (Err c.in-Err.halt) c.write-write.result.locked.now.draft c.edit.new.transaction.locked.now.draft setup.index.origin_is refl c.in-Err.ensures.applies)
     (full_chunks g.N.Named.tables c.args.index.now.place c.edit.new.transaction.locked.now.place s.chunks c.args.index.now.shared.table.shared.table_id c.edit.new.transaction.locked.now.shared.now.table.shared.table_id c.edit.new.transaction.locked.now.draft
     c.args.index.now.here c.edit.new.transaction.locked.now.named (c.edit.ensures.place ∙ c.write-write.ensures.place) (ap (λ n. 4161 + 2048 * n) setup.index.chunks ∙ c.args.index.now.shared.wide) c.edit.new.transaction.locked.now.here)

@@ -6,14 +6,12 @@ use Rattle.zone_model.specs.declared.Refusal.{Refusal}
 use Rattle.zone_change.specs.Views.{operation_view}
 use Rattle.zone_change.specs.declared.operations.Operation.{Operation as Said}
 use Rattle.shared_index.specs.declared.desk.Draft.{Draft}
-use Rattle.chunk_usage.specs.Keeping.{kept_versions}
-use Rattle.shared_index.specs.Keepings.{versions_in}
 use Rattle.zone_edit.proofs.ApplyLaws.{next_whole, refused_whole, up_to, all_around}
-use Rattle.zone_edit.specs.Stores.{WorksOn, WorksOnSome, Edits, IsFullOn}
+use Rattle.zone_edit.specs.Stores.{WorksOn, WorksOnSome, Edits}
 use Rattle.zone_edit.specs.Blocks.{Applies, AppliesAll}
 use Rattle.zone_edit.specs.declared.applying.Stopped.{Stopped}
 use Rattle.zone_edit.specs.declared.applying.Halt.TheVariants as halts
-use Rattle.zone_edit.proofs.EditLaws.{edits_same, edits_and, edits_as, edits_on, edits_some, is_there}
+use Rattle.zone_edit.proofs.EditLaws.{edits_same, edits_as, edits_on, edits_some}
 use Rattle.zone_edit.proofs.applying.apply_all.Goals as goal
 
 -- the first so many operations made a version
@@ -72,23 +70,18 @@ returns-in-Err-Refused-clause-applies g c =
     ))
     c.loop-index.invariant.so_far c.in-Err-Refused.ensures.applies)
 
-pub kept-requires : goal.kept-requires
-kept-requires g c = is_there (Applies c.args.origin.now (operation_view c.index-operations-index.result) (Err c.in-Err-Full.field-0)) c.loop-index.transaction.locked.now.draft c.apply.new.transaction.locked.now.draft c.in-Err-Full.ensures.applies
-
 pub returns-in-Err-Full-clause-applies : goal.returns-in-Err-Full-clause-applies
 returns-in-Err-Full-clause-applies g c =
     let lt = c.loop-index-test.true in
     let le : c.loop-index.index ≤ length c.args.operations.now = omega arith in
     let long = length-map (take c.loop-index.index c.args.operations.now) operation_view ∙ length-take-le c.loop-index.index c.args.operations.now le in
-    let kept = c.kept.result in
-    edits_on (SoFar c.args.origin.now c.args.operations.now c.loop-index.index) (λ version new. Applies c.args.origin.now (operation_view c.index-operations-index.result) (Err c.in-Err-Full.field-0) version new × (versions_in kept ≡ kept_versions new.usage))
-    (AppliesAll c.args.origin.now (map operation_view c.args.operations.now) (Err (halts.Full (c.loop-index.index + 1) kept)))
+    edits_on (SoFar c.args.origin.now c.args.operations.now c.loop-index.index) (Applies c.args.origin.now (operation_view c.index-operations-index.result) (Err c.in-Err-Full.field-0)) (AppliesAll c.args.origin.now (map operation_view c.args.operations.now) (Err (halts.Full (c.loop-index.index + 1))))
     c.args.transaction.now.locked.now.draft c.loop-index.transaction.locked.now.draft c.apply.new.transaction.locked.now.draft
     (λ version e f x. (
       x.0,
       x.2,
       λ y.
-          let step = subst (λ (s : Stopped). Applies c.args.origin.now (operation_view c.index-operations-index.result) (Err s) x.0 f) c.in-Err-Full.field-0-is y.0 in
+          let step = subst (λ (s : Stopped). Applies c.args.origin.now (operation_view c.index-operations-index.result) (Err s) x.0 f) c.in-Err-Full.field-0-is y in
           record {
             front = map operation_view (take c.loop-index.index c.args.operations.now);
             refused = operation_view c.index-operations-index.result;
@@ -100,12 +93,10 @@ returns-in-Err-Full-clause-applies g c =
             next = step.0;
             accepted = step.1;
             changes = step.2;
-            full = subst (IsFullOn f x.0) (sym y.1) step.3;
+            full = step.3;
           },
     ))
-    c.loop-index.invariant.so_far
-    (edits_and (Applies c.args.origin.now (operation_view c.index-operations-index.result) (Err c.in-Err-Full.field-0)) (λ version new. Applies c.args.origin.now (operation_view c.index-operations-index.result) (Err c.in-Err-Full.field-0) version new × (versions_in kept ≡ kept_versions new.usage))
-    (λ d. versions_in kept ≡ kept_versions d.usage) c.loop-index.transaction.locked.now.draft c.apply.new.transaction.locked.now.draft (λ version e a p. (a, p)) c.in-Err-Full.ensures.applies c.kept.ensures)
+    c.loop-index.invariant.so_far c.in-Err-Full.ensures.applies
 
 pub returns-clause-applies : goal.returns-clause-applies
 returns-clause-applies g c =
