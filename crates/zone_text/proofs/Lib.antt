@@ -7,3 +7,4 @@ pub mod ScanLemmas
 pub mod SingleLemmas
 pub mod SpellingLemmas
 pub mod TimeLemmas
+pub mod WordLemmas

@@ -37,10 +37,10 @@ found xs n h = by_test (ltb (position_or_len (λ b. eqb b 10) xs) (length xs)) r
     by_test true e h = let p : position_or_len (λ b. eqb b 10) xs ≡ n = cc in (p, omega (arith, ltb-true (position_or_len (λ b. eqb b 10) xs) (length xs) e))
     by_test false e h = absurd cc
 
-pub missed : (xs : List ℕ) → position (λ b. eqb b 10) xs ≡ None → length xs ≤ position_or_len (λ b. eqb b 10) xs
-missed xs h = by_test (ltb (position_or_len (λ b. eqb b 10) xs) (length xs)) refl h
+pub missed : (p : ℕ → Bool) (xs : List ℕ) → position p xs ≡ None → length xs ≤ position_or_len p xs
+missed p xs h = by_test (ltb (position_or_len p xs) (length xs)) refl h
   where
-    by_test : (b : Bool) → ltb (position_or_len (λ b. eqb b 10) xs) (length xs) ≡ b → cond b (Some (position_or_len (λ b. eqb b 10) xs)) None ≡ None → length xs ≤ position_or_len (λ b. eqb b 10) xs
+    by_test : (b : Bool) → ltb (position_or_len p xs) (length xs) ≡ b → cond b (Some (position_or_len p xs)) None ≡ None → length xs ≤ position_or_len p xs
     by_test true e h = absurd cc
     by_test false e h = grind (arith, nat_tests)
 
@@ -71,7 +71,7 @@ pub last_line : (bytes : List ℕ) (at : ℕ) → at < length bytes → position
 last_line bytes at inside h =
     let len : length (drop at bytes) ≡ length bytes - at = length-drop at bytes in
     record {
-      lines = lines_last (drop at bytes) (omega arith) (missed (drop at bytes) h) ∙ sym (ap (λ (l : List ℕ). l ∷ lines (drop (length bytes) bytes)) (between_to_end bytes at (length bytes) (omega arith)) ∙ ap (λ (l : List ℕ). drop at bytes ∷ lines l) (drop-length bytes));
+      lines = lines_last (drop at bytes) (omega arith) (missed (λ b. eqb b 10) (drop at bytes) h) ∙ sym (ap (λ (l : List ℕ). l ∷ lines (drop (length bytes) bytes)) (between_to_end bytes at (length bytes) (omega arith)) ∙ ap (λ (l : List ℕ). drop at bytes ∷ lines l) (drop-length bytes));
       begins = omega arith;
       ends = omega arith;
       on = omega arith;

@@ -1,6 +1,7 @@
 //! The tokens of a line.
-ghost use Rattle.std.specs.Prelude.{◌≡◌, ◌<◌, ◌≤◌, ◌+◌, ◌^◌, ◌++◌, ◌∷◌, [], ℕ, List, length, slice_index, OnOk, Result, Ok, Err, true, if◌then◌else◌};
-ghost use Rattle.std.specs.List.{slice_range, All};
+ghost use Rattle.std.specs.Prelude.{◌≡◌, ◌<◌, ◌≤◌, ◌+◌, ◌^◌, ◌++◌, ◌∷◌, [], ℕ, List, length, slice_index, OnOk, Result, Ok, Err, true, false, if◌then◌else◌};
+ghost use Rattle.std.specs.List.{slice_range, position, All};
+ghost use Rattle.zone_model.specs.Grammar.{stops_word};
 ghost use Rattle.zone_model.specs.Tokens.{apart, in_word, in_quote, step, steps, line_end, line_tokens, with_token, parts_words, Word, Quote};
 ghost use Rattle.zone_text.specs.Views.{scan_view, Gives, HasScanned};
 ghost use Rattle.zone_text.specs.Tokens.{IsPlaced};
@@ -227,6 +228,58 @@ fn line_end(scan: &mut Scan, bytes: &[u8], at: u32, line: u32) -> Result<(), Zon
     }
 }
 
+// A byte that parts words, or a backslash. Most bytes of words lie past `)`, where only two are of these.
+fn stops_word(octet: u8) -> bool
+    ensures { result ≡ stops_word octet }
+{
+    if octet > b')' {
+        octet == b';' || octet == b'\\'
+    } else {
+        parts_words(octet)
+    }
+}
+
+// The place of the first byte that doesn't just join a word.
+fn first_stop(text: &[u8]) -> Option<usize>
+    ensures { result ≡ position stops_word text.now }
+{
+    text.iter().position(|octet| stops_word(*octet))
+}
+
+// The place up to which each byte joins a word: that of the first byte that doesn't, or `upto`.
+fn word_end(bytes: &[u8], at: u32, upto: u32) -> u32
+    requires order { at ≤ upto }
+    requires inside { upto ≤ length bytes.now }
+    requires short { length bytes.now ≤ 2 ^ 24 }
+    ensures order { at ≤ result }
+    ensures inside { result ≤ upto }
+    ensures joins { All (λ c. stops_word c ≡ false) (slice_range bytes.now at result) }
+    ensures stops { result < upto → stops_word (slice_index bytes.now result) ≡ true }
+{
+    match first_stop(&bytes[at as usize..upto as usize]) {
+        Some(n) => at + n as u32,
+        None => upto,
+    }
+}
+
+// The place of the next byte that `step` has to take: in a word, that of the first byte that doesn't just join it.
+fn next_step(scan: &Scan, bytes: &[u8], at: u32, upto: u32) -> u32
+    requires order { at ≤ upto }
+    requires inside { upto ≤ length bytes.now }
+    requires short { length bytes.now ≤ 2 ^ 24 }
+    requires scanned { HasScanned bytes.now at scan.now }
+    ensures order { at ≤ result }
+    ensures inside { result ≤ upto }
+    ensures same { (line : ℕ) → steps line (slice_range bytes.now at upto) (scan_view bytes.now at scan.now) ≡ steps line (slice_range bytes.now result upto) (scan_view bytes.now result scan.now) }
+    ensures scanned { HasScanned bytes.now result scan.now }
+    ensures stops { (from : ℕ) → scan.now.begun ≡ Begun.Word from → result < upto → stops_word (slice_index bytes.now result) ≡ true }
+{
+    match scan.begun {
+        Begun::Word(_) => word_end(bytes, at, upto),
+        _ => at,
+    }
+}
+
 // The bytes of a line up to its end.
 #[tactic(auto, using(crate::proofs::ScanLemmas::steps_more), unfolding(zone_model::specs::Tokens::steps))]
 fn steps(scan: &mut Scan, bytes: &[u8], from: u32, upto: u32, line: u32) -> Result<(), ZoneRefusal>
@@ -237,8 +290,10 @@ fn steps(scan: &mut Scan, bytes: &[u8], from: u32, upto: u32, line: u32) -> Resu
     ensures gives { Gives result (scan_view bytes.now upto scan.new) (steps line (slice_range bytes.now from upto) (scan_view bytes.now from scan.old)) }
     ensures scanned { OnOk result (HasScanned bytes.now upto scan.new) }
 {
-    for at in from..upto {
+    let mut at = next_step(scan, bytes, from, upto);
+    while at < upto {
         step(scan, bytes, at, line)?;
+        at = next_step(scan, bytes, at + 1, upto);
     }
     Ok(())
 }
