@@ -1,5 +1,5 @@
 //! The tokens of a line.
-ghost use Rattle.std.specs.Prelude.{◌≡◌, ◌<◌, ◌≤◌, ◌+◌, ◌^◌, ◌++◌, ◌∷◌, [], ℕ, List, length, slice_index, OnOk, Result, Ok, Err, true, false, Option, Some, None, if◌then◌else◌};
+ghost use Rattle.std.specs.Prelude.{◌≡◌, ◌<◌, ◌≤◌, ◌+◌, ◌^◌, ◌++◌, ◌∷◌, [], ℕ, List, length, slice_index, OnOk, Result, Ok, Err, true, false, if◌then◌else◌};
 ghost use Rattle.std.specs.List.{slice_range, position, All};
 ghost use Rattle.zone_model.specs.Grammar.{stops_word};
 ghost use Rattle.zone_model.specs.Tokens.{apart, in_word, in_quote, step, steps, line_end, line_tokens, with_token, parts_words, Word, Quote};
@@ -228,14 +228,25 @@ fn line_end(scan: &mut Scan, bytes: &[u8], at: u32, line: u32) -> Result<(), Zon
     }
 }
 
-// The place of the first byte that parts words or is a backslash.
+// A byte that parts words, or a backslash. Most bytes of words lie past `)`, where only two are of these.
+fn stops_word(octet: u8) -> bool
+    ensures { result ≡ stops_word octet }
+{
+    if octet > b')' {
+        octet == b';' || octet == b'\\'
+    } else {
+        parts_words(octet)
+    }
+}
+
+// The place of the first byte that doesn't just join a word.
 fn first_stop(text: &[u8]) -> Option<usize>
     ensures { result ≡ position stops_word text.now }
 {
-    text.iter().position(|octet| matches!(*octet, b' ' | b'\t' | b';' | b'"' | b'(' | b')' | b'\\'))
+    text.iter().position(|octet| stops_word(*octet))
 }
 
-// The place up to which each byte joins a word: that of the first byte that parts words or is a backslash, or `upto`.
+// The place up to which each byte joins a word: that of the first byte that doesn't, or `upto`.
 fn word_end(bytes: &[u8], at: u32, upto: u32) -> u32
     requires order { at ≤ upto }
     requires inside { upto ≤ length bytes.now }
@@ -251,7 +262,7 @@ fn word_end(bytes: &[u8], at: u32, upto: u32) -> u32
     }
 }
 
-// The place of the next byte that `step` has to take: within a word the end of the bytes that join it.
+// The place of the next byte that `step` has to take: in a word, that of the first byte that doesn't just join it.
 fn next_step(scan: &Scan, bytes: &[u8], at: u32, upto: u32) -> u32
     requires order { at ≤ upto }
     requires inside { upto ≤ length bytes.now }
