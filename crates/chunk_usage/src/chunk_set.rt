@@ -71,19 +71,6 @@ impl ChunkSet {
         self.words[(chunk / 64) as usize] &= !(1 << (chunk % 64));
     }
 
-    /// Puts a chunk in, or takes it out.
-    #[inline]
-    pub fn set(&mut self, chunk: u32, member: bool)
-        requires { chunk < length self.old }
-        ensures { self.new ≡ slice_set self.old chunk member }
-    {
-        if member {
-            self.insert(chunk);
-        } else {
-            self.remove(chunk);
-        }
-    }
-
     /// Takes all chunks out.
     pub fn clear(&mut self)
         ensures { self.new ≡ replicate (length self.old) false }
@@ -107,7 +94,7 @@ impl ChunkSet {
         clear_bits(&mut self.words, &other.words);
     }
 
-    /// Makes it one set without the chunks of another.
+    /// Makes it the chunks of one set that aren't in another.
     pub fn set_difference(&mut self, all: &ChunkSet, other: &ChunkSet)
         requires all { length self.old ≡ length all.now }
         requires other { length self.old ≡ length other.now }
@@ -145,7 +132,7 @@ fn clear_bits(words: &mut [u64], others: &[u64])
     }
 }
 
-/// Puts the bits that are set in the first words and not in the others.
+/// Puts the bits of all that aren't set in the others.
 fn put_difference(words: &mut [u64], all: &[u64], others: &[u64])
     requires all { length words.old ≡ length all.now }
     requires others { length words.old ≡ length others.now }
@@ -189,7 +176,7 @@ fn first_bit_of_words(words: &[u64], from: usize) -> Option<u32>
     None
 }
 
-/// A word that only clear ones stand before, from a word on: they are passed by eights.
+/// A word behind none but clear ones, from a word on: they are passed by eights.
 fn after_clear(words: &[u64], from: usize) -> usize
     requires { from ≤ length words.now }
     ensures at_or_after { from ≤ result }

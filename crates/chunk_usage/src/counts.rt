@@ -152,7 +152,7 @@ fn note(noted: &mut [u32], changed: &mut ChunkSet, chunk: u32, count: u32)
     }
 }
 
-/// Puts a chunk in the set of those with a cell that counts, or takes it out, where its count became another than 0, or 0.
+/// Where a chunk's count leaves 0, or comes to it, the chunk is put in the set of those with a cell that counts, or taken out.
 #[inline]
 fn mark(counted: &mut ChunkSet, used: &mut u32, chunk: u32, before: u32, count: u32)
     requires inside { chunk < length counted.old }

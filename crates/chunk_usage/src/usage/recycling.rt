@@ -25,6 +25,7 @@ impl Usage {
         ensures others { (q : ℕ) (c : Cell) → is_unreached self.old (q / 1024) ≡ false → C.has cells.old q c → C.has cells.new q c }
         ensures kept { C.kept cells.new ≡ C.kept cells.old }
     {
+        // Mostly so, and no set is gone through.
         if self.all_used() {
             return 0;
         }
@@ -39,7 +40,7 @@ impl Usage {
         count
     }
 
-    // Whether each given chunk has a cell that counts. Then something needs each.
+    // Whether each given chunk has a cell that counts, by how many there are. Then nothing is unreached.
     fn all_used(&self) -> bool
         ensures { result ≡ true → (k : ℕ) → is_unreached self.now k ≡ false }
     {
