@@ -28,12 +28,7 @@ fn kept_list(alloc: Global, kept: &Versions) -> Result<Vec<u64>, AllocError>
 }
 
 // How a block ends whose operations stopped, while these versions are kept.
-fn stopped(
-    alloc: Global,
-    version: u64,
-    halt: Halt,
-    kept: &Versions,
-) -> Result<Outcome, AllocError>
+fn stopped(alloc: Global, version: u64, halt: Halt, kept: &Versions) -> Result<Outcome, AllocError>
     ensures stopped { StoppedBy halt kept.now version result }
     ensures ends { IfOk result (λ o. EndsBlock o.told) }
 {
