@@ -134,26 +134,14 @@ pub fn answer_into<V: Reading, S: RowSink>(
         return Ok(Kind::Outside);
     }
     let mut asked = *name;
-    let mut target = None;
     for _ in 0..MOST_ALIASES {
-        match step(
-            alloc,
-            version,
-            origin,
-            &asked,
-            rtype,
-            walker,
-            item,
-            &mut target,
-            rows,
-        )? {
-            Next::Ends(kind) => return Ok(kind),
-            Next::Leads => {}
+        if let Next::Ends(kind) = step(alloc, version, origin, &asked, rtype, walker, item, rows)? {
+            return Ok(kind);
         }
-        let Some(next) = target else {
+        let Some(target) = walker.target else {
             return Ok(Kind::Answered);
         };
-        asked = next;
+        asked = target;
         if !asked.is_under(origin) {
             return Ok(Kind::Answered);
         }

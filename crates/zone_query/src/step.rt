@@ -28,7 +28,7 @@ use trie_read::Reading;
 pub enum Next {
     /// It ends.
     Ends(Kind),
-    /// An alias leads on. Its target lies where targets are put: none where the alias's data are no name.
+    /// An alias leads on. Its target lies where the walker has it: none where the alias's data are no name.
     Leads,
 }
 
@@ -130,16 +130,22 @@ fn give_absent<V: Reading, S: RowSink>(
     name: &Name,
     rtype: u16,
     item: &mut [u8; 4096],
-    target: &mut Option<Name>,
     rows: &mut S,
 ) -> Result<Next, AllocError>
     requires { (zone : Version) × IsPlaced (V.holds version.old) (V.stands version.old walker.old.iter) name.now zone × ([] ≡ owned name.now zone) }
     ensures same { version.new ≡ version.old }
     ensures gives { (zone : Version) (origin : Labels) → IsPlaced (V.holds version.old) (V.stands version.old walker.old.iter) name.now zone → NoneOver origin name.now zone
-        → [] ≡ owned name.now zone → Gives (step origin zone rtype name.now) (S.has rows.old) (S.has rows.new) target.new result }
+        → [] ≡ owned name.now zone → Gives (step origin zone rtype name.now) (S.has rows.old) (S.has rows.new) walker.new.target result }
 {
     match absent_node(version, walker, name, item) {
-        Some(held) => give(alloc, &held.view(item), name, rtype, target, rows),
+        Some(held) => give(
+            alloc,
+            &held.view(item),
+            name,
+            rtype,
+            &mut walker.target,
+            rows,
+        ),
         None => Ok(Next::Ends(Kind::Nxdomain)),
     }
 }
@@ -154,7 +160,6 @@ fn search<V: Reading, S: RowSink>(
     rtype: u16,
     walker: &mut Walker,
     item: &mut [u8; 4096],
-    target: &mut Option<Name>,
     rows: &mut S,
 ) -> Result<Next, AllocError>
     requires shown { ShowsSome (V.holds version.old) }
@@ -162,7 +167,7 @@ fn search<V: Reading, S: RowSink>(
     requires key { key.now ≡ key_of name.now }
     ensures same { version.new ≡ version.old }
     ensures gives { (zone : Version) → Shows (V.holds version.old) zone
-        → Gives (step origin.now zone rtype name.now) (S.has rows.old) (S.has rows.new) target.new result }
+        → Gives (step origin.now zone rtype name.now) (S.has rows.old) (S.has rows.new) walker.new.target result }
 {
     let _wire = name.wire();
     version.restart(&mut walker.iter);
@@ -174,9 +179,9 @@ fn search<V: Reading, S: RowSink>(
         Some(leaf) => {
             let len = version.read(leaf, item);
             let entry = ItemView::of(name, &item[..len]);
-            give_own(alloc, origin, name, &entry, rtype, target, rows)
+            give_own(alloc, origin, name, &entry, rtype, &mut walker.target, rows)
         }
-        None => give_absent(alloc, version, walker, name, rtype, item, target, rows),
+        None => give_absent(alloc, version, walker, name, rtype, item, rows),
     }
 }
 
@@ -220,22 +225,29 @@ pub fn step<V: Reading, S: RowSink>(
     rtype: u16,
     walker: &mut Walker,
     item: &mut [u8; 4096],
-    target: &mut Option<Name>,
     rows: &mut S,
 ) -> Result<Next, AllocError>
     requires shown { ShowsSome (V.holds version.old) }
     requires under { is_under name.now origin.now ≡ true }
     ensures same { version.new ≡ version.old }
     ensures gives { (zone : Version) → Shows (V.holds version.old) zone
-        → Gives (step origin.now zone rtype name.now) (S.has rows.old) (S.has rows.new) target.new result }
+        → Gives (step origin.now zone rtype name.now) (S.has rows.old) (S.has rows.new) walker.new.target result }
 {
     let key = Key::of(name);
     match give_there(
-        alloc, version, origin, name, &key, rtype, item, target, rows,
+        alloc,
+        version,
+        origin,
+        name,
+        &key,
+        rtype,
+        item,
+        &mut walker.target,
+        rows,
     )? {
         Some(next) => Ok(next),
         None => search(
-            alloc, version, origin, name, &key, rtype, walker, item, target, rows,
+            alloc, version, origin, name, &key, rtype, walker, item, rows,
         ),
     }
 }

@@ -1,13 +1,15 @@
 //! What a question goes through a version with.
 
+use dns_name::Name;
 use trie_read::{Ancestors, Iter};
 
-/// An iterator, and the names at or above one. One value serves many questions, of any versions: it takes longer to clear than a
+/// An iterator, the names at or above one, and the target of an alias. One value serves many questions, of any versions: it takes longer to clear than a
 /// name to find.
 #[derive(Drop)]
 pub struct Walker {
     pub iter: Iter,
     pub above: Ancestors,
+    pub target: Option<Name>,
 }
 
 impl Walker {
@@ -15,6 +17,7 @@ impl Walker {
         Walker {
             iter: Iter::start(None),
             above: Ancestors::new(),
+            target: None,
         }
     }
 }

@@ -18,10 +18,10 @@ returns-in-Ends-clause-answer g c zone shows =
     let rows = so.0 ++ (step c.args.origin.now zone c.args.rtype c.loop.asked).rows in
     is_given (g.S.RowSink.has c.step.new.rows) whole c.in-Ends.kind rows (gives.1 so.0 so.1)
     (ends whole (15 - c.loop.counter) c.args.origin.now zone c.args.rtype c.loop.asked so.0 rows so_far c.loop.invariant.under refl
-    c.in-Ends.kind (sym (ap (next_view c.step.new.target) c.in-Ends.is) ∙ gives.0))
+    c.in-Ends.kind (sym (ap (next_view c.step.new.walker.target) c.in-Ends.is) ∙ gives.0))
 
-pub returns-in_default-clause-answer : goal.returns-in_default-clause-answer
-returns-in_default-clause-answer g c zone shows =
+pub returns-in_default-target-clause-answer : goal.returns-in_default-target-clause-answer
+returns-in_default-target-clause-answer g c zone shows =
     let whole = answer c.args.origin.now zone c.args.name.now c.args.rtype in
     let now = subst (λ s. Shows (g.V.Reading.holds s) zone) (sym c.loop.invariant.same) shows in
     let left : 16 - c.loop.counter ≡ suc (15 - c.loop.counter) = omega arith in
@@ -31,7 +31,7 @@ returns-in_default-clause-answer g c zone shows =
     let rows = so.0 ++ (step c.args.origin.now zone c.args.rtype c.loop.asked).rows in
     is_given (g.S.RowSink.has c.step.new.rows) whole Answered rows (gives.1 so.0 so.1)
     (leads_nowhere whole (15 - c.loop.counter) c.args.origin.now zone c.args.rtype c.loop.asked so.0 rows so_far c.loop.invariant.under refl
-    (sym (ap (next_view c.step.new.target) c.in-Leads.is ∙ ap (λ (t : Option Name). LeadsTo t) c.in_default.is) ∙ gives.0))
+    (sym (ap (next_view c.step.new.walker.target) c.in_default.is ∙ ap (λ (t : Option Name). LeadsTo t) c.in_default-target.is) ∙ gives.0))
 
 pub returns-then-not-is_under-2-clause-answer : goal.returns-then-not-is_under-2-clause-answer
 returns-then-not-is_under-2-clause-answer g c zone shows =
@@ -43,9 +43,9 @@ returns-then-not-is_under-2-clause-answer g c zone shows =
     let gives = c.in_ok-kind.ensures.gives zone now in
     let rows = so.0 ++ (step c.args.origin.now zone c.args.rtype c.loop.asked).rows in
     let on = leads_on whole (15 - c.loop.counter) c.args.origin.now zone c.args.rtype c.loop.asked so.0 rows so_far c.loop.invariant.under refl
-    c.in-Some.next (sym (ap (next_view c.step.new.target) c.in-Leads.is ∙ ap (λ (t : Option Name). LeadsTo t) c.in-Some.is) ∙ gives.0) in
+    c.in-Some.target (sym (ap (next_view c.step.new.walker.target) c.in_default.is ∙ ap (λ (t : Option Name). LeadsTo t) c.in-Some.is) ∙ gives.0) in
     is_given (g.S.RowSink.has c.step.new.rows) whole Answered rows (gives.1 so.0 so.1)
-    (leads_out whole (15 - c.loop.counter) c.args.origin.now zone c.args.rtype c.in-Some.next rows on (sym c.is_under-in-loop.ensures ∙ c.if-not-is_under-2.true))
+    (leads_out whole (15 - c.loop.counter) c.args.origin.now zone c.args.rtype c.in-Some.target rows on (sym c.is_under-in-loop.ensures ∙ c.if-not-is_under-2.true))
 
 pub loop-preserved : goal.loop-preserved
 loop-preserved g c = record {
@@ -63,9 +63,9 @@ loop-preserved g c = record {
       let next : 15 - c.loop.counter ≡ 16 - (c.loop.counter + 1) = omega arith in (
         rows,
         gives.1 so.0 so.1,
-        subst (λ (n : ℕ). whole ≡ behind rows (followed n c.args.origin.now zone c.args.rtype c.in-Some.next)) next
+        subst (λ (n : ℕ). whole ≡ behind rows (followed n c.args.origin.now zone c.args.rtype c.in-Some.target)) next
             (leads_on whole (15 - c.loop.counter) c.args.origin.now zone c.args.rtype c.loop.asked so.0 rows so_far c.loop.invariant.under refl
-            c.in-Some.next (sym (ap (next_view c.step.new.target) c.in-Leads.is ∙ ap (λ (t : Option Name). LeadsTo t) c.in-Some.is) ∙ gives.0)),
+            c.in-Some.target (sym (ap (next_view c.step.new.walker.target) c.in_default.is ∙ ap (λ (t : Option Name). LeadsTo t) c.in-Some.is) ∙ gives.0)),
       );
 }
 

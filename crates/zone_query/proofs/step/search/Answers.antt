@@ -37,7 +37,7 @@ give_absent-requires g c =
     (zone, placed, nothing_owned c.args.name.now zone (λ t. leaf t.0 t.1 (t.2 ∙ sym c.requires.key)))
 
 pub returns-in-Some-clause-gives : goal.returns-in-Some-clause-gives
-returns-in-Some-clause-gives g c = let referred = c.refer.ensures c.args.target.now in search (rules, referred)
+returns-in-Some-clause-gives g c = let referred = c.refer.ensures c.args.walker.now.target in search (rules, referred)
 
 pub returns-in-Some-found-clause-gives : goal.returns-in-Some-found-clause-gives
 returns-in-Some-found-clause-gives g c zone shows =
