@@ -50,7 +50,8 @@ fn told(alloc: Global, finished: &Finished, telling: Telling) -> Result<Vec<u8>,
     }
 }
 
-/// Runs a job on the index of its zone, by a table that was made for it, and answers the status and what is told of it, which is printed when all is done.
+/// Runs a job on the index of its zone, by a table that was made for it, and answers the status and what is told of it, which is
+/// printed when all is done.
 pub fn report_job<R: Threads + Wait + Sync, G: Gate>(
     rt: &R,
     alloc: Global,
