@@ -1,6 +1,6 @@
 -- What a transaction's working set is after an operation, and after a round.
 use Rattle.std.proofs.Common.{◌≡◌, ◌↔◌, ◌⊎◌, ◌∙◌, ⊎_elim, inl, inr, ℕ, List, [], ◌∷◌, ◌++◌, length, Option, Some, None, Result, Ok, Err, refl, sym, ap, subst, append_assoc}
-use Rattle.std.specs.Prelude.{IsOk}
+use Rattle.std.specs.Prelude.{IsOk, IfSome}
 use Rattle.std.specs.List.{Contains}
 use Rattle.std.proofs.lemmas.List.Elements.{Contains-append_left}
 use Rattle.trie_model.specs.Keys.{Entry}
@@ -14,9 +14,11 @@ use Rattle.shared_cells.specs.Views.{words_of}
 use Rattle.shared_cells.specs.Steps.{IsNamed}
 use Rattle.shared_index.specs.declared.change.Change.{Change}
 use Rattle.shared_index.specs.declared.change.Unchanged.{Unchanged}
+use Rattle.shared_index.specs.declared.change.Unchanged.TheVariants as unchanged
 use Rattle.shared_index.specs.declared.change.Unchanged.TheVariants.{Refused}
 use Rattle.shared_index.specs.declared.desk.Draft.{Draft}
 use Rattle.chunk_usage.specs.Keeping.{kept_versions, narrowed}
+use Rattle.shared_index.specs.declared.kept.Versions.{Versions}
 use Rattle.shared_index.specs.declared.refusal.Full.{Full}
 use Rattle.shared_index.specs.declared.meaning.Operation.{Operation}
 use Rattle.shared_index.specs.Operations.{operated, applied}
@@ -25,6 +27,7 @@ use Rattle.shared_index.specs.Turns.{cells_with}
 use Rattle.shared_index.specs.Bases.{StandsFor}
 use Rattle.shared_index.specs.Changes.{operation_of, IsRefused}
 use Rattle.shared_index.specs.Drafts.{Works, Operates, IsFull, Between, Commits, working_set}
+use Rattle.shared_index.specs.Fulls.{CausedFrom, full_with}
 use Rattle.shared_index.specs.Tries.{Tried}
 use Rattle.shared_index.specs.Keepings.{GoesOn, versions_in}
 use Rattle.shared_index.proofs.AttemptLaws.{rooted_there}
@@ -130,3 +133,11 @@ between_as o denied A B C D (Some d) (Some e) done still forth back h = operates
 between_as o denied A B C D (Some d) None done still forth back h = h
 between_as o denied A B C D None (Some e) done still forth back h = h
 between_as o denied A B C D None None done still forth back h = h
+
+-- where a change finds no room, the cause that it tells holds with the list of kept versions that is told besides
+pub cause_told : (key : List ℕ) (written : ℕ) (asks : List ℕ → List ℕ) (old new : Option Draft) (r : Result (Unit {0}) Unchanged) (e : Unchanged) (full : NoRoom) (told f : Full) → r ≡ Err e → e ≡ unchanged.Full full
+    → (kept : Versions) × IfSome new (λ d. versions_in kept ≡ kept_versions d.usage) × (told ≡ full_with full kept) → told ≡ f
+    → ((n : NoRoom) (kept : Versions) → r ≡ Err (unchanged.Full n) → IfSome new (λ d. versions_in kept ≡ kept_versions d.usage) → Between (λ d e. CausedFrom d.usage e key written asks (full_with n kept)) old new)
+    → Between (λ d e. CausedFrom d.usage e key written asks f) old new
+cause_told key written asks old new r e full told f is field made same cause =
+    subst (λ (x : Full). Between (λ d e. CausedFrom d.usage e key written asks x) old new) (sym made.2 ∙ same) (cause full made.0 (subst (λ (u : Unchanged). r ≡ Err u) field is) made.1)

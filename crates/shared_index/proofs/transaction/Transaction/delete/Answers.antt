@@ -1,12 +1,9 @@
-use Rattle.std.proofs.Common.{◌≡◌, ◌∙◌, Err, refl, sym, subst}
+use Rattle.std.proofs.Common.{◌≡◌, Err, refl, subst}
 use Rattle.std.specs.Prelude.{IsOk}
 use Rattle.trie_write.specs.Paths.{delete_asks}
-use Rattle.shared_index.specs.declared.refusal.Full.{Full}
-use Rattle.shared_index.specs.Drafts.{Between}
-use Rattle.shared_index.specs.Fulls.{CausedFrom}
 use Rattle.shared_index.specs.declared.change.Unchanged.{Unchanged}
 use Rattle.shared_index.specs.declared.change.Unchanged.TheVariants as unchanged
-use Rattle.shared_index.proofs.WorkLaws.{between_as}
+use Rattle.shared_index.proofs.WorkLaws.{between_as, cause_told}
 use Rattle.shared_index.proofs.transaction.Transaction.delete.Goals as goal
 
 pub returns-in-Err-Refused-clause-deletes : goal.returns-in-Err-Refused-clause-deletes
@@ -19,10 +16,5 @@ returns-in-Err-Refused-clause-deletes g c =
 
 pub returns-in-Err-Full-clause-cause : goal.returns-in-Err-Full-clause-cause
 returns-in-Err-Full-clause-cause g c f e =
-    let field : c.in-Err-Full.field-0 ≡ unchanged.Full c.in-Err-Full.full = c.in-Err-Full.field-0-is in
-    let is : c.change.result ≡ Err c.in-Err-Full.field-0 = c.in-Err-Full.is in
-    let told : c.change.result ≡ Err (unchanged.Full c.in-Err-Full.full) = subst (λ (r : Unchanged). c.change.result ≡ Err r) field is in
-    let made = c.full.ensures in
     let same : c.full.result ≡ f = cc in
-    subst (λ (f : Full). Between (λ d e. CausedFrom d.usage e c.args.key.now 1 delete_asks f) c.args.self.now.locked.now.draft c.change.new.self.draft)
-    (sym made.2 ∙ same) (c.change.ensures.cause c.in-Err-Full.full made.0 told made.1)
+    cause_told c.args.key.now 1 delete_asks _ _ c.change.result _ c.in-Err-Full.full c.full.result f c.in-Err-Full.is c.in-Err-Full.field-0-is c.full.ensures same c.change.ensures.cause
