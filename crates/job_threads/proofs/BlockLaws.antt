@@ -9,7 +9,7 @@ use Rattle.zone_model.specs.declared.Refusal.{Refusal}
 use Rattle.zone_model.specs.Versions.{Version, Operation as ZoneOperation}
 use Rattle.job_model.specs.declared.Ending.{Ending}
 use Rattle.job_model.specs.declared.Ending.TheVariants as ending
-use Rattle.job_model.specs.Outcomes.{Cause, Rule, Full, Spent, Ended, Committed, RolledBack, Refused, last_version}
+use Rattle.job_model.specs.Outcomes.{Rule, Full, Spent, Ended, Committed, RolledBack, Refused, last_version}
 use Rattle.job_script.specs.Outcomes.{ended_view}
 use Rattle.job_script.specs.declared.outcomes.Outcome.{Outcome}
 use Rattle.shared_cells.specs.declared.pass.PassSeat.{PassSeat}
@@ -32,7 +32,7 @@ use Rattle.zone_edit.specs.declared.applying.Halt.TheVariants as halts
 use Rattle.zone_edit.proofs.EditLaws.{Both, both, edits_some, some_weaker}
 use Rattle.job_threads.specs.Histories.{Setup, IsZone}
 use Rattle.job_threads.specs.Commands.{Transacts, BlockRan, StoppedBy}
-use Rattle.job_threads.proofs.TransactLaws.{Lawful, begun_some, commits_block, commits_grow, commits_version, back_grows, back_pass, back_version, rolled_back, rule_broken, spent_block, full_block}
+use Rattle.job_threads.proofs.TransactLaws.{Lawful, begun_some, commits_block, commits_grow, commits_version, back_grows, back_version, rolled_back, rule_broken, spent_block, full_block}
 
 abbrev Seat : Type 0
 Seat = PassSeat (List Entry) (List Operation)

@@ -11,7 +11,6 @@ use Rattle.job_model.specs.Replies.{reply_of}
 use Rattle.job_script.specs.Outcomes.{Replies, ended_view}
 use Rattle.job_script.specs.declared.outcomes.Told.TheVariants as told
 use Rattle.job_script.specs.declared.outcomes.Outcome.{Outcome}
-use Rattle.shared_cells.specs.declared.pass.PassSeat.{PassSeat}
 use Rattle.shared_cells.specs.declared.view.PassView.{PassView}
 use Rattle.shared_cells.specs.declared.view.Progress.TheVariants as progress
 use Rattle.shared_cells.specs.Views.{number_of, is_told, with_pinned, with_progress, pinned_image, pinned_version, pinned_root}

@@ -1,5 +1,5 @@
 -- What each kind of command does.
-use Rattle.std.specs.Prelude.{◌≡◌, ℕ, ◌+◌, List, ◌∷◌, [], ◌++◌, length, Some, Ok, Result, IsOk, IsErr, IfOk}
+use Rattle.std.specs.Prelude.{◌≡◌, ℕ, List, ◌∷◌, [], ◌++◌, length, Some, Ok, Result, IsOk, IsErr, IfOk}
 use Rattle.std.specs.declared.alloc.AllocError.{AllocError}
 use Rattle.zone_model.specs.Names.{Name}
 use Rattle.zone_model.specs.Versions.{Version, Operation as ZoneOperation, whole}
@@ -8,7 +8,7 @@ use Rattle.job_model.specs.declared.Ending.{Ending}
 use Rattle.job_model.specs.declared.Ending.TheVariants.{Commit, Rollback}
 use Rattle.job_model.specs.Commands.{Question}
 use Rattle.job_model.specs.Replies.{reply_of}
-use Rattle.job_model.specs.Outcomes.{Cause, Rule, Full, Causes, Ended, Shown, Committed, RolledBack, Refused}
+use Rattle.job_model.specs.Outcomes.{Rule, Full, Causes, Ended, Shown, Committed, RolledBack, Refused}
 use Rattle.job_script.specs.Outcomes.{ended_view, Replies}
 use Rattle.job_script.specs.declared.outcomes.Told.TheVariants as told
 use Rattle.job_script.specs.declared.outcomes.Outcome.{Outcome}

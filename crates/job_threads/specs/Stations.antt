@@ -1,5 +1,5 @@
 -- Where a worker's passes are.
-use Rattle.std.specs.Prelude.{◌≡◌, List, Bool, Option, Some, None, IsSome}
+use Rattle.std.specs.Prelude.{List, Option, Some, None, IsSome}
 use Rattle.std.specs.Option.{is_some}
 use Rattle.trie_model.specs.Keys as trie
 use Rattle.shared_cells.specs.declared.pass.PassSeat.{PassSeat}
