@@ -7,7 +7,7 @@ use Rattle.std.proofs.lemmas.Bool.Decides.{nat_tests}
 use Rattle.std.proofs.lemmas.List.{length-set, get_or-set_same}
 use Rattle.std.proofs.lemmas.Grind.{get_or-set_at}
 use Rattle.chunk_usage.specs.declared.open.Open.{Open}
-use Rattle.chunk_usage.specs.Ledger.{Row, Ledger, IsLedger, AreCounts, IsOpen, IsRowOf, is_open, is_fresh, filled}
+use Rattle.chunk_usage.specs.Ledger.{Row, Ledger, IsLedger, AreCounts, IsOpen, IsRowOf, is_open, is_mutable, filled}
 use Rattle.chunk_usage.specs.Handing.{with_open}
 use Rattle.chunk_usage.proofs.FlagLemmas.{set_stays}
 
@@ -41,8 +41,8 @@ module _ (l : Ledger) (h : IsLedger l) (c : ℕ) (within : c < length l.given) (
     | inr none ↦ omega arith
   ]
 
-  pub opened_fresh : (q : ℕ) → (c == q / 1024) ≡ true → is_fresh (with_open l c) q ≡ true
-  opened_fresh q e = ap (λ b. b || (is_open l.last_open (q / 1024) && nat_le (filled l.last_open) (q % 1024))) (get_or-set_at l.since c (q / 1024) true false (same q e) (let n = h.known_since in omega arith))
+  pub opened_mutable : (q : ℕ) → (c == q / 1024) ≡ true → is_mutable (with_open l c) q ≡ true
+  opened_mutable q e = ap (λ b. b || (is_open l.last_open (q / 1024) && nat_le (filled l.last_open) (q % 1024))) (get_or-set_at l.since c (q / 1024) true false (same q e) (let n = h.known_since in omega arith))
     where
       same : (q : ℕ) → (c == q / 1024) ≡ true → q / 1024 ≡ c
       same q e = grind (arith, nat_tests)
@@ -60,7 +60,7 @@ module _ (l : Ledger) (h : IsLedger l) (c : ℕ) (within : c < length l.given) (
     last_counts = counts_grown l.given _ l.last_live grown h.last_counts;
     opened = (omega arith, get_or-set_same l.given c true false within, let z = none_live in omega arith);
     last_opened = open_grown l.given _ l.last_live l.last_open grown h.last_opened;
-    left_fresh = λ q e f. opened_fresh q e;
+    left_mutable = λ q e f. opened_mutable q e;
     few_rows = h.few_rows;
     rising = h.rising;
     rows_given = rows_grown l.given _ l.rows (length-set l.given c true) grown h.rows_given;

@@ -52,7 +52,7 @@ frozen_ledger l h version room older = record {
   last_counts = h.counts;
   opened = h.opened;
   last_opened = h.opened;
-  left_fresh = λ q e f. let z = none_set (length l.since) (q / 1024) in grind (arith, nat_tests, z, e);
+  left_mutable = λ q e f. let z = none_set (length l.since) (q / 1024) in grind (arith, nat_tests, z, e);
   few_rows = let n = length-append l.rows (record { version = version; chunks = row_of l.live } ∷ []) in omega arith;
   rising = rising_more l.rows _ h.rising older;
   rows_given = rows_more l.given l.rows _ h.rows_given (record { wide = length-map l.live (nat_lt 0) ∙ h.counted; in_given = λ k t. h.counts.in_given k (row_counts l.live k t) });
@@ -120,7 +120,7 @@ module _ (stays : Row → Bool) where
     last_counts = h.last_counts;
     opened = h.opened;
     last_opened = h.last_opened;
-    left_fresh = h.left_fresh;
+    left_mutable = h.left_mutable;
     few_rows = let n = fewer_left l.rows in let m = h.few_rows in omega arith;
     rising = rising_left l.rows h.rising;
     rows_given = all_left (IsRowOf l.given) l.rows h.rows_given;
@@ -158,7 +158,7 @@ unused_ledger chunks passes some few some_passes few_passes = record {
   last_counts = none;
   opened = tt;
   last_opened = tt;
-  left_fresh = λ q e f. cc;
+  left_mutable = λ q e f. cc;
   few_rows = omega arith;
   rising = tt;
   rows_given = tt;

@@ -72,7 +72,7 @@ module _ (l : Ledger) (h : IsLedger l) (given : List Bool) (same : length given 
     last_counts = record { most = h.last_counts.most; in_given = λ k some. stays k (h.last_counts.in_given k some) (last_live_needed k some) };
     opened = open_stays l.live l.open_chunk (open_needed l) h.opened;
     last_opened = open_stays l.last_live l.last_open (last_open_needed l) h.last_opened;
-    left_fresh = h.left_fresh;
+    left_mutable = h.left_mutable;
     few_rows = h.few_rows;
     rising = h.rising;
     rows_given = rows_stay l.rows (row_needed l) h.rows_given;

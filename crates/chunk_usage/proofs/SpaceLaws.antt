@@ -12,15 +12,15 @@ use Rattle.chunk_usage.specs.declared.open.Open.{Open}
 use Rattle.chunk_usage.specs.declared.space.Grant.{Grant}
 use Rattle.chunk_usage.specs.declared.space.Full.{Full}
 use Rattle.chunk_usage.specs.Rooms.{Handed, GivesChunk, OpensFree, Grows, account_of}
-use Rattle.chunk_usage.specs.Ledger.{Ledger, IsLedger, IsOpen, is_given, is_open, is_used, is_fresh, filled, left, free_count, reserve_of}
+use Rattle.chunk_usage.specs.Ledger.{Ledger, IsLedger, IsOpen, is_given, is_open, is_used, is_mutable, filled, left, free_count, reserve_of, reserved}
 use Rattle.chunk_usage.specs.Handing.{lowest_free, with_open, taken, next_cell, roomy, granted_from, allocated_from, grant_of, allocated, shortage, spent, unspent}
 use Rattle.chunk_usage.proofs.FlagLemmas.{set_stays, set_within, get_set, get_clear, one_fewer_clear, First, first_is}
 use Rattle.chunk_usage.proofs.RowLemmas.{counts_more}
-use Rattle.chunk_usage.proofs.HandingLaws.{opened_fresh}
+use Rattle.chunk_usage.proofs.HandingLaws.{opened_mutable}
 
 pub record Hands (l new : Ledger) (n : ℕ) (r : Result Grant Full) : Type 0 where
   pub gives : IfOk r (λ g. GivesChunk l.given new.given g.given)
-  pub grows : Grows (is_used l) (is_used new) (is_fresh l) (is_fresh new)
+  pub grows : Grows (is_used l) (is_used new) (is_mutable l) (is_mutable new)
   pub spends : spent new ≤ spent l + n
   pub handed : IfOk r (λ g. Handed (account_of l) (account_of new) g.at n)
 
@@ -55,8 +55,8 @@ module _ (l : Ledger) (h : IsLedger l) (n : ℕ) (some : 0 < n) (o : Open) (is :
   place_at : (i : ℕ) → i < n → (next_cell o + i) % 1024 ≡ o.filled + i
   place_at i lt = omega arith
 
-  left_fresh : (q : ℕ) → q / 1024 ≡ o.chunk → o.filled ≤ q % 1024 → is_fresh l q ≡ true
-  left_fresh q c p = subst (λ (p : Option Open). is_open p (q / 1024) ≡ true → filled p ≤ q % 1024 → is_fresh l q ≡ true) is (h.left_fresh q) (grind (arith, nat_tests)) p
+  left_mutable : (q : ℕ) → q / 1024 ≡ o.chunk → o.filled ≤ q % 1024 → is_mutable l q ≡ true
+  left_mutable q c p = subst (λ (p : Option Open). is_open p (q / 1024) ≡ true → filled p ≤ q % 1024 → is_mutable l q ≡ true) is (h.left_mutable q) (grind (arith, nat_tests)) p
 
   stays : (q : ℕ) → is_used l q ≡ true → is_used (taken l o n) q ≡ true
   stays q u = let e = sym (used_at q) ∙ u in grind (arith, nat_tests, e)
@@ -72,7 +72,7 @@ module _ (l : Ledger) (h : IsLedger l) (n : ℕ) (some : 0 < n) (o : Open) (is :
     twigs = open_row;
     unused = λ i lt. let c = in_chunk_at i lt in let p = place_at i lt in used_at (next_cell o + i) ∙ grind (arith, nat_tests);
     taken = λ i lt. let c = in_chunk_at i lt in let p = place_at i lt in grind (arith, nat_tests);
-    writable = λ i lt. left_fresh (next_cell o + i) (in_chunk_at i lt) (let p = place_at i lt in omega arith);
+    writable = λ i lt. left_mutable (next_cell o + i) (in_chunk_at i lt) (let p = place_at i lt in omega arith);
     in_given = get_set l.given (next_cell o / 1024) (subst (λ (k : ℕ). slice_index_or l.given k false ≡ true) (let c = in_chunk_at 0 some in omega arith) opened.1);
     counts = λ k. counts_more (next_cell o) n open_row.together l.live o.chunk k (let c = in_chunk_at 0 some in omega arith) (let e = h.counted in let i = inside in omega arith);
   }
@@ -106,15 +106,15 @@ module _ (l : Ledger) (h : IsLedger l) (n : ℕ) (some : 0 < n) (few : n ≤ 256
   new_taken : (i : ℕ) → i < n → is_used (newly l n c) (c * 1024 + i) ≡ true
   new_taken i lt = let e = new_chunk_at i lt in let p = new_place_at i lt in grind (arith, nat_tests)
 
-  new_fresh : (q : ℕ) → q / 1024 ≡ c → is_fresh (newly l n c) q ≡ true
-  new_fresh q e = opened_fresh l h c first.within first.clear q (grind (arith, nat_tests))
+  new_mutable : (q : ℕ) → q / 1024 ≡ c → is_mutable (newly l n c) q ≡ true
+  new_mutable q e = opened_mutable l h c first.within first.clear q (grind (arith, nat_tests))
 
   new_handed : Handed (account_of l) (account_of (newly l n c)) (c * 1024) n
   new_handed = record {
     twigs = record { inside = let f = h.few in let w = first.within in omega arith; together = omega arith };
     unused = λ i lt. not_used (c * 1024 + i) (new_chunk_at i lt);
     taken = new_taken;
-    writable = λ i lt. new_fresh (c * 1024 + i) (new_chunk_at i lt);
+    writable = λ i lt. new_mutable (c * 1024 + i) (new_chunk_at i lt);
     in_given = get_set _ (c * 1024 / 1024) (get_or-set_at l.given c (c * 1024 / 1024) true false (omega arith) first.within);
     counts = λ k. counts_more (c * 1024) n (omega arith) l.live c k (omega arith) (let e = h.counted in let w = first.within in omega arith);
   }
@@ -125,10 +125,10 @@ module _ (l : Ledger) (h : IsLedger l) (n : ℕ) (some : 0 < n) (few : n ≤ 256
       let given = set_stays l.given c (q / 1024) (used_given l h q u) in
       grind (arith, nat_tests)
 
-  new_settled : (q : ℕ) → is_used l q ≡ true → is_fresh (newly l n c) q ≡ is_fresh l q
+  new_settled : (q : ℕ) → is_used l q ≡ true → is_mutable (newly l n c) q ≡ is_mutable l q
   new_settled q u = ap (λ (b : Bool). b || (is_open l.last_open (q / 1024) && nat_le (filled l.last_open) (q % 1024))) (get_or-set_other l.since c (q / 1024) true false (elsewhere q u))
 
-  new_fresher : (q : ℕ) → is_fresh l q ≡ true → is_fresh (newly l n c) q ≡ true
+  new_fresher : (q : ℕ) → is_mutable l q ≡ true → is_mutable (newly l n c) q ≡ true
   new_fresher q f = grown (slice_index_or l.since (q / 1024) false) _ _ f (set_stays l.since c (q / 1024))
     where
       grown : (a b rest : Bool) → (a || rest) ≡ true → (a ≡ true → b ≡ true) → (b || rest) ≡ true
@@ -218,3 +218,20 @@ opens l n new is = subst (OpensIn l) (sym is) (of_room l.open_chunk refl)
         of_left : (b : Bool) → OpensIn l (allocated_from l n (if b then Some o else None))
         of_left true = λ k e. inl (ap (λ (p : Option Open). is_open p k) is ∙ e)
         of_left false = of_free (nat_le (free_count l) (reserve_of l)) refl
+
+-- ---- no chunk of the reserve is taken
+
+pub spares : (l : Ledger) (n : ℕ) (new : Ledger) → new ≡ allocated l n → reserved new ≡ reserved l
+spares l n new is = ap reserved is ∙ of_room (roomy l.open_chunk n)
+  where
+    of_free : (b : Bool) → nat_le (free_count l) (reserve_of l) ≡ b → reserved (if b then l else newly l n (lowest_free l)) ≡ reserved l
+    of_free true e = refl
+    of_free false e =
+        let more : reserve_of l < free_count l = grind (arith, nat_tests, e) in
+        let first = first_is l.given (lowest_free l) refl (omega arith) in
+        let fewer = one_fewer_clear l.given (lowest_free l) first.within first.clear in
+        let same = length-set l.given (lowest_free l) true in omega arith
+
+    of_room : (o : Option Open) → reserved (allocated_from l n o) ≡ reserved l
+    of_room None = of_free (nat_le (free_count l) (reserve_of l)) refl
+    of_room (Some o) = refl

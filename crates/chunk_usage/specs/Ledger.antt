@@ -1,5 +1,5 @@
 -- What is known of the chunks: which are given, how many of their cells count, and how that was at the last freeze.
-use Rattle.std.specs.Prelude.{◌≡◌, ℕ, ◌+◌, ◌-◌, ◌/◌, ◌%◌, ◌<◌, ◌≤◌, nat_lt, nat_le, ◌==◌, Bool, true, false, not, ◌&&◌, ◌||◌, if◌then◌else◌, Option, None, Some, List, [], ◌∷◌, length, map, replicate, count_by, slice_index, slice_index_or}
+use Rattle.std.specs.Prelude.{◌≡◌, ℕ, ◌+◌, ◌-◌, ◌/◌, ◌%◌, ◌<◌, ◌≤◌, min, nat_lt, nat_le, ◌==◌, Bool, true, false, not, ◌&&◌, ◌||◌, if◌then◌else◌, Option, None, Some, List, [], ◌∷◌, length, map, replicate, count_by, slice_index, slice_index_or}
 use Rattle.std.specs.List.{AllByRecursion}
 use Rattle.chunk_usage.specs.declared.open.Open.{Open}
 
@@ -51,13 +51,17 @@ free_count l = count_by not l.given
 abbrev pub reserve_of : Ledger → ℕ
 reserve_of l = length l.given / 4
 
+-- how many of those that are kept free are free
+abbrev pub reserved : Ledger → ℕ
+reserved l = min (free_count l) (reserve_of l)
+
 -- the cell is handed out: its chunk is given, and if that is the bump chunk, it lies before those that are left
 abbrev pub is_used : Ledger → ℕ → Bool
 is_used l q = if is_open l.open_chunk (q / 1024) then nat_lt (q % 1024) (filled l.open_chunk) else is_given l (q / 1024)
 
 -- the cell was not handed out at the last freeze: its chunk was given since then, or was open then with this cell left
-abbrev pub is_fresh : Ledger → ℕ → Bool
-is_fresh l q = slice_index_or l.since (q / 1024) false || (is_open l.last_open (q / 1024) && nat_le (filled l.last_open) (q % 1024))
+abbrev pub is_mutable : Ledger → ℕ → Bool
+is_mutable l q = slice_index_or l.since (q / 1024) false || (is_open l.last_open (q / 1024) && nat_le (filled l.last_open) (q % 1024))
 
 -- the chunk set that the counts make: the chunks with a cell that counts
 abbrev pub row_of : List ℕ → List Bool
@@ -113,7 +117,7 @@ pub record IsLedger (l : Ledger) : Type 0 where
   pub opened : IsOpen l.given l.live l.open_chunk
   pub last_opened : IsOpen l.given l.last_live l.last_open
   -- none of the cells that the bump chunk has left was handed out at the last freeze
-  pub left_fresh : (q : ℕ) → is_open l.open_chunk (q / 1024) ≡ true → filled l.open_chunk ≤ q % 1024 → is_fresh l q ≡ true
+  pub left_mutable : (q : ℕ) → is_open l.open_chunk (q / 1024) ≡ true → filled l.open_chunk ≤ q % 1024 → is_mutable l q ≡ true
   pub few_rows : length l.rows ≤ l.passes + 2
   pub rising : Rising l.rows
   pub rows_given : AllByRecursion (IsRowOf l.given) l.rows

@@ -3,7 +3,7 @@ use Rattle.std.specs.Prelude.{◌≡◌, ◌⊎◌, ℕ, ◌+◌, ◌/◌, ◌<�
 use Rattle.trie_model.specs.Trees.{IsRow}
 use Rattle.trie_model.specs.Reach.{row, in_chunk}
 use Rattle.chunk_cells.specs.Chunks.{IsGiven, IsFree}
-use Rattle.chunk_usage.specs.Ledger.{Ledger, Frozen, is_open, is_used, is_fresh, frozen_part}
+use Rattle.chunk_usage.specs.Ledger.{Ledger, Frozen, is_open, is_used, is_mutable, frozen_part, reserved}
 use Rattle.chunk_usage.specs.Handing.{spent}
 
 -- What a space that hands out cells knows of them.
@@ -21,12 +21,26 @@ pub record Account : Type 0 where
   -- 769 for each given chunk but the bump chunk, and of that one what is handed out, at most 769. For a chunk is left for another
   -- only where fewer than 256 of its cells are left, so n cells raise it by no more than n.
   pub spent : ℕ
+  -- how many of the chunks that are kept free are free. Cells are handed out of no such chunk, so it stays as it is
+  pub reserved : ℕ
   -- what was kept at freezes
   pub frozen : Frozen
 
--- what a ledger tells
+-- what a ledger tells; and what it tells who may take the reserve, for whom no chunk is kept free
 abbrev pub account_of : Ledger → Account
-account_of l = record { used = is_used l; mutable = is_fresh l; given = l.given; opened = is_open l.open_chunk; live = slice_index l.live; spent = spent l; frozen = frozen_part l }
+account_of l = record {
+  used = is_used l;
+  mutable = is_mutable l;
+  given = l.given;
+  opened = is_open l.open_chunk;
+  live = slice_index l.live;
+  spent = spent l;
+  reserved = reserved l;
+  frozen = frozen_part l;
+}
+
+abbrev pub reserve_account_of : Ledger → Account
+reserve_account_of l = record (account_of l) { reserved = 0 }
 
 -- n cells of one given chunk that were not in use and now are, that may be written, and that count
 pub record Handed (old new : Account) (first n : ℕ) : Type 0 where
@@ -43,10 +57,10 @@ GivesChunk given new None = new ≡ given
 GivesChunk given new (Some chunk) = IsFree given chunk × (new ≡ slice_set given chunk true)
 
 -- what is in use stays so, and so does whether it is mutable
-pub record Grows (used new fresh fresh_new : ℕ → Bool) : Type 0 where
+pub record Grows (used new mutable mutable_new : ℕ → Bool) : Type 0 where
   pub stays : (q : ℕ) → used q ≡ true → new q ≡ true
-  pub settled : (q : ℕ) → used q ≡ true → fresh_new q ≡ fresh q
-  pub fresher : (q : ℕ) → fresh q ≡ true → fresh_new q ≡ true
+  pub settled : (q : ℕ) → used q ≡ true → mutable_new q ≡ mutable q
+  pub fresher : (q : ℕ) → mutable q ≡ true → mutable_new q ≡ true
 
 -- a chunk that becomes the bump chunk was not given
 abbrev pub OpensFree : List Bool → (ℕ → Bool) → (ℕ → Bool) → Type 0

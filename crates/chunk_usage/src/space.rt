@@ -47,6 +47,8 @@ pub trait Space {
         ensures opens { OpensFree (account self.old).given (account self.old).opened (account self.new).opened }
         ensures grows { Grows (account self.old).used (account self.new).used (account self.old).mutable (account self.new).mutable }
         ensures spends { (account self.new).spent ≤ (account self.old).spent + n }
+        // Where a chunk is given, more are free than are kept free.
+        ensures spares { (account self.new).reserved ≡ (account self.old).reserved }
         ensures frozen { (account self.new).frozen ≡ (account self.old).frozen }
         ensures full { IfErr result (λ f. lacks self.new f) }
         ensures needed { IfErr result (λ f. f.needed ≡ n) }

@@ -90,7 +90,7 @@ impl Usage {
     pub fn known(&self)
         ensures { IsLedger self.now }
     {
-        let _ = &self.state;
+        let _ = &self.state; // for the proof
     }
 
     /// How many chunks there are.

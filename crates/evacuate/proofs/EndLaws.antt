@@ -1,6 +1,6 @@
 -- How an evacuation begins, and what is known at its end.
 use Rattle.std.proofs.Common.{◌≡◌, ℕ, zero, suc, ◌+◌, ◌-◌, ◌*◌, ◌/◌, ◌<◌, ◌≤◌, Bool, true, false, not, cond, List, length, slice_index, slice_index_or, inl, inr, refl, sym, ◌∙◌, ap, subst, arith}
-use Rattle.std.specs.Prelude.{Option, None, Some, ◌&&◌, count_by}
+use Rattle.std.specs.Prelude.{Option, None, Some, count_by}
 use Rattle.std.specs.List.{range_with_len}
 use Rattle.std.proofs.lemmas.Bool.{cases_lt, cases_eq, true≢false}
 use Rattle.std.proofs.lemmas.Bool.Decides.{nat_tests}
@@ -17,8 +17,8 @@ use Rattle.chunk_usage.specs.declared.open.Open.{Open}
 use Rattle.chunk_usage.specs.Counting.{is_low, is_sparse, sparse_count}
 use Rattle.chunk_usage.specs.Handing.{spent, unspent}
 use Rattle.chunk_usage.specs.Keeping.{closed, full}
-use Rattle.chunk_usage.specs.Ledger.{Ledger, IsLedger, is_given, is_open, is_used, is_fresh, left, free_count, frozen_part}
-use Rattle.chunk_usage.specs.Rooms.{Grows, account_of}
+use Rattle.chunk_usage.specs.Ledger.{Ledger, IsLedger, is_given, is_open, is_used, is_mutable, left, free_count, frozen_part}
+use Rattle.chunk_usage.specs.Rooms.{Grows, reserve_account_of}
 use Rattle.chunk_usage.proofs.FlagLemmas.{set_within}
 use Rattle.chunk_usage.proofs.SpaceLaws.{used_given}
 use Rattle.trie_model.proofs.ReachLaws.{first_true}
@@ -38,7 +38,7 @@ use Rattle.evacuate.proofs.TreeLaws.{root_used}
 
 -- ---- the bump chunk is closed
 
-module _ {S : Type 0} {has : S → ℕ → Cell → Type 0} {s : S} {l l1 : Ledger} (e : l1 ≡ closed l) (grows : Grows (is_used l) (is_used l1) (is_fresh l) (is_fresh l1)) where
+module _ {S : Type 0} {has : S → ℕ → Cell → Type 0} {s : S} {l l1 : Ledger} (e : l1 ≡ closed l) (grows : Grows (is_used l) (is_used l1) (is_mutable l) (is_mutable l1)) where
   pub stood_closed : {r : ℕ} {es : List Entry} {t : Tree} → Stood has s l r es t → Stood has s l1 r es t
   stood_closed h = record {
     tree = h.tree;
@@ -52,14 +52,15 @@ module _ {S : Type 0} {has : S → ℕ → Cell → Type 0} {s : S} {l l1 : Ledg
     holds = h.holds;
   }
 
-module _ {S : Type 0} (has : S → ℕ → Cell → Type 0) (kept : S → List ℕ) (given : S → List Bool) {s : S} {l l1 : Ledger} (e : l1 ≡ closed l) (grows : Grows (is_used l) (is_used l1) (is_fresh l) (is_fresh l1)) where
-  pub fenced_closed : Fenced has kept given account_of s l s l1
+module _ {S : Type 0} (has : S → ℕ → Cell → Type 0) (kept : S → List ℕ) (given : S → List Bool) {s : S} {l l1 : Ledger} (e : l1 ≡ closed l) (grows : Grows (is_used l) (is_used l1) (is_mutable l) (is_mutable l1)) where
+  pub fenced_closed : Fenced has kept given reserve_account_of s l s l1
   fenced_closed = record {
     frozen = λ q c m h. h;
     keeps = refl;
     given_stays = λ k h. h;
     opens = λ k o. inl (was_open l.open_chunk k (sym (ap (λ (m : Ledger). is_open m.open_chunk k) e) ∙ o));
     grows = grows;
+    spares = refl;
     last = ap frozen_part e;
   }
     where
@@ -67,7 +68,7 @@ module _ {S : Type 0} (has : S → ℕ → Cell → Type 0) (kept : S → List �
       was_open None k h = h
       was_open (Some o) k h = h
 
-  pub ready_closed : Ready kept given account_of s l → Ready kept given account_of s l1
+  pub ready_closed : Ready kept given reserve_account_of s l → Ready kept given reserve_account_of s l1
   ready_closed r = ready_grows r (r.same ∙ sym (ap (λ (m : Ledger). m.given) e)) refl grows
 
 pub closed_spent : (l : Ledger) → spent (closed l) ≤ 769 * (length l.given - free_count l)
@@ -79,7 +80,7 @@ root_old {l = l} {r} h stood = used_given l h r (root_used stood)
 -- ---- roots that stand
 
 pub stood_of : {S : Type 0} {has : S → ℕ → Cell → Type 0} {s : S} {l : Ledger} {r : ℕ} {es : List Entry} {t : Tree} → StandsIn (has s) (is_used l) (slice_index l.live) r t es → Stood has s l r es t
-stood_of {has = has} {s} {l} h = record { tree = h.trie.shape; rooted = stands_rooted has account_of s l h; holds = h.trie.holds }
+stood_of {has = has} {s} {l} h = record { tree = h.trie.shape; rooted = stands_rooted has reserve_account_of s l h; holds = h.trie.holds }
 
 pub stands_again : {S : Type 0} {has : S → ℕ → Cell → Type 0} {s : S} {l : Ledger} {r : ℕ} {es : List Entry} {t : Tree} → Stood has s l r es t → StandsIn (has s) (is_used l) (slice_index l.live) r t es
 stands_again {has = has} {s} {l} {r} {t = t} h = subst (StandsIn (has s) (is_used l) (slice_index l.live) r t) h.holds (rooted_stands h.rooted h.tree)

@@ -8,12 +8,13 @@ use Rattle.chunk_usage.specs.declared.open.Open.{Open}
 use Rattle.chunk_usage.specs.declared.space.Grant.{Grant}
 use Rattle.chunk_usage.specs.declared.space.Full.{Full}
 use Rattle.chunk_usage.specs.Counting.{is_low, is_sparse}
-use Rattle.chunk_usage.specs.Ledger.{Ledger, IsLedger, IsOpen, is_given, is_open, is_used, is_fresh, filled, left, free_count, frozen_part}
+use Rattle.chunk_usage.specs.Ledger.{Ledger, IsLedger, IsOpen, is_given, is_open, is_used, is_mutable, filled, left, free_count, frozen_part}
 use Rattle.chunk_usage.specs.Handing.{lowest_free, newly_taken, new_grant, next_cell, taken, roomy, shortage, released, reserve_granted_from, reserve_allocated_from, reserve_grant_of, reserve_allocated}
 use Rattle.chunk_usage.specs.Keeping.{closed, full}
 use Rattle.chunk_usage.proofs.FlagLemmas.{set_stays, set_within, First, first_is}
 use Rattle.chunk_usage.proofs.SpaceLaws.{Hands, OpensIn, used_given}
 use Rattle.evacuate.proofs.ReserveLaws.{reserve_handed, reserve_frozen, reserve_opens}
+use Rattle.evacuate.specs.Evacuations.{FillsNew}
 use Rattle.evacuate.specs.Fillings.{Fills, Moves, Paid, is_old, old_live}
 
 -- ---- how many cells of the old chunks count
@@ -244,7 +245,7 @@ module _ (given : List Bool) (l : Ledger) (f : Fills given l) where
     | inr new ↦ absurd (let p = sparse_parts l k s in let m = f.left k p.is new p.shut in let few = p.few in grind (arith, nat_tests, few))
   ]
 
-  pub settled_old : IsLedger l → (q : ℕ) → is_used l q ≡ true → is_fresh l q ≡ false → is_old given q ≡ true
+  pub settled_old : IsLedger l → (q : ℕ) → is_used l q ≡ true → is_mutable l q ≡ false → is_old given q ≡ true
   settled_old h q used settled = elim (cases_Bool (is_old given q)) [
     | inl old ↦ old
     | inr new ↦ absurd (fresh (slice_index_or l.since (q / 1024) false) _ (f.recent (q / 1024) (used_given l h q used) new) settled)
@@ -275,6 +276,17 @@ fills_begin l h = record {
     filled_full : (o : Option Open) (k : ℕ) → is_open (full o) k ≡ true → filled (full o) ≡ 1024
     filled_full None k e = absurd (true≢false (sym e))
     filled_full (Some o) k e = refl
+
+-- where nothing was moved no chunk was given
+pub fills_nothing : (l : Ledger) → IsLedger l → FillsNew l l
+fills_nothing l h = record {
+  left = λ k g new shut. absurd (true≢false (sym g ∙ new));
+  bump = λ k at new. absurd (true≢false (sym (given_open l.open_chunk h.opened k at) ∙ new));
+}
+  where
+    given_open : (o : Option Open) → IsOpen l.given l.live o → (k : ℕ) → is_open o k ≡ true → slice_index_or l.given k false ≡ true
+    given_open None i k e = absurd (true≢false (sym e))
+    given_open (Some o) i k e = ap (λ (j : ℕ). slice_index_or l.given j false) (open_same o k e) ∙ i.1
 
 -- ---- moves one after the other
 

@@ -1,5 +1,5 @@
 -- Cells handed out where the reserve is handed out too.
-use Rattle.std.proofs.Common.{◌≡◌, ◌≢◌, ℕ, ◌+◌, ◌-◌, ◌*◌, ◌/◌, ◌%◌, ◌<◌, ◌≤◌, Bool, true, false, not, slice_index_or, refl, ◌∙◌, sym, subst, ap, inl, inr, arith}
+use Rattle.std.proofs.Common.{◌≡◌, ◌≢◌, ℕ, ◌+◌, ◌-◌, ◌*◌, ◌/◌, ◌%◌, ◌<◌, ◌≤◌, Bool, true, false, not, List, slice_index_or, refl, ◌∙◌, sym, subst, ap, inl, inr, arith}
 use Rattle.std.specs.Prelude.{Option, None, Some, Result, Ok, Err, nat_le, ◌==◌, ◌||◌, ◌&&◌, if◌then◌else◌}
 use Rattle.std.proofs.lemmas.Bool.{cases_Bool, true≢false, eq-eqb}
 use Rattle.std.proofs.lemmas.Bool.Decides.{nat_tests}
@@ -9,12 +9,13 @@ use Rattle.std.proofs.lemmas.List.Sums.{count_by-le-length}
 use Rattle.chunk_usage.specs.declared.open.Open.{Open}
 use Rattle.chunk_usage.specs.declared.space.Grant.{Grant}
 use Rattle.chunk_usage.specs.declared.space.Full.{Full}
-use Rattle.chunk_usage.specs.Rooms.{Handed, account_of}
-use Rattle.chunk_usage.specs.Ledger.{Ledger, IsLedger, is_given, is_open, is_used, is_fresh, filled, left, free_count, frozen_part}
+use Rattle.chunk_usage.specs.Rooms.{Handed, account_of, reserve_account_of}
+use Rattle.chunk_usage.specs.Ledger.{Ledger, IsLedger, is_given, is_open, is_used, is_mutable, filled, left, free_count, frozen_part}
 use Rattle.chunk_usage.specs.Handing.{IsSpent, lowest_free, newly_taken, new_grant, roomy, shortage, spent, unspent, granted_from, allocated_from, reserve_granted_from, reserve_allocated_from, reserve_grant_of, reserve_allocated}
+use Rattle.trie_write.specs.Spaces.{Ready}
 use Rattle.chunk_usage.proofs.FlagLemmas.{set_stays, get_set, get_clear, one_fewer_clear, First, first_is}
 use Rattle.chunk_usage.proofs.RowLemmas.{counts_more}
-use Rattle.chunk_usage.proofs.HandingLaws.{opened_fresh}
+use Rattle.chunk_usage.proofs.HandingLaws.{opened_mutable}
 use Rattle.chunk_usage.proofs.SpaceLaws.{Hands, OpensIn, used_given, handed, newly_opens}
 
 -- from a free chunk
@@ -38,15 +39,15 @@ module _ (l : Ledger) (h : IsLedger l) (n : ℕ) (some : 0 < n) (few : n ≤ 256
   now_taken : (i : ℕ) → i < n → is_used (newly_taken l n) (c * 1024 + i) ≡ true
   now_taken i lt = let e = chunk_at i lt in let p = place_at i lt in grind (arith, nat_tests)
 
-  now_fresh : (q : ℕ) → q / 1024 ≡ c → is_fresh (newly_taken l n) q ≡ true
-  now_fresh q e = opened_fresh l h c first.within first.clear q (grind (arith, nat_tests))
+  now_mutable : (q : ℕ) → q / 1024 ≡ c → is_mutable (newly_taken l n) q ≡ true
+  now_mutable q e = opened_mutable l h c first.within first.clear q (grind (arith, nat_tests))
 
   new_handed : Handed (account_of l) (account_of (newly_taken l n)) (c * 1024) n
   new_handed = record {
     twigs = record { inside = let f = h.few in let w = first.within in omega arith; together = omega arith };
     unused = λ i lt. not_used (c * 1024 + i) (chunk_at i lt);
     taken = now_taken;
-    writable = λ i lt. now_fresh (c * 1024 + i) (chunk_at i lt);
+    writable = λ i lt. now_mutable (c * 1024 + i) (chunk_at i lt);
     in_given = get_set _ (c * 1024 / 1024) (get_or-set_at l.given c (c * 1024 / 1024) true false (omega arith) first.within);
     counts = λ k. counts_more (c * 1024) n (omega arith) l.live c k (omega arith) (let e = h.counted in let w = first.within in omega arith);
   }
@@ -57,10 +58,10 @@ module _ (l : Ledger) (h : IsLedger l) (n : ℕ) (some : 0 < n) (few : n ≤ 256
       let given = set_stays l.given c (q / 1024) (used_given l h q u) in
       grind (arith, nat_tests)
 
-  settled : (q : ℕ) → is_used l q ≡ true → is_fresh (newly_taken l n) q ≡ is_fresh l q
+  settled : (q : ℕ) → is_used l q ≡ true → is_mutable (newly_taken l n) q ≡ is_mutable l q
   settled q u = ap (λ (b : Bool). b || (is_open l.last_open (q / 1024) && nat_le (filled l.last_open) (q % 1024))) (get_or-set_other l.since c (q / 1024) true false (elsewhere q u))
 
-  fresher : (q : ℕ) → is_fresh l q ≡ true → is_fresh (newly_taken l n) q ≡ true
+  fresher : (q : ℕ) → is_mutable l q ≡ true → is_mutable (newly_taken l n) q ≡ true
   fresher q f = grown (slice_index_or l.since (q / 1024) false) _ _ f (set_stays l.since c (q / 1024))
     where
       grown : (a b rest : Bool) → (a || rest) ≡ true → (a ≡ true → b ≡ true) → (b || rest) ≡ true
@@ -150,3 +151,15 @@ reserve_opens l n new is = subst (OpensIn l) (sym is) (of_room l.open_chunk refl
         of_left : (b : Bool) → OpensIn l (reserve_allocated_from l n (if b then Some o else None))
         of_left true = λ k e. inl (ap (λ (p : Option Open). is_open p k) is ∙ e)
         of_left false = of_clear (free_count l == 0) refl
+
+-- ---- who may take the reserve knows the same but for the reserve
+
+pub reserve_handing : (l new : Ledger) {first n : ℕ} → Handed (account_of l) (account_of new) first n → Handed (reserve_account_of l) (reserve_account_of new) first n
+reserve_handing l new h = record { twigs = h.twigs; unused = h.unused; taken = h.taken; writable = h.writable; in_given = h.in_given; counts = h.counts }
+
+module _ {S : Type 0} {kept : S → List ℕ} {given : S → List Bool} {s : S} {l : Ledger} where
+  pub ready_for_reserve : Ready kept given account_of s l → Ready kept given reserve_account_of s l
+  ready_for_reserve r = record { same = r.same; in_use = r.in_use; settled = r.settled }
+
+  pub ready_after_reserve : Ready kept given reserve_account_of s l → Ready kept given account_of s l
+  ready_after_reserve r = record { same = r.same; in_use = r.in_use; settled = r.settled }

@@ -15,7 +15,7 @@ use Rattle.trie_model.proofs.SplitLaws.{rising_of}
 use Rattle.trie_model.proofs.TopLaws.{is_node}
 use Rattle.chunk_usage.specs.Ledger.{Ledger, is_used}
 use Rattle.chunk_usage.specs.Handing.{released}
-use Rattle.chunk_usage.specs.Rooms.{Handed, account_of}
+use Rattle.chunk_usage.specs.Rooms.{Handed, reserve_account_of}
 use Rattle.chunk_usage.proofs.RowLemmas.{row_here, counts_fewer}
 use Rattle.trie_write.specs.Mutable.{Hangs}
 use Rattle.trie_write.specs.Spaces.{Frame, IsWritable}
@@ -94,7 +94,7 @@ module _ {S : Type 0} {has : S → ℕ → Cell → Type 0} {s : S} {l : Ledger}
   pub hung_tree : IsTree 0 t
   hung_tree = higher (low_at 0 way) 0 t hung_low (omega arith)
 
-  pub hung_hangs : Hangs has account_of s l 0 (top_cell t) t
+  pub hung_hangs : Hangs has reserve_account_of s l 0 (top_cell t) t
   hung_hangs = end_hangs way t h.stood.rooted hung_tree
 
   pub hung_counted : width t ≤ slice_index l.live (first t / 1024)
@@ -104,7 +104,7 @@ module _ {S : Type 0} {has : S → ℕ → Cell → Type 0} {s : S} {l : Ledger}
   moved_is_node {to} row = subst IsNode (moved_node t to) (is_node 0 (moved t to) (moved_tree 0 t to hung_tree row))
 
   -- its cells are copied, the cell above says where they are, and the old ones count no more
-  moved_here : {kept : S → List ℕ} {given : S → List Bool} {s1 s2 : S} {l1 l2 : Ledger} {to : ℕ} {cell : Cell} → Handed (account_of l) (account_of l1) to (width t) → Frame has kept given account_of s l s1 l1 →
+  moved_here : {kept : S → List ℕ} {given : S → List Bool} {s1 s2 : S} {l1 l2 : Ledger} {to : ℕ} {cell : Cell} → Handed (reserve_account_of l) (reserve_account_of l1) to (width t) → Frame has kept given reserve_account_of s l s1 l1 →
       ((i : ℕ) (c : Cell) → i < width t → has s (first t + i) c → has s1 (to + i) c) → cell ≡ packed (put_at (node_of t) to) → has s2 at cell → ((q : ℕ) (c : Cell) → (q ≡ at → ⊥) → has s1 q c → has s2 q c) → l2 ≡ released l1 (first t) (width t) → Hung has s2 l2 r at es way (moved t to)
   moved_here {s1 = s1} {s2} {l1} {l2} {to} {cell} handed f copies is put others e = record {
     stood = record {
@@ -127,10 +127,10 @@ module _ {S : Type 0} {has : S → ℕ → Cell → Type 0} {s : S} {l : Ledger}
       same_used : (q : ℕ) → mark (is_used l2) q ≡ mark (is_used l1) q
       same_used q = ap (λ (m : Ledger). mark (is_used m) q) e
 
-  pub hung_moved : {kept : S → List ℕ} {given : S → List Bool} {s1 s2 : S} {l1 l2 : Ledger} {from n to : ℕ} {cell : Cell} → from ≡ first t → n ≡ width t → Handed (account_of l) (account_of l1) to n → Frame has kept given account_of s l s1 l1 →
+  pub hung_moved : {kept : S → List ℕ} {given : S → List Bool} {s1 s2 : S} {l1 l2 : Ledger} {from n to : ℕ} {cell : Cell} → from ≡ first t → n ≡ width t → Handed (reserve_account_of l) (reserve_account_of l1) to n → Frame has kept given reserve_account_of s l s1 l1 →
       ((i : ℕ) (c : Cell) → i < n → has s (from + i) c → has s1 (to + i) c) → cell ≡ packed (put_at (node_of t) to) → has s2 at cell → ((q : ℕ) (c : Cell) → (q ≡ at → ⊥) → has s1 q c → has s2 q c) → l2 ≡ released l1 from n → Hung has s2 l2 r at es way (moved t to)
   hung_moved {l1 = l1} {from = from} {n} {to} e m handed f copies is put others released_is =
-      moved_here (subst (Handed (account_of l) (account_of l1) to) m handed) f (λ i c lt h. copies i c (omega arith) (subst (λ x. has s (x + i) c) (sym e) h)) is put others (released_is ∙ ap (λ x. released l1 x n) e ∙ ap (released l1 (first t)) m)
+      moved_here (subst (Handed (reserve_account_of l) (reserve_account_of l1) to) m handed) f (λ i c lt h. copies i c (omega arith) (subst (λ x. has s (x + i) c) (sym e) h)) is put others (released_is ∙ ap (λ x. released l1 x n) e ∙ ap (released l1 (first t)) m)
 
   -- cells that are known as its own
   pub record Cells (from n : ℕ) : Type 0 where
@@ -148,19 +148,19 @@ module _ {S : Type 0} {has : S → ℕ → Cell → Type 0} {s : S} {l : Ledger}
   }))
 
 -- what counts still does once cells are handed out
-pub later_counted : (l l1 : Ledger) {to n m : ℕ} (k : ℕ) → Handed (account_of l) (account_of l1) to n → m ≤ slice_index l.live k → m ≤ slice_index l1.live k
+pub later_counted : (l l1 : Ledger) {to n m : ℕ} (k : ℕ) → Handed (reserve_account_of l) (reserve_account_of l1) to n → m ≤ slice_index l.live k → m ≤ slice_index l1.live k
 later_counted l l1 k h e = let c = h.counts k in omega arith
 
 -- where the old cells are released the new ones may be written
-pub handed_writable : {S : Type 0} {given : S → List Bool} {s : S} (l l1 : Ledger) {l2 : Ledger} {to n : ℕ} (at m : ℕ) → Handed (account_of l) (account_of l1) to n → given s ≡ l1.given → l2 ≡ released l1 at m → (i : ℕ) → i < n → IsWritable given account_of s l2 (to + i)
-handed_writable {given = given} {s} l l1 {to = to} at m handed same e i lt = subst (λ z. IsWritable given account_of s z (to + i)) (sym e) (record {
+pub handed_writable : {S : Type 0} {given : S → List Bool} {s : S} (l l1 : Ledger) {l2 : Ledger} {to n : ℕ} (at m : ℕ) → Handed (reserve_account_of l) (reserve_account_of l1) to n → given s ≡ l1.given → l2 ≡ released l1 at m → (i : ℕ) → i < n → IsWritable given reserve_account_of s l2 (to + i)
+handed_writable {given = given} {s} l l1 {to = to} at m handed same e i lt = subst (λ z. IsWritable given reserve_account_of s z (to + i)) (sym e) (record {
   in_use = handed.taken i lt;
   mutable = handed.writable i lt;
   in_given = subst (λ (x : List Bool). IsGiven x ((to + i) / 1024)) (sym same) (subst (IsGiven l1.given) (let t = handed.twigs.together in omega arith) handed.in_given);
 })
 
-pub released_rest : (l1 : Ledger) {l2 : Ledger} (at m : ℕ) → l2 ≡ released l1 at m → account_of l2 ≡ record (account_of l1) { live = slice_index l2.live }
-released_rest l1 at m e = subst (λ z. account_of z ≡ record (account_of l1) { live = slice_index z.live }) (sym e) refl
+pub released_rest : (l1 : Ledger) {l2 : Ledger} (at m : ℕ) → l2 ≡ released l1 at m → reserve_account_of l2 ≡ record (reserve_account_of l1) { live = slice_index l2.live }
+released_rest l1 at m e = subst (λ z. reserve_account_of z ≡ record (reserve_account_of l1) { live = slice_index z.live }) (sym e) refl
 
 -- a row at which a tree's cells lie now
 pub moved_row : (t : Tree) (to : ℕ) → IsTree 0 (moved t to) → IsRow to (width t)
@@ -183,7 +183,7 @@ module _ {S : Type 0} {has : S → ℕ → Cell → Type 0} {s : S} {l : Ledger}
   pub root_counted : 1 ≤ slice_index l.live (r / 1024)
   root_counted = let c = h.rooted.counted (r / 1024) in let n = row_here r 1 root_row.together in omega arith
 
-  pub root_moved : {kept : S → List ℕ} {given : S → List Bool} {s1 : S} {l1 l2 : Ledger} {to : ℕ} → Handed (account_of l) (account_of l1) to 1 → Frame has kept given account_of s l s1 l1 →
+  pub root_moved : {kept : S → List ℕ} {given : S → List Bool} {s1 : S} {l1 l2 : Ledger} {to : ℕ} → Handed (reserve_account_of l) (reserve_account_of l1) to 1 → Frame has kept given reserve_account_of s l s1 l1 →
       ((i : ℕ) (c : Cell) → i < 1 → has s (r + i) c → has s1 (to + i) c) → l2 ≡ released l1 r 1 → Stood has s1 l2 to es t
   root_moved {s1 = s1} {l1} {l2} {to} handed f copies e = record {
     tree = h.tree;

@@ -1,7 +1,7 @@
 -- What an evacuation promises.
-use Rattle.std.specs.Prelude.{◌≡◌, ℕ, ◌<◌, true, false, slice_index}
+use Rattle.std.specs.Prelude.{◌≡◌, ℕ, ◌<◌, ◌≤◌, true, false, slice_index}
 use Rattle.chunk_usage.specs.Counting.{is_sparse}
-use Rattle.chunk_usage.specs.Ledger.{Ledger, is_open}
+use Rattle.chunk_usage.specs.Ledger.{Ledger, filled, is_given, is_open}
 use Rattle.evacuate.specs.declared.evacuation.Done.{Done}
 use Rattle.evacuate.specs.declared.evacuation.Done.TheVariants.{Whole, Stopped}
 
@@ -18,6 +18,12 @@ pub record HasSparse (l : Ledger) : Type 0 where
   pub chunk : ℕ
   pub sparse : is_sparse l chunk ≡ true
   pub some : 0 < slice_index l.live chunk
+
+-- Each chunk that was given meanwhile is full of what was moved: all cells that were handed out of it count, and they are at least
+-- 769 where it was left for another.
+pub record FillsNew (old new : Ledger) : Type 0 where
+  pub left : (k : ℕ) → is_given new k ≡ true → is_given old k ≡ false → is_open new.open_chunk k ≡ false → 769 ≤ slice_index new.live k
+  pub bump : (k : ℕ) → is_open new.open_chunk k ≡ true → is_given old k ≡ false → filled new.open_chunk ≤ slice_index new.live k
 
 -- how many chunks were asked for in vain
 abbrev pub refused : Done → ℕ

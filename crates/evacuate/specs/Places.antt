@@ -8,7 +8,7 @@ use Rattle.trie_model.specs.Memory.{node_of}
 use Rattle.trie_model.specs.Trees.{Tree, entries_of, IsTree}
 use Rattle.trie_model.specs.Trees.Tree.{leaf, branch}
 use Rattle.chunk_usage.specs.Ledger.{Ledger}
-use Rattle.chunk_usage.specs.Rooms.{account_of}
+use Rattle.chunk_usage.specs.Rooms.{reserve_account_of}
 use Rattle.trie_write.specs.Mutable.{Rooted}
 use Rattle.trie_write.specs.Puts.{no_spare}
 use Rattle.trie_write.specs.Ways.{Fork, plug, end_at}
@@ -34,7 +34,7 @@ moved (branch o first below) to = branch o to below
 -- a trie of these entries stands at a root, and these cells are what counts
 pub record Stood {S : Type 0} (has : S → ℕ → Cell → Type 0) (s : S) (l : Ledger) (r : ℕ) (es : List Entry) (t : Tree) : Type 0 where
   pub tree : IsTree 0 t
-  pub rooted : Rooted has account_of s l no_spare r t
+  pub rooted : Rooted has reserve_account_of s l no_spare r t
   pub holds : entries_of t ≡ es
 
 -- in it a tree hangs at the end of a way, on the cell at a place

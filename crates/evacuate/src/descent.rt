@@ -7,7 +7,7 @@ ghost use Rattle.packed_node.specs.declared.Node.TheVariants.{Branch as branch_n
 ghost use Rattle.trie_model.specs.Keys.{Entry};
 ghost use Rattle.trie_model.specs.Memory.{node_of};
 ghost use Rattle.trie_model.specs.Trees.{Tree};
-ghost use Rattle.chunk_usage.specs.Rooms.{account_of};
+ghost use Rattle.chunk_usage.specs.Rooms.{reserve_account_of};
 ghost use Rattle.trie_write.specs.Spaces.{Ready, Fenced, IsWritable};
 ghost use Rattle.trie_write.specs.Tops.{NotBefore};
 ghost use Rattle.trie_write.specs.Ways.{Fork};
@@ -50,21 +50,21 @@ fn open_twig<C: CellWrite>(
 ) -> Result<Ref, Full>
     requires hung { IsHung C.has cells.old usage.old at (branch_node branch) }
     requires index { index < count_ones branch.bitmap }
-    requires writable { IsWritable C.given account_of cells.old usage.old at }
-    requires ready { Ready C.kept C.given account_of cells.old usage.old }
+    requires writable { IsWritable C.given reserve_account_of cells.old usage.old at }
+    requires ready { Ready C.kept C.given reserve_account_of cells.old usage.old }
     ensures hung { IfOk result (λ twig. (r : ℕ) (es : List Entry) (way : List Fork) (t : Tree) → Hung C.has cells.old usage.old r at es way t → branch_node branch ≡ node_of t
         → TwigsAt C.has cells.new usage.new r at es way t index twig) }
-    ensures writable { IfOk result (λ twig. IsWritable C.given account_of cells.new usage.new twig) }
+    ensures writable { IfOk result (λ twig. IsWritable C.given reserve_account_of cells.new usage.new twig) }
     ensures moves { IfOk result (λ _. (given : List Bool) → Fills given usage.old → Moves given 0 usage.old usage.new) }
     ensures full { IfErr result (λ _. IsFull usage.new) }
     ensures same { IfErr result (λ _. cells.new ≡ cells.old) }
     ensures unchanged { IfErr result (λ _. usage.new ≡ usage.old) }
-    ensures frame { Fenced C.has C.kept C.given account_of cells.old usage.old cells.new usage.new }
-    ensures ready { Ready C.kept C.given account_of cells.new usage.new }
+    ensures frame { Fenced C.has C.kept C.given reserve_account_of cells.old usage.old cells.new usage.new }
+    ensures ready { Ready C.kept C.given reserve_account_of cells.new usage.new }
 {
-    usage.known();
+    usage.known(); // for the proof
     let twig = branch.twigs + index;
-    if usage.is_fresh(twig) {
+    if usage.is_mutable(twig) {
         return Ok(twig);
     }
     let to = move_node(cells, usage, at, Node::Branch(branch))?;
@@ -80,15 +80,15 @@ pub fn move_found<C: CellWrite>(
     trail: &Trail,
 ) -> Result<Ref, Full>
     requires found { HasFound C.has cells.old usage.old root trail.now }
-    requires writable { IsWritable C.given account_of cells.old usage.old root }
-    requires ready { Ready C.kept C.given account_of cells.old usage.old }
+    requires writable { IsWritable C.given reserve_account_of cells.old usage.old root }
+    requires ready { Ready C.kept C.given reserve_account_of cells.old usage.old }
     ensures stood { (es : List Entry) (t : Tree) → Stood C.has cells.old usage.old root es t → Found usage.old trail.now t → (u : Tree) × Stood C.has cells.new usage.new root es u }
     ensures moves { (given : List Bool) → Fills given usage.old → Moves given 0 usage.old usage.new }
     ensures less { IfOk result (λ _. (given : List Bool) → Fills given usage.old → old_live given usage.new.live < old_live given usage.old.live) }
     ensures full { IfErr result (λ _. IsFull usage.new) }
     ensures left { IfErr result (λ _. (given : List Bool) → Fills given usage.old → HasSparse usage.new) }
-    ensures frame { Fenced C.has C.kept C.given account_of cells.old usage.old cells.new usage.new }
-    ensures ready { Ready C.kept C.given account_of cells.new usage.new }
+    ensures frame { Fenced C.has C.kept C.given reserve_account_of cells.old usage.old cells.new usage.new }
+    ensures ready { Ready C.kept C.given reserve_account_of cells.new usage.new }
 {
     let mut at = root;
     let mut node = Node::of(cells.cell(root));

@@ -6,11 +6,11 @@ ghost use Rattle.trie_model.specs.Shape.{cells as cells_of};
 ghost use Rattle.trie_model.specs.Trees.{Tree};
 ghost use Rattle.chunk_usage.specs.Ledger.{free_count};
 ghost use Rattle.chunk_usage.specs.Handing.{spent};
-ghost use Rattle.chunk_usage.specs.Rooms.{account_of};
+ghost use Rattle.chunk_usage.specs.Rooms.{account_of, reserve_account_of};
 ghost use Rattle.trie_write.specs.Spaces.{Ready, Fenced};
 ghost use Rattle.trie_write.specs.Standing.{HasTrie};
-ghost use Rattle.evacuate.specs.Evacuations.{IsDense, IsCleared, HasSparse, refused};
-ghost use Rattle.evacuate.specs.Fillings.{IsFull, old_live};
+ghost use Rattle.evacuate.specs.Evacuations.{FillsNew, IsDense, IsCleared, HasSparse, refused};
+ghost use Rattle.evacuate.specs.Fillings.{Fills, IsFull, old_live};
 ghost use Rattle.evacuate.specs.Places.{Stood, IsStood};
 
 use super::descent::move_found;
@@ -30,8 +30,8 @@ pub enum Done {
     Stopped,
 }
 
-/// Moves what a root reaches out of the sparse chunks. The same trie stands at the root that is answered, and what was moved stays so where
-/// no chunk was free for the rest.
+/// Moves what a root reaches out of the sparse chunks, and may take the reserve for it. The same trie stands at the root that is answered,
+/// and what was moved stays so where no chunk was free for the rest.
 pub fn evacuate<C: CellWrite>(
     cells: &mut C,
     usage: &mut Usage,
@@ -40,22 +40,24 @@ pub fn evacuate<C: CellWrite>(
     requires stands { (version : List Entry) × HasTrie C.has account_of cells.old usage.old root version }
     requires ready { Ready C.kept C.given account_of cells.old usage.old }
     ensures stands { (version : List Entry) → HasTrie C.has account_of cells.old usage.old root version → HasTrie C.has account_of cells.new usage.new result.0 version }
+    ensures none { IsCleared usage.old → usage.new ≡ usage.old }
+    ensures fills { FillsNew usage.old usage.new }
     ensures whole { result.1 ≡ Done.Whole → IsDense usage.new }
     ensures stopped { result.1 ≡ Done.Stopped → IsFull usage.new }
     ensures left { result.1 ≡ Done.Stopped → HasSparse usage.new }
     ensures asks { (version : List Entry) → HasTrie C.has account_of cells.old usage.old root version → free_count usage.old + refused result.1 ≤ free_count usage.new + (cells_of version / 769 + 1) }
-    ensures frame { Fenced C.has C.kept C.given account_of cells.old usage.old cells.new usage.new }
+    ensures frame { Fenced C.has C.kept C.given reserve_account_of cells.old usage.old cells.new usage.new }
     ensures ready { Ready C.kept C.given account_of cells.new usage.new }
 {
+    usage.known(); // for the proof
     match root {
         None => (None, Done::Whole),
         Some(at) => {
             if is_any_sparse(usage) {
                 let (new, done) = empty_sparse(cells, usage, at);
-                usage.known();
+                usage.known(); // for the proof
                 return (Some(new), done);
             }
-            usage.known();
             (Some(at), Done::Whole)
         }
     }
@@ -67,18 +69,18 @@ pub fn evacuate<C: CellWrite>(
 fn empty_sparse<C: CellWrite>(cells: &mut C, usage: &mut Usage, root: Ref) -> (Ref, Done)
     requires stood { IsStood C.has cells.old usage.old root }
     requires sparse { HasSparse usage.old }
-    requires ready { Ready C.kept C.given account_of cells.old usage.old }
+    requires ready { Ready C.kept C.given reserve_account_of cells.old usage.old }
     ensures stood { (es : List Entry) (t : Tree) → Stood C.has cells.old usage.old root es t → (u : Tree) × Stood C.has cells.new usage.new result.0 es u }
     ensures whole { result.1 ≡ Done.Whole → IsCleared usage.new }
     ensures stopped { result.1 ≡ Done.Stopped → IsFull usage.new }
     ensures left { result.1 ≡ Done.Stopped → HasSparse usage.new }
-    ensures count { length usage.new.given ≡ length usage.old.given }
+    ensures fills { Fills usage.old.given usage.new }
     ensures paid { spent usage.new ≤ 769 * (length usage.old.given - free_count usage.old) + old_live usage.old.given usage.old.live }
-    ensures frame { Fenced C.has C.kept C.given account_of cells.old usage.old cells.new usage.new }
-    ensures ready { Ready C.kept C.given account_of cells.new usage.new }
+    ensures frame { Fenced C.has C.kept C.given reserve_account_of cells.old usage.old cells.new usage.new }
+    ensures ready { Ready C.kept C.given reserve_account_of cells.new usage.new }
 {
-    usage.known();
-    usage.start_chunk();
+    usage.known(); // for the proof
+    usage.fresh();
     let at = match move_root(cells, usage, root) {
         Err(_) => return (root, Done::Stopped),
         Ok(at) => at,

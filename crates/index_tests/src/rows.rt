@@ -11,6 +11,9 @@ use std::sync::Wait;
 use trie_read::Reading;
 use trie_write::Item;
 
+/// How many octets a large item has: with its node it takes 256 cells, a quarter of a chunk.
+pub(crate) const LARGE: usize = 4080;
+
 /// What came of an exchange.
 #[derive(Clone, Copy)]
 enum Outcome {
@@ -61,16 +64,20 @@ pub(crate) fn in_turn<N: Named, R: Wait>(
     Some(put_in && taken_out && kept == (0, 1) && reader.count() == (2, 1))
 }
 
-/// A pass that has learnt what another committed sees it.
+/// A pass that has learnt what another committed sees it. The next query, without a note, shows what is current then.
 pub(crate) fn told<N: Named, R: Wait>(
     rt: &R,
     workers: Vec<Worker<N>>,
     second: &Item,
 ) -> Option<bool> {
     let (mut p, mut q) = pair(workers)?;
-    let committed = p.write(rt, second, Act::Exchange).is_some();
+    let key = second.key();
+    let first = p.write(rt, second, Act::Exchange)?;
     let learnt = q.learn_of(&mut p);
-    Some(committed && learnt && q.look(&second.key()) == (1, Some(2)))
+    let told = first.version == 1 && learnt && q.look(&key) == (1, Some(2));
+    let next = p.write(rt, second, Act::Exchange)?;
+    let untold = next.version == 2 && q.look(&key) == (2, Some(2));
+    Some(told && untold)
 }
 
 /// The base's number, and the last octet of the number at a key of the working set.
@@ -78,9 +85,8 @@ fn peek<N: Named, K>(transaction: &mut Transaction<'_, '_, Any, N, K>, key: &Key
     requires { IsSomeAnd transaction.old.locked.now.draft Works }
 {
     let mut out = [0; 4096];
-    let mut reading = transaction.working();
-    let number = reading.version();
-    reading.fetch(key, &mut out);
+    let number = transaction.version();
+    let _octets = transaction.fetch(key, &mut out);
     (number, out[11])
 }
 
@@ -222,9 +228,9 @@ fn refused<N: Named, R: Wait>(
     let mut write = index.write(rt, &mut locked, pass);
     let mut out = [0; 4096];
     let full = matches!(replace_within(&mut write, item), Outcome::Full(_));
-    let same = write.fetch(&item.key(), &mut out) == Some(4096)
+    let same = write.fetch(&item.key(), &mut out) == Some(LARGE)
         && &out[4..12] == number.to_be_bytes().as_slice();
-    full && same && write.commit().is_ok()
+    full && same && write.commit().is_ok_and(|receipt| receipt.version == number)
 }
 
 /// Another pass holds the version that is current, if there is another.
@@ -238,7 +244,7 @@ fn hold_one<'i, N: Named>(
     }
 }
 
-/// Exchanges the first name's item for one of 4,096 octets with this number.
+/// Exchanges the first name's item for a large one with this number.
 fn replace_numbered<N: Named, R: Wait>(
     rt: &R,
     alloc: Global,
@@ -251,7 +257,7 @@ fn replace_numbered<N: Named, R: Wait>(
     ensures here { IsSome pass.new.seat }
     ensures place { pass.new.place ≡ index.now.place }
 {
-    match numbered(alloc, [b'a', b'a'], number, 4096) {
+    match numbered(alloc, [b'a', b'a'], number, LARGE) {
         Some(item) => replace(rt, index, pass, &item),
         None => Outcome::Other,
     }
@@ -285,7 +291,8 @@ fn fill_up<'i, N: Named, R: Wait>(
     None
 }
 
-/// When there is no room all held versions are told, and when they are released there is room again.
+/// When there is no room since all passes but the writer's hold versions, all of these are told. An operation is refused then, and its
+/// transaction commits. When they are released there is room again.
 pub(crate) fn full<N: Named, R: Wait>(
     rt: &R,
     alloc: Global,
@@ -298,7 +305,9 @@ pub(crate) fn full<N: Named, R: Wait>(
     let (full, number) = fill_up(rt, alloc, index, &mut pass, &mut workers, &mut held)?;
     let told = full.free <= full.reserve
         && full.left < full.needed
-        && full.kept.as_slice().len() as u64 + 1 == number;
+        && workers.is_empty()
+        && full.kept.as_slice().len() == held.len()
+        && number == 64;
     let same = refused(rt, index, &mut pass, second, number);
     drop(held);
     let after = replace(rt, index, &mut pass, second);

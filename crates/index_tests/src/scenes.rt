@@ -6,7 +6,7 @@ ghost use Rattle.trie_write.specs.Entries.{entries_of_items};
 use crate::crowd::{at_once, crowd, moved};
 use crate::items::numbered;
 use crate::rewriting::{compacted, rewritten};
-use crate::rows::{dropped, full, held, in_turn, kept, rolled_back, told};
+use crate::rows::{LARGE, dropped, full, held, in_turn, kept, rolled_back, told};
 use crate::worker::{Act, Any, Worker, workers, write};
 use shared_index::{Blank, Index, Named};
 use std::alloc::Global;
@@ -161,10 +161,11 @@ fn dropped_transactions_take_nothing(rt: HostRuntime) -> Result<(), Fail> {
     Ok(())
 }
 
+// Of 21 chunks 5 are kept free. The other 16 have room for 64 versions: the first, and one that each pass but the writer's holds.
 #[test]
 fn held_versions_fill_the_table(rt: HostRuntime) -> Result<(), Fail> {
     assert_eq!(rt;
-        play(&rt, rt.alloc(), 16, 64, 4096, Scene::Full),
+        play(&rt, rt.alloc(), 21, 64, LARGE, Scene::Full),
         Some(true)
     );
     Ok(())

@@ -1,6 +1,6 @@
 -- A look by an idle pass keeps the rule, and tells what the rule knows of the pass.
-use Rattle.std.proofs.Common.{◌≡◌, ⊎_elim, ℕ, ◌+◌, ◌<◌, ◌≤◌, List, get_or, true, refl, sym, ap, ◌∙◌, subst, arith, Option, Some}
-use Rattle.std.specs.List.{All, Contains}
+use Rattle.std.proofs.Common.{◌≡◌, ⊎_elim, ℕ, ◌<◌, ◌≤◌, List, get_or, true, refl, sym, ap, ◌∙◌, subst, arith, Option, Some}
+use Rattle.std.specs.List.{Contains}
 use Rattle.std.proofs.lemmas.List.{set-get_or}
 use Rattle.std.proofs.lemmas.List.Elements.{All-weaker}
 use mathlib.Core.Option.{some, none}
@@ -13,11 +13,10 @@ use Rattle.pin_core.specs.Sound.{PinFits}
 use Rattle.shared_cells.specs.declared.view.TableSize.{TableSize}
 use Rattle.shared_cells.specs.declared.view.Entry.{Entry}
 use Rattle.shared_cells.specs.declared.view.Naming.{Naming}
-use Rattle.shared_cells.specs.declared.view.Seen.{Seen}
 use Rattle.shared_cells.specs.declared.view.Progress.TheVariants as progress
 use Rattle.shared_cells.specs.declared.view.PassView.{PassView}
 use Rattle.shared_cells.specs.declared.view.View.{View}
-use Rattle.shared_cells.specs.Views.{number_of, is_idle}
+use Rattle.shared_cells.specs.Views.{is_idle}
 use Rattle.shared_cells.specs.Rule.{stage_of, NamingFits, IsSoundTable}
 use Rattle.shared_cells.specs.Steps.{Accounts, accounted}
 use Rattle.shared_cells.proofs.Knowing.{the_pass}

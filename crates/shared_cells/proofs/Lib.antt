@@ -1,5 +1,6 @@
 pub mod Lists
 pub mod Knowing
+pub mod Holding
 pub mod Starts
 pub mod Seats
 pub mod Images

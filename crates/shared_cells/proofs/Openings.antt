@@ -23,10 +23,11 @@ use Rattle.shared_cells.specs.declared.view.PassView.{PassView}
 use Rattle.shared_cells.specs.declared.view.TurnView.{TurnView}
 use Rattle.shared_cells.specs.declared.view.View.{View}
 use Rattle.shared_cells.specs.History.{OpeningFits, IsPartOf, version_after}
-use Rattle.shared_cells.specs.Views.{core_size, is_told, root_of, kept_of, opened_turn, opened_view}
+use Rattle.shared_cells.specs.Views.{core_size, is_told, root_of, kept_of, opened_turn, opened_view, has_turn}
 use Rattle.shared_cells.specs.Rule.{Facts, stage_of, ProgressFits, OwnFits, PassFits, HasAll, Knows, NamingFits, VersionsFit, IsSoundTable}
 use Rattle.shared_cells.specs.Steps.{IsImage, CanOpen, opened}
 use Rattle.shared_cells.proofs.Lists.{seats_stay}
+use Rattle.shared_cells.proofs.Holding.{held_set}
 use Rattle.shared_cells.proofs.Knowing.{knows_else, the_turn}
 use Rattle.shared_cells.proofs.Images.{one, image_stays, root_of_word}
 
@@ -151,6 +152,7 @@ module _ {O E : Type 0} (applied : O → E → O) (lawful : O → O → Type 0) 
             turn = record { writer = h.writer; turn_is = ap (λ (t : TurnView). opened_turn t root image) h.turn_is; seen_is = ap (λ (all : Seen O E). record all { opening = Some o }) h.seen_is; idle = h.idle };
           })
           (λ j u other e. knows_else size r.facts open_facts j u (λ same. other (same ∙ sym h.writer)) longer (own_fits j u.seen u.progress) (r.seats j u e));
+      held = held_set s.views r.facts.writer id v (opened_view v turn o root image) r.held at (sym (ap has_turn is_turn));
       versions = versions_now;
       namings = subst (λ (all : Seen O E). All (NamingFits (set s.words 0 (current_word 0 root)) r.facts.pinned) all.namings) (sym before.0) (All-nil (NamingFits (set s.words 0 (current_word 0 root)) r.facts.pinned));
       namers = r.namers;

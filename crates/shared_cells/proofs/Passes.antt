@@ -31,6 +31,7 @@ use Rattle.shared_cells.specs.Views.{core_size, number_of, has_turn, is_told, is
 use Rattle.shared_cells.specs.Rule.{Facts, stage_of, ProgressFits, PinNames, NamingFits, IdleUnlessTold, OwnFits, PassFits, TurnFits, Knows, VersionsFit, IsSoundTable}
 use Rattle.shared_cells.specs.Steps.{exchanged_by, IsWordOf, entered, glanced, left, read, Pins, Settles, settled}
 use Rattle.shared_cells.proofs.Lists.{put, put_here, put_else, seats_stay}
+use Rattle.shared_cells.proofs.Holding.{held_set}
 use Rattle.shared_cells.proofs.Knowing.{knows_still, the_pass}
 use Rattle.shared_cells.proofs.Images.{root_of_kept}
 use Rattle.shared_cells.proofs.Seats.{no_turn, pass_there, told_there}
@@ -146,6 +147,7 @@ module _ {O E : Type 0} (applied : O → E → O) (lawful : O → O → Type 0) 
               turn = subst (TurnFits now id seen d) (sym off_turn) tt;
             })
             (λ j u other e. knows_still size r.facts now j u refl refl refl (others_fit j other u.seen u.progress) (r.seats j u e));
+        held = held_set s.views r.facts.writer id v (record v { seen = seen; pass = Some (record own { pinned = pinned }); progress = d }) r.held at refl;
         versions = versions_on r.facts own.number (length seen.history) (stage_of d) pinned o r.facts.all.opening opened r.versions;
         namings = All-weaker (NamingFits s.words r.facts.pinned) (NamingFits words now.pinned) (namings_on far pinned_on named_on) r.facts.all.namings r.namings;
         namers = r.namers;

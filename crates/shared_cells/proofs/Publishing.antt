@@ -27,10 +27,11 @@ use Rattle.shared_cells.specs.declared.view.PassView.{PassView}
 use Rattle.shared_cells.specs.declared.view.TurnView.{TurnView}
 use Rattle.shared_cells.specs.declared.view.View.{View}
 use Rattle.shared_cells.specs.History.{OpeningFits, IsPartOf, entries_by, entry_of, with_entry, version_after}
-use Rattle.shared_cells.specs.Views.{core_size, root_of, kept_of, published_turn, published_view}
+use Rattle.shared_cells.specs.Views.{core_size, root_of, kept_of, published_turn, published_view, has_turn}
 use Rattle.shared_cells.specs.Rule.{Facts, stage_of, ProgressFits, NamingFits, OwnFits, HasAll, Knows, VersionsFit, IsSoundTable}
 use Rattle.shared_cells.specs.Steps.{IsImage, CanPublish, published}
 use Rattle.shared_cells.proofs.Lists.{seats_stay, begins_longer, begins_itself}
+use Rattle.shared_cells.proofs.Holding.{held_set}
 use Rattle.shared_cells.proofs.Knowing.{knows_else, the_turn, the_pass}
 use Rattle.shared_cells.proofs.Images.{image_stays, root_of_word}
 
@@ -189,6 +190,7 @@ module _ {O E : Type 0} (applied : O → E → O) (lawful : O → O → Type 0) 
       sound = sound_now;
       seats = seats_stay (Knows size now) s.views id (published_view v c.turn c.own c.entry root image) knows_now
           (λ j u other e. knows_else size r.facts now j u (λ same. other (same ∙ sym h.writer)) (longer r.facts c.own.number c.entry new) (other_fits r.facts c.own.number c.entry new id j mine.at other u.seen u.progress) (r.seats j u e));
+      held = held_set s.views r.facts.writer id v (published_view v c.turn c.own c.entry root image) r.held at (sym (ap has_turn c.is_turn));
       versions = versions_on r.facts c.own.number c.entry new c.opening r.facts.all.opening opening_now r.sound.newest next
           (subst (λ (x : Seen O E). lawful c.opening (version_after applied c.opening (with_entry x entry).history)) h.seen_is c.good)
           (subst (λ (x : Seen O E). stands image root (version_after applied c.opening (with_entry x entry).history)) h.seen_is c.stood) r.versions;

@@ -1,5 +1,5 @@
 -- Splitting and joining seats, and what a pass learns, keep the rule.
-use Rattle.std.proofs.Common.{◌≡◌, ◌≢◌, ⊎_elim, ℕ, ◌+◌, ◌<◌, ◌≤◌, max, List, length, get_or, set, true, false, true≢false, refl, sym, ap, ◌∙◌, subst, arith, Option, Some, None, get_or-set_same, get_or-set_other}
+use Rattle.std.proofs.Common.{◌≡◌, ◌≢◌, ⊎_elim, ℕ, ◌+◌, ◌<◌, ◌≤◌, max, List, [], ◌∷◌, length, get_or, set, true, false, true≢false, refl, sym, ap, ◌∙◌, subst, arith, Option, Some, None, get_or-set_same, get_or-set_other}
 use Rattle.std.proofs.lemmas.List.{set-get_or}
 use mathlib.Core.Option.{some, none}
 use lib.ListN.{get_elem?}
@@ -21,6 +21,7 @@ use Rattle.shared_cells.specs.Views.{core_size, number_of, has_turn, is_told, is
 use Rattle.shared_cells.specs.Rule.{Facts, stage_of, ProgressFits, IdleUnlessTold, OwnFits, PassFits, TurnFits, Knows, IsSoundTable}
 use Rattle.shared_cells.specs.Steps.{learnt}
 use Rattle.shared_cells.proofs.Lists.{nothing_begins, put, put_here, put_else, seats_stay, seats_grow, longer_part, begins_length}
+use Rattle.shared_cells.proofs.Holding.{held_set, held_else, held_more}
 use Rattle.shared_cells.proofs.Knowing.{knows_still, view_fits, the_turn, the_pass, versions_still}
 
 pub idle_is : (p : Progress) → is_idle p ≡ true → p ≡ progress.Idle
@@ -65,6 +66,7 @@ module _ {O E : Type 0} (applied : O → E → O) (lawful : O → O → Type 0) 
     authors = r.authors;
     sound = r.sound;
     seats = seats_grow (Knows size r.facts) s.views id v (note_of v) k (view_fits size r.facts (length s.views) v.seen k.seen) (λ j u other e. r.seats j u e);
+    held = held_more (set s.views id v) (note_of v ∷ []) r.facts.writer (held_set s.views r.facts.writer id v v r.held at refl);
     versions = r.versions;
     namings = r.namings;
     namers = r.namers;
@@ -134,6 +136,7 @@ module _ {O E : Type 0} (applied : O → E → O) (lawful : O → O → Type 0) 
               turn = tt;
             })
             (λ j u other e. moved_else r.facts own.number (length s.views) (get_or r.facts.seen own.number 0) j u (λ e'. other (sym e' ∙ fits.at)) (r.seats j u e));
+        held = held_more (set s.views id (without_pass v)) (pass_of v ∷ []) r.facts.writer (held_set s.views r.facts.writer id v (without_pass v) r.held at refl);
         versions = versions_still applied lawful stands size r.facts f refl refl refl r.facts.all.opening r.versions;
         namings = r.namings;
         namers = r.namers;
@@ -192,6 +195,7 @@ module _ {O E : Type 0} (applied : O → E → O) (lawful : O → O → Type 0) 
               turn = subst (TurnFits f id v.seen v.progress) (sym is_turn) (record { writer = h.writer; turn_is = h.turn_is; seen_is = h.seen_is; idle = h.idle });
             })
             (λ j u not_id not_other e. moved_else r.facts own.number id (length v.seen.history) j u (λ e'. not_other (sym e' ∙ fits.at)) (r.seats j u e));
+        held = held_else (set s.views id (with_pass v w)) r.facts.writer other spent_view (held_set s.views r.facts.writer id v (with_pass v w) r.held at refl) (λ same. apart (sym (h.writer ∙ same)));
         versions = versions_still applied lawful stands size r.facts f refl refl refl r.facts.all.opening r.versions;
         namings = r.namings;
         namers = r.namers;
@@ -203,8 +207,8 @@ module _ {O E : Type 0} (applied : O → E → O) (lawful : O → O → Type 0) 
   joins_pass id other v w n has is idle = let t = turn_there v.turn has in let p = pass_there w.pass n is in joins_own id other v w t.0 p.0 t.1 p.1 (idle_is w.progress idle)
 
   -- a note is joined to a seat
-  pub joins_note : (id other : ℕ) (v w : View O E) → Joins Rule id v other w (with_note v w) spent_view
-  joins_note id other v w s r at apart there =
+  pub joins_note : (id other : ℕ) (v w : View O E) → has_turn w.turn ≡ false → Joins Rule id v other w (with_note v w) spent_view
+  joins_note id other v w no_turn s r at apart there =
       let was = was_there s.views id other (with_note v w) w apart there in
       let k = r.seats id v at in
       let note = r.seats other w was in record {
@@ -215,6 +219,7 @@ module _ {O E : Type 0} (applied : O → E → O) (lawful : O → O → Type 0) 
         seats = joined_seats r.facts s.views id other (with_note v w)
             (record { seen = k.seen; told = note.seen; pass = k.pass; turn = k.turn })
             (λ j u not_id not_other e. r.seats j u e);
+        held = held_set (set s.views id (with_note v w)) r.facts.writer other w spent_view (held_set s.views r.facts.writer id v (with_note v w) r.held at refl) there (sym no_turn);
         versions = r.versions;
         namings = r.namings;
         namers = r.namers;
@@ -273,6 +278,7 @@ module _ {O E : Type 0} (applied : O → E → O) (lawful : O → O → Type 0) 
                 told = fits'.told;
                 chunks = fits'.chunks;
               }) (r.seats j u e));
+          held = held_set s.views r.facts.writer id m.0 (learnt_view m.0) r.held at refl;
           versions = versions_still applied lawful stands size r.facts f refl refl refl r.facts.all.opening r.versions;
           namings = r.namings;
           namers = r.namers;

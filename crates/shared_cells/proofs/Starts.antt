@@ -23,6 +23,7 @@ use Rattle.shared_cells.specs.History.{nothing_seen, entries_by}
 use Rattle.shared_cells.specs.Views.{core_size, first_turn, first_view, unopened_view, pass_view}
 use Rattle.shared_cells.specs.Rule.{Facts, OwnFits, HasAll, Knows, NamingFits, VersionsFit, IsSoundTable}
 use Rattle.shared_cells.proofs.Lists.{put, put_here, put_else, seats_grow, nothing_begins}
+use Rattle.shared_cells.proofs.Holding.{held_set, held_more}
 use Rattle.shared_cells.proofs.Knowing.{knows_else, the_turn}
 
 module _ {O E : Type 0} (applied : O → E → O) (lawful : O → O → Type 0) (stands : List CellAt → Option ℕ → O → Type 0) (size : TableSize) where
@@ -39,6 +40,7 @@ module _ {O E : Type 0} (applied : O → E → O) (lawful : O → O → Type 0) 
     authors = All-nil (λ (e : Entry E). e.author < 0);
     sound = opening_sound (core_size size) None [] few_passes few_chunks refl;
     seats = first;
+    held = record { view = first_view size; at = refl; turn = refl };
     versions = (refl, λ p l. get_or-replicate size.passes p stage.Idle stage.Idle l);
     namings = All-nil (NamingFits (started (core_size size)).words first_facts.pinned);
     namers = All-nil (λ (n : Naming). n.pass < size.passes);
@@ -108,6 +110,7 @@ module _ {O E : Type 0} (applied : O → E → O) (lawful : O → O → Type 0) 
           (let k = r.seats id (unopened_view size made) at in record { seen = k.seen; told = k.told; pass = refl; turn = record { writer = h.writer; turn_is = ap (λ (t : TurnView). record t { made = t.made + 1 }) h.turn_is; seen_is = h.seen_is; idle = refl } })
           (record { seen = nothing_begins r.facts.all; told = nothing_begins r.facts.all; pass = new_fits; turn = tt })
           (λ j u other e. knows_else size r.facts with_pass_made j u (λ same. other (same ∙ sym h.writer)) (λ part p. p) (others_fit j u.seen u.progress) (r.seats j u e));
+      held = held_more (set s.views id (unopened_view size (made + 1))) (pass_view made size.chunks ∷ []) r.facts.writer (held_set s.views r.facts.writer id (unopened_view size made) (unopened_view size (made + 1)) r.held at refl);
       versions = versions_on r.facts.all.opening r.versions;
       namings = subst (λ (all : Seen O E). All (NamingFits s.words with_pass_made.pinned) all.namings) (sym unopened.0) (All-nil (NamingFits s.words with_pass_made.pinned));
       namers = r.namers;

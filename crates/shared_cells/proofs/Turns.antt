@@ -29,6 +29,7 @@ use Rattle.shared_cells.specs.Views.{core_size, has_turn, words_of, kept_in, sto
 use Rattle.shared_cells.specs.Rule.{Facts, stage_of, ProgressFits, NamingFits, OwnFits, PassFits, HasAll, Knows, VersionsFit, IsSoundTable}
 use Rattle.shared_cells.specs.Steps.{stored, recalled}
 use Rattle.shared_cells.proofs.Lists.{seats_stay, begins_itself, begins_more}
+use Rattle.shared_cells.proofs.Holding.{held_set}
 use Rattle.shared_cells.proofs.Knowing.{knows_else, the_turn}
 use Rattle.shared_cells.proofs.Seats.{turn_there, idle_fits_told}
 
@@ -118,6 +119,7 @@ module _ {O E : Type 0} (applied : O → E → O) (lawful : O → O → Type 0) 
               turn = record { writer = h.writer; turn_is = refl; seen_is = refl; idle = h.idle };
             })
             (λ j u other e. knows_else size r.facts now j u (λ same. other (same ∙ sym h.writer)) longer (others_fit made stay j u.seen u.progress) (r.seats j u e));
+        held = held_set s.views r.facts.writer id v (record v { seen = with_namings r.facts.all more; turn = Some new }) r.held at (sym (ap has_turn is_turn));
         versions = versions_on early fewer;
         namings = namings;
         namers = All-append (λ (n : Naming). n.pass < size.passes) r.facts.all.namings more r.namers namers;

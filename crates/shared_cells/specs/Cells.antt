@@ -69,16 +69,12 @@ module _ {O E : Type 0} where
     pub round : (1 ≤ passes) × (passes ≤ 64)
     pub blank : marks_of view.turn ≡ replicate passes mark.Blank
 
-  -- the view of a turn's seat that isn't open; that is; that has a pass joined
+  -- the view of a turn's seat that isn't open; and of one that has a pass joined
 
   pub record IsNewTurn (v : View O E) : Type 0 where
     pub alone : number_of v.pass ≡ 0
     pub untold : is_told v.seen.opening ≡ false
     pub nothing_seen : length v.seen.history ≡ 0
-
-  pub record IsTurn (v : View O E) : Type 0 where
-    pub alone : number_of v.pass ≡ 0
-    pub told : is_told v.seen.opening ≡ true
 
   pub record IsJoined (v : View O E) : Type 0 where
     pub number : ℕ

@@ -1,5 +1,5 @@
 -- The rule of the table: what holds, between any two steps, of the words and of what each seat knows.
-use Rattle.std.specs.Prelude.{◌≡◌, ◌⊎◌, ℕ, ◌<◌, ◌≤◌, List, [], ◌∷◌, ◌++◌, length, take, slice_index, Option, Some, None, All, Contains}
+use Rattle.std.specs.Prelude.{◌≡◌, ◌⊎◌, ℕ, ◌<◌, ◌≤◌, true, List, [], ◌∷◌, ◌++◌, length, take, slice_index, Option, Some, None, All, Contains}
 use mathlib.Core.Option.{some}
 use lib.ListN.{get_elem?}
 use Rattle.atomic_table.specs.Table.{State}
@@ -18,7 +18,7 @@ use Rattle.shared_cells.specs.declared.view.PassView.{PassView}
 use Rattle.shared_cells.specs.declared.view.TurnView.{TurnView}
 use Rattle.shared_cells.specs.declared.view.View.{View}
 use Rattle.shared_cells.specs.History.{nothing_seen, IsPartOf, entries_by, version_after}
-use Rattle.shared_cells.specs.Views.{core_size}
+use Rattle.shared_cells.specs.Views.{core_size, has_turn}
 
 -- What the rule says that there is. Each seat knows a part of it.
 pub record Facts (O E : Type 0) : Type 0 where
@@ -93,6 +93,12 @@ module _ {O E : Type 0} where
   TurnFits f seat seen p None = Unit {0}
   TurnFits f seat seen p (Some turn) = HasAll f seat seen p turn
 
+  -- The turn is held: this seat has it. No other has it, since each that has it is the writer's.
+  pub record IsHeld (views : List (View O E)) (writer : ℕ) : Type 0 where
+    pub view : View O E
+    pub at : get_elem? views writer ≡ some view
+    pub turn : has_turn view.turn ≡ true
+
   -- what is true of what a seat knows
   pub record Knows (size : TableSize) (f : Facts O E) (seat : ℕ) (v : View O E) : Type 0 where
     pub seen : IsPartOf f.all v.seen
@@ -116,6 +122,7 @@ module _ {O E : Type 0} (applied : O → E → O) (lawful : O → O → Type 0) 
     -- what the pin core keeps between any two events
     pub sound : Sound (core_size size) s.words facts.stages facts.seen (turn_of (length facts.all.history) facts.turn.kept facts.turn.marks)
     pub seats : (j : ℕ) (v : View O E) → get_elem? s.views j ≡ some v → Knows size facts j v
+    pub held : IsHeld s.views facts.writer
     pub versions : VersionsFit facts facts.all.opening
     pub namings : All (NamingFits s.words facts.pinned) facts.all.namings
     -- and of a pass that there is

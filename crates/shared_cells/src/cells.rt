@@ -4,7 +4,6 @@ ghost use Rattle.std.specs.Prelude.{◌≡◌};
 use crate::law::Law;
 use crate::pinned::PinnedSeat;
 use crate::shared::Shared;
-use crate::turn::JoinedSeat;
 use chunk_cells::CellRead;
 use packed_node::{Cell, Ref};
 use pin_core::Half;
@@ -37,44 +36,6 @@ impl<O, E, L: Law<O, E>> CellRead for PinnedCells<'_, O, E, L> {
     ghost use Rattle.shared_cells.specs.Views.{pinned_image};
 
     ghost has = { λ s r c. Contains (pinned_image s.seat.now.place.me.0.progress) (record { at = r; big = c.big; small = c.small }) };
-
-    fn cell(&mut self, at: Ref) -> Cell {
-        let word = place_of_half(at, Half::Big);
-        let shared = self.shared;
-        Cell {
-            big: self.seat.read(shared, word),
-            small: self.seat.read(shared, word + 1),
-        }
-    }
-}
-
-/// The cells of the table as the turn knows them, for a joined pass to read.
-#[derive(Drop)]
-pub struct JoinedCells<'a, O, E, L: Law<O, E>> {
-    shared: &'a Shared<O, E, L>,
-    seat: &'a mut JoinedSeat<O, E>,
-    ghost here: { seat.now.place.table_id ≡ shared.now.table.shared.table_id },
-}
-
-impl<'a, O, E, L: Law<O, E>> JoinedCells<'a, O, E, L> {
-    pub fn new(
-        shared: &'a Shared<O, E, L>,
-        seat: &'a mut JoinedSeat<O, E>,
-    ) -> JoinedCells<'a, O, E, L>
-        requires { seat.old.place.table_id ≡ shared.now.table.shared.table_id }
-        ensures same_reference { result.seat.ghost_name ≡ seat.entry.ghost_name }
-        ensures seat { result.seat.now ≡ seat.old }
-        ensures shared { result.shared.now ≡ shared.now }
-    {
-        JoinedCells { shared, seat }
-    }
-}
-
-/// A cell is two loads. Nobody else writes while the pass is joined.
-impl<O, E, L: Law<O, E>> CellRead for JoinedCells<'_, O, E, L> {
-    ghost use Rattle.shared_cells.specs.Cells.{HasCell, cells_of};
-
-    ghost has = { λ s. HasCell (cells_of s.shared.now.table.shared.key.chunks s.seat.now.place.me.0.turn) };
 
     fn cell(&mut self, at: Ref) -> Cell {
         let word = place_of_half(at, Half::Big);

@@ -6,12 +6,12 @@ ghost use Rattle.std.specs.Prelude.{◌≡◌, ◌+◌, ◌*◌, ◌/◌, ◌<�
 ghost use Rattle.pin_core.specs.Words.{half_at, status_at};
 ghost use Rattle.pin_core.specs.Machine.{is_kept_cell, is_kept_chunk};
 ghost use Rattle.shared_cells.specs.Views.{has_turn, words_of, kept_in, stored_view};
-ghost use Rattle.shared_cells.specs.Cells.{cells_of, with_words, IsNewTurn, IsTurn, IsJoined};
+ghost use Rattle.shared_cells.specs.Cells.{cells_of, with_words, IsNewTurn, IsJoined};
 
 use crate::law::Law;
 use crate::plays::{Recall, Store};
 use crate::shared::Shared;
-use crate::turn::{JoinedSeat, NewTurnSeat, TurnSeat};
+use crate::turn::{JoinedSeat, NewTurnSeat};
 use crate::view::Place;
 use chunk_cells::{CellRead, CellWrite};
 use packed_node::{Cell, Ref};
@@ -131,33 +131,6 @@ impl<O, E> NewTurnSeat<O, E> {
     }
 }
 
-impl<O, E> TurnSeat<O, E> {
-    /// Lends the cells.
-    pub fn lend<L: Law<O, E>, B: Lent<O, E>>(
-        self,
-        shared: &Shared<O, E, L>,
-    ) -> TurnCells<'_, O, E, L, B>
-        requires table { self.place.table_id ≡ shared.now.table.shared.table_id }
-        requires lent { (self.place.table_id ≡ B.table) × (self.place.me.0 ≡ B.view) }
-        ensures cells { result ≡ cells_of shared.now.table.shared.key.chunks B.view.turn }
-        ensures kind { IsTurn B.view }
-    {
-        let TurnSeat {
-            place,
-            version,
-            passes,
-        } = self;
-        TurnCells {
-            shared,
-            place,
-            version,
-            number: 0,
-            passes,
-            lent: PhantomData,
-        }
-    }
-}
-
 impl<O, E> JoinedSeat<O, E> {
     /// Lends the cells.
     pub fn lend<L: Law<O, E>, B: Lent<O, E>>(
@@ -204,29 +177,6 @@ impl<O, E, L: Law<O, E>, B: Lent<O, E>> TurnCells<'_, O, E, L, B> {
             lent: _,
         } = self;
         NewTurnSeat { place, passes }
-    }
-
-    /// The seat that lent the cells.
-    pub fn into_turn(self) -> TurnSeat<O, E>
-        requires { IsTurn B.view }
-        ensures table { result.place.table_id ≡ B.table }
-        ensures size { 4161 + 2048 * self.entry.chunks ≡ B.table.words }
-        ensures seat { result.place.me.0 ≡ with_words B.view self.entry.words }
-        ensures cells { cells_of self.entry.chunks result.place.me.0.turn ≡ record self.entry { kept = kept_in B.view.turn } }
-    {
-        let TurnCells {
-            shared: _,
-            place,
-            version,
-            number: _,
-            passes,
-            lent: _,
-        } = self;
-        TurnSeat {
-            place,
-            version,
-            passes,
-        }
     }
 
     /// The seat that lent the cells.

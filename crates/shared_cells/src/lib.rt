@@ -16,7 +16,7 @@ mod shared;
 mod turn;
 mod view;
 
-pub use cells::{JoinedCells, PinnedCells};
+pub use cells::PinnedCells;
 pub use law::{Counted, Law, Opening, Payload};
 pub use lent::{Lent, TurnCells};
 pub use pass::{NewPassSeat, PassSeat, SeatNote};

@@ -13,6 +13,7 @@ use pin_core::words::CUR;
 #[derive(Drop)]
 pub struct SeatNote<O, E> {
     pub place: Place<O, E>,
+    ghost no_turn: { has_turn place.me.0.turn ≡ false },
     ghost told: { is_told place.me.0.seen.opening ≡ true },
     ghost no_slots: { place.me.1 ≡ [] },
 }

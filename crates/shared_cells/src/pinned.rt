@@ -17,8 +17,7 @@ use pin_core::words::{
 
 /// A pass's seat, while the pass is pinned. No cell of its version is written, and no chunk of it freed, before `unpin`.
 ///
-/// One that is dropped leaves its pin as it is: its version then stays kept.
-#[derive(Drop)]
+/// It can't be dropped: whoever has one unpins it, so no version stays kept for nobody.
 pub struct PinnedSeat<O, E> {
     pub place: Place<O, E>,
     /// The pass's number.
@@ -73,7 +72,8 @@ impl<O, E> PinnedSeat<O, E> {
         let PinnedSeat {
             mut place,
             number,
-            ..
+            version: _,
+            root: _,
         } = self;
         leave(shared, &mut place, number);
         PassSeat { place, number }

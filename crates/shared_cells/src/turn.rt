@@ -1,12 +1,12 @@
 //! The seat that has the turn: the one by which versions are made.
-ghost use Rattle.std.specs.Prelude.{◌≡◌, ◌+◌, ◌*◌, ◌<◌, ◌≤◌, length, replicate, slice_index, true, false, [], Some};
+ghost use Rattle.std.specs.Prelude.{◌≡◌, ◌+◌, ◌*◌, ◌<◌, ◌≤◌, length, replicate, true, false, [], Some};
 ghost use Rattle.pin_core.specs.declared.kept.Mark.TheVariants as mark;
 ghost use Rattle.shared_cells.specs.Views.{number_of, marks_of, words_of, has_turn, is_told, chunks_of, note_of, pass_of, without_pass, with_pass};
 ghost use Rattle.shared_cells.specs.Steps.{CanOpen, Opened, CanPublish, Published, Confirmed};
 
 use crate::law::{Law, Opening, Payload};
 use crate::pass::{PassSeat, SeatNote};
-use crate::plays::{Dismiss, Enlist, Look, Open, Publish, Recall, Tell};
+use crate::plays::{Dismiss, Enlist, Look, Open, Publish, Tell};
 use crate::shared::Shared;
 use crate::view::Place;
 use pin_core::words::{CUR, word_of_version};
@@ -143,16 +143,6 @@ impl<O, E> JoinedSeat<O, E> {
         ensures confirmed { (turn : _) × (self.old.place.me.0.turn ≡ Some turn) × Confirmed L.applied L.lawful L.stands self.old.place.me.0 turn result }
     {
         shared.table.shared.load::<Look<L>>(&mut self.place, CUR)
-    }
-
-    /// A word past the pins, which is as the turn knows it.
-    pub fn read<L: Law<O, E>>(&mut self, shared: &Shared<O, E, L>, word: usize) -> u64
-        requires table { self.old.place.table_id ≡ shared.now.table.shared.table_id }
-        requires inside { (64 < word) × (word < shared.now.table.shared.table_id.words) }
-        ensures same { self.new ≡ self.old }
-        ensures value { result ≡ slice_index (words_of self.old.place.me.0.turn) word }
-    {
-        shared.table.shared.load::<Recall>(&mut self.place, word)
     }
 
     /// Publishes the next version, as the joined pass's own step. Answers its number.

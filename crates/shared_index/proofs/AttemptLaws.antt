@@ -1,8 +1,8 @@
 -- An operation on lent cells, as the seat that lent them knows it.
-use Rattle.std.proofs.Common.{◌≡◌, ◌↔◌, ◌∙◌, ℕ, ◌+◌, ◌*◌, ◌/◌, ◌≤◌, ◌==◌, Bool, true, false, List, map, length, slice_index, Option, Some, None, Result, Ok, Err, inl, inr, refl, sym, ap, subst, arith}
+use Rattle.std.proofs.Common.{◌≡◌, ◌↔◌, ◌∙◌, ℕ, ◌+◌, ◌*◌, ◌/◌, ◌≤◌, ◌==◌, Bool, true, false, List, map, length, slice_index, Option, Some, None, Result, Ok, Err, inl, inr, refl, sym, ap, subst}
 use Rattle.std.specs.Prelude.{IfOk, IfErr}
 use Rattle.std.specs.List.{Contains, range_with_len}
-use Rattle.std.proofs.lemmas.Bool.{cases_lt}
+use Rattle.std.proofs.lemmas.Bool.{cases_Bool}
 use Rattle.std.proofs.lemmas.List.FromFn.{length-map-range_with_len}
 use Rattle.std.proofs.lemmas.Option.{get_or_from_slice_get}
 use Rattle.packed_node.specs.declared.Cell.{Cell}
@@ -10,9 +10,9 @@ use Rattle.pin_core.specs.Words.{status_at}
 use Rattle.pin_core.specs.declared.kept.Kept.{Kept}
 use Rattle.chunk_cells.specs.Chunks.{IsGiven}
 use Rattle.chunk_usage.specs.declared.space.Full.{Full as NoRoom}
-use Rattle.chunk_usage.specs.Ledger.{Ledger, IsLedger, Frozen, is_used, is_fresh, is_given, frozen_part}
+use Rattle.chunk_usage.specs.Ledger.{Ledger, Frozen, is_open, is_used, is_mutable, is_given, frozen_part, reserved}
 use Rattle.chunk_usage.specs.Handing.{Lacks, spent}
-use Rattle.chunk_usage.specs.Rooms.{Grows, account_of}
+use Rattle.chunk_usage.specs.Rooms.{Grows, OpensFree, account_of}
 use Rattle.chunk_usage.proofs.FlagLemmas.{get_set}
 use Rattle.trie_model.specs.Keys.{Entry}
 use Rattle.trie_model.proofs.MoveLaws.{Keeps}
@@ -29,7 +29,7 @@ use Rattle.shared_index.specs.Passes.{Known}
 use Rattle.shared_index.specs.Turns.{Agrees, cells_with, row_for, cell_counts, current_image, is_immutable}
 use Rattle.shared_index.specs.Bases.{IsRooted, StandsFor}
 use Rattle.shared_index.specs.Changes.{operation_of, key_of, written_by, asked_by, IsRefused}
-use Rattle.shared_index.specs.Tries.{Tried, PathHas, PathHasEach, OpensUnused}
+use Rattle.shared_index.specs.Tries.{Grown, Tried, PathHas, PathHasEach}
 use Rattle.shared_index.proofs.Lists.{all_of, all_from}
 use Rattle.shared_index.proofs.KeepLaws.{immutable_used, immutable_old, immutable_of}
 
@@ -74,7 +74,7 @@ branches_there a b chunks words u root key branches p = branches_later root key 
 
 -- while cells are handed out what the usage agrees on stays
 agrees_grown : (cells new : Cells) (u n : Ledger) (count : ℕ) → new.chunks ≡ cells.chunks → new.kept ≡ cells.kept → given_chunks new ≡ n.given → frozen_part n ≡ frozen_part u
-    → Grows (is_used u) (is_used n) (is_fresh u) (is_fresh n) → Agrees cells u count → Agrees new n count
+    → Grows (is_used u) (is_used n) (is_mutable u) (is_mutable n) → Agrees cells u count → Agrees new n count
 agrees_grown cells new u n count chunks kept given frozen grows a = record {
   given = given;
   rows = ap (λ (f : Frozen). f.rows) frozen ∙ a.rows ∙ ap (λ (k : ℕ). map (row_for k) cells.kept) (sym chunks) ∙ ap (map (row_for new.chunks)) (sym kept);
@@ -95,13 +95,24 @@ ready_of cells u count a = record {
   settled = λ q c. immutable_old u q (all_of (is_immutable u) (kept_references cells) q a.immutable c);
 }
 
+-- What a change of lent cells leaves of the usage, whether or not it took chunks of the reserve.
+pub record Leaves (first lent : Cells) (u n : Ledger) : Type 0 where
+  pub given_stays : (k : ℕ) → IsGiven (given_chunks first) k → IsGiven (given_chunks lent) k
+  pub opens : OpensFree (given_chunks first) (is_open u.open_chunk) (is_open n.open_chunk)
+  pub grows : Grows (is_used u) (is_used n) (is_mutable u) (is_mutable n)
+  pub last : frozen_part n ≡ frozen_part u
+  pub same : given_chunks lent ≡ n.given
+
+pub leaves_of : {first lent : Cells} {u n : Ledger} → Fenced HasCell kept_references given_chunks account_of first u lent n → Ready kept_references given_chunks account_of lent n → Leaves first lent u n
+leaves_of frame ready = record { given_stays = frame.given_stays; opens = frame.opens; grows = frame.grows; last = frame.last; same = ready.same }
+
 -- The cells were lent by a seat that knew so much, and came back as they are now.
 module _ (first lent : Cells) (v w : Known) (u n : Ledger)
     (begun : first ≡ cells_with u v.turn) (back : cells_of lent.chunks w.turn ≡ record lent { kept = kept_in v.turn }) (seat : w ≡ with_words v lent.words)
-    (frame : Fenced HasCell kept_references given_chunks account_of first u lent n) (ready : Ready kept_references given_chunks account_of lent n) (wide : lent.chunks ≡ length u.given)
+    (leaves : Leaves first lent u n) (wide : lent.chunks ≡ length u.given)
     (count : ℕ) (agrees : Agrees (cells_with u v.turn) u count) where
   pub chunks_now : length n.given ≡ lent.chunks
-  chunks_now = ap (λ (bs : List Bool). length bs) (sym ready.same) ∙ length-map-range_with_len (λ chunk. slice_index lent.words (status_at chunk) == 1) 0 lent.chunks
+  chunks_now = ap (λ (bs : List Bool). length bs) (sym leaves.same) ∙ length-map-range_with_len (λ chunk. slice_index lent.words (status_at chunk) == 1) 0 lent.chunks
 
   words_now : words_of w.turn ≡ lent.words
   words_now = ap (λ (k : Cells). k.words) back
@@ -115,29 +126,29 @@ module _ (first lent : Cells) (v w : Known) (u n : Ledger)
   pub words_seat : w ≡ with_words v (words_of w.turn)
   words_seat = seat ∙ ap (with_words v) (sym words_now)
 
-  pub wide_now : length n.given ≡ length u.given
-  wide_now = chunks_now ∙ wide
+  -- which of the usage's chunks the cells say are given
+  given_first : (k : ℕ) → is_given u k ≡ true → IsGiven (given_chunks first) k
+  given_first k h = subst (λ (bs : List Bool). IsGiven bs k) (sym (ap given_chunks begun ∙ agrees.given)) (get_set u.given k h)
 
-  -- allocated chunks stay so
-  pub given_now : (k : ℕ) → is_given u k ≡ true → is_given n k ≡ true
-  given_now k h =
-      let old : IsGiven (given_chunks first) k = subst (λ (bs : List Bool). IsGiven bs k) (sym (ap given_chunks begun ∙ agrees.given)) (get_set u.given k h) in
-      get_or_from_slice_get n.given k true false (subst (λ (bs : List Bool). IsGiven bs k) ready.same (frame.given_stays k old))
-
-  -- a chunk that became the bump chunk was not given, so none of its cells counted
-  pub opens_now : IsLedger u → OpensUnused u n
-  opens_now known = λ k o. elim (frame.opens k o) [ inl h ↦ inl h | inr free ↦ inr (unused k free) ]
+  -- allocated chunks stay so, and a chunk that became the bump chunk was not
+  pub grown_now : Grown u n
+  grown_now = record {
+    wide = chunks_now ∙ wide;
+    frozen = leaves.last;
+    given = λ k h. get_or_from_slice_get n.given k true false (subst (λ (bs : List Bool). IsGiven bs k) leaves.same (leaves.given_stays k (given_first k h)));
+    opens = λ k o. elim (leaves.opens k o) [ inl h ↦ inl h | inr free ↦ inr (was_free k free) ];
+  }
     where
-      unused : (k : ℕ) → (IsGiven (given_chunks first) k → ⊥) → slice_index u.live k ≡ 0
-      unused k free = elim (cases_lt 0 (slice_index u.live k)) [
-        | inl some ↦ absurd (free (subst (λ (bs : List Bool). IsGiven bs k) (sym (ap given_chunks begun ∙ agrees.given)) (get_set u.given k (known.counts.in_given k some))))
-        | inr z ↦ omega arith
+      was_free : (k : ℕ) → (IsGiven (given_chunks first) k → ⊥) → is_given u k ≡ false
+      was_free k free = elim (cases_Bool (is_given u k)) [
+        | inl here ↦ absurd (free (given_first k here))
+        | inr not_here ↦ not_here
       ]
 
   pub agrees_later : Agrees (cells_with n w.turn) n count
   agrees_later =
       let now : cells_with n w.turn ≡ record lent { kept = kept_in v.turn } = ap (λ (k : ℕ). cells_of k w.turn) chunks_now ∙ back in
-      agrees_grown (cells_with u v.turn) (cells_with n w.turn) u n count wide_now (ap (λ (k : Cells). k.kept) now) (ap given_chunks now ∙ ready.same) frame.last frame.grows agrees
+      agrees_grown (cells_with u v.turn) (cells_with n w.turn) u n count (chunks_now ∙ wide) (ap (λ (k : Cells). k.kept) now) (ap given_chunks now ∙ leaves.same) leaves.last leaves.grows agrees
 
   -- an operation was tried on them
   module _ (root : Option ℕ) (c : Change) (r : Result (Option ℕ) Unchanged) where
@@ -147,7 +158,7 @@ module _ (first lent : Cells) (v w : Known) (u n : Ledger)
     branches_in : (branches : List ℕ) → PathHasEach v u root (key_of c) branches → BranchesOnPath HasCell account_of first u root (key_of c) branches
     branches_in branches p = subst (λ (k : Cells). BranchesOnPath HasCell account_of k u root (key_of c) branches) (sym begun) p
 
-    pub tried_of : IsLedger u → IfOk r (λ new. (es : List Entry) → IsRooted (HasCell first) u root es → IsRooted (HasCell lent) n new (operated es (operation_of c)))
+    pub tried_of : reserved n ≡ reserved u → IfOk r (λ new. (es : List Entry) → IsRooted (HasCell first) u root es → IsRooted (HasCell lent) n new (operated es (operation_of c)))
         → ((es : List Entry) → IsRooted (HasCell first) u root es → (r ≡ Err Refused) ↔ IsRefused c es)
         → IfErr r (λ _. (es : List Entry) → IsRooted (HasCell first) u root es → IsRooted (HasCell lent) n root es)
         → IfErr r (λ _. Same HasCell account_of first u lent n)
@@ -155,19 +166,16 @@ module _ (first lent : Cells) (v w : Known) (u n : Ledger)
         → ((f : NoRoom) → r ≡ Err (Full f) → (branches : List ℕ) → BranchesOnPath HasCell account_of first u root (key_of c) branches → Contains (asked_by c branches) f.needed)
         → ((twigs : ℕ) → TwigsOnPath HasCell account_of first u root (key_of c) twigs → spent n ≤ spent u + (written_by c + twigs))
         → Tried c root v u w n r
-    tried_of known done refused stays same full asked spends = record {
+    tried_of reserve done refused stays same full asked spends = record {
       done = if_ok _ _ r (λ new h es s. left new (operated es (operation_of c)) (h es (entered root es s))) done;
       refused = λ es s. refused es (entered root es s);
       stays = if_err _ _ r (λ e h es s. left root es (h es (entered root es s))) stays;
       full = full;
       asked = λ f e branches p. asked f e branches (branches_in branches p);
       same = words_seat;
-      wide = wide_now;
-      frozen = frame.last;
-      given = given_now;
-      opens = opens_now known;
+      spares = record { grown = grown_now; reserve = reserve };
       counts = if_err _ _ r (λ e s. s.counts) same;
-      path = if_err _ _ r (λ e s twigs p. path_there lent (cells_with n w.turn) chunks_now words_now n root (key_of c) twigs (path_later root (key_of c) twigs s.untouched frame.grows.stays s.counts (path_in twigs p))) same;
-      branches = if_err _ _ r (λ e s branches p. branches_there lent (cells_with n w.turn) chunks_now words_now n root (key_of c) branches (branches_later root (key_of c) branches s.untouched frame.grows.stays s.counts (branches_in branches p))) same;
+      path = if_err _ _ r (λ e s twigs p. path_there lent (cells_with n w.turn) chunks_now words_now n root (key_of c) twigs (path_later root (key_of c) twigs s.untouched leaves.grows.stays s.counts (path_in twigs p))) same;
+      branches = if_err _ _ r (λ e s branches p. branches_there lent (cells_with n w.turn) chunks_now words_now n root (key_of c) branches (branches_later root (key_of c) branches s.untouched leaves.grows.stays s.counts (branches_in branches p))) same;
       spends = λ twigs p. spends twigs (path_in twigs p);
     }

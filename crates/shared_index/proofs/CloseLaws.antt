@@ -1,21 +1,22 @@
 -- What passes that account for themselves tell of the end of an index.
-use Rattle.std.proofs.Common.{◌≡◌, ◌∙◌, ℕ, ◌+◌, ◌<◌, ◌≤◌, ◌==◌, true, List, [], ◌∷◌, ◌++◌, length, take, get_or, Option, Some, None, refl, sym, ap, subst, arith, append-nil}
+use Rattle.std.proofs.Common.{◌≡◌, ◌∙◌, ℕ, ◌+◌, ◌<◌, ◌≤◌, ◌==◌, true, List, [], ◌∷◌, ◌++◌, length, take, get_or, Option, Some, None, inl, inr, refl, sym, ap, subst, arith, append-nil}
 use Rattle.std.specs.List.{All, Contains}
 use Rattle.std.proofs.lemmas.Bool.Decides.{eqb_tells}
 use Rattle.std.proofs.lemmas.List.{append_assoc}
 use Rattle.std.proofs.lemmas.List.Elements.{All-contains, All-take, All-nil, All-push, Contains-append_left, Contains-get_or, filter-append}
 use Rattle.pin_core.proofs.Lists.{contains_filter}
+use Rattle.atomic_table.specs.Seated.{TableId}
 use Rattle.trie_model.specs.Keys.{Entry}
 use Rattle.shared_cells.specs.declared.view.Entry.{Entry as Commit}
 use Rattle.shared_cells.specs.declared.view.Naming.{Naming}
 use Rattle.shared_cells.specs.declared.view.PassView.{PassView}
-use Rattle.shared_cells.specs.History.{IsPartOf, OpeningFits, StartsWith, entries_by}
+use Rattle.shared_cells.specs.History.{IsPartOf, OpeningFits, StartsWith, entries_by, nothing_seen}
 use Rattle.shared_cells.specs.Views.{number_of, with_pinned}
 use Rattle.shared_cells.specs.Steps.{Accounts}
 use Rattle.shared_cells.proofs.Seats.{pass_there}
 use Rattle.shared_index.specs.declared.meaning.Operation.{Operation}
 use Rattle.shared_index.specs.Passes.{Known, Pinned, Learnt, commits_in, pinned_in}
-use Rattle.shared_index.specs.Closings.{AllSeen, Includes, IsThere, AreAll, IsCommitOf, IsNamingOf, Ends, Gathers}
+use Rattle.shared_index.specs.Closings.{AllSeen, Includes, IsThere, AreAll, IsCommitOf, IsNamingOf, IsOfTurn, Ends, Gathers}
 
 module _ {A : Type 0} where
   begins_itself : (xs : List A) → StartsWith xs xs
@@ -153,3 +154,8 @@ ends_alone count n last some is = record {
   where
     none : IsThere [] 0 → ⊥
     none t = let l = t.1.1 in omega arith
+
+-- with what the turn tells, or nothing seen
+pub ends_at_rest : (count n : ℕ) (table : TableId) → 1 ≤ count → IsOfTurn table n → (last : AllSeen) × Ends count [] n last
+ends_at_rest count n table some (inl turn) = (turn.0.place.me.0.seen, ends_alone count n turn.0.place.me.0.seen some turn.2)
+ends_at_rest count n table some (inr none) = (nothing_seen, ends_alone count n nothing_seen some none)

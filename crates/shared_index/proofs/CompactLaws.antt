@@ -3,6 +3,7 @@ use Rattle.std.proofs.Common.{◌≡◌, ◌↔◌, ◌≢◌, ◌∙◌, ℕ, �
 use Rattle.std.specs.Prelude.{IfOk, IfErr, IsErr}
 use Rattle.std.proofs.lemmas.Bool.{true≢false}
 use Rattle.pin_core.specs.declared.version.Spent.{Spent}
+use Rattle.atomic_table.specs.Seated.{TableId}
 use Rattle.trie_model.specs.Keys.{Entry}
 use Rattle.shared_cells.specs.Views.{pass_of}
 use Rattle.shared_index.specs.declared.commit.Receipt.{Receipt}
@@ -21,18 +22,12 @@ module _ (lawful : List Entry → List Entry → Type 0) (before : Known) (d : D
   pub base_lawful : lawful (first_version d.seat.place.me.0.seen) (working_set d)
   base_lawful = subst (lawful (first_version d.seat.place.me.0.seen)) (sym base_is) begins.joined.good
 
-  module _ (passes last : ℕ) (after now : Known) (same : now ≡ after) (count : d.seat.passes ≡ passes) (r : Result Receipt Spent) where
-    pub compacts_of : IfOk r (λ _. Commits d.seat.place.me.0 d.log.operations after) → IfOk r (λ x. x.version ≡ d.seat.version + 1) → IfOk r (λ x. Recycles 0 (working_set d) d.seat.place.me.0 d.usage d.seat.passes after x) → IfOk r (Compacts lawful passes before now)
+  module _ (table : TableId) (passes last : ℕ) (after now : Known) (same : now ≡ after) (here : d.seat.place.table_id ≡ table) (count : d.seat.passes ≡ passes) (r : Result Receipt Spent) where
+    pub compacts_of : IfOk r (λ _. Commits d.seat.place.me.0 d.log.operations after) → IfOk r (λ x. x.version ≡ d.seat.version + 1) → IfOk r (Recycles 0 d after) → IfOk r (Compacts lawful table passes before now)
     compacts_of commits version receipt = by_case r commits version receipt
       where
-        by_case : (q : Result Receipt Spent) → IfOk q (λ _. Commits d.seat.place.me.0 d.log.operations after) → IfOk q (λ x. x.version ≡ d.seat.version + 1) → IfOk q (λ x. Recycles 0 (working_set d) d.seat.place.me.0 d.usage d.seat.passes after x) → IfOk q (Compacts lawful passes before now)
-        by_case (Ok x) c v k = subst (λ (w : Known). Compacts lawful passes before w x) (sym same) (record {
-          draft = d;
-          begins = begins;
-          commits = c;
-          version = v;
-          recycles = subst (λ (es : List Entry). Recycles 0 es d.seat.place.me.0 d.usage passes after x) base_is (subst (λ (n : ℕ). Recycles 0 (working_set d) d.seat.place.me.0 d.usage n after x) count k);
-        })
+        by_case : (q : Result Receipt Spent) → IfOk q (λ _. Commits d.seat.place.me.0 d.log.operations after) → IfOk q (λ x. x.version ≡ d.seat.version + 1) → IfOk q (Recycles 0 d after) → IfOk q (Compacts lawful table passes before now)
+        by_case (Ok x) c v k = subst (λ (w : Known). Compacts lawful table passes before w x) (sym same) (record { draft = d; here = here; passes_are = count; begins = begins; commits = c; version = v; recycles = k })
         by_case (Err s) c v k = tt
 
     pub last_of : IfErr r (λ _. after ≡ pass_of d.seat.place.me.0) → IfErr r (λ s. s.version ≡ d.seat.version) → IfErr r (IsLast lawful before now)

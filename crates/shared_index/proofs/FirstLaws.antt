@@ -9,7 +9,7 @@ use Rattle.pin_core.specs.declared.kept.Kept.{Kept}
 use Rattle.pin_core.specs.Words.{status_at, size_of, word_count, current_word}
 use Rattle.pin_core.proofs.Lists.{contains_cases}
 use Rattle.trie_model.specs.Keys.{Entry}
-use Rattle.chunk_usage.specs.Ledger.{Ledger, Row, IsLedger, row_of, is_used, is_fresh, unused}
+use Rattle.chunk_usage.specs.Ledger.{Ledger, Row, IsLedger, row_of, is_used, is_mutable, unused}
 use Rattle.chunk_usage.specs.Keeping.{frozen}
 use Rattle.shared_cells.specs.declared.view.TableSize.{TableSize}
 use Rattle.shared_cells.specs.declared.view.TurnView.{TurnView}
@@ -44,7 +44,7 @@ module _ (v : Known) (u : Ledger) (is : IsLedger u) (given : given_chunks (cells
     stood = version_image (cells_with u v.turn) u es root works;
   }
 
-  module _ (w : Known) (new : Ledger) (count : ℕ) (no_rows : u.rows ≡ []) (passes : u.passes ≡ count) (after : new ≡ frozen u 0) (settled : (q : ℕ) → is_used new q ≡ true → is_fresh new q ≡ false)
+  module _ (w : Known) (new : Ledger) (count : ℕ) (no_rows : u.rows ≡ []) (passes : u.passes ≡ count) (after : new ≡ frozen u 0) (settled : (q : ℕ) → is_used new q ≡ true → is_mutable new q ≡ false)
       (kept_now : kept_in w.turn ≡ kept_of 0 root image ∷ []) (words_now : words_of w.turn ≡ words_of v.turn) where
     abbrev chunks : ℕ
     chunks = length u.given

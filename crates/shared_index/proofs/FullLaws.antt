@@ -1,5 +1,5 @@
 -- Why a call of a transaction finds no room.
-use Rattle.std.proofs.Common.{◌≡◌, ◌∙◌, ◌⊎◌, ℕ, ◌+◌, ◌≤◌, Bool, List, [], length, map, take, Contains, Option, Some, None, Err, refl, sym, ap, subst, arith, true, false}
+use Rattle.std.proofs.Common.{◌≡◌, ◌∙◌, ℕ, ◌+◌, ◌≤◌, Bool, List, [], length, map, take, Contains, Option, Some, None, Err, refl, sym, ap, subst, arith, true}
 use Rattle.std.specs.Prelude.{unwrap_or}
 use Rattle.std.specs.List.{All, sum_by}
 use Rattle.std.proofs.lemmas.List.Elements.{All-weaker}
@@ -14,9 +14,9 @@ use Rattle.trie_write.specs.Paths.{branches_on_path}
 use Rattle.trie_write.specs.Roots.{OnBranches}
 use Rattle.trie_write.specs.Standing.{Standing}
 use Rattle.chunk_usage.specs.declared.space.Full.{Full as NoRoom}
-use Rattle.chunk_usage.specs.Ledger.{Ledger, Row, is_given, is_open, is_used}
+use Rattle.chunk_usage.specs.Ledger.{Ledger, Row, is_given, is_used}
 use Rattle.chunk_usage.specs.Handing.{Lacks}
-use Rattle.chunk_usage.specs.Keeping.{kept_versions, narrowed}
+use Rattle.chunk_usage.specs.Keeping.{freed, kept_versions, narrowed}
 use Rattle.std.proofs.lemmas.Simd.{map-map}
 use Rattle.shared_cells.specs.declared.view.Entry.{Entry as Commit}
 use Rattle.shared_cells.specs.History.{version_after}
@@ -36,7 +36,7 @@ use Rattle.shared_index.specs.Changes.{key_of, written_by, asked_by, LeadsItem}
 use Rattle.shared_index.specs.Drafts.{Works, working_set}
 use Rattle.shared_index.specs.Tries.{Tried, PathHas, PathHasEach}
 use Rattle.shared_index.specs.Keepings.{GoesOn, numbers_of, versions_in}
-use Rattle.shared_index.specs.Fulls.{FullCause, after_room, cells_kept, version_at}
+use Rattle.shared_index.specs.Fulls.{FullCause, cells_kept, version_at}
 use Rattle.shared_index.proofs.CauseLaws.{NeededBy, each_needed, given_few, kept_images, live_of, many, met_or_opened, opened_is, few_taken, path_of, rows_met, some_live, some_row, taken}
 use Rattle.shared_index.proofs.RisenLaws.{with_open}
 
@@ -69,9 +69,9 @@ each_of : (has : ℕ → Cell → Type 0) (used : ℕ → Bool) (live : ℕ → 
 each_of has used live None key es s tells = ([], refl)
 each_of has used live (Some r) key es s tells = (branches_on_path key s.0, (s.0, es, s.1, tells, refl))
 
-pub cause_of : (u : Ledger) (room d : Draft) (c : Change) (full : NoRoom) (f : Full) → room.usage ≡ after_room u f → f.needed ≡ full.needed → versions_in f.kept ≡ kept_versions room.usage → Works room → All (λ k. IsVersion k.image k.root (version_at room.seat.place.me.0 k.version)) (kept_in room.seat.place.me.0.turn)
+pub cause_of : (u : Ledger) (room d : Draft) (c : Change) (full : NoRoom) (f : Full) → room.usage ≡ freed (narrowed u (kept_versions room.usage)) → f.needed ≡ full.needed → versions_in f.kept ≡ kept_versions room.usage → Works room → All (λ k. IsVersion k.image k.root (version_at room.seat.place.me.0 k.version)) (kept_in room.seat.place.me.0.turn)
     → LeadsItem c → Tried c room.root room.seat.place.me.0 room.usage d.seat.place.me.0 d.usage (Err (unchanged.Full full)) → d.root ≡ room.root → GoesOn room.seat.place.me.0 d.seat.place.me.0 → working_set d ≡ working_set room → Lacks d.usage full
-    → FullCause (after_room u f) d (key_of c) (written_by c) (asked_by c) f
+    → FullCause room.usage d (key_of c) (written_by c) (asked_by c) f
 cause_of u room d c full f after request same works images leads t root on set lacks =
     let m = room.usage in
     let v : Known = room.seat.place.me.0 in
@@ -79,7 +79,7 @@ cause_of u room d c full f after request same works images leads t root on set l
     let key = key_of c in
     let kept = kept_in v.turn in
     let n = length m.given in
-    let needed : (k : ℕ) → is_given m k ≡ true → NeededBy m k = subst (λ (l : Ledger). (k : ℕ) → is_given l k ≡ true → NeededBy l k) (sym after) (each_needed (narrowed u (versions_in f.kept))) in
+    let needed : (k : ℕ) → is_given m k ≡ true → NeededBy m k = subst (λ (l : Ledger). (k : ℕ) → is_given l k ≡ true → NeededBy l k) (sym after) (each_needed (narrowed u (kept_versions room.usage))) in
     let p = path_of {has = HasCell (cells_with m v.turn)} {used = is_used m} {live = live_of m} room.root key (working_set room) works.stands works.tells in
     let each = each_of (HasCell (cells_with m v.turn)) (is_used m) (live_of m) room.root key (working_set room) works.stands works.tells in
     let spends = t.spends p.n p.on_path in
@@ -94,16 +94,16 @@ cause_of u room d c full f after request same works images leads t root on set l
     record {
       none_free = lacks.0.none_free;
       opened = with_open m.open_chunk (taken m d.usage);
-      opened_here = λ k h. subst (λ (l : Ledger). (is_open l.open_chunk k ≡ true) ⊎ ((is_given l k ≡ false) × (is_given d.usage k ≡ true))) after (opened_is m d.usage k h);
+      opened_here = opened_is m d.usage;
       path = p.n;
       on_path = subst (λ (r : Option ℕ). PathHas w d.usage r key p.n) (sym root) (t.path p.n p.on_path);
       branches = each.0;
       on_branches = subst (λ (r : Option ℕ). PathHasEach w d.usage r key each.0) (sym root) (t.branches each.0 each.1);
       needed = subst (λ (n : ℕ). Contains (asked_by c each.0) n) (sym request) (t.asked full refl each.0 each.1);
-      few_opened = few_taken m d.usage full (written_by c + p.n) t.wide t.given spends lacks;
-      others_met = met_or_opened m d.usage needed t.wide t.frozen t.counts;
+      few_opened = few_taken m d.usage full (written_by c + p.n) t.spares.grown.wide t.spares.grown.given spends lacks;
+      others_met = met_or_opened m d.usage needed t.spares.grown.wide t.spares.grown.frozen t.counts;
       many_cells =
-          let a = many m d.usage full n (cells (working_set room)) (cells_kept w (versions_in f.kept)) (row (some_live (live_of m)) 0 n) (row (some_row m.rows) 0 n) p.b p.n (written_by c) refl t.wide few meets rows p.few (few_written c leads) spends lacks in
+          let a = many m d.usage full n (cells (working_set room)) (cells_kept w (versions_in f.kept)) (row (some_live (live_of m)) 0 n) (row (some_row m.rows) 0 n) p.b p.n (written_by c) refl t.spares.grown.wide few meets rows p.few (few_written c leads) spends lacks in
           let b = ap cells set in
-          let g = t.wide in omega arith;
+          let g = t.spares.grown.wide in omega arith;
     }

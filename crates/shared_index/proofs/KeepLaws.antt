@@ -4,7 +4,7 @@ use Rattle.std.specs.List.{Contains, list_any}
 use Rattle.std.proofs.lemmas.List.FromFn.{get_or-map-range_with_len}
 use Rattle.pin_core.specs.declared.kept.CellAt.{CellAt}
 use Rattle.pin_core.specs.declared.kept.Kept.{Kept}
-use Rattle.chunk_usage.specs.Ledger.{Ledger, Row, IsLedger, filled, is_open, is_used, is_given, is_fresh, is_in_row}
+use Rattle.chunk_usage.specs.Ledger.{Ledger, Row, IsLedger, filled, is_open, is_used, is_given, is_mutable, is_in_row}
 use Rattle.chunk_usage.specs.Keeping.{is_in_rows, is_needed, closed, freed, restored}
 use Rattle.chunk_usage.specs.Rooms.{Grows}
 use Rattle.trie_model.specs.Keys.{Entry}
@@ -21,17 +21,17 @@ use Rattle.shared_index.specs.Turns.{Agrees, row_for, cell_counts, current_image
 use Rattle.shared_index.proofs.Lists.{either_true, all_of, all_from, any_from, in_map, of_map, in_flat}
 
 pub immutable_used : (u : Ledger) (q : ℕ) → is_immutable u q ≡ true → is_used u q ≡ true
-immutable_used u q h = first_true (is_used u q) (not (is_fresh u q)) h
+immutable_used u q h = first_true (is_used u q) (not (is_mutable u q)) h
 
-pub immutable_old : (u : Ledger) (q : ℕ) → is_immutable u q ≡ true → is_fresh u q ≡ false
-immutable_old u q h = go (is_fresh u q) (second_true (is_used u q) (not (is_fresh u q)) h)
+pub immutable_old : (u : Ledger) (q : ℕ) → is_immutable u q ≡ true → is_mutable u q ≡ false
+immutable_old u q h = go (is_mutable u q) (second_true (is_used u q) (not (is_mutable u q)) h)
   where
     go : (b : Bool) → not b ≡ true → b ≡ false
     go true h = sym h
     go false h = refl
 
-pub immutable_of : (u : Ledger) (q : ℕ) → is_used u q ≡ true → is_fresh u q ≡ false → is_immutable u q ≡ true
-immutable_of u q a b = both_true (is_used u q) (not (is_fresh u q)) a (ap not b)
+pub immutable_of : (u : Ledger) (q : ℕ) → is_used u q ≡ true → is_mutable u q ≡ false → is_immutable u q ≡ true
+immutable_of u q a b = both_true (is_used u q) (not (is_mutable u q)) a (ap not b)
 
 module _ (cells : Cells) (u : Ledger) (is : IsLedger u) (count : ℕ) (wide : cells.chunks ≡ length u.given) (agrees : Agrees cells u count) where
   pub kept_immutable : (q : ℕ) → Contains (kept_references cells) q → is_immutable u q ≡ true
@@ -74,7 +74,7 @@ agrees_freed cells new u count is wide chunks kept given a = record {
 }
 
 -- a transaction goes back to its base
-pub agrees_restored : (cells : Cells) (u new : Ledger) (count : ℕ) → new ≡ restored u → ((q : ℕ) → is_used u q ≡ true → is_fresh u q ≡ false → is_used new q ≡ true) → Agrees cells u count → Agrees cells new count
+pub agrees_restored : (cells : Cells) (u new : Ledger) (count : ℕ) → new ≡ restored u → ((q : ℕ) → is_used u q ≡ true → is_mutable u q ≡ false → is_used new q ≡ true) → Agrees cells u count → Agrees cells new count
 agrees_restored cells u new count after used a = record {
   given = a.given ∙ sym (ap (λ (l : Ledger). l.given) after);
   rows = ap (λ (l : Ledger). l.rows) after ∙ a.rows;
@@ -82,13 +82,13 @@ agrees_restored cells u new count after used a = record {
   last_live = ap (λ (l : Ledger). l.last_live) after ∙ a.last_live;
   immutable = all_from (is_immutable new) (kept_references cells) (λ q c.
       let h = all_of (is_immutable u) (kept_references cells) q a.immutable c in
-      immutable_of new q (used q (immutable_used u q h) (immutable_old u q h)) (ap (λ (l : Ledger). is_fresh l q) after ∙ immutable_old u q h));
+      immutable_of new q (used q (immutable_used u q h) (immutable_old u q h)) (ap (λ (l : Ledger). is_mutable l q) after ∙ immutable_old u q h));
   passes = ap (λ (l : Ledger). l.passes) after ∙ a.passes;
 }
 
 -- the bump chunk counts as filled
 
-pub agrees_closed : (cells : Cells) (u new : Ledger) (count : ℕ) → new ≡ closed u → Grows (is_used u) (is_used new) (is_fresh u) (is_fresh new) → Agrees cells u count → Agrees cells new count
+pub agrees_closed : (cells : Cells) (u new : Ledger) (count : ℕ) → new ≡ closed u → Grows (is_used u) (is_used new) (is_mutable u) (is_mutable new) → Agrees cells u count → Agrees cells new count
 agrees_closed cells u new count after grows a = record {
   given = a.given ∙ sym (ap (λ (l : Ledger). l.given) after);
   rows = ap (λ (l : Ledger). l.rows) after ∙ a.rows;
@@ -101,7 +101,7 @@ agrees_closed cells u new count after grows a = record {
   passes = ap (λ (l : Ledger). l.passes) after ∙ a.passes;
 }
 
-pub stands_closed : (v : Known) (u new : Ledger) (root : Option ℕ) (es : List Entry) → new ≡ closed u → Grows (is_used u) (is_used new) (is_fresh u) (is_fresh new) → StandsFor v u root es → StandsFor v new root es
+pub stands_closed : (v : Known) (u new : Ledger) (root : Option ℕ) (es : List Entry) → new ≡ closed u → Grows (is_used u) (is_used new) (is_mutable u) (is_mutable new) → StandsFor v u root es → StandsFor v new root es
 stands_closed v u new root es after grows s = record {
   stands = subst (λ (n : ℕ). Standing (HasCell (cells_of n v.turn)) (is_used new) (λ k. slice_index new.live k) root es) (sym (ap (λ (l : Ledger). length l.given) after))
       (standing_later es root s.stands (λ q c used has. has) grows.stays (λ k. ap (λ (l : Ledger). slice_index l.live k) after));

@@ -28,6 +28,5 @@ pub mod CauseLaws
 pub mod FullLaws
 pub mod NamedLaws
 pub mod CloseLaws
-pub mod ReadingLaws
 pub mod CompactLaws
 pub mod SettleLaws

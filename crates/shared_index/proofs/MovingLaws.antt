@@ -1,33 +1,26 @@
 -- What lies in sparse chunks, moved on lent cells, as the seat that lent them knows it.
-use Rattle.std.proofs.Common.{◌≡◌, ◌⊎◌, ◌∙◌, inl, inr, ℕ, ◌≤◌, nat_lt, Bool, true, false, not, cond, ◌&&◌, List, [], ◌∷◌, length, slice_index, Option, Some, None, refl, sym, ap, arith}
+use Rattle.std.proofs.Common.{◌≡◌, ℕ, ◌≤◌, nat_lt, Bool, true, false, not, cond, ◌&&◌, List, [], ◌∷◌, length, slice_index, Option, refl, sym, arith}
 use Rattle.std.specs.Prelude.{count_by}
 use Rattle.std.specs.List.{range_with_len}
 use Rattle.std.proofs.lemmas.Bool.{true≢false}
 use Rattle.std.proofs.lemmas.Bool.Decides.{nat_tests}
 use Rattle.std.proofs.lemmas.List.Sums.{sum_by-cons}
-use Rattle.packed_node.specs.declared.Cell.{Cell}
 use Rattle.trie_model.specs.Keys.{Entry}
 use Rattle.chunk_usage.specs.Counting.{is_low, is_sparse, sparse_count}
-use Rattle.chunk_usage.specs.Ledger.{Ledger, IsLedger, Frozen, is_given, is_open, is_used}
-use Rattle.chunk_usage.specs.Keeping.{freed, narrowed}
-use Rattle.chunk_usage.specs.Rooms.{account_of}
+use Rattle.chunk_usage.specs.Ledger.{Ledger, IsLedger, is_given, is_open, is_used}
+use Rattle.chunk_usage.specs.Rooms.{account_of, reserve_account_of}
 use Rattle.trie_write.specs.Spaces.{Ready, Fenced}
 use Rattle.trie_write.specs.Standing.{Standing}
 use Rattle.evacuate.specs.declared.evacuation.Done.{Done}
 use Rattle.evacuate.specs.declared.evacuation.Done.TheVariants.{Whole, Stopped}
-use Rattle.evacuate.specs.Evacuations.{IsDense, HasSparse}
+use Rattle.evacuate.specs.Evacuations.{FillsNew, IsCleared, IsDense, HasSparse}
 use Rattle.evacuate.specs.Fillings.{IsFull as IsUsedUp}
 use Rattle.shared_cells.specs.Views.{kept_in}
 use Rattle.shared_cells.specs.Cells.{Cells, cells_of, given_chunks, kept_references, HasCell, with_words}
-use Rattle.shared_index.specs.declared.desk.Draft.{Draft}
-use Rattle.shared_index.specs.declared.refusal.Full.{Full}
-use Rattle.shared_index.specs.Fulls.{CausedFrom, Evacuated, Grown}
 use Rattle.shared_index.specs.Passes.{Known}
 use Rattle.shared_index.specs.Turns.{Agrees, cells_with}
-use Rattle.shared_index.specs.Bases.{IsRooted}
-use Rattle.shared_index.specs.Receipts.{AreCountsOf}
 use Rattle.shared_index.specs.Movings.{Moved, is_thin, FewThin}
-use Rattle.shared_index.proofs.AttemptLaws.{entered, left, wide_now, given_now, opens_now, words_seat}
+use Rattle.shared_index.proofs.AttemptLaws.{Leaves, entered, left, grown_now, words_seat}
 
 -- ---- which chunks are thin
 
@@ -84,62 +77,30 @@ thin_dense most u dense = let a = count_none (is_thin u) none (range_with_len 0 
         negated true h = sym h
         negated false h = refl
 
--- ---- the counts of a root that stands
-
-pub counts_of : {has : ℕ → Cell → Type 0} {u : Ledger} (root : Option ℕ) {es : List Entry} → IsRooted has u root es → AreCountsOf (λ k. slice_index u.live k) root es
-counts_of None s = s.stands
-counts_of (Some r) s = let t = s.stands.0 in let h = s.stands.1 in (t, h.trie.shape, h.trie.holds, h.counted)
-
--- ---- a call that found no room had moved what lay in sparse chunks
-
-either_end : {A B : Type 0} (done : Done) → (done ≡ Whole → B) → (done ≡ Stopped → A) → A ⊎ B
-either_end Whole whole stopped = inr (whole refl)
-either_end Stopped whole stopped = inl (stopped refl)
-
-pub evacuated_of : (old room u : Ledger) (versions : List ℕ) (d : Draft) (done : Done) → room ≡ freed (narrowed old versions) → Grown room u → (done ≡ Whole → IsDense u) → (done ≡ Stopped → IsUsedUp u) → (done ≡ Stopped → HasSparse u)
-    → ((k : ℕ) → slice_index d.usage.live k ≡ slice_index u.live k) → Evacuated old u d
-evacuated_of old room u versions d done after grown whole stopped some counts = record {
-  last_live = ap (λ (f : Frozen). f.live) grown.frozen ∙ ap (λ (l : Ledger). l.last_live) after;
-  last_open = ap (λ (f : Frozen). f.open_chunk) grown.frozen ∙ ap (λ (l : Ledger). l.last_open) after;
-  passes = ap (λ (f : Frozen). f.passes) grown.frozen ∙ ap (λ (l : Ledger). l.passes) after;
-  opened = λ k o. elim (grown.opens k o) [ inl h ↦ inl (sym (ap (λ (l : Ledger). is_open l.open_chunk k) after) ∙ h) | inr z ↦ inr (sym (ap (λ (l : Ledger). slice_index l.live k) after) ∙ z) ];
-  moved = either_end done (λ e k here shut. let c = counts k in let more = whole e k (omega arith) shut in omega arith) (λ e. (stopped e, some e));
-}
-
--- where a try before it left that usage
-pub caused_from : (old mid : Ledger) (d : Draft) (key : List ℕ) (written : ℕ) (asks : List ℕ → List ℕ) (f : Full) → Grown old mid → ((k : ℕ) → slice_index mid.live k ≡ slice_index old.live k) → CausedFrom mid d key written asks f → CausedFrom old d key written asks f
-caused_from old mid d key written asks f g counts c = (
-  c.0,
-  record {
-    last_live = c.1.last_live ∙ ap (λ (x : Frozen). x.live) g.frozen;
-    last_open = c.1.last_open ∙ ap (λ (x : Frozen). x.open_chunk) g.frozen;
-    passes = c.1.passes ∙ ap (λ (x : Frozen). x.passes) g.frozen;
-    opened = λ k o. elim (c.1.opened k o) [ inl h ↦ g.opens k h | inr z ↦ inr (sym (counts k) ∙ z) ];
-    moved = c.1.moved;
-  },
-  c.2,
-)
-
 -- ---- the cells were lent by a seat that knew so much, and came back as they are now
+
+pub leaves_moved : {first lent : Cells} {u n : Ledger} → Fenced HasCell kept_references given_chunks reserve_account_of first u lent n → Ready kept_references given_chunks account_of lent n → Leaves first lent u n
+leaves_moved frame ready = record { given_stays = frame.given_stays; opens = frame.opens; grows = frame.grows; last = frame.last; same = ready.same }
 
 module _ (first lent : Cells) (v w : Known) (u n : Ledger)
     (begun : first ≡ cells_with u v.turn) (back : cells_of lent.chunks w.turn ≡ record lent { kept = kept_in v.turn }) (seat : w ≡ with_words v lent.words)
-    (frame : Fenced HasCell kept_references given_chunks account_of first u lent n) (ready : Ready kept_references given_chunks account_of lent n) (wide : lent.chunks ≡ length u.given)
+    (leaves : Leaves first lent u n) (wide : lent.chunks ≡ length u.given)
     (count : ℕ) (agrees : Agrees (cells_with u v.turn) u count) where
   -- the trie stands for the same entries
-  pub moved_of : (root new : Option ℕ) (done : Done) → IsLedger u
+  pub moved_of : (root new : Option ℕ) (done : Done) → IsLedger n
       → ((es : List Entry) → Standing (HasCell first) (is_used u) (slice_index u.live) root es → Standing (HasCell lent) (is_used n) (slice_index n.live) new es)
-      → (done ≡ Whole → IsDense n) → (done ≡ Stopped → IsUsedUp n) → (done ≡ Stopped → HasSparse n) → Moved root v u w n new done
-  moved_of root new done known stands whole stopped some = record {
+      → (IsCleared u → n ≡ u) → FillsNew u n → (done ≡ Whole → IsDense n) → (done ≡ Stopped → IsUsedUp n) → (done ≡ Stopped → HasSparse n) → Moved root v u w n new done
+  moved_of root new done known stands none fills whole stopped some = record {
     stands = λ es s.
-        let h = entered first lent v w u n begun back seat frame ready wide count agrees root es s in
-        left first lent v w u n begun back seat frame ready wide count agrees new es (record { stands = stands es h.stands; tells = h.tells });
-    same = words_seat first lent v w u n begun back seat frame ready wide count agrees;
-    wide = wide_now first lent v w u n begun back seat frame ready wide count agrees;
-    frozen = frame.last;
-    given = given_now first lent v w u n begun back seat frame ready wide count agrees;
-    opens = opens_now first lent v w u n begun back seat frame ready wide count agrees known;
-    whole = whole;
-    stopped = stopped;
-    left = some;
+        let h = entered first lent v w u n begun back seat leaves wide count agrees root es s in
+        left first lent v w u n begun back seat leaves wide count agrees new es (record { stands = stands es h.stands; tells = h.tells });
+    same = words_seat first lent v w u n begun back seat leaves wide count agrees;
+    evacuates = record {
+      ledger = known;
+      grown = grown_now first lent v w u n begun back seat leaves wide count agrees;
+      fills = fills;
+      none = none;
+      whole = whole;
+      stopped = λ e. (stopped e, some e);
+    };
   }

@@ -10,7 +10,7 @@ use Rattle.pin_core.specs.declared.kept.Kept.{Kept}
 use Rattle.pin_core.specs.Words.{status_at, size_of}
 use Rattle.pin_core.proofs.Lists.{contains_cases}
 use Rattle.trie_model.specs.Keys.{Entry}
-use Rattle.chunk_usage.specs.Ledger.{Ledger, Row, IsLedger, row_of, is_used, is_fresh}
+use Rattle.chunk_usage.specs.Ledger.{Ledger, Row, IsLedger, row_of, is_used, is_mutable}
 use Rattle.chunk_usage.specs.Keeping.{AreOlder, frozen}
 use Rattle.shared_cells.specs.declared.view.Entry.{Entry as Commit}
 use Rattle.shared_cells.specs.declared.view.PassView.{PassView}
@@ -80,7 +80,7 @@ module _ (v : Known) (u : Ledger) (is : IsLedger u) (count : ℕ) (agrees : Agre
         stood = subst (IsVersion image root) (made ∙ sym next) (version_image (cells_with u v.turn) u es root works);
       }
 
-  module _ (w : Known) (new : Ledger) (version : ℕ) (number : version ≡ length v.seen.history + 1) (after : new ≡ frozen u version) (settled : (q : ℕ) → is_used new q ≡ true → is_fresh new q ≡ false)
+  module _ (w : Known) (new : Ledger) (version : ℕ) (number : version ≡ length v.seen.history + 1) (after : new ≡ frozen u version) (settled : (q : ℕ) → is_used new q ≡ true → is_mutable new q ≡ false)
       (kept_now : kept_in w.turn ≡ kept_in v.turn ++ kept_of (length v.seen.history + 1) root image ∷ []) (words_now : words_of w.turn ≡ words_of v.turn) where
     abbrev chunks : ℕ
     chunks = length u.given

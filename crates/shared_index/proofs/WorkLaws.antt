@@ -17,7 +17,7 @@ use Rattle.shared_index.specs.declared.change.Unchanged.{Unchanged}
 use Rattle.shared_index.specs.declared.change.Unchanged.TheVariants as unchanged
 use Rattle.shared_index.specs.declared.change.Unchanged.TheVariants.{Refused}
 use Rattle.shared_index.specs.declared.desk.Draft.{Draft}
-use Rattle.chunk_usage.specs.Keeping.{kept_versions, narrowed}
+use Rattle.chunk_usage.specs.Keeping.{freed, kept_versions, narrowed}
 use Rattle.shared_index.specs.declared.kept.Versions.{Versions}
 use Rattle.shared_index.specs.declared.refusal.Full.{Full}
 use Rattle.shared_index.specs.declared.meaning.Operation.{Operation}
@@ -29,7 +29,7 @@ use Rattle.shared_index.specs.Changes.{operation_of, IsRefused}
 use Rattle.shared_index.specs.Drafts.{Works, Operates, IsFull, Between, Commits, working_set}
 use Rattle.shared_index.specs.Fulls.{CausedFrom, full_with}
 use Rattle.shared_index.specs.Tries.{Tried}
-use Rattle.shared_index.specs.Keepings.{GoesOn, versions_in}
+use Rattle.shared_index.specs.Keepings.{GoesOn, KeptBy, Rounds, versions_in}
 use Rattle.shared_index.proofs.AttemptLaws.{rooted_there}
 use Rattle.shared_index.proofs.GoesLaws.{words_go_on, goes_further, base_goes_on, applied_more}
 
@@ -59,6 +59,15 @@ pub stands_narrowed : (v w : Known) (u new : Ledger) (versions : List ℕ) (root
 stands_narrowed v w u new versions root es words after s =
     let there = rooted_there (cells_with u v.turn) (cells_with u w.turn) refl words u root es s in
     subst (λ (l : Ledger). StandsFor w l root es) (sym after) (record { stands = there.stands; tells = there.tells })
+
+-- a round, and the freeing behind it
+pub rounds_of : {current passes : ℕ} {before namings after : List Naming} {u round n : Ledger} → KeptBy current passes before namings (kept_versions round) → round ≡ narrowed u (kept_versions round) → n ≡ freed round → after ≡ namings → Rounds current passes before after u n
+rounds_of {current} {passes} {before} {namings} {after} {u} {round} {n} kept narrow free same =
+    let stay : kept_versions n ≡ kept_versions round = ap kept_versions free in
+    record {
+      kept = subst (λ (ns : List Naming). KeptBy current passes before ns (kept_versions n)) (sym same) (subst (KeptBy current passes before namings) (sym stay) kept);
+      frees = free ∙ ap freed (narrow ∙ ap (narrowed u) (sym stay));
+    }
 
 -- the same set, known by a view that goes on
 pub stands_on : (v w : Known) (u : Ledger) (root : Option ℕ) (operations : List Operation) → GoesOn v w → StandsFor w u root (applied (version_seen v.seen) operations) → StandsFor w u root (applied (version_seen w.seen) operations)
@@ -137,7 +146,7 @@ between_as o denied A B C D None None done still forth back h = h
 -- where a change finds no room, the cause that it tells holds with the list of kept versions that is told besides
 pub cause_told : (key : List ℕ) (written : ℕ) (asks : List ℕ → List ℕ) (old new : Option Draft) (r : Result (Unit {0}) Unchanged) (e : Unchanged) (full : NoRoom) (told f : Full) → r ≡ Err e → e ≡ unchanged.Full full
     → (kept : Versions) × IfSome new (λ d. versions_in kept ≡ kept_versions d.usage) × (told ≡ full_with full kept) → told ≡ f
-    → ((n : NoRoom) (kept : Versions) → r ≡ Err (unchanged.Full n) → IfSome new (λ d. versions_in kept ≡ kept_versions d.usage) → Between (λ d e. CausedFrom d.usage e key written asks (full_with n kept)) old new)
-    → Between (λ d e. CausedFrom d.usage e key written asks f) old new
+    → ((n : NoRoom) (kept : Versions) → r ≡ Err (unchanged.Full n) → IfSome new (λ d. versions_in kept ≡ kept_versions d.usage) → Between (λ d e. CausedFrom d e key written asks (full_with n kept)) old new)
+    → Between (λ d e. CausedFrom d e key written asks f) old new
 cause_told key written asks old new r e full told f is field made same cause =
-    subst (λ (x : Full). Between (λ d e. CausedFrom d.usage e key written asks x) old new) (sym made.2 ∙ same) (cause full made.0 (subst (λ (u : Unchanged). r ≡ Err u) field is) made.1)
+    subst (λ (x : Full). Between (λ d e. CausedFrom d e key written asks x) old new) (sym made.2 ∙ same) (cause full made.0 (subst (λ (u : Unchanged). r ≡ Err u) field is) made.1)

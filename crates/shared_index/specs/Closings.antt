@@ -1,10 +1,12 @@
 -- What is known of an index when it ends.
-use Rattle.std.specs.Prelude.{◌≡◌, ℕ, ◌+◌, ◌<◌, List, length, Some, All, Contains}
+use Rattle.std.specs.Prelude.{◌≡◌, ◌⊎◌, ℕ, ◌+◌, ◌<◌, List, length, Some, All, Contains}
+use Rattle.atomic_table.specs.Seated.{TableId}
 use Rattle.trie_model.specs.Keys.{Entry}
 use Rattle.shared_cells.specs.declared.view.Entry.{Entry as Commit}
 use Rattle.shared_cells.specs.declared.view.Naming.{Naming}
 use Rattle.shared_cells.specs.declared.view.Seen.{Seen}
 use Rattle.shared_cells.specs.declared.view.PassView.{PassView}
+use Rattle.shared_cells.specs.declared.turn.TurnSeat.{TurnSeat}
 use Rattle.shared_cells.specs.History.{IsPartOf, StartsWith, entries_by}
 use Rattle.shared_cells.specs.Views.{number_of}
 use Rattle.shared_index.specs.declared.meaning.Operation.{Operation}
@@ -45,6 +47,10 @@ pub record Ends (count : ℕ) (passes : List Known) (version : ℕ) (last : AllS
   -- where all were handed in, all commits and namings are theirs
   pub commits : AreAll count passes → All (IsCommitOf passes) last.history
   pub namings : AreAll count passes → All (IsNamingOf passes) last.namings
+
+-- Where no pass was handed in: as many commits as the turn of this table had seen, at its seat; or none, where the turn was not there.
+abbrev pub IsOfTurn : TableId → ℕ → Type 0
+IsOfTurn table version = ((seat : TurnSeat (List Entry) (List Operation)) × (seat.place.table_id ≡ table) × (version ≡ length seat.place.me.0.seen.history)) ⊎ (version ≡ 0)
 
 -- One pass took the version, when it had learnt what the others had seen.
 pub record Gathers (count : ℕ) (first after : Known) (others : List Known) (version : ℕ) (last : AllSeen) : Type 0 where

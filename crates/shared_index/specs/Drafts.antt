@@ -1,6 +1,5 @@
 -- What a transaction has: its base, and its working set.
-use Rattle.std.specs.Prelude.{◌≡◌, ◌↔◌, ◌⊎◌, ℕ, List, [], ◌∷◌, ◌++◌, Option, Some, None, IsSome, Contains}
-use Rattle.packed_node.specs.declared.Cell.{Cell}
+use Rattle.std.specs.Prelude.{◌≡◌, ◌↔◌, ◌⊎◌, ℕ, List, [], ◌∷◌, ◌++◌, Option, Some, IsSome, Contains}
 use Rattle.trie_model.specs.Keys.{Entry}
 use Rattle.shared_cells.specs.declared.pass.PassSeat.{PassSeat}
 use Rattle.chunk_usage.specs.Handing.{Lacks}
@@ -9,13 +8,11 @@ use Rattle.shared_cells.specs.declared.view.PassView.{PassView}
 use Rattle.shared_cells.specs.History.{StartsWith, entry_of}
 use Rattle.shared_cells.specs.Views.{pass_of}
 use Rattle.shared_cells.specs.Steps.{IsNamed}
-use Rattle.shared_cells.specs.Cells.{HasCell}
 use Rattle.shared_index.specs.declared.meaning.Operation.{Operation}
 use Rattle.shared_index.specs.declared.desk.Draft.{Draft}
 use Rattle.shared_index.specs.declared.refusal.Full.{Full}
 use Rattle.shared_index.specs.Operations.{applied}
 use Rattle.shared_index.specs.Passes.{Known, known_at, version_seen}
-use Rattle.shared_index.specs.Turns.{cells_with}
 use Rattle.shared_index.specs.Bases.{StandsFor, Joined}
 use Rattle.shared_index.specs.Keepings.{GoesOn, versions_in}
 
@@ -30,11 +27,6 @@ working_set d = applied (base_of d) d.log.operations
 -- the root stands for the working set
 abbrev pub Works : Draft → Type 0
 Works d = StandsFor d.seat.place.me.0 d.usage d.root (working_set d)
-
--- the cells that a transaction has in use
-abbrev pub HasIn : Option Draft → ℕ → Cell → Type 0
-HasIn None at c = ⊥
-HasIn (Some d) at c = HasCell (cells_with d.usage d.seat.place.me.0.turn) at c
 
 -- A transaction begins: the pass has joined the turn, and nothing was done to the base.
 pub record Begins (lawful : List Entry → List Entry → Type 0) (before : Known) (d : Draft) : Type 0 where

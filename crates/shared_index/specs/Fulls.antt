@@ -3,10 +3,8 @@ use Rattle.std.specs.Prelude.{◌≡◌, ◌⊎◌, ℕ, ◌+◌, ◌-◌, ◌*�
 use Rattle.std.specs.List.{sum_by}
 use Rattle.trie_model.specs.Shape.{cells}
 use Rattle.chunk_usage.specs.declared.space.Full.{Full as NoRoom}
-use Rattle.chunk_usage.specs.Ledger.{Ledger, frozen_part, is_open, is_given, free_count, reserve_of}
-use Rattle.chunk_usage.specs.Keeping.{is_in_rows, freed, narrowed}
-use Rattle.evacuate.specs.Evacuations.{HasSparse}
-use Rattle.evacuate.specs.Fillings.{IsFull as IsUsedUp}
+use Rattle.chunk_usage.specs.Ledger.{Ledger, is_open, is_given, free_count, reserve_of}
+use Rattle.chunk_usage.specs.Keeping.{is_in_rows, kept_versions}
 use Rattle.shared_cells.specs.History.{version_after}
 use Rattle.shared_index.specs.declared.desk.Draft.{Draft}
 use Rattle.shared_index.specs.declared.kept.Versions.{Versions}
@@ -15,7 +13,8 @@ use Rattle.shared_index.specs.Operations.{applied}
 use Rattle.shared_index.specs.Passes.{Known, first_version}
 use Rattle.shared_index.specs.Drafts.{working_set}
 use Rattle.shared_index.specs.Keepings.{versions_in}
-use Rattle.shared_index.specs.Tries.{PathHas, PathHasEach, OpensUnused}
+use Rattle.shared_index.specs.Rooms.{Fails, MakesRoom}
+use Rattle.shared_index.specs.Tries.{PathHas, PathHasEach}
 use Rattle.trie_model.specs.Keys.{Entry}
 
 -- the version of a number that was seen
@@ -30,7 +29,7 @@ cells_kept v versions = sum_by (λ n. cells (version_at v n)) versions
 abbrev pub full_with : NoRoom → Versions → Full
 full_with f versions = record { needed = f.needed; left = f.left; free = f.free; reserve = f.reserve; kept = versions }
 
--- At the refused request of a call that made a round and freed what nothing needed, so that the usage was this.
+-- At the refused request of a call, behind a round and a freeing that left this usage.
 -- The call is for a key, and writes so many cells beside the twigs on the key's path. Where the branches there have so many twigs, it
 -- asks for these numbers of cells.
 pub record FullCause (after : Ledger) (d : Draft) (key : List ℕ) (written : ℕ) (asks : List ℕ → List ℕ) (f : Full) : Type 0 where
@@ -52,26 +51,15 @@ pub record FullCause (after : Ledger) (d : Draft) (key : List ℕ) (written : �
   -- goes with a branch of the key's path.
   pub many_cells : length d.usage.given - reserve_of d.usage - 2 ≤ cells (working_set d) + cells_kept d.seat.place.me.0 (versions_in f.kept)
 
--- the usage after the call's round and freeing, which kept the versions that are told
-abbrev pub after_room : Ledger → Full → Ledger
-after_room u f = freed (narrowed u (versions_in f.kept))
+-- The call's first try had found no room either, and this was left when room was made, with the versions that are told.
+pub record CausedBy (first d : Draft) (key : List ℕ) (written : ℕ) (asks : List ℕ → List ℕ) (f : Full) : Type 0 where
+  pub left : Draft
+  pub makes : MakesRoom first left
+  pub kept : versions_in f.kept ≡ kept_versions left.usage
+  pub fails : Fails left d
+  pub cause : FullCause left.usage d key written asks f
 
--- While cells are handed out allocated chunks stay so, and what was frozen stays.
-pub record Grown (old new : Ledger) : Type 0 where
-  pub frozen : frozen_part new ≡ frozen_part old
-  pub given : (k : ℕ) → is_given old k ≡ true → is_given new k ≡ true
-  pub opens : OpensUnused old new
-
--- A call that found no room had made a round before, and had moved what lay in sparse chunks, so that the usage was u. What was frozen
--- is as it was, but for the rows of versions that no pass reads.
-pub record Evacuated (old u : Ledger) (d : Draft) : Type 0 where
-  pub last_live : u.last_live ≡ old.last_live
-  pub last_open : u.last_open ≡ old.last_open
-  pub passes : u.passes ≡ old.passes
-  pub opened : OpensUnused old u
-  -- no chunk was free for what is left in sparse ones; or of each chunk that has cells that count, but the bump chunk, over 256 do
-  pub moved : (IsUsedUp u × HasSparse u) ⊎ ((k : ℕ) → 0 < slice_index d.usage.live k → is_open u.open_chunk k ≡ false → 256 < slice_index d.usage.live k)
-
--- The same, where the call's first try, a round and an evacuation left some usage to the last round.
-abbrev pub CausedFrom : Ledger → Draft → List ℕ → ℕ → (List ℕ → List ℕ) → Full → Type 0
-CausedFrom old d key written asks f = (u : Ledger) × Evacuated old u d × FullCause (after_room u f) d key written asks f
+pub record CausedFrom (old d : Draft) (key : List ℕ) (written : ℕ) (asks : List ℕ → List ℕ) (f : Full) : Type 0 where
+  pub first : Draft
+  pub fails : Fails old first
+  pub caused : CausedBy first d key written asks f

@@ -7,8 +7,9 @@ pub mod Drafts
 pub mod Logged
 pub mod Changes
 pub mod Tries
-pub mod Movings
 pub mod Keepings
+pub mod Movings
+pub mod Rooms
 pub mod Images
 pub mod Openings
 pub mod Fulls

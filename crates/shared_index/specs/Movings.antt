@@ -1,32 +1,34 @@
 -- What lies in sparse chunks, moved: on the turn's cells, from a root.
-use Rattle.std.specs.Prelude.{◌≡◌, ℕ, ◌≤◌, nat_lt, Bool, true, ◌&&◌, List, length, count_by, Option, slice_index}
+use Rattle.std.specs.Prelude.{◌≡◌, ℕ, ◌≤◌, nat_lt, Bool, ◌&&◌, List, length, count_by, Option, slice_index}
 use Rattle.std.specs.List.{range_with_len}
 use Rattle.trie_model.specs.Keys.{Entry}
-use Rattle.chunk_usage.specs.Ledger.{Ledger, is_given, frozen_part}
+use Rattle.chunk_usage.specs.Ledger.{Ledger, IsLedger}
 use Rattle.chunk_usage.specs.Counting.{is_sparse}
 use Rattle.evacuate.specs.declared.evacuation.Done.{Done}
 use Rattle.evacuate.specs.declared.evacuation.Done.TheVariants.{Whole, Stopped}
-use Rattle.evacuate.specs.Evacuations.{IsDense, HasSparse}
+use Rattle.evacuate.specs.Evacuations.{FillsNew, IsCleared, IsDense, HasSparse}
 use Rattle.evacuate.specs.Fillings.{IsFull as IsUsedUp}
 use Rattle.shared_cells.specs.Views.{words_of}
 use Rattle.shared_cells.specs.Cells.{with_words}
 use Rattle.shared_index.specs.Passes.{Known}
 use Rattle.shared_index.specs.Bases.{StandsFor}
-use Rattle.shared_index.specs.Tries.{OpensUnused}
+use Rattle.shared_index.specs.Tries.{Grown}
 
--- The new root stands for what the root stood for.
+-- What lay in sparse chunks was moved, to chunks that were free, which it fills; where nothing did, nothing was done.
+pub record Evacuates (u n : Ledger) (done : Done) : Type 0 where
+  pub ledger : IsLedger n
+  pub grown : Grown u n
+  pub fills : FillsNew u n
+  pub none : IsCleared u → n ≡ u
+  -- of each chunk that has cells that count, but the bump chunk, over 256 do; or no chunk was free for what is left in sparse ones
+  pub whole : done ≡ Whole → IsDense n
+  pub stopped : done ≡ Stopped → IsUsedUp n × HasSparse n
+
+-- The new root stands for what the root stood for. What the turn knows is the same but for the words.
 pub record Moved (root : Option ℕ) (v : Known) (u : Ledger) (w : Known) (n : Ledger) (new : Option ℕ) (done : Done) : Type 0 where
   pub stands : (es : List Entry) → StandsFor v u root es → StandsFor w n new es
-  -- what the turn knows is the same but for the words, and so is what was frozen; allocated chunks stay so
   pub same : w ≡ with_words v (words_of w.turn)
-  pub wide : length n.given ≡ length u.given
-  pub frozen : frozen_part n ≡ frozen_part u
-  pub given : (k : ℕ) → is_given u k ≡ true → is_given n k ≡ true
-  pub opens : OpensUnused u n
-  -- of each chunk that has cells that count, but the bump chunk, over 256 do; or no chunk was free
-  pub whole : done ≡ Whole → IsDense n
-  pub stopped : done ≡ Stopped → IsUsedUp n
-  pub left : done ≡ Stopped → HasSparse n
+  pub evacuates : Evacuates u n done
 
 -- cells of the chunk count, but few of them do
 abbrev pub is_thin : Ledger → ℕ → Bool

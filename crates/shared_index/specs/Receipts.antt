@@ -1,49 +1,54 @@
--- What a commit tells of the round behind it.
-use Rattle.std.specs.Prelude.{◌≡◌, ◌↔◌, ◌+◌, ◌<◌, ◌≤◌, ℕ, true, false, List, [], ◌∷◌, ◌++◌, Option, Some, None, length, Contains, slice_index}
-use Rattle.std.specs.List.{AllPairs}
-use Rattle.pin_core.specs.declared.kept.Mark.{Mark}
-use Rattle.trie_model.specs.Keys.{Entry}
-use Rattle.trie_model.specs.Trees.{Tree, entries_of, IsTree}
-use Rattle.trie_model.specs.Reach.{live_in}
+-- What a commit tells of itself.
+use Rattle.std.specs.Prelude.{◌≡◌, ◌+◌, ◌<◌, ◌≤◌, ℕ, Bool, true, false, Some, length}
+use Rattle.chunk_usage.specs.Counting.{sparse_count}
 use Rattle.chunk_usage.specs.Ledger.{Ledger, free_count}
-use Rattle.chunk_usage.specs.Keeping.{freed, frozen, narrowed}
-use Rattle.shared_cells.specs.Views.{namings_by}
-use Rattle.shared_cells.specs.Steps.{IsDue}
+use Rattle.chunk_usage.specs.Keeping.{frozen, kept_versions}
+use Rattle.evacuate.specs.declared.evacuation.Done.{Done}
+use Rattle.evacuate.specs.declared.evacuation.Done.TheVariants.{Whole, Stopped}
+use Rattle.shared_cells.specs.Views.{words_of}
+use Rattle.shared_cells.specs.Steps.{Published}
 use Rattle.shared_index.specs.declared.commit.Receipt.{Receipt}
-use Rattle.shared_index.specs.Fulls.{Grown}
+use Rattle.shared_index.specs.declared.desk.Draft.{Draft}
+use Rattle.shared_index.specs.Drafts.{Works}
+use Rattle.shared_index.specs.Images.{image_at}
+use Rattle.shared_index.specs.Keepings.{GoesOn, Rounds}
+use Rattle.shared_index.specs.Movings.{Evacuates, FewThin}
 use Rattle.shared_index.specs.Passes.{Known}
-use Rattle.shared_index.specs.Movings.{FewThin}
 
--- the counts are those of a trie of these entries at the root
-abbrev pub AreCountsOf : (ℕ → ℕ) → Option ℕ → List Entry → Type 0
-AreCountsOf live None es = (es ≡ []) × ((k : ℕ) → live k ≡ 0)
-AreCountsOf live (Some r) es = (t : Tree) × IsTree 0 t × (entries_of t ≡ es) × ((k : ℕ) → live k ≡ live_in k r t)
+-- how an evacuation ended, by whether what it moved is whole
+abbrev pub ended : Bool → Done
+ended true = Whole
+ended false = Stopped
 
--- A working set that was known so, with this usage, was published, of an index of so many passes, and its pass then has seen that.
-pub record Rounds (before : Known) (u : Ledger) (passes : ℕ) (after : Known) (r : Receipt) : Type 0 where
-  -- what the round found each pass to read, which is all that was listed since
-  pub marks : List Mark
-  pub each : length marks ≡ passes
-  pub listed : after.seen.namings ≡ before.seen.namings ++ namings_by 0 marks
-  -- the versions that it kept: exactly the new one, which is the last, and those that some pass was found reading
-  pub versions : List ℕ
-  pub rising : AllPairs (λ v w. v < w) versions
-  pub exact : (v : ℕ) → Contains versions v ↔ IsDue r.version marks v
-  pub ends : (older : List ℕ) × (versions ≡ older ++ r.version ∷ [])
-  pub count : r.kept ≡ length versions
-  pub few : length versions ≤ passes + 1
-  -- and the chunks that were freed behind it: those that none of them needs
-  pub recycled : free_count (freed (narrowed (frozen u r.version) versions)) ≡ free_count u + r.freed
+-- A working set was made ready for a commit: where so many chunks are sparse, or fewer, nothing was done; else what lay in them was moved.
+pub record Settles (most : ℕ) (first d : Draft) (whole : Bool) : Type 0 where
+  pub goes_on : GoesOn first.seat.place.me.0 d.seat.place.me.0
+  pub seen : d.seat.place.me.0.seen ≡ first.seat.place.me.0.seen
+  pub works : Works d
+  pub log : d.log.operations ≡ first.log.operations
+  pub few : sparse_count first.usage ≤ most → (d.usage ≡ first.usage) × (whole ≡ true)
+  pub many : most < sparse_count first.usage → Evacuates first.usage d.usage (ended whole)
 
--- The same of a transaction that was known so, with this usage, whose working set was of these entries.
-pub record Recycles (most : ℕ) (es : List Entry) (before : Known) (u : Ledger) (passes : ℕ) (after : Known) (r : Receipt) : Type 0 where
-  -- the usage as it was published. What lay in sparse chunks was moved first, if these were more than so many.
-  pub settled : Ledger
-  pub grown : Grown u settled
-  pub rounds : Rounds before settled passes after r
-  -- Its counts are the new version's. Of no more chunks than so many, beside the bump chunk, does that have cells, and 256 or fewer;
-  -- or no chunk was free, so that those that are now free are those that were freed.
-  pub root : Option ℕ
-  pub counts : AreCountsOf (λ k. slice_index settled.live k) root es
-  pub whole : r.whole ≡ true → FewThin most settled
-  pub stopped : r.whole ≡ false → free_count settled ≡ 0
+-- It was published, and a round was made behind that.
+pub record Publishes (d : Draft) (after : Known) (r : Receipt) : Type 0 where
+  -- what the turn then knew: the new version's root is that of the working set, and CUR has it
+  pub published : Known
+  pub publishes : Published d.seat.place.me.0 (Some d.log.operations) d.root (image_at (words_of d.seat.place.me.0.turn) d.root) published
+  -- its pass has seen this, and the round behind it
+  pub history : after.seen.history ≡ published.seen.history
+  pub pass : after.pass ≡ published.pass
+  -- the usage that the round left; how many chunks were freed, and how many versions are kept
+  pub left : Ledger
+  pub round : Rounds r.version d.seat.passes d.seat.place.me.0.seen.namings after.seen.namings (frozen d.usage r.version) left
+  pub freed : free_count left ≡ free_count d.usage + r.freed
+  pub kept : r.kept ≡ length (kept_versions left)
+
+-- The same of a transaction with this draft, whose commit leaves so many chunks sparse.
+pub record Recycles (most : ℕ) (first : Draft) (after : Known) (r : Receipt) : Type 0 where
+  pub settled : Draft
+  pub settles : Settles most first settled r.whole
+  pub publishes : Publishes settled after r
+  -- So of no more chunks than so many, beside the bump chunk, does the new version have cells, and 256 or fewer; or no chunk was free,
+  -- so that those that are now free are those that were freed.
+  pub whole : r.whole ≡ true → FewThin most settled.usage
+  pub stopped : r.whole ≡ false → free_count settled.usage ≡ 0

@@ -1,8 +1,8 @@
 -- An operation tried: on the turn's cells, from a root.
-use Rattle.std.specs.Prelude.{◌≡◌, ◌↔◌, ◌⊎◌, ℕ, ◌+◌, ◌≤◌, true, List, Contains, length, Option, Result, Err, IfOk, IfErr, slice_index}
+use Rattle.std.specs.Prelude.{◌≡◌, ◌↔◌, ◌⊎◌, ℕ, ◌+◌, ◌≤◌, true, false, List, Contains, length, Option, Result, Err, IfOk, IfErr, slice_index}
 use Rattle.trie_model.specs.Keys.{Entry}
 use Rattle.chunk_usage.specs.declared.space.Full.{Full as NoRoom}
-use Rattle.chunk_usage.specs.Ledger.{Ledger, is_open, is_used, is_given, frozen_part}
+use Rattle.chunk_usage.specs.Ledger.{Ledger, is_open, is_used, is_given, frozen_part, reserved}
 use Rattle.chunk_usage.specs.Handing.{Lacks, spent}
 use Rattle.trie_write.specs.Roots.{OnPath, OnBranches}
 use Rattle.shared_cells.specs.Views.{words_of}
@@ -24,9 +24,17 @@ PathHas v u root key n = OnPath (HasCell (cells_with u v.turn)) (is_used u) (λ 
 abbrev pub PathHasEach : Known → Ledger → Option ℕ → List ℕ → List ℕ → Type 0
 PathHasEach v u root key branches = OnBranches (HasCell (cells_with u v.turn)) (is_used u) (λ k. slice_index u.live k) root key branches
 
--- the bump chunk is the one that it was, or one none of whose cells counted
-abbrev pub OpensUnused : Ledger → Ledger → Type 0
-OpensUnused old new = (k : ℕ) → is_open new.open_chunk k ≡ true → (is_open old.open_chunk k ≡ true) ⊎ (slice_index old.live k ≡ 0)
+-- Cells were handed out: allocated chunks stay so, what was frozen stays, and a chunk that became the bump chunk was free.
+pub record Grown (old new : Ledger) : Type 0 where
+  pub wide : length new.given ≡ length old.given
+  pub frozen : frozen_part new ≡ frozen_part old
+  pub given : (k : ℕ) → is_given old k ≡ true → is_given new k ≡ true
+  pub opens : (k : ℕ) → is_open new.open_chunk k ≡ true → (is_open old.open_chunk k ≡ true) ⊎ (is_given old k ≡ false)
+
+-- and no chunk of the reserve was taken for them
+pub record Spares (old new : Ledger) : Type 0 where
+  pub grown : Grown old new
+  pub reserve : reserved new ≡ reserved old
 
 -- The new root stands for what the operation makes of the version; where there is none, the root stands for what it did.
 pub record Tried (c : Change) (root : Option ℕ) (v : Known) (u : Ledger) (w : Known) (n : Ledger) (r : Result (Option ℕ) Unchanged) : Type 0 where
@@ -35,12 +43,9 @@ pub record Tried (c : Change) (root : Option ℕ) (v : Known) (u : Ledger) (w : 
   pub stays : IfErr r (λ _. (es : List Entry) → StandsFor v u root es → StandsFor w n root es)
   pub full : (f : NoRoom) → r ≡ Err (Full f) → Lacks n f
   pub asked : (f : NoRoom) → r ≡ Err (Full f) → (branches : List ℕ) → PathHasEach v u root (key_of c) branches → Contains (asked_by c branches) f.needed
-  -- what the turn knows is the same but for the words, and so is what was frozen; allocated chunks stay so
+  -- what the turn knows is the same but for the words
   pub same : w ≡ with_words v (words_of w.turn)
-  pub wide : length n.given ≡ length u.given
-  pub frozen : frozen_part n ≡ frozen_part u
-  pub given : (k : ℕ) → is_given u k ≡ true → is_given n k ≡ true
-  pub opens : OpensUnused u n
+  pub spares : Spares u n
   -- without a new root the counts are as before
   pub counts : IfErr r (λ _. (k : ℕ) → slice_index n.live k ≡ slice_index u.live k)
   pub path : IfErr r (λ _. (twigs : ℕ) → PathHas v u root (key_of c) twigs → PathHas w n root (key_of c) twigs)

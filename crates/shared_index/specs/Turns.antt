@@ -3,7 +3,7 @@ use Rattle.std.specs.Prelude.{◌≡◌, ℕ, ◌+◌, ◌/◌, ◌≤◌, ◌==
 use Rattle.std.specs.List.{list_any, list_all, range_with_len}
 use Rattle.pin_core.specs.declared.kept.CellAt.{CellAt}
 use Rattle.pin_core.specs.declared.kept.Kept.{Kept}
-use Rattle.chunk_usage.specs.Ledger.{Ledger, Row, is_used, is_fresh}
+use Rattle.chunk_usage.specs.Ledger.{Ledger, Row, is_used, is_mutable}
 use Rattle.shared_cells.specs.declared.view.TurnView.{TurnView}
 use Rattle.shared_cells.specs.Cells.{Cells, cells_of, given_chunks, kept_references}
 
@@ -32,7 +32,7 @@ current_root (k ∷ j ∷ kept) = current_root (j ∷ kept)
 
 -- the cell is handed out, and was so at the last freeze
 abbrev pub is_immutable : Ledger → ℕ → Bool
-is_immutable u q = is_used u q && not (is_fresh u q)
+is_immutable u q = is_used u q && not (is_mutable u q)
 
 -- The usage is that of the turn's cells, of an index of so many passes, with at most so many rows.
 pub record AgreesWithin (most : ℕ) (cells : Cells) (u : Ledger) (count : ℕ) : Type 0 where

@@ -35,7 +35,6 @@ fn attempt_lent<L: Law, B: Lent<Version, Operations>>(
     ensures agrees { Agrees (cells_with usage.new result.0.place.me.0.turn) usage.new seat.passes }
     ensures tried { Tried change.now root seat.place.me.0 usage.old result.0.place.me.0 usage.new result.1 }
 {
-    usage.known();
     let mut cells = seat.lend::<Meaning<L>, B>(shared);
     let outcome = change_trie(&mut cells, usage, root, change);
     (cells.into_joined(), outcome)

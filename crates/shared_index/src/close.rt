@@ -1,11 +1,12 @@
 //! How an index ends. The passes that are handed in tell what was published: one takes the last version when it has learnt what
 //! the others have seen, and the others learn that of it.
 //!
-//! The turn isn't asked, since a lock's type doesn't say that the turn is there: a transaction that was forgotten has kept it.
-ghost use Rattle.std.specs.Prelude.{◌≡◌, [], IsSome, All, map, length};
+//! The turn isn't asked where there is a pass, since a lock's type doesn't say that the turn is there: a transaction that was
+//! forgotten has kept it.
+ghost use Rattle.std.specs.Prelude.{◌≡◌, [], IsSome, All, map};
 ghost use Rattle.shared_cells.specs.Steps.{Accounts};
 ghost use Rattle.shared_index.specs.Passes.{known_at};
-ghost use Rattle.shared_index.specs.Closings.{AllSeen, Ends, Gathers};
+ghost use Rattle.shared_index.specs.Closings.{AllSeen, Ends, Gathers, IsOfTurn};
 
 use crate::index::Index;
 use crate::meaning::{Law, Meaning, Named, Operations, Version};
@@ -51,6 +52,7 @@ impl<N: Named> Pass<N> {
         ensures accounted { (all : AllSeen) × Accounts index.now.shared.table.shared.key.passes (known_at self.old.seat) all }
     {
         let Some(mut seat) = self.seat.take() else {
+            // No query and no transaction of this pass has its seat.
             unreachable!()
         };
         look(&index.shared, &mut seat);
@@ -102,20 +104,26 @@ impl<L: Law, N: Named> Index<L, N> {
 
     // The current version's number, by the turn.
     fn version_at_rest(self) -> u64
-        ensures { (last : AllSeen) × (result ≡ length last.history) }
+        ensures ends { (last : AllSeen) × Ends self.shared.table.shared.key.passes [] result last }
+        ensures at_rest { IsOfTurn self.shared.table.shared.table_id result }
     {
-        let Index { turn, .. } = self;
+        let Index { place, turn, .. } = self;
         let Some(turn) = turn.into_inner() else {
             return 0;
         };
+        if turn.place != place {
+            return 0;
+        }
         turn.desk.seat.version
     }
 
     /// Ends the index, and tells the number of its current version: as many commits were made. It is no less than what these
-    /// passes had seen, and where they are all passes of the index, all commits are theirs.
+    /// passes had seen, and where they are all passes of the index, all commits are theirs. With no pass it is what the turn tells, and 0
+    /// where a transaction was forgotten, which has kept the turn.
     pub fn close(self, passes: Vec<Pass<N>>) -> u64
         requires here { All (λ p. (IsSome p.seat) × (p.place ≡ self.place)) passes.items }
         ensures ends { (last : AllSeen) × Ends self.shared.table.shared.key.passes (map (λ p. known_at p.seat) passes.items) result last }
+        ensures at_rest { passes.items ≡ [] → IsOfTurn self.shared.table.shared.table_id result }
     {
         let mut passes = passes;
         match passes.pop() {

@@ -84,10 +84,8 @@ fn publish<L: Law>(
 
 impl Draft {
     ghost use Rattle.shared_index.specs.Drafts.{Works, Commits, working_set};
-    ghost use Rattle.shared_index.specs.Fulls.{Grown};
-    ghost use Rattle.shared_index.specs.Keepings.{GoesOn};
     ghost use Rattle.shared_index.specs.Movings.{FewThin};
-    ghost use Rattle.shared_index.specs.Receipts.{Recycles, Rounds};
+    ghost use Rattle.shared_index.specs.Receipts.{Publishes, Recycles, Settles};
 
     // The number of the next version, if there is one.
     fn next_version<L: Law>(
@@ -118,13 +116,9 @@ impl Draft {
         requires table { self.seat.place.table_id ≡ shared.now.table.shared.table_id }
         requires works { Works self }
         ensures table { result.0.seat.place.table_id ≡ self.seat.place.table_id }
-        ensures goes_on { GoesOn self.seat.place.me.0 result.0.seat.place.me.0 }
-        ensures seen { result.0.seat.place.me.0.seen ≡ self.seat.place.me.0.seen }
-        ensures numbers { (result.0.seat.version ≡ self.seat.version) × (result.0.seat.passes ≡ self.seat.passes) }
+        ensures settles { Settles most self result.0 result.1 }
+        ensures version { result.0.seat.version ≡ self.seat.version }
         ensures versions { kept_in result.0.seat.place.me.0.turn ≡ kept_in self.seat.place.me.0.turn }
-        ensures works { Works result.0 }
-        ensures log { result.0.log.operations ≡ self.log.operations }
-        ensures grown { Grown self.usage result.0.usage }
         ensures whole { result.1 ≡ true → FewThin most result.0.usage }
         ensures stopped { result.1 ≡ false → free_count result.0.usage ≡ 0 }
     {
@@ -152,9 +146,8 @@ impl Draft {
         ensures tables { (result.0.seat.place.table_id ≡ self.seat.place.table_id) × (result.1.place.table_id ≡ self.seat.place.table_id) }
         ensures commits { Commits self.seat.place.me.0 self.log.operations result.1.place.me.0 }
         ensures version { result.2.version ≡ self.seat.version + 1 }
-        ensures freed { free_count result.0.usage ≡ free_count self.usage + result.2.freed }
         ensures whole { result.2.whole ≡ whole }
-        ensures receipt { Rounds self.seat.place.me.0 self.usage self.seat.passes result.1.place.me.0 result.2 }
+        ensures receipt { Publishes self result.1.place.me.0 result.2 }
     {
         let Draft {
             mut seat,
@@ -163,7 +156,7 @@ impl Draft {
             root,
             log,
         } = self;
-        usage.known();
+        usage.known(); // for the proof
         let version = publish(shared, &mut seat, root, &log);
         usage.freeze(version);
         make_round(shared, &mut seat, &mut usage);
@@ -187,7 +180,7 @@ impl Draft {
         ensures tables { (result.0.seat.place.table_id ≡ self.seat.place.table_id) × (result.1.place.table_id ≡ self.seat.place.table_id) }
         ensures commits { IfOk result.2 (λ _. Commits self.seat.place.me.0 self.log.operations result.1.place.me.0) }
         ensures version { IfOk result.2 (λ r. r.version ≡ self.seat.version + 1) }
-        ensures receipt { IfOk result.2 (λ r. Recycles most (working_set self) self.seat.place.me.0 self.usage self.seat.passes result.1.place.me.0 r) }
+        ensures receipt { IfOk result.2 (Recycles most self result.1.place.me.0) }
         ensures back { IfErr result.2 (λ _. result.1.place.me.0 ≡ pass_of self.seat.place.me.0) }
         ensures spent { IsErr result.2 ↔ (self.seat.version ≡ LAST_VERSION) }
         ensures last { IfErr result.2 (λ s. s.version ≡ self.seat.version) }

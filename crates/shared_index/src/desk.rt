@@ -60,7 +60,7 @@ impl Desk {
         ensures stands { StandsFor result.seat.place.me.0 result.usage result.root (version_seen result.seat.place.me.0.seen) }
     {
         let Desk { seat, usage, root } = self;
-        usage.known();
+        usage.known(); // for the proof
         let mut seat = seat.join(shared, pass);
         seat.look(shared);
         Draft {
@@ -83,7 +83,7 @@ impl Draft {
         ensures stands { (es : List Entry) → StandsFor self.old.seat.place.me.0 self.old.usage self.old.root es
             → StandsFor self.new.seat.place.me.0 self.new.usage self.new.root es }
     {
-        self.usage.start_chunk();
+        self.usage.fresh();
     }
 
     /// Goes back to the base, frees what only the working set needed, and gives the pass back.

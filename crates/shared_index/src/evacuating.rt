@@ -1,12 +1,10 @@
 //! What lies in sparse chunks, moved by who has the turn.
 ghost use Rattle.std.specs.Prelude.{◌≡◌, ◌+◌, ◌*◌, List, length};
 ghost use Rattle.trie_model.specs.Keys.{Entry};
-ghost use Rattle.evacuate.specs.Evacuations.{IsDense, HasSparse};
-ghost use Rattle.evacuate.specs.Fillings.{IsFull as IsUsedUp};
 ghost use Rattle.shared_cells.specs.Views.{kept_in};
 ghost use Rattle.shared_index.specs.Turns.{Agrees, cells_with};
 ghost use Rattle.shared_index.specs.Bases.{StandsFor};
-ghost use Rattle.shared_index.specs.Movings.{Moved};
+ghost use Rattle.shared_index.specs.Movings.{Evacuates, Moved};
 
 use crate::desk::Draft;
 use crate::meaning::{Law, Meaning, Operations, Version};
@@ -33,9 +31,9 @@ fn evacuate_lent<L: Law, B: Lent<Version, Operations>>(
     ensures agrees { Agrees (cells_with usage.new result.0.place.me.0.turn) usage.new seat.passes }
     ensures moved { Moved root seat.place.me.0 usage.old result.0.place.me.0 usage.new result.1 result.2 }
 {
-    usage.known();
     let mut cells = seat.lend::<Meaning<L>, B>(shared);
     let (root, done) = evacuate::evacuate(&mut cells, usage, root);
+    usage.known(); // for the proof
     (cells.into_joined(), root, done)
 }
 
@@ -60,7 +58,6 @@ fn evacuate<L: Law>(
 
 impl Draft {
     ghost use Rattle.shared_index.specs.Drafts.{Works};
-    ghost use Rattle.shared_index.specs.Fulls.{Grown};
     ghost use Rattle.shared_index.specs.Keepings.{GoesOn};
 
     /// Moves what the working set has in sparse chunks. The set is the same.
@@ -77,10 +74,7 @@ impl Draft {
         ensures versions { kept_in result.0.seat.place.me.0.turn ≡ kept_in self.seat.place.me.0.turn }
         ensures works { Works result.0 }
         ensures log { result.0.log.operations ≡ self.log.operations }
-        ensures grown { Grown self.usage result.0.usage }
-        ensures whole { result.1 ≡ Done.Whole → IsDense result.0.usage }
-        ensures stopped { result.1 ≡ Done.Stopped → IsUsedUp result.0.usage }
-        ensures left { result.1 ≡ Done.Stopped → HasSparse result.0.usage }
+        ensures evacuates { Evacuates self.usage result.0.usage result.1 }
     {
         let Draft {
             seat,

@@ -33,7 +33,7 @@ impl Versions {
         requires { length usage.now.rows ≤ usage.now.passes + 1 }
         ensures { versions_in result ≡ kept_versions usage.now }
     {
-        usage.known();
+        usage.known(); // for the proof
         let kept = usage.kept();
         let mut numbers = [0; MOST];
         for i in 0..kept.len() {

@@ -37,6 +37,7 @@ impl<N: Named> Pass<N> {
         ensures told { result.told.place.me.0.seen ≡ (known_at self.old.seat).seen }
     {
         let Some(mut seat) = self.seat.take() else {
+            // No query and no transaction of this pass has its seat.
             unreachable!()
         };
         let told = seat.note(&index.shared);
@@ -57,6 +58,7 @@ impl<N: Named> Pass<N> {
         ensures learnt { Learnt (known_at self.old.seat) (known_at self.new.seat) note.told.place.me.0.seen }
     {
         let Some(mut seat) = self.seat.take() else {
+            // No query and no transaction of this pass has its seat.
             unreachable!()
         };
         let Note { told, .. } = note;

@@ -1,5 +1,5 @@
 //! How an index begins.
-ghost use Rattle.std.specs.Prelude.{◌≡◌, ◌+◌, ◌*◌, ◌<◌, ◌≤◌, [], Some, IsSome, IfOk, IfErr, All, length, map, slice_get};
+ghost use Rattle.std.specs.Prelude.{◌≡◌, ◌*◌, ◌<◌, ◌≤◌, [], Some, IsSome, IfOk, IfErr, All, length, map, slice_get};
 ghost use Rattle.std.specs.List.{range_with_len};
 ghost use Rattle.std.proofs.Props.{props};
 ghost use Rattle.trie_model.specs.Keys.{Rises};
@@ -126,7 +126,7 @@ fn fill_lent<L: Law, B: Lent<Version, Operations>>(
     ensures spends { spent usage.new ≤ cells_in_trie (entries_of_items items.now) }
     ensures full { IfErr result.1 (λ f. Lacks usage.new f) }
 {
-    usage.known();
+    usage.known(); // for the proof
     let mut cells = turn.lend::<Meaning<L>, B>(shared);
     let built = build(&mut cells, usage, items);
     (cells.into_new(), built)
@@ -247,7 +247,7 @@ impl<L: Law, N: Named> Index<L, N> {
     {
         let mut usage = usage;
         let (turn, built) = fill(shared, turn, &mut usage, items);
-        usage.known();
+        usage.known(); // for the proof
         let Ok(root) = built else {
             // There was room: each chunk that was left for another has at most 255 cells left.
             unreachable!();

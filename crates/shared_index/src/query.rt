@@ -38,6 +38,7 @@ impl<N: Named> Pass<N> {
         ensures holds { Holds (pinned_image result.seat.place.me.0.progress) result.seat.root (version_seen result.seat.place.me.0.seen) }
     {
         let Some(seat) = self.seat.take() else {
+            // No query and no transaction of this pass has its seat.
             unreachable!()
         };
         let shared = &index.shared;

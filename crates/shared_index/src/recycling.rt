@@ -32,7 +32,7 @@ fn free_lent<L: Law, B: Lent<Version, Operations>>(
     ensures stands { (root : Option ℕ) (es : List Entry) → StandsFor seat.place.me.0 usage.old root es
         → StandsFor result.0.place.me.0 usage.new root es }
 {
-    usage.known();
+    usage.known(); // for the proof
     let mut cells = seat.lend::<Meaning<L>, B>(shared);
     let count = usage.free_unreached(&mut cells);
     (cells.into_joined(), count)

@@ -1,13 +1,12 @@
 //! Rounds of the turn: which versions are kept, and their rows.
-ghost use Rattle.std.specs.Prelude.{◌≡◌, ◌⊎◌, ◌+◌, ◌<◌, ◌≤◌, ◌∷◌, ◌++◌, [], ℕ, List, All, length, Contains};
-ghost use Rattle.std.specs.List.{AllPairs};
+ghost use Rattle.std.specs.Prelude.{◌≡◌, ◌⊎◌, ◌+◌, ℕ, All, Contains};
 ghost use Rattle.chunk_usage.specs.Keeping.{kept_versions, narrowed};
 ghost use Rattle.shared_cells.specs.Views.{kept_in, words_of};
-ghost use Rattle.shared_cells.specs.Steps.{Rounded, IsNamed};
+ghost use Rattle.shared_cells.specs.Steps.{IsNamed};
 ghost use Rattle.shared_index.specs.Meanings.{IsVersion};
 ghost use Rattle.shared_index.specs.Fulls.{version_at};
 ghost use Rattle.shared_index.specs.Turns.{Agrees, AgreesWithin, cells_with, current_root};
-ghost use Rattle.shared_index.specs.Keepings.{GoesOn};
+ghost use Rattle.shared_index.specs.Keepings.{GoesOn, KeptBy};
 
 use crate::meaning::{Law, Meaning, Operations, Version};
 use chunk_usage::Usage;
@@ -29,11 +28,7 @@ pub(crate) fn make_round<L: Law>(
     ensures agrees { Agrees (cells_with usage.new seat.new.place.me.0.turn) usage.new seat.old.passes }
     ensures root { current_root (kept_in seat.new.place.me.0.turn) ≡ current_root (kept_in seat.old.place.me.0.turn) }
     ensures images { All (λ k. IsVersion k.image k.root (version_at seat.old.place.me.0 k.version)) (kept_in seat.new.place.me.0.turn) }
-    ensures rounded { Rounded seat.old.place.me.0 seat.new.place.me.0 (kept_versions usage.new) }
-    ensures rising { AllPairs (λ v w. v < w) (kept_versions usage.new) }
-    ensures few { length (kept_versions usage.new) ≤ seat.old.passes + 1 }
-    // The current version is the last.
-    ensures ends { (older : List ℕ) × (kept_versions usage.new ≡ older ++ seat.old.version ∷ []) }
+    ensures kept { KeptBy seat.old.version seat.old.passes seat.old.place.me.0.seen.namings seat.new.place.me.0.seen.namings (kept_versions usage.new) }
     ensures named { (v : ℕ) → Contains (kept_versions usage.new) v → (v ≡ seat.old.version) ⊎ IsNamed seat.new.place.me.0 v }
 {
     seat.look(shared);

@@ -1,9 +1,12 @@
 //! Snapshots: a version that is held for as long as wanted.
-ghost use Rattle.std.specs.Prelude.{◌≡◌, Some, IsSome, slice_get};
+ghost use Rattle.std.specs.Prelude.{◌≡◌, List, Some, IsSome, slice_get};
+ghost use Rattle.trie_model.specs.Keys.{Entry};
+ghost use Rattle.shared_cells.specs.declared.pass.PassSeat.{PassSeat};
 ghost use Rattle.shared_cells.specs.declared.view.Progress.TheVariants as progress;
 ghost use Rattle.shared_cells.specs.Views.{with_progress, pinned_image};
 ghost use Rattle.shared_index.specs.Passes.{known_at, version_seen, Pinned};
 ghost use Rattle.shared_index.specs.Meanings.{Holds, IsVersion};
+ghost use Rattle.shared_index.specs.declared.meaning.Operation.{Operation};
 
 use crate::index::Index;
 use crate::meaning::{Law, Meaning, Named, Operations, Version};
@@ -40,7 +43,10 @@ impl<N: Named> Pass<N> {
         ensures holds { Holds (pinned_image result.seat.place.me.0.progress) result.seat.root (version_seen result.seat.place.me.0.seen) }
     {
         let Pass { place, seat, .. } = self;
-        let Some(seat) = seat else { unreachable!() };
+        let Some(seat) = seat else {
+            // No query and no transaction of this pass has its seat.
+            unreachable!()
+        };
         let shared = &index.shared;
         let seat = seat.pin(shared);
         Snapshot {
@@ -89,7 +95,11 @@ impl<L: Law, N: Named> Snapshot<'_, L, N> {
 }
 
 impl<L: Law, N: Named> Drop for Snapshot<'_, L, N> {
-    fn drop(self) {
+    // The pass's seat is idle again.
+    fn drop(self)
+        ensures left { (idle : PassSeat (List Entry) (List Operation)) × (idle.place.table_id ≡ self.entry.seat.place.table_id)
+            × (idle.place.me.0 ≡ with_progress self.entry.seat.place.me.0 progress.Idle) }
+    {
         let Self {
             seat,
             place: _,

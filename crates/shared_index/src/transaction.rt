@@ -75,6 +75,7 @@ impl<'i, L: Law, N: Named> Locked<'i, L, N> {
     ghost use Rattle.trie_read.specs.Readings.{Fetched};
     ghost use Rattle.shared_index.specs.Drafts.{Works, Operates, IsFull, IsSame, Between, Commits, working_set};
     ghost use Rattle.shared_index.specs.Fulls.{CausedFrom, full_with};
+    ghost use Rattle.shared_index.specs.Rooms.{SparesReserve};
     ghost use Rattle.shared_index.specs.Keepings.{versions_in};
     ghost use Rattle.shared_index.specs.declared.kept.Versions.{Versions as Kept};
     ghost use Rattle.chunk_usage.specs.Keeping.{kept_versions};
@@ -140,11 +141,13 @@ impl<'i, L: Law, N: Named> Locked<'i, L, N> {
         ensures place { self.new.place ≡ self.old.place }
         ensures operates { Between (λ d e. Operates (operation_of change.now) (IsRefused change.now) d e (IsOk result) (result ≡ Err Unchanged.Refused))
             self.old.draft self.new.draft }
+        ensures spares { Between SparesReserve self.old.draft self.new.draft }
         ensures full { (f : _) (kept : Kept) → result ≡ Err (Unchanged.Full f) → IfSome self.new.draft (λ d. versions_in kept ≡ kept_versions d.usage) → IsSomeAnd self.new.draft (λ d. IsFull d (full_with f kept)) }
         ensures cause { (f : _) (kept : Kept) → result ≡ Err (Unchanged.Full f) → IfSome self.new.draft (λ d. versions_in kept ≡ kept_versions d.usage)
-            → Between (λ d e. CausedFrom d.usage e (key_of change.now) (written_by change.now) (asked_by change.now) (full_with f kept)) self.old.draft self.new.draft }
+            → Between (λ d e. CausedFrom d e (key_of change.now) (written_by change.now) (asked_by change.now) (full_with f kept)) self.old.draft self.new.draft }
     {
         let Some(draft) = self.draft.take() else {
+            // A transaction's draft is there between two calls.
             unreachable!()
         };
         let (draft, outcome) = draft.change(self.shared, change);
@@ -159,6 +162,7 @@ impl<'i, L: Law, N: Named> Locked<'i, L, N> {
     {
         match &self.draft {
             Some(draft) => Versions::of(&draft.usage),
+            // A transaction's draft is there between two calls.
             None => unreachable!(),
         }
     }
@@ -179,6 +183,7 @@ impl<'i, L: Law, N: Named> Locked<'i, L, N> {
         ensures item { IfSome self.old.draft (λ d. Fetched key.now (working_set d) out.old out.new result) }
     {
         let Some(draft) = self.draft.take() else {
+            // A transaction's draft is there between two calls.
             unreachable!()
         };
         let (draft, found) = draft.fetch(self.shared, key, out);
@@ -197,9 +202,10 @@ impl<'i, L: Law, N: Named> Locked<'i, L, N> {
         ensures back { IfErr result.1 (λ _. IfSome self.old.draft (λ d. known_at result.0.seat ≡ pass_of d.seat.place.me.0)) }
         ensures spent { IfSome self.old.draft (λ d. IsErr result.1 ↔ (d.seat.version ≡ LAST_VERSION)) }
         ensures last { IfErr result.1 (λ s. IfSome self.old.draft (λ d. s.version ≡ d.seat.version)) }
-        ensures receipt { IfOk result.1 (λ r. IfSome self.old.draft (λ d. Recycles most (working_set d) d.seat.place.me.0 d.usage d.seat.passes (known_at result.0.seat) r)) }
+        ensures receipt { IfOk result.1 (λ r. IfSome self.old.draft (λ d. Recycles most d (known_at result.0.seat) r)) }
     {
         let Some(draft) = self.draft.take() else {
+            // A transaction's draft is there between two calls.
             unreachable!()
         };
         let (desk, seat, outcome) = draft.commit(self.shared, most);
@@ -226,6 +232,7 @@ impl<L: Law, N: Named> Index<L, N> {
                 *guard = Some(Turn { place, desk, names });
             }
         }
+        // The loop has no end but that return.
         unreachable!()
     }
 
@@ -243,6 +250,7 @@ impl<L: Law, N: Named> Index<L, N> {
         ensures goes_on { result.1.usage.open_chunk ≡ result.1.usage.last_open }
     {
         let Some(seat) = pass.seat.take() else {
+            // No query and no transaction of this pass has its seat.
             unreachable!()
         };
         let (guard, desk) = self.wait(rt);
@@ -321,7 +329,8 @@ impl<L: Law, N: Named> Index<L, N> {
         requires place { pass.old.place ≡ self.now.place }
         ensures here { IsSome pass.new.seat }
         ensures place { pass.new.place ≡ pass.old.place }
-        ensures compacts { IfOk result (Compacts L.lawful self.now.shared.table.shared.key.passes (known_at pass.old.seat) (known_at pass.new.seat)) }
+        ensures compacts { IfOk result (Compacts L.lawful self.now.shared.table.shared.table_id self.now.shared.table.shared.key.passes
+            (known_at pass.old.seat) (known_at pass.new.seat)) }
         ensures next { IfOk result (λ r. r.version ≢ LAST_VERSION + 1) }
         ensures back { IfErr result (IsLast L.lawful (known_at pass.old.seat) (known_at pass.new.seat)) }
         ensures last { IfErr result (λ s. s.version ≡ LAST_VERSION) }
@@ -372,6 +381,7 @@ impl<L: Law, N: Named, K> Transaction<'_, '_, L, N, K> {
     {
         match &self.locked.draft {
             Some(draft) => draft.seat.version,
+            // A transaction's draft is there between two calls.
             None => unreachable!(),
         }
     }
@@ -391,6 +401,7 @@ impl<L: Law, N: Named, K> Transaction<'_, '_, L, N, K> {
     ghost use Rattle.shared_index.specs.Drafts.{Works, Operates, IsFull, IsSame, Between, working_set};
     ghost use Rattle.trie_read.specs.Readings.{Fetched};
     ghost use Rattle.shared_index.specs.Fulls.{CausedFrom};
+    ghost use Rattle.shared_index.specs.Rooms.{SparesReserve};
     ghost use Rattle.trie_model.specs.Trees.{cells_in};
     ghost use Rattle.trie_write.specs.Paths.{insert_asks, replace_asks, delete_asks};
     ghost use Rattle.shared_index.specs.declared.meaning.Operation.TheVariants as operation;
@@ -415,9 +426,10 @@ impl<L: Law, N: Named, K> Transaction<'_, '_, L, N, K> {
         ensures place { self.new.locked.now.place ≡ self.old.locked.now.place }
         ensures inserts { Between (λ d e. Operates (operation.Insert (record { key = key.now; item = item.now })) (λ es. (x : Entry) × InList x es × (x.key ≡ key.now))
             d e (IsOk result) (result ≡ Err InsertRefusal.Exists)) self.old.locked.now.draft self.new.locked.now.draft }
+        ensures spares { Between SparesReserve self.old.locked.now.draft self.new.locked.now.draft }
         ensures full { (f : _) → result ≡ Err (InsertRefusal.Full f) → IsSomeAnd self.new.locked.now.draft (λ d. IsFull d f) }
         ensures cause { (f : _) → result ≡ Err (InsertRefusal.Full f)
-            → Between (λ d e. CausedFrom d.usage e key.now (3 + cells_in item.now) (insert_asks item.now) f) self.old.locked.now.draft self.new.locked.now.draft }
+            → Between (λ d e. CausedFrom d e key.now (3 + cells_in item.now) (insert_asks item.now) f) self.old.locked.now.draft self.new.locked.now.draft }
     {
         match self.locked.change(&Change::Insert(key, item)) {
             Ok(()) => Ok(()),
@@ -434,9 +446,10 @@ impl<L: Law, N: Named, K> Transaction<'_, '_, L, N, K> {
         ensures place { self.new.locked.now.place ≡ self.old.locked.now.place }
         ensures replaces { Between (λ d e. Operates (operation.Replace (record { key = key.now; item = item.now })) (λ es. (x : Entry) → InList x es → x.key ≡ key.now → ⊥)
             d e (IsOk result) (result ≡ Err ChangeRefusal.NotFound)) self.old.locked.now.draft self.new.locked.now.draft }
+        ensures spares { Between SparesReserve self.old.locked.now.draft self.new.locked.now.draft }
         ensures full { (f : _) → result ≡ Err (ChangeRefusal.Full f) → IsSomeAnd self.new.locked.now.draft (λ d. IsFull d f) }
         ensures cause { (f : _) → result ≡ Err (ChangeRefusal.Full f)
-            → Between (λ d e. CausedFrom d.usage e key.now (3 + cells_in item.now) (replace_asks item.now) f) self.old.locked.now.draft self.new.locked.now.draft }
+            → Between (λ d e. CausedFrom d e key.now (3 + cells_in item.now) (replace_asks item.now) f) self.old.locked.now.draft self.new.locked.now.draft }
     {
         match self.locked.change(&Change::Replace(key, item)) {
             Ok(()) => Ok(()),
@@ -452,9 +465,10 @@ impl<L: Law, N: Named, K> Transaction<'_, '_, L, N, K> {
         ensures place { self.new.locked.now.place ≡ self.old.locked.now.place }
         ensures deletes { Between (λ d e. Operates (operation.Delete key.now) (λ es. (x : Entry) → InList x es → x.key ≡ key.now → ⊥)
             d e (IsOk result) (result ≡ Err ChangeRefusal.NotFound)) self.old.locked.now.draft self.new.locked.now.draft }
+        ensures spares { Between SparesReserve self.old.locked.now.draft self.new.locked.now.draft }
         ensures full { (f : _) → result ≡ Err (ChangeRefusal.Full f) → IsSomeAnd self.new.locked.now.draft (λ d. IsFull d f) }
         ensures cause { (f : _) → result ≡ Err (ChangeRefusal.Full f)
-            → Between (λ d e. CausedFrom d.usage e key.now 1 delete_asks f) self.old.locked.now.draft self.new.locked.now.draft }
+            → Between (λ d e. CausedFrom d e key.now 1 delete_asks f) self.old.locked.now.draft self.new.locked.now.draft }
     {
         match self.locked.change(&Change::Delete(key)) {
             Ok(()) => Ok(()),
@@ -481,7 +495,7 @@ impl<L: Law, N: Named, K: Kind> Transaction<'_, '_, L, N, K> {
         ensures back { IfErr result (λ _. IfSome self.entry.locked.now.draft (λ d. IsBack d.seat.place.me.0 self.exit.0.now.seat)) }
         ensures spent { IfSome self.entry.locked.now.draft (λ d. IsErr result ↔ (d.seat.version ≡ LAST_VERSION)) }
         ensures last { IfErr result (λ s. IfSome self.entry.locked.now.draft (λ d. s.version ≡ d.seat.version)) }
-        ensures receipt { IfOk result (λ r. IfSome self.entry.locked.now.draft (λ d. Recycles K.MOST_SPARSE (working_set d) d.seat.place.me.0 d.usage d.seat.passes (known_at self.exit.0.now.seat) r)) }
+        ensures receipt { IfOk result (λ r. IfSome self.entry.locked.now.draft (λ d. Recycles K.MOST_SPARSE d (known_at self.exit.0.now.seat) r)) }
     {
         let Self {
             home,

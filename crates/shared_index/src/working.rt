@@ -1,14 +1,14 @@
 //! A transaction's operations: each is tried, and once more where there is no room, after rounds and an evacuation.
-ghost use Rattle.std.specs.Prelude.{◌≡◌, ◌⊎◌, ◌∷◌, ◌++◌, [], ℕ, List, Err, IsOk, IfErr, All, Contains, slice_index};
+ghost use Rattle.std.specs.Prelude.{◌≡◌, ◌⊎◌, ◌∷◌, ◌++◌, [], ℕ, Err, IsOk, IfErr, All, Contains};
 ghost use Rattle.chunk_usage.specs.Handing.{Lacks};
-ghost use Rattle.chunk_usage.specs.Keeping.{freed, kept_versions, narrowed};
+ghost use Rattle.chunk_usage.specs.Keeping.{kept_versions};
 ghost use Rattle.shared_cells.specs.Views.{kept_in};
 ghost use Rattle.shared_cells.specs.Steps.{IsNamed};
 ghost use Rattle.shared_index.specs.Meanings.{IsVersion};
 ghost use Rattle.shared_index.specs.Changes.{operation_of, key_of, written_by, asked_by, LeadsItem, IsRefused};
-ghost use Rattle.shared_index.specs.Keepings.{GoesOn, versions_in};
+ghost use Rattle.shared_index.specs.Keepings.{versions_in};
 ghost use Rattle.shared_index.specs.declared.kept.Versions.{Versions};
-ghost use Rattle.shared_index.specs.Tries.{Tried};
+ghost use Rattle.shared_index.specs.Tries.{Spares, Tried};
 
 use crate::attempt::attempt;
 use crate::change::{Change, Unchanged};
@@ -20,8 +20,10 @@ use packed_node::Ref;
 use shared_cells::Shared;
 
 impl Draft {
-    ghost use Rattle.shared_index.specs.Drafts.{Works, Operates, IsFull, working_set};
-    ghost use Rattle.shared_index.specs.Fulls.{CausedFrom, FullCause, Grown, after_room, full_with, version_at};
+    ghost use Rattle.shared_index.specs.Drafts.{Works, Operates, IsFull};
+    ghost use Rattle.shared_index.specs.Fulls.{CausedBy, CausedFrom, full_with, version_at};
+    ghost use Rattle.shared_index.specs.Rooms.{Fails, FreesRoom, MakesRoom, SparesReserve};
+    ghost use Rattle.shared_index.specs.declared.desk.Draft.{Draft as Left};
 
     // The operation is done: its trie has this root.
     fn with_done(self, root: Option<Ref>, change: &Change<'_>) -> Draft
@@ -49,7 +51,8 @@ impl Draft {
         ensures operates { Operates (operation_of change.now) (IsRefused change.now) self result.0 (IsOk result.1) (result.1 ≡ Err Unchanged.Refused) }
         ensures full { (f : _) → result.1 ≡ Err (Unchanged.Full f) → Lacks result.0.usage f }
         ensures tried { IfErr result.1 (λ e. Tried change.now self.root self.seat.place.me.0 self.usage result.0.seat.place.me.0 result.0.usage (Err e)) }
-        ensures grown { Grown self.usage result.0.usage }
+        ensures fails { IfErr result.1 (λ _. Fails self result.0) }
+        ensures spares { Spares self.usage result.0.usage }
         ensures root { IfErr result.1 (λ _. result.0.root ≡ self.root) }
     {
         let Draft {
@@ -78,13 +81,11 @@ impl Draft {
         requires table { self.seat.place.table_id ≡ shared.now.table.shared.table_id }
         requires works { Works self }
         ensures table { result.seat.place.table_id ≡ self.seat.place.table_id }
-        ensures goes_on { GoesOn self.seat.place.me.0 result.seat.place.me.0 }
+        ensures frees { FreesRoom self result }
         ensures log { result.log.operations ≡ self.log.operations }
         ensures works { Works result }
         ensures named { (v : ℕ) → Contains (kept_versions result.usage) v → (v ≡ result.seat.version) ⊎ IsNamed result.seat.place.me.0 v }
-        ensures ends { (older : List ℕ) × (kept_versions result.usage ≡ older ++ result.seat.version ∷ []) }
-        ensures passes { result.seat.passes ≡ self.seat.passes }
-        ensures after { result.usage ≡ freed (narrowed self.usage (kept_versions result.usage)) }
+        ensures numbers { (result.seat.version ≡ self.seat.version) × (result.seat.passes ≡ self.seat.passes) }
         ensures images { All (λ k. IsVersion k.image k.root (version_at result.seat.place.me.0 k.version)) (kept_in result.seat.place.me.0.turn) }
     {
         let Draft {
@@ -105,26 +106,6 @@ impl Draft {
         }
     }
 
-    // Makes room, and tries the operation once more.
-    fn change_in_room<L: Law>(
-        self,
-        shared: &Shared<Version, Operations, Meaning<L>>,
-        change: &Change<'_>,
-    ) -> (Draft, Result<(), Unchanged>)
-        requires table { self.seat.place.table_id ≡ shared.now.table.shared.table_id }
-        requires leads { LeadsItem change.now }
-        requires works { Works self }
-        ensures table { result.0.seat.place.table_id ≡ self.seat.place.table_id }
-        ensures operates { Operates (operation_of change.now) (IsRefused change.now) self result.0 (IsOk result.1) (result.1 ≡ Err Unchanged.Refused) }
-        ensures full { (f : _) (kept : Versions) → result.1 ≡ Err (Unchanged.Full f) → versions_in kept ≡ kept_versions result.0.usage → IsFull result.0 (full_with f kept) }
-        ensures cause { (f : _) (kept : Versions) → result.1 ≡ Err (Unchanged.Full f) → versions_in kept ≡ kept_versions result.0.usage
-            → FullCause (after_room self.usage (full_with f kept)) result.0 (key_of change.now) (written_by change.now) (asked_by change.now) (full_with f kept) }
-        ensures counts { (f : _) → result.1 ≡ Err (Unchanged.Full f) → (k : ℕ) → slice_index result.0.usage.live k ≡ slice_index self.usage.live k }
-    {
-        let draft = self.make_room(shared);
-        draft.attempt(shared, change)
-    }
-
     // Makes room, moves what lies in sparse chunks, for which the reserve is there, and makes room again; then it tries the operation.
     fn change_at_last<L: Law>(
         self,
@@ -137,12 +118,14 @@ impl Draft {
         ensures table { result.0.seat.place.table_id ≡ self.seat.place.table_id }
         ensures operates { Operates (operation_of change.now) (IsRefused change.now) self result.0 (IsOk result.1) (result.1 ≡ Err Unchanged.Refused) }
         ensures full { (f : _) (kept : Versions) → result.1 ≡ Err (Unchanged.Full f) → versions_in kept ≡ kept_versions result.0.usage → IsFull result.0 (full_with f kept) }
+        ensures room { (left : Left) × MakesRoom self left × Spares left.usage result.0.usage }
         ensures cause { (f : _) (kept : Versions) → result.1 ≡ Err (Unchanged.Full f) → versions_in kept ≡ kept_versions result.0.usage
-            → CausedFrom self.usage result.0 (key_of change.now) (written_by change.now) (asked_by change.now) (full_with f kept) }
+            → CausedBy self result.0 (key_of change.now) (written_by change.now) (asked_by change.now) (full_with f kept) }
     {
-        let draft = self.make_room(shared);
-        let (draft, _done) = draft.evacuate(shared);
-        draft.change_in_room(shared, change)
+        let room = self.make_room(shared);
+        let (emptied, _done) = room.evacuate(shared);
+        let left = emptied.make_room(shared);
+        left.attempt(shared, change)
     }
 
     /// Does an operation on the working set. Where there is no room it makes a round, frees what nothing needs, moves what lies in
@@ -158,8 +141,9 @@ impl Draft {
         ensures table { result.0.seat.place.table_id ≡ self.seat.place.table_id }
         ensures operates { Operates (operation_of change.now) (IsRefused change.now) self result.0 (IsOk result.1) (result.1 ≡ Err Unchanged.Refused) }
         ensures full { (f : _) (kept : Versions) → result.1 ≡ Err (Unchanged.Full f) → versions_in kept ≡ kept_versions result.0.usage → IsFull result.0 (full_with f kept) }
+        ensures spares { SparesReserve self result.0 }
         ensures cause { (f : _) (kept : Versions) → result.1 ≡ Err (Unchanged.Full f) → versions_in kept ≡ kept_versions result.0.usage
-            → CausedFrom self.usage result.0 (key_of change.now) (written_by change.now) (asked_by change.now) (full_with f kept) }
+            → CausedFrom self result.0 (key_of change.now) (written_by change.now) (asked_by change.now) (full_with f kept) }
     {
         let (draft, outcome) = self.attempt(shared, change);
         match outcome {

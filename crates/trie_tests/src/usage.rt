@@ -100,7 +100,7 @@ enum Call {
     Take(u32),
     /// No cell counts any more.
     ReleaseAll,
-    StartChunk,
+    Fresh,
     Restore,
     /// How many chunks are given back.
     FreeUnreached,
@@ -109,7 +109,7 @@ enum Call {
     /// How many chunks are free.
     Left,
     IsFree(u32),
-    IsFresh(Ref),
+    IsMutable(Ref),
 }
 
 /// What it answers: 1 for yes, 0 for no and for nothing.
@@ -122,13 +122,13 @@ fn answer(usage: &mut Usage, cells: &mut PlainCells, call: Call) -> u32
     match call {
         Call::Take(n) => return take(usage, cells, n),
         Call::ReleaseAll => usage.release_all(),
-        Call::StartChunk => usage.start_chunk(),
+        Call::Fresh => usage.fresh(),
         Call::Restore => usage.restore(),
         Call::FreeUnreached => return usage.free_unreached(cells),
         Call::Live(chunk) => return usage.live(chunk),
         Call::Left => return usage.free(),
         Call::IsFree(chunk) => return yes(usage.is_free(chunk)),
-        Call::IsFresh(at) => return yes(usage.is_fresh(at)),
+        Call::IsMutable(at) => return yes(usage.is_mutable(at)),
     }
     0
 }
@@ -176,16 +176,16 @@ fn answers(usage: &mut Usage, cells: &mut PlainCells, calls: &[(Call, u32)]) -> 
 const FIRST_VERSION: &[(Call, u32)] = &[(Call::Take(100), 0)];
 
 const SECOND_VERSION: &[(Call, u32)] = &[
-    (Call::IsFresh(99), 0),
-    (Call::IsFresh(100), 1),
-    (Call::IsFresh(1024), 0),
+    (Call::IsMutable(99), 0),
+    (Call::IsMutable(100), 1),
+    (Call::IsMutable(1024), 0),
     // A version that is given up: its chunk holds nothing.
     (Call::Take(50), 100),
-    (Call::StartChunk, 0),
+    (Call::Fresh, 0),
     (Call::Take(5), 1024),
-    (Call::IsFresh(99), 0),
-    (Call::IsFresh(100), 1),
-    (Call::IsFresh(1024), 1),
+    (Call::IsMutable(99), 0),
+    (Call::IsMutable(100), 1),
+    (Call::IsMutable(1024), 1),
     (Call::Restore, 0),
     (Call::Live(0), 100),
     (Call::Live(1), 0),
@@ -197,7 +197,7 @@ const SECOND_VERSION: &[(Call, u32)] = &[
     (Call::Take(7), 100),
     // A new version has nothing in the first chunk, and the old one goes.
     (Call::ReleaseAll, 0),
-    (Call::StartChunk, 0),
+    (Call::Fresh, 0),
     (Call::Take(9), 1024),
 ];
 

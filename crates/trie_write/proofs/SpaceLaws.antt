@@ -50,7 +50,7 @@ apart_from {old} h z u i l e = true≢false (sym u ∙ ap old.used e ∙ h.unuse
 
 module _ {S A : Type 0} {has : S → ℕ → Cell → Type 0} {kept : S → List ℕ} {given : S → List Bool} {account : A → Account} where
   pub frame_refl : (s : S) (a : A) → Frame has kept given account s a s a
-  frame_refl s a = record { stays = λ q c m h. h; frozen = λ q c m h. h; keeps = refl; given_stays = λ k h. h; opens = λ k o. inl o; grows = grows_refl (account a).used (account a).mutable; last = refl }
+  frame_refl s a = record { stays = λ q c m h. h; frozen = λ q c m h. h; keeps = refl; given_stays = λ k h. h; opens = λ k o. inl o; grows = grows_refl (account a).used (account a).mutable; spares = refl; last = refl }
 
   pub frame_then : {s s1 s2 : S} {a a1 a2 : A} → Frame has kept given account s a s1 a1 → Frame has kept given account s1 a1 s2 a2 → Frame has kept given account s a s2 a2
   frame_then {a1 = a1} {a2 = a2} f g = record {
@@ -60,6 +60,7 @@ module _ {S A : Type 0} {has : S → ℕ → Cell → Type 0} {kept : S → List
     given_stays = λ k h. g.given_stays k (f.given_stays k h);
     opens = λ k o. elim (g.opens k o) [ inl m ↦ f.opens k m | inr free ↦ inr (λ h. free (f.given_stays k h)) ];
     grows = grows_then f.grows g.grows;
+    spares = g.spares ∙ f.spares;
     last = g.last ∙ f.last;
   }
 
@@ -72,6 +73,7 @@ module _ {S A : Type 0} {has : S → ℕ → Cell → Type 0} {kept : S → List
     given_stays = f.given_stays;
     opens = λ k o. f.opens k (sym (ap (λ (z : Account). z.opened k) rest) ∙ o);
     grows = record { stays = λ q u. ap (λ (z : Account). z.used q) rest ∙ f.grows.stays q u; settled = λ q u. ap (λ (z : Account). z.mutable q) rest ∙ f.grows.settled q u; fresher = λ q m. ap (λ (z : Account). z.mutable q) rest ∙ f.grows.fresher q m };
+    spares = ap (λ (z : Account). z.reserved) rest ∙ f.spares;
     last = ap (λ (z : Account). z.frozen) rest ∙ f.last;
   }
 
@@ -84,19 +86,22 @@ module _ {S A : Type 0} {has : S → ℕ → Cell → Type 0} {kept : S → List
     given_stays = λ k h. subst (λ (x : List Bool). IsGiven x k) (sym w.same_given) (f.given_stays k h);
     opens = f.opens;
     grows = f.grows;
+    spares = f.spares;
     last = f.last;
   }
 
   -- a chunk is given with the cells
   pub frame_given : {s s1 : S} {a a1 : A} (chunk : Option ℕ) → GivesChunk (given s) (given s1) chunk → ((q : ℕ) (c : Cell) → has s q c → has s1 q c) → kept s1 ≡ kept s →
-      OpensFree (given s) (account a).opened (account a1).opened → Grows (account a).used (account a1).used (account a).mutable (account a1).mutable → (account a1).frozen ≡ (account a).frozen → Frame has kept given account s a s1 a1
-  frame_given {s} {s1} chunk gives all keeps opens grows last = record {
+      OpensFree (given s) (account a).opened (account a1).opened → Grows (account a).used (account a1).used (account a).mutable (account a1).mutable → (account a1).reserved ≡ (account a).reserved → (account a1).frozen ≡ (account a).frozen
+      → Frame has kept given account s a s1 a1
+  frame_given {s} {s1} chunk gives all keeps opens grows spares last = record {
     stays = λ q c u h. all q c h;
     frozen = λ q c m h. all q c h;
     keeps = keeps;
     given_stays = given_by (given s) (given s1) chunk gives;
     opens = opens;
     grows = grows;
+    spares = spares;
     last = last;
   }
 
@@ -198,7 +203,7 @@ module _ {S A : Type 0} {has : S → ℕ → Cell → Type 0} {kept : S → List
   -- ---- calls that may write mutable cells
 
   pub fenced_of : {s s1 : S} {a a1 : A} → Frame has kept given account s a s1 a1 → Fenced has kept given account s a s1 a1
-  fenced_of f = record { frozen = f.frozen; keeps = f.keeps; given_stays = f.given_stays; opens = f.opens; grows = f.grows; last = f.last }
+  fenced_of f = record { frozen = f.frozen; keeps = f.keeps; given_stays = f.given_stays; opens = f.opens; grows = f.grows; spares = f.spares; last = f.last }
 
   pub fenced_then : {s s1 s2 : S} {a a1 a2 : A} → Fenced has kept given account s a s1 a1 → Fenced has kept given account s1 a1 s2 a2 → Fenced has kept given account s a s2 a2
   fenced_then {a1 = a1} {a2 = a2} f g = record {
@@ -207,6 +212,7 @@ module _ {S A : Type 0} {has : S → ℕ → Cell → Type 0} {kept : S → List
     given_stays = λ k h. g.given_stays k (f.given_stays k h);
     opens = λ k o. elim (g.opens k o) [ inl m ↦ f.opens k m | inr free ↦ inr (λ h. free (f.given_stays k h)) ];
     grows = grows_then f.grows g.grows;
+    spares = g.spares ∙ f.spares;
     last = g.last ∙ f.last;
   }
 
@@ -218,6 +224,7 @@ module _ {S A : Type 0} {has : S → ℕ → Cell → Type 0} {kept : S → List
     given_stays = λ k h. subst (λ (x : List Bool). IsGiven x k) (sym same_given) (f.given_stays k h);
     opens = f.opens;
     grows = f.grows;
+    spares = f.spares;
     last = f.last;
   }
 
@@ -228,6 +235,7 @@ module _ {S A : Type 0} {has : S → ℕ → Cell → Type 0} {kept : S → List
     given_stays = f.given_stays;
     opens = λ k o. f.opens k (sym (ap (λ (z : Account). z.opened k) rest) ∙ o);
     grows = record { stays = λ q u. ap (λ (z : Account). z.used q) rest ∙ f.grows.stays q u; settled = λ q u. ap (λ (z : Account). z.mutable q) rest ∙ f.grows.settled q u; fresher = λ q m. ap (λ (z : Account). z.mutable q) rest ∙ f.grows.fresher q m };
+    spares = ap (λ (z : Account). z.reserved) rest ∙ f.spares;
     last = ap (λ (z : Account). z.frozen) rest ∙ f.last;
   }
 

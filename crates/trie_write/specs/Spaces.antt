@@ -12,7 +12,7 @@ pub record Ready {S A : Type 0} (kept : S → List ℕ) (given : S → List Bool
   pub settled : (q : ℕ) → Contains (kept s) q → (account a).mutable q ≡ false
 
 -- A call that leaves what is there: cells in use stay as they are and in use, and immutable cells as they are, in use or not.
--- What is kept is kept, and given chunks stay given; one that becomes the bump chunk was not given.
+-- What is kept is kept, and given chunks stay given; one that becomes the bump chunk was not given. No chunk of the reserve is taken.
 pub record Frame {S A : Type 0} (has : S → ℕ → Cell → Type 0) (kept : S → List ℕ) (given : S → List Bool) (account : A → Account) (s : S) (a : A) (s_new : S) (a_new : A) : Type 0 where
   pub stays : (q : ℕ) (c : Cell) → (account a).used q ≡ true → has s q c → has s_new q c
   pub frozen : (q : ℕ) (c : Cell) → (account a_new).mutable q ≡ false → has s q c → has s_new q c
@@ -20,6 +20,7 @@ pub record Frame {S A : Type 0} (has : S → ℕ → Cell → Type 0) (kept : S 
   pub given_stays : (k : ℕ) → IsGiven (given s) k → IsGiven (given s_new) k
   pub opens : OpensFree (given s) (account a).opened (account a_new).opened
   pub grows : Grows (account a).used (account a_new).used (account a).mutable (account a_new).mutable
+  pub spares : (account a_new).reserved ≡ (account a).reserved
   pub last : (account a_new).frozen ≡ (account a).frozen
 
 -- A call that may write cells in use: the same, but for mutable ones.
@@ -29,6 +30,7 @@ pub record Fenced {S A : Type 0} (has : S → ℕ → Cell → Type 0) (kept : S
   pub given_stays : (k : ℕ) → IsGiven (given s) k → IsGiven (given s_new) k
   pub opens : OpensFree (given s) (account a).opened (account a_new).opened
   pub grows : Grows (account a).used (account a_new).used (account a).mutable (account a_new).mutable
+  pub spares : (account a_new).reserved ≡ (account a).reserved
   pub last : (account a_new).frozen ≡ (account a).frozen
 
 -- A call that changes nothing: cells in use are as they were, and so are the counts.

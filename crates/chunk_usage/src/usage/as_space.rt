@@ -13,13 +13,13 @@ impl Space for Usage {
     ghost lacks = { Lacks };
 
     fn alloc(&mut self, n: u32) -> Result<Grant, Full> {
-        self.known();
+        self.known(); // for the proof
         Usage::alloc(self, n)
     }
 
     fn is_mutable(&self, at: Ref) -> bool {
-        self.known();
-        Usage::is_fresh(self, at)
+        self.known(); // for the proof
+        Usage::is_mutable(self, at)
     }
 
     fn release(&mut self, at: Ref, n: u32) {

@@ -1,7 +1,7 @@
 //! Cells that are handed out, and released.
 
 ghost use Rattle.std.specs.Prelude.{◌≡◌, ◌<◌, ◌≤◌, ◌-◌, ◌+◌, ◌*◌, ◌/◌, ◌%◌, ◌↔◌, ◌&&◌, nat_le, Some, IsErr, slice_index};
-ghost use Rattle.chunk_usage.specs.Ledger.{free_count, filled, is_open, is_used, is_fresh};
+ghost use Rattle.chunk_usage.specs.Ledger.{free_count, filled, is_open, is_used, is_mutable};
 ghost use Rattle.chunk_usage.specs.Handing.{IsShort, all_released, allocated, grant_of, lowest_free, next_cell, released, roomy, shortage, taken, with_open};
 ghost use Rattle.chunk_usage.specs.Handing.{IsSpent, new_grant, newly_taken, reserve_allocated, reserve_grant_of};
 ghost use Rattle.chunk_usage.specs.Keeping.{closed};
@@ -50,8 +50,8 @@ impl Usage {
     }
 
     /// Whether a cell wasn't handed out at the last freeze.
-    pub fn is_fresh(&self, at: Ref) -> bool
-        ensures { result ≡ is_fresh self.now at }
+    pub fn is_mutable(&self, at: Ref) -> bool
+        ensures { result ≡ is_mutable self.now at }
     {
         self.state.recent.contains(at / CHUNK_CELLS) || was_left(self.state.fender, at)
     }
@@ -77,9 +77,9 @@ impl Usage {
     }
 
     /// The bump chunk counts as filled, so that the next cells come from another one.
-    pub fn start_chunk(&mut self)
+    pub fn fresh(&mut self)
         ensures after { self.new ≡ closed self.old }
-        ensures grows { Grows (is_used self.old) (is_used self.new) (is_fresh self.old) (is_fresh self.new) }
+        ensures grows { Grows (is_used self.old) (is_used self.new) (is_mutable self.old) (is_mutable self.new) }
     {
         if let Some(bump) = &mut self.state.bump {
             bump.filled = CHUNK_CELLS;

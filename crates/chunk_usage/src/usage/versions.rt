@@ -2,7 +2,7 @@
 
 ghost use Rattle.std.specs.Prelude.{◌≡◌, ◌≢◌, ◌<◌, ◌≤◌, ◌+◌, ◌-◌, ℕ, true, false, length, IfSome, take};
 ghost use Rattle.std.specs.List.{All, position_or_len};
-ghost use Rattle.chunk_usage.specs.Ledger.{Row, Rising, is_used, is_fresh, newest};
+ghost use Rattle.chunk_usage.specs.Ledger.{Row, Rising, is_used, is_mutable, newest};
 ghost use Rattle.chunk_usage.specs.Keeping.{AreOlder, dropped, frozen, is_among, is_kept, is_row_of, narrowed, restored, rows_of, without_row};
 
 use super::Usage;
@@ -22,7 +22,7 @@ impl Usage {
         requires room { length self.old.rows < self.old.passes + 2 }
         requires newer { AreOlder self.old.rows version }
         ensures after { self.new ≡ frozen self.old version }
-        ensures settled { (q : ℕ) → is_used self.new q ≡ true → is_fresh self.new q ≡ false }
+        ensures settled { (q : ℕ) → is_used self.new q ≡ true → is_mutable self.new q ≡ false }
     {
         let state = &mut *self.state;
         let slot = &mut state.slots[state.kept];
@@ -37,7 +37,7 @@ impl Usage {
     /// Goes back to the live cells and the bump chunk of the last freeze. Chunks that were given since stay given.
     pub fn restore(&mut self)
         ensures after { self.new ≡ restored self.old }
-        ensures used { (q : ℕ) → is_used self.old q ≡ true → is_fresh self.old q ≡ false → is_used self.new q ≡ true }
+        ensures used { (q : ℕ) → is_used self.old q ≡ true → is_mutable self.old q ≡ false → is_used self.new q ≡ true }
     {
         let state = &mut *self.state;
         state.counts.restore();

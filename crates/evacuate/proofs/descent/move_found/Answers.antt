@@ -1,6 +1,6 @@
 use Rattle.std.proofs.Common.{◌/◌, arith, refl, sym, ◌∙◌, ap, subst}
 use Rattle.trie_model.specs.Memory.{node_of}
-use Rattle.chunk_usage.specs.Rooms.{account_of}
+use Rattle.chunk_usage.specs.Rooms.{reserve_account_of}
 use Rattle.trie_write.specs.Spaces.{Fenced, IsWritable}
 use Rattle.trie_write.specs.Ways.{plug}
 use Rattle.trie_write.proofs.SpaceLaws.{frame_refl, fenced_of, fenced_then, ready_put}
@@ -22,9 +22,9 @@ loop-branch-init g c = record {
       let h = begins stood in
       subst (λ s. Underway g.C.CellRead.has c.args.usage.now c.args.trail.now s c.args.usage.now c.args.root c.args.root es c.of-node.result) (sym c.cell.ensures.same)
       (underway_first stood found (hung_read h (c.cell.ensures.value _ (hung_there h)) c.of-node.ensures.back));
-  writable = subst (λ s. IsWritable g.C.CellWrite.given account_of s c.args.usage.now c.args.root) (sym c.cell.ensures.same) c.requires.writable;
+  writable = subst (λ s. IsWritable g.C.CellWrite.given reserve_account_of s c.args.usage.now c.args.root) (sym c.cell.ensures.same) c.requires.writable;
   moves = λ given fills. moves_none given c.args.usage.now fills;
-  frame = subst (λ s. Fenced g.C.CellRead.has g.C.CellWrite.kept g.C.CellWrite.given account_of c.args.cells.now c.args.usage.now s c.args.usage.now) (sym c.cell.ensures.same) (fenced_of (frame_refl c.args.cells.now c.args.usage.now));
+  frame = subst (λ s. Fenced g.C.CellRead.has g.C.CellWrite.kept g.C.CellWrite.given reserve_account_of c.args.cells.now c.args.usage.now s c.args.usage.now) (sym c.cell.ensures.same) (fenced_of (frame_refl c.args.cells.now c.args.usage.now));
   ready = ready_put c.requires.ready (ap g.C.CellWrite.given c.cell.ensures.same) (ap g.C.CellWrite.kept c.cell.ensures.same);
 }
 
@@ -82,9 +82,9 @@ loop-branch-preserved g c = record {
       let b = c.in-Some.branch in
       let w = c.in_ok-at.ensures.hung c.args.root es u.upper (plug u.rest u.end) u.hung (branch_node_is u b c.in-Some.ensures.branch c.in-Some.ensures.before) in
       underway_further u b c.in-Some.ensures.branch c.in-Some.ensures.before c.index_at-index.ensures w c.cell-in-Some.ensures.same (c.cell-in-Some.ensures.value _ (further_there u b c.in-Some.ensures.branch c.in-Some.ensures.before c.index_at-index.ensures w)) c.of-node-in-Some.ensures.back;
-  writable = subst (λ s. IsWritable g.C.CellWrite.given account_of s c.open_twig.new.usage c.in_ok-at.at) (sym c.cell-in-Some.ensures.same) c.in_ok-at.ensures.writable;
+  writable = subst (λ s. IsWritable g.C.CellWrite.given reserve_account_of s c.open_twig.new.usage c.in_ok-at.at) (sym c.cell-in-Some.ensures.same) c.in_ok-at.ensures.writable;
   moves = λ given fills. let m = c.loop-branch.invariant.moves given fills in moves_then m (c.in_ok-at.ensures.moves given m.fills);
-  frame = subst (λ s. Fenced g.C.CellRead.has g.C.CellWrite.kept g.C.CellWrite.given account_of c.args.cells.now c.args.usage.now s c.open_twig.new.usage) (sym c.cell-in-Some.ensures.same) (fenced_then c.loop-branch.invariant.frame c.in_ok-at.ensures.frame);
+  frame = subst (λ s. Fenced g.C.CellRead.has g.C.CellWrite.kept g.C.CellWrite.given reserve_account_of c.args.cells.now c.args.usage.now s c.open_twig.new.usage) (sym c.cell-in-Some.ensures.same) (fenced_then c.loop-branch.invariant.frame c.in_ok-at.ensures.frame);
   ready = ready_put c.in_ok-at.ensures.ready (ap g.C.CellWrite.given c.cell-in-Some.ensures.same) (ap g.C.CellWrite.kept c.cell-in-Some.ensures.same);
 }
 

@@ -14,14 +14,14 @@ overflow_add-twig g c =
     let i = x.row.row.inside in let l = c.requires.index in
     Fits-lt {n = 4194304} (omega arith) (Fits-lit tt)
 
-pub returns-then-is_fresh-clause-writable : goal.returns-then-is_fresh-clause-writable
-returns-then-is_fresh-clause-writable g c =
+pub returns-then-is_mutable-clause-writable : goal.returns-then-is_mutable-clause-writable
+returns-then-is_mutable-clause-writable g c =
     let x = hung_cells c.requires.hung.hung (ap first_of c.requires.hung.is) (ap width_of c.requires.hung.is) in
     let q = c.args.branch.twigs + c.args.index in
     let used = x.in_use c.args.index c.requires.index in
     record {
       in_use = used;
-      mutable = sym c.is_fresh.ensures ∙ c.if-is_fresh.true;
+      mutable = sym c.is_mutable.ensures ∙ c.if-is_mutable.true;
       in_given = subst (λ (flags : List Bool). IsGiven flags (q / 1024)) (sym c.requires.ready.same) (get_set c.args.usage.now.given (q / 1024) (used_given c.args.usage.now c.known.ensures q used));
     }
 
@@ -39,6 +39,6 @@ returns-clause-hung g c r es way t h is = record { to = c.in_ok-to.to; hung = c.
 pub returns-clause-moves : goal.returns-clause-moves
 returns-clause-moves g c given fills =
     let x = hung_cells c.requires.hung.hung (ap first_of c.requires.hung.is) (ap width_of c.requires.hung.is) in
-    let old = settled_old given c.args.usage.now fills c.known.ensures (c.args.branch.twigs + c.args.index) (x.in_use c.args.index c.requires.index) (sym c.is_fresh.ensures ∙ c.if-is_fresh.false) in
+    let old = settled_old given c.args.usage.now fills c.known.ensures (c.args.branch.twigs + c.args.index) (x.in_use c.args.index c.requires.index) (sym c.is_mutable.ensures ∙ c.if-is_mutable.false) in
     let together = x.row.row.together in let l = c.requires.index in
     (c.in_ok-to.ensures.paid given fills (same_chunk_old given c.args.branch.twigs (c.args.branch.twigs + c.args.index) (omega arith) old)).moves

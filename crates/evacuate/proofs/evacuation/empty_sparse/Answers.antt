@@ -1,7 +1,7 @@
 use Rattle.std.proofs.Common.{◌≡◌, inl, inr, refl, sym, ◌∙◌, ap, subst, arith}
 use Rattle.std.proofs.lemmas.Bool.{cases_Bool}
 use Rattle.std.proofs.lemmas.Bool.Decides.{nat_tests}
-use Rattle.chunk_usage.specs.Rooms.{account_of}
+use Rattle.chunk_usage.specs.Rooms.{reserve_account_of}
 use Rattle.trie_write.specs.Spaces.{Fenced, IsWritable}
 use Rattle.trie_write.proofs.SpaceLaws.{fenced_then, fenced_same, ready_put, writable_later}
 use Rattle.evacuate.specs.Evacuations.{HasSparse}
@@ -13,26 +13,29 @@ use Rattle.evacuate.proofs.evacuation.empty_sparse.Goals.{then-resumed, else-res
 use Rattle.evacuate.proofs.evacuation.empty_sparse.Goals as goal
 
 pub move_root-requires-clause-stood : goal.move_root-requires-clause-stood
-move_root-requires-clause-stood g c = let h = c.requires.stood in record { es = h.es; t = h.t; stood = stood_closed c.start_chunk.ensures.after c.start_chunk.ensures.grows h.stood }
+move_root-requires-clause-stood g c = let h = c.requires.stood in record { es = h.es; t = h.t; stood = stood_closed c.fresh.ensures.after c.fresh.ensures.grows h.stood }
 
 pub move_root-requires-clause-ready : goal.move_root-requires-clause-ready
-move_root-requires-clause-ready g c = ready_closed g.C.CellRead.has g.C.CellWrite.kept g.C.CellWrite.given c.start_chunk.ensures.after c.start_chunk.ensures.grows c.requires.ready
+move_root-requires-clause-ready g c = ready_closed g.C.CellRead.has g.C.CellWrite.kept g.C.CellWrite.given c.fresh.ensures.after c.fresh.ensures.grows c.requires.ready
 
 pub returns-in-Err-clause-stood : goal.returns-in-Err-clause-stood
-returns-in-Err-clause-stood g c es t h = (t, stood_same c.in-Err.ensures.same c.in-Err.ensures.unchanged (stood_closed c.start_chunk.ensures.after c.start_chunk.ensures.grows h))
+returns-in-Err-clause-stood g c es t h = (t, stood_same c.in-Err.ensures.same c.in-Err.ensures.unchanged (stood_closed c.fresh.ensures.after c.fresh.ensures.grows h))
+
+pub returns-in-Err-clause-fills : goal.returns-in-Err-clause-fills
+returns-in-Err-clause-fills g c = subst (Fills c.args.usage.now.given) (sym (c.in-Err.ensures.unchanged ∙ c.fresh.ensures.after)) (fills_begin c.args.usage.now c.known.ensures)
 
 pub returns-in-Err-clause-left : goal.returns-in-Err-clause-left
-returns-in-Err-clause-left g c e = subst HasSparse (sym (c.in-Err.ensures.unchanged ∙ c.start_chunk.ensures.after)) (left_closed c.args.usage.now c.requires.sparse)
+returns-in-Err-clause-left g c e = subst HasSparse (sym (c.in-Err.ensures.unchanged ∙ c.fresh.ensures.after)) (left_closed c.args.usage.now c.requires.sparse)
 
 pub passes-init : goal.passes-init
 passes-init g c =
-    let begins = subst (Fills c.args.usage.now.given) (sym c.start_chunk.ensures.after) (fills_begin c.args.usage.now c.known.ensures) in
+    let begins = subst (Fills c.args.usage.now.given) (sym c.fresh.ensures.after) (fills_begin c.args.usage.now c.known.ensures) in
     record {
-      stood = λ es t h. (t, c.in-Ok.ensures.stood es t (stood_closed c.start_chunk.ensures.after c.start_chunk.ensures.grows h));
-      moves = subst (λ l. Moves c.args.usage.now.given 0 l c.move_root.new.usage) c.start_chunk.ensures.after (c.in-Ok.ensures.paid c.args.usage.now.given begins (root_old c.known.ensures c.requires.stood.stood)).moves;
+      stood = λ es t h. (t, c.in-Ok.ensures.stood es t (stood_closed c.fresh.ensures.after c.fresh.ensures.grows h));
+      moves = subst (λ l. Moves c.args.usage.now.given 0 l c.move_root.new.usage) c.fresh.ensures.after (c.in-Ok.ensures.paid c.args.usage.now.given begins (root_old c.known.ensures c.requires.stood.stood)).moves;
       elsewhere = c.in-Ok.ensures.elsewhere c.args.usage.now.given begins;
       writable = c.in-Ok.ensures.writable;
-      frame = fenced_then (fenced_closed g.C.CellRead.has g.C.CellWrite.kept g.C.CellWrite.given c.start_chunk.ensures.after c.start_chunk.ensures.grows) c.in-Ok.ensures.frame;
+      frame = fenced_then (fenced_closed g.C.CellRead.has g.C.CellWrite.kept g.C.CellWrite.given c.fresh.ensures.after c.fresh.ensures.grows) c.in-Ok.ensures.frame;
       ready = c.in-Ok.ensures.ready;
     }
 
@@ -57,8 +60,8 @@ returns-in-Err-move_found-clause-stood g c es t h =
     let n = c.passes.invariant.stood es t h in
     c.move_found.ensures.stood es n.0 (stood_same (c.next_sparse.ensures.same ∙ c.cell-node.ensures.same) refl n.1) (c.next_sparse.ensures.found c.if-next_sparse.true n.0 (node_top n.1 c.cell-node.ensures.same c.cell-node.ensures.value))
 
-pub returns-in-Err-move_found-clause-count : goal.returns-in-Err-move_found-clause-count
-returns-in-Err-move_found-clause-count g c = (c.move_found.ensures.moves c.args.usage.now.given c.passes.invariant.moves.fills).fills.count
+pub returns-in-Err-move_found-clause-fills : goal.returns-in-Err-move_found-clause-fills
+returns-in-Err-move_found-clause-fills g c = (c.move_found.ensures.moves c.args.usage.now.given c.passes.invariant.moves.fills).fills
 
 pub returns-in-Err-move_found-clause-paid : goal.returns-in-Err-move_found-clause-paid
 returns-in-Err-move_found-clause-paid g c =
@@ -76,8 +79,8 @@ returns-in-Ok-move_found-clause-stood g c es t h =
     let n = c.passes.invariant.stood es t h in
     c.move_found.ensures.stood es n.0 (stood_same (c.next_sparse.ensures.same ∙ c.cell-node.ensures.same) refl n.1) (c.next_sparse.ensures.found c.if-next_sparse.true n.0 (node_top n.1 c.cell-node.ensures.same c.cell-node.ensures.value))
 
-pub returns-in-Ok-move_found-clause-count : goal.returns-in-Ok-move_found-clause-count
-returns-in-Ok-move_found-clause-count g c = (c.move_found.ensures.moves c.args.usage.now.given c.passes.invariant.moves.fills).fills.count
+pub returns-in-Ok-move_found-clause-fills : goal.returns-in-Ok-move_found-clause-fills
+returns-in-Ok-move_found-clause-fills g c = (c.move_found.ensures.moves c.args.usage.now.given c.passes.invariant.moves.fills).fills
 
 pub returns-in-Ok-move_found-clause-paid : goal.returns-in-Ok-move_found-clause-paid
 returns-in-Ok-move_found-clause-paid g c =
@@ -96,7 +99,7 @@ passes-preserved-in-Ok-2 g c =
           c.move_found.ensures.stood es n.0 (stood_same (c.next_sparse.ensures.same ∙ c.cell-node.ensures.same) refl n.1) (c.next_sparse.ensures.found c.if-next_sparse.true n.0 (node_top n.1 c.cell-node.ensures.same c.cell-node.ensures.value));
       moves = moves_then i.moves (c.move_found.ensures.moves c.args.usage.now.given i.moves.fills);
       elsewhere = i.elsewhere;
-      writable = writable_later (subst (λ s. IsWritable g.C.CellWrite.given account_of s c.passes.usage c.in-Ok.at) (sym (c.next_sparse.ensures.same ∙ c.cell-node.ensures.same)) i.writable) c.move_found.ensures.frame.grows c.move_found.ensures.frame.given_stays;
+      writable = writable_later (subst (λ s. IsWritable g.C.CellWrite.given reserve_account_of s c.passes.usage c.in-Ok.at) (sym (c.next_sparse.ensures.same ∙ c.cell-node.ensures.same)) i.writable) c.move_found.ensures.frame.grows c.move_found.ensures.frame.given_stays;
       frame = fenced_then i.frame (fenced_same (c.next_sparse.ensures.same ∙ c.cell-node.ensures.same) c.move_found.ensures.frame);
       ready = c.move_found.ensures.ready;
     }
@@ -108,13 +111,16 @@ passes-preserved g c =
       stood = λ es t h. let n = i.stood es t h in (n.0, stood_same (c.next_sparse.ensures.same ∙ c.cell-node.ensures.same) refl n.1);
       moves = i.moves;
       elsewhere = i.elsewhere;
-      writable = subst (λ s. IsWritable g.C.CellWrite.given account_of s c.passes.usage c.in-Ok.at) (sym (c.next_sparse.ensures.same ∙ c.cell-node.ensures.same)) i.writable;
-      frame = subst (λ s. Fenced g.C.CellRead.has g.C.CellWrite.kept g.C.CellWrite.given account_of c.args.cells.now c.args.usage.now s c.passes.usage) (sym (c.next_sparse.ensures.same ∙ c.cell-node.ensures.same)) i.frame;
+      writable = subst (λ s. IsWritable g.C.CellWrite.given reserve_account_of s c.passes.usage c.in-Ok.at) (sym (c.next_sparse.ensures.same ∙ c.cell-node.ensures.same)) i.writable;
+      frame = subst (λ s. Fenced g.C.CellRead.has g.C.CellWrite.kept g.C.CellWrite.given reserve_account_of c.args.cells.now c.args.usage.now s c.passes.usage) (sym (c.next_sparse.ensures.same ∙ c.cell-node.ensures.same)) i.frame;
       ready = ready_put i.ready (ap g.C.CellWrite.given (c.next_sparse.ensures.same ∙ c.cell-node.ensures.same)) (ap g.C.CellWrite.kept (c.next_sparse.ensures.same ∙ c.cell-node.ensures.same));
     }
 
 pub returns-else-begins_again-clause-stood : goal.returns-else-begins_again-clause-stood
 returns-else-begins_again-clause-stood g c es t h = let n = c.passes.invariant.stood es t h in (n.0, stood_same (c.next_sparse.ensures.same ∙ c.cell-node.ensures.same) refl n.1)
+
+pub returns-else-begins_again-clause-fills : goal.returns-else-begins_again-clause-fills
+returns-else-begins_again-clause-fills g c = c.passes.invariant.moves.fills
 
 pub returns-else-begins_again-clause-whole : goal.returns-else-begins_again-clause-whole
 returns-else-begins_again-clause-whole g c e = elim c.if-resumed.branch [

@@ -3,7 +3,7 @@ use Rattle.std.specs.Prelude.{if◌then◌else◌}
 use Rattle.trie_model.specs.Keys.{Entry}
 use Rattle.trie_model.specs.Trees.{Tree}
 use Rattle.chunk_usage.specs.Keeping.{closed}
-use Rattle.chunk_usage.specs.Rooms.{account_of}
+use Rattle.chunk_usage.specs.Rooms.{reserve_account_of}
 use Rattle.trie_write.specs.Spaces.{Ready, Fenced, IsWritable}
 use Rattle.evacuate.specs.Fillings.{Moves, is_old, old_live}
 use Rattle.evacuate.specs.Places.{Stood}
@@ -15,9 +15,9 @@ invariant-passes g l =
       stood : (es : List Entry) (t : Tree) → Stood g.C.CellRead.has l.fn.cells l.fn.usage l.fn.root es t → (u : Tree) × Stood g.C.CellRead.has l.cells l.usage l.at es u;
       moves : Moves l.fn.usage.given 0 (closed l.fn.usage) l.usage;
       elsewhere : is_old l.fn.usage.given l.at ≡ false;
-      writable : IsWritable g.C.CellWrite.given account_of l.cells l.usage l.at;
-      frame : Fenced g.C.CellRead.has g.C.CellWrite.kept g.C.CellWrite.given account_of l.fn.cells l.fn.usage l.cells l.usage;
-      ready : Ready g.C.CellWrite.kept g.C.CellWrite.given account_of l.cells l.usage;
+      writable : IsWritable g.C.CellWrite.given reserve_account_of l.cells l.usage l.at;
+      frame : Fenced g.C.CellRead.has g.C.CellWrite.kept g.C.CellWrite.given reserve_account_of l.fn.cells l.fn.usage l.cells l.usage;
+      ready : Ready g.C.CellWrite.kept g.C.CellWrite.given reserve_account_of l.cells l.usage;
     }
 
 abbrev pub decreases-passes : goal.decreases-passes

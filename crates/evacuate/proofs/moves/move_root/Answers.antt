@@ -1,6 +1,6 @@
 use Rattle.std.proofs.Common.{◌≡◌, ◌+◌, ◌/◌, ℕ, arith, subst}
 use Rattle.trie_model.specs.Memory.{top_cell}
-use Rattle.chunk_usage.specs.Rooms.{account_of}
+use Rattle.chunk_usage.specs.Rooms.{reserve_account_of}
 use Rattle.trie_write.specs.Spaces.{IsWritable}
 use Rattle.trie_write.proofs.SpaceLaws.{fenced_of, fenced_counts, ready_counts}
 use Rattle.evacuate.proofs.FillingLaws.{moves_paid}
@@ -22,7 +22,7 @@ returns-clause-stood g c es t h = root_moved h c.in_ok-to.ensures.handed c.in_ok
 pub returns-clause-writable : goal.returns-clause-writable
 returns-clause-writable g c =
     let e : c.in_ok-to.to + 0 ≡ c.in_ok-to.to = omega arith in
-    subst (IsWritable g.C.CellWrite.given account_of c.copy_out.new.cells c.release.new.self) e (handed_writable c.args.usage.now c.copy_out.new.usage c.args.root 1 c.in_ok-to.ensures.handed c.in_ok-to.ensures.ready.same c.release.ensures 0 (omega arith))
+    subst (IsWritable g.C.CellWrite.given reserve_account_of c.copy_out.new.cells c.release.new.self) e (handed_writable c.args.usage.now c.copy_out.new.usage c.args.root 1 c.in_ok-to.ensures.handed c.in_ok-to.ensures.ready.same c.release.ensures 0 (omega arith))
 
 pub returns-clause-paid : goal.returns-clause-paid
 returns-clause-paid g c given fills old = moves_paid c.args.root (c.in_ok-to.ensures.moves given fills) old (later_counted c.args.usage.now c.copy_out.new.usage (c.args.root / 1024) c.in_ok-to.ensures.handed (root_counted c.requires.stood.stood)) c.release.ensures

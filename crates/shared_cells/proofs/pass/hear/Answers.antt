@@ -4,7 +4,7 @@ use Rattle.shared_cells.proofs.Seats.{joins_note, may_learn_note}
 use Rattle.shared_cells.proofs.pass.hear.Goals as goal
 
 pub join_seat-requires : goal.join_seat-requires
-join_seat-requires g c = (c.requires.table.0, c.requires.table.1, c.args.note.no_slots, some_word _ _ c.args.shared.now.wide, joins_note g.L.Law.applied g.L.Law.lawful g.L.Law.stands _ _ _ _ _)
+join_seat-requires g c = (c.requires.table.0, c.requires.table.1, c.args.note.no_slots, some_word _ _ c.args.shared.now.wide, joins_note g.L.Law.applied g.L.Law.lawful g.L.Law.stands _ _ _ _ _ c.args.note.no_turn)
 
 pub load-requires : goal.load-requires
 load-requires g c =

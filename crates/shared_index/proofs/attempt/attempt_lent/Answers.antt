@@ -1,6 +1,6 @@
 use Rattle.std.proofs.Common.{◌≡◌, length, sym}
 use Rattle.shared_index.proofs.WordsLaws.{same_words, same_chunks, same_passes, lent_begins, lent_seat, lent_back}
-use Rattle.shared_index.proofs.AttemptLaws.{agrees_later, tried_of}
+use Rattle.shared_index.proofs.AttemptLaws.{leaves_of, agrees_later, tried_of}
 use Rattle.shared_index.proofs.attempt.attempt_lent.Goals as goal
 
 pub returns-clause-passes : goal.returns-clause-passes
@@ -20,7 +20,7 @@ returns-clause-agrees g c =
     let wide : lent.chunks ≡ length u.given = same_chunks _ _ _ _ back.size c.requires.wide (same_words _ _ (sym c.requires.lent.0)) in
     agrees_later c.lend-cells.result lent seat.place.me.0 c.into_joined.result.place.me.0 u c.change_trie-outcome.new.usage
     (lent_begins _ _ _ _ _ c.lend-cells.ensures.cells c.requires.lent.1 chunks) (lent_back _ lent _ _ back.cells c.requires.lent.1) (lent_seat _ _ _ _ back.seat c.requires.lent.1)
-    trie.frame trie.ready wide seat.passes c.requires.agrees
+    (leaves_of trie.frame trie.ready) wide seat.passes c.requires.agrees
 
 pub returns-clause-tried : goal.returns-clause-tried
 returns-clause-tried g c =
@@ -33,4 +33,4 @@ returns-clause-tried g c =
     let wide : lent.chunks ≡ length u.given = same_chunks _ _ _ _ back.size c.requires.wide (same_words _ _ (sym c.requires.lent.0)) in
     tried_of c.lend-cells.result lent seat.place.me.0 c.into_joined.result.place.me.0 u c.change_trie-outcome.new.usage
     (lent_begins _ _ _ _ _ c.lend-cells.ensures.cells c.requires.lent.1 chunks) (lent_back _ lent _ _ back.cells c.requires.lent.1) (lent_seat _ _ _ _ back.seat c.requires.lent.1)
-    trie.frame trie.ready wide seat.passes c.requires.agrees c.args.root c.args.change.now c.change_trie-outcome.result c.known.ensures trie.done trie.refused trie.stays trie.unchanged trie.full trie.asked trie.spends
+    (leaves_of trie.frame trie.ready) wide seat.passes c.requires.agrees c.args.root c.args.change.now c.change_trie-outcome.result trie.frame.spares trie.done trie.refused trie.stays trie.unchanged trie.full trie.asked trie.spends

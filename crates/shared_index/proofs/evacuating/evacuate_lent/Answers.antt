@@ -1,7 +1,7 @@
 use Rattle.std.proofs.Common.{◌≡◌, length, sym}
 use Rattle.shared_index.proofs.WordsLaws.{same_words, same_chunks, same_passes, lent_begins, lent_seat, lent_back}
 use Rattle.shared_index.proofs.AttemptLaws.{agrees_later}
-use Rattle.shared_index.proofs.MovingLaws.{moved_of}
+use Rattle.shared_index.proofs.MovingLaws.{leaves_moved, moved_of}
 use Rattle.shared_index.proofs.evacuating.evacuate_lent.Goals as goal
 
 pub returns-clause-passes : goal.returns-clause-passes
@@ -21,7 +21,7 @@ returns-clause-agrees g c =
     let wide : lent.chunks ≡ length u.given = same_chunks _ _ _ _ back.size c.requires.wide (same_words _ _ (sym c.requires.lent.0)) in
     agrees_later c.lend-cells.result lent seat.place.me.0 c.into_joined.result.place.me.0 u c.evacuate-root.new.usage
     (lent_begins _ _ _ _ _ c.lend-cells.ensures.cells c.requires.lent.1 chunks) (lent_back _ lent _ _ back.cells c.requires.lent.1) (lent_seat _ _ _ _ back.seat c.requires.lent.1)
-    trie.frame trie.ready wide seat.passes c.requires.agrees
+    (leaves_moved trie.frame trie.ready) wide seat.passes c.requires.agrees
 
 pub returns-clause-moved : goal.returns-clause-moved
 returns-clause-moved g c =
@@ -34,4 +34,4 @@ returns-clause-moved g c =
     let wide : lent.chunks ≡ length u.given = same_chunks _ _ _ _ back.size c.requires.wide (same_words _ _ (sym c.requires.lent.0)) in
     moved_of c.lend-cells.result lent seat.place.me.0 c.into_joined.result.place.me.0 u c.evacuate-root.new.usage
     (lent_begins _ _ _ _ _ c.lend-cells.ensures.cells c.requires.lent.1 chunks) (lent_back _ lent _ _ back.cells c.requires.lent.1) (lent_seat _ _ _ _ back.seat c.requires.lent.1)
-    trie.frame trie.ready wide seat.passes c.requires.agrees c.args.root c.evacuate-root.result.0 c.evacuate-root.result.1 c.known.ensures trie.stands trie.whole trie.stopped trie.left
+    (leaves_moved trie.frame trie.ready) wide seat.passes c.requires.agrees c.args.root c.evacuate-root.result.0 c.evacuate-root.result.1 c.known.ensures trie.stands trie.none trie.fills trie.whole trie.stopped trie.left

@@ -1,9 +1,14 @@
-use Rattle.std.proofs.Common.{◌≡◌, ◌∙◌, ◌+◌, ◌<◌, ◌≤◌, ◌⊎◌, ◌∷◌, ◌++◌, [], ℕ, List, true, length, sym, ap, subst, arith}
+use Rattle.std.proofs.Common.{◌≡◌, ◌↔◌, ◌∙◌, ◌+◌, ◌<◌, ◌≤◌, ◌⊎◌, ◌∷◌, ◌++◌, [], ℕ, List, Option, true, length, sym, ap, subst, arith}
 use Rattle.std.specs.Prelude.{IfSome}
 use Rattle.std.specs.List.{AllPairs, Contains}
+use Rattle.std.proofs.lemmas.List.{length-replicate}
 use Rattle.chunk_usage.specs.Ledger.{Ledger, Row, newest}
 use Rattle.chunk_usage.specs.Keeping.{is_among, kept_versions, narrowed}
-use Rattle.shared_cells.specs.Steps.{IsNamed, Rounded}
+use Rattle.pin_core.specs.declared.kept.Mark.{Mark}
+use Rattle.pin_core.specs.declared.kept.Mark.TheVariants as mark
+use Rattle.shared_cells.specs.declared.view.TurnView.{TurnView}
+use Rattle.shared_cells.specs.Views.{marks_of}
+use Rattle.shared_cells.specs.Steps.{IsDue, IsNamed, Rounded}
 use Rattle.shared_index.specs.Passes.{Known}
 use Rattle.shared_index.specs.Turns.{Agrees, cells_with}
 use Rattle.shared_index.proofs.RoundLaws.{words_same, goes_on, root_same, newest_left, numbers_now, agrees_rounded, images_left, ends_left}
@@ -45,11 +50,18 @@ returns g c =
           (agrees_rounded g.L.Law.lawful v told.0 c.look.result told.1 told.2 w list rounded u seat.passes (seat.passes + 2) c.requires.agrees few);
       root = root_same g.L.Law.lawful v told.0 c.look.result told.1 told.2 w list rounded;
       images = images_left g.L.Law.lawful v told.0 c.look.result told.1 told.2 w list rounded seat.told;
-      rounded = subst (Rounded v w) (sym kept) rounded;
-      rising = subst (AllPairs (λ (x y : ℕ). x < y)) (sym kept) c.as_slice.ensures.rising;
-      few = subst (λ (ns : List ℕ). length ns ≤ seat.passes + 1) (sym kept) few;
-      ends =
-          let e = ends_left g.L.Law.lawful v told.0 c.look.result told.1 told.2 w list rounded in
-          (e.0, kept ∙ rounded.kept ∙ e.1 ∙ ap (λ (n : ℕ). e.0 ++ n ∷ []) (sym seat.version_is));
+      kept = record {
+        marks = rounded.marks;
+        each = rounded.each ∙ ap (λ (t : Option TurnView). length (marks_of t)) (sym rounded.is_turn) ∙ ap (λ (ms : List Mark). length ms) seat.blank ∙ length-replicate {A = Mark} seat.passes mark.Blank;
+        settled = rounded.settled;
+        listed = ap (λ (x : Known). x.seen.namings) rounded.after;
+        rising = subst (AllPairs (λ (x y : ℕ). x < y)) (sym kept) c.as_slice.ensures.rising;
+        exact = subst (λ (n : ℕ). (k : ℕ) → Contains (kept_versions c.keep_only.new.self) k ↔ IsDue n rounded.marks k) (sym seat.version_is)
+            (subst (λ (ns : List ℕ). (k : ℕ) → Contains ns k ↔ IsDue (length v.seen.history) rounded.marks k) (sym kept) rounded.exact);
+        ends =
+            let e = ends_left g.L.Law.lawful v told.0 c.look.result told.1 told.2 w list rounded in
+            (e.0, kept ∙ rounded.kept ∙ e.1 ∙ ap (λ (n : ℕ). e.0 ++ n ∷ []) (sym seat.version_is));
+        few = subst (λ (ns : List ℕ). length ns ≤ seat.passes + 1) (sym kept) few;
+      };
       named = λ n h. subst (λ (m : ℕ). (n ≡ m) ⊎ IsNamed w n) look.same.1 (round.named n (subst (λ (ns : List ℕ). Contains ns n) kept h));
     }

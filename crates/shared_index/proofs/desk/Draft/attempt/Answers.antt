@@ -3,8 +3,8 @@ use Rattle.trie_model.specs.Keys.{Entry}
 use Rattle.chunk_usage.specs.Ledger.{Ledger}
 use Rattle.shared_cells.specs.declared.turn.JoinedSeat.{JoinedSeat}
 use Rattle.shared_index.specs.declared.meaning.Operation.{Operation}
-use Rattle.shared_index.specs.Fulls.{Grown}
-use Rattle.shared_index.specs.Tries.{Tried}
+use Rattle.shared_index.specs.Passes.{Known}
+use Rattle.shared_index.specs.Tries.{Spares, Tried}
 use Rattle.shared_index.proofs.WorkLaws.{operates_done}
 use Rattle.shared_index.proofs.desk.Draft.attempt.Goals as goal
 
@@ -21,7 +21,16 @@ returns-in-Ok-clause-operates g c =
     (subst (λ (r : Option ℕ). Tried change d.root d.seat.place.me.0 d.usage n.seat.place.me.0 n.usage (Ok r)) (sym done.root) by_usage) done.log
     (ap (λ (s : JoinedSeat (List Entry) (List Operation)). s.passes) done.seat ∙ c.attempt-seat.ensures.passes)
 
-pub returns-in-Ok-clause-grown : goal.returns-in-Ok-clause-grown
-returns-in-Ok-clause-grown g c =
+pub returns-in-Ok-clause-spares : goal.returns-in-Ok-clause-spares
+returns-in-Ok-clause-spares g c = subst (Spares c.args.self.usage) (sym c.with_done.ensures.usage) c.attempt-seat.ensures.tried.spares
+
+pub returns-in-Err-clause-fails : goal.returns-in-Err-clause-fails
+returns-in-Err-clause-fails g c =
+    let d = c.args.self in
     let tried = c.attempt-seat.ensures.tried in
-    subst (Grown c.args.self.usage) (sym c.with_done.ensures.usage) (record { frozen = tried.frozen; given = tried.given; opens = tried.opens })
+    let by_call = subst (Tried c.args.change.now d.root d.seat.place.me.0 d.usage c.attempt-seat.result.0.place.me.0 c.attempt-seat.new.usage) c.in-Err.is tried in
+    record {
+      seen = ap (λ (x : Known). x.seen) tried.same;
+      spares = tried.spares;
+      counts = by_call.counts;
+    }

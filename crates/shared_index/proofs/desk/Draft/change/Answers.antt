@@ -1,14 +1,19 @@
-use Rattle.std.proofs.Common.{IfErr, Err, subst}
-use Rattle.shared_index.specs.Changes.{key_of, written_by, asked_by}
-use Rattle.shared_index.specs.Fulls.{full_with}
-use Rattle.shared_index.specs.Tries.{Tried}
-use Rattle.shared_index.proofs.MovingLaws.{caused_from}
+use Rattle.std.proofs.Common.{IfErr, inl, inr, refl, subst}
+use Rattle.shared_index.specs.Rooms.{Fails}
+use Rattle.shared_index.proofs.desk.Draft.change.Given.{Over}
 use Rattle.shared_index.proofs.desk.Draft.change.Goals as goal
 
+-- the first try found no room
+first_fails : (g : Over) (c : goal.After-change_at_last g) → Fails c.args.self c.attempt-draft.result.0
+first_fails g c = subst (λ r. IfErr r (λ x. Fails c.args.self c.attempt-draft.result.0)) c.in-Err-Full.is c.attempt-draft.ensures.fails
+
+pub returns-in-Err-Full-clause-spares : goal.returns-in-Err-Full-clause-spares
+returns-in-Err-Full-clause-spares g c =
+    let room = c.change_at_last.ensures.room in
+    record { tried = room.0; is_tried = inr (c.attempt-draft.result.0, first_fails g c, room.1); spares = room.2 }
+
+pub returns-in_default-clause-spares : goal.returns-in_default-clause-spares
+returns-in_default-clause-spares g c = record { tried = c.args.self; is_tried = inl refl; spares = c.attempt-draft.ensures.spares }
+
 pub returns-in-Err-Full-clause-cause : goal.returns-in-Err-Full-clause-cause
-returns-in-Err-Full-clause-cause g c f kept e same =
-    let change = c.args.change.now in
-    let d = c.args.self in
-    let tried = c.attempt-draft in
-    let first = subst (λ r. IfErr r (λ x. Tried change d.root d.seat.place.me.0 d.usage tried.result.0.seat.place.me.0 tried.result.0.usage (Err x))) c.in-Err-Full.is tried.ensures.tried in
-    caused_from c.args.self.usage c.attempt-draft.result.0.usage c.change_at_last.result.0 (key_of change) (written_by change) (asked_by change) (full_with f kept) c.attempt-draft.ensures.grown first.counts (c.change_at_last.ensures.cause f kept e same)
+returns-in-Err-Full-clause-cause g c f kept e same = record { first = c.attempt-draft.result.0; fails = first_fails g c; caused = c.change_at_last.ensures.cause f kept e same }

@@ -34,6 +34,3 @@ returns-clause-works g c =
     let w : Known = c.evacuate-seat.result.0.place.me.0 in
     let moved = c.evacuate-seat.ensures.moved in
     stands_on v w c.evacuate-seat.new.usage c.evacuate-seat.result.1 d.log.operations (words_go_on v w (words_of w.turn) moved.same) (moved.stands (working_set d) c.requires.works)
-
-pub returns-clause-grown : goal.returns-clause-grown
-returns-clause-grown g c = let moved = c.evacuate-seat.ensures.moved in record { frozen = moved.frozen; given = moved.given; opens = moved.opens }

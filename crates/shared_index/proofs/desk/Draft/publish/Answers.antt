@@ -1,20 +1,22 @@
-use Rattle.std.proofs.Common.{◌≡◌, ◌∙◌, ◌↔◌, ◌+◌, ◌*◌, ◌≤◌, ◌++◌, ◌∷◌, [], ℕ, List, length, Option, refl, sym, ap, subst, arith, length-append}
-use Rattle.std.specs.List.{Contains}
-use Rattle.std.proofs.lemmas.List.{length-map, length-replicate}
+use Rattle.std.proofs.Common.{◌≡◌, ◌∙◌, ◌+◌, ◌*◌, ◌++◌, ◌∷◌, [], ℕ, List, length, Option, refl, sym, ap, subst, arith, length-append}
+use Rattle.std.proofs.lemmas.List.{length-map}
 use Rattle.pin_core.specs.declared.kept.Kept.{Kept}
-use Rattle.pin_core.specs.declared.kept.Mark.{Mark}
-use Rattle.pin_core.specs.declared.kept.Mark.TheVariants as mark
 use Rattle.chunk_usage.specs.Ledger.{Ledger, Row, free_count}
 use Rattle.chunk_usage.specs.Keeping.{AreOlder, freed, frozen, kept_versions, narrowed}
+use Rattle.trie_model.specs.Keys.{Entry}
+use Rattle.shared_cells.specs.declared.view.Naming.{Naming}
+use Rattle.shared_cells.specs.declared.view.Seen.{Seen}
 use Rattle.shared_cells.specs.declared.view.TurnView.{TurnView}
-use Rattle.shared_cells.specs.Views.{kept_in, kept_of, marks_of, namings_by, words_of}
-use Rattle.shared_cells.specs.Steps.{IsDue}
+use Rattle.shared_cells.specs.Views.{kept_in, kept_of, words_of}
 use Rattle.shared_cells.proofs.Seats.{turn_there, pass_there, told_there}
+use Rattle.shared_index.specs.declared.meaning.Operation.{Operation}
 use Rattle.shared_index.specs.Drafts.{working_set}
 use Rattle.shared_index.specs.Images.{image_at}
+use Rattle.shared_index.specs.Keepings.{Rounds}
 use Rattle.shared_index.specs.Passes.{Known}
 use Rattle.shared_index.specs.Turns.{Agrees, AgreesWithin, cells_with, current_root}
 use Rattle.shared_index.proofs.PublishLaws.{all_older, can_publish, agrees_published, root_published}
+use Rattle.shared_index.proofs.WorkLaws.{rounds_of}
 use Rattle.shared_index.proofs.WordsLaws.{freed_chunks, same_chunks, same_words, words_kept}
 use Rattle.shared_index.proofs.desk.Draft.publish.Goals as goal
 
@@ -89,34 +91,27 @@ returns-clause-receipt g c =
     let d = c.args.self in
     let v : Known = d.seat.place.me.0 in
     let w : Known = c.publish-version.new.seat.place.me.0 in
-    let list = kept_versions c.make_round.new.usage in
     let round = c.make_round.ensures in
-    let rounded = round.rounded in
     let free = c.free_unreached-seat.ensures in
     let receipt = c.of-receipt.ensures in
-    let p = c.publish-version.ensures.published in
-    let number : c.publish-version.result ≡ length v.seen.history + 1 = c.publish-version.ensures.version ∙ ap (λ (n : ℕ). n + 1) d.seat.version_is in
-    let long : length w.seen.history ≡ length v.seen.history + 1 = ap (λ (k : Known). length k.seen.history) p.6 ∙ length-append v.seen.history (record { author = p.1.number; change = p.2 } ∷ []) in
-    let latest : length w.seen.history ≡ c.of-receipt.result.version = long ∙ sym number ∙ sym receipt.0 in
-    let usage : c.free_unreached-seat.new.usage ≡ freed (narrowed (frozen d.usage c.of-receipt.result.version) list) =
-    free.after ∙ ap freed (round.usage ∙ ap (λ (l : Ledger). narrowed l list) (c.freeze.ensures.after ∙ ap (frozen d.usage) (sym receipt.0))) in
+    let split = c.split-seat.ensures.pass.0 in
+    let p = c.publish-version.ensures in
+    let version : c.publish-version.new.seat.version ≡ c.of-receipt.result.version =
+    c.publish-version.new.seat.version_is ∙ ap (λ (k : Known). length k.seen.history) p.published.6 ∙ length-append v.seen.history (record { author = p.published.1.number; change = p.published.2 } ∷ [])
+    ∙ ap (λ (n : ℕ). n + 1) (sym d.seat.version_is) ∙ sym p.version ∙ sym receipt.0 in
+    let start : c.freeze.new.self ≡ frozen d.usage c.of-receipt.result.version = c.freeze.ensures.after ∙ ap (frozen d.usage) (sym receipt.0) in
+    let after : c.split-seat.result.1.place.me.0.seen ≡ c.make_round.new.seat.place.me.0.seen = ap (λ (k : Known). k.seen) split ∙ ap (λ (k : Known). k.seen) free.same in
     record {
-      marks = rounded.marks;
-      each = rounded.each
-          ∙ ap (λ (t : Option TurnView). length (marks_of t)) (sym rounded.is_turn)
-          ∙ ap (λ (ms : List Mark). length ms) c.publish-version.new.seat.blank
-          ∙ length-replicate c.publish-version.new.seat.passes mark.Blank ∙ c.publish-version.ensures.numbers.1;
-      listed = ap (λ (k : Known). k.seen.namings) c.split-seat.ensures.pass.0
-          ∙ ap (λ (k : Known). k.seen.namings) free.same
-          ∙ ap (λ (k : Known). k.seen.namings) rounded.after
-          ∙ ap (λ (k : Known). k.seen.namings ++ namings_by 0 rounded.marks) p.6;
-      versions = list;
-      rising = round.rising;
-      exact = λ k. subst (λ (n : ℕ). Contains list k ↔ IsDue n rounded.marks k) latest (rounded.exact k);
-      ends = (round.ends.0, round.ends.1 ∙ ap (λ (n : ℕ). round.ends.0 ++ n ∷ []) (c.publish-version.new.seat.version_is ∙ latest));
-      count = receipt.2 ∙ ap (λ (l : Ledger). length l.rows) free.after ∙ sym (length-map c.make_round.new.usage.rows (λ (row : Row). row.version));
-      few = subst (λ (n : ℕ). length list ≤ n + 1) c.publish-version.ensures.numbers.1 round.few;
-      recycled = ap free_count (sym usage) ∙ free.count
-          ∙ ap (λ (l : Ledger). free_count l + c.free_unreached-seat.result.1) (round.usage ∙ ap (λ (l : Ledger). narrowed l list) c.freeze.ensures.after)
-          ∙ ap (λ (n : ℕ). free_count d.usage + n) (sym receipt.1);
+      published = w;
+      publishes = p.published;
+      history = ap (λ (s : Seen (List Entry) (List Operation)). s.history) after ∙ round.goes_on.history;
+      pass = ap (λ (k : Known). k.pass) split ∙ ap (λ (k : Known). k.pass) free.same ∙ round.goes_on.pass;
+      left = c.free_unreached-seat.new.usage;
+      round = subst (λ (u : Ledger). Rounds c.of-receipt.result.version d.seat.passes v.seen.namings c.split-seat.result.1.place.me.0.seen.namings u c.free_unreached-seat.new.usage) start
+          (subst (λ (ns : List Naming). Rounds c.of-receipt.result.version d.seat.passes ns c.split-seat.result.1.place.me.0.seen.namings c.freeze.new.self c.free_unreached-seat.new.usage) (ap (λ (k : Known). k.seen.namings) p.published.6)
+          (subst (λ (n : ℕ). Rounds n d.seat.passes w.seen.namings c.split-seat.result.1.place.me.0.seen.namings c.freeze.new.self c.free_unreached-seat.new.usage) version
+          (subst (λ (n : ℕ). Rounds c.publish-version.new.seat.version n w.seen.namings c.split-seat.result.1.place.me.0.seen.namings c.freeze.new.self c.free_unreached-seat.new.usage) p.numbers.1
+          (rounds_of round.kept round.usage free.after (ap (λ (s : Seen (List Entry) (List Operation)). s.namings) after)))));
+      freed = free.count ∙ ap (λ (l : Ledger). free_count l + c.free_unreached-seat.result.1) (round.usage ∙ ap (λ (l : Ledger). narrowed l (kept_versions c.make_round.new.usage)) c.freeze.ensures.after) ∙ ap (λ (n : ℕ). free_count d.usage + n) (sym receipt.1);
+      kept = receipt.2 ∙ sym (length-map c.free_unreached-seat.new.usage.rows (λ (row : Row). row.version));
     }

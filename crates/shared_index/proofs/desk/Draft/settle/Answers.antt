@@ -1,9 +1,27 @@
-use Rattle.std.proofs.Common.{arith}
+use Rattle.std.proofs.Common.{true, false, subst, arith}
+use Rattle.shared_index.specs.Movings.{Evacuates}
 use Rattle.shared_index.proofs.MovingLaws.{thin_sparse, thin_dense}
+use Rattle.shared_index.proofs.SettleLaws.{settles_few, settles_many}
 use Rattle.shared_index.proofs.desk.Draft.settle.Goals as goal
+
+pub returns-then-sparse-most-clause-settles : goal.returns-then-sparse-most-clause-settles
+returns-then-sparse-most-clause-settles g c = settles_few c.args.self c.requires.works (let n = c.sparse.ensures in let few = c.if-sparse-most.true in omega arith)
 
 pub returns-then-sparse-most-clause-whole : goal.returns-then-sparse-most-clause-whole
 returns-then-sparse-most-clause-whole g c e = thin_sparse c.args.most c.args.self.usage (let n = c.sparse.ensures in let few = c.if-sparse-most.true in omega arith)
 
+pub returns-in-Whole-clause-settles : goal.returns-in-Whole-clause-settles
+returns-in-Whole-clause-settles g c =
+    let e = c.evacuate-draft.ensures in
+    settles_many true (let n = c.sparse.ensures in let many = c.if-sparse-most.false in omega arith) e.goes_on e.seen e.works e.log (subst (Evacuates c.args.self.usage c.evacuate-draft.result.0.usage) c.in-Whole.is e.evacuates)
+
 pub returns-in-Whole-clause-whole : goal.returns-in-Whole-clause-whole
-returns-in-Whole-clause-whole g c e = thin_dense c.args.most c.evacuate-draft.result.0.usage (c.evacuate-draft.ensures.whole c.in-Whole.is)
+returns-in-Whole-clause-whole g c e = thin_dense c.args.most c.evacuate-draft.result.0.usage (c.evacuate-draft.ensures.evacuates.whole c.in-Whole.is)
+
+pub returns-in-Stopped-clause-settles : goal.returns-in-Stopped-clause-settles
+returns-in-Stopped-clause-settles g c =
+    let e = c.evacuate-draft.ensures in
+    settles_many false (let n = c.sparse.ensures in let many = c.if-sparse-most.false in omega arith) e.goes_on e.seen e.works e.log (subst (Evacuates c.args.self.usage c.evacuate-draft.result.0.usage) c.in-Stopped.is e.evacuates)
+
+pub returns-in-Stopped-clause-stopped : goal.returns-in-Stopped-clause-stopped
+returns-in-Stopped-clause-stopped g c e = (c.evacuate-draft.ensures.evacuates.stopped c.in-Stopped.is).0.spent.none_free

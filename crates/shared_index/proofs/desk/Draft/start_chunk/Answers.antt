@@ -8,14 +8,14 @@ use Rattle.shared_index.proofs.desk.Draft.start_chunk.Goals as goal
 pub invariant_of-self : goal.invariant_of-self
 invariant_of-self c =
     let d = c.args.self.now in
-    let after = c.start_chunk.ensures.after in
+    let after = c.fresh.ensures.after in
     let chunks = ap (λ (l : Ledger). length l.given) after in
     record {
       wide = ap (λ (n : ℕ). 4161 + 2048 * n) chunks ∙ d.wide;
-      agrees = subst (λ (n : ℕ). Agrees (cells_of n d.seat.place.me.0.turn) c.start_chunk.new.self d.seat.passes) (sym chunks)
-          (agrees_closed (cells_with d.usage d.seat.place.me.0.turn) d.usage c.start_chunk.new.self d.seat.passes after c.start_chunk.ensures.grows d.agrees);
+      agrees = subst (λ (n : ℕ). Agrees (cells_of n d.seat.place.me.0.turn) c.fresh.new.self d.seat.passes) (sym chunks)
+          (agrees_closed (cells_with d.usage d.seat.place.me.0.turn) d.usage c.fresh.new.self d.seat.passes after c.fresh.ensures.grows d.agrees);
       base_is = d.base_is;
     }
 
 pub returns-clause-stands : goal.returns-clause-stands
-returns-clause-stands c es = let d = c.args.self.now in stands_closed d.seat.place.me.0 d.usage c.start_chunk.new.self d.root es c.start_chunk.ensures.after c.start_chunk.ensures.grows
+returns-clause-stands c es = let d = c.args.self.now in stands_closed d.seat.place.me.0 d.usage c.fresh.new.self d.root es c.fresh.ensures.after c.fresh.ensures.grows

@@ -1,4 +1,4 @@
-use Rattle.std.proofs.Common.{◌∙◌, ◌∷◌, [], ap, map}
+use Rattle.std.proofs.Common.{◌∙◌, ◌∷◌, [], length, sym, ap, map, arith, length-append}
 use Rattle.std.proofs.lemmas.List.{map-append}
 use Rattle.shared_index.specs.Passes.{known_at}
 use Rattle.shared_index.proofs.CloseLaws.{ends}
@@ -11,4 +11,8 @@ returns-in-Some g c =
         e.0,
         ends _ _ _ _ _ _ e.0 e.1 (ap (map (λ p. known_at p.seat)) c.in-Some.ensures.items ∙ map-append (λ p. known_at p.seat) c.pop.new.self.items (c.in-Some.first ∷ [])),
       );
+      at_rest = λ none. absurd (
+          let n = ap (λ ps. length ps) (sym c.in-Some.ensures.items ∙ none) in
+          let m = length-append c.pop.new.self.items (c.in-Some.first ∷ []) in
+          let no : ⊥ = omega arith in no);
     }

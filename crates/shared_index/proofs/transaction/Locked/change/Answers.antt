@@ -8,5 +8,5 @@ use Rattle.shared_index.proofs.transaction.Locked.change.Goals as goal
 pub returns-clause-cause : goal.returns-clause-cause
 returns-clause-cause g c f kept e same =
     let change = c.args.change.now in
-    subst (λ (o : Option Draft). Between (λ d e. CausedFrom d.usage e (key_of change) (written_by change) (asked_by change) (full_with f kept)) o (Some c.change-draft.result.0))
+    subst (λ (o : Option Draft). Between (λ d e. CausedFrom d e (key_of change) (written_by change) (asked_by change) (full_with f kept)) o (Some c.change-draft.result.0))
     (sym (sym c.take.ensures.value ∙ c.in-Some.is)) (c.change-draft.ensures.cause f kept e same)

@@ -1,5 +1,0 @@
-use Rattle.shared_cells.proofs.Turns.{may_recall}
-use Rattle.shared_cells.proofs.turn.JoinedSeat.read.Goals as goal
-
-pub load-requires : goal.load-requires
-load-requires g c = (c.requires.table, c.requires.inside.1, may_recall g.L.Law.applied g.L.Law.lawful g.L.Law.stands _ _ _ _ _ c.args.self.now.turn c.requires.inside.0)
