@@ -38,6 +38,8 @@ pub enum Phrase<'a> {
     Releases,
     /// A block begins.
     Opens(Weight),
+    /// A prerequisite: whether a record is wanted or not, of an owner, perhaps of a type.
+    Needs(bool, Token, Option<Token>),
     /// An addition of an owner, time to live, type and data.
     Adds(Token, Token, Token, &'a [Token]),
     /// A deletion of a name, perhaps of a type, perhaps of data.
@@ -165,6 +167,21 @@ fn adds<'a>(bytes: &[u8], owner: Token, rest: &'a [Token]) -> Option<Phrase<'a>>
     Some(Phrase::Adds(owner, *ttl, *rtype, rdata))
 }
 
+// A prerequisite.
+fn needs<'a>(wanted: bool, owner: Token, rest: &[Token]) -> Option<Phrase<'a>>
+    ensures said { (bytes : List ℕ) → option_map (phrase_view bytes) result ≡ phrases.needs wanted (token_view bytes owner) (map (token_view bytes) rest.now) }
+    ensures placed { (bytes : List ℕ) → IsPlaced bytes owner → All (IsPlaced bytes) rest.now → IfSome result (PhrasePlaced bytes) }
+{
+    let Some((rtype, behind)) = rest.split_first() else {
+        return Some(Phrase::Needs(wanted, owner, None));
+    };
+    if behind.is_empty() {
+        Some(Phrase::Needs(wanted, owner, Some(*rtype)))
+    } else {
+        None
+    }
+}
+
 /// What tokens say; None where they are no command.
 #[tactic(auto, unfolding(job_model::specs::Phrases::phrase_of))]
 pub fn phrase_of<'a>(bytes: &[u8], tokens: &'a [Token]) -> Option<Phrase<'a>>
@@ -189,6 +206,12 @@ pub fn phrase_of<'a>(bytes: &[u8], tokens: &'a [Token]) -> Option<Phrase<'a>>
             Some(asked) => Some(Phrase::AsksHeld(asked)),
             None => None,
         };
+    }
+    if says(bytes, *word, b"need") {
+        return needs(true, *first, rest);
+    }
+    if says(bytes, *word, b"neednot") {
+        return needs(false, *first, rest);
     }
     match named_question(bytes, *word, *first, rest) {
         Some(asked) => Some(Phrase::Asks(asked)),
