@@ -239,7 +239,7 @@ add_spelled n i c h =
     (three_words n (codes "300") (codes "A") (address_text c) (omega arith) (hex_word (codes "300") refl) (omega arith) (alphabetic_word (codes "A") refl) (omega arith) (address_shows c))))
 
 add_line : (n m i c : ℕ) (es : List (List Command)) (cs : List Command) → i < 1000000 → script_line made_origin n (codes "add " ++ name_text i ++ codes " 300 A " ++ address_text c) (inside_block es cs (record { start = m; weight = Light; asked = asks (DeleteSet (owner i) 1 ∷ []) }))
-    ≡ Ok (inside_block es cs (record { start = m; weight = Light; operations = DeleteSet (owner i) 1 ∷ Add (record { owner = owner i; rtype = 1; ttl = 300; octets = octets c }) ∷ [] }))
+    ≡ Ok (inside_block es cs (record { start = m; weight = Light; asked = asks (DeleteSet (owner i) 1 ∷ Add (record { owner = owner i; rtype = 1; ttl = 300; octets = octets c }) ∷ []) }))
 unfolding phrase_of addition_of type_named time_of groups number digits_from
 add_line n m i c es cs h =
     tokens_said n (codes "add " ++ name_text i ++ codes " 300 A " ++ address_text c) (word n (codes "add") ∷ word n (name_text i) ∷ word n (codes "300") ∷ word n (codes "A") ∷ word n (address_text c) ∷ [])

@@ -14,8 +14,6 @@ use Rattle.job_model.specs.Commands.{Question, Command, Ask, Hold, AskHeld, Rele
 use Rattle.job_model.specs.Replies.{reply_of}
 use Rattle.job_model.specs.Outcomes.{Ended, Shown, Committed, RolledBack, Refused, is_committed, Sight, Shows, Causes, BlockEnds, EndsLawfully, shown_by, sight_after}
 use Rattle.job_script.specs.Outcomes.{ended_view, Replies, EndsBlock, EndsCompaction}
-use Rattle.job_script.specs.declared.outcomes.Told.{Told}
-use Rattle.job_script.specs.declared.outcomes.Told.TheVariants as told
 use Rattle.job_script.specs.declared.outcomes.Outcome.{Outcome}
 use Rattle.shared_cells.specs.declared.pinned.PinnedSeat.{PinnedSeat}
 use Rattle.shared_cells.specs.declared.view.PassView.{PassView}

@@ -197,7 +197,13 @@ impl<'a> ItemView<'a> {
     {
         match rtype {
             Some(rtype) => self.find_set(rtype).is_some(),
-            None => self.left > 0,
+            None => {
+                let mut sets = ItemView {
+                    left: self.left,
+                    octets: self.octets,
+                };
+                sets.next().is_some()
+            }
         }
     }
 

@@ -1,9 +1,8 @@
 -- Prerequisites, and what a transaction makes of a version by them.
-use Rattle.std.proofs.Common.{◌≡◌, ◌∙◌, ℕ, Bool, true, false, cond, List, Result, Ok, Err, refl, sym, ap, subst}
+use Rattle.std.proofs.Common.{◌≡◌, ◌∙◌, Bool, true, false, cond, Result, Ok, Err, ap}
 use Rattle.zone_model.specs.Names.{Name}
 use Rattle.zone_model.specs.Versions.{Version, all_applied}
 use Rattle.zone_model.specs.Transactions.{Transaction, all_met, whole}
-use Rattle.zone_model.specs.declared.Refusal.{Refusal}
 use Rattle.zone_model.specs.declared.Refusal.TheVariants.{Prereq}
 use Rattle.shared_index.specs.declared.desk.Draft.{Draft}
 use Rattle.zone_edit.specs.Blocks.{AppliesAll, Executes}

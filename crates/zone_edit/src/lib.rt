@@ -3,10 +3,10 @@
 
 mod applying;
 mod buffers;
+mod executing;
 mod prerequisites;
 mod reading;
 mod storing;
-mod executing;
 
 pub use applying::Halt;
 pub use buffers::ItemBuffers;

@@ -1,4 +1,4 @@
-use Rattle.std.proofs.Common.{rules, ◌∙◌, ◌+◌, ◌*◌, Ok, Err, refl, sym, subst, ap, map}
+use Rattle.std.proofs.Common.{rules, ◌∙◌, ◌+◌, ◌*◌, Ok, Err, refl, sym, subst, ap}
 use Rattle.std.specs.Prelude.{IsSomeAnd}
 use Rattle.job_model.specs.declared.Weight.{Weight}
 use Rattle.job_script.specs.Views.{asked_view}

@@ -1,4 +1,4 @@
-use Rattle.std.proofs.Common.{◌≡◌, sym, subst, map}
+use Rattle.std.proofs.Common.{◌≡◌, sym, subst}
 use Rattle.std.specs.Option.{option_map}
 use Rattle.job_model.specs.Commands.{AskHeld}
 use Rattle.job_script.specs.Views.{command_view, question_view}
