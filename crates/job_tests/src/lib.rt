@@ -8,4 +8,6 @@ mod crowd;
 #[cfg(test)]
 mod gates;
 #[cfg(test)]
+mod plain;
+#[cfg(test)]
 mod workers;
