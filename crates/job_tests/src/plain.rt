@@ -13,7 +13,8 @@ use trie_write::build;
 use zone_query::{Answer, Kind, answer};
 
 /// A zone with an alias.
-const ZONE: &[u8] = b"$TTL 300\n@ SOA ns hostmaster 1 3600 600 86400 60\n@ NS ns\nns A 192.0.2.1\nwww CNAME ns\n";
+const ZONE: &[u8] =
+    b"$TTL 300\n@ SOA ns hostmaster 1 3600 600 86400 60\n@ NS ns\nns A 192.0.2.1\nwww CNAME ns\n";
 
 /// The addresses of a name, by way of aliases.
 fn addresses(alloc: Global, zone: Zone, origin: &Name, name: &Name) -> Result<Answer, Fail> {

@@ -18,8 +18,7 @@ build-requires-clause-rising c =
 pub answer-requires : goal.answer-requires
 answer-requires c =
     let stands = subst (λ (items : List Item). StandsAs (entries_of_items items) c.args.zone.pairs) (sym c.deref.ensures.value) c.in_ok-items.ensures in
-    let same = sym stands.entries in
-    (
+    let same = sym stands.entries in (
       c.args.zone.pairs,
       record {
         version_is = stands.valid;
