@@ -10,7 +10,6 @@ mod fields;
 mod forms;
 mod generic;
 pub mod laws;
-mod packed;
 mod places;
 mod rdata;
 mod reading;
@@ -25,7 +24,6 @@ mod views;
 
 pub use data_text::{push_data, push_type};
 pub use entry::{Entry, ITEM_LIMIT};
-pub use packed::PackedSet;
 pub use rdata::Rdata;
 pub use refusal::{DecodeRefusal, RdataRefusal};
 pub use rrset::RrSet;
