@@ -17,12 +17,13 @@ use std::sync::Wait;
 use std::thread::Threads;
 
 /// The files of cases, one a topic.
-const TOPICS: [&str; 8] = [
+const TOPICS: [&str; 9] = [
     "answers.cases",
     "examples.cases",
     "faults.cases",
     "jobs.cases",
     "loads.cases",
+    "prerequisites.cases",
     "refusals.cases",
     "room.cases",
     "workers.cases",

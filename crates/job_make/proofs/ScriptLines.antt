@@ -13,6 +13,7 @@ use Rattle.zone_model.specs.Grammar.{Token, stops_word, Spells}
 use Rattle.zone_model.specs.Data.{data_of, read_fields}
 use Rattle.zone_model.specs.Texts.{address, digits_from, number}
 use Rattle.zone_model.specs.Versions.{Operation, Add, DeleteName, DeleteSet}
+use Rattle.zone_model.specs.Transactions.{Transaction, no_changes}
 use Rattle.zone_model.specs.DataText as print
 use Rattle.zone_model.specs.DataWords.{groups, time_of, type_named}
 use Rattle.zone_model.proofs.GrammarLemmas.{line_is}
@@ -105,6 +106,10 @@ tokens_said n text tokens s h = ap (λ r. tokens_say made_origin n s (without_pa
 
 -- ---- commands
 
+-- a transaction without prerequisites
+abbrev pub asks : List Operation → Transaction
+asks operations = record { needs = []; operations = operations }
+
 -- a script between commands, and one in a block
 abbrev pub between : List (List Command) → List Command → Script
 between earlier commands = record { earlier = earlier; begun = true; commands = commands; held = false; block = None }
@@ -142,35 +147,35 @@ find_line n i es cs h few =
 
 -- ---- the lines of a block
 
-write_line : (n : ℕ) (es : List (List Command)) (cs : List Command) → length cs < 10000 → script_line made_origin n (codes "write") (between es cs) ≡ Ok (inside_block es cs (record { start = n; weight = Light; operations = [] }))
+write_line : (n : ℕ) (es : List (List Command)) (cs : List Command) → length cs < 10000 → script_line made_origin n (codes "write") (between es cs) ≡ Ok (inside_block es cs (record { start = n; weight = Light; asked = no_changes }))
 unfolding phrase_of
 write_line n es cs few =
     tokens_said n (codes "write") (word n (codes "write") ∷ []) (between es cs) (spell_word n (codes "write") (omega arith) (alphabetic_word (codes "write") refl).run)
     ∙ rw (room_of (length cs) few) refl
 
-update_line : (n : ℕ) (es : List (List Command)) (cs : List Command) → length cs < 10000 → script_line made_origin n (codes "update") (between es cs) ≡ Ok (inside_block es cs (record { start = n; weight = Heavy; operations = [] }))
+update_line : (n : ℕ) (es : List (List Command)) (cs : List Command) → length cs < 10000 → script_line made_origin n (codes "update") (between es cs) ≡ Ok (inside_block es cs (record { start = n; weight = Heavy; asked = no_changes }))
 unfolding phrase_of
 update_line n es cs few =
     tokens_said n (codes "update") (word n (codes "update") ∷ []) (between es cs) (spell_word n (codes "update") (omega arith) (alphabetic_word (codes "update") refl).run)
     ∙ rw (room_of (length cs) few) refl
 
-commit_light : (n m : ℕ) (es : List (List Command)) (cs : List Command) (operations : List Operation) → script_line made_origin n (codes "commit") (inside_block es cs (record { start = m; weight = Light; operations = operations })) ≡ Ok (between es (cs ++ Block Light operations Commit ∷ []))
+commit_light : (n m : ℕ) (es : List (List Command)) (cs : List Command) (operations : List Operation) → script_line made_origin n (codes "commit") (inside_block es cs (record { start = m; weight = Light; asked = asks operations })) ≡ Ok (between es (cs ++ Block Light (asks operations) Commit ∷ []))
 unfolding phrase_of
 commit_light n m es cs operations =
-    tokens_said n (codes "commit") (word n (codes "commit") ∷ []) (inside_block es cs (record { start = m; weight = Light; operations = operations })) (spell_word n (codes "commit") (omega arith) (alphabetic_word (codes "commit") refl).run)
+    tokens_said n (codes "commit") (word n (codes "commit") ∷ []) (inside_block es cs (record { start = m; weight = Light; asked = asks operations })) (spell_word n (codes "commit") (omega arith) (alphabetic_word (codes "commit") refl).run)
 
-commit_heavy : (n m : ℕ) (es : List (List Command)) (cs : List Command) (operations : List Operation) → script_line made_origin n (codes "commit") (inside_block es cs (record { start = m; weight = Heavy; operations = operations })) ≡ Ok (between es (cs ++ Block Heavy operations Commit ∷ []))
+commit_heavy : (n m : ℕ) (es : List (List Command)) (cs : List Command) (operations : List Operation) → script_line made_origin n (codes "commit") (inside_block es cs (record { start = m; weight = Heavy; asked = asks operations })) ≡ Ok (between es (cs ++ Block Heavy (asks operations) Commit ∷ []))
 unfolding phrase_of
 commit_heavy n m es cs operations =
-    tokens_said n (codes "commit") (word n (codes "commit") ∷ []) (inside_block es cs (record { start = m; weight = Heavy; operations = operations })) (spell_word n (codes "commit") (omega arith) (alphabetic_word (codes "commit") refl).run)
+    tokens_said n (codes "commit") (word n (codes "commit") ∷ []) (inside_block es cs (record { start = m; weight = Heavy; asked = asks operations })) (spell_word n (codes "commit") (omega arith) (alphabetic_word (codes "commit") refl).run)
 
 owner_under : (i : ℕ) → is_under (owner i) made_origin ≡ true
 owner_under i = ends_under (name_text i ∷ []) made_origin
 
-removal_line : (n m i : ℕ) (es : List (List Command)) (cs : List Command) (how : Weight) → i < 1000000 → script_line made_origin n (codes "del " ++ name_text i) (inside_block es cs (record { start = m; weight = how; operations = [] })) ≡ Ok (inside_block es cs (record { start = m; weight = how; operations = DeleteName (owner i) ∷ [] }))
+removal_line : (n m i : ℕ) (es : List (List Command)) (cs : List Command) (how : Weight) → i < 1000000 → script_line made_origin n (codes "del " ++ name_text i) (inside_block es cs (record { start = m; weight = how; asked = no_changes })) ≡ Ok (inside_block es cs (record { start = m; weight = how; asked = asks (DeleteName (owner i) ∷ []) }))
 unfolding phrase_of deletion_of
 removal_line n m i es cs how h =
-    tokens_said n (codes "del " ++ name_text i) (word n (codes "del") ∷ word n (name_text i) ∷ []) (inside_block es cs (record { start = m; weight = how; operations = [] }))
+    tokens_said n (codes "del " ++ name_text i) (word n (codes "del") ∷ word n (name_text i) ∷ []) (inside_block es cs (record { start = m; weight = how; asked = no_changes }))
     (two_words n (codes "del") (name_text i) (omega arith) (alphabetic_word (codes "del") refl) (name_some i) (name_shows i h))
     ∙ rw (name_said i h) (rw (owner_under i) refl)
 
@@ -179,10 +184,10 @@ del_spelled n i h =
     subst (λ (t : List ℕ). Spells n [] t (plain (word n (codes "del") ∷ word n (name_text i) ∷ word n (codes "A") ∷ []))) (regroup_get (codes "del") (codes " ") (name_text i) (codes "A"))
     (three_words n (codes "del") (name_text i) (codes "A") (omega arith) (alphabetic_word (codes "del") refl) (name_some i) (name_shows i h) (omega arith) (alphabetic_word (codes "A") refl))
 
-del_line : (n m i : ℕ) (es : List (List Command)) (cs : List Command) → i < 1000000 → script_line made_origin n (codes "del " ++ name_text i ++ codes " A") (inside_block es cs (record { start = m; weight = Light; operations = [] })) ≡ Ok (inside_block es cs (record { start = m; weight = Light; operations = DeleteSet (owner i) 1 ∷ [] }))
+del_line : (n m i : ℕ) (es : List (List Command)) (cs : List Command) → i < 1000000 → script_line made_origin n (codes "del " ++ name_text i ++ codes " A") (inside_block es cs (record { start = m; weight = Light; asked = no_changes })) ≡ Ok (inside_block es cs (record { start = m; weight = Light; asked = asks (DeleteSet (owner i) 1 ∷ []) }))
 unfolding phrase_of deletion_of type_named
 del_line n m i es cs h =
-    tokens_said n (codes "del " ++ name_text i ++ codes " A") (word n (codes "del") ∷ word n (name_text i) ∷ word n (codes "A") ∷ []) (inside_block es cs (record { start = m; weight = Light; operations = [] })) (del_spelled n i h)
+    tokens_said n (codes "del " ++ name_text i ++ codes " A") (word n (codes "del") ∷ word n (name_text i) ∷ word n (codes "A") ∷ []) (inside_block es cs (record { start = m; weight = Light; asked = no_changes })) (del_spelled n i h)
     ∙ rw (name_said i h) (rw (owner_under i) refl)
 
 -- ---- an address
@@ -233,12 +238,12 @@ add_spelled n i c h =
     (spell_word_then n (name_text i) (codes "300" ++ codes " " ++ (codes "A" ++ codes " " ++ address_text c)) (word n (codes "300") ∷ word n (codes "A") ∷ word n (address_text c) ∷ []) (name_some i) (name_shows i h).run
     (three_words n (codes "300") (codes "A") (address_text c) (omega arith) (hex_word (codes "300") refl) (omega arith) (alphabetic_word (codes "A") refl) (omega arith) (address_shows c))))
 
-add_line : (n m i c : ℕ) (es : List (List Command)) (cs : List Command) → i < 1000000 → script_line made_origin n (codes "add " ++ name_text i ++ codes " 300 A " ++ address_text c) (inside_block es cs (record { start = m; weight = Light; operations = DeleteSet (owner i) 1 ∷ [] }))
-    ≡ Ok (inside_block es cs (record { start = m; weight = Light; operations = DeleteSet (owner i) 1 ∷ Add (record { owner = owner i; rtype = 1; ttl = 300; octets = octets c }) ∷ [] }))
+add_line : (n m i c : ℕ) (es : List (List Command)) (cs : List Command) → i < 1000000 → script_line made_origin n (codes "add " ++ name_text i ++ codes " 300 A " ++ address_text c) (inside_block es cs (record { start = m; weight = Light; asked = asks (DeleteSet (owner i) 1 ∷ []) }))
+    ≡ Ok (inside_block es cs (record { start = m; weight = Light; asked = asks (DeleteSet (owner i) 1 ∷ Add (record { owner = owner i; rtype = 1; ttl = 300; octets = octets c }) ∷ []) }))
 unfolding phrase_of addition_of type_named time_of groups number digits_from
 add_line n m i c es cs h =
     tokens_said n (codes "add " ++ name_text i ++ codes " 300 A " ++ address_text c) (word n (codes "add") ∷ word n (name_text i) ∷ word n (codes "300") ∷ word n (codes "A") ∷ word n (address_text c) ∷ [])
-    (inside_block es cs (record { start = m; weight = Light; operations = DeleteSet (owner i) 1 ∷ [] })) (add_spelled n i c h)
+    (inside_block es cs (record { start = m; weight = Light; asked = asks (DeleteSet (owner i) 1 ∷ []) })) (add_spelled n i c h)
     ∙ rw (name_said i h) (rw (owner_under i) (rw (data_said n c) refl))
 
 -- ---- lines after lines
@@ -272,13 +277,13 @@ find_reads n i es cs h few =
 removal_reads : (n i : ℕ) (es : List (List Command)) (cs : List Command) → i < 1000000 → length cs < 10000 → Reads n (turn_lines (Removes i)) es cs 1
 removal_reads n i es cs h few =
     record {
-      after = cs ++ Block Heavy (DeleteName (owner i) ∷ []) Commit ∷ [];
-      many = length-append cs (Block Heavy (DeleteName (owner i) ∷ []) Commit ∷ []);
+      after = cs ++ Block Heavy (asks (DeleteName (owner i) ∷ [])) Commit ∷ [];
+      many = length-append cs (Block Heavy (asks (DeleteName (owner i) ∷ [])) Commit ∷ []);
       read = λ rest.
           step_read n (codes "update") ((codes "del " ++ name_text i) ∷ codes "commit" ∷ rest) (between es cs) _ (update_line n es cs few)
           ∙ step_read (n + 1) (codes "del " ++ name_text i) (codes "commit" ∷ rest) _ _ (removal_line (n + 1) n i es cs Heavy h)
           ∙ step_read (n + 1 + 1) (codes "commit") rest _ _ (commit_heavy (n + 1 + 1) n es cs (DeleteName (owner i) ∷ []))
-          ∙ ap (λ (k : ℕ). script_from made_origin k rest (between es (cs ++ Block Heavy (DeleteName (owner i) ∷ []) Commit ∷ []))) (let e : n + 1 + 1 + 1 ≡ n + 3 = omega arith in e);
+          ∙ ap (λ (k : ℕ). script_from made_origin k rest (between es (cs ++ Block Heavy (asks (DeleteName (owner i) ∷ [])) Commit ∷ []))) (let e : n + 1 + 1 + 1 ≡ n + 3 = omega arith in e);
     }
 
 moved : ℕ → ℕ → List Operation
@@ -288,14 +293,14 @@ move_reads : (n i c : ℕ) (es : List (List Command)) (cs : List Command) → i 
 unfolding moved
 move_reads n i c es cs h few =
     record {
-      after = cs ++ Block Light (moved i c) Commit ∷ [];
-      many = length-append cs (Block Light (moved i c) Commit ∷ []);
+      after = cs ++ Block Light (asks (moved i c)) Commit ∷ [];
+      many = length-append cs (Block Light (asks (moved i c)) Commit ∷ []);
       read = λ rest.
           step_read n (codes "write") ((codes "del " ++ name_text i ++ codes " A") ∷ (codes "add " ++ name_text i ++ codes " 300 A " ++ address_text c) ∷ codes "commit" ∷ rest) (between es cs) _ (write_line n es cs few)
           ∙ step_read (n + 1) (codes "del " ++ name_text i ++ codes " A") ((codes "add " ++ name_text i ++ codes " 300 A " ++ address_text c) ∷ codes "commit" ∷ rest) _ _ (del_line (n + 1) n i es cs h)
           ∙ step_read (n + 1 + 1) (codes "add " ++ name_text i ++ codes " 300 A " ++ address_text c) (codes "commit" ∷ rest) _ _ (add_line (n + 1 + 1) n i c es cs h)
           ∙ step_read (n + 1 + 1 + 1) (codes "commit") rest _ _ (commit_light (n + 1 + 1 + 1) n es cs (moved i c))
-          ∙ ap (λ (k : ℕ). script_from made_origin k rest (between es (cs ++ Block Light (moved i c) Commit ∷ []))) (let e : n + 1 + 1 + 1 + 1 ≡ n + 4 = omega arith in e);
+          ∙ ap (λ (k : ℕ). script_from made_origin k rest (between es (cs ++ Block Light (asks (moved i c)) Commit ∷ []))) (let e : n + 1 + 1 + 1 + 1 ≡ n + 4 = omega arith in e);
     }
 
 either_reads : (b : Bool) (t u : Turn) (n : ℕ) (es : List (List Command)) (cs : List Command) → Reads n (turn_lines t) es cs 1 → Reads n (turn_lines u) es cs 1 → Reads n (turn_lines (cond b t u)) es cs 1

@@ -1,18 +1,19 @@
 -- A script that is read has no more workers than there may be.
 use Rattle.std.proofs.Common.{◌≡◌, ℕ, ◌+◌, ◌≤◌, Bool, true, false, cond, List, [], ◌∷◌, ◌++◌, length, Option, Some, None, Result, Ok, Err, refl, ap, subst, arith, length-append}
-use Rattle.std.specs.Prelude.{nat_lt}
+use Rattle.std.specs.Prelude.{nat_lt, not, ◌==◌}
 use Rattle.std.proofs.lemmas.Bool.Decides.{nat_tests}
 use Rattle.zone_model.specs.Names.{Name}
 use Rattle.zone_model.specs.Refusals.{Refused, ◌>>=◌}
 use Rattle.zone_model.specs.Tokens.{Token}
 use Rattle.zone_model.specs.Versions.{Operation}
+use Rattle.zone_model.specs.Transactions.{Prerequisite}
 use Rattle.job_model.specs.declared.ScriptKind.{ScriptKind}
 use Rattle.job_model.specs.declared.ScriptKind.TheVariants.{NoWorker, BadCommand, NotHeld, AlreadyHeld, TooMany}
 use Rattle.job_model.specs.declared.Ending.{Ending}
 use Rattle.job_model.specs.Commands.{Command, Block, Compact}
-use Rattle.job_model.specs.Phrases.{Phrase, Worker, Asks, Holds, AsksHeld, Releases, Opens, Adds, Deletes, Ends, Compacts, phrase_of, script_tokens}
-use Rattle.job_model.specs.Arguments.{refuse, question_of, addition_of, deletion_of}
-use Rattle.job_model.specs.Jobs.{Unfinished, Script, lists_of, worker_limit, command_limit, operation_limit, of_worker, while_held, while_free, with_room, with_command, with_question, with_held_question, holding, released, opened, next_worker, outside, with_operation, joined, may_end, ended, inside, taken, tokens_say, script_line, script_from, finished, no_lines, script_of}
+use Rattle.job_model.specs.Phrases.{Phrase, Worker, Asks, Holds, AsksHeld, Releases, Opens, Needs, Adds, Deletes, Ends, Compacts, phrase_of, script_tokens}
+use Rattle.job_model.specs.Arguments.{refuse, question_of, prerequisite_of, addition_of, deletion_of}
+use Rattle.job_model.specs.Jobs.{Unfinished, Script, lists_of, worker_limit, command_limit, need_limit, operation_limit, of_worker, while_held, while_free, with_room, with_command, with_question, with_held_question, holding, released, opened, next_worker, outside, with_need, needed_first, with_operation, joined, may_end, ended, inside, taken, tokens_say, script_line, script_from, finished, no_lines, script_of}
 
 -- the workers before the last one, and whether one began
 abbrev Few : Bool → List (List Command) → Type 0
@@ -61,17 +62,24 @@ outside_kept origin n (AsksHeld asked) s few =
 outside_kept origin n Releases s few =
     of_worker_kept n s (while_held n s (with_room n s (Ok (released s)))) (if_kept s.held (with_room n s (Ok (released s))) (refuse n NotHeld) (λ _. with_room_kept n s (Ok (released s)) few) tt)
 outside_kept origin n (Opens weight) s few = of_worker_kept n s (with_room n s (Ok (opened n weight s))) (with_room_kept n s (Ok (opened n weight s)) few)
+outside_kept origin n (Needs wanted owner rtype) s few = tt
 outside_kept origin n (Adds owner ttl rtype tokens) s few = tt
 outside_kept origin n (Deletes owner rest) s few = tt
 outside_kept origin n (Ends ending) s few = tt
 outside_kept origin n Compacts s few = of_worker_kept n s (with_room n s (Ok (with_command s Compact))) (with_room_kept n s (Ok (with_command s Compact)) few)
 
+needed_kept : (n : ℕ) (b : Unfinished) (s : Script) (r : Result Prerequisite (Refused ScriptKind)) → Few s.begun s.earlier → Kept (needed_first n b s r)
+needed_kept n b s r few =
+    if_kept (not (length b.asked.operations == 0)) (refuse n BadCommand)
+    (cond (nat_lt (length b.asked.needs) need_limit) (r >>= with_need b s) (refuse n (TooMany need_limit))) (λ _. tt)
+    (if_kept (nat_lt (length b.asked.needs) need_limit) (r >>= with_need b s) (refuse n (TooMany need_limit)) (λ _. bind_kept r (with_need b s) (λ need. few)) tt)
+
 joined_kept : (n : ℕ) (b : Unfinished) (s : Script) (r : Result Operation (Refused ScriptKind)) → Few s.begun s.earlier → Kept (joined n b s r)
-joined_kept n b s r few = if_kept (nat_lt (length b.operations) operation_limit) (r >>= with_operation b s) (refuse n (TooMany operation_limit)) (λ _. bind_kept r (with_operation b s) (λ operation. few)) tt
+joined_kept n b s r few = if_kept (nat_lt (length b.asked.operations) operation_limit) (r >>= with_operation b s) (refuse n (TooMany operation_limit)) (λ _. bind_kept r (with_operation b s) (λ operation. few)) tt
 
 ended_kept : (n : ℕ) (b : Unfinished) (ending : Ending) (s : Script) → Few s.begun s.earlier → Kept (ended n b ending s)
 ended_kept n b ending s few =
-    if_kept (may_end b.weight ending) (Ok (record (with_command s (Block b.weight b.operations ending)) { block = None })) (refuse n BadCommand) (λ _. few) tt
+    if_kept (may_end b.weight ending) (Ok (record (with_command s (Block b.weight b.asked ending)) { block = None })) (refuse n BadCommand) (λ _. few) tt
 
 inside_kept : (origin : Name) (n : ℕ) (b : Unfinished) (phrase : Phrase) (s : Script) → Few s.begun s.earlier → Kept (inside origin n b phrase s)
 inside_kept origin n b Worker s few = tt
@@ -80,6 +88,7 @@ inside_kept origin n b Holds s few = tt
 inside_kept origin n b (AsksHeld asked) s few = tt
 inside_kept origin n b Releases s few = tt
 inside_kept origin n b (Opens _) s few = tt
+inside_kept origin n b (Needs wanted owner rtype) s few = needed_kept n b s (prerequisite_of origin n wanted owner rtype) few
 inside_kept origin n b (Adds owner ttl rtype tokens) s few = joined_kept n b s (addition_of origin n owner ttl rtype tokens) few
 inside_kept origin n b (Deletes owner rest) s few = joined_kept n b s (deletion_of origin n owner rest) few
 inside_kept origin n b (Ends ending) s few = ended_kept n b ending s few

@@ -1,19 +1,20 @@
 -- Each command of a script that is read may come where it stands.
 use Rattle.std.proofs.Common.{◌≡◌, ◌∙◌, ℕ, ◌+◌, Bool, true, false, cond, List, [], ◌∷◌, ◌++◌, length, Option, Some, None, Result, Ok, Err, refl, sym, ap, subst}
-use Rattle.std.specs.Prelude.{nat_lt}
+use Rattle.std.specs.Prelude.{nat_lt, not, ◌==◌}
 use Rattle.std.specs.List.{AllByRecursion}
 use Rattle.zone_model.specs.Names.{Name}
 use Rattle.zone_model.specs.Refusals.{Refused, ◌>>=◌}
 use Rattle.zone_model.specs.Tokens.{Token}
 use Rattle.zone_model.specs.Versions.{Operation}
+use Rattle.zone_model.specs.Transactions.{Prerequisite}
 use Rattle.job_model.specs.declared.ScriptKind.{ScriptKind}
 use Rattle.job_model.specs.declared.ScriptKind.TheVariants.{NoWorker, BadCommand, NotHeld, AlreadyHeld, TooMany}
 use Rattle.job_model.specs.declared.Ending.{Ending}
 use Rattle.job_model.specs.declared.Weight.{Weight}
 use Rattle.job_model.specs.Commands.{Question, Command, Ask, Hold, AskHeld, Release, Block, Compact, held_after, MayCome, InTurn}
-use Rattle.job_model.specs.Phrases.{Phrase, Worker, Asks, Holds, AsksHeld, Releases, Opens, Adds, Deletes, Ends, Compacts, phrase_of, script_tokens}
-use Rattle.job_model.specs.Arguments.{refuse, question_of, addition_of, deletion_of}
-use Rattle.job_model.specs.Jobs.{Unfinished, Script, lists_of, worker_limit, command_limit, operation_limit, of_worker, while_held, while_free, with_room, with_command, with_question, with_held_question, holding, released, opened, next_worker, outside, with_operation, joined, may_end, ended, inside, taken, tokens_say, script_line, script_from, finished, no_lines, script_of}
+use Rattle.job_model.specs.Phrases.{Phrase, Worker, Asks, Holds, AsksHeld, Releases, Opens, Needs, Adds, Deletes, Ends, Compacts, phrase_of, script_tokens}
+use Rattle.job_model.specs.Arguments.{refuse, question_of, prerequisite_of, addition_of, deletion_of}
+use Rattle.job_model.specs.Jobs.{Unfinished, Script, lists_of, worker_limit, command_limit, need_limit, operation_limit, of_worker, while_held, while_free, with_room, with_command, with_question, with_held_question, holding, released, opened, next_worker, outside, with_need, needed_first, with_operation, joined, may_end, ended, inside, taken, tokens_say, script_line, script_from, finished, no_lines, script_of}
 
 -- whether a snapshot is held behind commands
 abbrev held_behind : Bool → List Command → Bool
@@ -90,6 +91,7 @@ outside_kept origin n Releases s sound =
     (if_kept s.held (with_room n s (Ok (released s))) (refuse n NotHeld)
     (λ held. with_room_kept n s (Ok (released s)) (sound-push s.earlier s.commands s.held Release sound held)) (λ _. tt))
 outside_kept origin n (Opens weight) s sound = of_worker_kept n s (with_room n s (Ok (opened n weight s))) (with_room_kept n s (Ok (opened n weight s)) sound)
+outside_kept origin n (Needs wanted owner rtype) s sound = tt
 outside_kept origin n (Adds owner ttl rtype tokens) s sound = tt
 outside_kept origin n (Deletes owner rest) s sound = tt
 outside_kept origin n (Ends ending) s sound = tt
@@ -98,14 +100,20 @@ outside_kept origin n Compacts s sound =
 
 -- ---- a line inside a block
 
+needed_kept : (n : ℕ) (b : Unfinished) (s : Script) (r : Result Prerequisite (Refused ScriptKind)) → Sound s.earlier s.commands s.held → Kept (needed_first n b s r)
+needed_kept n b s r sound =
+    if_kept (not (length b.asked.operations == 0)) (refuse n BadCommand)
+    (cond (nat_lt (length b.asked.needs) need_limit) (r >>= with_need b s) (refuse n (TooMany need_limit))) (λ _. tt)
+    (λ _. (if_kept (nat_lt (length b.asked.needs) need_limit) (r >>= with_need b s) (refuse n (TooMany need_limit)) (λ _. bind_kept r (with_need b s) (λ need. sound)) (λ _. tt)))
+
 joined_kept : (n : ℕ) (b : Unfinished) (s : Script) (r : Result Operation (Refused ScriptKind)) → Sound s.earlier s.commands s.held → Kept (joined n b s r)
 joined_kept n b s r sound =
-    if_kept (nat_lt (length b.operations) operation_limit) (r >>= with_operation b s) (refuse n (TooMany operation_limit)) (λ _. bind_kept r (with_operation b s) (λ operation. sound)) (λ _. tt)
+    if_kept (nat_lt (length b.asked.operations) operation_limit) (r >>= with_operation b s) (refuse n (TooMany operation_limit)) (λ _. bind_kept r (with_operation b s) (λ operation. sound)) (λ _. tt)
 
 ended_kept : (n : ℕ) (b : Unfinished) (ending : Ending) (s : Script) → Sound s.earlier s.commands s.held → Kept (ended n b ending s)
 ended_kept n b ending s sound =
-    if_kept (may_end b.weight ending) (Ok (record (with_command s (Block b.weight b.operations ending)) { block = None })) (refuse n BadCommand)
-    (λ _. sound-push s.earlier s.commands s.held (Block b.weight b.operations ending) sound tt) (λ _. tt)
+    if_kept (may_end b.weight ending) (Ok (record (with_command s (Block b.weight b.asked ending)) { block = None })) (refuse n BadCommand)
+    (λ _. sound-push s.earlier s.commands s.held (Block b.weight b.asked ending) sound tt) (λ _. tt)
 
 inside_kept : (origin : Name) (n : ℕ) (b : Unfinished) (phrase : Phrase) (s : Script) → Sound s.earlier s.commands s.held → Kept (inside origin n b phrase s)
 inside_kept origin n b Worker s sound = tt
@@ -114,6 +122,7 @@ inside_kept origin n b Holds s sound = tt
 inside_kept origin n b (AsksHeld asked) s sound = tt
 inside_kept origin n b Releases s sound = tt
 inside_kept origin n b (Opens _) s sound = tt
+inside_kept origin n b (Needs wanted owner rtype) s sound = needed_kept n b s (prerequisite_of origin n wanted owner rtype) sound
 inside_kept origin n b (Adds owner ttl rtype tokens) s sound = joined_kept n b s (addition_of origin n owner ttl rtype tokens) sound
 inside_kept origin n b (Deletes owner rest) s sound = joined_kept n b s (deletion_of origin n owner rest) sound
 inside_kept origin n b (Ends ending) s sound = ended_kept n b ending s sound

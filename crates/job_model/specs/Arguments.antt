@@ -2,6 +2,7 @@
 use Rattle.std.specs.Prelude.{ℕ, Bool, List, [], ◌∷◌, ◌==◌, if◌then◌else◌, Option, Some, None, Result, Ok, Err, option_and_then}
 use Rattle.zone_model.specs.Names.{Name, is_under}
 use Rattle.zone_model.specs.Versions.{Operation, Add, DeleteName, DeleteSet, DeleteRecord}
+use Rattle.zone_model.specs.Transactions.{Prerequisite}
 use Rattle.zone_model.specs.Refusals.{Refused, ◌>>=◌}
 use Rattle.zone_model.specs.Tokens.{Token}
 use Rattle.zone_model.specs.Data.{data_of, word_number}
@@ -58,6 +59,16 @@ question_of origin n (Backs name number) = do
   stretch ← stretch_of origin n name number
   Ok (Back stretch)
 question_of origin n Stats = Ok Stat
+
+-- a prerequisite
+unfoldable pub prerequisite_of : Name → ℕ → Bool → Token → Option Token → Result Prerequisite (Refused ScriptKind)
+prerequisite_of origin n wanted owner None = do
+  name ← needed n BadName (inner_name origin owner)
+  Ok (record { owner = name; rtype = None; wanted = wanted })
+prerequisite_of origin n wanted owner (Some rtype) = do
+  name ← needed n BadName (inner_name origin owner)
+  t ← needed n BadType (type_word rtype)
+  Ok (record { owner = name; rtype = Some t; wanted = wanted })
 
 -- an addition
 unfoldable pub addition_of : Name → ℕ → Token → Token → Token → List Token → Result Operation (Refused ScriptKind)

@@ -1,7 +1,8 @@
 -- What workers are told to do.
 use Rattle.std.specs.Prelude.{◌≡◌, ℕ, Bool, true, false, List, [], ◌∷◌}
 use Rattle.zone_model.specs.Names.{Name}
-use Rattle.zone_model.specs.Versions.{Version, Operation}
+use Rattle.zone_model.specs.Versions.{Version}
+use Rattle.zone_model.specs.Transactions.{Transaction}
 use Rattle.job_model.specs.declared.Ending.{Ending}
 use Rattle.job_model.specs.declared.Weight.{Weight}
 
@@ -26,7 +27,7 @@ pub data Command : Type 0 where
   Hold : Command
   AskHeld : (question : Question) → Command
   Release : Command
-  Block : (weight : Weight) (operations : List Operation) (ending : Ending) → Command
+  Block : (weight : Weight) (asked : Transaction) (ending : Ending) → Command
   Compact : Command
 
 -- a zone of an origin, and the commands of each worker
@@ -43,7 +44,7 @@ held_after held (Ask question) = held
 held_after held Hold = true
 held_after held (AskHeld question) = held
 held_after held Release = false
-held_after held (Block _ operations ending) = held
+held_after held (Block _ asked ending) = held
 held_after held Compact = held
 
 -- A snapshot is taken only while none is held, and asked or given back only while one is.
@@ -52,7 +53,7 @@ MayCome held (Ask question) = Unit {0}
 MayCome held Hold = held ≡ false
 MayCome held (AskHeld question) = held ≡ true
 MayCome held Release = held ≡ true
-MayCome held (Block _ operations ending) = Unit {0}
+MayCome held (Block _ asked ending) = Unit {0}
 MayCome held Compact = Unit {0}
 
 -- each of a worker's commands may come where it stands

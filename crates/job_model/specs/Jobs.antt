@@ -1,9 +1,10 @@
 -- A job: the zone, and the commands of each worker.
-use Rattle.std.specs.Prelude.{ℕ, ◌+◌, Bool, true, false, List, [], ◌∷◌, ◌++◌, length, nat_lt, if◌then◌else◌, Option, Some, None, Result, Ok, Err, codes}
+use Rattle.std.specs.Prelude.{ℕ, ◌+◌, Bool, true, false, not, List, [], ◌∷◌, ◌++◌, length, ◌==◌, nat_lt, if◌then◌else◌, Option, Some, None, Result, Ok, Err, codes}
 use Rattle.std.specs.List.{before_first, after_first, list_any}
 use Rattle.std.specs.Str.{bytes_eq}
 use Rattle.zone_model.specs.Names.{Name}
 use Rattle.zone_model.specs.Versions.{Operation}
+use Rattle.zone_model.specs.Transactions.{Prerequisite, Transaction, no_changes}
 use Rattle.zone_model.specs.Lines.{lines_of}
 use Rattle.zone_model.specs.Refusals.{Refused, ◌>>=◌}
 use Rattle.zone_model.specs.Tokens.{Token}
@@ -16,8 +17,8 @@ use Rattle.job_model.specs.declared.ScriptKind.TheVariants.{NoWorker, BadCommand
 use Rattle.job_model.specs.declared.Weight.{Weight}
 use Rattle.job_model.specs.declared.Weight.TheVariants.{Light, Heavy}
 use Rattle.job_model.specs.Commands.{Question, Command, Ask, Hold, AskHeld, Release, Block, Compact, Job}
-use Rattle.job_model.specs.Phrases.{Asked, Phrase, Worker, Asks, Holds, AsksHeld, Releases, Opens, Adds, Deletes, Ends, Compacts, phrase_of, script_tokens}
-use Rattle.job_model.specs.Arguments.{refuse, question_of, addition_of, deletion_of}
+use Rattle.job_model.specs.Phrases.{Asked, Phrase, Worker, Asks, Holds, AsksHeld, Releases, Opens, Needs, Adds, Deletes, Ends, Compacts, phrase_of, script_tokens}
+use Rattle.job_model.specs.Arguments.{refuse, question_of, prerequisite_of, addition_of, deletion_of}
 
 -- why bytes are no job
 pub data JobRefusal : Type 0 where
@@ -30,7 +31,7 @@ pub data JobRefusal : Type 0 where
 pub record Unfinished : Type 0 where
   pub start : ℕ
   pub weight : Weight
-  pub operations : List Operation
+  pub asked : Transaction
 
 -- How far a script has come: the lists of the workers before the last one; whether a worker began, its commands, and whether it holds a
 -- snapshot; and the block that is open.
@@ -45,12 +46,15 @@ pub record Script : Type 0 where
 abbrev pub lists_of : Script → List (List Command)
 lists_of s = if s.begun then s.earlier ++ s.commands ∷ [] else []
 
--- the most workers, commands of a worker, and operations of a block
+-- the most workers, commands of a worker, prerequisites of a block, and operations of one
 abbrev pub worker_limit : ℕ
 worker_limit = 16
 
 abbrev pub command_limit : ℕ
 command_limit = 10000
+
+abbrev pub need_limit : ℕ
+need_limit = 10000
 
 abbrev pub operation_limit : ℕ
 operation_limit = 10000
@@ -88,7 +92,7 @@ abbrev pub released : Script → Script
 released s = record (with_command s Release) { held = false }
 
 abbrev pub opened : ℕ → Weight → Script → Script
-opened n weight s = record s { block = Some (record { start = n; weight = weight; operations = [] }) }
+opened n weight s = record s { block = Some (record { start = n; weight = weight; asked = no_changes }) }
 
 -- the first worker's list begins, or the next one's
 abbrev pub next_worker : Script → Script
@@ -101,6 +105,7 @@ outside origin n Holds s = of_worker n s (while_free n s (with_room n s (Ok (hol
 outside origin n (AsksHeld asked) s = of_worker n s (while_held n s (with_room n s (question_of origin n asked >>= with_held_question s)))
 outside origin n Releases s = of_worker n s (while_held n s (with_room n s (Ok (released s))))
 outside origin n (Opens weight) s = of_worker n s (with_room n s (Ok (opened n weight s)))
+outside origin n (Needs wanted owner rtype) s = refuse n BadCommand
 outside origin n (Adds owner ttl rtype tokens) s = refuse n BadCommand
 outside origin n (Deletes owner rest) s = refuse n BadCommand
 outside origin n (Ends ending) s = refuse n BadCommand
@@ -108,12 +113,25 @@ outside origin n Compacts s = of_worker n s (with_room n s (Ok (with_command s C
 
 -- ---- a line inside a block
 
+abbrev pub with_asked : Unfinished → Script → Transaction → Script
+with_asked b s asked = record s { block = Some (record b { asked = asked }) }
+
+abbrev pub with_need : Unfinished → Script → Prerequisite → Result Script (Refused ScriptKind)
+with_need b s need = Ok (with_asked b s (record b.asked { needs = b.asked.needs ++ need ∷ [] }))
+
+-- a prerequisite stands before the operations of a block that has room for it
+abbrev pub needed_first : ℕ → Unfinished → Script → Result Prerequisite (Refused ScriptKind) → Result Script (Refused ScriptKind)
+needed_first n b s need =
+    if not (length b.asked.operations == 0) then refuse n BadCommand
+    else if nat_lt (length b.asked.needs) need_limit then need >>= with_need b s
+    else refuse n (TooMany need_limit)
+
 abbrev pub with_operation : Unfinished → Script → Operation → Result Script (Refused ScriptKind)
-with_operation b s operation = Ok (record s { block = Some (record b { operations = b.operations ++ operation ∷ [] }) })
+with_operation b s operation = Ok (with_asked b s (record b.asked { operations = b.asked.operations ++ operation ∷ [] }))
 
 -- an operation of a block that has room for it
 abbrev pub joined : ℕ → Unfinished → Script → Result Operation (Refused ScriptKind) → Result Script (Refused ScriptKind)
-joined n b s operation = if nat_lt (length b.operations) operation_limit then operation >>= with_operation b s else refuse n (TooMany operation_limit)
+joined n b s operation = if nat_lt (length b.asked.operations) operation_limit then operation >>= with_operation b s else refuse n (TooMany operation_limit)
 
 -- only a heavy transaction may be rolled back
 abbrev pub may_end : Weight → Ending → Bool
@@ -124,7 +142,7 @@ may_end Heavy Rollback = true
 
 abbrev pub ended : ℕ → Unfinished → Ending → Script → Result Script (Refused ScriptKind)
 ended n b ending s =
-    if may_end b.weight ending then Ok (record (with_command s (Block b.weight b.operations ending)) { block = None })
+    if may_end b.weight ending then Ok (record (with_command s (Block b.weight b.asked ending)) { block = None })
     else refuse n BadCommand
 
 abbrev pub inside : Name → ℕ → Unfinished → Phrase → Script → Result Script (Refused ScriptKind)
@@ -134,6 +152,7 @@ inside origin n b Holds s = refuse n BadCommand
 inside origin n b (AsksHeld asked) s = refuse n BadCommand
 inside origin n b Releases s = refuse n BadCommand
 inside origin n b (Opens _) s = refuse n BadCommand
+inside origin n b (Needs wanted owner rtype) s = needed_first n b s (prerequisite_of origin n wanted owner rtype)
 inside origin n b (Adds owner ttl rtype tokens) s = joined n b s (addition_of origin n owner ttl rtype tokens)
 inside origin n b (Deletes owner rest) s = joined n b s (deletion_of origin n owner rest)
 inside origin n b (Ends ending) s = ended n b ending s

@@ -4,14 +4,15 @@ use Rattle.std.specs.List.{AllByRecursion, list_any}
 use Rattle.std.specs.List.Sorted.{IsStrictlySortedBy}
 use Rattle.std.specs.Ordering.{nat_cmp}
 use Rattle.zone_model.specs.Names.{Name}
-use Rattle.zone_model.specs.Versions.{Version, Operation, apply, whole}
+use Rattle.zone_model.specs.Versions.{Version, Operation, apply, all_applied}
+use Rattle.zone_model.specs.Transactions.{Transaction, no_changes, all_met, whole}
 use Rattle.job_model.specs.Commands.{Command, Ask, Hold, AskHeld, Release, Block, Compact}
 use Rattle.job_model.specs.Sizes.{cell_count}
 use Rattle.zone_model.specs.declared.Refusal.{Refusal}
 use Rattle.job_model.specs.declared.Ending.{Ending}
 use Rattle.job_model.specs.declared.Ending.TheVariants.{Commit, Rollback}
 
--- Why a block makes no version: a rule of zones; no room for an operation while some versions are kept; or no number is left for
+-- Why a block makes no version: a prerequisite or a rule of zones; no room for an operation while some versions are kept; or no number is left for
 -- the next version.
 pub data Cause : Type 0 where
   Rule : (refusal : Refusal) → Cause
@@ -51,37 +52,38 @@ is_committed (Refused cause) = false
 abbrev pub made : ℕ → Pair → Bool
 made j pair = is_committed pair.1.ended && (pair.1.version == j)
 
-abbrev pub operations_of : Command → List Operation
-operations_of (Ask question) = []
-operations_of Hold = []
-operations_of (AskHeld question) = []
-operations_of Release = []
-operations_of (Block _ operations ending) = operations
-operations_of Compact = []
+-- what a command asks to be changed
+abbrev pub asked_by : Command → Transaction
+asked_by (Ask question) = no_changes
+asked_by Hold = no_changes
+asked_by (AskHeld question) = no_changes
+asked_by Release = no_changes
+asked_by (Block _ asked ending) = asked
+asked_by Compact = no_changes
 
--- the operations that made version j
-abbrev pub operations_at : ℕ → List Pair → List Operation
-operations_at j [] = []
-operations_at j (pair ∷ rest) = if made j pair then operations_of pair.0 else operations_at j rest
+-- the transaction that made version j
+abbrev pub asked_at : ℕ → List Pair → Transaction
+asked_at j [] = no_changes
+asked_at j (pair ∷ rest) = if made j pair then asked_by pair.0 else asked_at j rest
 
 -- the version that is accepted, or else this one
 abbrev pub accepted_or : Version → Result Version Refusal → Version
 accepted_or version (Ok next) = next
 accepted_or version (Err cause) = version
 
--- the version after operations that are all accepted
-abbrev pub after : Name → List Operation → Version → Version
-after origin operations version = accepted_or version (whole origin operations version)
+-- the version after a transaction that is accepted
+abbrev pub after : Name → Transaction → Version → Version
+after origin asked version = accepted_or version (whole origin asked version)
 
 -- how many commands made version j
 abbrev pub times_made : ℕ → List Pair → ℕ
 times_made j [] = 0
 times_made j (pair ∷ rest) = (if made j pair then 1 else 0) + times_made j rest
 
--- version j of the zone of an origin, under these outcomes: the zone after the operations that made versions 1 to j
+-- version j of the zone of an origin, under these outcomes: the zone after the transactions that made versions 1 to j
 abbrev pub version_at : Name → Version → List Pair → ℕ → Version
 version_at origin zone pairs zero = zone
-version_at origin zone pairs (suc j) = after origin (operations_at (suc j) pairs) (version_at origin zone pairs j)
+version_at origin zone pairs (suc j) = after origin (asked_at (suc j) pairs) (version_at origin zone pairs j)
 
 -- the versions that questions and holds show
 abbrev pub shown_by : Command → ℕ → List ℕ
@@ -89,7 +91,7 @@ shown_by (Ask question) v = v ∷ []
 shown_by Hold v = v ∷ []
 shown_by (AskHeld question) v = v ∷ []
 shown_by Release v = []
-shown_by (Block _ operations ending) v = []
+shown_by (Block _ asked ending) v = []
 shown_by Compact v = []
 
 abbrev pub shown_in : List Pair → List ℕ
@@ -112,17 +114,18 @@ abbrev pub cells_kept : (ℕ → Version) → List ℕ → ℕ
 cells_kept set [] = 0
 cells_kept set (v ∷ vs) = cell_count (set v) + cells_kept set vs
 
--- There was no room for an operation that is accepted and changes what the ones before it made of the base: the tries of that and of
--- the kept versions have almost as many cells as there are chunks but for the reserve of a quarter. The base is the last kept
+-- There was no room for an operation that is accepted and changes what the ones before it made of the base, which meets the
+-- prerequisites: the tries of that and of the kept versions have almost as many cells as there are chunks but for the reserve of a quarter. The base is the last kept
 -- version, and each other one is kept since a question or a hold shows it.
-pub record FullCause (s : Setting) (operations : List Operation) (base operation : ℕ) (kept : List ℕ) : Type 0 where
+pub record FullCause (s : Setting) (asked : Transaction) (base operation : ℕ) (kept : List ℕ) : Type 0 where
+  pub met : all_met (s.set base) asked.needs ≡ true
   pub front : List Operation
   pub refused : Operation
   pub back : List Operation
-  pub all : operations ≡ front ++ refused ∷ back
+  pub all : asked.operations ≡ front ++ refused ∷ back
   pub number : operation ≡ length front + 1
   pub working : Version
-  pub before : whole s.origin front (s.set base) ≡ Ok working
+  pub before : all_applied s.origin front (s.set base) ≡ Ok working
   pub next : Version
   pub accepted : apply s.origin refused working ≡ Ok next
   pub changes : next ≡ working → ⊥
@@ -138,17 +141,17 @@ abbrev pub last_version : ℕ
 last_version = 2 ^ 40 - 1
 
 -- why a block was refused on a base
-abbrev pub Causes : Setting → List Operation → Ending → ℕ → Cause → Type 0
-Causes s operations ending base (Rule refusal) = whole s.origin operations (s.set base) ≡ Err refusal
-Causes s operations ending base (Full operation kept) = FullCause s operations base operation kept
-Causes s operations ending base Spent = (base ≡ last_version) × (ending ≡ Commit) × IsOk (whole s.origin operations (s.set base))
+abbrev pub Causes : Setting → Transaction → Ending → ℕ → Cause → Type 0
+Causes s asked ending base (Rule refusal) = whole s.origin asked (s.set base) ≡ Err refusal
+Causes s asked ending base (Full operation kept) = FullCause s asked base operation kept
+Causes s asked ending base Spent = (base ≡ last_version) × (ending ≡ Commit) × IsOk (whole s.origin asked (s.set base))
 
 -- a block that ended so, by a worker that had seen a version
-abbrev pub BlockEnds : Setting → ℕ → List Operation → Ending → ℕ → Ended → Type 0
-BlockEnds s seen operations ending v Shown = ⊥
-BlockEnds s seen operations ending v Committed = (ending ≡ Commit) × (seen < v) × IsOk (whole s.origin operations (s.set (v - 1)))
-BlockEnds s seen operations ending v RolledBack = (ending ≡ Rollback) × (seen ≤ v) × IsOk (whole s.origin operations (s.set v))
-BlockEnds s seen operations ending v (Refused cause) = (seen ≤ v) × Causes s operations ending v cause
+abbrev pub BlockEnds : Setting → ℕ → Transaction → Ending → ℕ → Ended → Type 0
+BlockEnds s seen asked ending v Shown = ⊥
+BlockEnds s seen asked ending v Committed = (ending ≡ Commit) × (seen < v) × IsOk (whole s.origin asked (s.set (v - 1)))
+BlockEnds s seen asked ending v RolledBack = (ending ≡ Rollback) × (seen ≤ v) × IsOk (whole s.origin asked (s.set v))
+BlockEnds s seen asked ending v (Refused cause) = (seen ≤ v) × Causes s asked ending v cause
 
 -- What a worker has come to: the version that it saw or made last, and that of the snapshot that it holds.
 pub record Sight : Type 0 where
@@ -164,7 +167,7 @@ sight_after sight (Ask question) v = record sight { seen = v }
 sight_after sight Hold v = record { seen = v; held = Some v }
 sight_after sight (AskHeld question) v = sight
 sight_after sight Release v = record sight { held = None }
-sight_after sight (Block _ operations ending) v = record sight { seen = v }
+sight_after sight (Block _ asked ending) v = record sight { seen = v }
 sight_after sight Compact v = record sight { seen = v }
 
 -- it shows a version, which may be that one
@@ -181,8 +184,8 @@ EndsLawfully s sight (Ask question) v ended = Shows (sight.seen ≤ v) ended
 EndsLawfully s sight Hold v ended = Shows (sight.seen ≤ v) ended
 EndsLawfully s sight (AskHeld question) v ended = Shows (sight.held ≡ Some v) ended
 EndsLawfully s sight Release v ended = Shows (sight.held ≡ Some v) ended
-EndsLawfully s sight (Block _ operations ending) v ended = BlockEnds s sight.seen operations ending v ended
-EndsLawfully s sight Compact v ended = BlockEnds s sight.seen [] Commit v ended
+EndsLawfully s sight (Block _ asked ending) v ended = BlockEnds s sight.seen asked ending v ended
+EndsLawfully s sight Compact v ended = BlockEnds s sight.seen no_changes Commit v ended
 
 -- the commands of one worker, from what it has come to
 abbrev pub Along : Setting → Sight → List Pair → Type 0

@@ -1,5 +1,5 @@
 -- What the tokens of a script's line are, by the command word and the number of tokens.
-use Rattle.std.specs.Prelude.{ℕ, Bool, false, List, [], ◌∷◌, if◌then◌else◌, Option, Some, None, Result, Ok, Err, codes}
+use Rattle.std.specs.Prelude.{ℕ, Bool, true, false, List, [], ◌∷◌, if◌then◌else◌, Option, Some, None, Result, Ok, Err, codes}
 use Rattle.std.specs.Option.{option_map}
 use Rattle.std.specs.Str.{bytes_eq}
 use Rattle.zone_model.specs.Refusals.{Refused}
@@ -38,6 +38,7 @@ pub data Phrase : Type 0 where
   AsksHeld : (asked : Asked) → Phrase
   Releases : Phrase
   Opens : (weight : Weight) → Phrase
+  Needs : (wanted : Bool) (owner : Token) (rtype : Option Token) → Phrase
   Adds : (owner ttl rtype : Token) (rdata : List Token) → Phrase
   Deletes : (owner : Token) (rest : List Token) → Phrase
   Ends : (ending : Ending) → Phrase
@@ -87,6 +88,12 @@ adds owner (ttl ∷ []) = None
 adds owner (ttl ∷ rtype ∷ []) = None
 adds owner (ttl ∷ rtype ∷ first ∷ rest) = Some (Adds owner ttl rtype (first ∷ rest))
 
+-- a prerequisite has an owner, and perhaps a type
+abbrev pub needs : Bool → Token → List Token → Option Phrase
+needs wanted owner [] = Some (Needs wanted owner None)
+needs wanted owner (rtype ∷ []) = Some (Needs wanted owner (Some rtype))
+needs wanted owner (rtype ∷ other ∷ rest) = None
+
 unfoldable pub phrase_of : List Token → Option Phrase
 phrase_of [] = None
 phrase_of (w ∷ []) = lone_word w
@@ -94,4 +101,6 @@ phrase_of (w ∷ first ∷ rest) =
     if says w (codes "add") then adds first rest
     else if says w (codes "del") then Some (Deletes first rest)
     else if says w (codes "at") then option_map AsksHeld (asked_of (first ∷ rest))
+    else if says w (codes "need") then needs true first rest
+    else if says w (codes "neednot") then needs false first rest
     else option_map Asks (asked_of (w ∷ first ∷ rest))

@@ -8,13 +8,14 @@ use Rattle.job_model.specs.Commands.{Command, Ask, Hold, AskHeld, Release, Block
 use Rattle.job_model.specs.Replies.{reply_of, reply_text}
 use Rattle.job_model.specs.Outcomes.{Cause, Rule, Full, Spent, Ended, Shown, Committed, RolledBack, Refused, Outcome, Pair, all_pairs, version_at}
 use Rattle.zone_model.specs.declared.Refusal.{Refusal}
-use Rattle.zone_model.specs.declared.Refusal.TheVariants.{Soa, Cname, Long}
+use Rattle.zone_model.specs.declared.Refusal.TheVariants.{Prereq, Soa, Cname, Long}
 
 -- worker, command and version
 abbrev pub head_text : ℕ → ℕ → ℕ → List ℕ
 head_text worker command version = decimal worker ++ codes "." ++ decimal command ++ codes " v" ++ decimal version ++ codes " "
 
 abbrev pub rule_text : Refusal → List ℕ
+rule_text Prereq = codes "prereq"
 rule_text Soa = codes "soa"
 rule_text Cname = codes "cname"
 rule_text Long = codes "long"
@@ -44,7 +45,7 @@ command_text origin set (Ask question) o = reply_text (reply_of origin (set o.ve
 command_text origin set Hold o = codes "HELD\n"
 command_text origin set (AskHeld question) o = reply_text (reply_of origin (set o.version) question)
 command_text origin set Release o = codes "RELEASED\n"
-command_text origin set (Block _ operations ending) o = ended_text o.ended
+command_text origin set (Block _ asked ending) o = ended_text o.ended
 command_text origin set Compact o = compacted_text o.ended
 
 abbrev pub worker_text : Name → (ℕ → Version) → ℕ → ℕ → List Pair → List ℕ

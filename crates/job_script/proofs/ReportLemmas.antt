@@ -46,7 +46,7 @@ command_told origin set (Ask question) o t = replied (reply_of origin (set o.ver
 command_told origin set Hold o t = sym (ap told_text t)
 command_told origin set (AskHeld question) o t = replied (reply_of origin (set o.version) question) o.told t
 command_told origin set Release o t = sym (ap told_text t)
-command_told origin set (Block _ operations ending) o t = block_ended o.told t
+command_told origin set (Block _ asked ending) o t = block_ended o.told t
 command_told origin set Compact o t = compaction_ended o.told t
 
 worker_told : (origin : Name) (set : ℕ → Version) (w c : ℕ) (cs : List Command) (os : List Outcome) → EachTells origin set cs os → worker_text origin set w c (pairs_of cs os) ≡ outcomes_text w c os

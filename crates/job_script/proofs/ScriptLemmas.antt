@@ -4,7 +4,7 @@ use Rattle.std.specs.List.{AllByRecursion}
 use Rattle.std.proofs.lemmas.List.{length-map}
 use Rattle.zone_model.specs.Names.{Name}
 use Rattle.zone_model.specs.Tokens.{Token}
-use Rattle.job_model.specs.Phrases.{Phrase, Worker, Asks, Holds, AsksHeld, Releases, Opens, Adds, Deletes, Ends, Compacts, phrase_of}
+use Rattle.job_model.specs.Phrases.{Phrase, Worker, Asks, Holds, AsksHeld, Releases, Opens, Needs, Adds, Deletes, Ends, Compacts, phrase_of}
 use Rattle.job_model.specs.Commands.{InTurn}
 use Rattle.job_model.specs.Jobs.{Script, Unfinished, inside, taken, tokens_say, script_of}
 use Rattle.job_model.proofs.TurnLemmas.{read_in_turn}
@@ -22,6 +22,7 @@ inside_alike origin n b Holds s block = refl
 inside_alike origin n b (AsksHeld asked) s block = refl
 inside_alike origin n b Releases s block = refl
 inside_alike origin n b (Opens _) s block = refl
+inside_alike origin n b (Needs wanted owner rtype) s block = refl
 inside_alike origin n b (Adds owner ttl rtype tokens) s block = refl
 inside_alike origin n b (Deletes owner rest) s block = refl
 inside_alike origin n b (Ends ending) s block = refl

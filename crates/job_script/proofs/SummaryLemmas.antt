@@ -1,5 +1,5 @@
 -- What is printed of outcomes that tell what is so is the summary.
-use Rattle.std.proofs.Common.{◌≡◌, ◌∙◌, ℕ, ◌+◌, Bool, true, false, cond, List, [], ◌∷◌, ◌++◌, length, refl, sym, ap, arith, append_assoc, length-append, if◌then◌else◌}
+use Rattle.std.proofs.Common.{◌≡◌, ◌∙◌, ℕ, ◌+◌, Bool, cond, List, [], ◌∷◌, ◌++◌, length, refl, sym, ap, arith, append_assoc, length-append, if◌then◌else◌}
 use Rattle.zone_model.specs.Names.{Name}
 use Rattle.zone_model.specs.Versions.{Version}
 use Rattle.job_model.specs.Commands.{Command}
@@ -7,7 +7,7 @@ use Rattle.job_model.specs.Outcomes.{Ended, Pair, all_pairs, is_committed, is_re
 use Rattle.job_model.specs.Reports.{head_text, ended_text}
 use Rattle.job_model.specs.Sizes.{node_count}
 use Rattle.job_model.specs.Summaries.{ended_count, refused_text, all_refused_text, counts_text, sized_end_text, summary}
-use Rattle.job_script.specs.Outcomes.{ended_view, outcome_view, pairs_of, job_pairs, versions_made, EachTells, AllTell, told_text, outcome_text}
+use Rattle.job_script.specs.Outcomes.{ended_view, pairs_of, job_pairs, versions_made, EachTells, AllTell, told_text, outcome_text}
 use Rattle.job_script.specs.Summaries.{told_count, all_count, commands_in, refused_lines, all_refused_lines, summary_text}
 use Rattle.job_script.specs.declared.outcomes.Told.{Told}
 use Rattle.job_script.specs.declared.outcomes.Told.TheVariants as told

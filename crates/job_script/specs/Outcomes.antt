@@ -83,7 +83,7 @@ Tells origin set (jobs.Ask question) o = Replies (reply_of origin (set o.version
 Tells origin set jobs.Hold o = o.told ≡ told.Held
 Tells origin set (jobs.AskHeld question) o = Replies (reply_of origin (set o.version) question) o.told
 Tells origin set jobs.Release o = o.told ≡ told.Released
-Tells origin set (jobs.Block _ operations ending) o = EndsBlock o.told
+Tells origin set (jobs.Block _ asked ending) o = EndsBlock o.told
 Tells origin set jobs.Compact o = EndsCompaction o.told
 
 -- there is one for each command of a worker, and a list for each worker

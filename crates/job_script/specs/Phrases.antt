@@ -1,5 +1,6 @@
 -- Phrases as the definitions see them.
-use Rattle.std.specs.Prelude.{ℕ, List, map}
+use Rattle.std.specs.Prelude.{ℕ, List, map, IfSome}
+use Rattle.std.specs.Option.{option_map}
 use Rattle.std.specs.List.{All}
 use Rattle.job_model.specs.Phrases as phrases
 use Rattle.zone_text.specs.Tokens.{IsPlaced, token_view}
@@ -22,6 +23,7 @@ phrase_view bytes phrase.Holds = phrases.Holds
 phrase_view bytes (phrase.AsksHeld question) = phrases.AsksHeld (asked_view bytes question)
 phrase_view bytes phrase.Releases = phrases.Releases
 phrase_view bytes (phrase.Opens weight) = phrases.Opens weight
+phrase_view bytes (phrase.Needs wanted owner rtype) = phrases.Needs wanted (token_view bytes owner) (option_map (token_view bytes) rtype)
 phrase_view bytes (phrase.Adds owner ttl rtype rest) = phrases.Adds (token_view bytes owner) (token_view bytes ttl) (token_view bytes rtype) (map (token_view bytes) rest.now)
 phrase_view bytes (phrase.Deletes owner rest) = phrases.Deletes (token_view bytes owner) (map (token_view bytes) rest.now)
 phrase_view bytes (phrase.Ends ending) = phrases.Ends ending
@@ -42,6 +44,7 @@ PhrasePlaced bytes phrase.Holds = Unit {0}
 PhrasePlaced bytes (phrase.AsksHeld question) = AskedPlaced bytes question
 PhrasePlaced bytes phrase.Releases = Unit {0}
 PhrasePlaced bytes (phrase.Opens _) = Unit {0}
+PhrasePlaced bytes (phrase.Needs wanted owner rtype) = IsPlaced bytes owner × IfSome rtype (IsPlaced bytes)
 PhrasePlaced bytes (phrase.Adds owner ttl rtype rest) = IsPlaced bytes owner × IsPlaced bytes ttl × IsPlaced bytes rtype × All (IsPlaced bytes) rest.now
 PhrasePlaced bytes (phrase.Deletes owner rest) = IsPlaced bytes owner × All (IsPlaced bytes) rest.now
 PhrasePlaced bytes (phrase.Ends _) = Unit {0}

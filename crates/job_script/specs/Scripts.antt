@@ -7,14 +7,18 @@ use Rattle.zone_model.specs.Lines.{lines_of}
 use Rattle.job_model.specs.Jobs as jobs
 use Rattle.job_model.specs.declared.ScriptKind.{ScriptKind}
 use Rattle.job_script.specs.Views.{command_view, workers_view}
-use Rattle.zone_change.specs.Views.{operation_view}
+use Rattle.zone_change.specs.Views.{operation_view, prerequisite_view}
 use Rattle.job_script.specs.declared.script.Script.{Script}
 use Rattle.job_script.specs.declared.script.Unfinished.{Unfinished}
 use Rattle.job_script.specs.declared.refusal.JobRefusal.{JobRefusal}
 use Rattle.job_script.specs.declared.refusal.JobRefusal.TheVariants as stops
 
 abbrev pub unfinished_view : Unfinished → jobs.Unfinished
-unfinished_view b = record { start = b.start; weight = b.weight; operations = map operation_view b.operations.items }
+unfinished_view b = record {
+  start = b.start;
+  weight = b.weight;
+  asked = record { needs = map prerequisite_view b.needs.items; operations = map operation_view b.operations.items };
+}
 
 abbrev pub script_view : Script → jobs.Script
 script_view s = record {

@@ -1,6 +1,7 @@
 -- The commands of a script as the definitions see them.
 use Rattle.std.specs.Prelude.{List, map}
-use Rattle.zone_change.specs.Views.{operation_view}
+use Rattle.zone_model.specs.Transactions.{Transaction}
+use Rattle.zone_change.specs.Views.{operation_view, prerequisite_view}
 use Rattle.job_model.specs.Commands as jobs
 use Rattle.job_script.specs.declared.commands.Stretch.{Stretch}
 use Rattle.job_script.specs.declared.commands.Question.{Question}
@@ -21,8 +22,11 @@ question_view (question.Walk stretch) = jobs.Walk (stretch_view stretch)
 question_view (question.Back stretch) = jobs.Back (stretch_view stretch)
 question_view question.Stat = jobs.Stat
 
+abbrev pub asked_view : Block → Transaction
+asked_view b = record { needs = map prerequisite_view b.needs.items; operations = map operation_view b.operations.items }
+
 abbrev pub block_view : Block → jobs.Command
-block_view b = jobs.Block b.weight (map operation_view b.operations.items) b.ending
+block_view b = jobs.Block b.weight (asked_view b) b.ending
 
 abbrev pub command_view : Command → jobs.Command
 command_view (command.Ask asked) = jobs.Ask (question_view asked)

@@ -1,11 +1,12 @@
-//! What the words of an operation say.
-ghost use Rattle.std.specs.Prelude.{◌≡◌, ◌∷◌, List, map};
+//! What the words of a prerequisite and of an operation say.
+ghost use Rattle.std.specs.Prelude.{◌≡◌, ◌∷◌, List, map, IfSome, None, Some};
+ghost use Rattle.std.specs.Option.{option_map};
 ghost use Rattle.std.specs.List.{All};
 ghost use Rattle.job_model.specs.Arguments as jobs;
 ghost use Rattle.zone_model.specs.Data.{data_of};
 ghost use Rattle.zone_text.specs.Tokens.{IsPlaced, token_view};
 ghost use Rattle.job_script.specs.Scripts.{Says};
-ghost use Rattle.zone_change.specs.Views.{operation_view};
+ghost use Rattle.zone_change.specs.Views.{operation_view, prerequisite_view};
 
 use crate::refusal::{JobRefusal, refused};
 use dns_name::Name;
@@ -13,7 +14,7 @@ use job_model::ScriptKind;
 use master_file::{name_word, time_word, type_word};
 use rr_data::{Rdata, RdataRefusal};
 use std::alloc::Global;
-use zone_change::{NewRecord, Operation};
+use zone_change::{NewRecord, Operation, Prerequisite};
 use zone_text::Token;
 
 // The name that a token says, at or under the origin.
@@ -25,6 +26,60 @@ fn inner_name(bytes: &[u8], origin: &Name, token: Token) -> Option<Name>
     match &name {
         Some(inner) if inner.is_under(origin) => name,
         _ => None,
+    }
+}
+
+// A prerequisite of a type.
+#[tactic(auto, unfolding(job_model::specs::Arguments::prerequisite_of))]
+fn typed_prerequisite(
+    bytes: &[u8],
+    origin: &Name,
+    line: u32,
+    wanted: bool,
+    owner: Token,
+    rtype: Token,
+) -> Result<Prerequisite, JobRefusal>
+    requires owner { IsPlaced bytes.now owner }
+    requires rtype { IsPlaced bytes.now rtype }
+    ensures { Says result prerequisite_view (jobs.prerequisite_of origin.now line wanted (token_view bytes.now owner) (Some (token_view bytes.now rtype))) }
+{
+    let Some(owner) = inner_name(bytes, origin, owner) else {
+        return Err(refused(line, ScriptKind::BadName));
+    };
+    match type_word(bytes, rtype) {
+        Some(number) => Ok(Prerequisite {
+            owner,
+            rtype: Some(number),
+            wanted,
+        }),
+        None => Err(refused(line, ScriptKind::BadType)),
+    }
+}
+
+// A prerequisite.
+#[tactic(auto, unfolding(job_model::specs::Arguments::prerequisite_of))]
+pub fn prerequisite_of(
+    bytes: &[u8],
+    origin: &Name,
+    line: u32,
+    wanted: bool,
+    owner: Token,
+    rtype: Option<Token>,
+) -> Result<Prerequisite, JobRefusal>
+    requires owner { IsPlaced bytes.now owner }
+    requires rtype { IfSome rtype (IsPlaced bytes.now) }
+    ensures { Says result prerequisite_view (jobs.prerequisite_of origin.now line wanted (token_view bytes.now owner) (option_map (token_view bytes.now) rtype)) }
+{
+    if let Some(rtype) = rtype {
+        return typed_prerequisite(bytes, origin, line, wanted, owner, rtype);
+    }
+    match inner_name(bytes, origin, owner) {
+        Some(owner) => Ok(Prerequisite {
+            owner,
+            rtype: None,
+            wanted,
+        }),
+        None => Err(refused(line, ScriptKind::BadName)),
     }
 }
 

@@ -1,7 +1,7 @@
 //! Commands of a script.
 use dns_name::Name;
 use job_model::{Ending, Weight};
-use zone_change::Operation;
+use zone_change::{Operation, Prerequisite};
 
 /// Names that follow a name in one direction.
 #[derive(Drop)]
@@ -27,10 +27,11 @@ pub enum Question {
     Stat,
 }
 
-/// A transaction: how it writes, its operations in order, and its last word.
+/// A transaction: how it writes, what it wants of the version that it changes, its operations in order, and its last word.
 #[derive(Drop)]
 pub struct Block {
     pub weight: Weight,
+    pub needs: Vec<Prerequisite>,
     pub operations: Vec<Operation>,
     pub ending: Ending,
 }

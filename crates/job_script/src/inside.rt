@@ -1,11 +1,14 @@
 //! Lines inside a block.
-ghost use Rattle.std.specs.Prelude.{◌≡◌, ◌<◌, ◌≤◌, ◌+◌, ◌∷◌, ◌++◌, [], ℕ, List, length, map, Some, None, Option, Ok, Err, Result};
+ghost use Rattle.std.specs.Prelude.{◌≡◌, ◌<◌, ◌≤◌, ◌+◌, ◌∷◌, ◌++◌, [], ℕ, List, length, map, Some, None, Option, Ok, Err, Result, IfSome};
+ghost use Rattle.std.specs.Option.{option_map};
 ghost use Rattle.job_model.specs.Jobs as jobs;
+ghost use Rattle.job_model.specs.Phrases as phrases;
+ghost use Rattle.zone_text.specs.Tokens.{IsPlaced, token_view};
 ghost use Rattle.job_script.specs.Phrases.{phrase_view, PhrasePlaced};
 ghost use Rattle.job_script.specs.Scripts.{unfinished_view, script_view, ScriptReads};
-ghost use Rattle.zone_change.specs.Views.{operation_view};
+ghost use Rattle.zone_change.specs.Views.{operation_view, prerequisite_view};
 
-use crate::changes::{addition_of, deletion_of};
+use crate::changes::{addition_of, deletion_of, prerequisite_of};
 use crate::commands::{Block, Command};
 use crate::phrases::Phrase;
 use crate::refusal::{JobRefusal, refused, too_many};
@@ -14,6 +17,9 @@ use dns_name::Name;
 use job_model::{Ending, ScriptKind, Weight};
 use std::alloc::Global;
 use zone_change::Operation;
+use zone_text::Token;
+
+const NEED_LIMIT: usize = 10000;
 
 const OPERATION_LIMIT: usize = 10000;
 
@@ -39,6 +45,9 @@ pub fn inside(
         | Phrase::Releases
         | Phrase::Opens(_)
         | Phrase::Compacts => Err(refused(line, ScriptKind::BadCommand)),
+        Phrase::Needs(wanted, owner, rtype) => {
+            need(script, bytes, origin, block, line, wanted, owner, rtype)
+        }
         Phrase::Adds(_, _, _, _) | Phrase::Deletes(_, _)
             if block.operations.len() >= OPERATION_LIMIT => Err(too_many(line, 10000)),
         Phrase::Adds(owner, ttl, rtype, tokens) => {
@@ -54,6 +63,39 @@ pub fn inside(
             }
         }
         Phrase::Ends(ending) => end_block(script, block, line, ending),
+    }
+}
+
+// A prerequisite joins a block that has no operation yet, and room for it.
+fn need(
+    script: &mut Script,
+    bytes: &[u8],
+    origin: &Name,
+    mut block: Unfinished,
+    line: u32,
+    wanted: bool,
+    owner: Token,
+    rtype: Option<Token>,
+) -> Result<(), JobRefusal>
+    requires none { script.old.block ≡ None }
+    requires owner { IsPlaced bytes.now owner }
+    requires rtype { IfSome rtype (IsPlaced bytes.now) }
+    ensures { ScriptReads result (script_view script.new) (jobs.inside origin.now line (unfinished_view block)
+        (phrases.Needs wanted (token_view bytes.now owner) (option_map (token_view bytes.now) rtype)) (script_view script.old)) }
+{
+    if !block.operations.is_empty() {
+        return Err(refused(line, ScriptKind::BadCommand));
+    }
+    if block.needs.len() >= NEED_LIMIT {
+        return Err(too_many(line, 10000));
+    }
+    match prerequisite_of(bytes, origin, line, wanted, owner, rtype) {
+        Ok(prerequisite) => {
+            block.needs.push(prerequisite)?;
+            script.block = Some(block);
+            Ok(())
+        }
+        Err(refusal) => Err(refusal),
     }
 }
 
@@ -94,6 +136,7 @@ fn end_block(
     }
     script.commands.push(Command::Block(Block {
         weight: block.weight,
+        needs: block.needs,
         operations: block.operations,
         ending,
     }))?;

@@ -41,10 +41,10 @@ pub fn outside(
         Phrase::Releases => release(script, line),
         Phrase::Opens(weight) => open_block(script, alloc, line, weight),
         Phrase::Compacts => compact(script, line),
-        Phrase::Adds(_, _, _, _) | Phrase::Deletes(_, _) | Phrase::Ends(_) => Err(refused(
-            line,
-            ScriptKind::BadCommand,
-        )),
+        Phrase::Needs(_, _, _)
+        | Phrase::Adds(_, _, _, _)
+        | Phrase::Deletes(_, _)
+        | Phrase::Ends(_) => Err(refused(line, ScriptKind::BadCommand)),
     }
 }
 
@@ -190,6 +190,7 @@ fn open_block(
     script.block = Some(Unfinished {
         start: line,
         weight,
+        needs: Vec::new(alloc),
         operations: Vec::new(alloc),
     });
     Ok(())

@@ -38,6 +38,8 @@ pub enum Phrase<'a> {
     Releases,
     /// A block begins.
     Opens(Weight),
+    /// A prerequisite: whether a record is wanted or not, of an owner, perhaps of a type.
+    Needs(bool, Token, Option<Token>),
     /// An addition of an owner, time to live, type and data.
     Adds(Token, Token, Token, &'a [Token]),
     /// A deletion of a name, perhaps of a type, perhaps of data.
@@ -165,6 +167,56 @@ fn adds<'a>(bytes: &[u8], owner: Token, rest: &'a [Token]) -> Option<Phrase<'a>>
     Some(Phrase::Adds(owner, *ttl, *rtype, rdata))
 }
 
+// A prerequisite.
+fn needs<'a>(bytes: &[u8], wanted: bool, owner: Token, rest: &[Token]) -> Option<Phrase<'a>>
+    requires owner { IsPlaced bytes.now owner }
+    requires rest { All (IsPlaced bytes.now) rest.now }
+    ensures said { option_map (phrase_view bytes.now) result ≡ phrases.needs wanted (token_view bytes.now owner) (map (token_view bytes.now) rest.now) }
+    ensures placed { IfSome result (PhrasePlaced bytes.now) }
+{
+    let Some((rtype, behind)) = rest.split_first() else {
+        return Some(Phrase::Needs(wanted, owner, None));
+    };
+    if behind.is_empty() {
+        Some(Phrase::Needs(wanted, owner, Some(*rtype)))
+    } else {
+        None
+    }
+}
+
+// What a word says with an argument and what stands behind that.
+#[tactic(auto, unfolding(job_model::specs::Phrases::phrase_of))]
+fn argued<'a>(bytes: &[u8], word: Token, first: Token, rest: &'a [Token]) -> Option<Phrase<'a>>
+    requires word { IsPlaced bytes.now word }
+    requires first { IsPlaced bytes.now first }
+    requires rest { All (IsPlaced bytes.now) rest.now }
+    ensures said { option_map (phrase_view bytes.now) result ≡ phrases.phrase_of (token_view bytes.now word ∷ token_view bytes.now first ∷ map (token_view bytes.now) rest.now) }
+    ensures placed { IfSome result (PhrasePlaced bytes.now) }
+{
+    if says(bytes, word, b"add") {
+        return adds(bytes, first, rest);
+    }
+    if says(bytes, word, b"del") {
+        return Some(Phrase::Deletes(first, rest));
+    }
+    if says(bytes, word, b"at") {
+        return match asked_of(bytes, first, rest) {
+            Some(asked) => Some(Phrase::AsksHeld(asked)),
+            None => None,
+        };
+    }
+    if says(bytes, word, b"need") {
+        return needs(bytes, true, first, rest);
+    }
+    if says(bytes, word, b"neednot") {
+        return needs(bytes, false, first, rest);
+    }
+    match named_question(bytes, word, first, rest) {
+        Some(asked) => Some(Phrase::Asks(asked)),
+        None => None,
+    }
+}
+
 /// What tokens say; None where they are no command.
 #[tactic(auto, unfolding(job_model::specs::Phrases::phrase_of))]
 pub fn phrase_of<'a>(bytes: &[u8], tokens: &'a [Token]) -> Option<Phrase<'a>>
@@ -172,26 +224,9 @@ pub fn phrase_of<'a>(bytes: &[u8], tokens: &'a [Token]) -> Option<Phrase<'a>>
     ensures said { option_map (phrase_view bytes.now) result ≡ phrases.phrase_of (map (token_view bytes.now) tokens.now) }
     ensures placed { IfSome result (PhrasePlaced bytes.now) }
 {
-    let Some((word, arguments)) = tokens.split_first() else {
-        return None;
-    };
-    let Some((first, rest)) = arguments.split_first() else {
-        return lone_word(bytes, *word);
-    };
-    if says(bytes, *word, b"add") {
-        return adds(bytes, *first, rest);
-    }
-    if says(bytes, *word, b"del") {
-        return Some(Phrase::Deletes(*first, rest));
-    }
-    if says(bytes, *word, b"at") {
-        return match asked_of(bytes, *first, rest) {
-            Some(asked) => Some(Phrase::AsksHeld(asked)),
-            None => None,
-        };
-    }
-    match named_question(bytes, *word, *first, rest) {
-        Some(asked) => Some(Phrase::Asks(asked)),
-        None => None,
+    let (word, arguments) = tokens.split_first()?;
+    match arguments.split_first() {
+        Some((first, rest)) => argued(bytes, *word, *first, rest),
+        None => lone_word(bytes, *word),
     }
 }

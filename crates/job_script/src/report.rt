@@ -29,6 +29,7 @@ fn push_rule(out: &mut Vec<u8>, refusal: Refusal) -> Result<(), AllocError>
     ensures { OnOk result (out.new.items ≡ out.old.items ++ rule_text refusal) }
 {
     match refusal {
+        Refusal::Prereq => out.extend_from_slice(b"prereq"),
         Refusal::Soa => out.extend_from_slice(b"soa"),
         Refusal::Cname => out.extend_from_slice(b"cname"),
         Refusal::Long => out.extend_from_slice(b"long"),

@@ -19,7 +19,7 @@ use dns_name::Name;
 use job_model::{ScriptKind, Weight};
 use std::alloc::Global;
 use std::mem::replace;
-use zone_change::Operation;
+use zone_change::{Operation, Prerequisite};
 use zone_text::{Token, ZoneRefusal, line_tokens};
 
 /// A block that has not ended, with the line of its first word.
@@ -27,6 +27,7 @@ use zone_text::{Token, ZoneRefusal, line_tokens};
 pub struct Unfinished {
     pub start: u32,
     pub weight: Weight,
+    pub needs: Vec<Prerequisite>,
     pub operations: Vec<Operation>,
 }
 

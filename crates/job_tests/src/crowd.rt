@@ -23,7 +23,7 @@ impl Gate for Open {
 }
 
 /// Puts a number of three digits behind a text.
-fn push_number(text: &mut Vec<u8>, number: u32) -> Result<(), AllocError> {
+pub(crate) fn push_number(text: &mut Vec<u8>, number: u32) -> Result<(), AllocError> {
     for unit in [100, 10, 1] {
         text.push(b"0123456789"[(number / unit % 10) as usize])?;
     }
@@ -67,7 +67,7 @@ fn crowded_script(alloc: Global) -> Result<Vec<u8>, AllocError> {
 }
 
 /// What becomes of a script on a zone that has no names yet, over 64 chunks.
-fn run_script<R: Threads + Wait + Sync>(
+pub(crate) fn run_script<R: Threads + Wait + Sync>(
     rt: &R,
     alloc: Global,
     script: &[u8],

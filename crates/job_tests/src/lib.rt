@@ -2,8 +2,12 @@
 #![tactic(auto)]
 
 #[cfg(test)]
+mod claims;
+#[cfg(test)]
 mod crowd;
 #[cfg(test)]
 mod gates;
+#[cfg(test)]
+mod plain;
 #[cfg(test)]
 mod workers;

@@ -6,7 +6,8 @@ use Rattle.atomic_table.specs.Seated.{TableId}
 use Rattle.std.specs.declared.alloc.AllocError.{AllocError}
 use Rattle.zone_model.specs.Names.{Name}
 use Rattle.zone_model.specs.declared.Refusal.{Refusal}
-use Rattle.zone_model.specs.Versions.{Version, Operation as ZoneOperation}
+use Rattle.zone_model.specs.Versions.{Version}
+use Rattle.zone_model.specs.Transactions.{Transaction}
 use Rattle.job_model.specs.declared.Ending.{Ending}
 use Rattle.job_model.specs.declared.Ending.TheVariants as ending
 use Rattle.job_model.specs.Outcomes.{Rule, Full, Spent, Ended, Committed, RolledBack, Refused, last_version}
@@ -26,7 +27,7 @@ use Rattle.shared_index.specs.Drafts.{Begins, IsBack, Works, working_set}
 use Rattle.chunk_usage.specs.Keeping.{kept_versions}
 use Rattle.shared_index.specs.Keepings.{versions_in}
 use Rattle.zone_edit.specs.Stores.{WorksOnSome, EditsOne, Edits}
-use Rattle.zone_edit.specs.Blocks.{AppliesAll}
+use Rattle.zone_edit.specs.Blocks.{Executes}
 use Rattle.zone_edit.specs.declared.applying.Halt.{Halt}
 use Rattle.zone_edit.specs.declared.applying.Halt.TheVariants as halts
 use Rattle.zone_edit.proofs.EditLaws.{Both, both, edits_some, some_weaker}
@@ -40,61 +41,61 @@ Seat = PassSeat (List Entry) (List Operation)
 there_is : (P : Draft → Type 0) (o : Option Draft) (d : Draft) → o ≡ Some d → IfSome o P → P d
 there_is P o d is h = subst (λ (x : Option Draft). IfSome x P) is h
 
-module _ (s : Setup) (operations : List ZoneOperation) (ends : Ending) (old : Known) (o : Outcome) (first second : Option Draft) (told : is_told old.seen.opening ≡ true) (opening : first_version old.seen ≡ s.opening) (begins : IsSomeAnd first (Begins Lawful old)) where
+module _ (s : Setup) (asked : Transaction) (ends : Ending) (old : Known) (o : Outcome) (first second : Option Draft) (told : is_told old.seen.opening ≡ true) (opening : first_version old.seen ≡ s.opening) (begins : IsSomeAnd first (Begins Lawful old)) where
   abbrev Edited : Result (Unit {0}) Halt → Type 0
-  Edited r = Edits (AppliesAll s.origin operations r) first second
+  Edited r = Edits (Executes s.origin asked r) first second
 
   pub commit_ran : (new : Known) (version : ℕ) → Edited (Ok tt) → ends ≡ ending.Commit → IfSome second (λ d. drafts.Commits d.seat.place.me.0 d.log.operations new) → IfSome second (λ d. version ≡ d.seat.version + 1)
-      → o.version ≡ version → ended_view o.told ≡ Committed → BlockRan s operations ends old new o
+      → o.version ≡ version → ended_view o.told ≡ Committed → BlockRan s asked ends old new o
   commit_ran new version edits is commits next here said =
-      let x = both (Begins Lawful old) (EditsOne (AppliesAll s.origin operations (Ok tt))) first second begins edits in
+      let x = both (Begins Lawful old) (EditsOne (Executes s.origin asked (Ok tt))) first second begins edits in
       let c = there_is (λ d. drafts.Commits d.seat.place.me.0 d.log.operations new) second x.after x.new_is commits in
       let v = there_is (λ d. version ≡ d.seat.version + 1) second x.after x.new_is next in
       record {
-        grows = commits_grow s operations old x.before x.after x.met told opening x.related.known new c;
-        version = here ∙ commits_version s operations old x.before x.after x.met told opening x.related.known new version c v;
-        transacts = subst (Transacts s operations ends old new) (sym said) (is, commits_block s operations old x.before x.after x.met told opening x.related.known new x.related.becomes c);
+        grows = commits_grow s asked old x.before x.after x.met told opening x.related.known new c;
+        version = here ∙ commits_version s asked old x.before x.after x.met told opening x.related.known new version c v;
+        transacts = subst (Transacts s asked ends old new) (sym said) (is, commits_block s asked old x.before x.after x.met told opening x.related.known new x.related.becomes c);
       }
 
   -- the pass is back, and the block was on the base
   module _ (seat : Option Seat) (version : ℕ) (back : IfSome second (λ d. IsBack d.seat.place.me.0 seat)) (base : IfSome first (λ d. version ≡ length d.seat.place.me.0.seen.history)) (here : o.version ≡ version) where
     abbrev Two : Result (Unit {0}) Halt → Type 0
-    Two r = Both (Begins Lawful old) (EditsOne (AppliesAll s.origin operations r)) first second
+    Two r = Both (Begins Lawful old) (EditsOne (Executes s.origin asked r)) first second
 
     two : (r : Result (Unit {0}) Halt) → Edited r → Two r
-    two r edits = both (Begins Lawful old) (EditsOne (AppliesAll s.origin operations r)) first second begins edits
+    two r edits = both (Begins Lawful old) (EditsOne (Executes s.origin asked r)) first second begins edits
 
     known_back : (r : Result (Unit {0}) Halt) (x : Two r) → known_at seat ≡ pass_of x.after.seat.place.me.0
     known_back r x = (there_is (λ d. IsBack d.seat.place.me.0 seat) second x.after x.new_is back).1
 
-    ran : (r : Result (Unit {0}) Halt) (x : Two r) (e : Ended) → ended_view o.told ≡ e → Transacts s operations ends old (known_at seat) e → BlockRan s operations ends old (known_at seat) o
+    ran : (r : Result (Unit {0}) Halt) (x : Two r) (e : Ended) → ended_view o.told ≡ e → Transacts s asked ends old (known_at seat) e → BlockRan s asked ends old (known_at seat) o
     ran r x e said t = record {
-      grows = back_grows s operations old x.before x.after x.met told opening x.related.known (known_at seat) (known_back r x);
-      version = here ∙ back_version s operations old x.before x.after x.met told opening x.related.known (known_at seat) (known_back r x) version (there_is (λ d. version ≡ length d.seat.place.me.0.seen.history) first x.before x.old_is base);
-      transacts = subst (Transacts s operations ends old (known_at seat)) (sym said) t;
+      grows = back_grows s asked old x.before x.after x.met told opening x.related.known (known_at seat) (known_back r x);
+      version = here ∙ back_version s asked old x.before x.after x.met told opening x.related.known (known_at seat) (known_back r x) version (there_is (λ d. version ≡ length d.seat.place.me.0.seen.history) first x.before x.old_is base);
+      transacts = subst (Transacts s asked ends old (known_at seat)) (sym said) t;
     }
 
-    pub rollback_ran : Edited (Ok tt) → ends ≡ ending.Rollback → ended_view o.told ≡ RolledBack → BlockRan s operations ends old (known_at seat) o
+    pub rollback_ran : Edited (Ok tt) → ends ≡ ending.Rollback → ended_view o.told ≡ RolledBack → BlockRan s asked ends old (known_at seat) o
     rollback_ran edits is said =
         let x = two (Ok tt) edits in
-        ran (Ok tt) x RolledBack said (rolled_back s operations old x.before x.after x.met told opening x.related.known (known_at seat) (known_back (Ok tt) x) ends is x.related.becomes)
+        ran (Ok tt) x RolledBack said (rolled_back s asked old x.before x.after x.met told opening x.related.known (known_at seat) (known_back (Ok tt) x) ends is x.related.becomes)
 
-    pub spent_ran : Edited (Ok tt) → ends ≡ ending.Commit → IfSome second (λ d. d.seat.version ≡ last_version) → ended_view o.told ≡ Refused Spent → BlockRan s operations ends old (known_at seat) o
+    pub spent_ran : Edited (Ok tt) → ends ≡ ending.Commit → IfSome second (λ d. d.seat.version ≡ last_version) → ended_view o.told ≡ Refused Spent → BlockRan s asked ends old (known_at seat) o
     spent_ran edits is spent said =
         let x = two (Ok tt) edits in
-        ran (Ok tt) x (Refused Spent) said (spent_block s operations old x.before x.after x.met told opening x.related.known (known_at seat) (known_back (Ok tt) x) ends is (there_is (λ d. d.seat.version ≡ last_version) second x.after x.new_is spent) x.related.becomes)
+        ran (Ok tt) x (Refused Spent) said (spent_block s asked old x.before x.after x.met told opening x.related.known (known_at seat) (known_back (Ok tt) x) ends is (there_is (λ d. d.seat.version ≡ last_version) second x.after x.new_is spent) x.related.becomes)
 
-    pub refused_ran : (refusal : Refusal) → Edited (Err (halts.Refused refusal)) → ended_view o.told ≡ Refused (Rule refusal) → BlockRan s operations ends old (known_at seat) o
+    pub refused_ran : (refusal : Refusal) → Edited (Err (halts.Refused refusal)) → ended_view o.told ≡ Refused (Rule refusal) → BlockRan s asked ends old (known_at seat) o
     refused_ran refusal edits said =
         let x = two (Err (halts.Refused refusal)) edits in
-        ran (Err (halts.Refused refusal)) x (Refused (Rule refusal)) said (rule_broken s operations old x.before x.after x.met told opening x.related.known (known_at seat) (known_back (Err (halts.Refused refusal)) x) ends refusal x.related.becomes)
+        ran (Err (halts.Refused refusal)) x (Refused (Rule refusal)) said (rule_broken s asked old x.before x.after x.met told opening x.related.known (known_at seat) (known_back (Err (halts.Refused refusal)) x) ends refusal x.related.becomes)
 
     pub full_ran : (operation : ℕ) (kept : Versions) → IfSome second (λ d. versions_in kept ≡ kept_versions d.usage) → Edited (Err (halts.Full operation)) → IfSome second (λ d. s.chunks ≡ length d.usage.given) → IfSome first (λ d. s.passes ≡ d.seat.passes)
-        → ended_view o.told ≡ Refused (Full operation (versions_in kept)) → BlockRan s operations ends old (known_at seat) o
+        → ended_view o.told ≡ Refused (Full operation (versions_in kept)) → BlockRan s asked ends old (known_at seat) o
     full_ran operation kept same edits chunks passes said =
         let x = two (Err (halts.Full operation)) edits in
         ran (Err (halts.Full operation)) x (Refused (Full operation (versions_in kept))) said
-        (full_block s operations old x.before x.after x.met told opening x.related.known (known_at seat) (known_back (Err (halts.Full operation)) x) ends operation kept (there_is (λ d. versions_in kept ≡ kept_versions d.usage) second x.after x.new_is same)
+        (full_block s asked old x.before x.after x.met told opening x.related.known (known_at seat) (known_back (Err (halts.Full operation)) x) ends operation kept (there_is (λ d. versions_in kept ≡ kept_versions d.usage) second x.after x.new_is same)
         (there_is (λ d. s.chunks ≡ length d.usage.given) second x.after x.new_is chunks)
         (there_is (λ d. s.passes ≡ d.seat.passes) first x.before x.old_is passes ∙ sym x.related.passes) x.related.becomes)
 
@@ -102,10 +103,10 @@ module _ (s : Setup) (operations : List ZoneOperation) (ends : Ending) (old : Kn
   pub committed_ran : (seat : Option Seat) (r : Result Receipt NoNumber) → Edited (Ok tt) → ends ≡ ending.Commit
       → IfOk r (λ _. IfSome second (λ d. drafts.Commits d.seat.place.me.0 d.log.operations (known_at seat))) → IfOk r (λ t. IfSome second (λ d. t.version ≡ d.seat.version + 1))
       → IfErr r (λ _. IfSome second (λ d. IsBack d.seat.place.me.0 seat)) → IfSome second (λ d. IsErr r ↔ (d.seat.version ≡ last_version)) → IfErr r (λ t. IfSome second (λ d. t.version ≡ d.seat.version))
-      → IfOk r (λ t. (o.version ≡ t.version) × (ended_view o.told ≡ Committed)) → IfErr r (λ t. (o.version ≡ t.version) × (ended_view o.told ≡ Refused Spent)) → BlockRan s operations ends old (known_at seat) o
+      → IfOk r (λ t. (o.version ≡ t.version) × (ended_view o.told ≡ Committed)) → IfErr r (λ t. (o.version ≡ t.version) × (ended_view o.told ≡ Refused Spent)) → BlockRan s asked ends old (known_at seat) o
   committed_ran seat (Ok t) edits is commits next back spent last made lost = commit_ran (known_at seat) t.version edits is commits next made.0 made.1
   committed_ran seat (Err t) edits is commits next back spent last made lost =
-      let x = both (Begins Lawful old) (EditsOne (AppliesAll s.origin operations (Ok tt))) first second begins edits in
+      let x = both (Begins Lawful old) (EditsOne (Executes s.origin asked (Ok tt))) first second begins edits in
       let number : t.version ≡ x.after.seat.version = there_is (λ d. t.version ≡ d.seat.version) second x.after x.new_is last in
       let history : length x.after.seat.place.me.0.seen.history ≡ length x.before.seat.place.me.0.seen.history = ap length x.related.known.history in
       let base : t.version ≡ length x.before.seat.place.me.0.seen.history = number ∙ x.after.seat.version_is ∙ history in
@@ -113,26 +114,26 @@ module _ (s : Setup) (operations : List ZoneOperation) (ends : Ending) (old : Kn
       spent_ran seat t.version back (subst (λ (d : Option Draft). IfSome d (λ d. t.version ≡ length d.seat.place.me.0.seen.history)) (sym x.old_is) base) lost.0 edits is
       (subst (λ (d : Option Draft). IfSome d (λ d. d.seat.version ≡ last_version)) (sym x.new_is) (none.0 refl)) lost.1
 
--- its operations stopped
-pub stopped_ran : (s : Setup) (operations : List ZoneOperation) (ends : Ending) (old : Known) (first second : Option Draft) → is_told old.seen.opening ≡ true → first_version old.seen ≡ s.opening → IsSomeAnd first (Begins Lawful old)
-    → (seat : Option Seat) (version : ℕ) (halt : Halt) (kept : Versions) (r : Result Outcome AllocError) → IfSome second (λ d. versions_in kept ≡ kept_versions d.usage) → IfSome second (λ d. IsBack d.seat.place.me.0 seat) → IfSome first (λ d. version ≡ length d.seat.place.me.0.seen.history) → Edits (AppliesAll s.origin operations (Err halt)) first second
-    → IfSome second (λ d. s.chunks ≡ length d.usage.given) → IfSome first (λ d. s.passes ≡ d.seat.passes) → StoppedBy halt kept version r → IfOk r (BlockRan s operations ends old (known_at seat))
-stopped_ran s operations ends old first second told opening begins seat version halts.Memory kept (Ok o) same back base edits chunks passes stopped = absurd cc
-stopped_ran s operations ends old first second told opening begins seat version halts.Memory kept (Err e) same back base edits chunks passes stopped = tt
-stopped_ran s operations ends old first second told opening begins seat version (halts.Refused refusal) kept (Ok o) same back base edits chunks passes stopped =
-    refused_ran s operations ends old o first second told opening begins seat version back base stopped.1 refusal edits stopped.0
-stopped_ran s operations ends old first second told opening begins seat version (halts.Refused refusal) kept (Err e) same back base edits chunks passes stopped = tt
-stopped_ran s operations ends old first second told opening begins seat version (halts.Full operation) kept (Ok o) same back base edits chunks passes stopped =
-    full_ran s operations ends old o first second told opening begins seat version back base stopped.1 operation kept same edits chunks passes stopped.0
-stopped_ran s operations ends old first second told opening begins seat version (halts.Full operation) kept (Err e) same back base edits chunks passes stopped = tt
+-- its asked stopped
+pub stopped_ran : (s : Setup) (asked : Transaction) (ends : Ending) (old : Known) (first second : Option Draft) → is_told old.seen.opening ≡ true → first_version old.seen ≡ s.opening → IsSomeAnd first (Begins Lawful old)
+    → (seat : Option Seat) (version : ℕ) (halt : Halt) (kept : Versions) (r : Result Outcome AllocError) → IfSome second (λ d. versions_in kept ≡ kept_versions d.usage) → IfSome second (λ d. IsBack d.seat.place.me.0 seat) → IfSome first (λ d. version ≡ length d.seat.place.me.0.seen.history) → Edits (Executes s.origin asked (Err halt)) first second
+    → IfSome second (λ d. s.chunks ≡ length d.usage.given) → IfSome first (λ d. s.passes ≡ d.seat.passes) → StoppedBy halt kept version r → IfOk r (BlockRan s asked ends old (known_at seat))
+stopped_ran s asked ends old first second told opening begins seat version halts.Memory kept (Ok o) same back base edits chunks passes stopped = absurd cc
+stopped_ran s asked ends old first second told opening begins seat version halts.Memory kept (Err e) same back base edits chunks passes stopped = tt
+stopped_ran s asked ends old first second told opening begins seat version (halts.Refused refusal) kept (Ok o) same back base edits chunks passes stopped =
+    refused_ran s asked ends old o first second told opening begins seat version back base stopped.1 refusal edits stopped.0
+stopped_ran s asked ends old first second told opening begins seat version (halts.Refused refusal) kept (Err e) same back base edits chunks passes stopped = tt
+stopped_ran s asked ends old first second told opening begins seat version (halts.Full operation) kept (Ok o) same back base edits chunks passes stopped =
+    full_ran s asked ends old o first second told opening begins seat version back base stopped.1 operation kept same edits chunks passes stopped.0
+stopped_ran s asked ends old first second told opening begins seat version (halts.Full operation) kept (Err e) same back base edits chunks passes stopped = tt
 
 -- the same of a pass that is known by another name
 
-pub ran_as : (s : Setup) (operations : List ZoneOperation) (ends : Ending) (old new new' : Known) (o : Outcome) → BlockRan s operations ends old new o → new' ≡ new → BlockRan s operations ends old new' o
-ran_as s operations ends old new new' o ran same = subst (λ (v : Known). BlockRan s operations ends old v o) (sym same) ran
+pub ran_as : (s : Setup) (asked : Transaction) (ends : Ending) (old new new' : Known) (o : Outcome) → BlockRan s asked ends old new o → new' ≡ new → BlockRan s asked ends old new' o
+ran_as s asked ends old new new' o ran same = subst (λ (v : Known). BlockRan s asked ends old v o) (sym same) ran
 
-pub result_as : (s : Setup) (operations : List ZoneOperation) (ends : Ending) (old new new' : Known) (r : Result Outcome AllocError) → IfOk r (BlockRan s operations ends old new) → new' ≡ new → IfOk r (BlockRan s operations ends old new')
-result_as s operations ends old new new' r ran same = subst (λ (v : Known). IfOk r (BlockRan s operations ends old v)) (sym same) ran
+pub result_as : (s : Setup) (asked : Transaction) (ends : Ending) (old new new' : Known) (r : Result Outcome AllocError) → IfOk r (BlockRan s asked ends old new) → new' ≡ new → IfOk r (BlockRan s asked ends old new')
+result_as s asked ends old new new' r ran same = subst (λ (v : Known). IfOk r (BlockRan s asked ends old v)) (sym same) ran
 
 -- ---- a transaction that was dropped
 
@@ -161,9 +162,9 @@ module _ (old : Known) (first : Option Draft) (begins : IsSomeAnd first (Begins 
   pub begun_works : IsSomeAnd first WorksOnSome
   begun_works = some_weaker (Begins Lawful old) WorksOnSome first (begun_some old) begins
 
-  module _ (origin : Name) (operations : List ZoneOperation) (second : Option Draft) (edits : Edits (AppliesAll origin operations (Ok tt)) first second) where
+  module _ (origin : Name) (asked : Transaction) (second : Option Draft) (edits : Edits (Executes origin asked (Ok tt)) first second) where
     works_still : IsSomeAnd second WorksOnSome
-    works_still = edits_some (AppliesAll origin operations (Ok tt)) first second begun_works (λ version e a. record { version = a.0; on = a.2 }) edits
+    works_still = edits_some (Executes origin asked (Ok tt)) first second begun_works (λ version e a. record { version = a.0; on = a.2 }) edits
 
     pub after_works : IsSomeAnd second Works
     after_works = some_weaker WorksOnSome Works second (λ d w. w.on.works) works_still
@@ -172,9 +173,9 @@ module _ (old : Known) (first : Option Draft) (begins : IsSomeAnd first (Begins 
     after_zone = some_weaker WorksOnSome (λ d. IsZone (working_set d)) second (λ d w. record { version = w.version; stands = record { valid = w.on.valid; entries = sym w.on.set } }) works_still
 
 -- what was edited, in the words of a setup
-pub edits_as : (origin origin' : Name) (operations operations' : List ZoneOperation) (r : Result (Unit {0}) Halt) (first second : Option Draft) → origin' ≡ origin → operations ≡ operations' → Edits (AppliesAll origin operations r) first second → Edits (AppliesAll origin' operations' r) first second
-edits_as origin origin' operations operations' r first second e f edits =
-    subst (λ (o : Name). Edits (AppliesAll o operations' r) first second) (sym e) (subst (λ (os : List ZoneOperation). Edits (AppliesAll origin os r) first second) f edits)
+pub edits_as : (origin origin' : Name) (asked asked' : Transaction) (r : Result (Unit {0}) Halt) (first second : Option Draft) → origin' ≡ origin → asked ≡ asked' → Edits (Executes origin asked r) first second → Edits (Executes origin' asked' r) first second
+edits_as origin origin' asked asked' r first second e f edits =
+    subst (λ (o : Name). Edits (Executes o asked' r) first second) (sym e) (subst (λ (os : Transaction). Edits (Executes origin os r) first second) f edits)
 
 pub has_passes : (s : Setup) (passes : ℕ) (first : Option Draft) → s.passes ≡ passes → IsSomeAnd first (λ d. d.seat.passes ≡ passes) → IfSome first (λ d. s.passes ≡ d.seat.passes)
 has_passes s passes (Some d) same has = same ∙ sym has

@@ -2,6 +2,7 @@
 use Rattle.std.proofs.Common.{◌≡◌, ◌≢◌, ◌∙◌, ℕ, ◌+◌, true, List, [], Option, Some, Result, Ok, Err, refl, sym, append-nil}
 use Rattle.std.specs.Prelude.{IsSome, IfOk, IfErr}
 use Rattle.pin_core.specs.declared.version.Spent.{Spent as NoNumber}
+use Rattle.zone_model.specs.Transactions.{no_changes}
 use Rattle.job_model.specs.declared.Ending.TheVariants as ending
 use Rattle.job_model.specs.Outcomes.{Committed, Refused, Spent, last_version}
 use Rattle.job_script.specs.declared.outcomes.Outcome.{Outcome}
@@ -15,7 +16,7 @@ use Rattle.shared_index.specs.declared.meaning.Operation.{Operation}
 use Rattle.shared_index.specs.Compactions.{Compacts, IsLast}
 use Rattle.shared_index.specs.Keepings.{GoesOn}
 use Rattle.shared_index.specs.Passes.{Known, known_at, first_version}
-use Rattle.zone_edit.specs.Blocks.{AppliesAll}
+use Rattle.zone_edit.specs.Blocks.{Executes}
 use Rattle.zone_edit.specs.Stores.{Edits}
 use Rattle.job_threads.specs.Histories.{Setup}
 use Rattle.job_threads.specs.Commands.{BlockRan}
@@ -26,13 +27,13 @@ stays_so : (v : Known) → GoesOn v v
 stays_so v = record { pass = refl; opening = refl; history = refl; namings = ([], sym (append-nil v.seen.namings)) }
 
 -- nothing was done
-edits_none : (s : Setup) (d : Draft) → Edits (AppliesAll s.origin [] (Ok tt)) (Some d) (Some d)
+edits_none : (s : Setup) (d : Draft) → Edits (Executes s.origin no_changes (Ok tt)) (Some d) (Some d)
 edits_none s d = record { known = stays_so d.seat.place.me.0; passes = refl; becomes = λ version on. (version, refl, on) }
 
 pub compaction_ran : (s : Setup) (old : Known) (o : Outcome) → is_told old.seen.opening ≡ true → first_version old.seen ≡ s.opening → (seat : Option (PassSeat (List Entry) (List Operation))) → IsSome seat → (passes : ℕ) (r : Result Receipt NoNumber)
     → IfOk r (Compacts Lawful passes old (known_at seat)) → IfOk r (λ t. t.version ≢ last_version + 1) → IfErr r (IsLast Lawful old (known_at seat)) → IfErr r (λ t. t.version ≡ last_version)
-    → IfOk r (λ t. (o.version ≡ t.version) × (ended_view o.told ≡ Committed)) → IfErr r (λ t. (o.version ≡ t.version) × (ended_view o.told ≡ Refused Spent)) → BlockRan s [] ending.Commit old (known_at seat) o
+    → IfOk r (λ t. (o.version ≡ t.version) × (ended_view o.told ≡ Committed)) → IfErr r (λ t. (o.version ≡ t.version) × (ended_view o.told ≡ Refused Spent)) → BlockRan s no_changes ending.Commit old (known_at seat) o
 compaction_ran s old o told opening seat some passes (Ok t) c next back last made lost =
-    commit_ran s [] ending.Commit old o (Some c.draft) (Some c.draft) told opening c.begins (known_at seat) t.version (edits_none s c.draft) refl c.commits c.version made.0 made.1
+    commit_ran s no_changes ending.Commit old o (Some c.draft) (Some c.draft) told opening c.begins (known_at seat) t.version (edits_none s c.draft) refl c.commits c.version made.0 made.1
 compaction_ran s old o told opening seat some passes (Err t) c next back last made lost =
-    spent_ran s [] ending.Commit old o (Some back.draft) (Some back.draft) told opening back.begins seat t.version (some, back.back) (back.version ∙ back.draft.seat.version_is) lost.0 (edits_none s back.draft) refl (sym back.version ∙ last) lost.1
+    spent_ran s no_changes ending.Commit old o (Some back.draft) (Some back.draft) told opening back.begins seat t.version (some, back.back) (back.version ∙ back.draft.seat.version_is) lost.0 (edits_none s back.draft) refl (sym back.version ∙ last) lost.1

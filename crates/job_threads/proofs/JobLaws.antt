@@ -5,11 +5,12 @@ use Rattle.std.proofs.lemmas.Bool.Decides.{nat_tests}
 use Rattle.std.proofs.lemmas.List.{length-map}
 use Rattle.std.proofs.lemmas.List.Elements.{Contains-append_left, Contains-append_right, Contains-push}
 use Rattle.std.specs.List.{AllByRecursion}
-use Rattle.zone_model.specs.Versions.{Version, whole}
+use Rattle.zone_model.specs.Versions.{Version}
+use Rattle.zone_model.specs.Transactions.{whole}
 use Rattle.zone_query.specs.Standing.{trie_entry}
 use Rattle.trie_model.specs.Shape.{nodes, keys_of}
 use Rattle.job_model.specs.Sizes.{node_count}
-use Rattle.job_model.specs.Outcomes.{Pair, is_committed, made, operations_of, operations_at, accepted_or, times_made, version_at, AllAlong, all_pairs, passes_for, shown_in}
+use Rattle.job_model.specs.Outcomes.{Pair, is_committed, made, asked_by, asked_at, accepted_or, times_made, version_at, AllAlong, all_pairs, passes_for, shown_in}
 use Rattle.job_script.specs.Outcomes.{pairs_of, job_pairs, versions_made, AllTell}
 use Rattle.shared_cells.specs.declared.view.Naming.{Naming}
 use Rattle.shared_cells.specs.History.{StartsWith, entries_by, version_after}
@@ -215,7 +216,7 @@ module _ (s : Setup) (history : List Commit) (namings : List Naming) (main : Kno
   is_both false d h = absurd cc
 
   abbrev Makes : ℕ → Version → Pairs → Type 0
-  Makes j base pairs = (next : Version) × (whole s.origin (operations_at j pairs) base ≡ Ok next) × StandsAs (index_at s.opening history j) next
+  Makes j base pairs = (next : Version) × (whole s.origin (asked_at j pairs) base ≡ Ok next) × StandsAs (index_at s.opening history j) next
 
   found : (j : ℕ) (base : Version) (pairs : Pairs) → times_made j pairs ≡ 1 → AllByRecursion (Replayed s history) pairs → StandsAs (index_at s.opening history (j - 1)) base → Makes j base pairs
   found j base [] once r b = absurd cc
@@ -227,14 +228,14 @@ module _ (s : Setup) (history : List Commit) (namings : List Naming) (main : Kno
           let same : p.1.version ≡ j = (let t : eqb p.1.version j ≡ true = both.1 in grind (arith, nat_tests)) in
           let replayed = (r.0 both.0).1 base (subst (λ (n : ℕ). StandsAs (index_at s.opening history (n - 1)) base) (sym same) b) in (
             replayed.0,
-            ap (λ (t : Bool). whole s.origin (cond t (operations_of p.0) (operations_at j pairs)) base) e ∙ replayed.1,
+            ap (λ (t : Bool). whole s.origin (cond t (asked_by p.0) (asked_at j pairs)) base) e ∙ replayed.1,
             subst (λ (n : ℕ). StandsAs (index_at s.opening history n) replayed.0) same replayed.2,
           )
       by_made rest false e =
           let fewer : times_made j pairs ≡ 1 = sym (ap (λ (t : Bool). cond t 1 0 + times_made j pairs) e ∙ (let z : 0 + times_made j pairs ≡ times_made j pairs = omega arith in z)) ∙ once in
           let m = rest fewer in (
             m.0,
-            ap (λ (t : Bool). whole s.origin (cond t (operations_of p.0) (operations_at j pairs)) base) e ∙ m.1,
+            ap (λ (t : Bool). whole s.origin (cond t (asked_by p.0) (asked_at j pairs)) base) e ∙ m.1,
             m.2,
           )
 

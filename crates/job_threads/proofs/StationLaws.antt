@@ -1,8 +1,8 @@
 -- Steps of a worker, by where its passes are.
-use Rattle.std.proofs.Common.{◌≡◌, List, [], Option, Some, None, refl, sym, ap, subst}
+use Rattle.std.proofs.Common.{◌≡◌, Option, Some, None, refl, sym, subst}
 use Rattle.std.specs.Prelude.{IsSome}
 use Rattle.std.specs.Option.{option_map}
-use Rattle.zone_model.specs.Versions.{Operation as ZoneOperation}
+use Rattle.zone_model.specs.Transactions.{Transaction, no_changes}
 use Rattle.job_model.specs.declared.Ending.{Ending}
 use Rattle.job_model.specs.declared.Ending.TheVariants.{Commit}
 use Rattle.job_model.specs.declared.Weight.{Weight}
@@ -22,12 +22,12 @@ module _ (s : Setup) (o : Outcome) (asks : Option Seat) (some : IsSome asks) (op
     pub ask_done : (question : Question) → Asked s.origin question (known_at asks) (known_at asks') o → Step s (Ask question) o (station asks spare held) (station asks' spare held)
     ask_done question a = ask_step s o (station asks spare held) (station asks' spare held) opened (seat_told asks some) (holder_told spare held placed) under refl refl a.grows question a
 
-    pub block_done : (weight : Weight) (operations : List ZoneOperation) (ending : Ending) → EndsBlock o.told → BlockRan s operations ending (known_at asks) (known_at asks') o → Step s (Block weight operations ending) o (station asks spare held) (station asks' spare held)
-    block_done weight operations ending ends b =
+    pub block_done : (weight : Weight) (asked : Transaction) (ending : Ending) → EndsBlock o.told → BlockRan s asked ending (known_at asks) (known_at asks') o → Step s (Block weight asked ending) o (station asks spare held) (station asks' spare held)
+    block_done weight asked ending ends b =
         let own = seat_pass asks some in
-        block_step s o (station asks spare held) (station asks' spare held) opened (seat_told asks some) (holder_told spare held placed) under refl refl b.grows weight operations ending own.0 own.1 ends b
+        block_step s o (station asks spare held) (station asks' spare held) opened (seat_told asks some) (holder_told spare held placed) under refl refl b.grows weight asked ending own.0 own.1 ends b
 
-    pub compact_done : EndsCompaction o.told → BlockRan s [] Commit (known_at asks) (known_at asks') o → Step s Compact o (station asks spare held) (station asks' spare held)
+    pub compact_done : EndsCompaction o.told → BlockRan s no_changes Commit (known_at asks) (known_at asks') o → Step s Compact o (station asks spare held) (station asks' spare held)
     compact_done ends b =
         let own = seat_pass asks some in
         compact_step s o (station asks spare held) (station asks' spare held) opened (seat_told asks some) (holder_told spare held placed) under refl refl b.grows own.0 own.1 ends b

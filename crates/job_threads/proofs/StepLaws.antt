@@ -2,7 +2,8 @@
 use Rattle.std.proofs.Common.{◌≡◌, ◌∙◌, inl, inr, ℕ, ◌+◌, ◌-◌, ◌<◌, ◌≤◌, Bool, true, false, List, [], ◌∷◌, ◌++◌, length, Option, Some, None, Result, Ok, Err, refl, sym, ap, subst, arith, length-append}
 use Rattle.std.specs.Prelude.{Contains, IsOk}
 use Rattle.std.proofs.lemmas.List.Elements.{Contains-push, Contains-push_cases}
-use Rattle.zone_model.specs.Versions.{Version, Operation as ZoneOperation, whole}
+use Rattle.zone_model.specs.Versions.{Version}
+use Rattle.zone_model.specs.Transactions.{Transaction, whole, no_changes}
 use Rattle.zone_model.specs.declared.Refusal.{Refusal}
 use Rattle.trie_model.specs.Keys as trie
 use Rattle.job_model.specs.declared.Ending.{Ending}
@@ -13,8 +14,6 @@ use Rattle.job_model.specs.Commands.{Question, Command, Ask, Hold, AskHeld, Rele
 use Rattle.job_model.specs.Replies.{reply_of}
 use Rattle.job_model.specs.Outcomes.{Ended, Shown, Committed, RolledBack, Refused, is_committed, Sight, Shows, Causes, BlockEnds, EndsLawfully, shown_by, sight_after}
 use Rattle.job_script.specs.Outcomes.{ended_view, Replies, EndsBlock, EndsCompaction}
-use Rattle.job_script.specs.declared.outcomes.Told.{Told}
-use Rattle.job_script.specs.declared.outcomes.Told.TheVariants as told
 use Rattle.job_script.specs.declared.outcomes.Outcome.{Outcome}
 use Rattle.shared_cells.specs.declared.pinned.PinnedSeat.{PinnedSeat}
 use Rattle.shared_cells.specs.declared.view.PassView.{PassView}
@@ -124,8 +123,8 @@ module _ (s : Setup) (o : Outcome) (old new : Station) (opened : first_version o
       holding : (sight : Sight) → IsSight old sight → IsSight new (sight_after sight c o.version)
       writes : (own : Own) → old.asks.pass ≡ Some own → Writes s own c o.version (is_committed (ended_view o.told)) old.asks new.asks
 
-    block_rest : (weight : Weight) (operations : List ZoneOperation) (ending : Ending) (own : Own) → old.asks.pass ≡ Some own → BlockRan s operations ending old.asks new.asks o → Rest (Block weight operations ending)
-    block_rest weight operations ending own is b = record {
+    block_rest : (weight : Weight) (asked : Transaction) (ending : Ending) (own : Own) → old.asks.pass ≡ Some own → BlockRan s asked ending old.asks new.asks o → Rest (Block weight asked ending)
+    block_rest weight asked ending own is b = record {
       asks = b.grows;
       ends = λ sight is' set shown are covers. by_end sight is' set shown are covers (ended_view o.told) b.transacts;
       below = omega (arith, b.version);
@@ -139,7 +138,7 @@ module _ (s : Setup) (o : Outcome) (old new : Station) (opened : first_version o
         stands_at : (set : ℕ → Version) → AreVersions s new.asks.seen.history set → StandsAs (version_seen new.asks.seen) (set o.version)
         stands_at set are = seen_stands s set new.asks new.asks o.version opened_now (begins_same new.asks.seen.history) b.version are
 
-        by_end : (sight : Sight) → IsSight old sight → (set : ℕ → Version) (shown : List ℕ) → AreVersions s new.asks.seen.history set → CoversNamings shown new.asks.seen → (e : Ended) → Transacts s operations ending old.asks new.asks e → BlockEnds (judged_by s set shown) sight.seen operations ending o.version e
+        by_end : (sight : Sight) → IsSight old sight → (set : ℕ → Version) (shown : List ℕ) → AreVersions s new.asks.seen.history set → CoversNamings shown new.asks.seen → (e : Ended) → Transacts s asked ending old.asks new.asks e → BlockEnds (judged_by s set shown) sight.seen asked ending o.version e
         by_end sight is' set shown are covers Shown t = t
         by_end sight is' set shown are covers Committed t =
             let c = t.1 own is in
@@ -150,7 +149,7 @@ module _ (s : Setup) (o : Outcome) (old new : Station) (opened : first_version o
             let last : o.version - 1 ≡ length c.base = (let v = b.version in omega arith) in
             let base = last_stands s new.asks.seen.history c.base set (o.version - 1) (_, c.history) last are in
             let made = c.makes (set (o.version - 1)) base in
-            (t.0, before_it, ok_from (whole s.origin operations (set (o.version - 1))) made.0 made.1)
+            (t.0, before_it, ok_from (whole s.origin asked (set (o.version - 1))) made.0 made.1)
         by_end sight is' set shown are covers RolledBack t =
             let seen = is'.seen in
             let l = long in
@@ -160,9 +159,9 @@ module _ (s : Setup) (o : Outcome) (old new : Station) (opened : first_version o
             let seen = is'.seen in
             let l = long in
             let le : sight.seen ≤ o.version = (let v = b.version in omega arith) in
-            (le, subst (λ (n : ℕ). Causes (judged_by s set shown) operations ending n cause) (sym b.version) (t.1 set shown are covers))
+            (le, subst (λ (n : ℕ). Causes (judged_by s set shown) asked ending n cause) (sym b.version) (t.1 set shown are covers))
 
-        by_write : (own' : Own) → old.asks.pass ≡ Some own' → (e : Ended) → Transacts s operations ending old.asks new.asks e → Writes s own' (Block weight operations ending) o.version (is_committed e) old.asks new.asks
+        by_write : (own' : Own) → old.asks.pass ≡ Some own' → (e : Ended) → Transacts s asked ending old.asks new.asks e → Writes s own' (Block weight asked ending) o.version (is_committed e) old.asks new.asks
         by_write own' is' Shown t = absurd t
         by_write own' is' Committed t =
             let c = t.1 own' is' in
@@ -177,12 +176,12 @@ module _ (s : Setup) (o : Outcome) (old new : Station) (opened : first_version o
               numbered = b.version ∙ longer;
               makes = c.makes;
             }
-        by_write own' is' RolledBack t = stays_same (Block weight operations ending) o.version own' new.asks (t.1 ∙ is')
-        by_write own' is' (Refused cause) t = stays_same (Block weight operations ending) o.version own' new.asks (t.0 ∙ is')
+        by_write own' is' RolledBack t = stays_same (Block weight asked ending) o.version own' new.asks (t.1 ∙ is')
+        by_write own' is' (Refused cause) t = stays_same (Block weight asked ending) o.version own' new.asks (t.0 ∙ is')
 
-    pub block_step : (weight : Weight) (operations : List ZoneOperation) (ending : Ending) (own : Own) → old.asks.pass ≡ Some own → EndsBlock o.told → BlockRan s operations ending old.asks new.asks o → Step s (Block weight operations ending) o old new
-    block_step weight operations ending own is ends b =
-        let rest = block_rest weight operations ending own is b in
+    pub block_step : (weight : Weight) (asked : Transaction) (ending : Ending) (own : Own) → old.asks.pass ≡ Some own → EndsBlock o.told → BlockRan s asked ending old.asks new.asks o → Step s (Block weight asked ending) o old new
+    block_step weight asked ending own is ends b =
+        let rest = block_rest weight asked ending own is b in
         record {
           asks = rest.asks;
           holds = still_part;
@@ -193,13 +192,13 @@ module _ (s : Setup) (o : Outcome) (old new : Station) (opened : first_version o
           below = rest.below;
           holding = rest.holding;
           writes = rest.writes;
-          kept = still_kept (Block weight operations ending);
+          kept = still_kept (Block weight asked ending);
         }
 
-    -- a compaction ends as a block without operations does
-    pub compact_step : (own : Own) → old.asks.pass ≡ Some own → EndsCompaction o.told → BlockRan s [] Commit old.asks new.asks o → Step s Compact o old new
+    -- a compaction ends as a block without asked does
+    pub compact_step : (own : Own) → old.asks.pass ≡ Some own → EndsCompaction o.told → BlockRan s no_changes Commit old.asks new.asks o → Step s Compact o old new
     compact_step own is ends b =
-        let rest = block_rest Heavy [] Commit own is b in
+        let rest = block_rest Heavy no_changes Commit own is b in
         record {
           asks = rest.asks;
           holds = still_part;
@@ -213,10 +212,10 @@ module _ (s : Setup) (o : Outcome) (old new : Station) (opened : first_version o
           kept = still_kept Compact;
         }
       where
-        stays_as : (own' : Own) (v : Known) → Stays (Block Heavy [] Commit) o.version own' v → Stays Compact o.version own' v
+        stays_as : (own' : Own) (v : Known) → Stays (Block Heavy no_changes Commit) o.version own' v → Stays Compact o.version own' v
         stays_as own' v y = record { now = y.now; pass = y.pass; number = y.number; entries = y.entries; pinned = y.pinned }
 
-        writes_as : (own' : Own) (c : Bool) → Writes s own' (Block Heavy [] Commit) o.version c old.asks new.asks → Writes s own' Compact o.version c old.asks new.asks
+        writes_as : (own' : Own) (c : Bool) → Writes s own' (Block Heavy no_changes Commit) o.version c old.asks new.asks → Writes s own' Compact o.version c old.asks new.asks
         writes_as own' false y = stays_as own' new.asks y
         writes_as own' true y = record { base = y.base; operations = y.operations; before = y.before; mine = y.mine; history = y.history; pass = y.pass; numbered = y.numbered; makes = y.makes }
 

@@ -8,7 +8,8 @@ use Rattle.std.specs.declared.cmp.Ordering.TheVariants.{Less}
 use Rattle.std.proofs.lemmas.Bool.Decides.{nat_tests}
 use Rattle.std.proofs.lemmas.List.Sums.{fold-append, sum_by-cons}
 use Rattle.std.proofs.lemmas.List.Elements.{Contains-append_left}
-use Rattle.zone_model.specs.Versions.{Version, Operation as ZoneOperation, whole}
+use Rattle.zone_model.specs.Versions.{Version}
+use Rattle.zone_model.specs.Transactions.{Transaction, whole}
 use Rattle.zone_model.specs.declared.Refusal.{Refusal}
 use Rattle.trie_model.specs.Shape.{cells}
 use Rattle.job_model.specs.declared.Ending.{Ending}
@@ -30,7 +31,7 @@ use Rattle.shared_index.specs.Fulls.{version_at}
 use Rattle.shared_index.specs.Fulls as fulls
 use Rattle.shared_index.specs.Keepings.{GoesOn, versions_in}
 use Rattle.zone_edit.specs.Stores.{WorksOn, WorksOnSome}
-use Rattle.zone_edit.specs.Blocks.{AppliesAll, IsFullAt}
+use Rattle.zone_edit.specs.Blocks.{Executes, IsFullAt}
 use Rattle.chunk_usage.specs.Keeping.{kept_versions}
 use Rattle.zone_edit.specs.declared.applying.Halt.TheVariants as halts
 use Rattle.job_threads.specs.Histories.{Setup, Commit, Entries, IsZone, StandsAs, AreVersions, CoversNamings, index_at, judged_by}
@@ -92,7 +93,7 @@ begun_on lawful old d version b stands = record {
 pub begun_some : (old : Known) (d : Draft) → Begins Lawful old d → WorksOnSome d
 begun_some old d b = let z = b.joined.good in record { version = z.version; on = begun_on Lawful old d z.version b z.stands }
 
-module _ (s : Setup) (operations : List ZoneOperation) (old : Known) (d e : Draft) (b : Begins Lawful old d) (told : is_told old.seen.opening ≡ true) (opening : first_version old.seen ≡ s.opening) (known : GoesOn d.seat.place.me.0 e.seat.place.me.0) where
+module _ (s : Setup) (asked : Transaction) (old : Known) (d e : Draft) (b : Begins Lawful old d) (told : is_told old.seen.opening ≡ true) (opening : first_version old.seen ≡ s.opening) (known : GoesOn d.seat.place.me.0 e.seat.place.me.0) where
   base_opening : first_version d.seat.place.me.0.seen ≡ s.opening
   base_opening = opened_same d.seat.place.me.0.seen old.seen told b.joined.grows ∙ opening
 
@@ -114,7 +115,7 @@ module _ (s : Setup) (operations : List ZoneOperation) (old : Known) (d e : Draf
 
   -- ---- committed
 
-  pub commits_block : (new : Known) → ((version : Version) → WorksOn d version → AppliesAll s.origin operations (Ok tt) version e) → drafts.Commits e.seat.place.me.0 e.log.operations new → (own : Own) → old.pass ≡ Some own → Commits s operations own old new
+  pub commits_block : (new : Known) → ((version : Version) → WorksOn d version → Executes s.origin asked (Ok tt) version e) → drafts.Commits e.seat.place.me.0 e.log.operations new → (own : Own) → old.pass ≡ Some own → Commits s asked own old new
   commits_block new becomes c own is =
       let mine : d.seat.place.me.0.pass ≡ Some own = b.joined.pass ∙ is in
       let both : ◌≡◌ {A = Option Own} (Some c.own) (Some own) = sym c.joined ∙ known.pass ∙ mine in
@@ -148,7 +149,7 @@ module _ (s : Setup) (operations : List ZoneOperation) (old : Known) (d e : Draf
       let here = e.seat.version_is in
       omega (arith, is, long, here)
 
-  pub lawful_block : ((version : Version) → WorksOn d version → AppliesAll s.origin operations (Ok tt) version e) → IsZone (working_set e)
+  pub lawful_block : ((version : Version) → WorksOn d version → Executes s.origin asked (Ok tt) version e) → IsZone (working_set e)
   lawful_block becomes =
       let some = begun_some old d b in
       let made = becomes some.version some.on in
@@ -191,23 +192,23 @@ module _ (s : Setup) (operations : List ZoneOperation) (old : Known) (d e : Draf
     ok_of zone (Ok x) next h = refl
     ok_of zone (Err x) next h = cc
 
-    pub rolled_back : (ends : Ending) → ends ≡ ending.Rollback → ((version : Version) → WorksOn d version → AppliesAll s.origin operations (Ok tt) version e)
-        → (ends ≡ ending.Rollback) × (new.pass ≡ old.pass) × ((zone : Version) → StandsAs (version_seen new.seen) zone → IsOk (whole s.origin operations zone))
-    rolled_back ends is becomes = (is, back_pass, λ zone stands. (let made = becomes zone (works_back zone stands) in ok_of zone (whole s.origin operations zone) made.0 made.1))
+    pub rolled_back : (ends : Ending) → ends ≡ ending.Rollback → ((version : Version) → WorksOn d version → Executes s.origin asked (Ok tt) version e)
+        → (ends ≡ ending.Rollback) × (new.pass ≡ old.pass) × ((zone : Version) → StandsAs (version_seen new.seen) zone → IsOk (whole s.origin asked zone))
+    rolled_back ends is becomes = (is, back_pass, λ zone stands. (let made = becomes zone (works_back zone stands) in ok_of zone (whole s.origin asked zone) made.0 made.1))
 
     abbrev RefusedBlock : Ending → Cause → Type 0
     RefusedBlock ends cause = (new.pass ≡ old.pass)
-        × ((set : ℕ → Version) (shown : List ℕ) → AreVersions s new.seen.history set → CoversNamings shown new.seen → Causes (judged_by s set shown) operations ends (length new.seen.history) cause)
+        × ((set : ℕ → Version) (shown : List ℕ) → AreVersions s new.seen.history set → CoversNamings shown new.seen → Causes (judged_by s set shown) asked ends (length new.seen.history) cause)
 
-    pub rule_broken : (ends : Ending) (refusal : Refusal) → ((version : Version) → WorksOn d version → AppliesAll s.origin operations (Err (halts.Refused refusal)) version e) → RefusedBlock ends (Rule refusal)
+    pub rule_broken : (ends : Ending) (refusal : Refusal) → ((version : Version) → WorksOn d version → Executes s.origin asked (Err (halts.Refused refusal)) version e) → RefusedBlock ends (Rule refusal)
     rule_broken ends refusal becomes = (back_pass, λ set shown are covers. becomes (set (length new.seen.history)) (works_set set (length new.seen.history) refl are))
 
-    pub spent_block : (ends : Ending) → ends ≡ ending.Commit → e.seat.version ≡ last_version → ((version : Version) → WorksOn d version → AppliesAll s.origin operations (Ok tt) version e) → RefusedBlock ends Spent
+    pub spent_block : (ends : Ending) → ends ≡ ending.Commit → e.seat.version ≡ last_version → ((version : Version) → WorksOn d version → Executes s.origin asked (Ok tt) version e) → RefusedBlock ends Spent
     spent_block ends is spent becomes = (
       back_pass,
       λ set shown are covers.
           let made = becomes (set (length new.seen.history)) (works_set set (length new.seen.history) refl are) in
-          (ap (λ (v : Known). length v.seen.history) back ∙ sym e.seat.version_is ∙ spent, is, ok_of (set (length new.seen.history)) (whole s.origin operations (set (length new.seen.history))) made.0 made.1),
+          (ap (λ (v : Known). length v.seen.history) back ∙ sym e.seat.version_is ∙ spent, is, ok_of (set (length new.seen.history)) (whole s.origin asked (set (length new.seen.history))) made.0 made.1),
     )
 
     -- ---- no room
@@ -222,15 +223,16 @@ module _ (s : Setup) (operations : List ZoneOperation) (old : Known) (d e : Draf
         sum_by-cons (λ (m : ℕ). cells (version_at e.seat.place.me.0 m)) n numbers
         ∙ ap (λ (es : Entries). cells es + fulls.cells_kept e.seat.place.me.0 numbers) same ∙ ap (λ (k : ℕ). cell_count (set n) + k) (kept_cells set are numbers low.1)
 
-    pub full_block : (ends : Ending) (operation : ℕ) (kept : Versions) → versions_in kept ≡ kept_versions e.usage → s.chunks ≡ length e.usage.given → s.passes ≡ e.seat.passes → ((version : Version) → WorksOn d version → AppliesAll s.origin operations (Err (halts.Full operation)) version e) → RefusedBlock ends (Full operation (versions_in kept))
+    pub full_block : (ends : Ending) (operation : ℕ) (kept : Versions) → versions_in kept ≡ kept_versions e.usage → s.chunks ≡ length e.usage.given → s.passes ≡ e.seat.passes → ((version : Version) → WorksOn d version → Executes s.origin asked (Err (halts.Full operation)) version e) → RefusedBlock ends (Full operation (versions_in kept))
     full_block ends operation kept told chunks passes becomes = (back_pass, λ set shown are covers. cause set shown are covers)
       where
         base_is : e.seat.version ≡ length new.seen.history
         base_is = e.seat.version_is ∙ sym (ap (λ (v : Known). length v.seen.history) back)
 
-        cause : (set : ℕ → Version) (shown : List ℕ) → AreVersions s new.seen.history set → CoversNamings shown new.seen → FullCause (judged_by s set shown) operations (length new.seen.history) operation (versions_in kept)
+        cause : (set : ℕ → Version) (shown : List ℕ) → AreVersions s new.seen.history set → CoversNamings shown new.seen → FullCause (judged_by s set shown) asked (length new.seen.history) operation (versions_in kept)
         cause set shown are covers =
-            let at = subst (IsFullAt e s.origin operations (set (length new.seen.history)) operation) (sym told) (becomes (set (length new.seen.history)) (works_set set (length new.seen.history) refl are)) in
+            let stopped = becomes (set (length new.seen.history)) (works_set set (length new.seen.history) refl are) in
+            let at = subst (IsFullAt e s.origin asked.operations (set (length new.seen.history)) operation) (sym told) stopped.1 in
             let last : versions_in kept ≡ at.full.ends.0 ++ length new.seen.history ∷ [] = at.full.ends.1 ∙ ap (λ (n : ℕ). at.full.ends.0 ++ n ∷ []) base_is in
             let rising : Rising (versions_in kept) = rising_of (versions_in kept) kept.rising in
             let below = front_below at.full.ends.0 (length new.seen.history) (subst Rising last rising) in
@@ -239,6 +241,7 @@ module _ (s : Setup) (operations : List ZoneOperation) (old : Known) (d e : Draf
             let few = at.full.few in
             let same = kept_cells set are (versions_in kept) low in
             record {
+              met = stopped.0;
               front = at.front;
               refused = at.refused;
               back = at.back;

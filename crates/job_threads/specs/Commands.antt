@@ -2,7 +2,8 @@
 use Rattle.std.specs.Prelude.{◌≡◌, ℕ, List, ◌∷◌, [], ◌++◌, length, Some, Ok, Result, IsOk, IsErr, IfOk}
 use Rattle.std.specs.declared.alloc.AllocError.{AllocError}
 use Rattle.zone_model.specs.Names.{Name}
-use Rattle.zone_model.specs.Versions.{Version, Operation as ZoneOperation, whole}
+use Rattle.zone_model.specs.Versions.{Version}
+use Rattle.zone_model.specs.Transactions.{Transaction, whole}
 use Rattle.trie_model.specs.Keys as trie
 use Rattle.job_model.specs.declared.Ending.{Ending}
 use Rattle.job_model.specs.declared.Ending.TheVariants.{Commit, Rollback}
@@ -80,7 +81,7 @@ pub record Released (seat : PinnedSeat (List trie.Entry) (List Operation)) (new 
 -- ---- transactions
 
 -- the version that stands as the base becomes what the block makes of it, by the next commit
-pub record Commits (s : Setup) (operations : List ZoneOperation) (own : PassView (List Operation)) (old new : Known) : Type 0 where
+pub record Commits (s : Setup) (asked : Transaction) (own : PassView (List Operation)) (old new : Known) : Type 0 where
   pub base : List Commit'
   pub changes : List Operation
   pub before : StartsWith base old.seen.history
@@ -88,23 +89,23 @@ pub record Commits (s : Setup) (operations : List ZoneOperation) (own : PassView
   pub history : new.seen.history ≡ base ++ entry_of own.number changes ∷ []
   pub pass : new.pass ≡ Some (record own { entries = own.entries ++ entry_of own.number changes ∷ [] })
   pub makes : (zone : Version) → StandsAs (version_after applied s.opening base) zone
-      → (next : Version) × (whole s.origin operations zone ≡ Ok next) × StandsAs (version_after applied s.opening new.seen.history) next
+      → (next : Version) × (whole s.origin asked zone ≡ Ok next) × StandsAs (version_after applied s.opening new.seen.history) next
 
 -- A block that is committed makes the next version. One that is rolled back or refused was on the version that the pass has then
 -- seen last, and makes none.
-abbrev pub Transacts : Setup → List ZoneOperation → Ending → Known → Known → Ended → Type 0
-Transacts s operations ending old new Shown = ⊥
-Transacts s operations ending old new Committed = (ending ≡ Commit) × ((own : PassView (List Operation)) → old.pass ≡ Some own → Commits s operations own old new)
-Transacts s operations ending old new RolledBack =
-    (ending ≡ Rollback) × (new.pass ≡ old.pass) × ((zone : Version) → StandsAs (version_seen new.seen) zone → IsOk (whole s.origin operations zone))
-Transacts s operations ending old new (Refused cause) =
+abbrev pub Transacts : Setup → Transaction → Ending → Known → Known → Ended → Type 0
+Transacts s asked ending old new Shown = ⊥
+Transacts s asked ending old new Committed = (ending ≡ Commit) × ((own : PassView (List Operation)) → old.pass ≡ Some own → Commits s asked own old new)
+Transacts s asked ending old new RolledBack =
+    (ending ≡ Rollback) × (new.pass ≡ old.pass) × ((zone : Version) → StandsAs (version_seen new.seen) zone → IsOk (whole s.origin asked zone))
+Transacts s asked ending old new (Refused cause) =
     (new.pass ≡ old.pass)
-    × ((set : ℕ → Version) (shown : List ℕ) → AreVersions s new.seen.history set → CoversNamings shown new.seen → Causes (judged_by s set shown) operations ending (length new.seen.history) cause)
+    × ((set : ℕ → Version) (shown : List ℕ) → AreVersions s new.seen.history set → CoversNamings shown new.seen → Causes (judged_by s set shown) asked ending (length new.seen.history) cause)
 
-pub record BlockRan (s : Setup) (operations : List ZoneOperation) (ending : Ending) (old new : Known) (o : Outcome) : Type 0 where
+pub record BlockRan (s : Setup) (asked : Transaction) (ending : Ending) (old new : Known) (o : Outcome) : Type 0 where
   pub grows : IsPartOf new.seen old.seen
   pub version : o.version ≡ length new.seen.history
-  pub transacts : Transacts s operations ending old new (ended_view o.told)
+  pub transacts : Transacts s asked ending old new (ended_view o.told)
 
 -- the block is refused for the cause of the halt, while these versions are kept; want of memory says nothing
 abbrev pub StoppedBy : Halt → Versions → ℕ → Result Outcome AllocError → Type 0

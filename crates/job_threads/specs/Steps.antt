@@ -1,8 +1,9 @@
 -- What one command of a worker does, while other workers do theirs.
 use Rattle.std.specs.Prelude.{◌≡◌, ◌⊎◌, ℕ, ◌+◌, ◌≤◌, Bool, true, false, List, [], ◌∷◌, ◌++◌, length, Option, Some, None, Ok, Contains}
-use Rattle.zone_model.specs.Versions.{Version, whole}
+use Rattle.zone_model.specs.Versions.{Version}
+use Rattle.zone_model.specs.Transactions.{whole}
 use Rattle.job_model.specs.Commands.{Command, held_after}
-use Rattle.job_model.specs.Outcomes.{Sight, sight_after, is_committed, operations_of, shown_by, EndsLawfully}
+use Rattle.job_model.specs.Outcomes.{Sight, sight_after, is_committed, asked_by, shown_by, EndsLawfully}
 use Rattle.job_script.specs.Outcomes.{ended_view, Tells}
 use Rattle.job_script.specs.declared.outcomes.Outcome.{Outcome}
 use Rattle.shared_cells.specs.declared.view.PassView.{PassView}
@@ -43,7 +44,7 @@ pub record Adds (s : Setup) (own : PassView (List Operation)) (c : Command) (ver
   pub pass : new.pass ≡ Some (record own { entries = own.entries ++ entry_of own.number operations ∷ [] })
   pub numbered : version ≡ length base + 1
   pub makes : (zone : Version) → StandsAs (version_after applied s.opening base) zone
-      → (next : Version) × (whole s.origin (operations_of c) zone ≡ Ok next) × StandsAs (version_after applied s.opening new.seen.history) next
+      → (next : Version) × (whole s.origin (asked_by c) zone ≡ Ok next) × StandsAs (version_after applied s.opening new.seen.history) next
 
 -- its pass's commits are the same, and it may have pinned a version that the outcome shows
 pub record Stays (c : Command) (version : ℕ) (own : PassView (List Operation)) (new : Known) : Type 0 where

@@ -1,9 +1,10 @@
 -- What a worker's run promises, whatever the other workers did.
 use Rattle.std.specs.Prelude.{◌≡◌, ◌⊎◌, ℕ, ◌-◌, ◌<◌, ◌≤◌, true, false, List, [], length, Some, Ok, Contains}
 use Rattle.std.specs.List.{AllByRecursion}
-use Rattle.zone_model.specs.Versions.{Version, whole}
+use Rattle.zone_model.specs.Versions.{Version}
+use Rattle.zone_model.specs.Transactions.{whole}
 use Rattle.job_model.specs.Commands.{Command}
-use Rattle.job_model.specs.Outcomes.{Pair, is_committed, operations_of, times_made, at_first, Along, shown_in}
+use Rattle.job_model.specs.Outcomes.{Pair, is_committed, asked_by, times_made, at_first, Along, shown_in}
 use Rattle.job_script.specs.Outcomes.{pairs_of, EachTells}
 use Rattle.job_script.specs.declared.outcomes.Outcome.{Outcome}
 use Rattle.shared_cells.specs.declared.view.PassView.{PassView}
@@ -18,7 +19,7 @@ abbrev pub Replayed : Setup → List Commit → Pair → Type 0
 Replayed s history pair =
     is_committed pair.1.ended ≡ true → (0 < pair.1.version)
     × ((base : Version) → StandsAs (index_at s.opening history (pair.1.version - 1)) base
-    → (next : Version) × (whole s.origin (operations_of pair.0) base ≡ Ok next) × StandsAs (index_at s.opening history pair.1.version) next)
+    → (next : Version) × (whole s.origin (asked_by pair.0) base ≡ Ok next) × StandsAs (index_at s.opening history pair.1.version) next)
 
 -- Commands with their outcomes, by a worker whose passes have seen a history. They tell what is so and are lawful on each history
 -- that begins with it. The versions that they made are those of its first pass, which has told all of these.

@@ -1,5 +1,6 @@
 //! Compactions.
-ghost use Rattle.std.specs.Prelude.{◌≡◌, [], IsSome, IfOk, IfErr};
+ghost use Rattle.std.specs.Prelude.{◌≡◌, IsSome, IfOk, IfErr};
+ghost use Rattle.zone_model.specs.Transactions.{no_changes};
 ghost use Rattle.job_model.specs.declared.Ending.TheVariants.{Commit};
 ghost use Rattle.job_model.specs.Outcomes.{Committed, Refused, Spent as NoNumber};
 ghost use Rattle.job_script.specs.Outcomes.{ended_view, EndsCompaction};
@@ -41,7 +42,7 @@ pub fn run_compaction<R: Wait, N: Named>(
     ensures here { IsSome pass.new.seat }
     ensures place { pass.new.place ≡ pass.old.place }
     ensures ends { EndsCompaction result.told }
-    ensures ran { (s : Setup) → first_version (known_at pass.old.seat).seen ≡ s.opening → BlockRan s [] Commit (known_at pass.old.seat) (known_at pass.new.seat) result }
+    ensures ran { (s : Setup) → first_version (known_at pass.old.seat).seen ≡ s.opening → BlockRan s no_changes Commit (known_at pass.old.seat) (known_at pass.new.seat) result }
 {
     compacted(index.compact(rt, pass))
 }

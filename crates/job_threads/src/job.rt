@@ -114,6 +114,7 @@ fn run_workers<R: Threads + Wait + Sync, N: Named + Send + Sync, G: Gate>(
         → IfOk result (λ g. Gathers s (map (λ p. known_at p.seat) passes.items) (workers_view workers.now) g.outcomes.items (map (λ p. known_at p.seat) g.passes.items) (known_at g.main.seat)) }
 {
     let Some(asks) = passes.pop() else {
+        // There are two for each worker, and one.
         unreachable!();
     };
     let Some((worker, others)) = workers.split_first() else {
@@ -124,6 +125,7 @@ fn run_workers<R: Threads + Wait + Sync, N: Named + Send + Sync, G: Gate>(
         });
     };
     let Some(spare) = passes.pop() else {
+        // A worker's second one.
         unreachable!();
     };
     let next = number.saturating_add(1);

@@ -1,12 +1,12 @@
 //! Transactions.
-ghost use Rattle.std.specs.Prelude.{◌≡◌, IsSome, IsSomeAnd, IfOk, IfErr, map};
+ghost use Rattle.std.specs.Prelude.{◌≡◌, IsSome, IsSomeAnd, IfOk, IfErr};
 ghost use Rattle.job_model.specs.Outcomes.{Committed, Refused, Spent as NoNumber};
 ghost use Rattle.job_script.specs.Outcomes.{ended_view, EndsBlock};
-ghost use Rattle.zone_change.specs.Views.{operation_view};
+ghost use Rattle.job_script.specs.Views.{asked_view};
 ghost use Rattle.shared_index.specs.Passes.{known_at};
 ghost use Rattle.shared_index.specs.Keepings.{versions_in};
 ghost use Rattle.zone_edit.specs.Stores.{WorksOnSome, Edits};
-ghost use Rattle.zone_edit.specs.Blocks.{AppliesAll};
+ghost use Rattle.zone_edit.specs.Blocks.{Executes};
 ghost use Rattle.job_threads.specs.Histories.{Setup};
 ghost use Rattle.job_threads.specs.Commands.{IsSetup, BlockRan, StoppedBy};
 ghost use Rattle.job_threads.specs.Weights.{IsOfWeight};
@@ -18,7 +18,7 @@ use job_script::{Block, Cause, Outcome, Told};
 use shared_index::{Index, Locked, Named, Pass, Receipt, Spent, Transaction, Versions};
 use std::alloc::{AllocError, Global};
 use std::sync::Wait;
-use zone_edit::{Halt, ItemBuffers, apply_all};
+use zone_edit::{Halt, ItemBuffers, execute};
 
 // The kept versions, as an outcome has them.
 fn kept_list(alloc: Global, kept: &Versions) -> Result<Vec<u64>, AllocError>
@@ -77,9 +77,16 @@ fn edit<N: Named, K>(
     requires weight { IsSomeAnd transaction.old.locked.now.draft (IsOfWeight block.now.weight) }
     ensures same_reference { (transaction.new.home.ghost_name ≡ transaction.old.home.ghost_name) × (transaction.new.locked.ghost_name ≡ transaction.old.locked.ghost_name) }
     ensures place { transaction.new.locked.now.place ≡ transaction.old.locked.now.place }
-    ensures applies { Edits (AppliesAll origin.now (map operation_view block.now.operations.items) result) transaction.old.locked.now.draft transaction.new.locked.now.draft }
+    ensures executes { Edits (Executes origin.now (asked_view block.now) result) transaction.old.locked.now.draft transaction.new.locked.now.draft }
 {
-    apply_all(alloc, origin, transaction, &block.operations, buffers)
+    execute(
+        alloc,
+        origin,
+        transaction,
+        &block.needs,
+        &block.operations,
+        buffers,
+    )
 }
 
 // Runs a block as a light transaction, by way of buffers for items.
@@ -99,7 +106,7 @@ fn write_block<R: Wait, N: Named>(
     ensures place { pass.new.place ≡ pass.old.place }
     ensures ends { IfOk result (λ o. EndsBlock o.told) }
     ensures ran { (s : Setup) → IsSetup s origin.now index.now.shared.table.shared.key (known_at pass.old.seat)
-        → IfOk result (BlockRan s (map operation_view block.now.operations.items) block.now.ending (known_at pass.old.seat) (known_at pass.new.seat)) }
+        → IfOk result (BlockRan s (asked_view block.now) block.now.ending (known_at pass.old.seat) (known_at pass.new.seat)) }
 {
     let mut locked = Locked::of(index);
     let mut write = index.write(rt, &mut locked, pass);
@@ -133,7 +140,7 @@ fn update_block<R: Wait, N: Named>(
     ensures place { pass.new.place ≡ pass.old.place }
     ensures ends { IfOk result (λ o. EndsBlock o.told) }
     ensures ran { (s : Setup) → IsSetup s origin.now index.now.shared.table.shared.key (known_at pass.old.seat)
-        → IfOk result (BlockRan s (map operation_view block.now.operations.items) block.now.ending (known_at pass.old.seat) (known_at pass.new.seat)) }
+        → IfOk result (BlockRan s (asked_view block.now) block.now.ending (known_at pass.old.seat) (known_at pass.new.seat)) }
 {
     let mut locked = Locked::of(index);
     let mut update = index.update(rt, &mut locked, pass);
@@ -170,7 +177,7 @@ pub fn run_block<R: Wait, N: Named>(
     ensures place { pass.new.place ≡ pass.old.place }
     ensures ends { IfOk result (λ o. EndsBlock o.told) }
     ensures ran { (s : Setup) → IsSetup s origin.now index.now.shared.table.shared.key (known_at pass.old.seat)
-        → IfOk result (BlockRan s (map operation_view block.now.operations.items) block.now.ending (known_at pass.old.seat) (known_at pass.new.seat)) }
+        → IfOk result (BlockRan s (asked_view block.now) block.now.ending (known_at pass.old.seat) (known_at pass.new.seat)) }
 {
     match block.weight {
         Weight::Light => write_block(rt, alloc, origin, index, pass, block, buffers),

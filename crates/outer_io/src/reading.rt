@@ -51,6 +51,7 @@ pub fn read_all<S: Source>(
     ensures too_long { IsErrOf result (ReadRefusal.TooLong limit)
         → (bytes : List ℕ) × Consumes (S.left source.old) (S.left source.new) bytes × (length bytes ≡ limit + 1) }
     ensures told_limit { (n : ℕ) → IsErrOf result (ReadRefusal.TooLong n) → n ≡ limit }
+    ensures quiet { (IsErrOf result ReadRefusal.Fault → ⊥) → S.faults source.new ≡ S.faults source.old }
     ensures later { S.faults source.old ≤ S.faults source.new }
 {
     let most = limit as usize + 1;

@@ -1,4 +1,4 @@
-ghost use Rattle.std.specs.Prelude.{◌≡◌, ◌<◌, ◌≤◌, ◌↔◌, ℕ, List, [], Option, None, Some, MatchOption, take, length, min, IsErr, IfOk, OnErr, IsOkAnd, Contains};
+ghost use Rattle.std.specs.Prelude.{◌≡◌, ◌<◌, ◌≤◌, ◌↔◌, ℕ, List, [], Option, None, Some, MatchOption, take, length, min, IsErr, IfOk, OnOk, OnErr, IsOkAnd, Contains};
 ghost use Rattle.outer_io.specs.Faults.{Rose};
 ghost use Rattle.outer_io.specs.Bytes.{Held, held_in, Grows, GrowsByFront};
 ghost use Rattle.outer_io.specs.Calls.{next_count};
@@ -24,6 +24,7 @@ pub trait Sink {
         ensures some { IfOk result (λ n. 0 < length piece.now → 0 < n) }
         ensures ok { IfOk result (λ n. Grows (held self.old) (held self.new) (take n piece.now)) }
         ensures err { OnErr result (GrowsByFront (held self.old) (held self.new) piece.now) }
+        ensures quiet { OnOk result (faults self.new ≡ faults self.old) }
         ensures later { faults self.old ≤ faults self.new }
         ensures failed { OnErr result (Rose (faults self.old) (faults self.new)) };
 }
@@ -84,6 +85,7 @@ impl Sink for MemSink {
         ensures some { IfOk result (λ n. 0 < length piece.now → 0 < n) }
         ensures ok { IfOk result (λ n. Grows (held_in self.old.held) (held_in self.new.held) (take n piece.now)) }
         ensures err { OnErr result (GrowsByFront (held_in self.old.held) (held_in self.new.held) piece.now) }
+        ensures quiet { OnOk result (self.new.calls.faults ≡ self.old.calls.faults) }
         ensures later { self.old.calls.faults ≤ self.new.calls.faults }
         ensures failed { OnErr result (Rose self.old.calls.faults self.new.calls.faults) }
 
@@ -151,6 +153,7 @@ impl Sink for QuietSink {
         ensures some { IfOk result (λ n. 0 < length piece.now → 0 < n) }
         ensures ok { IfOk result (λ n. Grows (held_in self.old.held) (held_in self.new.held) (take n piece.now)) }
         ensures err { OnErr result (GrowsByFront (held_in self.old.held) (held_in self.new.held) piece.now) }
+        ensures quiet { let none : ℕ = 0 in OnOk result (none ≡ 0) }
         ensures later { 0 ≤ 0 }
         ensures failed { OnErr result (Rose 0 0) }
 

@@ -1,4 +1,4 @@
-ghost use Rattle.std.specs.Prelude.{◌≡◌, ◌<◌, ◌≤◌, ◌↔◌, ℕ, List, [], ◌++◌, Option, Some, take, length, min, IsErr, IfOk, IsOkAnd, OnErr, Contains};
+ghost use Rattle.std.specs.Prelude.{◌≡◌, ◌<◌, ◌≤◌, ◌↔◌, ℕ, List, [], ◌++◌, Option, Some, take, length, min, IsErr, IfOk, OnOk, IsOkAnd, OnErr, Contains};
 ghost use Rattle.std.specs.Io.KnownBytes.{Consumes, IsAtEnd, Keeps};
 ghost use Rattle.outer_io.specs.Faults.{Rose};
 ghost use Rattle.outer_io.specs.Calls.{next_count};
@@ -22,6 +22,7 @@ pub trait Source {
         ensures ok { IfOk result (λ n. Consumes (left self.old) (left self.new) (take n piece.new)) }
         ensures end { IfOk result (λ n. n ≡ 0 → 0 < length piece.new → IsAtEnd (left self.new)) }
         ensures err { OnErr result (Keeps (left self.old) (left self.new)) }
+        ensures quiet { OnOk result (faults self.new ≡ faults self.old) }
         ensures later { faults self.old ≤ faults self.new }
         ensures failed { OnErr result (Rose (faults self.old) (faults self.new)) };
 }
@@ -68,6 +69,7 @@ impl Source for MemSource {
         ensures ok { IfOk result (λ n. self.old.left ≡ take n piece.new ++ self.new.left) }
         ensures end { IfOk result (λ n. n ≡ 0 → 0 < length piece.new → self.new.left ≡ []) }
         ensures err { OnErr result (self.new.left ≡ self.old.left) }
+        ensures quiet { OnOk result (self.new.calls.faults ≡ self.old.calls.faults) }
         ensures later { self.old.calls.faults ≤ self.new.calls.faults }
         ensures failed { OnErr result (Rose self.old.calls.faults self.new.calls.faults) }
 
@@ -118,6 +120,7 @@ impl Source for QuietSource {
         ensures ok { IfOk result (λ n. self.old.left ≡ take n piece.new ++ self.new.left) }
         ensures end { IfOk result (λ n. n ≡ 0 → 0 < length piece.new → self.new.left ≡ []) }
         ensures err { OnErr result (self.new.left ≡ self.old.left) }
+        ensures quiet { let none : ℕ = 0 in OnOk result (none ≡ 0) }
         ensures later { 0 ≤ 0 }
         ensures failed { OnErr result (Rose 0 0) }
 

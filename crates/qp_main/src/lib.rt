@@ -9,6 +9,7 @@ mod reporting;
 mod status;
 mod telling;
 
+pub use items::zone_items;
 pub use job_make::{Load, make_text};
 pub use job_threads::Gate;
 pub use program::run;

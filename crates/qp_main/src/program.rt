@@ -175,6 +175,7 @@ fn write_due<K: Sink>(sink: &mut K, status: Status, text: &[u8]) -> Status
     requires { IsWritten status }
     ensures whole { IsWritten result → (result ≡ status) × Grows (K.held sink.old) (K.held sink.new) text.now }
     ensures fault { result ≡ Status.SinkFault → Rose (K.faults sink.old) (K.faults sink.new) }
+    ensures quiet { (result ≡ Status.SinkFault → ⊥) → K.faults sink.new ≡ K.faults sink.old }
     ensures front { result ≡ Status.SinkFault → GrowsByFront (K.held sink.old) (K.held sink.new) text.now }
     ensures only { (result ≡ Status.SourceFault → ⊥) × (result ≡ Status.NoMemory → ⊥) }
 {
@@ -198,6 +199,7 @@ fn serve_made<R: Threads + Wait + Sync, K: Sink, G: Gate>(
     ensures written { (left : Option (List ℕ)) → IsWritten result → Written (Some (invocation_view invocation.now)) left (K.held sink.old) (K.held sink.new) result }
     ensures cut_short { (left : Option (List ℕ)) → result ≡ Status.SinkFault → CutShort (Some (invocation_view invocation.now)) left (K.held sink.old) (K.held sink.new) }
     ensures sink_fault { result ≡ Status.SinkFault → Rose (K.faults sink.old) (K.faults sink.new) }
+    ensures quiet_sink { (result ≡ Status.SinkFault → ⊥) → K.faults sink.new ≡ K.faults sink.old }
     ensures unwritten { IsUnwritten result → K.held sink.new ≡ K.held sink.old }
     ensures others { (result ≡ Status.SourceFault → ⊥) × (result ≡ Status.TooLong → ⊥) × (result ≡ Status.WordsRefused → ⊥) }
     ensures load { EndsLoad result }
@@ -224,7 +226,9 @@ fn serve<R: Threads + Wait + Sync, S: Source, K: Sink, G: Gate>(
     ensures written { IsWritten result → Written (Some (invocation_view invocation.now)) (S.left source.old) (K.held sink.old) (K.held sink.new) result }
     ensures cut_short { result ≡ Status.SinkFault → CutShort (Some (invocation_view invocation.now)) (S.left source.old) (K.held sink.old) (K.held sink.new) }
     ensures sink_fault { result ≡ Status.SinkFault → Rose (K.faults sink.old) (K.faults sink.new) }
+    ensures quiet_sink { (result ≡ Status.SinkFault → ⊥) → K.faults sink.new ≡ K.faults sink.old }
     ensures source_fault { result ≡ Status.SourceFault → Rose (S.faults source.old) (S.faults source.new) }
+    ensures quiet_source { (result ≡ Status.SourceFault → ⊥) → S.faults source.new ≡ S.faults source.old }
     ensures unwritten { IsUnwritten result → K.held sink.new ≡ K.held sink.old }
     ensures taken { result ≡ Status.TooLong → (bytes : List ℕ) × Consumes (S.left source.old) (S.left source.new) bytes × (length bytes ≡ 16777217) }
     ensures words { result ≡ Status.WordsRefused → ⊥ }
@@ -256,7 +260,9 @@ fn serve_invocation<R: Threads + Wait + Sync, S: Source, K: Sink, G: Gate>(
     ensures written { IsWritten result → Written (Some (invocation_view invocation.now)) (S.left source.old) (K.held sink.old) (K.held sink.new) result }
     ensures cut_short { result ≡ Status.SinkFault → CutShort (Some (invocation_view invocation.now)) (S.left source.old) (K.held sink.old) (K.held sink.new) }
     ensures sink_fault { result ≡ Status.SinkFault → Rose (K.faults sink.old) (K.faults sink.new) }
+    ensures quiet_sink { (result ≡ Status.SinkFault → ⊥) → K.faults sink.new ≡ K.faults sink.old }
     ensures source_fault { result ≡ Status.SourceFault → Rose (S.faults source.old) (S.faults source.new) }
+    ensures quiet_source { (result ≡ Status.SourceFault → ⊥) → S.faults source.new ≡ S.faults source.old }
     ensures unwritten { IsUnwritten result → K.held sink.new ≡ K.held sink.old }
     ensures taken { result ≡ Status.TooLong → (bytes : List ℕ) × Consumes (S.left source.old) (S.left source.new) bytes × (length bytes ≡ 16777217) }
     ensures words { result ≡ Status.WordsRefused → ⊥ }
@@ -284,12 +290,14 @@ pub fn run<R: Threads + Wait + Sync, S: Source, K: Sink, G: Gate>(
     // The answers of committed versions: what is written whole is due for the words and the bytes.
     ensures written { IsWritten result → Written (invocation_of (map string_bytes words.now)) (S.left source.old) (K.held sink.old) (K.held sink.new) result }
 
-    // The sink failed, and has a prefix of what was due.
+    // The sink failed, and has a prefix of what was due. Under any other status no call on it failed.
     ensures sink_fault { result ≡ Status.SinkFault → Rose (K.faults sink.old) (K.faults sink.new) }
+    ensures quiet_sink { (result ≡ Status.SinkFault → ⊥) → K.faults sink.new ≡ K.faults sink.old }
     ensures cut_short { result ≡ Status.SinkFault → CutShort (invocation_of (map string_bytes words.now)) (S.left source.old) (K.held sink.old) (K.held sink.new) }
 
-    // The source failed, or memory ran out: nothing was written.
+    // The source failed, or memory ran out: nothing was written. Under any status but the source's no call on it failed.
     ensures source_fault { result ≡ Status.SourceFault → Rose (S.faults source.old) (S.faults source.new) }
+    ensures quiet_source { (result ≡ Status.SourceFault → ⊥) → S.faults source.new ≡ S.faults source.old }
     ensures unwritten { IsUnwritten result → K.held sink.new ≡ K.held sink.old }
 
     // Refused words leave the source as it is, and no other words are told to be so. So does a load, of

@@ -5,7 +5,7 @@ use Rattle.std.proofs.lemmas.List.{append_cancel_left, append_cancel_right}
 use Rattle.std.specs.List.{flat_map, AllByRecursion}
 use Rattle.std.specs.Fmt.{decimal}
 use Rattle.zone_model.specs.declared.Refusal.{Refusal}
-use Rattle.zone_model.specs.declared.Refusal.TheVariants.{Soa, Cname, Long}
+use Rattle.zone_model.specs.declared.Refusal.TheVariants.{Prereq, Soa, Cname, Long}
 use Rattle.job_model.specs.Outcomes.{Cause, Rule, Full, Spent, Ended, Shown, Committed, RolledBack, Refused}
 use Rattle.job_model.specs.Reports.{rule_text, cause_text, ended_text, compacted_text}
 use Rattle.report_laws.proofs.CutLemmas.{Free, free_append, free_map, stands, cut}
@@ -46,6 +46,7 @@ kept_same (k ∷ ks) (j ∷ js) small less e =
 
 -- the first two octets of what is printed of a cause
 abbrev rank : Cause → ℕ
+rank (Rule Prereq) = 112 * 256 + 114
 rank (Rule Soa) = 115 * 256 + 111
 rank (Rule Cname) = 99 * 256 + 110
 rank (Rule Long) = 108 * 256 + 111
@@ -56,6 +57,7 @@ abbrev first_two : List ℕ → ℕ
 first_two text = get_or text 0 0 * 256 + get_or text 1 0
 
 ranked : (a : Cause) → rank a ≡ first_two (cause_text a)
+ranked (Rule Prereq) = refl
 ranked (Rule Soa) = refl
 ranked (Rule Cname) = refl
 ranked (Rule Long) = refl
@@ -74,11 +76,13 @@ full_same m n ks js small less e =
     (kept_same ks js small.1 less.1 (append_cancel_left (codes " kept") (flat_map kept_text ks) (flat_map kept_text js) parts.1))
 
 cause_by : (a b : Cause) → SmallCause a → SmallCause b → rank a ≡ rank b → cause_text a ≡ cause_text b → a ≡ b
+cause_by (Rule Prereq) (Rule Prereq) small less r e = refl
 cause_by (Rule Soa) (Rule Soa) small less r e = refl
 cause_by (Rule Cname) (Rule Cname) small less r e = refl
 cause_by (Rule Long) (Rule Long) small less r e = refl
 cause_by (Full m ks) (Full n js) small less r e = full_same m n ks js small less e
 cause_by Spent Spent small less r e = refl
+cause_by a (Rule Prereq) small less r e = absurd (omega (arith, r))
 cause_by a (Rule Soa) small less r e = absurd (omega (arith, r))
 cause_by a (Rule Cname) small less r e = absurd (omega (arith, r))
 cause_by a (Rule Long) small less r e = absurd (omega (arith, r))
@@ -88,6 +92,7 @@ cause_same : (a b : Cause) → SmallCause a → SmallCause b → cause_text a �
 cause_same a b small less e = cause_by a b small less (ranked a ∙ ap first_two e ∙ sym (ranked b)) e
 
 rule_free : (refusal : Refusal) → Free 10 (rule_text refusal)
+rule_free Prereq = refl
 rule_free Soa = refl
 rule_free Cname = refl
 rule_free Long = refl

@@ -7,6 +7,7 @@ use Rattle.std.specs.Ordering.{nat_cmp}
 use Rattle.std.specs.Fmt.{decimal}
 use Rattle.zone_model.specs.Names.{Name}
 use Rattle.zone_model.specs.Versions.{Version, Operation}
+use Rattle.zone_model.specs.Transactions.{Transaction, no_changes}
 use Rattle.job_model.specs.declared.Ending.{Ending}
 use Rattle.job_model.specs.declared.Ending.TheVariants.{Commit, Rollback}
 use Rattle.job_model.specs.Commands.{Command, Ask, Hold, AskHeld, Release, Block, Compact}
@@ -116,18 +117,18 @@ kept_small n base (v ∷ older) small sorted =
     let below : v < base = less_from v base (last_of (λ (y : ℕ). nat_cmp v y ≡ Less) older base sorted.0) in
     (omega (arith, below, small), kept_small n base older small sorted.1)
 
-full_small : (s : Setting) (operations : List Operation) (base operation : ℕ) (kept : List ℕ) → base < 2 ^ 64 → length operations < 2 ^ 64 → FullCause s operations base operation kept → SmallCause (Full operation kept)
-full_small s operations base operation kept small short full =
+full_small : (s : Setting) (asked : Transaction) (base operation : ℕ) (kept : List ℕ) → base < 2 ^ 64 → length asked.operations < 2 ^ 64 → FullCause s asked base operation kept → SmallCause (Full operation kept)
+full_small s asked base operation kept small short full =
     let all = ap (λ (l : List Operation). length l) full.all in
     let number = full.number in (
       omega (arith, all, number, short, length-append full.front (full.refused ∷ full.back)),
       subst (λ (l : List ℕ). AllByRecursion (λ v. v < 2 ^ 64) l) (sym full.base_last) (kept_small (2 ^ 64) base full.older small (subst (λ (l : List ℕ). IsStrictlySortedBy nat_cmp l) full.base_last full.rising)),
     )
 
-cause_small : (s : Setting) (operations : List Operation) (ending : Ending) (base : ℕ) (cause : Cause) → base < 2 ^ 64 → length operations < 2 ^ 64 → Causes s operations ending base cause → SmallCause cause
-cause_small s operations ending base (Rule refusal) small short causes = tt
-cause_small s operations ending base (Full operation kept) small short causes = full_small s operations base operation kept small short causes
-cause_small s operations ending base Spent small short causes = tt
+cause_small : (s : Setting) (asked : Transaction) (ending : Ending) (base : ℕ) (cause : Cause) → base < 2 ^ 64 → length asked.operations < 2 ^ 64 → Causes s asked ending base cause → SmallCause cause
+cause_small s asked ending base (Rule refusal) small short causes = tt
+cause_small s asked ending base (Full operation kept) small short causes = full_small s asked base operation kept small short causes
+cause_small s asked ending base Spent small short causes = tt
 
 shown_from : (May : Type 0) (ended : Ended) → Shows May ended → ended ≡ Shown
 shown_from May Shown shows = refl
@@ -140,25 +141,25 @@ shown_plain command May o kind small shows =
     let is = shown_from May o.ended shows in
     record { version = small; kind = kind o.ended is; small = subst SmallEnded (sym is) tt }
 
-block_plain : (s : Setting) (seen : ℕ) (operations : List Operation) (ending : Ending) (v : ℕ) (ended : Ended) → v < 2 ^ 64 → length operations < 2 ^ 64 → BlockEnds s seen operations ending v ended → (ended ≡ Shown → ⊥) × SmallEnded ended
-block_plain s seen operations ending v Shown small short ends = absurd ends
-block_plain s seen operations ending v Committed small short ends = (λ (e : Committed ≡ Shown). cc, tt)
-block_plain s seen operations ending v RolledBack small short ends = (λ (e : RolledBack ≡ Shown). cc, tt)
-block_plain s seen operations ending v (Refused cause) small short ends = (λ (e : Refused cause ≡ Shown). cc, cause_small s operations ending v cause small short ends.1)
+block_plain : (s : Setting) (seen : ℕ) (asked : Transaction) (ending : Ending) (v : ℕ) (ended : Ended) → v < 2 ^ 64 → length asked.operations < 2 ^ 64 → BlockEnds s seen asked ending v ended → (ended ≡ Shown → ⊥) × SmallEnded ended
+block_plain s seen asked ending v Shown small short ends = absurd ends
+block_plain s seen asked ending v Committed small short ends = (λ (e : Committed ≡ Shown). cc, tt)
+block_plain s seen asked ending v RolledBack small short ends = (λ (e : RolledBack ≡ Shown). cc, tt)
+block_plain s seen asked ending v (Refused cause) small short ends = (λ (e : Refused cause ≡ Shown). cc, cause_small s asked ending v cause small short ends.1)
 
-compaction_plain : (s : Setting) (seen v : ℕ) (ended : Ended) → v < 2 ^ 64 → BlockEnds s seen [] Commit v ended → EndsCompaction ended × SmallEnded ended
+compaction_plain : (s : Setting) (seen v : ℕ) (ended : Ended) → v < 2 ^ 64 → BlockEnds s seen no_changes Commit v ended → EndsCompaction ended × SmallEnded ended
 compaction_plain s seen v Shown small ends = absurd ends
 compaction_plain s seen v Committed small ends = (tt, tt)
 compaction_plain s seen v RolledBack small ends = let never : Commit ≡ Rollback = ends.0 in absurd cc
-compaction_plain s seen v (Refused cause) small ends = (tt, cause_small s [] Commit v cause small (omega arith) ends.1)
+compaction_plain s seen v (Refused cause) small ends = (tt, cause_small s no_changes Commit v cause small (omega arith) ends.1)
 
 plain : (s : Setting) (sight : Sight) (command : Command) (o : Outcome) → o.version < 2 ^ 64 → IsShort command → EndsLawfully s sight command o.version o.ended → IsPlain command o
 plain s sight (Ask question) o small short ends = shown_plain (Ask question) (sight.seen ≤ o.version) o (λ (ended : Ended) (e : ended ≡ Shown). e) small ends
 plain s sight Hold o small short ends = shown_plain Hold (sight.seen ≤ o.version) o (λ (ended : Ended) (e : ended ≡ Shown). e) small ends
 plain s sight (AskHeld question) o small short ends = shown_plain (AskHeld question) (sight.held ≡ Some o.version) o (λ (ended : Ended) (e : ended ≡ Shown). e) small ends
 plain s sight Release o small short ends = shown_plain Release (sight.held ≡ Some o.version) o (λ (ended : Ended) (e : ended ≡ Shown). e) small ends
-plain s sight (Block _ operations ending) o small short ends =
-    let told = block_plain s sight.seen operations ending o.version o.ended small (omega (arith, short)) ends in
+plain s sight (Block _ asked ending) o small short ends =
+    let told = block_plain s sight.seen asked ending o.version o.ended small (omega (arith, short)) ends in
     record { version = small; kind = told.0; small = told.1 }
 plain s sight Compact o small short ends = let told = compaction_plain s sight.seen o.version o.ended small ends in record { version = small; kind = told.0; small = told.1 }
 

@@ -22,7 +22,7 @@ OfKind (Ask question) ended = ended ≡ Shown
 OfKind Hold ended = ended ≡ Shown
 OfKind (AskHeld question) ended = ended ≡ Shown
 OfKind Release ended = ended ≡ Shown
-OfKind (Block _ operations ending) ended = ended ≡ Shown → ⊥
+OfKind (Block _ asked ending) ended = ended ≡ Shown → ⊥
 OfKind Compact ended = EndsCompaction ended
 
 -- an outcome of the command's kind, whose numbers have 64 bits
@@ -52,7 +52,7 @@ told_cut origin before after (Ask question) o p s t k l small less few e = (k �
 told_cut origin before after Hold o p s t k l small less few e = (k ∙ sym l, append_cancel_left (codes "HELD\n") s t e)
 told_cut origin before after (AskHeld question) o p s t k l small less few e = (k ∙ sym l, reply_cut origin (before o.version) (after p.version) question s t few e)
 told_cut origin before after Release o p s t k l small less few e = (k ∙ sym l, append_cancel_left (codes "RELEASED\n") s t e)
-told_cut origin before after (Block _ operations ending) o p s t k l small less few e = ended_cut o.ended p.ended k l small less s t e
+told_cut origin before after (Block _ asked ending) o p s t k l small less few e = ended_cut o.ended p.ended k l small less s t e
 told_cut origin before after Compact o p s t k l small less few e = compacted_cut o.ended p.ended k l small less s t e
 
 outcome_of : ℕ → Ended → Outcome

@@ -1,9 +1,10 @@
 -- No block of a job that is read has more operations than a block may have.
 use Rattle.std.proofs.Common.{◌≡◌, ℕ, ◌+◌, ◌≤◌, Bool, true, false, cond, List, [], ◌∷◌, ◌++◌, length, Option, Some, None, Result, Ok, Err, refl, subst, arith, length-append, ltb-true}
-use Rattle.std.specs.Prelude.{nat_lt}
+use Rattle.std.specs.Prelude.{nat_lt, not, ◌==◌}
 use Rattle.std.specs.List.{AllByRecursion}
 use Rattle.zone_model.specs.Names.{Name}
 use Rattle.zone_model.specs.Versions.{Version, Operation}
+use Rattle.zone_model.specs.Transactions.{Prerequisite}
 use Rattle.zone_model.specs.Refusals.{Refused, ◌>>=◌}
 use Rattle.zone_model.specs.Tokens.{Token}
 use Rattle.zone_model.specs.MasterFile.{zone_of}
@@ -12,20 +13,20 @@ use Rattle.job_model.specs.declared.ScriptKind.{ScriptKind}
 use Rattle.job_model.specs.declared.ScriptKind.TheVariants.{NoWorker, BadCommand, NotHeld, AlreadyHeld, TooMany}
 use Rattle.job_model.specs.declared.Ending.{Ending}
 use Rattle.job_model.specs.Commands.{Command, Ask, Hold, AskHeld, Release, Block, Compact, Job}
-use Rattle.job_model.specs.Outcomes.{operations_of}
-use Rattle.job_model.specs.Phrases.{Phrase, Worker, Asks, Holds, AsksHeld, Releases, Opens, Adds, Deletes, Ends, Compacts, phrase_of, script_tokens}
-use Rattle.job_model.specs.Arguments.{refuse, question_of, addition_of, deletion_of}
-use Rattle.job_model.specs.Jobs.{JobRefusal, Unfinished, Script, lists_of, worker_limit, command_limit, operation_limit, of_worker, while_held, while_free, with_room, with_command, with_question, with_held_question, holding, released, opened, next_worker, outside, with_operation, joined, may_end, ended, inside, taken, tokens_say, script_line, script_from, finished, no_lines, script_of, zone_refused, script_refused, zone_lines, script_lines, script_start, job_of_lines, job_of}
+use Rattle.job_model.specs.Outcomes.{asked_by}
+use Rattle.job_model.specs.Phrases.{Phrase, Worker, Asks, Holds, AsksHeld, Releases, Opens, Needs, Adds, Deletes, Ends, Compacts, phrase_of, script_tokens}
+use Rattle.job_model.specs.Arguments.{refuse, question_of, prerequisite_of, addition_of, deletion_of}
+use Rattle.job_model.specs.Jobs.{JobRefusal, Unfinished, Script, lists_of, worker_limit, command_limit, need_limit, operation_limit, of_worker, while_held, while_free, with_room, with_command, with_question, with_held_question, holding, released, opened, next_worker, outside, with_need, needed_first, with_operation, joined, may_end, ended, inside, taken, tokens_say, script_line, script_from, finished, no_lines, script_of, zone_refused, script_refused, zone_lines, script_lines, script_start, job_of_lines, job_of}
 
 abbrev pub IsShort : Command → Type 0
-IsShort command = length (operations_of command) ≤ operation_limit
+IsShort command = length (asked_by command).operations ≤ operation_limit
 
 abbrev pub AllShort : List (List Command) → Type 0
 AllShort lists = AllByRecursion (AllByRecursion IsShort) lists
 
 abbrev Few : Option Unfinished → Type 0
 Few None = Unit {0}
-Few (Some b) = length b.operations ≤ operation_limit
+Few (Some b) = length b.asked.operations ≤ operation_limit
 
 -- what holds of a script so far
 record Short (earlier : List (List Command)) (commands : List Command) (block : Option Unfinished) : Type 0 where
@@ -85,6 +86,7 @@ outside_kept origin n Releases s short =
     of_worker_kept n s (while_held n s (with_room n s (Ok (released s)))) (while_held_kept n s (with_room n s (Ok (released s))) (with_room_kept n s (Ok (released s)) (command_kept s Release (omega arith) short)))
 outside_kept origin n (Opens weight) s short =
     of_worker_kept n s (with_room n s (Ok (opened n weight s))) (with_room_kept n s (Ok (opened n weight s)) (record { lists = short.lists; list = short.list; few = omega arith }))
+outside_kept origin n (Needs wanted owner rtype) s short = tt
 outside_kept origin n (Adds owner ttl rtype tokens) s short = tt
 outside_kept origin n (Deletes owner rest) s short = tt
 outside_kept origin n (Ends ending) s short = tt
@@ -93,19 +95,26 @@ outside_kept origin n Compacts s short =
 
 -- ---- a line inside a block
 
+needed_kept : (n : ℕ) (b : Unfinished) (s : Script) (r : Result Prerequisite (Refused ScriptKind)) → Short s.earlier s.commands (Some b) → Kept (needed_first n b s r)
+needed_kept n b s r short =
+    if_kept (not (length b.asked.operations == 0)) (refuse n BadCommand)
+    (cond (nat_lt (length b.asked.needs) need_limit) (r >>= with_need b s) (refuse n (TooMany need_limit))) (λ _. tt)
+    (if_kept (nat_lt (length b.asked.needs) need_limit) (r >>= with_need b s) (refuse n (TooMany need_limit))
+    (λ _. bind_kept r (with_need b s) (λ need. record { lists = short.lists; list = short.list; few = short.few })) tt)
+
 joined_kept : (n : ℕ) (b : Unfinished) (s : Script) (r : Result Operation (Refused ScriptKind)) → Short s.earlier s.commands (Some b) → Kept (joined n b s r)
 joined_kept n b s r short =
-    if_kept (nat_lt (length b.operations) operation_limit) (r >>= with_operation b s) (refuse n (TooMany operation_limit))
+    if_kept (nat_lt (length b.asked.operations) operation_limit) (r >>= with_operation b s) (refuse n (TooMany operation_limit))
     (λ room. bind_kept r (with_operation b s) (λ operation. record {
       lists = short.lists;
       list = short.list;
-      few = (let less = ltb-true (length b.operations) operation_limit room in omega (arith, less, length-append b.operations (operation ∷ [])));
+      few = (let less = ltb-true (length b.asked.operations) operation_limit room in omega (arith, less, length-append b.asked.operations (operation ∷ [])));
     })) tt
 
 ended_kept : (n : ℕ) (b : Unfinished) (ending : Ending) (s : Script) → Short s.earlier s.commands (Some b) → Kept (ended n b ending s)
 ended_kept n b ending s short =
-    if_kept (may_end b.weight ending) (Ok (record (with_command s (Block b.weight b.operations ending)) { block = None })) (refuse n BadCommand)
-    (λ _. record { lists = short.lists; list = push IsShort s.commands (Block b.weight b.operations ending) short.list short.few; few = tt }) tt
+    if_kept (may_end b.weight ending) (Ok (record (with_command s (Block b.weight b.asked ending)) { block = None })) (refuse n BadCommand)
+    (λ _. record { lists = short.lists; list = push IsShort s.commands (Block b.weight b.asked ending) short.list short.few; few = tt }) tt
 
 inside_kept : (origin : Name) (n : ℕ) (b : Unfinished) (phrase : Phrase) (s : Script) → Short s.earlier s.commands (Some b) → Kept (inside origin n b phrase s)
 inside_kept origin n b Worker s short = tt
@@ -114,6 +123,7 @@ inside_kept origin n b Holds s short = tt
 inside_kept origin n b (AsksHeld asked) s short = tt
 inside_kept origin n b Releases s short = tt
 inside_kept origin n b (Opens _) s short = tt
+inside_kept origin n b (Needs wanted owner rtype) s short = needed_kept n b s (prerequisite_of origin n wanted owner rtype) short
 inside_kept origin n b (Adds owner ttl rtype tokens) s short = joined_kept n b s (addition_of origin n owner ttl rtype tokens) short
 inside_kept origin n b (Deletes owner rest) s short = joined_kept n b s (deletion_of origin n owner rest) short
 inside_kept origin n b (Ends ending) s short = ended_kept n b ending s short

@@ -1,5 +1,5 @@
 //! An entry.
-ghost use Rattle.std.specs.Prelude.{◌≡◌, ◌<◌, ◌≤◌, ◌++◌, ◌∷◌, [], ℕ, List, Option, length, OnOk, OnErr, MatchOption, take, drop, Some, None, min, ◌-◌, ◌^◌, slice_get, IsTrue, IsNone, IfSome, IfOk, ◌↔◌};
+ghost use Rattle.std.specs.Prelude.{◌≡◌, ◌<◌, ◌≤◌, ◌++◌, ◌∷◌, [], ℕ, List, Option, length, OnOk, OnErr, MatchOption, take, drop, Some, None, min, ◌-◌, ◌^◌, slice_get, IsTrue, IsNone, IsSome, IfSome, IfOk, ◌↔◌};
 ghost use Rattle.zone_model.specs.Records.{Rrset, with_rr, without_rr, without_set, rrset_of, item, item_limit, rrset_bytes, IsItem};
 ghost use Rattle.rr_data.specs.Changes.{TellsChange};
 ghost use Rattle.rr_data.specs.Items.{Decodes};
@@ -146,6 +146,13 @@ impl Entry {
         &self.sets[index]
     }
 
+    /// Whether it has an RRset of a type.
+    pub fn has(&self, rtype: u16) -> bool
+        ensures { IsTrue result ↔ IsSome (rrset_of rtype self.now) }
+    {
+        self.find_set(rtype).is_some()
+    }
+
     /// The RRset of a type, if it has one.
     pub fn find_set(&self, rtype: u16) -> Option<&RrSet>
         ensures { MatchOption result (rrset_of rtype self.now ≡ None) (λ s. rrset_of rtype self.now ≡ Some s.now) }
@@ -171,7 +178,7 @@ impl Entry {
         ensures changed { IfOk result (λ changed. TellsChange changed self.old self.new) }
         ensures err { OnErr result (self.new ≡ self.old) }
     {
-        let _octets = added.octets();
+        let _octets = added.octets(); // for the proof
         add_to(alloc, &mut self.sets, rtype, ttl, added)
     }
 

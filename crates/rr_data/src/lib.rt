@@ -10,7 +10,6 @@ mod fields;
 mod forms;
 mod generic;
 pub mod laws;
-mod packed;
 mod places;
 mod rdata;
 mod reading;
@@ -26,7 +25,6 @@ mod views;
 
 pub use data_text::{push_data, push_data_in, push_type};
 pub use entry::{Entry, ITEM_LIMIT};
-pub use packed::PackedSet;
 pub use rdata::Rdata;
 pub use record_text::{Directives, push_record};
 pub use refusal::{DecodeRefusal, RdataRefusal};

@@ -1,7 +1,8 @@
 //! Entries and RRsets where they lie in an item, read without taking memory.
-ghost use Rattle.std.specs.Prelude.{◌≡◌, ◌<◌, ◌≤◌, ◌+◌, ◌++◌, ◌∷◌, [], ℕ, List, length, take, drop, MatchOption, Some, None};
+ghost use Rattle.std.specs.Prelude.{◌≡◌, ◌<◌, ◌≤◌, ◌+◌, ◌++◌, ◌∷◌, [], ℕ, List, length, take, drop, IfSome, MatchOption, Some, None};
 ghost use Rattle.zone_model.specs.Names.{Name as Labels};
 ghost use Rattle.zone_model.specs.Records.{Rrset, Entry, rrset_of};
+ghost use Rattle.zone_model.specs.Transactions.{has_some};
 ghost use Rattle.rr_data.specs.ItemViews.{BeginsWithRecord, BeginsWithRecords, BeginsWithSet, SaysEntry};
 
 use crate::splits::{number_of, short_of};
@@ -72,7 +73,8 @@ impl<'a> Model for ItemView<'a> {
 // The record in front, and the octets behind it.
 fn first_record(bytes: &[u8]) -> (&[u8], &[u8])
     requires { (octets : List ℕ) × (more : List ℕ) × BeginsWithRecord bytes.now octets more }
-    ensures { (octets more : List ℕ) → BeginsWithRecord bytes.now octets more → (result.0.now ≡ octets) × (result.1.now ≡ more) }
+    ensures split { (octets more : List ℕ) → BeginsWithRecord bytes.now octets more → (result.0.now ≡ octets) × (result.1.now ≡ more) }
+    ensures short { length result.0.now ≤ 65535 }
 {
     let (len, rest) = bytes.split_at(2);
     rest.split_at(short_of(len) as usize)
@@ -114,7 +116,8 @@ fn first_set(bytes: &[u8]) -> (SetView<'_>, &[u8])
 impl<'a> RecordViews<'a> {
     /// The octets of the next record; None where none is left.
     pub fn next(&mut self) -> Option<&'a [u8]>
-        ensures { MatchOption result (self.old ≡ []) (λ octets. self.old ≡ octets.now ∷ self.new) }
+        ensures next { MatchOption result (self.old ≡ []) (λ octets. self.old ≡ octets.now ∷ self.new) }
+        ensures short { IfSome result (λ octets. length octets.now ≤ 65535) }
     {
         if self.left == 0 {
             return None;
@@ -186,6 +189,22 @@ impl<'a> ItemView<'a> {
         self.left -= 1;
         self.octets = behind;
         Some(set)
+    }
+
+    /// Whether there is an RRset, or one of a type.
+    pub fn has(&self, rtype: Option<u16>) -> bool
+        ensures { result ≡ has_some rtype self.now }
+    {
+        match rtype {
+            Some(rtype) => self.find_set(rtype).is_some(),
+            None => {
+                let mut sets = ItemView {
+                    left: self.left,
+                    octets: self.octets,
+                };
+                sets.next().is_some()
+            }
+        }
     }
 
     /// The RRset of a type, if there is one.

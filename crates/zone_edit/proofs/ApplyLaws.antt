@@ -6,7 +6,7 @@ use Rattle.std.specs.List.{AllByRecursion}
 use Rattle.std.specs.Ordering.{is_eq}
 use Rattle.zone_model.specs.Names.{Name, name_cmp}
 use Rattle.zone_model.specs.Records.{Entry, item, without_set, without_rr}
-use Rattle.zone_model.specs.Versions.{Version, Operation, Add, DeleteName, DeleteSet, DeleteRecord, entry_of, owned, owner_of, changed, apply, whole, and_then, put, is_low_soa, is_lone, fitting, keeping_soa, loses_soa, with_added}
+use Rattle.zone_model.specs.Versions.{Version, Operation, Add, DeleteName, DeleteSet, DeleteRecord, entry_of, owned, owner_of, changed, apply, all_applied, and_then, put, is_low_soa, is_lone, fitting, keeping_soa, loses_soa, with_added}
 use Rattle.zone_model.specs.declared.Refusal.{Refusal}
 use Rattle.zone_model.specs.declared.Refusal.TheVariants.{Soa, Cname, Long}
 use Rattle.zone_model.proofs.NameLemmas.{same_name-true}
@@ -85,19 +85,19 @@ refused origin operation before refusal version is e =
 
 -- ---- operations in order
 
-pub whole_on : (origin : Name) (front back : List Operation) (version working : Version) → whole origin front version ≡ Ok working → whole origin (front ++ back) version ≡ whole origin back working
-whole_on origin [] back version working e = let same : version ≡ working = cc in ap (whole origin back) same
-whole_on origin (first ∷ rest) back version working e = by_first (λ (v : Version) (h : whole origin rest v ≡ Ok working). whole_on origin rest back v working h) (apply origin first version) e
+pub applied_on : (origin : Name) (front back : List Operation) (version working : Version) → all_applied origin front version ≡ Ok working → all_applied origin (front ++ back) version ≡ all_applied origin back working
+applied_on origin [] back version working e = let same : version ≡ working = cc in ap (all_applied origin back) same
+applied_on origin (first ∷ rest) back version working e = by_first (λ (v : Version) (h : all_applied origin rest v ≡ Ok working). applied_on origin rest back v working h) (apply origin first version) e
   where
-    by_first : ((v : Version) → whole origin rest v ≡ Ok working → whole origin (rest ++ back) v ≡ whole origin back working) → (r : Result Version Refusal) → and_then r (whole origin rest) ≡ Ok working → and_then r (whole origin (rest ++ back)) ≡ whole origin back working
+    by_first : ((v : Version) → all_applied origin rest v ≡ Ok working → all_applied origin (rest ++ back) v ≡ all_applied origin back working) → (r : Result Version Refusal) → and_then r (all_applied origin rest) ≡ Ok working → and_then r (all_applied origin (rest ++ back)) ≡ all_applied origin back working
     by_first further (Ok next) h = further next h
     by_first further (Err refusal) h = absurd cc
 
-pub next_whole : (origin : Name) (front : List Operation) (operation : Operation) (version now next : Version) → whole origin front version ≡ Ok now → apply origin operation now ≡ Ok next → whole origin (front ++ operation ∷ []) version ≡ Ok next
-next_whole origin front operation version now next e a = whole_on origin front (operation ∷ []) version now e ∙ ap (λ (r : Result Version Refusal). and_then r (whole origin [])) a
+pub next_applied : (origin : Name) (front : List Operation) (operation : Operation) (version now next : Version) → all_applied origin front version ≡ Ok now → apply origin operation now ≡ Ok next → all_applied origin (front ++ operation ∷ []) version ≡ Ok next
+next_applied origin front operation version now next e a = applied_on origin front (operation ∷ []) version now e ∙ ap (λ (r : Result Version Refusal). and_then r (all_applied origin [])) a
 
-pub refused_whole : (origin : Name) (front back : List Operation) (operation : Operation) (version now : Version) (refusal : Refusal) → whole origin front version ≡ Ok now → apply origin operation now ≡ Err refusal → whole origin (front ++ operation ∷ back) version ≡ Err refusal
-refused_whole origin front back operation version now refusal e a = whole_on origin front (operation ∷ back) version now e ∙ ap (λ (r : Result Version Refusal). and_then r (whole origin back)) a
+pub refused_applied : (origin : Name) (front back : List Operation) (operation : Operation) (version now : Version) (refusal : Refusal) → all_applied origin front version ≡ Ok now → apply origin operation now ≡ Err refusal → all_applied origin (front ++ operation ∷ back) version ≡ Err refusal
+refused_applied origin front back operation version now refusal e a = applied_on origin front (operation ∷ back) version now e ∙ ap (λ (r : Result Version Refusal). and_then r (all_applied origin back)) a
 
 -- the operations up to the one at a place, and all
 pub up_to : {C : Type 0} (view : C → Operation) (operations : List C) (i : ℕ) (here : C) → i < length operations → here ≡ get_or operations i here → map view (take (i + 1) operations) ≡ map view (take i operations) ++ view here ∷ []

@@ -4,3 +4,4 @@ pub mod StoreLaws
 pub mod ApplyLaws
 pub mod SetLaws
 pub mod EditLaws
+pub mod MeetLaws

@@ -1,9 +1,10 @@
 -- What operations make of a transaction whose working set is a version of a zone.
-use Rattle.std.specs.Prelude.{◌≡◌, ℕ, ◌+◌, List, ◌∷◌, ◌++◌, length, Result, Ok, Err}
+use Rattle.std.specs.Prelude.{◌≡◌, ℕ, ◌+◌, Bool, true, List, ◌∷◌, ◌++◌, length, Result, Ok, Err}
 use Rattle.zone_model.specs.Names.{Name}
 use Rattle.zone_model.specs.Records.{Entry}
 use Rattle.zone_model.specs.declared.Refusal.{Refusal}
-use Rattle.zone_model.specs.Versions.{Version, Operation, apply, whole}
+use Rattle.zone_model.specs.Versions.{Version, Operation, owned, apply, all_applied}
+use Rattle.zone_model.specs.Transactions.{Prerequisite, Transaction, is_met_by, all_met, whole}
 use Rattle.shared_index.specs.declared.desk.Draft.{Draft}
 use Rattle.chunk_usage.specs.Keeping.{kept_versions}
 use Rattle.zone_edit.specs.Stores.{WorksOn, IsFullOn}
@@ -36,15 +37,30 @@ pub record IsFullAt (new : Draft) (origin : Name) (operations : List Operation) 
   pub all : operations ≡ front ++ refused ∷ back
   pub place : operation ≡ length front + 1
   pub working : Version
-  pub before : whole origin front version ≡ Ok working
+  pub before : all_applied origin front version ≡ Ok working
   pub next : Version
   pub accepted : apply origin refused working ≡ Ok next
   pub changes : next ≡ working → ⊥
   pub full : IsFullOn new working kept
 
--- the same for a block's operations
+-- the same for operations in order
 abbrev pub AppliesAll : Name → List Operation → Result (Unit {0}) Halt → Version → Draft → Type 0
-AppliesAll origin operations (Ok u) version new = (next : Version) × (whole origin operations version ≡ Ok next) × WorksOn new next
+AppliesAll origin operations (Ok u) version new = (next : Version) × (all_applied origin operations version ≡ Ok next) × WorksOn new next
 AppliesAll origin operations (Err halts.Memory) version new = Unit {0}
-AppliesAll origin operations (Err (halts.Refused refusal)) version new = whole origin operations version ≡ Err refusal
+AppliesAll origin operations (Err (halts.Refused refusal)) version new = all_applied origin operations version ≡ Err refusal
 AppliesAll origin operations (Err (halts.Full operation)) version new = IsFullAt new origin operations version operation (kept_versions new.usage)
+
+-- the version stays, and it is told whether it meets a prerequisite, and whether all
+abbrev pub Meets : Prerequisite → Bool → Version → Draft → Type 0
+Meets p met version new = WorksOn new version × (met ≡ is_met_by (owned p.owner version) p)
+
+abbrev pub MeetsAll : List Prerequisite → Bool → Version → Draft → Type 0
+MeetsAll needs met version new = WorksOn new version × (met ≡ all_met version needs)
+
+-- the same for a transaction
+abbrev pub Executes : Name → Transaction → Result (Unit {0}) Halt → Version → Draft → Type 0
+Executes origin asked (Ok u) version new = (next : Version) × (whole origin asked version ≡ Ok next) × WorksOn new next
+Executes origin asked (Err halts.Memory) version new = Unit {0}
+Executes origin asked (Err (halts.Refused refusal)) version new = whole origin asked version ≡ Err refusal
+Executes origin asked (Err (halts.Full operation)) version new =
+    (all_met version asked.needs ≡ true) × IsFullAt new origin asked.operations version operation (kept_versions new.usage)

@@ -1,14 +1,14 @@
 //! Operations on a transaction's working set.
 
-ghost use Rattle.std.specs.Prelude.{◌≡◌, ◌≤◌, IfOk, IsSomeAnd, List, map};
-ghost use Rattle.zone_model.specs.Keys.{key_of};
+ghost use Rattle.std.specs.Prelude.{◌≡◌, IfOk, IsSomeAnd, List, map};
 ghost use Rattle.zone_model.specs.Versions.{changed};
 ghost use Rattle.zone_change.specs.Views.{operation_view};
-ghost use Rattle.zone_edit.specs.Stores.{WorksOnSome, Reads, Edits};
+ghost use Rattle.zone_edit.specs.Stores.{WorksOnSome, Edits};
 ghost use Rattle.zone_edit.specs.Blocks.{Gives, Applies, AppliesAll};
 ghost use Rattle.zone_edit.specs.declared.applying.Stopped.TheVariants.{Memory};
 
 use crate::buffers::ItemBuffers;
+use crate::reading::read_owned;
 use crate::storing::{NoRoom, store};
 use dns_name::Name;
 use rr_data::Entry;
@@ -54,27 +54,6 @@ impl<T: Drop> From<AllocFailed<T>> for Stopped {
 
     fn from(_: AllocFailed<T>) -> Self {
         Stopped::Memory
-    }
-}
-
-/// Reads the item of a name into the beginning of a buffer, and gives its length: 0 where the name owns nothing.
-fn read_owned<L: Law, N: Named, K>(
-    transaction: &mut Transaction<'_, '_, L, N, K>,
-    name: &Name,
-    key: &Key,
-    item: &mut [u8; 4096],
-) -> usize
-    requires works { IsSomeAnd transaction.old.locked.now.draft WorksOnSome }
-    requires key { key.now ≡ key_of name.now }
-    ensures same_reference { (transaction.new.home.ghost_name ≡ transaction.old.home.ghost_name) × (transaction.new.locked.ghost_name ≡ transaction.old.locked.ghost_name) }
-    ensures place { transaction.new.locked.now.place ≡ transaction.old.locked.now.place }
-    ensures within { result ≤ 4096 }
-    ensures read { Edits (Reads name.now item.new result) transaction.old.locked.now.draft transaction.new.locked.now.draft }
-{
-    let _wire = name.wire();
-    match transaction.fetch(key, item) {
-        Some(len) => len,
-        None => 0,
     }
 }
 
@@ -128,7 +107,7 @@ fn apply<L: Law, N: Named, K>(
 }
 
 /// Makes the changes of operations in the working set, in order, up to the first that is refused, by way of buffers for items.
-pub fn apply_all<L: Law, N: Named, K>(
+pub(crate) fn apply_all<L: Law, N: Named, K>(
     alloc: Global,
     origin: &Name,
     transaction: &mut Transaction<'_, '_, L, N, K>,

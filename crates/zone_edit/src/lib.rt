@@ -1,9 +1,13 @@
-//! What operations make of a zone that is the working set of a transaction.
+//! What a transaction's prerequisites and operations make of a zone that is its working set.
 #![tactic(auto)]
 
 mod applying;
 mod buffers;
+mod executing;
+mod prerequisites;
+mod reading;
 mod storing;
 
-pub use applying::{Halt, apply_all};
+pub use applying::Halt;
 pub use buffers::ItemBuffers;
+pub use executing::execute;

@@ -115,7 +115,7 @@ abbrev pub apply : Name → Operation → Version → Result Version Refusal
 apply origin operation version =
     and_then (changed origin operation (owned (owner_of operation) version)) (λ entry. Ok (put (owner_of operation) entry version))
 
--- what a block makes of a version: its operations in order, or the first refusal
-abbrev pub whole : Name → List Operation → Version → Result Version Refusal
-whole origin [] version = Ok version
-whole origin (first ∷ rest) version = and_then (apply origin first version) (whole origin rest)
+-- what operations make of a version, in order, or the first refusal
+abbrev pub all_applied : Name → List Operation → Version → Result Version Refusal
+all_applied origin [] version = Ok version
+all_applied origin (first ∷ rest) version = and_then (apply origin first version) (all_applied origin rest)

@@ -1,28 +1,25 @@
 -- Parts of an answer as the code has them.
-use Rattle.std.specs.Prelude.{◌≡◌, ℕ, ◌-◌, ◌<◌, ◌≤◌, true, false, List, ◌++◌, length, take, if◌then◌else◌, Option, Some, None, Result, Ok, Err}
+use Rattle.std.specs.Prelude.{◌≡◌, ℕ, ◌-◌, ◌<◌, ◌≤◌, true, false, List, ◌++◌, length, map, take, if◌then◌else◌, Option, Some, None, Result, Ok, Err}
 use Rattle.std.specs.Option.{is_some}
-use Rattle.std.specs.List.{flat_map}
 use Rattle.std.specs.declared.alloc.AllocError.{AllocError}
 use Rattle.zone_model.specs.Names.{Name, ancestor}
-use Rattle.zone_model.specs.Records.{Rrset, Entry, rrset_of}
+use Rattle.zone_model.specs.Records.{Entry, rrset_of}
 use Rattle.zone_model.specs.Versions.{Version, owned, exists}
-use Rattle.zone_model.specs.Rows.{Row, rows_of}
+use Rattle.zone_model.specs.Rows.{Row}
 use Rattle.rr_data.specs.ItemViews.{SaysEntry}
 use Rattle.zone_query.specs.Answers as answers
 use Rattle.zone_query.specs.Answers.{Answer, Step, is_cut, cut_above, ns_type}
 use Rattle.zone_query.specs.declared.kind.Kind.{Kind}
 use Rattle.zone_query.specs.declared.records.Held.{Held}
+use Rattle.zone_query.specs.declared.rows.Row.{Row as CodeRow}
 use Rattle.zone_query.specs.declared.step.Next.{Next}
 use Rattle.zone_query.specs.declared.step.Next.TheVariants.{Ends, Leads}
 
--- an RRset with its owner
-pub record OwnedSet : Type 0 where
-  pub owner : Name
-  pub set : Rrset
+abbrev pub row_view : CodeRow → Row
+row_view r = record { owner = r.owner; rtype = r.rtype; ttl = r.ttl; octets = r.rdata }
 
--- the records of RRsets, each with its owner
-abbrev pub rows_in : List OwnedSet → List Row
-rows_in sets = flat_map (λ s. rows_of s.owner s.set) sets
+abbrev pub rows_in : List CodeRow → List Row
+rows_in rows = map row_view rows
 
 -- ---- what was read
 

@@ -1,7 +1,6 @@
 //! Questions and their answers.
 
-ghost use Rattle.std.specs.Prelude.{◌≡◌, [], IfOk, IfSome, true};
-ghost use Rattle.zone_model.specs.Names.{is_under};
+ghost use Rattle.std.specs.Prelude.{◌≡◌, [], IfOk};
 ghost use Rattle.zone_model.specs.Versions.{Version};
 ghost use Rattle.zone_query.specs.Answers.{answer};
 ghost use Rattle.zone_query.specs.Parts.{IsGiven};
@@ -11,10 +10,9 @@ use crate::answers::Answer;
 use crate::kind::Kind;
 use crate::rows::Rows;
 use crate::sink::RowSink;
-use crate::step::{Next, give_there, step};
+use crate::step::{Next, step};
 use crate::walker::Walker;
 use dns_name::Name;
-use shift_key::Key;
 use std::alloc::{AllocError, Global};
 use trie_read::Reading;
 
@@ -34,86 +32,23 @@ pub fn answer<V: Reading>(
     ensures answer { (zone : Version) → Shows (V.holds version.old) zone → IfOk result (λ a. a ≡ answer origin.now zone name.now rtype) }
 {
     let mut item = [0; 4096];
-    answer_by(alloc, version, origin, name, rtype, &mut item)
-}
-
-/// The answer where a name right under the origin is there, and no alias leads on.
-fn answer_at_once<V: Reading>(
-    alloc: Global,
-    version: &mut V,
-    origin: &Name,
-    name: &Name,
-    rtype: u16,
-    item: &mut [u8; 4096],
-) -> Result<Option<Answer>, AllocError>
-    requires shown { ShowsSome (V.holds version.old) }
-    requires under { is_under name.now origin.now ≡ true }
-    ensures same { version.new ≡ version.old }
-    ensures answer { (zone : Version) → Shows (V.holds version.old) zone
-        → IfOk result (λ o. IfSome o (λ a. a ≡ answer origin.now zone name.now rtype)) }
-{
+    let mut walker = Walker::new();
     let mut rows = Rows::new(alloc);
-    let mut target = None;
-    let key = Key::of(name);
-    match give_there(
+    let kind = answer_into(
         alloc,
         version,
         origin,
         name,
-        &key,
         rtype,
-        item,
-        &mut target,
+        &mut item,
+        &mut walker,
         &mut rows,
-    )? {
-        Some(Next::Ends(kind)) => Ok(Some(Answer::new(kind, rows))),
-        _ => Ok(None),
-    }
-}
-
-/// The same, by way of a buffer that items are read into. A run of questions may share one: it takes longer to clear than an item to
-/// read.
-pub fn answer_by<V: Reading>(
-    alloc: Global,
-    version: &mut V,
-    origin: &Name,
-    name: &Name,
-    rtype: u16,
-    item: &mut [u8; 4096],
-) -> Result<Answer, AllocError>
-    requires { ShowsSome (V.holds version.old) }
-    ensures same { version.new ≡ version.old }
-    ensures answer { (zone : Version) → Shows (V.holds version.old) zone → IfOk result (λ a. a ≡ answer origin.now zone name.now rtype) }
-{
-    if name.is_under(origin) {
-        if let Some(answer) = answer_at_once(alloc, version, origin, name, rtype, item)? {
-            return Ok(answer);
-        }
-    }
-    let mut walker = Walker::new();
-    answer_with(alloc, version, origin, name, rtype, item, &mut walker)
-}
-
-/// The same, with a walker that a run of questions may share as well.
-pub fn answer_with<V: Reading>(
-    alloc: Global,
-    version: &mut V,
-    origin: &Name,
-    name: &Name,
-    rtype: u16,
-    item: &mut [u8; 4096],
-    walker: &mut Walker,
-) -> Result<Answer, AllocError>
-    requires { ShowsSome (V.holds version.old) }
-    ensures same { version.new ≡ version.old }
-    ensures answer { (zone : Version) → Shows (V.holds version.old) zone → IfOk result (λ a. a ≡ answer origin.now zone name.now rtype) }
-{
-    let mut rows = Rows::new(alloc);
-    let kind = answer_into(alloc, version, origin, name, rtype, item, walker, &mut rows)?;
+    )?;
     Ok(Answer::new(kind, rows))
 }
 
-/// Hands the records of an answer to a sink that has none yet, and tells the answer's kind.
+/// Hands the records of an answer to a sink that has none yet, and tells the answer's kind. A run of questions may share the buffer that
+/// items are read into and the walker: they take longer to clear than a name to find.
 pub fn answer_into<V: Reading, S: RowSink>(
     alloc: Global,
     version: &mut V,

@@ -1,103 +1,55 @@
 //! Records with their owners.
 
-ghost use Rattle.std.specs.Prelude.{◌≡◌, ◌++◌, [], length, OnOk};
+ghost use Rattle.std.specs.Prelude.{◌≡◌, ◌++◌, ◌≤◌, [], length, map, OnOk};
 ghost use Rattle.zone_model.specs.Rows.{rows_of};
-ghost use Rattle.zone_query.specs.Parts.{rows_in};
 
 use crate::sink::RowSink;
 use dns_name::Name;
-use rr_data::{PackedSet, SetView};
+use rr_data::{Rdata, SetView};
 use std::alloc::{AllocError, Global};
 use std::marker::Model;
 
-/// An RRset with its owner: each of its records is a row of an answer.
+/// A record with its owner, and its time to live in seconds.
 #[derive(Drop)]
-pub struct OwnedSet {
-    owner: Name,
-    set: PackedSet,
-}
-
-impl Model for OwnedSet {
-    ghost use Rattle.zone_query.specs.Parts.{OwnedSet};
-
-    ghost Value = { OwnedSet };
-
-    ghost view = { λ s. record { owner = s.owner; set = s.set } };
-}
-
-impl OwnedSet {
-    pub fn owner(&self) -> &Name
-        ensures { result.now ≡ self.now.owner }
-    {
-        &self.owner
-    }
-
-    pub fn set(&self) -> SetView<'_>
-        ensures { result ≡ self.now.set }
-    {
-        self.set.view()
-    }
+pub struct Row {
+    pub owner: Name,
+    pub rtype: u16,
+    pub ttl: u32,
+    pub rdata: Rdata,
 }
 
 /// Records with their owners, as they were gathered. Contracts see the list of them.
 #[derive(Drop)]
 pub struct Rows {
-    sets: Vec<OwnedSet>,
-    // How many records these have.
-    len: u64,
+    list: Vec<Row>,
 }
 
 impl Model for Rows {
-    ghost use Rattle.std.specs.Prelude.{◌≡◌, List, length};
+    ghost use Rattle.std.specs.Prelude.{List};
     ghost use Rattle.zone_model.specs.Rows.{Row};
     ghost use Rattle.zone_query.specs.Parts.{rows_in};
 
     ghost Value = { List Row };
 
-    ghost view = { λ r. rows_in r.sets.items };
-
-    ghost invariant = { λ r. r.len ≡ length (rows_in r.sets.items) };
+    ghost view = { λ r. rows_in r.list.items };
 }
 
 impl Rows {
+    ghost use Rattle.zone_query.specs.Parts.{rows_in};
+
     /// None.
     pub fn new(alloc: Global) -> Rows
         ensures { result ≡ [] }
     {
         Rows {
-            sets: Vec::new(alloc),
-            len: 0,
+            list: Vec::new(alloc),
         }
     }
 
-    /// How many there are.
-    pub fn len(&self) -> u64
-        ensures { result ≡ length self.now }
-    {
-        self.len
-    }
-
-    /// The RRsets whose records they are.
-    pub fn sets(&self) -> &[OwnedSet]
+    pub fn as_slice(&self) -> &[Row]
         ensures { rows_in result.now ≡ self.now }
     {
-        &self.sets
-    }
-
-    /// Adds the records of an RRset, with this owner. More of them than 64 bits count are taken for want of memory.
-    pub fn push(&mut self, alloc: Global, owner: &Name, set: &SetView<'_>) -> Result<(), AllocError>
-        ensures { OnOk result (self.new ≡ self.old ++ rows_of owner.now set.now) }
-    {
-        let Some(len) = self.len.checked_add(u64::from(set.len())) else {
-            return Err(AllocError);
-        };
-        let owned = OwnedSet {
-            owner: *owner,
-            set: PackedSet::of(alloc, set)?,
-        };
-        self.sets.push(owned)?;
-        self.len = len;
-        Ok(())
+        &self.list
     }
 }
 
@@ -105,6 +57,15 @@ impl RowSink for Rows {
     ghost has = { λ r rows. r ≡ rows };
 
     fn push(&mut self, alloc: Global, owner: &Name, set: &SetView<'_>) -> Result<(), AllocError> {
-        Rows::push(self, alloc, owner, set)
+        let mut records = set.records();
+        while let Some(octets) = records.next() {
+            self.list.push(Row {
+                owner: *owner,
+                rtype: set.rtype(),
+                ttl: set.ttl(),
+                rdata: Rdata::new(Vec::from_slice(alloc, octets)?),
+            })?;
+        }
+        Ok(())
     }
 }

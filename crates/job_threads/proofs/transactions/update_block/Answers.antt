@@ -1,9 +1,9 @@
-use Rattle.std.proofs.Common.{rules, ◌∙◌, ◌+◌, ◌*◌, Ok, Err, refl, sym, subst, ap, map}
+use Rattle.std.proofs.Common.{rules, ◌∙◌, ◌+◌, ◌*◌, Ok, Err, refl, sym, subst, ap}
 use Rattle.std.specs.Prelude.{IsSomeAnd}
 use Rattle.job_model.specs.declared.Weight.{Weight}
-use Rattle.zone_change.specs.Views.{operation_view}
+use Rattle.job_script.specs.Views.{asked_view}
 use Rattle.shared_index.specs.Passes.{known_at}
-use Rattle.zone_edit.specs.Blocks.{AppliesAll}
+use Rattle.zone_edit.specs.Blocks.{Executes}
 use Rattle.zone_edit.proofs.EditLaws.{is_there}
 use Rattle.job_threads.specs.Weights.{IsOfWeight}
 use Rattle.job_threads.proofs.ShowLaws.{seat_told}
@@ -18,38 +18,38 @@ edit-requires-clause-weight g c = subst (λ (w : Weight). IsSomeAnd c.update-upd
 
 pub commit-requires-clause-works : goal.commit-requires-clause-works
 commit-requires-clause-works g c =
-    after_works (known_at c.args.pass.now.seat) c.update-update.result.locked.now.draft c.update-update.ensures.begins c.args.origin.now (map operation_view c.args.block.now.operations.items) c.edit.new.transaction.locked.now.draft c.in_default.ensures.applies
+    after_works (known_at c.args.pass.now.seat) c.update-update.result.locked.now.draft c.update-update.ensures.begins c.args.origin.now (asked_view c.args.block.now) c.edit.new.transaction.locked.now.draft c.in_default.ensures.executes
 
 pub commit-requires-clause-lawful : goal.commit-requires-clause-lawful
 commit-requires-clause-lawful g c =
-    after_zone (known_at c.args.pass.now.seat) c.update-update.result.locked.now.draft c.update-update.ensures.begins c.args.origin.now (map operation_view c.args.block.now.operations.items) c.edit.new.transaction.locked.now.draft c.in_default.ensures.applies
+    after_zone (known_at c.args.pass.now.seat) c.update-update.result.locked.now.draft c.update-update.ensures.begins c.args.origin.now (asked_view c.args.block.now) c.edit.new.transaction.locked.now.draft c.in_default.ensures.executes
 
 pub returns-in-Commit-clause-ran : goal.returns-in-Commit-clause-ran
 returns-in-Commit-clause-ran g c = λ s setup.
     ran_as s _ _ _ (known_at c.commit.new.self.0.seat) _ _
-    (committed_ran s (map operation_view c.args.block.now.operations.items) c.args.block.now.ending (known_at c.args.pass.now.seat) c.committed.result c.update-update.result.locked.now.draft c.edit.new.transaction.locked.now.draft
+    (committed_ran s (asked_view c.args.block.now) c.args.block.now.ending (known_at c.args.pass.now.seat) c.committed.result c.update-update.result.locked.now.draft c.edit.new.transaction.locked.now.draft
     (seat_told c.args.pass.now.seat c.requires.here) setup.opening c.update-update.ensures.begins c.commit.new.self.0.seat c.commit.result
-    (edits_as c.args.origin.now s.origin (map operation_view c.args.block.now.operations.items) (map operation_view c.args.block.now.operations.items) (Ok tt) c.update-update.result.locked.now.draft c.edit.new.transaction.locked.now.draft setup.index.origin_is refl c.in_default.ensures.applies)
+    (edits_as c.args.origin.now s.origin (asked_view c.args.block.now) (asked_view c.args.block.now) (Ok tt) c.update-update.result.locked.now.draft c.edit.new.transaction.locked.now.draft setup.index.origin_is refl c.in_default.ensures.executes)
     c.in-Commit.is c.commit.ensures.commits c.commit.ensures.version c.commit.ensures.back c.commit.ensures.spent c.commit.ensures.last c.committed.ensures.made c.committed.ensures.spent)
     (search rules)
 
 pub returns-clause-ran : goal.returns-clause-ran
 returns-clause-ran g c = λ s setup.
     ran_as s _ _ _ (known_at c.rollback.new.self.0.seat) _ _
-    (rollback_ran s (map operation_view c.args.block.now.operations.items) c.args.block.now.ending (known_at c.args.pass.now.seat) _ c.update-update.result.locked.now.draft c.edit.new.transaction.locked.now.draft
+    (rollback_ran s (asked_view c.args.block.now) c.args.block.now.ending (known_at c.args.pass.now.seat) _ c.update-update.result.locked.now.draft c.edit.new.transaction.locked.now.draft
     (seat_told c.args.pass.now.seat c.requires.here) setup.opening c.update-update.ensures.begins c.rollback.new.self.0.seat c.version-version.result c.rollback.ensures.back c.version-version.ensures refl
-    (edits_as c.args.origin.now s.origin (map operation_view c.args.block.now.operations.items) (map operation_view c.args.block.now.operations.items) (Ok tt) c.update-update.result.locked.now.draft c.edit.new.transaction.locked.now.draft setup.index.origin_is refl c.in_default.ensures.applies) c.in-Rollback.is refl)
+    (edits_as c.args.origin.now s.origin (asked_view c.args.block.now) (asked_view c.args.block.now) (Ok tt) c.update-update.result.locked.now.draft c.edit.new.transaction.locked.now.draft setup.index.origin_is refl c.in_default.ensures.executes) c.in-Rollback.is refl)
     (search rules)
 
 pub kept-requires : goal.kept-requires
-kept-requires g c = is_there (AppliesAll c.args.origin.now (map operation_view c.args.block.now.operations.items) (Err c.in-Err.halt)) c.update-update.result.locked.now.draft c.edit.new.transaction.locked.now.draft c.in-Err.ensures.applies
+kept-requires g c = is_there (Executes c.args.origin.now (asked_view c.args.block.now) (Err c.in-Err.halt)) c.update-update.result.locked.now.draft c.edit.new.transaction.locked.now.draft c.in-Err.ensures.executes
 
 pub returns-in-Err-clause-ran : goal.returns-in-Err-clause-ran
 returns-in-Err-clause-ran g c = λ s setup.
     result_as s _ _ _ (known_at c.drop-update.new.self.0.seat) _ _
-    (stopped_ran s (map operation_view c.args.block.now.operations.items) c.args.block.now.ending (known_at c.args.pass.now.seat) c.update-update.result.locked.now.draft c.edit.new.transaction.locked.now.draft
+    (stopped_ran s (asked_view c.args.block.now) c.args.block.now.ending (known_at c.args.pass.now.seat) c.update-update.result.locked.now.draft c.edit.new.transaction.locked.now.draft
     (seat_told c.args.pass.now.seat c.requires.here) setup.opening c.update-update.ensures.begins c.drop-update.new.self.0.seat c.version-version.result c.in-Err.halt c.kept.result c.stopped.result c.kept.ensures c.drop-update.ensures.back c.version-version.ensures
-    (edits_as c.args.origin.now s.origin (map operation_view c.args.block.now.operations.items) (map operation_view c.args.block.now.operations.items) (Err c.in-Err.halt) c.update-update.result.locked.now.draft c.edit.new.transaction.locked.now.draft setup.index.origin_is refl c.in-Err.ensures.applies)
+    (edits_as c.args.origin.now s.origin (asked_view c.args.block.now) (asked_view c.args.block.now) (Err c.in-Err.halt) c.update-update.result.locked.now.draft c.edit.new.transaction.locked.now.draft setup.index.origin_is refl c.in-Err.ensures.executes)
     (full_chunks g.N.Named.tables c.args.index.now.place c.edit.new.transaction.locked.now.place s.chunks c.args.index.now.shared.table.shared.table_id c.edit.new.transaction.locked.now.shared.now.table.shared.table_id c.edit.new.transaction.locked.now.draft
     c.args.index.now.here c.edit.new.transaction.locked.now.named (c.edit.ensures.place ∙ c.update-update.ensures.place) (ap (λ n. 4161 + 2048 * n) setup.index.chunks ∙ c.args.index.now.shared.wide) c.edit.new.transaction.locked.now.here)
     (has_passes s _ _ setup.index.passes c.update-update.ensures.passes) c.stopped.ensures.stopped)

@@ -1,8 +1,8 @@
-use Rattle.std.proofs.Common.{◌≡◌, sym, subst, map}
+use Rattle.std.proofs.Common.{◌≡◌, sym, subst}
 use Rattle.std.specs.Option.{option_map}
 use Rattle.job_model.specs.Commands.{AskHeld}
 use Rattle.job_script.specs.Views.{command_view, question_view}
-use Rattle.zone_change.specs.Views.{operation_view}
+use Rattle.job_script.specs.Views.{asked_view}
 use Rattle.job_script.specs.declared.commands.Command.{Command}
 use Rattle.job_script.specs.declared.outcomes.Outcome.{Outcome}
 use Rattle.shared_index.specs.Passes.{known_at}
@@ -46,4 +46,4 @@ pub returns-in_ok-outcome-in-Block-clause-steps : goal.returns-in_ok-outcome-in-
 returns-in_ok-outcome-in-Block-clause-steps g c = λ s setup under.
     step_is s c.in_ok-outcome-in-Block.outcome _ _ c.args.command.now _ c.in-Block.is
     (block_done s c.in_ok-outcome-in-Block.outcome c.args.passes.now.asks.seat c.requires.here setup.opening (option_map (λ p. p.seat) c.args.passes.now.spare) (option_map (λ h. h.seat) c.args.passes.now.held) c.requires.placed under c.run_block.new.pass.seat
-    c.in-Block.block.weight (map operation_view c.in-Block.block.operations.items) c.in-Block.block.ending c.in_ok-outcome-in-Block.ensures.ends (c.in_ok-outcome-in-Block.ensures.ran s setup))
+    c.in-Block.block.weight (asked_view c.in-Block.block) c.in-Block.block.ending c.in_ok-outcome-in-Block.ensures.ends (c.in_ok-outcome-in-Block.ensures.ran s setup))

@@ -1,7 +1,6 @@
-use Rattle.std.proofs.Common.{◌+◌, ◌≤◌, List, [], length, take, drop, map, sym, ap, subst, arith}
+use Rattle.std.proofs.Common.{◌≤◌, List, [], length, take, map, sym, ap, subst, arith}
 use Rattle.std.proofs.lemmas.List.{take_all}
 use Rattle.std.specs.Option.{option_map, is_some}
-use Rattle.job_model.specs.Commands.{InTurn}
 use Rattle.job_script.specs.Views.{command_view}
 use Rattle.job_script.specs.declared.outcomes.Outcome.{Outcome}
 use Rattle.shared_index.specs.Passes.{known_at}

@@ -16,5 +16,5 @@ loop-at-preserved g c =
     record {
       within = search rules;
       grown = Grows-more _ _ _ c.args.bytes.now c.loop-at.at c.in_ok-at.field-0 c.loop-at.invariant.grown c.in_ok-at.ensures.bound c.in_ok-at.ensures.ok;
-      later = search rules;
+      quiet = search rules;
     }

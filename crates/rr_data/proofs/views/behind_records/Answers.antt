@@ -13,4 +13,4 @@ first_record-requires c =
 pub loop-preserved : goal.loop-preserved
 loop-preserved c records more h =
     fewer_left (c.args.count - c.loop.counter) (c.args.count - (c.loop.counter + 1)) c.loop.rest.now c.first_record.result.1.now more (c.loop.invariant records more h) (omega arith)
-    (λ octets rest b. (c.first_record.ensures octets rest b).1)
+    (λ octets rest b. (c.first_record.ensures.split octets rest b).1)

@@ -1,12 +1,12 @@
 use Rattle.zone_model.specs.Names.{Name}
 use Rattle.std.proofs.Common.{◌≡◌, ◌∙◌, ℕ, ◌+◌, ◌≤◌, length, List, map, take, drop, Ok, Err, refl, ap, sym, subst, arith}
 use Rattle.std.proofs.lemmas.List.{length-map, length-take-le, take_all}
-use Rattle.zone_model.specs.Versions.{Version, Operation, whole}
+use Rattle.zone_model.specs.Versions.{Version, Operation, all_applied}
 use Rattle.zone_model.specs.declared.Refusal.{Refusal}
 use Rattle.zone_change.specs.Views.{operation_view}
 use Rattle.zone_change.specs.declared.operations.Operation.{Operation as Said}
 use Rattle.shared_index.specs.declared.desk.Draft.{Draft}
-use Rattle.zone_edit.proofs.ApplyLaws.{next_whole, refused_whole, up_to, all_around}
+use Rattle.zone_edit.proofs.ApplyLaws.{next_applied, refused_applied, up_to, all_around}
 use Rattle.zone_edit.specs.Stores.{WorksOn, WorksOnSome, Edits}
 use Rattle.zone_edit.specs.Blocks.{Applies, AppliesAll}
 use Rattle.zone_edit.specs.declared.applying.Stopped.{Stopped}
@@ -16,7 +16,7 @@ use Rattle.zone_edit.proofs.applying.apply_all.Goals as goal
 
 -- the first so many operations made a version
 abbrev SoFar : Name → List Said → ℕ → Version → Draft → Type 0
-SoFar origin operations i version new = (now : Version) × (whole origin (map operation_view (take i operations)) version ≡ Ok now) × WorksOn new now
+SoFar origin operations i version new = (now : Version) × (all_applied origin (map operation_view (take i operations)) version ≡ Ok now) × WorksOn new now
 
 pub loop-index-init : goal.loop-index-init
 loop-index-init g c = record {
@@ -43,7 +43,7 @@ loop-index-preserved g c =
             x.2,
             λ y. (
               y.0,
-              ap (λ (l : List Operation). whole c.args.origin.now l version) further ∙ next_whole c.args.origin.now (map operation_view (take c.loop-index.index c.args.operations.now)) (operation_view c.index-operations-index.result) version x.0 y.0 x.1 y.1,
+              ap (λ (l : List Operation). all_applied c.args.origin.now l version) further ∙ next_applied c.args.origin.now (map operation_view (take c.loop-index.index c.args.operations.now)) (operation_view c.index-operations-index.result) version x.0 y.0 x.1 y.1,
               y.2,
             ),
           )) c.loop-index.invariant.so_far c.in-Ok.ensures.applies;
@@ -65,8 +65,8 @@ returns-in-Err-Refused-clause-applies g c =
       x.2,
       λ y.
           let step = subst (λ (s : Stopped). Applies c.args.origin.now (operation_view c.index-operations-index.result) (Err s) x.0 f) c.in-Err-Refused.field-0-is y in
-          ap (λ (l : List Operation). whole c.args.origin.now l version) all
-          ∙ refused_whole c.args.origin.now (map operation_view (take c.loop-index.index c.args.operations.now)) (map operation_view (drop (c.loop-index.index + 1) c.args.operations.now)) (operation_view c.index-operations-index.result) version x.0 c.in-Err-Refused.refusal x.1 step,
+          ap (λ (l : List Operation). all_applied c.args.origin.now l version) all
+          ∙ refused_applied c.args.origin.now (map operation_view (take c.loop-index.index c.args.operations.now)) (map operation_view (drop (c.loop-index.index + 1) c.args.operations.now)) (operation_view c.index-operations-index.result) version x.0 c.in-Err-Refused.refusal x.1 step,
     ))
     c.loop-index.invariant.so_far c.in-Err-Refused.ensures.applies)
 
@@ -102,4 +102,4 @@ pub returns-clause-applies : goal.returns-clause-applies
 returns-clause-applies g c =
     let past : length c.args.operations.now ≤ c.loop-index.index = omega (arith, c.loop-index-test.false) in
     edits_as (SoFar c.args.origin.now c.args.operations.now c.loop-index.index) (AppliesAll c.args.origin.now (map operation_view c.args.operations.now) (Ok tt)) c.args.transaction.now.locked.now.draft c.loop-index.transaction.locked.now.draft
-    (λ version e x. (x.0, ap (λ (l : List Said). whole c.args.origin.now (map operation_view l) version) (sym (take_all c.loop-index.index c.args.operations.now past)) ∙ x.1, x.2)) c.loop-index.invariant.so_far
+    (λ version e x. (x.0, ap (λ (l : List Said). all_applied c.args.origin.now (map operation_view l) version) (sym (take_all c.loop-index.index c.args.operations.now past)) ∙ x.1, x.2)) c.loop-index.invariant.so_far

@@ -3,7 +3,7 @@ use Rattle.shared_index.specs.Drafts.{Works}
 use Rattle.zone_query.proofs.HeldLaws.{fetched, not_fetched}
 use Rattle.zone_edit.specs.Stores.{WorksOnSome}
 use Rattle.zone_edit.proofs.EditLaws.{some_weaker, read_as, read_within}
-use Rattle.zone_edit.proofs.applying.read_owned.Goals as goal
+use Rattle.zone_edit.proofs.reading.read_owned.Goals as goal
 
 pub fetch-requires : goal.fetch-requires
 fetch-requires g c = some_weaker WorksOnSome Works c.args.transaction.now.locked.now.draft (λ d w. w.on.works) c.requires.works

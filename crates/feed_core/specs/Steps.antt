@@ -1,0 +1,44 @@
+-- What each step on the queue tells its seat.
+use Rattle.std.specs.Prelude.{◌≡◌, ℕ, ◌+◌, ◌<◌, ◌≤◌, ◌==◌, List, length, false, All, MatchBool}
+use Rattle.feed_core.specs.declared.knowledge.TheConstants.{END}
+use Rattle.feed_core.specs.declared.knowledge.Knowledge.{Knowledge}
+use Rattle.feed_core.specs.Knowledge.{with_put, with_taken, ended}
+use Rattle.feed_core.specs.Rule.{times, once_below}
+
+-- who has all parts has taken each number below the next one, once, and no other
+abbrev pub KnowsAll : Knowledge → ℕ → Type 0
+KnowsAll v next = v.parts ≡ v.whole → (number : ℕ) → times number v.taken ≡ once_below next number
+
+-- The seat took a number.
+pub record TakesNumber (v : Knowledge) (number : ℕ) (w : Knowledge) : Type 0 where
+  pub after : w ≡ with_taken v number
+  -- all that the seat took before is below it
+  pub above : All (λ before. (0 < before) × (before < number)) v.taken
+  pub within : (0 < number) × (number ≤ v.put)
+  pub not_done : v.done ≡ false
+  pub all : KnowsAll v number
+
+-- The seat took an end mark, so no number is left.
+pub record TakesMark (v w : Knowledge) : Type 0 where
+  pub after : w ≡ ended v
+  pub all : KnowsAll v (v.put + 1)
+
+-- a pop
+abbrev pub takes : Knowledge → ℕ → Knowledge → Type 0
+takes v item w = MatchBool (item == END) (TakesMark v w) (TakesNumber v item w)
+
+-- a push of the next number
+abbrev pub puts_number : Knowledge → ℕ → Knowledge → Type 0
+puts_number v number w = w ≡ with_put v
+
+-- a queue that would be full, while numbers are put: it holds all that were put, and nothing else
+abbrev pub holds_all : Knowledge → List ℕ → Type 0
+holds_all v items = length items ≡ v.put
+
+-- a push of an end mark
+abbrev pub puts_mark : Knowledge → ℕ → Knowledge → Type 0
+puts_mark v mark w = w ≡ v
+
+-- A queue that was found empty, or full, tells nothing that lasts.
+abbrev pub learns_nothing : Knowledge → List ℕ → Type 0
+learns_nothing v items = Unit {0}

@@ -1,0 +1,92 @@
+//! A seat of a feed: how it takes numbers.
+ghost use Rattle.std.specs.Prelude.{◌≡◌, ◌<◌, [], ◌∷◌, IfSome, IfNone, MatchOption, true, false};
+ghost use Rattle.crossbeam_queue.specs.Passes.{view, IsPassOf, IsSamePass};
+ghost use Rattle.feed_core.specs.Knowledge.{giver_of};
+ghost use Rattle.feed_core.specs.Steps.{TakesNumber, TakesMark};
+ghost use Rattle.feed_core.specs.Feeds.{feed_of, new_seat, TakesNext, remaining, IsGathered};
+
+use crate::feed::Feed;
+use crate::knowledge::{Deal, END, NumberPass, NumberQueue, PutMark, Take};
+use std::marker::Model;
+use std::sync::Wait;
+
+/// A seat of a feed, for one thread at a time. It has no bytes.
+///
+/// Contracts see of which feed it is, what it took, and whether it was told that no number is left.
+#[derive(Drop)]
+pub struct FeedSeat {
+    pass: NumberPass,
+}
+
+impl Model for FeedSeat {
+    ghost use Rattle.feed_core.specs.Feeds.{Takings, takings_of, IsSeated};
+
+    ghost Value = { Takings };
+
+    ghost view = { λ s. takings_of s.pass };
+
+    ghost invariant = { λ s. IsSeated s.pass };
+}
+
+impl FeedSeat {
+    /// A new seat, by one of the parts that this pass has.
+    pub(crate) fn dealt(queue: &NumberQueue, pass: &mut NumberPass) -> FeedSeat
+        requires queue { IsPassOf queue.now pass.old }
+        requires part { (0 < (view pass.old).parts) × ((view pass.old).taken ≡ []) × ((view pass.old).done ≡ false) }
+        ensures queue { IsSamePass pass.old pass.new }
+        ensures rest { view pass.new ≡ giver_of (view pass.old) }
+        ensures seat { result ≡ new_seat (feed_of pass.old) }
+    {
+        FeedSeat {
+            pass: queue.another::<Deal>(pass),
+        }
+    }
+
+    /// The seat's part, to be gathered with those of others.
+    pub(crate) fn into_pass(self) -> NumberPass
+        ensures { IsGathered self.feed (self ∷ []) result }
+    {
+        let FeedSeat { pass } = self;
+        pass
+    }
+
+    /// The next number. None where no number is left, for any seat, now and from then on.
+    pub fn take<R: Wait>(&mut self, rt: &R, feed: &Feed) -> Option<u32>
+        requires { self.old.feed ≡ feed.now }
+        ensures some { IfSome result (λ number. TakesNext self.old number self.new) }
+        ensures none { IfNone result (self.new ≡ record self.old { done = true }) }
+
+        // A measure of loops that take until there is none.
+        ensures fewer { IfSome result (λ _. remaining self.new < remaining self.old) }
+    {
+        next_number(rt, &feed.queue, &mut self.pass)
+    }
+}
+
+/// The next number; none where the seat took an end mark.
+///
+/// Who finds the queue empty knows it for that moment alone. So it puts an end mark behind all numbers, and tries again: who
+/// takes an end mark knows that no number is left.
+pub(crate) fn next_number<R: Wait>(
+    rt: &R,
+    queue: &NumberQueue,
+    pass: &mut NumberPass,
+) -> Option<u32>
+    requires queue { IsPassOf queue.now pass.old }
+    requires part { (0 < (view pass.old).parts) × ((view pass.old).fills ≡ false) }
+    ensures queue { IsSamePass pass.old pass.new }
+    ensures taken { MatchOption result (TakesMark (view pass.old) (view pass.new)) (λ number. TakesNumber (view pass.old) number (view pass.new)) }
+{
+    for _ in rt.forever() {
+        match queue.pop_as::<Take, R>(rt, pass) {
+            Some(END) => return None,
+            Some(number) => return Some(number),
+            None => {
+                // A full queue has one.
+                let _ = queue.push_as::<PutMark, R>(rt, pass, END);
+            }
+        }
+    }
+    // The loop has no end but its returns.
+    unreachable!()
+}

@@ -1,0 +1,37 @@
+//! A transaction's changes.
+
+ghost use Rattle.std.specs.Prelude.{◌≡◌, IsSomeAnd, map};
+ghost use Rattle.zone_change.specs.Views.{operation_view, prerequisite_view};
+ghost use Rattle.zone_edit.specs.Stores.{WorksOnSome, Edits};
+ghost use Rattle.zone_edit.specs.Blocks.{Executes};
+
+use crate::applying::{Halt, apply_all};
+use crate::buffers::ItemBuffers;
+use crate::prerequisites::meets_all;
+use dns_name::Name;
+use shared_index::{Law, Named, Transaction};
+use std::alloc::Global;
+use zone_change::{Operation, Prerequisite};
+use zone_model::Refusal;
+
+/// Makes a transaction's changes in the working set: none where that doesn't meet the prerequisites, and else those of the operations
+/// in order, up to the first that is refused, by way of buffers for items.
+pub fn execute<L: Law, N: Named, K>(
+    alloc: Global,
+    origin: &Name,
+    transaction: &mut Transaction<'_, '_, L, N, K>,
+    prerequisites: &[Prerequisite],
+    operations: &[Operation],
+    buffers: &mut ItemBuffers,
+) -> Result<(), Halt>
+    requires { IsSomeAnd transaction.old.locked.now.draft WorksOnSome }
+    ensures same_reference { (transaction.new.home.ghost_name ≡ transaction.old.home.ghost_name) × (transaction.new.locked.ghost_name ≡ transaction.old.locked.ghost_name) }
+    ensures place { transaction.new.locked.now.place ≡ transaction.old.locked.now.place }
+    ensures executes { Edits (Executes origin.now (record { needs = map prerequisite_view prerequisites.now; operations = map operation_view operations.now }) result)
+        transaction.old.locked.now.draft transaction.new.locked.now.draft }
+{
+    if !meets_all(transaction, prerequisites, &mut buffers.before) {
+        return Err(Halt::Refused(Refusal::Prereq));
+    }
+    apply_all(alloc, origin, transaction, operations, buffers)
+}

@@ -1,0 +1,49 @@
+//! What a transaction wants of its working set before it changes anything.
+
+ghost use Rattle.std.specs.Prelude.{◌≡◌, IsSomeAnd, map};
+ghost use Rattle.zone_change.specs.Views.{prerequisite_view};
+ghost use Rattle.zone_edit.specs.Stores.{WorksOnSome, Edits};
+ghost use Rattle.zone_edit.specs.Blocks.{Meets, MeetsAll};
+
+use crate::reading::read_owned;
+use rr_data::ItemView;
+use shared_index::{Law, Named, Transaction};
+use shift_key::Key;
+use zone_change::Prerequisite;
+
+/// Whether the working set meets a prerequisite. The owner's item is looked at where it lies in a buffer.
+fn meets<L: Law, N: Named, K>(
+    transaction: &mut Transaction<'_, '_, L, N, K>,
+    prerequisite: &Prerequisite,
+    item: &mut [u8; 4096],
+) -> bool
+    requires { IsSomeAnd transaction.old.locked.now.draft WorksOnSome }
+    ensures same_reference { (transaction.new.home.ghost_name ≡ transaction.old.home.ghost_name) × (transaction.new.locked.ghost_name ≡ transaction.old.locked.ghost_name) }
+    ensures place { transaction.new.locked.now.place ≡ transaction.old.locked.now.place }
+    ensures meets { Edits (Meets (prerequisite_view prerequisite.now) result) transaction.old.locked.now.draft transaction.new.locked.now.draft }
+{
+    let owner = &prerequisite.owner;
+    let key = Key::of(owner);
+    let len = read_owned(transaction, owner, &key, item);
+    let entry = ItemView::of(owner, &item[..len]);
+    prerequisite.is_met_by(&entry)
+}
+
+/// Whether the working set meets all prerequisites.
+pub(crate) fn meets_all<L: Law, N: Named, K>(
+    transaction: &mut Transaction<'_, '_, L, N, K>,
+    prerequisites: &[Prerequisite],
+    item: &mut [u8; 4096],
+) -> bool
+    requires { IsSomeAnd transaction.old.locked.now.draft WorksOnSome }
+    ensures same_reference { (transaction.new.home.ghost_name ≡ transaction.old.home.ghost_name) × (transaction.new.locked.ghost_name ≡ transaction.old.locked.ghost_name) }
+    ensures place { transaction.new.locked.now.place ≡ transaction.old.locked.now.place }
+    ensures meets { Edits (MeetsAll (map prerequisite_view prerequisites.now) result) transaction.old.locked.now.draft transaction.new.locked.now.draft }
+{
+    for prerequisite in prerequisites {
+        if !meets(transaction, prerequisite, item) {
+            return false;
+        }
+    }
+    true
+}

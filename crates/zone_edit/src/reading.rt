@@ -1,0 +1,30 @@
+//! What a name owns in a transaction's working set.
+
+ghost use Rattle.std.specs.Prelude.{◌≡◌, ◌≤◌, IsSomeAnd};
+ghost use Rattle.zone_model.specs.Keys.{key_of};
+ghost use Rattle.zone_edit.specs.Stores.{WorksOnSome, Reads, Edits};
+
+use dns_name::Name;
+use shared_index::{Law, Named, Transaction};
+use shift_key::Key;
+
+/// Reads the item of a name into the beginning of a buffer, and gives its length: 0 where the name owns nothing.
+pub(crate) fn read_owned<L: Law, N: Named, K>(
+    transaction: &mut Transaction<'_, '_, L, N, K>,
+    name: &Name,
+    key: &Key,
+    item: &mut [u8; 4096],
+) -> usize
+    requires works { IsSomeAnd transaction.old.locked.now.draft WorksOnSome }
+    requires key { key.now ≡ key_of name.now }
+    ensures same_reference { (transaction.new.home.ghost_name ≡ transaction.old.home.ghost_name) × (transaction.new.locked.ghost_name ≡ transaction.old.locked.ghost_name) }
+    ensures place { transaction.new.locked.now.place ≡ transaction.old.locked.now.place }
+    ensures within { result ≤ 4096 }
+    ensures read { Edits (Reads name.now item.new result) transaction.old.locked.now.draft transaction.new.locked.now.draft }
+{
+    let _wire = name.wire(); // for the proof
+    match transaction.fetch(key, item) {
+        Some(len) => len,
+        None => 0,
+    }
+}
