@@ -1,13 +1,15 @@
 -- What is read from a printed name is that name.
-use Rattle.std.proofs.Common.{◌≡◌, ℕ, ◌+◌, ◌/◌, ◌%◌, ◌<◌, ◌≤◌, Bool, true, false, List, [], ◌∷◌, ◌++◌, length, drop, sym, ap, ◌∙◌, refl, arith, append_assoc, append-nil, length-append, Ok, Option, Some, eqb, ltb, ◌&&◌}
+use Rattle.std.proofs.Common.{◌≡◌, ℕ, ◌+◌, ◌-◌, ◌/◌, ◌%◌, ◌<◌, ◌≤◌, Bool, true, false, List, [], ◌∷◌, ◌++◌, length, take, drop, get_or, sym, ap, subst, ◌∙◌, refl, arith, append_assoc, append-nil, length-append, Ok, Option, Some, eqb, ltb, ◌&&◌, if◌then◌else◌}
 use Rattle.std.proofs.lemmas.Bool.Decides.{nat_tests}
 use Rattle.std.specs.List.{AllByRecursion, flat_map}
 use Rattle.std.specs.Char.{to_ascii_lowercase, is_ascii_digit}
-use Rattle.zone_model.specs.Names.{IsName, IsLabel, IsFolded}
+use Rattle.std.proofs.lemmas.List.{take_at}
+use Rattle.zone_model.specs.Names.{IsName, IsLabel, IsFolded, is_under}
 use Rattle.zone_model.specs.Escapes.{escaped_octet, escape_len, number_of_three}
-use Rattle.zone_model.specs.NameText.{Piece, Octet, escape_piece, taken, pieces_from, labels_from, onto, completed, name_of, is_special, octet_text, three_digits, label_text, text_of}
+use Rattle.zone_model.specs.NameText.{Piece, Octet, escape_piece, taken, pieces_from, labels_from, onto, completed, name_of, is_special, octet_text, three_digits, label_text, text_of, labels_text, front_text, relative_text}
+use Rattle.zone_model.proofs.OrderLemmas.{under_ends}
 use Rattle.dns_name.proofs.PieceLemmas.{pieces-cons, pieces-skip, piece_of-plain, taken-plain}
-use Rattle.dns_name.proofs.TextLemmas.{from-dot, from-octet, from-end_dot}
+use Rattle.dns_name.proofs.TextLemmas.{from-dot, from-octet, from-end_dot, from-end}
 use Rattle.dns_name.proofs.LabelLemmas.{fitting-fits, name_of-other}
 
 -- the digits of an octet say it
@@ -146,3 +148,70 @@ name_of-text_of (l ∷ ls) origin h =
     let long : 1 < length (flat_map label_text (l ∷ ls)) = omega (arith, label_text-long l h.each.0.some, length-append (label_text l) (flat_map label_text ls)) in
     sym (name_of-other (flat_map label_text (l ∷ ls)) origin (λ e. omega arith) (λ e. absurd (omega arith)) (λ e. absurd (omega arith)))
     ∙ ap (completed origin) (read_texts (l ∷ ls) 0 h.each) ∙ fitting-fits (l ∷ ls) h.short
+
+-- ---- a name printed relative to an origin is read as that name under it
+
+-- a text begins with a printed octet
+pub record BeginsWithOctet (text : List ℕ) : Type 0 where
+  pub octet : ℕ
+  pub more : List ℕ
+  pub is : text ≡ octet_text octet ++ more
+
+pub labels_begin : (label : List ℕ) (labels : List (List ℕ)) → 0 < length label → BeginsWithOctet (labels_text (label ∷ labels))
+labels_begin [] labels h = absurd (omega arith)
+labels_begin (c ∷ cs) [] h = record { octet = c; more = flat_map octet_text cs; is = refl }
+labels_begin (c ∷ cs) (next ∷ labels) h =
+    record { octet = c; more = flat_map octet_text cs ++ 46 ∷ labels_text (next ∷ labels); is = append_assoc (octet_text c) (flat_map octet_text cs) (46 ∷ labels_text (next ∷ labels)) }
+
+-- a special octet but the backslash isn't the first one
+octet_first : (c x : ℕ) (more : List ℕ) → is_special x ≡ true → (x ≡ 92 → ⊥) → get_or (octet_text c ++ more) 0 0 ≡ x → ⊥
+octet_first c x more special slash = go (is_special c) (ltb 32 c && ltb c 127) refl refl
+  where
+    go : (s p : Bool) → is_special c ≡ s → (ltb 32 c && ltb c 127) ≡ p → get_or (octet_text c ++ more) 0 0 ≡ x → ⊥
+    go true p es ep = rw es (λ e. slash (sym e))
+    go false true es ep = rw (es, ep) (λ e. let k : is_special x ≡ false = ap is_special (sym e) ∙ es in cc)
+    go false false es ep = rw (es, ep) (λ e. slash (sym e))
+
+text_first : (text : List ℕ) (x : ℕ) → BeginsWithOctet text → is_special x ≡ true → (x ≡ 92 → ⊥) → get_or text 0 0 ≡ x → ⊥
+text_first text x b special slash e = octet_first b.octet x b.more special slash (ap (λ (l : List ℕ). get_or l 0 0) (sym b.is) ∙ e)
+
+pub text_some : (text : List ℕ) → BeginsWithOctet text → 0 < length text
+text_some text b = omega (arith, octet_text-some b.octet, ap length b.is, length-append (octet_text b.octet) b.more)
+
+no_pieces : (at : ℕ) → pieces_from 0 at [] ≡ []
+unfolding pieces_from
+no_pieces at = refl
+
+read_front : (label : List ℕ) (labels : List (List ℕ)) (at : ℕ) → AllByRecursion IsLabel (label ∷ labels) → labels_from [] (pieces_from 0 at (labels_text (label ∷ labels))) ≡ Ok (label ∷ labels, false)
+unfolding onto
+read_front label [] at h =
+    let r = read_octets label [] at [] (omega (arith, h.0.short)) h.0.octets h.0.folded in
+    ap (λ (l : List ℕ). labels_from [] (pieces_from 0 at l)) (sym (append-nil (flat_map octet_text label))) ∙ r.is ∙ ap (labels_from label) (no_pieces r.next) ∙ from-end label h.0.some
+read_front label (next ∷ labels) at h =
+    let r = read_label label at (labels_text (next ∷ labels)) h.0 in
+    ap (λ (l : List ℕ). labels_from [] (pieces_from 0 at l)) (sym (append_assoc (flat_map octet_text label) (46 ∷ []) (labels_text (next ∷ labels))))
+    ∙ r.is ∙ ap (onto (label ∷ [])) (read_front next labels r.next h.1)
+
+each_in_front : (front origin : List (List ℕ)) → AllByRecursion IsLabel (front ++ origin) → AllByRecursion IsLabel front
+each_in_front [] origin h = tt
+each_in_front (l ∷ ls) origin h = (h.0, each_in_front ls origin h.1)
+
+front_back : (front origin : List (List ℕ)) → IsName (front ++ origin) → name_of (front_text front) origin ≡ Ok (front ++ origin)
+unfolding name_of completed
+front_back [] origin h = refl
+front_back (l ∷ ls) origin h =
+    let b = labels_begin l ls h.each.0.some in
+    let some : 0 < length (labels_text (l ∷ ls)) = text_some (labels_text (l ∷ ls)) b in
+    sym (name_of-other (labels_text (l ∷ ls)) origin (λ e. omega arith) (λ e. text_first (labels_text (l ∷ ls)) 64 b refl (λ k. omega arith)) (λ e. text_first (labels_text (l ∷ ls)) 46 b refl (λ k. omega arith)))
+    ∙ ap (completed origin) (read_front l ls 0 (each_in_front (l ∷ ls) origin h.each)) ∙ fitting-fits ((l ∷ ls) ++ origin) h.short
+
+pub name_of-relative_text : (name origin : List (List ℕ)) → IsName name → name_of (relative_text origin name) origin ≡ Ok name
+name_of-relative_text name origin h = by_under (is_under name origin) refl
+  where
+    by_under : (u : Bool) → is_under name origin ≡ u → name_of (if u then front_text (take (length name - length origin) name) else text_of name) origin ≡ Ok name
+    by_under false e = name_of-text_of name origin h
+    by_under true e =
+        let f = under_ends name origin e in
+        let len : length name - length origin ≡ length f.0 = omega (arith, ap length f.1, length-append f.0 origin) in
+        let front : take (length name - length origin) name ≡ f.0 = ap (λ (k : ℕ). take k name) len ∙ ap (λ (l : List (List ℕ)). take (length f.0) l) f.1 ∙ take_at f.0 origin (length f.0) refl in
+        ap (λ (l : List (List ℕ)). name_of (front_text l) origin) front ∙ front_back f.0 origin (subst IsName f.1 h) ∙ ap (λ (l : List (List ℕ)). Ok l) (sym f.1)

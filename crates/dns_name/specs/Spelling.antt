@@ -37,3 +37,13 @@ BeginsWithLabel bytes label = (behind : List ℕ) × (bytes ≡ length label ∷
 -- a label is in front, which takes n bytes with its length
 abbrev pub HasLabelOf : List ℕ → ℕ → Type 0
 HasLabelOf bytes n = (label : List ℕ) × IsLabel label × BeginsWithLabel bytes label × (n ≡ length label + 1)
+
+-- labels stand in front of the last octets, which are a name's wire form
+pub record SpellsInFront (bytes : List ℕ) (last : ℕ) (front : List (List ℕ)) : Type 0 where
+  pub back : List (List ℕ)
+  pub spells : Spells bytes (front ++ back)
+  pub counted : last ≡ length (wire back)
+
+-- some labels do
+abbrev pub HasFront : List ℕ → ℕ → Type 0
+HasFront bytes last = (front : List (List ℕ)) × SpellsInFront bytes last front

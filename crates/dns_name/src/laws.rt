@@ -3,13 +3,21 @@ ghost use Rattle.std.specs.Prelude.{◌≡◌, ℕ, List, Ok};
 ghost use Rattle.std.specs.Cmp.{IsTotalOrder};
 ghost use Rattle.std.specs.declared.cmp.Ordering.{Ordering};
 ghost use Rattle.zone_model.specs.Names.{Name as Labels, IsName, name_cmp, BeginsWith};
-ghost use Rattle.zone_model.specs.NameText.{name_of, text_of};
+ghost use Rattle.zone_model.specs.NameText.{name_of, text_of, relative_text};
 
 use crate::Name;
 
 /// What is read from a printed name is that name, whatever the origin.
 pub fn printed_names_read_back(name: &Name, origin: &Name)
     ensures { name_of (text_of name.now) origin.now ≡ Ok name.now }
+{
+    let _ = name.wire();
+    let _ = origin;
+}
+
+/// What is read under an origin from a name that was printed relative to it is that name.
+pub fn relative_names_read_back(name: &Name, origin: &Name)
+    ensures { name_of (relative_text origin.now name.now) origin.now ≡ Ok name.now }
 {
     let _ = name.wire();
     let _ = origin;

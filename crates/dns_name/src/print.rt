@@ -2,8 +2,9 @@
 ghost use Rattle.std.specs.Prelude.{◌≡◌, ◌<◌, ◌≤◌, ◌+◌, ◌++◌, ◌∷◌, [], ℕ, List, length, OnOk, OnErr};
 ghost use Rattle.std.specs.Io.{StartsWith};
 ghost use Rattle.zone_model.specs.Names.{Name as Labels};
-ghost use Rattle.zone_model.specs.NameText.{octet_text, label_text, text_of};
-ghost use Rattle.dns_name.specs.Spelling.{Spells, IsSpelled};
+ghost use Rattle.std.specs.Option.{option_copied};
+ghost use Rattle.zone_model.specs.NameText.{octet_text, label_text, text_of, front_text, name_text};
+ghost use Rattle.dns_name.specs.Spelling.{Spells, IsSpelled, SpellsInFront, HasFront};
 ghost use Rattle.dns_name.specs.Plain.{is_plain};
 ghost use Rattle.std.specs.List.{flat_map, list_all};
 
@@ -81,20 +82,25 @@ fn push_label(out: &mut Vec<u8>, label: &[u8]) -> Result<(), AllocError>
     Ok(())
 }
 
-fn push_labels(out: &mut Vec<u8>, bytes: &[u8]) -> Result<(), AllocError>
-    requires { IsSpelled bytes.now }
-    ensures ok { OnOk result ((labels : Labels) → Spells bytes.now labels → out.new.items ≡ out.old.items ++ flat_map label_text labels) }
+// The labels in front of the last octets, each with a dot behind it.
+fn push_labels(out: &mut Vec<u8>, bytes: &[u8], last: usize) -> Result<(), AllocError>
+    requires { HasFront bytes.now last }
+    ensures ok { OnOk result ((front : Labels) → SpellsInFront bytes.now last front → out.new.items ≡ out.old.items ++ flat_map label_text front) }
     ensures kept { StartsWith out.new.items out.old.items }
 {
     let mut rest = bytes;
-    while let Some((label, after)) = first(rest) {
+    while rest.len() > last {
+        let Some((label, after)) = first(rest) else {
+            return Ok(());
+        };
         push_label(out, label)?;
         rest = after;
     }
     Ok(())
 }
 
-fn push_all(out: &mut Vec<u8>, bytes: &[u8]) -> Result<(), AllocError>
+// All labels; a dot for the root.
+fn push_absolute(out: &mut Vec<u8>, bytes: &[u8]) -> Result<(), AllocError>
     requires { IsSpelled bytes.now }
     ensures ok { OnOk result ((labels : Labels) → Spells bytes.now labels → out.new.items ≡ out.old.items ++ text_of labels) }
     ensures kept { StartsWith out.new.items out.old.items }
@@ -103,7 +109,34 @@ fn push_all(out: &mut Vec<u8>, bytes: &[u8]) -> Result<(), AllocError>
         out.push(b'.')?;
         return Ok(());
     }
-    push_labels(out, bytes)
+    push_labels(out, bytes, 1)
+}
+
+// The labels in front of an origin's octets, with dots between them; `@` where there are none.
+fn push_front(out: &mut Vec<u8>, bytes: &[u8], last: usize) -> Result<(), AllocError>
+    requires { HasFront bytes.now last }
+    ensures ok { OnOk result ((front : Labels) → SpellsInFront bytes.now last front → out.new.items ≡ out.old.items ++ front_text front) }
+    ensures kept { StartsWith out.new.items out.old.items }
+{
+    if bytes.len() == last {
+        out.push(b'@')?;
+        return Ok(());
+    }
+    push_labels(out, bytes, last)?;
+    let _dot = out.pop();
+    Ok(())
+}
+
+fn push_name(out: &mut Vec<u8>, name: &Name, origin: Option<&Name>) -> Result<(), AllocError>
+    ensures ok { OnOk result (out.new.items ≡ out.old.items ++ name_text (option_copied origin.entry) name.now) }
+    ensures kept { StartsWith out.new.items out.old.items }
+{
+    match origin {
+        Some(origin) if name.is_under(origin) => {
+            push_front(out, name.wire(), origin.wire().len())
+        }
+        _ => push_absolute(out, name.wire()),
+    }
 }
 
 impl Name {
@@ -114,8 +147,17 @@ impl Name {
         ensures ok { OnOk result (out.new.items ≡ out.old.items ++ text_of self.now) }
         ensures err { OnErr result (out.new.items ≡ out.old.items) }
     {
+        self.push_text_in(None, out)
+    }
+
+    /// The same where an origin is in force: the origin is `@`, and a name under it has the labels in front alone, with
+    /// dots between them.
+    pub fn push_text_in(&self, origin: Option<&Name>, out: &mut Vec<u8>) -> Result<(), AllocError>
+        ensures ok { OnOk result (out.new.items ≡ out.old.items ++ name_text (option_copied origin.entry) self.now) }
+        ensures err { OnErr result (out.new.items ≡ out.old.items) }
+    {
         let start = out.len();
-        let result = push_all(out, self.wire());
+        let result = push_name(out, self, origin);
         if result.is_err() {
             out.truncate(start);
         }

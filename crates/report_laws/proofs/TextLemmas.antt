@@ -132,7 +132,7 @@ first_free : {A : Type 0} (f : A → List ℕ) → ((a : A) → Free 10 (f a)) �
 first_free f free None = tt
 first_free f free (Some x) = free x.0
 
-pub field_free : (field : Field) (octets : List ℕ) → IfFirstFree (field_text field octets)
+pub field_free : (field : Field) (octets : List ℕ) → IfFirstFree (field_text None field octets)
 field_free NameField octets = first_free text_of name_free (split_name octets)
 field_free ShortField octets = first_free (λ (x : List ℕ). decimal (from_be_bytes w16 x)) (λ (x : List ℕ). decimal_free 10 (from_be_bytes w16 x) (omega arith)) (split_octets 2 octets)
 field_free NumberField octets = first_free (λ (x : List ℕ). decimal (from_be_bytes w32 x)) (λ (x : List ℕ). decimal_free 10 (from_be_bytes w32 x) (omega arith)) (split_octets 4 octets)
@@ -156,11 +156,11 @@ more_free : (o : Option (List ℕ × List ℕ)) (more : List ℕ → Option (Lis
 more_free None more f g = tt
 more_free (Some x) more f g = joined_free (more x.1) x.0 f (g x.1)
 
-fields_free : (fields : List Field) (octets : List ℕ) → IfFree (fields_text fields octets)
+fields_free : (fields : List Field) (octets : List ℕ) → IfFree (fields_text None fields octets)
 unfolding fields_text
 fields_free [] octets = tt
-fields_free (field ∷ []) octets = last_free (field_text field octets) (field_free field octets)
-fields_free (field ∷ next ∷ fields) octets = more_free (field_text field octets) (fields_text (next ∷ fields)) (field_free field octets) (λ (rest : List ℕ). fields_free (next ∷ fields) rest)
+fields_free (field ∷ []) octets = last_free (field_text None field octets) (field_free field octets)
+fields_free (field ∷ next ∷ fields) octets = more_free (field_text None field octets) (fields_text None (next ∷ fields)) (field_free field octets) (λ (rest : List ℕ). fields_free (next ∷ fields) rest)
 
 -- ---- strings
 
@@ -204,7 +204,7 @@ generic_free octets =
     by_test true = refl
     by_test false = free_append 10 (codes " ") (flat_map hex_text octets) refl (free_map 10 hex_text hex_free octets)
 
-formed_free : (form : Option Form) (octets : List ℕ) → IfFree (formed_text form octets)
+formed_free : (form : Option Form) (octets : List ℕ) → IfFree (formed_text None form octets)
 formed_free None octets = tt
 formed_free (Some (Fields fields)) octets = fields_free fields octets
 formed_free (Some Strings) octets = strings_free (length octets) octets
@@ -214,4 +214,4 @@ or_free None text f g = g
 or_free (Some t) text f g = f
 
 pub data_free : (rtype : ℕ) (octets : List ℕ) → Free 10 (data_text rtype octets)
-data_free rtype octets = or_free (typed_text rtype octets) (generic_text octets) (formed_free (form_of rtype) octets) (generic_free octets)
+data_free rtype octets = or_free (typed_text None rtype octets) (generic_text octets) (formed_free (form_of rtype) octets) (generic_free octets)

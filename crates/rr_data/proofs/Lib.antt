@@ -14,3 +14,4 @@ pub mod PrintedWordLemmas
 pub mod StartsLemmas
 pub mod StringLemmas
 pub mod StringTextLemmas
+pub mod RecordLineLemmas

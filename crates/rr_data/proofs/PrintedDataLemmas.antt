@@ -13,8 +13,8 @@ use Rattle.zone_model.specs.declared.ZoneKind.{ZoneKind}
 use Rattle.zone_model.specs.declared.DataRefusal.{DataRefusal}
 use Rattle.zone_model.specs.declared.DataRefusal.TheVariants.{BadRdata, LongString}
 use Rattle.zone_model.specs.Refusals.{◌>>=◌}
-use Rattle.zone_model.specs.Names.{Name, IsLabel}
-use Rattle.zone_model.specs.NameText.{text_of}
+use Rattle.zone_model.specs.Names.{Name}
+use Rattle.zone_model.specs.NameText.{name_text}
 use Rattle.zone_model.specs.Splits.{split_octets, split_name}
 use Rattle.zone_model.specs.Grammar as says
 use Rattle.zone_model.specs.Grammar.{Token, Run, stops_word, stops_quote, Spelled, Spells}
@@ -22,8 +22,9 @@ use Rattle.zone_model.specs.DataWords.{paired}
 use Rattle.zone_model.specs.Types.{Field, NameField, ShortField, NumberField, TimeField, AddressField, Address6Field, Form, Fields, Strings, form_of}
 use Rattle.zone_model.specs.DataForms.{split_time, field_rest, fits_behind, fields_fit, strings_fit, fits_form, form_fits}
 use Rattle.zone_model.specs.Data.{word_octets, ahead, taken, read_fields, string_octets, read_strings, read_digits, read_counted, read_generic, is_generic, of_form, read_formed, read_typed, data_of}
-use Rattle.zone_model.specs.DataText.{address_text, groups_text, field_text, fields_text, string_text, quoted_text, strings_text, hex_text, generic_text, formed_text, typed_text, data_text}
+use Rattle.zone_model.specs.DataText.{address_text, groups_text, field_text, fields_text, string_text, quoted_text, strings_text, hex_text, generic_text, formed_text, typed_text, data_text_in}
 use Rattle.zone_model.proofs.SplitLemmas.{IsBytes, name_sound, SplitsName}
+use Rattle.rr_data.specs.Printing.{ReadsUnder}
 use Rattle.rr_data.proofs.FormLemmas.{all_append}
 use Rattle.rr_data.proofs.PrintedLemmas.{bytes_of, string_back, number_back, digits_back_of}
 use Rattle.rr_data.proofs.PrintedFieldLemmas.{bytes_before, bytes_behind, map_some, octets_split, time_split, short_size, number_size, in_pairs, IsReadBack, field_back}
@@ -77,37 +78,33 @@ cond_some : {A : Type 0} (b : Bool) (o : Option A) (y : A) → cond b o None ≡
 cond_some true o y h = (refl, h)
 cond_some false o y h = absurd cc
 
-pub label_octets : (name : Name) → AllByRecursion IsLabel name → AllByRecursion (AllByRecursion (λ c. c < 256)) name
-label_octets [] h = tt
-label_octets (label ∷ name) h = (h.0.octets, label_octets name h.1)
-
 first_is : {A : Type 0} (a : List ℕ) (b : A) (c : List ℕ) (d : A) → ◌≡◌ {A = List ℕ × A} (a, b) (c, d) → a ≡ c
 first_is {A = A} a b c d e = ap (λ (y : List ℕ × A). y.0) e
 
-field_is_word : (field : Field) (octets text rest : List ℕ) → IsBytes octets → field_text field octets ≡ Some (text, rest) → IsFieldWord text
-field_is_word NameField octets text rest b h =
-    let x = map_some (λ (x : Name × List ℕ). (text_of x.0, x.1)) (split_name octets) (text, rest) h in
+field_is_word : (printed : Option Name) (field : Field) (octets text rest : List ℕ) → IsBytes octets → field_text printed field octets ≡ Some (text, rest) → IsFieldWord text
+field_is_word printed NameField octets text rest b h =
+    let x = map_some (λ (x : Name × List ℕ). (name_text printed x.0, x.1)) (split_name octets) (text, rest) h in
     let s : SplitsName octets x.0 = name_sound octets x.0 b x.1 in
-    subst IsFieldWord (first_is (text_of x.0.0) x.0.1 text rest x.2) (name_is_word x.0.0 (label_octets x.0.0 s.name.each))
-field_is_word ShortField octets text rest b h =
+    subst IsFieldWord (first_is (name_text printed x.0.0) x.0.1 text rest x.2) (name_is_word printed x.0.0 s.name.each)
+field_is_word printed ShortField octets text rest b h =
     let x = map_some (λ (x : List ℕ × List ℕ). (decimal (from_be_bytes w16 x.0), x.1)) (split_octets 2 octets) (text, rest) h in
     let s = octets_split 2 octets x.0 x.1 in
     let le : from_be_bytes w16 x.0.0 ≤ 65535 = short_size x.0.0 s.0 (bytes_before x.0.0 x.0.1 (subst IsBytes s.1 b)) in
     subst IsFieldWord (first_is (decimal (from_be_bytes w16 x.0.0)) x.0.1 text rest x.2) (decimal_is_word (from_be_bytes w16 x.0.0) (omega (arith, le)))
-field_is_word NumberField octets text rest b h =
+field_is_word printed NumberField octets text rest b h =
     let x = map_some (λ (x : List ℕ × List ℕ). (decimal (from_be_bytes w32 x.0), x.1)) (split_octets 4 octets) (text, rest) h in
     let s = octets_split 4 octets x.0 x.1 in
     let le : from_be_bytes w32 x.0.0 ≤ 4294967295 = number_size x.0.0 s.0 (bytes_before x.0.0 x.0.1 (subst IsBytes s.1 b)) in
     subst IsFieldWord (first_is (decimal (from_be_bytes w32 x.0.0)) x.0.1 text rest x.2) (decimal_is_word (from_be_bytes w32 x.0.0) (omega (arith, le)))
-field_is_word TimeField octets text rest b h =
+field_is_word printed TimeField octets text rest b h =
     let x = map_some (λ (x : List ℕ × List ℕ). (decimal (from_be_bytes w32 x.0), x.1)) (split_time octets) (text, rest) h in
     let t = time_split octets (split_octets 4 octets) x.0 refl x.1 in
     subst IsFieldWord (first_is (decimal (from_be_bytes w32 x.0.0)) x.0.1 text rest x.2) (decimal_is_word (from_be_bytes w32 x.0.0) (omega (arith, t.1)))
-field_is_word AddressField octets text rest b h =
+field_is_word printed AddressField octets text rest b h =
     let x = map_some (λ (x : List ℕ × List ℕ). (address_text x.0, x.1)) (split_octets 4 octets) (text, rest) h in
     let s = octets_split 4 octets x.0 x.1 in
     subst IsFieldWord (first_is (address_text x.0.0) x.0.1 text rest x.2) (address_is_word x.0.0 (omega (arith, s.0)) (bytes_of x.0.0 (bytes_before x.0.0 x.0.1 (subst IsBytes s.1 b))))
-field_is_word Address6Field octets text rest b h =
+field_is_word printed Address6Field octets text rest b h =
     let x = map_some (λ (x : List ℕ × List ℕ). (groups_text x.0, x.1)) (split_octets 16 octets) (text, rest) h in
     let s = octets_split 16 octets x.0 x.1 in
     subst IsFieldWord (first_is (groups_text x.0.0) x.0.1 text rest x.2) (groups_are_word x.0.0 (in_pairs 7 x.0.0 s.0 (bytes_before x.0.0 x.0.1 (subst IsBytes s.1 b))))
@@ -116,21 +113,31 @@ rest_is : {A : Type 0} (f : A → List ℕ) (o : Option (A × List ℕ)) (text r
 rest_is f None text rest h = absurd cc
 rest_is f (Some x) text rest h = let e : ◌≡◌ {A = List ℕ × List ℕ} (f x.0, x.1) (text, rest) = cc in ap (λ (y : List ℕ × List ℕ). Some y.1) e
 
-field_rest_is : (field : Field) (octets text rest : List ℕ) → field_text field octets ≡ Some (text, rest) → field_rest field octets ≡ Some rest
-field_rest_is NameField octets text rest h = rest_is text_of (split_name octets) text rest h
-field_rest_is ShortField octets text rest h = rest_is (λ x. decimal (from_be_bytes w16 x)) (split_octets 2 octets) text rest h
-field_rest_is NumberField octets text rest h = rest_is (λ x. decimal (from_be_bytes w32 x)) (split_octets 4 octets) text rest h
-field_rest_is TimeField octets text rest h = rest_is (λ x. decimal (from_be_bytes w32 x)) (split_time octets) text rest h
-field_rest_is AddressField octets text rest h = rest_is address_text (split_octets 4 octets) text rest h
-field_rest_is Address6Field octets text rest h = rest_is groups_text (split_octets 16 octets) text rest h
+field_rest_is : (printed : Option Name) (field : Field) (octets text rest : List ℕ) → field_text printed field octets ≡ Some (text, rest) → field_rest field octets ≡ Some rest
+field_rest_is printed NameField octets text rest h = rest_is (name_text printed) (split_name octets) text rest h
+field_rest_is printed ShortField octets text rest h = rest_is (λ x. decimal (from_be_bytes w16 x)) (split_octets 2 octets) text rest h
+field_rest_is printed NumberField octets text rest h = rest_is (λ x. decimal (from_be_bytes w32 x)) (split_octets 4 octets) text rest h
+field_rest_is printed TimeField octets text rest h = rest_is (λ x. decimal (from_be_bytes w32 x)) (split_time octets) text rest h
+field_rest_is printed AddressField octets text rest h = rest_is address_text (split_octets 4 octets) text rest h
+field_rest_is printed Address6Field octets text rest h = rest_is groups_text (split_octets 16 octets) text rest h
+
+-- an origin that names are read under
+reader_of : Option Name → Name
+reader_of None = []
+reader_of (Some origin) = origin
+
+reads_under : (printed : Option Name) → ReadsUnder printed (reader_of printed)
+unfolding reader_of
+reads_under None = tt
+reads_under (Some origin) = refl
 
 -- what a line says that fields' text stands on
-record FieldsBack (n : ℕ) (fields : List Field) (text octets : List ℕ) : Type 0 where
+record FieldsBack (printed : Option Name) (n : ℕ) (fields : List Field) (text octets : List ℕ) : Type 0 where
   pub first : Token
   pub others : List Token
   pub spelled : Spells n [] text (plain (first ∷ others))
   pub shown : list_all is_shown text ≡ true
-  pub read : (origin : Name) (at : ℕ) → read_fields origin at fields (first ∷ others) ≡ Ok octets
+  pub read : (origin : Name) (at : ℕ) → ReadsUnder printed origin → read_fields origin at fields (first ∷ others) ≡ Ok octets
   pub typed : is_generic (first ∷ others) ≡ false
   pub fit : fields_fit fields octets ≡ true
 
@@ -141,38 +148,38 @@ field_read origin at n field text rest octets r b e =
 is_typed : (n : ℕ) (text : List ℕ) (others : List Token) → IsFieldWord text → is_generic (word n text ∷ others) ≡ false
 is_typed n text others w = w.typed
 
-fields_back : (n : ℕ) (field : Field) (fields : List Field) (octets text : List ℕ) → IsBytes octets → fields_text (field ∷ fields) octets ≡ Some text → FieldsBack n (field ∷ fields) text octets
+fields_back : (printed : Option Name) (n : ℕ) (field : Field) (fields : List Field) (octets text : List ℕ) → IsBytes octets → fields_text printed (field ∷ fields) octets ≡ Some text → FieldsBack printed n (field ∷ fields) text octets
 unfolding fields_text read_fields fields_fit
-fields_back n field [] octets text b h =
-    let x = and_some (λ (x : List ℕ × List ℕ). cond (eqb (length x.1) 0) (Some x.0) None) (field_text field octets) text h in
+fields_back printed n field [] octets text b h =
+    let x = and_some (λ (x : List ℕ × List ℕ). cond (eqb (length x.1) 0) (Some x.0) None) (field_text printed field octets) text h in
     let c = cond_some (eqb (length x.0.1) 0) (Some x.0.0) text x.2 in
     let same : x.0.0 ≡ text = cc in
     let none : length x.0.1 ≡ 0 = eqb-true (length x.0.1) 0 c.0 in
     let empty : x.0.1 ≡ [] = nil_from_length x.0.1 none in
-    let w : IsFieldWord x.0.0 = field_is_word field octets x.0.0 x.0.1 b x.1 in
+    let w : IsFieldWord x.0.0 = field_is_word printed field octets x.0.0 x.0.1 b x.1 in
     record {
       first = word n x.0.0;
       others = [];
       spelled = subst (λ (t : List ℕ). Spells n [] t (plain (word n x.0.0 ∷ []))) same (spell_word n x.0.0 w.some w.shows.run);
       shown = subst AllShown same w.shows.shown;
-      read = λ origin at. field_read origin at n field x.0.0 x.0.1 octets (Ok []) (field_back origin field octets x.0.0 x.0.1 b x.1) (ap Ok (sym empty));
+      read = λ origin at u. field_read origin at n field x.0.0 x.0.1 octets (Ok []) (field_back printed origin field octets x.0.0 x.0.1 u b x.1) (ap Ok (sym empty));
       typed = is_typed n x.0.0 [] w;
-      fit = ap (λ (o : Option (List ℕ)). fits_behind o (fields_fit [])) (field_rest_is field octets x.0.0 x.0.1 x.1) ∙ c.0;
+      fit = ap (λ (o : Option (List ℕ)). fits_behind o (fields_fit [])) (field_rest_is printed field octets x.0.0 x.0.1 x.1) ∙ c.0;
     }
-fields_back n field (next ∷ fields) octets text b h =
-    let x = and_some (λ (x : List ℕ × List ℕ). option_map (λ t. x.0 ++ 32 ∷ [] ++ t) (fields_text (next ∷ fields) x.1)) (field_text field octets) text h in
-    let t = map_some (λ (t : List ℕ). x.0.0 ++ 32 ∷ [] ++ t) (fields_text (next ∷ fields) x.0.1) text x.2 in
-    let w : IsFieldWord x.0.0 = field_is_word field octets x.0.0 x.0.1 b x.1 in
-    let r : IsReadBack [] field x.0.0 x.0.1 octets = field_back [] field octets x.0.0 x.0.1 b x.1 in
-    let i : FieldsBack n (next ∷ fields) t.0 x.0.1 = fields_back n next fields x.0.1 t.0 (bytes_behind r.front x.0.1 (subst IsBytes r.octets_are b)) t.1 in
+fields_back printed n field (next ∷ fields) octets text b h =
+    let x = and_some (λ (x : List ℕ × List ℕ). option_map (λ t. x.0 ++ 32 ∷ [] ++ t) (fields_text printed (next ∷ fields) x.1)) (field_text printed field octets) text h in
+    let t = map_some (λ (t : List ℕ). x.0.0 ++ 32 ∷ [] ++ t) (fields_text printed (next ∷ fields) x.0.1) text x.2 in
+    let w : IsFieldWord x.0.0 = field_is_word printed field octets x.0.0 x.0.1 b x.1 in
+    let r : IsReadBack (reader_of printed) field x.0.0 x.0.1 octets = field_back printed (reader_of printed) field octets x.0.0 x.0.1 (reads_under printed) b x.1 in
+    let i : FieldsBack printed n (next ∷ fields) t.0 x.0.1 = fields_back printed n next fields x.0.1 t.0 (bytes_behind r.front x.0.1 (subst IsBytes r.octets_are b)) t.1 in
     record {
       first = word n x.0.0;
       others = i.first ∷ i.others;
       spelled = subst (λ (t : List ℕ). Spells n [] t (plain (word n x.0.0 ∷ i.first ∷ i.others))) t.2 (spell_word_then n x.0.0 t.0 (i.first ∷ i.others) w.some w.shows.run i.spelled);
       shown = subst AllShown t.2 (shown_then x.0.0 t.0 w.shows.shown i.shown);
-      read = λ origin at. field_read origin at n field x.0.0 x.0.1 octets (read_fields origin (at + 1) (next ∷ fields) (i.first ∷ i.others)) (field_back origin field octets x.0.0 x.0.1 b x.1) (i.read origin (at + 1));
+      read = λ origin at u. field_read origin at n field x.0.0 x.0.1 octets (read_fields origin (at + 1) (next ∷ fields) (i.first ∷ i.others)) (field_back printed origin field octets x.0.0 x.0.1 u b x.1) (i.read origin (at + 1) u);
       typed = is_typed n x.0.0 (i.first ∷ i.others) w;
-      fit = ap (λ (o : Option (List ℕ)). fits_behind o (fields_fit (next ∷ fields))) (field_rest_is field octets x.0.0 x.0.1 x.1) ∙ i.fit;
+      fit = ap (λ (o : Option (List ℕ)). fits_behind o (fields_fit (next ∷ fields))) (field_rest_is printed field octets x.0.0 x.0.1 x.1) ∙ i.fit;
     }
 
 -- ---- strings
@@ -324,11 +331,11 @@ generic_back n (c ∷ octets) b le =
 -- ---- the data of a type
 
 -- what a line says that printed data stands on
-pub record DataBack (n rtype : ℕ) (octets : List ℕ) : Type 0 where
+pub record DataBack (printed : Option Name) (n rtype : ℕ) (octets : List ℕ) : Type 0 where
   pub tokens : List Token
-  pub spelled : Spells n [] (data_text rtype octets) (plain tokens)
-  pub shown : list_all is_shown (data_text rtype octets) ≡ true
-  pub read : (origin : Name) → data_of origin rtype tokens ≡ of_form rtype octets
+  pub spelled : Spells n [] (data_text_in printed rtype octets) (plain tokens)
+  pub shown : list_all is_shown (data_text_in printed rtype octets) ≡ true
+  pub read : (origin : Name) → ReadsUnder printed origin → data_of origin rtype tokens ≡ of_form rtype octets
 
 typed_read : (origin : Name) (rtype : ℕ) (first : Token) (others : List Token) → is_generic (first ∷ others) ≡ false
     → data_of origin rtype (first ∷ others) ≡ read_formed origin (form_of rtype) (first ∷ others)
@@ -347,10 +354,10 @@ some_strings left (c ∷ octets) text h = grind (arith, nat_tests)
 data_fits : (rtype : ℕ) (octets : List ℕ) → form_fits rtype octets ≡ true → of_form rtype octets ≡ Ok octets
 data_fits rtype octets h = ap (λ t. cond t (Ok octets) (Err (BadRdata 0))) h
 
-by_form : (n rtype : ℕ) (octets text : List ℕ) → IsBytes octets → length octets ≤ 65535 → (o : Option Form) → form_of rtype ≡ o → formed_text o octets ≡ Some text → data_text rtype octets ≡ text → DataBack n rtype octets
+by_form : (printed : Option Name) (n rtype : ℕ) (octets text : List ℕ) → IsBytes octets → length octets ≤ 65535 → (o : Option Form) → form_of rtype ≡ o → formed_text printed o octets ≡ Some text → data_text_in printed rtype octets ≡ text → DataBack printed n rtype octets
 unfolding fields_text
-by_form n rtype octets text b le None f h t = absurd cc
-by_form n rtype octets text b le (Some Strings) f h t =
+by_form printed n rtype octets text b le None f h t = absurd cc
+by_form printed n rtype octets text b le (Some Strings) f h t =
     let i : StringsBack n (length octets) text octets = strings_back n (length octets) octets text b h in
     let some = some_strings (length octets) octets text h in
     let fit : (ltb 0 (length octets) && strings_fit (length octets) octets) ≡ true = rw some i.fit in
@@ -359,29 +366,29 @@ by_form n rtype octets text b le (Some Strings) f h t =
       tokens = i.first ∷ i.others;
       spelled = subst (λ (l : List ℕ). Spells n [] l (plain (i.first ∷ i.others))) (sym t) i.spelled;
       shown = subst AllShown (sym t) i.shown;
-      read = λ origin. typed_read origin rtype i.first i.others i.typed ∙ ap (λ o. read_formed origin o (i.first ∷ i.others)) f ∙ i.read 0 65535 le ∙ sym (data_fits rtype octets form);
+      read = λ origin u. typed_read origin rtype i.first i.others i.typed ∙ ap (λ o. read_formed origin o (i.first ∷ i.others)) f ∙ i.read 0 65535 le ∙ sym (data_fits rtype octets form);
     }
-by_form n rtype octets text b le (Some (Fields [])) f h t = absurd cc
-by_form n rtype octets text b le (Some (Fields (field ∷ fields))) f h t =
-    let i : FieldsBack n (field ∷ fields) text octets = fields_back n field fields octets text b h in
+by_form printed n rtype octets text b le (Some (Fields [])) f h t = absurd cc
+by_form printed n rtype octets text b le (Some (Fields (field ∷ fields))) f h t =
+    let i : FieldsBack printed n (field ∷ fields) text octets = fields_back printed n field fields octets text b h in
     let form : form_fits rtype octets ≡ true = ap (λ o. fits_form o octets) f ∙ i.fit in
     record {
       tokens = i.first ∷ i.others;
       spelled = subst (λ (l : List ℕ). Spells n [] l (plain (i.first ∷ i.others))) (sym t) i.spelled;
       shown = subst AllShown (sym t) i.shown;
-      read = λ origin. typed_read origin rtype i.first i.others i.typed ∙ ap (λ o. read_formed origin o (i.first ∷ i.others)) f ∙ i.read origin 0 ∙ sym (data_fits rtype octets form);
+      read = λ origin u. typed_read origin rtype i.first i.others i.typed ∙ ap (λ o. read_formed origin o (i.first ∷ i.others)) f ∙ i.read origin 0 u ∙ sym (data_fits rtype octets form);
     }
 
-pub data_back : (n rtype : ℕ) (octets : List ℕ) → IsBytes octets → length octets ≤ 65535 → DataBack n rtype octets
-data_back n rtype octets b le = by_text (typed_text rtype octets) refl
+pub data_back : (printed : Option Name) (n rtype : ℕ) (octets : List ℕ) → IsBytes octets → length octets ≤ 65535 → DataBack printed n rtype octets
+data_back printed n rtype octets b le = by_text (typed_text printed rtype octets) refl
   where
-    by_text : (o : Option (List ℕ)) → typed_text rtype octets ≡ o → DataBack n rtype octets
+    by_text : (o : Option (List ℕ)) → typed_text printed rtype octets ≡ o → DataBack printed n rtype octets
     by_text None e =
         let g : GenericBack n octets = generic_back n octets b le in
         record {
           tokens = g.tokens;
           spelled = subst (λ (l : List ℕ). Spells n [] l (plain g.tokens)) (sym (ap (λ o. unwrap_or o (generic_text octets)) e)) g.spelled;
           shown = subst AllShown (sym (ap (λ o. unwrap_or o (generic_text octets)) e)) g.shown;
-          read = λ origin. generic_read origin rtype g.tokens octets g.generic g.read;
+          read = λ origin u. generic_read origin rtype g.tokens octets g.generic g.read;
         }
-    by_text (Some text) e = by_form n rtype octets text b le (form_of rtype) refl e (ap (λ o. unwrap_or o (generic_text octets)) e)
+    by_text (Some text) e = by_form printed n rtype octets text b le (form_of rtype) refl e (ap (λ o. unwrap_or o (generic_text octets)) e)

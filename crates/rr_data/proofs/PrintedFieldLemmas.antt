@@ -1,5 +1,5 @@
 -- What is printed for a field is read as the octets that it was printed of.
-use Rattle.std.proofs.Common.{◌≡◌, ◌∙◌, ℕ, zero, suc, ◌+◌, ◌*◌, ◌/◌, ◌%◌, ◌^◌, ◌<◌, ◌≤◌, Bool, true, false, cond, ◌&&◌, eqb, leb, ltb, List, [], ◌∷◌, ◌++◌, length, take, drop, refl, sym, ap, subst, arith, Option, Some, None, append_assoc, append-nil, option_and_then, length-append}
+use Rattle.std.proofs.Common.{◌≡◌, ◌∙◌, ℕ, zero, suc, ◌+◌, ◌*◌, ◌/◌, ◌%◌, ◌^◌, ◌<◌, ◌≤◌, Bool, true, false, cond, ◌&&◌, eqb, leb, ltb, List, [], ◌∷◌, ◌++◌, length, take, drop, refl, sym, ap, subst, arith, Option, Some, None, Ok, append_assoc, append-nil, option_and_then, length-append}
 use Rattle.std.proofs.lemmas.Bool.Decides.{nat_tests}
 use borrow.Author.Tests.{eqb-true, leb-true, leb-false, ltb-true, ltb-false}
 use Rattle.std.specs.Option.{option_map}
@@ -11,8 +11,8 @@ use Rattle.std.proofs.lemmas.Fmt.{decimal_by_steps}
 use Rattle.std.proofs.lemmas.List.Splits.{slice_split_at, slice_split_none}
 use Rattle.std.proofs.lemmas.List.{length-take-le, take-append-drop}
 use Rattle.std.proofs.lemmas.Nat.{be_bytes_2, be_bytes_4}
-use Rattle.zone_model.specs.Names.{Name, wire}
-use Rattle.zone_model.specs.NameText.{text_of}
+use Rattle.zone_model.specs.Names.{Name, IsName, wire}
+use Rattle.zone_model.specs.NameText.{name_of, relative_text, name_text}
 use Rattle.zone_model.specs.Splits.{split_octets, split_name}
 use Rattle.zone_model.specs.Texts.{named, number, address, address_part, all_some}
 use Rattle.zone_model.specs.Addresses.{hex_from, group, last_group, last_groups_of, parts_of, begins_with_colon, double_at, by_double, address6, whole_address, joined}
@@ -22,7 +22,8 @@ use Rattle.zone_model.specs.DataForms.{split_time}
 use Rattle.zone_model.specs.Data.{field_octets}
 use Rattle.zone_model.specs.DataText.{hex_digit, digit_at, group_text, groups_text, address_text, field_text}
 use Rattle.zone_model.proofs.SplitLemmas.{IsBytes, name_sound, SplitsName}
-use Rattle.dns_name.proofs.PrintedLemmas.{name_of-text_of}
+use Rattle.dns_name.proofs.PrintedLemmas.{name_of-text_of, name_of-relative_text}
+use Rattle.rr_data.specs.Printing.{ReadsUnder}
 use Rattle.rr_data.proofs.FormLemmas.{all_append}
 use Rattle.rr_data.proofs.PrintedLemmas.{number_back, time_back, digit_back, decimal_all_digits}
 
@@ -363,13 +364,18 @@ read_front origin field printed text rest octets x e p r =
     let k : x.1 ≡ rest = ap (λ (y : List ℕ × List ℕ). y.1) p in
     record { front = x.0; read = ap (field_octets origin field) (sym t) ∙ r; octets_are = e ∙ ap (λ (l : List ℕ). x.0 ++ l) k }
 
-pub field_back : (origin : Name) (field : Field) (octets text rest : List ℕ) → IsBytes octets → field_text field octets ≡ Some (text, rest) → IsReadBack origin field text rest octets
-field_back origin NameField octets text rest b h =
-    let x = map_some (λ (x : Name × List ℕ). (text_of x.0, x.1)) (split_name octets) (text, rest) h in
+-- a printed name is read as that name
+pub name_back : (printed : Option Name) (origin name : Name) → ReadsUnder printed origin → IsName name → name_of (name_text printed name) origin ≡ Ok name
+name_back None origin name u h = name_of-text_of name origin h
+name_back (Some o) origin name u h = ap (λ (n : Name). name_of (relative_text o name) n) u ∙ name_of-relative_text name o h
+
+pub field_back : (printed : Option Name) (origin : Name) (field : Field) (octets text rest : List ℕ) → ReadsUnder printed origin → IsBytes octets → field_text printed field octets ≡ Some (text, rest) → IsReadBack origin field text rest octets
+field_back printed origin NameField octets text rest u b h =
+    let x = map_some (λ (x : Name × List ℕ). (name_text printed x.0, x.1)) (split_name octets) (text, rest) h in
     let s : SplitsName octets x.0 = name_sound octets x.0 b x.1 in
-    read_front origin NameField (text_of x.0.0) text rest octets (wire x.0.0, x.0.1) s.octets x.2
-    (ap (λ r. option_map wire (named r)) (name_of-text_of x.0.0 origin s.name))
-field_back origin ShortField octets text rest b h =
+    read_front origin NameField (name_text printed x.0.0) text rest octets (wire x.0.0, x.0.1) s.octets x.2
+    (ap (λ r. option_map wire (named r)) (name_back printed origin x.0.0 u s.name))
+field_back printed origin ShortField octets text rest u b h =
     let x = map_some (λ (x : List ℕ × List ℕ). (decimal (from_be_bytes w16 x.0), x.1)) (split_octets 2 octets) (text, rest) h in
     let s = octets_split 2 octets x.0 x.1 in
     let f : IsBytes x.0.0 = bytes_before x.0.0 x.0.1 (subst IsBytes s.1 b) in
@@ -377,7 +383,7 @@ field_back origin ShortField octets text rest b h =
     let le : from_be_bytes w16 x.0.0 ≤ 65535 = short_size x.0.0 s.0 f in
     read_front origin ShortField (decimal n) text rest octets x.0 s.1 x.2
     (ap (option_map (to_be_bytes w16)) (number_back 65535 n (omega arith) le) ∙ ap Some (be_bytes_2 x.0.0 n s.0 f refl))
-field_back origin NumberField octets text rest b h =
+field_back printed origin NumberField octets text rest u b h =
     let x = map_some (λ (x : List ℕ × List ℕ). (decimal (from_be_bytes w32 x.0), x.1)) (split_octets 4 octets) (text, rest) h in
     let s = octets_split 4 octets x.0 x.1 in
     let f : IsBytes x.0.0 = bytes_before x.0.0 x.0.1 (subst IsBytes s.1 b) in
@@ -385,7 +391,7 @@ field_back origin NumberField octets text rest b h =
     let le : from_be_bytes w32 x.0.0 ≤ 4294967295 = number_size x.0.0 s.0 f in
     read_front origin NumberField (decimal n) text rest octets x.0 s.1 x.2
     (ap (option_map (to_be_bytes w32)) (number_back 4294967295 n (omega arith) le) ∙ ap Some (be_bytes_4 x.0.0 n s.0 f refl))
-field_back origin TimeField octets text rest b h =
+field_back printed origin TimeField octets text rest u b h =
     let x = map_some (λ (x : List ℕ × List ℕ). (decimal (from_be_bytes w32 x.0), x.1)) (split_time octets) (text, rest) h in
     let t = time_split octets (split_octets 4 octets) x.0 refl x.1 in
     let s = octets_split 4 octets x.0 t.0 in
@@ -393,12 +399,12 @@ field_back origin TimeField octets text rest b h =
     let n = from_be_bytes w32 x.0.0 in
     read_front origin TimeField (decimal n) text rest octets x.0 s.1 x.2
     (ap (option_map (to_be_bytes w32)) (time_back n t.1) ∙ ap Some (be_bytes_4 x.0.0 n s.0 f refl))
-field_back origin AddressField octets text rest b h =
+field_back printed origin AddressField octets text rest u b h =
     let x = map_some (λ (x : List ℕ × List ℕ). (address_text x.0, x.1)) (split_octets 4 octets) (text, rest) h in
     let s = octets_split 4 octets x.0 x.1 in
     let f : IsBytes x.0.0 = bytes_before x.0.0 x.0.1 (subst IsBytes s.1 b) in
     read_front origin AddressField (address_text x.0.0) text rest octets x.0 s.1 x.2 (address_back x.0.0 s.0 f)
-field_back origin Address6Field octets text rest b h =
+field_back printed origin Address6Field octets text rest u b h =
     let x = map_some (λ (x : List ℕ × List ℕ). (groups_text x.0, x.1)) (split_octets 16 octets) (text, rest) h in
     let s = octets_split 16 octets x.0 x.1 in
     let f : IsBytes x.0.0 = bytes_before x.0.0 x.0.1 (subst IsBytes s.1 b) in

@@ -1,5 +1,5 @@
 -- What is printed is words and strings that a line is cut into.
-use Rattle.std.proofs.Common.{◌≡◌, ◌∙◌, ℕ, ◌+◌, ◌*◌, ◌/◌, ◌%◌, ◌^◌, ◌<◌, Bool, true, false, cond, ◌&&◌, ◌||◌, eqb, ltb, List, [], ◌∷◌, ◌++◌, length, get_or, refl, sym, ap, subst, arith, append_assoc, append-nil, length-append}
+use Rattle.std.proofs.Common.{◌≡◌, ◌∙◌, ℕ, zero, suc, ◌+◌, ◌-◌, ◌*◌, ◌/◌, ◌%◌, ◌^◌, ◌<◌, Bool, true, false, cond, not, ◌&&◌, ◌||◌, eqb, ltb, List, [], ◌∷◌, ◌++◌, Option, Some, None, length, take, get_or, refl, sym, ap, subst, arith, append_assoc, append-nil, length-append}
 use Rattle.std.proofs.lemmas.Bool.Decides.{nat_tests}
 use Rattle.std.proofs.lemmas.Slice.Eq.{bytes_eq-Decides}
 use Rattle.std.specs.Str.{bytes_eq}
@@ -8,8 +8,9 @@ use Rattle.std.specs.Int.{w16, from_be_bytes}
 use Rattle.std.specs.Char.{is_ascii_alphabetic, is_ascii_alphanumeric, is_ascii_digit, is_ascii_hexdigit}
 use Rattle.std.specs.Fmt.{decimal}
 use Rattle.std.proofs.lemmas.Fmt.{decimal_nonempty}
-use Rattle.zone_model.specs.Names.{Name, Label}
-use Rattle.zone_model.specs.NameText.{text_of, label_text, octet_text, is_special, three_digits}
+use Rattle.zone_model.specs.Names.{Name, Label, IsLabel, is_under}
+use Rattle.zone_model.specs.NameText.{text_of, label_text, octet_text, is_special, three_digits, labels_text, front_text, relative_text, name_text}
+use Rattle.dns_name.proofs.PrintedLemmas.{BeginsWithOctet, labels_begin, text_some}
 use Rattle.zone_model.specs.Grammar as says
 use Rattle.zone_model.specs.Grammar.{Run, stops_word, stops_quote}
 use Rattle.zone_model.specs.DataText.{string_octet, string_text, hex_text, hex_digit, address_text, groups_text, group_text}
@@ -108,6 +109,21 @@ alphanumeric_word text h = record { run = run_all stops_word is_ascii_alphanumer
 pub hex_word : (text : List ℕ) → list_all is_ascii_hexdigit text ≡ true → Shows stops_word text
 hex_word text h = record { run = run_all stops_word is_ascii_hexdigit text hexdigit_goes_on h; shown = shown_all is_ascii_hexdigit text hexdigit_shown h }
 
+-- an octet of a word that is shown as it is
+abbrev pub is_word_octet : ℕ → Bool
+is_word_octet c = is_shown c && not (stops_word c)
+
+pub plain_word : (text : List ℕ) → list_all is_word_octet text ≡ true → Shows stops_word text
+plain_word [] h = nothing
+plain_word (c ∷ text) h =
+    let f = both (is_word_octet c) (list_all is_word_octet text) h in
+    let g = both (is_shown c) (not (stops_word c)) f.0 in
+    shows_append (shows_one stops_word c (negated (stops_word c) g.1) g.0) text (plain_word text f.1)
+  where
+    negated : (b : Bool) → not b ≡ true → b ≡ false
+    negated true h = absurd cc
+    negated false h = refl
+
 -- ---- names
 
 special_shown : (c : ℕ) → is_special c ≡ true → is_shown c ≡ true
@@ -138,7 +154,11 @@ labels_run : (labels : Name) → AllByRecursion (AllByRecursion (λ c. c < 256))
 labels_run [] h = nothing
 labels_run (label ∷ labels) h = shows_append (label_run label h.0) (flat_map label_text labels) (labels_run labels h.1)
 
-pub name_word : (name : Name) → AllByRecursion (AllByRecursion (λ c. c < 256)) name → Shows stops_word (text_of name)
+pub label_octets : (name : Name) → AllByRecursion IsLabel name → AllByRecursion (AllByRecursion (λ c. c < 256)) name
+label_octets [] h = tt
+label_octets (label ∷ name) h = (h.0.octets, label_octets name h.1)
+
+name_word : (name : Name) → AllByRecursion (AllByRecursion (λ c. c < 256)) name → Shows stops_word (text_of name)
 name_word [] h = shows_one stops_word 46 refl refl
 name_word (label ∷ labels) h = labels_run (label ∷ labels) h
 
@@ -157,7 +177,7 @@ name_ends : (name : Name) → EndsWithDot (text_of name)
 name_ends [] = record { front = []; is = refl }
 name_ends (label ∷ labels) = labels_end label labels
 
-pub name_some : (name : Name) → 0 < length (text_of name)
+name_some : (name : Name) → 0 < length (text_of name)
 name_some name = let e = name_ends name in omega (arith, ap (λ (l : List ℕ). length l) e.is, length-append e.front (46 ∷ []))
 
 -- the word that begins data of any type
@@ -188,8 +208,49 @@ unlike text n = by_test (bytes_eq text any_type) refl
     by_test true e = absurd (n ((bytes_eq-Decides text any_type).0 e))
     by_test false e = refl
 
-pub name_is_word : (name : Name) → AllByRecursion (AllByRecursion (λ c. c < 256)) name → IsFieldWord (text_of name)
-name_is_word name h = record { some = name_some name; shows = name_word name h; typed = unlike (text_of name) (ends_not (text_of name) (name_ends name)) }
+pub absolute_is_word : (name : Name) → AllByRecursion IsLabel name → IsFieldWord (text_of name)
+absolute_is_word name h = record { some = name_some name; shows = name_word name (label_octets name h); typed = unlike (text_of name) (ends_not (text_of name) (name_ends name)) }
+
+-- labels with dots between them
+front_run : (label : Label) (labels : Name) → AllByRecursion (AllByRecursion (λ c. c < 256)) (label ∷ labels) → Shows stops_word (labels_text (label ∷ labels))
+front_run label [] h = octets_run label h.0
+front_run label (next ∷ labels) h =
+    shows_append (octets_run label h.0) (46 ∷ labels_text (next ∷ labels)) (shows_append (shows_one stops_word 46 refl refl) (labels_text (next ∷ labels)) (front_run next labels h.1))
+
+-- a printed octet doesn't begin that word
+octet_not : (c : ℕ) (more : List ℕ) → octet_text c ++ more ≡ any_type → ⊥
+octet_not c more = go (is_special c) (ltb 32 c && ltb c 127) refl refl
+  where
+    go : (s p : Bool) → is_special c ≡ s → (ltb 32 c && ltb c 127) ≡ p → cond s (92 ∷ c ∷ []) (cond p (c ∷ []) (92 ∷ three_digits c)) ++ more ≡ any_type → ⊥
+    go true p es ep e = let k : c ≡ 35 = ap (λ (l : List ℕ). get_or l 1 0) e in let f : is_special c ≡ false = ap is_special k in cc
+    go false true es ep e = let k : c ≡ 92 = ap (λ (l : List ℕ). get_or l 0 0) e in let f : is_special c ≡ true = ap is_special k in cc
+    go false false es ep e = let k : c / 100 + 48 ≡ 35 = ap (λ (l : List ℕ). get_or l 1 0) e in omega arith
+
+pub begin_not : (text : List ℕ) → BeginsWithOctet text → text ≡ any_type → ⊥
+begin_not text b e = octet_not b.octet b.more (sym b.is ∙ e)
+
+front_is_word : (front : Name) → AllByRecursion IsLabel front → IsFieldWord (front_text front)
+front_is_word [] h = record { some = omega arith; shows = shows_one stops_word 64 refl refl; typed = refl }
+front_is_word (label ∷ labels) h =
+    let b = labels_begin label labels h.0.some in
+    record { some = text_some (labels_text (label ∷ labels)) b; shows = front_run label labels (label_octets (label ∷ labels) h); typed = unlike (labels_text (label ∷ labels)) (begin_not (labels_text (label ∷ labels)) b) }
+
+pub some_labels : (n : ℕ) (name : Name) → AllByRecursion IsLabel name → AllByRecursion IsLabel (take n name)
+some_labels zero name h = tt
+some_labels (suc n) [] h = tt
+some_labels (suc n) (label ∷ labels) h = (h.0, some_labels n labels h.1)
+
+relative_is_word : (origin name : Name) → AllByRecursion IsLabel name → IsFieldWord (relative_text origin name)
+relative_is_word origin name h = by_under (is_under name origin)
+  where
+    by_under : (u : Bool) → IsFieldWord (cond u (front_text (take (length name - length origin) name)) (text_of name))
+    by_under true = front_is_word (take (length name - length origin) name) (some_labels (length name - length origin) name h)
+    by_under false = absolute_is_word name h
+
+-- a name in either manner
+pub name_is_word : (printed : Option Name) (name : Name) → AllByRecursion IsLabel name → IsFieldWord (name_text printed name)
+name_is_word None name h = absolute_is_word name h
+name_is_word (Some origin) name h = relative_is_word origin name h
 
 -- what begins with a hexadecimal digit isn't that word
 begins_not : (text more : List ℕ) → list_all is_ascii_hexdigit text ≡ true → 0 < length text → text ++ more ≡ any_type → ⊥

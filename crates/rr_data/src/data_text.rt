@@ -1,10 +1,10 @@
 //! Types and data as they are printed.
 ghost use Rattle.std.specs.Prelude.{◌≡◌, ◌<◌, ◌≤◌, ◌+◌, ◌++◌, ◌∷◌, ◌^◌, [], ℕ, List, length, map, take, drop, Some, None, Option, OnOk, OnErr, IfOk, codes, decimal, if◌then◌else◌, ◌==◌, MatchOption};
 ghost use Rattle.std.specs.Io.{StartsWith};
-ghost use Rattle.std.specs.Option.{option_map};
+ghost use Rattle.std.specs.Option.{option_map, option_copied};
 ghost use Rattle.std.specs.List.{flat_map};
 ghost use Rattle.std.specs.Int.{w32, from_be_bytes};
-ghost use Rattle.zone_model.specs.DataText.{type_text, data_text, typed_text, fields_text, strings_text, field_text, address_text, groups_text, group_text, digit_at, generic_text, hex_digit, hex_text, string_octet, string_text, quoted_text};
+ghost use Rattle.zone_model.specs.DataText.{type_text, data_text, data_text_in, typed_text, fields_text, strings_text, field_text, address_text, groups_text, group_text, digit_at, generic_text, hex_digit, hex_text, string_octet, string_text, quoted_text};
 ghost use Rattle.zone_model.specs.Types.{NameField, ShortField, NumberField, TimeField};
 ghost use Rattle.rr_data.specs.Printing.{PrintsField, PrintsFields};
 ghost use Rattle.rr_data.specs.Fields.{field_view};
@@ -12,6 +12,7 @@ ghost use Rattle.rr_data.specs.Fields.{field_view};
 use crate::rdata::Rdata;
 use crate::splits::{number_of, short_of, split_name, split_octets, split_time};
 use crate::types::{Field, Form, form_of, type_numbered};
+use dns_name::Name;
 use std::alloc::AllocError;
 use zone_text::push_decimal;
 
@@ -90,19 +91,23 @@ fn push_groups(octets: &[u8], out: &mut Vec<u8>) -> Result<(), AllocError>
 }
 
 // Pushes the text of a name that octets begin with, and answers what is behind it.
-fn push_name<'a>(octets: &'a [u8], out: &mut Vec<u8>) -> Result<Option<&'a [u8]>, AllocError>
-    ensures ok { IfOk result (λ o. PrintsField (option_map (λ r. r.now) o) out.old.items out.new.items (field_text NameField octets.now)) }
+fn push_name<'a>(
+    octets: &'a [u8],
+    origin: Option<&Name>,
+    out: &mut Vec<u8>,
+) -> Result<Option<&'a [u8]>, AllocError>
+    ensures ok { IfOk result (λ o. PrintsField (option_map (λ r. r.now) o) out.old.items out.new.items (field_text (option_copied origin.entry) NameField octets.now)) }
     ensures kept { StartsWith out.new.items out.old.items }
 {
     let Some((name, rest)) = split_name(octets) else {
         return Ok(None);
     };
-    name.push_text(out)?;
+    name.push_text_in(origin, out)?;
     Ok(Some(rest))
 }
 
 fn push_short<'a>(octets: &'a [u8], out: &mut Vec<u8>) -> Result<Option<&'a [u8]>, AllocError>
-    ensures ok { IfOk result (λ o. PrintsField (option_map (λ r. r.now) o) out.old.items out.new.items (field_text ShortField octets.now)) }
+    ensures ok { IfOk result (λ o. PrintsField (option_map (λ r. r.now) o) out.old.items out.new.items (field_text None ShortField octets.now)) }
     ensures kept { StartsWith out.new.items out.old.items }
 {
     let Some((short, rest)) = split_octets(2, octets) else {
@@ -113,7 +118,7 @@ fn push_short<'a>(octets: &'a [u8], out: &mut Vec<u8>) -> Result<Option<&'a [u8]
 }
 
 fn push_number<'a>(octets: &'a [u8], out: &mut Vec<u8>) -> Result<Option<&'a [u8]>, AllocError>
-    ensures ok { IfOk result (λ o. PrintsField (option_map (λ r. r.now) o) out.old.items out.new.items (field_text NumberField octets.now)) }
+    ensures ok { IfOk result (λ o. PrintsField (option_map (λ r. r.now) o) out.old.items out.new.items (field_text None NumberField octets.now)) }
     ensures kept { StartsWith out.new.items out.old.items }
 {
     let Some((number, rest)) = split_octets(4, octets) else {
@@ -124,7 +129,7 @@ fn push_number<'a>(octets: &'a [u8], out: &mut Vec<u8>) -> Result<Option<&'a [u8
 }
 
 fn push_time<'a>(octets: &'a [u8], out: &mut Vec<u8>) -> Result<Option<&'a [u8]>, AllocError>
-    ensures ok { IfOk result (λ o. PrintsField (option_map (λ r. r.now) o) out.old.items out.new.items (field_text TimeField octets.now)) }
+    ensures ok { IfOk result (λ o. PrintsField (option_map (λ r. r.now) o) out.old.items out.new.items (field_text None TimeField octets.now)) }
     ensures kept { StartsWith out.new.items out.old.items }
 {
     let Some((time, rest)) = split_time(octets) else {
@@ -138,13 +143,14 @@ fn push_time<'a>(octets: &'a [u8], out: &mut Vec<u8>) -> Result<Option<&'a [u8]>
 fn push_field<'a>(
     field: Field,
     octets: &'a [u8],
+    origin: Option<&Name>,
     out: &mut Vec<u8>,
 ) -> Result<Option<&'a [u8]>, AllocError>
-    ensures ok { IfOk result (λ o. PrintsField (option_map (λ r. r.now) o) out.old.items out.new.items (field_text (field_view field) octets.now)) }
+    ensures ok { IfOk result (λ o. PrintsField (option_map (λ r. r.now) o) out.old.items out.new.items (field_text (option_copied origin.entry) (field_view field) octets.now)) }
     ensures kept { StartsWith out.new.items out.old.items }
 {
     match field {
-        Field::Name => push_name(octets, out),
+        Field::Name => push_name(octets, origin, out),
         Field::Short => push_short(octets, out),
         Field::Number => push_number(octets, out),
         Field::Time => push_time(octets, out),
@@ -167,21 +173,26 @@ fn push_field<'a>(
 
 // Pushes the fields with a space between them, where octets are just these.
 #[tactic(auto, unfolding(zone_model::specs::DataText::fields_text))]
-fn push_fields(fields: &[Field], octets: &[u8], out: &mut Vec<u8>) -> Result<bool, AllocError>
-    ensures ok { IfOk result (λ fits. PrintsFields fits out.old.items out.new.items (fields_text (map field_view fields.now) octets.now)) }
+fn push_fields(
+    fields: &[Field],
+    octets: &[u8],
+    origin: Option<&Name>,
+    out: &mut Vec<u8>,
+) -> Result<bool, AllocError>
+    ensures ok { IfOk result (λ fits. PrintsFields fits out.old.items out.new.items (fields_text (option_copied origin.entry) (map field_view fields.now) octets.now)) }
     ensures kept { StartsWith out.new.items out.old.items }
 {
     let Some((field, others)) = fields.split_first() else {
         return Ok(false);
     };
-    let Some(rest) = push_field(*field, octets, out)? else {
+    let Some(rest) = push_field(*field, octets, origin, out)? else {
         return Ok(false);
     };
     if others.is_empty() {
         return Ok(rest.is_empty());
     }
     out.extend_from_slice(b" ")?;
-    push_fields(others, rest, out)
+    push_fields(others, rest, origin, out)
 }
 
 fn hex_digit(digit: u8) -> u8
@@ -287,25 +298,43 @@ fn push_strings(octets: &[u8], out: &mut Vec<u8>) -> Result<bool, AllocError>
 }
 
 // Pushes data in the form of its type, where it has that form.
-fn push_typed(rtype: u16, octets: &[u8], out: &mut Vec<u8>) -> Result<bool, AllocError>
-    ensures ok { IfOk result (λ fits. PrintsFields fits out.old.items out.new.items (typed_text rtype octets.now)) }
+fn push_typed(
+    rtype: u16,
+    octets: &[u8],
+    origin: Option<&Name>,
+    out: &mut Vec<u8>,
+) -> Result<bool, AllocError>
+    ensures ok { IfOk result (λ fits. PrintsFields fits out.old.items out.new.items (typed_text (option_copied origin.entry) rtype octets.now)) }
     ensures kept { StartsWith out.new.items out.old.items }
 {
     match form_of(rtype) {
-        Some(Form::Fields(fields)) => push_fields(fields, octets, out),
+        Some(Form::Fields(fields)) => push_fields(fields, octets, origin, out),
         Some(Form::Strings) => push_strings(octets, out),
         None => Ok(false),
     }
 }
 
 /// Pushes data as it is printed for a type: its fields, or `\#`, the number of octets and their digits where they aren't of
-/// the type's form. Where no memory is left, some of that may have been pushed.
+/// the type's form. Names are absolute. Where no memory is left, some of that may have been pushed.
 pub fn push_data(rtype: u16, octets: &[u8], out: &mut Vec<u8>) -> Result<(), AllocError>
     ensures ok { OnOk result (out.new.items ≡ out.old.items ++ data_text rtype octets.now) }
     ensures kept { StartsWith out.new.items out.old.items }
 {
+    push_data_in(rtype, octets, None, out)
+}
+
+/// The same where an origin is in force: names at or under it are relative to it.
+pub fn push_data_in(
+    rtype: u16,
+    octets: &[u8],
+    origin: Option<&Name>,
+    out: &mut Vec<u8>,
+) -> Result<(), AllocError>
+    ensures ok { OnOk result (out.new.items ≡ out.old.items ++ data_text_in (option_copied origin.entry) rtype octets.now) }
+    ensures kept { StartsWith out.new.items out.old.items }
+{
     let start = out.len();
-    if push_typed(rtype, octets, out)? {
+    if push_typed(rtype, octets, origin, out)? {
         return Ok(());
     }
     out.truncate(start);

@@ -1,5 +1,5 @@
 //! Laws of records, each as the contract of a function that does nothing.
-ghost use Rattle.std.specs.Prelude.{◌≡◌, ℕ, ◌<◌, ◌≤◌, ◌^◌, false, [], ◌∷◌, ◌++◌, List, length, Some, Ok, drop, decimal, option_and_then};
+ghost use Rattle.std.specs.Prelude.{◌≡◌, ℕ, ◌<◌, ◌≤◌, ◌^◌, false, [], ◌∷◌, ◌++◌, List, length, Option, Some, Ok, drop, decimal, option_and_then};
 ghost use Rattle.std.specs.List.{flat_map};
 ghost use Rattle.std.specs.Option.{option_map};
 ghost use Rattle.zone_model.specs.Names.{Name, IsName};
@@ -9,8 +9,9 @@ ghost use Rattle.zone_model.specs.Escapes.{escaped_octet, escape_len};
 ghost use Rattle.zone_model.specs.DataWords.{octets_from, unescaped, Slash, paired, time_of, data_type, type_named};
 ghost use Rattle.zone_model.specs.Types.{Field};
 ghost use Rattle.zone_model.specs.Data.{field_octets, of_form, data_of};
-ghost use Rattle.zone_model.specs.DataText.{field_text, string_text, hex_text, type_text, data_text};
+ghost use Rattle.zone_model.specs.DataText.{field_text, string_text, hex_text, type_text, data_text_in};
 ghost use Rattle.zone_model.specs.Grammar.{Token, Spells};
+ghost use Rattle.rr_data.specs.Printing.{ReadsUnder};
 
 /// Octets are the item of one owner and one entry at most. So an entry is what is read from the item that it makes.
 pub fn items_are_told_apart()
@@ -47,19 +48,23 @@ pub fn printed_types_read_back()
     ensures { (n : ℕ) → n ≤ 65535 → type_named (type_text n) ≡ data_type n }
 {}
 
-/// What is read from the printed text of a field are the octets that it was printed of, whatever the origin.
+/// What is read from the printed text of a field are the octets that it was printed of: under the origin that names were
+/// printed relative to, and under any where they are absolute.
 pub fn printed_fields_read_back(octets: &[u8])
-    ensures { (origin : Name) (field : Field) (text rest : List ℕ) → field_text field octets.now ≡ Some (text, rest) → (front : List ℕ) × (field_octets origin field text ≡ Some front) × (octets.now ≡ front ++ rest) }
+    ensures { (printed : Option Name) (origin : Name) → ReadsUnder printed origin →
+        (field : Field) (text rest : List ℕ) → field_text printed field octets.now ≡ Some (text, rest) →
+        (front : List ℕ) × (field_octets origin field text ≡ Some front) × (octets.now ≡ front ++ rest) }
 {
     let _ = octets;
 }
 
-/// A line with printed data is cut into tokens that say the octets again, whatever the origin. Octets that aren't of
-/// their type's form are printed as data of any type is, and then refused for their form.
+/// A line with printed data is cut into tokens that say the octets again: under the origin that names were printed
+/// relative to, and under any where they are absolute. Octets that aren't of their type's form are printed as data of any
+/// type is, and then refused for their form.
 pub fn printed_data_reads_back(octets: &[u8])
-    ensures { (line rtype : ℕ) → length octets.now ≤ 65535 →
-        (tokens : List Token) × Spells line [] (data_text rtype octets.now) (Ok (record { tokens = tokens; parens = false; opens = [] }))
-        × ((origin : Name) → data_of origin rtype tokens ≡ of_form rtype octets.now) }
+    ensures { (printed : Option Name) (line rtype : ℕ) → length octets.now ≤ 65535 →
+        (tokens : List Token) × Spells line [] (data_text_in printed rtype octets.now) (Ok (record { tokens = tokens; parens = false; opens = [] }))
+        × ((origin : Name) → ReadsUnder printed origin → data_of origin rtype tokens ≡ of_form rtype octets.now) }
 {
     let _ = octets;
 }

@@ -4,7 +4,8 @@ use Rattle.std.specs.Option.{option_map}
 use Rattle.std.specs.List.{flat_map}
 use Rattle.std.specs.Int.{w16, w32, from_be_bytes}
 use Rattle.std.specs.Fmt.{decimal}
-use Rattle.zone_model.specs.NameText.{text_of, three_digits}
+use Rattle.zone_model.specs.Names.{Name}
+use Rattle.zone_model.specs.NameText.{name_text, three_digits}
 use Rattle.zone_model.specs.Splits.{split_octets, split_name}
 use Rattle.zone_model.specs.Types.{Field, NameField, ShortField, NumberField, TimeField, AddressField, Address6Field, Form, Fields, Strings, NamedType, type_numbered, form_of}
 use Rattle.zone_model.specs.DataForms.{split_time}
@@ -46,21 +47,21 @@ groups_text (a ∷ b ∷ next ∷ rest) = group_text (from_be_bytes w16 (a ∷ b
 
 -- ---- fields
 
--- the text of a field, and the octets behind it
-abbrev pub field_text : Field → List ℕ → Option (List ℕ × List ℕ)
-field_text NameField octets = option_map (λ x. (text_of x.0, x.1)) (split_name octets)
-field_text ShortField octets = option_map (λ x. (decimal (from_be_bytes w16 x.0), x.1)) (split_octets 2 octets)
-field_text NumberField octets = option_map (λ x. (decimal (from_be_bytes w32 x.0), x.1)) (split_octets 4 octets)
-field_text TimeField octets = option_map (λ x. (decimal (from_be_bytes w32 x.0), x.1)) (split_time octets)
-field_text AddressField octets = option_map (λ x. (address_text x.0, x.1)) (split_octets 4 octets)
-field_text Address6Field octets = option_map (λ x. (groups_text x.0, x.1)) (split_octets 16 octets)
+-- the text of a field, and the octets behind it; a name is relative to an origin, if there is one
+abbrev pub field_text : Option Name → Field → List ℕ → Option (List ℕ × List ℕ)
+field_text origin NameField octets = option_map (λ x. (name_text origin x.0, x.1)) (split_name octets)
+field_text origin ShortField octets = option_map (λ x. (decimal (from_be_bytes w16 x.0), x.1)) (split_octets 2 octets)
+field_text origin NumberField octets = option_map (λ x. (decimal (from_be_bytes w32 x.0), x.1)) (split_octets 4 octets)
+field_text origin TimeField octets = option_map (λ x. (decimal (from_be_bytes w32 x.0), x.1)) (split_time octets)
+field_text origin AddressField octets = option_map (λ x. (address_text x.0, x.1)) (split_octets 4 octets)
+field_text origin Address6Field octets = option_map (λ x. (groups_text x.0, x.1)) (split_octets 16 octets)
 
 -- the texts of fields with single spaces between them, where octets are just these fields
-unfoldable pub fields_text : List Field → List ℕ → Option (List ℕ)
-fields_text [] octets = None
-fields_text (field ∷ []) octets = option_and_then (λ x. if length x.1 == 0 then Some x.0 else None) (field_text field octets)
-fields_text (field ∷ next ∷ fields) octets =
-    option_and_then (λ x. option_map (λ t. x.0 ++ codes " " ++ t) (fields_text (next ∷ fields) x.1)) (field_text field octets)
+unfoldable pub fields_text : Option Name → List Field → List ℕ → Option (List ℕ)
+fields_text origin [] octets = None
+fields_text origin (field ∷ []) octets = option_and_then (λ x. if length x.1 == 0 then Some x.0 else None) (field_text origin field octets)
+fields_text origin (field ∷ next ∷ fields) octets =
+    option_and_then (λ x. option_map (λ t. x.0 ++ codes " " ++ t) (fields_text origin (next ∷ fields) x.1)) (field_text origin field octets)
 
 -- ---- strings
 
@@ -94,14 +95,19 @@ hex_text octet = hex_digit (octet / 16) ∷ hex_digit (octet % 16) ∷ []
 abbrev pub generic_text : List ℕ → List ℕ
 generic_text octets = codes "\\# " ++ decimal (length octets) ++ (if length octets == 0 then [] else codes " " ++ flat_map hex_text octets)
 
-abbrev pub formed_text : Option Form → List ℕ → Option (List ℕ)
-formed_text None octets = None
-formed_text (Some (Fields fields)) octets = fields_text fields octets
-formed_text (Some Strings) octets = strings_text (length octets) octets
+abbrev pub formed_text : Option Name → Option Form → List ℕ → Option (List ℕ)
+formed_text origin None octets = None
+formed_text origin (Some (Fields fields)) octets = fields_text origin fields octets
+formed_text origin (Some Strings) octets = strings_text (length octets) octets
 
 -- data in the form of its type, where it has that form
-abbrev pub typed_text : ℕ → List ℕ → Option (List ℕ)
-typed_text rtype octets = formed_text (form_of rtype) octets
+abbrev pub typed_text : Option Name → ℕ → List ℕ → Option (List ℕ)
+typed_text origin rtype octets = formed_text origin (form_of rtype) octets
 
+-- data with names relative to an origin, if there is one
+abbrev pub data_text_in : Option Name → ℕ → List ℕ → List ℕ
+data_text_in origin rtype octets = unwrap_or (typed_text origin rtype octets) (generic_text octets)
+
+-- data with absolute names
 abbrev pub data_text : ℕ → List ℕ → List ℕ
-data_text rtype octets = unwrap_or (typed_text rtype octets) (generic_text octets)
+data_text rtype octets = data_text_in None rtype octets

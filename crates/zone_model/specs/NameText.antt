@@ -1,8 +1,8 @@
 -- The text of a name (RFC 1035, section 5.1): how it is read and how it is printed.
-use Rattle.std.specs.Prelude.{ℕ, zero, suc, ◌+◌, Bool, true, false, List, [], ◌∷◌, ◌++◌, length, ◌==◌, nat_lt, ◌/◌, ◌%◌, ◌||◌, ◌&&◌, if◌then◌else◌, Option, Some, None, Result, Ok, Err}
-use Rattle.std.specs.List.{flat_map}
+use Rattle.std.specs.Prelude.{ℕ, zero, suc, ◌+◌, ◌-◌, Bool, true, false, List, [], ◌∷◌, ◌++◌, length, take, map, codes, ◌==◌, nat_lt, ◌/◌, ◌%◌, ◌||◌, ◌&&◌, if◌then◌else◌, Option, Some, None, Result, Ok, Err}
+use Rattle.std.specs.List.{flat_map, join_with_byte}
 use Rattle.std.specs.Char.{to_ascii_lowercase}
-use Rattle.zone_model.specs.Names.{Name, Label, wire}
+use Rattle.zone_model.specs.Names.{Name, Label, wire, is_under}
 use Rattle.zone_model.specs.Escapes.{escaped_octet, escape_len}
 use Rattle.zone_model.specs.declared.NameRefusal.{NameRefusal}
 use Rattle.zone_model.specs.declared.NameRefusal.TheVariants.{EmptyLabel, LongLabel, BadEscape, LongName}
@@ -85,3 +85,23 @@ label_text label = flat_map octet_text label ++ 46 ∷ []
 abbrev pub text_of : Name → List ℕ
 text_of [] = 46 ∷ []
 text_of (label ∷ labels) = flat_map label_text (label ∷ labels)
+
+-- ---- names as they are printed where an origin is in force
+
+-- labels with dots between them
+abbrev pub labels_text : Name → List ℕ
+labels_text labels = join_with_byte 46 (map (λ label. flat_map octet_text label) labels)
+
+-- the labels in front of an origin
+abbrev pub front_text : Name → List ℕ
+front_text [] = codes "@"
+front_text (label ∷ labels) = labels_text (label ∷ labels)
+
+-- A name relative to an origin: `@` for the origin itself, and for a name under it the labels in front. Any other name is absolute.
+abbrev pub relative_text : Name → Name → List ℕ
+relative_text origin name = if is_under name origin then front_text (take (length name - length origin) name) else text_of name
+
+-- a name relative to an origin, or absolute where there is none
+abbrev pub name_text : Option Name → Name → List ℕ
+name_text None name = text_of name
+name_text (Some origin) name = relative_text origin name

@@ -1,0 +1,118 @@
+//! Zones and their dumps, which say the same zones again.
+
+use crate::written::{sink_of, write_zone};
+use std::alloc::Global;
+use zone_dump::DumpRefusal;
+
+// Whether the dump of a zone that a text says is this.
+fn is_dumped(alloc: Global, text: &[u8], origin: &[u8], ttl: Option<u32>, want: &[u8]) -> bool {
+    let Ok(mut sink) = sink_of(alloc, 7, &[]) else {
+        return false;
+    };
+    match write_zone(alloc, text, origin, ttl, &mut sink) {
+        Some(Ok(_)) => sink.held() == Some(want),
+        _ => false,
+    }
+}
+
+// A zone of an origin, its SOA's time to live, and its dumps in both styles.
+struct Case {
+    text: &'static [u8],
+    origin: &'static [u8],
+    ttl: u32,
+    full: &'static [u8],
+    short: &'static [u8],
+}
+
+// Whether the text and both dumps are dumped alike.
+fn is_right(alloc: Global, case: &Case) -> bool {
+    for text in [case.text, case.full, case.short] {
+        let full = is_dumped(alloc, text, case.origin, None, case.full);
+        let short = is_dumped(alloc, text, case.origin, Some(case.ttl), case.short);
+        if !full || !short {
+            return false;
+        }
+    }
+    true
+}
+
+const PLAIN: Case = Case {
+    text: b"$TTL 300\n@ SOA ns hostmaster 1 3600 600 86400 60\n@ NS ns\nns A 192.0.2.1\n",
+    origin: b"example.",
+    ttl: 300,
+    full: b"example. 300 IN NS ns.example.\n\
+        example. 300 IN SOA ns.example. hostmaster.example. 1 3600 600 86400 60\n\
+        ns.example. 300 IN A 192.0.2.1\n",
+    short: b"$ORIGIN example.\n$TTL 300\n@ IN NS ns\n\tIN SOA ns hostmaster 1 3600 600 86400 60\nns IN A 192.0.2.1\n",
+};
+
+#[test]
+fn a_plain_zone_is_dumped(rt: HostRuntime) {
+    assert!(rt; is_right(rt.alloc(), &PLAIN));
+}
+
+// Labels that would be something else unescaped, or as another word, or that have a dot or a space in them; names outside
+// the zone, other times to live, a wildcard, and data of a type that has no name.
+const ODD: Case = Case {
+    text: b"$TTL 300\n@ SOA ns hostmaster 1 2 3 4 5\n\\@ A 192.0.2.1\na\\.b A 192.0.2.2\n*.w A 192.0.2.3\n\
+        300 CNAME in\nin 60 TXT \"x\"\na NS in.example.net.\na NS \\@\na NS @\nt TYPE65280 \\# 2 0aFF\n\\032 60 PTR .\n",
+    origin: b"example.",
+    ttl: 300,
+    full: b"example. 300 IN SOA ns.example. hostmaster.example. 1 2 3 4 5\n\
+        \\032.example. 60 IN PTR .\n\
+        300.example. 300 IN CNAME in.example.\n\
+        \\@.example. 300 IN A 192.0.2.1\n\
+        a.example. 300 IN NS \\@.example.\n\
+        a.example. 300 IN NS in.example.net.\n\
+        a.example. 300 IN NS example.\n\
+        a\\.b.example. 300 IN A 192.0.2.2\n\
+        in.example. 60 IN TXT \"x\"\n\
+        t.example. 300 IN TYPE65280 \\# 2 0aff\n\
+        *.w.example. 300 IN A 192.0.2.3\n",
+    short: b"$ORIGIN example.\n$TTL 300\n\
+        @ IN SOA ns hostmaster 1 2 3 4 5\n\
+        \\032 60 IN PTR .\n\
+        300 IN CNAME in\n\
+        \\@ IN A 192.0.2.1\n\
+        a IN NS \\@\n\
+        \tIN NS in.example.net.\n\
+        \tIN NS @\n\
+        a\\.b IN A 192.0.2.2\n\
+        in 60 IN TXT \"x\"\n\
+        t IN TYPE65280 \\# 2 0aff\n\
+        *.w IN A 192.0.2.3\n",
+};
+
+#[test]
+fn odd_labels_are_dumped(rt: HostRuntime) {
+    assert!(rt; is_right(rt.alloc(), &ODD));
+}
+
+const ROOT: Case = Case {
+    text: b"$TTL 60\n@ SOA ns hm 1 2 3 4 5\ncom NS ns.com\na.com 5 A 192.0.2.9\n",
+    origin: b".",
+    ttl: 60,
+    full: b". 60 IN SOA ns. hm. 1 2 3 4 5\ncom. 60 IN NS ns.com.\na.com. 5 IN A 192.0.2.9\n",
+    short: b"$ORIGIN .\n$TTL 60\n@ IN SOA ns hm 1 2 3 4 5\ncom IN NS ns.com\na.com 5 IN A 192.0.2.9\n",
+};
+
+#[test]
+fn the_zone_of_the_root_is_dumped(rt: HostRuntime) {
+    assert!(rt; is_right(rt.alloc(), &ROOT));
+}
+
+// How many records a dump tells.
+fn told(alloc: Global, text: &[u8], origin: &[u8]) -> Option<u64> {
+    let Ok(mut sink) = sink_of(alloc, 100, &[]) else {
+        return None;
+    };
+    match write_zone(alloc, text, origin, None, &mut sink) {
+        Some(Ok(count)) => Some(count),
+        Some(Err(DumpRefusal::Fault | DumpRefusal::Memory)) | None => None,
+    }
+}
+
+#[test]
+fn records_are_counted(rt: HostRuntime) {
+    assert!(rt; told(rt.alloc(), ODD.text, ODD.origin) == Some(11));
+}

@@ -1,0 +1,53 @@
+//! The dump of a zone that a master file says. A proof computes with a text that it sees, so texts are passed to functions.
+ghost use Rattle.std.specs.Prelude.{◌<◌};
+
+use dns_name::Name;
+use master_file::{ZoneItems, read_zone};
+use outer_io::MemSink;
+use rr_data::Directives;
+use std::alloc::{AllocError, Global};
+use zone_dump::{DumpRefusal, Lines};
+
+/// Writes the items of a zone, under directives or in full.
+fn write_items(
+    alloc: Global,
+    items: &mut ZoneItems,
+    directives: Option<Directives>,
+    sink: &mut MemSink,
+) -> Result<u64, DumpRefusal> {
+    let mut item = [0; 4096];
+    let mut lines = Lines::new(alloc, directives)?;
+    while let Some(len) = items.next(&mut item) {
+        lines.push_item(&item[..len], sink)?;
+    }
+    lines.finish(sink)
+}
+
+/// A sink that takes at most so many bytes a call, and whose calls with these numbers fail.
+pub(crate) fn sink_of(alloc: Global, most: usize, fails: &[u64]) -> Result<MemSink, AllocError>
+    requires { 0 < most }
+{
+    MemSink::new(alloc, 10_000, most, Vec::from_slice(alloc, fails)?)
+}
+
+/// What became of a dump of the zone of an origin that a text says: in full, or short where the time to live of its SOA is
+/// given. None where the text says none.
+pub(crate) fn write_zone(
+    alloc: Global,
+    text: &[u8],
+    origin: &[u8],
+    ttl: Option<u32>,
+    sink: &mut MemSink,
+) -> Option<Result<u64, DumpRefusal>> {
+    let Ok(origin) = Name::read(origin, &Name::root()) else {
+        return None;
+    };
+    if text.len() > 1000 {
+        return None;
+    }
+    let directives = ttl.map(|ttl| Directives::new(&origin, ttl));
+    match read_zone(alloc, text, &origin) {
+        Ok(zone) => Some(write_items(alloc, &mut zone.into_items(), directives, sink)),
+        Err(_) => None,
+    }
+}

@@ -1,0 +1,4 @@
+pub mod Styles
+pub mod Files
+pub mod Writing
+pub mod Walks

@@ -1,0 +1,17 @@
+//! A version of a zone as a master file (RFC 1035, section 5), written while others go on.
+//!
+//! Two styles say the same zone: one in which each line says all of a record, and one that is shorter. Lines go through one
+//! buffer, so what is written takes no memory that grows with the zone.
+#![tactic(auto)]
+
+mod dumping;
+mod lines;
+mod refusal;
+mod style;
+mod text_sink;
+mod writing;
+
+pub use dumping::{dump_text, dump_to};
+pub use lines::Lines;
+pub use refusal::DumpRefusal;
+pub use style::Style;
