@@ -4,7 +4,8 @@
 Usage: hosts.py N [SEED] [COMMANDS [COUNT]]
 COMMANDS is `one` (one question, the default), `questions` (COUNT of them, 10,000 if not said), `absent` (as
 many for names that aren't there), `below` (as many for names under those that are), `blocks` (as many blocks
-of one new address) or `block` (one block of as many new addresses).
+of one new address), `block` (one block of as many new addresses), `needs` or `neednots` (one block of as many
+prerequisites, each of a name that is there, or isn't).
 """
 import random
 import sys
@@ -22,6 +23,7 @@ def zone(count, seed):
 
 
 QUESTIONS = {"questions": "get n{} A", "absent": "get m{} A", "below": "get a.n{} A"}
+PREREQUISITES = {"needs": "need n{} A", "neednots": "neednot m{}"}
 
 
 def script(commands, count, most):
@@ -35,6 +37,11 @@ def script(commands, count, most):
     elif commands == "blocks":
         for host in range(most):
             yield from ("write", f"add m{host} 300 A 192.0.2.7", "commit")
+    elif commands in PREREQUISITES:
+        yield "write"
+        for name in range(most):
+            yield PREREQUISITES[commands].format(name * 7919 % count)
+        yield "commit"
     elif commands == "block":
         yield "write"
         for host in range(most):

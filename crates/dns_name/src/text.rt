@@ -66,6 +66,7 @@ fn fill(text: &[u8], octets: &mut Octets)
                 octets.push(octet);
                 at = next;
             }
+            // The text was found to be a name.
             Piece::Bad => unreachable!(),
         }
     }

@@ -47,6 +47,7 @@ pub fn take_snapshot<'i, N: Named>(
         (station passes.new.asks.seat (option_map (λ p. p.seat) passes.new.spare) (option_map (λ s. s.seat) passes.new.held)) }
 {
     let Some(second) = passes.spare.take() else {
+        // Nothing is held.
         unreachable!();
     };
     let (snapshot, outcome) = hold(index, &mut passes.asks, second);
@@ -73,6 +74,7 @@ pub fn ask_snapshot<N: Named>(
         (station passes.old.asks.seat (option_map (λ p. p.seat) passes.old.spare) (option_map (λ s. s.seat) passes.old.held))) }
 {
     let Some(mut snapshot) = passes.held.take() else {
+        // A script asks a snapshot only while one is held.
         unreachable!();
     };
     let outcome = ask_held(alloc, origin, &mut snapshot, question, room)?;
@@ -97,6 +99,7 @@ pub fn give_back<N: Named>(passes: &mut Passes<'_, N>) -> Outcome
         (station passes.new.asks.seat (option_map (λ p. p.seat) passes.new.spare) (option_map (λ s. s.seat) passes.new.held)) }
 {
     let Some(snapshot) = passes.held.take() else {
+        // A script gives a snapshot back only while one is held.
         unreachable!();
     };
     let (second, outcome) = release(snapshot);
@@ -121,6 +124,7 @@ pub fn second_pass<N: Named>(passes: Passes<'_, N>) -> (Pass<N>, Pass<N>)
         return (asks, second);
     }
     let Some(second) = spare else {
+        // The second pass is spare unless it is held.
         unreachable!();
     };
     (asks, second)

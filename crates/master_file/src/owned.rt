@@ -93,6 +93,7 @@ fn several_of(alloc: Global, octets: &[u8]) -> Result<Several, AllocError>
     ensures { IfOk result (λ s. (owner : Labels) (entry : Records) → IsItem octets.now owner entry → (s.owner ≡ owner) × (s.entry ≡ entry)) }
 {
     let Some(name) = Name::from_wire(octets) else {
+        // An item begins with its owner's octets.
         unreachable!();
     };
     match Entry::decode(alloc, octets) {
@@ -101,6 +102,7 @@ fn several_of(alloc: Global, octets: &[u8]) -> Result<Several, AllocError>
             entry,
         }),
         Err(DecodeRefusal::Memory) => Err(AllocError),
+        // It was encoded here.
         Err(DecodeRefusal::Malformed) => unreachable!(),
     }
 }
@@ -209,6 +211,7 @@ impl Owned {
             }
             Kept::Several(several) => {
                 let Some(len) = several.entry.encode(&several.owner.name(), out) else {
+                    // A record that would make it too long was refused.
                     unreachable!();
                 };
                 len

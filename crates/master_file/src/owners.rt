@@ -88,7 +88,7 @@ impl Owners {
         ensures gives { Gives result (version_of self.new.owned.entries) (added apex.now last owner.now rtype time rdata (version_of self.old.owned.entries)) }
         ensures held { OnOk result (AllHeld apex.now self.new.owned.entries) }
     {
-        let _wire = owner.wire();
+        let _wire = owner.wire(); // for the proof
         let Some(key) = SortKey::below(alloc, owner, apex, &mut self.scratch)? else {
             return Err(refuse(last, ZoneKind::OutsideZone));
         };
@@ -104,7 +104,7 @@ impl Owners {
         ensures tells { IfOk result (λ b. b ≡ has_soa apex.now (version_of self.old.owned.entries)) }
         ensures kept { self.new.owned ≡ self.old.owned }
     {
-        let _wire = apex.wire();
+        let _wire = apex.wire(); // for the proof
         let Some(key) = SortKey::below(alloc, apex, apex, &mut self.scratch)? else {
             return Ok(false);
         };

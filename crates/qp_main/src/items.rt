@@ -19,12 +19,14 @@ fn item_of(alloc: Global, octets: &[u8]) -> Result<Item, AllocError>
     ensures { IfOk result (λ item. (name : Labels) (entry : Entry) → IsItem octets.now name entry → entry_of item ≡ trie_entry (name, entry)) }
 {
     let Some(name) = Name::from_wire(octets) else {
+        // An item begins with its owner's octets.
         unreachable!();
     };
     let owner = name.wire().len();
     match Item::of(alloc, &name, &octets[owner..]) {
         Ok(item) => Ok(item),
         Err(ItemRefusal::Memory) => Err(AllocError),
+        // It was an item before.
         Err(ItemRefusal::Long { bytes: _ }) => unreachable!(),
     }
 }
@@ -46,8 +48,7 @@ fn items_of(alloc: Global, mut left: ZoneItems) -> Result<Vec<Item>, AllocError>
 pub fn zone_items(alloc: Global, zone: Zone) -> Result<Vec<Item>, AllocError>
     ensures { IfOk result (λ items. StandsAs (entries_of_items items.items) zone.pairs) }
 {
-    // The zone's length tells that its names rise.
-    let _names = zone.len();
+    let _names = zone.len(); // for the proof: the names rise
     let items = items_of(alloc, zone.into_items())?;
     Ok(items)
 }

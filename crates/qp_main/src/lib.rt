@@ -1,14 +1,17 @@
-//! The program: reads a job (a zone and its workers' script), runs it, and prints the report; or reads a zone and says how
-//! large its index is; or makes a job, runs it, and sums it up.
+//! The program: reads a job (a zone and its workers' script), runs it, and prints the report; or hands one list of commands
+//! out to workers; or reads a zone and says how large its index is; or makes a job, runs it, and sums it up.
 #![tactic(auto)]
 
+mod feeding;
 mod items;
 mod program;
+mod refusing;
 mod report;
 mod reporting;
 mod status;
 mod telling;
 
+pub use items::zone_items;
 pub use job_make::{Load, make_text};
 pub use job_threads::Gate;
 pub use program::run;

@@ -178,7 +178,7 @@ impl Entry {
         ensures changed { IfOk result (λ changed. TellsChange changed self.old self.new) }
         ensures err { OnErr result (self.new ≡ self.old) }
     {
-        let _octets = added.octets();
+        let _octets = added.octets(); // for the proof
         add_to(alloc, &mut self.sets, rtype, ttl, added)
     }
 

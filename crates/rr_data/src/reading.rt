@@ -73,7 +73,7 @@ impl Rdata {
         requires placed { All (IsPlaced bytes.now) tokens.now }
         ensures { ReadsData result (data_of origin.now rtype (map (token_view bytes.now) tokens.now)) }
     {
-        let _wire = origin.wire();
+        let _wire = origin.wire(); // for the proof
         let mut octets = Vec::new(alloc);
         push_data(alloc, origin, rtype, bytes, tokens, &mut octets)?;
         Ok(Rdata::new(octets))

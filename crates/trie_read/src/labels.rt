@@ -11,7 +11,7 @@ pub fn ends_at(key: &Key, place: u16) -> bool
     ensures ends { IsTrue result ↔ EndsAt place key.now }
     ensures key { IsKey key.now }
 {
-    let _key = key.len();
+    let _key = key.len(); // for the proof
     place == 0 || key.at(place - 1) == 0
 }
 

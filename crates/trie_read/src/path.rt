@@ -210,6 +210,6 @@ fn position_at(key: &Key, place: u16) -> u8
     ensures small { result < 47 }
     ensures key { IsKey key.now }
 {
-    let _key = key.len();
+    let _key = key.len(); // for the proof
     key.at(place)
 }

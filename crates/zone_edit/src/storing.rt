@@ -30,9 +30,10 @@ fn take_out<L: Law, N: Named, K>(
     ensures place { transaction.new.locked.now.place ≡ transaction.old.locked.now.place }
     ensures stores { Edits (Stores name.now before.now [] result) transaction.old.locked.now.draft transaction.new.locked.now.draft }
 {
-    let _wire = name.wire();
+    let _wire = name.wire(); // for the proof
     match transaction.delete(key) {
         Ok(()) => Ok(()),
+        // The name owns something, so it is there.
         Err(ChangeRefusal::NotFound) => unreachable!(),
         Err(ChangeRefusal::Full(_)) => Err(NoRoom),
     }
@@ -53,9 +54,10 @@ fn put_in<L: Law, N: Named, K>(
     ensures place { transaction.new.locked.now.place ≡ transaction.old.locked.now.place }
     ensures stores { Edits (Stores name.now [] entry.now result) transaction.old.locked.now.draft transaction.new.locked.now.draft }
 {
-    let _wire = name.wire();
+    let _wire = name.wire(); // for the proof
     match transaction.insert(key, item) {
         Ok(()) => Ok(()),
+        // The name owns nothing, so it isn't there.
         Err(InsertRefusal::Exists) => unreachable!(),
         Err(InsertRefusal::Full(_)) => Err(NoRoom),
     }
@@ -79,9 +81,10 @@ fn exchange<L: Law, N: Named, K>(
     ensures place { transaction.new.locked.now.place ≡ transaction.old.locked.now.place }
     ensures stores { Edits (Stores name.now before.now entry.now result) transaction.old.locked.now.draft transaction.new.locked.now.draft }
 {
-    let _wire = name.wire();
+    let _wire = name.wire(); // for the proof
     match transaction.replace(key, item) {
         Ok(()) => Ok(()),
+        // The name owns something, so it is there.
         Err(ChangeRefusal::NotFound) => unreachable!(),
         Err(ChangeRefusal::Full(_)) => Err(NoRoom),
     }
@@ -113,6 +116,7 @@ pub fn store<L: Law, N: Named, K>(
         return take_out(transaction, name, key, before);
     }
     let Some(len) = entry.encode(name, out) else {
+        // Changes that leave a longer item were refused.
         unreachable!();
     };
     if before.is_empty() {

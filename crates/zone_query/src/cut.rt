@@ -53,7 +53,7 @@ fn delegated<V: Reading>(
     ensures cut { (zone : Version) → ShowsAbove (V.holds version.old) (V.lies version.old) name.now above.now zone
         → IsCutOf zone item.new (delegated zone (ancestor labels name.now)) result }
 {
-    let _wire = name.wire();
+    let _wire = name.wire(); // for the proof
     let leaf = leaf_of(above, labels)?;
     let held = Held {
         name: name.cut(labels),

@@ -72,7 +72,7 @@ fn name_of(key: Option<Key>) -> Option<Name>
         None => None,
         Some(key) => {
             let name = key.to_name();
-            let _wire = name.wire();
+            let _wire = name.wire(); // for the proof
             Some(name)
         }
     }
@@ -84,7 +84,7 @@ pub fn find<V: Reading>(alloc: Global, version: &mut V, name: &Name) -> Result<F
     ensures same { version.new ≡ version.old }
     ensures found { (zone : Version) → Shows (V.holds version.old) zone → IfOk result (λ found. found ≡ around.find name.now zone) }
 {
-    let _wire = name.wire();
+    let _wire = name.wire(); // for the proof
     let found = version.find(&Key::of(name));
     let predecessor = name_of(found.pred);
     let chain = names_of(alloc, name, &found.chain)?;

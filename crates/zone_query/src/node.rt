@@ -39,7 +39,7 @@ fn wildcard_under<V: Reading>(
         → IsNodeOf item.new (wildcard_under zone (Some name.now)) result }
 {
     let star = name.star()?;
-    let _wire = star.wire();
+    let _wire = star.wire(); // for the proof
     if let Some(leaf) = version.lookup(&mut walker.iter, &Key::of(&star), &mut walker.above) {
         let len = version.read(leaf, item);
         return Some(Held { name: star, len });
@@ -63,7 +63,7 @@ pub fn absent_node<V: Reading>(
     ensures node { (zone : Version) → IsPlaced (V.holds version.old) (V.stands version.old walker.old.iter) name.now zone → [] ≡ owned name.now zone
         → IsNodeOf item.new (node zone name.now) result }
 {
-    let _wire = name.wire();
+    let _wire = name.wire(); // for the proof
     let near = Neighbours::of(version, &mut walker.iter);
     if near.show(name) {
         return Some(Held {

@@ -37,13 +37,14 @@ pub fn entry_of(alloc: Global, name: &Name, octets: &[u8]) -> Result<Entry, Allo
     requires { (entry : Records) × SaysEntry name.now octets.now entry }
     ensures { (entry : Records) → SaysEntry name.now octets.now entry → IfOk result (λ e. e ≡ entry) }
 {
-    let _wire = name.wire();
+    let _wire = name.wire(); // for the proof
     if octets.is_empty() {
         return Ok(Entry::empty(alloc));
     }
     match Entry::decode(alloc, octets) {
         Ok(entry) => Ok(entry),
         Err(DecodeRefusal::Memory) => Err(AllocError),
+        // What a version has was encoded.
         Err(DecodeRefusal::Malformed) => unreachable!(),
     }
 }
@@ -62,7 +63,7 @@ pub fn read_owned<V: Reading>(
     ensures within { result ≤ 4096 }
     ensures read { (zone : Version) → Shows (V.holds version.old) zone → IsRead name.now zone item.new result }
 {
-    let _wire = name.wire();
+    let _wire = name.wire(); // for the proof
     match version.fetch(key, item) {
         Some(len) => len,
         None => 0,

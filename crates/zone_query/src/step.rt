@@ -169,7 +169,7 @@ fn search<V: Reading, S: RowSink>(
     ensures gives { (zone : Version) → Shows (V.holds version.old) zone
         → Gives (step origin.now zone rtype name.now) (S.has rows.old) (S.has rows.new) walker.new.target result }
 {
-    let _wire = name.wire();
+    let _wire = name.wire(); // for the proof
     version.restart(&mut walker.iter);
     let found = version.lookup(&mut walker.iter, key, &mut walker.above);
     if let Some(cut) = cut_over(version, origin, name, walker.above.as_slice(), item) {

@@ -32,7 +32,7 @@ fn next_names<V: Reading>(
             return Ok(names);
         };
         let name = key.to_name();
-        let _wire = name.wire();
+        let _wire = name.wire(); // for the proof
         names.push(name)?;
     }
     Ok(names)
@@ -56,7 +56,7 @@ fn previous_names<V: Reading>(
             return Ok(names);
         };
         let name = key.to_name();
-        let _wire = name.wire();
+        let _wire = name.wire(); // for the proof
         names.push(name)?;
     }
     Ok(names)
@@ -73,7 +73,7 @@ pub fn walk<V: Reading>(
     ensures same { version.new ≡ version.old }
     ensures names { (zone : Version) → Shows (V.holds version.old) zone → IfOk result (λ names. names.items ≡ around.walk name.now most zone) }
 {
-    let _wire = name.wire();
+    let _wire = name.wire(); // for the proof
     let mut iter = version.iter();
     version.seek(&mut iter, &Key::of(name));
     next_names(alloc, version, &mut iter, most)
@@ -90,7 +90,7 @@ pub fn back<V: Reading>(
     ensures same { version.new ≡ version.old }
     ensures names { (zone : Version) → Shows (V.holds version.old) zone → IfOk result (λ names. names.items ≡ around.back name.now most zone) }
 {
-    let _wire = name.wire();
+    let _wire = name.wire(); // for the proof
     let mut iter = version.iter();
     version.seek(&mut iter, &Key::of(name));
     previous_names(alloc, version, &mut iter, most)
