@@ -1,17 +1,18 @@
 -- Plain words of the command line.
-use Rattle.std.specs.Prelude.{◌≡◌, ℕ, Bool, false, ◌&&◌, not, List, [], ◌∷◌, ◌==◌, if◌then◌else◌, Option, Some, None, codes, option_and_then, drop}
+use Rattle.std.specs.Prelude.{◌≡◌, ℕ, Bool, false, ◌&&◌, List, [], ◌∷◌, if◌then◌else◌, Option, Some, None, codes, option_and_then, drop}
 use Rattle.std.specs.Option.{option_map}
 use Rattle.std.specs.Str.{bytes_eq}
 use Rattle.zone_model.specs.Names.{Name}
-use Rattle.zone_model.specs.NameText.{name_of}
-use Rattle.zone_model.specs.Texts.{named}
 use Rattle.job_model.specs.Loads.{Load, made_origin}
 use Rattle.command_line.specs.Numbers.{chunks_of, default_chunks}
-use Rattle.command_line.specs.Options.{no_options, options_from, load_of, chunks_given}
+use Rattle.command_line.specs.Origins.{origin_of}
+use Rattle.command_line.specs.Options.{Options, no_options, options_from, has_load, load_of, chunks_given}
 
--- what is done: a job is run; a zone's index is built; or a load's job is run, and summed up
+-- what is done: a job is run; one list of commands is handed out to so many workers; a zone's index is built; or a load's job is
+-- run, and summed up
 pub data Verb : Type 0 where
   Run : Verb
+  Feed : (workers : ℕ) → Verb
   Check : Verb
   Make : (load : Load) → Verb
 
@@ -24,19 +25,11 @@ pub record Invocation : Type 0 where
 -- a load's names are under an origin of their own
 abbrev pub IsUnder : Verb → Name → Type 0
 IsUnder Run origin = Unit {0}
+IsUnder (Feed workers) origin = Unit {0}
 IsUnder Check origin = Unit {0}
 IsUnder (Make load) origin = origin ≡ made_origin
 
 -- ---- run and check
-
--- a value that is plain: it isn't empty and doesn't begin with a dash
-abbrev pub is_plain_value : List ℕ → Bool
-is_plain_value [] = false
-is_plain_value (c ∷ text) = not (c == 45)
-
--- the origin, read under the root
-abbrev pub origin_of : List ℕ → Option Name
-origin_of value = if is_plain_value value then named (name_of value []) else None
 
 abbrev pub invocation : Verb → Option Name → Option ℕ → Option Invocation
 invocation verb (Some origin) (Some chunks) = Some (record { verb = verb; origin = origin; chunks = chunks })
@@ -76,12 +69,31 @@ reading_of (program ∷ command ∷ options) = option_and_then (λ verb. setting
 abbrev pub making_of : List (List ℕ) → Option Invocation
 making_of words = option_and_then (λ options. option_map (λ load. record { verb = Make load; origin = made_origin; chunks = chunks_given options }) (load_of options)) (options_from words no_options)
 
-abbrev pub is_make : List (List ℕ) → Bool
-is_make [] = false
-is_make (program ∷ []) = false
-is_make (program ∷ command ∷ options) = bytes_eq command (codes "make")
+-- ---- feed
+
+abbrev pub feeding : Option ℕ → Option Name → Option ℕ → Option Invocation
+feeding workers origin chunks = option_and_then (λ n. invocation (Feed n) origin chunks) workers
+
+-- a number of a load isn't an option of feed
+abbrev pub feed_in : Options → Option Invocation
+feed_in options = if has_load options then None else feeding options.workers options.origin (Some (chunks_given options))
+
+-- what the options of feed say
+abbrev pub feeding_of : List (List ℕ) → Option Invocation
+feeding_of words = option_and_then feed_in (options_from words no_options)
+
+-- ---- all commands
+
+-- the command is this word
+abbrev pub is_command : List ℕ → List (List ℕ) → Bool
+is_command name [] = false
+is_command name (program ∷ []) = false
+is_command name (program ∷ command ∷ options) = bytes_eq command name
 
 -- what plain words say, the first of which is the program's name: a command and its options, each option once with its value behind
 -- it, an origin that is a name, and numbers within their limits; None where they aren't so
 abbrev pub plain_of : List (List ℕ) → Option Invocation
-plain_of words = if is_make words then making_of (drop 2 words) else reading_of words
+plain_of words =
+    if is_command (codes "make") words then making_of (drop 2 words)
+    else if is_command (codes "feed") words then feeding_of (drop 2 words)
+    else reading_of words

@@ -1,4 +1,5 @@
 pub mod Numbers
+pub mod Origins
 pub mod Options
 pub mod Invocations
 pub mod Parsed

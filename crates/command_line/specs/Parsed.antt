@@ -11,7 +11,7 @@ use Rattle.clap.specs.Faults.{fault_of}
 use Rattle.clap.specs.declared.builder.action.ArgAction.TheVariants.{Set}
 use Rattle.command_line.specs.Numbers.{chunks_of, default_chunks, seed_of, names_of, turns_of, workers_of}
 use Rattle.command_line.specs.Options.{load_by}
-use Rattle.command_line.specs.Invocations.{Invocation, Verb, Run, Check, Make, invocation}
+use Rattle.command_line.specs.Invocations.{Invocation, Verb, Run, Check, Make, invocation, feeding}
 
 -- ---- the command line that clap is given
 
@@ -21,6 +21,9 @@ option_rule name required = record (new_rule name) { long = Some name; action = 
 
 abbrev pub reading_shape : List ℕ → Shape
 reading_shape name = record (new_shape name) { rules = option_rule (codes "origin") true ∷ option_rule (codes "chunks") false ∷ [] }
+
+abbrev pub feeding_shape : Shape
+feeding_shape = record (new_shape (codes "feed")) { rules = option_rule (codes "origin") true ∷ option_rule (codes "workers") true ∷ option_rule (codes "chunks") false ∷ [] }
 
 abbrev pub making_shape : Shape
 making_shape = record (new_shape (codes "make")) {
@@ -35,7 +38,7 @@ making_shape = record (new_shape (codes "make")) {
 abbrev pub program_app : App
 program_app = record {
   top = record (new_shape (codes "qpzone")) { is_leaf = false; subcommand_required = true };
-  subs = reading_shape (codes "run") ∷ reading_shape (codes "check") ∷ making_shape ∷ [];
+  subs = reading_shape (codes "run") ∷ reading_shape (codes "check") ∷ making_shape ∷ feeding_shape ∷ [];
 }
 
 -- ---- what is meant by what clap gives
@@ -51,6 +54,9 @@ origin_in value = option_and_then (λ v. named (name_of v [])) value
 abbrev pub reading_in : Verb → List Row → Option Invocation
 reading_in verb rows = invocation verb (origin_in (first_of (codes "origin") rows)) (chunks_in (first_of (codes "chunks") rows))
 
+abbrev pub feeding_in : List Row → Option Invocation
+feeding_in rows = feeding (option_and_then workers_of (first_of (codes "workers") rows)) (origin_in (first_of (codes "origin") rows)) (chunks_in (first_of (codes "chunks") rows))
+
 abbrev pub load_in : List Row → Option Load
 load_in rows = load_by (option_and_then seed_of (first_of (codes "seed") rows)) (option_and_then names_of (first_of (codes "names") rows)) (option_and_then turns_of (first_of (codes "turns") rows)) (option_and_then workers_of (first_of (codes "workers") rows))
 
@@ -65,6 +71,7 @@ asked_by name rows =
     if bytes_eq name (codes "run") then reading_in Run rows
     else if bytes_eq name (codes "check") then reading_in Check rows
     else if bytes_eq name (codes "make") then making_by (load_in rows) (chunks_in (first_of (codes "chunks") rows))
+    else if bytes_eq name (codes "feed") then feeding_in rows
     else None
 
 abbrev pub asked_in : Option (List ℕ × List Row) → Option Invocation

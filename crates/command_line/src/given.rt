@@ -1,10 +1,13 @@
-//! The options of `make` that were given.
+//! The options of `make` and `feed` that were given.
 ghost use Rattle.std.specs.Prelude.{◌<◌, ◌≤◌};
 ghost use Rattle.std.specs.Option.{ForSome};
 
+use dns_name::Name;
+
 /// What was given so far.
-#[derive(Clone, Copy, Debug)]
+#[derive(Clone, Copy)]
 pub struct Options {
+    pub origin: Option<Name>,
     pub seed: Option<u64>,
     pub names: Option<u32>,
     pub turns: Option<u32>,

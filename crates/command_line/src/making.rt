@@ -19,6 +19,9 @@ use job_make::Load;
 fn load_of(options: Options) -> Option<Load>
     ensures { option_map load_view result ≡ load_of (options_view options) }
 {
+    if options.origin.is_some() {
+        return None;
+    }
     let Some(seed) = options.seed else {
         return None;
     };

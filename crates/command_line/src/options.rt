@@ -1,13 +1,31 @@
-//! The options of `make`.
+//! The options of `make` and `feed`.
 ghost use Rattle.std.specs.Prelude.{◌≡◌, ◌<◌, ◌≤◌, ◌+◌, ℕ, List, length, map, Some, None, Option, IfSome};
 ghost use Rattle.std.specs.Option.{option_map};
 ghost use Rattle.std.specs.String.{string_bytes};
 ghost use Rattle.command_line.specs.Numbers.{chunks_of, names_of, seed_of, turns_of, workers_of};
+ghost use Rattle.command_line.specs.Origins.{origin_of};
 ghost use Rattle.command_line.specs.Options.{no_options, once, options_from, with_option};
 ghost use Rattle.command_line.specs.Views.{options_view};
 
 use crate::given::Options;
 use crate::numbers::{chunks_of, seed_of, within};
+use crate::origins::origin_of;
+
+// An origin that wasn't given before.
+fn with_origin(mut options: Options, value: &[u8]) -> Option<Options>
+    ensures { option_map options_view result ≡ once options.origin (origin_of value.now) (λ name. record (options_view options) { origin = Some name }) }
+{
+    if options.origin.is_some() {
+        return None;
+    }
+    match origin_of(value) {
+        Some(origin) => {
+            options.origin = Some(origin);
+            Some(options)
+        }
+        None => None,
+    }
+}
 
 // A seed that wasn't given before.
 fn with_seed(mut options: Options, value: &[u8]) -> Option<Options>
@@ -93,6 +111,9 @@ fn with_chunks(mut options: Options, value: &[u8]) -> Option<Options>
 fn with_option(options: Options, option: &[u8], value: &[u8]) -> Option<Options>
     ensures { option_map options_view result ≡ with_option option.now value.now (options_view options) }
 {
+    if option == b"--origin".as_slice() {
+        return with_origin(options, value);
+    }
     if option == b"--seed".as_slice() {
         return with_seed(options, value);
     }
@@ -133,6 +154,7 @@ pub fn options_of(words: &[String]) -> Option<Options>
     ensures { option_map options_view result ≡ options_from (map string_bytes words.now) no_options }
 {
     let none = Options {
+        origin: None,
         seed: None,
         names: None,
         turns: None,

@@ -10,6 +10,7 @@ ghost use Rattle.command_line.specs.Parsed as parsed;
 ghost use Rattle.command_line.specs.Numbers as numbers;
 ghost use Rattle.command_line.specs.Views.{invocation_view, verb_view};
 
+use crate::feeding::feeding;
 use crate::invocation::{Invocation, Verb};
 use crate::making::made_origin;
 use crate::numbers::{DEFAULT_CHUNKS, chunks_of, seed_of, within};
@@ -89,6 +90,16 @@ fn reading_in(matches: &ArgMatches<'_>, verb: Verb) -> Option<Invocation>
     }
 }
 
+// What the options of the command that hands a list out say.
+fn feeding_in(matches: &ArgMatches<'_>) -> Option<Invocation>
+    ensures { option_map invocation_view result ≡ parsed.feeding_in (rows_of (found_of matches.now)) }
+{
+    let workers = number_in(value_in(matches, "workers"), 1, 16);
+    let origin = origin_in(value_in(matches, "origin"));
+    let chunks = chunks_in(value_in(matches, "chunks"));
+    feeding(workers, origin, chunks)
+}
+
 // The load that options say.
 fn load_in(matches: &ArgMatches<'_>) -> Option<Load>
     ensures { option_map load_view result ≡ parsed.load_in (rows_of (found_of matches.now)) }
@@ -138,6 +149,7 @@ fn asked_by(name: &str, matches: &ArgMatches<'_>) -> Option<Invocation>
         "run" => reading_in(matches, Verb::Run),
         "check" => reading_in(matches, Verb::Check),
         "make" => making_in(matches),
+        "feed" => feeding_in(matches),
         _ => None,
     }
 }

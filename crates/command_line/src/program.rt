@@ -3,7 +3,7 @@ ghost use Rattle.std.specs.Prelude.{◌≡◌, ◌∷◌, [], IfOk, codes, false
 ghost use Rattle.clap.specs.Simple.{app_of, new_shape};
 ghost use Rattle.clap.specs.Walk.{rule_of};
 ghost use Rattle.clap.specs.declared.builder.command.Command.TheViews.{out-Command as fields_of};
-ghost use Rattle.command_line.specs.Parsed.{making_shape, option_rule, program_app, reading_shape};
+ghost use Rattle.command_line.specs.Parsed.{feeding_shape, making_shape, option_rule, program_app, reading_shape};
 
 use clap::{Arg, ArgAction, Command};
 use std::alloc::{AllocError, Global};
@@ -33,17 +33,46 @@ fn chunks<'a>(alloc: Global) -> Arg<'a>
     )
 }
 
+// The origin, which each command that reads takes.
+fn origin<'a>(alloc: Global) -> Arg<'a>
+    ensures rule { rule_of result ≡ option_rule (codes "origin") true }
+    ensures local { result.global ≡ false }
+{
+    option(
+        alloc,
+        "origin",
+        "The zone's origin, read under the root",
+        true,
+    )
+}
+
 // A command that reads.
 fn reading<'a>(alloc: Global, name: &'a str, about: &'a str) -> Result<Command<'a>, AllocError>
     ensures app { IfOk result (λ c. app_of c ≡ record { top = reading_shape name.entry.now; subs = [] }) }
     ensures local { IfOk result (λ c. (fields_of c).has_globals ≡ false) }
 {
-    let help = "The zone's origin, read under the root";
-    let origin = option(alloc, "origin", help, true);
+    let origin = origin(alloc);
     let chunks = chunks(alloc);
     let command = Command::new(alloc, name).about(about);
     let with_origin = command.arg(origin)?;
     let with_chunks = with_origin.arg(chunks)?;
+    Ok(with_chunks)
+}
+
+// The command that hands a list out.
+fn feeding<'a>(alloc: Global) -> Result<Command<'a>, AllocError>
+    ensures app { IfOk result (λ c. app_of c ≡ record { top = feeding_shape; subs = [] }) }
+    ensures local { IfOk result (λ c. (fields_of c).has_globals ≡ false) }
+{
+    let origin = origin(alloc);
+    let workers_help = "How many workers the list is handed out to, 1 to 16";
+    let workers = option(alloc, "workers", workers_help, true);
+    let chunks = chunks(alloc);
+    let about = "Read a zone and one list of commands, hand these out to workers, and print a report";
+    let command = Command::new(alloc, "feed").about(about);
+    let with_origin = command.arg(origin)?;
+    let with_workers = with_origin.arg(workers)?;
+    let with_chunks = with_workers.arg(chunks)?;
     Ok(with_chunks)
 }
 
@@ -80,6 +109,7 @@ pub fn program<'a>(alloc: Global) -> Result<Command<'a>, AllocError>
     let check_about = "Read a zone, and print how large its index is";
     let check_command = reading(alloc, "check", check_about)?;
     let make_command = making(alloc)?;
+    let feed_command = feeding(alloc)?;
     let about = "Answers questions about a DNS zone while it is being changed";
     let top = Command::new(alloc, "qpzone")
         .about(about)
@@ -87,5 +117,6 @@ pub fn program<'a>(alloc: Global) -> Result<Command<'a>, AllocError>
     let with_run = top.subcommand(run_command)?;
     let with_check = with_run.subcommand(check_command)?;
     let with_make = with_check.subcommand(make_command)?;
-    Ok(with_make)
+    let with_feed = with_make.subcommand(feed_command)?;
+    Ok(with_feed)
 }

@@ -2,26 +2,15 @@
 ghost use Rattle.std.specs.Prelude.{◌≡◌, ◌<◌, ◌≤◌, ◌∷◌, [], ℕ, List, length, map, Some, None, Option, IfSome};
 ghost use Rattle.std.specs.Option.{option_map};
 ghost use Rattle.std.specs.String.{string_bytes};
-ghost use Rattle.command_line.specs.Invocations.{invocation, origin_of, reading_of, settings_of, verb_of};
+ghost use Rattle.command_line.specs.Invocations.{invocation, reading_of, settings_of, verb_of};
 ghost use Rattle.command_line.specs.Numbers.{chunks_of};
+ghost use Rattle.command_line.specs.Origins.{origin_of};
 ghost use Rattle.command_line.specs.Views.{invocation_view, verb_view};
 
 use crate::invocation::{Invocation, Verb};
 use crate::numbers::{DEFAULT_CHUNKS, chunks_of};
+use crate::origins::origin_of;
 use dns_name::Name;
-
-// The origin, read under the root.
-fn origin_of(value: &[u8]) -> Option<Name>
-    ensures { result ≡ origin_of value.now }
-{
-    if value.is_empty() || value[0] == b'-' {
-        return None;
-    }
-    match Name::read(value, &Name::root()) {
-        Ok(origin) => Some(origin),
-        Err(_) => None,
-    }
-}
 
 // One option with its value.
 fn one_setting(verb: Verb, option: &[u8], value: &[u8]) -> Option<Invocation>

@@ -2,29 +2,33 @@
 ghost use Rattle.std.specs.Prelude.{◌≡◌, ℕ, List, map, Option, IfOk};
 ghost use Rattle.std.specs.Option.{option_map};
 ghost use Rattle.std.specs.String.{string_bytes};
-ghost use Rattle.command_line.specs.Invocations.{is_make, plain_of};
+ghost use Rattle.command_line.specs.Invocations.{is_command, plain_of};
 ghost use Rattle.command_line.specs.Views.{invocation_view};
 ghost use Rattle.command_line.specs.Words.{invocation_of};
 
+use crate::feeding::feeding_of;
 use crate::invocation::Invocation;
 use crate::making::making_of;
 use crate::parsed::parsed_of;
 use crate::reading::reading_of;
 use std::alloc::{AllocError, Global};
 
-// Whether the command is make.
-fn is_make(words: &[String]) -> bool
-    ensures { result ≡ is_make (map string_bytes words.now) }
+// Whether the command is this word.
+fn is_command(name: &[u8], words: &[String]) -> bool
+    ensures { result ≡ is_command name.now (map string_bytes words.now) }
 {
-    words.len() > 1 && words[1].as_bytes() == b"make".as_slice()
+    words.len() > 1 && words[1].as_bytes() == name
 }
 
 // What plain words say.
 fn plain_of(words: &[String]) -> Option<Invocation>
     ensures { option_map invocation_view result ≡ plain_of (map string_bytes words.now) }
 {
-    if is_make(words) {
+    if is_command(b"make", words) {
         return making_of(&words[2..]);
+    }
+    if is_command(b"feed", words) {
+        return feeding_of(&words[2..]);
     }
     reading_of(words)
 }

@@ -17,10 +17,11 @@ use std::sync::Wait;
 use std::thread::Threads;
 
 /// The files of cases, one a topic.
-const TOPICS: [&str; 9] = [
+const TOPICS: [&str; 10] = [
     "answers.cases",
     "examples.cases",
     "faults.cases",
+    "feed.cases",
     "jobs.cases",
     "loads.cases",
     "prerequisites.cases",

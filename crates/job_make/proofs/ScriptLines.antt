@@ -24,6 +24,7 @@ use Rattle.rr_data.proofs.PrintedFieldLemmas.{address_back}
 use Rattle.rr_data.proofs.PrintedWordLemmas.{Shows, alphabetic_word, decimal_word, hex_word, shows_append, shows_one}
 use Rattle.rr_data.proofs.PrintedDataLemmas.{plain, spell_word, spell_word_then, word}
 use Rattle.job_model.specs.declared.Ending.TheVariants.{Commit}
+use Rattle.job_model.specs.declared.Listing.TheVariants.{ByWorker}
 use Rattle.job_model.specs.declared.Weight.{Weight}
 use Rattle.job_model.specs.declared.Weight.TheVariants.{Light, Heavy}
 use Rattle.job_model.specs.Commands.{Command, Ask, Block, Get, Find}
@@ -112,10 +113,10 @@ asks operations = record { needs = []; operations = operations }
 
 -- a script between commands, and one in a block
 abbrev pub between : List (List Command) → List Command → Script
-between earlier commands = record { earlier = earlier; begun = true; commands = commands; held = false; block = None }
+between earlier commands = record { listing = ByWorker; earlier = earlier; begun = true; commands = commands; held = false; block = None }
 
 abbrev pub inside_block : List (List Command) → List Command → Unfinished → Script
-inside_block earlier commands block = record { earlier = earlier; begun = true; commands = commands; held = false; block = Some block }
+inside_block earlier commands block = record { listing = ByWorker; earlier = earlier; begun = true; commands = commands; held = false; block = Some block }
 
 room_of : (n : ℕ) → n < 10000 → ltb n 10000 ≡ true
 room_of n h = grind (arith, nat_tests)

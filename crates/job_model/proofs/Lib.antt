@@ -1,2 +1,4 @@
 pub mod TurnLemmas
 pub mod ManyLemmas
+pub mod OneListLemmas
+pub mod FeedLaws

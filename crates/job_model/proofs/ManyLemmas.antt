@@ -13,7 +13,7 @@ use Rattle.job_model.specs.declared.Ending.{Ending}
 use Rattle.job_model.specs.Commands.{Command, Block, Compact}
 use Rattle.job_model.specs.Phrases.{Phrase, Worker, Asks, Holds, AsksHeld, Releases, Opens, Needs, Adds, Deletes, Ends, Compacts, phrase_of, script_tokens}
 use Rattle.job_model.specs.Arguments.{refuse, question_of, prerequisite_of, addition_of, deletion_of}
-use Rattle.job_model.specs.Jobs.{Unfinished, Script, lists_of, worker_limit, command_limit, need_limit, operation_limit, of_worker, while_held, while_free, with_room, with_command, with_question, with_held_question, holding, released, opened, next_worker, outside, with_need, needed_first, with_operation, joined, may_end, ended, inside, taken, tokens_say, script_line, script_from, finished, no_lines, script_of}
+use Rattle.job_model.specs.Jobs.{Unfinished, Script, lists_of, worker_limit, command_limit, need_limit, operation_limit, of_worker, while_held, while_free, with_room, with_command, with_question, with_held_question, holding, released, opened, next_worker, outside, with_need, needed_first, with_operation, joined, may_end, ended, inside, may_stand, by_block, taken, tokens_say, script_line, script_from, finished, no_lines, script_of}
 
 -- the workers before the last one, and whether one began
 abbrev Few : Bool → List (List Command) → Type 0
@@ -96,10 +96,14 @@ inside_kept origin n b Compacts s few = tt
 
 -- ---- the lines
 
+by_block_kept : (origin : Name) (n : ℕ) (phrase : Phrase) (s : Script) (block : Option Unfinished) → Few s.begun s.earlier → Kept (by_block origin n phrase (record s { block = block }) block)
+by_block_kept origin n phrase s None few = outside_kept origin n phrase (record s { block = None }) few
+by_block_kept origin n phrase s (Some b) few = inside_kept origin n b phrase (record s { block = Some b }) few
+
 taken_kept : (origin : Name) (n : ℕ) (s : Script) (block : Option Unfinished) (said : Option Phrase) → Few s.begun s.earlier → Kept (taken origin n (record s { block = block }) said)
 taken_kept origin n s block None few = tt
-taken_kept origin n s None (Some phrase) few = outside_kept origin n phrase (record s { block = None }) few
-taken_kept origin n s (Some b) (Some phrase) few = inside_kept origin n b phrase (record s { block = Some b }) few
+taken_kept origin n s block (Some phrase) few =
+    if_kept (may_stand s.listing phrase) (by_block origin n phrase (record s { block = block }) block) (refuse n BadCommand) (λ _. by_block_kept origin n phrase s block few) tt
 
 tokens_kept : (origin : Name) (n : ℕ) (s : Script) (tokens : Option (List Token)) → Few s.begun s.earlier → Kept (tokens_say origin n s tokens)
 tokens_kept origin n s None few = tt

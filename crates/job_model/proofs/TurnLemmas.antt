@@ -14,7 +14,7 @@ use Rattle.job_model.specs.declared.Weight.{Weight}
 use Rattle.job_model.specs.Commands.{Question, Command, Ask, Hold, AskHeld, Release, Block, Compact, held_after, MayCome, InTurn}
 use Rattle.job_model.specs.Phrases.{Phrase, Worker, Asks, Holds, AsksHeld, Releases, Opens, Needs, Adds, Deletes, Ends, Compacts, phrase_of, script_tokens}
 use Rattle.job_model.specs.Arguments.{refuse, question_of, prerequisite_of, addition_of, deletion_of}
-use Rattle.job_model.specs.Jobs.{Unfinished, Script, lists_of, worker_limit, command_limit, need_limit, operation_limit, of_worker, while_held, while_free, with_room, with_command, with_question, with_held_question, holding, released, opened, next_worker, outside, with_need, needed_first, with_operation, joined, may_end, ended, inside, taken, tokens_say, script_line, script_from, finished, no_lines, script_of}
+use Rattle.job_model.specs.Jobs.{Unfinished, Script, lists_of, worker_limit, command_limit, need_limit, operation_limit, of_worker, while_held, while_free, with_room, with_command, with_question, with_held_question, holding, released, opened, next_worker, outside, with_need, needed_first, with_operation, joined, may_end, ended, inside, may_stand, by_block, taken, tokens_say, script_line, script_from, finished, no_lines, script_of}
 
 -- whether a snapshot is held behind commands
 abbrev held_behind : Bool → List Command → Bool
@@ -130,10 +130,14 @@ inside_kept origin n b Compacts s sound = tt
 
 -- ---- the lines
 
+by_block_kept : (origin : Name) (n : ℕ) (phrase : Phrase) (s : Script) (block : Option Unfinished) → Sound s.earlier s.commands s.held → Kept (by_block origin n phrase (record s { block = block }) block)
+by_block_kept origin n phrase s None sound = outside_kept origin n phrase (record s { block = None }) sound
+by_block_kept origin n phrase s (Some b) sound = inside_kept origin n b phrase (record s { block = Some b }) sound
+
 taken_kept : (origin : Name) (n : ℕ) (s : Script) (block : Option Unfinished) (said : Option Phrase) → Sound s.earlier s.commands s.held → Kept (taken origin n (record s { block = block }) said)
 taken_kept origin n s block None sound = tt
-taken_kept origin n s None (Some phrase) sound = outside_kept origin n phrase (record s { block = None }) sound
-taken_kept origin n s (Some b) (Some phrase) sound = inside_kept origin n b phrase (record s { block = Some b }) sound
+taken_kept origin n s block (Some phrase) sound =
+    if_kept (may_stand s.listing phrase) (by_block origin n phrase (record s { block = block }) block) (refuse n BadCommand) (λ _. by_block_kept origin n phrase s block sound) (λ _. tt)
 
 tokens_kept : (origin : Name) (n : ℕ) (s : Script) (tokens : Option (List Token)) → Sound s.earlier s.commands s.held → Kept (tokens_say origin n s tokens)
 tokens_kept origin n s None sound = tt

@@ -36,6 +36,12 @@ pub record Job : Type 0 where
   pub zone : Version
   pub workers : List (List Command)
 
+-- a zone of an origin, and one list of commands, each of which is run by some worker
+pub record FedJob : Type 0 where
+  pub origin : Name
+  pub zone : Version
+  pub commands : List Command
+
 -- ---- snapshots of a worker
 
 -- whether a snapshot is held behind a command
@@ -60,3 +66,12 @@ MayCome held Compact = Unit {0}
 abbrev pub InTurn : Bool → List Command → Type 0
 InTurn held [] = Unit {0}
 InTurn held (command ∷ commands) = MayCome held command × InTurn (held_after held command) commands
+
+-- it needs no snapshot: a question to the current version, a transaction or a compaction
+abbrev pub NeedsNoSnapshot : Command → Type 0
+NeedsNoSnapshot (Ask question) = Unit {0}
+NeedsNoSnapshot Hold = ⊥
+NeedsNoSnapshot (AskHeld question) = ⊥
+NeedsNoSnapshot Release = ⊥
+NeedsNoSnapshot (Block _ asked ending) = Unit {0}
+NeedsNoSnapshot Compact = Unit {0}

@@ -1,4 +1,4 @@
--- A job: the zone, and the commands of each worker.
+-- A job: the zone, and the commands of each worker, or one list of commands.
 use Rattle.std.specs.Prelude.{ℕ, ◌+◌, Bool, true, false, not, List, [], ◌∷◌, ◌++◌, length, ◌==◌, nat_lt, if◌then◌else◌, Option, Some, None, Result, Ok, Err, codes}
 use Rattle.std.specs.List.{before_first, after_first, list_any}
 use Rattle.std.specs.Str.{bytes_eq}
@@ -12,11 +12,13 @@ use Rattle.zone_model.specs.MasterFile.{zone_of}
 use Rattle.zone_model.specs.declared.ZoneKind.{ZoneKind}
 use Rattle.job_model.specs.declared.Ending.{Ending}
 use Rattle.job_model.specs.declared.Ending.TheVariants.{Commit, Rollback}
+use Rattle.job_model.specs.declared.Listing.{Listing}
+use Rattle.job_model.specs.declared.Listing.TheVariants.{ByWorker, OneList}
 use Rattle.job_model.specs.declared.ScriptKind.{ScriptKind}
 use Rattle.job_model.specs.declared.ScriptKind.TheVariants.{NoWorker, BadCommand, OpenBlock, NotHeld, AlreadyHeld, TooMany}
 use Rattle.job_model.specs.declared.Weight.{Weight}
 use Rattle.job_model.specs.declared.Weight.TheVariants.{Light, Heavy}
-use Rattle.job_model.specs.Commands.{Question, Command, Ask, Hold, AskHeld, Release, Block, Compact, Job}
+use Rattle.job_model.specs.Commands.{Question, Command, Ask, Hold, AskHeld, Release, Block, Compact, Job, FedJob}
 use Rattle.job_model.specs.Phrases.{Asked, Phrase, Worker, Asks, Holds, AsksHeld, Releases, Opens, Needs, Adds, Deletes, Ends, Compacts, phrase_of, script_tokens}
 use Rattle.job_model.specs.Arguments.{refuse, question_of, prerequisite_of, addition_of, deletion_of}
 
@@ -33,9 +35,10 @@ pub record Unfinished : Type 0 where
   pub weight : Weight
   pub asked : Transaction
 
--- How far a script has come: the lists of the workers before the last one; whether a worker began, its commands, and whether it holds a
--- snapshot; and the block that is open.
+-- How far a script has come: how its commands are listed; the lists of the workers before the last one; whether a worker began, its
+-- commands, and whether it holds a snapshot; and the block that is open.
 pub record Script : Type 0 where
+  pub listing : Listing
   pub earlier : List (List Command)
   pub begun : Bool
   pub commands : List Command
@@ -58,6 +61,27 @@ need_limit = 10000
 
 abbrev pub operation_limit : ℕ
 operation_limit = 10000
+
+-- ---- which lines there may be
+
+-- each worker has a list of its own
+abbrev pub is_by_worker : Listing → Bool
+is_by_worker ByWorker = true
+is_by_worker OneList = false
+
+-- Where any worker may run any command, no worker begins, and no snapshot is taken, asked or given back.
+abbrev pub may_stand : Listing → Phrase → Bool
+may_stand listing Worker = is_by_worker listing
+may_stand listing (Asks asked) = true
+may_stand listing Holds = is_by_worker listing
+may_stand listing (AsksHeld asked) = is_by_worker listing
+may_stand listing Releases = is_by_worker listing
+may_stand listing (Opens _) = true
+may_stand listing (Needs wanted owner rtype) = true
+may_stand listing (Adds owner ttl rtype tokens) = true
+may_stand listing (Deletes owner rest) = true
+may_stand listing (Ends ending) = true
+may_stand listing Compacts = true
 
 -- ---- a line outside a block
 
@@ -160,13 +184,14 @@ inside origin n b Compacts s = refuse n BadCommand
 
 -- ---- the lines
 
+-- outside of blocks, or inside the one that is open
+abbrev pub by_block : Name → ℕ → Phrase → Script → Option Unfinished → Result Script (Refused ScriptKind)
+by_block origin n phrase s None = outside origin n phrase s
+by_block origin n phrase s (Some b) = inside origin n b phrase s
+
 abbrev pub taken : Name → ℕ → Script → Option Phrase → Result Script (Refused ScriptKind)
 taken origin n s None = refuse n BadCommand
-taken origin n s (Some phrase) = by_block s.block
-  where
-    by_block : Option Unfinished → Result Script (Refused ScriptKind)
-    by_block None = outside origin n phrase s
-    by_block (Some b) = inside origin n b phrase s
+taken origin n s (Some phrase) = if may_stand s.listing phrase then by_block origin n phrase s s.block else refuse n BadCommand
 
 -- the tokens of line n; a line without tokens says nothing
 abbrev pub tokens_say : Name → ℕ → Script → Option (List Token) → Result Script (Refused ScriptKind)
@@ -181,21 +206,33 @@ unfoldable pub script_from : Name → ℕ → List (List ℕ) → Script → Res
 script_from origin n [] s = Ok s
 script_from origin n (line ∷ lines) s = script_line origin n line s >>= script_from origin (n + 1) lines
 
+-- where no block is open at the end
+abbrev pub while_closed : {A : Type 0} → Option Unfinished → Result A (Refused ScriptKind) → Result A (Refused ScriptKind)
+while_closed None next = next
+while_closed (Some b) next = refuse b.start OpenBlock
+
 -- the end of a script of which the next line would have a number
 abbrev pub finished : ℕ → Script → Result (List (List Command)) (Refused ScriptKind)
-finished n s = by_block s.block
-  where
-    by_block : Option Unfinished → Result (List (List Command)) (Refused ScriptKind)
-    by_block (Some b) = refuse b.start OpenBlock
-    by_block None = of_worker n s (Ok (lists_of s))
+finished n s = while_closed s.block (of_worker n s (Ok (lists_of s)))
 
 -- a script of which no line was read
 abbrev pub no_lines : Script
-no_lines = record { earlier = []; begun = false; commands = []; held = false; block = None }
+no_lines = record { listing = ByWorker; earlier = []; begun = false; commands = []; held = false; block = None }
 
 -- the workers' commands that these lines say, the first of which has a number
 unfoldable pub script_of : Name → ℕ → List (List ℕ) → Result (List (List Command)) (Refused ScriptKind)
 script_of origin n lines = script_from origin n lines no_lines >>= finished (n + length lines)
+
+-- one list of which no line was read: commands may come at once
+abbrev pub no_commands : Script
+no_commands = record no_lines { listing = OneList; begun = true }
+
+abbrev pub list_finished : Script → Result (List Command) (Refused ScriptKind)
+list_finished s = while_closed s.block (Ok s.commands)
+
+-- the one list of commands that these lines say
+unfoldable pub list_of : Name → ℕ → List (List ℕ) → Result (List Command) (Refused ScriptKind)
+list_of origin n lines = script_from origin n lines no_commands >>= list_finished
 
 -- ---- the two parts of a job
 
@@ -231,3 +268,13 @@ job_of_lines origin zone start script = do
 -- the job that bytes say, or the first refusal
 abbrev pub job_of : Name → List ℕ → Result Job JobRefusal
 job_of origin bytes = job_of_lines origin (zone_lines bytes) (script_start bytes) (script_lines bytes)
+
+-- the same of a script that is one list
+unfoldable pub fed_job_of_lines : Name → List (List ℕ) → ℕ → List (List ℕ) → Result FedJob JobRefusal
+fed_job_of_lines origin zone start script = do
+  version ← zone_refused (zone_of origin zone)
+  commands ← script_refused (list_of origin start script)
+  Ok (record { origin = origin; zone = version; commands = commands })
+
+abbrev pub fed_job_of : Name → List ℕ → Result FedJob JobRefusal
+fed_job_of origin bytes = fed_job_of_lines origin (zone_lines bytes) (script_start bytes) (script_lines bytes)

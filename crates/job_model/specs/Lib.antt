@@ -6,5 +6,6 @@ pub mod Jobs
 pub mod Outcomes
 pub mod Replies
 pub mod Reports
+pub mod Feeds
 pub mod Loads
 pub mod Summaries

@@ -207,20 +207,21 @@ abbrev pub passes_for : ℕ → ℕ
 passes_for workers = 2 * workers + 1
 
 -- the outcomes of a job are judged by the versions that they themselves make
-abbrev pub setting_of : ℕ → Name → Version → List (List Pair) → Setting
-setting_of chunks origin zone workers = record {
+abbrev pub setting_of : ℕ → ℕ → Name → Version → List (List Pair) → Setting
+setting_of chunks passes origin zone workers = record {
   chunks = chunks;
-  passes = passes_for (length workers);
+  passes = passes;
   origin = origin;
   set = version_at origin zone (all_pairs workers);
   shown = shown_in (all_pairs workers);
 }
 
--- Each version from 1 to the last was made once, none is above the last, and each worker's commands ended as they may.
-pub record Lawful (chunks : ℕ) (origin : Name) (zone : Version) (workers : List (List Pair)) (last : ℕ) : Type 0 where
+-- Each version from 1 to the last was made once, none is above the last, and each worker's commands ended as they may, on an index of
+-- so many chunks and passes.
+pub record Lawful (chunks passes : ℕ) (origin : Name) (zone : Version) (workers : List (List Pair)) (last : ℕ) : Type 0 where
   pub once : (j : ℕ) → 0 < j → j ≤ last → times_made j (all_pairs workers) ≡ 1
   pub none_above : AllByRecursion (λ pair. pair.1.version ≤ last) (all_pairs workers)
-  pub along : AllAlong (setting_of chunks origin zone workers) workers
+  pub along : AllAlong (setting_of chunks passes origin zone workers) workers
 
 -- some block was refused
 abbrev pub some_refused : List (List Pair) → Bool

@@ -2,6 +2,15 @@
 //! definitions.
 #![tactic(auto)]
 
+/// How the commands of a script are listed.
+#[derive(Clone, Copy, Debug, PartialEq, Eq)]
+pub enum Listing {
+    /// Each worker has a list of its own, behind a line `worker`.
+    ByWorker,
+    /// There is one list, and each command of it is run by some worker.
+    OneList,
+}
+
 /// How a transaction writes.
 #[derive(Clone, Copy, Debug, PartialEq, Eq)]
 pub enum Weight {

@@ -4,3 +4,4 @@ pub mod ScriptLemmas
 pub mod ReportLemmas
 pub mod SpelledLemmas
 pub mod SummaryLemmas
+pub mod FeedLemmas

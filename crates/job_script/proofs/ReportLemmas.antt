@@ -41,7 +41,7 @@ compaction_ended told.Compacted e = refl
 compaction_ended told.RolledBack e = absurd e
 compaction_ended (told.Refused refused) e = refl
 
-command_told : (origin : Name) (set : ℕ → Version) (c : Command) (o : Outcome) → Tells origin set c o → command_text origin set c (outcome_view o) ≡ told_text o.told
+pub command_told : (origin : Name) (set : ℕ → Version) (c : Command) (o : Outcome) → Tells origin set c o → command_text origin set c (outcome_view o) ≡ told_text o.told
 command_told origin set (Ask question) o t = replied (reply_of origin (set o.version) question) o.told t
 command_told origin set Hold o t = sym (ap told_text t)
 command_told origin set (AskHeld question) o t = replied (reply_of origin (set o.version) question) o.told t

@@ -3,6 +3,7 @@ pub mod Views
 pub mod Parts
 pub mod Scripts
 pub mod Outcomes
+pub mod Feeds
 pub mod Spelled
 pub mod Summaries
 pub mod Printed

@@ -5,6 +5,8 @@ use Rattle.zone_model.specs.Names.{Name}
 use Rattle.zone_model.specs.Refusals.{Refused}
 use Rattle.zone_model.specs.Lines.{lines_of}
 use Rattle.job_model.specs.Jobs as jobs
+use Rattle.job_model.specs.declared.Listing.{Listing}
+use Rattle.job_model.specs.declared.Listing.TheVariants.{ByWorker, OneList}
 use Rattle.job_model.specs.declared.ScriptKind.{ScriptKind}
 use Rattle.job_script.specs.Views.{command_view, workers_view}
 use Rattle.zone_change.specs.Views.{operation_view, prerequisite_view}
@@ -22,12 +24,18 @@ unfinished_view b = record {
 
 abbrev pub script_view : Script → jobs.Script
 script_view s = record {
+  listing = s.listing;
   earlier = workers_view s.earlier.items;
   begun = s.begun;
   commands = map command_view s.commands.items;
   held = s.held;
   block = option_map unfinished_view s.block;
 }
+
+-- a script of which no line was read
+abbrev pub first_script : Listing → jobs.Script
+first_script ByWorker = jobs.no_lines
+first_script OneList = jobs.no_commands
 
 -- a value is the one wanted, or the refusal is; want of memory says nothing
 abbrev pub Says : {R A : Type 0} → Result R JobRefusal → (R → A) → Result A (Refused ScriptKind) → Type 0

@@ -1,5 +1,6 @@
 -- The commands of a script as the definitions see them.
-use Rattle.std.specs.Prelude.{List, map}
+use Rattle.std.specs.Prelude.{List, map, Vec}
+use Rattle.std.specs.Global.{Global}
 use Rattle.zone_model.specs.Transactions.{Transaction}
 use Rattle.zone_change.specs.Views.{operation_view, prerequisite_view}
 use Rattle.job_model.specs.Commands as jobs
@@ -44,3 +45,7 @@ workers_view workers = map worker_view workers
 
 abbrev pub job_view : Job → List (List jobs.Command)
 job_view job = workers_view job.workers.items
+
+-- one list
+abbrev pub list_view : Vec Command Global → List jobs.Command
+list_view commands = map command_view commands.items

@@ -48,6 +48,13 @@ pub struct Outcomes {
     pub list: Vec<Outcome>,
 }
 
+/// A command's outcome, and the worker that ran it, by its number from 1.
+#[derive(Drop)]
+pub struct FedOutcome {
+    pub worker: u32,
+    pub outcome: Outcome,
+}
+
 // Whether a transaction made a version.
 pub(crate) fn is_committed(outcome: &Outcome) -> bool
     ensures { result ≡ is_committed (ended_view outcome.now.told) }
@@ -85,4 +92,11 @@ pub fn any_refused(outcomes: &[Outcomes]) -> bool
     ensures { result ≡ list_any (λ os. list_any (λ o. is_refused (ended_view o.told)) os.list.items) outcomes.now }
 {
     outcomes.iter().any(|worker| some_refused(worker))
+}
+
+/// Whether some transaction of one list was refused.
+pub fn any_fed_refused(fed: &[FedOutcome]) -> bool
+    ensures { result ≡ list_any (λ f. is_refused (ended_view f.outcome.told)) fed.now }
+{
+    fed.iter().any(|ran| is_refused(&ran.outcome))
 }

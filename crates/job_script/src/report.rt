@@ -4,10 +4,11 @@ ghost use Rattle.std.specs.List.{flat_map};
 ghost use Rattle.job_model.specs.Outcomes as outcomes;
 ghost use Rattle.job_model.specs.Reports.{head_text, ended_text, cause_text, end_text, report, rule_text};
 ghost use Rattle.job_script.specs.Outcomes.{cause_view, told_text, outcome_text, outcomes_text, all_text, AllTell, job_pairs, versions_made};
+ghost use Rattle.job_script.specs.Feeds.{fed_outcomes_text};
 ghost use Rattle.job_script.specs.Views.{job_view};
 
 use crate::commands::Job;
-use crate::outcomes::{Cause, Outcome, Outcomes, Told};
+use crate::outcomes::{Cause, FedOutcome, Outcome, Outcomes, Told};
 use master_file::Zone;
 use std::alloc::{AllocError, Global};
 use zone_model::Refusal;
@@ -159,4 +160,29 @@ pub fn print_report(
     ensures { IfOk result (λ text. text.items ≡ report _zone.now.origin _zone.now.pairs (job_pairs (job_view _job.now) outcomes.now) version) }
 {
     print_outcomes(alloc, outcomes, version, names)
+}
+
+fn push_fed(out: &mut Vec<u8>, fed: &[FedOutcome]) -> Result<(), AllocError>
+    ensures { OnOk result (out.new.items ≡ out.old.items ++ fed_outcomes_text 1 fed.now) }
+{
+    for (place, ran) in fed.iter().enumerate() {
+        push_outcome(out, u64::from(ran.worker), place as u64 + 1, &ran.outcome)?;
+    }
+    Ok(())
+}
+
+/// Prints the outcomes of one list in the order of its commands, each with the worker that ran it, the last version, and how
+/// many names that has.
+pub fn print_fed(
+    alloc: Global,
+    fed: &[FedOutcome],
+    version: u64,
+    names: u64,
+) -> Result<Vec<u8>, AllocError>
+    ensures { IfOk result (λ text. text.items ≡ fed_outcomes_text 1 fed.now ++ end_text version names) }
+{
+    let mut out = Vec::new(alloc);
+    push_fed(&mut out, fed)?;
+    push_end(&mut out, version, names)?;
+    Ok(out)
 }

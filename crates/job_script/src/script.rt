@@ -1,22 +1,22 @@
 //! The lines of a script.
-ghost use Rattle.std.specs.Prelude.{◌≡◌, ◌<◌, ◌≤◌, ◌+◌, ◌^◌, ◌∷◌, ◌++◌, [], ℕ, List, length, IfOk, OnOk, map, Some, None, Option, drop, Ok, Err, Result, false};
+ghost use Rattle.std.specs.Prelude.{◌≡◌, ◌<◌, ◌≤◌, ◌+◌, ◌^◌, ◌∷◌, ◌++◌, [], ℕ, List, length, IfOk, OnOk, map, vec_len, Some, None, Option, drop, Ok, Err, Result, false};
 ghost use Rattle.std.specs.Option.{option_map};
 ghost use Rattle.std.specs.List.{All, AllByRecursion};
-ghost use Rattle.job_model.specs.Commands.{InTurn};
+ghost use Rattle.job_model.specs.Commands.{InTurn, NeedsNoSnapshot};
 ghost use Rattle.job_model.specs.Jobs as jobs;
 ghost use Rattle.zone_model.specs.Lines.{lines_of};
 ghost use Rattle.zone_text.specs.Tokens.{IsPlaced, token_view};
 ghost use Rattle.job_script.specs.Phrases.{phrase_view, PhrasePlaced};
-ghost use Rattle.job_script.specs.Scripts.{unfinished_view, script_view, ScriptReads, ScriptSteps, Says};
-ghost use Rattle.job_script.specs.Views.{job_view};
+ghost use Rattle.job_script.specs.Scripts.{first_script, unfinished_view, script_view, ScriptReads, ScriptSteps, Says};
+ghost use Rattle.job_script.specs.Views.{job_view, list_view};
 
 use crate::commands::{Command, Job, Worker};
 use crate::inside::inside;
 use crate::outside::outside;
-use crate::phrases::phrase_of;
+use crate::phrases::{Phrase, phrase_of};
 use crate::refusal::{JobRefusal, refused};
 use dns_name::Name;
-use job_model::{ScriptKind, Weight};
+use job_model::{Listing, ScriptKind, Weight};
 use std::alloc::Global;
 use std::mem::replace;
 use zone_change::{Operation, Prerequisite};
@@ -31,15 +31,34 @@ pub struct Unfinished {
     pub operations: Vec<Operation>,
 }
 
-/// How far a script has come: the lists of the workers before the last one; whether a worker began, its commands, and
-/// whether it holds a snapshot; and the block that is open.
+/// How far a script has come: how its commands are listed; the lists of the workers before the last one; whether a worker
+/// began, its commands, and whether it holds a snapshot; and the block that is open.
 #[derive(Drop)]
 pub struct Script {
+    pub listing: Listing,
     pub earlier: Vec<Worker>,
     pub begun: bool,
     pub commands: Vec<Command>,
     pub held: bool,
     pub block: Option<Unfinished>,
+}
+
+// Whether a line may say this at all. Where any worker may run any command no worker begins, and there are no snapshots.
+fn may_stand(listing: Listing, phrase: &Phrase) -> bool
+    ensures { (bytes : List ℕ) → result ≡ jobs.may_stand listing (phrase_view bytes phrase.now) }
+{
+    match phrase {
+        Phrase::Worker | Phrase::Holds | Phrase::AsksHeld(_) | Phrase::Releases => {
+            matches!(listing, Listing::ByWorker)
+        }
+        Phrase::Asks(_)
+        | Phrase::Opens(_)
+        | Phrase::Needs(_, _, _)
+        | Phrase::Adds(_, _, _, _)
+        | Phrase::Deletes(_, _)
+        | Phrase::Ends(_)
+        | Phrase::Compacts => true,
+    }
 }
 
 // The tokens of a line, which say nothing where there are none.
@@ -60,6 +79,9 @@ fn take_tokens(
     let Some(phrase) = phrase_of(bytes, tokens) else {
         return Err(refused(line, ScriptKind::BadCommand));
     };
+    if !may_stand(script.listing, &phrase) {
+        return Err(refused(line, ScriptKind::BadCommand));
+    }
     match script.block.take() {
         None => outside(script, alloc, bytes, origin, line, phrase),
         Some(block) => inside(script, alloc, bytes, origin, block, line, phrase),
@@ -130,11 +152,26 @@ fn script_from(
     Ok(line)
 }
 
+// A script of which no line was read. In one list commands may come at once.
+fn first_script(alloc: Global, listing: Listing) -> Script
+    ensures { script_view result ≡ first_script listing }
+{
+    Script {
+        listing,
+        earlier: Vec::new(alloc),
+        begun: matches!(listing, Listing::OneList),
+        commands: Vec::new(alloc),
+        held: false,
+        block: None,
+    }
+}
+
 // The workers of a script that was read, where the next line would have a number.
 fn finished(script: Script, line: u32) -> Result<Job, JobRefusal>
     ensures { Says result job_view (jobs.finished line (script_view script)) }
 {
     let Script {
+        listing: _,
         mut earlier,
         begun,
         commands,
@@ -151,6 +188,24 @@ fn finished(script: Script, line: u32) -> Result<Job, JobRefusal>
     Ok(Job { workers: earlier })
 }
 
+// The commands of one list that was read.
+fn list_finished(script: Script) -> Result<Vec<Command>, JobRefusal>
+    ensures { Says result list_view (jobs.list_finished (script_view script)) }
+{
+    let Script {
+        listing: _,
+        earlier: _,
+        begun: _,
+        commands,
+        held: _,
+        block,
+    } = script;
+    match block {
+        Some(block) => Err(refused(block.start, ScriptKind::OpenBlock)),
+        None => Ok(commands),
+    }
+}
+
 /// Reads the script of a job, whose first line has the number `first_line`. Names are relative to the origin.
 #[tactic(auto, unfolding(job_model::specs::Jobs::script_of))]
 pub fn read_job(
@@ -165,16 +220,31 @@ pub fn read_job(
     ensures in_turn { IfOk result (λ job. AllByRecursion (InTurn false) (job_view job)) }
     ensures few_workers { IfOk result (λ job. length job.workers.items ≤ 16) }
 {
-    let mut script = Script {
-        earlier: Vec::new(alloc),
-        begun: false,
-        commands: Vec::new(alloc),
-        held: false,
-        block: None,
-    };
+    let mut script = first_script(alloc, Listing::ByWorker);
     let end = match script_from(&mut script, alloc, bytes, origin, first_line) {
         Ok(end) => end,
         Err(refusal) => return Err(refusal),
     };
     finished(script, end)
+}
+
+/// Reads a script that is one list of commands, whose first line has the number `first_line`. It may be empty.
+#[tactic(auto, unfolding(job_model::specs::Jobs::list_of))]
+pub fn read_list(
+    alloc: Global,
+    bytes: &[u8],
+    first_line: u32,
+    origin: &Name,
+) -> Result<Vec<Command>, JobRefusal>
+    requires short { length bytes.now ≤ 2 ^ 24 }
+    requires few { first_line + length bytes.now < 2 ^ 32 }
+    ensures reads { Says result list_view (jobs.list_of origin.now first_line (lines_of bytes.now)) }
+    ensures no_snapshots { IfOk result (λ commands. AllByRecursion NeedsNoSnapshot (list_view commands)) }
+    ensures few_commands { IfOk result (λ commands. vec_len commands ≤ 10000) }
+{
+    let mut script = first_script(alloc, Listing::OneList);
+    match script_from(&mut script, alloc, bytes, origin, first_line) {
+        Ok(_) => list_finished(script),
+        Err(refusal) => Err(refusal),
+    }
 }

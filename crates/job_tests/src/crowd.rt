@@ -1,6 +1,6 @@
 //! Sixteen workers beside each other on a table that is too small for all that they write.
 use dns_name::Name;
-use job_script::{Cause, Outcomes, Told, read_job};
+use job_script::{Cause, Outcome, Outcomes, Told, read_job};
 use job_threads::{Finished, Gate, Ran, run_zone, table_for};
 use std::alloc::{AllocError, Global};
 use std::sync::Wait;
@@ -14,7 +14,7 @@ const WORKERS: u32 = 16;
 const BLOCKS: u32 = 250;
 
 /// A gate that does nothing.
-struct Open;
+pub(crate) struct Open;
 
 impl Gate for Open {
     fn before(&self, _worker: u32, _command: u32) {}
@@ -88,16 +88,31 @@ pub(crate) fn run_script<R: Threads + Wait + Sync>(
 
 /// What is counted of outcomes.
 #[derive(Drop)]
-struct Tally {
+pub(crate) struct Tally {
     /// By its number, how often a version was made.
     made: Vec<u32>,
-    committed: u64,
-    full: u64,
+    pub committed: u64,
+    pub full: u64,
     /// How often a worker was shown an older version than before.
-    fell: u64,
+    pub fell: u64,
 }
 
 impl Tally {
+    /// Of versions up to a last one.
+    pub(crate) fn new(alloc: Global, last: usize) -> Result<Tally, AllocError> {
+        Ok(Tally {
+            made: Vec::from_elem(alloc, 0, last.saturating_add(1))?,
+            committed: 0,
+            full: 0,
+            fell: 0,
+        })
+    }
+
+    /// How many versions were made once.
+    pub(crate) fn once(&self) -> u64 {
+        self.made.iter().filter(|times| **times == 1).count() as u64
+    }
+
     /// Counts a block that made a version.
     fn commit(&mut self, version: u64) {
         self.committed = self.committed.saturating_add(1);
@@ -106,19 +121,24 @@ impl Tally {
         }
     }
 
+    /// Counts an outcome of a worker that had been shown a version before.
+    pub(crate) fn count(&mut self, seen: u64, outcome: &Outcome) {
+        if outcome.version < seen {
+            self.fell = self.fell.saturating_add(1);
+        }
+        match &outcome.told {
+            Told::Committed => self.commit(outcome.version),
+            Told::Refused(Cause::Full { .. }) => self.full = self.full.saturating_add(1),
+            _ => {}
+        }
+    }
+
     /// Counts a worker's outcomes.
-    fn count(&mut self, outcomes: &Outcomes) {
+    fn count_all(&mut self, outcomes: &Outcomes) {
         let mut seen = 0;
         for outcome in outcomes.list.iter() {
-            if outcome.version < seen {
-                self.fell = self.fell.saturating_add(1);
-            }
+            self.count(seen, outcome);
             seen = outcome.version;
-            match &outcome.told {
-                Told::Committed => self.commit(outcome.version),
-                Told::Refused(Cause::Full { .. }) => self.full = self.full.saturating_add(1),
-                _ => {}
-            }
         }
     }
 }
@@ -129,15 +149,10 @@ impl Tally {
 fn a_crowd_fills_a_small_table(rt: HostRuntime) -> Result<(), Fail> {
     let script = crowded_script(rt.alloc())?;
     let finished = run_script(&rt, rt.alloc(), &script)?;
-    let mut tally = Tally {
-        made: Vec::from_elem(rt.alloc(), 0, 4001)?,
-        committed: 0,
-        full: 0,
-        fell: 0,
-    };
+    let mut tally = Tally::new(rt.alloc(), 4000)?;
     for outcomes in finished.outcomes.iter() {
         assert_eq!(rt; outcomes.list.len(), 500);
-        tally.count(outcomes);
+        tally.count_all(outcomes);
     }
     assert_eq!(rt; finished.outcomes.len(), 16);
     assert_eq!(rt; tally.committed, finished.version);
@@ -145,7 +160,6 @@ fn a_crowd_fills_a_small_table(rt: HostRuntime) -> Result<(), Fail> {
     assert_eq!(rt; tally.committed.saturating_add(tally.full), 4000);
     assert!(rt; tally.full > 0);
     assert_eq!(rt; tally.fell, 0);
-    let once = tally.made.iter().filter(|times| **times == 1).count();
-    assert_eq!(rt; once as u64, finished.version);
+    assert_eq!(rt; tally.once(), finished.version);
     Ok(())
 }

@@ -104,17 +104,36 @@ impl Meeting {
     pub(crate) fn missed(&self) -> u64 {
         self.first.missed() | self.second.missed()
     }
-}
 
-impl Gate for Meeting {
-    fn before(&self, worker: u32, _command: u32) {
-        if worker == 1 {
+    // One of the two is there, and waits for the other.
+    fn meet(&self, is_first: bool) {
+        if is_first {
             self.first.give();
             self.second.wait();
         } else {
             self.second.give();
             self.first.wait();
         }
+    }
+}
+
+impl Gate for Meeting {
+    fn before(&self, worker: u32, _command: u32) {
+        self.meet(worker == 1);
+    }
+
+    fn after(&self, _worker: u32, _command: u32) {}
+}
+
+/// Two commands of one list, of which neither begins before the other.
+#[derive(Drop)]
+pub(crate) struct Crossing {
+    pub meeting: Meeting,
+}
+
+impl Gate for Crossing {
+    fn before(&self, _worker: u32, command: u32) {
+        self.meeting.meet(command == 1);
     }
 
     fn after(&self, _worker: u32, _command: u32) {}

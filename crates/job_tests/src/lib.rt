@@ -6,6 +6,8 @@ mod claims;
 #[cfg(test)]
 mod crowd;
 #[cfg(test)]
+mod feed;
+#[cfg(test)]
 mod gates;
 #[cfg(test)]
 mod plain;

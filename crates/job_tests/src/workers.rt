@@ -12,19 +12,20 @@ use std::thread::Threads;
 const ZONE: &[u8] =
     b"$TTL 300\n@ SOA ns hostmaster 1 3600 600 86400 60\n@ NS ns\nns A 192.0.2.1\n%%\n";
 
-/// The words of the command line.
-fn command_line(alloc: Global) -> Result<Vec<String>, AllocError> {
-    let mut words = Vec::new(alloc);
-    for word in ["qpzone", "run", "--origin", "example."] {
-        words.push(String::from_str(alloc, word)?)?;
+/// The words of a command line.
+fn command_line(alloc: Global, words: &[&str]) -> Result<Vec<String>, AllocError> {
+    let mut line = Vec::new(alloc);
+    for word in words {
+        line.push(String::from_str(alloc, *word)?)?;
     }
-    Ok(words)
+    Ok(line)
 }
 
-/// The report of a script on the zone, run by way of a gate.
-fn report<R: Threads + Wait + Sync, G: Gate>(
+/// The report of a script on the zone, run as words say, by way of a gate.
+pub(crate) fn report_as<R: Threads + Wait + Sync, G: Gate>(
     rt: &R,
     alloc: Global,
+    words: &[&str],
     script: &[u8],
     gate: &G,
 ) -> Result<Vec<u8>, Fail> {
@@ -32,12 +33,23 @@ fn report<R: Threads + Wait + Sync, G: Gate>(
     input.extend_from_slice(script)?;
     let mut source = MemSource::new(input, 4096, Vec::new(alloc));
     let mut sink = MemSink::new(alloc, 4096, 4096, Vec::new(alloc))?;
-    let words = command_line(alloc)?;
+    let words = command_line(alloc, words)?;
     if run(rt, alloc, &words, &mut source, &mut sink, gate).code() != 0 {
         return Err(Fail::from("not run"));
     }
     let written = sink.held().ok_or("no room")?;
     Ok(Vec::from_slice(alloc, written)?)
+}
+
+/// The report of a script with workers.
+fn report<R: Threads + Wait + Sync, G: Gate>(
+    rt: &R,
+    alloc: Global,
+    script: &[u8],
+    gate: &G,
+) -> Result<Vec<u8>, Fail> {
+    let words = ["qpzone", "run", "--origin", "example."];
+    report_as(rt, alloc, &words, script, gate)
 }
 
 #[test]

@@ -1,5 +1,5 @@
 -- What an ended index tells, where all its passes were handed in.
-use Rattle.std.proofs.Common.{◌≡◌, ◌∙◌, ◌≢◌, inl, inr, ⊎_elim, ℕ, zero, suc, ◌+◌, ◌<◌, ◌≤◌, List, [], ◌∷◌, ◌++◌, length, map, Option, Some, None, refl, sym, ap, subst, arith, append_assoc, length-append}
+use Rattle.std.proofs.Common.{◌≡◌, ◌∙◌, ◌≢◌, inl, inr, ⊎_elim, ℕ, zero, suc, ◌+◌, ◌<◌, ◌≤◌, Bool, true, false, List, [], ◌∷◌, ◌++◌, length, map, Option, Some, None, refl, sym, ap, subst, arith, append_assoc, length-append}
 use Rattle.std.specs.Prelude.{Contains}
 use Rattle.std.specs.List.{All, AllByRecursion}
 use Rattle.std.proofs.lemmas.List.{length-map}
@@ -12,9 +12,9 @@ use Rattle.shared_index.specs.declared.meaning.Operation.{Operation}
 use Rattle.shared_index.specs.Passes.{Known, pinned_in}
 use Rattle.shared_index.specs.Closings.{AllSeen, Includes, AreAll, IsCommitOf, IsNamingOf, Ends}
 use Rattle.job_threads.specs.Histories.{Setup, Commit}
-use Rattle.job_threads.specs.Closings.{Some', AreApart, Worker, views_of, numbers_in, IsPass, Closed, MainSees}
+use Rattle.job_threads.specs.Closings.{Some', AreApart, Worker, second_view, workers_views, views_of, numbers_in, IsPass, Closed, MainSees}
 use Rattle.job_threads.proofs.HistoryLaws.{by-append, begins_more}
-use Rattle.job_threads.proofs.JobLaws.{here, there}
+use Rattle.job_threads.proofs.JobLaws.{behind, here, there, second_all}
 
 abbrev Own : Type 0
 Own = PassView (List Operation)
@@ -125,11 +125,18 @@ module _ (s : Setup) (last : AllSeen) (main : Known) where
       let one : k.asker ≡ own = cc in
       subst (λ (x : Own). x.entries ≡ entries_by x.number last.history) one exact
 
+  -- a fact of a worker's second pass, if it has one, and of all behind it
+  with_second : (P : Known → Type 0) (two : Bool) (second : Known) (others : List Known) → (two ≡ true → P second) → AllByRecursion P (others ++ main ∷ []) → AllByRecursion P ((second_view two second ++ others) ++ main ∷ [])
+  with_second P true second others here all = (here refl, all)
+  with_second P false second others here all = all
+
   all_entries : (ws : List (Worker s)) (own : Own) → main.pass ≡ Some own → own.entries ≡ [] → AllByRecursion (Includes last) (views_of main ws) → AllByRecursion HasEntries (views_of main ws)
   all_entries [] own is none i = (none_entries main own is none i.0, tt)
   all_entries (w ∷ ws) own is none i = (
     asker_entries w i.0,
-    (none_entries w.station.holds w.ran.work.holder w.ran.work.is_holder w.ran.work.none_held i.1.0, all_entries ws own is none i.1.1),
+    with_second HasEntries w.has_second w.station.holds (workers_views ws)
+        (λ two. none_entries w.station.holds w.ran.work.holder w.ran.work.is_holder w.ran.work.none_held (second_all (Includes last) w.has_second w.station.holds (workers_views ws) main two i.1))
+        (all_entries ws own is none (behind main (Includes last) w ws i)),
   )
 
   seen_all : (views : List Known) → AllByRecursion (Includes last) views → AllByRecursion (λ (v : Known). StartsWith last.history v.seen.history) views × AllByRecursion (λ (v : Known). StartsWith last.namings v.seen.namings) views

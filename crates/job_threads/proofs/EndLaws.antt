@@ -42,10 +42,6 @@ numbers_same : (vs : List Known) (a b : Known) → number_of a.pass ≡ number_o
 numbers_same [] a b e = ap (λ (n : ℕ). n ∷ []) e
 numbers_same (v ∷ vs) a b e = ap (λ (ks : List ℕ). number_of v.pass ∷ ks) (numbers_same vs a b e)
 
-views_long : (s : Setup) (ws : List (Worker s)) → length (workers_views ws) ≡ 2 * length ws
-views_long s [] = refl
-views_long s (w ∷ ws) = let e = views_long s ws in omega (arith, e)
-
 number_with : (p : Option Own) (n : ℕ) → number_of (with_pinned p n) ≡ number_of p
 number_with None n = refl
 number_with (Some own) n = refl
@@ -83,35 +79,31 @@ module _ (s : Setup) (before : List Known) (ws : List (List Command)) (os : List
       let back : Contains (numbers_in (views_of after g.done)) (n + 1) = subst (λ (ks : List ℕ). Contains ks (n + 1)) (numbers_same (workers_views g.done) main after same) (g.all_back (n + 1) inside) in
       out_of (λ (v : Known). number_of v.pass) (views_of after g.done) (n + 1) back
 
-  pub job_ends : (zone : Version) (count version names many : ℕ) (last : AllSeen) → StandsAs s.opening zone → s.passes ≡ passes_for (length ws) → count ≡ passes_for (length ws) → AreAll count before → Ends count (views ++ after ∷ []) version last
-      → names ≡ length (version_seen pinned.seen) → many ≡ nodes (keys_of (version_seen pinned.seen)) → IsRun s.chunks s.origin zone ws os version names many
-  job_ends zone count version names many last opens passes counted all ends names_are many_are =
+  pub job_ends : (zone : Version) (count version names many : ℕ) (last : AllSeen) → StandsAs s.opening zone → length before ≡ count → AreAll count before → Ends count (views ++ after ∷ []) version last
+      → names ≡ length (version_seen pinned.seen) → many ≡ nodes (keys_of (version_seen pinned.seen)) → IsRun s.chunks s.passes s.origin zone ws os version names many
+  job_ends zone count version names many last opens counted all ends names_are many_are =
       let ended : Ends count (views_of after g.done) version last = subst (λ (vs : List Known). Ends count (vs ++ after ∷ []) version last) g.views_are ends in
-      let workers : length ws ≡ length g.done = ap length g.commands_are ∙ length-map g.done (λ (w : Worker s). w.commands) in
-      let counted' : count ≡ 2 * length ws + 1 = counted in
-      let long : length (views_of after g.done) ≡ count = omega (arith, length-append (workers_views g.done) (after ∷ []), views_long s g.done, workers, counted') in
+      let as_many = g.as_many in
+      let views_long : length views ≡ length (workers_views g.done) = ap length g.views_are in
+      let long : length (views_of after g.done) ≡ count = omega (arith, length-append (workers_views g.done) (after ∷ []), views_long, as_many, counted) in
       let c = closed s last after count version g.done sees ended (all_after count all) long in
       let there = ends_there s last.history last.namings after g.done c sees in
       let same : version_seen pinned.seen ≡ version_after applied s.opening after.seen.history =
       ap version_seen (sym seen_is) ∙ ap (λ (o : Entries). version_after applied o after.seen.history) opened in
-      let r = is_run s last.history last.namings after zone g.done version names many opens (passes ∙ ap passes_for (ap length g.commands_are)) c sees (ended.version_is ∙ ap length there) (names_are ∙ ap length same)
+      let r = is_run s last.history last.namings after zone g.done version names many opens c sees (ended.version_is ∙ ap length there) (names_are ∙ ap length same)
       (many_are ∙ ap (λ (es : Entries). nodes (keys_of es)) same) in
-      subst (λ (cs : List (List Command)). IsRun s.chunks s.origin zone cs os version names many) (sym g.commands_are)
-      (subst (λ (os' : List Outcomes). IsRun s.chunks s.origin zone (commands_in g.done) os' version names many) (sym g.outcomes_are) r)
+      subst (λ (cs : List (List Command)). IsRun s.chunks s.passes s.origin zone cs os version names many) (sym g.commands_are)
+      (subst (λ (os' : List Outcomes). IsRun s.chunks s.passes s.origin zone (commands_in g.done) os' version names many) (sym g.outcomes_are) r)
 
 -- what is left and main's
 pub all_handed : {A : Type 0} (whole rest : List A) (main : A) (P : A → Type 0) → whole ≡ rest ++ main ∷ [] → All P rest → P main → All P whole
 all_handed whole rest main P is all one = subst (All P) (sym is) (All-push P rest main all one)
 
--- The same, by the lists of passes: all were given, and what is left of them and main's are handed in.
-pub job_ended : {A B : Type 0} (passes rest whole : List A) (main : A) (known : A → Known) (workers handed : List B) (view : B → List Command) → handed ≡ workers → (s : Setup) (origin : Name) (size : TableSize) → IsIndex s origin size → size.passes ≡ length passes → length passes ≡ passes_for (length workers)
-    → AreAll (length passes) (map known passes) → whole ≡ rest ++ main ∷ [] → (os : List Outcomes) (old pinned : Known) (number : ℕ) → Gathers s (map known passes) (map view handed) os (map known rest) old → is_told old.seen.opening ≡ true → Pinned Lawful old pinned number
-    → (after : Known) → known main ≡ after → after ≡ with_progress pinned progress.Idle → (zone : Version) → StandsAs s.opening zone → (version names many : ℕ) (last : AllSeen) → Ends size.passes (map known whole) version last → names ≡ length (version_seen pinned.seen) → many ≡ nodes (keys_of (version_seen pinned.seen))
-    → IsRun s.chunks origin zone (map view workers) os version names many
-job_ended passes rest whole main known workers handed view same_workers s origin size index counted few all is_whole os old pinned number given told p after same left zone opens version names many last ends names_are many_are =
-    let g : Gathers s (map known passes) (map view workers) os (map known rest) old = subst (λ (l : List _). Gathers s (map known passes) (map view l) os (map known rest) old) same_workers given in
-    let long : passes_for (length workers) ≡ passes_for (length (map view workers)) = ap passes_for (sym (length-map workers view)) in
+-- The same, by the lists of passes: what is left of them and main's are handed in.
+pub job_ended : {A : Type 0} (rest whole : List A) (main : A) (known : A → Known) → whole ≡ rest ++ main ∷ [] → (s : Setup) (before : List Known) (ws : List (List Command)) (os : List Outcomes) (old pinned : Known) (number : ℕ) → Gathers s before ws os (map known rest) old
+    → is_told old.seen.opening ≡ true → Pinned Lawful old pinned number → (after : Known) → known main ≡ after → after ≡ with_progress pinned progress.Idle → (count : ℕ) → length before ≡ count → AreAll count before → (zone : Version) → StandsAs s.opening zone
+    → (version names many : ℕ) (last : AllSeen) → Ends count (map known whole) version last → names ≡ length (version_seen pinned.seen) → many ≡ nodes (keys_of (version_seen pinned.seen)) → IsRun s.chunks s.passes s.origin zone ws os version names many
+job_ended rest whole main known is_whole s before ws os old pinned number g told p after same left count counted all zone opens version names many last ends names_are many_are =
     let views : map known whole ≡ map known rest ++ known main ∷ [] = ap (map known) is_whole ∙ map-append known rest (main ∷ []) in
-    let ended : Ends (length passes) (map known rest ++ known main ∷ []) version last = subst (λ (n : ℕ). Ends n (map known rest ++ known main ∷ []) version last) counted (subst (λ (vs : List Known). Ends size.passes vs version last) views ends) in
-    subst (λ (o : Name). IsRun s.chunks o zone (map view workers) os version names many) index.origin_is
-    (job_ends s (map known passes) (map view workers) os (map known rest) old pinned (known main) number g told p (same ∙ left) zone (length passes) version names many last opens (index.passes ∙ counted ∙ few ∙ long) (few ∙ long) all ended names_are many_are)
+    let ended : Ends count (map known rest ++ known main ∷ []) version last = subst (λ (vs : List Known). Ends count vs version last) views ends in
+    job_ends s before ws os (map known rest) old pinned (known main) number g told p (same ∙ left) zone count version names many last opens counted all ended names_are many_are

@@ -1,5 +1,5 @@
 -- Workers that are done, one after another.
-use Rattle.std.proofs.Common.{true, ◌≡◌, ◌∙◌, ⊎_elim, ℕ, suc, ◌+◌, ◌*◌, List, [], ◌∷◌, ◌++◌, length, map, Result, Ok, Err, IfOk, refl, sym, ap, subst, arith, append_assoc, length-append}
+use Rattle.std.proofs.Common.{true, false, ◌≡◌, ◌∙◌, ⊎_elim, ℕ, suc, ◌+◌, ◌*◌, List, [], ◌∷◌, ◌++◌, length, map, Result, Ok, Err, IfOk, refl, sym, ap, subst, arith, append_assoc, length-append}
 use Rattle.std.specs.Prelude.{Contains}
 use Rattle.std.specs.List.{All}
 use Rattle.std.proofs.lemmas.List.{map-append}
@@ -16,6 +16,8 @@ use Rattle.job_threads.specs.Histories.{Setup, Entries}
 use Rattle.job_threads.specs.Commands.{IsIndex, IsSetup}
 use Rattle.job_threads.specs.Works.{IsNew, AreNew, Begins, Numbers, WorkerRan, ended}
 use Rattle.job_threads.specs.Closings.{Worker, workers_views, views_of, numbers_in, Gathers}
+use Rattle.job_threads.specs.Feeds.{commands_served, only, outcomes_served}
+use Rattle.job_threads.specs.declared.ordering.Served.{Served}
 use Rattle.job_threads.proofs.HistoryLaws.{begins_more, opened_same}
 use Rattle.job_threads.proofs.JobLaws.{here, there}
 use Rattle.job_threads.proofs.WorkLaws.{all_weaker}
@@ -27,6 +29,7 @@ gathers_none s main number new = record {
   commands_are = refl;
   outcomes_are = refl;
   views_are = refl;
+  as_many = refl;
   all_back = λ m c. c;
   own = new.own;
   is_own = new.is_own;
@@ -37,16 +40,27 @@ gathers_none s main number new = record {
 }
 
 -- no worker is left, and of the passes main's alone
+pub gathers_main : {A : Type 0} (passes front : List A) (main : A) (known : A → Known) (s : Setup) (ws : List (List Command)) (os : List Outcomes) → passes ≡ front ++ main ∷ [] → length passes ≡ 1 → ws ≡ [] → os ≡ [] → AreNew s.opening (map known passes)
+    → Gathers s (map known passes) ws os (map known front) (known main)
+gathers_main passes [] main known s ws os is long none no_outcomes new =
+    let first = subst (λ (l : List _). AreNew s.opening (map known l)) is new in
+    subst (λ (l : List _). Gathers s (map known l) ws os [] (known main)) (sym is)
+    (subst (λ (l : List (List Command)). Gathers s (known main ∷ []) l os [] (known main)) (sym none)
+    (subst (λ (l : List Outcomes). Gathers s (known main ∷ []) [] l [] (known main)) (sym no_outcomes) (gathers_none s (known main) first.0.0 first.0.1)))
+gathers_main passes (p ∷ front) main known s ws os is long none no_outcomes new = absurd (omega (arith, long, ap length is, length-append front (main ∷ [])))
+
 pub gathers_start : {A B : Type 0} (passes front : List A) (asks : A) (known : A → Known) (workers : List B) (view : B → List Command) (s : Setup) (os : List Outcomes) → passes ≡ front ++ asks ∷ [] → length passes ≡ 2 * length workers + 1 → length workers ≡ 0 → os ≡ [] → AreNew s.opening (map known passes)
     → Gathers s (map known passes) (map view workers) os (map known front) (known asks)
-gathers_start passes [] asks known [] view s os is long none no_outcomes new =
-    let first = subst (λ (l : List _). AreNew s.opening (map known l)) is new in
-    subst (λ (l : List _). Gathers s (map known l) [] os [] (known asks)) (sym is) (subst (λ (l : List Outcomes). Gathers s (known asks ∷ []) [] l [] (known asks)) (sym no_outcomes) (gathers_none s (known asks) first.0.0 first.0.1))
-gathers_start passes (p ∷ front) asks known [] view s os is long none no_outcomes new = absurd (omega (arith, long, ap length is, length-append front (asks ∷ [])))
+gathers_start passes front asks known [] view s os is long none no_outcomes new = gathers_main passes front asks known s [] os is long refl no_outcomes new
 gathers_start passes front asks known (w ∷ workers) view s os is long none no_outcomes new = absurd (omega (arith, none))
 
 numbers_append : (xs ys : List Known) → numbers_in (xs ++ ys) ≡ numbers_in xs ++ numbers_in ys
 numbers_append xs ys = map-append (λ (v : Known). number_of v.pass) xs ys
+
+-- main's pass has the same number
+numbers_main : (main after : Known) → after.pass ≡ main.pass → (vs : List Known) → numbers_in (vs ++ main ∷ []) ≡ numbers_in (vs ++ after ∷ [])
+numbers_main main after same [] = ap (λ p. number_of p ∷ []) (sym same)
+numbers_main main after same (v ∷ vs) = ap (λ (ks : List ℕ). number_of v.pass ∷ ks) (numbers_main main after same vs)
 
 -- another worker, whose passes were the last two
 pub gathers_more : (s : Setup) (before : List Known) (spare asks : Known) (ws : List (List Command)) (os : List Outcomes) (views : List Known) (main after spare' asks' : Known) (n : Numbers) (w : List Command) (o : Outcomes)
@@ -54,15 +68,16 @@ pub gathers_more : (s : Setup) (before : List Known) (spare asks : Known) (ws : 
     → Gathers s (before ++ spare ∷ asks ∷ []) (w ∷ ws) (o ∷ os) (asks' ∷ spare' ∷ views) after
 gathers_more s before spare asks ws os views main after spare' asks' n w o g r same_asks same_spare told l =
     record {
-      done = record { numbers = n; station = ended asks' spare'; commands = w; outcomes = o; ran = r } ∷ g.done;
+      done = record { numbers = n; station = ended asks' spare'; has_second = true; commands = w; outcomes = o; ran = r } ∷ g.done;
       commands_are = ap (λ (ls : List (List Command)). w ∷ ls) g.commands_are;
       outcomes_are = ap (λ (ls : List Outcomes). o ∷ ls) g.outcomes_are;
       views_are = ap (λ (vs : List Known). asks' ∷ spare' ∷ vs) g.views_are;
+      as_many = (let many = g.as_many in omega (arith, many, length-append before (spare ∷ asks ∷ [])));
       all_back = λ m c.
           ⊎_elim
           (λ (old : Contains (numbers_in before) m).
           there (number_of asks'.pass) m (number_of spare'.pass ∷ numbers_in (views_of after g.done)) (there (number_of spare'.pass) m (numbers_in (views_of after g.done))
-          (subst (λ (ks : List ℕ). Contains ks m) (main_same (workers_views g.done)) (g.all_back m old))))
+          (subst (λ (ks : List ℕ). Contains ks m) (numbers_main main after l.pass (workers_views g.done)) (g.all_back m old))))
           (λ (new : Contains (number_of spare.pass ∷ number_of asks.pass ∷ []) m). ⊎_elim
           (λ (is : number_of spare.pass ≡ m). there (number_of asks'.pass) m (number_of spare'.pass ∷ numbers_in (views_of after g.done))
           (subst (λ (k : ℕ). Contains (number_of spare'.pass ∷ numbers_in (views_of after g.done)) k) (sym same_spare ∙ is) (here (number_of spare'.pass) (numbers_in (views_of after g.done)))))
@@ -82,10 +97,36 @@ gathers_more s before spare asks ws os views main after spare' asks' n w o g r s
             (λ u b. begins_more after.seen.history main.seen.history u.station.asks.seen.history l.grows.history b) g.learnt,
       );
     }
-  where
-    main_same : (vs : List Known) → numbers_in (vs ++ main ∷ []) ≡ numbers_in (vs ++ after ∷ [])
-    main_same [] = ap (λ p. number_of p ∷ []) (sym l.pass)
-    main_same (v ∷ vs) = ap (λ (ks : List ℕ). number_of v.pass ∷ ks) (main_same vs)
+-- another worker, whose only pass was the last one
+pub gathers_one : (s : Setup) (before : List Known) (pass : Known) (ws : List (List Command)) (os : List Outcomes) (views : List Known) (main after pass' : Known) (number : ℕ) (w : List Command) (o : Outcomes)
+    → Gathers s before ws os views main → WorkerRan s (only number) (ended pass' pass) w o.list.items → number_of pass.pass ≡ number_of pass'.pass → is_told main.seen.opening ≡ true → Learnt main after pass'.seen
+    → Gathers s (before ++ pass ∷ []) (w ∷ ws) (o ∷ os) (pass' ∷ views) after
+gathers_one s before pass ws os views main after pass' number w o g r same told l =
+    record {
+      done = record { numbers = only number; station = ended pass' pass; has_second = false; commands = w; outcomes = o; ran = r } ∷ g.done;
+      commands_are = ap (λ (ls : List (List Command)). w ∷ ls) g.commands_are;
+      outcomes_are = ap (λ (ls : List Outcomes). o ∷ ls) g.outcomes_are;
+      views_are = ap (λ (vs : List Known). pass' ∷ vs) g.views_are;
+      as_many = (let many = g.as_many in omega (arith, many, length-append before (pass ∷ [])));
+      all_back = λ m c.
+          ⊎_elim
+          (λ (old : Contains (numbers_in before) m).
+          there (number_of pass'.pass) m (numbers_in (views_of after g.done)) (subst (λ (ks : List ℕ). Contains ks m) (numbers_main main after l.pass (workers_views g.done)) (g.all_back m old)))
+          (λ (new : Contains (number_of pass.pass ∷ []) m). ⊎_elim
+          (λ (is : number_of pass.pass ≡ m). subst (λ (k : ℕ). Contains (number_of pass'.pass ∷ numbers_in (views_of after g.done)) k) (sym same ∙ is) (here (number_of pass'.pass) (numbers_in (views_of after g.done))))
+          (λ (none : Contains [] m). absurd (let lt = none.1 in omega arith)) (contains_cases (number_of pass.pass) m [] new))
+          (Contains-append_cases (numbers_in before) (number_of pass.pass ∷ []) m (subst (λ (ks : List ℕ). Contains ks m) (numbers_append before (pass ∷ [])) c));
+      own = g.own;
+      is_own = l.pass ∙ g.is_own;
+      none = g.none;
+      unpinned = g.unpinned;
+      opened = opened_same after.seen main.seen told l.grows ∙ g.opened;
+      learnt = (
+        l.learns.history,
+        all_weaker (λ (u : Worker s). StartsWith main.seen.history u.station.asks.seen.history) (λ (u : Worker s). StartsWith after.seen.history u.station.asks.seen.history) g.done
+            (λ u b. begins_more after.seen.history main.seen.history u.station.asks.seen.history l.grows.history b) g.learnt,
+      );
+    }
 
 -- ---- passes taken from the end of a list, and put in in front of one
 
@@ -134,6 +175,38 @@ module _ {A : Type 0} (passes front rest : List A) (spare asks : A) (known : A �
       (gathers_more s (map known rest) (known spare) (known asks) ws os views main after spare' asks' numbers w o g r
       (ap number_of asker.is_own ∙ ap (λ (n : ℕ). n + 1) (asker.numbered ∙ sym r.asker) ∙ sym (ap number_of r.work.is_asker))
       (ap number_of holder.is_own ∙ ap (λ (n : ℕ). n + 1) (holder.numbered ∙ sym r.holder) ∙ sym (ap number_of r.work.is_holder)) told l)
+
+-- ---- one more worker of one list
+
+module _ {A : Type 0} (passes front : List A) (pass : A) (known : A → Known) (s : Setup) (last : passes ≡ front ++ pass ∷ []) (new : AreNew s.opening (map known passes)) where
+  views_with : map known passes ≡ map known front ++ known pass ∷ []
+  views_with = ap (map known) last ∙ map-append known front (pass ∷ [])
+
+  parts_with : AreNew s.opening (map known front) × AreNew s.opening (known pass ∷ [])
+  parts_with = new_split s.opening (map known front) (known pass ∷ []) (subst (AreNew s.opening) views_with new)
+
+  pub front_new : AreNew s.opening (map known front)
+  front_new = parts_with.0
+
+  pub gathers_server : (origin : Name) (size : TableSize) → IsIndex s origin size → (ws : List (List Command)) (os : List Outcomes) (views : List Known) (main after pass' : Known) (w : List Command) (o : Outcomes) → Gathers s (map known front) ws os views main
+      → ((n : ℕ) → IsSetup s origin size (known pass) → IsNew n s.opening (known pass) → WorkerRan s (only n) (ended pass' (known pass)) w o.list.items) → is_told main.seen.opening ≡ true → Learnt main after pass'.seen
+      → Gathers s (map known passes) (w ∷ ws) (o ∷ os) (pass' ∷ views) after
+  gathers_server origin size index ws os views main after pass' w o g runs told l =
+      let number = parts_with.1.0.0 in
+      let only_pass = parts_with.1.0.1 in
+      let r = runs number (record { index = index; opening = only_pass.opened }) only_pass in
+      subst (λ (vs : List Known). Gathers s vs (w ∷ ws) (o ∷ os) (pass' ∷ views) after) (sym views_with)
+      (gathers_one s (map known front) (known pass) ws os views main after pass' number w o g r
+      (ap number_of only_pass.is_own ∙ ap (λ (n : ℕ). n + 1) (only_pass.numbered ∙ sym r.asker) ∙ sym (ap number_of r.work.is_asker)) told l)
+
+-- what one more worker of one list comes to, if there is memory for it
+pub gathers_served : {G E : Type 0} (r : Result G E) (served_of : G → List Served) (views_of' : G → List Known) (main_of : G → Known) (s : Setup) (before : List Known) (commands : List Command) (served : List Served) (views : List Known) (main seen : Known)
+    → IfOk r (λ g. served_of g ≡ served) → IfOk r (λ g. views_of' g ≡ views) → IfOk r (λ g. Learnt main (main_of g) seen.seen) → ((after : Known) → Learnt main after seen.seen → Gathers s before (commands_served commands served) (outcomes_served served) views after)
+    → IfOk r (λ g. Gathers s before (commands_served commands (served_of g)) (outcomes_served (served_of g)) (views_of' g) (main_of g))
+gathers_served (Ok g) served_of views_of' main_of s before commands served views main seen is_served is_views learnt gathers =
+    subst (λ (l : List Served). Gathers s before (commands_served commands l) (outcomes_served l) (views_of' g) (main_of g)) (sym is_served)
+    (subst (λ (l : List Known). Gathers s before (commands_served commands served) (outcomes_served served) l (main_of g)) (sym is_views) (gathers (main_of g) learnt))
+gathers_served (Err e) served_of views_of' main_of s before commands served views main seen is_served is_views learnt gathers = tt
 
 -- what one more worker comes to, if there is memory for it
 pub gathers_done : {G E : Type 0} (r : Result G E) (outcomes_of : G → List Outcomes) (views_of' : G → List Known) (main_of : G → Known) (s : Setup) (before : List Known) (ws : List (List Command)) (os : List Outcomes) (views : List Known) (main seen : Known)

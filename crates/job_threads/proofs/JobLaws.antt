@@ -1,5 +1,5 @@
 -- What all workers together have come to.
-use Rattle.std.proofs.Common.{◌≡◌, ◌∙◌, ◌≢◌, inl, inr, ℕ, zero, suc, ◌+◌, ◌-◌, ◌<◌, ◌≤◌, Bool, true, false, cond, ◌&&◌, eqb, List, [], ◌∷◌, ◌++◌, length, Option, Some, None, refl, sym, ap, subst, arith, append-nil, length-append, Ok, eq-eqb}
+use Rattle.std.proofs.Common.{◌≡◌, ◌∙◌, ◌≢◌, ◌⊎◌, inl, inr, ⊎_elim, ℕ, zero, suc, ◌+◌, ◌-◌, ◌<◌, ◌≤◌, Bool, true, false, cond, ◌&&◌, eqb, List, [], ◌∷◌, ◌++◌, length, Option, Some, None, refl, sym, ap, subst, arith, append-nil, length-append, Ok, eq-eqb}
 use Rattle.std.specs.Prelude.{Contains}
 use Rattle.std.proofs.lemmas.Bool.Decides.{nat_tests}
 use Rattle.std.proofs.lemmas.List.{length-map}
@@ -10,7 +10,7 @@ use Rattle.zone_model.specs.Transactions.{whole}
 use Rattle.zone_query.specs.Standing.{trie_entry}
 use Rattle.trie_model.specs.Shape.{nodes, keys_of}
 use Rattle.job_model.specs.Sizes.{node_count}
-use Rattle.job_model.specs.Outcomes.{Pair, is_committed, made, asked_by, asked_at, accepted_or, times_made, version_at, AllAlong, all_pairs, passes_for, shown_in}
+use Rattle.job_model.specs.Outcomes.{Pair, is_committed, made, asked_by, asked_at, accepted_or, times_made, version_at, AllAlong, all_pairs, shown_in}
 use Rattle.job_script.specs.Outcomes.{pairs_of, job_pairs, versions_made, AllTell}
 use Rattle.shared_cells.specs.declared.view.Naming.{Naming}
 use Rattle.shared_cells.specs.History.{StartsWith, entries_by, version_after}
@@ -19,7 +19,7 @@ use Rattle.shared_index.specs.Operations.{applied}
 use Rattle.shared_index.specs.Passes.{Known}
 use Rattle.job_threads.specs.Histories.{Setup, Commit, Entries, index_at, StandsAs, AreVersions, CoversNamings, judged_by, times_by}
 use Rattle.job_threads.specs.Works.{Replayed}
-use Rattle.job_threads.specs.Closings.{Some', AreApart, Worker, views_of, numbers_in, commands_in, outcomes_in, IsPass, Closed, MainSees}
+use Rattle.job_threads.specs.Closings.{Some', AreApart, Worker, second_view, workers_views, views_of, numbers_in, commands_in, outcomes_in, IsPass, Closed, MainSees}
 use Rattle.job_threads.specs.Runs.{IsRun}
 use Rattle.job_threads.proofs.HistoryLaws.{begins_more, begins_length, index_last, versions_front, times_none, times_front, times_past}
 use Rattle.job_threads.proofs.WorkLaws.{Pairs, Own, all_weaker, all_both, times-append, shown-append, replayed_more}
@@ -52,7 +52,32 @@ author_of (e ∷ history) (suc (suc j)) some le = further (author_of history (su
     further : Author history (suc j) → Author (e ∷ history) (suc (suc j))
     further a = record { commit = a.commit; inside = there e a.commit history a.inside; times = a.times }
 
--- ---- passes
+-- ---- passes, with a second one of a worker or without
+
+rest_all : (P : Known → Type 0) (two : Bool) (second : Known) (others : List Known) (main : Known) → AllByRecursion P ((second_view two second ++ others) ++ main ∷ []) → AllByRecursion P (others ++ main ∷ [])
+rest_all P true second others main all = all.1
+rest_all P false second others main all = all
+
+pub second_all : (P : Known → Type 0) (two : Bool) (second : Known) (others : List Known) (main : Known) → two ≡ true → AllByRecursion P ((second_view two second ++ others) ++ main ∷ []) → P second
+second_all P true second others main is all = all.0
+second_all P false second others main is all = absurd cc
+
+rest_some : (P : Known → Type 0) (two : Bool) (second : Known) (others : List Known) (main : Known) → Some' P ((second_view two second ++ others) ++ main ∷ []) → ((two ≡ true) × P second) ⊎ Some' P (others ++ main ∷ [])
+rest_some P true second others main (inl here) = inl (refl, here)
+rest_some P true second others main (inr more) = inr more
+rest_some P false second others main some' = inr some'
+
+rest_numbers : (P : ℕ → Type 0) (two : Bool) (second : Known) (others : List Known) (main : Known) → AllByRecursion P (numbers_in ((second_view two second ++ others) ++ main ∷ [])) → AllByRecursion P (numbers_in (others ++ main ∷ []))
+rest_numbers P true second others main all = all.1
+rest_numbers P false second others main all = all
+
+rest_apart : (two : Bool) (second : Known) (others : List Known) (main : Known) → AreApart (numbers_in ((second_view two second ++ others) ++ main ∷ [])) → AreApart (numbers_in (others ++ main ∷ []))
+rest_apart true second others main apart = apart.1
+rest_apart false second others main apart = apart
+
+-- the passes of the workers behind one
+pub behind : {s : Setup} (main : Known) (P : Known → Type 0) (w : Worker s) (ws : List (Worker s)) → AllByRecursion P (views_of main (w ∷ ws)) → AllByRecursion P (views_of main ws)
+behind main P w ws all = rest_all P w.has_second w.station.holds (workers_views ws) main all.1
 
 module _ (s : Setup) (history : List Commit) (namings : List Naming) (main : Known) where
   -- how often a version was made by passes of these numbers
@@ -83,7 +108,7 @@ module _ (s : Setup) (history : List Commit) (namings : List Naming) (main : Kno
   all_times (w ∷ ws) j e b =
       times-append j (pairs_of w.commands w.outcomes.list.items) (Made ws)
       ∙ ap (λ (k : ℕ). k + times_made j (Made ws)) (whole_times w j e.0 b.0)
-      ∙ ap (λ (k : ℕ). times_by w.numbers.asker j history + k) (all_times ws j e.1.1 b.1.1)
+      ∙ ap (λ (k : ℕ). times_by w.numbers.asker j history + k) (all_times ws j (behind main HasEntries w ws e) (behind main Sees w ws b))
 
   -- a commit's pass is one of the workers' first passes
   abbrev Among : ℕ → List (Worker s) → Type 0
@@ -105,8 +130,11 @@ module _ (s : Setup) (history : List Commit) (namings : List Naming) (main : Kno
   among [] j a own is none e (inl pass) = absurd (no_commits 0 j main own a is none e.0 pass)
   among [] j a own is none e (inr more) = absurd more
   among (w ∷ ws) j a own is none e (inl pass) = inl (sym w.ran.asker ∙ ap number_in (sym w.ran.work.is_asker ∙ pass.1) ∙ pass.2)
-  among (w ∷ ws) j a own is none e (inr (inl pass)) = absurd (no_commits 0 j w.station.holds w.ran.work.holder a w.ran.work.is_holder w.ran.work.none_held e.1.0 pass)
-  among (w ∷ ws) j a own is none e (inr (inr more)) = inr (among ws j a own is none e.1.1 more)
+  among (w ∷ ws) j a own is none e (inr more) = ⊎_elim
+      (λ (second : (w.has_second ≡ true) × IsPass a.commit.author w.station.holds).
+      absurd (no_commits 0 j w.station.holds w.ran.work.holder a w.ran.work.is_holder w.ran.work.none_held (second_all HasEntries w.has_second w.station.holds (workers_views ws) main second.0 e.1) second.1))
+      (λ (further : Some' (IsPass a.commit.author) (views_of main ws)). inr (among ws j a own is none (behind main HasEntries w ws e) further))
+      (rest_some (IsPass a.commit.author) w.has_second w.station.holds (workers_views ws) main more)
 
   -- once, since their numbers are apart
   none_else : (ws : List (Worker s)) (j : ℕ) (a : Author history j) → AllByRecursion (λ (w : Worker s). w.numbers.asker ≢ a.commit.author) ws → total j ws ≡ 0
@@ -147,12 +175,15 @@ module _ (s : Setup) (history : List Commit) (namings : List Naming) (main : Kno
   others_apart w [] b = tt
   others_apart w (v ∷ vs) b = (
     (λ e. b.0 (asker_number w ∙ ap (λ (i : ℕ). i + 1) e ∙ sym (asker_number v))),
-    others_apart w vs b.1.1,
+    others_apart w vs (rest_numbers (λ (y : ℕ). number_of w.station.asks.pass ≢ y) v.has_second v.station.holds (workers_views vs) main b.1),
   )
 
   apart_numbers : (ws : List (Worker s)) → AreApart (numbers_in (views_of main ws)) → Apart ws
   apart_numbers [] a = tt
-  apart_numbers (w ∷ ws) a = (others_apart w ws a.0.1, apart_numbers ws a.1.1)
+  apart_numbers (w ∷ ws) a = (
+    others_apart w ws (rest_numbers (λ (y : ℕ). number_of w.station.asks.pass ≢ y) w.has_second w.station.holds (workers_views ws) main a.0),
+    apart_numbers ws (rest_apart w.has_second w.station.holds (workers_views ws) main a.1),
+  )
 
   -- ---- each version was made once
 
@@ -171,12 +202,12 @@ module _ (s : Setup) (history : List Commit) (namings : List Naming) (main : Kno
       let long = l.0 in
       let beyond_it : length k.committed < j = omega (arith, short, long, past) in
       let none : times_by w.numbers.asker j history ≡ 0 = sym (whole_times w j e.0 b.0) ∙ k.made j ∙ times_past k.asker.number j k.committed beyond_it in
-      let rest : total j ws ≡ 0 = beyond ws j most e.1.1 b.1.1 l.1 past in
+      let rest : total j ws ≡ 0 = beyond ws j most (behind main HasEntries w ws e) (behind main Sees w ws b) l.1 past in
       omega (arith, none, rest)
 
   main_sees : (ws : List (Worker s)) → AllByRecursion Sees (views_of main ws) → Sees main
   main_sees [] b = b.0
-  main_sees (w ∷ ws) b = main_sees ws b.1.1
+  main_sees (w ∷ ws) b = main_sees ws (behind main Sees w ws b)
 
   pub ends_there : (ws : List (Worker s)) → Closed (views_of main ws) history namings → MainSees main ws → history ≡ main.seen.history
   ends_there ws c m = let b = main_sees ws c.begins in by_rest b.0 b.1
@@ -201,7 +232,7 @@ module _ (s : Setup) (history : List Commit) (namings : List Naming) (main : Kno
       all-append (Replayed s history) (pairs_of w.commands w.outcomes.list.items) (Made ws)
       (all_both (λ (q : Pair). q.1.version ≤ length w.station.asks.seen.history) (Replayed s w.station.asks.seen.history) (Replayed s history) (pairs_of w.commands w.outcomes.list.items)
       (λ q le h. replayed_more s history w.station.asks.seen.history b.0 q le h) w.ran.work.none_above w.ran.work.replayed)
-      (all_replayed ws b.1.1)
+      (all_replayed ws (behind main Sees w ws b))
 
   pub all_below : (ws : List (Worker s)) → AllByRecursion Sees (views_of main ws) → AllByRecursion (λ (p : Pair). p.1.version ≤ length history) (Made ws)
   all_below [] b = tt
@@ -209,7 +240,7 @@ module _ (s : Setup) (history : List Commit) (namings : List Naming) (main : Kno
       let long = begins_length history w.station.asks.seen.history b.0 in
       all-append (λ (p : Pair). p.1.version ≤ length history) (pairs_of w.commands w.outcomes.list.items) (Made ws)
       (all_weaker (λ (p : Pair). p.1.version ≤ length w.station.asks.seen.history) (λ (p : Pair). p.1.version ≤ length history) (pairs_of w.commands w.outcomes.list.items) (λ p le. omega (arith, le, long)) w.ran.work.none_above)
-      (all_below ws b.1.1)
+      (all_below ws (behind main Sees w ws b))
 
   is_both : (c d : Bool) → (c && d) ≡ true → (c ≡ true) × (d ≡ true)
   is_both true d h = (refl, h)
@@ -271,10 +302,11 @@ module _ (s : Setup) (history : List Commit) (namings : List Naming) (main : Kno
   covered [] n own is pinned below (inr more) = absurd more
   covered (w ∷ ws) n own is pinned below (inl p) =
       shown_left (pairs_of w.commands w.outcomes.list.items) (Made ws) n.version (w.ran.work.pinned n.version (inl (pinned_as w.station.asks w.ran.work.asker n w.ran.work.is_asker p)))
-  covered (w ∷ ws) n own is pinned below (inr (inl p)) =
-      shown_left (pairs_of w.commands w.outcomes.list.items) (Made ws) n.version (w.ran.work.pinned n.version (inr (pinned_as w.station.holds w.ran.work.holder n w.ran.work.is_holder p)))
-  covered (w ∷ ws) n own is pinned below (inr (inr more)) =
-      shown_right (pairs_of w.commands w.outcomes.list.items) (Made ws) n.version (covered ws n own is pinned below more)
+  covered (w ∷ ws) n own is pinned below (inr more) = ⊎_elim
+      (λ (second : (w.has_second ≡ true) × Pinned n w.station.holds).
+      shown_left (pairs_of w.commands w.outcomes.list.items) (Made ws) n.version (w.ran.work.pinned n.version (inr (pinned_as w.station.holds w.ran.work.holder n w.ran.work.is_holder second.1))))
+      (λ (further : Some' (Pinned n) (views_of main ws)). shown_right (pairs_of w.commands w.outcomes.list.items) (Made ws) n.version (covered ws n own is pinned below further))
+      (rest_some (Pinned n) w.has_second w.station.holds (workers_views ws) main more)
 
   -- ---- all are lawful
 
@@ -291,38 +323,32 @@ module _ (s : Setup) (history : List Commit) (namings : List Naming) (main : Kno
   all_along [] set shown are covers b names = tt
   all_along (w ∷ ws) set shown are covers b names = (
     w.ran.work.along set shown (versions_front s history w.station.asks.seen.history set b.0 are) (covers_each shown w.station.asks covers b.0 names.0),
-    all_along ws set shown are covers b.1.1 names.1.1,
+    all_along ws set shown are covers (behind main Sees w ws b) (behind main (λ (v : Known). StartsWith namings v.seen.namings) w ws names),
   )
 
   all_tell : (ws : List (Worker s)) (set : ℕ → Version) → AreVersions s history set → AllByRecursion Sees (views_of main ws) → AllTell s.origin set (commands_in ws) (outcomes_in ws)
   all_tell [] set are b = tt
   all_tell (w ∷ ws) set are b = (
     w.ran.told set (versions_front s history w.station.asks.seen.history set b.0 are),
-    all_tell ws set are b.1.1,
+    all_tell ws set are (behind main Sees w ws b),
   )
 
-  as_many : (ws : List (Worker s)) → length (job_pairs (commands_in ws) (outcomes_in ws)) ≡ length (commands_in ws)
-  as_many [] = refl
-  as_many (w ∷ ws) = ap suc (as_many ws)
-
   -- The job's run, where main's last question showed a version with so many names.
-  pub is_run : (zone : Version) (ws : List (Worker s)) (version names count : ℕ) → StandsAs s.opening zone → s.passes ≡ passes_for (length (commands_in ws)) → Closed (views_of main ws) history namings → MainSees main ws
+  pub is_run : (zone : Version) (ws : List (Worker s)) (version names count : ℕ) → StandsAs s.opening zone → Closed (views_of main ws) history namings → MainSees main ws
       → version ≡ length main.seen.history → names ≡ length (version_after applied s.opening main.seen.history) → count ≡ nodes (keys_of (version_after applied s.opening main.seen.history))
-      → IsRun s.chunks s.origin zone (commands_in ws) (outcomes_in ws) version names count
-  is_run zone ws version names count opens passes c m last many_names many_nodes =
+      → IsRun s.chunks s.passes s.origin zone (commands_in ws) (outcomes_in ws) version names count
+  is_run zone ws version names count opens c m last many_names many_nodes =
       let same = ends_there ws c m in
       let long : version ≡ length history = last ∙ sym (ap length same) in
       let once = made_once ws m.own m.is_own m.none c in
       let are = versions_stand zone (Made ws) opens (all_replayed ws c.begins) once in
       let covers : Covers (shown_in (Made ws)) = λ n inside below. covered ws n m.own m.is_own m.pinned (subst (λ (h : List Commit). n.version < length h) same below) (c.namers n inside) in
-      let many : s.passes ≡ passes_for (length (job_pairs (commands_in ws) (outcomes_in ws))) = passes ∙ ap passes_for (sym (as_many ws)) in
       let stands = are (length history) (omega arith) in
       record {
         lawful = record {
           once = λ j some le. once j some (omega (arith, le, long));
           none_above = all_weaker (λ (p : Pair). p.1.version ≤ length history) (λ (p : Pair). p.1.version ≤ version) (Made ws) (λ p le. omega (arith, le, long)) (all_below ws c.begins);
-          along = subst (λ (k : ℕ). AllAlong (record { chunks = s.chunks; passes = k; origin = s.origin; set = versions_made s.origin zone (commands_in ws) (outcomes_in ws); shown = shown_in (Made ws) }) (job_pairs (commands_in ws) (outcomes_in ws))) many
-              (all_along ws (versions_made s.origin zone (commands_in ws) (outcomes_in ws)) (shown_in (Made ws)) are covers c.begins c.names);
+          along = all_along ws (versions_made s.origin zone (commands_in ws) (outcomes_in ws)) (shown_in (Made ws)) are covers c.begins c.names;
         };
         tell = all_tell ws (versions_made s.origin zone (commands_in ws) (outcomes_in ws)) are c.begins;
         names_are =

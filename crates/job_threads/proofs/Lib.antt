@@ -11,3 +11,6 @@ pub mod CompactionLaws
 pub mod GatherLaws
 pub mod EndLaws
 pub mod OpenLaws
+pub mod ServeLaws
+pub mod OrderLaws
+pub mod FedRunLaws

@@ -1,5 +1,5 @@
 -- Steps of a worker, by where its passes are.
-use Rattle.std.proofs.Common.{◌≡◌, Option, Some, None, refl, sym, subst}
+use Rattle.std.proofs.Common.{◌≡◌, Option, Some, None, Result, Ok, Err, IfOk, refl, sym, subst}
 use Rattle.std.specs.Prelude.{IsSome}
 use Rattle.std.specs.Option.{option_map}
 use Rattle.zone_model.specs.Transactions.{Transaction, no_changes}
@@ -8,11 +8,13 @@ use Rattle.job_model.specs.declared.Ending.TheVariants.{Commit}
 use Rattle.job_model.specs.declared.Weight.{Weight}
 use Rattle.job_model.specs.Commands.{Question, Ask, Hold, AskHeld, Release, Block, Compact}
 use Rattle.job_script.specs.Outcomes.{EndsBlock, EndsCompaction}
+use Rattle.job_script.specs.Views.{command_view}
+use Rattle.job_script.specs.declared.commands.Command.{Command as Said}
 use Rattle.job_script.specs.declared.outcomes.Outcome.{Outcome}
 use Rattle.shared_index.specs.Passes.{known_at, first_version}
 use Rattle.job_threads.specs.Histories.{Setup}
 use Rattle.job_threads.specs.Commands.{Asked, IsHeld, Held, AskedHeld, Released, BlockRan}
-use Rattle.job_threads.specs.Steps.{IsUnder, Step}
+use Rattle.job_threads.specs.Steps.{Station, IsUnder, Step}
 use Rattle.job_threads.specs.Stations.{Seat, Pinned, holder_view, station, IsPlaced}
 use Rattle.job_threads.proofs.ShowLaws.{seat_told, holder_told, seat_pass}
 use Rattle.job_threads.proofs.StepLaws.{ask_step, block_step, compact_step, hold_step, held_step, release_step}
@@ -85,3 +87,11 @@ pub held_there : {A : Type 0} (seat : A → Pinned) (spare : Option (Option Seat
 held_there seat spare None snapshot is placed = absurd (let e : Some snapshot ≡ None = is in cc)
 held_there seat (Some other) (Some there) snapshot is placed = absurd placed
 held_there seat None (Some there) snapshot is placed = let same : there ≡ snapshot = cc in subst (λ x. IsHeld (seat x)) same placed
+
+-- a step, by which command it is
+pub step_is : (s : Setup) (o : Outcome) (old new : Station) (command said : Said) → command ≡ said → Step s (command_view said) o old new → Step s (command_view command) o old new
+step_is s o old new command said is step = subst (λ (x : Said). Step s (command_view x) o old new) (sym is) step
+
+pub if_both : {A E : Type 0} {P Q R : A → Type 0} (r : Result A E) → ((x : A) → P x → Q x → R x) → IfOk r P → IfOk r Q → IfOk r R
+if_both (Ok x) f p q = f x p q
+if_both (Err e) f p q = tt

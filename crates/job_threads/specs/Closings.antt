@@ -1,5 +1,5 @@
 -- What is known when all workers are done.
-use Rattle.std.specs.Prelude.{◌≡◌, ◌≢◌, ◌⊎◌, ℕ, List, [], ◌∷◌, ◌++◌, length, map, Some, Contains}
+use Rattle.std.specs.Prelude.{◌≡◌, ◌≢◌, ◌⊎◌, ℕ, ◌+◌, Bool, true, false, List, [], ◌∷◌, ◌++◌, length, map, Some, Contains}
 use Rattle.std.specs.List.{AllByRecursion}
 use Rattle.job_model.specs.Commands.{Command}
 use Rattle.job_script.specs.declared.outcomes.Outcomes.{Outcomes}
@@ -23,19 +23,28 @@ abbrev pub AreApart : List ℕ → Type 0
 AreApart [] = Unit {0}
 AreApart (x ∷ xs) = AllByRecursion (λ y. x ≢ y) xs × AreApart xs
 
--- a worker that is done: the numbers of its passes, what these know, its commands and their outcomes
+-- A worker that is done: the numbers of its passes, what these know, and whether it has two of them; its commands and their outcomes.
+-- One that takes no snapshots has one pass, and as the second stands what that pass knew at first.
 pub record Worker (s : Setup) : Type 0 where
   pub numbers : Numbers
   pub station : Station
+  pub has_second : Bool
   pub commands : List Command
   pub outcomes : Outcomes
   pub ran : WorkerRan s numbers station commands outcomes.list.items
 
 -- what the passes of workers know, and of all with main's behind them
 
+abbrev pub second_view : Bool → Known → List Known
+second_view true second = second ∷ []
+second_view false second = []
+
+abbrev pub worker_views : {s : Setup} → Worker s → List Known
+worker_views w = w.station.asks ∷ second_view w.has_second w.station.holds
+
 abbrev pub workers_views : {s : Setup} → List (Worker s) → List Known
 workers_views [] = []
-workers_views (w ∷ ws) = w.station.asks ∷ w.station.holds ∷ workers_views ws
+workers_views (w ∷ ws) = worker_views w ++ workers_views ws
 
 abbrev pub views_of : {s : Setup} → Known → List (Worker s) → List Known
 views_of main ws = workers_views ws ++ main ∷ []
@@ -74,13 +83,14 @@ pub record MainSees {s : Setup} (main : Known) (ws : List (Worker s)) : Type 0 w
   pub pinned : (v : ℕ) → Contains own.pinned v → v ≡ length main.seen.history
   pub learnt : AllByRecursion (λ w. StartsWith main.seen.history w.station.asks.seen.history) ws
 
--- Passes that have asked and committed nothing were given to workers, two to each, and the last one to main. All are back: their
+-- Passes that have asked and committed nothing were given to workers, and one to main. All are back: there are as many, their
 -- numbers are those that there were, and main, which knows of version 0, has learnt what the workers' first passes have seen.
 pub record Gathers (s : Setup) (before : List Known) (ws : List (List Command)) (os : List Outcomes) (views : List Known) (main : Known) : Type 0 where
   pub done : List (Worker s)
   pub commands_are : ws ≡ commands_in done
   pub outcomes_are : os ≡ outcomes_in done
   pub views_are : views ≡ workers_views done
+  pub as_many : length before ≡ length views + 1
   pub all_back : (m : ℕ) → Contains (numbers_in before) m → Contains (numbers_in (views_of main done)) m
   pub own : PassView (List Operation)
   pub is_own : main.pass ≡ Some own

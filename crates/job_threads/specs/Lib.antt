@@ -6,4 +6,6 @@ pub mod Stations
 pub mod Works
 pub mod Closings
 pub mod Runs
+pub mod Endings
+pub mod Feeds
 pub mod Zones

@@ -8,9 +8,9 @@ use Rattle.job_model.specs.Outcomes.{Lawful}
 use Rattle.job_script.specs.Outcomes.{job_pairs, versions_made, AllTell}
 use Rattle.job_script.specs.declared.outcomes.Outcomes.{Outcomes}
 
--- The outcomes of a job are lawful, and all that its report takes.
-pub record IsRun (chunks : ℕ) (origin : Name) (zone : Version) (workers : List (List Command)) (os : List Outcomes) (version names nodes : ℕ) : Type 0 where
-  pub lawful : Lawful chunks origin zone (job_pairs workers os) version
+-- The outcomes of a job, on an index of so many chunks and passes, are lawful and all that its report takes.
+pub record IsRun (chunks passes : ℕ) (origin : Name) (zone : Version) (workers : List (List Command)) (os : List Outcomes) (version names nodes : ℕ) : Type 0 where
+  pub lawful : Lawful chunks passes origin zone (job_pairs workers os) version
   pub tell : AllTell origin (versions_made origin zone workers os) workers os
   pub names_are : names ≡ length (versions_made origin zone workers os version)
   pub nodes_are : nodes ≡ node_count (versions_made origin zone workers os version)

@@ -13,6 +13,7 @@ ghost use Rattle.job_threads.specs.Works.{AreNew, Begins, Numbers, WorkerRan, en
 ghost use Rattle.job_threads.specs.Commands.{IsIndex, IsSetup};
 ghost use Rattle.job_threads.specs.Closings.{Gathers};
 ghost use Rattle.job_threads.specs.Runs.{IsRun};
+ghost use Rattle.job_threads.specs.Endings.{EndsRun};
 
 use crate::gate::Gate;
 use crate::law::ZoneLaw;
@@ -156,6 +157,37 @@ fn run_workers<R: Threads + Wait + Sync, N: Named + Send + Sync, G: Gate>(
     with_done(index, done?, others?)
 }
 
+// How the last version is.
+#[derive(Clone, Copy)]
+pub(crate) struct Last {
+    pub version: u64,
+    pub names: u64,
+    pub nodes: u64,
+}
+
+// Asks for the last version, when all workers are done and main has learnt what they saw, and closes the index.
+pub(crate) fn close_index<N: Named>(
+    index: Index<ZoneLaw, N>,
+    mut main: Pass<N>,
+    mut passes: Vec<Pass<N>>,
+) -> Result<Last, AllocError>
+    requires main { (IsSome main.seat) × (main.place ≡ index.place) }
+    requires here { All (λ p. (IsSome p.seat) × (p.place ≡ index.place)) passes.items }
+    ensures { IfOk result (λ l. EndsRun index.shared.table.shared.key.passes (map (λ p. known_at p.seat) passes.items) (known_at main.seat) l.version l.names l.nodes) }
+{
+    let mut query = main.query(&index);
+    let names = query.count();
+    let nodes = query.nodes();
+    drop(query);
+    passes.push(main)?;
+    let version = index.close(passes);
+    Ok(Last {
+        version,
+        names,
+        nodes,
+    })
+}
+
 /// Runs a job's workers from version 0 on. The gate is told of each command.
 pub fn run_job<R: Threads + Wait + Sync, N: Named + Send + Sync, G: Gate>(
     rt: &R,
@@ -172,23 +204,18 @@ pub fn run_job<R: Threads + Wait + Sync, N: Named + Send + Sync, G: Gate>(
     requires here { All (λ p. (IsSome p.seat) × (p.place ≡ index.place)) passes.items }
     requires in_turn { AllByRecursion (InTurn false) (job_view job.now) }
     ensures ran { (s : Setup) (zone : Version) → IsIndex s origin.now index.shared.table.shared.key → StandsAs s.opening zone → AreNew s.opening (map (λ p. known_at p.seat) passes.items)
-        → IfOk result (λ f. IsRun s.chunks origin.now zone (job_view job.now) f.outcomes.items f.version f.names f.nodes) }
+        → IfOk result (λ f. IsRun s.chunks s.passes origin.now zone (job_view job.now) f.outcomes.items f.version f.names f.nodes) }
 {
     let Gathered {
         outcomes,
-        mut passes,
-        mut main,
+        passes,
+        main,
     } = run_workers(rt, alloc, origin, &index, &job.workers, 1, passes, gate)?;
-    let mut query = main.query(&index);
-    let names = query.count();
-    let nodes = query.nodes();
-    drop(query);
-    passes.push(main)?;
-    let version = index.close(passes);
+    let last = close_index(index, main, passes)?;
     Ok(Finished {
         outcomes,
-        version,
-        names,
-        nodes,
+        version: last.version,
+        names: last.names,
+        nodes: last.nodes,
     })
 }

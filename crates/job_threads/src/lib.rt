@@ -1,12 +1,15 @@
 //! Runs a job's workers on an index that they share, and tells what became of each command.
 #![tactic(auto)]
 
+mod alone;
 mod asking;
 mod compactions;
+mod feeding;
 mod gate;
 mod holding;
 mod job;
 mod law;
+mod ordering;
 mod passes;
 mod replying;
 mod room;
@@ -14,7 +17,8 @@ mod transactions;
 mod worker;
 mod zone;
 
+pub use feeding::FedFinished;
 pub use gate::Gate;
 pub use job::{Finished, run_job};
 pub use law::ZoneLaw;
-pub use zone::{Ran, run_zone, table_for};
+pub use zone::{FedRan, Ran, run_list, run_zone, table_for, table_for_list};

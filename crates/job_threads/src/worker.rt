@@ -10,13 +10,11 @@ ghost use Rattle.job_threads.specs.Steps.{IsUnder, Step};
 ghost use Rattle.job_threads.specs.Stations.{IsPlaced, holder_view, station};
 ghost use Rattle.job_threads.specs.Works.{Begins, Numbers, WorkerRan, ended};
 
-use crate::asking::run_question;
-use crate::compactions::run_compaction;
+use crate::alone::run_alone;
 use crate::gate::Gate;
 use crate::law::ZoneLaw;
 use crate::passes::{Passes, ask_snapshot, give_back, second_pass, take_snapshot};
 use crate::room::Room;
-use crate::transactions::run_block;
 use dns_name::Name;
 use job_script::{Command, Outcome, Outcomes};
 use shared_index::{Index, Named, Pass};
@@ -69,28 +67,15 @@ fn run_command<'i, R: Wait, N: Named>(
         (station passes.new.asks.seat (option_map (λ p. p.seat) passes.new.spare) (option_map (λ s. s.seat) passes.new.held))) }
 {
     match command {
-        Command::Ask(question) => {
-            let asks = &mut passes.asks;
-            let outcome = run_question(alloc, origin, index, asks, question, room)?;
-            Ok(outcome)
-        }
         Command::Hold => Ok(take_snapshot(index, passes)),
         Command::AskHeld(question) => {
             let outcome = ask_snapshot(alloc, origin, passes, question, room)?;
             Ok(outcome)
         }
         Command::Release => Ok(give_back(passes)),
-        Command::Compact => Ok(run_compaction(rt, index, &mut passes.asks)),
-        Command::Block(block) => {
-            let outcome = run_block(
-                rt,
-                alloc,
-                origin,
-                index,
-                &mut passes.asks,
-                block,
-                &mut room.items,
-            )?;
+        Command::Ask(_) | Command::Block(_) | Command::Compact => {
+            let asks = &mut passes.asks;
+            let outcome = run_alone(rt, alloc, origin, index, asks, command, room)?;
             Ok(outcome)
         }
     }

@@ -1,19 +1,21 @@
 //! A job on the index of its zone.
-ghost use Rattle.std.specs.Prelude.{◌≡◌, ◌≤◌, IfOk, List, length, Some, slice_get, false};
+ghost use Rattle.std.specs.Prelude.{◌≡◌, ◌≤◌, IfOk, List, length, map, Some, slice_get, false};
 ghost use Rattle.std.specs.List.{AllByRecursion};
 ghost use Rattle.zone_model.specs.Versions.{Version};
 ghost use Rattle.trie_write.specs.Entries.{entries_of_items};
-ghost use Rattle.job_model.specs.Commands.{InTurn};
+ghost use Rattle.job_model.specs.Commands.{InTurn, NeedsNoSnapshot};
+ghost use Rattle.job_model.specs.Feeds.{passes_fed};
 ghost use Rattle.job_model.specs.Outcomes.{passes_for};
-ghost use Rattle.job_script.specs.Views.{job_view};
+ghost use Rattle.job_script.specs.Views.{command_view, job_view};
 ghost use Rattle.job_threads.specs.Histories.{IsZone, StandsAs};
-ghost use Rattle.job_threads.specs.Zones.{RanOn};
+ghost use Rattle.job_threads.specs.Zones.{FedRanOn, RanOn};
 
+use crate::feeding::{FedFinished, run_feed};
 use crate::gate::Gate;
 use crate::job::{Finished, run_job};
 use crate::law::ZoneLaw;
 use dns_name::Name;
-use job_script::Job;
+use job_script::{Command, Job};
 use shared_index::{Blank, Index, Named, OpenRefusal};
 use std::alloc::{AllocError, Global};
 use std::marker::Brand;
@@ -25,6 +27,14 @@ use trie_write::Item;
 #[derive(Drop)]
 pub enum Ran {
     Finished(Finished),
+    /// Version 0 has so many cells, over the limit.
+    DoesNotFit { cells: u64, limit: u64 },
+}
+
+/// What became of one list of commands, if its zone fits into the chunks.
+#[derive(Drop)]
+pub enum FedRan {
+    Finished(FedFinished),
     /// Version 0 has so many cells, over the limit.
     DoesNotFit { cells: u64, limit: u64 },
 }
@@ -84,4 +94,71 @@ pub fn run_zone<R: Threads + Wait + Sync, G: Gate>(
         → IfOk result (RanOn blank.shared.table.shared.key.chunks origin.now zone (job_view job.now)) }
 {
     run_named::<R, Brand, G>(rt, alloc, blank, origin, items, job, gate)
+}
+
+// The same, on a table that is named.
+fn run_list_named<R: Threads + Wait + Sync, N: Named + Send + Sync, G: Gate>(
+    rt: &R,
+    alloc: Global,
+    blank: Blank<ZoneLaw>,
+    origin: &Name,
+    items: &[Item],
+    commands: &[Command],
+    workers: u32,
+    gate: &G,
+) -> Result<FedRan, AllocError>
+    requires named { slice_get N.tables 0 ≡ Some blank.shared.table.shared.table_id }
+    requires workers { (1 ≤ workers) × (workers ≤ 16) }
+    requires passes { blank.shared.table.shared.key.passes ≡ passes_fed workers }
+    requires zone { IsZone (entries_of_items items.now) }
+    requires count { (1 ≤ length commands.now) × (length commands.now ≤ 10000) }
+    requires no_snapshots { AllByRecursion NeedsNoSnapshot (map command_view commands.now) }
+    ensures { (zone : Version) → StandsAs (entries_of_items items.now) zone
+        → IfOk result (FedRanOn blank.shared.table.shared.key.chunks workers origin.now zone (map command_view commands.now)) }
+{
+    match Index::<ZoneLaw, N>::open(alloc, blank, 0, items) {
+        Ok((index, passes)) => {
+            let finished = run_feed(rt, alloc, origin, index, passes, commands, workers, gate)?;
+            Ok(FedRan::Finished(finished))
+        }
+        Err(OpenRefusal::Full { cells, limit }) => Ok(FedRan::DoesNotFit { cells, limit }),
+        Err(OpenRefusal::Memory) => Err(AllocError),
+    }
+}
+
+/// The table of an index of so many chunks, for so many workers that run one list.
+pub fn table_for_list(
+    alloc: Global,
+    chunks: u32,
+    workers: u32,
+) -> Result<Blank<ZoneLaw>, AllocError>
+    requires enough { 16 ≤ chunks }
+    requires few { chunks ≤ 4096 }
+    requires few_workers { workers ≤ 16 }
+    ensures chunks { IfOk result (λ blank. blank.shared.table.shared.key.chunks ≡ chunks) }
+    ensures passes { IfOk result (λ blank. blank.shared.table.shared.key.passes ≡ passes_fed workers) }
+{
+    Blank::new(alloc, chunks, workers + 1)
+}
+
+/// Opens an index on a zone that stands as these items, by a table for so many workers, and hands the commands out to these.
+pub fn run_list<R: Threads + Wait + Sync, G: Gate>(
+    rt: &R,
+    alloc: Global,
+    blank: Blank<ZoneLaw>,
+    origin: &Name,
+    items: &[Item],
+    commands: &[Command],
+    workers: u32,
+    gate: &G,
+) -> Result<FedRan, AllocError>
+    requires workers { (1 ≤ workers) × (workers ≤ 16) }
+    requires passes { blank.shared.table.shared.key.passes ≡ passes_fed workers }
+    requires zone { IsZone (entries_of_items items.now) }
+    requires count { (1 ≤ length commands.now) × (length commands.now ≤ 10000) }
+    requires no_snapshots { AllByRecursion NeedsNoSnapshot (map command_view commands.now) }
+    ensures { (zone : Version) → StandsAs (entries_of_items items.now) zone
+        → IfOk result (FedRanOn blank.shared.table.shared.key.chunks workers origin.now zone (map command_view commands.now)) }
+{
+    run_list_named::<R, Brand, G>(rt, alloc, blank, origin, items, commands, workers, gate)
 }

@@ -2,15 +2,16 @@
 use Rattle.std.proofs.Common.{◌≡◌, ◌∙◌, ℕ, ◌+◌, Bool, true, false, cond, leb, List, length, Option, Some, None, Result, Ok, Err, IfOk, refl, sym, ap, subst, arith, codes, length-append, append-nil, ◌++◌, ◌≤◌}
 use Rattle.std.proofs.lemmas.Bool.Decides.{nat_tests}
 use Rattle.std.specs.Io.KnownBytes.{Consumes, IsAtEnd}
-use Rattle.command_line.specs.Invocations.{Invocation, Verb, Run, Check, Make}
+use Rattle.command_line.specs.Invocations.{Invocation, Verb, Run, Feed, Check, Make}
 use Rattle.job_model.specs.Loads.{Load, made_origin, made_text}
 use Rattle.zone_model.specs.Names.{Name}
 use Rattle.zone_model.specs.Versions.{Version}
 use Rattle.zone_model.specs.Refusals.{Refused, ◌>>=◌}
 use Rattle.zone_model.specs.MasterFile.{zone_of}
-use Rattle.job_model.specs.Commands.{Command, Job}
-use Rattle.job_model.specs.Jobs.{JobRefusal, ZoneRefused, ScriptRefused, zone_lines, script_lines, script_start, script_of, zone_refused, script_refused, job_of_lines, job_of}
+use Rattle.job_model.specs.Commands.{Command, FedJob, Job}
+use Rattle.job_model.specs.Jobs.{JobRefusal, ZoneRefused, ScriptRefused, zone_lines, script_lines, script_start, script_of, list_of, zone_refused, script_refused, job_of_lines, job_of, fed_job_of_lines, fed_job_of}
 use Rattle.job_model.specs.Outcomes.{some_refused}
+use Rattle.job_model.specs.Feeds.{some_fed_refused}
 use Rattle.zone_model.specs.declared.ZoneKind.{ZoneKind}
 use Rattle.job_model.specs.declared.ScriptKind.{ScriptKind}
 use Rattle.zone_model.specs.MasterFile.{Zone}
@@ -18,7 +19,7 @@ use Rattle.zone_text.specs.Views.{Reads}
 use Rattle.zone_text.specs.declared.refusal.ZoneRefusal.{ZoneRefusal}
 use Rattle.zone_text.specs.declared.refusal.ZoneRefusal.TheVariants as refusal
 use Rattle.qp_main.specs.Fits.{fits, opened_text}
-use Rattle.qp_main.specs.Due.{Due, DueBytes, DueGiven, DueInput, Answers, Checks, EndsLoad, IfFits, Ends, Refuses, Reported, IsWritten, input_of}
+use Rattle.qp_main.specs.Due.{Due, DueBytes, DueGiven, DueInput, Answers, FedAnswers, Checks, EndsLoad, IfFits, Ends, JobRefuses, Refuses, RefusesScript, Reported, FedReported, IsWritten, input_of}
 use Rattle.qp_main.specs.declared.telling.Telling.{Telling}
 use Rattle.qp_main.specs.declared.telling.Telling.TheVariants.{Report, Summary}
 use Rattle.qp_main.specs.declared.status.Status.{Status}
@@ -89,9 +90,13 @@ whole_refusal origin bytes zone e z w =
     ap (λ r. zone_refused r >>= (λ version. script_refused (script_of origin (script_start bytes) (script_lines bytes)) >>= (λ ws. Ok (record { origin = origin; zone = version; workers = ws })))) z
     ∙ ap (λ r. script_refused r >>= (λ ws. Ok (record { origin = origin; zone = zone; workers = ws }))) w
 
-pub script_refuses : (telling : Telling) (chunks : ℕ) (origin : Name) (bytes : List ℕ) (zone : Version) (e : Refused ScriptKind) → zone_of origin (zone_lines bytes) ≡ Ok zone → script_of origin (script_start bytes) (script_lines bytes) ≡ Err e
-    → (s : Status) (text : List ℕ) → Answers telling chunks (Err (ScriptRefused e)) s text → Answers telling chunks (job_of origin bytes) s text
-script_refuses telling chunks origin bytes zone e z w s text h = answers_as telling chunks (job_of origin bytes) (Err (ScriptRefused e)) s text (whole_refusal origin bytes zone e z w) h
+pub script_refuses : (telling : Telling) (chunks : ℕ) (origin : Name) (bytes : List ℕ) (e : Refused ScriptKind) → script_of origin (script_start bytes) (script_lines bytes) ≡ Err e
+    → (s : Status) (text : List ℕ) → RefusesScript (zone_of origin (zone_lines bytes)) e s text → Answers telling chunks (job_of origin bytes) s text
+script_refuses telling chunks origin bytes e w s text h = by_zone (zone_of origin (zone_lines bytes)) refl h
+  where
+    by_zone : (r : Result Version (Refused ZoneKind)) → zone_of origin (zone_lines bytes) ≡ r → RefusesScript r e s text → Answers telling chunks (job_of origin bytes) s text
+    by_zone (Ok zone) z h = answers_as telling chunks (job_of origin bytes) (Err (ScriptRefused e)) s text (whole_refusal origin bytes zone e z w) h
+    by_zone (Err why) z h = answers_as telling chunks (job_of origin bytes) (Err (ZoneRefused why)) s text (no_zone origin bytes why z) h
 
 -- a zone that its reader refused, where its lines are those of some bytes
 pub zone_stops : (telling : Telling) (chunks : ℕ) (origin : Name) (bytes : List ℕ) (lines : List (List ℕ)) (r : ZoneRefusal) (s : Status) (text : List ℕ) → lines ≡ zone_lines bytes → Reads {R = Zone} (Err r) (λ z. z.pairs) (zone_of origin lines) → Refuses r s text → Answers telling chunks (job_of origin bytes) s text
@@ -102,6 +107,59 @@ zone_stops telling chunks origin bytes lines refusal.Memory s text same z h = ab
 pub check_stops : (chunks : ℕ) (origin : Name) (bytes : List ℕ) (lines : List (List ℕ)) (r : ZoneRefusal) (s : Status) (text : List ℕ) → lines ≡ zone_lines bytes → Reads {R = Zone} (Err r) (λ z. z.pairs) (zone_of origin lines) → Refuses r s text → Checks chunks (zone_of origin (zone_lines bytes)) s text
 check_stops chunks origin bytes lines (refusal.Refused line kind) s text same z h = subst (λ (x : Result Version (Refused ZoneKind)). Checks chunks x s text) (sym (ap (zone_of origin) (sym same) ∙ z)) h
 check_stops chunks origin bytes lines refusal.Memory s text same z h = absurd h
+
+-- ---- a script that is refused, behind the zone
+
+-- what was refused of a zone is told, whatever is refused of the script
+pub zone_told_first : (origin : Name) (bytes : List ℕ) (lines : List (List ℕ)) (r : ZoneRefusal) (e : Refused ScriptKind) (s : Status) (text : List ℕ) → lines ≡ zone_lines bytes → Reads {R = Zone} (Err r) (λ z. z.pairs) (zone_of origin lines) → Refuses r s text
+    → RefusesScript (zone_of origin (zone_lines bytes)) e s text
+zone_told_first origin bytes lines (refusal.Refused line kind) e s text same z h = subst (λ (x : Result Version (Refused ZoneKind)). RefusesScript x e s text) (sym (ap (zone_of origin) (sym same) ∙ z)) h
+zone_told_first origin bytes lines refusal.Memory e s text same z h = absurd h
+
+pub script_told : (origin : Name) (bytes : List ℕ) (zone : Version) (e : Refused ScriptKind) (s : Status) (text : List ℕ) → zone_of origin (zone_lines bytes) ≡ Ok zone → RefusesScript (Ok zone) e s text → RefusesScript (zone_of origin (zone_lines bytes)) e s text
+script_told origin bytes zone e s text z h = subst (λ (x : Result Version (Refused ZoneKind)). RefusesScript x e s text) (sym z) h
+
+-- ---- one list of commands
+
+whole_list : (origin : Name) (bytes : List ℕ) (zone : Version) (commands : List Command) → zone_of origin (zone_lines bytes) ≡ Ok zone → list_of origin (script_start bytes) (script_lines bytes) ≡ Ok commands
+    → fed_job_of origin bytes ≡ Ok (record { origin = origin; zone = zone; commands = commands })
+unfolding fed_job_of_lines
+whole_list origin bytes zone commands z w =
+    ap (λ r. zone_refused r >>= (λ version. script_refused (list_of origin (script_start bytes) (script_lines bytes)) >>= (λ cs. Ok (record { origin = origin; zone = version; commands = cs })))) z
+    ∙ ap (λ r. script_refused r >>= (λ cs. Ok (record { origin = origin; zone = zone; commands = cs }))) w
+
+no_fed_zone : (origin : Name) (bytes : List ℕ) (e : Refused ZoneKind) → zone_of origin (zone_lines bytes) ≡ Err e → fed_job_of origin bytes ≡ Err (ZoneRefused e)
+unfolding fed_job_of_lines
+no_fed_zone origin bytes e z = ap (λ r. zone_refused r >>= (λ version. script_refused (list_of origin (script_start bytes) (script_lines bytes)) >>= (λ cs. Ok (record { origin = origin; zone = version; commands = cs })))) z
+
+whole_list_refusal : (origin : Name) (bytes : List ℕ) (zone : Version) (e : Refused ScriptKind) → zone_of origin (zone_lines bytes) ≡ Ok zone → list_of origin (script_start bytes) (script_lines bytes) ≡ Err e → fed_job_of origin bytes ≡ Err (ScriptRefused e)
+unfolding fed_job_of_lines
+whole_list_refusal origin bytes zone e z w =
+    ap (λ r. zone_refused r >>= (λ version. script_refused (list_of origin (script_start bytes) (script_lines bytes)) >>= (λ cs. Ok (record { origin = origin; zone = version; commands = cs })))) z
+    ∙ ap (λ r. script_refused r >>= (λ cs. Ok (record { origin = origin; zone = zone; commands = cs }))) w
+
+fed_as : (workers chunks : ℕ) (q r : Result FedJob JobRefusal) (s : Status) (text : List ℕ) → q ≡ r → FedAnswers workers chunks r s text → FedAnswers workers chunks q s text
+fed_as workers chunks q r s text e h = subst (λ (x : Result FedJob JobRefusal). FedAnswers workers chunks x s text) (sym e) h
+
+-- the answers of a list that is read
+pub list_answers : (workers chunks : ℕ) (origin : Name) (bytes : List ℕ) (zone : Version) (commands : List Command) → zone_of origin (zone_lines bytes) ≡ Ok zone → list_of origin (script_start bytes) (script_lines bytes) ≡ Ok commands
+    → (s : Status) (text : List ℕ) → FedAnswers workers chunks (Ok (record { origin = origin; zone = zone; commands = commands })) s text → FedAnswers workers chunks (fed_job_of origin bytes) s text
+list_answers workers chunks origin bytes zone commands z w s text h = fed_as workers chunks (fed_job_of origin bytes) (Ok (record { origin = origin; zone = zone; commands = commands })) s text (whole_list origin bytes zone commands z w) h
+
+-- a list that is refused
+pub list_refuses : (workers chunks : ℕ) (origin : Name) (bytes : List ℕ) (e : Refused ScriptKind) → list_of origin (script_start bytes) (script_lines bytes) ≡ Err e
+    → (s : Status) (text : List ℕ) → RefusesScript (zone_of origin (zone_lines bytes)) e s text → FedAnswers workers chunks (fed_job_of origin bytes) s text
+list_refuses workers chunks origin bytes e w s text h = by_zone (zone_of origin (zone_lines bytes)) refl h
+  where
+    by_zone : (r : Result Version (Refused ZoneKind)) → zone_of origin (zone_lines bytes) ≡ r → RefusesScript r e s text → FedAnswers workers chunks (fed_job_of origin bytes) s text
+    by_zone (Ok zone) z h = fed_as workers chunks (fed_job_of origin bytes) (Err (ScriptRefused e)) s text (whole_list_refusal origin bytes zone e z w) h
+    by_zone (Err why) z h = fed_as workers chunks (fed_job_of origin bytes) (Err (ZoneRefused why)) s text (no_fed_zone origin bytes why z) h
+
+-- a zone that its reader refused
+pub fed_zone_stops : (workers chunks : ℕ) (origin : Name) (bytes : List ℕ) (lines : List (List ℕ)) (r : ZoneRefusal) (s : Status) (text : List ℕ) → lines ≡ zone_lines bytes → Reads {R = Zone} (Err r) (λ z. z.pairs) (zone_of origin lines) → Refuses r s text → FedAnswers workers chunks (fed_job_of origin bytes) s text
+fed_zone_stops workers chunks origin bytes lines (refusal.Refused line kind) s text same z h =
+    fed_as workers chunks (fed_job_of origin bytes) (Err (ZoneRefused (record { line = line; kind = kind }))) s text (no_fed_zone origin bytes (record { line = line; kind = kind }) (ap (zone_of origin) (sym same) ∙ z)) h
+fed_zone_stops workers chunks origin bytes lines refusal.Memory s text same z h = absurd h
 
 -- ---- what is due for an input that was read
 
@@ -132,10 +190,24 @@ reported_answers telling chunks job s text h = answer_as s (cond (some_refused h
     by_refused true = tt
     by_refused false = tt
 
+refused_answer : (e : JobRefusal) (s : Status) (text : List ℕ) → JobRefuses e s text → IsAnswer s
+refused_answer (ZoneRefused e) s text h = answer_as s status.ZoneRefused h.0 tt
+refused_answer (ScriptRefused e) s text h = answer_as s status.ScriptRefused h.0 tt
+
+fed_reported_answers : (workers chunks : ℕ) (job : FedJob) (s : Status) (text : List ℕ) → FedReported workers chunks job s text → IsAnswer s
+fed_reported_answers workers chunks job s text h = answer_as s (cond (some_fed_refused h.fed) status.SomeRefused status.Done) h.ended (by_refused (some_fed_refused h.fed))
+  where
+    by_refused : (b : Bool) → IsAnswer (cond b status.SomeRefused status.Done)
+    by_refused true = tt
+    by_refused false = tt
+
+fed_answer : (workers chunks : ℕ) (r : Result FedJob JobRefusal) (s : Status) (text : List ℕ) → FedAnswers workers chunks r s text → IsAnswer s
+fed_answer workers chunks (Ok job) s text h = if_fits_answers (fits chunks job.zone) chunks job.zone (FedReported workers chunks job) s text (fed_reported_answers workers chunks job s text) h
+fed_answer workers chunks (Err e) s text h = refused_answer e s text h
+
 job_answer : (telling : Telling) (chunks : ℕ) (r : Result Job JobRefusal) (s : Status) (text : List ℕ) → Answers telling chunks r s text → IsAnswer s
 job_answer telling chunks (Ok job) s text h = if_fits_answers (fits chunks job.zone) chunks job.zone (Reported telling chunks job) s text (reported_answers telling chunks job s text) h
-job_answer telling chunks (Err (ZoneRefused e)) s text h = answer_as s status.ZoneRefused h.0 tt
-job_answer telling chunks (Err (ScriptRefused e)) s text h = answer_as s status.ScriptRefused h.0 tt
+job_answer telling chunks (Err e) s text h = refused_answer e s text h
 
 check_answer : (chunks : ℕ) (r : Result Version (Refused ZoneKind)) (s : Status) (text : List ℕ) → Checks chunks r s text → IsAnswer s
 check_answer chunks (Ok zone) s text h = if_fits_answers (fits chunks zone) chunks zone (Ends status.Done (opened_text zone)) s text (λ k. answer_as s status.Done k.0 tt) h
@@ -143,6 +215,7 @@ check_answer chunks (Err e) s text h = answer_as s status.ZoneRefused h.0 tt
 
 pub due_answer : (verb : Verb) (chunks : ℕ) (origin : Name) (bytes : List ℕ) (s : Status) (text : List ℕ) → DueInput verb chunks origin bytes s text → IsAnswer s
 due_answer Run chunks origin bytes s text h = job_answer Report chunks (job_of origin bytes) s text h
+due_answer (Feed workers) chunks origin bytes s text h = fed_answer workers chunks (fed_job_of origin bytes) s text h
 due_answer (Make load) chunks origin bytes s text h = job_answer Summary chunks (job_of origin bytes) s text h
 due_answer Check chunks origin bytes s text h = check_answer chunks (zone_of origin (zone_lines bytes)) s text h
 

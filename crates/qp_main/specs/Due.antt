@@ -5,9 +5,10 @@ use Rattle.zone_model.specs.Names.{Name}
 use Rattle.zone_model.specs.Versions.{Version}
 use Rattle.zone_model.specs.Refusals.{Refused}
 use Rattle.zone_model.specs.MasterFile.{zone_of}
-use Rattle.job_model.specs.Commands.{Job}
-use Rattle.job_model.specs.Jobs.{JobRefusal, ZoneRefused, ScriptRefused, zone_lines, job_of}
-use Rattle.job_model.specs.Outcomes.{Pair, Lawful, some_refused}
+use Rattle.job_model.specs.Commands.{FedJob, Job}
+use Rattle.job_model.specs.Jobs.{JobRefusal, ZoneRefused, ScriptRefused, zone_lines, job_of, fed_job_of}
+use Rattle.job_model.specs.Outcomes.{Pair, Lawful, passes_for, some_refused}
+use Rattle.job_model.specs.Feeds.{Fed, FedPair, all_numbers, by_worker, fed_commands, fed_report, passes_fed, some_fed_refused}
 use Rattle.zone_model.specs.declared.ZoneKind.{ZoneKind}
 use Rattle.zone_model.specs.declared.ZoneKind.TheVariants as zone_kind
 use Rattle.job_model.specs.declared.ScriptKind.{ScriptKind}
@@ -16,7 +17,7 @@ use Rattle.job_model.specs.Loads.{made_text}
 use Rattle.zone_text.specs.declared.refusal.ZoneRefusal.{ZoneRefusal}
 use Rattle.zone_text.specs.declared.refusal.ZoneRefusal.TheVariants as refusal
 use Rattle.outer_io.specs.Bytes.{Held, Grows, GrowsByFront}
-use Rattle.command_line.specs.Invocations.{Invocation, Verb, Run, Check, Make}
+use Rattle.command_line.specs.Invocations.{Invocation, Verb, Run, Feed, Check, Make}
 use Rattle.qp_main.specs.Fits.{fits, no_room_text, opened_text}
 use Rattle.qp_main.specs.Tellings.{told_text}
 use Rattle.qp_main.specs.declared.telling.Telling.{Telling}
@@ -62,9 +63,19 @@ pub record Reported (telling : Telling) (chunks : ℕ) (job : Job) (s : Status) 
   pub workers : List (List Pair)
   pub last : ℕ
   pub same : map (map (λ pair. pair.0)) workers ≡ job.workers
-  pub lawful : Lawful chunks job.origin job.zone workers last
+  pub lawful : Lawful chunks (passes_for (length job.workers)) job.origin job.zone workers last
   pub is : text ≡ told_text telling job.origin job.zone workers last
   pub ended : s ≡ (if some_refused workers then status.SomeRefused else status.Done)
+
+-- The same of one list of commands and so many workers, to whom it is handed out.
+pub record FedReported (workers chunks : ℕ) (job : FedJob) (s : Status) (text : List ℕ) : Type 0 where
+  pub fed : List FedPair
+  pub last : ℕ
+  pub same : fed_commands fed ≡ job.commands
+  pub handed_out : Fed (length job.commands) (all_numbers workers fed)
+  pub lawful : Lawful chunks (passes_fed workers) job.origin job.zone (by_worker workers fed) last
+  pub is : text ≡ fed_report job.origin job.zone workers fed last
+  pub ended : s ≡ (if some_fed_refused fed then status.SomeRefused else status.Done)
 
 -- a status and a text
 abbrev pub Ends : Status → List ℕ → Status → List ℕ → Type 0
@@ -72,6 +83,19 @@ Ends status text s t = (s ≡ status) × (t ≡ text)
 
 abbrev pub ZoneRefuses : Refused ZoneKind → Status → List ℕ → Type 0
 ZoneRefuses e = Ends status.ZoneRefused (refusal_text (codes "zone") e.line (zone_kind_text e.kind))
+
+abbrev pub ScriptRefuses : Refused ScriptKind → Status → List ℕ → Type 0
+ScriptRefuses e = Ends status.ScriptRefused (refusal_text (codes "script") e.line (script_kind_text e.kind))
+
+-- a script is refused; what is wrong with the zone is told first
+abbrev pub RefusesScript : Result Version (Refused ZoneKind) → Refused ScriptKind → Status → List ℕ → Type 0
+RefusesScript (Ok zone) e = ScriptRefuses e
+RefusesScript (Err z) e = ZoneRefuses z
+
+-- why bytes are no job
+abbrev pub JobRefuses : JobRefusal → Status → List ℕ → Type 0
+JobRefuses (ZoneRefused e) = ZoneRefuses e
+JobRefuses (ScriptRefused e) = ScriptRefuses e
 
 -- a zone's reader refused it
 abbrev pub Refuses : ZoneRefusal → Status → List ℕ → Type 0
@@ -86,8 +110,12 @@ IfFits false chunks zone Fitting = Ends status.DoesNotFit (no_room_text chunks z
 -- the status and the text for the job that bytes say
 abbrev pub Answers : Telling → ℕ → Result Job JobRefusal → Status → List ℕ → Type 0
 Answers telling chunks (Ok job) = IfFits (fits chunks job.zone) chunks job.zone (Reported telling chunks job)
-Answers telling chunks (Err (ZoneRefused e)) = ZoneRefuses e
-Answers telling chunks (Err (ScriptRefused e)) = Ends status.ScriptRefused (refusal_text (codes "script") e.line (script_kind_text e.kind))
+Answers telling chunks (Err e) = JobRefuses e
+
+-- the same of one list of commands that is handed out to so many workers
+abbrev pub FedAnswers : ℕ → ℕ → Result FedJob JobRefusal → Status → List ℕ → Type 0
+FedAnswers workers chunks (Ok job) = IfFits (fits chunks job.zone) chunks job.zone (FedReported workers chunks job)
+FedAnswers workers chunks (Err e) = JobRefuses e
 
 -- the status and the text for the zone that bytes say: how many names and nodes it has
 abbrev pub Checks : ℕ → Result Version (Refused ZoneKind) → Status → List ℕ → Type 0
@@ -97,6 +125,7 @@ Checks chunks (Err e) = ZoneRefuses e
 -- what is due for bytes within the limit; a check reads the zone alone
 abbrev pub DueInput : Verb → ℕ → Name → List ℕ → Status → List ℕ → Type 0
 DueInput Run chunks origin bytes = Answers Report chunks (job_of origin bytes)
+DueInput (Feed workers) chunks origin bytes = FedAnswers workers chunks (fed_job_of origin bytes)
 DueInput (Make load) chunks origin bytes = Answers Summary chunks (job_of origin bytes)
 DueInput Check chunks origin bytes = Checks chunks (zone_of origin (zone_lines bytes))
 
@@ -112,6 +141,7 @@ DueBytes i bytes false = Ends status.TooLong (codes "input over 16777216 bytes\n
 -- the bytes that are read: those that a source has left, or a load's text
 abbrev pub input_of : Verb → Option (List ℕ) → Option (List ℕ)
 input_of Run left = left
+input_of (Feed workers) left = left
 input_of Check left = left
 input_of (Make load) left = Some (made_text load)
 
@@ -128,6 +158,7 @@ Due (Some invocation) left s text = DueGiven invocation (input_of invocation.ver
 -- the input is a load's text, so that nothing is read
 abbrev pub MakesInput : Verb → Type 0
 MakesInput Run = ⊥
+MakesInput (Feed workers) = ⊥
 MakesInput Check = ⊥
 MakesInput (Make load) = Unit {0}
 

@@ -1,9 +1,11 @@
-//! The program: reads a job (a zone and its workers' script), runs it, and prints the report; or reads a zone and says how
-//! large its index is; or makes a job, runs it, and sums it up.
+//! The program: reads a job (a zone and its workers' script), runs it, and prints the report; or hands one list of commands
+//! out to workers; or reads a zone and says how large its index is; or makes a job, runs it, and sums it up.
 #![tactic(auto)]
 
+mod feeding;
 mod items;
 mod program;
+mod refusing;
 mod report;
 mod reporting;
 mod status;

@@ -15,16 +15,16 @@ ghost use Rattle.job_make.specs.Views.{load_view};
 ghost use Rattle.command_line.specs.Invocations.{IsUnder, Make};
 ghost use Rattle.command_line.specs.Views.{invocation_view, verb_view};
 ghost use Rattle.command_line.specs.Words.{invocation_of};
-ghost use Rattle.qp_main.specs.Due.{Answers, Checks, Refuses, CutShort, DueInput, EndsLoad, IsMade, IsUnwritten, IsWritten, Written, input_of};
+ghost use Rattle.qp_main.specs.Due.{Answers, Checks, CutShort, DueInput, EndsLoad, IsMade, IsUnwritten, IsWritten, Written, input_of};
 
+use crate::feeding::answer_list;
 use crate::items::zone_items;
-use crate::report::{script_refused, zone_refused};
+use crate::refusing::{refuse_script, zone_line};
 use crate::reporting::{report_job, report_size};
 use crate::status::Status;
 use crate::telling::Telling;
 use command_line::{Invocation, Verb, invocation_of};
 use job_make::{Load, make_text};
-use job_model::ScriptKind;
 use job_script::{Job, JobRefusal, Parts, read_job, split};
 use job_threads::{Gate, table_for};
 use master_file::read_zone;
@@ -32,23 +32,9 @@ use outer_io::{ReadRefusal, Sink, Source, read_all, write_all};
 use std::alloc::{AllocError, Global};
 use std::sync::Wait;
 use std::thread::Threads;
-use zone_text::ZoneRefusal;
 
 // The most bytes of an input.
 const INPUT_LIMIT: u32 = 16777216;
-
-// The status and the line for a zone that is refused.
-fn zone_line(alloc: Global, refusal: ZoneRefusal) -> Result<(Status, Vec<u8>), AllocError>
-    ensures { IfOk result (λ x. Refuses refusal x.0 x.1.items) }
-{
-    match refusal {
-        ZoneRefusal::Refused { line, kind } => {
-            let text = zone_refused(alloc, u64::from(line), kind)?;
-            Ok((Status::ZoneRefused, text))
-        }
-        ZoneRefusal::Memory => Err(AllocError),
-    }
-}
 
 // The status and the text for a script that was read: its job is run on the zone that is read now. The table comes first, since
 // making it takes twice its memory for a while. The bytes go before the index is made.
@@ -78,29 +64,6 @@ fn run_script<R: Threads + Wait + Sync, G: Gate>(
     drop(bytes);
     let items = zone_items(alloc, zone)?;
     report_job(rt, alloc, invocation, blank, &items, job, telling, gate)
-}
-
-// The status and the text for a script that is refused, on this line: those for the zone come first.
-fn refuse_script(
-    alloc: Global,
-    invocation: &Invocation,
-    bytes: &[u8],
-    parts: Parts,
-    line: u32,
-    kind: ScriptKind,
-) -> Result<(Status, Vec<u8>), AllocError>
-    requires short { length bytes.now ≤ 2 ^ 24 }
-    requires cut { IsCutAt bytes.now parts }
-    requires read { script_of invocation.now.origin (script_start bytes.now) (script_lines bytes.now) ≡ Err (record { line = line; kind = kind }) }
-    ensures { IfOk result (λ x. (telling : Telling) → Answers telling invocation.now.chunks (job_of invocation.now.origin bytes.now) x.0 x.1.items) }
-{
-    let zone_bytes = &bytes[..parts.zone_end as usize];
-    let _zone = match read_zone(alloc, zone_bytes, &invocation.origin) {
-        Ok(zone) => zone,
-        Err(refusal) => return zone_line(alloc, refusal),
-    };
-    let text = script_refused(alloc, u64::from(line), kind)?;
-    Ok((Status::ScriptRefused, text))
 }
 
 // The status and the text for bytes that were cut into a zone's and a script's.
@@ -166,6 +129,7 @@ fn answer<R: Threads + Wait + Sync, G: Gate>(
     match invocation.verb {
         Verb::Run => answer_job(rt, alloc, invocation, bytes, parts, Telling::Report, gate),
         Verb::Make(_) => answer_job(rt, alloc, invocation, bytes, parts, Telling::Summary, gate),
+        Verb::Feed(crew) => answer_list(rt, alloc, invocation, bytes, parts, crew.workers, gate),
         Verb::Check => check_zone(rt, alloc, invocation, bytes, parts, gate),
     }
 }
@@ -271,6 +235,7 @@ fn serve_invocation<R: Threads + Wait + Sync, S: Source, K: Sink, G: Gate>(
 {
     match invocation.verb {
         Verb::Run => serve(rt, alloc, invocation, source, sink, gate),
+        Verb::Feed(_) => serve(rt, alloc, invocation, source, sink, gate),
         Verb::Check => serve(rt, alloc, invocation, source, sink, gate),
         Verb::Make(load) => serve_made(rt, alloc, invocation, &load, sink, gate),
     }
@@ -278,7 +243,8 @@ fn serve_invocation<R: Threads + Wait + Sync, S: Source, K: Sink, G: Gate>(
 
 /// Runs the program: reads a job from the source, or makes one, runs it, and writes to the sink what is due. The words are those of
 /// the command line, the first of which is the program's name. Each worker has a thread of its own where one can be started, and
-/// waits for its turn to write. The gate is told of each command by the worker's thread.
+/// waits for its turn to write. The gate is told of each command by the worker's thread; of one list that is handed out to workers, by
+/// the command's number in the list.
 pub fn run<R: Threads + Wait + Sync, S: Source, K: Sink, G: Gate>(
     rt: &R,
     alloc: Global,

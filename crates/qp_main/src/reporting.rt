@@ -1,21 +1,22 @@
 //! What is told of a job that is run, and of a zone that is opened.
-ghost use Rattle.std.specs.Prelude.{◌≡◌, IfOk, Ok, false, length, if◌then◌else◌};
+ghost use Rattle.std.specs.Prelude.{◌≡◌, ◌<◌, ◌≤◌, ℕ, IfOk, Ok, false, length, vec_len, if◌then◌else◌};
 ghost use Rattle.std.specs.List.{AllByRecursion};
 ghost use Rattle.zone_model.specs.Versions.{Version};
-ghost use Rattle.job_model.specs.Commands.{InTurn};
+ghost use Rattle.job_model.specs.Commands.{InTurn, NeedsNoSnapshot};
+ghost use Rattle.job_model.specs.Feeds.{passes_fed};
 ghost use Rattle.job_model.specs.Outcomes.{passes_for};
-ghost use Rattle.job_script.specs.Views.{job_view};
+ghost use Rattle.job_script.specs.Views.{job_view, list_view};
 ghost use Rattle.job_threads.specs.Histories.{IsZone, StandsAs};
 ghost use Rattle.trie_write.specs.Entries.{entries_of_items};
 ghost use Rattle.qp_main.specs.Tellings.{finished_text};
-ghost use Rattle.qp_main.specs.Due.{Answers, Checks};
+ghost use Rattle.qp_main.specs.Due.{Answers, Checks, FedAnswers};
 
 use crate::report::{no_room, size_line};
 use crate::status::Status;
 use crate::telling::Telling;
 use command_line::Invocation;
-use job_script::{Job, any_refused, print_outcomes, print_summary};
-use job_threads::{Finished, Gate, Ran, ZoneLaw, run_zone};
+use job_script::{Command, Job, any_fed_refused, any_refused, print_fed, print_outcomes, print_summary};
+use job_threads::{FedRan, Finished, Gate, Ran, ZoneLaw, run_list, run_zone};
 use shared_index::Blank;
 use std::alloc::{AllocError, Global};
 use std::sync::Wait;
@@ -77,6 +78,74 @@ pub fn report_job<R: Threads + Wait + Sync, G: Gate>(
             Ok((status_of(refused), text))
         }
         Ran::DoesNotFit { cells, limit } => {
+            Ok((Status::DoesNotFit, no_room(alloc, cells, limit)?))
+        }
+    }
+}
+
+// The report of no commands: that of the last line alone.
+fn report_none<R: Threads + Wait + Sync, G: Gate>(
+    rt: &R,
+    alloc: Global,
+    invocation: &Invocation,
+    blank: Blank<ZoneLaw>,
+    items: &[Item],
+    gate: &G,
+) -> Result<(Status, Vec<u8>), AllocError>
+    requires chunks { blank.shared.table.shared.key.chunks ≡ invocation.now.chunks }
+    requires passes { blank.shared.table.shared.key.passes ≡ passes_for 0 }
+    requires zone { IsZone (entries_of_items items.now) }
+    ensures { (zone : Version) (workers : ℕ) → StandsAs (entries_of_items items.now) zone
+        → IfOk result (λ x. FedAnswers workers invocation.now.chunks (Ok (record { origin = invocation.now.origin; zone = zone; commands = [] })) x.0 x.1.items) }
+{
+    let job = Job {
+        workers: Vec::new(alloc),
+    };
+    let origin = &invocation.origin;
+    match run_zone(rt, alloc, blank, origin, items, &job, gate)? {
+        Ran::Finished(finished) => {
+            let text = print_fed(alloc, &[], finished.version, finished.names)?;
+            Ok((Status::Done, text))
+        }
+        Ran::DoesNotFit { cells, limit } => {
+            Ok((Status::DoesNotFit, no_room(alloc, cells, limit)?))
+        }
+    }
+}
+
+/// Hands one list of commands out to workers on the index of a zone, by a table that was made for them, and answers the status and
+/// the report. No commands need no worker.
+pub fn report_list<R: Threads + Wait + Sync, G: Gate>(
+    rt: &R,
+    alloc: Global,
+    invocation: &Invocation,
+    blank: Blank<ZoneLaw>,
+    items: &[Item],
+    commands: &Vec<Command>,
+    crew: u32,
+    gate: &G,
+) -> Result<(Status, Vec<u8>), AllocError>
+    requires chunks { blank.shared.table.shared.key.chunks ≡ invocation.now.chunks }
+    requires passes { blank.shared.table.shared.key.passes ≡ passes_fed crew }
+    requires zone { IsZone (entries_of_items items.now) }
+    requires crew { (vec_len commands.now ≡ 0 → crew ≡ 0) × (0 < vec_len commands.now → 1 ≤ crew) × (crew ≤ 16) }
+    requires few { vec_len commands.now ≤ 10000 }
+    requires no_snapshots { AllByRecursion NeedsNoSnapshot (list_view commands.now) }
+    ensures { (zone : Version) (workers : ℕ) → StandsAs (entries_of_items items.now) zone → (0 < vec_len commands.now → workers ≡ crew)
+        → IfOk result (λ x. FedAnswers workers invocation.now.chunks (Ok (record { origin = invocation.now.origin; zone = zone; commands = list_view commands.now })) x.0 x.1.items) }
+{
+    if commands.is_empty() {
+        return report_none(rt, alloc, invocation, blank, items, gate);
+    }
+    let origin = &invocation.origin;
+    match run_list(rt, alloc, blank, origin, items, commands, crew, gate)? {
+        FedRan::Finished(finished) => {
+            let outcomes = &finished.outcomes;
+            let status = status_of(any_fed_refused(outcomes));
+            let text = print_fed(alloc, outcomes, finished.version, finished.names)?;
+            Ok((status, text))
+        }
+        FedRan::DoesNotFit { cells, limit } => {
             Ok((Status::DoesNotFit, no_room(alloc, cells, limit)?))
         }
     }

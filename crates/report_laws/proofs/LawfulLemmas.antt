@@ -94,8 +94,8 @@ workers_long origin set w (pairs ∷ ws) =
     omega (arith, some, more, length-append pairs (all_pairs ws), length-append (worker_text origin set w 1 pairs) (workers_text origin set (w + 1) ws))
 
 -- the last version of lawful outcomes is no greater than their text is long
-pub last_small : (chunks : ℕ) (origin : Name) (zone : Version) (ws : List (List Pair)) (last : ℕ) (set : ℕ → Version) → Lawful chunks origin zone ws last → last ≤ length (workers_text origin set 1 ws)
-last_small chunks origin zone ws last set lawful =
+pub last_small : (chunks passes : ℕ) (origin : Name) (zone : Version) (ws : List (List Pair)) (last : ℕ) (set : ℕ → Version) → Lawful chunks passes origin zone ws last → last ≤ length (workers_text origin set 1 ws)
+last_small chunks passes origin zone ws last set lawful =
     let all = all_made last (all_pairs ws) lawful.once in
     let few = few_made last (all_pairs ws) in
     let long = workers_long origin set 1 ws in
@@ -183,5 +183,5 @@ all_along_plain s last (pairs ∷ ws) small below short along =
     (along_plain s at_first last pairs small parts.0 short.0 along.0, all_along_plain s last ws small parts.1 short.1 along.1)
 
 -- lawful outcomes of short blocks
-pub lawful_plain : (chunks : ℕ) (origin : Name) (zone : Version) (ws : List (List Pair)) (last : ℕ) → last < 2 ^ 64 → AllShort (map (map command_in) ws) → Lawful chunks origin zone ws last → AllByRecursion AllPlain ws
-lawful_plain chunks origin zone ws last small short lawful = all_along_plain (setting_of chunks origin zone ws) last ws small lawful.none_above short lawful.along
+pub lawful_plain : (chunks passes : ℕ) (origin : Name) (zone : Version) (ws : List (List Pair)) (last : ℕ) → last < 2 ^ 64 → AllShort (map (map command_in) ws) → Lawful chunks passes origin zone ws last → AllByRecursion AllPlain ws
+lawful_plain chunks passes origin zone ws last small short lawful = all_along_plain (setting_of chunks passes origin zone ws) last ws small lawful.none_above short lawful.along

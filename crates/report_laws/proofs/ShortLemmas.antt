@@ -16,7 +16,7 @@ use Rattle.job_model.specs.Commands.{Command, Ask, Hold, AskHeld, Release, Block
 use Rattle.job_model.specs.Outcomes.{asked_by}
 use Rattle.job_model.specs.Phrases.{Phrase, Worker, Asks, Holds, AsksHeld, Releases, Opens, Needs, Adds, Deletes, Ends, Compacts, phrase_of, script_tokens}
 use Rattle.job_model.specs.Arguments.{refuse, question_of, prerequisite_of, addition_of, deletion_of}
-use Rattle.job_model.specs.Jobs.{JobRefusal, Unfinished, Script, lists_of, worker_limit, command_limit, need_limit, operation_limit, of_worker, while_held, while_free, with_room, with_command, with_question, with_held_question, holding, released, opened, next_worker, outside, with_need, needed_first, with_operation, joined, may_end, ended, inside, taken, tokens_say, script_line, script_from, finished, no_lines, script_of, zone_refused, script_refused, zone_lines, script_lines, script_start, job_of_lines, job_of}
+use Rattle.job_model.specs.Jobs.{JobRefusal, Unfinished, Script, lists_of, worker_limit, command_limit, need_limit, operation_limit, of_worker, while_held, while_free, with_room, with_command, with_question, with_held_question, holding, released, opened, next_worker, outside, with_need, needed_first, with_operation, joined, may_end, ended, inside, may_stand, by_block, taken, tokens_say, script_line, script_from, finished, no_lines, script_of, zone_refused, script_refused, zone_lines, script_lines, script_start, job_of_lines, job_of}
 
 abbrev pub IsShort : Command → Type 0
 IsShort command = length (asked_by command).operations ≤ operation_limit
@@ -131,10 +131,14 @@ inside_kept origin n b Compacts s short = tt
 
 -- ---- the lines
 
+by_block_kept : (origin : Name) (n : ℕ) (phrase : Phrase) (s : Script) (block : Option Unfinished) → Short s.earlier s.commands block → Kept (by_block origin n phrase (record s { block = block }) block)
+by_block_kept origin n phrase s None short = outside_kept origin n phrase (record s { block = None }) short
+by_block_kept origin n phrase s (Some b) short = inside_kept origin n b phrase (record s { block = Some b }) short
+
 taken_kept : (origin : Name) (n : ℕ) (s : Script) (block : Option Unfinished) (said : Option Phrase) → Short s.earlier s.commands block → Kept (taken origin n (record s { block = block }) said)
 taken_kept origin n s block None short = tt
-taken_kept origin n s None (Some phrase) short = outside_kept origin n phrase (record s { block = None }) short
-taken_kept origin n s (Some b) (Some phrase) short = inside_kept origin n b phrase (record s { block = Some b }) short
+taken_kept origin n s block (Some phrase) short =
+    if_kept (may_stand s.listing phrase) (by_block origin n phrase (record s { block = block }) block) (refuse n BadCommand) (λ _. by_block_kept origin n phrase s block short) tt
 
 tokens_kept : (origin : Name) (n : ℕ) (s : Script) (tokens : Option (List Token)) → Short s.earlier s.commands s.block → Kept (tokens_say origin n s tokens)
 tokens_kept origin n s None short = tt

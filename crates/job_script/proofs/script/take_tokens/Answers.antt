@@ -1,4 +1,4 @@
-use Rattle.std.proofs.Common.{rules, ◌≡◌, sym, subst, map, Some, None, Result}
+use Rattle.std.proofs.Common.{rules, ◌≡◌, sym, subst, map, true, Some, None, Result}
 use Rattle.job_model.specs.Jobs as jobs
 use Rattle.job_model.specs.Phrases as phrases
 use Rattle.job_model.specs.declared.ScriptKind.{ScriptKind}
@@ -12,6 +12,7 @@ use Rattle.job_script.proofs.script.take_tokens.Goals as goal
 pub returns-in-Some-take : goal.returns-in-Some-take
 returns-in-Some-take c =
     let said : phrases.phrase_of (map (token_view c.args.bytes.now) c.args.tokens.now) ≡ Some (phrase_view c.args.bytes.now c.in-Some.phrase) = sym c.in-Some.ensures.said in
+    let may : jobs.may_stand c.args.script.now.listing (phrase_view c.args.bytes.now c.in-Some.phrase) ≡ true = search (rules, c.may_stand.ensures) in
     let here : (script_view c.args.script.now).block ≡ Some (unfinished_view c.in-Some-take.block) = search (rules, c.in-Some-take.is, c.in-Some-take.ensures.value) in
     let inside : ScriptReads c.inside.result (script_view c.inside.new.script) (jobs.inside c.args.origin.now c.args.line (unfinished_view c.in-Some-take.block) (phrase_view c.args.bytes.now c.in-Some.phrase) (record (script_view c.args.script.now) { block = None })) = search (rules, c.inside.ensures, c.in-Some-take.ensures.after) in
-    subst (λ (r : Result jobs.Script (Refused ScriptKind)). ScriptReads c.inside.result (script_view c.inside.new.script) r) (sym (tokens_inside c.args.origin.now c.args.line (script_view c.args.script.now) (map (token_view c.args.bytes.now) c.args.tokens.now) (phrase_view c.args.bytes.now c.in-Some.phrase) (unfinished_view c.in-Some-take.block) said here)) inside
+    subst (λ (r : Result jobs.Script (Refused ScriptKind)). ScriptReads c.inside.result (script_view c.inside.new.script) r) (sym (tokens_inside c.args.origin.now c.args.line (script_view c.args.script.now) (map (token_view c.args.bytes.now) c.args.tokens.now) (phrase_view c.args.bytes.now c.in-Some.phrase) (unfinished_view c.in-Some-take.block) said may here)) inside

@@ -1,4 +1,8 @@
-use Rattle.std.proofs.Common.{◌≡◌, ◌≤◌, refl, sym, ap, subst}
+use Rattle.std.proofs.Common.{◌≡◌, ◌∙◌, ◌≤◌, refl, sym, ap, subst}
+use Rattle.std.proofs.lemmas.List.{length-map}
+use Rattle.job_model.specs.Outcomes.{passes_for}
+use Rattle.job_script.specs.Views.{job_view, worker_view}
+use Rattle.job_threads.specs.Runs.{IsRun}
 use Rattle.shared_index.specs.Openings.{room_in}
 use Rattle.trie_model.specs.Shape.{cells}
 use Rattle.trie_write.specs.Entries.{entries_of_items}
@@ -14,8 +18,10 @@ returns-in_ok-finished-in-Ok g c = λ zone stands.
     let es = entries_of_items c.args.items.now in
     let size = c.args.blank.shared.table.shared.key in
     let s : Setup = record { chunks = size.chunks; passes = size.passes; origin = c.args.origin.now; opening = es } in
+    let f = c.in_ok-finished-in-Ok.finished in
     let same = c.in-Ok.ensures.size in (
       subst (λ es. cells es ≤ room_in size.chunks) (sym stands.entries) c.in-Ok.ensures.fits,
-      c.in_ok-finished-in-Ok.ensures.ran s zone (record { origin_is = refl; chunks = ap (λ k. k.chunks) (sym same); passes = ap (λ k. k.passes) (sym same) }) stands
-          (new_passes c.in-Ok.passes.items (λ p. p.seat) es (λ p. p.place ≡ 0) c.in-Ok.ensures.passes c.in-Ok.ensures.unused),
+      subst (λ n. IsRun size.chunks n c.args.origin.now zone (job_view c.args.job.now) f.outcomes.items f.version f.names f.nodes) (c.requires.passes ∙ ap passes_for (sym (length-map c.args.job.now.workers.items worker_view)))
+          (c.in_ok-finished-in-Ok.ensures.ran s zone (record { origin_is = refl; chunks = ap (λ k. k.chunks) (sym same); passes = ap (λ k. k.passes) (sym same) }) stands
+          (new_passes c.in-Ok.passes.items (λ p. p.seat) es (λ p. p.place ≡ 0) c.in-Ok.ensures.passes c.in-Ok.ensures.unused)),
     )

@@ -1,0 +1,26 @@
+use Rattle.std.proofs.Common.{◌≡◌, ℕ, [], Some, None, length, map}
+use Rattle.std.specs.Prelude.{IsSome}
+use Rattle.job_script.specs.Views.{command_view}
+use Rattle.feed_core.specs.Feeds.{remaining}
+use Rattle.shared_index.specs.Passes.{known_at}
+use Rattle.job_threads.specs.Histories.{Setup}
+use Rattle.job_threads.specs.Commands.{IsSetup}
+use Rattle.job_threads.specs.Stations.{station}
+use Rattle.job_threads.specs.Works.{IsNew}
+use Rattle.job_threads.specs.Feeds.{commands_at, only}
+use Rattle.job_threads.proofs.WorkLaws.{WorkerAt}
+use Rattle.job_threads.proofs.feeding.serve.Given as goal
+
+abbrev pub invariant-loop-number : goal.invariant-loop-number
+invariant-loop-number g l = record {
+  here : IsSome l.pass.seat;
+  place : l.pass.place ≡ l.index.place;
+  feed : l.seat.feed ≡ l.feed;
+  taken : l.seat.taken ≡ l.numbers.items;
+  alike : length l.numbers.items ≡ length l.list.items;
+  at : (s : Setup) (number : ℕ) → IsSetup s l.origin l.index.shared.table.shared.key (known_at l.fn.pass.seat) → IsNew number s.opening (known_at l.fn.pass.seat)
+      → WorkerAt s (only number) (station l.pass.seat (Some l.fn.pass.seat) None) (commands_at (map command_view l.commands) l.numbers.items) [] l.list.items;
+}
+
+abbrev pub decreases-loop-number : goal.decreases-loop-number
+decreases-loop-number g l = remaining l.seat

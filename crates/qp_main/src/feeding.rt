@@ -1,0 +1,77 @@
+//! One list of commands that is handed out to workers.
+ghost use Rattle.std.specs.Prelude.{◌≡◌, ◌≤◌, ◌^◌, List, length, IfOk, vec_len, Ok};
+ghost use Rattle.std.specs.List.{AllByRecursion};
+ghost use Rattle.job_model.specs.Commands.{NeedsNoSnapshot};
+ghost use Rattle.job_model.specs.Jobs.{fed_job_of, list_of, script_lines, script_start};
+ghost use Rattle.job_script.specs.Parts.{IsCutAt};
+ghost use Rattle.job_script.specs.Views.{list_view};
+ghost use Rattle.qp_main.specs.Due.{FedAnswers};
+
+use crate::items::zone_items;
+use crate::refusing::{refuse_script, zone_line};
+use crate::reporting::report_list;
+use crate::status::Status;
+use command_line::Invocation;
+use job_script::{Command, JobRefusal, Parts, read_list};
+use job_threads::{Gate, table_for_list};
+use master_file::read_zone;
+use std::alloc::{AllocError, Global};
+use std::sync::Wait;
+use std::thread::Threads;
+
+// The status and the text for a list that was read: it is handed out on the zone that is read now. The table comes first, as for a job.
+fn run_commands<R: Threads + Wait + Sync, G: Gate>(
+    rt: &R,
+    alloc: Global,
+    invocation: &Invocation,
+    bytes: Vec<u8>,
+    parts: Parts,
+    commands: &Vec<Command>,
+    workers: u32,
+    gate: &G,
+) -> Result<(Status, Vec<u8>), AllocError>
+    requires short { length bytes.items ≤ 2 ^ 24 }
+    requires cut { IsCutAt bytes.items parts }
+    requires read { list_of invocation.now.origin (script_start bytes.items) (script_lines bytes.items) ≡ Ok (list_view commands.now) }
+    requires few { vec_len commands.now ≤ 10000 }
+    requires no_snapshots { AllByRecursion NeedsNoSnapshot (list_view commands.now) }
+    requires workers { (1 ≤ workers) × (workers ≤ 16) }
+    ensures { IfOk result (λ x. FedAnswers workers invocation.now.chunks (fed_job_of invocation.now.origin bytes.items) x.0 x.1.items) }
+{
+    // No commands need no worker.
+    let crew = if commands.is_empty() { 0 } else { workers };
+    let blank = table_for_list(alloc, invocation.chunks, crew)?;
+    let zone_bytes = &bytes.as_slice()[..parts.zone_end as usize];
+    let zone = match read_zone(alloc, zone_bytes, &invocation.origin) {
+        Ok(zone) => zone,
+        Err(refusal) => return zone_line(alloc, refusal),
+    };
+    drop(bytes);
+    let items = zone_items(alloc, zone)?;
+    report_list(rt, alloc, invocation, blank, &items, commands, crew, gate)
+}
+
+/// The status and the text for bytes that were cut into a zone's and those of one list.
+pub fn answer_list<R: Threads + Wait + Sync, G: Gate>(
+    rt: &R,
+    alloc: Global,
+    invocation: &Invocation,
+    bytes: Vec<u8>,
+    parts: Parts,
+    workers: u32,
+    gate: &G,
+) -> Result<(Status, Vec<u8>), AllocError>
+    requires short { length bytes.items ≤ 2 ^ 24 }
+    requires cut { IsCutAt bytes.items parts }
+    requires workers { (1 ≤ workers) × (workers ≤ 16) }
+    ensures { IfOk result (λ x. FedAnswers workers invocation.now.chunks (fed_job_of invocation.now.origin bytes.items) x.0 x.1.items) }
+{
+    let script = &bytes.as_slice()[parts.script_from as usize..];
+    match read_list(alloc, script, parts.first_line, &invocation.origin) {
+        Ok(commands) => run_commands(rt, alloc, invocation, bytes, parts, &commands, workers, gate),
+        Err(JobRefusal::Refused { line, kind }) => {
+            refuse_script(alloc, invocation, &bytes, parts, line, kind)
+        }
+        Err(JobRefusal::Memory) => Err(AllocError),
+    }
+}
