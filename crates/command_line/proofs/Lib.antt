@@ -1,4 +1,3 @@
-pub mod InvocationLemmas
 pub mod OriginLemmas
 pub mod WordLemmas
 pub mod SeedLemmas

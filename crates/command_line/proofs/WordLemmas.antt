@@ -1,9 +1,7 @@
 -- The words of a command line, by places.
 use Rattle.std.proofs.Common.{◌≡◌, ◌∙◌, ◌<◌, ◌≤◌, ◌-◌, ℕ, zero, suc, true, false, List, [], ◌∷◌, length, map, get_or, take, drop, refl, sym, ap, arith, Some, option_and_then, codes}
 use Rattle.std.proofs.lemmas.List.{length-drop, take_all}
-use Rattle.std.specs.Str.{bytes_eq}
 use Rattle.command_line.specs.Options.{Options, with_option, options_from}
-use Rattle.command_line.specs.Invocations.{is_command}
 
 -- two words more are an option and its value
 pub two_more : {X : Type 0} (view : X → List ℕ) (words : List X) (at : ℕ) (a b : X) (s : Options) → suc at < length words → a ≡ get_or words at a → b ≡ get_or words (suc at) b
@@ -24,22 +22,6 @@ option_then view words a b option value s more h e f o v r =
     ∙ ap (λ (w : List ℕ). option_and_then (options_from (map view (drop 2 words))) (with_option w (view b) s)) (sym o)
     ∙ ap (λ (w : List ℕ). option_and_then (options_from (map view (drop 2 words))) (with_option option w s)) (sym v)
     ∙ ap (option_and_then (options_from (map view (drop 2 words)))) r
-
--- the command is the second word
-pub command_at : {X : Type 0} (name : List ℕ) (view : X → List ℕ) (words : List X) (a : X) → 1 < length words → a ≡ get_or words 1 a → is_command name (map view words) ≡ bytes_eq (view a) name
-command_at name view [] a h e = absurd (omega arith)
-command_at name view (x ∷ []) a h e = absurd (omega arith)
-command_at name view (x ∷ y ∷ words) a h e = ap (λ (w : List ℕ). bytes_eq w name) (ap view (sym e))
-
-pub no_command : {X : Type 0} (name : List ℕ) (view : X → List ℕ) (words : List X) → length words ≤ 1 → is_command name (map view words) ≡ false
-no_command name view [] h = refl
-no_command name view (x ∷ []) h = refl
-no_command name view (x ∷ y ∷ words) h = absurd (omega arith)
-
-pub long_enough : {X : Type 0} (name : List ℕ) (view : X → List ℕ) (words : List X) → is_command name (map view words) ≡ true → 2 ≤ length words
-long_enough name view [] h = absurd cc
-long_enough name view (x ∷ []) h = absurd cc
-long_enough name view (x ∷ y ∷ words) h = omega arith
 
 pub map-drop : {X Y : Type 0} (view : X → Y) (n : ℕ) (words : List X) → drop n (map view words) ≡ map view (drop n words)
 map-drop view zero words = refl

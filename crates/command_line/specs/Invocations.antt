@@ -1,20 +1,21 @@
 -- Plain words of the command line.
-use Rattle.std.specs.Prelude.{◌≡◌, ℕ, Bool, false, ◌&&◌, List, [], ◌∷◌, if◌then◌else◌, Option, Some, None, codes, option_and_then, drop}
+use Rattle.std.specs.Prelude.{◌≡◌, ℕ, Bool, ◌&&◌, List, [], ◌∷◌, if◌then◌else◌, Option, Some, None, codes, is_none, option_and_then, unwrap_or}
 use Rattle.std.specs.Option.{option_map}
 use Rattle.std.specs.Str.{bytes_eq}
 use Rattle.zone_model.specs.Names.{Name}
+use Rattle.zone_model.specs.declared.Style.{Style}
+use Rattle.zone_model.specs.declared.Style.TheVariants.{Full}
 use Rattle.job_model.specs.Loads.{Load, made_origin}
-use Rattle.command_line.specs.Numbers.{chunks_of, default_chunks}
-use Rattle.command_line.specs.Origins.{origin_of}
-use Rattle.command_line.specs.Options.{Options, no_options, options_from, has_load, load_of, chunks_given}
+use Rattle.command_line.specs.Options.{Options, no_options, options_from, load_of, chunks_given}
 
--- what is done: a job is run; one list of commands is handed out to so many workers; a zone's index is built; or a load's job is
--- run, and summed up
+-- What is done: a job is run; a zone's index is built; a load's job is run, and summed up; a zone is written; or one list of commands
+-- is run by so many workers.
 pub data Verb : Type 0 where
   Run : Verb
-  Feed : (workers : ℕ) → Verb
   Check : Verb
   Make : (load : Load) → Verb
+  Dump : (style : Style) → Verb
+  Feed : (workers : ℕ) → Verb
 
 -- what to do under an origin, over a number of chunks
 pub record Invocation : Type 0 where
@@ -25,75 +26,48 @@ pub record Invocation : Type 0 where
 -- a load's names are under an origin of their own
 abbrev pub IsUnder : Verb → Name → Type 0
 IsUnder Run origin = Unit {0}
-IsUnder (Feed workers) origin = Unit {0}
 IsUnder Check origin = Unit {0}
 IsUnder (Make load) origin = origin ≡ made_origin
+IsUnder (Dump style) origin = Unit {0}
+IsUnder (Feed workers) origin = Unit {0}
 
--- ---- run and check
+-- ---- a command and its options
 
-abbrev pub invocation : Verb → Option Name → Option ℕ → Option Invocation
-invocation verb (Some origin) (Some chunks) = Some (record { verb = verb; origin = origin; chunks = chunks })
-invocation verb None chunks = None
-invocation verb (Some origin) None = None
+-- an origin is given, and perhaps a number of chunks
+abbrev pub under_origin : Options → Verb → Option Invocation
+under_origin s verb = option_map (λ origin. record { verb = verb; origin = origin; chunks = chunks_given s }) s.origin
 
-abbrev pub is_origin : List ℕ → Bool
-is_origin word = bytes_eq word (codes "--origin")
+-- nothing of a load is given but perhaps its workers
+abbrev pub makes_nothing : Options → Bool
+makes_nothing s = is_none s.seed && is_none s.names && is_none s.turns
 
-abbrev pub is_chunks : List ℕ → Bool
-is_chunks word = bytes_eq word (codes "--chunks")
+abbrev pub reading_of : Verb → Options → Option Invocation
+reading_of verb s = if makes_nothing s && is_none s.style && is_none s.workers then under_origin s verb else None
 
--- the options: the origin, and chunks before or behind it or not at all
-abbrev pub settings_of : Verb → List (List ℕ) → Option Invocation
-settings_of verb [] = None
-settings_of verb (option ∷ []) = None
-settings_of verb (option ∷ value ∷ []) = if is_origin option then invocation verb (origin_of value) (Some default_chunks) else None
-settings_of verb (first ∷ a ∷ second ∷ []) = None
-settings_of verb (first ∷ a ∷ second ∷ b ∷ []) =
-    if is_origin first && is_chunks second then invocation verb (origin_of a) (chunks_of b)
-    else if is_chunks first && is_origin second then invocation verb (origin_of b) (chunks_of a)
+abbrev pub dumping_of : Options → Option Invocation
+dumping_of s = if makes_nothing s && is_none s.workers then under_origin s (Dump (unwrap_or s.style Full)) else None
+
+abbrev pub feeding_of : Options → Option Invocation
+feeding_of s = if makes_nothing s && is_none s.style then option_and_then (λ workers. under_origin s (Feed workers)) s.workers else None
+
+abbrev pub making_of : Options → Option Invocation
+making_of s =
+    if is_none s.origin && is_none s.style then option_map (λ load. record { verb = Make load; origin = made_origin; chunks = chunks_given s }) (load_of s)
     else None
-settings_of verb (first ∷ a ∷ second ∷ b ∷ more ∷ rest) = None
 
-abbrev pub verb_of : List ℕ → Option Verb
-verb_of word = if bytes_eq word (codes "run") then Some Run else if bytes_eq word (codes "check") then Some Check else None
+-- what a command with these options says
+abbrev pub asked_of : List ℕ → Options → Option Invocation
+asked_of command s =
+    if bytes_eq command (codes "run") then reading_of Run s
+    else if bytes_eq command (codes "check") then reading_of Check s
+    else if bytes_eq command (codes "make") then making_of s
+    else if bytes_eq command (codes "dump") then dumping_of s
+    else if bytes_eq command (codes "feed") then feeding_of s
+    else None
 
--- what the words of run or check say, the first of which is the program's name; None where they say neither
-unfoldable pub reading_of : List (List ℕ) → Option Invocation
-reading_of [] = None
-reading_of (program ∷ []) = None
-reading_of (program ∷ command ∷ options) = option_and_then (λ verb. settings_of verb options) (verb_of command)
-
--- ---- make
-
--- what the options of make say
-abbrev pub making_of : List (List ℕ) → Option Invocation
-making_of words = option_and_then (λ options. option_map (λ load. record { verb = Make load; origin = made_origin; chunks = chunks_given options }) (load_of options)) (options_from words no_options)
-
--- ---- feed
-
-abbrev pub feeding : Option ℕ → Option Name → Option ℕ → Option Invocation
-feeding workers origin chunks = option_and_then (λ n. invocation (Feed n) origin chunks) workers
-
--- a number of a load isn't an option of feed
-abbrev pub feed_in : Options → Option Invocation
-feed_in options = if has_load options then None else feeding options.workers options.origin (Some (chunks_given options))
-
--- what the options of feed say
-abbrev pub feeding_of : List (List ℕ) → Option Invocation
-feeding_of words = option_and_then feed_in (options_from words no_options)
-
--- ---- all commands
-
--- the command is this word
-abbrev pub is_command : List ℕ → List (List ℕ) → Bool
-is_command name [] = false
-is_command name (program ∷ []) = false
-is_command name (program ∷ command ∷ options) = bytes_eq command name
-
--- what plain words say, the first of which is the program's name: a command and its options, each option once with its value behind
+-- what plain words say, the first of which is the program's name: a command and options of it, each option once with its value behind
 -- it, an origin that is a name, and numbers within their limits; None where they aren't so
 abbrev pub plain_of : List (List ℕ) → Option Invocation
-plain_of words =
-    if is_command (codes "make") words then making_of (drop 2 words)
-    else if is_command (codes "feed") words then feeding_of (drop 2 words)
-    else reading_of words
+plain_of [] = None
+plain_of (program ∷ []) = None
+plain_of (program ∷ command ∷ options) = option_and_then (asked_of command) (options_from options no_options)

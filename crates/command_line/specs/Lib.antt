@@ -1,5 +1,4 @@
 pub mod Numbers
-pub mod Origins
 pub mod Options
 pub mod Invocations
 pub mod Parsed

@@ -1,17 +1,20 @@
 -- The command line as clap reads it.
 use Rattle.std.specs.Prelude.{ℕ, Bool, true, false, List, [], ◌∷◌, if◌then◌else◌, Option, Some, None, codes, option_and_then}
+use Rattle.std.specs.Option.{option_map}
 use Rattle.std.specs.Str.{bytes_eq}
 use Rattle.zone_model.specs.Names.{Name}
 use Rattle.zone_model.specs.NameText.{name_of}
 use Rattle.zone_model.specs.Texts.{named}
+use Rattle.zone_model.specs.declared.Style.{Style}
+use Rattle.zone_model.specs.declared.Style.TheVariants.{Full}
 use Rattle.job_model.specs.Loads.{Load, made_origin}
 use Rattle.clap.specs.Walk.{Row, Rule, first_of, is_empty}
 use Rattle.clap.specs.Simple.{App, Shape, new_rule, new_shape, subcommand_of}
 use Rattle.clap.specs.Faults.{fault_of}
 use Rattle.clap.specs.declared.builder.action.ArgAction.TheVariants.{Set}
 use Rattle.command_line.specs.Numbers.{chunks_of, default_chunks, seed_of, names_of, turns_of, workers_of}
-use Rattle.command_line.specs.Options.{load_by}
-use Rattle.command_line.specs.Invocations.{Invocation, Verb, Run, Check, Make, invocation, feeding}
+use Rattle.command_line.specs.Options.{load_by, style_of}
+use Rattle.command_line.specs.Invocations.{Invocation, Verb, Run, Check, Make, Dump, Feed}
 
 -- ---- the command line that clap is given
 
@@ -21,9 +24,6 @@ option_rule name required = record (new_rule name) { long = Some name; action = 
 
 abbrev pub reading_shape : List ℕ → Shape
 reading_shape name = record (new_shape name) { rules = option_rule (codes "origin") true ∷ option_rule (codes "chunks") false ∷ [] }
-
-abbrev pub feeding_shape : Shape
-feeding_shape = record (new_shape (codes "feed")) { rules = option_rule (codes "origin") true ∷ option_rule (codes "workers") true ∷ option_rule (codes "chunks") false ∷ [] }
 
 abbrev pub making_shape : Shape
 making_shape = record (new_shape (codes "make")) {
@@ -35,10 +35,20 @@ making_shape = record (new_shape (codes "make")) {
       ∷ [];
 }
 
+abbrev pub dumping_shape : Shape
+dumping_shape = record (new_shape (codes "dump")) {
+  rules = option_rule (codes "origin") true ∷ option_rule (codes "style") false ∷ option_rule (codes "chunks") false ∷ [];
+}
+
+abbrev pub feeding_shape : Shape
+feeding_shape = record (new_shape (codes "feed")) {
+  rules = option_rule (codes "origin") true ∷ option_rule (codes "workers") true ∷ option_rule (codes "chunks") false ∷ [];
+}
+
 abbrev pub program_app : App
 program_app = record {
   top = record (new_shape (codes "qpzone")) { is_leaf = false; subcommand_required = true };
-  subs = reading_shape (codes "run") ∷ reading_shape (codes "check") ∷ making_shape ∷ feeding_shape ∷ [];
+  subs = reading_shape (codes "run") ∷ reading_shape (codes "check") ∷ making_shape ∷ dumping_shape ∷ feeding_shape ∷ [];
 }
 
 -- ---- what is meant by what clap gives
@@ -51,11 +61,18 @@ chunks_in (Some value) = chunks_of value
 abbrev pub origin_in : Option (List ℕ) → Option Name
 origin_in value = option_and_then (λ v. named (name_of v [])) value
 
-abbrev pub reading_in : Verb → List Row → Option Invocation
-reading_in verb rows = invocation verb (origin_in (first_of (codes "origin") rows)) (chunks_in (first_of (codes "chunks") rows))
+abbrev pub style_in : Option (List ℕ) → Option Style
+style_in None = Some Full
+style_in (Some value) = style_of value
 
-abbrev pub feeding_in : List Row → Option Invocation
-feeding_in rows = feeding (option_and_then workers_of (first_of (codes "workers") rows)) (origin_in (first_of (codes "origin") rows)) (chunks_in (first_of (codes "chunks") rows))
+abbrev pub invocation : Option Verb → Option Name → Option ℕ → Option Invocation
+invocation None origin chunks = None
+invocation (Some verb) None chunks = None
+invocation (Some verb) (Some origin) None = None
+invocation (Some verb) (Some origin) (Some chunks) = Some (record { verb = verb; origin = origin; chunks = chunks })
+
+abbrev pub reading_in : Option Verb → List Row → Option Invocation
+reading_in verb rows = invocation verb (origin_in (first_of (codes "origin") rows)) (chunks_in (first_of (codes "chunks") rows))
 
 abbrev pub load_in : List Row → Option Load
 load_in rows = load_by (option_and_then seed_of (first_of (codes "seed") rows)) (option_and_then names_of (first_of (codes "names") rows)) (option_and_then turns_of (first_of (codes "turns") rows)) (option_and_then workers_of (first_of (codes "workers") rows))
@@ -68,16 +85,17 @@ making_by (Some load) (Some chunks) = Some (record { verb = Make load; origin = 
 -- a subcommand's name and its options
 abbrev pub asked_by : List ℕ → List Row → Option Invocation
 asked_by name rows =
-    if bytes_eq name (codes "run") then reading_in Run rows
-    else if bytes_eq name (codes "check") then reading_in Check rows
+    if bytes_eq name (codes "run") then reading_in (Some Run) rows
+    else if bytes_eq name (codes "check") then reading_in (Some Check) rows
     else if bytes_eq name (codes "make") then making_by (load_in rows) (chunks_in (first_of (codes "chunks") rows))
-    else if bytes_eq name (codes "feed") then feeding_in rows
+    else if bytes_eq name (codes "dump") then reading_in (option_map Dump (style_in (first_of (codes "style") rows))) rows
+    else if bytes_eq name (codes "feed") then reading_in (option_map Feed (option_and_then workers_of (first_of (codes "workers") rows))) rows
     else None
 
 abbrev pub asked_in : Option (List ℕ × List Row) → Option Invocation
 asked_in found = option_and_then (λ x. asked_by x.0 x.1) found
 
--- what the words say as clap reads them; None where it refuses them, or an origin isn't a name, or a number isn't decimal digits
--- within its limits
+-- what the words say as clap reads them; None where it refuses them, or an origin isn't a name, a style is none, or a number isn't
+-- decimal digits within its limits
 abbrev pub parsed_of : List (List ℕ) → Option Invocation
 parsed_of words = if is_empty (fault_of program_app words) then asked_in (subcommand_of program_app words) else None

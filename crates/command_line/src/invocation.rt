@@ -1,29 +1,23 @@
 //! What the command line asks for.
-ghost use Rattle.std.specs.Prelude.{◌<◌, ◌≤◌};
+ghost use Rattle.std.specs.Prelude.{◌≤◌};
 
 use dns_name::Name;
 use job_make::Load;
-
-/// The workers that a list of commands is handed out to.
-#[derive(Clone, Copy, PartialEq, Eq, Debug)]
-pub struct Crew {
-    /// From 1 to 16.
-    pub workers: u32,
-    ghost some: { 0 < workers },
-    ghost few: { workers ≤ 16 },
-}
+use zone_model::Style;
 
 /// What the program is asked to do.
 #[derive(Clone, Copy, PartialEq, Eq, Debug)]
 pub enum Verb {
     /// Run a job.
     Run,
-    /// Hand one list of commands out to workers.
-    Feed(Crew),
     /// Build a zone's index, and say how large it is.
     Check,
     /// Run the job of a load, and sum it up.
     Make(Load),
+    /// Write a zone as a master file.
+    Dump(Style),
+    /// Run one list of commands by so many workers, 1 to 16.
+    Feed(u32),
 }
 
 /// What the words of the command line say: what to do under an origin, over a number of chunks.

@@ -1,19 +1,45 @@
-//! The options of `make` and `feed`.
+//! Options, each with its value.
 ghost use Rattle.std.specs.Prelude.{◌≡◌, ◌<◌, ◌≤◌, ◌+◌, ℕ, List, length, map, Some, None, Option, IfSome};
 ghost use Rattle.std.specs.Option.{option_map};
 ghost use Rattle.std.specs.String.{string_bytes};
 ghost use Rattle.command_line.specs.Numbers.{chunks_of, names_of, seed_of, turns_of, workers_of};
-ghost use Rattle.command_line.specs.Origins.{origin_of};
-ghost use Rattle.command_line.specs.Options.{no_options, once, options_from, with_option};
+ghost use Rattle.command_line.specs.Options.{no_options, once, options_from, origin_of, style_of, with_option};
 ghost use Rattle.command_line.specs.Views.{options_view};
 
 use crate::given::Options;
 use crate::numbers::{chunks_of, seed_of, within};
-use crate::origins::origin_of;
+use dns_name::Name;
+use zone_model::Style;
+
+// The origin, read under the root.
+fn origin_of(value: &[u8]) -> Option<Name>
+    ensures { result ≡ origin_of value.now }
+{
+    if value.is_empty() || value[0] == b'-' {
+        return None;
+    }
+    match Name::read(value, &Name::root()) {
+        Ok(origin) => Some(origin),
+        Err(_) => None,
+    }
+}
+
+/// A style, by its word.
+pub fn style_of(value: &[u8]) -> Option<Style>
+    ensures { result ≡ style_of value.now }
+{
+    if value == b"full".as_slice() {
+        return Some(Style::Full);
+    }
+    if value == b"short".as_slice() {
+        return Some(Style::Short);
+    }
+    None
+}
 
 // An origin that wasn't given before.
 fn with_origin(mut options: Options, value: &[u8]) -> Option<Options>
-    ensures { option_map options_view result ≡ once options.origin (origin_of value.now) (λ name. record (options_view options) { origin = Some name }) }
+    ensures { option_map options_view result ≡ once options.origin (origin_of value.now) (λ n. record (options_view options) { origin = Some n }) }
 {
     if options.origin.is_some() {
         return None;
@@ -21,6 +47,22 @@ fn with_origin(mut options: Options, value: &[u8]) -> Option<Options>
     match origin_of(value) {
         Some(origin) => {
             options.origin = Some(origin);
+            Some(options)
+        }
+        None => None,
+    }
+}
+
+// A style that wasn't given before.
+fn with_style(mut options: Options, value: &[u8]) -> Option<Options>
+    ensures { option_map options_view result ≡ once options.style (style_of value.now) (λ n. record (options_view options) { style = Some n }) }
+{
+    if options.style.is_some() {
+        return None;
+    }
+    match style_of(value) {
+        Some(style) => {
+            options.style = Some(style);
             Some(options)
         }
         None => None,
@@ -114,6 +156,15 @@ fn with_option(options: Options, option: &[u8], value: &[u8]) -> Option<Options>
     if option == b"--origin".as_slice() {
         return with_origin(options, value);
     }
+    if option == b"--chunks".as_slice() {
+        return with_chunks(options, value);
+    }
+    if option == b"--style".as_slice() {
+        return with_style(options, value);
+    }
+    if option == b"--workers".as_slice() {
+        return with_workers(options, value);
+    }
     if option == b"--seed".as_slice() {
         return with_seed(options, value);
     }
@@ -122,12 +173,6 @@ fn with_option(options: Options, option: &[u8], value: &[u8]) -> Option<Options>
     }
     if option == b"--turns".as_slice() {
         return with_turns(options, value);
-    }
-    if option == b"--workers".as_slice() {
-        return with_workers(options, value);
-    }
-    if option == b"--chunks".as_slice() {
-        return with_chunks(options, value);
     }
     None
 }
@@ -155,11 +200,12 @@ pub fn options_of(words: &[String]) -> Option<Options>
 {
     let none = Options {
         origin: None,
+        chunks: None,
+        style: None,
+        workers: None,
         seed: None,
         names: None,
         turns: None,
-        workers: None,
-        chunks: None,
     };
     options_from(words, none)
 }

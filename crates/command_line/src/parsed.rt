@@ -6,20 +6,22 @@ ghost use Rattle.clap.specs.Matches.{found_of};
 ghost use Rattle.clap.specs.Simple.{subcommand_rows_of};
 ghost use Rattle.clap.specs.Walk.{first_of, rows_of};
 ghost use Rattle.job_make.specs.Views.{load_view};
+ghost use Rattle.command_line.specs.Invocations as lines;
 ghost use Rattle.command_line.specs.Parsed as parsed;
 ghost use Rattle.command_line.specs.Numbers as numbers;
 ghost use Rattle.command_line.specs.Views.{invocation_view, verb_view};
 
-use crate::feeding::feeding;
+use crate::asked::made_origin;
 use crate::invocation::{Invocation, Verb};
-use crate::making::made_origin;
 use crate::numbers::{DEFAULT_CHUNKS, chunks_of, seed_of, within};
+use crate::options::style_of;
 use crate::program::program;
 use clap::ArgMatches;
 use clap::error::ErrorKind;
 use dns_name::Name;
 use job_make::Load;
 use std::alloc::{AllocError, Global};
+use zone_model::Style;
 
 // The value of an option.
 fn value_in<'a>(matches: &ArgMatches<'a>, id: &str) -> Option<&'a str>
@@ -73,31 +75,44 @@ fn origin_in(value: Option<&str>) -> Option<Name>
     }
 }
 
-// What the options of a command that reads say.
-fn reading_in(matches: &ArgMatches<'_>, verb: Verb) -> Option<Invocation>
-    ensures { option_map invocation_view result ≡ parsed.reading_in (verb_view verb) (rows_of (found_of matches.now)) }
+// The style, which may be left out.
+fn style_in(value: Option<&str>) -> Option<Style>
+    ensures { result ≡ parsed.style_in (option_map (λ s. s.now) value.entry) }
 {
-    let Some(origin) = origin_in(value_in(matches, "origin")) else {
-        return None;
-    };
-    match chunks_in(value_in(matches, "chunks")) {
-        Some(chunks) => Some(Invocation {
-            verb,
-            origin,
-            chunks,
-        }),
-        None => None,
+    match value {
+        Some(value) => style_of(value.as_bytes()),
+        None => Some(Style::Full),
     }
 }
 
-// What the options of the command that hands a list out say.
-fn feeding_in(matches: &ArgMatches<'_>) -> Option<Invocation>
-    ensures { option_map invocation_view result ≡ parsed.feeding_in (rows_of (found_of matches.now)) }
+// What the options of a command that reads say.
+fn reading_in(matches: &ArgMatches<'_>, verb: Option<Verb>) -> Option<Invocation>
+    ensures { option_map invocation_view result ≡ parsed.reading_in (option_map verb_view verb) (rows_of (found_of matches.now)) }
 {
-    let workers = number_in(value_in(matches, "workers"), 1, 16);
-    let origin = origin_in(value_in(matches, "origin"));
-    let chunks = chunks_in(value_in(matches, "chunks"));
-    feeding(workers, origin, chunks)
+    let verb = verb?;
+    let origin = origin_in(value_in(matches, "origin"))?;
+    let chunks = chunks_in(value_in(matches, "chunks"))?;
+    Some(Invocation {
+        verb,
+        origin,
+        chunks,
+    })
+}
+
+// What the options of the command that writes a zone say of its style.
+fn dump_in(matches: &ArgMatches<'_>) -> Option<Verb>
+    ensures { option_map verb_view result ≡ option_map lines.Dump (parsed.style_in (first_of (codes "style") (rows_of (found_of matches.now)))) }
+{
+    let style = style_in(value_in(matches, "style"))?;
+    Some(Verb::Dump(style))
+}
+
+// What the options of the command that runs one list say of its workers.
+fn feed_in(matches: &ArgMatches<'_>) -> Option<Verb>
+    ensures { option_map verb_view result ≡ option_map lines.Feed (option_and_then numbers.workers_of (first_of (codes "workers") (rows_of (found_of matches.now)))) }
+{
+    let workers = number_in(value_in(matches, "workers"), 1, 16)?;
+    Some(Verb::Feed(workers))
 }
 
 // The load that options say.
@@ -146,10 +161,11 @@ fn asked_by(name: &str, matches: &ArgMatches<'_>) -> Option<Invocation>
     ensures { option_map invocation_view result ≡ parsed.asked_by name.now (rows_of (found_of matches.now)) }
 {
     match name {
-        "run" => reading_in(matches, Verb::Run),
-        "check" => reading_in(matches, Verb::Check),
+        "run" => reading_in(matches, Some(Verb::Run)),
+        "check" => reading_in(matches, Some(Verb::Check)),
         "make" => making_in(matches),
-        "feed" => feeding_in(matches),
+        "dump" => reading_in(matches, dump_in(matches)),
+        "feed" => reading_in(matches, feed_in(matches)),
         _ => None,
     }
 }

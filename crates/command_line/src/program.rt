@@ -3,7 +3,7 @@ ghost use Rattle.std.specs.Prelude.{◌≡◌, ◌∷◌, [], IfOk, codes, false
 ghost use Rattle.clap.specs.Simple.{app_of, new_shape};
 ghost use Rattle.clap.specs.Walk.{rule_of};
 ghost use Rattle.clap.specs.declared.builder.command.Command.TheViews.{out-Command as fields_of};
-ghost use Rattle.command_line.specs.Parsed.{feeding_shape, making_shape, option_rule, program_app, reading_shape};
+ghost use Rattle.command_line.specs.Parsed.{dumping_shape, feeding_shape, making_shape, option_rule, program_app, reading_shape};
 
 use clap::{Arg, ArgAction, Command};
 use std::alloc::{AllocError, Global};
@@ -33,7 +33,7 @@ fn chunks<'a>(alloc: Global) -> Arg<'a>
     )
 }
 
-// The origin, which each command that reads takes.
+// The zone's origin, which each command takes but the one that makes a load.
 fn origin<'a>(alloc: Global) -> Arg<'a>
     ensures rule { rule_of result ≡ option_rule (codes "origin") true }
     ensures local { result.global ≡ false }
@@ -56,23 +56,6 @@ fn reading<'a>(alloc: Global, name: &'a str, about: &'a str) -> Result<Command<'
     let command = Command::new(alloc, name).about(about);
     let with_origin = command.arg(origin)?;
     let with_chunks = with_origin.arg(chunks)?;
-    Ok(with_chunks)
-}
-
-// The command that hands a list out.
-fn feeding<'a>(alloc: Global) -> Result<Command<'a>, AllocError>
-    ensures app { IfOk result (λ c. app_of c ≡ record { top = feeding_shape; subs = [] }) }
-    ensures local { IfOk result (λ c. (fields_of c).has_globals ≡ false) }
-{
-    let origin = origin(alloc);
-    let workers_help = "How many workers the list is handed out to, 1 to 16";
-    let workers = option(alloc, "workers", workers_help, true);
-    let chunks = chunks(alloc);
-    let about = "Read a zone and one list of commands, hand these out to workers, and print a report";
-    let command = Command::new(alloc, "feed").about(about);
-    let with_origin = command.arg(origin)?;
-    let with_workers = with_origin.arg(workers)?;
-    let with_chunks = with_workers.arg(chunks)?;
     Ok(with_chunks)
 }
 
@@ -100,6 +83,42 @@ fn making<'a>(alloc: Global) -> Result<Command<'a>, AllocError>
     Ok(with_chunks)
 }
 
+// The command that writes a zone.
+fn dumping<'a>(alloc: Global) -> Result<Command<'a>, AllocError>
+    ensures app { IfOk result (λ c. app_of c ≡ record { top = dumping_shape; subs = [] }) }
+    ensures local { IfOk result (λ c. (fields_of c).has_globals ≡ false) }
+{
+    let origin = origin(alloc);
+    let style_help =
+        "full: a line says all of a record; short: names and times are left out where a directive says them";
+    let style = option(alloc, "style", style_help, false);
+    let chunks = chunks(alloc);
+    let about = "Read a zone, and write it as a master file";
+    let command = Command::new(alloc, "dump").about(about);
+    let with_origin = command.arg(origin)?;
+    let with_style = with_origin.arg(style)?;
+    let with_chunks = with_style.arg(chunks)?;
+    Ok(with_chunks)
+}
+
+// The command that runs one list.
+fn feeding<'a>(alloc: Global) -> Result<Command<'a>, AllocError>
+    ensures app { IfOk result (λ c. app_of c ≡ record { top = feeding_shape; subs = [] }) }
+    ensures local { IfOk result (λ c. (fields_of c).has_globals ≡ false) }
+{
+    let origin = origin(alloc);
+    let workers_help = "How many workers run the commands, 1 to 16";
+    let workers = option(alloc, "workers", workers_help, true);
+    let chunks = chunks(alloc);
+    let about =
+        "Read a zone and one list of commands, run it by several workers, and print a report";
+    let command = Command::new(alloc, "feed").about(about);
+    let with_origin = command.arg(origin)?;
+    let with_workers = with_origin.arg(workers)?;
+    let with_chunks = with_workers.arg(chunks)?;
+    Ok(with_chunks)
+}
+
 /// The program's command line.
 pub fn program<'a>(alloc: Global) -> Result<Command<'a>, AllocError>
     ensures { IfOk result (λ c. app_of c ≡ program_app) }
@@ -109,6 +128,7 @@ pub fn program<'a>(alloc: Global) -> Result<Command<'a>, AllocError>
     let check_about = "Read a zone, and print how large its index is";
     let check_command = reading(alloc, "check", check_about)?;
     let make_command = making(alloc)?;
+    let dump_command = dumping(alloc)?;
     let feed_command = feeding(alloc)?;
     let about = "Answers questions about a DNS zone while it is being changed";
     let top = Command::new(alloc, "qpzone")
@@ -117,6 +137,7 @@ pub fn program<'a>(alloc: Global) -> Result<Command<'a>, AllocError>
     let with_run = top.subcommand(run_command)?;
     let with_check = with_run.subcommand(check_command)?;
     let with_make = with_check.subcommand(make_command)?;
-    let with_feed = with_make.subcommand(feed_command)?;
+    let with_dump = with_make.subcommand(dump_command)?;
+    let with_feed = with_dump.subcommand(feed_command)?;
     Ok(with_feed)
 }

@@ -5,13 +5,9 @@ use Rattle.std.specs.List.{flat_map}
 use Rattle.zone_model.specs.Names.{Name}
 use Rattle.zone_model.specs.Records.{Rrset, Entry, rrset_of}
 use Rattle.zone_model.specs.Versions.{Version, owned, soa_type}
+use Rattle.zone_model.specs.declared.Style.{Style}
+use Rattle.zone_model.specs.declared.Style.TheVariants.{Full, Short}
 use Rattle.zone_model.specs.Rows.{Row, rows_of, Directives, directives_text, line_text, row_text}
-
-pub data Style : Type 0 where
-  -- each line says all of a record, with absolute names
-  Full : Style
-  -- lines stand under directives, and leave out what these say
-  Short : Style
 
 -- the records of a name, in rising types and octets
 abbrev pub rows_at : Name × Entry → List Row

@@ -1,0 +1,141 @@
+//! What a command with its options asks for.
+ghost use Rattle.std.specs.Prelude.{◌≡◌, ◌∷◌, [], ℕ, List, map, codes, Some, None, Option};
+ghost use Rattle.std.specs.Option.{option_map};
+ghost use Rattle.std.specs.String.{string_bytes};
+ghost use Rattle.job_model.specs.Loads.{made_origin};
+ghost use Rattle.job_make.specs.Views.{load_view};
+ghost use Rattle.command_line.specs.Invocations.{asked_of, dumping_of, feeding_of, makes_nothing, making_of, plain_of, reading_of, under_origin};
+ghost use Rattle.command_line.specs.Options.{load_of};
+ghost use Rattle.command_line.specs.Views.{invocation_view, options_view, verb_view};
+
+use crate::given::Options;
+use crate::invocation::{Invocation, Verb};
+use crate::numbers::DEFAULT_CHUNKS;
+use crate::options::options_of;
+use dns_name::Name;
+use job_make::Load;
+use zone_model::Style;
+
+// An origin is given, and perhaps a number of chunks.
+fn under_origin(options: &Options, verb: Verb) -> Option<Invocation>
+    ensures { option_map invocation_view result ≡ under_origin (options_view options.now) (verb_view verb) }
+{
+    let origin = options.origin?;
+    let chunks = match options.chunks {
+        Some(chunks) => chunks,
+        None => DEFAULT_CHUNKS,
+    };
+    Some(Invocation {
+        verb,
+        origin,
+        chunks,
+    })
+}
+
+// Nothing of a load is given but perhaps its workers.
+fn makes_nothing(options: &Options) -> bool
+    ensures { result ≡ makes_nothing (options_view options.now) }
+{
+    options.seed.is_none() && options.names.is_none() && options.turns.is_none()
+}
+
+fn reading_of(verb: Verb, options: &Options) -> Option<Invocation>
+    ensures { option_map invocation_view result ≡ reading_of (verb_view verb) (options_view options.now) }
+{
+    if makes_nothing(options) && options.style.is_none() && options.workers.is_none() {
+        under_origin(options, verb)
+    } else {
+        None
+    }
+}
+
+fn dumping_of(options: &Options) -> Option<Invocation>
+    ensures { option_map invocation_view result ≡ dumping_of (options_view options.now) }
+{
+    if makes_nothing(options) && options.workers.is_none() {
+        under_origin(options, Verb::Dump(options.style.unwrap_or(Style::Full)))
+    } else {
+        None
+    }
+}
+
+fn feeding_of(options: &Options) -> Option<Invocation>
+    ensures { option_map invocation_view result ≡ feeding_of (options_view options.now) }
+{
+    if makes_nothing(options) && options.style.is_none() {
+        under_origin(options, Verb::Feed(options.workers?))
+    } else {
+        None
+    }
+}
+
+// The load whose numbers are all given.
+fn load_of(options: &Options) -> Option<Load>
+    ensures { option_map load_view result ≡ load_of (options_view options.now) }
+{
+    let seed = options.seed?;
+    let names = options.names?;
+    let turns = options.turns?;
+    let workers = options.workers?;
+    Some(Load {
+        seed,
+        names,
+        turns,
+        workers,
+    })
+}
+
+/// The origin that a load's names are under.
+pub fn made_origin() -> Name
+    ensures { result ≡ made_origin }
+{
+    match Name::read(b"example", &Name::root()) {
+        Ok(origin) => origin,
+        // It is a name.
+        Err(_) => unreachable!(),
+    }
+}
+
+fn making_of(options: &Options) -> Option<Invocation>
+    ensures { option_map invocation_view result ≡ making_of (options_view options.now) }
+{
+    if options.origin.is_some() || options.style.is_some() {
+        return None;
+    }
+    let load = load_of(options)?;
+    let chunks = match options.chunks {
+        Some(chunks) => chunks,
+        None => DEFAULT_CHUNKS,
+    };
+    Some(Invocation {
+        verb: Verb::Make(load),
+        origin: made_origin(),
+        chunks,
+    })
+}
+
+// What a command with these options asks for.
+fn asked_of(command: &str, options: &Options) -> Option<Invocation>
+    ensures { option_map invocation_view result ≡ asked_of command.now (options_view options.now) }
+{
+    match command {
+        "run" => reading_of(Verb::Run, options),
+        "check" => reading_of(Verb::Check, options),
+        "make" => making_of(options),
+        "dump" => dumping_of(options),
+        "feed" => feeding_of(options),
+        _ => None,
+    }
+}
+
+/// What plain words ask for, the first of which is the program's name; None where they aren't plain.
+pub fn plain_of(words: &[String]) -> Option<Invocation>
+    ensures { option_map invocation_view result ≡ plain_of (map string_bytes words.now) }
+{
+    let (_program, behind) = words.split_first()?;
+    let (command, options) = behind.split_first()?;
+    match options_of(options) {
+        Some(options) => asked_of(command.as_str(), &options),
+        None => None,
+    }
+}
