@@ -230,7 +230,10 @@ fn refused<N: Named, R: Wait>(
     let full = matches!(replace_within(&mut write, item), Outcome::Full(_));
     let same = write.fetch(&item.key(), &mut out) == Some(LARGE)
         && &out[4..12] == number.to_be_bytes().as_slice();
-    full && same && write.commit().is_ok_and(|receipt| receipt.version == number)
+    full && same
+        && write
+            .commit()
+            .is_ok_and(|receipt| receipt.version == number)
 }
 
 /// Another pass holds the version that is current, if there is another.

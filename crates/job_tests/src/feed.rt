@@ -70,7 +70,9 @@ fn number(digits: &[u8]) -> Option<u32> {
         if !digit.is_ascii_digit() {
             return None;
         }
-        value = value.checked_mul(10)?.checked_add(u32::from(*digit - b'0'))?;
+        value = value
+            .checked_mul(10)?
+            .checked_add(u32::from(*digit - b'0'))?;
     }
     Some(value)
 }
@@ -107,7 +109,14 @@ fn hundred_blocks(alloc: Global) -> Result<Vec<u8>, AllocError> {
 #[test]
 fn a_hundred_blocks_make_a_hundred_versions(rt: HostRuntime) -> Result<(), Fail> {
     let words = [
-        "qpzone", "feed", "--origin", "example.", "--workers", "4", "--chunks", "256",
+        "qpzone",
+        "feed",
+        "--origin",
+        "example.",
+        "--workers",
+        "4",
+        "--chunks",
+        "256",
     ];
     let script = hundred_blocks(rt.alloc())?;
     let text = report_as(&rt, rt.alloc(), &words, &script, &Open)?;

@@ -124,7 +124,6 @@ many_pairs (c ∷ cs) (o ∷ os) alike = ap suc (many_pairs cs os (omega arith))
 pub fed_run : (chunks workers : ℕ) (origin : Name) (zone : Version) (commands : List Command) (served : List Served) (os : List FedOutcome) (version names count : ℕ) → length served ≡ workers → AreInOrder (length commands) served os
     → IsRun chunks (passes_fed workers) origin zone (commands_served commands served) (outcomes_served served) version names count → IsFedRun chunks workers origin zone commands os version names
 fed_run chunks workers origin zone commands served os version names count many o r =
-
     let alike : length commands ≡ length os = sym o.many in
     let same : by_worker workers (fed_pairs commands os) ≡ job_pairs (commands_served commands served) (outcomes_served served) =
     ap (λ (n : ℕ). by_worker n (fed_pairs commands os)) (sym many) ∙ workers_are commands os alike 1 served o.placed in

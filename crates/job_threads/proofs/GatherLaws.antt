@@ -97,6 +97,7 @@ gathers_more s before spare asks ws os views main after spare' asks' n w o g r s
             (λ u b. begins_more after.seen.history main.seen.history u.station.asks.seen.history l.grows.history b) g.learnt,
       );
     }
+
 -- another worker, whose only pass was the last one
 pub gathers_one : (s : Setup) (before : List Known) (pass : Known) (ws : List (List Command)) (os : List Outcomes) (views : List Known) (main after pass' : Known) (number : ℕ) (w : List Command) (o : Outcomes)
     → Gathers s before ws os views main → WorkerRan s (only number) (ended pass' pass) w o.list.items → number_of pass.pass ≡ number_of pass'.pass → is_told main.seen.opening ≡ true → Learnt main after pass'.seen

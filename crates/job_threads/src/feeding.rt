@@ -165,7 +165,7 @@ fn serve_all<R: Threads + Wait + Sync, N: Named + Send + Sync, G: Gate>(
     ensures alike { IfOk result (λ g. AllByRecursion IsServed g.served.items) }
     ensures ran { (s : Setup) → IsIndex s origin.now index.now.shared.table.shared.key → AreNew s.opening (map (λ p. known_at p.seat) passes.items)
         → IfOk result (λ g. Gathers s (map (λ p. known_at p.seat) passes.items) (commands_served (map command_view commands.now) g.served.items) (outcomes_served g.served.items)
-            (map (λ p. known_at p.seat) g.passes.items) (known_at g.main.seat)) }
+        (map (λ p. known_at p.seat) g.passes.items) (known_at g.main.seat)) }
 {
     let Some(pass) = passes.pop() else {
         // There is one for each seat, and one.
@@ -211,7 +211,7 @@ fn serve_all<R: Threads + Wait + Sync, N: Named + Send + Sync, G: Gate>(
         ensures alike { IfOk result (λ g. AllByRecursion IsServed g.served.items) }
         ensures ran { (s : Setup) → IsIndex s origin.entry.now index.entry.now.shared.table.shared.key → AreNew s.opening (map (λ p. known_at p.seat) passes.items)
             → IfOk result (λ g. Gathers s (map (λ p. known_at p.seat) passes.items) (commands_served (map command_view commands.entry.now) g.served.items) (outcomes_served g.served.items)
-                (map (λ p. known_at p.seat) g.passes.items) (known_at g.main.seat)) }
+            (map (λ p. known_at p.seat) g.passes.items) (known_at g.main.seat)) }
     {
         serve_all(
             rt, alloc, origin, index, commands, feed, next, passes, seats, gate,

@@ -50,10 +50,7 @@ fn place_served(places: &mut [Option<FedOutcome>], worker: u32, served: Served)
 }
 
 // The outcomes of places that have one each.
-fn all_placed(
-    alloc: Global,
-    places: Vec<Option<FedOutcome>>,
-) -> Result<Vec<FedOutcome>, AllocError>
+fn all_placed(alloc: Global, places: Vec<Option<FedOutcome>>) -> Result<Vec<FedOutcome>, AllocError>
     requires { AllByRecursion IsSome places.items }
     ensures { IfOk result (λ fed. map Some fed.items ≡ places.items) }
 {

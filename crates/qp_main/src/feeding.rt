@@ -68,7 +68,9 @@ pub fn answer_list<R: Threads + Wait + Sync, G: Gate>(
 {
     let script = &bytes.as_slice()[parts.script_from as usize..];
     match read_list(alloc, script, parts.first_line, &invocation.origin) {
-        Ok(commands) => run_commands(rt, alloc, invocation, bytes, parts, &commands, workers, gate),
+        Ok(commands) => run_commands(
+            rt, alloc, invocation, bytes, parts, &commands, workers, gate,
+        ),
         Err(JobRefusal::Refused { line, kind }) => {
             refuse_script(alloc, invocation, &bytes, parts, line, kind)
         }

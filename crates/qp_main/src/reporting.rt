@@ -15,7 +15,9 @@ use crate::report::{no_room, size_line};
 use crate::status::Status;
 use crate::telling::Telling;
 use command_line::Invocation;
-use job_script::{Command, Job, any_fed_refused, any_refused, print_fed, print_outcomes, print_summary};
+use job_script::{
+    Command, Job, any_fed_refused, any_refused, print_fed, print_outcomes, print_summary,
+};
 use job_threads::{FedRan, Finished, Gate, Ran, ZoneLaw, run_list, run_zone};
 use shared_index::Blank;
 use std::alloc::{AllocError, Global};

@@ -27,11 +27,7 @@ use trie_read::{Iter, Reading};
 use zone_query::read_owned;
 
 /// Reads the item of the next name into the beginning of a buffer, and gives its length; None at the end.
-fn next_item<V: Reading>(
-    version: &mut V,
-    iter: &mut Iter,
-    item: &mut [u8; 4096],
-) -> Option<usize>
+fn next_item<V: Reading>(version: &mut V, iter: &mut Iter, item: &mut [u8; 4096]) -> Option<usize>
     requires { FacesSome (V.stands version.old iter.old) }
     ensures same { version.new ≡ version.old }
     ensures next { (left : Version) → Faces (V.stands version.old iter.old) left → GivesNext (V.stands version.old iter.new) left item.new result }

@@ -24,4 +24,3 @@ returns-in_ok-outcome-in-AskHeld-clause-steps g c = λ s setup under.
 
 pub returns-in-Release-clause-steps : goal.returns-in-Release-clause-steps
 returns-in-Release-clause-steps g c = λ s setup under. step_is s c.give_back.result _ _ c.args.command.now _ c.in-Release.is (c.give_back.ensures.steps s setup.opening under)
-
