@@ -12,7 +12,7 @@ verb_view Run = lines.Run
 verb_view Check = lines.Check
 verb_view (Make load) = lines.Make (load_view load)
 verb_view (Dump style) = lines.Dump style
-verb_view (Feed workers) = lines.Feed workers
+verb_view (Feed crew) = lines.Feed crew.workers
 
 abbrev pub invocation_view : Invocation → lines.Invocation
 invocation_view i = record { verb = verb_view i.verb; origin = i.origin; chunks = i.chunks }

@@ -9,7 +9,7 @@ ghost use Rattle.command_line.specs.Options.{load_of};
 ghost use Rattle.command_line.specs.Views.{invocation_view, options_view, verb_view};
 
 use crate::given::Options;
-use crate::invocation::{Invocation, Verb};
+use crate::invocation::{Crew, Invocation, Verb};
 use crate::numbers::DEFAULT_CHUNKS;
 use crate::options::options_of;
 use dns_name::Name;
@@ -63,7 +63,8 @@ fn feeding_of(options: &Options) -> Option<Invocation>
     ensures { option_map invocation_view result ≡ feeding_of (options_view options.now) }
 {
     if makes_nothing(options) && options.style.is_none() {
-        under_origin(options, Verb::Feed(options.workers?))
+        let workers = options.workers?;
+        under_origin(options, Verb::Feed(Crew { workers }))
     } else {
         None
     }

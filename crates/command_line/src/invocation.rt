@@ -1,9 +1,18 @@
 //! What the command line asks for.
-ghost use Rattle.std.specs.Prelude.{◌≤◌};
+ghost use Rattle.std.specs.Prelude.{◌<◌, ◌≤◌};
 
 use dns_name::Name;
 use job_make::Load;
 use zone_model::Style;
+
+/// How many workers run one list of commands.
+#[derive(Clone, Copy, PartialEq, Eq, Debug)]
+pub struct Crew {
+    /// From 1 to 16.
+    pub workers: u32,
+    ghost some: { 0 < workers },
+    ghost few: { workers ≤ 16 },
+}
 
 /// What the program is asked to do.
 #[derive(Clone, Copy, PartialEq, Eq, Debug)]
@@ -16,8 +25,8 @@ pub enum Verb {
     Make(Load),
     /// Write a zone as a master file.
     Dump(Style),
-    /// Run one list of commands by so many workers, 1 to 16.
-    Feed(u32),
+    /// Run one list of commands by several workers.
+    Feed(Crew),
 }
 
 /// What the words of the command line say: what to do under an origin, over a number of chunks.

@@ -12,7 +12,7 @@ ghost use Rattle.command_line.specs.Numbers as numbers;
 ghost use Rattle.command_line.specs.Views.{invocation_view, verb_view};
 
 use crate::asked::made_origin;
-use crate::invocation::{Invocation, Verb};
+use crate::invocation::{Crew, Invocation, Verb};
 use crate::numbers::{DEFAULT_CHUNKS, chunks_of, seed_of, within};
 use crate::options::style_of;
 use crate::program::program;
@@ -112,7 +112,7 @@ fn feed_in(matches: &ArgMatches<'_>) -> Option<Verb>
     ensures { option_map verb_view result ≡ option_map lines.Feed (option_and_then numbers.workers_of (first_of (codes "workers") (rows_of (found_of matches.now)))) }
 {
     let workers = number_in(value_in(matches, "workers"), 1, 16)?;
-    Some(Verb::Feed(workers))
+    Some(Verb::Feed(Crew { workers }))
 }
 
 // The load that options say.

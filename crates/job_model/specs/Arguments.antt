@@ -10,8 +10,8 @@ use Rattle.zone_model.specs.MasterFile.{name_word, time_word, type_word}
 use Rattle.zone_model.specs.declared.DataRefusal.{DataRefusal}
 use Rattle.job_model.specs.declared.ScriptKind.{ScriptKind}
 use Rattle.job_model.specs.declared.ScriptKind.TheVariants.{BadName, BadType, BadRdata, BadNumber}
-use Rattle.job_model.specs.Commands.{Stretch, Question, Get, Find, Walk, Back, Stat}
-use Rattle.job_model.specs.Phrases.{Asked, Gets, Finds, Walks, Backs, Stats}
+use Rattle.job_model.specs.Commands.{Stretch, Question, Get, Find, Walk, Back, Stat, Dump}
+use Rattle.job_model.specs.Phrases.{Asked, Gets, Finds, Walks, Backs, Stats, Dumps}
 
 abbrev pub refuse : {A : Type 0} → ℕ → ScriptKind → Result A (Refused ScriptKind)
 refuse n kind = Err (record { line = n; kind = kind })
@@ -59,6 +59,7 @@ question_of origin n (Backs name number) = do
   stretch ← stretch_of origin n name number
   Ok (Back stretch)
 question_of origin n Stats = Ok Stat
+question_of origin n Dumps = Ok Dump
 
 -- a prerequisite
 unfoldable pub prerequisite_of : Name → ℕ → Bool → Token → Option Token → Result Prerequisite (Refused ScriptKind)

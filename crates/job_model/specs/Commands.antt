@@ -12,13 +12,14 @@ pub record Stretch : Type 0 where
   pub most : ℕ
 
 -- A question to one version: the answer for a name and a type; what there is of a name; names from a name on, or those before it;
--- how large the version is.
+-- how large the version is; all its records.
 pub data Question : Type 0 where
   Get : (name : Name) (rtype : ℕ) → Question
   Find : (name : Name) → Question
   Walk : (stretch : Stretch) → Question
   Back : (stretch : Stretch) → Question
   Stat : Question
+  Dump : Question
 
 -- A question to the current version; a snapshot of that is taken, is asked, and is given back; a transaction; a compaction, which is
 -- a transaction without operations.

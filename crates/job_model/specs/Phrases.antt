@@ -29,6 +29,7 @@ pub data Asked : Type 0 where
   Walks : (name number : Token) → Asked
   Backs : (name number : Token) → Asked
   Stats : Asked
+  Dumps : Asked
 
 -- what a line says
 pub data Phrase : Type 0 where
@@ -61,7 +62,7 @@ finds name (t ∷ rest) = None
 -- a question that has a name and one token more, or a name alone, or nothing
 unfoldable pub asked_of : List Token → Option Asked
 asked_of [] = None
-asked_of (w ∷ []) = if says w (codes "stat") then Some Stats else None
+asked_of (w ∷ []) = if says w (codes "stat") then Some Stats else if says w (codes "dump") then Some Dumps else None
 asked_of (w ∷ name ∷ rest) =
     if says w (codes "get") then option_map (Gets name) (lone rest)
     else if says w (codes "find") then finds name rest

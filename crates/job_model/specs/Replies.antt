@@ -4,7 +4,8 @@ use Rattle.std.specs.List.{flat_map}
 use Rattle.std.specs.Fmt.{decimal}
 use Rattle.zone_model.specs.Names.{Name}
 use Rattle.zone_model.specs.NameText.{text_of}
-use Rattle.zone_model.specs.Rows.{row_text}
+use Rattle.zone_model.specs.Rows.{Row, row_text}
+use Rattle.zone_model.specs.Dumps.{all_rows}
 use Rattle.zone_model.specs.Versions.{Version}
 use Rattle.zone_query.specs.Answers.{Answer, answer}
 use Rattle.zone_query.specs.declared.kind.Kind.{Kind}
@@ -13,15 +14,16 @@ use Rattle.zone_query.specs.Around.{Found, find, walk, back}
 use Rattle.trie_read.specs.declared.found.Kind.{Kind as FoundKind}
 use Rattle.trie_read.specs.declared.found.Kind.TheVariants as there
 use Rattle.job_model.specs.Sizes.{node_count}
-use Rattle.job_model.specs.Commands.{Question, Get, Find, Walk, Back, Stat}
+use Rattle.job_model.specs.Commands.{Question, Get, Find, Walk, Back, Stat, Dump}
 
--- the reply to a question of each kind; how large a version is: its names, and the nodes of its trie
+-- the reply to a question of each kind; how large a version is: its names, and the nodes of its trie; all its records
 pub data Reply : Type 0 where
   OfGet : (answer : Answer) → Reply
   OfFind : (found : Found) → Reply
   OfWalk : (names : List Name) → Reply
   OfBack : (names : List Name) → Reply
   OfStat : (names nodes : ℕ) → Reply
+  OfDump : (rows : List Row) → Reply
 
 -- what a version of the zone of an origin replies
 abbrev pub reply_of : Name → Version → Question → Reply
@@ -30,6 +32,7 @@ reply_of origin version (Find name) = OfFind (find name version)
 reply_of origin version (Walk s) = OfWalk (walk s.start s.most version)
 reply_of origin version (Back s) = OfBack (back s.start s.most version)
 reply_of origin version Stat = OfStat (length version) (node_count version)
+reply_of origin version Dump = OfDump (all_rows version)
 
 -- ---- answers
 
@@ -44,8 +47,12 @@ kind_text Outside = codes "OUTSIDE"
 abbrev pub count_text : ℕ → List ℕ
 count_text n = if n == 0 then [] else codes " " ++ decimal n
 
+-- a word, how many records there are, and a line for each
+abbrev pub rows_text : List ℕ → List Row → List ℕ
+rows_text word rows = word ++ count_text (length rows) ++ codes "\n" ++ flat_map row_text rows
+
 abbrev pub answer_text : Answer → List ℕ
-answer_text a = kind_text a.kind ++ count_text (length a.rows) ++ codes "\n" ++ flat_map row_text a.rows
+answer_text a = rows_text (kind_text a.kind) a.rows
 
 -- ---- names
 
@@ -80,3 +87,4 @@ reply_text (OfFind found) = found_text found
 reply_text (OfWalk names) = names_text (codes "WALK") names
 reply_text (OfBack names) = names_text (codes "BACK") names
 reply_text (OfStat names nodes) = size_text names nodes
+reply_text (OfDump rows) = rows_text (codes "DUMP") rows

@@ -15,6 +15,7 @@ asked_view bytes (asked.Finds name) = phrases.Finds (token_view bytes name)
 asked_view bytes (asked.Walks name number) = phrases.Walks (token_view bytes name) (token_view bytes number)
 asked_view bytes (asked.Backs name number) = phrases.Backs (token_view bytes name) (token_view bytes number)
 asked_view bytes asked.Stats = phrases.Stats
+asked_view bytes asked.Dumps = phrases.Dumps
 
 abbrev pub phrase_view : List ℕ → Phrase → phrases.Phrase
 phrase_view bytes phrase.Worker = phrases.Worker
@@ -36,6 +37,7 @@ AskedPlaced bytes (asked.Finds name) = IsPlaced bytes name
 AskedPlaced bytes (asked.Walks name number) = IsPlaced bytes name × IsPlaced bytes number
 AskedPlaced bytes (asked.Backs name number) = IsPlaced bytes name × IsPlaced bytes number
 AskedPlaced bytes asked.Stats = Unit {0}
+AskedPlaced bytes asked.Dumps = Unit {0}
 
 abbrev pub PhrasePlaced : List ℕ → Phrase → Type 0
 PhrasePlaced bytes phrase.Worker = Unit {0}

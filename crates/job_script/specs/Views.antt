@@ -22,6 +22,7 @@ question_view (question.Find name) = jobs.Find name
 question_view (question.Walk stretch) = jobs.Walk (stretch_view stretch)
 question_view (question.Back stretch) = jobs.Back (stretch_view stretch)
 question_view question.Stat = jobs.Stat
+question_view question.Dump = jobs.Dump
 
 abbrev pub asked_view : Block → Transaction
 asked_view b = record { needs = map prerequisite_view b.needs.items; operations = map operation_view b.operations.items }

@@ -25,6 +25,8 @@ pub enum Question {
     Back(Stretch),
     /// How large the version is.
     Stat,
+    /// All records.
+    Dump,
 }
 
 /// A transaction: how it writes, what it wants of the version that it changes, its operations in order, and its last word.

@@ -22,7 +22,7 @@ pub use commands::{Block, Command, Job, Question, Stretch, Worker};
 pub use laws::jobs_are_spelled;
 pub use outcomes::{Cause, FedOutcome, Outcome, Outcomes, Told, any_fed_refused, any_refused};
 pub use parts::{Parts, split};
-pub use printed::{PrintedRows, push_answer};
+pub use printed::{PrintedRows, push_answer, push_dump};
 pub use refusal::JobRefusal;
 pub use replies::{push_back, push_found, push_size, push_walk};
 pub use report::{print_fed, print_outcomes, print_report};

@@ -21,6 +21,7 @@ pub enum Asked {
     /// A name and a number.
     Backs(Token, Token),
     Stats,
+    Dumps,
 }
 
 /// What a line says, with the tokens of its arguments.
@@ -102,6 +103,22 @@ fn named_question(bytes: &[u8], word: Token, name: Token, rest: &[Token]) -> Opt
     None
 }
 
+// A question whose word stands alone.
+#[tactic(auto, unfolding(job_model::specs::Phrases::asked_of))]
+fn lone_question(bytes: &[u8], word: Token) -> Option<Asked>
+    requires { IsPlaced bytes.now word }
+    ensures said { option_map (asked_view bytes.now) result ≡ phrases.asked_of (token_view bytes.now word ∷ []) }
+    ensures placed { IfSome result (AskedPlaced bytes.now) }
+{
+    if says(bytes, word, b"stat") {
+        Some(Asked::Stats)
+    } else if says(bytes, word, b"dump") {
+        Some(Asked::Dumps)
+    } else {
+        None
+    }
+}
+
 // The question that a word says with what stands behind it.
 #[tactic(auto, unfolding(job_model::specs::Phrases::asked_of))]
 fn asked_of(bytes: &[u8], word: Token, arguments: &[Token]) -> Option<Asked>
@@ -111,11 +128,7 @@ fn asked_of(bytes: &[u8], word: Token, arguments: &[Token]) -> Option<Asked>
     ensures placed { IfSome result (AskedPlaced bytes.now) }
 {
     let Some((name, rest)) = arguments.split_first() else {
-        return if says(bytes, word, b"stat") {
-            Some(Asked::Stats)
-        } else {
-            None
-        };
+        return lone_question(bytes, word);
     };
     named_question(bytes, word, *name, rest)
 }
@@ -142,10 +155,11 @@ fn lone_word<'a>(bytes: &[u8], word: Token) -> Option<Phrase<'a>>
         Some(Phrase::Ends(Ending::Rollback))
     } else if says(bytes, word, b"compact") {
         Some(Phrase::Compacts)
-    } else if says(bytes, word, b"stat") {
-        Some(Phrase::Asks(Asked::Stats))
     } else {
-        None
+        match lone_question(bytes, word) {
+            Some(asked) => Some(Phrase::Asks(asked)),
+            None => None,
+        }
     }
 }
 

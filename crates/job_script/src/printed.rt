@@ -1,43 +1,23 @@
 //! How answers are printed: their records as they are found.
-ghost use Rattle.std.specs.Prelude.{◌≡◌, ◌++◌, [], List, OnOk};
+ghost use Rattle.std.specs.Prelude.{◌≡◌, ◌++◌, [], List, length, OnOk, codes};
 ghost use Rattle.std.specs.List.{flat_map};
 ghost use Rattle.zone_model.specs.Rows.{Row, row_text, rows_of};
-ghost use Rattle.job_model.specs.Replies.{answer_text, kind_text};
+ghost use Rattle.job_model.specs.Replies.{answer_text, kind_text, rows_text};
 ghost use Rattle.job_script.specs.Printed.{HasPrinted};
 
 use crate::replies::push_kind;
 use dns_name::Name;
-use rr_data::{SetView, push_data, push_type};
+use rr_data::{SetView, push_record};
 use std::alloc::{AllocError, Global};
 use zone_query::{Kind, RowSink};
-use zone_text::push_decimal;
 
-// A record of an RRset as a line of a master file.
-fn push_row(
-    out: &mut Vec<u8>,
-    owner: &Name,
-    set: &SetView<'_>,
-    octets: &[u8],
-) -> Result<(), AllocError>
-    ensures { OnOk result (out.new.items ≡ out.old.items ++ row_text (record { owner = owner.now; rtype = set.now.rtype; ttl = set.now.ttl; octets = octets.now })) }
-{
-    owner.push_text(out)?;
-    out.extend_from_slice(b" ")?;
-    push_decimal(out, u64::from(set.ttl()))?;
-    out.extend_from_slice(b" IN ")?;
-    push_type(set.rtype(), out)?;
-    out.extend_from_slice(b" ")?;
-    push_data(set.rtype(), octets, out)?;
-    out.extend_from_slice(b"\n")
-}
-
-// The records of an RRset.
+// The records of an RRset, each a line of a master file.
 fn push_set(out: &mut Vec<u8>, owner: &Name, set: &SetView<'_>) -> Result<(), AllocError>
     ensures { OnOk result (out.new.items ≡ out.old.items ++ flat_map row_text (rows_of owner.now set.now)) }
 {
     let mut records = set.records();
     while let Some(octets) = records.next() {
-        push_row(out, owner, set, octets)?;
+        push_record(None, true, owner, set, octets, out)?;
     }
     Ok(())
 }
@@ -94,6 +74,15 @@ fn kind_name(kind: Kind) -> &'static [u8]
         Kind::Referral => b"REFERRAL",
         Kind::Outside => b"OUTSIDE",
     }
+}
+
+/// Pushes how many records a version has, and their lines.
+pub fn push_dump(out: &mut Vec<u8>, lines: &[u8], count: u64) -> Result<(), AllocError>
+    ensures { (records : List Row) → lines.now ≡ flat_map row_text records → count ≡ length records
+        → OnOk result (out.new.items ≡ out.old.items ++ rows_text (codes "DUMP") records) }
+{
+    push_kind(out, b"DUMP", count)?;
+    out.extend_from_slice(lines)
 }
 
 /// Pushes the kind of an answer, and its records.

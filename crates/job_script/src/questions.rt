@@ -98,5 +98,6 @@ pub fn question_of(
             Err(refusal) => Err(refusal),
         },
         Asked::Stats => Ok(Question::Stat),
+        Asked::Dumps => Ok(Question::Dump),
     }
 }

@@ -42,7 +42,7 @@ numbers_same : (vs : List Known) (a b : Known) → number_of a.pass ≡ number_o
 numbers_same [] a b e = ap (λ (n : ℕ). n ∷ []) e
 numbers_same (v ∷ vs) a b e = ap (λ (ks : List ℕ). number_of v.pass ∷ ks) (numbers_same vs a b e)
 
-number_with : (p : Option Own) (n : ℕ) → number_of (with_pinned p n) ≡ number_of p
+pub number_with : (p : Option Own) (n : ℕ) → number_of (with_pinned p n) ≡ number_of p
 number_with None n = refl
 number_with (Some own) n = refl
 

@@ -14,3 +14,4 @@ pub mod OpenLaws
 pub mod ServeLaws
 pub mod OrderLaws
 pub mod FedRunLaws
+pub mod DumpLaws

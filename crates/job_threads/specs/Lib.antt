@@ -9,3 +9,4 @@ pub mod Runs
 pub mod Endings
 pub mod Feeds
 pub mod Zones
+pub mod Dumps

@@ -4,6 +4,7 @@
 mod alone;
 mod asking;
 mod compactions;
+mod dumping;
 mod feeding;
 mod gate;
 mod holding;
@@ -17,6 +18,7 @@ mod transactions;
 mod worker;
 mod zone;
 
+pub use dumping::{Dumped, dump_zone};
 pub use feeding::FedFinished;
 pub use gate::Gate;
 pub use job::{Finished, run_job};

@@ -7,9 +7,12 @@ ghost use Rattle.job_script.specs.Views.{question_view};
 
 use crate::room::Room;
 use dns_name::Name;
-use job_script::{PrintedRows, Question, push_answer, push_back, push_found, push_size, push_walk};
+use job_script::{
+    PrintedRows, Question, push_answer, push_back, push_dump, push_found, push_size, push_walk,
+};
 use std::alloc::{AllocError, Global};
 use trie_read::Reading;
+use zone_dump::dump_text;
 use zone_query::{Walker, answer_into, back, find, walk};
 
 // Pushes what is printed of a version's reply to a question.
@@ -45,6 +48,11 @@ fn push_reply<V: Reading>(
         Question::Back(stretch) => {
             let names = back(alloc, version, &stretch.start, stretch.most as usize)?;
             push_back(out, &names)
+        }
+        Question::Dump => {
+            let mut lines = Vec::new(alloc);
+            let count = dump_text(alloc, version, item, &mut lines)?;
+            push_dump(out, &lines, count)
         }
         Question::Stat => {
             let names = version.count();

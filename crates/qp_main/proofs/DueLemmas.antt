@@ -1,8 +1,12 @@
 -- What is due for an input.
-use Rattle.std.proofs.Common.{◌≡◌, ◌∙◌, ℕ, ◌+◌, Bool, true, false, cond, leb, List, length, Option, Some, None, Result, Ok, Err, IfOk, refl, sym, ap, subst, arith, codes, length-append, append-nil, ◌++◌, ◌≤◌}
+use Rattle.std.proofs.Common.{◌≡◌, ◌∙◌, ℕ, ◌+◌, Bool, true, false, cond, leb, List, [], length, Option, Some, None, Result, Ok, Err, IfOk, refl, sym, ap, subst, arith, codes, length-append, append-nil, ◌++◌, ◌≤◌}
 use Rattle.std.proofs.lemmas.Bool.Decides.{nat_tests}
 use Rattle.std.specs.Io.KnownBytes.{Consumes, IsAtEnd}
-use Rattle.command_line.specs.Invocations.{Invocation, Verb, Run, Feed, Check, Make}
+use Rattle.outer_io.specs.Bytes.{Held}
+use Rattle.outer_io.proofs.GrowsLemmas.{Grows-nil}
+use Rattle.zone_model.specs.Dumps.{dump}
+use Rattle.zone_model.specs.declared.Style.{Style}
+use Rattle.command_line.specs.Invocations.{Invocation, Verb, Run, Feed, Check, Make, Dump}
 use Rattle.job_model.specs.Loads.{Load, made_origin, made_text}
 use Rattle.zone_model.specs.Names.{Name}
 use Rattle.zone_model.specs.Versions.{Version}
@@ -18,8 +22,8 @@ use Rattle.zone_model.specs.MasterFile.{Zone}
 use Rattle.zone_text.specs.Views.{Reads}
 use Rattle.zone_text.specs.declared.refusal.ZoneRefusal.{ZoneRefusal}
 use Rattle.zone_text.specs.declared.refusal.ZoneRefusal.TheVariants as refusal
-use Rattle.qp_main.specs.Fits.{fits, opened_text}
-use Rattle.qp_main.specs.Due.{Due, DueBytes, DueGiven, DueInput, Answers, FedAnswers, Checks, EndsLoad, IfFits, Ends, JobRefuses, Refuses, RefusesScript, Reported, FedReported, IsWritten, input_of}
+use Rattle.qp_main.specs.Fits.{fits, no_room_text, opened_text}
+use Rattle.qp_main.specs.Due.{Due, DueBytes, DueGiven, DueInput, Answers, FedAnswers, Checks, CutShort, Dumps, EndsLoad, IfFits, Ends, JobRefuses, Refuses, RefusesScript, Reported, FedReported, IsWritten, Written, input_of, is_streamed, zone_kind_text, refusal_text}
 use Rattle.qp_main.specs.declared.telling.Telling.{Telling}
 use Rattle.qp_main.specs.declared.telling.Telling.TheVariants.{Report, Summary}
 use Rattle.qp_main.specs.declared.status.Status.{Status}
@@ -53,6 +57,18 @@ made_due i load bytes s text left v made le h =
     let given : input_of i.verb left ≡ Some bytes = ap (λ (w : Verb). input_of w left) v ∙ ap (λ (l : List ℕ). Some l) (sym made) in
     subst (λ (o : Option (List ℕ)). DueGiven i o s text) (sym given) (subst (λ (b : Bool). DueBytes i bytes b s text) (sym (within_limit (length bytes) le)) h)
 
+-- ---- what was written of what is due, where that is due for more
+
+pub written_as : (P Q : Status → List ℕ → Type 0) (before now : Held) (s : Status) → ((s : Status) (text : List ℕ) → P s text → Q s text) → Written P before now s → Written Q before now s
+written_as P Q before now s f w = record { text = w.text; is_due = f s w.text w.is_due; grew = w.grew }
+
+pub cut_as : (P Q : Status → List ℕ → Type 0) (before now : Held) → ((s : Status) (text : List ℕ) → P s text → Q s text) → CutShort P before now → CutShort Q before now
+cut_as P Q before now f c = record { status = c.status; text = c.text; is_due = f c.status c.text c.is_due; grew = c.grew }
+
+-- nothing was written yet of what is due
+pub nothing_yet : (P : Status → List ℕ → Type 0) (held : Held) → (s : Status) × (text : List ℕ) × P s text → CutShort P held held
+nothing_yet P held due = record { status = due.0; text = due.1; is_due = due.2; grew = (0, omega arith, Grows-nil held) }
+
 pub ok_map : {A E : Type 0} (r : Result A E) {P Q : A → Type 0} → ((x : A) → P x → Q x) → IfOk r P → IfOk r Q
 ok_map (Ok x) f h = f x h
 ok_map (Err e) f h = tt
@@ -61,6 +77,41 @@ ok_map (Err e) f h = tt
 
 pub fitting : (chunks : ℕ) (zone : Version) (F : Status → List ℕ → Type 0) (s : Status) (text : List ℕ) → fits chunks zone ≡ true → F s text → IfFits (fits chunks zone) chunks zone F s text
 fitting chunks zone F s text e h = subst (λ (b : Bool). IfFits b chunks zone F s text) (sym e) h
+
+-- ---- dumps
+
+-- something is due for each input of a dump
+
+some_fits : (b : Bool) (chunks : ℕ) (zone : Version) (F : Status → List ℕ → Type 0) → (s : Status) × (text : List ℕ) × F s text → (s : Status) × (text : List ℕ) × IfFits b chunks zone F s text
+some_fits true chunks zone F due = due
+some_fits false chunks zone F due = (status.DoesNotFit, no_room_text chunks zone, refl, refl)
+
+pub some_dump : (chunks : ℕ) (style : Style) (origin : Name) (r : Result Version (Refused ZoneKind)) → (s : Status) × (text : List ℕ) × Dumps chunks style origin r s text
+some_dump chunks style origin (Ok zone) = some_fits (fits chunks zone) chunks zone (Ends status.Done (dump style origin zone)) (status.Done, dump style origin zone, refl, refl)
+some_dump chunks style origin (Err e) = (status.ZoneRefused, refusal_text (codes "zone") e.line (zone_kind_text e.kind), refl, refl)
+
+some_input : (verb : Verb) (chunks : ℕ) (origin : Name) (bytes : List ℕ) → is_streamed verb ≡ true → (s : Status) × (text : List ℕ) × DueInput verb chunks origin bytes s text
+some_input Run chunks origin bytes e = absurd cc
+some_input (Feed workers) chunks origin bytes e = absurd cc
+some_input Check chunks origin bytes e = absurd cc
+some_input (Make load) chunks origin bytes e = absurd cc
+some_input (Dump style) chunks origin bytes e = some_dump chunks style origin (zone_of origin (zone_lines bytes))
+
+some_bytes : (i : Invocation) (bytes : List ℕ) (b : Bool) → is_streamed i.verb ≡ true → (s : Status) × (text : List ℕ) × DueBytes i bytes b s text
+some_bytes i bytes true e = some_input i.verb i.chunks i.origin bytes e
+some_bytes i bytes false e = (status.TooLong, codes "input over 16777216 bytes\n", refl, refl)
+
+some_given : (i : Invocation) (left : Option (List ℕ)) → is_streamed i.verb ≡ true → (s : Status) × (text : List ℕ) × DueGiven i left s text
+some_given i None e = (status.Done, [], tt)
+some_given i (Some bytes) e = some_bytes i bytes (leb (length bytes) 16777216) e
+
+pub some_due : (i : Invocation) (left : Option (List ℕ)) → is_streamed i.verb ≡ true → (s : Status) × (text : List ℕ) × Due (Some i) left s text
+some_due i left e = some_given i (input_of i.verb left) e
+
+-- a zone that its reader refused
+pub dump_stops : (chunks : ℕ) (style : Style) (origin : Name) (bytes : List ℕ) (lines : List (List ℕ)) (r : ZoneRefusal) (s : Status) (text : List ℕ) → lines ≡ zone_lines bytes → Reads {R = Zone} (Err r) (λ z. z.pairs) (zone_of origin lines) → Refuses r s text → Dumps chunks style origin (zone_of origin (zone_lines bytes)) s text
+dump_stops chunks style origin bytes lines (refusal.Refused line kind) s text same z h = subst (λ (x : Result Version (Refused ZoneKind)). Dumps chunks style origin x s text) (sym (ap (zone_of origin) (sym same) ∙ z)) h
+dump_stops chunks style origin bytes lines refusal.Memory s text same z h = absurd h
 
 -- ---- jobs
 
@@ -213,11 +264,16 @@ check_answer : (chunks : ℕ) (r : Result Version (Refused ZoneKind)) (s : Statu
 check_answer chunks (Ok zone) s text h = if_fits_answers (fits chunks zone) chunks zone (Ends status.Done (opened_text zone)) s text (λ k. answer_as s status.Done k.0 tt) h
 check_answer chunks (Err e) s text h = answer_as s status.ZoneRefused h.0 tt
 
+dump_answer : (chunks : ℕ) (style : Style) (origin : Name) (r : Result Version (Refused ZoneKind)) (s : Status) (text : List ℕ) → Dumps chunks style origin r s text → IsAnswer s
+dump_answer chunks style origin (Ok zone) s text h = if_fits_answers (fits chunks zone) chunks zone (Ends status.Done (dump style origin zone)) s text (λ k. answer_as s status.Done k.0 tt) h
+dump_answer chunks style origin (Err e) s text h = answer_as s status.ZoneRefused h.0 tt
+
 pub due_answer : (verb : Verb) (chunks : ℕ) (origin : Name) (bytes : List ℕ) (s : Status) (text : List ℕ) → DueInput verb chunks origin bytes s text → IsAnswer s
 due_answer Run chunks origin bytes s text h = job_answer Report chunks (job_of origin bytes) s text h
 due_answer (Feed workers) chunks origin bytes s text h = fed_answer workers chunks (fed_job_of origin bytes) s text h
 due_answer (Make load) chunks origin bytes s text h = job_answer Summary chunks (job_of origin bytes) s text h
 due_answer Check chunks origin bytes s text h = check_answer chunks (zone_of origin (zone_lines bytes)) s text h
+due_answer (Dump style) chunks origin bytes s text h = dump_answer chunks style origin (zone_of origin (zone_lines bytes)) s text h
 
 pub answer_written : (s : Status) → IsAnswer s → IsWritten s
 answer_written status.Done a = tt

@@ -17,7 +17,9 @@ use Rattle.job_model.specs.Loads.{made_text}
 use Rattle.zone_text.specs.declared.refusal.ZoneRefusal.{ZoneRefusal}
 use Rattle.zone_text.specs.declared.refusal.ZoneRefusal.TheVariants as refusal
 use Rattle.outer_io.specs.Bytes.{Held, Grows, GrowsByFront}
-use Rattle.command_line.specs.Invocations.{Invocation, Verb, Run, Feed, Check, Make}
+use Rattle.zone_model.specs.Dumps.{dump}
+use Rattle.zone_model.specs.declared.Style.{Style}
+use Rattle.command_line.specs.Invocations.{Invocation, Verb, Run, Feed, Check, Make, Dump}
 use Rattle.qp_main.specs.Fits.{fits, no_room_text, opened_text}
 use Rattle.qp_main.specs.Tellings.{told_text}
 use Rattle.qp_main.specs.declared.telling.Telling.{Telling}
@@ -122,12 +124,18 @@ abbrev pub Checks : ℕ → Result Version (Refused ZoneKind) → Status → Lis
 Checks chunks (Ok zone) = IfFits (fits chunks zone) chunks zone (Ends status.Done (opened_text zone))
 Checks chunks (Err e) = ZoneRefuses e
 
--- what is due for bytes within the limit; a check reads the zone alone
+-- the status and the text for the zone that bytes say: all of it as a master file
+abbrev pub Dumps : ℕ → Style → Name → Result Version (Refused ZoneKind) → Status → List ℕ → Type 0
+Dumps chunks style origin (Ok zone) = IfFits (fits chunks zone) chunks zone (Ends status.Done (dump style origin zone))
+Dumps chunks style origin (Err e) = ZoneRefuses e
+
+-- what is due for bytes within the limit; a check and a dump read the zone alone
 abbrev pub DueInput : Verb → ℕ → Name → List ℕ → Status → List ℕ → Type 0
 DueInput Run chunks origin bytes = Answers Report chunks (job_of origin bytes)
 DueInput (Feed workers) chunks origin bytes = FedAnswers workers chunks (fed_job_of origin bytes)
 DueInput (Make load) chunks origin bytes = Answers Summary chunks (job_of origin bytes)
 DueInput Check chunks origin bytes = Checks chunks (zone_of origin (zone_lines bytes))
+DueInput (Dump style) chunks origin bytes = Dumps chunks style origin (zone_of origin (zone_lines bytes))
 
 -- the most bytes of an input
 abbrev pub input_limit : ℕ
@@ -143,6 +151,7 @@ abbrev pub input_of : Verb → Option (List ℕ) → Option (List ℕ)
 input_of Run left = left
 input_of (Feed workers) left = left
 input_of Check left = left
+input_of (Dump style) left = left
 input_of (Make load) left = Some (made_text load)
 
 -- Of a source that doesn't tell its bytes nothing is said.
@@ -160,6 +169,7 @@ abbrev pub MakesInput : Verb → Type 0
 MakesInput Run = ⊥
 MakesInput (Feed workers) = ⊥
 MakesInput Check = ⊥
+MakesInput (Dump style) = ⊥
 MakesInput (Make load) = Unit {0}
 
 abbrev pub IsMade : Option Invocation → Type 0
@@ -192,28 +202,53 @@ IsWritten status.SourceFault = ⊥
 IsWritten status.SinkFault = ⊥
 IsWritten status.NoMemory = ⊥
 
+-- it is written while it is made, and not when all of it is there
+abbrev pub is_streamed : Verb → Bool
+is_streamed Run = false
+is_streamed (Feed workers) = false
+is_streamed Check = false
+is_streamed (Make load) = false
+is_streamed (Dump style) = true
+
+abbrev pub streams : Option Invocation → Bool
+streams None = false
+streams (Some invocation) = is_streamed invocation.verb
+
 -- the status says that nothing was written
-abbrev pub IsUnwritten : Status → Type 0
-IsUnwritten status.SourceFault = Unit {0}
-IsUnwritten status.NoMemory = Unit {0}
-IsUnwritten status.Done = ⊥
-IsUnwritten status.SomeRefused = ⊥
-IsUnwritten status.WordsRefused = ⊥
-IsUnwritten status.ZoneRefused = ⊥
-IsUnwritten status.ScriptRefused = ⊥
-IsUnwritten status.TooLong = ⊥
-IsUnwritten status.DoesNotFit = ⊥
-IsUnwritten status.SinkFault = ⊥
+abbrev pub IsUnwritten : Bool → Status → Type 0
+IsUnwritten streamed status.SourceFault = Unit {0}
+IsUnwritten streamed status.NoMemory = streamed ≡ false
+IsUnwritten streamed status.Done = ⊥
+IsUnwritten streamed status.SomeRefused = ⊥
+IsUnwritten streamed status.WordsRefused = ⊥
+IsUnwritten streamed status.ZoneRefused = ⊥
+IsUnwritten streamed status.ScriptRefused = ⊥
+IsUnwritten streamed status.TooLong = ⊥
+IsUnwritten streamed status.DoesNotFit = ⊥
+IsUnwritten streamed status.SinkFault = ⊥
+
+-- the status says that what was due may stand up to some place
+abbrev pub MayBeShort : Bool → Status → Type 0
+MayBeShort streamed status.SinkFault = Unit {0}
+MayBeShort streamed status.NoMemory = streamed ≡ true
+MayBeShort streamed status.SourceFault = ⊥
+MayBeShort streamed status.Done = ⊥
+MayBeShort streamed status.SomeRefused = ⊥
+MayBeShort streamed status.WordsRefused = ⊥
+MayBeShort streamed status.ZoneRefused = ⊥
+MayBeShort streamed status.ScriptRefused = ⊥
+MayBeShort streamed status.TooLong = ⊥
+MayBeShort streamed status.DoesNotFit = ⊥
 
 -- what is due was written whole
-pub record Written (invocation : Option Invocation) (left : Option (List ℕ)) (before now : Held) (s : Status) : Type 0 where
+pub record Written (due : Status → List ℕ → Type 0) (before now : Held) (s : Status) : Type 0 where
   pub text : List ℕ
-  pub due : Due invocation left s text
+  pub is_due : due s text
   pub grew : Grows before now text
 
 -- what is due, under a status of its own, was written up to some place
-pub record CutShort (invocation : Option Invocation) (left : Option (List ℕ)) (before now : Held) : Type 0 where
+pub record CutShort (due : Status → List ℕ → Type 0) (before now : Held) : Type 0 where
   pub status : Status
   pub text : List ℕ
-  pub due : Due invocation left status text
+  pub is_due : due status text
   pub grew : GrowsByFront before now text

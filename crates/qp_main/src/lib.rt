@@ -1,7 +1,9 @@
 //! The program: reads a job (a zone and its workers' script), runs it, and prints the report; or hands one list of commands
-//! out to workers; or reads a zone and says how large its index is; or makes a job, runs it, and sums it up.
+//! out to workers; or reads a zone and says how large its index is, or writes it as a master file; or makes a job, runs it, and sums
+//! it up.
 #![tactic(auto)]
 
+mod dumping;
 mod feeding;
 mod items;
 mod program;
@@ -10,6 +12,7 @@ mod report;
 mod reporting;
 mod status;
 mod telling;
+mod writing;
 
 pub use items::zone_items;
 pub use job_make::{Load, make_text};

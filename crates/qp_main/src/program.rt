@@ -15,20 +15,22 @@ ghost use Rattle.job_make.specs.Views.{load_view};
 ghost use Rattle.command_line.specs.Invocations.{IsUnder, Make};
 ghost use Rattle.command_line.specs.Views.{invocation_view, verb_view};
 ghost use Rattle.command_line.specs.Words.{invocation_of};
-ghost use Rattle.qp_main.specs.Due.{Answers, Checks, CutShort, DueInput, EndsLoad, IsMade, IsUnwritten, IsWritten, Written, input_of};
+ghost use Rattle.qp_main.specs.Due.{Answers, Checks, CutShort, Due, DueInput, EndsLoad, IsMade, IsUnwritten, IsWritten, MayBeShort, Written, input_of, is_streamed, streams};
 
+use crate::dumping::dump_input;
 use crate::feeding::answer_list;
 use crate::items::zone_items;
 use crate::refusing::{refuse_script, zone_line};
 use crate::reporting::{report_job, report_size};
 use crate::status::Status;
 use crate::telling::Telling;
+use crate::writing::write_due;
 use command_line::{Invocation, Verb, invocation_of};
 use job_make::{Load, make_text};
 use job_script::{Job, JobRefusal, Parts, read_job, split};
 use job_threads::{Gate, table_for};
 use master_file::read_zone;
-use outer_io::{ReadRefusal, Sink, Source, read_all, write_all};
+use outer_io::{ReadRefusal, Sink, Source, read_all};
 use std::alloc::{AllocError, Global};
 use std::sync::Wait;
 use std::thread::Threads;
@@ -114,38 +116,35 @@ fn check_zone<R: Threads + Wait + Sync, G: Gate>(
     report_size(rt, alloc, invocation, blank, &items, gate)
 }
 
-// The status and the text for the bytes of an input.
-fn answer<R: Threads + Wait + Sync, G: Gate>(
+// Runs the bytes of an input and writes.
+fn serve_input<R: Threads + Wait + Sync, K: Sink, G: Gate>(
     rt: &R,
     alloc: Global,
     invocation: &Invocation,
     bytes: Vec<u8>,
+    sink: &mut K,
     gate: &G,
-) -> Result<(Status, Vec<u8>), AllocError>
+) -> Status
     requires { length bytes.items ≤ 16777216 }
-    ensures { IfOk result (λ x. DueInput (verb_view invocation.now.verb) invocation.now.chunks invocation.now.origin bytes.items x.0 x.1.items) }
+    ensures written { IsWritten result → Written (DueInput (verb_view invocation.now.verb) invocation.now.chunks invocation.now.origin bytes.items) (K.held sink.old) (K.held sink.new) result }
+    ensures cut_short { MayBeShort (is_streamed (verb_view invocation.now.verb)) result
+        → CutShort (DueInput (verb_view invocation.now.verb) invocation.now.chunks invocation.now.origin bytes.items) (K.held sink.old) (K.held sink.new) }
+    ensures sink_fault { result ≡ Status.SinkFault → Rose (K.faults sink.old) (K.faults sink.new) }
+    ensures quiet_sink { (result ≡ Status.SinkFault → ⊥) → K.faults sink.new ≡ K.faults sink.old }
+    ensures unwritten { IsUnwritten (is_streamed (verb_view invocation.now.verb)) result → K.held sink.new ≡ K.held sink.old }
+    ensures others { result ≡ Status.SourceFault → ⊥ }
 {
     let parts = split(&bytes);
-    match invocation.verb {
+    let due = match invocation.verb {
+        Verb::Dump(style) => return dump_input(alloc, invocation, style, bytes, parts, sink),
         Verb::Run => answer_job(rt, alloc, invocation, bytes, parts, Telling::Report, gate),
         Verb::Make(_) => answer_job(rt, alloc, invocation, bytes, parts, Telling::Summary, gate),
         Verb::Feed(crew) => answer_list(rt, alloc, invocation, bytes, parts, crew.workers, gate),
         Verb::Check => check_zone(rt, alloc, invocation, bytes, parts, gate),
-    }
-}
-
-// Writes the text that is due under a status.
-fn write_due<K: Sink>(sink: &mut K, status: Status, text: &[u8]) -> Status
-    requires { IsWritten status }
-    ensures whole { IsWritten result → (result ≡ status) × Grows (K.held sink.old) (K.held sink.new) text.now }
-    ensures fault { result ≡ Status.SinkFault → Rose (K.faults sink.old) (K.faults sink.new) }
-    ensures quiet { (result ≡ Status.SinkFault → ⊥) → K.faults sink.new ≡ K.faults sink.old }
-    ensures front { result ≡ Status.SinkFault → GrowsByFront (K.held sink.old) (K.held sink.new) text.now }
-    ensures only { (result ≡ Status.SourceFault → ⊥) × (result ≡ Status.NoMemory → ⊥) }
-{
-    match write_all(sink, text) {
-        Ok(()) => status,
-        Err(_) => Status::SinkFault,
+    };
+    match due {
+        Ok((status, text)) => write_due(sink, status, &text),
+        Err(_) => Status::NoMemory,
     }
 }
 
@@ -160,21 +159,17 @@ fn serve_made<R: Threads + Wait + Sync, K: Sink, G: Gate>(
 ) -> Status
     requires made { verb_view invocation.now.verb ≡ Make (load_view load.now) }
     requires under { invocation.now.origin ≡ made_origin }
-    ensures written { (left : Option (List ℕ)) → IsWritten result → Written (Some (invocation_view invocation.now)) left (K.held sink.old) (K.held sink.new) result }
-    ensures cut_short { (left : Option (List ℕ)) → result ≡ Status.SinkFault → CutShort (Some (invocation_view invocation.now)) left (K.held sink.old) (K.held sink.new) }
+    ensures written { (left : Option (List ℕ)) → IsWritten result → Written (Due (Some (invocation_view invocation.now)) left) (K.held sink.old) (K.held sink.new) result }
+    ensures cut_short { (left : Option (List ℕ)) → result ≡ Status.SinkFault → CutShort (Due (Some (invocation_view invocation.now)) left) (K.held sink.old) (K.held sink.new) }
     ensures sink_fault { result ≡ Status.SinkFault → Rose (K.faults sink.old) (K.faults sink.new) }
     ensures quiet_sink { (result ≡ Status.SinkFault → ⊥) → K.faults sink.new ≡ K.faults sink.old }
-    ensures unwritten { IsUnwritten result → K.held sink.new ≡ K.held sink.old }
-    ensures others { (result ≡ Status.SourceFault → ⊥) × (result ≡ Status.TooLong → ⊥) × (result ≡ Status.WordsRefused → ⊥) }
+    ensures unwritten { result ≡ Status.NoMemory → K.held sink.new ≡ K.held sink.old }
     ensures load { EndsLoad result }
 {
     let Ok(bytes) = make_text(alloc, load) else {
         return Status::NoMemory;
     };
-    let Ok((status, text)) = answer(rt, alloc, invocation, bytes, gate) else {
-        return Status::NoMemory;
-    };
-    write_due(sink, status, &text)
+    serve_input(rt, alloc, invocation, bytes, sink, gate)
 }
 
 // Reads, runs and writes.
@@ -187,13 +182,14 @@ fn serve<R: Threads + Wait + Sync, S: Source, K: Sink, G: Gate>(
     gate: &G,
 ) -> Status
     requires { (left : Option (List ℕ)) → input_of (verb_view invocation.now.verb) left ≡ left }
-    ensures written { IsWritten result → Written (Some (invocation_view invocation.now)) (S.left source.old) (K.held sink.old) (K.held sink.new) result }
-    ensures cut_short { result ≡ Status.SinkFault → CutShort (Some (invocation_view invocation.now)) (S.left source.old) (K.held sink.old) (K.held sink.new) }
+    ensures written { IsWritten result → Written (Due (Some (invocation_view invocation.now)) (S.left source.old)) (K.held sink.old) (K.held sink.new) result }
+    ensures cut_short { MayBeShort (is_streamed (verb_view invocation.now.verb)) result
+        → CutShort (Due (Some (invocation_view invocation.now)) (S.left source.old)) (K.held sink.old) (K.held sink.new) }
     ensures sink_fault { result ≡ Status.SinkFault → Rose (K.faults sink.old) (K.faults sink.new) }
     ensures quiet_sink { (result ≡ Status.SinkFault → ⊥) → K.faults sink.new ≡ K.faults sink.old }
     ensures source_fault { result ≡ Status.SourceFault → Rose (S.faults source.old) (S.faults source.new) }
     ensures quiet_source { (result ≡ Status.SourceFault → ⊥) → S.faults source.new ≡ S.faults source.old }
-    ensures unwritten { IsUnwritten result → K.held sink.new ≡ K.held sink.old }
+    ensures unwritten { IsUnwritten (is_streamed (verb_view invocation.now.verb)) result → K.held sink.new ≡ K.held sink.old }
     ensures taken { result ≡ Status.TooLong → (bytes : List ℕ) × Consumes (S.left source.old) (S.left source.new) bytes × (length bytes ≡ 16777217) }
     ensures words { result ≡ Status.WordsRefused → ⊥ }
 {
@@ -205,10 +201,7 @@ fn serve<R: Threads + Wait + Sync, S: Source, K: Sink, G: Gate>(
         }
         Err(ReadRefusal::Memory) => return Status::NoMemory,
     };
-    let Ok((status, text)) = answer(rt, alloc, invocation, bytes, gate) else {
-        return Status::NoMemory;
-    };
-    write_due(sink, status, &text)
+    serve_input(rt, alloc, invocation, bytes, sink, gate)
 }
 
 // Reads or makes an input, runs it and writes.
@@ -221,23 +214,25 @@ fn serve_invocation<R: Threads + Wait + Sync, S: Source, K: Sink, G: Gate>(
     gate: &G,
 ) -> Status
     requires { IsUnder (verb_view invocation.now.verb) invocation.now.origin }
-    ensures written { IsWritten result → Written (Some (invocation_view invocation.now)) (S.left source.old) (K.held sink.old) (K.held sink.new) result }
-    ensures cut_short { result ≡ Status.SinkFault → CutShort (Some (invocation_view invocation.now)) (S.left source.old) (K.held sink.old) (K.held sink.new) }
+    ensures written { IsWritten result → Written (Due (Some (invocation_view invocation.now)) (S.left source.old)) (K.held sink.old) (K.held sink.new) result }
+    ensures cut_short { MayBeShort (is_streamed (verb_view invocation.now.verb)) result
+        → CutShort (Due (Some (invocation_view invocation.now)) (S.left source.old)) (K.held sink.old) (K.held sink.new) }
     ensures sink_fault { result ≡ Status.SinkFault → Rose (K.faults sink.old) (K.faults sink.new) }
     ensures quiet_sink { (result ≡ Status.SinkFault → ⊥) → K.faults sink.new ≡ K.faults sink.old }
     ensures source_fault { result ≡ Status.SourceFault → Rose (S.faults source.old) (S.faults source.new) }
     ensures quiet_source { (result ≡ Status.SourceFault → ⊥) → S.faults source.new ≡ S.faults source.old }
-    ensures unwritten { IsUnwritten result → K.held sink.new ≡ K.held sink.old }
+    ensures unwritten { IsUnwritten (is_streamed (verb_view invocation.now.verb)) result → K.held sink.new ≡ K.held sink.old }
     ensures taken { result ≡ Status.TooLong → (bytes : List ℕ) × Consumes (S.left source.old) (S.left source.new) bytes × (length bytes ≡ 16777217) }
     ensures words { result ≡ Status.WordsRefused → ⊥ }
     ensures made { IsMade (Some (invocation_view invocation.now)) → source.new ≡ source.old }
     ensures load { IsMade (Some (invocation_view invocation.now)) → EndsLoad result }
 {
     match invocation.verb {
+        Verb::Make(load) => serve_made(rt, alloc, invocation, &load, sink, gate),
         Verb::Run => serve(rt, alloc, invocation, source, sink, gate),
         Verb::Feed(_) => serve(rt, alloc, invocation, source, sink, gate),
         Verb::Check => serve(rt, alloc, invocation, source, sink, gate),
-        Verb::Make(load) => serve_made(rt, alloc, invocation, &load, sink, gate),
+        Verb::Dump(_) => serve(rt, alloc, invocation, source, sink, gate),
     }
 }
 
@@ -254,17 +249,20 @@ pub fn run<R: Threads + Wait + Sync, S: Source, K: Sink, G: Gate>(
     gate: &G,
 ) -> Status
     // The answers of committed versions: what is written whole is due for the words and the bytes.
-    ensures written { IsWritten result → Written (invocation_of (map string_bytes words.now)) (S.left source.old) (K.held sink.old) (K.held sink.new) result }
+    ensures written { IsWritten result → Written (Due (invocation_of (map string_bytes words.now)) (S.left source.old)) (K.held sink.old) (K.held sink.new) result }
 
-    // The sink failed, and has a prefix of what was due. Under any other status no call on it failed.
+    // The sink failed, and has a prefix of what was due; so it has where memory ran out under a dump, which is written while it is
+    // made. Under any status but the sink's no call on it failed.
     ensures sink_fault { result ≡ Status.SinkFault → Rose (K.faults sink.old) (K.faults sink.new) }
     ensures quiet_sink { (result ≡ Status.SinkFault → ⊥) → K.faults sink.new ≡ K.faults sink.old }
-    ensures cut_short { result ≡ Status.SinkFault → CutShort (invocation_of (map string_bytes words.now)) (S.left source.old) (K.held sink.old) (K.held sink.new) }
+    ensures cut_short { MayBeShort (streams (invocation_of (map string_bytes words.now))) result
+        → CutShort (Due (invocation_of (map string_bytes words.now)) (S.left source.old)) (K.held sink.old) (K.held sink.new) }
 
-    // The source failed, or memory ran out: nothing was written. Under any status but the source's no call on it failed.
+    // The source failed, or memory ran out, but not under a dump: nothing was written. Under any status but the source's no call on
+    // it failed.
     ensures source_fault { result ≡ Status.SourceFault → Rose (S.faults source.old) (S.faults source.new) }
     ensures quiet_source { (result ≡ Status.SourceFault → ⊥) → S.faults source.new ≡ S.faults source.old }
-    ensures unwritten { IsUnwritten result → K.held sink.new ≡ K.held sink.old }
+    ensures unwritten { IsUnwritten (streams (invocation_of (map string_bytes words.now))) result → K.held sink.new ≡ K.held sink.old }
 
     // Refused words leave the source as it is, and no other words are told to be so. So does a load, of
     // which neither the zone nor the script is refused. An input that is too long is read to one byte past the limit.

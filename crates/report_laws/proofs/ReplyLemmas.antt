@@ -6,6 +6,7 @@ use Rattle.zone_model.specs.NameText.{text_of}
 use Rattle.zone_model.specs.Rows.{Row, row_text}
 use Rattle.zone_model.specs.DataText.{type_text, data_text}
 use Rattle.zone_model.specs.Versions.{Version}
+use Rattle.zone_model.specs.Dumps.{all_rows}
 use Rattle.zone_query.specs.Answers.{Answer, answer}
 use Rattle.zone_query.specs.declared.kind.Kind.{Kind}
 use Rattle.zone_query.specs.declared.kind.Kind.TheVariants.{Answered, Nodata, Nxdomain, Referral, Outside}
@@ -13,8 +14,8 @@ use Rattle.zone_query.specs.Around.{Found, find, walk, back}
 use Rattle.trie_read.specs.declared.found.Kind.{Kind as FoundKind}
 use Rattle.trie_read.specs.declared.found.Kind.TheVariants as there
 use Rattle.job_model.specs.Sizes.{node_count}
-use Rattle.job_model.specs.Commands.{Question, Get, Find, Walk, Back, Stat}
-use Rattle.job_model.specs.Replies.{reply_of, reply_text, kind_text, answer_text, name_line, names_text, found_kind_text, name_or_none, found_text, size_text}
+use Rattle.job_model.specs.Commands.{Question, Get, Find, Walk, Back, Stat, Dump}
+use Rattle.job_model.specs.Replies.{reply_of, reply_text, kind_text, rows_text, answer_text, name_line, names_text, found_kind_text, name_or_none, found_text, size_text}
 use Rattle.report_laws.proofs.CutLemmas.{Free, free_append}
 use Rattle.report_laws.proofs.TextLemmas.{spaced_free, decimal_free, name_free, type_free, data_free}
 use Rattle.report_laws.proofs.LineLemmas.{IsLine, line, line_cut, IsWord, counted_cut}
@@ -56,8 +57,11 @@ found_word there.Absent = record { in_line = refl; in_one = refl }
 
 -- ---- replies
 
+rows_cut : (v w : List ℕ) → IsWord v → IsWord w → (xs ys : List Row) (s t : List ℕ) → length (rows_text v xs ++ s) < 2 ^ 64 → rows_text v xs ++ s ≡ rows_text w ys ++ t → s ≡ t
+rows_cut v w is_v is_w xs ys s t small e = counted_cut row_text row_line v w is_v is_w xs ys s t small e
+
 answer_cut : (a b : Answer) (s t : List ℕ) → length (answer_text a ++ s) < 2 ^ 64 → answer_text a ++ s ≡ answer_text b ++ t → s ≡ t
-answer_cut a b s t small e = counted_cut row_text row_line (kind_text a.kind) (kind_text b.kind) (kind_word a.kind) (kind_word b.kind) a.rows b.rows s t small e
+answer_cut a b s t small e = rows_cut (kind_text a.kind) (kind_text b.kind) (kind_word a.kind) (kind_word b.kind) a.rows b.rows s t small e
 
 names_cut : (v w : List ℕ) → IsWord v → IsWord w → (xs ys : List Name) (s t : List ℕ) → length (names_text v xs ++ s) < 2 ^ 64 → names_text v xs ++ s ≡ names_text w ys ++ t → s ≡ t
 names_cut v w is_v is_w xs ys s t small e = counted_cut name_line named_line v w is_v is_w xs ys s t small e
@@ -92,5 +96,6 @@ reply_cut origin v w (Walk stretch) s t small e =
     names_cut (codes "WALK") (codes "WALK") (record { in_line = refl; in_one = refl }) (record { in_line = refl; in_one = refl }) (walk stretch.start stretch.most v) (walk stretch.start stretch.most w) s t small e
 reply_cut origin v w (Back stretch) s t small e =
     names_cut (codes "BACK") (codes "BACK") (record { in_line = refl; in_one = refl }) (record { in_line = refl; in_one = refl }) (back stretch.start stretch.most v) (back stretch.start stretch.most w) s t small e
+reply_cut origin v w Dump s t small e = rows_cut (codes "DUMP") (codes "DUMP") (record { in_line = refl; in_one = refl }) (record { in_line = refl; in_one = refl }) (all_rows v) (all_rows w) s t small e
 reply_cut origin v w Stat s t small e =
     (line_cut (size_text (length v) (node_count v)) (size_text (length w) (node_count w)) s t (size_line (length v) (node_count v)) (size_line (length w) (node_count w)) e).1

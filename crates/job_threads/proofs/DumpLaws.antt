@@ -1,0 +1,62 @@
+-- What the one pass of an index shows that nobody committed by.
+use Rattle.std.proofs.Common.{◌≡◌, ◌∙◌, ⊎_elim, ℕ, ◌+◌, ◌<◌, true, List, [], ◌∷◌, ◌++◌, length, Option, Some, None, refl, sym, ap, subst, arith}
+use Rattle.std.specs.Prelude.{Contains}
+use Rattle.std.specs.List.{All}
+use Rattle.pin_core.proofs.Lists.{contains_cases}
+use Rattle.shared_cells.specs.declared.view.PassView.{PassView}
+use Rattle.shared_cells.specs.History.{StartsWith, IsPartOf, version_after}
+use Rattle.shared_cells.specs.Views.{number_of, is_told, with_pinned, with_progress}
+use Rattle.shared_cells.specs.declared.view.Progress.TheVariants as progress
+use Rattle.shared_index.specs.declared.meaning.Operation.{Operation}
+use Rattle.shared_index.specs.Operations.{applied}
+use Rattle.shared_index.specs.Passes.{Known, Pinned, commits_in, first_version, version_seen}
+use Rattle.shared_index.specs.Closings.{AllSeen, AreAll, Ends, Includes, IsCommitOf, IsThere}
+use Rattle.job_threads.specs.Histories.{Commit, Entries}
+use Rattle.job_threads.specs.Works.{IsNew}
+use Rattle.job_threads.specs.Dumps.{Visited}
+use Rattle.job_threads.proofs.HistoryLaws.{opened_same}
+use Rattle.job_threads.proofs.EndLaws.{number_with}
+use Rattle.job_threads.proofs.TransactLaws.{Lawful}
+
+abbrev Own : Type 0
+Own = PassView (List Operation)
+
+-- a pass asked, and is idle again
+pub visited : (old pinned new : Known) (number : ℕ) → Pinned Lawful old pinned number → new ≡ with_progress pinned progress.Idle → Visited old new
+visited old pinned new number p left = record {
+  grows = subst (λ x. IsPartOf x old.seen) (sym (ap (λ (v : Known). v.seen) left)) p.grows;
+  version = number;
+  pass = ap (λ (v : Known). v.pass) left ∙ p.pass;
+}
+
+only_one : {A : Type 0} (x y : A) → Contains (x ∷ []) y → x ≡ y
+only_one x y c = ⊎_elim (λ (e : x ≡ y). e) (λ (none : Contains [] y). absurd (let l = none.1 in omega arith)) (contains_cases x y [] c)
+
+no_commits : (p : Option Own) (own : Own) (number : ℕ) → p ≡ Some own → own.entries ≡ [] → commits_in (with_pinned p number) ≡ []
+no_commits p own number e none = ap (λ (q : Option Own). commits_in (with_pinned q number)) e ∙ none
+
+nobody : (history : List Commit) (after : Known) → commits_in after.pass ≡ [] → All (IsCommitOf (after ∷ [])) history → history ≡ []
+nobody [] after none all = refl
+nobody (e ∷ history) after none all =
+    let by = all 0 e (omega arith) in
+    let is : after ≡ by.0 = only_one after by.0 by.1 in
+    let inside : Contains [] e = subst (λ (es : List Commit). Contains es e) none (subst (λ (v : Known). Contains (commits_in v.pass) e) (sym is) by.3) in
+    absurd (let l = inside.1 in omega arith)
+
+front_of_none : {A : Type 0} (all part : List A) → StartsWith all part → all ≡ [] → part ≡ []
+front_of_none all [] s e = refl
+front_of_none all (x ∷ part) s e = absurd (let w = sym s.1 ∙ e in cc)
+
+-- it shows the version that the index was opened with
+pub shows_opening : (opening : Entries) (old after : Known) (number version : ℕ) (last : AllSeen) → IsNew number opening old → is_told old.seen.opening ≡ true → Visited old after → AreAll 1 (old ∷ []) → Ends 1 (after ∷ []) version last
+    → version_seen after.seen ≡ opening
+shows_opening opening old after number version last new told v all ends =
+    let same_number : number_of old.pass ≡ number_of after.pass = sym (ap number_of v.pass ∙ number_with old.pass v.version) in
+    let there : AreAll 1 (after ∷ []) = λ n lt.
+        let a = all n lt in
+        let is : old ≡ a.0 = only_one old a.0 a.1 in
+        (after, (0, omega arith, refl), sym same_number ∙ ap (λ (k : Known). number_of k.pass) is ∙ a.2) in
+    let none : commits_in after.pass ≡ [] = ap commits_in v.pass ∙ no_commits old.pass new.own v.version new.is_own new.none in
+    let empty : last.history ≡ [] = nobody last.history after none (ends.commits there) in
+    let seen : after.seen.history ≡ [] = front_of_none last.history after.seen.history (ends.each 0 after (omega arith)).seen.history empty in
+    ap (λ (h : List Commit). version_after applied (first_version after.seen) h) seen ∙ opened_same after.seen old.seen told v.grows ∙ new.opened

@@ -1,0 +1,25 @@
+-- What becomes of a zone that is written.
+use Rattle.std.specs.Prelude.{◌≡◌, ℕ, ◌<◌, ◌≤◌}
+use Rattle.outer_io.specs.Bytes.{Held, Grows}
+use Rattle.zone_model.specs.Names.{Name}
+use Rattle.zone_model.specs.Versions.{Version}
+use Rattle.zone_model.specs.Dumps.{dump}
+use Rattle.zone_model.specs.declared.Style.{Style}
+use Rattle.job_model.specs.Sizes.{cell_count}
+use Rattle.shared_cells.specs.History.{IsPartOf}
+use Rattle.shared_cells.specs.Views.{with_pinned}
+use Rattle.shared_index.specs.Openings.{room_in}
+use Rattle.shared_index.specs.Passes.{Known}
+use Rattle.job_threads.specs.declared.dumping.Dumped.{Dumped}
+use Rattle.job_threads.specs.declared.dumping.Dumped.TheVariants.{Written, DoesNotFit}
+
+-- A pass took the current version, which is no older than what it had seen, and has left it.
+pub record Visited (old new : Known) : Type 0 where
+  pub grows : IsPartOf new.seen old.seen
+  pub version : ℕ
+  pub pass : new.pass ≡ with_pinned old.pass version
+
+-- the zone fits, and the whole file was written; or it doesn't, both numbers are told, and nothing was written
+abbrev pub DumpedOn : ℕ → Style → Name → Version → Held → Held → Dumped → Type 0
+DumpedOn chunks style origin zone before now Written = (cell_count zone ≤ room_in chunks) × Grows before now (dump style origin zone)
+DumpedOn chunks style origin zone before now (DoesNotFit cells limit) = (cells ≡ cell_count zone) × (limit ≡ room_in chunks) × (limit < cells) × (now ≡ before)

@@ -1,0 +1,136 @@
+//! A zone that is written as a master file.
+ghost use Rattle.std.specs.Prelude.{◌≡◌, ◌≤◌, ℕ, All, IsSome, IsErrOf, List, IfOk, OnOk, OnErr, length, map, Some, slice_get};
+ghost use Rattle.outer_io.specs.Bytes.{Grows, GrowsByFront};
+ghost use Rattle.outer_io.specs.Faults.{Rose};
+ghost use Rattle.zone_model.specs.Versions.{Version};
+ghost use Rattle.zone_model.specs.Dumps.{dump};
+ghost use Rattle.trie_write.specs.Entries.{entries_of_items};
+ghost use Rattle.shared_index.specs.Passes.{known_at, version_seen};
+ghost use Rattle.shared_index.specs.Closings.{AreAll};
+ghost use Rattle.job_threads.specs.Histories.{Entries, IsZone, StandsAs};
+ghost use Rattle.job_threads.specs.Works.{AreNew};
+ghost use Rattle.job_threads.specs.Dumps.{DumpedOn, Visited};
+
+use crate::law::ZoneLaw;
+use dns_name::Name;
+use outer_io::Sink;
+use shared_index::{Blank, Index, Named, OpenRefusal, Pass};
+use std::alloc::Global;
+use std::marker::Brand;
+use trie_write::Item;
+use zone_dump::{DumpRefusal, dump_to};
+use zone_model::Style;
+
+/// What became of a dump, if the zone fits into the chunks.
+#[derive(Clone, Copy)]
+pub enum Dumped {
+    /// The whole file was written.
+    Written,
+    /// Version 0 has so many cells, over the limit. Nothing was written.
+    DoesNotFit { cells: u64, limit: u64 },
+}
+
+// Writes the current version. It is pinned meanwhile.
+fn dump_current<N: Named, K: Sink>(
+    alloc: Global,
+    origin: &Name,
+    index: &Index<ZoneLaw, N>,
+    pass: &mut Pass<N>,
+    style: Style,
+    sink: &mut K,
+) -> Result<u64, DumpRefusal>
+    requires here { IsSome pass.old.seat }
+    requires place { pass.old.place ≡ index.now.place }
+    ensures here { IsSome pass.new.seat }
+    ensures place { pass.new.place ≡ pass.old.place }
+    ensures visited { Visited (known_at pass.old.seat) (known_at pass.new.seat) }
+    ensures ok { (zone : Version) → StandsAs (version_seen (known_at pass.new.seat).seen) zone
+        → OnOk result (Grows (K.held sink.old) (K.held sink.new) (dump style origin.now zone)) }
+    ensures err { (zone : Version) → StandsAs (version_seen (known_at pass.new.seat).seen) zone
+        → OnErr result (GrowsByFront (K.held sink.old) (K.held sink.new) (dump style origin.now zone)) }
+    ensures fault { IsErrOf result DumpRefusal.Fault → Rose (K.faults sink.old) (K.faults sink.new) }
+    ensures quiet { (IsErrOf result DumpRefusal.Fault → ⊥) → K.faults sink.new ≡ K.faults sink.old }
+{
+    let mut query = pass.query(index);
+    dump_to(alloc, &mut query, origin, style, sink)
+}
+
+// Writes version 0 of an index that has one pass, which nobody has committed by, and ends the index.
+fn dump_opened<N: Named, K: Sink>(
+    alloc: Global,
+    origin: &Name,
+    index: Index<ZoneLaw, N>,
+    mut passes: Vec<Pass<N>>,
+    style: Style,
+    sink: &mut K,
+) -> Result<u64, DumpRefusal>
+    requires count { length passes.items ≡ 1 }
+    requires size { index.shared.table.shared.key.passes ≡ 1 }
+    requires all { AreAll 1 (map (λ p. known_at p.seat) passes.items) }
+    requires here { All (λ p. (IsSome p.seat) × (p.place ≡ index.place)) passes.items }
+    ensures ok { (opening : Entries) (zone : Version) → AreNew opening (map (λ p. known_at p.seat) passes.items) → StandsAs opening zone
+        → OnOk result (Grows (K.held sink.old) (K.held sink.new) (dump style origin.now zone)) }
+    ensures err { (opening : Entries) (zone : Version) → AreNew opening (map (λ p. known_at p.seat) passes.items) → StandsAs opening zone
+        → OnErr result (GrowsByFront (K.held sink.old) (K.held sink.new) (dump style origin.now zone)) }
+    ensures fault { IsErrOf result DumpRefusal.Fault → Rose (K.faults sink.old) (K.faults sink.new) }
+    ensures quiet { (IsErrOf result DumpRefusal.Fault → ⊥) → K.faults sink.new ≡ K.faults sink.old }
+{
+    let Some(pass) = passes.last_mut() else {
+        // There is one.
+        unreachable!();
+    };
+    let written = dump_current(alloc, origin, &index, pass, style, sink);
+    let _version = index.close(passes); // for the proof: no commit was made
+    written
+}
+
+// The same, on a table that is named.
+fn dump_named<N: Named, K: Sink>(
+    alloc: Global,
+    blank: Blank<ZoneLaw>,
+    origin: &Name,
+    items: &[Item],
+    style: Style,
+    sink: &mut K,
+) -> Result<Dumped, DumpRefusal>
+    requires named { slice_get N.tables 0 ≡ Some blank.shared.table.shared.table_id }
+    requires passes { blank.shared.table.shared.key.passes ≡ 1 }
+    requires zone { IsZone (entries_of_items items.now) }
+    ensures ok { (zone : Version) → StandsAs (entries_of_items items.now) zone
+        → IfOk result (DumpedOn blank.shared.table.shared.key.chunks style origin.now zone (K.held sink.old) (K.held sink.new)) }
+    ensures err { (zone : Version) → StandsAs (entries_of_items items.now) zone
+        → OnErr result (GrowsByFront (K.held sink.old) (K.held sink.new) (dump style origin.now zone)) }
+    ensures fault { IsErrOf result DumpRefusal.Fault → Rose (K.faults sink.old) (K.faults sink.new) }
+    ensures quiet { (IsErrOf result DumpRefusal.Fault → ⊥) → K.faults sink.new ≡ K.faults sink.old }
+{
+    match Index::<ZoneLaw, N>::open(alloc, blank, 0, items) {
+        Ok((index, passes)) => {
+            dump_opened(alloc, origin, index, passes, style, sink)?;
+            Ok(Dumped::Written)
+        }
+        Err(OpenRefusal::Full { cells, limit }) => Ok(Dumped::DoesNotFit { cells, limit }),
+        Err(OpenRefusal::Memory) => Err(DumpRefusal::Memory),
+    }
+}
+
+/// Opens an index on a zone that stands as these items, by a table for no worker, and writes version 0 to a sink. With a refusal
+/// the sink has taken a front of the file.
+pub fn dump_zone<K: Sink>(
+    alloc: Global,
+    blank: Blank<ZoneLaw>,
+    origin: &Name,
+    items: &[Item],
+    style: Style,
+    sink: &mut K,
+) -> Result<Dumped, DumpRefusal>
+    requires passes { blank.shared.table.shared.key.passes ≡ 1 }
+    requires zone { IsZone (entries_of_items items.now) }
+    ensures ok { (zone : Version) → StandsAs (entries_of_items items.now) zone
+        → IfOk result (DumpedOn blank.shared.table.shared.key.chunks style origin.now zone (K.held sink.old) (K.held sink.new)) }
+    ensures err { (zone : Version) → StandsAs (entries_of_items items.now) zone
+        → OnErr result (GrowsByFront (K.held sink.old) (K.held sink.new) (dump style origin.now zone)) }
+    ensures fault { IsErrOf result DumpRefusal.Fault → Rose (K.faults sink.old) (K.faults sink.new) }
+    ensures quiet { (IsErrOf result DumpRefusal.Fault → ⊥) → K.faults sink.new ≡ K.faults sink.old }
+{
+    dump_named::<Brand, K>(alloc, blank, origin, items, style, sink)
+}

@@ -1,0 +1,98 @@
+//! A zone that is written as a master file.
+ghost use Rattle.std.specs.Prelude.{◌≡◌, ◌≤◌, ◌^◌, List, length, Ok};
+ghost use Rattle.outer_io.specs.Faults.{Rose};
+ghost use Rattle.zone_model.specs.Versions.{Version};
+ghost use Rattle.zone_model.specs.MasterFile.{zone_of};
+ghost use Rattle.trie_write.specs.Entries.{entries_of_items};
+ghost use Rattle.job_model.specs.Jobs.{zone_lines};
+ghost use Rattle.job_script.specs.Parts.{IsCutAt};
+ghost use Rattle.job_threads.specs.Histories.{IsZone, StandsAs};
+ghost use Rattle.qp_main.specs.Due.{CutShort, Dumps, IsWritten, MayBeShort, Written};
+ghost use Rattle.std.specs.Prelude.{true};
+
+use crate::items::zone_items;
+use crate::refusing::zone_line;
+use crate::report::no_room;
+use crate::status::Status;
+use crate::writing::write_due;
+use command_line::Invocation;
+use job_script::Parts;
+use job_threads::{Dumped, ZoneLaw, dump_zone, table_for};
+use master_file::read_zone;
+use outer_io::Sink;
+use shared_index::Blank;
+use std::alloc::Global;
+use trie_write::Item;
+use zone_dump::DumpRefusal;
+use zone_model::Style;
+
+// Opens the index of a zone, and writes the zone.
+fn write_zone<K: Sink>(
+    alloc: Global,
+    invocation: &Invocation,
+    style: Style,
+    blank: Blank<ZoneLaw>,
+    items: &[Item],
+    sink: &mut K,
+) -> Status
+    requires chunks { blank.shared.table.shared.key.chunks ≡ invocation.now.chunks }
+    requires passes { blank.shared.table.shared.key.passes ≡ 1 }
+    requires zone { IsZone (entries_of_items items.now) }
+    ensures written { (zone : Version) → StandsAs (entries_of_items items.now) zone
+        → IsWritten result → Written (Dumps invocation.now.chunks style invocation.now.origin (Ok zone)) (K.held sink.old) (K.held sink.new) result }
+    ensures cut_short { (zone : Version) → StandsAs (entries_of_items items.now) zone
+        → MayBeShort true result → CutShort (Dumps invocation.now.chunks style invocation.now.origin (Ok zone)) (K.held sink.old) (K.held sink.new) }
+    ensures sink_fault { result ≡ Status.SinkFault → Rose (K.faults sink.old) (K.faults sink.new) }
+    ensures quiet_sink { (result ≡ Status.SinkFault → ⊥) → K.faults sink.new ≡ K.faults sink.old }
+    ensures others { result ≡ Status.SourceFault → ⊥ }
+{
+    match dump_zone(alloc, blank, &invocation.origin, items, style, sink) {
+        Ok(Dumped::Written) => Status::Done,
+        Ok(Dumped::DoesNotFit { cells, limit }) => match no_room(alloc, cells, limit) {
+            Ok(text) => write_due(sink, Status::DoesNotFit, &text),
+            Err(_) => Status::NoMemory,
+        },
+        Err(DumpRefusal::Fault) => Status::SinkFault,
+        Err(DumpRefusal::Memory) => Status::NoMemory,
+    }
+}
+
+/// Reads the zone of bytes that were cut, and writes it. It is written while it is made, so where memory runs out a front may
+/// stand.
+pub fn dump_input<K: Sink>(
+    alloc: Global,
+    invocation: &Invocation,
+    style: Style,
+    bytes: Vec<u8>,
+    parts: Parts,
+    sink: &mut K,
+) -> Status
+    requires short { length bytes.items ≤ 2 ^ 24 }
+    requires cut { IsCutAt bytes.items parts }
+    ensures written { IsWritten result
+        → Written (Dumps invocation.now.chunks style invocation.now.origin (zone_of invocation.now.origin (zone_lines bytes.items))) (K.held sink.old) (K.held sink.new) result }
+    ensures cut_short { MayBeShort true result
+        → CutShort (Dumps invocation.now.chunks style invocation.now.origin (zone_of invocation.now.origin (zone_lines bytes.items))) (K.held sink.old) (K.held sink.new) }
+    ensures sink_fault { result ≡ Status.SinkFault → Rose (K.faults sink.old) (K.faults sink.new) }
+    ensures quiet_sink { (result ≡ Status.SinkFault → ⊥) → K.faults sink.new ≡ K.faults sink.old }
+    ensures others { result ≡ Status.SourceFault → ⊥ }
+{
+    let Ok(blank) = table_for(alloc, invocation.chunks, 0) else {
+        return Status::NoMemory;
+    };
+    let zone_bytes = &bytes.as_slice()[..parts.zone_end as usize];
+    let zone = match read_zone(alloc, zone_bytes, &invocation.origin) {
+        Ok(zone) => zone,
+        Err(refusal) => {
+            return match zone_line(alloc, refusal) {
+                Ok((status, text)) => write_due(sink, status, &text),
+                Err(_) => Status::NoMemory,
+            };
+        }
+    };
+    drop(bytes);
+    let Ok(items) = zone_items(alloc, zone) else {
+        return Status::NoMemory;
+    };
+    write_zone(alloc, invocation, style, blank, &items, sink)
+}
