@@ -15,7 +15,9 @@ use Rattle.zone_model.specs.Records.{Rrset, Entry, rrset_of, RisingSets, IsItem,
 use Rattle.zone_model.specs.Versions.{Version, entry_of, owned, soa_type}
 use Rattle.zone_model.specs.MasterFile.{Reader, directive, entry_says, zone_from, at_first, zone_of}
 use Rattle.zone_model.specs.Rows.{rows_of, Directives, directives_text}
-use Rattle.zone_model.specs.Dumps.{Style, Full, Short, rows_at, all_rows, version_lines, directives_of, dump}
+use Rattle.zone_model.specs.declared.Style.{Style}
+use Rattle.zone_model.specs.declared.Style.TheVariants.{Full, Short}
+use Rattle.zone_model.specs.Dumps.{rows_at, all_rows, version_lines, directives_of, dump}
 use Rattle.dns_name.proofs.PrintedLemmas.{name_of-text_of}
 use Rattle.rr_data.proofs.PrintedLemmas.{time_back}
 use Rattle.rr_data.proofs.PrintedWordLemmas.{is_shown, Shows, decimal_word, plain_word, IsFieldWord, absolute_is_word}

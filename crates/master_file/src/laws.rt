@@ -5,7 +5,8 @@ ghost use Rattle.zone_model.specs.Names.{Name};
 ghost use Rattle.zone_model.specs.Lines.{lines_of};
 ghost use Rattle.zone_model.specs.Versions.{Version};
 ghost use Rattle.zone_model.specs.Rows.{Row, Directives, line_text, row_text};
-ghost use Rattle.zone_model.specs.Dumps.{Style, dump};
+ghost use Rattle.zone_model.specs.declared.Style.{Style};
+ghost use Rattle.zone_model.specs.Dumps.{dump};
 ghost use Rattle.zone_model.specs.MasterFile.{Reader, zone_from, zone_of};
 ghost use Rattle.master_file.specs.Rows.{IsRecord, StandsUnder, KnowsOwner, CanBeDumped, written, row_added, read_on, zone_of_rows};
 
