@@ -1,4 +1,4 @@
-use Rattle.std.proofs.Common.{◌≡◌, ◌∙◌, [], ap, ap₂, codes, true}
+use Rattle.std.proofs.Common.{rules, ◌≡◌, ◌∙◌, [], ap, ap₂, codes, true}
 use Rattle.clap.specs.Simple.{App, app_of, new_shape, with_subcommand}
 use Rattle.command_line.specs.Parsed.{dumping_shape, feeding_shape, making_shape, reading_shape}
 use Rattle.command_line.proofs.program.program.Goals as goal
