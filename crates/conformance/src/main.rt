@@ -17,8 +17,9 @@ use std::sync::Wait;
 use std::thread::Threads;
 
 /// The files of cases, one a topic.
-const TOPICS: [&str; 10] = [
+const TOPICS: [&str; 11] = [
     "answers.cases",
+    "dumps.cases",
     "examples.cases",
     "faults.cases",
     "feed.cases",
