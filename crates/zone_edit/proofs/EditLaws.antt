@@ -183,9 +183,9 @@ module _ (o : Operation) (denied : List trie.Entry → Type 0) (A B : Type 0) (n
 
   -- there was no room
   pub no_room : (none : NoRoom) (f : Full) (key : List ℕ) (written : ℕ) (asks : List ℕ → List ℕ) → (A → ⊥) → ((version : Version) → IsVersion version → before ≡ owned name version → put name entry version ≡ version → ⊥) → Called → IsSomeAnd new (λ d. IsFull d f)
-      → Between (λ d e. CausedFrom d.usage e key written asks f) old new → Edits (Stores name before entry (Err none)) old new
+      → Between (λ d e. CausedFrom d e key written asks f) old new → Edits (Stores name before entry (Err none)) old new
   no_room none f key written asks undone changes call full cause =
-      between_both (λ d e. CausedFrom d.usage e key written asks f) (λ d e. Operates o denied d e A B × IsFull e f) (EditsOne (Stores name before entry (Err none))) old new
+      between_both (λ d e. CausedFrom d e key written asks f) (λ d e. Operates o denied d e A B × IsFull e f) (EditsOne (Stores name before entry (Err none))) old new
       (λ d e cause both. record {
         known = both.0.known;
         passes = both.0.passes;
@@ -195,7 +195,7 @@ module _ (o : Operation) (denied : List trie.Entry → Type 0) (A B : Type 0) (n
             named = both.1.named;
             ends = both.1.ends;
             few = few_kept e f both.1;
-            many = subst (λ (es : List trie.Entry). length e.usage.given - reserve_of e.usage - 2 ≤ cells es + cells_kept e.seat.place.me.0 (versions_in f.kept)) (same_set o denied d e A B both.0 undone ∙ on.set) cause.2.many_cells;
+            many = subst (λ (es : List trie.Entry). length e.usage.given - reserve_of e.usage - 2 ≤ cells es + cells_kept e.seat.place.me.0 (versions_in f.kept)) (same_set o denied d e A B both.0 undone ∙ on.set) cause.caused.cause.many_cells;
           }),
           changes version on.valid is,
         );
