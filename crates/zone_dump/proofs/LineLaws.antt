@@ -12,10 +12,9 @@ use Rattle.rr_data.specs.ItemViews.{SaysEntry}
 use Rattle.dns_name.proofs.ScanLemmas.{begins_once}
 use Rattle.rr_data.proofs.ItemViewLemmas.{item_says}
 use Rattle.rr_data.proofs.RecordLineLemmas.{full_lines}
-use Rattle.zone_dump.specs.Files.{lines_from, file_text}
-use Rattle.zone_dump.specs.Styles.{style_view, directives_in}
-use Rattle.zone_dump.specs.declared.style.Style.{Style}
-use Rattle.zone_dump.specs.declared.style.Style.TheVariants.{Full, Short}
+use Rattle.zone_model.specs.declared.Style.{Style}
+use Rattle.zone_model.specs.declared.Style.TheVariants.{Full, Short}
+use Rattle.zone_dump.specs.Files.{lines_from, file_text, directives_in}
 
 -- ---- one name
 
@@ -74,7 +73,7 @@ count_first owner left others s e =
 
 -- ---- one version
 
-pub file_is_dump : (style : Style) (origin : Name) (version : Version) → file_text (directives_in style origin version) version ≡ dump (style_view style) origin version
+pub file_is_dump : (style : Style) (origin : Name) (version : Version) → file_text (directives_in style origin version) version ≡ dump style origin version
 file_is_dump Full origin version = full_lines version
 file_is_dump Short origin version = refl
 
