@@ -102,7 +102,7 @@ const DELEGATIONS: Case = Case {
         _sip._tcp.example. 3600 IN SRV 0 5 5060 web.example.\n\
         *.mail.example. 3600 IN MX 10 mx.example.net.\n\
         ns.example. 3600 IN A 192.0.2.1\n\
-        ns.example. 3600 IN AAAA 2001:db8::1\n\
+        ns.example. 3600 IN AAAA 2001:db8:0:0:0:0:0:1\n\
         shop.example. 3600 IN NS ns.shop.example.\n\
         shop.example. 3600 IN NS ns.example.net.\n\
         ns.shop.example. 3600 IN A 192.0.2.53\n\
@@ -115,7 +115,7 @@ const DELEGATIONS: Case = Case {
         _sip._tcp IN SRV 0 5 5060 web\n\
         *.mail IN MX 10 mx.example.net.\n\
         ns IN A 192.0.2.1\n\
-        \tIN AAAA 2001:db8::1\n\
+        \tIN AAAA 2001:db8:0:0:0:0:0:1\n\
         shop IN NS ns.shop\n\
         \tIN NS ns.example.net.\n\
         ns.shop IN A 192.0.2.53\n\
@@ -143,7 +143,7 @@ const WORDS: Case = Case {
         300.example. 300 IN MX 10 a.example.\n\
         300.example. 300 IN MX 20 300.example.\n\
         \\;x.example. 300 IN TXT \"\\\"\\\\;\"\n\
-        a.example. 300 IN AAAA ::1\n\
+        a.example. 300 IN AAAA 0:0:0:0:0:0:0:1\n\
         in.example. 300 IN A 192.0.2.1\n\
         x.example. 300 IN TYPE65280 \\# 0\n",
     short: b"$ORIGIN example.\n$TTL 300\n\
@@ -155,7 +155,7 @@ const WORDS: Case = Case {
         300 IN MX 10 a\n\
         \tIN MX 20 300\n\
         \\;x IN TXT \"\\\"\\\\;\"\n\
-        a IN AAAA ::1\n\
+        a IN AAAA 0:0:0:0:0:0:0:1\n\
         in IN A 192.0.2.1\n\
         x IN TYPE65280 \\# 0\n",
 };
