@@ -14,7 +14,7 @@ use Rattle.rr_data.proofs.ItemViewLemmas.{item_says}
 use Rattle.rr_data.proofs.RecordLineLemmas.{full_lines}
 use Rattle.zone_model.specs.declared.Style.{Style}
 use Rattle.zone_model.specs.declared.Style.TheVariants.{Full, Short}
-use Rattle.zone_dump.specs.Files.{lines_from, file_text, directives_in}
+use Rattle.zone_dump.specs.Files.{lines_from, head_text, file_text, directives_in}
 
 -- ---- one name
 
@@ -85,6 +85,11 @@ count_first owner left others s e =
 pub file_is_dump : (style : Style) (origin : Name) (version : Version) → file_text (directives_in style origin version) version ≡ dump style origin version
 file_is_dump Full origin version = full_lines version
 file_is_dump Short origin version = refl
+
+-- a head and the lines behind it
+pub file_from : (directives d : Option Directives) (text : List ℕ) (version : Version) → text ≡ head_text directives → d ≡ directives → text ++ version_lines d version ≡ file_text directives version
+file_from directives d text version e same =
+    ap (λ (l : List ℕ). l ++ version_lines d version) e ∙ ap (λ (x : Option Directives). head_text directives ++ version_lines x version) same
 
 pub file_is_full : (version : Version) → file_text None version ≡ flat_map row_text (all_rows version)
 file_is_full version = full_lines version

@@ -12,18 +12,16 @@ use Rattle.zone_dump.proofs.lines.Lines.push_item.Goals as goal
 
 pub of-sets-requires : goal.of-sets-requires
 of-sets-requires g c =
-    let entry = c.requires.1 in
-    (entry.0, item_begun c.args.item.now c.in-Some.owner c.requires.0 entry.0 c.in-Some.ensures.name c.in-Some.ensures.found entry.1)
+    (c.requires.1, item_begun c.args.item.now c.in-Some.owner c.requires.0 c.requires.1 c.in-Some.ensures.name c.in-Some.ensures.found c.requires.2)
 
 pub loop-set-init : goal.loop-set-init
 loop-set-init g c =
     let had = c.args.self.now in
-    let entry = c.requires.1 in
     record {
       directives = refl;
       later = omega arith;
       quiet = refl;
-      records = seen_records c.args.item.now c.in-Some.owner c.of-sets.result c.in-Some.ensures.name c.in-Some.ensures.found c.of-sets.ensures c.requires.0 entry.0 entry.1;
+      records = seen_records c.args.item.now c.in-Some.owner c.of-sets.result c.in-Some.ensures.name c.in-Some.ensures.found c.of-sets.ensures c.requires.0 c.requires.1 c.requires.2;
       part = part_start (g.K.Sink.held c.args.sink.now) had.text.items (sets_lines had.directives true c.in-Some.owner c.of-sets.result);
       number = refl;
     }
@@ -55,7 +53,7 @@ loop-set-preserved g c =
     record {
       directives = c.push_set.ensures.directives ∙ l.invariant.directives;
       later = omega (arith, l.invariant.later, c.push_set.ensures.later);
-      quiet = c.in_ok-push_set.ensures.quiet (λ e. e) ∙ l.invariant.quiet;
+      quiet = c.in_ok-push_set.ensures.quiet (λ e. cc) ∙ l.invariant.quiet;
       records = have_others l.sets c.next.new.self set c.in-Some-next.ensures l.invariant.records;
       part =
           part_more (held c.args.sink.now) (held l.sink) (held c.push_set.new.sink) had.text.items l.self.text.items c.push_set.new.self.text.items (sets_lines had.directives true owner all)

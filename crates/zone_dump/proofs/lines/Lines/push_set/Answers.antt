@@ -44,7 +44,7 @@ loop-octets-preserved g c =
     record {
       directives = c.push_record.ensures.same.0 ∙ l.invariant.directives;
       later = omega (arith, l.invariant.later, c.push_record.ensures.later);
-      quiet = c.in_ok-push_record.ensures.quiet (λ e. e) ∙ l.invariant.quiet;
+      quiet = c.in_ok-push_record.ensures.quiet (λ e. cc) ∙ l.invariant.quiet;
       part =
           part_more (held c.args.sink.now) (held l.sink) (held c.push_record.new.sink) had.text.items l.self.text.items c.push_record.new.self.text.items (lines_from had.directives c.args.first (rows_of owner set))
           (lines_from had.directives l.is_first (rows_of owner (record set { records = l.records }))) (line_text l.self.directives l.is_first (record { owner = owner; rtype = set.rtype; ttl = set.ttl; octets = octets }))
