@@ -84,7 +84,11 @@ fn is_whole(alloc: Global, text: &[u8], want: &[u8]) -> bool {
 fn a_failing_call_leaves_a_front_of_a_long_dump(rt: HostRuntime) {
     let alloc = rt.alloc();
     let text = long_text(alloc, b"$TTL 60\n@ SOA ns hm 1 2 3 4 5\n", b" TXT");
-    let want = long_text(alloc, b"a. 60 IN SOA ns.a. hm.a. 1 2 3 4 5\n", b".a. 60 IN TXT");
+    let want = long_text(
+        alloc,
+        b"a. 60 IN SOA ns.a. hm.a. 1 2 3 4 5\n",
+        b".a. 60 IN TXT",
+    );
     let (Ok(text), Ok(want)) = (text, want) else {
         return assert!(rt; false);
     };

@@ -1,6 +1,5 @@
 -- The names that an iterator comes to.
-use Rattle.std.proofs.Common.{◌≡◌, ◌∙◌, ℕ, ◌+◌, ◌≤◌, List, [], ◌∷◌, ◌++◌, length, take, map, refl, sym, ap, subst, arith, Option, Some, None, length-append}
-use Rattle.std.specs.List.{AllByRecursion}
+use Rattle.std.proofs.Common.{◌≡◌, ◌∙◌, ℕ, ◌+◌, List, [], ◌∷◌, ◌++◌, length, take, map, refl, sym, ap, subst, arith, Option, Some, None, length-append}
 use Rattle.outer_io.specs.Bytes.{Held, GrowsByFront}
 use Rattle.zone_model.specs.Names.{Name}
 use Rattle.zone_model.specs.Records as records
@@ -9,7 +8,7 @@ use Rattle.zone_model.specs.Versions.{Version}
 use Rattle.zone_model.specs.Rows.{Directives}
 use Rattle.zone_model.specs.Dumps.{rows_at, all_rows, owner_lines, version_lines}
 use Rattle.trie_model.specs.Keys.{Entry}
-use Rattle.zone_query.specs.Standing.{IsStorable, Shows, trie_entry}
+use Rattle.zone_query.specs.Standing.{Shows, trie_entry}
 use Rattle.zone_dump.specs.Writing.{Passes}
 use Rattle.zone_dump.specs.Walks.{Faces, GivesFirst, GoesOn}
 use Rattle.zone_dump.proofs.WritingLaws.{part_start, part_more, part_end, part_stops, part_front}

@@ -1,4 +1,4 @@
-use Rattle.std.proofs.Common.{ℕ, List, subst}
+use Rattle.std.proofs.Common.{subst}
 use Rattle.outer_io.specs.Bytes.{GrowsByFront}
 use Rattle.zone_model.specs.Dumps.{version_lines}
 use Rattle.zone_dump.proofs.LineLaws.{file_from}
@@ -20,5 +20,5 @@ returns-clause-err g c zone shows =
     let is = c.in_ok-lines.ensures in
     let has = c.push_all.new.lines.text.items in
     on_err_more c.finish.result (λ front.
-      subst (GrowsByFront (held c.args.sink.now) (held c.finish.new.sink)) (file_from c.args.directives lines.directives lines.text.items zone is.text is.directives)
-      (front_end (held c.args.sink.now) (held c.push_all.new.sink) (held c.finish.new.sink) lines.text.items has (version_lines lines.directives zone) (c.in_ok-push_all.ensures.ok zone shows) front)) c.finish.ensures.err
+    subst (GrowsByFront (held c.args.sink.now) (held c.finish.new.sink)) (file_from c.args.directives lines.directives lines.text.items zone is.text is.directives)
+    (front_end (held c.args.sink.now) (held c.push_all.new.sink) (held c.finish.new.sink) lines.text.items has (version_lines lines.directives zone) (c.in_ok-push_all.ensures.ok zone shows) front)) c.finish.ensures.err

@@ -1,5 +1,4 @@
 use Rattle.std.proofs.Common.{◌∙◌, ℕ, List, ◌++◌, ap}
-use Rattle.std.specs.List.{flat_map}
 use Rattle.std.proofs.Common.{None}
 use Rattle.zone_dump.specs.Files.{file_text}
 use Rattle.zone_dump.proofs.LineLaws.{file_is_full}

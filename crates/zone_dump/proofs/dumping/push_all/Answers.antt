@@ -1,4 +1,4 @@
-use Rattle.std.proofs.Common.{◌≡◌, ◌∙◌, ℕ, List, [], ◌++◌, Option, None, refl, sym, subst, arith}
+use Rattle.std.proofs.Common.{◌≡◌, ◌∙◌, [], ◌++◌, Option, refl, sym, subst, arith}
 use Rattle.outer_io.specs.Bytes.{GrowsByFront}
 use Rattle.zone_model.specs.Rows.{Directives}
 use Rattle.zone_model.specs.Dumps.{rows_at, owner_lines}
@@ -69,7 +69,7 @@ returns-in_err-push_item-clause-err g c zone shows =
     let first = subst (λ v. GivesFirst (stands v c.next_item.new.iter) on.left item len) c.names.invariant.same (c.in-Some.ensures.next on.left faces) in
     on_any_err c.from_residual.result
     (goes_stops (stands c.args.version.now c.names.iter) (stands c.args.version.now c.next_item.new.iter) (held c.args.sink.now) (held c.names.sink) (held c.push_item.new.sink) had.text.items lines.text.items had.count lines.count had.directives zone item len on first
-      (λ owner entry is. subst (λ (d : Option Directives). GrowsByFront (held c.names.sink) (held c.push_item.new.sink) (lines.text.items ++ owner_lines d (rows_at (owner, entry)))) c.names.invariant.directives (c.in_err-push_item.ensures.err owner entry is)))
+    (λ owner entry is. subst (λ (d : Option Directives). GrowsByFront (held c.names.sink) (held c.push_item.new.sink) (lines.text.items ++ owner_lines d (rows_at (owner, entry)))) c.names.invariant.directives (c.in_err-push_item.ensures.err owner entry is)))
 
 pub names-preserved : goal.names-preserved
 names-preserved g c =

@@ -35,12 +35,12 @@ returns-in_err-push_set-clause-err g c =
     let set = c.in-Some-next.set in
     let all = c.of-sets.result in
     let front : GrowsByFront (held c.args.sink.now) (held c.push_set.new.sink) (had.text.items ++ sets_lines had.directives true owner all) =
-        part_stops (held c.args.sink.now) (held l.sink) (held c.push_set.new.sink) had.text.items l.self.text.items (sets_lines had.directives true owner all) (sets_lines had.directives l.first owner l.sets)
-        (lines_from l.self.directives l.first (rows_of owner set)) (sets_lines had.directives false owner c.next.new.self) l.invariant.part
-        (sets_lines-first had.directives l.self.directives l.first owner l.sets c.next.new.self set l.invariant.directives c.in-Some-next.ensures l.invariant.records) c.in_err-push_set.ensures.err in
+    part_stops (held c.args.sink.now) (held l.sink) (held c.push_set.new.sink) had.text.items l.self.text.items (sets_lines had.directives true owner all) (sets_lines had.directives l.first owner l.sets)
+    (lines_from l.self.directives l.first (rows_of owner set)) (sets_lines had.directives false owner c.next.new.self) l.invariant.part
+    (sets_lines-first had.directives l.self.directives l.first owner l.sets c.next.new.self set l.invariant.directives c.in-Some-next.ensures l.invariant.records) c.in_err-push_set.ensures.err in
     on_any_err c.from_residual.result (λ name entry is.
-      subst (λ (text : List ℕ). GrowsByFront (held c.args.sink.now) (held c.push_set.new.sink) (had.text.items ++ text))
-      (lines_seen had.directives (flat_map (rows_of owner) all) (rows_at (name, entry)) (rows_seen c.args.item.now owner all c.in-Some.ensures.name c.in-Some.ensures.found c.of-sets.ensures name entry is)) front)
+    subst (λ (text : List ℕ). GrowsByFront (held c.args.sink.now) (held c.push_set.new.sink) (had.text.items ++ text))
+    (lines_seen had.directives (flat_map (rows_of owner) all) (rows_at (name, entry)) (rows_seen c.args.item.now owner all c.in-Some.ensures.name c.in-Some.ensures.found c.of-sets.ensures name entry is)) front)
 
 pub loop-set-preserved : goal.loop-set-preserved
 loop-set-preserved g c =
@@ -79,4 +79,4 @@ returns-clause-ok g c name entry is =
     let seen = rows_seen c.args.item.now owner all c.in-Some.ensures.name c.in-Some.ensures.found c.of-sets.ensures name entry is in
     subst (Passes (held c.args.sink.now) (held l.sink) had.text.items l.self.text.items) (lines_seen had.directives (flat_map (rows_of owner) all) (rows_at (name, entry)) seen)
     (part_end (held c.args.sink.now) (held l.sink) had.text.items l.self.text.items (sets_lines had.directives true owner all) (sets_lines had.directives l.first owner l.sets) l.invariant.part
-      (ap (λ (sets : Entry). sets_lines had.directives l.first owner sets) c.in_default-next.ensures))
+    (ap (λ (sets : Entry). sets_lines had.directives l.first owner sets) c.in_default-next.ensures))

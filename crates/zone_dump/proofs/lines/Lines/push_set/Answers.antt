@@ -29,9 +29,9 @@ returns-in_err-push_record-clause-err g c =
     let owner = c.args.owner.now in
     on_any_err c.from_residual.result
     (part_stops (held c.args.sink.now) (held l.sink) (held c.push_record.new.sink) had.text.items l.self.text.items (lines_from had.directives c.args.first (rows_of owner set))
-      (lines_from had.directives l.is_first (rows_of owner (record set { records = l.records }))) (line_text l.self.directives l.is_first (record { owner = owner; rtype = set.rtype; ttl = set.ttl; octets = octets }))
-      (lines_from had.directives false (rows_of owner (record set { records = c.next.new.self }))) l.invariant.part (set_line had.directives l.self.directives l.is_first owner set octets l.records c.next.new.self l.invariant.directives c.in-Some-next.ensures.next)
-      c.in_err-push_record.ensures.err)
+    (lines_from had.directives l.is_first (rows_of owner (record set { records = l.records }))) (line_text l.self.directives l.is_first (record { owner = owner; rtype = set.rtype; ttl = set.ttl; octets = octets }))
+    (lines_from had.directives false (rows_of owner (record set { records = c.next.new.self }))) l.invariant.part (set_line had.directives l.self.directives l.is_first owner set octets l.records c.next.new.self l.invariant.directives c.in-Some-next.ensures.next)
+    c.in_err-push_record.ensures.err)
 
 pub loop-octets-preserved : goal.loop-octets-preserved
 loop-octets-preserved g c =
