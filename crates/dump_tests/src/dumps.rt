@@ -16,6 +16,7 @@ fn is_dumped(alloc: Global, text: &[u8], origin: &[u8], ttl: Option<u32>, want: 
 }
 
 // A zone of an origin, its SOA's time to live, and its dumps in both styles.
+#[derive(Drop)]
 struct Case {
     text: &'static [u8],
     origin: &'static [u8],
@@ -86,6 +87,82 @@ const ODD: Case = Case {
 #[test]
 fn odd_labels_are_dumped(rt: HostRuntime) {
     assert!(rt; is_right(rt.alloc(), &ODD));
+}
+
+// The zone of examples/delegations.job.
+const DELEGATIONS: Case = Case {
+    text: b"$TTL 1h\n@ SOA ns hostmaster 1 1h 10m 1d 1m\n NS ns\nns A 192.0.2.1\n AAAA 2001:db8::1\nwww CNAME web\n\
+        web A 192.0.2.80\n* TXT \"nobody of that name\"\n_sip._tcp SRV 0 5 5060 web\nshop NS ns.shop\n NS ns.example.net.\n\
+        ns.shop A 192.0.2.53\n*.mail MX 10 mx.example.net.\n",
+    origin: b"example.",
+    ttl: 3600,
+    full: b"example. 3600 IN NS ns.example.\n\
+        example. 3600 IN SOA ns.example. hostmaster.example. 1 3600 600 86400 60\n\
+        *.example. 3600 IN TXT \"nobody of that name\"\n\
+        _sip._tcp.example. 3600 IN SRV 0 5 5060 web.example.\n\
+        *.mail.example. 3600 IN MX 10 mx.example.net.\n\
+        ns.example. 3600 IN A 192.0.2.1\n\
+        ns.example. 3600 IN AAAA 2001:db8:0:0:0:0:0:1\n\
+        shop.example. 3600 IN NS ns.shop.example.\n\
+        shop.example. 3600 IN NS ns.example.net.\n\
+        ns.shop.example. 3600 IN A 192.0.2.53\n\
+        web.example. 3600 IN A 192.0.2.80\n\
+        www.example. 3600 IN CNAME web.example.\n",
+    short: b"$ORIGIN example.\n$TTL 3600\n\
+        @ IN NS ns\n\
+        \tIN SOA ns hostmaster 1 3600 600 86400 60\n\
+        * IN TXT \"nobody of that name\"\n\
+        _sip._tcp IN SRV 0 5 5060 web\n\
+        *.mail IN MX 10 mx.example.net.\n\
+        ns IN A 192.0.2.1\n\
+        \tIN AAAA 2001:db8:0:0:0:0:0:1\n\
+        shop IN NS ns.shop\n\
+        \tIN NS ns.example.net.\n\
+        ns.shop IN A 192.0.2.53\n\
+        web IN A 192.0.2.80\n\
+        www IN CNAME web\n",
+};
+
+#[test]
+fn delegations_and_wildcards_are_dumped(rt: HostRuntime) {
+    assert!(rt; is_right(rt.alloc(), &DELEGATIONS));
+}
+
+// Relative names that look like a time to live, a class, a type, a directive, a wildcard or a comment, as owners and in
+// data; a name outside the zone whose last label ends like the origin's; and no octets at all.
+const WORDS: Case = Case {
+    text: b"$TTL 300\n@ SOA @ in 1 2 3 4 5\n300 MX 10 a\n300 MX 20 300\nin A 192.0.2.1\na AAAA ::1\n* PTR *\n\
+        \\$ttl A 192.0.2.2\n1h 60 NS ns.xexample.\n1h 60 NS a.b.\n\\;x TXT \"\\\"\\\\;\"\nx TYPE65280 \\# 0\n",
+    origin: b"example.",
+    ttl: 300,
+    full: b"example. 300 IN SOA example. in.example. 1 2 3 4 5\n\
+        \\$ttl.example. 300 IN A 192.0.2.2\n\
+        *.example. 300 IN PTR *.example.\n\
+        1h.example. 60 IN NS a.b.\n\
+        1h.example. 60 IN NS ns.xexample.\n\
+        300.example. 300 IN MX 10 a.example.\n\
+        300.example. 300 IN MX 20 300.example.\n\
+        \\;x.example. 300 IN TXT \"\\\"\\\\;\"\n\
+        a.example. 300 IN AAAA 0:0:0:0:0:0:0:1\n\
+        in.example. 300 IN A 192.0.2.1\n\
+        x.example. 300 IN TYPE65280 \\# 0\n",
+    short: b"$ORIGIN example.\n$TTL 300\n\
+        @ IN SOA @ in 1 2 3 4 5\n\
+        \\$ttl IN A 192.0.2.2\n\
+        * IN PTR *\n\
+        1h 60 IN NS a.b.\n\
+        \t60 IN NS ns.xexample.\n\
+        300 IN MX 10 a\n\
+        \tIN MX 20 300\n\
+        \\;x IN TXT \"\\\"\\\\;\"\n\
+        a IN AAAA 0:0:0:0:0:0:0:1\n\
+        in IN A 192.0.2.1\n\
+        x IN TYPE65280 \\# 0\n",
+};
+
+#[test]
+fn names_that_look_like_other_words_are_dumped(rt: HostRuntime) {
+    assert!(rt; is_right(rt.alloc(), &WORDS));
 }
 
 const ROOT: Case = Case {

@@ -1,7 +1,7 @@
 //! What a sink has whose calls fail.
 
 use crate::written::{sink_of, write_zone};
-use std::alloc::Global;
+use std::alloc::{AllocError, Global};
 use zone_dump::DumpRefusal;
 
 const TEXT: &[u8] = b"$TTL 60\n@ SOA ns hm 1 2 3 4 5\nns A 192.0.2.9\n";
@@ -30,4 +30,70 @@ fn a_failing_call_leaves_a_front(rt: HostRuntime) {
         assert!(rt; is_cut(rt.alloc(), TEXT, DUMP, fails));
     }
     assert!(rt; !is_cut(rt.alloc(), TEXT, DUMP, 7));
+}
+
+// A head, and a line for each of 26 names: the name's letter, a middle, and ten strings of 200 octets.
+fn long_text(alloc: Global, head: &[u8], middle: &[u8]) -> Result<Vec<u8>, AllocError> {
+    let mut text = Vec::from_slice(alloc, head)?;
+    for letter in b"abcdefghijklmnopqrstuvwxyz" {
+        text.push(*letter)?;
+        text.extend_from_slice(middle)?;
+        push_strings(*letter, &mut text)?;
+        text.push(b'\n')?;
+    }
+    Ok(text)
+}
+
+// Ten strings of 200 times a letter.
+fn push_strings(letter: u8, text: &mut Vec<u8>) -> Result<(), AllocError> {
+    for _ in 0..10 {
+        text.extend_from_slice(b" \"")?;
+        text.extend_from_slice(&[letter; 200])?;
+        text.push(b'"')?;
+    }
+    Ok(())
+}
+
+// Whether a dump whose calls take 20,000 octets ends with a fault where this call fails, and the sink has a front.
+fn is_cut_short(alloc: Global, text: &[u8], want: &[u8], fails: u64) -> bool {
+    let Ok(mut sink) = sink_of(alloc, 20_000, &[fails]) else {
+        return false;
+    };
+    match write_zone(alloc, text, b"a.", None, &mut sink) {
+        Some(Err(DumpRefusal::Fault)) => match sink.held() {
+            Some(held) => held.len() < want.len() && want.starts_with(held),
+            None => false,
+        },
+        _ => false,
+    }
+}
+
+// Whether a dump whose calls take 20,000 octets is whole where no call fails.
+fn is_whole(alloc: Global, text: &[u8], want: &[u8]) -> bool {
+    let Ok(mut sink) = sink_of(alloc, 20_000, &[]) else {
+        return false;
+    };
+    match write_zone(alloc, text, b"a.", None, &mut sink) {
+        Some(Ok(count)) => count == 27 && sink.held() == Some(want),
+        _ => false,
+    }
+}
+
+// The dump has 53,205 octets, more than what is gathered before it is written, and so at least three calls.
+#[test]
+fn a_failing_call_leaves_a_front_of_a_long_dump(rt: HostRuntime) {
+    let alloc = rt.alloc();
+    let text = long_text(alloc, b"$TTL 60\n@ SOA ns hm 1 2 3 4 5\n", b" TXT");
+    let want = long_text(
+        alloc,
+        b"a. 60 IN SOA ns.a. hm.a. 1 2 3 4 5\n",
+        b".a. 60 IN TXT",
+    );
+    let (Ok(text), Ok(want)) = (text, want) else {
+        return assert!(rt; false);
+    };
+    assert!(rt; is_whole(alloc, &text, &want));
+    for fails in 1..4 {
+        assert!(rt; is_cut_short(alloc, &text, &want, fails));
+    }
 }

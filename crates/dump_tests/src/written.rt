@@ -27,7 +27,7 @@ fn write_items(
 pub(crate) fn sink_of(alloc: Global, most: usize, fails: &[u64]) -> Result<MemSink, AllocError>
     requires { 0 < most }
 {
-    MemSink::new(alloc, 10_000, most, Vec::from_slice(alloc, fails)?)
+    MemSink::new(alloc, 100_000, most, Vec::from_slice(alloc, fails)?)
 }
 
 /// What became of a dump of the zone of an origin that a text says: in full, or short where the time to live of its SOA is
@@ -42,7 +42,7 @@ pub(crate) fn write_zone(
     let Ok(origin) = Name::read(origin, &Name::root()) else {
         return None;
     };
-    if text.len() > 1000 {
+    if text.len() > 100_000 {
         return None;
     }
     let directives = ttl.map(|ttl| Directives::new(&origin, ttl));

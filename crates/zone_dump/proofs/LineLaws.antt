@@ -1,5 +1,5 @@
 -- The lines of names' records.
-use Rattle.std.proofs.Common.{◌≡◌, ◌∙◌, ℕ, ◌+◌, ◌<◌, Bool, true, false, List, [], ◌∷◌, ◌++◌, length, map, refl, sym, ap, subst, arith, append_assoc, append-nil, length-append, Option, Some, None}
+use Rattle.std.proofs.Common.{◌≡◌, ◌∙◌, ℕ, ◌+◌, ◌<◌, Bool, true, false, List, [], ◌∷◌, ◌++◌, length, refl, sym, ap, subst, arith, append_assoc, length-append, Option, Some, None}
 use Rattle.std.proofs.lemmas.List.{length-map}
 use Rattle.std.specs.List.{flat_map, AllByRecursion}
 use Rattle.std.specs.Int.{w16, to_be_bytes}
@@ -12,10 +12,9 @@ use Rattle.rr_data.specs.ItemViews.{SaysEntry}
 use Rattle.dns_name.proofs.ScanLemmas.{begins_once}
 use Rattle.rr_data.proofs.ItemViewLemmas.{item_says}
 use Rattle.rr_data.proofs.RecordLineLemmas.{full_lines}
-use Rattle.zone_dump.specs.Files.{lines_from, file_text}
-use Rattle.zone_dump.specs.Styles.{style_view, directives_in}
-use Rattle.zone_dump.specs.declared.style.Style.{Style}
-use Rattle.zone_dump.specs.declared.style.Style.TheVariants.{Full, Short}
+use Rattle.zone_model.specs.declared.Style.{Style}
+use Rattle.zone_model.specs.declared.Style.TheVariants.{Full, Short}
+use Rattle.zone_dump.specs.Files.{lines_from, head_text, file_text, directives_in}
 
 -- ---- one name
 
@@ -35,6 +34,14 @@ lines_from-append d first (row ∷ next ∷ rows) more h =
     ap (λ (l : List ℕ). line_text d first row ++ l) (lines_from-append d false (next ∷ rows) more (omega arith))
     ∙ sym (append_assoc (line_text d first row) (lines_from d false (next ∷ rows)) (lines_from d false more))
 
+-- the line of the next of an RRset's records, under the directives that there were
+pub set_line : (had d : Option Directives) (first : Bool) (owner : Name) (s : Rrset) (octets : List ℕ) (records others : List (List ℕ)) → d ≡ had → records ≡ octets ∷ others
+    → lines_from had first (rows_of owner (record s { records = records }))
+    ≡ line_text d first (record { owner = owner; rtype = s.rtype; ttl = s.ttl; octets = octets }) ++ lines_from had false (rows_of owner (record s { records = others }))
+set_line had d first owner s octets records others same e =
+    ap (λ (l : List (List ℕ)). lines_from had first (rows_of owner (record s { records = l }))) e
+    ∙ ap (λ (x : Option Directives). line_text x first (record { owner = owner; rtype = s.rtype; ttl = s.ttl; octets = octets }) ++ lines_from had false (rows_of owner (record s { records = others }))) (sym same)
+
 -- each RRset has a record
 abbrev pub HaveRecords : Entry → Type 0
 HaveRecords entry = AllByRecursion (λ (s : Rrset). 0 < length s.records) entry
@@ -51,12 +58,13 @@ have_records (s ∷ entry) h = (h.0.some, have_behind s.rtype entry h.1)
 abbrev pub sets_lines : Option Directives → Bool → Name → Entry → List ℕ
 sets_lines d first owner sets = lines_from d first (flat_map (rows_of owner) sets)
 
-pub sets_lines-first : (d : Option Directives) (first : Bool) (owner : Name) (left others : Entry) (s : Rrset) → left ≡ s ∷ others → HaveRecords left
-    → sets_lines d first owner left ≡ lines_from d first (rows_of owner s) ++ sets_lines d false owner others
-sets_lines-first d first owner left others s e h =
+pub sets_lines-first : (had d : Option Directives) (first : Bool) (owner : Name) (left others : Entry) (s : Rrset) → d ≡ had → left ≡ s ∷ others → HaveRecords left
+    → sets_lines had first owner left ≡ lines_from d first (rows_of owner s) ++ sets_lines had false owner others
+sets_lines-first had d first owner left others s same e h =
     let g : HaveRecords (s ∷ others) = subst HaveRecords e h in
-    ap (λ (l : Entry). sets_lines d first owner l) e
-    ∙ lines_from-append d first (rows_of owner s) (flat_map (rows_of owner) others) (omega (arith, g.0, length-map (λ (octets : List ℕ). row_of owner s octets) s.records))
+    ap (λ (l : Entry). sets_lines had first owner l) e
+    ∙ lines_from-append had first (rows_of owner s) (flat_map (rows_of owner) others) (omega (arith, g.0, length-map s.records (λ (octets : List ℕ). row_of owner s octets)))
+    ∙ ap (λ (x : Option Directives). lines_from x first (rows_of owner s) ++ sets_lines had false owner others) (sym same)
   where
     row_of : Name → Rrset → List ℕ → Row
     row_of owner s octets = record { owner = owner; rtype = s.rtype; ttl = s.ttl; octets = octets }
@@ -67,16 +75,21 @@ have_others left others s e h = let g : HaveRecords (s ∷ others) = subst HaveR
 pub count_first : (owner : Name) (left others : Entry) (s : Rrset) → left ≡ s ∷ others → length (flat_map (rows_of owner) left) ≡ length s.records + length (flat_map (rows_of owner) others)
 count_first owner left others s e =
     ap (λ (l : Entry). length (flat_map (rows_of owner) l)) e ∙ length-append (rows_of owner s) (flat_map (rows_of owner) others)
-    ∙ ap (λ (n : ℕ). n + length (flat_map (rows_of owner) others)) (length-map (λ (octets : List ℕ). row_of owner s octets) s.records)
+    ∙ ap (λ (n : ℕ). n + length (flat_map (rows_of owner) others)) (length-map s.records (λ (octets : List ℕ). row_of owner s octets))
   where
     row_of : Name → Rrset → List ℕ → Row
     row_of owner s octets = record { owner = owner; rtype = s.rtype; ttl = s.ttl; octets = octets }
 
 -- ---- one version
 
-pub file_is_dump : (style : Style) (origin : Name) (version : Version) → file_text (directives_in style origin version) version ≡ dump (style_view style) origin version
+pub file_is_dump : (style : Style) (origin : Name) (version : Version) → file_text (directives_in style origin version) version ≡ dump style origin version
 file_is_dump Full origin version = full_lines version
 file_is_dump Short origin version = refl
+
+-- a head and the lines behind it
+pub file_from : (directives d : Option Directives) (text : List ℕ) (version : Version) → text ≡ head_text directives → d ≡ directives → text ++ version_lines d version ≡ file_text directives version
+file_from directives d text version e same =
+    ap (λ (l : List ℕ). l ++ version_lines d version) e ∙ ap (λ (x : Option Directives). head_text directives ++ version_lines x version) same
 
 pub file_is_full : (version : Version) → file_text None version ≡ flat_map row_text (all_rows version)
 file_is_full version = full_lines version

@@ -1,7 +1,5 @@
 -- The names that an iterator comes to.
-use Rattle.std.proofs.Common.{◌≡◌, ◌∙◌, ℕ, ◌+◌, ◌≤◌, List, [], ◌∷◌, ◌++◌, length, take, map, refl, sym, ap, subst, arith, Option, Some, None, length-append}
-use Rattle.std.specs.List.{AllByRecursion}
-use Rattle.packed_node.specs.declared.Leaf.{Leaf}
+use Rattle.std.proofs.Common.{◌≡◌, ◌∙◌, ℕ, ◌+◌, List, [], ◌∷◌, ◌++◌, length, take, map, refl, sym, ap, subst, arith, Option, Some, None, length-append}
 use Rattle.outer_io.specs.Bytes.{Held, GrowsByFront}
 use Rattle.zone_model.specs.Names.{Name}
 use Rattle.zone_model.specs.Records as records
@@ -10,7 +8,7 @@ use Rattle.zone_model.specs.Versions.{Version}
 use Rattle.zone_model.specs.Rows.{Directives}
 use Rattle.zone_model.specs.Dumps.{rows_at, all_rows, owner_lines, version_lines}
 use Rattle.trie_model.specs.Keys.{Entry}
-use Rattle.zone_query.specs.Standing.{IsStorable, Shows, trie_entry}
+use Rattle.zone_query.specs.Standing.{Shows, trie_entry}
 use Rattle.zone_dump.specs.Writing.{Passes}
 use Rattle.zone_dump.specs.Walks.{Faces, GivesFirst, GoesOn}
 use Rattle.zone_dump.proofs.WritingLaws.{part_start, part_more, part_end, part_stops, part_front}
@@ -19,12 +17,12 @@ pub faces_all : (holds : List Entry → Type 0) (stands : List Entry → List En
 faces_all holds stands zone shows start = record { before = []; standing = start (map trie_entry zone) shows.held; items = shows.version_is.items }
 
 -- there is a leaf, so a name is left
-pub first_lies : (stands : List Entry → List Entry → Type 0) (lies : Leaf → Entry → Type 0) (leaf : Leaf) (left : Version) → Faces stands left → ((before after : List Entry) (e : Entry) → stands before (e ∷ after) → lies leaf e)
+pub first_lies : {Leaf : Type 0} (stands : List Entry → List Entry → Type 0) (lies : Leaf → Entry → Type 0) (leaf : Leaf) (left : Version) → Faces stands left → ((before after : List Entry) (e : Entry) → stands before (e ∷ after) → lies leaf e)
     → ((before : List Entry) → stands before [] → Some leaf ≡ None) → (e : Entry) × lies leaf e
 first_lies stands lies leaf [] f next end = absurd (let h : Some leaf ≡ None = end f.before f.standing in cc)
 first_lies stands lies leaf (pair ∷ left) f next end = (trie_entry pair, next f.before (map trie_entry left) (trie_entry pair) f.standing)
 
-pub gives_first : (old new : List Entry → List Entry → Type 0) (lies : Leaf → Entry → Type 0) (leaf : Leaf) (octets : List ℕ) (len : ℕ) (left : Version) → Faces old left
+pub gives_first : {Leaf : Type 0} (old new : List Entry → List Entry → Type 0) (lies : Leaf → Entry → Type 0) (leaf : Leaf) (octets : List ℕ) (len : ℕ) (left : Version) → Faces old left
     → ((before after : List Entry) (e : Entry) → old before (e ∷ after) → lies leaf e) → ((before after : List Entry) (e : Entry) → old before (e ∷ after) → new (before ++ e ∷ []) after)
     → ((before : List Entry) → old before [] → Some leaf ≡ None) → ((e : Entry) → lies leaf e → (len ≡ length e.item) × (take len octets ≡ e.item)) → GivesFirst new left octets len
 gives_first old new lies leaf octets len [] f next passed end read = absurd (let h : Some leaf ≡ None = end f.before f.standing in cc)

@@ -54,6 +54,11 @@ front_written a b x y s p =
     let le : length p.written ≤ length (x ++ s) = omega (arith, ap (λ (l : List ℕ). length l) p.whole, length-append p.written y) in
     (length p.written, le, subst (Grows a b) (sym front) p.grown)
 
+-- what is left at the end is written in part
+pub front_end : (a b c : Held) (x y s : List ℕ) → Passes a b x y s → GrowsByFront b c y → GrowsByFront a c (x ++ s)
+front_end a b c x y s p f =
+    subst (λ (l : List ℕ). GrowsByFront a c (x ++ l)) (append-nil s) (front_later a b c x y s [] p (subst (GrowsByFront b c) (sym (append-nil y)) f))
+
 -- what was gathered is written in part
 pub front_gathered : (a b : Held) (had mid line : List ℕ) → mid ≡ had ++ line → GrowsByFront a b mid → GrowsByFront a b (had ++ line)
 front_gathered a b had mid line e f = subst (GrowsByFront a b) e f
@@ -62,6 +67,10 @@ front_gathered a b had mid line e f = subst (GrowsByFront a b) e f
 pub on_any_err : {A E P : Type 0} (r : Result A E) → P → OnErr r P
 on_any_err (Ok x) p = tt
 on_any_err (Err e) p = p
+
+pub on_err_more : {A E P Q : Type 0} (r : Result A E) → (P → Q) → OnErr r P → OnErr r Q
+on_err_more (Ok x) more p = tt
+on_err_more (Err e) more p = more p
 
 -- ---- parts of a whole
 

@@ -1,4 +1,3 @@
-pub mod Styles
 pub mod Files
 pub mod Writing
 pub mod Walks

@@ -8,14 +8,12 @@ ghost use Rattle.zone_model.specs.Versions.{Version};
 ghost use Rattle.zone_model.specs.Rows.{row_text};
 ghost use Rattle.zone_model.specs.Dumps.{all_rows, record_count, version_lines, soa_ttl, dump};
 ghost use Rattle.zone_query.specs.Standing.{Shows, ShowsSome};
-ghost use Rattle.zone_dump.specs.Files.{file_text};
-ghost use Rattle.zone_dump.specs.Styles.{style_view, directives_in};
+ghost use Rattle.zone_dump.specs.Files.{file_text, directives_in};
 ghost use Rattle.zone_dump.specs.Walks.{Faces, FacesSome, GivesNext};
 ghost use Rattle.zone_dump.specs.Writing.{Passes};
 
 use crate::lines::Lines;
 use crate::refusal::DumpRefusal;
-use crate::style::Style;
 use crate::text_sink::TextSink;
 use dns_name::Name;
 use outer_io::Sink;
@@ -24,6 +22,7 @@ use shift_key::Key;
 use std::alloc::{AllocError, Global};
 use std::mem::replace;
 use trie_read::{Iter, Reading};
+use zone_model::Style;
 use zone_query::read_owned;
 
 /// Reads the item of the next name into the beginning of a buffer, and gives its length; None at the end.
@@ -54,6 +53,7 @@ fn push_all<V: Reading, K: Sink>(
         (GrowsByFront (K.held sink.old) (K.held sink.new) (lines.old.text.items ++ version_lines lines.old.directives zone)) }
     ensures fault { IsErrOf result DumpRefusal.Fault → Rose (K.faults sink.old) (K.faults sink.new) }
     ensures later { K.faults sink.old ≤ K.faults sink.new }
+    ensures quiet { (IsErrOf result DumpRefusal.Fault → ⊥) → K.faults sink.new ≡ K.faults sink.old }
 {
     let mut iter = version.iter();
     'names: for _ in 0..u64::MAX {
@@ -81,6 +81,7 @@ fn dump_lines<V: Reading, K: Sink>(
         (GrowsByFront (K.held sink.old) (K.held sink.new) (file_text directives zone)) }
     ensures fault { IsErrOf result DumpRefusal.Fault → Rose (K.faults sink.old) (K.faults sink.new) }
     ensures later { K.faults sink.old ≤ K.faults sink.new }
+    ensures quiet { (IsErrOf result DumpRefusal.Fault → ⊥) → K.faults sink.new ≡ K.faults sink.old }
 {
     let mut lines = Lines::new(alloc, directives)?;
     push_all(version, item, &mut lines, sink)?;
@@ -132,11 +133,12 @@ pub fn dump_to<V: Reading, K: Sink>(
     ensures same { version.new ≡ version.old }
     ensures count { (zone : Version) → Shows (V.holds version.old) zone → IfOk result (λ n. n ≡ record_count zone) }
     ensures ok { (zone : Version) → Shows (V.holds version.old) zone → OnOk result
-        (Grows (K.held sink.old) (K.held sink.new) (dump (style_view style) origin.now zone)) }
+        (Grows (K.held sink.old) (K.held sink.new) (dump style origin.now zone)) }
     ensures err { (zone : Version) → Shows (V.holds version.old) zone → OnErr result
-        (GrowsByFront (K.held sink.old) (K.held sink.new) (dump (style_view style) origin.now zone)) }
+        (GrowsByFront (K.held sink.old) (K.held sink.new) (dump style origin.now zone)) }
     ensures fault { IsErrOf result DumpRefusal.Fault → Rose (K.faults sink.old) (K.faults sink.new) }
     ensures later { K.faults sink.old ≤ K.faults sink.new }
+    ensures quiet { (IsErrOf result DumpRefusal.Fault → ⊥) → K.faults sink.new ≡ K.faults sink.old }
 {
     let mut item = [0; 4096];
     let directives = directives_for(version, origin, style, &mut item);

@@ -7,11 +7,10 @@
 mod dumping;
 mod lines;
 mod refusal;
-mod style;
 mod text_sink;
 mod writing;
 
 pub use dumping::{dump_text, dump_to};
 pub use lines::Lines;
 pub use refusal::DumpRefusal;
-pub use style::Style;
+pub use zone_model::Style;

@@ -10,7 +10,7 @@ ghost use Rattle.zone_dump.specs.Files.{head_text, lines_from};
 ghost use Rattle.zone_dump.specs.Writing.{Passes};
 
 use crate::refusal::DumpRefusal;
-use crate::writing::{flush, flush_long};
+use crate::writing::{RESERVED, flush, flush_long};
 use dns_name::Name;
 use outer_io::Sink;
 use rr_data::{Directives, ItemView, SetView, push_record};
@@ -28,13 +28,13 @@ pub struct Lines {
 }
 
 impl Lines {
-    /// Those that a file begins with.
+    /// Those that a file begins with. The memory that lines take is reserved here.
     pub fn new(alloc: Global, directives: Option<Directives>) -> Result<Lines, AllocError>
         ensures text { IfOk result (λ lines. lines.text.items ≡ head_text directives) }
         ensures directives { IfOk result (λ lines. lines.directives ≡ directives) }
         ensures count { IfOk result (λ lines. lines.count ≡ 0) }
     {
-        let mut text = Vec::new(alloc);
+        let mut text = Vec::with_capacity(alloc, RESERVED)?;
         if let Some(directives) = &directives {
             directives.push_text(&mut text)?;
         }
@@ -61,6 +61,7 @@ impl Lines {
             ++ line_text self.old.directives first (record { owner = owner.now; rtype = set.now.rtype; ttl = set.now.ttl; octets = octets.now }))) }
         ensures fault { IsErrOf result DumpRefusal.Fault → Rose (K.faults sink.old) (K.faults sink.new) }
         ensures later { K.faults sink.old ≤ K.faults sink.new }
+        ensures quiet { (IsErrOf result DumpRefusal.Fault → ⊥) → K.faults sink.new ≡ K.faults sink.old }
     {
         let directives = self.directives.as_ref();
         push_record(directives, first, owner, set, octets, &mut self.text)?;
@@ -84,6 +85,7 @@ impl Lines {
             (self.old.text.items ++ lines_from self.old.directives first (rows_of owner.now set.now))) }
         ensures fault { IsErrOf result DumpRefusal.Fault → Rose (K.faults sink.old) (K.faults sink.new) }
         ensures later { K.faults sink.old ≤ K.faults sink.new }
+        ensures quiet { (IsErrOf result DumpRefusal.Fault → ⊥) → K.faults sink.new ≡ K.faults sink.old }
     {
         let Some(count) = self.count.checked_add(u64::from(set.len())) else {
             return Err(DumpRefusal::Memory);
@@ -110,6 +112,7 @@ impl Lines {
             → GrowsByFront (K.held sink.old) (K.held sink.new) (self.old.text.items ++ owner_lines self.old.directives (rows_at (owner, entry)))) }
         ensures fault { IsErrOf result DumpRefusal.Fault → Rose (K.faults sink.old) (K.faults sink.new) }
         ensures later { K.faults sink.old ≤ K.faults sink.new }
+        ensures quiet { (IsErrOf result DumpRefusal.Fault → ⊥) → K.faults sink.new ≡ K.faults sink.old }
     {
         let Some(owner) = Name::from_wire(item) else {
             unreachable!() // an item begins with its owner
@@ -130,6 +133,7 @@ impl Lines {
         ensures err { OnErr result (GrowsByFront (K.held sink.old) (K.held sink.new) self.text.items) }
         ensures fault { IsErrOf result DumpRefusal.Fault → Rose (K.faults sink.old) (K.faults sink.new) }
         ensures later { K.faults sink.old ≤ K.faults sink.new }
+        ensures quiet { (IsErrOf result DumpRefusal.Fault → ⊥) → K.faults sink.new ≡ K.faults sink.old }
     {
         flush(&mut self.text, sink)?;
         Ok(self.count)

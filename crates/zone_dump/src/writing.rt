@@ -6,14 +6,19 @@ ghost use Rattle.zone_dump.specs.Writing.{Passes};
 
 use outer_io::{Failed, Sink, write_all};
 
-// What is gathered is written once it has more octets.
-const LONG: usize = 65_536;
+/// How many octets are reserved for what is gathered.
+pub const RESERVED: usize = 65_536;
+
+// What is gathered is written once it has more octets. One line more is still within what is reserved: an item has 4,096
+// octets at most, each printed in four at most.
+const LONG: usize = 40_960;
 
 /// Writes what was gathered.
 pub fn flush<K: Sink>(text: &mut Vec<u8>, sink: &mut K) -> Result<(), Failed>
     ensures ok { OnOk result (Grows (K.held sink.old) (K.held sink.new) text.old.items) }
     ensures empty { OnOk result (text.new.items ≡ []) }
     ensures err { OnErr result (GrowsByFront (K.held sink.old) (K.held sink.new) text.old.items) }
+    ensures quiet { OnOk result (K.faults sink.new ≡ K.faults sink.old) }
     ensures later { K.faults sink.old ≤ K.faults sink.new }
     ensures failed { OnErr result (Rose (K.faults sink.old) (K.faults sink.new)) }
 {
@@ -26,6 +31,7 @@ pub fn flush<K: Sink>(text: &mut Vec<u8>, sink: &mut K) -> Result<(), Failed>
 pub fn flush_long<K: Sink>(text: &mut Vec<u8>, sink: &mut K) -> Result<(), Failed>
     ensures ok { OnOk result (Passes (K.held sink.old) (K.held sink.new) text.old.items text.new.items []) }
     ensures err { OnErr result (GrowsByFront (K.held sink.old) (K.held sink.new) text.old.items) }
+    ensures quiet { OnOk result (K.faults sink.new ≡ K.faults sink.old) }
     ensures later { K.faults sink.old ≤ K.faults sink.new }
     ensures failed { OnErr result (Rose (K.faults sink.old) (K.faults sink.new)) }
 {

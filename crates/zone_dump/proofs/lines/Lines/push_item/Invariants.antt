@@ -9,6 +9,7 @@ abbrev pub invariant-loop-set : goal.invariant-loop-set
 invariant-loop-set g l = record {
   directives : l.self.directives ≡ l.fn.self.directives;
   later : g.K.Sink.faults l.fn.sink ≤ g.K.Sink.faults l.sink;
+  quiet : g.K.Sink.faults l.sink ≡ g.K.Sink.faults l.fn.sink;
   records : HaveRecords l.sets;
   part : PassesPart (g.K.Sink.held l.fn.sink) (g.K.Sink.held l.sink) l.fn.self.text.items l.self.text.items (sets_lines l.fn.self.directives true l.owner l.initial.sets) (sets_lines l.fn.self.directives l.first l.owner l.sets);
   number : l.self.count + length (flat_map (rows_of l.owner) l.sets) ≡ l.fn.self.count + length (flat_map (rows_of l.owner) l.initial.sets);

@@ -8,6 +8,7 @@ abbrev pub invariant-loop-octets : goal.invariant-loop-octets
 invariant-loop-octets g l = record {
   directives : l.self.directives ≡ l.fn.self.directives;
   later : g.K.Sink.faults l.fn.sink ≤ g.K.Sink.faults l.sink;
+  quiet : g.K.Sink.faults l.sink ≡ g.K.Sink.faults l.fn.sink;
   part : PassesPart (g.K.Sink.held l.fn.sink) (g.K.Sink.held l.sink) l.fn.self.text.items l.self.text.items (lines_from l.fn.self.directives l.first (rows_of l.owner l.set))
       (lines_from l.fn.self.directives l.is_first (rows_of l.owner (record l.set { records = l.records })));
 }
