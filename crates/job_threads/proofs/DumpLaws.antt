@@ -53,9 +53,9 @@ pub shows_opening : (opening : Entries) (old after : Known) (number version : �
 shows_opening opening old after number version last new told v all ends =
     let same_number : number_of old.pass ≡ number_of after.pass = sym (ap number_of v.pass ∙ number_with old.pass v.version) in
     let there : AreAll 1 (after ∷ []) = λ n lt.
-        let a = all n lt in
-        let is : old ≡ a.0 = only_one old a.0 a.1 in
-        (after, (0, omega arith, refl), sym same_number ∙ ap (λ (k : Known). number_of k.pass) is ∙ a.2) in
+    let a = all n lt in
+    let is : old ≡ a.0 = only_one old a.0 a.1 in
+    (after, (0, omega arith, refl), sym same_number ∙ ap (λ (k : Known). number_of k.pass) is ∙ a.2) in
     let none : commits_in after.pass ≡ [] = ap commits_in v.pass ∙ no_commits old.pass new.own v.version new.is_own new.none in
     let empty : last.history ≡ [] = nobody last.history after none (ends.commits there) in
     let seen : after.seen.history ≡ [] = front_of_none last.history after.seen.history (ends.each 0 after (omega arith)).seen.history empty in
