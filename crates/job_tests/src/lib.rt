@@ -10,6 +10,8 @@ mod feed;
 #[cfg(test)]
 mod gates;
 #[cfg(test)]
+mod odd;
+#[cfg(test)]
 mod plain;
 #[cfg(test)]
 mod workers;

@@ -13,7 +13,7 @@ const ZONE: &[u8] =
     b"$TTL 300\n@ SOA ns hostmaster 1 3600 600 86400 60\n@ NS ns\nns A 192.0.2.1\n%%\n";
 
 /// The words of a command line.
-fn command_line(alloc: Global, words: &[&str]) -> Result<Vec<String>, AllocError> {
+pub(crate) fn command_line(alloc: Global, words: &[&str]) -> Result<Vec<String>, AllocError> {
     let mut line = Vec::new(alloc);
     for word in words {
         line.push(String::from_str(alloc, *word)?)?;
