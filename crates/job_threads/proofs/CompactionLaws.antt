@@ -1,6 +1,7 @@
 -- A compaction ends as a block without operations does.
 use Rattle.std.proofs.Common.{◌≡◌, ◌≢◌, ◌∙◌, ℕ, ◌+◌, true, List, [], Option, Some, Result, Ok, Err, refl, sym, append-nil}
 use Rattle.std.specs.Prelude.{IsSome, IfOk, IfErr}
+use Rattle.atomic_table.specs.Seated.{TableId}
 use Rattle.pin_core.specs.declared.version.Spent.{Spent as NoNumber}
 use Rattle.zone_model.specs.Transactions.{no_changes}
 use Rattle.job_model.specs.declared.Ending.TheVariants as ending
@@ -30,10 +31,10 @@ stays_so v = record { pass = refl; opening = refl; history = refl; namings = ([]
 edits_none : (s : Setup) (d : Draft) → Edits (Executes s.origin no_changes (Ok tt)) (Some d) (Some d)
 edits_none s d = record { known = stays_so d.seat.place.me.0; passes = refl; becomes = λ version on. (version, refl, on) }
 
-pub compaction_ran : (s : Setup) (old : Known) (o : Outcome) → is_told old.seen.opening ≡ true → first_version old.seen ≡ s.opening → (seat : Option (PassSeat (List Entry) (List Operation))) → IsSome seat → (passes : ℕ) (r : Result Receipt NoNumber)
-    → IfOk r (Compacts Lawful passes old (known_at seat)) → IfOk r (λ t. t.version ≢ last_version + 1) → IfErr r (IsLast Lawful old (known_at seat)) → IfErr r (λ t. t.version ≡ last_version)
+pub compaction_ran : (s : Setup) (old : Known) (o : Outcome) → is_told old.seen.opening ≡ true → first_version old.seen ≡ s.opening → (seat : Option (PassSeat (List Entry) (List Operation))) → IsSome seat → (table : TableId) (passes : ℕ) (r : Result Receipt NoNumber)
+    → IfOk r (Compacts Lawful table passes old (known_at seat)) → IfOk r (λ t. t.version ≢ last_version + 1) → IfErr r (IsLast Lawful old (known_at seat)) → IfErr r (λ t. t.version ≡ last_version)
     → IfOk r (λ t. (o.version ≡ t.version) × (ended_view o.told ≡ Committed)) → IfErr r (λ t. (o.version ≡ t.version) × (ended_view o.told ≡ Refused Spent)) → BlockRan s no_changes ending.Commit old (known_at seat) o
-compaction_ran s old o told opening seat some passes (Ok t) c next back last made lost =
+compaction_ran s old o told opening seat some table passes (Ok t) c next back last made lost =
     commit_ran s no_changes ending.Commit old o (Some c.draft) (Some c.draft) told opening c.begins (known_at seat) t.version (edits_none s c.draft) refl c.commits c.version made.0 made.1
-compaction_ran s old o told opening seat some passes (Err t) c next back last made lost =
+compaction_ran s old o told opening seat some table passes (Err t) c next back last made lost =
     spent_ran s no_changes ending.Commit old o (Some back.draft) (Some back.draft) told opening back.begins seat t.version (some, back.back) (back.version ∙ back.draft.seat.version_is) lost.0 (edits_none s back.draft) refl (sym back.version ∙ last) lost.1

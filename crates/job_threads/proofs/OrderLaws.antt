@@ -410,6 +410,9 @@ module _ (all left rest : List Served) (end : ℕ) (one : Served) (places : Plac
 
 -- ---- all are in their places
 
+apart : {A : Type 0} (x : A) → Some (Some x) ≡ Some None → ⊥
+apart x e = cc
+
 each_some : (places : Places) → ((i : ℕ) → slice_get places i ≡ Some None → ⊥) → AllByRecursion IsSome places
 each_some [] h = tt
 each_some (None ∷ places) h = absurd (h 0 refl)
@@ -434,8 +437,7 @@ module _ (all : List Served) (end : ℕ) (places : Places) (some : 0 < end) (tak
       let number = at.number in
       let same : at.index ≡ i = omega (arith, number) in
       let there' : slice_get places i ≡ Some (Some at.outcome) = subst (λ (k : ℕ). slice_get places k ≡ Some (Some at.outcome)) same at.there in
-      let e : Some (Some at.outcome) ≡ Some None = sym there' ∙ free in
-      cc
+      apart at.outcome (sym there' ∙ free)
     where
       by_length : (ws : List Served) (k : ℕ) → k < length (numbers_served ws) → k < length ws
       by_length [] k lt = lt

@@ -1,6 +1,6 @@
 -- What becomes of a zone that is written.
-use Rattle.std.specs.Prelude.{◌≡◌, ℕ, ◌<◌, ◌≤◌}
-use Rattle.outer_io.specs.Bytes.{Held, Grows}
+use Rattle.std.specs.Prelude.{◌≡◌, ℕ, ◌<◌, ◌≤◌, OnOk, OnErr, Result}
+use Rattle.outer_io.specs.Bytes.{Held, Grows, GrowsByFront}
 use Rattle.zone_model.specs.Names.{Name}
 use Rattle.zone_model.specs.Versions.{Version}
 use Rattle.zone_model.specs.Dumps.{dump}
@@ -9,7 +9,9 @@ use Rattle.job_model.specs.Sizes.{cell_count}
 use Rattle.shared_cells.specs.History.{IsPartOf}
 use Rattle.shared_cells.specs.Views.{with_pinned}
 use Rattle.shared_index.specs.Openings.{room_in}
-use Rattle.shared_index.specs.Passes.{Known}
+use Rattle.shared_index.specs.Passes.{Known, version_seen}
+use Rattle.zone_dump.specs.declared.refusal.DumpRefusal.{DumpRefusal}
+use Rattle.job_threads.specs.Histories.{StandsAs}
 use Rattle.job_threads.specs.declared.dumping.Dumped.{Dumped}
 use Rattle.job_threads.specs.declared.dumping.Dumped.TheVariants.{Written, DoesNotFit}
 
@@ -18,6 +20,11 @@ pub record Visited (old new : Known) : Type 0 where
   pub grows : IsPartOf new.seen old.seen
   pub version : ℕ
   pub pass : new.pass ≡ with_pinned old.pass version
+
+-- the version that a pass has seen last was written, or a front of it
+pub record Writes (style : Style) (origin : Name) (before now : Held) (result : Result ℕ DumpRefusal) (v : Known) : Type 0 where
+  pub ok : (zone : Version) → StandsAs (version_seen v.seen) zone → OnOk result (Grows before now (dump style origin zone))
+  pub err : (zone : Version) → StandsAs (version_seen v.seen) zone → OnErr result (GrowsByFront before now (dump style origin zone))
 
 -- the zone fits, and the whole file was written; or it doesn't, both numbers are told, and nothing was written
 abbrev pub DumpedOn : ℕ → Style → Name → Version → Held → Held → Dumped → Type 0

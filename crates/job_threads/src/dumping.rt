@@ -5,11 +5,11 @@ ghost use Rattle.outer_io.specs.Faults.{Rose};
 ghost use Rattle.zone_model.specs.Versions.{Version};
 ghost use Rattle.zone_model.specs.Dumps.{dump};
 ghost use Rattle.trie_write.specs.Entries.{entries_of_items};
-ghost use Rattle.shared_index.specs.Passes.{known_at, version_seen};
+ghost use Rattle.shared_index.specs.Passes.{known_at};
 ghost use Rattle.shared_index.specs.Closings.{AreAll};
 ghost use Rattle.job_threads.specs.Histories.{Entries, IsZone, StandsAs};
 ghost use Rattle.job_threads.specs.Works.{AreNew};
-ghost use Rattle.job_threads.specs.Dumps.{DumpedOn, Visited};
+ghost use Rattle.job_threads.specs.Dumps.{DumpedOn, Visited, Writes};
 
 use crate::law::ZoneLaw;
 use dns_name::Name;
@@ -44,10 +44,7 @@ fn dump_current<N: Named, K: Sink>(
     ensures here { IsSome pass.new.seat }
     ensures place { pass.new.place ≡ pass.old.place }
     ensures visited { Visited (known_at pass.old.seat) (known_at pass.new.seat) }
-    ensures ok { (zone : Version) → StandsAs (version_seen (known_at pass.new.seat).seen) zone
-        → OnOk result (Grows (K.held sink.old) (K.held sink.new) (dump style origin.now zone)) }
-    ensures err { (zone : Version) → StandsAs (version_seen (known_at pass.new.seat).seen) zone
-        → OnErr result (GrowsByFront (K.held sink.old) (K.held sink.new) (dump style origin.now zone)) }
+    ensures writes { Writes style origin.now (K.held sink.old) (K.held sink.new) result (known_at pass.new.seat) }
     ensures fault { IsErrOf result DumpRefusal.Fault → Rose (K.faults sink.old) (K.faults sink.new) }
     ensures quiet { (IsErrOf result DumpRefusal.Fault → ⊥) → K.faults sink.new ≡ K.faults sink.old }
 {

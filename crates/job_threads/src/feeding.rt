@@ -1,5 +1,5 @@
 //! One list of commands, of which each worker takes the next one when it comes free.
-ghost use Rattle.std.specs.Prelude.{◌≡◌, ◌+◌, ◌<◌, ◌≤◌, ◌∷◌, List, All, IsSome, IfOk, length, map, Some, None};
+ghost use Rattle.std.specs.Prelude.{◌≡◌, ◌+◌, ◌<◌, ◌≤◌, ◌∷◌, ℕ, List, All, IsSome, IfOk, length, map, Some, None};
 ghost use Rattle.std.specs.List.{AllByRecursion};
 ghost use Rattle.std.specs.Thread.{IsSync};
 ghost use Rattle.zone_model.specs.Versions.{Version};

@@ -1,11 +1,12 @@
 //! The outcomes of one list's commands, in the order of these.
-ghost use Rattle.std.specs.Prelude.{◌≡◌, ◌≢◌, ◌<◌, ◌≤◌, ◌-◌, [], ℕ, All, IfOk, IsSome, length, map, replicate};
+ghost use Rattle.std.specs.Prelude.{◌≡◌, ◌≢◌, ◌<◌, ◌≤◌, ◌-◌, [], ℕ, All, IfOk, IsSome, Some, length, map, replicate, slice_set};
 ghost use Rattle.std.specs.List.{AllByRecursion};
 ghost use Rattle.std.specs.List.Sorted.{IsStrictlyIncreasing};
 ghost use Rattle.job_threads.specs.Feeds.{AreInOrder, AreTaken, IsBy, IsFree, IsServed, numbered, numbers_served, served_by};
 
 use job_script::{FedOutcome, Outcomes};
 use std::alloc::{AllocError, Global};
+use std::collections::VecDeque;
 
 /// What a worker did of one list: the numbers of its commands, from 1, and an outcome for each.
 #[derive(Drop)]
@@ -23,6 +24,14 @@ fn free_places(alloc: Global, count: u32) -> Result<Vec<Option<FedOutcome>>, All
         places.push(None)?;
     }
     Ok(places)
+}
+
+// Puts an outcome into a place.
+fn place_one(places: &mut [Option<FedOutcome>], place: usize, outcome: FedOutcome)
+    requires { place < length places.old }
+    ensures { places.new ≡ slice_set places.old place (Some outcome) }
+{
+    places[place] = Some(outcome);
 }
 
 // Puts a worker's outcomes into the places of their numbers.
@@ -45,7 +54,7 @@ fn place_served(places: &mut [Option<FedOutcome>], worker: u32, served: Served)
             // There is a number for each outcome.
             unreachable!()
         };
-        places[number as usize - 1] = Some(FedOutcome { worker, outcome });
+        place_one(places, number as usize - 1, FedOutcome { worker, outcome });
     }
 }
 
@@ -55,7 +64,8 @@ fn all_placed(alloc: Global, places: Vec<Option<FedOutcome>>) -> Result<Vec<FedO
     ensures { IfOk result (λ fed. map Some fed.items ≡ places.items) }
 {
     let mut fed = Vec::with_capacity(alloc, places.len())?;
-    for place in places {
+    let mut places = VecDeque::from(places);
+    while let Some(place) = places.pop_front() {
         let Some(outcome) = place else {
             // Each command was run.
             unreachable!()
