@@ -1,6 +1,6 @@
 #!/usr/bin/env bash
 # Prints the examples as cases for the program `conformance`, which keeps them in crates/conformance/data/examples.cases:
-# each job with its report, and the made load with its summary. Where workers change the zone beside each other, the versions
+# each job with its report, the made load with its summary, and a zone with its dumps. Where workers change the zone beside each other, the versions
 # of their commands are left open. After a change:
 #   examples/cases.sh > crates/conformance/data/examples.cases
 set -eu
@@ -18,3 +18,9 @@ for job in first:0 delegations:0 transactions:1 writers:0 made:0; do
 done
 printf '\n= the load that made.job is the text of\nwords make --seed 7 --names 5 --turns 8 --workers 1\ndue 0\n'
 sed 's/^/| /' made.summary
+for style in full short; do
+  printf '\n= the zone of delegations.job, dumped\nwords dump --origin example. --style %s\n' "$style"
+  sed '/^%%$/,$d; s/^/| /' delegations.job
+  echo 'due 0'
+  sed 's/^/| /' "delegations.$style"
+done

@@ -2,7 +2,7 @@
 use Rattle.std.proofs.Common.{◌≡◌, ◌∙◌, ℕ, ◌+◌, ◌≤◌, List, [], ◌++◌, length, take, refl, sym, ap, subst, arith, append_assoc, append-nil, length-append, Result, Ok, Err}
 use Rattle.std.proofs.Math.Seq.{take-append-add}
 use Rattle.std.proofs.lemmas.List.{take-append-le, take_at}
-use Rattle.std.specs.Prelude.{OnOk, OnErr}
+use Rattle.std.specs.Prelude.{OnErr}
 use Rattle.outer_io.specs.Bytes.{Held, Grows, GrowsByFront}
 use Rattle.outer_io.proofs.GrowsLemmas.{Grows-nil, Grows-trans}
 use Rattle.zone_dump.specs.Writing.{Passes, PassesPart}
@@ -19,22 +19,7 @@ passes_more a b c x y z s t p q = record {
       ∙ sym (append_assoc p.written q.written z);
 }
 
--- a text is gathered, and then perhaps written
-pub passes_line : (a b : Held) (had mid has line : List ℕ) → mid ≡ had ++ line → Passes a b mid has [] → Passes a b had has line
-passes_line a b had mid has line e p = record { written = p.written; grown = p.grown; whole = sym e ∙ sym (append-nil mid) ∙ p.whole }
-
--- all that was gathered is written
-pub passes_flushed : {E : Type 0} (r : Result (Unit {0}) E) (a b : Held) (had has : List ℕ) → OnOk r (Grows a b had) → OnOk r (has ≡ []) → OnOk r (Passes a b had has [])
-passes_flushed (Ok u) a b had has g e = record { written = had; grown = g; whole = ap (λ (l : List ℕ). had ++ l) (sym e) }
-passes_flushed (Err e) a b had has g h = tt
-
-pub whole_written : (a b c : Held) (head has text : List ℕ) → Passes a b head has text → Grows b c has → Grows a c (head ++ text)
-whole_written a b c head has text p g = subst (Grows a c) (sym p.whole) (Grows-trans a b c p.written has p.grown g)
-
 -- ---- fronts
-
-pub front_none : (a : Held) (s : List ℕ) → GrowsByFront a a s
-front_none a s = (0, omega arith, Grows-nil a)
 
 pub front_longer : (a b : Held) (s t : List ℕ) → GrowsByFront a b s → GrowsByFront a b (s ++ t)
 front_longer a b s t f = (f.0, omega (arith, f.1, length-append s t), subst (Grows a b) (sym (take-append-le f.0 s t f.1)) f.2)
@@ -58,10 +43,6 @@ front_written a b x y s p =
 pub front_end : (a b c : Held) (x y s : List ℕ) → Passes a b x y s → GrowsByFront b c y → GrowsByFront a c (x ++ s)
 front_end a b c x y s p f =
     subst (λ (l : List ℕ). GrowsByFront a c (x ++ l)) (append-nil s) (front_later a b c x y s [] p (subst (GrowsByFront b c) (sym (append-nil y)) f))
-
--- what was gathered is written in part
-pub front_gathered : (a b : Held) (had mid line : List ℕ) → mid ≡ had ++ line → GrowsByFront a b mid → GrowsByFront a b (had ++ line)
-front_gathered a b had mid line e f = subst (GrowsByFront a b) e f
 
 -- whichever refusal it is
 pub on_any_err : {A E P : Type 0} (r : Result A E) → P → OnErr r P
