@@ -1,5 +1,5 @@
 -- What the one pass of an index shows that nobody committed by.
-use Rattle.std.proofs.Common.{◌≡◌, ◌∙◌, ⊎_elim, ℕ, ◌+◌, ◌<◌, true, List, [], ◌∷◌, ◌++◌, length, Option, Some, None, refl, sym, ap, subst, arith}
+use Rattle.std.proofs.Common.{◌≡◌, ◌∙◌, ⊎_elim, ℕ, ◌+◌, ◌-◌, ◌<◌, true, List, [], ◌∷◌, ◌++◌, length, map, slice_index_or, slice_set, Option, Some, None, refl, sym, ap, subst, arith}
 use Rattle.std.specs.Prelude.{Contains}
 use Rattle.std.specs.List.{All}
 use Rattle.pin_core.proofs.Lists.{contains_cases}
@@ -12,7 +12,7 @@ use Rattle.shared_index.specs.Operations.{applied}
 use Rattle.shared_index.specs.Passes.{Known, Pinned, commits_in, first_version, version_seen}
 use Rattle.shared_index.specs.Closings.{AllSeen, AreAll, Ends, Includes, IsCommitOf, IsThere}
 use Rattle.job_threads.specs.Histories.{Commit, Entries}
-use Rattle.job_threads.specs.Works.{IsNew}
+use Rattle.job_threads.specs.Works.{IsNew, AreNew}
 use Rattle.job_threads.specs.Dumps.{Visited}
 use Rattle.job_threads.proofs.HistoryLaws.{opened_same}
 use Rattle.job_threads.proofs.EndLaws.{number_with}
@@ -60,3 +60,20 @@ shows_opening opening old after number version last new told v all ends =
     let empty : last.history ≡ [] = nobody last.history after none (ends.commits there) in
     let seen : after.seen.history ≡ [] = front_of_none last.history after.seen.history (ends.each 0 after (omega arith)).seen.history empty in
     ap (λ (h : List Commit). version_after applied (first_version after.seen) h) seen ∙ opened_same after.seen old.seen told v.grows ∙ new.opened
+
+-- ---- the same, by the list of passes
+
+pub of_one : {A : Type 0} (xs : List A) (n : ℕ) (x : A) → length xs ≡ 1 → n ≡ 1 → x ≡ slice_index_or xs (n - 1) x → xs ≡ x ∷ []
+of_one [] n x long one h = absurd (omega (arith, long))
+of_one (y ∷ []) n x long one h = ap (λ (z : _). z ∷ []) (sym (subst (λ (k : ℕ). x ≡ slice_index_or (y ∷ []) (k - 1) x) one h))
+of_one (y ∷ z ∷ ys) n x long one h = absurd (omega (arith, long))
+
+pub set_one : {A : Type 0} (xs : List A) (n : ℕ) (x y : A) → xs ≡ x ∷ [] → n ≡ 1 → slice_set xs (n - 1) y ≡ y ∷ []
+set_one xs n x y is one = ap (λ (l : List _). slice_set l (n - 1) y) is ∙ ap (λ (k : ℕ). slice_set (x ∷ []) (k - 1) y) one
+
+pub opened_shows : {A : Type 0} (known : A → Known) (xs ys : List A) (x y : A) (opening : Entries) (count version : ℕ) (last : AllSeen) → xs ≡ x ∷ [] → ys ≡ y ∷ [] → count ≡ 1 → AreNew opening (map known xs) → is_told (known x).seen.opening ≡ true
+    → Visited (known x) (known y) → AreAll 1 (map known xs) → Ends count (map known ys) version last → version_seen (known y).seen ≡ opening
+opened_shows known xs ys x y opening count version last is_x is_y one new told v all ends =
+    let begun = subst (λ (l : List _). AreNew opening (map known l)) is_x new in
+    shows_opening opening (known x) (known y) begun.0.0 version last begun.0.1 told v (subst (λ (l : List _). AreAll 1 (map known l)) is_x all)
+    (subst (λ (n : ℕ). Ends n (known y ∷ []) version last) one (subst (λ (l : List _). Ends count (map known l) version last) is_y ends))

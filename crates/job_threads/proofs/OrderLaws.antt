@@ -1,21 +1,23 @@
 -- Outcomes that are put into the places of their numbers.
-use Rattle.std.proofs.Common.{◌≡◌, ◌∙◌, ◌⊎◌, inl, inr, ⊎_elim, ℕ, zero, suc, ◌+◌, ◌-◌, ◌<◌, ◌≤◌, Bool, true, false, cond, eqb, List, [], ◌∷◌, ◌++◌, length, get_or, set, replicate, Option, Some, None, refl, sym, ap, subst, arith, add-one, append_assoc, append-nil, length-append, eq-eqb, eqb-true}
+use Rattle.std.proofs.Common.{◌≡◌, ◌∙◌, ◌⊎◌, inl, inr, ⊎_elim, ℕ, zero, suc, ◌+◌, ◌-◌, ◌<◌, ◌≤◌, Bool, true, false, cond, eqb, List, [], ◌∷◌, ◌++◌, length, map, get_or, set, replicate, Option, Some, None, Result, Ok, Err, IfOk, Vec, refl, sym, ap, subst, arith, add-one, append_assoc, append-nil, length-append, eq-eqb, eqb-true}
 use Rattle.std.specs.Prelude.{Contains, IsSome, slice_get}
 use Rattle.std.proofs.lemmas.Bool.Decides.{nat_tests}
 use Rattle.std.proofs.lemmas.List.Sums.{sum_by-cons}
 use Rattle.std.proofs.lemmas.Option.{slice_get_within}
 use Rattle.std.specs.List.{All, AllByRecursion, zip}
+use Rattle.std.specs.Global.{Global}
+use Rattle.std.proofs.lemmas.List.{length-map}
 use Rattle.std.specs.List.Sorted.{IsStrictlyIncreasing}
 use Rattle.job_script.specs.declared.outcomes.FedOutcome.{FedOutcome}
 use Rattle.job_script.specs.declared.outcomes.Outcome.{Outcome}
 use Rattle.feed_core.specs.Feeds.{StandsOnce, list_at}
 use Rattle.feed_core.specs.Rule.{times}
 use Rattle.job_threads.specs.declared.ordering.Served.{Served}
-use Rattle.job_threads.specs.Feeds.{AreTaken, ArePlaced, IsBy, IsFree, IsServed, numbered, numbers_served, served_by}
+use Rattle.job_threads.specs.Feeds.{AreInOrder, AreTaken, ArePlaced, IsBy, IsFree, IsServed, numbered, numbers_served, served_by}
 use Rattle.job_threads.proofs.JobLaws.{here, there}
 use Rattle.job_threads.proofs.WorkLaws.{all_weaker}
 
-abbrev Places : Type 0
+abbrev pub Places : Type 0
 Places = List (Option FedOutcome)
 
 abbrev Numbered : Type 0
@@ -446,3 +448,11 @@ module _ (all : List Served) (end : ℕ) (places : Places) (some : 0 < end) (tak
 
   pub ordering_full : AllByRecursion IsSome places
   ordering_full = each_some places never_free
+
+  pub ordered : {E : Type 0} (r : Result (Vec FedOutcome Global) E) → IfOk r (λ fed. map Some fed.items ≡ places) → IfOk r (λ fed. AreInOrder (end - 1) all fed.items)
+  ordered (Ok fed) is = record {
+    many = sym (length-map fed.items Some) ∙ ap length is ∙ o.long;
+    placed = subst (λ (l : Places). ArePlaced 1 all l) (sym is) ordering_placed;
+    by_workers = subst (AllByRecursion (IsBy 0 (length all))) (sym is) ordering_workers;
+  }
+  ordered (Err e) is = tt

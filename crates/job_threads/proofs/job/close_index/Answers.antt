@@ -9,7 +9,7 @@ use Rattle.job_threads.proofs.EndLaws.{all_handed, job_ended}
 use Rattle.job_threads.proofs.job.close_index.Goals as goal
 
 pub close-version-requires : goal.close-version-requires
-close-version-requires g c = all_handed c.push.new.self.items _ _ (λ p. (IsSome p.seat) × (p.place ≡ c.args.index.place)) c.in_ok-push.ensures.items c.requires.here (search rules)
+close-version-requires g c = record { here = all_handed c.push.new.self.items _ _ (λ p. (IsSome p.seat) × (p.place ≡ c.args.index.place)) c.in_ok-push.ensures.items c.requires.here (search rules) }
 
 pub returns : goal.returns
 returns g c = λ s zone before ws os gathers counted all opens.

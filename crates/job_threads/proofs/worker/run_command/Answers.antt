@@ -24,3 +24,7 @@ returns-in_ok-outcome-in-AskHeld-clause-steps g c = λ s setup under.
 
 pub returns-in-Release-clause-steps : goal.returns-in-Release-clause-steps
 returns-in-Release-clause-steps g c = λ s setup under. step_is s c.give_back.result _ _ c.args.command.now _ c.in-Release.is (c.give_back.ensures.steps s setup.opening under)
+
+pub returns-in_ok-outcome-in-Ask-clause-steps : goal.returns-in_ok-outcome-in-Ask-clause-steps
+returns-in_ok-outcome-in-Ask-clause-steps g c = λ s setup under.
+    c.in_ok-outcome-in-Ask.ensures.steps s setup (option_map (λ p. p.seat) c.args.passes.now.spare) (option_map (λ h. h.seat) c.args.passes.now.held) c.requires.placed under
