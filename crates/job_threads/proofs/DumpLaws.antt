@@ -1,5 +1,5 @@
 -- What the one pass of an index shows that nobody committed by.
-use Rattle.std.proofs.Common.{◌≡◌, ◌∙◌, ⊎_elim, ℕ, ◌+◌, ◌-◌, ◌<◌, true, List, [], ◌∷◌, ◌++◌, length, map, slice_index_or, slice_set, Option, Some, None, refl, sym, ap, subst, arith}
+use Rattle.std.proofs.Common.{◌≡◌, ◌∙◌, ⊎_elim, ℕ, ◌-◌, true, List, [], ◌∷◌, length, map, slice_index_or, slice_set, Option, Some, refl, sym, ap, subst, arith}
 use Rattle.std.specs.Prelude.{Contains}
 use Rattle.std.specs.List.{All}
 use Rattle.pin_core.proofs.Lists.{contains_cases}
@@ -10,7 +10,7 @@ use Rattle.shared_cells.specs.declared.view.Progress.TheVariants as progress
 use Rattle.shared_index.specs.declared.meaning.Operation.{Operation}
 use Rattle.shared_index.specs.Operations.{applied}
 use Rattle.shared_index.specs.Passes.{Known, Pinned, commits_in, first_version, version_seen}
-use Rattle.shared_index.specs.Closings.{AllSeen, AreAll, Ends, Includes, IsCommitOf, IsThere}
+use Rattle.shared_index.specs.Closings.{AllSeen, AreAll, Ends, IsCommitOf}
 use Rattle.job_threads.specs.Histories.{Commit, Entries}
 use Rattle.job_threads.specs.Works.{IsNew, AreNew}
 use Rattle.job_threads.specs.Dumps.{Visited}

@@ -1,18 +1,15 @@
 -- How a job ends, by what main's last question and the end of the index tell.
-use Rattle.std.proofs.Common.{◌≡◌, ◌∙◌, ⊎_elim, ℕ, ◌+◌, ◌*◌, true, List, [], ◌∷◌, ◌++◌, length, map, Option, Some, None, refl, sym, ap, subst, arith, length-append}
+use Rattle.std.proofs.Common.{◌≡◌, ◌∙◌, ⊎_elim, ℕ, ◌+◌, true, List, [], ◌∷◌, ◌++◌, length, map, Option, Some, None, refl, sym, ap, subst, arith, length-append}
 use Rattle.std.specs.Prelude.{Contains}
 use Rattle.std.specs.List.{All}
-use Rattle.std.proofs.lemmas.List.{length-map, map-append}
+use Rattle.std.proofs.lemmas.List.{map-append}
 use Rattle.std.proofs.lemmas.List.Elements.{All-push}
 use Rattle.pin_core.proofs.Lists.{contains_cases}
-use Rattle.zone_model.specs.Names.{Name}
 use Rattle.zone_model.specs.Versions.{Version}
 use Rattle.trie_model.specs.Shape.{nodes, keys_of}
 use Rattle.job_model.specs.Commands.{Command}
-use Rattle.job_model.specs.Outcomes.{passes_for}
 use Rattle.job_script.specs.declared.outcomes.Outcomes.{Outcomes}
 use Rattle.shared_cells.specs.declared.view.PassView.{PassView}
-use Rattle.shared_cells.specs.declared.view.TableSize.{TableSize}
 use Rattle.shared_cells.specs.declared.view.Progress.TheVariants as progress
 use Rattle.shared_cells.specs.History.{StartsWith, version_after}
 use Rattle.shared_cells.specs.Views.{number_of, is_told, with_pinned, with_progress}
@@ -21,7 +18,6 @@ use Rattle.shared_index.specs.Operations.{applied}
 use Rattle.shared_index.specs.Passes.{Known, Pinned, first_version, version_seen}
 use Rattle.shared_index.specs.Closings.{AllSeen, AreAll, Ends}
 use Rattle.job_threads.specs.Histories.{Setup, Entries, StandsAs}
-use Rattle.job_threads.specs.Commands.{IsIndex}
 use Rattle.job_threads.specs.Closings.{Worker, workers_views, views_of, numbers_in, commands_in, MainSees, Gathers}
 use Rattle.job_threads.specs.Runs.{IsRun}
 use Rattle.job_threads.proofs.HistoryLaws.{begins_more, opened_same}

@@ -1,7 +1,6 @@
 -- What one list of commands comes to, by what each worker served.
 use Rattle.std.proofs.Common.{◌≡◌, ◌∙◌, ◌⊎◌, inl, inr, ℕ, suc, ◌+◌, ◌-◌, ◌<◌, ◌≤◌, Bool, true, false, cond, eqb, List, [], ◌∷◌, ◌++◌, length, map, get_or, Some, refl, sym, ap, ap₂, subst, arith, append_assoc, length-append, eq-eqb}
 use Rattle.std.proofs.lemmas.Bool.{cases_eq}
-use Rattle.std.proofs.lemmas.List.{length-map}
 use Rattle.std.specs.List.{AllByRecursion, range_with_len, zip}
 use Rattle.zone_model.specs.Names.{Name}
 use Rattle.zone_model.specs.Versions.{Version}
@@ -10,12 +9,11 @@ use Rattle.job_model.specs.Outcomes.{Lawful, Pair, all_pairs, version_at}
 use Rattle.job_model.specs.Feeds.{Fed, all_numbers, by_worker, pairs_by, passes_fed}
 use Rattle.job_model.proofs.FeedLaws.{IsAmong, workers_fed}
 use Rattle.job_script.specs.Feeds.{FedTell, fed_pairs}
-use Rattle.job_script.specs.Outcomes.{outcome_view, pairs_of, job_pairs, versions_made, Tells, EachTells, AllTell}
+use Rattle.job_script.specs.Outcomes.{outcome_view, pairs_of, job_pairs, Tells, EachTells, AllTell}
 use Rattle.job_script.specs.declared.outcomes.FedOutcome.{FedOutcome}
 use Rattle.job_script.specs.declared.outcomes.Outcome.{Outcome}
-use Rattle.job_script.specs.declared.outcomes.Outcomes.{Outcomes}
 use Rattle.job_threads.specs.Runs.{IsRun}
-use Rattle.job_threads.specs.Feeds.{AreInOrder, ArePlaced, IsBy, IsFedRun, command_at, commands_at, commands_served, numbered, outcomes_served, served_by}
+use Rattle.job_threads.specs.Feeds.{AreInOrder, ArePlaced, IsBy, IsFedRun, command_at, commands_at, commands_served, outcomes_served, served_by}
 use Rattle.job_threads.specs.declared.ordering.Served.{Served}
 
 -- ---- commands by their numbers

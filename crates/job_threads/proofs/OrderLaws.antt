@@ -1,5 +1,5 @@
 -- Outcomes that are put into the places of their numbers.
-use Rattle.std.proofs.Common.{◌≡◌, ◌∙◌, ◌⊎◌, inl, inr, ⊎_elim, ℕ, zero, suc, ◌+◌, ◌-◌, ◌<◌, ◌≤◌, Bool, true, false, cond, eqb, List, [], ◌∷◌, ◌++◌, length, map, get_or, set, replicate, Option, Some, None, Result, Ok, Err, IfOk, Vec, refl, sym, ap, subst, arith, add-one, append_assoc, append-nil, length-append, eq-eqb, eqb-true}
+use Rattle.std.proofs.Common.{◌≡◌, ◌∙◌, ◌⊎◌, inl, inr, ℕ, zero, suc, ◌+◌, ◌-◌, ◌<◌, ◌≤◌, Bool, true, false, cond, eqb, List, [], ◌∷◌, ◌++◌, length, map, get_or, set, replicate, Option, Some, None, Result, Ok, Err, IfOk, Vec, refl, sym, ap, subst, arith, add-one, append_assoc, append-nil, length-append, eq-eqb, eqb-true}
 use Rattle.std.specs.Prelude.{Contains, IsSome, slice_get}
 use Rattle.std.proofs.lemmas.Bool.Decides.{nat_tests}
 use Rattle.std.proofs.lemmas.List.Sums.{sum_by-cons}
@@ -10,7 +10,7 @@ use Rattle.std.proofs.lemmas.List.{length-map}
 use Rattle.std.specs.List.Sorted.{IsStrictlyIncreasing}
 use Rattle.job_script.specs.declared.outcomes.FedOutcome.{FedOutcome}
 use Rattle.job_script.specs.declared.outcomes.Outcome.{Outcome}
-use Rattle.feed_core.specs.Feeds.{StandsOnce, list_at}
+use Rattle.feed_core.specs.Feeds.{list_at}
 use Rattle.feed_core.specs.Rule.{times}
 use Rattle.job_threads.specs.declared.ordering.Served.{Served}
 use Rattle.job_threads.specs.Feeds.{AreInOrder, AreTaken, ArePlaced, IsBy, IsFree, IsServed, numbered, numbers_served, served_by}

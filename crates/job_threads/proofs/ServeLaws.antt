@@ -1,19 +1,21 @@
 -- A worker that runs commands of one list, as it gets their numbers.
-use Rattle.std.proofs.Common.{◌≡◌, ◌∙◌, ℕ, zero, suc, ◌-◌, ◌<◌, true, false, List, [], ◌∷◌, ◌++◌, length, map, get_or, Option, Some, None, sym, ap, subst, arith}
+use Rattle.std.proofs.Common.{◌≡◌, ◌∙◌, ℕ, zero, suc, ◌-◌, ◌<◌, true, false, List, [], ◌∷◌, ◌++◌, length, map, get_or, Option, Some, None, refl, sym, ap, subst, arith}
 use Rattle.std.proofs.lemmas.List.{get_or-map, length-map, map-append}
-use Rattle.std.specs.List.{AllByRecursion}
+use Rattle.std.specs.List.{All, Any, AllByRecursion}
+use Rattle.std.proofs.lemmas.List.Folds.{Any-from_list_any}
 use Rattle.job_model.specs.Commands.{Command, Ask, Hold, AskHeld, Release, Block, Compact, MayCome, NeedsNoSnapshot}
 use Rattle.job_script.specs.Views.{command_view}
 use Rattle.job_script.specs.declared.commands.Command.{Command as Said}
 use Rattle.job_script.specs.declared.outcomes.Outcome.{Outcome}
-use Rattle.feed_core.specs.Feeds.{Handout, Takings}
+use Rattle.feed_core.specs.Feeds.{Handout, Takings, lists_of}
 use Rattle.shared_cells.specs.Views.{is_told}
 use Rattle.shared_index.specs.Passes.{known_at}
 use Rattle.job_threads.specs.Histories.{Setup}
 use Rattle.job_threads.specs.Steps.{Step}
 use Rattle.job_threads.specs.Stations.{Seat, station}
 use Rattle.job_threads.specs.Works.{IsNew, Numbers}
-use Rattle.job_threads.specs.Feeds.{command_at, commands_at, done_seat, only}
+use Rattle.job_threads.specs.Feeds.{command_at, commands_at, done_seat, numbers_served, only, seats_served}
+use Rattle.job_threads.specs.declared.ordering.Served.{Served}
 use Rattle.job_threads.proofs.HistoryLaws.{opened_same}
 use Rattle.job_threads.proofs.WorkLaws.{WorkerAt, worker_goes_on, worker_starts}
 
@@ -67,3 +69,19 @@ serve_next s numbers seat after first all taken more number here os most o told 
 pub seat_done : (old new : Takings) (feed : Handout) (numbers : List ℕ) → old.feed ≡ feed → old.taken ≡ numbers → new ≡ record old { done = true } → new ≡ done_seat feed numbers
 seat_done old new feed numbers same taken after =
     after ∙ ap (λ (f : Handout). record { feed = f; taken = old.taken; done = true }) same ∙ ap (done_seat feed) taken
+
+-- ---- all seats are back
+
+pub seats_of_feed : (feed : Handout) (served : List Served) → All (λ seat. seat.feed ≡ feed) (seats_served feed served)
+seats_of_feed feed [] k d lt = absurd (omega arith)
+seats_of_feed feed (v ∷ served) zero d lt = refl
+seats_of_feed feed (v ∷ served) (suc k) d lt = seats_of_feed feed served k d (omega (arith, lt))
+
+pub lists_served : (feed : Handout) (served : List Served) → lists_of (seats_served feed served) ≡ numbers_served served
+lists_served feed [] = refl
+lists_served feed (v ∷ served) = ap (λ (ls : List (List ℕ)). v.numbers.items ∷ ls) (lists_served feed served)
+
+-- the seats were told that none is left
+pub some_done : (feed : Handout) (served : List Served) → 0 < length served → Any (λ seat. seat.done ≡ true) (seats_served feed served)
+some_done feed [] some = absurd (omega (arith, some))
+some_done feed (v ∷ served) some = Any-from_list_any (λ (seat : Takings). seat.done) (seats_served feed (v ∷ served)) refl

@@ -1,4 +1,4 @@
-use Rattle.std.proofs.Common.{◌≡◌, ◌∙◌, [], ◌∷◌, arith, sym, subst, vec_len}
+use Rattle.std.proofs.Common.{◌≡◌, ◌∙◌, arith, sym, subst, vec_len}
 use Rattle.std.specs.Prelude.{IsSome}
 use Rattle.std.specs.List.{All}
 use Rattle.shared_index.specs.Passes.{known_at}

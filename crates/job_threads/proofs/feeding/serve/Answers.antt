@@ -1,8 +1,7 @@
-use Rattle.std.proofs.Common.{rules, ◌≡◌, ◌∙◌, ◌-◌, ◌<◌, ℕ, List, [], Some, None, length, map, refl, sym, ap, subst}
+use Rattle.std.proofs.Common.{rules, ◌∙◌, ◌-◌, ◌<◌, ℕ, List, [], Some, None, length, map, refl, sym, ap, subst}
 use Rattle.job_script.specs.Views.{command_view}
 use Rattle.job_script.specs.declared.outcomes.Outcome.{Outcome}
 use Rattle.feed_core.specs.Feeds.{Takings}
-use Rattle.shared_index.specs.Passes.{known_at}
 use Rattle.job_threads.specs.Feeds.{commands_at, only}
 use Rattle.job_threads.specs.Stations.{station}
 use Rattle.job_threads.proofs.ServeLaws.{command_here, plain_here, serve_starts, serve_next}

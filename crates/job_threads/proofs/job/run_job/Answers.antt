@@ -1,4 +1,4 @@
-use Rattle.std.proofs.Common.{◌≡◌, ◌∙◌, List, map, sym, ap, subst}
+use Rattle.std.proofs.Common.{◌∙◌, List, map, sym, subst}
 use Rattle.std.proofs.lemmas.List.{length-map}
 use Rattle.zone_model.specs.Names.{Name}
 use Rattle.shared_index.specs.Closings.{AreAll}

@@ -1,7 +1,7 @@
 use Rattle.std.proofs.Common.{rules, ◌≡◌, ◌∙◌, ◌+◌, ◌<◌, ◌≤◌, ℕ, List, [], length, sym, ap, subst}
 use Rattle.std.specs.List.{AllByRecursion}
 use Rattle.std.proofs.lemmas.List.{with_items_is}
-use Rattle.job_threads.specs.Feeds.{IsBy, IsFree, served_by}
+use Rattle.job_threads.specs.Feeds.{IsBy, IsFree, numbered, served_by}
 use Rattle.job_threads.specs.declared.ordering.Served.{Served}
 use Rattle.job_threads.proofs.OrderLaws.{Places, Ordering, ordering_begins, next_alike, next_rising, next_none, next_free, ordering_next, ordering_full, ordered}
 use Rattle.job_threads.proofs.ordering.in_order.Goals as goal
@@ -37,7 +37,7 @@ loop-one-preserved c =
     let same : length c.place_served.new.places ≡ length c.loop-one.places.items = search (rules, placed, was) in
     subst (λ (l : Places). Ordering c.args.served.items c.args.end rest l) (sym (with_items_is c.loop-one.places new (same ∙ sym c.loop-one.places.ok.0)))
     (ordering_next c.args.served.items c.loop-one.served.items rest c.args.end c.in-Some.one c.loop-one.places.items c.in-Some.ensures.items c.requires.taken c.requires.alike c.loop-one.invariant new same
-    (subst (λ (n : ℕ). served_by n 1 new ≡ _) worker placed.mine)
+    (subst (λ (n : ℕ). served_by n 1 new ≡ numbered c.in-Some.one) worker placed.mine)
     (λ other differs. placed.others other (λ e. differs (e ∙ worker)) ∙ ap (served_by other 1) was)
     (λ low high less most by. placed.workers low high (subst (λ (n : ℕ). low < n) (sym worker) less) (subst (λ (n : ℕ). n ≤ high) (sym worker) most) (subst (λ (l : Places). AllByRecursion (IsBy low high) l) (sym was) by)))
 

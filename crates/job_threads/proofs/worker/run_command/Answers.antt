@@ -1,14 +1,8 @@
-use Rattle.std.proofs.Common.{◌≡◌, sym, subst}
+use Rattle.std.proofs.Common.{sym, subst}
 use Rattle.std.specs.Option.{option_map}
 use Rattle.job_model.specs.Commands.{AskHeld}
-use Rattle.job_script.specs.Views.{command_view, question_view}
-use Rattle.job_script.specs.Views.{asked_view}
-use Rattle.job_script.specs.declared.commands.Command.{Command}
-use Rattle.job_script.specs.declared.outcomes.Outcome.{Outcome}
-use Rattle.shared_index.specs.Passes.{known_at}
-use Rattle.job_threads.specs.Histories.{Setup}
-use Rattle.job_threads.specs.Commands.{Asked}
-use Rattle.job_threads.specs.Steps.{Station, Step}
+use Rattle.job_script.specs.Views.{question_view}
+use Rattle.job_threads.specs.Steps.{Step}
 use Rattle.job_threads.specs.Stations.{station}
 use Rattle.job_threads.proofs.StationLaws.{step_is}
 use Rattle.job_threads.proofs.worker.run_command.Goals as goal
