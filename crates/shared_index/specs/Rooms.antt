@@ -1,5 +1,7 @@
 -- How a call whose first try finds no room makes some, and which chunks its operation takes.
 use Rattle.std.specs.Prelude.{◌≡◌, ◌⊎◌, ℕ, slice_index}
+use Rattle.chunk_usage.specs.declared.space.Full.{Full as NoRoom}
+use Rattle.chunk_usage.specs.Handing.{Lacks}
 use Rattle.evacuate.specs.declared.evacuation.Done.{Done}
 use Rattle.shared_index.specs.declared.desk.Draft.{Draft}
 use Rattle.shared_index.specs.Drafts.{Works}
@@ -7,11 +9,13 @@ use Rattle.shared_index.specs.Keepings.{GoesOn, Rounds}
 use Rattle.shared_index.specs.Movings.{Evacuates}
 use Rattle.shared_index.specs.Tries.{Spares}
 
--- A try found no room: what was handed out counts no more.
+-- A try found no room, as the numbers of some request say. What was handed out counts no more.
 pub record Fails (old new : Draft) : Type 0 where
   pub seen : new.seat.place.me.0.seen ≡ old.seat.place.me.0.seen
   pub spares : Spares old.usage new.usage
   pub counts : (k : ℕ) → slice_index new.usage.live k ≡ slice_index old.usage.live k
+  pub full : NoRoom
+  pub lacks : Lacks new.usage full
 
 -- a round of the call's, and the freeing behind it
 pub record FreesRoom (old new : Draft) : Type 0 where

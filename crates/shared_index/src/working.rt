@@ -51,7 +51,7 @@ impl Draft {
         ensures operates { Operates (operation_of change.now) (IsRefused change.now) self result.0 (IsOk result.1) (result.1 ≡ Err Unchanged.Refused) }
         ensures full { (f : _) → result.1 ≡ Err (Unchanged.Full f) → Lacks result.0.usage f }
         ensures tried { IfErr result.1 (λ e. Tried change.now self.root self.seat.place.me.0 self.usage result.0.seat.place.me.0 result.0.usage (Err e)) }
-        ensures fails { IfErr result.1 (λ _. Fails self result.0) }
+        ensures fails { (f : _) → result.1 ≡ Err (Unchanged.Full f) → Fails self result.0 }
         ensures spares { Spares self.usage result.0.usage }
         ensures root { IfErr result.1 (λ _. result.0.root ≡ self.root) }
     {

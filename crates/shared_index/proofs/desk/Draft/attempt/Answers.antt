@@ -1,4 +1,4 @@
-use Rattle.std.proofs.Common.{◌∙◌, ℕ, List, Option, Ok, sym, ap, subst}
+use Rattle.std.proofs.Common.{◌≡◌, ◌∙◌, ℕ, List, Option, Ok, Err, IfErr, refl, sym, ap, subst}
 use Rattle.trie_model.specs.Keys.{Entry}
 use Rattle.chunk_usage.specs.Ledger.{Ledger}
 use Rattle.shared_cells.specs.declared.turn.JoinedSeat.{JoinedSeat}
@@ -25,7 +25,7 @@ pub returns-in-Ok-clause-spares : goal.returns-in-Ok-clause-spares
 returns-in-Ok-clause-spares g c = subst (Spares c.args.self.usage) (sym c.with_done.ensures.usage) c.attempt-seat.ensures.tried.spares
 
 pub returns-in-Err-clause-fails : goal.returns-in-Err-clause-fails
-returns-in-Err-clause-fails g c =
+returns-in-Err-clause-fails g c f e =
     let d = c.args.self in
     let tried = c.attempt-seat.ensures.tried in
     let by_call = subst (Tried c.args.change.now d.root d.seat.place.me.0 d.usage c.attempt-seat.result.0.place.me.0 c.attempt-seat.new.usage) c.in-Err.is tried in
@@ -33,4 +33,6 @@ returns-in-Err-clause-fails g c =
       seen = ap (λ (x : Known). x.seen) tried.same;
       spares = tried.spares;
       counts = by_call.counts;
+      full = f;
+      lacks = tried.full f (c.in-Err.is ∙ ap (λ x. Err x) (subst (λ r. IfErr r (λ x. c.in-Err.unchanged ≡ x)) e refl));
     }

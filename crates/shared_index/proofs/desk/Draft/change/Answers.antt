@@ -1,11 +1,11 @@
-use Rattle.std.proofs.Common.{IfErr, inl, inr, refl, subst}
+use Rattle.std.proofs.Common.{inl, inr, refl, rules}
 use Rattle.shared_index.specs.Rooms.{Fails}
 use Rattle.shared_index.proofs.desk.Draft.change.Given.{Over}
 use Rattle.shared_index.proofs.desk.Draft.change.Goals as goal
 
 -- the first try found no room
 first_fails : (g : Over) (c : goal.After-change_at_last g) → Fails c.args.self c.attempt-draft.result.0
-first_fails g c = subst (λ r. IfErr r (λ x. Fails c.args.self c.attempt-draft.result.0)) c.in-Err-Full.is c.attempt-draft.ensures.fails
+first_fails g c = c.attempt-draft.ensures.fails c.in-Err-Full.field-0-0 (search rules)
 
 pub returns-in-Err-Full-clause-spares : goal.returns-in-Err-Full-clause-spares
 returns-in-Err-Full-clause-spares g c =

@@ -50,7 +50,7 @@ returns-clause-full g c f kept e same =
     let left = c.make_room-left in
     let tried = c.attempt in
     let ends = left.ensures.frees.round.kept.ends in
-    let fails = subst (λ r. IfErr r (λ x. Fails left.result tried.result.0)) e tried.ensures.fails in
+    let fails = tried.ensures.fails f e in
     full_of left.result tried.result.0 f (full_with f kept) tried.ensures.operates.known (rows_stay g c fails) left.ensures.named
     (ends.0, ends.1 ∙ ap (λ (n : ℕ). ends.0 ++ n ∷ []) (sym left.ensures.numbers.0)) (tried.ensures.full f e) (refl, refl, refl, refl) same
 
@@ -60,7 +60,7 @@ returns-clause-cause g c f kept e same =
     let tried = c.attempt in
     let change = c.args.change.now in
     let stays = subst (λ r. IfErr r (λ x. Tried change left.result.root left.result.seat.place.me.0 left.result.usage tried.result.0.seat.place.me.0 tried.result.0.usage (Err x))) e tried.ensures.tried in
-    let fails = subst (λ r. IfErr r (λ x. Fails left.result tried.result.0)) e tried.ensures.fails in
+    let fails = tried.ensures.fails f e in
     let root = subst (λ r. IfErr r (λ x. tried.result.0.root ≡ left.result.root)) e tried.ensures.root in
     let on = tried.ensures.operates.known in
     let told = same ∙ rows_stay g c fails in
