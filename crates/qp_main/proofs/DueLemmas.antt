@@ -1,5 +1,5 @@
 -- What is due for an input.
-use Rattle.std.proofs.Common.{◌≡◌, ◌∙◌, ℕ, ◌+◌, Bool, true, false, cond, leb, List, [], length, Option, Some, None, Result, Ok, Err, IfOk, refl, sym, ap, subst, arith, codes, length-append, append-nil, ◌++◌, ◌≤◌}
+use Rattle.std.proofs.Common.{◌≡◌, ◌∙◌, ℕ, ◌+◌, Bool, true, false, cond, leb, List, [], length, Option, Some, None, Result, Ok, Err, IfOk, inl, inr, refl, sym, ap, subst, arith, codes, length-append, append-nil, ◌++◌, ◌≤◌}
 use Rattle.std.proofs.lemmas.Bool.Decides.{nat_tests}
 use Rattle.std.specs.Io.KnownBytes.{Consumes, IsAtEnd}
 use Rattle.outer_io.specs.Bytes.{Held}
@@ -18,10 +18,16 @@ use Rattle.job_model.specs.Outcomes.{some_refused}
 use Rattle.job_model.specs.Feeds.{some_fed_refused}
 use Rattle.zone_model.specs.declared.ZoneKind.{ZoneKind}
 use Rattle.job_model.specs.declared.ScriptKind.{ScriptKind}
+use Rattle.job_script.specs.Scripts.{Says}
+use Rattle.job_script.specs.declared.refusal.JobRefusal.{JobRefusal as ScriptStop}
+use Rattle.job_script.specs.declared.refusal.JobRefusal.TheVariants as stop
 use Rattle.zone_model.specs.MasterFile.{Zone}
 use Rattle.zone_text.specs.Views.{Reads}
 use Rattle.zone_text.specs.declared.refusal.ZoneRefusal.{ZoneRefusal}
 use Rattle.zone_text.specs.declared.refusal.ZoneRefusal.TheVariants as refusal
+use Rattle.job_model.specs.Sizes.{cell_count}
+use Rattle.shared_index.specs.Openings.{room_in}
+use Rattle.job_threads.specs.Dumps.{StopsOn}
 use Rattle.qp_main.specs.Fits.{fits, no_room_text, opened_text}
 use Rattle.qp_main.specs.Due.{Due, DueBytes, DueGiven, DueInput, Answers, FedAnswers, Checks, CutShort, Dumps, EndsLoad, IfFits, Ends, JobRefuses, Refuses, RefusesScript, Reported, FedReported, IsWritten, MayBeShort, Written, input_of, is_streamed, streams, zone_kind_text, refusal_text}
 use Rattle.qp_main.specs.declared.telling.Telling.{Telling}
@@ -39,6 +45,9 @@ too_long invocation (Some all) None bytes c e = absurd c
 too_long invocation (Some all) (Some rest) bytes c e =
     let long : leb (length all) 16777216 ≡ false = (let n : 16777217 + length rest ≡ length all = omega (arith, ap (λ (l : List ℕ). length l) c, length-append bytes rest, e) in grind (arith, nat_tests)) in
     subst (λ (b : Bool). DueBytes invocation all b status.TooLong (codes "input over 16777216 bytes\n")) (sym long) (refl, refl)
+
+fits_room : (n m : ℕ) → n ≤ m → leb n m ≡ true
+fits_room n m h = grind (arith, nat_tests)
 
 within_limit : (n : ℕ) → n ≤ 16777216 → leb n 16777216 ≡ true
 within_limit n h = grind (arith, nat_tests)
@@ -112,12 +121,28 @@ pub some_words : (o : Option Invocation) (left : Option (List ℕ)) → streams 
 some_words None left e = absurd cc
 some_words (Some i) left e = some_due i left e
 
+-- of a dump that stopped
+pub stopped_dump : (chunks : ℕ) (style : Style) (origin : Name) (zone : Version) (before now : Held) → StopsOn chunks style origin zone before now → CutShort (Dumps chunks style origin (Ok zone)) before now
+stopped_dump chunks style origin zone before now stops = elim stops [
+  | inl front ↦ record {
+    status = status.Done;
+    text = dump style origin zone;
+    is_due = fitting chunks zone (Ends status.Done (dump style origin zone)) status.Done (dump style origin zone) (fits_room (cell_count zone) (room_in chunks) front.0) (refl, refl);
+    grew = front.1;
+  }
+  | inr same ↦ subst (λ (h : Held). CutShort (Dumps chunks style origin (Ok zone)) before h) (sym same) (nothing_yet (Dumps chunks style origin (Ok zone)) before (some_dump chunks style origin (Ok zone)))
+]
+
 -- a zone that its reader refused
 pub dump_stops : (chunks : ℕ) (style : Style) (origin : Name) (bytes : List ℕ) (lines : List (List ℕ)) (r : ZoneRefusal) (s : Status) (text : List ℕ) → lines ≡ zone_lines bytes → Reads {R = Zone} (Err r) (λ z. z.pairs) (zone_of origin lines) → Refuses r s text → Dumps chunks style origin (zone_of origin (zone_lines bytes)) s text
 dump_stops chunks style origin bytes lines (refusal.Refused line kind) s text same z h = subst (λ (x : Result Version (Refused ZoneKind)). Dumps chunks style origin x s text) (sym (ap (zone_of origin) (sym same) ∙ z)) h
 dump_stops chunks style origin bytes lines refusal.Memory s text same z h = absurd h
 
 -- ---- jobs
+
+-- what a reader of scripts said when it refused one
+pub script_said : {R A : Type 0} (view : R → A) (e : ScriptStop) (line : ℕ) (kind : ScriptKind) (wanted : Result A (Refused ScriptKind)) → e ≡ stop.Refused line kind → Says (Err e) view wanted → wanted ≡ Err (record { line = line; kind = kind })
+script_said view e line kind wanted is says = subst (λ (x : ScriptStop). Says (Err x) view wanted) is says
 
 whole_job : (origin : Name) (bytes : List ℕ) (zone : Version) (workers : List (List Command)) → zone_of origin (zone_lines bytes) ≡ Ok zone → script_of origin (script_start bytes) (script_lines bytes) ≡ Ok workers
     → job_of origin bytes ≡ Ok (record { origin = origin; zone = zone; workers = workers })

@@ -1,22 +1,24 @@
-use Rattle.std.proofs.Common.{rules, ◌≡◌, ◌<◌, ◌≤◌, ◌+◌, ◌^◌, ◌++◌, ◌∷◌, [], ℕ, List, length, IfOk, OnOk, map, codes, Ok, Err, false, Option, Result, IfSome, MatchOption, IsSome, Some, None, ◌-◌, ◌*◌, ◌/◌, ◌%◌, Bool, true, nat_eq, nat_lt, slice_index_or, slice_set, bit_and, bit_or, Fits, w8, w32, w64, Bor, MutBor}
-use Rattle.std.specs.List.{AllByRecursion}
-use Rattle.std.specs.String.{string_bytes}
-use Rattle.std.specs.Io.KnownBytes.{Consumes}
+use Rattle.std.proofs.Common.{rules, ◌≡◌, ◌∙◌, ℕ, List, Err, IfOk, ap₂, sym, subst, take, drop, length, ◌-◌}
+use Rattle.zone_model.specs.Lines.{lines_of}
 use Rattle.zone_model.specs.MasterFile.{zone_of}
-use Rattle.job_model.specs.Commands.{InTurn}
-use Rattle.job_model.specs.Jobs.{zone_lines, script_lines, script_start, script_of, job_of}
+use Rattle.zone_model.specs.Refusals.{Refused}
+use Rattle.job_model.specs.Jobs.{zone_lines, script_of}
+use Rattle.job_model.specs.declared.ScriptKind.{ScriptKind}
 use Rattle.job_script.specs.Views.{job_view}
-use Rattle.job_model.specs.Loads.{made_origin}
-use Rattle.job_script.specs.Parts.{IsCutAt}
-use Rattle.outer_io.specs.Faults.{Rose}
-use Rattle.outer_io.specs.Bytes.{Grows, GrowsByFront}
-use Rattle.job_make.specs.Views.{load_view}
-use Rattle.command_line.specs.Invocations.{IsUnder, Make}
-use Rattle.command_line.specs.Views.{invocation_view, verb_view}
-use Rattle.command_line.specs.Words.{invocation_of}
-use Rattle.qp_main.specs.Due.{Answers, Checks, CutShort, Due, DueInput, EndsLoad, IsMade, IsUnwritten, IsWritten, MayBeShort, Written, input_of, is_streamed, streams}
+use Rattle.qp_main.specs.Due.{RefusesScript}
+use Rattle.qp_main.proofs.ReportingLemmas.{lines_behind}
+use Rattle.qp_main.proofs.DueLemmas.{ok_map, script_said, script_refuses}
 use Rattle.qp_main.proofs.program.answer_job.Goals as goal
 
--- src/program.rt:84:1
 pub returns-in-Err-Refused : goal.returns-in-Err-Refused
-returns-in-Err-Refused g c = ?
+returns-in-Err-Refused g c =
+    let origin = c.args.invocation.now.origin in
+    let bytes = c.args.bytes.items in
+    let first = c.args.parts.first_line in
+    let from = c.args.parts.script_from in
+    let e : Refused ScriptKind = record { line = c.in-Err-Refused.line; kind = c.in-Err-Refused.kind } in
+    let said = script_said job_view c.in-Err-Refused.field-0 c.in-Err-Refused.line c.in-Err-Refused.kind (script_of origin first (lines_of (take (length c.as_slice.result.now - from) (drop from c.as_slice.result.now)))) c.in-Err-Refused.field-0-is c.in-Err-Refused.ensures.reads in
+    let refused = ap₂ (λ (n : ℕ) (ls : List (List ℕ)). script_of origin n ls) (sym c.requires.cut.first) (sym (lines_behind bytes c.args.parts c.requires.cut))
+    ∙ subst (λ (b : List ℕ). script_of origin first (lines_of (take (length b - from) (drop from b))) ≡ Err e) c.as_slice.ensures.value said in
+    let told : IfOk c.refuse_script.result (λ x. RefusesScript (zone_of c.args.invocation.now.origin (zone_lines c.args.bytes.items)) (record { line = c.in-Err-Refused.line; kind = c.in-Err-Refused.kind }) x.0 x.1.items) = search (rules, c.refuse_script.ensures, c.deref.ensures.value) in
+    ok_map c.refuse_script.result (λ x r. script_refuses c.args.telling c.args.invocation.now.chunks origin bytes e refused x.0 x.1.items r) told

@@ -1,26 +1,19 @@
-use Rattle.std.proofs.Common.{rules, ◌≡◌, ◌<◌, ◌≤◌, ◌+◌, ◌^◌, ◌++◌, ◌∷◌, [], ℕ, List, length, IfOk, OnOk, map, codes, Ok, Err, false, Option, Result, IfSome, MatchOption, IsSome, Some, None, ◌-◌, ◌*◌, ◌/◌, ◌%◌, Bool, true, nat_eq, nat_lt, slice_index_or, slice_set, bit_and, bit_or, Fits, w8, w32, w64, Bor, MutBor}
-use Rattle.std.specs.List.{AllByRecursion}
-use Rattle.std.specs.String.{string_bytes}
-use Rattle.std.specs.Io.KnownBytes.{Consumes}
-use Rattle.zone_model.specs.MasterFile.{zone_of}
-use Rattle.job_model.specs.Commands.{InTurn}
-use Rattle.job_model.specs.Jobs.{zone_lines, script_lines, script_start, script_of, job_of}
-use Rattle.job_script.specs.Views.{job_view}
-use Rattle.job_model.specs.Loads.{made_origin}
-use Rattle.job_script.specs.Parts.{IsCutAt}
-use Rattle.outer_io.specs.Faults.{Rose}
-use Rattle.outer_io.specs.Bytes.{Grows, GrowsByFront}
-use Rattle.job_make.specs.Views.{load_view}
-use Rattle.command_line.specs.Invocations.{IsUnder, Make}
-use Rattle.command_line.specs.Views.{invocation_view, verb_view}
-use Rattle.command_line.specs.Words.{invocation_of}
-use Rattle.qp_main.specs.Due.{Answers, Checks, CutShort, Due, DueInput, EndsLoad, IsMade, IsUnwritten, IsWritten, MayBeShort, Written, input_of, is_streamed, streams}
+use Rattle.std.proofs.Common.{rules}
+use Rattle.command_line.specs.Views.{verb_view}
+use Rattle.qp_main.specs.Due.{DueInput, is_streamed}
+use Rattle.qp_main.proofs.DueLemmas.{answer_written, due_answer, short_is}
 use Rattle.qp_main.proofs.program.serve_input.Goals as goal
 
--- src/program.rt:146:31
 pub write_due-requires : goal.write_due-requires
-write_due-requires g c = ?
+write_due-requires g c =
+    let i = c.args.invocation.now in
+    let due : DueInput (verb_view c.args.invocation.now.verb) c.args.invocation.now.chunks c.args.invocation.now.origin c.args.bytes.items c.in-Ok.status c.in-Ok.text.items = search rules in
+    answer_written c.in-Ok.status (due_answer (verb_view i.verb) i.chunks i.origin c.args.bytes.items c.in-Ok.status c.in-Ok.text.items due)
 
--- src/program.rt:120:1
 pub returns-in-Ok-clause-cut_short : goal.returns-in-Ok-clause-cut_short
-returns-in-Ok-clause-cut_short g c = ?
+returns-in-Ok-clause-cut_short g c = λ short. record {
+  status = c.in-Ok.status;
+  text = c.in-Ok.text.items;
+  is_due = search rules;
+  grew = search (rules, c.write_due.ensures.front (short_is (is_streamed (verb_view c.args.invocation.now.verb)) c.write_due.result short c.write_due.ensures.only.1));
+}

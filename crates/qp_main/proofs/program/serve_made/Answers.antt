@@ -1,4 +1,4 @@
-use Rattle.std.proofs.Common.{◌≡◌, ℕ, List, Some, subst, sym}
+use Rattle.std.proofs.Common.{Some, subst, sym}
 use Rattle.job_make.specs.Views.{load_view}
 use Rattle.command_line.specs.Views.{invocation_view, verb_view}
 use Rattle.qp_main.specs.Due.{Due, DueInput, MayBeShort, is_streamed}
@@ -23,6 +23,6 @@ returns-clause-load g c =
     let i = c.args.invocation.now in
     load_ended c.serve_input.result
     (λ w.
-        let d = c.serve_input.ensures.written w in
-        load_answer (load_view c.args.load.now) (verb_view i.verb) i.chunks i.origin c.in-Ok.bytes.items c.in-Ok.ensures.job.0 c.serve_input.result d.text c.requires.made c.requires.under c.in-Ok.ensures.job.1 d.is_due)
+    let d = c.serve_input.ensures.written w in
+    load_answer (load_view c.args.load.now) (verb_view i.verb) i.chunks i.origin c.in-Ok.bytes.items c.in-Ok.ensures.job.0 c.serve_input.result d.text c.requires.made c.requires.under c.in-Ok.ensures.job.1 d.is_due)
     c.serve_input.ensures.others
