@@ -5,7 +5,8 @@ Usage: hosts.py N [SEED] [COMMANDS [COUNT]]
 COMMANDS is `one` (one question, the default), `questions` (COUNT of them, 10,000 if not said), `absent` (as
 many for names that aren't there), `below` (as many for names under those that are), `blocks` (as many blocks
 of one new address), `block` (one block of as many new addresses), `needs` or `neednots` (one block of as many
-prerequisites, each of a name that is there, or isn't).
+prerequisites, each of a name that is there, or isn't), `drawn` (as many questions, of which one in ten is a walk
+through a thousand names, drawn at random) or `front` (the same, with all walks in front).
 """
 import random
 import sys
@@ -24,6 +25,15 @@ def zone(count, seed):
 
 QUESTIONS = {"questions": "get n{} A", "absent": "get m{} A", "below": "get a.n{} A"}
 PREREQUISITES = {"needs": "need n{} A", "neednots": "neednot m{}"}
+WALK = "walk . 1000"
+
+
+def mixed(commands, count, most):
+    walks = set(range(most // 10))
+    if commands == "drawn":
+        walks = set(random.Random(1).sample(range(most), most // 10))
+    for question in range(most):
+        yield WALK if question in walks else QUESTIONS["questions"].format(question * 7919 % count)
 
 
 def script(commands, count, most):
@@ -34,6 +44,8 @@ def script(commands, count, most):
     elif commands in QUESTIONS:
         for question in range(most):
             yield QUESTIONS[commands].format(question * 7919 % count)
+    elif commands in ("drawn", "front"):
+        yield from mixed(commands, count, most)
     elif commands == "blocks":
         for host in range(most):
             yield from ("write", f"add m{host} 300 A 192.0.2.7", "commit")
