@@ -1,5 +1,5 @@
 -- What becomes of a zone that is written.
-use Rattle.std.specs.Prelude.{◌≡◌, ℕ, ◌<◌, ◌≤◌, OnOk, OnErr, Result}
+use Rattle.std.specs.Prelude.{◌≡◌, ◌⊎◌, ℕ, ◌<◌, ◌≤◌, OnOk, OnErr, Result}
 use Rattle.outer_io.specs.Bytes.{Held, Grows, GrowsByFront}
 use Rattle.zone_model.specs.Names.{Name}
 use Rattle.zone_model.specs.Versions.{Version}
@@ -30,3 +30,7 @@ pub record Writes (style : Style) (origin : Name) (before now : Held) (result : 
 abbrev pub DumpedOn : ℕ → Style → Name → Version → Held → Held → Dumped → Type 0
 DumpedOn chunks style origin zone before now Written = (cell_count zone ≤ room_in chunks) × Grows before now (dump style origin zone)
 DumpedOn chunks style origin zone before now (DoesNotFit cells limit) = (cells ≡ cell_count zone) × (limit ≡ room_in chunks) × (limit < cells) × (now ≡ before)
+
+-- the zone fits, and a front of the file was written; or nothing was
+abbrev pub StopsOn : ℕ → Style → Name → Version → Held → Held → Type 0
+StopsOn chunks style origin zone before now = ((cell_count zone ≤ room_in chunks) × GrowsByFront before now (dump style origin zone)) ⊎ (now ≡ before)

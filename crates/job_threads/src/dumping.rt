@@ -9,7 +9,7 @@ ghost use Rattle.shared_index.specs.Passes.{known_at};
 ghost use Rattle.shared_index.specs.Closings.{AreAll};
 ghost use Rattle.job_threads.specs.Histories.{Entries, IsZone, StandsAs};
 ghost use Rattle.job_threads.specs.Works.{AreNew};
-ghost use Rattle.job_threads.specs.Dumps.{DumpedOn, Visited, Writes};
+ghost use Rattle.job_threads.specs.Dumps.{DumpedOn, StopsOn, Visited, Writes};
 
 use crate::law::ZoneLaw;
 use dns_name::Name;
@@ -96,7 +96,7 @@ fn dump_named<N: Named, K: Sink>(
     ensures ok { (zone : Version) → StandsAs (entries_of_items items.now) zone
         → IfOk result (DumpedOn blank.shared.table.shared.key.chunks style origin.now zone (K.held sink.old) (K.held sink.new)) }
     ensures err { (zone : Version) → StandsAs (entries_of_items items.now) zone
-        → OnErr result (GrowsByFront (K.held sink.old) (K.held sink.new) (dump style origin.now zone)) }
+        → OnErr result (StopsOn blank.shared.table.shared.key.chunks style origin.now zone (K.held sink.old) (K.held sink.new)) }
     ensures fault { IsErrOf result DumpRefusal.Fault → Rose (K.faults sink.old) (K.faults sink.new) }
     ensures quiet { (IsErrOf result DumpRefusal.Fault → ⊥) → K.faults sink.new ≡ K.faults sink.old }
 {
@@ -111,7 +111,7 @@ fn dump_named<N: Named, K: Sink>(
 }
 
 /// Opens an index on a zone that stands as these items, by a table for no worker, and writes version 0 to a sink. With a refusal
-/// the sink has taken a front of the file.
+/// the sink has taken a front of the file, or nothing.
 pub fn dump_zone<K: Sink>(
     alloc: Global,
     blank: Blank<ZoneLaw>,
@@ -125,7 +125,7 @@ pub fn dump_zone<K: Sink>(
     ensures ok { (zone : Version) → StandsAs (entries_of_items items.now) zone
         → IfOk result (DumpedOn blank.shared.table.shared.key.chunks style origin.now zone (K.held sink.old) (K.held sink.new)) }
     ensures err { (zone : Version) → StandsAs (entries_of_items items.now) zone
-        → OnErr result (GrowsByFront (K.held sink.old) (K.held sink.new) (dump style origin.now zone)) }
+        → OnErr result (StopsOn blank.shared.table.shared.key.chunks style origin.now zone (K.held sink.old) (K.held sink.new)) }
     ensures fault { IsErrOf result DumpRefusal.Fault → Rose (K.faults sink.old) (K.faults sink.new) }
     ensures quiet { (IsErrOf result DumpRefusal.Fault → ⊥) → K.faults sink.new ≡ K.faults sink.old }
 {

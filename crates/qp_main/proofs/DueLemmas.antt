@@ -1,5 +1,5 @@
 -- What is due for an input.
-use Rattle.std.proofs.Common.{◌≡◌, ◌∙◌, ℕ, ◌+◌, Bool, true, false, cond, leb, List, [], length, Option, Some, None, Result, Ok, Err, IfOk, refl, sym, ap, subst, arith, codes, length-append, append-nil, ◌++◌, ◌≤◌}
+use Rattle.std.proofs.Common.{◌≡◌, ◌∙◌, ℕ, ◌+◌, Bool, true, false, cond, leb, List, [], length, Option, Some, None, Result, Ok, Err, IfOk, inl, inr, refl, sym, ap, subst, arith, codes, length-append, append-nil, ◌++◌, ◌≤◌}
 use Rattle.std.proofs.lemmas.Bool.Decides.{nat_tests}
 use Rattle.std.specs.Io.KnownBytes.{Consumes, IsAtEnd}
 use Rattle.outer_io.specs.Bytes.{Held}
@@ -18,12 +18,18 @@ use Rattle.job_model.specs.Outcomes.{some_refused}
 use Rattle.job_model.specs.Feeds.{some_fed_refused}
 use Rattle.zone_model.specs.declared.ZoneKind.{ZoneKind}
 use Rattle.job_model.specs.declared.ScriptKind.{ScriptKind}
+use Rattle.job_script.specs.Scripts.{Says}
+use Rattle.job_script.specs.declared.refusal.JobRefusal.{JobRefusal as ScriptStop}
+use Rattle.job_script.specs.declared.refusal.JobRefusal.TheVariants as stop
 use Rattle.zone_model.specs.MasterFile.{Zone}
 use Rattle.zone_text.specs.Views.{Reads}
 use Rattle.zone_text.specs.declared.refusal.ZoneRefusal.{ZoneRefusal}
 use Rattle.zone_text.specs.declared.refusal.ZoneRefusal.TheVariants as refusal
+use Rattle.job_model.specs.Sizes.{cell_count}
+use Rattle.shared_index.specs.Openings.{room_in}
+use Rattle.job_threads.specs.Dumps.{StopsOn}
 use Rattle.qp_main.specs.Fits.{fits, no_room_text, opened_text}
-use Rattle.qp_main.specs.Due.{Due, DueBytes, DueGiven, DueInput, Answers, FedAnswers, Checks, CutShort, Dumps, EndsLoad, IfFits, Ends, JobRefuses, Refuses, RefusesScript, Reported, FedReported, IsWritten, Written, input_of, is_streamed, zone_kind_text, refusal_text}
+use Rattle.qp_main.specs.Due.{Due, DueBytes, DueGiven, DueInput, Answers, FedAnswers, Checks, CutShort, Dumps, EndsLoad, IfFits, Ends, JobRefuses, Refuses, RefusesScript, Reported, FedReported, IsWritten, MayBeShort, Written, input_of, is_streamed, streams, zone_kind_text, refusal_text}
 use Rattle.qp_main.specs.declared.telling.Telling.{Telling}
 use Rattle.qp_main.specs.declared.telling.Telling.TheVariants.{Report, Summary}
 use Rattle.qp_main.specs.declared.status.Status.{Status}
@@ -39,6 +45,9 @@ too_long invocation (Some all) None bytes c e = absurd c
 too_long invocation (Some all) (Some rest) bytes c e =
     let long : leb (length all) 16777216 ≡ false = (let n : 16777217 + length rest ≡ length all = omega (arith, ap (λ (l : List ℕ). length l) c, length-append bytes rest, e) in grind (arith, nat_tests)) in
     subst (λ (b : Bool). DueBytes invocation all b status.TooLong (codes "input over 16777216 bytes\n")) (sym long) (refl, refl)
+
+fits_room : (n m : ℕ) → n ≤ m → leb n m ≡ true
+fits_room n m h = grind (arith, nat_tests)
 
 within_limit : (n : ℕ) → n ≤ 16777216 → leb n 16777216 ≡ true
 within_limit n h = grind (arith, nat_tests)
@@ -84,11 +93,11 @@ fitting chunks zone F s text e h = subst (λ (b : Bool). IfFits b chunks zone F 
 
 some_fits : (b : Bool) (chunks : ℕ) (zone : Version) (F : Status → List ℕ → Type 0) → (s : Status) × (text : List ℕ) × F s text → (s : Status) × (text : List ℕ) × IfFits b chunks zone F s text
 some_fits true chunks zone F due = due
-some_fits false chunks zone F due = (status.DoesNotFit, no_room_text chunks zone, refl, refl)
+some_fits false chunks zone F due = (status.DoesNotFit, no_room_text chunks zone, (refl, refl))
 
 pub some_dump : (chunks : ℕ) (style : Style) (origin : Name) (r : Result Version (Refused ZoneKind)) → (s : Status) × (text : List ℕ) × Dumps chunks style origin r s text
-some_dump chunks style origin (Ok zone) = some_fits (fits chunks zone) chunks zone (Ends status.Done (dump style origin zone)) (status.Done, dump style origin zone, refl, refl)
-some_dump chunks style origin (Err e) = (status.ZoneRefused, refusal_text (codes "zone") e.line (zone_kind_text e.kind), refl, refl)
+some_dump chunks style origin (Ok zone) = some_fits (fits chunks zone) chunks zone (Ends status.Done (dump style origin zone)) (status.Done, dump style origin zone, (refl, refl))
+some_dump chunks style origin (Err e) = (status.ZoneRefused, refusal_text (codes "zone") e.line (zone_kind_text e.kind), (refl, refl))
 
 some_input : (verb : Verb) (chunks : ℕ) (origin : Name) (bytes : List ℕ) → is_streamed verb ≡ true → (s : Status) × (text : List ℕ) × DueInput verb chunks origin bytes s text
 some_input Run chunks origin bytes e = absurd cc
@@ -99,14 +108,30 @@ some_input (Dump style) chunks origin bytes e = some_dump chunks style origin (z
 
 some_bytes : (i : Invocation) (bytes : List ℕ) (b : Bool) → is_streamed i.verb ≡ true → (s : Status) × (text : List ℕ) × DueBytes i bytes b s text
 some_bytes i bytes true e = some_input i.verb i.chunks i.origin bytes e
-some_bytes i bytes false e = (status.TooLong, codes "input over 16777216 bytes\n", refl, refl)
+some_bytes i bytes false e = (status.TooLong, codes "input over 16777216 bytes\n", (refl, refl))
 
 some_given : (i : Invocation) (left : Option (List ℕ)) → is_streamed i.verb ≡ true → (s : Status) × (text : List ℕ) × DueGiven i left s text
 some_given i None e = (status.Done, [], tt)
 some_given i (Some bytes) e = some_bytes i bytes (leb (length bytes) 16777216) e
 
-pub some_due : (i : Invocation) (left : Option (List ℕ)) → is_streamed i.verb ≡ true → (s : Status) × (text : List ℕ) × Due (Some i) left s text
+some_due : (i : Invocation) (left : Option (List ℕ)) → is_streamed i.verb ≡ true → (s : Status) × (text : List ℕ) × Due (Some i) left s text
 some_due i left e = some_given i (input_of i.verb left) e
+
+pub some_words : (o : Option Invocation) (left : Option (List ℕ)) → streams o ≡ true → (s : Status) × (text : List ℕ) × Due o left s text
+some_words None left e = absurd cc
+some_words (Some i) left e = some_due i left e
+
+-- of a dump that stopped
+pub stopped_dump : (chunks : ℕ) (style : Style) (origin : Name) (zone : Version) (before now : Held) → StopsOn chunks style origin zone before now → CutShort (Dumps chunks style origin (Ok zone)) before now
+stopped_dump chunks style origin zone before now stops = elim stops [
+  | inl front ↦ record {
+    status = status.Done;
+    text = dump style origin zone;
+    is_due = fitting chunks zone (Ends status.Done (dump style origin zone)) status.Done (dump style origin zone) (fits_room (cell_count zone) (room_in chunks) front.0) (refl, refl);
+    grew = front.1;
+  }
+  | inr same ↦ subst (λ (h : Held). CutShort (Dumps chunks style origin (Ok zone)) before h) (sym same) (nothing_yet (Dumps chunks style origin (Ok zone)) before (some_dump chunks style origin (Ok zone)))
+]
 
 -- a zone that its reader refused
 pub dump_stops : (chunks : ℕ) (style : Style) (origin : Name) (bytes : List ℕ) (lines : List (List ℕ)) (r : ZoneRefusal) (s : Status) (text : List ℕ) → lines ≡ zone_lines bytes → Reads {R = Zone} (Err r) (λ z. z.pairs) (zone_of origin lines) → Refuses r s text → Dumps chunks style origin (zone_of origin (zone_lines bytes)) s text
@@ -114,6 +139,10 @@ dump_stops chunks style origin bytes lines (refusal.Refused line kind) s text sa
 dump_stops chunks style origin bytes lines refusal.Memory s text same z h = absurd h
 
 -- ---- jobs
+
+-- what a reader of scripts said when it refused one
+pub script_said : {R A : Type 0} (view : R → A) (e : ScriptStop) (line : ℕ) (kind : ScriptKind) (wanted : Result A (Refused ScriptKind)) → e ≡ stop.Refused line kind → Says (Err e) view wanted → wanted ≡ Err (record { line = line; kind = kind })
+script_said view e line kind wanted is says = subst (λ (x : ScriptStop). Says (Err x) view wanted) is says
 
 whole_job : (origin : Name) (bytes : List ℕ) (zone : Version) (workers : List (List Command)) → zone_of origin (zone_lines bytes) ≡ Ok zone → script_of origin (script_start bytes) (script_lines bytes) ≡ Ok workers
     → job_of origin bytes ≡ Ok (record { origin = origin; zone = zone; workers = workers })
@@ -303,19 +332,33 @@ load_answer load verb chunks origin bytes job s text v o says h =
     let answers : Answers Summary chunks (job_of origin bytes) s text = subst (λ (w : Verb). DueInput w chunks origin bytes s text) v h in
     load_fits (fits chunks job.zone) chunks job s text (subst (λ (r : Result Job JobRefusal). Answers Summary chunks r s text) (ap (λ (n : Name). job_of n bytes) o ∙ says) answers)
 
-pub load_ends : (r s : Status) → EndsLoad s → (IsWritten r → r ≡ s) → (r ≡ status.SourceFault → ⊥) → EndsLoad r
-load_ends status.Done s e same n = tt
-load_ends status.SomeRefused s e same n = tt
-load_ends status.DoesNotFit s e same n = tt
-load_ends status.SinkFault s e same n = tt
-load_ends status.NoMemory s e same n = tt
-load_ends status.SourceFault s e same n = n refl
-load_ends status.WordsRefused s e same n = subst EndsLoad (sym (same tt)) e
-load_ends status.ZoneRefused s e same n = subst EndsLoad (sym (same tt)) e
-load_ends status.ScriptRefused s e same n = subst EndsLoad (sym (same tt)) e
-load_ends status.TooLong s e same n = subst EndsLoad (sym (same tt)) e
+pub load_ended : (s : Status) → (IsWritten s → EndsLoad s) → (s ≡ status.SourceFault → ⊥) → EndsLoad s
+load_ended status.Done f n = tt
+load_ended status.SomeRefused f n = tt
+load_ended status.DoesNotFit f n = tt
+load_ended status.SinkFault f n = tt
+load_ended status.NoMemory f n = tt
+load_ended status.SourceFault f n = n refl
+load_ended status.WordsRefused f n = f tt
+load_ended status.ZoneRefused f n = f tt
+load_ended status.ScriptRefused f n = f tt
+load_ended status.TooLong f n = f tt
 
--- ---- so it is no status of another kind, when it was written whole
+-- ---- statuses
 
-pub no_other : (s r : Status) → IsAnswer s → (IsWritten r → r ≡ s) → IsWritten r → (IsAnswer r → ⊥) → ⊥
-no_other s r a same w n = n (subst IsAnswer (sym (same w)) a)
+-- what was written whole of an input has the status of an answer
+pub written_answers : (verb : Verb) (chunks : ℕ) (origin : Name) (bytes : List ℕ) (before now : Held) (s : Status) → (IsWritten s → Written (DueInput verb chunks origin bytes) before now s) → IsWritten s → IsAnswer s
+written_answers verb chunks origin bytes before now s f w = let d = f w in due_answer verb chunks origin bytes s d.text d.is_due
+
+-- what may be short has a sink's fault, unless memory ran out
+pub short_is : (streamed : Bool) (s : Status) → MayBeShort streamed s → (s ≡ status.NoMemory → ⊥) → s ≡ status.SinkFault
+short_is streamed status.SinkFault short n = refl
+short_is streamed status.NoMemory short n = absurd (n refl)
+short_is streamed status.SourceFault short n = absurd short
+short_is streamed status.Done short n = absurd short
+short_is streamed status.SomeRefused short n = absurd short
+short_is streamed status.WordsRefused short n = absurd short
+short_is streamed status.ZoneRefused short n = absurd short
+short_is streamed status.ScriptRefused short n = absurd short
+short_is streamed status.TooLong short n = absurd short
+short_is streamed status.DoesNotFit short n = absurd short

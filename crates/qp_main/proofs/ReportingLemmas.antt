@@ -132,6 +132,12 @@ none_told workers chunks origin zone f text r printed =
       ended = refl;
     })
 
+-- the lines behind the place where an input is cut
+pub lines_behind : (bytes : List ℕ) (p : Parts) → IsCutAt bytes p → lines_of (take (length bytes - p.script_from) (drop p.script_from bytes)) ≡ script_lines bytes
+lines_behind bytes p cut =
+    let whole : take (length bytes - p.script_from) (drop p.script_from bytes) ≡ drop p.script_from bytes = take_all (length bytes - p.script_from) (drop p.script_from bytes) (omega (arith, length-drop p.script_from bytes)) in
+    ap lines_of whole ∙ cut.script
+
 -- the script behind the place where an input is cut
 pub script_read : (origin : Name) (bytes : List ℕ) (p : Parts) (out : Result (List (List Command)) (Refused ScriptKind)) → IsCutAt bytes p → script_of origin p.first_line (lines_of (take (length bytes - p.script_from) (drop p.script_from bytes))) ≡ out
     → script_of origin (script_start bytes) (script_lines bytes) ≡ out

@@ -1,18 +1,21 @@
-use Rattle.std.proofs.Common.{rules, ap, codes, map, subst, sym}
+use Rattle.std.proofs.Common.{rules, ◌≡◌, ◌∙◌, Option, Some, ap, codes, map, subst, sym}
 use Rattle.std.specs.Option.{option_map}
 use Rattle.std.specs.String.{string_bytes}
-use Rattle.command_line.specs.Invocations.{IsUnder}
+use Rattle.command_line.specs.Invocations.{Invocation, IsUnder}
+use Rattle.command_line.specs.Words.{invocation_of}
 use Rattle.command_line.specs.Views.{invocation_view, verb_view}
 use Rattle.command_line.proofs.OriginLemmas.{AllUnder, words_under}
 use Rattle.qp_main.specs.declared.status.Status.TheVariants as status
+use Rattle.qp_main.specs.Due.{CutShort, Due, MayBeShort, streams}
+use Rattle.qp_main.proofs.DueLemmas.{nothing_yet, short_is, some_words}
 use Rattle.qp_main.proofs.program.run.Goals as goal
 
 pub returns-in-Ok-None-clause-cut_short : goal.returns-in-Ok-None-clause-cut_short
-returns-in-Ok-None-clause-cut_short g c = λ failed. record {
+returns-in-Ok-None-clause-cut_short g c = λ short. record {
   status = status.WordsRefused;
   text = codes "words refused\n";
-  due = search rules;
-  grew = search (rules, c.write_due.ensures.front failed);
+  is_due = search rules;
+  grew = search (rules, c.write_due.ensures.front (short_is _ c.write_due.result short c.write_due.ensures.only.1));
 }
 
 pub serve_invocation-requires : goal.serve_invocation-requires
@@ -20,3 +23,14 @@ serve_invocation-requires g c =
     let under : IsUnder (verb_view c.in-Ok-Some.invocation.verb) c.in-Ok-Some.invocation.origin =
     subst AllUnder (ap (option_map invocation_view) c.in-Ok-Some.field-0-is) (subst AllUnder (sym c.in-Ok-Some.ensures) (words_under (map string_bytes c.args.words.now))) in
     search (rules, under)
+
+pub returns-in-Ok-Some-clause-cut_short : goal.returns-in-Ok-Some-clause-cut_short
+returns-in-Ok-Some-clause-cut_short g c =
+    let is : option_map invocation_view (Some c.in-Ok-Some.invocation) ≡ invocation_of (map string_bytes c.args.words.now) = sym (ap (option_map invocation_view) c.in-Ok-Some.field-0-is) ∙ c.in-Ok-Some.ensures in
+    subst (λ (o : Option Invocation). MayBeShort (streams o) c.serve_invocation.result → CutShort (Due o (g.S.Source.left c.args.source.now)) (g.K.Sink.held c.args.sink.now) (g.K.Sink.held c.serve_invocation.new.sink)) is c.serve_invocation.ensures.cut_short
+
+pub returns-in-Err-clause-cut_short : goal.returns-in-Err-clause-cut_short
+returns-in-Err-clause-cut_short g c = λ streamed.
+    let o = invocation_of (map string_bytes c.args.words.now) in
+    let left = g.S.Source.left c.args.source.now in
+    nothing_yet (Due o left) (g.K.Sink.held c.args.sink.now) (some_words o left streamed)

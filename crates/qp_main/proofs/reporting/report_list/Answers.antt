@@ -1,9 +1,5 @@
-use Rattle.std.proofs.Common.{◌∙◌, ℕ, List, ap, rules, subst, sym}
-use Rattle.std.specs.List.{list_any}
-use Rattle.job_model.specs.Outcomes.{is_refused}
-use Rattle.job_script.specs.Outcomes.{ended_view}
+use Rattle.std.proofs.Common.{ℕ, rules, subst, sym}
 use Rattle.job_script.specs.Views.{list_view}
-use Rattle.job_script.specs.declared.outcomes.FedOutcome.{FedOutcome}
 use Rattle.job_threads.specs.Zones.{FedRanOn}
 use Rattle.job_threads.specs.declared.zone.FedRan.TheVariants as fed
 use Rattle.qp_main.proofs.ReportingLemmas.{list_told}

@@ -1,4 +1,6 @@
-use Rattle.std.proofs.Common.{rules, [], subst}
+use Rattle.std.proofs.Common.{rules, List, [], map, subst}
+use Rattle.job_script.specs.Views.{worker_view}
+use Rattle.job_script.specs.declared.commands.Worker.{Worker}
 use Rattle.job_threads.specs.Zones.{RanOn}
 use Rattle.job_threads.specs.declared.zone.Ran.TheVariants as ran
 use Rattle.qp_main.proofs.ReportingLemmas.{size_told}
@@ -7,5 +9,6 @@ use Rattle.qp_main.proofs.reporting.report_size.Goals as goal
 pub returns-in-Finished : goal.returns-in-Finished
 returns-in-Finished g c = λ zone stands.
     let i = c.args.invocation.now in
-    let r : RanOn c.args.blank.shared.table.shared.key.chunks i.origin zone [] (ran.Finished c.in-Finished.finished) = search (rules, c.in_ok-finished.ensures zone stands, c.new.ensures.items) in
+    let told : RanOn c.args.blank.shared.table.shared.key.chunks i.origin zone (map worker_view c.new.result.items) (ran.Finished c.in-Finished.finished) = search (rules, c.in_ok-finished.ensures zone stands) in
+    let r = subst (λ (l : List Worker). RanOn c.args.blank.shared.table.shared.key.chunks i.origin zone (map worker_view l) (ran.Finished c.in-Finished.finished)) c.new.ensures.items told in
     size_told i.chunks i.origin zone c.in-Finished.finished c.in_ok-line-in-Finished.line.items (subst (λ n. RanOn n i.origin zone [] (ran.Finished c.in-Finished.finished)) c.requires.chunks r) c.in_ok-line-in-Finished.ensures

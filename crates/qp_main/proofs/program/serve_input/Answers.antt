@@ -1,0 +1,19 @@
+use Rattle.std.proofs.Common.{rules}
+use Rattle.command_line.specs.Views.{verb_view}
+use Rattle.qp_main.specs.Due.{DueInput, is_streamed}
+use Rattle.qp_main.proofs.DueLemmas.{answer_written, due_answer, short_is}
+use Rattle.qp_main.proofs.program.serve_input.Goals as goal
+
+pub write_due-requires : goal.write_due-requires
+write_due-requires g c =
+    let i = c.args.invocation.now in
+    let due : DueInput (verb_view c.args.invocation.now.verb) c.args.invocation.now.chunks c.args.invocation.now.origin c.args.bytes.items c.in-Ok.status c.in-Ok.text.items = search rules in
+    answer_written c.in-Ok.status (due_answer (verb_view i.verb) i.chunks i.origin c.args.bytes.items c.in-Ok.status c.in-Ok.text.items due)
+
+pub returns-in-Ok-clause-cut_short : goal.returns-in-Ok-clause-cut_short
+returns-in-Ok-clause-cut_short g c = λ short. record {
+  status = c.in-Ok.status;
+  text = c.in-Ok.text.items;
+  is_due = search rules;
+  grew = search (rules, c.write_due.ensures.front (short_is (is_streamed (verb_view c.args.invocation.now.verb)) c.write_due.result short c.write_due.ensures.only.1));
+}
