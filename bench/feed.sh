@@ -3,7 +3,7 @@
 # beforehand (`run`). First all of them ask for a name; then one in ten walks through a thousand names, which costs a hundred times
 # as much, drawn at random; then these walks stand in front, so that an even split gives them to one worker. What reading the
 # zone takes, the time of a run of one question, is taken off. With valgrind it also counts the instructions that handing out a
-# command takes: those of `FeedSeat::take`, as far as it is a function of its own, and those that a feed by one worker takes more
+# command takes: those of `next_number`, which is all that `FeedSeat::take` does, and those that a feed by one worker takes more
 # than a run, for each command, as the difference between 10,000 and 5,000 of them.
 # Usage: bench/feed.sh [RECORDS [PROGRAM]] (100,000 records); build the program first, as the README says. Prints milliseconds,
 # the middle of five runs; changes nothing but files of its own in a temporary folder.
@@ -69,5 +69,5 @@ for count in 5000 10000; do
 done >"$folder/more"
 printf 'a command, handed out and put in order: %s instructions more than in a run\n' \
     "$((($(sed -n 2p "$folder/more") - $(sed -n 1p "$folder/more")) / 5000))"
-callgrind_annotate --inclusive=yes --threshold=100 "$folder/profile" | grep 'FeedSeat.*take' ||
-    printf 'FeedSeat::take: no function of its own\n'
+callgrind_annotate --inclusive=yes --threshold=100 "$folder/profile" | grep -m 1 'feed_core::seat::next_number' ||
+    printf 'next_number: no function of its own\n'
