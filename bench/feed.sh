@@ -4,9 +4,10 @@
 # as much, drawn at random; then these walks stand in front, so that an even split gives them to one worker. What reading the
 # zone takes, the time of a run of one question, is taken off. With valgrind it also counts the instructions that handing out a
 # command takes: those of `next_number`, which is all that `FeedSeat::take` does, and those that a feed by one worker takes more
-# than a run, for each command, as the difference between 10,000 and 5,000 of them.
+# than a run, for each command, as the difference between 10,000 and 5,000 of them. Last, what each of 4 workers spends, which
+# other work on the machine doesn't change.
 # Usage: bench/feed.sh [RECORDS [PROGRAM]] (100,000 records); build the program first, as the README says. Prints milliseconds,
-# the middle of five runs; changes nothing but files of its own in a temporary folder.
+# the quickest of nine runs; changes nothing but files of its own in a temporary folder.
 set -eu
 here=$(cd "$(dirname "$0")" && pwd)
 records=${1:-100000}
@@ -29,26 +30,26 @@ split_up() {
         cat "$folder/zone" - >"$folder/run"
 }
 
-# middle FILE WORDS..: the middle of five runs, in microseconds
-middle() {
+# quickest FILE WORDS..: the quickest of nine runs, in microseconds
+quickest() {
     local job=$1 begin
     shift
-    for _ in 1 2 3 4 5; do
+    for _ in 1 2 3 4 5 6 7 8 9; do
         begin=$(date +%s%N)
         "$program" "$@" --origin example. --chunks 4096 <"$job" >/dev/null
         echo $((($(date +%s%N) - begin) / 1000))
-    done | sort -n | sed -n 3p
+    done | sort -n | sed -n 1p
 }
 split_up one 1 1
-reading=$(middle "$folder/run" run)
+reading=$(quickest "$folder/run" run)
 printf 'reading the zone: %s ms\n' "$((reading / 1000))"
 for kind in questions drawn front; do
     listed "$kind" 10000
     for workers in 1 2 4; do
         split_up "$kind" 10000 "$workers"
         printf '%s, %s workers: feed %s ms, run %s ms\n' "$kind" "$workers" \
-            "$((($(middle "$folder/feed" feed --workers "$workers") - reading) / 1000))" \
-            "$((($(middle "$folder/run" run) - reading) / 1000))"
+            "$((($(quickest "$folder/feed" feed --workers "$workers") - reading) / 1000))" \
+            "$((($(quickest "$folder/run" run) - reading) / 1000))"
     done
 done
 command -v valgrind >/dev/null 2>&1 || exit 0
@@ -71,3 +72,21 @@ printf 'a command, handed out and put in order: %s instructions more than in a r
     "$((($(sed -n 2p "$folder/more") - $(sed -n 1p "$folder/more")) / 5000))"
 callgrind_annotate --inclusive=yes --threshold=100 "$folder/profile" | grep -m 1 'feed_core::seat::next_number' ||
     printf 'next_number: no function of its own\n'
+
+# busiest FILE WORDS..: the instructions of each worker's commands, by its thread, the most first
+busiest() {
+    local job=$1 profile
+    shift
+    rm -f "$folder"/thread*
+    valgrind --tool=callgrind --separate-threads=yes --fair-sched=yes --callgrind-out-file="$folder/thread" "$program" "$@" \
+        --origin example. --chunks 4096 <"$job" >/dev/null 2>&1
+    for profile in "$folder"/thread-*; do
+        callgrind_annotate --inclusive=yes --threshold=100 "$profile" | grep -F 'first+FnOnce::call_once' | grep -vF 'called by C'
+    done | sed 's/ *(.*//; s/[ ,]//g' | sort -nr | paste -sd ' '
+}
+for kind in questions drawn front; do
+    listed "$kind" 10000
+    split_up "$kind" 10000 4
+    printf '%s, feed, instructions of each of 4 workers: %s\n' "$kind" "$(busiest "$folder/feed" feed --workers 4)"
+    printf '%s, run, instructions of each of 4 workers: %s\n' "$kind" "$(busiest "$folder/run" run)"
+done
