@@ -1,7 +1,7 @@
 #!/usr/bin/env bash
 # Times 10,000 questions over a zone: handed out to 1, 2 and 4 workers as they come free (`feed`), and split evenly between them
-# beforehand (`run`). First all of them ask for a name; then one in ten walks through a thousand names, which costs a hundred times
-# as much, drawn at random; then these walks stand in front, so that an even split gives them to one worker. What reading the
+# beforehand (`run`). First all of them ask for a name; then one in ten walks through a thousand names, which costs six hundred
+# times as much, drawn at random; then these walks stand in front, so that an even split gives them to one worker. What reading the
 # zone takes, the time of a run of one question, is taken off. With valgrind it also counts the instructions that handing out a
 # command takes: those of `next_number`, which is all that `FeedSeat::take` does, and those that a feed by one worker takes more
 # than a run, for each command, as the difference between 10,000 and 5,000 of them. Last, what each of 4 workers spends, which
