@@ -1,3 +1,4 @@
+pub mod EntryLemmas
 pub mod CutLemmas
 pub mod TextLemmas
 pub mod LineLemmas
