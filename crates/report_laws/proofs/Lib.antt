@@ -1,4 +1,5 @@
 pub mod EntryLemmas
+pub mod KeptLemmas
 pub mod CutLemmas
 pub mod TextLemmas
 pub mod LineLemmas
