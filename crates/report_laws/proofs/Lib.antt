@@ -1,5 +1,6 @@
 pub mod EntryLemmas
 pub mod KeptLemmas
+pub mod ChangeLemmas
 pub mod CutLemmas
 pub mod TextLemmas
 pub mod LineLemmas
