@@ -1,6 +1,7 @@
 pub mod EntryLemmas
 pub mod KeptLemmas
 pub mod ChangeLemmas
+pub mod NameWords
 pub mod CutLemmas
 pub mod TextLemmas
 pub mod LineLemmas
