@@ -2,6 +2,7 @@ pub mod EntryLemmas
 pub mod KeptLemmas
 pub mod ChangeLemmas
 pub mod NameWords
+pub mod WordLemmas
 pub mod CutLemmas
 pub mod TextLemmas
 pub mod LineLemmas
