@@ -3,6 +3,7 @@ pub mod KeptLemmas
 pub mod ChangeLemmas
 pub mod NameWords
 pub mod WordLemmas
+pub mod DataLemmas
 pub mod CutLemmas
 pub mod TextLemmas
 pub mod LineLemmas

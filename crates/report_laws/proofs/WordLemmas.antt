@@ -124,7 +124,7 @@ address_is text octets h =
 pub digit_small : (c : ℕ) → is_ascii_hexdigit c ≡ true → digit_value c < 16
 digit_small c h = grind (arith, nat_tests)
 
-all_digits : (c : ℕ) (text : List ℕ) → list_all is_ascii_hexdigit (c ∷ text) ≡ true → (digit_value c < 16) × (list_all is_ascii_hexdigit text ≡ true)
+pub all_digits : (c : ℕ) (text : List ℕ) → list_all is_ascii_hexdigit (c ∷ text) ≡ true → (digit_value c < 16) × (list_all is_ascii_hexdigit text ≡ true)
 all_digits c text h = let a = and_parts (is_ascii_hexdigit c) (list_all is_ascii_hexdigit text) h in (digit_small c a.0, a.1)
 
 hex_small : (text : List ℕ) → length text ≤ 4 → list_all is_ascii_hexdigit text ≡ true → hex_from 0 text < 65536
