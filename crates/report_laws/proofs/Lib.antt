@@ -4,6 +4,7 @@ pub mod ChangeLemmas
 pub mod NameWords
 pub mod WordLemmas
 pub mod DataLemmas
+pub mod TokenLemmas
 pub mod CutLemmas
 pub mod TextLemmas
 pub mod LineLemmas
