@@ -105,6 +105,15 @@ sets_with origin owner rtype ttl octets entry f h =
       place = k.place;
     }, tt)) h
 
+pub some_with : (rtype ttl : ℕ) (octets : List ℕ) (entry : Entry) → 0 < length (with_rr rtype ttl octets entry)
+some_with rtype ttl octets [] = omega arith
+some_with rtype ttl octets (first ∷ rest) = by_order (nat_cmp rtype first.rtype)
+  where
+    by_order : (o : Ordering) → 0 < length (match_ordering o (joined rtype ttl octets None ++ (first ∷ rest)) (joined rtype ttl octets (Some first) ++ rest) (first ∷ with_rr rtype ttl octets rest))
+    by_order Less = omega arith
+    by_order Equal = omega arith
+    by_order Greater = omega arith
+
 sets_lessened : (origin owner : Name) (octets : List ℕ) (s : Rrset) → IsSet origin owner s → AllSets origin owner (lessened octets (Some s))
 sets_lessened origin owner octets s k = by_test (eqb (length (without_record octets s.records)) 0)
   where

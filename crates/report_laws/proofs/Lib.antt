@@ -5,6 +5,7 @@ pub mod NameWords
 pub mod WordLemmas
 pub mod DataLemmas
 pub mod TokenLemmas
+pub mod MinimumLemmas
 pub mod CutLemmas
 pub mod TextLemmas
 pub mod LineLemmas

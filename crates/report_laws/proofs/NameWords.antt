@@ -17,7 +17,7 @@ use Rattle.report_laws.proofs.EntryLemmas.{IsOctet, AllOctets}
 
 -- ---- pieces
 
-index_small : (text : List ℕ) (i : ℕ) → AllOctets text → get_or text i 0 < 256
+pub index_small : (text : List ℕ) (i : ℕ) → AllOctets text → get_or text i 0 < 256
 index_small [] i h = omega arith
 index_small (c ∷ text) zero h = h.0
 index_small (c ∷ text) (suc i) h = index_small text i h.1
