@@ -6,6 +6,7 @@ pub mod WordLemmas
 pub mod DataLemmas
 pub mod TokenLemmas
 pub mod MinimumLemmas
+pub mod ReaderLemmas
 pub mod CutLemmas
 pub mod TextLemmas
 pub mod LineLemmas
