@@ -26,7 +26,8 @@ use Rattle.zone_model.proofs.SplitLemmas.{and_some, map_some, cond_some, octets_
 use Rattle.zone_model.proofs.DataLaws.{data_short}
 use Rattle.dns_name.proofs.BodyLemmas.{all_append}
 use Rattle.rr_data.proofs.FormLemmas.{all_append as all_pass}
-use Rattle.report_laws.proofs.EntryLemmas.{IsOctet, AllOctets, IsData}
+use Rattle.report_laws.specs.Octets.{IsOctet, AllOctets}
+use Rattle.report_laws.proofs.EntryLemmas.{IsData}
 use Rattle.report_laws.proofs.NameWords.{name_is}
 use Rattle.report_laws.proofs.WordLemmas.{and_parts, number_most, time_most, IsAddress, address_is, address6_is, digit_small, all_digits}
 
@@ -162,9 +163,9 @@ unescaped_small (Two value) (c ∷ text) octets t h =
     let le : 10 * value + (c - 48) ≤ 255 = leb-true (10 * value + (c - 48)) 255 (and_parts (is_ascii_digit c) (leb (10 * value + (c - 48)) 255) s.0).1 in
     onto_small (10 * value + (c - 48)) (octets_from Plain text) octets (omega arith) (λ x. unescaped_small Plain text x t.1) s.1
 
-bind_ok : {A B E : Type 0} (r : Result A E) (f : A → Result B E) (y : B) → (r >>= f) ≡ Ok y → (x : A) × (r ≡ Ok x) × (f x ≡ Ok y)
-bind_ok (Ok x) f y h = (x, refl, h)
-bind_ok (Err e) f y h = absurd cc
+pub bound : {A B E : Type 0} (r : Result A E) (f : A → Result B E) (y : B) → (r >>= f) ≡ Ok y → (x : A) × (r ≡ Ok x) × (f x ≡ Ok y)
+bound (Ok x) f y h = (x, refl, h)
+bound (Err e) f y h = absurd cc
 
 -- a string's octets behind their number
 record IsString (octets : List ℕ) : Type 0 where
@@ -215,7 +216,7 @@ strings_are : (at room : ℕ) (tokens : List Token) (octets : List ℕ) → AllT
 unfolding read_strings
 strings_are at room [] octets t h = let is : [] ≡ octets = cc in subst AreStrings is no_strings
 strings_are at room (token ∷ tokens) octets t h =
-    let b = bind_ok (string_octets at (unescaped token.text)) (λ (x : List ℕ). cond (ltb room (length x)) (Err (BadRdata at)) (ahead x (read_strings (at + 1) (room - length x) tokens))) octets h in
+    let b = bound (string_octets at (unescaped token.text)) (λ (x : List ℕ). cond (ltb room (length x)) (Err (BadRdata at)) (ahead x (read_strings (at + 1) (room - length x) tokens))) octets h in
     by_room b.0 (string_is at token.text b.0 t.0 b.1) (λ y. strings_are (at + 1) (room - length b.0) tokens y t.1) (ltb room (length b.0)) b.2
   where
     by_room : (x : List ℕ) → IsString x → ((y : List ℕ) → read_strings (at + 1) (room - length x) tokens ≡ Ok y → AreStrings y) → (c : Bool) → cond c (Err (BadRdata at)) (ahead x (read_strings (at + 1) (room - length x) tokens)) ≡ Ok octets → AreStrings octets
@@ -225,7 +226,7 @@ strings_are at room (token ∷ tokens) octets t h =
 strings_some : (at room : ℕ) (token : Token) (tokens : List Token) (octets : List ℕ) → AllTexts (token ∷ tokens) → read_strings at room (token ∷ tokens) ≡ Ok octets → ltb 0 (length octets) ≡ true
 unfolding read_strings
 strings_some at room token tokens octets t h =
-    let b = bind_ok (string_octets at (unescaped token.text)) (λ (x : List ℕ). cond (ltb room (length x)) (Err (BadRdata at)) (ahead x (read_strings (at + 1) (room - length x) tokens))) octets h in
+    let b = bound (string_octets at (unescaped token.text)) (λ (x : List ℕ). cond (ltb room (length x)) (Err (BadRdata at)) (ahead x (read_strings (at + 1) (room - length x) tokens))) octets h in
     by_room b.0 (string_is at token.text b.0 t.0 b.1) (ltb room (length b.0)) b.2
   where
     some : (l m : List ℕ) → l ≡ m → 0 < length l → ltb 0 (length m) ≡ true
@@ -271,7 +272,7 @@ pairs_small (a ∷ b ∷ digits) h =
 counted_small : (o : Option ℕ) (tokens : List Token) (octets : List ℕ) → read_counted o tokens ≡ Ok octets → AllOctets octets
 counted_small None tokens octets h = absurd cc
 counted_small (Some n) tokens octets h =
-    let b = bind_ok (read_digits 2 (2 * n) tokens) (λ (digits : List ℕ). Ok (paired digits)) octets h in
+    let b = bound (read_digits 2 (2 * n) tokens) (λ (digits : List ℕ). Ok (paired digits)) octets h in
     let is : paired b.0 ≡ octets = cc in
     subst AllOctets is (pairs_small b.0 (digits_are 2 (2 * n) tokens b.0 b.1))
 
@@ -310,6 +311,6 @@ data_is origin rtype tokens octets t o h = by_form (is_generic tokens) h
 
     by_form : (g : Bool) → cond g (read_generic (drop 1 tokens) >>= of_form rtype) (read_typed origin rtype tokens) ≡ Ok octets → IsData rtype octets
     by_form true k =
-        let b = bind_ok (read_generic (drop 1 tokens)) (of_form rtype) octets k in
+        let b = bound (read_generic (drop 1 tokens)) (of_form rtype) octets k in
         whole (formed rtype b.0 octets (generic_small (drop 1 tokens) b.0 b.1) b.2)
     by_form false k = whole (of_form_is origin (form_of rtype) tokens octets t o k)

@@ -16,14 +16,9 @@ use Rattle.zone_model.specs.DataForms.{form_fits}
 use Rattle.zone_model.specs.MasterFile.{soa_count}
 use Rattle.dns_name.proofs.BodyLemmas.{all_append}
 use Rattle.rr_data.proofs.RecordLineLemmas.{flat_map-append}
+use Rattle.report_laws.specs.Octets.{AllOctets}
 
 -- ---- what an entry is made of
-
-abbrev pub IsOctet : ℕ → Type 0
-IsOctet c = c < 256
-
-abbrev pub AllOctets : List ℕ → Type 0
-AllOctets text = AllByRecursion IsOctet text
 
 -- octets that a type's data may be
 pub record IsData (rtype : ℕ) (octets : List ℕ) : Type 0 where

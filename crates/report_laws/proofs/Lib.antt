@@ -7,6 +7,7 @@ pub mod DataLemmas
 pub mod TokenLemmas
 pub mod MinimumLemmas
 pub mod ReaderLemmas
+pub mod ScriptLemmas
 pub mod CutLemmas
 pub mod TextLemmas
 pub mod LineLemmas

@@ -11,7 +11,8 @@ use Rattle.zone_model.specs.Splits.{split_octets, split_name}
 use Rattle.zone_model.specs.DataForms.{split_time, field_rest, fits_behind, fields_fit}
 use Rattle.zone_model.specs.MasterFile.{number_at, minimum_of}
 use Rattle.zone_model.proofs.SplitLemmas.{and_some, map_some, cond_some, octets_sound, name_sound}
-use Rattle.report_laws.proofs.EntryLemmas.{IsOctet, AllOctets, IsData}
+use Rattle.report_laws.specs.Octets.{IsOctet, AllOctets}
+use Rattle.report_laws.proofs.EntryLemmas.{IsData}
 use Rattle.report_laws.proofs.NameWords.{index_small}
 
 -- octets that end with these

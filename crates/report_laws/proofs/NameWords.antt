@@ -13,7 +13,7 @@ use Rattle.dns_name.proofs.BodyLemmas.{all_append}
 use Rattle.dns_name.proofs.PieceLemmas.{fold_again}
 use Rattle.dns_name.proofs.FillLemmas.{onto-ok}
 use Rattle.dns_name.proofs.TextLemmas.{IsPart, as_label, part_more}
-use Rattle.report_laws.proofs.EntryLemmas.{IsOctet, AllOctets}
+use Rattle.report_laws.specs.Octets.{IsOctet, AllOctets}
 
 -- ---- pieces
 

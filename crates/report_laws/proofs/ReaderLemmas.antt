@@ -22,11 +22,12 @@ use Rattle.zone_model.specs.Data.{data_of}
 use Rattle.zone_model.specs.MasterFile.{Reader, required, name_word, time_word, type_word, class_word, is_time, is_directive, one_argument, set_time_word, set_origin_word, directive, Front, front_of, placed, minimum_of, or_else, time_for, soa_count, entry_fault, unless_fault, placed_in, added, after_record, record_says, last_line, entry_says, Pending, goes_on, zone_from, at_first, with_soa, zone_of}
 use Rattle.master_file.specs.Rows.{CanBeDumped}
 use Rattle.zone_model.proofs.EntryLaws.{entry_with}
-use Rattle.report_laws.proofs.EntryLemmas.{AllOctets, IsData, IsRr, sets_with, some_with}
+use Rattle.report_laws.specs.Octets.{AllOctets}
+use Rattle.report_laws.proofs.EntryLemmas.{IsData, IsRr, sets_with, some_with}
 use Rattle.report_laws.proofs.KeptLemmas.{IsOwned, IsKept, Owns, owns, kept_put, can_be_dumped}
 use Rattle.report_laws.proofs.WordLemmas.{IsType, type_is, time_most}
-use Rattle.report_laws.proofs.DataLemmas.{IsTokenText, AllTexts, named_is, data_is}
-use Rattle.report_laws.proofs.TokenLemmas.{either, bound, IsScan, line_is, fresh_is}
+use Rattle.report_laws.proofs.DataLemmas.{IsTokenText, AllTexts, named_is, data_is, bound}
+use Rattle.report_laws.proofs.TokenLemmas.{either, IsScan, line_is, fresh_is}
 use Rattle.report_laws.proofs.MinimumLemmas.{minimum_is}
 
 -- ---- words

@@ -6,17 +6,13 @@ use Rattle.zone_model.specs.declared.ZoneKind.{ZoneKind}
 use Rattle.zone_model.specs.declared.ZoneKind.TheVariants.{BadToken, OpenQuote}
 use Rattle.zone_model.specs.Tokens.{Token, parts_words, Begun, Apart, Comment, Word, Quote, Escape, Scan, fresh, refused, with_token, opened, closed, apart, in_word, in_quote, step, steps, line_end, line_tokens}
 use Rattle.dns_name.proofs.BodyLemmas.{all_append, all_push}
-use Rattle.report_laws.proofs.EntryLemmas.{IsOctet, AllOctets}
-use Rattle.report_laws.proofs.DataLemmas.{IsTokenText, AllTexts}
+use Rattle.report_laws.specs.Octets.{IsOctet, AllOctets}
+use Rattle.report_laws.proofs.DataLemmas.{IsTokenText, AllTexts, bound}
 
 -- a choice is one of two
 pub either : {A P : Type 0} (b : Bool) (x y r : A) → (x ≡ r → P) → (y ≡ r → P) → cond b x y ≡ r → P
 either true x y r f g h = f h
 either false x y r f g h = g h
-
-pub bound : {A B K : Type 0} (r : Result A (Refused K)) (f : A → Result B (Refused K)) (y : B) → (r >>= f) ≡ Ok y → (x : A) × (r ≡ Ok x) × (f x ≡ Ok y)
-bound (Ok x) f y h = (x, refl, h)
-bound (Err e) f y h = absurd cc
 
 abbrev IsBegun : Begun → Type 0
 IsBegun Apart = Unit {0}

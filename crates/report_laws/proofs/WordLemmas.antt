@@ -14,7 +14,7 @@ use Rattle.zone_model.specs.Addresses.{hex_from, group, joined, groups_of, last_
 use Rattle.zone_model.proofs.SplitLemmas.{and_some, map_some, cond_some}
 use Rattle.zone_model.proofs.TypeLaws.{found_passes}
 use Rattle.dns_name.proofs.BodyLemmas.{all_append}
-use Rattle.report_laws.proofs.EntryLemmas.{IsOctet, AllOctets}
+use Rattle.report_laws.specs.Octets.{IsOctet, AllOctets}
 
 pub and_parts : (a b : Bool) → (a && b) ≡ true → (a ≡ true) × (b ≡ true)
 and_parts true b h = (refl, h)
