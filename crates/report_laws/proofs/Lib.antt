@@ -8,6 +8,7 @@ pub mod TokenLemmas
 pub mod MinimumLemmas
 pub mod ReaderLemmas
 pub mod ScriptLemmas
+pub mod VersionLemmas
 pub mod CutLemmas
 pub mod TextLemmas
 pub mod LineLemmas
