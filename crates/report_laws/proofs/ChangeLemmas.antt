@@ -7,8 +7,8 @@ use Rattle.std.specs.List.{AllByRecursion}
 use Rattle.std.specs.Map.{remove_entry}
 use Rattle.std.specs.BTreeMap.{insert_entry, is_at}
 use Rattle.zone_model.specs.Names.{Name, name_cmp, same_name}
-use Rattle.zone_model.specs.Records.{Rrset, Entry, rrset_of, item, with_rr, without_rr, without_set, IsEntry, IsItem}
-use Rattle.zone_model.specs.Versions.{Version, Operation, Add, DeleteName, DeleteSet, DeleteRecord, Addition, owned, put, has_soa, holds, with_soa, with_added, is_lone, is_low_soa, fitting, loses_soa, keeping_soa, owner_of, changed, and_then, apply, all_applied, soa_type}
+use Rattle.zone_model.specs.Records.{Rrset, Entry, rrset_of, item, with_rr, without_rr, without_set, IsEntry}
+use Rattle.zone_model.specs.Versions.{Version, Operation, Add, DeleteName, DeleteSet, DeleteRecord, Addition, owned, put, has_soa, holds, with_soa, with_added, is_lone, is_low_soa, fitting, keeping_soa, owner_of, changed, and_then, apply, all_applied, soa_type}
 use Rattle.zone_model.specs.Transactions.{Transaction, all_met, whole}
 use Rattle.zone_model.specs.declared.Refusal.{Refusal}
 use Rattle.zone_model.specs.declared.Refusal.TheVariants.{Prereq, Soa, Cname, Long}

@@ -1,5 +1,5 @@
 -- Data that tokens say is of its type's form.
-use Rattle.std.proofs.Common.{◌≡◌, ◌∙◌, ℕ, zero, suc, ◌+◌, ◌-◌, ◌*◌, ◌<◌, ◌≤◌, ◌^◌, Bool, true, false, cond, not, ◌&&◌, ◌||◌, eqb, leb, ltb, eqb-true, List, [], ◌∷◌, ◌++◌, length, take, drop, Option, Some, None, Result, Ok, Err, option_and_then, refl, sym, ap, subst, arith, length-append, append_assoc}
+use Rattle.std.proofs.Common.{◌≡◌, ◌∙◌, ℕ, zero, suc, ◌+◌, ◌-◌, ◌*◌, ◌<◌, ◌≤◌, Bool, true, false, cond, not, ◌&&◌, eqb, leb, ltb, List, [], ◌∷◌, ◌++◌, length, drop, Option, Some, None, Result, Ok, Err, option_and_then, refl, sym, ap, subst, arith, length-append}
 use Rattle.std.proofs.lemmas.Bool.Decides.{nat_tests}
 use Rattle.std.proofs.lemmas.List.{drop_at}
 use Rattle.std.proofs.lemmas.Nat.{from_be_bytes-to_be_bytes_4}
@@ -10,26 +10,25 @@ use Rattle.std.specs.Char.{is_ascii_digit, is_ascii_hexdigit}
 use Rattle.std.specs.Int.{w16, w32, to_be_bytes, from_be_bytes}
 use Rattle.zone_model.specs.Names.{Name, IsName, IsLabel, wire}
 use Rattle.zone_model.specs.NameText.{name_of}
-use Rattle.zone_model.specs.Texts.{named, number, address}
+use Rattle.zone_model.specs.Texts.{named, number}
 use Rattle.zone_model.specs.Tokens.{Token}
 use Rattle.zone_model.specs.Refusals.{◌>>=◌}
 use Rattle.zone_model.specs.declared.NameRefusal.{NameRefusal}
 use Rattle.zone_model.specs.declared.DataRefusal.{DataRefusal}
 use Rattle.zone_model.specs.declared.DataRefusal.TheVariants.{BadRdata, LongString}
-use Rattle.zone_model.specs.DataWords.{most_time, time_of, Behind, Plain, Slash, One, Two, octets_from, unescaped, digit_value, paired}
-use Rattle.zone_model.specs.Addresses.{address6}
+use Rattle.zone_model.specs.DataWords.{most_time, time_of, Behind, Plain, Slash, One, Two, octets_from, unescaped, paired}
 use Rattle.zone_model.specs.Types.{Field, NameField, ShortField, NumberField, TimeField, AddressField, Address6Field, Form, Fields, Strings, form_of}
-use Rattle.zone_model.specs.Splits.{split_octets, split_name}
-use Rattle.zone_model.specs.DataForms.{split_time, field_rest, fits_behind, fields_fit, strings_fit, fits_form, form_fits}
+use Rattle.zone_model.specs.Splits.{split_octets}
+use Rattle.zone_model.specs.DataForms.{field_rest, fits_behind, fields_fit, strings_fit, fits_form, form_fits}
 use Rattle.zone_model.specs.Data.{field_octets, ahead, word_octets, taken, read_fields, string_octets, read_strings, read_digits, word_number, read_counted, read_generic, is_generic, of_form, read_formed, read_typed, data_of}
-use Rattle.zone_model.proofs.SplitLemmas.{and_some, map_some, cond_some, octets_back, name_back}
+use Rattle.zone_model.proofs.SplitLemmas.{map_some, cond_some, octets_back, name_back}
 use Rattle.zone_model.proofs.DataLaws.{data_short}
 use Rattle.dns_name.proofs.BodyLemmas.{all_append}
 use Rattle.rr_data.proofs.FormLemmas.{all_append as all_pass}
 use Rattle.report_laws.specs.Octets.{IsOctet, AllOctets}
 use Rattle.report_laws.proofs.EntryLemmas.{IsData}
 use Rattle.report_laws.proofs.NameWords.{name_is}
-use Rattle.report_laws.proofs.WordLemmas.{and_parts, number_most, time_most, IsAddress, address_is, address6_is, digit_small, all_digits}
+use Rattle.report_laws.proofs.WordLemmas.{and_parts, time_most, address_is, address6_is, all_digits}
 
 abbrev pub IsTokenText : Token → Type 0
 IsTokenText t = AllOctets t.text

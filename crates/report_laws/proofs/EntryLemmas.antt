@@ -148,10 +148,6 @@ none_above : (t : ℕ) (entry : Entry) → 6 ≤ t → RisingSets (Some t) entry
 none_above t [] le h = tt
 none_above t (s ∷ entry) le h = ((λ e. let lt = h.0 in absurd (omega arith)), none_above s.rtype entry (let lt = h.0 in omega arith) h.2)
 
-abbrev AboveType : Option ℕ → ℕ → Type 0
-AboveType None t = Unit {0}
-AboveType (Some before) t = before < t
-
 rising_rest : (before : Option ℕ) (s : Rrset) (entry : Entry) → RisingSets before (s ∷ entry) → IsRrset s × RisingSets (Some s.rtype) entry
 rising_rest None s entry h = h
 rising_rest (Some b) s entry h = (h.1, h.2)

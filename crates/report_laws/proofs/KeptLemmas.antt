@@ -1,20 +1,19 @@
 -- Versions whose names own what a zone's names may own, and what is put into them.
-use Rattle.std.proofs.Common.{◌≡◌, ◌∙◌, ℕ, ◌<◌, ◌≤◌, Bool, true, false, cond, not, ◌&&◌, eqb, List, [], ◌∷◌, ◌++◌, length, Option, Some, None, refl, sym, ap, subst, arith, append_assoc, unwrap_or}
-use Rattle.std.specs.Prelude.{is_some, is_none}
+use Rattle.std.proofs.Common.{◌≡◌, ◌∙◌, ℕ, ◌<◌, ◌≤◌, Bool, true, false, cond, not, ◌&&◌, eqb, List, [], ◌∷◌, ◌++◌, length, Some, None, refl, sym, ap, subst, arith, append_assoc, unwrap_or}
 use Rattle.std.specs.List.{AllByRecursion, flat_map}
 use Rattle.std.specs.List.Sorted.{IsStrictlySortedBy}
-use Rattle.std.specs.Map.{keys_of, lookup, remove_entry}
+use Rattle.std.specs.Map.{keys_of, remove_entry}
 use Rattle.std.specs.BTreeMap.{insert_entry, is_at}
 use Rattle.std.specs.declared.cmp.Ordering.{Ordering}
 use Rattle.std.specs.declared.cmp.Ordering.TheVariants.{Less, Equal, Greater}
 use Rattle.std.specs.Ordering.{match_ordering, ordering_reverse, is_eq}
 use Rattle.zone_model.specs.Names.{Name, IsName, name_cmp, is_under, same_name}
 use Rattle.zone_model.specs.NameOrder.{name_cmp_total}
-use Rattle.zone_model.specs.Records.{Rrset, Entry, rrset_of, RisingSets, IsRrset, IsEntry, IsItem, item}
+use Rattle.zone_model.specs.Records.{Rrset, Entry, RisingSets, IsEntry, IsItem, item}
 use Rattle.zone_model.specs.Versions.{Version, entry_of, owned, has_soa, is_lone, soa_type}
-use Rattle.zone_model.specs.Zones.{IsZoneOf, has_low_soa}
+use Rattle.zone_model.specs.Zones.{has_low_soa}
 use Rattle.zone_model.specs.MasterFile.{soa_count}
-use Rattle.zone_model.specs.Rows.{Row, rows_of}
+use Rattle.zone_model.specs.Rows.{rows_of}
 use Rattle.zone_model.specs.Dumps.{rows_at, all_rows}
 use Rattle.zone_model.proofs.NameLemmas.{name_cmp-IsAntisymmetric, same_name-true}
 use Rattle.dns_name.proofs.BodyLemmas.{all_append}

@@ -1,5 +1,5 @@
 -- The minimum of an SOA is a time.
-use Rattle.std.proofs.Common.{◌≡◌, ◌∙◌, ℕ, ◌+◌, ◌-◌, ◌*◌, ◌<◌, ◌≤◌, true, leb, eqb, eqb-true, List, [], ◌∷◌, ◌++◌, length, drop, get_or, Option, Some, None, refl, sym, ap, subst, arith, length-append, append_assoc, get_or-drop}
+use Rattle.std.proofs.Common.{◌≡◌, ◌∙◌, ℕ, ◌+◌, ◌-◌, ◌*◌, ◌≤◌, true, leb, eqb-true, List, [], ◌∷◌, ◌++◌, length, get_or, Option, Some, None, refl, sym, ap, subst, arith, length-append, append_assoc, get_or-drop}
 use Rattle.std.proofs.lemmas.List.{drop_at}
 use borrow.Author.Tests.{leb-true}
 use Rattle.std.specs.Option.{option_map}
@@ -11,7 +11,7 @@ use Rattle.zone_model.specs.Splits.{split_octets, split_name}
 use Rattle.zone_model.specs.DataForms.{split_time, field_rest, fits_behind, fields_fit}
 use Rattle.zone_model.specs.MasterFile.{number_at, minimum_of}
 use Rattle.zone_model.proofs.SplitLemmas.{and_some, map_some, cond_some, octets_sound, name_sound}
-use Rattle.report_laws.specs.Octets.{IsOctet, AllOctets}
+use Rattle.report_laws.specs.Octets.{AllOctets}
 use Rattle.report_laws.proofs.EntryLemmas.{IsData}
 use Rattle.report_laws.proofs.NameWords.{index_small}
 

@@ -1,11 +1,11 @@
 -- Names that texts of octets say.
-use Rattle.std.proofs.Common.{◌≡◌, ◌∙◌, ℕ, zero, suc, ◌+◌, ◌<◌, ◌≤◌, Bool, true, false, cond, ◌&&◌, eqb, ltb, List, [], ◌∷◌, ◌++◌, length, get_or, Option, Some, None, Result, Ok, Err, refl, sym, ap, subst, arith}
+use Rattle.std.proofs.Common.{◌≡◌, ℕ, zero, suc, ◌+◌, ◌<◌, Bool, true, false, cond, ◌&&◌, eqb, ltb, List, [], ◌∷◌, ◌++◌, length, get_or, Option, Some, None, Result, Ok, Err, refl, sym, subst, arith}
 use Rattle.std.proofs.lemmas.Bool.Decides.{nat_tests}
 use borrow.Author.Tests.{ltb-true, ltb-false}
 use Rattle.std.specs.List.{AllByRecursion}
 use Rattle.std.specs.Char.{to_ascii_lowercase, is_ascii_digit}
 use Rattle.zone_model.specs.declared.NameRefusal.{NameRefusal}
-use Rattle.zone_model.specs.declared.NameRefusal.TheVariants.{EmptyLabel, LongLabel, BadEscape, LongName}
+use Rattle.zone_model.specs.declared.NameRefusal.TheVariants.{EmptyLabel, LongLabel, LongName}
 use Rattle.zone_model.specs.Names.{Label, Name, IsName, IsLabel, IsFolded, wire}
 use Rattle.zone_model.specs.NameText.{Piece, Dot, Octet, Bad, escape_piece, piece_of, taken, pieces_from, onto, labels_from, labels_of, fitting, completed, name_of}
 use Rattle.zone_model.specs.Escapes.{escaped_octet, number_of_three}
@@ -13,7 +13,7 @@ use Rattle.dns_name.proofs.BodyLemmas.{all_append}
 use Rattle.dns_name.proofs.PieceLemmas.{fold_again}
 use Rattle.dns_name.proofs.FillLemmas.{onto-ok}
 use Rattle.dns_name.proofs.TextLemmas.{IsPart, as_label, part_more}
-use Rattle.report_laws.specs.Octets.{IsOctet, AllOctets}
+use Rattle.report_laws.specs.Octets.{AllOctets}
 
 -- ---- pieces
 

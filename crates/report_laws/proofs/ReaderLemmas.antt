@@ -1,6 +1,5 @@
 -- A zone that lines of octets say can be dumped.
-use Rattle.std.proofs.Common.{◌≡◌, ◌∙◌, ℕ, ◌+◌, ◌<◌, ◌≤◌, Bool, true, false, cond, not, ◌&&◌, eqb, ltb, eqb-true, List, [], ◌∷◌, length, Option, Some, None, unwrap_or, Result, Ok, Err, refl, sym, ap, subst, arith, codes}
-use Rattle.std.proofs.lemmas.Bool.Decides.{nat_tests}
+use Rattle.std.proofs.Common.{◌≡◌, ℕ, ◌+◌, ◌≤◌, Bool, true, false, cond, not, ◌&&◌, eqb, ltb, eqb-true, List, [], ◌∷◌, length, Option, Some, None, Result, Ok, Err, refl, ap, subst, arith, codes}
 use borrow.Author.Tests.{ltb-false}
 use Rattle.std.specs.Prelude.{is_none}
 use Rattle.std.specs.List.{AllByRecursion}
@@ -9,15 +8,13 @@ use Rattle.std.specs.Map.{keys_of}
 use Rattle.std.specs.BTreeMap.{insert_entry}
 use Rattle.zone_model.specs.Refusals.{Refused, ◌>>=◌}
 use Rattle.zone_model.specs.declared.ZoneKind.{ZoneKind}
-use Rattle.zone_model.specs.declared.ZoneKind.TheVariants.{BadName, BadToken, OpenParen, NoOwner, NoTtl, BadTtl, BadClass, UnknownType, Include, OutsideZone, CnameAndOther, SoaRule, LongEntry}
+use Rattle.zone_model.specs.declared.ZoneKind.TheVariants.{BadName, NoOwner, NoTtl, BadTtl, UnknownType, OutsideZone, CnameAndOther, SoaRule, LongEntry}
 use Rattle.zone_model.specs.declared.DataRefusal.{DataRefusal}
 use Rattle.zone_model.specs.Names.{Name, IsName, name_cmp, is_under, same_name}
-use Rattle.zone_model.specs.NameText.{name_of}
-use Rattle.zone_model.specs.Texts.{named}
 use Rattle.zone_model.specs.Records.{Entry, item, with_rr}
 use Rattle.zone_model.specs.Versions.{Version, owned, has_soa, is_lone, soa_type}
-use Rattle.zone_model.specs.Tokens.{Token, Scan, fresh, refused, line_tokens}
-use Rattle.zone_model.specs.DataWords.{most_time, is_word, time_of, type_named}
+use Rattle.zone_model.specs.Tokens.{Token, refused, line_tokens}
+use Rattle.zone_model.specs.DataWords.{most_time, is_word}
 use Rattle.zone_model.specs.Data.{data_of}
 use Rattle.zone_model.specs.MasterFile.{Reader, required, name_word, time_word, type_word, class_word, is_time, is_directive, one_argument, set_time_word, set_origin_word, directive, Front, front_of, placed, minimum_of, or_else, time_for, soa_count, entry_fault, unless_fault, placed_in, added, after_record, record_says, last_line, entry_says, Pending, goes_on, zone_from, at_first, with_soa, zone_of}
 use Rattle.master_file.specs.Rows.{CanBeDumped}

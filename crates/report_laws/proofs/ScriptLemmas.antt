@@ -1,12 +1,12 @@
 -- What the operations of scripts of octets are.
-use Rattle.std.proofs.Common.{◌≡◌, ◌∙◌, ℕ, ◌+◌, ◌<◌, ◌≤◌, Bool, true, false, cond, not, eqb, ltb, List, [], ◌∷◌, ◌++◌, length, Option, Some, None, Result, Ok, Err, refl, sym, ap, subst, arith, codes}
+use Rattle.std.proofs.Common.{◌≡◌, ℕ, ◌+◌, Bool, true, false, cond, not, eqb, ltb, List, [], ◌∷◌, ◌++◌, length, Option, Some, None, Result, Ok, Err, refl, ap, subst, codes}
 use Rattle.std.specs.List.{AllByRecursion}
 use Rattle.std.specs.Option.{option_map}
 use Rattle.zone_model.specs.Refusals.{Refused, ◌>>=◌}
 use Rattle.zone_model.specs.Names.{Name, IsName, is_under}
-use Rattle.zone_model.specs.Versions.{Operation, Add, DeleteName, DeleteSet, DeleteRecord, Addition}
-use Rattle.zone_model.specs.Transactions.{Prerequisite, Transaction}
-use Rattle.zone_model.specs.Tokens.{Token, Scan, LineTokens, fresh, line_tokens, single_line}
+use Rattle.zone_model.specs.Versions.{Operation, Add, DeleteName, DeleteSet, DeleteRecord}
+use Rattle.zone_model.specs.Transactions.{Prerequisite}
+use Rattle.zone_model.specs.Tokens.{Token, Scan, fresh, line_tokens}
 use Rattle.zone_model.specs.Data.{data_of}
 use Rattle.zone_model.specs.MasterFile.{name_word, time_word, type_word}
 use Rattle.zone_model.specs.declared.ZoneKind.{ZoneKind}
@@ -14,17 +14,16 @@ use Rattle.zone_model.specs.declared.DataRefusal.{DataRefusal}
 use Rattle.zone_model.proofs.SplitLemmas.{and_some, map_some, cond_some}
 use Rattle.dns_name.proofs.BodyLemmas.{all_push}
 use Rattle.job_model.specs.declared.Ending.{Ending}
-use Rattle.job_model.specs.declared.Weight.{Weight}
 use Rattle.job_model.specs.declared.ScriptKind.{ScriptKind}
-use Rattle.job_model.specs.declared.ScriptKind.TheVariants.{NoWorker, BadName, BadType, BadNumber, BadCommand, OpenBlock, NotHeld, AlreadyHeld, TooMany}
-use Rattle.job_model.specs.Commands.{Question, Command, Ask, Hold, AskHeld, Release, Block, Compact}
+use Rattle.job_model.specs.declared.ScriptKind.TheVariants.{NoWorker, BadName, BadType, BadNumber, BadCommand, NotHeld, AlreadyHeld, TooMany}
+use Rattle.job_model.specs.Commands.{Command, Ask, Hold, AskHeld, Release, Block, Compact}
 use Rattle.job_model.specs.Phrases.{Asked, Phrase, Worker, Asks, Holds, AsksHeld, Releases, Opens, Needs, Adds, Deletes, Ends, Compacts, without_parens, script_tokens, asked_of, lone_word, adds, needs, says, phrase_of}
 use Rattle.job_model.specs.Arguments.{refuse, needed, inner_name, octets_needed, question_of, prerequisite_of, addition_of, deletion_of}
 use Rattle.job_model.specs.Jobs.{Unfinished, Script, lists_of, may_stand, worker_limit, command_limit, need_limit, operation_limit, of_worker, while_held, while_free, with_room, with_command, with_question, with_held_question, holding, released, opened, next_worker, outside, with_need, needed_first, with_operation, joined, may_end, ended, inside, by_block, taken, tokens_say, script_line, script_from, while_closed, finished, no_lines, script_of, no_commands, list_finished, list_of}
 use Rattle.report_laws.specs.Octets.{AllOctets}
 use Rattle.report_laws.specs.Changes.{IsInside, IsSaid, AllSaid, AllAsked}
 use Rattle.report_laws.proofs.DataLemmas.{IsTokenText, AllTexts, data_is, bound}
-use Rattle.report_laws.proofs.TokenLemmas.{either, IsScan, line_is, fresh_is}
+use Rattle.report_laws.proofs.TokenLemmas.{either, line_is, fresh_is}
 use Rattle.report_laws.proofs.ReaderLemmas.{name_said, time_said, type_said}
 
 -- ---- tokens and phrases

@@ -1,11 +1,10 @@
 -- Tokens of lines of octets are of octets.
-use Rattle.std.proofs.Common.{◌≡◌, ◌∙◌, ℕ, ◌+◌, ◌-◌, ◌<◌, Bool, true, false, cond, ◌||◌, eqb, List, [], ◌∷◌, ◌++◌, Result, Ok, Err, refl, sym, ap, subst, arith}
-use Rattle.std.specs.List.{AllByRecursion}
-use Rattle.zone_model.specs.Refusals.{Refused, ◌>>=◌}
+use Rattle.std.proofs.Common.{◌≡◌, ℕ, ◌-◌, ◌<◌, Bool, true, false, cond, eqb, List, [], ◌∷◌, ◌++◌, Result, Ok, subst, arith}
+use Rattle.zone_model.specs.Refusals.{Refused}
 use Rattle.zone_model.specs.declared.ZoneKind.{ZoneKind}
 use Rattle.zone_model.specs.declared.ZoneKind.TheVariants.{BadToken, OpenQuote}
-use Rattle.zone_model.specs.Tokens.{Token, parts_words, Begun, Apart, Comment, Word, Quote, Escape, Scan, fresh, refused, with_token, opened, closed, apart, in_word, in_quote, step, steps, line_end, line_tokens}
-use Rattle.dns_name.proofs.BodyLemmas.{all_append, all_push}
+use Rattle.zone_model.specs.Tokens.{Token, parts_words, Begun, Apart, Comment, Word, Quote, Escape, Scan, fresh, refused, with_token, opened, apart, in_word, in_quote, step, steps, line_end, line_tokens}
+use Rattle.dns_name.proofs.BodyLemmas.{all_push}
 use Rattle.report_laws.specs.Octets.{IsOctet, AllOctets}
 use Rattle.report_laws.proofs.DataLemmas.{IsTokenText, AllTexts, bound}
 

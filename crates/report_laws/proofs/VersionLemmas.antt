@@ -1,9 +1,9 @@
 -- Each version of a job of octets can be dumped.
-use Rattle.std.proofs.Common.{◌≡◌, ◌∙◌, ℕ, zero, suc, ◌+◌, ◌-◌, ◌<◌, Bool, true, false, cond, ◌&&◌, eqb, List, [], ◌∷◌, ◌++◌, length, take, drop, map, Option, Some, None, Result, Ok, Err, refl, sym, ap, subst, arith}
+use Rattle.std.proofs.Common.{◌≡◌, ℕ, zero, suc, ◌-◌, ◌<◌, Bool, true, false, cond, eqb, List, [], ◌∷◌, length, take, drop, map, Result, Ok, Err, refl, sym, ap, subst}
 use Rattle.std.specs.Prelude.{slice_index}
 use Rattle.std.specs.List.{AllByRecursion, slice_split, onto_first, range_with_len}
 use Rattle.std.specs.Str.Lines.{strip_carriage_return, lines_of_parts}
-use Rattle.zone_model.specs.Refusals.{Refused, ◌>>=◌}
+use Rattle.zone_model.specs.Refusals.{Refused}
 use Rattle.zone_model.specs.Names.{Name, IsName}
 use Rattle.zone_model.specs.Lines.{lines_of}
 use Rattle.zone_model.specs.Versions.{Version}
@@ -11,18 +11,17 @@ use Rattle.zone_model.specs.Transactions.{Transaction, whole}
 use Rattle.zone_model.specs.declared.Refusal.{Refusal}
 use Rattle.zone_model.specs.declared.ZoneKind.{ZoneKind}
 use Rattle.zone_model.specs.MasterFile.{zone_of}
-use Rattle.zone_model.specs.Dumps.{dump}
-use Rattle.zone_model.specs.declared.Style.{Style}
 use Rattle.dns_name.proofs.BodyLemmas.{all_append}
 use Rattle.master_file.specs.Rows.{CanBeDumped}
 use Rattle.master_file.proofs.DirectiveLemmas.{dump_back}
 use Rattle.job_model.specs.declared.ScriptKind.{ScriptKind}
-use Rattle.job_model.specs.Commands.{Command, Job, FedJob}
-use Rattle.job_model.specs.Jobs.{JobRefusal, ZoneRefused, ScriptRefused, zone_refused, script_refused, zone_lines, script_lines, script_start, script_of, list_of, job_of_lines, job_of, fed_job_of_lines, fed_job_of}
+use Rattle.job_model.specs.Commands.{Job, FedJob}
+use Rattle.job_model.specs.Jobs.{zone_refused, script_refused, zone_lines, script_lines, script_start, script_of, list_of, job_of_lines, job_of, fed_job_of_lines, fed_job_of}
 use Rattle.job_model.specs.Outcomes.{Pair, made, asked_by, asked_at, accepted_or, after, version_at, all_pairs}
 use Rattle.job_model.specs.Feeds.{FedPair, fed_commands, pairs_by, by_worker}
 use Rattle.report_laws.specs.Octets.{IsOctet, AllOctets}
 use Rattle.report_laws.specs.Changes.{AllSaid, AllAsked}
+use Rattle.report_laws.specs.Versions.{ReadsBack, AreOutcomesOf, version_of, AreFedOutcomesOf, fed_version_of}
 use Rattle.report_laws.proofs.DataLemmas.{bound}
 use Rattle.report_laws.proofs.ChangeLemmas.{whole_dumped}
 use Rattle.report_laws.proofs.ReaderLemmas.{zone_dumped}
@@ -162,16 +161,20 @@ all_of : (origin : Name) (workers : List (List Pair)) → AllLists origin (map (
 all_of origin [] h = tt
 all_of origin (pairs ∷ workers) h = all_append (λ (pair : Pair). AllAsked origin pair.0) pairs (all_pairs workers) (pairs_of origin pairs h.0) (all_of origin workers h.1)
 
-pub versions_dumped : (origin : Name) (bytes : List ℕ) (job : Job) → AllOctets bytes → IsName origin → job_of origin bytes ≡ Ok job → (workers : List (List Pair)) → map (map (λ pair. pair.0)) workers ≡ job.workers
-    → (v : ℕ) → CanBeDumped job.origin (version_at job.origin job.zone (all_pairs workers) v)
-versions_dumped origin bytes job small name e workers same v =
-    let j = job_is origin bytes job name small e in
-    version_is job.origin job.zone (all_pairs workers) v j.zone (all_of job.origin workers (subst (AllLists job.origin) (sym same) j.workers))
+-- a version that can be dumped, and is read from its dump
+abbrev pub Dumped : Name → Version → Type 0
+Dumped origin version = CanBeDumped origin version × ReadsBack origin version
 
-pub versions_back : (origin : Name) (bytes : List ℕ) (job : Job) → AllOctets bytes → IsName origin → job_of origin bytes ≡ Ok job → (workers : List (List Pair)) → map (map (λ pair. pair.0)) workers ≡ job.workers
-    → (style : Style) (v : ℕ) → zone_of job.origin (lines_of (dump style job.origin (version_at job.origin job.zone (all_pairs workers) v))) ≡ Ok (version_at job.origin job.zone (all_pairs workers) v)
-versions_back origin bytes job small name e workers same style v =
-    dump_back style job.origin (version_at job.origin job.zone (all_pairs workers) v) (versions_dumped origin bytes job small name e workers same v)
+dumped : (origin : Name) (version : Version) → CanBeDumped origin version → Dumped origin version
+dumped origin version h = (h, λ style. dump_back style origin version h)
+
+pub versions_dumped : (origin : Name) (bytes : List ℕ) (job : Job) → IsName origin → AllOctets bytes → job_of origin bytes ≡ Ok job → (workers : List (List Pair)) → AreOutcomesOf job workers
+    → (v : ℕ) → Dumped origin (version_of job workers v)
+versions_dumped origin bytes job name small e workers same v =
+    let j = job_is origin bytes job name small e in
+    let commands = subst (AllLists job.origin) (sym same) j.workers in
+    subst (λ (o : Name). Dumped o (version_of job workers v)) (sym j.origin_is)
+    (dumped job.origin (version_of job workers v) (version_is job.origin job.zone (all_pairs workers) v j.zone (all_of job.origin workers commands)))
 
 -- ---- of one list of commands
 
@@ -188,13 +191,11 @@ fed_all origin [] fed h = tt
 fed_all origin (w ∷ numbers) fed h =
     all_append (λ (pair : Pair). AllAsked origin pair.0) (pairs_by w fed) (all_pairs (map (λ w. pairs_by w fed) numbers)) (fed_pairs origin w fed h) (fed_all origin numbers fed h)
 
-pub fed_versions_dumped : (origin : Name) (bytes : List ℕ) (job : FedJob) → AllOctets bytes → IsName origin → fed_job_of origin bytes ≡ Ok job → (fed : List FedPair) → fed_commands fed ≡ job.commands
-    → (workers v : ℕ) → CanBeDumped job.origin (version_at job.origin job.zone (all_pairs (by_worker workers fed)) v)
-fed_versions_dumped origin bytes job small name e fed same workers v =
+pub fed_versions_dumped : (origin : Name) (bytes : List ℕ) (job : FedJob) → IsName origin → AllOctets bytes → fed_job_of origin bytes ≡ Ok job → (fed : List FedPair) → AreFedOutcomesOf job fed
+    → (workers v : ℕ) → Dumped origin (fed_version_of job workers fed v)
+fed_versions_dumped origin bytes job name small e fed same workers v =
     let j = list_is origin bytes job name small e in
-    version_is job.origin job.zone (all_pairs (by_worker workers fed)) v j.zone (fed_all job.origin (range_with_len 1 workers) fed (subst (AllCommands job.origin) (sym same) j.commands))
-
-pub fed_versions_back : (origin : Name) (bytes : List ℕ) (job : FedJob) → AllOctets bytes → IsName origin → fed_job_of origin bytes ≡ Ok job → (fed : List FedPair) → fed_commands fed ≡ job.commands
-    → (style : Style) (workers v : ℕ) → zone_of job.origin (lines_of (dump style job.origin (version_at job.origin job.zone (all_pairs (by_worker workers fed)) v))) ≡ Ok (version_at job.origin job.zone (all_pairs (by_worker workers fed)) v)
-fed_versions_back origin bytes job small name e fed same style workers v =
-    dump_back style job.origin (version_at job.origin job.zone (all_pairs (by_worker workers fed)) v) (fed_versions_dumped origin bytes job small name e fed same workers v)
+    let commands = subst (AllCommands job.origin) (sym same) j.commands in
+    subst (λ (o : Name). Dumped o (fed_version_of job workers fed v)) (sym j.origin_is)
+    (dumped job.origin (fed_version_of job workers fed v)
+    (version_is job.origin job.zone (all_pairs (by_worker workers fed)) v j.zone (fed_all job.origin (range_with_len 1 workers) fed commands)))
