@@ -91,14 +91,16 @@ all_changed P Q rtype change (first ∷ rest) keep none some h = by_order (nat_c
 pub sets_with : (origin owner : Name) (rtype ttl : ℕ) (octets : List ℕ) (entry : Entry) → IsRr origin owner rtype ttl octets → AllSets origin owner entry → AllSets origin owner (with_rr rtype ttl octets entry)
 sets_with origin owner rtype ttl octets entry f h =
     all_changed (IsSet origin owner) (IsSet origin owner) rtype (joined rtype ttl octets) entry (λ s k. k) (f, tt)
-    (λ s e k.
-    (record {
-      number = k.number;
-      kind = k.kind;
-      time = k.time;
-      each = all_with (IsData s.rtype) octets s.records (subst (λ (t : ℕ). IsData t octets) (sym e) f.each.0) k.each;
-      place = k.place;
-    }, tt)) h
+    (λ s e k. (
+      record {
+        number = k.number;
+        kind = k.kind;
+        time = k.time;
+        each = all_with (IsData s.rtype) octets s.records (subst (λ (t : ℕ). IsData t octets) (sym e) f.each.0) k.each;
+        place = k.place;
+      },
+      tt,
+    )) h
 
 pub some_with : (rtype ttl : ℕ) (octets : List ℕ) (entry : Entry) → 0 < length (with_rr rtype ttl octets entry)
 some_with rtype ttl octets [] = omega arith

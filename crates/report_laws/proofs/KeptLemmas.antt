@@ -257,24 +257,26 @@ sets_of_rows : (origin owner : Name) (done entry : Entry) → RisingSets None (d
 sets_of_rows origin owner done [] r low h = tt
 sets_of_rows origin owner done (s ∷ entry) r low h =
     let p = all_parts IsRecord (rows_of owner s) (rows_at (owner, entry)) h in
-    let more : (done ++ s ∷ []) ++ entry ≡ done ++ s ∷ entry = append_assoc done (s ∷ []) entry in
-    (set_of_rows origin owner s (set_in done s entry r).some (not_low origin owner done s entry low) p.0,
-    sets_of_rows origin owner (done ++ s ∷ []) entry (subst (λ (e : Entry). RisingSets None e) (sym more) r) (subst (λ (e : Entry). has_low_soa origin (owner, e) ≡ false) (sym more) low) p.1)
+    let more : (done ++ s ∷ []) ++ entry ≡ done ++ s ∷ entry = append_assoc done (s ∷ []) entry in (
+      set_of_rows origin owner s (set_in done s entry r).some (not_low origin owner done s entry low) p.0,
+      sets_of_rows origin owner (done ++ s ∷ []) entry (subst (λ (e : Entry). RisingSets None e) (sym more) r) (subst (λ (e : Entry). has_low_soa origin (owner, e) ≡ false) (sym more) low) p.1,
+    )
 
 each_owned : (origin : Name) (version front rest : Version) → CanBeDumped origin version → version ≡ front ++ rest → Parts origin rest → AllByRecursion (IsOwned origin) rest
 each_owned origin version front [] h e p = tt
 each_owned origin version front (pair ∷ rest) h e p =
     let before = names_before front pair rest (subst (λ (x : Version). IsStrictlySortedBy name_cmp (keys_of x)) e h.rising) in
-    let rows = all_parts IsRecord (rows_at pair) (all_rows rest) p.records in
-    (record {
-      under = p.inside.0;
-      lone = p.lone.0;
-      few = few_soas origin version front pair rest e before h.zone.soa p.low.0;
-      item = p.items.0;
-      sets = sets_of_rows origin pair.0 [] pair.1 p.items.0.proper p.low.0 rows.0;
-    },
-    each_owned origin version (front ++ pair ∷ []) rest h (e ∙ sym (append_assoc front (pair ∷ []) rest))
-    (record { inside = p.inside.1; low = p.low.1; lone = p.lone.1; items = p.items.1; records = rows.1 }))
+    let rows = all_parts IsRecord (rows_at pair) (all_rows rest) p.records in (
+      record {
+        under = p.inside.0;
+        lone = p.lone.0;
+        few = few_soas origin version front pair rest e before h.zone.soa p.low.0;
+        item = p.items.0;
+        sets = sets_of_rows origin pair.0 [] pair.1 p.items.0.proper p.low.0 rows.0;
+      },
+      each_owned origin version (front ++ pair ∷ []) rest h (e ∙ sym (append_assoc front (pair ∷ []) rest))
+          (record { inside = p.inside.1; low = p.low.1; lone = p.lone.1; items = p.items.1; records = rows.1 }),
+    )
 
 pub kept : (origin : Name) (version : Version) → CanBeDumped origin version → IsKept origin version
 kept origin version h = record {
