@@ -19,7 +19,7 @@ use Rattle.zone_model.proofs.EntryLaws.{entry_with, entry_without, entry_without
 use Rattle.master_file.specs.Rows.{IsRecord, CanBeDumped}
 use Rattle.report_laws.specs.Changes.{IsInside, IsSaid, AllSaid, row_of}
 use Rattle.report_laws.proofs.EntryLemmas.{AllSets, IsRr, sets_with, sets_without, sets_without_set, one_soa, few_with, few_without, few_without_set, soa_stays, soa_joins, lone_without, lone_without_set, item_without, item_without_set}
-use Rattle.report_laws.proofs.KeptLemmas.{IsOwned, IsKept, Owns, owns, kept_put, kept_left, put_owned, others_put, others_left, can_be_dumped, kept, soa_there}
+use Rattle.report_laws.proofs.WellFormedLemmas.{IsOwned, IsWellFormed, Owns, owns, well_formed_put, well_formed_left, put_owned, others_put, others_left, can_be_dumped, well_formed, soa_there}
 
 -- a record of its owner, as an RRset of one
 pub rr_is : (origin : Name) (row : Row) → IsRecord row → (eqb row.rtype soa_type && not (same_name row.owner origin)) ≡ false → IsRr origin row.owner row.rtype row.ttl row.octets
@@ -97,16 +97,16 @@ keeps origin owner before left next o e = by_soas (is_some (rrset_of 6 before)) 
     losing None = refl
     losing (Some s) = refl
 
-    kept_left : (HasSoa before → HasSoa left) → left ≡ next → Changes origin owner before next
-    kept_left soa is = subst (λ (x : Entry). Changes origin owner before x) is (record { owns = o; soa = soa })
+    let_stand : (HasSoa before → HasSoa left) → left ≡ next → Changes origin owner before next
+    let_stand soa is = subst (λ (x : Entry). Changes origin owner before x) is (record { owns = o; soa = soa })
 
     by_soas : (a b : Bool) → is_some (rrset_of 6 before) ≡ a → is_some (rrset_of 6 left) ≡ b → is_none (rrset_of 6 left) ≡ not (is_some (rrset_of 6 left)) → cond (is_some (rrset_of 6 before) && is_none (rrset_of 6 left)) (Err Soa) (Ok left) ≡ Ok next → Changes origin owner before next
     by_soas true true p q n h =
-        kept_left (λ x. q) (let k : ◌≡◌ {A = Result Entry Refusal} (Ok left) (Ok next) = sym (ap (λ (b : Bool). cond b (Err Soa) (Ok left)) (ap (λ (b : Bool). b && is_none (rrset_of 6 left)) p ∙ n ∙ ap not q)) ∙ h in cc)
+        let_stand (λ x. q) (let k : ◌≡◌ {A = Result Entry Refusal} (Ok left) (Ok next) = sym (ap (λ (b : Bool). cond b (Err Soa) (Ok left)) (ap (λ (b : Bool). b && is_none (rrset_of 6 left)) p ∙ n ∙ ap not q)) ∙ h in cc)
     by_soas true false p q n h =
         let k : ◌≡◌ {A = Result Entry Refusal} (Err Soa) (Ok next) = sym (ap (λ (b : Bool). cond b (Err Soa) (Ok left)) (ap (λ (b : Bool). b && is_none (rrset_of 6 left)) p ∙ n ∙ ap not q)) ∙ h in absurd cc
     by_soas false b p q n h =
-        kept_left (λ x. absurd cc) (let k : ◌≡◌ {A = Result Entry Refusal} (Ok left) (Ok next) = sym (ap (λ (b : Bool). cond b (Err Soa) (Ok left)) (ap (λ (b : Bool). b && is_none (rrset_of 6 left)) p)) ∙ h in cc)
+        let_stand (λ x. absurd cc) (let k : ◌≡◌ {A = Result Entry Refusal} (Ok left) (Ok next) = sym (ap (λ (b : Bool). cond b (Err Soa) (Ok left)) (ap (λ (b : Bool). b && is_none (rrset_of 6 left)) p)) ∙ h in cc)
 
 nothing_left : (origin owner : Name) → Owns origin owner []
 nothing_left origin owner = record { lone = refl; few = omega arith; proper = tt; short = λ some. absurd (omega arith); sets = tt }
@@ -154,7 +154,7 @@ inside origin (DeleteRecord owner rtype octets) said = said
 
 -- a version whose names own what a zone's may, with an SOA
 pub record IsZone (origin : Name) (version : Version) : Type 0 where
-  pub kept : IsKept origin version
+  pub well_formed : IsWellFormed origin version
   pub soa : has_soa origin version ≡ true
 
 pub owned_is : (origin owner : Name) (entry : Entry) → 0 < length entry → IsInside origin owner → Owns origin owner entry → IsOwned origin (owner, entry)
@@ -163,14 +163,14 @@ owned_is origin owner entry some is o =
 
 -- an entry is put that has an SOA where what it takes the place of has one
 is_put : (origin owner : Name) (entry : Entry) (version : Version) → IsInside origin owner → Changes origin owner (owned owner version) entry → IsZone origin version → IsZone origin (put owner entry version)
-is_put origin owner [] version is c z = record { kept = kept_left origin (is_at (name_cmp owner)) version z.kept; soa = by_name (same_name origin owner) refl }
+is_put origin owner [] version is c z = record { well_formed = well_formed_left origin (is_at (name_cmp owner)) version z.well_formed; soa = by_name (same_name origin owner) refl }
   where
     by_name : (b : Bool) → same_name origin owner ≡ b → has_soa origin (remove_entry (is_at (name_cmp owner)) version) ≡ true
     by_name true e =
         let bad : HasSoa [] = c.soa (subst (λ (n : Name). HasSoa (owned n version)) (same_name-true origin owner e) z.soa) in absurd cc
     by_name false e = ap (λ (x : Entry). is_some (rrset_of 6 x)) (others_left origin owner version e) ∙ z.soa
 is_put origin owner (s ∷ entry) version is c z =
-    record { kept = kept_put origin owner (s ∷ entry) version (owned_is origin owner (s ∷ entry) (omega arith) is c.owns) z.kept; soa = by_name (same_name origin owner) refl }
+    record { well_formed = well_formed_put origin owner (s ∷ entry) version (owned_is origin owner (s ∷ entry) (omega arith) is c.owns) z.well_formed; soa = by_name (same_name origin owner) refl }
   where
     by_name : (b : Bool) → same_name origin owner ≡ b → has_soa origin (insert_entry name_cmp version owner (s ∷ entry)) ≡ true
     by_name true e =
@@ -190,7 +190,7 @@ applied origin operation version next said z e = by_result (changed origin opera
     by_result (Ok entry) c h =
         let is : put owner entry version ≡ next = cc in
         subst (λ (v : Version). IsZone origin v) is
-        (is_put origin owner entry version (inside origin operation said) (changes origin operation (owned owner version) entry said (owns origin owner version z.kept.each) c) z)
+        (is_put origin owner entry version (inside origin operation said) (changes origin operation (owned owner version) entry said (owns origin owner version z.well_formed.each) c) z)
 
 all_said : (origin : Name) (operations : List Operation) (version next : Version) → AllByRecursion (IsSaid origin) operations → IsZone origin version → all_applied origin operations version ≡ Ok next → IsZone origin next
 all_said origin [] version next said z e = let is : version ≡ next = cc in subst (λ (v : Version). IsZone origin v) is z
@@ -208,7 +208,7 @@ zone_whole origin t version next said z e = by_needs (all_met version t.needs) e
     by_needs false h = absurd cc
 
 pub is_zone : (origin : Name) (version : Version) → CanBeDumped origin version → IsZone origin version
-is_zone origin version h = record { kept = kept origin version h; soa = soa_there origin version h }
+is_zone origin version h = record { well_formed = well_formed origin version h; soa = soa_there origin version h }
 
 pub whole_dumped : (origin : Name) (t : Transaction) (version next : Version) → whole origin t version ≡ Ok next → CanBeDumped origin version → AllSaid origin t → CanBeDumped origin next
-whole_dumped origin t version next e h said = let z = zone_whole origin t version next said (is_zone origin version h) e in can_be_dumped origin next h.name z.kept z.soa
+whole_dumped origin t version next e h said = let z = zone_whole origin t version next said (is_zone origin version h) e in can_be_dumped origin next h.name z.well_formed z.soa

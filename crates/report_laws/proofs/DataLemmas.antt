@@ -27,7 +27,7 @@ use Rattle.dns_name.proofs.BodyLemmas.{all_append}
 use Rattle.rr_data.proofs.FormLemmas.{all_append as all_pass}
 use Rattle.report_laws.specs.Octets.{IsOctet, AllOctets}
 use Rattle.report_laws.proofs.EntryLemmas.{IsData}
-use Rattle.report_laws.proofs.NameWords.{name_is}
+use Rattle.report_laws.proofs.NameLemmas.{name_is}
 use Rattle.report_laws.proofs.WordLemmas.{and_parts, time_most, address_is, address6_is, all_digits}
 
 abbrev pub IsTokenText : Token → Type 0

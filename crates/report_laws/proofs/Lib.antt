@@ -1,7 +1,7 @@
 pub mod EntryLemmas
-pub mod KeptLemmas
+pub mod WellFormedLemmas
 pub mod ChangeLemmas
-pub mod NameWords
+pub mod NameLemmas
 pub mod WordLemmas
 pub mod DataLemmas
 pub mod TokenLemmas

@@ -13,7 +13,7 @@ use Rattle.zone_model.specs.MasterFile.{number_at, minimum_of}
 use Rattle.zone_model.proofs.SplitLemmas.{and_some, map_some, cond_some, octets_sound, name_sound}
 use Rattle.report_laws.specs.Octets.{AllOctets}
 use Rattle.report_laws.proofs.EntryLemmas.{IsData}
-use Rattle.report_laws.proofs.NameWords.{index_small}
+use Rattle.report_laws.proofs.NameLemmas.{index_small}
 
 -- octets that end with these
 record EndsWith (octets back : List ℕ) : Type 0 where

@@ -21,7 +21,7 @@ use Rattle.master_file.specs.Rows.{CanBeDumped}
 use Rattle.zone_model.proofs.EntryLaws.{entry_with}
 use Rattle.report_laws.specs.Octets.{AllOctets}
 use Rattle.report_laws.proofs.EntryLemmas.{IsData, IsRr, sets_with, some_with}
-use Rattle.report_laws.proofs.KeptLemmas.{IsOwned, IsKept, Owns, owns, kept_put, can_be_dumped}
+use Rattle.report_laws.proofs.WellFormedLemmas.{IsOwned, IsWellFormed, Owns, owns, well_formed_put, can_be_dumped}
 use Rattle.report_laws.proofs.WordLemmas.{IsType, type_is, time_most}
 use Rattle.report_laws.proofs.DataLemmas.{IsTokenText, AllTexts, named_is, data_is, bound}
 use Rattle.report_laws.proofs.TokenLemmas.{either, IsScan, line_is, fresh_is}
@@ -70,7 +70,7 @@ pub record IsReader (apex : Name) (r : Reader) : Type 0 where
   pub last_time : IfTime r.last_time
   pub minimum : IfTime r.minimum
   pub owner : IfName r.owner
-  pub kept : IsKept apex r.version
+  pub well_formed : IsWellFormed apex r.version
 
 reader_is : (apex : Name) (x new : Reader) → IsReader apex x → ◌≡◌ {A = Result Reader (Refused ZoneKind)} (Ok x) (Ok new) → IsReader apex new
 reader_is apex x new s h = let is : x ≡ new = cc in subst (IsReader apex) is s
@@ -81,13 +81,13 @@ time_is_set : (apex : Name) (r new : Reader) (a : Token) → IsReader apex r →
 time_is_set apex r new a h e =
     let b = bound (required a.line BadTtl (time_word a)) (λ (time : ℕ). Ok (record r { set_time = Some time })) new e in
     let most = time_said a b.0 (given a.line BadTtl (time_word a) b.0 b.1) in
-    reader_is apex (record r { set_time = Some b.0 }) new (record { origin = h.origin; set_time = most; last_time = h.last_time; minimum = h.minimum; owner = h.owner; kept = h.kept }) b.2
+    reader_is apex (record r { set_time = Some b.0 }) new (record { origin = h.origin; set_time = most; last_time = h.last_time; minimum = h.minimum; owner = h.owner; well_formed = h.well_formed }) b.2
 
 origin_is_set : (apex : Name) (r new : Reader) (a : Token) → IsTokenText a → IsReader apex r → set_origin_word r a ≡ Ok new → IsReader apex new
 origin_is_set apex r new a t h e =
     let b = bound (required a.line BadName (name_word r.origin a)) (λ (name : Name). Ok (record r { origin = name })) new e in
     let name = name_said r.origin a b.0 t h.origin (given a.line BadName (name_word r.origin a) b.0 b.1) in
-    reader_is apex (record r { origin = b.0 }) new (record { origin = name; set_time = h.set_time; last_time = h.last_time; minimum = h.minimum; owner = h.owner; kept = h.kept }) b.2
+    reader_is apex (record r { origin = b.0 }) new (record { origin = name; set_time = h.set_time; last_time = h.last_time; minimum = h.minimum; owner = h.owner; well_formed = h.well_formed }) b.2
 
 argument_is : (last : ℕ) (tokens : List Token) (a : Token) → AllTexts tokens → one_argument last tokens ≡ Ok a → IsTokenText a
 argument_is last [] a t e = absurd cc
@@ -157,8 +157,8 @@ faultless owner entry h = by_tests (ltb 1 (soa_count entry)) (is_lone entry) (lt
     by_tests false true true e f g k = absurd cc
     by_tests false true false e f g k = record { few = ltb-false 1 (soa_count entry) e; lone = f; short = ltb-false 4096 (length (item owner entry)) g }
 
-placed_is : (apex : Name) (last : ℕ) (owner : Name) (rtype time : ℕ) (octets : List ℕ) (version new : Version) → IsName owner → is_under owner apex ≡ true → IsRr apex owner rtype time octets → IsKept apex version
-    → placed_in last owner rtype time octets version ≡ Ok new → IsKept apex new
+placed_is : (apex : Name) (last : ℕ) (owner : Name) (rtype time : ℕ) (octets : List ℕ) (version new : Version) → IsName owner → is_under owner apex ≡ true → IsRr apex owner rtype time octets → IsWellFormed apex version
+    → placed_in last owner rtype time octets version ≡ Ok new → IsWellFormed apex new
 placed_is apex last owner rtype time octets version new name under rr h e = by_fault (entry_fault owner entry) refl e
   where
     before : Owns apex owner (owned owner version)
@@ -176,17 +176,17 @@ placed_is apex last owner rtype time octets version new name under rr h e = by_f
       sets = sets_with apex owner rtype time octets (owned owner version) rr before.sets;
     }
 
-    by_fault : (f : Option ZoneKind) → entry_fault owner entry ≡ f → unless_fault last f (insert_entry name_cmp version owner entry) ≡ Ok new → IsKept apex new
-    by_fault None f k = let is : insert_entry name_cmp version owner entry ≡ new = cc in subst (IsKept apex) is (kept_put apex owner entry version (put_is (faultless owner entry f)) h)
+    by_fault : (f : Option ZoneKind) → entry_fault owner entry ≡ f → unless_fault last f (insert_entry name_cmp version owner entry) ≡ Ok new → IsWellFormed apex new
+    by_fault None f k = let is : insert_entry name_cmp version owner entry ≡ new = cc in subst (IsWellFormed apex) is (well_formed_put apex owner entry version (put_is (faultless owner entry f)) h)
     by_fault (Some kind) f k = absurd cc
 
-added_is : (apex : Name) (last : ℕ) (owner : Name) (rtype time : ℕ) (octets : List ℕ) (version new : Version) → IsName owner → IsType rtype → time ≤ most_time → IsData rtype octets → IsKept apex version
-    → added apex last owner rtype time octets version ≡ Ok new → IsKept apex new
+added_is : (apex : Name) (last : ℕ) (owner : Name) (rtype time : ℕ) (octets : List ℕ) (version new : Version) → IsName owner → IsType rtype → time ≤ most_time → IsData rtype octets → IsWellFormed apex version
+    → added apex last owner rtype time octets version ≡ Ok new → IsWellFormed apex new
 unfolding added
 added_is apex last owner rtype time octets version new name t le d h e = by_tests (is_under owner apex) (eqb rtype soa_type && not (same_name owner apex)) refl refl e
   where
     by_tests : (a b : Bool) → is_under owner apex ≡ a → (eqb rtype soa_type && not (same_name owner apex)) ≡ b
-        → cond (not a) (refused last OutsideZone) (cond b (refused last SoaRule) (placed_in last owner rtype time octets version)) ≡ Ok new → IsKept apex new
+        → cond (not a) (refused last OutsideZone) (cond b (refused last SoaRule) (placed_in last owner rtype time octets version)) ≡ Ok new → IsWellFormed apex new
     by_tests false b f g k = absurd cc
     by_tests true true f g k = absurd cc
     by_tests true false f g k = placed_is apex last owner rtype time octets version new name f (rr_of apex owner rtype time octets t le d g) h k
@@ -207,7 +207,7 @@ time_for_is apex written rtype octets r h w d =
     let in_force = either_time r.set_time (or_else r.last_time (cond (eqb rtype soa_type) (Some (minimum_of octets)) r.minimum)) h.set_time learnt in
     either_time written (or_else r.set_time (or_else r.last_time (cond (eqb rtype soa_type) (Some (minimum_of octets)) r.minimum))) w in_force
 
-after_is : (apex : Name) (written : Option ℕ) (rtype : ℕ) (octets : List ℕ) (owner : Name) (r : Reader) (version : Version) → IsReader apex r → IfTime written → IsData rtype octets → IsName owner → IsKept apex version
+after_is : (apex : Name) (written : Option ℕ) (rtype : ℕ) (octets : List ℕ) (owner : Name) (r : Reader) (version : Version) → IsReader apex r → IfTime written → IsData rtype octets → IsName owner → IsWellFormed apex version
     → IsReader apex (after_record written rtype octets owner r version)
 after_is apex written rtype octets owner r version h w d name k = record {
   origin = h.origin;
@@ -215,7 +215,7 @@ after_is apex written rtype octets owner r version h w d name k = record {
   last_time = either_time written r.last_time w h.last_time;
   minimum = minimum_time rtype octets r.minimum d h.minimum;
   owner = name;
-  kept = k;
+  well_formed = k;
 }
 
 octets_placed : (last : ℕ) (tokens : List Token) (r : Result (List ℕ) DataRefusal) (octets : List ℕ) → placed last tokens r ≡ Ok octets → r ≡ Ok octets
@@ -232,7 +232,7 @@ record_is apex last owner words r new t name h e =
     let c = bound (required last NoTtl (time_for a.0.time a.0.rtype b.0 r)) _ new b.2 in
     let time = some_time (time_for a.0.time a.0.rtype b.0 r) c.0 (time_for_is apex a.0.time a.0.rtype b.0 r h front.time d) (given last NoTtl (time_for a.0.time a.0.rtype b.0 r) c.0 c.1) in
     let v = bound (added apex last owner a.0.rtype c.0 b.0 r.version) _ new c.2 in
-    let k = added_is apex last owner a.0.rtype c.0 b.0 r.version v.0 name front.rtype time d h.kept v.1 in
+    let k = added_is apex last owner a.0.rtype c.0 b.0 r.version v.0 name front.rtype time d h.well_formed v.1 in
     reader_is apex (after_record a.0.time a.0.rtype b.0 owner r v.0) new (after_is apex a.0.time a.0.rtype b.0 owner r v.0 h front.time d name k) v.2
 
 -- ---- an entry
@@ -279,7 +279,7 @@ unfolding IsStrictlySortedBy
 no_names = tt
 
 empty_is : (apex : Name) → IsName apex → IsReader apex (at_first apex)
-empty_is apex name = record { origin = name; set_time = tt; last_time = tt; minimum = tt; owner = tt; kept = record { each = tt; rising = no_names } }
+empty_is apex name = record { origin = name; set_time = tt; last_time = tt; minimum = tt; owner = tt; well_formed = record { each = tt; rising = no_names } }
 
 pub zone_dumped : (origin : Name) (lines : List (List ℕ)) (zone : Version) → AllByRecursion AllOctets lines → IsName origin → zone_of origin lines ≡ Ok zone → CanBeDumped origin zone
 unfolding zone_of
@@ -289,5 +289,5 @@ zone_dumped origin lines zone l name e =
     by_soa b.0 r (has_soa origin b.0.version) refl b.2
   where
     by_soa : (r : Reader) → IsReader origin r → (soa : Bool) → has_soa origin r.version ≡ soa → cond soa (Ok r.version) (refused (length lines + 1) SoaRule) ≡ Ok zone → CanBeDumped origin zone
-    by_soa r i true s k = let is : r.version ≡ zone = cc in subst (CanBeDumped origin) is (can_be_dumped origin r.version name i.kept s)
+    by_soa r i true s k = let is : r.version ≡ zone = cc in subst (CanBeDumped origin) is (can_be_dumped origin r.version name i.well_formed s)
     by_soa r i false s k = absurd cc

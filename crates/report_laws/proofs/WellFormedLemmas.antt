@@ -1,4 +1,4 @@
--- Versions whose names own what a zone's names may own, and what is put into them.
+-- Versions whose names own what a zone's names may own: what is put into them, and what leaves them.
 use Rattle.std.proofs.Common.{◌≡◌, ◌∙◌, ℕ, ◌<◌, ◌≤◌, Bool, true, false, cond, not, ◌&&◌, eqb, List, [], ◌∷◌, ◌++◌, length, Some, None, refl, sym, ap, subst, arith, append_assoc, unwrap_or}
 use Rattle.std.specs.List.{AllByRecursion, flat_map}
 use Rattle.std.specs.List.Sorted.{IsStrictlySortedBy}
@@ -30,7 +30,7 @@ pub record IsOwned (origin : Name) (pair : Name × Entry) : Type 0 where
   pub sets : AllSets origin pair.0 pair.1
 
 -- a zone, but that it may have no SOA
-pub record IsKept (origin : Name) (version : Version) : Type 0 where
+pub record IsWellFormed (origin : Name) (version : Version) : Type 0 where
   pub each : AllByRecursion (IsOwned origin) version
   pub rising : IsStrictlySortedBy name_cmp (keys_of version)
 
@@ -76,8 +76,8 @@ rising_put owner entry (pair ∷ rest) h = by_order (name_cmp owner pair.0) refl
     by_order Equal e i = h
     by_order Greater e i = (above_put pair.0 owner entry rest (turned owner pair.0 e) h.0, i)
 
-pub kept_put : (origin owner : Name) (entry : Entry) (version : Version) → IsOwned origin (owner, entry) → IsKept origin version → IsKept origin (insert_entry name_cmp version owner entry)
-kept_put origin owner entry version is h = record { each = all_put (IsOwned origin) owner entry version is h.each; rising = rising_put owner entry version h.rising }
+pub well_formed_put : (origin owner : Name) (entry : Entry) (version : Version) → IsOwned origin (owner, entry) → IsWellFormed origin version → IsWellFormed origin (insert_entry name_cmp version owner entry)
+well_formed_put origin owner entry version is h = record { each = all_put (IsOwned origin) owner entry version is h.each; rising = rising_put owner entry version h.rising }
 
 -- ---- what leaves
 
@@ -106,8 +106,8 @@ rising_left test (pair ∷ rest) h = by_test (test pair.0) (rising_left test res
     by_test true i = h.1
     by_test false i = (above_left pair.0 test rest h.0, i)
 
-pub kept_left : (origin : Name) (test : Name → Bool) (version : Version) → IsKept origin version → IsKept origin (remove_entry test version)
-kept_left origin test version h = record { each = all_left (IsOwned origin) test version h.each; rising = rising_left test version h.rising }
+pub well_formed_left : (origin : Name) (test : Name → Bool) (version : Version) → IsWellFormed origin version → IsWellFormed origin (remove_entry test version)
+well_formed_left origin test version h = record { each = all_left (IsOwned origin) test version h.each; rising = rising_left test version h.rising }
 
 -- ---- what a name owns
 
@@ -204,7 +204,7 @@ entry_rows : (origin owner : Name) (entry : Entry) → IsName owner → AllSets 
 entry_rows origin owner [] name h = tt
 entry_rows origin owner (s ∷ entry) name h = all_append IsRecord (rows_of owner s) (flat_map (rows_of owner) entry) (set_rows origin owner s s.records name h.0 h.0.each) (entry_rows origin owner entry name h.1)
 
--- ---- a kept version with an SOA is a zone that can be dumped
+-- ---- a well-formed version with an SOA is a zone that can be dumped
 
 -- what the parts of each name say
 record Parts (origin : Name) (version : Version) : Type 0 where
@@ -225,7 +225,7 @@ parts origin (pair ∷ rest) h =
       records = all_append IsRecord (rows_at pair) (all_rows rest) (entry_rows origin pair.0 pair.1 h.0.item.name h.0.sets) more.records;
     }
 
-pub can_be_dumped : (origin : Name) (version : Version) → IsName origin → IsKept origin version → has_soa origin version ≡ true → CanBeDumped origin version
+pub can_be_dumped : (origin : Name) (version : Version) → IsName origin → IsWellFormed origin version → has_soa origin version ≡ true → CanBeDumped origin version
 can_be_dumped origin version name h soa =
     let p = parts origin version h.each in
     let o = owns origin origin version h.each in record {
@@ -278,8 +278,8 @@ each_owned origin version front (pair ∷ rest) h e p =
           (record { inside = p.inside.1; low = p.low.1; lone = p.lone.1; items = p.items.1; records = rows.1 }),
     )
 
-pub kept : (origin : Name) (version : Version) → CanBeDumped origin version → IsKept origin version
-kept origin version h = record {
+pub well_formed : (origin : Name) (version : Version) → CanBeDumped origin version → IsWellFormed origin version
+well_formed origin version h = record {
   each = each_owned origin version [] version h refl (record { inside = h.zone.inside; low = h.zone.no_low_soa; lone = h.zone.lone; items = h.items; records = h.records });
   rising = h.rising;
 }
