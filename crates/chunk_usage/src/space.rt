@@ -11,12 +11,12 @@ pub struct Grant {
     pub given: Option<u32>,
 }
 
-/// There is no room: the open chunk has too few cells left, and no chunk but the reserve is free.
+/// There is no room: the bump chunk has too few cells left, and no chunk but the reserve is free.
 #[derive(Clone, Copy, PartialEq, Eq, Debug)]
 pub struct Full {
     /// How many cells were wanted.
     pub needed: u32,
-    /// How many the open chunk has left.
+    /// How many the bump chunk has left.
     pub left: u32,
     /// How many chunks are free.
     pub free: u32,

@@ -1,3 +1,14 @@
+pub mod EntryLemmas
+pub mod WellFormedLemmas
+pub mod ChangeLemmas
+pub mod NameLemmas
+pub mod WordLemmas
+pub mod DataLemmas
+pub mod TokenLemmas
+pub mod MinimumLemmas
+pub mod ReaderLemmas
+pub mod ScriptLemmas
+pub mod VersionLemmas
 pub mod CutLemmas
 pub mod TextLemmas
 pub mod LineLemmas

@@ -1,1 +1,4 @@
+pub mod Changes
+pub mod Octets
+pub mod Versions
 pub mod Reports

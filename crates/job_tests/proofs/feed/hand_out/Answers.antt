@@ -10,4 +10,4 @@ unfolding IsStrictlySortedBy
 no_names = record { version = []; stands = record { valid = record { rising = tt; items = tt }; entries = refl } }
 
 pub run_list-requires-clause-zone : goal.run_list-requires-clause-zone
-run_list-requires-clause-zone g c = no_names
+run_list-requires-clause-zone g c k l = no_names
