@@ -69,11 +69,7 @@ fn without_record(mut entry: Entry, rtype: u16, rdata: &Rdata) -> Entry
 }
 
 /// What an operation makes of its owner's entry, where it isn't refused.
-pub fn changed(
-    alloc: Global,
-    operation: &Operation,
-    entry: Entry,
-) -> Result<Entry, AllocError>
+pub fn changed(alloc: Global, operation: &Operation, entry: Entry) -> Result<Entry, AllocError>
     ensures { IfOk result (λ next. next ≡ candidate (operation_view operation.now) entry) }
 {
     match operation {
