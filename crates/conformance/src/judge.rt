@@ -12,6 +12,8 @@ use std::thread::Threads;
 struct Open;
 
 impl Gate for Open {
+    ghost hears = { λ _ _. Unit {0} };
+
     fn before(&self, _worker: u32, _command: u32) {}
 
     fn after(&self, _worker: u32, _command: u32) {}

@@ -10,6 +10,3 @@ mod seat;
 
 pub use feed::Feed;
 pub use seat::FeedSeat;
-
-#[cfg(test)]
-mod tests;

@@ -41,6 +41,8 @@ impl Counting {
 }
 
 impl Gate for Counting {
+    ghost hears = { λ _ _. Unit {0} };
+
     fn before(&self, worker: u32, command: u32) {
         self.step(worker, 2 * u64::from(command.saturating_sub(1)));
     }
@@ -118,6 +120,8 @@ impl Meeting {
 }
 
 impl Gate for Meeting {
+    ghost hears = { λ _ _. Unit {0} };
+
     fn before(&self, worker: u32, _command: u32) {
         self.meet(worker == 1);
     }
@@ -132,6 +136,8 @@ pub(crate) struct Crossing {
 }
 
 impl Gate for Crossing {
+    ghost hears = { λ _ _. Unit {0} };
+
     fn before(&self, _worker: u32, command: u32) {
         self.meeting.meet(command == 1);
     }
@@ -161,6 +167,8 @@ impl Overtaking {
 }
 
 impl Gate for Overtaking {
+    ghost hears = { λ _ _. Unit {0} };
+
     fn before(&self, worker: u32, command: u32) {
         if worker == 2 && command == 1 {
             self.held.wait();

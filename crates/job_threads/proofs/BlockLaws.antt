@@ -1,6 +1,6 @@
 -- How a block ends, by what its transaction's calls say.
 use Rattle.std.proofs.Common.{◌≡◌, ◌∙◌, true, ℕ, ◌+◌, ◌*◌, arith, List, Option, Some, None, Result, Ok, Err, IfOk, length, refl, sym, ap, subst}
-use Rattle.std.specs.Prelude.{◌↔◌, IsSome, IsSomeAnd, IfSome, IfErr, IsErr, slice_get}
+use Rattle.std.specs.Prelude.{◌↔◌, OnErr, IsSome, IsSomeAnd, IfSome, IfErr, IsErr, slice_get}
 use Rattle.std.specs.Option.{ForSome}
 use Rattle.atomic_table.specs.Seated.{TableId}
 use Rattle.std.specs.declared.alloc.AllocError.{AllocError}
@@ -21,7 +21,7 @@ use Rattle.pin_core.specs.declared.version.Spent.{Spent as NoNumber}
 use Rattle.shared_index.specs.declared.commit.Receipt.{Receipt}
 use Rattle.shared_index.specs.declared.desk.Draft.{Draft}
 use Rattle.shared_index.specs.declared.kept.Versions.{Versions}
-use Rattle.shared_index.specs.Passes.{Known, first_version, known_at}
+use Rattle.shared_index.specs.Passes.{Known, first_version, known_at, version_seen}
 use Rattle.shared_index.specs.Drafts as drafts
 use Rattle.shared_index.specs.Drafts.{Begins, IsBack, Works, working_set}
 use Rattle.chunk_usage.specs.Keeping.{kept_versions}
@@ -31,9 +31,9 @@ use Rattle.zone_edit.specs.Blocks.{Executes}
 use Rattle.zone_edit.specs.declared.applying.Halt.{Halt}
 use Rattle.zone_edit.specs.declared.applying.Halt.TheVariants as halts
 use Rattle.zone_edit.proofs.EditLaws.{Both, both, edits_some, some_weaker}
-use Rattle.job_threads.specs.Histories.{Setup, IsZone}
-use Rattle.job_threads.specs.Commands.{Transacts, BlockRan, StoppedBy}
-use Rattle.job_threads.proofs.TransactLaws.{Lawful, begun_some, commits_block, commits_grow, commits_version, back_grows, back_version, rolled_back, rule_broken, spent_block, full_block}
+use Rattle.job_threads.specs.Histories.{Setup, IsZone, StandsAs}
+use Rattle.job_threads.specs.Commands.{Transacts, Accepts, BlockRan, BlockWants, StoppedBy}
+use Rattle.job_threads.proofs.TransactLaws.{Lawful, begun_some, commits_block, commits_grow, commits_version, back_grows, back_pass, back_version, memory_wants, full_wants, rolled_back, rule_broken, spent_block, full_block}
 
 abbrev Seat : Type 0
 Seat = PassSeat (List Entry) (List Operation)
@@ -122,10 +122,35 @@ stopped_ran s asked ends old first second told opening begins seat version halts
 stopped_ran s asked ends old first second told opening begins seat version halts.Memory kept (Err e) same back base edits chunks passes stopped = tt
 stopped_ran s asked ends old first second told opening begins seat version (halts.Refused refusal) kept (Ok o) same back base edits chunks passes stopped =
     refused_ran s asked ends old o first second told opening begins seat version back base stopped.1 refusal edits stopped.0
-stopped_ran s asked ends old first second told opening begins seat version (halts.Refused refusal) kept (Err e) same back base edits chunks passes stopped = tt
+stopped_ran s asked ends old first second told opening begins seat version (halts.Refused refusal) kept (Err e) same back base edits chunks passes stopped = absurd stopped
 stopped_ran s asked ends old first second told opening begins seat version (halts.Full operation) kept (Ok o) same back base edits chunks passes stopped =
     full_ran s asked ends old o first second told opening begins seat version back base stopped.1 operation kept same edits chunks passes stopped.0
 stopped_ran s asked ends old first second told opening begins seat version (halts.Full operation) kept (Err e) same back base edits chunks passes stopped = tt
+
+-- it stopped, and memory was wanting
+module _ (s : Setup) (asked : Transaction) (old : Known) (first second : Option Draft) (told : is_told old.seen.opening ≡ true) (opening : first_version old.seen ≡ s.opening) (begins : IsSomeAnd first (Begins Lawful old)) (seat : Option Seat) (back : IfSome second (λ d. IsBack d.seat.place.me.0 seat)) where
+  abbrev Drafts : Halt → Type 0
+  Drafts halt = Both (Begins Lawful old) (EditsOne (Executes s.origin asked (Err halt))) first second
+
+  back_from : (halt : Halt) (x : Drafts halt) → known_at seat ≡ pass_of x.after.seat.place.me.0
+  back_from halt x = (there_is (λ d. IsBack d.seat.place.me.0 seat) second x.after x.new_is back).1
+
+  wants : (halt : Halt) (x : Drafts halt) → ((zone : Version) → StandsAs (version_seen (known_at seat).seen) zone → Accepts s.origin asked zone) → BlockWants s asked old (known_at seat)
+  wants halt x accepts = record {
+    grows = back_grows s asked old x.before x.after x.met told opening x.related.known (known_at seat) (back_from halt x);
+    pass = back_pass s asked old x.before x.after x.met told opening x.related.known (known_at seat) (back_from halt x);
+    accepts = accepts;
+  }
+
+  pub stopped_wants : (version : ℕ) (halt : Halt) (kept : Versions) (r : Result Outcome AllocError) → Edits (Executes s.origin asked (Err halt)) first second → StoppedBy halt kept version r → OnErr r (BlockWants s asked old (known_at seat))
+  stopped_wants version halt kept (Ok o) edits stopped = tt
+  stopped_wants version halts.Memory kept (Err e) edits stopped =
+      let x = both (Begins Lawful old) (EditsOne (Executes s.origin asked (Err halts.Memory))) first second begins edits in
+      wants halts.Memory x (memory_wants s asked old x.before x.after x.met told opening x.related.known (known_at seat) (back_from halts.Memory x) x.related.becomes)
+  stopped_wants version (halts.Refused refusal) kept (Err e) edits stopped = absurd stopped
+  stopped_wants version (halts.Full operation) kept (Err e) edits stopped =
+      let x = both (Begins Lawful old) (EditsOne (Executes s.origin asked (Err (halts.Full operation)))) first second begins edits in
+      wants (halts.Full operation) x (full_wants s asked old x.before x.after x.met told opening x.related.known (known_at seat) (back_from (halts.Full operation) x) operation x.related.becomes)
 
 -- the same of a pass that is known by another name
 
@@ -134,6 +159,9 @@ ran_as s asked ends old new new' o ran same = subst (λ (v : Known). BlockRan s 
 
 pub result_as : (s : Setup) (asked : Transaction) (ends : Ending) (old new new' : Known) (r : Result Outcome AllocError) → IfOk r (BlockRan s asked ends old new) → new' ≡ new → IfOk r (BlockRan s asked ends old new')
 result_as s asked ends old new new' r ran same = subst (λ (v : Known). IfOk r (BlockRan s asked ends old v)) (sym same) ran
+
+pub wants_as : (s : Setup) (asked : Transaction) (old new new' : Known) (r : Result Outcome AllocError) → OnErr r (BlockWants s asked old new) → new' ≡ new → OnErr r (BlockWants s asked old new')
+wants_as s asked old new new' r wants same = subst (λ (v : Known). OnErr r (BlockWants s asked old v)) (sym same) wants
 
 -- ---- a transaction that was dropped
 

@@ -7,6 +7,7 @@ pub mod JobLaws
 pub mod CloseLaws
 pub mod TransactLaws
 pub mod BlockLaws
+pub mod CallLaws
 pub mod CompactionLaws
 pub mod GatherLaws
 pub mod EndLaws

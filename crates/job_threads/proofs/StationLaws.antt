@@ -10,11 +10,12 @@ use Rattle.job_model.specs.Commands.{Question, Ask, Hold, AskHeld, Release, Bloc
 use Rattle.job_script.specs.Outcomes.{EndsBlock, EndsCompaction}
 use Rattle.job_script.specs.Views.{command_view}
 use Rattle.job_script.specs.declared.commands.Command.{Command as Said}
+use Rattle.job_script.specs.declared.outcomes.Told.TheVariants.{Compacted}
 use Rattle.job_script.specs.declared.outcomes.Outcome.{Outcome}
 use Rattle.shared_index.specs.Passes.{known_at, first_version}
 use Rattle.job_threads.specs.Histories.{Setup}
 use Rattle.job_threads.specs.Commands.{Asked, IsHeld, Held, AskedHeld, Released, BlockRan}
-use Rattle.job_threads.specs.Steps.{Station, IsUnder, Step}
+use Rattle.job_threads.specs.Steps.{Station, IsUnder, Moved, Step}
 use Rattle.job_threads.specs.Stations.{Seat, Pinned, holder_view, station, IsPlaced}
 use Rattle.job_threads.proofs.ShowLaws.{seat_told, holder_told, seat_pass}
 use Rattle.job_threads.proofs.StepLaws.{ask_step, block_step, compact_step, hold_step, held_step, release_step}
@@ -29,10 +30,10 @@ module _ (s : Setup) (o : Outcome) (asks : Option Seat) (some : IsSome asks) (op
         let own = seat_pass asks some in
         block_step s o (station asks spare held) (station asks' spare held) opened (seat_told asks some) (holder_told spare held placed) under refl refl b.grows weight asked ending own.0 own.1 ends b
 
-    pub compact_done : EndsCompaction o.told → BlockRan s no_changes Commit (known_at asks) (known_at asks') o → Step s Compact o (station asks spare held) (station asks' spare held)
-    compact_done ends b =
+    pub compact_done : EndsCompaction o.told → (o.told ≡ Compacted → Moved s (known_at asks) (known_at asks')) → BlockRan s no_changes Commit (known_at asks) (known_at asks') o → Step s Compact o (station asks spare held) (station asks' spare held)
+    compact_done ends moves b =
         let own = seat_pass asks some in
-        compact_step s o (station asks spare held) (station asks' spare held) opened (seat_told asks some) (holder_told spare held placed) under refl refl b.grows own.0 own.1 ends b
+        compact_step s o (station asks spare held) (station asks' spare held) opened (seat_told asks some) (holder_told spare held placed) under refl refl b.grows own.0 own.1 ends moves b
 
   pub hold_done : (second : Option Seat) → IsSome second → IsUnder (known_at asks) (known_at second) → (asks' : Option Seat) (seat : Pinned) → IsHeld seat → Held (known_at asks) (known_at second) (known_at asks') seat o
       → Step s Hold o (station asks (Some second) None) (station asks' None (Some seat))

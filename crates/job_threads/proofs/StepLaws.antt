@@ -14,6 +14,8 @@ use Rattle.job_model.specs.Commands.{Question, Command, Ask, Hold, AskHeld, Rele
 use Rattle.job_model.specs.Replies.{reply_of}
 use Rattle.job_model.specs.Outcomes.{Ended, Shown, Committed, RolledBack, Refused, is_committed, Sight, Shows, Causes, BlockEnds, EndsLawfully, shown_by, sight_after}
 use Rattle.job_script.specs.Outcomes.{ended_view, Replies, EndsBlock, EndsCompaction}
+use Rattle.job_script.specs.declared.outcomes.Told.{Told}
+use Rattle.job_script.specs.declared.outcomes.Told.TheVariants.{Compacted}
 use Rattle.job_script.specs.declared.outcomes.Outcome.{Outcome}
 use Rattle.shared_cells.specs.declared.pinned.PinnedSeat.{PinnedSeat}
 use Rattle.shared_cells.specs.declared.view.PassView.{PassView}
@@ -24,7 +26,7 @@ use Rattle.shared_index.specs.Operations.{applied}
 use Rattle.shared_index.specs.Passes.{Known, first_version, version_seen}
 use Rattle.job_threads.specs.Histories.{Setup, Entries, StandsAs, AreVersions, CoversNamings, judged_by}
 use Rattle.job_threads.specs.Commands.{Asked, IsHeld, Held, AskedHeld, Released, Transacts, BlockRan}
-use Rattle.job_threads.specs.Steps.{Station, HoldsLast, IsSight, IsUnder, Stays, Writes, Step}
+use Rattle.job_threads.specs.Steps.{Station, HoldsLast, IsSight, IsUnder, Stays, Writes, Moved, Step}
 use Rattle.job_threads.proofs.HistoryLaws.{begins_same, begins_more, begins_length, last_stands, opened_same, part_same}
 
 abbrev Own : Type 0
@@ -38,6 +40,13 @@ shows_at May e is may = subst (Shows May) (sym is) may
 ok_from : (r : Result Version Refusal) (v : Version) → r ≡ Ok v → IsOk r
 ok_from (Ok w) v e = refl
 ok_from (Err x) v e = cc
+
+-- what is shown, and what a block comes to, is told as no compaction
+shown_alone : (t : Told) → ended_view t ≡ Shown → t ≡ Compacted → ⊥
+shown_alone t shown is = let e : Committed ≡ Shown = sym (ap ended_view is) ∙ shown in cc
+
+block_alone : (t : Told) → EndsBlock t → t ≡ Compacted → ⊥
+block_alone t ends is = subst EndsBlock is ends
 
 -- ---- what a pass has done
 
@@ -112,6 +121,7 @@ module _ (s : Setup) (o : Outcome) (old new : Station) (opened : first_version o
           holding = λ sight is. record { seen = omega (arith, a.version); held = still_holds sight.held is.held };
           writes = λ own is. writes_nothing s own (Ask question) o.version (is_committed (ended_view o.told)) old.asks new.asks (shown_plain (ended_view o.told) a.shown) (stays_pinned (Ask question) o.version own old.asks new.asks refl is a.pass);
           kept = still_kept (Ask question);
+          moves = λ is. absurd (shown_alone o.told a.shown is);
         }
 
     -- what a transaction's step is, whatever is told of it
@@ -193,11 +203,12 @@ module _ (s : Setup) (o : Outcome) (old new : Station) (opened : first_version o
           holding = rest.holding;
           writes = rest.writes;
           kept = still_kept (Block weight asked ending);
+          moves = λ is. absurd (block_alone o.told ends is);
         }
 
     -- a compaction ends as a block without asked does
-    pub compact_step : (own : Own) → old.asks.pass ≡ Some own → EndsCompaction o.told → BlockRan s no_changes Commit old.asks new.asks o → Step s Compact o old new
-    compact_step own is ends b =
+    pub compact_step : (own : Own) → old.asks.pass ≡ Some own → EndsCompaction o.told → (o.told ≡ Compacted → Moved s old.asks new.asks) → BlockRan s no_changes Commit old.asks new.asks o → Step s Compact o old new
+    compact_step own is ends moves b =
         let rest = block_rest Heavy no_changes Commit own is b in
         record {
           asks = rest.asks;
@@ -210,6 +221,7 @@ module _ (s : Setup) (o : Outcome) (old new : Station) (opened : first_version o
           holding = rest.holding;
           writes = λ own' is'. writes_as own' (is_committed (ended_view o.told)) (rest.writes own' is');
           kept = still_kept Compact;
+          moves = moves;
         }
       where
         stays_as : (own' : Own) (v : Known) → Stays (Block Heavy no_changes Commit) o.version own' v → Stays Compact o.version own' v
@@ -243,6 +255,7 @@ module _ (s : Setup) (o : Outcome) (old new : Station) (opened : first_version o
         };
         writes = λ own is. writes_nothing s own Hold o.version (is_committed (ended_view o.told)) old.asks new.asks (shown_plain (ended_view o.told) shown) (stays_same Hold o.version own new.asks (t.same ∙ is));
         kept = λ own is. stays_pinned Hold o.version own old.holds new.holds refl is (ap (λ (v : Known). v.pass) now ∙ t.pass);
+        moves = λ is. absurd (shown_alone o.told shown is);
       }
 
 -- nothing more was seen
@@ -270,6 +283,7 @@ module _ (s : Setup) (o : Outcome) (old : Station) (opened : first_version old.a
     holding = λ sight is. is;
     writes = λ own is. writes_nothing s own (AskHeld question) o.version (is_committed (ended_view o.told)) old.asks old.asks (shown_plain (ended_view o.told) a.shown) (stays_same (AskHeld question) o.version own old.asks is);
     kept = λ own is. stays_same (AskHeld question) o.version own old.holds is;
+    moves = λ is. absurd (shown_alone o.told a.shown is);
   }
 
   pub release_step : (new : Station) → new.asks ≡ old.asks → new.held ≡ false → Released seat new.holds o → Step s Release o old new
@@ -294,4 +308,5 @@ module _ (s : Setup) (o : Outcome) (old : Station) (opened : first_version old.a
         };
         writes = λ own is. writes_nothing s own Release o.version (is_committed (ended_view o.told)) old.asks new.asks (shown_plain (ended_view o.told) shown) (stays_same Release o.version own new.asks (ap (λ (v : Known). v.pass) same ∙ is));
         kept = λ own is. stays_same Release o.version own new.holds (pass ∙ is);
+        moves = λ is. absurd (shown_alone o.told shown is);
       }

@@ -8,8 +8,8 @@ use Rattle.std.specs.declared.cmp.Ordering.TheVariants.{Less}
 use Rattle.std.proofs.lemmas.Bool.Decides.{nat_tests}
 use Rattle.std.proofs.lemmas.List.Sums.{fold-append, sum_by-cons}
 use Rattle.std.proofs.lemmas.List.Elements.{Contains-append_left}
-use Rattle.zone_model.specs.Versions.{Version}
-use Rattle.zone_model.specs.Transactions.{Transaction, whole}
+use Rattle.zone_model.specs.Versions.{Version, apply, all_applied, Operation as Said}
+use Rattle.zone_model.specs.Transactions.{Transaction, all_met, whole}
 use Rattle.zone_model.specs.declared.Refusal.{Refusal}
 use Rattle.trie_model.specs.Shape.{cells}
 use Rattle.job_model.specs.declared.Ending.{Ending}
@@ -32,10 +32,11 @@ use Rattle.shared_index.specs.Fulls as fulls
 use Rattle.shared_index.specs.Keepings.{GoesOn, versions_in}
 use Rattle.zone_edit.specs.Stores.{WorksOn, WorksOnSome}
 use Rattle.zone_edit.specs.Blocks.{Executes, IsFullAt}
+use Rattle.zone_edit.proofs.ApplyLaws.{next_applied}
 use Rattle.chunk_usage.specs.Keeping.{kept_versions}
 use Rattle.zone_edit.specs.declared.applying.Halt.TheVariants as halts
 use Rattle.job_threads.specs.Histories.{Setup, Commit, Entries, IsZone, StandsAs, AreVersions, CoversNamings, index_at, judged_by}
-use Rattle.job_threads.specs.Commands.{Commits}
+use Rattle.job_threads.specs.Commands.{Accepts, Commits}
 use Rattle.job_threads.proofs.HistoryLaws.{begins_same, begins_more, last_stands, opened_same, part_more}
 use Rattle.job_threads.proofs.JobLaws.{here, there}
 
@@ -202,6 +203,19 @@ module _ (s : Setup) (asked : Transaction) (old : Known) (d e : Draft) (b : Begi
 
     pub rule_broken : (ends : Ending) (refusal : Refusal) → ((version : Version) → WorksOn d version → Executes s.origin asked (Err (halts.Refused refusal)) version e) → RefusedBlock ends (Rule refusal)
     rule_broken ends refusal becomes = (back_pass, λ set shown are covers. becomes (set (length new.seen.history)) (works_set set (length new.seen.history) refl are))
+
+    -- ---- want of memory
+
+    accepted : (zone : Version) (front : List Said) (one : Said) (back : List Said) → all_met zone asked.needs ≡ true → asked.operations ≡ front ++ one ∷ back → (working next : Version) → all_applied s.origin front zone ≡ Ok working → apply s.origin one working ≡ Ok next → Accepts s.origin asked zone
+    accepted zone front one back met all working next before accepts = record { met = met; front = front; one = one; back = back; all = all; next = next; made = next_applied s.origin front one zone working next before accepts }
+
+    pub memory_wants : ((version : Version) → WorksOn d version → Executes s.origin asked (Err halts.Memory) version e) → (zone : Version) → StandsAs (version_seen new.seen) zone → Accepts s.origin asked zone
+    memory_wants becomes zone stands =
+        let w = becomes zone (works_back zone stands) in accepted zone w.1.front w.1.wanted w.1.back w.0 w.1.all w.1.working w.1.next w.1.before w.1.accepted
+
+    pub full_wants : (operation : ℕ) → ((version : Version) → WorksOn d version → Executes s.origin asked (Err (halts.Full operation)) version e) → (zone : Version) → StandsAs (version_seen new.seen) zone → Accepts s.origin asked zone
+    full_wants operation becomes zone stands =
+        let w = becomes zone (works_back zone stands) in accepted zone w.1.front w.1.refused w.1.back w.0 w.1.all w.1.working w.1.next w.1.before w.1.accepted
 
     pub spent_block : (ends : Ending) → ends ≡ ending.Commit → e.seat.version ≡ last_version → ((version : Version) → WorksOn d version → Executes s.origin asked (Ok tt) version e) → RefusedBlock ends Spent
     spent_block ends is spent becomes = (

@@ -1,9 +1,10 @@
 -- What each kind of command does.
-use Rattle.std.specs.Prelude.{◌≡◌, ℕ, List, ◌∷◌, [], ◌++◌, length, Some, Ok, Result, IsOk, IsErr, IfOk}
+use Rattle.std.specs.Prelude.{◌≡◌, ℕ, true, List, ◌∷◌, [], ◌++◌, length, Some, Ok, Result, IsOk, IsOkAnd, IsErr, IfOk}
 use Rattle.std.specs.declared.alloc.AllocError.{AllocError}
 use Rattle.zone_model.specs.Names.{Name}
-use Rattle.zone_model.specs.Versions.{Version}
-use Rattle.zone_model.specs.Transactions.{Transaction, whole}
+use Rattle.zone_model.specs.Versions.{Version, all_applied}
+use Rattle.zone_model.specs.Versions as zones
+use Rattle.zone_model.specs.Transactions.{Transaction, all_met, whole}
 use Rattle.trie_model.specs.Keys as trie
 use Rattle.job_model.specs.declared.Ending.{Ending}
 use Rattle.job_model.specs.declared.Ending.TheVariants.{Commit, Rollback}
@@ -107,8 +108,24 @@ pub record BlockRan (s : Setup) (asked : Transaction) (ending : Ending) (old new
   pub version : o.version ≡ length new.seen.history
   pub transacts : Transacts s asked ending old new (ended_view o.told)
 
--- the block is refused for the cause of the halt, while these versions are kept; want of memory says nothing
+-- A transaction's prerequisites are met, and its operations are accepted up to one of them.
+pub record Accepts (origin : Name) (asked : Transaction) (zone : Version) : Type 0 where
+  pub met : all_met zone asked.needs ≡ true
+  pub front : List zones.Operation
+  pub one : zones.Operation
+  pub back : List zones.Operation
+  pub all : asked.operations ≡ front ++ one ∷ back
+  pub next : Version
+  pub made : all_applied origin (front ++ one ∷ []) zone ≡ Ok next
+
+-- Memory was wanting for a block that no rule had refused up to there. Its pass has made no version.
+pub record BlockWants (s : Setup) (asked : Transaction) (old new : Known) : Type 0 where
+  pub grows : IsPartOf new.seen old.seen
+  pub pass : new.pass ≡ old.pass
+  pub accepts : (zone : Version) → StandsAs (version_seen new.seen) zone → Accepts s.origin asked zone
+
+-- The block is refused for the cause of the halt, while these versions are kept. Only the list of these may want memory.
 abbrev pub StoppedBy : Halt → Versions → ℕ → Result Outcome AllocError → Type 0
 StoppedBy halts.Memory kept version result = IsErr result
-StoppedBy (halts.Refused refusal) kept version result = IfOk result (λ o. (ended_view o.told ≡ Refused (Rule refusal)) × (o.version ≡ version))
+StoppedBy (halts.Refused refusal) kept version result = IsOkAnd result (λ o. (ended_view o.told ≡ Refused (Rule refusal)) × (o.version ≡ version))
 StoppedBy (halts.Full operation) kept version result = IfOk result (λ o. (ended_view o.told ≡ Refused (Full operation (versions_in kept))) × (o.version ≡ version))

@@ -12,6 +12,7 @@ use Rattle.job_script.specs.declared.outcomes.FedOutcome.{FedOutcome}
 use Rattle.job_script.specs.declared.outcomes.Outcome.{Outcome}
 use Rattle.job_script.specs.declared.outcomes.Outcomes.{Outcomes}
 use Rattle.feed_core.specs.Feeds.{Handout, Takings, StandsOnce}
+use Rattle.job_threads.specs.Calls.{Call, IsHeard, next_number}
 use Rattle.job_threads.specs.Works.{Numbers}
 use Rattle.job_threads.specs.declared.ordering.Served.{Served}
 
@@ -49,6 +50,11 @@ outcomes_served served = map (λ v. v.outcomes) served
 
 abbrev pub seats_served : Handout → List Served → List Takings
 seats_served feed served = map (λ v. done_seat feed v.numbers.items) served
+
+-- the gate was told of all that workers took, the first of whom has a number
+abbrev pub FedHeard : (Call → Type 0) → ℕ → List Served → Type 0
+FedHeard hears worker [] = Unit {0}
+FedHeard hears worker (v ∷ others) = AllByRecursion (IsHeard hears worker) v.numbers.items × FedHeard hears (next_number worker) others
 
 -- The numbers from 1 on, below an end, were taken: each stands in just one of the lists, once, no others do, and each list rises.
 pub record AreTaken (end : ℕ) (lists : List (List ℕ)) : Type 0 where

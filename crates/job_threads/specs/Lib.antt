@@ -1,6 +1,7 @@
 pub mod Histories
 pub mod Weights
 pub mod Commands
+pub mod Calls
 pub mod Steps
 pub mod Stations
 pub mod Works

@@ -5,13 +5,17 @@ use Rattle.zone_model.specs.Transactions.{whole}
 use Rattle.job_model.specs.Commands.{Command, held_after}
 use Rattle.job_model.specs.Outcomes.{Sight, sight_after, is_committed, asked_by, shown_by, EndsLawfully}
 use Rattle.job_script.specs.Outcomes.{ended_view, Tells}
+use Rattle.job_script.specs.declared.outcomes.Told.TheVariants as told
 use Rattle.job_script.specs.declared.outcomes.Outcome.{Outcome}
+use Rattle.atomic_table.specs.Seated.{TableId}
 use Rattle.shared_cells.specs.declared.view.PassView.{PassView}
 use Rattle.shared_cells.specs.History.{StartsWith, IsPartOf, entries_by, entry_of, version_after}
+use Rattle.shared_index.specs.declared.commit.Receipt.{Receipt}
 use Rattle.shared_index.specs.declared.meaning.Operation.{Operation}
+use Rattle.shared_index.specs.Compactions.{Compacts}
 use Rattle.shared_index.specs.Operations.{applied}
 use Rattle.shared_index.specs.Passes.{Known, first_version}
-use Rattle.job_threads.specs.Histories.{Setup, Commit, StandsAs, AreVersions, CoversNamings, judged_by}
+use Rattle.job_threads.specs.Histories.{Setup, Commit, IsZone, StandsAs, AreVersions, CoversNamings, judged_by}
 
 -- What a worker's two passes know, that of its questions and transactions and that of its snapshots; and whether it holds a snapshot.
 pub record Station : Type 0 where
@@ -58,6 +62,10 @@ abbrev pub Writes : Setup → PassView (List Operation) → Command → ℕ → 
 Writes s own c version false old new = Stays c version own new
 Writes s own c version true old new = Adds s own c version old new
 
+-- what lay in sparse chunks was moved by a compaction of the index, as its receipt says
+abbrev pub Moved : Setup → Known → Known → Type 0
+Moved s old new = (table : TableId) × (receipt : Receipt) × Compacts (λ _ es. IsZone es) table s.passes old new receipt
+
 -- A command came to this outcome, which tells what is so and is lawful, whichever versions the history will have beside those that
 -- were seen.
 pub record Step (s : Setup) (c : Command) (o : Outcome) (old new : Station) : Type 0 where
@@ -73,3 +81,5 @@ pub record Step (s : Setup) (c : Command) (o : Outcome) (old new : Station) : Ty
   pub holding : (sight : Sight) → IsSight old sight → IsSight new (sight_after sight c o.version)
   pub writes : (own : PassView (List Operation)) → old.asks.pass ≡ Some own → Writes s own c o.version (is_committed (ended_view o.told)) old.asks new.asks
   pub kept : (own : PassView (List Operation)) → old.holds.pass ≡ Some own → Stays c o.version own new.holds
+  -- what is told as a compaction was one, and no block without operations
+  pub moves : o.told ≡ told.Compacted → Moved s old.asks new.asks

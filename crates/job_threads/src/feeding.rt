@@ -11,12 +11,13 @@ ghost use Rattle.shared_index.specs.Passes.{known_at, Learnt};
 ghost use Rattle.shared_index.specs.Closings.{AreAll};
 ghost use Rattle.job_threads.specs.Histories.{Setup, StandsAs};
 ghost use Rattle.job_threads.specs.Works.{AreNew, IsNew, WorkerRan, ended};
+ghost use Rattle.job_threads.specs.Calls.{IsHeard};
 ghost use Rattle.job_threads.specs.Commands.{IsIndex, IsSetup};
 ghost use Rattle.job_threads.specs.Closings.{Gathers};
-ghost use Rattle.job_threads.specs.Feeds.{IsFedRun, IsServed, commands_at, commands_served, done_seat, only, outcomes_served, seats_served};
+ghost use Rattle.job_threads.specs.Feeds.{FedHeard, IsFedRun, IsServed, commands_at, commands_served, done_seat, only, outcomes_served, seats_served};
 
 use crate::alone::run_alone;
-use crate::gate::Gate;
+use crate::gate::{Gate, tell_after, tell_before};
 use crate::job::close_index;
 use crate::law::ZoneLaw;
 use crate::ordering::{Served, in_order};
@@ -78,17 +79,19 @@ fn serve<R: Wait, N: Named, G: Gate>(
     ensures alike { IfOk result (λ d. IsServed d.served) }
     ensures ran { (s : Setup) (number : ℕ) → IsSetup s origin.now index.now.shared.table.shared.key (known_at pass.seat) → IsNew number s.opening (known_at pass.seat)
         → IfOk result (λ d. WorkerRan s (only number) (ended (known_at d.pass.seat) (known_at pass.seat)) (commands_at (map command_view commands.now) d.served.numbers.items) d.served.outcomes.list.items) }
+    ensures heard { IfOk result (λ d. AllByRecursion (IsHeard (G.hears gate.now) worker) d.served.numbers.items) }
 {
     let mut room = Room::new(alloc);
     let mut numbers = Vec::new(alloc);
     let mut list = Vec::new(alloc);
     while let Some(number) = seat.take(rt, feed) {
         let command = &commands[number as usize - 1];
-        gate.before(worker, number);
+        let place = list.len();
+        tell_before(gate, worker, number, place, &list);
         let outcome = run_alone(rt, alloc, origin, index, &mut pass, command, &mut room)?;
-        gate.after(worker, number);
         numbers.push(number)?;
         list.push(outcome)?;
+        tell_after(gate, worker, number, place, &list);
     }
     let outcomes = Outcomes { list };
     Ok(FedDone {
@@ -166,6 +169,7 @@ fn serve_all<R: Threads + Wait + Sync, N: Named + Send + Sync, G: Gate>(
     ensures ran { (s : Setup) → IsIndex s origin.now index.now.shared.table.shared.key → AreNew s.opening (map (λ p. known_at p.seat) passes.items)
         → IfOk result (λ g. Gathers s (map (λ p. known_at p.seat) passes.items) (commands_served (map command_view commands.now) g.served.items) (outcomes_served g.served.items)
         (map (λ p. known_at p.seat) g.passes.items) (known_at g.main.seat)) }
+    ensures heard { IfOk result (λ g. FedHeard (G.hears gate.now) worker g.served.items) }
 {
     let Some(pass) = passes.pop() else {
         // There is one for each seat, and one.
@@ -192,6 +196,7 @@ fn serve_all<R: Threads + Wait + Sync, N: Named + Send + Sync, G: Gate>(
         ensures alike { IfOk result (λ d. IsServed d.served) }
         ensures ran { (s : Setup) (number : ℕ) → IsSetup s origin.entry.now index.entry.now.shared.table.shared.key (known_at pass.seat) → IsNew number s.opening (known_at pass.seat)
             → IfOk result (λ d. WorkerRan s (only number) (ended (known_at d.pass.seat) (known_at pass.seat)) (commands_at (map command_view commands.entry.now) d.served.numbers.items) d.served.outcomes.list.items) }
+        ensures heard { IfOk result (λ d. AllByRecursion (IsHeard (G.hears gate.entry.now) worker) d.served.numbers.items) }
     {
         serve(
             rt, alloc, origin, index, commands, feed, worker, pass, seat, gate,
@@ -212,6 +217,7 @@ fn serve_all<R: Threads + Wait + Sync, N: Named + Send + Sync, G: Gate>(
         ensures ran { (s : Setup) → IsIndex s origin.entry.now index.entry.now.shared.table.shared.key → AreNew s.opening (map (λ p. known_at p.seat) passes.items)
             → IfOk result (λ g. Gathers s (map (λ p. known_at p.seat) passes.items) (commands_served (map command_view commands.entry.now) g.served.items) (outcomes_served g.served.items)
             (map (λ p. known_at p.seat) g.passes.items) (known_at g.main.seat)) }
+        ensures heard { IfOk result (λ g. FedHeard (G.hears gate.entry.now) next g.served.items) }
     {
         serve_all(
             rt, alloc, origin, index, commands, feed, next, passes, seats, gate,

@@ -10,6 +10,7 @@ ghost use Rattle.shared_index.specs.Passes.{known_at, Learnt};
 ghost use Rattle.shared_index.specs.Closings.{AreAll};
 ghost use Rattle.job_threads.specs.Histories.{Setup, StandsAs};
 ghost use Rattle.job_threads.specs.Works.{AreNew, Begins, Numbers, WorkerRan, ended};
+ghost use Rattle.job_threads.specs.Calls.{AllHeard, AreHeard};
 ghost use Rattle.job_threads.specs.Commands.{IsIndex, IsSetup};
 ghost use Rattle.job_threads.specs.Closings.{Gathers};
 ghost use Rattle.job_threads.specs.Runs.{IsRun};
@@ -83,6 +84,7 @@ fn with_done<N: Named>(
 
 // What a worker is to do, with its passes.
 fn task_of<N: Named>(number: u32, worker: &Worker, asks: Pass<N>, spare: Pass<N>) -> Task<'_, N>
+    ensures number { result.number ≡ number }
     ensures commands { map command_view result.commands.now ≡ worker_view worker.now }
     ensures passes { (result.asks ≡ asks) × (result.spare ≡ spare) }
 {
@@ -113,6 +115,7 @@ fn run_workers<R: Threads + Wait + Sync, N: Named + Send + Sync, G: Gate>(
     ensures here { IfOk result (λ g. All (λ p. (IsSome p.seat) × (p.place ≡ index.now.place)) g.passes.items) }
     ensures ran { (s : Setup) → IsIndex s origin.now index.now.shared.table.shared.key → AreNew s.opening (map (λ p. known_at p.seat) passes.items)
         → IfOk result (λ g. Gathers s (map (λ p. known_at p.seat) passes.items) (workers_view workers.now) g.outcomes.items (map (λ p. known_at p.seat) g.passes.items) (known_at g.main.seat)) }
+    ensures heard { IfOk result (λ _. AllHeard (G.hears gate.now) number (workers_view workers.now)) }
 {
     let Some(asks) = passes.pop() else {
         // There are two for each worker, and one.
@@ -139,6 +142,7 @@ fn run_workers<R: Threads + Wait + Sync, N: Named + Send + Sync, G: Gate>(
         ensures ran { (s : Setup) (numbers : Numbers) → IsSetup s origin.entry.now index.entry.now.shared.table.shared.key (known_at asks.seat)
             → Begins s numbers (known_at asks.seat) (known_at spare.seat)
             → IfOk result (λ d. WorkerRan s numbers (ended (known_at d.asks.seat) (known_at d.spare.seat)) (worker_view worker.entry.now) d.outcomes.list.items) }
+        ensures heard { IfOk result (λ _. AreHeard (G.hears gate.entry.now) number (length (worker_view worker.entry.now))) }
     {
         let task = task_of(number, worker, asks, spare);
         run_worker(rt, alloc, origin, index, task, gate)
@@ -152,6 +156,7 @@ fn run_workers<R: Threads + Wait + Sync, N: Named + Send + Sync, G: Gate>(
         ensures here { IfOk result (λ g. All (λ p. (IsSome p.seat) × (p.place ≡ index.entry.now.place)) g.passes.items) }
         ensures ran { (s : Setup) → IsIndex s origin.entry.now index.entry.now.shared.table.shared.key → AreNew s.opening (map (λ p. known_at p.seat) passes.items)
             → IfOk result (λ g. Gathers s (map (λ p. known_at p.seat) passes.items) (workers_view others.entry.now) g.outcomes.items (map (λ p. known_at p.seat) g.passes.items) (known_at g.main.seat)) }
+        ensures heard { IfOk result (λ _. AllHeard (G.hears gate.entry.now) next (workers_view others.entry.now)) }
     { run_workers(rt, alloc, origin, index, others, next, passes, gate) };
     let (done, others) = join(rt, first, rest);
     with_done(index, done?, others?)
@@ -205,6 +210,8 @@ pub fn run_job<R: Threads + Wait + Sync, N: Named + Send + Sync, G: Gate>(
     requires in_turn { AllByRecursion (InTurn false) (job_view job.now) }
     ensures ran { (s : Setup) (zone : Version) → IsIndex s origin.now index.shared.table.shared.key → StandsAs s.opening zone → AreNew s.opening (map (λ p. known_at p.seat) passes.items)
         → IfOk result (λ f. IsRun s.chunks s.passes origin.now zone (job_view job.now) f.outcomes.items f.version f.names f.nodes) }
+    // Each worker is told by its own number, from 1.
+    ensures heard { IfOk result (λ _. AllHeard (G.hears gate.now) 1 (job_view job.now)) }
 {
     let Gathered {
         outcomes,

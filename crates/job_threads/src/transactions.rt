@@ -1,5 +1,5 @@
 //! Transactions.
-ghost use Rattle.std.specs.Prelude.{◌≡◌, IsSome, IsSomeAnd, IfOk, IfErr};
+ghost use Rattle.std.specs.Prelude.{◌≡◌, IsSome, IsSomeAnd, IfOk, IfErr, OnErr};
 ghost use Rattle.job_model.specs.Outcomes.{Committed, Refused, Spent as NoNumber};
 ghost use Rattle.job_script.specs.Outcomes.{ended_view, EndsBlock};
 ghost use Rattle.job_script.specs.Views.{asked_view};
@@ -8,7 +8,7 @@ ghost use Rattle.shared_index.specs.Keepings.{versions_in};
 ghost use Rattle.zone_edit.specs.Stores.{WorksOnSome, Edits};
 ghost use Rattle.zone_edit.specs.Blocks.{Executes};
 ghost use Rattle.job_threads.specs.Histories.{Setup};
-ghost use Rattle.job_threads.specs.Commands.{IsSetup, BlockRan, StoppedBy};
+ghost use Rattle.job_threads.specs.Commands.{IsSetup, BlockRan, BlockWants, StoppedBy};
 ghost use Rattle.job_threads.specs.Weights.{IsOfWeight};
 
 use crate::law::ZoneLaw;
@@ -27,23 +27,30 @@ fn kept_list(alloc: Global, kept: &Versions) -> Result<Vec<u64>, AllocError>
     kept.as_slice().iter().copied().collect(alloc)
 }
 
-// How a block ends whose operations stopped, while these versions are kept.
+// How a block ends that is refused.
+fn refused(version: u64, cause: Cause) -> Outcome
+    ensures version { result.version ≡ version }
+    ensures cause { result.told ≡ Told.Refused cause }
+{
+    Outcome {
+        version,
+        told: Told::Refused(cause),
+    }
+}
+
+// How a block ends whose operations stopped, while these versions are kept. Of these a list is made where there is no room.
 fn stopped(alloc: Global, version: u64, halt: Halt, kept: &Versions) -> Result<Outcome, AllocError>
     ensures stopped { StoppedBy halt kept.now version result }
     ensures ends { IfOk result (λ o. EndsBlock o.told) }
 {
-    let cause = match halt {
-        Halt::Memory => return Err(AllocError),
-        Halt::Refused(refusal) => Cause::Rule(refusal),
+    match halt {
+        Halt::Memory => Err(AllocError),
+        Halt::Refused(refusal) => Ok(refused(version, Cause::Rule(refusal))),
         Halt::Full { operation } => {
             let kept = kept_list(alloc, kept)?;
-            Cause::Full { operation, kept }
+            Ok(refused(version, Cause::Full { operation, kept }))
         }
-    };
-    Ok(Outcome {
-        version,
-        told: Told::Refused(cause),
-    })
+    }
 }
 
 // How a block ends that was to be committed.
@@ -107,6 +114,8 @@ fn write_block<R: Wait, N: Named>(
     ensures ends { IfOk result (λ o. EndsBlock o.told) }
     ensures ran { (s : Setup) → IsSetup s origin.now index.now.shared.table.shared.key (known_at pass.old.seat)
         → IfOk result (BlockRan s (asked_view block.now) block.now.ending (known_at pass.old.seat) (known_at pass.new.seat)) }
+    ensures wants { (s : Setup) → IsSetup s origin.now index.now.shared.table.shared.key (known_at pass.old.seat)
+        → OnErr result (BlockWants s (asked_view block.now) (known_at pass.old.seat) (known_at pass.new.seat)) }
 {
     let mut locked = Locked::of(index);
     let mut write = index.write(rt, &mut locked, pass);
@@ -141,6 +150,8 @@ fn update_block<R: Wait, N: Named>(
     ensures ends { IfOk result (λ o. EndsBlock o.told) }
     ensures ran { (s : Setup) → IsSetup s origin.now index.now.shared.table.shared.key (known_at pass.old.seat)
         → IfOk result (BlockRan s (asked_view block.now) block.now.ending (known_at pass.old.seat) (known_at pass.new.seat)) }
+    ensures wants { (s : Setup) → IsSetup s origin.now index.now.shared.table.shared.key (known_at pass.old.seat)
+        → OnErr result (BlockWants s (asked_view block.now) (known_at pass.old.seat) (known_at pass.new.seat)) }
 {
     let mut locked = Locked::of(index);
     let mut update = index.update(rt, &mut locked, pass);
@@ -178,6 +189,8 @@ pub fn run_block<R: Wait, N: Named>(
     ensures ends { IfOk result (λ o. EndsBlock o.told) }
     ensures ran { (s : Setup) → IsSetup s origin.now index.now.shared.table.shared.key (known_at pass.old.seat)
         → IfOk result (BlockRan s (asked_view block.now) block.now.ending (known_at pass.old.seat) (known_at pass.new.seat)) }
+    ensures wants { (s : Setup) → IsSetup s origin.now index.now.shared.table.shared.key (known_at pass.old.seat)
+        → OnErr result (BlockWants s (asked_view block.now) (known_at pass.old.seat) (known_at pass.new.seat)) }
 {
     match block.weight {
         Weight::Light => write_block(rt, alloc, origin, index, pass, block, buffers),

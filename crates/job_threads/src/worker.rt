@@ -1,17 +1,18 @@
 //! A worker that runs its commands.
-ghost use Rattle.std.specs.Prelude.{◌≡◌, ◌<◌, ◌+◌, IsSome, IfSome, IfOk, map, false};
+ghost use Rattle.std.specs.Prelude.{◌≡◌, IsSome, IfSome, IfOk, length, map, false};
 ghost use Rattle.std.specs.Option.{option_map, is_some};
 ghost use Rattle.job_model.specs.Commands.{InTurn, MayCome, held_after};
 ghost use Rattle.job_script.specs.Views.{command_view};
 ghost use Rattle.shared_index.specs.Passes.{known_at};
 ghost use Rattle.job_threads.specs.Histories.{Setup};
+ghost use Rattle.job_threads.specs.Calls.{AreHeard, next_number};
 ghost use Rattle.job_threads.specs.Commands.{IsSetup};
 ghost use Rattle.job_threads.specs.Steps.{IsUnder, Step};
 ghost use Rattle.job_threads.specs.Stations.{IsPlaced, holder_view, station};
 ghost use Rattle.job_threads.specs.Works.{Begins, Numbers, WorkerRan, ended};
 
 use crate::alone::run_alone;
-use crate::gate::Gate;
+use crate::gate::{Gate, tell_after, tell_before};
 use crate::law::ZoneLaw;
 use crate::passes::{Passes, ask_snapshot, give_back, second_pass, take_snapshot};
 use crate::room::Room;
@@ -83,7 +84,7 @@ fn run_command<'i, R: Wait, N: Named>(
 
 // A place in a list, counted from 1.
 fn counted(place: usize) -> u32
-    ensures { place < u32.MAX → result ≡ place + 1 }
+    ensures { result ≡ next_number place }
 {
     u32::try_from(place.saturating_add(1)).unwrap_or(u32::MAX)
 }
@@ -105,6 +106,7 @@ pub fn run_worker<R: Wait, N: Named, G: Gate>(
     ensures ran { (s : Setup) (numbers : Numbers) → IsSetup s origin.now index.now.shared.table.shared.key (known_at task.entry.asks.seat)
         → Begins s numbers (known_at task.entry.asks.seat) (known_at task.entry.spare.seat)
         → IfOk result (λ d. WorkerRan s numbers (ended (known_at d.asks.seat) (known_at d.spare.seat)) (map command_view task.entry.commands.now) d.outcomes.list.items) }
+    ensures heard { IfOk result (λ _. AreHeard (G.hears gate.now) task.entry.number (length (map command_view task.entry.commands.now))) }
 {
     let Task {
         number,
@@ -120,10 +122,11 @@ pub fn run_worker<R: Wait, N: Named, G: Gate>(
     };
     let mut list = Vec::with_capacity(alloc, commands.len())?;
     for (place, command) in commands.iter().enumerate() {
-        gate.before(number, counted(place));
+        let ordinal = counted(place);
+        tell_before(gate, number, ordinal, place, &list);
         let outcome = run_command(rt, alloc, origin, index, &mut passes, command, &mut room)?;
-        gate.after(number, counted(place));
         list.push(outcome)?;
+        tell_after(gate, number, ordinal, place, &list);
     }
     let (asks, spare) = second_pass(passes);
     Ok(Done {

@@ -1,5 +1,5 @@
 -- A table that no index was opened on, and whether an index can begin with some entries.
-use Rattle.std.specs.Prelude.{◌≡◌, ℕ, ◌-◌, ◌*◌, ◌/◌, ◌<◌, List, [], length, Option, slice_index}
+use Rattle.std.specs.Prelude.{◌≡◌, ◌⊎◌, ℕ, ◌-◌, ◌*◌, ◌/◌, ◌^◌, ◌<◌, ◌≤◌, List, [], length, Option, slice_index}
 use Rattle.trie_model.specs.Keys.{Entry}
 use Rattle.trie_model.specs.Shape.{cells}
 use Rattle.chunk_usage.specs.Ledger.{Ledger}
@@ -24,9 +24,10 @@ pub record IsUnused (t : Option TurnView) (u : Ledger) (passes : ℕ) : Type 0 w
 abbrev pub room_in : ℕ → ℕ
 room_in chunks = 769 * (chunks - chunks / 4 - 1)
 
+-- The trie may not fit, and both numbers are told; or it fits, and memory is wanting, or there are more entries than memory holds.
 abbrev pub Refuses : ℕ → List Entry → OpenRefusal → Type 0
 Refuses chunks es (Full needed limit) = (needed ≡ cells es) × (limit ≡ room_in chunks) × (limit < needed)
-Refuses chunks es Memory = Unit {0}
+Refuses chunks es Memory = (cells es ≤ room_in chunks) ⊎ (2 ^ 40 ≤ length es)
 
 -- a pass that has seen version 0 alone
 pub record SeesFirst (es : List Entry) (v : Known) : Type 0 where

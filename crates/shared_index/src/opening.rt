@@ -58,18 +58,8 @@ pub struct Blank<L: Law> {
 pub enum OpenRefusal {
     /// Their trie has so many cells, over the limit.
     Full { cells: u64, limit: u64 },
-    /// Want of memory.
+    /// Want of memory, where their trie fits.
     Memory,
-}
-
-impl From<AllocError> for OpenRefusal {
-    ghost use Rattle.shared_index.specs.declared.opening.OpenRefusal.TheVariants.{Memory};
-
-    ghost from_gives = { λ _ refusal. refusal ≡ Memory };
-
-    fn from(_: AllocError) -> OpenRefusal {
-        OpenRefusal::Memory
-    }
 }
 
 impl<L: Law> Blank<L> {
@@ -330,6 +320,9 @@ impl<L: Law, N: Named> Index<L, N> {
                 limit,
             });
         }
-        Ok(Index::filled(alloc, blank, place, items)?)
+        match Index::filled(alloc, blank, place, items) {
+            Ok(made) => Ok(made),
+            Err(_) => Err(OpenRefusal::Memory),
+        }
     }
 }

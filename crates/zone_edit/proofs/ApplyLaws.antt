@@ -10,6 +10,8 @@ use Rattle.zone_model.specs.Versions.{Version, Operation, Add, DeleteName, Delet
 use Rattle.zone_model.specs.declared.Refusal.{Refusal}
 use Rattle.zone_model.specs.declared.Refusal.TheVariants.{Soa, Cname, Long}
 use Rattle.zone_model.proofs.NameLemmas.{same_name-true}
+use Rattle.rr_data.specs.ItemViews.{SaysEntry}
+use Rattle.zone_change.specs.Counts.{candidate}
 use Rattle.zone_query.specs.Standing.{IsStorable, IsVersion}
 use Rattle.zone_edit.proofs.ShrinkLaws.{IsLess, set_less, record_less, item_less}
 use Rattle.zone_edit.proofs.StoreLaws.{owns_some}
@@ -82,6 +84,13 @@ accepted origin operation before next version is e =
 pub refused : (origin : Name) (operation : Operation) (before : Entry) (refusal : Refusal) (version : Version) → before ≡ owned (owner_of operation) version → changed origin operation before ≡ Err refusal → apply origin operation version ≡ Err refusal
 refused origin operation before refusal version is e =
     ap (λ (r : Result Entry Refusal). and_then r (λ entry. Ok (put (owner_of operation) entry version))) (ap (changed origin operation) (sym is) ∙ e)
+
+-- what no rule refuses is made, by what was read of its owner
+pub made_of : (origin : Name) (operation : Operation) (owner : Name) (octets : List ℕ) (before next held : Entry) → owner ≡ owner_of operation
+    → ((entry : Entry) → SaysEntry (owner_of operation) octets entry → changed origin operation entry ≡ Ok (candidate operation entry))
+    → SaysEntry owner octets held → before ≡ held → next ≡ candidate operation held → changed origin operation before ≡ Ok next
+made_of origin operation owner octets before next held is agreed says b n =
+    ap (changed origin operation) b ∙ agreed held (subst (λ (x : Name). SaysEntry x octets held) is says) ∙ ap (λ (x : Entry). Ok x) (sym n)
 
 -- ---- operations in order
 

@@ -19,6 +19,6 @@ whole_unmet origin asked version unmet = ap (λ (b : Bool). cond b (all_applied 
 pub executed : (origin : Name) (asked : Transaction) (result : Result (Unit {0}) Halt) (version : Version) (new : Draft) → all_met version asked.needs ≡ true
     → AppliesAll origin asked.operations result version new → Executes origin asked result version new
 executed origin asked (Ok u) version new met a = (a.0, whole_met origin asked version met ∙ a.1, a.2)
-executed origin asked (Err halts.Memory) version new met a = tt
+executed origin asked (Err halts.Memory) version new met a = (met, a)
 executed origin asked (Err (halts.Refused refusal)) version new met a = whole_met origin asked version met ∙ a
 executed origin asked (Err (halts.Full operation)) version new met a = (met, a)

@@ -13,18 +13,11 @@ use Rattle.zone_edit.specs.declared.applying.Stopped.TheVariants as stops
 use Rattle.zone_edit.specs.declared.applying.Halt.{Halt}
 use Rattle.zone_edit.specs.declared.applying.Halt.TheVariants as halts
 
--- an entry is the one wanted, or the refusal is; want of memory says nothing
-abbrev pub Gives : Result Entry Stopped → Result Entry Refusal → Type 0
-Gives (Ok entry) wanted = wanted ≡ Ok entry
-Gives (Err stops.Memory) wanted = Unit {0}
-Gives (Err (stops.Refused refusal)) wanted = wanted ≡ Err refusal
-Gives (Err stops.Full) wanted = ⊥
-
--- An operation is accepted, and the working set is the version that it makes; or it isn't, and the working set stays. Want of memory
--- says nothing.
+-- An operation is accepted, and the working set is the version that it makes; or it isn't, and the working set stays. So it does for
+-- want of memory, which comes only where the operation is accepted.
 abbrev pub Applies : Name → Operation → Result (Unit {0}) Stopped → Version → Draft → Type 0
 Applies origin operation (Ok u) version new = (next : Version) × (apply origin operation version ≡ Ok next) × WorksOn new next
-Applies origin operation (Err stops.Memory) version new = Unit {0}
+Applies origin operation (Err stops.Memory) version new = (next : Version) × (apply origin operation version ≡ Ok next) × WorksOn new version
 Applies origin operation (Err (stops.Refused refusal)) version new = apply origin operation version ≡ Err refusal
 Applies origin operation (Err stops.Full) version new =
     (next : Version) × (apply origin operation version ≡ Ok next) × (next ≡ version → ⊥) × IsFullOn new version (kept_versions new.usage)
@@ -43,10 +36,22 @@ pub record IsFullAt (new : Draft) (origin : Name) (operations : List Operation) 
   pub changes : next ≡ working → ⊥
   pub full : IsFullOn new working kept
 
+-- Memory was wanting for an operation that is accepted, and the working set is what the ones before it made.
+pub record IsWanting (new : Draft) (origin : Name) (operations : List Operation) (version : Version) : Type 0 where
+  pub front : List Operation
+  pub wanted : Operation
+  pub back : List Operation
+  pub all : operations ≡ front ++ wanted ∷ back
+  pub working : Version
+  pub before : all_applied origin front version ≡ Ok working
+  pub next : Version
+  pub accepted : apply origin wanted working ≡ Ok next
+  pub works : WorksOn new working
+
 -- the same for operations in order
 abbrev pub AppliesAll : Name → List Operation → Result (Unit {0}) Halt → Version → Draft → Type 0
 AppliesAll origin operations (Ok u) version new = (next : Version) × (all_applied origin operations version ≡ Ok next) × WorksOn new next
-AppliesAll origin operations (Err halts.Memory) version new = Unit {0}
+AppliesAll origin operations (Err halts.Memory) version new = IsWanting new origin operations version
 AppliesAll origin operations (Err (halts.Refused refusal)) version new = all_applied origin operations version ≡ Err refusal
 AppliesAll origin operations (Err (halts.Full operation)) version new = IsFullAt new origin operations version operation (kept_versions new.usage)
 
@@ -60,7 +65,7 @@ MeetsAll needs met version new = WorksOn new version × (met ≡ all_met version
 -- the same for a transaction
 abbrev pub Executes : Name → Transaction → Result (Unit {0}) Halt → Version → Draft → Type 0
 Executes origin asked (Ok u) version new = (next : Version) × (whole origin asked version ≡ Ok next) × WorksOn new next
-Executes origin asked (Err halts.Memory) version new = Unit {0}
+Executes origin asked (Err halts.Memory) version new = (all_met version asked.needs ≡ true) × IsWanting new origin asked.operations version
 Executes origin asked (Err (halts.Refused refusal)) version new = whole origin asked version ≡ Err refusal
 Executes origin asked (Err (halts.Full operation)) version new =
     (all_met version asked.needs ≡ true) × IsFullAt new origin asked.operations version operation (kept_versions new.usage)

@@ -1,11 +1,12 @@
 //! Operations on a transaction's working set.
 
-ghost use Rattle.std.specs.Prelude.{◌≡◌, IfOk, IsSomeAnd, List, map};
-ghost use Rattle.zone_model.specs.Versions.{changed};
+ghost use Rattle.std.specs.Prelude.{◌≡◌, IfOk, IsSomeAnd, map};
+ghost use Rattle.zone_model.specs.Records.{Entry as Records};
+ghost use Rattle.rr_data.specs.ItemViews.{SaysEntry};
 ghost use Rattle.zone_change.specs.Views.{operation_view};
+ghost use Rattle.zone_change.specs.Counts.{candidate};
 ghost use Rattle.zone_edit.specs.Stores.{WorksOnSome, Edits};
-ghost use Rattle.zone_edit.specs.Blocks.{Gives, Applies, AppliesAll};
-ghost use Rattle.zone_edit.specs.declared.applying.Stopped.TheVariants.{Memory};
+ghost use Rattle.zone_edit.specs.Blocks.{Applies, AppliesAll};
 
 use crate::buffers::ItemBuffers;
 use crate::reading::read_owned;
@@ -14,15 +15,15 @@ use dns_name::Name;
 use rr_data::Entry;
 use shared_index::{Law, Named, Transaction};
 use shift_key::Key;
-use std::alloc::{AllocError, AllocFailed, Global};
-use zone_change::{Operation, changed};
+use std::alloc::{AllocError, Global};
+use zone_change::{Operation, changed, refusal};
 use zone_model::Refusal;
 use zone_query::entry_of;
 
 /// Why operations change nothing.
 #[derive(Clone, Copy)]
 pub enum Halt {
-    /// Want of memory.
+    /// Want of memory for an operation that no rule refuses.
     Memory,
     /// A rule of zones.
     Refused(Refusal),
@@ -33,7 +34,7 @@ pub enum Halt {
 /// Why an operation changes nothing.
 #[derive(Clone, Copy)]
 enum Stopped {
-    /// Want of memory.
+    /// Want of memory, where no rule refuses it.
     Memory,
     /// A rule of zones.
     Refused(Refusal),
@@ -41,36 +42,20 @@ enum Stopped {
     Full,
 }
 
-impl From<AllocError> for Stopped {
-    ghost from_gives = { λ _ e. e ≡ Memory };
-
-    fn from(_: AllocError) -> Self {
-        Stopped::Memory
-    }
-}
-
-impl<T: Drop> From<AllocFailed<T>> for Stopped {
-    ghost from_gives = { λ _ e. e ≡ Memory };
-
-    fn from(_: AllocFailed<T>) -> Self {
-        Stopped::Memory
-    }
-}
-
-/// What an operation makes of its owner's entry.
-fn next_entry(
+// The entry that octets say, and what an operation makes of it.
+fn both_entries(
     alloc: Global,
-    origin: &Name,
+    owner: &Name,
+    octets: &[u8],
     operation: &Operation,
-    before: &Entry,
-) -> Result<Entry, Stopped>
-    ensures { Gives result (changed origin.now (operation_view operation.now) before.now) }
+) -> Result<(Entry, Entry), AllocError>
+    requires { (entry : Records) × SaysEntry owner.now octets.now entry }
+    ensures { (entry : Records) → SaysEntry owner.now octets.now entry
+        → IfOk result (λ x. (x.0 ≡ entry) × (x.1 ≡ candidate (operation_view operation.now) entry)) }
 {
-    match changed(alloc, origin, operation, before.clone()?) {
-        Ok(entry) => Ok(entry),
-        Err(zone_change::Stopped::Memory) => Err(Stopped::Memory),
-        Err(zone_change::Stopped::Refused(refusal)) => Err(Stopped::Refused(refusal)),
-    }
+    let before = entry_of(alloc, owner, octets)?;
+    let after = changed(alloc, operation, before.clone()?)?;
+    Ok((before, after))
 }
 
 /// Makes an operation's change in the working set.
@@ -90,8 +75,12 @@ fn apply<L: Law, N: Named, K>(
     let key = Key::of(owner);
     let len = read_owned(transaction, owner, &key, &mut buffers.before);
     let octets = &buffers.before[..len];
-    let before = entry_of(alloc, owner, octets)?;
-    let entry = next_entry(alloc, origin, operation, &before)?;
+    if let Some(refusal) = refusal(origin, operation, octets) {
+        return Err(Stopped::Refused(refusal));
+    }
+    let Ok((before, entry)) = both_entries(alloc, owner, octets, operation) else {
+        return Err(Stopped::Memory);
+    };
     match store(
         transaction,
         owner,

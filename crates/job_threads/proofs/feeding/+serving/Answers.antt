@@ -1,9 +1,10 @@
-use Rattle.std.proofs.Common.{rules, ◌≡◌, ◌∷◌, length, map, ap}
+use Rattle.std.proofs.Common.{rules, ◌≡◌, ◌∷◌, length, map, ap, sym, subst}
 use Rattle.std.specs.Prelude.{IsSome}
 use Rattle.job_script.specs.Views.{command_view}
+use Rattle.job_script.proofs.ReportLemmas.{if_ok}
 use Rattle.feed_core.specs.Feeds.{Takings, new_seat}
 use Rattle.shared_index.specs.Passes.{known_at}
-use Rattle.job_threads.specs.Feeds.{commands_at, commands_served, outcomes_served}
+use Rattle.job_threads.specs.Feeds.{FedHeard, commands_at, commands_served, outcomes_served}
 use Rattle.job_threads.proofs.ShowLaws.{seat_told}
 use Rattle.job_threads.proofs.GatherLaws.{popped, gathers_main, front_new, gathers_server, gathers_served, at_ok}
 use Rattle.job_threads.proofs.feeding.+serving.Goals as goal
@@ -26,7 +27,7 @@ join-done-requires-after_bounds g t c =
 
 pub returns-clause-ran : goal.returns-clause-ran
 returns-clause-ran g t c = λ s index new.
-    let first = c.join-done.ensures.first.1.1.1.1 in
+    let first = c.join-done.ensures.first.1.1.1.1.0 in
     let second = c.join-done.ensures.second in
     let done = c.in_ok-done.field-0 in
     let others = c.in_ok-others.field-0 in
@@ -40,5 +41,16 @@ returns-clause-ran g t c = λ s index new.
     (known_at done.pass.seat ∷ map (λ p. known_at p.seat) others.passes.items) (known_at others.main.seat) (known_at done.pass.seat) c.with_served.ensures.served c.with_served.ensures.passes c.with_served.ensures.learnt
     (λ after learnt. gathers_server passes front pass (λ p. known_at p.seat) s last new c.args.origin.now c.args.index.now.shared.table.shared.key index (commands_served commands others.served.items) (outcomes_served others.served.items) (map (λ p. known_at p.seat) others.passes.items)
     (known_at others.main.seat) after (known_at done.pass.seat) (commands_at commands done.served.numbers.items) done.served.outcomes
-    (at_ok _ others _ c.in_ok-others.was (second.1.1.1.1.1 s index (front_new passes front pass (λ p. known_at p.seat) s last new)))
+    (at_ok _ others _ c.in_ok-others.was (second.1.1.1.1.1.0 s index (front_new passes front pass (λ p. known_at p.seat) s last new)))
     (λ n setup begins. at_ok _ done _ c.in_ok-done.was (first s n setup begins)) (seat_told others.main.seat main.0) learnt)
+
+pub returns-in_default-pop-clause-heard : goal.returns-in_default-pop-clause-heard
+returns-in_default-pop-clause-heard g t c = subst (FedHeard (g.G.Gate.hears c.args.gate.now) c.args.worker) (sym c.new.ensures.items) tt
+
+pub returns-clause-heard : goal.returns-clause-heard
+returns-clause-heard g t c =
+    let mine = at_ok _ c.in_ok-done.field-0 _ c.in_ok-done.was c.join-done.ensures.first.1.1.1.1.1 in
+    let theirs = at_ok _ c.in_ok-others.field-0 _ c.in_ok-others.was c.join-done.ensures.second.1.1.1.1.1.1 in
+    if_ok c.with_served.result
+    (λ x e. subst (FedHeard (g.G.Gate.hears c.args.gate.now) c.args.worker) (sym e) (mine, subst (λ n. FedHeard (g.G.Gate.hears c.args.gate.now) n c.in_ok-others.field-0.served.items) c.saturating_add-next.ensures theirs))
+    c.with_served.ensures.served

@@ -3,10 +3,12 @@ use Rattle.job_script.specs.Views.{command_view}
 use Rattle.job_script.specs.declared.outcomes.Outcome.{Outcome}
 use Rattle.feed_core.specs.Feeds.{Takings}
 use Rattle.job_threads.specs.Feeds.{commands_at, only}
+use Rattle.std.specs.List.{AllByRecursion}
+use Rattle.job_threads.specs.Calls.{IsHeard}
 use Rattle.job_threads.specs.Stations.{station}
 use Rattle.job_threads.proofs.ServeLaws.{command_here, plain_here, serve_starts, serve_next}
 use Rattle.job_threads.proofs.ShowLaws.{seat_told}
-use Rattle.job_threads.proofs.WorkLaws.{WorkerAt, worker_ran}
+use Rattle.job_threads.proofs.WorkLaws.{WorkerAt, all-push, worker_ran}
 use Rattle.job_threads.proofs.feeding.serve.Goals as goal
 
 pub loop-number-init : goal.loop-number-init
@@ -19,6 +21,7 @@ loop-number-init g c =
       feed = ap (λ (t : Takings). t.feed) c.requires.seat;
       taken = ap (λ (t : Takings). t.taken) c.requires.seat ∙ sym none;
       alike = ap length none ∙ sym (ap length c.new-list.ensures.items);
+      heard = subst (AllByRecursion (IsHeard (g.G.Gate.hears c.args.gate.now) c.args.worker)) (sym none) tt;
       at = λ s number setup new.
           subst (λ (l : List ℕ). WorkerAt s (only number) (station first (Some first) None) (commands_at (map command_view c.args.commands.now) l) [] c.new-list.result.items) (sym none)
           (subst (λ (l : List Outcome). WorkerAt s (only number) (station first (Some first) None) [] [] l) (sym c.new-list.ensures.items) (serve_starts s number first new));
@@ -42,6 +45,8 @@ loop-number-preserved g c =
       feed = search rules;
       taken = search rules;
       alike = search rules;
+      heard = subst (AllByRecursion (IsHeard (g.G.Gate.hears c.args.gate.now) c.args.worker)) (sym c.in_ok-push.ensures.items)
+          (all-push (IsHeard (g.G.Gate.hears c.args.gate.now) c.args.worker) c.loop-number.numbers.items c.in-Some.number i.heard (c.tell_before.ensures, c.tell_after.ensures));
       at = λ s number setup new.
           let w = i.at s number setup new in
           let step = c.in_ok-outcome.ensures.steps s (record { index = setup.index; opening = w.work.opened }) (Some first) None c.requires.here w.under in

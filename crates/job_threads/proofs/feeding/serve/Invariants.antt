@@ -1,9 +1,11 @@
 use Rattle.std.proofs.Common.{◌≡◌, ℕ, [], Some, None, length, map}
 use Rattle.std.specs.Prelude.{IsSome}
+use Rattle.std.specs.List.{AllByRecursion}
 use Rattle.job_script.specs.Views.{command_view}
 use Rattle.feed_core.specs.Feeds.{remaining}
 use Rattle.shared_index.specs.Passes.{known_at}
 use Rattle.job_threads.specs.Histories.{Setup}
+use Rattle.job_threads.specs.Calls.{IsHeard}
 use Rattle.job_threads.specs.Commands.{IsSetup}
 use Rattle.job_threads.specs.Stations.{station}
 use Rattle.job_threads.specs.Works.{IsNew}
@@ -18,6 +20,7 @@ invariant-loop-number g l = record {
   feed : l.seat.feed ≡ l.feed;
   taken : l.seat.taken ≡ l.numbers.items;
   alike : length l.numbers.items ≡ length l.list.items;
+  heard : AllByRecursion (IsHeard (g.G.Gate.hears l.gate) l.worker) l.numbers.items;
   at : (s : Setup) (number : ℕ) → IsSetup s l.origin l.index.shared.table.shared.key (known_at l.fn.pass.seat) → IsNew number s.opening (known_at l.fn.pass.seat)
       → WorkerAt s (only number) (station l.pass.seat (Some l.fn.pass.seat) None) (commands_at (map command_view l.commands) l.numbers.items) [] l.list.items;
 }

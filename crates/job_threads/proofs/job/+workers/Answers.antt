@@ -4,7 +4,10 @@ use Rattle.std.specs.List.{AllByRecursion}
 use Rattle.job_model.specs.Commands.{InTurn}
 use Rattle.job_script.specs.Views.{worker_view, workers_view}
 use Rattle.shared_index.specs.Passes.{known_at}
+use Rattle.std.proofs.lemmas.List.{nil_from_length}
+use Rattle.job_threads.specs.Calls.{AllHeard}
 use Rattle.job_threads.specs.Closings.{Gathers}
+use Rattle.job_threads.proofs.CallLaws.{any_ok}
 use Rattle.job_threads.proofs.ShowLaws.{seat_told}
 use Rattle.job_threads.proofs.GatherLaws.{popped, gathers_start, others_new, gathers_worker, gathers_done, at_ok}
 use Rattle.job_threads.proofs.job.+workers.Goals as goal
@@ -46,5 +49,17 @@ returns-clause-ran g t c = λ s index new.
     (λ after learnt. subst (λ ws. Gathers s (map (λ p. known_at p.seat) passes) ws (done.outcomes ∷ others.outcomes.items) (known_at done.asks.seat ∷ known_at done.spare.seat ∷ map (λ p. known_at p.seat) others.passes.items) after) (sym (ap workers_view c.in-Some-split_first.ensures.cases.0))
     (gathers_worker passes front rest spare asks (λ p. known_at p.seat) s last next new origin size index (workers_view c.in-Some-split_first.others.now) others.outcomes.items (map (λ p. known_at p.seat) others.passes.items) (known_at others.main.seat) after
     (known_at done.spare.seat) (known_at done.asks.seat) (worker_view c.in-Some-split_first.worker.now) done.outcomes
-    (at_ok _ others _ c.in_ok-others.was (second.1.1 s index (others_new passes front rest spare asks (λ p. known_at p.seat) s last next new)))
-    (λ n setup begins. at_ok _ done _ c.in_ok-done.was (first s n setup begins)) (seat_told others.main.seat main.0) learnt))
+    (at_ok _ others _ c.in_ok-others.was (second.1.1.0 s index (others_new passes front rest spare asks (λ p. known_at p.seat) s last next new)))
+    (λ n setup begins. at_ok _ done _ c.in_ok-done.was (first.0 s n setup begins)) (seat_told others.main.seat main.0) learnt))
+
+pub returns-in_default-split_first-clause-heard : goal.returns-in_default-split_first-clause-heard
+returns-in_default-split_first-clause-heard g t c =
+    subst (λ ws. AllHeard (g.G.Gate.hears c.args.gate.now) c.args.number (workers_view ws)) (sym (nil_from_length c.args.workers.now c.in_default-split_first.ensures.cases)) tt
+
+pub returns-clause-heard : goal.returns-clause-heard
+returns-clause-heard g t c =
+    let mine = at_ok _ c.in_ok-done.field-0 _ c.in_ok-done.was c.join-done.ensures.first.1.1.1 in
+    let theirs = at_ok _ c.in_ok-others.field-0 _ c.in_ok-others.was c.join-done.ensures.second.1.1.1 in
+    any_ok c.with_done.result
+    (subst (λ ws. AllHeard (g.G.Gate.hears c.args.gate.now) c.args.number (workers_view ws)) (sym c.in-Some-split_first.ensures.cases.0)
+    (mine, subst (λ n. AllHeard (g.G.Gate.hears c.args.gate.now) n (workers_view c.in-Some-split_first.others.now)) c.saturating_add-next.ensures theirs))

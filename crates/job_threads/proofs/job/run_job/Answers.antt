@@ -4,6 +4,7 @@ use Rattle.zone_model.specs.Names.{Name}
 use Rattle.shared_index.specs.Closings.{AreAll}
 use Rattle.shared_index.specs.Passes.{known_at}
 use Rattle.job_script.specs.Views.{worker_view}
+use Rattle.job_threads.specs.Calls.{AllHeard}
 use Rattle.job_threads.specs.Closings.{Gathers}
 use Rattle.job_threads.specs.Runs.{IsRun}
 use Rattle.job_threads.proofs.job.run_job.Goals as goal
@@ -19,4 +20,5 @@ returns g c = record {
       let all = subst (λ n. AreAll n before) (sym c.requires.size) c.requires.all in
       subst (λ (o : Name). IsRun s.chunks s.passes o zone (map worker_view c.args.job.now.workers.items) g.outcomes.items c.in_ok-last.last.version c.in_ok-last.last.names c.in_ok-last.last.nodes) index.origin_is
       (c.in_ok-last.ensures s zone before _ _ gathers counted all opens);
+  heard = subst (λ (l : List _). AllHeard (g.G.Gate.hears c.args.gate.now) 1 (map worker_view l)) c.deref.ensures.value c.in_ok-outcomes.ensures.heard;
 }

@@ -7,7 +7,7 @@ use Rattle.zone_edit.specs.Blocks.{Executes}
 use Rattle.zone_edit.proofs.EditLaws.{is_there}
 use Rattle.job_threads.specs.Weights.{IsOfWeight}
 use Rattle.job_threads.proofs.ShowLaws.{seat_told}
-use Rattle.job_threads.proofs.BlockLaws.{begun_works, after_works, after_zone, edits_as, committed_ran, rollback_ran, stopped_ran, ran_as, result_as, has_passes, full_chunks}
+use Rattle.job_threads.proofs.BlockLaws.{begun_works, after_works, after_zone, edits_as, committed_ran, rollback_ran, stopped_ran, ran_as, result_as, stopped_wants, wants_as, has_passes, full_chunks}
 use Rattle.job_threads.proofs.transactions.write_block.Goals as goal
 
 pub edit-requires-clause-works : goal.edit-requires-clause-works
@@ -53,4 +53,12 @@ returns-in-Err-clause-ran g c = λ s setup.
     (full_chunks g.N.Named.tables c.args.index.now.place c.edit.new.transaction.locked.now.place s.chunks c.args.index.now.shared.table.shared.table_id c.edit.new.transaction.locked.now.shared.now.table.shared.table_id c.edit.new.transaction.locked.now.draft
     c.args.index.now.here c.edit.new.transaction.locked.now.named (c.edit.ensures.place ∙ c.write-write.ensures.place) (ap (λ n. 4161 + 2048 * n) setup.index.chunks ∙ c.args.index.now.shared.wide) c.edit.new.transaction.locked.now.here)
     (has_passes s _ _ setup.index.passes c.write-write.ensures.passes) c.stopped.ensures.stopped)
+    (search rules)
+
+pub returns-in-Err-clause-wants : goal.returns-in-Err-clause-wants
+returns-in-Err-clause-wants g c = λ s setup.
+    wants_as s _ _ (known_at c.drop-write.new.self.0.seat) _ _
+    (stopped_wants s (asked_view c.args.block.now) (known_at c.args.pass.now.seat) c.write-write.result.locked.now.draft c.edit.new.transaction.locked.now.draft
+    (seat_told c.args.pass.now.seat c.requires.here) setup.opening c.write-write.ensures.begins c.drop-write.new.self.0.seat c.drop-write.ensures.back c.version-version.result c.in-Err.halt c.kept.result c.stopped.result
+    (edits_as c.args.origin.now s.origin (asked_view c.args.block.now) (asked_view c.args.block.now) (Err c.in-Err.halt) c.write-write.result.locked.now.draft c.edit.new.transaction.locked.now.draft setup.index.origin_is refl c.in-Err.ensures.executes) c.stopped.ensures.stopped)
     (search rules)

@@ -1,12 +1,14 @@
-use Rattle.std.proofs.Common.{◌≤◌, List, [], length, take, map, sym, ap, subst, arith}
-use Rattle.std.proofs.lemmas.List.{take_all}
+use Rattle.std.proofs.Common.{◌∙◌, ◌≤◌, ◌+◌, ◌<◌, ℕ, List, [], ◌∷◌, length, length-append, take, map, refl, sym, ap, subst, arith}
+use Rattle.std.proofs.lemmas.List.{take_all, length-map}
 use Rattle.std.specs.Option.{option_map, is_some}
 use Rattle.job_script.specs.Views.{command_view}
 use Rattle.job_script.specs.declared.outcomes.Outcome.{Outcome}
 use Rattle.shared_index.specs.Passes.{known_at}
+use Rattle.job_threads.specs.Calls.{IsHeard, next_number}
 use Rattle.job_threads.specs.Stations.{station}
 use Rattle.job_threads.specs.Works.{ended}
 use Rattle.job_threads.proofs.ShowLaws.{seat_told}
+use Rattle.job_threads.proofs.CallLaws.{one_more}
 use Rattle.job_threads.proofs.WorkLaws.{WorkerAt, worker_starts, worker_next, worker_ran, worker_back, turn_here, turn_next}
 use Rattle.job_threads.proofs.worker.run_worker.Goals as goal
 
@@ -17,6 +19,8 @@ loop-place-init g c = record {
   places = c.requires.places.1;
   held_at = tt;
   placed = c.requires.here.1;
+  many = ap length c.in_ok-list.ensures.items;
+  heard = λ place lt. absurd (omega arith);
   turn = c.requires.in_turn;
   at = λ s numbers setup begins. subst (λ (os : List Outcome). WorkerAt s numbers (ended (known_at c.args.task.asks.seat) (known_at c.args.task.spare.seat)) [] (map command_view c.args.task.commands.now) os) (sym c.in_ok-list.ensures.items)
       (worker_starts s numbers (known_at c.args.task.asks.seat) (known_at c.args.task.spare.seat) (map command_view c.args.task.commands.now) begins c.requires.in_turn);
@@ -37,6 +41,9 @@ loop-place-preserved g c =
       places = c.in_ok-outcome.ensures.places;
       held_at = c.in_ok-outcome.ensures.held_at;
       placed = c.in_ok-outcome.ensures.placed;
+      many = ap length c.in_ok-push.ensures.items ∙ length-append c.loop-place.list.items (c.in_ok-outcome.outcome ∷ []) ∙ ap (λ (n : ℕ). n + 1) i.many;
+      heard = one_more (λ place. IsHeard (g.G.Gate.hears c.args.gate.now) c.args.task.number (next_number place)) c.loop-place.place (c.loop-place.place + 1) refl i.heard
+          (subst (λ n. IsHeard (g.G.Gate.hears c.args.gate.now) c.args.task.number n) c.counted-ordinal.ensures (c.tell_before.ensures, c.tell_after.ensures));
       turn = turn_next (is_some (option_map (λ h. h.seat) c.loop-place.passes.held)) (is_some (option_map (λ h. h.seat) c.run_command.new.passes.held)) commands c.loop-place.place here c.loop-place-test.true c.index-commands-place.is c.in_ok-outcome.ensures.held i.turn;
       at = λ s numbers setup begins.
           let w = i.at s numbers setup begins in
@@ -57,3 +64,9 @@ returns-clause-ran g c = λ s numbers setup begins.
     let at = station passes.asks.seat (option_map (λ p. p.seat) passes.spare) (option_map (λ h. h.seat) passes.held) in
     worker_back s numbers at (known_at c.second_pass-asks.result.0.seat) (known_at c.second_pass-asks.result.1.seat) (map command_view commands) c.loop-place.list.items (ap (λ p. known_at p.seat) c.second_pass-asks.ensures.same) c.second_pass-asks.ensures.pass
     (worker_ran s numbers at (map command_view commands) (map command_view (take c.loop-place.place commands)) _ c.loop-place.list.items (ap (map command_view) (take_all c.loop-place.place commands past)) w)
+
+pub returns-clause-heard : goal.returns-clause-heard
+returns-clause-heard g c = λ place lt.
+    let many = length-map c.args.task.commands.now command_view in
+    let past : length c.args.task.commands.now ≤ c.loop-place.place = omega (arith, c.loop-place-test.false) in
+    c.loop-place.invariant.heard place (omega (arith, lt, many, past))

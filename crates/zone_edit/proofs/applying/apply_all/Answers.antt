@@ -52,7 +52,25 @@ loop-index-preserved g c =
 pub returns-in-Err-Memory-clause-applies : goal.returns-in-Err-Memory-clause-applies
 returns-in-Err-Memory-clause-applies g c =
     edits_on (SoFar c.args.origin.now c.args.operations.now c.loop-index.index) (Applies c.args.origin.now (operation_view c.index-operations-index.result) (Err c.in-Err-Memory.field-0)) (AppliesAll c.args.origin.now (map operation_view c.args.operations.now) (Err halts.Memory))
-    c.args.transaction.now.locked.now.draft c.loop-index.transaction.locked.now.draft c.apply.new.transaction.locked.now.draft (λ version e f x. (x.0, x.2, λ y. tt)) c.loop-index.invariant.so_far c.in-Err-Memory.ensures.applies
+    c.args.transaction.now.locked.now.draft c.loop-index.transaction.locked.now.draft c.apply.new.transaction.locked.now.draft
+    (λ version e f x. (
+      x.0,
+      x.2,
+      λ y.
+          let step = subst (λ (s : Stopped). Applies c.args.origin.now (operation_view c.index-operations-index.result) (Err s) x.0 f) c.in-Err-Memory.field-0-is y in
+          record {
+            front = map operation_view (take c.loop-index.index c.args.operations.now);
+            wanted = operation_view c.index-operations-index.result;
+            back = map operation_view (drop (c.loop-index.index + 1) c.args.operations.now);
+            all = all_around operation_view c.args.operations.now c.loop-index.index c.index-operations-index.result c.loop-index-test.true c.index-operations-index.is;
+            working = x.0;
+            before = x.1;
+            next = step.0;
+            accepted = step.1;
+            works = step.2;
+          },
+    ))
+    c.loop-index.invariant.so_far c.in-Err-Memory.ensures.applies
 
 pub returns-in-Err-Refused-clause-applies : goal.returns-in-Err-Refused-clause-applies
 returns-in-Err-Refused-clause-applies g c =

@@ -1,6 +1,6 @@
 use Rattle.std.proofs.Common.{◌≡◌, ◌++◌}
 use Rattle.feed_core.specs.Feeds.{remaining}
-use Rattle.feed_core.proofs.tests.take_all.Given as goal
+use Rattle.feed_tests.proofs.feeds.take_all.Given as goal
 
 abbrev pub invariant-loop-number : goal.invariant-loop-number
 invariant-loop-number g l = (l.seat.feed ≡ l.feed) × (l.seat.taken ≡ l.fn.seat.taken ++ l.numbers.items)

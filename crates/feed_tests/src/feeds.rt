@@ -1,7 +1,7 @@
 //! A seat alone, seats in threads of their own, and a feed that is closed early.
 ghost use Rattle.std.specs.Prelude.{◌≡◌, ◌++◌, All, IfOk, IfSome, true};
 
-use super::*;
+use feed_core::{Feed, FeedSeat};
 use std::alloc::{AllocError, Global};
 use std::sync::Wait;
 use std::test::Fail;
