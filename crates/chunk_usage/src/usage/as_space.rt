@@ -2,6 +2,7 @@
 
 use super::Usage;
 use crate::space::{Full, Grant, Space};
+use crate::path::Path;
 use packed_node::Ref;
 
 impl Space for Usage {
@@ -24,6 +25,10 @@ impl Space for Usage {
 
     fn release(&mut self, at: Ref, n: u32) {
         Usage::release(self, at, n);
+    }
+
+    fn note(&mut self, path: Path) {
+        Usage::note(self, path);
     }
 
     fn release_all(&mut self) {
