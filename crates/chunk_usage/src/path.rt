@@ -56,7 +56,18 @@ impl Path {
     #[inline]
     pub fn behind(self, position: u8) -> Path {
         Path {
-            steps: ((self.steps << STEP_BITS) & ALL_STEPS) | (u32::from(position & 63) + 1),
+            steps: ((self.steps << STEP_BITS) & ALL_STEPS) | step_of(position),
+        }
+    }
+
+    /// The path with one more step, which comes behind so many; it is left out where they are too many.
+    #[inline]
+    pub fn then(self, steps: u32, position: u8) -> Path {
+        if steps >= PATH_STEPS {
+            return self;
+        }
+        Path {
+            steps: self.steps | (step_of(position) << (STEP_BITS * steps)),
         }
     }
 
@@ -70,4 +81,12 @@ impl Path {
             steps: self.steps & ((1 << (STEP_BITS * steps)) - 1),
         }
     }
+}
+
+/// The bits of a step.
+#[inline]
+fn step_of(position: u8) -> u32
+    ensures { result < 64 }
+{
+    u32::from(position.min(46)) + 1
 }

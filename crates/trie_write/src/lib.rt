@@ -9,6 +9,7 @@ pub mod item;
 mod mutable;
 mod near;
 mod place;
+mod paths;
 mod points;
 mod replacement;
 mod row;
