@@ -150,6 +150,7 @@ fn step_in_all<C: CellWrite>(
 {
     let mut from = 0;
     while let Some(chunk) = usage.sparse_from(from) {
+        usage.known(); // for the proof
         step_in_chunk(cells, usage, root, trail, chunk, step)?;
         from = chunk + 1;
     }

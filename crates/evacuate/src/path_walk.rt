@@ -12,27 +12,27 @@ use packed_node::{Branch, Cell, Node, chunk_of};
 
 /// The twigs that a path goes on to: those before `end` from `first` on.
 #[derive(Clone, Copy)]
-struct Further {
+struct Onward {
     first: u32,
     end: u32,
     path: Path,
 }
 
 /// Which twigs of a branch a path goes on to: to that of its first step, or to all where it says nothing, or there is no such twig.
-fn further(branch: Branch, path: Path) -> Further
+fn twigs_on(branch: Branch, path: Path) -> Onward
     ensures { result.end ≤ count_ones branch.bitmap }
 {
     let count = branch.twig_count();
     match path.first() {
         Some(position) if branch.has_twig(position) => {
             let first = branch.twig_index(position);
-            Further {
+            Onward {
                 first,
                 end: count.min(first + 1),
                 path: path.rest(),
             }
         }
-        _ => Further {
+        _ => Onward {
             first: 0,
             end: count,
             path: Path::none(),
@@ -71,7 +71,7 @@ pub fn last_sparse<C: CellRead>(
             sparse
         }
         Node::Branch(branch) => {
-            let on = further(branch, path);
+            let on = twigs_on(branch, path);
             for i in on.first..on.end {
                 trail.take(branch.offset, i);
                 let twig = cells.cell(branch.twigs + i);
