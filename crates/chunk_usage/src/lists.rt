@@ -44,7 +44,10 @@ impl PathLists {
     /// A path of it, by its place.
     #[inline]
     pub fn path(&self, chunk: u32, place: usize) -> Path {
-        match self.paths.get((chunk as usize * ROOM).saturating_add(place)) {
+        match self
+            .paths
+            .get((chunk as usize * ROOM).saturating_add(place))
+        {
             Some(path) => *path,
             None => Path::none(),
         }

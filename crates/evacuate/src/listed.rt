@@ -158,11 +158,7 @@ fn step_in_all<C: CellWrite>(
 }
 
 /// Moves what the lists of sparse chunks lead to. What lies above it is made mutable first, for all of them.
-pub fn move_listed<C: CellWrite>(
-    cells: &mut C,
-    usage: &mut Usage,
-    root: Ref,
-) -> Result<(), Full>
+pub fn move_listed<C: CellWrite>(cells: &mut C, usage: &mut Usage, root: Ref) -> Result<(), Full>
     requires stood { IsStood C.has cells.old usage.old root }
     requires writable { IsWritable C.given reserve_account_of cells.old usage.old root }
     requires ready { Ready C.kept C.given reserve_account_of cells.old usage.old }

@@ -37,7 +37,14 @@ fn survey_below<C: CellRead>(
             for i in 0..branch.twig_count() {
                 let twig = cells.cell(branch.twigs + i);
                 let on = path.then(steps, position);
-                survey_below(cells, usage, twig, branch.offset + 1, on, steps.saturating_add(1));
+                survey_below(
+                    cells,
+                    usage,
+                    twig,
+                    branch.offset + 1,
+                    on,
+                    steps.saturating_add(1),
+                );
                 position = position_from(branch, position.saturating_add(1));
             }
         }

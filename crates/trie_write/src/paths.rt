@@ -30,8 +30,9 @@ fn path_below<C: CellRead>(
         None => last_step(key, place, node),
         Some(turn) => {
             let low = turn.branch.offset + 1;
-            path_below(cells, key, place, low, turn.next, steps - 1)
-                .behind(key.at(turn.branch.offset))
+            path_below(cells, key, place, low, turn.next, steps - 1).behind(key.at(
+                turn.branch.offset,
+            ))
         }
     }
 }

@@ -1,8 +1,8 @@
 //! A usage as what hands out cells.
 
 use super::Usage;
-use crate::space::{Full, Grant, Space};
 use crate::path::Path;
+use crate::space::{Full, Grant, Space};
 use packed_node::Ref;
 
 impl Space for Usage {
