@@ -1,13 +1,13 @@
 -- The counts of all chunks: what a change of one makes of them, of the journal and of the set and the number beside them.
 use Rattle.std.proofs.Common.{◌≡◌, ℕ, zero, suc, ◌+◌, ◌<◌, ◌≤◌, nat_lt, Bool, true, false, List, ◌∷◌, cond, length, replicate, slice_index, slice_index_or, slice_set, refl, ◌∙◌, sym, ap, subst, inl, inr, arith}
-use Rattle.std.specs.Prelude.{count_by, if◌then◌else◌, ◌⊎◌}
-use Rattle.std.proofs.lemmas.Bool.{cases_eq, cases_lt}
+use Rattle.std.specs.Prelude.{count_by, if◌then◌else◌, ◌⊎◌, ◌&&◌}
+use Rattle.std.proofs.lemmas.Bool.{cases_eq, cases_lt, true≢false, lt-ltb}
 use Rattle.std.proofs.lemmas.Bool.Decides.{nat_tests}
 use Rattle.std.proofs.lemmas.List.{length-set, length-map, length-replicate, get_or-set_same, get_or-set_other, get_or_past, get_or-replicate, get_or-map, ext_get_or}
 use Rattle.std.proofs.lemmas.List.FromFn.{fill_by_all, get_or-map-range_with_len, length-map-range_with_len}
 use Rattle.std.proofs.lemmas.List.Sums.{sum_by-set, sum_by-cons}
 use Rattle.chunk_usage.specs.Ledger.{row_of}
-use Rattle.chunk_usage.specs.Counting.{Counted, is_low}
+use Rattle.chunk_usage.specs.Counting.{Counted, is_low, is_thin, thin_row}
 use Rattle.chunk_usage.specs.Counts.{count_before, counts_before}
 
 module _ (changed : List Bool) (noted live : List ℕ) where
@@ -88,6 +88,10 @@ pub no_row : (n : ℕ) → row_of (replicate n 0) ≡ replicate n false
 no_row zero = refl
 no_row (suc n) = ap (λ (fs : List Bool). false ∷ fs) (no_row n)
 
+pub none_thin : (n : ℕ) → thin_row (replicate n 0) ≡ replicate n false
+none_thin zero = refl
+none_thin (suc n) = ap (λ (fs : List Bool). false ∷ fs) (none_thin n)
+
 pub clear_flag : (n k : ℕ) → slice_index_or (replicate n false) k false ≡ false
 clear_flag n k = elim (cases_lt k n) [
   | inl l ↦ get_or-replicate n k false false l
@@ -121,3 +125,16 @@ same_all live last same each = ext_get_or 0 live last same each
 
 pub counted_is : (v : Counted) (live last : List ℕ) → v.live ≡ live → v.last ≡ last → v ≡ record { live = live; last = last }
 counted_is v live last p q = ap (λ (xs : List ℕ). record { live = xs; last = v.last }) p ∙ ap (λ (xs : List ℕ). record { live = live; last = xs }) q
+
+-- of a chunk that isn't thin, and of which few cells count, none does
+pub not_thin : (live : List ℕ) (k : ℕ) → slice_index_or (thin_row live) k false ≡ false → is_low (slice_index live k) ≡ true → slice_index live k ≡ 0
+not_thin live k h low = elim (cases_lt k (length live)) [
+  | inl l ↦ (let e = sym (get_or-map is_thin live k 0 false l) ∙ h in none (slice_index live k) e low)
+  | inr past ↦ get_or_past live k 0 past
+]
+  where
+    none : (n : ℕ) → is_thin n ≡ false → is_low n ≡ true → n ≡ 0
+    none n e low = elim (cases_lt 0 n) [
+      | inl some ↦ absurd (true≢false (sym low ∙ sym (ap (λ (b : Bool). b && is_low n) (lt-ltb 0 n some)) ∙ e))
+      | inr few ↦ omega arith
+    ]

@@ -1,5 +1,5 @@
 -- How many cells of each chunk count, and which chunks are sparse.
-use Rattle.std.specs.Prelude.{ℕ, nat_le, Bool, not, ◌&&◌, if◌then◌else◌, Option, None, Some, List, length, count_by, slice_index}
+use Rattle.std.specs.Prelude.{ℕ, nat_lt, nat_le, Bool, not, ◌&&◌, if◌then◌else◌, Option, None, Some, List, map, length, count_by, slice_index}
 use Rattle.std.specs.List.{range_with_len}
 use Rattle.chunk_usage.specs.declared.open.Open.{Open}
 use Rattle.chunk_usage.specs.Ledger.{Ledger, is_given, is_open}
@@ -12,6 +12,14 @@ pub record Counted : Type 0 where
 -- few enough cells count for a chunk to be sparse
 abbrev pub is_low : ℕ → Bool
 is_low count = nat_le count 256
+
+-- and some do
+abbrev pub is_thin : ℕ → Bool
+is_thin count = nat_lt 0 count && is_low count
+
+-- of each chunk, whether it is so
+abbrev pub thin_row : List ℕ → List Bool
+thin_row live = map is_thin live
 
 -- the chunk is given and not the bump chunk, and few of its cells count
 abbrev pub is_sparse : Ledger → ℕ → Bool

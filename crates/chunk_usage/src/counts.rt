@@ -3,7 +3,7 @@
 ghost use Rattle.std.specs.Prelude.{◌≡◌, ◌≤◌, ◌<◌, ◌+◌, IfOk, false, true, count_by, if◌then◌else◌, length, nat_lt, replicate, slice_index, slice_set};
 ghost use Rattle.chunk_usage.specs.Ledger.{row_of};
 ghost use Rattle.chunk_usage.specs.ChunkSets.{has};
-ghost use Rattle.chunk_usage.specs.Counting.{is_low};
+ghost use Rattle.chunk_usage.specs.Counting.{is_low, is_thin, thin_row};
 
 use crate::chunk_set::ChunkSet;
 use std::alloc::{AllocError, Global};
@@ -24,6 +24,8 @@ pub struct Counts {
     // The chunks with a cell that counts, and how many they are.
     counted: ChunkSet,
     used: u32,
+    // The chunks of which some cells count, but at most `SPARSE_CELLS`.
+    thin: ChunkSet,
     // How many chunks have at most `SPARSE_CELLS` that count.
     low: u32,
 }
@@ -52,6 +54,7 @@ impl Counts {
             changed: ChunkSet::new(alloc, chunks)?,
             counted: ChunkSet::new(alloc, chunks)?,
             used: 0,
+            thin: ChunkSet::new(alloc, chunks)?,
             low: chunks,
         })
     }
@@ -79,6 +82,7 @@ impl Counts {
         note(&mut self.noted, &mut self.changed, chunk, before);
         self.live[chunk as usize] = count;
         mark(&mut self.counted, &mut self.used, chunk, before, count);
+        put_if(&mut self.thin, chunk, is_thin(count));
         self.low = self.low + one_if_low(count) - one_if_low(before);
     }
 
@@ -119,6 +123,14 @@ impl Counts {
         ensures { result.now ≡ row_of self.now.live }
     {
         &self.counted
+    }
+
+    /// The chunks of which some cells count, but few.
+    #[inline]
+    pub fn thin(&self) -> &ChunkSet
+        ensures { result.now ≡ thin_row self.now.live }
+    {
+        &self.thin
     }
 
     /// How many chunks have a cell that counts.
@@ -170,6 +182,27 @@ fn mark(counted: &mut ChunkSet, used: &mut u32, chunk: u32, before: u32, count: 
     } else if count == 0 {
         counted.remove(chunk);
         *used -= 1;
+    }
+}
+
+/// Whether some cells count, but few.
+#[inline]
+fn is_thin(count: u32) -> bool
+    ensures { result ≡ is_thin count }
+{
+    0 < count && count <= SPARSE_CELLS
+}
+
+/// Puts a chunk in a set, or takes it out.
+#[inline]
+fn put_if(set: &mut ChunkSet, chunk: u32, member: bool)
+    requires { chunk < length set.old }
+    ensures { set.new ≡ slice_set set.old chunk member }
+{
+    if member {
+        set.insert(chunk);
+    } else {
+        set.remove(chunk);
     }
 }
 

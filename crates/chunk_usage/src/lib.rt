@@ -13,12 +13,16 @@
 mod ages;
 mod chunk_set;
 mod counts;
+mod hints;
 mod kept_version;
+mod lists;
 mod open;
+mod path;
 pub mod space;
 mod usage;
 
 pub use kept_version::KeptVersion;
 pub use open::Open;
+pub use path::{PATH_STEPS, Path};
 pub use space::{Full, Grant, Space};
 pub use usage::Usage;

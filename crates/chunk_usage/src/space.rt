@@ -1,5 +1,6 @@
 //! What hands out cells.
 
+use crate::path::Path;
 use packed_node::Ref;
 
 /// Cells side by side.
@@ -66,6 +67,10 @@ pub trait Space {
         ensures counts { (k : ℕ) → (account self.new).live k + row (in_chunk k) at n ≡ (account self.old).live k }
         ensures rest { account self.new ≡ record (account self.old) { live = (account self.new).live } }
         ensures lacks { (f : Full) → lacks self.old f → lacks self.new f };
+
+    /// The cells that are handed out are for what lies on a path. This is a hint, by which they may be found again.
+    fn note(&mut self, path: Path)
+        ensures { self.new ≡ self.old };
 
     /// No cell counts any more.
     fn release_all(&mut self)

@@ -6,6 +6,7 @@ ghost use Rattle.chunk_usage.specs.Ledger.{IsLedger, Row, unused, free_count, re
 
 mod as_space;
 mod cells;
+mod hinting;
 mod recycling;
 mod sparse;
 mod versions;
@@ -13,6 +14,7 @@ mod versions;
 use crate::ages::Ages;
 use crate::chunk_set::ChunkSet;
 use crate::counts::Counts;
+use crate::hints::Hints;
 use crate::kept_version::KeptVersion;
 use crate::open::Open;
 use std::alloc::{AllocError, Global};
@@ -45,6 +47,8 @@ struct State {
     unreached: ChunkSet,
     // Which chunks their cells may lead to.
     ages: Ages,
+    // On which paths they were written.
+    hints: Hints,
 }
 
 impl Model for Usage {
@@ -80,6 +84,7 @@ impl Usage {
             passes,
             unreached: ChunkSet::new(alloc, chunks)?,
             ages: Ages::new(alloc, chunks)?,
+            hints: Hints::new(alloc, chunks)?,
         };
         Ok(Usage {
             state: Box::new(alloc, state)?,

@@ -22,7 +22,7 @@ use Rattle.evacuate.specs.declared.trail.Trail.{Trail}
 use Rattle.evacuate.specs.Evacuations.{HasSparse}
 use Rattle.evacuate.specs.Fillings.{Moves}
 use Rattle.evacuate.specs.Places.{first_of, moved, Stood, Hung, IsHung}
-use Rattle.evacuate.specs.Trails.{Steps, LeadsTo, Found, Underway, TwigsAt}
+use Rattle.evacuate.specs.Trails.{Steps, LeadsTo, Found, Reached, Underway, TwigsAt}
 use Rattle.evacuate.proofs.TreeLaws.{hung_counted, hung_low, hung_tree, row_of}
 
 module _ {S : Type 0} {has : S → ℕ → Cell → Type 0} {s : S} {l : Ledger} {r at : ℕ} {es : List Entry} {way : List Fork} {t : Tree} (h : Hung has s l r at es way t) where
@@ -156,6 +156,28 @@ module _ {S : Type 0} {has : S → ℕ → Cell → Type 0} {l0 : Ledger} {trail
   module _ (not_before : (t : Tree) → n ≡ node_of t → NotBefore trail.end t) where
     pub end_node : n ≡ node_of u.end
     end_node = u.node_is ∙ ap (λ w. node_of (plug w u.end)) (ends_here trail u.rest u.end u.leads (not_before (plug u.rest u.end) u.node_is))
+
+    pub reached_here : Reached has l0 s l r at es n
+    reached_here = record {
+      way = u.upper;
+      end = u.end;
+      hung = subst (λ w. Hung has s l r at es u.upper (plug w u.end)) (ends_here trail u.rest u.end u.leads (not_before (plug u.rest u.end) u.node_is)) u.hung;
+      node_is = end_node;
+      sparse = u.sparse;
+    }
+
+-- what was reached hangs there
+pub reached_hung : {S : Type 0} {has : S → ℕ → Cell → Type 0} {l0 : Ledger} {s : S} {l : Ledger} {r at : ℕ} {es : List Entry} {n : Node} → Reached has l0 s l r at es n → IsHung has s l at n
+reached_hung {r = r} {es = es} x = record { r = r; es = es; way = x.way; t = x.end; hung = x.hung; is = x.node_is }
+
+-- where it isn't moved a sparse chunk is left
+pub reached_left : {S : Type 0} {has : S → ℕ → Cell → Type 0} {given : List Bool} {l0 : Ledger} {s : S} {l : Ledger} {r at : ℕ} {es : List Entry} {n : Node} →
+    Reached has l0 s l r at es n → Moves given 0 l0 l → HasSparse l
+reached_left {has = has} {s = s} {l} {r} {es = es} x m = record {
+  chunk = first_of (node_of x.end) / 1024;
+  sparse = m.sparse (first_of (node_of x.end) / 1024) x.sparse;
+  some = (let c = hung_counted x.hung in let w = (row_of 0 x.end (hung_tree x.hung)).some in omega arith);
+}
 
 -- where it isn't moved a sparse chunk is left
 pub underway_left : {S : Type 0} {has : S → ℕ → Cell → Type 0} {given : List Bool} {l0 : Ledger} {trail : Trail} {s : S} {l : Ledger} {r at : ℕ} {es : List Entry} {n : Node} →

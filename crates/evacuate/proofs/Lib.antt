@@ -5,3 +5,4 @@ pub mod TrailLaws
 pub mod SumLaws
 pub mod DescentLaws
 pub mod EndLaws
+pub mod RearrangeLaws

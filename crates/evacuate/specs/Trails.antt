@@ -46,6 +46,14 @@ pub record Underway {S : Type 0} (has : S → ℕ → Cell → Type 0) (l0 : Led
   pub leads : LeadsTo trail rest end
   pub sparse : is_sparse l0 (first_of (node_of end) / 1024) ≡ true
 
+-- there: what is to be moved hangs on the cell
+pub record Reached {S : Type 0} (has : S → ℕ → Cell → Type 0) (l0 : Ledger) (s : S) (l : Ledger) (r at : ℕ) (es : List Entry) (n : Node) : Type 0 where
+  pub way : List Fork
+  pub end : Tree
+  pub hung : Hung has s l r at es way end
+  pub node_is : n ≡ node_of end
+  pub sparse : is_sparse l0 (first_of (node_of end) / 1024) ≡ true
+
 -- a branch's twigs may have been moved; this is one of them
 pub record TwigsAt {S : Type 0} (has : S → ℕ → Cell → Type 0) (s : S) (l : Ledger) (r at : ℕ) (es : List Entry) (way : List Fork) (t : Tree) (index twig : ℕ) : Type 0 where
   pub to : ℕ

@@ -14,7 +14,7 @@ ghost use Rattle.trie_write.specs.Ways.{Fork};
 ghost use Rattle.evacuate.specs.Evacuations.{HasSparse};
 ghost use Rattle.evacuate.specs.Fillings.{Fills, Moves, IsFull, is_old, old_live};
 ghost use Rattle.evacuate.specs.Places.{moved, Stood, Hung, IsHung};
-ghost use Rattle.evacuate.specs.Trails.{Found, HasFound, TwigsAt};
+ghost use Rattle.evacuate.specs.Trails.{Found, HasFound, Reached, TwigsAt};
 
 use super::moves::move_node;
 use super::place::first_cell;
@@ -71,6 +71,44 @@ fn open_twig<C: CellWrite>(
     Ok(to + index)
 }
 
+/// A cell below the root that may be written, and the node that it says.
+#[derive(Clone, Copy)]
+pub struct Spot {
+    pub at: Ref,
+    pub node: Node,
+}
+
+/// Goes to where a trail leads. The twigs on the way are moved where they may not be written. Where there is no room for them, what was
+/// moved before stays so.
+pub fn reach<C: CellWrite>(
+    cells: &mut C,
+    usage: &mut Usage,
+    root: Ref,
+    trail: &Trail,
+) -> Result<Spot, Full>
+    requires found { HasFound C.has cells.old usage.old root trail.now }
+    requires writable { IsWritable C.given reserve_account_of cells.old usage.old root }
+    requires ready { Ready C.kept C.given reserve_account_of cells.old usage.old }
+    ensures reached { IfOk result (λ spot. (es : List Entry) (t : Tree) → Stood C.has cells.old usage.old root es t → Found usage.old trail.now t
+        → Reached C.has usage.old cells.new usage.new root spot.at es spot.node) }
+    ensures stood { (es : List Entry) (t : Tree) → Stood C.has cells.old usage.old root es t → Found usage.old trail.now t → (u : Tree) × Stood C.has cells.new usage.new root es u }
+    ensures writable { IfOk result (λ spot. IsWritable C.given reserve_account_of cells.new usage.new spot.at) }
+    ensures moves { (given : List Bool) → Fills given usage.old → Moves given 0 usage.old usage.new }
+    ensures full { IfErr result (λ _. IsFull usage.new) }
+    ensures left { IfErr result (λ _. (given : List Bool) → Fills given usage.old → HasSparse usage.new) }
+    ensures frame { Fenced C.has C.kept C.given reserve_account_of cells.old usage.old cells.new usage.new }
+    ensures ready { Ready C.kept C.given reserve_account_of cells.new usage.new }
+{
+    let mut at = root;
+    let mut node = Node::of(cells.cell(root));
+    while let Some(branch) = branch_before(node, trail.end) {
+        let index = trail.index_at(branch.offset);
+        at = open_twig(cells, usage, at, branch, index)?;
+        node = Node::of(cells.cell(at));
+    }
+    Ok(Spot { at, node })
+}
+
 /// Moves what the trail leads to, and tells where it lay. Where there is no room for it, or for twigs on the way, what was moved before
 /// stays so.
 pub fn move_found<C: CellWrite>(
@@ -90,14 +128,8 @@ pub fn move_found<C: CellWrite>(
     ensures frame { Fenced C.has C.kept C.given reserve_account_of cells.old usage.old cells.new usage.new }
     ensures ready { Ready C.kept C.given reserve_account_of cells.new usage.new }
 {
-    let mut at = root;
-    let mut node = Node::of(cells.cell(root));
-    while let Some(branch) = branch_before(node, trail.end) {
-        let index = trail.index_at(branch.offset);
-        at = open_twig(cells, usage, at, branch, index)?;
-        node = Node::of(cells.cell(at));
-    }
-    let from = first_cell(node);
-    move_node(cells, usage, at, node)?;
+    let spot = reach(cells, usage, root, trail)?;
+    let from = first_cell(spot.node);
+    move_node(cells, usage, spot.at, spot.node)?;
     Ok(from)
 }

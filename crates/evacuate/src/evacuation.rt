@@ -1,21 +1,24 @@
 //! Evacuation: sparse chunks are emptied.
 
-ghost use Rattle.std.specs.Prelude.{◌≡◌, ◌+◌, ◌*◌, ◌-◌, ◌/◌, ◌<◌, ◌≤◌, ℕ, List, Bool, true, false, length, slice_index};
+ghost use Rattle.std.specs.Prelude.{◌≡◌, ◌+◌, ◌*◌, ◌-◌, ◌/◌, ◌<◌, ◌≤◌, ℕ, List, Bool, true, false, Some, length, slice_index};
 ghost use Rattle.trie_model.specs.Keys.{Entry};
 ghost use Rattle.trie_model.specs.Shape.{cells as cells_of};
 ghost use Rattle.trie_model.specs.Trees.{Tree};
 ghost use Rattle.chunk_usage.specs.Ledger.{free_count};
 ghost use Rattle.chunk_usage.specs.Handing.{spent};
 ghost use Rattle.chunk_usage.specs.Rooms.{account_of, reserve_account_of};
-ghost use Rattle.trie_write.specs.Spaces.{Ready, Fenced};
+ghost use Rattle.trie_write.specs.Spaces.{Ready, Fenced, IsWritable};
 ghost use Rattle.trie_write.specs.Standing.{HasTrie};
 ghost use Rattle.evacuate.specs.Evacuations.{FillsNew, IsDense, IsCleared, HasSparse, refused};
 ghost use Rattle.evacuate.specs.Fillings.{Fills, IsFull, old_live};
 ghost use Rattle.evacuate.specs.Places.{Stood, IsStood};
+ghost use Rattle.evacuate.specs.Rearranging.{Rearranged};
 
 use super::descent::move_found;
+use super::listed::move_listed;
 use super::moves::move_root;
 use super::sparse::is_any_sparse;
+use super::survey::survey;
 use super::trail::{Trail, next_sparse};
 use chunk_cells::CellWrite;
 use chunk_usage::Usage;
@@ -85,6 +88,9 @@ fn empty_sparse<C: CellWrite>(cells: &mut C, usage: &mut Usage, root: Ref) -> (R
         Err(_) => return (root, Done::Stopped),
         Ok(at) => at,
     };
+    if let Some(done) = empty_listed(cells, usage, at) {
+        return (at, done);
+    }
     let mut trail = Trail::new();
     let mut resumed = false;
     let mut before = usage.first_sparse();
@@ -101,6 +107,49 @@ fn empty_sparse<C: CellWrite>(cells: &mut C, usage: &mut Usage, root: Ref) -> (R
             before = 0;
         } else {
             return (at, Done::Whole);
+        }
+    }
+}
+
+/// Moves what the lists of sparse chunks lead to. Tells how that ended, unless some is left: once the lists were made anew, that may be
+/// where they had no room for all.
+fn empty_listed<C: CellWrite>(cells: &mut C, usage: &mut Usage, root: Ref) -> Option<Done>
+    requires stood { IsStood C.has cells.old usage.old root }
+    requires writable { IsWritable C.given reserve_account_of cells.old usage.old root }
+    requires ready { Ready C.kept C.given reserve_account_of cells.old usage.old }
+    ensures rearranged { Rearranged C.has C.kept C.given root cells.old usage.old cells.new usage.new }
+    ensures whole { result ≡ Some Done.Whole → IsCleared usage.new }
+    ensures full { result ≡ Some Done.Stopped → IsFull usage.new }
+    ensures left { result ≡ Some Done.Stopped → (given : List Bool) → Fills given usage.old → HasSparse usage.new }
+    ensures ready { Ready C.kept C.given reserve_account_of cells.new usage.new }
+{
+    match try_lists(cells, usage, root) {
+        None => {
+            survey(cells, usage, root);
+            try_lists(cells, usage, root)
+        }
+        done => done,
+    }
+}
+
+/// The same with the lists that there are.
+fn try_lists<C: CellWrite>(cells: &mut C, usage: &mut Usage, root: Ref) -> Option<Done>
+    requires stood { IsStood C.has cells.old usage.old root }
+    requires writable { IsWritable C.given reserve_account_of cells.old usage.old root }
+    requires ready { Ready C.kept C.given reserve_account_of cells.old usage.old }
+    ensures rearranged { Rearranged C.has C.kept C.given root cells.old usage.old cells.new usage.new }
+    ensures whole { result ≡ Some Done.Whole → IsCleared usage.new }
+    ensures full { result ≡ Some Done.Stopped → IsFull usage.new }
+    ensures left { result ≡ Some Done.Stopped → (given : List Bool) → Fills given usage.old → HasSparse usage.new }
+    ensures ready { Ready C.kept C.given reserve_account_of cells.new usage.new }
+{
+    match move_listed(cells, usage, root) {
+        Err(_) => Some(Done::Stopped),
+        Ok(()) => {
+            if is_any_sparse(usage) {
+                return None;
+            }
+            Some(Done::Whole)
         }
     }
 }

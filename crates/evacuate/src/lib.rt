@@ -3,10 +3,13 @@
 
 mod descent;
 mod evacuation;
+mod listed;
 mod moves;
+mod path_walk;
 mod place;
 mod room;
 mod sparse;
+mod survey;
 mod trail;
 
 pub use evacuation::{Done, evacuate};

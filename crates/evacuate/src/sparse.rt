@@ -10,13 +10,5 @@ pub fn is_any_sparse(usage: &Usage) -> bool
     ensures some { result ≡ true → HasSparse usage.now }
     ensures none { result ≡ false → IsCleared usage.now }
 {
-    if usage.sparse() == 0 {
-        return false;
-    }
-    for chunk in 0..usage.chunks() {
-        if usage.is_sparse(chunk) && usage.live(chunk) > 0 {
-            return true;
-        }
-    }
-    false
+    usage.sparse_from(0).is_some()
 }

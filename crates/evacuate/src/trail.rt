@@ -50,7 +50,7 @@ impl Trail {
     }
 
     /// Takes a twig of the branch at an offset.
-    fn take(&mut self, offset: u16, index: u32)
+    pub fn take(&mut self, offset: u16, index: u32)
         requires early { offset ≤ 503 }
         requires few { index < 256 }
         ensures taken { slice_index self.new.indices offset ≡ index }

@@ -1,7 +1,7 @@
 //! An evacuation that comes to its end, and one that finds no free chunk.
 
 use crate::items::{rise, three_hundred_items};
-use crate::tries::{counted_chunks, evacuated, live_cells, unused_room};
+use crate::tries::{counted_chunks, evacuated, evacuated_again, live_cells, unused_room};
 use evacuate::Done;
 use std::test::Fail;
 
@@ -23,6 +23,23 @@ fn ten_names_of_three_hundred_need_few_chunks(rt: HostRuntime) -> Result<(), Fai
         outcome.nodes.saturating_add(10 * ITEM_CELLS)
     );
     assert!(rt; counted_chunks(&usage) <= 3);
+    // Nobody told on which paths the first names were written.
+    assert_eq!(rt; outcome.walks, 1);
+    Ok(())
+}
+
+#[test]
+fn what_was_written_on_known_paths_is_found_without_a_walk(rt: HostRuntime) -> Result<(), Fail> {
+    let (mut memory, mut usage) = unused_room(rt.alloc(), 256)?;
+    let items = three_hundred_items(rt.alloc())?;
+    assert!(rt; rise(&items));
+    let outcome = evacuated_again(&mut memory, &mut usage, &items, 30).ok_or("no room")?;
+    assert!(rt; outcome.sparse >= 10);
+    assert_eq!(rt; outcome.done, Done::Whole);
+    assert_eq!(rt; outcome.names, 10);
+    assert!(rt; counted_chunks(&usage) <= 3);
+    // Only the first time.
+    assert_eq!(rt; outcome.walks, 1);
     Ok(())
 }
 

@@ -14,7 +14,7 @@ use evacuate::{Done, evacuate};
 use packed_node::Ref;
 use std::alloc::{AllocError, Global};
 use trie_read::{count, nodes};
-use trie_write::{Item, build, delete};
+use trie_write::{Item, build, delete, insert};
 
 /// So many chunks, none of which is given.
 pub(crate) fn unused_room(alloc: Global, chunks: u32) -> Result<(PlainCells, Usage), AllocError>
@@ -50,6 +50,70 @@ fn without<C: CellWrite, U: Space>(
     }
 }
 
+/// The root with a name put in, or as it is where the name is there already.
+fn with<C: CellWrite, U: Space>(
+    cells: &mut C,
+    usage: &mut U,
+    root: Option<Ref>,
+    item: &Item,
+    there: bool,
+) -> Option<Option<Ref>>
+    requires stands { (version : List Entry) × HasTrie C.has U.account cells.old usage.old root version × EachTells Leads version }
+    requires ready { Ready C.kept C.given U.account cells.old usage.old }
+    ensures stands { IfSome result (λ new. (version : List Entry) × HasTrie C.has U.account cells.new usage.new new version × EachTells Leads version) }
+    ensures ready { Ready C.kept C.given U.account cells.new usage.new }
+{
+    if there {
+        return Some(root);
+    }
+    match insert(cells, usage, root, &item.key(), item.octets()) {
+        Err(_) => None,
+        Ok(new) => Some(new),
+    }
+}
+
+/// The root once all items but one of so many are taken out.
+fn thinned<C: CellWrite, U: Space>(
+    cells: &mut C,
+    usage: &mut U,
+    root: Option<Ref>,
+    items: &[Item],
+    so_many: usize,
+) -> Option<Option<Ref>>
+    requires some { 0 < so_many }
+    requires stands { (version : List Entry) × HasTrie C.has U.account cells.old usage.old root version × EachTells Leads version }
+    requires ready { Ready C.kept C.given U.account cells.old usage.old }
+    ensures stands { IfSome result (λ new. (version : List Entry) × HasTrie C.has U.account cells.new usage.new new version × EachTells Leads version) }
+    ensures ready { Ready C.kept C.given U.account cells.new usage.new }
+{
+    let mut root = root;
+    for i in 0..items.len() {
+        root = without(cells, usage, root, &items[i], i % so_many == 0)?;
+    }
+    Some(root)
+}
+
+/// The root once they are put in again.
+fn filled_up<C: CellWrite, U: Space>(
+    cells: &mut C,
+    usage: &mut U,
+    root: Option<Ref>,
+    items: &[Item],
+    so_many: usize,
+) -> Option<Option<Ref>>
+    requires some { 0 < so_many }
+    requires stands { (version : List Entry) × HasTrie C.has U.account cells.old usage.old root version × EachTells Leads version }
+    requires ready { Ready C.kept C.given U.account cells.old usage.old }
+    ensures stands { IfSome result (λ new. (version : List Entry) × HasTrie C.has U.account cells.new usage.new new version × EachTells Leads version) }
+    ensures ready { Ready C.kept C.given U.account cells.new usage.new }
+{
+    let mut root = root;
+    for i in 0..items.len() {
+        root = with(cells, usage, root, &items[i], i % so_many == 0)?;
+    }
+    Some(root)
+}
+
 /// The root of the trie of the items, once all but one of so many are taken out.
 fn built_without<C: CellWrite, U: Space>(
     cells: &mut C,
@@ -61,17 +125,13 @@ fn built_without<C: CellWrite, U: Space>(
     requires some { 0 < so_many }
     requires uncounted { (k : ℕ) → (U.account usage.old).live k ≡ 0 }
     requires ready { Ready C.kept C.given U.account cells.old usage.old }
-    ensures stands { IfSome result (λ root. (version : List Entry) × HasTrie C.has U.account cells.new usage.new root version) }
+    ensures stands { IfSome result (λ root. (version : List Entry) × HasTrie C.has U.account cells.new usage.new root version × EachTells Leads version) }
     ensures ready { Ready C.kept C.given U.account cells.new usage.new }
 {
-    let mut root = match build(cells, usage, items) {
-        Err(_) => return None,
-        Ok(root) => root,
-    };
-    for i in 0..items.len() {
-        root = without(cells, usage, root, &items[i], i % so_many == 0)?;
+    match build(cells, usage, items) {
+        Err(_) => None,
+        Ok(root) => thinned(cells, usage, root, items, so_many),
     }
-    Some(root)
 }
 
 /// What an evacuation did.
@@ -83,6 +143,24 @@ pub(crate) struct Outcome {
     /// How many names and nodes there are afterwards.
     pub(crate) names: u64,
     pub(crate) nodes: u64,
+    /// How many walks over all were needed.
+    pub(crate) walks: u64,
+}
+
+/// Moves what lies in sparse chunks.
+fn emptied<C: CellWrite>(cells: &mut C, usage: &mut Usage, root: Option<Ref>) -> Outcome
+    requires stands { (version : List Entry) × HasTrie C.has ⟦<Usage as Space>⟧.account cells.old usage.old root version }
+    requires ready { Ready C.kept C.given ⟦<Usage as Space>⟧.account cells.old usage.old }
+{
+    let sparse = usage.sparse();
+    let (new, done) = evacuate(cells, usage, root);
+    Outcome {
+        sparse,
+        done,
+        names: count(cells, new),
+        nodes: nodes(cells, new),
+        walks: usage.walks(),
+    }
 }
 
 /// Builds the trie of the items, takes all but one of so many out, and moves what lies in sparse chunks.
@@ -98,14 +176,26 @@ pub(crate) fn evacuated<C: CellWrite>(
     requires ready { Ready C.kept C.given ⟦<Usage as Space>⟧.account cells.old usage.old }
 {
     let root = built_without(cells, usage, items, so_many)?;
-    let sparse = usage.sparse();
-    let (new, done) = evacuate(cells, usage, root);
-    Some(Outcome {
-        sparse,
-        done,
-        names: count(cells, new),
-        nodes: nodes(cells, new),
-    })
+    Some(emptied(cells, usage, root))
+}
+
+/// The same, and then puts the names in again, takes them out, and moves once more.
+pub(crate) fn evacuated_again<C: CellWrite>(
+    cells: &mut C,
+    usage: &mut Usage,
+    items: &[Item],
+    so_many: usize,
+) -> Option<Outcome>
+    requires rising { Rises (entries_of_items items.now) }
+    requires some { 0 < so_many }
+    requires uncounted { (k : ℕ) → (⟦<Usage as Space>⟧.account usage.old).live k ≡ 0 }
+    requires ready { Ready C.kept C.given ⟦<Usage as Space>⟧.account cells.old usage.old }
+{
+    let root = built_without(cells, usage, items, so_many)?;
+    let (root, _done) = evacuate(cells, usage, root);
+    let root = filled_up(cells, usage, root, items, so_many)?;
+    let root = thinned(cells, usage, root, items, so_many)?;
+    Some(emptied(cells, usage, root))
 }
 
 /// How many chunks have cells that count.

@@ -88,6 +88,7 @@ pub fn put_change<C: CellWrite, U: Space>(
         Ok(seat) => {
             cells.put(seat.at, change.cell);
             let_go(usage, change.old_twigs, change.old_item);
+            usage.note(seat.path);
             Ok(seat.root)
         }
     }

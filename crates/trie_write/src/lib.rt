@@ -8,6 +8,7 @@ mod insertion;
 pub mod item;
 mod mutable;
 mod near;
+mod paths;
 mod place;
 mod points;
 mod replacement;

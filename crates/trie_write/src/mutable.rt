@@ -7,12 +7,14 @@ ghost use Rattle.trie_model.specs.Reach.{row, in_chunk};
 ghost use Rattle.trie_model.specs.Trees.{Tree, IsRow};
 ghost use Rattle.trie_write.specs.Spaces.{Ready, Frame, Fenced, Refused, MayWrite, Wrote, IsWritable};
 ghost use Rattle.trie_write.specs.Ways.{Fork, plug, IsWay, twigs_of, twigs_along, copied_along};
+ghost use Rattle.trie_write.specs.Turns.{HasWay};
 ghost use Rattle.trie_write.specs.Mutable.{WayAsks, WayAsked, IsCopied, IsParted, SeatAsks, SeatAsked, IsSeat};
 
+use super::paths::path_to;
 use super::place::{copy_twigs, room_for};
 use super::turn::next_turn;
-use chunk_cells::CellWrite;
-use chunk_usage::{Full, Space};
+use chunk_cells::{CellRead, CellWrite};
+use chunk_usage::{Full, Path, Space};
 use packed_node::{Branch, Cell, Node, Ref};
 use shift_key::Key;
 
@@ -28,6 +30,8 @@ pub struct Spot {
 pub struct Seat {
     pub root: Ref,
     pub at: Ref,
+    /// The path of that cell.
+    pub path: Path,
 }
 
 /// What copying gives.
@@ -172,6 +176,7 @@ fn open_below<C: CellWrite, U: Space>(
     key: &Key,
     place: u16,
     top: Spot,
+    path: Path,
 ) -> Result<Seat, Full>
     requires asks { SeatAsked C.has U.account cells.old usage.old place key.now top.at }
     requires node { (c : Cell) → C.has cells.old top.at c → top.node ≡ c }
@@ -193,6 +198,7 @@ fn open_below<C: CellWrite, U: Space>(
     Ok(Seat {
         root: top.at,
         at: copied.seat,
+        path,
     })
 }
 
@@ -203,6 +209,7 @@ fn open_anew<C: CellWrite, U: Space>(
     key: &Key,
     place: u16,
     top: Spot,
+    path: Path,
 ) -> Result<Seat, Full>
     requires asks { SeatAsked C.has U.account cells.old usage.old place key.now top.at }
     requires node { (c : Cell) → C.has cells.old top.at c → top.node ≡ c }
@@ -234,9 +241,21 @@ fn open_anew<C: CellWrite, U: Space>(
             Ok(Seat {
                 root,
                 at: copied.seat,
+                path,
             })
         }
     }
+}
+
+/// The node of a root, and the path of the way from there to a place.
+fn set_out<C: CellRead>(cells: &mut C, key: &Key, place: u16, root: Ref) -> (Cell, Path)
+    requires way { (c : Cell) × C.has cells.old root c × HasWay (C.has cells.old) place 0 key.now c }
+    ensures same { cells.new ≡ cells.old }
+    ensures node { (c : Cell) → C.has cells.old root c → result.0 ≡ c }
+{
+    let node = cells.cell(root);
+    let path = path_to(cells, key, place, node);
+    (node, path)
 }
 
 /// Makes the way along the key mutable, down to the first node whose offset isn't before the place. No entry changes. Where there is
@@ -261,13 +280,11 @@ pub fn make_mutable<C: CellWrite, U: Space>(
     ensures frame { Fenced C.has C.kept C.given U.account cells.old usage.old cells.new usage.new }
     ensures ready { Ready C.kept C.given U.account cells.new usage.new }
 {
-    let top = Spot {
-        at: root,
-        node: cells.cell(root),
-    };
+    let (node, path) = set_out(cells, key, place, root);
+    let top = Spot { at: root, node };
     if usage.is_mutable(root) {
-        open_below(cells, usage, key, place, top)
+        open_below(cells, usage, key, place, top, path)
     } else {
-        open_anew(cells, usage, key, place, top)
+        open_anew(cells, usage, key, place, top, path)
     }
 }

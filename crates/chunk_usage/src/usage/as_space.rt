@@ -1,6 +1,7 @@
 //! A usage as what hands out cells.
 
 use super::Usage;
+use crate::path::Path;
 use crate::space::{Full, Grant, Space};
 use packed_node::Ref;
 
@@ -24,6 +25,10 @@ impl Space for Usage {
 
     fn release(&mut self, at: Ref, n: u32) {
         Usage::release(self, at, n);
+    }
+
+    fn note(&mut self, path: Path) {
+        Usage::note(self, path);
     }
 
     fn release_all(&mut self) {

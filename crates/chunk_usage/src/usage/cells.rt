@@ -108,6 +108,7 @@ impl Usage {
         state.allocated.insert(chunk);
         state.recent.insert(chunk);
         state.ages.give(chunk);
+        state.hints.begin(chunk, state.bump);
         state.free -= 1;
         let bump = Open { chunk, filled: 0 };
         state.bump = Some(bump);

@@ -1,6 +1,6 @@
 //! Chunks of which few cells count.
 
-ghost use Rattle.std.specs.Prelude.{◌≡◌, false};
+ghost use Rattle.std.specs.Prelude.{◌≡◌, ◌<◌, ◌≤◌, ℕ, true, false, IfSome, None, length, slice_index};
 ghost use Rattle.chunk_usage.specs.Ledger.{is_open};
 ghost use Rattle.chunk_usage.specs.Counting.{is_sparse, open_low, sparse_count};
 
@@ -31,12 +31,28 @@ impl Usage {
     /// of how old chunks are, on which no proof rests.
     pub fn first_sparse(&self) -> u64 {
         let mut first = u64::MAX;
-        for chunk in 0..self.chunks() {
-            if self.is_sparse(chunk) && self.live(chunk) > 0 {
-                first = first.min(self.state.ages.of(chunk));
-            }
+        let mut from = 0;
+        while let Some(chunk) = self.sparse_from(from) {
+            first = first.min(self.state.ages.of(chunk));
+            from = chunk + 1;
         }
         first
+    }
+
+    /// The first sparse chunk with a cell that counts that isn't before a place.
+    pub fn sparse_from(&self, from: u32) -> Option<u32>
+        ensures at_or_after { IfSome result (λ chunk. from ≤ chunk) }
+        ensures within { IfSome result (λ chunk. chunk < length self.now.given) }
+        ensures sparse { IfSome result (λ chunk. is_sparse self.now chunk ≡ true) }
+        ensures some { IfSome result (λ chunk. 0 < slice_index self.now.live chunk) }
+        ensures none { result ≡ None → (k : ℕ) → from ≤ k → is_sparse self.now k ≡ true → slice_index self.now.live k ≡ 0 }
+    {
+        let thin = self.state.counts.thin();
+        let first = thin.first_from(from)?;
+        if !is_chunk_of(self.state.bump, first) {
+            return Some(first);
+        }
+        thin.first_from(first + 1)
     }
 
     /// Whether the cells of a chunk lead to no chunk that was given at this number, or later; for 0 never. By the same guess.

@@ -4,11 +4,14 @@ use Rattle.std.proofs.lemmas.Bool.Decides.{nat_tests}
 use Rattle.chunk_usage.specs.Rooms.{reserve_account_of}
 use Rattle.trie_write.specs.Spaces.{Fenced, IsWritable}
 use Rattle.trie_write.proofs.SpaceLaws.{fenced_then, fenced_same, ready_put, writable_later}
+use Rattle.std.specs.Prelude.{Option, Some}
+use Rattle.evacuate.specs.declared.evacuation.Done.{Done}
 use Rattle.evacuate.specs.Evacuations.{HasSparse}
 use Rattle.evacuate.specs.Fillings.{Fills, Moves}
 use Rattle.evacuate.proofs.DescentLaws.{stood_same}
 use Rattle.evacuate.proofs.EndLaws.{stood_closed, fenced_closed, ready_closed, closed_spent, left_closed, root_old, all_cleared, node_top}
 use Rattle.evacuate.proofs.FillingLaws.{fills_begin, moves_then}
+use Rattle.evacuate.proofs.RearrangeLaws.{writable_after}
 use Rattle.evacuate.proofs.evacuation.empty_sparse.Goals.{then-resumed, else-resumed}
 use Rattle.evacuate.proofs.evacuation.empty_sparse.Goals as goal
 
@@ -27,16 +30,47 @@ returns-in-Err-clause-fills g c = subst (Fills c.args.usage.now.given) (sym (c.i
 pub returns-in-Err-clause-left : goal.returns-in-Err-clause-left
 returns-in-Err-clause-left g c e = subst HasSparse (sym (c.in-Err.ensures.unchanged ∙ c.fresh.ensures.after)) (left_closed c.args.usage.now c.requires.sparse)
 
+pub empty_listed-requires-clause-stood : goal.empty_listed-requires-clause-stood
+empty_listed-requires-clause-stood g c =
+    let h = c.requires.stood in record { es = h.es; t = h.t; stood = c.in-Ok.ensures.stood h.es h.t (stood_closed c.fresh.ensures.after c.fresh.ensures.grows h.stood) }
+
+pub returns-in-Some-clause-stood : goal.returns-in-Some-clause-stood
+returns-in-Some-clause-stood g c es t h = c.empty_listed.ensures.rearranged.stood es t (c.in-Ok.ensures.stood es t (stood_closed c.fresh.ensures.after c.fresh.ensures.grows h))
+
+pub returns-in-Some-clause-fills : goal.returns-in-Some-clause-fills
+returns-in-Some-clause-fills g c =
+    let begins = subst (Fills c.args.usage.now.given) (sym c.fresh.ensures.after) (fills_begin c.args.usage.now c.known.ensures) in
+    let m = (c.in-Ok.ensures.paid c.args.usage.now.given begins (root_old c.known.ensures c.requires.stood.stood)).moves in
+    (c.empty_listed.ensures.rearranged.moves c.args.usage.now.given m.fills).fills
+
+pub returns-in-Some-clause-paid : goal.returns-in-Some-clause-paid
+returns-in-Some-clause-paid g c =
+    let begins = subst (Fills c.args.usage.now.given) (sym c.fresh.ensures.after) (fills_begin c.args.usage.now c.known.ensures) in
+    let m = subst (λ l. Moves c.args.usage.now.given 0 l c.move_root.new.usage) c.fresh.ensures.after (c.in-Ok.ensures.paid c.args.usage.now.given begins (root_old c.known.ensures c.requires.stood.stood)).moves in
+    let n = moves_then m (c.empty_listed.ensures.rearranged.moves c.args.usage.now.given m.fills) in
+    let p = n.paid in let s = closed_spent c.args.usage.now in omega arith
+
+pub returns-in-Some-clause-frame : goal.returns-in-Some-clause-frame
+returns-in-Some-clause-frame g c =
+    fenced_then (fenced_then (fenced_closed g.C.CellRead.has g.C.CellWrite.kept g.C.CellWrite.given c.fresh.ensures.after c.fresh.ensures.grows) c.in-Ok.ensures.frame) c.empty_listed.ensures.rearranged.frame
+
+pub returns-in-Some-clause-left : goal.returns-in-Some-clause-left
+returns-in-Some-clause-left g c e =
+    let begins = subst (Fills c.args.usage.now.given) (sym c.fresh.ensures.after) (fills_begin c.args.usage.now c.known.ensures) in
+    let m = (c.in-Ok.ensures.paid c.args.usage.now.given begins (root_old c.known.ensures c.requires.stood.stood)).moves in
+    c.empty_listed.ensures.left (c.in-Some.is ∙ ap (λ (d : Done). Some d) e) c.args.usage.now.given m.fills
+
 pub passes-init : goal.passes-init
 passes-init g c =
     let begins = subst (Fills c.args.usage.now.given) (sym c.fresh.ensures.after) (fills_begin c.args.usage.now c.known.ensures) in
+    let m = subst (λ l. Moves c.args.usage.now.given 0 l c.move_root.new.usage) c.fresh.ensures.after (c.in-Ok.ensures.paid c.args.usage.now.given begins (root_old c.known.ensures c.requires.stood.stood)).moves in
     record {
-      stood = λ es t h. (t, c.in-Ok.ensures.stood es t (stood_closed c.fresh.ensures.after c.fresh.ensures.grows h));
-      moves = subst (λ l. Moves c.args.usage.now.given 0 l c.move_root.new.usage) c.fresh.ensures.after (c.in-Ok.ensures.paid c.args.usage.now.given begins (root_old c.known.ensures c.requires.stood.stood)).moves;
+      stood = λ es t h. c.empty_listed.ensures.rearranged.stood es t (c.in-Ok.ensures.stood es t (stood_closed c.fresh.ensures.after c.fresh.ensures.grows h));
+      moves = moves_then m (c.empty_listed.ensures.rearranged.moves c.args.usage.now.given m.fills);
       elsewhere = c.in-Ok.ensures.elsewhere c.args.usage.now.given begins;
-      writable = c.in-Ok.ensures.writable;
-      frame = fenced_then (fenced_closed g.C.CellRead.has g.C.CellWrite.kept g.C.CellWrite.given c.fresh.ensures.after c.fresh.ensures.grows) c.in-Ok.ensures.frame;
-      ready = c.in-Ok.ensures.ready;
+      writable = writable_after c.empty_listed.ensures.rearranged c.in-Ok.ensures.writable;
+      frame = fenced_then (fenced_then (fenced_closed g.C.CellRead.has g.C.CellWrite.kept g.C.CellWrite.given c.fresh.ensures.after c.fresh.ensures.grows) c.in-Ok.ensures.frame) c.empty_listed.ensures.rearranged.frame;
+      ready = c.empty_listed.ensures.ready;
     }
 
 pub cell-node-requires : goal.cell-node-requires

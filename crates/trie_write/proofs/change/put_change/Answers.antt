@@ -1,6 +1,7 @@
-use Rattle.std.proofs.Common.{arith, ap}
+use Rattle.std.proofs.Common.{arith, sym, ap, subst}
 use Rattle.chunk_usage.specs.Rooms.{Account}
-use Rattle.trie_write.specs.Puts.{taken}
+use Rattle.trie_write.specs.Puts.{taken, IsPut}
+use Rattle.trie_write.specs.Spaces.{Fenced}
 use Rattle.trie_write.proofs.ChangeLaws.{left_counted, put_is, outside_opened, taken_counted}
 use Rattle.trie_write.proofs.SpaceLaws.{fenced_put, fenced_counts, seat_open}
 use Rattle.trie_write.proofs.change.put_change.Goals as goal
@@ -24,15 +25,18 @@ pub returns-in-Err-clause-asked : goal.returns-in-Err-clause-asked
 returns-in-Err-clause-asked g c way end u a = c.in-Err.ensures.asked _ way end a.seat
 
 pub returns-in-Ok-clause-put : goal.returns-in-Ok-clause-put
-returns-in-Ok-clause-put g c way end u a = put_is a (c.in-Ok.ensures.seat _ way end a.seat) c.put.ensures.written c.put.ensures.others c.let_go-in-Ok.ensures.counts c.let_go-in-Ok.ensures.rest
+returns-in-Ok-clause-put g c way end u a =
+    subst (λ z. IsPut g.C.CellRead.has g.U.Space.account c.put.new.self z c.args.place c.args.key.now way end u c.in-Ok.seat.root) (sym c.note.ensures)
+    (put_is a (c.in-Ok.ensures.seat _ way end a.seat) c.put.ensures.written c.put.ensures.others c.let_go-in-Ok.ensures.counts c.let_go-in-Ok.ensures.rest)
 
 pub returns-in-Ok-clause-spends : goal.returns-in-Ok-clause-spends
-returns-in-Ok-clause-spends g c way end u a = let s = c.make_mutable.ensures.spends _ way end a.seat in let r = ap (λ (z : Account). z.spent) c.let_go-in-Ok.ensures.rest in omega arith
+returns-in-Ok-clause-spends g c way end u a = let s = c.make_mutable.ensures.spends _ way end a.seat in let r = ap (λ (z : Account). z.spent) c.let_go-in-Ok.ensures.rest in let n = ap (λ z. (g.U.Space.account z).spent) c.note.ensures in omega arith
 
 pub returns-in-Ok-clause-frame : goal.returns-in-Ok-clause-frame
 returns-in-Ok-clause-frame g c =
     let s = c.in-Ok.ensures.seat _ _ _ c.requires.asks.asks.seat in
-    fenced_counts (fenced_put c.in-Ok.ensures.frame s.writable.mutable c.put.ensures.others c.put.ensures.given c.put.ensures.kept) c.let_go-in-Ok.ensures.rest
+    subst (λ z. Fenced g.C.CellRead.has g.C.CellWrite.kept g.C.CellWrite.given g.U.Space.account c.args.cells.now c.args.usage.now c.put.new.self z) (sym c.note.ensures)
+    (fenced_counts (fenced_put c.in-Ok.ensures.frame s.writable.mutable c.put.ensures.others c.put.ensures.given c.put.ensures.kept) c.let_go-in-Ok.ensures.rest)
 
 pub returns-in-Err-clause-outside : goal.returns-in-Err-clause-outside
 returns-in-Err-clause-outside g c way end u a q x used out h = c.in-Err.ensures.refused.untouched q x used h

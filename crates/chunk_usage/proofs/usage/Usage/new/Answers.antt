@@ -9,7 +9,7 @@ use Rattle.chunk_usage.proofs.usage.Usage.new.Goals as goal
 pub invariant_of-result : goal.invariant_of-result
 invariant_of-result c =
     let n : length c.in_ok-new-2.field-0 ≡ c.args.chunks = ap length c.in_ok-new-2.ensures ∙ length-replicate c.args.chunks false in
-    subst IsWhole (sym c.in_ok-new-6.ensures.ok) (record {
+    subst IsWhole (sym c.in_ok-new-7.ensures.ok) (record {
       ledger = unused_alike c.args.chunks c.args.passes c.requires.some_chunks c.requires.few_chunks c.requires.some_passes c.requires.few_passes c.in_ok-new.field-0 c.in_ok-new-2.field-0 c.in_ok-new-3.field-0
           c.in_ok-new.ensures c.in_ok-new-2.ensures c.in_ok-new-3.ensures;
       free = sym (ap (count_by not) c.in_ok-new-2.ensures ∙ all_clear c.args.chunks);

@@ -7,7 +7,7 @@ use Rattle.trie_write.specs.Spaces.{Ready, Fenced, IsWritable}
 use Rattle.evacuate.specs.Fillings.{Fills, Moves}
 use Rattle.evacuate.specs.Places.{Stood}
 use Rattle.evacuate.specs.Trails.{Found, Underway}
-use Rattle.evacuate.proofs.descent.move_found.Given as goal
+use Rattle.evacuate.proofs.descent.reach.Given as goal
 
 abbrev pub invariant-loop-branch : goal.invariant-loop-branch
 invariant-loop-branch g l =

@@ -4,7 +4,7 @@ use Rattle.trie_model.specs.Keys.{Entry}
 use Rattle.trie_read.specs.Reads.{EachTells}
 use Rattle.trie_write.specs.Spaces.{Ready}
 use Rattle.trie_write.specs.Standing.{Standing}
-use Rattle.evacuate_tests.proofs.tries.built_without.Given as goal
+use Rattle.evacuate_tests.proofs.tries.thinned.Given as goal
 
 abbrev pub invariant-loop-i : goal.invariant-loop-i
 invariant-loop-i g l =

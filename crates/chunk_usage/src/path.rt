@@ -1,0 +1,92 @@
+//! The first steps of a key's way through a trie, in a word.
+
+ghost use Rattle.std.specs.Prelude.{◌<◌, IfSome};
+
+/// How many steps a path says at most.
+pub const PATH_STEPS: u32 = 5;
+
+// Each step has six bits, the first the lowest: its position and 1, or 0 where the path ends before it.
+const STEP_BITS: u32 = 6;
+
+const STEP: u32 = 63;
+
+const ALL_STEPS: u32 = (1 << 30) - 1;
+
+/// The positions that a way from the root takes at its first branches, at most five. What comes behind them it doesn't say, nor at
+/// which offsets the branches are, so that it goes on to lead somewhere when others come between.
+#[derive(Clone, Copy, PartialEq, Eq, Debug)]
+pub struct Path {
+    steps: u32,
+}
+
+impl Path {
+    /// The path that says nothing.
+    #[inline]
+    pub fn none() -> Path {
+        Path { steps: 0 }
+    }
+
+    /// Whether it says nothing.
+    #[inline]
+    pub fn is_none(self) -> bool {
+        self.steps == 0
+    }
+
+    /// The position that it takes first.
+    #[inline]
+    pub fn first(self) -> Option<u8>
+        ensures { IfSome result (λ position. position < 47) }
+    {
+        let step = self.steps & STEP;
+        if step == 0 || step > 47 {
+            return None;
+        }
+        Some((step - 1) as u8)
+    }
+
+    /// What it says behind that.
+    #[inline]
+    pub fn rest(self) -> Path {
+        Path {
+            steps: self.steps >> STEP_BITS,
+        }
+    }
+
+    /// The path that takes a position first, and then these; the last one is left out where they are too many.
+    #[inline]
+    pub fn behind(self, position: u8) -> Path {
+        Path {
+            steps: ((self.steps << STEP_BITS) & ALL_STEPS) | step_of(position),
+        }
+    }
+
+    /// The path with one more step, which comes behind so many; it is left out where they are too many.
+    #[inline]
+    pub fn then(self, steps: u32, position: u8) -> Path {
+        if steps >= PATH_STEPS {
+            return self;
+        }
+        Path {
+            steps: self.steps | (step_of(position) << (STEP_BITS * steps)),
+        }
+    }
+
+    /// The path without steps behind so many.
+    #[inline]
+    pub fn cut(self, steps: u32) -> Path {
+        if steps >= PATH_STEPS {
+            return self;
+        }
+        Path {
+            steps: self.steps & ((1 << (STEP_BITS * steps)) - 1),
+        }
+    }
+}
+
+/// The bits of a step.
+#[inline]
+fn step_of(position: u8) -> u32
+    ensures { result < 64 }
+{
+    u32::from(position.min(46)) + 1
+}

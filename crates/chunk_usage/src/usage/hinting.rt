@@ -1,0 +1,60 @@
+//! On which paths chunks were written: guesses that save work, of which nothing is promised.
+
+ghost use Rattle.std.specs.Prelude.{◌≡◌, ◌≤◌};
+
+use super::Usage;
+use crate::path::Path;
+
+impl Usage {
+    /// What is written now lies on a path.
+    pub fn note(&mut self, path: Path)
+        ensures { self.new ≡ self.old }
+    {
+        let state = &mut *self.state;
+        state.hints.note(state.bump, path);
+    }
+
+    /// How many paths a chunk lists.
+    pub fn listed(&self, chunk: u32) -> usize
+        ensures { result ≤ 192 }
+    {
+        self.state.hints.count(chunk)
+    }
+
+    /// A path that a chunk lists, by its place in the list.
+    pub fn path(&self, chunk: u32, place: usize) -> Path {
+        self.state.hints.path(chunk, place)
+    }
+
+    /// A walk over all begins that is to list what the lists lack, and those of all sparse chunks.
+    pub fn begin_walk(&mut self)
+        ensures { self.new ≡ self.old }
+    {
+        let mut from = 0;
+        while let Some(chunk) = self.sparse_from(from) {
+            self.state.hints.mark_lacking(chunk);
+            from = chunk + 1;
+        }
+        let chunks = self.chunks();
+        self.state.hints.begin_walk(chunks);
+    }
+
+    /// It came to cells of a chunk, on a path.
+    pub fn pass(&mut self, chunk: u32, path: Path)
+        ensures { self.new ≡ self.old }
+    {
+        self.state.hints.pass(chunk, path);
+    }
+
+    /// It came to its end.
+    pub fn end_walk(&mut self)
+        ensures { self.new ≡ self.old }
+    {
+        self.state.hints.end_walk();
+    }
+
+    /// How many such walks there were.
+    pub fn walks(&self) -> u64 {
+        self.state.hints.walks()
+    }
+}
