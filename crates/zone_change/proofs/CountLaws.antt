@@ -1,5 +1,5 @@
 -- What an operation makes of what is counted of an entry, and why it is refused.
-use Rattle.std.proofs.Common.{◌≡◌, ◌≢◌, ◌∙◌, ℕ, zero, suc, ◌+◌, ◌-◌, ◌<◌, ◌≤◌, Bool, true, false, ◌||◌, ◌&&◌, not, cond, eqb, leb, ltb, List, [], ◌∷◌, ◌++◌, length, refl, sym, ap, subst, arith, Option, Some, None, Result, Ok, Err, length-append}
+use Rattle.std.proofs.Common.{◌≡◌, ◌≢◌, ◌∙◌, ℕ, zero, suc, ◌+◌, ◌-◌, ◌<◌, ◌≤◌, Bool, true, false, ◌||◌, ◌&&◌, not, cond, eqb, leb, ltb, List, [], ◌∷◌, ◌++◌, length, refl, sym, ap, subst, arith, Option, Some, None, Ok, Err, length-append}
 use Rattle.std.proofs.lemmas.Bool.Decides.{nat_tests}
 use borrow.Author.Tests.{eqb-true}
 use Rattle.std.specs.List.{flat_map}
@@ -10,16 +10,16 @@ use Rattle.std.specs.declared.cmp.Ordering.{Ordering}
 use Rattle.std.specs.declared.cmp.Ordering.TheVariants.{Less, Equal, Greater}
 use Rattle.std.specs.Ordering.{nat_cmp, match_ordering}
 use Rattle.zone_model.specs.Names.{Name, wire}
-use Rattle.zone_model.specs.Records.{Rrset, Entry, rrset_of, changed_at, with_record, without_record, has_record, with_rr, without_rr, without_set, fresh, joined, lessened, record_bytes, rrset_bytes, item, IsRrset, IsEntry, IsItem, RisingSets}
+use Rattle.zone_model.specs.Records.{Rrset, Entry, rrset_of, changed_at, with_record, without_record, has_record, with_rr, without_rr, without_set, fresh, joined, lessened, record_bytes, rrset_bytes, item, IsRrset, IsEntry, RisingSets}
 use Rattle.zone_model.proofs.EntryLaws.{entry_with, entry_without_set}
 use Rattle.zone_model.proofs.ItemLemmas.{few_in_item}
 use Rattle.zone_model.specs.Versions.{Addition, Add, with_added, with_soa, holds, is_lone, loses_soa, keeping_soa, fitting, is_low_soa, changed}
 use Rattle.zone_model.specs.declared.Refusal.{Refusal}
 use Rattle.zone_model.specs.declared.Refusal.TheVariants.{Soa, Cname, Long}
 use Rattle.rr_data.specs.ItemViews.{SaysEntry}
-use Rattle.zone_change.specs.Counts.{records_in, count_of, candidate, lone_by}
+use Rattle.zone_change.specs.Counts.{records_in, count_of, lone_by}
 use Rattle.zone_change.specs.declared.counting.Count.{Count}
-use Rattle.zone_change.proofs.FoundLaws.{Change, rises_on, none_above, changed_alike, left_alone, replaced, same_set, found_changed, found_beside, first_of, IsOf, StaysOf, is_found, weighed, record_joins, record_leaves, found_by}
+use Rattle.zone_change.proofs.FoundLaws.{Change, rises_on, changed_alike, replaced, found_changed, found_beside, first_of, IsOf, is_found, weighed, record_joins, record_leaves, found_by}
 
 -- ---- weights
 

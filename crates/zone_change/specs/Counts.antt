@@ -1,5 +1,5 @@
 -- What is counted of an entry, and what an operation makes of one before it is asked whether it may.
-use Rattle.std.specs.Prelude.{ℕ, Bool, ◌==◌, ◌||◌, ◌&&◌, nat_le, List, [], length, Option, Some, None, Result, Ok, Err}
+use Rattle.std.specs.Prelude.{ℕ, Bool, ◌==◌, ◌||◌, ◌&&◌, nat_le, [], length, Option, Some, None, Result, Ok, Err}
 use Rattle.zone_model.specs.Names.{Name}
 use Rattle.zone_model.specs.Records.{Rrset, Entry, rrset_of, item, without_rr, without_set}
 use Rattle.zone_model.specs.Versions.{Operation, Add, DeleteName, DeleteSet, DeleteRecord, cname_type, with_added}

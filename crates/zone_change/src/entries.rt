@@ -45,37 +45,40 @@ fn add_record(alloc: Global, entry: &mut Entry, record: &NewRecord) -> Result<()
 }
 
 // An entry with a record more.
-fn added(alloc: Global, record: &NewRecord, mut entry: Entry) -> Result<Entry, AllocError>
-    ensures { IfOk result (λ next. next ≡ with_added (addition_view «record».now) entry) }
+fn added(alloc: Global, record: &NewRecord, entry: &Entry) -> Result<Entry, AllocError>
+    ensures { IfOk result (λ next. next ≡ with_added (addition_view «record».now) entry.now) }
 {
-    add_record(alloc, &mut entry, record)?;
-    Ok(entry)
+    let mut next = entry.clone()?;
+    add_record(alloc, &mut next, record)?;
+    Ok(next)
 }
 
 // An entry without the RRset of a type.
-fn without_set(mut entry: Entry, rtype: u16) -> Entry
-    ensures { result ≡ without_set rtype entry }
+fn without_set(entry: &Entry, rtype: u16) -> Result<Entry, AllocError>
+    ensures { IfOk result (λ next. next ≡ without_set rtype entry.now) }
 {
-    entry.del_set(rtype);
-    entry
+    let mut rest = entry.clone()?;
+    rest.del_set(rtype);
+    Ok(rest)
 }
 
 // An entry without a record.
-fn without_record(mut entry: Entry, rtype: u16, rdata: &Rdata) -> Entry
-    ensures { result ≡ without_rr rtype rdata.now entry }
+fn without_record(entry: &Entry, rtype: u16, rdata: &Rdata) -> Result<Entry, AllocError>
+    ensures { IfOk result (λ next. next ≡ without_rr rtype rdata.now entry.now) }
 {
-    entry.del_one(rtype, rdata.octets());
-    entry
+    let mut rest = entry.clone()?;
+    rest.del_one(rtype, rdata.octets());
+    Ok(rest)
 }
 
 /// What an operation makes of its owner's entry, where it isn't refused.
-pub fn changed(alloc: Global, operation: &Operation, entry: Entry) -> Result<Entry, AllocError>
-    ensures { IfOk result (λ next. next ≡ candidate (operation_view operation.now) entry) }
+pub fn changed(alloc: Global, operation: &Operation, entry: &Entry) -> Result<Entry, AllocError>
+    ensures { IfOk result (λ next. next ≡ candidate (operation_view operation.now) entry.now) }
 {
     match operation {
         Operation::Add(record) => added(alloc, record, entry),
         Operation::DeleteName(_) => Ok(Entry::empty(alloc)),
-        Operation::DeleteSet(_, rtype) => Ok(without_set(entry, *rtype)),
-        Operation::DeleteRecord(_, rtype, rdata) => Ok(without_record(entry, *rtype, rdata)),
+        Operation::DeleteSet(_, rtype) => without_set(entry, *rtype),
+        Operation::DeleteRecord(_, rtype, rdata) => without_record(entry, *rtype, rdata),
     }
 }

@@ -1,5 +1,5 @@
 //! Text that is gathered in a buffer before it is written.
-ghost use Rattle.std.specs.Prelude.{◌≡◌, ◌≤◌, [], OnOk, OnErr};
+ghost use Rattle.std.specs.Prelude.{◌≡◌, ◌≤◌, [], OnOk, OnErr, length};
 ghost use Rattle.outer_io.specs.Bytes.{Grows, GrowsByFront};
 ghost use Rattle.outer_io.specs.Faults.{Rose};
 ghost use Rattle.zone_dump.specs.Writing.{Passes};
@@ -30,6 +30,7 @@ pub fn flush<K: Sink>(text: &mut Vec<u8>, sink: &mut K) -> Result<(), Failed>
 /// Writes what was gathered where that is long.
 pub fn flush_long<K: Sink>(text: &mut Vec<u8>, sink: &mut K) -> Result<(), Failed>
     ensures ok { OnOk result (Passes (K.held sink.old) (K.held sink.new) text.old.items text.new.items []) }
+    ensures short { OnOk result (length text.new.items ≤ 40960) }
     ensures err { OnErr result (GrowsByFront (K.held sink.old) (K.held sink.new) text.old.items) }
     ensures quiet { OnOk result (K.faults sink.new ≡ K.faults sink.old) }
     ensures later { K.faults sink.old ≤ K.faults sink.new }

@@ -54,7 +54,7 @@ fn both_entries(
         → IfOk result (λ x. (x.0 ≡ entry) × (x.1 ≡ candidate (operation_view operation.now) entry)) }
 {
     let before = entry_of(alloc, owner, octets)?;
-    let after = changed(alloc, operation, before.clone()?)?;
+    let after = changed(alloc, operation, &before)?;
     Ok((before, after))
 }
 

@@ -1,11 +1,8 @@
-use Rattle.std.proofs.Common.{◌≡◌, ◌≢◌, ◌∙◌, ◌≤◌, ℕ, length, ap, sym, subst, arith}
-use Rattle.zone_model.specs.Names.{Name}
-use Rattle.zone_model.specs.Records.{Entry, IsEntry}
+use Rattle.std.proofs.Common.{◌≡◌, ◌∙◌, sym, subst, arith}
+use Rattle.zone_model.specs.Records.{Entry}
 use Rattle.zone_model.specs.Versions.{with_added}
-use Rattle.rr_data.specs.ItemViews.{SaysEntry}
 use Rattle.zone_change.specs.Views.{addition_view}
 use Rattle.zone_change.specs.Counts.{count_of}
-use Rattle.zone_change.specs.declared.counting.Count.{Count}
 use Rattle.zone_change.proofs.CountLaws.{says_entry, entry_added, long_refused, added_fits}
 use Rattle.zone_change.proofs.refusals.addition_refused.Goals as goal
 

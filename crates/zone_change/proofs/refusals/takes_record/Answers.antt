@@ -1,4 +1,4 @@
-use Rattle.std.proofs.Common.{◌∙◌, ◌&&◌, Bool, length, ap, eqb, sym}
+use Rattle.std.proofs.Common.{◌∙◌, ◌&&◌, Bool, length, ap, sym}
 use Rattle.zone_model.specs.Records.{has_record}
 use Rattle.zone_change.proofs.CountLaws.{taken, other_kept, eqb_of, not_of}
 use Rattle.zone_change.proofs.refusals.takes_record.Goals as goal

@@ -1,4 +1,4 @@
-use Rattle.std.proofs.Common.{◌∙◌, ◌&&◌, Bool, ap, eqb, sym}
+use Rattle.std.proofs.Common.{◌∙◌, ◌&&◌, Bool, ap, sym}
 use Rattle.std.specs.Option.{is_some}
 use Rattle.zone_model.specs.Records.{rrset_of}
 use Rattle.zone_change.proofs.CountLaws.{set_lost, eqb_of, not_of}

@@ -1,4 +1,4 @@
-use Rattle.std.proofs.Common.{◌≡◌, ◌∙◌, ◌+◌, false, true, List, ℕ, length, sym, ap, subst}
+use Rattle.std.proofs.Common.{◌≡◌, ◌∙◌, ◌+◌, List, ℕ, length, sym, ap, subst}
 use Rattle.zone_model.specs.Records.{has_record}
 use Rattle.zone_model.specs.Versions.{with_added}
 use Rattle.zone_change.specs.Views.{addition_view}
