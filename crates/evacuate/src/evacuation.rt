@@ -126,13 +126,30 @@ fn empty_listed<C: CellWrite>(cells: &mut C, usage: &mut Usage, root: Ref) -> Op
     ensures left { result ≡ Some Done.Stopped → (given : List Bool) → Fills given usage.old → HasSparse usage.new }
     ensures ready { Ready C.kept C.given reserve_account_of cells.new usage.new }
 {
-    match try_lists(cells, usage, root) {
+    match known_lists(cells, usage, root) {
         None => {
             survey(cells, usage, root);
             try_lists(cells, usage, root)
         }
         done => done,
     }
+}
+
+/// The same with the lists that there are, unless they are known to lack something.
+fn known_lists<C: CellWrite>(cells: &mut C, usage: &mut Usage, root: Ref) -> Option<Done>
+    requires stood { IsStood C.has cells.old usage.old root }
+    requires writable { IsWritable C.given reserve_account_of cells.old usage.old root }
+    requires ready { Ready C.kept C.given reserve_account_of cells.old usage.old }
+    ensures rearranged { Rearranged C.has C.kept C.given root cells.old usage.old cells.new usage.new }
+    ensures whole { result ≡ Some Done.Whole → IsCleared usage.new }
+    ensures full { result ≡ Some Done.Stopped → IsFull usage.new }
+    ensures left { result ≡ Some Done.Stopped → (given : List Bool) → Fills given usage.old → HasSparse usage.new }
+    ensures ready { Ready C.kept C.given reserve_account_of cells.new usage.new }
+{
+    if usage.is_any_lacking() {
+        return None;
+    }
+    try_lists(cells, usage, root)
 }
 
 /// The same with the lists that there are. What is moved away may leave further chunks sparse, so there are some rounds.
