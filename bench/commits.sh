@@ -1,7 +1,10 @@
 #!/usr/bin/env bash
-# Tells what commits of the shared index take over many names: builds bench/commits.rattle in a copy of the crates that it needs,
-# which takes some minutes the first time, and runs it on 10,000, 100,000 and 500,000 names. A figure is that of the quickest of
-# five runs. Usage: bench/commits.sh [PROGRAM], one that was built before. Changes nothing but files in a temporary folder.
+# Tells what commits of the shared index take at names drawn at random: builds bench/commits.rattle in a copy of the crates that it needs,
+# which takes some minutes the first time, and runs it on 10,000, 100,000 and 500,000 names like `hq3k9x2`. KIND is `exchange` (one item by a
+# `write`), `four` (two names out, and the two before in again), `below` (a name put in below another, and the one before taken out), `update`
+# (one item by an `update`) or `thin` (nine names of ten taken out by one `write`). Nanoseconds are of one run; instructions (valgrind's
+# callgrind) are the difference of 3,000 and 1,000 transactions.
+# Usage: bench/commits.sh [PROGRAM], one that was built before. Changes nothing but files in a temporary folder.
 set -eu
 here=$(cd "$(dirname "$0")" && pwd)
 folder=$(mktemp -d)
@@ -20,7 +23,7 @@ build() {
     cp "$here/commits.rattle" "$crate/src/main.rt"
     {
         grep -E "^($(tr ' ' '|' <<<"$below"))[ :]" "$here/../crates.txt"
-        printf '%s\n' 'commits may_wait=11: dns_name shift_key trie_model trie_write shared_index'
+        printf '%s\n' 'commits may_wait=8: dns_name shift_key trie_model trie_write shared_index'
     } >"$folder/crates.txt"
 
     # the program's proofs, each under a line with its name
@@ -101,26 +104,26 @@ invariant-loop-left l = record {
 
 abbrev pub decreases-loop-left : goal.decreases-loop-left
 decreases-loop-left l = l.left
-== take_out_most/Invariants.antt
+== apply_all/Invariants.antt
 use Rattle.std.proofs.Common.{◌≡◌}
 use Rattle.std.specs.Prelude.{IsSomeAnd}
 use Rattle.shared_index.specs.Drafts.{Works}
-use Rattle.commits.proofs.take_out_most.Given as goal
+use Rattle.commits.proofs.apply_all.Given as goal
 
-abbrev pub invariant-loop-number : goal.invariant-loop-number
-invariant-loop-number g l = record {
+abbrev pub invariant-loop-operation : goal.invariant-loop-operation
+invariant-loop-operation g l = record {
   home : l.transaction.home.ghost_name ≡ l.fn.transaction.home.ghost_name;
   locked : l.transaction.locked.ghost_name ≡ l.fn.transaction.locked.ghost_name;
   place : l.transaction.locked.now.place ≡ l.fn.transaction.locked.now.place;
   works : IsSomeAnd l.transaction.locked.now.draft Works;
 }
-== rewrite/Invariants.antt
+== commit_all/Invariants.antt
 use Rattle.std.proofs.Common.{◌≡◌}
 use Rattle.std.specs.Prelude.{IsSome}
-use Rattle.commits.proofs.rewrite.Given as goal
+use Rattle.commits.proofs.commit_all.Given as goal
 
-abbrev pub invariant-loop-turn : goal.invariant-loop-turn
-invariant-loop-turn g l = (IsSome l.pass.seat) × (l.pass.place ≡ l.index.place)
+abbrev pub invariant-loop-block : goal.invariant-loop-block
+invariant-loop-block g l = (IsSome l.pass.seat) × (l.pass.place ≡ l.index.place)
 == play/Invariants.antt
 use Rattle.std.proofs.Common.{[], ◌∷◌}
 use Rattle.commits.proofs.play.Given as goal
@@ -130,23 +133,57 @@ ghosts-run g a = record { tables = a.blank.shared.table.shared.table_id ∷ [] }
 PROOFS
 
     git -C "$folder" init -q
-    (cd "$crate" && rt run -- thin 10 </dev/null >"$folder/build" 2>&1) || true
+    (cd "$crate" && rt run </dev/null >"$folder/build" 2>&1) || true
     [ -x "$program" ] || { tail -20 "$folder/build"; exit 1; }
 }
 [ $# -gt 0 ] || build
 
-# the least of each number that five runs print
-least() {
-    for _ in 1 2 3 4 5; do "$program" "$@"; done | awk '
-        { for (i = 1; i <= NF; i++) if (NR == 1 || $i < low[i]) low[i] = $i }
-        END { print low[1], low[2], low[3], low[4], low[5] }'
+# NAMES names, and COUNT transactions of a kind
+input() {
+    python3 - "$1" "$2" "$3" <<'PY'
+import random
+import sys
+
+count, most, kind = int(sys.argv[1]), int(sys.argv[2]), sys.argv[3]
+letters = "abcdefghijklmnopqrstuvwxyz0123456789"
+draw = random.Random(3)
+names = set()
+while len(names) < count:
+    names.add("".join(draw.choice(letters) for _ in range(draw.randint(5, 12))))
+names = sorted(names)
+print("example.")
+for name in names:
+    print(f"{name}.example.")
+if kind == "thin":
+    print(">w" + "".join(f" -{name}.example." for i, name in enumerate(names) if i % 10))
+before = []
+for _ in range(most if kind != "thin" else 0):
+    now = draw.sample(names, 2 if kind == "four" else 1)
+    out, put = (now, before) if kind == "four" else (before, now)
+    mark = "_acme-challenge." if kind == "below" else ""
+    if kind in ("four", "below"):
+        words = [f"-{mark}{name}.example." for name in out if name not in put]
+        words += [f"+{mark}{name}.example." for name in put if name not in out]
+        before = now
+    else:
+        words = [f"={now[0]}.example."]
+    if words:
+        print(">u" if kind == "update" else ">w", *words)
+PY
+}
+counted() {
+    input "$1" "$2" "$3" >"$folder/input"
+    valgrind --tool=callgrind --callgrind-out-file=/dev/null "$program" <"$folder/input" 2>&1 >/dev/null | sed -n 's/.*Collected : //p'
 }
 for names in 10000 100000 500000; do
-    for kind in write update; do
-        read -r middle mean most compaction count <<<"$(least "$kind" "$names")"
-        printf '%s names, %s %ss: middle %s ns, mean %s ns, worst %s ns; compaction behind that %s ns\n' \
-            "$names" "$count" "$kind" "$middle" "$mean" "$most" "$compaction"
+    for kind in exchange four below update; do
+        input "$names" 20000 "$kind" >"$folder/input"
+        read -r middle mean most count <<<"$("$program" <"$folder/input")"
+        printf '%s names, %s, %s transactions: middle %s ns, mean %s ns, slowest %s ns; %s instructions\n' \
+            "$names" "$kind" "$count" "$middle" "$mean" "$most" \
+            $((($(counted "$names" 3000 "$kind") - $(counted "$names" 1000 "$kind")) / 2000))
     done
-    read -r left _ <<<"$(least thin "$names")"
-    printf '%s names, nine of ten taken out: the commit %s ns for each that is left\n' "$names" $((left / (names / 10)))
+    input "$names" 1 thin >"$folder/input"
+    read -r middle _ <<<"$("$program" <"$folder/input")"
+    printf '%s names, nine of ten taken out: %s ns for each\n' "$names" $((middle / (names / 10 * 9)))
 done

@@ -59,7 +59,7 @@ impl Hints {
 
     /// How many paths a chunk lists.
     pub fn count(&self, chunk: u32) -> usize
-        ensures { result ≤ 192 }
+        ensures { result ≤ 512 }
     {
         self.lists.count(chunk)
     }
@@ -84,16 +84,23 @@ impl Hints {
         }
     }
 
-    /// It came to cells of a chunk, on a path.
-    pub fn pass(&mut self, chunk: u32, path: Path) {
-        if self.is_lacking(chunk) {
+    /// It came to cells of a chunk, on a path. Where that isn't needed now, some room is left for others.
+    pub fn pass(&mut self, chunk: u32, path: Path, needed: bool) {
+        if self.is_lacking(chunk) && (needed || self.lists.has_much_room()) {
             self.lists.push(chunk, path);
         }
     }
 
-    /// It came to its end: nothing is lacking.
+    /// It came to its end: nothing is lacking, if there was room.
     pub fn end_walk(&mut self) {
-        self.lacking.fill(false);
+        if self.lists.has_much_room() {
+            self.lacking.fill(false);
+        }
+    }
+
+    /// Whether a chunk has cells on paths that its list may lack.
+    pub fn is_lacking(&self, chunk: u32) -> bool {
+        matches!(self.lacking.get(chunk as usize), Some(true))
     }
 
     /// How many such walks there were.
@@ -101,14 +108,11 @@ impl Hints {
         self.walks
     }
 
-    fn is_lacking(&self, chunk: u32) -> bool {
-        matches!(self.lacking.get(chunk as usize), Some(true))
-    }
-
     // Lists a path for a chunk. One that says nothing is of no use.
     fn list(&mut self, chunk: u32, path: Path) {
-        if path.is_none() || !self.lists.push(chunk, path) {
+        if !self.is_lacking(chunk) && (path.is_none() || !self.lists.push(chunk, path)) {
             self.mark_lacking(chunk);
+            self.lists.clear(chunk);
         }
     }
 }

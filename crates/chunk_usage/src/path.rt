@@ -70,17 +70,6 @@ impl Path {
             steps: self.steps | (step_of(position) << (STEP_BITS * steps)),
         }
     }
-
-    /// The path without steps behind so many.
-    #[inline]
-    pub fn cut(self, steps: u32) -> Path {
-        if steps >= PATH_STEPS {
-            return self;
-        }
-        Path {
-            steps: self.steps & ((1 << (STEP_BITS * steps)) - 1),
-        }
-    }
 }
 
 /// The bits of a step.

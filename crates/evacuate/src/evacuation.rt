@@ -24,6 +24,9 @@ use chunk_cells::CellWrite;
 use chunk_usage::Usage;
 use packed_node::{Ref, chunk_of};
 
+// How often the lists of sparse chunks are gone through before they are made anew.
+const ROUNDS: u32 = 4;
+
 /// How an evacuation ended.
 #[derive(Clone, Copy, PartialEq, Eq, Debug)]
 pub enum Done {
@@ -123,7 +126,7 @@ fn empty_listed<C: CellWrite>(cells: &mut C, usage: &mut Usage, root: Ref) -> Op
     ensures left { result ≡ Some Done.Stopped → (given : List Bool) → Fills given usage.old → HasSparse usage.new }
     ensures ready { Ready C.kept C.given reserve_account_of cells.new usage.new }
 {
-    match try_lists(cells, usage, root) {
+    match known_lists(cells, usage, root) {
         None => {
             survey(cells, usage, root);
             try_lists(cells, usage, root)
@@ -132,7 +135,24 @@ fn empty_listed<C: CellWrite>(cells: &mut C, usage: &mut Usage, root: Ref) -> Op
     }
 }
 
-/// The same with the lists that there are.
+/// The same with the lists that there are, unless they are known to lack something.
+fn known_lists<C: CellWrite>(cells: &mut C, usage: &mut Usage, root: Ref) -> Option<Done>
+    requires stood { IsStood C.has cells.old usage.old root }
+    requires writable { IsWritable C.given reserve_account_of cells.old usage.old root }
+    requires ready { Ready C.kept C.given reserve_account_of cells.old usage.old }
+    ensures rearranged { Rearranged C.has C.kept C.given root cells.old usage.old cells.new usage.new }
+    ensures whole { result ≡ Some Done.Whole → IsCleared usage.new }
+    ensures full { result ≡ Some Done.Stopped → IsFull usage.new }
+    ensures left { result ≡ Some Done.Stopped → (given : List Bool) → Fills given usage.old → HasSparse usage.new }
+    ensures ready { Ready C.kept C.given reserve_account_of cells.new usage.new }
+{
+    if usage.is_any_lacking() {
+        return None;
+    }
+    try_lists(cells, usage, root)
+}
+
+/// The same with the lists that there are. What is moved away may leave further chunks sparse, so there are some rounds.
 fn try_lists<C: CellWrite>(cells: &mut C, usage: &mut Usage, root: Ref) -> Option<Done>
     requires stood { IsStood C.has cells.old usage.old root }
     requires writable { IsWritable C.given reserve_account_of cells.old usage.old root }
@@ -143,15 +163,14 @@ fn try_lists<C: CellWrite>(cells: &mut C, usage: &mut Usage, root: Ref) -> Optio
     ensures left { result ≡ Some Done.Stopped → (given : List Bool) → Fills given usage.old → HasSparse usage.new }
     ensures ready { Ready C.kept C.given reserve_account_of cells.new usage.new }
 {
-    match move_listed(cells, usage, root) {
-        Err(_) => Some(Done::Stopped),
-        Ok(()) => {
-            if is_any_sparse(usage) {
-                return None;
-            }
-            Some(Done::Whole)
+    for _ in 0..ROUNDS {
+        match move_listed(cells, usage, root) {
+            Err(_) => return Some(Done::Stopped),
+            Ok(()) if !is_any_sparse(usage) => return Some(Done::Whole),
+            Ok(()) => {}
         }
     }
+    None
 }
 
 /// Whether what was moved was the last of its chunk, and of all sparse chunks.

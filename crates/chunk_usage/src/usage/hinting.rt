@@ -16,7 +16,7 @@ impl Usage {
 
     /// How many paths a chunk lists.
     pub fn listed(&self, chunk: u32) -> usize
-        ensures { result ≤ 192 }
+        ensures { result ≤ 512 }
     {
         self.state.hints.count(chunk)
     }
@@ -43,7 +43,8 @@ impl Usage {
     pub fn pass(&mut self, chunk: u32, path: Path)
         ensures { self.new ≡ self.old }
     {
-        self.state.hints.pass(chunk, path);
+        let needed = self.is_sparse(chunk);
+        self.state.hints.pass(chunk, path, needed);
     }
 
     /// It came to its end.
@@ -51,6 +52,18 @@ impl Usage {
         ensures { self.new ≡ self.old }
     {
         self.state.hints.end_walk();
+    }
+
+    /// Whether some sparse chunk has cells on paths that its list may lack.
+    pub fn is_any_lacking(&self) -> bool {
+        let mut from = 0;
+        while let Some(chunk) = self.sparse_from(from) {
+            if self.state.hints.is_lacking(chunk) {
+                return true;
+            }
+            from = chunk + 1;
+        }
+        false
     }
 
     /// How many such walks there were.
