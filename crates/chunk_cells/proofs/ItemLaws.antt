@@ -1,7 +1,7 @@
 -- The octets of an item, as its cells' words give them.
-use Rattle.std.proofs.Common.{◌≡◌, ℕ, zero, suc, ◌+◌, ◌-◌, ◌<◌, ◌≤◌, inl, inr, List, [], ◌∷◌, ◌++◌, length, take, drop, get_or, slice_index, arith, refl, sym, ◌∙◌, ap, get_or-drop, get_or-take, length-take, length-take-le, take-append-drop, ext_get_or}
+use Rattle.std.proofs.Common.{◌≡◌, ℕ, zero, suc, ◌+◌, ◌-◌, ◌<◌, ◌≤◌, inl, inr, List, [], ◌∷◌, ◌++◌, length, take, drop, get_or, slice_index, arith, refl, sym, ◌∙◌, ap, get_or-drop, get_or-take, length-take, length-take-le, length-append, append-nil, take-append-drop, ext_get_or}
 use Rattle.std.proofs.lemmas.Nat.{le_bytes_8}
-use Rattle.std.proofs.lemmas.List.{get_or_past, get_or-append_right, get_or_append_left}
+use Rattle.std.proofs.lemmas.List.{length-drop, drop_at, drop_all, get_or_past, get_or-append_right, get_or_append_left}
 use Rattle.std.proofs.lemmas.Bool.{cases_lt}
 use Rattle.std.specs.Int.{w64, from_le_bytes, to_le_bytes}
 use Rattle.packed_node.specs.declared.Cell.{Cell}
@@ -14,6 +14,28 @@ put_mid_at a n xs ys k l m =
     let whole : length (take a xs) ≡ a = length-take-le a xs l in
     get_or-append_right (take a xs) (ys ++ post_of a n xs) a (a + k) 0 whole (omega arith)
     ∙ ap (λ i. get_or (ys ++ post_of a n xs) i 0) e ∙ get_or_append_left ys (post_of a n xs) 0 k m
+
+-- and what is before it stays
+pub put_mid_before : (a n : ℕ) (xs ys : List ℕ) (k : ℕ) → a ≤ length xs → k < a → get_or (put_mid a n xs ys) k 0 ≡ get_or xs k 0
+put_mid_before a n xs ys k l m =
+    let whole : length (take a xs) ≡ a = length-take-le a xs l in
+    get_or_append_left (take a xs) (ys ++ post_of a n xs) 0 k (omega arith) ∙ get_or-take a xs k 0 m
+
+pub put_mid_past : (a n : ℕ) (xs ys : List ℕ) (k : ℕ) → a ≤ length xs → length ys ≤ n → length xs ≤ a + n → a + n ≤ k → get_or (put_mid a n xs ys) k 0 ≡ 0
+put_mid_past a n xs ys k l m p q =
+    let front = length-take-le a xs l in
+    let post = length-drop n (drop a xs) in
+    let behind = length-drop a xs in
+    let b = length-append ys (post_of a n xs) in
+    let c = length-append (take a xs) (ys ++ post_of a n xs) in
+    get_or_past (put_mid a n xs ys) k 0 (omega arith)
+
+-- the end of a slice that was written
+pub put_mid_end : (a n : ℕ) (xs ys : List ℕ) → a ≤ length xs → length xs ≤ a + n → drop a (put_mid a n xs ys) ≡ ys
+put_mid_end a n xs ys l m =
+    let whole : length (take a xs) ≡ a = length-take-le a xs l in
+    let behind = length-drop a xs in
+    drop_at (take a xs) (ys ++ post_of a n xs) a whole ∙ ap (λ (zs : List ℕ). ys ++ zs) (drop_all n (drop a xs) (omega arith)) ∙ append-nil ys
 
 -- the first eight octets
 abbrev eight : List ℕ → List ℕ

@@ -1,1 +1,2 @@
-mod ItemLaws
+pub mod ItemLaws
+pub mod LayingLaws

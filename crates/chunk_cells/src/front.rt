@@ -2,28 +2,25 @@
 
 ghost use Rattle.std.specs.Prelude.{◌≡◌, ◌+◌, ◌/◌, ◌<◌, ◌≤◌, ◌↔◌, ◌++◌, ℕ, List, IsTrue, length, drop, slice_index};
 ghost use Rattle.std.specs.Int.{w64, from_le_bytes};
-ghost use Rattle.packed_node.specs.declared.Cell.{Cell};
-ghost use Rattle.trie_model.specs.Keys.{IsItem};
-ghost use Rattle.trie_model.specs.Trees.{IsRow};
-ghost use Rattle.trie_model.specs.Memory.{ItemLies};
+ghost use Rattle.trie_model.specs.Extents.{HasItem};
+ghost use Rattle.trie_model.specs.Keys.{AreOctets};
 
 use super::CellRead;
-use super::item::{cells_for, whole_word};
+use super::extents::content_cells_for;
+use super::writing::whole_word;
 use packed_node::{Cell, Leaf};
 
 /// Whether a leaf's item begins with these octets, at most 256. Nothing is copied.
 pub fn begins_with<C: CellRead>(cells: &mut C, leaf: Leaf, octets: &[u8]) -> bool
     requires few { length octets.now ≤ 256 }
-    requires row { IsRow leaf.at ((leaf.len + 15) / 16) }
-    requires there { (k : ℕ) → k < (leaf.len + 15) / 16 → (c : Cell) × C.has cells.old (leaf.at + k) c }
+    requires there { (item : List ℕ) × HasItem (C.has cells.old) leaf.at leaf.len item }
     ensures same { cells.new ≡ cells.old }
-    ensures value { (item : List ℕ) → IsItem item → length item ≡ leaf.len → ItemLies (C.has cells.old) leaf.at item
-        → IsTrue result ↔ ((rest : List ℕ) × (item ≡ octets.now ++ rest)) }
+    ensures value { (item : List ℕ) → AreOctets item → HasItem (C.has cells.old) leaf.at leaf.len item → IsTrue result ↔ ((rest : List ℕ) × (item ≡ octets.now ++ rest)) }
 {
     if octets.len() > leaf.len as usize {
         return false;
     }
-    for k in 0..cells_for(octets.len() as u16) {
+    for k in 0..content_cells_for(octets.len() as u16) {
         let cell = cells.cell(leaf.at + k);
         let start = 16 * k as usize;
         if !cell_says(cell, octets, start) {

@@ -6,14 +6,18 @@
 
 ghost use Rattle.std.specs.Prelude.{◌≡◌, ◌≢◌, ◌/◌, ℕ};
 
+pub mod extents;
 mod front;
-pub mod item;
 pub mod plain;
+mod reading;
+mod writing;
 
+pub use extents::{Extents, cells_for};
 pub use front::begins_with;
-pub use item::{read_front, read_item, write_item};
 use packed_node::{Cell, Ref};
 pub use plain::PlainCells;
+pub use reading::{read_front, read_item};
+pub use writing::write_item;
 
 /// Cells that can be read: a memory, which has some cell at some of the references.
 pub trait CellRead {

@@ -3,7 +3,8 @@ use Rattle.std.proofs.Common.{◌≡◌, ◌≢◌, ℕ, zero, suc, ◌+◌, ◌
 use Rattle.std.proofs.lemmas.Bool.{cases_eq, cases_lt}
 use Rattle.std.proofs.lemmas.Bool.Decides.{nat_tests}
 use Rattle.std.proofs.lemmas.List.{get_or-set_same, get_or-set_other, get_or_past, set_past}
-use Rattle.trie_model.specs.Reach.{row, in_chunk}
+use Rattle.trie_model.specs.Extents.{row}
+use Rattle.trie_model.specs.Reach.{in_chunk}
 
 in_it : (k r : ℕ) → r / 1024 ≡ k → in_chunk k r ≡ 1
 in_it k r e = grind (arith, nat_tests)

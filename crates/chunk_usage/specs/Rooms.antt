@@ -1,7 +1,7 @@
 -- Cells that are handed out, and what stays as it is while they are.
 use Rattle.std.specs.Prelude.{◌≡◌, ◌⊎◌, ℕ, ◌+◌, ◌/◌, ◌<◌, Bool, true, false, List, Option, Some, None, slice_set, slice_index}
-use Rattle.trie_model.specs.Trees.{IsRow}
-use Rattle.trie_model.specs.Reach.{row, in_chunk}
+use Rattle.trie_model.specs.Extents.{IsRow, row}
+use Rattle.trie_model.specs.Reach.{in_chunk}
 use Rattle.chunk_cells.specs.Chunks.{IsGiven, IsFree}
 use Rattle.chunk_usage.specs.Ledger.{Ledger, Frozen, is_open, is_used, is_mutable, frozen_part, reserved}
 use Rattle.chunk_usage.specs.Handing.{spent}

@@ -21,7 +21,7 @@ use Rattle.chunk_usage.specs.Ledger.{Ledger, IsLedger, is_given, is_open, is_use
 use Rattle.chunk_usage.specs.Rooms.{Grows, reserve_account_of}
 use Rattle.chunk_usage.proofs.FlagLemmas.{set_within}
 use Rattle.chunk_usage.proofs.SpaceLaws.{used_given}
-use Rattle.trie_model.proofs.ReachLaws.{first_true}
+use Rattle.trie_model.proofs.ExtentLaws.{first_true}
 use Rattle.trie_write.specs.Spaces.{Ready, Fenced}
 use Rattle.trie_write.specs.Standing.{StandsIn}
 use Rattle.trie_write.proofs.ChangeLaws.{stands_rooted, rooted_stands}

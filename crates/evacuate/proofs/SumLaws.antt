@@ -1,10 +1,12 @@
 -- What counts in all chunks is at most what a trie reaches.
-use Rattle.std.proofs.Common.{◌≡◌, ℕ, zero, suc, ◌+◌, ◌/◌, ◌<◌, ◌≤◌, Bool, true, false, List, [], ◌∷◌, cond, length, slice_index, inl, inr, arith, refl, ap}
+use Rattle.std.proofs.Common.{◌≡◌, ℕ, zero, suc, ◌+◌, ◌-◌, ◌/◌, ◌<◌, ◌≤◌, Bool, true, false, List, [], ◌∷◌, cond, length, slice_index, inl, inr, arith, refl, ap}
 use Rattle.std.specs.Prelude.{◌==◌}
 use Rattle.std.proofs.lemmas.Bool.{cases_eq}
 use Rattle.std.proofs.lemmas.Bool.Decides.{nat_tests}
-use Rattle.trie_model.specs.Reach.{row, in_chunk, weigh_tree, weigh}
-use Rattle.trie_model.specs.Trees.{Tree, Twigs, cells_in}
+use Rattle.trie_model.specs.Extents.{Extents, content_cells, linked_cells, row, weigh_extents}
+use Rattle.trie_model.specs.Extents.Extents.{last, linked}
+use Rattle.trie_model.specs.Reach.{in_chunk, weigh_tree, weigh}
+use Rattle.trie_model.specs.Trees.{Tree, Twigs}
 use Rattle.trie_model.specs.Trees.Tree.{leaf, branch}
 use Rattle.trie_model.specs.Trees.Twigs.{none, twig}
 use Rattle.trie_model.proofs.SizeLaws.{one, row_ones}
@@ -48,9 +50,15 @@ row_from n a r zero = let z = none n a in omega arith
     none (suc n) a = let e = none n (suc a) in omega arith
 row_from n a r (suc m) = let e = sum_add n a (λ k. in_chunk k r) (λ k. row (in_chunk k) (suc r) m) in let h = one_from r n a in let t = row_from n a (suc r) m in omega arith
 
+extents_from : (n a m : ℕ) (x : Extents) → sum_from n a (λ k. weigh_extents (in_chunk k) m x) ≤ weigh_extents one m x
+extents_from n a m (last r) = let h = row_from n a r (content_cells m) in let o = row_ones r (content_cells m) in omega arith
+extents_from n a m (linked r x) =
+    let d = sum_add n a (λ k. row (in_chunk k) r linked_cells) (λ k. weigh_extents (in_chunk k) (m - 4080) x) in
+    let h = row_from n a r linked_cells in let o = row_ones r linked_cells in let y = extents_from n a (m - 4080) x in omega arith
+
 abbrev mutual
   tree_from : (n a : ℕ) (t : Tree) → sum_from n a (λ k. weigh_tree (in_chunk k) t) ≤ weigh_tree one t
-  tree_from n a (leaf e w) = let h = row_from n a w (cells_in e.item) in let o = row_ones w (cells_in e.item) in omega arith
+  tree_from n a (leaf e x) = extents_from n a (length e.item) x
   tree_from n a (branch o w below) = twigs_from n a w below
 
   twigs_from : (n a r : ℕ) (ts : Twigs) → sum_from n a (λ k. weigh (in_chunk k) r ts) ≤ weigh one r ts

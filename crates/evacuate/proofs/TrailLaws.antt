@@ -6,9 +6,10 @@ use Rattle.packed_node.specs.declared.Branch.{Branch}
 use Rattle.packed_node.specs.declared.Leaf.{Leaf}
 use Rattle.packed_node.specs.declared.Node.{Node}
 use Rattle.packed_node.specs.Nodes.{IsNode, packed}
+use Rattle.trie_model.specs.Extents.{IsRow, row}
 use Rattle.trie_model.specs.Memory.{top_cell, node_of, Beneath, Lie}
-use Rattle.trie_model.specs.Reach.{row, in_chunk, weigh_tree}
-use Rattle.trie_model.specs.Trees.{Tree, Twigs, count, beside, IsTree, AreTwigs, IsRow}
+use Rattle.trie_model.specs.Reach.{in_chunk, weigh_tree}
+use Rattle.trie_model.specs.Trees.{Tree, Twigs, count, beside, IsTree, AreTwigs}
 use Rattle.trie_model.specs.Trees.Tree.{leaf, branch}
 use Rattle.trie_model.specs.Trees.Twigs.{none, twig}
 use Rattle.trie_model.proofs.BitmapLaws.{ones_of}

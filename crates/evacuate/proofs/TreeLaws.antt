@@ -1,11 +1,18 @@
 -- A tree of which the cells that hang on one node are moved.
-use Rattle.std.proofs.Common.{◌≡◌, ℕ, ◌+◌, ◌/◌, ◌<◌, ◌≤◌, ◌++◌, Bool, true, List, slice_index, count_ones, arith, refl, sym, ◌∙◌, ap, subst}
+use Rattle.std.proofs.Common.{◌≡◌, ℕ, ◌+◌, ◌/◌, ◌<◌, ◌≤◌, ◌++◌, Bool, true, List, length, drop, inl, inr, slice_index, count_ones, arith, refl, sym, ◌∙◌, ap, subst}
 use Rattle.packed_node.specs.declared.Cell.{Cell}
 use Rattle.packed_node.specs.Nodes.{IsNode, packed}
+use Rattle.packed_node.specs.declared.Node.TheVariants as node
+use Rattle.trie_model.specs.Extents.{Extents, first_of as first_cell_of, linked_cells, content_cells, AreExtents, IsRow, ItemLies, item_cell, link_cell, row, weigh_extents, WithinExtents}
+use Rattle.trie_model.specs.Extents.Extents.{last, linked}
+use Rattle.trie_model.proofs.ExtentLaws.{linked_is, item_kept}
+use Rattle.std.proofs.lemmas.Bool.{cases_lt}
+use Rattle.std.proofs.lemmas.Bool.Decides.{nat_tests}
+use Rattle.std.proofs.lemmas.List.{length-drop}
 use Rattle.trie_model.specs.Keys.{Entry}
-use Rattle.trie_model.specs.Memory.{top_cell, node_of, item_cell, Beneath}
-use Rattle.trie_model.specs.Reach.{row, in_chunk, weigh_tree, WithinTree}
-use Rattle.trie_model.specs.Trees.{Tree, Twigs, entries_of, count, bitmap_of, IsRow, IsTree}
+use Rattle.trie_model.specs.Memory.{top_cell, node_of, Beneath}
+use Rattle.trie_model.specs.Reach.{in_chunk, weigh_tree, WithinTree}
+use Rattle.trie_model.specs.Trees.{Tree, Twigs, entries_of, count, bitmap_of, IsTree}
 use Rattle.trie_model.specs.Trees.Tree.{leaf, branch}
 use Rattle.trie_model.proofs.BitmapLaws.{ones_of, few}
 use Rattle.trie_model.proofs.CountLaws.{weigh_is}
@@ -25,7 +32,7 @@ use Rattle.trie_write.specs.Weights.{at_place, mark}
 use Rattle.trie_write.proofs.PutLaws.{met_used, rooted_within, end_hangs, put_rooted}
 use Rattle.trie_write.proofs.WayLaws.{low_at, end_tree, plug_tree, follows_same, before, after, entries_plug}
 use Rattle.trie_write.proofs.WeightLaws.{at_itself, handed_fresh}
-use Rattle.evacuate.specs.Places.{first_of, width_of, put_at, moved, Stood, Hung}
+use Rattle.evacuate.specs.Places.{first_of, first_width, width_of, put_at, put_first, moved, Stood, Hung}
 
 -- ---- one tree
 
@@ -38,8 +45,62 @@ width t = width_of (node_of t)
 width_branch : (low o w : ℕ) (below : Twigs) → IsTree low (branch o w below) → count_ones (bitmap_of below) ≡ count below
 width_branch low o w below h = ones_of 0 47 below (rising_of o 0 below (let z : 0 ≤ 47 = omega arith in z) h.5)
 
+-- an item's first extent
+width_last : (n : ℕ) → n ≤ 4096 → first_width n ≡ content_cells n
+width_last n l = grind (arith, nat_tests)
+
+width_linked : (n : ℕ) → 4096 < n → first_width n ≡ linked_cells
+width_linked n l = grind (arith, nat_tests)
+
+put_there : (x : Extents) (to : ℕ) → first_cell_of (put_first x to) ≡ to
+put_there (last r) to = refl
+put_there (linked r x) to = refl
+
+put_are : (n : ℕ) (x : Extents) (to : ℕ) → AreExtents n x → IsRow to (first_width n) → AreExtents n (put_first x to)
+put_are n (last r) to h row = (h.0, subst (IsRow to) (width_last n h.0) row)
+put_are n (linked r x) to h row = (h.0, subst (IsRow to) (width_linked n h.0) row, h.2)
+
+put_weigh : (w : ℕ → ℕ) (n : ℕ) (x : Extents) (to : ℕ) → AreExtents n x → weigh_extents w n (put_first x to) + row w (first_cell_of x) (first_width n) ≡ weigh_extents w n x + row w to (first_width n)
+put_weigh w n (last r) to h = let e = ap (row w r) (width_last n h.0) in let f = ap (row w to) (width_last n h.0) in omega arith
+put_weigh w n (linked r x) to h = let e = ap (row w r) (width_linked n h.0) in let f = ap (row w to) (width_linked n h.0) in omega arith
+
+first_met : (w : ℕ → ℕ) (n : ℕ) (x : Extents) → AreExtents n x → row w (first_cell_of x) (first_width n) ≤ weigh_extents w n x
+first_met w n (last r) h = let e = ap (row w r) (width_last n h.0) in omega arith
+first_met w n (linked r x) h = let e = ap (row w r) (width_linked n h.0) in omega arith
+
+first_cells : (has : ℕ → Cell → Type 0) (item : List ℕ) (x : Extents) → AreExtents (length item) x → ItemLies has x item → (i : ℕ) → i < first_width (length item) → (c : Cell) × has (first_cell_of x + i) c
+first_cells has item (last r) a h i l = (item_cell item i, h i (let e = width_last (length item) a.0 in omega arith))
+first_cells has item (linked r x) a h i l = elim (cases_lt i 255) [
+  | inl content ↦ (item_cell item i, h.0 i content)
+  | inr link ↦ (let e = width_linked (length item) a.0 in let k = linked_is in let p : 255 ≡ i = omega arith in (link_cell (first_cell_of x), subst (λ (j : ℕ). has (r + j) (link_cell (first_cell_of x))) p h.1))
+]
+
+first_within : (P : ℕ → Bool) (n : ℕ) (x : Extents) → AreExtents n x → WithinExtents P n x → (i : ℕ) → i < first_width n → P (first_cell_of x + i) ≡ true
+first_within P n (last r) a h i l = h i (let e = width_last n a.0 in omega arith)
+first_within P n (linked r x) a h i l = h.0 i (let e = width_linked n a.0 in omega arith)
+
+first_row : (n : ℕ) (x : Extents) → AreExtents n x → IsRow (first_cell_of x) (first_width n)
+first_row n (last r) a = subst (IsRow r) (sym (width_last n a.0)) a.1
+first_row n (linked r x) a = subst (IsRow r) (sym (width_linked n a.0)) a.1
+
+first_few : (n : ℕ) (x : Extents) → 0 < n → AreExtents n x → (0 < first_width n) × (first_width n ≤ 256)
+first_few n (last r) some a = let e = width_last n a.0 in let s = a.0 in (omega arith, omega arith)
+first_few n (linked r x) some a = let e = width_linked n a.0 in let k = linked_is in (omega arith, omega arith)
+
+put_lies : (P : ℕ → Bool) (has new : ℕ → Cell → Type 0) → Keeps P has new → (item : List ℕ) (x : Extents) (to : ℕ) → AreExtents (length item) x → ((i : ℕ) (c : Cell) → i < first_width (length item) → has (first_cell_of x + i) c → new (to + i) c) → WithinExtents P (length item) x → ItemLies has x item → ItemLies new (put_first x to) item
+put_lies P has new keep item (last r) to a copies within h = λ k l. copies k (item_cell item k) (let e = width_last (length item) a.0 in omega arith) (h k l)
+put_lies P has new keep item (linked r x) to a copies within h = (
+  λ k l. copies k (item_cell item k) (let e = width_linked (length item) a.0 in let f = linked_is in omega arith) (h.0 k l),
+  copies 255 (link_cell (first_cell_of x)) (let e = width_linked (length item) a.0 in let f = linked_is in omega arith) h.1,
+  item_kept (λ q. P q ≡ true) has new keep x (drop 4080 item) (subst (λ (n : ℕ). WithinExtents P n x) (sym (length-drop 4080 item)) within.1) h.2,
+)
+
+put_itself : (x : Extents) → put_first x (first_cell_of x) ≡ x
+put_itself (last r) = refl
+put_itself (linked r x) = refl
+
 pub moved_node : (t : Tree) (to : ℕ) → node_of (moved t to) ≡ put_at (node_of t) to
-moved_node (leaf e w) to = refl
+moved_node (leaf e x) to = ap (λ (p : ℕ). node.Leaf (record { len = length e.item; at = p })) (put_there x to)
 moved_node (branch o w below) to = refl
 
 pub moved_entries : (t : Tree) (to : ℕ) → entries_of (moved t to) ≡ entries_of t
@@ -47,30 +108,30 @@ moved_entries (leaf e w) to = refl
 moved_entries (branch o w below) to = refl
 
 pub moved_tree : (low : ℕ) (t : Tree) (to : ℕ) → IsTree low t → IsRow to (width t) → IsTree low (moved t to)
-moved_tree low (leaf e w) to h r = (h.0, r)
+moved_tree low (leaf e x) to h r = (h.0, put_are (length e.item) x to h.1 r)
 moved_tree low (branch o w below) to h r = (h.0, h.1, subst (IsRow to) (width_branch low o w below h) r, h.3, h.4, h.5)
 
 pub moved_weigh : (w : ℕ → ℕ) (low : ℕ) (t : Tree) (to : ℕ) → IsTree low t → weigh_tree w (moved t to) + row w (first t) (width t) ≡ weigh_tree w t + row w to (width t)
-moved_weigh w low (leaf e v) to h = omega arith
+moved_weigh w low (leaf e x) to h = put_weigh w (length e.item) x to h.1
 moved_weigh w low (branch o v below) to h =
     let n = width_branch low o v below h in
     let a = weigh_is w to below in let b = weigh_is w v below in
     let c = ap (row w to) n in let d = ap (row w v) n in omega arith
 
 pub row_met : (w : ℕ → ℕ) (low : ℕ) (t : Tree) → IsTree low t → row w (first t) (width t) ≤ weigh_tree w t
-row_met w low (leaf e v) h = omega arith
+row_met w low (leaf e x) h = first_met w (length e.item) x h.1
 row_met w low (branch o v below) h = let b = weigh_is w v below in let d = ap (row w v) (width_branch low o v below h) in omega arith
 
 pub cell_there : (has : ℕ → Cell → Type 0) (low : ℕ) (t : Tree) → IsTree low t → Beneath has t → (i : ℕ) → i < width t → (c : Cell) × has (first t + i) c
-cell_there has low (leaf e w) h b i l = (item_cell e.item i, b i l)
+cell_there has low (leaf e x) h b i l = first_cells has e.item x h.1 b i l
 cell_there has low (branch o w below) h b i l = lie_cell has w below b i (let n = width_branch low o w below h in omega arith)
 
 pub cell_within : (P : ℕ → Bool) (low : ℕ) (t : Tree) → IsTree low t → WithinTree P t → (i : ℕ) → i < width t → P (first t + i) ≡ true
-cell_within P low (leaf e w) h b i l = b i l
+cell_within P low (leaf e x) h b i l = first_within P (length e.item) x h.1 b i l
 cell_within P low (branch o w below) h b i l = within_cell P w below b i (let n = width_branch low o w below h in omega arith)
 
 pub moved_lies : (P : ℕ → Bool) (has new : ℕ → Cell → Type 0) → Keeps P has new → (low : ℕ) (t : Tree) (to : ℕ) → IsTree low t → ((i : ℕ) (c : Cell) → i < width t → has (first t + i) c → new (to + i) c) → WithinTree P t → Beneath has t → Beneath new (moved t to)
-moved_lies P has new keep low (leaf e w) to h copies within b = λ k l. copies k (item_cell e.item k) l (b k l)
+moved_lies P has new keep low (leaf e x) to h copies within b = put_lies P has new keep e.item x to h.1 copies within b
 moved_lies P has new keep low (branch o w below) to h copies within b = lie_moved P has new keep w to below (λ i c l. copies i c (let n = width_branch low o w below h in omega arith)) within b
 
 pub record Row (first n : ℕ) : Type 0 where
@@ -79,7 +140,7 @@ pub record Row (first n : ℕ) : Type 0 where
   pub row : IsRow first n
 
 pub row_of : (low : ℕ) (t : Tree) → IsTree low t → Row (first t) (width t)
-row_of low (leaf e w) h = record { some = (let s = h.0.item.some in omega arith); few = (let s = h.0.item.short in omega arith); row = h.1 }
+row_of low (leaf e x) h = let few = first_few (length e.item) x h.0.item.some h.1 in record { some = few.0; few = few.1; row = first_row (length e.item) x h.1 }
 row_of low (branch o w below) h =
     let n = width_branch low o w below h in
     let most = few 0 47 below (rising_of o 0 below (let z : 0 ≤ 47 = omega arith in z) h.5) in
@@ -164,11 +225,11 @@ released_rest l1 at m e = subst (λ z. reserve_account_of z ≡ record (reserve_
 
 -- a row at which a tree's cells lie now
 pub moved_row : (t : Tree) (to : ℕ) → IsTree 0 (moved t to) → IsRow to (width t)
-moved_row (leaf e w) to h = (row_of 0 (leaf e to) h).row
+moved_row (leaf e x) to h = subst (λ (p : ℕ). IsRow p (first_width (length e.item))) (put_there x to) (row_of 0 (leaf e (put_first x to)) h).row
 moved_row (branch o w below) to h = (row_of 0 (branch o to below) h).row
 
 pub moved_itself : (t : Tree) → moved t (first t) ≡ t
-moved_itself (leaf e w) = refl
+moved_itself (leaf e x) = ap (leaf e) (put_itself x)
 moved_itself (branch o w below) = refl
 
 -- ---- the root's cell is moved

@@ -1,8 +1,10 @@
 -- Where the twigs of a branch, or the cells of an item, lie; and a tree in which they lie elsewhere.
-use Rattle.std.specs.Prelude.{◌≡◌, ℕ, ◌+◌, ◌/◌, List, count_ones}
+use Rattle.std.specs.Prelude.{◌≡◌, ℕ, List, count_ones, nat_lt, if◌then◌else◌}
 use Rattle.packed_node.specs.declared.Cell.{Cell}
 use Rattle.packed_node.specs.declared.Node.{Node}
 use Rattle.packed_node.specs.declared.Node.TheVariants as node
+use Rattle.trie_model.specs.Extents.{Extents, content_cells, linked_cells}
+use Rattle.trie_model.specs.Extents.Extents.{last, linked}
 use Rattle.trie_model.specs.Keys.{Entry}
 use Rattle.trie_model.specs.Memory.{node_of}
 use Rattle.trie_model.specs.Trees.{Tree, entries_of, IsTree}
@@ -13,13 +15,16 @@ use Rattle.trie_write.specs.Mutable.{Rooted}
 use Rattle.trie_write.specs.Puts.{no_spare}
 use Rattle.trie_write.specs.Ways.{Fork, plug, end_at}
 
--- the first of the cells that hang on a node, and how many they are: its twigs, or those of its item
+-- the first of the cells that hang on a node, and how many they are: its twigs, or those of its item's first extent
 abbrev pub first_of : Node → ℕ
 first_of (node.Leaf l) = l.at
 first_of (node.Branch b) = b.twigs
 
+abbrev pub first_width : ℕ → ℕ
+first_width n = if nat_lt 4096 n then linked_cells else content_cells n
+
 abbrev pub width_of : Node → ℕ
-width_of (node.Leaf l) = (l.len + 15) / 16
+width_of (node.Leaf l) = first_width (l.len)
 width_of (node.Branch b) = count_ones b.bitmap
 
 -- the node, and the tree, with these cells elsewhere
@@ -27,8 +32,12 @@ abbrev pub put_at : Node → ℕ → Node
 put_at (node.Leaf l) to = node.Leaf (record l { at = to })
 put_at (node.Branch b) to = node.Branch (record b { twigs = to })
 
+abbrev pub put_first : Extents → ℕ → Extents
+put_first (last r) to = last to
+put_first (linked r x) to = linked to x
+
 abbrev pub moved : Tree → ℕ → Tree
-moved (leaf e first) to = leaf e to
+moved (leaf e x) to = leaf e (put_first x to)
 moved (branch o first below) to = branch o to below
 
 -- a trie of these entries stands at a root, and these cells are what counts

@@ -2,9 +2,10 @@
 
 ghost use Rattle.std.specs.Prelude.{◌≡◌, ◌≢◌, ◌+◌, ◌*◌, ◌^◌, ◌/◌, ◌<◌, ◌≤◌, ℕ, List, Bool, true, false, IfOk, IfErr, [], slice_index};
 ghost use Rattle.packed_node.specs.declared.Cell.{Cell};
+ghost use Rattle.trie_model.specs.Extents.{IsRow};
 ghost use Rattle.trie_model.specs.Keys.{Entry};
 ghost use Rattle.trie_model.specs.Memory.{node_of};
-ghost use Rattle.trie_model.specs.Trees.{Tree, IsRow};
+ghost use Rattle.trie_model.specs.Trees.{Tree};
 ghost use Rattle.chunk_usage.specs.Rooms.{Handed, reserve_account_of};
 ghost use Rattle.trie_write.specs.Spaces.{Ready, Frame, Fenced, MayWrite, IsWritable};
 ghost use Rattle.trie_write.specs.Ways.{Fork};

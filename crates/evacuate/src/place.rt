@@ -1,9 +1,9 @@
 //! The cells that hang on a node: the twigs of a branch, or those of an item.
 
 ghost use Rattle.std.specs.Prelude.{◌≡◌};
-ghost use Rattle.evacuate.specs.Places.{first_of, width_of, put_at};
+ghost use Rattle.evacuate.specs.Places.{first_of, first_width, width_of, put_at};
 
-use chunk_cells::item::cells_for;
+use chunk_cells::extents::{LAST_OCTETS, content_cells_for, linked_extent};
 use packed_node::{Branch, Leaf, Node, Ref};
 
 /// The first of them.
@@ -21,8 +21,19 @@ pub fn cell_count(node: Node) -> u32
     ensures { result ≡ width_of node }
 {
     match node {
-        Node::Leaf(leaf) => cells_for(leaf.len),
+        Node::Leaf(leaf) => first_extent_for(leaf.len),
         Node::Branch(branch) => branch.twig_count(),
+    }
+}
+
+/// How many cells the first extent of an item of so many octets has.
+fn first_extent_for(len: u16) -> u32
+    ensures { result ≡ first_width len }
+{
+    if len as usize > LAST_OCTETS {
+        linked_extent()
+    } else {
+        content_cells_for(len)
     }
 }
 

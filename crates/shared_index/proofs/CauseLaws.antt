@@ -5,10 +5,11 @@ use Rattle.std.proofs.lemmas.Bool.Decides.{nat_tests}
 use Rattle.std.proofs.lemmas.List.{length-map}
 use Rattle.std.proofs.lemmas.List.Sums.{count_by-le-length}
 use Rattle.packed_node.specs.declared.Cell.{Cell}
+use Rattle.trie_model.specs.Extents.{row}
 use Rattle.trie_model.specs.Keys.{Entry}
 use Rattle.trie_model.specs.Shape.{cells}
 use Rattle.trie_model.specs.Trees.{Tree}
-use Rattle.trie_model.specs.Reach.{row, in_chunk, weigh_tree}
+use Rattle.trie_model.specs.Reach.{in_chunk, weigh_tree}
 use Rattle.trie_model.proofs.ReachLaws.{live_is, second_true}
 use Rattle.chunk_usage.specs.declared.open.Open.{Open}
 use Rattle.chunk_usage.specs.declared.space.Full.{Full}

@@ -3,11 +3,12 @@ use Rattle.std.proofs.Common.{◌≡◌, ℕ, zero, suc, ◌/◌, ◌<◌, ◌�
 use Rattle.std.proofs.lemmas.Bool.{cases_eq, cases_Bool}
 use Rattle.std.proofs.lemmas.Bool.Decides.{nat_tests}
 use Rattle.packed_node.specs.declared.Cell.{Cell}
+use Rattle.trie_model.specs.Extents.{cells_in, row}
 use Rattle.trie_model.specs.Keys.{Entry}
-use Rattle.trie_model.specs.Trees.{Tree, Twigs, cells_in}
+use Rattle.trie_model.specs.Trees.{Tree, Twigs}
 use Rattle.trie_model.specs.Trees.Tree.{leaf, branch}
 use Rattle.trie_model.specs.Trees.Twigs.{none, twig}
-use Rattle.trie_model.specs.Reach.{row, in_chunk, weigh_tree, weigh, WithinTree}
+use Rattle.trie_model.specs.Reach.{in_chunk, weigh_tree, weigh, WithinTree}
 use Rattle.trie_model.proofs.MoveLaws.{Keeps}
 use Rattle.trie_model.proofs.ReachLaws.{live_is, first_true, second_true, both_true}
 use Rattle.trie_write.specs.Standing.{StandsIn, Standing}

@@ -3,11 +3,12 @@ use Rattle.std.proofs.Common.{◌≡◌, ◌∙◌, ℕ, zero, suc, ◌+◌, ◌
 use Rattle.std.proofs.lemmas.Nat.{mod-mul-add}
 use Rattle.packed_node.specs.declared.Cell.{Cell}
 use Rattle.pin_core.specs.Words.{cell_at}
+use Rattle.trie_model.specs.Extents.{side_by_side}
 use Rattle.trie_model.specs.Trees.{Tree, Twigs, IsTree, AreTwigs, count, bitmap_of}
 use Rattle.trie_model.specs.Trees.Tree.{leaf, branch}
 use Rattle.trie_model.specs.Trees.Twigs.{none, twig}
 use Rattle.trie_model.specs.Memory.{top_cell, Beneath, Lie}
-use Rattle.trie_model.specs.Reach.{reach_below, reach_twigs, side_by_side}
+use Rattle.trie_model.specs.Reach.{reach_below, reach_twigs}
 use Rattle.trie_model.proofs.BitmapLaws.{ones_of}
 use Rattle.trie_model.proofs.SplitLaws.{rising_of}
 use Rattle.trie_model.proofs.TopLaws.{is_node}

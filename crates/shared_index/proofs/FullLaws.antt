@@ -4,9 +4,9 @@ use Rattle.std.specs.Prelude.{unwrap_or}
 use Rattle.std.specs.List.{All, sum_by}
 use Rattle.std.proofs.lemmas.List.Elements.{All-weaker}
 use Rattle.pin_core.specs.declared.kept.Kept.{Kept}
+use Rattle.trie_model.specs.Extents.{row}
 use Rattle.trie_model.specs.Keys.{Entry}
 use Rattle.trie_model.specs.Shape.{cells}
-use Rattle.trie_model.specs.Reach.{row}
 use Rattle.zone_model.specs.Keys.{Leads}
 use Rattle.packed_node.specs.declared.Cell.{Cell}
 use Rattle.trie_read.specs.Reads.{EachTells}

@@ -3,11 +3,12 @@ use Rattle.std.proofs.Common.{◌≡◌, ℕ, zero, suc, ◌+◌, ◌*◌, ◌/�
 use Rattle.std.specs.Prelude.{count_by}
 use Rattle.std.proofs.lemmas.Bool.{cases_eq, cases_lt}
 use Rattle.std.proofs.lemmas.Bool.Decides.{nat_tests}
+use Rattle.trie_model.specs.Extents.{cells_in, row}
 use Rattle.trie_model.specs.Keys.{at}
-use Rattle.trie_model.specs.Trees.{Tree, Twigs, IsTree, AreTwigs, count, cells_in}
+use Rattle.trie_model.specs.Trees.{Tree, Twigs, IsTree, AreTwigs, count}
 use Rattle.trie_model.specs.Trees.Tree.{leaf, branch}
 use Rattle.trie_model.specs.Trees.Twigs.{none, twig}
-use Rattle.trie_model.specs.Reach.{row, in_chunk, weigh_tree, weigh}
+use Rattle.trie_model.specs.Reach.{in_chunk, weigh_tree, weigh}
 use Rattle.trie_model.proofs.BitmapLaws.{few}
 use Rattle.trie_model.proofs.CountLaws.{under, weigh_is}
 use Rattle.trie_model.proofs.SplitLaws.{rising_of}

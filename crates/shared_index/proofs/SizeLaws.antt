@@ -1,8 +1,9 @@
 -- A trie has at most 259 cells a name, so the number of its cells fits into 64 bits.
 use Rattle.std.proofs.Common.{◌∙◌, ℕ, suc, ◌+◌, ◌*◌, ◌^◌, ◌<◌, ◌≤◌, List, [], ◌∷◌, length, arith, sym, ap, length-append}
 use Rattle.std.proofs.lemmas.List.{length-map}
+use Rattle.trie_model.specs.Extents.{cells_in}
 use Rattle.trie_model.specs.Keys.{Entry, Rises}
-use Rattle.trie_model.specs.Trees.{Tree, Twigs, IsTree, AreTwigs, entries_of, entries, count, cells_in}
+use Rattle.trie_model.specs.Trees.{Tree, Twigs, IsTree, AreTwigs, entries_of, entries, count}
 use Rattle.trie_model.specs.Trees.Tree.{leaf, branch}
 use Rattle.trie_model.specs.Trees.Twigs.{none, twig}
 use Rattle.trie_model.specs.Shape.{cells}

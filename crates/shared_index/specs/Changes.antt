@@ -1,8 +1,8 @@
 -- What a transaction's call asks of its working set.
 use Rattle.std.specs.Prelude.{◌≡◌, ℕ, ◌+◌, List}
 use Rattle.zone_model.specs.Keys.{Leads}
+use Rattle.trie_model.specs.Extents.{cells_in}
 use Rattle.trie_model.specs.Keys.{Entry, InList}
-use Rattle.trie_model.specs.Trees.{cells_in}
 use Rattle.trie_write.specs.Paths.{insert_asks, replace_asks, delete_asks}
 use Rattle.shared_index.specs.declared.change.Change.{Change}
 use Rattle.shared_index.specs.declared.change.Change.TheVariants as change

@@ -1,9 +1,9 @@
 -- The cells that a root reaches, found by the words of the table.
+use Rattle.trie_model.specs.Extents.{side_by_side}
 use Rattle.std.specs.Prelude.{ℕ, zero, suc, ◌+◌, ◌/◌, ◌%◌, ◌^◌, ◌==◌, if◌then◌else◌, List, [], ◌∷◌, ◌++◌, Option, Some, None, count_ones, slice_index}
 use Rattle.pin_core.specs.declared.kept.CellAt.{CellAt}
 use Rattle.pin_core.specs.Words.{cell_at}
 use Rattle.pin_core.specs.Machine.{image_of}
-use Rattle.trie_model.specs.Reach.{side_by_side}
 
 -- n nodes side by side from r on, each with what hangs on it
 abbrev pub nodes_from : (ℕ → List ℕ) → ℕ → ℕ → List ℕ

@@ -2,6 +2,7 @@
 //!
 //! Nothing else in this crate names those calls.
 ghost use Rattle.std.specs.Prelude.{◌≡◌, ◌↔◌, ◌+◌, ◌≤◌, ℕ, List, Contains, IfOk, IfErr, Err};
+ghost use Rattle.trie_model.specs.Extents.{cells_in};
 ghost use Rattle.trie_model.specs.Keys.{Entry, InList};
 ghost use Rattle.zone_model.specs.Keys.{Leads};
 ghost use Rattle.chunk_usage.specs.Handing.{Lacks, spent};
@@ -9,7 +10,6 @@ ghost use Rattle.chunk_usage.specs.Rooms.{account_of};
 ghost use Rattle.trie_write.specs.Paths.{insert_asks, replace_asks, delete_asks};
 ghost use Rattle.trie_write.specs.Roots.{TwigsOnPath, BranchesOnPath};
 ghost use Rattle.trie_write.specs.Spaces.{Ready, Fenced, Unchanged as Same};
-ghost use Rattle.trie_model.specs.Trees.{cells_in};
 ghost use Rattle.shared_index.specs.Operations.{operated, with_entry, without};
 ghost use Rattle.shared_index.specs.Bases.{IsRooted};
 ghost use Rattle.shared_index.specs.Changes.{operation_of, key_of, written_by, asked_by, LeadsItem, IsRefused};

@@ -1,5 +1,6 @@
 //! Transactions: one at a time, each of a pass that has joined the turn.
 ghost use Rattle.std.specs.Prelude.{◌≡◌, ◌≢◌, ◌↔◌, ◌+◌, Some, Err, IsSome, IsNone, IfSome, IsSomeAnd, IsOk, IsErr, IfOk, IfErr, length, slice_get};
+ghost use Rattle.trie_model.specs.Extents.{cells_in};
 ghost use Rattle.shared_index.specs.Passes.{known_at};
 ghost use Rattle.std.specs.Option.{ForSome};
 ghost use Rattle.chunk_usage.specs.Keeping.{full};
@@ -402,8 +403,7 @@ impl<L: Law, N: Named, K> Transaction<'_, '_, L, N, K> {
     ghost use Rattle.trie_read.specs.Readings.{Fetched};
     ghost use Rattle.shared_index.specs.Fulls.{CausedFrom};
     ghost use Rattle.shared_index.specs.Rooms.{SparesReserve};
-    ghost use Rattle.trie_model.specs.Trees.{cells_in};
-    ghost use Rattle.trie_write.specs.Paths.{insert_asks, replace_asks, delete_asks};
+        ghost use Rattle.trie_write.specs.Paths.{insert_asks, replace_asks, delete_asks};
     ghost use Rattle.shared_index.specs.declared.meaning.Operation.TheVariants as operation;
 
     /// Reads the item of a key of the working set into the beginning of `out`, and gives its length; `None` where the key is not

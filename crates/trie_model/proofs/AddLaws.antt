@@ -1,5 +1,5 @@
 -- A branch with a twig added, and with a twig grown.
-use Rattle.std.proofs.Common.{◌≡◌, ℕ, suc, ◌<◌, ◌≤◌, ◌⊎◌, List, [], ◌∷◌, ◌++◌, append_assoc, arith, inl, inr, sym, ◌∙◌, ap, subst}
+use Rattle.std.proofs.Common.{◌≡◌, ℕ, suc, ◌<◌, ◌≤◌, ◌⊎◌, List, [], ◌∷◌, ◌++◌, append_assoc, length, arith, inl, inr, sym, ◌∙◌, ap, subst}
 use Rattle.std.proofs.lemmas.Bool.{cases_lt}
 use Rattle.trie_model.proofs.BitmapLaws.{count-beside}
 use Rattle.trie_model.proofs.GrowthLaws.{some_entry}
@@ -7,7 +7,8 @@ use Rattle.trie_model.proofs.KeyLaws.{in_left, in_right, in_both}
 use Rattle.trie_model.proofs.SplitLaws.{Found, Missing, look, entries-beside, twigs_left, twigs_right, twigs_join, keys_lower, keys_upper, in_found, not_missing, rising_of}
 use Rattle.trie_model.specs.Changes.{Inserted, Nearest, Grown}
 use Rattle.trie_model.specs.Keys.{at, Same, Entry, IsEntry, Less, InList}
-use Rattle.trie_model.specs.Trees.{Tree, Twigs, entries_of, entries, count, AllAt, Agree, IsTree, AreTwigs, IsRow, cells_in, beside}
+use Rattle.trie_model.specs.Trees.{Tree, Twigs, entries_of, entries, count, AllAt, Agree, IsTree, AreTwigs, beside}
+use Rattle.trie_model.specs.Extents.{Extents, AreExtents, IsRow}
 use Rattle.trie_model.specs.Trees.Tree.{leaf, branch}
 use Rattle.trie_model.specs.Trees.Twigs.{twig}
 
@@ -67,15 +68,15 @@ agrees d o p k es a n le x i j lt = n.same j (omega arith) ∙ a n.near x n.ther
 agree_by : (o : ℕ) (k : List ℕ) (es : List Entry) → ((x : Entry) → InList x es → Same o k x.key) → Agree o es
 agree_by o k es like x y i j n lt = sym (like x i n lt) ∙ like y j n lt
 
-pub add_twig : (low d w wn p first : ℕ) (e : Entry) (below : Twigs) (m : Missing 0 47 (at e.key d) below) → IsTree low (branch d w below) → Nearest d e.key p (entries below) → IsEntry e → IsRow first (cells_in e.item) → IsRow wn (suc (count below)) →
-    Grown e low (branch d w below) (branch d wn (beside m.left (twig (at e.key d) (leaf e first) m.right)))
-add_twig low d w wn p first e below m h n is lf lw = record {
-  tree = (h.0, h.1, subst (IsRow wn) (sym sizes) lw, (let s = sizes in let t = h.3 in omega arith), agree_by d e.key (entries (beside m.left (twig (at e.key d) (leaf e first) m.right))) like, twigs);
-  put = record { before = entries m.left; after = entries m.right; old_is = missing_entries (at e.key d) below m; new_is = entries-beside m.left (twig (at e.key d) (leaf e first) m.right); lower = lower; upper = upper };
+pub add_twig : (low d w wn p : ℕ) (there : Extents) (e : Entry) (below : Twigs) (m : Missing 0 47 (at e.key d) below) → IsTree low (branch d w below) → Nearest d e.key p (entries below) → IsEntry e → AreExtents (length e.item) there → IsRow wn (suc (count below)) →
+    Grown e low (branch d w below) (branch d wn (beside m.left (twig (at e.key d) (leaf e there) m.right)))
+add_twig low d w wn p there e below m h n is lf lw = record {
+  tree = (h.0, h.1, subst (IsRow wn) (sym sizes) lw, (let s = sizes in let t = h.3 in omega arith), agree_by d e.key (entries (beside m.left (twig (at e.key d) (leaf e there) m.right))) like, twigs);
+  put = record { before = entries m.left; after = entries m.right; old_is = missing_entries (at e.key d) below m; new_is = entries-beside m.left (twig (at e.key d) (leaf e there) m.right); lower = lower; upper = upper };
 }
   where
-    sizes : count (beside m.left (twig (at e.key d) (leaf e first) m.right)) ≡ suc (count below)
-    sizes = let a = count-beside m.left (twig (at e.key d) (leaf e first) m.right) in let b = ap count m.is ∙ count-beside m.left m.right in omega arith
+    sizes : count (beside m.left (twig (at e.key d) (leaf e there) m.right)) ≡ suc (count below)
+    sizes = let a = count-beside m.left (twig (at e.key d) (leaf e there) m.right) in let b = ap count m.is ∙ count-beside m.left m.right in omega arith
 
     whole : AreTwigs d 0 (beside m.left m.right)
     whole = subst (AreTwigs d 0) m.is h.5
@@ -93,14 +94,14 @@ add_twig low d w wn p first e below m h n is lf lw = record {
     alike : AllAt d (at e.key d) (e ∷ [])
     alike x i = elim i [ inl y ↦ ap (λ (z : Entry). at z.key d) y | inr z ↦ absurd z ]
 
-    twigs : AreTwigs d 0 (beside m.left (twig (at e.key d) (leaf e first) m.right))
-    twigs = twigs_join d 0 (at e.key d) m.left (twig (at e.key d) (leaf e first) m.right) left m.lower (let z : at e.key d ≤ at e.key d = omega arith in z, m.inside, alike, (is, lf), right)
+    twigs : AreTwigs d 0 (beside m.left (twig (at e.key d) (leaf e there) m.right))
+    twigs = twigs_join d 0 (at e.key d) m.left (twig (at e.key d) (leaf e there) m.right) left m.lower (let z : at e.key d ≤ at e.key d = omega arith in z, m.inside, alike, (is, lf), right)
 
     known : (x : Entry) → InList x (entries below) → Same d e.key x.key
     known = agrees d d p e.key (entries below) h.4 n (omega arith)
 
-    like : (x : Entry) → InList x (entries (beside m.left (twig (at e.key d) (leaf e first) m.right))) → Same d e.key x.key
-    like x i = elim (in_both x (entries m.left) (e ∷ entries m.right) (subst (InList x) (entries-beside m.left (twig (at e.key d) (leaf e first) m.right)) i)) [
+    like : (x : Entry) → InList x (entries (beside m.left (twig (at e.key d) (leaf e there) m.right))) → Same d e.key x.key
+    like x i = elim (in_both x (entries m.left) (e ∷ entries m.right) (subst (InList x) (entries-beside m.left (twig (at e.key d) (leaf e there) m.right)) i)) [
       | inl a ↦ known x (old x (inl a))
       | inr b ↦ elim b [ inl y ↦ (λ j k. ap (λ (z : Entry). at z.key j) (sym y)) | inr z ↦ known x (old x (inr z)) ]
     ]

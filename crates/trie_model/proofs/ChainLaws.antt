@@ -5,6 +5,7 @@ use Rattle.std.proofs.lemmas.Bool.Decides.{nat_tests}
 use Rattle.std.proofs.lemmas.List.{get_or_past, get_or_append_left, length-map, take_at}
 use Rattle.std.proofs.lemmas.List.Elements.{filter-append}
 use Rattle.std.proofs.lemmas.List.Sums.{sum_by-cons, sum_by-append}
+use Rattle.trie_model.specs.Extents.{Extents}
 use Rattle.trie_model.specs.Keys.{at, Same, IsKey, Entry, InList, Less, Rises}
 use Rattle.trie_model.specs.Order.{begins, EndsAt, chain, chain_labels, labels_in}
 use Rattle.trie_model.specs.Trees.{Tree, Twigs, entries_of, entries, IsTree, AreTwigs}
@@ -132,7 +133,7 @@ chain_none k (x ∷ es) never = ap (λ (b : Bool). cond b (x ∷ chain k es) (ch
 
 -- ---- the twigs before a key's own
 -- a tree whose keys are one is a leaf
-pub single : (low : ℕ) (t : Tree) → IsTree low t → ((x y : Entry) → InList x (entries_of t) → InList y (entries_of t) → x.key ≡ y.key) → (e : Entry) × ((w : ℕ) × (t ≡ leaf e w))
+pub single : (low : ℕ) (t : Tree) → IsTree low t → ((x y : Entry) → InList x (entries_of t) → InList y (entries_of t) → x.key ≡ y.key) → (e : Entry) × ((w : Extents) × (t ≡ leaf e w))
 single low (leaf e w) h same = (e, (w, refl))
 single low (branch o w below) h same =
     let two = two_of o 0 below h.5 h.3 in
@@ -146,8 +147,8 @@ between o lo k ts some a r = chain_none k (entries ts) (λ x i.
 -- all keys of a tree end where a label of another key does, and agree with it up to there: the tree is a leaf, of a name above the key's
 pub record Above (o : ℕ) (k : List ℕ) (t : Tree) : Type 0 where
   pub entry : Entry
-  pub place : ℕ
-  pub is : t ≡ leaf entry place
+  pub extents : Extents
+  pub is : t ≡ leaf entry extents
   pub begins : begins entry.key k ≡ true
   pub key : entry.key ≡ take o k
 
@@ -157,7 +158,7 @@ above_of low o k t kk some ends tree keys same ends_all =
     let taken : (x : Entry) → InList x (entries_of t) → x.key ≡ take o k = λ x i. let h = here x i in begins_take x.key k h.0 o h.1 in
     let one = single low t tree (λ x y i j. taken x i ∙ sym (taken y j)) in
     let there : InList one.0 (entries_of t) = subst (λ (u : Tree). InList one.0 (entries_of u)) (sym one.1.1) (inl refl) in
-    record { entry = one.0; place = one.1.0; is = one.1.1; begins = (here one.0 there).0; key = taken one.0 there }
+    record { entry = one.0; extents = one.1.0; is = one.1.1; begins = (here one.0 there).0; key = taken one.0 there }
 
 -- the names above among the twigs before the key's own: there is one where the first twig is for keys that end here, and a label of the key ends here too
 pub chain_above : (o : ℕ) (k : List ℕ) (t : Tree) (rest : Twigs) → IsKey k → AreTwigs o 0 (twig 0 t rest) → Rising 0 (at k o) (twig 0 t rest) → ((x : Entry) → InList x (entries (twig 0 t rest)) → Same o k x.key) → EndsAt o k →

@@ -1,9 +1,10 @@
 -- How many of the cells that a tree reaches count: a weight for each reference, as 1 in one chunk and 0 elsewhere.
-use Rattle.std.proofs.Common.{◌≡◌, ℕ, suc, ◌+◌, arith, refl, ◌∙◌, ap}
+use Rattle.std.proofs.Common.{◌≡◌, ℕ, suc, ◌+◌, length, arith, refl, ◌∙◌, ap}
 use Rattle.trie_model.proofs.SplitLaws.{Found, Missing}
-use Rattle.trie_model.specs.Reach.{row, weigh_tree, weigh}
+use Rattle.trie_model.specs.Extents.{Extents, row, weigh_extents}
+use Rattle.trie_model.specs.Reach.{weigh_tree, weigh}
 use Rattle.trie_model.specs.Keys.{Entry}
-use Rattle.trie_model.specs.Trees.{Tree, Twigs, count, cells_in, beside}
+use Rattle.trie_model.specs.Trees.{Tree, Twigs, count, beside}
 use Rattle.trie_model.specs.Trees.Tree.{leaf}
 use Rattle.trie_model.specs.Trees.Twigs.{none, twig}
 
@@ -22,12 +23,12 @@ under-beside w none s = omega arith
 under-beside w (twig p t rest) s = let h = under-beside w rest s in omega arith
 
 -- a twig added: the old row goes, a longer one comes, with the item
-pub weigh_add : (w : ℕ → ℕ) (r rn p first : ℕ) (e : Entry) (below : Twigs) (m : Missing 0 47 p below) →
-    weigh w rn (beside m.left (twig p (leaf e first) m.right)) + row w r (count below) ≡ weigh w r below + row w rn (count (beside m.left (twig p (leaf e first) m.right))) + row w first (cells_in e.item)
-weigh_add w r rn p first e below m =
-    let a = weigh_is w rn (beside m.left (twig p (leaf e first) m.right)) in
+pub weigh_add : (w : ℕ → ℕ) (r rn p : ℕ) (x : Extents) (e : Entry) (below : Twigs) (m : Missing 0 47 p below) →
+    weigh w rn (beside m.left (twig p (leaf e x) m.right)) + row w r (count below) ≡ weigh w r below + row w rn (count (beside m.left (twig p (leaf e x) m.right))) + weigh_extents w (length e.item) x
+weigh_add w r rn p x e below m =
+    let a = weigh_is w rn (beside m.left (twig p (leaf e x) m.right)) in
     let b = weigh_is w r below in
-    let c = under-beside w m.left (twig p (leaf e first) m.right) in
+    let c = under-beside w m.left (twig p (leaf e x) m.right) in
     let d = ap (under w) m.is ∙ under-beside w m.left m.right in omega arith
 
 -- a twig's tree replaced

@@ -6,7 +6,8 @@ use Rattle.trie_model.proofs.KeyLaws.{in_left, in_right, in_both}
 use Rattle.trie_model.proofs.SplitLaws.{Found, entries-beside, twigs_left, twigs_join}
 use Rattle.trie_model.specs.Changes.{Shrunk}
 use Rattle.trie_model.specs.Keys.{Entry, InList}
-use Rattle.trie_model.specs.Trees.{Tree, Twigs, entries_of, entries, count, Agree, IsTree, AreTwigs, IsRow, beside}
+use Rattle.trie_model.specs.Trees.{Tree, Twigs, entries_of, entries, count, Agree, IsTree, AreTwigs, beside}
+use Rattle.trie_model.specs.Extents.{Extents, IsRow}
 use Rattle.trie_model.specs.Trees.Tree.{leaf, branch}
 use Rattle.trie_model.specs.Trees.Twigs.{none, twig}
 
@@ -19,9 +20,9 @@ fewer : (o : ℕ) (es fs : List Entry) → Agree o es → ((x : Entry) → InLis
 fewer o es fs a inside x y i j = a x y (inside x i) (inside y j)
 
 -- a leaf twig is dropped
-pub drop_twig : (low o w wn p first : ℕ) (e : Entry) (below : Twigs) (f : Found 0 47 p below) → IsTree low (branch o w below) → f.here ≡ leaf e first → 3 ≤ count below → IsRow wn (count (beside f.left f.rest)) →
+pub drop_twig : (low o w wn p : ℕ) (there : Extents) (e : Entry) (below : Twigs) (f : Found 0 47 p below) → IsTree low (branch o w below) → f.here ≡ leaf e there → 3 ≤ count below → IsRow wn (count (beside f.left f.rest)) →
     Shrunk e low (branch o w below) (branch o wn (beside f.left f.rest))
-drop_twig low o w wn p first e below f h is three l = record {
+drop_twig low o w wn p there e below f h is three l = record {
   tree = (h.0, h.1, l, (let s = sizes in omega arith), fewer o (entries below) (entries (beside f.left f.rest)) h.4 inside, twigs);
   removed = record { before = entries f.left; after = entries f.rest; old_is = found_entries p below f ∙ ap (λ (t : Tree). entries f.left ++ (entries_of t ++ entries f.rest)) is; new_is = entries-beside f.left f.rest };
 }
@@ -46,15 +47,15 @@ drop_twig low o w wn p first e below f h is three l = record {
     ])
 
 -- of two twigs the other one takes the branch's place: the one before
-pub collapse_low : (low o w p q first : ℕ) (e : Entry) (t : Tree) → IsTree low (branch o w (twig p t (twig q (leaf e first) none))) → Shrunk e low (branch o w (twig p t (twig q (leaf e first) none))) t
-collapse_low low o w p q first e t h = record {
+pub collapse_low : (low o w p q : ℕ) (there : Extents) (e : Entry) (t : Tree) → IsTree low (branch o w (twig p t (twig q (leaf e there) none))) → Shrunk e low (branch o w (twig p t (twig q (leaf e there) none))) t
+collapse_low low o w p q there e t h = record {
   tree = higher (suc o) low t h.5.3 (let a = h.0 in omega arith);
   removed = record { before = entries_of t; after = []; old_is = refl; new_is = sym (append-nil (entries_of t)) };
 }
 
 -- the one after
-pub collapse_high : (low o w p q first : ℕ) (e : Entry) (t : Tree) → IsTree low (branch o w (twig p (leaf e first) (twig q t none))) → Shrunk e low (branch o w (twig p (leaf e first) (twig q t none))) t
-collapse_high low o w p q first e t h = record {
+pub collapse_high : (low o w p q : ℕ) (there : Extents) (e : Entry) (t : Tree) → IsTree low (branch o w (twig p (leaf e there) (twig q t none))) → Shrunk e low (branch o w (twig p (leaf e there) (twig q t none))) t
+collapse_high low o w p q there e t h = record {
   tree = higher (suc o) low t h.5.4.3 (let a = h.0 in omega arith);
   removed = record { before = []; after = entries_of t ++ []; old_is = refl; new_is = sym (append-nil (entries_of t)) };
 }

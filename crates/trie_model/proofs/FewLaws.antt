@@ -1,17 +1,20 @@
 -- A trie that stands has no more cells than there are references: none is met twice.
-use Rattle.std.proofs.Common.{◌≡◌, ℕ, zero, suc, ◌+◌, ◌^◌, ◌<◌, ◌≤◌, inl, inr, true, cond, eqb, ltb, List, [], ◌∷◌, length, count_by, arith, refl, ◌∙◌, ap}
+use Rattle.std.proofs.Common.{◌≡◌, ℕ, zero, suc, ◌+◌, ◌-◌, ◌^◌, ◌<◌, ◌≤◌, inl, inr, true, cond, eqb, ltb, List, [], ◌∷◌, length, count_by, arith, refl, ◌∙◌, ap}
 use Rattle.std.proofs.lemmas.Bool.{cases_lt}
 use Rattle.std.proofs.lemmas.Bool.Decides.{nat_tests}
 use Rattle.std.proofs.lemmas.List.Sums.{sum_by-cons}
 use Rattle.std.specs.List.{list_all}
 use Rattle.packed_node.specs.declared.Cell.{Cell}
+use Rattle.trie_model.specs.Extents.{Extents, AreExtents, WithinExtents}
+use Rattle.trie_model.specs.Extents.Extents.{last, linked}
 use Rattle.trie_model.specs.Keys.{Entry}
 use Rattle.trie_model.specs.Trees.{Tree, Twigs, count, IsTree, AreTwigs}
 use Rattle.trie_model.specs.Trees.Tree.{leaf, branch}
 use Rattle.trie_model.specs.Trees.Twigs.{none, twig}
 use Rattle.trie_model.specs.Reach.{reach, reach_below, WithinTree, Within}
 use Rattle.trie_model.specs.Memory.{IsTrieAt}
-use Rattle.trie_model.proofs.ReachLaws.{tests, both_true, first_true, second_true}
+use Rattle.trie_model.proofs.ExtentLaws.{both_true, first_true, second_true}
+use Rattle.trie_model.proofs.ReachLaws.{tests}
 
 -- how many of the numbers are below m
 below : ℕ → List ℕ → ℕ
@@ -67,9 +70,13 @@ all_below m (x ∷ xs) h =
 pub few : (m : ℕ) (xs : List ℕ) → list_all (λ x. ltb x m) xs ≡ true → ((q : ℕ) → count_by (λ x. eqb x q) xs ≤ 1) → length xs ≤ m
 few m xs all once = let a = all_below m xs all in let b = below_le m xs once in omega arith
 
+inside_extents : (m n : ℕ) (x : Extents) → 2 ^ 22 ≤ m → AreExtents n x → WithinExtents (λ q. ltb q m) n x
+inside_extents m n (last r) l h = λ k j. ltb_true (r + k) m (let a = h.1.inside in omega arith)
+inside_extents m n (linked r x) l h = (λ k j. ltb_true (r + k) m (let a = h.1.inside in omega arith), inside_extents m (n - 4080) x l h.2)
+
 mutual
   inside : (m low : ℕ) (t : Tree) → 2 ^ 22 ≤ m → IsTree low t → WithinTree (λ q. ltb q m) t
-  inside m low (leaf e w) l h = λ k j. ltb_true (w + k) m (let a = h.1.inside in omega arith)
+  inside m low (leaf e x) l h = inside_extents m (length e.item) x l h.1
   inside m low (branch o w under) l h = inside_row m o 0 w under l (let a = h.2.inside in a) h.5
 
   inside_row : (m o lo r : ℕ) (ts : Twigs) → 2 ^ 22 ≤ m → r + count ts ≤ 2 ^ 22 → AreTwigs o lo ts → Within (λ q. ltb q m) r ts

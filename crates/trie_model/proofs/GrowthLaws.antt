@@ -1,9 +1,10 @@
 -- What a tree becomes when an entry is put in.
-use Rattle.std.proofs.Common.{◌≡◌, ℕ, suc, ◌<◌, ◌≤◌, List, [], ◌∷◌, ◌++◌, append-nil, arith, inl, inr, refl, sym, ◌∙◌, ap, subst}
+use Rattle.std.proofs.Common.{◌≡◌, ℕ, suc, ◌<◌, ◌≤◌, List, [], ◌∷◌, ◌++◌, append-nil, length, arith, inl, inr, refl, sym, ◌∙◌, ap, subst}
 use Rattle.trie_model.proofs.KeyLaws.{in_left, in_both}
 use Rattle.trie_model.specs.Changes.{Nearest, Grown, Deep}
+use Rattle.trie_model.specs.Extents.{Extents, AreExtents, IsRow}
 use Rattle.trie_model.specs.Keys.{at, Same, Entry, IsEntry, InList}
-use Rattle.trie_model.specs.Trees.{Tree, Twigs, entries_of, entries, count, AllAt, Agree, IsTree, AreTwigs, IsRow, cells_in}
+use Rattle.trie_model.specs.Trees.{Tree, Twigs, entries_of, entries, count, AllAt, Agree, IsTree, AreTwigs}
 use Rattle.trie_model.specs.Trees.Tree.{leaf, branch}
 use Rattle.trie_model.specs.Trees.Twigs.{none, twig}
 
@@ -46,9 +47,9 @@ alone_of low d k p (branch o w below) h n deep = record {
 }
 
 -- two twigs, the new leaf first
-pub split_low : (low d w p first : ℕ) (e : Entry) (t : Tree) → low ≤ d → d ≤ 503 → IsRow w 2 → p < 47 → IsEntry e → IsRow first (cells_in e.item) → at e.key d < p → Alone d e.key p t →
-    Grown e low t (branch d w (twig (at e.key d) (leaf e first) (twig p t none)))
-split_low low d w p first e t a b c l is f lt al = record {
+pub split_low : (low d w p : ℕ) (at_x : Extents) (e : Entry) (t : Tree) → low ≤ d → d ≤ 503 → IsRow w 2 → p < 47 → IsEntry e → AreExtents (length e.item) at_x → at e.key d < p → Alone d e.key p t →
+    Grown e low t (branch d w (twig (at e.key d) (leaf e at_x) (twig p t none)))
+split_low low d w p at_x e t a b c l is f lt al = record {
   tree = (a, b, c, omega arith, agree, (omega arith, omega arith, alike, (is, f), (lt, l, al.all, al.deeper, tt)));
   put = record { before = []; after = entries_of t; old_is = refl; new_is = ap (λ (es : List Entry). e ∷ es) (append-nil (entries_of t)); lower = λ x i. absurd i; upper = λ x i. record { place = d; same = al.same x i; lower = (let q = al.all x i in omega arith) } };
 }
@@ -62,9 +63,9 @@ split_low low d w p first e t a b c l is f lt al = record {
     agree : Agree d (e ∷ (entries_of t ++ []))
     agree x y i j k m = sym (like x i k m) ∙ like y j k m
 
-pub split_high : (low d w p first : ℕ) (e : Entry) (t : Tree) → low ≤ d → d ≤ 503 → IsRow w 2 → at e.key d < 47 → p < 47 → IsEntry e → IsRow first (cells_in e.item) → p < at e.key d → Alone d e.key p t →
-    Grown e low t (branch d w (twig p t (twig (at e.key d) (leaf e first) none)))
-split_high low d w p first e t a b c l m is f lt al = record {
+pub split_high : (low d w p : ℕ) (at_x : Extents) (e : Entry) (t : Tree) → low ≤ d → d ≤ 503 → IsRow w 2 → at e.key d < 47 → p < 47 → IsEntry e → AreExtents (length e.item) at_x → p < at e.key d → Alone d e.key p t →
+    Grown e low t (branch d w (twig p t (twig (at e.key d) (leaf e at_x) none)))
+split_high low d w p at_x e t a b c l m is f lt al = record {
   tree = (a, b, c, omega arith, agree, (omega arith, m, al.all, al.deeper, (lt, l, alike, (is, f), tt)));
   put = record { before = entries_of t; after = []; old_is = sym (append-nil (entries_of t)); new_is = refl; lower = λ x i. record { place = d; same = λ j k. sym (al.same x i j k); lower = (let q = al.all x i in omega arith) }; upper = λ x i. absurd i };
 }

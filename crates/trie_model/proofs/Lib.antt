@@ -9,6 +9,7 @@ pub mod DropLaws
 pub mod OrderLaws
 pub mod MoveLaws
 pub mod CountLaws
+pub mod ExtentLaws
 pub mod ReachLaws
 pub mod FewLaws
 pub mod ShapeLaws

@@ -1,7 +1,8 @@
 -- A tree stays where it lies, or its twigs are copied, from one memory to another.
-use Rattle.std.proofs.Common.{◌≡◌, ℕ, zero, suc, ◌+◌, ◌<◌, Bool, true, arith, subst}
+use Rattle.std.proofs.Common.{◌≡◌, ℕ, zero, suc, ◌+◌, ◌<◌, Bool, true, length, arith, subst}
 use Rattle.packed_node.specs.declared.Cell.{Cell}
-use Rattle.trie_model.specs.Memory.{top_cell, item_cell, Beneath, Lie}
+use Rattle.trie_model.proofs.ExtentLaws.{item_kept, each_weaker}
+use Rattle.trie_model.specs.Memory.{top_cell, Beneath, Lie}
 use Rattle.trie_model.specs.Reach.{WithinTree, Within}
 use Rattle.trie_model.specs.Trees.{Tree, Twigs, count}
 use Rattle.trie_model.specs.Trees.Tree.{leaf, branch}
@@ -17,7 +18,7 @@ Copied n r s has new = (i : ℕ) (c : Cell) → i < n → has (r + i) c → new 
 
 abbrev mutual
   pub beneath_kept : (P : ℕ → Bool) (has new : ℕ → Cell → Type 0) → Keeps P has new → (t : Tree) → WithinTree P t → Beneath has t → Beneath new t
-  beneath_kept P has new keep (leaf e w) within h = λ k l. keep (w + k) (item_cell e.item k) (within k l) (h k l)
+  beneath_kept P has new keep (leaf e x) within h = item_kept (λ q. P q ≡ true) has new keep x e.item within h
   beneath_kept P has new keep (branch o w below) within h = lie_kept P has new keep w below within h
 
   pub lie_kept : (P : ℕ → Bool) (has new : ℕ → Cell → Type 0) → Keeps P has new → (r : ℕ) (ts : Twigs) → Within P r ts → Lie has r ts → Lie new r ts
@@ -43,7 +44,7 @@ within_moved P r s (twig p t rest) all h = (
 
 abbrev mutual
   pub tree_weaker : (P Q : ℕ → Bool) → ((q : ℕ) → P q ≡ true → Q q ≡ true) → (t : Tree) → WithinTree P t → WithinTree Q t
-  tree_weaker P Q weak (leaf e w) h = λ k l. weak (w + k) (h k l)
+  tree_weaker P Q weak (leaf e x) h = each_weaker (λ q. P q ≡ true) (λ q. Q q ≡ true) weak (length e.item) x h
   tree_weaker P Q weak (branch o w below) h = twigs_weaker P Q weak w below h
 
   pub twigs_weaker : (P Q : ℕ → Bool) → ((q : ℕ) → P q ≡ true → Q q ≡ true) → (r : ℕ) (ts : Twigs) → Within P r ts → Within Q r ts

@@ -1,5 +1,5 @@
 -- A tree by the cell of its top node.
-use Rattle.std.proofs.Common.{◌≡◌, ℕ, suc, ◌-◌, ◌<◌, ◌≤◌, length, arith, sym, ap}
+use Rattle.std.proofs.Common.{◌≡◌, ℕ, suc, ◌-◌, ◌<◌, ◌≤◌, length, arith, refl, sym, ap}
 use Rattle.packed_node.specs.declared.Cell.{Cell}
 use Rattle.packed_node.specs.declared.Leaf.{Leaf}
 use Rattle.packed_node.specs.declared.Branch.{Branch}
@@ -9,6 +9,7 @@ use Rattle.packed_node.specs.Nodes.{IsNode, SaysNode, packed}
 use Rattle.trie_model.specs.Keys.{Entry}
 use Rattle.trie_model.specs.Trees.{Tree, Twigs, IsTree, bitmap_of}
 use Rattle.trie_model.specs.Trees.Tree.{leaf, branch}
+use Rattle.trie_model.specs.Extents.{Extents, first_of}
 use Rattle.trie_model.specs.Memory.{node_of, top_cell}
 use Rattle.trie_model.proofs.TopLaws.{is_node}
 
@@ -35,7 +36,7 @@ pub record BranchTold (t : Tree) (b : Branch) : Type 0 where
   pub bitmap : b.bitmap ≡ bitmap_of below
 
 pub branch_told : (t : Tree) (b : Branch) → node_of t ≡ node.Branch b → BranchTold t b
-branch_told (leaf e w) b h = absurd (leaf_no_branch (record { len = length e.item; at = w }) b h)
+branch_told (leaf e w) b h = absurd (leaf_no_branch (record { len = length e.item; at = first_of w }) b h)
 branch_told (branch o w below) b h =
     let same = same_branch (record { offset = o; bitmap = bitmap_of below; twigs = w }) b h in
     record { below = below; is = ap (λ (x : Branch). branch x.offset x.twigs below) same; bitmap = sym (ap (λ (x : Branch). x.bitmap) same) }
@@ -43,13 +44,15 @@ branch_told (branch o w below) b h =
 -- it is a leaf
 pub record LeafSaid (t : Tree) (l : Leaf) : Type 0 where
   pub entry : Entry
-  pub is : t ≡ leaf entry l.at
+  pub extents : Extents
+  pub is : t ≡ leaf entry extents
+  pub at : l.at ≡ first_of extents
   pub len : l.len ≡ length entry.item
 
 pub leaf_said : (t : Tree) (l : Leaf) → node_of t ≡ node.Leaf l → LeafSaid t l
 leaf_said (leaf e w) l h =
-    let same = same_leaf (record { len = length e.item; at = w }) l h in
-    record { entry = e; is = ap (λ (x : Leaf). leaf e x.at) same; len = sym (ap (λ (x : Leaf). x.len) same) }
+    let same = same_leaf (record { len = length e.item; at = first_of w }) l h in
+    record { entry = e; extents = w; is = refl; at = sym (ap (λ (x : Leaf). x.at) same); len = sym (ap (λ (x : Leaf). x.len) same) }
 leaf_said (branch o w below) l h = absurd (leaf_no_branch l (record { offset = o; bitmap = bitmap_of below; twigs = w }) (sym h))
 
 -- how many places there are for branches from a node on: a walk downwards comes to an end

@@ -15,17 +15,22 @@ use Rattle.trie_model.proofs.CountLaws.{weigh_add, weigh_replace}
 use Rattle.trie_model.proofs.GrowthLaws.{Alone, alone_of, split_low, split_high, some_entry, each_entry}
 use Rattle.trie_model.proofs.AddLaws.{absent_of, present_of, nearest_here, add_twig, grow_twig, found_twigs}
 use Rattle.trie_model.proofs.OrderLaws.{one_insertion}
-use Rattle.trie_model.proofs.SizeLaws.{one, size, size_is, row_ones, short_row, item_row}
+use Rattle.trie_model.proofs.ExtentLaws.{Laid, laid, short_row}
+use Rattle.trie_model.proofs.SizeLaws.{one, size, size_is, row_ones}
 
 -- a tree with an entry put in, where its key first differs from all others
 abbrev More : Entry → ℕ → Tree → Type 0
 More e low t = (new : Tree) × Grown e low t new × (size t ≤ size new)
 
 module _ (low d p : ℕ) (e : Entry) (deep : low ≤ d) (short : d ≤ 503) (lp : p < 47) (is : IsEntry e) where
+  -- where the item lies doesn't matter here
+  there : Laid (length e.item)
+  there = laid (length e.item)
+
   put_above : (t : Tree) → IsTree low t → Nearest d e.key p (entries_of t) → Deep d t → More e low t
   put_above t h x deeper = elim (cases_lt (at e.key d) p) [
-    | inl l ↦ (_, split_low low d 0 p 0 e t deep short (short_row 2 (omega arith)) lp is (item_row e is) l alone, omega arith)
-    | inr g ↦ (_, split_high low d 0 p 0 e t deep short (short_row 2 (omega arith)) (is.key.positions d) lp is (item_row e is) (apart g) alone, omega arith)
+    | inl l ↦ (_, split_low low d 0 p there.extents e t deep short (short_row 2 (omega arith)) lp is there.are l alone, omega arith)
+    | inr g ↦ (_, split_high low d 0 p there.extents e t deep short (short_row 2 (omega arith)) (is.key.positions d) lp is there.are (apart g) alone, omega arith)
   ]
     where
       alone : Alone d e.key p t
@@ -40,12 +45,12 @@ module _ (low d p : ℕ) (e : Entry) (deep : low ≤ d) (short : d ≤ 503) (lp 
   put_beside : (w : ℕ) (below : Twigs) → IsTree low (branch d w below) → Nearest d e.key p (entries below) → More e low (branch d w below)
   put_beside w below tree near =
       let m = absent_of low d w p e.key below tree near (is.key.positions d) in
-      let sizes = weigh_add one w 0 (at e.key d) 0 e below m in
-      let new = add_twig low d w 0 p 0 e below m tree near is (item_row e is) (short_row (suc (count below)) (let f = fits d below tree.5 in omega arith)) in
-      (_, new, (let a = row_ones w (count below) in let b = row_ones 0 (count (beside m.left (twig (at e.key d) (leaf e 0) m.right))) in let c = sizes_of m in omega arith))
+      let sizes = weigh_add one w 0 (at e.key d) there.extents e below m in
+      let new = add_twig low d w 0 p there.extents e below m tree near is there.are (short_row (suc (count below)) (let f = fits d below tree.5 in omega arith)) in
+      (_, new, (let a = row_ones w (count below) in let b = row_ones 0 (count (beside m.left (twig (at e.key d) (leaf e there.extents) m.right))) in let c = sizes_of m in omega arith))
     where
-      sizes_of : (m : Missing 0 47 (at e.key d) below) → count (beside m.left (twig (at e.key d) (leaf e 0) m.right)) ≡ suc (count below)
-      sizes_of m = let a = count-beside m.left (twig (at e.key d) (leaf e 0) m.right) in let b = ap count m.is ∙ count-beside m.left m.right in omega arith
+      sizes_of : (m : Missing 0 47 (at e.key d) below) → count (beside m.left (twig (at e.key d) (leaf e there.extents) m.right)) ≡ suc (count below)
+      sizes_of m = let a = count-beside m.left (twig (at e.key d) (leaf e there.extents) m.right) in let b = ap count m.is ∙ count-beside m.left m.right in omega arith
 
   put_below : (o w : ℕ) (below : Twigs) → IsTree low (branch o w below) → Nearest d e.key p (entries below) → o < d → ((t : Tree) → IsTree (suc o) t → Nearest d e.key p (entries_of t) → More e (suc o) t) → More e low (branch o w below)
   put_below o w below tree near l next =
@@ -155,7 +160,7 @@ outgrow (e ∷ es) front z t is holds isz each rises =
     record { tree = all.tree; is_tree = all.is_tree; holds = all.holds ∙ sym moved; larger = (let a = all.larger in omega arith) }
 
 pub outline_of : (e : Entry) (es : List Entry) → EachIsEntry (e ∷ es) → Rises (e ∷ es) → Outline 0 (e ∷ es)
-outline_of e es is rises = let o = outgrow es [] e (leaf e 0) (is.0, item_row e is.0) refl is.0 is.1 rises in record { tree = o.tree; is_tree = o.is_tree; holds = o.holds; larger = omega arith }
+outline_of e es is rises = let o = outgrow es [] e (leaf e (laid (length e.item)).extents) (is.0, (laid (length e.item)).are) refl is.0 is.1 rises in record { tree = o.tree; is_tree = o.is_tree; holds = o.holds; larger = omega arith }
 
 -- the last entry of a list
 record Ended (es : List Entry) : Type 0 where

@@ -7,10 +7,12 @@ use Rattle.std.proofs.lemmas.List.Elements.{filter-append}
 use Rattle.std.proofs.lemmas.List.Sums.{sum_by-cons, sum_by-append}
 use Rattle.std.specs.List.{list_all, range_with_len}
 use Rattle.trie_model.specs.Keys.{at, Entry, InList}
-use Rattle.trie_model.specs.Trees.{Tree, Twigs, entries_of, entries, count, cells_in, AllAt, Agree, IsTree, AreTwigs}
+use Rattle.trie_model.specs.Trees.{Tree, Twigs, entries_of, entries, count, AllAt, Agree, IsTree, AreTwigs}
 use Rattle.trie_model.specs.Trees.Tree.{leaf, branch}
 use Rattle.trie_model.specs.Trees.Twigs.{none, twig}
-use Rattle.trie_model.specs.Reach.{side_by_side, reach, reach_below, reach_twigs}
+use Rattle.trie_model.specs.Extents.{cells_in}
+use Rattle.trie_model.specs.Reach.{reach, reach_below, reach_twigs}
+use Rattle.trie_model.proofs.ExtentLaws.{length-spots}
 use Rattle.trie_model.specs.Shape.{alike, difference_from, first_difference, part, parts, nodes_within, nodes, keys_of, cells, nodes_of, nodes_in}
 use Rattle.trie_model.proofs.KeyLaws.{in_left, in_right}
 use Rattle.trie_model.proofs.SplitLaws.{keys_upper, rising_of}
@@ -224,24 +226,20 @@ unfolding nodes
 nodes_are low t h = told_of t low (length (keys_of (entries_of t))) h (let c = length-map (entries_of t) (λ (e : Entry). e.key) in omega arith)
 
 -- ---- the cells
-length-side_by_side : (r n : ℕ) → length (side_by_side r n) ≡ n
-length-side_by_side r zero = refl
-length-side_by_side r (suc n) = ap suc (length-side_by_side (suc r) n)
-
 mutual
-  pub reach_length : (t : Tree) → suc (length (reach_below t)) ≡ nodes_of t + sum_by (λ (e : Entry). cells_in e.item) (entries_of t)
-  reach_length (leaf e w) = let a = length-side_by_side w (cells_in e.item) in omega arith
-  reach_length (branch o w below) = let a = reach_twigs_length below w in omega arith
+  pub reach_length : (low : ℕ) (t : Tree) → IsTree low t → suc (length (reach_below t)) ≡ nodes_of t + sum_by (λ (e : Entry). cells_in e.item) (entries_of t)
+  reach_length low (leaf e x) h = let a = length-spots (length e.item) x h.1 in omega arith
+  reach_length low (branch o w below) h = let a = reach_twigs_length o 0 below w h.5 in omega arith
 
-  reach_twigs_length : (ts : Twigs) (r : ℕ) → length (reach_twigs r ts) ≡ nodes_in ts + sum_by (λ (e : Entry). cells_in e.item) (entries ts)
-  reach_twigs_length none r = refl
-  reach_twigs_length (twig p t rest) r =
-      let a = reach_length t in let b = reach_twigs_length rest (suc r) in
+  reach_twigs_length : (o low : ℕ) (ts : Twigs) (r : ℕ) → AreTwigs o low ts → length (reach_twigs r ts) ≡ nodes_in ts + sum_by (λ (e : Entry). cells_in e.item) (entries ts)
+  reach_twigs_length o low none r h = refl
+  reach_twigs_length o low (twig p t rest) r h =
+      let a = reach_length (suc o) t h.3 in let b = reach_twigs_length o (suc p) rest (suc r) h.4 in
       let c = length-append (reach_below t) (reach_twigs (suc r) rest) in
       let d = sum_by-append (λ (e : Entry). cells_in e.item) (entries_of t) (entries rest) in omega arith
 
 pub cells_are : (low r : ℕ) (t : Tree) → IsTree low t → length (reach r t) ≡ cells (entries_of t)
-cells_are low r t h = let a = nodes_are low t h in let b = reach_length t in omega arith
+cells_are low r t h = let a = nodes_are low t h in let b = reach_length low t h in omega arith
 
-pub nodes_le : (t : Tree) (r : ℕ) → nodes_of t ≤ length (reach r t)
-nodes_le t r = let a = reach_length t in omega arith
+pub nodes_le : (low : ℕ) (t : Tree) (r : ℕ) → IsTree low t → nodes_of t ≤ length (reach r t)
+nodes_le low t r h = let a = reach_length low t h in omega arith

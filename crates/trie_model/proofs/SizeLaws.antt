@@ -1,12 +1,14 @@
 -- How many cells a tree has, as a sum along it.
-use Rattle.std.proofs.Common.{◌≡◌, ℕ, zero, suc, ◌+◌, ◌≤◌, sum_by, List, [], ◌∷◌, length, arith, refl, sym, ◌∙◌, ap}
+use Rattle.std.proofs.Common.{◌≡◌, ℕ, zero, suc, ◌+◌, sum_by, List, [], ◌∷◌, length, arith, refl, sym, ◌∙◌, ap}
 use Rattle.std.proofs.lemmas.List.Sums.{sum_by-cons}
+use Rattle.trie_model.specs.Extents.{cells_in, row}
 use Rattle.trie_model.specs.Keys.{Entry, IsEntry}
-use Rattle.trie_model.specs.Reach.{reach_below, row, weigh_tree, weigh}
+use Rattle.trie_model.specs.Reach.{reach_below, weigh_tree, weigh}
 use Rattle.trie_model.specs.Shape.{cells, nodes, nodes_within}
-use Rattle.trie_model.specs.Trees.{Tree, Twigs, entries_of, cells_in, IsRow, IsTree, beside}
+use Rattle.trie_model.specs.Trees.{Tree, Twigs, entries_of, IsTree, beside}
 use Rattle.trie_model.specs.Trees.Tree.{leaf, branch}
 use Rattle.trie_model.specs.Trees.Twigs.{none, twig}
+use Rattle.trie_model.proofs.ExtentLaws.{laid, weigh_ones}
 use Rattle.trie_model.proofs.ReachLaws.{weighed}
 use Rattle.trie_model.proofs.ShapeLaws.{cells_are}
 
@@ -43,17 +45,11 @@ pub twig_sizes-beside : (a b : Twigs) → twig_sizes (beside a b) ≡ twig_sizes
 twig_sizes-beside none b = omega arith
 twig_sizes-beside (twig p t rest) b = let e = twig_sizes-beside rest b in omega arith
 
--- where it lies doesn't matter here
-pub short_row : (n : ℕ) → n ≤ 1024 → IsRow 0 n
-short_row n l = record { inside = omega arith; together = omega arith }
-
-pub item_row : (e : Entry) → IsEntry e → IsRow 0 (cells_in e.item)
-item_row e is = short_row (cells_in e.item) (let s = is.item.short in omega arith)
-
 -- no entry, and one
 pub no_cells : cells [] ≡ 0
 unfolding nodes nodes_within
 no_cells = refl
 
 pub entry_cells : (e : Entry) → IsEntry e → cells (e ∷ []) ≡ suc (cells_in e.item)
-entry_cells e is = size_is 0 (leaf e 0) (is, item_row e is) ∙ ap suc (row_ones 0 (cells_in e.item))
+-- where it lies doesn't matter here
+entry_cells e is = let there = laid (length e.item) in size_is 0 (leaf e there.extents) (is, there.are) ∙ ap suc (weigh_ones one row_ones (length e.item) there.extents there.are)

@@ -2,6 +2,7 @@
 -- A key is a list of positions (BIND's doc/design/qp-trie.md, "domain names and shift keys"): one or two, from 1 on, for
 -- each octet of a name, and a 0 at the end of each label. Past its end it reads 0. An item is a list of octets.
 use Rattle.std.specs.Prelude.{◌≡◌, ℕ, suc, ◌<◌, ◌≤◌, ◌⊎◌, List, [], ◌∷◌, length, slice_index}
+use Rattle.zone_model.specs.Keys.{most_item_octets}
 
 -- the position at a place
 abbrev pub at : List ℕ → ℕ → ℕ
@@ -19,10 +20,13 @@ pub record IsKey (key : List ℕ) : Type 0 where
   -- no label is empty
   pub full : (i : ℕ) → i < length key → at key i ≡ 0 → (j : ℕ) × (i ≡ suc j) × (0 < at key j)
 
+abbrev pub AreOctets : List ℕ → Type 0
+AreOctets item = (i : ℕ) → slice_index item i < 256
+
 pub record IsItem (item : List ℕ) : Type 0 where
   pub some : 0 < length item
-  pub short : length item ≤ 4096
-  pub octets : (i : ℕ) → slice_index item i < 256
+  pub short : length item ≤ most_item_octets
+  pub octets : AreOctets item
 
 pub record Entry : Type 0 where
   pub key : List ℕ

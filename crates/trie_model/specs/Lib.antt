@@ -1,4 +1,5 @@
 pub mod Keys
+pub mod Extents
 pub mod Changes
 pub mod Trees
 pub mod Reach

@@ -1,12 +1,12 @@
 -- A trie in a memory of cells. A memory is what it has: a relation between references and cells, as a finite list of pairs is one.
-use Rattle.std.specs.Prelude.{◌≡◌, ℕ, suc, ◌+◌, ◌*◌, ◌<◌, ◌≤◌, ◌^◌, List, [], length, Option, Some, None, Contains, drop, count_by, ◌==◌}
-use Rattle.std.specs.Int.{w64, from_le_bytes}
+use Rattle.std.specs.Prelude.{◌≡◌, ℕ, suc, ◌<◌, ◌≤◌, ◌^◌, List, [], length, Option, Some, None, Contains, count_by, ◌==◌}
 use Rattle.packed_node.specs.declared.Cell.{Cell}
 use Rattle.packed_node.specs.declared.Node.{Node}
 use Rattle.packed_node.specs.declared.Node.TheVariants as node
 use Rattle.packed_node.specs.Nodes.{packed}
+use Rattle.trie_model.specs.Extents.{first_of, ItemLies}
 use Rattle.trie_model.specs.Keys.{Entry}
-use Rattle.trie_model.specs.Trees.{Tree, Twigs, entries_of, bitmap_of, cells_in, IsTree}
+use Rattle.trie_model.specs.Trees.{Tree, Twigs, entries_of, bitmap_of, IsTree}
 use Rattle.trie_model.specs.Trees.Tree.{leaf, branch}
 use Rattle.trie_model.specs.Trees.Twigs.{none, twig}
 use Rattle.trie_model.specs.Reach.{reach}
@@ -15,18 +15,9 @@ use Rattle.trie_model.specs.Reach.{reach}
 abbrev pub listed : List (ℕ × Cell) → ℕ → Cell → Type 0
 listed pairs r c = Contains pairs (r, c)
 
--- the k-th cell of an item: 16 octets, the first eight in big and the others in small, each word with the first octet the
--- lowest; 0 past the item's end
-abbrev pub item_cell : List ℕ → ℕ → Cell
-item_cell item k = record { big = from_le_bytes w64 (drop (16 * k) item); small = from_le_bytes w64 (drop (16 * k + 8) item) }
-
--- its cells lie side by side from where_at on
-abbrev pub ItemLies : (ℕ → Cell → Type 0) → ℕ → List ℕ → Type 0
-ItemLies has where_at item = (k : ℕ) → k < cells_in item → has (where_at + k) (item_cell item k)
-
 -- a tree's top node, and its cell
 abbrev pub node_of : Tree → Node
-node_of (leaf e where_at) = node.Leaf (record { len = length e.item; at = where_at })
+node_of (leaf e x) = node.Leaf (record { len = length e.item; at = first_of x })
 node_of (branch o where_at below) = node.Branch (record { offset = o; bitmap = bitmap_of below; twigs = where_at })
 
 abbrev pub top_cell : Tree → Cell
@@ -35,7 +26,7 @@ top_cell t = packed (node_of t)
 abbrev mutual
   -- what hangs on the top node lies in the memory
   pub Beneath : (ℕ → Cell → Type 0) → Tree → Type 0
-  Beneath has (leaf e where_at) = ItemLies has where_at e.item
+  Beneath has (leaf e x) = ItemLies has x e.item
   Beneath has (branch o where_at below) = Lie has where_at below
 
   -- the twigs lie side by side from r on

@@ -1,18 +1,14 @@
--- The references that a trie reaches: of its nodes, and of the cells of its items.
-use Rattle.std.specs.Prelude.{◌≡◌, ℕ, zero, suc, ◌+◌, ◌/◌, ◌<◌, Bool, true, List, [], ◌∷◌, ◌++◌, map, count_by, ◌==◌, if◌then◌else◌}
-use Rattle.trie_model.specs.Trees.{Tree, Twigs, cells_in}
+-- The references that a trie reaches: of its nodes, and of the cells of its items, link cells with them.
+use Rattle.std.specs.Prelude.{◌≡◌, ℕ, suc, ◌+◌, ◌/◌, Bool, true, List, [], ◌∷◌, ◌++◌, length, map, count_by, ◌==◌, if◌then◌else◌}
+use Rattle.trie_model.specs.Extents.{spots, WithinExtents, weigh_extents}
+use Rattle.trie_model.specs.Trees.{Tree, Twigs}
 use Rattle.trie_model.specs.Trees.Tree.{leaf, branch}
 use Rattle.trie_model.specs.Trees.Twigs.{none, twig}
-
--- n references from r on
-abbrev pub side_by_side : ℕ → ℕ → List ℕ
-side_by_side r zero = []
-side_by_side r (suc n) = r ∷ side_by_side (suc r) n
 
 abbrev mutual
   -- below the top node
   pub reach_below : Tree → List ℕ
-  reach_below (leaf e where_at) = side_by_side where_at (cells_in e.item)
+  reach_below (leaf e x) = spots (length e.item) x
   reach_below (branch o where_at below) = reach_twigs where_at below
 
   -- of twigs that lie from r on
@@ -35,21 +31,17 @@ live_in chunk r t = count_by (λ q. q / 1024 == chunk) (reach r t)
 -- Proofs go along the tree in place of the list (laws join the two). Each reference below the top node passes the test:
 abbrev mutual
   pub WithinTree : (ℕ → Bool) → Tree → Type 0
-  WithinTree P (leaf e where_at) = (k : ℕ) → k < cells_in e.item → P (where_at + k) ≡ true
+  WithinTree P (leaf e x) = WithinExtents P (length e.item) x
   WithinTree P (branch o where_at below) = Within P where_at below
 
   pub Within : (ℕ → Bool) → ℕ → Twigs → Type 0
   Within P r none = Unit {0}
   Within P r (twig p t rest) = (P r ≡ true) × WithinTree P t × Within P (suc r) rest
 
--- The sum of what the references weigh, each by w: n side by side, and those below the top node.
-abbrev pub row : (ℕ → ℕ) → ℕ → ℕ → ℕ
-row w r zero = 0
-row w r (suc n) = w r + row w (suc r) n
-
+-- The sum of what the references below the top node weigh, each by w.
 abbrev mutual
   pub weigh_tree : (ℕ → ℕ) → Tree → ℕ
-  weigh_tree w (leaf e first) = row w first (cells_in e.item)
+  weigh_tree w (leaf e x) = weigh_extents w (length e.item) x
   weigh_tree w (branch o r below) = weigh w r below
 
   pub weigh : (ℕ → ℕ) → ℕ → Twigs → ℕ

@@ -4,7 +4,8 @@
 use Rattle.std.specs.Prelude.{ℕ, zero, suc, ◌+◌, Bool, true, ◌==◌, List, [], ◌∷◌, length, map, filter, sum_by, if◌then◌else◌}
 use Rattle.std.specs.List.{list_all, range_with_len}
 use Rattle.trie_model.specs.Keys.{at, Entry}
-use Rattle.trie_model.specs.Trees.{Tree, Twigs, cells_in}
+use Rattle.trie_model.specs.Extents.{cells_in}
+use Rattle.trie_model.specs.Trees.{Tree, Twigs}
 use Rattle.trie_model.specs.Trees.Tree.{leaf, branch}
 use Rattle.trie_model.specs.Trees.Twigs.{none, twig}
 

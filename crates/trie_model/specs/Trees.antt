@@ -1,11 +1,12 @@
 -- The trie as a tree, with the references at which its parts lie.
-use Rattle.std.specs.Prelude.{◌≡◌, ℕ, suc, ◌+◌, ◌/◌, ◌%◌, ◌^◌, ◌<◌, ◌≤◌, List, [], ◌∷◌, ◌++◌, length}
+use Rattle.std.specs.Prelude.{◌≡◌, ℕ, suc, ◌+◌, ◌^◌, ◌<◌, ◌≤◌, List, [], ◌∷◌, ◌++◌, length}
+use Rattle.trie_model.specs.Extents.{Extents, AreExtents, IsRow}
 use Rattle.trie_model.specs.Keys.{at, Same, Entry, IsEntry, InList}
 
 mutual
-  -- a leaf with the reference of its item's first cell; a branch with its offset and its first twig's reference
+  -- a leaf with the extents of its item; a branch with its offset and its first twig's reference
   pub data Tree : Type 0 where
-    leaf : Entry → ℕ → Tree
+    leaf : Entry → Extents → Tree
     branch : ℕ → ℕ → Twigs → Tree
 
   -- in rising position
@@ -16,7 +17,7 @@ mutual
 abbrev mutual
   -- what the leaves hold, in twig order
   pub entries_of : Tree → List Entry
-  entries_of (leaf e where_at) = e ∷ []
+  entries_of (leaf e x) = e ∷ []
   entries_of (branch o where_at below) = entries below
 
   pub entries : Twigs → List Entry
@@ -37,15 +38,6 @@ abbrev pub Rising : ℕ → ℕ → Twigs → Type 0
 Rising lo hi none = lo ≤ hi
 Rising lo hi (twig p t rest) = (lo ≤ p) × (p < hi) × Rising (suc p) hi rest
 
--- 16 octets a cell
-abbrev pub cells_in : List ℕ → ℕ
-cells_in item = (length item + 15) / 16
-
--- n neighbouring cells of one chunk
-pub record IsRow (first n : ℕ) : Type 0 where
-  pub inside : first + n ≤ 2 ^ 22
-  pub together : first % 1024 + n ≤ 1024
-
 -- all keys of the list have the position p at o
 abbrev pub AllAt : ℕ → ℕ → List Entry → Type 0
 AllAt o p es = (e : Entry) → InList e es → at e.key o ≡ p
@@ -57,7 +49,7 @@ Agree o es = (a b : Entry) → InList a es → InList b es → Same o a.key b.ke
 abbrev mutual
   -- offsets are at least low, and rise downwards; the keys below a branch agree before its offset
   pub IsTree : ℕ → Tree → Type 0
-  IsTree low (leaf e where_at) = IsEntry e × IsRow where_at (cells_in e.item)
+  IsTree low (leaf e x) = IsEntry e × AreExtents (length e.item) x
   IsTree low (branch o where_at below) = (low ≤ o) × (o ≤ 503) × IsRow where_at (count below) × (2 ≤ count below) × Agree o (entries below) × AreTwigs o 0 below
 
   -- the twigs of a branch at o: positions from low on, the keys below a twig having its position at o

@@ -9,6 +9,7 @@ use Rattle.packed_node.specs.declared.Node.{Node}
 use Rattle.packed_node.specs.declared.Node.TheVariants as node
 use Rattle.packed_node.specs.Nodes.{IsNode, packed}
 use Rattle.zone_model.specs.Keys.{IsKey as IsNameKey}
+use Rattle.trie_model.specs.Extents.{Extents}
 use Rattle.trie_model.specs.Keys.{at, Same, IsKey, Entry, InList}
 use Rattle.trie_model.specs.Order.{EndsAt, chain, labels_in}
 use Rattle.trie_model.specs.Trees.{Rising, Tree, Twigs, entries_of, entries, count, bitmap_of, beside, IsTree, AreTwigs}
@@ -87,7 +88,7 @@ first_zero o w p q v t u r s e = cc
 first_tree : (o w p q v : ℕ) (t u : Tree) (r s : Twigs) → branch o w (twig p t r) ≡ branch q v (twig 0 u s) → t ≡ u
 first_tree o w p q v t u r s e = cc
 
-same_entry : (a b : Entry) (v w : ℕ) → leaf a v ≡ leaf b w → a ≡ b
+same_entry : (a b : Entry) (v w : Extents) → leaf a v ≡ leaf b w → a ≡ b
 same_entry a b v w e = cc
 
 -- the one that was found
@@ -102,14 +103,14 @@ pub found_left : (has : ℕ → Cell → Type 0) (o w : ℕ) (k : List ℕ) (lef
     HasEnding has (branch o w (beside left (twig p t right))) (Some l) → FoundLeft has o k left l
 found_left has o w k none right p t l kk a r same ends some h = absurd (omega arith)
 found_left has o w k (twig q u s) right p t l kk a r same ends some h =
-    let is = h.1.1.1.1 in
-    let z = first_zero o w q h.0 h.1.0 u (leaf h.1.1.0 l.at) (beside s (twig p t right)) h.1.1.1.0 is in
-    let first = first_tree o w q h.0 h.1.0 u (leaf h.1.1.0 l.at) (beside s (twig p t right)) h.1.1.1.0 is in
+    let is = h.1.1.1.1.1 in
+    let z = first_zero o w q h.0 h.1.0 u (leaf h.1.1.0 h.1.1.1.0) (beside s (twig p t right)) h.1.1.1.1.0 is in
+    let first = first_tree o w q h.0 h.1.0 u (leaf h.1.1.0 h.1.1.1.0) (beside s (twig p t right)) h.1.1.1.1.0 is in
     let c = chain_above o k u s kk (subst (λ (n : ℕ). AreTwigs o 0 (twig n u s)) z a) (subst (λ (n : ℕ). Rising 0 (at k o) (twig n u s)) z r) same ends in
-    let e = same_entry h.1.1.0 c.0.entry l.at c.0.place (sym first ∙ c.0.is) in
+    let e = same_entry h.1.1.0 c.0.entry h.1.1.1.0 c.0.extents (sym first ∙ c.0.is) in
     record {
       entry = h.1.1.0;
-      leaf_of = h.1.1.1.2;
+      leaf_of = h.1.1.1.1.2;
       chain = c.1 ∙ ap (λ (x : Entry). x ∷ []) (sym e);
       labels = ap (λ (x : Entry). labels_in x.key) e ∙ ap labels_in c.0.key;
       there = in_left h.1.1.0 (entries_of u) (entries s) (subst (λ (v : Tree). InList h.1.1.0 (entries_of v)) (sym first) (inl refl));
@@ -120,7 +121,7 @@ pub none_left : (has : ℕ → Cell → Type 0) (o w : ℕ) (k : List ℕ) (left
     HasEnding has (branch o w (beside left (twig p t right))) None → chain k (entries left) ≡ []
 none_left has o w k left right p t kk a r same h = chain_beside o k left kk a r same (λ u s is ends.
     let c = chain_above o k u s kk (subst (AreTwigs o 0) is a) (subst (Rising 0 (at k o)) is r) (λ x i. same x (subst (λ (ts : Twigs). InList x (entries ts)) (sym is) i)) ends in
-    h o w c.0.entry c.0.place (beside s (twig p t right)) (ap (λ (ts : Twigs). branch o w (beside ts (twig p t right))) is ∙ ap (λ (v : Tree). branch o w (twig 0 v (beside s (twig p t right)))) c.0.is))
+    h o w c.0.entry c.0.extents (beside s (twig p t right)) (ap (λ (ts : Twigs). branch o w (beside ts (twig p t right))) is ∙ ap (λ (v : Tree). branch o w (twig 0 v (beside s (twig p t right)))) c.0.is))
 
 no_twigs : (left : Twigs) → count left ≡ 0 → left ≡ none
 no_twigs none e = refl
@@ -182,11 +183,11 @@ read_at has path root level whole t before after c r n at is back e =
     record { tree = x.tree; beneath = x.beneath; is = sym (node_read level t c r x.tree is back) ∙ e }
 
 -- what was read of a twig for keys that end at the branch
-no_leaf : (o w at : ℕ) (below : Twigs) (e : Entry) → leaf e at ≡ branch o w below → ⊥
+no_leaf : (o w : ℕ) (at : Extents) (below : Twigs) (e : Entry) → leaf e at ≡ branch o w below → ⊥
 no_leaf o w at below e is = cc
 
 pub no_ending_leaf : (has : ℕ → Cell → Type 0) (t : Tree) (l : Leaf) → node_of t ≡ node.Leaf l → HasEnding has t None
-no_ending_leaf has t l is o w e at rest b = let x = leaf_said t l is in no_leaf o w l.at (twig 0 (leaf e at) rest) x.entry (sym x.is ∙ b)
+no_ending_leaf has t l is o w e at rest b = let x = leaf_said t l is in no_leaf o w x.extents (twig 0 (leaf e at) rest) x.entry (sym x.is ∙ b)
 
 same_below : (o w p v : ℕ) (a b : Twigs) → branch o w a ≡ branch p v b → a ≡ b
 same_below o w p v a b e = cc
@@ -229,7 +230,7 @@ first_twig has low t b tree beneath is bit = go x.below (subst (IsTree low) x.is
 pub ending_leaf : (has : ℕ → Cell → Type 0) (b : Branch) (t : Tree) (l : Leaf) (x : FirstTwig has b t) → node_of x.tree ≡ node.Leaf l → HasEnding has t (Some l)
 ending_leaf has b t l x is =
     let y = leaf_told has (suc b.offset) x.tree l x.deeper x.beneath is in
-    (b.offset, (b.twigs, (y.entry, (x.right, x.is ∙ ap (λ (u : Tree). branch b.offset b.twigs (twig 0 u x.right)) y.tree, y.leaf_of))))
+    (b.offset, (b.twigs, (y.entry, (y.extents, (x.right, x.is ∙ ap (λ (u : Tree). branch b.offset b.twigs (twig 0 u x.right)) y.tree, y.leaf_of)))))
 
 first_of : (o w p v q r : ℕ) (t u : Tree) (a s : Twigs) → branch o w (twig q t a) ≡ branch p v (twig r u s) → t ≡ u
 first_of o w p v q r t u a s e = cc

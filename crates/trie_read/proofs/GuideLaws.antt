@@ -4,6 +4,7 @@ use Rattle.std.proofs.lemmas.Bool.{cases_lt}
 use Rattle.std.proofs.lemmas.Option.{get_or_from_slice_get}
 use Rattle.packed_node.specs.declared.Cell.{Cell}
 use Rattle.packed_node.specs.declared.Branch.{Branch}
+use Rattle.trie_model.specs.Extents.{Extents}
 use Rattle.trie_model.specs.Keys.{at, Same, IsKey, Entry, InList, Less, Rises}
 use Rattle.trie_model.specs.Order.{IsSplitAt}
 use Rattle.trie_model.specs.Trees.{Rising, Tree, Twigs, entries_of, entries, count, bitmap_of, beside, IsTree, AreTwigs}
@@ -196,7 +197,7 @@ pub record CutTo (key : List ℕ) (steps : List Step) (depth : ℕ) (whole : Tre
   pub there : InList e (entries_of tree)
   pub alike : (x : Entry) → InList x (entries_of tree) → Same (suc place) x.key e.key
 
-pub cut_start : (key : List ℕ) (steps : List Step) (depth : ℕ) (whole : Tree) (e : Entry) (w place : ℕ) (before after : List Entry) → HangsBy (Guided key) steps whole depth (leaf e w) before after → CutTo key steps depth whole e place
+pub cut_start : (key : List ℕ) (steps : List Step) (depth : ℕ) (whole : Tree) (e : Entry) (w : Extents) (place : ℕ) (before after : List Entry) → HangsBy (Guided key) steps whole depth (leaf e w) before after → CutTo key steps depth whole e place
 cut_start key steps depth whole e w place before after h = record { tree = leaf e w; before = before; after = after; hangs = h; there = inl refl; alike = λ x i j l. elim i [ inl y ↦ ap (λ (z : Entry). at z.key j) y | inr z ↦ absurd z ] }
 
 -- a step more is taken back

@@ -74,7 +74,7 @@ faces_from_past has r root mine path turned new l next before after e f p turn g
     let is : root ≡ Some r = sym e ∙ f in
     let o = p.on in
     let at : o.at ≡ r = same_root o.at r root mine e o.root_is f in
-    let x = turn o.whole (leaf p.entry l.at) p.rest after o.leaf.leads.hangs in
+    let x = turn o.whole (leaf p.entry o.leaf.extents) p.rest after o.leaf.leads.hangs in
     let faces = go (p.rest ++ (p.entry ∷ after)) o.whole x.tree (p.rest ++ (p.entry ∷ [])) x.rest (subst (λ (n : ℕ). IsTrieAt has n o.whole (p.rest ++ (p.entry ∷ after))) at o.trie) (record { shape = o.leaf.leads.shape; beneath = o.leaf.leads.beneath; hangs = x.hangs }) in
     subst (λ (y : Option ℕ). Faces has y new next before after) (sym is) (subst (λ (es : List Entry). Faces has (Some r) new next es after) (sym p.is) (subst (Faces has (Some r) new next (p.rest ++ (p.entry ∷ []))) (sym x.is) faces))
 
@@ -85,7 +85,7 @@ passed_from_facing has r root mine path turned new l previous before after e f p
     let is : root ≡ Some r = sym e ∙ f in
     let o = p.on in
     let at : o.at ≡ r = same_root o.at r root mine e o.root_is f in
-    let x = turn o.whole (leaf p.entry l.at) before p.rest o.leaf.leads.hangs in
+    let x = turn o.whole (leaf p.entry o.leaf.extents) before p.rest o.leaf.leads.hangs in
     let passed = go (before ++ (p.entry ∷ p.rest)) o.whole x.tree x.rest (p.entry ∷ p.rest) (subst (λ (n : ℕ). IsTrieAt has n o.whole (before ++ (p.entry ∷ p.rest))) at o.trie) (record { shape = o.leaf.leads.shape; beneath = o.leaf.leads.beneath; hangs = x.hangs }) in
     subst (λ (y : Option ℕ). HasPassed has y new previous before after) (sym is) (subst (HasPassed has (Some r) new previous before) (sym p.is) (subst (λ (es : List Entry). HasPassed has (Some r) new previous es (p.entry ∷ p.rest)) (sym x.is) passed))
 

@@ -83,24 +83,24 @@ parts has k r path met version m = go met.difference refl
     go None e =
         let x = subst (LeadsToMet has k path m.whole m.entry met.leaf) e m.leads in
         let same = subst (IsDifference k m.entry.key) e m.differs in
-        let before = x.0 in let after = x.1.0 in
-        let whole : version ≡ before ++ (m.entry ∷ after) = sym (hangs_between (Guided k) path.steps m.whole path.depth (leaf m.entry met.leaf.at) before after x.1.1 ∙ m.trie.holds) in
+        let before = x.1.0 in let after = x.1.1.0 in
+        let whole : version ≡ before ++ (m.entry ∷ after) = sym (hangs_between (Guided k) path.steps m.whole path.depth (leaf m.entry x.0) before after x.1.1.1 ∙ m.trie.holds) in
         let rises : Rises version = subst Rises m.trie.holds (rises_tree 0 m.whole m.trie.shape) in
         let p = rises_parts before (m.entry ∷ after) (subst Rises whole rises) in
         record {
           before = before;
           passes = record {
             whole = m.whole;
-            tree = leaf m.entry met.leaf.at;
+            tree = leaf m.entry x.0;
             after = after;
             top = m.trie.top;
-            leads = record { shape = m.trie.shape; beneath = m.trie.beneath; hangs = x.1.1 };
+            leads = record { shape = m.trie.shape; beneath = m.trie.beneath; hangs = x.1.1.1 };
             told = told;
             met = m.entry;
             there = inl refl;
             place = 504;
             same = λ i l. ap (λ (z : List ℕ). at z i) same;
-            early = early_step k path m.whole (leaf m.entry met.leaf.at) before after m.trie.shape x.1.1;
+            early = early_step k path m.whole (leaf m.entry x.0) before after m.trie.shape x.1.1.1;
           };
           part = m.entry ∷ [];
           after = after;

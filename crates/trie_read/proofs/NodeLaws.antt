@@ -6,6 +6,7 @@ use Rattle.packed_node.specs.declared.Branch.{Branch}
 use Rattle.packed_node.specs.declared.Node.{Node}
 use Rattle.packed_node.specs.declared.Node.TheVariants as node
 use Rattle.packed_node.specs.Nodes.{IsNode, SaysNode, packed}
+use Rattle.trie_model.specs.Extents.{Extents, AreExtents, HasItem}
 use Rattle.trie_model.specs.Keys.{Entry}
 use Rattle.trie_model.specs.Trees.{Tree, entries_of, IsTree}
 use Rattle.trie_model.specs.Trees.Tree.{leaf}
@@ -26,15 +27,18 @@ branch_read has low c t r b top back is = branch_told t b (sym (top_read has low
 -- the tree is a leaf
 pub record LeafTold (has : ℕ → Cell → Type 0) (t : Tree) (l : Leaf) : Type 0 where
   pub entry : Entry
-  pub tree : t ≡ leaf entry l.at
+  pub extents : Extents
+  pub tree : t ≡ leaf entry extents
   pub is : entries_of t ≡ entry ∷ []
   pub leaf_of : IsLeafOf has entry l
 
 pub leaf_told : (has : ℕ → Cell → Type 0) (low : ℕ) (t : Tree) (l : Leaf) → IsTree low t → Beneath has t → node_of t ≡ node.Leaf l → LeafTold has t l
 leaf_told has low t l tree beneath is =
     let x = leaf_said t l is in
-    let shape : IsTree low (leaf x.entry l.at) = subst (IsTree low) x.is tree in
-    record { entry = x.entry; tree = x.is; is = ap entries_of x.is; leaf_of = record { entry = shape.0; len = x.len; row = shape.1; lies = subst (Beneath has) x.is beneath } }
+    let shape : IsTree low (leaf x.entry x.extents) = subst (IsTree low) x.is tree in
+    let are = subst (λ (n : ℕ). AreExtents n x.extents) (sym x.len) shape.1 in
+    let item : HasItem has l.at l.len x.entry.item = record { extents = x.extents; there = record { from = sym x.at; size = sym x.len; are = are; lies = subst (Beneath has) x.is beneath } } in
+    record { entry = x.entry; extents = x.extents; tree = x.is; is = ap entries_of x.is; leaf_of = record { entry = shape.0; item = item } }
 
 pub leaf_read : (has : ℕ → Cell → Type 0) (low : ℕ) (c : Cell) (t : Tree) (r : Node) (l : Leaf) → IsTop has low c t → ((n : Node) → IsNode n → packed n ≡ c → r ≡ n) → r ≡ node.Leaf l → LeafTold has t l
 leaf_read has low c t r l top back is = leaf_told has low t l top.tree top.beneath (sym (top_read has low c t r top back) ∙ is)

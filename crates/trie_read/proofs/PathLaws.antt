@@ -165,7 +165,7 @@ last_all has b below i before x e =
 
 -- at a leaf
 pub leads_to_leaf : (said : Step → Twigs → Tree → Twigs → Type 0) (has : ℕ → Cell → Type 0) (path : Path) (whole t : Tree) (before after : List Entry) (l : Leaf) (x : LeafTold has t l) → LeadsTo said has path whole t before after → LeadsToLeaf said has path whole x.entry l before after
-leads_to_leaf said has path whole t before after l x leads = record { leads = leads_as said has path whole t (leaf x.entry l.at) before after x.tree leads; leaf_of = x.leaf_of }
+leads_to_leaf said has path whole t before after l x leads = record { extents = x.extents; leads = leads_as said has path whole t (leaf x.entry x.extents) before after x.tree leads; leaf_of = x.leaf_of }
 
 pub first_leaf : (has : ℕ → Cell → Type 0) (path : Path) (whole t : Tree) (before after : List Entry) (l : Leaf) (x : LeafTold has t l) → LeadsTo AnyStep has path whole t before after → LeadsToFirst has path whole l before (entries_of t ++ after)
 first_leaf has path whole t before after l x leads = record { entry = x.entry; after = after; is = ap (λ (es : List Entry). es ++ after) x.is; leaf = leads_to_leaf AnyStep has path whole t before after l x leads }

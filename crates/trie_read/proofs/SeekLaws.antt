@@ -46,13 +46,13 @@ sought_of has k r root iter path l before after s e go =
     record { is = is; whole = h.0; trie = h.1; at = go h.0 (before ++ after) h.1 }
 
 pub sought_in : (has : ℕ → Cell → Type 0) (k : List ℕ) (r : ℕ) (root : Option ℕ) (version : List Entry) (path : Path) (l : Leaf) (s : Sought has k r root version path l) → s.at.before ++ (s.at.entry ∷ s.at.after) ≡ version
-sought_in has k r root version path l s = hangs_between (Guided k) path.steps s.whole path.depth (leaf s.at.entry l.at) s.at.before s.at.after s.at.leaf.leads.hangs ∙ s.trie.holds
+sought_in has k r root version path l s = hangs_between (Guided k) path.steps s.whole path.depth (leaf s.at.entry s.at.leaf.extents) s.at.before s.at.after s.at.leaf.leads.hangs ∙ s.trie.holds
 
 pub sought_told : (has : ℕ → Cell → Type 0) (k : List ℕ) (r : ℕ) (root : Option ℕ) (version : List Entry) (path : Path) (l : Leaf) (s : Sought has k r root version path l) → EachTells Leads version → Leads s.at.entry.key s.at.entry.item
 sought_told has k r root version path l s told = told s.at.entry (subst (InList s.at.entry) (sought_in has k r root version path l s) (in_right s.at.entry s.at.before (s.at.entry ∷ s.at.after) (inl refl)))
 
 pub sought_path : (has : ℕ → Cell → Type 0) (k : List ℕ) (r : ℕ) (root : Option ℕ) (version : List Entry) (path : Path) (l : Leaf) → Sought has k r root version path l → IsPath path
-sought_path has k r root version path l s = record { whole = s.whole; tree = leaf s.at.entry l.at; before = s.at.before; after = s.at.after; shape = s.trie.shape; hangs = unguided k path.steps s.whole path.depth (leaf s.at.entry l.at) s.at.before s.at.after s.at.leaf.leads.hangs }
+sought_path has k r root version path l s = record { whole = s.whole; tree = leaf s.at.entry s.at.leaf.extents; before = s.at.before; after = s.at.after; shape = s.trie.shape; hangs = unguided k path.steps s.whole path.depth (leaf s.at.entry s.at.leaf.extents) s.at.before s.at.after s.at.leaf.leads.hangs }
 
 -- ---- what was met
 pub meets_of : (has : ℕ → Cell → Type 0) (k : List ℕ) (r : ℕ) (root : Option ℕ) (version : List Entry) (path new : Path) (l : Leaf) (d : Option Difference) (s : Sought has k r root version path l) → IsNameKey k → EachTells Leads version → IsDifference k s.at.entry.key d → LeadsToMet has k new s.whole s.at.entry l d → Meets has k r new (record { leaf = l; difference = d }) version
@@ -94,12 +94,12 @@ pub stands_here : (has : ℕ → Cell → Type 0) (k : List ℕ) (r : ℕ) (met 
 stands_here has k r met version new m e root place =
     let x = subst (LeadsToMet has k new.path m.whole m.entry met.leaf) e m.leads in
     let same = subst (IsDifference k m.entry.key) e m.differs in
-    let before = x.0 in let after = x.1.0 in
-    let whole : version ≡ before ++ (m.entry ∷ after) = sym (hangs_between (Guided k) new.path.steps m.whole new.path.depth (leaf m.entry met.leaf.at) before after x.1.1 ∙ m.trie.holds) in
+    let before = x.1.0 in let after = x.1.1.0 in
+    let whole : version ≡ before ++ (m.entry ∷ after) = sym (hangs_between (Guided k) new.path.steps m.whole new.path.depth (leaf m.entry x.0) before after x.1.1.1 ∙ m.trie.holds) in
     let rises : Rises version = subst Rises m.trie.holds (rises_tree 0 m.whole m.trie.shape) in
     let s = met_stands has k r new.path met version before (m.entry ∷ after) m whole in
-    let leads : LeadsTo AnyStep has new.path m.whole (leaf m.entry met.leaf.at) before after = record { shape = m.trie.shape; beneath = m.trie.beneath; hangs = unguided k new.path.steps m.whole new.path.depth (leaf m.entry met.leaf.at) before after x.1.1 } in
-    let on : OnLeaf has (Some r) new.path met.leaf before m.entry after = record { at = r; root_is = refl; whole = m.whole; trie = trie_as has r m.whole version (before ++ (m.entry ∷ after)) m.trie (m.trie.holds ∙ whole); leaf = record { leads = leads; leaf_of = m.leaf_of } } in
+    let leads : LeadsTo AnyStep has new.path m.whole (leaf m.entry x.0) before after = record { shape = m.trie.shape; beneath = m.trie.beneath; hangs = unguided k new.path.steps m.whole new.path.depth (leaf m.entry x.0) before after x.1.1.1 } in
+    let on : OnLeaf has (Some r) new.path met.leaf before m.entry after = record { at = r; root_is = refl; whole = m.whole; trie = trie_as has r m.whole version (before ++ (m.entry ∷ after)) m.trie (m.trie.holds ∙ whole); leaf = record { extents = x.0; leads = leads; leaf_of = m.leaf_of } } in
     record {
       before = before;
       after = m.entry ∷ after;

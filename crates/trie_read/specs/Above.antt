@@ -3,6 +3,7 @@ use Rattle.std.specs.Prelude.{◌≡◌, ℕ, suc, ◌≤◌, List, [], ◌∷�
 use Rattle.packed_node.specs.declared.Cell.{Cell}
 use Rattle.packed_node.specs.declared.Leaf.{Leaf}
 use Rattle.zone_model.specs.Keys.{Leads}
+use Rattle.trie_model.specs.Extents.{Extents}
 use Rattle.trie_model.specs.Keys.{Same, Entry, InList}
 use Rattle.trie_model.specs.Order.{EndsAt, labels_in}
 use Rattle.trie_model.specs.Trees.{Tree, Twigs, entries_of}
@@ -39,8 +40,8 @@ pub record Passes (has : ℕ → Cell → Type 0) (key : List ℕ) (path : Path)
 
 -- the first twig of the branch is a leaf at position 0; or none is
 abbrev pub HasEnding : (ℕ → Cell → Type 0) → Tree → Option Leaf → Type 0
-HasEnding has t (Some l) = (o : ℕ) × ((w : ℕ) × ((e : Entry) × ((rest : Twigs) × (t ≡ branch o w (twig 0 (leaf e l.at) rest)) × IsLeafOf has e l)))
-HasEnding has t None = (o w : ℕ) (e : Entry) (at : ℕ) (rest : Twigs) → t ≡ branch o w (twig 0 (leaf e at) rest) → ⊥
+HasEnding has t (Some l) = (o : ℕ) × ((w : ℕ) × ((e : Entry) × ((x : Extents) × ((rest : Twigs) × (t ≡ branch o w (twig 0 (leaf e x) rest)) × IsLeafOf has e l))))
+HasEnding has t None = (o w : ℕ) (e : Entry) (x : Extents) (rest : Twigs) → t ≡ branch o w (twig 0 (leaf e x) rest) → ⊥
 
 -- the leaf that was met is the key's own, or that of a name above: it ends where a label of the key does
 abbrev pub IsAtOrAbove : List ℕ → Option Difference → Type 0

@@ -1,11 +1,12 @@
 -- What a search goes by, and what it gives.
-use Rattle.std.specs.Prelude.{◌≡◌, ℕ, List, length, Option, Some, None}
+use Rattle.std.specs.Prelude.{◌≡◌, ℕ, List, Option, Some, None}
 use Rattle.packed_node.specs.declared.Cell.{Cell}
 use Rattle.packed_node.specs.declared.Leaf.{Leaf}
 use Rattle.zone_model.specs.Keys.{Leads}
 use Rattle.trie_model.specs.Keys.{Entry, IsEntry, InList}
-use Rattle.trie_model.specs.Trees.{Tree, IsTree, IsRow, cells_in}
-use Rattle.trie_model.specs.Memory.{Beneath, top_cell, ItemLies}
+use Rattle.trie_model.specs.Extents.{HasItem}
+use Rattle.trie_model.specs.Trees.{Tree, IsTree}
+use Rattle.trie_model.specs.Memory.{Beneath, top_cell}
 
 -- the cell is the top of a trie that lies in the memory, with offsets from low on
 pub record IsTop (has : ℕ → Cell → Type 0) (low : ℕ) (cell : Cell) (t : Tree) : Type 0 where
@@ -16,9 +17,7 @@ pub record IsTop (has : ℕ → Cell → Type 0) (low : ℕ) (cell : Cell) (t : 
 -- the leaf says where the entry's item lies
 pub record IsLeafOf (has : ℕ → Cell → Type 0) (e : Entry) (l : Leaf) : Type 0 where
   pub entry : IsEntry e
-  pub len : l.len ≡ length e.item
-  pub row : IsRow l.at (cells_in e.item)
-  pub lies : ItemLies has l.at e.item
+  pub item : HasItem has l.at l.len e.item
 
 -- and the item says the entry's key
 abbrev pub IsNamed : (ℕ → Cell → Type 0) → Leaf → Entry → Type 0

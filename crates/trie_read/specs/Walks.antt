@@ -6,6 +6,7 @@ use Rattle.packed_node.specs.declared.Branch.{Branch}
 use Rattle.zone_model.specs.Keys.{Leads, IsKey}
 use Rattle.shift_key.specs.declared.difference.Difference.{Difference}
 use Rattle.shift_key.specs.Differences.{IsDifference}
+use Rattle.trie_model.specs.Extents.{Extents}
 use Rattle.trie_model.specs.Keys.{at, Same, Entry, InList}
 use Rattle.trie_model.specs.Trees.{Rising, Tree, Twigs, entries_of, entries, count, beside, IsTree}
 use Rattle.trie_model.specs.Trees.Tree.{leaf, branch}
@@ -87,7 +88,8 @@ pub record HasNode (has : ℕ → Cell → Type 0) (path : Path) (root level : �
 
 -- a path leads to an entry's leaf
 pub record LeadsToLeaf (said : Step → Twigs → Tree → Twigs → Type 0) (has : ℕ → Cell → Type 0) (path : Path) (whole : Tree) (e : Entry) (l : Leaf) (before after : List Entry) : Type 0 where
-  pub leads : LeadsTo said has path whole (leaf e l.at) before after
+  pub extents : Extents
+  pub leads : LeadsTo said has path whole (leaf e extents) before after
   pub leaf_of : IsLeafOf has e l
 
 -- it leads to the first of these entries, or to the last
@@ -197,7 +199,7 @@ pub record IsStart (root : Option ℕ) (iter : Iter) : Type 0 where
 
 -- the path leads to the leaf that was met, if it has the key; else to a tree that reads as its entry does up to the first difference
 abbrev pub LeadsToMet : (ℕ → Cell → Type 0) → List ℕ → Path → Tree → Entry → Leaf → Option Difference → Type 0
-LeadsToMet has key path whole e l None = (before : List Entry) × ((after : List Entry) × HangsBy (Guided key) path.steps whole path.depth (leaf e l.at) before after)
+LeadsToMet has key path whole e l None = (x : Extents) × ((before : List Entry) × ((after : List Entry) × HangsBy (Guided key) path.steps whole path.depth (leaf e x) before after))
 LeadsToMet has key path whole e l (Some d) = CutAt key path whole e d.place
 
 -- what was met by a key's way

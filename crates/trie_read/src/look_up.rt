@@ -10,7 +10,7 @@ ghost use Rattle.trie_read.specs.Reads.{EachTells, Gives, IsLeafOf, LeadsKey};
 use super::leaf::is_of;
 use super::steps::Steps;
 use chunk_cells::CellRead;
-use chunk_cells::item::cells_for;
+use chunk_cells::extents::content_cells_for;
 use packed_node::{Cell, Leaf, Node, Ref};
 use shift_key::Key;
 use std::marker::Brand;
@@ -131,6 +131,6 @@ fn is_of_key<C: CellRead, L: Ledger>(
     ensures few { steps.new ≤ steps.old + 16 }
 {
     let octets = key.wire();
-    steps.take(cells_for(octets.len() as u16) as u64);
+    steps.take(content_cells_for(octets.len() as u16) as u64);
     is_of(cells, leaf, key)
 }

@@ -3,6 +3,7 @@
 ghost use Rattle.std.specs.Prelude.{◌≡◌, ◌≢◌, ◌+◌, ◌-◌, ◌%◌, ◌^◌, ◌<◌, ◌≤◌, ◌++◌, ℕ, List, Some, false, slice_get, count_ones};
 ghost use Rattle.std.specs.Int.{bit_at};
 ghost use Rattle.zone_model.specs.Keys.{IsKey};
+ghost use Rattle.trie_model.specs.Extents.{Extents};
 ghost use Rattle.trie_model.specs.Keys.{at, Entry};
 ghost use Rattle.trie_model.specs.Trees.{Tree, entries_of, IsTree};
 ghost use Rattle.trie_model.specs.Trees.Tree.{leaf as leaf_tree};
@@ -164,8 +165,8 @@ impl Path {
     /// Takes back the steps of branches that lie past a place.
     pub fn cut(&mut self, place: u16)
         requires { IsPath self.old }
-        ensures { (key : List ℕ) (whole : Tree) (e : Entry) (at : ℕ) (before after : List Entry) → IsTree 0 whole
-            → HangsBy (Guided key) self.old.steps whole self.old.depth (leaf_tree e at) before after → CutAt key self.new whole e place }
+        ensures { (key : List ℕ) (whole : Tree) (e : Entry) (x : Extents) (before after : List Entry) → IsTree 0 whole
+            → HangsBy (Guided key) self.old.steps whole self.old.depth (leaf_tree e x) before after → CutAt key self.new whole e place }
     {
         while self.depth > 0 && self.steps[self.depth as usize - 1].offset > place {
             self.depth -= 1;

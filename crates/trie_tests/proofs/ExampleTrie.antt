@@ -1,6 +1,7 @@
 -- A trie of the names a. and b. in the first five cells of a memory.
 use Rattle.std.specs.Char.{to_ascii_lowercase}
 use Rattle.zone_model.specs.Keys.{first_position, second_position, key_of, Leads}
+use Rattle.trie_model.specs.Extents.{ItemLies}
 use Rattle.trie_read.specs.Reads.{EachTells}
 use Rattle.std.proofs.Common.{◌≡◌, ◌∙◌, List, length, ℕ, zero, suc, ◌+◌, ◌^◌, ◌<◌, ◌≤◌, eqb, [], ◌∷◌, Some, slice_index, count_by, count_ones, arith, inl, inr, refl, ap, subst}
 use Rattle.std.proofs.lemmas.Bool.Decides.{nat_tests}
@@ -11,7 +12,7 @@ use Rattle.trie_model.specs.Trees.{Tree, IsTree, AllAt}
 use Rattle.trie_model.specs.Trees.Tree.{leaf, branch}
 use Rattle.trie_model.specs.Trees.Twigs.{none, twig}
 use Rattle.trie_model.specs.Reach.{reach}
-use Rattle.trie_model.specs.Memory.{ItemLies, Stands}
+use Rattle.trie_model.specs.Memory.{Stands}
 use Rattle.trie_tests.specs.Example.{key_of_letter, item_of_letter, two_names}
 use lib.Count
 

@@ -2,7 +2,8 @@
 use Rattle.std.proofs.Common.{◌≡◌, ℕ, zero, suc, ◌-◌, ◌<◌, ◌⊎◌, ◌++◌, List, [], ◌∷◌, length, map, get_or, Contains, arith, inl, inr, sym, ◌∙◌, ap, subst}
 use Rattle.std.proofs.lemmas.List.{map-append}
 use Rattle.std.proofs.lemmas.List.Elements.{Contains-append_left, Contains-append_right, Contains-append_cases}
-use Rattle.trie_model.specs.Trees.{Tree, cells_in, IsTree}
+use Rattle.trie_model.specs.Trees.{Tree, IsTree}
+use Rattle.trie_write.specs.Laid.{extent_sizes}
 use Rattle.trie_write.specs.Paths.{branches_on_path, insert_asks, replace_asks, delete_asks}
 use Rattle.trie_write.specs.Ways.{Fork, plug, Along, twigs_of}
 use Rattle.trie_write.proofs.PathLaws.{branches_plug}
@@ -50,20 +51,23 @@ module _ (all before behind : List ℕ) (n : ℕ) (is : all ≡ before ++ behind
   -- ---- to make the way mutable
 
   pub insert_opens : (item : List ℕ) → Contains (1 ∷ before) n → Contains (insert_asks item all) n
-  insert_opens item h = later_of (cells_in item) n (2 ∷ 1 ∷ (all ++ map suc all)) (later_of 2 n (1 ∷ (all ++ map suc all)) (Contains-append_left (1 ∷ all) (map suc all) n (row_asked h)))
+  insert_opens item h = Contains-append_right (extent_sizes (length item)) (2 ∷ 1 ∷ (all ++ map suc all)) n (later_of 2 n (1 ∷ (all ++ map suc all)) (Contains-append_left (1 ∷ all) (map suc all) n (row_asked h)))
 
   pub replace_opens : (item : List ℕ) → Contains (1 ∷ before) n → Contains (replace_asks item all) n
-  replace_opens item h = later_of (cells_in item) n (1 ∷ all) (row_asked h)
+  replace_opens item h = Contains-append_right (extent_sizes (length item)) (1 ∷ all) n (row_asked h)
 
   pub delete_opens : Contains (1 ∷ before) n → Contains (delete_asks all) n
   delete_opens h = Contains-append_left (1 ∷ all) (map (λ (m : ℕ). m - 1) all) n (row_asked h)
 
   -- ---- for what is put at its end
 
-  pub insert_puts : (item : List ℕ) → Contains (cells_in item ∷ 2 ∷ map suc behind) n → Contains (insert_asks item all) n
-  insert_puts item h = elim (Contains-append_cases (cells_in item ∷ 2 ∷ []) (map suc behind) n h) [
-    | inl l ↦ Contains-append_left (cells_in item ∷ 2 ∷ []) (1 ∷ (all ++ map suc all)) n l
-    | inr r ↦ Contains-append_right (cells_in item ∷ 2 ∷ 1 ∷ all) (map suc all) n (made_behind suc r)
+  pub insert_puts : (item : List ℕ) → Contains (extent_sizes (length item) ++ (2 ∷ map suc behind)) n → Contains (insert_asks item all) n
+  insert_puts item h = elim (Contains-append_cases (extent_sizes (length item)) (2 ∷ map suc behind) n h) [
+    | inl l ↦ Contains-append_left (extent_sizes (length item)) (2 ∷ 1 ∷ (all ++ map suc all)) n l
+    | inr r ↦ Contains-append_right (extent_sizes (length item)) (2 ∷ 1 ∷ (all ++ map suc all)) n (elim (either_of 2 n (map suc behind) r) [
+      | inl two ↦ first_of 2 n (1 ∷ (all ++ map suc all)) two
+      | inr more ↦ Contains-append_right (2 ∷ 1 ∷ all) (map suc all) n (made_behind suc more)
+    ])
   ]
 
   pub delete_puts : (m : ℕ) → n ≡ m - 1 → Contains behind m → Contains (delete_asks all) n
@@ -72,8 +76,8 @@ module _ (all before behind : List ℕ) (n : ℕ) (is : all ≡ before ++ behind
       (made_behind (λ (k : ℕ). k - 1) (subst (λ (k : ℕ). Contains (map (λ (j : ℕ). j - 1) behind) k) (sym e) (made_of (λ (k : ℕ). k - 1) m behind h)))
 
 -- the first name
-pub insert_begins : (item branches : List ℕ) (n : ℕ) → branches ≡ [] → Contains (cells_in item ∷ 1 ∷ []) n → Contains (insert_asks item branches) n
-insert_begins item branches n none h = subst (λ (ns : List ℕ). Contains (insert_asks item ns) n) (sym none) (elim (either_of (cells_in item) n (1 ∷ []) h) [
-  | inl e ↦ first_of (cells_in item) n (2 ∷ 1 ∷ []) e
-  | inr r ↦ later_of (cells_in item) n (2 ∷ 1 ∷ []) (later_of 2 n (1 ∷ []) r)
+pub insert_begins : (item branches : List ℕ) (n : ℕ) → branches ≡ [] → Contains (extent_sizes (length item) ++ (1 ∷ [])) n → Contains (insert_asks item branches) n
+insert_begins item branches n none h = subst (λ (ns : List ℕ). Contains (insert_asks item ns) n) (sym none) (elim (Contains-append_cases (extent_sizes (length item)) (1 ∷ []) n h) [
+  | inl l ↦ Contains-append_left (extent_sizes (length item)) (2 ∷ 1 ∷ []) n l
+  | inr r ↦ Contains-append_right (extent_sizes (length item)) (2 ∷ 1 ∷ []) n (later_of 2 n (1 ∷ []) r)
 ])

@@ -6,11 +6,11 @@ use Rattle.packed_node.specs.declared.Cell.{Cell}
 use Rattle.packed_node.specs.declared.Leaf.{Leaf}
 use Rattle.packed_node.specs.declared.Node.TheVariants as node
 use Rattle.packed_node.specs.Nodes.{IsNode, packed}
+use Rattle.trie_model.specs.Extents.{Extents, first_of as place_of, AreExtents, IsRow, ItemLies, cells_in, row}
 use Rattle.trie_model.specs.Keys.{at, Entry, IsEntry, Rises}
-use Rattle.trie_model.specs.Memory.{ItemLies}
-use Rattle.trie_model.specs.Reach.{row, in_chunk}
+use Rattle.trie_model.specs.Reach.{in_chunk}
 use Rattle.trie_model.specs.Shape.{cells}
-use Rattle.trie_model.specs.Trees.{Twigs, entries_of, entries, count, bitmap_of, cells_in, IsRow, IsTree, beside}
+use Rattle.trie_model.specs.Trees.{Twigs, entries_of, entries, count, bitmap_of, IsTree, beside}
 use Rattle.trie_model.specs.Trees.Tree.{leaf, branch}
 use Rattle.trie_model.specs.Trees.Twigs.{none, twig}
 use Rattle.trie_model.proofs.BitmapLaws.{below_all, few, count-beside, bitmap_of-beside}
@@ -18,40 +18,44 @@ use Rattle.trie_model.proofs.CountLaws.{under, weigh_is, under-beside}
 use Rattle.trie_model.proofs.MoveLaws.{Keeps, beneath_kept}
 use Rattle.trie_model.proofs.OutlineLaws.{EachIsEntry, fewer_cells}
 use Rattle.trie_model.proofs.ReachLaws.{met, live_is}
-use Rattle.trie_model.proofs.SizeLaws.{twig_sizes, twig_sizes-beside, size_is, size_branch, short_row, item_row, entry_cells}
+use Rattle.trie_model.proofs.SizeLaws.{twig_sizes, twig_sizes-beside, size_is, size_branch, entry_cells}
+use Rattle.trie_model.proofs.ExtentLaws.{laid, short_row}
 use Rattle.trie_model.proofs.TopLaws.{is_node}
 use Rattle.chunk_usage.specs.Rooms.{Account, Handed}
 use Rattle.trie_write.specs.declared.points.BranchPoint.{BranchPoint}
 use Rattle.trie_write.specs.Weights.{at_place, mark}
 use Rattle.trie_write.specs.Points.{Before, Front}
 use Rattle.trie_write.specs.Builds.{Built, BuiltFront, Stopped}
+use Rattle.trie_write.specs.Laid.{HandedItem}
 use Rattle.trie_write.specs.Standing.{Standing}
 use Rattle.trie_write.proofs.OpenLaws.{Opened, Joined, open_first, open_join, open_more, open_close, later, parts, twigs_few, tree_lower, front_lower, front_point, nothing_left}
-use Rattle.trie_write.proofs.WeightLaws.{handed_fresh, mark_tells, mark_le, within_met}
+use Rattle.trie_write.proofs.WeightLaws.{handed_fresh, item_fresh, mark_tells, mark_le, within_met}
 use Rattle.trie_write.proofs.TwigLaws.{tops_of, AllBeneath, lie_of, tops-beside, length-tops, beneath_join, all_kept, all_within_met}
 
 clear_above : (b p : ℕ) → b < 2 ^ p → bit_at b p ≡ 0
 clear_above b p l = let e : b ≡ 0 * 2 ^ p + b = omega arith in ap (λ (n : ℕ). n / 2 ^ p % 2) e ∙ ap (λ (n : ℕ). n % 2) (shr_high 0 p b l)
 
 -- a leaf
-pub leaf_built : {has : ℕ → Cell → Type 0} {old new : Account} {l : Leaf} {cell : Cell} (e : Entry) → IsEntry e → l.len ≡ length e.item → Handed old new l.at (cells_in e.item) → ((q : ℕ) → old.used q ≡ true → new.used q ≡ true) →
-    new.spent ≤ old.spent + cells_in e.item → ItemLies has l.at e.item → cell ≡ packed (node.Leaf l) → Built has old new (leaf e l.at) cell
-leaf_built {l = l} e is len handed stays spends lies made = record {
-  is = made ∙ ap (λ (n : ℕ). packed (node.Leaf (record { len = n; at = l.at }))) len;
+pub leaf_built : {has : ℕ → Cell → Type 0} {old new : Account} {l : Leaf} {x : Extents} {cell : Cell} (e : Entry) → IsEntry e → l.len ≡ length e.item → l.at ≡ place_of x → HandedItem old new (length e.item) x → ((q : ℕ) → old.used q ≡ true → new.used q ≡ true) →
+    new.spent ≤ old.spent + cells_in e.item → ItemLies has x e.item → cell ≡ packed (node.Leaf l) → Built has old new (leaf e x) cell
+leaf_built {l = l} {x} e is len at_first handed stays spends lies made = record {
+  is = made ∙ ap (λ (n : ℕ). packed (node.Leaf (record { len = n; at = l.at }))) len ∙ ap (λ (n : ℕ). packed (node.Leaf (record { len = length e.item; at = n }))) at_first;
   beneath = lies;
   counts = handed.counts;
-  fresh = handed_fresh handed stays;
+  fresh = item_fresh handed stays;
   cost = (let n = entry_cells e is in omega arith);
 }
 
-pub leaf_node : {l : Leaf} (e : Entry) → IsEntry e → l.len ≡ length e.item → IsRow l.at (cells_in e.item) → IsNode (node.Leaf l)
-leaf_node {l = l} e is len room = subst (λ (n : ℕ). IsNode (node.Leaf (record { len = n; at = l.at }))) (sym len) (is_node 0 (leaf e l.at) (is, room))
+pub leaf_node : {l : Leaf} (x : Extents) (e : Entry) → IsEntry e → l.len ≡ length e.item → l.at ≡ place_of x → AreExtents (length e.item) x → IsNode (node.Leaf l)
+leaf_node {l = l} x e is len at_first room =
+    subst (λ (n : ℕ). IsNode (node.Leaf (record { len = n; at = l.at }))) (sym len)
+    (subst (λ (n : ℕ). IsNode (node.Leaf (record { len = length e.item; at = n }))) (sym at_first) (is_node 0 (leaf e x) (is, room)))
 
 pub stopped_lower : {old new : Account} {low far : ℕ} {es : List Entry} → Stopped old new far es → low ≤ far → Stopped old new low es
 stopped_lower {low = low} {far = far} s l = record { t = s.t; rest = s.rest; shape = tree_lower low far s.t l s.shape; whole = s.whole; cost = s.cost }
 
 pub leaf_stopped : {old new : Account} {low : ℕ} {es : List Entry} (e : Entry) (rest : List Entry) → IsEntry e → es ≡ e ∷ rest → new.spent < old.spent + cells (e ∷ []) → Stopped old new low es
-leaf_stopped e rest is whole l = record { t = leaf e 0; rest = rest; shape = (is, item_row e is); whole = whole; cost = l }
+leaf_stopped e rest is whole l = let there = laid (length e.item) in record { t = leaf e there.extents; rest = rest; shape = (is, there.are); whole = whole; cost = l }
 
 pub built_lower : {has : ℕ → Cell → Type 0} {old new : Account} {low far : ℕ} {es rest : List Entry} {next : Option BranchPoint} {cell : Cell} → BuiltFront has old new far es rest next cell → low ≤ far → Before low next → BuiltFront has old new low es rest next cell
 built_lower (t, f, b) l s = (t, front_lower f l s, b)

@@ -1,20 +1,21 @@
 -- A change at the end of a way: what stands before it, and after.
-use Rattle.std.proofs.Common.{◌≡◌, ℕ, ◌+◌, ◌/◌, ◌≤◌, ◌++◌, Bool, true, false, List, arith, inl, inr, refl, sym, ◌∙◌, ap, subst}
+use Rattle.std.proofs.Common.{◌≡◌, ℕ, ◌+◌, ◌≤◌, ◌++◌, Bool, true, false, List, length, arith, inl, inr, refl, sym, ◌∙◌, ap, subst}
 use Rattle.packed_node.specs.declared.Cell.{Cell}
-use Rattle.trie_model.specs.Keys.{at, Entry}
+use Rattle.trie_model.specs.Extents.{Extents, first_of, AreExtents, LiesAt}
+use Rattle.trie_model.specs.Keys.{Entry}
 use Rattle.trie_model.specs.Memory.{top_cell, Beneath}
 use Rattle.trie_model.specs.Reach.{in_chunk, weigh_tree}
 use Rattle.packed_node.specs.declared.Leaf.{Leaf}
 use Rattle.packed_node.specs.declared.Branch.{Branch}
-use Rattle.trie_model.specs.Trees.{Tree, entries_of, cells_in, IsTree}
+use Rattle.trie_model.specs.Trees.{Tree, entries_of, IsTree}
 use Rattle.trie_model.specs.Trees.Tree.{leaf, branch}
+use Rattle.trie_read.specs.Reads.{IsTop}
 use Rattle.trie_write.specs.Tops.{IsLeafTop, IsBranchTop}
 use Rattle.trie_model.proofs.MoveLaws.{beneath_kept}
 use Rattle.trie_model.proofs.ReachLaws.{met, live_is}
 use Rattle.chunk_usage.specs.Rooms.{Account}
 use Rattle.std.proofs.lemmas.Bool.{cases_lt}
 use Rattle.trie_write.specs.declared.change.Change.{Change}
-use Rattle.trie_write.specs.declared.change.Span.{Span}
 use Rattle.trie_write.specs.Mutable.{Rooted, IsSeat}
 use Rattle.trie_write.specs.Puts.{taken, left, Makes, IsTaken, PutAsks, IsPut, GivenBack, no_spare}
 use Rattle.trie_write.proofs.TwigLaws.{beneath_met}
@@ -135,14 +136,15 @@ module _ {S A : Type 0} {has : S → ℕ → Cell → Type 0} {account : A → A
 
 -- ---- leaves
 
-same_leaf : (e x : Entry) (w v : ℕ) → leaf e w ≡ leaf x v → (e ≡ x) × (w ≡ v)
+pub same_leaf : (e x : Entry) (w v : Extents) → leaf e w ≡ leaf x v → (e ≡ x) × (w ≡ v)
 same_leaf e x w v h = (cc, cc)
 
--- the top cell of a leaf says where its item lies
-pub leaf_span_is : {e : Entry} {first : ℕ} {l : Leaf} {x : Span} → IsLeafTop (leaf e first) l → x.at ≡ l.at → x.n ≡ (l.len + 15) / 16 → x ≡ record { at = first; n = cells_in e.item }
-leaf_span_is {e} {first} {l} {x} t at n =
-    let same = same_leaf e t.e first l.at t.is in
-    ap (λ (y : ℕ). record { at = y; n = x.n }) (at ∙ sym same.1) ∙ ap (λ (y : ℕ). record { at = first; n = y }) (n ∙ ap (λ (m : ℕ). (m + 15) / 16) t.len ∙ ap (λ (y : Entry). cells_in y.item) (sym same.0))
+-- where the item of a leaf's top lies
+pub top_item : {has : ℕ → Cell → Type 0} {node : Cell} {e : Entry} {x : Extents} {l : Leaf} → IsTop has 0 node (leaf e x) → IsLeafTop (leaf e x) l → LiesAt has l.at l.len e.item x
+top_item {e = e} {x} {l} top t =
+    let same = same_leaf e t.e x t.extents t.is in
+    let size : l.len ≡ length e.item = t.len ∙ ap (λ (y : Entry). length y.item) (sym same.0) in
+    record { from = ap first_of same.1 ∙ sym t.at; size = sym size; are = subst (λ (n : ℕ). AreExtents n x) (sym size) top.tree.1; lies = top.beneath }
 
-pub leaf_never : {A : Type 0} {e : Entry} {first : ℕ} {b : Branch} → IsBranchTop (leaf e first) b → A
-leaf_never {e = e} {first} {b} t = absurd (let h : leaf e first ≡ branch b.offset b.twigs t.below = t.is in cc)
+pub leaf_never : {A : Type 0} {e : Entry} {x : Extents} {b : Branch} → IsBranchTop (leaf e x) b → A
+leaf_never {e = e} {x} {b} t = absurd (let h : leaf e x ≡ branch b.offset b.twigs t.below = t.is in cc)

@@ -3,9 +3,10 @@ use Rattle.std.proofs.Common.{◌≡◌, ℕ, suc, ◌+◌, ◌/◌, ◌^◌, �
 use Rattle.packed_node.specs.declared.Cell.{Cell}
 use Rattle.packed_node.specs.declared.Branch.{Branch}
 use Rattle.packed_node.specs.Nodes.{IsBranch, branch_cell}
+use Rattle.trie_model.specs.Extents.{IsRow, row}
 use Rattle.trie_model.specs.Memory.{top_cell, Beneath}
-use Rattle.trie_model.specs.Reach.{row, in_chunk, weigh_tree, Within}
-use Rattle.trie_model.specs.Trees.{Tree, entries_of, entries, count, IsRow, IsTree, beside}
+use Rattle.trie_model.specs.Reach.{in_chunk, weigh_tree, Within}
+use Rattle.trie_model.specs.Trees.{Tree, entries_of, entries, count, IsTree, beside}
 use Rattle.trie_model.specs.Trees.Twigs.{twig}
 use Rattle.trie_model.proofs.CountLaws.{under, weigh_is, under-beside}
 use Rattle.trie_model.proofs.MoveLaws.{Keeps, beneath_kept, tree_weaker, lie_moved, lie_cell, within_cell}

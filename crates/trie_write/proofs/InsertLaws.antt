@@ -1,14 +1,20 @@
 -- A name put in below a root that stands, and the first name.
-use Rattle.std.proofs.Common.{◌≡◌, ℕ, suc, ◌+◌, ◌/◌, ◌≤◌, ◌++◌, Bool, true, List, [], ◌∷◌, map, append_assoc, Option, Some, length, arith, inl, inr, refl, sym, ◌∙◌, ap, subst}
+use Rattle.std.proofs.Common.{◌≡◌, ℕ, suc, ◌+◌, ◌≤◌, ◌++◌, Bool, true, List, [], ◌∷◌, map, append_assoc, Option, Some, length, arith, inl, inr, refl, sym, ◌∙◌, ap, subst}
 use Rattle.packed_node.specs.declared.Cell.{Cell}
 use Rattle.packed_node.specs.declared.Leaf.{Leaf}
 use Rattle.packed_node.specs.Nodes.{leaf_cell}
 use Rattle.zone_model.specs.Keys.{Leads}
+use Rattle.trie_model.specs.Extents.{first_of as place_of, AreExtents, ItemLies, weigh_extents}
+use Rattle.trie_model.proofs.ExtentLaws.{item_kept}
+use Rattle.chunk_cells.specs.Laying.{extents_in}
+use Rattle.chunk_cells.specs.declared.extents.Extents.{Extents as Laid}
+use Rattle.trie_write.specs.Laid.{HandedItem, IsLaid}
+use Rattle.trie_write.proofs.LaidLaws.{item_span_is, laid_top}
 use Rattle.trie_model.specs.Changes.{Inserted}
 use Rattle.trie_model.specs.Keys.{at, Same, Entry, IsEntry, InList}
-use Rattle.trie_model.specs.Memory.{top_cell, ItemLies, item_cell}
-use Rattle.trie_model.specs.Reach.{row, in_chunk}
-use Rattle.trie_model.specs.Trees.{Tree, entries_of, cells_in, IsRow, IsTree}
+use Rattle.trie_model.specs.Memory.{top_cell}
+use Rattle.trie_model.specs.Reach.{in_chunk}
+use Rattle.trie_model.specs.Trees.{Tree, entries_of, IsTree}
 use Rattle.trie_model.specs.Trees.Tree.{leaf}
 use Rattle.trie_model.proofs.AddLaws.{in_put}
 use Rattle.trie_model.proofs.DropLaws.{higher}
@@ -19,10 +25,10 @@ use Rattle.trie_read.specs.Reads.{IsTop, EachTells}
 use Rattle.trie_write.specs.declared.change.Change.{Change}
 use Rattle.shift_key.specs.declared.difference.Difference.{Difference}
 use Rattle.trie_write.specs.Mutable.{Rooted}
-use Rattle.trie_write.specs.Inserts.{IsLaid, WithAsks, IsWith, LacksKey}
+use Rattle.trie_write.specs.Inserts.{WithAsks, IsWith, LacksKey}
 use Rattle.trie_write.specs.Nearness.{FirstDiffers, Differs}
 use Rattle.trie_write.specs.Paths.{twigs_on_path, branches_on_path, to_copy}
-use Rattle.trie_write.specs.Puts.{span, IsTaken, IsPut, no_spare}
+use Rattle.trie_write.specs.Puts.{item_span, IsTaken, IsPut, no_spare}
 use Rattle.trie_write.specs.Roots.{TwigsOnPath, BranchesOnPath, ToCopy, IsOutside, Unreached, Beyond}
 use Rattle.trie_write.specs.Spaces.{Frame}
 use Rattle.trie_write.specs.Standing.{StandsIn, HasTrie}
@@ -34,26 +40,29 @@ use Rattle.trie_write.proofs.PathLaws.{path_plug}
 use Rattle.trie_write.proofs.PutLaws.{end_hangs}
 use Rattle.trie_write.proofs.SpaceLaws.{apart_from}
 use Rattle.trie_write.proofs.WayLaws.{low_at, end_tree, before, after, entries_plug, key_between, way_to}
-use Rattle.trie_write.proofs.WeightLaws.{handed_fresh}
+use Rattle.trie_write.proofs.WeightLaws.{handed_fresh, item_fresh, mark_le}
 
-pub laid_is : {S A : Type 0} {has : S → ℕ → Cell → Type 0} {account : A → Account} {s1 : S} {old : Account} (a1 : A) {l : Leaf} {item : List ℕ} → l.len ≡ length item → Handed old (account a1) l.at (cells_in item) → ItemLies (has s1) l.at item → IsLaid has account s1 a1 l item
-laid_is a1 len h lies = record { len = len; twigs = h.twigs; lies = lies; in_use = h.taken }
+pub laid_is : {S A : Type 0} {has : S → ℕ → Cell → Type 0} {account : A → Account} {s1 : S} {old : Account} (a1 : A) {l : Laid} {item : List ℕ} → l.len ≡ length item → HandedItem old (account a1) (length item) (extents_in l) → ItemLies (has s1) (extents_in l) item → IsLaid has account s1 a1 l item
+laid_is a1 len h lies = record { len = len; are = h.are; lies = lies; in_use = h.taken }
 
 -- ---- the first name
 
-pub first_stands : {S A : Type 0} {has : S → ℕ → Cell → Type 0} {kept : S → List ℕ} {given : S → List Bool} {account : A → Account} {s s1 s2 s3 : S} {a a1 a2 : A} {l : Leaf} {item : List ℕ} {r : ℕ} {cell : Cell} (e : Entry) → IsEntry e → e.item ≡ item → ((k : ℕ) → (account a).live k ≡ 0) →
-    l.len ≡ length item → Handed (account a) (account a1) l.at (cells_in item) → ItemLies (has s1) l.at item → Frame has kept given account s a s1 a1 → Handed (account a1) (account a2) r 1 → Frame has kept given account s1 a1 s2 a2 →
-    cell ≡ leaf_cell l → has s3 r cell → ((q : ℕ) (c : Cell) → (q ≡ r → ⊥) → has s2 q c → has s3 q c) → HasTrie has account s3 a2 (Some r) (e ∷ [])
-first_stands {has = has} {account = account} {s3 = s3} {a = a} {a1} {a2} {l} {item} {r} {cell} e is same none len h lies f rooted g cell_is put others = (
-  leaf e l.at,
-  rooted_stands {has = has} {account = account} {s = s3} {a = a2} {r = r} {t = leaf e l.at} (record {
+pub first_stands : {S A : Type 0} {has : S → ℕ → Cell → Type 0} {kept : S → List ℕ} {given : S → List Bool} {account : A → Account} {s s1 s2 s3 : S} {a a1 a2 : A} {y : Leaf} (l : Laid) {item : List ℕ} {r : ℕ} {cell : Cell} (e : Entry) → IsEntry e → e.item ≡ item → ((k : ℕ) → (account a).live k ≡ 0) →
+    l.len ≡ length item → y.len ≡ l.len → y.at ≡ place_of (extents_in l) → HandedItem (account a) (account a1) (length item) (extents_in l) → ItemLies (has s1) (extents_in l) item → Frame has kept given account s a s1 a1 → Handed (account a1) (account a2) r 1 → Frame has kept given account s1 a1 s2 a2 →
+    cell ≡ leaf_cell y → has s3 r cell → ((q : ℕ) (c : Cell) → (q ≡ r → ⊥) → has s2 q c → has s3 q c) → HasTrie has account s3 a2 (Some r) (e ∷ [])
+first_stands {has = has} {account = account} {s1 = s1} {s2} {s3} {a = a} {a1} {a2} {y} l {item} {r} {cell} e is same none len y_len y_at h lies f rooted g cell_is put others = (
+  leaf e (extents_in l),
+  rooted_stands {has = has} {account = account} {s = s3} {a = a2} {r = r} {t = leaf e (extents_in l)} (record {
     inside = (let i = rooted.twigs.inside in omega arith);
-    top = subst (has s3 r) (cell_is ∙ ap (λ (n : ℕ). leaf_cell (record { len = n; at = l.at })) (len ∙ ap (λ (xs : List ℕ). length xs) (sym same))) put;
-    beneath = subst (ItemLies (has s3) l.at) (sym same) (λ k m. others (l.at + k) (item_cell item k) (λ x. apart_from rooted (l.at + k) (h.taken k m) 0 (omega arith) (x ∙ omega arith)) (g.stays (l.at + k) (item_cell item k) (h.taken k m) (lies k m)));
-    counted = λ k. let x = none k in let y = h.counts k in let z = rooted.counts k in let i = ap (λ (xs : List ℕ). row (in_chunk k) l.at (cells_in xs)) same in omega arith;
-    once = λ q. let x = handed_fresh h f.grows.stays q in let y = handed_fresh rooted g.grows.stays q in let i = ap (λ (xs : List ℕ). row (at_place q) l.at (cells_in xs)) same in omega arith;
-  }) (is, subst (λ (xs : List ℕ). IsRow l.at (cells_in xs)) (sym same) h.twigs),
+    top = subst (has s3 r) (cell_is ∙ laid_top (extents_in l) e.key e.item (y_len ∙ len ∙ ap length (sym same)) y_at) put;
+    beneath = subst (ItemLies (has s3) (extents_in l)) (sym same) there;
+    counted = λ k. let x = none k in let y = h.counts k in let z = rooted.counts k in let i = ap (λ (xs : List ℕ). weigh_extents (in_chunk k) (length xs) (extents_in l)) same in omega arith;
+    once = λ q. let x = item_fresh h f.grows.stays q in let y = handed_fresh rooted g.grows.stays q in let z = mark_le (account a2).used q in let i = ap (λ (xs : List ℕ). weigh_extents (at_place q) (length xs) (extents_in l)) same in omega arith;
+  }) (is, subst (λ (xs : List ℕ). AreExtents (length xs) (extents_in l)) (sym same) h.are),
 )
+  where
+    there : ItemLies (has s3) (extents_in l) item
+    there = item_kept (λ q. (account a1).used q ≡ true) (has s1) (has s3) (λ q c u x. others q c (λ z. apart_from rooted q u 0 (omega arith) (z ∙ omega arith)) (g.stays q c u x)) (extents_in l) item h.taken lies
 
 -- ---- a further one
 
@@ -70,7 +79,7 @@ module _ {S A : Type 0} {has : S → ℕ → Cell → Type 0} {account : A → A
   lacks_top {node} read = subst (IsTop (has s) 0 node) h.is (record { tree = h.stands.trie.shape; is = read (top_cell t) h.stands.trie.top; beneath = h.stands.trie.beneath })
 
   -- the item is laid meanwhile
-  pub with_asks : {kept : S → List ℕ} {given : S → List Bool} {s1 : S} {a1 : A} {item : List ℕ} {node : Cell} {l : Leaf} → IsEntry (record { key = key; item = item }) → IsLaid has account s1 a1 l item → Frame has kept given account s a s1 a1 → node ≡ top_cell h.end → WithAsks has account s1 a1 key item first node l h.end
+  pub with_asks : {kept : S → List ℕ} {given : S → List Bool} {s1 : S} {a1 : A} {item : List ℕ} {node : Cell} {l : Laid} → IsEntry (record { key = key; item = item }) → IsLaid has account s1 a1 l item → Frame has kept given account s a s1 a1 → node ≡ top_cell h.end → WithAsks has account s1 a1 key item first node l h.end
   with_asks {s1 = s1} {a1} entry laid f is =
       let e = end_hangs h.way h.end (subst (λ z. Rooted has account s a no_spare r z) h.is (stands_rooted has account s a h.stands)) end_alone in
       record {
@@ -168,7 +177,7 @@ module _ {S A : Type 0} (has : S → ℕ → Cell → Type 0) (account : A → A
       let p = f.nearest.apart x (subst (InList x) (sym z.1.trie.holds) i) in p.2 (ap (λ (y : List ℕ). at y p.0) (sym k))
 
 -- the cells of the item and of the twigs are taken
-pub taken_both : {old mid new : Account} {c : Change} (l : Leaf) (item : List ℕ) → l.len ≡ length item → Handed old mid l.at (cells_in item) → ((q : ℕ) → old.used q ≡ true → mid.used q ≡ true) → Handed mid new c.new_twigs.at c.new_twigs.n → ((q : ℕ) → mid.used q ≡ true → new.used q ≡ true) → c.new_item ≡ record { at = l.at; n = (l.len + 15) / 16 } → IsTaken old new c
+pub taken_both : {old mid new : Account} {c : Change} (l : Laid) (item : List ℕ) → l.len ≡ length item → HandedItem old mid (length item) (extents_in l) → ((q : ℕ) → old.used q ≡ true → mid.used q ≡ true) → Handed mid new c.new_twigs.at c.new_twigs.n → ((q : ℕ) → mid.used q ≡ true → new.used q ≡ true) → c.new_item ≡ l → IsTaken old new c
 taken_both {old} {mid} {new} {c} l item len h stays g later new_item =
-    let v = λ (w : ℕ → ℕ). ap (λ x. span x w) new_item ∙ ap (λ (n : ℕ). row w l.at ((n + 15) / 16)) len in
-    record { counts = λ k. let x = h.counts k in let y = g.counts k in let z = v (in_chunk k) in omega arith; fresh = λ q. let x = handed_fresh h stays q in let y = handed_fresh g later q in let z = v (at_place q) in omega arith }
+    let v = λ (w : ℕ → ℕ). ap (λ x. item_span x w) new_item ∙ item_span_is (record { len = len; there = refl }) w in
+    record { counts = λ k. let x = h.counts k in let y = g.counts k in let z = v (in_chunk k) in omega arith; fresh = λ q. let x = item_fresh h stays q in let y = handed_fresh g later q in let z = v (at_place q) in omega arith }

@@ -1,5 +1,6 @@
 pub mod ItemLaws
 pub mod WeightLaws
+pub mod LaidLaws
 pub mod TwigLaws
 pub mod OpenLaws
 pub mod BuildLaws

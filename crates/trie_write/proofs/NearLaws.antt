@@ -8,6 +8,7 @@ use Rattle.packed_node.specs.declared.Branch.{Branch}
 use Rattle.zone_model.specs.Keys.{IsFirstDifference}
 use Rattle.shift_key.specs.declared.difference.Difference.{Difference}
 use Rattle.shift_key.specs.Differences.{IsDifference}
+use Rattle.trie_model.specs.Extents.{AreExtents}
 use Rattle.trie_model.specs.Keys.{at, IsKey, Entry, InList}
 use Rattle.trie_model.specs.Memory.{top_cell, Beneath, Lie}
 use Rattle.trie_model.specs.Trees.{Tree, Twigs, IsTree, Agree, entries_of, entries, bitmap_of}
@@ -82,7 +83,7 @@ closest_here has k low c t l top x =
     subst (λ (z : Tree). Closest has k (entries_of z) l) (sym x.is) (record {
       near = x.e;
       there = inl refl;
-      leaf_of = record { entry = tree.0; len = x.len; row = tree.1; lies = subst (Beneath has) x.is top.beneath };
+      leaf_of = record { entry = tree.0; item = record { extents = x.extents; there = record { from = sym x.at; size = sym x.len; are = subst (λ (n : ℕ). AreExtents n x.extents) (sym x.len) tree.1; lies = subst (Beneath has) x.is top.beneath } } };
       apart = λ d sm other y i. elim i [ inl f ↦ (d, omega arith, λ z. other (z ∙ ap (λ (u : Entry). at u.key d) f)) | inr z ↦ absurd z ];
     })
 

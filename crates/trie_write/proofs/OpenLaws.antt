@@ -1,15 +1,18 @@
 -- A branch that is open: more of its twigs may come.
 use Rattle.std.proofs.Common.{◌≡◌, ℕ, suc, ◌+◌, ◌<◌, ◌≤◌, List, [], ◌∷◌, ◌++◌, length, min, Option, Some, None, append_assoc, append-nil, arith, inl, inr, refl, sym, ◌∙◌, ap, subst}
+use Rattle.trie_model.specs.Extents.{IsRow}
 use Rattle.trie_model.specs.Keys.{at, Same, Entry, InList, Rises}
 use Rattle.trie_model.specs.Shape.{cells}
-use Rattle.trie_model.specs.Trees.{Tree, Twigs, entries_of, entries, count, AllAt, Agree, IsRow, IsTree, AreTwigs, Rising, beside}
+use Rattle.trie_model.specs.Trees.{Tree, Twigs, entries_of, entries, count, AllAt, Agree, IsTree, AreTwigs, Rising, beside}
 use Rattle.trie_model.specs.Trees.Tree.{leaf, branch}
 use Rattle.trie_model.specs.Trees.Twigs.{none, twig}
 use Rattle.trie_model.proofs.KeyLaws.{in_left, in_right, in_both}
 use Rattle.trie_model.proofs.BitmapLaws.{few, count-beside}
 use Rattle.trie_model.proofs.SplitLaws.{entries-beside, twigs_join, rising_of}
 use Rattle.trie_model.proofs.GrowthLaws.{some_entry}
-use Rattle.trie_model.proofs.SizeLaws.{twig_sizes, size_is, size_branch, twig_sizes-beside, short_row}
+use Rattle.trie_model.proofs.SizeLaws.{twig_sizes, size_is, size_branch, twig_sizes-beside}
+use Rattle.trie_model.proofs.ExtentLaws.{short_row}
+use Rattle.trie_model.specs.Extents.{Extents}
 use Rattle.trie_write.specs.declared.points.BranchPoint.{BranchPoint}
 use Rattle.trie_write.specs.declared.item.Item.{Item}
 use Rattle.trie_write.specs.Entries.{entries_of_items}
@@ -41,7 +44,7 @@ before_all : (e : Entry) (rest : List Entry) (next : Option BranchPoint) → Ahe
 before_all e rest None a = tt
 before_all e rest (Some p) a = let l = a.3.early in omega arith
 
-pub leaf_front : {e : Entry} {rest : List Entry} {next : Option BranchPoint} {w : ℕ} → IsTree 0 (leaf e w) → Rises (e ∷ rest) → Ahead e rest next → Front 504 (e ∷ rest) rest next (leaf e w)
+pub leaf_front : {e : Entry} {rest : List Entry} {next : Option BranchPoint} {w : Extents} → IsTree 0 (leaf e w) → Rises (e ∷ rest) → Ahead e rest next → Front 504 (e ∷ rest) rest next (leaf e w)
 leaf_front {e} {rest} {next} is rises ahead = record { shape = is; whole = refl; last = e; there = inl refl; ahead = ahead; short = before_all e rest next ahead; rises = rises.1 }
 
 in_nil : (x : Entry) (es : List Entry) → InList x (es ++ []) → InList x es

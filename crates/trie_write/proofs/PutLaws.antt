@@ -1,8 +1,9 @@
 -- A tree is put into a cell below a root.
 use Rattle.std.proofs.Common.{◌≡◌, ℕ, ◌+◌, ◌/◌, ◌≤◌, ◌++◌, Bool, true, false, cond, List, [], ◌∷◌, arith, refl, sym, ◌∙◌, ap, subst}
 use Rattle.packed_node.specs.declared.Cell.{Cell}
+use Rattle.trie_model.specs.Extents.{row}
 use Rattle.trie_model.specs.Memory.{top_cell, Beneath}
-use Rattle.trie_model.specs.Reach.{row, in_chunk, weigh_tree, WithinTree}
+use Rattle.trie_model.specs.Reach.{in_chunk, weigh_tree, WithinTree}
 use Rattle.trie_model.specs.Keys.{InList}
 use Rattle.trie_model.specs.Trees.{Tree, entries_of, IsTree}
 use Rattle.trie_model.proofs.DropLaws.{higher}

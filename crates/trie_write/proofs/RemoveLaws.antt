@@ -1,25 +1,30 @@
 -- A leaf taken out below a root that stands.
-use Rattle.std.proofs.Common.{◌≡◌, ℕ, suc, ◌+◌, ◌%◌, ◌≤◌, ◌++◌, List, [], ◌∷◌, map, Contains, append_assoc, count_ones, arith, inl, inr, refl, sym, ◌∙◌, ap, subst}
+use Rattle.std.proofs.Common.{◌≡◌, ℕ, suc, ◌+◌, ◌++◌, List, [], ◌∷◌, length, map, Contains, append_assoc, count_ones, arith, inl, inr, refl, sym, ◌∙◌, ap, subst}
 use Rattle.std.proofs.lemmas.List.Elements.{Contains-append_left}
 use Rattle.packed_node.specs.declared.Cell.{Cell}
+use Rattle.trie_model.specs.Extents.{Extents, AreExtents, row}
+use Rattle.chunk_cells.specs.Laying.{extents_in}
+use Rattle.chunk_cells.specs.declared.extents.Extents.{Extents as Laid}
+use Rattle.trie_write.specs.Laid.{IsItemAt}
+use Rattle.trie_write.proofs.LaidLaws.{item_span_is, item_are}
 use Rattle.trie_model.specs.Changes.{Removed}
 use Rattle.trie_model.specs.Keys.{Entry, InList}
-use Rattle.trie_model.specs.Memory.{top_cell}
-use Rattle.trie_model.specs.Reach.{row, in_chunk, weigh_tree}
-use Rattle.trie_model.specs.Trees.{Tree, entries_of, cells_in, IsTree}
+use Rattle.trie_model.specs.Memory.{top_cell, Beneath}
+use Rattle.trie_read.specs.Reads.{IsTop}
+use Rattle.trie_model.specs.Reach.{in_chunk, weigh_tree}
+use Rattle.trie_model.specs.Trees.{Tree, entries_of, IsTree}
 use Rattle.trie_model.specs.Trees.Tree.{leaf}
 use Rattle.trie_model.proofs.DropLaws.{higher}
 use Rattle.trie_model.proofs.KeyLaws.{in_left, in_right, in_both}
 use Rattle.trie_model.proofs.ReachLaws.{live_is}
 use Rattle.chunk_usage.specs.Rooms.{Account}
 use Rattle.trie_write.specs.declared.change.Change.{Change}
-use Rattle.trie_write.specs.declared.change.Span.{Span}
 use Rattle.trie_write.specs.declared.turn.Turn.{Turn}
 use Rattle.trie_write.specs.Asks.{HasKey}
 use Rattle.trie_write.specs.Deletions.{Deleted, LeafTurn, IsWithout, DropAsks}
 use Rattle.trie_write.specs.Mutable.{Rooted}
 use Rattle.trie_write.specs.Paths.{twigs_on_path, branches_on_path}
-use Rattle.trie_write.specs.Puts.{span, IsPut, no_spare}
+use Rattle.trie_write.specs.Puts.{item_span, IsPut, no_spare}
 use Rattle.trie_write.specs.Standing.{StandsIn}
 use Rattle.trie_write.specs.Turns.{IsLastTurn}
 use Rattle.trie_write.specs.Tops.{NotBefore}
@@ -131,13 +136,24 @@ module _ {S A : Type 0} {has : S → ℕ → Cell → Type 0} {account : A → A
   pub only_top : has s r (top_cell (leaf h.entry h.first))
   only_top = subst (λ z. has s r (top_cell z)) only_is h.stands.trie.top
 
-  pub only_together : {item : Span} → item ≡ record { at = h.first; n = cells_in h.entry.item } → item.at % 1024 + item.n ≤ 1024
-  only_together e = subst (λ (x : Span). x.at % 1024 + x.n ≤ 1024) (sym e) only_tree.1.together
+  -- its cell, which was read
+  only_read : {node : Cell} → ((c : Cell) → has s r c → node ≡ c) → IsTop (has s) 0 node (leaf h.entry h.first)
+  only_read read = record { tree = only_tree; is = read (top_cell (leaf h.entry h.first)) only_top; beneath = subst (Beneath (has s)) only_is h.stands.trie.beneath }
 
-  pub only_live : {item : Span} → item ≡ record { at = h.first; n = cells_in h.entry.item } → (k : ℕ) → (account a).live k ≡ row (in_chunk k) r 1 + span item (in_chunk k)
-  only_live {item} e k = let c = h.stands.counted k in let l = live_is k r t in let w = ap (weigh_tree (in_chunk k)) only_is in let i = ap (λ x. span x (in_chunk k)) e in omega arith
+  pub only_at : {s1 : S} {node : Cell} → s1 ≡ s → ((c : Cell) → has s r c → node ≡ c) → IsTop (has s1) 0 node (leaf h.entry h.first)
+  only_at {node = node} same read = subst (λ s. IsTop (has s) 0 node (leaf h.entry h.first)) (sym same) (only_read read)
 
-  pub only_gone : {a2 : A} {item : Span} → item ≡ record { at = h.first; n = cells_in h.entry.item } → ((k : ℕ) → (account a2).live k + (row (in_chunk k) r 1 + span item (in_chunk k)) ≡ (account a).live k) → (next : List Entry) × Deleted key version next × ((next ≡ []) × ((k : ℕ) → (account a2).live k ≡ 0))
+  pub only_item : {s1 : S} {node : Cell} {item : Laid} → s1 ≡ s → ((c : Cell) → has s r c → node ≡ c) → ((e : Entry) (x : Extents) → IsTop (has s1) 0 node (leaf e x) → item.len ≡ length e.item) → ((e : Entry) (x : Extents) → IsTop (has s1) 0 node (leaf e x) → extents_in item ≡ x) →
+      IsItemAt item (length h.entry.item) h.first
+  only_item same read len there = record { len = len h.entry h.first (only_at same read); there = there h.entry h.first (only_at same read) }
+
+  pub only_are : {item : Laid} → IsItemAt item (length h.entry.item) h.first → AreExtents item.len (extents_in item)
+  only_are e = item_are e only_tree.1
+
+  pub only_live : {item : Laid} → IsItemAt item (length h.entry.item) h.first → (k : ℕ) → (account a).live k ≡ row (in_chunk k) r 1 + item_span item (in_chunk k)
+  only_live {item} e k = let c = h.stands.counted k in let l = live_is k r t in let w = ap (weigh_tree (in_chunk k)) only_is in let i = item_span_is e (in_chunk k) in omega arith
+
+  pub only_gone : {a2 : A} {item : Laid} → IsItemAt item (length h.entry.item) h.first → ((k : ℕ) → (account a2).live k + (row (in_chunk k) r 1 + item_span item (in_chunk k)) ≡ (account a).live k) → (next : List Entry) × Deleted key version next × ((next ≡ []) × ((k : ℕ) → (account a2).live k ≡ 0))
   only_gone e released = (
     [],
     record { gone = h.entry; removed = record { before = []; after = []; old_is = sym h.stands.trie.holds ∙ ap entries_of only_is; new_is = refl }; same_key = h.same_key },

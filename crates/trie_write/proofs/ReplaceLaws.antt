@@ -1,15 +1,19 @@
 -- The way to a key's leaf, and the leaf exchanged.
-use Rattle.std.proofs.Common.{◌≡◌, ℕ, ◌+◌, ◌/◌, ◌%◌, ◌<◌, ◌≤◌, ◌++◌, Bool, true, List, map, Option, Some, length, arith, inl, inr, refl, sym, ◌∙◌, ap, subst}
+use Rattle.std.proofs.Common.{◌≡◌, ℕ, ◌+◌, ◌%◌, ◌<◌, ◌≤◌, ◌++◌, Bool, true, List, map, Option, Some, length, arith, inl, inr, refl, sym, ◌∙◌, ap, subst}
 use Rattle.packed_node.specs.declared.Cell.{Cell}
 use Rattle.packed_node.specs.declared.Leaf.{Leaf}
-use Rattle.packed_node.specs.Nodes.{IsLeaf, leaf_cell}
+use Rattle.packed_node.specs.Nodes.{leaf_cell}
+use Rattle.trie_model.specs.Extents.{Extents, first_of as place_of, AreExtents, ItemLies}
+use Rattle.chunk_cells.specs.Laying.{extents_in}
+use Rattle.trie_write.specs.Laid.{HandedItem, IsItemAt}
+use Rattle.trie_write.proofs.LaidLaws.{item_span_is, item_are, laid_top}
 use Rattle.trie_model.specs.Keys.{at, Entry, IsEntry, InList}
-use Rattle.trie_model.specs.Memory.{top_cell, ItemLies}
+use Rattle.trie_model.specs.Memory.{top_cell}
 use Rattle.trie_model.specs.Reach.{in_chunk}
-use Rattle.trie_model.specs.Trees.{Tree, entries_of, cells_in, IsRow, IsTree}
+use Rattle.trie_model.specs.Trees.{Tree, entries_of, IsTree}
 use Rattle.trie_model.specs.Trees.Tree.{leaf, branch}
 use Rattle.trie_model.proofs.DropLaws.{higher}
-use Rattle.chunk_usage.specs.Rooms.{Account, Handed}
+use Rattle.chunk_usage.specs.Rooms.{Account}
 use Rattle.trie_write.specs.Asks.{HasKey}
 use Rattle.trie_write.specs.Exchanges.{Exchanged}
 use Rattle.trie_write.specs.declared.change.Change.{Change}
@@ -28,16 +32,19 @@ use Rattle.trie_model.specs.Order.{IsThere}
 use Rattle.trie_write.specs.Ways.{Fork, plug, IsWay, twigs_of}
 use Rattle.trie_write.specs.Weights.{at_place}
 use Rattle.trie_write.proofs.AskLaws.{on_way}
-use Rattle.trie_write.proofs.ChangeLaws.{entries_before, put_stands}
+use Rattle.trie_write.specs.Mutable.{Rooted}
+use Rattle.trie_write.specs.Puts.{no_spare}
+use Rattle.trie_write.proofs.ChangeLaws.{stands_rooted, entries_before, put_stands}
+use Rattle.trie_write.proofs.PutLaws.{end_hangs}
 use Rattle.trie_write.proofs.WayLaws.{low_at, end_tree, before, after, entries_plug, way_to}
-use Rattle.trie_write.proofs.WeightLaws.{handed_fresh}
+use Rattle.trie_write.proofs.WeightLaws.{item_fresh}
 
 -- ---- the way to a key's leaf
 
 pub record LeafWay (place : ℕ) (key : List ℕ) (t : Tree) : Type 0 where
   pub way : List Fork
   pub entry : Entry
-  pub first : ℕ
+  pub first : Extents
   pub is : t ≡ plug way (leaf entry first)
   pub is_way : IsWay place key way (leaf entry first)
   pub same_key : entry.key ≡ key
@@ -51,20 +58,10 @@ leaf_way place low key t gone h there same far = let w = way_to place low key t 
 
 -- ---- another leaf for it
 
--- a leaf of an item that was laid
-pub laid_leaf : {l : Leaf} (item : List ℕ) → l.len ≡ length item → 0 < length item → length item ≤ 4096 → IsRow l.at (cells_in item) → IsLeaf l
-laid_leaf item n some short r = let i = r.inside in record { some = omega arith; short = omega arith; inside = omega arith }
-
-pub laid_top : (key item : List ℕ) (l : Leaf) → l.len ≡ length item → leaf_cell l ≡ top_cell (leaf (record { key = key; item = item }) l.at)
-laid_top key item l n = ap (λ (n : ℕ). leaf_cell (record { len = n; at = l.at })) n
-
-pub taken_item : {old new : Account} {c : Change} (l : Leaf) (item : List ℕ) → Handed old new l.at (cells_in item) → ((q : ℕ) → old.used q ≡ true → new.used q ≡ true) → c.new_twigs ≡ record { at = 0; n = 0 } → c.new_item ≡ record { at = l.at; n = cells_in item } → IsTaken old new c
-taken_item {old} {new} {c} l item h stays no_twigs new_item =
-    let w = λ (w : ℕ → ℕ). ap (λ x. span x w) no_twigs in let v = λ (w : ℕ → ℕ). ap (λ x. span x w) new_item in
-    record { counts = λ k. let x = h.counts k in let y = w (in_chunk k) in let z = v (in_chunk k) in omega arith; fresh = λ q. let x = handed_fresh h stays q in let y = w (at_place q) in let z = v (at_place q) in omega arith }
-
-pub laid_span : {l : Leaf} {x : Span} (item : List ℕ) → l.len ≡ length item → x.at ≡ l.at → x.n ≡ (l.len + 15) / 16 → x ≡ record { at = l.at; n = cells_in item }
-laid_span {l} {x} item len at n = ap (λ (y : ℕ). record { at = y; n = x.n }) at ∙ ap (λ (y : ℕ). record { at = l.at; n = y }) (n ∙ ap (λ (m : ℕ). (m + 15) / 16) len)
+pub taken_item : {old new : Account} {c : Change} {n : ℕ} {x : Extents} → HandedItem old new n x → ((q : ℕ) → old.used q ≡ true → new.used q ≡ true) → c.new_twigs ≡ record { at = 0; n = 0 } → IsItemAt c.new_item n x → IsTaken old new c
+taken_item {old} {new} {c} {n} {x} h stays no_twigs new_item =
+    let w = λ (w : ℕ → ℕ). ap (λ x. span x w) no_twigs in let v = λ (w : ℕ → ℕ). item_span_is new_item w in
+    record { counts = λ k. let x = h.counts k in let y = w (in_chunk k) in let z = v (in_chunk k) in omega arith; fresh = λ q. let x = item_fresh h stays q in let y = w (at_place q) in let z = v (at_place q) in omega arith }
 
 module _ {S A : Type 0} {has : S → ℕ → Cell → Type 0} {account : A → Account} {s : S} {a : A} {r : ℕ} {key : List ℕ} {t : Tree} {version : List Entry} (h : HasKey has account s a r key t version) where
   -- the root's cell, which was read
@@ -74,24 +71,28 @@ module _ {S A : Type 0} {has : S → ℕ → Cell → Type 0} {account : A → A
   pub leaf_tree : IsTree 0 (leaf h.entry h.first)
   leaf_tree = higher (low_at 0 h.way) 0 (leaf h.entry h.first) (end_tree 0 h.way (leaf h.entry h.first) (subst (IsTree 0) h.is h.stands.trie.shape)) (omega arith)
 
+  -- its cell, which was read
+  pub leaf_top : {node : Cell} → node ≡ top_cell (leaf h.entry h.first) → IsTop (has s) 0 node (leaf h.entry h.first)
+  leaf_top is = record { tree = leaf_tree; is = is; beneath = (end_hangs h.way (leaf h.entry h.first) (subst (Rooted has account s a no_spare r) h.is (stands_rooted has account s a h.stands)) leaf_tree).top.beneath }
+
   pub key_branches : branches_on_path key t ≡ map twigs_of h.way ++ branches_on_path key (leaf h.entry h.first)
   key_branches = on_way 65535 key t h.way (leaf h.entry h.first) h.stands.trie.shape h.is h.is_way.along
 
-  pub other_makes : {s1 : S} {l : Leaf} {c : Change} (item : List ℕ) → l.len ≡ length item → IsRow l.at (cells_in item) → ItemLies (has s1) l.at item → c.cell ≡ leaf_cell l → c.new_twigs ≡ record { at = 0; n = 0 } → c.new_item ≡ record { at = l.at; n = cells_in item } →
-      c.old_twigs ≡ record { at = 0; n = 0 } → c.old_item ≡ record { at = h.first; n = cells_in h.entry.item } → Makes has s1 c (leaf h.entry h.first) (leaf (record { key = key; item = item }) c.new_item.at)
-  other_makes {s1} {l} {c} item n lies_row lies cell new_twigs new_item old_twigs old_item = subst (λ (x : ℕ). Makes has s1 c (leaf h.entry h.first) (leaf (record { key = key; item = item }) x)) (ap (λ (x : Span). x.at) (sym new_item)) (record {
-    is = cell ∙ laid_top key item l n;
+  pub other_makes : {s1 : S} {l : Leaf} {c : Change} (item : List ℕ) → l.len ≡ length item → l.at ≡ place_of (extents_in c.new_item) → AreExtents (length item) (extents_in c.new_item) → ItemLies (has s1) (extents_in c.new_item) item → c.cell ≡ leaf_cell l →
+      c.new_twigs ≡ record { at = 0; n = 0 } → c.new_item.len ≡ length item → c.old_twigs ≡ record { at = 0; n = 0 } → IsItemAt c.old_item (length h.entry.item) h.first → Makes has s1 c (leaf h.entry h.first) (leaf (record { key = key; item = item }) (extents_in c.new_item))
+  other_makes {s1} {l} {c} item n at_first are lies cell new_twigs new_item old_twigs old_item = record {
+    is = cell ∙ laid_top (extents_in c.new_item) key item n at_first;
     beneath = lies;
-    weigh = λ w. let x = ap (λ x. span x w) new_twigs in let y = ap (λ x. span x w) new_item in let z = ap (λ x. span x w) old_twigs in let v = ap (λ x. span x w) old_item in omega arith;
+    weigh = λ w. let x = ap (λ x. span x w) new_twigs in let laid : IsItemAt c.new_item (length item) (extents_in c.new_item) = record { len = new_item; there = refl } in let y = item_span_is laid w in let z = ap (λ x. span x w) old_twigs in let v = item_span_is old_item w in omega arith;
     spans = record {
       new_twigs = subst (λ (x : Span). x.at % 1024 + x.n ≤ 1024) (sym new_twigs) (omega arith);
-      new_item = subst (λ (x : Span). x.at % 1024 + x.n ≤ 1024) (sym new_item) lies_row.together;
+      new_item = item_are (record { len = new_item; there = refl }) are;
       old_twigs = subst (λ (x : Span). x.at % 1024 + x.n ≤ 1024) (sym old_twigs) (omega arith);
-      old_item = subst (λ (x : Span). x.at % 1024 + x.n ≤ 1024) (sym old_item) leaf_tree.1.together;
+      old_item = item_are old_item leaf_tree.1;
     };
-  })
+  }
 
-  pub replaced : {s2 : S} {a2 : A} {item : List ℕ} {first root : ℕ} → IsEntry (record { key = key; item = item }) → IsRow first (cells_in item) → IsPut has account s2 a2 65535 key h.way (leaf h.entry h.first) (leaf (record { key = key; item = item }) first) root →
+  pub replaced : {s2 : S} {a2 : A} {item : List ℕ} {first : Extents} {root : ℕ} → IsEntry (record { key = key; item = item }) → AreExtents (length item) first → IsPut has account s2 a2 65535 key h.way (leaf h.entry h.first) (leaf (record { key = key; item = item }) first) root →
       (next : List Entry) × Exchanged (record { key = key; item = item }) version next × ((u : Tree) × StandsIn (has s2) (account a2).used (account a2).live root u next)
   replaced {item = item} {first} entry lies p = (
     entries_of (plug p.copy (leaf (record { key = key; item = item }) first)),

@@ -3,7 +3,8 @@ use Rattle.std.proofs.Common.{◌≡◌, ℕ, zero, suc, ◌+◌, ◌/◌, ◌<�
 use Rattle.std.specs.Prelude.{IsErrAnd}
 use Rattle.std.proofs.lemmas.Bool.{true≢false, cases_eq}
 use Rattle.packed_node.specs.declared.Cell.{Cell}
-use Rattle.trie_model.specs.Reach.{row, in_chunk}
+use Rattle.trie_model.specs.Extents.{row}
+use Rattle.trie_model.specs.Reach.{in_chunk}
 use Rattle.chunk_cells.specs.Chunks.{IsGiven, IsFree}
 use Rattle.chunk_usage.specs.declared.space.Full.{Full}
 use Rattle.chunk_usage.specs.Rooms.{Account, Handed, GivesChunk, OpensFree, Grows}

@@ -1,11 +1,12 @@
 -- What unpacking the top cell of a tree tells.
-use Rattle.std.proofs.Common.{◌≡◌, ℕ, length, Option, Some, None, sym, ◌∙◌, ap}
+use Rattle.std.proofs.Common.{◌≡◌, ℕ, length, Option, Some, None, sym, ◌∙◌, ap, refl}
 use Rattle.packed_node.specs.declared.Cell.{Cell}
 use Rattle.packed_node.specs.declared.Leaf.{Leaf}
 use Rattle.packed_node.specs.declared.Branch.{Branch}
 use Rattle.packed_node.specs.declared.Node.{Node}
 use Rattle.packed_node.specs.declared.Node.TheVariants as node
 use Rattle.packed_node.specs.Nodes.{IsNode, packed}
+use Rattle.trie_model.specs.Extents.{first_of}
 use Rattle.trie_model.specs.Memory.{node_of, top_cell}
 use Rattle.trie_model.specs.Trees.{Tree, IsTree, bitmap_of}
 use Rattle.trie_model.specs.Trees.Tree.{leaf, branch}
@@ -27,11 +28,11 @@ apart b l e = absurd cc
 leaf_kind : (t : Tree) (l : Leaf) → node_of t ≡ node.Leaf l → IsLeafTop t l
 leaf_kind (branch o w below) l h = apart (record { offset = o; bitmap = bitmap_of below; twigs = w }) l h
 leaf_kind (leaf e w) l h =
-    let same = same_leaf (record { len = length e.item; at = w }) l h in
-    record { e = e; is = ap (λ (x : Leaf). leaf e x.at) same; len = sym (ap (λ (x : Leaf). x.len) same) }
+    let same = same_leaf (record { len = length e.item; at = first_of w }) l h in
+    record { e = e; extents = w; is = refl; at = sym (ap (λ (x : Leaf). x.at) same); len = sym (ap (λ (x : Leaf). x.len) same) }
 
 branch_kind : (t : Tree) (b : Branch) → node_of t ≡ node.Branch b → IsBranchTop t b
-branch_kind (leaf e w) b h = apart b (record { len = length e.item; at = w }) (sym h)
+branch_kind (leaf e w) b h = apart b (record { len = length e.item; at = first_of w }) (sym h)
 branch_kind (branch o w below) b h =
     let same = same_branch (record { offset = o; bitmap = bitmap_of below; twigs = w }) b h in
     record { below = below; is = ap (λ (x : Branch). branch x.offset x.twigs below) same; bits = sym (ap (λ (x : Branch). x.bitmap) same) }

@@ -1,13 +1,14 @@
 -- A branch without one of its leaves.
-use Rattle.std.proofs.Common.{◌≡◌, ℕ, suc, ◌+◌, ◌-◌, ◌%◌, ◌^◌, ◌<◌, ◌≤◌, Bool, true, List, ◌∷◌, count_ones, arith, refl, sym, ◌∙◌, ap, subst}
+use Rattle.std.proofs.Common.{◌≡◌, ℕ, suc, ◌+◌, ◌-◌, ◌%◌, ◌^◌, ◌<◌, ◌≤◌, Bool, true, List, ◌∷◌, length, count_ones, arith, refl, sym, ◌∙◌, ap, subst}
 use Rattle.std.specs.Int.{bit_at}
 use Rattle.packed_node.specs.declared.Cell.{Cell}
 use Rattle.packed_node.specs.Nodes.{IsBranch, branch_cell}
+use Rattle.trie_model.specs.Extents.{Extents, IsRow, row, weigh_extents}
 use Rattle.trie_model.specs.Changes.{Shrunk}
 use Rattle.trie_model.specs.Keys.{at, Entry}
 use Rattle.trie_model.specs.Memory.{top_cell, Beneath, Lie}
-use Rattle.trie_model.specs.Reach.{row, in_chunk, weigh_tree, WithinTree, Within}
-use Rattle.trie_model.specs.Trees.{Tree, Twigs, count, bitmap_of, cells_in, IsRow, IsTree, beside}
+use Rattle.trie_model.specs.Reach.{in_chunk, weigh_tree, WithinTree, Within}
+use Rattle.trie_model.specs.Trees.{Tree, Twigs, count, bitmap_of, IsTree, beside}
 use Rattle.trie_model.specs.Trees.Tree.{leaf, branch}
 use Rattle.trie_model.specs.Trees.Twigs.{none, twig}
 use Rattle.trie_model.proofs.BitmapLaws.{Cut, index_of, set_bit, count-beside, bitmap_of-beside}
@@ -16,18 +17,23 @@ use Rattle.trie_model.proofs.DropLaws.{drop_twig, collapse_low, collapse_high}
 use Rattle.trie_model.proofs.MoveLaws.{lie_moved}
 use Rattle.trie_model.proofs.SplitLaws.{Found, lie_join, within_left, within_right}
 use Rattle.trie_model.proofs.TopLaws.{is_node}
+use Rattle.chunk_cells.specs.Laying.{extents_in}
+use Rattle.chunk_cells.specs.declared.extents.Extents.{Extents as Laid}
 use Rattle.chunk_usage.specs.Rooms.{Account, Handed}
+use Rattle.trie_read.specs.Reads.{IsTop}
 use Rattle.trie_write.specs.declared.change.Change.{Change}
 use Rattle.trie_write.specs.declared.change.Span.{Span}
 use Rattle.trie_write.specs.declared.turn.Turn.{Turn}
 use Rattle.trie_write.specs.Deletions.{LeafTurn, IsWithout}
+use Rattle.trie_write.specs.Laid.{IsItemAt, IsNoItem}
 use Rattle.trie_write.specs.Puts.{span, AreSpans, IsTaken}
 use Rattle.trie_write.specs.Spaces.{Frame}
 use Rattle.trie_write.specs.Ways.{Fork, fork, plug, twig_at, twigs_of, twigs_along}
 use Rattle.trie_write.specs.Weights.{at_place}
 use Rattle.trie_write.proofs.CopyLaws.{n_here}
+use Rattle.trie_write.proofs.LaidLaws.{item_span_is, item_are, none_are}
 use Rattle.trie_write.proofs.TurnLaws.{at_key}
-use Rattle.trie_write.proofs.WayLaws.{IsFork, is_fork, fork_count, sides_of}
+use Rattle.trie_write.proofs.WayLaws.{IsFork, is_fork, fork_count, sides_of, twig_of}
 use Rattle.trie_write.proofs.WeightLaws.{handed_fresh}
 
 -- a twig among others is found at its position
@@ -37,12 +43,12 @@ found_here o low f t k =
     record { left = f.left; here = t; rest = f.right; is = refl; inside = k.inside; lower = k.lower; upper = k.upper; index = index_of 0 47 f.position (beside f.left (twig f.position t f.right)) c; bit = set_bit 0 47 f.position (beside f.left (twig f.position t f.right)) c t f.right refl }
 
 -- of two twigs the other one's cell takes the branch's place
-one_left : {has : ℕ → Cell → Type 0} (f : Fork) (e : Entry) (first i : ℕ) (made : Cell) → IsFork 0 f (leaf e first) → Beneath has (fork f (leaf e first)) → twigs_of f ≡ 2 → i ≡ count f.left → ((c : Cell) → has (f.first + (1 - i)) c → made ≡ c) →
-    (u : Tree) × (made ≡ top_cell u) × Beneath has u × ((w : ℕ → ℕ) → weigh_tree w u + (row w f.first 2 + row w first (cells_in e.item)) ≡ weigh_tree w (fork f (leaf e first))) × ((low : ℕ) → IsTree low (fork f (leaf e first)) → Shrunk e low (fork f (leaf e first)) u)
+one_left : {has : ℕ → Cell → Type 0} (f : Fork) (e : Entry) (first : Extents) (i : ℕ) (made : Cell) → IsFork 0 f (leaf e first) → Beneath has (fork f (leaf e first)) → twigs_of f ≡ 2 → i ≡ count f.left → ((c : Cell) → has (f.first + (1 - i)) c → made ≡ c) →
+    (u : Tree) × (made ≡ top_cell u) × Beneath has u × ((w : ℕ → ℕ) → weigh_tree w u + (row w f.first 2 + weigh_extents w (length e.item) first) ≡ weigh_tree w (fork f (leaf e first))) × ((low : ℕ) → IsTree low (fork f (leaf e first)) → Shrunk e low (fork f (leaf e first)) u)
 one_left {has} f e first i made k h two is read = go f.left f.right k h two is read
   where
     go : (l r : Twigs) → IsFork 0 (record f { left = l; right = r }) (leaf e first) → Beneath has (fork (record f { left = l; right = r }) (leaf e first)) → count l + suc (count r) ≡ 2 → i ≡ count l → ((c : Cell) → has (f.first + (1 - i)) c → made ≡ c) →
-        (u : Tree) × (made ≡ top_cell u) × Beneath has u × ((w : ℕ → ℕ) → weigh_tree w u + (row w f.first 2 + row w first (cells_in e.item)) ≡ weigh_tree w (fork (record f { left = l; right = r }) (leaf e first))) × ((low : ℕ) → IsTree low (fork (record f { left = l; right = r }) (leaf e first)) → Shrunk e low (fork (record f { left = l; right = r }) (leaf e first)) u)
+        (u : Tree) × (made ≡ top_cell u) × Beneath has u × ((w : ℕ → ℕ) → weigh_tree w u + (row w f.first 2 + weigh_extents w (length e.item) first) ≡ weigh_tree w (fork (record f { left = l; right = r }) (leaf e first))) × ((low : ℕ) → IsTree low (fork (record f { left = l; right = r }) (leaf e first)) → Shrunk e low (fork (record f { left = l; right = r }) (leaf e first)) u)
     go none none k h two is read = absurd (omega arith)
     go none (twig q u none) k h two is read = (
       u,
@@ -62,7 +68,7 @@ one_left {has} f e first i made k h two is read = go f.left f.right k h two is r
     go (twig q u none) (twig r v more) k h two is read = absurd (omega arith)
     go (twig q u (twig r v more)) rest k h two is read = absurd (omega arith)
 
-module _ {S A : Type 0} {has : S → ℕ → Cell → Type 0} {account : A → Account} {s : S} {a : A} {key : List ℕ} {t : Turn} {lower : List Fork} {e : Entry} {first : ℕ} (x : LeafTurn has account s a key t lower e first) where
+module _ {S A : Type 0} {has : S → ℕ → Cell → Type 0} {account : A → Account} {s : S} {a : A} {key : List ℕ} {t : Turn} {lower : List Fork} {e : Entry} {first : Extents} (x : LeafTurn has account s a key t lower e first) where
   abbrev pub last_fork : Fork
   last_fork = record { offset = t.branch.offset; first = t.branch.twigs; left = x.turn.through.left; position = x.turn.through.position; right = x.turn.through.right }
 
@@ -102,15 +108,23 @@ module _ {S A : Type 0} {has : S → ℕ → Cell → Type 0} {account : A → A
   pub next_leaf : t.next ≡ top_cell (leaf e first)
   next_leaf = x.turn.next_is ∙ ap (λ r. top_cell (plug r (leaf e first))) x.alone
 
-  spans_of : {c : Change} {new : Span} → c.new_twigs ≡ new → new.at % 1024 + new.n ≤ 1024 → c.new_item ≡ record { at = 0; n = 0 } → c.old_twigs ≡ record { at = t.branch.twigs; n = count_ones t.branch.bitmap } → c.old_item ≡ record { at = first; n = cells_in e.item } → AreSpans c
+  -- and the leaf's own top
+  pub leaf_top : IsTop (has s) 0 t.next (leaf e first)
+  leaf_top = record { tree = leaf_alone; is = next_leaf; beneath = (twig_of (has s) last_fork (leaf e first) last_beneath).1 }
+
+  -- the item that was there
+  pub gone_item : {l m : Laid} → ((e : Entry) (x : Extents) → IsTop (has s) 0 t.next (leaf e x) → l.len ≡ length e.item) → ((e : Entry) (x : Extents) → IsTop (has s) 0 t.next (leaf e x) → extents_in l ≡ x) → m ≡ l → IsItemAt m (length e.item) first
+  gone_item {l} {m} len there same = subst (λ (z : Laid). IsItemAt z (length e.item) first) (sym same) (record { len = len e first leaf_top; there = there e first leaf_top })
+
+  spans_of : {c : Change} {new : Span} → c.new_twigs ≡ new → new.at % 1024 + new.n ≤ 1024 → IsNoItem c.new_item → c.old_twigs ≡ record { at = t.branch.twigs; n = count_ones t.branch.bitmap } → IsItemAt c.old_item (length e.item) first → AreSpans c
   spans_of {c} new together new_item old_twigs old_item = record {
     new_twigs = subst (λ (y : Span). y.at % 1024 + y.n ≤ 1024) (sym new) together;
-    new_item = subst (λ (y : Span). y.at % 1024 + y.n ≤ 1024) (sym new_item) (omega arith);
+    new_item = item_are new_item none_are;
     old_twigs = subst (λ (y : Span). y.at % 1024 + y.n ≤ 1024) (sym old_twigs) (let n = last_n in let r = last_known.lies.together in omega arith);
-    old_item = subst (λ (y : Span). y.at % 1024 + y.n ≤ 1024) (sym old_item) leaf_alone.1.together;
+    old_item = item_are old_item leaf_alone.1;
   }
 
-  pub collapsed : {c : Change} → count_ones t.branch.bitmap ≡ 2 → ((d : Cell) → has s (t.branch.twigs + (1 - t.index)) d → c.cell ≡ d) → c.new_twigs ≡ record { at = 0; n = 0 } → c.new_item ≡ record { at = 0; n = 0 } → c.old_twigs ≡ record { at = t.branch.twigs; n = count_ones t.branch.bitmap } → c.old_item ≡ record { at = first; n = cells_in e.item } →
+  pub collapsed : {c : Change} → count_ones t.branch.bitmap ≡ 2 → ((d : Cell) → has s (t.branch.twigs + (1 - t.index)) d → c.cell ≡ d) → c.new_twigs ≡ record { at = 0; n = 0 } → IsNoItem c.new_item → c.old_twigs ≡ record { at = t.branch.twigs; n = count_ones t.branch.bitmap } → IsItemAt c.old_item (length e.item) first →
       IsWithout has s c e (plug lower (leaf e first))
   collapsed {c} two read new_twigs new_item old_twigs old_item = subst (IsWithout has s c e) (sym last_is) (
       let u = one_left {has = has s} last_fork e first t.index c.cell last_known last_beneath (sym last_n ∙ two) x.turn.index_is read in
@@ -119,7 +133,7 @@ module _ {S A : Type 0} {has : S → ℕ → Cell → Type 0} {account : A → A
         makes = record {
           is = u.1;
           beneath = u.2;
-          weigh = λ w. let z = u.3 w in let p = ap (λ y. span y w) new_twigs in let q = ap (λ y. span y w) new_item in let r = ap (λ y. span y w) old_twigs in let v = ap (λ y. span y w) old_item in let o = ap (row w t.branch.twigs) two in omega arith;
+          weigh = λ w. let z = u.3 w in let p = ap (λ y. span y w) new_twigs in let q = item_span_is new_item w in let r = ap (λ y. span y w) old_twigs in let v = item_span_is old_item w in let o = ap (row w t.branch.twigs) two in omega arith;
           spans = spans_of new_twigs (omega arith) new_item old_twigs old_item;
         };
         shrunk = u.4;
@@ -152,7 +166,7 @@ module _ {S A : Type 0} {has : S → ℕ → Cell → Type 0} {account : A → A
     fewer_branch = subst (λ (b : ℕ). IsBranch (record { offset = t.branch.offset; bitmap = b; twigs = to })) (sym others_bits) (is_node 0 (branch t.branch.offset to others) (others_shrunk 0 last_tree).tree)
 
     pub dropped : {c : Change} → ((i : ℕ) (d : Cell) → i < t.index → has s (t.branch.twigs + i) d → has s1 (to + i) d) → ((i : ℕ) (d : Cell) → t.index + 1 + i < count_ones t.branch.bitmap → has s (t.branch.twigs + (t.index + 1 + i)) d → has s1 (to + (t.index + 0 + i)) d) →
-        c.cell ≡ branch_cell (record { offset = t.branch.offset; bitmap = bits; twigs = to }) → c.new_twigs ≡ record { at = to; n = count_ones t.branch.bitmap - 1 } → c.new_item ≡ record { at = 0; n = 0 } → c.old_twigs ≡ record { at = t.branch.twigs; n = count_ones t.branch.bitmap } → c.old_item ≡ record { at = first; n = cells_in e.item } →
+        c.cell ≡ branch_cell (record { offset = t.branch.offset; bitmap = bits; twigs = to }) → c.new_twigs ≡ record { at = to; n = count_ones t.branch.bitmap - 1 } → IsNoItem c.new_item → c.old_twigs ≡ record { at = t.branch.twigs; n = count_ones t.branch.bitmap } → IsItemAt c.old_item (length e.item) first →
         IsWithout has s1 c e (plug lower (leaf e first))
     dropped {c} before after cell new_twigs new_item old_twigs old_item = subst (IsWithout has s1 c e) (sym last_is) (record {
       new = branch t.branch.offset to others;
@@ -163,7 +177,7 @@ module _ {S A : Type 0} {has : S → ℕ → Cell → Type 0} {account : A → A
             let z = weigh_is w to others in let y = under-beside w x.turn.through.left x.turn.through.right in
             let o = weigh_is w t.branch.twigs (beside x.turn.through.left (twig x.turn.through.position (leaf e first) x.turn.through.right)) in let n = under-beside w x.turn.through.left (twig x.turn.through.position (leaf e first) x.turn.through.right) in
             let m = ap (row w t.branch.twigs) (fork_count last_fork (leaf e first) ∙ sym last_n) in let l = ap (row w to) others_count in
-            let p = ap (λ y. span y w) new_twigs in let q = ap (λ y. span y w) new_item in let r = ap (λ y. span y w) old_twigs in let v = ap (λ y. span y w) old_item in omega arith;
+            let p = ap (λ y. span y w) new_twigs in let q = item_span_is new_item w in let r = ap (λ y. span y w) old_twigs in let v = item_span_is old_item w in omega arith;
         spans = spans_of new_twigs handed.twigs.together new_item old_twigs old_item;
       };
       shrunk = others_shrunk;
@@ -182,14 +196,14 @@ pub same_without : {S : Type 0} {has : S → ℕ → Cell → Type 0} {s s1 : S}
 same_without {has = has} {c = c} {e} {old} same = subst (λ s. IsWithout has s c e old) (sym same)
 
 -- twigs alone were taken
-pub taken_twigs : {old new : Account} {c : Change} (to m : ℕ) → Handed old new to m → ((q : ℕ) → old.used q ≡ true → new.used q ≡ true) → c.new_twigs ≡ record { at = to; n = m } → c.new_item ≡ record { at = 0; n = 0 } → IsTaken old new c
+pub taken_twigs : {old new : Account} {c : Change} (to m : ℕ) → Handed old new to m → ((q : ℕ) → old.used q ≡ true → new.used q ≡ true) → c.new_twigs ≡ record { at = to; n = m } → IsNoItem c.new_item → IsTaken old new c
 taken_twigs {old} {new} {c} to m h stays new_twigs no_item =
-    let w = λ (w : ℕ → ℕ). ap (λ x. span x w) new_twigs in let v = λ (w : ℕ → ℕ). ap (λ x. span x w) no_item in
+    let w = λ (w : ℕ → ℕ). ap (λ x. span x w) new_twigs in let v = λ (w : ℕ → ℕ). item_span_is no_item w in
     record { counts = λ k. let x = h.counts k in let y = w (in_chunk k) in let z = v (in_chunk k) in omega arith; fresh = λ q. let x = handed_fresh h stays q in let y = w (at_place q) in let z = v (at_place q) in omega arith }
 
-pub none_taken : {a : Account} {c : Change} → c.new_twigs ≡ record { at = 0; n = 0 } → c.new_item ≡ record { at = 0; n = 0 } → IsTaken a a c
+pub none_taken : {a : Account} {c : Change} → c.new_twigs ≡ record { at = 0; n = 0 } → IsNoItem c.new_item → IsTaken a a c
 none_taken {a} {c} no_twigs no_item =
-    let w = λ (w : ℕ → ℕ). ap (λ x. span x w) no_twigs in let v = λ (w : ℕ → ℕ). ap (λ x. span x w) no_item in
+    let w = λ (w : ℕ → ℕ). ap (λ x. span x w) no_twigs in let v = λ (w : ℕ → ℕ). item_span_is no_item w in
     record { counts = λ k. let y = w (in_chunk k) in let z = v (in_chunk k) in omega arith; fresh = λ q. let y = w (at_place q) in let z = v (at_place q) in omega arith }
 
 abbrev pub the_span : ℕ → ℕ → Span

@@ -1,6 +1,7 @@
 -- What a change below a root is asked.
 use Rattle.std.specs.Prelude.{◌≡◌, ℕ, List}
 use Rattle.packed_node.specs.declared.Cell.{Cell}
+use Rattle.trie_model.specs.Extents.{Extents}
 use Rattle.trie_model.specs.Keys.{Entry}
 use Rattle.trie_model.specs.Trees.{Tree}
 use Rattle.trie_model.specs.Trees.Tree.{leaf}
@@ -13,7 +14,7 @@ pub record HasKey {S A : Type 0} (has : S → ℕ → Cell → Type 0) (account 
   pub stands : StandsIn (has s) (account a).used (account a).live r t version
   pub way : List Fork
   pub entry : Entry
-  pub first : ℕ
+  pub first : Extents
   pub is : t ≡ plug way (leaf entry first)
   pub is_way : IsWay 65535 key way (leaf entry first)
   pub same_key : entry.key ≡ key

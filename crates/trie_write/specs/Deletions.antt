@@ -2,6 +2,7 @@
 use Rattle.std.specs.Prelude.{◌≡◌, ℕ, List, []}
 use Rattle.packed_node.specs.declared.Cell.{Cell}
 use Rattle.trie_model.specs.Changes.{Removed, Shrunk}
+use Rattle.trie_model.specs.Extents.{Extents}
 use Rattle.trie_model.specs.Keys.{Entry}
 use Rattle.trie_model.specs.Memory.{top_cell}
 use Rattle.trie_model.specs.Trees.{Tree, IsTree}
@@ -22,7 +23,7 @@ pub record Deleted (key : List ℕ) (old new : List Entry) : Type 0 where
   pub same_key : gone.key ≡ key
 
 -- The turn is the last one of a way to a leaf: its branch, from where the lower part of the way leads to the leaf.
-pub record LeafTurn {S A : Type 0} (has : S → ℕ → Cell → Type 0) (account : A → Account) (s : S) (a : A) (key : List ℕ) (t : Turn) (lower : List Fork) (e : Entry) (first : ℕ) : Type 0 where
+pub record LeafTurn {S A : Type 0} (has : S → ℕ → Cell → Type 0) (account : A → Account) (s : S) (a : A) (key : List ℕ) (t : Turn) (lower : List Fork) (e : Entry) (first : Extents) : Type 0 where
   pub asks : WayAsks has account s a 65535 0 key (top_cell (plug lower (leaf e first))) lower (leaf e first)
   pub turn : IsTurn 65535 t lower (leaf e first)
   pub alone : turn.through.rest ≡ []
@@ -30,7 +31,7 @@ pub record LeafTurn {S A : Type 0} (has : S → ℕ → Cell → Type 0) (accoun
 pub record LeafTurned {S A : Type 0} (has : S → ℕ → Cell → Type 0) (account : A → Account) (s : S) (a : A) (key : List ℕ) (t : Turn) : Type 0 where
   pub lower : List Fork
   pub entry : Entry
-  pub first : ℕ
+  pub first : Extents
   pub last : LeafTurn has account s a key t lower entry first
 
 -- the change makes of the branch what it is without the leaf

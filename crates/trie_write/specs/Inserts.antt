@@ -1,28 +1,21 @@
 -- What an insertion below a root is asked, and what it makes.
-use Rattle.std.specs.Prelude.{◌≡◌, ℕ, ◌+◌, ◌<◌, ◌≤◌, true, List, length}
+use Rattle.std.specs.Prelude.{◌≡◌, ℕ, ◌<◌, ◌≤◌, List}
 use Rattle.packed_node.specs.declared.Cell.{Cell}
 use Rattle.packed_node.specs.declared.Branch.{Branch}
-use Rattle.packed_node.specs.declared.Leaf.{Leaf}
+use Rattle.chunk_cells.specs.declared.extents.Extents.{Extents as Laid}
 use Rattle.trie_model.specs.Changes.{Nearest, Grown, Deep}
 use Rattle.trie_model.specs.Keys.{Entry, IsEntry}
-use Rattle.trie_model.specs.Memory.{ItemLies}
 use Rattle.trie_model.specs.Reach.{WithinTree}
-use Rattle.trie_model.specs.Trees.{Tree, entries_of, cells_in, IsRow, IsTree}
+use Rattle.trie_model.specs.Trees.{Tree, entries_of, IsTree}
 use Rattle.chunk_usage.specs.Rooms.{Account}
 use Rattle.trie_read.specs.Reads.{IsTop}
 use Rattle.trie_write.specs.declared.change.Change.{Change}
 use Rattle.shift_key.specs.declared.difference.Difference.{Difference}
+use Rattle.trie_write.specs.Laid.{IsLaid}
 use Rattle.trie_write.specs.Puts.{Makes}
 use Rattle.trie_write.specs.Standing.{StandsIn}
 use Rattle.trie_write.specs.Tops.{NotBefore, IsBranchTop}
 use Rattle.trie_write.specs.Ways.{Fork, plug, IsWay}
-
--- the item lies in cells in use, where the leaf says
-pub record IsLaid {S A : Type 0} (has : S → ℕ → Cell → Type 0) (account : A → Account) (s : S) (a : A) (l : Leaf) (item : List ℕ) : Type 0 where
-  pub len : l.len ≡ length item
-  pub twigs : IsRow l.at (cells_in item)
-  pub lies : ItemLies (has s) l.at item
-  pub in_use : (i : ℕ) → i < cells_in item → (account a).used (l.at + i) ≡ true
 
 -- The key first differs from those of a tree at the place, where the nearest has the position.
 pub record IsFirst (key : List ℕ) (first : Difference) (end : Tree) : Type 0 where
@@ -31,31 +24,31 @@ pub record IsFirst (key : List ℕ) (first : Difference) (end : Tree) : Type 0 w
   pub inside : first.position < 47
 
 -- a tree at a node whose offset isn't before that place, and the laid item of the key
-pub record WithAsks {S A : Type 0} (has : S → ℕ → Cell → Type 0) (account : A → Account) (s : S) (a : A) (key item : List ℕ) (first : Difference) (node : Cell) (l : Leaf) (end : Tree) : Type 0 where
+pub record WithAsks {S A : Type 0} (has : S → ℕ → Cell → Type 0) (account : A → Account) (s : S) (a : A) (key item : List ℕ) (first : Difference) (node : Cell) (x : Laid) (end : Tree) : Type 0 where
   pub entry : IsEntry (record { key = key; item = item })
-  pub laid : IsLaid has account s a l item
+  pub laid : IsLaid has account s a x item
   pub top : IsTop (has s) 0 node end
   pub within : WithinTree (account a).used end
   pub ends : NotBefore first.place end
   pub differs : IsFirst key first end
 
-pub record WithAsked {S A : Type 0} (has : S → ℕ → Cell → Type 0) (account : A → Account) (s : S) (a : A) (key : List ℕ) (first : Difference) (node : Cell) (l : Leaf) : Type 0 where
+pub record WithAsked {S A : Type 0} (has : S → ℕ → Cell → Type 0) (account : A → Account) (s : S) (a : A) (key : List ℕ) (first : Difference) (node : Cell) (x : Laid) : Type 0 where
   pub item : List ℕ
   pub end : Tree
-  pub asks : WithAsks has account s a key item first node l end
+  pub asks : WithAsks has account s a key item first node x end
 
 -- where the tree's top lies deeper, and where it is a branch at the place
-pub record PairAsked {S A : Type 0} (has : S → ℕ → Cell → Type 0) (account : A → Account) (s : S) (a : A) (key : List ℕ) (first : Difference) (node : Cell) (l : Leaf) : Type 0 where
+pub record PairAsked {S A : Type 0} (has : S → ℕ → Cell → Type 0) (account : A → Account) (s : S) (a : A) (key : List ℕ) (first : Difference) (node : Cell) (x : Laid) : Type 0 where
   pub item : List ℕ
   pub end : Tree
-  pub asks : WithAsks has account s a key item first node l end
+  pub asks : WithAsks has account s a key item first node x end
   pub deep : Deep first.place end
 
-pub record JoinAsked {S A : Type 0} (has : S → ℕ → Cell → Type 0) (account : A → Account) (s : S) (a : A) (key : List ℕ) (first : Difference) (b : Branch) (l : Leaf) : Type 0 where
+pub record JoinAsked {S A : Type 0} (has : S → ℕ → Cell → Type 0) (account : A → Account) (s : S) (a : A) (key : List ℕ) (first : Difference) (b : Branch) (x : Laid) : Type 0 where
   pub node : Cell
   pub item : List ℕ
   pub end : Tree
-  pub asks : WithAsks has account s a key item first node l end
+  pub asks : WithAsks has account s a key item first node x end
   pub top : IsBranchTop end b
   pub here : b.offset ≡ first.place
 

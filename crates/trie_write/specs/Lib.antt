@@ -1,6 +1,7 @@
 pub mod Named
 pub mod Entries
 pub mod Weights
+pub mod Laid
 pub mod Points
 pub mod Builds
 pub mod Standing

@@ -1,9 +1,10 @@
 -- What lies on the path of a key.
-use Rattle.std.specs.Prelude.{ℕ, suc, ◌+◌, ◌-◌, ◌==◌, Bool, List, [], ◌∷◌, ◌++◌, map, if◌then◌else◌}
+use Rattle.std.specs.Prelude.{ℕ, suc, ◌+◌, ◌-◌, ◌==◌, Bool, List, [], ◌∷◌, ◌++◌, map, length, if◌then◌else◌}
 use Rattle.trie_model.specs.Keys.{at}
-use Rattle.trie_model.specs.Trees.{Tree, Twigs, count, cells_in}
+use Rattle.trie_model.specs.Trees.{Tree, Twigs, count}
 use Rattle.trie_model.specs.Trees.Tree.{leaf, branch}
 use Rattle.trie_model.specs.Trees.Twigs.{none, twig}
+use Rattle.trie_write.specs.Laid.{extent_sizes}
 
 -- the twigs of all branches on the path of a key
 abbrev mutual
@@ -45,13 +46,13 @@ abbrev mutual
 
 -- How many cells side by side a call may ask for, where the branches on its key's path have so many twigs.
 
--- to put an item in: its cells, two for a new branch, one for a root, those of a branch, or one more
+-- to put an item in: those of an extent, two for a new branch, one for a root, those of a branch, or one more
 abbrev pub insert_asks : List ℕ → List ℕ → List ℕ
-insert_asks item branches = cells_in item ∷ 2 ∷ 1 ∷ (branches ++ map suc branches)
+insert_asks item branches = extent_sizes (length item) ++ (2 ∷ 1 ∷ (branches ++ map suc branches))
 
--- to exchange one: its cells, one for a root, or those of a branch
+-- to exchange one: those of an extent, one for a root, or those of a branch
 abbrev pub replace_asks : List ℕ → List ℕ → List ℕ
-replace_asks item branches = cells_in item ∷ 1 ∷ branches
+replace_asks item branches = extent_sizes (length item) ++ (1 ∷ branches)
 
 -- to take one out: one for a root, those of a branch, or one fewer
 abbrev pub delete_asks : List ℕ → List ℕ

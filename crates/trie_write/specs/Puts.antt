@@ -1,9 +1,12 @@
 -- A change that is put at the end of a way.
 use Rattle.std.specs.Prelude.{◌≡◌, ℕ, ◌+◌, ◌%◌, ◌≤◌, true, List}
 use Rattle.packed_node.specs.declared.Cell.{Cell}
+use Rattle.trie_model.specs.Extents.{AreExtents, row, weigh_extents}
 use Rattle.trie_model.specs.Memory.{Beneath, top_cell}
-use Rattle.trie_model.specs.Reach.{row, in_chunk, weigh_tree}
+use Rattle.trie_model.specs.Reach.{in_chunk, weigh_tree}
 use Rattle.trie_model.specs.Trees.{Tree, entries_of, IsTree}
+use Rattle.chunk_cells.specs.declared.extents.Extents.{Extents as Laid}
+use Rattle.chunk_cells.specs.Laying.{extents_in}
 use Rattle.chunk_usage.specs.declared.space.Full.{Full}
 use Rattle.chunk_usage.specs.Rooms.{Account}
 use Rattle.trie_write.specs.declared.change.Span.{Span}
@@ -12,22 +15,25 @@ use Rattle.trie_write.specs.Mutable.{Rooted, SeatAsks}
 use Rattle.trie_write.specs.Ways.{Fork, plug, Along}
 use Rattle.trie_write.specs.Weights.{at_place, mark}
 
--- what cells side by side weigh; what was taken for a change, and what it leaves
+-- what cells side by side weigh, and those of an item; what was taken for a change, and what it leaves
 abbrev pub span : Span → (ℕ → ℕ) → ℕ
 span x w = row w x.at x.n
 
+abbrev pub item_span : Laid → (ℕ → ℕ) → ℕ
+item_span x w = weigh_extents w x.len (extents_in x)
+
 abbrev pub taken : Change → (ℕ → ℕ) → ℕ
-taken c w = span c.new_twigs w + span c.new_item w
+taken c w = span c.new_twigs w + item_span c.new_item w
 
 abbrev pub left : Change → (ℕ → ℕ) → ℕ
-left c w = span c.old_twigs w + span c.old_item w
+left c w = span c.old_twigs w + item_span c.old_item w
 
--- each of them lies in one chunk
+-- twigs lie in one chunk, and items in extents
 pub record AreSpans (c : Change) : Type 0 where
   pub new_twigs : c.new_twigs.at % 1024 + c.new_twigs.n ≤ 1024
-  pub new_item : c.new_item.at % 1024 + c.new_item.n ≤ 1024
+  pub new_item : AreExtents c.new_item.len (extents_in c.new_item)
   pub old_twigs : c.old_twigs.at % 1024 + c.old_twigs.n ≤ 1024
-  pub old_item : c.old_item.at % 1024 + c.old_item.n ≤ 1024
+  pub old_item : AreExtents c.old_item.len (extents_in c.old_item)
 
 -- The change makes the one tree of the other: its cell is the top of that one, which lies in cells of the old one and in those taken,
 -- and all that it doesn't keep is left.

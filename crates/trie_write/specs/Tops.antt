@@ -2,6 +2,7 @@
 use Rattle.std.specs.Prelude.{◌≡◌, ℕ, ◌≤◌, length}
 use Rattle.packed_node.specs.declared.Branch.{Branch}
 use Rattle.packed_node.specs.declared.Leaf.{Leaf}
+use Rattle.trie_model.specs.Extents.{Extents, first_of}
 use Rattle.trie_model.specs.Keys.{Entry}
 use Rattle.trie_model.specs.Trees.{Tree, Twigs, bitmap_of}
 use Rattle.trie_model.specs.Trees.Tree.{leaf, branch}
@@ -13,7 +14,9 @@ pub record IsBranchTop (t : Tree) (b : Branch) : Type 0 where
 
 pub record IsLeafTop (t : Tree) (l : Leaf) : Type 0 where
   pub e : Entry
-  pub is : t ≡ leaf e l.at
+  pub extents : Extents
+  pub is : t ≡ leaf e extents
+  pub at : l.at ≡ first_of extents
   pub len : l.len ≡ length e.item
 
 -- the top, where it is a branch, has its offset at the place or behind it

@@ -5,6 +5,7 @@
 
 ghost use Rattle.std.specs.Prelude.{◌≡◌, ◌+◌, ◌<◌, ◌≤◌, ℕ, suc, List, [], ◌∷◌, IfOk, IfErr, Some, length};
 ghost use Rattle.packed_node.specs.declared.Cell.{Cell};
+ghost use Rattle.trie_model.specs.Extents.{Extents};
 ghost use Rattle.trie_model.specs.Keys.{Entry, Rises};
 ghost use Rattle.trie_model.specs.Shape.{cells as cells_of};
 ghost use Rattle.trie_model.specs.Trees.{IsTree};
@@ -16,7 +17,8 @@ ghost use Rattle.trie_write.specs.Spaces.{Ready, Frame};
 ghost use Rattle.trie_write.specs.Standing.{HasTrie};
 
 use super::Item;
-use super::place::{lay_item, lay_row};
+use super::laying::lay_item;
+use super::place::lay_row;
 use super::points::{BranchPoint, from_offset, point_ahead};
 use super::row::Row;
 use chunk_cells::CellWrite;
@@ -89,14 +91,14 @@ fn build_leaf<C: CellWrite, U: Space>(
     item: &Item,
 ) -> Result<Cell, Full>
     requires { Ready C.kept C.given U.account cells.old usage.old }
-    ensures built { IfOk result (λ cell. (at : ℕ) × IsTree 0 (leaf (entry_of item.now) at) × Built (C.has cells.new) (U.account usage.old) (U.account usage.new) (leaf (entry_of item.now) at) cell) }
+    ensures built { IfOk result (λ cell. (at : Extents) × IsTree 0 (leaf (entry_of item.now) at) × Built (C.has cells.new) (U.account usage.old) (U.account usage.new) (leaf (entry_of item.now) at) cell) }
     ensures spends { (U.account usage.new).spent < (U.account usage.old).spent + cells_of (entry_of item.now ∷ []) }
     ensures full { IfErr result (λ f. U.lacks usage.new f) }
     ensures frame { Frame C.has C.kept C.given U.account cells.old usage.old cells.new usage.new }
     ensures ready { Ready C.kept C.given U.account cells.new usage.new }
 {
-    let leaf = lay_item(cells, usage, item.octets())?;
-    Ok(Node::Leaf(leaf).pack())
+    let there = lay_item(cells, usage, item.octets())?;
+    Ok(Node::Leaf(there.leaf()).pack())
 }
 
 /// The trie of the first items, as many as agree before `low`.

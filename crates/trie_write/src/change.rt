@@ -1,23 +1,27 @@
 //! A change at a place of the trie: the way there is made mutable, and one cell is put.
 
-ghost use Rattle.std.specs.Prelude.{◌≡◌, ◌+◌, ◌/◌, ◌%◌, ◌≤◌, ℕ, true, List, ◌∷◌, map, Contains, IfOk, IfErr};
+ghost use Rattle.std.specs.Prelude.{◌≡◌, ◌+◌, ◌/◌, ◌%◌, ◌≤◌, ℕ, true, List, ◌∷◌, map, Contains, IfOk, IfErr, length};
 ghost use Rattle.packed_node.specs.declared.Cell.{Cell};
+ghost use Rattle.trie_model.specs.Extents.{AreExtents};
 ghost use Rattle.trie_model.specs.Reach.{in_chunk};
 ghost use Rattle.trie_model.specs.Keys.{Entry};
 ghost use Rattle.trie_model.specs.Memory.{top_cell};
-ghost use Rattle.trie_model.specs.Trees.{Tree, IsTree, cells_in};
+ghost use Rattle.trie_model.specs.Trees.{Tree, IsTree};
 ghost use Rattle.trie_model.specs.Trees.Tree.{leaf};
-ghost use Rattle.trie_write.specs.Puts.{span, taken, PutAsks, PutAsked, IsPut, GivenBack};
+ghost use Rattle.chunk_cells.specs.Laying.{extents_in};
+ghost use Rattle.trie_read.specs.Reads.{IsTop};
+ghost use Rattle.trie_write.specs.Puts.{span, item_span, taken, PutAsks, PutAsked, IsPut, GivenBack};
 ghost use Rattle.trie_write.specs.Roots.{IsOutside};
 ghost use Rattle.trie_write.specs.Spaces.{Ready, Fenced};
 ghost use Rattle.trie_write.specs.Ways.{Fork, plug, twigs_of, copied_along};
 
+use super::laying::release_item;
 use super::mutable::make_mutable;
 use super::top::top_of;
-use chunk_cells::CellWrite;
-use chunk_cells::item::cells_for;
+use chunk_cells::extents::extents_of;
+use chunk_cells::{CellRead, CellWrite, Extents};
 use chunk_usage::{Full, Space};
-use packed_node::{Cell, Leaf, Ref};
+use packed_node::{Cell, Ref};
 use shift_key::Key;
 
 /// Cells side by side.
@@ -30,6 +34,12 @@ pub struct Span {
 /// No cells.
 pub const NO_CELLS: Span = Span { at: 0, n: 0 };
 
+/// No item: it has no octets, and so no cells.
+pub const NO_ITEM: Extents = Extents {
+    len: 0,
+    at: [0; 17],
+};
+
 /// What is put at a place, in which cells, and in place of which.
 #[derive(Clone, Copy)]
 pub struct Change {
@@ -37,23 +47,23 @@ pub struct Change {
     pub cell: Cell,
     /// The cells that were taken for it, and written.
     pub new_twigs: Span,
-    pub new_item: Span,
+    pub new_item: Extents,
     /// The cells that count no more once it is there.
     pub old_twigs: Span,
-    pub old_item: Span,
+    pub old_item: Extents,
 }
 
 /// These cells don't count any more.
-pub fn let_go<U: Space>(usage: &mut U, twigs: Span, item: Span)
-    requires counted { (k : ℕ) → span twigs (in_chunk k) + span item (in_chunk k) ≤ (U.account usage.old).live k }
+pub fn let_go<U: Space>(usage: &mut U, twigs: Span, item: &Extents)
+    requires counted { (k : ℕ) → span twigs (in_chunk k) + item_span item.now (in_chunk k) ≤ (U.account usage.old).live k }
     requires twigs { twigs.at % 1024 + twigs.n ≤ 1024 }
-    requires item { item.at % 1024 + item.n ≤ 1024 }
-    ensures counts { (k : ℕ) → (U.account usage.new).live k + (span twigs (in_chunk k) + span item (in_chunk k)) ≡ (U.account usage.old).live k }
+    requires item { AreExtents item.now.len (extents_in item.now) }
+    ensures counts { (k : ℕ) → (U.account usage.new).live k + (span twigs (in_chunk k) + item_span item.now (in_chunk k)) ≡ (U.account usage.old).live k }
     ensures rest { U.account usage.new ≡ record (U.account usage.old) { live = (U.account usage.new).live } }
     ensures lacks { (f : _) → U.lacks usage.old f → U.lacks usage.new f }
 {
     usage.release(twigs.at, twigs.n);
-    usage.release(item.at, item.n);
+    release_item(usage, item);
 }
 
 /// The root of the trie with the change at the first node along the key whose offset isn't before the place. Where there is no room
@@ -82,35 +92,27 @@ pub fn put_change<C: CellWrite, U: Space>(
 {
     match make_mutable(cells, usage, root, key, place) {
         Err(full) => {
-            let_go(usage, change.new_twigs, change.new_item);
+            let_go(usage, change.new_twigs, &change.new_item);
             Err(full)
         }
         Ok(seat) => {
             cells.put(seat.at, change.cell);
-            let_go(usage, change.old_twigs, change.old_item);
+            let_go(usage, change.old_twigs, &change.old_item);
             usage.note(seat.path);
             Ok(seat.root)
         }
     }
 }
 
-/// The cells of a leaf's item.
-pub fn leaf_span(leaf: Leaf) -> Span
-    ensures at { result.at ≡ leaf.at }
-    ensures n { result.n ≡ (leaf.len + 15) / 16 }
-{
-    Span {
-        at: leaf.at,
-        n: cells_for(leaf.len),
-    }
-}
-
-/// The same of the leaf that a cell says.
-pub fn item_span(node: Cell) -> Span
-    ensures { (e : Entry) (first : ℕ) → IsTree 0 (leaf e first) → node ≡ top_cell (leaf e first) → result ≡ record { at = first; n = cells_in e.item } }
+/// Where the item of the leaf lies that a cell says.
+pub fn item_below<C: CellRead>(cells: &mut C, node: Cell) -> Extents
+    requires { (e : Entry) × (x : _) × IsTop (C.has cells.old) 0 node (leaf e x) }
+    ensures same { cells.new ≡ cells.old }
+    ensures len { (e : Entry) (x : _) → IsTop (C.has cells.old) 0 node (leaf e x) → result.len ≡ length e.item }
+    ensures there { (e : Entry) (x : _) → IsTop (C.has cells.old) 0 node (leaf e x) → extents_in result ≡ x }
 {
     match top_of(node) {
-        Err(leaf) => leaf_span(leaf),
-        Ok(_) => NO_CELLS,
+        Err(leaf) => extents_of(cells, leaf),
+        Ok(_) => NO_ITEM,
     }
 }

@@ -13,7 +13,7 @@ ghost use Rattle.trie_write.specs.Roots.{TwigsOnPath, BranchesOnPath, ToCopy, Is
 ghost use Rattle.trie_write.specs.Spaces.{Ready, Fenced, Unchanged, Refused};
 ghost use Rattle.trie_write.specs.Standing.{HasTrie};
 
-use super::change::{Span, item_span, let_go, put_change};
+use super::change::{Span, item_below, let_go, put_change};
 use super::replacement::ChangeRefusal;
 use super::there::root_with;
 use super::turn::{Turn, last_turn};
@@ -77,7 +77,8 @@ fn delete_item<C: CellWrite, U: Space>(
     let node = cells.cell(root);
     match last_turn(cells, key, 0, node) {
         None => {
-            let_go(usage, Span { at: root, n: 1 }, item_span(node));
+            let item = item_below(cells, node);
+            let_go(usage, Span { at: root, n: 1 }, &item);
             Ok(None)
         }
         Some(turn) => match drop_leaf(cells, usage, root, key, turn) {

@@ -1,14 +1,16 @@
 //! A name put in.
 
-ghost use Rattle.std.specs.Prelude.{◌≡◌, ◌+◌, ◌/◌, ◌<◌, ◌≤◌, ◌∷◌, [], ℕ, suc, List, map, Contains, true, IfOk, IfErr, Err, Some, ◌↔◌, length};
+ghost use Rattle.std.specs.Prelude.{◌≡◌, ◌+◌, ◌/◌, ◌<◌, ◌≤◌, ◌∷◌, ◌++◌, [], ℕ, suc, List, map, Contains, true, IfOk, IfErr, Err, Some, ◌↔◌, length};
 ghost use Rattle.packed_node.specs.declared.Cell.{Cell};
-ghost use Rattle.zone_model.specs.Keys.{Leads};
+ghost use Rattle.zone_model.specs.Keys.{Leads, most_item_octets};
+ghost use Rattle.trie_model.specs.Extents.{cells_in};
 ghost use Rattle.trie_model.specs.Keys.{Entry, IsEntry, InList};
-ghost use Rattle.trie_model.specs.Trees.{Tree, cells_in};
+ghost use Rattle.trie_model.specs.Trees.{Tree};
 ghost use Rattle.trie_model.specs.Changes.{Inserted};
 ghost use Rattle.trie_read.specs.Reads.{EachTells};
 ghost use Rattle.trie_write.specs.Inserts.{LacksKey, KeyIsMissing, IsWith};
 ghost use Rattle.trie_write.specs.Paths.{twigs_on_path, branches_on_path, insert_asks, to_copy};
+ghost use Rattle.trie_write.specs.Laid.{extent_sizes};
 ghost use Rattle.trie_write.specs.Puts.{IsTaken};
 ghost use Rattle.trie_write.specs.Roots.{TwigsOnPath, BranchesOnPath, ToCopy, IsOutside, Beyond};
 ghost use Rattle.trie_write.specs.Spaces.{Ready, Frame, Fenced, Unchanged, Refused};
@@ -16,11 +18,11 @@ ghost use Rattle.trie_write.specs.Standing.{HasTrie};
 
 use super::change::{Change, put_change};
 use super::near::compare;
-use super::place::{lay_item, room_for};
+use super::laying::{lay_item, release_item};
+use super::place::room_for;
 use super::turn::end_node;
 use super::with::with_leaf;
 use chunk_cells::CellWrite;
-use chunk_cells::item::cells_for;
 use chunk_usage::{Full, Space};
 use packed_node::{Node, Ref};
 use shift_key::{Difference, Key};
@@ -32,24 +34,24 @@ fn insert_first<C: CellWrite, U: Space>(
     item: &[u8],
 ) -> Result<Ref, Full>
     requires some { 0 < length item.now }
-    requires short { length item.now ≤ 4096 }
+    requires short { length item.now ≤ most_item_octets }
     requires uncounted { (k : ℕ) → (U.account usage.old).live k ≡ 0 }
     requires ready { Ready C.kept C.given U.account cells.old usage.old }
     ensures stands { IfOk result (λ root. (e : Entry) → IsEntry e → e.item ≡ item.now → HasTrie C.has U.account cells.new usage.new (Some root) (e ∷ [])) }
     ensures spends { (U.account usage.new).spent ≤ (U.account usage.old).spent + (cells_in item.now + 1) }
     ensures refused { IfErr result (λ f. Refused C.has U.account U.lacks cells.old usage.old cells.new usage.new f) }
-    ensures asked { IfErr result (λ f. Contains (cells_in item.now ∷ 1 ∷ []) f.needed) }
+    ensures asked { IfErr result (λ f. Contains (extent_sizes (length item.now) ++ (1 ∷ [])) f.needed) }
     ensures frame { Frame C.has C.kept C.given U.account cells.old usage.old cells.new usage.new }
     ensures ready { Ready C.kept C.given U.account cells.new usage.new }
 {
-    let leaf = lay_item(cells, usage, item)?;
+    let there = lay_item(cells, usage, item)?;
     match room_for(cells, usage, 1) {
         Err(full) => {
-            usage.release(leaf.at, cells_for(leaf.len));
+            release_item(usage, &there);
             Err(full)
         }
         Ok(root) => {
-            cells.put(root, Node::Leaf(leaf).pack());
+            cells.put(root, Node::Leaf(there.leaf()).pack());
             Ok(root)
         }
     }
@@ -75,16 +77,16 @@ fn new_leaf<C: CellWrite, U: Space>(
     ensures copies { (U.account usage.new).spent ≤ (U.account usage.old).spent + (cells_in item.now + 47) }
     ensures refused { IfErr result (λ f. Refused C.has U.account U.lacks cells.old usage.old cells.new usage.new f) }
     ensures asked { IfErr result (λ f. (t : Tree) (version : List Entry) (h : LacksKey C.has U.account cells.old usage.old root key.now first t version)
-        → Contains (cells_in item.now ∷ 2 ∷ map suc (branches_on_path key.now h.end)) f.needed) }
+        → Contains (extent_sizes (length item.now) ++ (2 ∷ map suc (branches_on_path key.now h.end))) f.needed) }
     ensures frame { Frame C.has C.kept C.given U.account cells.old usage.old cells.new usage.new }
     ensures ready { Ready C.kept C.given U.account cells.new usage.new }
 {
     let top = cells.cell(root);
     let node = end_node(cells, key, first.place, 0, top);
-    let leaf = lay_item(cells, usage, item)?;
-    match with_leaf(cells, usage, key, first, node, leaf) {
+    let there = lay_item(cells, usage, item)?;
+    match with_leaf(cells, usage, key, first, node, &there) {
         Err(full) => {
-            usage.release(leaf.at, cells_for(leaf.len));
+            release_item(usage, &there);
             Err(full)
         }
         Ok(change) => Ok(change),

@@ -6,6 +6,7 @@ mod change;
 mod deletion;
 mod insertion;
 pub mod item;
+mod laying;
 mod mutable;
 mod near;
 mod paths;

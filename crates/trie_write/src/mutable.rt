@@ -3,8 +3,9 @@
 ghost use Rattle.std.specs.Prelude.{◌≡◌, ◌≢◌, ◌+◌, ◌<◌, ◌≤◌, ℕ, false, List, ◌∷◌, map, Contains, IfOk, IfErr, count_ones};
 ghost use Rattle.packed_node.specs.declared.Cell.{Cell};
 ghost use Rattle.packed_node.specs.Nodes.{IsBranch, branch_cell};
-ghost use Rattle.trie_model.specs.Reach.{row, in_chunk};
-ghost use Rattle.trie_model.specs.Trees.{Tree, IsRow};
+ghost use Rattle.trie_model.specs.Extents.{IsRow, row};
+ghost use Rattle.trie_model.specs.Reach.{in_chunk};
+ghost use Rattle.trie_model.specs.Trees.{Tree};
 ghost use Rattle.trie_write.specs.Spaces.{Ready, Frame, Fenced, Refused, MayWrite, Wrote, IsWritable};
 ghost use Rattle.trie_write.specs.Ways.{Fork, plug, IsWay, twigs_of, twigs_along, copied_along};
 ghost use Rattle.trie_write.specs.Turns.{HasWay};

@@ -2,17 +2,15 @@
 
 ghost use Rattle.std.specs.Prelude.{◌≡◌, ◌≢◌, ◌+◌, ◌-◌, ◌/◌, ◌^◌, ◌<◌, ◌≤◌, ℕ, true, IfOk, IfErr, Some, length, slice_get};
 ghost use Rattle.packed_node.specs.declared.Cell.{Cell};
-ghost use Rattle.trie_model.specs.Trees.{IsRow, cells_in};
-ghost use Rattle.trie_model.specs.Memory.{ItemLies};
-ghost use Rattle.trie_model.specs.Reach.{row as row_of, in_chunk};
+ghost use Rattle.trie_model.specs.Extents.{IsRow, row as row_of};
+ghost use Rattle.trie_model.specs.Reach.{in_chunk};
 ghost use Rattle.chunk_usage.specs.Rooms.{Handed};
 ghost use Rattle.trie_write.specs.Spaces.{Ready, Frame, Refused, MayWrite, Wrote};
 
 use super::change::Span;
-use chunk_cells::item::cells_for;
-use chunk_cells::{CellWrite, write_item};
+use chunk_cells::CellWrite;
 use chunk_usage::{Full, Space};
-use packed_node::{Cell, Leaf, Ref};
+use packed_node::{Cell, Ref};
 
 /// Room for n cells side by side, in a chunk that the cells know as given.
 pub fn room_for<C: CellWrite, U: Space>(cells: &mut C, usage: &mut U, n: u32) -> Result<Ref, Full>
@@ -84,30 +82,6 @@ pub fn lay_row<C: CellWrite, U: Space>(
     let at = room_for(cells, usage, row.len() as u32)?;
     put_row(cells, at, row);
     Ok(at)
-}
-
-/// Writes an item into new cells.
-pub fn lay_item<C: CellWrite, U: Space>(
-    cells: &mut C,
-    usage: &mut U,
-    item: &[u8],
-) -> Result<Leaf, Full>
-    requires some { 0 < length item.now }
-    requires short { length item.now ≤ 4096 }
-    requires ready { Ready C.kept C.given U.account cells.old usage.old }
-    ensures len { IfOk result (λ leaf. leaf.len ≡ length item.now) }
-    ensures handed { IfOk result (λ leaf. Handed (U.account usage.old) (U.account usage.new) leaf.at (cells_in item.now)) }
-    ensures lies { IfOk result (λ leaf. ItemLies (C.has cells.new) leaf.at item.now) }
-    ensures spends { (U.account usage.new).spent ≤ (U.account usage.old).spent + cells_in item.now }
-    ensures refused { IfErr result (λ f. Refused C.has U.account U.lacks cells.old usage.old cells.new usage.new f) }
-    ensures asked { IfErr result (λ f. f.needed ≡ cells_in item.now) }
-    ensures frame { Frame C.has C.kept C.given U.account cells.old usage.old cells.new usage.new }
-    ensures ready { Ready C.kept C.given U.account cells.new usage.new }
-{
-    let len = item.len() as u16;
-    let at = room_for(cells, usage, cells_for(len))?;
-    write_item(cells, at, item);
-    Ok(Leaf { len, at })
 }
 
 /// Copies some cells but for a few from a place on, which are left out, and leaves a gap there.

@@ -1,10 +1,13 @@
 //! An item exchanged for another of the same name.
 
-ghost use Rattle.std.specs.Prelude.{◌≡◌, ◌+◌, ◌≤◌, ℕ, List, Contains, true, IfOk, IfErr, Err, Some, ◌↔◌};
+ghost use Rattle.std.specs.Prelude.{◌≡◌, ◌+◌, ◌≤◌, ℕ, List, Contains, true, IfOk, IfErr, Err, Some, ◌↔◌, length};
 ghost use Rattle.packed_node.specs.declared.Cell.{Cell};
 ghost use Rattle.zone_model.specs.Keys.{Leads};
+ghost use Rattle.trie_model.specs.Extents.{AreExtents, cells_in};
+ghost use Rattle.chunk_cells.specs.Laying.{extents_in};
+ghost use Rattle.trie_write.specs.Laid.{extent_sizes};
 ghost use Rattle.trie_model.specs.Keys.{Entry, InList};
-ghost use Rattle.trie_model.specs.Trees.{Tree, IsRow, cells_in};
+ghost use Rattle.trie_model.specs.Trees.{Tree};
 ghost use Rattle.trie_model.specs.Trees.Tree.{leaf};
 ghost use Rattle.trie_read.specs.Reads.{EachTells};
 ghost use Rattle.trie_write.specs.Asks.{HasKey, KeyIsThere};
@@ -15,8 +18,8 @@ ghost use Rattle.trie_write.specs.Roots.{TwigsOnPath, BranchesOnPath, ToCopy, Is
 ghost use Rattle.trie_write.specs.Spaces.{Ready, Frame, Fenced, Unchanged, Refused};
 ghost use Rattle.trie_write.specs.Standing.{HasTrie};
 
-use super::change::{Change, NO_CELLS, item_span, leaf_span, put_change};
-use super::place::lay_item;
+use super::change::{Change, NO_CELLS, item_below, put_change};
+use super::laying::lay_item;
 use super::there::root_with;
 use super::turn::end_node;
 use chunk_cells::CellWrite;
@@ -36,24 +39,25 @@ fn other_leaf<C: CellWrite, U: Space>(
     requires there { KeyIsThere C.has U.account cells.old usage.old root key.now }
     requires ready { Ready C.kept C.given U.account cells.old usage.old }
     ensures makes { IfOk result (λ change. (t : Tree) (version : List Entry) (h : HasKey C.has U.account cells.old usage.old root key.now t version)
-        → Makes C.has cells.new change (leaf h.entry h.first) (leaf (record { key = key.now; item = item.now }) change.new_item.at)) }
-    ensures row { IfOk result (λ change. IsRow change.new_item.at (cells_in item.now)) }
+        → Makes C.has cells.new change (leaf h.entry h.first) (leaf (record { key = key.now; item = item.now }) (extents_in change.new_item))) }
+    ensures extents { IfOk result (λ change. AreExtents (length item.now) (extents_in change.new_item)) }
     ensures taken { IfOk result (λ change. IsTaken (U.account usage.old) (U.account usage.new) change) }
     ensures spends { (U.account usage.new).spent ≤ (U.account usage.old).spent + cells_in item.now }
     ensures refused { IfErr result (λ f. Refused C.has U.account U.lacks cells.old usage.old cells.new usage.new f) }
-    ensures asked { IfErr result (λ f. f.needed ≡ cells_in item.now) }
+    ensures asked { IfErr result (λ f. Contains (extent_sizes (length item.now)) f.needed) }
     ensures frame { Frame C.has C.kept C.given U.account cells.old usage.old cells.new usage.new }
     ensures ready { Ready C.kept C.given U.account cells.new usage.new }
 {
     let node = cells.cell(root);
     let old = end_node(cells, key, u16::MAX, 0, node);
-    let leaf = lay_item(cells, usage, item)?;
+    let old_item = item_below(cells, old);
+    let new_item = lay_item(cells, usage, item)?;
     Ok(Change {
-        cell: Node::Leaf(leaf).pack(),
+        cell: Node::Leaf(new_item.leaf()).pack(),
         new_twigs: NO_CELLS,
-        new_item: leaf_span(leaf),
+        new_item,
         old_twigs: NO_CELLS,
-        old_item: item_span(old),
+        old_item,
     })
 }
 

@@ -9,7 +9,7 @@ ghost use Rattle.trie_write.specs.Points.{Front};
 
 use super::Item;
 use super::points::{BranchPoint, from_offset, point_ahead};
-use chunk_cells::item::cells_for;
+use chunk_cells::cells_for;
 
 /// The trie of the first of some items.
 #[derive(Clone, Copy)]

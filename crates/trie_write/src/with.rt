@@ -7,16 +7,17 @@ ghost use Rattle.trie_model.specs.Changes.{Deep};
 ghost use Rattle.trie_model.specs.Trees.{Tree};
 ghost use Rattle.chunk_usage.specs.Rooms.{Handed};
 ghost use Rattle.trie_write.specs.Inserts.{WithAsks, WithAsked, PairAsked, JoinAsked, IsWith};
+ghost use Rattle.trie_write.specs.Laid.{IsNoItem};
 ghost use Rattle.trie_write.specs.Paths.{twigs_on_path, branches_on_path};
 ghost use Rattle.trie_write.specs.Spaces.{Ready, Frame, Refused};
 ghost use Rattle.trie_write.specs.Tops.{IsBranchTop};
 
-use super::change::{Change, NO_CELLS, Span, leaf_span};
+use super::change::{Change, NO_CELLS, NO_ITEM, Span};
 use super::place::{copy_apart, room_for};
 use super::top::branch_at;
-use chunk_cells::CellWrite;
+use chunk_cells::{CellWrite, Extents};
 use chunk_usage::{Full, Space};
-use packed_node::{Branch, Cell, Leaf, Node, bitmap};
+use packed_node::{Branch, Cell, Node, bitmap};
 use shift_key::{Difference, Key};
 
 /// The place of one of two twigs.
@@ -32,13 +33,13 @@ fn place_of_two(position: u8, other: u8) -> u32
 }
 
 /// The change to a branch, whose twigs and leaf are new.
-fn leaf_added(branch: Branch, twigs: u32, leaf: Leaf, old_twigs: Span) -> Change
+fn leaf_added(branch: Branch, twigs: u32, item: &Extents, old_twigs: Span) -> Change
     requires { IsBranch branch }
     ensures cell { result.cell ≡ branch_cell branch }
     ensures new_twigs { result.new_twigs ≡ record { at = branch.twigs; n = twigs } }
-    ensures new_item { result.new_item ≡ record { at = leaf.at; n = (leaf.len + 15) / 16 } }
+    ensures new_item { result.new_item ≡ item.now }
     ensures old_twigs { result.old_twigs ≡ old_twigs }
-    ensures old_item { result.old_item ≡ record { at = 0; n = 0 } }
+    ensures old_item { IsNoItem result.old_item }
 {
     Change {
         cell: Node::Branch(branch).pack(),
@@ -46,9 +47,9 @@ fn leaf_added(branch: Branch, twigs: u32, leaf: Leaf, old_twigs: Span) -> Change
             at: branch.twigs,
             n: twigs,
         },
-        new_item: leaf_span(leaf),
+        new_item: *item,
         old_twigs,
-        old_item: NO_CELLS,
+        old_item: NO_ITEM,
     }
 }
 
@@ -59,14 +60,14 @@ fn pair_with<C: CellWrite, U: Space>(
     key: &Key,
     first: Difference,
     node: Cell,
-    leaf: Leaf,
+    item: &Extents,
 ) -> Result<Change, Full>
-    requires asks { PairAsked C.has U.account cells.old usage.old key.now first node leaf }
+    requires asks { PairAsked C.has U.account cells.old usage.old key.now first node item.now }
     requires ready { Ready C.kept C.given U.account cells.old usage.old }
-    ensures with { IfOk result (λ change. (item : List ℕ) (end : Tree) → WithAsks C.has U.account cells.old usage.old key.now item first node leaf end → Deep first.place end
-        → IsWith C.has cells.new change first.place (record { key = key.now; item = item }) end) }
+    ensures with { IfOk result (λ change. (octets : List ℕ) (end : Tree) → WithAsks C.has U.account cells.old usage.old key.now octets first node item.now end → Deep first.place end
+        → IsWith C.has cells.new change first.place (record { key = key.now; item = octets }) end) }
     ensures handed { IfOk result (λ change. Handed (U.account usage.old) (U.account usage.new) change.new_twigs.at change.new_twigs.n) }
-    ensures item { IfOk result (λ change. change.new_item ≡ record { at = leaf.at; n = (leaf.len + 15) / 16 }) }
+    ensures item { IfOk result (λ change. change.new_item ≡ item.now) }
     ensures spends { (U.account usage.new).spent ≤ (U.account usage.old).spent + 2 }
     ensures refused { IfErr result (λ f. Refused C.has U.account U.lacks cells.old usage.old cells.new usage.new f) }
     ensures asked { IfErr result (λ f. f.needed ≡ 2) }
@@ -76,14 +77,14 @@ fn pair_with<C: CellWrite, U: Space>(
     let position = key.at(first.place);
     let to = room_for(cells, usage, 2)?;
     let index = place_of_two(position, first.position);
-    cells.put(to + index, Node::Leaf(leaf).pack());
+    cells.put(to + index, Node::Leaf(item.leaf()).pack());
     cells.put(to + (1 - index), node);
     let two = Branch {
         offset: first.place,
         bitmap: bitmap::pair(position, first.position),
         twigs: to,
     };
-    Ok(leaf_added(two, 2, leaf, NO_CELLS))
+    Ok(leaf_added(two, 2, item, NO_CELLS))
 }
 
 /// What makes of a branch, whose offset is the place, the same with the leaf among its twigs, which are copied.
@@ -93,14 +94,14 @@ fn join_twigs<C: CellWrite, U: Space>(
     key: &Key,
     first: Difference,
     branch: Branch,
-    leaf: Leaf,
+    item: &Extents,
 ) -> Result<Change, Full>
-    requires asks { JoinAsked C.has U.account cells.old usage.old key.now first branch leaf }
+    requires asks { JoinAsked C.has U.account cells.old usage.old key.now first branch item.now }
     requires ready { Ready C.kept C.given U.account cells.old usage.old }
-    ensures with { IfOk result (λ change. (node : Cell) (item : List ℕ) (end : Tree) → WithAsks C.has U.account cells.old usage.old key.now item first node leaf end → IsBranchTop end branch
-        → IsWith C.has cells.new change first.place (record { key = key.now; item = item }) end) }
+    ensures with { IfOk result (λ change. (node : Cell) (octets : List ℕ) (end : Tree) → WithAsks C.has U.account cells.old usage.old key.now octets first node item.now end → IsBranchTop end branch
+        → IsWith C.has cells.new change first.place (record { key = key.now; item = octets }) end) }
     ensures handed { IfOk result (λ change. Handed (U.account usage.old) (U.account usage.new) change.new_twigs.at change.new_twigs.n) }
-    ensures item { IfOk result (λ change. change.new_item ≡ record { at = leaf.at; n = (leaf.len + 15) / 16 }) }
+    ensures item { IfOk result (λ change. change.new_item ≡ item.now) }
     ensures spends { (U.account usage.new).spent ≤ (U.account usage.old).spent + (count_ones branch.bitmap + 1) }
     ensures refused { IfErr result (λ f. Refused C.has U.account U.lacks cells.old usage.old cells.new usage.new f) }
     ensures asked { IfErr result (λ f. f.needed ≡ count_ones branch.bitmap + 1) }
@@ -114,13 +115,13 @@ fn join_twigs<C: CellWrite, U: Space>(
     };
     let index = branch.twig_index(position);
     let to = copy_apart(cells, usage, old_twigs, index, 0, 1)?;
-    cells.put(to + index, Node::Leaf(leaf).pack());
+    cells.put(to + index, Node::Leaf(item.leaf()).pack());
     let more = Branch {
         offset: first.place,
         bitmap: bitmap::with(branch.bitmap, position),
         twigs: to,
     };
-    Ok(leaf_added(more, old_twigs.n + 1, leaf, old_twigs))
+    Ok(leaf_added(more, old_twigs.n + 1, item, old_twigs))
 }
 
 /// What makes of a node the same with the leaf: among the twigs of its branch, which are copied, or beside it in a branch of two.
@@ -130,25 +131,25 @@ pub fn with_leaf<C: CellWrite, U: Space>(
     key: &Key,
     first: Difference,
     node: Cell,
-    leaf: Leaf,
+    item: &Extents,
 ) -> Result<Change, Full>
-    requires asks { WithAsked C.has U.account cells.old usage.old key.now first node leaf }
+    requires asks { WithAsked C.has U.account cells.old usage.old key.now first node item.now }
     requires ready { Ready C.kept C.given U.account cells.old usage.old }
-    ensures with { IfOk result (λ change. (item : List ℕ) (end : Tree) → WithAsks C.has U.account cells.old usage.old key.now item first node leaf end
-        → IsWith C.has cells.new change first.place (record { key = key.now; item = item }) end) }
+    ensures with { IfOk result (λ change. (octets : List ℕ) (end : Tree) → WithAsks C.has U.account cells.old usage.old key.now octets first node item.now end
+        → IsWith C.has cells.new change first.place (record { key = key.now; item = octets }) end) }
     ensures handed { IfOk result (λ change. Handed (U.account usage.old) (U.account usage.new) change.new_twigs.at change.new_twigs.n) }
-    ensures item { IfOk result (λ change. change.new_item ≡ record { at = leaf.at; n = (leaf.len + 15) / 16 }) }
-    ensures spends { (item : List ℕ) (end : Tree) → WithAsks C.has U.account cells.old usage.old key.now item first node leaf end
+    ensures item { IfOk result (λ change. change.new_item ≡ item.now) }
+    ensures spends { (octets : List ℕ) (end : Tree) → WithAsks C.has U.account cells.old usage.old key.now octets first node item.now end
         → (U.account usage.new).spent ≤ (U.account usage.old).spent + (2 + twigs_on_path key.now end) }
     ensures copies { (U.account usage.new).spent ≤ (U.account usage.old).spent + 47 }
     ensures refused { IfErr result (λ f. Refused C.has U.account U.lacks cells.old usage.old cells.new usage.new f) }
-    ensures asked { IfErr result (λ f. (item : List ℕ) (end : Tree) → WithAsks C.has U.account cells.old usage.old key.now item first node leaf end
+    ensures asked { IfErr result (λ f. (octets : List ℕ) (end : Tree) → WithAsks C.has U.account cells.old usage.old key.now octets first node item.now end
         → Contains (2 ∷ map suc (branches_on_path key.now end)) f.needed) }
     ensures frame { Frame C.has C.kept C.given U.account cells.old usage.old cells.new usage.new }
     ensures ready { Ready C.kept C.given U.account cells.new usage.new }
 {
     match branch_at(node, first.place) {
-        None => pair_with(cells, usage, key, first, node, leaf),
-        Some(branch) => join_twigs(cells, usage, key, first, branch, leaf),
+        None => pair_with(cells, usage, key, first, node, item),
+        Some(branch) => join_twigs(cells, usage, key, first, branch, item),
     }
 }

@@ -5,30 +5,31 @@ ghost use Rattle.trie_model.specs.Keys.{Entry};
 ghost use Rattle.trie_model.specs.Trees.{Tree};
 ghost use Rattle.trie_model.specs.Trees.Tree.{leaf};
 ghost use Rattle.trie_write.specs.Deletions.{LeafTurn, LeafTurned, IsWithout};
+ghost use Rattle.trie_write.specs.Laid.{IsNoItem};
 ghost use Rattle.trie_write.specs.Puts.{IsTaken};
 ghost use Rattle.trie_write.specs.Spaces.{Ready, Frame, Refused};
 ghost use Rattle.trie_write.specs.Ways.{Fork, plug};
 
-use super::change::{Change, NO_CELLS, Span, item_span};
+use super::change::{Change, NO_CELLS, NO_ITEM, Span, item_below};
 use super::place::copy_apart;
 use super::turn::Turn;
-use chunk_cells::CellWrite;
+use chunk_cells::{CellWrite, Extents};
 use chunk_usage::{Full, Space};
 use packed_node::{Branch, Cell, Node, bitmap};
 use shift_key::Key;
 
 /// The change to what is left of a branch, in these cells.
-fn leaf_gone(cell: Cell, new_twigs: Span, old_twigs: Span, old_item: Span) -> Change
+fn leaf_gone(cell: Cell, new_twigs: Span, old_twigs: Span, old_item: Extents) -> Change
     ensures cell { result.cell ≡ cell }
     ensures new_twigs { result.new_twigs ≡ new_twigs }
-    ensures new_item { result.new_item ≡ record { at = 0; n = 0 } }
+    ensures new_item { IsNoItem result.new_item }
     ensures old_twigs { result.old_twigs ≡ old_twigs }
     ensures old_item { result.old_item ≡ old_item }
 {
     Change {
         cell,
         new_twigs,
-        new_item: NO_CELLS,
+        new_item: NO_ITEM,
         old_twigs,
         old_item,
     }
@@ -43,8 +44,8 @@ pub fn without_leaf<C: CellWrite, U: Space>(
 ) -> Result<Change, Full>
     requires last { LeafTurned C.has U.account cells.old usage.old key.now turn }
     requires ready { Ready C.kept C.given U.account cells.old usage.old }
-    ensures without { IfOk result (λ change. (lower : List Fork) (e : Entry) (first : ℕ) → LeafTurn C.has U.account cells.old usage.old key.now turn lower e first
-        → IsWithout C.has cells.new change e (plug lower (leaf e first))) }
+    ensures without { IfOk result (λ change. (lower : List Fork) (e : Entry) (x : _) → LeafTurn C.has U.account cells.old usage.old key.now turn lower e x
+        → IsWithout C.has cells.new change e (plug lower (leaf e x))) }
     ensures taken { IfOk result (λ change. IsTaken (U.account usage.old) (U.account usage.new) change) }
     ensures spends { (U.account usage.new).spent + 1 ≤ (U.account usage.old).spent + count_ones turn.branch.bitmap }
     ensures refused { IfErr result (λ f. Refused C.has U.account U.lacks cells.old usage.old cells.new usage.new f) }
@@ -56,7 +57,7 @@ pub fn without_leaf<C: CellWrite, U: Space>(
         at: turn.branch.twigs,
         n: turn.branch.twig_count(),
     };
-    let old_item = item_span(turn.next);
+    let old_item = item_below(cells, turn.next);
     if old_twigs.n == 2 {
         let other = cells.cell(turn.branch.twigs + (1 - turn.index));
         return Ok(leaf_gone(other, NO_CELLS, old_twigs, old_item));

@@ -1,4 +1,4 @@
-use Rattle.std.proofs.Common.{ℕ, ◌+◌, inl, inr, true≢false, sym, ◌∙◌, arith}
+use Rattle.std.proofs.Common.{◌+◌, inl, inr, true≢false, sym, ◌∙◌, arith}
 use Rattle.std.proofs.lemmas.Bool.{cases_lt}
 use Rattle.chunk_cells.proofs.front.cell_says.Goals as goal
 

@@ -11,7 +11,7 @@ pub size_below-requires : goal.size_below-requires
 size_below-requires g c =
     let h = subst (λ (r : Option ℕ). Stands (g.C.CellRead.has c.args.cells.now) r c.requires.0) c.in-Some.is c.requires.1 in
     let few = few_cells (2 ^ 22) (g.C.CellRead.has c.args.cells.now) c.in-Some.at h.0 c.requires.0 (omega arith) h.1 in
-    let fewer = nodes_le h.0 c.in-Some.at in
+    let fewer = nodes_le 0 h.0 c.in-Some.at h.1.shape in
     let top : IsTop (g.C.CellRead.has c.cell-node.new.self) 0 c.cell-node.result h.0 =
     record { tree = h.1.shape; is = c.cell-node.ensures.value (top_cell h.0) h.1.top; beneath = subst (λ s. Beneath (g.C.CellRead.has s) h.0) (sym c.cell-node.ensures.same) h.1.beneath } in
     (h.0, top, omega arith)

@@ -1,16 +1,16 @@
 use Rattle.std.proofs.Common.{ℕ, List, length, arith, sym, ◌∙◌, ap, subst}
+use Rattle.trie_model.specs.Extents.{ItemLies, cells_in}
 use Rattle.trie_model.specs.Keys.{Entry, IsEntry}
-use Rattle.trie_model.specs.Memory.{ItemLies}
-use Rattle.trie_model.specs.Trees.{cells_in}
 use Rattle.trie_model.proofs.SizeLaws.{entry_cells}
-use Rattle.chunk_usage.specs.Rooms.{Handed}
+use Rattle.chunk_cells.specs.Laying.{extents_in}
+use Rattle.trie_write.specs.Laid.{HandedItem}
 use Rattle.trie_write.specs.Entries.{entry_of}
 use Rattle.trie_write.proofs.ItemLaws.{item_entry}
 use Rattle.trie_write.proofs.BuildLaws.{leaf_built, leaf_node}
 use Rattle.trie_write.proofs.bulk.build_leaf.Goals as goal
 
-pub returns-in_err-leaf-clause-spends : goal.returns-in_err-leaf-clause-spends
-returns-in_err-leaf-clause-spends g c =
+pub returns-in_err-there-clause-spends : goal.returns-in_err-there-clause-spends
+returns-in_err-there-clause-spends g c =
     let n = entry_cells (entry_of c.args.item.now) (item_entry c.args.item.now) in
     let e = ap (λ (xs : List ℕ). length xs) c.octets.ensures.octets in
     let s = c.lay_item.ensures.spends in omega arith
@@ -22,7 +22,7 @@ returns-clause-spends g c =
     let s = c.lay_item.ensures.spends in omega arith
 
 pub pack-requires : goal.pack-requires
-pack-requires g c = leaf_node (with_item c.octets.result.now) (subst (λ (item : List ℕ). IsEntry (with_item item)) (sym c.octets.ensures.octets) c.octets.ensures.entry) c.in_ok-leaf.ensures.len c.in_ok-leaf.ensures.handed.twigs
+pack-requires g c = leaf_node _ (with_item c.octets.result.now) (subst (λ (item : List ℕ). IsEntry (with_item item)) (sym c.octets.ensures.octets) c.octets.ensures.entry) (c.leaf.ensures.len ∙ c.in_ok-there.ensures.len) c.leaf.ensures.at c.in_ok-there.ensures.handed.are
   where
     with_item : List ℕ → Entry
     with_item item = record { key = (entry_of c.args.item.now).key; item = item }
@@ -31,11 +31,11 @@ pub returns-clause-built : goal.returns-clause-built
 returns-clause-built g c =
     let is = item_entry c.args.item.now in
     let same = c.octets.ensures.octets in
-    let handed = subst (λ (xs : List ℕ). Handed (g.U.Space.account c.args.usage.now) (g.U.Space.account c.lay_item.new.usage) c.in_ok-leaf.leaf.at (cells_in xs)) same c.in_ok-leaf.ensures.handed in
-    let spends = c.in_ok-leaf.ensures.spends in
+    let handed = subst (λ (xs : List ℕ). HandedItem (g.U.Space.account c.args.usage.now) (g.U.Space.account c.lay_item.new.usage) (length xs) (extents_in c.in_ok-there.there)) same c.in_ok-there.ensures.handed in
+    let spends = c.in_ok-there.ensures.spends in
     let cells = ap (λ (xs : List ℕ). cells_in xs) same in (
-      c.in_ok-leaf.leaf.at,
-      (is, handed.twigs),
-      leaf_built (entry_of c.args.item.now) is (c.in_ok-leaf.ensures.len ∙ ap (λ (xs : List ℕ). length xs) same) handed c.in_ok-leaf.ensures.frame.grows.stays (omega arith)
-          (subst (ItemLies (g.C.CellRead.has c.lay_item.new.cells) c.in_ok-leaf.leaf.at) same c.in_ok-leaf.ensures.lies) c.pack.ensures,
+      extents_in c.in_ok-there.there,
+      (is, handed.are),
+      leaf_built (entry_of c.args.item.now) is (c.leaf.ensures.len ∙ c.in_ok-there.ensures.len ∙ ap (λ (xs : List ℕ). length xs) same) c.leaf.ensures.at handed c.in_ok-there.ensures.frame.grows.stays (omega arith)
+          (subst (ItemLies (g.C.CellRead.has c.lay_item.new.cells) (extents_in c.in_ok-there.there)) same c.in_ok-there.ensures.lies) c.pack.ensures,
     )

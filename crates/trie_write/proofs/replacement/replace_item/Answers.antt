@@ -1,10 +1,11 @@
-use Rattle.std.proofs.Common.{w8, ◌∷◌, map, sym, arith}
+use Rattle.std.proofs.Common.{w8, ◌∷◌, length, map, arith}
 use Rattle.std.proofs.Math.Facts.{Fits-lt-pow}
-use Rattle.trie_model.specs.Trees.{cells_in}
+use Rattle.std.proofs.lemmas.List.Elements.{Contains-append_left}
 use Rattle.trie_model.specs.Trees.Tree.{leaf}
 use Rattle.trie_write.specs.Paths.{branches_on_path}
 use Rattle.trie_write.specs.Ways.{twigs_of}
-use Rattle.trie_write.proofs.AskLaws.{first_of, replace_opens}
+use Rattle.trie_write.proofs.AskLaws.{replace_opens}
+use Rattle.trie_write.specs.Laid.{extent_sizes}
 use Rattle.trie_write.proofs.ChangeLaws.{put_asks, refused_back, outside_put}
 use Rattle.trie_write.proofs.PathLaws.{copied_way}
 use Rattle.trie_write.proofs.RootLaws.{leads_entry}
@@ -21,11 +22,11 @@ pub returns-in_err-change-clause-copies : goal.returns-in_err-change-clause-copi
 returns-in_err-change-clause-copies g c t version h = let s = c.other_leaf.ensures.spends in omega arith
 
 pub returns-in_err-change-clause-asked : goal.returns-in_err-change-clause-asked
-returns-in_err-change-clause-asked g c = err_on _ c.from_residual.result c.from_residual.ensures.1 (λ t version h. first_of (cells_in c.args.item.now) _ (1 ∷ branches_on_path c.args.key.now t) (sym c.in_err-change.ensures.asked))
+returns-in_err-change-clause-asked g c = err_on _ c.from_residual.result c.from_residual.ensures.1 (λ t version h. Contains-append_left (extent_sizes (length c.args.item.now)) (1 ∷ branches_on_path c.args.key.now t) _ c.in_err-change.ensures.asked)
 
 pub returns : goal.returns
 returns g c = record {
-  stands = ok_map c.put_change.result (λ new put t version h. replaced h (leads_entry c.requires.leads (λ i. Fits-lt-pow {w = w8} (c.type_inv.item i))) c.in_ok-change.ensures.row
+  stands = ok_map c.put_change.result (λ new put t version h. replaced h (leads_entry c.requires.leads (λ i. Fits-lt-pow {w = w8} (c.type_inv.item i))) c.in_ok-change.ensures.extents
       (put h.way _ _ (put_asks h.stands h.way (leaf h.entry h.first) h.is h.is_way c.in_ok-change.ensures.frame c.in_ok-change.ensures.taken (c.in_ok-change.ensures.makes t version h)))) c.put_change.ensures.put;
   outside = λ t version h. outside_put c.args.root h.way (leaf h.entry h.first) c.in_ok-change.ensures.frame
       (c.put_change.ensures.outside h.way _ _ (put_asks h.stands h.way (leaf h.entry h.first) h.is h.is_way c.in_ok-change.ensures.frame c.in_ok-change.ensures.taken (c.in_ok-change.ensures.makes t version h))) h.is;

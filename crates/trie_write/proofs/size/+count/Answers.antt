@@ -3,7 +3,8 @@ use Rattle.trie_model.specs.Keys.{Entry, Rises}
 use Rattle.trie_model.specs.Trees.{beside}
 use Rattle.trie_model.specs.Trees.Tree.{leaf}
 use Rattle.trie_model.specs.Trees.Twigs.{none, twig}
-use Rattle.trie_model.proofs.SizeLaws.{item_row, entry_cells}
+use Rattle.trie_model.proofs.ExtentLaws.{laid}
+use Rattle.trie_model.proofs.SizeLaws.{entry_cells}
 use Rattle.trie_write.specs.declared.points.BranchPoint.{BranchPoint}
 use Rattle.trie_write.specs.Entries.{entry_of, entries_of_items}
 use Rattle.trie_write.specs.Points.{Before, Front}
@@ -58,12 +59,13 @@ count_front-loop-above-init t c =
     let e = entry_of c.unwrap.result.0.now in
     let is = item_entry c.unwrap.result.0.now in
     let all = ap entries_of_items split.0 in
+    let there = laid (length e.item) in
     record {
       counted = (
         504,
         c.requires.low,
-        leaf e 0,
-        subst (λ (es : List Entry). Front 504 es (entries_of_items c.unwrap.result.1.now) c.point_ahead.result (leaf e 0)) (sym all) (leaf_front (is, item_row e is) (subst Rises all c.requires.rising) c.point_ahead.ensures),
+        leaf e there.extents,
+        subst (λ (es : List Entry). Front 504 es (entries_of_items c.unwrap.result.1.now) c.point_ahead.result (leaf e there.extents)) (sym all) (leaf_front (is, there.are) (subst Rises all c.requires.rising) c.point_ahead.ensures),
         let l = ap (λ (xs : List ℕ). length xs) c.octets.ensures.octets in let s = is.item.short in let n = c.cells_for.ensures in let k = entry_cells e is in omega arith,
       );
       shorter = (let n = split.1 in omega arith);

@@ -1,10 +1,10 @@
 use Rattle.std.proofs.Common.{◌≡◌, ℕ, ◌+◌, ◌%◌, ◌^◌, count_ones, arith, refl, sym, ◌∙◌, ap, subst}
 use Rattle.std.specs.Int.{bit_at}
-use Rattle.packed_node.specs.Nodes.{IsBranch, leaf_cell, branch_cell}
+use Rattle.packed_node.specs.Nodes.{IsBranch, branch_cell}
+use Rattle.trie_model.specs.Extents.{IsRow}
 use Rattle.trie_model.specs.Keys.{at}
-use Rattle.trie_model.specs.Trees.{IsRow}
 use Rattle.trie_write.proofs.SpaceLaws.{frame_wrote, frame_refl, wrote_one}
-use Rattle.trie_write.proofs.WithLaws.{among_n, among_absent, among_small, among_lies, among_before, among_there, among_used, among_few, more_branch, joined}
+use Rattle.trie_write.proofs.WithLaws.{among_n, among_absent, among_small, among_lies, among_before, among_there, among_used, among_few, more_branch, joined, cell_of_leaf, leaf_is}
 use Rattle.trie_write.proofs.with.join_twigs.Goals as goal
 
 pub copy_apart-requires-clause-index : goal.copy_apart-requires-clause-index
@@ -64,6 +64,6 @@ returns-clause-with g c node item end x t =
     let y : c.args.branch.twigs + (count_ones (c.args.branch.bitmap % 2 ^ at c.args.key.now c.args.first.place) + 0 + j) ≡ c.args.branch.twigs + (c.twig_index-index.result + 0 + j) = omega arith in
     let v : c.in_ok-to.to + (c.twig_index-index.result + 1 + j) ≡ c.in_ok-to.to + (count_ones (c.args.branch.bitmap % 2 ^ at c.args.key.now c.args.first.place) + 1 + j) = omega arith in
     c.put.ensures.others _ d (λ e. omega arith) (subst (λ q. g.C.CellRead.has c.copy_apart.new.cells q d) v (c.in_ok-to.ensures.after j d (omega arith) (subst (λ q. g.C.CellRead.has c.args.cells.now q d) y there))))
-    (subst (λ (k : ℕ). g.C.CellRead.has c.put.new.self (c.in_ok-to.to + k) (leaf_cell c.args.leaf)) m (subst (λ d. g.C.CellRead.has c.put.new.self (c.in_ok-to.to + c.twig_index-index.result) d) c.pack.ensures c.put.ensures.written))
+    (subst (λ (k : ℕ). g.C.CellRead.has c.put.new.self (c.in_ok-to.to + k) (cell_of_leaf x)) m (subst (λ d. g.C.CellRead.has c.put.new.self (c.in_ok-to.to + c.twig_index-index.result) d) (c.pack.ensures ∙ leaf_is x c.leaf.ensures.len c.leaf.ensures.at) c.put.ensures.written))
     (c.leaf_added.ensures.cell ∙ ap (λ (b : ℕ). branch_cell (record { offset = c.args.first.place; bitmap = b; twigs = c.in_ok-to.to })) (c.with.ensures ∙ ap (λ (p : ℕ). c.args.branch.bitmap + 2 ^ p) c.at-position.ensures))
     (c.leaf_added.ensures.new_twigs ∙ ap (λ (k : ℕ). record { at = c.in_ok-to.to; n = k + 1 }) n) c.leaf_added.ensures.new_item (c.leaf_added.ensures.old_twigs ∙ ap (λ (k : ℕ). record { at = c.args.branch.twigs; n = k }) n) c.leaf_added.ensures.old_item

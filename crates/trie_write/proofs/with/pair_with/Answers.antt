@@ -1,7 +1,7 @@
 use Rattle.std.proofs.Common.{ℕ, ◌+◌, ◌-◌, ◌^◌, ◌<◌, ◌≤◌, arith, refl, sym, ◌∙◌, ap, subst}
 use Rattle.packed_node.specs.Nodes.{IsBranch, branch_cell}
 use Rattle.trie_write.proofs.SpaceLaws.{open_later, frame_wrote, frame_refl, wrote_one, wrote_then}
-use Rattle.trie_write.proofs.WithLaws.{pair_branch, paired}
+use Rattle.trie_write.proofs.WithLaws.{pair_branch, paired, leaf_is}
 use Rattle.trie_write.proofs.with.pair_with.Goals as goal
 
 pub put-requires-clause-unkept : goal.put-requires-clause-unkept
@@ -21,5 +21,5 @@ returns-clause-with g c item end x deep =
     let wrote = wrote_then (wrote_one (c.in_ok-to.to + c.place_of_two-index.result) c.place_of_two-index.result c.place_of_two-index.ensures.two refl c.put.ensures.others c.put.ensures.given c.put.ensures.kept)
     (wrote_one (c.in_ok-to.to + (1 - c.place_of_two-index.result)) (1 - c.place_of_two-index.result) (omega arith) refl c.put-2.ensures.others c.put-2.ensures.given c.put-2.ensures.kept) in
     paired x deep h.twigs (frame_wrote h c.in_ok-to.ensures.frame (frame_refl _ _) wrote) (λ l. c.place_of_two-index.ensures.before (subst (λ (p : ℕ). p < c.args.first.position) (sym c.at-position.ensures) l)) (λ l. c.place_of_two-index.ensures.behind (subst (λ (p : ℕ). c.args.first.position ≤ p) (sym c.at-position.ensures) l))
-    (c.put-2.ensures.others _ _ (λ e. omega arith) (subst (λ d. g.C.CellRead.has c.put.new.self (c.in_ok-to.to + c.place_of_two-index.result) d) c.pack.ensures c.put.ensures.written)) c.put-2.ensures.written
+    (c.put-2.ensures.others _ _ (λ e. omega arith) (subst (λ d. g.C.CellRead.has c.put.new.self (c.in_ok-to.to + c.place_of_two-index.result) d) (c.pack.ensures ∙ leaf_is x c.leaf.ensures.len c.leaf.ensures.at) c.put.ensures.written)) c.put-2.ensures.written
     (c.leaf_added.ensures.cell ∙ ap (λ (b : ℕ). branch_cell (record { offset = c.args.first.place; bitmap = b; twigs = c.in_ok-to.to })) (c.pair.ensures ∙ ap (λ (p : ℕ). 2 ^ p + 2 ^ c.args.first.position) c.at-position.ensures)) c.leaf_added.ensures.new_twigs c.leaf_added.ensures.new_item c.leaf_added.ensures.old_twigs c.leaf_added.ensures.old_item

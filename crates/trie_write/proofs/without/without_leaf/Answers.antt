@@ -2,11 +2,16 @@ use Rattle.std.proofs.Common.{ℕ, ◌+◌, ◌-◌, ◌^◌, arith, sym, ◌∙
 use Rattle.std.specs.Int.{bit_at}
 use Rattle.chunk_usage.specs.Rooms.{Handed}
 use Rattle.trie_write.proofs.CopyLaws.{cell_there, cell_used, old_lies}
-use Rattle.trie_write.proofs.WithoutLaws.{last_n, last_known, leaf_alone, key_position, key_bit, next_leaf, fewer_branch, dropped, collapsed, same_without, the_span, taken_twigs, none_taken}
+use Rattle.trie_write.proofs.WithoutLaws.{last_n, last_known, gone_item, leaf_top, key_position, key_bit, fewer_branch, dropped, collapsed, same_without, the_span, taken_twigs, none_taken}
+use Rattle.trie_write.proofs.SpaceLaws.{frame_same}
 use Rattle.trie_write.proofs.without.without_leaf.Goals as goal
 
+pub item_below-old_item-requires : goal.item_below-old_item-requires
+item_below-old_item-requires g c = let x = c.requires.last.last in (_, _, leaf_top x)
+
 pub cell-other-requires : goal.cell-other-requires
-cell-other-requires g c = let x = c.requires.last.last in record { there = cell_there x.asks x.turn.through (1 - c.args.turn.index) (let n = c.twig_count.ensures in let e = c.if-old_twigs-eq2.true in omega arith) }
+cell-other-requires g c = let x = c.requires.last.last in let h = cell_there x.asks x.turn.through (1 - c.args.turn.index) (let n = c.twig_count.ensures in let e = c.if-old_twigs-eq2.true in omega arith) in
+    record { there = (h.0, subst (λ s. g.C.CellRead.has s (c.args.turn.branch.twigs + (1 - c.args.turn.index)) h.0) (sym c.item_below-old_item.ensures.same) h.1) }
 
 pub overflow_sub-turn : goal.overflow_sub-turn
 overflow_sub-turn g c = let x = c.requires.last.last in let i = x.turn.index_is in let m = last_n x in let n = c.twig_count.ensures in let e = c.if-old_twigs-eq2.true in omega arith
@@ -14,7 +19,7 @@ overflow_sub-turn g c = let x = c.requires.last.last in let i = x.turn.index_is 
 pub returns-then-old_twigs-eq2-clause-without : goal.returns-then-old_twigs-eq2-clause-without
 returns-then-old_twigs-eq2-clause-without g c lower e first x =
     let n = c.twig_count.ensures in let gone = c.leaf_gone.ensures in
-    same_without c.cell-other.ensures.same (collapsed x (sym n ∙ c.if-old_twigs-eq2.true) (λ d h. gone.cell ∙ c.cell-other.ensures.value d h) gone.new_twigs gone.new_item (gone.old_twigs ∙ ap (the_span c.args.turn.branch.twigs) n) (gone.old_item ∙ c.item_span-old_item.ensures e first (leaf_alone x) (next_leaf x)))
+    same_without (c.cell-other.ensures.same ∙ c.item_below-old_item.ensures.same) (collapsed x (sym n ∙ c.if-old_twigs-eq2.true) (λ d h. gone.cell ∙ c.cell-other.ensures.value d (subst (λ s. g.C.CellRead.has s (c.args.turn.branch.twigs + (1 - c.args.turn.index)) d) (sym c.item_below-old_item.ensures.same) h)) gone.new_twigs gone.new_item (gone.old_twigs ∙ ap (the_span c.args.turn.branch.twigs) n) (gone_item x c.item_below-old_item.ensures.len c.item_below-old_item.ensures.there gone.old_item))
 
 pub returns-then-old_twigs-eq2-clause-spends : goal.returns-then-old_twigs-eq2-clause-spends
 returns-then-old_twigs-eq2-clause-spends g c = let n = c.twig_count.ensures in let e = c.if-old_twigs-eq2.true in omega arith
@@ -32,7 +37,9 @@ pub copy_apart-requires-clause-inside : goal.copy_apart-requires-clause-inside
 copy_apart-requires-clause-inside g c = let x = c.requires.last.last in let n = c.twig_count.ensures in let r = (old_lies x.asks x.turn.through).inside in omega arith
 
 pub copy_apart-requires-clause-there : goal.copy_apart-requires-clause-there
-copy_apart-requires-clause-there g c i l = let x = c.requires.last.last in cell_there x.asks x.turn.through i (let n = c.twig_count.ensures in omega arith)
+copy_apart-requires-clause-there g c i l =
+    let x = c.requires.last.last in let h = cell_there x.asks x.turn.through i (let n = c.twig_count.ensures in omega arith) in
+    (h.0, subst (λ s. g.C.CellRead.has s (c.args.turn.branch.twigs + i) h.0) (sym c.item_below-old_item.ensures.same) h.1)
 
 pub copy_apart-requires-clause-in_use : goal.copy_apart-requires-clause-in_use
 copy_apart-requires-clause-in_use g c i l = let x = c.requires.last.last in cell_used x.asks x.turn.through i (let n = c.twig_count.ensures in omega arith)
@@ -49,7 +56,7 @@ without-requires-clause-present g c = ap (λ (q : ℕ). bit_at c.args.turn.branc
 pub pack-cell-requires : goal.pack-cell-requires
 pack-cell-requires g c =
     let x = c.requires.last.last in let n = c.twig_count.ensures in
-    fewer_branch x c.without.result c.in_ok-to.ensures.frame (subst (Handed (g.U.Space.account c.args.usage.now) (g.U.Space.account c.copy_apart.new.usage) c.in_ok-to.to) (omega arith) c.in_ok-to.ensures.handed)
+    fewer_branch x c.without.result (frame_same c.item_below-old_item.ensures.same c.in_ok-to.ensures.frame) (subst (Handed (g.U.Space.account c.args.usage.now) (g.U.Space.account c.copy_apart.new.usage) c.in_ok-to.to) (omega arith) c.in_ok-to.ensures.handed)
     (let m = last_n x in let k = (last_known x).two in let d = c.if-old_twigs-eq2.false in omega arith) (ap (λ (q : ℕ). c.without.result + 2 ^ q) (sym c.at.ensures) ∙ c.without.ensures)
 
 pub overflow_sub-n : goal.overflow_sub-n
@@ -58,10 +65,10 @@ overflow_sub-n g c = let x = c.requires.last.last in let m = last_n x in let n =
 pub returns-clause-without : goal.returns-clause-without
 returns-clause-without g c lower e first x =
     let n = c.twig_count.ensures in let gone = c.leaf_gone-2.ensures in
-    dropped x c.without.result c.in_ok-to.ensures.frame (subst (Handed (g.U.Space.account c.args.usage.now) (g.U.Space.account c.copy_apart.new.usage) c.in_ok-to.to) (omega arith) c.in_ok-to.ensures.handed)
+    dropped x c.without.result (frame_same c.item_below-old_item.ensures.same c.in_ok-to.ensures.frame) (subst (Handed (g.U.Space.account c.args.usage.now) (g.U.Space.account c.copy_apart.new.usage) c.in_ok-to.to) (omega arith) c.in_ok-to.ensures.handed)
     (let m = last_n x in let k = (last_known x).two in let d = c.if-old_twigs-eq2.false in omega arith) (ap (λ (q : ℕ). c.without.result + 2 ^ q) (sym c.at.ensures) ∙ c.without.ensures)
-    c.in_ok-to.ensures.before (λ i d l. c.in_ok-to.ensures.after i d (omega arith)) (gone.cell ∙ c.pack-cell.ensures) (gone.new_twigs ∙ ap (λ (m : ℕ). the_span c.in_ok-to.to (m - 1)) n) gone.new_item (gone.old_twigs ∙ ap (the_span c.args.turn.branch.twigs) n)
-    (gone.old_item ∙ c.item_span-old_item.ensures e first (leaf_alone x) (next_leaf x))
+    (λ i d l h. c.in_ok-to.ensures.before i d l (subst (λ s. g.C.CellRead.has s (c.args.turn.branch.twigs + i) d) (sym c.item_below-old_item.ensures.same) h)) (λ i d l h. c.in_ok-to.ensures.after i d (omega arith) (subst (λ s. g.C.CellRead.has s (c.args.turn.branch.twigs + (c.args.turn.index + 1 + i)) d) (sym c.item_below-old_item.ensures.same) h)) (gone.cell ∙ c.pack-cell.ensures) (gone.new_twigs ∙ ap (λ (m : ℕ). the_span c.in_ok-to.to (m - 1)) n) gone.new_item (gone.old_twigs ∙ ap (the_span c.args.turn.branch.twigs) n)
+    (gone_item x c.item_below-old_item.ensures.len c.item_below-old_item.ensures.there gone.old_item)
 
 pub returns-clause-taken : goal.returns-clause-taken
 returns-clause-taken g c = taken_twigs c.in_ok-to.to (c.twig_count.result - 1) (subst (Handed (g.U.Space.account c.args.usage.now) (g.U.Space.account c.copy_apart.new.usage) c.in_ok-to.to) (omega arith) c.in_ok-to.ensures.handed) c.in_ok-to.ensures.frame.grows.stays c.leaf_gone-2.ensures.new_twigs c.leaf_gone-2.ensures.new_item

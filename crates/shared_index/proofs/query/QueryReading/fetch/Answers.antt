@@ -1,5 +1,5 @@
 use Rattle.std.proofs.Common.{◌+◌, arith, sym, subst}
-use Rattle.trie_model.specs.Memory.{item_cell}
+use Rattle.trie_model.specs.Extents.{item_cell}
 use Rattle.shared_cells.specs.Views.{pinned_image}
 use Rattle.shared_index.specs.Meanings.{in_image}
 use Rattle.shared_index.proofs.query.QueryReading.fetch.Goals as goal

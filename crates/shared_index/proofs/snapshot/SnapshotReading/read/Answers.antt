@@ -1,5 +1,5 @@
 use Rattle.std.proofs.Common.{arith}
-use Rattle.trie_model.specs.Memory.{item_cell}
+use Rattle.trie_model.specs.Extents.{item_cell}
 use Rattle.shared_index.proofs.snapshot.SnapshotReading.read.Goals as goal
 
 pub read_item-requires-clause-there : goal.read_item-requires-clause-there

@@ -1,6 +1,6 @@
 use Rattle.std.proofs.Common.{◌≡◌, ◌+◌}
+use Rattle.trie_model.specs.Extents.{cells_in}
 use Rattle.trie_write.specs.Paths.{insert_asks}
-use Rattle.trie_model.specs.Trees.{cells_in}
 use Rattle.shared_index.proofs.WorkLaws.{cause_told}
 use Rattle.shared_index.proofs.transaction.Transaction.insert.Goals as goal
 

@@ -1,7 +1,7 @@
 use Rattle.std.proofs.Common.{◌≡◌, ◌+◌, Err, refl, subst}
 use Rattle.std.specs.Prelude.{IsOk}
+use Rattle.trie_model.specs.Extents.{cells_in}
 use Rattle.trie_write.specs.Paths.{replace_asks}
-use Rattle.trie_model.specs.Trees.{cells_in}
 use Rattle.shared_index.specs.declared.change.Unchanged.{Unchanged}
 use Rattle.shared_index.specs.declared.change.Unchanged.TheVariants as unchanged
 use Rattle.shared_index.proofs.WorkLaws.{between_as, cause_told}

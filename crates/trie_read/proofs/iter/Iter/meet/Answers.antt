@@ -48,7 +48,7 @@ returns-in-Some-clause-meets g c any before after s =
     let found = sought_of has k c.args.root any c.args.self.now c.approach-leaf.new.self c.approach-leaf.result before after s c.requires.root (λ whole version trie. subst (λ s. Approached k (g.C.CellRead.has s) c.approach-leaf.new.self whole c.approach-leaf.result) c.cell-cell.ensures.same
     (c.approach-leaf.ensures.leaf whole whole [] [] (leads_in g.C.CellRead.has c.args.cells.now c.cell-cell.new.self (Guided k) _ whole whole [] [] c.cell-cell.ensures.same (leads_to_root has (Guided k) c.args.root whole version _ trie refl)) (c.cell-cell.ensures.value (top_cell whole) trie.top))) in
     let differs = c.in-Some.ensures.difference found.at.entry (subst (λ t. IsLeafOf (g.C.CellRead.has t) found.at.entry c.approach-leaf.result) (sym (c.approach-leaf.ensures.same ∙ c.cell-cell.ensures.same)) found.at.leaf.leaf_of) (sought_told has k c.args.root any (before ++ after) c.approach-leaf.new.self c.approach-leaf.result found s.told) in
-    let cut = c.cut.ensures k found.whole found.at.entry c.approach-leaf.result.at found.at.before found.at.after found.trie.shape found.at.leaf.leads.hangs in
+    let cut = c.cut.ensures k found.whole found.at.entry found.at.leaf.extents found.at.before found.at.after found.trie.shape found.at.leaf.leads.hangs in
     meets_of has k c.args.root any (before ++ after) c.approach-leaf.new.self c.cut.new.self c.approach-leaf.result (Some c.in-Some.first) found c.in-Some.ensures.key s.told differs cut
 
 pub returns-in_default-clause-meets : goal.returns-in_default-clause-meets
@@ -58,4 +58,4 @@ returns-in_default-clause-meets g c any before after s =
     (c.approach-leaf.ensures.leaf whole whole [] [] (leads_in g.C.CellRead.has c.args.cells.now c.cell-cell.new.self (Guided k) _ whole whole [] [] c.cell-cell.ensures.same (leads_to_root has (Guided k) c.args.root whole version _ trie refl)) (c.cell-cell.ensures.value (top_cell whole) trie.top))) in
     let differs = c.in_default.ensures.difference found.at.entry (subst (λ t. IsLeafOf (g.C.CellRead.has t) found.at.entry c.approach-leaf.result) (sym (c.approach-leaf.ensures.same ∙ c.cell-cell.ensures.same)) found.at.leaf.leaf_of) (sought_told has k c.args.root any (before ++ after) c.approach-leaf.new.self c.approach-leaf.result found s.told) in
     subst (λ d. Meets has k c.args.root c.approach-leaf.new.self (record { leaf = c.approach-leaf.result; difference = d }) (before ++ after)) (sym c.in_default.is)
-    (meets_of has k c.args.root any (before ++ after) c.approach-leaf.new.self c.approach-leaf.new.self c.approach-leaf.result None found c.in_default.ensures.key s.told differs (found.at.before, (found.at.after, found.at.leaf.leads.hangs)))
+    (meets_of has k c.args.root any (before ++ after) c.approach-leaf.new.self c.approach-leaf.new.self c.approach-leaf.result None found c.in_default.ensures.key s.told differs (found.at.leaf.extents, (found.at.before, (found.at.after, found.at.leaf.leads.hangs))))

@@ -1,6 +1,7 @@
 use Rattle.std.proofs.Common.{◌≤◌, ◌+◌, ◌/◌, ◌%◌, ℕ, List, slice_index, ap, ◌∙◌, arith}
+use Rattle.trie_model.specs.Extents.{row}
 use Rattle.chunk_usage.specs.Ledger.{Ledger}
-use Rattle.trie_model.specs.Reach.{row, in_chunk}
+use Rattle.trie_model.specs.Reach.{in_chunk}
 use Rattle.chunk_usage.proofs.RowLemmas.{row_here, counts_fewer}
 use Rattle.chunk_usage.proofs.usage.as_space.UsageSpace.release.Goals as goal
 

@@ -1,0 +1,102 @@
+//! Cells for items.
+
+ghost use Rattle.std.specs.Prelude.{◌≡◌, ◌+◌, ◌<◌, ◌≤◌, ℕ, Contains, IfOk, IfErr, length};
+ghost use Rattle.trie_model.specs.Extents.{AreExtents, ItemLies, cells_in, content_cells, links, weigh_extents};
+ghost use Rattle.trie_model.specs.Reach.{in_chunk};
+ghost use Rattle.chunk_cells.specs.Laying.{extents_at, extents_in};
+ghost use Rattle.trie_write.specs.Laid.{HandedItem, extent_sizes};
+ghost use Rattle.trie_write.specs.Spaces.{Frame, Ready, Refused};
+
+use super::place::room_for;
+use chunk_cells::extents::{LAST_OCTETS, LINKED_OCTETS, content_cells_for, linked_extent};
+use chunk_cells::{CellWrite, Extents, write_item};
+use chunk_usage::{Full, Space};
+use packed_node::Ref;
+
+/// Writes an item into new cells.
+pub fn lay_item<C: CellWrite, U: Space>(
+    cells: &mut C,
+    usage: &mut U,
+    item: &[u8],
+) -> Result<Extents, Full>
+    requires some { 0 < length item.now }
+    requires short { length item.now ≤ 65535 }
+    requires ready { Ready C.kept C.given U.account cells.old usage.old }
+    ensures len { IfOk result (λ x. x.len ≡ length item.now) }
+    ensures handed { IfOk result (λ x. HandedItem (U.account usage.old) (U.account usage.new) (length item.now) (extents_in x)) }
+    ensures lies { IfOk result (λ x. ItemLies (C.has cells.new) (extents_in x) item.now) }
+    ensures spends { (U.account usage.new).spent ≤ (U.account usage.old).spent + cells_in item.now }
+    ensures refused { IfErr result (λ f. Refused C.has U.account U.lacks cells.old usage.old cells.new usage.new f) }
+    ensures asked { IfErr result (λ f. Contains (extent_sizes (length item.now)) f.needed) }
+    ensures frame { Frame C.has C.kept C.given U.account cells.old usage.old cells.new usage.new }
+    ensures ready { Ready C.kept C.given U.account cells.new usage.new }
+{
+    let len = item.len() as u16;
+    let mut at = [0; 17];
+    room_for_extents(cells, usage, len, &mut at)?;
+    let extents = Extents { len, at };
+    write_item(cells, &extents, item);
+    Ok(extents)
+}
+
+/// Room for so many octets, in extents that begin at these places; where there is none for one of them, the others are given back.
+fn room_for_extents<C: CellWrite, U: Space>(
+    cells: &mut C,
+    usage: &mut U,
+    len: u16,
+    out: &mut [Ref],
+) -> Result<(), Full>
+    requires some { 0 < len }
+    requires enough { links len < length out.old }
+    requires ready { Ready C.kept C.given U.account cells.old usage.old }
+    ensures handed { IfOk result (λ _. HandedItem (U.account usage.old) (U.account usage.new) len (extents_at (links len) out.new)) }
+    ensures spends { (U.account usage.new).spent ≤ (U.account usage.old).spent + (content_cells len + links len) }
+    ensures refused { IfErr result (λ f. Refused C.has U.account U.lacks cells.old usage.old cells.new usage.new f) }
+    ensures asked { IfErr result (λ f. Contains (extent_sizes len) f.needed) }
+    ensures frame { Frame C.has C.kept C.given U.account cells.old usage.old cells.new usage.new }
+    ensures ready { Ready C.kept C.given U.account cells.new usage.new }
+{
+    if len as usize <= LAST_OCTETS {
+        out[0] = room_for(cells, usage, content_cells_for(len))?;
+        return Ok(());
+    }
+    let rest = len - LINKED_OCTETS as u16;
+    room_for_extents(cells, usage, rest, &mut out[1..])?;
+    match room_for(cells, usage, linked_extent()) {
+        Err(full) => {
+            release_extents(usage, rest, &out[1..]);
+            Err(full)
+        }
+        Ok(first) => {
+            out[0] = first;
+            Ok(())
+        }
+    }
+}
+
+/// The cells of an item don't count any more.
+pub fn release_item<U: Space>(usage: &mut U, item: &Extents)
+    requires counted { (k : ℕ) → weigh_extents (in_chunk k) item.now.len (extents_in item.now) ≤ (U.account usage.old).live k }
+    requires are { AreExtents item.now.len (extents_in item.now) }
+    ensures counts { (k : ℕ) → (U.account usage.new).live k + weigh_extents (in_chunk k) item.now.len (extents_in item.now) ≡ (U.account usage.old).live k }
+    ensures rest { U.account usage.new ≡ record (U.account usage.old) { live = (U.account usage.new).live } }
+    ensures lacks { (f : _) → U.lacks usage.old f → U.lacks usage.new f }
+{
+    release_extents(usage, item.len, &item.at);
+}
+
+/// Those of so many octets, in extents that begin at these places.
+fn release_extents<U: Space>(usage: &mut U, len: u16, at: &[Ref])
+    requires enough { links len < length at.now }
+    requires counted { (k : ℕ) → weigh_extents (in_chunk k) len (extents_at (links len) at.now) ≤ (U.account usage.old).live k }
+    requires are { AreExtents len (extents_at (links len) at.now) }
+    ensures counts { (k : ℕ) → (U.account usage.new).live k + weigh_extents (in_chunk k) len (extents_at (links len) at.now) ≡ (U.account usage.old).live k }
+    ensures rest { U.account usage.new ≡ record (U.account usage.old) { live = (U.account usage.new).live } }
+    ensures lacks { (f : _) → U.lacks usage.old f → U.lacks usage.new f }
+{
+    if len as usize <= LAST_OCTETS {
+        return usage.release(at[0], content_cells_for(len));
+    }
+    usage.release(at[0], linked_extent());
+    release_extents(usage, len - LINKED_OCTETS as u16, &at[1..]);
+}
