@@ -68,8 +68,8 @@ module _ {S : Type 0} {has : S → ℕ → Cell → Type 0} {s : S} {l : Ledger}
   goes_left {rest} g h = lies_left (goes_hung g) (chain_sparse l front (linked at rest) (inr h))
 
   pub further : {rest : Extents} {to : ℕ} → Goes has s l r at n es way e front (put_first rest to) → 4096 < n - 4080 → Further has s l r (n - 4080) to es way e (front ++ (at ∷ [])) rest
-  further {last q} {to} g long = absurd (let a = (goes_are g).2.0 in let z = g.size in omega arith)
-  further {linked q x} {to} g long = record {
+  further {rest = last q} {to} g long = absurd (let a = (goes_are g).2.0 in let z = g.size in omega arith)
+  further {rest = linked q x} {to} g long = record {
     beyond = x;
     is = refl;
     goes = record {
@@ -80,8 +80,8 @@ module _ {S : Type 0} {has : S → ℕ → Cell → Type 0} {s : S} {l : Ledger}
 
   -- or it is the last one
   pub last_behind : {rest : Extents} → Goes has s l r at n es way e front rest → n - 4080 ≤ 4096 → SparseExtents l rest → is_sparse l (first_cell_of rest / 1024) ≡ true
-  last_behind {last q} g short h = h
-  last_behind {linked q x} g short h = absurd (let a = (goes_are g).2.0 in let z = g.size in omega arith)
+  last_behind {rest = last q} g short h = h
+  last_behind {rest = linked q x} g short h = absurd (let a = (goes_are g).2.0 in let z = g.size in omega arith)
 
 -- ---- from a leaf to the extents of its item
 

@@ -153,6 +153,10 @@ module _ {S : Type 0} {has : S → ℕ → Cell → Type 0} {s : S} {l : Ledger}
   pub left_there : LiesAt (has s) (first_of rest) (n - 4080) item_left rest
   left_there = record { from = refl; size = length-left ∙ ap (λ (m : ℕ). m - 4080) g.size; are = subst (λ (m : ℕ). AreExtents (m - 4080) rest) g.size goes_are.2; lies = left_lies.2 }
 
+  -- as it is read where the link says
+  pub left_read : {s1 : S} {p : ℕ} → s1 ≡ s → p ≡ first_of rest → LiesAt (has s1) p (n - 4080) item_left rest
+  left_read {s1} {p} same is = subst (λ z. LiesAt (has z) p (n - 4080) item_left rest) (sym same) (subst (λ (q : ℕ). LiesAt (has s) q (n - 4080) item_left rest) (sym is) left_there)
+
   behind_left : Behind has s l at left rest (first_of rest) (first_width (left - 4080))
   behind_left = record {
     long = goes_are.0;

@@ -181,4 +181,4 @@ underway_left {has = has} {l0 = l0} {s = s} {l} {r} {es = es} u m = lies_left en
 
 -- what was reached is still to be moved, since a sparse chunk stays so on the way
 pub reached_due : {S : Type 0} {has : S → ℕ → Cell → Type 0} {given : List Bool} {l0 : Ledger} {s : S} {l : Ledger} {r at : ℕ} {es : List Entry} {n : Node} → Reached has l0 s l r at es n → Moves given 0 l0 l → IsDue has s l at n
-reached_due {l0 = l0} {l = l} x m = record { hung = reached_hung x; sparse = lies_stay l0 l m.sparse x.end x.sparse }
+reached_due {l0 = l0} {l = l} {r} {es = es} x m = record { hung = record { r = r; es = es; way = x.way; t = x.end; hung = x.hung; is = x.node_is }; sparse = lies_stay l0 l m.sparse x.end x.sparse }

@@ -4,7 +4,7 @@ use Rattle.trie_write.specs.Ways.{plug}
 use Rattle.trie_write.proofs.SpaceLaws.{fenced_then, ok_map, err_map}
 use Rattle.evacuate.specs.Evacuations.{HasSparse}
 use Rattle.evacuate.specs.Fillings.{Fills, Moves, Fewer, old_live}
-use Rattle.evacuate.specs.Chains.{GoesSparse}
+use Rattle.evacuate.specs.Chains.{GoesOn, GoesSparse}
 use Rattle.evacuate.specs.Sparse.{SparseExtents, LiesSparse}
 use Rattle.evacuate.proofs.BehindLaws.{begins_at, fewer_then, lone_sparse}
 use Rattle.evacuate.proofs.DescentLaws.{by_err, stood_same}
@@ -24,37 +24,37 @@ move_behind-requires-clause-goes g c =
     let b = begins_at (c.in_ok-to.ensures.hung h.r h.es h.way h.t h.hung h.is) h.is (omega arith) in
     record { r = h.r; es = h.es; way = h.way; e = b.e; front = []; rest = b.rest; goes = b.goes }
 
-pub returns-then-len-gt-LAST_OCTETS-clause-stood : goal.returns-then-len-gt-LAST_OCTETS-clause-stood
-returns-then-len-gt-LAST_OCTETS-clause-stood g c r es way t h is =
+pub returns-then-leaf-gt-LAST_OCTETS-clause-stood : goal.returns-then-leaf-gt-LAST_OCTETS-clause-stood
+returns-then-leaf-gt-LAST_OCTETS-clause-stood g c r es way t h is =
     let b = begins_at (c.in_ok-to.ensures.hung r es way t h is) is (omega arith) in
     c.move_behind.ensures.stood r es way b.e [] b.rest b.goes
 
-pub returns-then-len-gt-LAST_OCTETS-clause-moves : goal.returns-then-len-gt-LAST_OCTETS-clause-moves
-returns-then-len-gt-LAST_OCTETS-clause-moves g c given fills = let m = c.in_ok-to.ensures.moves given fills in moves_then m (c.move_behind.ensures.moves given m.fills)
+pub returns-then-leaf-gt-LAST_OCTETS-clause-moves : goal.returns-then-leaf-gt-LAST_OCTETS-clause-moves
+returns-then-leaf-gt-LAST_OCTETS-clause-moves g c given fills = let m = c.in_ok-to.ensures.moves given fills in moves_then m (c.move_behind.ensures.moves given m.fills)
 
-pub returns-then-len-gt-LAST_OCTETS-clause-less : goal.returns-then-len-gt-LAST_OCTETS-clause-less
-returns-then-len-gt-LAST_OCTETS-clause-less g c = ok_map c.move_behind.result (λ u less due. elim c.in_ok-to.ensures.opened [
+pub returns-then-leaf-gt-LAST_OCTETS-clause-less : goal.returns-then-leaf-gt-LAST_OCTETS-clause-less
+returns-then-leaf-gt-LAST_OCTETS-clause-less g c = ok_map c.move_behind.result (λ u less due. elim c.in_ok-to.ensures.opened [
   | inl fewer ↦ fewer_then fewer c.in_ok-to.ensures.moves c.move_behind.ensures.moves
   | inr stays ↦ (
       let h = due.hung in
       let b = begins_at (c.in_ok-to.ensures.hung h.r h.es h.way h.t h.hung h.is) h.is (omega arith) in
-      let on = record { r = h.r; es = h.es; way = h.way; e = b.e; front = []; rest = b.rest; goes = b.goes } in
+      let on : GoesOn g.C.CellRead.has c.open_first.new.cells c.open_first.new.usage c.in_ok-to.to c.args.leaf.len = record { r = h.r; es = h.es; way = h.way; e = b.e; front = []; rest = b.rest; goes = b.goes } in
       let behind : SparseExtents c.args.usage.now b.rest = sparse_behind c.args.usage.now c.args.leaf.at b.rest stays.0 (subst (LiesSparse c.args.usage.now) b.is due.sparse) in
       subst (λ l. Fewer l c.move_behind.new.usage) stays.1 (less (record { on = on; sparse = subst (λ l. SparseExtents l b.rest) (sym stays.1) behind }))
       )
 ]) c.move_behind.ensures.less
 
-pub returns-then-len-gt-LAST_OCTETS-clause-left : goal.returns-then-len-gt-LAST_OCTETS-clause-left
-returns-then-len-gt-LAST_OCTETS-clause-left g c = err_map c.move_behind.result (λ full left due. left) c.move_behind.ensures.left
+pub returns-then-leaf-gt-LAST_OCTETS-clause-left : goal.returns-then-leaf-gt-LAST_OCTETS-clause-left
+returns-then-leaf-gt-LAST_OCTETS-clause-left g c = err_map c.move_behind.result (λ full left due. left) c.move_behind.ensures.left
 
-pub returns-then-len-gt-LAST_OCTETS-clause-frame : goal.returns-then-len-gt-LAST_OCTETS-clause-frame
-returns-then-len-gt-LAST_OCTETS-clause-frame g c = fenced_then c.in_ok-to.ensures.frame c.move_behind.ensures.frame
+pub returns-then-leaf-gt-LAST_OCTETS-clause-frame : goal.returns-then-leaf-gt-LAST_OCTETS-clause-frame
+returns-then-leaf-gt-LAST_OCTETS-clause-frame g c = fenced_then c.in_ok-to.ensures.frame c.move_behind.ensures.frame
 
-pub returns-else-len-gt-LAST_OCTETS-clause-stood : goal.returns-else-len-gt-LAST_OCTETS-clause-stood
-returns-else-len-gt-LAST_OCTETS-clause-stood g c r es way t h is = (_, (c.in_ok-to.ensures.hung r es way t h is).stood)
+pub returns-clause-stood : goal.returns-clause-stood
+returns-clause-stood g c r es way t h is = (_, (c.in_ok-to.ensures.hung r es way t h is).stood)
 
-pub returns-else-len-gt-LAST_OCTETS-clause-less : goal.returns-else-len-gt-LAST_OCTETS-clause-less
-returns-else-len-gt-LAST_OCTETS-clause-less g c due = elim c.in_ok-to.ensures.opened [
+pub returns-clause-less : goal.returns-clause-less
+returns-clause-less g c due = elim c.in_ok-to.ensures.opened [
   | inl fewer ↦ fewer
   | inr stays ↦ absurd (true≢false (sym (lone_sparse due.hung.hung due.hung.is (omega arith) due.sparse) ∙ stays.0))
 ]

@@ -39,12 +39,12 @@ returns-then-is_due-clause-opened g c = ok_map c.move_node.result (λ to p. inl 
     let x = hung_cells c.requires.hung.hung (ap first_of c.requires.hung.is) (ap width_of c.requires.hung.is) in
     let some = x.row.some in let less = (p given fills (old_first g c given fills)).less in omega arith)) c.move_node.ensures.paid
 
-pub returns-else-is_due-clause-hung : goal.returns-else-is_due-clause-hung
-returns-else-is_due-clause-hung g c r es way t h is =
+pub returns-clause-hung : goal.returns-clause-hung
+returns-clause-hung g c r es way t h is =
     subst (λ (q : ℕ). Hung g.C.CellRead.has c.args.cells.now c.args.usage.now r c.args.at es way (moved t q)) (sym (ap first_of is)) (subst (Hung g.C.CellRead.has c.args.cells.now c.args.usage.now r c.args.at es way) (sym (moved_itself t)) h)
 
-pub returns-else-is_due-clause-writable : goal.returns-else-is_due-clause-writable
-returns-else-is_due-clause-writable g c long =
+pub returns-clause-writable : goal.returns-clause-writable
+returns-clause-writable g c long =
     let x = hung_cells c.requires.hung.hung (ap first_of c.requires.hung.is) (ap width_of c.requires.hung.is) in
     let q = c.args.leaf.at + 255 in
     let used = x.in_use 255 (let e = width_linked c.args.leaf.len long in let k = linked_is in omega arith) in
@@ -54,11 +54,11 @@ returns-else-is_due-clause-writable g c long =
       in_given = subst (λ (flags : List Bool). IsGiven flags (q / 1024)) (sym c.requires.ready.same) (get_set c.args.usage.now.given (q / 1024) (used_given c.args.usage.now c.known.ensures q used));
     }
 
-pub returns-else-is_due-clause-moves : goal.returns-else-is_due-clause-moves
-returns-else-is_due-clause-moves g c given fills = moves_none given c.args.usage.now fills
+pub returns-clause-moves : goal.returns-clause-moves
+returns-clause-moves g c given fills = moves_none given c.args.usage.now fills
 
-pub returns-else-is_due-clause-opened : goal.returns-else-is_due-clause-opened
-returns-else-is_due-clause-opened g c = inr (c.is_due.ensures.sparse c.if-is_due.false, refl)
+pub returns-clause-opened : goal.returns-clause-opened
+returns-clause-opened g c = inr (c.is_due.ensures.sparse c.if-is_due.false, refl)
 
-pub returns-else-is_due-clause-frame : goal.returns-else-is_due-clause-frame
-returns-else-is_due-clause-frame g c = fenced_of (frame_refl c.args.cells.now c.args.usage.now)
+pub returns-clause-frame : goal.returns-clause-frame
+returns-clause-frame g c = fenced_of (frame_refl c.args.cells.now c.args.usage.now)

@@ -77,14 +77,14 @@ returns-then-is_due-clause-same g c = err_map c.move_linked.result (λ full same
 pub returns-then-is_due-clause-frame : goal.returns-then-is_due-clause-frame
 returns-then-is_due-clause-frame g c = fenced_same c.next_extent-next.ensures.same c.move_linked.ensures.frame
 
-pub returns-else-is_due-clause-goes : goal.returns-else-is_due-clause-goes
-returns-else-is_due-clause-goes g c r es way e front rest goes =
+pub returns-clause-goes : goal.returns-clause-goes
+returns-clause-goes g c r es way e front rest goes =
     let first = goes_behind goes refl refl in
     let from = c.next_extent-next.ensures.next _ first.link first.inside in
     goes_same c.next_extent-next.ensures.same (subst (Goes g.C.CellRead.has c.args.cells.now c.args.usage.now r c.args.at c.args.len es way e front) (sym (put_itself rest) ∙ ap (put_first rest) (sym from)) goes)
 
-pub returns-else-is_due-clause-writable : goal.returns-else-is_due-clause-writable
-returns-else-is_due-clause-writable g c long =
+pub returns-clause-writable : goal.returns-clause-writable
+returns-clause-writable g c long =
     let first = goes_behind c.requires.goes.goes refl refl in
     let b = goes_behind c.requires.goes.goes (c.next_extent-next.ensures.next _ first.link first.inside) refl in
     let q = c.next_extent-next.result + 255 in
@@ -95,17 +95,20 @@ returns-else-is_due-clause-writable g c long =
       in_given = subst (λ (flags : List Bool). IsGiven flags (q / 1024)) (sym (ap g.C.CellWrite.given c.next_extent-next.ensures.same ∙ c.requires.ready.same)) (get_set c.args.usage.now.given (q / 1024) (used_given c.args.usage.now c.known.ensures q used));
     }
 
-pub returns-else-is_due-clause-moves : goal.returns-else-is_due-clause-moves
-returns-else-is_due-clause-moves g c given fills = moves_none given c.args.usage.now fills
+pub returns-clause-moves : goal.returns-clause-moves
+returns-clause-moves g c given fills = moves_none given c.args.usage.now fills
 
-pub returns-else-is_due-clause-opened : goal.returns-else-is_due-clause-opened
-returns-else-is_due-clause-opened g c r es way e front rest goes =
+pub returns-clause-opened : goal.returns-clause-opened
+returns-clause-opened g c r es way e front rest goes =
     let first = goes_behind goes refl refl in
     let from = c.next_extent-next.ensures.next _ first.link first.inside in
     inr (ap (λ (q : ℕ). is_sparse c.args.usage.now (q / 1024)) (sym from) ∙ c.is_due.ensures.sparse c.if-is_due.false, refl)
 
-pub returns-else-is_due-clause-frame : goal.returns-else-is_due-clause-frame
-returns-else-is_due-clause-frame g c = fenced_same c.next_extent-next.ensures.same (fenced_of (frame_refl c.next_extent-next.new.cells c.args.usage.now))
+pub returns-clause-frame : goal.returns-clause-frame
+returns-clause-frame g c = fenced_same c.next_extent-next.ensures.same (fenced_of (frame_refl c.next_extent-next.new.cells c.args.usage.now))
 
-pub returns-else-is_due-clause-ready : goal.returns-else-is_due-clause-ready
-returns-else-is_due-clause-ready g c = ready_put c.requires.ready (ap g.C.CellWrite.given c.next_extent-next.ensures.same) (ap g.C.CellWrite.kept c.next_extent-next.ensures.same)
+pub returns-clause-ready : goal.returns-clause-ready
+returns-clause-ready g c = ready_put c.requires.ready (ap g.C.CellWrite.given c.next_extent-next.ensures.same) (ap g.C.CellWrite.kept c.next_extent-next.ensures.same)
+
+pub overflow_sub-len : goal.overflow_sub-len
+overflow_sub-len g c = let long = (goes_behind c.requires.goes.goes refl refl).long in omega arith

@@ -68,3 +68,6 @@ returns-clause-frame g c =
 
 pub returns-clause-ready : goal.returns-clause-ready
 returns-clause-ready g c = ready_counts (released_rest c.copy_out.new.usage c.next_extent-from.result c.first_extent_for-n.result c.release.ensures) (ready_put c.in_ok-to.ensures.ready c.put.ensures.given c.put.ensures.kept)
+
+pub overflow_sub-len : goal.overflow_sub-len
+overflow_sub-len g c = let long = (goes_behind c.requires.goes.goes refl refl).long in omega arith
