@@ -1,27 +1,26 @@
 -- From an extent to the one behind it.
-use Rattle.std.proofs.Common.{◌≡◌, ◌⊎◌, inl, inr, ℕ, ◌+◌, ◌-◌, ◌/◌, ◌<◌, ◌≤◌, ◌++◌, true, false, Bool, List, [], ◌∷◌, length, Result, Ok, Err, arith, refl, sym, ◌∙◌, ap, subst}
+use Rattle.std.proofs.Common.{◌≡◌, inr, ℕ, ◌-◌, ◌/◌, ◌<◌, ◌≤◌, ◌++◌, true, Bool, List, [], ◌∷◌, length, Result, Ok, Err, arith, refl, sym, ◌∙◌, ap, subst}
 use Rattle.std.specs.Prelude.{IfOk, IfErr}
-use Rattle.std.proofs.lemmas.Bool.{true≢false}
 use Rattle.packed_node.specs.declared.Cell.{Cell}
 use Rattle.packed_node.specs.declared.Leaf.{Leaf}
 use Rattle.packed_node.specs.declared.Node.TheVariants as node
-use Rattle.trie_model.specs.Extents.{Extents, first_of as first_cell_of, AreExtents}
+use Rattle.trie_model.specs.Extents.{Extents, first_of as first_cell_of}
 use Rattle.trie_model.specs.Extents.Extents.{last, linked}
 use Rattle.trie_model.specs.Keys.{Entry}
 use Rattle.trie_model.specs.Memory.{node_of}
 use Rattle.trie_model.specs.Trees.{Tree}
 use Rattle.trie_model.specs.Trees.Tree.{leaf}
-use Rattle.trie_model.proofs.NodeLaws.{LeafSaid, leaf_said}
+use Rattle.trie_model.proofs.NodeLaws.{leaf_said}
 use Rattle.chunk_usage.specs.Counting.{is_sparse}
 use Rattle.chunk_usage.specs.Ledger.{Ledger}
 use Rattle.trie_write.specs.Ways.{Fork, plug, end_at}
-use Rattle.evacuate.specs.Chains.{chain, octets_behind, Goes, GoesOn, GoesSparse}
+use Rattle.evacuate.specs.Chains.{chain, octets_behind, Goes, GoesOn}
 use Rattle.evacuate.specs.Evacuations.{HasSparse}
-use Rattle.evacuate.specs.Fillings.{Fills, Moves, Fewer, Opened, old_live}
+use Rattle.evacuate.specs.Fillings.{Fills, Moves, Fewer}
 use Rattle.evacuate.specs.Places.{moved, put_first, Stood, Hung}
 use Rattle.evacuate.specs.Sparse.{SparseExtents, LiesSparse}
 use Rattle.evacuate.proofs.ChainLaws.{goes_are}
-use Rattle.evacuate.proofs.SparseLaws.{lies_left, sparse_behind}
+use Rattle.evacuate.proofs.SparseLaws.{lies_left}
 use Rattle.evacuate.proofs.TreeLaws.{hung_tree}
 
 -- what holds of a result either way

@@ -5,7 +5,7 @@ use Rattle.packed_node.specs.declared.Cell.{Cell}
 use Rattle.packed_node.specs.declared.Node.TheVariants as node
 use Rattle.packed_node.specs.Nodes.{packed}
 use Rattle.trie_model.specs.Extents.{Extents, first_of, linked_cells, AreExtents, IsRow, ItemLies, LiesAt, item_cell, link_cell, EachCell, row, weigh_extents}
-use Rattle.trie_model.specs.Extents.Extents.{last, linked}
+use Rattle.trie_model.specs.Extents.Extents.{linked}
 use Rattle.trie_model.specs.Keys.{Entry}
 use Rattle.trie_model.specs.Memory.{top_cell, Beneath}
 use Rattle.trie_model.specs.Reach.{in_chunk, weigh_tree}
@@ -27,7 +27,7 @@ use Rattle.trie_write.proofs.PutLaws.{met_used, end_hangs, end_used}
 use Rattle.trie_write.proofs.WayLaws.{around, weigh_plug, plug_lies, end_lies, low_at, end_tree, plug_tree, follows_same, entries_plug}
 use Rattle.trie_write.proofs.WeightLaws.{at_itself, each_met, mark_le, row_meets, handed_fresh}
 use Rattle.evacuate.specs.Chains.{chain, octets_behind, Goes}
-use Rattle.evacuate.specs.Places.{first_width, put_first, Stood}
+use Rattle.evacuate.specs.Places.{first_width, put_first}
 use Rattle.evacuate.proofs.TreeLaws.{put_are, put_weigh, put_lies, put_there, first_met, first_cells, first_within, first_row, first_few, Row}
 
 -- ---- extents that come before others
@@ -239,8 +239,8 @@ module _ {S : Type 0} {has : S → ℕ → Cell → Type 0} {s : S} {l : Ledger}
         (let o = new_once (at + 255) in let b = weigh_plug (at_place (at + 255)) r way new in let k = mark_le (is_used l2) (at + 255) in omega arith)
         (beneath_kept (is_used l) (has s) (has s1) f.stays whole goes_hangs.within goes_hangs.top.beneath)
         (put_lies (is_used l) (has s) (has s1) f.stays item_left rest to left_are
-            (subst (λ (m : ℕ). (i : ℕ) (c : Cell) → i < first_width m → has s (first_of rest + i) c → has s1 (to + i) c) (sym length-left) copies)
-            (subst (λ (m : ℕ). EachCell (λ q. is_used l q ≡ true) m rest) (sym length-left) left_within.1) left_lies.2)
+        (subst (λ (m : ℕ). (i : ℕ) (c : Cell) → i < first_width m → has s (first_of rest + i) c → has s1 (to + i) c) (sym length-left) copies)
+        (subst (λ (m : ℕ). EachCell (λ q. is_used l q ≡ true) m rest) (sym length-left) left_within.1) left_lies.2)
         (subst (λ (q : ℕ). has s2 (at + 255) (link_cell q)) (sym (put_there rest to)) put)
 
     all_lies : has s2 r (top_cell (plug way new)) × Beneath (has s2) (plug way new)

@@ -1,6 +1,6 @@
 -- Items and twigs that lie in sparse chunks.
-use Rattle.std.proofs.Common.{◌≡◌, ◌⊎◌, inl, inr, ℕ, ◌+◌, ◌-◌, ◌/◌, ◌<◌, ◌≤◌, Bool, true, false, List, length, slice_index, arith, refl, sym, ◌∙◌, ap, subst}
-use Rattle.std.proofs.lemmas.Bool.{true≢false, cases_Bool}
+use Rattle.std.proofs.Common.{◌≡◌, inl, inr, ℕ, ◌-◌, ◌/◌, ◌<◌, true, false, List, length, arith, sym, ◌∙◌, ap, subst}
+use Rattle.std.proofs.lemmas.Bool.{true≢false}
 use Rattle.packed_node.specs.declared.Branch.{Branch}
 use Rattle.packed_node.specs.declared.Cell.{Cell}
 use Rattle.packed_node.specs.declared.Node.TheVariants as node
@@ -20,7 +20,7 @@ use Rattle.trie_write.specs.Ways.{Fork}
 use Rattle.evacuate.specs.Evacuations.{HasSparse}
 use Rattle.evacuate.specs.Places.{Hung}
 use Rattle.evacuate.specs.Sparse.{SparseExtents, LiesSparse}
-use Rattle.evacuate.proofs.TreeLaws.{hung_tree, hung_hangs, row_of, row_met, first, width}
+use Rattle.evacuate.proofs.TreeLaws.{hung_tree, hung_hangs, row_of, row_met, width}
 
 -- ---- a sparse chunk stays so
 

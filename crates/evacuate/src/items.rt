@@ -71,12 +71,7 @@ fn open_first<C: CellWrite>(
 }
 
 /// The same of the extent behind one that begins here, whose item has so many octets from there on.
-fn open_next<C: CellWrite>(
-    cells: &mut C,
-    usage: &mut Usage,
-    at: Ref,
-    len: u16,
-) -> Result<Ref, Full>
+fn open_next<C: CellWrite>(cells: &mut C, usage: &mut Usage, at: Ref, len: u16) -> Result<Ref, Full>
     requires goes { GoesOn C.has cells.old usage.old at len }
     requires writable { IsWritable C.given reserve_account_of cells.old usage.old (at + 255) }
     requires ready { Ready C.kept C.given reserve_account_of cells.old usage.old }

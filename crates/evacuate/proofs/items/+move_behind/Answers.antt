@@ -1,16 +1,16 @@
-use Rattle.std.proofs.Common.{◌≡◌, ◌<◌, ◌≤◌, ◌+◌, ◌-◌, inl, inr, true, false, ℕ, ◌/◌, ◌++◌, Bool, List, [], ◌∷◌, arith, refl, sym, ◌∙◌, ap, subst, rules}
+use Rattle.std.proofs.Common.{◌<◌, ◌+◌, ◌-◌, inl, inr, ◌++◌, [], ◌∷◌, arith, refl, sym, ◌∙◌, ap, subst, rules}
 use Rattle.std.proofs.lemmas.Bool.{true≢false}
-use Rattle.trie_model.specs.Extents.{HasItem, LiesAt, first_of}
+use Rattle.trie_model.specs.Extents.{first_of}
 use Rattle.trie_model.specs.Extents.Extents.{linked}
 use Rattle.trie_model.specs.Trees.Tree.{leaf}
 use Rattle.trie_model.proofs.ExtentLaws.{linked_is}
 use Rattle.trie_write.specs.Ways.{plug}
-use Rattle.trie_write.proofs.SpaceLaws.{frame_refl, fenced_of, fenced_same, fenced_then, ready_put, ok_map, err_map}
+use Rattle.trie_write.proofs.SpaceLaws.{frame_refl, fenced_of, fenced_same, fenced_then, ready_put, ok_map}
 use Rattle.chunk_usage.specs.Rooms.{reserve_account_of}
 use Rattle.trie_write.specs.Spaces.{IsWritable}
 use Rattle.evacuate.specs.Evacuations.{HasSparse}
-use Rattle.evacuate.specs.Fillings.{Fills, Moves, Fewer, old_live}
-use Rattle.evacuate.specs.Chains.{chain, GoesOn, GoesSparse}
+use Rattle.evacuate.specs.Fillings.{Fewer}
+use Rattle.evacuate.specs.Chains.{chain, GoesOn}
 use Rattle.evacuate.specs.Sparse.{SparseExtents}
 use Rattle.evacuate.proofs.BehindLaws.{goes_same, goes_on_same, goes_left, further, last_behind, fewer_then}
 use Rattle.evacuate.proofs.ChainLaws.{goes_behind, left_read}

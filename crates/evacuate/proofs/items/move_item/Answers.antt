@@ -1,14 +1,14 @@
-use Rattle.std.proofs.Common.{◌≡◌, ◌<◌, ◌≤◌, inl, inr, true, false, ℕ, ◌/◌, Bool, List, [], arith, refl, sym, ◌∙◌, ap, subst}
+use Rattle.std.proofs.Common.{inl, inr, [], arith, sym, ◌∙◌, subst}
 use Rattle.std.proofs.lemmas.Bool.{true≢false}
 use Rattle.trie_write.specs.Ways.{plug}
 use Rattle.trie_write.proofs.SpaceLaws.{fenced_then, ok_map, err_map}
 use Rattle.evacuate.specs.Evacuations.{HasSparse}
-use Rattle.evacuate.specs.Fillings.{Fills, Moves, Fewer, old_live}
-use Rattle.evacuate.specs.Chains.{GoesOn, GoesSparse}
+use Rattle.evacuate.specs.Fillings.{Fewer}
+use Rattle.evacuate.specs.Chains.{GoesOn}
 use Rattle.evacuate.specs.Sparse.{SparseExtents, LiesSparse}
 use Rattle.evacuate.proofs.BehindLaws.{begins_at, fewer_then, lone_sparse}
 use Rattle.evacuate.proofs.DescentLaws.{by_err, stood_same}
-use Rattle.evacuate.proofs.FillingLaws.{moves_none, moves_then}
+use Rattle.evacuate.proofs.FillingLaws.{moves_then}
 use Rattle.evacuate.proofs.SparseLaws.{lies_left, sparse_behind}
 use Rattle.evacuate.proofs.items.move_item.Goals as goal
 

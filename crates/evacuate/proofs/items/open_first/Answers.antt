@@ -1,4 +1,4 @@
-use Rattle.std.proofs.Common.{◌≡◌, true, ◌<◌, ◌≤◌, inl, inr, ℕ, ◌+◌, ◌/◌, Bool, List, arith, refl, sym, ◌∙◌, ap, subst}
+use Rattle.std.proofs.Common.{◌≡◌, true, inl, inr, ℕ, ◌+◌, ◌/◌, Bool, List, arith, refl, sym, ap, subst}
 use Rattle.trie_model.proofs.ExtentLaws.{linked_is}
 use Rattle.chunk_cells.specs.Chunks.{IsGiven}
 use Rattle.chunk_usage.proofs.FlagLemmas.{get_set}

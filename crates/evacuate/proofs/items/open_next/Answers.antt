@@ -1,5 +1,4 @@
-use Rattle.std.proofs.Common.{◌≡◌, true, ◌<◌, ◌≤◌, inl, inr, ℕ, ◌+◌, ◌-◌, ◌/◌, Bool, List, arith, refl, sym, ◌∙◌, ap, subst}
-use Rattle.trie_model.specs.Extents.{first_of}
+use Rattle.std.proofs.Common.{◌≡◌, true, inl, inr, ℕ, ◌+◌, ◌-◌, ◌/◌, Bool, List, arith, refl, sym, ◌∙◌, ap, subst}
 use Rattle.trie_model.proofs.ExtentLaws.{linked_is}
 use Rattle.chunk_cells.specs.Chunks.{IsGiven}
 use Rattle.chunk_usage.proofs.FlagLemmas.{get_set}
@@ -58,10 +57,10 @@ returns-then-is_due-clause-writable g c = ok_map c.move_linked.result (λ to w l
 pub returns-then-is_due-clause-moves : goal.returns-then-is_due-clause-moves
 returns-then-is_due-clause-moves g c = either_way c.move_linked.result
     (ok_map c.move_linked.result (λ to p given fills.
-        let goes = c.requires.goes.goes in
-        let first = goes_behind goes refl refl in
-        let from = c.next_extent-next.ensures.next _ first.link first.inside in
-        (p _ _ _ _ _ _ (goes_same c.next_extent-next.ensures.same goes) given fills (ap (is_old given) (sym from) ∙ old_next g c given fills)).moves) c.move_linked.ensures.paid)
+    let goes = c.requires.goes.goes in
+    let first = goes_behind goes refl refl in
+    let from = c.next_extent-next.ensures.next _ first.link first.inside in
+    (p _ _ _ _ _ _ (goes_same c.next_extent-next.ensures.same goes) given fills (ap (is_old given) (sym from) ∙ old_next g c given fills)).moves) c.move_linked.ensures.paid)
     (err_map c.move_linked.result (λ full same given fills. subst (Moves given 0 c.args.usage.now) (sym same) (moves_none given c.args.usage.now fills)) c.move_linked.ensures.unchanged)
 
 pub returns-then-is_due-clause-opened : goal.returns-then-is_due-clause-opened

@@ -1,12 +1,11 @@
-use Rattle.std.proofs.Common.{◌≡◌, true, ◌/◌, ◌-◌, ◌+◌, ◌<◌, ℕ, arith, refl, sym, ◌∙◌, ap, subst}
+use Rattle.std.proofs.Common.{◌≡◌, true, ◌/◌, ◌+◌, ◌<◌, ℕ, arith, refl, sym, ◌∙◌, ap, subst}
 use Rattle.trie_model.proofs.ExtentLaws.{linked_is}
 use Rattle.chunk_usage.specs.Rooms.{reserve_account_of}
-use Rattle.trie_write.specs.Spaces.{Ready, IsWritable}
+use Rattle.trie_write.specs.Spaces.{IsWritable}
 use Rattle.trie_write.proofs.SpaceLaws.{fenced_of, fenced_put, fenced_counts, fenced_same, ready_put, ready_counts, writable_later, seat_open}
 use Rattle.evacuate.specs.Fillings.{Paid, is_old}
-use Rattle.evacuate.specs.Places.{first_width}
 use Rattle.evacuate.proofs.BehindLaws.{goes_same}
-use Rattle.evacuate.proofs.ChainLaws.{Behind, goes_behind, goes_moved}
+use Rattle.evacuate.proofs.ChainLaws.{goes_behind, goes_moved}
 use Rattle.evacuate.proofs.FillingLaws.{moves_paid}
 use Rattle.evacuate.proofs.TreeLaws.{later_counted, handed_writable, released_rest}
 use Rattle.evacuate.proofs.moves.move_linked.Goals as goal
@@ -31,7 +30,7 @@ pub put-requires : goal.put-requires
 put-requires g c =
     let f = c.in_ok-to.ensures.frame in
     let w = subst (IsWritable g.C.CellWrite.given reserve_account_of c.next_extent-from.new.cells c.args.usage.now) (sym c.link_of.ensures)
-      (subst (λ s. IsWritable g.C.CellWrite.given reserve_account_of s c.args.usage.now (c.args.at + 255)) (sym c.next_extent-from.ensures.same) c.requires.writable) in
+    (subst (λ s. IsWritable g.C.CellWrite.given reserve_account_of s c.args.usage.now (c.args.at + 255)) (sym c.next_extent-from.ensures.same) c.requires.writable) in
     record { given = f.given_stays (c.link_of.result / 1024) w.in_given; unkept = seat_open (writable_later w f.grows f.given_stays) c.in_ok-to.ensures.ready }
 
 pub release-requires : goal.release-requires

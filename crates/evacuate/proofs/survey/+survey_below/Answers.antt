@@ -1,4 +1,4 @@
-use Rattle.std.proofs.Common.{◌≡◌, ◌+◌, ◌-◌, ◌<◌, count_ones, arith, sym, ◌∙◌, subst, rules}
+use Rattle.std.proofs.Common.{◌+◌, ◌-◌, ◌<◌, count_ones, arith, sym, ◌∙◌, subst, rules}
 use Rattle.trie_model.specs.Memory.{top_cell}
 use Rattle.trie_model.proofs.NodeLaws.{branch_told, leaf_said}
 use Rattle.evacuate.proofs.TrailLaws.{says, read_is, early, late, twig_here, twig_top, leaf_item}
@@ -26,4 +26,4 @@ survey_below-requires g t c κs within =
     (search (rules, f), (within, ((x.t, n), (let d = early top b in omega arith))))
 
 pub pass_item-requires : goal.pass_item-requires
-pass_item-requires g t c = leaf_item c.requires.top.1 (leaf_said c.requires.top.0 c.in-Leaf.leaf (sym (read_is c.requires.top.1 c.of.ensures.back) ∙ c.in-Leaf.is))
+pass_item-requires g t c = record { there = leaf_item c.requires.top.1 (leaf_said c.requires.top.0 c.in-Leaf.leaf (sym (read_is c.requires.top.1 c.of.ensures.back) ∙ c.in-Leaf.is)) }

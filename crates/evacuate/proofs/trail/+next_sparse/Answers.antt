@@ -70,7 +70,7 @@ loop-i-preserved g t c =
     }
 
 pub is_item_sparse-sparse-requires : goal.is_item_sparse-sparse-requires
-is_item_sparse-sparse-requires g t c = leaf_item c.requires.top.1 (leaf_said c.requires.top.0 c.in-Leaf.leaf (sym (read_is c.requires.top.1 c.of.ensures.back) ∙ c.in-Leaf.is))
+is_item_sparse-sparse-requires g t c = record { there = leaf_item c.requires.top.1 (leaf_said c.requires.top.0 c.in-Leaf.leaf (sym (read_is c.requires.top.1 c.of.ensures.back) ∙ c.in-Leaf.is)) }
 
 pub returns-then-sparse-clause-found : goal.returns-then-sparse-clause-found
 returns-then-sparse-clause-found g t c e u top = found_leaf u c.in-Leaf.leaf top (leaf_said u c.in-Leaf.leaf (sym (read_is top c.of.ensures.back) ∙ c.in-Leaf.is)) (c.is_item_sparse-sparse.ensures.some c.if-sparse.true)
