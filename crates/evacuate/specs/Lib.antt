@@ -1,5 +1,2 @@
 pub mod Evacuations
 pub mod Fillings
-pub mod Places
-pub mod Rearranging
-pub mod Trails
