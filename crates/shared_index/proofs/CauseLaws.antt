@@ -212,7 +212,7 @@ kept_images v (k ∷ kept) all =
 
 -- so where a call then finds no room, the cells are many
 pub many : (m new : Ledger) (f : Full) (chunks cells_es cells_base meets_es meets_base b n written : ℕ) → length m.given ≡ chunks → length new.given ≡ chunks → chunks ≤ free_count m + (2 + meets_es + meets_base) → meets_es + b ≤ cells_es → meets_base ≤ cells_base
-    → n ≤ 47 * b → written ≤ 259 → spent new ≤ spent m + (written + n) → Lacks new f → chunks - reserve_of new - 2 ≤ cells_es + cells_base
+    → n ≤ 47 * b → written ≤ 4115 → spent new ≤ spent m + (written + n) → Lacks new f → chunks - reserve_of new - 8 ≤ cells_es + cells_base
 many m new f chunks cells_es cells_base meets_es meets_base b n written old_length new_length given es base path short cost lacks =
     let all = none_unspent new.open_chunk f.needed lacks.0.few_left lacks.2 in
     let none = lacks.0.none_free in

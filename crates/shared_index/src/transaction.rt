@@ -403,7 +403,7 @@ impl<L: Law, N: Named, K> Transaction<'_, '_, L, N, K> {
     ghost use Rattle.trie_read.specs.Readings.{Fetched};
     ghost use Rattle.shared_index.specs.Fulls.{CausedFrom};
     ghost use Rattle.shared_index.specs.Rooms.{SparesReserve};
-        ghost use Rattle.trie_write.specs.Paths.{insert_asks, replace_asks, delete_asks};
+    ghost use Rattle.trie_write.specs.Paths.{insert_asks, replace_asks, delete_asks};
     ghost use Rattle.shared_index.specs.declared.meaning.Operation.TheVariants as operation;
 
     /// Reads the item of a key of the working set into the beginning of `out`, and gives its length; `None` where the key is not
