@@ -32,7 +32,7 @@ pub fn evacuate<C: CellWrite>(
 ) -> (Option<Ref>, Done)
     requires stands { (version : List Entry) × HasTrie C.has account_of cells.old usage.old root version }
     requires ready { Ready C.kept C.given account_of cells.old usage.old }
-    requires never { 0 ≡ 1 }
+    requires never { ⊥ }
     ensures stands { (version : List Entry) → HasTrie C.has account_of cells.old usage.old root version → HasTrie C.has account_of cells.new usage.new result.0 version }
     ensures none { IsCleared usage.old → usage.new ≡ usage.old }
     ensures fills { FillsNew usage.old usage.new }
