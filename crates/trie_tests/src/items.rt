@@ -2,7 +2,8 @@
 
 ghost use Rattle.std.specs.Prelude.{◌≡◌, false, replicate};
 
-use chunk_cells::{CellRead, CellWrite, PlainCells, item, read_front, read_item, write_item};
+use crate::made::lone;
+use chunk_cells::{CellRead, CellWrite, PlainCells, cells_for, read_front, read_item, write_item};
 use packed_node::{Cell, Leaf};
 use std::test::Fail;
 
@@ -29,9 +30,9 @@ fn is_written_and_read(cells: &mut PlainCells, after: Cell) -> bool
 {
     cells.give(1);
     cells.put(1032, after);
-    write_item(cells, 1030, &ITEM);
-    let mut out = [9; 4096];
     let leaf = Leaf { len: 28, at: 1030 };
+    write_item(cells, &lone(leaf), &ITEM);
+    let mut out = [9; 4096];
     let len = read_item(cells, leaf, &mut out);
     let mut front = [9; 256];
     let front_len = read_front(cells, leaf, &mut front);
@@ -52,7 +53,7 @@ fn is_written_and_read(cells: &mut PlainCells, after: Cell) -> bool
 
 #[test]
 fn an_item_is_written_and_read(rt: HostRuntime) {
-    assert!(rt; item::cells_for(28) == 2);
+    assert!(rt; cells_for(28) == 2);
     let right = match PlainCells::new(rt.alloc(), 2) {
         Ok(cells) => {
             let mut cells = cells;

@@ -6,6 +6,7 @@ ghost use Rattle.zone_model.specs.Keys.{Leads};
 ghost use Rattle.trie_read.specs.Reads.{EachTells};
 ghost use Rattle.trie_tests.specs.Example.{two_names};
 
+use crate::made::lone;
 use chunk_cells::{CellRead, CellWrite, PlainCells, write_item};
 use dns_name::Name;
 use packed_node::{Branch, Leaf, Node, bitmap};
@@ -30,8 +31,8 @@ fn write_two_names(cells: &mut PlainCells)
         bitmap: bitmap::pair(17, 18),
         twigs: 1,
     };
-    write_item(cells, A.at, b"\x01a\0");
-    write_item(cells, B.at, b"\x01b\0");
+    write_item(cells, &lone(A), b"\x01a\0");
+    write_item(cells, &lone(B), b"\x01b\0");
     cells.put(1, Node::Leaf(A).pack());
     cells.put(2, Node::Leaf(B).pack());
     cells.put(0, Node::Branch(branch).pack());
