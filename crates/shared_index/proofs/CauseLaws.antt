@@ -10,7 +10,8 @@ use Rattle.trie_model.specs.Keys.{Entry}
 use Rattle.trie_model.specs.Shape.{cells}
 use Rattle.trie_model.specs.Trees.{Tree}
 use Rattle.trie_model.specs.Reach.{in_chunk, weigh_tree}
-use Rattle.trie_model.proofs.ReachLaws.{live_is, second_true}
+use Rattle.trie_model.proofs.ExtentLaws.{second_true}
+use Rattle.trie_model.proofs.ReachLaws.{live_is}
 use Rattle.chunk_usage.specs.declared.open.Open.{Open}
 use Rattle.chunk_usage.specs.declared.space.Full.{Full}
 use Rattle.chunk_usage.specs.Ledger.{Ledger, Frozen, Row, is_in_row, frozen_part, is_open, is_given, free_count, reserve_of}

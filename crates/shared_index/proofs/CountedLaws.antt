@@ -11,7 +11,8 @@ use Rattle.trie_model.specs.Trees.Tree.{leaf, branch}
 use Rattle.trie_model.specs.Trees.Twigs.{none, twig}
 use Rattle.trie_model.specs.Reach.{in_chunk, weigh_tree, weigh, WithinTree}
 use Rattle.trie_model.proofs.MoveLaws.{Keeps}
-use Rattle.trie_model.proofs.ReachLaws.{live_is, first_true, second_true, both_true}
+use Rattle.trie_model.proofs.ExtentLaws.{first_true, second_true, both_true}
+use Rattle.trie_model.proofs.ReachLaws.{live_is}
 use Rattle.trie_write.specs.Standing.{StandsIn, Standing}
 use Rattle.trie_write.specs.Weights.{at_place}
 use Rattle.trie_write.proofs.RootLaws.{stands_later}
