@@ -6,7 +6,7 @@ use Rattle.shared_index.proofs.query.QueryReading.fetch.Goals as goal
 
 pub read_item-requires-clause-there : goal.read_item-requires-clause-there
 read_item-requires-clause-there g c =
-    let h = c.requires in
+    let h = c.requires.held in
     let found = c.in-Some.ensures.value h.0 h.1.0 h.1.1 in
     let is = found.3 in
     (found.0.item, is.entry.item, subst (λ s. HasItem (in_image (pinned_image s.seat.place.me.0.progress)) c.in-Some.leaf.at c.in-Some.leaf.len found.0.item) (sym c.get.ensures.same) is.item)
