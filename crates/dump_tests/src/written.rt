@@ -1,10 +1,11 @@
 //! The dump of a zone that a master file says. A proof computes with a text that it sees, so texts are passed to functions.
-ghost use Rattle.std.specs.Prelude.{◌<◌};
+ghost use Rattle.std.specs.Prelude.{◌<◌, ◌≤◌, length};
+ghost use Rattle.zone_model.specs.Records.{item_limit};
 
 use dns_name::Name;
 use master_file::{ZoneItems, read_zone};
 use outer_io::MemSink;
-use rr_data::Directives;
+use rr_data::{Directives, item_buffer};
 use std::alloc::{AllocError, Global};
 use zone_dump::{DumpRefusal, Lines};
 
@@ -13,11 +14,13 @@ fn write_items(
     alloc: Global,
     items: &mut ZoneItems,
     directives: Option<Directives>,
+    item: &mut [u8],
     sink: &mut MemSink,
-) -> Result<u64, DumpRefusal> {
-    let mut item = [0; 4096];
+) -> Result<u64, DumpRefusal>
+    requires { item_limit ≤ length item.old }
+{
     let mut lines = Lines::new(alloc, directives)?;
-    while let Some(len) = items.next(&mut item) {
+    while let Some(len) = items.next(item) {
         lines.push_item(&item[..len], sink)?;
     }
     lines.finish(sink)
@@ -45,9 +48,18 @@ pub(crate) fn write_zone(
     if text.len() > 100_000 {
         return None;
     }
+    let Ok(mut item) = item_buffer(alloc) else {
+        return None;
+    };
     let directives = ttl.map(|ttl| Directives::new(&origin, ttl));
     match read_zone(alloc, text, &origin) {
-        Ok(zone) => Some(write_items(alloc, &mut zone.into_items(), directives, sink)),
+        Ok(zone) => Some(write_items(
+            alloc,
+            &mut zone.into_items(),
+            directives,
+            &mut item,
+            sink,
+        )),
         Err(_) => None,
     }
 }

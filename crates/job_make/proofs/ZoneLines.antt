@@ -21,7 +21,7 @@ use Rattle.zone_model.specs.Tokens.{Scan, fresh, line_end, line_tokens, step, st
 use Rattle.zone_model.specs.Data.{data_of, read_fields}
 use Rattle.zone_model.specs.DataWords.{class_named, groups, time_of, type_named}
 use Rattle.zone_model.specs.Texts.{address, digits_from, number}
-use Rattle.zone_model.specs.Records.{Entry, item, with_rr}
+use Rattle.zone_model.specs.Records.{Entry, item, with_rr, item_limit}
 use Rattle.zone_model.specs.Versions.{Version}
 use Rattle.zone_model.specs.MasterFile.{Reader, added, at_first, directive, entry_says, front_of, entry_fault, placed_in, record_says, unless_fault, with_soa, zone_from, zone_of}
 use Rattle.zone_model.specs.declared.ZoneKind.{ZoneKind}
@@ -199,18 +199,18 @@ short_name i h = let d = length-decimal-le 6 i (omega arith) (omega arith) (omeg
 fault_none : (i : ℕ) (e : Entry) → i < 1000000 → Owns e → entry_fault (owner i) e ≡ None
 fault_none i e h One =
     let short = short_name i h in
-    let n : length (item (owner i) one_address) ≤ 4096 = simp length-append (omega arith) in
-    let t : ltb 4096 (length (item (owner i) one_address)) ≡ false = grind (arith, nat_tests) in
+    let n : length (item (owner i) one_address) ≤ item_limit = simp length-append (omega arith) in
+    let t : ltb item_limit (length (item (owner i) one_address)) ≡ false = grind (arith, nat_tests) in
     rw t refl
 fault_none i e h Server =
     let short = short_name i h in
-    let n : length (item (owner i) server_address) ≤ 4096 = simp length-append (omega arith) in
-    let t : ltb 4096 (length (item (owner i) server_address)) ≡ false = grind (arith, nat_tests) in
+    let n : length (item (owner i) server_address) ≤ item_limit = simp length-append (omega arith) in
+    let t : ltb item_limit (length (item (owner i) server_address)) ≡ false = grind (arith, nat_tests) in
     rw t refl
 fault_none i e h Both =
     let short = short_name i h in
-    let n : length (item (owner i) both_addresses) ≤ 4096 = simp length-append (omega arith) in
-    let t : ltb 4096 (length (item (owner i) both_addresses)) ≡ false = grind (arith, nat_tests) in
+    let n : length (item (owner i) both_addresses) ≤ item_limit = simp length-append (omega arith) in
+    let t : ltb item_limit (length (item (owner i) both_addresses)) ≡ false = grind (arith, nat_tests) in
     rw t refl
 
 abbrev AllOwn : Version → Type 0

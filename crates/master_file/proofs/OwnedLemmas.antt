@@ -24,10 +24,10 @@ abbrev record_of : ℕ → ZoneKind → Refused ZoneKind
 record_of line kind = record { line = line; kind = kind }
 
 -- one record can stand, unless its item is too long
-pub single_stands : (owner : Name) (rtype ttl : ℕ) (octets : List ℕ) → length (item owner (fresh rtype ttl octets ∷ [])) ≤ 4096 → entry_fault owner (fresh rtype ttl octets ∷ []) ≡ None
-single_stands owner rtype ttl octets h = by_tests (eqb rtype 6) (eqb rtype 5) (ltb 4096 (length (item owner (fresh rtype ttl octets ∷ [])))) refl refl (grind (arith, nat_tests))
+pub single_stands : (owner : Name) (rtype ttl : ℕ) (octets : List ℕ) → length (item owner (fresh rtype ttl octets ∷ [])) ≤ item_limit → entry_fault owner (fresh rtype ttl octets ∷ []) ≡ None
+single_stands owner rtype ttl octets h = by_tests (eqb rtype 6) (eqb rtype 5) (ltb item_limit (length (item owner (fresh rtype ttl octets ∷ [])))) refl refl (grind (arith, nat_tests))
   where
-    by_tests : (a b c : Bool) → eqb rtype 6 ≡ a → eqb rtype 5 ≡ b → ltb 4096 (length (item owner (fresh rtype ttl octets ∷ []))) ≡ false → entry_fault owner (fresh rtype ttl octets ∷ []) ≡ None
+    by_tests : (a b c : Bool) → eqb rtype 6 ≡ a → eqb rtype 5 ≡ b → ltb item_limit (length (item owner (fresh rtype ttl octets ∷ []))) ≡ false → entry_fault owner (fresh rtype ttl octets ∷ []) ≡ None
     by_tests true true c e f g = rw (e, f, g) refl
     by_tests true false c e f g = rw (e, f, g) refl
     by_tests false true c e f g = rw (e, f, g) refl
@@ -36,7 +36,7 @@ single_stands owner rtype ttl octets h = by_tests (eqb rtype 6) (eqb rtype 5) (l
 pub single_long : (owner : Name) (rtype ttl : ℕ) (octets : List ℕ) → item_limit < length (item owner (fresh rtype ttl octets ∷ [])) → entry_fault owner (fresh rtype ttl octets ∷ []) ≡ Some LongEntry
 single_long owner rtype ttl octets h = by_tests (eqb rtype 6) (eqb rtype 5) refl refl (grind (arith, nat_tests))
   where
-    by_tests : (a b : Bool) → eqb rtype 6 ≡ a → eqb rtype 5 ≡ b → ltb 4096 (length (item owner (fresh rtype ttl octets ∷ []))) ≡ true → entry_fault owner (fresh rtype ttl octets ∷ []) ≡ Some LongEntry
+    by_tests : (a b : Bool) → eqb rtype 6 ≡ a → eqb rtype 5 ≡ b → ltb item_limit (length (item owner (fresh rtype ttl octets ∷ []))) ≡ true → entry_fault owner (fresh rtype ttl octets ∷ []) ≡ Some LongEntry
     by_tests true true e f g = rw (e, f, g) refl
     by_tests true false e f g = rw (e, f, g) refl
     by_tests false true e f g = rw (e, f, g) refl
@@ -46,8 +46,8 @@ single_long owner rtype ttl octets h = by_tests (eqb rtype 6) (eqb rtype 5) refl
 pub item_view : (octets : List ℕ) (owner : Name) (entry : Entry) → IsItem octets owner entry → unwrap_or (item_of octets) ([], []) ≡ (owner, entry)
 item_view octets owner entry is = ap (λ (o : Option (Name × Entry)). unwrap_or o ([], [])) (item_back octets owner entry is)
 
-pub item_length : (octets : List ℕ) (owner : Name) (entry : Entry) → IsItem octets owner entry → length (item owner entry) ≤ 4096
-item_length octets owner entry is = subst (λ (l : List ℕ). length l ≤ 4096) is.octets is.short
+pub item_length : (octets : List ℕ) (owner : Name) (entry : Entry) → IsItem octets owner entry → length (item owner entry) ≤ item_limit
+item_length octets owner entry is = subst (λ (l : List ℕ). length l ≤ item_limit) is.octets is.short
 
 -- so is one that is kept
 pub single_is : (octets : List ℕ) (value : Name × Entry) → (owner : Name) × (r : One) × IsItem octets owner (fresh r.rtype r.ttl r.octets ∷ []) → unwrap_or (item_of octets) ([], []) ≡ value → IsItem octets value.0 value.1

@@ -9,7 +9,7 @@ use Rattle.std.specs.declared.cmp.Ordering.{Ordering}
 use Rattle.std.specs.declared.cmp.Ordering.TheVariants.{Less, Equal, Greater}
 use Rattle.std.specs.Ordering.{nat_cmp, match_ordering, is_eq}
 use Rattle.zone_model.specs.Names.{Name, IsName, name_cmp, is_under, same_name}
-use Rattle.zone_model.specs.Records.{Entry, item, with_rr, joined, changed_at, rrset_of}
+use Rattle.zone_model.specs.Records.{Entry, item, with_rr, joined, changed_at, rrset_of, item_limit}
 use Rattle.zone_model.specs.Versions.{Version, entry_of, is_lone, has_soa}
 use Rattle.zone_model.specs.Refusals.{Refused}
 use Rattle.zone_model.specs.MasterFile.{soa_count, entry_fault, unless_fault, placed_in, added}
@@ -88,14 +88,14 @@ some_record rtype ttl octets (first ∷ rest) = by_order (nat_cmp rtype first.rt
     by_order Equal = omega arith
     by_order Greater = omega arith
 
-faultless : (owner : Name) (entry : Entry) → entry_fault owner entry ≡ None → length (item owner entry) ≤ 4096
-faultless owner entry h = by_tests (ltb 1 (soa_count entry)) (not (is_lone entry)) (ltb 4096 (length (item owner entry))) refl h
+faultless : (owner : Name) (entry : Entry) → entry_fault owner entry ≡ None → length (item owner entry) ≤ item_limit
+faultless owner entry h = by_tests (ltb 1 (soa_count entry)) (not (is_lone entry)) (ltb item_limit (length (item owner entry))) refl h
   where
-    by_tests : (a b c : Bool) → ltb 4096 (length (item owner entry)) ≡ c → cond a (Some SoaRule) (cond b (Some CnameAndOther) (cond c (Some LongEntry) None)) ≡ None → length (item owner entry) ≤ 4096
+    by_tests : (a b c : Bool) → ltb item_limit (length (item owner entry)) ≡ c → cond a (Some SoaRule) (cond b (Some CnameAndOther) (cond c (Some LongEntry) None)) ≡ None → length (item owner entry) ≤ item_limit
     by_tests true b c e k = absurd cc
     by_tests false true c e k = absurd cc
     by_tests false false true e k = absurd cc
-    by_tests false false false e k = ltb-false 4096 (length (item owner entry)) e
+    by_tests false false false e k = ltb-false item_limit (length (item owner entry)) e
 
 -- a refusal is the same whatever is refused
 refused_same : {A B : Type 0} (x y : Refused ZoneKind) → ◌≡◌ {A = Result A (Refused ZoneKind)} (Err x) (Err y) → ◌≡◌ {A = Result B (Refused ZoneKind)} (Err x) (Err y)

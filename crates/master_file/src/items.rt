@@ -1,6 +1,7 @@
 //! The items of a zone.
-ghost use Rattle.std.specs.Prelude.{◌≡◌, ◌∷◌, [], ℕ, List, length, take, IsTrue, ◌↔◌, Some, None, Option};
+ghost use Rattle.std.specs.Prelude.{◌≡◌, ◌≤◌, ◌∷◌, [], ℕ, List, length, take, IsTrue, ◌↔◌, Some, None, Option};
 ghost use Rattle.std.specs.List.{AllByRecursion};
+ghost use Rattle.zone_model.specs.Records.{item_limit};
 ghost use Rattle.master_file.specs.Owners.{CanBeItem, version_of};
 ghost use Rattle.master_file.specs.Items.{GivesItem};
 
@@ -55,7 +56,8 @@ impl ZoneItems {
     }
 
     /// Writes the item of the next name, and answers how many octets it has; None where no name is left.
-    pub fn next(&mut self, out: &mut [u8; 4096]) -> Option<usize>
+    pub fn next(&mut self, out: &mut [u8]) -> Option<usize>
+        requires { item_limit ≤ length out.old }
         ensures { GivesItem result self.old self.new out.new }
     {
         let owned = self.left.next()?;

@@ -1,7 +1,7 @@
 //! What one name owns, as it is read.
-ghost use Rattle.std.specs.Prelude.{◌≡◌, ◌<◌, ◌≤◌, [], ℕ, List, Some, None, Option, Ok, Err, Result, IfOk, OnOk, is_some, take};
+ghost use Rattle.std.specs.Prelude.{◌≡◌, ◌<◌, ◌≤◌, [], ℕ, List, Some, None, Option, Ok, Err, Result, IfOk, OnOk, is_some, length, take};
 ghost use Rattle.zone_model.specs.Names.{Name as Labels};
-ghost use Rattle.zone_model.specs.Records.{Entry as Records, with_rr, rrset_of, IsItem};
+ghost use Rattle.zone_model.specs.Records.{Entry as Records, with_rr, rrset_of, item_limit, IsItem};
 ghost use Rattle.zone_model.specs.Versions.{is_lone};
 ghost use Rattle.zone_model.specs.MasterFile.{soa_count};
 ghost use Rattle.master_file.specs.Zones.{Checks};
@@ -198,10 +198,11 @@ impl Owned {
     }
 
     /// Writes the item, and answers how many octets it has.
-    pub fn encode(&self, out: &mut [u8; 4096]) -> usize
-        requires { CanBeItem self.now }
+    pub fn encode(&self, out: &mut [u8]) -> usize
+        requires item { CanBeItem self.now }
+        requires room { item_limit ≤ length out.old }
         ensures item { IsItem (take result out.new) self.now.0 self.now.1 }
-        ensures short { result ≤ 4096 }
+        ensures short { result ≤ item_limit }
     {
         match &self.kept {
             Kept::Single(octets) => {

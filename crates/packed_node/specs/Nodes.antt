@@ -9,7 +9,7 @@ use Rattle.packed_node.specs.declared.Node.TheVariants as node
 -- what a leaf and a branch may be
 pub record IsLeaf (leaf : Leaf) : Type 0 where
   pub some : 0 < leaf.len
-  pub short : leaf.len ≤ 4096
+  pub short : leaf.len ≤ 65535
   pub inside : leaf.at < 2 ^ 22
 
 pub record IsBranch (branch : Branch) : Type 0 where
@@ -53,6 +53,6 @@ offset_in cell = cell.big / 2 ^ 49
 abbrev pub IsNoNode : Cell → Type 0
 IsNoNode cell =
     (2 ^ 22 ≤ cell.small)
-    ⊎ ((tag cell ≡ 0) × ((length_in cell ≡ 0) ⊎ (4096 < length_in cell)))
+    ⊎ ((tag cell ≡ 0) × ((length_in cell ≡ 0) ⊎ (65535 < length_in cell)))
     ⊎ ((tag cell ≡ 1) × ((count_ones (bitmap_in cell) < 2) ⊎ (503 < offset_in cell)))
     ⊎ (2 ≤ tag cell)

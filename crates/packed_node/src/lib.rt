@@ -25,7 +25,7 @@ pub type Ref = u32;
 pub const CHUNK_CELLS: u32 = 1024;
 
 /// The longest item, in octets.
-pub const ITEM_LIMIT: u16 = 4096;
+pub const ITEM_LIMIT: u16 = 65535;
 
 /// The chunk that a cell is in.
 #[inline]
@@ -45,7 +45,7 @@ pub struct Cell {
 /// An item of the trie, by where it lies.
 #[derive(Clone, Copy, PartialEq, Eq, Debug)]
 pub struct Leaf {
-    /// How many octets the item has, 1 to 4,096.
+    /// How many octets the item has, 1 to 65,535.
     pub len: u16,
     /// The first of the cells that hold it.
     pub at: Ref,

@@ -7,7 +7,7 @@ use Rattle.std.specs.List.{AllByRecursion}
 use Rattle.std.specs.Map.{remove_entry}
 use Rattle.std.specs.BTreeMap.{insert_entry, is_at}
 use Rattle.zone_model.specs.Names.{Name, name_cmp, same_name}
-use Rattle.zone_model.specs.Records.{Rrset, Entry, rrset_of, item, with_rr, without_rr, without_set, IsEntry}
+use Rattle.zone_model.specs.Records.{Rrset, Entry, rrset_of, item, with_rr, without_rr, without_set, IsEntry, item_limit}
 use Rattle.zone_model.specs.Versions.{Version, Operation, Add, DeleteName, DeleteSet, DeleteRecord, Addition, owned, put, has_soa, holds, with_soa, with_added, is_lone, is_low_soa, fitting, keeping_soa, owner_of, changed, and_then, apply, all_applied, soa_type}
 use Rattle.zone_model.specs.Transactions.{Transaction, all_met, whole}
 use Rattle.zone_model.specs.declared.Refusal.{Refusal}
@@ -79,15 +79,15 @@ record Changes (origin owner : Name) (before after : Entry) : Type 0 where
 fits : (origin owner : Name) (before joined next : Entry) → Joins origin owner before joined → fitting owner joined ≡ Ok next → Changes origin owner before next
 fits origin owner before joined next j e = by_lone (is_lone joined) refl e
   where
-    by_length : is_lone joined ≡ true → (b : Bool) → ltb 4096 (length (item owner joined)) ≡ b → cond b (Err Long) (Ok joined) ≡ Ok next → Changes origin owner before next
+    by_length : is_lone joined ≡ true → (b : Bool) → ltb item_limit (length (item owner joined)) ≡ b → cond b (Err Long) (Ok joined) ≡ Ok next → Changes origin owner before next
     by_length l true t h = absurd cc
     by_length l false t h =
         let is : joined ≡ next = cc in
         subst (λ (x : Entry). Changes origin owner before x) is
-        (record { owns = record { lone = l; few = j.few; proper = j.proper; short = λ some. ltb-false 4096 (length (item owner joined)) t; sets = j.sets }; soa = j.soa })
+        (record { owns = record { lone = l; few = j.few; proper = j.proper; short = λ some. ltb-false item_limit (length (item owner joined)) t; sets = j.sets }; soa = j.soa })
 
-    by_lone : (b : Bool) → is_lone joined ≡ b → cond (not b) (Err Cname) (cond (ltb 4096 (length (item owner joined))) (Err Long) (Ok joined)) ≡ Ok next → Changes origin owner before next
-    by_lone true l h = by_length l (ltb 4096 (length (item owner joined))) refl h
+    by_lone : (b : Bool) → is_lone joined ≡ b → cond (not b) (Err Cname) (cond (ltb item_limit (length (item owner joined))) (Err Long) (Ok joined)) ≡ Ok next → Changes origin owner before next
+    by_lone true l h = by_length l (ltb item_limit (length (item owner joined))) refl h
     by_lone false l h = absurd cc
 
 keeps : (origin owner : Name) (before left next : Entry) → Owns origin owner left → keeping_soa before left ≡ Ok next → Changes origin owner before next

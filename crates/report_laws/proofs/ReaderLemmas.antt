@@ -11,7 +11,7 @@ use Rattle.zone_model.specs.declared.ZoneKind.{ZoneKind}
 use Rattle.zone_model.specs.declared.ZoneKind.TheVariants.{BadName, NoOwner, NoTtl, BadTtl, UnknownType, OutsideZone, CnameAndOther, SoaRule, LongEntry}
 use Rattle.zone_model.specs.declared.DataRefusal.{DataRefusal}
 use Rattle.zone_model.specs.Names.{Name, IsName, name_cmp, is_under, same_name}
-use Rattle.zone_model.specs.Records.{Entry, item, with_rr}
+use Rattle.zone_model.specs.Records.{Entry, item, with_rr, item_limit}
 use Rattle.zone_model.specs.Versions.{Version, owned, has_soa, is_lone, soa_type}
 use Rattle.zone_model.specs.Tokens.{Token, refused, line_tokens}
 use Rattle.zone_model.specs.DataWords.{most_time, is_word}
@@ -146,16 +146,16 @@ rr_of apex owner rtype time octets t le d place = record { number = t.number; ki
 record Stands (owner : Name) (entry : Entry) : Type 0 where
   few : soa_count entry ≤ 1
   lone : is_lone entry ≡ true
-  short : length (item owner entry) ≤ 4096
+  short : length (item owner entry) ≤ item_limit
 
 faultless : (owner : Name) (entry : Entry) → entry_fault owner entry ≡ None → Stands owner entry
-faultless owner entry h = by_tests (ltb 1 (soa_count entry)) (is_lone entry) (ltb 4096 (length (item owner entry))) refl refl refl h
+faultless owner entry h = by_tests (ltb 1 (soa_count entry)) (is_lone entry) (ltb item_limit (length (item owner entry))) refl refl refl h
   where
-    by_tests : (a b c : Bool) → ltb 1 (soa_count entry) ≡ a → is_lone entry ≡ b → ltb 4096 (length (item owner entry)) ≡ c → cond a (Some SoaRule) (cond (not b) (Some CnameAndOther) (cond c (Some LongEntry) None)) ≡ None → Stands owner entry
+    by_tests : (a b c : Bool) → ltb 1 (soa_count entry) ≡ a → is_lone entry ≡ b → ltb item_limit (length (item owner entry)) ≡ c → cond a (Some SoaRule) (cond (not b) (Some CnameAndOther) (cond c (Some LongEntry) None)) ≡ None → Stands owner entry
     by_tests true b c e f g k = absurd cc
     by_tests false false c e f g k = absurd cc
     by_tests false true true e f g k = absurd cc
-    by_tests false true false e f g k = record { few = ltb-false 1 (soa_count entry) e; lone = f; short = ltb-false 4096 (length (item owner entry)) g }
+    by_tests false true false e f g k = record { few = ltb-false 1 (soa_count entry) e; lone = f; short = ltb-false item_limit (length (item owner entry)) g }
 
 placed_is : (apex : Name) (last : ℕ) (owner : Name) (rtype time : ℕ) (octets : List ℕ) (version new : Version) → IsName owner → is_under owner apex ≡ true → IsRr apex owner rtype time octets → IsWellFormed apex version
     → placed_in last owner rtype time octets version ≡ Ok new → IsWellFormed apex new

@@ -9,7 +9,7 @@ use Rattle.std.specs.declared.cmp.Ordering.TheVariants.{Less, Equal, Greater}
 use Rattle.std.specs.Ordering.{match_ordering, ordering_reverse, is_eq}
 use Rattle.zone_model.specs.Names.{Name, IsName, name_cmp, is_under, same_name}
 use Rattle.zone_model.specs.NameOrder.{name_cmp_total}
-use Rattle.zone_model.specs.Records.{Rrset, Entry, RisingSets, IsEntry, IsItem, item}
+use Rattle.zone_model.specs.Records.{Rrset, Entry, RisingSets, IsEntry, IsItem, item, item_limit}
 use Rattle.zone_model.specs.Versions.{Version, entry_of, owned, has_soa, is_lone, soa_type}
 use Rattle.zone_model.specs.Zones.{has_low_soa}
 use Rattle.zone_model.specs.MasterFile.{soa_count}
@@ -116,7 +116,7 @@ pub record Owns (origin owner : Name) (entry : Entry) : Type 0 where
   pub lone : is_lone entry ≡ true
   pub few : soa_count entry ≤ 1
   pub proper : IsEntry entry
-  pub short : 0 < length entry → length (item owner entry) ≤ 4096
+  pub short : 0 < length entry → length (item owner entry) ≤ item_limit
   pub sets : AllSets origin owner entry
 
 owns_nothing : (origin owner : Name) → Owns origin owner []

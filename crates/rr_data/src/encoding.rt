@@ -2,15 +2,16 @@
 ghost use Rattle.std.specs.Prelude.{◌≡◌, ℕ, ◌+◌, ◌≤◌, ◌++◌, List, length, take};
 ghost use Rattle.std.specs.List.{flat_map};
 ghost use Rattle.std.specs.Int.{w16, w32, to_be_bytes};
-ghost use Rattle.zone_model.specs.Records.{record_bytes, rrset_bytes};
+ghost use Rattle.zone_model.specs.Records.{item_limit, record_bytes, rrset_bytes};
 
 use crate::rdata::Rdata;
 use crate::rrset::RrSet;
 use byteorder::{BigEndian, ByteOrder};
 
 // Writes octets at a place, and answers the place behind them.
-pub fn put(out: &mut [u8; 4096], at: usize, octets: &[u8]) -> usize
-    requires { at + length octets.now ≤ 4096 }
+pub fn put(out: &mut [u8], at: usize, octets: &[u8]) -> usize
+    requires fits { at + length octets.now ≤ item_limit }
+    requires room { item_limit ≤ length out.old }
     ensures end { result ≡ at + length octets.now }
     ensures puts { take (at + length octets.now) out.new ≡ take at out.old ++ octets.now }
 {
@@ -19,8 +20,9 @@ pub fn put(out: &mut [u8; 4096], at: usize, octets: &[u8]) -> usize
     end
 }
 
-pub fn put_short(out: &mut [u8; 4096], at: usize, number: u16) -> usize
-    requires { at + 2 ≤ 4096 }
+pub fn put_short(out: &mut [u8], at: usize, number: u16) -> usize
+    requires fits { at + 2 ≤ item_limit }
+    requires room { item_limit ≤ length out.old }
     ensures end { result ≡ at + 2 }
     ensures puts { take (at + 2) out.new ≡ take at out.old ++ to_be_bytes w16 number }
 {
@@ -29,8 +31,9 @@ pub fn put_short(out: &mut [u8; 4096], at: usize, number: u16) -> usize
     put(out, at, &octets)
 }
 
-fn put_number(out: &mut [u8; 4096], at: usize, number: u32) -> usize
-    requires { at + 4 ≤ 4096 }
+fn put_number(out: &mut [u8], at: usize, number: u32) -> usize
+    requires fits { at + 4 ≤ item_limit }
+    requires room { item_limit ≤ length out.old }
     ensures end { result ≡ at + 4 }
     ensures puts { take (at + 4) out.new ≡ take at out.old ++ to_be_bytes w32 number }
 {
@@ -40,8 +43,9 @@ fn put_number(out: &mut [u8; 4096], at: usize, number: u32) -> usize
 }
 
 // A record: its length, and its octets.
-fn put_record(out: &mut [u8; 4096], at: usize, octets: &[u8]) -> usize
-    requires { at + length (record_bytes octets.now) ≤ 4096 }
+fn put_record(out: &mut [u8], at: usize, octets: &[u8]) -> usize
+    requires fits { at + length (record_bytes octets.now) ≤ item_limit }
+    requires room { item_limit ≤ length out.old }
     ensures end { result ≡ at + length (record_bytes octets.now) }
     ensures puts { take (at + length (record_bytes octets.now)) out.new ≡ take at out.old ++ record_bytes octets.now }
 {
@@ -49,8 +53,9 @@ fn put_record(out: &mut [u8; 4096], at: usize, octets: &[u8]) -> usize
     put(out, behind_len, octets)
 }
 
-fn put_records(out: &mut [u8; 4096], at: usize, records: &[Rdata]) -> usize
-    requires { at + length (flat_map record_bytes records.now) ≤ 4096 }
+fn put_records(out: &mut [u8], at: usize, records: &[Rdata]) -> usize
+    requires fits { at + length (flat_map record_bytes records.now) ≤ item_limit }
+    requires room { item_limit ≤ length out.old }
     ensures end { result ≡ at + length (flat_map record_bytes records.now) }
     ensures puts { take (at + length (flat_map record_bytes records.now)) out.new ≡ take at out.old ++ flat_map record_bytes records.now }
 {
@@ -62,8 +67,9 @@ fn put_records(out: &mut [u8; 4096], at: usize, records: &[Rdata]) -> usize
 }
 
 // An RRset: its type, time to live, count and records.
-fn put_set(out: &mut [u8; 4096], at: usize, set: &RrSet) -> usize
-    requires { at + length (rrset_bytes set.now) ≤ 4096 }
+fn put_set(out: &mut [u8], at: usize, set: &RrSet) -> usize
+    requires fits { at + length (rrset_bytes set.now) ≤ item_limit }
+    requires room { item_limit ≤ length out.old }
     ensures end { result ≡ at + length (rrset_bytes set.now) }
     ensures puts { take (at + length (rrset_bytes set.now)) out.new ≡ take at out.old ++ rrset_bytes set.now }
 {
@@ -74,8 +80,9 @@ fn put_set(out: &mut [u8; 4096], at: usize, set: &RrSet) -> usize
     put_records(out, behind_count, records)
 }
 
-pub fn put_sets(out: &mut [u8; 4096], at: usize, sets: &[RrSet]) -> usize
-    requires { at + length (flat_map rrset_bytes sets.now) ≤ 4096 }
+pub fn put_sets(out: &mut [u8], at: usize, sets: &[RrSet]) -> usize
+    requires fits { at + length (flat_map rrset_bytes sets.now) ≤ item_limit }
+    requires room { item_limit ≤ length out.old }
     ensures end { result ≡ at + length (flat_map rrset_bytes sets.now) }
     ensures puts { take (at + length (flat_map rrset_bytes sets.now)) out.new ≡ take at out.old ++ flat_map rrset_bytes sets.now }
 {

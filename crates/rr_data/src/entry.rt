@@ -15,7 +15,14 @@ use std::alloc::{AllocError, Global};
 use std::marker::Model;
 
 /// The most octets of an item.
-pub const ITEM_LIMIT: usize = 4096;
+pub const ITEM_LIMIT: usize = 65_535;
+
+/// Room for any item.
+pub fn item_buffer(alloc: Global) -> Result<Vec<u8>, AllocError>
+    ensures { IfOk result (λ v. length v.items ≡ item_limit) }
+{
+    vec![in alloc; 0; ITEM_LIMIT]
+}
 
 /// The records of one name: its RRsets in rising type.
 #[derive(Drop)]
@@ -209,10 +216,11 @@ impl Entry {
         len
     }
 
-    /// Writes the item of an owner and this entry, and answers its number of octets; None where these are over 4,096,
+    /// Writes the item of an owner and this entry, and answers its number of octets; None where these are over 65,535,
     /// and then nothing is written.
-    pub fn encode(&self, owner: &Name, out: &mut [u8; 4096]) -> Option<usize>
-        requires { 0 < length self.now }
+    pub fn encode(&self, owner: &Name, out: &mut [u8]) -> Option<usize>
+        requires some { 0 < length self.now }
+        requires room { item_limit ≤ length out.old }
         ensures item { IfSome result (λ n. IsItem (take n out.new) owner.now self.now) }
         ensures length { IfSome result (λ n. n ≡ length (item owner.now self.now)) }
         ensures long { IsNone result ↔ (item_limit < length (item owner.now self.now)) }

@@ -24,7 +24,7 @@ fn push_number(out: &mut Vec<u8>, number: u32) -> Result<(), AllocError>
     out.extend_from_slice(&octets)
 }
 
-/// The item of a name that owns one record, in one piece of memory of its length; None where it would have over 4,096
+/// The item of a name that owns one record, in one piece of memory of its length; None where it would have over 65,535
 /// octets.
 pub fn single_item(
     alloc: Global,

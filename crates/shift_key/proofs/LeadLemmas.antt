@@ -2,12 +2,12 @@
 use Rattle.std.proofs.Common.{◌≡◌, ℕ, ◌+◌, ◌-◌, ◌≤◌, List, ◌++◌, length, take, drop, sym, ap, ◌∙◌, refl, arith, append_assoc, take-append-drop, length-take}
 use Rattle.std.proofs.Math.Seq.{take-append-add}
 use Rattle.zone_model.specs.Names.{Name, wire, IsName}
-use Rattle.zone_model.specs.Keys.{key_of, Leads}
+use Rattle.zone_model.specs.Keys.{key_of, Leads, most_item_octets}
 use Rattle.zone_model.proofs.KeyLaws.{key_once}
 use Rattle.dns_name.proofs.ScanLemmas.{begins_once}
 
 -- the item begins with the name's octets
-pub leads_by : (name : Name) (octets rest item : List ℕ) → IsName name → octets ≡ wire name → length item ≤ 4096 → item ≡ octets ++ rest → Leads (key_of name) item
+pub leads_by : (name : Name) (octets rest item : List ℕ) → IsName name → octets ≡ wire name → length item ≤ most_item_octets → item ≡ octets ++ rest → Leads (key_of name) item
 leads_by name octets rest item is e short front = record { short = short; name = name; is_name = is; key = refl; front = (rest, front ∙ ap (λ (l : List ℕ). l ++ rest) e) }
 
 pub led_by : (name : Name) (octets item : List ℕ) → IsName name → octets ≡ wire name → (l : Leads (key_of name) item) → item ≡ octets ++ l.front.0
@@ -34,7 +34,7 @@ leads_front key item l =
       );
     }
 
-pub front_leads : (key item : List ℕ) → length item ≤ 4096 → Leads key (take 256 item) → Leads key item
+pub front_leads : (key item : List ℕ) → length item ≤ most_item_octets → Leads key (take 256 item) → Leads key item
 front_leads key item short l =
     record {
       short = short;

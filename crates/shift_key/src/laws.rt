@@ -1,7 +1,7 @@
 //! Laws of keys, each as the contract of a function that does nothing.
 ghost use Rattle.std.specs.Prelude.{◌≡◌, ◌≤◌, ◌↔◌, ℕ, List, length, take};
 ghost use Rattle.zone_model.specs.Names.{Name as Labels, IsName, name_cmp};
-ghost use Rattle.zone_model.specs.Keys.{key_of, key_cmp, IsKey, Leads};
+ghost use Rattle.zone_model.specs.Keys.{key_of, key_cmp, IsKey, Leads, most_item_octets};
 ghost use Rattle.shift_key.specs.Shape.{KeyShape};
 
 /// Keys compare, position by position, as their names do in canonical order.
@@ -22,5 +22,5 @@ pub fn keys_have_a_shape()
 /// One key at most leads an item, and the item's first 256 octets tell which.
 pub fn items_tell_their_keys()
     ensures once { (a b item : List ℕ) → Leads a item → Leads b item → a ≡ b }
-    ensures front { (key item : List ℕ) → length item ≤ 4096 → Leads key item ↔ Leads key (take 256 item) }
+    ensures front { (key item : List ℕ) → length item ≤ most_item_octets → Leads key item ↔ Leads key (take 256 item) }
 {}

@@ -21,7 +21,7 @@ pub use names::{Parting, parting_of};
 use std::marker::Model;
 
 // The most octets of an item.
-const MOST_ITEM_OCTETS: usize = 4096;
+const MOST_ITEM_OCTETS: usize = 65535;
 
 /// The key of a name: at most 504 positions, each below 47, in place.
 ///
@@ -145,7 +145,7 @@ impl Key {
         }
     }
 
-    /// Whether the item has 1 to 4,096 bytes and begins with the wire form of the key's name.
+    /// Whether the item has 1 to 65,535 bytes and begins with the wire form of the key's name.
     pub fn leads(&self, item: &[u8]) -> bool
         ensures { IsTrue result ↔ Leads self.now item.now }
     {

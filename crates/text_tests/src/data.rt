@@ -4,7 +4,7 @@ ghost use Rattle.std.specs.List.{All};
 ghost use Rattle.zone_text.specs.Tokens.{IsPlaced};
 
 use dns_name::Name;
-use rr_data::{Entry, Rdata, RdataRefusal, push_type, read_type};
+use rr_data::{Entry, Rdata, RdataRefusal, item_buffer, push_type, read_type};
 use std::alloc::{AllocError, Global};
 use zone_text::{Token, line_tokens};
 
@@ -234,8 +234,10 @@ fn types_are_read_and_printed(rt: HostRuntime) {
 }
 
 // Whether the entry is written as this item.
-fn is_written(entry: &Entry, owner: &Name, item: &[u8]) -> bool {
-    let mut room = [0; 4096];
+fn is_written(alloc: Global, entry: &Entry, owner: &Name, item: &[u8]) -> bool {
+    let Ok(mut room) = item_buffer(alloc) else {
+        return false;
+    };
     if entry.is_empty() {
         return false;
     }
@@ -269,7 +271,7 @@ fn stays(alloc: Global, item: &[u8]) -> bool {
         Ok(entry) => {
             let mut entry = entry;
             keeps(alloc, &mut entry, rdata)
-                && is_written(&entry, &owner, item)
+                && is_written(alloc, &entry, &owner, item)
                 && entry.del_one(1, b"\xc0\0\x02\x01")
                 && !entry.del_set(1)
         }

@@ -1,8 +1,11 @@
 //! A master file with entries of every form, and the places of tokens. A proof computes with a text that it sees, so texts are passed
 //! to functions.
+ghost use Rattle.std.specs.Prelude.{◌≤◌, length};
+ghost use Rattle.zone_model.specs.Records.{item_limit};
+
 use dns_name::Name;
 use master_file::{ZoneItems, read_zone};
-use rr_data::Entry;
+use rr_data::{Entry, item_buffer};
 use std::alloc::Global;
 use zone_text::{line_tokens, tokens};
 
@@ -32,27 +35,33 @@ fn has_set(alloc: Global, item: &[u8], due: Due) -> bool {
 }
 
 // Whether the next item of a zone has such an RRset.
-fn comes_next(alloc: Global, items: &mut ZoneItems, due: Due) -> bool {
-    let mut octets = [0; 4096];
-    match items.next(&mut octets) {
+fn comes_next(alloc: Global, items: &mut ZoneItems, octets: &mut [u8], due: Due) -> bool
+    requires { item_limit ≤ length octets.old }
+{
+    match items.next(octets) {
         Some(len) => has_set(alloc, &octets[..len], due) && items.len() == due.left,
         None => false,
     }
 }
 
 // Whether the items of a zone have such RRsets, one each, and there is no other item.
-fn come(alloc: Global, items: &mut ZoneItems, dues: &[Due]) -> bool {
+fn come(alloc: Global, items: &mut ZoneItems, octets: &mut [u8], dues: &[Due]) -> bool
+    requires { item_limit ≤ length octets.old }
+{
     for due in dues {
-        if !comes_next(alloc, items, *due) {
+        if !comes_next(alloc, items, octets, *due) {
             return false;
         }
     }
-    items.is_empty() && items.next(&mut [0; 4096]).is_none()
+    items.is_empty() && items.next(octets).is_none()
 }
 
 // Whether a text says a zone of as many names as there are RRsets, each of which has one of these.
 fn says(alloc: Global, text: &[u8], origin: &[u8], dues: &[Due]) -> bool {
     let Ok(origin) = Name::read(origin, &Name::root()) else {
+        return false;
+    };
+    let Ok(mut octets) = item_buffer(alloc) else {
         return false;
     };
     if text.len() > 1000 {
@@ -62,7 +71,7 @@ fn says(alloc: Global, text: &[u8], origin: &[u8], dues: &[Due]) -> bool {
         Ok(zone) => {
             let right = zone.len() == dues.len() && zone.origin().labels() == origin.labels();
             let mut items = zone.into_items();
-            right && come(alloc, &mut items, dues)
+            right && come(alloc, &mut items, &mut octets, dues)
         }
         Err(_) => false,
     }

@@ -19,9 +19,9 @@ use shift_key::Key;
 
 /// A version of the trie: what it has under which number. All calls are of that one version, and change nothing.
 pub trait Reading {
-    ghost use Rattle.std.specs.Prelude.{◌≡◌, ◌++◌, ◌∷◌, [], ℕ, List, length, take, Some, None, IsSomeAnd};
+    ghost use Rattle.std.specs.Prelude.{◌≡◌, ◌≤◌, ◌++◌, ◌∷◌, [], ℕ, List, length, take, Some, None, IsSomeAnd};
     ghost use Rattle.zone_model.specs.Names.{IsName};
-    ghost use Rattle.zone_model.specs.Keys.{key_of};
+    ghost use Rattle.zone_model.specs.Keys.{key_of, most_item_octets};
     ghost use Rattle.trie_model.specs.Keys.{Entry};
     ghost use Rattle.trie_model.specs.Order.{IsPredecessor, chain, chain_labels};
     ghost use Rattle.trie_model.specs.Shape.{nodes as nodes_of_keys, keys_of};
@@ -50,8 +50,9 @@ pub trait Reading {
         ensures number { result ≡ number self.old };
 
     /// Reads the item of a key into the beginning of `out`, and gives its length; `None` where the key is not there.
-    fn fetch(&mut self, key: &Key, out: &mut [u8; 4096]) -> Option<usize>
-        requires { IsHeld (holds self.old) }
+    fn fetch(&mut self, key: &Key, out: &mut [u8]) -> Option<usize>
+        requires held { IsHeld (holds self.old) }
+        requires room { most_item_octets ≤ length out.old }
         ensures same { self.new ≡ self.old }
         ensures item { (version : List Entry) → holds self.old version → Fetched key.now version out.old out.new result };
 
@@ -157,8 +158,9 @@ pub trait Reading {
         ensures stays { (before after : List Entry) → stands self.old iter.old before after → stands self.old iter.new before after };
 
     /// Reads the item of a leaf into the beginning of `out`, and gives its length.
-    fn read(&mut self, leaf: Leaf, out: &mut [u8; 4096]) -> usize
-        requires { (e : Entry) × lies self.old leaf e }
+    fn read(&mut self, leaf: Leaf, out: &mut [u8]) -> usize
+        requires there { (e : Entry) × lies self.old leaf e }
+        requires room { most_item_octets ≤ length out.old }
         ensures same { self.new ≡ self.old }
         ensures item { (e : Entry) → lies self.old leaf e → (result ≡ length e.item) × (take result out.new ≡ e.item) };
 
@@ -223,7 +225,7 @@ impl<C: CellRead + Drop> Reading for CellReading<C> {
         self.number
     }
 
-    fn fetch(&mut self, key: &Key, out: &mut [u8; 4096]) -> Option<usize> {
+    fn fetch(&mut self, key: &Key, out: &mut [u8]) -> Option<usize> {
         match get(&mut self.cells, self.root, key) {
             None => None,
             Some(leaf) => Some(read_item(&mut self.cells, leaf, out)),
@@ -274,7 +276,7 @@ impl<C: CellRead + Drop> Reading for CellReading<C> {
         iter.behind(&mut self.cells)
     }
 
-    fn read(&mut self, leaf: Leaf, out: &mut [u8; 4096]) -> usize {
+    fn read(&mut self, leaf: Leaf, out: &mut [u8]) -> usize {
         read_item(&mut self.cells, leaf, out)
     }
 

@@ -4,7 +4,7 @@ use Rattle.zone_model.specs.Names.{Name, IsName, IsLabel, BeginsWith, wire}
 use Rattle.std.specs.List.{AllByRecursion}
 use Rattle.std.proofs.lemmas.Bool.{cases_lt}
 use Rattle.std.specs.Option.{IsSome, IsNone}
-use Rattle.zone_model.specs.Keys.{key_of, IsFirstDifference, Leads}
+use Rattle.zone_model.specs.Keys.{key_of, IsFirstDifference, Leads, most_item_octets}
 use Rattle.zone_model.specs.Splits.{split_name}
 use Rattle.zone_model.proofs.SplitLemmas.{name_back, name_sound}
 use Rattle.trie_model.specs.Keys.{at, Same, Entry, IsEntry, Less, InList, Rises}
@@ -21,7 +21,7 @@ use Rattle.trie_write.specs.Named.{is_split, begins_with_name, key_of_split, key
 
 -- what is known of an item's octets
 pub record IsStored (octets : List ℕ) : Type 0 where
-  pub short : length octets ≤ 4096
+  pub short : length octets ≤ most_item_octets
   pub named : begins_with_name octets ≡ true
   pub small : (i : ℕ) → slice_index octets i < 256
 
@@ -90,7 +90,7 @@ small_labels : (name : Name) → AllByRecursion IsLabel name → AreSmall (wire 
 small_labels [] h = small-cons 0 [] (omega arith) (λ i. omega arith)
 small_labels (label ∷ labels) h = small-cons (length label) (label ++ wire labels) (let s = h.0.short in omega arith) (small-append label (wire labels) (small_all label h.0.octets) (small_labels labels h.1))
 
-pub stored_of : (name : Name) (payload octets : List ℕ) → IsName name → AreSmall payload → octets ≡ wire name ++ payload → length octets ≤ 4096 → IsStored octets
+pub stored_of : (name : Name) (payload octets : List ℕ) → IsName name → AreSmall payload → octets ≡ wire name ++ payload → length octets ≤ most_item_octets → IsStored octets
 stored_of name payload octets is small e short = record {
   short = short;
   named = ap begins_with_name e ∙ begins_with_name-wire name payload is;

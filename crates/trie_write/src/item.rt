@@ -1,6 +1,7 @@
 //! Items: what a trie holds for a name.
 
 ghost use Rattle.std.specs.Prelude.{◌≡◌, ◌<◌, ◌≤◌, ◌^◌, ℕ, List, length, slice_index, true};
+ghost use Rattle.zone_model.specs.Keys.{most_item_octets};
 ghost use Rattle.trie_write.specs.Named.{begins_with_name};
 
 use dns_name::Name;
@@ -8,11 +9,11 @@ use packed_node::ITEM_LIMIT;
 use shift_key::Key;
 use std::alloc::{AllocError, Global};
 
-/// The octets of a name and what belongs to it: 1 to 4,096 octets that begin with the name's wire form.
+/// The octets of a name and what belongs to it: 1 to 65,535 octets that begin with the name's wire form.
 #[derive(Drop)]
 pub struct Item {
     octets: Vec<u8>,
-    ghost short: { length octets.items ≤ 4096 },
+    ghost short: { length octets.items ≤ most_item_octets },
     ghost named: { begins_with_name octets.items ≡ true },
     ghost small: { (i : ℕ) → slice_index octets.items i < 2 ^ 8 },
 }
@@ -20,7 +21,7 @@ pub struct Item {
 /// Why there is no such item.
 #[derive(Clone, Copy, PartialEq, Eq, Debug)]
 pub enum ItemRefusal {
-    /// It would have so many octets, over 4,096.
+    /// It would have so many octets, over 65,535.
     Long { bytes: u64 },
     /// Want of memory.
     Memory,
@@ -46,7 +47,7 @@ impl Item {
     /// The item of a name: its wire form, and behind it the payload.
     pub fn of(alloc: Global, name: &Name, payload: &[u8]) -> Result<Item, ItemRefusal>
         ensures item { IfOk result (λ item. entry_of item ≡ record { key = key_of name.now; item = wire name.now ++ payload.now }) }
-        ensures long { (bytes : ℕ) → (result ≡ Err (ItemRefusal.Long bytes)) ↔ ((bytes ≡ length (wire name.now ++ payload.now)) × (4096 < bytes)) }
+        ensures long { (bytes : ℕ) → (result ≡ Err (ItemRefusal.Long bytes)) ↔ ((bytes ≡ length (wire name.now ++ payload.now)) × (most_item_octets < bytes)) }
     {
         let owner = name.wire();
         let bytes = owner.len() + payload.len();

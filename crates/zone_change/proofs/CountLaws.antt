@@ -10,7 +10,7 @@ use Rattle.std.specs.declared.cmp.Ordering.{Ordering}
 use Rattle.std.specs.declared.cmp.Ordering.TheVariants.{Less, Equal, Greater}
 use Rattle.std.specs.Ordering.{nat_cmp, match_ordering}
 use Rattle.zone_model.specs.Names.{Name, wire}
-use Rattle.zone_model.specs.Records.{Rrset, Entry, rrset_of, changed_at, with_record, without_record, has_record, with_rr, without_rr, without_set, fresh, joined, lessened, record_bytes, rrset_bytes, item, IsRrset, IsEntry, RisingSets}
+use Rattle.zone_model.specs.Records.{Rrset, Entry, rrset_of, changed_at, with_record, without_record, has_record, with_rr, without_rr, without_set, fresh, joined, lessened, record_bytes, rrset_bytes, item, IsRrset, IsEntry, RisingSets, item_limit}
 use Rattle.zone_model.proofs.EntryLaws.{entry_with, entry_without_set}
 use Rattle.zone_model.proofs.ItemLemmas.{few_in_item}
 use Rattle.zone_model.specs.Versions.{Addition, Add, with_added, with_soa, holds, is_lone, loses_soa, keeping_soa, fitting, is_low_soa, changed}
@@ -315,8 +315,8 @@ module _ (origin : Name) (a : Addition) (entry : Entry) where
     lone_counted : is_lone (with_added a entry) ≡ lone_by c
     lone_counted = lone_is (with_added a entry) h ∙ ap lone_by (sym is)
 
-    by_lone : (b : Bool) → lone_by c ≡ b → fitting a.owner (with_added a entry) ≡ cond (not b) (Err Cname) (cond (ltb 4096 (length (item a.owner (with_added a entry)))) (Err Long) (Ok (with_added a entry)))
-    by_lone b e = ap (λ (l : Bool). cond (not l) (Err Cname) (cond (ltb 4096 (length (item a.owner (with_added a entry)))) (Err Long) (Ok (with_added a entry)))) (lone_counted ∙ e)
+    by_lone : (b : Bool) → lone_by c ≡ b → fitting a.owner (with_added a entry) ≡ cond (not b) (Err Cname) (cond (ltb item_limit (length (item a.owner (with_added a entry)))) (Err Long) (Ok (with_added a entry)))
+    by_lone b e = ap (λ (l : Bool). cond (not l) (Err Cname) (cond (ltb item_limit (length (item a.owner (with_added a entry)))) (Err Long) (Ok (with_added a entry)))) (lone_counted ∙ e)
 
     pub alias_refused : lone_by c ≡ false → changed origin (Add a) entry ≡ Err Cname
     alias_refused e = by_fitting ∙ by_lone false e
@@ -324,16 +324,16 @@ module _ (origin : Name) (a : Addition) (entry : Entry) where
     long_is : c.octets ≡ length (item a.owner (with_added a entry))
     long_is = ap (λ (x : Count). x.octets) is
 
-    pub long_refused : lone_by c ≡ true → 4096 < c.octets → changed origin (Add a) entry ≡ Err Long
+    pub long_refused : lone_by c ≡ true → item_limit < c.octets → changed origin (Add a) entry ≡ Err Long
     long_refused e lt =
         let o = long_is in
-        let test : ltb 4096 (length (item a.owner (with_added a entry))) ≡ true = grind (arith, nat_tests) in
+        let test : ltb item_limit (length (item a.owner (with_added a entry))) ≡ true = grind (arith, nat_tests) in
         by_fitting ∙ by_lone true e ∙ ap (λ (b : Bool). cond b (Err Long) (Ok (with_added a entry))) test
 
-    pub added_fits : lone_by c ≡ true → c.octets ≤ 4096 → changed origin (Add a) entry ≡ Ok (with_added a entry)
+    pub added_fits : lone_by c ≡ true → c.octets ≤ item_limit → changed origin (Add a) entry ≡ Ok (with_added a entry)
     added_fits e le =
         let o = long_is in
-        let test : ltb 4096 (length (item a.owner (with_added a entry))) ≡ false = grind (arith, nat_tests) in
+        let test : ltb item_limit (length (item a.owner (with_added a entry))) ≡ false = grind (arith, nat_tests) in
         by_fitting ∙ by_lone true e ∙ ap (λ (b : Bool). cond b (Err Long) (Ok (with_added a entry))) test
 
 -- ---- what takes an SOA away
@@ -429,8 +429,8 @@ pub says_entry : (owner : Name) (octets : List ℕ) (entry : Entry) → SaysEntr
 says_entry owner [] entry h = subst IsEntry (sym h) tt
 says_entry owner (b ∷ octets) entry h = h.proper
 
-pub says_many : (owner : Name) (octets : List ℕ) (entry : Entry) → SaysEntry owner octets entry → length entry ≤ 4096
-says_many owner [] entry h = subst (λ (l : Entry). length l ≤ 4096) (sym h) (omega arith)
+pub says_many : (owner : Name) (octets : List ℕ) (entry : Entry) → SaysEntry owner octets entry → length entry ≤ item_limit
+says_many owner [] entry h = subst (λ (l : Entry). length l ≤ item_limit) (sym h) (omega arith)
 says_many owner (b ∷ octets) entry h =
     let few = few_in_item owner entry in
     let short = h.short in
@@ -451,7 +451,7 @@ if_same t n m k e = ap (λ (x : ℕ). cond (eqb t 5) x k) e
 pub eqb_of : (a b : ℕ) → a ≡ b → eqb a b ≡ true
 eqb_of a b e = grind (arith, nat_tests)
 
-pub says_short : (owner : Name) (octets : List ℕ) (entry : Entry) → SaysEntry owner octets entry → length octets ≤ 4096
+pub says_short : (owner : Name) (octets : List ℕ) (entry : Entry) → SaysEntry owner octets entry → length octets ≤ item_limit
 says_short owner [] entry h = omega arith
 says_short owner (b ∷ octets) entry h = h.short
 

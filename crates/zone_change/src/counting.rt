@@ -1,6 +1,6 @@
 //! What is counted of an entry, and of what an addition makes of it. No memory is taken.
 ghost use Rattle.std.specs.Prelude.{◌≡◌, ◌≢◌, ◌≤◌, ◌+◌, ◌==◌, false, length, flat_map, if◌then◌else◌};
-ghost use Rattle.zone_model.specs.Records.{Entry, IsEntry, rrset_bytes, has_record};
+ghost use Rattle.zone_model.specs.Records.{Entry, IsEntry, rrset_bytes, has_record, item_limit};
 ghost use Rattle.zone_model.specs.Versions.{holds, with_added};
 ghost use Rattle.rr_data.specs.ItemViews.{SaysEntry};
 ghost use Rattle.zone_change.specs.Views.{addition_view};
@@ -44,7 +44,7 @@ fn holds(entry: &ItemView<'_>, rtype: u16, octets: &[u8]) -> bool
 
 // The octets of an RRset in an item.
 fn set_octets(set: &SetView<'_>) -> usize
-    requires { length (rrset_bytes set.now) ≤ 4096 }
+    requires { length (rrset_bytes set.now) ≤ item_limit }
     ensures { result ≡ length (rrset_bytes set.now) }
 {
     let mut octets = 8;
@@ -57,7 +57,7 @@ fn set_octets(set: &SetView<'_>) -> usize
 
 // How many RRsets are left.
 fn sets_left(entry: ItemView<'_>) -> usize
-    requires { length entry ≤ 4096 }
+    requires { length entry ≤ item_limit }
     ensures { result ≡ length entry.entry }
 {
     let mut rest = entry;
@@ -80,7 +80,7 @@ impl Count {
     pub fn of(owner: &Name, octets: &[u8]) -> Count
         requires { (entry : Entry) × SaysEntry owner.now octets.now entry }
         ensures counts { (entry : Entry) → SaysEntry owner.now octets.now entry → result ≡ count_of owner.now entry }
-        ensures few { (result.sets ≤ 4096) × (result.octets ≤ 4096) }
+        ensures few { (result.sets ≤ item_limit) × (result.octets ≤ item_limit) }
     {
         let entry = ItemView::of(owner, octets);
         let aliases = match entry.find_set(CNAME) {
@@ -113,7 +113,7 @@ impl Count {
     fn with_soa(self, entry: &ItemView<'_>, added: &NewRecord) -> Count
         requires entry { IsEntry entry.now }
         requires counted { self ≡ count_of added.now.owner entry.now }
-        requires short { (self.sets ≤ 4096) × (self.octets ≤ 4096) }
+        requires short { (self.sets ≤ item_limit) × (self.octets ≤ item_limit) }
         requires soa { added.now.rtype ≡ 6 }
         requires other { holds 6 added.now.rdata entry.now ≡ false }
         ensures { result ≡ count_of added.now.owner (with_added (addition_view added.now) entry.now) }
@@ -137,7 +137,7 @@ impl Count {
     fn with_record(self, entry: &ItemView<'_>, added: &NewRecord) -> Count
         requires entry { IsEntry entry.now }
         requires counted { self ≡ count_of added.now.owner entry.now }
-        requires short { (self.sets ≤ 4096) × (self.octets ≤ 4096) }
+        requires short { (self.sets ≤ item_limit) × (self.octets ≤ item_limit) }
         requires other { added.now.rtype ≢ 6 }
         ensures { result ≡ count_of added.now.owner (with_added (addition_view added.now) entry.now) }
     {
@@ -163,7 +163,7 @@ impl Count {
     pub fn with(self, entry: &ItemView<'_>, added: &NewRecord) -> Count
         requires entry { IsEntry entry.now }
         requires counted { self ≡ count_of added.now.owner entry.now }
-        requires short { (self.sets ≤ 4096) × (self.octets ≤ 4096) }
+        requires short { (self.sets ≤ item_limit) × (self.octets ≤ item_limit) }
         ensures { result ≡ count_of added.now.owner (with_added (addition_view added.now) entry.now) }
     {
         if added.rtype != SOA {

@@ -1,5 +1,5 @@
 -- The names that an iterator comes to.
-use Rattle.std.proofs.Common.{◌≡◌, ◌∙◌, ℕ, ◌+◌, List, [], ◌∷◌, ◌++◌, length, take, map, refl, sym, ap, subst, arith, Option, Some, None, length-append}
+use Rattle.std.proofs.Common.{◌≡◌, ◌∙◌, ℕ, ◌+◌, List, [], ◌∷◌, ◌++◌, length, take, map, refl, sym, ap, subst, arith, Option, Some, None, length-append, length-take}
 use Rattle.outer_io.specs.Bytes.{Held, GrowsByFront}
 use Rattle.zone_model.specs.Names.{Name}
 use Rattle.zone_model.specs.Records as records
@@ -32,7 +32,7 @@ gives_first old new lies leaf octets len (pair ∷ left) f next passed end read 
       pair = pair;
       others = left;
       left_is = refl;
-      within = omega (arith, is.0, f.items.0.short);
+      within = omega (arith, is.0, ap (λ (b : List ℕ). length b) is.1, length-take len octets);
       item_is = is.1;
       storable = f.items.0;
       faces = record { before = f.before ++ trie_entry pair ∷ []; standing = passed f.before (map trie_entry left) (trie_entry pair) f.standing; items = f.items.1 };

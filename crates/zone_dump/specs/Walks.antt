@@ -26,7 +26,7 @@ pub record GivesFirst (stands : List trie.Entry → List trie.Entry → Type 0) 
   pub pair : Name × Entry
   pub others : Version
   pub left_is : left ≡ pair ∷ others
-  pub within : len ≤ 4096
+  pub within : len ≤ length octets
   pub item_is : take len octets ≡ item pair.0 pair.1
   pub storable : IsStorable pair
   pub faces : Faces stands others

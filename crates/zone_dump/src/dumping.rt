@@ -4,6 +4,7 @@ ghost use Rattle.std.specs.List.{flat_map};
 ghost use Rattle.std.specs.Io.{StartsWith};
 ghost use Rattle.outer_io.specs.Bytes.{Grows, GrowsByFront};
 ghost use Rattle.outer_io.specs.Faults.{Rose};
+ghost use Rattle.zone_model.specs.Keys.{most_item_octets};
 ghost use Rattle.zone_model.specs.Versions.{Version};
 ghost use Rattle.zone_model.specs.Rows.{row_text};
 ghost use Rattle.zone_model.specs.Dumps.{all_rows, record_count, version_lines, soa_ttl, dump};
@@ -17,7 +18,7 @@ use crate::refusal::DumpRefusal;
 use crate::text_sink::TextSink;
 use dns_name::Name;
 use outer_io::Sink;
-use rr_data::{Directives, ItemView, SOA};
+use rr_data::{Directives, ItemView, SOA, item_buffer};
 use shift_key::Key;
 use std::alloc::{AllocError, Global};
 use std::mem::replace;
@@ -26,8 +27,9 @@ use zone_model::Style;
 use zone_query::read_owned;
 
 /// Reads the item of the next name into the beginning of a buffer, and gives its length; None at the end.
-fn next_item<V: Reading>(version: &mut V, iter: &mut Iter, item: &mut [u8; 4096]) -> Option<usize>
-    requires { FacesSome (V.stands version.old iter.old) }
+fn next_item<V: Reading>(version: &mut V, iter: &mut Iter, item: &mut [u8]) -> Option<usize>
+    requires faces { FacesSome (V.stands version.old iter.old) }
+    requires room { most_item_octets ≤ length item.old }
     ensures same { version.new ≡ version.old }
     ensures next { (left : Version) → Faces (V.stands version.old iter.old) left → GivesNext (V.stands version.old iter.new) left item.new result }
 {
@@ -40,11 +42,12 @@ fn next_item<V: Reading>(version: &mut V, iter: &mut Iter, item: &mut [u8; 4096]
 /// Adds the lines of all records. More names than 64 bits count are taken for want of memory.
 fn push_all<V: Reading, K: Sink>(
     version: &mut V,
-    item: &mut [u8; 4096],
+    item: &mut [u8],
     lines: &mut Lines,
     sink: &mut K,
 ) -> Result<(), DumpRefusal>
-    requires { ShowsSome (V.holds version.old) }
+    requires shown { ShowsSome (V.holds version.old) }
+    requires room { most_item_octets ≤ length item.old }
     ensures same { version.new ≡ version.old }
     ensures count { (zone : Version) → Shows (V.holds version.old) zone → OnOk result (lines.new.count ≡ lines.old.count + record_count zone) }
     ensures ok { (zone : Version) → Shows (V.holds version.old) zone → OnOk result
@@ -70,10 +73,11 @@ fn dump_lines<V: Reading, K: Sink>(
     alloc: Global,
     version: &mut V,
     directives: Option<Directives>,
-    item: &mut [u8; 4096],
+    item: &mut [u8],
     sink: &mut K,
 ) -> Result<u64, DumpRefusal>
-    requires { ShowsSome (V.holds version.old) }
+    requires shown { ShowsSome (V.holds version.old) }
+    requires room { most_item_octets ≤ length item.old }
     ensures same { version.new ≡ version.old }
     ensures count { (zone : Version) → Shows (V.holds version.old) zone → IfOk result (λ n. n ≡ record_count zone) }
     ensures ok { (zone : Version) → Shows (V.holds version.old) zone → OnOk result (Grows (K.held sink.old) (K.held sink.new) (file_text directives zone)) }
@@ -89,8 +93,9 @@ fn dump_lines<V: Reading, K: Sink>(
 }
 
 /// The time to live of the SOA at the origin; 0 where there is none.
-fn soa_ttl<V: Reading>(version: &mut V, origin: &Name, item: &mut [u8; 4096]) -> u32
-    requires { ShowsSome (V.holds version.old) }
+fn soa_ttl<V: Reading>(version: &mut V, origin: &Name, item: &mut [u8]) -> u32
+    requires shown { ShowsSome (V.holds version.old) }
+    requires room { most_item_octets ≤ length item.old }
     ensures same { version.new ≡ version.old }
     ensures ttl { (zone : Version) → Shows (V.holds version.old) zone → result ≡ soa_ttl origin.now zone }
 {
@@ -107,9 +112,10 @@ fn directives_for<V: Reading>(
     version: &mut V,
     origin: &Name,
     style: Style,
-    item: &mut [u8; 4096],
+    item: &mut [u8],
 ) -> Option<Directives>
-    requires { ShowsSome (V.holds version.old) }
+    requires shown { ShowsSome (V.holds version.old) }
+    requires room { most_item_octets ≤ length item.old }
     ensures same { version.new ≡ version.old }
     ensures directives { (zone : Version) → Shows (V.holds version.old) zone → result ≡ directives_in style origin.now zone }
 {
@@ -140,7 +146,7 @@ pub fn dump_to<V: Reading, K: Sink>(
     ensures later { K.faults sink.old ≤ K.faults sink.new }
     ensures quiet { (IsErrOf result DumpRefusal.Fault → ⊥) → K.faults sink.new ≡ K.faults sink.old }
 {
-    let mut item = [0; 4096];
+    let mut item = item_buffer(alloc)?;
     let directives = directives_for(version, origin, style, &mut item);
     dump_lines(alloc, version, directives, &mut item, sink)
 }
@@ -150,10 +156,11 @@ pub fn dump_to<V: Reading, K: Sink>(
 pub fn dump_text<V: Reading>(
     alloc: Global,
     version: &mut V,
-    item: &mut [u8; 4096],
+    item: &mut [u8],
     out: &mut Vec<u8>,
 ) -> Result<u64, AllocError>
-    requires { ShowsSome (V.holds version.old) }
+    requires shown { ShowsSome (V.holds version.old) }
+    requires room { most_item_octets ≤ length item.old }
     ensures same { version.new ≡ version.old }
     ensures count { (zone : Version) → Shows (V.holds version.old) zone → IfOk result (λ n. n ≡ record_count zone) }
     ensures ok { (zone : Version) → Shows (V.holds version.old) zone

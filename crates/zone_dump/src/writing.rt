@@ -7,9 +7,9 @@ ghost use Rattle.zone_dump.specs.Writing.{Passes};
 use outer_io::{Failed, Sink, write_all};
 
 /// How many octets are reserved for what is gathered.
-pub const RESERVED: usize = 65_536;
+pub const RESERVED: usize = 327_680;
 
-// What is gathered is written once it has more octets. One line more is still within what is reserved: an item has 4,096
+// What is gathered is written once it has more octets. One line more is still within what is reserved: an item has 65,535
 // octets at most, each printed in four at most.
 const LONG: usize = 40_960;
 

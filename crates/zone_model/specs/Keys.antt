@@ -77,7 +77,7 @@ pub record IsFirstDifference (a b : List ℕ) (at : ℕ) : Type 0 where
 
 -- the most octets of an item
 abbrev pub most_item_octets : ℕ
-most_item_octets = 4096
+most_item_octets = 65535
 
 -- an item begins with the wire form of the name that has this key
 pub record Leads (positions item : List ℕ) : Type 0 where

@@ -96,7 +96,7 @@ item owner entry = wire owner ++ to_be_bytes w16 (length entry) ++ flat_map rrse
 
 -- the most octets of an item
 abbrev pub item_limit : ℕ
-item_limit = 4096
+item_limit = 65535
 
 -- ---- what an entry is
 

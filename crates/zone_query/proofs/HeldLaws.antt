@@ -1,5 +1,5 @@
 -- What was read of a name is what it owns.
-use Rattle.std.proofs.Common.{◌≡◌, ◌∙◌, ℕ, zero, suc, ◌-◌, Bool, true, false, cond, eqb, ◌||◌, List, [], ◌∷◌, ◌++◌, length, take, drop, map, inl, inr, Option, Some, None, IfSome, refl, sym, ap, subst, arith, length-append}
+use Rattle.std.proofs.Common.{◌≡◌, ◌∙◌, ℕ, zero, suc, ◌-◌, Bool, true, false, cond, eqb, ◌||◌, List, [], ◌∷◌, ◌++◌, length, take, drop, map, inl, inr, Option, Some, None, IfSome, refl, sym, ap, subst, arith, length-append, length-take}
 use Rattle.std.proofs.lemmas.List.{drop_at}
 use borrow.Author.Tests.{eqb-true}
 use Rattle.std.specs.List.{find, list_any}
@@ -31,9 +31,9 @@ use Rattle.zone_query.proofs.OwnedLaws.{kept, item_under, nothing_owned}
 pub read_of : (name : Name) (version : Version) (e : trie.Entry) (octets : List ℕ) (len : ℕ) → IsName name → IsVersion version → trie.InList e (map trie_entry version) → e.key ≡ key_of name → len ≡ length e.item → take len octets ≡ e.item → IsRead name version octets len
 read_of name version e octets len is v i key l t =
     let item = item_under name version e is v i key in
-    let short = item.short in
+    let size : length (take len octets) ≡ len = ap (λ (b : List ℕ). length b) t ∙ sym l in
     record {
-      within = omega arith;
+      within = omega (arith, size, length-take len octets);
       says = item_says name (take len octets) (owned name version) (subst (λ (b : List ℕ). IsItem b name (owned name version)) (sym t) item);
       there = λ some. there_exists name version is v.items (e, i, key);
     }

@@ -25,13 +25,13 @@ rows_in rows = map row_view rows
 
 -- the octets in front are those of what a name owns; there are some only where it is there
 pub record IsRead (name : Name) (version : Version) (octets : List ℕ) (len : ℕ) : Type 0 where
-  pub within : len ≤ 4096
+  pub within : len ≤ length octets
   pub says : SaysEntry name (take len octets) (owned name version)
   pub there : 0 < len → exists name version ≡ true
 
 -- the octets in front are those of an entry
 pub record IsHeld (octets : List ℕ) (held : Held) (entry : Entry) : Type 0 where
-  pub within : held.len ≤ 4096
+  pub within : held.len ≤ length octets
   pub says : SaysEntry held.name (take held.len octets) entry
 
 -- what answers for a name was read, if anything does

@@ -3,6 +3,7 @@
 ghost use Rattle.std.specs.Prelude.{◌≡◌, ◌≤◌, ◌==◌, length, true};
 ghost use Rattle.std.specs.List.{find};
 ghost use Rattle.std.specs.Option.{option_map};
+ghost use Rattle.zone_model.specs.Keys.{most_item_octets};
 ghost use Rattle.zone_model.specs.Names.{is_under, ancestor};
 ghost use Rattle.zone_model.specs.Versions.{Version, owned};
 ghost use Rattle.trie_read.specs.declared.ancestors.Ancestor.{Ancestor};
@@ -45,10 +46,11 @@ fn delegated<V: Reading>(
     name: &Name,
     labels: u8,
     above: &[Ancestor],
-    item: &mut [u8; 4096],
+    item: &mut [u8],
 ) -> Option<Held>
     requires shown { (zone : Version) × ShowsAbove (V.holds version.old) (V.lies version.old) name.now above.now zone }
     requires few { labels ≤ length name.now }
+    requires room { most_item_octets ≤ length item.old }
     ensures same { version.new ≡ version.old }
     ensures cut { (zone : Version) → ShowsAbove (V.holds version.old) (V.lies version.old) name.now above.now zone
         → IsCutOf zone item.new (delegated zone (ancestor labels name.now)) result }
@@ -72,10 +74,11 @@ pub fn cut_over<V: Reading>(
     origin: &Name,
     name: &Name,
     above: &[Ancestor],
-    item: &mut [u8; 4096],
+    item: &mut [u8],
 ) -> Option<Held>
     requires shown { (zone : Version) × ShowsAbove (V.holds version.old) (V.lies version.old) name.now above.now zone }
     requires under { is_under name.now origin.now ≡ true }
+    requires room { most_item_octets ≤ length item.old }
     ensures same { version.new ≡ version.old }
     ensures cut { (zone : Version) → ShowsAbove (V.holds version.old) (V.lies version.old) name.now above.now zone
         → IsCutOver origin.now name.now zone item.new result }

@@ -1,6 +1,7 @@
 //! What answers for a name.
 
-ghost use Rattle.std.specs.Prelude.{◌≡◌, [], Some, false};
+ghost use Rattle.std.specs.Prelude.{◌≡◌, ◌≤◌, [], Some, false, length};
+ghost use Rattle.zone_model.specs.Keys.{most_item_octets};
 ghost use Rattle.zone_model.specs.Versions.{Version, exists, owned};
 ghost use Rattle.zone_query.specs.Answers.{encloser, node, wildcard_under};
 ghost use Rattle.zone_query.specs.Neighbours.{AreNeighbours};
@@ -31,9 +32,10 @@ fn wildcard_under<V: Reading>(
     version: &mut V,
     walker: &mut Walker,
     name: &Name,
-    item: &mut [u8; 4096],
+    item: &mut [u8],
 ) -> Option<Held>
-    requires { (zone : Version) × StandsOn (V.holds version.old) (V.stands version.old walker.old.iter) zone }
+    requires stands { (zone : Version) × StandsOn (V.holds version.old) (V.stands version.old walker.old.iter) zone }
+    requires room { most_item_octets ≤ length item.old }
     ensures same { version.new ≡ version.old }
     ensures node { (zone : Version) → StandsOn (V.holds version.old) (V.stands version.old walker.old.iter) zone
         → IsNodeOf item.new (wildcard_under zone (Some name.now)) result }
@@ -56,9 +58,10 @@ pub fn absent_node<V: Reading>(
     version: &mut V,
     walker: &mut Walker,
     name: &Name,
-    item: &mut [u8; 4096],
+    item: &mut [u8],
 ) -> Option<Held>
-    requires { (zone : Version) × IsPlaced (V.holds version.old) (V.stands version.old walker.old.iter) name.now zone }
+    requires placed { (zone : Version) × IsPlaced (V.holds version.old) (V.stands version.old walker.old.iter) name.now zone }
+    requires room { most_item_octets ≤ length item.old }
     ensures same { version.new ≡ version.old }
     ensures node { (zone : Version) → IsPlaced (V.holds version.old) (V.stands version.old walker.old.iter) name.now zone → [] ≡ owned name.now zone
         → IsNodeOf item.new (node zone name.now) result }

@@ -1,6 +1,7 @@
 //! Questions and their answers.
 
-ghost use Rattle.std.specs.Prelude.{◌≡◌, [], IfOk};
+ghost use Rattle.std.specs.Prelude.{◌≡◌, ◌≤◌, [], length, IfOk};
+ghost use Rattle.zone_model.specs.Keys.{most_item_octets};
 ghost use Rattle.zone_model.specs.Versions.{Version};
 ghost use Rattle.zone_query.specs.Answers.{answer};
 ghost use Rattle.zone_query.specs.Parts.{IsGiven};
@@ -13,6 +14,7 @@ use crate::sink::RowSink;
 use crate::step::{Next, step};
 use crate::walker::Walker;
 use dns_name::Name;
+use rr_data::item_buffer;
 use std::alloc::{AllocError, Global};
 use trie_read::Reading;
 
@@ -31,7 +33,7 @@ pub fn answer<V: Reading>(
     ensures same { version.new ≡ version.old }
     ensures answer { (zone : Version) → Shows (V.holds version.old) zone → IfOk result (λ a. a ≡ answer origin.now zone name.now rtype) }
 {
-    let mut item = [0; 4096];
+    let mut item = item_buffer(alloc)?;
     let mut walker = Walker::new();
     let mut rows = Rows::new(alloc);
     let kind = answer_into(
@@ -55,12 +57,13 @@ pub fn answer_into<V: Reading, S: RowSink>(
     origin: &Name,
     name: &Name,
     rtype: u16,
-    item: &mut [u8; 4096],
+    item: &mut [u8],
     walker: &mut Walker,
     rows: &mut S,
 ) -> Result<Kind, AllocError>
     requires shown { ShowsSome (V.holds version.old) }
     requires none { S.has rows.old [] }
+    requires room { most_item_octets ≤ length item.old }
     ensures same { version.new ≡ version.old }
     ensures answer { (zone : Version) → Shows (V.holds version.old) zone
         → IfOk result (IsGiven (S.has rows.new) (answer origin.now zone name.now rtype)) }

@@ -1,7 +1,7 @@
 //! What a name owns.
 
-ghost use Rattle.std.specs.Prelude.{◌≡◌, ◌≤◌, IfOk, List, ℕ};
-ghost use Rattle.zone_model.specs.Keys.{key_of};
+ghost use Rattle.std.specs.Prelude.{◌≡◌, ◌≤◌, IfOk, List, ℕ, length};
+ghost use Rattle.zone_model.specs.Keys.{key_of, most_item_octets};
 ghost use Rattle.zone_model.specs.Records.{Entry as Records};
 ghost use Rattle.zone_model.specs.Versions.{Version};
 ghost use Rattle.rr_data.specs.ItemViews.{SaysEntry};
@@ -24,7 +24,7 @@ pub struct Held {
 
 impl Held {
     /// What it owns.
-    pub fn view<'a>(&self, item: &'a [u8; 4096]) -> ItemView<'a>
+    pub fn view<'a>(&self, item: &'a [u8]) -> ItemView<'a>
         requires { (entry : Records) × IsHeld item.now self.now entry }
         ensures { (entry : Records) → IsHeld item.now self.now entry → result ≡ entry }
     {
@@ -55,12 +55,13 @@ pub fn read_owned<V: Reading>(
     version: &mut V,
     name: &Name,
     key: &Key,
-    item: &mut [u8; 4096],
+    item: &mut [u8],
 ) -> usize
     requires shown { ShowsSome (V.holds version.old) }
     requires key { key.now ≡ key_of name.now }
+    requires room { most_item_octets ≤ length item.old }
     ensures same { version.new ≡ version.old }
-    ensures within { result ≤ 4096 }
+    ensures within { result ≤ length item.new }
     ensures read { (zone : Version) → Shows (V.holds version.old) zone → IsRead name.now zone item.new result }
 {
     let _wire = name.wire(); // for the proof

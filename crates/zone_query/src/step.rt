@@ -1,8 +1,8 @@
 //! What one name gives to an answer.
 
-ghost use Rattle.std.specs.Prelude.{◌≡◌, ◌∷◌, [], Option, Some, None, MatchOption, true};
+ghost use Rattle.std.specs.Prelude.{◌≡◌, ◌≤◌, ◌∷◌, [], length, Option, Some, None, MatchOption, true};
 ghost use Rattle.std.specs.Option.{option_map};
-ghost use Rattle.zone_model.specs.Keys.{key_of};
+ghost use Rattle.zone_model.specs.Keys.{key_of, most_item_octets};
 ghost use Rattle.zone_model.specs.Names.{Name as Labels, is_under};
 ghost use Rattle.zone_model.specs.Records.{rrset_of};
 ghost use Rattle.zone_model.specs.Splits.{split_name};
@@ -129,10 +129,11 @@ fn give_absent<V: Reading, S: RowSink>(
     walker: &mut Walker,
     name: &Name,
     rtype: u16,
-    item: &mut [u8; 4096],
+    item: &mut [u8],
     rows: &mut S,
 ) -> Result<Next, AllocError>
-    requires { (zone : Version) × IsPlaced (V.holds version.old) (V.stands version.old walker.old.iter) name.now zone × ([] ≡ owned name.now zone) }
+    requires placed { (zone : Version) × IsPlaced (V.holds version.old) (V.stands version.old walker.old.iter) name.now zone × ([] ≡ owned name.now zone) }
+    requires room { most_item_octets ≤ length item.old }
     ensures same { version.new ≡ version.old }
     ensures gives { (zone : Version) (origin : Labels) → IsPlaced (V.holds version.old) (V.stands version.old walker.old.iter) name.now zone → NoneOver origin name.now zone
         → [] ≡ owned name.now zone → Gives (step origin zone rtype name.now) (S.has rows.old) (S.has rows.new) walker.new.target result }
@@ -159,12 +160,13 @@ fn search<V: Reading, S: RowSink>(
     key: &Key,
     rtype: u16,
     walker: &mut Walker,
-    item: &mut [u8; 4096],
+    item: &mut [u8],
     rows: &mut S,
 ) -> Result<Next, AllocError>
     requires shown { ShowsSome (V.holds version.old) }
     requires under { is_under name.now origin.now ≡ true }
     requires key { key.now ≡ key_of name.now }
+    requires room { most_item_octets ≤ length item.old }
     ensures same { version.new ≡ version.old }
     ensures gives { (zone : Version) → Shows (V.holds version.old) zone
         → Gives (step origin.now zone rtype name.now) (S.has rows.old) (S.has rows.new) walker.new.target result }
@@ -193,13 +195,14 @@ pub fn give_there<V: Reading, S: RowSink>(
     name: &Name,
     key: &Key,
     rtype: u16,
-    item: &mut [u8; 4096],
+    item: &mut [u8],
     target: &mut Option<Name>,
     rows: &mut S,
 ) -> Result<Option<Next>, AllocError>
     requires shown { ShowsSome (V.holds version.old) }
     requires under { is_under name.now origin.now ≡ true }
     requires key { key.now ≡ key_of name.now }
+    requires room { most_item_octets ≤ length item.old }
     ensures same { version.new ≡ version.old }
     ensures gives { (zone : Version) → Shows (V.holds version.old) zone
         → GivesAtOnce (step origin.now zone rtype name.now) (S.has rows.old) (S.has rows.new) target.new result }
@@ -224,11 +227,12 @@ pub fn step<V: Reading, S: RowSink>(
     name: &Name,
     rtype: u16,
     walker: &mut Walker,
-    item: &mut [u8; 4096],
+    item: &mut [u8],
     rows: &mut S,
 ) -> Result<Next, AllocError>
     requires shown { ShowsSome (V.holds version.old) }
     requires under { is_under name.now origin.now ≡ true }
+    requires room { most_item_octets ≤ length item.old }
     ensures same { version.new ≡ version.old }
     ensures gives { (zone : Version) → Shows (V.holds version.old) zone
         → Gives (step origin.now zone rtype name.now) (S.has rows.old) (S.has rows.new) walker.new.target result }

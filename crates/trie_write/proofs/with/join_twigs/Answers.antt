@@ -4,7 +4,7 @@ use Rattle.packed_node.specs.Nodes.{IsBranch, branch_cell}
 use Rattle.trie_model.specs.Extents.{IsRow}
 use Rattle.trie_model.specs.Keys.{at}
 use Rattle.trie_write.proofs.SpaceLaws.{frame_wrote, frame_refl, wrote_one}
-use Rattle.trie_write.proofs.WithLaws.{among_n, among_absent, among_small, among_lies, among_before, among_there, among_used, among_few, more_branch, joined, cell_of_leaf, leaf_is}
+use Rattle.trie_write.proofs.WithLaws.{among_n, among_absent, among_small, among_lies, among_before, among_there, among_used, among_few, more_branch, joined, cell_of_leaf, leaf_node, leaf_is}
 use Rattle.trie_write.proofs.with.join_twigs.Goals as goal
 
 pub copy_apart-requires-clause-index : goal.copy_apart-requires-clause-index
@@ -23,6 +23,9 @@ copy_apart-requires-clause-there g c i l = let h = c.requires.asks in among_ther
 
 pub copy_apart-requires-clause-in_use : goal.copy_apart-requires-clause-in_use
 copy_apart-requires-clause-in_use g c i l = let h = c.requires.asks in among_used h.asks h.top h.here i (let n = c.twig_count.ensures in omega arith)
+
+pub pack-requires : goal.pack-requires
+pack-requires g c = leaf_node c.requires.asks.asks c.leaf.ensures.len c.leaf.ensures.at
 
 pub put-requires-clause-given : goal.put-requires-clause-given
 put-requires-clause-given g c =

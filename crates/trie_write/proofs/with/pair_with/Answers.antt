@@ -1,8 +1,11 @@
 use Rattle.std.proofs.Common.{ℕ, ◌+◌, ◌-◌, ◌^◌, ◌<◌, ◌≤◌, arith, refl, sym, ◌∙◌, ap, subst}
 use Rattle.packed_node.specs.Nodes.{IsBranch, branch_cell}
 use Rattle.trie_write.proofs.SpaceLaws.{open_later, frame_wrote, frame_refl, wrote_one, wrote_then}
-use Rattle.trie_write.proofs.WithLaws.{pair_branch, paired, leaf_is}
+use Rattle.trie_write.proofs.WithLaws.{pair_branch, paired, leaf_node, leaf_is}
 use Rattle.trie_write.proofs.with.pair_with.Goals as goal
+
+pub pack-requires : goal.pack-requires
+pack-requires g c = leaf_node c.requires.asks.asks c.leaf.ensures.len c.leaf.ensures.at
 
 pub put-requires-clause-unkept : goal.put-requires-clause-unkept
 put-requires-clause-unkept g c = c.in_ok-to.ensures.blank.unkept c.place_of_two-index.result c.place_of_two-index.ensures.two

@@ -2,10 +2,10 @@ use Rattle.std.proofs.Common.{sym, subst}
 use Rattle.zone_dump.proofs.WalkLaws.{first_lies, gives_first, none_left}
 use Rattle.zone_dump.proofs.dumping.next_item.Goals as goal
 
-pub read-requires : goal.read-requires
-read-requires g c =
+pub read-requires-clause-there : goal.read-requires-clause-there
+read-requires-clause-there g c =
     let lies = g.V.Reading.lies in
-    let first = first_lies (g.V.Reading.stands c.args.version.now c.args.iter.now) (lies c.args.version.now) c.in-Some.leaf c.requires.0 c.requires.1 c.in-Some.ensures.next c.in-Some.ensures.end in
+    let first = first_lies (g.V.Reading.stands c.args.version.now c.args.iter.now) (lies c.args.version.now) c.in-Some.leaf c.requires.faces.0 c.requires.faces.1 c.in-Some.ensures.next c.in-Some.ensures.end in
     (first.0, subst (λ s. lies s c.in-Some.leaf first.0) (sym c.next_leaf.ensures.same) first.1)
 
 pub returns-in-Some-clause-next : goal.returns-in-Some-clause-next

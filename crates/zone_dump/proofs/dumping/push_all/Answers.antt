@@ -45,14 +45,14 @@ returns-in_default-clause-ok g c zone shows =
 
 pub shared_ref_as_front-push_item : goal.shared_ref_as_front-push_item
 shared_ref_as_front-push_item g c =
-    let on = c.names.invariant.goes_on c.requires.0 c.requires.1 in
+    let on = c.names.invariant.goes_on c.requires.shown.0 c.requires.shown.1 in
     let faces = subst (λ v. Faces (g.V.Reading.stands v c.names.iter) on.left) (sym c.names.invariant.same) on.faces in
     let first = c.in-Some.ensures.next on.left faces in
     first.within
 
 pub push_item-requires : goal.push_item-requires
 push_item-requires g c =
-    let on = c.names.invariant.goes_on c.requires.0 c.requires.1 in
+    let on = c.names.invariant.goes_on c.requires.shown.0 c.requires.shown.1 in
     let faces = subst (λ v. Faces (g.V.Reading.stands v c.names.iter) on.left) (sym c.names.invariant.same) on.faces in
     some_item (g.V.Reading.stands c.names.version c.next_item.new.iter) on.left c.next_item.new.item c.in-Some.len (c.in-Some.ensures.next on.left faces)
 

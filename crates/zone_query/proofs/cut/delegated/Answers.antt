@@ -22,8 +22,8 @@ returns-in_err-leaf-clause-cut g c zone shows =
     subst (λ (o : Option Held). IsCutOf zone c.args.item.now (delegated zone (ancestor c.args.labels c.args.name.now)) o) (sym c.from_residual.ensures)
     (not_delegated zone (ancestor c.args.labels c.args.name.now) (ap (λ (x : Entry). is_some (rrset_of 2 x)) nothing))
 
-pub read-requires : goal.read-requires
-read-requires g c =
+pub read-requires-clause-there : goal.read-requires-clause-there
+read-requires-clause-there g c =
     let shown = c.requires.shown in
     let es = chain (key_of c.args.name.now) (map trie_entry shown.0) in
     let s = subst (Sought (g.V.Reading.lies c.args.version.now) c.args.labels es) (sym c.in_ok-leaf.ensures) (sought (g.V.Reading.lies c.args.version.now) c.args.labels es c.args.above.now shown.1.above_are) in

@@ -11,7 +11,7 @@ use Rattle.zone_query.proofs.AncestorLaws.{self_under}
 use Rattle.zone_query.proofs.node.absent_node.Goals as goal
 
 pub of-near-requires : goal.of-near-requires
-of-near-requires g c = let at = c.requires.1.at in (at.before, (at.after, at.standing))
+of-near-requires g c = let at = c.requires.placed.1.at in (at.before, (at.after, at.standing))
 
 pub returns-then-show-clause-node : goal.returns-then-show-clause-node
 returns-then-show-clause-node g c zone placed none =
@@ -26,12 +26,12 @@ returns-in_err-above-clause-node g c zone placed none =
     subst (λ (o : Option Held). IsNodeOf c.args.item.now (node zone c.args.name.now) o) (sym c.from_residual.ensures)
     (sym (ap (wildcard_under zone) (c.in_err-above.ensures zone placed.shows.version_is near never) ∙ other_node zone c.args.name.now never))
 
-pub wildcard_under-requires : goal.wildcard_under-requires
-wildcard_under-requires g c =
-    let placed = c.requires.1 in (
-      c.requires.0,
+pub wildcard_under-requires-clause-stands : goal.wildcard_under-requires-clause-stands
+wildcard_under-requires-clause-stands g c =
+    let placed = c.requires.placed.1 in (
+      c.requires.placed.0,
       record {
-        shows = subst (λ s. Shows (g.V.Reading.holds s) c.requires.0) (sym c.of-near.ensures.same) placed.shows;
+        shows = subst (λ s. Shows (g.V.Reading.holds s) c.requires.placed.0) (sym c.of-near.ensures.same) placed.shows;
         before = placed.at.before;
         after = placed.at.after;
         whole = placed.at.split.whole;

@@ -20,11 +20,11 @@ returns-in_err-star-clause-node g c zone on =
     (sym (no_wildcard zone c.args.name.now (none_too_long (star_under c.args.name.now) zone c.in_err-star.ensures on.shows.version_is.items)))
 
 pub lookup-requires : goal.lookup-requires
-lookup-requires g c = let on = c.requires.1 in (on.before, (on.after, on.standing))
+lookup-requires g c = let on = c.requires.stands.1 in (on.before, (on.after, on.standing))
 
-pub read-len-requires : goal.read-len-requires
-read-len-requires g c =
-    let on = c.requires.1 in
+pub read-len-requires-clause-there : goal.read-len-requires-clause-there
+read-len-requires-clause-there g c =
+    let on = c.requires.stands.1 in
     let leaf = c.in-Some.ensures.leaf on.before on.after on.standing in
     (leaf.0, subst (λ s. g.V.Reading.lies s c.in-Some.leaf leaf.0) (sym c.lookup.ensures.same) leaf.3)
 
@@ -41,7 +41,7 @@ returns-in-Some-clause-node g c zone on =
 
 pub shows_ahead-requires : goal.shows_ahead-requires
 shows_ahead-requires g c =
-    let on = c.requires.1 in
+    let on = c.requires.stands.1 in
     let at = c.lookup.ensures.split on.before on.after on.standing in
     (at.before, (at.after, subst (λ s. g.V.Reading.stands s c.lookup.new.iter at.before at.after) (sym c.lookup.ensures.same) at.standing))
 

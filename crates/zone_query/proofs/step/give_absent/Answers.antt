@@ -5,11 +5,11 @@ use Rattle.zone_query.specs.Parts.{Gives}
 use Rattle.zone_query.proofs.StepLaws.{step_absent}
 use Rattle.zone_query.proofs.step.give_absent.Goals as goal
 
-pub absent_node-requires : goal.absent_node-requires
-absent_node-requires g c = (c.requires.0, c.requires.1)
+pub absent_node-requires-clause-placed : goal.absent_node-requires-clause-placed
+absent_node-requires-clause-placed g c = (c.requires.placed.0, c.requires.placed.1)
 
 pub view-requires : goal.view-requires
-view-requires g c = let n = c.in-Some.ensures.node c.requires.0 c.requires.1 c.requires.2 in (n.0, n.2)
+view-requires g c = let n = c.in-Some.ensures.node c.requires.placed.0 c.requires.placed.1 c.requires.placed.2 in (n.0, n.2)
 
 pub returns-in-Some-clause-gives : goal.returns-in-Some-clause-gives
 returns-in-Some-clause-gives g c zone origin placed none empty =

@@ -21,8 +21,8 @@ of-entry-requires g c =
     let read = c.read-len.ensures.item leaf.0 lies in
     (owned c.args.name.now zone, (read_of c.args.name.now zone leaf.0 c.read-len.new.out c.read-len.result c.wire-wire.ensures.name shows.version_is leaf.1 (leaf.2 ∙ c.requires.key) read.0 read.1).says)
 
-pub give_absent-requires : goal.give_absent-requires
-give_absent-requires g c =
+pub give_absent-requires-clause-placed : goal.give_absent-requires-clause-placed
+give_absent-requires-clause-placed g c =
     let zone = c.requires.shown.0 in
     let shows = c.requires.shown.1 in
     let all = map trie_entry zone in
