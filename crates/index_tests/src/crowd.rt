@@ -5,6 +5,7 @@ ghost use Rattle.shared_cells.specs.Views.{pinned_image};
 ghost use Rattle.shared_index.specs.Passes.{version_seen};
 ghost use Rattle.shared_index.specs.Meanings.{Holds};
 
+use crate::buffer::Buffer;
 use crate::course::{NAMES, due, name_at, visit_of};
 use crate::items::numbered;
 use crate::worker::{Any, Worker, pair, tag, walk};
@@ -61,25 +62,33 @@ fn commit_on<N: Named, R: Wait>(rt: &R, alloc: Global, writer: Worker<N>, done: 
 }
 
 /// Whether a reading is of version 0, and has the first item at the key.
-fn is_as_opened<V: Reading>(reading: &mut V, key: &Key) -> bool
+fn is_as_opened<V: Reading>(reading: &mut V, key: &Key, buffer: &mut Buffer) -> bool
     requires { IsHeld (V.holds reading.old) }
     ensures { reading.new ≡ reading.old }
 {
     let version = reading.version();
-    let number = tag(reading, key);
+    let number = tag(reading, key, buffer);
     version == 0 && number == Some(1)
 }
 
 /// Reads a snapshot until all commits are done, and once more. Whether it always was as at first.
-fn read_held<N: Named>(snapshot: Snapshot<'_, Any, N>, first: &Item, done: &AtomicU32) -> bool
+fn read_held<N: Named>(
+    alloc: Global,
+    snapshot: Snapshot<'_, Any, N>,
+    first: &Item,
+    done: &AtomicU32,
+) -> bool
     requires { Holds (pinned_image snapshot.seat.place.me.0.progress) snapshot.seat.root (version_seen snapshot.seat.place.me.0.seen) }
 {
+    let Some(mut buffer) = Buffer::new(alloc) else {
+        return false;
+    };
     let mut snapshot = snapshot;
     let key = first.key();
     let mut right = true;
     for _ in 0..10_000_000 {
         let last = done.load(Ordering::SeqCst) == 1;
-        let same = is_as_opened(&mut snapshot, &key);
+        let same = is_as_opened(&mut snapshot, &key, &mut buffer);
         right = right && same;
         if last {
             return right;
@@ -104,7 +113,7 @@ pub(crate) fn moved<N: Named + Send + Sync, R: Threads + Wait + Sync>(
         || commit_on(rt, alloc, writer, &done),
         || -> bool
             requires { Holds (pinned_image snapshot.seat.place.me.0.progress) snapshot.seat.root (version_seen snapshot.seat.place.me.0.seen) }
-        { read_held(snapshot, first, &done) },
+        { read_held(alloc, snapshot, first, &done) },
     );
     Some(last == 100 && right)
 }
@@ -121,7 +130,12 @@ fn count<V: Reading>(reading: &mut V, version: u64) -> u64
 }
 
 /// Whether a version has as many names as its number says, and what it should have at each 25th of their places.
-fn fits<V: Reading>(reading: &mut V, names: &[Item], version: u64) -> bool
+fn fits<V: Reading>(
+    reading: &mut V,
+    names: &[Item],
+    version: u64,
+    buffer: &mut Buffer,
+) -> bool
     requires { IsHeld (V.holds reading.old) }
     ensures { reading.new ≡ reading.old }
 {
@@ -133,7 +147,7 @@ fn fits<V: Reading>(reading: &mut V, names: &[Item], version: u64) -> bool
             names_due = names_due.saturating_add(1);
         }
         if place as u64 % 25 == version % 25 {
-            right = right && tag(reading, &names[place].key()) == due;
+            right = right && tag(reading, &names[place].key(), buffer) == due;
         }
     }
     let counted = count(reading, version);
@@ -141,7 +155,12 @@ fn fits<V: Reading>(reading: &mut V, names: &[Item], version: u64) -> bool
 }
 
 /// The version that a query shows, and whether it has the names that it should have.
-fn look<N: Named>(index: &Index<Any, N>, pass: &mut Pass<N>, names: &[Item]) -> (u64, bool)
+fn look<N: Named>(
+    index: &Index<Any, N>,
+    pass: &mut Pass<N>,
+    names: &[Item],
+    buffer: &mut Buffer,
+) -> (u64, bool)
     requires here { IsSome pass.old.seat }
     requires place { pass.old.place ≡ index.now.place }
     ensures here { IsSome pass.new.seat }
@@ -149,15 +168,18 @@ fn look<N: Named>(index: &Index<Any, N>, pass: &mut Pass<N>, names: &[Item]) -> 
 {
     let mut query = pass.query(index);
     let version = query.version();
-    (version, fits(&mut query, names, version))
+    (version, fits(&mut query, names, version, buffer))
 }
 
 /// Asks until the last version is there. Whether all was right, and no version older than the one before.
-fn read_on<N: Named>(worker: Worker<N>, names: &[Item], last: u64) -> bool {
+fn read_on<N: Named>(alloc: Global, worker: Worker<N>, names: &[Item], last: u64) -> bool {
+    let Some(mut buffer) = Buffer::new(alloc) else {
+        return false;
+    };
     let Worker { index, mut pass } = worker;
     let mut seen = 0;
     for _ in 0..ASKED {
-        let (version, right) = look(index, &mut pass, names);
+        let (version, right) = look(index, &mut pass, names, &mut buffer);
         if !right || version < seen {
             return false;
         }
@@ -200,8 +222,11 @@ fn write_on<N: Named, R: Wait>(
             return false;
         }
     }
+    let Some(mut buffer) = Buffer::new(alloc) else {
+        return false;
+    };
     let Worker { index, mut pass } = writer;
-    look(index, &mut pass, names) == (last, true)
+    look(index, &mut pass, names, &mut buffer) == (last, true)
 }
 
 /// The names of the course. None for want of memory.
@@ -216,6 +241,7 @@ fn names(alloc: Global) -> Option<Vec<Item>> {
 /// All ask beside each other. Whether all was right.
 fn read_all<N: Named + Send + Sync, R: Threads + Sync>(
     rt: &R,
+    alloc: Global,
     workers: Vec<Worker<N>>,
     names: &[Item],
     last: u64,
@@ -226,7 +252,7 @@ fn read_all<N: Named + Send + Sync, R: Threads + Sync>(
         workers,
         &|worker: Worker<N>| -> bool
             ensures { Unit {0} }
-        { read_on(worker, names, last) },
+        { read_on(alloc, worker, names, last) },
     );
     match read {
         Ok(read) => read.iter().all(|right| *right),
@@ -247,7 +273,7 @@ pub(crate) fn crowd<N: Named + Send + Sync, R: Threads + Wait + Sync>(
     let (written, read) = join(
         rt,
         || write_on(rt, alloc, writer, names.as_slice(), last),
-        || read_all(rt, workers, names.as_slice(), last),
+        || read_all(rt, alloc, workers, names.as_slice(), last),
     );
     Some(written && read)
 }

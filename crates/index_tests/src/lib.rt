@@ -4,11 +4,15 @@
 #![tactic(auto)]
 
 #[cfg(test)]
+mod buffer;
+#[cfg(test)]
 mod course;
 #[cfg(test)]
 mod crowd;
 #[cfg(test)]
 mod items;
+#[cfg(test)]
+mod long_items;
 #[cfg(test)]
 mod rewriting;
 #[cfg(test)]

@@ -2,6 +2,7 @@
 ghost use Rattle.std.specs.Prelude.{◌≡◌, IsSome, IsSomeAnd};
 ghost use Rattle.shared_index.specs.Drafts.{Works};
 
+use crate::buffer::Buffer;
 use crate::items::numbered;
 use crate::worker::{Act, Any, Worker, alone, pair, tag};
 use shared_index::{ChangeRefusal, Full, Index, Locked, Named, Pass, Snapshot, Transaction};
@@ -26,19 +27,21 @@ enum Outcome {
 /// A snapshot stays at its version; the next one has what was committed.
 pub(crate) fn held<N: Named, R: Wait>(
     rt: &R,
+    alloc: Global,
     workers: Vec<Worker<N>>,
     second: &Item,
 ) -> Option<bool> {
+    let mut buffer = Buffer::new(alloc)?;
     let (mut writer, reader) = pair(workers)?;
     let Worker { index, pass } = reader;
     let key = second.key();
     let mut snapshot = pass.hold(index);
     let receipt = writer.write(rt, second, Act::Exchange);
-    let old = (snapshot.version(), tag(&mut snapshot, &key));
+    let old = (snapshot.version(), tag(&mut snapshot, &key, &mut buffer));
     let told = writer.learn(snapshot.note(index));
-    let seen = writer.look(&key);
+    let seen = writer.look(&key, &mut buffer);
     let mut snapshot = snapshot.release().hold(index);
-    let new = (snapshot.version(), tag(&mut snapshot, &key));
+    let new = (snapshot.version(), tag(&mut snapshot, &key, &mut buffer));
     let right = old == (0, Some(1)) && seen == (1, Some(2)) && new == (1, Some(2));
     Some(told && right && receipt.is_some_and(|receipt| receipt.version == 1))
 }
@@ -67,36 +70,46 @@ pub(crate) fn in_turn<N: Named, R: Wait>(
 /// A pass that has learnt what another committed sees it. The next query, without a note, shows what is current then.
 pub(crate) fn told<N: Named, R: Wait>(
     rt: &R,
+    alloc: Global,
     workers: Vec<Worker<N>>,
     second: &Item,
 ) -> Option<bool> {
+    let mut buffer = Buffer::new(alloc)?;
     let (mut p, mut q) = pair(workers)?;
     let key = second.key();
     let first = p.write(rt, second, Act::Exchange)?;
     let learnt = q.learn_of(&mut p);
-    let told = first.version == 1 && learnt && q.look(&key) == (1, Some(2));
+    let told = first.version == 1 && learnt && q.look(&key, &mut buffer) == (1, Some(2));
     let next = p.write(rt, second, Act::Exchange)?;
-    let untold = next.version == 2 && q.look(&key) == (2, Some(2));
+    let untold = next.version == 2 && q.look(&key, &mut buffer) == (2, Some(2));
     Some(told && untold)
 }
 
 /// The base's number, and the last octet of the number at a key of the working set.
-fn peek<N: Named, K>(transaction: &mut Transaction<'_, '_, Any, N, K>, key: &Key) -> (u64, u8)
+fn peek<N: Named, K>(
+    transaction: &mut Transaction<'_, '_, Any, N, K>,
+    key: &Key,
+    buffer: &mut Buffer,
+) -> (u64, u8)
     requires { IsSomeAnd transaction.old.locked.now.draft Works }
 {
-    let mut out = [0; 4096];
     let number = transaction.version();
-    let _octets = transaction.fetch(key, &mut out);
-    (number, out[11])
+    let _octets = transaction.fetch(key, &mut buffer.octets);
+    (number, buffer.octets[11])
 }
 
 /// Exchanges an item by a light transaction, and looks at it there. No version is made.
-fn look_inside<N: Named, R: Wait>(rt: &R, worker: Worker<N>, item: &Item) -> (u64, u8) {
+fn look_inside<N: Named, R: Wait>(
+    rt: &R,
+    worker: Worker<N>,
+    item: &Item,
+    buffer: &mut Buffer,
+) -> (u64, u8) {
     let Worker { index, mut pass } = worker;
     let mut locked = Locked::of(index);
     let mut write = index.write(rt, &mut locked, &mut pass);
     let _done = write.replace(&item.key(), item.octets());
-    peek(&mut write, &item.key())
+    peek(&mut write, &item.key(), buffer)
 }
 
 /// Exchanges an item by a heavy transaction, and rolls it back. Whether it was exchanged meanwhile.
@@ -121,13 +134,15 @@ fn roll_back<N: Named, R: Wait>(
 /// A working set is read under the base's number, and is gone after a rollback.
 pub(crate) fn rolled_back<N: Named, R: Wait>(
     rt: &R,
+    alloc: Global,
     workers: Vec<Worker<N>>,
     second: &Item,
 ) -> Option<bool> {
+    let mut buffer = Buffer::new(alloc)?;
     let (mut p, q) = pair(workers)?;
-    let inside = look_inside(rt, q, second);
+    let inside = look_inside(rt, q, second, &mut buffer);
     let done = roll_back(rt, p.index, &mut p.pass, second);
-    Some(done && inside == (0, 2) && p.look(&second.key()) == (0, Some(1)))
+    Some(done && inside == (0, 2) && p.look(&second.key(), &mut buffer) == (0, Some(1)))
 }
 
 /// Exchanges an item by a heavy transaction, and drops it. Whether it was exchanged meanwhile.
@@ -218,6 +233,7 @@ fn refused<N: Named, R: Wait>(
     pass: &mut Pass<N>,
     item: &Item,
     number: u64,
+    buffer: &mut Buffer,
 ) -> bool
     requires here { IsSome pass.old.seat }
     requires place { pass.old.place ≡ index.now.place }
@@ -226,10 +242,9 @@ fn refused<N: Named, R: Wait>(
 {
     let mut locked = Locked::of(index);
     let mut write = index.write(rt, &mut locked, pass);
-    let mut out = [0; 4096];
     let full = matches!(replace_within(&mut write, item), Outcome::Full(_));
-    let same = write.fetch(&item.key(), &mut out) == Some(LARGE)
-        && &out[4..12] == number.to_be_bytes().as_slice();
+    let same = write.fetch(&item.key(), &mut buffer.octets) == Some(LARGE)
+        && &buffer.octets[4..12] == number.to_be_bytes().as_slice();
     full && same
         && write
             .commit()
@@ -302,6 +317,7 @@ pub(crate) fn full<N: Named, R: Wait>(
     workers: Vec<Worker<N>>,
     second: &Item,
 ) -> Option<bool> {
+    let mut buffer = Buffer::new(alloc)?;
     let mut workers = workers;
     let Worker { index, mut pass } = workers.pop()?;
     let mut held = Vec::new(alloc);
@@ -311,7 +327,7 @@ pub(crate) fn full<N: Named, R: Wait>(
         && workers.is_empty()
         && full.kept.as_slice().len() == held.len()
         && number == 64;
-    let same = refused(rt, index, &mut pass, second, number);
+    let same = refused(rt, index, &mut pass, second, number, &mut buffer);
     drop(held);
     let after = replace(rt, index, &mut pass, second);
     Some(told && same && matches!(after, Outcome::Done))
@@ -325,6 +341,7 @@ fn kept_beside<N: Named, R: Wait>(
     index: &Index<Any, N>,
     writer: &mut Worker<N>,
     key: &Key,
+    buffer: &mut Buffer,
 ) -> bool
     requires here { IsSome reader.old.seat }
     requires place { reader.old.place ≡ index.now.place }
@@ -335,7 +352,7 @@ fn kept_beside<N: Named, R: Wait>(
         let receipt = writer.renumber(rt, alloc, number + 2, 4096);
         right = right && receipt.is_some_and(|receipt| receipt.kept == 2);
     }
-    right && query.version() == 0 && tag(&mut query, key) == Some(1)
+    right && query.version() == 0 && tag(&mut query, key, buffer) == Some(1)
 }
 
 /// A version is kept while it is read, and no longer.
@@ -345,9 +362,11 @@ pub(crate) fn kept<N: Named, R: Wait>(
     workers: Vec<Worker<N>>,
     second: &Item,
 ) -> Option<bool> {
+    let mut buffer = Buffer::new(alloc)?;
     let (mut writer, reader) = pair(workers)?;
     let Worker { index, mut pass } = reader;
-    let beside = kept_beside(rt, alloc, &mut pass, index, &mut writer, &second.key());
+    let key = second.key();
+    let beside = kept_beside(rt, alloc, &mut pass, index, &mut writer, &key, &mut buffer);
     let receipt = writer.write(rt, second, Act::Exchange);
     Some(beside && receipt.is_some_and(|receipt| receipt.kept == 1))
 }

@@ -5,6 +5,7 @@ ghost use Rattle.trie_write.specs.Entries.{entries_of_items};
 
 use crate::crowd::{at_once, crowd, moved};
 use crate::items::numbered;
+use crate::long_items::{exchanged, read_while_exchanged};
 use crate::rewriting::{compacted, rewritten};
 use crate::rows::{LARGE, dropped, full, held, in_turn, kept, rolled_back, told};
 use crate::worker::{Act, Any, Worker, workers, write};
@@ -30,6 +31,9 @@ enum Scene {
     Moved,
     Rewritten,
     Compacted,
+    Exchanged,
+    /// So many exchanges of a long item, and readers beside them.
+    Long(u64),
     /// So many transactions, and readers beside them.
     Crowd(u64),
 }
@@ -44,10 +48,10 @@ fn act<N: Named + Send + Sync, R: Threads + Wait + Sync>(
     scene: Scene,
 ) -> Option<bool> {
     match scene {
-        Scene::Held => held(rt, workers, second),
+        Scene::Held => held(rt, alloc, workers, second),
         Scene::InTurn => in_turn(rt, alloc, workers, first),
-        Scene::Told => told(rt, workers, second),
-        Scene::RolledBack => rolled_back(rt, workers, second),
+        Scene::Told => told(rt, alloc, workers, second),
+        Scene::RolledBack => rolled_back(rt, alloc, workers, second),
         Scene::Dropped => dropped(rt, workers, second),
         Scene::Full => full(rt, alloc, workers, second),
         Scene::Kept => kept(rt, alloc, workers, second),
@@ -55,6 +59,8 @@ fn act<N: Named + Send + Sync, R: Threads + Wait + Sync>(
         Scene::Moved => moved(rt, alloc, workers, first),
         Scene::Rewritten => rewritten(rt, alloc, workers),
         Scene::Compacted => compacted(rt, workers),
+        Scene::Exchanged => exchanged(rt, alloc, workers),
+        Scene::Long(last) => read_while_exchanged(rt, alloc, workers, first, last),
         Scene::Crowd(last) => crowd(rt, alloc, workers, last),
     }
 }
@@ -216,6 +222,26 @@ fn a_table_is_rewritten_for_long(rt: HostRuntime) -> Result<(), Fail> {
 fn compactions_keep_the_names(rt: HostRuntime) -> Result<(), Fail> {
     assert_eq!(rt;
         play(&rt, rt.alloc(), 16, 1, 600, Scene::Compacted),
+        Some(true)
+    );
+    Ok(())
+}
+
+#[test]
+fn items_of_all_lengths_are_exchanged(rt: HostRuntime) -> Result<(), Fail> {
+    assert_eq!(rt;
+        play(&rt, rt.alloc(), 32, 1, 600, Scene::Exchanged),
+        Some(true)
+    );
+    Ok(())
+}
+
+// An item of 65,535 octets lies in five chunks at most. Of 48 chunks a change may take 36: those of the current version, of the next one and
+// of three that are read.
+#[test]
+fn long_items_are_read_while_they_are_exchanged(rt: HostRuntime) -> Result<(), Fail> {
+    assert_eq!(rt;
+        play(&rt, rt.alloc(), 48, 4, 600, Scene::Long(20_000)),
         Some(true)
     );
     Ok(())

@@ -3,6 +3,7 @@ ghost use Rattle.std.specs.Prelude.{◌≡◌, ◌≤◌, IsSome, IsSomeAnd, All
 ghost use Rattle.trie_read.specs.Readings.{IsHeld};
 ghost use Rattle.shared_index.specs.Drafts.{Works};
 
+use crate::buffer::Buffer;
 use crate::items::numbered;
 use shared_index::{Index, Law, Locked, Named, Note, Pass, Receipt, Transaction};
 use shift_key::Key;
@@ -127,14 +128,19 @@ fn update<N: Named, R: Wait>(
 }
 
 /// The version that a query shows, and the number at a key.
-fn look<N: Named>(index: &Index<Any, N>, pass: &mut Pass<N>, key: &Key) -> (u64, Option<u64>)
+fn look<N: Named>(
+    index: &Index<Any, N>,
+    pass: &mut Pass<N>,
+    key: &Key,
+    buffer: &mut Buffer,
+) -> (u64, Option<u64>)
     requires here { IsSome pass.old.seat }
     requires place { pass.old.place ≡ index.now.place }
     ensures here { IsSome pass.new.seat }
     ensures place { pass.new.place ≡ index.now.place }
 {
     let mut query = pass.query(index);
-    (query.version(), tag(&mut query, key))
+    (query.version(), tag(&mut query, key, buffer))
 }
 
 /// The version that a query shows, and how many names it has.
@@ -209,8 +215,8 @@ impl<'i, N: Named> Worker<'i, N> {
     }
 
     /// The version that a query shows, and the number at a key.
-    pub(crate) fn look(&mut self, key: &Key) -> (u64, Option<u64>) {
-        look(self.index, &mut self.pass, key)
+    pub(crate) fn look(&mut self, key: &Key, buffer: &mut Buffer) -> (u64, Option<u64>) {
+        look(self.index, &mut self.pass, key, buffer)
     }
 
     /// The version that a query shows, and how many names it has.
@@ -230,12 +236,12 @@ impl<'i, N: Named> Worker<'i, N> {
 }
 
 /// The number behind the name in an item whose name has four octets. None where the key isn't there.
-pub(crate) fn tag<V: Reading>(reading: &mut V, key: &Key) -> Option<u64>
+pub(crate) fn tag<V: Reading>(reading: &mut V, key: &Key, buffer: &mut Buffer) -> Option<u64>
     requires { IsHeld (V.holds reading.old) }
     ensures { reading.new ≡ reading.old }
 {
-    let mut out = [0; 4096];
-    reading.fetch(key, &mut out)?;
+    reading.fetch(key, &mut buffer.octets)?;
+    let out = &buffer.octets;
     let octets = [
         out[4], out[5], out[6], out[7], out[8], out[9], out[10], out[11],
     ];

@@ -134,7 +134,7 @@ pub record FullCause (s : Setting) (asked : Transaction) (base operation : ℕ) 
   pub older_shown : AllByRecursion (Contains s.shown) older
   pub rising : IsStrictlySortedBy nat_cmp kept
   pub few : length kept ≤ s.passes + 1
-  pub full : s.chunks - s.chunks / 4 - 2 ≤ cell_count working + cells_kept s.set kept
+  pub full : s.chunks - s.chunks / 4 - 8 ≤ cell_count working + cells_kept s.set kept
 
 -- the greatest number of a version
 abbrev pub last_version : ℕ

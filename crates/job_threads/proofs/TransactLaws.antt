@@ -271,7 +271,7 @@ module _ (s : Setup) (asked : Transaction) (old : Known) (d e : Draft) (b : Begi
               older_shown = shown_all at.full.ends.0 (λ x c. subst (λ (l : List ℕ). Contains l x) (sym at.full.ends.1) (Contains-append_left at.full.ends.0 (e.seat.version ∷ []) x c)) below at.full.named;
               rising = sorted (versions_in kept) rising;
               few = omega (arith, few, passes);
-              full = subst (λ (n : ℕ). n - n / 4 - 2 ≤ cell_count at.working + cells_kept set (versions_in kept)) (sym chunks) (subst (λ (k : ℕ). length e.usage.given - length e.usage.given / 4 - 2 ≤ cell_count at.working + k) same many);
+              full = subst (λ (n : ℕ). n - n / 4 - 8 ≤ cell_count at.working + cells_kept set (versions_in kept)) (sym chunks) (subst (λ (k : ℕ). length e.usage.given - length e.usage.given / 4 - 8 ≤ cell_count at.working + k) same many);
             }
           where
             shown_all : (older : List ℕ) → ((x : ℕ) → Contains older x → Contains (versions_in kept) x) → AllByRecursion (λ x. x < length new.seen.history) older

@@ -81,7 +81,7 @@ fn serve<R: Wait, N: Named, G: Gate>(
         → IfOk result (λ d. WorkerRan s (only number) (ended (known_at d.pass.seat) (known_at pass.seat)) (commands_at (map command_view commands.now) d.served.numbers.items) d.served.outcomes.list.items) }
     ensures heard { IfOk result (λ d. AllByRecursion (IsHeard (G.hears gate.now) worker) d.served.numbers.items) }
 {
-    let mut room = Room::new(alloc);
+    let mut room = Room::new(alloc)?;
     let mut numbers = Vec::new(alloc);
     let mut list = Vec::new(alloc);
     while let Some(number) = seat.take(rt, feed) {

@@ -1,5 +1,6 @@
 //! Questions to one version.
-ghost use Rattle.std.specs.Prelude.{◌≡◌, ◌++◌, IfOk, OnOk};
+ghost use Rattle.std.specs.Prelude.{◌≡◌, ◌≤◌, ◌++◌, length, IfOk, OnOk};
+ghost use Rattle.zone_model.specs.Keys.{most_item_octets};
 ghost use Rattle.zone_model.specs.Versions.{Version};
 ghost use Rattle.zone_query.specs.Standing.{Shows, ShowsSome};
 ghost use Rattle.job_model.specs.Replies.{reply_of, reply_text};
@@ -21,12 +22,13 @@ fn push_reply<V: Reading>(
     origin: &Name,
     version: &mut V,
     question: &Question,
-    item: &mut [u8; 4096],
+    item: &mut [u8],
     walker: &mut Walker,
     rows: &mut PrintedRows,
     out: &mut Vec<u8>,
 ) -> Result<(), AllocError>
-    requires { ShowsSome (V.holds version.old) }
+    requires shown { ShowsSome (V.holds version.old) }
+    requires room { most_item_octets ≤ length item.old }
     ensures same { version.new ≡ version.old }
     ensures reply { (zone : Version) → Shows (V.holds version.old) zone
         → OnOk result (out.new.items ≡ out.old.items ++ reply_text (reply_of origin.now zone (question_view question.now))) }

@@ -1,7 +1,7 @@
 //! What a worker needs beside its passes.
 
 use job_script::PrintedRows;
-use std::alloc::Global;
+use std::alloc::{AllocError, Global};
 use zone_edit::ItemBuffers;
 use zone_query::Walker;
 
@@ -16,13 +16,14 @@ pub struct Room {
 }
 
 impl Room {
-    /// With nothing in it.
-    pub fn new(alloc: Global) -> Room {
-        Room {
-            items: ItemBuffers::new(),
+    /// With nothing in it. `AllocError` is want of memory.
+    pub fn new(alloc: Global) -> Result<Room, AllocError> {
+        let items = ItemBuffers::new(alloc)?;
+        Ok(Room {
+            items,
             walker: Walker::new(),
             rows: PrintedRows::new(alloc),
             text: Vec::new(alloc),
-        }
+        })
     }
 }

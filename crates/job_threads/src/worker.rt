@@ -108,13 +108,13 @@ pub fn run_worker<R: Wait, N: Named, G: Gate>(
         → IfOk result (λ d. WorkerRan s numbers (ended (known_at d.asks.seat) (known_at d.spare.seat)) (map command_view task.entry.commands.now) d.outcomes.list.items) }
     ensures heard { IfOk result (λ _. AreHeard (G.hears gate.now) task.entry.number (length (map command_view task.entry.commands.now))) }
 {
+    let mut room = Room::new(alloc)?;
     let Task {
         number,
         commands,
         asks,
         spare,
     } = task;
-    let mut room = Room::new(alloc);
     let mut passes = Passes {
         asks,
         spare: Some(spare),

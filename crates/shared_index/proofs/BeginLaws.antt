@@ -12,7 +12,7 @@ use Rattle.chunk_usage.specs.Ledger.{Ledger, IsLedger, is_used}
 use Rattle.chunk_usage.proofs.FlagLemmas.{get_set, set_within}
 use Rattle.chunk_usage.proofs.SpaceLaws.{used_given}
 use Rattle.trie_model.specs.Keys.{Entry}
-use Rattle.trie_model.proofs.ReachLaws.{first_true}
+use Rattle.trie_model.proofs.ExtentLaws.{first_true}
 use Rattle.shared_cells.specs.declared.view.TurnView.{TurnView}
 use Rattle.trie_write.specs.Standing.{Standing}
 use Rattle.shared_cells.specs.History.{IsPartOf, version_after}

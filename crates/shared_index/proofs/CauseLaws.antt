@@ -10,7 +10,8 @@ use Rattle.trie_model.specs.Keys.{Entry}
 use Rattle.trie_model.specs.Shape.{cells}
 use Rattle.trie_model.specs.Trees.{Tree}
 use Rattle.trie_model.specs.Reach.{in_chunk, weigh_tree}
-use Rattle.trie_model.proofs.ReachLaws.{live_is, second_true}
+use Rattle.trie_model.proofs.ExtentLaws.{second_true}
+use Rattle.trie_model.proofs.ReachLaws.{live_is}
 use Rattle.chunk_usage.specs.declared.open.Open.{Open}
 use Rattle.chunk_usage.specs.declared.space.Full.{Full}
 use Rattle.chunk_usage.specs.Ledger.{Ledger, Frozen, Row, is_in_row, frozen_part, is_open, is_given, free_count, reserve_of}
@@ -212,7 +213,7 @@ kept_images v (k ∷ kept) all =
 
 -- so where a call then finds no room, the cells are many
 pub many : (m new : Ledger) (f : Full) (chunks cells_es cells_base meets_es meets_base b n written : ℕ) → length m.given ≡ chunks → length new.given ≡ chunks → chunks ≤ free_count m + (2 + meets_es + meets_base) → meets_es + b ≤ cells_es → meets_base ≤ cells_base
-    → n ≤ 47 * b → written ≤ 259 → spent new ≤ spent m + (written + n) → Lacks new f → chunks - reserve_of new - 2 ≤ cells_es + cells_base
+    → n ≤ 47 * b → written ≤ 4115 → spent new ≤ spent m + (written + n) → Lacks new f → chunks - reserve_of new - 8 ≤ cells_es + cells_base
 many m new f chunks cells_es cells_base meets_es meets_base b n written old_length new_length given es base path short cost lacks =
     let all = none_unspent new.open_chunk f.needed lacks.0.few_left lacks.2 in
     let none = lacks.0.none_free in

@@ -1,16 +1,18 @@
 -- What a root reaches has a cell that counts in its chunk.
-use Rattle.std.proofs.Common.{◌≡◌, ℕ, zero, suc, ◌/◌, ◌<◌, ◌≤◌, nat_lt, Bool, true, ◌&&◌, List, Option, Some, None, arith, ◌∙◌, ap, inl, inr}
+use Rattle.std.proofs.Common.{◌≡◌, ℕ, zero, suc, ◌-◌, ◌/◌, ◌<◌, ◌≤◌, nat_lt, Bool, true, ◌&&◌, List, length, Option, Some, None, arith, ◌∙◌, ap, inl, inr}
 use Rattle.std.proofs.lemmas.Bool.{cases_eq, cases_Bool}
 use Rattle.std.proofs.lemmas.Bool.Decides.{nat_tests}
 use Rattle.packed_node.specs.declared.Cell.{Cell}
-use Rattle.trie_model.specs.Extents.{cells_in, row}
+use Rattle.trie_model.specs.Extents.{Extents, content_cells, linked_cells, row, weigh_extents}
+use Rattle.trie_model.specs.Extents.Extents.{last, linked}
 use Rattle.trie_model.specs.Keys.{Entry}
 use Rattle.trie_model.specs.Trees.{Tree, Twigs}
 use Rattle.trie_model.specs.Trees.Tree.{leaf, branch}
 use Rattle.trie_model.specs.Trees.Twigs.{none, twig}
 use Rattle.trie_model.specs.Reach.{in_chunk, weigh_tree, weigh, WithinTree}
 use Rattle.trie_model.proofs.MoveLaws.{Keeps}
-use Rattle.trie_model.proofs.ReachLaws.{live_is, first_true, second_true, both_true}
+use Rattle.trie_model.proofs.ExtentLaws.{first_true, second_true, both_true}
+use Rattle.trie_model.proofs.ReachLaws.{live_is}
 use Rattle.trie_write.specs.Standing.{StandsIn, Standing}
 use Rattle.trie_write.specs.Weights.{at_place}
 use Rattle.trie_write.proofs.RootLaws.{stands_later}
@@ -21,9 +23,13 @@ pub row_le : (v w : ℕ → ℕ) → ((x : ℕ) → v x ≤ w x) → (r n : ℕ)
 row_le v w le r zero = omega arith
 row_le v w le r (suc n) = let a = le r in let b = row_le v w le (suc r) n in omega arith
 
+extents_le : (v w : ℕ → ℕ) → ((q : ℕ) → v q ≤ w q) → (n : ℕ) (x : Extents) → weigh_extents v n x ≤ weigh_extents w n x
+extents_le v w le n (last r) = row_le v w le r (content_cells n)
+extents_le v w le n (linked r x) = let a = row_le v w le r linked_cells in let b = extents_le v w le (n - 4080) x in omega arith
+
 mutual
   weigh_le : (v w : ℕ → ℕ) → ((x : ℕ) → v x ≤ w x) → (t : Tree) → weigh_tree v t ≤ weigh_tree w t
-  weigh_le v w le (leaf e first) = row_le v w le first (cells_in e.item)
+  weigh_le v w le (leaf e x) = extents_le v w le (length e.item) x
   weigh_le v w le (branch o r below) = weigh_in_le v w le r below
 
   weigh_in_le : (v w : ℕ → ℕ) → ((x : ℕ) → v x ≤ w x) → (r : ℕ) (ts : Twigs) → weigh v r ts ≤ weigh w r ts

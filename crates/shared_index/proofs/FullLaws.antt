@@ -59,7 +59,7 @@ images_on v w x g same all =
     (λ k h. subst (IsVersion k.image k.root) (sym (version_at_on k.version g)) h) (kept_in w.turn) all)
 
 -- a call writes few cells beside the path's twigs
-pub few_written : (c : Change) → LeadsItem c → written_by c ≤ 259
+pub few_written : (c : Change) → LeadsItem c → written_by c ≤ 4115
 few_written (change.Insert key item) leads = let l = leads.short in omega arith
 few_written (change.Replace key item) leads = let l = leads.short in omega arith
 few_written (change.Delete key) leads = omega arith

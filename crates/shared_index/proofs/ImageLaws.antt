@@ -12,7 +12,8 @@ use Rattle.pin_core.specs.declared.kept.Kept.{Kept}
 use Rattle.pin_core.proofs.Lists.{contains_cases}
 use Rattle.trie_model.specs.Keys.{Entry}
 use Rattle.trie_model.specs.Reach.{reach, reach_below}
-use Rattle.trie_model.proofs.ReachLaws.{tested, first_true, second_true}
+use Rattle.trie_model.proofs.ExtentLaws.{first_true, second_true}
+use Rattle.trie_model.proofs.ReachLaws.{tested}
 use Rattle.trie_write.specs.Standing.{Standing, StandsIn}
 use Rattle.trie_write.proofs.RootLaws.{stands_later}
 use Rattle.shared_index.specs.Meanings.{in_image, Holds, IsImageOf, IsVersion}

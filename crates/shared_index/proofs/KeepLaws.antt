@@ -15,7 +15,7 @@ use Rattle.shared_index.specs.Bases.{StandsFor}
 use Rattle.chunk_usage.proofs.FlagLemmas.{set_within}
 use Rattle.chunk_usage.proofs.RecyclingLaws.{freed_by_chunk}
 use Rattle.chunk_usage.proofs.SpaceLaws.{used_given}
-use Rattle.trie_model.proofs.ReachLaws.{both_true, first_true, second_true}
+use Rattle.trie_model.proofs.ExtentLaws.{both_true, first_true, second_true}
 use Rattle.shared_cells.specs.Cells.{Cells, cells_of, given_chunks, kept_references, HasCell}
 use Rattle.shared_index.specs.Turns.{Agrees, row_for, cell_counts, current_image, is_immutable}
 use Rattle.shared_index.proofs.Lists.{either_true, all_of, all_from, any_from, in_map, of_map, in_flat}

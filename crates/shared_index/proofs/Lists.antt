@@ -5,7 +5,7 @@ use Rattle.std.proofs.lemmas.List.Folds.{list_all-append}
 use Rattle.std.proofs.lemmas.List.Elements.{Contains-append_cases}
 use Rattle.std.proofs.lemmas.List.Sums.{sum_by-cons}
 use Rattle.pin_core.proofs.Lists.{contains_cases, contains_later}
-use Rattle.trie_model.proofs.ReachLaws.{both_true, first_true, second_true}
+use Rattle.trie_model.proofs.ExtentLaws.{both_true, first_true, second_true}
 
 pub either_true : (a b : Bool) → (a ≡ true) ⊎ (b ≡ true) → (a || b) ≡ true
 either_true true b h = refl

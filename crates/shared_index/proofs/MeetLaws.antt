@@ -1,15 +1,17 @@
 -- How many chunks a root meets: at most as many as it has cells less branches.
-use Rattle.std.proofs.Common.{◌≡◌, ℕ, zero, suc, ◌+◌, ◌*◌, ◌/◌, ◌%◌, ◌<◌, ◌≤◌, ◌==◌, Bool, true, false, not, cond, if◌then◌else◌, List, [], ◌∷◌, length, slice_index_or, arith, refl, ◌∙◌, ap, subst, inl, inr}
+use Rattle.std.proofs.Common.{◌≡◌, ℕ, zero, suc, ◌+◌, ◌-◌, ◌*◌, ◌/◌, ◌%◌, ◌<◌, ◌≤◌, ◌==◌, Bool, true, false, not, cond, if◌then◌else◌, List, [], ◌∷◌, length, slice_index_or, arith, refl, ◌∙◌, ap, subst, inl, inr}
 use Rattle.std.specs.Prelude.{count_by}
 use Rattle.std.proofs.lemmas.Bool.{cases_eq, cases_lt}
 use Rattle.std.proofs.lemmas.Bool.Decides.{nat_tests}
-use Rattle.trie_model.specs.Extents.{cells_in, row}
+use Rattle.trie_model.specs.Extents.{Extents, AreExtents, content_cells, linked_cells, row, weigh_extents}
+use Rattle.trie_model.specs.Extents.Extents.{last, linked}
 use Rattle.trie_model.specs.Keys.{at}
 use Rattle.trie_model.specs.Trees.{Tree, Twigs, IsTree, AreTwigs, count}
 use Rattle.trie_model.specs.Trees.Tree.{leaf, branch}
 use Rattle.trie_model.specs.Trees.Twigs.{none, twig}
 use Rattle.trie_model.specs.Reach.{in_chunk, weigh_tree, weigh}
 use Rattle.trie_model.proofs.BitmapLaws.{few}
+use Rattle.trie_model.proofs.ExtentLaws.{linked_is}
 use Rattle.trie_model.proofs.CountLaws.{under, weigh_is}
 use Rattle.trie_model.proofs.SplitLaws.{rising_of}
 use Rattle.chunk_usage.proofs.RowLemmas.{row_there}
@@ -20,10 +22,14 @@ use Rattle.trie_write.proofs.WeightLaws.{in_row, row_meets, row_misses}
 use Rattle.shared_index.proofs.CountedLaws.{row_le, here_in}
 use Rattle.shared_index.proofs.OpenLaws.{clear, clear_is}
 
--- what the first cells weigh, of each branch's row of twigs and of each leaf's item
+-- what the first cells weigh, of each extent of an item, and of each branch's row of twigs
+abbrev pub extent_firsts : (ℕ → ℕ) → Extents → ℕ
+extent_firsts w (last r) = w r
+extent_firsts w (linked r x) = w r + extent_firsts w x
+
 abbrev mutual
   pub firsts : (ℕ → ℕ) → Tree → ℕ
-  firsts w (leaf e first) = w first
+  firsts w (leaf e x) = extent_firsts w x
   firsts w (branch o r below) = w r + firsts_in w below
 
   pub firsts_in : (ℕ → ℕ) → Twigs → ℕ
@@ -32,7 +38,7 @@ abbrev mutual
 
 abbrev mutual
   pub branches : Tree → ℕ
-  branches (leaf e first) = 0
+  branches (leaf e x) = 0
   branches (branch o r below) = suc (branches_in below)
 
   pub branches_in : Twigs → ℕ
@@ -47,9 +53,16 @@ row_first k r n together some = elim (cases_eq k (r / 1024)) [
   | inr ne ↦ absurd (let z = row_there r n together k ne in omega arith)
 ]
 
+extent_met : (k n : ℕ) (x : Extents) → AreExtents n x → 0 < weigh_extents (in_chunk k) n x → 1 ≤ extent_firsts (in_chunk k) x
+extent_met k n (last r) are some = let a = row_first k r (content_cells n) are.1.together some in omega arith
+extent_met k n (linked r x) are some = elim (cases_lt 0 (row (in_chunk k) r linked_cells)) [
+  | inl here ↦ (let a = row_first k r linked_cells are.1.together here in omega arith)
+  | inr gone ↦ (let a = extent_met k (n - 4080) x are.2 (omega arith) in omega arith)
+]
+
 mutual
   pub met_first : (k low : ℕ) (t : Tree) → IsTree low t → 0 < weigh_tree (in_chunk k) t → 1 ≤ firsts (in_chunk k) t
-  met_first k low (leaf e first) is some = let a = row_first k first (cells_in e.item) is.1.together some in omega arith
+  met_first k low (leaf e x) is some = extent_met k (length e.item) x is.1 some
   met_first k low (branch o r below) is some =
       let parts = weigh_is (in_chunk k) r below in
       elim (cases_lt 0 (row (in_chunk k) r (count below))) [
@@ -86,9 +99,16 @@ equal_place q k = elim (cases_eq q k) [
 pub equal_once : (q r n : ℕ) → row (λ k. if q == k then 1 else 0) r n ≤ 1
 equal_once q r n = let a = row_le (λ k. if q == k then 1 else 0) (at_place q) (equal_place q) r n in let b = one_place q r n in omega arith
 
+extents_sum : (n : ℕ) (x : Extents) → row (λ k. extent_firsts (in_chunk k) x) 0 n ≤ extent_firsts one x
+extents_sum n (last r) = equal_once (r / 1024) 0 n
+extents_sum n (linked r x) =
+    let a = row_add (λ k. in_chunk k r) (λ k. extent_firsts (in_chunk k) x) 0 n in
+    let b = equal_once (r / 1024) 0 n in
+    let c = extents_sum n x in omega arith
+
 mutual
   pub firsts_sum : (n : ℕ) (t : Tree) → row (λ k. firsts (in_chunk k) t) 0 n ≤ firsts one t
-  firsts_sum n (leaf e first) = equal_once (first / 1024) 0 n
+  firsts_sum n (leaf e x) = extents_sum n x
   firsts_sum n (branch o r below) =
       let a = row_add (λ k. in_chunk k r) (λ k. firsts_in (in_chunk k) below) 0 n in
       let b = equal_once (r / 1024) 0 n in
@@ -105,9 +125,17 @@ mutual
       let b = firsts_sum n t in
       let c = firsts_in_sum n rest in omega arith
 
+extents_few : (n : ℕ) (x : Extents) → 0 < n → AreExtents n x → extent_firsts one x ≤ weigh_extents one n x
+extents_few n (last r) some are = let a = row_ones r (content_cells n) in omega arith
+extents_few n (linked r x) some are =
+    let long = are.0 in
+    let a = row_ones r linked_cells in
+    let b = linked_is in
+    let c = extents_few (n - 4080) x (omega arith) are.2 in omega arith
+
 mutual
   pub firsts_few : (low : ℕ) (t : Tree) → IsTree low t → firsts one t + branches t ≤ weigh_tree one t
-  firsts_few low (leaf e first) is = let a = row_ones first (cells_in e.item) in let b = is.0.item.some in omega arith
+  firsts_few low (leaf e x) is = let a = extents_few (length e.item) x is.0.item.some is.1 in omega arith
   firsts_few low (branch o r below) is = let a = firsts_in_few o 0 r below is.5 in let two = is.3 in omega arith
 
   firsts_in_few : (o low r : ℕ) (ts : Twigs) → AreTwigs o low ts → firsts_in one ts + branches_in ts + count ts ≤ weigh one r ts
@@ -124,7 +152,7 @@ either_few false m n i j h g = omega arith
 
 mutual
   pub path_few : (key : List ℕ) (low : ℕ) (t : Tree) → IsTree low t → twigs_on_path key t ≤ 47 * branches t
-  path_few key low (leaf e first) is = omega arith
+  path_few key low (leaf e x) is = omega arith
   path_few key low (branch o r below) is =
       let a = few 0 47 below (rising_of o 0 below (omega arith) is.5) in
       let b = past_few key (at key o) o 0 below is.5 in omega arith

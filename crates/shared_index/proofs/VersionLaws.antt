@@ -17,7 +17,8 @@ use Rattle.trie_model.specs.Trees.{Tree}
 use Rattle.trie_model.specs.Memory.{top_cell}
 use Rattle.trie_model.specs.Reach.{reach, reach_below}
 use Rattle.trie_model.proofs.MoveLaws.{beneath_kept, tree_weaker}
-use Rattle.trie_model.proofs.ReachLaws.{tested, tests, both_true, first_true, second_true}
+use Rattle.trie_model.proofs.ExtentLaws.{both_true, first_true, second_true}
+use Rattle.trie_model.proofs.ReachLaws.{tested, tests}
 use Rattle.chunk_usage.specs.Ledger.{Ledger, IsLedger, is_used, row_of}
 use Rattle.zone_model.specs.Keys.{Leads}
 use Rattle.trie_read.specs.Reads.{EachTells}

@@ -47,9 +47,9 @@ pub record FullCause (after : Ledger) (d : Draft) (key : List ℕ) (written : �
   -- each other allocated chunk is the one to which a rollback returns, or has a cell of the working set or of a kept version
   pub others_met : (k : ℕ) → is_given d.usage k ≡ true
       → ((is_open d.usage.last_open k ≡ true) ⊎ Contains opened k) ⊎ ((0 < slice_index d.usage.live k) ⊎ (is_in_rows d.usage.rows k ≡ true))
-  -- So the cells are many: a root meets no more chunks than it has cells less branches, and each chunk that the call filled
-  -- goes with a branch of the key's path.
-  pub many_cells : length d.usage.given - reserve_of d.usage - 2 ≤ cells (working_set d) + cells_kept d.seat.place.me.0 (versions_in f.kept)
+  -- So the cells are many: a root meets no more chunks than it has cells less branches, an item fills few chunks, and each other
+  -- chunk that the call filled goes with a branch of the key's path.
+  pub many_cells : length d.usage.given - reserve_of d.usage - 8 ≤ cells (working_set d) + cells_kept d.seat.place.me.0 (versions_in f.kept)
 
 -- The call's first try had found no room either, and this was left when room was made, with the versions that are told.
 pub record CausedBy (first d : Draft) (key : List ℕ) (written : ℕ) (asks : List ℕ → List ℕ) (f : Full) : Type 0 where

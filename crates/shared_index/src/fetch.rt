@@ -1,5 +1,6 @@
 //! The working set, read by its transaction.
-ghost use Rattle.std.specs.Prelude.{◌≡◌, ◌+◌, ◌*◌, List, length};
+ghost use Rattle.std.specs.Prelude.{◌≡◌, ◌≤◌, ◌+◌, ◌*◌, List, length};
+ghost use Rattle.zone_model.specs.Keys.{most_item_octets};
 ghost use Rattle.trie_model.specs.Keys.{Entry};
 ghost use Rattle.trie_read.specs.Readings.{Fetched};
 ghost use Rattle.shared_index.specs.Bases.{StandsFor};
@@ -20,12 +21,13 @@ fn fetch_lent<L: Law, B: Lent<Version, Operations>>(
     _usage: &Usage,
     root: Option<Ref>,
     key: &Key,
-    out: &mut [u8; 4096],
+    out: &mut [u8],
 ) -> (JoinedSeat<Version, Operations>, Option<usize>)
     requires table { seat.place.table_id ≡ shared.now.table.shared.table_id }
     requires lent { (seat.place.table_id ≡ B.table) × (seat.place.me.0 ≡ B.view) }
     requires wide { 4161 + 2048 * length _usage.now.given ≡ seat.place.table_id.words }
     requires stands { (es : List Entry) × StandsFor seat.place.me.0 _usage.now root es }
+    requires room { most_item_octets ≤ length out.old }
     ensures table { result.0.place.table_id ≡ seat.place.table_id }
     ensures same { result.0.place.me.0 ≡ seat.place.me.0 }
     ensures passes { result.0.passes ≡ seat.passes }
@@ -50,11 +52,12 @@ fn fetch_item<L: Law>(
     usage: &Usage,
     root: Option<Ref>,
     key: &Key,
-    out: &mut [u8; 4096],
+    out: &mut [u8],
 ) -> (JoinedSeat<Version, Operations>, Option<usize>)
     requires table { seat.place.table_id ≡ shared.now.table.shared.table_id }
     requires wide { 4161 + 2048 * length usage.now.given ≡ seat.place.table_id.words }
     requires stands { (es : List Entry) × StandsFor seat.place.me.0 usage.now root es }
+    requires room { most_item_octets ≤ length out.old }
     ensures table { result.0.place.table_id ≡ seat.place.table_id }
     ensures same { result.0.place.me.0 ≡ seat.place.me.0 }
     ensures passes { result.0.passes ≡ seat.passes }
@@ -72,10 +75,11 @@ impl Draft {
         self,
         shared: &Shared<Version, Operations, Meaning<L>>,
         key: &Key,
-        out: &mut [u8; 4096],
+        out: &mut [u8],
     ) -> (Draft, Option<usize>)
         requires table { self.seat.place.table_id ≡ shared.now.table.shared.table_id }
         requires works { Works self }
+        requires room { most_item_octets ≤ length out.old }
         ensures table { result.0.seat.place.table_id ≡ self.seat.place.table_id }
         ensures same { IsSame self result.0 }
         ensures item { Fetched key.now (working_set self) out.old out.new result.1 }

@@ -139,7 +139,7 @@ impl<L: Law, N: Named> Reading for Snapshot<'_, L, N> {
         self.seat.version
     }
 
-    fn fetch(&mut self, key: &Key, out: &mut [u8; 4096]) -> Option<usize> {
+    fn fetch(&mut self, key: &Key, out: &mut [u8]) -> Option<usize> {
         let root = self.seat.root;
         match trie_read::get(self, root, key) {
             None => None,
@@ -192,7 +192,7 @@ impl<L: Law, N: Named> Reading for Snapshot<'_, L, N> {
         iter.behind(self)
     }
 
-    fn read(&mut self, leaf: Leaf, out: &mut [u8; 4096]) -> usize {
+    fn read(&mut self, leaf: Leaf, out: &mut [u8]) -> usize {
         read_item(self, leaf, out)
     }
 

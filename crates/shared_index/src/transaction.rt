@@ -1,5 +1,6 @@
 //! Transactions: one at a time, each of a pass that has joined the turn.
-ghost use Rattle.std.specs.Prelude.{◌≡◌, ◌≢◌, ◌↔◌, ◌+◌, Some, Err, IsSome, IsNone, IfSome, IsSomeAnd, IsOk, IsErr, IfOk, IfErr, length, slice_get};
+ghost use Rattle.std.specs.Prelude.{◌≡◌, ◌≢◌, ◌↔◌, ◌+◌, ◌≤◌, Some, Err, IsSome, IsNone, IfSome, IsSomeAnd, IsOk, IsErr, IfOk, IfErr, length, slice_get};
+ghost use Rattle.zone_model.specs.Keys.{most_item_octets};
 ghost use Rattle.trie_model.specs.Extents.{cells_in};
 ghost use Rattle.shared_index.specs.Passes.{known_at};
 ghost use Rattle.std.specs.Option.{ForSome};
@@ -177,8 +178,9 @@ impl<'i, L: Law, N: Named> Locked<'i, L, N> {
     }
 
     // Reads an item of the working set.
-    fn fetch(&mut self, key: &Key, out: &mut [u8; 4096]) -> Option<usize>
-        requires { IsSomeAnd self.old.draft Works }
+    fn fetch(&mut self, key: &Key, out: &mut [u8]) -> Option<usize>
+        requires works { IsSomeAnd self.old.draft Works }
+        requires room { most_item_octets ≤ length out.old }
         ensures place { self.new.place ≡ self.old.place }
         ensures same { Between IsSame self.old.draft self.new.draft }
         ensures item { IfSome self.old.draft (λ d. Fetched key.now (working_set d) out.old out.new result) }
@@ -403,13 +405,14 @@ impl<L: Law, N: Named, K> Transaction<'_, '_, L, N, K> {
     ghost use Rattle.trie_read.specs.Readings.{Fetched};
     ghost use Rattle.shared_index.specs.Fulls.{CausedFrom};
     ghost use Rattle.shared_index.specs.Rooms.{SparesReserve};
-        ghost use Rattle.trie_write.specs.Paths.{insert_asks, replace_asks, delete_asks};
+    ghost use Rattle.trie_write.specs.Paths.{insert_asks, replace_asks, delete_asks};
     ghost use Rattle.shared_index.specs.declared.meaning.Operation.TheVariants as operation;
 
     /// Reads the item of a key of the working set into the beginning of `out`, and gives its length; `None` where the key is not
     /// there.
-    pub fn fetch(&mut self, key: &Key, out: &mut [u8; 4096]) -> Option<usize>
-        requires { IsSomeAnd self.old.locked.now.draft Works }
+    pub fn fetch(&mut self, key: &Key, out: &mut [u8]) -> Option<usize>
+        requires works { IsSomeAnd self.old.locked.now.draft Works }
+        requires room { most_item_octets ≤ length out.old }
         ensures same_reference { (self.new.home.ghost_name ≡ self.old.home.ghost_name) × (self.new.locked.ghost_name ≡ self.old.locked.ghost_name) }
         ensures place { self.new.locked.now.place ≡ self.old.locked.now.place }
         ensures same { Between IsSame self.old.locked.now.draft self.new.locked.now.draft }

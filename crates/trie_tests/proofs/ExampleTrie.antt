@@ -2,6 +2,7 @@
 use Rattle.std.specs.Char.{to_ascii_lowercase}
 use Rattle.zone_model.specs.Keys.{first_position, second_position, key_of, Leads}
 use Rattle.trie_model.specs.Extents.{ItemLies}
+use Rattle.trie_model.specs.Extents.Extents.{last}
 use Rattle.trie_read.specs.Reads.{EachTells}
 use Rattle.std.proofs.Common.{◌≡◌, ◌∙◌, List, length, ℕ, zero, suc, ◌+◌, ◌^◌, ◌<◌, ◌≤◌, eqb, [], ◌∷◌, Some, slice_index, count_by, count_ones, arith, inl, inr, refl, ap, subst}
 use Rattle.std.proofs.lemmas.Bool.Decides.{nat_tests}
@@ -20,7 +21,7 @@ abbrev entry_of_letter : ℕ → ℕ → Entry
 entry_of_letter position letter = record { key = key_of_letter position; item = item_of_letter letter }
 
 abbrev example : Tree
-example = branch 0 1 (twig 17 (leaf (entry_of_letter 17 97) 3) (twig 18 (leaf (entry_of_letter 18 98) 4) none))
+example = branch 0 1 (twig 17 (leaf (entry_of_letter 17 97) (last 3)) (twig 18 (leaf (entry_of_letter 18 98) (last 4)) none))
 
 letter_is_key : (p : ℕ) → 17 ≤ p → p ≤ 42 → IsKey (key_of_letter p)
 letter_is_key p l m = record { short = omega arith; positions = positions; ended = ended; full = full }
@@ -63,8 +64,8 @@ shape = (
     omega arith,
     omega arith,
     all_at 17 97,
-    (letter_is_entry 17 97 (omega arith) (omega arith) (omega arith), record { inside = omega arith; together = omega arith }),
-    (omega arith, omega arith, all_at 18 98, (letter_is_entry 18 98 (omega arith) (omega arith) (omega arith), record { inside = omega arith; together = omega arith }), tt),
+    (letter_is_entry 17 97 (omega arith) (omega arith) (omega arith), (omega arith, record { inside = omega arith; together = omega arith })),
+    (omega arith, omega arith, all_at 18 98, (letter_is_entry 18 98 (omega arith) (omega arith) (omega arith), (omega arith, record { inside = omega arith; together = omega arith })), tt),
   ),
 )
 
@@ -79,7 +80,7 @@ pub example_branch : (bitmap : ℕ) → bitmap ≡ 2 ^ 17 + 2 ^ 18 → IsBranch 
 example_branch bitmap e = record { positions = omega arith; two = (let n = ap count_ones e in let m = two_bits in omega arith); early = omega arith; inside = omega arith }
 
 pub two_names_stand : (has : ℕ → Cell → Type 0) (bitmap : ℕ) → bitmap ≡ 2 ^ 17 + 2 ^ 18 → has 0 (branch_cell (record { offset = 0; bitmap = bitmap; twigs = 1 })) → has 1 (leaf_cell (record { len = 3; at = 3 })) →
-    has 2 (leaf_cell (record { len = 3; at = 4 })) → ItemLies has 3 (item_of_letter 97) → ItemLies has 4 (item_of_letter 98) → Stands has (Some 0) two_names
+    has 2 (leaf_cell (record { len = 3; at = 4 })) → ItemLies has (last 3) (item_of_letter 97) → ItemLies has (last 4) (item_of_letter 98) → Stands has (Some 0) two_names
 two_names_stand has bitmap e root a b first second = (
   example,
   record {

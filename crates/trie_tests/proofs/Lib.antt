@@ -1,1 +1,2 @@
+mod BlankLaws
 mod ExampleTrie

@@ -42,9 +42,9 @@ fn too_long(alloc: Global, payload: usize) -> Option<u64> {
 }
 
 #[test]
-fn items_have_4096_octets_at_most(rt: HostRuntime) {
-    assert!(rt; matches!(item_len(rt.alloc(), 4095), Some((4096, 0))));
-    assert!(rt; matches!(too_long(rt.alloc(), 4096), Some(4097)));
+fn items_have_65535_octets_at_most(rt: HostRuntime) {
+    assert!(rt; matches!(item_len(rt.alloc(), 65_534), Some((65_535, 0))));
+    assert!(rt; matches!(too_long(rt.alloc(), 65_535), Some(65_536)));
 }
 
 /// Puts in an item.

@@ -1,8 +1,11 @@
 //! An item of 28 octets, written and read.
 
-ghost use Rattle.std.specs.Prelude.{◌≡◌, false, replicate};
+ghost use Rattle.std.specs.Prelude.{◌≡◌, ◌≤◌, false, length, replicate};
 
-use chunk_cells::{CellRead, CellWrite, PlainCells, item, read_front, read_item, write_item};
+use crate::made::lone;
+use chunk_cells::{
+    CellRead, CellWrite, Extents, PlainCells, cells_for, read_front, read_item, write_item,
+};
 use packed_node::{Cell, Leaf};
 use std::test::Fail;
 
@@ -29,9 +32,9 @@ fn is_written_and_read(cells: &mut PlainCells, after: Cell) -> bool
 {
     cells.give(1);
     cells.put(1032, after);
-    write_item(cells, 1030, &ITEM);
-    let mut out = [9; 4096];
     let leaf = Leaf { len: 28, at: 1030 };
+    write_item(cells, &lone(leaf), &ITEM);
+    let mut out = [9; 4096];
     let len = read_item(cells, leaf, &mut out);
     let mut front = [9; 256];
     let front_len = read_front(cells, leaf, &mut front);
@@ -52,7 +55,7 @@ fn is_written_and_read(cells: &mut PlainCells, after: Cell) -> bool
 
 #[test]
 fn an_item_is_written_and_read(rt: HostRuntime) {
-    assert!(rt; item::cells_for(28) == 2);
+    assert!(rt; cells_for(28) == 2);
     let right = match PlainCells::new(rt.alloc(), 2) {
         Ok(cells) => {
             let mut cells = cells;
@@ -61,6 +64,46 @@ fn an_item_is_written_and_read(rt: HostRuntime) {
         Err(_) => false,
     };
     assert!(rt; right);
+}
+
+// An item of 4,097 octets that begins in cell 1030: its 256th cell says where the other two begin.
+fn is_linked(cells: &mut PlainCells, item: &[u8], out: &mut [u8]) -> bool
+    requires given { ⟦<PlainCells as CellWrite>⟧.given cells.old ≡ replicate 3 false }
+    requires size { length item.now ≡ 4097 }
+    requires room { 4097 ≤ length out.old }
+{
+    cells.give(1);
+    cells.give(2);
+    let mut at = [0; 17];
+    at[0] = 1030;
+    at[1] = 2048;
+    write_item(cells, &Extents { len: 4097, at }, item);
+    let len = read_item(
+        cells,
+        Leaf {
+            len: 4097,
+            at: 1030,
+        },
+        out,
+    );
+    let link = cells.cell(1285);
+    let last = cells.cell(2049);
+    &out[..len] == item
+        && link
+            == Cell {
+                big: 0,
+                small: 2048,
+            }
+        && last == Cell { big: 7, small: 0 }
+}
+
+#[test]
+fn a_long_item_is_linked(rt: HostRuntime) -> Result<(), Fail> {
+    let item = vec![in rt.alloc(); 7; 4097]?;
+    let mut out = vec![in rt.alloc(); 0; 4097]?;
+    let mut cells = PlainCells::new(rt.alloc(), 3)?;
+    assert!(rt; is_linked(&mut cells, &item, &mut out));
+    Ok(())
 }
 
 #[test]

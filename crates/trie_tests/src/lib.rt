@@ -8,6 +8,8 @@ mod items;
 #[cfg(test)]
 mod keys;
 #[cfg(test)]
+mod long_items;
+#[cfg(test)]
 mod made;
 #[cfg(test)]
 mod many_names;

@@ -1,8 +1,26 @@
 //! Items, made of texts while a test runs: a proof sees none of them.
 
+ghost use Rattle.std.specs.Prelude.{◌≡◌, ◌≤◌};
+ghost use Rattle.chunk_cells.specs.Laying.{extents_in};
+ghost use Rattle.trie_model.specs.Extents.Extents.{last};
+
+use chunk_cells::Extents;
 use dns_name::Name;
+use packed_node::Leaf;
 use std::alloc::{AllocError, Global};
 use trie_write::Item;
+
+/// The one extent of a leaf's item.
+pub(crate) fn lone(leaf: Leaf) -> Extents
+    requires { leaf.len ≤ 4096 }
+    ensures len { result.len ≡ leaf.len }
+    ensures there { extents_in result ≡ last leaf.at }
+{
+    Extents {
+        len: leaf.len,
+        at: [leaf.at; 17],
+    }
+}
 
 /// So many octets.
 pub(crate) fn octets(alloc: Global, count: usize) -> Result<Vec<u8>, AllocError> {

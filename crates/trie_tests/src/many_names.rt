@@ -21,14 +21,14 @@ use trie_write::{Item, build, cells, delete, insert, replace};
 
 /// What is done with an item.
 #[derive(Clone, Copy)]
-enum Change {
+pub(crate) enum Change {
     Insert,
     Replace,
     Delete,
 }
 
 /// The root after a change; none where it was refused.
-fn changed<C: CellWrite, U: Space>(
+pub(crate) fn changed<C: CellWrite, U: Space>(
     cells: &mut C,
     usage: &mut U,
     root: Option<Ref>,

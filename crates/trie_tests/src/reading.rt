@@ -1,11 +1,12 @@
 //! A trie of the two names a. and b., written cell by cell.
 
-ghost use Rattle.std.specs.Prelude.{◌≡◌, ◌≤◌, ◌∷◌, [], Some, true, IfOk};
+ghost use Rattle.std.specs.Prelude.{◌≡◌, ◌≤◌, ◌∷◌, [], length, Some, true, IfOk};
 ghost use Rattle.trie_model.specs.Memory.{Stands};
-ghost use Rattle.zone_model.specs.Keys.{Leads};
+ghost use Rattle.zone_model.specs.Keys.{Leads, most_item_octets};
 ghost use Rattle.trie_read.specs.Reads.{EachTells};
 ghost use Rattle.trie_tests.specs.Example.{two_names};
 
+use crate::made::lone;
 use chunk_cells::{CellRead, CellWrite, PlainCells, write_item};
 use dns_name::Name;
 use packed_node::{Branch, Leaf, Node, bitmap};
@@ -30,8 +31,8 @@ fn write_two_names(cells: &mut PlainCells)
         bitmap: bitmap::pair(17, 18),
         twigs: 1,
     };
-    write_item(cells, A.at, b"\x01a\0");
-    write_item(cells, B.at, b"\x01b\0");
+    write_item(cells, &lone(A), b"\x01a\0");
+    write_item(cells, &lone(B), b"\x01b\0");
     cells.put(1, Node::Leaf(A).pack());
     cells.put(2, Node::Leaf(B).pack());
     cells.put(0, Node::Branch(branch).pack());
@@ -247,24 +248,24 @@ fn comes_last<R: Reading>(reading: &mut R, key: &Key, last: &[u8]) -> bool
 }
 
 /// Whether a name has no item, and lies under one that has.
-fn is_below<R: Reading>(reading: &mut R, key: &Key) -> bool
-    requires { R.holds reading.old two_names }
+fn is_below<R: Reading>(reading: &mut R, key: &Key, out: &mut [u8]) -> bool
+    requires holds { R.holds reading.old two_names }
+    requires room { most_item_octets ≤ length out.old }
     ensures { reading.new ≡ reading.old }
 {
-    let mut item = [0; 4096];
-    let fetched = reading.fetch(key, &mut item);
+    let fetched = reading.fetch(key, out);
     let kind = reading.find(key).kind;
     fetched.is_none() && kind == Kind::Partial
 }
 
 /// Whether a name has this item, with nothing behind it in the array.
-fn is_fetched<R: Reading>(reading: &mut R, key: &Key, want: &[u8]) -> bool
-    requires { R.holds reading.old two_names }
+fn is_fetched<R: Reading>(reading: &mut R, key: &Key, want: &[u8], out: &mut [u8]) -> bool
+    requires holds { R.holds reading.old two_names }
+    requires room { most_item_octets ≤ length out.old }
     ensures { reading.new ≡ reading.old }
 {
-    let mut item = [0; 4096];
-    match reading.fetch(key, &mut item) {
-        Some(len) => &item[..len] == want && item[len..].first() == Some(&0),
+    match reading.fetch(key, out) {
+        Some(len) => &out[..len] == want && out[len..].first() == Some(&0),
         None => false,
     }
 }
@@ -281,8 +282,9 @@ fn is_seventh<R: Reading>(reading: &mut R) -> bool
 }
 
 /// Whether a reading gives all this, of a name between the two and the second.
-fn reads<R: Reading>(reading: &mut R, between: &[u8], second: &[u8]) -> bool
-    requires { R.holds reading.old two_names }
+fn reads<R: Reading>(reading: &mut R, between: &[u8], second: &[u8], out: &mut [u8]) -> bool
+    requires holds { R.holds reading.old two_names }
+    requires room { most_item_octets ≤ length out.old }
 {
     let (Some(middle), Some(last)) = (Name::from_wire(between), Name::from_wire(second)) else {
         return false;
@@ -291,13 +293,14 @@ fn reads<R: Reading>(reading: &mut R, between: &[u8], second: &[u8]) -> bool
     is_seventh(reading)
         && walks_over(reading, b"\x01a\0", second)
         && comes_last(reading, &middle, b"\x01a\0")
-        && is_below(reading, &middle)
-        && is_fetched(reading, &Key::of(&last), second)
+        && is_below(reading, &middle, out)
+        && is_fetched(reading, &Key::of(&last), second, out)
 }
 
 #[test]
 fn a_version_is_read(rt: HostRuntime) -> Result<(), Fail> {
+    let mut out = vec![in rt.alloc(); 0; 65_535]?;
     let mut reading = CellReading::new(example(rt.alloc())?, Some(0), 7);
-    assert!(rt; reads(&mut reading, b"\x01x\x01a\0", b"\x01b\0"));
+    assert!(rt; reads(&mut reading, b"\x01x\x01a\0", b"\x01b\0", &mut out));
     Ok(())
 }

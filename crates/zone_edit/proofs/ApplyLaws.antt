@@ -5,7 +5,7 @@ use Rattle.std.proofs.lemmas.List.{map-append, map_more, take-append-drop}
 use Rattle.std.specs.List.{AllByRecursion}
 use Rattle.std.specs.Ordering.{is_eq}
 use Rattle.zone_model.specs.Names.{Name, name_cmp}
-use Rattle.zone_model.specs.Records.{Entry, item, without_set, without_rr}
+use Rattle.zone_model.specs.Records.{Entry, item, item_limit, without_set, without_rr}
 use Rattle.zone_model.specs.Versions.{Version, Operation, Add, DeleteName, DeleteSet, DeleteRecord, entry_of, owned, owner_of, changed, apply, all_applied, and_then, put, is_low_soa, is_lone, fitting, keeping_soa, loses_soa, with_added}
 use Rattle.zone_model.specs.declared.Refusal.{Refusal}
 use Rattle.zone_model.specs.declared.Refusal.TheVariants.{Soa, Cname, Long}
@@ -28,11 +28,11 @@ entry_storable name (pair ∷ rest) entry items e = by_test (λ h. entry_storabl
         subst (λ (n : Name). IsStorable (n, entry)) (sym (same_name-true name pair.0 t)) (subst (λ (x : Entry). IsStorable (pair.0, x)) is items.0)
     by_test further false t h = further h
 
-pub owned_short : (name : Name) (version : Version) (entry : Entry) → IsVersion version → entry ≡ owned name version → 0 < length entry → length (item name entry) ≤ 4096
+pub owned_short : (name : Name) (version : Version) (entry : Entry) → IsVersion version → entry ≡ owned name version → 0 < length entry → length (item name entry) ≤ item_limit
 owned_short name version entry v is some =
     let owned_some : 0 < length (owned name version) = subst (λ (x : Entry). 0 < length x) is some in
     let s = entry_storable name version (owned name version) v.items (owns_some name version owned_some) in
-    subst (λ (x : Entry). length (item name x) ≤ 4096) (sym is) s.short
+    subst (λ (x : Entry). length (item name x) ≤ item_limit) (sym is) s.short
 
 kept_soa : (before after next : Entry) → keeping_soa before after ≡ Ok next → after ≡ next
 kept_soa before after next e = by_test (loses_soa before after) e
@@ -41,20 +41,20 @@ kept_soa before after next e = by_test (loses_soa before after) e
     by_test true h = absurd cc
     by_test false h = cc
 
-fitting_short : (owner : Name) (entry next : Entry) → fitting owner entry ≡ Ok next → length (item owner next) ≤ 4096
+fitting_short : (owner : Name) (entry next : Entry) → fitting owner entry ≡ Ok next → length (item owner next) ≤ item_limit
 fitting_short owner entry next e = by_lone (not (is_lone entry)) e
   where
-    by_length : (b : Bool) → ltb 4096 (length (item owner entry)) ≡ b → cond b (Err Long) (Ok entry) ≡ Ok next → length (item owner next) ≤ 4096
+    by_length : (b : Bool) → ltb item_limit (length (item owner entry)) ≡ b → cond b (Err Long) (Ok entry) ≡ Ok next → length (item owner next) ≤ item_limit
     by_length true t h = absurd cc
     by_length false t h =
         let is : entry ≡ next = cc in
-        subst (λ (x : Entry). length (item owner x) ≤ 4096) is (ltb-false 4096 (length (item owner entry)) t)
+        subst (λ (x : Entry). length (item owner x) ≤ item_limit) is (ltb-false item_limit (length (item owner entry)) t)
 
-    by_lone : (b : Bool) → cond b (Err Cname) (cond (ltb 4096 (length (item owner entry))) (Err Long) (Ok entry)) ≡ Ok next → length (item owner next) ≤ 4096
+    by_lone : (b : Bool) → cond b (Err Cname) (cond (ltb item_limit (length (item owner entry))) (Err Long) (Ok entry)) ≡ Ok next → length (item owner next) ≤ item_limit
     by_lone true h = absurd cc
-    by_lone false h = by_length (ltb 4096 (length (item owner entry))) refl h
+    by_lone false h = by_length (ltb item_limit (length (item owner entry))) refl h
 
-left_short : (owner : Name) (before after next : Entry) → IsLess after before → keeping_soa before after ≡ Ok next → (0 < length before → length (item owner before) ≤ 4096) → 0 < length next → length (item owner next) ≤ 4096
+left_short : (owner : Name) (before after next : Entry) → IsLess after before → keeping_soa before after ≡ Ok next → (0 < length before → length (item owner before) ≤ item_limit) → 0 < length next → length (item owner next) ≤ item_limit
 left_short owner before after next less e short some =
     let is = kept_soa before after next e in
     let some_after : 0 < length after = subst (λ (x : Entry). 0 < length x) (sym is) some in
@@ -62,12 +62,12 @@ left_short owner before after next less e short some =
     let some_before : 0 < length before = omega (arith, fewer, some_after) in
     let shorter = item_less owner after before less in
     let most = short some_before in
-    subst (λ (x : Entry). length (item owner x) ≤ 4096) is (omega (arith, shorter, most))
+    subst (λ (x : Entry). length (item owner x) ≤ item_limit) is (omega (arith, shorter, most))
 
-pub changed_short : (origin : Name) (operation : Operation) (before next : Entry) → changed origin operation before ≡ Ok next → (0 < length before → length (item (owner_of operation) before) ≤ 4096) → 0 < length next → length (item (owner_of operation) next) ≤ 4096
+pub changed_short : (origin : Name) (operation : Operation) (before next : Entry) → changed origin operation before ≡ Ok next → (0 < length before → length (item (owner_of operation) before) ≤ item_limit) → 0 < length next → length (item (owner_of operation) next) ≤ item_limit
 changed_short origin (Add a) before next e short some = by_low (is_low_soa origin a) e
   where
-    by_low : (b : Bool) → cond b (Err Soa) (fitting a.owner (with_added a before)) ≡ Ok next → length (item a.owner next) ≤ 4096
+    by_low : (b : Bool) → cond b (Err Soa) (fitting a.owner (with_added a before)) ≡ Ok next → length (item a.owner next) ≤ item_limit
     by_low true h = absurd cc
     by_low false h = fitting_short a.owner (with_added a before) next h
 changed_short origin (DeleteName owner) before next e short some =

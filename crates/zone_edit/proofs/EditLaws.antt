@@ -195,7 +195,7 @@ module _ (o : Operation) (denied : List trie.Entry → Type 0) (A B : Type 0) (n
             named = both.1.named;
             ends = both.1.ends;
             few = few_kept e f both.1;
-            many = subst (λ (es : List trie.Entry). length e.usage.given - reserve_of e.usage - 2 ≤ cells es + cells_kept e.seat.place.me.0 (versions_in f.kept)) (same_set o denied d e A B both.0 undone ∙ on.set) cause.caused.cause.many_cells;
+            many = subst (λ (es : List trie.Entry). length e.usage.given - reserve_of e.usage - 8 ≤ cells es + cells_kept e.seat.place.me.0 (versions_in f.kept)) (same_set o denied d e A B both.0 undone ∙ on.set) cause.caused.cause.many_cells;
           }),
           changes version on.valid is,
         );
@@ -232,7 +232,7 @@ module _ (name : Name) (key before after : List ℕ) (found : Option ℕ) (len :
   read_as None (Some e) same item = same
   read_as None None same item = same
 
-  pub read_within : (old : Option Draft) → IsSomeAnd old WorksOnSome → IfSome old (λ d. Fetched key (working_set d) before after found) → len ≤ 4096
+  pub read_within : (old : Option Draft) → IsSomeAnd old WorksOnSome → IfSome old (λ d. Fetched key (working_set d) before after found) → len ≤ length after
   read_within (Some d) p item = (reads p.version p.on.valid (subst (λ (es : List trie.Entry). Fetched key es before after found) p.on.set item)).within
   read_within None p item = absurd p
 

@@ -53,7 +53,7 @@ pub record IsFullOn (d : Draft) (version : Version) (kept : List ℕ) : Type 0 w
   pub named : (v : ℕ) → Contains kept v → (v ≡ d.seat.version) ⊎ IsNamed d.seat.place.me.0 v
   pub ends : (older : List ℕ) × (kept ≡ older ++ d.seat.version ∷ [])
   pub few : length kept ≤ d.seat.passes + 1
-  pub many : length d.usage.given - reserve_of d.usage - 2 ≤ cell_count version + cells_kept d.seat.place.me.0 kept
+  pub many : length d.usage.given - reserve_of d.usage - 8 ≤ cell_count version + cells_kept d.seat.place.me.0 kept
 
 -- An entry was put under a name that owned this one; or there was no room for it while what is kept is kept, though it would have changed the version, and the
 -- working set is as before.

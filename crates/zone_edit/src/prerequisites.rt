@@ -1,6 +1,7 @@
 //! What a transaction wants of its working set before it changes anything.
 
-ghost use Rattle.std.specs.Prelude.{◌≡◌, IsSomeAnd, map};
+ghost use Rattle.std.specs.Prelude.{◌≡◌, ◌≤◌, length, IsSomeAnd, map};
+ghost use Rattle.zone_model.specs.Keys.{most_item_octets};
 ghost use Rattle.zone_change.specs.Views.{prerequisite_view};
 ghost use Rattle.zone_edit.specs.Stores.{WorksOnSome, Edits};
 ghost use Rattle.zone_edit.specs.Blocks.{Meets, MeetsAll};
@@ -15,9 +16,10 @@ use zone_change::Prerequisite;
 fn meets<L: Law, N: Named, K>(
     transaction: &mut Transaction<'_, '_, L, N, K>,
     prerequisite: &Prerequisite,
-    item: &mut [u8; 4096],
+    item: &mut [u8],
 ) -> bool
-    requires { IsSomeAnd transaction.old.locked.now.draft WorksOnSome }
+    requires works { IsSomeAnd transaction.old.locked.now.draft WorksOnSome }
+    requires room { most_item_octets ≤ length item.old }
     ensures same_reference { (transaction.new.home.ghost_name ≡ transaction.old.home.ghost_name) × (transaction.new.locked.ghost_name ≡ transaction.old.locked.ghost_name) }
     ensures place { transaction.new.locked.now.place ≡ transaction.old.locked.now.place }
     ensures meets { Edits (Meets (prerequisite_view prerequisite.now) result) transaction.old.locked.now.draft transaction.new.locked.now.draft }
@@ -33,9 +35,10 @@ fn meets<L: Law, N: Named, K>(
 pub(crate) fn meets_all<L: Law, N: Named, K>(
     transaction: &mut Transaction<'_, '_, L, N, K>,
     prerequisites: &[Prerequisite],
-    item: &mut [u8; 4096],
+    item: &mut [u8],
 ) -> bool
-    requires { IsSomeAnd transaction.old.locked.now.draft WorksOnSome }
+    requires works { IsSomeAnd transaction.old.locked.now.draft WorksOnSome }
+    requires room { most_item_octets ≤ length item.old }
     ensures same_reference { (transaction.new.home.ghost_name ≡ transaction.old.home.ghost_name) × (transaction.new.locked.ghost_name ≡ transaction.old.locked.ghost_name) }
     ensures place { transaction.new.locked.now.place ≡ transaction.old.locked.now.place }
     ensures meets { Edits (MeetsAll (map prerequisite_view prerequisites.now) result) transaction.old.locked.now.draft transaction.new.locked.now.draft }

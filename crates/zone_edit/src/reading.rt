@@ -1,7 +1,7 @@
 //! What a name owns in a transaction's working set.
 
-ghost use Rattle.std.specs.Prelude.{◌≡◌, ◌≤◌, IsSomeAnd};
-ghost use Rattle.zone_model.specs.Keys.{key_of};
+ghost use Rattle.std.specs.Prelude.{◌≡◌, ◌≤◌, length, IsSomeAnd};
+ghost use Rattle.zone_model.specs.Keys.{key_of, most_item_octets};
 ghost use Rattle.zone_edit.specs.Stores.{WorksOnSome, Reads, Edits};
 
 use dns_name::Name;
@@ -13,13 +13,14 @@ pub(crate) fn read_owned<L: Law, N: Named, K>(
     transaction: &mut Transaction<'_, '_, L, N, K>,
     name: &Name,
     key: &Key,
-    item: &mut [u8; 4096],
+    item: &mut [u8],
 ) -> usize
     requires works { IsSomeAnd transaction.old.locked.now.draft WorksOnSome }
     requires key { key.now ≡ key_of name.now }
+    requires room { most_item_octets ≤ length item.old }
     ensures same_reference { (transaction.new.home.ghost_name ≡ transaction.old.home.ghost_name) × (transaction.new.locked.ghost_name ≡ transaction.old.locked.ghost_name) }
     ensures place { transaction.new.locked.now.place ≡ transaction.old.locked.now.place }
-    ensures within { result ≤ 4096 }
+    ensures within { result ≤ length item.new }
     ensures read { Edits (Reads name.now item.new result) transaction.old.locked.now.draft transaction.new.locked.now.draft }
 {
     let _wire = name.wire(); // for the proof

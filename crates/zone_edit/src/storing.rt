@@ -2,7 +2,7 @@
 
 ghost use Rattle.std.specs.Prelude.{◌≡◌, ◌<◌, ◌≤◌, [], List, length, IsSomeAnd};
 ghost use Rattle.zone_model.specs.Keys.{key_of};
-ghost use Rattle.zone_model.specs.Records.{item, IsItem};
+ghost use Rattle.zone_model.specs.Records.{item, item_limit, IsItem};
 ghost use Rattle.zone_model.specs.Versions.{owned};
 ghost use Rattle.rr_data.specs.ItemViews.{SaysEntry};
 ghost use Rattle.zone_edit.specs.Stores.{Owns, Stores, Edits};
@@ -99,12 +99,13 @@ pub fn store<L: Law, N: Named, K>(
     octets: &[u8],
     before: &Entry,
     entry: &Entry,
-    out: &mut [u8; 4096],
+    out: &mut [u8],
 ) -> Result<(), NoRoom>
     requires key { key.now ≡ key_of name.now }
     requires says { SaysEntry name.now octets.now before.now }
     requires owns { IsSomeAnd transaction.old.locked.now.draft (Owns name.now before.now) }
-    requires short { 0 < length entry.now → length (item name.now entry.now) ≤ 4096 }
+    requires short { 0 < length entry.now → length (item name.now entry.now) ≤ item_limit }
+    requires room { item_limit ≤ length out.old }
     ensures same_reference { (transaction.new.home.ghost_name ≡ transaction.old.home.ghost_name) × (transaction.new.locked.ghost_name ≡ transaction.old.locked.ghost_name) }
     ensures place { transaction.new.locked.now.place ≡ transaction.old.locked.now.place }
     ensures stores { Edits (Stores name.now before.now entry.now result) transaction.old.locked.now.draft transaction.new.locked.now.draft }

@@ -1,6 +1,6 @@
 use Rattle.std.proofs.Common.{◌≡◌, ◌<◌, ◌≤◌, length, take, Ok, Err, refl, sym, ap, subst}
 use Rattle.zone_model.specs.Names.{Name}
-use Rattle.zone_model.specs.Records.{Entry, item}
+use Rattle.zone_model.specs.Records.{Entry, item, item_limit}
 use Rattle.zone_model.specs.Versions.{owned, owner_of, changed, put}
 use Rattle.zone_change.specs.Views.{operation_view}
 use Rattle.zone_change.specs.Counts.{candidate}
@@ -20,8 +20,8 @@ store-requires-clause-short g c some =
     let both = c.in-Ok.ensures (owned owner r.0) r.2.says in
     let mine : c.in-Ok.before ≡ owned (owner_of operation) r.0 = subst (λ (n : Name). c.in-Ok.before ≡ owned n r.0) c.owner-owner.ensures both.0 in
     let made = made_of c.args.origin.now operation owner octets c.in-Ok.before c.in-Ok.entry (owned owner r.0) c.owner-owner.ensures c.in_default.ensures r.2.says both.0 both.1 in
-    let short : 0 < length c.in-Ok.before → length (item (owner_of operation) c.in-Ok.before) ≤ 4096 = λ h. owned_short (owner_of operation) r.0 c.in-Ok.before r.1 mine h in
-    subst (λ (n : Name). length (item n c.in-Ok.entry) ≤ 4096) (sym c.owner-owner.ensures) (changed_short c.args.origin.now operation c.in-Ok.before c.in-Ok.entry made short some)
+    let short : 0 < length c.in-Ok.before → length (item (owner_of operation) c.in-Ok.before) ≤ item_limit = λ h. owned_short (owner_of operation) r.0 c.in-Ok.before r.1 mine h in
+    subst (λ (n : Name). length (item n c.in-Ok.entry) ≤ item_limit) (sym c.owner-owner.ensures) (changed_short c.args.origin.now operation c.in-Ok.before c.in-Ok.entry made short some)
 
 pub returns-in_default-both_entries-clause-applies : goal.returns-in_default-both_entries-clause-applies
 returns-in_default-both_entries-clause-applies g c =

@@ -1,6 +1,4 @@
-use Rattle.std.proofs.Common.{arith}
-use Rattle.trie_model.specs.Extents.{item_cell}
 use Rattle.shared_index.proofs.snapshot.SnapshotReading.read.Goals as goal
 
 pub read_item-requires-clause-there : goal.read_item-requires-clause-there
-read_item-requires-clause-there g c k l = let is = c.requires.1.0 in (item_cell c.requires.0.item k, is.lies k (let e = is.len in omega arith))
+read_item-requires-clause-there g c = (c.requires.there.0.item, c.requires.there.1.0.entry.item, c.requires.there.1.0.item)
