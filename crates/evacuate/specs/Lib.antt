@@ -1,2 +1,5 @@
 pub mod Evacuations
 pub mod Fillings
+pub mod Places
+pub mod Rearranging
+pub mod Trails

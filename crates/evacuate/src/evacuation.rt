@@ -1,18 +1,31 @@
 //! Evacuation: sparse chunks are emptied.
 
-ghost use Rattle.std.specs.Prelude.{◌≡◌, ◌+◌, ◌/◌, ◌≤◌, ℕ, List};
+ghost use Rattle.std.specs.Prelude.{◌≡◌, ◌+◌, ◌*◌, ◌-◌, ◌/◌, ◌<◌, ◌≤◌, ℕ, List, Bool, true, false, Some, length, slice_index};
 ghost use Rattle.trie_model.specs.Keys.{Entry};
 ghost use Rattle.trie_model.specs.Shape.{cells as cells_of};
+ghost use Rattle.trie_model.specs.Trees.{Tree};
 ghost use Rattle.chunk_usage.specs.Ledger.{free_count};
+ghost use Rattle.chunk_usage.specs.Handing.{spent};
 ghost use Rattle.chunk_usage.specs.Rooms.{account_of, reserve_account_of};
-ghost use Rattle.trie_write.specs.Spaces.{Ready, Fenced};
+ghost use Rattle.trie_write.specs.Spaces.{Ready, Fenced, IsWritable};
 ghost use Rattle.trie_write.specs.Standing.{HasTrie};
 ghost use Rattle.evacuate.specs.Evacuations.{FillsNew, IsDense, IsCleared, HasSparse, refused};
-ghost use Rattle.evacuate.specs.Fillings.{IsFull};
+ghost use Rattle.evacuate.specs.Fillings.{Fills, IsFull, old_live};
+ghost use Rattle.evacuate.specs.Places.{Stood, IsStood};
+ghost use Rattle.evacuate.specs.Rearranging.{Rearranged};
 
+use super::descent::move_found;
+use super::listed::move_listed;
+use super::moves::move_root;
+use super::sparse::is_any_sparse;
+use super::survey::survey;
+use super::trail::{Trail, next_sparse};
 use chunk_cells::CellWrite;
 use chunk_usage::Usage;
-use packed_node::Ref;
+use packed_node::{Ref, chunk_of};
+
+// How often the lists of sparse chunks are gone through before they are made anew.
+const ROUNDS: u32 = 4;
 
 /// How an evacuation ended.
 #[derive(Clone, Copy, PartialEq, Eq, Debug)]
@@ -32,7 +45,6 @@ pub fn evacuate<C: CellWrite>(
 ) -> (Option<Ref>, Done)
     requires stands { (version : List Entry) × HasTrie C.has account_of cells.old usage.old root version }
     requires ready { Ready C.kept C.given account_of cells.old usage.old }
-    requires never { ⊥ }
     ensures stands { (version : List Entry) → HasTrie C.has account_of cells.old usage.old root version → HasTrie C.has account_of cells.new usage.new result.0 version }
     ensures none { IsCleared usage.old → usage.new ≡ usage.old }
     ensures fills { FillsNew usage.old usage.new }
@@ -43,5 +55,138 @@ pub fn evacuate<C: CellWrite>(
     ensures frame { Fenced C.has C.kept C.given reserve_account_of cells.old usage.old cells.new usage.new }
     ensures ready { Ready C.kept C.given account_of cells.new usage.new }
 {
-    unreachable!()
+    usage.known(); // for the proof
+    match root {
+        None => (None, Done::Whole),
+        Some(at) => {
+            if is_any_sparse(usage) {
+                let (new, done) = empty_sparse(cells, usage, at);
+                usage.known(); // for the proof
+                return (Some(new), done);
+            }
+            (Some(at), Done::Whole)
+        }
+    }
+}
+
+/// Moves all that lies in sparse chunks to chunks that are free now. It ends where none of them has a cell that counts: once something
+/// was moved that was the last of its chunk, or at the end of a walk. The first walk goes where chunks that were sparse at first seem to
+/// be reached. One that came to the end begins again, over all, where some chunk still is sparse.
+fn empty_sparse<C: CellWrite>(cells: &mut C, usage: &mut Usage, root: Ref) -> (Ref, Done)
+    requires stood { IsStood C.has cells.old usage.old root }
+    requires sparse { HasSparse usage.old }
+    requires ready { Ready C.kept C.given reserve_account_of cells.old usage.old }
+    ensures stood { (es : List Entry) (t : Tree) → Stood C.has cells.old usage.old root es t → (u : Tree) × Stood C.has cells.new usage.new result.0 es u }
+    ensures whole { result.1 ≡ Done.Whole → IsCleared usage.new }
+    ensures stopped { result.1 ≡ Done.Stopped → IsFull usage.new }
+    ensures left { result.1 ≡ Done.Stopped → HasSparse usage.new }
+    ensures fills { Fills usage.old.given usage.new }
+    ensures paid { spent usage.new ≤ 769 * (length usage.old.given - free_count usage.old) + old_live usage.old.given usage.old.live }
+    ensures frame { Fenced C.has C.kept C.given reserve_account_of cells.old usage.old cells.new usage.new }
+    ensures ready { Ready C.kept C.given reserve_account_of cells.new usage.new }
+{
+    usage.known(); // for the proof
+    usage.fresh();
+    let at = match move_root(cells, usage, root) {
+        Err(_) => return (root, Done::Stopped),
+        Ok(at) => at,
+    };
+    if let Some(done) = empty_listed(cells, usage, at) {
+        return (at, done);
+    }
+    let mut trail = Trail::new();
+    let mut resumed = false;
+    let mut before = usage.first_sparse();
+    'passes: loop {
+        let node = cells.cell(at);
+        if next_sparse(cells, usage, &mut trail, node, 0, resumed, before) {
+            match move_found(cells, usage, at, &trail) {
+                Err(_) => return (at, Done::Stopped),
+                Ok(from) if was_last(usage, from) => return (at, Done::Whole),
+                Ok(_) => resumed = true,
+            }
+        } else if begins_again(usage, resumed || before > 0) {
+            resumed = false;
+            before = 0;
+        } else {
+            return (at, Done::Whole);
+        }
+    }
+}
+
+/// Moves what the lists of sparse chunks lead to. Tells how that ended, unless some is left: once the lists were made anew, that may be
+/// where they had no room for all.
+fn empty_listed<C: CellWrite>(cells: &mut C, usage: &mut Usage, root: Ref) -> Option<Done>
+    requires stood { IsStood C.has cells.old usage.old root }
+    requires writable { IsWritable C.given reserve_account_of cells.old usage.old root }
+    requires ready { Ready C.kept C.given reserve_account_of cells.old usage.old }
+    ensures rearranged { Rearranged C.has C.kept C.given root cells.old usage.old cells.new usage.new }
+    ensures whole { result ≡ Some Done.Whole → IsCleared usage.new }
+    ensures full { result ≡ Some Done.Stopped → IsFull usage.new }
+    ensures left { result ≡ Some Done.Stopped → (given : List Bool) → Fills given usage.old → HasSparse usage.new }
+    ensures ready { Ready C.kept C.given reserve_account_of cells.new usage.new }
+{
+    match known_lists(cells, usage, root) {
+        None => {
+            survey(cells, usage, root);
+            try_lists(cells, usage, root)
+        }
+        done => done,
+    }
+}
+
+/// The same with the lists that there are, unless they are known to lack something.
+fn known_lists<C: CellWrite>(cells: &mut C, usage: &mut Usage, root: Ref) -> Option<Done>
+    requires stood { IsStood C.has cells.old usage.old root }
+    requires writable { IsWritable C.given reserve_account_of cells.old usage.old root }
+    requires ready { Ready C.kept C.given reserve_account_of cells.old usage.old }
+    ensures rearranged { Rearranged C.has C.kept C.given root cells.old usage.old cells.new usage.new }
+    ensures whole { result ≡ Some Done.Whole → IsCleared usage.new }
+    ensures full { result ≡ Some Done.Stopped → IsFull usage.new }
+    ensures left { result ≡ Some Done.Stopped → (given : List Bool) → Fills given usage.old → HasSparse usage.new }
+    ensures ready { Ready C.kept C.given reserve_account_of cells.new usage.new }
+{
+    if usage.is_any_lacking() {
+        return None;
+    }
+    try_lists(cells, usage, root)
+}
+
+/// The same with the lists that there are. What is moved away may leave further chunks sparse, so there are some rounds.
+fn try_lists<C: CellWrite>(cells: &mut C, usage: &mut Usage, root: Ref) -> Option<Done>
+    requires stood { IsStood C.has cells.old usage.old root }
+    requires writable { IsWritable C.given reserve_account_of cells.old usage.old root }
+    requires ready { Ready C.kept C.given reserve_account_of cells.old usage.old }
+    ensures rearranged { Rearranged C.has C.kept C.given root cells.old usage.old cells.new usage.new }
+    ensures whole { result ≡ Some Done.Whole → IsCleared usage.new }
+    ensures full { result ≡ Some Done.Stopped → IsFull usage.new }
+    ensures left { result ≡ Some Done.Stopped → (given : List Bool) → Fills given usage.old → HasSparse usage.new }
+    ensures ready { Ready C.kept C.given reserve_account_of cells.new usage.new }
+{
+    for _ in 0..ROUNDS {
+        match move_listed(cells, usage, root) {
+            Err(_) => return Some(Done::Stopped),
+            Ok(()) if !is_any_sparse(usage) => return Some(Done::Whole),
+            Ok(()) => {}
+        }
+    }
+    None
+}
+
+/// Whether what was moved was the last of its chunk, and of all sparse chunks.
+fn was_last(usage: &Usage, from: Ref) -> bool
+    ensures { result ≡ true → IsCleared usage.now }
+{
+    usage.live(chunk_of(from)) == 0 && !is_any_sparse(usage)
+}
+
+/// Whether a walk that came to the end has to begin again. One that left out nothing hasn't.
+fn begins_again(usage: &Usage, partial: bool) -> bool
+    ensures partial { result ≡ true → partial ≡ true }
+    ensures dense { result ≡ false → partial ≡ true → IsCleared usage.now }
+{
+    if partial {
+        return is_any_sparse(usage);
+    }
+    false
 }

@@ -1,6 +1,15 @@
 //! What lies in chunks of which few cells count is moved to fresh ones, so that the old chunks can be given back.
 #![tactic(auto)]
 
+mod descent;
 mod evacuation;
+mod listed;
+mod moves;
+mod path_walk;
+mod place;
+mod room;
+mod sparse;
+mod survey;
+mod trail;
 
 pub use evacuation::{Done, evacuate};

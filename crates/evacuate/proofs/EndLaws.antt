@@ -1,0 +1,159 @@
+-- How an evacuation begins, and what is known at its end.
+use Rattle.std.proofs.Common.{◌≡◌, ℕ, zero, suc, ◌+◌, ◌-◌, ◌*◌, ◌/◌, ◌<◌, ◌≤◌, Bool, true, false, not, cond, List, length, slice_index, slice_index_or, inl, inr, refl, sym, ◌∙◌, ap, subst, arith}
+use Rattle.std.specs.Prelude.{Option, None, Some, count_by}
+use Rattle.std.specs.List.{range_with_len}
+use Rattle.std.proofs.lemmas.Bool.{cases_lt, cases_eq, true≢false}
+use Rattle.std.proofs.lemmas.Bool.Decides.{nat_tests}
+use Rattle.std.proofs.lemmas.List.Sums.{count_by-le-length, sum_by-cons}
+use Rattle.packed_node.specs.declared.Cell.{Cell}
+use Rattle.trie_model.specs.Keys.{Entry}
+use Rattle.trie_model.specs.Memory.{top_cell, Beneath}
+use Rattle.trie_read.specs.Reads.{IsTop}
+use Rattle.trie_model.specs.Reach.{in_chunk, weigh_tree}
+use Rattle.trie_model.specs.Shape.{cells}
+use Rattle.trie_model.specs.Trees.{Tree}
+use Rattle.trie_model.proofs.SizeLaws.{size_is}
+use Rattle.chunk_usage.specs.declared.open.Open.{Open}
+use Rattle.chunk_usage.specs.Counting.{is_low, is_sparse, sparse_count}
+use Rattle.chunk_usage.specs.Handing.{spent, unspent}
+use Rattle.chunk_usage.specs.Keeping.{closed, full}
+use Rattle.chunk_usage.specs.Ledger.{Ledger, IsLedger, is_given, is_open, is_used, is_mutable, left, free_count, frozen_part}
+use Rattle.chunk_usage.specs.Rooms.{Grows, reserve_account_of}
+use Rattle.chunk_usage.proofs.FlagLemmas.{set_within}
+use Rattle.chunk_usage.proofs.SpaceLaws.{used_given}
+use Rattle.trie_model.proofs.ExtentLaws.{first_true}
+use Rattle.trie_write.specs.Spaces.{Ready, Fenced}
+use Rattle.trie_write.specs.Standing.{StandsIn}
+use Rattle.trie_write.proofs.ChangeLaws.{stands_rooted, rooted_stands}
+use Rattle.trie_write.proofs.SpaceLaws.{ready_grows}
+use Rattle.trie_write.proofs.WeightLaws.{mark_grows}
+use Rattle.evacuate.specs.declared.evacuation.Done.{Done}
+use Rattle.evacuate.specs.declared.evacuation.Done.TheVariants.{Whole, Stopped}
+use Rattle.evacuate.specs.Evacuations.{IsDense, IsCleared, HasSparse, refused}
+use Rattle.evacuate.specs.Fillings.{Fills, IsFull, is_old, old_live}
+use Rattle.evacuate.specs.Places.{Stood}
+use Rattle.evacuate.proofs.FillingLaws.{all_parts, sparse_closed, sparse_old}
+use Rattle.evacuate.proofs.SumLaws.{old_reached}
+use Rattle.evacuate.proofs.TreeLaws.{root_used}
+
+-- ---- the bump chunk is closed
+
+module _ {S : Type 0} {has : S → ℕ → Cell → Type 0} {s : S} {l l1 : Ledger} (e : l1 ≡ closed l) (grows : Grows (is_used l) (is_used l1) (is_mutable l) (is_mutable l1)) where
+  pub stood_closed : {r : ℕ} {es : List Entry} {t : Tree} → Stood has s l r es t → Stood has s l1 r es t
+  stood_closed h = record {
+    tree = h.tree;
+    rooted = record {
+      inside = h.rooted.inside;
+      top = h.rooted.top;
+      beneath = h.rooted.beneath;
+      counted = λ k. ap (λ (m : Ledger). slice_index m.live k) e ∙ h.rooted.counted k;
+      once = λ q. let o = h.rooted.once q in let m = mark_grows (is_used l) (is_used l1) q (grows.stays q) in omega arith;
+    };
+    holds = h.holds;
+  }
+
+module _ {S : Type 0} (has : S → ℕ → Cell → Type 0) (kept : S → List ℕ) (given : S → List Bool) {s : S} {l l1 : Ledger} (e : l1 ≡ closed l) (grows : Grows (is_used l) (is_used l1) (is_mutable l) (is_mutable l1)) where
+  pub fenced_closed : Fenced has kept given reserve_account_of s l s l1
+  fenced_closed = record {
+    frozen = λ q c m h. h;
+    keeps = refl;
+    given_stays = λ k h. h;
+    opens = λ k o. inl (was_open l.open_chunk k (sym (ap (λ (m : Ledger). is_open m.open_chunk k) e) ∙ o));
+    grows = grows;
+    spares = refl;
+    last = ap frozen_part e;
+  }
+    where
+      was_open : (o : Option Open) (k : ℕ) → is_open (full o) k ≡ true → is_open o k ≡ true
+      was_open None k h = h
+      was_open (Some o) k h = h
+
+  pub ready_closed : Ready kept given reserve_account_of s l → Ready kept given reserve_account_of s l1
+  ready_closed r = ready_grows r (r.same ∙ sym (ap (λ (m : Ledger). m.given) e)) refl grows
+
+pub closed_spent : (l : Ledger) → spent (closed l) ≤ 769 * (length l.given - free_count l)
+closed_spent l = omega arith
+
+pub root_old : {S : Type 0} {has : S → ℕ → Cell → Type 0} {s : S} {l : Ledger} {r : ℕ} {es : List Entry} {t : Tree} → IsLedger l → Stood has s l r es t → is_old l.given r ≡ true
+root_old {l = l} {r} h stood = used_given l h r (root_used stood)
+
+-- ---- roots that stand
+
+pub stood_of : {S : Type 0} {has : S → ℕ → Cell → Type 0} {s : S} {l : Ledger} {r : ℕ} {es : List Entry} {t : Tree} → StandsIn (has s) (is_used l) (slice_index l.live) r t es → Stood has s l r es t
+stood_of {has = has} {s} {l} h = record { tree = h.trie.shape; rooted = stands_rooted has reserve_account_of s l h; holds = h.trie.holds }
+
+pub stands_again : {S : Type 0} {has : S → ℕ → Cell → Type 0} {s : S} {l : Ledger} {r : ℕ} {es : List Entry} {t : Tree} → Stood has s l r es t → StandsIn (has s) (is_used l) (slice_index l.live) r t es
+stands_again {has = has} {s} {l} {r} {t = t} h = subst (StandsIn (has s) (is_used l) (slice_index l.live) r t) h.holds (rooted_stands h.rooted h.tree)
+
+-- the root's cell was read
+pub node_top : {S : Type 0} {has : S → ℕ → Cell → Type 0} {s s1 : S} {l : Ledger} {r : ℕ} {es : List Entry} {t : Tree} {c : Cell} → Stood has s l r es t → s1 ≡ s → ((d : Cell) → has s r d → c ≡ d) → IsTop (has s1) 0 c t
+node_top {has = has} {t = t} h same read = record { tree = h.tree; is = read (top_cell t) h.rooted.top; beneath = subst (λ z. Beneath (has z) t) (sym same) h.rooted.beneath }
+
+-- ---- no cell of a sparse chunk counts
+
+outside : (k q : ℕ) → (q / 1024 ≡ k → ⊥) → ◌≡◌ {A = ℕ} (in_chunk k q) 0
+outside k q ne = grind (arith, nat_tests)
+
+none_passes : (p : ℕ → Bool) (a n : ℕ) → count_by p (range_with_len a n) ≡ 0 → (k : ℕ) → a ≤ k → k < a + n → p k ≡ true → ⊥
+none_passes p a zero e k le lt t = omega arith
+none_passes p a (suc n) e k le lt t =
+    let m = sum_by-cons (λ (j : ℕ). cond {A = ℕ} (p j) 1 0) a (range_with_len (a + 1) n) in
+    elim (cases_eq k a) [
+      | inl same ↦ (let one : cond {A = ℕ} (p a) 1 0 ≡ 1 = ap (λ (b : Bool). cond {A = ℕ} b 1 0) (ap p (sym same) ∙ t) in omega arith)
+      | inr other ↦ none_passes p (a + 1) n (omega arith) k (omega arith) (omega arith) t
+    ]
+
+-- where no chunk is sparse
+pub none_sparse : (l : Ledger) → sparse_count l ≡ 0 → IsCleared l
+none_sparse l none k sparse = absurd (none_passes (is_sparse l) 0 (length l.given) none k (omega arith) (let w = set_within l.given k (first_true _ _ sparse) in omega arith) sparse)
+
+-- the root lies in a new chunk, and below it nothing lies in a sparse one
+pub all_cleared : {S : Type 0} {has : S → ℕ → Cell → Type 0} {s : S} {l : Ledger} {r : ℕ} {es : List Entry} {t : Tree} (given : List Bool) → Fills given l → is_old given r ≡ false → Stood has s l r es t →
+    ((k : ℕ) → is_sparse l k ≡ true → weigh_tree (in_chunk k) t ≡ 0) → IsCleared l
+all_cleared {l = l} {r} {t = t} given fills new stood none k sparse =
+    let c = stood.rooted.counted k in
+    let o = outside k r (λ e. true≢false (sym (sparse_old given l fills k sparse) ∙ ap (λ (j : ℕ). slice_index_or given j false) (sym e) ∙ new)) in
+    let n = none k sparse in omega arith
+
+pub dense_of : (l : Ledger) → IsLedger l → IsCleared l → IsDense l
+dense_of l h cleared k some shut = elim (cases_lt 256 (slice_index l.live k)) [
+  | inl more ↦ more
+  | inr few ↦ absurd (let z = cleared k (all_parts (is_given l k) (is_low (slice_index l.live k)) (is_open l.open_chunk k) (h.counts.in_given k some) (grind (arith, nat_tests)) shut) in omega arith)
+]
+
+-- the bump chunk is closed
+pub left_closed : (l : Ledger) → HasSparse l → HasSparse (closed l)
+left_closed l h = record { chunk = h.chunk; sparse = sparse_closed l h.chunk h.sparse; some = h.some }
+
+-- ---- how many chunks were asked for
+
+module _ (l new : Ledger) (same : length new.given ≡ length l.given) (c : ℕ) (paid : spent new ≤ 769 * (length l.given - free_count l) + c) where
+  most_free : free_count l ≤ length l.given
+  most_free = count_by-le-length not l.given
+
+  most_free_then : free_count new ≤ length new.given
+  most_free_then = count_by-le-length not new.given
+
+  unspent_few : (o : Option Open) → unspent o ≤ 769
+  unspent_few None = omega arith
+  unspent_few (Some o) = omega arith
+
+  all_spent : (o : Option Open) → left o < 256 → unspent o ≡ 0
+  all_spent None s = refl
+  all_spent (Some o) s = omega arith
+
+  pub asked : free_count l ≤ free_count new + (c / 769 + 1)
+  asked = let a = most_free in let b = most_free_then in let u = unspent_few new.open_chunk in omega arith
+
+  pub asked_in_vain : IsFull new → free_count l + 1 ≤ free_count new + (c / 769 + 1)
+  asked_in_vain full = let a = most_free in let b = most_free_then in let s = full.spent.few_left in let n = full.few in let u = all_spent new.open_chunk (omega arith) in omega arith
+
+  pub asked_by : (d : Done) → (d ≡ Stopped → IsFull new) → free_count l + refused d ≤ free_count new + (c / 769 + 1)
+  asked_by Whole full = let a = asked in omega arith
+  asked_by Stopped full = asked_in_vain (full refl)
+
+-- what was old is at most what the trie has
+pub old_cells : {S : Type 0} {has : S → ℕ → Cell → Type 0} {s : S} {l : Ledger} {r : ℕ} {es : List Entry} {t : Tree} → Stood has s l r es t → old_live l.given l.live ≤ cells es
+old_cells {l = l} {r} {t = t} h =
+    let o = old_reached l.given l.live r t (λ k. let c = h.rooted.counted k in omega arith) in
+    let e = sym (size_is 0 t h.tree) ∙ ap cells h.holds in omega arith

@@ -1,0 +1,54 @@
+-- What lies below a root is moved step by step.
+use Rattle.std.proofs.Common.{◌≡◌, ℕ, Bool, List, sym, ◌∙◌, subst}
+use Rattle.packed_node.specs.declared.Cell.{Cell}
+use Rattle.trie_model.specs.Keys.{Entry}
+use Rattle.trie_model.specs.Trees.{Tree}
+use Rattle.chunk_usage.specs.Ledger.{Ledger}
+use Rattle.chunk_usage.specs.Rooms.{reserve_account_of}
+use Rattle.trie_read.specs.Reads.{IsTop}
+use Rattle.trie_write.specs.Spaces.{Fenced, IsWritable}
+use Rattle.trie_write.proofs.SpaceLaws.{frame_refl, fenced_of, fenced_then, writable_later}
+use Rattle.evacuate.specs.declared.trail.Trail.{Trail}
+use Rattle.evacuate.specs.Fillings.{Fills, Moves}
+use Rattle.evacuate.specs.Places.{Stood, IsStood}
+use Rattle.evacuate.specs.Rearranging.{Rearranged}
+use Rattle.evacuate.specs.Trails.{Found, HasFound}
+use Rattle.evacuate.proofs.DescentLaws.{stood_same}
+use Rattle.evacuate.proofs.EndLaws.{node_top}
+use Rattle.evacuate.proofs.FillingLaws.{moves_none, moves_then}
+
+module _ {S : Type 0} {has : S → ℕ → Cell → Type 0} {kept : S → List ℕ} {given : S → List Bool} {r : ℕ} where
+  -- nothing was moved
+  pub rearranged_same : {s s1 : S} {l l1 : Ledger} → s1 ≡ s → l1 ≡ l → Rearranged has kept given r s l s1 l1
+  rearranged_same {s} {s1} {l} {l1} e f =
+      subst (λ z. Rearranged has kept given r s l z l1) (sym e) (subst (λ z. Rearranged has kept given r s l s z) (sym f)
+      (record { stood = λ es t h. (t, h); moves = λ old fills. moves_none old l fills; frame = fenced_of (frame_refl s l) }))
+
+  pub rearranged_then : {s s1 s2 : S} {l l1 l2 : Ledger} → Rearranged has kept given r s l s1 l1 → Rearranged has kept given r s1 l1 s2 l2 → Rearranged has kept given r s l s2 l2
+  rearranged_then a b = record {
+    stood = λ es t h. let x = a.stood es t h in b.stood es x.0 x.1;
+    moves = λ old fills. let m = a.moves old fills in moves_then m (b.moves old m.fills);
+    frame = fenced_then a.frame b.frame;
+  }
+
+  pub stood_after : {s s1 : S} {l l1 : Ledger} → Rearranged has kept given r s l s1 l1 → IsStood has s l r → IsStood has s1 l1 r
+  stood_after a h = let x = a.stood h.es h.t h.stood in record { es = h.es; t = x.0; stood = x.1 }
+
+  pub writable_after : {s s1 : S} {l l1 : Ledger} → Rearranged has kept given r s l s1 l1 → IsWritable given reserve_account_of s l r → IsWritable given reserve_account_of s1 l1 r
+  writable_after a w = writable_later w a.frame.grows a.frame.given_stays
+
+  -- what a trail leads to was moved, or what is above it
+  pub rearranged_found : {s s1 : S} {l l1 : Ledger} {trail : Trail} → ((es : List Entry) (t : Tree) → Stood has s l r es t → Found l trail t) →
+      ((es : List Entry) (t : Tree) → Stood has s l r es t → Found l trail t → (u : Tree) × Stood has s1 l1 r es u) → ((old : List Bool) → Fills old l → Moves old 0 l l1) → Fenced has kept given reserve_account_of s l s1 l1 → Rearranged has kept given r s l s1 l1
+  rearranged_found found stood moves frame = record { stood = λ es t h. stood es t h (found es t h); moves = moves; frame = frame }
+
+module _ {S : Type 0} {has : S → ℕ → Cell → Type 0} {r : ℕ} where
+  pub found_there : {s : S} {l : Ledger} {trail : Trail} → ((es : List Entry) (t : Tree) → Stood has s l r es t → Found l trail t) → IsStood has s l r → HasFound has s l r trail
+  found_there found h = record { es = h.es; t = h.t; stood = h.stood; found = found h.es h.t h.stood }
+
+  pub stood_there : {s s1 : S} {l l1 : Ledger} → s1 ≡ s → l1 ≡ l → IsStood has s l r → IsStood has s1 l1 r
+  stood_there e f h = record { es = h.es; t = h.t; stood = stood_same e f h.stood }
+
+  -- the root's cell was read, and from there the trail was laid
+  pub found_on : {s s1 s2 : S} {l l1 : Ledger} {trail : Trail} {node : Cell} → s1 ≡ s → ((d : Cell) → has s r d → node ≡ d) → s2 ≡ s1 → l1 ≡ l → ((t : Tree) → IsTop (has s1) 0 node t → Found l trail t) → (es : List Entry) (t : Tree) → Stood has s2 l1 r es t → Found l1 trail t
+  found_on {trail = trail} e read f g found es t h = subst (λ z. Found z trail t) (sym g) (found t (node_top (stood_same (sym (f ∙ e)) (sym g) h) e read))

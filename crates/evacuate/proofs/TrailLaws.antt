@@ -1,0 +1,145 @@
+-- The walk to what lies in sparse chunks.
+use Rattle.std.proofs.Common.{◌≡◌, ℕ, zero, suc, ◌+◌, ◌/◌, ◌<◌, ◌≤◌, true, false, [], ◌∷◌, slice_index, count_ones, arith, refl, sym, ◌∙◌, ap, subst}
+use Rattle.std.proofs.lemmas.Bool.{true≢false}
+use Rattle.packed_node.specs.declared.Cell.{Cell}
+use Rattle.packed_node.specs.declared.Branch.{Branch}
+use Rattle.packed_node.specs.declared.Leaf.{Leaf}
+use Rattle.packed_node.specs.declared.Node.{Node}
+use Rattle.packed_node.specs.Nodes.{IsNode, packed}
+use Rattle.trie_model.specs.Extents.{IsRow, row}
+use Rattle.trie_model.specs.Memory.{top_cell, node_of, Beneath, Lie}
+use Rattle.trie_model.specs.Reach.{in_chunk, weigh_tree}
+use Rattle.trie_model.specs.Trees.{Tree, Twigs, count, beside, IsTree, AreTwigs}
+use Rattle.trie_model.specs.Trees.Tree.{leaf, branch}
+use Rattle.trie_model.specs.Trees.Twigs.{none, twig}
+use Rattle.trie_model.proofs.BitmapLaws.{ones_of}
+use Rattle.trie_model.proofs.CountLaws.{weigh_is, under}
+use Rattle.trie_model.proofs.NodeLaws.{BranchTold, LeafSaid, node_read, says_node}
+use Rattle.trie_model.proofs.SplitLaws.{rising_of}
+use Rattle.chunk_usage.specs.Counting.{is_sparse}
+use Rattle.chunk_usage.specs.Ledger.{Ledger}
+use Rattle.chunk_usage.proofs.RowLemmas.{row_there}
+use Rattle.trie_read.specs.Reads.{IsTop}
+use Rattle.trie_write.specs.Tops.{NotBefore}
+use Rattle.evacuate.specs.declared.trail.Trail.{Trail}
+use Rattle.evacuate.specs.Places.{first_of}
+use Rattle.evacuate.specs.Trails.{Found}
+
+-- the twigs from the i-th on
+abbrev pub past : ℕ → Twigs → Twigs
+past zero ts = ts
+past (suc i) none = none
+past (suc i) (twig p t rest) = past i rest
+
+pub past_all : (w : ℕ → ℕ) (i : ℕ) (ts : Twigs) → count ts ≤ i → under w (past i ts) ≡ 0
+past_all w zero none l = refl
+past_all w zero (twig p t rest) l = absurd (omega arith)
+past_all w (suc i) none l = refl
+past_all w (suc i) (twig p t rest) l = past_all w i rest (omega arith)
+
+-- the i-th twig
+pub record TwigAt (has : ℕ → Cell → Type 0) (o r i : ℕ) (ts : Twigs) : Type 0 where
+  pub left : Twigs
+  pub position : ℕ
+  pub t : Tree
+  pub right : Twigs
+  pub is : ts ≡ beside left (twig position t right)
+  pub place : count left ≡ i
+  pub tree : IsTree (suc o) t
+  pub there : has (r + i) (top_cell t)
+  pub beneath : Beneath has t
+  pub weighs : (w : ℕ → ℕ) → under w (past i ts) ≡ weigh_tree w t + under w (past (suc i) ts)
+
+pub twig_at : (has : ℕ → Cell → Type 0) (o lo r i : ℕ) (ts : Twigs) → AreTwigs o lo ts → Lie has r ts → i < count ts → TwigAt has o r i ts
+twig_at has o lo r i none a lies l = absurd (omega arith)
+twig_at has o lo r zero (twig p t rest) a lies l =
+    let e : r ≡ r + 0 = omega arith in
+    record { left = none; position = p; t = t; right = rest; is = refl; place = refl; tree = a.3; there = subst (λ (n : ℕ). has n (top_cell t)) e lies.0; beneath = lies.1; weighs = λ w. refl }
+twig_at has o lo r (suc i) (twig p t rest) a lies l =
+    let x = twig_at has o (suc p) (suc r) i rest a.4 lies.2 (omega arith) in
+    let e : suc r + i ≡ r + suc i = omega arith in
+    record { left = twig p t x.left; position = x.position; t = x.t; right = x.right; is = ap (twig p t) x.is; place = ap suc x.place; tree = x.tree; there = subst (λ (n : ℕ). has n (top_cell x.t)) e x.there; beneath = x.beneath; weighs = x.weighs }
+
+-- ---- a node that was read
+
+module _ {has : ℕ → Cell → Type 0} {low : ℕ} {c : Cell} {t : Tree} (top : IsTop has low c t) where
+  pub says : (n : Node) × IsNode n × (packed n ≡ c)
+  says = says_node low t c top.tree top.is
+
+  pub read_is : {n : Node} → ((m : Node) → IsNode m → packed m ≡ c → n ≡ m) → n ≡ node_of t
+  read_is {n} back = node_read low t c n top.tree top.is back
+
+  module _ {b : Branch} (x : BranchTold t b) where
+    branch_tree : IsTree low (branch b.offset b.twigs x.below)
+    branch_tree = subst (IsTree low) x.is top.tree
+
+    pub early : b.offset ≤ 503
+    early = branch_tree.1
+
+    pub late : low ≤ b.offset
+    late = branch_tree.0
+
+    pub row_inside : IsRow b.twigs (count x.below)
+    row_inside = branch_tree.2
+
+    pub counted : count_ones b.bitmap ≡ count x.below
+    counted = ap count_ones x.bitmap ∙ ones_of 0 47 x.below (rising_of b.offset 0 x.below (let z : 0 ≤ 47 = omega arith in z) branch_tree.5)
+
+    pub twig_here : (i : ℕ) → i < count_ones b.bitmap → TwigAt has b.offset b.twigs i x.below
+    twig_here i l = twig_at has b.offset 0 b.twigs i x.below branch_tree.5 (subst (Beneath has) x.is top.beneath) (let n = counted in omega arith)
+
+-- the twig's cell was read, in the memory as the walk has left it
+pub twig_top : {S : Type 0} (H : S → ℕ → Cell → Type 0) {s0 s1 s2 : S} {o r i : ℕ} {ts : Twigs} {cell : Cell} (x : TwigAt (H s0) o r i ts) → s1 ≡ s0 → s2 ≡ s1 → ((d : Cell) → H s1 (r + i) d → cell ≡ d) → IsTop (H s2) (o + 1) cell x.t
+twig_top H {o = o} {r} {i} x e f read =
+    let deeper : suc o ≡ o + 1 = omega arith in
+    record {
+      tree = subst (λ (n : ℕ). IsTree n x.t) deeper x.tree;
+      is = read (top_cell x.t) (subst (λ s. H s (r + i) (top_cell x.t)) (sym e) x.there);
+      beneath = subst (λ s. Beneath (H s) x.t) (sym (f ∙ e)) x.beneath;
+    }
+
+-- ---- what lies in no sparse chunk
+
+pub clear_row : (l : Ledger) (k r n : ℕ) → IsRow r n → is_sparse l (r / 1024) ≡ false → is_sparse l k ≡ true → row (in_chunk k) r n ≡ 0
+clear_row l k r n is clear sparse = row_there r n is.together k (λ e. true≢false (sym sparse ∙ ap (is_sparse l) e ∙ clear))
+
+pub clear_leaf : (l : Ledger) (low : ℕ) (t : Tree) (x : Leaf) → IsTree low t → LeafSaid t x → is_sparse l (x.at / 1024) ≡ false → (k : ℕ) → is_sparse l k ≡ true → weigh_tree (in_chunk k) t ≡ 0
+clear_leaf l low t x tree said clear k sparse =
+    let shape : IsTree low (leaf said.entry x.at) = subst (IsTree low) said.is tree in
+    ap (weigh_tree (in_chunk k)) said.is ∙ clear_row l k x.at _ shape.1 clear sparse
+
+pub clear_branch : (l : Ledger) (low : ℕ) (t : Tree) (b : Branch) (x : BranchTold t b) → IsTree low t → is_sparse l (b.twigs / 1024) ≡ false → (k : ℕ) → is_sparse l k ≡ true → under (in_chunk k) x.below ≡ 0 → weigh_tree (in_chunk k) t ≡ 0
+clear_branch l low t b x tree clear k sparse empty =
+    let shape : IsTree low (branch b.offset b.twigs x.below) = subst (IsTree low) x.is tree in
+    let a = ap (weigh_tree (in_chunk k)) x.is in
+    let w = weigh_is (in_chunk k) b.twigs x.below in
+    let c = clear_row l k b.twigs (count x.below) shape.2 clear sparse in omega arith
+
+-- ---- what was found
+
+pub found_leaf : {l : Ledger} {trail : Trail} (t : Tree) (x : Leaf) → LeafSaid t x → is_sparse l (x.at / 1024) ≡ true → Found l trail t
+found_leaf {l} {trail} t x said sparse = record {
+  way = [];
+  end = t;
+  is = refl;
+  leads = record { steps = tt; ends = subst (NotBefore trail.end) (sym said.is) tt };
+  sparse = ap (λ (u : Tree). is_sparse l (first_of (node_of u) / 1024)) said.is ∙ sparse;
+}
+
+pub found_branch : {l : Ledger} {trail : Trail} (t : Tree) (b : Branch) → BranchTold t b → trail.end ≡ b.offset → is_sparse l (b.twigs / 1024) ≡ true → Found l trail t
+found_branch {l} {trail} t b x end sparse = record {
+  way = [];
+  end = t;
+  is = refl;
+  leads = record { steps = tt; ends = subst (NotBefore trail.end) (sym x.is) (let z : trail.end ≤ b.offset = omega arith in z) };
+  sparse = ap (λ (u : Tree). is_sparse l (first_of (node_of u) / 1024)) x.is ∙ sparse;
+}
+
+pub found_below : {has : ℕ → Cell → Type 0} {l : Ledger} {trail : Trail} (t : Tree) (b : Branch) (x : BranchTold t b) (i : ℕ) (n : TwigAt has b.offset b.twigs i x.below) → Found l trail n.t → b.offset < trail.end → slice_index trail.indices b.offset ≡ i → Found l trail t
+found_below t b x i n f before index = record {
+  way = record { offset = b.offset; first = b.twigs; left = n.left; position = n.position; right = n.right } ∷ f.way;
+  end = f.end;
+  is = x.is ∙ ap (branch b.offset b.twigs) n.is ∙ ap (λ (u : Tree). branch b.offset b.twigs (beside n.left (twig n.position u n.right))) f.is;
+  leads = record { steps = (before, index ∙ sym n.place, f.leads.steps); ends = f.leads.ends };
+  sparse = f.sparse;
+}

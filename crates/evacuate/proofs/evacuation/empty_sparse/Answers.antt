@@ -1,0 +1,172 @@
+use Rattle.std.proofs.Common.{◌≡◌, inl, inr, refl, sym, ◌∙◌, ap, subst, arith}
+use Rattle.std.proofs.lemmas.Bool.{cases_Bool}
+use Rattle.std.proofs.lemmas.Bool.Decides.{nat_tests}
+use Rattle.chunk_usage.specs.Rooms.{reserve_account_of}
+use Rattle.trie_write.specs.Spaces.{Fenced, IsWritable}
+use Rattle.trie_write.proofs.SpaceLaws.{fenced_then, fenced_same, ready_put, writable_later}
+use Rattle.std.specs.Prelude.{Option, Some}
+use Rattle.evacuate.specs.declared.evacuation.Done.{Done}
+use Rattle.evacuate.specs.Evacuations.{HasSparse}
+use Rattle.evacuate.specs.Fillings.{Fills, Moves}
+use Rattle.evacuate.proofs.DescentLaws.{stood_same}
+use Rattle.evacuate.proofs.EndLaws.{stood_closed, fenced_closed, ready_closed, closed_spent, left_closed, root_old, all_cleared, node_top}
+use Rattle.evacuate.proofs.FillingLaws.{fills_begin, moves_then}
+use Rattle.evacuate.proofs.RearrangeLaws.{writable_after}
+use Rattle.evacuate.proofs.evacuation.empty_sparse.Goals.{then-resumed, else-resumed}
+use Rattle.evacuate.proofs.evacuation.empty_sparse.Goals as goal
+
+pub move_root-requires-clause-stood : goal.move_root-requires-clause-stood
+move_root-requires-clause-stood g c = let h = c.requires.stood in record { es = h.es; t = h.t; stood = stood_closed c.fresh.ensures.after c.fresh.ensures.grows h.stood }
+
+pub move_root-requires-clause-ready : goal.move_root-requires-clause-ready
+move_root-requires-clause-ready g c = ready_closed g.C.CellRead.has g.C.CellWrite.kept g.C.CellWrite.given c.fresh.ensures.after c.fresh.ensures.grows c.requires.ready
+
+pub returns-in-Err-clause-stood : goal.returns-in-Err-clause-stood
+returns-in-Err-clause-stood g c es t h = (t, stood_same c.in-Err.ensures.same c.in-Err.ensures.unchanged (stood_closed c.fresh.ensures.after c.fresh.ensures.grows h))
+
+pub returns-in-Err-clause-fills : goal.returns-in-Err-clause-fills
+returns-in-Err-clause-fills g c = subst (Fills c.args.usage.now.given) (sym (c.in-Err.ensures.unchanged ∙ c.fresh.ensures.after)) (fills_begin c.args.usage.now c.known.ensures)
+
+pub returns-in-Err-clause-left : goal.returns-in-Err-clause-left
+returns-in-Err-clause-left g c e = subst HasSparse (sym (c.in-Err.ensures.unchanged ∙ c.fresh.ensures.after)) (left_closed c.args.usage.now c.requires.sparse)
+
+pub empty_listed-requires-clause-stood : goal.empty_listed-requires-clause-stood
+empty_listed-requires-clause-stood g c =
+    let h = c.requires.stood in record { es = h.es; t = h.t; stood = c.in-Ok.ensures.stood h.es h.t (stood_closed c.fresh.ensures.after c.fresh.ensures.grows h.stood) }
+
+pub returns-in-Some-clause-stood : goal.returns-in-Some-clause-stood
+returns-in-Some-clause-stood g c es t h = c.empty_listed.ensures.rearranged.stood es t (c.in-Ok.ensures.stood es t (stood_closed c.fresh.ensures.after c.fresh.ensures.grows h))
+
+pub returns-in-Some-clause-fills : goal.returns-in-Some-clause-fills
+returns-in-Some-clause-fills g c =
+    let begins = subst (Fills c.args.usage.now.given) (sym c.fresh.ensures.after) (fills_begin c.args.usage.now c.known.ensures) in
+    let m = (c.in-Ok.ensures.paid c.args.usage.now.given begins (root_old c.known.ensures c.requires.stood.stood)).moves in
+    (c.empty_listed.ensures.rearranged.moves c.args.usage.now.given m.fills).fills
+
+pub returns-in-Some-clause-paid : goal.returns-in-Some-clause-paid
+returns-in-Some-clause-paid g c =
+    let begins = subst (Fills c.args.usage.now.given) (sym c.fresh.ensures.after) (fills_begin c.args.usage.now c.known.ensures) in
+    let m = subst (λ l. Moves c.args.usage.now.given 0 l c.move_root.new.usage) c.fresh.ensures.after (c.in-Ok.ensures.paid c.args.usage.now.given begins (root_old c.known.ensures c.requires.stood.stood)).moves in
+    let n = moves_then m (c.empty_listed.ensures.rearranged.moves c.args.usage.now.given m.fills) in
+    let p = n.paid in let s = closed_spent c.args.usage.now in omega arith
+
+pub returns-in-Some-clause-frame : goal.returns-in-Some-clause-frame
+returns-in-Some-clause-frame g c =
+    fenced_then (fenced_then (fenced_closed g.C.CellRead.has g.C.CellWrite.kept g.C.CellWrite.given c.fresh.ensures.after c.fresh.ensures.grows) c.in-Ok.ensures.frame) c.empty_listed.ensures.rearranged.frame
+
+pub returns-in-Some-clause-left : goal.returns-in-Some-clause-left
+returns-in-Some-clause-left g c e =
+    let begins = subst (Fills c.args.usage.now.given) (sym c.fresh.ensures.after) (fills_begin c.args.usage.now c.known.ensures) in
+    let m = (c.in-Ok.ensures.paid c.args.usage.now.given begins (root_old c.known.ensures c.requires.stood.stood)).moves in
+    c.empty_listed.ensures.left (c.in-Some.is ∙ ap (λ (d : Done). Some d) e) c.args.usage.now.given m.fills
+
+pub passes-init : goal.passes-init
+passes-init g c =
+    let begins = subst (Fills c.args.usage.now.given) (sym c.fresh.ensures.after) (fills_begin c.args.usage.now c.known.ensures) in
+    let m = subst (λ l. Moves c.args.usage.now.given 0 l c.move_root.new.usage) c.fresh.ensures.after (c.in-Ok.ensures.paid c.args.usage.now.given begins (root_old c.known.ensures c.requires.stood.stood)).moves in
+    record {
+      stood = λ es t h. c.empty_listed.ensures.rearranged.stood es t (c.in-Ok.ensures.stood es t (stood_closed c.fresh.ensures.after c.fresh.ensures.grows h));
+      moves = moves_then m (c.empty_listed.ensures.rearranged.moves c.args.usage.now.given m.fills);
+      elsewhere = c.in-Ok.ensures.elsewhere c.args.usage.now.given begins;
+      writable = writable_after c.empty_listed.ensures.rearranged c.in-Ok.ensures.writable;
+      frame = fenced_then (fenced_then (fenced_closed g.C.CellRead.has g.C.CellWrite.kept g.C.CellWrite.given c.fresh.ensures.after c.fresh.ensures.grows) c.in-Ok.ensures.frame) c.empty_listed.ensures.rearranged.frame;
+      ready = c.empty_listed.ensures.ready;
+    }
+
+pub cell-node-requires : goal.cell-node-requires
+cell-node-requires g c =
+    let i = c.passes.invariant in
+    let n = i.stood c.requires.stood.es c.requires.stood.t c.requires.stood.stood in record { there = (_, n.1.rooted.top) }
+
+pub next_sparse-requires-clause-top : goal.next_sparse-requires-clause-top
+next_sparse-requires-clause-top g c =
+    let i = c.passes.invariant in
+    let n = i.stood c.requires.stood.es c.requires.stood.t c.requires.stood.stood in (n.0, node_top n.1 c.cell-node.ensures.same c.cell-node.ensures.value)
+
+pub move_found-requires-clause-found : goal.move_found-requires-clause-found
+move_found-requires-clause-found g c =
+    let i = c.passes.invariant in
+    let n = i.stood c.requires.stood.es c.requires.stood.t c.requires.stood.stood in
+    record { es = c.requires.stood.es; t = n.0; stood = stood_same (c.next_sparse.ensures.same ∙ c.cell-node.ensures.same) refl n.1; found = c.next_sparse.ensures.found c.if-next_sparse.true n.0 (node_top n.1 c.cell-node.ensures.same c.cell-node.ensures.value) }
+
+pub returns-in-Err-move_found-clause-stood : goal.returns-in-Err-move_found-clause-stood
+returns-in-Err-move_found-clause-stood g c es t h =
+    let n = c.passes.invariant.stood es t h in
+    c.move_found.ensures.stood es n.0 (stood_same (c.next_sparse.ensures.same ∙ c.cell-node.ensures.same) refl n.1) (c.next_sparse.ensures.found c.if-next_sparse.true n.0 (node_top n.1 c.cell-node.ensures.same c.cell-node.ensures.value))
+
+pub returns-in-Err-move_found-clause-fills : goal.returns-in-Err-move_found-clause-fills
+returns-in-Err-move_found-clause-fills g c = (c.move_found.ensures.moves c.args.usage.now.given c.passes.invariant.moves.fills).fills
+
+pub returns-in-Err-move_found-clause-paid : goal.returns-in-Err-move_found-clause-paid
+returns-in-Err-move_found-clause-paid g c =
+    let m = moves_then c.passes.invariant.moves (c.move_found.ensures.moves c.args.usage.now.given c.passes.invariant.moves.fills) in
+    let p = m.paid in let s = closed_spent c.args.usage.now in omega arith
+
+pub returns-in-Err-move_found-clause-frame : goal.returns-in-Err-move_found-clause-frame
+returns-in-Err-move_found-clause-frame g c = fenced_then c.passes.invariant.frame (fenced_same (c.next_sparse.ensures.same ∙ c.cell-node.ensures.same) c.move_found.ensures.frame)
+
+pub returns-in-Err-move_found-clause-left : goal.returns-in-Err-move_found-clause-left
+returns-in-Err-move_found-clause-left g c e = c.in-Err-move_found.ensures.left c.args.usage.now.given c.passes.invariant.moves.fills
+
+pub returns-in-Ok-move_found-clause-stood : goal.returns-in-Ok-move_found-clause-stood
+returns-in-Ok-move_found-clause-stood g c es t h =
+    let n = c.passes.invariant.stood es t h in
+    c.move_found.ensures.stood es n.0 (stood_same (c.next_sparse.ensures.same ∙ c.cell-node.ensures.same) refl n.1) (c.next_sparse.ensures.found c.if-next_sparse.true n.0 (node_top n.1 c.cell-node.ensures.same c.cell-node.ensures.value))
+
+pub returns-in-Ok-move_found-clause-fills : goal.returns-in-Ok-move_found-clause-fills
+returns-in-Ok-move_found-clause-fills g c = (c.move_found.ensures.moves c.args.usage.now.given c.passes.invariant.moves.fills).fills
+
+pub returns-in-Ok-move_found-clause-paid : goal.returns-in-Ok-move_found-clause-paid
+returns-in-Ok-move_found-clause-paid g c =
+    let m = moves_then c.passes.invariant.moves (c.move_found.ensures.moves c.args.usage.now.given c.passes.invariant.moves.fills) in
+    let p = m.paid in let s = closed_spent c.args.usage.now in omega arith
+
+pub returns-in-Ok-move_found-clause-frame : goal.returns-in-Ok-move_found-clause-frame
+returns-in-Ok-move_found-clause-frame g c = fenced_then c.passes.invariant.frame (fenced_same (c.next_sparse.ensures.same ∙ c.cell-node.ensures.same) c.move_found.ensures.frame)
+
+pub passes-preserved-in-Ok-2 : goal.passes-preserved-in-Ok-2
+passes-preserved-in-Ok-2 g c =
+    let i = c.passes.invariant in
+    record {
+      stood = λ es t h.
+          let n = i.stood es t h in
+          c.move_found.ensures.stood es n.0 (stood_same (c.next_sparse.ensures.same ∙ c.cell-node.ensures.same) refl n.1) (c.next_sparse.ensures.found c.if-next_sparse.true n.0 (node_top n.1 c.cell-node.ensures.same c.cell-node.ensures.value));
+      moves = moves_then i.moves (c.move_found.ensures.moves c.args.usage.now.given i.moves.fills);
+      elsewhere = i.elsewhere;
+      writable = writable_later (subst (λ s. IsWritable g.C.CellWrite.given reserve_account_of s c.passes.usage c.in-Ok.at) (sym (c.next_sparse.ensures.same ∙ c.cell-node.ensures.same)) i.writable) c.move_found.ensures.frame.grows c.move_found.ensures.frame.given_stays;
+      frame = fenced_then i.frame (fenced_same (c.next_sparse.ensures.same ∙ c.cell-node.ensures.same) c.move_found.ensures.frame);
+      ready = c.move_found.ensures.ready;
+    }
+
+pub passes-preserved : goal.passes-preserved
+passes-preserved g c =
+    let i = c.passes.invariant in
+    record {
+      stood = λ es t h. let n = i.stood es t h in (n.0, stood_same (c.next_sparse.ensures.same ∙ c.cell-node.ensures.same) refl n.1);
+      moves = i.moves;
+      elsewhere = i.elsewhere;
+      writable = subst (λ s. IsWritable g.C.CellWrite.given reserve_account_of s c.passes.usage c.in-Ok.at) (sym (c.next_sparse.ensures.same ∙ c.cell-node.ensures.same)) i.writable;
+      frame = subst (λ s. Fenced g.C.CellRead.has g.C.CellWrite.kept g.C.CellWrite.given reserve_account_of c.args.cells.now c.args.usage.now s c.passes.usage) (sym (c.next_sparse.ensures.same ∙ c.cell-node.ensures.same)) i.frame;
+      ready = ready_put i.ready (ap g.C.CellWrite.given (c.next_sparse.ensures.same ∙ c.cell-node.ensures.same)) (ap g.C.CellWrite.kept (c.next_sparse.ensures.same ∙ c.cell-node.ensures.same));
+    }
+
+pub returns-else-begins_again-clause-stood : goal.returns-else-begins_again-clause-stood
+returns-else-begins_again-clause-stood g c es t h = let n = c.passes.invariant.stood es t h in (n.0, stood_same (c.next_sparse.ensures.same ∙ c.cell-node.ensures.same) refl n.1)
+
+pub returns-else-begins_again-clause-fills : goal.returns-else-begins_again-clause-fills
+returns-else-begins_again-clause-fills g c = c.passes.invariant.moves.fills
+
+pub returns-else-begins_again-clause-whole : goal.returns-else-begins_again-clause-whole
+returns-else-begins_again-clause-whole g c e = elim c.if-resumed.branch [
+  | then-resumed w ↦ c.begins_again.ensures.dense c.if-begins_again.false (w.begins_again-is ∙ w.if-resumed.true)
+  | else-resumed w ↦ (elim (cases_Bool c.if-resumed.begins_again) [
+    | inl partial ↦ c.begins_again.ensures.dense c.if-begins_again.false partial
+    | inr whole ↦ (
+        let i = c.passes.invariant in
+        let n = i.stood c.requires.stood.es c.requires.stood.t c.requires.stood.stood in
+        let test = sym w.begins_again-is ∙ whole in
+        let all : c.passes.before ≡ 0 = grind (arith, nat_tests, test) in
+        all_cleared c.args.usage.now.given i.moves.fills i.elsewhere n.1 (c.next_sparse.ensures.none c.if-next_sparse.false w.if-resumed.false all n.0 (node_top n.1 c.cell-node.ensures.same c.cell-node.ensures.value))
+        )
+  ])
+]

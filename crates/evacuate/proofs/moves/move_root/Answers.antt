@@ -1,0 +1,34 @@
+use Rattle.std.proofs.Common.{◌≡◌, ◌+◌, ◌/◌, ℕ, arith, subst}
+use Rattle.trie_model.specs.Memory.{top_cell}
+use Rattle.chunk_usage.specs.Rooms.{reserve_account_of}
+use Rattle.trie_write.specs.Spaces.{IsWritable}
+use Rattle.trie_write.proofs.SpaceLaws.{fenced_of, fenced_counts, ready_counts}
+use Rattle.evacuate.proofs.FillingLaws.{moves_paid}
+use Rattle.evacuate.proofs.TreeLaws.{root_counted, root_moved, later_counted, handed_writable, released_rest}
+use Rattle.evacuate.proofs.moves.move_root.Goals as goal
+
+pub copy_out-requires-clause-there : goal.copy_out-requires-clause-there
+copy_out-requires-clause-there g c i lt =
+    let h = c.requires.stood in
+    let e : c.args.root ≡ c.args.root + i = omega arith in
+    (top_cell h.t, subst (λ (q : ℕ). g.C.CellRead.has c.args.cells.now q (top_cell h.t)) e h.stood.rooted.top)
+
+pub release-requires-clause-counted : goal.release-requires-clause-counted
+release-requires-clause-counted g c = later_counted c.args.usage.now c.copy_out.new.usage (c.args.root / 1024) c.in_ok-to.ensures.handed (root_counted c.requires.stood.stood)
+
+pub returns-clause-stood : goal.returns-clause-stood
+returns-clause-stood g c es t h = root_moved h c.in_ok-to.ensures.handed c.in_ok-to.ensures.frame c.in_ok-to.ensures.copied c.release.ensures
+
+pub returns-clause-writable : goal.returns-clause-writable
+returns-clause-writable g c =
+    let e : c.in_ok-to.to + 0 ≡ c.in_ok-to.to = omega arith in
+    subst (IsWritable g.C.CellWrite.given reserve_account_of c.copy_out.new.cells c.release.new.self) e (handed_writable c.args.usage.now c.copy_out.new.usage c.args.root 1 c.in_ok-to.ensures.handed c.in_ok-to.ensures.ready.same c.release.ensures 0 (omega arith))
+
+pub returns-clause-paid : goal.returns-clause-paid
+returns-clause-paid g c given fills old = moves_paid c.args.root (c.in_ok-to.ensures.moves given fills) old (later_counted c.args.usage.now c.copy_out.new.usage (c.args.root / 1024) c.in_ok-to.ensures.handed (root_counted c.requires.stood.stood)) c.release.ensures
+
+pub returns-clause-frame : goal.returns-clause-frame
+returns-clause-frame g c = fenced_counts (fenced_of c.in_ok-to.ensures.frame) (released_rest c.copy_out.new.usage c.args.root 1 c.release.ensures)
+
+pub returns-clause-ready : goal.returns-clause-ready
+returns-clause-ready g c = ready_counts (released_rest c.copy_out.new.usage c.args.root 1 c.release.ensures) c.in_ok-to.ensures.ready

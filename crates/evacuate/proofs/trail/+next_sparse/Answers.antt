@@ -1,0 +1,85 @@
+use Rattle.std.proofs.Common.{◌≡◌, ℕ, suc, ◌+◌, ◌-◌, ◌<◌, false, count_ones, arith, refl, sym, ◌∙◌, ap, subst, rules}
+use Rattle.std.proofs.lemmas.Bool.{true≢false}
+use Rattle.trie_model.specs.Memory.{top_cell}
+use Rattle.trie_model.specs.Reach.{in_chunk}
+use Rattle.trie_model.proofs.CountLaws.{under}
+use Rattle.trie_model.proofs.NodeLaws.{branch_told, leaf_said}
+use Rattle.chunk_usage.specs.Counting.{is_sparse}
+use Rattle.evacuate.proofs.TrailLaws.{past, past_all, says, read_is, early, late, counted, twig_here, twig_top, clear_leaf, clear_branch, found_branch, found_below}
+use Rattle.evacuate.proofs.trail.+next_sparse.Goals as goal
+use Rattle.evacuate.proofs.trail.+next_sparse.Goals.{then-resumed, else-resumed}
+
+pub of-requires : goal.of-requires
+of-requires g t c = says c.requires.top.1
+
+pub returns-then-is_sparse-clause-found : goal.returns-then-is_sparse-clause-found
+returns-then-is_sparse-clause-found g t c e u top =
+    let b = branch_told u (c.in-Branch.branch) (sym (read_is top c.of.ensures.back) ∙ c.in-Branch.is) in
+    found_branch u c.in-Branch.branch b refl (ap (is_sparse c.args.usage.now) (sym c.chunk_of-chunk.ensures) ∙ sym c.is_sparse.ensures ∙ c.if-is_sparse.true)
+
+pub cell-twig-requires : goal.cell-twig-requires
+cell-twig-requires g t c =
+    let top = c.requires.top.1 in
+    let b = branch_told c.requires.top.0 (c.in-Branch.branch) (sym (read_is top c.of.ensures.back) ∙ c.in-Branch.is) in
+    let inside : c.loop-i.i < count_ones c.in-Branch.branch.bitmap = let e = c.twig_count-i-end.ensures in let l = c.loop-i-test.true in omega arith in
+    let x = twig_here top b c.loop-i.i inside in
+    record { there = (top_cell x.t, subst (λ s. g.C.CellRead.has s (c.in-Branch.branch.twigs + c.loop-i.i) (top_cell x.t)) (sym c.loop-i.invariant.same) x.there) }
+
+pub take-requires-clause-early : goal.take-requires-clause-early
+take-requires-clause-early g t c =
+    let b = branch_told c.requires.top.0 (c.in-Branch.branch) (sym (read_is c.requires.top.1 c.of.ensures.back) ∙ c.in-Branch.is) in
+    early c.requires.top.1 b
+
+pub next_sparse-requires : goal.next_sparse-requires
+next_sparse-requires g t c κs within =
+    let top = c.requires.top.1 in
+    let b = branch_told c.requires.top.0 (c.in-Branch.branch) (sym (read_is top c.of.ensures.back) ∙ c.in-Branch.is) in
+    let inside : c.loop-i.i < count_ones c.in-Branch.branch.bitmap = let e = c.twig_count-i-end.ensures in let l = c.loop-i-test.true in omega arith in
+    let x = twig_here top b c.loop-i.i inside in
+    let n = twig_top g.C.CellRead.has x c.loop-i.invariant.same c.cell-twig.ensures.same c.cell-twig.ensures.value in
+    let f : 504 - (c.in-Branch.branch.offset + 1) < 504 - c.args.low = let a = late top b in let d = early top b in omega arith in
+    (search (rules, f), (within, ((x.t, n), (let d = early top b in omega arith))))
+
+pub returns-then-next_sparse-clause-found : goal.returns-then-next_sparse-clause-found
+returns-then-next_sparse-clause-found g t c e u top =
+    let b = branch_told u (c.in-Branch.branch) (sym (read_is top c.of.ensures.back) ∙ c.in-Branch.is) in
+    let inside : c.loop-i.i < count_ones c.in-Branch.branch.bitmap = let e = c.twig_count-i-end.ensures in let l = c.loop-i-test.true in omega arith in
+    let x = twig_here top b c.loop-i.i inside in
+    let n = twig_top g.C.CellRead.has x c.loop-i.invariant.same c.cell-twig.ensures.same c.cell-twig.ensures.value in
+    found_below u c.in-Branch.branch b c.loop-i.i x (c.next_sparse.ensures.found c.if-next_sparse.true x.t n) (let l = c.next_sparse.ensures.late c.if-next_sparse.true in omega arith)
+    (c.next_sparse.ensures.above c.in-Branch.branch.offset (omega arith) ∙ c.take.ensures.taken)
+
+pub loop-i-preserved : goal.loop-i-preserved
+loop-i-preserved g t c =
+    let inside : c.loop-i.i < count_ones c.in-Branch.branch.bitmap = let e = c.twig_count-i-end.ensures in let l = c.loop-i-test.true in omega arith in
+    record {
+      same = c.next_sparse.ensures.same ∙ c.cell-twig.ensures.same ∙ c.loop-i.invariant.same;
+      above = λ j l.
+          let top = c.requires.top.1 in
+          let b = branch_told c.requires.top.0 (c.in-Branch.branch) (sym (read_is top c.of.ensures.back) ∙ c.in-Branch.is) in
+          let a = late top b in
+          c.next_sparse.ensures.above j (omega arith) ∙ c.take.ensures.others j (λ e. omega arith) ∙ c.loop-i.invariant.above j l;
+      none = λ off all u b top k sparse.
+          let x = twig_here top b c.loop-i.i inside in
+          let n = twig_top g.C.CellRead.has x c.loop-i.invariant.same c.cell-twig.ensures.same c.cell-twig.ensures.value in
+          let on : c.if-resumed.on ≡ false = elim c.if-resumed.branch [ then-resumed w ↦ absurd (true≢false (sym w.if-resumed.true ∙ off)) | else-resumed w ↦ w.on-is ∙ off ] in
+          let here = c.next_sparse.ensures.none c.if-next_sparse.false on all x.t n k sparse in
+          let so_far = c.loop-i.invariant.none off all u b top k sparse in
+          let part = x.weighs (in_chunk k) in
+          let next = ap (λ (m : ℕ). under (in_chunk k) (past m b.below)) (let z : suc c.loop-i.i ≡ c.loop-i.i + 1 = omega arith in z) in omega arith;
+    }
+
+pub returns-else-sparse-clause-none : goal.returns-else-sparse-clause-none
+returns-else-sparse-clause-none g t c e off all u top k sparse =
+    clear_leaf c.args.usage.now c.args.low u c.in-Leaf.leaf top.tree (leaf_said u c.in-Leaf.leaf (sym (read_is top c.of.ensures.back) ∙ c.in-Leaf.is)) (ap (is_sparse c.args.usage.now) (sym c.chunk_of.ensures) ∙ sym c.is_sparse-sparse.ensures ∙ c.if-sparse.false) k sparse
+
+pub returns-after-loop-i-clause-none : goal.returns-after-loop-i-clause-none
+returns-after-loop-i-clause-none g t c e off all u top k sparse =
+    let b = branch_told u (c.in-Branch.branch) (sym (read_is top c.of.ensures.back) ∙ c.in-Branch.is) in
+    let so_far = c.loop-i.invariant.none off all u b top k sparse in
+    let n = counted top b in
+    let rest = past_all (in_chunk k) c.loop-i.i b.below (let m = c.twig_count-i-end.ensures in let l = c.loop-i-test.false in omega arith) in
+    clear_branch c.args.usage.now c.args.low u c.in-Branch.branch b top.tree (ap (is_sparse c.args.usage.now) (sym c.chunk_of-chunk.ensures) ∙ sym c.is_sparse.ensures ∙ c.if-is_sparse.false) k sparse (omega arith)
+
+pub returns-then-leads_before-clause-none : goal.returns-then-leads_before-clause-none
+returns-then-leads_before-clause-none g t c e off all u top k sparse = absurd (true≢false (sym c.if-leads_before.true ∙ c.leads_before.ensures all))

@@ -1,0 +1,135 @@
+//! The way down to what is to be moved. On the way each row of twigs that may not be written is moved first, so that a cell above what
+//! was moved can say where it is.
+
+ghost use Rattle.std.specs.Prelude.{◌≡◌, ◌+◌, ◌^◌, ◌<◌, ◌≤◌, ◌/◌, ℕ, List, Bool, true, false, IfOk, IfErr, IfSome, None, [], count_ones, slice_index};
+ghost use Rattle.packed_node.specs.declared.Cell.{Cell};
+ghost use Rattle.packed_node.specs.declared.Node.TheVariants.{Branch as branch_node};
+ghost use Rattle.trie_model.specs.Keys.{Entry};
+ghost use Rattle.trie_model.specs.Memory.{node_of};
+ghost use Rattle.trie_model.specs.Trees.{Tree};
+ghost use Rattle.chunk_usage.specs.Rooms.{reserve_account_of};
+ghost use Rattle.trie_write.specs.Spaces.{Ready, Fenced, IsWritable};
+ghost use Rattle.trie_write.specs.Tops.{NotBefore};
+ghost use Rattle.trie_write.specs.Ways.{Fork};
+ghost use Rattle.evacuate.specs.Evacuations.{HasSparse};
+ghost use Rattle.evacuate.specs.Fillings.{Fills, Moves, IsFull, is_old, old_live};
+ghost use Rattle.evacuate.specs.Places.{moved, Stood, Hung, IsHung};
+ghost use Rattle.evacuate.specs.Trails.{Found, HasFound, Reached, TwigsAt};
+
+use super::moves::move_node;
+use super::place::first_cell;
+use super::trail::Trail;
+use chunk_cells::CellWrite;
+use chunk_usage::{Full, Usage};
+use packed_node::{Branch, Node, Ref};
+
+/// The branch that a node is, where its offset comes before a place.
+fn branch_before(node: Node, place: u16) -> Option<Branch>
+    ensures branch { IfSome result (λ b. node ≡ branch_node b) }
+    ensures before { IfSome result (λ b. b.offset < place) }
+    ensures none { result ≡ None → (t : Tree) → node ≡ node_of t → NotBefore place t }
+{
+    match node {
+        Node::Leaf(_) => None,
+        Node::Branch(branch) => {
+            if branch.offset < place {
+                return Some(branch);
+            }
+            None
+        }
+    }
+}
+
+/// A twig of a branch that the cell at a place says: it may be written, since the twigs were moved if they might not.
+fn open_twig<C: CellWrite>(
+    cells: &mut C,
+    usage: &mut Usage,
+    at: Ref,
+    branch: Branch,
+    index: u32,
+) -> Result<Ref, Full>
+    requires hung { IsHung C.has cells.old usage.old at (branch_node branch) }
+    requires index { index < count_ones branch.bitmap }
+    requires writable { IsWritable C.given reserve_account_of cells.old usage.old at }
+    requires ready { Ready C.kept C.given reserve_account_of cells.old usage.old }
+    ensures hung { IfOk result (λ twig. (r : ℕ) (es : List Entry) (way : List Fork) (t : Tree) → Hung C.has cells.old usage.old r at es way t → branch_node branch ≡ node_of t
+        → TwigsAt C.has cells.new usage.new r at es way t index twig) }
+    ensures writable { IfOk result (λ twig. IsWritable C.given reserve_account_of cells.new usage.new twig) }
+    ensures moves { IfOk result (λ _. (given : List Bool) → Fills given usage.old → Moves given 0 usage.old usage.new) }
+    ensures full { IfErr result (λ _. IsFull usage.new) }
+    ensures same { IfErr result (λ _. cells.new ≡ cells.old) }
+    ensures unchanged { IfErr result (λ _. usage.new ≡ usage.old) }
+    ensures frame { Fenced C.has C.kept C.given reserve_account_of cells.old usage.old cells.new usage.new }
+    ensures ready { Ready C.kept C.given reserve_account_of cells.new usage.new }
+{
+    usage.known(); // for the proof
+    let twig = branch.twigs + index;
+    if usage.is_mutable(twig) {
+        return Ok(twig);
+    }
+    let to = move_node(cells, usage, at, Node::Branch(branch))?;
+    Ok(to + index)
+}
+
+/// A cell below the root that may be written, and the node that it says.
+#[derive(Clone, Copy)]
+pub struct Spot {
+    pub at: Ref,
+    pub node: Node,
+}
+
+/// Goes to where a trail leads. The twigs on the way are moved where they may not be written. Where there is no room for them, what was
+/// moved before stays so.
+pub fn reach<C: CellWrite>(
+    cells: &mut C,
+    usage: &mut Usage,
+    root: Ref,
+    trail: &Trail,
+) -> Result<Spot, Full>
+    requires found { HasFound C.has cells.old usage.old root trail.now }
+    requires writable { IsWritable C.given reserve_account_of cells.old usage.old root }
+    requires ready { Ready C.kept C.given reserve_account_of cells.old usage.old }
+    ensures reached { IfOk result (λ spot. (es : List Entry) (t : Tree) → Stood C.has cells.old usage.old root es t → Found usage.old trail.now t
+        → Reached C.has usage.old cells.new usage.new root spot.at es spot.node) }
+    ensures stood { (es : List Entry) (t : Tree) → Stood C.has cells.old usage.old root es t → Found usage.old trail.now t → (u : Tree) × Stood C.has cells.new usage.new root es u }
+    ensures writable { IfOk result (λ spot. IsWritable C.given reserve_account_of cells.new usage.new spot.at) }
+    ensures moves { (given : List Bool) → Fills given usage.old → Moves given 0 usage.old usage.new }
+    ensures full { IfErr result (λ _. IsFull usage.new) }
+    ensures left { IfErr result (λ _. (given : List Bool) → Fills given usage.old → HasSparse usage.new) }
+    ensures frame { Fenced C.has C.kept C.given reserve_account_of cells.old usage.old cells.new usage.new }
+    ensures ready { Ready C.kept C.given reserve_account_of cells.new usage.new }
+{
+    let mut at = root;
+    let mut node = Node::of(cells.cell(root));
+    while let Some(branch) = branch_before(node, trail.end) {
+        let index = trail.index_at(branch.offset);
+        at = open_twig(cells, usage, at, branch, index)?;
+        node = Node::of(cells.cell(at));
+    }
+    Ok(Spot { at, node })
+}
+
+/// Moves what the trail leads to, and tells where it lay. Where there is no room for it, or for twigs on the way, what was moved before
+/// stays so.
+pub fn move_found<C: CellWrite>(
+    cells: &mut C,
+    usage: &mut Usage,
+    root: Ref,
+    trail: &Trail,
+) -> Result<Ref, Full>
+    requires found { HasFound C.has cells.old usage.old root trail.now }
+    requires writable { IsWritable C.given reserve_account_of cells.old usage.old root }
+    requires ready { Ready C.kept C.given reserve_account_of cells.old usage.old }
+    ensures stood { (es : List Entry) (t : Tree) → Stood C.has cells.old usage.old root es t → Found usage.old trail.now t → (u : Tree) × Stood C.has cells.new usage.new root es u }
+    ensures moves { (given : List Bool) → Fills given usage.old → Moves given 0 usage.old usage.new }
+    ensures less { IfOk result (λ _. (given : List Bool) → Fills given usage.old → old_live given usage.new.live < old_live given usage.old.live) }
+    ensures full { IfErr result (λ _. IsFull usage.new) }
+    ensures left { IfErr result (λ _. (given : List Bool) → Fills given usage.old → HasSparse usage.new) }
+    ensures frame { Fenced C.has C.kept C.given reserve_account_of cells.old usage.old cells.new usage.new }
+    ensures ready { Ready C.kept C.given reserve_account_of cells.new usage.new }
+{
+    let spot = reach(cells, usage, root, trail)?;
+    let from = first_cell(spot.node);
+    move_node(cells, usage, spot.at, spot.node)?;
+    Ok(from)
+}

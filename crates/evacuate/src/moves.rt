@@ -1,0 +1,90 @@
+//! Moving what hangs on a node, and the root's cell.
+
+ghost use Rattle.std.specs.Prelude.{◌≡◌, ◌≢◌, ◌+◌, ◌*◌, ◌^◌, ◌/◌, ◌<◌, ◌≤◌, ℕ, List, Bool, true, false, IfOk, IfErr, [], slice_index};
+ghost use Rattle.packed_node.specs.declared.Cell.{Cell};
+ghost use Rattle.trie_model.specs.Extents.{IsRow};
+ghost use Rattle.trie_model.specs.Keys.{Entry};
+ghost use Rattle.trie_model.specs.Memory.{node_of};
+ghost use Rattle.trie_model.specs.Trees.{Tree};
+ghost use Rattle.chunk_usage.specs.Rooms.{Handed, reserve_account_of};
+ghost use Rattle.trie_write.specs.Spaces.{Ready, Frame, Fenced, MayWrite, IsWritable};
+ghost use Rattle.trie_write.specs.Ways.{Fork};
+ghost use Rattle.evacuate.specs.Fillings.{Fills, Moves, Paid, IsFull, is_old};
+ghost use Rattle.evacuate.specs.Places.{first_of, width_of, moved, Stood, Hung, IsStood, IsHung};
+
+use super::place::{cell_count, first_cell, with_cells_at};
+use super::room::room_for;
+use chunk_cells::CellWrite;
+use chunk_usage::{Full, Usage};
+use packed_node::{Node, Ref};
+use trie_write::copy_twigs;
+
+/// Copies cells in use to new ones.
+fn copy_out<C: CellWrite>(cells: &mut C, usage: &mut Usage, from: Ref, n: u32) -> Result<Ref, Full>
+    requires some { 0 < n }
+    requires few { n ≤ 256 }
+    requires row { IsRow from n }
+    requires there { (i : ℕ) → i < n → (c : Cell) × C.has cells.old (from + i) c }
+    requires in_use { (i : ℕ) → i < n → (reserve_account_of usage.old).used (from + i) ≡ true }
+    requires ready { Ready C.kept C.given reserve_account_of cells.old usage.old }
+    ensures handed { IfOk result (λ to. Handed (reserve_account_of usage.old) (reserve_account_of usage.new) to n) }
+    ensures copied { IfOk result (λ to. (i : ℕ) (c : Cell) → i < n → C.has cells.old (from + i) c → C.has cells.new (to + i) c) }
+    ensures elsewhere { IfOk result (λ to. (given : List Bool) → Fills given usage.old → is_old given to ≡ false) }
+    ensures moves { (given : List Bool) → Fills given usage.old → Moves given n usage.old usage.new }
+    ensures full { IfErr result (λ _. IsFull usage.new) }
+    ensures same { IfErr result (λ _. cells.new ≡ cells.old) }
+    ensures unchanged { IfErr result (λ _. usage.new ≡ usage.old) }
+    ensures frame { Frame C.has C.kept C.given reserve_account_of cells.old usage.old cells.new usage.new }
+    ensures ready { Ready C.kept C.given reserve_account_of cells.new usage.new }
+{
+    let to = room_for(cells, usage, n)?;
+    copy_twigs(cells, from, to, n);
+    Ok(to)
+}
+
+/// Moves the cells that hang on a node, which the cell at a place says; it then says where they are.
+pub fn move_node<C: CellWrite>(
+    cells: &mut C,
+    usage: &mut Usage,
+    at: Ref,
+    node: Node,
+) -> Result<Ref, Full>
+    requires hung { IsHung C.has cells.old usage.old at node }
+    requires writable { IsWritable C.given reserve_account_of cells.old usage.old at }
+    requires ready { Ready C.kept C.given reserve_account_of cells.old usage.old }
+    ensures hung { IfOk result (λ to. (r : ℕ) (es : List Entry) (way : List Fork) (t : Tree) → Hung C.has cells.old usage.old r at es way t → node ≡ node_of t
+        → Hung C.has cells.new usage.new r at es way (moved t to)) }
+    ensures writable { IfOk result (λ to. (i : ℕ) → i < width_of node → IsWritable C.given reserve_account_of cells.new usage.new (to + i)) }
+    ensures paid { IfOk result (λ _. (given : List Bool) → Fills given usage.old → is_old given (first_of node) ≡ true → Paid given (width_of node) usage.old usage.new) }
+    ensures full { IfErr result (λ _. IsFull usage.new) }
+    ensures same { IfErr result (λ _. cells.new ≡ cells.old) }
+    ensures unchanged { IfErr result (λ _. usage.new ≡ usage.old) }
+    ensures frame { Fenced C.has C.kept C.given reserve_account_of cells.old usage.old cells.new usage.new }
+    ensures ready { Ready C.kept C.given reserve_account_of cells.new usage.new }
+{
+    let from = first_cell(node);
+    let n = cell_count(node);
+    let to = copy_out(cells, usage, from, n)?;
+    cells.put(at, with_cells_at(node, to).pack());
+    usage.release(from, n);
+    Ok(to)
+}
+
+/// Moves the root's cell.
+pub fn move_root<C: CellWrite>(cells: &mut C, usage: &mut Usage, root: Ref) -> Result<Ref, Full>
+    requires stood { IsStood C.has cells.old usage.old root }
+    requires ready { Ready C.kept C.given reserve_account_of cells.old usage.old }
+    ensures stood { IfOk result (λ to. (es : List Entry) (t : Tree) → Stood C.has cells.old usage.old root es t → Stood C.has cells.new usage.new to es t) }
+    ensures writable { IfOk result (λ to. IsWritable C.given reserve_account_of cells.new usage.new to) }
+    ensures elsewhere { IfOk result (λ to. (given : List Bool) → Fills given usage.old → is_old given to ≡ false) }
+    ensures paid { IfOk result (λ _. (given : List Bool) → Fills given usage.old → is_old given root ≡ true → Paid given 1 usage.old usage.new) }
+    ensures full { IfErr result (λ _. IsFull usage.new) }
+    ensures same { IfErr result (λ _. cells.new ≡ cells.old) }
+    ensures unchanged { IfErr result (λ _. usage.new ≡ usage.old) }
+    ensures frame { Fenced C.has C.kept C.given reserve_account_of cells.old usage.old cells.new usage.new }
+    ensures ready { Ready C.kept C.given reserve_account_of cells.new usage.new }
+{
+    let to = copy_out(cells, usage, root, 1)?;
+    usage.release(root, 1);
+    Ok(to)
+}

@@ -1,0 +1,90 @@
+//! The way along a path to what lies in a sparse chunk.
+
+ghost use Rattle.std.specs.Prelude.{◌≡◌, ◌<◌, ◌≤◌, ℕ, true, count_ones, slice_index};
+ghost use Rattle.trie_model.specs.Trees.{Tree};
+ghost use Rattle.trie_read.specs.Reads.{IsTop};
+ghost use Rattle.evacuate.specs.Trails.{Found};
+
+use super::trail::Trail;
+use chunk_cells::CellRead;
+use chunk_usage::{Path, Usage};
+use packed_node::{Branch, Cell, Node, chunk_of};
+
+/// The twigs that a path goes on to: those before `end` from `first` on.
+#[derive(Clone, Copy)]
+struct Onward {
+    first: u32,
+    end: u32,
+    path: Path,
+}
+
+/// Which twigs of a branch a path goes on to: to that of its first step, or to all where it says nothing, or there is no such twig.
+fn twigs_on(branch: Branch, path: Path) -> Onward
+    ensures { result.end ≤ count_ones branch.bitmap }
+{
+    let count = branch.twig_count();
+    match path.first() {
+        Some(position) if branch.has_twig(position) => {
+            let first = branch.twig_index(position);
+            Onward {
+                first,
+                end: count.min(first + 1),
+                path: path.rest(),
+            }
+        }
+        _ => Onward {
+            first: 0,
+            end: count,
+            path: Path::none(),
+        },
+    }
+}
+
+/// Goes down from a node along a path, to the last node whose twigs, or whose item, lie in a sparse chunk; the trail then leads there.
+/// It passes no more nodes than there is patience for. Offsets are at least `low`.
+pub fn last_sparse<C: CellRead>(
+    cells: &mut C,
+    usage: &Usage,
+    trail: &mut Trail,
+    node: Cell,
+    low: u16,
+    path: Path,
+    patience: &mut u32,
+) -> bool
+    requires top { (t : Tree) × IsTop (C.has cells.old) low node t }
+    requires low { low ≤ 504 }
+    ensures same { cells.new ≡ cells.old }
+    ensures found { result ≡ true → (t : Tree) → IsTop (C.has cells.old) low node t → Found usage.now trail.new t }
+    ensures late { result ≡ true → low ≤ trail.new.end }
+    ensures above { (i : ℕ) → i < low → slice_index trail.new.indices i ≡ slice_index trail.old.indices i }
+{
+    if *patience == 0 {
+        return false;
+    }
+    *patience -= 1;
+    match Node::of(node) {
+        Node::Leaf(leaf) => {
+            let sparse = usage.is_sparse(chunk_of(leaf.at));
+            if sparse {
+                trail.end = 504;
+            }
+            sparse
+        }
+        Node::Branch(branch) => {
+            let on = twigs_on(branch, path);
+            for i in on.first..on.end {
+                trail.take(branch.offset, i);
+                let twig = cells.cell(branch.twigs + i);
+                let low = branch.offset + 1;
+                if last_sparse(cells, usage, trail, twig, low, on.path, patience) {
+                    return true;
+                }
+            }
+            let sparse = usage.is_sparse(chunk_of(branch.twigs));
+            if sparse {
+                trail.end = branch.offset;
+            }
+            sparse
+        }
+    }
+}

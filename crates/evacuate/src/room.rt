@@ -1,0 +1,38 @@
+//! Cells for what is moved. The reserve is handed out too.
+
+ghost use Rattle.std.specs.Prelude.{◌≡◌, ◌≢◌, ◌+◌, ◌^◌, ◌/◌, ◌<◌, ◌≤◌, ℕ, List, Bool, false, IfOk, IfErr, slice_index_or};
+ghost use Rattle.packed_node.specs.declared.Cell.{Cell};
+ghost use Rattle.chunk_usage.specs.Handing.{reserve_allocated};
+ghost use Rattle.chunk_usage.specs.Rooms.{Handed, reserve_account_of};
+ghost use Rattle.trie_write.specs.Spaces.{Ready, Frame, MayWrite};
+ghost use Rattle.evacuate.specs.Fillings.{Fills, Moves, IsFull, is_old};
+
+use chunk_cells::CellWrite;
+use chunk_usage::{Full, Usage};
+use packed_node::Ref;
+
+/// Room for n cells side by side, in a chunk that the cells know as given.
+pub fn room_for<C: CellWrite>(cells: &mut C, usage: &mut Usage, n: u32) -> Result<Ref, Full>
+    requires some { 0 < n }
+    requires few { n ≤ 256 }
+    requires ready { Ready C.kept C.given reserve_account_of cells.old usage.old }
+    ensures handed { IfOk result (λ at. Handed (reserve_account_of usage.old) (reserve_account_of usage.new) at n) }
+    ensures blank { IfOk result (λ at. MayWrite C.kept C.given cells.new at n) }
+    ensures all { (q : ℕ) (c : Cell) → C.has cells.old q c → C.has cells.new q c }
+    ensures after { usage.new ≡ reserve_allocated usage.old n }
+    ensures elsewhere { IfOk result (λ at. (given : List Bool) → Fills given usage.old → is_old given at ≡ false) }
+    ensures moves { (given : List Bool) → Fills given usage.old → Moves given n usage.old usage.new }
+    ensures full { IfErr result (λ _. IsFull usage.new) }
+    ensures same { IfErr result (λ _. cells.new ≡ cells.old) }
+    ensures unchanged { IfErr result (λ _. usage.new ≡ usage.old) }
+    ensures frame { Frame C.has C.kept C.given reserve_account_of cells.old usage.old cells.new usage.new }
+    ensures ready { Ready C.kept C.given reserve_account_of cells.new usage.new }
+{
+    usage.known(); // for the proof
+    let grant = usage.alloc_reserve(n)?;
+    if let Some(chunk) = grant.given {
+        cells.give(chunk);
+        return Ok(grant.at);
+    }
+    Ok(grant.at)
+}

@@ -1,0 +1,64 @@
+//! A walk through a trie that lists for chunks on which paths the trie has cells in them.
+
+ghost use Rattle.std.specs.Prelude.{◌≡◌, ◌≤◌};
+ghost use Rattle.trie_model.specs.Trees.{Tree};
+ghost use Rattle.trie_read.specs.Reads.{IsTop};
+ghost use Rattle.evacuate.specs.Places.{IsStood};
+
+use chunk_cells::CellRead;
+use chunk_usage::{Path, Usage};
+use packed_node::{Branch, Cell, Node, Ref, chunk_of};
+
+/// The position of a branch's twig: the first from a place on.
+fn position_from(branch: Branch, place: u8) -> u8 {
+    let later = (branch.bitmap >> (place & 63)) << (place & 63);
+    (later.trailing_zeros() & 63) as u8
+}
+
+/// Lists the paths below a node, which lies on a path that began with so many steps. Offsets are at least `low`.
+fn survey_below<C: CellRead>(
+    cells: &mut C,
+    usage: &mut Usage,
+    node: Cell,
+    low: u16,
+    path: Path,
+    steps: u32,
+)
+    requires top { (t : Tree) × IsTop (C.has cells.old) low node t }
+    requires low { low ≤ 504 }
+    ensures cells { cells.new ≡ cells.old }
+    ensures usage { usage.new ≡ usage.old }
+{
+    match Node::of(node) {
+        Node::Leaf(leaf) => usage.pass(chunk_of(leaf.at), path),
+        Node::Branch(branch) => {
+            usage.pass(chunk_of(branch.twigs), path);
+            let mut position = position_from(branch, 0);
+            for i in 0..branch.twig_count() {
+                let twig = cells.cell(branch.twigs + i);
+                let on = path.then(steps, position);
+                survey_below(
+                    cells,
+                    usage,
+                    twig,
+                    branch.offset + 1,
+                    on,
+                    steps.saturating_add(1),
+                );
+                position = position_from(branch, position.saturating_add(1));
+            }
+        }
+    }
+}
+
+/// Lists for chunks whose lists lack something, and for all sparse ones, on which paths the trie of a root has cells in them.
+pub fn survey<C: CellRead>(cells: &mut C, usage: &mut Usage, root: Ref)
+    requires stood { IsStood C.has cells.old usage.old root }
+    ensures cells { cells.new ≡ cells.old }
+    ensures usage { usage.new ≡ usage.old }
+{
+    usage.begin_walk();
+    let top = cells.cell(root);
+    survey_below(cells, usage, top, 0, Path::none(), 0);
+    usage.end_walk();
+}
