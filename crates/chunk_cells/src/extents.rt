@@ -77,6 +77,15 @@ pub fn cells_for(len: u16) -> u32
     content_cells_for(len) + links_for(len)
 }
 
+/// Where that cell lies in an extent that begins here: its last cell.
+#[inline]
+pub fn link_of(at: Ref) -> Ref
+    requires { at + 256 ≤ 2 ^ 22 }
+    ensures { result ≡ at + 255 }
+{
+    at + LINK_PLACE
+}
+
 /// Where the extent behind one begins that has its first cell here.
 #[inline]
 pub fn next_extent<C: CellRead>(cells: &mut C, at: Ref) -> Ref
@@ -117,7 +126,7 @@ fn follow_links<C: CellRead>(cells: &mut C, at: Ref, len: u16, out: &mut [Ref])
 
 /// The cell that says where the next extent begins.
 #[inline]
-pub(crate) fn link_to(next: Ref) -> Cell
+pub fn link_to(next: Ref) -> Cell
     ensures { result ≡ link_cell next }
 {
     Cell {

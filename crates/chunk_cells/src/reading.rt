@@ -36,7 +36,12 @@ fn read_extents<C: CellRead>(cells: &mut C, at: Ref, len: u16, out: &mut [u8])
     }
     read_cells(cells, at, LINK_PLACE, out);
     let next = next_extent(cells, at);
-    read_extents(cells, next, len - LINKED_OCTETS as u16, &mut out[LINKED_OCTETS..]);
+    read_extents(
+        cells,
+        next,
+        len - LINKED_OCTETS as u16,
+        &mut out[LINKED_OCTETS..],
+    );
 }
 
 /// Reads octets that lie side by side. Where `out` ends before the last cell does, that one is read octet by octet.

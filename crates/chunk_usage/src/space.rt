@@ -29,7 +29,7 @@ pub struct Full {
 pub trait Space {
     ghost use Rattle.std.specs.Prelude.{◌≡◌, ◌+◌, ◌/◌, ◌%◌, ◌<◌, ◌≤◌, ℕ, Bool, true, List, IfOk, OnErr, IfErr, IsTrue};
     ghost use Rattle.trie_model.specs.Extents.{row};
-ghost use Rattle.trie_model.specs.Reach.{in_chunk};
+    ghost use Rattle.trie_model.specs.Reach.{in_chunk};
     ghost use Rattle.chunk_cells.specs.Chunks.{IsGiven};
     ghost use Rattle.chunk_usage.specs.declared.space.Full.{Full};
     ghost use Rattle.chunk_usage.specs.Rooms.{Account, Handed, GivesChunk, OpensFree, Grows};

@@ -1,5 +1,5 @@
 -- The way down to what is to be moved.
-use Rattle.std.proofs.Common.{◌≡◌, ℕ, ◌+◌, ◌<◌, ◌≤◌, ◌++◌, Bool, List, [], ◌∷◌, ◌/◌, slice_index, count_ones, Result, Ok, Err, arith, refl, sym, ◌∙◌, ap, subst}
+use Rattle.std.proofs.Common.{◌≡◌, ℕ, ◌+◌, ◌<◌, ◌≤◌, ◌++◌, Bool, List, [], ◌∷◌, slice_index, count_ones, Result, Ok, Err, arith, refl, sym, ◌∙◌, ap, subst}
 use Rattle.std.specs.Prelude.{IfErr}
 use Rattle.packed_node.specs.declared.Cell.{Cell}
 use Rattle.packed_node.specs.declared.Branch.{Branch}
@@ -21,9 +21,10 @@ use Rattle.trie_write.proofs.WayLaws.{IsFork, is_fork, fork_count, low_at, end_l
 use Rattle.evacuate.specs.declared.trail.Trail.{Trail}
 use Rattle.evacuate.specs.Evacuations.{HasSparse}
 use Rattle.evacuate.specs.Fillings.{Moves}
-use Rattle.evacuate.specs.Places.{first_of, moved, Stood, Hung, IsHung}
-use Rattle.evacuate.specs.Trails.{Steps, LeadsTo, Found, Reached, Underway, TwigsAt}
-use Rattle.evacuate.proofs.TreeLaws.{hung_counted, hung_low, hung_tree, row_of}
+use Rattle.evacuate.specs.Places.{moved, Stood, Hung, IsHung}
+use Rattle.evacuate.specs.Trails.{Steps, LeadsTo, Found, IsDue, Reached, Underway, TwigsAt}
+use Rattle.evacuate.proofs.SparseLaws.{lies_left, lies_stay}
+use Rattle.evacuate.proofs.TreeLaws.{hung_low, hung_tree}
 
 module _ {S : Type 0} {has : S → ℕ → Cell → Type 0} {s : S} {l : Ledger} {r at : ℕ} {es : List Entry} {way : List Fork} {t : Tree} (h : Hung has s l r at es way t) where
   -- the cell says the tree's node
@@ -171,22 +172,13 @@ pub reached_hung : {S : Type 0} {has : S → ℕ → Cell → Type 0} {l0 : Ledg
 reached_hung {r = r} {es = es} x = record { r = r; es = es; way = x.way; t = x.end; hung = x.hung; is = x.node_is }
 
 -- where it isn't moved a sparse chunk is left
-pub reached_left : {S : Type 0} {has : S → ℕ → Cell → Type 0} {given : List Bool} {l0 : Ledger} {s : S} {l : Ledger} {r at : ℕ} {es : List Entry} {n : Node} →
-    Reached has l0 s l r at es n → Moves given 0 l0 l → HasSparse l
-reached_left {has = has} {s = s} {l} {r} {es = es} x m = record {
-  chunk = first_of (node_of x.end) / 1024;
-  sparse = m.sparse (first_of (node_of x.end) / 1024) x.sparse;
-  some = (let c = hung_counted x.hung in let w = (row_of 0 x.end (hung_tree x.hung)).some in omega arith);
-}
-
--- where it isn't moved a sparse chunk is left
 pub underway_left : {S : Type 0} {has : S → ℕ → Cell → Type 0} {given : List Bool} {l0 : Ledger} {trail : Trail} {s : S} {l : Ledger} {r at : ℕ} {es : List Entry} {n : Node} →
     Underway has l0 trail s l r at es n → Moves given 0 l0 l → HasSparse l
-underway_left {has = has} {s = s} {l} {r} {es = es} u m = record {
-  chunk = first_of (node_of u.end) / 1024;
-  sparse = m.sparse (first_of (node_of u.end) / 1024) u.sparse;
-  some = (let c = hung_counted end_hung in let w = (row_of 0 u.end (hung_tree end_hung)).some in omega arith);
-}
+underway_left {has = has} {l0 = l0} {s = s} {l} {r} {es = es} u m = lies_left end_hung (lies_stay l0 l m.sparse u.end u.sparse)
   where
     end_hung : Hung has s l r (end_at r (u.upper ++ u.rest)) es (u.upper ++ u.rest) u.end
     end_hung = record { stood = subst (Stood has s l r es) (sym (plug-append u.upper u.rest u.end)) u.hung.stood; at_is = refl }
+
+-- what was reached is still to be moved, since a sparse chunk stays so on the way
+pub reached_due : {S : Type 0} {has : S → ℕ → Cell → Type 0} {given : List Bool} {l0 : Ledger} {s : S} {l : Ledger} {r at : ℕ} {es : List Entry} {n : Node} → Reached has l0 s l r at es n → Moves given 0 l0 l → IsDue has s l at n
+reached_due {l0 = l0} {l = l} {r} {es = es} x m = record { hung = record { r = r; es = es; way = x.way; t = x.end; hung = x.hung; is = x.node_is }; sparse = lies_stay l0 l m.sparse x.end x.sparse }

@@ -1,6 +1,9 @@
 pub mod ReserveLaws
 pub mod FillingLaws
 pub mod TreeLaws
+pub mod ChainLaws
+pub mod SparseLaws
+pub mod BehindLaws
 pub mod TrailLaws
 pub mod SumLaws
 pub mod DescentLaws

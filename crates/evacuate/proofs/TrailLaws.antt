@@ -1,12 +1,12 @@
 -- The walk to what lies in sparse chunks.
-use Rattle.std.proofs.Common.{◌≡◌, ℕ, zero, suc, ◌+◌, ◌/◌, ◌<◌, ◌≤◌, true, false, [], ◌∷◌, slice_index, count_ones, arith, refl, sym, ◌∙◌, ap, subst}
+use Rattle.std.proofs.Common.{◌≡◌, ℕ, zero, suc, ◌+◌, ◌/◌, ◌<◌, ◌≤◌, true, false, List, length, [], ◌∷◌, slice_index, count_ones, arith, refl, sym, ◌∙◌, ap, subst}
 use Rattle.std.proofs.lemmas.Bool.{true≢false}
 use Rattle.packed_node.specs.declared.Cell.{Cell}
 use Rattle.packed_node.specs.declared.Branch.{Branch}
 use Rattle.packed_node.specs.declared.Leaf.{Leaf}
 use Rattle.packed_node.specs.declared.Node.{Node}
 use Rattle.packed_node.specs.Nodes.{IsNode, packed}
-use Rattle.trie_model.specs.Extents.{IsRow, row}
+use Rattle.trie_model.specs.Extents.{Extents, AreExtents, HasItem, IsRow, ItemLies, LiesAt, row}
 use Rattle.trie_model.specs.Memory.{top_cell, node_of, Beneath, Lie}
 use Rattle.trie_model.specs.Reach.{in_chunk, weigh_tree}
 use Rattle.trie_model.specs.Trees.{Tree, Twigs, count, beside, IsTree, AreTwigs}
@@ -22,8 +22,9 @@ use Rattle.chunk_usage.proofs.RowLemmas.{row_there}
 use Rattle.trie_read.specs.Reads.{IsTop}
 use Rattle.trie_write.specs.Tops.{NotBefore}
 use Rattle.evacuate.specs.declared.trail.Trail.{Trail}
-use Rattle.evacuate.specs.Places.{first_of}
+use Rattle.evacuate.specs.Sparse.{SparseExtents, LiesSparse}
 use Rattle.evacuate.specs.Trails.{Found}
+use Rattle.evacuate.proofs.SparseLaws.{clear_extents}
 
 -- the twigs from the i-th on
 abbrev pub past : ℕ → Twigs → Twigs
@@ -103,10 +104,20 @@ twig_top H {o = o} {r} {i} x e f read =
 pub clear_row : (l : Ledger) (k r n : ℕ) → IsRow r n → is_sparse l (r / 1024) ≡ false → is_sparse l k ≡ true → row (in_chunk k) r n ≡ 0
 clear_row l k r n is clear sparse = row_there r n is.together k (λ e. true≢false (sym sparse ∙ ap (is_sparse l) e ∙ clear))
 
-pub clear_leaf : (l : Ledger) (low : ℕ) (t : Tree) (x : Leaf) → IsTree low t → LeafSaid t x → is_sparse l (x.at / 1024) ≡ false → (k : ℕ) → is_sparse l k ≡ true → weigh_tree (in_chunk k) t ≡ 0
-clear_leaf l low t x tree said clear k sparse =
-    let shape : IsTree low (leaf said.entry x.at) = subst (IsTree low) said.is tree in
-    ap (weigh_tree (in_chunk k)) said.is ∙ clear_row l k x.at _ shape.1 clear sparse
+-- an item that was read there
+pub leaf_there : {has : ℕ → Cell → Type 0} {low : ℕ} {c : Cell} {t : Tree} {x : Leaf} → IsTop has low c t → (said : LeafSaid t x) → LiesAt has x.at x.len said.entry.item said.extents
+leaf_there {has} {low} {x = x} top said =
+    let shape : IsTree low (leaf said.entry said.extents) = subst (IsTree low) said.is top.tree in
+    let lies : ItemLies has said.extents said.entry.item = subst (Beneath has) said.is top.beneath in
+    record { from = sym said.at; size = sym said.len; are = subst (λ (n : ℕ). AreExtents n said.extents) (sym said.len) shape.1; lies = lies }
+
+pub leaf_item : {has : ℕ → Cell → Type 0} {low : ℕ} {c : Cell} {t : Tree} {x : Leaf} → IsTop has low c t → (said : LeafSaid t x) → (item : List ℕ) × HasItem has x.at x.len item
+leaf_item top said = (said.entry.item, record { extents = said.extents; there = leaf_there top said })
+
+pub clear_leaf : {has : ℕ → Cell → Type 0} (l : Ledger) (low : ℕ) (c : Cell) (t : Tree) (x : Leaf) → IsTop has low c t → LeafSaid t x → ((item : List ℕ) (y : Extents) → LiesAt has x.at x.len item y → SparseExtents l y → ⊥) → (k : ℕ) → is_sparse l k ≡ true → weigh_tree (in_chunk k) t ≡ 0
+clear_leaf l low c t x top said clear k sparse =
+    let shape : IsTree low (leaf said.entry said.extents) = subst (IsTree low) said.is top.tree in
+    ap (weigh_tree (in_chunk k)) said.is ∙ clear_extents l (length said.entry.item) said.extents shape.1 (clear said.entry.item said.extents (leaf_there top said)) k sparse
 
 pub clear_branch : (l : Ledger) (low : ℕ) (t : Tree) (b : Branch) (x : BranchTold t b) → IsTree low t → is_sparse l (b.twigs / 1024) ≡ false → (k : ℕ) → is_sparse l k ≡ true → under (in_chunk k) x.below ≡ 0 → weigh_tree (in_chunk k) t ≡ 0
 clear_branch l low t b x tree clear k sparse empty =
@@ -117,13 +128,13 @@ clear_branch l low t b x tree clear k sparse empty =
 
 -- ---- what was found
 
-pub found_leaf : {l : Ledger} {trail : Trail} (t : Tree) (x : Leaf) → LeafSaid t x → is_sparse l (x.at / 1024) ≡ true → Found l trail t
-found_leaf {l} {trail} t x said sparse = record {
+pub found_leaf : {has : ℕ → Cell → Type 0} {l : Ledger} {trail : Trail} {low : ℕ} {c : Cell} (t : Tree) (x : Leaf) → IsTop has low c t → LeafSaid t x → ((item : List ℕ) (y : Extents) → LiesAt has x.at x.len item y → SparseExtents l y) → Found l trail t
+found_leaf {l = l} {trail} t x top said sparse = record {
   way = [];
   end = t;
   is = refl;
   leads = record { steps = tt; ends = subst (NotBefore trail.end) (sym said.is) tt };
-  sparse = ap (λ (u : Tree). is_sparse l (first_of (node_of u) / 1024)) said.is ∙ sparse;
+  sparse = subst (LiesSparse l) (sym said.is) (sparse said.entry.item said.extents (leaf_there top said));
 }
 
 pub found_branch : {l : Ledger} {trail : Trail} (t : Tree) (b : Branch) → BranchTold t b → trail.end ≡ b.offset → is_sparse l (b.twigs / 1024) ≡ true → Found l trail t
@@ -132,7 +143,7 @@ found_branch {l} {trail} t b x end sparse = record {
   end = t;
   is = refl;
   leads = record { steps = tt; ends = subst (NotBefore trail.end) (sym x.is) (let z : trail.end ≤ b.offset = omega arith in z) };
-  sparse = ap (λ (u : Tree). is_sparse l (first_of (node_of u) / 1024)) x.is ∙ sparse;
+  sparse = subst (LiesSparse l) (sym x.is) sparse;
 }
 
 pub found_below : {has : ℕ → Cell → Type 0} {l : Ledger} {trail : Trail} (t : Tree) (b : Branch) (x : BranchTold t b) (i : ℕ) (n : TwigAt has b.offset b.twigs i x.below) → Found l trail n.t → b.offset < trail.end → slice_index trail.indices b.offset ≡ i → Found l trail t

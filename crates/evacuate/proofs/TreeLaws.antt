@@ -46,48 +46,48 @@ width_branch : (low o w : ℕ) (below : Twigs) → IsTree low (branch o w below)
 width_branch low o w below h = ones_of 0 47 below (rising_of o 0 below (let z : 0 ≤ 47 = omega arith in z) h.5)
 
 -- an item's first extent
-width_last : (n : ℕ) → n ≤ 4096 → first_width n ≡ content_cells n
+pub width_last : (n : ℕ) → n ≤ 4096 → first_width n ≡ content_cells n
 width_last n l = grind (arith, nat_tests)
 
-width_linked : (n : ℕ) → 4096 < n → first_width n ≡ linked_cells
+pub width_linked : (n : ℕ) → 4096 < n → first_width n ≡ linked_cells
 width_linked n l = grind (arith, nat_tests)
 
-put_there : (x : Extents) (to : ℕ) → first_cell_of (put_first x to) ≡ to
+pub put_there : (x : Extents) (to : ℕ) → first_cell_of (put_first x to) ≡ to
 put_there (last r) to = refl
 put_there (linked r x) to = refl
 
-put_are : (n : ℕ) (x : Extents) (to : ℕ) → AreExtents n x → IsRow to (first_width n) → AreExtents n (put_first x to)
+pub put_are : (n : ℕ) (x : Extents) (to : ℕ) → AreExtents n x → IsRow to (first_width n) → AreExtents n (put_first x to)
 put_are n (last r) to h row = (h.0, subst (IsRow to) (width_last n h.0) row)
 put_are n (linked r x) to h row = (h.0, subst (IsRow to) (width_linked n h.0) row, h.2)
 
-put_weigh : (w : ℕ → ℕ) (n : ℕ) (x : Extents) (to : ℕ) → AreExtents n x → weigh_extents w n (put_first x to) + row w (first_cell_of x) (first_width n) ≡ weigh_extents w n x + row w to (first_width n)
+pub put_weigh : (w : ℕ → ℕ) (n : ℕ) (x : Extents) (to : ℕ) → AreExtents n x → weigh_extents w n (put_first x to) + row w (first_cell_of x) (first_width n) ≡ weigh_extents w n x + row w to (first_width n)
 put_weigh w n (last r) to h = let e = ap (row w r) (width_last n h.0) in let f = ap (row w to) (width_last n h.0) in omega arith
 put_weigh w n (linked r x) to h = let e = ap (row w r) (width_linked n h.0) in let f = ap (row w to) (width_linked n h.0) in omega arith
 
-first_met : (w : ℕ → ℕ) (n : ℕ) (x : Extents) → AreExtents n x → row w (first_cell_of x) (first_width n) ≤ weigh_extents w n x
+pub first_met : (w : ℕ → ℕ) (n : ℕ) (x : Extents) → AreExtents n x → row w (first_cell_of x) (first_width n) ≤ weigh_extents w n x
 first_met w n (last r) h = let e = ap (row w r) (width_last n h.0) in omega arith
 first_met w n (linked r x) h = let e = ap (row w r) (width_linked n h.0) in omega arith
 
-first_cells : (has : ℕ → Cell → Type 0) (item : List ℕ) (x : Extents) → AreExtents (length item) x → ItemLies has x item → (i : ℕ) → i < first_width (length item) → (c : Cell) × has (first_cell_of x + i) c
+pub first_cells : (has : ℕ → Cell → Type 0) (item : List ℕ) (x : Extents) → AreExtents (length item) x → ItemLies has x item → (i : ℕ) → i < first_width (length item) → (c : Cell) × has (first_cell_of x + i) c
 first_cells has item (last r) a h i l = (item_cell item i, h i (let e = width_last (length item) a.0 in omega arith))
 first_cells has item (linked r x) a h i l = elim (cases_lt i 255) [
   | inl content ↦ (item_cell item i, h.0 i content)
   | inr link ↦ (let e = width_linked (length item) a.0 in let k = linked_is in let p : 255 ≡ i = omega arith in (link_cell (first_cell_of x), subst (λ (j : ℕ). has (r + j) (link_cell (first_cell_of x))) p h.1))
 ]
 
-first_within : (P : ℕ → Bool) (n : ℕ) (x : Extents) → AreExtents n x → WithinExtents P n x → (i : ℕ) → i < first_width n → P (first_cell_of x + i) ≡ true
+pub first_within : (P : ℕ → Bool) (n : ℕ) (x : Extents) → AreExtents n x → WithinExtents P n x → (i : ℕ) → i < first_width n → P (first_cell_of x + i) ≡ true
 first_within P n (last r) a h i l = h i (let e = width_last n a.0 in omega arith)
 first_within P n (linked r x) a h i l = h.0 i (let e = width_linked n a.0 in omega arith)
 
-first_row : (n : ℕ) (x : Extents) → AreExtents n x → IsRow (first_cell_of x) (first_width n)
+pub first_row : (n : ℕ) (x : Extents) → AreExtents n x → IsRow (first_cell_of x) (first_width n)
 first_row n (last r) a = subst (IsRow r) (sym (width_last n a.0)) a.1
 first_row n (linked r x) a = subst (IsRow r) (sym (width_linked n a.0)) a.1
 
-first_few : (n : ℕ) (x : Extents) → 0 < n → AreExtents n x → (0 < first_width n) × (first_width n ≤ 256)
+pub first_few : (n : ℕ) (x : Extents) → 0 < n → AreExtents n x → (0 < first_width n) × (first_width n ≤ 256)
 first_few n (last r) some a = let e = width_last n a.0 in let s = a.0 in (omega arith, omega arith)
 first_few n (linked r x) some a = let e = width_linked n a.0 in let k = linked_is in (omega arith, omega arith)
 
-put_lies : (P : ℕ → Bool) (has new : ℕ → Cell → Type 0) → Keeps P has new → (item : List ℕ) (x : Extents) (to : ℕ) → AreExtents (length item) x → ((i : ℕ) (c : Cell) → i < first_width (length item) → has (first_cell_of x + i) c → new (to + i) c) → WithinExtents P (length item) x → ItemLies has x item → ItemLies new (put_first x to) item
+pub put_lies : (P : ℕ → Bool) (has new : ℕ → Cell → Type 0) → Keeps P has new → (item : List ℕ) (x : Extents) (to : ℕ) → AreExtents (length item) x → ((i : ℕ) (c : Cell) → i < first_width (length item) → has (first_cell_of x + i) c → new (to + i) c) → WithinExtents P (length item) x → ItemLies has x item → ItemLies new (put_first x to) item
 put_lies P has new keep item (last r) to a copies within h = λ k l. copies k (item_cell item k) (let e = width_last (length item) a.0 in omega arith) (h k l)
 put_lies P has new keep item (linked r x) to a copies within h = (
   λ k l. copies k (item_cell item k) (let e = width_linked (length item) a.0 in let f = linked_is in omega arith) (h.0 k l),
@@ -95,7 +95,7 @@ put_lies P has new keep item (linked r x) to a copies within h = (
   item_kept (λ q. P q ≡ true) has new keep x (drop 4080 item) (subst (λ (n : ℕ). WithinExtents P n x) (sym (length-drop 4080 item)) within.1) h.2,
 )
 
-put_itself : (x : Extents) → put_first x (first_cell_of x) ≡ x
+pub put_itself : (x : Extents) → put_first x (first_cell_of x) ≡ x
 put_itself (last r) = refl
 put_itself (linked r x) = refl
 

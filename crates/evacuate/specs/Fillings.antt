@@ -1,5 +1,5 @@
 -- The chunks that an evacuation finds given, and those that it fills.
-use Rattle.std.specs.Prelude.{◌≡◌, ℕ, ◌+◌, ◌/◌, ◌≤◌, Bool, true, false, List, [], ◌∷◌, length, if◌then◌else◌, slice_index, slice_index_or}
+use Rattle.std.specs.Prelude.{◌≡◌, ◌⊎◌, ℕ, ◌+◌, ◌/◌, ◌<◌, ◌≤◌, Bool, true, false, List, [], ◌∷◌, length, if◌then◌else◌, slice_index, slice_index_or}
 use Rattle.chunk_usage.specs.Counting.{is_sparse}
 use Rattle.chunk_usage.specs.Ledger.{Ledger, is_given, is_open, filled}
 use Rattle.chunk_usage.specs.Handing.{IsSpent, spent}
@@ -42,3 +42,11 @@ pub record IsFull (l : Ledger) : Type 0 where
   pub needed : ℕ
   pub few : needed ≤ 256
   pub spent : IsSpent l needed
+
+-- something was moved: fewer cells of old chunks count
+abbrev pub Fewer : Ledger → Ledger → Type 0
+Fewer l new = (given : List Bool) → Fills given l → old_live given new.live < old_live given l.live
+
+-- what begins at a cell was moved; or it lies in no sparse chunk, and all is as it was
+abbrev pub Opened : Ledger → Ledger → ℕ → Type 0
+Opened l new from = Fewer l new ⊎ ((is_sparse l (from / 1024) ≡ false) × (new ≡ l))

@@ -1,16 +1,16 @@
 -- The way to a row of twigs, or an item, that lies in a sparse chunk.
-use Rattle.std.specs.Prelude.{◌≡◌, ℕ, ◌+◌, ◌/◌, ◌<◌, true, List, [], ◌∷◌, slice_index}
+use Rattle.std.specs.Prelude.{◌≡◌, ℕ, ◌+◌, ◌<◌, List, [], ◌∷◌, slice_index}
 use Rattle.packed_node.specs.declared.Cell.{Cell}
 use Rattle.packed_node.specs.declared.Node.{Node}
 use Rattle.trie_model.specs.Keys.{Entry}
 use Rattle.trie_model.specs.Memory.{node_of}
 use Rattle.trie_model.specs.Trees.{Tree, count}
-use Rattle.chunk_usage.specs.Counting.{is_sparse}
 use Rattle.chunk_usage.specs.Ledger.{Ledger}
 use Rattle.trie_write.specs.Tops.{NotBefore}
 use Rattle.trie_write.specs.Ways.{Fork, plug}
 use Rattle.evacuate.specs.declared.trail.Trail.{Trail}
-use Rattle.evacuate.specs.Places.{first_of, moved, Stood, Hung}
+use Rattle.evacuate.specs.Places.{moved, Stood, Hung, IsHung}
+use Rattle.evacuate.specs.Sparse.{LiesSparse}
 
 -- the way takes the twigs that the trail says, at offsets before its end
 abbrev pub Steps : Trail → List Fork → Type 0
@@ -21,13 +21,13 @@ pub record LeadsTo (trail : Trail) (way : List Fork) (t : Tree) : Type 0 where
   pub steps : Steps trail way
   pub ends : NotBefore trail.end t
 
--- the trail leads to a node whose twigs, or whose item, lie in a sparse chunk
+-- the trail leads to a node whose twigs, or some extent of whose item, lie in a sparse chunk
 pub record Found (l : Ledger) (trail : Trail) (t : Tree) : Type 0 where
   pub way : List Fork
   pub end : Tree
   pub is : t ≡ plug way end
   pub leads : LeadsTo trail way end
-  pub sparse : is_sparse l (first_of (node_of end) / 1024) ≡ true
+  pub sparse : LiesSparse l end
 
 -- in a trie that stands the trail leads there
 pub record HasFound {S : Type 0} (has : S → ℕ → Cell → Type 0) (s : S) (l : Ledger) (r : ℕ) (trail : Trail) : Type 0 where
@@ -44,7 +44,7 @@ pub record Underway {S : Type 0} (has : S → ℕ → Cell → Type 0) (l0 : Led
   pub hung : Hung has s l r at es upper (plug rest end)
   pub node_is : n ≡ node_of (plug rest end)
   pub leads : LeadsTo trail rest end
-  pub sparse : is_sparse l0 (first_of (node_of end) / 1024) ≡ true
+  pub sparse : LiesSparse l0 end
 
 -- there: what is to be moved hangs on the cell
 pub record Reached {S : Type 0} (has : S → ℕ → Cell → Type 0) (l0 : Ledger) (s : S) (l : Ledger) (r at : ℕ) (es : List Entry) (n : Node) : Type 0 where
@@ -52,7 +52,12 @@ pub record Reached {S : Type 0} (has : S → ℕ → Cell → Type 0) (l0 : Ledg
   pub end : Tree
   pub hung : Hung has s l r at es way end
   pub node_is : n ≡ node_of end
-  pub sparse : is_sparse l0 (first_of (node_of end) / 1024) ≡ true
+  pub sparse : LiesSparse l0 end
+
+-- some tree with this node hangs on the cell, and what hangs on the node lies in a sparse chunk
+pub record IsDue {S : Type 0} (has : S → ℕ → Cell → Type 0) (s : S) (l : Ledger) (at : ℕ) (n : Node) : Type 0 where
+  pub hung : IsHung has s l at n
+  pub sparse : LiesSparse l hung.t
 
 -- a branch's twigs may have been moved; this is one of them
 pub record TwigsAt {S : Type 0} (has : S → ℕ → Cell → Type 0) (s : S) (l : Ledger) (r at : ℕ) (es : List Entry) (way : List Fork) (t : Tree) (index twig : ℕ) : Type 0 where

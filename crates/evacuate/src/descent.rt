@@ -12,10 +12,11 @@ ghost use Rattle.trie_write.specs.Spaces.{Ready, Fenced, IsWritable};
 ghost use Rattle.trie_write.specs.Tops.{NotBefore};
 ghost use Rattle.trie_write.specs.Ways.{Fork};
 ghost use Rattle.evacuate.specs.Evacuations.{HasSparse};
-ghost use Rattle.evacuate.specs.Fillings.{Fills, Moves, IsFull, is_old, old_live};
+ghost use Rattle.evacuate.specs.Fillings.{Fills, Moves, Fewer, IsFull, is_old, old_live};
 ghost use Rattle.evacuate.specs.Places.{moved, Stood, Hung, IsHung};
-ghost use Rattle.evacuate.specs.Trails.{Found, HasFound, Reached, TwigsAt};
+ghost use Rattle.evacuate.specs.Trails.{Found, HasFound, IsDue, Reached, TwigsAt};
 
+use super::items::move_item;
 use super::moves::move_node;
 use super::place::first_cell;
 use super::trail::Trail;
@@ -109,7 +110,30 @@ pub fn reach<C: CellWrite>(
     Ok(Spot { at, node })
 }
 
-/// Moves what the trail leads to, and tells where it lay. Where there is no room for it, or for twigs on the way, what was moved before
+/// Moves what hangs on a spot's node: the twigs of a branch, or the extents of an item as far as some lie in sparse chunks. Where there is
+/// no room, what was moved before stays so.
+fn move_spot<C: CellWrite>(cells: &mut C, usage: &mut Usage, spot: Spot) -> Result<(), Full>
+    requires hung { IsHung C.has cells.old usage.old spot.at spot.node }
+    requires writable { IsWritable C.given reserve_account_of cells.old usage.old spot.at }
+    requires ready { Ready C.kept C.given reserve_account_of cells.old usage.old }
+    ensures stood { (r : ℕ) (es : List Entry) (way : List Fork) (t : Tree) → Hung C.has cells.old usage.old r spot.at es way t → spot.node ≡ node_of t → (u : Tree) × Stood C.has cells.new usage.new r es u }
+    ensures moves { IsDue C.has cells.old usage.old spot.at spot.node → (given : List Bool) → Fills given usage.old → Moves given 0 usage.old usage.new }
+    ensures less { IfOk result (λ _. IsDue C.has cells.old usage.old spot.at spot.node → Fewer usage.old usage.new) }
+    ensures full { IfErr result (λ _. IsFull usage.new) }
+    ensures left { IfErr result (λ _. IsDue C.has cells.old usage.old spot.at spot.node → HasSparse usage.new) }
+    ensures frame { Fenced C.has C.kept C.given reserve_account_of cells.old usage.old cells.new usage.new }
+    ensures ready { Ready C.kept C.given reserve_account_of cells.new usage.new }
+{
+    match spot.node {
+        Node::Leaf(leaf) => move_item(cells, usage, spot.at, leaf),
+        Node::Branch(branch) => {
+            move_node(cells, usage, spot.at, Node::Branch(branch))?;
+            Ok(())
+        }
+    }
+}
+
+/// Moves what the trail leads to, and tells where the first of it lay. Where there is no room for it, or for twigs on the way, what was moved before
 /// stays so.
 pub fn move_found<C: CellWrite>(
     cells: &mut C,
@@ -130,6 +154,6 @@ pub fn move_found<C: CellWrite>(
 {
     let spot = reach(cells, usage, root, trail)?;
     let from = first_cell(spot.node);
-    move_node(cells, usage, spot.at, spot.node)?;
+    move_spot(cells, usage, spot)?;
     Ok(from)
 }

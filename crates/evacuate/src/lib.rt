@@ -3,6 +3,7 @@
 
 mod descent;
 mod evacuation;
+mod items;
 mod listed;
 mod moves;
 mod path_walk;

@@ -1,20 +1,22 @@
 //! Moving what hangs on a node, and the root's cell.
 
-ghost use Rattle.std.specs.Prelude.{◌≡◌, ◌≢◌, ◌+◌, ◌*◌, ◌^◌, ◌/◌, ◌<◌, ◌≤◌, ℕ, List, Bool, true, false, IfOk, IfErr, [], slice_index};
+ghost use Rattle.std.specs.Prelude.{◌≡◌, ◌≢◌, ◌+◌, ◌-◌, ◌*◌, ◌^◌, ◌/◌, ◌<◌, ◌≤◌, ℕ, List, Bool, true, false, IfOk, IfErr, [], slice_index};
 ghost use Rattle.packed_node.specs.declared.Cell.{Cell};
-ghost use Rattle.trie_model.specs.Extents.{IsRow};
+ghost use Rattle.trie_model.specs.Extents.{Extents, IsRow, first_of as first_of_extents};
 ghost use Rattle.trie_model.specs.Keys.{Entry};
 ghost use Rattle.trie_model.specs.Memory.{node_of};
 ghost use Rattle.trie_model.specs.Trees.{Tree};
 ghost use Rattle.chunk_usage.specs.Rooms.{Handed, reserve_account_of};
 ghost use Rattle.trie_write.specs.Spaces.{Ready, Frame, Fenced, MayWrite, IsWritable};
 ghost use Rattle.trie_write.specs.Ways.{Fork};
+ghost use Rattle.evacuate.specs.Chains.{Goes, GoesOn};
 ghost use Rattle.evacuate.specs.Fillings.{Fills, Moves, Paid, IsFull, is_old};
-ghost use Rattle.evacuate.specs.Places.{first_of, width_of, moved, Stood, Hung, IsStood, IsHung};
+ghost use Rattle.evacuate.specs.Places.{first_of, first_width, width_of, put_first, moved, Stood, Hung, IsStood, IsHung};
 
-use super::place::{cell_count, first_cell, with_cells_at};
+use super::place::{cell_count, first_cell, first_extent_for, with_cells_at};
 use super::room::room_for;
 use chunk_cells::CellWrite;
+use chunk_cells::extents::{LINKED_OCTETS, link_of, link_to, next_extent};
 use chunk_usage::{Full, Usage};
 use packed_node::{Node, Ref};
 use trie_write::copy_twigs;
@@ -66,6 +68,36 @@ pub fn move_node<C: CellWrite>(
     let n = cell_count(node);
     let to = copy_out(cells, usage, from, n)?;
     cells.put(at, with_cells_at(node, to).pack());
+    usage.release(from, n);
+    Ok(to)
+}
+
+/// Moves the extent behind one that begins here. With it that one's item has so many octets from there on, and its link cell then says
+/// where the other is.
+pub fn move_linked<C: CellWrite>(
+    cells: &mut C,
+    usage: &mut Usage,
+    at: Ref,
+    len: u16,
+) -> Result<Ref, Full>
+    requires goes { GoesOn C.has cells.old usage.old at len }
+    requires writable { IsWritable C.given reserve_account_of cells.old usage.old (at + 255) }
+    requires ready { Ready C.kept C.given reserve_account_of cells.old usage.old }
+    ensures goes { IfOk result (λ to. (r : ℕ) (es : List Entry) (way : List Fork) (e : Entry) (front : List ℕ) (rest : Extents) → Goes C.has cells.old usage.old r at len es way e front rest
+        → Goes C.has cells.new usage.new r at len es way e front (put_first rest to)) }
+    ensures writable { IfOk result (λ to. (i : ℕ) → i < first_width (len - 4080) → IsWritable C.given reserve_account_of cells.new usage.new (to + i)) }
+    ensures paid { IfOk result (λ _. (r : ℕ) (es : List Entry) (way : List Fork) (e : Entry) (front : List ℕ) (rest : Extents) → Goes C.has cells.old usage.old r at len es way e front rest
+        → (given : List Bool) → Fills given usage.old → is_old given (first_of_extents rest) ≡ true → Paid given (first_width (len - 4080)) usage.old usage.new) }
+    ensures full { IfErr result (λ _. IsFull usage.new) }
+    ensures same { IfErr result (λ _. cells.new ≡ cells.old) }
+    ensures unchanged { IfErr result (λ _. usage.new ≡ usage.old) }
+    ensures frame { Fenced C.has C.kept C.given reserve_account_of cells.old usage.old cells.new usage.new }
+    ensures ready { Ready C.kept C.given reserve_account_of cells.new usage.new }
+{
+    let from = next_extent(cells, at);
+    let n = first_extent_for(len - LINKED_OCTETS as u16);
+    let to = copy_out(cells, usage, from, n)?;
+    cells.put(link_of(at), link_to(to));
     usage.release(from, n);
     Ok(to)
 }

@@ -5,6 +5,7 @@ ghost use Rattle.trie_model.specs.Trees.{Tree};
 ghost use Rattle.trie_read.specs.Reads.{IsTop};
 ghost use Rattle.evacuate.specs.Trails.{Found};
 
+use super::sparse::is_item_sparse;
 use super::trail::Trail;
 use chunk_cells::CellRead;
 use chunk_usage::{Path, Usage};
@@ -40,7 +41,8 @@ fn twigs_on(branch: Branch, path: Path) -> Onward
     }
 }
 
-/// Goes down from a node along a path, to the last node whose twigs, or whose item, lie in a sparse chunk; the trail then leads there.
+/// Goes down from a node along a path, to the last node whose twigs, or some extent of whose item, lie in a sparse chunk; the
+/// trail then leads there.
 /// It passes no more nodes than there is patience for. Offsets are at least `low`.
 pub fn last_sparse<C: CellRead>(
     cells: &mut C,
@@ -64,7 +66,7 @@ pub fn last_sparse<C: CellRead>(
     *patience -= 1;
     match Node::of(node) {
         Node::Leaf(leaf) => {
-            let sparse = usage.is_sparse(chunk_of(leaf.at));
+            let sparse = is_item_sparse(cells, usage, leaf.at, leaf.len);
             if sparse {
                 trail.end = 504;
             }

@@ -27,7 +27,7 @@ pub fn cell_count(node: Node) -> u32
 }
 
 /// How many cells the first extent of an item of so many octets has.
-fn first_extent_for(len: u16) -> u32
+pub fn first_extent_for(len: u16) -> u32
     ensures { result ≡ first_width len }
 {
     if len as usize > LAST_OCTETS {

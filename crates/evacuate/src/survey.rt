@@ -1,11 +1,13 @@
 //! A walk through a trie that lists for chunks on which paths the trie has cells in them.
 
-ghost use Rattle.std.specs.Prelude.{◌≡◌, ◌≤◌};
+ghost use Rattle.std.specs.Prelude.{◌≡◌, ◌≤◌, ℕ, List};
+ghost use Rattle.trie_model.specs.Extents.{HasItem};
 ghost use Rattle.trie_model.specs.Trees.{Tree};
 ghost use Rattle.trie_read.specs.Reads.{IsTop};
 ghost use Rattle.evacuate.specs.Places.{IsStood};
 
 use chunk_cells::CellRead;
+use chunk_cells::extents::{LAST_OCTETS, LINKED_OCTETS, next_extent};
 use chunk_usage::{Path, Usage};
 use packed_node::{Branch, Cell, Node, Ref, chunk_of};
 
@@ -13,6 +15,19 @@ use packed_node::{Branch, Cell, Node, Ref, chunk_of};
 fn position_from(branch: Branch, place: u8) -> u8 {
     let later = (branch.bitmap >> (place & 63)) << (place & 63);
     (later.trailing_zeros() & 63) as u8
+}
+
+/// Lists a path for the chunks of an item's extents. The item begins here, and has so many octets.
+fn pass_item<C: CellRead>(cells: &mut C, usage: &mut Usage, at: Ref, len: u16, path: Path)
+    requires there { (item : List ℕ) × HasItem (C.has cells.old) at len item }
+    ensures cells { cells.new ≡ cells.old }
+    ensures usage { usage.new ≡ usage.old }
+{
+    usage.pass(chunk_of(at), path);
+    if len as usize > LAST_OCTETS {
+        let next = next_extent(cells, at);
+        pass_item(cells, usage, next, len - LINKED_OCTETS as u16, path);
+    }
 }
 
 /// Lists the paths below a node, which lies on a path that began with so many steps. Offsets are at least `low`.
@@ -30,7 +45,7 @@ fn survey_below<C: CellRead>(
     ensures usage { usage.new ≡ usage.old }
 {
     match Node::of(node) {
-        Node::Leaf(leaf) => usage.pass(chunk_of(leaf.at), path),
+        Node::Leaf(leaf) => pass_item(cells, usage, leaf.at, leaf.len, path),
         Node::Branch(branch) => {
             usage.pass(chunk_of(branch.twigs), path);
             let mut position = position_from(branch, 0);

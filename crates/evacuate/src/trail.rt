@@ -7,6 +7,7 @@ ghost use Rattle.trie_read.specs.Reads.{IsTop};
 ghost use Rattle.chunk_usage.specs.Counting.{is_sparse};
 ghost use Rattle.evacuate.specs.Trails.{Found};
 
+use super::sparse::is_item_sparse;
 use chunk_cells::CellRead;
 use chunk_usage::Usage;
 use packed_node::{Branch, Cell, Node, chunk_of};
@@ -60,8 +61,8 @@ impl Trail {
     }
 }
 
-/// Goes down from a node, whose offset is at least `low`, to the first whose twigs, or whose item, lie in a sparse chunk; the trail then
-/// leads there. A walk that goes on leaves out what lies before the trail. Where `before` isn't 0, it also leaves out what is below twigs
+/// Goes down from a node, whose offset is at least `low`, to the first whose twigs, or some extent of whose item, lie in a sparse chunk;
+/// the trail then leads there. A walk that goes on leaves out what lies before the trail. Where `before` isn't 0, it also leaves out what is below twigs
 /// that seem to lead to no chunk that was given at that number, or later.
 pub fn next_sparse<C: CellRead>(
     cells: &mut C,
@@ -82,7 +83,7 @@ pub fn next_sparse<C: CellRead>(
 {
     match Node::of(node) {
         Node::Leaf(leaf) => {
-            let sparse = usage.is_sparse(chunk_of(leaf.at));
+            let sparse = is_item_sparse(cells, usage, leaf.at, leaf.len);
             if sparse {
                 trail.end = 504;
             }

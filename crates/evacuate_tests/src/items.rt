@@ -1,6 +1,6 @@
-//! Items of 1,000 octets, in the order of their keys.
+//! Items, most of 1,000 octets, in the order of their keys.
 
-ghost use Rattle.std.specs.Prelude.{◌≡◌, ◌<◌, IsTrue};
+ghost use Rattle.std.specs.Prelude.{◌≡◌, ◌<◌, ◌≤◌, IsTrue};
 ghost use Rattle.trie_model.specs.Keys.{Less, Rises};
 ghost use Rattle.trie_write.specs.Entries.{entry_of, entries_of_items};
 
@@ -10,15 +10,34 @@ use std::alloc::Global;
 use std::test::Fail;
 use trie_write::Item;
 
+/// The item of a name, with so many octets.
+fn item_of(alloc: Global, name: &[u8], octets: usize) -> Result<Item, Fail>
+    requires { 255 ≤ octets }
+{
+    let name = Name::read(name, &Name::root()).ok().ok_or("no name")?;
+    let mut payload = Vec::new(alloc);
+    for place in name.wire().len()..octets {
+        payload.push(((place ^ (place >> 8)) & 0xff) as u8)?;
+    }
+    Ok(Item::of(alloc, &name, &payload).ok().ok_or("no item")?)
+}
+
 /// Appends the item of a name, which has 1,000 octets: that of n1 in example. for 1.
 fn push_item(alloc: Global, items: &mut Vec<Item>, number: u32) -> Result<(), Fail> {
-    let text = format!(in alloc; "n{number}.example.")?;
-    let name = Name::read(text.as_bytes(), &Name::root())
-        .ok()
-        .ok_or("no name")?;
-    let payload = vec![in alloc; 7; 1000 - name.wire().len()]?;
-    items.push(Item::of(alloc, &name, &payload).ok().ok_or("no item")?)?;
+    let name = format!(in alloc; "n{number}.example.")?;
+    items.push(item_of(alloc, name.as_bytes(), 1000)?)?;
     Ok(())
+}
+
+/// The items of ten names with 1,400 octets each, from n0 to n9, and behind them one of 65,535.
+pub(crate) fn ten_items_and_a_long_one(alloc: Global) -> Result<Vec<Item>, Fail> {
+    let mut items = Vec::new(alloc);
+    for digit in 0..10 {
+        let name = format!(in alloc; "n{digit}.example.")?;
+        items.push(item_of(alloc, name.as_bytes(), 1400)?)?;
+    }
+    items.push(item_of(alloc, b"z.example.", 65_535)?)?;
+    Ok(items)
 }
 
 /// Those of ten numbers with these tens.

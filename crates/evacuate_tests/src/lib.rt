@@ -6,4 +6,6 @@ mod evacuations;
 #[cfg(test)]
 mod items;
 #[cfg(test)]
+mod long_items;
+#[cfg(test)]
 mod tries;

@@ -179,6 +179,23 @@ pub(crate) fn evacuated<C: CellWrite>(
     Some(emptied(cells, usage, root))
 }
 
+/// The root of that trie once what lies in sparse chunks is moved, and how that ended.
+pub(crate) fn moved<C: CellWrite>(
+    cells: &mut C,
+    usage: &mut Usage,
+    items: &[Item],
+    so_many: usize,
+) -> Option<(Option<Ref>, Done)>
+    requires rising { Rises (entries_of_items items.now) }
+    requires some { 0 < so_many }
+    requires uncounted { (k : ℕ) → (⟦<Usage as Space>⟧.account usage.old).live k ≡ 0 }
+    requires ready { Ready C.kept C.given ⟦<Usage as Space>⟧.account cells.old usage.old }
+    ensures stands { IfSome result (λ r. (version : List Entry) × HasTrie C.has ⟦<Usage as Space>⟧.account cells.new usage.new r.0 version × EachTells Leads version) }
+{
+    let root = built_without(cells, usage, items, so_many)?;
+    Some(evacuate(cells, usage, root))
+}
+
 /// The same, and then puts the names in again, takes them out, and moves once more.
 pub(crate) fn evacuated_again<C: CellWrite>(
     cells: &mut C,

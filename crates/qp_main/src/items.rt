@@ -10,6 +10,7 @@ ghost use Rattle.trie_write.specs.Entries.{entry_of, entries_of_items};
 
 use dns_name::Name;
 use master_file::{Zone, ZoneItems};
+use rr_data::item_buffer;
 use std::alloc::{AllocError, Global};
 use trie_write::{Item, ItemRefusal};
 
@@ -36,7 +37,7 @@ fn items_of(alloc: Global, mut left: ZoneItems) -> Result<Vec<Item>, AllocError>
     ensures items { IfOk result (λ items. entries_of_items items.items ≡ trie_entries left) }
     ensures storable { IfOk result (λ _. AllByRecursion IsStorable left) }
 {
-    let mut octets = [0; 4096];
+    let mut octets = item_buffer(alloc)?;
     let mut items = Vec::with_capacity(alloc, left.len())?;
     while let Some(len) = left.next(&mut octets) {
         items.push(item_of(alloc, &octets[..len])?)?;

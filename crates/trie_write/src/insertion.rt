@@ -17,8 +17,8 @@ ghost use Rattle.trie_write.specs.Spaces.{Ready, Frame, Fenced, Unchanged, Refus
 ghost use Rattle.trie_write.specs.Standing.{HasTrie};
 
 use super::change::{Change, put_change};
-use super::near::compare;
 use super::laying::{lay_item, release_item};
+use super::near::compare;
 use super::place::room_for;
 use super::turn::end_node;
 use super::with::with_leaf;

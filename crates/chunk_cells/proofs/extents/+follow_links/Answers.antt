@@ -27,7 +27,7 @@ follow_links-requires g t c κs within =
     let next = c.next_extent-next.ensures.next (first_of on.rest) on.link on.inside in
     let here = subst (λ (n : ℕ). LiesAt (g.C.CellRead.has c.args.cells.now) n (c.args.len - 4080) (drop 4080 x.0) on.rest) (sym next) on.behind in
     let there : LiesAt (g.C.CellRead.has c.next_extent-next.new.cells) c.next_extent-next.result (c.args.len - 4080) (drop 4080 x.0) on.rest =
-      subst (λ s. LiesAt (g.C.CellRead.has s) c.next_extent-next.result (c.args.len - 4080) (drop 4080 x.0) on.rest) (sym c.next_extent-next.ensures.same) here in
+    subst (λ s. LiesAt (g.C.CellRead.has s) c.next_extent-next.result (c.args.len - 4080) (drop 4080 x.0) on.rest) (sym c.next_extent-next.ensures.same) here in
     let size = length-set c.args.out.now 0 c.args.at in
     let places = length-drop 1 (slice_set c.args.out.now 0 c.args.at) in
     let room = length-take-le (length (slice_set c.args.out.now 0 c.args.at) - 1) (drop 1 (slice_set c.args.out.now 0 c.args.at)) (omega arith) in

@@ -9,10 +9,10 @@ use Rattle.chunk_cells.proofs.front.begins_with.Goals as goal
 pub cell-cell-requires : goal.cell-cell-requires
 cell-cell-requires g c = record {
   there = (
-    let x = c.requires.there in
-    let front = front_lies (g.C.CellRead.has c.args.cells.now) c.args.leaf.at c.args.leaf.len x.0 x.1 c.loop-k.k (let e = c.content_cells_for-k-end.ensures in let t = c.loop-k-test.true in let f = c.if-octets-leaf.false in omega arith) (let e = c.content_cells_for-k-end.ensures in let t = c.loop-k-test.true in let f = c.requires.few in omega arith) in
-    (item_cell x.0 c.loop-k.k, subst (λ s. g.C.CellRead.has s (c.args.leaf.at + c.loop-k.k) (item_cell x.0 c.loop-k.k)) (sym c.loop-k.invariant.same) front)
-  );
+      let x = c.requires.there in
+      let front = front_lies (g.C.CellRead.has c.args.cells.now) c.args.leaf.at c.args.leaf.len x.0 x.1 c.loop-k.k (let e = c.content_cells_for-k-end.ensures in let t = c.loop-k-test.true in let f = c.if-octets-leaf.false in omega arith) (let e = c.content_cells_for-k-end.ensures in let t = c.loop-k-test.true in let f = c.requires.few in omega arith) in
+      (item_cell x.0 c.loop-k.k, subst (λ s. g.C.CellRead.has s (c.args.leaf.at + c.loop-k.k) (item_cell x.0 c.loop-k.k)) (sym c.loop-k.invariant.same) front)
+      );
 }
 
 pub returns-then-not-cell_says-clause-value : goal.returns-then-not-cell_says-clause-value

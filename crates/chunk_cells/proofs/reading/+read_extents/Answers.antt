@@ -49,9 +49,9 @@ read_extents-requires g t c κs within =
     let same_out = c.read_cells.auto.out in
     let here : c.next_extent-next.new.cells ≡ c.args.cells.now = c.next_extent-next.ensures.same ∙ c.read_cells.ensures.same in
     let next : c.next_extent-next.result ≡ on.next =
-      c.next_extent-next.ensures.next on.next (subst (λ s. g.C.CellRead.has s (c.args.at + 255) (link_cell on.next)) (sym c.read_cells.ensures.same) on.link) on.inside in
+    c.next_extent-next.ensures.next on.next (subst (λ s. g.C.CellRead.has s (c.args.at + 255) (link_cell on.next)) (sym c.read_cells.ensures.same) on.link) on.inside in
     let rest = subst (λ (n : ℕ). HasItem (g.C.CellRead.has c.next_extent-next.new.cells) n (c.args.len - 4080) (drop 4080 x.0)) (sym next)
-      (subst (λ s. HasItem (g.C.CellRead.has s) on.next (c.args.len - 4080) (drop 4080 x.0)) (sym here) on.rest) in
+    (subst (λ s. HasItem (g.C.CellRead.has s) on.next (c.args.len - 4080) (drop 4080 x.0)) (sym here) on.rest) in
     let octets : AreOctets (drop 4080 x.0) = λ i. subst (λ (n : ℕ). n < 256) (sym (get_or-drop 4080 x.0 i 0)) (x.1 (4080 + i)) in
     let less : c.args.len - 4080 < c.args.len = omega arith in
     (search (rules, less), (within, (omega arith, (drop 4080 x.0, octets, rest))))

@@ -9,7 +9,7 @@ pub returns-clause-octets : goal.returns-clause-octets
 returns-clause-octets c item low big small i l m =
     let rest = length-drop c.args.start c.args.out.now in
     let same : length c.copy_from_slice.new.self ≡ length c.args.out.now - c.args.start =
-      c.copy_from_slice.ensures.len ∙ length-take-le (length c.args.out.now - c.args.start) (drop c.args.start c.args.out.now) (omega arith) in
+    c.copy_from_slice.ensures.len ∙ length-take-le (length c.args.out.now - c.args.start) (drop c.args.start c.args.out.now) (omega arith) in
     let e : c.args.start + (i - c.args.start) ≡ i = omega arith in
     ap (slice_index (put_mid c.args.start (length c.args.out.now - c.args.start) c.args.out.now c.copy_from_slice.new.self)) (sym e)
     ∙ put_mid_at c.args.start (length c.args.out.now - c.args.start) c.args.out.now c.copy_from_slice.new.self (i - c.args.start) (omega arith) (omega arith)

@@ -36,7 +36,7 @@ pub write_extents-requires : goal.write_extents-requires
 write_extents-requires g t c κs within =
     let size = length-drop 4080 c.args.item.now in
     let item_is : length (take (length c.args.item.now - 4080) (drop 4080 c.args.item.now)) ≡ length c.args.item.now - 4080 =
-      ap length (take_all (length c.args.item.now - 4080) (drop 4080 c.args.item.now) (omega arith)) ∙ size in
+    ap length (take_all (length c.args.item.now - 4080) (drop 4080 c.args.item.now) (omega arith)) ∙ size in
     let places = length-drop 1 c.args.at.now in
     let at_is : take (length c.args.at.now - 1) (drop 1 c.args.at.now) ≡ drop 1 c.args.at.now = take_all (length c.args.at.now - 1) (drop 1 c.args.at.now) (omega arith) in
     let enough = c.requires.enough in
@@ -76,11 +76,11 @@ returns-clause-others g t c q x beside h =
     let parts = subst (IsBeside q (length c.args.item.now)) (more_extents (length c.args.item.now) c.args.at.now (omega arith) (let e = c.requires.enough in omega arith)) beside in
     let size = length-drop 4080 c.args.item.now in
     let item_is : length (take (length c.args.item.now - 4080) (drop 4080 c.args.item.now)) ≡ length c.args.item.now - 4080 =
-      ap length (take_all (length c.args.item.now - 4080) (drop 4080 c.args.item.now) (omega arith)) ∙ size in
+    ap length (take_all (length c.args.item.now - 4080) (drop 4080 c.args.item.now) (omega arith)) ∙ size in
     let places = length-drop 1 c.args.at.now in
     let at_is : take (length c.args.at.now - 1) (drop 1 c.args.at.now) ≡ drop 1 c.args.at.now = take_all (length c.args.at.now - 1) (drop 1 c.args.at.now) (omega arith) in
     let apart = subst (λ (n : ℕ). IsBeside q n (extents_at (links n) (take (length c.args.at.now - 1) (drop 1 c.args.at.now)))) (sym item_is)
-      (subst (λ (rs : List ℕ). IsBeside q (length c.args.item.now - 4080) (extents_at (links (length c.args.item.now - 4080)) rs)) (sym at_is) parts.1) in
+    (subst (λ (rs : List ℕ). IsBeside q (length c.args.item.now - 4080) (extents_at (links (length c.args.item.now - 4080)) rs)) (sym at_is) parts.1) in
     c.put.ensures.others q x (parts.0 255 (let e = linked_is in omega arith)) (c.write_cells-2.ensures.others q x (λ k l. parts.0 k (let e = linked_is in omega arith)) (c.write_extents.ensures.others q x apart h))
 
 pub returns-clause-lies : goal.returns-clause-lies

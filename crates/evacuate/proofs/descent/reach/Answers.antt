@@ -1,15 +1,12 @@
-use Rattle.std.proofs.Common.{◌/◌, arith, refl, sym, ◌∙◌, ap, subst}
-use Rattle.trie_model.specs.Memory.{node_of}
+use Rattle.std.proofs.Common.{arith, sym, ap, subst}
 use Rattle.chunk_usage.specs.Rooms.{reserve_account_of}
 use Rattle.trie_write.specs.Spaces.{Fenced, IsWritable}
 use Rattle.trie_write.specs.Ways.{plug}
 use Rattle.trie_write.proofs.SpaceLaws.{frame_refl, fenced_of, fenced_then, ready_put}
 use Rattle.evacuate.specs.Evacuations.{HasSparse}
-use Rattle.evacuate.specs.Fillings.{Moves, is_old}
-use Rattle.evacuate.specs.Places.{first_of, width_of}
+use Rattle.evacuate.specs.Fillings.{Moves}
 use Rattle.evacuate.specs.Trails.{Underway}
-use Rattle.evacuate.proofs.FillingLaws.{moves_none, moves_then, sparse_old}
-use Rattle.evacuate.proofs.TreeLaws.{hung_tree, row_of}
+use Rattle.evacuate.proofs.FillingLaws.{moves_none, moves_then}
 use Rattle.evacuate.proofs.DescentLaws.{begins, by_err, stood_same, hung_there, hung_says, hung_read, underway_first, underway_hung, branch_node_is, early, index_inside, further_there, further_says, underway_further, underway_left, fewer_places, reached_here}
 use Rattle.evacuate.proofs.descent.reach.Goals as goal
 

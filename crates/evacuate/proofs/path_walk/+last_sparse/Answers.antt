@@ -1,8 +1,8 @@
-use Rattle.std.proofs.Common.{◌≡◌, ℕ, ◌+◌, ◌-◌, ◌<◌, count_ones, arith, refl, sym, ◌∙◌, ap, subst, rules}
+use Rattle.std.proofs.Common.{◌+◌, ◌-◌, ◌<◌, count_ones, arith, refl, sym, ◌∙◌, ap, subst, rules}
 use Rattle.trie_model.specs.Memory.{top_cell}
-use Rattle.trie_model.proofs.NodeLaws.{branch_told}
+use Rattle.trie_model.proofs.NodeLaws.{branch_told, leaf_said}
 use Rattle.chunk_usage.specs.Counting.{is_sparse}
-use Rattle.evacuate.proofs.TrailLaws.{says, read_is, early, late, twig_here, twig_top, found_branch, found_below}
+use Rattle.evacuate.proofs.TrailLaws.{says, read_is, early, late, twig_here, twig_top, leaf_item, found_leaf, found_branch, found_below}
 use Rattle.evacuate.proofs.path_walk.+last_sparse.Goals as goal
 
 pub of-requires : goal.of-requires
@@ -54,4 +54,10 @@ loop-i-preserved g t c =
 pub returns-then-sparse-2-clause-found : goal.returns-then-sparse-2-clause-found
 returns-then-sparse-2-clause-found g t c e u top =
     let b = branch_told u (c.in-Branch.branch) (sym (read_is top c.of.ensures.back) ∙ c.in-Branch.is) in
-    found_branch u c.in-Branch.branch b refl (ap (is_sparse c.args.usage.now) (sym c.chunk_of-in-Branch.ensures) ∙ sym c.is_sparse-sparse-in-Branch.ensures ∙ c.if-sparse-2.true)
+    found_branch u c.in-Branch.branch b refl (ap (is_sparse c.args.usage.now) (sym c.chunk_of.ensures) ∙ sym c.is_sparse-sparse.ensures ∙ c.if-sparse-2.true)
+
+pub is_item_sparse-sparse-requires : goal.is_item_sparse-sparse-requires
+is_item_sparse-sparse-requires g t c = record { there = leaf_item c.requires.top.1 (leaf_said c.requires.top.0 c.in-Leaf.leaf (sym (read_is c.requires.top.1 c.of.ensures.back) ∙ c.in-Leaf.is)) }
+
+pub returns-then-sparse-clause-found : goal.returns-then-sparse-clause-found
+returns-then-sparse-clause-found g t c e u top = found_leaf u c.in-Leaf.leaf top (leaf_said u c.in-Leaf.leaf (sym (read_is top c.of.ensures.back) ∙ c.in-Leaf.is)) (c.is_item_sparse-sparse.ensures.some c.if-sparse.true)

@@ -1,7 +1,7 @@
-use Rattle.std.proofs.Common.{◌≡◌, ◌+◌, ◌-◌, ◌<◌, count_ones, arith, sym, ◌∙◌, subst, rules}
+use Rattle.std.proofs.Common.{◌+◌, ◌-◌, ◌<◌, count_ones, arith, sym, ◌∙◌, subst, rules}
 use Rattle.trie_model.specs.Memory.{top_cell}
-use Rattle.trie_model.proofs.NodeLaws.{branch_told}
-use Rattle.evacuate.proofs.TrailLaws.{says, read_is, early, late, twig_here, twig_top}
+use Rattle.trie_model.proofs.NodeLaws.{branch_told, leaf_said}
+use Rattle.evacuate.proofs.TrailLaws.{says, read_is, early, late, twig_here, twig_top, leaf_item}
 use Rattle.evacuate.proofs.survey.+survey_below.Goals as goal
 
 pub of-requires : goal.of-requires
@@ -24,3 +24,6 @@ survey_below-requires g t c κs within =
     let n = twig_top g.C.CellRead.has x c.loop-i.invariant.cells c.cell-twig.ensures.same c.cell-twig.ensures.value in
     let f : 504 - (c.in-Branch.branch.offset + 1) < 504 - c.args.low = let a = late top b in let d = early top b in omega arith in
     (search (rules, f), (within, ((x.t, n), (let d = early top b in omega arith))))
+
+pub pass_item-requires : goal.pass_item-requires
+pass_item-requires g t c = record { there = leaf_item c.requires.top.1 (leaf_said c.requires.top.0 c.in-Leaf.leaf (sym (read_is c.requires.top.1 c.of.ensures.back) ∙ c.in-Leaf.is)) }

@@ -5,7 +5,7 @@ use Rattle.trie_model.specs.Reach.{in_chunk}
 use Rattle.trie_model.proofs.CountLaws.{under}
 use Rattle.trie_model.proofs.NodeLaws.{branch_told, leaf_said}
 use Rattle.chunk_usage.specs.Counting.{is_sparse}
-use Rattle.evacuate.proofs.TrailLaws.{past, past_all, says, read_is, early, late, counted, twig_here, twig_top, clear_leaf, clear_branch, found_branch, found_below}
+use Rattle.evacuate.proofs.TrailLaws.{past, past_all, says, read_is, early, late, counted, twig_here, twig_top, leaf_item, clear_leaf, clear_branch, found_leaf, found_branch, found_below}
 use Rattle.evacuate.proofs.trail.+next_sparse.Goals as goal
 use Rattle.evacuate.proofs.trail.+next_sparse.Goals.{then-resumed, else-resumed}
 
@@ -69,9 +69,15 @@ loop-i-preserved g t c =
           let next = ap (λ (m : ℕ). under (in_chunk k) (past m b.below)) (let z : suc c.loop-i.i ≡ c.loop-i.i + 1 = omega arith in z) in omega arith;
     }
 
+pub is_item_sparse-sparse-requires : goal.is_item_sparse-sparse-requires
+is_item_sparse-sparse-requires g t c = record { there = leaf_item c.requires.top.1 (leaf_said c.requires.top.0 c.in-Leaf.leaf (sym (read_is c.requires.top.1 c.of.ensures.back) ∙ c.in-Leaf.is)) }
+
+pub returns-then-sparse-clause-found : goal.returns-then-sparse-clause-found
+returns-then-sparse-clause-found g t c e u top = found_leaf u c.in-Leaf.leaf top (leaf_said u c.in-Leaf.leaf (sym (read_is top c.of.ensures.back) ∙ c.in-Leaf.is)) (c.is_item_sparse-sparse.ensures.some c.if-sparse.true)
+
 pub returns-else-sparse-clause-none : goal.returns-else-sparse-clause-none
 returns-else-sparse-clause-none g t c e off all u top k sparse =
-    clear_leaf c.args.usage.now c.args.low u c.in-Leaf.leaf top.tree (leaf_said u c.in-Leaf.leaf (sym (read_is top c.of.ensures.back) ∙ c.in-Leaf.is)) (ap (is_sparse c.args.usage.now) (sym c.chunk_of.ensures) ∙ sym c.is_sparse-sparse.ensures ∙ c.if-sparse.false) k sparse
+    clear_leaf c.args.usage.now c.args.low c.args.node u c.in-Leaf.leaf top (leaf_said u c.in-Leaf.leaf (sym (read_is top c.of.ensures.back) ∙ c.in-Leaf.is)) (c.is_item_sparse-sparse.ensures.none c.if-sparse.false) k sparse
 
 pub returns-after-loop-i-clause-none : goal.returns-after-loop-i-clause-none
 returns-after-loop-i-clause-none g t c e off all u top k sparse =

@@ -41,13 +41,18 @@ release_extents-requires g t c κs within =
     let size = ap length at_is in
     let less : c.args.len - 4080 < c.args.len = omega arith in
     let counted : (k : ℕ) → weigh_extents (in_chunk k) (c.args.len - 4080) (extents_at (links (c.args.len - 4080)) (drop 1 c.args.at.now)) ≤ (g.U.Space.account c.release-2.new.self).live k =
-      λ k. let m = c.requires.counted k in let w = ap (weigh_extents (in_chunk k) c.args.len) more in let n = ap (row (in_chunk k) (slice_index c.args.at.now 0)) c.linked_extent.ensures in let r = c.release-2.ensures.counts k in omega arith in
-    (
+    λ k. let m = c.requires.counted k in let w = ap (weigh_extents (in_chunk k) c.args.len) more in let n = ap (row (in_chunk k) (slice_index c.args.at.now 0)) c.linked_extent.ensures in let r = c.release-2.ensures.counts k in omega arith in (
       search (rules, less),
-      (within, (omega arith, (
-        subst (λ (rs : List ℕ). (k : ℕ) → weigh_extents (in_chunk k) (c.args.len - 4080) (extents_at (links (c.args.len - 4080)) rs) ≤ (g.U.Space.account c.release-2.new.self).live k) (sym at_is) counted,
-        subst (λ (rs : List ℕ). AreExtents (c.args.len - 4080) (extents_at (links (c.args.len - 4080)) rs)) (sym at_is) are.2
-      ))),
+      (
+        within,
+        (
+          omega arith,
+          (
+            subst (λ (rs : List ℕ). (k : ℕ) → weigh_extents (in_chunk k) (c.args.len - 4080) (extents_at (links (c.args.len - 4080)) rs) ≤ (g.U.Space.account c.release-2.new.self).live k) (sym at_is) counted,
+            subst (λ (rs : List ℕ). AreExtents (c.args.len - 4080) (extents_at (links (c.args.len - 4080)) rs)) (sym at_is) are.2,
+          ),
+        ),
+      ),
     )
 
 pub returns-clause-counts : goal.returns-clause-counts

@@ -1,0 +1,154 @@
+//! Moving an item, extent by extent. The link cell of an extent says where the next one is, so an extent before one that is moved is moved
+//! too, unless that cell may be written.
+
+ghost use Rattle.std.specs.Prelude.{◌≡◌, ◌⊎◌, ◌+◌, ◌-◌, ◌/◌, ◌^◌, ◌<◌, ◌≤◌, ℕ, List, Bool, true, false, IfOk, IfErr};
+ghost use Rattle.packed_node.specs.declared.Node.TheVariants.{Leaf as leaf_node};
+ghost use Rattle.trie_model.specs.Extents.{Extents, first_of as first_of_extents};
+ghost use Rattle.trie_model.specs.Keys.{Entry};
+ghost use Rattle.trie_model.specs.Memory.{node_of};
+ghost use Rattle.trie_model.specs.Trees.{Tree};
+ghost use Rattle.chunk_usage.specs.Counting.{is_sparse};
+ghost use Rattle.chunk_usage.specs.Ledger.{is_mutable};
+ghost use Rattle.chunk_usage.specs.Rooms.{reserve_account_of};
+ghost use Rattle.trie_write.specs.Spaces.{Ready, Fenced, IsWritable};
+ghost use Rattle.trie_write.specs.Ways.{Fork};
+ghost use Rattle.evacuate.specs.Chains.{Goes, GoesOn, GoesSparse};
+ghost use Rattle.evacuate.specs.Evacuations.{HasSparse};
+ghost use Rattle.evacuate.specs.Fillings.{Fills, Moves, Fewer, Opened, IsFull};
+ghost use Rattle.evacuate.specs.Places.{moved, put_first, Stood, Hung, IsHung};
+ghost use Rattle.evacuate.specs.Trails.{IsDue};
+
+use super::moves::{move_linked, move_node};
+use super::sparse::is_item_sparse;
+use chunk_cells::CellWrite;
+use chunk_cells::extents::{LAST_OCTETS, LINKED_OCTETS, link_of, next_extent};
+use chunk_usage::{Full, Usage};
+use packed_node::{Leaf, Node, Ref, chunk_of};
+
+/// Whether an extent is to be moved that begins here, where its item has so many octets from there on: it lies in a sparse chunk, or it
+/// has a link cell that may not be written.
+fn is_due(usage: &Usage, at: Ref, len: u16) -> bool
+    requires { 4096 < len → at + 256 ≤ 2 ^ 22 }
+    ensures sparse { result ≡ false → is_sparse usage.now (at / 1024) ≡ false }
+    ensures mutable { result ≡ false → 4096 < len → is_mutable usage.now (at + 255) ≡ true }
+    ensures due { result ≡ true → (is_sparse usage.now (at / 1024) ≡ true) ⊎ ((4096 < len) × (is_mutable usage.now (at + 255) ≡ false)) }
+{
+    if usage.is_sparse(chunk_of(at)) {
+        return true;
+    }
+    if len as usize > LAST_OCTETS {
+        return !usage.is_mutable(link_of(at));
+    }
+    false
+}
+
+/// Moves the first extent of a leaf's item, which the cell at a place says, if that is due, and tells where it is.
+fn open_first<C: CellWrite>(
+    cells: &mut C,
+    usage: &mut Usage,
+    at: Ref,
+    leaf: Leaf,
+) -> Result<Ref, Full>
+    requires hung { IsHung C.has cells.old usage.old at (leaf_node leaf) }
+    requires writable { IsWritable C.given reserve_account_of cells.old usage.old at }
+    requires ready { Ready C.kept C.given reserve_account_of cells.old usage.old }
+    ensures hung { IfOk result (λ to. (r : ℕ) (es : List Entry) (way : List Fork) (t : Tree) → Hung C.has cells.old usage.old r at es way t → leaf_node leaf ≡ node_of t
+        → Hung C.has cells.new usage.new r at es way (moved t to)) }
+    ensures writable { IfOk result (λ to. 4096 < leaf.len → IsWritable C.given reserve_account_of cells.new usage.new (to + 255)) }
+    ensures moves { (given : List Bool) → Fills given usage.old → Moves given 0 usage.old usage.new }
+    ensures opened { IfOk result (λ _. Opened usage.old usage.new leaf.at) }
+    ensures full { IfErr result (λ _. IsFull usage.new) }
+    ensures same { IfErr result (λ _. cells.new ≡ cells.old) }
+    ensures unchanged { IfErr result (λ _. usage.new ≡ usage.old) }
+    ensures frame { Fenced C.has C.kept C.given reserve_account_of cells.old usage.old cells.new usage.new }
+    ensures ready { Ready C.kept C.given reserve_account_of cells.new usage.new }
+{
+    usage.known(); // for the proof
+    if is_due(usage, leaf.at, leaf.len) {
+        return move_node(cells, usage, at, Node::Leaf(leaf));
+    }
+    Ok(leaf.at)
+}
+
+/// The same of the extent behind one that begins here, whose item has so many octets from there on.
+fn open_next<C: CellWrite>(cells: &mut C, usage: &mut Usage, at: Ref, len: u16) -> Result<Ref, Full>
+    requires goes { GoesOn C.has cells.old usage.old at len }
+    requires writable { IsWritable C.given reserve_account_of cells.old usage.old (at + 255) }
+    requires ready { Ready C.kept C.given reserve_account_of cells.old usage.old }
+    ensures goes { IfOk result (λ to. (r : ℕ) (es : List Entry) (way : List Fork) (e : Entry) (front : List ℕ) (rest : Extents) → Goes C.has cells.old usage.old r at len es way e front rest
+        → Goes C.has cells.new usage.new r at len es way e front (put_first rest to)) }
+    ensures writable { IfOk result (λ to. 4096 < len - 4080 → IsWritable C.given reserve_account_of cells.new usage.new (to + 255)) }
+    ensures moves { (given : List Bool) → Fills given usage.old → Moves given 0 usage.old usage.new }
+    ensures opened { IfOk result (λ _. (r : ℕ) (es : List Entry) (way : List Fork) (e : Entry) (front : List ℕ) (rest : Extents) → Goes C.has cells.old usage.old r at len es way e front rest
+        → Opened usage.old usage.new (first_of_extents rest)) }
+    ensures full { IfErr result (λ _. IsFull usage.new) }
+    ensures same { IfErr result (λ _. cells.new ≡ cells.old) }
+    ensures unchanged { IfErr result (λ _. usage.new ≡ usage.old) }
+    ensures frame { Fenced C.has C.kept C.given reserve_account_of cells.old usage.old cells.new usage.new }
+    ensures ready { Ready C.kept C.given reserve_account_of cells.new usage.new }
+{
+    usage.known(); // for the proof
+    let next = next_extent(cells, at);
+    if is_due(usage, next, len - LINKED_OCTETS as u16) {
+        return move_linked(cells, usage, at, len);
+    }
+    Ok(next)
+}
+
+/// Moves what is due behind an extent that begins here, as far as something there lies in a sparse chunk. Where there is no room for
+/// that, what was moved before stays so.
+fn move_behind<C: CellWrite>(
+    cells: &mut C,
+    usage: &mut Usage,
+    at: Ref,
+    len: u16,
+) -> Result<(), Full>
+    requires goes { GoesOn C.has cells.old usage.old at len }
+    requires writable { IsWritable C.given reserve_account_of cells.old usage.old (at + 255) }
+    requires ready { Ready C.kept C.given reserve_account_of cells.old usage.old }
+    ensures stood { (r : ℕ) (es : List Entry) (way : List Fork) (e : Entry) (front : List ℕ) (rest : Extents) → Goes C.has cells.old usage.old r at len es way e front rest
+        → (u : Tree) × Stood C.has cells.new usage.new r es u }
+    ensures moves { (given : List Bool) → Fills given usage.old → Moves given 0 usage.old usage.new }
+    ensures less { IfOk result (λ _. GoesSparse C.has cells.old usage.old at len → Fewer usage.old usage.new) }
+    ensures full { IfErr result (λ _. IsFull usage.new) }
+    ensures left { IfErr result (λ _. HasSparse usage.new) }
+    ensures frame { Fenced C.has C.kept C.given reserve_account_of cells.old usage.old cells.new usage.new }
+    ensures ready { Ready C.kept C.given reserve_account_of cells.new usage.new }
+{
+    let next = next_extent(cells, at);
+    let behind = len - LINKED_OCTETS as u16;
+    if !is_item_sparse(cells, usage, next, behind) {
+        return Ok(());
+    }
+    let to = open_next(cells, usage, at, len)?;
+    if behind as usize > LAST_OCTETS {
+        return move_behind(cells, usage, to, behind);
+    }
+    Ok(())
+}
+
+/// Moves the extents of a leaf's item, which the cell at a place says, as far as some of them lie in sparse chunks. Where there is no room
+/// for one, what was moved before stays so.
+pub fn move_item<C: CellWrite>(
+    cells: &mut C,
+    usage: &mut Usage,
+    at: Ref,
+    leaf: Leaf,
+) -> Result<(), Full>
+    requires hung { IsHung C.has cells.old usage.old at (leaf_node leaf) }
+    requires writable { IsWritable C.given reserve_account_of cells.old usage.old at }
+    requires ready { Ready C.kept C.given reserve_account_of cells.old usage.old }
+    ensures stood { (r : ℕ) (es : List Entry) (way : List Fork) (t : Tree) → Hung C.has cells.old usage.old r at es way t → leaf_node leaf ≡ node_of t → (u : Tree) × Stood C.has cells.new usage.new r es u }
+    ensures moves { (given : List Bool) → Fills given usage.old → Moves given 0 usage.old usage.new }
+    ensures less { IfOk result (λ _. IsDue C.has cells.old usage.old at (leaf_node leaf) → Fewer usage.old usage.new) }
+    ensures full { IfErr result (λ _. IsFull usage.new) }
+    ensures left { IfErr result (λ _. IsDue C.has cells.old usage.old at (leaf_node leaf) → HasSparse usage.new) }
+    ensures frame { Fenced C.has C.kept C.given reserve_account_of cells.old usage.old cells.new usage.new }
+    ensures ready { Ready C.kept C.given reserve_account_of cells.new usage.new }
+{
+    let to = open_first(cells, usage, at, leaf)?;
+    if leaf.len as usize > LAST_OCTETS {
+        return move_behind(cells, usage, to, leaf.len);
+    }
+    Ok(())
+}
