@@ -1,11 +1,13 @@
 -- The cells of an item of one extent, in a memory of which no version is kept.
-use Rattle.std.proofs.Common.{◌≡◌, ◌≢◌, ℕ, ◌+◌, ◌%◌, ◌/◌, ◌<◌, ◌≤◌, Bool, true, nat_lt, List, [], ◌∷◌, Contains, length, slice_index, refl, sym, ap, subst, arith}
+use Rattle.std.proofs.Common.{◌≡◌, ◌≢◌, ℕ, zero, suc, ◌+◌, ◌%◌, ◌/◌, ◌<◌, ◌≤◌, Bool, true, nat_lt, List, [], ◌∷◌, Contains, length, slice_index, refl, sym, ap, subst, arith}
+use Rattle.std.specs.List.{list_all}
 use Rattle.std.proofs.lemmas.Bool.Decides.{nat_tests}
 use Rattle.packed_node.specs.declared.Cell.{Cell}
 use Rattle.chunk_cells.specs.Chunks.{IsGiven}
 use Rattle.chunk_cells.specs.Laying.{AreBlank}
 use Rattle.trie_model.specs.Extents.{Extents, AreExtents, IsBeside, IsRow, ItemLies, HasItem, content_cells, item_cell}
-use Rattle.trie_model.specs.Extents.Extents.{last}
+use Rattle.trie_model.specs.Extents.Extents.{last, linked}
+use Rattle.trie_model.proofs.ExtentLaws.{linked_is, first_true, second_true}
 
 none_kept : (q : ℕ) → Contains [] q → ⊥
 none_kept q c = let l = c.1 in omega arith
@@ -32,8 +34,25 @@ lone_item has n r x item is short row size lies = record {
 pub lone_beside : (q n r : ℕ) (x : Extents) → x ≡ last r → ((k : ℕ) → k < content_cells n → q ≢ r + k) → IsBeside q n x
 lone_beside q n r x is apart = subst (IsBeside q n) (sym is) apart
 
--- each of a list of numbers is an octet
-pub are_octets : (xs : List ℕ) → ((i : ℕ) → i < length xs → slice_index xs i < 256) → (i : ℕ) → slice_index xs i < 256
-are_octets [] each i = omega arith
-are_octets (x ∷ xs) each zero = each 0 (omega arith)
-are_octets (x ∷ xs) each (suc i) = are_octets xs (λ k l. each (suc k) (omega arith)) i
+-- an item of 4,097 octets in two extents
+pub two_extents : AreExtents 4097 (linked 1030 (last 2048))
+two_extents =
+    let s = linked_is in
+    (omega arith, record { inside = omega arith; together = omega arith }, (omega arith, record { inside = omega arith; together = omega arith }))
+
+pub two_blank : (given : List Bool) → IsGiven given 1 → IsGiven given 2 → AreBlank [] given 4097 (linked 1030 (last 2048))
+two_blank given first second = record {
+  are = two_extents;
+  apart = (λ k l j m e. let s = linked_is in omega arith, tt);
+  in_given = (
+    λ k l. let s = linked_is in let e : 1 ≡ (1030 + k) / 1024 = omega arith in subst (IsGiven given) e first,
+    λ k l. let e : 2 ≡ (2048 + k) / 1024 = omega arith in subst (IsGiven given) e second,
+  );
+  unkept = (λ k l. none_kept (1030 + k), λ k l. none_kept (2048 + k));
+}
+
+-- numbers that pass the test are octets
+pub small : (xs : List ℕ) → list_all (λ x. nat_lt x 256) xs ≡ true → (i : ℕ) → slice_index xs i < 256
+small [] h i = omega arith
+small (x ∷ xs) h zero = let t = first_true (nat_lt x 256) (list_all (λ x. nat_lt x 256) xs) h in grind (arith, nat_tests)
+small (x ∷ xs) h (suc i) = small xs (second_true (nat_lt x 256) (list_all (λ x. nat_lt x 256) xs) h) i

@@ -74,9 +74,7 @@ fn is_linked(cells: &mut PlainCells, item: &[u8], out: &mut [u8]) -> bool
 {
     cells.give(1);
     cells.give(2);
-    let mut at = [0; 17];
-    at[0] = 1030;
-    at[1] = 2048;
+    let at = [1030, 2048, 0, 0, 0, 0, 0, 0, 0, 0, 0, 0, 0, 0, 0, 0, 0];
     write_item(cells, &Extents { len: 4097, at }, item);
     let len = read_item(
         cells,

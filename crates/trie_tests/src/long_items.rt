@@ -85,11 +85,15 @@ fn put<C: CellWrite, U: Space>(
     ensures ready { Ready C.kept C.given U.account cells.new usage.new }
     ensures room { length out.new ≡ length out.old }
 {
-    let new = changed(cells, usage, root, change, item)?;
-    if holds(cells, new, item, out) {
-        return Some(new);
+    match changed(cells, usage, root, change, item) {
+        None => None,
+        Some(new) => {
+            if holds(cells, new, item, out) {
+                return Some(new);
+            }
+            None
+        }
     }
-    None
 }
 
 /// How many cells count, of 16 chunks.

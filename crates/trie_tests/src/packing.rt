@@ -62,7 +62,7 @@ fn are_no_nodes(cells: &[(u64, u64)]) -> bool {
 // No length, one too long, two tags that mean nothing, one twig, an offset too large, a place past the last.
 const NO_NODES: &[(u64, u64)] = &[
     (0, 0),
-    (4 * 4097, 0),
+    (4 * 65_536, 0),
     (2, 0),
     (3, 0),
     (5, 0),

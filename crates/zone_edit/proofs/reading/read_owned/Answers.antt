@@ -5,8 +5,8 @@ use Rattle.zone_edit.specs.Stores.{WorksOnSome}
 use Rattle.zone_edit.proofs.EditLaws.{some_weaker, read_as, read_within}
 use Rattle.zone_edit.proofs.reading.read_owned.Goals as goal
 
-pub fetch-requires : goal.fetch-requires
-fetch-requires g c = some_weaker WorksOnSome Works c.args.transaction.now.locked.now.draft (λ d w. w.on.works) c.requires.works
+pub fetch-requires-clause-works : goal.fetch-requires-clause-works
+fetch-requires-clause-works g c = some_weaker WorksOnSome Works c.args.transaction.now.locked.now.draft (λ d w. w.on.works) c.requires.works
 
 pub returns-in-Some-clause-within : goal.returns-in-Some-clause-within
 returns-in-Some-clause-within g c =
