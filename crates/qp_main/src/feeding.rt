@@ -5,16 +5,17 @@ ghost use Rattle.job_model.specs.Commands.{NeedsNoSnapshot};
 ghost use Rattle.job_model.specs.Jobs.{fed_job_of, list_of, script_lines, script_start};
 ghost use Rattle.job_script.specs.Parts.{IsCutAt};
 ghost use Rattle.job_script.specs.Views.{list_view};
+ghost use Rattle.report_laws.specs.Changes.{AllAsked};
 ghost use Rattle.qp_main.specs.Due.{FedAnswers};
 
 use crate::items::zone_items;
+use crate::reading::{list_in, zone_in};
 use crate::refusing::{refuse_script, zone_line};
 use crate::reporting::report_list;
 use crate::status::Status;
 use command_line::Invocation;
-use job_script::{Command, JobRefusal, Parts, read_list};
+use job_script::{Command, JobRefusal, Parts};
 use job_threads::{Gate, table_for_list};
-use master_file::read_zone;
 use std::alloc::{AllocError, Global};
 use std::sync::Wait;
 use std::thread::Threads;
@@ -35,6 +36,7 @@ fn run_commands<R: Threads + Wait + Sync, G: Gate>(
     requires read { list_of invocation.now.origin (script_start bytes.items) (script_lines bytes.items) ≡ Ok (list_view commands.now) }
     requires few { vec_len commands.now ≤ 10000 }
     requires no_snapshots { AllByRecursion NeedsNoSnapshot (list_view commands.now) }
+    requires said { AllByRecursion (AllAsked invocation.now.origin) (list_view commands.now) }
     requires workers { (1 ≤ workers) × (workers ≤ 16) }
     ensures { IfOk result (λ x. FedAnswers workers invocation.now.chunks (fed_job_of invocation.now.origin bytes.items) x.0 x.1.items) }
 {
@@ -42,7 +44,7 @@ fn run_commands<R: Threads + Wait + Sync, G: Gate>(
     let crew = if commands.is_empty() { 0 } else { workers };
     let blank = table_for_list(alloc, invocation.chunks, crew)?;
     let zone_bytes = &bytes.as_slice()[..parts.zone_end as usize];
-    let zone = match read_zone(alloc, zone_bytes, &invocation.origin) {
+    let zone = match zone_in(alloc, zone_bytes, &invocation.origin) {
         Ok(zone) => zone,
         Err(refusal) => return zone_line(alloc, refusal),
     };
@@ -67,7 +69,7 @@ pub fn answer_list<R: Threads + Wait + Sync, G: Gate>(
     ensures { IfOk result (λ x. FedAnswers workers invocation.now.chunks (fed_job_of invocation.now.origin bytes.items) x.0 x.1.items) }
 {
     let script = &bytes.as_slice()[parts.script_from as usize..];
-    match read_list(alloc, script, parts.first_line, &invocation.origin) {
+    match list_in(alloc, script, parts.first_line, &invocation.origin) {
         Ok(commands) => run_commands(
             rt, alloc, invocation, bytes, parts, &commands, workers, gate,
         ),

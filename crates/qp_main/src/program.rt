@@ -8,6 +8,7 @@ ghost use Rattle.job_model.specs.Commands.{InTurn};
 ghost use Rattle.job_model.specs.Jobs.{zone_lines, script_lines, script_start, script_of, job_of};
 ghost use Rattle.job_script.specs.Views.{job_view};
 ghost use Rattle.job_model.specs.Loads.{made_origin};
+ghost use Rattle.report_laws.specs.Changes.{AllAsked};
 ghost use Rattle.job_script.specs.Parts.{IsCutAt};
 ghost use Rattle.outer_io.specs.Faults.{Rose};
 ghost use Rattle.outer_io.specs.Bytes.{Grows, GrowsByFront};
@@ -20,6 +21,7 @@ ghost use Rattle.qp_main.specs.Due.{Answers, Checks, CutShort, Due, DueInput, En
 use crate::dumping::dump_input;
 use crate::feeding::answer_list;
 use crate::items::zone_items;
+use crate::reading::{job_in, zone_in};
 use crate::refusing::{refuse_script, zone_line};
 use crate::reporting::{report_job, report_size};
 use crate::status::Status;
@@ -27,9 +29,8 @@ use crate::telling::Telling;
 use crate::writing::write_due;
 use command_line::{Invocation, Verb, invocation_of};
 use job_make::{Load, make_text};
-use job_script::{Job, JobRefusal, Parts, read_job, split};
+use job_script::{Job, JobRefusal, Parts, split};
 use job_threads::{Gate, table_for};
-use master_file::read_zone;
 use outer_io::{ReadRefusal, Sink, Source, read_all};
 use std::alloc::{AllocError, Global};
 use std::sync::Wait;
@@ -55,11 +56,12 @@ fn run_script<R: Threads + Wait + Sync, G: Gate>(
     requires read { script_of invocation.now.origin (script_start bytes.items) (script_lines bytes.items) ≡ Ok (job_view job.now) }
     requires few_workers { length job.now.workers.items ≤ 16 }
     requires in_turn { AllByRecursion (InTurn false) (job_view job.now) }
+    requires said { AllByRecursion (AllByRecursion (AllAsked invocation.now.origin)) (job_view job.now) }
     ensures { IfOk result (λ x. Answers telling invocation.now.chunks (job_of invocation.now.origin bytes.items) x.0 x.1.items) }
 {
     let blank = table_for(alloc, invocation.chunks, job.workers.len())?;
     let zone_bytes = &bytes.as_slice()[..parts.zone_end as usize];
-    let zone = match read_zone(alloc, zone_bytes, &invocation.origin) {
+    let zone = match zone_in(alloc, zone_bytes, &invocation.origin) {
         Ok(zone) => zone,
         Err(refusal) => return zone_line(alloc, refusal),
     };
@@ -83,7 +85,7 @@ fn answer_job<R: Threads + Wait + Sync, G: Gate>(
     ensures { IfOk result (λ x. Answers telling invocation.now.chunks (job_of invocation.now.origin bytes.items) x.0 x.1.items) }
 {
     let script = &bytes.as_slice()[parts.script_from as usize..];
-    match read_job(alloc, script, parts.first_line, &invocation.origin) {
+    match job_in(alloc, script, parts.first_line, &invocation.origin) {
         Ok(job) => run_script(rt, alloc, invocation, bytes, parts, &job, telling, gate),
         Err(JobRefusal::Refused { line, kind }) => {
             refuse_script(alloc, invocation, &bytes, parts, line, kind)
@@ -107,7 +109,7 @@ fn check_zone<R: Threads + Wait + Sync, G: Gate>(
 {
     let blank = table_for(alloc, invocation.chunks, 0)?;
     let zone_bytes = &bytes.as_slice()[..parts.zone_end as usize];
-    let zone = match read_zone(alloc, zone_bytes, &invocation.origin) {
+    let zone = match zone_in(alloc, zone_bytes, &invocation.origin) {
         Ok(zone) => zone,
         Err(refusal) => return zone_line(alloc, refusal),
     };

@@ -18,3 +18,5 @@ pub mod RunLemmas
 pub mod ShortLemmas
 pub mod LawfulLemmas
 pub mod ReportLemmas
+pub mod OwnedLemmas
+pub mod ApartLemmas
