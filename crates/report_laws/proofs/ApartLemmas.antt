@@ -69,24 +69,24 @@ record GoesOn (s : Setting) (sight : Sight) (command : Command) (v : ℕ) (ended
   as_asked : is_refused ended ≡ false → is_committed ended ≡ makes command
 
 question_goes : (s : Setting) (sight : Sight) (command : Command) (v : ℕ) (May : Type 0) (ended : Ended) → makes command ≡ false → (May → sight.seen ≤ (sight_after sight command v).seen) → Shows May ended → GoesOn s sight command v ended
-question_goes s sight command v May Shown no le h = record { later = le h; above = λ c. absurd cc; there = λ c. absurd cc; accepted = λ c. absurd cc; as_asked = λ r. sym no }
-question_goes s sight command v May Committed no le h = absurd h
-question_goes s sight command v May RolledBack no le h = absurd h
-question_goes s sight command v May (Refused cause) no le h = absurd h
+question_goes s sight command v May Shown quiet le h = record { later = le h; above = λ c. absurd cc; there = λ c. absurd cc; accepted = λ c. absurd cc; as_asked = λ r. sym quiet }
+question_goes s sight command v May Committed quiet le h = absurd h
+question_goes s sight command v May RolledBack quiet le h = absurd h
+question_goes s sight command v May (Refused cause) quiet le h = absurd h
 
 block_goes : (s : Setting) (sight : Sight) (command : Command) (asked : Transaction) (ending : Ending) (v : ℕ) (ended : Ended) → asked_by command ≡ asked → makes command ≡ is_commit ending → (sight_after sight command v).seen ≡ v → BlockEnds s sight.seen asked ending v ended
     → GoesOn s sight command v ended
 block_goes s sight command asked ending v Shown is how there h = absurd h
 block_goes s sight command asked ending v Committed is how there h =
     record {
-      later = (let l = h.1.0 in omega (arith, l, there));
-      above = λ c. h.1.0;
+      later = (let l = h.1 in omega (arith, l, there));
+      above = λ c. h.1;
       there = λ c. omega (arith, there);
-      accepted = λ c. subst (λ (t : Transaction). IsOk (whole s.origin t (s.set (v - 1)))) (sym is) h.1.1;
+      accepted = λ c. subst (λ (t : Transaction). IsOk (whole s.origin t (s.set (v - 1)))) (sym is) h.2;
       as_asked = λ r. sym (how ∙ ap is_commit h.0);
     }
 block_goes s sight command asked ending v RolledBack is how there h =
-    record { later = (let l = h.1.0 in omega (arith, l, there)); above = λ c. absurd cc; there = λ c. absurd cc; accepted = λ c. absurd cc; as_asked = λ r. sym (how ∙ ap is_commit h.0) }
+    record { later = (let l = h.1 in omega (arith, l, there)); above = λ c. absurd cc; there = λ c. absurd cc; accepted = λ c. absurd cc; as_asked = λ r. sym (how ∙ ap is_commit h.0) }
 block_goes s sight command asked ending v (Refused cause) is how there h =
     record { later = (let l = h.0 in omega (arith, l, there)); above = λ c. absurd cc; there = λ c. absurd cc; accepted = λ c. absurd cc; as_asked = λ r. absurd cc }
 
@@ -142,11 +142,11 @@ along_rises name s sight low (pair ∷ rest) le a =
 
 quiet_rises : (name : Name) (low : ℕ) (pairs : List Pair) → Quiet name pairs → Rises name low pairs
 quiet_rises name low [] q = tt
-quiet_rises name low (pair ∷ rest) q = by_test (changing name pair) (quiet_pair name pair q.0)
+quiet_rises name low (pair ∷ rest) q = by_test (quiet_rises name low rest q.1) (changing name pair) (quiet_pair name pair q.0)
   where
-    by_test : (b : Bool) → b ≡ false → (b ≡ true → low < pair.1.version) × Rises name (cond b pair.1.version low) rest
-    by_test true e = absurd cc
-    by_test false e = (λ t. absurd cc, quiet_rises name low rest q.1)
+    by_test : Rises name low rest → (b : Bool) → b ≡ false → (b ≡ true → low < pair.1.version) × Rises name (cond b pair.1.version low) rest
+    by_test more true e = absurd cc
+    by_test more false e = (λ t. absurd cc, more)
 
 rises_front : (name : Name) (low : ℕ) (pairs rest : List Pair) → Rises name low pairs → Quiet name rest → Rises name low (pairs ++ rest)
 rises_front name low [] rest r q = quiet_rises name low rest q
@@ -154,11 +154,11 @@ rises_front name low (pair ∷ pairs) rest r q = (r.0, rises_front name (cond (c
 
 rises_back : (name : Name) (low : ℕ) (pairs rest : List Pair) → Quiet name pairs → Rises name low rest → Rises name low (pairs ++ rest)
 rises_back name low [] rest q r = r
-rises_back name low (pair ∷ pairs) rest q r = by_test (changing name pair) (quiet_pair name pair q.0)
+rises_back name low (pair ∷ pairs) rest q r = by_test (rises_back name low pairs rest q.1 r) (changing name pair) (quiet_pair name pair q.0)
   where
-    by_test : (b : Bool) → b ≡ false → (b ≡ true → low < pair.1.version) × Rises name (cond b pair.1.version low) (pairs ++ rest)
-    by_test true e = absurd cc
-    by_test false e = (λ t. absurd cc, rises_back name low pairs rest q.1 r)
+    by_test : Rises name low (pairs ++ rest) → (b : Bool) → b ≡ false → (b ≡ true → low < pair.1.version) × Rises name (cond b pair.1.version low) (pairs ++ rest)
+    by_test more true e = absurd cc
+    by_test more false e = (λ t. absurd cc, more)
 
 others_quiet : (name : Name) (commands : List Command) (ws : List (List Pair)) → changed_by name commands ≡ true → AllByRecursion (λ other. (n : Name) → changed_by n commands ≡ true → changed_by n other ≡ false) (map (map command_in) ws) → Quiet name (all_pairs ws)
 others_quiet name commands [] h apart = tt
@@ -166,11 +166,11 @@ others_quiet name commands (w ∷ ws) h apart = all_append (λ (pair : Pair). ch
 
 all_rise : (name : Name) (s : Setting) (ws : List (List Pair)) → AllAlong s ws → AreApart (map (map command_in) ws) → Rises name 0 (all_pairs ws)
 all_rise name s [] a apart = tt
-all_rise name s (w ∷ ws) a apart = by_test (changed_by name (map command_in w)) refl
+all_rise name s (w ∷ ws) a apart = by_test (all_rise name s ws a.1 apart.1) (changed_by name (map command_in w)) refl
   where
-    by_test : (b : Bool) → changed_by name (map command_in w) ≡ b → Rises name 0 (w ++ all_pairs ws)
-    by_test true e = rises_front name 0 w (all_pairs ws) (along_rises name s at_first 0 w (omega arith) a.0) (others_quiet name (map command_in w) ws e apart.0)
-    by_test false e = rises_back name 0 w (all_pairs ws) (quiet_from name w e) (all_rise name s ws a.1 apart.1)
+    by_test : Rises name 0 (all_pairs ws) → (b : Bool) → changed_by name (map command_in w) ≡ b → Rises name 0 (w ++ all_pairs ws)
+    by_test more true e = rises_front name 0 w (all_pairs ws) (along_rises name s at_first 0 w (omega arith) a.0) (others_quiet name (map command_in w) ws e apart.0)
+    by_test more false e = rises_back name 0 w (all_pairs ws) (quiet_from name w e) more
 
 -- ---- what a name owns, version by version
 
@@ -274,12 +274,12 @@ module _ (origin name : Name) where
   by_commands (command ∷ rest) entry = by_commands rest (cond (makes command) (entry_behind origin name (asked_by command).operations entry) entry)
 
   up_to_all : (last : ℕ) (pairs : List Pair) (entry : Entry) → AllByRecursion (λ (pair : Pair). pair.1.version ≤ last) pairs → AllByRecursion (λ (pair : Pair). is_committed pair.1.ended ≡ makes pair.0) pairs → up_to last pairs entry ≡ by_commands (map command_in pairs) entry
-  up_to_all last [] entry low as = refl
-  up_to_all last (pair ∷ rest) entry low as =
+  up_to_all last [] entry low kinds = refl
+  up_to_all last (pair ∷ rest) entry low kinds =
       let l = low.0 in
       let within : leb pair.1.version last ≡ true = grind (arith, nat_tests) in
-      let same : (is_committed pair.1.ended && leb pair.1.version last) ≡ makes pair.0 = ap (λ (b : Bool). is_committed pair.1.ended && b) within ∙ and-true (is_committed pair.1.ended) ∙ as.0 in
-      ap (λ (b : Bool). up_to last rest (by_pair b pair entry)) same ∙ up_to_all last rest (by_pair (makes pair.0) pair entry) low.1 as.1
+      let same : (is_committed pair.1.ended && leb pair.1.version last) ≡ makes pair.0 = ap (λ (b : Bool). is_committed pair.1.ended && b) within ∙ and-true (is_committed pair.1.ended) ∙ kinds.0 in
+      ap (λ (b : Bool). up_to last rest (by_pair b pair entry)) same ∙ up_to_all last rest (by_pair (makes pair.0) pair entry) low.1 kinds.1
     where
       and-true : (a : Bool) → (a && true) ≡ a
       and-true true = refl
@@ -289,15 +289,15 @@ module _ (origin name : Name) where
 
 asked_ok : (s : Setting) (j : ℕ) (pairs : List Pair) → AllByRecursion (IsMade s) pairs → IsOk (whole s.origin (asked_at (suc j) pairs) (s.set j))
 asked_ok s j [] h = refl
-asked_ok s j (pair ∷ rest) h = by_made (made (suc j) pair) refl
+asked_ok s j (pair ∷ rest) h = by_made (asked_ok s j rest h.1) (made (suc j) pair) refl
   where
-    by_made : (b : Bool) → made (suc j) pair ≡ b → IsOk (whole s.origin (cond b (asked_by pair.0) (asked_at (suc j) rest)) (s.set j))
-    by_made true e =
+    by_made : IsOk (whole s.origin (asked_at (suc j) rest) (s.set j)) → (b : Bool) → made (suc j) pair ≡ b → IsOk (whole s.origin (cond b (asked_by pair.0) (asked_at (suc j) rest)) (s.set j))
+    by_made more true e =
         let both = both_true (is_committed pair.1.ended) (eqb pair.1.version (suc j)) e in
         let at : pair.1.version ≡ suc j = eqb-true pair.1.version (suc j) both.1 in
         let base : pair.1.version - 1 ≡ j = omega (arith, at) in
         subst (λ (k : ℕ). IsOk (whole s.origin (asked_by pair.0) (s.set k))) base (h.0.accepted both.0)
-    by_made false e = asked_ok s j rest h.1
+    by_made more false e = more
 
 record IsUpTo (origin name : Name) (zone : Version) (pairs : List Pair) (j : ℕ) : Type 0 where
   owns : owned name (version_at origin zone pairs j) ≡ up_to origin name j pairs (owned name zone)
@@ -332,6 +332,15 @@ module _ (chunks passes : ℕ) (origin : Name) (zone : Version) (ws : List (List
 
 -- ---- how many versions there are
 
+-- a command that made no version
+never_once : (n : ℕ) (pair : Pair) → is_committed pair.1.ended ≡ false → once_to n pair ≡ 0
+unfolding once_to
+never_once zero pair is = refl
+never_once (suc n) pair is =
+    let none = never_once n pair is in
+    let sum : 0 + once_to n pair ≡ 0 = omega (arith, none) in
+    ap (λ (c : Bool). cond (c && eqb pair.1.version (suc n)) 1 0 + once_to n pair) is ∙ sum
+
 once_full : (last : ℕ) (pair : Pair) → pair.1.version ≤ last → (is_committed pair.1.ended ≡ true → 0 < pair.1.version) → once_to last pair ≡ cond (is_committed pair.1.ended) 1 0
 unfolding once_to
 once_full zero pair le above = by_test (is_committed pair.1.ended) above
@@ -354,12 +363,9 @@ once_full (suc n) pair le above = by_made (once_full n pair) (made (suc n) pair)
         by_committed true is n_made =
             let f : eqb pair.1.version (suc n) ≡ false = n_made in
             let lt : pair.1.version ≤ n = grind (arith, nat_tests) in
-            more lt above
-        by_committed false is n_made = never n is ∙ sym (ap (λ (c : Bool). cond c 1 0) is)
-
-        never : (k : ℕ) → is_committed pair.1.ended ≡ false → once_to k pair ≡ 0
-        never zero is = refl
-        never (suc k) is = ap (λ (c : Bool). cond (c && eqb pair.1.version (suc k)) 1 0 + once_to k pair) is ∙ never k is
+            let is_one = more lt above in
+            omega (arith, is_one)
+        by_committed false is n_made = (let none = never_once n pair is in let zero_is : 0 + once_to n pair ≡ 0 = omega (arith, none) in zero_is ∙ sym (ap (λ (c : Bool). cond c 1 0) is))
 
 counted : (s : Setting) (last : ℕ) (pairs : List Pair) → AllByRecursion (IsMade s) pairs → AllByRecursion (λ (pair : Pair). pair.1.version ≤ last) pairs → made_to last pairs ≡ ended_count is_committed pairs
 counted s last [] h low = nothing_made last
@@ -385,14 +391,16 @@ made_by [] = 0
 made_by (command ∷ rest) = cond (makes command) 1 0 + made_by rest
 
 count_by : (pairs : List Pair) → AllByRecursion (λ (pair : Pair). is_committed pair.1.ended ≡ makes pair.0) pairs → ended_count is_committed pairs ≡ made_by (map command_in pairs)
-count_by [] as = refl
-count_by (pair ∷ rest) as = ap (λ (b : Bool). cond b 1 0 + ended_count is_committed rest) as.0 ∙ ap (λ (n : ℕ). cond (makes pair.0) 1 0 + n) (count_by rest as.1)
+count_by [] kinds = refl
+count_by (pair ∷ rest) kinds = ap (λ (b : Bool). cond b 1 0 + ended_count is_committed rest) kinds.0 ∙ ap (λ (n : ℕ). cond (makes pair.0) 1 0 + n) (count_by rest kinds.1)
 
 none_counted : (pairs : List Pair) → list_any (λ (pair : Pair). is_refused pair.1.ended) pairs ≡ false → ended_count is_refused pairs ≡ 0
 none_counted [] none = refl
 none_counted (pair ∷ rest) none =
     let n = both_false (is_refused pair.1.ended) (list_any (λ (pair : Pair). is_refused pair.1.ended) rest) none in
-    ap (λ (b : Bool). cond b 1 0 + ended_count is_refused rest) n.0 ∙ none_counted rest n.1
+    let more = none_counted rest n.1 in
+    let sum : 0 + ended_count is_refused rest ≡ 0 = omega (arith, more) in
+    ap (λ (b : Bool). cond b 1 0 + ended_count is_refused rest) n.0 ∙ sum
 
 none_told : (w c : ℕ) (pairs : List Pair) → list_any (λ (pair : Pair). is_refused pair.1.ended) pairs ≡ false → refused_text w c pairs ≡ []
 none_told w c [] none = refl

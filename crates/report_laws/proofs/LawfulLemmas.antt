@@ -20,11 +20,11 @@ use Rattle.report_laws.proofs.ShortLemmas.{IsShort, AllShort}
 -- ---- no more versions than commands
 
 -- how many commands made one of the versions 1 to n
-pub made_to : ℕ → List Pair → ℕ
+unfoldable pub made_to : ℕ → List Pair → ℕ
 made_to zero pairs = 0
 made_to (suc n) pairs = times_made (suc n) pairs + made_to n pairs
 
-pub once_to : ℕ → Pair → ℕ
+unfoldable pub once_to : ℕ → Pair → ℕ
 once_to zero pair = 0
 once_to (suc n) pair = cond (made (suc n) pair) 1 0 + once_to n pair
 

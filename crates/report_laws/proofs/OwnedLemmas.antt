@@ -65,7 +65,7 @@ entry_behind origin name [] entry = entry
 entry_behind origin name (first ∷ rest) entry = entry_behind origin name rest (entry_after origin name first entry)
 
 -- the name owns that in a version whose names rise
-record Becomes (name : Name) (entry : Entry) (version : Version) : Type 0 where
+pub record Becomes (name : Name) (entry : Entry) (version : Version) : Type 0 where
   pub owns : owned name version ≡ entry
   pub sorted : Sorted version
 
