@@ -397,7 +397,9 @@ of_own workers remainder q below small = record {
     i = remainder + workers * q
 
     left : (remainder + workers * q) % workers ≡ remainder
-    left = add-mul-mod_self_left remainder workers q ∙ mod-mul-add 0 workers remainder below
+    left =
+        let same : 0 * workers + remainder ≡ remainder = omega arith in
+        add-mul-mod_self_left remainder workers q ∙ ap (λ (n : ℕ). n % workers) (sym same) ∙ mod-mul-add 0 workers remainder below
 
     own : (name : Name) → same_name name (owner (remainder + workers * q)) ≡ true → IsOwner workers remainder name
     own name h = record { number = remainder + workers * q; small = small; leaves = left; is = same_name-true name (owner (remainder + workers * q)) h }
@@ -407,10 +409,9 @@ abbrev pub OwnFrom : ℕ → ℕ → List (List Command) → Type 0
 OwnFrom workers remainder [] = Unit {0}
 OwnFrom workers remainder (commands ∷ others) = AllByRecursion (IsOwn workers remainder) commands × OwnFrom workers (remainder + 1) others
 
-own_push : (workers remainder : ℕ) (es : List (List Command)) (cs : List Command) → OwnFrom workers remainder es → AllByRecursion (IsOwn workers (remainder + length es)) cs → OwnFrom workers remainder (es ++ cs ∷ [])
-own_push workers remainder [] cs h k = (subst (λ (n : ℕ). AllByRecursion (IsOwn workers n) cs) (let e : remainder + 0 ≡ remainder = omega arith in e) k, tt)
-own_push workers remainder (e ∷ es) cs h k =
-    (h.0, own_push workers (remainder + 1) es cs h.1 (subst (λ (n : ℕ). AllByRecursion (IsOwn workers n) cs) (let e : remainder + suc (length es) ≡ remainder + 1 + length es = omega arith in e) k))
+own_push : (workers remainder last : ℕ) (es : List (List Command)) (cs : List Command) → last ≡ remainder + length es → OwnFrom workers remainder es → AllByRecursion (IsOwn workers last) cs → OwnFrom workers remainder (es ++ cs ∷ [])
+own_push workers remainder last [] cs at h k = (subst (λ (n : ℕ). AllByRecursion (IsOwn workers n) cs) (let e : last ≡ remainder = omega (arith, at) in e) k, tt)
+own_push workers remainder last (e ∷ es) cs at h k = (h.0, own_push workers (remainder + 1) last es cs (omega (arith, at)) h.1 k)
 
 -- ---- the turns of a worker
 
@@ -477,7 +478,7 @@ workers_read load (suc workers) r n x es cs w first at own own_last =
     let rest : List (List ℕ) = workers_from load workers (r + 1) (worker_state load r x) in
     let turned = own_turns_read (part_of load r) load.turns (n + 1) x (es ++ cs ∷ []) (own_few load r w) (omega (arith, first)) w.workers w.turns in
     let mine : AllByRecursion (IsOwn load.workers (length (es ++ cs ∷ []))) turned.after = subst (λ (k : ℕ). AllByRecursion (IsOwn load.workers k) turned.after) (at ∙ sym long) (turned.each tt) in
-    let others = workers_read load workers (r + 1) (n + 1 + length turns) (worker_state load r x) (es ++ cs ∷ []) turned.after w (omega (arith, first)) (omega (arith, at, long)) (own_push load.workers 0 es cs own own_last) mine in
+    let others = workers_read load workers (r + 1) (n + 1 + length turns) (worker_state load r x) (es ++ cs ∷ []) turned.after w (omega (arith, first)) (omega (arith, at, long)) (own_push load.workers 0 (length es) es cs (omega arith) own own_last) mine in
     record {
       lists = others.lists;
       last = others.last;
@@ -521,7 +522,7 @@ script_by load (suc workers) x start w some few =
     let many = r.many in
     record {
       lists = r.lists ++ r.last ∷ [];
-      own = own_push load.workers 0 r.lists r.last r.own r.own_last;
+      own = own_push load.workers 0 (length r.lists) r.lists r.last (omega arith) r.own r.own_last;
       many = (let e : length (r.lists ++ r.last ∷ []) ≡ suc workers = omega (arith, long, many) in e);
       said = ap (λ s. s >>= finished (start + length (workers_from load (suc workers) 0 x))) r.read;
     }
