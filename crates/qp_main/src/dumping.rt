@@ -12,7 +12,7 @@ ghost use Rattle.std.specs.Prelude.{true};
 
 use crate::items::zone_items;
 use crate::reading::zone_in;
-use crate::refusing::zone_line;
+use crate::refusing::{Stop, zone_stop};
 use crate::report::no_room;
 use crate::status::Status;
 use crate::writing::write_due;
@@ -84,9 +84,9 @@ pub fn dump_input<K: Sink>(
     let zone = match zone_in(alloc, zone_bytes, &invocation.origin) {
         Ok(zone) => zone,
         Err(refusal) => {
-            return match zone_line(alloc, refusal) {
-                Ok((status, text)) => write_due(sink, status, &text),
-                Err(_) => Status::NoMemory,
+            return match zone_stop(refusal) {
+                Stop::Refused(status, line) => write_due(sink, status, line.as_slice()),
+                Stop::Memory => Status::NoMemory,
             };
         }
     };

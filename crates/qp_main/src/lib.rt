@@ -6,6 +6,7 @@
 mod dumping;
 mod feeding;
 mod items;
+mod line;
 mod program;
 mod reading;
 mod refusing;
