@@ -20,3 +20,4 @@ pub mod LawfulLemmas
 pub mod ReportLemmas
 pub mod OwnedLemmas
 pub mod ApartLemmas
+pub mod FirstLemmas
