@@ -1,5 +1,5 @@
 //! A line in place, which takes no memory: what is told of a refusal.
-ghost use Rattle.std.specs.Prelude.{◌≡◌, ◌≤◌, ◌+◌, ◌++◌, ◌×◌, [], ℕ, List, length, take};
+ghost use Rattle.std.specs.Prelude.{◌≡◌, ◌≤◌, ◌+◌, ◌++◌, [], ℕ, List, length, take};
 ghost use Rattle.qp_main.specs.Due.{refusal_text};
 
 use itoa::Buffer;
