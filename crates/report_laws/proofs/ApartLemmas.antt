@@ -1,5 +1,5 @@
 -- Where no name is changed by two workers and no block is refused, the last version hangs on the commands alone.
-use Rattle.std.proofs.Common.{◌≡◌, ◌∙◌, ℕ, zero, suc, ◌+◌, ◌-◌, ◌<◌, ◌≤◌, leb, Bool, true, false, cond, ◌&&◌, ◌||◌, eqb, List, [], ◌∷◌, ◌++◌, length, map, Ok, refl, sym, ap, subst, arith, eqb-true, codes}
+use Rattle.std.proofs.Common.{◌≡◌, ◌∙◌, ℕ, zero, suc, ◌+◌, ◌-◌, ◌<◌, ◌≤◌, leb, Bool, true, false, cond, ◌&&◌, ◌||◌, eqb, List, [], ◌∷◌, ◌++◌, length, map, Ok, refl, sym, ap, subst, arith, eqb-true}
 use Rattle.std.specs.Prelude.{IsOk}
 use Rattle.std.specs.List.{AllByRecursion, list_any}
 use Rattle.std.proofs.lemmas.Bool.Decides.{nat_tests}
@@ -9,13 +9,12 @@ use Rattle.zone_model.specs.Records.{Entry, IsItem, item}
 use Rattle.zone_model.specs.Versions.{Version, Operation, owned, owner_of, changed}
 use Rattle.zone_model.specs.Transactions.{Transaction, no_changes, whole}
 use Rattle.dns_name.proofs.BodyLemmas.{all_append}
-use Rattle.master_file.specs.Rows.{CanBeDumped}
 use Rattle.job_model.specs.declared.Ending.{Ending}
 use Rattle.job_model.specs.declared.Ending.TheVariants.{Commit, Rollback}
 use Rattle.job_model.specs.Sizes.{node_count}
 use Rattle.job_model.specs.Commands.{Command, Job, Ask, Hold, AskHeld, Release, Block, Compact}
 use Rattle.job_model.specs.Jobs.{job_of}
-use Rattle.job_model.specs.Outcomes.{Cause, Ended, Shown, Committed, RolledBack, Refused, Pair, is_committed, is_refused, made, asked_by, asked_at, times_made, version_at, Setting, setting_of, BlockEnds, Sight, at_first, sight_after, Shows, EndsLawfully, Along, all_pairs, AllAlong, Lawful, passes_for}
+use Rattle.job_model.specs.Outcomes.{Ended, Shown, Committed, RolledBack, Refused, Pair, is_committed, is_refused, made, asked_by, asked_at, times_made, version_at, Setting, setting_of, BlockEnds, Sight, at_first, sight_after, Shows, EndsLawfully, Along, all_pairs, AllAlong, Lawful, passes_for}
 use Rattle.job_model.specs.Reports.{head_text, ended_text}
 use Rattle.job_model.specs.Summaries.{ended_count, refused_text, all_refused_text, counts_text, sized_end_text, summary}
 use Rattle.report_laws.specs.Octets.{AllOctets}
