@@ -2,3 +2,4 @@ pub mod LoadLemmas
 pub mod ScriptLines
 pub mod SizeLemmas
 pub mod ZoneLines
+pub mod ApartLines

@@ -1,12 +1,14 @@
 -- The lines of a made load's script say commands.
-use Rattle.std.proofs.Common.{◌≡◌, ◌∙◌, ℕ, zero, suc, ◌+◌, ◌*◌, ◌/◌, ◌%◌, ◌^◌, ◌<◌, ◌≤◌, Bool, true, false, cond, ◌&&◌, eqb, ltb, List, [], ◌∷◌, ◌++◌, length, refl, sym, ap, subst, arith, Some, None, Ok, append_assoc, append-nil, length-append, codes, inl, inr}
+use Rattle.std.proofs.Common.{◌≡◌, ◌∙◌, ℕ, zero, suc, ◌+◌, ◌*◌, ◌/◌, ◌%◌, ◌^◌, ◌<◌, ◌≤◌, Bool, true, false, cond, ◌&&◌, ◌||◌, eqb, ltb, List, [], ◌∷◌, ◌++◌, length, refl, sym, ap, subst, arith, Some, None, Ok, append_assoc, append-nil, length-append, codes, inl, inr}
+use Rattle.std.proofs.Math.Nat.{add-mul-mod_self_left}
+use Rattle.std.proofs.lemmas.Nat.{mod-mul-add}
 use Rattle.std.proofs.lemmas.Bool.{cases_eq}
 use Rattle.std.proofs.lemmas.Bool.Decides.{nat_tests}
 use Rattle.std.proofs.lemmas.Fmt.{decimal_digit, decimal_nonempty, decimal_step, length-decimal-le}
-use Rattle.std.specs.List.{list_all}
+use Rattle.std.specs.List.{AllByRecursion, list_all}
 use Rattle.std.specs.Char.{is_ascii_digit, to_ascii_lowercase}
 use Rattle.std.specs.Fmt.{decimal}
-use Rattle.zone_model.specs.Names.{Name, is_under, wire}
+use Rattle.zone_model.specs.Names.{Name, is_under, same_name, wire}
 use Rattle.zone_model.specs.NameText.{completed, fitting, labels_from, name_of, pieces_from}
 use Rattle.zone_model.specs.Refusals.{◌>>=◌}
 use Rattle.zone_model.specs.Grammar.{Token, stops_word, Spells}
@@ -17,6 +19,7 @@ use Rattle.zone_model.specs.Transactions.{Transaction, no_changes}
 use Rattle.zone_model.specs.DataText as print
 use Rattle.zone_model.specs.DataWords.{groups, time_of, type_named}
 use Rattle.zone_model.proofs.GrammarLemmas.{line_is}
+use Rattle.zone_model.proofs.NameLemmas.{same_name-true}
 use Rattle.zone_model.proofs.OrderLemmas.{ends_under}
 use Rattle.zone_model.proofs.SplitLemmas.{IsBytes}
 use Rattle.rr_data.proofs.PrintedLemmas.{decimal_all_digits}
@@ -32,6 +35,8 @@ use Rattle.job_model.specs.Phrases.{asked_of, phrase_of, without_parens}
 use Rattle.job_model.specs.Arguments.{addition_of, deletion_of, question_of}
 use Rattle.job_model.specs.Jobs.{Script, Unfinished, finished, no_lines, script_from, script_line, script_of, tokens_say}
 use Rattle.job_model.specs.Loads.{Finds, Gets, Load, Moves, Part, Removes, Turn, address_text, drawn, made_origin, name_text, next_state, part_of, share, state_behind, turn_from, turn_lines, turn_of, turns_from, turns_of, worker_state, workers_from}
+use Rattle.dns_name.proofs.BodyLemmas.{all_push}
+use Rattle.report_laws.specs.Apart.{changes}
 use Rattle.job_make.proofs.SizeLemmas.{IsWithin, share_le, small_name}
 
 -- ---- a name's word
@@ -253,33 +258,48 @@ step_read : (n : ℕ) (line : List ℕ) (rest : List (List ℕ)) (s next : Scrip
 unfolding script_from
 step_read n line rest s next e = ap (λ r. r >>= script_from made_origin (n + 1) rest) e
 
--- lines say so many commands more
-pub record Reads (n : ℕ) (lines : List (List ℕ)) (earlier : List (List Command)) (before : List Command) (more : ℕ) : Type 0 where
+-- lines say so many commands more, each of which is so
+pub record Reads (So : Command → Type 0) (n : ℕ) (lines : List (List ℕ)) (earlier : List (List Command)) (before : List Command) (more : ℕ) : Type 0 where
   pub after : List Command
   pub many : length after ≡ length before + more
+  pub each : AllByRecursion So before → AllByRecursion So after
   pub read : (rest : List (List ℕ)) → script_from made_origin n (lines ++ rest) (between earlier before) ≡ script_from made_origin (n + length lines) rest (between earlier after)
 
-get_reads : (n i : ℕ) (es : List (List Command)) (cs : List Command) → i < 1000000 → length cs < 10000 → Reads n (turn_lines (Gets i)) es cs 1
-get_reads n i es cs h few =
+-- the operations that give a name another address
+moved : ℕ → ℕ → List Operation
+moved i c = DeleteSet (owner i) 1 ∷ Add (record { owner = owner i; rtype = 1; ttl = 300; octets = octets c }) ∷ []
+
+-- what turns with a name ask for is so
+record OfTurns (So : Command → Type 0) (i : ℕ) : Type 0 where
+  get : So (Ask (Get (owner i) 1))
+  find : So (Ask (Find (owner i)))
+  removal : So (Block Heavy (asks (DeleteName (owner i) ∷ [])) Commit)
+  move : (c : ℕ) → So (Block Light (asks (moved i c)) Commit)
+
+get_reads : (So : Command → Type 0) (n i : ℕ) (es : List (List Command)) (cs : List Command) → OfTurns So i → i < 1000000 → length cs < 10000 → Reads So n (turn_lines (Gets i)) es cs 1
+get_reads So n i es cs o h few =
     record {
       after = cs ++ Ask (Get (owner i) 1) ∷ [];
       many = length-append cs (Ask (Get (owner i) 1) ∷ []);
+      each = λ all. all_push So cs (Ask (Get (owner i) 1)) all (o.get);
       read = λ rest. step_read n (codes "get " ++ name_text i ++ codes " A") rest (between es cs) (between es (cs ++ Ask (Get (owner i) 1) ∷ [])) (get_line n i es cs h few);
     }
 
-find_reads : (n i : ℕ) (es : List (List Command)) (cs : List Command) → i < 1000000 → length cs < 10000 → Reads n (turn_lines (Finds i)) es cs 1
-find_reads n i es cs h few =
+find_reads : (So : Command → Type 0) (n i : ℕ) (es : List (List Command)) (cs : List Command) → OfTurns So i → i < 1000000 → length cs < 10000 → Reads So n (turn_lines (Finds i)) es cs 1
+find_reads So n i es cs o h few =
     record {
       after = cs ++ Ask (Find (owner i)) ∷ [];
       many = length-append cs (Ask (Find (owner i)) ∷ []);
+      each = λ all. all_push So cs (Ask (Find (owner i))) all (o.find);
       read = λ rest. step_read n (codes "find " ++ name_text i) rest (between es cs) (between es (cs ++ Ask (Find (owner i)) ∷ [])) (find_line n i es cs h few);
     }
 
-removal_reads : (n i : ℕ) (es : List (List Command)) (cs : List Command) → i < 1000000 → length cs < 10000 → Reads n (turn_lines (Removes i)) es cs 1
-removal_reads n i es cs h few =
+removal_reads : (So : Command → Type 0) (n i : ℕ) (es : List (List Command)) (cs : List Command) → OfTurns So i → i < 1000000 → length cs < 10000 → Reads So n (turn_lines (Removes i)) es cs 1
+removal_reads So n i es cs o h few =
     record {
       after = cs ++ Block Heavy (asks (DeleteName (owner i) ∷ [])) Commit ∷ [];
       many = length-append cs (Block Heavy (asks (DeleteName (owner i) ∷ [])) Commit ∷ []);
+      each = λ all. all_push So cs (Block Heavy (asks (DeleteName (owner i) ∷ [])) Commit) all (o.removal);
       read = λ rest.
           step_read n (codes "update") ((codes "del " ++ name_text i) ∷ codes "commit" ∷ rest) (between es cs) _ (update_line n es cs few)
           ∙ step_read (n + 1) (codes "del " ++ name_text i) (codes "commit" ∷ rest) _ _ (removal_line (n + 1) n i es cs Heavy h)
@@ -287,15 +307,13 @@ removal_reads n i es cs h few =
           ∙ ap (λ (k : ℕ). script_from made_origin k rest (between es (cs ++ Block Heavy (asks (DeleteName (owner i) ∷ [])) Commit ∷ []))) (let e : n + 1 + 1 + 1 ≡ n + 3 = omega arith in e);
     }
 
-moved : ℕ → ℕ → List Operation
-moved i c = DeleteSet (owner i) 1 ∷ Add (record { owner = owner i; rtype = 1; ttl = 300; octets = octets c }) ∷ []
-
-move_reads : (n i c : ℕ) (es : List (List Command)) (cs : List Command) → i < 1000000 → length cs < 10000 → Reads n (turn_lines (Moves i c)) es cs 1
+move_reads : (So : Command → Type 0) (n i c : ℕ) (es : List (List Command)) (cs : List Command) → OfTurns So i → i < 1000000 → length cs < 10000 → Reads So n (turn_lines (Moves i c)) es cs 1
 unfolding moved
-move_reads n i c es cs h few =
+move_reads So n i c es cs o h few =
     record {
       after = cs ++ Block Light (asks (moved i c)) Commit ∷ [];
       many = length-append cs (Block Light (asks (moved i c)) Commit ∷ []);
+      each = λ all. all_push So cs (Block Light (asks (moved i c)) Commit) all (o.move c);
       read = λ rest.
           step_read n (codes "write") ((codes "del " ++ name_text i ++ codes " A") ∷ (codes "add " ++ name_text i ++ codes " 300 A " ++ address_text c) ∷ codes "commit" ∷ rest) (between es cs) _ (write_line n es cs few)
           ∙ step_read (n + 1) (codes "del " ++ name_text i ++ codes " A") ((codes "add " ++ name_text i ++ codes " 300 A " ++ address_text c) ∷ codes "commit" ∷ rest) _ _ (del_line (n + 1) n i es cs h)
@@ -304,61 +322,115 @@ move_reads n i c es cs h few =
           ∙ ap (λ (k : ℕ). script_from made_origin k rest (between es (cs ++ Block Light (asks (moved i c)) Commit ∷ []))) (let e : n + 1 + 1 + 1 + 1 ≡ n + 4 = omega arith in e);
     }
 
-either_reads : (b : Bool) (t u : Turn) (n : ℕ) (es : List (List Command)) (cs : List Command) → Reads n (turn_lines t) es cs 1 → Reads n (turn_lines u) es cs 1 → Reads n (turn_lines (cond b t u)) es cs 1
-either_reads true t u n es cs h k = h
-either_reads false t u n es cs h k = k
+either_reads : (So : Command → Type 0) (b : Bool) (t u : Turn) (n : ℕ) (es : List (List Command)) (cs : List Command) → Reads So n (turn_lines t) es cs 1 → Reads So n (turn_lines u) es cs 1 → Reads So n (turn_lines (cond b t u)) es cs 1
+either_reads So true t u n es cs h k = h
+either_reads So false t u n es cs h k = k
 
-turn_reads : (n a i c : ℕ) (es : List (List Command)) (cs : List Command) → i < 1000000 → length cs < 10000 → Reads n (turn_lines (turn_of a i c)) es cs 1
-turn_reads n a i c es cs h few =
-    either_reads (eqb (a % 4) 0) (Gets i) (cond (eqb (a % 4) 1) (Moves i c) (cond (eqb (a % 4) 2) (Removes i) (Finds i))) n es cs (get_reads n i es cs h few)
-    (either_reads (eqb (a % 4) 1) (Moves i c) (cond (eqb (a % 4) 2) (Removes i) (Finds i)) n es cs (move_reads n i c es cs h few)
-    (either_reads (eqb (a % 4) 2) (Removes i) (Finds i) n es cs (removal_reads n i es cs h few) (find_reads n i es cs h few)))
+turn_reads : (So : Command → Type 0) (n a i c : ℕ) (es : List (List Command)) (cs : List Command) → OfTurns So i → i < 1000000 → length cs < 10000 → Reads So n (turn_lines (turn_of a i c)) es cs 1
+turn_reads So n a i c es cs o h few =
+    either_reads So (eqb (a % 4) 0) (Gets i) (cond (eqb (a % 4) 1) (Moves i c) (cond (eqb (a % 4) 2) (Removes i) (Finds i))) n es cs (get_reads So n i es cs o h few)
+    (either_reads So (eqb (a % 4) 1) (Moves i c) (cond (eqb (a % 4) 2) (Removes i) (Finds i)) n es cs (move_reads So n i c es cs o h few)
+    (either_reads So (eqb (a % 4) 2) (Removes i) (Finds i) n es cs (removal_reads So n i es cs o h few) (find_reads So n i es cs o h few)))
 
-no_lines_read : (n : ℕ) (es : List (List Command)) (cs : List Command) → Reads n [] es cs 0
-no_lines_read n es cs =
+no_lines_read : (So : Command → Type 0) (n : ℕ) (es : List (List Command)) (cs : List Command) → Reads So n [] es cs 0
+no_lines_read So n es cs =
     record {
       after = cs;
+      each = λ all. all;
       many = (let e : length cs ≡ length cs + 0 = omega arith in e);
       read = λ rest. ap (λ (k : ℕ). script_from made_origin k rest (between es cs)) (let e : n ≡ n + 0 = omega arith in e);
     }
 
-then_reads : (n : ℕ) (xs ys : List (List ℕ)) (es : List (List Command)) (cs : List Command) (j k : ℕ) (r : Reads n xs es cs j) → Reads (n + length xs) ys es r.after k → Reads n (xs ++ ys) es cs (j + k)
-then_reads n xs ys es cs j k r s =
+then_reads : (So : Command → Type 0) (n : ℕ) (xs ys : List (List ℕ)) (es : List (List Command)) (cs : List Command) (j k : ℕ) (r : Reads So n xs es cs j) → Reads So (n + length xs) ys es r.after k → Reads So n (xs ++ ys) es cs (j + k)
+then_reads So n xs ys es cs j k r s =
     record {
       after = s.after;
+      each = λ all. s.each (r.each all);
       many = s.many ∙ ap (λ (m : ℕ). m + k) r.many ∙ (let e : (length cs + j) + k ≡ length cs + (j + k) = omega arith in e);
       read = λ rest.
           ap (λ (l : List (List ℕ)). script_from made_origin n l (between es cs)) (append_assoc xs ys rest) ∙ r.read (ys ++ rest) ∙ s.read rest
           ∙ ap (λ (m : ℕ). script_from made_origin m rest (between es s.after)) (let a = length-append xs ys in let e : (n + length xs) + length ys ≡ n + length (xs ++ ys) = omega arith in e);
     }
 
-turns_read : (part : Part) (turns n x : ℕ) (es : List (List Command)) (cs : List Command) → ((d : ℕ) → part.remainder + part.workers * (d % part.count) < 1000000) → length cs + turns ≤ 10000 → Reads n (turns_from part turns x) es cs turns
+turns_read : (So : Command → Type 0) (part : Part) (turns n x : ℕ) (es : List (List Command)) (cs : List Command) → ((d : ℕ) → part.remainder + part.workers * (d % part.count) < 1000000)
+    → ((d : ℕ) → OfTurns So (part.remainder + part.workers * (d % part.count))) → length cs + turns ≤ 10000 → Reads So n (turns_from part turns x) es cs turns
 unfolding turns_from
-turns_read part zero n x es cs small few = no_lines_read n es cs
-turns_read part (suc turns) n x es cs small few =
-    let first = turn_reads n (drawn (next_state x)) (part.remainder + part.workers * (drawn (next_state (next_state x)) % part.count)) (drawn (next_state (next_state (next_state x)))) es cs (small (drawn (next_state (next_state x)))) (omega arith) in
+turns_read So part zero n x es cs small so few = no_lines_read So n es cs
+turns_read So part (suc turns) n x es cs small so few =
+    let first = turn_reads So n (drawn (next_state x)) (part.remainder + part.workers * (drawn (next_state (next_state x)) % part.count)) (drawn (next_state (next_state (next_state x)))) es cs (so (drawn (next_state (next_state x)))) (small (drawn (next_state (next_state x)))) (omega arith) in
     let long = first.many in
-    let others = turns_read part turns (n + length (turn_lines (turn_from part x))) (state_behind x) es first.after small (omega arith) in
-    subst (λ (k : ℕ). Reads n (turn_lines (turn_from part x) ++ turns_from part turns (state_behind x)) es cs k) (let e : 1 + turns ≡ suc turns = omega arith in e)
-    (then_reads n (turn_lines (turn_from part x)) (turns_from part turns (state_behind x)) es cs 1 turns first others)
+    let others = turns_read So part turns (n + length (turn_lines (turn_from part x))) (state_behind x) es first.after small so (omega arith) in
+    subst (λ (k : ℕ). Reads So n (turn_lines (turn_from part x) ++ turns_from part turns (state_behind x)) es cs k) (let e : 1 + turns ≡ suc turns = omega arith in e)
+    (then_reads So n (turn_lines (turn_from part x)) (turns_from part turns (state_behind x)) es cs 1 turns first others)
+
+-- ---- names of a worker's own
+
+-- one of those whose numbers leave this remainder
+pub record IsOwner (workers remainder : ℕ) (name : Name) : Type 0 where
+  pub number : ℕ
+  pub small : number < 1000000
+  pub leaves : number % workers ≡ remainder
+  pub is : name ≡ owner number
+
+-- a command changes none but these
+abbrev pub IsOwn : ℕ → ℕ → Command → Type 0
+IsOwn workers remainder command = (name : Name) → changes name command ≡ true → IsOwner workers remainder name
+
+one_of : (a : Bool) → (a || false) ≡ true → a ≡ true
+one_of true h = refl
+one_of false h = h
+
+either_of : (a : Bool) → (a || (a || false)) ≡ true → a ≡ true
+either_of true h = refl
+either_of false h = h
+
+of_own : (workers remainder q : ℕ) → remainder < workers → remainder + workers * q < 1000000 → OfTurns (IsOwn workers remainder) (remainder + workers * q)
+unfolding moved
+of_own workers remainder q below small = record {
+  get = λ name h. absurd cc;
+  find = λ name h. absurd cc;
+  removal = λ name h. own name (one_of (same_name name (owner i)) h);
+  move = λ c name h. own name (either_of (same_name name (owner i)) h);
+}
+  where
+    i : ℕ
+    i = remainder + workers * q
+
+    left : (remainder + workers * q) % workers ≡ remainder
+    left =
+        let same : 0 * workers + remainder ≡ remainder = omega arith in
+        add-mul-mod_self_left remainder workers q ∙ ap (λ (n : ℕ). n % workers) (sym same) ∙ mod-mul-add 0 workers remainder below
+
+    own : (name : Name) → same_name name (owner (remainder + workers * q)) ≡ true → IsOwner workers remainder name
+    own name h = record { number = remainder + workers * q; small = small; leaves = left; is = same_name-true name (owner (remainder + workers * q)) h }
+
+-- lists of commands, each of names of its own, of remainders from one on
+abbrev pub OwnFrom : ℕ → ℕ → List (List Command) → Type 0
+OwnFrom workers remainder [] = Unit {0}
+OwnFrom workers remainder (commands ∷ others) = AllByRecursion (IsOwn workers remainder) commands × OwnFrom workers (remainder + 1) others
+
+own_push : (workers remainder last : ℕ) (es : List (List Command)) (cs : List Command) → last ≡ remainder + length es → OwnFrom workers remainder es → AllByRecursion (IsOwn workers last) cs → OwnFrom workers remainder (es ++ cs ∷ [])
+own_push workers remainder last [] cs at h k = (subst (λ (n : ℕ). AllByRecursion (IsOwn workers n) cs) (let e : last ≡ remainder = omega (arith, at) in e) k, tt)
+own_push workers remainder last (e ∷ es) cs at h k = (h.0, own_push workers (remainder + 1) last es cs (omega (arith, at)) h.1 k)
 
 -- ---- the turns of a worker
 
 -- a worker without names has none
-pub own_turns_read : (part : Part) (turns n x : ℕ) (es : List (List Command)) → part.count ≤ 20000 → part.remainder < 16 → part.workers ≤ 16 → turns ≤ 10000
-    → Reads n (turns_from part (turns_of part turns) x) es [] (turns_of part turns)
+pub own_turns_read : (part : Part) (turns n x : ℕ) (es : List (List Command)) → part.count ≤ 20000 → part.remainder < part.workers → part.workers ≤ 16 → turns ≤ 10000
+    → Reads (IsOwn part.workers part.remainder) n (turns_from part (turns_of part turns) x) es [] (turns_of part turns)
 unfolding turns_from
 own_turns_read part turns n x es few first workers within =
     elim (cases_eq part.count 0) [
       | inl none ↦
           let e : 0 ≡ turns_of part turns = ap (λ (k : ℕ). cond (eqb k 0) 0 turns) (sym none) in
-          subst (λ (t : ℕ). Reads n (turns_from part t x) es [] t) e (no_lines_read n es [])
+          subst (λ (t : ℕ). Reads (IsOwn part.workers part.remainder) n (turns_from part t x) es [] t) e (no_lines_read (IsOwn part.workers part.remainder) n es [])
       | inr some ↦
           let f : eqb part.count 0 ≡ false = grind arith in
           let positive : 0 < part.count = omega arith in
           let e : turns ≡ turns_of part turns = ap (λ (b : Bool). cond b 0 turns) (sym f) in
-          let small : (d : ℕ) → part.remainder + part.workers * (d % part.count) < 1000000 = λ d. small_name part d (record { some = positive; few = few; remainder = first; workers = workers }) in
-          subst (λ (t : ℕ). Reads n (turns_from part t x) es [] t) e (turns_read part turns n x es [] small (omega arith))
+          let small : (d : ℕ) → part.remainder + part.workers * (d % part.count) < 1000000 = λ d. small_name part d (record { some = positive; few = few; remainder = omega (arith, first, workers); workers = workers }) in
+          let so : (d : ℕ) → OfTurns (IsOwn part.workers part.remainder) (part.remainder + part.workers * (d % part.count)) = λ d. of_own part.workers part.remainder (d % part.count) first (small d) in
+          subst (λ (t : ℕ). Reads (IsOwn part.workers part.remainder) n (turns_from part t x) es [] t) e (turns_read (IsOwn part.workers part.remainder) part turns n x es [] small so (omega arith))
     ]
 
 -- ---- workers after workers
@@ -381,9 +453,11 @@ later_worker n es cs few =
     ∙ rw (few_lists (length (es ++ cs ∷ [])) (omega (arith, long))) refl
 
 -- the lines of so many workers say so many lists more, of which the last is told apart
-record ReadsLists (n : ℕ) (lines : List (List ℕ)) (before : Script) (more : ℕ) : Type 0 where
+record ReadsLists (workers n : ℕ) (lines : List (List ℕ)) (before : Script) (more : ℕ) : Type 0 where
   lists : List (List Command)
   last : List Command
+  own : OwnFrom workers 0 lists
+  own_last : AllByRecursion (IsOwn workers (length lists)) last
   many : length lists ≡ more
   read : script_from made_origin n lines before ≡ Ok (between lists last)
 
@@ -393,33 +467,39 @@ own_few load r w =
     let names = w.names in
     omega arith
 
-workers_read : (load : Load) (workers r n x : ℕ) (es : List (List Command)) (cs : List Command) → IsWithin load → r + workers ≤ 16 → length es + 1 + workers ≤ 16
-    → ReadsLists n (workers_from load workers r x) (between es cs) (length es + workers)
+workers_read : (load : Load) (workers r n x : ℕ) (es : List (List Command)) (cs : List Command) → IsWithin load → r + workers ≤ load.workers → r ≡ length es + 1 → OwnFrom load.workers 0 es → AllByRecursion (IsOwn load.workers (length es)) cs
+    → ReadsLists load.workers n (workers_from load workers r x) (between es cs) (length es + workers)
 unfolding workers_from script_from
-workers_read load zero r n x es cs w first room = record { lists = es; last = cs; many = (let e : length es ≡ length es + 0 = omega arith in e); read = refl }
-workers_read load (suc workers) r n x es cs w first room =
+workers_read load zero r n x es cs w first at own own_last = record { lists = es; last = cs; own = own; own_last = own_last; many = (let e : length es ≡ length es + 0 = omega arith in e); read = refl }
+workers_read load (suc workers) r n x es cs w first at own own_last =
+    let most = w.workers in
     let long : length (es ++ cs ∷ []) ≡ length es + 1 = length-append es (cs ∷ []) in
     let turns : List (List ℕ) = turns_from (part_of load r) (turns_of (part_of load r) load.turns) x in
     let rest : List (List ℕ) = workers_from load workers (r + 1) (worker_state load r x) in
-    let own = own_turns_read (part_of load r) load.turns (n + 1) x (es ++ cs ∷ []) (own_few load r w) (omega arith) w.workers w.turns in
-    let others = workers_read load workers (r + 1) (n + 1 + length turns) (worker_state load r x) (es ++ cs ∷ []) own.after w (omega arith) (omega (arith, long)) in
+    let turned = own_turns_read (part_of load r) load.turns (n + 1) x (es ++ cs ∷ []) (own_few load r w) (omega (arith, first)) w.workers w.turns in
+    let mine : AllByRecursion (IsOwn load.workers (length (es ++ cs ∷ []))) turned.after = subst (λ (k : ℕ). AllByRecursion (IsOwn load.workers k) turned.after) (at ∙ sym long) (turned.each tt) in
+    let others = workers_read load workers (r + 1) (n + 1 + length turns) (worker_state load r x) (es ++ cs ∷ []) turned.after w (omega (arith, first)) (omega (arith, at, long)) (own_push load.workers 0 (length es) es cs (omega arith) own own_last) mine in
     record {
       lists = others.lists;
       last = others.last;
+      own = others.own;
+      own_last = others.own_last;
       many = others.many ∙ (let e : length (es ++ cs ∷ []) + workers ≡ length es + suc workers = omega (arith, long) in e);
-      read = step_read n (codes "worker") (turns ++ rest) (between es cs) (between (es ++ cs ∷ []) []) (later_worker n es cs (omega arith)) ∙ own.read rest ∙ others.read;
+      read = step_read n (codes "worker") (turns ++ rest) (between es cs) (between (es ++ cs ∷ []) []) (later_worker n es cs (omega (arith, first, at, most))) ∙ turned.read rest ∙ others.read;
     }
 
-all_read : (load : Load) (workers n x : ℕ) → IsWithin load → workers < 16 → ReadsLists n (workers_from load (suc workers) 0 x) no_lines workers
+all_read : (load : Load) (workers n x : ℕ) → IsWithin load → suc workers ≤ load.workers → ReadsLists load.workers n (workers_from load (suc workers) 0 x) no_lines workers
 unfolding workers_from
 all_read load workers n x w few =
     let turns : List (List ℕ) = turns_from (part_of load 0) (turns_of (part_of load 0) load.turns) x in
     let rest : List (List ℕ) = workers_from load workers 1 (worker_state load 0 x) in
-    let own = own_turns_read (part_of load 0) load.turns (n + 1) x [] (own_few load 0 w) (omega arith) w.workers w.turns in
-    let others = workers_read load workers 1 (n + 1 + length turns) (worker_state load 0 x) [] own.after w (omega arith) (omega arith) in
+    let own = own_turns_read (part_of load 0) load.turns (n + 1) x [] (own_few load 0 w) (omega (arith, few)) w.workers w.turns in
+    let others = workers_read load workers 1 (n + 1 + length turns) (worker_state load 0 x) [] own.after w (omega (arith, few)) refl tt (own.each tt) in
     record {
       lists = others.lists;
       last = others.last;
+      own = others.own;
+      own_last = others.own_last;
       many = (let m = others.many in let e : length others.lists ≡ workers = omega (arith, m) in e);
       read = step_read n (codes "worker") (turns ++ rest) no_lines (between [] []) (first_worker n) ∙ own.read rest ∙ others.read;
     }
@@ -427,23 +507,25 @@ all_read load workers n x w few =
 -- ---- the whole script
 
 -- the lines of so many workers are a script of so many lists
-pub record SaysLists (start : ℕ) (lines : List (List ℕ)) (workers : ℕ) : Type 0 where
+pub record SaysLists (of start : ℕ) (lines : List (List ℕ)) (workers : ℕ) : Type 0 where
   pub lists : List (List Command)
+  pub own : OwnFrom of 0 lists
   pub many : length lists ≡ workers
   pub said : script_of made_origin start lines ≡ Ok lists
 
-script_by : (load : Load) (workers x start : ℕ) → IsWithin load → 0 < workers → workers ≤ 16 → SaysLists start (workers_from load workers 0 x) workers
+script_by : (load : Load) (workers x start : ℕ) → IsWithin load → 0 < workers → workers ≤ load.workers → SaysLists load.workers start (workers_from load workers 0 x) workers
 unfolding script_of
 script_by load zero x start w some few = absurd (omega arith)
 script_by load (suc workers) x start w some few =
-    let r = all_read load workers start x w (omega arith) in
+    let r = all_read load workers start x w few in
     let long : length (r.lists ++ r.last ∷ []) ≡ length r.lists + 1 = length-append r.lists (r.last ∷ []) in
     let many = r.many in
     record {
       lists = r.lists ++ r.last ∷ [];
+      own = own_push load.workers 0 (length r.lists) r.lists r.last (omega arith) r.own r.own_last;
       many = (let e : length (r.lists ++ r.last ∷ []) ≡ suc workers = omega (arith, long, many) in e);
       said = ap (λ s. s >>= finished (start + length (workers_from load (suc workers) 0 x))) r.read;
     }
 
-pub script_said : (load : Load) (start : ℕ) → IsWithin load → 0 < load.workers → SaysLists start (workers_from load load.workers 0 load.seed) load.workers
-script_said load start w some = script_by load load.workers load.seed start w some w.workers
+pub script_said : (load : Load) (start : ℕ) → IsWithin load → 0 < load.workers → SaysLists load.workers start (workers_from load load.workers 0 load.seed) load.workers
+script_said load start w some = script_by load load.workers load.seed start w some (let e : load.workers ≤ load.workers = omega arith in e)

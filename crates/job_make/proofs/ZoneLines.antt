@@ -34,9 +34,9 @@ use Rattle.rr_data.proofs.PrintedWordLemmas.{Shows, alphabetic_word, hex_word, i
 use Rattle.rr_data.proofs.PrintedDataLemmas.{plain, word}
 use Rattle.job_model.specs.Commands.{Command, Job}
 use Rattle.job_model.specs.Jobs.{is_cut, job_of, job_of_lines, script_lines, script_of, script_refused, script_start, zone_lines, zone_refused}
-use Rattle.job_model.specs.Loads.{Finds, Gets, Load, Moves, Part, Removes, Turn, address_text, drawn, first_lines, line_text, made_origin, made_text, name_text, names_lines, next_state, part_of, state_behind, turn_from, turn_lines, turns_from, turns_of, worker_state, workers_from}
+use Rattle.job_model.specs.Loads.{Finds, Gets, Load, Moves, Part, Removes, Turn, address_text, drawn, first_lines, line_text, load_lines, made_origin, made_text, name_text, names_lines, next_state, part_of, state_behind, turn_from, turn_lines, turns_from, turns_of, worker_state, workers_from}
 use Rattle.job_make.proofs.SizeLemmas.{IsWithin, share_le, small_name}
-use Rattle.job_make.proofs.ScriptLines.{address_shows, name_said, name_shows, name_some, owner, script_said, three_words}
+use Rattle.job_make.proofs.ScriptLines.{OwnFrom, address_shows, name_said, name_shows, name_some, owner, script_said, three_words}
 
 -- ---- lines
 
@@ -67,7 +67,7 @@ shown_line text rest h =
     ap lines_of_parts (slice_split_at (λ b. eqb b 10) text 10 rest (no_stop is_shown text 10 h refl) refl)
     ∙ parts_more text (slice_split (λ b. eqb b 10) rest) some ∙ ap (λ (l : List ℕ). l ∷ lines_of rest) same
 
-abbrev AllShown : List (List ℕ) → Type 0
+abbrev pub AllShown : List (List ℕ) → Type 0
 AllShown lines = AllByRecursion (λ (l : List ℕ). list_all is_shown l ≡ true) lines
 
 -- lines of bytes that are shown are the lines of their text
@@ -386,14 +386,16 @@ job_by zone_is front script_is script start version workers a b z s =
 abbrev script_of_load : Load → List (List ℕ)
 script_of_load load = workers_from load load.workers 0 load.seed
 
--- a text says a job of so many workers
-pub record SaysJob (text : List ℕ) (workers : ℕ) : Type 0 where
+-- lines whose bytes are shown say a job of so many workers, each of which changes names of its own
+pub record SaysJob (lines : List (List ℕ)) (workers : ℕ) : Type 0 where
   pub job : Job
+  pub shown : AllShown lines
+  pub own : OwnFrom workers 0 job.workers
   pub many : length job.workers ≡ workers
-  pub said : job_of made_origin text ≡ Ok job
+  pub said : job_of made_origin (flat_map line_text lines) ≡ Ok job
 
 -- the text of a load says a job
-pub made_job : (load : Load) → IsWithin load → 0 < load.workers → SaysJob (made_text load) load.workers
+pub made_job : (load : Load) → IsWithin load → 0 < load.workers → SaysJob (load_lines load) load.workers
 made_job load w some =
     let front : List (List ℕ) = first_lines ++ names_lines load.names in
     let z = zone_said load.names w.names in
@@ -408,6 +410,8 @@ made_job load w some =
     let script_is : script_lines (made_text load) ≡ script_of_load load = ap (after_first is_cut) lines ∙ script_part (first_lines ++ names_lines load.names) (script_of_load load) uncut in
     record {
       job = record { origin = made_origin; zone = z.0; workers = s.lists };
+      shown = shown;
+      own = s.own;
       many = s.many;
       said = job_by (zone_lines (made_text load)) (first_lines ++ names_lines load.names) (script_lines (made_text load)) (script_of_load load) (script_start (made_text load)) z.0 s.lists zone_is script_is z.1 s.said;
     }

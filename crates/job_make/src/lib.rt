@@ -3,10 +3,12 @@
 #![tactic(auto)]
 
 mod draws;
+mod laws;
 mod load;
 mod part;
 mod text;
 mod turns;
 
+pub use laws::loads_have_one_summary;
 pub use load::Load;
 pub use text::make_text;

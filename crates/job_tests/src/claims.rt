@@ -70,6 +70,6 @@ fn each_name_is_claimed_once(rt: HostRuntime) -> Result<(), Fail> {
     assert_eq!(rt; once, 200);
     assert_eq!(rt; late, 600);
     assert_eq!(rt; finished.version, 200);
-    assert_eq!(rt; finished.names, 200);
+    assert_eq!(rt; finished.names, 201);
     Ok(())
 }

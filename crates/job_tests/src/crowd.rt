@@ -1,11 +1,17 @@
 //! Sixteen workers beside each other on a table that is too small for all that they write.
+ghost use Rattle.std.specs.Prelude.{IfOk};
+ghost use Rattle.trie_write.specs.Entries.{entries_of_items};
+ghost use Rattle.job_threads.specs.Histories.{IsZone};
+
 use dns_name::Name;
-use job_script::{Cause, Outcome, Outcomes, Told, read_job};
+use job_script::{Cause, Outcome, Outcomes, Told};
 use job_threads::{Finished, Gate, Ran, run_zone, table_for};
+use qp_main::{job_in, zone_in, zone_items};
 use std::alloc::{AllocError, Global};
 use std::sync::Wait;
 use std::test::Fail;
 use std::thread::Threads;
+use trie_write::Item;
 
 /// How many workers there are.
 const WORKERS: u32 = 16;
@@ -68,7 +74,18 @@ fn crowded_script(alloc: Global) -> Result<Vec<u8>, AllocError> {
     Ok(script)
 }
 
-/// What becomes of a script on a zone that has no names yet, over 64 chunks.
+/// The items of a zone that has no names but its own yet.
+pub(crate) fn lone_apex(alloc: Global, origin: &Name) -> Result<Vec<Item>, Fail>
+    ensures { IfOk result (λ items. IsZone origin.now (entries_of_items items.items)) }
+{
+    let line = b"@ 300 SOA ns hostmaster 1 3600 600 86400 60\n";
+    match zone_in(alloc, line, origin) {
+        Ok(zone) => Ok(zone_items(alloc, zone)?),
+        Err(_) => Err(Fail::from("no zone")),
+    }
+}
+
+/// What becomes of a script on a zone that has no names but its own yet, over 64 chunks.
 pub(crate) fn run_script<R: Threads + Wait + Sync>(
     rt: &R,
     alloc: Global,
@@ -78,11 +95,12 @@ pub(crate) fn run_script<R: Threads + Wait + Sync>(
         return Err(Fail::from("a long script"));
     }
     let origin = Name::from_wire(b"\x07example\x00").ok_or("no origin")?;
-    let Ok(job) = read_job(alloc, script, 1, &origin) else {
+    let Ok(job) = job_in(alloc, script, 1, &origin) else {
         return Err(Fail::from("no job"));
     };
+    let items = lone_apex(alloc, &origin)?;
     let blank = table_for(alloc, 64, job.workers.len())?;
-    match run_zone(rt, alloc, blank, &origin, &[], &job, &Open)? {
+    match run_zone(rt, alloc, blank, &origin, &items, &job, &Open)? {
         Ran::Finished(finished) => Ok(finished),
         Ran::DoesNotFit { .. } => Err(Fail::from("no room")),
     }
@@ -158,7 +176,7 @@ fn a_crowd_fills_a_small_table(rt: HostRuntime) -> Result<(), Fail> {
     }
     assert_eq!(rt; finished.outcomes.len(), 16);
     assert_eq!(rt; tally.committed, finished.version);
-    assert_eq!(rt; finished.names, finished.version);
+    assert_eq!(rt; finished.names, finished.version.saturating_add(1));
     assert_eq!(rt; tally.committed.saturating_add(tally.full), 4000);
     assert!(rt; tally.full > 0);
     assert_eq!(rt; tally.fell, 0);

@@ -1,18 +1,18 @@
 //! One list of commands that is handed out to workers.
 ghost use Rattle.std.specs.Prelude.{◌≤◌};
 
-use crate::crowd::{Open, Tally, push_number};
+use crate::crowd::{Open, Tally, lone_apex, push_number};
 use crate::gates::{Crossing, Meeting};
 use crate::workers::report_as;
 use dns_name::Name;
-use job_script::read_list;
 use job_threads::{FedFinished, FedRan, run_list, table_for_list};
+use qp_main::list_in;
 use std::alloc::{AllocError, Global};
 use std::sync::Wait;
 use std::test::Fail;
 use std::thread::Threads;
 
-/// What becomes of a list on a zone that has no names yet, handed out to so many workers over 64 chunks.
+/// What becomes of a list on a zone that has no names but its own yet, handed out to so many workers over 64 chunks.
 fn hand_out<R: Threads + Wait + Sync>(
     rt: &R,
     alloc: Global,
@@ -25,14 +25,15 @@ fn hand_out<R: Threads + Wait + Sync>(
         return Err(Fail::from("a long script"));
     }
     let origin = Name::from_wire(b"\x07example\x00").ok_or("no origin")?;
-    let Ok(commands) = read_list(alloc, script, 1, &origin) else {
+    let Ok(commands) = list_in(alloc, script, 1, &origin) else {
         return Err(Fail::from("no list"));
     };
     if commands.is_empty() {
         return Err(Fail::from("no commands"));
     }
+    let items = lone_apex(alloc, &origin)?;
     let blank = table_for_list(alloc, 64, workers)?;
-    match run_list(rt, alloc, blank, &origin, &[], &commands, workers, &Open)? {
+    match run_list(rt, alloc, blank, &origin, &items, &commands, workers, &Open)? {
         FedRan::Finished(finished) => Ok(finished),
         FedRan::DoesNotFit { .. } => Err(Fail::from("no room")),
     }
@@ -169,7 +170,7 @@ fn a_list_fills_a_small_table(rt: HostRuntime) -> Result<(), Fail> {
     }
     assert_eq!(rt; finished.outcomes.len(), 10_000);
     assert_eq!(rt; tally.committed, finished.version);
-    assert_eq!(rt; finished.names, finished.version);
+    assert_eq!(rt; finished.names, finished.version.saturating_add(1));
     assert_eq!(rt; tally.committed.saturating_add(tally.full), 10_000);
     assert!(rt; tally.full > 0);
     assert_eq!(rt; tally.fell, 0);

@@ -13,6 +13,7 @@ use Rattle.job_model.specs.declared.Ending.TheVariants as ending
 use Rattle.job_model.specs.Outcomes.{Rule, Full, Spent, Ended, Committed, RolledBack, Refused, last_version}
 use Rattle.job_script.specs.Outcomes.{ended_view}
 use Rattle.job_script.specs.declared.outcomes.Outcome.{Outcome}
+use Rattle.report_laws.specs.Changes.{AllSaid}
 use Rattle.shared_cells.specs.declared.pass.PassSeat.{PassSeat}
 use Rattle.shared_cells.specs.Views.{is_told, pass_of}
 use Rattle.trie_model.specs.Keys.{Entry}
@@ -31,9 +32,9 @@ use Rattle.zone_edit.specs.Blocks.{Executes}
 use Rattle.zone_edit.specs.declared.applying.Halt.{Halt}
 use Rattle.zone_edit.specs.declared.applying.Halt.TheVariants as halts
 use Rattle.zone_edit.proofs.EditLaws.{Both, both, edits_some, some_weaker}
-use Rattle.job_threads.specs.Histories.{Setup, IsZone, StandsAs}
-use Rattle.job_threads.specs.Commands.{Transacts, Accepts, BlockRan, BlockWants, StoppedBy}
-use Rattle.job_threads.proofs.TransactLaws.{Lawful, begun_some, commits_block, commits_grow, commits_version, back_grows, back_pass, back_version, memory_wants, full_wants, rolled_back, rule_broken, spent_block, full_block}
+use Rattle.job_threads.specs.Histories.{IsLawful, Setup, StandsAs}
+use Rattle.job_threads.specs.Commands.{Transacts, Accepts, BlockRan, BlockWants, OpensAt, StoppedBy}
+use Rattle.job_threads.proofs.TransactLaws.{begun_some, lawful_block, commits_block, commits_grow, commits_version, back_grows, back_pass, back_version, memory_wants, full_wants, rolled_back, rule_broken, spent_block, full_block}
 
 abbrev Seat : Type 0
 Seat = PassSeat (List Entry) (List Operation)
@@ -41,14 +42,14 @@ Seat = PassSeat (List Entry) (List Operation)
 there_is : (P : Draft → Type 0) (o : Option Draft) (d : Draft) → o ≡ Some d → IfSome o P → P d
 there_is P o d is h = subst (λ (x : Option Draft). IfSome x P) is h
 
-module _ (s : Setup) (asked : Transaction) (ends : Ending) (old : Known) (o : Outcome) (first second : Option Draft) (told : is_told old.seen.opening ≡ true) (opening : first_version old.seen ≡ s.opening) (begins : IsSomeAnd first (Begins Lawful old)) where
+module _ (s : Setup) (asked : Transaction) (ends : Ending) (old : Known) (o : Outcome) (first second : Option Draft) (told : is_told old.seen.opening ≡ true) (opening : first_version old.seen ≡ s.opening) (begins : IsSomeAnd first (Begins IsLawful old)) where
   abbrev Edited : Result (Unit {0}) Halt → Type 0
   Edited r = Edits (Executes s.origin asked r) first second
 
   pub commit_ran : (new : Known) (version : ℕ) → Edited (Ok tt) → ends ≡ ending.Commit → IfSome second (λ d. drafts.Commits d.seat.place.me.0 d.log.operations new) → IfSome second (λ d. version ≡ d.seat.version + 1)
       → o.version ≡ version → ended_view o.told ≡ Committed → BlockRan s asked ends old new o
   commit_ran new version edits is commits next here said =
-      let x = both (Begins Lawful old) (EditsOne (Executes s.origin asked (Ok tt))) first second begins edits in
+      let x = both (Begins IsLawful old) (EditsOne (Executes s.origin asked (Ok tt))) first second begins edits in
       let c = there_is (λ d. drafts.Commits d.seat.place.me.0 d.log.operations new) second x.after x.new_is commits in
       let v = there_is (λ d. version ≡ d.seat.version + 1) second x.after x.new_is next in
       record {
@@ -60,10 +61,10 @@ module _ (s : Setup) (asked : Transaction) (ends : Ending) (old : Known) (o : Ou
   -- the pass is back, and the block was on the base
   module _ (seat : Option Seat) (version : ℕ) (back : IfSome second (λ d. IsBack d.seat.place.me.0 seat)) (base : IfSome first (λ d. version ≡ length d.seat.place.me.0.seen.history)) (here : o.version ≡ version) where
     abbrev Two : Result (Unit {0}) Halt → Type 0
-    Two r = Both (Begins Lawful old) (EditsOne (Executes s.origin asked r)) first second
+    Two r = Both (Begins IsLawful old) (EditsOne (Executes s.origin asked r)) first second
 
     two : (r : Result (Unit {0}) Halt) → Edited r → Two r
-    two r edits = both (Begins Lawful old) (EditsOne (Executes s.origin asked r)) first second begins edits
+    two r edits = both (Begins IsLawful old) (EditsOne (Executes s.origin asked r)) first second begins edits
 
     known_back : (r : Result (Unit {0}) Halt) (x : Two r) → known_at seat ≡ pass_of x.after.seat.place.me.0
     known_back r x = (there_is (λ d. IsBack d.seat.place.me.0 seat) second x.after x.new_is back).1
@@ -106,7 +107,7 @@ module _ (s : Setup) (asked : Transaction) (ends : Ending) (old : Known) (o : Ou
       → IfOk r (λ t. (o.version ≡ t.version) × (ended_view o.told ≡ Committed)) → IfErr r (λ t. (o.version ≡ t.version) × (ended_view o.told ≡ Refused Spent)) → BlockRan s asked ends old (known_at seat) o
   committed_ran seat (Ok t) edits is commits next back spent last made lost = commit_ran (known_at seat) t.version edits is commits next made.0 made.1
   committed_ran seat (Err t) edits is commits next back spent last made lost =
-      let x = both (Begins Lawful old) (EditsOne (Executes s.origin asked (Ok tt))) first second begins edits in
+      let x = both (Begins IsLawful old) (EditsOne (Executes s.origin asked (Ok tt))) first second begins edits in
       let number : t.version ≡ x.after.seat.version = there_is (λ d. t.version ≡ d.seat.version) second x.after x.new_is last in
       let history : length x.after.seat.place.me.0.seen.history ≡ length x.before.seat.place.me.0.seen.history = ap length x.related.known.history in
       let base : t.version ≡ length x.before.seat.place.me.0.seen.history = number ∙ x.after.seat.version_is ∙ history in
@@ -115,7 +116,7 @@ module _ (s : Setup) (asked : Transaction) (ends : Ending) (old : Known) (o : Ou
       (subst (λ (d : Option Draft). IfSome d (λ d. d.seat.version ≡ last_version)) (sym x.new_is) (none.0 refl)) lost.1
 
 -- its asked stopped
-pub stopped_ran : (s : Setup) (asked : Transaction) (ends : Ending) (old : Known) (first second : Option Draft) → is_told old.seen.opening ≡ true → first_version old.seen ≡ s.opening → IsSomeAnd first (Begins Lawful old)
+pub stopped_ran : (s : Setup) (asked : Transaction) (ends : Ending) (old : Known) (first second : Option Draft) → is_told old.seen.opening ≡ true → first_version old.seen ≡ s.opening → IsSomeAnd first (Begins IsLawful old)
     → (seat : Option Seat) (version : ℕ) (halt : Halt) (kept : Versions) (r : Result Outcome AllocError) → IfSome second (λ d. versions_in kept ≡ kept_versions d.usage) → IfSome second (λ d. IsBack d.seat.place.me.0 seat) → IfSome first (λ d. version ≡ length d.seat.place.me.0.seen.history) → Edits (Executes s.origin asked (Err halt)) first second
     → IfSome second (λ d. s.chunks ≡ length d.usage.given) → IfSome first (λ d. s.passes ≡ d.seat.passes) → StoppedBy halt kept version r → IfOk r (BlockRan s asked ends old (known_at seat))
 stopped_ran s asked ends old first second told opening begins seat version halts.Memory kept (Ok o) same back base edits chunks passes stopped = absurd cc
@@ -128,9 +129,9 @@ stopped_ran s asked ends old first second told opening begins seat version (halt
 stopped_ran s asked ends old first second told opening begins seat version (halts.Full operation) kept (Err e) same back base edits chunks passes stopped = tt
 
 -- it stopped, and memory was wanting
-module _ (s : Setup) (asked : Transaction) (old : Known) (first second : Option Draft) (told : is_told old.seen.opening ≡ true) (opening : first_version old.seen ≡ s.opening) (begins : IsSomeAnd first (Begins Lawful old)) (seat : Option Seat) (back : IfSome second (λ d. IsBack d.seat.place.me.0 seat)) where
+module _ (s : Setup) (asked : Transaction) (old : Known) (first second : Option Draft) (told : is_told old.seen.opening ≡ true) (opening : first_version old.seen ≡ s.opening) (begins : IsSomeAnd first (Begins IsLawful old)) (seat : Option Seat) (back : IfSome second (λ d. IsBack d.seat.place.me.0 seat)) where
   abbrev Drafts : Halt → Type 0
-  Drafts halt = Both (Begins Lawful old) (EditsOne (Executes s.origin asked (Err halt))) first second
+  Drafts halt = Both (Begins IsLawful old) (EditsOne (Executes s.origin asked (Err halt))) first second
 
   back_from : (halt : Halt) (x : Drafts halt) → known_at seat ≡ pass_of x.after.seat.place.me.0
   back_from halt x = (there_is (λ d. IsBack d.seat.place.me.0 seat) second x.after x.new_is back).1
@@ -145,11 +146,11 @@ module _ (s : Setup) (asked : Transaction) (old : Known) (first second : Option 
   pub stopped_wants : (version : ℕ) (halt : Halt) (kept : Versions) (r : Result Outcome AllocError) → Edits (Executes s.origin asked (Err halt)) first second → StoppedBy halt kept version r → OnErr r (BlockWants s asked old (known_at seat))
   stopped_wants version halt kept (Ok o) edits stopped = tt
   stopped_wants version halts.Memory kept (Err e) edits stopped =
-      let x = both (Begins Lawful old) (EditsOne (Executes s.origin asked (Err halts.Memory))) first second begins edits in
+      let x = both (Begins IsLawful old) (EditsOne (Executes s.origin asked (Err halts.Memory))) first second begins edits in
       wants halts.Memory x (memory_wants s asked old x.before x.after x.met told opening x.related.known (known_at seat) (back_from halts.Memory x) x.related.becomes)
   stopped_wants version (halts.Refused refusal) kept (Err e) edits stopped = absurd stopped
   stopped_wants version (halts.Full operation) kept (Err e) edits stopped =
-      let x = both (Begins Lawful old) (EditsOne (Executes s.origin asked (Err (halts.Full operation)))) first second begins edits in
+      let x = both (Begins IsLawful old) (EditsOne (Executes s.origin asked (Err (halts.Full operation)))) first second begins edits in
       wants (halts.Full operation) x (full_wants s asked old x.before x.after x.met told opening x.related.known (known_at seat) (back_from (halts.Full operation) x) operation x.related.becomes)
 
 -- the same of a pass that is known by another name
@@ -179,16 +180,16 @@ back_there told None None seat edits back = absurd edits
 
 -- ---- what calls ask of a transaction
 
-module _ (old : Known) (first : Option Draft) (begins : IsSomeAnd first (Begins Lawful old)) where
+module _ (old : Known) (first : Option Draft) (begins : IsSomeAnd first (Begins IsLawful old)) where
   pub begun_there : IsSome first
   begun_there = by_draft first begins
     where
-      by_draft : (o : Option Draft) → IsSomeAnd o (Begins Lawful old) → IsSome o
+      by_draft : (o : Option Draft) → IsSomeAnd o (Begins IsLawful old) → IsSome o
       by_draft (Some d) b = refl
       by_draft None b = absurd b
 
   pub begun_works : IsSomeAnd first WorksOnSome
-  begun_works = some_weaker (Begins Lawful old) WorksOnSome first (begun_some old) begins
+  begun_works = some_weaker (Begins IsLawful old) WorksOnSome first (begun_some old) begins
 
   module _ (origin : Name) (asked : Transaction) (second : Option Draft) (edits : Edits (Executes origin asked (Ok tt)) first second) where
     works_still : IsSomeAnd second WorksOnSome
@@ -197,8 +198,10 @@ module _ (old : Known) (first : Option Draft) (begins : IsSomeAnd first (Begins 
     pub after_works : IsSomeAnd second Works
     after_works = some_weaker WorksOnSome Works second (λ d w. w.on.works) works_still
 
-    pub after_zone : IsSomeAnd second (λ d. IsZone (working_set d))
-    after_zone = some_weaker WorksOnSome (λ d. IsZone (working_set d)) second (λ d w. record { version = w.version; stands = record { valid = w.on.valid; entries = sym w.on.set } }) works_still
+    pub after_lawful : is_told old.seen.opening ≡ true → OpensAt origin old → AllSaid origin asked → IsSomeAnd second (λ d. IsLawful (first_version d.seat.place.me.0.seen) (working_set d))
+    after_lawful told opens said =
+        let x = both (Begins IsLawful old) (EditsOne (Executes origin asked (Ok tt))) first second begins edits in
+        subst (λ (o : Option Draft). IsSomeAnd o (λ d. IsLawful (first_version d.seat.place.me.0.seen) (working_set d))) (sym x.new_is) (lawful_block origin asked old x.before x.after x.met told opens said x.related.known x.related.becomes)
 
 -- what was edited, in the words of a setup
 pub edits_as : (origin origin' : Name) (asked asked' : Transaction) (r : Result (Unit {0}) Halt) (first second : Option Draft) → origin' ≡ origin → asked ≡ asked' → Edits (Executes origin asked r) first second → Edits (Executes origin' asked' r) first second

@@ -19,10 +19,9 @@ use Rattle.shared_index.specs.Keepings.{GoesOn}
 use Rattle.shared_index.specs.Passes.{Known, known_at, first_version}
 use Rattle.zone_edit.specs.Blocks.{Executes}
 use Rattle.zone_edit.specs.Stores.{Edits}
-use Rattle.job_threads.specs.Histories.{Setup}
+use Rattle.job_threads.specs.Histories.{IsLawful, Setup}
 use Rattle.job_threads.specs.Commands.{BlockRan}
 use Rattle.job_threads.proofs.BlockLaws.{commit_ran, spent_ran}
-use Rattle.job_threads.proofs.TransactLaws.{Lawful}
 
 stays_so : (v : Known) → GoesOn v v
 stays_so v = record { pass = refl; opening = refl; history = refl; namings = ([], sym (append-nil v.seen.namings)) }
@@ -32,7 +31,7 @@ edits_none : (s : Setup) (d : Draft) → Edits (Executes s.origin no_changes (Ok
 edits_none s d = record { known = stays_so d.seat.place.me.0; passes = refl; becomes = λ version on. (version, refl, on) }
 
 pub compaction_ran : (s : Setup) (old : Known) (o : Outcome) → is_told old.seen.opening ≡ true → first_version old.seen ≡ s.opening → (seat : Option (PassSeat (List Entry) (List Operation))) → IsSome seat → (table : TableId) (passes : ℕ) (r : Result Receipt NoNumber)
-    → IfOk r (Compacts Lawful table passes old (known_at seat)) → IfOk r (λ t. t.version ≢ last_version + 1) → IfErr r (IsLast Lawful old (known_at seat)) → IfErr r (λ t. t.version ≡ last_version)
+    → IfOk r (Compacts IsLawful table passes old (known_at seat)) → IfOk r (λ t. t.version ≢ last_version + 1) → IfErr r (IsLast IsLawful old (known_at seat)) → IfErr r (λ t. t.version ≡ last_version)
     → IfOk r (λ t. (o.version ≡ t.version) × (ended_view o.told ≡ Committed)) → IfErr r (λ t. (o.version ≡ t.version) × (ended_view o.told ≡ Refused Spent)) → BlockRan s no_changes ending.Commit old (known_at seat) o
 compaction_ran s old o told opening seat some table passes (Ok t) c next back last made lost =
     commit_ran s no_changes ending.Commit old o (Some c.draft) (Some c.draft) told opening c.begins (known_at seat) t.version (edits_none s c.draft) refl c.commits c.version made.0 made.1

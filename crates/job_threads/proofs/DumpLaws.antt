@@ -11,18 +11,17 @@ use Rattle.shared_index.specs.declared.meaning.Operation.{Operation}
 use Rattle.shared_index.specs.Operations.{applied}
 use Rattle.shared_index.specs.Passes.{Known, Pinned, commits_in, first_version, version_seen}
 use Rattle.shared_index.specs.Closings.{AllSeen, AreAll, Ends, IsCommitOf}
-use Rattle.job_threads.specs.Histories.{Commit, Entries}
+use Rattle.job_threads.specs.Histories.{Commit, Entries, IsLawful}
 use Rattle.job_threads.specs.Works.{IsNew, AreNew}
 use Rattle.job_threads.specs.Dumps.{Visited}
 use Rattle.job_threads.proofs.HistoryLaws.{opened_same}
 use Rattle.job_threads.proofs.EndLaws.{number_with}
-use Rattle.job_threads.proofs.TransactLaws.{Lawful}
 
 abbrev Own : Type 0
 Own = PassView (List Operation)
 
 -- a pass asked, and is idle again
-pub visited : (old pinned new : Known) (number : ℕ) → Pinned Lawful old pinned number → new ≡ with_progress pinned progress.Idle → Visited old new
+pub visited : (old pinned new : Known) (number : ℕ) → Pinned IsLawful old pinned number → new ≡ with_progress pinned progress.Idle → Visited old new
 visited old pinned new number p left = record {
   grows = subst (λ x. IsPartOf x old.seen) (sym (ap (λ (v : Known). v.seen) left)) p.grows;
   version = number;

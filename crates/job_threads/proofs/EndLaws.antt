@@ -17,14 +17,13 @@ use Rattle.shared_index.specs.declared.meaning.Operation.{Operation}
 use Rattle.shared_index.specs.Operations.{applied}
 use Rattle.shared_index.specs.Passes.{Known, Pinned, first_version, version_seen}
 use Rattle.shared_index.specs.Closings.{AllSeen, AreAll, Ends}
-use Rattle.job_threads.specs.Histories.{Setup, Entries, StandsAs}
+use Rattle.job_threads.specs.Histories.{Setup, Entries, IsLawful, StandsAs}
 use Rattle.job_threads.specs.Closings.{Worker, workers_views, views_of, numbers_in, commands_in, MainSees, Gathers}
 use Rattle.job_threads.specs.Runs.{IsRun}
 use Rattle.job_threads.proofs.HistoryLaws.{begins_more, opened_same}
 use Rattle.job_threads.proofs.WorkLaws.{all_weaker}
 use Rattle.job_threads.proofs.JobLaws.{here, there, ends_there, is_run}
 use Rattle.job_threads.proofs.CloseLaws.{in_map, closed}
-use Rattle.job_threads.proofs.TransactLaws.{Lawful}
 
 abbrev Own : Type 0
 Own = PassView (List Operation)
@@ -42,7 +41,7 @@ pub number_with : (p : Option Own) (n : ℕ) → number_of (with_pinned p n) ≡
 number_with None n = refl
 number_with (Some own) n = refl
 
-module _ (s : Setup) (before : List Known) (ws : List (List Command)) (os : List Outcomes) (views : List Known) (main pinned after : Known) (number : ℕ) (g : Gathers s before ws os views main) (told : is_told main.seen.opening ≡ true) (p : Pinned Lawful main pinned number) (left : after ≡ with_progress pinned progress.Idle) where
+module _ (s : Setup) (before : List Known) (ws : List (List Command)) (os : List Outcomes) (views : List Known) (main pinned after : Known) (number : ℕ) (g : Gathers s before ws os views main) (told : is_told main.seen.opening ≡ true) (p : Pinned IsLawful main pinned number) (left : after ≡ with_progress pinned progress.Idle) where
   seen_is : after.seen ≡ pinned.seen
   seen_is = ap (λ (v : Known). v.seen) left
 
@@ -97,7 +96,7 @@ all_handed whole rest main P is all one = subst (All P) (sym is) (All-push P res
 
 -- The same, by the lists of passes: what is left of them and main's are handed in.
 pub job_ended : {A : Type 0} (rest whole : List A) (main : A) (known : A → Known) → whole ≡ rest ++ main ∷ [] → (s : Setup) (before : List Known) (ws : List (List Command)) (os : List Outcomes) (old pinned : Known) (number : ℕ) → Gathers s before ws os (map known rest) old
-    → is_told old.seen.opening ≡ true → Pinned Lawful old pinned number → (after : Known) → known main ≡ after → after ≡ with_progress pinned progress.Idle → (count : ℕ) → length before ≡ count → AreAll count before → (zone : Version) → StandsAs s.opening zone
+    → is_told old.seen.opening ≡ true → Pinned IsLawful old pinned number → (after : Known) → known main ≡ after → after ≡ with_progress pinned progress.Idle → (count : ℕ) → length before ≡ count → AreAll count before → (zone : Version) → StandsAs s.opening zone
     → (version names many : ℕ) (last : AllSeen) → Ends count (map known whole) version last → names ≡ length (version_seen pinned.seen) → many ≡ nodes (keys_of (version_seen pinned.seen)) → IsRun s.chunks s.passes s.origin zone ws os version names many
 job_ended rest whole main known is_whole s before ws os old pinned number g told p after same left count counted all zone opens version names many last ends names_are many_are =
     let views : map known whole ≡ map known rest ++ known main ∷ [] = ap (map known) is_whole ∙ map-append known rest (main ∷ []) in

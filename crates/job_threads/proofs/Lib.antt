@@ -1,4 +1,5 @@
 pub mod HistoryLaws
+pub mod ZoneLaws
 pub mod ShowLaws
 pub mod StepLaws
 pub mod StationLaws

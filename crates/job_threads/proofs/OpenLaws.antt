@@ -15,11 +15,13 @@ use Rattle.zone_query.specs.Standing.{IsStorable}
 use Rattle.job_model.specs.Sizes.{trie_entries}
 use Rattle.shared_index.specs.Passes.{commits_in, pinned_in, known_at}
 use Rattle.shared_index.specs.Openings.{SeesFirst}
-use Rattle.job_threads.specs.Histories.{Entries, IsZone}
+use Rattle.job_threads.specs.Histories.{BeginsAt, Entries, IsZone}
+use Rattle.job_threads.specs.Commands.{OpensAt}
 use Rattle.job_threads.specs.Stations.{Seat}
 use Rattle.job_threads.specs.Works.{IsNew, AreNew}
 use Rattle.job_threads.proofs.ShowLaws.{seat_pass}
 use Rattle.job_threads.proofs.CloseLaws.{all_rec}
+use Rattle.job_threads.proofs.ZoneLaws.{zone_begins}
 
 -- ---- they rise
 
@@ -35,8 +37,8 @@ unfolding IsStrictlySortedBy
 entries_rise [] sorted names = tt
 entries_rise (pair ∷ pairs) sorted names = (below_all pair.0 names.0.name pairs sorted.0 names.1, entries_rise pairs sorted.1 names.1)
 
-pub zone_rises : (es : Entries) → IsZone es → Rises es
-zone_rises es z = subst Rises z.stands.entries (entries_rise z.version z.stands.valid.rising z.stands.valid.items)
+pub zone_rises : (origin : Name) (es : Entries) → IsZone origin es → Rises es
+zone_rises origin es z = subst Rises z.stands.entries (entries_rise z.version z.stands.valid.rising z.stands.valid.items)
 
 -- ---- its passes have asked and committed nothing
 
@@ -70,3 +72,7 @@ module _ {A : Type 0} (ps : List A) (seat_of : A → Option Seat) (es : Entries)
   pub new_passes : (at_place : A → Type 0) → All (λ p. IsSome (seat_of p) × at_place p × SeesFirst es (known_at (seat_of p))) ps → All IsUnused ps → AreNew es (map (λ p. known_at (seat_of p)) ps)
   new_passes at_place first unused =
       new_each ps (all_rec IsFirst ps (λ k d l. let f = first k d l in (f.0, f.2))) (all_rec IsUnused ps unused)
+
+  -- and all of them know of the zone's opening
+  pub all_open : (origin : Name) (at_place : A → Type 0) → IsZone origin es → All (λ p. IsSome (seat_of p) × at_place p × SeesFirst es (known_at (seat_of p))) ps → All (λ p. OpensAt origin (known_at (seat_of p))) ps
+  all_open origin at_place z first = λ k d l. (let f = first k d l in subst (BeginsAt origin) (sym f.2.opening) (zone_begins origin es z))

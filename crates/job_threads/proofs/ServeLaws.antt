@@ -29,9 +29,13 @@ all_at P [] i d all lt = absurd (omega arith)
 all_at P (x ∷ xs) zero d all lt = all.0
 all_at P (x ∷ xs) (suc i) d all lt = all_at P xs i d all.1 (omega arith)
 
+-- what is so of all commands
+pub so_here : (P : Command → Type 0) (commands : List Said) (number : ℕ) (here : Said) → AllByRecursion P (map command_view commands) → number - 1 < length commands → here ≡ get_or commands (number - 1) here → P (command_view here)
+so_here P commands number here all lt is =
+    subst P (command_here commands number here lt is) (all_at P (map command_view commands) (number - 1) Compact all (omega (arith, lt, length-map commands command_view)))
+
 pub plain_here : (commands : List Said) (number : ℕ) (here : Said) → AllByRecursion NeedsNoSnapshot (map command_view commands) → number - 1 < length commands → here ≡ get_or commands (number - 1) here → NeedsNoSnapshot (command_view here)
-plain_here commands number here all lt is =
-    subst NeedsNoSnapshot (command_here commands number here lt is) (all_at NeedsNoSnapshot (map command_view commands) (number - 1) Compact all (omega (arith, lt, length-map commands command_view)))
+plain_here commands number here all lt is = so_here NeedsNoSnapshot commands number here all lt is
 
 may_come : (c : Command) → NeedsNoSnapshot c → MayCome false c
 may_come (Ask question) plain = tt

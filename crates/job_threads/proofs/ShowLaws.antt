@@ -17,22 +17,19 @@ use Rattle.shared_cells.specs.Views.{number_of, is_told, with_pinned, with_progr
 use Rattle.shared_cells.specs.History.{IsPartOf}
 use Rattle.shared_index.specs.declared.meaning.Operation.{Operation}
 use Rattle.shared_index.specs.Meanings.{Holds}
-use Rattle.shared_index.specs.Passes.{Known, known_at, version_seen, Pinned, Learnt}
+use Rattle.shared_index.specs.Passes.{Known, first_version, known_at, version_seen, Pinned, Learnt}
 use Rattle.job_model.specs.Outcomes.{Shown}
-use Rattle.job_threads.specs.Histories.{Entries, Sighting, IsZone, StandsAs}
+use Rattle.job_threads.specs.Histories.{Entries, Sighting, IsLawful, StandsAs}
 use Rattle.job_threads.proofs.HistoryLaws.{part_more}
 use Rattle.job_threads.specs.Commands.{Asked, IsHeld, Held}
 use Rattle.job_threads.specs.Stations.{Seat, Pinned as PinnedSeat', holder_view, IsPlaced}
-
-abbrev Lawful : Entries → Entries → Type 0
-Lawful first es = IsZone es
 
 -- a reading that holds what a version stands as shows that version
 pub shown : (image : List CellAt) (root : Option ℕ) (es : Entries) (zone : Version) → Holds image root es → StandsAs es zone → Shows (Holds image root) zone
 shown image root es zone holds stands = record { version_is = stands.valid; held = subst (Holds image root) (sym stands.entries) holds }
 
-pub shown_some : (image : List CellAt) (root : Option ℕ) (es : Entries) → Holds image root es → IsZone es → ShowsSome (Holds image root)
-shown_some image root es holds z = (z.version, shown image root es z.version holds z.stands)
+pub shown_some : (image : List CellAt) (root : Option ℕ) (first es : Entries) → Holds image root es → IsLawful first es → ShowsSome (Holds image root)
+shown_some image root first es holds l = (l.zone.version, shown image root es l.zone.version holds l.zone.stands)
 
 -- a question was asked by a pass that is idle again
 pub asked_of : (lawful : Entries → Entries → Type 0) (origin : Name) (question : Question) (old pinned new : Known) (number : ℕ) (o : Outcome) → Pinned lawful old pinned number → new ≡ with_progress pinned progress.Idle → o.version ≡ number → ended_view o.told ≡ Shown
@@ -100,8 +97,8 @@ held_of lawful old noted second taught new seat first then number o told_old tol
 -- ---- snapshots
 
 -- a pass has taken one
-pub held_first : (old : Known) (seat : PinnedSeat') → Pinned Lawful old seat.place.me.0 seat.version → Holds (pinned_image seat.place.me.0.progress) seat.root (version_seen seat.place.me.0.seen) → IsHeld seat
-held_first old seat p holds = record { version = p.version; holds = holds; zone = p.good }
+pub held_first : (old : Known) (seat : PinnedSeat') → Pinned IsLawful old seat.place.me.0 seat.version → Holds (pinned_image seat.place.me.0.progress) seat.root (version_seen seat.place.me.0.seen) → IsHeld seat
+held_first old seat p holds = record { version = p.version; holds = holds; lawful = p.good }
 
 -- it is the same for as long as its place knows the same
 pub held_same : (old new : PinnedSeat') → new.place.me.0 ≡ old.place.me.0 → IsHeld old → IsHeld new
@@ -112,9 +109,9 @@ held_same old new same h =
       version = version ∙ h.version ∙ sym (ap (λ (v : Known). length v.seen.history) same);
       holds = subst (λ (r : Option ℕ). Holds (pinned_image new.place.me.0.progress) r (version_seen new.place.me.0.seen)) (sym root)
           (subst (λ (v : Known). Holds (pinned_image v.progress) old.root (version_seen v.seen)) (sym same) h.holds);
-      zone = subst (λ (v : Known). IsZone (version_seen v.seen)) (sym same) h.zone;
+      lawful = subst (λ (v : Known). IsLawful (first_version v.seen) (version_seen v.seen)) (sym same) h.lawful;
     }
 
 -- it shows each version that stands as what its pass has seen
 pub held_shows : (seat : PinnedSeat') → IsHeld seat → ShowsSome (Holds (pinned_image seat.place.me.0.progress) seat.root)
-held_shows seat h = shown_some (pinned_image seat.place.me.0.progress) seat.root (version_seen seat.place.me.0.seen) h.holds h.zone
+held_shows seat h = shown_some (pinned_image seat.place.me.0.progress) seat.root (first_version seat.place.me.0.seen) (version_seen seat.place.me.0.seen) h.holds h.lawful

@@ -12,11 +12,12 @@ use Rattle.job_script.specs.Views.{command_view}
 use Rattle.job_script.specs.declared.commands.Command.{Command as Said}
 use Rattle.job_script.specs.declared.outcomes.Told.TheVariants.{Compacted}
 use Rattle.job_script.specs.declared.outcomes.Outcome.{Outcome}
-use Rattle.shared_index.specs.Passes.{known_at, first_version}
+use Rattle.shared_index.specs.Passes.{Known, known_at, first_version}
 use Rattle.job_threads.specs.Histories.{Setup}
 use Rattle.job_threads.specs.Commands.{Asked, IsHeld, Held, AskedHeld, Released, BlockRan}
 use Rattle.job_threads.specs.Steps.{Station, IsUnder, Moved, Step}
 use Rattle.job_threads.specs.Stations.{Seat, Pinned, holder_view, station, IsPlaced}
+use Rattle.job_threads.proofs.HistoryLaws.{begins_same}
 use Rattle.job_threads.proofs.ShowLaws.{seat_told, holder_told, seat_pass}
 use Rattle.job_threads.proofs.StepLaws.{ask_step, block_step, compact_step, hold_step, held_step, release_step}
 
@@ -80,6 +81,10 @@ module _ (s : Setup) (o : Outcome) (asks : Option Seat) (some : IsSome asks) (op
         let same : snapshot ≡ there = cc in
         subst (λ (x : Option A). Step s Release o (station asks None (Some (seat there))) (station asks (Some second) (option_map seat x))) (sym none)
         (release_done (seat there) placed under second (subst (λ (x : A). Released (seat x) (known_at second) o) same r))
+
+-- a pass has seen what it has seen
+pub under_itself : (v : Known) → IsUnder v v
+under_itself v = record { opening = refl; history = begins_same v.seen.history }
 
 -- ---- where the second pass is
 

@@ -8,6 +8,7 @@ use Rattle.std.specs.declared.cmp.Ordering.TheVariants.{Less}
 use Rattle.std.proofs.lemmas.Bool.Decides.{nat_tests}
 use Rattle.std.proofs.lemmas.List.Sums.{fold-append, sum_by-cons}
 use Rattle.std.proofs.lemmas.List.Elements.{Contains-append_left}
+use Rattle.zone_model.specs.Names.{Name}
 use Rattle.zone_model.specs.Versions.{Version, apply, all_applied, Operation as Said}
 use Rattle.zone_model.specs.Transactions.{Transaction, all_met, whole}
 use Rattle.zone_model.specs.declared.Refusal.{Refusal}
@@ -16,6 +17,8 @@ use Rattle.job_model.specs.declared.Ending.{Ending}
 use Rattle.job_model.specs.declared.Ending.TheVariants as ending
 use Rattle.job_model.specs.Sizes.{cell_count, trie_entries}
 use Rattle.job_model.specs.Outcomes.{Cause, Rule, Full, Spent, Causes, FullCause, cells_kept, last_version}
+use Rattle.report_laws.specs.Changes.{AllSaid}
+use Rattle.report_laws.proofs.ChangeLemmas.{whole_dumped}
 use Rattle.shared_cells.specs.declared.view.PassView.{PassView}
 use Rattle.shared_cells.specs.History.{StartsWith, IsPartOf, OpeningFits, entry_of, version_after}
 use Rattle.shared_cells.specs.Views.{is_told, pass_of}
@@ -35,16 +38,14 @@ use Rattle.zone_edit.specs.Blocks.{Executes, IsFullAt}
 use Rattle.zone_edit.proofs.ApplyLaws.{next_applied}
 use Rattle.chunk_usage.specs.Keeping.{kept_versions}
 use Rattle.zone_edit.specs.declared.applying.Halt.TheVariants as halts
-use Rattle.job_threads.specs.Histories.{Setup, Commit, Entries, IsZone, StandsAs, AreVersions, CoversNamings, index_at, judged_by}
-use Rattle.job_threads.specs.Commands.{Accepts, Commits}
+use Rattle.job_threads.specs.Histories.{Setup, BeginsAt, Commit, Entries, IsLawful, StandsAs, AreVersions, CoversNamings, index_at, judged_by}
+use Rattle.job_threads.specs.Commands.{Accepts, Commits, OpensAt}
 use Rattle.job_threads.proofs.HistoryLaws.{begins_same, begins_more, last_stands, opened_same, part_more}
 use Rattle.job_threads.proofs.JobLaws.{here, there}
+use Rattle.job_threads.proofs.ZoneLaws.{lawful_zone, opens_still}
 
 abbrev Own : Type 0
 Own = PassView (List Operation)
-
-abbrev pub Lawful : Entries → Entries → Type 0
-Lawful first es = IsZone es
 
 -- ---- numbers that rise
 
@@ -91,15 +92,28 @@ begun_on lawful old d version b stands = record {
   valid = stands.valid;
 }
 
-pub begun_some : (old : Known) (d : Draft) → Begins Lawful old d → WorksOnSome d
-begun_some old d b = let z = b.joined.good in record { version = z.version; on = begun_on Lawful old d z.version b z.stands }
+pub begun_some : (old : Known) (d : Draft) → Begins IsLawful old d → WorksOnSome d
+begun_some old d b = let z = b.joined.good.zone in record { version = z.version; on = begun_on IsLawful old d z.version b z.stands }
 
-module _ (s : Setup) (asked : Transaction) (old : Known) (d e : Draft) (b : Begins Lawful old d) (told : is_told old.seen.opening ≡ true) (opening : first_version old.seen ≡ s.opening) (known : GoesOn d.seat.place.me.0 e.seat.place.me.0) where
+-- what an accepted block makes of a version of the zone is one too
+pub lawful_block : (origin : Name) (asked : Transaction) (old : Known) (d e : Draft) → Begins IsLawful old d → is_told old.seen.opening ≡ true → OpensAt origin old → AllSaid origin asked → GoesOn d.seat.place.me.0 e.seat.place.me.0
+    → ((version : Version) → WorksOn d version → Executes origin asked (Ok tt) version e) → IsLawful (first_version e.seat.place.me.0.seen) (working_set e)
+lawful_block origin asked old d e b told opens said known becomes =
+    let base : OpensAt origin d.seat.place.me.0 = opens_still origin old d.seat.place.me.0 told b.joined.grows opens in
+    let z = lawful_zone origin (first_version d.seat.place.me.0.seen) (version_seen d.seat.place.me.0.seen) base b.joined.good in
+    let made = becomes z.version (begun_on IsLawful old d z.version b z.stands) in
+    record {
+      origin = origin;
+      begins = subst (λ (o : Option Entries). BeginsAt origin (unwrap_or o [])) (sym known.opening) base;
+      zone = record { version = made.0; stands = record { valid = made.2.valid; entries = sym made.2.set }; zone = whole_dumped origin asked z.version made.0 made.1 z.zone said };
+    }
+
+module _ (s : Setup) (asked : Transaction) (old : Known) (d e : Draft) (b : Begins IsLawful old d) (told : is_told old.seen.opening ≡ true) (opening : first_version old.seen ≡ s.opening) (known : GoesOn d.seat.place.me.0 e.seat.place.me.0) where
   base_opening : first_version d.seat.place.me.0.seen ≡ s.opening
   base_opening = opened_same d.seat.place.me.0.seen old.seen told b.joined.grows ∙ opening
 
   works_at : (zone : Version) → StandsAs (version_after applied s.opening d.seat.place.me.0.seen.history) zone → WorksOn d zone
-  works_at zone stands = begun_on Lawful old d zone b (subst (λ (o : Entries). StandsAs (version_after applied o d.seat.place.me.0.seen.history) zone) (sym base_opening) stands)
+  works_at zone stands = begun_on IsLawful old d zone b (subst (λ (o : Entries). StandsAs (version_after applied o d.seat.place.me.0.seen.history) zone) (sym base_opening) stands)
 
   -- the pass has seen this much when the transaction is over
   grown : (new : Known) (more : List Commit) → new.seen.opening ≡ e.seat.place.me.0.seen.opening → new.seen.history ≡ e.seat.place.me.0.seen.history ++ more → StartsWith new.seen.namings e.seat.place.me.0.seen.namings → IsPartOf new.seen old.seen
@@ -149,12 +163,6 @@ module _ (s : Setup) (asked : Transaction) (old : Known) (d e : Draft) (b : Begi
       let long : length new.seen.history ≡ length e.seat.place.me.0.seen.history + 1 = ap length c.history ∙ length-append e.seat.place.me.0.seen.history (entry_of c.own.number e.log.operations ∷ []) in
       let here = e.seat.version_is in
       omega (arith, is, long, here)
-
-  pub lawful_block : ((version : Version) → WorksOn d version → Executes s.origin asked (Ok tt) version e) → IsZone (working_set e)
-  lawful_block becomes =
-      let some = begun_some old d b in
-      let made = becomes some.version some.on in
-      record { version = made.0; stands = record { valid = made.2.valid; entries = sym made.2.set } }
 
   -- ---- back at the base
 

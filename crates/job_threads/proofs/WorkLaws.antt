@@ -346,6 +346,11 @@ turn_here held commands i here lt is turn = subst (InTurn held) (drop_here comma
 pub turn_next : (held after : Bool) (commands : List Said) (i : ℕ) (here : Said) → i < length commands → here ≡ get_or commands i here → after ≡ held_after held (command_view here) → InTurn held (map command_view (drop i commands)) → InTurn after (map command_view (drop (i + 1) commands))
 turn_next held after commands i here lt is same turn = subst (λ (b : Bool). InTurn b (map command_view (drop (i + 1) commands))) (sym same) (turn_here held commands i here lt is turn).1
 
+-- what is so of all that is ahead is so of the next command, and of those behind it
+pub said_here : (P : Command → Type 0) (commands : List Said) (i : ℕ) (here : Said) → i < length commands → here ≡ get_or commands i here → AllByRecursion P (map command_view (drop i commands))
+    → P (command_view here) × AllByRecursion P (map command_view (drop (i + 1) commands))
+said_here P commands i here lt is all = subst (AllByRecursion P) (drop_here command_view commands i here lt is) all
+
 -- a worker has run its next command, and its outcome stands behind the others
 pub worker_next : (s : Setup) (numbers : Numbers) (old new : Station) (commands : List Said) (i : ℕ) (here : Said) (os : List Told_outcome) (o : Told_outcome) (after : List Told_outcome) → i < length commands → here ≡ get_or commands i here → after ≡ os ++ o ∷ []
     → is_told old.asks.seen.opening ≡ true → WorkerAt s numbers old (map command_view (take i commands)) (map command_view (drop i commands)) os → Step s (command_view here) o old new

@@ -28,7 +28,7 @@ use Rattle.shared_index.specs.Operations.{applied}
 use Rattle.shared_index.specs.Passes.{Known, first_version, version_seen}
 use Rattle.zone_edit.specs.declared.applying.Halt.{Halt}
 use Rattle.zone_edit.specs.declared.applying.Halt.TheVariants as halts
-use Rattle.job_threads.specs.Histories.{Setup, Commit as Commit', IsZone, StandsAs, AreVersions, CoversNamings, judged_by}
+use Rattle.job_threads.specs.Histories.{Setup, Commit as Commit', BeginsAt, IsLawful, StandsAs, AreVersions, CoversNamings, judged_by}
 
 -- an index of this size
 pub record IsIndex (s : Setup) (origin : Name) (size : TableSize) : Type 0 where
@@ -41,6 +41,10 @@ pub record IsSetup (s : Setup) (origin : Name) (size : TableSize) (v : Known) : 
   pub index : IsIndex s origin size
   pub opening : first_version v.seen ≡ s.opening
 
+-- it knows of an opening whose first name is this one
+abbrev pub OpensAt : Name → Known → Type 0
+OpensAt origin v = BeginsAt origin (first_version v.seen)
+
 -- A pass took the current version, which is no older than what it had seen. The reply is that of the version that it has then seen
 -- last.
 pub record Asked (origin : Name) (question : Question) (old new : Known) (o : Outcome) : Type 0 where
@@ -50,11 +54,11 @@ pub record Asked (origin : Name) (question : Question) (old new : Known) (o : Ou
   pub shown : ended_view o.told ≡ Shown
   pub replies : (zone : Version) → StandsAs (version_seen new.seen) zone → Replies (reply_of origin zone question) o.told
 
--- a pinned seat shows the version that its pass has seen last, which is one of a zone
+-- a pinned seat shows the version that its pass has seen last, which is one of the zone
 pub record IsHeld (seat : PinnedSeat (List trie.Entry) (List Operation)) : Type 0 where
   pub version : seat.version ≡ length seat.place.me.0.seen.history
   pub holds : Holds (pinned_image seat.place.me.0.progress) seat.root (version_seen seat.place.me.0.seen)
-  pub zone : IsZone (version_seen seat.place.me.0.seen)
+  pub lawful : IsLawful (first_version seat.place.me.0.seen) (version_seen seat.place.me.0.seen)
 
 -- The second pass took a snapshot, when it had learnt what the first had seen, and then the first learnt what it has seen.
 pub record Held (old second new : Known) (seat : PinnedSeat (List trie.Entry) (List Operation)) (o : Outcome) : Type 0 where

@@ -1,9 +1,11 @@
 -- The versions of a zone that an index's history makes.
 use Rattle.std.specs.Prelude.{◌≡◌, ℕ, ◌<◌, ◌≤◌, List, [], ◌∷◌, length, take, zero, suc, ◌==◌, if◌then◌else◌, Contains}
-use Rattle.zone_model.specs.Names.{Name}
+use Rattle.zone_model.specs.Names.{Name, IsName}
+use Rattle.zone_model.specs.Keys.{key_of}
 use Rattle.zone_model.specs.Versions.{Version}
 use Rattle.trie_model.specs.Keys as trie
 use Rattle.zone_query.specs.Standing.{IsVersion}
+use Rattle.master_file.specs.Rows.{CanBeDumped}
 use Rattle.job_model.specs.Sizes.{trie_entries}
 use Rattle.job_model.specs.Outcomes.{Setting}
 use Rattle.shared_cells.specs.declared.view.Entry.{Entry as Commit'}
@@ -58,7 +60,22 @@ times_by author zero (e ∷ history) = 0
 times_by author (suc zero) (e ∷ history) = if e.author == author then 1 else 0
 times_by author (suc (suc j)) (e ∷ history) = times_by author (suc j) history
 
--- they are those of some version of a zone
-pub record IsZone (es : Entries) : Type 0 where
+-- ---- which versions an index may have
+
+-- They are those of a version of the zone of an origin, which master files can say: an SOA at the origin alone, names at or under it,
+-- an alias by itself.
+pub record IsZone (origin : Name) (es : Entries) : Type 0 where
   pub version : Version
   pub stands : StandsAs es version
+  pub zone : CanBeDumped origin version
+
+-- the first of their names is this one
+abbrev pub BeginsAt : Name → Entries → Type 0
+BeginsAt name [] = ⊥
+BeginsAt name (e ∷ es) = IsName name × (e.key ≡ key_of name)
+
+-- Beside an opening version stand those of a zone whose origin is the opening one's first name.
+pub record IsLawful (first es : Entries) : Type 0 where
+  pub origin : Name
+  pub begins : BeginsAt origin first
+  pub zone : IsZone origin es

@@ -15,7 +15,7 @@ use Rattle.shared_index.specs.declared.meaning.Operation.{Operation}
 use Rattle.shared_index.specs.Compactions.{Compacts}
 use Rattle.shared_index.specs.Operations.{applied}
 use Rattle.shared_index.specs.Passes.{Known, first_version}
-use Rattle.job_threads.specs.Histories.{Setup, Commit, IsZone, StandsAs, AreVersions, CoversNamings, judged_by}
+use Rattle.job_threads.specs.Histories.{Setup, Commit, IsLawful, StandsAs, AreVersions, CoversNamings, judged_by}
 
 -- What a worker's two passes know, that of its questions and transactions and that of its snapshots; and whether it holds a snapshot.
 pub record Station : Type 0 where
@@ -64,7 +64,7 @@ Writes s own c version true old new = Adds s own c version old new
 
 -- what lay in sparse chunks was moved by a compaction of the index, as its receipt says
 abbrev pub Moved : Setup → Known → Known → Type 0
-Moved s old new = (table : TableId) × (receipt : Receipt) × Compacts (λ _ es. IsZone es) table s.passes old new receipt
+Moved s old new = (table : TableId) × (receipt : Receipt) × Compacts IsLawful table s.passes old new receipt
 
 -- A command came to this outcome, which tells what is so and is lawful, whichever versions the history will have beside those that
 -- were seen.

@@ -2,9 +2,10 @@
 ghost use Rattle.std.specs.Prelude.{◌≡◌, IsSome, IfOk, Option};
 ghost use Rattle.job_model.specs.Commands.{NeedsNoSnapshot};
 ghost use Rattle.job_script.specs.Views.{command_view};
+ghost use Rattle.report_laws.specs.Changes.{AllAsked};
 ghost use Rattle.shared_index.specs.Passes.{known_at};
 ghost use Rattle.job_threads.specs.Histories.{Setup};
-ghost use Rattle.job_threads.specs.Commands.{IsSetup};
+ghost use Rattle.job_threads.specs.Commands.{IsSetup, OpensAt};
 ghost use Rattle.job_threads.specs.Steps.{IsUnder, Step};
 ghost use Rattle.job_threads.specs.Stations.{Seat, Pinned, IsPlaced, holder_view, station};
 
@@ -32,6 +33,8 @@ pub fn run_alone<R: Wait, N: Named>(
     requires here { IsSome pass.old.seat }
     requires place { pass.old.place ≡ index.now.place }
     requires no_snapshot { NeedsNoSnapshot (command_view command.now) }
+    requires opens { OpensAt origin.now (known_at pass.old.seat) }
+    requires said { AllAsked origin.now (command_view command.now) }
     ensures here { IsSome pass.new.seat }
     ensures place { pass.new.place ≡ pass.old.place }
     ensures steps { (s : Setup) → IsSetup s origin.now index.now.shared.table.shared.key (known_at pass.old.seat)

@@ -6,7 +6,7 @@ ghost use Rattle.job_model.specs.Outcomes.{Committed, Refused, Spent as NoNumber
 ghost use Rattle.job_script.specs.Outcomes.{ended_view, EndsCompaction};
 ghost use Rattle.shared_index.specs.Passes.{first_version, known_at};
 ghost use Rattle.shared_index.specs.Compactions.{Compacts};
-ghost use Rattle.job_threads.specs.Histories.{IsZone, Setup};
+ghost use Rattle.job_threads.specs.Histories.{IsLawful, Setup};
 ghost use Rattle.job_threads.specs.Commands.{BlockRan};
 
 use crate::law::ZoneLaw;
@@ -47,7 +47,7 @@ pub fn run_compaction<R: Wait, N: Named>(
     ensures ran { (s : Setup) → first_version (known_at pass.old.seat).seen ≡ s.opening → BlockRan s no_changes Commit (known_at pass.old.seat) (known_at pass.new.seat) result }
     // What lay in sparse chunks was moved, as a receipt of the index says.
     ensures moves { result.told ≡ Told.Compacted → (receipt : Receipt)
-        × Compacts (λ _ es. IsZone es) index.now.shared.table.shared.table_id index.now.shared.table.shared.key.passes (known_at pass.old.seat) (known_at pass.new.seat) receipt }
+        × Compacts IsLawful index.now.shared.table.shared.table_id index.now.shared.table.shared.key.passes (known_at pass.old.seat) (known_at pass.new.seat) receipt }
 {
     compacted(index.compact(rt, pass))
 }

@@ -92,7 +92,7 @@ fn dump_named<N: Named, K: Sink>(
 ) -> Result<Dumped, DumpRefusal>
     requires named { slice_get N.tables 0 ≡ Some blank.shared.table.shared.table_id }
     requires passes { blank.shared.table.shared.key.passes ≡ 1 }
-    requires zone { IsZone (entries_of_items items.now) }
+    requires zone { IsZone origin.now (entries_of_items items.now) }
     ensures ok { (zone : Version) → StandsAs (entries_of_items items.now) zone
         → IfOk result (DumpedOn blank.shared.table.shared.key.chunks style origin.now zone (K.held sink.old) (K.held sink.new)) }
     ensures err { (zone : Version) → StandsAs (entries_of_items items.now) zone
@@ -110,7 +110,7 @@ fn dump_named<N: Named, K: Sink>(
     }
 }
 
-/// Opens an index on a zone that stands as these items, by a table for no worker, and writes version 0 to a sink. With a refusal
+/// Opens an index on a zone of the origin that stands as these items, by a table for no worker, and writes version 0 to a sink. With a refusal
 /// the sink has taken a front of the file, or nothing.
 pub fn dump_zone<K: Sink>(
     alloc: Global,
@@ -121,7 +121,7 @@ pub fn dump_zone<K: Sink>(
     sink: &mut K,
 ) -> Result<Dumped, DumpRefusal>
     requires passes { blank.shared.table.shared.key.passes ≡ 1 }
-    requires zone { IsZone (entries_of_items items.now) }
+    requires zone { IsZone origin.now (entries_of_items items.now) }
     ensures ok { (zone : Version) → StandsAs (entries_of_items items.now) zone
         → IfOk result (DumpedOn blank.shared.table.shared.key.chunks style origin.now zone (K.held sink.old) (K.held sink.new)) }
     ensures err { (zone : Version) → StandsAs (entries_of_items items.now) zone

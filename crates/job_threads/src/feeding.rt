@@ -7,12 +7,13 @@ ghost use Rattle.job_model.specs.Commands.{NeedsNoSnapshot};
 ghost use Rattle.job_model.specs.Feeds.{passes_fed};
 ghost use Rattle.job_script.specs.Views.{command_view};
 ghost use Rattle.feed_core.specs.Feeds.{new_seat};
+ghost use Rattle.report_laws.specs.Changes.{AllAsked};
 ghost use Rattle.shared_index.specs.Passes.{known_at, Learnt};
 ghost use Rattle.shared_index.specs.Closings.{AreAll};
 ghost use Rattle.job_threads.specs.Histories.{Setup, StandsAs};
 ghost use Rattle.job_threads.specs.Works.{AreNew, IsNew, WorkerRan, ended};
 ghost use Rattle.job_threads.specs.Calls.{IsHeard};
-ghost use Rattle.job_threads.specs.Commands.{IsIndex, IsSetup};
+ghost use Rattle.job_threads.specs.Commands.{IsIndex, IsSetup, OpensAt};
 ghost use Rattle.job_threads.specs.Closings.{Gathers};
 ghost use Rattle.job_threads.specs.Feeds.{FedHeard, IsFedRun, IsServed, commands_at, commands_served, done_seat, only, outcomes_served, seats_served};
 
@@ -73,6 +74,8 @@ fn serve<R: Wait, N: Named, G: Gate>(
     requires seat { seat ≡ new_seat feed.now }
     requires count { feed.now.count ≡ length commands.now }
     requires no_snapshots { AllByRecursion NeedsNoSnapshot (map command_view commands.now) }
+    requires opens { OpensAt origin.now (known_at pass.seat) }
+    requires said { AllByRecursion (AllAsked origin.now) (map command_view commands.now) }
     ensures here { IfOk result (λ d. IsSome d.pass.seat) }
     ensures place { IfOk result (λ d. d.pass.place ≡ index.now.place) }
     ensures seat { IfOk result (λ d. d.seat ≡ done_seat feed.now d.served.numbers.items) }
@@ -161,6 +164,8 @@ fn serve_all<R: Threads + Wait + Sync, N: Named + Send + Sync, G: Gate>(
     requires seats { All (λ seat. seat ≡ new_seat feed.now) seats.items }
     requires count { feed.now.count ≡ length commands.now }
     requires no_snapshots { AllByRecursion NeedsNoSnapshot (map command_view commands.now) }
+    requires opens { All (λ p. OpensAt origin.now (known_at p.seat)) passes.items }
+    requires said { AllByRecursion (AllAsked origin.now) (map command_view commands.now) }
     ensures main { IfOk result (λ g. (IsSome g.main.seat) × (g.main.place ≡ index.now.place)) }
     ensures here { IfOk result (λ g. All (λ p. (IsSome p.seat) × (p.place ≡ index.now.place)) g.passes.items) }
     ensures many { IfOk result (λ g. length g.served.items ≡ length seats.items) }
@@ -190,6 +195,8 @@ fn serve_all<R: Threads + Wait + Sync, N: Named + Send + Sync, G: Gate>(
         requires seat { seat ≡ new_seat feed.now }
         requires count { feed.now.count ≡ length commands.now }
         requires no_snapshots { AllByRecursion NeedsNoSnapshot (map command_view commands.now) }
+        requires opens { OpensAt origin.now (known_at pass.seat) }
+        requires said { AllByRecursion (AllAsked origin.now) (map command_view commands.now) }
         ensures here { IfOk result (λ d. IsSome d.pass.seat) }
         ensures place { IfOk result (λ d. d.pass.place ≡ index.entry.now.place) }
         ensures seat { IfOk result (λ d. d.seat ≡ done_seat feed.entry.now d.served.numbers.items) }
@@ -209,6 +216,8 @@ fn serve_all<R: Threads + Wait + Sync, N: Named + Send + Sync, G: Gate>(
         requires seats { All (λ seat. seat ≡ new_seat feed.now) seats.items }
         requires count { feed.now.count ≡ length commands.now }
         requires no_snapshots { AllByRecursion NeedsNoSnapshot (map command_view commands.now) }
+        requires opens { All (λ p. OpensAt origin.now (known_at p.seat)) passes.items }
+        requires said { AllByRecursion (AllAsked origin.now) (map command_view commands.now) }
         ensures main { IfOk result (λ g. (IsSome g.main.seat) × (g.main.place ≡ index.entry.now.place)) }
         ensures here { IfOk result (λ g. All (λ p. (IsSome p.seat) × (p.place ≡ index.entry.now.place)) g.passes.items) }
         ensures many { IfOk result (λ g. length g.served.items ≡ length seats.items) }
@@ -245,6 +254,8 @@ pub fn run_feed<R: Threads + Wait + Sync, N: Named + Send + Sync, G: Gate>(
     requires here { All (λ p. (IsSome p.seat) × (p.place ≡ index.place)) passes.items }
     requires count { (1 ≤ length commands.now) × (length commands.now ≤ 10000) }
     requires no_snapshots { AllByRecursion NeedsNoSnapshot (map command_view commands.now) }
+    requires opens { All (λ p. OpensAt origin.now (known_at p.seat)) passes.items }
+    requires said { AllByRecursion (AllAsked origin.now) (map command_view commands.now) }
     ensures ran { (s : Setup) (zone : Version) → IsIndex s origin.now index.shared.table.shared.key → StandsAs s.opening zone → AreNew s.opening (map (λ p. known_at p.seat) passes.items)
         → IfOk result (λ f. IsFedRun s.chunks workers origin.now zone (map command_view commands.now) f.outcomes.items f.version f.names) }
 {

@@ -6,12 +6,13 @@ ghost use Rattle.zone_model.specs.Versions.{Version};
 ghost use Rattle.job_model.specs.Commands.{InTurn};
 ghost use Rattle.job_model.specs.Outcomes.{passes_for};
 ghost use Rattle.job_script.specs.Views.{command_view, job_view, worker_view, workers_view};
+ghost use Rattle.report_laws.specs.Changes.{AllAsked};
 ghost use Rattle.shared_index.specs.Passes.{known_at, Learnt};
 ghost use Rattle.shared_index.specs.Closings.{AreAll};
 ghost use Rattle.job_threads.specs.Histories.{Setup, StandsAs};
 ghost use Rattle.job_threads.specs.Works.{AreNew, Begins, Numbers, WorkerRan, ended};
 ghost use Rattle.job_threads.specs.Calls.{AllHeard, AreHeard};
-ghost use Rattle.job_threads.specs.Commands.{IsIndex, IsSetup};
+ghost use Rattle.job_threads.specs.Commands.{IsIndex, IsSetup, OpensAt};
 ghost use Rattle.job_threads.specs.Closings.{Gathers};
 ghost use Rattle.job_threads.specs.Runs.{IsRun};
 ghost use Rattle.job_threads.specs.Endings.{EndsRun};
@@ -111,6 +112,8 @@ fn run_workers<R: Threads + Wait + Sync, N: Named + Send + Sync, G: Gate>(
     requires count { length passes.items ≡ 2 * length workers.now + 1 }
     requires here { All (λ p. (IsSome p.seat) × (p.place ≡ index.now.place)) passes.items }
     requires in_turn { AllByRecursion (InTurn false) (workers_view workers.now) }
+    requires opens { All (λ p. OpensAt origin.now (known_at p.seat)) passes.items }
+    requires said { AllByRecursion (AllByRecursion (AllAsked origin.now)) (workers_view workers.now) }
     ensures main { IfOk result (λ g. (IsSome g.main.seat) × (g.main.place ≡ index.now.place)) }
     ensures here { IfOk result (λ g. All (λ p. (IsSome p.seat) × (p.place ≡ index.now.place)) g.passes.items) }
     ensures ran { (s : Setup) → IsIndex s origin.now index.now.shared.table.shared.key → AreNew s.opening (map (λ p. known_at p.seat) passes.items)
@@ -137,6 +140,8 @@ fn run_workers<R: Threads + Wait + Sync, N: Named + Send + Sync, G: Gate>(
         requires here { (IsSome asks.seat) × (IsSome spare.seat) }
         requires places { (asks.place ≡ index.now.place) × (spare.place ≡ index.now.place) }
         requires in_turn { InTurn false (worker_view worker.now) }
+        requires opens { OpensAt origin.now (known_at asks.seat) }
+        requires said { AllByRecursion (AllAsked origin.now) (worker_view worker.now) }
         ensures here { IfOk result (λ d. (IsSome d.asks.seat) × (IsSome d.spare.seat)) }
         ensures places { IfOk result (λ d. (d.asks.place ≡ index.entry.now.place) × (d.spare.place ≡ index.entry.now.place)) }
         ensures ran { (s : Setup) (numbers : Numbers) → IsSetup s origin.entry.now index.entry.now.shared.table.shared.key (known_at asks.seat)
@@ -152,6 +157,8 @@ fn run_workers<R: Threads + Wait + Sync, N: Named + Send + Sync, G: Gate>(
         requires count { length passes.items ≡ 2 * length others.now + 1 }
         requires here { All (λ p. (IsSome p.seat) × (p.place ≡ index.now.place)) passes.items }
         requires in_turn { AllByRecursion (InTurn false) (workers_view others.now) }
+        requires opens { All (λ p. OpensAt origin.now (known_at p.seat)) passes.items }
+        requires said { AllByRecursion (AllByRecursion (AllAsked origin.now)) (workers_view others.now) }
         ensures main { IfOk result (λ g. (IsSome g.main.seat) × (g.main.place ≡ index.entry.now.place)) }
         ensures here { IfOk result (λ g. All (λ p. (IsSome p.seat) × (p.place ≡ index.entry.now.place)) g.passes.items) }
         ensures ran { (s : Setup) → IsIndex s origin.entry.now index.entry.now.shared.table.shared.key → AreNew s.opening (map (λ p. known_at p.seat) passes.items)
@@ -208,6 +215,8 @@ pub fn run_job<R: Threads + Wait + Sync, N: Named + Send + Sync, G: Gate>(
     requires all { AreAll (length passes.items) (map (λ p. known_at p.seat) passes.items) }
     requires here { All (λ p. (IsSome p.seat) × (p.place ≡ index.place)) passes.items }
     requires in_turn { AllByRecursion (InTurn false) (job_view job.now) }
+    requires opens { All (λ p. OpensAt origin.now (known_at p.seat)) passes.items }
+    requires said { AllByRecursion (AllByRecursion (AllAsked origin.now)) (job_view job.now) }
     ensures ran { (s : Setup) (zone : Version) → IsIndex s origin.now index.shared.table.shared.key → StandsAs s.opening zone → AreNew s.opening (map (λ p. known_at p.seat) passes.items)
         → IfOk result (λ f. IsRun s.chunks s.passes origin.now zone (job_view job.now) f.outcomes.items f.version f.names f.nodes) }
     // Each worker is told by its own number, from 1.

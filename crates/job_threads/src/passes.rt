@@ -3,6 +3,7 @@ ghost use Rattle.std.specs.Prelude.{◌≡◌, IsSome, IfSome, IfOk, None, true,
 ghost use Rattle.std.specs.Option.{option_map, is_some};
 ghost use Rattle.job_model.specs.Commands.{Hold, AskHeld, Release};
 ghost use Rattle.job_script.specs.Views.{question_view};
+ghost use Rattle.shared_cells.specs.History.{IsPartOf};
 ghost use Rattle.shared_index.specs.Passes.{known_at, first_version};
 ghost use Rattle.job_threads.specs.Histories.{Setup};
 ghost use Rattle.job_threads.specs.Steps.{IsUnder, Step};
@@ -40,6 +41,7 @@ pub fn take_snapshot<'i, N: Named>(
     ensures placed { IsPlaced (option_map (λ p. p.seat) passes.new.spare) (option_map (λ s. s.seat) passes.new.held) }
     ensures held_at { IfSome passes.new.held (λ s. s.place ≡ index.now.place) }
     ensures held { is_some (option_map (λ s. s.seat) passes.new.held) ≡ true }
+    ensures grows { IsPartOf (known_at passes.new.asks.seat).seen (known_at passes.old.asks.seat).seen }
     ensures steps { (s : Setup) → first_version (known_at passes.old.asks.seat).seen ≡ s.opening
         → IsUnder (known_at passes.old.asks.seat) (holder_view (option_map (λ p. p.seat) passes.old.spare) (option_map (λ s. s.seat) passes.old.held))
         → Step s Hold result

@@ -3,12 +3,13 @@ ghost use Rattle.std.specs.Prelude.{◌≡◌, IsSome, IsSomeAnd, IfOk, IfErr, O
 ghost use Rattle.job_model.specs.Outcomes.{Committed, Refused, Spent as NoNumber};
 ghost use Rattle.job_script.specs.Outcomes.{ended_view, EndsBlock};
 ghost use Rattle.job_script.specs.Views.{asked_view};
+ghost use Rattle.report_laws.specs.Changes.{AllSaid};
 ghost use Rattle.shared_index.specs.Passes.{known_at};
 ghost use Rattle.shared_index.specs.Keepings.{versions_in};
 ghost use Rattle.zone_edit.specs.Stores.{WorksOnSome, Edits};
 ghost use Rattle.zone_edit.specs.Blocks.{Executes};
 ghost use Rattle.job_threads.specs.Histories.{Setup};
-ghost use Rattle.job_threads.specs.Commands.{IsSetup, BlockRan, BlockWants, StoppedBy};
+ghost use Rattle.job_threads.specs.Commands.{IsSetup, BlockRan, BlockWants, OpensAt, StoppedBy};
 ghost use Rattle.job_threads.specs.Weights.{IsOfWeight};
 
 use crate::law::ZoneLaw;
@@ -109,6 +110,8 @@ fn write_block<R: Wait, N: Named>(
     requires here { IsSome pass.old.seat }
     requires place { pass.old.place ≡ index.now.place }
     requires light { block.now.weight ≡ Weight.Light }
+    requires opens { OpensAt origin.now (known_at pass.old.seat) }
+    requires said { AllSaid origin.now (asked_view block.now) }
     ensures here { IsSome pass.new.seat }
     ensures place { pass.new.place ≡ pass.old.place }
     ensures ends { IfOk result (λ o. EndsBlock o.told) }
@@ -145,6 +148,8 @@ fn update_block<R: Wait, N: Named>(
     requires here { IsSome pass.old.seat }
     requires place { pass.old.place ≡ index.now.place }
     requires heavy { block.now.weight ≡ Weight.Heavy }
+    requires opens { OpensAt origin.now (known_at pass.old.seat) }
+    requires said { AllSaid origin.now (asked_view block.now) }
     ensures here { IsSome pass.new.seat }
     ensures place { pass.new.place ≡ pass.old.place }
     ensures ends { IfOk result (λ o. EndsBlock o.told) }
@@ -184,6 +189,8 @@ pub fn run_block<R: Wait, N: Named>(
 ) -> Result<Outcome, AllocError>
     requires here { IsSome pass.old.seat }
     requires place { pass.old.place ≡ index.now.place }
+    requires opens { OpensAt origin.now (known_at pass.old.seat) }
+    requires said { AllSaid origin.now (asked_view block.now) }
     ensures here { IsSome pass.new.seat }
     ensures place { pass.new.place ≡ pass.old.place }
     ensures ends { IfOk result (λ o. EndsBlock o.told) }

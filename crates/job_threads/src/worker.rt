@@ -1,12 +1,14 @@
 //! A worker that runs its commands.
 ghost use Rattle.std.specs.Prelude.{◌≡◌, IsSome, IfSome, IfOk, length, map, false};
 ghost use Rattle.std.specs.Option.{option_map, is_some};
+ghost use Rattle.std.specs.List.{AllByRecursion};
 ghost use Rattle.job_model.specs.Commands.{InTurn, MayCome, held_after};
 ghost use Rattle.job_script.specs.Views.{command_view};
+ghost use Rattle.report_laws.specs.Changes.{AllAsked};
 ghost use Rattle.shared_index.specs.Passes.{known_at};
 ghost use Rattle.job_threads.specs.Histories.{Setup};
 ghost use Rattle.job_threads.specs.Calls.{AreHeard, next_number};
-ghost use Rattle.job_threads.specs.Commands.{IsSetup};
+ghost use Rattle.job_threads.specs.Commands.{IsSetup, OpensAt};
 ghost use Rattle.job_threads.specs.Steps.{IsUnder, Step};
 ghost use Rattle.job_threads.specs.Stations.{IsPlaced, holder_view, station};
 ghost use Rattle.job_threads.specs.Works.{Begins, Numbers, WorkerRan, ended};
@@ -55,11 +57,14 @@ fn run_command<'i, R: Wait, N: Named>(
     requires placed { IsPlaced (option_map (λ p. p.seat) passes.old.spare) (option_map (λ s. s.seat) passes.old.held) }
     requires held_at { IfSome passes.old.held (λ s. s.place ≡ index.now.place) }
     requires may { MayCome (is_some (option_map (λ s. s.seat) passes.old.held)) (command_view command.now) }
+    requires opens { OpensAt origin.now (known_at passes.old.asks.seat) }
+    requires said { AllAsked origin.now (command_view command.now) }
     ensures here { IfOk result (λ _. IsSome passes.new.asks.seat) }
     ensures place { IfOk result (λ _. passes.new.asks.place ≡ index.now.place) }
     ensures places { IfOk result (λ _. IfSome passes.new.spare (λ p. p.place ≡ index.now.place)) }
     ensures placed { IfOk result (λ _. IsPlaced (option_map (λ p. p.seat) passes.new.spare) (option_map (λ s. s.seat) passes.new.held)) }
     ensures held_at { IfOk result (λ _. IfSome passes.new.held (λ s. s.place ≡ index.now.place)) }
+    ensures opens { IfOk result (λ _. OpensAt origin.now (known_at passes.new.asks.seat)) }
     ensures held { IfOk result (λ _. is_some (option_map (λ s. s.seat) passes.new.held) ≡ held_after (is_some (option_map (λ s. s.seat) passes.old.held)) (command_view command.now)) }
     ensures steps { (s : Setup) → IsSetup s origin.now index.now.shared.table.shared.key (known_at passes.old.asks.seat)
         → IsUnder (known_at passes.old.asks.seat) (holder_view (option_map (λ p. p.seat) passes.old.spare) (option_map (λ s. s.seat) passes.old.held))
@@ -101,6 +106,8 @@ pub fn run_worker<R: Wait, N: Named, G: Gate>(
     requires here { (IsSome task.asks.seat) × (IsSome task.spare.seat) }
     requires places { (task.asks.place ≡ index.now.place) × (task.spare.place ≡ index.now.place) }
     requires in_turn { InTurn false (map command_view task.commands.now) }
+    requires opens { OpensAt origin.now (known_at task.asks.seat) }
+    requires said { AllByRecursion (AllAsked origin.now) (map command_view task.commands.now) }
     ensures here { IfOk result (λ d. (IsSome d.asks.seat) × (IsSome d.spare.seat)) }
     ensures places { IfOk result (λ d. (d.asks.place ≡ index.now.place) × (d.spare.place ≡ index.now.place)) }
     ensures ran { (s : Setup) (numbers : Numbers) → IsSetup s origin.now index.now.shared.table.shared.key (known_at task.entry.asks.seat)

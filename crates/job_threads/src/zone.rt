@@ -7,6 +7,7 @@ ghost use Rattle.job_model.specs.Commands.{InTurn, NeedsNoSnapshot};
 ghost use Rattle.job_model.specs.Feeds.{passes_fed};
 ghost use Rattle.job_model.specs.Outcomes.{passes_for};
 ghost use Rattle.job_script.specs.Views.{command_view, job_view};
+ghost use Rattle.report_laws.specs.Changes.{AllAsked};
 ghost use Rattle.job_threads.specs.Histories.{IsZone, StandsAs};
 ghost use Rattle.job_threads.specs.Zones.{FedRanOn, RanOn};
 
@@ -51,8 +52,9 @@ fn run_named<R: Threads + Wait + Sync, N: Named + Send + Sync, G: Gate>(
 ) -> Result<Ran, AllocError>
     requires named { slice_get N.tables 0 ≡ Some blank.shared.table.shared.table_id }
     requires passes { blank.shared.table.shared.key.passes ≡ passes_for (length job.now.workers.items) }
-    requires zone { IsZone (entries_of_items items.now) }
+    requires zone { IsZone origin.now (entries_of_items items.now) }
     requires in_turn { AllByRecursion (InTurn false) (job_view job.now) }
+    requires said { AllByRecursion (AllByRecursion (AllAsked origin.now)) (job_view job.now) }
     ensures { (zone : Version) → StandsAs (entries_of_items items.now) zone
         → IfOk result (RanOn blank.shared.table.shared.key.chunks origin.now zone (job_view job.now)) }
 {
@@ -77,7 +79,8 @@ pub fn table_for(alloc: Global, chunks: u32, workers: usize) -> Result<Blank<Zon
     Blank::new(alloc, chunks, 2 * workers as u32 + 1)
 }
 
-/// Opens an index on a zone that stands as these items, by a table for the job's workers, and runs these on it.
+/// Opens an index on a zone of the origin that stands as these items, by a table for the job's workers, and runs these on it. What they
+/// ask for is as scripts of octets say it.
 pub fn run_zone<R: Threads + Wait + Sync, G: Gate>(
     rt: &R,
     alloc: Global,
@@ -88,8 +91,9 @@ pub fn run_zone<R: Threads + Wait + Sync, G: Gate>(
     gate: &G,
 ) -> Result<Ran, AllocError>
     requires passes { blank.shared.table.shared.key.passes ≡ passes_for (length job.now.workers.items) }
-    requires zone { IsZone (entries_of_items items.now) }
+    requires zone { IsZone origin.now (entries_of_items items.now) }
     requires in_turn { AllByRecursion (InTurn false) (job_view job.now) }
+    requires said { AllByRecursion (AllByRecursion (AllAsked origin.now)) (job_view job.now) }
     ensures { (zone : Version) → StandsAs (entries_of_items items.now) zone
         → IfOk result (RanOn blank.shared.table.shared.key.chunks origin.now zone (job_view job.now)) }
 {
@@ -110,9 +114,10 @@ fn run_list_named<R: Threads + Wait + Sync, N: Named + Send + Sync, G: Gate>(
     requires named { slice_get N.tables 0 ≡ Some blank.shared.table.shared.table_id }
     requires workers { (1 ≤ workers) × (workers ≤ 16) }
     requires passes { blank.shared.table.shared.key.passes ≡ passes_fed workers }
-    requires zone { IsZone (entries_of_items items.now) }
+    requires zone { IsZone origin.now (entries_of_items items.now) }
     requires count { (1 ≤ length commands.now) × (length commands.now ≤ 10000) }
     requires no_snapshots { AllByRecursion NeedsNoSnapshot (map command_view commands.now) }
+    requires said { AllByRecursion (AllAsked origin.now) (map command_view commands.now) }
     ensures { (zone : Version) → StandsAs (entries_of_items items.now) zone
         → IfOk result (FedRanOn blank.shared.table.shared.key.chunks workers origin.now zone (map command_view commands.now)) }
 {
@@ -141,7 +146,8 @@ pub fn table_for_list(
     Blank::new(alloc, chunks, workers + 1)
 }
 
-/// Opens an index on a zone that stands as these items, by a table for so many workers, and hands the commands out to these.
+/// Opens an index on a zone of the origin that stands as these items, by a table for so many workers, and hands the commands out to
+/// these. What they ask for is as scripts of octets say it.
 pub fn run_list<R: Threads + Wait + Sync, G: Gate>(
     rt: &R,
     alloc: Global,
@@ -154,9 +160,10 @@ pub fn run_list<R: Threads + Wait + Sync, G: Gate>(
 ) -> Result<FedRan, AllocError>
     requires workers { (1 ≤ workers) × (workers ≤ 16) }
     requires passes { blank.shared.table.shared.key.passes ≡ passes_fed workers }
-    requires zone { IsZone (entries_of_items items.now) }
+    requires zone { IsZone origin.now (entries_of_items items.now) }
     requires count { (1 ≤ length commands.now) × (length commands.now ≤ 10000) }
     requires no_snapshots { AllByRecursion NeedsNoSnapshot (map command_view commands.now) }
+    requires said { AllByRecursion (AllAsked origin.now) (map command_view commands.now) }
     ensures { (zone : Version) → StandsAs (entries_of_items items.now) zone
         → IfOk result (FedRanOn blank.shared.table.shared.key.chunks workers origin.now zone (map command_view commands.now)) }
 {

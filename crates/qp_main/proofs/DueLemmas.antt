@@ -30,6 +30,9 @@ use Rattle.shared_index.specs.Openings.{room_in}
 use Rattle.job_threads.specs.Dumps.{StopsOn}
 use Rattle.qp_main.specs.Fits.{fits, no_room_text, opened_text}
 use Rattle.qp_main.specs.Due.{Due, DueBytes, DueGiven, DueInput, Answers, FedAnswers, Checks, CutShort, Dumps, EndsLoad, IfFits, Ends, JobRefuses, Refuses, RefusesScript, Reported, FedReported, IsWritten, MayBeShort, Written, input_of, is_streamed, streams, zone_kind_text, refusal_text}
+use Rattle.qp_main.specs.Stops.{IsStop, ScriptStopsFor, ZoneStopsFor}
+use Rattle.qp_main.specs.declared.refusing.Stop.{Stop}
+use Rattle.qp_main.specs.declared.refusing.Stop.TheVariants as stops
 use Rattle.qp_main.specs.declared.telling.Telling.{Telling}
 use Rattle.qp_main.specs.declared.telling.Telling.TheVariants.{Report, Summary}
 use Rattle.qp_main.specs.declared.status.Status.{Status}
@@ -198,6 +201,25 @@ zone_told_first origin bytes lines refusal.Memory e s text same z h = absurd h
 
 pub script_told : (origin : Name) (bytes : List ℕ) (zone : Version) (e : Refused ScriptKind) (s : Status) (text : List ℕ) → zone_of origin (zone_lines bytes) ≡ Ok zone → RefusesScript (Ok zone) e s text → RefusesScript (zone_of origin (zone_lines bytes)) e s text
 script_told origin bytes zone e s text z h = subst (λ (x : Result Version (Refused ZoneKind)). RefusesScript x e s text) (sym z) h
+
+-- ---- what stops an input
+
+pub stop_as : (P Q : Status → List ℕ → Type 0) (s : Stop) → ((status : Status) (text : List ℕ) → P status text → Q status text) → IsStop P s → IsStop Q s
+stop_as P Q (stops.Refused status text) f h = f status text h
+stop_as P Q stops.Memory f h = tt
+
+-- a zone that its reader refused, or that memory was wanting for
+pub zone_stopped : (due : Status → List ℕ → Type 0) (r : ZoneRefusal) (s : Stop) → ((status : Status) (text : List ℕ) → Refuses r status text → due status text) → ZoneStopsFor r s → IsStop due s
+zone_stopped due (refusal.Refused line kind) (stops.Refused status text) f h = f status text h
+zone_stopped due (refusal.Refused line kind) stops.Memory f h = absurd h
+zone_stopped due refusal.Memory (stops.Refused status text) f h = absurd h
+zone_stopped due refusal.Memory stops.Memory f h = tt
+
+-- a script that was refused, behind what was read of its zone
+pub script_stopped : (origin : Name) (bytes : List ℕ) (lines : List (List ℕ)) (r : Result Zone ZoneRefusal) (e : Refused ScriptKind) (s : Stop) → lines ≡ zone_lines bytes → Reads r (λ z. z.pairs) (zone_of origin lines) → ScriptStopsFor r e s → IsStop (RefusesScript (zone_of origin (zone_lines bytes)) e) s
+script_stopped origin bytes lines (Ok zone) e (stops.Refused status text) same z h = script_told origin bytes zone.pairs e status text (ap (zone_of origin) (sym same) ∙ z) h
+script_stopped origin bytes lines (Ok zone) e stops.Memory same z h = absurd h
+script_stopped origin bytes lines (Err r) e s same z h = zone_stopped (RefusesScript (zone_of origin (zone_lines bytes)) e) r s (λ status text k. zone_told_first origin bytes lines r e status text same z k) h
 
 -- ---- one list of commands
 

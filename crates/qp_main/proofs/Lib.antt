@@ -1,3 +1,4 @@
 pub mod DueLemmas
 pub mod ItemLemmas
+pub mod ReadingLemmas
 pub mod ReportingLemmas

@@ -2,3 +2,4 @@ pub mod Statuses
 pub mod Fits
 pub mod Due
 pub mod Tellings
+pub mod Stops

@@ -11,14 +11,14 @@ ghost use Rattle.qp_main.specs.Due.{CutShort, Dumps, IsWritten, MayBeShort, Writ
 ghost use Rattle.std.specs.Prelude.{true};
 
 use crate::items::zone_items;
-use crate::refusing::zone_line;
+use crate::reading::zone_in;
+use crate::refusing::{Stop, zone_stop};
 use crate::report::no_room;
 use crate::status::Status;
 use crate::writing::write_due;
 use command_line::Invocation;
 use job_script::Parts;
 use job_threads::{Dumped, ZoneLaw, dump_zone, table_for};
-use master_file::read_zone;
 use outer_io::Sink;
 use shared_index::Blank;
 use std::alloc::Global;
@@ -37,7 +37,7 @@ fn write_zone<K: Sink>(
 ) -> Status
     requires chunks { blank.shared.table.shared.key.chunks ≡ invocation.now.chunks }
     requires passes { blank.shared.table.shared.key.passes ≡ 1 }
-    requires zone { IsZone (entries_of_items items.now) }
+    requires zone { IsZone invocation.now.origin (entries_of_items items.now) }
     ensures written { (zone : Version) → StandsAs (entries_of_items items.now) zone
         → IsWritten result → Written (Dumps invocation.now.chunks style invocation.now.origin (Ok zone)) (K.held sink.old) (K.held sink.new) result }
     ensures cut_short { (zone : Version) → StandsAs (entries_of_items items.now) zone
@@ -81,12 +81,12 @@ pub fn dump_input<K: Sink>(
         return Status::NoMemory;
     };
     let zone_bytes = &bytes.as_slice()[..parts.zone_end as usize];
-    let zone = match read_zone(alloc, zone_bytes, &invocation.origin) {
+    let zone = match zone_in(alloc, zone_bytes, &invocation.origin) {
         Ok(zone) => zone,
         Err(refusal) => {
-            return match zone_line(alloc, refusal) {
-                Ok((status, text)) => write_due(sink, status, &text),
-                Err(_) => Status::NoMemory,
+            return match zone_stop(refusal) {
+                Stop::Refused(status, line) => write_due(sink, status, line.as_slice()),
+                Stop::Memory => Status::NoMemory,
             };
         }
     };

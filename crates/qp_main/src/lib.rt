@@ -6,7 +6,9 @@
 mod dumping;
 mod feeding;
 mod items;
+mod line;
 mod program;
+mod reading;
 mod refusing;
 mod report;
 mod reporting;
@@ -18,4 +20,5 @@ pub use items::zone_items;
 pub use job_make::{Load, make_text};
 pub use job_threads::Gate;
 pub use program::run;
+pub use reading::{job_in, list_in, zone_in};
 pub use status::Status;

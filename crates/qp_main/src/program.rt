@@ -1,5 +1,5 @@
 //! The program over any source and sink.
-ghost use Rattle.std.specs.Prelude.{◌≡◌, ◌<◌, ◌≤◌, ◌+◌, ◌^◌, ◌++◌, ◌∷◌, [], ℕ, List, length, IfOk, OnOk, map, codes, Ok, Err, false, Option, Result, IfSome, MatchOption, IsSome, Some, None};
+ghost use Rattle.std.specs.Prelude.{◌≡◌, ◌<◌, ◌≤◌, ◌+◌, ◌^◌, ◌++◌, ◌∷◌, [], ℕ, List, length, IfOk, IfErr, OnOk, map, codes, Ok, Err, false, Option, Result, IfSome, MatchOption, IsSome, Some, None};
 ghost use Rattle.std.specs.List.{AllByRecursion};
 ghost use Rattle.std.specs.String.{string_bytes};
 ghost use Rattle.std.specs.Io.KnownBytes.{Consumes};
@@ -8,6 +8,7 @@ ghost use Rattle.job_model.specs.Commands.{InTurn};
 ghost use Rattle.job_model.specs.Jobs.{zone_lines, script_lines, script_start, script_of, job_of};
 ghost use Rattle.job_script.specs.Views.{job_view};
 ghost use Rattle.job_model.specs.Loads.{made_origin};
+ghost use Rattle.report_laws.specs.Changes.{AllAsked};
 ghost use Rattle.job_script.specs.Parts.{IsCutAt};
 ghost use Rattle.outer_io.specs.Faults.{Rose};
 ghost use Rattle.outer_io.specs.Bytes.{Grows, GrowsByFront};
@@ -15,23 +16,24 @@ ghost use Rattle.job_make.specs.Views.{load_view};
 ghost use Rattle.command_line.specs.Invocations.{IsUnder, Make};
 ghost use Rattle.command_line.specs.Views.{invocation_view, verb_view};
 ghost use Rattle.command_line.specs.Words.{invocation_of};
+ghost use Rattle.qp_main.specs.Stops.{IsStop};
 ghost use Rattle.qp_main.specs.Due.{Answers, Checks, CutShort, Due, DueInput, EndsLoad, IsMade, IsUnwritten, IsWritten, MayBeShort, Written, input_of, is_streamed, streams};
 
 use crate::dumping::dump_input;
 use crate::feeding::answer_list;
 use crate::items::zone_items;
-use crate::refusing::{refuse_script, zone_line};
+use crate::reading::{job_in, zone_in};
+use crate::refusing::{Stop, refuse_script, zone_stop};
 use crate::reporting::{report_job, report_size};
 use crate::status::Status;
 use crate::telling::Telling;
 use crate::writing::write_due;
 use command_line::{Invocation, Verb, invocation_of};
 use job_make::{Load, make_text};
-use job_script::{Job, JobRefusal, Parts, read_job, split};
+use job_script::{Job, JobRefusal, Parts, split};
 use job_threads::{Gate, table_for};
-use master_file::read_zone;
 use outer_io::{ReadRefusal, Sink, Source, read_all};
-use std::alloc::{AllocError, Global};
+use std::alloc::Global;
 use std::sync::Wait;
 use std::thread::Threads;
 
@@ -49,23 +51,26 @@ fn run_script<R: Threads + Wait + Sync, G: Gate>(
     job: &Job,
     telling: Telling,
     gate: &G,
-) -> Result<(Status, Vec<u8>), AllocError>
+) -> Result<(Status, Vec<u8>), Stop>
     requires short { length bytes.items ≤ 2 ^ 24 }
     requires cut { IsCutAt bytes.items parts }
     requires read { script_of invocation.now.origin (script_start bytes.items) (script_lines bytes.items) ≡ Ok (job_view job.now) }
     requires few_workers { length job.now.workers.items ≤ 16 }
     requires in_turn { AllByRecursion (InTurn false) (job_view job.now) }
-    ensures { IfOk result (λ x. Answers telling invocation.now.chunks (job_of invocation.now.origin bytes.items) x.0 x.1.items) }
+    requires said { AllByRecursion (AllByRecursion (AllAsked invocation.now.origin)) (job_view job.now) }
+    ensures told { IfOk result (λ x. Answers telling invocation.now.chunks (job_of invocation.now.origin bytes.items) x.0 x.1.items) }
+    ensures stops { IfErr result (IsStop (Answers telling invocation.now.chunks (job_of invocation.now.origin bytes.items))) }
 {
     let blank = table_for(alloc, invocation.chunks, job.workers.len())?;
     let zone_bytes = &bytes.as_slice()[..parts.zone_end as usize];
-    let zone = match read_zone(alloc, zone_bytes, &invocation.origin) {
+    let zone = match zone_in(alloc, zone_bytes, &invocation.origin) {
         Ok(zone) => zone,
-        Err(refusal) => return zone_line(alloc, refusal),
+        Err(refusal) => return Err(zone_stop(refusal)),
     };
     drop(bytes);
     let items = zone_items(alloc, zone)?;
-    report_job(rt, alloc, invocation, blank, &items, job, telling, gate)
+    let answer = report_job(rt, alloc, invocation, blank, &items, job, telling, gate)?;
+    Ok(answer)
 }
 
 // The status and the text for bytes that were cut into a zone's and a script's.
@@ -77,18 +82,19 @@ fn answer_job<R: Threads + Wait + Sync, G: Gate>(
     parts: Parts,
     telling: Telling,
     gate: &G,
-) -> Result<(Status, Vec<u8>), AllocError>
+) -> Result<(Status, Vec<u8>), Stop>
     requires short { length bytes.items ≤ 2 ^ 24 }
     requires cut { IsCutAt bytes.items parts }
-    ensures { IfOk result (λ x. Answers telling invocation.now.chunks (job_of invocation.now.origin bytes.items) x.0 x.1.items) }
+    ensures told { IfOk result (λ x. Answers telling invocation.now.chunks (job_of invocation.now.origin bytes.items) x.0 x.1.items) }
+    ensures stops { IfErr result (IsStop (Answers telling invocation.now.chunks (job_of invocation.now.origin bytes.items))) }
 {
     let script = &bytes.as_slice()[parts.script_from as usize..];
-    match read_job(alloc, script, parts.first_line, &invocation.origin) {
+    match job_in(alloc, script, parts.first_line, &invocation.origin) {
         Ok(job) => run_script(rt, alloc, invocation, bytes, parts, &job, telling, gate),
-        Err(JobRefusal::Refused { line, kind }) => {
-            refuse_script(alloc, invocation, &bytes, parts, line, kind)
-        }
-        Err(JobRefusal::Memory) => Err(AllocError),
+        Err(JobRefusal::Refused { line, kind }) => Err(refuse_script(
+            alloc, invocation, &bytes, parts, line, kind,
+        )),
+        Err(JobRefusal::Memory) => Err(Stop::Memory),
     }
 }
 
@@ -100,20 +106,22 @@ fn check_zone<R: Threads + Wait + Sync, G: Gate>(
     bytes: Vec<u8>,
     parts: Parts,
     gate: &G,
-) -> Result<(Status, Vec<u8>), AllocError>
+) -> Result<(Status, Vec<u8>), Stop>
     requires short { length bytes.items ≤ 2 ^ 24 }
     requires cut { IsCutAt bytes.items parts }
-    ensures { IfOk result (λ x. Checks invocation.now.chunks (zone_of invocation.now.origin (zone_lines bytes.items)) x.0 x.1.items) }
+    ensures told { IfOk result (λ x. Checks invocation.now.chunks (zone_of invocation.now.origin (zone_lines bytes.items)) x.0 x.1.items) }
+    ensures stops { IfErr result (IsStop (Checks invocation.now.chunks (zone_of invocation.now.origin (zone_lines bytes.items)))) }
 {
     let blank = table_for(alloc, invocation.chunks, 0)?;
     let zone_bytes = &bytes.as_slice()[..parts.zone_end as usize];
-    let zone = match read_zone(alloc, zone_bytes, &invocation.origin) {
+    let zone = match zone_in(alloc, zone_bytes, &invocation.origin) {
         Ok(zone) => zone,
-        Err(refusal) => return zone_line(alloc, refusal),
+        Err(refusal) => return Err(zone_stop(refusal)),
     };
     drop(bytes);
     let items = zone_items(alloc, zone)?;
-    report_size(rt, alloc, invocation, blank, &items, gate)
+    let answer = report_size(rt, alloc, invocation, blank, &items, gate)?;
+    Ok(answer)
 }
 
 // Runs the bytes of an input and writes.
@@ -144,7 +152,8 @@ fn serve_input<R: Threads + Wait + Sync, K: Sink, G: Gate>(
     };
     match due {
         Ok((status, text)) => write_due(sink, status, &text),
-        Err(_) => Status::NoMemory,
+        Err(Stop::Refused(status, line)) => write_due(sink, status, line.as_slice()),
+        Err(Stop::Memory) => Status::NoMemory,
     }
 }
 

@@ -1,33 +1,62 @@
 //! What is told of a zone or a script that is refused.
-ghost use Rattle.std.specs.Prelude.{◌≤◌, ◌^◌, List, length, IfOk};
+ghost use Rattle.std.specs.Prelude.{◌≡◌, ◌≤◌, ◌^◌, List, length};
 ghost use Rattle.zone_model.specs.MasterFile.{zone_of};
 ghost use Rattle.job_model.specs.Jobs.{zone_lines};
 ghost use Rattle.job_script.specs.Parts.{IsCutAt};
-ghost use Rattle.qp_main.specs.Due.{Refuses, RefusesScript};
+ghost use Rattle.qp_main.specs.Due.{RefusesScript};
+ghost use Rattle.qp_main.specs.Stops.{IsStop, ScriptStopsFor, ZoneStopsFor};
 
+use crate::line::Line;
 use crate::report::{script_refused, zone_refused};
 use crate::status::Status;
 use command_line::Invocation;
 use job_model::ScriptKind;
 use job_script::Parts;
-use master_file::read_zone;
+use master_file::{Zone, read_zone};
 use std::alloc::{AllocError, Global};
 use zone_text::ZoneRefusal;
 
-/// The status and the line for a zone that is refused.
-pub fn zone_line(alloc: Global, refusal: ZoneRefusal) -> Result<(Status, Vec<u8>), AllocError>
-    ensures { IfOk result (λ x. Refuses refusal x.0 x.1.items) }
-{
-    match refusal {
-        ZoneRefusal::Refused { line, kind } => {
-            let text = zone_refused(alloc, u64::from(line), kind)?;
-            Ok((Status::ZoneRefused, text))
-        }
-        ZoneRefusal::Memory => Err(AllocError),
+/// Why an input has no answer of its own.
+#[derive(Drop)]
+pub enum Stop {
+    /// It is refused, which is told by this status and this line. They take no memory.
+    Refused(Status, Line),
+    Memory,
+}
+
+impl From<AllocError> for Stop {
+    ghost use Rattle.qp_main.specs.declared.refusing.Stop.TheVariants.{Memory};
+
+    ghost from_gives = { λ _ e. e ≡ Memory };
+
+    fn from(_: AllocError) -> Self {
+        Stop::Memory
     }
 }
 
-/// The status and the text for a script that is refused, on this line: those for the zone come first.
+/// What is told of a zone that its reader refused. Memory is wanting only where the reader wanted it.
+pub fn zone_stop(refusal: ZoneRefusal) -> Stop
+    ensures { ZoneStopsFor refusal result }
+{
+    match refusal {
+        ZoneRefusal::Refused { line, kind } => {
+            Stop::Refused(Status::ZoneRefused, zone_refused(line, kind))
+        }
+        ZoneRefusal::Memory => Stop::Memory,
+    }
+}
+
+/// What is told of a script that is refused on this line, by what its zone was read as: the zone's refusal comes first.
+fn script_stop(zone: Result<Zone, ZoneRefusal>, line: u32, kind: ScriptKind) -> Stop
+    ensures { ScriptStopsFor zone (record { line = line; kind = kind }) result }
+{
+    match zone {
+        Ok(_) => Stop::Refused(Status::ScriptRefused, script_refused(line, kind)),
+        Err(refusal) => zone_stop(refusal),
+    }
+}
+
+/// The same, of an input.
 pub fn refuse_script(
     alloc: Global,
     invocation: &Invocation,
@@ -35,16 +64,11 @@ pub fn refuse_script(
     parts: Parts,
     line: u32,
     kind: ScriptKind,
-) -> Result<(Status, Vec<u8>), AllocError>
+) -> Stop
     requires short { length bytes.now ≤ 2 ^ 24 }
     requires cut { IsCutAt bytes.now parts }
-    ensures { IfOk result (λ x. RefusesScript (zone_of invocation.now.origin (zone_lines bytes.now)) (record { line = line; kind = kind }) x.0 x.1.items) }
+    ensures { IsStop (RefusesScript (zone_of invocation.now.origin (zone_lines bytes.now)) (record { line = line; kind = kind })) result }
 {
     let zone_bytes = &bytes[..parts.zone_end as usize];
-    let _zone = match read_zone(alloc, zone_bytes, &invocation.origin) {
-        Ok(zone) => zone,
-        Err(refusal) => return zone_line(alloc, refusal),
-    };
-    let text = script_refused(alloc, u64::from(line), kind)?;
-    Ok((Status::ScriptRefused, text))
+    script_stop(read_zone(alloc, zone_bytes, &invocation.origin), line, kind)
 }

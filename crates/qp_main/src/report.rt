@@ -1,8 +1,9 @@
 //! Lines that are no report: refusals, and how large a zone is.
-ghost use Rattle.std.specs.Prelude.{◌≡◌, ◌++◌, ℕ, List, OnOk, IfOk, codes, decimal};
+ghost use Rattle.std.specs.Prelude.{◌≡◌, ◌≤◌, ◌++◌, ℕ, List, OnOk, IfOk, length, codes, decimal};
 ghost use Rattle.job_model.specs.Replies.{size_text};
 ghost use Rattle.qp_main.specs.Due.{zone_kind_text, script_kind_text, refusal_text};
 
+use crate::line::{Line, refusal_line};
 use job_model::ScriptKind;
 use job_script::push_size;
 use std::alloc::{AllocError, Global};
@@ -10,7 +11,8 @@ use zone_model::ZoneKind;
 use zone_text::push_decimal;
 
 fn zone_kind_name(kind: ZoneKind) -> &'static [u8]
-    ensures { result.now ≡ zone_kind_text kind }
+    ensures text { result.now ≡ zone_kind_text kind }
+    ensures short { length result.now ≤ 13 }
 {
     match kind {
         ZoneKind::BadName => b"BadName",
@@ -32,7 +34,8 @@ fn zone_kind_name(kind: ZoneKind) -> &'static [u8]
 }
 
 fn script_kind_name(kind: ScriptKind) -> &'static [u8]
-    ensures { result.now ≡ script_kind_text kind }
+    ensures text { result.now ≡ script_kind_text kind }
+    ensures short { length result.now ≤ 13 }
 {
     match kind {
         ScriptKind::NoWorker => b"NoWorker",
@@ -48,32 +51,18 @@ fn script_kind_name(kind: ScriptKind) -> &'static [u8]
     }
 }
 
-// The line of a refusal.
-fn refusal_line(alloc: Global, what: &[u8], line: u64, kind: &[u8]) -> Result<Vec<u8>, AllocError>
-    ensures { IfOk result (λ v. v.items ≡ refusal_text what.now line kind.now) }
-{
-    let mut out = Vec::new(alloc);
-    out.extend_from_slice(what)?;
-    out.extend_from_slice(b" refused line ")?;
-    push_decimal(&mut out, line)?;
-    out.extend_from_slice(b" ")?;
-    out.extend_from_slice(kind)?;
-    out.extend_from_slice(b"\n")?;
-    Ok(out)
-}
-
 /// The line of a zone's refusal.
-pub fn zone_refused(alloc: Global, line: u64, kind: ZoneKind) -> Result<Vec<u8>, AllocError>
-    ensures { IfOk result (λ v. v.items ≡ refusal_text (codes "zone") line (zone_kind_text kind)) }
+pub fn zone_refused(line: u32, kind: ZoneKind) -> Line
+    ensures { result ≡ refusal_text (codes "zone") line (zone_kind_text kind) }
 {
-    refusal_line(alloc, b"zone", line, zone_kind_name(kind))
+    refusal_line(b"zone", line, zone_kind_name(kind))
 }
 
 /// The line of a script's refusal.
-pub fn script_refused(alloc: Global, line: u64, kind: ScriptKind) -> Result<Vec<u8>, AllocError>
-    ensures { IfOk result (λ v. v.items ≡ refusal_text (codes "script") line (script_kind_text kind)) }
+pub fn script_refused(line: u32, kind: ScriptKind) -> Line
+    ensures { result ≡ refusal_text (codes "script") line (script_kind_text kind) }
 {
-    refusal_line(alloc, b"script", line, script_kind_name(kind))
+    refusal_line(b"script", line, script_kind_name(kind))
 }
 
 /// The line of a zone that may need more cells than the chunks have.

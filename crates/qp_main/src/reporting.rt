@@ -6,6 +6,7 @@ ghost use Rattle.job_model.specs.Commands.{InTurn, NeedsNoSnapshot};
 ghost use Rattle.job_model.specs.Feeds.{passes_fed};
 ghost use Rattle.job_model.specs.Outcomes.{passes_for};
 ghost use Rattle.job_script.specs.Views.{job_view, list_view};
+ghost use Rattle.report_laws.specs.Changes.{AllAsked};
 ghost use Rattle.job_threads.specs.Histories.{IsZone, StandsAs};
 ghost use Rattle.trie_write.specs.Entries.{entries_of_items};
 ghost use Rattle.qp_main.specs.Tellings.{finished_text};
@@ -67,8 +68,9 @@ pub fn report_job<R: Threads + Wait + Sync, G: Gate>(
 ) -> Result<(Status, Vec<u8>), AllocError>
     requires chunks { blank.shared.table.shared.key.chunks ≡ invocation.now.chunks }
     requires passes { blank.shared.table.shared.key.passes ≡ passes_for (length job.now.workers.items) }
-    requires zone { IsZone (entries_of_items items.now) }
+    requires zone { IsZone invocation.now.origin (entries_of_items items.now) }
     requires in_turn { AllByRecursion (InTurn false) (job_view job.now) }
+    requires said { AllByRecursion (AllByRecursion (AllAsked invocation.now.origin)) (job_view job.now) }
     ensures { (zone : Version) → StandsAs (entries_of_items items.now) zone
         → IfOk result (λ x. Answers telling invocation.now.chunks (Ok (record { origin = invocation.now.origin; zone = zone; workers = job_view job.now })) x.0 x.1.items) }
 {
@@ -96,7 +98,7 @@ fn report_none<R: Threads + Wait + Sync, G: Gate>(
 ) -> Result<(Status, Vec<u8>), AllocError>
     requires chunks { blank.shared.table.shared.key.chunks ≡ invocation.now.chunks }
     requires passes { blank.shared.table.shared.key.passes ≡ passes_for 0 }
-    requires zone { IsZone (entries_of_items items.now) }
+    requires zone { IsZone invocation.now.origin (entries_of_items items.now) }
     ensures { (zone : Version) (workers : ℕ) → StandsAs (entries_of_items items.now) zone
         → IfOk result (λ x. FedAnswers workers invocation.now.chunks (Ok (record { origin = invocation.now.origin; zone = zone; commands = [] })) x.0 x.1.items) }
 {
@@ -129,10 +131,11 @@ pub fn report_list<R: Threads + Wait + Sync, G: Gate>(
 ) -> Result<(Status, Vec<u8>), AllocError>
     requires chunks { blank.shared.table.shared.key.chunks ≡ invocation.now.chunks }
     requires passes { blank.shared.table.shared.key.passes ≡ passes_fed crew }
-    requires zone { IsZone (entries_of_items items.now) }
+    requires zone { IsZone invocation.now.origin (entries_of_items items.now) }
     requires crew { (vec_len commands.now ≡ 0 → crew ≡ 0) × (0 < vec_len commands.now → 1 ≤ crew) × (crew ≤ 16) }
     requires few { vec_len commands.now ≤ 10000 }
     requires no_snapshots { AllByRecursion NeedsNoSnapshot (list_view commands.now) }
+    requires said { AllByRecursion (AllAsked invocation.now.origin) (list_view commands.now) }
     ensures { (zone : Version) (workers : ℕ) → StandsAs (entries_of_items items.now) zone → (0 < vec_len commands.now → workers ≡ crew)
         → IfOk result (λ x. FedAnswers workers invocation.now.chunks (Ok (record { origin = invocation.now.origin; zone = zone; commands = list_view commands.now })) x.0 x.1.items) }
 {
@@ -164,7 +167,7 @@ pub fn report_size<R: Threads + Wait + Sync, G: Gate>(
 ) -> Result<(Status, Vec<u8>), AllocError>
     requires chunks { blank.shared.table.shared.key.chunks ≡ invocation.now.chunks }
     requires passes { blank.shared.table.shared.key.passes ≡ passes_for 0 }
-    requires zone { IsZone (entries_of_items items.now) }
+    requires zone { IsZone invocation.now.origin (entries_of_items items.now) }
     ensures { (zone : Version) → StandsAs (entries_of_items items.now) zone → IfOk result (λ x. Checks invocation.now.chunks (Ok zone) x.0 x.1.items) }
 {
     let job = Job {

@@ -20,20 +20,20 @@ use Rattle.report_laws.proofs.ShortLemmas.{IsShort, AllShort}
 -- ---- no more versions than commands
 
 -- how many commands made one of the versions 1 to n
-made_to : ℕ → List Pair → ℕ
+unfoldable pub made_to : ℕ → List Pair → ℕ
 made_to zero pairs = 0
 made_to (suc n) pairs = times_made (suc n) pairs + made_to n pairs
 
-once_to : ℕ → Pair → ℕ
+unfoldable pub once_to : ℕ → Pair → ℕ
 once_to zero pair = 0
 once_to (suc n) pair = cond (made (suc n) pair) 1 0 + once_to n pair
 
-nothing_made : (n : ℕ) → made_to n [] ≡ 0
+pub nothing_made : (n : ℕ) → made_to n [] ≡ 0
 unfolding made_to
 nothing_made zero = refl
 nothing_made (suc n) = let k = nothing_made n in omega (arith, k)
 
-made_first : (n : ℕ) (pair : Pair) (pairs : List Pair) → made_to n (pair ∷ pairs) ≡ once_to n pair + made_to n pairs
+pub made_first : (n : ℕ) (pair : Pair) (pairs : List Pair) → made_to n (pair ∷ pairs) ≡ once_to n pair + made_to n pairs
 unfolding made_to once_to
 made_first zero pair pairs = refl
 made_first (suc n) pair pairs = let k = made_first n pair pairs in omega (arith, k)
@@ -42,11 +42,11 @@ both_true : (a b : Bool) → (a && b) ≡ true → b ≡ true
 both_true true b h = h
 both_true false b h = absurd cc
 
-record AtMostOne (n : ℕ) (pair : Pair) : Type 0 where
-  one : once_to n pair ≤ 1
-  none : n < pair.1.version → once_to n pair ≡ 0
+pub record AtMostOne (n : ℕ) (pair : Pair) : Type 0 where
+  pub one : once_to n pair ≤ 1
+  pub none : n < pair.1.version → once_to n pair ≡ 0
 
-at_most_one : (n : ℕ) (pair : Pair) → AtMostOne n pair
+pub at_most_one : (n : ℕ) (pair : Pair) → AtMostOne n pair
 unfolding once_to
 at_most_one zero pair = record { one = omega arith; none = λ _. refl }
 at_most_one (suc n) pair = by_test (at_most_one n pair) (made (suc n) pair) refl
@@ -66,7 +66,7 @@ few_made n (pair ∷ pairs) =
     let more = few_made n pairs in
     omega (arith, first, one, more)
 
-all_made : (n : ℕ) (pairs : List Pair) → ((j : ℕ) → 0 < j → j ≤ n → times_made j pairs ≡ 1) → made_to n pairs ≡ n
+pub all_made : (n : ℕ) (pairs : List Pair) → ((j : ℕ) → 0 < j → j ≤ n → times_made j pairs ≡ 1) → made_to n pairs ≡ n
 unfolding made_to
 all_made zero pairs once = refl
 all_made (suc n) pairs once =

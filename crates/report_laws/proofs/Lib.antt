@@ -18,3 +18,6 @@ pub mod RunLemmas
 pub mod ShortLemmas
 pub mod LawfulLemmas
 pub mod ReportLemmas
+pub mod OwnedLemmas
+pub mod ApartLemmas
+pub mod FirstLemmas

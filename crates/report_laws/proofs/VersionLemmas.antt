@@ -70,7 +70,7 @@ parts_lines (part ∷ []) h = by_test (eqb (length part) 0)
     by_test false = h
 parts_lines (part ∷ next ∷ parts) h = (stripped part h.0, parts_lines (next ∷ parts) h.1)
 
-lines_are : (bytes : List ℕ) → AllOctets bytes → AllLines (lines_of bytes)
+pub lines_are : (bytes : List ℕ) → AllOctets bytes → AllLines (lines_of bytes)
 lines_are bytes h = parts_lines (slice_split (λ b. eqb b 10) bytes) (split_lines (λ b. eqb b 10) bytes h)
 
 -- ---- jobs

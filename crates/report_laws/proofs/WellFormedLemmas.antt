@@ -46,7 +46,7 @@ all_put P owner entry (pair ∷ rest) p h = by_order (name_cmp owner pair.0) ref
     by_order Equal e i = (subst (λ (n : Name). P (n, entry)) (name_cmp-IsAntisymmetric owner pair.0 e) p, h.1)
     by_order Greater e i = (h.0, i)
 
-abbrev Above : Name → Version → Type 0
+abbrev pub Above : Name → Version → Type 0
 Above name version = AllByRecursion (λ y. name_cmp name y ≡ Less) (keys_of version)
 
 above_put : (name owner : Name) (entry : Entry) (version : Version) → name_cmp name owner ≡ Less → Above name version → Above name (insert_entry name_cmp version owner entry)
@@ -58,14 +58,14 @@ above_put name owner entry (pair ∷ rest) l h = by_order (name_cmp owner pair.0
     by_order Equal i = h
     by_order Greater i = (h.0, i)
 
-above_more : (a b : Name) (version : Version) → name_cmp a b ≡ Less → Above b version → Above a version
+pub above_more : (a b : Name) (version : Version) → name_cmp a b ≡ Less → Above b version → Above a version
 above_more a b [] l h = tt
 above_more a b (pair ∷ rest) l h = (name_cmp_total.trans a b pair.0 l h.0, above_more a b rest l h.1)
 
-turned : (a b : Name) → name_cmp a b ≡ Greater → name_cmp b a ≡ Less
+pub turned : (a b : Name) → name_cmp a b ≡ Greater → name_cmp b a ≡ Less
 turned a b e = name_cmp_total.antisymm b a ∙ ap ordering_reverse e
 
-rising_put : (owner : Name) (entry : Entry) (version : Version) → IsStrictlySortedBy name_cmp (keys_of version) → IsStrictlySortedBy name_cmp (keys_of (insert_entry name_cmp version owner entry))
+pub rising_put : (owner : Name) (entry : Entry) (version : Version) → IsStrictlySortedBy name_cmp (keys_of version) → IsStrictlySortedBy name_cmp (keys_of (insert_entry name_cmp version owner entry))
 unfolding IsStrictlySortedBy
 rising_put owner entry [] h = (tt, tt)
 rising_put owner entry (pair ∷ rest) h = by_order (name_cmp owner pair.0) refl (rising_put owner entry rest h.1)
@@ -97,7 +97,7 @@ above_left name test (pair ∷ rest) h = by_test (test pair.0) (above_left name 
     by_test true i = h.1
     by_test false i = (h.0, i)
 
-rising_left : (test : Name → Bool) (version : Version) → IsStrictlySortedBy name_cmp (keys_of version) → IsStrictlySortedBy name_cmp (keys_of (remove_entry test version))
+pub rising_left : (test : Name → Bool) (version : Version) → IsStrictlySortedBy name_cmp (keys_of version) → IsStrictlySortedBy name_cmp (keys_of (remove_entry test version))
 unfolding IsStrictlySortedBy
 rising_left test [] h = tt
 rising_left test (pair ∷ rest) h = by_test (test pair.0) (rising_left test rest h.1)
@@ -143,7 +143,7 @@ name_self x = by_order (name_cmp x x) (name_cmp_total.antisymm x x)
     by_order Equal e = refl
     by_order Greater e = absurd cc
 
-owned_at : (owner : Name) (entry : Entry) (rest : Version) → owned owner ((owner, entry) ∷ rest) ≡ entry
+pub owned_at : (owner : Name) (entry : Entry) (rest : Version) → owned owner ((owner, entry) ∷ rest) ≡ entry
 owned_at owner entry rest = ap (λ (o : Ordering). unwrap_or (cond (is_eq o) (Some entry) (entry_of owner rest)) []) (name_self owner)
 
 -- a name owns what was put

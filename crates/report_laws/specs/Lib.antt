@@ -2,3 +2,4 @@ pub mod Changes
 pub mod Octets
 pub mod Versions
 pub mod Reports
+pub mod Apart

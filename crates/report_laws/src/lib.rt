@@ -12,7 +12,9 @@ ghost use Rattle.job_model.specs.Commands.{Command, Job, FedJob};
 ghost use Rattle.job_model.specs.Jobs.{script_of, list_of, job_of, fed_job_of};
 ghost use Rattle.job_model.specs.Outcomes.{Pair};
 ghost use Rattle.job_model.specs.Feeds.{FedPair};
+ghost use Rattle.job_model.specs.Summaries.{summary};
 ghost use Rattle.report_laws.specs.Reports.{IsReportOf};
+ghost use Rattle.report_laws.specs.Apart.{AreApart, AreDone};
 ghost use Rattle.report_laws.specs.Octets.{AllOctets};
 ghost use Rattle.report_laws.specs.Changes.{AllSaid, AllAsked};
 ghost use Rattle.report_laws.specs.Versions.{ReadsBack, AreOutcomesOf, version_of, AreFedOutcomesOf, fed_version_of};
@@ -25,6 +27,14 @@ pub fn reports_leave_no_doubt()
         → (text : List ℕ) → length text < 2 ^ 64
         → (chunks : ℕ) (a b : List (List Pair)) (m n : ℕ) → IsReportOf chunks job text a m → IsReportOf chunks job text b n
         → (a ≡ b) × (m ≡ n) }
+{}
+
+/// The summary of a job hangs on the job alone, whatever order its workers' steps come in, where no name is changed by two of them and no
+/// block is refused: each name owns in the end what its own worker's transactions make of it, in their order.
+pub fn summaries_leave_no_choice()
+    ensures { (origin : Name) (bytes : List ℕ) (job : Job) → IsName origin → AllOctets bytes → job_of origin bytes ≡ Ok job → AreApart job.workers
+        → (chunks : ℕ) (a b : List (List Pair)) (m n : ℕ) → AreDone chunks job a m → AreDone chunks job b n
+        → summary job.origin job.zone a m ≡ summary job.origin job.zone b n }
 {}
 
 /// A zone that lines of octets say can be dumped.

@@ -3,7 +3,7 @@ use Rattle.job_script.specs.Views.{asked_view, question_view}
 use Rattle.job_script.proofs.ReportLemmas.{if_ok}
 use Rattle.shared_index.specs.Compactions.{Compacts}
 use Rattle.shared_index.specs.Passes.{known_at}
-use Rattle.job_threads.specs.Histories.{IsZone}
+use Rattle.job_threads.specs.Histories.{IsLawful}
 use Rattle.job_threads.specs.Commands.{Asked}
 use Rattle.job_threads.proofs.StationLaws.{ask_done, block_done, compact_done, if_both, step_is}
 use Rattle.job_threads.proofs.alone.run_alone.Goals as goal
@@ -33,4 +33,4 @@ returns-in-Compact-clause-steps g c = λ s setup spare held placed under.
     (compact_done s c.run_compaction.result c.args.pass.now.seat c.requires.here setup.opening spare held placed under c.run_compaction.new.pass.seat c.run_compaction.ensures.ends
     (λ is.
     let moved = c.run_compaction.ensures.moves is in
-    (table, moved.0, subst (λ n. Compacts (λ _ es. IsZone es) table n (known_at c.args.pass.now.seat) (known_at c.run_compaction.new.pass.seat) moved.0) (sym setup.index.passes) moved.1)) (c.run_compaction.ensures.ran s setup.opening))
+    (table, moved.0, subst (λ n. Compacts IsLawful table n (known_at c.args.pass.now.seat) (known_at c.run_compaction.new.pass.seat) moved.0) (sym setup.index.passes) moved.1)) (c.run_compaction.ensures.ran s setup.opening))

@@ -6,10 +6,14 @@ use Rattle.shared_index.specs.Openings.{room_in}
 use Rattle.zone_dump.proofs.WritingLaws.{on_any_err}
 use Rattle.job_threads.specs.Dumps.{StopsOn}
 use Rattle.job_threads.proofs.OpenLaws.{zone_rises, new_passes}
+use Rattle.job_threads.proofs.ZoneLaws.{zone_lawful}
 use Rattle.job_threads.proofs.dumping.dump_named.Goals as goal
 
 pub open-requires-clause-rising : goal.open-requires-clause-rising
-open-requires-clause-rising g c = zone_rises (entries_of_items c.args.items.now) c.requires.zone
+open-requires-clause-rising g c = zone_rises c.args.origin.now (entries_of_items c.args.items.now) c.requires.zone
+
+pub open-requires-clause-lawful : goal.open-requires-clause-lawful
+open-requires-clause-lawful g c = zone_lawful c.args.origin.now (entries_of_items c.args.items.now) c.requires.zone
 
 pub returns-in_err-dump_opened-in-Ok-clause-err : goal.returns-in_err-dump_opened-in-Ok-clause-err
 returns-in_err-dump_opened-in-Ok-clause-err g c = λ zone stands.

@@ -4,6 +4,7 @@ use Rattle.job_script.specs.Views.{command_view}
 use Rattle.job_script.proofs.ReportLemmas.{if_ok}
 use Rattle.feed_core.specs.Feeds.{Takings, new_seat}
 use Rattle.shared_index.specs.Passes.{known_at}
+use Rattle.job_threads.specs.Commands.{OpensAt}
 use Rattle.job_threads.specs.Feeds.{FedHeard, commands_at, commands_served, outcomes_served}
 use Rattle.job_threads.proofs.ShowLaws.{seat_told}
 use Rattle.job_threads.proofs.GatherLaws.{popped, gathers_main, front_new, gathers_server, gathers_served, at_ok}
@@ -20,9 +21,10 @@ pub join-done-requires-after_bounds : goal.join-done-requires-after_bounds
 join-done-requires-after_bounds g t c =
     let pass = popped c.args.passes.items c.pop.new.self.items c.in-Some.pass (λ p. (IsSome p.seat) × (p.place ≡ c.args.index.now.place)) c.in-Some.ensures.items c.requires.here in
     let seat = popped c.args.seats.items c.pop-2.new.self.items c.in-Some-pop.seat (λ (t : Takings). t ≡ new_seat c.args.feed.now) c.in-Some-pop.ensures.items c.requires.seats in
+    let opens = popped c.args.passes.items c.pop.new.self.items c.in-Some.pass (λ p. OpensAt c.args.origin.now (known_at p.seat)) c.in-Some.ensures.items c.requires.opens in
     λ κs bounds. (
-      (pass.1.0, (pass.1.1, (seat.1, (c.requires.count, (c.requires.no_snapshots, search rules))))),
-      (search rules, (search rules, (search rules, (search rules, (search rules, (search rules, (pass.0, (seat.0, (c.requires.count, (c.requires.no_snapshots, search rules)))))))))),
+      (pass.1.0, (pass.1.1, (seat.1, (c.requires.count, (c.requires.no_snapshots, (opens.1, (c.requires.said, search rules))))))),
+      (search rules, (search rules, (search rules, (search rules, (search rules, (search rules, (pass.0, (seat.0, (c.requires.count, (c.requires.no_snapshots, (opens.0, (c.requires.said, search rules)))))))))))),
     )
 
 pub returns-clause-ran : goal.returns-clause-ran

@@ -5,10 +5,15 @@ use Rattle.feed_core.specs.Feeds.{Takings}
 use Rattle.job_threads.specs.Feeds.{commands_at, only}
 use Rattle.std.specs.List.{AllByRecursion}
 use Rattle.job_threads.specs.Calls.{IsHeard}
+use Rattle.report_laws.specs.Changes.{AllAsked}
+use Rattle.shared_index.specs.Passes.{first_version, known_at}
+use Rattle.job_threads.specs.Histories.{Setup}
 use Rattle.job_threads.specs.Stations.{station}
-use Rattle.job_threads.proofs.ServeLaws.{command_here, plain_here, serve_starts, serve_next}
+use Rattle.job_threads.proofs.ServeLaws.{command_here, plain_here, so_here, serve_starts, serve_next}
 use Rattle.job_threads.proofs.ShowLaws.{seat_told}
+use Rattle.job_threads.proofs.StationLaws.{under_itself}
 use Rattle.job_threads.proofs.WorkLaws.{WorkerAt, all-push, worker_ran}
+use Rattle.job_threads.proofs.ZoneLaws.{opens_still}
 use Rattle.job_threads.proofs.feeding.serve.Goals as goal
 
 pub loop-number-init : goal.loop-number-init
@@ -22,6 +27,7 @@ loop-number-init g c =
       taken = ap (λ (t : Takings). t.taken) c.requires.seat ∙ sym none;
       alike = ap length none ∙ sym (ap length c.new-list.ensures.items);
       heard = subst (AllByRecursion (IsHeard (g.G.Gate.hears c.args.gate.now) c.args.worker)) (sym none) tt;
+      opens = c.requires.opens;
       at = λ s number setup new.
           subst (λ (l : List ℕ). WorkerAt s (only number) (station first (Some first) None) (commands_at (map command_view c.args.commands.now) l) [] c.new-list.result.items) (sym none)
           (subst (λ (l : List Outcome). WorkerAt s (only number) (station first (Some first) None) [] [] l) (sym c.new-list.ensures.items) (serve_starts s number first new));
@@ -31,6 +37,11 @@ pub run_alone-requires-clause-no_snapshot : goal.run_alone-requires-clause-no_sn
 run_alone-requires-clause-no_snapshot g c =
     let inside : c.in-Some.number - 1 < length c.args.commands.now = search rules in
     plain_here c.args.commands.now c.in-Some.number c.index-commands-number.result c.requires.no_snapshots inside c.index-commands-number.is
+
+pub run_alone-requires-clause-said : goal.run_alone-requires-clause-said
+run_alone-requires-clause-said g c =
+    let inside : c.in-Some.number - 1 < length c.args.commands.now = search rules in
+    so_here (AllAsked c.args.origin.now) c.args.commands.now c.in-Some.number c.index-commands-number.result c.requires.said inside c.index-commands-number.is
 
 pub loop-number-preserved : goal.loop-number-preserved
 loop-number-preserved g c =
@@ -47,6 +58,11 @@ loop-number-preserved g c =
       alike = search rules;
       heard = subst (AllByRecursion (IsHeard (g.G.Gate.hears c.args.gate.now) c.args.worker)) (sym c.in_ok-push.ensures.items)
           (all-push (IsHeard (g.G.Gate.hears c.args.gate.now) c.args.worker) c.loop-number.numbers.items c.in-Some.number i.heard (c.tell_before.ensures, c.tell_after.ensures));
+      opens =
+          let seat = c.loop-number.pass.seat in
+          let s : Setup = record { chunks = c.args.index.now.shared.table.shared.key.chunks; passes = c.args.index.now.shared.table.shared.key.passes; origin = c.args.origin.now; opening = first_version (known_at seat).seen } in
+          let step = c.in_ok-outcome.ensures.steps s (record { index = record { origin_is = refl; chunks = refl; passes = refl }; opening = refl }) (Some seat) None i.here (under_itself (known_at seat)) in
+          opens_still c.args.origin.now (known_at seat) (known_at c.run_alone.new.pass.seat) (seat_told seat i.here) step.asks i.opens;
       at = λ s number setup new.
           let w = i.at s number setup new in
           let step = c.in_ok-outcome.ensures.steps s (record { index = setup.index; opening = w.work.opened }) (Some first) None c.requires.here w.under in

@@ -6,7 +6,7 @@ use Rattle.feed_core.specs.Feeds.{remaining}
 use Rattle.shared_index.specs.Passes.{known_at}
 use Rattle.job_threads.specs.Histories.{Setup}
 use Rattle.job_threads.specs.Calls.{IsHeard}
-use Rattle.job_threads.specs.Commands.{IsSetup}
+use Rattle.job_threads.specs.Commands.{IsSetup, OpensAt}
 use Rattle.job_threads.specs.Stations.{station}
 use Rattle.job_threads.specs.Works.{IsNew}
 use Rattle.job_threads.specs.Feeds.{commands_at, only}
@@ -21,6 +21,7 @@ invariant-loop-number g l = record {
   taken : l.seat.taken ≡ l.numbers.items;
   alike : length l.numbers.items ≡ length l.list.items;
   heard : AllByRecursion (IsHeard (g.G.Gate.hears l.gate) l.worker) l.numbers.items;
+  opens : OpensAt l.origin (known_at l.pass.seat);
   at : (s : Setup) (number : ℕ) → IsSetup s l.origin l.index.shared.table.shared.key (known_at l.fn.pass.seat) → IsNew number s.opening (known_at l.fn.pass.seat)
       → WorkerAt s (only number) (station l.pass.seat (Some l.fn.pass.seat) None) (commands_at (map command_view l.commands) l.numbers.items) [] l.list.items;
 }

@@ -5,7 +5,9 @@ use Rattle.job_model.specs.Commands.{InTurn}
 use Rattle.job_script.specs.Views.{worker_view, workers_view}
 use Rattle.shared_index.specs.Passes.{known_at}
 use Rattle.std.proofs.lemmas.List.{nil_from_length}
+use Rattle.report_laws.specs.Changes.{AllAsked}
 use Rattle.job_threads.specs.Calls.{AllHeard}
+use Rattle.job_threads.specs.Commands.{OpensAt}
 use Rattle.job_threads.specs.Closings.{Gathers}
 use Rattle.job_threads.proofs.CallLaws.{any_ok}
 use Rattle.job_threads.proofs.ShowLaws.{seat_told}
@@ -22,10 +24,15 @@ join-done-requires-after_bounds g t c =
     let mine : InTurn false (worker_view c.in-Some-split_first.worker.now) = turn.0 in
     let theirs : AllByRecursion (InTurn false) (workers_view c.in-Some-split_first.others.now) = turn.1 in
     let first = popped c.args.passes.items c.pop.new.self.items c.in-Some.asks (λ p. (IsSome p.seat) × (p.place ≡ c.args.index.now.place)) c.in-Some.ensures.items c.requires.here in
+    let opens = popped c.args.passes.items c.pop.new.self.items c.in-Some.asks (λ p. OpensAt c.args.origin.now (known_at p.seat)) c.in-Some.ensures.items c.requires.opens in
+    let opens_next = popped c.pop.new.self.items c.pop-2.new.self.items c.in-Some-pop.spare (λ p. OpensAt c.args.origin.now (known_at p.seat)) c.in-Some-pop.ensures.items opens.0 in
+    let said = subst (AllByRecursion (AllByRecursion (AllAsked c.args.origin.now))) (ap workers_view c.in-Some-split_first.ensures.cases.0) c.requires.said in
+    let said_first : AllByRecursion (AllAsked c.args.origin.now) (worker_view c.in-Some-split_first.worker.now) = said.0 in
+    let said_others : AllByRecursion (AllByRecursion (AllAsked c.args.origin.now)) (workers_view c.in-Some-split_first.others.now) = said.1 in
     let second = popped c.pop.new.self.items c.pop-2.new.self.items c.in-Some-pop.spare (λ p. (IsSome p.seat) × (p.place ≡ c.args.index.now.place)) c.in-Some-pop.ensures.items first.0 in
     λ κs bounds. (
-      ((first.1.0, second.1.0), ((first.1.1, second.1.1), (mine, search rules))),
-      (search rules, (search rules, (search rules, (search rules, (search rules, (search rules, (second.0, (theirs, search rules)))))))),
+      ((first.1.0, second.1.0), ((first.1.1, second.1.1), (mine, (opens.1, (said_first, search rules))))),
+      (search rules, (search rules, (search rules, (search rules, (search rules, (search rules, (second.0, (theirs, (opens_next.0, (said_others, search rules)))))))))),
     )
 
 pub returns-clause-ran : goal.returns-clause-ran

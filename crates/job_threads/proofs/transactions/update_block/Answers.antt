@@ -7,7 +7,7 @@ use Rattle.zone_edit.specs.Blocks.{Executes}
 use Rattle.zone_edit.proofs.EditLaws.{is_there}
 use Rattle.job_threads.specs.Weights.{IsOfWeight}
 use Rattle.job_threads.proofs.ShowLaws.{seat_told}
-use Rattle.job_threads.proofs.BlockLaws.{begun_works, after_works, after_zone, edits_as, committed_ran, rollback_ran, stopped_ran, ran_as, result_as, stopped_wants, wants_as, has_passes, full_chunks}
+use Rattle.job_threads.proofs.BlockLaws.{begun_works, after_works, after_lawful, edits_as, committed_ran, rollback_ran, stopped_ran, ran_as, result_as, stopped_wants, wants_as, has_passes, full_chunks}
 use Rattle.job_threads.proofs.transactions.update_block.Goals as goal
 
 pub edit-requires-clause-works : goal.edit-requires-clause-works
@@ -22,7 +22,8 @@ commit-requires-clause-works g c =
 
 pub commit-requires-clause-lawful : goal.commit-requires-clause-lawful
 commit-requires-clause-lawful g c =
-    after_zone (known_at c.args.pass.now.seat) c.update-update.result.locked.now.draft c.update-update.ensures.begins c.args.origin.now (asked_view c.args.block.now) c.edit.new.transaction.locked.now.draft c.in_default.ensures.executes
+    after_lawful (known_at c.args.pass.now.seat) c.update-update.result.locked.now.draft c.update-update.ensures.begins c.args.origin.now (asked_view c.args.block.now) c.edit.new.transaction.locked.now.draft c.in_default.ensures.executes
+    (seat_told c.args.pass.now.seat c.requires.here) c.requires.opens c.requires.said
 
 pub returns-in-Commit-clause-ran : goal.returns-in-Commit-clause-ran
 returns-in-Commit-clause-ran g c = λ s setup.

@@ -1,14 +1,29 @@
-use Rattle.std.proofs.Common.{sym, subst}
+use Rattle.std.proofs.Common.{Some, None, refl, sym, subst}
 use Rattle.std.specs.Option.{option_map}
 use Rattle.job_model.specs.Commands.{AskHeld}
 use Rattle.job_script.specs.Views.{question_view}
+use Rattle.shared_index.specs.Passes.{first_version, known_at}
+use Rattle.job_threads.specs.Histories.{Setup}
 use Rattle.job_threads.specs.Steps.{Step}
 use Rattle.job_threads.specs.Stations.{station}
-use Rattle.job_threads.proofs.StationLaws.{step_is}
+use Rattle.job_threads.proofs.ShowLaws.{seat_told}
+use Rattle.job_threads.proofs.StationLaws.{step_is, under_itself}
+use Rattle.job_threads.proofs.ZoneLaws.{opens_still}
 use Rattle.job_threads.proofs.worker.run_command.Goals as goal
 
 pub returns-in-Hold-clause-steps : goal.returns-in-Hold-clause-steps
 returns-in-Hold-clause-steps g c = λ s setup under. step_is s c.take_snapshot.result _ _ c.args.command.now _ c.in-Hold.is (c.take_snapshot.ensures.steps s setup.opening under)
+
+pub returns-in-Hold-clause-opens : goal.returns-in-Hold-clause-opens
+returns-in-Hold-clause-opens g c =
+    opens_still c.args.origin.now (known_at c.args.passes.now.asks.seat) (known_at c.take_snapshot.new.passes.asks.seat) (seat_told c.args.passes.now.asks.seat c.requires.here) c.take_snapshot.ensures.grows c.requires.opens
+
+pub returns-in_ok-outcome-in-Ask-clause-opens : goal.returns-in_ok-outcome-in-Ask-clause-opens
+returns-in_ok-outcome-in-Ask-clause-opens g c =
+    let seat = c.args.passes.now.asks.seat in
+    let s : Setup = record { chunks = c.args.index.now.shared.table.shared.key.chunks; passes = c.args.index.now.shared.table.shared.key.passes; origin = c.args.origin.now; opening = first_version (known_at seat).seen } in
+    let step = c.in_ok-outcome-in-Ask.ensures.steps s (record { index = record { origin_is = refl; chunks = refl; passes = refl }; opening = refl }) (Some seat) None c.requires.here (under_itself (known_at seat)) in
+    opens_still c.args.origin.now (known_at seat) (known_at c.run_alone.new.pass.seat) (seat_told seat c.requires.here) step.asks c.requires.opens
 
 pub returns-in_ok-outcome-in-AskHeld-clause-steps : goal.returns-in_ok-outcome-in-AskHeld-clause-steps
 returns-in_ok-outcome-in-AskHeld-clause-steps g c = λ s setup under.

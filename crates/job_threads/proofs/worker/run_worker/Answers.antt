@@ -3,13 +3,14 @@ use Rattle.std.proofs.lemmas.List.{take_all, length-map}
 use Rattle.std.specs.Option.{option_map, is_some}
 use Rattle.job_script.specs.Views.{command_view}
 use Rattle.job_script.specs.declared.outcomes.Outcome.{Outcome}
+use Rattle.report_laws.specs.Changes.{AllAsked}
 use Rattle.shared_index.specs.Passes.{known_at}
 use Rattle.job_threads.specs.Calls.{IsHeard, next_number}
 use Rattle.job_threads.specs.Stations.{station}
 use Rattle.job_threads.specs.Works.{ended}
 use Rattle.job_threads.proofs.ShowLaws.{seat_told}
 use Rattle.job_threads.proofs.CallLaws.{one_more}
-use Rattle.job_threads.proofs.WorkLaws.{WorkerAt, worker_starts, worker_next, worker_ran, worker_back, turn_here, turn_next}
+use Rattle.job_threads.proofs.WorkLaws.{WorkerAt, worker_starts, worker_next, worker_ran, worker_back, turn_here, turn_next, said_here}
 use Rattle.job_threads.proofs.worker.run_worker.Goals as goal
 
 pub loop-place-init : goal.loop-place-init
@@ -22,6 +23,8 @@ loop-place-init g c = record {
   many = ap length c.in_ok-list.ensures.items;
   heard = λ place lt. absurd (omega arith);
   turn = c.requires.in_turn;
+  opens = c.requires.opens;
+  said = c.requires.said;
   at = λ s numbers setup begins. subst (λ (os : List Outcome). WorkerAt s numbers (ended (known_at c.args.task.asks.seat) (known_at c.args.task.spare.seat)) [] (map command_view c.args.task.commands.now) os) (sym c.in_ok-list.ensures.items)
       (worker_starts s numbers (known_at c.args.task.asks.seat) (known_at c.args.task.spare.seat) (map command_view c.args.task.commands.now) begins c.requires.in_turn);
 }
@@ -29,6 +32,10 @@ loop-place-init g c = record {
 pub run_command-requires-clause-may : goal.run_command-requires-clause-may
 run_command-requires-clause-may g c =
     (turn_here (is_some (option_map (λ s. s.seat) c.loop-place.passes.held)) c.args.task.commands.now c.loop-place.place c.index-commands-place.result c.loop-place-test.true c.index-commands-place.is c.loop-place.invariant.turn).0
+
+pub run_command-requires-clause-said : goal.run_command-requires-clause-said
+run_command-requires-clause-said g c =
+    (said_here (AllAsked c.args.origin.now) c.args.task.commands.now c.loop-place.place c.index-commands-place.result c.loop-place-test.true c.index-commands-place.is c.loop-place.invariant.said).0
 
 pub loop-place-preserved : goal.loop-place-preserved
 loop-place-preserved g c =
@@ -45,6 +52,8 @@ loop-place-preserved g c =
       heard = one_more (λ place. IsHeard (g.G.Gate.hears c.args.gate.now) c.args.task.number (next_number place)) c.loop-place.place (c.loop-place.place + 1) refl i.heard
           (subst (λ n. IsHeard (g.G.Gate.hears c.args.gate.now) c.args.task.number n) c.counted-ordinal.ensures (c.tell_before.ensures, c.tell_after.ensures));
       turn = turn_next (is_some (option_map (λ h. h.seat) c.loop-place.passes.held)) (is_some (option_map (λ h. h.seat) c.run_command.new.passes.held)) commands c.loop-place.place here c.loop-place-test.true c.index-commands-place.is c.in_ok-outcome.ensures.held i.turn;
+      opens = c.in_ok-outcome.ensures.opens;
+      said = (said_here (AllAsked c.args.origin.now) commands c.loop-place.place here c.loop-place-test.true c.index-commands-place.is i.said).1;
       at = λ s numbers setup begins.
           let w = i.at s numbers setup begins in
           let was = c.loop-place.passes in

@@ -7,11 +7,18 @@ use Rattle.shared_index.specs.Openings.{room_in}
 use Rattle.trie_model.specs.Shape.{cells}
 use Rattle.trie_write.specs.Entries.{entries_of_items}
 use Rattle.job_threads.specs.Histories.{Setup}
-use Rattle.job_threads.proofs.OpenLaws.{zone_rises, new_passes}
+use Rattle.job_threads.proofs.OpenLaws.{zone_rises, new_passes, all_open}
+use Rattle.job_threads.proofs.ZoneLaws.{zone_lawful}
 use Rattle.job_threads.proofs.zone.run_named.Goals as goal
 
 pub open-requires-clause-rising : goal.open-requires-clause-rising
-open-requires-clause-rising g c = zone_rises (entries_of_items c.args.items.now) c.requires.zone
+open-requires-clause-rising g c = zone_rises c.args.origin.now (entries_of_items c.args.items.now) c.requires.zone
+
+pub open-requires-clause-lawful : goal.open-requires-clause-lawful
+open-requires-clause-lawful g c = zone_lawful c.args.origin.now (entries_of_items c.args.items.now) c.requires.zone
+
+pub run_job-requires-clause-opens : goal.run_job-requires-clause-opens
+run_job-requires-clause-opens g c = all_open c.in-Ok.passes.items (λ p. p.seat) (entries_of_items c.args.items.now) c.args.origin.now (λ p. p.place ≡ 0) c.requires.zone c.in-Ok.ensures.passes
 
 pub returns-in_ok-finished-in-Ok : goal.returns-in_ok-finished-in-Ok
 returns-in_ok-finished-in-Ok g c = λ zone stands.

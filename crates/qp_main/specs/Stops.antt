@@ -1,0 +1,29 @@
+-- Why an input has no answer of its own.
+use Rattle.std.specs.Prelude.{ℕ, List, Result, Ok, Err}
+use Rattle.zone_model.specs.Refusals.{Refused}
+use Rattle.zone_model.specs.MasterFile.{Zone}
+use Rattle.zone_text.specs.declared.refusal.ZoneRefusal.{ZoneRefusal}
+use Rattle.zone_text.specs.declared.refusal.ZoneRefusal.TheVariants as refusal
+use Rattle.job_model.specs.declared.ScriptKind.{ScriptKind}
+use Rattle.qp_main.specs.Due.{ScriptRefuses, ZoneRefuses}
+use Rattle.qp_main.specs.declared.status.Status.{Status}
+use Rattle.qp_main.specs.declared.refusing.Stop.{Stop}
+use Rattle.qp_main.specs.declared.refusing.Stop.TheVariants as stop
+
+-- A zone that its reader refused is told with its line. Memory is wanting just where the reader wanted it.
+abbrev pub ZoneStopsFor : ZoneRefusal → Stop → Type 0
+ZoneStopsFor (refusal.Refused line kind) (stop.Refused s text) = ZoneRefuses (record { line = line; kind = kind }) s text
+ZoneStopsFor (refusal.Refused line kind) stop.Memory = ⊥
+ZoneStopsFor refusal.Memory (stop.Refused s text) = ⊥
+ZoneStopsFor refusal.Memory stop.Memory = Unit {0}
+
+-- the same of a script's refusal, behind what was read of the zone
+abbrev pub ScriptStopsFor : Result Zone ZoneRefusal → Refused ScriptKind → Stop → Type 0
+ScriptStopsFor (Ok zone) e (stop.Refused s text) = ScriptRefuses e s text
+ScriptStopsFor (Ok zone) e stop.Memory = ⊥
+ScriptStopsFor (Err r) e s = ZoneStopsFor r s
+
+-- what is told is due
+abbrev pub IsStop : (Status → List ℕ → Type 0) → Stop → Type 0
+IsStop due (stop.Refused s text) = due s text
+IsStop due stop.Memory = Unit {0}

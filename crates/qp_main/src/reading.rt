@@ -1,0 +1,64 @@
+//! What octets say, read with what is so of all that they may say.
+ghost use Rattle.std.specs.Prelude.{◌≡◌, ◌<◌, ◌≤◌, ◌+◌, ◌^◌, List, length, IfOk, vec_len, false};
+ghost use Rattle.std.specs.List.{AllByRecursion};
+ghost use Rattle.zone_model.specs.Lines.{lines_of};
+ghost use Rattle.zone_model.specs.MasterFile.{zone_of};
+ghost use Rattle.zone_text.specs.Views.{Reads};
+ghost use Rattle.master_file.specs.Rows.{CanBeDumped};
+ghost use Rattle.job_model.specs.Commands.{InTurn, NeedsNoSnapshot};
+ghost use Rattle.job_model.specs.Jobs.{list_of, script_of};
+ghost use Rattle.job_script.specs.Scripts.{Says};
+ghost use Rattle.job_script.specs.Views.{job_view, list_view};
+ghost use Rattle.report_laws.specs.Changes.{AllAsked};
+
+use dns_name::Name;
+use job_script::{Command, Job, JobRefusal, read_job, read_list};
+use master_file::{Zone, read_zone};
+use std::alloc::Global;
+use zone_text::ZoneRefusal;
+
+/// The zone that octets say. It is one of the origin.
+pub fn zone_in(alloc: Global, bytes: &[u8], origin: &Name) -> Result<Zone, ZoneRefusal>
+    requires short { length bytes.now ≤ 2 ^ 24 }
+    ensures zone { Reads result (λ z. z.pairs) (zone_of origin.now (lines_of bytes.now)) }
+    ensures of_origin { IfOk result (λ z. CanBeDumped origin.now z.pairs) }
+{
+    let _wire = origin.wire(); // for the proof: it is a name
+    read_zone(alloc, bytes, origin)
+}
+
+/// The job whose script octets say. What its commands ask for are changes of a zone of the origin.
+pub fn job_in(
+    alloc: Global,
+    bytes: &[u8],
+    first_line: u32,
+    origin: &Name,
+) -> Result<Job, JobRefusal>
+    requires short { length bytes.now ≤ 2 ^ 24 }
+    requires few { first_line + length bytes.now < 2 ^ 32 }
+    ensures reads { Says result job_view (script_of origin.now first_line (lines_of bytes.now)) }
+    ensures in_turn { IfOk result (λ job. AllByRecursion (InTurn false) (job_view job)) }
+    ensures few_workers { IfOk result (λ job. length job.workers.items ≤ 16) }
+    ensures said { IfOk result (λ job. AllByRecursion (AllByRecursion (AllAsked origin.now)) (job_view job)) }
+{
+    let _wire = origin.wire(); // for the proof: it is a name
+    read_job(alloc, bytes, first_line, origin)
+}
+
+/// The same of one list of commands.
+pub fn list_in(
+    alloc: Global,
+    bytes: &[u8],
+    first_line: u32,
+    origin: &Name,
+) -> Result<Vec<Command>, JobRefusal>
+    requires short { length bytes.now ≤ 2 ^ 24 }
+    requires few { first_line + length bytes.now < 2 ^ 32 }
+    ensures reads { Says result list_view (list_of origin.now first_line (lines_of bytes.now)) }
+    ensures no_snapshots { IfOk result (λ commands. AllByRecursion NeedsNoSnapshot (list_view commands)) }
+    ensures few_commands { IfOk result (λ commands. vec_len commands ≤ 10000) }
+    ensures said { IfOk result (λ commands. AllByRecursion (AllAsked origin.now) (list_view commands)) }
+{
+    let _wire = origin.wire(); // for the proof: it is a name
+    read_list(alloc, bytes, first_line, origin)
+}
