@@ -1,8 +1,10 @@
-use Rattle.std.proofs.Common.{◌≡◌, ◌+◌, ◌/◌, ℕ, arith, subst}
+use Rattle.std.proofs.Common.{◌≡◌, ◌+◌, ◌/◌, ◌≤◌, ℕ, true, arith, subst}
 use Rattle.trie_model.specs.Memory.{top_cell}
 use Rattle.chunk_usage.specs.Rooms.{reserve_account_of}
 use Rattle.trie_write.specs.Spaces.{IsWritable}
+use Rattle.trie_write.specs.Weights.{mark}
 use Rattle.trie_write.proofs.SpaceLaws.{fenced_of, fenced_counts, ready_counts}
+use Rattle.trie_write.proofs.WeightLaws.{at_itself, mark_tells}
 use Rattle.evacuate.proofs.FillingLaws.{moves_paid}
 use Rattle.evacuate.proofs.TreeLaws.{root_counted, root_moved, later_counted, handed_writable, released_rest}
 use Rattle.evacuate.proofs.moves.move_root.Goals as goal
@@ -12,6 +14,14 @@ copy_out-requires-clause-there g c i lt =
     let h = c.requires.stood in
     let e : c.args.root ≡ c.args.root + i = omega arith in
     (top_cell h.t, subst (λ (q : ℕ). g.C.CellRead.has c.args.cells.now q (top_cell h.t)) e h.stood.rooted.top)
+
+pub copy_out-requires-clause-in_use : goal.copy_out-requires-clause-in_use
+copy_out-requires-clause-in_use g c i lt =
+    let h = c.requires.stood in
+    let e : c.args.root ≡ c.args.root + i = omega arith in
+    let used = (reserve_account_of c.args.usage.now).used in
+    let met : 1 ≤ mark used c.args.root = (let a = h.stood.rooted.once c.args.root in let b = at_itself c.args.root in omega arith) in
+    subst (λ (q : ℕ). used q ≡ true) e (mark_tells used c.args.root met)
 
 pub release-requires-clause-counted : goal.release-requires-clause-counted
 release-requires-clause-counted g c = later_counted c.args.usage.now c.copy_out.new.usage (c.args.root / 1024) c.in_ok-to.ensures.handed (root_counted c.requires.stood.stood)
