@@ -43,8 +43,8 @@ returns-in_default-clause-ok g c zone shows =
     let none : on.left ≡ [] = subst (GivesNext (stands c.names.version c.next_item.new.iter) on.left c.next_item.new.item) c.in_default.is (c.next_item.ensures.next on.left faces) in
     (goes_end (stands c.args.version.now c.names.iter) (held c.args.sink.now) (held c.names.sink) had.text.items lines.text.items had.count lines.count had.directives zone on none).0
 
-pub shared_ref_as_front-push_item : goal.shared_ref_as_front-push_item
-shared_ref_as_front-push_item g c =
+pub slice_bounds-push_item-end : goal.slice_bounds-push_item-end
+slice_bounds-push_item-end g c =
     let on = c.names.invariant.goes_on c.requires.shown.0 c.requires.shown.1 in
     let faces = subst (λ v. Faces (g.V.Reading.stands v c.names.iter) on.left) (sym c.names.invariant.same) on.faces in
     let first = c.in-Some.ensures.next on.left faces in
