@@ -1,4 +1,4 @@
-use Rattle.std.proofs.Common.{◌≡◌, ◌∙◌, [], ◌++◌, Option, refl, sym, subst, arith}
+use Rattle.std.proofs.Common.{◌≡◌, ◌∙◌, [], ◌++◌, Option, refl, sym, subst, arith, length-take-le}
 use Rattle.outer_io.specs.Bytes.{GrowsByFront}
 use Rattle.zone_model.specs.Rows.{Directives}
 use Rattle.zone_model.specs.Dumps.{rows_at, owner_lines}
@@ -49,6 +49,13 @@ slice_bounds-push_item-end g c =
     let faces = subst (λ v. Faces (g.V.Reading.stands v c.names.iter) on.left) (sym c.names.invariant.same) on.faces in
     let first = c.in-Some.ensures.next on.left faces in
     first.within
+
+pub slice_bounds-push_item-end-in-names : goal.slice_bounds-push_item-end-in-names
+slice_bounds-push_item-end-in-names g c =
+    let on = c.names.invariant.goes_on c.requires.shown.0 c.requires.shown.1 in
+    let faces = subst (λ v. Faces (g.V.Reading.stands v c.names.iter) on.left) (sym c.names.invariant.same) on.faces in
+    let first = c.in-Some.ensures.next on.left faces in
+    sym (length-take-le c.in-Some.len c.next_item.new.item first.within)
 
 pub push_item-requires : goal.push_item-requires
 push_item-requires g c =
