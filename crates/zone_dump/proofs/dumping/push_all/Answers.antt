@@ -1,4 +1,4 @@
-use Rattle.std.proofs.Common.{◌≡◌, ◌∙◌, [], ◌++◌, Option, refl, sym, subst, arith}
+use Rattle.std.proofs.Common.{◌≡◌, ◌∙◌, [], ◌++◌, Option, refl, sym, subst, arith, length-take-le}
 use Rattle.outer_io.specs.Bytes.{GrowsByFront}
 use Rattle.zone_model.specs.Rows.{Directives}
 use Rattle.zone_model.specs.Dumps.{rows_at, owner_lines}
@@ -43,12 +43,19 @@ returns-in_default-clause-ok g c zone shows =
     let none : on.left ≡ [] = subst (GivesNext (stands c.names.version c.next_item.new.iter) on.left c.next_item.new.item) c.in_default.is (c.next_item.ensures.next on.left faces) in
     (goes_end (stands c.args.version.now c.names.iter) (held c.args.sink.now) (held c.names.sink) had.text.items lines.text.items had.count lines.count had.directives zone on none).0
 
-pub shared_ref_as_front-push_item : goal.shared_ref_as_front-push_item
-shared_ref_as_front-push_item g c =
+pub slice_bounds-push_item-end : goal.slice_bounds-push_item-end
+slice_bounds-push_item-end g c =
     let on = c.names.invariant.goes_on c.requires.shown.0 c.requires.shown.1 in
     let faces = subst (λ v. Faces (g.V.Reading.stands v c.names.iter) on.left) (sym c.names.invariant.same) on.faces in
     let first = c.in-Some.ensures.next on.left faces in
     first.within
+
+pub slice_bounds-push_item-end-in-names : goal.slice_bounds-push_item-end-in-names
+slice_bounds-push_item-end-in-names g c =
+    let on = c.names.invariant.goes_on c.requires.shown.0 c.requires.shown.1 in
+    let faces = subst (λ v. Faces (g.V.Reading.stands v c.names.iter) on.left) (sym c.names.invariant.same) on.faces in
+    let first = c.in-Some.ensures.next on.left faces in
+    sym (length-take-le c.in-Some.len c.next_item.new.item first.within)
 
 pub push_item-requires : goal.push_item-requires
 push_item-requires g c =
