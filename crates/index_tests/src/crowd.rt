@@ -130,12 +130,7 @@ fn count<V: Reading>(reading: &mut V, version: u64) -> u64
 }
 
 /// Whether a version has as many names as its number says, and what it should have at each 25th of their places.
-fn fits<V: Reading>(
-    reading: &mut V,
-    names: &[Item],
-    version: u64,
-    buffer: &mut Buffer,
-) -> bool
+fn fits<V: Reading>(reading: &mut V, names: &[Item], version: u64, buffer: &mut Buffer) -> bool
     requires { IsHeld (V.holds reading.old) }
     ensures { reading.new ≡ reading.old }
 {

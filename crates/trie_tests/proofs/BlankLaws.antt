@@ -14,11 +14,11 @@ none_kept q c = let l = c.1 in omega arith
 
 pub lone_blank : (given : List Bool) (n r : ℕ) (x : Extents) → x ≡ last r → n ≤ 4096 → IsRow r (content_cells n) → IsGiven given (r / 1024) → AreBlank [] given n x
 lone_blank given n r x is short row g = subst (AreBlank [] given n) (sym is) (record {
-    are = (short, row);
-    apart = tt;
-    in_given = λ k l. let t = row.together in let e : r / 1024 ≡ (r + k) / 1024 = omega arith in subst (IsGiven given) e g;
-    unkept = λ k l. none_kept (r + k);
-  })
+  are = (short, row);
+  apart = tt;
+  in_given = λ k l. let t = row.together in let e : r / 1024 ≡ (r + k) / 1024 = omega arith in subst (IsGiven given) e g;
+  unkept = λ k l. none_kept (r + k);
+})
 
 -- its cells, and the item
 pub lone_cell : (has : ℕ → Cell → Type 0) (r : ℕ) (x : Extents) (item : List ℕ) → x ≡ last r → ItemLies has x item → (k : ℕ) → k < content_cells (length item) → has (r + k) (item_cell item k)

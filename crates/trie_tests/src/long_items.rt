@@ -127,12 +127,7 @@ fn come_and_go(
 }
 
 /// The same in a room of its own. None where something isn't as it should be, or for want of memory.
-fn come_and_go_alone(
-    alloc: Global,
-    first: &Item,
-    second: &Item,
-    out: &mut [u8],
-) -> Option<[u32; 3]>
+fn come_and_go_alone(alloc: Global, first: &Item, second: &Item, out: &mut [u8]) -> Option<[u32; 3]>
     requires { most_item_octets ≤ length out.old }
     ensures { length out.new ≡ length out.old }
 {
