@@ -9,6 +9,7 @@ ghost use Rattle.trie_read.specs.Reads.{EachTells};
 ghost use Rattle.trie_write.specs.Spaces.{Ready};
 ghost use Rattle.trie_write.specs.Standing.{HasTrie};
 
+use crate::made::buffer;
 use crate::many_names::{Change, changed};
 use crate::room::unused_room;
 use chunk_cells::{CellRead, CellWrite, PlainCells, cells_for, read_item};
@@ -155,7 +156,7 @@ fn exchanges(alloc: Global, first: &Item, cells: u32, others: &[Item], out: &mut
 
 /// Whether each is exchanged for each of the others. None for want of memory.
 fn all_are_exchanged(alloc: Global) -> Option<bool> {
-    let mut out = vec![in alloc; 0; 65_535].ok()?;
+    let mut out = buffer(alloc).ok()?;
     let firsts = items_of(alloc, 1)?;
     let seconds = items_of(alloc, 2)?;
     for place in 0..firsts.len().min(CELLS.len()) {

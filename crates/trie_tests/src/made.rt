@@ -1,6 +1,7 @@
 //! Items, made of texts while a test runs: a proof sees none of them.
 
-ghost use Rattle.std.specs.Prelude.{◌≡◌, ◌≤◌};
+ghost use Rattle.std.specs.Prelude.{◌≡◌, ◌≤◌, length, IfOk};
+ghost use Rattle.zone_model.specs.Keys.{most_item_octets};
 ghost use Rattle.chunk_cells.specs.Laying.{extents_in};
 ghost use Rattle.trie_model.specs.Extents.Extents.{last};
 
@@ -20,6 +21,13 @@ pub(crate) fn lone(leaf: Leaf) -> Extents
         len: leaf.len,
         at: [leaf.at; 17],
     }
+}
+
+/// Room for any item.
+pub(crate) fn buffer(alloc: Global) -> Result<Vec<u8>, AllocError>
+    ensures { IfOk result (λ v. length v.items ≡ most_item_octets) }
+{
+    vec![in alloc; 0; 65_535]
 }
 
 /// So many octets.

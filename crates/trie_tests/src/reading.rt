@@ -6,7 +6,7 @@ ghost use Rattle.zone_model.specs.Keys.{Leads, most_item_octets};
 ghost use Rattle.trie_read.specs.Reads.{EachTells};
 ghost use Rattle.trie_tests.specs.Example.{two_names};
 
-use crate::made::lone;
+use crate::made::{buffer, lone};
 use chunk_cells::{CellRead, CellWrite, PlainCells, write_item};
 use dns_name::Name;
 use packed_node::{Branch, Leaf, Node, bitmap};
@@ -299,7 +299,7 @@ fn reads<R: Reading>(reading: &mut R, between: &[u8], second: &[u8], out: &mut [
 
 #[test]
 fn a_version_is_read(rt: HostRuntime) -> Result<(), Fail> {
-    let mut out = vec![in rt.alloc(); 0; 65_535]?;
+    let mut out = buffer(rt.alloc())?;
     let mut reading = CellReading::new(example(rt.alloc())?, Some(0), 7);
     assert!(rt; reads(&mut reading, b"\x01x\x01a\0", b"\x01b\0", &mut out));
     Ok(())
