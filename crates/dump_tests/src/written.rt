@@ -53,13 +53,7 @@ pub(crate) fn write_zone(
     };
     let directives = ttl.map(|ttl| Directives::new(&origin, ttl));
     match read_zone(alloc, text, &origin) {
-        Ok(zone) => Some(write_items(
-            alloc,
-            &mut zone.into_items(),
-            directives,
-            &mut item,
-            sink,
-        )),
+        Ok(zone) => Some(write_items(alloc, &mut zone.into_items(), directives, &mut item, sink)),
         Err(_) => None,
     }
 }

@@ -51,12 +51,7 @@ pub fn entry_of(alloc: Global, name: &Name, octets: &[u8]) -> Result<Entry, Allo
 
 /// Reads the item of what a name owns into the beginning of a buffer, by the name's key, and gives its length; 0 where the name owns
 /// nothing.
-pub fn read_owned<V: Reading>(
-    version: &mut V,
-    name: &Name,
-    key: &Key,
-    item: &mut [u8],
-) -> usize
+pub fn read_owned<V: Reading>(version: &mut V, name: &Name, key: &Key, item: &mut [u8]) -> usize
     requires shown { ShowsSome (V.holds version.old) }
     requires key { key.now ≡ key_of name.now }
     requires room { most_item_octets ≤ length item.old }
