@@ -46,7 +46,8 @@ fn second_len(items: &mut ZoneItems, octets: &mut [u8]) -> Becomes
     }
 }
 
-fn becomes(alloc: Global, front: &[u8], octets: usize, behind: &[u8]) -> Becomes {
+// What a text that is made of these becomes.
+fn made_of(alloc: Global, front: &[u8], octets: usize, behind: &[u8]) -> Becomes {
     let Ok(origin) = Name::read(b"example.", &Name::root()) else {
         return Becomes::Other;
     };
@@ -93,6 +94,6 @@ fn a_name_has_at_most_65_535_octets(rt: HostRuntime) {
             Becomes::Long(5),
         ),
     ] {
-        assert!(rt; becomes(rt.alloc(), front, octets, behind) == want);
+        assert!(rt; made_of(rt.alloc(), front, octets, behind) == want);
     }
 }
