@@ -2,6 +2,7 @@ pub mod PrintedLineLemmas
 pub mod RecordLemmas
 pub mod ZoneLemmas
 pub mod OwnerLemmas
+pub mod GrowthLemmas
 pub mod OwnedLemmas
 pub mod JoinLemmas
 pub mod DumpLemmas

@@ -5,6 +5,7 @@ ghost use Rattle.zone_model.specs.Records.{Entry as Records, with_rr, rrset_of, 
 ghost use Rattle.zone_model.specs.Versions.{is_lone};
 ghost use Rattle.zone_model.specs.MasterFile.{soa_count};
 ghost use Rattle.master_file.specs.Zones.{Checks};
+ghost use Rattle.master_file.specs.Owned.{IsCounted};
 ghost use Rattle.master_file.specs.Owners.{CanBeItem};
 
 use dns_name::{Name, OwnedName};
@@ -34,6 +35,8 @@ pub enum Kept {
 pub struct Several {
     pub owner: OwnedName,
     pub entry: Entry,
+    /// No fewer octets than their item has. It would be too long exactly where these are too many.
+    pub octets: usize,
 }
 
 impl Model for Owned {
@@ -71,17 +74,18 @@ fn soa_count(entry: &Entry) -> usize
     }
 }
 
-// Whether an entry that a record made can stand.
-fn check_entry(entry: &Entry, owner: &Name, last: u32) -> Result<(), ZoneRefusal>
-    ensures { Checks result last owner.now entry.now }
+// Whether an entry that a record made can stand. All octets of its item were counted.
+fn check_entry(several: &Several, last: u32) -> Result<(), ZoneRefusal>
+    requires { IsCounted several.now.owner several.now.entry several.now.octets }
+    ensures { Checks result last several.now.owner several.now.entry }
 {
-    if soa_count(entry) > 1 {
+    if soa_count(&several.entry) > 1 {
         return Err(refuse(last, ZoneKind::SoaRule));
     }
-    if !is_lone(entry) {
+    if !is_lone(&several.entry) {
         return Err(refuse(last, ZoneKind::CnameAndOther));
     }
-    if entry.item_len(owner) > ITEM_LIMIT {
+    if several.octets > ITEM_LIMIT {
         return Err(refuse(last, ZoneKind::LongEntry));
     }
     Ok(())
@@ -90,7 +94,8 @@ fn check_entry(entry: &Entry, owner: &Name, last: u32) -> Result<(), ZoneRefusal
 // The name and the records of an item.
 fn several_of(alloc: Global, octets: &[u8]) -> Result<Several, AllocError>
     requires { (owner : Labels) × (entry : Records) × IsItem octets.now owner entry }
-    ensures { IfOk result (λ s. (owner : Labels) (entry : Records) → IsItem octets.now owner entry → (s.owner ≡ owner) × (s.entry ≡ entry)) }
+    ensures is { IfOk result (λ s. (owner : Labels) (entry : Records) → IsItem octets.now owner entry → (s.owner ≡ owner) × (s.entry ≡ entry)) }
+    ensures counted { IfOk result (λ s. IsCounted s.owner s.entry s.octets) }
 {
     let Some(name) = Name::from_wire(octets) else {
         // An item begins with its owner's octets.
@@ -100,6 +105,7 @@ fn several_of(alloc: Global, octets: &[u8]) -> Result<Several, AllocError>
         Ok(entry) => Ok(Several {
             owner: OwnedName::of(alloc, &name)?,
             entry,
+            octets: octets.len(),
         }),
         Err(DecodeRefusal::Memory) => Err(AllocError),
         // It was encoded here.
@@ -117,13 +123,41 @@ fn several_first(
 ) -> Result<Several, AllocError>
     ensures owner { IfOk result (λ s. s.owner ≡ owner.now) }
     ensures entry { IfOk result (λ s. s.entry ≡ with_rr rtype time rdata []) }
+    ensures counted { IfOk result (λ s. IsCounted s.owner s.entry s.octets) }
 {
     let mut entry = Entry::empty(alloc);
     entry.add(alloc, rtype, time, rdata)?;
+    let octets = entry.item_len(owner);
     Ok(Several {
         owner: OwnedName::of(alloc, owner)?,
         entry,
+        octets,
     })
+}
+
+// Adds a record, unless it is there. It takes 10 octets beside its own where its RRset is new; all are counted anew only where as
+// many would be too many.
+fn add_to(
+    alloc: Global,
+    several: &mut Several,
+    rtype: u16,
+    time: u32,
+    rdata: Rdata,
+) -> Result<(), AllocError>
+    requires { IsCounted several.old.owner several.old.entry several.old.octets }
+    ensures owner { several.new.owner ≡ several.old.owner }
+    ensures entry { OnOk result (several.new.entry ≡ with_rr rtype time rdata several.old.entry) }
+    ensures counted { IsCounted several.new.owner several.new.entry several.new.octets }
+{
+    let more = rdata.octets().len();
+    if !several.entry.add(alloc, rtype, time, rdata)? {
+        return Ok(());
+    }
+    several.octets = several.octets.saturating_add(10 + more);
+    if several.octets > ITEM_LIMIT {
+        several.octets = several.entry.item_len(&several.owner.name());
+    }
+    Ok(())
 }
 
 impl Owned {
@@ -163,14 +197,11 @@ impl Owned {
         match &mut self.kept {
             Kept::Single(octets) => {
                 let mut several = several_of(alloc, octets)?;
-                several.entry.add(alloc, rtype, time, rdata)?;
+                add_to(alloc, &mut several, rtype, time, rdata)?;
                 self.kept = Kept::Several(Box::new(alloc, several)?);
                 Ok(())
             }
-            Kept::Several(several) => {
-                several.entry.add(alloc, rtype, time, rdata)?;
-                Ok(())
-            }
+            Kept::Several(several) => add_to(alloc, several, rtype, time, rdata),
         }
     }
 
@@ -180,7 +211,7 @@ impl Owned {
     {
         match &self.kept {
             Kept::Single(_) => Ok(()),
-            Kept::Several(several) => check_entry(&several.entry, &several.owner.name(), last),
+            Kept::Several(several) => check_entry(several, last),
         }
     }
 

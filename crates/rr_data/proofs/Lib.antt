@@ -15,3 +15,4 @@ pub mod StartsLemmas
 pub mod StringLemmas
 pub mod StringTextLemmas
 pub mod RecordLineLemmas
+pub mod RisingLemmas

@@ -5,11 +5,7 @@ use Rattle.std.specs.declared.cmp.Ordering.TheVariants.{Less, Equal, Greater}
 use Rattle.std.specs.Ordering.{nat_cmp, match_ordering}
 use Rattle.std.proofs.lemmas.List.{drop_more, take_more, set_split, get_or_read}
 use Rattle.zone_model.specs.Records.{Rrset, changed_at}
-use Rattle.rr_data.specs.Places.{StandsAt, MissingAt}
-
--- the RRsets before a place have smaller types, so a change happens behind them
-pub record Passed (rtype : ℕ) (sets : List Rrset) (at : ℕ) : Type 0 where
-  pub changed : (change : Option Rrset → List Rrset) → changed_at rtype change sets ≡ take at sets ++ changed_at rtype change (drop at sets)
+use Rattle.rr_data.specs.Places.{AreLower, StandsAt, MissingAt}
 
 here_first : (sets : List Rrset) (at : ℕ) (here : Rrset) → at < length sets → here ≡ get_or sets at here → drop at sets ≡ here ∷ drop (suc at) sets
 here_first sets at here lt is =
@@ -19,7 +15,7 @@ step_at : (rtype : ℕ) (change : Option Rrset → List Rrset) (here : Rrset) (r
     → changed_at rtype change (here ∷ rest) ≡ match_ordering o (change None ++ (here ∷ rest)) (change (Some here) ++ rest) (here ∷ changed_at rtype change rest)
 step_at rtype change here rest o e = ap (λ (p : Ordering). match_ordering p (change None ++ (here ∷ rest)) (change (Some here) ++ rest) (here ∷ changed_at rtype change rest)) e
 
-pub stands : (rtype : ℕ) (sets : List Rrset) (at : ℕ) (here : Rrset) → at < length sets → here ≡ get_or sets at here → nat_cmp rtype here.rtype ≡ Equal → Passed rtype sets at → StandsAt rtype sets at
+pub stands : (rtype : ℕ) (sets : List Rrset) (at : ℕ) (here : Rrset) → at < length sets → here ≡ get_or sets at here → nat_cmp rtype here.rtype ≡ Equal → AreLower rtype sets at → StandsAt rtype sets at
 stands rtype sets at here lt is same p = record {
   set = here;
   is = is;
@@ -27,13 +23,13 @@ stands rtype sets at here lt is same p = record {
   changed = λ change. p.changed change ∙ ap (λ (l : List Rrset). take at sets ++ l) (ap (changed_at rtype change) (here_first sets at here lt is) ∙ step_at rtype change here (drop (suc at) sets) Equal same);
 }
 
-pub missing_before : (rtype : ℕ) (sets : List Rrset) (at : ℕ) (here : Rrset) → at < length sets → here ≡ get_or sets at here → nat_cmp rtype here.rtype ≡ Less → Passed rtype sets at → MissingAt rtype sets at
+pub missing_before : (rtype : ℕ) (sets : List Rrset) (at : ℕ) (here : Rrset) → at < length sets → here ≡ get_or sets at here → nat_cmp rtype here.rtype ≡ Less → AreLower rtype sets at → MissingAt rtype sets at
 missing_before rtype sets at here lt is less p = record {
   within = omega arith;
   changed = λ change. p.changed change ∙ ap (λ (l : List Rrset). take at sets ++ l) (ap (changed_at rtype change) (here_first sets at here lt is) ∙ step_at rtype change here (drop (suc at) sets) Less less ∙ ap (λ (l : List Rrset). change None ++ l) (sym (here_first sets at here lt is)));
 }
 
-pub passes : (rtype : ℕ) (sets : List Rrset) (at : ℕ) (here : Rrset) → at < length sets → here ≡ get_or sets at here → nat_cmp rtype here.rtype ≡ Greater → Passed rtype sets at → Passed rtype sets (at + 1)
+pub passes : (rtype : ℕ) (sets : List Rrset) (at : ℕ) (here : Rrset) → at < length sets → here ≡ get_or sets at here → nat_cmp rtype here.rtype ≡ Greater → AreLower rtype sets at → AreLower rtype sets (at + 1)
 passes rtype sets at here lt is greater p =
     let more : take (at + 1) sets ≡ take at sets ++ here ∷ [] = take_more sets at here lt ∙ ap (λ (x : Rrset). take at sets ++ x ∷ []) (sym is) in
     let next : at + 1 ≡ suc at = omega arith in record {
@@ -49,7 +45,7 @@ nothing_behind : (sets : List Rrset) → drop (length sets) sets ≡ []
 nothing_behind [] = refl
 nothing_behind (s ∷ sets) = nothing_behind sets
 
-pub missing_at_end : (rtype : ℕ) (sets : List Rrset) → Passed rtype sets (length sets) → MissingAt rtype sets (length sets)
+pub missing_at_end : (rtype : ℕ) (sets : List Rrset) → AreLower rtype sets (length sets) → MissingAt rtype sets (length sets)
 missing_at_end rtype sets p = record {
   within = omega arith;
   changed = λ change.
@@ -59,7 +55,7 @@ missing_at_end rtype sets p = record {
       ∙ ap (λ (l : List Rrset). take (length sets) sets ++ (change None ++ l)) (sym (nothing_behind sets));
 }
 
-pub none_passed : (rtype : ℕ) (sets : List Rrset) → Passed rtype sets 0
+pub none_passed : (rtype : ℕ) (sets : List Rrset) → AreLower rtype sets 0
 none_passed rtype sets = record { changed = λ change. refl }
 
 read_once : (sets : List Rrset) (at : ℕ) (x y : Rrset) → at < length sets → x ≡ get_or sets at x → y ≡ get_or sets at y → x ≡ y

@@ -2,6 +2,10 @@
 use Rattle.std.specs.Prelude.{◌≡◌, ℕ, suc, ◌<◌, ◌≤◌, List, ◌++◌, length, take, drop, slice_index_or, Option, Some, None}
 use Rattle.zone_model.specs.Records.{Rrset, Entry, changed_at}
 
+-- those before a place have lower types, so a change is one behind them
+pub record AreLower (rtype : ℕ) (entry : Entry) (at : ℕ) : Type 0 where
+  pub changed : (change : Option Rrset → List Rrset) → changed_at rtype change entry ≡ take at entry ++ changed_at rtype change (drop at entry)
+
 -- it stands at a place, and a change of it leaves what is before and behind it
 pub record StandsAt (rtype : ℕ) (entry : Entry) (at : ℕ) : Type 0 where
   pub set : Rrset

@@ -1,6 +1,6 @@
 //! An entry.
 ghost use Rattle.std.specs.Prelude.{◌≡◌, ◌<◌, ◌≤◌, ◌++◌, ◌∷◌, [], ℕ, List, Option, length, OnOk, OnErr, MatchOption, take, drop, Some, None, min, ◌-◌, ◌^◌, slice_get, IsTrue, IsNone, IsSome, IfSome, IfOk, ◌↔◌};
-ghost use Rattle.zone_model.specs.Records.{Rrset, with_rr, without_rr, without_set, rrset_of, item, item_limit, rrset_bytes, IsItem};
+ghost use Rattle.zone_model.specs.Records.{Rrset, with_rr, without_rr, without_set, rrset_of, item, item_limit, rrset_bytes, IsEntry, IsItem};
 ghost use Rattle.rr_data.specs.Changes.{TellsChange};
 ghost use Rattle.rr_data.specs.Items.{Decodes};
 
@@ -12,6 +12,7 @@ use crate::refusal::DecodeRefusal;
 use crate::rrset::RrSet;
 use dns_name::Name;
 use std::alloc::{AllocError, Global};
+use std::cmp::Ordering;
 use std::marker::Model;
 
 /// The most octets of an item.
@@ -61,6 +62,7 @@ fn add_to(
     ttl: u32,
     added: Rdata,
 ) -> Result<bool, AllocError>
+    requires { IsEntry sets.old.items }
     ensures ok { OnOk result (sets.new.items ≡ with_rr rtype ttl added sets.old.items) }
     ensures changed { IfOk result (λ changed. TellsChange changed sets.old.items sets.new.items) }
     ensures err { OnErr result (sets.new.items ≡ sets.old.items) }
@@ -83,6 +85,7 @@ fn add_to(
 
 // Removes the RRset of a type. Answers whether there was one.
 fn remove_set(sets: &mut Vec<RrSet>, rtype: u16) -> bool
+    requires { IsEntry sets.old.items }
     ensures value { sets.new.items ≡ without_set rtype sets.old.items }
     ensures changed { TellsChange result sets.old.items sets.new.items }
 {
@@ -95,6 +98,7 @@ fn remove_set(sets: &mut Vec<RrSet>, rtype: u16) -> bool
 
 // Removes a record, and its RRset with the last one. Answers whether it was there.
 fn remove_from(sets: &mut Vec<RrSet>, rtype: u16, octets: &[u8]) -> bool
+    requires { IsEntry sets.old.items }
     ensures value { sets.new.items ≡ without_rr rtype octets.now sets.old.items }
     ensures changed { TellsChange result sets.old.items sets.new.items }
 {
@@ -165,8 +169,10 @@ impl Entry {
         ensures { MatchOption result (rrset_of rtype self.now ≡ None) (λ s. rrset_of rtype self.now ≡ Some s.now) }
     {
         for set in &self.sets {
-            if set.rtype() == rtype {
-                return Some(set);
+            match rtype.cmp(&set.rtype()) {
+                Ordering::Less => return None,
+                Ordering::Equal => return Some(set),
+                Ordering::Greater => {}
             }
         }
         None

@@ -1,19 +1,41 @@
 //! Where the RRset of a type stands among the RRsets of an entry.
-ghost use Rattle.std.specs.Prelude.{◌≡◌, ◌<◌, ◌≤◌, ◌++◌, ◌∷◌, [], ℕ, List, length, MatchResult};
-ghost use Rattle.rr_data.specs.Places.{StandsAt, MissingAt};
+ghost use Rattle.std.specs.Prelude.{◌≡◌, ◌<◌, ◌≤◌, ◌++◌, ◌∷◌, [], ℕ, List, length, None, MatchResult};
+ghost use Rattle.zone_model.specs.Records.{RisingSets};
+ghost use Rattle.rr_data.specs.Places.{AreLower, StandsAt, MissingAt};
 
 use crate::rrset::RrSet;
 use std::cmp::Ordering;
 
-// The place of the RRset of a type, or else where it would stand.
+// A place before which all RRsets have lower types, and behind which none has.
+fn start_of(sets: &[RrSet], rtype: u16) -> usize
+    requires { RisingSets None sets.now }
+    ensures within { result ≤ length sets.now }
+    ensures lower { AreLower rtype sets.now result }
+{
+    let mut at = 0;
+    let mut end = sets.len();
+    while at < end {
+        let middle = at + (end - at) / 2;
+        if sets[middle].rtype() < rtype {
+            at = middle + 1;
+        } else {
+            end = middle;
+        }
+    }
+    at
+}
+
+// The place of the RRset of a type, or else where it would stand. The walk to it begins right there.
 pub fn place_of(sets: &[RrSet], rtype: u16) -> Result<usize, usize>
+    requires { RisingSets None sets.now }
     ensures { MatchResult result (StandsAt rtype sets.now) (MissingAt rtype sets.now) }
 {
-    for (at, set) in sets.iter().enumerate() {
-        match rtype.cmp(&set.rtype()) {
+    let mut at = start_of(sets, rtype);
+    while at < sets.len() {
+        match rtype.cmp(&sets[at].rtype()) {
             Ordering::Less => return Err(at),
             Ordering::Equal => return Ok(at),
-            Ordering::Greater => {}
+            Ordering::Greater => at += 1,
         }
     }
     Err(sets.len())

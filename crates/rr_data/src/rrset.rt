@@ -1,6 +1,6 @@
 //! An RRset.
-ghost use Rattle.std.specs.Prelude.{◌≡◌, ◌<◌, ◌≤◌, ◌++◌, ◌∷◌, [], ℕ, List, length, IfOk, OnOk, OnErr, take, drop, slice_get, Some, IsTrue, ◌↔◌};
-ghost use Rattle.zone_model.specs.Records.{Rrset, with_record, without_record, has_record, fresh};
+ghost use Rattle.std.specs.Prelude.{◌≡◌, ◌<◌, ◌≤◌, ◌++◌, ◌∷◌, [], ℕ, List, length, IfOk, OnOk, OnErr, take, drop, slice_get, Some, None, IsTrue, ◌↔◌};
+ghost use Rattle.zone_model.specs.Records.{Rrset, with_record, without_record, has_record, fresh, RisingOctets};
 ghost use Rattle.rr_data.specs.Changes.{TellsChange};
 
 use crate::rdata::Rdata;
@@ -48,13 +48,32 @@ fn has_octets(records: &[Rdata], octets: &[u8]) -> bool
     false
 }
 
-// Adds a record in its place, unless it is there. Answers whether it was added.
+// A place before which all records are lower than these octets, and behind which none is.
+fn start_of(records: &[Rdata], octets: &[u8]) -> usize
+    requires { RisingOctets None records.now }
+    ensures within { result ≤ length records.now }
+    ensures lower { with_record octets.now records.now ≡ take result records.now ++ with_record octets.now (drop result records.now) }
+{
+    let mut at = 0;
+    let mut end = records.len();
+    while at < end {
+        let middle = at + (end - at) / 2;
+        match octets.cmp(records[middle].octets()) {
+            Ordering::Greater => at = middle + 1,
+            _ => end = middle,
+        }
+    }
+    at
+}
+
+// Adds a record in its place, unless it is there. Answers whether it was added. The walk to its place begins right there.
 fn add_record(records: &mut Vec<Rdata>, added: Rdata) -> Result<bool, AllocError>
+    requires { RisingOctets None records.old.items }
     ensures ok { OnOk result (records.new.items ≡ with_record added records.old.items) }
     ensures changed { IfOk result (λ changed. TellsChange changed records.old.items records.new.items) }
     ensures err { OnErr result (records.new.items ≡ records.old.items) }
 {
-    let mut at = 0;
+    let mut at = start_of(records, added.octets());
     while at < records.len() {
         match added.octets().cmp(records[at].octets()) {
             Ordering::Less => break,
@@ -159,6 +178,7 @@ impl RrSet {
 
     // Adds a record, unless it is there. Answers whether it was added.
     pub(crate) fn add(&mut self, added: Rdata) -> Result<bool, AllocError>
+        requires { RisingOctets None self.old.records }
         ensures ok { OnOk result (self.new ≡ record self.old { records = with_record added self.old.records }) }
         ensures changed { IfOk result (λ changed. TellsChange changed self.old self.new) }
         ensures err { OnErr result (self.new ≡ self.old) }

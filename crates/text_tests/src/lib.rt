@@ -4,6 +4,8 @@
 #[cfg(test)]
 mod data;
 #[cfg(test)]
+mod long;
+#[cfg(test)]
 mod names;
 #[cfg(test)]
 mod streams;

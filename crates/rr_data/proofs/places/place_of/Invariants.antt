@@ -1,5 +1,12 @@
-use Rattle.rr_data.proofs.PlaceLemmas.{Passed}
+use Rattle.std.proofs.Common.{◌≤◌, ◌-◌, length}
+use Rattle.rr_data.specs.Places.{AreLower}
 use Rattle.rr_data.proofs.places.place_of.Given as goal
 
 abbrev pub invariant-loop-at : goal.invariant-loop-at
-invariant-loop-at l = Passed l.rtype l.sets l.at
+invariant-loop-at l = record {
+  within : l.at ≤ length l.sets;
+  lower : AreLower l.rtype l.sets l.at;
+}
+
+abbrev pub decreases-loop-at : goal.decreases-loop-at
+decreases-loop-at l = length l.sets - l.at
