@@ -14,7 +14,7 @@ pub open-requires-clause-lawful : goal.open-requires-clause-lawful
 open-requires-clause-lawful g c = zone_lawful c.args.origin.now (entries_of_items c.args.items.now) c.requires.zone
 
 pub run_feed-requires-clause-opens : goal.run_feed-requires-clause-opens
-run_feed-requires-clause-opens g c = all_open c.in-Ok.passes.items (λ p. p.seat) (entries_of_items c.args.items.now) c.args.origin.now (λ p. p.place ≡ 0) c.requires.zone c.in-Ok.ensures.passes
+run_feed-requires-clause-opens g c = λ κs bounds. all_open c.in-Ok.passes.items (λ p. p.seat) (entries_of_items c.args.items.now) c.args.origin.now (λ p. p.place ≡ 0) c.requires.zone c.in-Ok.ensures.passes
 
 pub returns-in_ok-finished-in-Ok : goal.returns-in_ok-finished-in-Ok
 returns-in_ok-finished-in-Ok g c = λ zone stands.
