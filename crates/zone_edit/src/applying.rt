@@ -1,7 +1,7 @@
 //! Operations on a transaction's working set.
 
-ghost use Rattle.std.specs.Prelude.{◌≡◌, IfOk, IsSomeAnd, map};
-ghost use Rattle.zone_model.specs.Records.{Entry as Records};
+ghost use Rattle.std.specs.Prelude.{◌≡◌, ◌≤◌, length, IfOk, IsSomeAnd, map};
+ghost use Rattle.zone_model.specs.Records.{Entry as Records, item_limit};
 ghost use Rattle.rr_data.specs.ItemViews.{SaysEntry};
 ghost use Rattle.zone_change.specs.Views.{operation_view};
 ghost use Rattle.zone_change.specs.Counts.{candidate};
@@ -58,23 +58,25 @@ fn both_entries(
     Ok((before, after))
 }
 
-/// Makes an operation's change in the working set.
+/// Makes an operation's change in the working set. The owner's item before it lies in one buffer, and the one behind it in another.
 fn apply<L: Law, N: Named, K>(
     alloc: Global,
     origin: &Name,
     transaction: &mut Transaction<'_, '_, L, N, K>,
     operation: &Operation,
-    buffers: &mut ItemBuffers,
+    item_before: &mut [u8],
+    item_after: &mut [u8],
 ) -> Result<(), Stopped>
-    requires { IsSomeAnd transaction.old.locked.now.draft WorksOnSome }
+    requires works { IsSomeAnd transaction.old.locked.now.draft WorksOnSome }
+    requires room { (item_limit ≤ length item_before.old) × (item_limit ≤ length item_after.old) }
     ensures same_reference { (transaction.new.home.ghost_name ≡ transaction.old.home.ghost_name) × (transaction.new.locked.ghost_name ≡ transaction.old.locked.ghost_name) }
     ensures place { transaction.new.locked.now.place ≡ transaction.old.locked.now.place }
     ensures applies { Edits (Applies origin.now (operation_view operation.now) result) transaction.old.locked.now.draft transaction.new.locked.now.draft }
 {
     let owner = operation.owner();
     let key = Key::of(owner);
-    let len = read_owned(transaction, owner, &key, &mut buffers.before);
-    let octets = &buffers.before[..len];
+    let len = read_owned(transaction, owner, &key, item_before);
+    let octets = &item_before[..len];
     if let Some(refusal) = refusal(origin, operation, octets) {
         return Err(Stopped::Refused(refusal));
     }
@@ -88,7 +90,7 @@ fn apply<L: Law, N: Named, K>(
         octets,
         &before,
         &entry,
-        &mut buffers.after,
+        item_after,
     ) {
         Ok(()) => Ok(()),
         Err(NoRoom) => Err(Stopped::Full),
@@ -109,7 +111,8 @@ pub(crate) fn apply_all<L: Law, N: Named, K>(
     ensures applies { Edits (AppliesAll origin.now (map operation_view operations.now) result) transaction.old.locked.now.draft transaction.new.locked.now.draft }
 {
     for (index, operation) in operations.iter().enumerate() {
-        match apply(alloc, origin, transaction, operation, buffers) {
+        let (before, after) = (&mut buffers.before, &mut buffers.after);
+        match apply(alloc, origin, transaction, operation, before, after) {
             Ok(()) => {}
             Err(Stopped::Memory) => return Err(Halt::Memory),
             Err(Stopped::Refused(refusal)) => return Err(Halt::Refused(refusal)),
