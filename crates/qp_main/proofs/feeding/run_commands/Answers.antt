@@ -10,7 +10,7 @@ use Rattle.qp_main.proofs.DueLemmas.{fed_zone_stops, list_answers, zone_stopped}
 use Rattle.qp_main.proofs.feeding.run_commands.Goals as goal
 
 pub report_list-requires-clause-zone : goal.report_list-requires-clause-zone
-report_list-requires-clause-zone g c = record { version = c.in-Ok.zone.pairs; stands = search (rules, c.in_ok-items.ensures, c.deref.ensures.value); zone = c.in-Ok.ensures.of_origin }
+report_list-requires-clause-zone g c = λ κs bounds. record { version = c.in-Ok.zone.pairs; stands = search (rules, c.in_ok-items.ensures, c.deref.ensures.value); zone = c.in-Ok.ensures.of_origin }
 
 pub returns-clause-told : goal.returns-clause-told
 returns-clause-told g c =

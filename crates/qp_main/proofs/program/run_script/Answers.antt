@@ -10,7 +10,7 @@ use Rattle.qp_main.proofs.DueLemmas.{job_answers, zone_stopped, zone_stops}
 use Rattle.qp_main.proofs.program.run_script.Goals as goal
 
 pub report_job-requires-clause-zone : goal.report_job-requires-clause-zone
-report_job-requires-clause-zone g c = record { version = c.in-Ok.zone.pairs; stands = search (rules, c.in_ok-items.ensures, c.deref.ensures.value); zone = c.in-Ok.ensures.of_origin }
+report_job-requires-clause-zone g c = λ κs bounds. record { version = c.in-Ok.zone.pairs; stands = search (rules, c.in_ok-items.ensures, c.deref.ensures.value); zone = c.in-Ok.ensures.of_origin }
 
 pub returns-clause-told : goal.returns-clause-told
 returns-clause-told g c =

@@ -17,3 +17,17 @@ returns-in-Ok-clause-cut_short g c = λ short. record {
   is_due = search rules;
   grew = search (rules, c.write_due.ensures.front (short_is (is_streamed (verb_view c.args.invocation.now.verb)) c.write_due.result short c.write_due.ensures.only.1));
 }
+
+pub write_due-requires-in-Err-Refused : goal.write_due-requires-in-Err-Refused
+write_due-requires-in-Err-Refused g c =
+    let i = c.args.invocation.now in
+    let due : DueInput (verb_view c.args.invocation.now.verb) c.args.invocation.now.chunks c.args.invocation.now.origin c.args.bytes.items c.in-Err-Refused.status c.in-Err-Refused.line = search rules in
+    answer_written c.in-Err-Refused.status (due_answer (verb_view i.verb) i.chunks i.origin c.args.bytes.items c.in-Err-Refused.status c.in-Err-Refused.line due)
+
+pub returns-in-Err-Refused-clause-cut_short : goal.returns-in-Err-Refused-clause-cut_short
+returns-in-Err-Refused-clause-cut_short g c = λ short. record {
+  status = c.in-Err-Refused.status;
+  text = c.in-Err-Refused.line;
+  is_due = search rules;
+  grew = search (rules, c.as_slice.ensures, c.write_due-in-Err-Refused.ensures.front (short_is (is_streamed (verb_view c.args.invocation.now.verb)) c.write_due-in-Err-Refused.result short c.write_due-in-Err-Refused.ensures.only.1));
+}

@@ -4,4 +4,4 @@ use Rattle.qp_main.proofs.reading.zone_in.Goals as goal
 
 pub returns-clause-of_origin : goal.returns-clause-of_origin
 returns-clause-of_origin c =
-    zone_said c.args.origin.now c.args.bytes.now c.wire-_wire.ensures.name (octets_of c.args.bytes.now (λ i. let k : get_or c.args.bytes.now i 0 < 256 = omega (arith, c.type_inv.bytes i) in k)) c.read_zone.result c.read_zone.ensures.zone
+    zone_said c.args.origin.now c.args.bytes.now c.wire-wire.ensures.name (octets_of c.args.bytes.now (λ i. let k : get_or c.args.bytes.now i 0 < 256 = omega (arith, c.type_inv.bytes i) in k)) c.read_zone.result c.read_zone.ensures.zone
