@@ -31,7 +31,7 @@ returns-in-Err-clause-cut_short g c =
         status = w.in-Refused.status;
         text = w.in-Refused.line;
         is_due = subst (IsStop due) w.in-Refused.is stop;
-        grew = search (rules, w.sink-is, w.as_slice.ensures, w.write_due.ensures.front (short_is true w.write_due.result (subst (MayBeShort true) w.result-is short) w.write_due.ensures.only.1));
+        grew = search (rules, w.sink-is, w.as_slice-in-Refused.ensures, w.write_due.ensures.front (short_is true w.write_due.result (subst (MayBeShort true) w.result-is short) w.write_due.ensures.only.1));
       }
       | in-Memory w ↦ λ short. search (rules, w.sink-is, nothing_yet due (g.K.Sink.held c.args.sink.now) (some_dump i.chunks c.args.style i.origin (zone_of i.origin (zone_lines c.args.bytes.items))))
     ]
