@@ -1,8 +1,8 @@
 //! The items that version 0 of a zone is opened with.
-ghost use Rattle.std.specs.Prelude.{◌≡◌, IfOk};
+ghost use Rattle.std.specs.Prelude.{◌≡◌, ◌≤◌, length, IfOk};
 ghost use Rattle.std.specs.List.{AllByRecursion};
 ghost use Rattle.zone_model.specs.Names.{Name as Labels};
-ghost use Rattle.zone_model.specs.Records.{Entry, IsItem};
+ghost use Rattle.zone_model.specs.Records.{Entry, IsItem, item_limit};
 ghost use Rattle.zone_query.specs.Standing.{IsStorable, trie_entry};
 ghost use Rattle.job_model.specs.Sizes.{trie_entries};
 ghost use Rattle.job_threads.specs.Histories.{StandsAs};
@@ -32,14 +32,14 @@ fn item_of(alloc: Global, octets: &[u8]) -> Result<Item, AllocError>
     }
 }
 
-// All items, in order. Each is laid down in one buffer.
-fn items_of(alloc: Global, mut left: ZoneItems) -> Result<Vec<Item>, AllocError>
+// All items, in order. Each is laid down in the buffer that is lent.
+fn items_of(alloc: Global, mut left: ZoneItems, octets: &mut [u8]) -> Result<Vec<Item>, AllocError>
+    requires { item_limit ≤ length octets.old }
     ensures items { IfOk result (λ items. entries_of_items items.items ≡ trie_entries left) }
     ensures storable { IfOk result (λ _. AllByRecursion IsStorable left) }
 {
-    let mut octets = item_buffer(alloc)?;
     let mut items = Vec::with_capacity(alloc, left.len())?;
-    while let Some(len) = left.next(&mut octets) {
+    while let Some(len) = left.next(octets) {
         items.push(item_of(alloc, &octets[..len])?)?;
     }
     Ok(items)
@@ -50,6 +50,7 @@ pub fn zone_items(alloc: Global, zone: Zone) -> Result<Vec<Item>, AllocError>
     ensures { IfOk result (λ items. StandsAs (entries_of_items items.items) zone.pairs) }
 {
     let _names = zone.len(); // for the proof: the names rise
-    let items = items_of(alloc, zone.into_items())?;
+    let mut octets = item_buffer(alloc)?;
+    let items = items_of(alloc, zone.into_items(), &mut octets)?;
     Ok(items)
 }
