@@ -20,7 +20,7 @@ impl Gate for Open {
 }
 
 /// The most bytes of an output that is compared.
-const ROOM: usize = 200_000;
+const ROOM: usize = 400_000;
 
 /// The most calls that fail in turn.
 const MOST_CALLS: u64 = 1000;

@@ -1,5 +1,6 @@
 use Rattle.std.proofs.Common.{List, sym, subst}
 use Rattle.zone_model.specs.Keys.{Leads}
+use Rattle.trie_model.specs.Keys.{Rises}
 use Rattle.trie_model.specs.Memory.{Stands}
 use Rattle.trie_read.specs.Reads.{EachTells}
 use Rattle.trie_write.specs.declared.item.Item.{Item}
@@ -7,13 +8,13 @@ use Rattle.trie_write.specs.Entries.{entries_of_items}
 use Rattle.trie_write.proofs.ItemLaws.{items_tell}
 use Rattle.trie_write.proofs.RootLaws.{stands_of}
 use Rattle.job_threads.specs.Histories.{StandsAs}
-use Rattle.job_threads.proofs.OpenLaws.{zone_rises}
+use Rattle.zone_edit.proofs.SetLaws.{entries_rise}
 use Rattle.job_tests.proofs.plain.addresses.Goals as goal
 
 pub build-requires-clause-rising : goal.build-requires-clause-rising
 build-requires-clause-rising c =
     let stands = subst (λ (items : List Item). StandsAs (entries_of_items items) c.args.zone.pairs) (sym c.deref.ensures.value) c.in_ok-items.ensures in
-    zone_rises (entries_of_items c.deref.result.now) (record { version = c.args.zone.pairs; stands = stands })
+    subst Rises stands.entries (entries_rise c.args.zone.pairs stands.valid.rising stands.valid.items)
 
 pub answer-requires : goal.answer-requires
 answer-requires c =
