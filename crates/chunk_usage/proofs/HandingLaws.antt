@@ -9,7 +9,7 @@ use Rattle.std.proofs.lemmas.Grind.{get_or-set_at}
 use Rattle.chunk_usage.specs.declared.open.Open.{Open}
 use Rattle.chunk_usage.specs.Ledger.{Row, Ledger, IsLedger, AreCounts, IsOpen, IsRowOf, is_open, is_mutable, filled}
 use Rattle.chunk_usage.specs.Handing.{with_open}
-use Rattle.chunk_usage.proofs.FlagLemmas.{set_stays}
+use Rattle.chunk_sets.proofs.FlagLemmas.{set_stays}
 
 -- what is given in a list of chunks is given in the other
 abbrev Grown : List Bool → List Bool → Type 0

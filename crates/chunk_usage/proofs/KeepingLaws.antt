@@ -8,7 +8,7 @@ use Rattle.std.proofs.lemmas.List.{length-map, length-replicate, get_or-map, get
 use Rattle.chunk_usage.specs.Ledger.{Row, Ledger, IsLedger, AreCounts, IsRowOf, unused, Rising, IsNewest, newest, row_of}
 use Rattle.chunk_usage.specs.Counting.{Counted}
 use Rattle.chunk_usage.specs.Keeping.{AreOlder, frozen, is_row_of}
-use Rattle.chunk_usage.proofs.FlagLemmas.{set_within}
+use Rattle.chunk_sets.proofs.FlagLemmas.{set_within}
 
 -- a row put behind older ones
 rising_more : (rows : List Row) (r : Row) → Rising rows → AreOlder rows r.version → Rising (rows ++ r ∷ [])

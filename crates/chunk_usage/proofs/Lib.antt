@@ -1,6 +1,4 @@
-pub mod ChunkSetLemmas
 pub mod CountLemmas
-pub mod FlagLemmas
 pub mod HandingLaws
 pub mod InsideLemmas
 pub mod KeepingLaws
@@ -11,4 +9,3 @@ pub mod RowLemmas
 pub mod SpaceLaws
 pub mod SparseLaws
 pub mod UsedLaws
-pub mod WordLemmas

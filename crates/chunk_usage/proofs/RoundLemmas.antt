@@ -2,7 +2,7 @@
 use Rattle.std.proofs.Common.{◌≡◌, ℕ, ◌+◌, ◌<◌, ◌≤◌, Bool, false, List, length, slice_index_or, slice_set, sym, subst, inl, inr, arith}
 use Rattle.std.proofs.lemmas.Bool.{cases_eq, cases_lt}
 use Rattle.std.proofs.lemmas.List.{get_or-set_same, get_or-set_other}
-use Rattle.chunk_usage.specs.ChunkSets.{IsFirstFrom}
+use Rattle.chunk_sets.specs.ChunkSets.{IsFirstFrom}
 
 -- what holds of each entry before a place, and of each from there on whose chunk isn't in the set
 module _ {X : Type 0} (d : X) (xs : List X) (flags : List Bool) (from : ℕ) (P : ℕ → X → Type 0)

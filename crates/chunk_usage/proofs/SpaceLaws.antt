@@ -14,7 +14,7 @@ use Rattle.chunk_usage.specs.declared.space.Full.{Full}
 use Rattle.chunk_usage.specs.Rooms.{Handed, GivesChunk, OpensFree, Grows, account_of}
 use Rattle.chunk_usage.specs.Ledger.{Ledger, IsLedger, IsOpen, is_given, is_open, is_used, is_mutable, filled, left, free_count, reserve_of, reserved}
 use Rattle.chunk_usage.specs.Handing.{lowest_free, with_open, taken, next_cell, roomy, granted_from, allocated_from, grant_of, allocated, shortage, spent, unspent}
-use Rattle.chunk_usage.proofs.FlagLemmas.{set_stays, set_within, get_set, get_clear, one_fewer_clear, First, first_is}
+use Rattle.chunk_sets.proofs.FlagLemmas.{set_stays, set_within, get_set, get_clear, one_fewer_clear, First, first_is}
 use Rattle.chunk_usage.proofs.RowLemmas.{counts_more}
 use Rattle.chunk_usage.proofs.HandingLaws.{opened_mutable}
 

@@ -8,7 +8,7 @@ use Rattle.std.proofs.lemmas.List.Sums.{sum_by-cons}
 use Rattle.chunk_usage.specs.declared.open.Open.{Open}
 use Rattle.chunk_usage.specs.Ledger.{Ledger, IsLedger, IsOpen, is_given, is_open, free_count}
 use Rattle.chunk_usage.specs.Counting.{is_low, open_low, sparse_count}
-use Rattle.chunk_usage.proofs.FlagLemmas.{set_within}
+use Rattle.chunk_sets.proofs.FlagLemmas.{set_within}
 
 -- how many of n numbers from a on pass
 abbrev passing : (ℕ → Bool) → ℕ → ℕ → ℕ

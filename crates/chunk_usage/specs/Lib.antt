@@ -1,7 +1,6 @@
 pub mod Ledger
 pub mod Rooms
 pub mod Inside
-pub mod ChunkSets
 pub mod Counting
 pub mod Counts
 pub mod Handing

@@ -2,10 +2,10 @@
 
 ghost use Rattle.std.specs.Prelude.{◌≡◌, ◌≤◌, ◌<◌, ◌+◌, IfOk, false, true, count_by, if◌then◌else◌, length, nat_lt, replicate, slice_index, slice_set};
 ghost use Rattle.chunk_usage.specs.Ledger.{row_of};
-ghost use Rattle.chunk_usage.specs.ChunkSets.{has};
+ghost use Rattle.chunk_sets.specs.ChunkSets.{has};
 ghost use Rattle.chunk_usage.specs.Counting.{is_low, is_thin, thin_row};
 
-use crate::chunk_set::ChunkSet;
+use chunk_sets::ChunkSet;
 use std::alloc::{AllocError, Global};
 use std::marker::Model;
 

@@ -3,7 +3,7 @@
 ghost use Rattle.std.specs.Prelude.{◌≡◌, ◌≤◌, IfOk, false, length, replicate};
 ghost use Rattle.chunk_usage.specs.Keeping.{is_among, is_row_of};
 
-use crate::chunk_set::ChunkSet;
+use chunk_sets::ChunkSet;
 use std::alloc::{AllocError, Global};
 use std::marker::Model;
 

@@ -10,19 +10,14 @@
 //! for each 64 chunks: nothing goes through the chunks one by one.
 #![tactic(auto)]
 
-mod ages;
-mod chunk_set;
 mod counts;
-mod hints;
 mod kept_version;
-mod lists;
 mod open;
-mod path;
 pub mod space;
 mod usage;
 
+pub use chunk_hints::{PATH_STEPS, Path};
 pub use kept_version::KeptVersion;
 pub use open::Open;
-pub use path::{PATH_STEPS, Path};
 pub use space::{Full, Grant, Space};
 pub use usage::Usage;

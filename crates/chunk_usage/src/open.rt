@@ -7,3 +7,8 @@ pub struct Open {
     /// How many of its cells are handed out, at most 1,024.
     pub filled: u32,
 }
+
+/// The number of a bump chunk.
+pub(crate) fn chunk_of(open: Option<Open>) -> Option<u32> {
+    open.map(|open| open.chunk)
+}

@@ -1,6 +1,6 @@
 //! What hands out cells.
 
-use crate::path::Path;
+use chunk_hints::Path;
 use packed_node::Ref;
 
 /// Cells side by side.

@@ -11,12 +11,11 @@ mod recycling;
 mod sparse;
 mod versions;
 
-use crate::ages::Ages;
-use crate::chunk_set::ChunkSet;
 use crate::counts::Counts;
-use crate::hints::Hints;
 use crate::kept_version::KeptVersion;
 use crate::open::Open;
+use chunk_hints::{Ages, Hints};
+use chunk_sets::ChunkSet;
 use std::alloc::{AllocError, Global};
 use std::marker::Model;
 

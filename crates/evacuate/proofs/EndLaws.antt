@@ -19,7 +19,7 @@ use Rattle.chunk_usage.specs.Handing.{spent, unspent}
 use Rattle.chunk_usage.specs.Keeping.{closed, full}
 use Rattle.chunk_usage.specs.Ledger.{Ledger, IsLedger, is_given, is_open, is_used, is_mutable, left, free_count, frozen_part}
 use Rattle.chunk_usage.specs.Rooms.{Grows, reserve_account_of}
-use Rattle.chunk_usage.proofs.FlagLemmas.{set_within}
+use Rattle.chunk_sets.proofs.FlagLemmas.{set_within}
 use Rattle.chunk_usage.proofs.SpaceLaws.{used_given}
 use Rattle.trie_model.proofs.ExtentLaws.{first_true}
 use Rattle.trie_write.specs.Spaces.{Ready, Fenced}

@@ -11,7 +11,7 @@ use Rattle.chunk_usage.specs.Counting.{is_low, is_sparse}
 use Rattle.chunk_usage.specs.Ledger.{Ledger, IsLedger, IsOpen, is_given, is_open, is_used, is_mutable, filled, left, free_count, frozen_part}
 use Rattle.chunk_usage.specs.Handing.{lowest_free, newly_taken, new_grant, next_cell, taken, roomy, shortage, released, reserve_granted_from, reserve_allocated_from, reserve_grant_of, reserve_allocated}
 use Rattle.chunk_usage.specs.Keeping.{closed, full}
-use Rattle.chunk_usage.proofs.FlagLemmas.{set_stays, set_within, First, first_is}
+use Rattle.chunk_sets.proofs.FlagLemmas.{set_stays, set_within, First, first_is}
 use Rattle.chunk_usage.proofs.SpaceLaws.{Hands, OpensIn, used_given}
 use Rattle.evacuate.proofs.ReserveLaws.{reserve_handed, reserve_frozen, reserve_opens}
 use Rattle.evacuate.specs.Evacuations.{FillsNew}

@@ -187,3 +187,40 @@ impl Gate for Overtaking {
         }
     }
 }
+
+/// The second worker waits until the first has done this command.
+#[derive(Drop)]
+pub(crate) struct Following {
+    last: u32,
+    done: Sign,
+}
+
+impl Following {
+    pub(crate) fn new(last: u32) -> Following {
+        Following {
+            last,
+            done: Sign::new(),
+        }
+    }
+
+    /// Not 0 where the second has waited for nothing.
+    pub(crate) fn missed(&self) -> u64 {
+        self.done.missed()
+    }
+}
+
+impl Gate for Following {
+    ghost hears = { λ _ _. Unit {0} };
+
+    fn before(&self, worker: u32, command: u32) {
+        if worker == 2 && command == 1 {
+            self.done.wait();
+        }
+    }
+
+    fn after(&self, worker: u32, command: u32) {
+        if worker == 1 && command == self.last {
+            self.done.give();
+        }
+    }
+}

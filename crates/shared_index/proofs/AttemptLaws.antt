@@ -13,7 +13,7 @@ use Rattle.chunk_usage.specs.declared.space.Full.{Full as NoRoom}
 use Rattle.chunk_usage.specs.Ledger.{Ledger, Frozen, is_open, is_used, is_mutable, is_given, frozen_part, reserved}
 use Rattle.chunk_usage.specs.Handing.{Lacks, spent}
 use Rattle.chunk_usage.specs.Rooms.{Grows, OpensFree, account_of}
-use Rattle.chunk_usage.proofs.FlagLemmas.{get_set}
+use Rattle.chunk_sets.proofs.FlagLemmas.{get_set}
 use Rattle.trie_model.specs.Keys.{Entry}
 use Rattle.trie_model.proofs.MoveLaws.{Keeps}
 use Rattle.trie_write.specs.Roots.{OnPath, TwigsOnPath, OnBranches, BranchesOnPath}

@@ -9,7 +9,7 @@ use Rattle.pin_core.specs.declared.kept.Kept.{Kept}
 use Rattle.pin_core.specs.Sound.{AgreesWith}
 use Rattle.chunk_cells.specs.Chunks.{IsGiven}
 use Rattle.chunk_usage.specs.Ledger.{Ledger, IsLedger, is_used}
-use Rattle.chunk_usage.proofs.FlagLemmas.{get_set, set_within}
+use Rattle.chunk_sets.proofs.FlagLemmas.{get_set, set_within}
 use Rattle.chunk_usage.proofs.SpaceLaws.{used_given}
 use Rattle.trie_model.specs.Keys.{Entry}
 use Rattle.trie_model.proofs.ExtentLaws.{first_true}

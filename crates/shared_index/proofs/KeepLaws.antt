@@ -12,7 +12,7 @@ use Rattle.trie_write.specs.Standing.{Standing}
 use Rattle.trie_write.proofs.RootLaws.{standing_later}
 use Rattle.shared_index.specs.Passes.{Known}
 use Rattle.shared_index.specs.Bases.{StandsFor}
-use Rattle.chunk_usage.proofs.FlagLemmas.{set_within}
+use Rattle.chunk_sets.proofs.FlagLemmas.{set_within}
 use Rattle.chunk_usage.proofs.RecyclingLaws.{freed_by_chunk}
 use Rattle.chunk_usage.proofs.SpaceLaws.{used_given}
 use Rattle.trie_model.proofs.ExtentLaws.{both_true, first_true, second_true}

@@ -24,7 +24,7 @@ use Rattle.zone_model.specs.Keys.{Leads}
 use Rattle.trie_read.specs.Reads.{EachTells}
 use Rattle.trie_write.specs.Standing.{StandsIn}
 use Rattle.trie_write.proofs.RootLaws.{stands_later}
-use Rattle.chunk_usage.proofs.FlagLemmas.{get_set}
+use Rattle.chunk_sets.proofs.FlagLemmas.{get_set}
 use Rattle.chunk_usage.proofs.SpaceLaws.{used_given}
 use Rattle.chunk_cells.specs.Chunks.{IsGiven}
 use Rattle.shared_cells.specs.Cells.{Cells, given_chunks, HasCell, HasAt}

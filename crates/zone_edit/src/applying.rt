@@ -1,10 +1,11 @@
 //! Operations on a transaction's working set.
 
-ghost use Rattle.std.specs.Prelude.{◌≡◌, ◌≤◌, length, IfOk, IsSomeAnd, map};
+ghost use Rattle.std.specs.Prelude.{◌≡◌, ◌≤◌, length, IfOk, IsSomeAnd, Err, map};
 ghost use Rattle.zone_model.specs.Records.{Entry as Records, item_limit};
 ghost use Rattle.rr_data.specs.ItemViews.{SaysEntry};
 ghost use Rattle.zone_change.specs.Views.{operation_view};
 ghost use Rattle.zone_change.specs.Counts.{candidate};
+ghost use Rattle.shared_index.specs.Drafts.{Between, IsSame};
 ghost use Rattle.zone_edit.specs.Stores.{WorksOnSome, Edits};
 ghost use Rattle.zone_edit.specs.Blocks.{Applies, AppliesAll};
 
@@ -72,6 +73,8 @@ fn apply<L: Law, N: Named, K>(
     ensures same_reference { (transaction.new.home.ghost_name ≡ transaction.old.home.ghost_name) × (transaction.new.locked.ghost_name ≡ transaction.old.locked.ghost_name) }
     ensures place { transaction.new.locked.now.place ≡ transaction.old.locked.now.place }
     ensures applies { Edits (Applies origin.now (operation_view operation.now) result) transaction.old.locked.now.draft transaction.new.locked.now.draft }
+    // Memory is wanted for entries alone, before anything is tried.
+    ensures untried { result ≡ Err Stopped.Memory → Between IsSame transaction.old.locked.now.draft transaction.new.locked.now.draft }
 {
     let owner = operation.owner();
     let key = Key::of(owner);

@@ -2,6 +2,7 @@
 
 ghost use Rattle.std.specs.Prelude.{◌≡◌, ◌≤◌, length, IsSomeAnd};
 ghost use Rattle.zone_model.specs.Keys.{key_of, most_item_octets};
+ghost use Rattle.shared_index.specs.Drafts.{Between, IsSame};
 ghost use Rattle.zone_edit.specs.Stores.{WorksOnSome, Reads, Edits};
 
 use dns_name::Name;
@@ -20,6 +21,7 @@ pub(crate) fn read_owned<L: Law, N: Named, K>(
     requires room { most_item_octets ≤ length item.old }
     ensures same_reference { (transaction.new.home.ghost_name ≡ transaction.old.home.ghost_name) × (transaction.new.locked.ghost_name ≡ transaction.old.locked.ghost_name) }
     ensures place { transaction.new.locked.now.place ≡ transaction.old.locked.now.place }
+    ensures same { Between IsSame transaction.old.locked.now.draft transaction.new.locked.now.draft }
     ensures within { result ≤ length item.new }
     ensures read { Edits (Reads name.now item.new result) transaction.old.locked.now.draft transaction.new.locked.now.draft }
 {

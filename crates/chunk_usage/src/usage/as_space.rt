@@ -1,7 +1,7 @@
 //! A usage as what hands out cells.
 
 use super::Usage;
-use crate::path::Path;
+use chunk_hints::Path;
 use crate::space::{Full, Grant, Space};
 use packed_node::Ref;
 

@@ -8,7 +8,7 @@ ghost use Rattle.chunk_usage.specs.Keeping.{closed};
 ghost use Rattle.chunk_usage.specs.Rooms.{Grows};
 
 use super::Usage;
-use crate::open::Open;
+use crate::open::{Open, chunk_of};
 use crate::space::{Full, Grant};
 use packed_node::{CHUNK_CELLS, Ref};
 
@@ -108,7 +108,7 @@ impl Usage {
         state.allocated.insert(chunk);
         state.recent.insert(chunk);
         state.ages.give(chunk);
-        state.hints.begin(chunk, state.bump);
+        state.hints.begin(chunk, chunk_of(state.bump));
         state.free -= 1;
         let bump = Open { chunk, filled: 0 };
         state.bump = Some(bump);

@@ -3,7 +3,8 @@
 ghost use Rattle.std.specs.Prelude.{◌≡◌, ◌≤◌};
 
 use super::Usage;
-use crate::path::Path;
+use crate::open::chunk_of;
+use chunk_hints::Path;
 
 impl Usage {
     /// What is written now lies on a path.
@@ -11,7 +12,7 @@ impl Usage {
         ensures { self.new ≡ self.old }
     {
         let state = &mut *self.state;
-        state.hints.note(state.bump, path);
+        state.hints.note(chunk_of(state.bump), path);
     }
 
     /// How many paths a chunk lists.

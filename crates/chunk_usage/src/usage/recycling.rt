@@ -2,12 +2,12 @@
 
 ghost use Rattle.std.specs.Prelude.{◌≡◌, ◌&&◌, ◌+◌, ◌/◌, ◌<◌, ◌≤◌, ℕ, true, false, not, count_by, length, All, Contains, IfSome};
 ghost use Rattle.packed_node.specs.declared.Cell.{Cell};
-ghost use Rattle.chunk_usage.specs.ChunkSets.{Without, has};
+ghost use Rattle.chunk_sets.specs.ChunkSets.{Without, has};
 ghost use Rattle.chunk_usage.specs.Ledger.{Row, free_count, is_given, is_open};
 ghost use Rattle.chunk_usage.specs.Keeping.{freed, is_in_rows, is_needed, is_unreached};
 
 use super::Usage;
-use crate::chunk_set::ChunkSet;
+use chunk_sets::ChunkSet;
 use crate::kept_version::KeptVersion;
 use crate::open::Open;
 use chunk_cells::CellWrite;

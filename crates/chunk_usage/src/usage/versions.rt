@@ -7,6 +7,7 @@ ghost use Rattle.chunk_usage.specs.Keeping.{AreOlder, dropped, frozen, is_among,
 
 use super::Usage;
 use crate::kept_version::KeptVersion;
+use crate::open::chunk_of;
 
 impl Usage {
     /// The kept versions, the oldest first.
@@ -28,7 +29,7 @@ impl Usage {
         let slot = &mut state.slots[state.kept];
         slot.set(version, state.counts.counted());
         state.kept += 1;
-        state.ages.settle(&state.recent, state.fender);
+        state.ages.settle(&state.recent, chunk_of(state.fender));
         state.recent.clear();
         state.counts.keep();
         state.fender = state.bump;

@@ -1,7 +1,7 @@
 use Rattle.std.proofs.Common.{◌+◌, ◌/◌, Bool, List, Fits-lit, arith, refl, sym, ◌∙◌, ap, subst}
 use Rattle.std.proofs.Math.Facts.{Fits-lt}
 use Rattle.chunk_cells.specs.Chunks.{IsGiven}
-use Rattle.chunk_usage.proofs.FlagLemmas.{get_set}
+use Rattle.chunk_sets.proofs.FlagLemmas.{get_set}
 use Rattle.chunk_usage.proofs.SpaceLaws.{used_given}
 use Rattle.evacuate.specs.Places.{first_of, width_of}
 use Rattle.evacuate.proofs.FillingLaws.{settled_old, same_chunk_old}

@@ -3,7 +3,7 @@ use Rattle.std.specs.Prelude.{count_by}
 use Rattle.std.proofs.lemmas.List.{length-set}
 use Rattle.chunk_usage.specs.Ledger.{Ledger, free_count}
 use Rattle.chunk_usage.specs.Inside.{ledger_of}
-use Rattle.chunk_usage.proofs.FlagLemmas.{First, first_is, one_fewer_clear}
+use Rattle.chunk_sets.proofs.FlagLemmas.{First, first_is, one_fewer_clear}
 use Rattle.chunk_usage.proofs.HandingLaws.{with_open_alike}
 use Rattle.chunk_usage.proofs.InsideLemmas.{known}
 use Rattle.chunk_usage.proofs.usage.Usage.bump_lowest.Goals as goal

@@ -2,7 +2,7 @@ use Rattle.std.proofs.Common.{◌≡◌, ◌/◌, ℕ, length, take, refl, sym, 
 use Rattle.std.specs.Prelude.{◌&&◌}
 use Rattle.chunk_usage.specs.Ledger.{Ledger, is_given}
 use Rattle.chunk_usage.specs.Keeping.{freed, is_needed, is_unreached}
-use Rattle.chunk_usage.specs.ChunkSets.{has}
+use Rattle.chunk_sets.specs.ChunkSets.{has}
 use Rattle.chunk_usage.specs.Inside.{ledger_of}
 use Rattle.chunk_usage.proofs.RecyclingLaws.{found_is, left_needed, kept_stays, freed_ledger, freed_is, nothing_freed, each_stays}
 use Rattle.chunk_usage.proofs.usage.Usage.free_unreached.Given.{Over}

@@ -2,7 +2,7 @@ use Rattle.std.proofs.Common.{◌≡◌, false, not, length, sym, ap, subst, ◌
 use Rattle.std.specs.Prelude.{count_by}
 use Rattle.std.proofs.lemmas.List.{length-replicate}
 use Rattle.chunk_usage.specs.Inside.{IsWhole}
-use Rattle.chunk_usage.proofs.FlagLemmas.{all_clear}
+use Rattle.chunk_sets.proofs.FlagLemmas.{all_clear}
 use Rattle.chunk_usage.proofs.KeepingLaws.{unused_alike}
 use Rattle.chunk_usage.proofs.usage.Usage.new.Goals as goal
 

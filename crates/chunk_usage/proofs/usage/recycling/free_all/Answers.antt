@@ -1,6 +1,6 @@
 use Rattle.std.proofs.Common.{List, Bool, sym, ◌∙◌, subst}
 use Rattle.chunk_cells.specs.Chunks.{IsGiven}
-use Rattle.chunk_usage.proofs.FlagLemmas.{get_set}
+use Rattle.chunk_sets.proofs.FlagLemmas.{get_set}
 use Rattle.chunk_usage.proofs.usage.recycling.free_all.Goals as goal
 
 pub free-requires-clause-given : goal.free-requires-clause-given

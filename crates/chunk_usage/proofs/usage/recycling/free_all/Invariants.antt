@@ -1,7 +1,7 @@
 use Rattle.std.proofs.Common.{◌≡◌, ◌+◌, ◌-◌, ◌/◌, ℕ, ◌<◌, ◌≤◌, false, not, length, count_by}
 use Rattle.std.specs.Prelude.{◌&&◌}
 use Rattle.packed_node.specs.declared.Cell.{Cell}
-use Rattle.chunk_usage.specs.ChunkSets.{has}
+use Rattle.chunk_sets.specs.ChunkSets.{has}
 use Rattle.chunk_usage.proofs.usage.recycling.free_all.Given as goal
 
 abbrev pub invariant-loop-chunk : goal.invariant-loop-chunk

@@ -1,5 +1,5 @@
 use Rattle.std.proofs.Common.{take}
-use Rattle.chunk_usage.specs.ChunkSets.{Without}
+use Rattle.chunk_sets.specs.ChunkSets.{Without}
 use Rattle.chunk_usage.specs.Keeping.{is_in_rows}
 use Rattle.chunk_usage.proofs.usage.recycling.leave_out_kept.Given as goal
 

@@ -1,5 +1,5 @@
 use Rattle.std.proofs.Common.{◌/◌}
-use Rattle.chunk_usage.proofs.FlagLemmas.{get_set}
+use Rattle.chunk_sets.proofs.FlagLemmas.{get_set}
 use Rattle.chunk_usage.proofs.SpaceLaws.{used_given}
 use Rattle.chunk_usage.proofs.usage.as_space.UsageSpace.is_mutable.Goals as goal
 

@@ -1,0 +1,125 @@
+//! On which paths each chunk was written.
+//!
+//! Whoever changes a trie tells the path of the key, and each chunk that cells are handed out of meanwhile lists it. So what the trie has
+//! in a chunk is mostly found along the paths of its list. This is used to save work and nothing else: nothing is proved of the lists, and
+//! no answer rests on them.
+
+ghost use Rattle.std.specs.Prelude.{◌≤◌};
+
+use crate::lists::PathLists;
+use crate::path::Path;
+use std::alloc::{AllocError, Global};
+
+/// Of each chunk the paths that it was written on, as far as is known.
+#[derive(Drop)]
+pub struct Hints {
+    lists: PathLists,
+    // Whether a chunk has cells on paths that its list may lack.
+    lacking: Vec<bool>,
+    // The path that is written now, and the chunk that was left behind since it was told.
+    current: Path,
+    left: Option<u32>,
+    // How often the lists weren't enough.
+    walks: u64,
+}
+
+impl Hints {
+    /// Empty lists, in which nothing is lacking.
+    pub fn new(alloc: Global, chunks: u32) -> Result<Hints, AllocError>
+        requires { chunks ≤ 4096 }
+    {
+        Ok(Hints {
+            lists: PathLists::new(alloc, chunks)?,
+            lacking: vec![in alloc; false; chunks as usize]?,
+            current: Path::none(),
+            left: None,
+            walks: 0,
+        })
+    }
+
+    /// Cells are handed out of a chunk that was free, and no more of the one before. They lie on the path that is written now.
+    pub fn begin(&mut self, chunk: u32, before: Option<u32>) {
+        self.left = before;
+        self.lists.clear(chunk);
+        set(&mut self.lacking, chunk, false);
+        self.list(chunk, self.current);
+    }
+
+    /// What is written now lies on a path, and what was written since the last one was told.
+    pub fn note(&mut self, bump: Option<u32>, path: Path) {
+        self.current = path;
+        if let Some(left) = self.left {
+            self.list(left, path);
+            self.left = None;
+        }
+        if let Some(chunk) = bump {
+            self.list(chunk, path);
+        }
+    }
+
+    /// How many paths a chunk lists.
+    pub fn count(&self, chunk: u32) -> usize
+        ensures { result ≤ 512 }
+    {
+        self.lists.count(chunk)
+    }
+
+    /// A path that a chunk lists, by its place in the list.
+    pub fn path(&self, chunk: u32, place: usize) -> Path {
+        self.lists.path(chunk, place)
+    }
+
+    /// The list of a chunk lacks something.
+    pub fn mark_lacking(&mut self, chunk: u32) {
+        set(&mut self.lacking, chunk, true);
+    }
+
+    /// A walk over all begins, for the lists that lack something.
+    pub fn begin_walk(&mut self, chunks: u32) {
+        self.walks = self.walks.saturating_add(1);
+        for chunk in 0..chunks {
+            if self.is_lacking(chunk) {
+                self.lists.clear(chunk);
+            }
+        }
+    }
+
+    /// It came to cells of a chunk, on a path. Where that isn't needed now, some room is left for others.
+    pub fn pass(&mut self, chunk: u32, path: Path, needed: bool) {
+        if self.is_lacking(chunk) && (needed || self.lists.has_much_room()) {
+            self.lists.push(chunk, path);
+        }
+    }
+
+    /// It came to its end: nothing is lacking, if there was room.
+    pub fn end_walk(&mut self) {
+        if self.lists.has_much_room() {
+            self.lacking.fill(false);
+        }
+    }
+
+    /// Whether a chunk has cells on paths that its list may lack.
+    pub fn is_lacking(&self, chunk: u32) -> bool {
+        matches!(self.lacking.get(chunk as usize), Some(true))
+    }
+
+    /// How many such walks there were.
+    pub fn walks(&self) -> u64 {
+        self.walks
+    }
+
+    // Lists a path for a chunk. One that says nothing is of no use.
+    fn list(&mut self, chunk: u32, path: Path) {
+        if !self.is_lacking(chunk) && (path.is_none() || !self.lists.push(chunk, path)) {
+            self.mark_lacking(chunk);
+            self.lists.clear(chunk);
+        }
+    }
+}
+
+/// Says of a chunk whether it is so, where there is such a chunk.
+fn set(flags: &mut [bool], chunk: u32, value: bool) {
+    if let Some(flag) = flags.get_mut(chunk as usize) {
+        *flag = value;
+    }
+}

@@ -1,0 +1,13 @@
+//! What a space of chunks guesses of what was written where: on which paths of a trie, and how long ago.
+//!
+//! Guesses save work and nothing else. Nothing is proved of them but that asking for one is safe and ends, and no answer rests on one.
+#![tactic(auto)]
+
+mod ages;
+mod hints;
+mod lists;
+mod path;
+
+pub use ages::Ages;
+pub use hints::Hints;
+pub use path::{PATH_STEPS, Path};

@@ -1,0 +1,3 @@
+pub mod ChunkSetLemmas
+pub mod FlagLemmas
+pub mod WordLemmas

@@ -1,0 +1,6 @@
+//! Sets of chunks of a table.
+#![tactic(auto)]
+
+mod chunk_set;
+
+pub use chunk_set::ChunkSet;

@@ -1,5 +1,0 @@
-use Rattle.std.proofs.Common.{◌-◌, length}
-use Rattle.chunk_usage.proofs.ages.Ages.settle_all.Given as goal
-
-abbrev pub decreases-loop-chunk : goal.decreases-loop-chunk
-decreases-loop-chunk l = length l.chunks - l.from
