@@ -1,6 +1,6 @@
 //! What is known of the chunks.
 
-ghost use Rattle.std.specs.Prelude.{◌≡◌, ◌≤◌, ◌<◌, ◌↔◌, ◌/◌, IfOk, IsTrue, All, length, slice_index};
+ghost use Rattle.std.specs.Prelude.{◌≡◌, ◌≤◌, ◌<◌, ◌↔◌, ◌/◌, false, IfOk, IsTrue, All, length, replicate, slice_index};
 ghost use Rattle.chunk_cells.specs.Chunks.{IsFree};
 ghost use Rattle.chunk_usage.specs.Ledger.{IsLedger, Row, unused, free_count, reserve_of};
 
@@ -71,19 +71,23 @@ impl Usage {
         requires few_passes { passes ≤ 64 }
         ensures { IfOk result (λ u. u ≡ unused chunks passes) }
     {
+        let counts = Counts::new(alloc, chunks)?;
+        let (allocated, recent, unreached) = empty_sets(alloc, chunks)?;
+        let slots = slots_for(alloc, passes + 2, chunks)?;
+        let (ages, hints) = guesses(alloc, chunks)?;
         let state = State {
-            counts: Counts::new(alloc, chunks)?,
-            allocated: ChunkSet::new(alloc, chunks)?,
-            recent: ChunkSet::new(alloc, chunks)?,
+            counts,
+            allocated,
+            recent,
             free: chunks,
             bump: None,
             fender: None,
-            slots: slots_for(alloc, passes + 2, chunks)?,
+            slots,
             kept: 0,
             passes,
-            unreached: ChunkSet::new(alloc, chunks)?,
-            ages: Ages::new(alloc, chunks)?,
-            hints: Hints::new(alloc, chunks)?,
+            unreached,
+            ages,
+            hints,
         };
         Ok(Usage {
             state: Box::new(alloc, state)?,
@@ -149,4 +153,24 @@ fn slots_for(alloc: Global, count: u32, chunks: u32) -> Result<Vec<KeptVersion>,
         slots.push(KeptVersion::new(alloc, chunks)?)?;
     }
     Ok(slots)
+}
+
+/// Three empty sets.
+fn empty_sets(alloc: Global, chunks: u32) -> Result<(ChunkSet, ChunkSet, ChunkSet), AllocError>
+    requires { chunks ≤ 4096 }
+    ensures { IfOk result (λ sets. (sets.0 ≡ replicate chunks false) × (sets.1 ≡ replicate chunks false) × (sets.2 ≡ replicate chunks false)) }
+{
+    let first = ChunkSet::new(alloc, chunks)?;
+    let second = ChunkSet::new(alloc, chunks)?;
+    let third = ChunkSet::new(alloc, chunks)?;
+    Ok((first, second, third))
+}
+
+/// Nothing is guessed yet.
+fn guesses(alloc: Global, chunks: u32) -> Result<(Ages, Hints), AllocError>
+    requires { chunks ≤ 4096 }
+{
+    let ages = Ages::new(alloc, chunks)?;
+    let hints = Hints::new(alloc, chunks)?;
+    Ok((ages, hints))
 }
