@@ -1,10 +1,10 @@
 -- The size of a trie with one leaf more.
-use Rattle.std.proofs.Common.{◌≡◌, ℕ, suc, ◌+◌, ◌-◌, ◌<◌, ◌≤◌, Bool, true, false, cond, take, set, List, [], ◌∷◌, ◌++◌, length, map, sum_by, Option, Some, None, Result, arith, inl, inr, refl, sym, ◌∙◌, ap, subst, length-append}
+use Rattle.std.proofs.Common.{◌≡◌, ℕ, ◌+◌, ◌<◌, ◌≤◌, take, set, List, [], ◌∷◌, ◌++◌, length, sum_by, Some, arith, inl, inr, refl, sym, ◌∙◌, ap, subst, length-append}
 use Rattle.std.proofs.lemmas.Bool.{cases_lt}
 use Rattle.std.proofs.lemmas.List.{take_more_set, take-take, length-take}
 use Rattle.std.proofs.lemmas.List.Sums.{sum_by_push}
-use Rattle.zone_model.specs.Names.{Name, IsName, BeginsWith, wire}
-use Rattle.zone_model.specs.Keys.{key_of, IsFirstDifference, Leads}
+use Rattle.zone_model.specs.Names.{Name, IsName, BeginsWith}
+use Rattle.zone_model.specs.Keys.{key_of, IsFirstDifference}
 use Rattle.zone_model.specs.Splits.{split_name}
 use Rattle.zone_model.proofs.SplitLemmas.{name_back}
 use Rattle.trie_model.specs.Extents.{cells_in}
@@ -16,11 +16,11 @@ use Rattle.trie_model.proofs.ExtentLaws.{laid}
 use Rattle.trie_model.proofs.OutlineLaws.{place_short}
 use Rattle.trie_model.proofs.ShapeLaws.{nodes-none, nodes_are}
 use Rattle.shift_key.specs.declared.names.Parting.{Parting}
-use Rattle.shift_key.specs.Partings.{PartAt, IsParting}
-use Rattle.trie_size.specs.Ways.{way, last_key, before, meets, Parts}
+use Rattle.shift_key.specs.Partings.{PartAt}
+use Rattle.trie_size.specs.Ways.{way, last_key, before, Parts}
 use Rattle.trie_size.specs.declared.size.TrieSize.{TrieSize}
 use Rattle.trie_size.specs.Sizes.{EndsAt, Comes, Follows}
-use Rattle.trie_size.proofs.TreeLaws.{Added, HasLast, has_last, last_key-append, add_to, more_nodes, some_leaf, way_short}
+use Rattle.trie_size.proofs.TreeLaws.{Added, has_last, last_key-append, add_to, more_nodes, some_leaf, way_short}
 
 -- ---- keys
 

@@ -1,5 +1,5 @@
 -- The way to the last leaf of a tree, and what becomes of it where a leaf comes behind.
-use Rattle.std.specs.Prelude.{◌≡◌, ℕ, ◌<◌, ◌≤◌, Bool, false, nat_lt, ◌==◌, List, [], ◌∷◌, if◌then◌else◌}
+use Rattle.std.specs.Prelude.{ℕ, ◌<◌, ◌≤◌, Bool, false, nat_lt, ◌==◌, List, [], ◌∷◌, if◌then◌else◌}
 use Rattle.trie_model.specs.Keys.{at, Same, Entry}
 use Rattle.trie_model.specs.Trees.{Tree, Twigs}
 use Rattle.trie_model.specs.Trees.Tree.{leaf, branch}

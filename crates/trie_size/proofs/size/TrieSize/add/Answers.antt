@@ -1,4 +1,4 @@
-use Rattle.std.proofs.Common.{◌≡◌, [], List, ℕ, length, take, append-nil, Some, None, Option, sym, ◌∙◌, ap, subst}
+use Rattle.std.proofs.Common.{[], List, ℕ, take, append-nil, Option, sym, ◌∙◌, subst}
 use Rattle.zone_model.specs.Names.{Name, BeginsWith, wire}
 use Rattle.zone_model.specs.Keys.{key_of}
 use Rattle.trie_model.specs.Keys.{Less}
