@@ -3,16 +3,17 @@ use Rattle.std.proofs.Common.{◌≡◌, ℕ, ◌+◌, ◌<◌, ◌≤◌, take,
 use Rattle.std.proofs.lemmas.Bool.{cases_lt}
 use Rattle.std.proofs.lemmas.List.{take_more_set, take-take, length-take}
 use Rattle.std.proofs.lemmas.List.Sums.{sum_by_push}
-use Rattle.zone_model.specs.Names.{Name, IsName, BeginsWith}
+use Rattle.zone_model.specs.Names.{Name, IsName, BeginsWith, wire}
 use Rattle.zone_model.specs.Keys.{key_of, IsFirstDifference}
 use Rattle.zone_model.specs.Splits.{split_name}
 use Rattle.zone_model.proofs.SplitLemmas.{name_back}
 use Rattle.trie_model.specs.Extents.{cells_in}
-use Rattle.trie_model.specs.Keys.{at, Same, Entry, IsEntry, Less, InList, Rises}
+use Rattle.trie_model.specs.Keys.{at, Same, AreOctets, IsItem, Entry, IsEntry, Less, InList, Rises}
 use Rattle.trie_model.specs.Shape.{nodes, keys_of, cells, nodes_of}
 use Rattle.trie_model.specs.Trees.{Tree, entries_of, IsTree}
 use Rattle.trie_model.specs.Trees.Tree.{leaf}
 use Rattle.trie_model.proofs.ExtentLaws.{laid}
+use Rattle.trie_model.proofs.NameLaws.{name_key}
 use Rattle.trie_model.proofs.OutlineLaws.{place_short}
 use Rattle.trie_model.proofs.ShapeLaws.{nodes-none, nodes_are}
 use Rattle.shift_key.specs.declared.names.Parting.{Parting}
@@ -131,11 +132,26 @@ not_lower key l = let lower = l.lower in omega arith
 
 -- ---- what the counter knows
 
-pub comes_from : {s : TrieSize} {octets : List ℕ} {es : List Entry} {e : Entry} (owner : Name) → Follows s octets es e → IsName owner → BeginsWith octets owner → Comes s owner (length octets) es e
-comes_from {octets = octets} owner f is begins = record {
+wire_some : (name : Name) → 0 < length (wire name)
+wire_some [] = omega arith
+wire_some (label ∷ labels) = omega arith
+
+-- the octets are an item's
+entry_is : {s : TrieSize} {octets : List ℕ} {es : List Entry} {e : Entry} → Follows s octets es e → AreOctets octets → IsEntry e
+entry_is {octets = octets} {e = e} f small = record {
+  key = name_key e.key (f.leads.name, f.leads.is_name, f.leads.key);
+  item = subst IsItem (sym f.item) (record {
+    some = (let w = wire_some f.leads.name in let l = ap (λ (xs : List ℕ). length xs) f.leads.front.1 in let n = length-append (wire f.leads.name) f.leads.front.0 in omega arith);
+    short = f.leads.short;
+    octets = small;
+  });
+}
+
+pub comes_from : {s : TrieSize} {octets : List ℕ} {es : List Entry} {e : Entry} (owner : Name) → Follows s octets es e → AreOctets octets → IsName owner → BeginsWith octets owner → Comes s owner (length octets) es e
+comes_from {octets = octets} owner f small is begins = record {
   counted = f.counted;
   few = f.few;
-  is = f.is;
+  is = entry_is f small;
   key = f.leads.key ∙ ap key_of (one_name octets f.leads.name owner f.leads.is_name is f.leads.front begins);
   long = ap (λ (xs : List ℕ). length xs) f.item;
 }

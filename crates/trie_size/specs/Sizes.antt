@@ -35,7 +35,6 @@ pub record Comes (s : TrieSize) (owner : Name) (len : ℕ) (es : List Entry) (e 
 pub record Follows (s : TrieSize) (octets : List ℕ) (es : List Entry) (e : Entry) : Type 0 where
   pub counted : IsSizeOf s es
   pub few : length es < many
-  pub is : IsEntry e
   pub item : e.item ≡ octets
   pub leads : Leads e.key octets
   pub rising : Rises (es ++ e ∷ [])
