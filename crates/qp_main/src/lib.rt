@@ -12,6 +12,7 @@ mod reading;
 mod refusing;
 mod report;
 mod reporting;
+mod sizing;
 mod status;
 mod telling;
 mod writing;
