@@ -1,3 +1,4 @@
+pub mod Capacity
 pub mod Ledger
 pub mod Rooms
 pub mod Inside

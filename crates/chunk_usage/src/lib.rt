@@ -11,6 +11,7 @@
 #![tactic(auto)]
 
 mod ages;
+pub mod capacity;
 mod chunk_set;
 mod counts;
 mod hints;
