@@ -22,6 +22,7 @@ ghost use Rattle.qp_main.specs.Due.{Answers, Checks, CutShort, Due, DueInput, En
 use crate::dumping::dump_input;
 use crate::feeding::answer_list;
 use crate::items::zone_items;
+use crate::needs::size_job;
 use crate::reading::{job_in, zone_in};
 use crate::refusing::{Stop, refuse_script, zone_stop};
 use crate::reporting::report_job;
@@ -147,6 +148,7 @@ fn serve_input<R: Threads + Wait + Sync, K: Sink, G: Gate>(
         Verb::Make(_) => answer_job(rt, alloc, invocation, bytes, parts, Telling::Summary, gate),
         Verb::Feed(crew) => answer_list(rt, alloc, invocation, bytes, parts, crew.workers, gate),
         Verb::Check => check_zone(alloc, invocation, bytes, parts),
+        Verb::Size => size_job(alloc, invocation, bytes, parts),
     };
     match due {
         Ok((status, text)) => write_due(sink, status, &text),
@@ -239,6 +241,7 @@ fn serve_invocation<R: Threads + Wait + Sync, S: Source, K: Sink, G: Gate>(
         Verb::Run => serve(rt, alloc, invocation, source, sink, gate),
         Verb::Feed(_) => serve(rt, alloc, invocation, source, sink, gate),
         Verb::Check => serve(rt, alloc, invocation, source, sink, gate),
+        Verb::Size => serve(rt, alloc, invocation, source, sink, gate),
         Verb::Dump(_) => serve(rt, alloc, invocation, source, sink, gate),
     }
 }
