@@ -10,14 +10,13 @@
 //! for each 64 chunks: nothing goes through the chunks one by one.
 #![tactic(auto)]
 
-mod capacity;
+pub mod capacity;
 mod counts;
 mod kept_version;
 mod open;
 pub mod space;
 mod usage;
 
-pub use capacity::{least, roomy};
 pub use chunk_hints::{PATH_STEPS, Path};
 pub use kept_version::KeptVersion;
 pub use open::Open;

@@ -9,10 +9,10 @@ use Rattle.clap.specs.Simple.{subcommand_of}
 use Rattle.clap.specs.Walk.{Row, first_of, is_empty}
 use Rattle.zone_model.specs.declared.Style.{Style}
 use Rattle.zone_model.specs.declared.Style.TheVariants.{Full}
-use Rattle.command_line.specs.Numbers.{workers_of}
+use Rattle.command_line.specs.Numbers.{default_chunks, workers_of}
 use Rattle.command_line.specs.Options.{Options, chunks_given, load_of, no_options, options_from}
-use Rattle.command_line.specs.Invocations.{Invocation, IsUnder, Verb, Run, Check, Make, Dump, Feed, asked_of, dumping_of, feeding_of, makes_nothing, making_of, plain_of, reading_of, under_origin}
-use Rattle.command_line.specs.Parsed.{asked_by, asked_in, chunks_in, invocation, load_in, making_by, origin_in, parsed_of, program_app, reading_in, style_in}
+use Rattle.command_line.specs.Invocations.{Invocation, IsUnder, Verb, Run, Check, Make, Dump, Feed, Size, asked_of, dumping_of, feeding_of, makes_nothing, making_of, plain_of, reading_of, sizing_of, under_origin}
+use Rattle.command_line.specs.Parsed.{asked_by, asked_in, chunks_in, invocation, load_in, making_by, origin_in, parsed_of, program_app, reading_in, sizing_in, style_in}
 use Rattle.command_line.specs.Words.{invocation_of, or_else}
 
 abbrev pub AllUnder : Option Invocation → Type 0
@@ -42,7 +42,8 @@ command_under command s =
     (either_under (bytes_eq command (codes "check")) (reading_of Check s) _ (either_under (makes_nothing s && is_none s.style && is_none s.workers) (under_origin s Check) None (origin_under Check (chunks_given s) s.origin (λ name. tt)) tt)
     (either_under (bytes_eq command (codes "make")) (making_of s) _ (either_under (is_none s.origin && is_none s.style) _ None (load_under (load_of s) (chunks_given s)) tt)
     (either_under (bytes_eq command (codes "dump")) (dumping_of s) _ (either_under (makes_nothing s && is_none s.workers) _ None (origin_under (Dump (unwrap_or s.style Full)) (chunks_given s) s.origin (λ name. tt)) tt)
-    (either_under (bytes_eq command (codes "feed")) (feeding_of s) None (either_under (makes_nothing s && is_none s.style) _ None (feed_under s s.workers) tt) tt))))
+    (either_under (bytes_eq command (codes "feed")) (feeding_of s) _ (either_under (makes_nothing s && is_none s.style) _ None (feed_under s s.workers) tt)
+    (either_under (bytes_eq command (codes "size")) (sizing_of s) None (either_under (is_none s.chunks) (reading_of Size s) None (either_under (makes_nothing s && is_none s.style && is_none s.workers) (under_origin s Size) None (origin_under Size (chunks_given s) s.origin (λ name. tt)) tt) tt) tt)))))
 
 options_under : (command : List ℕ) (options : Option Options) → AllUnder (option_and_then (asked_of command) options)
 options_under command None = tt
@@ -85,7 +86,8 @@ asked_under (Some x) =
     (either_under (bytes_eq x.0 (codes "check")) (reading_in (Some Check) x.1) _ (read_under Check origin chunks (λ name. tt))
     (either_under (bytes_eq x.0 (codes "make")) (making_by (load_in x.1) chunks) _ (making_under (load_in x.1) chunks)
     (either_under (bytes_eq x.0 (codes "dump")) _ _ (dump_under (style_in (first_of (codes "style") x.1)) origin chunks)
-    (either_under (bytes_eq x.0 (codes "feed")) _ None (fed_under (option_and_then workers_of (first_of (codes "workers") x.1)) origin chunks) tt))))
+    (either_under (bytes_eq x.0 (codes "feed")) _ _ (fed_under (option_and_then workers_of (first_of (codes "workers") x.1)) origin chunks)
+    (either_under (bytes_eq x.0 (codes "size")) (sizing_in x.1) None (read_under Size origin (Some default_chunks) (λ name. tt)) tt)))))
 
 parsed_under : (words : List (List ℕ)) → AllUnder (parsed_of words)
 parsed_under words = either_under (is_empty (fault_of program_app words)) (asked_in (subcommand_of program_app words)) None (asked_under (subcommand_of program_app words)) tt

@@ -8,14 +8,15 @@ use Rattle.zone_model.specs.declared.Style.TheVariants.{Full}
 use Rattle.job_model.specs.Loads.{Load, made_origin}
 use Rattle.command_line.specs.Options.{Options, no_options, options_from, load_of, chunks_given}
 
--- What is done: a job is run; a zone's index is built; a load's job is run, and summed up; a zone is written; or one list of commands
--- is run by so many workers.
+-- What is done: a job is run; it is said how large a zone's index is; a load's job is run, and summed up; a zone is written; one list
+-- of commands is run by so many workers; or it is reckoned how many chunks a job needs.
 pub data Verb : Type 0 where
   Run : Verb
   Check : Verb
   Make : (load : Load) → Verb
   Dump : (style : Style) → Verb
   Feed : (workers : ℕ) → Verb
+  Size : Verb
 
 -- what to do under an origin, over a number of chunks
 pub record Invocation : Type 0 where
@@ -30,6 +31,7 @@ IsUnder Check origin = Unit {0}
 IsUnder (Make load) origin = origin ≡ made_origin
 IsUnder (Dump style) origin = Unit {0}
 IsUnder (Feed workers) origin = Unit {0}
+IsUnder Size origin = Unit {0}
 
 -- ---- a command and its options
 
@@ -50,6 +52,10 @@ dumping_of s = if makes_nothing s && is_none s.workers then under_origin s (Dump
 abbrev pub feeding_of : Options → Option Invocation
 feeding_of s = if makes_nothing s && is_none s.style then option_and_then (λ workers. under_origin s (Feed workers)) s.workers else None
 
+-- an origin is given, and nothing else
+abbrev pub sizing_of : Options → Option Invocation
+sizing_of s = if is_none s.chunks then reading_of Size s else None
+
 abbrev pub making_of : Options → Option Invocation
 making_of s =
     if is_none s.origin && is_none s.style then option_map (λ load. record { verb = Make load; origin = made_origin; chunks = chunks_given s }) (load_of s)
@@ -63,6 +69,7 @@ asked_of command s =
     else if bytes_eq command (codes "make") then making_of s
     else if bytes_eq command (codes "dump") then dumping_of s
     else if bytes_eq command (codes "feed") then feeding_of s
+    else if bytes_eq command (codes "size") then sizing_of s
     else None
 
 -- what plain words say, the first of which is the program's name: a command and options of it, each option once with its value behind

@@ -4,7 +4,7 @@ ghost use Rattle.std.specs.Option.{option_map};
 ghost use Rattle.std.specs.String.{string_bytes};
 ghost use Rattle.job_model.specs.Loads.{made_origin};
 ghost use Rattle.job_make.specs.Views.{load_view};
-ghost use Rattle.command_line.specs.Invocations.{asked_of, dumping_of, feeding_of, makes_nothing, making_of, plain_of, reading_of, under_origin};
+ghost use Rattle.command_line.specs.Invocations.{asked_of, dumping_of, feeding_of, makes_nothing, making_of, plain_of, reading_of, sizing_of, under_origin};
 ghost use Rattle.command_line.specs.Options.{load_of};
 ghost use Rattle.command_line.specs.Views.{invocation_view, options_view, verb_view};
 
@@ -70,6 +70,16 @@ fn feeding_of(options: &Options) -> Option<Invocation>
     }
 }
 
+// Nothing is given but an origin.
+fn sizing_of(options: &Options) -> Option<Invocation>
+    ensures { option_map invocation_view result ≡ sizing_of (options_view options.now) }
+{
+    if options.chunks.is_some() {
+        return None;
+    }
+    reading_of(Verb::Size, options)
+}
+
 // The load whose numbers are all given.
 fn load_of(options: &Options) -> Option<Load>
     ensures { option_map load_view result ≡ load_of (options_view options.now) }
@@ -125,6 +135,7 @@ fn asked_of(command: &str, options: &Options) -> Option<Invocation>
         "make" => making_of(options),
         "dump" => dumping_of(options),
         "feed" => feeding_of(options),
+        "size" => sizing_of(options),
         _ => None,
     }
 }

@@ -19,7 +19,7 @@ pub struct Crew {
 pub enum Verb {
     /// Run a job.
     Run,
-    /// Build a zone's index, and say how large it is.
+    /// Say how large a zone's index is.
     Check,
     /// Run the job of a load, and sum it up.
     Make(Load),
@@ -27,6 +27,8 @@ pub enum Verb {
     Dump(Style),
     /// Run one list of commands by several workers.
     Feed(Crew),
+    /// Reckon how many chunks a job needs.
+    Size,
 }
 
 /// What the words of the command line say: what to do under an origin, over a number of chunks.

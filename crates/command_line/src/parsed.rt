@@ -115,6 +115,18 @@ fn feed_in(matches: &ArgMatches<'_>) -> Option<Verb>
     Some(Verb::Feed(Crew { workers }))
 }
 
+// What the options of the command that sizes an index say.
+fn sizing_in(matches: &ArgMatches<'_>) -> Option<Invocation>
+    ensures { option_map invocation_view result ≡ parsed.sizing_in (rows_of (found_of matches.now)) }
+{
+    let origin = origin_in(value_in(matches, "origin"))?;
+    Some(Invocation {
+        verb: Verb::Size,
+        origin,
+        chunks: DEFAULT_CHUNKS,
+    })
+}
+
 // The load that options say.
 fn load_in(matches: &ArgMatches<'_>) -> Option<Load>
     ensures { option_map load_view result ≡ parsed.load_in (rows_of (found_of matches.now)) }
@@ -166,6 +178,7 @@ fn asked_by(name: &str, matches: &ArgMatches<'_>) -> Option<Invocation>
         "make" => making_in(matches),
         "dump" => reading_in(matches, dump_in(matches)),
         "feed" => reading_in(matches, feed_in(matches)),
+        "size" => sizing_in(matches),
         _ => None,
     }
 }

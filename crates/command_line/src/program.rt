@@ -3,7 +3,7 @@ ghost use Rattle.std.specs.Prelude.{◌≡◌, ◌∷◌, [], IfOk, codes, false
 ghost use Rattle.clap.specs.Simple.{app_of, new_shape};
 ghost use Rattle.clap.specs.Walk.{rule_of};
 ghost use Rattle.clap.specs.declared.builder.command.Command.TheViews.{out-Command as fields_of};
-ghost use Rattle.command_line.specs.Parsed.{dumping_shape, feeding_shape, making_shape, option_rule, program_app, reading_shape};
+ghost use Rattle.command_line.specs.Parsed.{dumping_shape, feeding_shape, making_shape, option_rule, program_app, reading_shape, sizing_shape};
 
 use clap::{Arg, ArgAction, Command};
 use std::alloc::{AllocError, Global};
@@ -20,7 +20,7 @@ fn option<'a>(alloc: Global, name: &'a str, help: &'a str, required: bool) -> Ar
         .required(required)
 }
 
-// The number of chunks, which each command takes.
+// The number of chunks, which each command takes but the one that reckons it.
 fn chunks<'a>(alloc: Global) -> Arg<'a>
     ensures rule { rule_of result ≡ option_rule (codes "chunks") false }
     ensures local { result.global ≡ false }
@@ -119,6 +119,18 @@ fn feeding<'a>(alloc: Global) -> Result<Command<'a>, AllocError>
     Ok(with_chunks)
 }
 
+// The command that reckons how many chunks a job needs.
+fn sizing<'a>(alloc: Global) -> Result<Command<'a>, AllocError>
+    ensures app { IfOk result (λ c. app_of c ≡ record { top = sizing_shape; subs = [] }) }
+    ensures local { IfOk result (λ c. (fields_of c).has_globals ≡ false) }
+{
+    let about = "Read a job, and print how many chunks its index needs";
+    let command = Command::new(alloc, "size").about(about);
+    let origin = origin(alloc);
+    let with_origin = command.arg(origin)?;
+    Ok(with_origin)
+}
+
 /// The program's command line.
 pub fn program<'a>(alloc: Global) -> Result<Command<'a>, AllocError>
     ensures { IfOk result (λ c. app_of c ≡ program_app) }
@@ -139,5 +151,7 @@ pub fn program<'a>(alloc: Global) -> Result<Command<'a>, AllocError>
     let with_dump = with_make.subcommand(dump_command)?;
     let feed_command = feeding(alloc)?;
     let with_feed = with_dump.subcommand(feed_command)?;
-    Ok(with_feed)
+    let size_command = sizing(alloc)?;
+    let with_size = with_feed.subcommand(size_command)?;
+    Ok(with_size)
 }

@@ -17,8 +17,9 @@ use std::sync::Wait;
 use std::thread::Threads;
 
 /// The files of cases, one a topic.
-const TOPICS: [&str; 11] = [
+const TOPICS: [&str; 13] = [
     "answers.cases",
+    "check.cases",
     "dumps.cases",
     "examples.cases",
     "faults.cases",
@@ -28,6 +29,7 @@ const TOPICS: [&str; 11] = [
     "prerequisites.cases",
     "refusals.cases",
     "room.cases",
+    "sizes.cases",
     "workers.cases",
 ];
 

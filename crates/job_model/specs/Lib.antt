@@ -9,3 +9,4 @@ pub mod Reports
 pub mod Feeds
 pub mod Loads
 pub mod Summaries
+pub mod Needs

@@ -6,6 +6,7 @@ mod changes;
 mod commands;
 mod inside;
 mod laws;
+mod needs;
 mod outcomes;
 mod outside;
 mod parts;
@@ -20,6 +21,7 @@ mod summary;
 
 pub use commands::{Block, Command, Job, Question, Stretch, Worker};
 pub use laws::jobs_are_spelled;
+pub use needs::{Needs, needs_of};
 pub use outcomes::{Cause, FedOutcome, Outcome, Outcomes, Told, any_fed_refused, any_refused};
 pub use parts::{Parts, split};
 pub use printed::{PrintedRows, push_answer, push_dump};

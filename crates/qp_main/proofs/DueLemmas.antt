@@ -6,7 +6,7 @@ use Rattle.outer_io.specs.Bytes.{Held}
 use Rattle.outer_io.proofs.GrowsLemmas.{Grows-nil}
 use Rattle.zone_model.specs.Dumps.{dump}
 use Rattle.zone_model.specs.declared.Style.{Style}
-use Rattle.command_line.specs.Invocations.{Invocation, Verb, Run, Feed, Check, Make, Dump}
+use Rattle.command_line.specs.Invocations.{Invocation, Verb, Run, Feed, Check, Make, Dump, Size}
 use Rattle.job_model.specs.Loads.{Load, made_origin, made_text}
 use Rattle.zone_model.specs.Names.{Name}
 use Rattle.zone_model.specs.Versions.{Version}
@@ -29,7 +29,7 @@ use Rattle.job_model.specs.Sizes.{cell_count}
 use Rattle.shared_index.specs.Openings.{room_in}
 use Rattle.job_threads.specs.Dumps.{StopsOn}
 use Rattle.qp_main.specs.Fits.{fits, no_room_text, opened_text}
-use Rattle.qp_main.specs.Due.{Due, DueBytes, DueGiven, DueInput, Answers, FedAnswers, Checks, CutShort, Dumps, EndsLoad, IfFits, Ends, JobRefuses, Refuses, RefusesScript, Reported, FedReported, IsWritten, MayBeShort, Written, input_of, is_streamed, streams, zone_kind_text, refusal_text}
+use Rattle.qp_main.specs.Due.{Due, DueBytes, DueGiven, DueInput, Answers, FedAnswers, Checks, CutShort, Dumps, EndsLoad, IfFits, Ends, JobRefuses, Refuses, RefusesScript, Reported, FedReported, Sized, Sizes, IsWritten, MayBeShort, Written, input_of, is_streamed, streams, zone_kind_text, refusal_text}
 use Rattle.qp_main.specs.Stops.{IsStop, ScriptStopsFor, ZoneStopsFor}
 use Rattle.qp_main.specs.declared.refusing.Stop.{Stop}
 use Rattle.qp_main.specs.declared.refusing.Stop.TheVariants as stops
@@ -105,6 +105,7 @@ some_dump chunks style origin (Err e) = (status.ZoneRefused, refusal_text (codes
 some_input : (verb : Verb) (chunks : ℕ) (origin : Name) (bytes : List ℕ) → is_streamed verb ≡ true → (s : Status) × (text : List ℕ) × DueInput verb chunks origin bytes s text
 some_input Run chunks origin bytes e = absurd cc
 some_input (Feed workers) chunks origin bytes e = absurd cc
+some_input Size chunks origin bytes e = absurd cc
 some_input Check chunks origin bytes e = absurd cc
 some_input (Make load) chunks origin bytes e = absurd cc
 some_input (Dump style) chunks origin bytes e = some_dump chunks style origin (zone_of origin (zone_lines bytes))
@@ -180,6 +181,28 @@ script_refuses telling chunks origin bytes e w s text h = by_zone (zone_of origi
     by_zone : (r : Result Version (Refused ZoneKind)) → zone_of origin (zone_lines bytes) ≡ r → RefusesScript r e s text → Answers telling chunks (job_of origin bytes) s text
     by_zone (Ok zone) z h = answers_as telling chunks (job_of origin bytes) (Err (ScriptRefused e)) s text (whole_refusal origin bytes zone e z w) h
     by_zone (Err why) z h = answers_as telling chunks (job_of origin bytes) (Err (ZoneRefused why)) s text (no_zone origin bytes why z) h
+
+-- the same of what a job needs
+
+sizes_as : (q r : Result Job JobRefusal) (s : Status) (text : List ℕ) → q ≡ r → Sizes r s text → Sizes q s text
+sizes_as q r s text e h = subst (λ (x : Result Job JobRefusal). Sizes x s text) (sym e) h
+
+pub job_sizes : (origin : Name) (bytes : List ℕ) (zone : Version) (workers : List (List Command)) → zone_of origin (zone_lines bytes) ≡ Ok zone → script_of origin (script_start bytes) (script_lines bytes) ≡ Ok workers
+    → (s : Status) (text : List ℕ) → Sized (record { origin = origin; zone = zone; workers = workers }) s text → Sizes (job_of origin bytes) s text
+job_sizes origin bytes zone workers z w s text h = sizes_as (job_of origin bytes) (Ok (record { origin = origin; zone = zone; workers = workers })) s text (whole_job origin bytes zone workers z w) h
+
+pub script_unsized : (origin : Name) (bytes : List ℕ) (e : Refused ScriptKind) → script_of origin (script_start bytes) (script_lines bytes) ≡ Err e
+    → (s : Status) (text : List ℕ) → RefusesScript (zone_of origin (zone_lines bytes)) e s text → Sizes (job_of origin bytes) s text
+script_unsized origin bytes e w s text h = by_zone (zone_of origin (zone_lines bytes)) refl h
+  where
+    by_zone : (r : Result Version (Refused ZoneKind)) → zone_of origin (zone_lines bytes) ≡ r → RefusesScript r e s text → Sizes (job_of origin bytes) s text
+    by_zone (Ok zone) z h = sizes_as (job_of origin bytes) (Err (ScriptRefused e)) s text (whole_refusal origin bytes zone e z w) h
+    by_zone (Err why) z h = sizes_as (job_of origin bytes) (Err (ZoneRefused why)) s text (no_zone origin bytes why z) h
+
+pub zone_unsized : (origin : Name) (bytes : List ℕ) (lines : List (List ℕ)) (r : ZoneRefusal) (s : Status) (text : List ℕ) → lines ≡ zone_lines bytes → Reads {R = Zone} (Err r) (λ z. z.pairs) (zone_of origin lines) → Refuses r s text → Sizes (job_of origin bytes) s text
+zone_unsized origin bytes lines (refusal.Refused line kind) s text same z h =
+    sizes_as (job_of origin bytes) (Err (ZoneRefused (record { line = line; kind = kind }))) s text (no_zone origin bytes (record { line = line; kind = kind }) (ap (zone_of origin) (sym same) ∙ z)) h
+zone_unsized origin bytes lines refusal.Memory s text same z h = absurd h
 
 -- a zone that its reader refused, where its lines are those of some bytes
 pub zone_stops : (telling : Telling) (chunks : ℕ) (origin : Name) (bytes : List ℕ) (lines : List (List ℕ)) (r : ZoneRefusal) (s : Status) (text : List ℕ) → lines ≡ zone_lines bytes → Reads {R = Zone} (Err r) (λ z. z.pairs) (zone_of origin lines) → Refuses r s text → Answers telling chunks (job_of origin bytes) s text
@@ -311,6 +334,10 @@ job_answer : (telling : Telling) (chunks : ℕ) (r : Result Job JobRefusal) (s :
 job_answer telling chunks (Ok job) s text h = if_fits_answers (fits chunks job.zone) chunks job.zone (Reported telling chunks job) s text (reported_answers telling chunks job s text) h
 job_answer telling chunks (Err e) s text h = refused_answer e s text h
 
+sizes_answer : (r : Result Job JobRefusal) (s : Status) (text : List ℕ) → Sizes r s text → IsAnswer s
+sizes_answer (Ok job) s text h = answer_as s status.Done h.ended tt
+sizes_answer (Err e) s text h = refused_answer e s text h
+
 check_answer : (chunks : ℕ) (r : Result Version (Refused ZoneKind)) (s : Status) (text : List ℕ) → Checks chunks r s text → IsAnswer s
 check_answer chunks (Ok zone) s text h = if_fits_answers (fits chunks zone) chunks zone (Ends status.Done (opened_text zone)) s text (λ k. answer_as s status.Done k.0 tt) h
 check_answer chunks (Err e) s text h = answer_as s status.ZoneRefused h.0 tt
@@ -323,6 +350,7 @@ pub due_answer : (verb : Verb) (chunks : ℕ) (origin : Name) (bytes : List ℕ)
 due_answer Run chunks origin bytes s text h = job_answer Report chunks (job_of origin bytes) s text h
 due_answer (Feed workers) chunks origin bytes s text h = fed_answer workers chunks (fed_job_of origin bytes) s text h
 due_answer (Make load) chunks origin bytes s text h = job_answer Summary chunks (job_of origin bytes) s text h
+due_answer Size chunks origin bytes s text h = sizes_answer (job_of origin bytes) s text h
 due_answer Check chunks origin bytes s text h = check_answer chunks (zone_of origin (zone_lines bytes)) s text h
 due_answer (Dump style) chunks origin bytes s text h = dump_answer chunks style origin (zone_of origin (zone_lines bytes)) s text h
 

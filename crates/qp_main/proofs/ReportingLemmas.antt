@@ -73,18 +73,6 @@ pub job_told : (telling : Telling) (chunks : ℕ) (origin : Name) (zone : Versio
 job_told telling chunks origin zone ws f text refused s r printed some ended =
     fitting chunks zone (Reported telling chunks (record { origin = origin; zone = zone; workers = ws })) s text (it_fits chunks zone r.0) (job_reported telling chunks origin zone ws f text refused s r.1 printed some ended)
 
--- an index on which no worker ran has version 0
-none_made : (chunks passes : ℕ) (origin : Name) (zone : Version) (last : ℕ) → Lawful chunks passes origin zone [] last → last ≡ 0
-none_made chunks passes origin zone zero l = refl
-none_made chunks passes origin zone (suc last) l = absurd (omega (arith, l.once (suc last) (omega arith) (omega arith)))
-
-pub size_told : (chunks : ℕ) (origin : Name) (zone : Version) (f : Finished) (text : List ℕ) → RanOn chunks origin zone [] (ran.Finished f) → text ≡ codes "v0 " ++ size_text f.names f.nodes → Checks chunks (Ok zone) status.Done text
-size_told chunks origin zone f text r printed =
-    let first : versions_made origin zone [] f.outcomes.items f.version ≡ zone = ap (versions_made origin zone [] f.outcomes.items) (none_made chunks (passes_for 0) origin zone f.version r.1.lawful) in
-    let names : f.names ≡ length zone = r.1.names_are ∙ ap length first in
-    let nodes : f.nodes ≡ node_count zone = r.1.nodes_are ∙ ap node_count first in
-    fitting chunks zone (Ends status.Done (opened_text zone)) status.Done text (it_fits chunks zone r.0) (refl, printed ∙ ap (λ (n : ℕ). codes "v0 " ++ size_text n f.nodes) names ∙ ap (λ (n : ℕ). codes "v0 " ++ size_text (length zone) n) nodes)
-
 -- ---- one list of commands
 
 -- what is printed of a list that was handed out

@@ -7,6 +7,8 @@ use Rattle.zone_model.specs.Refusals.{Refused}
 use Rattle.zone_model.specs.MasterFile.{zone_of}
 use Rattle.job_model.specs.Commands.{FedJob, Job}
 use Rattle.job_model.specs.Jobs.{JobRefusal, ZoneRefused, ScriptRefused, zone_lines, job_of, fed_job_of}
+use Rattle.chunk_usage.specs.Capacity.{IsLeast}
+use Rattle.job_model.specs.Needs.{most_cells, most_operations}
 use Rattle.job_model.specs.Outcomes.{Pair, Lawful, passes_for, some_refused}
 use Rattle.job_model.specs.Feeds.{Fed, FedPair, all_numbers, by_worker, fed_commands, fed_report, passes_fed, some_fed_refused}
 use Rattle.zone_model.specs.declared.ZoneKind.{ZoneKind}
@@ -19,8 +21,9 @@ use Rattle.zone_text.specs.declared.refusal.ZoneRefusal.TheVariants as refusal
 use Rattle.outer_io.specs.Bytes.{Held, Grows, GrowsByFront}
 use Rattle.zone_model.specs.Dumps.{dump}
 use Rattle.zone_model.specs.declared.Style.{Style}
-use Rattle.command_line.specs.Invocations.{Invocation, Verb, Run, Feed, Check, Make, Dump}
+use Rattle.command_line.specs.Invocations.{Invocation, Verb, Run, Feed, Check, Make, Dump, Size}
 use Rattle.qp_main.specs.Fits.{fits, no_room_text, opened_text}
+use Rattle.qp_main.specs.Needs.{needs_text}
 use Rattle.qp_main.specs.Tellings.{told_text}
 use Rattle.qp_main.specs.declared.telling.Telling.{Telling}
 use Rattle.qp_main.specs.declared.telling.Telling.TheVariants.{Report, Summary}
@@ -79,6 +82,14 @@ pub record FedReported (workers chunks : ℕ) (job : FedJob) (s : Status) (text 
   pub is : text ≡ fed_report job.origin job.zone workers fed last
   pub ended : s ≡ (if some_fed_refused fed then status.SomeRefused else status.Done)
 
+-- What a job needs: the text tells the least number of chunks that is enough for the passes of its workers, the cells of its zone and of
+-- all that is added to it, and its longest transaction; and these two.
+pub record Sized (job : Job) (s : Status) (text : List ℕ) : Type 0 where
+  pub chunks : Option ℕ
+  pub least : IsLeast (passes_for (length job.workers)) (most_cells job) (most_operations job) chunks
+  pub is : text ≡ needs_text chunks (most_cells job) (most_operations job)
+  pub ended : s ≡ status.Done
+
 -- a status and a text
 abbrev pub Ends : Status → List ℕ → Status → List ℕ → Type 0
 Ends status text s t = (s ≡ status) × (t ≡ text)
@@ -119,6 +130,11 @@ abbrev pub FedAnswers : ℕ → ℕ → Result FedJob JobRefusal → Status → 
 FedAnswers workers chunks (Ok job) = IfFits (fits chunks job.zone) chunks job.zone (FedReported workers chunks job)
 FedAnswers workers chunks (Err e) = JobRefuses e
 
+-- the status and the text for the job that bytes say: what it needs, whether or not its zone fits into some chunks
+abbrev pub Sizes : Result Job JobRefusal → Status → List ℕ → Type 0
+Sizes (Ok job) = Sized job
+Sizes (Err e) = JobRefuses e
+
 -- the status and the text for the zone that bytes say: how many names and nodes it has
 abbrev pub Checks : ℕ → Result Version (Refused ZoneKind) → Status → List ℕ → Type 0
 Checks chunks (Ok zone) = IfFits (fits chunks zone) chunks zone (Ends status.Done (opened_text zone))
@@ -134,6 +150,7 @@ abbrev pub DueInput : Verb → ℕ → Name → List ℕ → Status → List ℕ
 DueInput Run chunks origin bytes = Answers Report chunks (job_of origin bytes)
 DueInput (Feed workers) chunks origin bytes = FedAnswers workers chunks (fed_job_of origin bytes)
 DueInput (Make load) chunks origin bytes = Answers Summary chunks (job_of origin bytes)
+DueInput Size chunks origin bytes = Sizes (job_of origin bytes)
 DueInput Check chunks origin bytes = Checks chunks (zone_of origin (zone_lines bytes))
 DueInput (Dump style) chunks origin bytes = Dumps chunks style origin (zone_of origin (zone_lines bytes))
 
@@ -150,6 +167,7 @@ DueBytes i bytes false = Ends status.TooLong (codes "input over 16777216 bytes\n
 abbrev pub input_of : Verb → Option (List ℕ) → Option (List ℕ)
 input_of Run left = left
 input_of (Feed workers) left = left
+input_of Size left = left
 input_of Check left = left
 input_of (Dump style) left = left
 input_of (Make load) left = Some (made_text load)
@@ -168,6 +186,7 @@ Due (Some invocation) left s text = DueGiven invocation (input_of invocation.ver
 abbrev pub MakesInput : Verb → Type 0
 MakesInput Run = ⊥
 MakesInput (Feed workers) = ⊥
+MakesInput Size = ⊥
 MakesInput Check = ⊥
 MakesInput (Dump style) = ⊥
 MakesInput (Make load) = Unit {0}
@@ -206,6 +225,7 @@ IsWritten status.NoMemory = ⊥
 abbrev pub is_streamed : Verb → Bool
 is_streamed Run = false
 is_streamed (Feed workers) = false
+is_streamed Size = false
 is_streamed Check = false
 is_streamed (Make load) = false
 is_streamed (Dump style) = true

@@ -1,5 +1,6 @@
 pub mod Statuses
 pub mod Fits
+pub mod Needs
 pub mod Due
 pub mod Tellings
 pub mod Stops

@@ -1,17 +1,19 @@
 //! The program: reads a job (a zone and its workers' script), runs it, and prints the report; or hands one list of commands
 //! out to workers; or reads a zone and says how large its index is, or writes it as a master file; or makes a job, runs it, and sums
-//! it up.
+//! it up; or reads a job and says how many chunks it needs.
 #![tactic(auto)]
 
 mod dumping;
 mod feeding;
 mod items;
 mod line;
+mod needs;
 mod program;
 mod reading;
 mod refusing;
 mod report;
 mod reporting;
+mod sizing;
 mod status;
 mod telling;
 mod writing;

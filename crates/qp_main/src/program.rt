@@ -22,9 +22,11 @@ ghost use Rattle.qp_main.specs.Due.{Answers, Checks, CutShort, Due, DueInput, En
 use crate::dumping::dump_input;
 use crate::feeding::answer_list;
 use crate::items::zone_items;
+use crate::needs::size_job;
 use crate::reading::{job_in, zone_in};
 use crate::refusing::{Stop, refuse_script, zone_stop};
-use crate::reporting::{report_job, report_size};
+use crate::reporting::report_job;
+use crate::sizing::{report_size, zone_size};
 use crate::status::Status;
 use crate::telling::Telling;
 use crate::writing::write_due;
@@ -98,29 +100,26 @@ fn answer_job<R: Threads + Wait + Sync, G: Gate>(
     }
 }
 
-// The status and the text for a zone that is only to be checked: no worker asks it.
-fn check_zone<R: Threads + Wait + Sync, G: Gate>(
-    rt: &R,
+// The status and the text for a zone that is only to be checked: the nodes and cells of its trie are counted, and no index is made.
+fn check_zone(
     alloc: Global,
     invocation: &Invocation,
     bytes: Vec<u8>,
     parts: Parts,
-    gate: &G,
 ) -> Result<(Status, Vec<u8>), Stop>
     requires short { length bytes.items ≤ 2 ^ 24 }
     requires cut { IsCutAt bytes.items parts }
     ensures told { IfOk result (λ x. Checks invocation.now.chunks (zone_of invocation.now.origin (zone_lines bytes.items)) x.0 x.1.items) }
     ensures stops { IfErr result (IsStop (Checks invocation.now.chunks (zone_of invocation.now.origin (zone_lines bytes.items)))) }
 {
-    let blank = table_for(alloc, invocation.chunks, 0)?;
     let zone_bytes = &bytes.as_slice()[..parts.zone_end as usize];
     let zone = match zone_in(alloc, zone_bytes, &invocation.origin) {
         Ok(zone) => zone,
         Err(refusal) => return Err(zone_stop(refusal)),
     };
     drop(bytes);
-    let items = zone_items(alloc, zone)?;
-    let answer = report_size(rt, alloc, invocation, blank, &items, gate)?;
+    let size = zone_size(alloc, zone)?;
+    let answer = report_size(alloc, invocation.chunks, &size)?;
     Ok(answer)
 }
 
@@ -148,7 +147,8 @@ fn serve_input<R: Threads + Wait + Sync, K: Sink, G: Gate>(
         Verb::Run => answer_job(rt, alloc, invocation, bytes, parts, Telling::Report, gate),
         Verb::Make(_) => answer_job(rt, alloc, invocation, bytes, parts, Telling::Summary, gate),
         Verb::Feed(crew) => answer_list(rt, alloc, invocation, bytes, parts, crew.workers, gate),
-        Verb::Check => check_zone(rt, alloc, invocation, bytes, parts, gate),
+        Verb::Check => check_zone(alloc, invocation, bytes, parts),
+        Verb::Size => size_job(alloc, invocation, bytes, parts),
     };
     match due {
         Ok((status, text)) => write_due(sink, status, &text),
@@ -241,6 +241,7 @@ fn serve_invocation<R: Threads + Wait + Sync, S: Source, K: Sink, G: Gate>(
         Verb::Run => serve(rt, alloc, invocation, source, sink, gate),
         Verb::Feed(_) => serve(rt, alloc, invocation, source, sink, gate),
         Verb::Check => serve(rt, alloc, invocation, source, sink, gate),
+        Verb::Size => serve(rt, alloc, invocation, source, sink, gate),
         Verb::Dump(_) => serve(rt, alloc, invocation, source, sink, gate),
     }
 }

@@ -1,7 +1,8 @@
-//! Lines that are no report: refusals, and how large a zone is.
+//! Lines that are no report: refusals, how large a zone is, and what a job needs.
 ghost use Rattle.std.specs.Prelude.{◌≡◌, ◌≤◌, ◌++◌, ℕ, List, OnOk, IfOk, length, codes, decimal};
 ghost use Rattle.job_model.specs.Replies.{size_text};
 ghost use Rattle.qp_main.specs.Due.{zone_kind_text, script_kind_text, refusal_text};
+ghost use Rattle.qp_main.specs.Needs.{chunks_text, needs_text};
 
 use crate::line::{Line, refusal_line};
 use job_model::ScriptKind;
@@ -85,5 +86,35 @@ pub fn size_line(alloc: Global, names: u64, nodes: u64) -> Result<Vec<u8>, Alloc
     let mut out = Vec::new(alloc);
     out.extend_from_slice(b"v0 ")?;
     push_size(&mut out, names, nodes)?;
+    Ok(out)
+}
+
+// How many chunks are enough.
+fn push_chunks(out: &mut Vec<u8>, chunks: Option<u32>) -> Result<(), AllocError>
+    ensures { OnOk result (out.new.items ≡ out.old.items ++ chunks_text chunks) }
+{
+    match chunks {
+        Some(chunks) => push_decimal(out, u64::from(chunks)),
+        None => out.extend_from_slice(b"none"),
+    }
+}
+
+/// The line of what a job needs: chunks, or none where no number is enough; cells; operations of a transaction.
+pub fn needs_line(
+    alloc: Global,
+    chunks: Option<u32>,
+    cells: u64,
+    operations: u32,
+) -> Result<Vec<u8>, AllocError>
+    ensures { IfOk result (λ v. v.items ≡ needs_text chunks cells operations) }
+{
+    let mut out = Vec::new(alloc);
+    out.extend_from_slice(b"chunks ")?;
+    push_chunks(&mut out, chunks)?;
+    out.extend_from_slice(b" cells ")?;
+    push_decimal(&mut out, cells)?;
+    out.extend_from_slice(b" operations ")?;
+    push_decimal(&mut out, u64::from(operations))?;
+    out.extend_from_slice(b"\n")?;
     Ok(out)
 }

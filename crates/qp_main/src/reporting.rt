@@ -1,4 +1,4 @@
-//! What is told of a job that is run, and of a zone that is opened.
+//! What is told of a job that is run.
 ghost use Rattle.std.specs.Prelude.{◌≡◌, ◌<◌, ◌≤◌, [], ℕ, IfOk, Ok, false, length, vec_len, if◌then◌else◌};
 ghost use Rattle.std.specs.List.{AllByRecursion};
 ghost use Rattle.zone_model.specs.Versions.{Version};
@@ -10,9 +10,9 @@ ghost use Rattle.report_laws.specs.Changes.{AllAsked};
 ghost use Rattle.job_threads.specs.Histories.{IsZone, StandsAs};
 ghost use Rattle.trie_write.specs.Entries.{entries_of_items};
 ghost use Rattle.qp_main.specs.Tellings.{finished_text};
-ghost use Rattle.qp_main.specs.Due.{Answers, Checks, FedAnswers};
+ghost use Rattle.qp_main.specs.Due.{Answers, FedAnswers};
 
-use crate::report::{no_room, size_line};
+use crate::report::no_room;
 use crate::status::Status;
 use crate::telling::Telling;
 use command_line::Invocation;
@@ -151,35 +151,6 @@ pub fn report_list<R: Threads + Wait + Sync, G: Gate>(
             Ok((status, text))
         }
         FedRan::DoesNotFit { cells, limit } => {
-            Ok((Status::DoesNotFit, no_room(alloc, cells, limit)?))
-        }
-    }
-}
-
-/// Opens the index of a zone, by a table that was made for no worker, and answers the status and how large version 0 is.
-pub fn report_size<R: Threads + Wait + Sync, G: Gate>(
-    rt: &R,
-    alloc: Global,
-    invocation: &Invocation,
-    blank: Blank<ZoneLaw>,
-    items: &[Item],
-    gate: &G,
-) -> Result<(Status, Vec<u8>), AllocError>
-    requires chunks { blank.shared.table.shared.key.chunks ≡ invocation.now.chunks }
-    requires passes { blank.shared.table.shared.key.passes ≡ passes_for 0 }
-    requires zone { IsZone invocation.now.origin (entries_of_items items.now) }
-    ensures { (zone : Version) → StandsAs (entries_of_items items.now) zone → IfOk result (λ x. Checks invocation.now.chunks (Ok zone) x.0 x.1.items) }
-{
-    let job = Job {
-        workers: Vec::new(alloc),
-    };
-    let origin = &invocation.origin;
-    match run_zone(rt, alloc, blank, origin, items, &job, gate)? {
-        Ran::Finished(finished) => {
-            let line = size_line(alloc, finished.names, finished.nodes)?;
-            Ok((Status::Done, line))
-        }
-        Ran::DoesNotFit { cells, limit } => {
             Ok((Status::DoesNotFit, no_room(alloc, cells, limit)?))
         }
     }

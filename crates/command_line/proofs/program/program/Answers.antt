@@ -1,6 +1,6 @@
 use Rattle.std.proofs.Common.{rules, ◌≡◌, ◌∙◌, [], ap, ap₂, codes, true}
 use Rattle.clap.specs.Simple.{App, app_of, new_shape, with_subcommand}
-use Rattle.command_line.specs.Parsed.{dumping_shape, feeding_shape, making_shape, reading_shape}
+use Rattle.command_line.specs.Parsed.{dumping_shape, feeding_shape, making_shape, reading_shape, sizing_shape}
 use Rattle.command_line.proofs.program.program.Goals as goal
 
 pub returns : goal.returns
@@ -11,7 +11,10 @@ returns c =
     let top_is : app_of c.subcommand_required-top.result ≡ record { top = record (new_shape (codes "qpzone")) { subcommand_required = true }; subs = [] } = search rules in
     let dump_is : app_of c.in_ok-dump_command.dump_command ≡ record { top = dumping_shape; subs = [] } = c.in_ok-dump_command.ensures.app in
     let feed_is : app_of c.in_ok-feed_command.feed_command ≡ record { top = feeding_shape; subs = [] } = c.in_ok-feed_command.ensures.app in
-    c.in_ok-with_feed.ensures.shape c.in_ok-feed_command.ensures.local
+    let size_is : app_of c.in_ok-size_command.size_command ≡ record { top = sizing_shape; subs = [] } = c.in_ok-size_command.ensures.app in
+    c.in_ok-with_size.ensures.shape c.in_ok-size_command.ensures.local
+    ∙ ap₂ with_subcommand
+    (c.in_ok-with_feed.ensures.shape c.in_ok-feed_command.ensures.local
     ∙ ap₂ with_subcommand
     (c.in_ok-with_dump.ensures.shape c.in_ok-dump_command.ensures.local
     ∙ ap₂ with_subcommand
@@ -21,4 +24,5 @@ returns c =
     ∙ ap₂ with_subcommand (c.in_ok-with_run.ensures.shape c.in_ok-run_command.ensures.local ∙ ap₂ with_subcommand top_is (ap (λ (a : App). a.top) run_is)) (ap (λ (a : App). a.top) check_is))
     (ap (λ (a : App). a.top) make_is))
     (ap (λ (a : App). a.top) dump_is))
-    (ap (λ (a : App). a.top) feed_is)
+    (ap (λ (a : App). a.top) feed_is))
+    (ap (λ (a : App). a.top) size_is)

@@ -1,0 +1,95 @@
+-- A zone's size, counted item by item.
+use Rattle.std.proofs.Common.{◌≡◌, ◌∙◌, ℕ, ◌+◌, ◌<◌, ◌≤◌, ◌^◌, Bool, true, false, leb, List, [], ◌∷◌, ◌++◌, length, length-append, map, append-nil, append_assoc, Ok, codes, inl, inr, arith, refl, sym, ap, subst}
+use Rattle.std.proofs.lemmas.Bool.Decides.{nat_tests}
+use Rattle.std.proofs.lemmas.List.{length-map}
+use Rattle.std.specs.Fmt.{decimal}
+use Rattle.std.specs.Int.{w16, to_be_bytes}
+use Rattle.std.specs.List.{flat_map}
+use Rattle.zone_model.specs.Names.{Name, wire}
+use Rattle.zone_model.specs.Records.{Entry, IsItem, rrset_bytes}
+use Rattle.zone_model.specs.Versions.{Version}
+use Rattle.trie_model.specs.Keys.{Entry as TrieEntry, InList, Rises}
+use Rattle.trie_model.proofs.KeyLaws.{in_left}
+use Rattle.trie_size.specs.declared.size.TrieSize.{TrieSize}
+use Rattle.trie_size.specs.Sizes.{IsSizeOf, Follows}
+use Rattle.zone_query.specs.Standing.{trie_entry}
+use Rattle.master_file.specs.Rows.{CanBeDumped}
+use Rattle.job_model.specs.Replies.{size_text}
+use Rattle.job_model.specs.Sizes.{cell_count, node_count, trie_entries}
+use Rattle.shared_index.specs.Openings.{room_in}
+use Rattle.job_threads.specs.Histories.{IsZone}
+use Rattle.job_threads.proofs.OpenLaws.{zone_rises}
+use Rattle.qp_main.specs.Due.{Checks, Ends, IfFits}
+use Rattle.qp_main.specs.Fits.{fits, no_room_text, opened_text}
+use Rattle.qp_main.specs.declared.status.Status.TheVariants as status
+use Rattle.qp_main.proofs.DueLemmas.{fitting}
+
+-- the size is that of what is done of all
+pub record Counted (size : TrieSize) (left all : Version) : Type 0 where
+  pub done : List TrieEntry
+  pub sized : IsSizeOf size done
+  pub whole : done ++ trie_entries left ≡ trie_entries all
+
+rises_front : (xs ys : List TrieEntry) → Rises (xs ++ ys) → Rises xs
+rises_front [] ys r = tt
+rises_front (x ∷ xs) ys r = (λ y i. r.0 y (in_left y xs ys i), rises_front xs ys r.1)
+
+-- what is left, its first name taken apart
+module _ {size : TrieSize} {all : Version} (pair : Name × Entry) (old left : Version) (octets : List ℕ) (is : IsItem octets pair.0 pair.1) (first : old ≡ pair ∷ left) (so_far : Counted size old all) where
+  more : (so_far.done ++ trie_entry pair ∷ []) ++ trie_entries left ≡ trie_entries all
+  more = append_assoc so_far.done (trie_entry pair ∷ []) (trie_entries left) ∙ ap (λ (v : Version). so_far.done ++ trie_entries v) (sym first) ∙ so_far.whole
+
+  pub comes_next : length all < 2 ^ 40 → Rises (trie_entries all) → Follows size octets so_far.done (trie_entry pair)
+  comes_next few rises = record {
+    counted = so_far.sized;
+    few = (
+        let a = ap (λ (xs : List TrieEntry). length xs) more in
+        let b = length-append (so_far.done ++ trie_entry pair ∷ []) (trie_entries left) in
+        let c = length-append so_far.done (trie_entry pair ∷ []) in
+        let d = length-map all trie_entry in omega arith
+        );
+    item = sym is.octets;
+    leads = record {
+      short = is.short;
+      name = pair.0;
+      is_name = is.name;
+      key = refl;
+      front = (to_be_bytes w16 (length pair.1) ++ flat_map rrset_bytes pair.1, is.octets ∙ append_assoc (wire pair.0) (to_be_bytes w16 (length pair.1)) (flat_map rrset_bytes pair.1));
+    };
+    rising = rises_front (so_far.done ++ trie_entry pair ∷ []) (trie_entries left) (subst Rises (sym more) rises);
+  }
+
+  pub one_more : {new : TrieSize} → IsSizeOf new (so_far.done ++ trie_entry pair ∷ []) → Counted new left all
+  one_more sized = record { done = so_far.done ++ trie_entry pair ∷ []; sized = sized; whole = more }
+
+pub all_counted : {size : TrieSize} {left all : Version} → Counted size left all → left ≡ [] → IsSizeOf size (trie_entries all)
+all_counted {size} {left} {all} c none = subst (IsSizeOf size) (sym (append-nil c.done) ∙ ap (λ (v : Version). c.done ++ trie_entries v) (sym none) ∙ c.whole) c.sized
+
+-- a zone's entries rise
+pub zone_entries_rise : (origin : Name) (zone : Version) → CanBeDumped origin zone → Rises (trie_entries zone)
+zone_entries_rise origin zone d =
+    let is : IsZone origin (trie_entries zone) = record { version = zone; stands = record { valid = record { rising = d.rising; items = d.items }; entries = refl }; zone = d } in zone_rises origin (trie_entries zone) is
+
+-- ---- what is told of a size
+
+too_large : (n m : ℕ) → m < n → leb n m ≡ false
+too_large n m h = grind (arith, nat_tests)
+
+in_room : (n m : ℕ) → n ≤ m → leb n m ≡ true
+in_room n m h = grind (arith, nat_tests)
+
+pub refused_size : (chunks limit : ℕ) (zone : Version) (size : TrieSize) (text : List ℕ) → IsSizeOf size (trie_entries zone) → limit ≡ room_in chunks → limit < size.cells → text ≡ codes "zone does not fit: " ++ decimal size.cells ++ codes " cells over " ++ decimal limit ++ codes "\n"
+    → Checks chunks (Ok zone) status.DoesNotFit text
+refused_size chunks limit zone size text sized room large printed =
+    let cells : size.cells ≡ cell_count zone = sized.cells in
+    let over : room_in chunks < cell_count zone = omega arith in
+    let told : text ≡ no_room_text chunks zone = printed ∙ ap (λ (n : ℕ). codes "zone does not fit: " ++ decimal n ++ codes " cells over " ++ decimal limit ++ codes "\n") cells ∙ ap (λ (n : ℕ). codes "zone does not fit: " ++ decimal (cell_count zone) ++ codes " cells over " ++ decimal n ++ codes "\n") room in
+    subst (λ (b : Bool). IfFits b chunks zone (Ends status.Done (opened_text zone)) status.DoesNotFit text) (sym (too_large (cell_count zone) (room_in chunks) over)) (refl, told)
+
+pub told_size : (chunks limit : ℕ) (zone : Version) (size : TrieSize) (text : List ℕ) → IsSizeOf size (trie_entries zone) → limit ≡ room_in chunks → size.cells ≤ limit → text ≡ codes "v0 " ++ size_text size.names size.nodes → Checks chunks (Ok zone) status.Done text
+told_size chunks limit zone size text sized room small printed =
+    let cells : size.cells ≡ cell_count zone = sized.cells in
+    let within : cell_count zone ≤ room_in chunks = omega arith in
+    let names : size.names ≡ length zone = sized.names ∙ length-map zone trie_entry in
+    let nodes : size.nodes ≡ node_count zone = sized.nodes in
+    fitting chunks zone (Ends status.Done (opened_text zone)) status.Done text (in_room (cell_count zone) (room_in chunks) within) (refl, printed ∙ ap (λ (n : ℕ). codes "v0 " ++ size_text n size.nodes) names ∙ ap (λ (n : ℕ). codes "v0 " ++ size_text (length zone) n) nodes)

@@ -1,0 +1,109 @@
+//! How many chunks a job needs.
+ghost use Rattle.std.specs.Prelude.{◌≡◌, ◌<◌, ◌≤◌, ◌+◌, ◌^◌, List, length, IfOk, IfErr, Ok};
+ghost use Rattle.std.specs.List.{AllByRecursion};
+ghost use Rattle.zone_model.specs.MasterFile.{zone_of};
+ghost use Rattle.trie_size.specs.Sizes.{IsSizeOf};
+ghost use Rattle.job_model.specs.Commands.{Job as WholeJob};
+ghost use Rattle.job_model.specs.Jobs.{zone_lines, script_lines, script_start, script_of, job_of};
+ghost use Rattle.job_model.specs.Needs.{cells_of_workers, longest_of_workers};
+ghost use Rattle.job_model.specs.Sizes.{trie_entries};
+ghost use Rattle.job_script.specs.Parts.{IsCutAt};
+ghost use Rattle.job_script.specs.Views.{job_view};
+ghost use Rattle.qp_main.specs.Due.{Sized, Sizes};
+ghost use Rattle.qp_main.specs.Stops.{IsStop};
+
+use crate::reading::{job_in, zone_in};
+use crate::refusing::{Stop, refuse_script, zone_stop};
+use crate::report::needs_line;
+use crate::sizing::zone_size;
+use crate::status::Status;
+use chunk_usage::capacity::least;
+use command_line::Invocation;
+use job_script::{Job, JobRefusal, Needs, Parts, needs_of};
+use std::alloc::{AllocError, Global};
+use trie_size::TrieSize;
+
+// More cells than memory holds the names and operations for.
+const MANY_CELLS: u64 = 1 << 40;
+
+// The cells of a zone and those of all that is added to it.
+fn all_cells(zone: u64, added: u64) -> Result<u64, AllocError>
+    ensures sum { IfOk result (λ n. n ≡ zone + added) }
+    ensures few { IfOk result (λ n. n < 2 ^ 40) }
+{
+    match zone.checked_add(added) {
+        Some(cells) if cells < MANY_CELLS => Ok(cells),
+        _ => Err(AllocError),
+    }
+}
+
+// The status and the text for a job of so many workers, whose zone's trie has this size.
+fn report_needs(
+    alloc: Global,
+    workers: usize,
+    size: &TrieSize,
+    needs: Needs,
+) -> Result<(Status, Vec<u8>), AllocError>
+    requires { workers ≤ 16 }
+    ensures { (job : WholeJob) → IsSizeOf size.now (trie_entries job.zone) → length job.workers ≡ workers → needs.cells ≡ cells_of_workers job.workers → needs.operations ≡ longest_of_workers job.workers
+        → IfOk result (λ x. Sized job x.0 x.1.items) }
+{
+    let cells = all_cells(size.cells(), needs.cells)?;
+    let Ok(operations) = u32::try_from(needs.operations) else {
+        // No memory holds so many.
+        return Err(AllocError);
+    };
+    let passes = 2 * workers as u32 + 1;
+    let chunks = least(passes, cells, operations);
+    let line = needs_line(alloc, chunks, cells, operations)?;
+    Ok((Status::Done, line))
+}
+
+// The status and the text for a script that was read, on the zone that is read now.
+fn size_script(
+    alloc: Global,
+    invocation: &Invocation,
+    bytes: Vec<u8>,
+    parts: Parts,
+    job: &Job,
+) -> Result<(Status, Vec<u8>), Stop>
+    requires short { length bytes.items ≤ 2 ^ 24 }
+    requires cut { IsCutAt bytes.items parts }
+    requires read { script_of invocation.now.origin (script_start bytes.items) (script_lines bytes.items) ≡ Ok (job_view job.now) }
+    requires few_workers { length job.now.workers.items ≤ 16 }
+    ensures told { IfOk result (λ x. Sizes (job_of invocation.now.origin bytes.items) x.0 x.1.items) }
+    ensures stops { IfErr result (IsStop (Sizes (job_of invocation.now.origin bytes.items))) }
+{
+    let zone_bytes = &bytes.as_slice()[..parts.zone_end as usize];
+    let zone = match zone_in(alloc, zone_bytes, &invocation.origin) {
+        Ok(zone) => zone,
+        Err(refusal) => return Err(zone_stop(refusal)),
+    };
+    drop(bytes);
+    let needs = needs_of(job)?;
+    let size = zone_size(alloc, zone)?;
+    let answer = report_needs(alloc, job.workers.len(), &size, needs)?;
+    Ok(answer)
+}
+
+/// The status and the text for bytes that were cut into a zone's and a script's: what the job needs.
+pub fn size_job(
+    alloc: Global,
+    invocation: &Invocation,
+    bytes: Vec<u8>,
+    parts: Parts,
+) -> Result<(Status, Vec<u8>), Stop>
+    requires short { length bytes.items ≤ 2 ^ 24 }
+    requires cut { IsCutAt bytes.items parts }
+    ensures told { IfOk result (λ x. Sizes (job_of invocation.now.origin bytes.items) x.0 x.1.items) }
+    ensures stops { IfErr result (IsStop (Sizes (job_of invocation.now.origin bytes.items))) }
+{
+    let script = &bytes.as_slice()[parts.script_from as usize..];
+    match job_in(alloc, script, parts.first_line, &invocation.origin) {
+        Ok(job) => size_script(alloc, invocation, bytes, parts, &job),
+        Err(JobRefusal::Refused { line, kind }) => Err(refuse_script(
+            alloc, invocation, &bytes, parts, line, kind,
+        )),
+        Err(JobRefusal::Memory) => Err(Stop::Memory),
+    }
+}

@@ -1,0 +1,71 @@
+//! How large the trie of a zone is. It is counted, and not made.
+ghost use Rattle.std.specs.Prelude.{◌≡◌, ◌<◌, ◌≤◌, ◌^◌, IfOk, Ok, length};
+ghost use Rattle.zone_model.specs.Records.{item_limit};
+ghost use Rattle.zone_model.specs.Versions.{Version};
+ghost use Rattle.trie_model.specs.Keys.{Rises};
+ghost use Rattle.trie_size.specs.Sizes.{IsSizeOf};
+ghost use Rattle.job_model.specs.Sizes.{trie_entries};
+ghost use Rattle.shared_index.specs.Openings.{room_in};
+ghost use Rattle.qp_main.specs.Due.{Checks};
+
+use crate::report::{no_room, size_line};
+use crate::status::Status;
+use master_file::{Zone, ZoneItems};
+use rr_data::item_buffer;
+use std::alloc::{AllocError, Global};
+use trie_size::TrieSize;
+
+// More names than memory holds.
+const MANY_NAMES: usize = 1 << 40;
+
+// The size of the trie of all items. Each is laid down in the buffer that is lent.
+fn count_items(mut left: ZoneItems, octets: &mut [u8]) -> TrieSize
+    requires room { item_limit ≤ length octets.old }
+    requires few { length left < 2 ^ 40 }
+    requires rising { Rises (trie_entries left) }
+    ensures { IsSizeOf result (trie_entries left) }
+{
+    let mut size = TrieSize::new();
+    while let Some(len) = left.next(octets) {
+        size.add(&octets[..len]);
+    }
+    size
+}
+
+/// The size of the trie of a zone's names.
+pub fn zone_size(alloc: Global, zone: Zone) -> Result<TrieSize, AllocError>
+    requires { Rises (trie_entries zone.pairs) }
+    ensures { IfOk result (λ size. IsSizeOf size (trie_entries zone.pairs)) }
+{
+    if zone.len() >= MANY_NAMES {
+        return Err(AllocError);
+    }
+    let mut octets = item_buffer(alloc)?;
+    Ok(count_items(zone.into_items(), &mut octets))
+}
+
+// How many cells are sure to find room in so many chunks.
+fn room_in(chunks: u32) -> u64
+    requires some { 1 ≤ chunks }
+    ensures { result ≡ room_in chunks }
+{
+    769 * u64::from(chunks - chunks / 4 - 1)
+}
+
+/// The status and the text for a zone whose trie has this size.
+pub fn report_size(
+    alloc: Global,
+    chunks: u32,
+    size: &TrieSize,
+) -> Result<(Status, Vec<u8>), AllocError>
+    requires some { 1 ≤ chunks }
+    ensures { (zone : Version) → IsSizeOf size.now (trie_entries zone) → IfOk result (λ x. Checks chunks (Ok zone) x.0 x.1.items) }
+{
+    let cells = size.cells();
+    let limit = room_in(chunks);
+    if cells > limit {
+        return Ok((Status::DoesNotFit, no_room(alloc, cells, limit)?));
+    }
+    let line = size_line(alloc, size.names(), size.nodes())?;
+    Ok((Status::Done, line))
+}
