@@ -146,8 +146,7 @@ fn a_full_table_is_told_at_once(rt: HostRuntime) -> Result<(), Fail> {
     assert_eq!(rt; gate.missed(), 0);
     assert_eq!(rt; status, 1);
     assert!(rt; text.starts_with(b"1.1 v0 REFUSED full at "));
-    let rest =
-        b" kept 0\n2.1 v0 ANSWER 1\nns.example. 300 IN A 192.0.2.1\nend v0 names 2\n";
+    let rest = b" kept 0\n2.1 v0 ANSWER 1\nns.example. 300 IN A 192.0.2.1\nend v0 names 2\n";
     assert!(rt; text.ends_with(rest));
     Ok(())
 }

@@ -1,8 +1,8 @@
 //! A usage as what hands out cells.
 
 use super::Usage;
-use chunk_hints::Path;
 use crate::space::{Full, Grant, Space};
+use chunk_hints::Path;
 use packed_node::Ref;
 
 impl Space for Usage {

@@ -7,10 +7,10 @@ ghost use Rattle.chunk_usage.specs.Ledger.{Row, free_count, is_given, is_open};
 ghost use Rattle.chunk_usage.specs.Keeping.{freed, is_in_rows, is_needed, is_unreached};
 
 use super::Usage;
-use chunk_sets::ChunkSet;
 use crate::kept_version::KeptVersion;
 use crate::open::Open;
 use chunk_cells::CellWrite;
+use chunk_sets::ChunkSet;
 
 impl Usage {
     /// Gives back each given chunk that isn't the bump chunk and wasn't it at the last freeze, has no live cell and is in no kept
