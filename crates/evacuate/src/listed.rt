@@ -9,14 +9,11 @@ ghost use Rattle.evacuate.specs.Places.{IsStood};
 ghost use Rattle.evacuate.specs.Rearranging.{Rearranged};
 
 use super::descent::{move_found, reach};
-use super::path_walk::last_sparse;
+use super::path_walk::{Walk, last_sparse};
 use super::trail::Trail;
 use chunk_cells::CellWrite;
 use chunk_usage::{Full, Path, Usage};
 use packed_node::Ref;
-
-/// So many nodes are passed before a path is given up.
-const PATIENCE: u32 = 300;
 
 /// So many rows and items are moved on one path at most.
 const MOST_MOVES: u32 = 300;
@@ -47,8 +44,8 @@ fn open_along<C: CellWrite>(
     ensures ready { Ready C.kept C.given reserve_account_of cells.new usage.new }
 {
     let top = cells.cell(root);
-    let mut patience = PATIENCE;
-    if last_sparse(cells, usage, trail, top, 0, path, &mut patience) {
+    let mut walk = Walk::new();
+    if last_sparse(cells, usage, trail, top, 0, path, &mut walk) {
         usage.note(path);
         reach(cells, usage, root, trail)?;
     }
@@ -73,12 +70,15 @@ fn move_along<C: CellWrite>(
 {
     for _ in 0..MOST_MOVES {
         let top = cells.cell(root);
-        let mut patience = PATIENCE;
-        if !last_sparse(cells, usage, trail, top, 0, path, &mut patience) {
+        let mut walk = Walk::new();
+        if !last_sparse(cells, usage, trail, top, 0, path, &mut walk) {
             return Ok(());
         }
         usage.note(path);
         move_found(cells, usage, root, trail)?;
+        if !walk.more {
+            return Ok(());
+        }
     }
     Ok(())
 }
