@@ -5,7 +5,7 @@ ghost use Rattle.trie_model.specs.Trees.{Tree};
 ghost use Rattle.trie_read.specs.Reads.{IsTop};
 ghost use Rattle.evacuate.specs.Trails.{Found};
 
-use super::sparse::is_item_sparse;
+use super::sparse::{is_chunk_sparse, is_item_sparse};
 use super::trail::Trail;
 use chunk_cells::CellRead;
 use chunk_usage::{Path, Usage};
@@ -47,20 +47,19 @@ struct Onward {
 fn twigs_on(branch: Branch, path: Path) -> Onward
     ensures { result.end ≤ count_ones branch.bitmap }
 {
-    let count = branch.twig_count();
     match path.first() {
         Some(position) if branch.has_twig(position) => {
             let first = branch.twig_index(position);
             Onward {
                 first,
-                end: count.min(first + 1),
+                end: first + 1,
                 path: path.rest(),
                 forks: false,
             }
         }
         _ => Onward {
             first: 0,
-            end: count,
+            end: branch.twig_count(),
             path: Path::none(),
             forks: true,
         },
@@ -70,7 +69,7 @@ fn twigs_on(branch: Branch, path: Path) -> Onward
 /// Something was found below a branch: whether there may be more, at its twigs or below others of them.
 fn look_back(walk: &mut Walk, usage: &Usage, branch: Branch, on: Onward) {
     if !walk.more {
-        walk.more = on.forks || usage.is_sparse(chunk_of(branch.twigs));
+        walk.more = on.forks || is_chunk_sparse(usage, chunk_of(branch.twigs));
     }
 }
 
@@ -115,7 +114,7 @@ pub fn last_sparse<C: CellRead>(
                     return true;
                 }
             }
-            let sparse = usage.is_sparse(chunk_of(branch.twigs));
+            let sparse = is_chunk_sparse(usage, chunk_of(branch.twigs));
             if sparse {
                 trail.end = branch.offset;
             }
