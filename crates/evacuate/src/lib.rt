@@ -5,6 +5,7 @@ mod descent;
 mod evacuation;
 mod items;
 mod listed;
+mod marks;
 mod moves;
 mod path_walk;
 mod place;

@@ -9,14 +9,12 @@ ghost use Rattle.evacuate.specs.Places.{IsStood};
 ghost use Rattle.evacuate.specs.Rearranging.{Rearranged};
 
 use super::descent::{move_found, reach};
-use super::path_walk::last_sparse;
+use super::marks::{Marks, mark_of};
+use super::path_walk::{Walk, last_sparse};
 use super::trail::Trail;
 use chunk_cells::CellWrite;
 use chunk_usage::{Full, Path, Usage};
 use packed_node::Ref;
-
-/// So many nodes are passed before a path is given up.
-const PATIENCE: u32 = 300;
 
 /// So many rows and items are moved on one path at most.
 const MOST_MOVES: u32 = 300;
@@ -30,13 +28,15 @@ enum Step {
     Move,
 }
 
-/// Makes the twigs mutable that are above the last on a path that lies in a sparse chunk.
+/// Makes the twigs mutable that are above the last on a path that lies in a sparse chunk, and marks the path where there is one.
 fn open_along<C: CellWrite>(
     cells: &mut C,
     usage: &mut Usage,
     root: Ref,
     trail: &mut Trail,
     path: Path,
+    marks: &mut Marks,
+    mark: usize,
 ) -> Result<(), Full>
     requires stood { IsStood C.has cells.old usage.old root }
     requires writable { IsWritable C.given reserve_account_of cells.old usage.old root }
@@ -47,8 +47,9 @@ fn open_along<C: CellWrite>(
     ensures ready { Ready C.kept C.given reserve_account_of cells.new usage.new }
 {
     let top = cells.cell(root);
-    let mut patience = PATIENCE;
-    if last_sparse(cells, usage, trail, top, 0, path, &mut patience) {
+    let mut walk = Walk::new();
+    if last_sparse(cells, usage, trail, top, 0, path, &mut walk) {
+        marks.insert(mark);
         usage.note(path);
         reach(cells, usage, root, trail)?;
     }
@@ -73,16 +74,20 @@ fn move_along<C: CellWrite>(
 {
     for _ in 0..MOST_MOVES {
         let top = cells.cell(root);
-        let mut patience = PATIENCE;
-        if !last_sparse(cells, usage, trail, top, 0, path, &mut patience) {
+        let mut walk = Walk::new();
+        if !last_sparse(cells, usage, trail, top, 0, path, &mut walk) {
             return Ok(());
         }
         usage.note(path);
         move_found(cells, usage, root, trail)?;
+        if !walk.more {
+            return Ok(());
+        }
     }
     Ok(())
 }
 
+/// The one or the other along a path. Nothing is moved along one that isn't marked.
 fn step_along<C: CellWrite>(
     cells: &mut C,
     usage: &mut Usage,
@@ -90,6 +95,8 @@ fn step_along<C: CellWrite>(
     trail: &mut Trail,
     path: Path,
     step: Step,
+    marks: &mut Marks,
+    mark: usize,
 ) -> Result<(), Full>
     requires stood { IsStood C.has cells.old usage.old root }
     requires writable { IsWritable C.given reserve_account_of cells.old usage.old root }
@@ -100,8 +107,9 @@ fn step_along<C: CellWrite>(
     ensures ready { Ready C.kept C.given reserve_account_of cells.new usage.new }
 {
     match step {
-        Step::Open => open_along(cells, usage, root, trail, path),
-        Step::Move => move_along(cells, usage, root, trail, path),
+        Step::Open => open_along(cells, usage, root, trail, path, marks, mark),
+        Step::Move if marks.contains(mark) => move_along(cells, usage, root, trail, path),
+        Step::Move => Ok(()),
     }
 }
 
@@ -113,6 +121,7 @@ fn step_in_chunk<C: CellWrite>(
     trail: &mut Trail,
     chunk: u32,
     step: Step,
+    marks: &mut Marks,
 ) -> Result<(), Full>
     requires stood { IsStood C.has cells.old usage.old root }
     requires writable { IsWritable C.given reserve_account_of cells.old usage.old root }
@@ -127,7 +136,8 @@ fn step_in_chunk<C: CellWrite>(
             return Ok(());
         }
         let path = usage.path(chunk, place);
-        step_along(cells, usage, root, trail, path, step)?;
+        let mark = mark_of(chunk, place);
+        step_along(cells, usage, root, trail, path, step, marks, mark)?;
     }
     Ok(())
 }
@@ -139,6 +149,7 @@ fn step_in_all<C: CellWrite>(
     root: Ref,
     trail: &mut Trail,
     step: Step,
+    marks: &mut Marks,
 ) -> Result<(), Full>
     requires stood { IsStood C.has cells.old usage.old root }
     requires writable { IsWritable C.given reserve_account_of cells.old usage.old root }
@@ -151,7 +162,7 @@ fn step_in_all<C: CellWrite>(
     let mut from = 0;
     while let Some(chunk) = usage.sparse_from(from) {
         usage.known(); // for the proof
-        step_in_chunk(cells, usage, root, trail, chunk, step)?;
+        step_in_chunk(cells, usage, root, trail, chunk, step, marks)?;
         from = chunk + 1;
     }
     Ok(())
@@ -168,6 +179,7 @@ pub fn move_listed<C: CellWrite>(cells: &mut C, usage: &mut Usage, root: Ref) ->
     ensures ready { Ready C.kept C.given reserve_account_of cells.new usage.new }
 {
     let mut trail = Trail::new();
-    step_in_all(cells, usage, root, &mut trail, Step::Open)?;
-    step_in_all(cells, usage, root, &mut trail, Step::Move)
+    let mut marks = Marks::new();
+    step_in_all(cells, usage, root, &mut trail, Step::Open, &mut marks)?;
+    step_in_all(cells, usage, root, &mut trail, Step::Move, &mut marks)
 }

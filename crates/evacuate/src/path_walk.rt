@@ -5,11 +5,33 @@ ghost use Rattle.trie_model.specs.Trees.{Tree};
 ghost use Rattle.trie_read.specs.Reads.{IsTop};
 ghost use Rattle.evacuate.specs.Trails.{Found};
 
-use super::sparse::is_item_sparse;
+use super::sparse::{is_chunk_sparse, is_item_sparse};
 use super::trail::Trail;
 use chunk_cells::CellRead;
 use chunk_usage::{Path, Usage};
 use packed_node::{Branch, Cell, Node, chunk_of};
+
+/// So many nodes are passed before a path is given up.
+const MOST_NODES: u32 = 300;
+
+/// How a walk along a path goes.
+#[derive(Clone, Copy)]
+pub struct Walk {
+    /// How many nodes it may still pass.
+    nodes: u32,
+    /// Whether more on the path may lie in sparse chunks than what was found.
+    pub more: bool,
+}
+
+impl Walk {
+    /// Before the first node.
+    pub fn new() -> Walk {
+        Walk {
+            nodes: MOST_NODES,
+            more: false,
+        }
+    }
+}
 
 /// The twigs that a path goes on to: those before `end` from `first` on.
 #[derive(Clone, Copy)]
@@ -17,33 +39,42 @@ struct Onward {
     first: u32,
     end: u32,
     path: Path,
+    /// Whether there are several.
+    forks: bool,
 }
 
 /// Which twigs of a branch a path goes on to: to that of its first step, or to all where it says nothing, or there is no such twig.
 fn twigs_on(branch: Branch, path: Path) -> Onward
     ensures { result.end ≤ count_ones branch.bitmap }
 {
-    let count = branch.twig_count();
     match path.first() {
         Some(position) if branch.has_twig(position) => {
             let first = branch.twig_index(position);
             Onward {
                 first,
-                end: count.min(first + 1),
+                end: first + 1,
                 path: path.rest(),
+                forks: false,
             }
         }
         _ => Onward {
             first: 0,
-            end: count,
+            end: branch.twig_count(),
             path: Path::none(),
+            forks: true,
         },
     }
 }
 
+/// Something was found below a branch: whether there may be more, at its twigs or below others of them.
+fn look_back(walk: &mut Walk, usage: &Usage, branch: Branch, on: Onward) {
+    if !walk.more {
+        walk.more = on.forks || is_chunk_sparse(usage, chunk_of(branch.twigs));
+    }
+}
+
 /// Goes down from a node along a path, to the last node whose twigs, or some extent of whose item, lie in a sparse chunk; the
-/// trail then leads there.
-/// It passes no more nodes than there is patience for. Offsets are at least `low`.
+/// trail then leads there. The walk gives up after some nodes. Offsets are at least `low`.
 pub fn last_sparse<C: CellRead>(
     cells: &mut C,
     usage: &Usage,
@@ -51,7 +82,7 @@ pub fn last_sparse<C: CellRead>(
     node: Cell,
     low: u16,
     path: Path,
-    patience: &mut u32,
+    walk: &mut Walk,
 ) -> bool
     requires top { (t : Tree) × IsTop (C.has cells.old) low node t }
     requires low { low ≤ 504 }
@@ -60,10 +91,10 @@ pub fn last_sparse<C: CellRead>(
     ensures late { result ≡ true → low ≤ trail.new.end }
     ensures above { (i : ℕ) → i < low → slice_index trail.new.indices i ≡ slice_index trail.old.indices i }
 {
-    if *patience == 0 {
+    if walk.nodes == 0 {
         return false;
     }
-    *patience -= 1;
+    walk.nodes -= 1;
     match Node::of(node) {
         Node::Leaf(leaf) => {
             let sparse = is_item_sparse(cells, usage, leaf.at, leaf.len);
@@ -78,11 +109,12 @@ pub fn last_sparse<C: CellRead>(
                 trail.take(branch.offset, i);
                 let twig = cells.cell(branch.twigs + i);
                 let low = branch.offset + 1;
-                if last_sparse(cells, usage, trail, twig, low, on.path, patience) {
+                if last_sparse(cells, usage, trail, twig, low, on.path, walk) {
+                    look_back(walk, usage, branch, on);
                     return true;
                 }
             }
-            let sparse = usage.is_sparse(chunk_of(branch.twigs));
+            let sparse = is_chunk_sparse(usage, chunk_of(branch.twigs));
             if sparse {
                 trail.end = branch.offset;
             }

@@ -2,6 +2,7 @@
 
 ghost use Rattle.std.specs.Prelude.{◌≡◌, true, false, ℕ, List};
 ghost use Rattle.trie_model.specs.Extents.{Extents, HasItem, LiesAt};
+ghost use Rattle.chunk_usage.specs.Counting.{is_sparse};
 ghost use Rattle.evacuate.specs.Evacuations.{IsCleared, HasSparse};
 ghost use Rattle.evacuate.specs.Sparse.{SparseExtents};
 
@@ -18,6 +19,20 @@ pub fn is_any_sparse(usage: &Usage) -> bool
     usage.sparse_from(0).is_some()
 }
 
+/// A chunk is sparse where so many of its cells count, or fewer.
+const SPARSE_CELLS: u32 = 256;
+
+/// Whether a chunk is sparse. Of most more cells count, which is looked at first.
+#[inline]
+pub fn is_chunk_sparse(usage: &Usage, chunk: u32) -> bool
+    ensures { result ≡ is_sparse usage.now chunk }
+{
+    if usage.live(chunk) > SPARSE_CELLS {
+        return false;
+    }
+    usage.is_sparse(chunk)
+}
+
 /// Whether some extent of an item lies in a sparse chunk. It begins here, and has so many octets.
 pub fn is_item_sparse<C: CellRead>(cells: &mut C, usage: &Usage, at: Ref, len: u16) -> bool
     requires there { (item : List ℕ) × HasItem (C.has cells.old) at len item }
@@ -25,7 +40,7 @@ pub fn is_item_sparse<C: CellRead>(cells: &mut C, usage: &Usage, at: Ref, len: u
     ensures some { result ≡ true → (item : List ℕ) (x : Extents) → LiesAt (C.has cells.old) at len item x → SparseExtents usage.now x }
     ensures none { result ≡ false → (item : List ℕ) (x : Extents) → LiesAt (C.has cells.old) at len item x → ¬ SparseExtents usage.now x }
 {
-    if usage.is_sparse(chunk_of(at)) {
+    if is_chunk_sparse(usage, chunk_of(at)) {
         return true;
     }
     if len as usize <= LAST_OCTETS {

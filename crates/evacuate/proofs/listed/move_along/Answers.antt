@@ -32,3 +32,8 @@ loop-preserved g c = record {
       (rearranged_found (found_on c.cell-top.ensures.same c.cell-top.ensures.value c.last_sparse.ensures.same c.note.ensures (c.last_sparse.ensures.found c.if-not-last_sparse.false)) c.move_found.ensures.stood c.move_found.ensures.moves c.move_found.ensures.frame));
   ready = c.move_found.ensures.ready;
 }
+
+pub returns-then-not-walk-clause-rearranged : goal.returns-then-not-walk-clause-rearranged
+returns-then-not-walk-clause-rearranged g c =
+    rearranged_then c.loop.invariant.rearranged (rearranged_then (rearranged_same (c.last_sparse.ensures.same ∙ c.cell-top.ensures.same) c.note.ensures)
+    (rearranged_found (found_on c.cell-top.ensures.same c.cell-top.ensures.value c.last_sparse.ensures.same c.note.ensures (c.last_sparse.ensures.found c.if-not-last_sparse.false)) c.move_found.ensures.stood c.move_found.ensures.moves c.move_found.ensures.frame))

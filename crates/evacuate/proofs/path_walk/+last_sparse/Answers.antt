@@ -54,7 +54,7 @@ loop-i-preserved g t c =
 pub returns-then-sparse-2-clause-found : goal.returns-then-sparse-2-clause-found
 returns-then-sparse-2-clause-found g t c e u top =
     let b = branch_told u (c.in-Branch.branch) (sym (read_is top c.of.ensures.back) ∙ c.in-Branch.is) in
-    found_branch u c.in-Branch.branch b refl (ap (is_sparse c.args.usage.now) (sym c.chunk_of.ensures) ∙ sym c.is_sparse-sparse.ensures ∙ c.if-sparse-2.true)
+    found_branch u c.in-Branch.branch b refl (ap (is_sparse c.args.usage.now) (sym c.chunk_of.ensures) ∙ sym c.is_chunk_sparse-sparse.ensures ∙ c.if-sparse-2.true)
 
 pub is_item_sparse-sparse-requires : goal.is_item_sparse-sparse-requires
 is_item_sparse-sparse-requires g t c = record { there = leaf_item c.requires.top.1 (leaf_said c.requires.top.0 c.in-Leaf.leaf (sym (read_is c.requires.top.1 c.of.ensures.back) ∙ c.in-Leaf.is)) }

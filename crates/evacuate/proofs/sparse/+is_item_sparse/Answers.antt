@@ -44,5 +44,5 @@ returns-clause-none g t c e item x lies sparse =
     let there : LiesAt (g.C.CellRead.has c.next_extent-next.new.cells) c.next_extent-next.result (c.args.len - 4080) (drop 4080 item) on.rest =
     subst (λ s. LiesAt (g.C.CellRead.has s) c.next_extent-next.result (c.args.len - 4080) (drop 4080 item) on.rest) (sym c.next_extent-next.ensures.same)
     (subst (λ (n : ℕ). LiesAt (g.C.CellRead.has c.args.cells.now) n (c.args.len - 4080) (drop 4080 item) on.rest) (sym next) on.behind) in
-    let clear = ap (is_sparse c.args.usage.now) (sym c.chunk_of.ensures) ∙ sym c.is_sparse.ensures ∙ c.if-is_sparse.false in
+    let clear = ap (is_sparse c.args.usage.now) (sym c.chunk_of.ensures) ∙ sym c.is_chunk_sparse.ensures ∙ c.if-is_chunk_sparse.false in
     c.is_item_sparse.ensures.none e (drop 4080 item) on.rest there (sparse_behind c.args.usage.now c.args.at on.rest clear (subst (SparseExtents c.args.usage.now) on.is sparse))
