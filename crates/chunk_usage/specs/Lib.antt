@@ -6,3 +6,4 @@ pub mod Counting
 pub mod Counts
 pub mod Handing
 pub mod Keeping
+pub mod Capacity
