@@ -160,15 +160,17 @@ module _ (first lent : Cells) (v w : Known) (u n : Ledger)
 
     pub tried_of : reserved n ≡ reserved u → IfOk r (λ new. (es : List Entry) → IsRooted (HasCell first) u root es → IsRooted (HasCell lent) n new (operated es (operation_of c)))
         → ((es : List Entry) → IsRooted (HasCell first) u root es → (r ≡ Err Refused) ↔ IsRefused c es)
+        → (r ≡ Err Refused → n ≡ u)
         → IfErr r (λ _. (es : List Entry) → IsRooted (HasCell first) u root es → IsRooted (HasCell lent) n root es)
         → IfErr r (λ _. Same HasCell account_of first u lent n)
         → ((f : NoRoom) → r ≡ Err (Full f) → Lacks n f)
         → ((f : NoRoom) → r ≡ Err (Full f) → (branches : List ℕ) → BranchesOnPath HasCell account_of first u root (key_of c) branches → Contains (asked_by c branches) f.needed)
         → ((twigs : ℕ) → TwigsOnPath HasCell account_of first u root (key_of c) twigs → spent n ≤ spent u + (written_by c + twigs))
         → Tried c root v u w n r
-    tried_of reserve done refused stays same full asked spends = record {
+    tried_of reserve done refused denied stays same full asked spends = record {
       done = if_ok _ _ r (λ new h es s. left new (operated es (operation_of c)) (h es (entered root es s))) done;
       refused = λ es s. refused es (entered root es s);
+      denied = denied;
       stays = if_err _ _ r (λ e h es s. left root es (h es (entered root es s))) stays;
       full = full;
       asked = λ f e branches p. asked f e branches (branches_in branches p);

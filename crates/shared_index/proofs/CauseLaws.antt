@@ -98,10 +98,10 @@ path_of {live = live} (Some r) key es s tells = record {
 
 -- chunks that stay given are open, were so at the last freeze, or have live cells now or then
 
-abbrev open_one : Option Open → ℕ → ℕ
+abbrev pub open_one : Option Open → ℕ → ℕ
 open_one o k = if is_open o k then 1 else 0
 
-open_once : (o : Option Open) (n : ℕ) → row (open_one o) 0 n ≤ 1
+pub open_once : (o : Option Open) (n : ℕ) → row (open_one o) 0 n ≤ 1
 open_once None n = zeros 0 n
   where
     zeros : (r n : ℕ) → row (λ k. 0) r n ≤ 1
@@ -154,7 +154,7 @@ given_few l needed =
 
 -- chunks that kept versions have cells in
 
-any_counts : (a b : Bool) → (if a || b then 1 else 0) ≤ (if a then 1 else 0) + (if b then 1 else 0)
+pub any_counts : (a b : Bool) → (if a || b then 1 else 0) ≤ (if a then 1 else 0) + (if b then 1 else 0)
 any_counts true b = omega arith
 any_counts false b = omega arith
 

@@ -30,3 +30,8 @@ pub mod NamedLaws
 pub mod CloseLaws
 pub mod CompactLaws
 pub mod SettleLaws
+pub mod GivenLaws
+pub mod ThinLaws
+pub mod ShortLaws
+pub mod CapacityLaws
+pub mod RoomyLaws

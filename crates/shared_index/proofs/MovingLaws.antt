@@ -1,19 +1,20 @@
 -- What lies in sparse chunks, moved on lent cells, as the seat that lent them knows it.
-use Rattle.std.proofs.Common.{◌≡◌, ℕ, ◌≤◌, nat_lt, Bool, true, false, not, cond, ◌&&◌, List, [], ◌∷◌, length, slice_index, Option, refl, sym, arith}
+use Rattle.std.proofs.Common.{◌≡◌, ℕ, ◌+◌, ◌/◌, ◌≤◌, nat_lt, Bool, true, false, not, cond, ◌&&◌, List, [], ◌∷◌, length, slice_index, Option, refl, sym, arith}
 use Rattle.std.specs.Prelude.{count_by}
 use Rattle.std.specs.List.{range_with_len}
 use Rattle.std.proofs.lemmas.Bool.{true≢false}
 use Rattle.std.proofs.lemmas.Bool.Decides.{nat_tests}
 use Rattle.std.proofs.lemmas.List.Sums.{sum_by-cons}
 use Rattle.trie_model.specs.Keys.{Entry}
+use Rattle.trie_model.specs.Shape.{cells}
 use Rattle.chunk_usage.specs.Counting.{is_low, is_sparse, sparse_count}
-use Rattle.chunk_usage.specs.Ledger.{Ledger, IsLedger, is_given, is_open, is_used}
+use Rattle.chunk_usage.specs.Ledger.{Ledger, IsLedger, free_count, is_given, is_open, is_used}
 use Rattle.chunk_usage.specs.Rooms.{account_of, reserve_account_of}
 use Rattle.trie_write.specs.Spaces.{Ready, Fenced}
 use Rattle.trie_write.specs.Standing.{Standing}
 use Rattle.evacuate.specs.declared.evacuation.Done.{Done}
 use Rattle.evacuate.specs.declared.evacuation.Done.TheVariants.{Whole, Stopped}
-use Rattle.evacuate.specs.Evacuations.{FillsNew, IsCleared, IsDense, HasSparse}
+use Rattle.evacuate.specs.Evacuations.{FillsNew, IsCleared, IsDense, HasSparse, refused}
 use Rattle.evacuate.specs.Fillings.{IsFull as IsUsedUp}
 use Rattle.shared_cells.specs.Views.{kept_in}
 use Rattle.shared_cells.specs.Cells.{Cells, cells_of, given_chunks, kept_references, HasCell, with_words}
@@ -89,8 +90,9 @@ module _ (first lent : Cells) (v w : Known) (u n : Ledger)
   -- the trie stands for the same entries
   pub moved_of : (root new : Option ℕ) (done : Done) → IsLedger n
       → ((es : List Entry) → Standing (HasCell first) (is_used u) (slice_index u.live) root es → Standing (HasCell lent) (is_used n) (slice_index n.live) new es)
-      → (IsCleared u → n ≡ u) → FillsNew u n → (done ≡ Whole → IsDense n) → (done ≡ Stopped → IsUsedUp n) → (done ≡ Stopped → HasSparse n) → Moved root v u w n new done
-  moved_of root new done known stands none fills whole stopped some = record {
+      → (IsCleared u → n ≡ u) → FillsNew u n → (done ≡ Whole → IsDense n) → (done ≡ Stopped → IsUsedUp n) → (done ≡ Stopped → HasSparse n)
+      → ((es : List Entry) → Standing (HasCell first) (is_used u) (slice_index u.live) root es → free_count u + refused done ≤ free_count n + (cells es / 769 + 1)) → Moved root v u w n new done
+  moved_of root new done known stands none fills whole stopped some asks = record {
     stands = λ es s.
         let h = entered first lent v w u n begun back seat leaves wide count agrees root es s in
         left first lent v w u n begun back seat leaves wide count agrees new es (record { stands = stands es h.stands; tells = h.tells });
@@ -103,4 +105,5 @@ module _ (first lent : Cells) (v w : Known) (u n : Ledger)
       whole = whole;
       stopped = λ e. (stopped e, some e);
     };
+    asks = λ es s. asks es (entered first lent v w u n begun back seat leaves wide count agrees root es s).stands;
   }

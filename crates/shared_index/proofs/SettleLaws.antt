@@ -6,6 +6,7 @@ use Rattle.chunk_usage.specs.Ledger.{Ledger, free_count}
 use Rattle.shared_index.specs.declared.commit.Receipt.{Receipt}
 use Rattle.shared_index.specs.declared.desk.Draft.{Draft}
 use Rattle.shared_index.specs.declared.meaning.Operation.{Operation}
+use Rattle.shared_index.specs.Bounds.{WhereRoomy}
 use Rattle.shared_index.specs.Drafts.{Works, Commits, working_set}
 use Rattle.shared_index.specs.Keepings.{GoesOn}
 use Rattle.shared_index.specs.Movings.{Evacuates, FewThin}
@@ -48,7 +49,7 @@ pub alike_set : {first d : Draft} → IsAlike first d → working_set d ≡ work
 alike_set {first} {d} e = ap (applied (version_seen d.seat.place.me.0.seen)) e.log ∙ ap (λ (v : Known). applied (version_seen v.seen) first.log.operations) e.known
 
 module _ {most : ℕ} {first m d : Draft} {whole : Bool} (e : IsAlike first m) (s : Settles most m d whole) where
-  settled_set : working_set d ≡ working_set first
+  pub settled_set : working_set d ≡ working_set first
   settled_set = set_stays m d s.goes_on s.log ∙ alike_set e
 
   pub settled_lawful : (lawful : List Entry → List Entry → Type 0) → lawful (first_version first.seat.place.me.0.seen) (working_set first) → lawful (first_version d.seat.place.me.0.seen) (working_set d)
@@ -67,11 +68,12 @@ module _ {most : ℕ} {first m d : Draft} {whole : Bool} (e : IsAlike first m) (
     many = λ many. subst (λ (u : Ledger). Evacuates u d.usage (ended whole)) e.usage (s.many (subst (λ (u : Ledger). most < sparse_count u) (sym e.usage) many));
   }
 
-  pub settled_recycles : (after : Known) (r : Receipt) → r.whole ≡ whole → Publishes d after r → (whole ≡ true → FewThin most d.usage) → (whole ≡ false → free_count d.usage ≡ 0) → Recycles most first after r
-  settled_recycles after r is publishes few none = record {
+  pub settled_recycles : (after : Known) (r : Receipt) → r.whole ≡ whole → Publishes d after r → (whole ≡ true → FewThin most d.usage) → (whole ≡ false → free_count d.usage ≡ 0) → WhereRoomy first (r.whole ≡ true) → Recycles most first after r
+  settled_recycles after r is publishes few none roomy = record {
     settled = d;
     settles = subst (Settles most first d) (sym is) settles_first;
     publishes = publishes;
     whole = λ h. few (sym is ∙ h);
     stopped = λ h. none (sym is ∙ h);
+    roomy = roomy;
   }

@@ -16,3 +16,5 @@ pub mod Fulls
 pub mod Closings
 pub mod Receipts
 pub mod Compactions
+pub mod Capacity
+pub mod Bounds

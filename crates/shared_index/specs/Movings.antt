@@ -1,12 +1,13 @@
 -- What lies in sparse chunks, moved: on the turn's cells, from a root.
-use Rattle.std.specs.Prelude.{◌≡◌, ℕ, ◌≤◌, nat_lt, Bool, ◌&&◌, List, length, count_by, Option, slice_index}
+use Rattle.std.specs.Prelude.{◌≡◌, ℕ, ◌+◌, ◌/◌, ◌≤◌, nat_lt, Bool, ◌&&◌, List, length, count_by, Option, slice_index}
 use Rattle.std.specs.List.{range_with_len}
 use Rattle.trie_model.specs.Keys.{Entry}
-use Rattle.chunk_usage.specs.Ledger.{Ledger, IsLedger}
+use Rattle.trie_model.specs.Shape.{cells}
+use Rattle.chunk_usage.specs.Ledger.{Ledger, IsLedger, free_count}
 use Rattle.chunk_usage.specs.Counting.{is_sparse}
 use Rattle.evacuate.specs.declared.evacuation.Done.{Done}
 use Rattle.evacuate.specs.declared.evacuation.Done.TheVariants.{Whole, Stopped}
-use Rattle.evacuate.specs.Evacuations.{FillsNew, IsCleared, IsDense, HasSparse}
+use Rattle.evacuate.specs.Evacuations.{FillsNew, IsCleared, IsDense, HasSparse, refused}
 use Rattle.evacuate.specs.Fillings.{IsFull as IsUsedUp}
 use Rattle.shared_cells.specs.Views.{words_of}
 use Rattle.shared_cells.specs.Cells.{with_words}
@@ -29,6 +30,8 @@ pub record Moved (root : Option ℕ) (v : Known) (u : Ledger) (w : Known) (n : L
   pub stands : (es : List Entry) → StandsFor v u root es → StandsFor w n new es
   pub same : w ≡ with_words v (words_of w.turn)
   pub evacuates : Evacuates u n done
+  -- a chunk was asked for, or taken, for each 769 cells at most, and one more
+  pub asks : (es : List Entry) → StandsFor v u root es → free_count u + refused done ≤ free_count n + (cells es / 769 + 1)
 
 -- cells of the chunk count, but few of them do
 abbrev pub is_thin : Ledger → ℕ → Bool

@@ -9,6 +9,7 @@ use Rattle.shared_cells.specs.Views.{words_of}
 use Rattle.shared_cells.specs.Steps.{Published}
 use Rattle.shared_index.specs.declared.commit.Receipt.{Receipt}
 use Rattle.shared_index.specs.declared.desk.Draft.{Draft}
+use Rattle.shared_index.specs.Bounds.{WhereRoomy}
 use Rattle.shared_index.specs.Drafts.{Works}
 use Rattle.shared_index.specs.Images.{image_at}
 use Rattle.shared_index.specs.Keepings.{GoesOn, Rounds}
@@ -52,3 +53,5 @@ pub record Recycles (most : ℕ) (first : Draft) (after : Known) (r : Receipt) :
   -- so that those that are now free are those that were freed.
   pub whole : r.whole ≡ true → FewThin most settled.usage
   pub stopped : r.whole ≡ false → free_count settled.usage ≡ 0
+  -- which isn't so where the table has room for what was published and done
+  pub roomy : WhereRoomy first (r.whole ≡ true)

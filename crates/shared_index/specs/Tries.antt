@@ -40,6 +40,8 @@ pub record Spares (old new : Ledger) : Type 0 where
 pub record Tried (c : Change) (root : Option ℕ) (v : Known) (u : Ledger) (w : Known) (n : Ledger) (r : Result (Option ℕ) Unchanged) : Type 0 where
   pub done : IfOk r (λ new. (es : List Entry) → StandsFor v u root es → StandsFor w n new (operated es (operation_of c)))
   pub refused : (es : List Entry) → StandsFor v u root es → (r ≡ Err Refused) ↔ IsRefused c es
+  -- then no cell was handed out
+  pub denied : r ≡ Err Refused → n ≡ u
   pub stays : IfErr r (λ _. (es : List Entry) → StandsFor v u root es → StandsFor w n root es)
   pub full : (f : NoRoom) → r ≡ Err (Full f) → Lacks n f
   pub asked : (f : NoRoom) → r ≡ Err (Full f) → (branches : List ℕ) → PathHasEach v u root (key_of c) branches → Contains (asked_by c branches) f.needed

@@ -50,6 +50,7 @@ pub(crate) fn change_trie<C: CellWrite>(
     ensures done { IfOk result (λ new. (es : List Entry) → IsRooted (C.has cells.old) usage.old root es
         → IsRooted (C.has cells.new) usage.new new (operated es (operation_of change.now))) }
     ensures refused { (es : List Entry) → IsRooted (C.has cells.old) usage.old root es → (result ≡ Err Unchanged.Refused) ↔ IsRefused change.now es }
+    ensures denied { result ≡ Err Unchanged.Refused → usage.new ≡ usage.old }
     ensures stays { IfErr result (λ _. (es : List Entry) → IsRooted (C.has cells.old) usage.old root es → IsRooted (C.has cells.new) usage.new root es) }
     ensures unchanged { IfErr result (λ _. Same C.has account_of cells.old usage.old cells.new usage.new) }
     ensures full { (f : _) → result ≡ Err (Unchanged.Full f) → Lacks usage.new f }
@@ -81,6 +82,7 @@ fn insert<C: CellWrite>(
     ensures done { IfOk result (λ new. (es : List Entry) → IsRooted (C.has cells.old) usage.old root es
         → IsRooted (C.has cells.new) usage.new new (with_entry es (record { key = key.now; item = item.now }))) }
     ensures refused { (es : List Entry) → IsRooted (C.has cells.old) usage.old root es → (result ≡ Err Unchanged.Refused) ↔ ((x : Entry) × InList x es × (x.key ≡ key.now)) }
+    ensures denied { result ≡ Err Unchanged.Refused → usage.new ≡ usage.old }
     ensures stays { IfErr result (λ _. (es : List Entry) → IsRooted (C.has cells.old) usage.old root es → IsRooted (C.has cells.new) usage.new root es) }
     ensures unchanged { IfErr result (λ _. Same C.has account_of cells.old usage.old cells.new usage.new) }
     ensures full { (f : _) → result ≡ Err (Unchanged.Full f) → Lacks usage.new f }
@@ -112,6 +114,7 @@ fn replace<C: CellWrite>(
     ensures done { IfOk result (λ new. (es : List Entry) → IsRooted (C.has cells.old) usage.old root es
         → IsRooted (C.has cells.new) usage.new new (with_entry es (record { key = key.now; item = item.now }))) }
     ensures refused { (es : List Entry) → IsRooted (C.has cells.old) usage.old root es → (result ≡ Err Unchanged.Refused) ↔ ((x : Entry) → InList x es → x.key ≡ key.now → ⊥) }
+    ensures denied { result ≡ Err Unchanged.Refused → usage.new ≡ usage.old }
     ensures stays { IfErr result (λ _. (es : List Entry) → IsRooted (C.has cells.old) usage.old root es → IsRooted (C.has cells.new) usage.new root es) }
     ensures unchanged { IfErr result (λ _. Same C.has account_of cells.old usage.old cells.new usage.new) }
     ensures full { (f : _) → result ≡ Err (Unchanged.Full f) → Lacks usage.new f }
@@ -141,6 +144,7 @@ fn delete<C: CellWrite>(
     ensures done { IfOk result (λ new. (es : List Entry) → IsRooted (C.has cells.old) usage.old root es
         → IsRooted (C.has cells.new) usage.new new (without es key.now)) }
     ensures refused { (es : List Entry) → IsRooted (C.has cells.old) usage.old root es → (result ≡ Err Unchanged.Refused) ↔ ((x : Entry) → InList x es → x.key ≡ key.now → ⊥) }
+    ensures denied { result ≡ Err Unchanged.Refused → usage.new ≡ usage.old }
     ensures stays { IfErr result (λ _. (es : List Entry) → IsRooted (C.has cells.old) usage.old root es → IsRooted (C.has cells.new) usage.new root es) }
     ensures unchanged { IfErr result (λ _. Same C.has account_of cells.old usage.old cells.new usage.new) }
     ensures full { (f : _) → result ≡ Err (Unchanged.Full f) → Lacks usage.new f }

@@ -83,6 +83,8 @@ fn publish<L: Law>(
 }
 
 impl Draft {
+    ghost use Rattle.shared_index.specs.Bounds.{HasRoom, WhereRoomy};
+    ghost use Rattle.shared_index.specs.Capacity.{EachRoomy, RowsAreFew};
     ghost use Rattle.shared_index.specs.Drafts.{Works, Commits, working_set};
     ghost use Rattle.shared_index.specs.Movings.{FewThin};
     ghost use Rattle.shared_index.specs.Receipts.{Publishes, Recycles, Settles};
@@ -121,6 +123,7 @@ impl Draft {
         ensures versions { kept_in result.0.seat.place.me.0.turn ≡ kept_in self.seat.place.me.0.turn }
         ensures whole { result.1 ≡ true → FewThin most result.0.usage }
         ensures stopped { result.1 ≡ false → free_count result.0.usage ≡ 0 }
+        ensures roomy { HasRoom self → WhereRoomy self (result.1 ≡ true) }
     {
         if self.usage.sparse() <= most {
             return (self, true);
@@ -142,6 +145,8 @@ impl Draft {
         requires newest { All (λ k. k.version ≤ self.seat.version) (kept_in self.seat.place.me.0.turn) }
         requires next { self.seat.version + 1 < 2 ^ 40 }
         requires works { Works self }
+        requires rows { EachRoomy self.usage self.seat.place.me.0.seen (λ most_cells _. RowsAreFew most_cells self.usage.rows) }
+        requires thin { WhereRoomy self (FewThin 8 self.usage) }
         requires lawful { L.lawful (first_version self.seat.place.me.0.seen) (working_set self) }
         ensures tables { (result.0.seat.place.table_id ≡ self.seat.place.table_id) × (result.1.place.table_id ≡ self.seat.place.table_id) }
         ensures commits { Commits self.seat.place.me.0 self.log.operations result.1.place.me.0 }
@@ -176,6 +181,8 @@ impl Draft {
     ) -> (Desk, PassSeat<Version, Operations>, Result<Receipt, Spent>)
         requires table { self.seat.place.table_id ≡ shared.now.table.shared.table_id }
         requires works { Works self }
+        requires room { HasRoom self }
+        requires few { most ≤ 8 }
         requires lawful { L.lawful (first_version self.seat.place.me.0.seen) (working_set self) }
         ensures tables { (result.0.seat.place.table_id ≡ self.seat.place.table_id) × (result.1.place.table_id ≡ self.seat.place.table_id) }
         ensures commits { IfOk result.2 (λ _. Commits self.seat.place.me.0 self.log.operations result.1.place.me.0) }

@@ -5,6 +5,7 @@ ghost use Rattle.shared_cells.specs.Views.{kept_in, pass_of};
 ghost use Rattle.shared_index.specs.Passes.{version_seen};
 ghost use Rattle.shared_index.specs.Turns.{Agrees, AtRest, cells_with, current_root};
 ghost use Rattle.shared_index.specs.Bases.{StandsFor, Joined};
+ghost use Rattle.shared_index.specs.Capacity.{RestsRoomy};
 ghost use Rattle.trie_model.specs.Keys.{Entry};
 ghost use Rattle.chunk_usage.specs.Keeping.{closed, freed, restored};
 
@@ -26,6 +27,7 @@ pub struct Desk {
     ghost agrees: { Agrees (cells_with usage seat.place.me.0.turn) usage seat.passes } by { Prim.hlevel props },
     ghost at_rest: { AtRest usage } by { Prim.hlevel props },
     ghost root_is: { root ≡ current_root (kept_in seat.place.me.0.turn) } by { Prim.hlevel props },
+    ghost rests: { RestsRoomy usage seat.place.me.0.seen } by { Prim.hlevel props },
 }
 
 /// The turn during a transaction of the joined pass.
@@ -57,6 +59,7 @@ impl Desk {
         ensures joined { Joined L.lawful pass.place.me.0 result.seat.place.me.0 }
         ensures usage { result.usage ≡ self.usage }
         ensures log { result.log.operations ≡ [] }
+        ensures rests { RestsRoomy result.usage result.seat.place.me.0.seen }
         ensures stands { StandsFor result.seat.place.me.0 result.usage result.root (version_seen result.seat.place.me.0.seen) }
     {
         let Desk { seat, usage, root } = self;
@@ -74,6 +77,8 @@ impl Desk {
 }
 
 impl Draft {
+    ghost use Rattle.shared_index.specs.Bounds.{HasRoom};
+
     /// The bump chunk counts as filled.
     pub(crate) fn start_chunk(&mut self)
         ensures seat { self.new.seat ≡ self.old.seat }
@@ -91,7 +96,8 @@ impl Draft {
         self,
         shared: &Shared<Version, Operations, Meaning<L>>,
     ) -> (Desk, PassSeat<Version, Operations>)
-        requires { self.seat.place.table_id ≡ shared.now.table.shared.table_id }
+        requires table { self.seat.place.table_id ≡ shared.now.table.shared.table_id }
+        requires room { HasRoom self }
         ensures tables { (result.0.seat.place.table_id ≡ self.seat.place.table_id) × (result.1.place.table_id ≡ self.seat.place.table_id) }
         ensures pass { result.1.place.me.0 ≡ pass_of self.seat.place.me.0 }
         ensures usage { result.0.usage ≡ freed (restored self.usage) }

@@ -1,5 +1,5 @@
 //! What lies in sparse chunks, moved by who has the turn.
-ghost use Rattle.std.specs.Prelude.{◌≡◌, ◌+◌, ◌*◌, List, length};
+ghost use Rattle.std.specs.Prelude.{◌≡◌, ◌+◌, ◌*◌, ◌/◌, ◌≤◌, List, length};
 ghost use Rattle.trie_model.specs.Keys.{Entry};
 ghost use Rattle.shared_cells.specs.Views.{kept_in};
 ghost use Rattle.shared_index.specs.Turns.{Agrees, cells_with};
@@ -57,7 +57,10 @@ fn evacuate<L: Law>(
 }
 
 impl Draft {
-    ghost use Rattle.shared_index.specs.Drafts.{Works};
+    ghost use Rattle.trie_model.specs.Shape.{cells};
+    ghost use Rattle.chunk_usage.specs.Ledger.{free_count};
+    ghost use Rattle.evacuate.specs.Evacuations.{refused};
+    ghost use Rattle.shared_index.specs.Drafts.{Works, working_set};
     ghost use Rattle.shared_index.specs.Keepings.{GoesOn};
 
     /// Moves what the working set has in sparse chunks. The set is the same.
@@ -75,6 +78,7 @@ impl Draft {
         ensures works { Works result.0 }
         ensures log { result.0.log.operations ≡ self.log.operations }
         ensures evacuates { Evacuates self.usage result.0.usage result.1 }
+        ensures asks { free_count self.usage + refused result.1 ≤ free_count result.0.usage + (cells (working_set self) / 769 + 1) }
     {
         let Draft {
             seat,

@@ -4,7 +4,9 @@ ghost use Rattle.zone_model.specs.Keys.{most_item_octets};
 ghost use Rattle.trie_model.specs.Extents.{cells_in};
 ghost use Rattle.shared_index.specs.Passes.{known_at};
 ghost use Rattle.std.specs.Option.{ForSome};
+ghost use Rattle.std.proofs.Props.{props};
 ghost use Rattle.chunk_usage.specs.Keeping.{full};
+ghost use Rattle.shared_index.specs.Bounds.{HasRoom, IsCramped};
 
 use crate::change::{Change, Unchanged};
 use crate::commit::Receipt;
@@ -30,14 +32,17 @@ pub struct Locked<'i, L: Law, N: Named> {
     pub(crate) draft: Option<Draft>,
     ghost named: { slice_get N.tables place ≡ Some shared.now.table.shared.table_id },
     ghost here: { ForSome draft (λ d. d.seat.place.table_id ≡ shared.now.table.shared.table_id) },
+    ghost room: { ForSome draft HasRoom } by { Prim.hlevel props },
 }
 
 /// A kind of transaction.
 pub trait Kind {
-    ghost use Rattle.std.specs.Prelude.{ℕ};
+    ghost use Rattle.std.specs.Prelude.{ℕ, ◌≤◌};
 
-    // A commit moves what lies in sparse chunks where these are more than so many.
+    // A commit moves what lies in sparse chunks where these are more than so many, which are few.
     ghost MOST_SPARSE: { ℕ };
+
+    ghost few: { MOST_SPARSE ≤ 8 };
 
     const MOST_SPARSE: u32;
 }
@@ -46,7 +51,11 @@ pub trait Kind {
 pub struct Light;
 
 impl Kind for Light {
+    ghost use Rattle.std.proofs.Common.{le_refl};
+
     ghost MOST_SPARSE = { 8 };
+
+    ghost few = { le_refl 8 };
 
     const MOST_SPARSE: u32 = 8;
 }
@@ -55,7 +64,11 @@ impl Kind for Light {
 pub struct Heavy;
 
 impl Kind for Heavy {
+    ghost use Rattle.std.proofs.Common.{zero-le};
+
     ghost MOST_SPARSE = { 0 };
+
+    ghost few = { zero-le };
 
     const MOST_SPARSE: u32 = 0;
 }
@@ -147,6 +160,7 @@ impl<'i, L: Law, N: Named> Locked<'i, L, N> {
         ensures full { (f : _) (kept : Kept) → result ≡ Err (Unchanged.Full f) → IfSome self.new.draft (λ d. versions_in kept ≡ kept_versions d.usage) → IsSomeAnd self.new.draft (λ d. IsFull d (full_with f kept)) }
         ensures cause { (f : _) (kept : Kept) → result ≡ Err (Unchanged.Full f) → IfSome self.new.draft (λ d. versions_in kept ≡ kept_versions d.usage)
             → Between (λ d e. CausedFrom d e (key_of change.now) (written_by change.now) (asked_by change.now) (full_with f kept)) self.old.draft self.new.draft }
+        ensures cramped { (f : _) → result ≡ Err (Unchanged.Full f) → IsSomeAnd self.old.draft IsCramped }
     {
         let Some(draft) = self.draft.take() else {
             // A transaction's draft is there between two calls.
@@ -197,6 +211,7 @@ impl<'i, L: Law, N: Named> Locked<'i, L, N> {
     // Makes the working set the next version, and gives the turn back. The pass has seen what was published.
     fn commit(&mut self, most: u32) -> (Pass<N>, Result<Receipt, Spent>)
         requires works { IsSomeAnd self.old.draft Works }
+        requires few { most ≤ 8 }
         requires lawful { IsSomeAnd self.old.draft (λ d. L.lawful (first_version d.seat.place.me.0.seen) (working_set d)) }
         ensures here { IsSome result.0.seat }
         ensures place { result.0.place ≡ self.old.place }
@@ -219,6 +234,7 @@ impl<'i, L: Law, N: Named> Locked<'i, L, N> {
 
 impl<L: Law, N: Named> Index<L, N> {
     ghost use Rattle.shared_index.specs.Drafts.{Begins};
+    ghost use Rattle.shared_index.specs.Capacity.{RestsRoomy};
 
     // The lock, and the turn out of it.
     fn wait<'i, R: Wait>(&'i self, rt: &R) -> (MutexGuard<'i, Option<Turn<N>>>, Desk)
@@ -251,6 +267,8 @@ impl<L: Law, N: Named> Index<L, N> {
         ensures passes { result.1.seat.passes ≡ self.now.shared.table.shared.key.passes }
         ensures begins { Begins L.lawful (known_at pass.old.seat) result.1 }
         ensures goes_on { result.1.usage.open_chunk ≡ result.1.usage.last_open }
+        ensures rests { RestsRoomy result.1.usage result.1.seat.place.me.0.seen }
+        ensures chunks { length result.1.usage.given ≡ self.now.shared.table.shared.key.chunks }
     {
         let Some(seat) = pass.seat.take() else {
             // No query and no transaction of this pass has its seat.
@@ -273,6 +291,7 @@ impl<L: Law, N: Named> Index<L, N> {
         ensures place { result.locked.now.place ≡ self.now.place }
         ensures passes { IsSomeAnd result.locked.now.draft (λ d. d.seat.passes ≡ self.now.shared.table.shared.key.passes) }
         ensures begins { IsSomeAnd result.locked.now.draft (Begins L.lawful (known_at pass.old.seat)) }
+        ensures chunks { IsSomeAnd result.locked.now.draft (λ d. length d.usage.given ≡ self.now.shared.table.shared.key.chunks) }
         // What is written goes on in the bump chunk.
         ensures goes_on { IsSomeAnd result.locked.now.draft (λ d. d.usage.open_chunk ≡ d.usage.last_open) }
     {
@@ -303,6 +322,7 @@ impl<L: Law, N: Named> Index<L, N> {
         ensures place { result.locked.now.place ≡ self.now.place }
         ensures passes { IsSomeAnd result.locked.now.draft (λ d. d.seat.passes ≡ self.now.shared.table.shared.key.passes) }
         ensures begins { IsSomeAnd result.locked.now.draft (Begins L.lawful (known_at pass.old.seat)) }
+        ensures chunks { IsSomeAnd result.locked.now.draft (λ d. length d.usage.given ≡ self.now.shared.table.shared.key.chunks) }
         // What is written begins a chunk.
         ensures own_chunk { IsSomeAnd result.locked.now.draft (λ d. d.usage.open_chunk ≡ full d.usage.last_open) }
     {
@@ -433,6 +453,8 @@ impl<L: Law, N: Named, K> Transaction<'_, '_, L, N, K> {
         ensures full { (f : _) → result ≡ Err (InsertRefusal.Full f) → IsSomeAnd self.new.locked.now.draft (λ d. IsFull d f) }
         ensures cause { (f : _) → result ≡ Err (InsertRefusal.Full f)
             → Between (λ d e. CausedFrom d e key.now (3 + cells_in item.now) (insert_asks item.now) f) self.old.locked.now.draft self.new.locked.now.draft }
+        // Nor does it come where the table has room for what was published and done.
+        ensures cramped { (f : _) → result ≡ Err (InsertRefusal.Full f) → IsSomeAnd self.old.locked.now.draft IsCramped }
     {
         match self.locked.change(&Change::Insert(key, item)) {
             Ok(()) => Ok(()),
@@ -453,6 +475,8 @@ impl<L: Law, N: Named, K> Transaction<'_, '_, L, N, K> {
         ensures full { (f : _) → result ≡ Err (ChangeRefusal.Full f) → IsSomeAnd self.new.locked.now.draft (λ d. IsFull d f) }
         ensures cause { (f : _) → result ≡ Err (ChangeRefusal.Full f)
             → Between (λ d e. CausedFrom d e key.now (3 + cells_in item.now) (replace_asks item.now) f) self.old.locked.now.draft self.new.locked.now.draft }
+        // Nor does it come where the table has room for what was published and done.
+        ensures cramped { (f : _) → result ≡ Err (ChangeRefusal.Full f) → IsSomeAnd self.old.locked.now.draft IsCramped }
     {
         match self.locked.change(&Change::Replace(key, item)) {
             Ok(()) => Ok(()),
@@ -472,6 +496,8 @@ impl<L: Law, N: Named, K> Transaction<'_, '_, L, N, K> {
         ensures full { (f : _) → result ≡ Err (ChangeRefusal.Full f) → IsSomeAnd self.new.locked.now.draft (λ d. IsFull d f) }
         ensures cause { (f : _) → result ≡ Err (ChangeRefusal.Full f)
             → Between (λ d e. CausedFrom d e key.now 1 delete_asks f) self.old.locked.now.draft self.new.locked.now.draft }
+        // Nor does it come where the table has room for what was published and done.
+        ensures cramped { (f : _) → result ≡ Err (ChangeRefusal.Full f) → IsSomeAnd self.old.locked.now.draft IsCramped }
     {
         match self.locked.change(&Change::Delete(key)) {
             Ok(()) => Ok(()),

@@ -20,6 +20,7 @@ use packed_node::Ref;
 use shared_cells::Shared;
 
 impl Draft {
+    ghost use Rattle.shared_index.specs.Bounds.{HasRoom, IsCramped};
     ghost use Rattle.shared_index.specs.Drafts.{Works, Operates, IsFull};
     ghost use Rattle.shared_index.specs.Fulls.{CausedBy, CausedFrom, full_with, version_at};
     ghost use Rattle.shared_index.specs.Rooms.{Fails, FreesRoom, MakesRoom, SparesReserve};
@@ -54,6 +55,8 @@ impl Draft {
         ensures fails { (f : _) → result.1 ≡ Err (Unchanged.Full f) → Fails self result.0 }
         ensures spares { Spares self.usage result.0.usage }
         ensures root { IfErr result.1 (λ _. result.0.root ≡ self.root) }
+        ensures room { HasRoom self → HasRoom result.0 }
+        ensures cramped { HasRoom self → (f : _) → result.1 ≡ Err (Unchanged.Full f) → IsCramped self }
     {
         let Draft {
             seat,
@@ -144,6 +147,8 @@ impl Draft {
         ensures spares { SparesReserve self result.0 }
         ensures cause { (f : _) (kept : Versions) → result.1 ≡ Err (Unchanged.Full f) → versions_in kept ≡ kept_versions result.0.usage
             → CausedFrom self result.0 (key_of change.now) (written_by change.now) (asked_by change.now) (full_with f kept) }
+        ensures room { HasRoom self → HasRoom result.0 }
+        ensures cramped { HasRoom self → (f : _) → result.1 ≡ Err (Unchanged.Full f) → IsCramped self }
     {
         let (draft, outcome) = self.attempt(shared, change);
         match outcome {

@@ -151,6 +151,7 @@ pub fn insert<C: CellWrite, U: Space>(
     ensures refused { IfErr result (λ _. (version : List Entry) → HasTrie C.has U.account cells.old usage.old root version → HasTrie C.has U.account cells.new usage.new root version) }
     ensures unchanged { IfErr result (λ _. Unchanged C.has U.account cells.old usage.old cells.new usage.new) }
     ensures outside { (q : ℕ) (c : Cell) → Beyond C.has U.account cells.old usage.old root q → C.has cells.old q c → C.has cells.new q c }
+    ensures denied { result ≡ Err InsertRefusal.Exists → usage.new ≡ usage.old }
     ensures full { (f : _) → result ≡ Err (InsertRefusal.Full f) → U.lacks usage.new f }
     ensures asked { (f : _) → result ≡ Err (InsertRefusal.Full f) → (branches : List ℕ) → BranchesOnPath C.has U.account cells.old usage.old root key.now branches
         → Contains (insert_asks item.now branches) f.needed }

@@ -34,4 +34,4 @@ returns-clause-moved g c =
     let wide : lent.chunks ≡ length u.given = same_chunks _ _ _ _ back.size c.requires.wide (same_words _ _ (sym c.requires.lent.0)) in
     moved_of c.lend-cells.result lent seat.place.me.0 c.into_joined.result.place.me.0 u c.evacuate-root.new.usage
     (lent_begins _ _ _ _ _ c.lend-cells.ensures.cells c.requires.lent.1 chunks) (lent_back _ lent _ _ back.cells c.requires.lent.1) (lent_seat _ _ _ _ back.seat c.requires.lent.1)
-    (leaves_moved trie.frame trie.ready) wide seat.passes c.requires.agrees c.args.root c.evacuate-root.result.0 c.evacuate-root.result.1 c.known.ensures trie.stands trie.none trie.fills trie.whole trie.stopped trie.left
+    (leaves_moved trie.frame trie.ready) wide seat.passes c.requires.agrees c.args.root c.evacuate-root.result.0 c.evacuate-root.result.1 c.known.ensures trie.stands trie.none trie.fills trie.whole trie.stopped trie.left trie.asks

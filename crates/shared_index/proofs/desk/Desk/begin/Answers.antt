@@ -3,6 +3,7 @@ use Rattle.shared_cells.specs.declared.view.TurnView.{TurnView}
 use Rattle.shared_cells.specs.Views.{kept_in}
 use Rattle.shared_cells.specs.Steps.{Confirmed}
 use Rattle.shared_index.specs.Operations.{applied}
+use Rattle.shared_index.specs.Capacity.{RestsRoomy}
 use Rattle.shared_index.specs.Meanings.{IsVersion}
 use Rattle.shared_index.specs.Passes.{Known}
 use Rattle.shared_index.specs.Turns.{Agrees, cells_with, current_root}
@@ -30,3 +31,7 @@ returns-clause-stands g c =
     base_stands g.L.Law.lawful v look.confirmed.0 c.look.result (ap (λ (w : Known). w.turn) same ∙ look.confirmed.1) told c.look.new.self.told u c.known.ensures c.args.self.seat.passes
     (subst (λ (t : Option TurnView). Agrees (cells_with u t) u c.args.self.seat.passes) (sym turn) c.args.self.agrees) c.args.self.at_rest c.args.self.root
     (c.args.self.root_is ∙ ap (λ (t : Option TurnView). current_root (kept_in t)) (sym turn))
+
+pub returns-clause-rests : goal.returns-clause-rests
+returns-clause-rests g c =
+    subst (RestsRoomy c.args.self.usage) (sym (ap (λ (w : Known). w.seen) (c.look.ensures.same.0 ∙ c.join-seat.ensures.joined))) c.args.self.rests

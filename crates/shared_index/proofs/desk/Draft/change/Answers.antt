@@ -1,6 +1,10 @@
-use Rattle.std.proofs.Common.{inl, inr, refl, rules}
+use Rattle.std.proofs.Common.{arith, inl, inr, refl, rules}
+use Rattle.shared_index.specs.Bounds.{HasRoom, IsCramped}
 use Rattle.shared_index.specs.Rooms.{Fails}
+use Rattle.shared_index.proofs.GoesLaws.{goes_further}
+use Rattle.shared_index.proofs.RoomyLaws.{cramped_room, keeps_grown, keeps_made, keeps_then, no_fewer}
 use Rattle.shared_index.proofs.desk.Draft.change.Given.{Over}
+use Rattle.shared_index.proofs.desk.Draft.change.Goals.{in_default-via-in-Err+in-Refused-1, in_default-via-in-Ok-1}
 use Rattle.shared_index.proofs.desk.Draft.change.Goals as goal
 
 -- the first try found no room
@@ -17,3 +21,24 @@ returns-in_default-clause-spares g c = record { tried = c.args.self; is_tried = 
 
 pub returns-in-Err-Full-clause-cause : goal.returns-in-Err-Full-clause-cause
 returns-in-Err-Full-clause-cause g c f kept e same = record { first = c.attempt-draft.result.0; fails = first_fails g c; caused = c.change_at_last.ensures.cause f kept e same }
+
+-- the table isn't roomy
+cramped_first : (g : Over) (c : goal.After-change_at_last g) → HasRoom c.args.self → IsCramped c.args.self
+cramped_first g c room = c.attempt-draft.ensures.cramped room c.in-Err-Full.field-0-0 (search rules)
+
+pub returns-in-Err-Full-clause-room : goal.returns-in-Err-Full-clause-room
+returns-in-Err-Full-clause-room g c room =
+    let d = c.args.self in
+    let tried = c.attempt-draft in
+    let last = c.change_at_last in
+    let made = last.ensures.room in
+    let keeps = keeps_then (keeps_grown tried.ensures.spares.grown) (keeps_then (keeps_made made.1) (keeps_grown made.2.grown)) in
+    let a = no_fewer tried.result.1 tried.ensures.operates in
+    let b = no_fewer last.result.1 last.ensures.operates in
+    cramped_room d last.result.0 room (cramped_first g c room) keeps (goes_further tried.ensures.operates.known last.ensures.operates.known) (omega arith)
+
+pub returns-in-Err-Full-clause-cramped : goal.returns-in-Err-Full-clause-cramped
+returns-in-Err-Full-clause-cramped g c room f e = cramped_first g c room
+
+pub returns-in_default-clause-cause : goal.returns-in_default-clause-cause
+returns-in_default-clause-cause g c f kept e same = absurd (elim c.in_default-1.branch [ in_default-via-in-Err+in-Refused-1 w ↦ search rules | in_default-via-in-Ok-1 w ↦ search rules ])

@@ -7,6 +7,7 @@ use Rattle.trie_model.specs.Keys.{Entry}
 use Rattle.shared_cells.specs.declared.view.Naming.{Naming}
 use Rattle.shared_cells.specs.declared.view.Seen.{Seen}
 use Rattle.shared_cells.specs.declared.view.TurnView.{TurnView}
+use Rattle.shared_cells.specs.History.{entry_of}
 use Rattle.shared_cells.specs.Views.{kept_in, kept_of, words_of}
 use Rattle.shared_cells.proofs.Seats.{turn_there, pass_there, told_there}
 use Rattle.shared_index.specs.declared.meaning.Operation.{Operation}
@@ -16,6 +17,7 @@ use Rattle.shared_index.specs.Keepings.{Rounds}
 use Rattle.shared_index.specs.Passes.{Known}
 use Rattle.shared_index.specs.Turns.{Agrees, AgreesWithin, cells_with, current_root}
 use Rattle.shared_index.proofs.PublishLaws.{all_older, can_publish, agrees_published, root_published}
+use Rattle.shared_index.proofs.RoomyLaws.{published_rests}
 use Rattle.shared_index.proofs.WorkLaws.{rounds_of}
 use Rattle.shared_index.proofs.WordsLaws.{freed_chunks, same_chunks, same_words, words_kept}
 use Rattle.shared_index.proofs.desk.Draft.publish.Goals as goal
@@ -74,6 +76,7 @@ invariant_of-desk g c =
     let turn : z.turn ≡ y.turn = ap (λ (k : Known). k.turn) split.turn.0 in
     let kept_last : kept_in z.turn ≡ kept_in x.turn = ap kept_in turn ∙ ap (λ (k : Known). kept_in k.turn) free.same ∙ words_kept x.turn (words_of y.turn) in
     let passes : c.split-seat.result.0.passes ≡ c.make_round.new.seat.passes = split.turn.2 ∙ free.passes in
+    let seen : z.seen ≡ x.seen = ap (λ (k : Known). k.seen) split.turn.0 ∙ ap (λ (k : Known). k.seen) free.same in
     record {
       wide = ap (λ (n : ℕ). 4161 + 2048 * n) (ap (λ (l : Ledger). length l.given) usage ∙ freed_chunks (narrowed (frozen d.usage c.publish-version.result) (kept_versions c.make_round.new.usage)))
           ∙ d.wide ∙ sym (same_words _ _ (split.tables.0 ∙ free.table ∙ round.table ∙ c.publish-version.ensures.table));
@@ -84,6 +87,10 @@ invariant_of-desk g c =
       };
       root_is = sym (ap current_root kept_last ∙ round.root
           ∙ root_published v d.usage c.known.ensures d.seat.passes d.agrees d.root (working_set d) c.requires.works w c.freeze.new.self c.publish-version.result number c.freeze.ensures.after c.freeze.ensures.settled kept_now words_now);
+      rests = published_rests (cells_with last y.turn) d last c.make_round.new.seat.passes c.publish-version.result (kept_versions c.make_round.new.usage) z.seen (entry_of p.1.number p.2) c.known.ensures c.requires.works usage free.agrees
+          (ap (λ (s : Seen (List Entry) (List Operation)). s.opening) seen ∙ round.goes_on.opening ∙ ap (λ (k : Known). k.seen.opening) p.6)
+          (ap (λ (s : Seen (List Entry) (List Operation)). s.history) seen ∙ round.goes_on.history ∙ ap (λ (k : Known). k.seen.history) p.6)
+          (cc) c.requires.rows c.requires.thin;
     }
 
 pub returns-clause-receipt : goal.returns-clause-receipt

@@ -1,5 +1,11 @@
-use Rattle.std.proofs.Common.{true, false, subst, arith}
+use Rattle.std.proofs.Common.{true, false, subst, arith, ◌+◌, ◌/◌, ◌≤◌}
+use Rattle.trie_model.specs.Shape.{cells}
+use Rattle.chunk_usage.specs.Ledger.{free_count}
+use Rattle.evacuate.specs.declared.evacuation.Done.{Done}
+use Rattle.evacuate.specs.Evacuations.{refused}
+use Rattle.shared_index.specs.Drafts.{working_set}
 use Rattle.shared_index.specs.Movings.{Evacuates}
+use Rattle.shared_index.proofs.RoomyLaws.{whole_where}
 use Rattle.shared_index.proofs.MovingLaws.{thin_sparse, thin_dense}
 use Rattle.shared_index.proofs.SettleLaws.{settles_few, settles_many}
 use Rattle.shared_index.proofs.desk.Draft.settle.Goals as goal
@@ -25,3 +31,9 @@ returns-in-Stopped-clause-settles g c =
 
 pub returns-in-Stopped-clause-stopped : goal.returns-in-Stopped-clause-stopped
 returns-in-Stopped-clause-stopped g c e = (c.evacuate-draft.ensures.evacuates.stopped c.in-Stopped.is).0.spent.none_free
+
+pub returns-in-Stopped-clause-roomy : goal.returns-in-Stopped-clause-roomy
+returns-in-Stopped-clause-roomy g c room =
+    let e = c.evacuate-draft.ensures in
+    let asks = subst (λ (done : Done). free_count c.args.self.usage + refused done ≤ free_count c.evacuate-draft.result.0.usage + (cells (working_set c.args.self) / 769 + 1)) c.in-Stopped.is e.asks in
+    whole_where c.args.self c.evacuate-draft.result.0 _ room (e.evacuates.stopped c.in-Stopped.is).0.spent.none_free asks

@@ -8,9 +8,10 @@ use Rattle.shared_cells.specs.Views.{kept_in, kept_of, words_of}
 use Rattle.shared_cells.proofs.Seats.{turn_there}
 use Rattle.shared_index.specs.Bases.{StandsFor}
 use Rattle.shared_index.specs.Images.{image_at}
-use Rattle.shared_index.specs.Passes.{Known}
+use Rattle.shared_index.specs.Passes.{Known, first_version}
 use Rattle.shared_index.specs.Turns.{current_root}
 use Rattle.shared_index.proofs.FirstLaws.{can_open, first_agrees}
+use Rattle.shared_index.proofs.RoomyLaws.{first_rests}
 use Rattle.shared_index.proofs.WordsLaws.{same_passes, same_words}
 use Rattle.shared_index.proofs.index.Index.first_desk.Goals as goal
 
@@ -35,6 +36,7 @@ invariant_of-result g c =
     let fill = c.fill-turn.ensures in
     let works : StandsFor v u root es = subst (λ (r : Result (Option ℕ) Full). IfOk r (λ root. StandsFor v u root es)) c.in-Ok.is fill.stands in
     let opened = c.open_turn-seat.ensures.opened in
+    let is_first : opened.1 ≡ es = cc in
     let first : Kept = kept_of 0 root (image_at (words_of v.turn) root) in
     let kept_now : kept_in w.turn ≡ first ∷ [] = ap (λ (x : Known). kept_in x.turn) opened.4 in
     let words_now : words_of w.turn ≡ words_of v.turn = ap (λ (x : Known). words_of x.turn) opened.4 ∙ ap words_of (sym opened.2) in
@@ -50,4 +52,5 @@ invariant_of-result g c =
         bump = ap (λ (l : Ledger). l.open_chunk) c.freeze.ensures.after ∙ sym (ap (λ (l : Ledger). l.last_open) c.freeze.ensures.after);
       };
       root_is = sym (ap current_root kept_now);
+      rests = first_rests u new es w.seen c.known.ensures no_rows c.freeze.ensures.after fill.spends (ap (λ (x : Known). first_version x.seen) opened.4 ∙ is_first);
     }
