@@ -123,7 +123,8 @@ fn push_addition(script: &mut Vec<u8>, number: u32) -> Result<(), AllocError> {
     for _ in 0..10 {
         script.extend_from_slice(&[b'5'; 814])?;
     }
-    script.push(b'\n')
+    script.push(b'\n')?;
+    Ok(())
 }
 
 /// A transaction of sixty such operations, and a question by another worker.
