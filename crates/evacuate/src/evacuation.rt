@@ -25,7 +25,7 @@ use chunk_usage::Usage;
 use packed_node::{Ref, chunk_of};
 
 // How often the lists of sparse chunks are gone through before they are made anew.
-const ROUNDS: u32 = 4;
+const ROUNDS: u32 = 8;
 
 /// How an evacuation ended.
 #[derive(Clone, Copy, PartialEq, Eq, Debug)]

@@ -9,7 +9,7 @@ ghost use Rattle.evacuate.specs.Places.{IsStood};
 ghost use Rattle.evacuate.specs.Rearranging.{Rearranged};
 
 use super::descent::{move_found, reach};
-use super::marks::{Marks, mark_of};
+use super::marks::{Listing, Marks};
 use super::path_walk::{Walk, last_sparse};
 use super::trail::Trail;
 use chunk_cells::CellWrite;
@@ -36,7 +36,7 @@ fn open_along<C: CellWrite>(
     trail: &mut Trail,
     path: Path,
     marks: &mut Marks,
-    mark: usize,
+    listing: Listing,
 ) -> Result<(), Full>
     requires stood { IsStood C.has cells.old usage.old root }
     requires writable { IsWritable C.given reserve_account_of cells.old usage.old root }
@@ -46,10 +46,11 @@ fn open_along<C: CellWrite>(
     ensures left { IfErr result (λ _. (given : List Bool) → Fills given usage.old → HasSparse usage.new) }
     ensures ready { Ready C.kept C.given reserve_account_of cells.new usage.new }
 {
+    marks.pass(listing);
     let top = cells.cell(root);
     let mut walk = Walk::new();
     if last_sparse(cells, usage, trail, top, 0, path, &mut walk) {
-        marks.insert(mark);
+        marks.insert(listing);
         usage.note(path);
         reach(cells, usage, root, trail)?;
     }
@@ -87,7 +88,7 @@ fn move_along<C: CellWrite>(
     Ok(())
 }
 
-/// The one or the other along a path. Nothing is moved along one that isn't marked.
+/// The one or the other along a path. Nothing is moved along one on which nothing was found before.
 fn step_along<C: CellWrite>(
     cells: &mut C,
     usage: &mut Usage,
@@ -96,7 +97,7 @@ fn step_along<C: CellWrite>(
     path: Path,
     step: Step,
     marks: &mut Marks,
-    mark: usize,
+    listing: Listing,
 ) -> Result<(), Full>
     requires stood { IsStood C.has cells.old usage.old root }
     requires writable { IsWritable C.given reserve_account_of cells.old usage.old root }
@@ -107,8 +108,8 @@ fn step_along<C: CellWrite>(
     ensures ready { Ready C.kept C.given reserve_account_of cells.new usage.new }
 {
     match step {
-        Step::Open => open_along(cells, usage, root, trail, path, marks, mark),
-        Step::Move if marks.contains(mark) => move_along(cells, usage, root, trail, path),
+        Step::Open => open_along(cells, usage, root, trail, path, marks, listing),
+        Step::Move if marks.contains(listing) => move_along(cells, usage, root, trail, path),
         Step::Move => Ok(()),
     }
 }
@@ -136,8 +137,8 @@ fn step_in_chunk<C: CellWrite>(
             return Ok(());
         }
         let path = usage.path(chunk, place);
-        let mark = mark_of(chunk, place);
-        step_along(cells, usage, root, trail, path, step, marks, mark)?;
+        let listing = Listing { chunk, place };
+        step_along(cells, usage, root, trail, path, step, marks, listing)?;
     }
     Ok(())
 }
