@@ -69,27 +69,3 @@ all_counted {size} {left} {all} c none = subst (IsSizeOf size) (sym (append-nil 
 pub zone_entries_rise : (origin : Name) (zone : Version) → CanBeDumped origin zone → Rises (trie_entries zone)
 zone_entries_rise origin zone d =
     let is : IsZone origin (trie_entries zone) = record { version = zone; stands = record { valid = record { rising = d.rising; items = d.items }; entries = refl }; zone = d } in zone_rises origin (trie_entries zone) is
-
--- ---- what is told of a size
-
-too_large : (n m : ℕ) → m < n → leb n m ≡ false
-too_large n m h = grind (arith, nat_tests)
-
-in_room : (n m : ℕ) → n ≤ m → leb n m ≡ true
-in_room n m h = grind (arith, nat_tests)
-
-pub refused_size : (chunks limit : ℕ) (zone : Version) (size : TrieSize) (text : List ℕ) → IsSizeOf size (trie_entries zone) → limit ≡ room_in chunks → limit < size.cells → text ≡ codes "zone does not fit: " ++ decimal size.cells ++ codes " cells over " ++ decimal limit ++ codes "\n"
-    → Checks chunks (Ok zone) status.DoesNotFit text
-refused_size chunks limit zone size text sized room large printed =
-    let cells : size.cells ≡ cell_count zone = sized.cells in
-    let over : room_in chunks < cell_count zone = omega arith in
-    let told : text ≡ no_room_text chunks zone = printed ∙ ap (λ (n : ℕ). codes "zone does not fit: " ++ decimal n ++ codes " cells over " ++ decimal limit ++ codes "\n") cells ∙ ap (λ (n : ℕ). codes "zone does not fit: " ++ decimal (cell_count zone) ++ codes " cells over " ++ decimal n ++ codes "\n") room in
-    subst (λ (b : Bool). IfFits b chunks zone (Ends status.Done (opened_text zone)) status.DoesNotFit text) (sym (too_large (cell_count zone) (room_in chunks) over)) (refl, told)
-
-pub told_size : (chunks limit : ℕ) (zone : Version) (size : TrieSize) (text : List ℕ) → IsSizeOf size (trie_entries zone) → limit ≡ room_in chunks → size.cells ≤ limit → text ≡ codes "v0 " ++ size_text size.names size.nodes → Checks chunks (Ok zone) status.Done text
-told_size chunks limit zone size text sized room small printed =
-    let cells : size.cells ≡ cell_count zone = sized.cells in
-    let within : cell_count zone ≤ room_in chunks = omega arith in
-    let names : size.names ≡ length zone = sized.names ∙ length-map zone trie_entry in
-    let nodes : size.nodes ≡ node_count zone = sized.nodes in
-    fitting chunks zone (Ends status.Done (opened_text zone)) status.Done text (in_room (cell_count zone) (room_in chunks) within) (refl, printed ∙ ap (λ (n : ℕ). codes "v0 " ++ size_text n size.nodes) names ∙ ap (λ (n : ℕ). codes "v0 " ++ size_text (length zone) n) nodes)

@@ -1,10 +1,12 @@
 //! The size of a trie to whose end items are added.
-ghost use Rattle.std.specs.Prelude.{◌≡◌, ◌≤◌, ◌*◌, if◌then◌else◌};
+ghost use Rattle.std.specs.Prelude.{◌≡◌, ◌≤◌, ◌*◌, length, min, take, if◌then◌else◌};
 
 use crate::offsets::split_at_offset;
 use chunk_cells::cells_for;
-use dns_name::Name;
 use shift_key::parting_of;
+
+// The most octets of a name.
+const NAME_OCTETS: usize = 255;
 
 /// How large the trie of some items is, which came in the rising order of their keys. A further item's leaf comes behind all others: its
 /// key parts from the last one, at an offset of which there is a branch above the last leaf, or is one from now on. So the
@@ -14,11 +16,13 @@ pub struct TrieSize {
     names: u64,
     nodes: u64,
     cells: u64,
-    /// The last item's owner.
-    last: Option<Name>,
+    /// The first octets of the last item, among them its owner's; what stands behind them means nothing.
+    last: [u8; 255],
+    last_len: usize,
     /// The offsets of the branches above its leaf, from the top; what stands behind them means nothing.
     offsets: [u16; 504],
     depth: usize,
+    ghost last_inside: { last_len ≤ 255 },
     ghost inside: { depth ≤ 504 },
     ghost few_nodes: { nodes ≤ 2 * names },
     ghost few_cells: { cells ≤ 4114 * names },
@@ -32,14 +36,24 @@ fn new_nodes(is_there: bool) -> u64
     if is_there { 1 } else { 2 }
 }
 
+// Copies the first octets of an item, and answers how many these are.
+fn keep_front(last: &mut [u8], item: &[u8]) -> usize
+    requires { length last.old ≡ 255 }
+    ensures front { take result last.new ≡ take 255 item.now }
+    ensures inside { result ≤ 255 }
+    ensures room { length last.new ≡ 255 }
+{
+    let len = item.len().min(NAME_OCTETS);
+    last[..len].copy_from_slice(&item[..len]);
+    len
+}
+
 impl TrieSize {
-    ghost use Rattle.std.specs.Prelude.{◌≡◌, ◌∷◌, ◌++◌, [], ℕ, List, length, Some, None};
-    ghost use Rattle.zone_model.specs.Names.{Name as Labels, IsName};
-    ghost use Rattle.zone_model.specs.Keys.{key_of, Leads};
+    ghost use Rattle.std.specs.Prelude.{◌≡◌, ◌∷◌, ◌++◌, [], ℕ, List, length};
     ghost use Rattle.trie_model.specs.Keys.{Entry};
     ghost use Rattle.trie_model.specs.Shape.{nodes as nodes_of_keys, keys_of, cells as cells_of};
-    ghost use Rattle.trie_size.specs.Ways.{Parts};
-    ghost use Rattle.trie_size.specs.Sizes.{IsSizeOf, Comes, Follows};
+    ghost use Rattle.trie_size.specs.Ways.{Parts, last_key};
+    ghost use Rattle.trie_size.specs.Sizes.{IsSizeOf, Follows};
 
     /// The size of no items' trie.
     pub fn new() -> TrieSize
@@ -49,7 +63,8 @@ impl TrieSize {
             names: 0,
             nodes: 0,
             cells: 0,
-            last: None,
+            last: [0; 255],
+            last_len: 0,
             offsets: [0; 504],
             depth: 0,
         }
@@ -81,44 +96,40 @@ impl TrieSize {
         requires { (es : List Entry) × (e : Entry) × Follows self.old item.now es e }
         ensures { (es : List Entry) (e : Entry) → Follows self.old item.now es e → IsSizeOf self.new (es ++ e ∷ []) }
     {
-        let Some(owner) = Name::from_wire(item) else {
-            // An item begins with its owner's octets.
-            unreachable!();
-        };
-        let len = item.len() as u16;
-        let Some(last) = &self.last else {
-            return self.add_first(owner, len);
-        };
-        let Some(parting) = parting_of(last.wire(), item) else {
+        if self.names == 0 {
+            return self.add_first(item);
+        }
+        let Some(parting) = parting_of(&self.last[..self.last_len], item) else {
             // No two items have one owner.
             unreachable!();
         };
-        self.add_behind(parting.place, owner, len)
+        self.add_behind(parting.place, item)
     }
 
     // The first leaf.
-    fn add_first(&mut self, owner: Name, len: u16)
-        requires comes { (es : List Entry) × (e : Entry) × Comes self.old owner len es e }
-        requires first { self.old.last ≡ None }
-        ensures { (es : List Entry) (e : Entry) → Comes self.old owner len es e → IsSizeOf self.new (es ++ e ∷ []) }
+    fn add_first(&mut self, item: &[u8])
+        requires comes { (es : List Entry) × (e : Entry) × Follows self.old item.now es e }
+        requires first { self.old.names ≡ 0 }
+        ensures { (es : List Entry) (e : Entry) → Follows self.old item.now es e → IsSizeOf self.new (es ++ e ∷ []) }
     {
-        self.cells += 1 + u64::from(cells_for(len));
+        self.cells += 1 + u64::from(cells_for(item.len() as u16));
         self.nodes += 1;
         self.names += 1;
-        self.last = Some(owner);
+        self.last_len = keep_front(&mut self.last, item);
     }
 
     // A leaf whose key parts from the last one at this offset.
-    fn add_behind(&mut self, offset: u16, owner: Name, len: u16)
-        requires comes { (es : List Entry) × (e : Entry) × (name : Labels) × Comes self.old owner len es e × (self.old.last ≡ Some name) × Parts offset (key_of name) e.key }
-        ensures { (es : List Entry) (e : Entry) (name : Labels) → Comes self.old owner len es e → self.old.last ≡ Some name → Parts offset (key_of name) e.key → IsSizeOf self.new (es ++ e ∷ []) }
+    fn add_behind(&mut self, offset: u16, item: &[u8])
+        requires comes { (es : List Entry) × (e : Entry) × Follows self.old item.now es e × Parts offset (last_key [] es) e.key }
+        requires some { self.old.names ≡ 0 → ⊥ }
+        ensures { (es : List Entry) (e : Entry) → Follows self.old item.now es e → Parts offset (last_key [] es) e.key → IsSizeOf self.new (es ++ e ∷ []) }
     {
         let (above, is_there) = split_at_offset(&self.offsets[..self.depth], offset);
         let nodes = new_nodes(is_there);
-        self.cells += nodes + u64::from(cells_for(len));
+        self.cells += nodes + u64::from(cells_for(item.len() as u16));
         self.nodes += nodes;
         self.names += 1;
-        self.last = Some(owner);
+        self.last_len = keep_front(&mut self.last, item);
         self.offsets[above] = offset;
         self.depth = above + 1;
     }

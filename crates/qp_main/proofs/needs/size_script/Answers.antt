@@ -1,8 +1,9 @@
 use Rattle.std.proofs.Common.{◌≡◌, ◌∙◌, Ok, rules, sym, ap, take}
+use Rattle.std.proofs.lemmas.List.{length-map}
 use Rattle.zone_model.specs.Lines.{lines_of}
 use Rattle.zone_model.specs.MasterFile.{zone_of}
 use Rattle.job_model.specs.Jobs.{job_of, zone_lines}
-use Rattle.job_script.specs.Views.{job_view}
+use Rattle.job_script.specs.Views.{job_view, worker_view}
 use Rattle.qp_main.specs.Due.{Sizes}
 use Rattle.qp_main.proofs.DueLemmas.{job_sizes, zone_stopped, zone_unsized}
 use Rattle.qp_main.proofs.SizingLemmas.{zone_entries_rise}
@@ -17,7 +18,7 @@ returns-clause-told c =
     let bytes = c.args.bytes.items in
     let zone : zone_of i.origin (zone_lines bytes) ≡ Ok c.in-Ok.zone.pairs = ap (zone_of i.origin) (sym c.requires.cut.zone) ∙ search (rules, c.in-Ok.ensures.zone) in
     job_sizes i.origin bytes c.in-Ok.zone.pairs (job_view c.args.job.now) zone c.requires.read _ _
-    (c.in_ok-answer.ensures (record { origin = i.origin; zone = c.in-Ok.zone.pairs; workers = job_view c.args.job.now }) c.in_ok-size.ensures (search rules) c.in_ok-needs.ensures.cells c.in_ok-needs.ensures.operations)
+    (c.in_ok-answer.ensures (record { origin = i.origin; zone = c.in-Ok.zone.pairs; workers = job_view c.args.job.now }) c.in_ok-size.ensures (length-map c.args.job.now.workers.items worker_view ∙ sym c.len.ensures) c.in_ok-needs.ensures.cells c.in_ok-needs.ensures.operations)
 
 pub returns-in-Err-clause-stops : goal.returns-in-Err-clause-stops
 returns-in-Err-clause-stops c =
