@@ -131,16 +131,23 @@ fn sizing<'a>(alloc: Global) -> Result<Command<'a>, AllocError>
     Ok(with_origin)
 }
 
+// The program's own command, of which the others are parts.
+fn whole<'a>(alloc: Global) -> Command<'a>
+    ensures { app_of result ≡ record { top = record (new_shape (codes "qpzone")) { subcommand_required = true }; subs = [] } }
+{
+    let about = "Answers questions about a DNS zone while it is being changed";
+    Command::new(alloc, "qpzone")
+        .about(about)
+        .subcommand_required(true)
+}
+
 /// The program's command line.
 pub fn program<'a>(alloc: Global) -> Result<Command<'a>, AllocError>
     ensures { IfOk result (λ c. app_of c ≡ program_app) }
 {
     let run_about = "Read a job, run it, and print a report";
     let run_command = reading(alloc, "run", run_about)?;
-    let about = "Answers questions about a DNS zone while it is being changed";
-    let top = Command::new(alloc, "qpzone")
-        .about(about)
-        .subcommand_required(true);
+    let top = whole(alloc);
     let with_run = top.subcommand(run_command)?;
     let check_about = "Read a zone, and print how large its index is";
     let check_command = reading(alloc, "check", check_about)?;

@@ -8,7 +8,7 @@ returns c =
     let run_is : app_of c.in_ok-run_command.run_command ≡ record { top = reading_shape (codes "run"); subs = [] } = c.in_ok-run_command.ensures.app in
     let check_is : app_of c.in_ok-check_command.check_command ≡ record { top = reading_shape (codes "check"); subs = [] } = c.in_ok-check_command.ensures.app in
     let make_is : app_of c.in_ok-make_command.make_command ≡ record { top = making_shape; subs = [] } = c.in_ok-make_command.ensures.app in
-    let top_is : app_of c.subcommand_required-top.result ≡ record { top = record (new_shape (codes "qpzone")) { subcommand_required = true }; subs = [] } = search rules in
+    let top_is : app_of c.whole-top.result ≡ record { top = record (new_shape (codes "qpzone")) { subcommand_required = true }; subs = [] } = c.whole-top.ensures in
     let dump_is : app_of c.in_ok-dump_command.dump_command ≡ record { top = dumping_shape; subs = [] } = c.in_ok-dump_command.ensures.app in
     let feed_is : app_of c.in_ok-feed_command.feed_command ≡ record { top = feeding_shape; subs = [] } = c.in_ok-feed_command.ensures.app in
     let size_is : app_of c.in_ok-size_command.size_command ≡ record { top = sizing_shape; subs = [] } = c.in_ok-size_command.ensures.app in
