@@ -1,5 +1,7 @@
-use Rattle.std.proofs.Common.{◌∙◌, Option, Some, sym, subst}
+use Rattle.std.proofs.Common.{◌≡◌, ◌∙◌, Option, Some, sym, subst}
+use Rattle.std.specs.Prelude.{IsSomeAnd}
 use Rattle.shared_index.specs.declared.desk.Draft.{Draft}
+use Rattle.shared_index.specs.Bounds.{IsCramped}
 use Rattle.shared_index.specs.Changes.{key_of, written_by, asked_by}
 use Rattle.shared_index.specs.Drafts.{Between}
 use Rattle.shared_index.specs.Fulls.{CausedFrom, full_with}
@@ -10,3 +12,8 @@ returns-clause-cause g c f kept e same =
     let change = c.args.change.now in
     subst (λ (o : Option Draft). Between (λ d e. CausedFrom d e (key_of change) (written_by change) (asked_by change) (full_with f kept)) o (Some c.change-draft.result.0))
     (sym (sym c.take.ensures.value ∙ c.in-Some.is)) (c.change-draft.ensures.cause f kept e same)
+
+pub returns-clause-cramped : goal.returns-clause-cramped
+returns-clause-cramped g c f e =
+    let is : c.args.self.now.draft ≡ Some c.in-Some.draft = sym c.take.ensures.value ∙ c.in-Some.is in
+    subst (λ (o : Option Draft). IsSomeAnd o IsCramped) (sym is) (c.change-draft.ensures.cramped (c.args.self.now.room c.in-Some.draft is) f e)
