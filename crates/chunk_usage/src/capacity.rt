@@ -5,6 +5,7 @@ ghost use Rattle.chunk_usage.specs.Capacity.{is_roomy, IsLeast};
 
 // The fewest and the most chunks of an index.
 const FEWEST_CHUNKS: u32 = 16;
+
 const MOST_CHUNKS: u32 = 4096;
 
 /// Half of the chunks that are enough.

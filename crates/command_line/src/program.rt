@@ -51,10 +51,10 @@ fn reading<'a>(alloc: Global, name: &'a str, about: &'a str) -> Result<Command<'
     ensures app { IfOk result (λ c. app_of c ≡ record { top = reading_shape name.entry.now; subs = [] }) }
     ensures local { IfOk result (λ c. (fields_of c).has_globals ≡ false) }
 {
-    let origin = origin(alloc);
-    let chunks = chunks(alloc);
     let command = Command::new(alloc, name).about(about);
+    let origin = origin(alloc);
     let with_origin = command.arg(origin)?;
+    let chunks = chunks(alloc);
     let with_chunks = with_origin.arg(chunks)?;
     Ok(with_chunks)
 }
@@ -64,21 +64,21 @@ fn making<'a>(alloc: Global) -> Result<Command<'a>, AllocError>
     ensures app { IfOk result (λ c. app_of c ≡ record { top = making_shape; subs = [] }) }
     ensures local { IfOk result (λ c. (fields_of c).has_globals ≡ false) }
 {
-    let seed_help = "What the draws begin with, below 2^64";
-    let seed = option(alloc, "seed", seed_help, true);
-    let names_help = "How many numbered names the zone has, 1 to 20000";
-    let names = option(alloc, "names", names_help, true);
-    let turns_help = "How many turns each worker has, 1 to 10000";
-    let turns = option(alloc, "turns", turns_help, true);
-    let workers_help = "How many workers the script has, 1 to 16";
-    let workers = option(alloc, "workers", workers_help, true);
-    let chunks = chunks(alloc);
     let about = "Make a job, run it, and print a summary";
     let command = Command::new(alloc, "make").about(about);
+    let seed_help = "What the draws begin with, below 2^64";
+    let seed = option(alloc, "seed", seed_help, true);
     let with_seed = command.arg(seed)?;
+    let names_help = "How many numbered names the zone has, 1 to 20000";
+    let names = option(alloc, "names", names_help, true);
     let with_names = with_seed.arg(names)?;
+    let turns_help = "How many turns each worker has, 1 to 10000";
+    let turns = option(alloc, "turns", turns_help, true);
     let with_turns = with_names.arg(turns)?;
+    let workers_help = "How many workers the script has, 1 to 16";
+    let workers = option(alloc, "workers", workers_help, true);
     let with_workers = with_turns.arg(workers)?;
+    let chunks = chunks(alloc);
     let with_chunks = with_workers.arg(chunks)?;
     Ok(with_chunks)
 }
@@ -88,15 +88,15 @@ fn dumping<'a>(alloc: Global) -> Result<Command<'a>, AllocError>
     ensures app { IfOk result (λ c. app_of c ≡ record { top = dumping_shape; subs = [] }) }
     ensures local { IfOk result (λ c. (fields_of c).has_globals ≡ false) }
 {
+    let about = "Read a zone, and write it as a master file";
+    let command = Command::new(alloc, "dump").about(about);
     let origin = origin(alloc);
+    let with_origin = command.arg(origin)?;
     let style_help =
         "full: a line says all of a record; short: names and times are left out where a directive says them";
     let style = option(alloc, "style", style_help, false);
-    let chunks = chunks(alloc);
-    let about = "Read a zone, and write it as a master file";
-    let command = Command::new(alloc, "dump").about(about);
-    let with_origin = command.arg(origin)?;
     let with_style = with_origin.arg(style)?;
+    let chunks = chunks(alloc);
     let with_chunks = with_style.arg(chunks)?;
     Ok(with_chunks)
 }
@@ -106,15 +106,15 @@ fn feeding<'a>(alloc: Global) -> Result<Command<'a>, AllocError>
     ensures app { IfOk result (λ c. app_of c ≡ record { top = feeding_shape; subs = [] }) }
     ensures local { IfOk result (λ c. (fields_of c).has_globals ≡ false) }
 {
-    let origin = origin(alloc);
-    let workers_help = "How many workers run the commands, 1 to 16";
-    let workers = option(alloc, "workers", workers_help, true);
-    let chunks = chunks(alloc);
     let about =
         "Read a zone and one list of commands, run it by several workers, and print a report";
     let command = Command::new(alloc, "feed").about(about);
+    let origin = origin(alloc);
     let with_origin = command.arg(origin)?;
+    let workers_help = "How many workers run the commands, 1 to 16";
+    let workers = option(alloc, "workers", workers_help, true);
     let with_workers = with_origin.arg(workers)?;
+    let chunks = chunks(alloc);
     let with_chunks = with_workers.arg(chunks)?;
     Ok(with_chunks)
 }
@@ -124,9 +124,9 @@ fn sizing<'a>(alloc: Global) -> Result<Command<'a>, AllocError>
     ensures app { IfOk result (λ c. app_of c ≡ record { top = sizing_shape; subs = [] }) }
     ensures local { IfOk result (λ c. (fields_of c).has_globals ≡ false) }
 {
-    let origin = origin(alloc);
     let about = "Read a job, and print how many chunks its index needs";
     let command = Command::new(alloc, "size").about(about);
+    let origin = origin(alloc);
     let with_origin = command.arg(origin)?;
     Ok(with_origin)
 }
@@ -137,21 +137,21 @@ pub fn program<'a>(alloc: Global) -> Result<Command<'a>, AllocError>
 {
     let run_about = "Read a job, run it, and print a report";
     let run_command = reading(alloc, "run", run_about)?;
-    let check_about = "Read a zone, and print how large its index is";
-    let check_command = reading(alloc, "check", check_about)?;
-    let make_command = making(alloc)?;
-    let dump_command = dumping(alloc)?;
-    let feed_command = feeding(alloc)?;
-    let size_command = sizing(alloc)?;
     let about = "Answers questions about a DNS zone while it is being changed";
     let top = Command::new(alloc, "qpzone")
         .about(about)
         .subcommand_required(true);
     let with_run = top.subcommand(run_command)?;
+    let check_about = "Read a zone, and print how large its index is";
+    let check_command = reading(alloc, "check", check_about)?;
     let with_check = with_run.subcommand(check_command)?;
+    let make_command = making(alloc)?;
     let with_make = with_check.subcommand(make_command)?;
+    let dump_command = dumping(alloc)?;
     let with_dump = with_make.subcommand(dump_command)?;
+    let feed_command = feeding(alloc)?;
     let with_feed = with_dump.subcommand(feed_command)?;
+    let size_command = sizing(alloc)?;
     let with_size = with_feed.subcommand(size_command)?;
     Ok(with_size)
 }
