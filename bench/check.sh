@@ -1,8 +1,8 @@
 #!/usr/bin/env bash
 # Times `qpzone check` beside the zone checkers of BIND, NSD and Knot, where they are installed, on one zone of address
 # records with names in random order. Usage: bench/check.sh [RECORDS [PROGRAM]] (500,000 records). Prints seconds and the
-# largest resident set; with valgrind also instructions a name, on a tenth of the records. Installs nothing, and changes
-# nothing but files of its own in a temporary folder.
+# largest resident set, of ten records too; with valgrind also instructions a name, on a tenth of the records. Installs nothing,
+# and changes nothing but files of its own in a temporary folder.
 set -eu
 here=$(cd "$(dirname "$0")" && pwd)
 records=${1:-500000}
@@ -28,6 +28,9 @@ for _ in 1 2 3; do
     /usr/bin/time -f 'qpzone check: %e s, %M KiB' "$program" check --origin example. --chunks 4096 \
         <"$folder/zone" 2>&1 >/dev/null
 done
+zone_of 10 "$folder/ten"
+/usr/bin/time -f 'qpzone check, ten records: %e s, %M KiB' "$program" check --origin example. --chunks 4096 \
+    <"$folder/ten" 2>&1 >/dev/null
 timed named-checkzone named-checkzone -i none example. "$folder/zone"
 timed nsd-checkzone nsd-checkzone example. "$folder/zone"
 timed kzonecheck kzonecheck -o example. "$folder/zone"
