@@ -1,5 +1,5 @@
 -- What is reported of a job that was run.
-use Rattle.std.proofs.Common.{◌≡◌, ◌∙◌, ℕ, zero, suc, ◌+◌, ◌-◌, ◌≤◌, leb, Bool, true, cond, List, [], ◌++◌, length, map, take, drop, Result, Ok, refl, sym, ap, subst, arith, codes}
+use Rattle.std.proofs.Common.{◌≡◌, ◌∙◌, ℕ, zero, suc, ◌+◌, ◌-◌, ◌≤◌, leb, Bool, true, cond, List, [], ◌++◌, length, map, take, drop, Result, Ok, refl, sym, ap, subst, arith}
 use Rattle.std.proofs.lemmas.List.{take_all, length-drop}
 use Rattle.std.proofs.lemmas.Bool.Decides.{nat_tests}
 use Rattle.std.specs.List.{AllByRecursion, list_any, range_with_len}
@@ -10,11 +10,10 @@ use Rattle.zone_model.specs.Lines.{lines_of}
 use Rattle.job_model.specs.declared.ScriptKind.{ScriptKind}
 use Rattle.job_model.specs.Commands.{Command}
 use Rattle.job_model.specs.Jobs.{script_of, script_start, script_lines}
-use Rattle.job_model.specs.Outcomes.{AllAlong, Pair, Setting, all_pairs, is_refused, passes_for, setting_of, times_made, version_at, Lawful}
+use Rattle.job_model.specs.Outcomes.{AllAlong, Pair, Setting, all_pairs, is_refused, passes_for, setting_of, times_made, version_at}
 use Rattle.job_model.specs.Reports.{end_text}
 use Rattle.job_model.specs.Feeds.{by_worker, pairs_by, passes_fed}
 use Rattle.job_model.proofs.FeedLaws.{workers_fed}
-use Rattle.job_model.specs.Replies.{size_text}
 use Rattle.job_script.specs.Parts.{IsCutAt}
 use Rattle.job_script.specs.declared.parts.Parts.{Parts}
 use Rattle.job_script.specs.Outcomes.{ended_view, job_pairs, versions_made}
@@ -28,7 +27,7 @@ use Rattle.job_script.proofs.SummaryLemmas.{summed_up}
 use Rattle.qp_main.specs.Tellings.{finished_text, told_text}
 use Rattle.qp_main.specs.declared.telling.Telling.{Telling}
 use Rattle.qp_main.specs.declared.telling.Telling.TheVariants.{Report, Summary}
-use Rattle.job_model.specs.Sizes.{cell_count, node_count}
+use Rattle.job_model.specs.Sizes.{cell_count}
 use Rattle.shared_index.specs.Openings.{room_in}
 use Rattle.job_threads.specs.Runs.{IsRun}
 use Rattle.job_threads.specs.Zones.{FedRanOn, RanOn}
@@ -36,8 +35,8 @@ use Rattle.job_threads.specs.declared.feeding.FedFinished.{FedFinished}
 use Rattle.job_threads.specs.declared.job.Finished.{Finished}
 use Rattle.job_threads.specs.declared.zone.FedRan.TheVariants as fed
 use Rattle.job_threads.specs.declared.zone.Ran.TheVariants as ran
-use Rattle.qp_main.specs.Fits.{fits, opened_text}
-use Rattle.qp_main.specs.Due.{Answers, Checks, Ends, FedAnswers, FedReported, Reported}
+use Rattle.qp_main.specs.Fits.{fits}
+use Rattle.qp_main.specs.Due.{Answers, FedAnswers, FedReported, Reported}
 use Rattle.qp_main.proofs.DueLemmas.{fitting}
 use Rattle.qp_main.specs.declared.status.Status.{Status}
 use Rattle.qp_main.specs.declared.status.Status.TheVariants as status

@@ -1,28 +1,20 @@
 -- A zone's size, counted item by item.
-use Rattle.std.proofs.Common.{◌≡◌, ◌∙◌, ℕ, ◌+◌, ◌<◌, ◌≤◌, ◌^◌, Bool, true, false, leb, List, [], ◌∷◌, ◌++◌, length, length-append, map, append-nil, append_assoc, Ok, codes, inl, inr, arith, refl, sym, ap, subst}
-use Rattle.std.proofs.lemmas.Bool.Decides.{nat_tests}
+use Rattle.std.proofs.Common.{◌≡◌, ◌∙◌, ℕ, ◌+◌, ◌<◌, ◌^◌, List, [], ◌∷◌, ◌++◌, length, length-append, append-nil, append_assoc, arith, refl, sym, ap, subst}
 use Rattle.std.proofs.lemmas.List.{length-map}
-use Rattle.std.specs.Fmt.{decimal}
 use Rattle.std.specs.Int.{w16, to_be_bytes}
 use Rattle.std.specs.List.{flat_map}
 use Rattle.zone_model.specs.Names.{Name, wire}
 use Rattle.zone_model.specs.Records.{Entry, IsItem, rrset_bytes}
 use Rattle.zone_model.specs.Versions.{Version}
-use Rattle.trie_model.specs.Keys.{Entry as TrieEntry, InList, Rises}
+use Rattle.trie_model.specs.Keys.{Entry as TrieEntry, Rises}
 use Rattle.trie_model.proofs.KeyLaws.{in_left}
 use Rattle.trie_size.specs.declared.size.TrieSize.{TrieSize}
 use Rattle.trie_size.specs.Sizes.{IsSizeOf, Follows}
 use Rattle.zone_query.specs.Standing.{trie_entry}
 use Rattle.master_file.specs.Rows.{CanBeDumped}
-use Rattle.job_model.specs.Replies.{size_text}
-use Rattle.job_model.specs.Sizes.{cell_count, node_count, trie_entries}
-use Rattle.shared_index.specs.Openings.{room_in}
+use Rattle.job_model.specs.Sizes.{trie_entries}
 use Rattle.job_threads.specs.Histories.{IsZone}
 use Rattle.job_threads.proofs.OpenLaws.{zone_rises}
-use Rattle.qp_main.specs.Due.{Checks, Ends, IfFits}
-use Rattle.qp_main.specs.Fits.{fits, no_room_text, opened_text}
-use Rattle.qp_main.specs.declared.status.Status.TheVariants as status
-use Rattle.qp_main.proofs.DueLemmas.{fitting}
 
 -- the size is that of what is done of all
 pub record Counted (size : TrieSize) (left all : Version) : Type 0 where

@@ -1,4 +1,4 @@
-use Rattle.std.proofs.Common.{◌≡◌, ◌∙◌, Ok, rules, sym, ap, take}
+use Rattle.std.proofs.Common.{◌≡◌, ◌∙◌, Ok, length, rules, sym, ap, take}
 use Rattle.std.proofs.lemmas.List.{length-map}
 use Rattle.zone_model.specs.Lines.{lines_of}
 use Rattle.zone_model.specs.MasterFile.{zone_of}
@@ -17,8 +17,9 @@ returns-clause-told c =
     let i = c.args.invocation.now in
     let bytes = c.args.bytes.items in
     let zone : zone_of i.origin (zone_lines bytes) ≡ Ok c.in-Ok.zone.pairs = ap (zone_of i.origin) (sym c.requires.cut.zone) ∙ search (rules, c.in-Ok.ensures.zone) in
+    let workers : length c.args.job.now.workers.items ≡ c.len.result = search rules in
     job_sizes i.origin bytes c.in-Ok.zone.pairs (job_view c.args.job.now) zone c.requires.read _ _
-    (c.in_ok-answer.ensures (record { origin = i.origin; zone = c.in-Ok.zone.pairs; workers = job_view c.args.job.now }) c.in_ok-size.ensures (length-map c.args.job.now.workers.items worker_view ∙ sym c.len.ensures) c.in_ok-needs.ensures.cells c.in_ok-needs.ensures.operations)
+    (c.in_ok-answer.ensures (record { origin = i.origin; zone = c.in-Ok.zone.pairs; workers = job_view c.args.job.now }) c.in_ok-size.ensures (length-map c.args.job.now.workers.items worker_view ∙ workers) c.in_ok-needs.ensures.cells c.in_ok-needs.ensures.operations)
 
 pub returns-in-Err-clause-stops : goal.returns-in-Err-clause-stops
 returns-in-Err-clause-stops c =
