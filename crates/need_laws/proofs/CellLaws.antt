@@ -180,21 +180,24 @@ pub record IsSized (e : Entry) : Type 0 where
   pub some : 0 < length e.item
   pub short : length e.item ≤ most_item_octets
 
-abbrev blank : Entry → Entry
-blank e = record { key = e.key; item = map (λ (b : ℕ). 0) e.item }
+abbrev nothing : ℕ → ℕ
+nothing octet = 0
 
-blank_small : (octets : List ℕ) → AreOctets (map (λ (b : ℕ). 0) octets)
-blank_small [] i = ?
+abbrev blank : Entry → Entry
+blank e = record { key = e.key; item = map nothing e.item }
+
+blank_small : (octets : List ℕ) → AreOctets (map nothing octets)
+blank_small [] i = omega arith
 blank_small (b ∷ octets) zero = omega arith
 blank_small (b ∷ octets) (suc i) = blank_small octets i
 
 blank_entry : (e : Entry) → IsSized e → IsEntry (blank e)
 blank_entry e s =
-    let l = length-map e.item (λ (b : ℕ). 0) in let some = s.some in let short = s.short in
+    let l = length-map e.item nothing in let some = s.some in let short = s.short in
     record { key = s.key; item = record { some = omega (arith, l, some); short = omega (arith, l, short); octets = blank_small e.item } }
 
 blank_cells : (e : Entry) → cells_in (blank e).item ≡ cells_in e.item
-blank_cells e = ap (λ (n : ℕ). content_cells n + links n) (length-map e.item (λ (b : ℕ). 0))
+blank_cells e = ap (λ (n : ℕ). content_cells n + links n) (length-map e.item nothing)
 
 keys_blank : (es : List Entry) → keys_of (map blank es) ≡ keys_of es
 keys_blank [] = refl

@@ -1,2 +1,5 @@
 pub mod TreeLaws
 pub mod CellLaws
+pub mod ItemLaws
+pub mod PlaceLaws
+pub mod StepLaws
