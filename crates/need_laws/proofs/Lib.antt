@@ -3,3 +3,4 @@ pub mod CellLaws
 pub mod ItemLaws
 pub mod PlaceLaws
 pub mod StepLaws
+pub mod RunLaws
