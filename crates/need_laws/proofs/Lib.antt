@@ -4,3 +4,4 @@ pub mod ItemLaws
 pub mod PlaceLaws
 pub mod StepLaws
 pub mod RunLaws
+pub mod ReadLaws
