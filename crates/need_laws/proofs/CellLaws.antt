@@ -1,12 +1,11 @@
 -- What becomes of the cells of a rising list of entries when one is put in, taken out or exchanged.
 use Rattle.std.proofs.Common.{◌≡◌, ℕ, zero, suc, ◌+◌, ◌<◌, ◌≤◌, ◌⊎◌, List, [], ◌∷◌, ◌++◌, length, map, sum_by, arith, inl, inr, refl, sym, ◌∙◌, ap, subst}
-use Rattle.std.specs.Prelude.{slice_index}
 use Rattle.std.specs.List.{AllByRecursion}
 use Rattle.std.proofs.lemmas.Bool.{cases_lt}
 use Rattle.std.proofs.lemmas.List.{map-append, length-map}
 use Rattle.std.proofs.lemmas.List.Sums.{sum_by-cons}
 use Rattle.zone_model.specs.Keys.{most_item_octets}
-use Rattle.trie_model.specs.Keys.{at, Same, AreOctets, IsKey, IsItem, Entry, IsEntry, Less, InList, Rises}
+use Rattle.trie_model.specs.Keys.{at, Same, AreOctets, IsKey, Entry, IsEntry, Less, InList, Rises}
 use Rattle.trie_model.specs.Changes.{Inserted, Nearest}
 use Rattle.trie_model.specs.Extents.{content_cells, links, cells_in}
 use Rattle.trie_model.specs.Shape.{nodes, keys_of, cells}

@@ -1,12 +1,11 @@
 -- How many cells more an operation takes for its owner.
-use Rattle.std.proofs.Common.{◌≡◌, ◌∙◌, ℕ, ◌+◌, ◌-◌, ◌/◌, ◌<◌, ◌≤◌, Bool, true, false, cond, not, ◌&&◌, eqb, ltb, List, [], ◌∷◌, ◌++◌, length, length-append, Result, Ok, Err, refl, sym, ap, subst, arith}
+use Rattle.std.proofs.Common.{◌≡◌, ℕ, ◌+◌, ◌-◌, ◌/◌, ◌≤◌, Bool, true, false, cond, not, ◌&&◌, eqb, ltb, [], ◌∷◌, ◌++◌, length, length-append, Ok, Err, refl, ap, subst, arith}
 use Rattle.std.specs.Prelude.{is_some, is_none}
 use Rattle.std.specs.List.{flat_map}
 use Rattle.std.specs.Int.{w16, to_be_bytes}
 use Rattle.zone_model.specs.Names.{Name, wire}
 use Rattle.zone_model.specs.Records.{Entry, rrset_of, rrset_bytes, with_rr, without_rr, without_set, item, item_limit}
 use Rattle.zone_model.specs.Versions.{Addition, Operation, Add, DeleteName, DeleteSet, DeleteRecord, holds, with_soa, with_added, is_lone, is_low_soa, fitting, keeping_soa, owner_of, changed, soa_type}
-use Rattle.zone_model.specs.declared.Refusal.{Refusal}
 use Rattle.zone_model.specs.declared.Refusal.TheVariants.{Soa, Cname, Long}
 use Rattle.trie_model.specs.Extents.{cells_in}
 use Rattle.job_model.specs.Needs.{item_octets, cells_added}

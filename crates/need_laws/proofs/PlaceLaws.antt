@@ -1,5 +1,5 @@
 -- A version around a name: what comes before it, what it owns, and what comes behind it; and the cells when the name owns something else.
-use Rattle.std.proofs.Common.{◌≡◌, ◌∙◌, ℕ, ◌+◌, ◌-◌, ◌≤◌, Bool, cond, List, [], ◌∷◌, ◌++◌, length, map, Option, Some, unwrap_or, inl, inr, refl, sym, ap, subst, arith}
+use Rattle.std.proofs.Common.{◌≡◌, ◌∙◌, ◌+◌, ◌-◌, ◌≤◌, cond, List, [], ◌∷◌, ◌++◌, length, Some, unwrap_or, inl, inr, refl, sym, ap, subst, arith}
 use Rattle.std.proofs.lemmas.List.{map-append}
 use Rattle.std.specs.List.{AllByRecursion}
 use Rattle.std.specs.List.Sorted.{IsStrictlySortedBy}
@@ -11,13 +11,12 @@ use Rattle.std.specs.Ordering.{is_eq, ordering_reverse, match_ordering}
 use Rattle.zone_model.specs.Names.{Name, IsName, name_cmp}
 use Rattle.zone_model.specs.NameOrder.{name_cmp_total}
 use Rattle.zone_model.specs.Keys.{key_of}
-use Rattle.zone_model.specs.Records.{Rrset, Entry, item}
+use Rattle.zone_model.specs.Records.{Rrset, Entry}
 use Rattle.zone_model.specs.Versions.{Version, entry_of, owned, put}
 use Rattle.zone_model.proofs.NameLemmas.{name_cmp-IsAntisymmetric}
 use Rattle.zone_model.proofs.KeyLaws.{key_cmp-key_of}
 use Rattle.trie_model.specs.Keys as trie
 use Rattle.trie_model.specs.Keys.{InList, Less, Rises}
-use Rattle.trie_model.specs.Extents.{cells_in}
 use Rattle.trie_model.specs.Shape.{cells}
 use Rattle.trie_model.proofs.AboveLaws.{cmp_before}
 use Rattle.trie_model.proofs.NameLaws.{name_key}

@@ -1,6 +1,5 @@
 -- A job that octets say has a zone of its origin, and operations as scripts say them.
 use Rattle.std.proofs.Common.{◌≡◌, ℕ, zero, suc, List, [], ◌∷◌, take, drop, Result, Ok, Err, ap, subst}
-use Rattle.std.specs.List.{AllByRecursion}
 use Rattle.zone_model.specs.Refusals.{Refused}
 use Rattle.zone_model.specs.Names.{Name, IsName}
 use Rattle.zone_model.specs.Lines.{lines_of}

@@ -1,16 +1,15 @@
 -- The cells of each version of a job, and of what its transactions work on, against what its commands are reckoned at.
-use Rattle.std.proofs.Common.{◌≡◌, ◌∙◌, ℕ, zero, suc, ◌+◌, ◌-◌, ◌<◌, ◌≤◌, Bool, true, false, cond, ◌&&◌, eqb, eqb-true, List, [], ◌∷◌, ◌++◌, length, map, max, Result, Ok, refl, sym, ap, subst, arith}
-use Rattle.std.proofs.lemmas.Bool.{true≢false}
+use Rattle.std.proofs.Common.{◌≡◌, ◌∙◌, ℕ, zero, suc, ◌+◌, ◌-◌, ◌<◌, ◌≤◌, Bool, true, false, cond, ◌&&◌, eqb, eqb-true, List, [], ◌∷◌, ◌++◌, length, map, max, refl, sym, ap, subst, arith}
 use Rattle.std.proofs.lemmas.List.{map-append}
 use Rattle.std.specs.List.{AllByRecursion}
 use Rattle.zone_model.specs.Names.{Name}
-use Rattle.zone_model.specs.Versions.{Version, Operation, all_applied}
+use Rattle.zone_model.specs.Versions.{Version, Operation}
 use Rattle.zone_model.specs.Transactions.{Transaction}
 use Rattle.master_file.specs.Rows.{CanBeDumped}
 use Rattle.job_model.specs.Commands.{Command, Job}
 use Rattle.job_model.specs.Sizes.{cell_count}
-use Rattle.job_model.specs.Needs.{cells_added, cells_of_operations, cells_of_commands, cells_of_workers, most_cells, longest, longest_of_workers, most_operations}
-use Rattle.job_model.specs.Outcomes.{Outcome, Pair, made, is_committed, asked_by, asked_at, version_at, all_pairs}
+use Rattle.job_model.specs.Needs.{cells_of_operations, cells_of_commands, cells_of_workers, most_cells, longest, longest_of_workers, most_operations}
+use Rattle.job_model.specs.Outcomes.{Pair, made, is_committed, asked_by, asked_at, version_at, all_pairs}
 use Rattle.report_laws.specs.Changes.{IsSaid, AllSaid, AllAsked}
 use Rattle.report_laws.specs.Versions.{AreOutcomesOf}
 use Rattle.report_laws.proofs.ChangeLemmas.{IsZone, is_zone}
@@ -153,24 +152,44 @@ on_base pair = by_test (is_committed pair.1.ended) refl
     by_test true e = not_counted (pair.1.version - 1) pair (λ j some le. other_version (is_committed pair.1.ended) pair.1.version j (λ same. omega (arith, same)))
     by_test false e = not_counted pair.1.version pair (λ j some le. ap (λ (c : Bool). c && eqb pair.1.version j) e)
 
-works : (origin : Name) (zone : Version) (pairs : List Pair) → IsZone origin zone → AllPairsAsk origin pairs → (pair : Pair) → HasRoom pairs pair → AllAsked origin pair.0
-    → WorksWithin (cell_count zone + cost_of_all pairs) origin (version_at origin zone pairs) pair
-works origin zone pairs is ask pair room said front back working parts made =
-    let base = base_of pair.1 in
-    let a = all_cells origin front (version_at origin zone pairs base) working (front_said origin front back (subst (AllByRecursion (IsSaid origin)) parts said)) (version_zone origin zone pairs is ask base) made in
-    let b = version_cells origin zone pairs is ask base in
-    let c = front_cells front back in
-    let d = ap cells_of_operations parts in
-    let e = room base (on_base pair) in
-    omega (arith, a, b, c, d, e)
+-- what first operations make of a version, by what all of them are reckoned at
+first_cells : (origin : Name) (version : Version) (t : Transaction) (most : ℕ) → IsZone origin version → AllSaid origin t → cell_count version + cells_of_operations t.operations ≤ most → WorksWithin most origin version t
+first_cells origin version t most is said room front back working parts made =
+    let a = all_cells origin front version working (front_said origin front back (subst (AllByRecursion (IsSaid origin)) parts said)) is made in
+    let b = front_cells front back in
+    let c = ap cells_of_operations parts in
+    omega (arith, a, b, c, room)
 
 pub commands_few : (origin : Name) (zone : Version) (pairs : List Pair) → CanBeDumped origin zone → AllByRecursion (λ (pair : Pair). AllAsked origin pair.0) pairs → HaveFewCells (cell_count zone + cells_of_commands (map (λ (pair : Pair). pair.0) pairs)) origin zone pairs
-commands_few origin zone pairs dumped ask =
-    let is = is_zone origin zone dumped in
-    record {
-      versions = λ v. let a = version_cells origin zone pairs is ask v in let b = counted_all_most v pairs in omega (arith, a, b);
-      working = all_both (HasRoom pairs) (λ (pair : Pair). AllAsked origin pair.0) (WorksWithin (cell_count zone + cost_of_all pairs) origin (version_at origin zone pairs)) (works origin zone pairs is ask) pairs (all_rooms pairs) ask;
-    }
+commands_few origin zone pairs dumped ask = record { versions = versions; between = between; working = all_both (HasRoom pairs) (λ (pair : Pair). AllAsked origin pair.0) Works works pairs (all_rooms pairs) ask }
+  where
+    most : ℕ
+    most = cell_count zone + cells_of_commands (map (λ (pair : Pair). pair.0) pairs)
+
+    is : IsZone origin zone
+    is = is_zone origin zone dumped
+
+    versions : (v : ℕ) → cell_count (version_at origin zone pairs v) ≤ most
+    versions v = let a = version_cells origin zone pairs is ask v in let b = counted_all_most v pairs in omega (arith, a, b)
+
+    between : (v : ℕ) → WorksWithin most origin (version_at origin zone pairs v) (asked_at (v + 1) pairs)
+    between v =
+        let a = version_cells origin zone pairs is ask v in
+        let b = one_version v pairs in
+        let c = counted_all_most (suc v) pairs in
+        let next : v + 1 ≡ suc v = omega arith in
+        subst (λ (n : ℕ). WorksWithin most origin (version_at origin zone pairs v) (asked_at n pairs)) (sym next)
+        (first_cells origin (version_at origin zone pairs v) (asked_at (suc v) pairs) most (version_zone origin zone pairs is ask v) (asked_said origin (suc v) pairs ask) (omega (arith, a, b, c)))
+
+    Works : Pair → Type 0
+    Works pair = WorksWithin most origin (version_at origin zone pairs (base_of pair.1)) (asked_by pair.0)
+
+    works : (pair : Pair) → HasRoom pairs pair → AllAsked origin pair.0 → Works pair
+    works pair room said =
+        let base = base_of pair.1 in
+        let a = version_cells origin zone pairs is ask base in
+        let b = room base (on_base pair) in
+        first_cells origin (version_at origin zone pairs base) (asked_by pair.0) most (version_zone origin zone pairs is ask base) said (omega (arith, a, b))
 
 -- ---- of each worker's commands
 

@@ -1,5 +1,5 @@
 -- The cells of a version after operations and transactions.
-use Rattle.std.proofs.Common.{◌≡◌, ◌∙◌, ℕ, ◌+◌, ◌-◌, ◌≤◌, Bool, true, false, cond, List, [], ◌∷◌, length, Result, Ok, Err, refl, sym, ap, subst, arith}
+use Rattle.std.proofs.Common.{◌≡◌, ◌+◌, ◌≤◌, Bool, true, false, cond, List, [], ◌∷◌, Result, Ok, Err, refl, sym, ap, subst, arith}
 use Rattle.std.specs.List.{AllByRecursion}
 use Rattle.zone_model.specs.Names.{Name}
 use Rattle.zone_model.specs.Records.{Entry}
@@ -14,7 +14,7 @@ use Rattle.job_model.specs.Outcomes.{accepted_or, after}
 use Rattle.report_laws.specs.Changes.{IsSaid, AllSaid}
 use Rattle.report_laws.proofs.WellFormedLemmas.{IsOwned}
 use Rattle.report_laws.proofs.ChangeLemmas.{IsZone, zone_whole}
-use Rattle.need_laws.proofs.ItemLaws.{room, operation_room}
+use Rattle.need_laws.proofs.ItemLaws.{operation_room}
 use Rattle.need_laws.proofs.PlaceLaws.{put_cells}
 
 items_of : (origin : Name) (version : Version) → AllByRecursion (IsOwned origin) version → AllByRecursion IsStorable version

@@ -1,5 +1,5 @@
 -- A tree with one entry put in has no fewer cells, and at most those of a leaf, of a branch and of the item more.
-use Rattle.std.proofs.Common.{◌≡◌, ℕ, zero, suc, ◌+◌, ◌<◌, ◌≤◌, ◌⊎◌, List, length, arith, inl, inr, refl, sym, ◌∙◌, ap, subst}
+use Rattle.std.proofs.Common.{◌≡◌, ℕ, zero, suc, ◌+◌, ◌<◌, ◌≤◌, ◌⊎◌, length, arith, inl, inr, sym, ◌∙◌, ap, subst}
 use Rattle.std.proofs.lemmas.Bool.{cases_lt}
 use Rattle.trie_model.specs.Keys.{at, Entry, IsEntry}
 use Rattle.trie_model.specs.Changes.{Nearest, Grown, Deep}
