@@ -1,0 +1,7 @@
+pub mod TreeLaws
+pub mod CellLaws
+pub mod ItemLaws
+pub mod PlaceLaws
+pub mod StepLaws
+pub mod RunLaws
+pub mod ReadLaws

@@ -1,0 +1,46 @@
+-- What is few enough for a job: the cells of its versions and of what its transactions work on, and the operations of one.
+use Rattle.std.specs.Prelude.{◌≡◌, ℕ, ◌+◌, ◌-◌, ◌≤◌, List, ◌++◌, length, if◌then◌else◌, Ok}
+use Rattle.std.specs.List.{AllByRecursion}
+use Rattle.zone_model.specs.Names.{Name}
+use Rattle.zone_model.specs.Versions.{Version, Operation, all_applied}
+use Rattle.zone_model.specs.Transactions.{Transaction}
+use Rattle.master_file.specs.Rows.{CanBeDumped}
+use Rattle.job_model.specs.Commands.{Command, Job}
+use Rattle.job_model.specs.Sizes.{cell_count}
+use Rattle.job_model.specs.Outcomes.{Outcome, Pair, is_committed, asked_by, asked_at, version_at}
+use Rattle.report_laws.specs.Changes.{AllAsked}
+
+-- each worker's commands ask for operations as scripts say them
+abbrev pub AllWorkersAsk : Name → List (List Command) → Type 0
+AllWorkersAsk origin workers = AllByRecursion (AllByRecursion (AllAsked origin)) workers
+
+-- A job whose zone is one of its origin, with records as master files have them, and whose operations are as scripts say them.
+pub record IsSaidJob (job : Job) : Type 0 where
+  pub zone : CanBeDumped job.origin job.zone
+  pub workers : AllWorkersAsk job.origin job.workers
+
+-- ---- cells
+
+-- the version that a command was on: where it made one, the version before that
+abbrev pub base_of : Outcome → ℕ
+base_of o = if is_committed o.ended then o.version - 1 else o.version
+
+-- What any first operations of a transaction make of a version has at most so many cells. These are the sets that it works on, also where it
+-- is refused or rolled back in the end.
+abbrev pub WorksWithin : ℕ → Name → Version → Transaction → Type 0
+WorksWithin most origin version t = (front back : List Operation) (working : Version) → t.operations ≡ front ++ back
+    → all_applied origin front version ≡ Ok working → cell_count working ≤ most
+
+-- Under these outcomes each version of the zone has at most so many cells; so has each set on the way from one version to the next; and so
+-- has each set that a command's transaction works on from the version that it was on.
+pub record HaveFewCells (most : ℕ) (origin : Name) (zone : Version) (pairs : List Pair) : Type 0 where
+  pub versions : (v : ℕ) → cell_count (version_at origin zone pairs v) ≤ most
+  pub between : (v : ℕ) → WorksWithin most origin (version_at origin zone pairs v) (asked_at (v + 1) pairs)
+  pub working : AllByRecursion (λ pair. WorksWithin most origin (version_at origin zone pairs (base_of pair.1)) (asked_by pair.0)) pairs
+
+-- ---- operations
+
+-- The transaction that made a version has at most so many operations, and so has that of each command.
+pub record HaveFewOperations (most : ℕ) (pairs : List Pair) : Type 0 where
+  pub made : (v : ℕ) → length (asked_at v pairs).operations ≤ most
+  pub asked : AllByRecursion (λ pair. length (asked_by pair.0).operations ≤ most) pairs

@@ -1,0 +1,41 @@
+//! Laws of what a job needs of its index, each as the contract of a function that does nothing: the cells and the operations
+//! that a job is reckoned at are enough for each version of it and for all that its transactions work on.
+#![tactic(auto)]
+
+ghost use Rattle.std.specs.Prelude.{◌≡◌, ◌+◌, ℕ, List, map, Ok};
+ghost use Rattle.std.specs.List.{AllByRecursion};
+ghost use Rattle.zone_model.specs.Names.{Name, IsName};
+ghost use Rattle.zone_model.specs.Versions.{Version};
+ghost use Rattle.master_file.specs.Rows.{CanBeDumped};
+ghost use Rattle.job_model.specs.Commands.{Job};
+ghost use Rattle.job_model.specs.Jobs.{job_of};
+ghost use Rattle.job_model.specs.Sizes.{cell_count};
+ghost use Rattle.job_model.specs.Needs.{cells_of_commands, most_cells, most_operations};
+ghost use Rattle.job_model.specs.Outcomes.{Pair, all_pairs};
+ghost use Rattle.report_laws.specs.Octets.{AllOctets};
+ghost use Rattle.report_laws.specs.Changes.{AllAsked};
+ghost use Rattle.report_laws.specs.Versions.{AreOutcomesOf};
+ghost use Rattle.need_laws.specs.Bounds.{IsSaidJob, HaveFewCells, HaveFewOperations};
+
+/// No version of a job has more cells than the job is reckoned at, and no transaction of it works on more, however it ends. The
+/// commands may have any outcomes: those that are lawful are some of them.
+pub fn jobs_have_few_cells()
+    ensures { (job : Job) → IsSaidJob job → (workers : List (List Pair)) → AreOutcomesOf job workers
+        → HaveFewCells (most_cells job) job.origin job.zone (all_pairs workers) }
+{}
+
+/// So it is of some commands alone, as of those that have ended: they need the cells of the zone, and those of what they add.
+pub fn commands_have_few_cells()
+    ensures { (origin : Name) (zone : Version) (pairs : List Pair) → CanBeDumped origin zone → AllByRecursion (λ pair. AllAsked origin pair.0) pairs
+        → HaveFewCells (cell_count zone + cells_of_commands (map (λ pair. pair.0) pairs)) origin zone pairs }
+{}
+
+/// No transaction of a job has more operations than the longest, and so none that made a version.
+pub fn jobs_have_few_operations()
+    ensures { (job : Job) (workers : List (List Pair)) → AreOutcomesOf job workers → HaveFewOperations (most_operations job) (all_pairs workers) }
+{}
+
+/// A job that octets say is one of which the laws speak.
+pub fn jobs_are_said()
+    ensures { (origin : Name) (bytes : List ℕ) (job : Job) → IsName origin → AllOctets bytes → job_of origin bytes ≡ Ok job → IsSaidJob job }
+{}
