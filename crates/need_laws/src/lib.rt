@@ -2,7 +2,7 @@
 //! that a job is reckoned at are enough for each version of it and for all that its transactions work on.
 #![tactic(auto)]
 
-ghost use Rattle.std.specs.Prelude.{◌≡◌, ◌+◌, ℕ, List, map, Ok};
+ghost use Rattle.std.specs.Prelude.{◌≡◌, ◌+◌, ◌≤◌, ℕ, List, length, map, Some, Ok};
 ghost use Rattle.std.specs.List.{AllByRecursion};
 ghost use Rattle.zone_model.specs.Names.{Name, IsName};
 ghost use Rattle.zone_model.specs.Versions.{Version};
@@ -11,7 +11,9 @@ ghost use Rattle.job_model.specs.Commands.{Job};
 ghost use Rattle.job_model.specs.Jobs.{job_of};
 ghost use Rattle.job_model.specs.Sizes.{cell_count};
 ghost use Rattle.job_model.specs.Needs.{cells_of_commands, most_cells, most_operations};
-ghost use Rattle.job_model.specs.Outcomes.{Pair, all_pairs};
+ghost use Rattle.job_model.specs.Outcomes.{Pair, all_pairs, passes_for};
+ghost use Rattle.chunk_usage.specs.Capacity.{IsLeast};
+ghost use Rattle.shared_index.specs.Openings.{room_in};
 ghost use Rattle.report_laws.specs.Octets.{AllOctets};
 ghost use Rattle.report_laws.specs.Changes.{AllAsked};
 ghost use Rattle.report_laws.specs.Versions.{AreOutcomesOf};
@@ -38,4 +40,10 @@ pub fn jobs_have_few_operations()
 /// A job that octets say is one of which the laws speak.
 pub fn jobs_are_said()
     ensures { (origin : Name) (bytes : List ℕ) (job : Job) → IsName origin → AllOctets bytes → job_of origin bytes ≡ Ok job → IsSaidJob job }
+{}
+
+/// A job's zone has room in as many chunks as the job needs, and in more.
+pub fn zones_have_room()
+    ensures { (job : Job) (least chunks : ℕ) → IsLeast (passes_for (length job.workers)) (most_cells job) (most_operations job) (Some least) → least ≤ chunks
+        → cell_count job.zone ≤ room_in chunks }
 {}
