@@ -71,8 +71,8 @@ int main(int argc, char **argv) {
     while (fgets(line, sizeof line, stdin) != NULL) {
         line[strcspn(line, "\n")] = 0;
         if (line[0] != '>') {
-            char word[512] = "+";
-            strncat(word, line, 256);
+            char word[260];
+            snprintf(word, sizeof word, "+%.255s", line);
             change(txn, db, word);
             continue;
         }

@@ -49,7 +49,7 @@ fn open_along<C: CellWrite>(
     marks.pass(listing);
     let top = cells.cell(root);
     let mut walk = Walk::new();
-    if last_sparse(cells, usage, trail, top, 0, path, &mut walk) {
+    if last_sparse(cells, usage, trail, top, path, &mut walk) {
         marks.insert(listing);
         usage.note(path);
         reach(cells, usage, root, trail)?;
@@ -76,7 +76,7 @@ fn move_along<C: CellWrite>(
     for _ in 0..MOST_MOVES {
         let top = cells.cell(root);
         let mut walk = Walk::new();
-        if !last_sparse(cells, usage, trail, top, 0, path, &mut walk) {
+        if !last_sparse(cells, usage, trail, top, path, &mut walk) {
             return Ok(());
         }
         usage.note(path);

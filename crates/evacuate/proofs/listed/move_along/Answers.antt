@@ -8,8 +8,8 @@ use Rattle.evacuate.proofs.listed.move_along.Goals as goal
 pub cell-top-requires : goal.cell-top-requires
 cell-top-requires g c = let h = stood_after c.loop.invariant.rearranged c.requires.stood in record { there = (_, h.stood.rooted.top) }
 
-pub last_sparse-requires-clause-top : goal.last_sparse-requires-clause-top
-last_sparse-requires-clause-top g c =
+pub last_sparse-requires : goal.last_sparse-requires
+last_sparse-requires g c =
     let h = stood_after c.loop.invariant.rearranged c.requires.stood in (h.t, node_top h.stood c.cell-top.ensures.same c.cell-top.ensures.value)
 
 pub move_found-requires-clause-found : goal.move_found-requires-clause-found

@@ -1,8 +1,8 @@
 use Rattle.std.proofs.Common.{◌≡◌, ◌-◌, ◌<◌, ℕ, slice_index}
-use Rattle.evacuate.proofs.path_walk.+last_sparse.Given as goal
+use Rattle.evacuate.proofs.path_walk.+last_below.Given as goal
 
-abbrev pub decreases-last_sparse : goal.decreases-last_sparse
-decreases-last_sparse g l = 504 - l.low
+abbrev pub decreases-last_below : goal.decreases-last_below
+decreases-last_below g l = 504 - l.low
 
 abbrev pub invariant-loop-i : goal.invariant-loop-i
 invariant-loop-i g l =
