@@ -55,7 +55,7 @@ last_operations s t entry history b = b.commits entry (subst (λ (hs : List (Com
 pub each_on : (u n : Ledger) (s t : AllSeen) {P Q : ℕ → ℕ → Type 0} → n.passes ≡ u.passes → length n.given ≡ length u.given → t.opening ≡ s.opening → StartsWith t.history s.history → ((c o : ℕ) → BoundsHistory c o t → P c o → Q c o) → EachRoomy u s P → EachRoomy n t Q
 each_on u n s t passes wide opening history weaker each c o some b roomy =
     weaker c o b (each c o some (bounds_part s t opening history b)
-        (subst (λ (p : ℕ). is_roomy p c o (length u.given)) passes (subst (λ (k : ℕ). is_roomy n.passes c o k) wide roomy)))
+    (subst (λ (p : ℕ). is_roomy p c o (length u.given)) passes (subst (λ (k : ℕ). is_roomy n.passes c o k) wide roomy)))
 
 pub rest_same : (u n : Ledger) (c : ℕ) → n.passes ≡ u.passes → most_at_rest n c ≡ most_at_rest u c
 rest_same u n c passes = ap (λ (p : ℕ). (p + 1) * most_met c + 2) passes

@@ -128,13 +128,13 @@ alike_room {first} {d} e room =
 where_on : (d e : Draft) (so also : Type 0) → e.seat.place.me.0.seen ≡ d.seat.place.me.0.seen → e.log.operations ≡ d.log.operations → e.usage.passes ≡ d.usage.passes → length e.usage.given ≡ length d.usage.given → (so → also) → WhereRoomy d so → WhereRoomy e also
 where_on d e so also seen log passes wide then is c o b fits roomy =
     then (is c o
-        (record {
-          some = b.some;
-          history = subst (BoundsHistory c o) seen b.history;
-          operations = subst (λ (os : List Operation). length os ≤ o) log b.operations;
-        })
-        (subst (λ (es : List Entry). cells es ≤ c) (ap (λ (s : AllSeen). applied (version_seen s) e.log.operations) seen ∙ ap (applied (version_seen d.seat.place.me.0.seen)) log) fits)
-        (subst (λ (p : ℕ). is_roomy p c o (length d.usage.given)) (sym e.agrees.passes ∙ passes ∙ d.agrees.passes) (subst (λ (k : ℕ). is_roomy e.seat.passes c o k) wide roomy)))
+    (record {
+      some = b.some;
+      history = subst (BoundsHistory c o) seen b.history;
+      operations = subst (λ (os : List Operation). length os ≤ o) log b.operations;
+    })
+    (subst (λ (es : List Entry). cells es ≤ c) (ap (λ (s : AllSeen). applied (version_seen s) e.log.operations) seen ∙ ap (applied (version_seen d.seat.place.me.0.seen)) log) fits)
+    (subst (λ (p : ℕ). is_roomy p c o (length d.usage.given)) (sym e.agrees.passes ∙ passes ∙ d.agrees.passes) (subst (λ (k : ℕ). is_roomy e.seat.passes c o k) wide roomy)))
 
 pub alike_where : {first d : Draft} (so also : Type 0) → IsAlike first d → (so → also) → WhereRoomy d so → WhereRoomy first also
 alike_where {first} {d} so also e then is =
@@ -169,7 +169,7 @@ pub undone_rests : (cells : Cells) (u n : Ledger) (count : ℕ) (s t : AllSeen) 
 undone_rests cells u n count s t after agrees opening history rows =
     subst (λ (l : Ledger). RestsRoomy l t) (sym after)
     (rests_of cells (restored u) count t (subst (λ (l : Ledger). Agrees cells l count) after agrees) refl
-        (each_on u (freed (restored u)) s t refl (freed_chunks (restored u)) opening (same_part s t history) (λ c o b few. few) rows))
+    (each_on u (freed (restored u)) s t refl (freed_chunks (restored u)) opening (same_part s t history) (λ c o b few. few) rows))
 
 pub published_rests : (cells_now : Cells) (d : Draft) (n : Ledger) (count version : ℕ) (versions : List ℕ) (t : AllSeen) (entry : Commit (List Operation)) → IsLedger d.usage → Works d → n ≡ freed (narrowed (frozen d.usage version) versions) → Agrees cells_now n count
     → t.opening ≡ d.seat.place.me.0.seen.opening → t.history ≡ d.seat.place.me.0.seen.history ++ entry ∷ [] → entry.change ≡ d.log.operations
@@ -187,7 +187,7 @@ published_rests cells_now d n count version versions t entry is works after agre
         let met = met_few d.usage (cells (working_set d)) is (thin c o bounds fits (subst (λ (p : ℕ). is_roomy p c o (length d.usage.given)) d.agrees.passes r)) (live_few (HasCell (cells_with d.usage d.seat.place.me.0.turn)) (is_used d.usage) d.usage d.root (working_set d) is works.stands) in
         let size = set_size d.usage.live in
         rows_narrowed c versions (d.usage.rows ++ record { version = version; chunks = row_of d.usage.live } ∷ [])
-            (All-push (λ (x : Row). row_size x ≤ most_met c) d.usage.rows (record { version = version; chunks = row_of d.usage.live }) (rows c o some before r) (omega arith))
+        (All-push (λ (x : Row). row_size x ≤ most_met c) d.usage.rows (record { version = version; chunks = row_of d.usage.live }) (rows c o some before r) (omega arith))
 
 -- version 0 was written to few chunks
 pub first_rests : (u n : Ledger) (es : List Entry) (t : AllSeen) → IsLedger u → u.rows ≡ [] → n ≡ frozen u 0 → spent u ≤ cells es → first_version t ≡ es → RestsRoomy n t

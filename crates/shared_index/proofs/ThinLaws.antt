@@ -82,7 +82,7 @@ each_met u is k = elim (cases_lt 0 (slice_index u.live k)) [
         let counts : nat_lt 0 (slice_index u.live k) ≡ true = grind (arith, nat_tests) in
         let shut_off : not (is_open u.open_chunk k) ≡ true = ap not shut in
         both_true (is_sparse u k) (nat_lt 0 (slice_index u.live k))
-            (both_true (is_given u k) (is_low (slice_index u.live k) && not (is_open u.open_chunk k)) (is.counts.in_given k some) (both_true (is_low (slice_index u.live k)) (not (is_open u.open_chunk k)) low shut_off)) counts
+        (both_true (is_given u k) (is_low (slice_index u.live k) && not (is_open u.open_chunk k)) (is.counts.in_given k some) (both_true (is_low (slice_index u.live k)) (not (is_open u.open_chunk k)) low shut_off)) counts
 
     met : 0 < slice_index u.live k → some_live (live_of u) k ≤ 1 → 257 * some_live (live_of u) k ≤ (257 * open_one u.open_chunk k + 257 * thin_one u k) + live_of u k
     met some one = elim (cases_Bool (is_open u.open_chunk k)) [
@@ -127,7 +127,7 @@ pub met_few : (u : Ledger) (c : ℕ) → IsLedger u → FewThin 8 u → row (liv
 met_few u c is few_thin all =
     let n = length u.given in
     let a = row_some u.live (some_live (live_of u)) 0 (λ k l. let e : 0 + k ≡ k = omega arith in let f = ap (some_live (live_of u)) e in
-        let s = set_counts (nat_lt 0 (slice_index u.live k)) (grind (arith, nat_tests)) in omega arith) in
+    let s = set_counts (nat_lt 0 (slice_index u.live k)) (grind (arith, nat_tests)) in omega arith) in
     let b = ap (λ (m : ℕ). row (some_live (live_of u)) 0 m) is.counted in
     let d = row_le (λ k. 257 * some_live (live_of u) k) (λ k. (257 * open_one u.open_chunk k + 257 * thin_one u k) + live_of u k) (each_met u is) 0 n in
     let e = row_add (λ k. 257 * open_one u.open_chunk k + 257 * thin_one u k) (live_of u) 0 n in
