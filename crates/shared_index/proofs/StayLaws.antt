@@ -1,5 +1,5 @@
 -- A table has as many chunks after a call as before it.
-use Rattle.std.proofs.Common.{◌≡◌, ◌×◌, ◌∙◌, ⊎_elim, ap, length}
+use Rattle.std.proofs.Common.{◌≡◌, ◌∙◌, ⊎_elim, ap, length}
 use Rattle.shared_index.specs.declared.desk.Draft.{Draft}
 use Rattle.shared_index.specs.Rooms.{Fails, MakesRoom, SparesReserve}
 use Rattle.shared_index.proofs.RoomyLaws.{keeps_made}
