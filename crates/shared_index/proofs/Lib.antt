@@ -35,3 +35,4 @@ pub mod ThinLaws
 pub mod ShortLaws
 pub mod CapacityLaws
 pub mod RoomyLaws
+pub mod StayLaws

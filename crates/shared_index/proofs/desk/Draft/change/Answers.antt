@@ -4,7 +4,6 @@ use Rattle.shared_index.specs.Rooms.{Fails}
 use Rattle.shared_index.proofs.GoesLaws.{goes_further}
 use Rattle.shared_index.proofs.RoomyLaws.{cramped_room, keeps_grown, keeps_made, keeps_then, no_fewer}
 use Rattle.shared_index.proofs.desk.Draft.change.Given.{Over}
-use Rattle.shared_index.proofs.desk.Draft.change.Goals.{in_default-via-in-Err+in-Refused-1, in_default-via-in-Ok-1}
 use Rattle.shared_index.proofs.desk.Draft.change.Goals as goal
 
 -- the first try found no room
@@ -41,4 +40,4 @@ pub returns-in-Err-Full-clause-cramped : goal.returns-in-Err-Full-clause-cramped
 returns-in-Err-Full-clause-cramped g c room f e = cramped_first g c room
 
 pub returns-in_default-clause-cause : goal.returns-in_default-clause-cause
-returns-in_default-clause-cause g c f kept e same = absurd (elim c.in_default-1.branch [ in_default-via-in-Err+in-Refused-1 w ↦ search rules | in_default-via-in-Ok-1 w ↦ search rules ])
+returns-in_default-clause-cause g c f kept e same = absurd (search rules)
