@@ -1,11 +1,12 @@
 #!/usr/bin/env bash
-# Tells what commits of the shared index take at names drawn at random: builds bench/commits.rattle in a copy of the crates that it needs,
+# Prints a table of what commits of the shared index take at names drawn at random: builds bench/commits.rattle in a copy of the crates that it needs,
 # which takes some minutes the first time, and runs it on 10,000, 100,000 and 500,000 names like `hq3k9x2`. KIND is `exchange` (one item by a
 # `write`), `four` (two names out, and the two before in again), `below` (a name put in below another, and the one before taken out), `update`
 # (one item by an `update`) or `thin` (nine names of ten taken out by one `write`). Each is done with nobody beside it, and then while a
 # snapshot of the first version is held. Nanoseconds are of one run; instructions (valgrind's callgrind) are the difference of 3,000 and 1,000
 # transactions. Where LMDB is installed (liblmdb-dev, and a C compiler), bench/lmdb.c does the same by it, without waiting for the disk.
-# Usage: bench/commits.sh [PROGRAM], one that was built before. Changes nothing but files in a temporary folder.
+# Usage: bench/commits.sh [PROGRAM [NAMES..]] >bench/results/commits.tsv: a program that was built before, and how many names. Changes nothing
+# but files in a temporary folder.
 set -eu
 here=$(cd "$(dirname "$0")" && pwd)
 folder=$(mktemp -d)
@@ -184,28 +185,28 @@ counted() {
     rm -rf "$folder/db" && mkdir "$folder/db"
     valgrind --tool=callgrind --callgrind-out-file=/dev/null "${@:4}" <"$folder/input" 2>&1 >/dev/null | sed -n 's/.*Collected : //p'
 }
-# NAMES KIND HELD, and a name with what runs it, and the program with its words
+# NAMES KIND HELD, and a name with what runs it, and the program with its words: a line of the table
 told() {
     local names=$1 kind=$2 held=$3 who=$4 middle mean most count
     input "$names" 20000 "$kind" >"$folder/input"
     read -r middle mean most count <<<"$("$5" $held <"$folder/input")"
     if [ -z "$middle" ]; then
-        printf '%s: %s names, %s%s: no room\n' "$who" "$names" "$kind" "${held:+, a snapshot held}"
-        return
+        printf '%s\t%s\t%s\t%s\tno room\n' "$who" "$names" "$kind" "${held:-none}"
+    elif [ "$kind" = thin ]; then
+        printf '%s\t%s\t%s\t%s\t%s\t-\t-\t-\n' "$who" "$names" "$kind" "${held:-none}" $((middle / (names / 10 * 9)))
+    else
+        printf '%s\t%s\t%s\t%s\t%s\t%s\t%s\t%s\n' "$who" "$names" "$kind" "${held:-none}" "$middle" "$mean" "$most" \
+            $((($(counted "$names" 3000 "$kind" "${@:6}" $held) - $(counted "$names" 1000 "$kind" "${@:6}" $held)) / 2000))
     fi
-    if [ "$kind" = thin ]; then
-        printf '%s: %s names, nine of ten taken out%s: %s ns for each\n' "$who" "$names" "${held:+, a snapshot held}" $((middle / (names / 10 * 9)))
-        return
-    fi
-    printf '%s: %s names, %s%s, %s transactions: middle %s ns, mean %s ns, slowest %s ns; %s instructions\n' \
-        "$who" "$names" "$kind" "${held:+, a snapshot held}" "$count" "$middle" "$mean" "$most" \
-        $((($(counted "$names" 3000 "$kind" "${@:6}" $held) - $(counted "$names" 1000 "$kind" "${@:6}" $held)) / 2000))
 }
 lmdb=
 if printf '#include <lmdb.h>\n' | cc -E - >/dev/null 2>&1; then
     cc -O2 -o "$folder/lmdb" "$here/lmdb.c" -llmdb && lmdb=yes
 fi
-for names in 10000 100000 500000; do
+# (of `thin`, nanoseconds for each name that is taken out)
+printf 'index\tnames\tkind\tsnapshot\tmiddle ns\tmean ns\tslowest ns\tinstructions\n'
+[ $# -gt 1 ] && shift || set -- 10000 100000 500000
+for names in "$@"; do
     for kind in exchange four below update thin; do
         for held in '' held; do
             told "$names" "$kind" "$held" qpzone ours "$program"

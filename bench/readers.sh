@@ -1,8 +1,9 @@
 #!/usr/bin/env bash
-# Counts how many items threads read of one shared index in a second, without and with a writer beside them, and what a query
-# costs: builds bench/readers.rattle in a copy of the crates that it needs, which takes some minutes the first time. A run's time
-# is that of the quickest of five, less that of the quickest that reads nothing. Usage: bench/readers.sh [GETS [PROGRAM]], where 0
-# gets leave the seconds out, and PROGRAM is one that was built before. Changes nothing but files in a temporary folder.
+# Counts how many items threads read of one shared index in a second, without and with a writer beside them, at names drawn from
+# all, and prints a table of it; and what a query costs. Builds bench/readers.rattle in a copy of the crates that it needs, which takes some
+# minutes the first time. A run's time is that of the quickest of five, less that of the quickest that reads nothing.
+# Usage: bench/readers.sh [GETS [PROGRAM]] >bench/results/readers.tsv, where 0 gets leave the seconds out, and PROGRAM is one that was
+# built before. Changes nothing but files in a temporary folder.
 set -eu
 here=$(cd "$(dirname "$0")" && pwd)
 gets=${1:-20000000}
@@ -116,23 +117,24 @@ took() {
     done
     echo "$best $least"
 }
-for writes in 0 1; do
-    [ "$gets" -gt 0 ] || break
-    for readers in 1 2 4; do
-        read -r idle idly <<<"$(took "$readers" 0 100 0)"
-        read -r busy used <<<"$(took "$readers" "$gets" 100 "$writes")"
-        printf '%s readers, %s: %s gets a second, ' "$readers" "$([ "$writes" = 1 ] && echo 'one writes' || echo 'nobody writes')" \
-            $((readers * gets * 1000 / ((busy - idle) / 1000000 + 1)))
-        # (the writer's time is among what the processors spent)
-        [ "$writes" = 1 ] || printf '%s ns of a processor for each, ' $(((used - idly) * 1000000 / (readers * gets)))
-        cat "$folder/told"
+printf 'names\treaders\twriters\tgets a second\tcommits\n'
+for names in 100000 500000; do
+    for writes in 0 1; do
+        [ "$gets" -gt 0 ] || break
+        for readers in 1 2 4; do
+            read -r idle _ <<<"$(took "$readers" 0 100 "$names" 0)"
+            read -r busy _ <<<"$(took "$readers" "$gets" 100 "$names" "$writes")"
+            read -r _ _ commits _ <"$folder/told"
+            printf '%s\t%s\t%s\t%s\t%s\n' "$names" "$readers" "$writes" \
+                $((readers * gets * 1000 / ((busy - idle) / 1000000 + 1))) "$commits"
+        done
     done
 done
 
 counted() {
     valgrind --tool=callgrind --callgrind-out-file=/dev/null "$program" "$@" 2>&1 >/dev/null | sed -n 's/.*Collected : //p'
 }
-nothing=$(counted 1 0 100 0)
+nothing=$(counted 1 0 100 100000 0)
 for each in 1 100; do
-    printf 'a get, %s in a query: %s instructions\n' "$each" $((($(counted 1 10000 "$each" 0) - nothing) / 10000))
+    printf 'a get, %s in a query: %s instructions\n' "$each" $((($(counted 1 10000 "$each" 100000 0) - nothing) / 10000)) >&2
 done
