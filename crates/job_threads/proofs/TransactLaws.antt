@@ -38,7 +38,7 @@ use Rattle.zone_edit.specs.Blocks.{Executes, IsFullAt}
 use Rattle.zone_edit.proofs.ApplyLaws.{next_applied}
 use Rattle.chunk_usage.specs.Keeping.{kept_versions}
 use Rattle.zone_edit.specs.declared.applying.Halt.TheVariants as halts
-use Rattle.job_threads.specs.Histories.{Setup, BeginsAt, Commit, Entries, IsLawful, StandsAs, AreVersions, CoversNamings, index_at, judged_by}
+use Rattle.job_threads.specs.Histories.{Setup, BeginsAt, Commit, Entries, IsLawful, StandsAs, AreVersions, Deeds, Explains, index_at, judged_by}
 use Rattle.job_threads.specs.Commands.{Accepts, Commits, OpensAt}
 use Rattle.job_threads.proofs.HistoryLaws.{begins_same, begins_more, last_stands, opened_same, part_more}
 use Rattle.job_threads.proofs.JobLaws.{here, there}
@@ -207,10 +207,10 @@ module _ (s : Setup) (asked : Transaction) (old : Known) (d e : Draft) (b : Begi
 
     abbrev RefusedBlock : Ending → Cause → Type 0
     RefusedBlock ends cause = (new.pass ≡ old.pass)
-        × ((set : ℕ → Version) (shown : List ℕ) → AreVersions s new.seen.history set → CoversNamings shown new.seen → Causes (judged_by s set shown) asked ends (length new.seen.history) cause)
+        × ((set : ℕ → Version) (deeds : Deeds) → AreVersions s new.seen.history set → Explains deeds new.seen → Causes (judged_by s set deeds) asked ends (length new.seen.history) cause)
 
     pub rule_broken : (ends : Ending) (refusal : Refusal) → ((version : Version) → WorksOn d version → Executes s.origin asked (Err (halts.Refused refusal)) version e) → RefusedBlock ends (Rule refusal)
-    rule_broken ends refusal becomes = (back_pass, λ set shown are covers. becomes (set (length new.seen.history)) (works_set set (length new.seen.history) refl are))
+    rule_broken ends refusal becomes = (back_pass, λ set deeds are explains. becomes (set (length new.seen.history)) (works_set set (length new.seen.history) refl are))
 
     -- ---- want of memory
 
@@ -228,7 +228,7 @@ module _ (s : Setup) (asked : Transaction) (old : Known) (d e : Draft) (b : Begi
     pub spent_block : (ends : Ending) → ends ≡ ending.Commit → e.seat.version ≡ last_version → ((version : Version) → WorksOn d version → Executes s.origin asked (Ok tt) version e) → RefusedBlock ends Spent
     spent_block ends is spent becomes = (
       back_pass,
-      λ set shown are covers.
+      λ set deeds are explains.
           let made = becomes (set (length new.seen.history)) (works_set set (length new.seen.history) refl are) in
           (ap (λ (v : Known). length v.seen.history) back ∙ sym e.seat.version_is ∙ spent, is, ok_of (set (length new.seen.history)) (whole s.origin asked (set (length new.seen.history))) made.0 made.1),
     )
@@ -246,13 +246,13 @@ module _ (s : Setup) (asked : Transaction) (old : Known) (d e : Draft) (b : Begi
         ∙ ap (λ (es : Entries). cells es + fulls.cells_kept e.seat.place.me.0 numbers) same ∙ ap (λ (k : ℕ). cell_count (set n) + k) (kept_cells set are numbers low.1)
 
     pub full_block : (ends : Ending) (operation : ℕ) (kept : Versions) → versions_in kept ≡ kept_versions e.usage → s.chunks ≡ length e.usage.given → s.passes ≡ e.seat.passes → ((version : Version) → WorksOn d version → Executes s.origin asked (Err (halts.Full operation)) version e) → RefusedBlock ends (Full operation (versions_in kept))
-    full_block ends operation kept told chunks passes becomes = (back_pass, λ set shown are covers. cause set shown are covers)
+    full_block ends operation kept told chunks passes becomes = (back_pass, λ set deeds are explains. cause set deeds are explains)
       where
         base_is : e.seat.version ≡ length new.seen.history
         base_is = e.seat.version_is ∙ sym (ap (λ (v : Known). length v.seen.history) back)
 
-        cause : (set : ℕ → Version) (shown : List ℕ) → AreVersions s new.seen.history set → CoversNamings shown new.seen → FullCause (judged_by s set shown) asked (length new.seen.history) operation (versions_in kept)
-        cause set shown are covers =
+        cause : (set : ℕ → Version) (deeds : Deeds) → AreVersions s new.seen.history set → Explains deeds new.seen → FullCause (judged_by s set deeds) asked (length new.seen.history) operation (versions_in kept)
+        cause set deeds are explains =
             let stopped = becomes (set (length new.seen.history)) (works_set set (length new.seen.history) refl are) in
             let at = subst (IsFullAt e s.origin asked.operations (set (length new.seen.history)) operation) (sym told) stopped.1 in
             let last : versions_in kept ≡ at.full.ends.0 ++ length new.seen.history ∷ [] = at.full.ends.1 ∙ ap (λ (n : ℕ). at.full.ends.0 ++ n ∷ []) base_is in

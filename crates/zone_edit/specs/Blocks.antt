@@ -1,5 +1,5 @@
 -- What operations make of a transaction whose working set is a version of a zone.
-use Rattle.std.specs.Prelude.{◌≡◌, ℕ, ◌+◌, Bool, true, List, ◌∷◌, ◌++◌, length, Result, Ok, Err}
+use Rattle.std.specs.Prelude.{◌≡◌, ℕ, ◌+◌, ◌-◌, Bool, true, List, ◌∷◌, ◌++◌, length, Result, Ok, Err}
 use Rattle.zone_model.specs.Names.{Name}
 use Rattle.zone_model.specs.Records.{Entry}
 use Rattle.zone_model.specs.declared.Refusal.{Refusal}
@@ -54,6 +54,14 @@ AppliesAll origin operations (Ok u) version new = (next : Version) × (all_appli
 AppliesAll origin operations (Err halts.Memory) version new = IsWanting new origin operations version
 AppliesAll origin operations (Err (halts.Refused refusal)) version new = all_applied origin operations version ≡ Err refusal
 AppliesAll origin operations (Err (halts.Full operation)) version new = IsFullAt new origin operations version operation (kept_versions new.usage)
+
+-- How many operations of the index these are at most: one for each that is applied, and where there is no room for one, for each in
+-- front of it.
+abbrev pub most_done : List Operation → Result (Unit {0}) Halt → ℕ
+most_done operations (Ok u) = length operations
+most_done operations (Err halts.Memory) = length operations
+most_done operations (Err (halts.Refused refusal)) = length operations
+most_done operations (Err (halts.Full operation)) = operation - 1
 
 -- the version stays, and it is told whether it meets a prerequisite, and whether all
 abbrev pub Meets : Prerequisite → Bool → Version → Draft → Type 0
