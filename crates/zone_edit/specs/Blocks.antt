@@ -1,5 +1,5 @@
 -- What operations make of a transaction whose working set is a version of a zone.
-use Rattle.std.specs.Prelude.{◌≡◌, ℕ, ◌+◌, ◌-◌, Bool, true, List, ◌∷◌, ◌++◌, length, Result, Ok, Err}
+use Rattle.std.specs.Prelude.{◌≡◌, ℕ, ◌+◌, ◌-◌, Bool, true, List, ◌∷◌, ◌++◌, length, Option, Result, Ok, Err}
 use Rattle.zone_model.specs.Names.{Name}
 use Rattle.zone_model.specs.Records.{Entry}
 use Rattle.zone_model.specs.declared.Refusal.{Refusal}
@@ -7,7 +7,7 @@ use Rattle.zone_model.specs.Versions.{Version, Operation, owned, apply, all_appl
 use Rattle.zone_model.specs.Transactions.{Prerequisite, Transaction, is_met_by, all_met, whole}
 use Rattle.shared_index.specs.declared.desk.Draft.{Draft}
 use Rattle.chunk_usage.specs.Keeping.{kept_versions}
-use Rattle.zone_edit.specs.Stores.{WorksOn, IsFullOn}
+use Rattle.zone_edit.specs.Stores.{WorksOn, IsFullOn, Edits}
 use Rattle.zone_edit.specs.declared.applying.Stopped.{Stopped}
 use Rattle.zone_edit.specs.declared.applying.Stopped.TheVariants as stops
 use Rattle.zone_edit.specs.declared.applying.Halt.{Halt}
@@ -77,3 +77,7 @@ Executes origin asked (Err halts.Memory) version new = (all_met version asked.ne
 Executes origin asked (Err (halts.Refused refusal)) version new = whole origin asked version ≡ Err refusal
 Executes origin asked (Err (halts.Full operation)) version new =
     (all_met version asked.needs ≡ true) × IsFullAt new origin asked.operations version operation (kept_versions new.usage)
+
+-- a draft became another one by a transaction
+abbrev pub Edited : Name → Transaction → Result (Unit {0}) Halt → Option Draft → Option Draft → Type 0
+Edited origin asked result old new = Edits (most_done asked.operations result) (Executes origin asked result) old new

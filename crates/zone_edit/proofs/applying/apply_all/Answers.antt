@@ -38,7 +38,7 @@ loop-index-preserved g c =
     record {
       same_reference = (c.apply.ensures.same_reference.0 ∙ c.loop-index.invariant.same_reference.0, c.apply.ensures.same_reference.1 ∙ c.loop-index.invariant.same_reference.1);
       place = c.apply.ensures.place ∙ c.loop-index.invariant.place;
-      works = edits_some 1 (Applies c.args.origin.now (operation_view c.index-operations-index.result) (Ok tt)) c.loop-index.transaction.locked.now.draft c.apply.new.transaction.locked.now.draft c.loop-index.invariant.works (λ version e a. record { version = a.0; on = a.2 }) c.in-Ok.ensures.applies;
+      works = edits_some (Applies c.args.origin.now (operation_view c.index-operations-index.result) (Ok tt)) c.loop-index.transaction.locked.now.draft c.apply.new.transaction.locked.now.draft c.loop-index.invariant.works (λ version e a. record { version = a.0; on = a.2 }) c.in-Ok.ensures.applies;
       so_far = edits_on (length (take i ops)) 1 (length (take (i + 1) ops)) (SoFar c.args.origin.now c.args.operations.now c.loop-index.index) (Applies c.args.origin.now (operation_view c.index-operations-index.result) (Ok tt)) (SoFar c.args.origin.now c.args.operations.now (c.loop-index.index + 1))
           c.args.transaction.now.locked.now.draft c.loop-index.transaction.locked.now.draft c.apply.new.transaction.locked.now.draft one_more
           (λ version e f x. (
