@@ -169,17 +169,17 @@ wants_as s asked old new new' r wants same = subst (λ (v : Known). OnErr r (Blo
 
 -- ---- a transaction that was dropped
 
-pub if_there : {P : Type 0} {most : ℕ} (told : Version → Draft → Type 0) (first second : Option Draft) → Edits most told first second → IfSome second (λ _. P) → P
-if_there told (Some d) (Some e) edits p = p
-if_there told (Some d) None edits p = absurd edits
-if_there told None (Some e) edits p = absurd edits
-if_there told None None edits p = absurd edits
+pub if_there : {P : Type 0} (most : ℕ) (told : Version → Draft → Type 0) (first second : Option Draft) → Edits most told first second → IfSome second (λ _. P) → P
+if_there most told (Some d) (Some e) edits p = p
+if_there most told (Some d) None edits p = absurd edits
+if_there most told None (Some e) edits p = absurd edits
+if_there most told None None edits p = absurd edits
 
-pub back_there : {most : ℕ} (told : Version → Draft → Type 0) (first second : Option Draft) (seat : Option Seat) → Edits most told first second → IfSome second (λ d. IsBack d.seat.place.me.0 seat) → IsSome seat
-back_there told (Some d) (Some e) seat edits back = back.0
-back_there told (Some d) None seat edits back = absurd edits
-back_there told None (Some e) seat edits back = absurd edits
-back_there told None None seat edits back = absurd edits
+pub back_there : (most : ℕ) (told : Version → Draft → Type 0) (first second : Option Draft) (seat : Option Seat) → Edits most told first second → IfSome second (λ d. IsBack d.seat.place.me.0 seat) → IsSome seat
+back_there most told (Some d) (Some e) seat edits back = back.0
+back_there most told (Some d) None seat edits back = absurd edits
+back_there most told None (Some e) seat edits back = absurd edits
+back_there most told None None seat edits back = absurd edits
 
 -- ---- what calls ask of a transaction
 
@@ -196,7 +196,7 @@ module _ (old : Known) (first : Option Draft) (begins : IsSomeAnd first (Begins 
 
   module _ (origin : Name) (asked : Transaction) (second : Option Draft) (edits : Edited origin asked (Ok tt) first second) where
     works_still : IsSomeAnd second WorksOnSome
-    works_still = edits_some (Executes origin asked (Ok tt)) first second begun_works (λ version e a. record { version = a.0; on = a.2 }) edits
+    works_still = edits_some (most_done asked.operations (Ok tt)) (Executes origin asked (Ok tt)) first second begun_works (λ version e a. record { version = a.0; on = a.2 }) edits
 
     pub after_works : IsSomeAnd second Works
     after_works = some_weaker WorksOnSome Works second (λ d w. w.on.works) works_still

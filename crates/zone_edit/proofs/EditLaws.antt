@@ -15,7 +15,7 @@ use Rattle.shared_index.specs.declared.meaning.Operation.{Operation}
 use Rattle.shared_index.specs.declared.meaning.Operation.TheVariants as operation
 use Rattle.shared_index.specs.Operations.{operated, applied, with_entry, without}
 use Rattle.shared_index.specs.Drafts.{Operates, IsFull, IsSame, Between, base_of, working_set}
-use Rattle.shared_index.specs.Bounds.{BoundsDraft, IsCramped}
+use Rattle.shared_index.specs.Bounds.{IsCramped}
 use Rattle.shared_index.specs.Capacity.{BoundsHistory}
 use Rattle.shared_index.specs.Rooms.{SparesReserve}
 use Rattle.shared_index.specs.Fulls.{CausedFrom, cells_kept}
@@ -170,18 +170,18 @@ edits_on m n most A B C a b c le h = between_then (EditsOne m A) (EditsOne n B) 
 })
 
 -- a working set is there still
-pub is_there : {most : ℕ} (A : Version → Draft → Type 0) (old new : Option Draft) → Edits most A old new → IsSome new
-is_there A (Some d) (Some e) r = refl
-is_there A (Some d) None r = absurd r
-is_there A None (Some e) r = absurd r
-is_there A None None r = absurd r
+pub is_there : (most : ℕ) (A : Version → Draft → Type 0) (old new : Option Draft) → Edits most A old new → IsSome new
+is_there most A (Some d) (Some e) r = refl
+is_there most A (Some d) None r = absurd r
+is_there most A None (Some e) r = absurd r
+is_there most A None None r = absurd r
 
 -- some version is worked on still
-pub edits_some : {most : ℕ} (A : Version → Draft → Type 0) (old new : Option Draft) → IsSomeAnd old WorksOnSome → ((version : Version) (e : Draft) → A version e → WorksOnSome e) → Edits most A old new → IsSomeAnd new WorksOnSome
-edits_some A (Some d) (Some e) p f r = f p.version e (r.becomes p.version p.on)
-edits_some A (Some d) None p f r = absurd r
-edits_some A None (Some e) p f r = absurd p
-edits_some A None None p f r = p
+pub edits_some : (most : ℕ) (A : Version → Draft → Type 0) (old new : Option Draft) → IsSomeAnd old WorksOnSome → ((version : Version) (e : Draft) → A version e → WorksOnSome e) → Edits most A old new → IsSomeAnd new WorksOnSome
+edits_some most A (Some d) (Some e) p f r = f p.version e (r.becomes p.version p.on)
+edits_some most A (Some d) None p f r = absurd r
+edits_some most A None (Some e) p f r = absurd p
+edits_some most A None None p f r = p
 
 -- ---- an entry stored
 

@@ -1,8 +1,6 @@
 -- What operations make of a transaction whose working set is a version of a zone.
 use Rattle.std.specs.Prelude.{◌≡◌, ℕ, ◌+◌, ◌-◌, Bool, true, List, ◌∷◌, ◌++◌, length, Option, Result, Ok, Err}
 use Rattle.zone_model.specs.Names.{Name}
-use Rattle.zone_model.specs.Records.{Entry}
-use Rattle.zone_model.specs.declared.Refusal.{Refusal}
 use Rattle.zone_model.specs.Versions.{Version, Operation, owned, apply, all_applied}
 use Rattle.zone_model.specs.Transactions.{Prerequisite, Transaction, is_met_by, all_met, whole}
 use Rattle.shared_index.specs.declared.desk.Draft.{Draft}

@@ -1,7 +1,7 @@
 use Rattle.std.proofs.Common.{◌≡◌, ◌<◌, ◌≤◌, length, take, Ok, Err, refl, sym, ap, subst, arith}
 use Rattle.zone_model.specs.Names.{Name}
-use Rattle.zone_model.specs.Records.{Entry, item, item_limit}
-use Rattle.zone_model.specs.Versions.{owned, owner_of, changed, put}
+use Rattle.zone_model.specs.Records.{item, item_limit}
+use Rattle.zone_model.specs.Versions.{owned, owner_of, put}
 use Rattle.zone_change.specs.Views.{operation_view}
 use Rattle.zone_change.specs.Counts.{candidate}
 use Rattle.zone_edit.proofs.ApplyLaws.{owned_short, changed_short, accepted, made_of}

@@ -1,5 +1,5 @@
 use Rattle.zone_model.specs.Names.{Name}
-use Rattle.std.proofs.Common.{◌≡◌, ◌∙◌, ℕ, ◌+◌, ◌≤◌, length, List, map, take, drop, Ok, Err, refl, ap, sym, subst, arith}
+use Rattle.std.proofs.Common.{◌≡◌, ◌∙◌, ℕ, ◌+◌, ◌-◌, ◌≤◌, length, List, map, take, drop, Ok, Err, refl, ap, sym, subst, arith}
 use Rattle.std.proofs.lemmas.List.{length-map, length-take-le, take_all}
 use Rattle.zone_model.specs.Versions.{Version, Operation, all_applied}
 use Rattle.zone_model.specs.declared.Refusal.{Refusal}
@@ -38,7 +38,7 @@ loop-index-preserved g c =
     record {
       same_reference = (c.apply.ensures.same_reference.0 ∙ c.loop-index.invariant.same_reference.0, c.apply.ensures.same_reference.1 ∙ c.loop-index.invariant.same_reference.1);
       place = c.apply.ensures.place ∙ c.loop-index.invariant.place;
-      works = edits_some (Applies c.args.origin.now (operation_view c.index-operations-index.result) (Ok tt)) c.loop-index.transaction.locked.now.draft c.apply.new.transaction.locked.now.draft c.loop-index.invariant.works (λ version e a. record { version = a.0; on = a.2 }) c.in-Ok.ensures.applies;
+      works = edits_some 1 (Applies c.args.origin.now (operation_view c.index-operations-index.result) (Ok tt)) c.loop-index.transaction.locked.now.draft c.apply.new.transaction.locked.now.draft c.loop-index.invariant.works (λ version e a. record { version = a.0; on = a.2 }) c.in-Ok.ensures.applies;
       so_far = edits_on (length (take i ops)) 1 (length (take (i + 1) ops)) (SoFar c.args.origin.now c.args.operations.now c.loop-index.index) (Applies c.args.origin.now (operation_view c.index-operations-index.result) (Ok tt)) (SoFar c.args.origin.now c.args.operations.now (c.loop-index.index + 1))
           c.args.transaction.now.locked.now.draft c.loop-index.transaction.locked.now.draft c.apply.new.transaction.locked.now.draft one_more
           (λ version e f x. (
@@ -96,7 +96,7 @@ returns-in-Err-Full-clause-applies g c =
     let lt = c.loop-index-test.true in
     let le : c.loop-index.index ≤ length c.args.operations.now = omega arith in
     let long = length-map (take c.loop-index.index c.args.operations.now) operation_view ∙ length-take-le c.loop-index.index c.args.operations.now le in
-    edits_on (length (take c.loop-index.index c.args.operations.now)) 0 c.loop-index.index (SoFar c.args.origin.now c.args.operations.now c.loop-index.index) (Applies c.args.origin.now (operation_view c.index-operations-index.result) (Err c.in-Err-Full.field-0)) (AppliesAll c.args.origin.now (map operation_view c.args.operations.now) (Err (halts.Full (c.loop-index.index + 1))))
+    edits_on (length (take c.loop-index.index c.args.operations.now)) 0 (c.loop-index.index + 1 - 1) (SoFar c.args.origin.now c.args.operations.now c.loop-index.index) (Applies c.args.origin.now (operation_view c.index-operations-index.result) (Err c.in-Err-Full.field-0)) (AppliesAll c.args.origin.now (map operation_view c.args.operations.now) (Err (halts.Full (c.loop-index.index + 1))))
     c.args.transaction.now.locked.now.draft c.loop-index.transaction.locked.now.draft c.apply.new.transaction.locked.now.draft (let l = length-take-le c.loop-index.index c.args.operations.now le in omega arith)
     (λ version e f x. (
       x.0,
