@@ -167,20 +167,6 @@ result_as s asked ends old new new' r ran same = subst (λ (v : Known). IfOk r (
 pub wants_as : (s : Setup) (asked : Transaction) (old new new' : Known) (r : Result Outcome AllocError) → OnErr r (BlockWants s asked old new) → new' ≡ new → OnErr r (BlockWants s asked old new')
 wants_as s asked old new new' r wants same = subst (λ (v : Known). OnErr r (BlockWants s asked old v)) (sym same) wants
 
--- ---- a transaction that was dropped
-
-pub if_there : {P : Type 0} (most : ℕ) (told : Version → Draft → Type 0) (first second : Option Draft) → Edits most told first second → IfSome second (λ _. P) → P
-if_there most told (Some d) (Some e) edits p = p
-if_there most told (Some d) None edits p = absurd edits
-if_there most told None (Some e) edits p = absurd edits
-if_there most told None None edits p = absurd edits
-
-pub back_there : (most : ℕ) (told : Version → Draft → Type 0) (first second : Option Draft) (seat : Option Seat) → Edits most told first second → IfSome second (λ d. IsBack d.seat.place.me.0 seat) → IsSome seat
-back_there most told (Some d) (Some e) seat edits back = back.0
-back_there most told (Some d) None seat edits back = absurd edits
-back_there most told None (Some e) seat edits back = absurd edits
-back_there most told None None seat edits back = absurd edits
-
 -- ---- what calls ask of a transaction
 
 module _ (old : Known) (first : Option Draft) (begins : IsSomeAnd first (Begins IsLawful old)) where

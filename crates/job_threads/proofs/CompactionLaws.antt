@@ -1,5 +1,5 @@
 -- A compaction ends as a block without operations does.
-use Rattle.std.proofs.Common.{◌≡◌, ◌≢◌, ◌∙◌, ℕ, ◌+◌, true, List, [], Option, Some, Result, Ok, Err, refl, sym, append-nil}
+use Rattle.std.proofs.Common.{◌≡◌, ◌≢◌, ◌∙◌, ℕ, ◌+◌, true, List, [], Option, Some, Result, Ok, Err, refl, sym, arith, append-nil}
 use Rattle.std.specs.Prelude.{IsSome, IfOk, IfErr}
 use Rattle.atomic_table.specs.Seated.{TableId}
 use Rattle.pin_core.specs.declared.version.Spent.{Spent as NoNumber}
