@@ -27,7 +27,7 @@ use Rattle.shared_index.specs.Drafts as drafts
 use Rattle.shared_index.specs.Drafts.{Begins, IsBack, Works, working_set}
 use Rattle.chunk_usage.specs.Keeping.{kept_versions}
 use Rattle.shared_index.specs.Keepings.{versions_in}
-use Rattle.zone_edit.specs.Stores.{WorksOnSome, EditsOne, Edits}
+use Rattle.zone_edit.specs.Stores.{WorksOnSome, EditsOne}
 use Rattle.zone_edit.specs.Blocks.{Edited, Executes, most_done}
 use Rattle.zone_edit.specs.declared.applying.Halt.{Halt}
 use Rattle.zone_edit.specs.declared.applying.Halt.TheVariants as halts
