@@ -224,7 +224,7 @@ pairs_ask : (origin : Name) (pairs : List Pair) → AllByRecursion (AllAsked ori
 pairs_ask origin [] h = tt
 pairs_ask origin (pair ∷ pairs) h = (h.0, pairs_ask origin pairs h.1)
 
-all_join : {A : Type 0} (P : A → Type 0) (xs ys : List A) → AllByRecursion P xs → AllByRecursion P ys → AllByRecursion P (xs ++ ys)
+pub all_join : {A : Type 0} (P : A → Type 0) (xs ys : List A) → AllByRecursion P xs → AllByRecursion P ys → AllByRecursion P (xs ++ ys)
 all_join P [] ys g h = h
 all_join P (x ∷ xs) ys g h = (g.0, all_join P xs ys g.1 h)
 
@@ -247,7 +247,7 @@ made_short v (pair ∷ pairs) = by_test (made v pair) (made_short v pairs)
     by_test true l = omega arith
     by_test false l = omega (arith, l)
 
-abbrev IsShort : ℕ → Pair → Type 0
+abbrev pub IsShort : ℕ → Pair → Type 0
 IsShort most pair = length (asked_by pair.0).operations ≤ most
 
 asked_short : (pairs : List Pair) → AllByRecursion (IsShort (longest (commands_of pairs))) pairs

@@ -7,7 +7,7 @@ use Rattle.zone_model.specs.Transactions.{Transaction}
 use Rattle.master_file.specs.Rows.{CanBeDumped}
 use Rattle.job_model.specs.Commands.{Command, Job}
 use Rattle.job_model.specs.Sizes.{cell_count}
-use Rattle.job_model.specs.Outcomes.{Outcome, Pair, is_committed, asked_by, asked_at, version_at}
+use Rattle.job_model.specs.Outcomes.{Rule, Full, Spent, Ended, Shown, Committed, RolledBack, Refused, Outcome, Pair, is_committed, asked_by, asked_at, version_at}
 use Rattle.report_laws.specs.Changes.{AllAsked}
 
 -- each worker's commands ask for operations as scripts say them
@@ -44,3 +44,17 @@ pub record HaveFewCells (most : ℕ) (origin : Name) (zone : Version) (pairs : L
 pub record HaveFewOperations (most : ℕ) (pairs : List Pair) : Type 0 where
   pub made : (v : ℕ) → length (asked_at v pairs).operations ≤ most
   pub asked : AllByRecursion (λ pair. length (asked_by pair.0).operations ≤ most) pairs
+
+-- ---- room
+
+-- a command isn't refused as full
+abbrev pub FindsRoom : Ended → Type 0
+FindsRoom Shown = Unit {0}
+FindsRoom Committed = Unit {0}
+FindsRoom RolledBack = Unit {0}
+FindsRoom (Refused (Rule refusal)) = Unit {0}
+FindsRoom (Refused (Full operation kept)) = ⊥
+FindsRoom (Refused Spent) = Unit {0}
+
+abbrev pub AllFindRoom : List Pair → Type 0
+AllFindRoom pairs = AllByRecursion (λ pair. FindsRoom pair.1.ended) pairs

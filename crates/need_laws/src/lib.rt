@@ -11,13 +11,13 @@ ghost use Rattle.job_model.specs.Commands.{Job};
 ghost use Rattle.job_model.specs.Jobs.{job_of};
 ghost use Rattle.job_model.specs.Sizes.{cell_count};
 ghost use Rattle.job_model.specs.Needs.{cells_of_commands, most_cells, most_operations};
-ghost use Rattle.job_model.specs.Outcomes.{Pair, all_pairs, passes_for};
+ghost use Rattle.job_model.specs.Outcomes.{Lawful, Pair, all_pairs, passes_for};
 ghost use Rattle.chunk_usage.specs.Capacity.{IsLeast};
 ghost use Rattle.shared_index.specs.Openings.{room_in};
 ghost use Rattle.report_laws.specs.Octets.{AllOctets};
 ghost use Rattle.report_laws.specs.Changes.{AllAsked};
 ghost use Rattle.report_laws.specs.Versions.{AreOutcomesOf};
-ghost use Rattle.need_laws.specs.Bounds.{IsSaidJob, HaveFewCells, HaveFewOperations};
+ghost use Rattle.need_laws.specs.Bounds.{AllFindRoom, IsSaidJob, HaveFewCells, HaveFewOperations};
 
 /// No version of a job has more cells than the job is reckoned at, and no transaction of it works on more, however it ends. The
 /// commands may have any outcomes: those that are lawful are some of them.
@@ -46,4 +46,12 @@ pub fn jobs_are_said()
 pub fn zones_have_room()
     ensures { (job : Job) (least chunks : ℕ) → IsLeast (passes_for (length job.workers)) (most_cells job) (most_operations job) (Some least) → least ≤ chunks
         → cell_count job.zone ≤ room_in chunks }
+{}
+
+/// On an index of as many chunks as a job needs, or of more, none of its transactions is refused as full. The outcomes are those that
+/// are lawful there, as each job's are that is run.
+pub fn sized_jobs_find_room()
+    ensures { (job : Job) → IsSaidJob job → (workers : List (List Pair)) → AreOutcomesOf job workers → (least chunks last : ℕ)
+        → IsLeast (passes_for (length job.workers)) (most_cells job) (most_operations job) (Some least) → least ≤ chunks
+        → Lawful chunks (passes_for (length job.workers)) job.origin job.zone workers last → AllFindRoom (all_pairs workers) }
 {}
