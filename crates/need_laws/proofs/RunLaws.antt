@@ -16,7 +16,7 @@ use Rattle.report_laws.proofs.ChangeLemmas.{IsZone, is_zone}
 use Rattle.need_laws.specs.Bounds.{AllWorkersAsk, IsSaidJob, base_of, WorksWithin, HaveFewCells, HaveFewOperations}
 use Rattle.need_laws.proofs.StepLaws.{all_cells, zone_behind, cells_behind}
 
-abbrev commands_of : List Pair → List Command
+abbrev pub commands_of : List Pair → List Command
 commands_of pairs = map (λ (pair : Pair). pair.0) pairs
 
 -- ---- what pairs are reckoned at, and those of them that made the versions from 1 to n
@@ -204,7 +204,7 @@ longest-append (x ∷ xs) ys = let l = longest-append xs ys in omega (arith, l)
 abbrev in_pairs : Pair → Command
 in_pairs pair = pair.0
 
-cells_together : (workers : List (List Pair)) → cells_of_commands (commands_of (all_pairs workers)) ≡ cells_of_workers (map (map (λ (pair : Pair). pair.0)) workers)
+pub cells_together : (workers : List (List Pair)) → cells_of_commands (commands_of (all_pairs workers)) ≡ cells_of_workers (map (map (λ (pair : Pair). pair.0)) workers)
 cells_together [] = refl
 cells_together (pairs ∷ workers) =
     let a = ap cells_of_commands (map-append in_pairs pairs (all_pairs workers)) in

@@ -5,7 +5,7 @@ use Rattle.zone_model.specs.Names.{Name}
 use Rattle.zone_model.specs.Versions.{Version, Operation, all_applied}
 use Rattle.zone_model.specs.Transactions.{Transaction}
 use Rattle.master_file.specs.Rows.{CanBeDumped}
-use Rattle.job_model.specs.Commands.{Command, Job}
+use Rattle.job_model.specs.Commands.{Command, FedJob, Job}
 use Rattle.job_model.specs.Sizes.{cell_count}
 use Rattle.job_model.specs.Outcomes.{Rule, Full, Spent, Ended, Shown, Committed, RolledBack, Refused, Outcome, Pair, is_committed, asked_by, asked_at, version_at}
 use Rattle.report_laws.specs.Changes.{AllAsked}
@@ -18,6 +18,11 @@ AllWorkersAsk origin workers = AllByRecursion (AllByRecursion (AllAsked origin))
 pub record IsSaidJob (job : Job) : Type 0 where
   pub zone : CanBeDumped job.origin job.zone
   pub workers : AllWorkersAsk job.origin job.workers
+
+-- the same of a job that is one list of commands
+pub record IsSaidList (job : FedJob) : Type 0 where
+  pub zone : CanBeDumped job.origin job.zone
+  pub commands : AllByRecursion (AllAsked job.origin) job.commands
 
 -- ---- cells
 
