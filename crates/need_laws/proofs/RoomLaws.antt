@@ -12,7 +12,7 @@ use Rattle.job_model.specs.Needs.{cells_of_workers, most_cells, most_operations}
 use Rattle.job_model.specs.Outcomes.{Cause, Rule, Full, Spent, Causes, Ended, Shown, Committed, RolledBack, Refused, Pair, asked_by, Setting, setting_of, BlockEnds, Sight, sight_after, at_first, Shows, EndsLawfully, Along, AllAlong, all_pairs, Lawful, passes_for}
 use Rattle.shared_index.specs.Openings.{room_in}
 use Rattle.report_laws.specs.Versions.{AreOutcomesOf}
-use Rattle.need_laws.specs.Bounds.{IsSaidJob, FindsRoom, AllFindRoom}
+use Rattle.need_laws.specs.Bounds.{IsSaidJob, IsSized, FindsRoom, AllFindRoom}
 use Rattle.need_laws.proofs.RunLaws.{IsShort, all_join, jobs_few, jobs_short}
 
 -- ---- the zone
@@ -78,10 +78,10 @@ module _ (s : Setting) (cells operations : ℕ) (roomy : is_roomy s.passes cells
       let parts = both_of (IsShort operations) pairs (all_pairs workers) within in
       all_join (λ (pair : Pair). FindsRoom pair.1.ended) pairs (all_pairs workers) (along_room at_first pairs parts.0 a.0) (all_room workers parts.1 a.1)
 
-pub sized_room : (job : Job) → IsSaidJob job → (workers : List (List Pair)) → AreOutcomesOf job workers → (least chunks last : ℕ) → IsLeast (passes_for (length job.workers)) (most_cells job) (most_operations job) (Some least) → least ≤ chunks
+pub sized_room : (job : Job) → IsSaidJob job → (workers : List (List Pair)) → AreOutcomesOf job workers → (chunks last : ℕ) → IsSized job chunks
     → Lawful chunks (passes_for (length job.workers)) job.origin job.zone workers last → AllFindRoom (all_pairs workers)
-sized_room job said workers same least chunks last is more lawful =
+sized_room job said workers same chunks last sized lawful =
     let few = jobs_few job said workers same in
     let short = jobs_short job workers same in
     all_room (setting_of chunks (passes_for (length job.workers)) job.origin job.zone workers) (most_cells job) (most_operations job)
-    (roomy_still (passes_for (length job.workers)) (most_cells job) (most_operations job) least chunks is.2 more) few.versions short.made workers short.asked lawful.along
+    (roomy_still (passes_for (length job.workers)) (most_cells job) (most_operations job) sized.0 chunks sized.1.2 sized.2) few.versions short.made workers short.asked lawful.along

@@ -10,7 +10,7 @@ ghost use Rattle.master_file.specs.Rows.{CanBeDumped};
 ghost use Rattle.job_model.specs.Commands.{FedJob, Job};
 ghost use Rattle.job_model.specs.Jobs.{fed_job_of, job_of};
 ghost use Rattle.job_model.specs.Sizes.{cell_count};
-ghost use Rattle.job_model.specs.Needs.{cells_of_commands, longest, most_cells, most_operations};
+ghost use Rattle.job_model.specs.Needs.{cells_of_commands, most_cells, most_operations};
 ghost use Rattle.job_model.specs.Outcomes.{Lawful, Pair, all_pairs, passes_for};
 ghost use Rattle.job_model.specs.Feeds.{Fed, FedPair, all_numbers, by_worker, passes_fed};
 ghost use Rattle.chunk_usage.specs.Capacity.{IsLeast};
@@ -18,7 +18,7 @@ ghost use Rattle.shared_index.specs.Openings.{room_in};
 ghost use Rattle.report_laws.specs.Octets.{AllOctets};
 ghost use Rattle.report_laws.specs.Changes.{AllAsked};
 ghost use Rattle.report_laws.specs.Versions.{AreFedOutcomesOf, AreOutcomesOf};
-ghost use Rattle.need_laws.specs.Bounds.{AllFindRoom, FindsRoom, IsSaidJob, IsSaidList, HaveFewCells, HaveFewOperations};
+ghost use Rattle.need_laws.specs.Bounds.{AllFedFindRoom, AllFindRoom, IsSaidJob, IsSaidList, IsSized, IsSizedList, HaveFewCells, HaveFewOperations};
 
 /// No version of a job has more cells than the job is reckoned at, and no transaction of it works on more, however it ends. The
 /// commands may have any outcomes: those that are lawful are some of them.
@@ -57,15 +57,13 @@ pub fn zones_have_room()
 /// On an index of as many chunks as a job needs, or of more, none of its transactions is refused as full. The outcomes are those that
 /// are lawful there, as each job's are that is run.
 pub fn sized_jobs_find_room()
-    ensures { (job : Job) → IsSaidJob job → (workers : List (List Pair)) → AreOutcomesOf job workers → (least chunks last : ℕ)
-        → IsLeast (passes_for (length job.workers)) (most_cells job) (most_operations job) (Some least) → least ≤ chunks
+    ensures { (job : Job) → IsSaidJob job → (workers : List (List Pair)) → AreOutcomesOf job workers → (chunks last : ℕ) → IsSized job chunks
         → Lawful chunks (passes_for (length job.workers)) job.origin job.zone workers last → AllFindRoom (all_pairs workers) }
 {}
 
 /// So it is of one list of commands that was handed out to so many workers, by the passes that these have.
 pub fn sized_lists_find_room()
-    ensures { (job : FedJob) → IsSaidList job → (fed : List FedPair) → AreFedOutcomesOf job fed → (workers least chunks last : ℕ)
+    ensures { (job : FedJob) → IsSaidList job → (fed : List FedPair) → AreFedOutcomesOf job fed → (workers chunks last : ℕ) → IsSizedList job workers chunks
         → Fed (length job.commands) (all_numbers workers fed)
-        → IsLeast (passes_fed workers) (cell_count job.zone + cells_of_commands job.commands) (longest job.commands) (Some least) → least ≤ chunks
-        → Lawful chunks (passes_fed workers) job.origin job.zone (by_worker workers fed) last → AllByRecursion (λ f. FindsRoom f.pair.1.ended) fed }
+        → Lawful chunks (passes_fed workers) job.origin job.zone (by_worker workers fed) last → AllFedFindRoom fed }
 {}
