@@ -1,9 +1,8 @@
 -- One list of commands finds room in as many chunks as it needs.
-use Rattle.std.proofs.Common.{◌≡◌, ◌∙◌, inl, inr, ℕ, zero, suc, ◌+◌, ◌<◌, ◌≤◌, Bool, true, false, cond, eqb, eq-eqb, List, [], ◌∷◌, ◌++◌, length, map, Some, refl, sym, ap, subst, arith}
+use Rattle.std.proofs.Common.{◌≡◌, ◌∙◌, inl, inr, ℕ, zero, suc, ◌+◌, ◌<◌, ◌≤◌, Bool, true, false, cond, eqb, eq-eqb, List, [], ◌∷◌, ◌++◌, length, map, refl, sym, ap, subst, arith}
 use Rattle.std.proofs.lemmas.Bool.{cases_eq}
 use Rattle.std.proofs.lemmas.List.{length-map}
 use Rattle.std.specs.List.{AllByRecursion, range_with_len}
-use Rattle.chunk_usage.specs.Capacity.{IsLeast}
 use Rattle.job_model.specs.Commands.{Command, FedJob}
 use Rattle.job_model.specs.Sizes.{cell_count}
 use Rattle.job_model.specs.Needs.{cells_of_operations, cells_of_commands, cells_of_workers, longest}
