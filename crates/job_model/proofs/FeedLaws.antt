@@ -1,6 +1,6 @@
 -- Commands that were each run by one of the workers were handed out to them.
 use Rattle.std.proofs.Common.{◌≡◌, ◌∙◌, ◌≢◌, inl, inr, ℕ, zero, suc, ◌+◌, ◌<◌, ◌≤◌, Bool, true, false, cond, eqb, List, [], ◌∷◌, length, map, refl, sym, ap, subst, arith, add-one}
-use Rattle.std.proofs.lemmas.Bool.{cases_eq}
+use Rattle.std.proofs.lemmas.Bool.{cases_eq, cases_lt}
 use Rattle.std.proofs.lemmas.Bool.Decides.{nat_tests}
 use Rattle.std.proofs.lemmas.List.Sums.{sum_by-cons}
 use Rattle.std.specs.Prelude.{slice_index}
@@ -148,3 +148,37 @@ workers_fed workers fed among = record {
       (λ w. all_weaker (Within 1 (1 + length fed)) (λ number. (0 < number) × (number ≤ length fed)) (numbers_by w 1 fed) (λ number within. (omega (arith, within.0), omega (arith, within.1))) (numbers_within w 1 fed));
   rising = each_list IsStrictlyIncreasing fed (range_with_len 1 workers) (λ w. numbers_rise w 1 fed);
 }
+
+-- ---- commands that were handed out were run by one of the workers
+
+range_past : (v first many : ℕ) → first + many ≤ v → times_in v (range_with_len first many) ≡ 0
+range_past v first zero past = refl
+range_past v first (suc many) past =
+    let no : eqb first v ≡ false = grind (arith, nat_tests) in
+    let rest = range_past v (first + 1) many (omega arith) in
+    let none = ap {B = ℕ} (λ (b : Bool). cond b 1 0) no in
+    omega (arith, rest, none, times-cons v first (range_with_len (first + 1) many))
+
+in_range : (v many : ℕ) → times_in v (range_with_len 1 many) ≡ 1 → (0 < v) × (v ≤ many)
+in_range zero many once = absurd (let none = range_none 0 1 many (omega arith) in omega (arith, once, none))
+in_range (suc v) many once = (omega arith, elim (cases_lt v many) [
+  | inl below ↦ omega arith
+  | inr past ↦ absurd (let none = range_past (suc v) 1 many (omega arith) in omega (arith, once, none))
+])
+
+once_among : (workers n : ℕ) (fed : List FedPair) → ((number : ℕ) → n ≤ number → number < n + length fed → times_in_all number (lists_by (range_with_len 1 workers) n fed) ≡ 1) → AllByRecursion (IsAmong workers) fed
+once_among workers n [] once = tt
+once_among workers n (f ∷ fed) once =
+    let yes : eqb n n ≡ true = grind arith in
+    let here = once n (omega arith) (omega arith) in
+    let rest = below_none n (n + 1) fed (range_with_len 1 workers) (omega arith) in
+    let one : times_in f.worker (range_with_len 1 workers) ≡ 1 = omega (arith, here, rest, first_in_all n n f fed true yes (range_with_len 1 workers)) in
+    let more : (number : ℕ) → n + 1 ≤ number → number < n + 1 + length fed → times_in_all number (lists_by (range_with_len 1 workers) (n + 1) fed) ≡ 1 =
+    λ number above below.
+        let no : eqb n number ≡ false = grind (arith, nat_tests) in
+        let same = once number (omega arith) (omega arith) in
+        omega (arith, same, first_in_all number n f fed false no (range_with_len 1 workers)) in
+    (in_range f.worker workers one, once_among workers (n + 1) fed more)
+
+pub fed_among : (workers : ℕ) (fed : List FedPair) → Fed (length fed) (all_numbers workers fed) → AllByRecursion (IsAmong workers) fed
+fed_among workers fed is = once_among workers 1 fed (λ number above below. is.once number (omega arith) (omega arith))

@@ -6,6 +6,7 @@ use Rattle.std.specs.Ordering.{nat_cmp}
 use Rattle.zone_model.specs.Names.{Name}
 use Rattle.zone_model.specs.Versions.{Version, Operation, apply, all_applied}
 use Rattle.zone_model.specs.Transactions.{Transaction, no_changes, all_met, whole}
+use Rattle.chunk_usage.specs.Capacity.{is_roomy}
 use Rattle.job_model.specs.Commands.{Command, Ask, Hold, AskHeld, Release, Block, Compact}
 use Rattle.job_model.specs.Sizes.{cell_count}
 use Rattle.zone_model.specs.declared.Refusal.{Refusal}
@@ -100,13 +101,14 @@ shown_in (pair ∷ rest) = shown_by pair.0 pair.1.version ++ shown_in rest
 
 -- ---- which outcomes may be
 
--- What outcomes are judged by: the chunks of the index and its passes, the origin, the versions by their numbers, and those that
--- questions and holds show.
+-- What outcomes are judged by: the chunks of the index and its passes, the origin, the versions by their numbers, the transaction
+-- that made each of them, and the versions that questions and holds show.
 pub record Setting : Type 0 where
   pub chunks : ℕ
   pub passes : ℕ
   pub origin : Name
   pub set : ℕ → Version
+  pub made_by : ℕ → Transaction
   pub shown : List ℕ
 
 -- how many cells the tries of some versions have together
@@ -114,9 +116,21 @@ abbrev pub cells_kept : (ℕ → Version) → List ℕ → ℕ
 cells_kept set [] = 0
 cells_kept set (v ∷ vs) = cell_count (set v) + cells_kept set vs
 
+-- No version up to a base has more cells than so many, and no transaction that made one of them more operations.
+pub record BoundsVersions (s : Setting) (base most_cells most_operations : ℕ) : Type 0 where
+  pub cells : (v : ℕ) → v ≤ base → cell_count (s.set v) ≤ most_cells
+  pub operations : (v : ℕ) → 0 < v → v ≤ base → length (s.made_by v).operations ≤ most_operations
+
+-- No numbers that bound the versions up to a base, and the operations up to one of a transaction, are such that the index has room
+-- for them.
+abbrev pub IsCramped : Setting → ℕ → ℕ → Type 0
+IsCramped s base operation =
+    (most_cells most_operations : ℕ) → BoundsVersions s base most_cells most_operations → operation ≤ most_operations → is_roomy s.passes most_cells most_operations s.chunks → ⊥
+
 -- There was no room for an operation that is accepted and changes what the ones before it made of the base, which meets the
 -- prerequisites: the tries of that and of the kept versions have almost as many cells as there are chunks but for the reserve of a quarter. The base is the last kept
--- version, and each other one is kept since a question or a hold shows it.
+-- version, and each other one is kept since a question or a hold shows it. Nor does it come where the index has the chunks that are
+-- enough for these versions and operations.
 pub record FullCause (s : Setting) (asked : Transaction) (base operation : ℕ) (kept : List ℕ) : Type 0 where
   pub met : all_met (s.set base) asked.needs ≡ true
   pub front : List Operation
@@ -135,6 +149,7 @@ pub record FullCause (s : Setting) (asked : Transaction) (base operation : ℕ) 
   pub rising : IsStrictlySortedBy nat_cmp kept
   pub few : length kept ≤ s.passes + 1
   pub full : s.chunks - s.chunks / 4 - 8 ≤ cell_count working + cells_kept s.set kept
+  pub cramped : IsCramped s base operation
 
 -- the greatest number of a version
 abbrev pub last_version : ℕ
@@ -213,6 +228,7 @@ setting_of chunks passes origin zone workers = record {
   passes = passes;
   origin = origin;
   set = version_at origin zone (all_pairs workers);
+  made_by = λ j. asked_at j (all_pairs workers);
   shown = shown_in (all_pairs workers);
 }
 

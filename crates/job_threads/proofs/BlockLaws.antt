@@ -27,8 +27,8 @@ use Rattle.shared_index.specs.Drafts as drafts
 use Rattle.shared_index.specs.Drafts.{Begins, IsBack, Works, working_set}
 use Rattle.chunk_usage.specs.Keeping.{kept_versions}
 use Rattle.shared_index.specs.Keepings.{versions_in}
-use Rattle.zone_edit.specs.Stores.{WorksOnSome, EditsOne, Edits}
-use Rattle.zone_edit.specs.Blocks.{Executes}
+use Rattle.zone_edit.specs.Stores.{WorksOnSome, EditsOne}
+use Rattle.zone_edit.specs.Blocks.{Edited, Executes, most_done}
 use Rattle.zone_edit.specs.declared.applying.Halt.{Halt}
 use Rattle.zone_edit.specs.declared.applying.Halt.TheVariants as halts
 use Rattle.zone_edit.proofs.EditLaws.{Both, both, edits_some, some_weaker}
@@ -39,32 +39,35 @@ use Rattle.job_threads.proofs.TransactLaws.{begun_some, lawful_block, commits_bl
 abbrev Seat : Type 0
 Seat = PassSeat (List Entry) (List Operation)
 
+abbrev EditedOne : Name → Transaction → Result (Unit {0}) Halt → Draft → Draft → Type 0
+EditedOne origin asked r = EditsOne (most_done asked.operations r) (Executes origin asked r)
+
 there_is : (P : Draft → Type 0) (o : Option Draft) (d : Draft) → o ≡ Some d → IfSome o P → P d
 there_is P o d is h = subst (λ (x : Option Draft). IfSome x P) is h
 
 module _ (s : Setup) (asked : Transaction) (ends : Ending) (old : Known) (o : Outcome) (first second : Option Draft) (told : is_told old.seen.opening ≡ true) (opening : first_version old.seen ≡ s.opening) (begins : IsSomeAnd first (Begins IsLawful old)) where
-  abbrev Edited : Result (Unit {0}) Halt → Type 0
-  Edited r = Edits (Executes s.origin asked r) first second
+  abbrev Done : Result (Unit {0}) Halt → Type 0
+  Done r = Edited s.origin asked r first second
 
-  pub commit_ran : (new : Known) (version : ℕ) → Edited (Ok tt) → ends ≡ ending.Commit → IfSome second (λ d. drafts.Commits d.seat.place.me.0 d.log.operations new) → IfSome second (λ d. version ≡ d.seat.version + 1)
+  pub commit_ran : (new : Known) (version : ℕ) → Done (Ok tt) → ends ≡ ending.Commit → IfSome second (λ d. drafts.Commits d.seat.place.me.0 d.log.operations new) → IfSome second (λ d. version ≡ d.seat.version + 1)
       → o.version ≡ version → ended_view o.told ≡ Committed → BlockRan s asked ends old new o
   commit_ran new version edits is commits next here said =
-      let x = both (Begins IsLawful old) (EditsOne (Executes s.origin asked (Ok tt))) first second begins edits in
+      let x = both (Begins IsLawful old) (EditedOne s.origin asked (Ok tt)) first second begins edits in
       let c = there_is (λ d. drafts.Commits d.seat.place.me.0 d.log.operations new) second x.after x.new_is commits in
       let v = there_is (λ d. version ≡ d.seat.version + 1) second x.after x.new_is next in
       record {
         grows = commits_grow s asked old x.before x.after x.met told opening x.related.known new c;
         version = here ∙ commits_version s asked old x.before x.after x.met told opening x.related.known new version c v;
-        transacts = subst (Transacts s asked ends old new) (sym said) (is, commits_block s asked old x.before x.after x.met told opening x.related.known new x.related.becomes c);
+        transacts = subst (Transacts s asked ends old new) (sym said) (is, commits_block s asked old x.before x.after x.met told opening x.related.known new x.related.few x.related.becomes c);
       }
 
   -- the pass is back, and the block was on the base
   module _ (seat : Option Seat) (version : ℕ) (back : IfSome second (λ d. IsBack d.seat.place.me.0 seat)) (base : IfSome first (λ d. version ≡ length d.seat.place.me.0.seen.history)) (here : o.version ≡ version) where
     abbrev Two : Result (Unit {0}) Halt → Type 0
-    Two r = Both (Begins IsLawful old) (EditsOne (Executes s.origin asked r)) first second
+    Two r = Both (Begins IsLawful old) (EditedOne s.origin asked r) first second
 
-    two : (r : Result (Unit {0}) Halt) → Edited r → Two r
-    two r edits = both (Begins IsLawful old) (EditsOne (Executes s.origin asked r)) first second begins edits
+    two : (r : Result (Unit {0}) Halt) → Done r → Two r
+    two r edits = both (Begins IsLawful old) (EditedOne s.origin asked r) first second begins edits
 
     known_back : (r : Result (Unit {0}) Halt) (x : Two r) → known_at seat ≡ pass_of x.after.seat.place.me.0
     known_back r x = (there_is (λ d. IsBack d.seat.place.me.0 seat) second x.after x.new_is back).1
@@ -76,38 +79,38 @@ module _ (s : Setup) (asked : Transaction) (ends : Ending) (old : Known) (o : Ou
       transacts = subst (Transacts s asked ends old (known_at seat)) (sym said) t;
     }
 
-    pub rollback_ran : Edited (Ok tt) → ends ≡ ending.Rollback → ended_view o.told ≡ RolledBack → BlockRan s asked ends old (known_at seat) o
+    pub rollback_ran : Done (Ok tt) → ends ≡ ending.Rollback → ended_view o.told ≡ RolledBack → BlockRan s asked ends old (known_at seat) o
     rollback_ran edits is said =
         let x = two (Ok tt) edits in
         ran (Ok tt) x RolledBack said (rolled_back s asked old x.before x.after x.met told opening x.related.known (known_at seat) (known_back (Ok tt) x) ends is x.related.becomes)
 
-    pub spent_ran : Edited (Ok tt) → ends ≡ ending.Commit → IfSome second (λ d. d.seat.version ≡ last_version) → ended_view o.told ≡ Refused Spent → BlockRan s asked ends old (known_at seat) o
+    pub spent_ran : Done (Ok tt) → ends ≡ ending.Commit → IfSome second (λ d. d.seat.version ≡ last_version) → ended_view o.told ≡ Refused Spent → BlockRan s asked ends old (known_at seat) o
     spent_ran edits is spent said =
         let x = two (Ok tt) edits in
         ran (Ok tt) x (Refused Spent) said (spent_block s asked old x.before x.after x.met told opening x.related.known (known_at seat) (known_back (Ok tt) x) ends is (there_is (λ d. d.seat.version ≡ last_version) second x.after x.new_is spent) x.related.becomes)
 
-    pub refused_ran : (refusal : Refusal) → Edited (Err (halts.Refused refusal)) → ended_view o.told ≡ Refused (Rule refusal) → BlockRan s asked ends old (known_at seat) o
+    pub refused_ran : (refusal : Refusal) → Done (Err (halts.Refused refusal)) → ended_view o.told ≡ Refused (Rule refusal) → BlockRan s asked ends old (known_at seat) o
     refused_ran refusal edits said =
         let x = two (Err (halts.Refused refusal)) edits in
         ran (Err (halts.Refused refusal)) x (Refused (Rule refusal)) said (rule_broken s asked old x.before x.after x.met told opening x.related.known (known_at seat) (known_back (Err (halts.Refused refusal)) x) ends refusal x.related.becomes)
 
-    pub full_ran : (operation : ℕ) (kept : Versions) → IfSome second (λ d. versions_in kept ≡ kept_versions d.usage) → Edited (Err (halts.Full operation)) → IfSome second (λ d. s.chunks ≡ length d.usage.given) → IfSome first (λ d. s.passes ≡ d.seat.passes)
+    pub full_ran : (operation : ℕ) (kept : Versions) → IfSome second (λ d. versions_in kept ≡ kept_versions d.usage) → Done (Err (halts.Full operation)) → IfSome second (λ d. s.chunks ≡ length d.usage.given) → IfSome first (λ d. s.passes ≡ d.seat.passes)
         → ended_view o.told ≡ Refused (Full operation (versions_in kept)) → BlockRan s asked ends old (known_at seat) o
     full_ran operation kept same edits chunks passes said =
         let x = two (Err (halts.Full operation)) edits in
         ran (Err (halts.Full operation)) x (Refused (Full operation (versions_in kept))) said
         (full_block s asked old x.before x.after x.met told opening x.related.known (known_at seat) (known_back (Err (halts.Full operation)) x) ends operation kept (there_is (λ d. versions_in kept ≡ kept_versions d.usage) second x.after x.new_is same)
         (there_is (λ d. s.chunks ≡ length d.usage.given) second x.after x.new_is chunks)
-        (there_is (λ d. s.passes ≡ d.seat.passes) first x.before x.old_is passes ∙ sym x.related.passes) x.related.becomes)
+        (there_is (λ d. s.passes ≡ d.seat.passes) first x.before x.old_is passes ∙ sym x.related.passes) x.related.few x.related.becomes)
 
   -- it was to be committed
-  pub committed_ran : (seat : Option Seat) (r : Result Receipt NoNumber) → Edited (Ok tt) → ends ≡ ending.Commit
+  pub committed_ran : (seat : Option Seat) (r : Result Receipt NoNumber) → Done (Ok tt) → ends ≡ ending.Commit
       → IfOk r (λ _. IfSome second (λ d. drafts.Commits d.seat.place.me.0 d.log.operations (known_at seat))) → IfOk r (λ t. IfSome second (λ d. t.version ≡ d.seat.version + 1))
       → IfErr r (λ _. IfSome second (λ d. IsBack d.seat.place.me.0 seat)) → IfSome second (λ d. IsErr r ↔ (d.seat.version ≡ last_version)) → IfErr r (λ t. IfSome second (λ d. t.version ≡ d.seat.version))
       → IfOk r (λ t. (o.version ≡ t.version) × (ended_view o.told ≡ Committed)) → IfErr r (λ t. (o.version ≡ t.version) × (ended_view o.told ≡ Refused Spent)) → BlockRan s asked ends old (known_at seat) o
   committed_ran seat (Ok t) edits is commits next back spent last made lost = commit_ran (known_at seat) t.version edits is commits next made.0 made.1
   committed_ran seat (Err t) edits is commits next back spent last made lost =
-      let x = both (Begins IsLawful old) (EditsOne (Executes s.origin asked (Ok tt))) first second begins edits in
+      let x = both (Begins IsLawful old) (EditedOne s.origin asked (Ok tt)) first second begins edits in
       let number : t.version ≡ x.after.seat.version = there_is (λ d. t.version ≡ d.seat.version) second x.after x.new_is last in
       let history : length x.after.seat.place.me.0.seen.history ≡ length x.before.seat.place.me.0.seen.history = ap length x.related.known.history in
       let base : t.version ≡ length x.before.seat.place.me.0.seen.history = number ∙ x.after.seat.version_is ∙ history in
@@ -117,7 +120,7 @@ module _ (s : Setup) (asked : Transaction) (ends : Ending) (old : Known) (o : Ou
 
 -- its asked stopped
 pub stopped_ran : (s : Setup) (asked : Transaction) (ends : Ending) (old : Known) (first second : Option Draft) → is_told old.seen.opening ≡ true → first_version old.seen ≡ s.opening → IsSomeAnd first (Begins IsLawful old)
-    → (seat : Option Seat) (version : ℕ) (halt : Halt) (kept : Versions) (r : Result Outcome AllocError) → IfSome second (λ d. versions_in kept ≡ kept_versions d.usage) → IfSome second (λ d. IsBack d.seat.place.me.0 seat) → IfSome first (λ d. version ≡ length d.seat.place.me.0.seen.history) → Edits (Executes s.origin asked (Err halt)) first second
+    → (seat : Option Seat) (version : ℕ) (halt : Halt) (kept : Versions) (r : Result Outcome AllocError) → IfSome second (λ d. versions_in kept ≡ kept_versions d.usage) → IfSome second (λ d. IsBack d.seat.place.me.0 seat) → IfSome first (λ d. version ≡ length d.seat.place.me.0.seen.history) → Edited s.origin asked (Err halt) first second
     → IfSome second (λ d. s.chunks ≡ length d.usage.given) → IfSome first (λ d. s.passes ≡ d.seat.passes) → StoppedBy halt kept version r → IfOk r (BlockRan s asked ends old (known_at seat))
 stopped_ran s asked ends old first second told opening begins seat version halts.Memory kept (Ok o) same back base edits chunks passes stopped = absurd cc
 stopped_ran s asked ends old first second told opening begins seat version halts.Memory kept (Err e) same back base edits chunks passes stopped = tt
@@ -131,7 +134,7 @@ stopped_ran s asked ends old first second told opening begins seat version (halt
 -- it stopped, and memory was wanting
 module _ (s : Setup) (asked : Transaction) (old : Known) (first second : Option Draft) (told : is_told old.seen.opening ≡ true) (opening : first_version old.seen ≡ s.opening) (begins : IsSomeAnd first (Begins IsLawful old)) (seat : Option Seat) (back : IfSome second (λ d. IsBack d.seat.place.me.0 seat)) where
   abbrev Drafts : Halt → Type 0
-  Drafts halt = Both (Begins IsLawful old) (EditsOne (Executes s.origin asked (Err halt))) first second
+  Drafts halt = Both (Begins IsLawful old) (EditedOne s.origin asked (Err halt)) first second
 
   back_from : (halt : Halt) (x : Drafts halt) → known_at seat ≡ pass_of x.after.seat.place.me.0
   back_from halt x = (there_is (λ d. IsBack d.seat.place.me.0 seat) second x.after x.new_is back).1
@@ -143,14 +146,14 @@ module _ (s : Setup) (asked : Transaction) (old : Known) (first second : Option 
     accepts = accepts;
   }
 
-  pub stopped_wants : (version : ℕ) (halt : Halt) (kept : Versions) (r : Result Outcome AllocError) → Edits (Executes s.origin asked (Err halt)) first second → StoppedBy halt kept version r → OnErr r (BlockWants s asked old (known_at seat))
+  pub stopped_wants : (version : ℕ) (halt : Halt) (kept : Versions) (r : Result Outcome AllocError) → Edited s.origin asked (Err halt) first second → StoppedBy halt kept version r → OnErr r (BlockWants s asked old (known_at seat))
   stopped_wants version halt kept (Ok o) edits stopped = tt
   stopped_wants version halts.Memory kept (Err e) edits stopped =
-      let x = both (Begins IsLawful old) (EditsOne (Executes s.origin asked (Err halts.Memory))) first second begins edits in
+      let x = both (Begins IsLawful old) (EditedOne s.origin asked (Err halts.Memory)) first second begins edits in
       wants halts.Memory x (memory_wants s asked old x.before x.after x.met told opening x.related.known (known_at seat) (back_from halts.Memory x) x.related.becomes)
   stopped_wants version (halts.Refused refusal) kept (Err e) edits stopped = absurd stopped
   stopped_wants version (halts.Full operation) kept (Err e) edits stopped =
-      let x = both (Begins IsLawful old) (EditsOne (Executes s.origin asked (Err (halts.Full operation)))) first second begins edits in
+      let x = both (Begins IsLawful old) (EditedOne s.origin asked (Err (halts.Full operation))) first second begins edits in
       wants (halts.Full operation) x (full_wants s asked old x.before x.after x.met told opening x.related.known (known_at seat) (back_from (halts.Full operation) x) operation x.related.becomes)
 
 -- the same of a pass that is known by another name
@@ -163,20 +166,6 @@ result_as s asked ends old new new' r ran same = subst (λ (v : Known). IfOk r (
 
 pub wants_as : (s : Setup) (asked : Transaction) (old new new' : Known) (r : Result Outcome AllocError) → OnErr r (BlockWants s asked old new) → new' ≡ new → OnErr r (BlockWants s asked old new')
 wants_as s asked old new new' r wants same = subst (λ (v : Known). OnErr r (BlockWants s asked old v)) (sym same) wants
-
--- ---- a transaction that was dropped
-
-pub if_there : {P : Type 0} (told : Version → Draft → Type 0) (first second : Option Draft) → Edits told first second → IfSome second (λ _. P) → P
-if_there told (Some d) (Some e) edits p = p
-if_there told (Some d) None edits p = absurd edits
-if_there told None (Some e) edits p = absurd edits
-if_there told None None edits p = absurd edits
-
-pub back_there : (told : Version → Draft → Type 0) (first second : Option Draft) (seat : Option Seat) → Edits told first second → IfSome second (λ d. IsBack d.seat.place.me.0 seat) → IsSome seat
-back_there told (Some d) (Some e) seat edits back = back.0
-back_there told (Some d) None seat edits back = absurd edits
-back_there told None (Some e) seat edits back = absurd edits
-back_there told None None seat edits back = absurd edits
 
 -- ---- what calls ask of a transaction
 
@@ -191,22 +180,22 @@ module _ (old : Known) (first : Option Draft) (begins : IsSomeAnd first (Begins 
   pub begun_works : IsSomeAnd first WorksOnSome
   begun_works = some_weaker (Begins IsLawful old) WorksOnSome first (begun_some old) begins
 
-  module _ (origin : Name) (asked : Transaction) (second : Option Draft) (edits : Edits (Executes origin asked (Ok tt)) first second) where
+  module _ (origin : Name) (asked : Transaction) (second : Option Draft) (edits : Edited origin asked (Ok tt) first second) where
     works_still : IsSomeAnd second WorksOnSome
-    works_still = edits_some (Executes origin asked (Ok tt)) first second begun_works (λ version e a. record { version = a.0; on = a.2 }) edits
+    works_still = edits_some (most_done asked.operations (Ok tt)) (Executes origin asked (Ok tt)) first second begun_works (λ version e a. record { version = a.0; on = a.2 }) edits
 
     pub after_works : IsSomeAnd second Works
     after_works = some_weaker WorksOnSome Works second (λ d w. w.on.works) works_still
 
     pub after_lawful : is_told old.seen.opening ≡ true → OpensAt origin old → AllSaid origin asked → IsSomeAnd second (λ d. IsLawful (first_version d.seat.place.me.0.seen) (working_set d))
     after_lawful told opens said =
-        let x = both (Begins IsLawful old) (EditsOne (Executes origin asked (Ok tt))) first second begins edits in
+        let x = both (Begins IsLawful old) (EditedOne origin asked (Ok tt)) first second begins edits in
         subst (λ (o : Option Draft). IsSomeAnd o (λ d. IsLawful (first_version d.seat.place.me.0.seen) (working_set d))) (sym x.new_is) (lawful_block origin asked old x.before x.after x.met told opens said x.related.known x.related.becomes)
 
 -- what was edited, in the words of a setup
-pub edits_as : (origin origin' : Name) (asked asked' : Transaction) (r : Result (Unit {0}) Halt) (first second : Option Draft) → origin' ≡ origin → asked ≡ asked' → Edits (Executes origin asked r) first second → Edits (Executes origin' asked' r) first second
+pub edits_as : (origin origin' : Name) (asked asked' : Transaction) (r : Result (Unit {0}) Halt) (first second : Option Draft) → origin' ≡ origin → asked ≡ asked' → Edited origin asked r first second → Edited origin' asked' r first second
 edits_as origin origin' asked asked' r first second e f edits =
-    subst (λ (o : Name). Edits (Executes o asked' r) first second) (sym e) (subst (λ (os : Transaction). Edits (Executes origin os r) first second) f edits)
+    subst (λ (o : Name). Edited o asked' r first second) (sym e) (subst (λ (os : Transaction). Edited origin os r first second) f edits)
 
 pub has_passes : (s : Setup) (passes : ℕ) (first : Option Draft) → s.passes ≡ passes → IsSomeAnd first (λ d. d.seat.passes ≡ passes) → IfSome first (λ d. s.passes ≡ d.seat.passes)
 has_passes s passes (Some d) same has = same ∙ sym has

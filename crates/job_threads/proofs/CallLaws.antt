@@ -1,5 +1,5 @@
 -- What a gate is told of a worker's commands.
-use Rattle.std.proofs.Common.{◌≡◌, ◌⊎◌, ⊎_elim, ℕ, ◌+◌, ◌<◌, ◌≤◌, Result, Ok, Err, IfOk, subst, sym, arith}
+use Rattle.std.proofs.Common.{◌≡◌, ⊎_elim, ℕ, ◌+◌, ◌<◌, ◌≤◌, Result, Ok, Err, IfOk, subst, sym, arith}
 use Rattle.std.proofs.Math.Nat.{eq-or-lt_of_le}
 
 -- one place more

@@ -1,5 +1,5 @@
 -- A compaction ends as a block without operations does.
-use Rattle.std.proofs.Common.{◌≡◌, ◌≢◌, ◌∙◌, ℕ, ◌+◌, true, List, [], Option, Some, Result, Ok, Err, refl, sym, append-nil}
+use Rattle.std.proofs.Common.{◌≡◌, ◌≢◌, ◌∙◌, ℕ, ◌+◌, true, List, [], Option, Some, Result, Ok, Err, refl, sym, arith, append-nil}
 use Rattle.std.specs.Prelude.{IsSome, IfOk, IfErr}
 use Rattle.atomic_table.specs.Seated.{TableId}
 use Rattle.pin_core.specs.declared.version.Spent.{Spent as NoNumber}
@@ -17,8 +17,7 @@ use Rattle.shared_index.specs.declared.meaning.Operation.{Operation}
 use Rattle.shared_index.specs.Compactions.{Compacts, IsLast}
 use Rattle.shared_index.specs.Keepings.{GoesOn}
 use Rattle.shared_index.specs.Passes.{Known, known_at, first_version}
-use Rattle.zone_edit.specs.Blocks.{Executes}
-use Rattle.zone_edit.specs.Stores.{Edits}
+use Rattle.zone_edit.specs.Blocks.{Edited}
 use Rattle.job_threads.specs.Histories.{IsLawful, Setup}
 use Rattle.job_threads.specs.Commands.{BlockRan}
 use Rattle.job_threads.proofs.BlockLaws.{commit_ran, spent_ran}
@@ -27,8 +26,8 @@ stays_so : (v : Known) → GoesOn v v
 stays_so v = record { pass = refl; opening = refl; history = refl; namings = ([], sym (append-nil v.seen.namings)) }
 
 -- nothing was done
-edits_none : (s : Setup) (d : Draft) → Edits (Executes s.origin no_changes (Ok tt)) (Some d) (Some d)
-edits_none s d = record { known = stays_so d.seat.place.me.0; passes = refl; becomes = λ version on. (version, refl, on) }
+edits_none : (s : Setup) (d : Draft) → Edited s.origin no_changes (Ok tt) (Some d) (Some d)
+edits_none s d = record { known = stays_so d.seat.place.me.0; passes = refl; few = omega arith; becomes = λ version on. (version, refl, on) }
 
 pub compaction_ran : (s : Setup) (old : Known) (o : Outcome) → is_told old.seen.opening ≡ true → first_version old.seen ≡ s.opening → (seat : Option (PassSeat (List Entry) (List Operation))) → IsSome seat → (table : TableId) (passes : ℕ) (r : Result Receipt NoNumber)
     → IfOk r (Compacts IsLawful table passes old (known_at seat)) → IfOk r (λ t. t.version ≢ last_version + 1) → IfErr r (IsLast IsLawful old (known_at seat)) → IfErr r (λ t. t.version ≡ last_version)

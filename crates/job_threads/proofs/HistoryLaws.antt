@@ -10,7 +10,7 @@ use Rattle.shared_cells.specs.Views.{is_told}
 use Rattle.shared_index.specs.declared.meaning.Operation.{Operation}
 use Rattle.shared_index.specs.Operations.{applied}
 use Rattle.shared_index.specs.Passes.{first_version}
-use Rattle.job_threads.specs.Histories.{Setup, Commit, Entries, Sighting, index_at, StandsAs, AreVersions, CoversNamings, times_by}
+use Rattle.job_threads.specs.Histories.{Setup, Commit, Entries, Sighting, index_at, StandsAs, AreVersions, Deeds, Explains, times_by}
 
 -- ---- beginnings
 
@@ -35,6 +35,15 @@ begins_other (z ∷ all) (x ∷ xs) (y ∷ ys) a b le =
     let rest = begins_other all xs ys (a.0, one) (b.0, two) (omega arith) in
     (rest.0, ap (λ (x' : _). x' ∷ ys) (sym head) ∙ ap (λ (l : List _). x ∷ l) rest.1)
 
+-- the last commit, by its number
+pub last_commit : (base before : List Commit) (x e : Commit) → StartsWith (base ++ x ∷ []) (before ++ e ∷ []) → length before ≡ length base → x ≡ e
+last_commit [] [] x e b same = let h : x ∷ [] ≡ e ∷ b.0 = b.1 in cc
+last_commit [] (y ∷ before) x e b same = absurd (omega (arith, same))
+last_commit (y ∷ base) [] x e b same = absurd (omega (arith, same))
+last_commit (y ∷ base) (z ∷ before) x e b same =
+    let rest : base ++ x ∷ [] ≡ (before ++ e ∷ []) ++ b.0 = (let h : y ∷ (base ++ x ∷ []) ≡ z ∷ ((before ++ e ∷ []) ++ b.0) = b.1 in cc) in
+    last_commit base before x e (b.0, rest) (omega (arith, same))
+
 -- ---- versions by their numbers
 
 pub index_front : (opening : Entries) (all part : List Commit) (j : ℕ) → StartsWith all part → j ≤ length part → index_at opening all j ≡ index_at opening part j
@@ -55,11 +64,14 @@ last_stands s all part set v b e are =
     let le : v ≤ length part = omega arith in
     subst (λ (es : Entries). StandsAs es (set v)) (index_last s.opening part v e) (versions_front s all part set b are v le)
 
-pub covers_front : (shown : List ℕ) (all part : Sighting) → IsPartOf all part → CoversNamings shown all → CoversNamings shown part
-covers_front shown all part p c n here below =
-    let long = begins_length all.history part.history p.history in
-    let more : n.version < length all.history = omega (arith, below, long) in
-    c n (subst (λ (l : List Naming). Contains l n) (sym p.namings.1) (Contains-append_left part.namings p.namings.0 n here)) more
+pub explains_front : (deeds : Deeds) (all part : Sighting) → IsPartOf all part → Explains deeds all → Explains deeds part
+explains_front deeds all part p x = record {
+  namings = λ n here below.
+      let long = begins_length all.history part.history p.history in
+      let more : n.version < length all.history = omega (arith, below, long) in
+      x.namings n (subst (λ (l : List Naming). Contains l n) (sym p.namings.1) (Contains-append_left part.namings p.namings.0 n here)) more;
+  commits = λ before e begins. x.commits before e (begins_more all.history part.history (before ++ e ∷ []) p.history begins);
+}
 
 -- ---- what was opened
 

@@ -17,7 +17,7 @@ use Rattle.shared_cells.specs.History.{StartsWith, entries_by, version_after}
 use Rattle.shared_cells.specs.Views.{number_of}
 use Rattle.shared_index.specs.Operations.{applied}
 use Rattle.shared_index.specs.Passes.{Known}
-use Rattle.job_threads.specs.Histories.{Setup, Commit, Entries, index_at, StandsAs, AreVersions, CoversNamings, judged_by, times_by}
+use Rattle.job_threads.specs.Histories.{Setup, Commit, Entries, index_at, StandsAs, AreVersions, AreAsked, Deeds, Explains, judged_by, times_by}
 use Rattle.job_threads.specs.Works.{Replayed}
 use Rattle.job_threads.specs.Closings.{Some', AreApart, Worker, second_view, workers_views, views_of, numbers_in, commands_in, outcomes_in, IsPass, Closed, MainSees}
 use Rattle.job_threads.specs.Runs.{IsRun}
@@ -257,7 +257,7 @@ module _ (s : Setup) (history : List Commit) (namings : List Naming) (main : Kno
       by_made rest true e =
           let both = is_both (is_committed p.1.ended) (eqb p.1.version j) e in
           let same : p.1.version ≡ j = (let t : eqb p.1.version j ≡ true = both.1 in grind (arith, nat_tests)) in
-          let replayed = (r.0 both.0).1 base (subst (λ (n : ℕ). StandsAs (index_at s.opening history (n - 1)) base) (sym same) b) in (
+          let replayed = (r.0 both.0).2 base (subst (λ (n : ℕ). StandsAs (index_at s.opening history (n - 1)) base) (sym same) b) in (
             replayed.0,
             ap (λ (t : Bool). whole s.origin (cond t (asked_by p.0) (asked_at j pairs)) base) e ∙ replayed.1,
             subst (λ (n : ℕ). StandsAs (index_at s.opening history n) replayed.0) same replayed.2,
@@ -308,22 +308,46 @@ module _ (s : Setup) (history : List Commit) (namings : List Naming) (main : Kno
       (λ (further : Some' (Pinned n) (views_of main ws)). shown_right (pairs_of w.commands w.outcomes.list.items) (Made ws) n.version (covered ws n own is pinned below further))
       (rest_some (Pinned n) w.has_second w.station.holds (workers_views ws) main more)
 
+  -- ---- commits do what was asked for
+
+  asked_short : (j : ℕ) (before : List Commit) (e : Commit) (pairs : Pairs) → StartsWith history (before ++ e ∷ []) → length before + 1 ≡ j → times_made j pairs ≡ 1 → AllByRecursion (Replayed s history) pairs → length e.change ≤ length (asked_at j pairs).operations
+  asked_short j before e [] begins numbered once r = absurd cc
+  asked_short j before e (p ∷ pairs) begins numbered once r = by_made (λ fewer. asked_short j before e pairs begins numbered fewer r.1) (made j p) refl
+    where
+      by_made : (times_made j pairs ≡ 1 → length e.change ≤ length (asked_at j pairs).operations) → (t : Bool) → made j p ≡ t → length e.change ≤ length (asked_at j (p ∷ pairs)).operations
+      by_made rest true is =
+          let both = is_both (is_committed p.1.ended) (eqb p.1.version j) is in
+          let same : p.1.version ≡ j = (let t : eqb p.1.version j ≡ true = both.1 in grind (arith, nat_tests)) in
+          subst (λ (t : Bool). length e.change ≤ length (cond t (asked_by p.0) (asked_at j pairs)).operations) (sym is) ((r.0 both.0).1 before e begins (numbered ∙ sym same))
+      by_made rest false is =
+          let fewer : times_made j pairs ≡ 1 = sym (ap (λ (t : Bool). cond t 1 0 + times_made j pairs) is ∙ (let z : 0 + times_made j pairs ≡ times_made j pairs = omega arith in z)) ∙ once in
+          subst (λ (t : Bool). length e.change ≤ length (cond t (asked_by p.0) (asked_at j pairs)).operations) (sym is) (rest fewer)
+
+  all_asked : (pairs : Pairs) → AllByRecursion (Replayed s history) pairs → ((j : ℕ) → 0 < j → j ≤ length history → times_made j pairs ≡ 1) → AreAsked (λ j. asked_at j pairs) history
+  all_asked pairs r once before e begins =
+      let long = begins_length history (before ++ e ∷ []) begins in
+      asked_short (length before + 1) before e pairs begins refl (once (length before + 1) (omega arith) (omega (arith, long, length-append before (e ∷ [])))) r
+
   -- ---- all are lawful
 
-  abbrev Covers : List ℕ → Type 0
-  Covers shown = (n : Naming) → Contains namings n → n.version < length history → Contains shown n.version
+  -- the whole history, and all namings
+  abbrev ExplainsAll : Deeds → Type 0
+  ExplainsAll deeds = ((n : Naming) → Contains namings n → n.version < length history → Contains deeds.shown n.version) × AreAsked deeds.made_by history
 
-  covers_each : (shown : List ℕ) (v : Known) → Covers shown → Sees v → StartsWith namings v.seen.namings → CoversNamings shown v.seen
-  covers_each shown v c b names n inside below =
-      let long = begins_length history v.seen.history b in
-      c n (subst (λ (l : List Naming). Contains l n) (sym names.1) (Contains-append_left v.seen.namings names.0 n inside)) (omega (arith, below, long))
+  explains_each : (deeds : Deeds) (v : Known) → ExplainsAll deeds → Sees v → StartsWith namings v.seen.namings → Explains deeds v.seen
+  explains_each deeds v x b names = record {
+    namings = λ n inside below.
+        let long = begins_length history v.seen.history b in
+        x.0 n (subst (λ (l : List Naming). Contains l n) (sym names.1) (Contains-append_left v.seen.namings names.0 n inside)) (omega (arith, below, long));
+    commits = λ before e begins. x.1 before e (begins_more history v.seen.history (before ++ e ∷ []) b begins);
+  }
 
-  all_along : (ws : List (Worker s)) (set : ℕ → Version) (shown : List ℕ) → AreVersions s history set → Covers shown → AllByRecursion Sees (views_of main ws) → AllByRecursion (λ (v : Known). StartsWith namings v.seen.namings) (views_of main ws)
-      → AllAlong (judged_by s set shown) (job_pairs (commands_in ws) (outcomes_in ws))
-  all_along [] set shown are covers b names = tt
-  all_along (w ∷ ws) set shown are covers b names = (
-    w.ran.work.along set shown (versions_front s history w.station.asks.seen.history set b.0 are) (covers_each shown w.station.asks covers b.0 names.0),
-    all_along ws set shown are covers (behind main Sees w ws b) (behind main (λ (v : Known). StartsWith namings v.seen.namings) w ws names),
+  all_along : (ws : List (Worker s)) (set : ℕ → Version) (deeds : Deeds) → AreVersions s history set → ExplainsAll deeds → AllByRecursion Sees (views_of main ws) → AllByRecursion (λ (v : Known). StartsWith namings v.seen.namings) (views_of main ws)
+      → AllAlong (judged_by s set deeds) (job_pairs (commands_in ws) (outcomes_in ws))
+  all_along [] set deeds are explains b names = tt
+  all_along (w ∷ ws) set deeds are explains b names = (
+    w.ran.work.along set deeds (versions_front s history w.station.asks.seen.history set b.0 are) (explains_each deeds w.station.asks explains b.0 names.0),
+    all_along ws set deeds are explains (behind main Sees w ws b) (behind main (λ (v : Known). StartsWith namings v.seen.namings) w ws names),
   )
 
   all_tell : (ws : List (Worker s)) (set : ℕ → Version) → AreVersions s history set → AllByRecursion Sees (views_of main ws) → AllTell s.origin set (commands_in ws) (outcomes_in ws)
@@ -342,13 +366,14 @@ module _ (s : Setup) (history : List Commit) (namings : List Naming) (main : Kno
       let long : version ≡ length history = last ∙ sym (ap length same) in
       let once = made_once ws m.own m.is_own m.none c in
       let are = versions_stand zone (Made ws) opens (all_replayed ws c.begins) once in
-      let covers : Covers (shown_in (Made ws)) = λ n inside below. covered ws n m.own m.is_own m.pinned (subst (λ (h : List Commit). n.version < length h) same below) (c.namers n inside) in
+      let deeds : Deeds = record { shown = shown_in (Made ws); made_by = λ j. asked_at j (Made ws) } in
+      let named : (n : Naming) → Contains namings n → n.version < length history → Contains (shown_in (Made ws)) n.version = λ n inside below. covered ws n m.own m.is_own m.pinned (subst (λ (h : List Commit). n.version < length h) same below) (c.namers n inside) in
       let stands = are (length history) (omega arith) in
       record {
         lawful = record {
           once = λ j some le. once j some (omega (arith, le, long));
           none_above = all_weaker (λ (p : Pair). p.1.version ≤ length history) (λ (p : Pair). p.1.version ≤ version) (Made ws) (λ p le. omega (arith, le, long)) (all_below ws c.begins);
-          along = all_along ws (versions_made s.origin zone (commands_in ws) (outcomes_in ws)) (shown_in (Made ws)) are covers c.begins c.names;
+          along = all_along ws (versions_made s.origin zone (commands_in ws) (outcomes_in ws)) deeds are (named, all_asked (Made ws) (all_replayed ws c.begins) once) c.begins c.names;
         };
         tell = all_tell ws (versions_made s.origin zone (commands_in ws) (outcomes_in ws)) are c.begins;
         names_are =

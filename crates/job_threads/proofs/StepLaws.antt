@@ -24,7 +24,7 @@ use Rattle.shared_cells.specs.Views.{is_told, with_pinned}
 use Rattle.shared_index.specs.declared.meaning.Operation.{Operation}
 use Rattle.shared_index.specs.Operations.{applied}
 use Rattle.shared_index.specs.Passes.{Known, first_version, version_seen}
-use Rattle.job_threads.specs.Histories.{Setup, Entries, StandsAs, AreVersions, CoversNamings, judged_by}
+use Rattle.job_threads.specs.Histories.{Setup, Entries, StandsAs, AreVersions, Deeds, Explains, judged_by}
 use Rattle.job_threads.specs.Commands.{Asked, IsHeld, Held, AskedHeld, Released, Transacts, BlockRan}
 use Rattle.job_threads.specs.Steps.{Station, HoldsLast, IsSight, IsUnder, Stays, Writes, Moved, Step}
 use Rattle.job_threads.proofs.HistoryLaws.{begins_same, begins_more, begins_length, last_stands, opened_same, part_same}
@@ -113,7 +113,7 @@ module _ (s : Setup) (o : Outcome) (old new : Station) (opened : first_version o
           under = still_under;
           held = held;
           tells = replies;
-          ends = λ sight is set shown are covers.
+          ends = λ sight is set deeds are explains.
               let seen = is.seen in
               let le : sight.seen ≤ o.version = omega (arith, seen, long, a.version) in
               shows_at (sight.seen ≤ o.version) (ended_view o.told) a.shown le;
@@ -127,8 +127,8 @@ module _ (s : Setup) (o : Outcome) (old new : Station) (opened : first_version o
     -- what a transaction's step is, whatever is told of it
     record Rest (c : Command) : Type 0 where
       asks : IsPartOf new.asks.seen old.asks.seen
-      ends : (sight : Sight) → IsSight old sight → (set : ℕ → Version) (shown : List ℕ) → AreVersions s new.asks.seen.history set → CoversNamings shown new.asks.seen
-          → EndsLawfully (judged_by s set shown) sight c o.version (ended_view o.told)
+      ends : (sight : Sight) → IsSight old sight → (set : ℕ → Version) (deeds : Deeds) → AreVersions s new.asks.seen.history set → Explains deeds new.asks.seen
+          → EndsLawfully (judged_by s set deeds) sight c o.version (ended_view o.told)
       below : o.version ≤ length new.asks.seen.history
       holding : (sight : Sight) → IsSight old sight → IsSight new (sight_after sight c o.version)
       writes : (own : Own) → old.asks.pass ≡ Some own → Writes s own c o.version (is_committed (ended_view o.told)) old.asks new.asks
@@ -136,7 +136,7 @@ module _ (s : Setup) (o : Outcome) (old new : Station) (opened : first_version o
     block_rest : (weight : Weight) (asked : Transaction) (ending : Ending) (own : Own) → old.asks.pass ≡ Some own → BlockRan s asked ending old.asks new.asks o → Rest (Block weight asked ending)
     block_rest weight asked ending own is b = record {
       asks = b.grows;
-      ends = λ sight is' set shown are covers. by_end sight is' set shown are covers (ended_view o.told) b.transacts;
+      ends = λ sight is' set deeds are explains. by_end sight is' set deeds are explains (ended_view o.told) b.transacts;
       below = omega (arith, b.version);
       holding = λ sight is'. record { seen = omega (arith, b.version); held = still_holds sight.held is'.held };
       writes = λ own' is'. by_write own' is' (ended_view o.told) b.transacts;
@@ -148,9 +148,9 @@ module _ (s : Setup) (o : Outcome) (old new : Station) (opened : first_version o
         stands_at : (set : ℕ → Version) → AreVersions s new.asks.seen.history set → StandsAs (version_seen new.asks.seen) (set o.version)
         stands_at set are = seen_stands s set new.asks new.asks o.version opened_now (begins_same new.asks.seen.history) b.version are
 
-        by_end : (sight : Sight) → IsSight old sight → (set : ℕ → Version) (shown : List ℕ) → AreVersions s new.asks.seen.history set → CoversNamings shown new.asks.seen → (e : Ended) → Transacts s asked ending old.asks new.asks e → BlockEnds (judged_by s set shown) sight.seen asked ending o.version e
-        by_end sight is' set shown are covers Shown t = t
-        by_end sight is' set shown are covers Committed t =
+        by_end : (sight : Sight) → IsSight old sight → (set : ℕ → Version) (deeds : Deeds) → AreVersions s new.asks.seen.history set → Explains deeds new.asks.seen → (e : Ended) → Transacts s asked ending old.asks new.asks e → BlockEnds (judged_by s set deeds) sight.seen asked ending o.version e
+        by_end sight is' set deeds are explains Shown t = t
+        by_end sight is' set deeds are explains Committed t =
             let c = t.1 own is in
             let seen = is'.seen in
             let base_long = begins_length c.base old.asks.seen.history c.before in
@@ -160,16 +160,16 @@ module _ (s : Setup) (o : Outcome) (old new : Station) (opened : first_version o
             let base = last_stands s new.asks.seen.history c.base set (o.version - 1) (_, c.history) last are in
             let made = c.makes (set (o.version - 1)) base in
             (t.0, before_it, ok_from (whole s.origin asked (set (o.version - 1))) made.0 made.1)
-        by_end sight is' set shown are covers RolledBack t =
+        by_end sight is' set deeds are explains RolledBack t =
             let seen = is'.seen in
             let l = long in
             let le : sight.seen ≤ o.version = (let v = b.version in omega arith) in
             (t.0, le, t.2 (set o.version) (stands_at set are))
-        by_end sight is' set shown are covers (Refused cause) t =
+        by_end sight is' set deeds are explains (Refused cause) t =
             let seen = is'.seen in
             let l = long in
             let le : sight.seen ≤ o.version = (let v = b.version in omega arith) in
-            (le, subst (λ (n : ℕ). Causes (judged_by s set shown) asked ending n cause) (sym b.version) (t.1 set shown are covers))
+            (le, subst (λ (n : ℕ). Causes (judged_by s set deeds) asked ending n cause) (sym b.version) (t.1 set deeds are explains))
 
         by_write : (own' : Own) → old.asks.pass ≡ Some own' → (e : Ended) → Transacts s asked ending old.asks new.asks e → Writes s own' (Block weight asked ending) o.version (is_committed e) old.asks new.asks
         by_write own' is' Shown t = absurd t
@@ -181,6 +181,7 @@ module _ (s : Setup) (o : Outcome) (old new : Station) (opened : first_version o
               operations = c.changes;
               before = c.before;
               mine = c.mine;
+              short = c.short;
               history = c.history;
               pass = c.pass;
               numbered = b.version ∙ longer;
@@ -229,7 +230,7 @@ module _ (s : Setup) (o : Outcome) (old new : Station) (opened : first_version o
 
         writes_as : (own' : Own) (c : Bool) → Writes s own' (Block Heavy no_changes Commit) o.version c old.asks new.asks → Writes s own' Compact o.version c old.asks new.asks
         writes_as own' false y = stays_as own' new.asks y
-        writes_as own' true y = record { base = y.base; operations = y.operations; before = y.before; mine = y.mine; history = y.history; pass = y.pass; numbered = y.numbered; makes = y.makes }
+        writes_as own' true y = record { base = y.base; operations = y.operations; before = y.before; mine = y.mine; short = y.short; history = y.history; pass = y.pass; numbered = y.numbered; makes = y.makes }
 
   -- the second pass took a snapshot
   pub hold_step : (seat : PinnedSeat (List trie.Entry) (List Operation)) → new.holds ≡ seat.place.me.0 → new.held ≡ true → IsHeld seat → Held old.asks old.holds new.asks seat o → Step s Hold o old new
@@ -244,7 +245,7 @@ module _ (s : Setup) (o : Outcome) (old new : Station) (opened : first_version o
         under = subst (IsUnder new.asks) (sym now) (record { opening = sym (opened_same new.asks.seen seat.place.me.0.seen seat.told t.tells); history = t.tells.history });
         held = taken;
         tells = λ set are. t.is_told;
-        ends = λ sight is set shown' are covers.
+        ends = λ sight is set deeds are explains.
             let seen = is.seen in
             let le : sight.seen ≤ o.version = omega (arith, seen, grows, last) in
             shows_at (sight.seen ≤ o.version) (ended_view o.told) shown le;
@@ -278,7 +279,7 @@ module _ (s : Setup) (o : Outcome) (old : Station) (opened : first_version old.a
     held = refl;
     tells = λ set are. a.replies (set o.version)
         (subst (λ (v : Known). StandsAs (version_seen v.seen) (set o.version)) now (seen_stands s set old.asks old.holds o.version (under.opening ∙ opened) under.history (a.version ∙ h.version ∙ sym (ap (λ (v : Known). length v.seen.history) now)) are));
-    ends = λ sight is set shown are covers. shows_at (sight.held ≡ Some o.version) (ended_view o.told) a.shown (held_version sight is a.version);
+    ends = λ sight is set deeds are explains. shows_at (sight.held ≡ Some o.version) (ended_view o.told) a.shown (held_version sight is a.version);
     below = below_asks a.version;
     holding = λ sight is. is;
     writes = λ own is. writes_nothing s own (AskHeld question) o.version (is_committed (ended_view o.told)) old.asks old.asks (shown_plain (ended_view o.told) a.shown) (stays_same (AskHeld question) o.version own old.asks is);
@@ -300,7 +301,7 @@ module _ (s : Setup) (o : Outcome) (old : Station) (opened : first_version old.a
         });
         held = free;
         tells = λ set are. r.is_told;
-        ends = λ sight is set shown' are covers. shows_at (sight.held ≡ Some o.version) (ended_view o.told) shown (held_version sight is r.version);
+        ends = λ sight is set deeds are explains. shows_at (sight.held ≡ Some o.version) (ended_view o.told) shown (held_version sight is r.version);
         below = (let b = below_asks r.version in let e = ap (λ (v : Known). length v.seen.history) same in omega arith);
         holding = λ sight is. record {
           seen = (let l = is.seen in let e = ap (λ (v : Known). length v.seen.history) same in omega arith);

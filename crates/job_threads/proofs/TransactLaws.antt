@@ -16,7 +16,7 @@ use Rattle.trie_model.specs.Shape.{cells}
 use Rattle.job_model.specs.declared.Ending.{Ending}
 use Rattle.job_model.specs.declared.Ending.TheVariants as ending
 use Rattle.job_model.specs.Sizes.{cell_count, trie_entries}
-use Rattle.job_model.specs.Outcomes.{Cause, Rule, Full, Spent, Causes, FullCause, cells_kept, last_version}
+use Rattle.job_model.specs.Outcomes.{BoundsVersions, Cause, Rule, Full, Spent, Causes, FullCause, cells_kept, last_version}
 use Rattle.report_laws.specs.Changes.{AllSaid}
 use Rattle.report_laws.proofs.ChangeLemmas.{whole_dumped}
 use Rattle.shared_cells.specs.declared.view.PassView.{PassView}
@@ -36,11 +36,14 @@ use Rattle.shared_index.specs.Keepings.{GoesOn, versions_in}
 use Rattle.zone_edit.specs.Stores.{WorksOn, WorksOnSome}
 use Rattle.zone_edit.specs.Blocks.{Executes, IsFullAt}
 use Rattle.zone_edit.proofs.ApplyLaws.{next_applied}
+use Rattle.chunk_usage.specs.Capacity.{is_roomy}
 use Rattle.chunk_usage.specs.Keeping.{kept_versions}
+use Rattle.pin_core.proofs.Lists.{contains_cases}
+use Rattle.shared_index.specs.Capacity.{BoundsHistory}
 use Rattle.zone_edit.specs.declared.applying.Halt.TheVariants as halts
-use Rattle.job_threads.specs.Histories.{Setup, BeginsAt, Commit, Entries, IsLawful, StandsAs, AreVersions, CoversNamings, index_at, judged_by}
+use Rattle.job_threads.specs.Histories.{Setup, BeginsAt, Commit, Entries, IsLawful, StandsAs, AreVersions, Deeds, Explains, index_at, judged_by}
 use Rattle.job_threads.specs.Commands.{Accepts, Commits, OpensAt}
-use Rattle.job_threads.proofs.HistoryLaws.{begins_same, begins_more, last_stands, opened_same, part_more}
+use Rattle.job_threads.proofs.HistoryLaws.{begins_same, begins_length, begins_more, index_front, index_last, last_stands, opened_same, part_more}
 use Rattle.job_threads.proofs.JobLaws.{here, there}
 use Rattle.job_threads.proofs.ZoneLaws.{lawful_zone, opens_still}
 
@@ -108,6 +111,21 @@ lawful_block origin asked old d e b told opens said known becomes =
       zone = record { version = made.0; stands = record { valid = made.2.valid; entries = sym made.2.set }; zone = whole_dumped origin asked z.version made.0 made.1 z.zone said };
     }
 
+-- ---- a commit's number
+
+record CommitIn (history : List Commit) (x : Commit) : Type 0 where
+  before : List Commit
+  begins : StartsWith history (before ++ x ∷ [])
+
+commit_in : (history : List Commit) (x : Commit) → Contains history x → CommitIn history x
+commit_in [] x c = absurd (let l = c.1 in omega arith)
+commit_in (y ∷ history) x c = ⊎_elim
+    (λ (e : y ≡ x). record { before = []; begins = (history, ap (λ (z : Commit). z ∷ history) e) })
+    (λ (more : Contains history x). further (commit_in history x more)) (contains_cases y x history c)
+  where
+    further : CommitIn history x → CommitIn (y ∷ history) x
+    further r = record { before = y ∷ r.before; begins = (r.begins.0, ap (λ (h : List Commit). y ∷ h) r.begins.1) }
+
 module _ (s : Setup) (asked : Transaction) (old : Known) (d e : Draft) (b : Begins IsLawful old d) (told : is_told old.seen.opening ≡ true) (opening : first_version old.seen ≡ s.opening) (known : GoesOn d.seat.place.me.0 e.seat.place.me.0) where
   base_opening : first_version d.seat.place.me.0.seen ≡ s.opening
   base_opening = opened_same d.seat.place.me.0.seen old.seen told b.joined.grows ∙ opening
@@ -130,8 +148,8 @@ module _ (s : Setup) (asked : Transaction) (old : Known) (d e : Draft) (b : Begi
 
   -- ---- committed
 
-  pub commits_block : (new : Known) → ((version : Version) → WorksOn d version → Executes s.origin asked (Ok tt) version e) → drafts.Commits e.seat.place.me.0 e.log.operations new → (own : Own) → old.pass ≡ Some own → Commits s asked own old new
-  commits_block new becomes c own is =
+  pub commits_block : (new : Known) → length e.log.operations ≤ length d.log.operations + length asked.operations → ((version : Version) → WorksOn d version → Executes s.origin asked (Ok tt) version e) → drafts.Commits e.seat.place.me.0 e.log.operations new → (own : Own) → old.pass ≡ Some own → Commits s asked own old new
+  commits_block new few becomes c own is =
       let mine : d.seat.place.me.0.pass ≡ Some own = b.joined.pass ∙ is in
       let both : ◌≡◌ {A = Option Own} (Some c.own) (Some own) = sym c.joined ∙ known.pass ∙ mine in
       let one : c.own ≡ own = cc in
@@ -142,6 +160,7 @@ module _ (s : Setup) (asked : Transaction) (old : Known) (d e : Draft) (b : Begi
         changes = e.log.operations;
         before = b.joined.grows.history;
         mine = b.joined.commits own mine;
+        short = omega (arith, few, ap (λ (os : List Operation). length os) b.none_done);
         history = history;
         pass = c.pass ∙ ap (λ (o : Own). Some (record o { entries = o.entries ++ entry_of o.number e.log.operations ∷ [] })) one;
         makes = λ zone stands.
@@ -207,10 +226,10 @@ module _ (s : Setup) (asked : Transaction) (old : Known) (d e : Draft) (b : Begi
 
     abbrev RefusedBlock : Ending → Cause → Type 0
     RefusedBlock ends cause = (new.pass ≡ old.pass)
-        × ((set : ℕ → Version) (shown : List ℕ) → AreVersions s new.seen.history set → CoversNamings shown new.seen → Causes (judged_by s set shown) asked ends (length new.seen.history) cause)
+        × ((set : ℕ → Version) (deeds : Deeds) → AreVersions s new.seen.history set → Explains deeds new.seen → Causes (judged_by s set deeds) asked ends (length new.seen.history) cause)
 
     pub rule_broken : (ends : Ending) (refusal : Refusal) → ((version : Version) → WorksOn d version → Executes s.origin asked (Err (halts.Refused refusal)) version e) → RefusedBlock ends (Rule refusal)
-    rule_broken ends refusal becomes = (back_pass, λ set shown are covers. becomes (set (length new.seen.history)) (works_set set (length new.seen.history) refl are))
+    rule_broken ends refusal becomes = (back_pass, λ set deeds are explains. becomes (set (length new.seen.history)) (works_set set (length new.seen.history) refl are))
 
     -- ---- want of memory
 
@@ -228,7 +247,7 @@ module _ (s : Setup) (asked : Transaction) (old : Known) (d e : Draft) (b : Begi
     pub spent_block : (ends : Ending) → ends ≡ ending.Commit → e.seat.version ≡ last_version → ((version : Version) → WorksOn d version → Executes s.origin asked (Ok tt) version e) → RefusedBlock ends Spent
     spent_block ends is spent becomes = (
       back_pass,
-      λ set shown are covers.
+      λ set deeds are explains.
           let made = becomes (set (length new.seen.history)) (works_set set (length new.seen.history) refl are) in
           (ap (λ (v : Known). length v.seen.history) back ∙ sym e.seat.version_is ∙ spent, is, ok_of (set (length new.seen.history)) (whole s.origin asked (set (length new.seen.history))) made.0 made.1),
     )
@@ -245,14 +264,33 @@ module _ (s : Setup) (asked : Transaction) (old : Known) (d e : Draft) (b : Begi
         sum_by-cons (λ (m : ℕ). cells (version_at e.seat.place.me.0 m)) n numbers
         ∙ ap (λ (es : Entries). cells es + fulls.cells_kept e.seat.place.me.0 numbers) same ∙ ap (λ (k : ℕ). cell_count (set n) + k) (kept_cells set are numbers low.1)
 
-    pub full_block : (ends : Ending) (operation : ℕ) (kept : Versions) → versions_in kept ≡ kept_versions e.usage → s.chunks ≡ length e.usage.given → s.passes ≡ e.seat.passes → ((version : Version) → WorksOn d version → Executes s.origin asked (Err (halts.Full operation)) version e) → RefusedBlock ends (Full operation (versions_in kept))
-    full_block ends operation kept told chunks passes becomes = (back_pass, λ set shown are covers. cause set shown are covers)
+    -- numbers that bound the versions bound what was published
+    bounds_of : (set : ℕ → Version) (deeds : Deeds) (most_cells most_operations : ℕ) → AreVersions s new.seen.history set → Explains deeds new.seen → BoundsVersions (judged_by s set deeds) (length new.seen.history) most_cells most_operations → BoundsHistory most_cells most_operations new.seen
+    bounds_of set deeds most_cells most_operations are explains bounds = record {
+      versions = λ part begins.
+          let le = begins_length new.seen.history part begins in
+          let here : length part ≤ length part = omega arith in
+          let same : version_after applied (first_version new.seen) part ≡ trie_entries (set (length part)) =
+          ap (λ (es : Entries). version_after applied es part) opening_back ∙ sym (index_last s.opening part (length part) refl)
+          ∙ sym (index_front s.opening new.seen.history part (length part) begins here) ∙ sym (are (length part) le).entries in
+          subst (λ (es : Entries). cells es ≤ most_cells) (sym same) (bounds.cells (length part) le);
+      commits = λ x inside.
+          let at = commit_in new.seen.history x inside in
+          let le = begins_length new.seen.history (at.before ++ x ∷ []) at.begins in
+          let short = explains.commits at.before x at.begins in
+          let few = bounds.operations (length at.before + 1) (omega arith) (omega (arith, le, length-append at.before (x ∷ []))) in
+          omega (arith, short, few);
+    }
+
+    pub full_block : (ends : Ending) (operation : ℕ) (kept : Versions) → versions_in kept ≡ kept_versions e.usage → s.chunks ≡ length e.usage.given → s.passes ≡ e.seat.passes → length e.log.operations ≤ length d.log.operations + (operation - 1)
+        → ((version : Version) → WorksOn d version → Executes s.origin asked (Err (halts.Full operation)) version e) → RefusedBlock ends (Full operation (versions_in kept))
+    full_block ends operation kept told chunks passes fewer becomes = (back_pass, λ set deeds are explains. cause set deeds are explains)
       where
         base_is : e.seat.version ≡ length new.seen.history
         base_is = e.seat.version_is ∙ sym (ap (λ (v : Known). length v.seen.history) back)
 
-        cause : (set : ℕ → Version) (shown : List ℕ) → AreVersions s new.seen.history set → CoversNamings shown new.seen → FullCause (judged_by s set shown) asked (length new.seen.history) operation (versions_in kept)
-        cause set shown are covers =
+        cause : (set : ℕ → Version) (deeds : Deeds) → AreVersions s new.seen.history set → Explains deeds new.seen → FullCause (judged_by s set deeds) asked (length new.seen.history) operation (versions_in kept)
+        cause set deeds are explains =
             let stopped = becomes (set (length new.seen.history)) (works_set set (length new.seen.history) refl are) in
             let at = subst (IsFullAt e s.origin asked.operations (set (length new.seen.history)) operation) (sym told) stopped.1 in
             let last : versions_in kept ≡ at.full.ends.0 ++ length new.seen.history ∷ [] = at.full.ends.1 ∙ ap (λ (n : ℕ). at.full.ends.0 ++ n ∷ []) base_is in
@@ -280,15 +318,26 @@ module _ (s : Setup) (asked : Transaction) (old : Known) (d e : Draft) (b : Begi
               rising = sorted (versions_in kept) rising;
               few = omega (arith, few, passes);
               full = subst (λ (n : ℕ). n - n / 4 - 8 ≤ cell_count at.working + cells_kept set (versions_in kept)) (sym chunks) (subst (λ (k : ℕ). length e.usage.given - length e.usage.given / 4 - 8 ≤ cell_count at.working + k) same many);
+              cramped = λ most_cells most_operations bounds within roomy.
+                  let place = at.place in
+                  let none = ap (λ (os : List Operation). length os) b.none_done in
+                  let history = bounds_of set deeds most_cells most_operations are explains bounds in
+                  at.full.cramped most_cells most_operations
+                  (record {
+                    some = omega (arith, place, within);
+                    history = subst (BoundsHistory most_cells most_operations) seen_back history;
+                    operations = omega (arith, fewer, none, place, within);
+                  })
+                  (subst (λ (p : ℕ). is_roomy p most_cells most_operations (length e.usage.given)) passes (subst (is_roomy s.passes most_cells most_operations) chunks roomy));
             }
           where
             shown_all : (older : List ℕ) → ((x : ℕ) → Contains older x → Contains (versions_in kept) x) → AllByRecursion (λ x. x < length new.seen.history) older
-                → ((v : ℕ) → Contains (versions_in kept) v → (v ≡ e.seat.version) ⊎ IsNamed e.seat.place.me.0 v) → AllByRecursion (Contains shown) older
+                → ((v : ℕ) → Contains (versions_in kept) v → (v ≡ e.seat.version) ⊎ IsNamed e.seat.place.me.0 v) → AllByRecursion (Contains deeds.shown) older
             shown_all [] inside low named = tt
             shown_all (x ∷ older) inside low named = (
               ⊎_elim
                   (λ (same : x ≡ e.seat.version). absurd (let l = low.0 in omega (arith, same, base_is, l)))
-                  (λ (n : IsNamed e.seat.place.me.0 x). subst (Contains shown) n.2 (covers n.0 (subst (λ x. Contains x.namings n.0) (sym seen_back) n.1) (let l = low.0 in omega (arith, n.2, l))))
+                  (λ (n : IsNamed e.seat.place.me.0 x). subst (Contains deeds.shown) n.2 (explains.namings n.0 (subst (λ x. Contains x.namings n.0) (sym seen_back) n.1) (let l = low.0 in omega (arith, n.2, l))))
                   (named x (inside x (here x older))),
               shown_all older (λ y c. inside y (there x y older c)) low.1 named,
             )

@@ -8,7 +8,7 @@ use Rattle.std.specs.List.{AllByRecursion}
 use Rattle.zone_model.specs.Names.{Name}
 use Rattle.zone_model.specs.Versions.{Version}
 use Rattle.job_model.specs.Commands.{Command, held_after, InTurn, MayCome}
-use Rattle.job_model.specs.Outcomes.{Setting, Pair, is_committed, made, times_made, Sight, at_first, sight_after, EndsLawfully, Along, shown_by, shown_in}
+use Rattle.job_model.specs.Outcomes.{Setting, Pair, is_committed, made, asked_by, times_made, Sight, at_first, sight_after, EndsLawfully, Along, shown_by, shown_in}
 use Rattle.job_script.specs.Views.{command_view}
 use Rattle.job_script.specs.declared.commands.Command.{Command as Said}
 use Rattle.job_script.specs.Outcomes.{ended_view, outcome_view, pairs_of, Tells, EachTells}
@@ -22,7 +22,7 @@ use Rattle.shared_index.specs.Passes.{Known, first_version}
 use Rattle.job_threads.specs.Histories.{Setup, Commit, Entries, index_at, StandsAs, AreVersions, judged_by, times_by}
 use Rattle.job_threads.specs.Steps.{Station, HoldsLast, IsSight, IsUnder, Adds, Stays, Writes, Step}
 use Rattle.job_threads.specs.Works.{Replayed, Work, Numbers, Begins, WorkerRan, ended}
-use Rattle.job_threads.proofs.HistoryLaws.{opened_same, begins_same, begins_more, begins_length, index_front, index_last, versions_front, covers_front, by-push, times_front, times_past, times_there, times_else}
+use Rattle.job_threads.proofs.HistoryLaws.{opened_same, begins_same, begins_more, begins_length, begins_other, last_commit, index_front, index_last, versions_front, explains_front, by-push, times_front, times_past, times_there, times_else}
 
 abbrev pub Pairs : Type 0
 Pairs = List Pair
@@ -105,8 +105,9 @@ replayed_more s all part b p le r = λ c.
     let was = r c in
     let below : p.1.version - 1 ≤ length part = omega (arith, le) in (
       was.0,
+      (λ before e begins numbered. was.1 before e (begins_other all (before ++ e ∷ []) part begins b (omega (arith, le, numbered, length-append before (e ∷ [])))) numbered),
       (λ base stands.
-          let made = was.1 base (subst (λ (es : Entries). StandsAs es base) (index_front s.opening all part (p.1.version - 1) b below) stands) in
+          let made = was.2 base (subst (λ (es : Entries). StandsAs es base) (index_front s.opening all part (p.1.version - 1) b below) stands) in
           (made.0, made.1, subst (λ (es : Entries). StandsAs es made.0) (sym (index_front s.opening all part p.1.version b le)) made.2)),
     )
 
@@ -171,6 +172,9 @@ grows_more s numbers old new pairs p w number grows commits a =
           (λ q le r. replayed_more s new.asks.seen.history old.asks.seen.history grows q le r) w.none_above w.replayed)
           (λ _. (
             omega (arith, a.numbered),
+            (λ before e begins here.
+                let same = last_commit a.base before (entry_of n a.operations) e (subst (λ (h : List Commit). StartsWith h (before ++ e ∷ [])) a.history begins) (omega (arith, here, a.numbered)) in
+                subst (λ (x : Commit). length x.change ≤ length (asked_by p.0).operations) same a.short),
             (λ zone stands.
                 let in_base : index_at s.opening new.asks.seen.history (p.1.version - 1) ≡ version_after applied s.opening a.base =
                 index_front s.opening new.asks.seen.history a.base (p.1.version - 1) base_front (omega (arith, before_it)) ∙ index_last s.opening a.base (p.1.version - 1) before_it in
@@ -212,7 +216,7 @@ worker_begins s t asker holder commands opened is_asker is_holder none none_held
   told = λ set are. tt;
   work = record {
     opened = opened;
-    along = λ set shown are covers. tt;
+    along = λ set deeds are explains. tt;
     none_above = tt;
     replayed = tt;
     asker = asker;
@@ -251,10 +255,10 @@ worker_goes_on s numbers old new done c behind os o opened w step =
       told = λ set are. each-push s.origin set done os c o (w.told set (versions_front s new.asks.seen.history old.asks.seen.history set step.asks.history are)) (step.tells set are);
       work = record {
         opened = opened ∙ w.work.opened;
-        along = λ set shown are covers. subst (Along (judged_by s set shown) at_first) (sym more)
-            (along-push (judged_by s set shown) at_first (pairs_of done os) (c, outcome_view o)
-            (w.work.along set shown (versions_front s new.asks.seen.history old.asks.seen.history set step.asks.history are) (covers_front shown new.asks.seen old.asks.seen step.asks covers))
-            (step.ends (sight_behind at_first (pairs_of done os)) w.sight set shown are covers));
+        along = λ set deeds are explains. subst (Along (judged_by s set deeds) at_first) (sym more)
+            (along-push (judged_by s set deeds) at_first (pairs_of done os) (c, outcome_view o)
+            (w.work.along set deeds (versions_front s new.asks.seen.history old.asks.seen.history set step.asks.history are) (explains_front deeds new.asks.seen old.asks.seen step.asks explains))
+            (step.ends (sight_behind at_first (pairs_of done os)) w.sight set deeds are explains));
         none_above = subst (AllByRecursion (λ (q : Pair). q.1.version ≤ length new.asks.seen.history)) (sym more)
             (all-push (λ (q : Pair). q.1.version ≤ length new.asks.seen.history) (pairs_of done os) (c, outcome_view o)
             (all_weaker (λ (q : Pair). q.1.version ≤ length old.asks.seen.history) (λ (q : Pair). q.1.version ≤ length new.asks.seen.history) (pairs_of done os) (λ q le. omega (arith, le, long)) w.work.none_above) step.below);

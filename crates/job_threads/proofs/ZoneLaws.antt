@@ -1,5 +1,5 @@
 -- The zone that an index's versions are of.
-use Rattle.std.proofs.Common.{◌≡◌, ◌∙◌, true, List, [], ◌∷◌, refl, sym, ap, subst}
+use Rattle.std.proofs.Common.{◌≡◌, ◌∙◌, true, [], ◌∷◌, refl, sym, ap, subst}
 use Rattle.zone_model.specs.Names.{Name}
 use Rattle.zone_model.proofs.KeyLaws.{key_once}
 use Rattle.job_model.specs.Sizes.{trie_entries}

@@ -1,5 +1,5 @@
 -- What each kind of command does.
-use Rattle.std.specs.Prelude.{◌≡◌, ℕ, true, List, ◌∷◌, [], ◌++◌, length, Some, Ok, Result, IsOk, IsOkAnd, IsErr, IfOk}
+use Rattle.std.specs.Prelude.{◌≡◌, ◌≤◌, ℕ, true, List, ◌∷◌, [], ◌++◌, length, Some, Ok, Result, IsOk, IsOkAnd, IsErr, IfOk}
 use Rattle.std.specs.declared.alloc.AllocError.{AllocError}
 use Rattle.zone_model.specs.Names.{Name}
 use Rattle.zone_model.specs.Versions.{Version, all_applied}
@@ -28,7 +28,7 @@ use Rattle.shared_index.specs.Operations.{applied}
 use Rattle.shared_index.specs.Passes.{Known, first_version, version_seen}
 use Rattle.zone_edit.specs.declared.applying.Halt.{Halt}
 use Rattle.zone_edit.specs.declared.applying.Halt.TheVariants as halts
-use Rattle.job_threads.specs.Histories.{Setup, Commit as Commit', BeginsAt, IsLawful, StandsAs, AreVersions, CoversNamings, judged_by}
+use Rattle.job_threads.specs.Histories.{Setup, Commit as Commit', BeginsAt, IsLawful, StandsAs, AreVersions, Deeds, Explains, judged_by}
 
 -- an index of this size
 pub record IsIndex (s : Setup) (origin : Name) (size : TableSize) : Type 0 where
@@ -85,12 +85,13 @@ pub record Released (seat : PinnedSeat (List trie.Entry) (List Operation)) (new 
 
 -- ---- transactions
 
--- the version that stands as the base becomes what the block makes of it, by the next commit
+-- the version that stands as the base becomes what the block makes of it, by the next commit, of no more operations than the block has
 pub record Commits (s : Setup) (asked : Transaction) (own : PassView (List Operation)) (old new : Known) : Type 0 where
   pub base : List Commit'
   pub changes : List Operation
   pub before : StartsWith base old.seen.history
   pub mine : own.entries ≡ entries_by own.number base
+  pub short : length changes ≤ length asked.operations
   pub history : new.seen.history ≡ base ++ entry_of own.number changes ∷ []
   pub pass : new.pass ≡ Some (record own { entries = own.entries ++ entry_of own.number changes ∷ [] })
   pub makes : (zone : Version) → StandsAs (version_after applied s.opening base) zone
@@ -105,7 +106,7 @@ Transacts s asked ending old new RolledBack =
     (ending ≡ Rollback) × (new.pass ≡ old.pass) × ((zone : Version) → StandsAs (version_seen new.seen) zone → IsOk (whole s.origin asked zone))
 Transacts s asked ending old new (Refused cause) =
     (new.pass ≡ old.pass)
-    × ((set : ℕ → Version) (shown : List ℕ) → AreVersions s new.seen.history set → CoversNamings shown new.seen → Causes (judged_by s set shown) asked ending (length new.seen.history) cause)
+    × ((set : ℕ → Version) (deeds : Deeds) → AreVersions s new.seen.history set → Explains deeds new.seen → Causes (judged_by s set deeds) asked ending (length new.seen.history) cause)
 
 pub record BlockRan (s : Setup) (asked : Transaction) (ending : Ending) (old new : Known) (o : Outcome) : Type 0 where
   pub grows : IsPartOf new.seen old.seen

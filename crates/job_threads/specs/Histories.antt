@@ -1,8 +1,9 @@
 -- The versions of a zone that an index's history makes.
-use Rattle.std.specs.Prelude.{◌≡◌, ℕ, ◌<◌, ◌≤◌, List, [], ◌∷◌, length, take, zero, suc, ◌==◌, if◌then◌else◌, Contains}
+use Rattle.std.specs.Prelude.{◌≡◌, ℕ, ◌+◌, ◌<◌, ◌≤◌, List, [], ◌∷◌, ◌++◌, length, take, zero, suc, ◌==◌, if◌then◌else◌, Contains}
 use Rattle.zone_model.specs.Names.{Name, IsName}
 use Rattle.zone_model.specs.Keys.{key_of}
 use Rattle.zone_model.specs.Versions.{Version}
+use Rattle.zone_model.specs.Transactions.{Transaction}
 use Rattle.trie_model.specs.Keys as trie
 use Rattle.zone_query.specs.Standing.{IsVersion}
 use Rattle.master_file.specs.Rows.{CanBeDumped}
@@ -11,7 +12,7 @@ use Rattle.job_model.specs.Outcomes.{Setting}
 use Rattle.shared_cells.specs.declared.view.Entry.{Entry as Commit'}
 use Rattle.shared_cells.specs.declared.view.Naming.{Naming}
 use Rattle.shared_cells.specs.declared.view.Seen.{Seen}
-use Rattle.shared_cells.specs.History.{version_after}
+use Rattle.shared_cells.specs.History.{StartsWith, version_after}
 use Rattle.shared_index.specs.declared.meaning.Operation.{Operation}
 use Rattle.shared_index.specs.Operations.{applied}
 
@@ -45,13 +46,24 @@ pub record StandsAs (es : Entries) (version : Version) : Type 0 where
 abbrev pub AreVersions : Setup → List Commit → (ℕ → Version) → Type 0
 AreVersions s history set = (j : ℕ) → j ≤ length history → StandsAs (index_at s.opening history j) (set j)
 
--- an older version that a pass was found reading is one of these
-abbrev pub CoversNamings : List ℕ → Sighting → Type 0
-CoversNamings shown seen = (n : Naming) → Contains seen.namings n → n.version < length seen.history → Contains shown n.version
+-- What commands have done: the versions that they show, and the transaction that made each version.
+pub record Deeds : Type 0 where
+  pub shown : List ℕ
+  pub made_by : ℕ → Transaction
+
+-- the operations of each commit of a history, the first of which made version 1, are no more than its transaction asked for
+abbrev pub AreAsked : (ℕ → Transaction) → List Commit → Type 0
+AreAsked made_by history = (before : List Commit) (e : Commit) → StartsWith history (before ++ e ∷ []) → length e.change ≤ length (made_by (length before + 1)).operations
+
+-- They explain what was seen: an older version that a pass was found reading is one that they show, and each commit does what was
+-- asked for.
+pub record Explains (deeds : Deeds) (seen : Sighting) : Type 0 where
+  pub namings : (n : Naming) → Contains seen.namings n → n.version < length seen.history → Contains deeds.shown n.version
+  pub commits : AreAsked deeds.made_by seen.history
 
 -- what outcomes are judged by
-abbrev pub judged_by : Setup → (ℕ → Version) → List ℕ → Setting
-judged_by s set shown = record { chunks = s.chunks; passes = s.passes; origin = s.origin; set = set; shown = shown }
+abbrev pub judged_by : Setup → (ℕ → Version) → Deeds → Setting
+judged_by s set deeds = record { chunks = s.chunks; passes = s.passes; origin = s.origin; set = set; made_by = deeds.made_by; shown = deeds.shown }
 
 -- 1 if the pass of this number made version j, and else 0
 abbrev pub times_by : ℕ → ℕ → List Commit → ℕ

@@ -6,8 +6,8 @@ ghost use Rattle.job_script.specs.Views.{asked_view};
 ghost use Rattle.report_laws.specs.Changes.{AllSaid};
 ghost use Rattle.shared_index.specs.Passes.{known_at};
 ghost use Rattle.shared_index.specs.Keepings.{versions_in};
-ghost use Rattle.zone_edit.specs.Stores.{WorksOnSome, Edits};
-ghost use Rattle.zone_edit.specs.Blocks.{Executes};
+ghost use Rattle.zone_edit.specs.Stores.{WorksOnSome};
+ghost use Rattle.zone_edit.specs.Blocks.{Edited};
 ghost use Rattle.job_threads.specs.Histories.{Setup};
 ghost use Rattle.job_threads.specs.Commands.{IsSetup, BlockRan, BlockWants, OpensAt, StoppedBy};
 ghost use Rattle.job_threads.specs.Weights.{IsOfWeight};
@@ -85,7 +85,7 @@ fn edit<N: Named, K>(
     requires weight { IsSomeAnd transaction.old.locked.now.draft (IsOfWeight block.now.weight) }
     ensures same_reference { (transaction.new.home.ghost_name ≡ transaction.old.home.ghost_name) × (transaction.new.locked.ghost_name ≡ transaction.old.locked.ghost_name) }
     ensures place { transaction.new.locked.now.place ≡ transaction.old.locked.now.place }
-    ensures executes { Edits (Executes origin.now (asked_view block.now) result) transaction.old.locked.now.draft transaction.new.locked.now.draft }
+    ensures executes { Edited origin.now (asked_view block.now) result transaction.old.locked.now.draft transaction.new.locked.now.draft }
 {
     execute(
         alloc,

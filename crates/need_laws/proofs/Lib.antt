@@ -6,3 +6,4 @@ pub mod StepLaws
 pub mod RoomLaws
 pub mod RunLaws
 pub mod ReadLaws
+pub mod ListLaws

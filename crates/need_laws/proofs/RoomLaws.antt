@@ -1,11 +1,21 @@
--- A zone has room in as many chunks as its job needs.
-use Rattle.std.proofs.Common.{ℕ, ◌+◌, ◌-◌, ◌*◌, ◌/◌, ◌≤◌, length, Some, arith}
-use Rattle.job_model.specs.Commands.{Job}
+-- A job finds room in as many chunks as it needs.
+use Rattle.std.proofs.Common.{◌≡◌, ℕ, ◌+◌, ◌-◌, ◌*◌, ◌/◌, ◌≤◌, List, [], ◌∷◌, ◌++◌, length, Some, ap, arith, length-append}
+use Rattle.std.specs.List.{AllByRecursion}
+use Rattle.zone_model.specs.Versions.{Operation}
+use Rattle.zone_model.specs.Transactions.{Transaction, no_changes}
+use Rattle.chunk_usage.specs.Capacity.{is_roomy, IsLeast}
+use Rattle.job_model.specs.declared.Ending.{Ending}
+use Rattle.job_model.specs.declared.Ending.TheVariants.{Commit}
+use Rattle.job_model.specs.Commands.{Command, Ask, Hold, AskHeld, Release, Block, Compact, Job}
 use Rattle.job_model.specs.Sizes.{cell_count}
 use Rattle.job_model.specs.Needs.{cells_of_workers, most_cells, most_operations}
-use Rattle.job_model.specs.Outcomes.{passes_for}
-use Rattle.chunk_usage.specs.Capacity.{IsLeast}
+use Rattle.job_model.specs.Outcomes.{Cause, Rule, Full, Spent, Causes, Ended, Shown, Committed, RolledBack, Refused, Pair, asked_by, Setting, setting_of, BlockEnds, Sight, sight_after, at_first, Shows, EndsLawfully, Along, AllAlong, all_pairs, Lawful, passes_for}
 use Rattle.shared_index.specs.Openings.{room_in}
+use Rattle.report_laws.specs.Versions.{AreOutcomesOf}
+use Rattle.need_laws.specs.Bounds.{IsSaidJob, IsSized, FindsRoom, AllFindRoom}
+use Rattle.need_laws.proofs.RunLaws.{IsShort, all_join, jobs_few, jobs_short}
+
+-- ---- the zone
 
 -- what versions take beside the zone's cells is left out
 room_left : (kept operations cells zone least chunks : ℕ) → kept + 40 * operations + cells / 769 + 4 ≤ least / 2 → zone ≤ cells → least ≤ chunks → zone ≤ 769 * (chunks - chunks / 4 - 1)
@@ -15,3 +25,63 @@ pub zone_room : (job : Job) (least chunks : ℕ) → IsLeast (passes_for (length
 zone_room job least chunks is more =
     let within : cell_count job.zone ≤ cell_count job.zone + cells_of_workers job.workers = omega arith in
     room_left ((passes_for (length job.workers) + 2) * (most_cells job / 257 + 9)) (most_operations job) (most_cells job) (cell_count job.zone) least chunks is.2 within more
+
+-- ---- its commands
+
+-- more chunks have room too
+pub roomy_still : (passes cells operations least chunks : ℕ) → is_roomy passes cells operations least → least ≤ chunks → is_roomy passes cells operations chunks
+roomy_still passes cells operations least chunks roomy more = further ((passes + 2) * (cells / 257 + 9) + 40 * operations + cells / 769 + 4) roomy
+  where
+    further : (needed : ℕ) → needed ≤ least / 2 → needed ≤ chunks / 2
+    further needed le = omega (arith, le, more)
+
+module _ (s : Setting) (cells operations : ℕ) (roomy : is_roomy s.passes cells operations s.chunks) (few : (v : ℕ) → cell_count (s.set v) ≤ cells) (short : (v : ℕ) → length (s.made_by v).operations ≤ operations) where
+  cause_room : (asked : Transaction) (ending : Ending) (base : ℕ) (cause : Cause) → length asked.operations ≤ operations → Causes s asked ending base cause → FindsRoom (Refused cause)
+  cause_room asked ending base (Rule refusal) within c = tt
+  cause_room asked ending base (Full operation kept) within c =
+      let number = c.number in
+      let all = ap (λ (l : List Operation). length l) c.all in
+      c.cramped cells operations (record { cells = λ v le. few v; operations = λ v some le. short v }) (omega (arith, number, all, within, length-append c.front (c.refused ∷ c.back))) roomy
+  cause_room asked ending base Spent within c = tt
+
+  block_room : (seen : ℕ) (asked : Transaction) (ending : Ending) (v : ℕ) (ended : Ended) → length asked.operations ≤ operations → BlockEnds s seen asked ending v ended → FindsRoom ended
+  block_room seen asked ending v Shown within b = tt
+  block_room seen asked ending v Committed within b = tt
+  block_room seen asked ending v RolledBack within b = tt
+  block_room seen asked ending v (Refused cause) within b = cause_room asked ending v cause within b.1
+
+  shown_room : (May : Type 0) (ended : Ended) → Shows May ended → FindsRoom ended
+  shown_room May Shown h = tt
+  shown_room May Committed h = tt
+  shown_room May RolledBack h = tt
+  shown_room May (Refused cause) h = absurd h
+
+  ends_room : (sight : Sight) (command : Command) (v : ℕ) (ended : Ended) → length (asked_by command).operations ≤ operations → EndsLawfully s sight command v ended → FindsRoom ended
+  ends_room sight (Ask question) v ended within e = shown_room (sight.seen ≤ v) ended e
+  ends_room sight Hold v ended within e = shown_room (sight.seen ≤ v) ended e
+  ends_room sight (AskHeld question) v ended within e = shown_room (sight.held ≡ Some v) ended e
+  ends_room sight Release v ended within e = shown_room (sight.held ≡ Some v) ended e
+  ends_room sight (Block _ asked ending) v ended within e = block_room sight.seen asked ending v ended within e
+  ends_room sight Compact v ended within e = block_room sight.seen no_changes Commit v ended within e
+
+  along_room : (sight : Sight) (pairs : List Pair) → AllByRecursion (IsShort operations) pairs → Along s sight pairs → AllFindRoom pairs
+  along_room sight [] within a = tt
+  along_room sight (pair ∷ pairs) within a = (ends_room sight pair.0 pair.1.version pair.1.ended within.0 a.0, along_room (sight_after sight pair.0 pair.1.version) pairs within.1 a.1)
+
+  both_of : (P : Pair → Type 0) (xs ys : List Pair) → AllByRecursion P (xs ++ ys) → AllByRecursion P xs × AllByRecursion P ys
+  both_of P [] ys all = (tt, all)
+  both_of P (x ∷ xs) ys all = let parts = both_of P xs ys all.1 in ((all.0, parts.0), parts.1)
+
+  pub all_room : (workers : List (List Pair)) → AllByRecursion (IsShort operations) (all_pairs workers) → AllAlong s workers → AllFindRoom (all_pairs workers)
+  all_room [] within a = tt
+  all_room (pairs ∷ workers) within a =
+      let parts = both_of (IsShort operations) pairs (all_pairs workers) within in
+      all_join (λ (pair : Pair). FindsRoom pair.1.ended) pairs (all_pairs workers) (along_room at_first pairs parts.0 a.0) (all_room workers parts.1 a.1)
+
+pub sized_room : (job : Job) → IsSaidJob job → (workers : List (List Pair)) → AreOutcomesOf job workers → (chunks last : ℕ) → IsSized job chunks
+    → Lawful chunks (passes_for (length job.workers)) job.origin job.zone workers last → AllFindRoom (all_pairs workers)
+sized_room job said workers same chunks last sized lawful =
+    let few = jobs_few job said workers same in
+    let short = jobs_short job workers same in
+    all_room (setting_of chunks (passes_for (length job.workers)) job.origin job.zone workers) (most_cells job) (most_operations job)
+    (roomy_still (passes_for (length job.workers)) (most_cells job) (most_operations job) sized.0 chunks sized.1.2 sized.2) few.versions short.made workers short.asked lawful.along

@@ -16,7 +16,7 @@ use Rattle.report_laws.proofs.ChangeLemmas.{IsZone, is_zone}
 use Rattle.need_laws.specs.Bounds.{AllWorkersAsk, IsSaidJob, base_of, WorksWithin, HaveFewCells, HaveFewOperations}
 use Rattle.need_laws.proofs.StepLaws.{all_cells, zone_behind, cells_behind}
 
-abbrev commands_of : List Pair → List Command
+abbrev pub commands_of : List Pair → List Command
 commands_of pairs = map (λ (pair : Pair). pair.0) pairs
 
 -- ---- what pairs are reckoned at, and those of them that made the versions from 1 to n
@@ -204,7 +204,7 @@ longest-append (x ∷ xs) ys = let l = longest-append xs ys in omega (arith, l)
 abbrev in_pairs : Pair → Command
 in_pairs pair = pair.0
 
-cells_together : (workers : List (List Pair)) → cells_of_commands (commands_of (all_pairs workers)) ≡ cells_of_workers (map (map (λ (pair : Pair). pair.0)) workers)
+pub cells_together : (workers : List (List Pair)) → cells_of_commands (commands_of (all_pairs workers)) ≡ cells_of_workers (map (map (λ (pair : Pair). pair.0)) workers)
 cells_together [] = refl
 cells_together (pairs ∷ workers) =
     let a = ap cells_of_commands (map-append in_pairs pairs (all_pairs workers)) in
@@ -224,7 +224,7 @@ pairs_ask : (origin : Name) (pairs : List Pair) → AllByRecursion (AllAsked ori
 pairs_ask origin [] h = tt
 pairs_ask origin (pair ∷ pairs) h = (h.0, pairs_ask origin pairs h.1)
 
-all_join : {A : Type 0} (P : A → Type 0) (xs ys : List A) → AllByRecursion P xs → AllByRecursion P ys → AllByRecursion P (xs ++ ys)
+pub all_join : {A : Type 0} (P : A → Type 0) (xs ys : List A) → AllByRecursion P xs → AllByRecursion P ys → AllByRecursion P (xs ++ ys)
 all_join P [] ys g h = h
 all_join P (x ∷ xs) ys g h = (g.0, all_join P xs ys g.1 h)
 
@@ -247,7 +247,7 @@ made_short v (pair ∷ pairs) = by_test (made v pair) (made_short v pairs)
     by_test true l = omega arith
     by_test false l = omega (arith, l)
 
-abbrev IsShort : ℕ → Pair → Type 0
+abbrev pub IsShort : ℕ → Pair → Type 0
 IsShort most pair = length (asked_by pair.0).operations ≤ most
 
 asked_short : (pairs : List Pair) → AllByRecursion (IsShort (longest (commands_of pairs))) pairs

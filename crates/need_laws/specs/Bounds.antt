@@ -1,13 +1,16 @@
 -- What is few enough for a job: the cells of its versions and of what its transactions work on, and the operations of one.
-use Rattle.std.specs.Prelude.{◌≡◌, ℕ, ◌+◌, ◌-◌, ◌≤◌, List, ◌++◌, length, if◌then◌else◌, Ok}
+use Rattle.std.specs.Prelude.{◌≡◌, ℕ, ◌+◌, ◌-◌, ◌≤◌, List, ◌++◌, length, if◌then◌else◌, Some, Ok}
 use Rattle.std.specs.List.{AllByRecursion}
 use Rattle.zone_model.specs.Names.{Name}
 use Rattle.zone_model.specs.Versions.{Version, Operation, all_applied}
 use Rattle.zone_model.specs.Transactions.{Transaction}
 use Rattle.master_file.specs.Rows.{CanBeDumped}
-use Rattle.job_model.specs.Commands.{Command, Job}
+use Rattle.job_model.specs.Commands.{Command, FedJob, Job}
 use Rattle.job_model.specs.Sizes.{cell_count}
-use Rattle.job_model.specs.Outcomes.{Outcome, Pair, is_committed, asked_by, asked_at, version_at}
+use Rattle.job_model.specs.Outcomes.{Rule, Full, Spent, Ended, Shown, Committed, RolledBack, Refused, Outcome, Pair, is_committed, asked_by, asked_at, version_at, passes_for}
+use Rattle.job_model.specs.Feeds.{FedPair, passes_fed}
+use Rattle.job_model.specs.Needs.{cells_of_commands, longest, most_cells, most_operations}
+use Rattle.chunk_usage.specs.Capacity.{IsLeast}
 use Rattle.report_laws.specs.Changes.{AllAsked}
 
 -- each worker's commands ask for operations as scripts say them
@@ -18,6 +21,11 @@ AllWorkersAsk origin workers = AllByRecursion (AllByRecursion (AllAsked origin))
 pub record IsSaidJob (job : Job) : Type 0 where
   pub zone : CanBeDumped job.origin job.zone
   pub workers : AllWorkersAsk job.origin job.workers
+
+-- the same of a job that is one list of commands
+pub record IsSaidList (job : FedJob) : Type 0 where
+  pub zone : CanBeDumped job.origin job.zone
+  pub commands : AllByRecursion (AllAsked job.origin) job.commands
 
 -- ---- cells
 
@@ -44,3 +52,33 @@ pub record HaveFewCells (most : ℕ) (origin : Name) (zone : Version) (pairs : L
 pub record HaveFewOperations (most : ℕ) (pairs : List Pair) : Type 0 where
   pub made : (v : ℕ) → length (asked_at v pairs).operations ≤ most
   pub asked : AllByRecursion (λ pair. length (asked_by pair.0).operations ≤ most) pairs
+
+-- ---- room
+
+-- so many chunks or fewer are enough
+abbrev pub AreEnough : (passes cells operations chunks : ℕ) → Type 0
+AreEnough passes cells operations chunks = (least : ℕ) × IsLeast passes cells operations (Some least) × (least ≤ chunks)
+
+-- so it is for a job, by what it is reckoned at
+abbrev pub IsSized : Job → ℕ → Type 0
+IsSized job chunks = AreEnough (passes_for (length job.workers)) (most_cells job) (most_operations job) chunks
+
+-- and for one list of commands and so many workers
+abbrev pub IsSizedList : FedJob → ℕ → ℕ → Type 0
+IsSizedList job workers chunks = AreEnough (passes_fed workers) (cell_count job.zone + cells_of_commands job.commands) (longest job.commands) chunks
+
+-- a command isn't refused as full
+abbrev pub FindsRoom : Ended → Type 0
+FindsRoom Shown = Unit {0}
+FindsRoom Committed = Unit {0}
+FindsRoom RolledBack = Unit {0}
+FindsRoom (Refused (Rule refusal)) = Unit {0}
+FindsRoom (Refused (Full operation kept)) = ⊥
+FindsRoom (Refused Spent) = Unit {0}
+
+-- none of these is
+abbrev pub AllFindRoom : List Pair → Type 0
+AllFindRoom pairs = AllByRecursion (λ pair. FindsRoom pair.1.ended) pairs
+
+abbrev pub AllFedFindRoom : List FedPair → Type 0
+AllFedFindRoom fed = AllByRecursion (λ f. FindsRoom f.pair.1.ended) fed

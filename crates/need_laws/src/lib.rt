@@ -7,17 +7,18 @@ ghost use Rattle.std.specs.List.{AllByRecursion};
 ghost use Rattle.zone_model.specs.Names.{Name, IsName};
 ghost use Rattle.zone_model.specs.Versions.{Version};
 ghost use Rattle.master_file.specs.Rows.{CanBeDumped};
-ghost use Rattle.job_model.specs.Commands.{Job};
-ghost use Rattle.job_model.specs.Jobs.{job_of};
+ghost use Rattle.job_model.specs.Commands.{FedJob, Job};
+ghost use Rattle.job_model.specs.Jobs.{fed_job_of, job_of};
 ghost use Rattle.job_model.specs.Sizes.{cell_count};
 ghost use Rattle.job_model.specs.Needs.{cells_of_commands, most_cells, most_operations};
-ghost use Rattle.job_model.specs.Outcomes.{Pair, all_pairs, passes_for};
+ghost use Rattle.job_model.specs.Outcomes.{Lawful, Pair, all_pairs, passes_for};
+ghost use Rattle.job_model.specs.Feeds.{Fed, FedPair, all_numbers, by_worker, passes_fed};
 ghost use Rattle.chunk_usage.specs.Capacity.{IsLeast};
 ghost use Rattle.shared_index.specs.Openings.{room_in};
 ghost use Rattle.report_laws.specs.Octets.{AllOctets};
 ghost use Rattle.report_laws.specs.Changes.{AllAsked};
-ghost use Rattle.report_laws.specs.Versions.{AreOutcomesOf};
-ghost use Rattle.need_laws.specs.Bounds.{IsSaidJob, HaveFewCells, HaveFewOperations};
+ghost use Rattle.report_laws.specs.Versions.{AreFedOutcomesOf, AreOutcomesOf};
+ghost use Rattle.need_laws.specs.Bounds.{AllFedFindRoom, AllFindRoom, IsSaidJob, IsSaidList, IsSized, IsSizedList, HaveFewCells, HaveFewOperations};
 
 /// No version of a job has more cells than the job is reckoned at, and no transaction of it works on more, however it ends. The
 /// commands may have any outcomes: those that are lawful are some of them.
@@ -42,8 +43,27 @@ pub fn jobs_are_said()
     ensures { (origin : Name) (bytes : List ℕ) (job : Job) → IsName origin → AllOctets bytes → job_of origin bytes ≡ Ok job → IsSaidJob job }
 {}
 
+/// So is a job of octets that is one list of commands.
+pub fn lists_are_said()
+    ensures { (origin : Name) (bytes : List ℕ) (job : FedJob) → IsName origin → AllOctets bytes → fed_job_of origin bytes ≡ Ok job → IsSaidList job }
+{}
+
 /// A job's zone has room in as many chunks as the job needs, and in more.
 pub fn zones_have_room()
     ensures { (job : Job) (least chunks : ℕ) → IsLeast (passes_for (length job.workers)) (most_cells job) (most_operations job) (Some least) → least ≤ chunks
         → cell_count job.zone ≤ room_in chunks }
+{}
+
+/// On an index of as many chunks as a job needs, or of more, none of its transactions is refused as full. The outcomes are those that
+/// are lawful there, as each job's are that is run.
+pub fn sized_jobs_find_room()
+    ensures { (job : Job) → IsSaidJob job → (workers : List (List Pair)) → AreOutcomesOf job workers → (chunks last : ℕ) → IsSized job chunks
+        → Lawful chunks (passes_for (length job.workers)) job.origin job.zone workers last → AllFindRoom (all_pairs workers) }
+{}
+
+/// So it is of one list of commands that was handed out to so many workers, by the passes that these have.
+pub fn sized_lists_find_room()
+    ensures { (job : FedJob) → IsSaidList job → (fed : List FedPair) → AreFedOutcomesOf job fed → (workers chunks last : ℕ) → IsSizedList job workers chunks
+        → Fed (length job.commands) (all_numbers workers fed)
+        → Lawful chunks (passes_fed workers) job.origin job.zone (by_worker workers fed) last → AllFedFindRoom fed }
 {}

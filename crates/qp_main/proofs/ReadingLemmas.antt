@@ -1,5 +1,5 @@
 -- What is so of all that octets say.
-use Rattle.std.proofs.Common.{◌≡◌, ◌<◌, ℕ, suc, List, [], ◌∷◌, get_or, Result, Ok, Err, IfOk, Vec}
+use Rattle.std.proofs.Common.{◌<◌, ℕ, suc, List, [], ◌∷◌, get_or, Result, Ok, Err, IfOk, Vec}
 use Rattle.std.specs.Global.{Global}
 use Rattle.std.specs.List.{AllByRecursion}
 use Rattle.zone_model.specs.Names.{Name, IsName}

@@ -24,6 +24,9 @@ use Rattle.job_script.specs.declared.outcomes.FedOutcome.{FedOutcome}
 use Rattle.job_script.proofs.FeedLemmas.{fed_refused, fed_reported, fed_same}
 use Rattle.job_script.proofs.ReportLemmas.{reported, refused_told, workers_same}
 use Rattle.job_script.proofs.SummaryLemmas.{summed_up}
+use Rattle.need_laws.specs.Bounds.{IsSaidJob, IsSaidList}
+use Rattle.need_laws.proofs.ListLaws.{list_room}
+use Rattle.need_laws.proofs.RoomLaws.{sized_room}
 use Rattle.qp_main.specs.Tellings.{finished_text, told_text}
 use Rattle.qp_main.specs.declared.telling.Telling.{Telling}
 use Rattle.qp_main.specs.declared.telling.Telling.TheVariants.{Report, Summary}
@@ -49,14 +52,15 @@ told Summary chunks passes origin zone ws f r = summed_up origin zone ws f.outco
 
 job_reported : (telling : Telling) (chunks : ℕ) (origin : Name) (zone : Version) (ws : List (List Command)) (f : Finished) (text : List ℕ) (refused : Bool) (s : Status) → IsRun chunks (passes_for (length ws)) origin zone ws f.outcomes.items f.version f.names f.nodes → text ≡ finished_text telling f
     → refused ≡ list_any (λ (w : Outcomes). list_any (λ (o : Outcome). is_refused (ended_view o.told)) w.list.items) f.outcomes.items → s ≡ cond refused status.SomeRefused status.Done
-    → Reported telling chunks (record { origin = origin; zone = zone; workers = ws }) s text
-job_reported telling chunks origin zone ws f text refused s r printed some ended = record {
+    → IsSaidJob (record { origin = origin; zone = zone; workers = ws }) → Reported telling chunks (record { origin = origin; zone = zone; workers = ws }) s text
+job_reported telling chunks origin zone ws f text refused s r printed some ended said = record {
   workers = job_pairs ws f.outcomes.items;
   last = f.version;
   same = workers_same origin (versions_made origin zone ws f.outcomes.items) ws f.outcomes.items r.tell;
   lawful = r.lawful;
   is = printed ∙ told telling chunks (passes_for (length ws)) origin zone ws f r;
   ended = ended ∙ ap (λ (b : Bool). cond b status.SomeRefused status.Done) (some ∙ refused_told origin (versions_made origin zone ws f.outcomes.items) ws f.outcomes.items r.tell);
+  finds_room = λ sized. sized_room (record { origin = origin; zone = zone; workers = ws }) said (job_pairs ws f.outcomes.items) (workers_same origin (versions_made origin zone ws f.outcomes.items) ws f.outcomes.items r.tell) chunks f.version sized r.lawful;
 }
 
 it_fits : (chunks : ℕ) (zone : Version) → cell_count zone ≤ room_in chunks → fits chunks zone ≡ true
@@ -68,17 +72,17 @@ it_fits chunks zone h = below (cell_count zone) (room_in chunks) h
 -- a job that was run on a zone that fits
 pub job_told : (telling : Telling) (chunks : ℕ) (origin : Name) (zone : Version) (ws : List (List Command)) (f : Finished) (text : List ℕ) (refused : Bool) (s : Status) → RanOn chunks origin zone ws (ran.Finished f) → text ≡ finished_text telling f
     → refused ≡ list_any (λ (w : Outcomes). list_any (λ (o : Outcome). is_refused (ended_view o.told)) w.list.items) f.outcomes.items → s ≡ cond refused status.SomeRefused status.Done
-    → Answers telling chunks (Ok (record { origin = origin; zone = zone; workers = ws })) s text
-job_told telling chunks origin zone ws f text refused s r printed some ended =
-    fitting chunks zone (Reported telling chunks (record { origin = origin; zone = zone; workers = ws })) s text (it_fits chunks zone r.0) (job_reported telling chunks origin zone ws f text refused s r.1 printed some ended)
+    → IsSaidJob (record { origin = origin; zone = zone; workers = ws }) → Answers telling chunks (Ok (record { origin = origin; zone = zone; workers = ws })) s text
+job_told telling chunks origin zone ws f text refused s r printed some ended said =
+    fitting chunks zone (Reported telling chunks (record { origin = origin; zone = zone; workers = ws })) s text (it_fits chunks zone r.0) (job_reported telling chunks origin zone ws f text refused s r.1 printed some ended said)
 
 -- ---- one list of commands
 
 -- what is printed of a list that was handed out
 pub list_told : (workers chunks : ℕ) (origin : Name) (zone : Version) (cs : List Command) (f : FedFinished) (text : List ℕ) (refused : Bool) (s : Status) → FedRanOn chunks workers origin zone cs (fed.Finished f) → text ≡ fed_outcomes_text 1 f.outcomes.items ++ end_text f.version f.names
     → refused ≡ list_any (λ (o : FedOutcome). is_refused (ended_view o.outcome.told)) f.outcomes.items → s ≡ cond refused status.SomeRefused status.Done
-    → FedAnswers workers chunks (Ok (record { origin = origin; zone = zone; commands = cs })) s text
-list_told workers chunks origin zone cs f text refused s r printed some ended =
+    → IsSaidList (record { origin = origin; zone = zone; commands = cs }) → FedAnswers workers chunks (Ok (record { origin = origin; zone = zone; commands = cs })) s text
+list_told workers chunks origin zone cs f text refused s r printed some ended said =
     let set : ℕ → Version = version_at origin zone (all_pairs (by_worker workers (fed_pairs cs f.outcomes.items))) in
     fitting chunks zone (FedReported workers chunks (record { origin = origin; zone = zone; commands = cs })) s text (it_fits chunks zone r.0) (record {
       fed = fed_pairs cs f.outcomes.items;
@@ -88,6 +92,7 @@ list_told workers chunks origin zone cs f text refused s r printed some ended =
       lawful = r.1.lawful;
       is = printed ∙ fed_reported origin zone workers cs f.outcomes.items f.version f.names r.1.tell r.1.names_are;
       ended = ended ∙ ap (λ (b : Bool). cond b status.SomeRefused status.Done) (some ∙ fed_refused origin set cs f.outcomes.items r.1.tell);
+      finds_room = λ sized. list_room (record { origin = origin; zone = zone; commands = cs }) said (fed_pairs cs f.outcomes.items) (fed_same origin set cs f.outcomes.items r.1.tell) workers chunks f.version sized r.1.handed_out r.1.lawful;
     })
 
 -- no commands make no versions, however many workers there are
@@ -117,6 +122,7 @@ none_told workers chunks origin zone f text r printed =
       };
       is = printed ∙ ap (λ (n : ℕ). [] ++ end_text f.version n) (r.1.names_are ∙ ap length (sym made));
       ended = refl;
+      finds_room = λ sized. tt;
     })
 
 -- the lines behind the place where an input is cut

@@ -9,13 +9,14 @@ use Rattle.job_model.specs.Commands.{FedJob, Job}
 use Rattle.job_model.specs.Jobs.{JobRefusal, ZoneRefused, ScriptRefused, zone_lines, job_of, fed_job_of}
 use Rattle.chunk_usage.specs.Capacity.{IsLeast}
 use Rattle.job_model.specs.Needs.{most_cells, most_operations}
-use Rattle.job_model.specs.Outcomes.{Pair, Lawful, passes_for, some_refused}
+use Rattle.job_model.specs.Outcomes.{Pair, Lawful, all_pairs, passes_for, some_refused}
 use Rattle.job_model.specs.Feeds.{Fed, FedPair, all_numbers, by_worker, fed_commands, fed_report, passes_fed, some_fed_refused}
 use Rattle.zone_model.specs.declared.ZoneKind.{ZoneKind}
 use Rattle.zone_model.specs.declared.ZoneKind.TheVariants as zone_kind
 use Rattle.job_model.specs.declared.ScriptKind.{ScriptKind}
 use Rattle.job_model.specs.declared.ScriptKind.TheVariants.{NoWorker, BadCommand, BadName, BadType, BadRdata, BadNumber, OpenBlock, NotHeld, AlreadyHeld, TooMany}
 use Rattle.job_model.specs.Loads.{made_text}
+use Rattle.need_laws.specs.Bounds.{AllFedFindRoom, AllFindRoom, IsSized, IsSizedList}
 use Rattle.zone_text.specs.declared.refusal.ZoneRefusal.{ZoneRefusal}
 use Rattle.zone_text.specs.declared.refusal.ZoneRefusal.TheVariants as refusal
 use Rattle.outer_io.specs.Bytes.{Held, Grows, GrowsByFront}
@@ -63,7 +64,7 @@ abbrev pub refusal_text : List ℕ → ℕ → List ℕ → List ℕ
 refusal_text what line kind = what ++ codes " refused line " ++ decimal line ++ codes " " ++ kind ++ codes "\n"
 
 -- The answers of committed versions: the text tells the job's commands with some lawful outcomes, and the status says
--- whether one of these is refused.
+-- whether one of these is refused. Where the chunks are as many as the job needs, none is refused as full.
 pub record Reported (telling : Telling) (chunks : ℕ) (job : Job) (s : Status) (text : List ℕ) : Type 0 where
   pub workers : List (List Pair)
   pub last : ℕ
@@ -71,6 +72,7 @@ pub record Reported (telling : Telling) (chunks : ℕ) (job : Job) (s : Status) 
   pub lawful : Lawful chunks (passes_for (length job.workers)) job.origin job.zone workers last
   pub is : text ≡ told_text telling job.origin job.zone workers last
   pub ended : s ≡ (if some_refused workers then status.SomeRefused else status.Done)
+  pub finds_room : IsSized job chunks → AllFindRoom (all_pairs workers)
 
 -- The same of one list of commands and so many workers, to whom it is handed out.
 pub record FedReported (workers chunks : ℕ) (job : FedJob) (s : Status) (text : List ℕ) : Type 0 where
@@ -81,6 +83,7 @@ pub record FedReported (workers chunks : ℕ) (job : FedJob) (s : Status) (text 
   pub lawful : Lawful chunks (passes_fed workers) job.origin job.zone (by_worker workers fed) last
   pub is : text ≡ fed_report job.origin job.zone workers fed last
   pub ended : s ≡ (if some_fed_refused fed then status.SomeRefused else status.Done)
+  pub finds_room : IsSizedList job workers chunks → AllFedFindRoom fed
 
 -- What a job needs: the text tells the least number of chunks that is enough for the passes of its workers, the cells of its zone and of
 -- all that is added to it, and its longest transaction; and these two.

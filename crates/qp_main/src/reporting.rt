@@ -2,6 +2,7 @@
 ghost use Rattle.std.specs.Prelude.{◌≡◌, ◌<◌, ◌≤◌, [], ℕ, IfOk, Ok, false, length, vec_len, if◌then◌else◌};
 ghost use Rattle.std.specs.List.{AllByRecursion};
 ghost use Rattle.zone_model.specs.Versions.{Version};
+ghost use Rattle.master_file.specs.Rows.{CanBeDumped};
 ghost use Rattle.job_model.specs.Commands.{InTurn, NeedsNoSnapshot};
 ghost use Rattle.job_model.specs.Feeds.{passes_fed};
 ghost use Rattle.job_model.specs.Outcomes.{passes_for};
@@ -71,7 +72,7 @@ pub fn report_job<R: Threads + Wait + Sync, G: Gate>(
     requires zone { IsZone invocation.now.origin (entries_of_items items.now) }
     requires in_turn { AllByRecursion (InTurn false) (job_view job.now) }
     requires said { AllByRecursion (AllByRecursion (AllAsked invocation.now.origin)) (job_view job.now) }
-    ensures { (zone : Version) → StandsAs (entries_of_items items.now) zone
+    ensures { (zone : Version) → StandsAs (entries_of_items items.now) zone → CanBeDumped invocation.now.origin zone
         → IfOk result (λ x. Answers telling invocation.now.chunks (Ok (record { origin = invocation.now.origin; zone = zone; workers = job_view job.now })) x.0 x.1.items) }
 {
     let origin = &invocation.origin;
@@ -136,7 +137,7 @@ pub fn report_list<R: Threads + Wait + Sync, G: Gate>(
     requires few { vec_len commands.now ≤ 10000 }
     requires no_snapshots { AllByRecursion NeedsNoSnapshot (list_view commands.now) }
     requires said { AllByRecursion (AllAsked invocation.now.origin) (list_view commands.now) }
-    ensures { (zone : Version) (workers : ℕ) → StandsAs (entries_of_items items.now) zone → (0 < vec_len commands.now → workers ≡ crew)
+    ensures { (zone : Version) (workers : ℕ) → StandsAs (entries_of_items items.now) zone → CanBeDumped invocation.now.origin zone → (0 < vec_len commands.now → workers ≡ crew)
         → IfOk result (λ x. FedAnswers workers invocation.now.chunks (Ok (record { origin = invocation.now.origin; zone = zone; commands = list_view commands.now })) x.0 x.1.items) }
 {
     if commands.is_empty() {

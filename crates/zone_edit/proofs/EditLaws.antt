@@ -1,6 +1,6 @@
 -- What a transaction's call makes of a working set that is a version.
-use Rattle.std.proofs.Common.{◌≡◌, ◌∙◌, ℕ, ◌+◌, ◌-◌, ◌≤◌, List, [], ◌∷◌, ◌++◌, length, Option, Some, None, Ok, Err, refl, sym, ap, subst, arith, append-nil}
-use Rattle.std.specs.Prelude.{IsSome, IsSomeAnd, IfSome}
+use Rattle.std.proofs.Common.{◌≡◌, ◌∙◌, ℕ, ◌+◌, ◌-◌, ◌≤◌, List, [], ◌∷◌, ◌++◌, length, Option, Some, None, Ok, Err, refl, sym, ap, subst, arith, append-nil, length-append}
+use Rattle.std.specs.Prelude.{Contains, IsSome, IsSomeAnd, IfSome, unwrap_or}
 use Rattle.zone_model.specs.Names.{Name, IsName}
 use Rattle.zone_model.specs.Keys.{key_of}
 use Rattle.zone_model.specs.Records.{Entry, IsItem}
@@ -15,13 +15,20 @@ use Rattle.shared_index.specs.declared.meaning.Operation.{Operation}
 use Rattle.shared_index.specs.declared.meaning.Operation.TheVariants as operation
 use Rattle.shared_index.specs.Operations.{operated, applied, with_entry, without}
 use Rattle.shared_index.specs.Drafts.{Operates, IsFull, IsSame, Between, base_of, working_set}
+use Rattle.shared_index.specs.Bounds.{IsCramped}
+use Rattle.shared_index.specs.Capacity.{BoundsHistory}
+use Rattle.shared_index.specs.Rooms.{SparesReserve}
 use Rattle.shared_index.specs.Fulls.{CausedFrom, cells_kept}
 use Rattle.shared_index.specs.Passes.{Known, version_seen}
+use Rattle.chunk_usage.specs.Capacity.{is_roomy}
 use Rattle.chunk_usage.specs.Ledger.{Ledger, Row, reserve_of}
+use Rattle.shared_cells.specs.declared.view.Entry.{Entry as Commit'}
+use Rattle.shared_cells.specs.History.{StartsWith, version_after}
 use Rattle.trie_model.specs.Shape.{cells}
 use Rattle.std.proofs.lemmas.List.{length-map}
 use Rattle.shared_index.specs.Keepings.{GoesOn, versions_in}
 use Rattle.shared_index.proofs.GoesLaws.{base_goes_on, applied_more, goes_further}
+use Rattle.shared_index.proofs.StayLaws.{chunks_stay}
 use Rattle.zone_edit.proofs.VersionLaws.{version_put, version_gone}
 use Rattle.zone_edit.proofs.StoreLaws.{put_some, storable, same_entry, record_of}
 use Rattle.trie_read.specs.Readings.{Fetched}
@@ -130,39 +137,51 @@ between_and R P T (Some d) None f r p = r
 between_and R P T None (Some e) f r p = r
 between_and R P T None None f r p = r
 
+between_from : (R S : Draft → Draft → Type 0) (P : Draft → Type 0) (T : Draft → Draft → Type 0) (old new : Option Draft) → ((d e : Draft) → R d e → S d e → P d → T d e) → Between R old new → Between S old new → IsSomeAnd old P → Between T old new
+between_from R S P T (Some d) (Some e) f r s p = f d e r s p
+between_from R S P T (Some d) None f r s p = r
+between_from R S P T None (Some e) f r s p = r
+between_from R S P T None None f r s p = r
+
 -- ---- edits, one after another
 
 pub goes_same : (v : Known) → GoesOn v v
 goes_same v = record { pass = refl; opening = refl; history = refl; namings = ([], sym (append-nil v.seen.namings)) }
 
-pub edits_same : (P : Draft → Type 0) (told : Version → Draft → Type 0) (old : Option Draft) → IsSomeAnd old P → ((d : Draft) (version : Version) → WorksOn d version → told version d) → Edits told old old
-edits_same P told (Some d) p f = record { known = goes_same d.seat.place.me.0; passes = refl; becomes = λ version on. f d version on }
-edits_same P told None p f = absurd p
+pub edits_same : (most : ℕ) (P : Draft → Type 0) (told : Version → Draft → Type 0) (old : Option Draft) → IsSomeAnd old P → ((d : Draft) (version : Version) → WorksOn d version → told version d) → Edits most told old old
+edits_same most P told (Some d) p f = record { known = goes_same d.seat.place.me.0; passes = refl; few = omega arith; becomes = λ version on. f d version on }
+edits_same most P told None p f = absurd p
 
-pub edits_as : (A B : Version → Draft → Type 0) (old new : Option Draft) → ((version : Version) (e : Draft) → A version e → B version e) → Edits A old new → Edits B old new
-edits_as A B old new f = between_as (EditsOne A) (EditsOne B) old new (λ d e _ _ r. record { known = r.known; passes = r.passes; becomes = λ version on. f version e (r.becomes version on) })
+pub edits_as : (m most : ℕ) (A B : Version → Draft → Type 0) (old new : Option Draft) → m ≤ most → ((version : Version) (e : Draft) → A version e → B version e) → Edits m A old new → Edits most B old new
+edits_as m most A B old new le f = between_as (EditsOne m A) (EditsOne most B) old new (λ d e _ _ r. record {
+  known = r.known;
+  passes = r.passes;
+  few = (let l = r.few in omega arith);
+  becomes = λ version on. f version e (r.becomes version on);
+})
 
 -- what the first made is a version, on which the second went on
-pub edits_on : (A B C : Version → Draft → Type 0) (a b c : Option Draft) → ((version : Version) (e f : Draft) → A version e → (now : Version) × WorksOn e now × (B now f → C version f)) → Edits A a b → Edits B b c → Edits C a c
-edits_on A B C a b c h = between_then (EditsOne A) (EditsOne B) (EditsOne C) a b c (λ d e f r s. record {
+pub edits_on : (m n most : ℕ) (A B C : Version → Draft → Type 0) (a b c : Option Draft) → m + n ≤ most → ((version : Version) (e f : Draft) → A version e → (now : Version) × WorksOn e now × (B now f → C version f)) → Edits m A a b → Edits n B b c → Edits most C a c
+edits_on m n most A B C a b c le h = between_then (EditsOne m A) (EditsOne n B) (EditsOne most C) a b c (λ d e f r s. record {
   known = goes_further r.known s.known;
   passes = s.passes ∙ r.passes;
+  few = (let l = r.few in let k = s.few in omega arith);
   becomes = λ version on. (let m = h version e f (r.becomes version on) in m.2 (s.becomes m.0 m.1));
 })
 
 -- a working set is there still
-pub is_there : (A : Version → Draft → Type 0) (old new : Option Draft) → Edits A old new → IsSome new
-is_there A (Some d) (Some e) r = refl
-is_there A (Some d) None r = absurd r
-is_there A None (Some e) r = absurd r
-is_there A None None r = absurd r
+pub is_there : (most : ℕ) (A : Version → Draft → Type 0) (old new : Option Draft) → Edits most A old new → IsSome new
+is_there most A (Some d) (Some e) r = refl
+is_there most A (Some d) None r = absurd r
+is_there most A None (Some e) r = absurd r
+is_there most A None None r = absurd r
 
 -- some version is worked on still
-pub edits_some : (A : Version → Draft → Type 0) (old new : Option Draft) → IsSomeAnd old WorksOnSome → ((version : Version) (e : Draft) → A version e → WorksOnSome e) → Edits A old new → IsSomeAnd new WorksOnSome
-edits_some A (Some d) (Some e) p f r = f p.version e (r.becomes p.version p.on)
-edits_some A (Some d) None p f r = absurd r
-edits_some A None (Some e) p f r = absurd p
-edits_some A None None p f r = p
+pub edits_some : (most : ℕ) (A : Version → Draft → Type 0) (old new : Option Draft) → IsSomeAnd old WorksOnSome → ((version : Version) (e : Draft) → A version e → WorksOnSome e) → Edits most A old new → IsSomeAnd new WorksOnSome
+edits_some most A (Some d) (Some e) p f r = f p.version e (r.becomes p.version p.on)
+edits_some most A (Some d) None p f r = absurd r
+edits_some most A None (Some e) p f r = absurd p
+edits_some most A None None p f r = p
 
 -- ---- an entry stored
 
@@ -174,21 +193,56 @@ few_kept d f full =
     let most = d.agrees.few_rows in
     omega (arith, same, numbers, most)
 
-module _ (o : Operation) (denied : List trie.Entry → Type 0) (A B : Type 0) (name : Name) (before entry : Entry) (old new : Option Draft) where
-  abbrev Called : Type 0
-  Called = Between (λ d e. Operates o denied d e A B) old new
+-- what was published and done is as much as before
+cramped_still : (o : Operation) (denied : List trie.Entry → Type 0) (d e : Draft) (A B : Type 0) → Operates o denied d e A B → (A → ⊥) → SparesReserve d e → IsCramped d → IsCramped e
+cramped_still o denied d e A B op undone spares cramped most_cells most_operations bounds roomy =
+    cramped most_cells most_operations
+    (record {
+      some = bounds.some;
+      history = history_still d.seat.place.me.0 e.seat.place.me.0 op.known most_cells most_operations bounds.history;
+      operations = subst (λ (os : List Operation). length os ≤ most_operations) (op.stays undone) bounds.operations;
+    })
+    (subst (λ (p : ℕ). is_roomy p most_cells most_operations (length d.usage.given)) op.passes
+    (subst (λ (n : ℕ). is_roomy e.seat.passes most_cells most_operations n) (chunks_stay spares) roomy))
+  where
+    history_still : (v w : Known) → GoesOn v w → (most_cells most_operations : ℕ) → BoundsHistory most_cells most_operations w.seen → BoundsHistory most_cells most_operations v.seen
+    history_still v w on most_cells most_operations b = record {
+      versions = λ part begins. subst (λ (es : Option (List trie.Entry)). cells (version_after applied (unwrap_or es []) part) ≤ most_cells) on.opening
+          (b.versions part (subst (λ (h : List (Commit' (List Operation))). StartsWith h part) (sym on.history) begins));
+      commits = λ c inside. b.commits c (subst (λ (h : List (Commit' (List Operation))). Contains h c) (sym on.history) inside);
+    }
 
-  pub stored : A → ((version : Version) (d e : Draft) → Operates o denied d e A B → WorksOn d version → before ≡ owned name version → WorksOn e (put name entry version)) → Called → Edits (Stores name before entry (Ok tt)) old new
-  stored a puts call = between_as (λ d e. Operates o denied d e A B) (EditsOne (Stores name before entry (Ok tt))) old new (λ d e _ _ op. record { known = op.known; passes = op.passes; becomes = λ version on is. puts version d e op on is }) call
+module _ (o : Operation) (denied : List trie.Entry → Type 0) (A B : Type 0) (name : Name) (before entry : Entry) (old new : Option Draft) where
+  abbrev Operated : Draft → Draft → Type 0
+  Operated d e = Operates o denied d e A B
+
+  abbrev Called : Type 0
+  Called = Between Operated old new
+
+  -- and it found no room
+  abbrev Cramped : Draft → Draft → Type 0
+  Cramped d e = Operates o denied d e A B × IsCramped e
+
+  abbrev Filled : Full → Draft → Draft → Type 0
+  Filled f d e = Operates o denied d e A B × IsFull e f × IsCramped e
+
+  pub stored : A → ((version : Version) (d e : Draft) → Operates o denied d e A B → WorksOn d version → before ≡ owned name version → WorksOn e (put name entry version)) → Called → Edits 1 (Stores name before entry (Ok tt)) old new
+  stored a puts call = between_as Operated (EditsOne 1 (Stores name before entry (Ok tt))) old new (λ d e _ _ op. record {
+    known = op.known;
+    passes = op.passes;
+    few = omega (arith, ap (λ (os : List Operation). length os) (op.done a), length-append d.log.operations (o ∷ []));
+    becomes = λ version on is. puts version d e op on is;
+  }) call
 
   -- there was no room
   pub no_room : (none : NoRoom) (f : Full) (key : List ℕ) (written : ℕ) (asks : List ℕ → List ℕ) → (A → ⊥) → ((version : Version) → IsVersion version → before ≡ owned name version → put name entry version ≡ version → ⊥) → Called → IsSomeAnd new (λ d. IsFull d f)
-      → Between (λ d e. CausedFrom d e key written asks f) old new → Edits (Stores name before entry (Err none)) old new
-  no_room none f key written asks undone changes call full cause =
-      between_both (λ d e. CausedFrom d e key written asks f) (λ d e. Operates o denied d e A B × IsFull e f) (EditsOne (Stores name before entry (Err none))) old new
+      → Between (λ d e. CausedFrom d e key written asks f) old new → Between SparesReserve old new → IsSomeAnd old IsCramped → Edits 0 (Stores name before entry (Err none)) old new
+  no_room none f key written asks undone changes call full cause spares cramped =
+      between_both (λ d e. CausedFrom d e key written asks f) (Filled f) (EditsOne 0 (Stores name before entry (Err none))) old new
       (λ d e cause both. record {
         known = both.0.known;
         passes = both.0.passes;
+        few = omega (arith, ap (λ (os : List Operation). length os) (both.0.stays undone));
         becomes = λ version on is. (
           works_same o denied d e A B version both.0 undone on,
           subst (IsFullOn e version) both.1.kept (record {
@@ -196,10 +250,11 @@ module _ (o : Operation) (denied : List trie.Entry → Type 0) (A B : Type 0) (n
             ends = both.1.ends;
             few = few_kept e f both.1;
             many = subst (λ (es : List trie.Entry). length e.usage.given - reserve_of e.usage - 8 ≤ cells es + cells_kept e.seat.place.me.0 (versions_in f.kept)) (same_set o denied d e A B both.0 undone ∙ on.set) cause.caused.cause.many_cells;
+            cramped = both.2;
           }),
           changes version on.valid is,
         );
-      }) cause (between_and (λ d e. Operates o denied d e A B) (λ d. IsFull d f) (λ d e. Operates o denied d e A B × IsFull e f) old new (λ d e op p. (op, p)) call full)
+      }) cause (between_and Cramped (λ d. IsFull d f) (Filled f) old new (λ d e kept p. (kept.0, p, kept.1)) (between_from Operated SparesReserve IsCramped Cramped old new (λ d e op s c. (op, cramped_still o denied d e A B op undone s c)) call spares cramped) full)
 
   -- the name was refused
   pub refused_set : IsSomeAnd old (Owns name before) → B → Called → (version : Version) × (IsVersion version) × (before ≡ owned name version) × denied (trie_entries version)
@@ -214,10 +269,11 @@ some_weaker P Q (Some d) f p = f d p
 some_weaker P Q None f p = absurd p
 
 module _ (name : Name) (key before after : List ℕ) (found : Option ℕ) (len : ℕ) (reads : (version : Version) → IsVersion version → Fetched key (trie_entries version) before after found → IsRead name version after len) where
-  read_one : (d e : Draft) → IsSame d e → Fetched key (working_set d) before after found → EditsOne (Reads name after len) d e
+  read_one : (d e : Draft) → IsSame d e → Fetched key (working_set d) before after found → EditsOne 0 (Reads name after len) d e
   read_one d e same item = record {
     passes = sym e.agrees.passes ∙ ap (λ (u : Ledger). u.passes) same.usage ∙ d.agrees.passes;
     known = subst (GoesOn d.seat.place.me.0) (sym same.known) (goes_same d.seat.place.me.0);
+    few = omega (arith, ap (λ (os : List Operation). length os) same.log);
     becomes = λ version on.
         let set : working_set e ≡ working_set d = ap (λ (v : Known). applied (version_seen v.seen) e.log.operations) same.known ∙ ap (applied (base_of d)) same.log in
         record {
@@ -226,7 +282,7 @@ module _ (name : Name) (key before after : List ℕ) (found : Option ℕ) (len :
         };
   }
 
-  pub read_as : (old new : Option Draft) → Between IsSame old new → IfSome old (λ d. Fetched key (working_set d) before after found) → Edits (Reads name after len) old new
+  pub read_as : (old new : Option Draft) → Between IsSame old new → IfSome old (λ d. Fetched key (working_set d) before after found) → Edits 0 (Reads name after len) old new
   read_as (Some d) (Some e) same item = read_one d e same item
   read_as (Some d) None same item = same
   read_as None (Some e) same item = same
@@ -237,14 +293,14 @@ module _ (name : Name) (key before after : List ℕ) (found : Option ℕ) (len :
   read_within None p item = absurd p
 
 -- what a name owns is what was read
-module _ (name : Name) (octets : List ℕ) (len : ℕ) (old new : Option Draft) (works : IsSomeAnd old WorksOnSome) (reads : Edits (Reads name octets len) old new) where
+module _ (name : Name) (octets : List ℕ) (len : ℕ) (old new : Option Draft) (works : IsSomeAnd old WorksOnSome) (reads : Edits 0 (Reads name octets len) old new) where
   pub read_some : (version : Version) × IsVersion version × IsRead name version octets len
   read_some =
-      let x = both WorksOnSome (EditsOne (Reads name octets len)) old new works reads in
+      let x = both WorksOnSome (EditsOne 0 (Reads name octets len)) old new works reads in
       (x.met.version, x.met.on.valid, (x.related.becomes x.met.version x.met.on).read)
 
   pub owns_after : (before : Entry) → ((version : Version) → IsRead name version octets len → before ≡ owned name version) → IsSomeAnd new (Owns name before)
   owns_after before is =
-      let x = both WorksOnSome (EditsOne (Reads name octets len)) old new works reads in
+      let x = both WorksOnSome (EditsOne 0 (Reads name octets len)) old new works reads in
       let r = x.related.becomes x.met.version x.met.on in
       subst (λ (o : Option Draft). IsSomeAnd o (Owns name before)) (sym x.new_is) (record { version = x.met.version; on = r.stays; owned_is = is x.met.version r.read })

@@ -1,13 +1,11 @@
 -- What operations make of a transaction whose working set is a version of a zone.
-use Rattle.std.specs.Prelude.{◌≡◌, ℕ, ◌+◌, Bool, true, List, ◌∷◌, ◌++◌, length, Result, Ok, Err}
+use Rattle.std.specs.Prelude.{◌≡◌, ℕ, ◌+◌, ◌-◌, Bool, true, List, ◌∷◌, ◌++◌, length, Option, Result, Ok, Err}
 use Rattle.zone_model.specs.Names.{Name}
-use Rattle.zone_model.specs.Records.{Entry}
-use Rattle.zone_model.specs.declared.Refusal.{Refusal}
 use Rattle.zone_model.specs.Versions.{Version, Operation, owned, apply, all_applied}
 use Rattle.zone_model.specs.Transactions.{Prerequisite, Transaction, is_met_by, all_met, whole}
 use Rattle.shared_index.specs.declared.desk.Draft.{Draft}
 use Rattle.chunk_usage.specs.Keeping.{kept_versions}
-use Rattle.zone_edit.specs.Stores.{WorksOn, IsFullOn}
+use Rattle.zone_edit.specs.Stores.{WorksOn, IsFullOn, Edits}
 use Rattle.zone_edit.specs.declared.applying.Stopped.{Stopped}
 use Rattle.zone_edit.specs.declared.applying.Stopped.TheVariants as stops
 use Rattle.zone_edit.specs.declared.applying.Halt.{Halt}
@@ -55,6 +53,14 @@ AppliesAll origin operations (Err halts.Memory) version new = IsWanting new orig
 AppliesAll origin operations (Err (halts.Refused refusal)) version new = all_applied origin operations version ≡ Err refusal
 AppliesAll origin operations (Err (halts.Full operation)) version new = IsFullAt new origin operations version operation (kept_versions new.usage)
 
+-- How many operations of the index these are at most: one for each that is applied, and where there is no room for one, for each in
+-- front of it.
+abbrev pub most_done : List Operation → Result (Unit {0}) Halt → ℕ
+most_done operations (Ok u) = length operations
+most_done operations (Err halts.Memory) = length operations
+most_done operations (Err (halts.Refused refusal)) = length operations
+most_done operations (Err (halts.Full operation)) = operation - 1
+
 -- the version stays, and it is told whether it meets a prerequisite, and whether all
 abbrev pub Meets : Prerequisite → Bool → Version → Draft → Type 0
 Meets p met version new = WorksOn new version × (met ≡ is_met_by (owned p.owner version) p)
@@ -69,3 +75,7 @@ Executes origin asked (Err halts.Memory) version new = (all_met version asked.ne
 Executes origin asked (Err (halts.Refused refusal)) version new = whole origin asked version ≡ Err refusal
 Executes origin asked (Err (halts.Full operation)) version new =
     (all_met version asked.needs ≡ true) × IsFullAt new origin asked.operations version operation (kept_versions new.usage)
+
+-- a draft became another one by a transaction
+abbrev pub Edited : Name → Transaction → Result (Unit {0}) Halt → Option Draft → Option Draft → Type 0
+Edited origin asked result old new = Edits (most_done asked.operations result) (Executes origin asked result) old new

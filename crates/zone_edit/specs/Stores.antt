@@ -10,6 +10,7 @@ use Rattle.zone_query.specs.Standing.{IsVersion}
 use Rattle.job_model.specs.Sizes.{trie_entries, cell_count}
 use Rattle.shared_cells.specs.Steps.{IsNamed}
 use Rattle.shared_index.specs.declared.desk.Draft.{Draft}
+use Rattle.shared_index.specs.Bounds.{IsCramped}
 use Rattle.shared_index.specs.Drafts.{Works, Between, working_set}
 use Rattle.shared_index.specs.Fulls.{cells_kept}
 use Rattle.shared_index.specs.Keepings.{GoesOn}
@@ -32,14 +33,20 @@ pub record Owns (name : Name) (entry : Entry) (d : Draft) : Type 0 where
   pub on : WorksOn d version
   pub owned_is : entry ≡ owned name version
 
--- the transaction goes on, and a working set that is a version becomes what is told of that
-pub record EditsOne (told : Version → Draft → Type 0) (old new : Draft) : Type 0 where
+-- The transaction goes on, and does so many operations of the index at most. A working set that is a version becomes what is told of that.
+pub record EditsOne (most : ℕ) (told : Version → Draft → Type 0) (old new : Draft) : Type 0 where
   pub known : GoesOn old.seat.place.me.0 new.seat.place.me.0
   pub passes : new.seat.passes ≡ old.seat.passes
+  pub few : length new.log.operations ≤ length old.log.operations + most
   pub becomes : (version : Version) → WorksOn old version → told version new
 
-abbrev pub Edits : (Version → Draft → Type 0) → Option Draft → Option Draft → Type 0
-Edits told old new = Between (EditsOne told) old new
+abbrev pub Edits : ℕ → (Version → Draft → Type 0) → Option Draft → Option Draft → Type 0
+Edits most told old new = Between (EditsOne most told) old new
+
+-- how many operations are done: one, or none where it is refused
+abbrev pub done_by : {E : Type 0} → Result (Unit {0}) E → ℕ
+done_by (Ok u) = 1
+done_by (Err e) = 0
 
 -- the version stays, and octets in front are those of what a name owns
 pub record Reads (name : Name) (octets : List ℕ) (len : ℕ) (version : Version) (new : Draft) : Type 0 where
@@ -48,12 +55,13 @@ pub record Reads (name : Name) (octets : List ℕ) (len : ℕ) (version : Versio
 
 -- There is no room while these versions are kept: the current one, which is the last, and others that some pass was found reading,
 -- at most one for each pass. Their tries and that of the working set have almost as many cells as there are chunks but for the
--- reserve.
+-- reserve. Nor has the table the chunks that are enough for what was published and done.
 pub record IsFullOn (d : Draft) (version : Version) (kept : List ℕ) : Type 0 where
   pub named : (v : ℕ) → Contains kept v → (v ≡ d.seat.version) ⊎ IsNamed d.seat.place.me.0 v
   pub ends : (older : List ℕ) × (kept ≡ older ++ d.seat.version ∷ [])
   pub few : length kept ≤ d.seat.passes + 1
   pub many : length d.usage.given - reserve_of d.usage - 8 ≤ cell_count version + cells_kept d.seat.place.me.0 kept
+  pub cramped : IsCramped d
 
 -- An entry was put under a name that owned this one; or there was no room for it while what is kept is kept, though it would have changed the version, and the
 -- working set is as before.

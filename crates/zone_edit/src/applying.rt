@@ -6,8 +6,8 @@ ghost use Rattle.rr_data.specs.ItemViews.{SaysEntry};
 ghost use Rattle.zone_change.specs.Views.{operation_view};
 ghost use Rattle.zone_change.specs.Counts.{candidate};
 ghost use Rattle.shared_index.specs.Drafts.{Between, IsSame};
-ghost use Rattle.zone_edit.specs.Stores.{WorksOnSome, Edits};
-ghost use Rattle.zone_edit.specs.Blocks.{Applies, AppliesAll};
+ghost use Rattle.zone_edit.specs.Stores.{WorksOnSome, Edits, done_by};
+ghost use Rattle.zone_edit.specs.Blocks.{Applies, AppliesAll, most_done};
 
 use crate::buffers::ItemBuffers;
 use crate::reading::read_owned;
@@ -72,7 +72,7 @@ fn apply<L: Law, N: Named, K>(
     requires room { (item_limit ≤ length item_before.old) × (item_limit ≤ length item_after.old) }
     ensures same_reference { (transaction.new.home.ghost_name ≡ transaction.old.home.ghost_name) × (transaction.new.locked.ghost_name ≡ transaction.old.locked.ghost_name) }
     ensures place { transaction.new.locked.now.place ≡ transaction.old.locked.now.place }
-    ensures applies { Edits (Applies origin.now (operation_view operation.now) result) transaction.old.locked.now.draft transaction.new.locked.now.draft }
+    ensures applies { Edits (done_by result) (Applies origin.now (operation_view operation.now) result) transaction.old.locked.now.draft transaction.new.locked.now.draft }
     // Memory is wanted for entries alone, before anything is tried.
     ensures untried { result ≡ Err Stopped.Memory → Between IsSame transaction.old.locked.now.draft transaction.new.locked.now.draft }
 {
@@ -111,7 +111,7 @@ pub(crate) fn apply_all<L: Law, N: Named, K>(
     requires { IsSomeAnd transaction.old.locked.now.draft WorksOnSome }
     ensures same_reference { (transaction.new.home.ghost_name ≡ transaction.old.home.ghost_name) × (transaction.new.locked.ghost_name ≡ transaction.old.locked.ghost_name) }
     ensures place { transaction.new.locked.now.place ≡ transaction.old.locked.now.place }
-    ensures applies { Edits (AppliesAll origin.now (map operation_view operations.now) result) transaction.old.locked.now.draft transaction.new.locked.now.draft }
+    ensures applies { Edits (most_done (map operation_view operations.now) result) (AppliesAll origin.now (map operation_view operations.now) result) transaction.old.locked.now.draft transaction.new.locked.now.draft }
 {
     for (index, operation) in operations.iter().enumerate() {
         let (before, after) = (&mut buffers.before, &mut buffers.after);

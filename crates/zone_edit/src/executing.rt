@@ -2,8 +2,8 @@
 
 ghost use Rattle.std.specs.Prelude.{◌≡◌, IsSomeAnd, map};
 ghost use Rattle.zone_change.specs.Views.{operation_view, prerequisite_view};
-ghost use Rattle.zone_edit.specs.Stores.{WorksOnSome, Edits};
-ghost use Rattle.zone_edit.specs.Blocks.{Executes};
+ghost use Rattle.zone_edit.specs.Stores.{WorksOnSome};
+ghost use Rattle.zone_edit.specs.Blocks.{Edited};
 
 use crate::applying::{Halt, apply_all};
 use crate::buffers::ItemBuffers;
@@ -27,7 +27,7 @@ pub fn execute<L: Law, N: Named, K>(
     requires { IsSomeAnd transaction.old.locked.now.draft WorksOnSome }
     ensures same_reference { (transaction.new.home.ghost_name ≡ transaction.old.home.ghost_name) × (transaction.new.locked.ghost_name ≡ transaction.old.locked.ghost_name) }
     ensures place { transaction.new.locked.now.place ≡ transaction.old.locked.now.place }
-    ensures executes { Edits (Executes origin.now (record { needs = map prerequisite_view prerequisites.now; operations = map operation_view operations.now }) result)
+    ensures executes { Edited origin.now (record { needs = map prerequisite_view prerequisites.now; operations = map operation_view operations.now }) result
         transaction.old.locked.now.draft transaction.new.locked.now.draft }
 {
     if !meets_all(transaction, prerequisites, &mut buffers.before) {

@@ -22,7 +22,7 @@ fn meets<L: Law, N: Named, K>(
     requires room { most_item_octets ≤ length item.old }
     ensures same_reference { (transaction.new.home.ghost_name ≡ transaction.old.home.ghost_name) × (transaction.new.locked.ghost_name ≡ transaction.old.locked.ghost_name) }
     ensures place { transaction.new.locked.now.place ≡ transaction.old.locked.now.place }
-    ensures meets { Edits (Meets (prerequisite_view prerequisite.now) result) transaction.old.locked.now.draft transaction.new.locked.now.draft }
+    ensures meets { Edits 0 (Meets (prerequisite_view prerequisite.now) result) transaction.old.locked.now.draft transaction.new.locked.now.draft }
 {
     let owner = &prerequisite.owner;
     let key = Key::of(owner);
@@ -41,7 +41,7 @@ pub(crate) fn meets_all<L: Law, N: Named, K>(
     requires room { most_item_octets ≤ length item.old }
     ensures same_reference { (transaction.new.home.ghost_name ≡ transaction.old.home.ghost_name) × (transaction.new.locked.ghost_name ≡ transaction.old.locked.ghost_name) }
     ensures place { transaction.new.locked.now.place ≡ transaction.old.locked.now.place }
-    ensures meets { Edits (MeetsAll (map prerequisite_view prerequisites.now) result) transaction.old.locked.now.draft transaction.new.locked.now.draft }
+    ensures meets { Edits 0 (MeetsAll (map prerequisite_view prerequisites.now) result) transaction.old.locked.now.draft transaction.new.locked.now.draft }
 {
     for prerequisite in prerequisites {
         if !meets(transaction, prerequisite, item) {

@@ -23,7 +23,7 @@ pub(crate) fn read_owned<L: Law, N: Named, K>(
     ensures place { transaction.new.locked.now.place ≡ transaction.old.locked.now.place }
     ensures same { Between IsSame transaction.old.locked.now.draft transaction.new.locked.now.draft }
     ensures within { result ≤ length item.new }
-    ensures read { Edits (Reads name.now item.new result) transaction.old.locked.now.draft transaction.new.locked.now.draft }
+    ensures read { Edits 0 (Reads name.now item.new result) transaction.old.locked.now.draft transaction.new.locked.now.draft }
 {
     let _wire = name.wire(); // for the proof
     match transaction.fetch(key, item) {

@@ -5,7 +5,7 @@ ghost use Rattle.zone_model.specs.Keys.{key_of};
 ghost use Rattle.zone_model.specs.Records.{item, item_limit, IsItem};
 ghost use Rattle.zone_model.specs.Versions.{owned};
 ghost use Rattle.rr_data.specs.ItemViews.{SaysEntry};
-ghost use Rattle.zone_edit.specs.Stores.{Owns, Stores, Edits};
+ghost use Rattle.zone_edit.specs.Stores.{Owns, Stores, Edits, done_by};
 
 use dns_name::Name;
 use rr_data::Entry;
@@ -28,7 +28,7 @@ fn take_out<L: Law, N: Named, K>(
     requires some { 0 < length before.now }
     ensures same_reference { (transaction.new.home.ghost_name ≡ transaction.old.home.ghost_name) × (transaction.new.locked.ghost_name ≡ transaction.old.locked.ghost_name) }
     ensures place { transaction.new.locked.now.place ≡ transaction.old.locked.now.place }
-    ensures stores { Edits (Stores name.now before.now [] result) transaction.old.locked.now.draft transaction.new.locked.now.draft }
+    ensures stores { Edits (done_by result) (Stores name.now before.now [] result) transaction.old.locked.now.draft transaction.new.locked.now.draft }
 {
     let _wire = name.wire(); // for the proof
     match transaction.delete(key) {
@@ -52,7 +52,7 @@ fn put_in<L: Law, N: Named, K>(
     requires item { IsItem item.now name.now entry.now }
     ensures same_reference { (transaction.new.home.ghost_name ≡ transaction.old.home.ghost_name) × (transaction.new.locked.ghost_name ≡ transaction.old.locked.ghost_name) }
     ensures place { transaction.new.locked.now.place ≡ transaction.old.locked.now.place }
-    ensures stores { Edits (Stores name.now [] entry.now result) transaction.old.locked.now.draft transaction.new.locked.now.draft }
+    ensures stores { Edits (done_by result) (Stores name.now [] entry.now result) transaction.old.locked.now.draft transaction.new.locked.now.draft }
 {
     let _wire = name.wire(); // for the proof
     match transaction.insert(key, item) {
@@ -79,7 +79,7 @@ fn exchange<L: Law, N: Named, K>(
     requires other { entry.now ≡ before.now → ⊥ }
     ensures same_reference { (transaction.new.home.ghost_name ≡ transaction.old.home.ghost_name) × (transaction.new.locked.ghost_name ≡ transaction.old.locked.ghost_name) }
     ensures place { transaction.new.locked.now.place ≡ transaction.old.locked.now.place }
-    ensures stores { Edits (Stores name.now before.now entry.now result) transaction.old.locked.now.draft transaction.new.locked.now.draft }
+    ensures stores { Edits (done_by result) (Stores name.now before.now entry.now result) transaction.old.locked.now.draft transaction.new.locked.now.draft }
 {
     let _wire = name.wire(); // for the proof
     match transaction.replace(key, item) {
@@ -108,7 +108,7 @@ pub fn store<L: Law, N: Named, K>(
     requires room { item_limit ≤ length out.old }
     ensures same_reference { (transaction.new.home.ghost_name ≡ transaction.old.home.ghost_name) × (transaction.new.locked.ghost_name ≡ transaction.old.locked.ghost_name) }
     ensures place { transaction.new.locked.now.place ≡ transaction.old.locked.now.place }
-    ensures stores { Edits (Stores name.now before.now entry.now result) transaction.old.locked.now.draft transaction.new.locked.now.draft }
+    ensures stores { Edits (done_by result) (Stores name.now before.now entry.now result) transaction.old.locked.now.draft transaction.new.locked.now.draft }
 {
     if entry.is_empty() {
         if before.is_empty() {

@@ -43,7 +43,7 @@ returns-clause-ran g c = λ s setup.
     (search rules)
 
 pub kept-requires : goal.kept-requires
-kept-requires g c = is_there (Executes c.args.origin.now (asked_view c.args.block.now) (Err c.in-Err.halt)) c.update-update.result.locked.now.draft c.edit.new.transaction.locked.now.draft c.in-Err.ensures.executes
+kept-requires g c = is_there _ (Executes c.args.origin.now (asked_view c.args.block.now) (Err c.in-Err.halt)) c.update-update.result.locked.now.draft c.edit.new.transaction.locked.now.draft c.in-Err.ensures.executes
 
 pub returns-in-Err-clause-ran : goal.returns-in-Err-clause-ran
 returns-in-Err-clause-ran g c = λ s setup.

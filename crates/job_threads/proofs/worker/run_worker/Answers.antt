@@ -1,4 +1,4 @@
-use Rattle.std.proofs.Common.{◌∙◌, ◌≤◌, ◌+◌, ◌<◌, ℕ, List, [], ◌∷◌, length, length-append, take, map, refl, sym, ap, subst, arith}
+use Rattle.std.proofs.Common.{◌∙◌, ◌≤◌, ◌+◌, ℕ, List, [], ◌∷◌, length, length-append, take, map, refl, sym, ap, subst, arith}
 use Rattle.std.proofs.lemmas.List.{take_all, length-map}
 use Rattle.std.specs.Option.{option_map, is_some}
 use Rattle.job_script.specs.Views.{command_view}

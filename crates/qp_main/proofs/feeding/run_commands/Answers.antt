@@ -18,7 +18,7 @@ returns-clause-told g c =
     let bytes = c.args.bytes.items in
     let zone : zone_of i.origin (zone_lines bytes) ≡ Ok c.in-Ok.zone.pairs = ap (zone_of i.origin) (sym c.requires.cut.zone) ∙ search (rules, c.in-Ok.ensures.zone) in
     let stands : StandsAs (entries_of_items c.deref.result.now) c.in-Ok.zone.pairs = search (rules, c.in_ok-items.ensures, c.deref.ensures.value) in
-    list_answers c.args.workers i.chunks i.origin bytes c.in-Ok.zone.pairs (list_view c.args.commands.now) zone c.requires.read _ _ (c.in_ok-answer.ensures c.in-Ok.zone.pairs c.args.workers stands (search rules))
+    list_answers c.args.workers i.chunks i.origin bytes c.in-Ok.zone.pairs (list_view c.args.commands.now) zone c.requires.read _ _ (c.in_ok-answer.ensures c.in-Ok.zone.pairs c.args.workers stands c.in-Ok.ensures.of_origin (search rules))
 
 pub returns-in-Err-clause-stops : goal.returns-in-Err-clause-stops
 returns-in-Err-clause-stops g c =

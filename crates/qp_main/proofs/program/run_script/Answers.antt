@@ -16,7 +16,7 @@ pub returns-clause-told : goal.returns-clause-told
 returns-clause-told g c =
     let zone : zone_of c.args.invocation.now.origin (zone_lines c.args.bytes.items) ≡ Ok c.in-Ok.zone.pairs = ap (zone_of c.args.invocation.now.origin) (sym c.requires.cut.zone) ∙ search (rules, c.in-Ok.ensures.zone) in
     let stands : StandsAs (entries_of_items c.deref.result.now) c.in-Ok.zone.pairs = search (rules, c.in_ok-items.ensures, c.deref.ensures.value) in
-    job_answers c.args.telling c.args.invocation.now.chunks c.args.invocation.now.origin c.args.bytes.items c.in-Ok.zone.pairs (job_view c.args.job.now) zone c.requires.read _ _ (c.in_ok-answer.ensures c.in-Ok.zone.pairs stands)
+    job_answers c.args.telling c.args.invocation.now.chunks c.args.invocation.now.origin c.args.bytes.items c.in-Ok.zone.pairs (job_view c.args.job.now) zone c.requires.read _ _ (c.in_ok-answer.ensures c.in-Ok.zone.pairs stands c.in-Ok.ensures.of_origin)
 
 pub returns-in-Err-clause-stops : goal.returns-in-Err-clause-stops
 returns-in-Err-clause-stops g c =

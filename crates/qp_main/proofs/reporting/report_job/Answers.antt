@@ -9,9 +9,9 @@ use Rattle.qp_main.proofs.ReportingLemmas.{job_told}
 use Rattle.qp_main.proofs.reporting.report_job.Goals as goal
 
 pub returns-in_ok-text-in-Finished : goal.returns-in_ok-text-in-Finished
-returns-in_ok-text-in-Finished g c = λ zone stands.
+returns-in_ok-text-in-Finished g c = λ zone stands dumped.
     let i = c.args.invocation.now in
     job_told c.args.telling i.chunks i.origin zone (job_view c.args.job.now) c.in-Finished.finished c.in_ok-text-in-Finished.text.items c.any_refused-refused.result c.status_of.result (search (rules, c.in_ok-finished.ensures zone stands))
     c.in_ok-text-in-Finished.ensures
     (c.any_refused-refused.ensures ∙ ap (λ (l : List Outcomes). list_any (λ (w : Outcomes). list_any (λ (o : Outcome). is_refused (ended_view o.told)) w.list.items) l) c.deref.ensures.value)
-    c.status_of.ensures
+    c.status_of.ensures (record { zone = dumped; workers = c.requires.said })

@@ -6,7 +6,7 @@ use Rattle.qp_main.proofs.ReportingLemmas.{list_told}
 use Rattle.qp_main.proofs.reporting.report_list.Goals as goal
 
 pub returns-in_ok-text-in-Finished : goal.returns-in_ok-text-in-Finished
-returns-in_ok-text-in-Finished g c = λ zone workers stands same.
+returns-in_ok-text-in-Finished g c = λ zone workers stands dumped same.
     let i = c.args.invocation.now in
     let commands = list_view c.args.commands.now in
     let f = c.in-Finished.finished in
@@ -15,4 +15,4 @@ returns-in_ok-text-in-Finished g c = λ zone workers stands same.
     (subst (λ (n : ℕ). FedRanOn i.chunks n i.origin zone commands (fed.Finished f)) (sym (same (search rules))) r)
     (search (rules, c.in_ok-text-in-Finished.ensures))
     (search (rules, c.any_fed_refused.ensures))
-    c.status_of-status.ensures
+    c.status_of-status.ensures (record { zone = dumped; commands = c.requires.said })

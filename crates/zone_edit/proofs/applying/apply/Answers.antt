@@ -1,7 +1,7 @@
-use Rattle.std.proofs.Common.{◌≡◌, ◌<◌, ◌≤◌, length, take, Ok, Err, refl, sym, ap, subst}
+use Rattle.std.proofs.Common.{◌≡◌, ◌<◌, ◌≤◌, length, take, Ok, Err, refl, sym, ap, subst, arith}
 use Rattle.zone_model.specs.Names.{Name}
-use Rattle.zone_model.specs.Records.{Entry, item, item_limit}
-use Rattle.zone_model.specs.Versions.{owned, owner_of, changed, put}
+use Rattle.zone_model.specs.Records.{item, item_limit}
+use Rattle.zone_model.specs.Versions.{owned, owner_of, put}
 use Rattle.zone_change.specs.Views.{operation_view}
 use Rattle.zone_change.specs.Counts.{candidate}
 use Rattle.zone_edit.proofs.ApplyLaws.{owned_short, changed_short, accepted, made_of}
@@ -28,7 +28,7 @@ returns-in_default-both_entries-clause-applies g c =
     let operation = operation_view c.args.operation.now in
     let owner = c.owner-owner.result.now in
     let octets = take c.read_owned-len.result c.read_owned-len.new.item in
-    edits_as (Reads owner c.read_owned-len.new.item c.read_owned-len.result) (Applies c.args.origin.now operation (Err stops.Memory)) c.args.transaction.now.locked.now.draft c.read_owned-len.new.transaction.locked.now.draft
+    edits_as 0 0 (Reads owner c.read_owned-len.new.item c.read_owned-len.result) (Applies c.args.origin.now operation (Err stops.Memory)) c.args.transaction.now.locked.now.draft c.read_owned-len.new.transaction.locked.now.draft (omega arith)
     (λ version e r.
     let held = owned owner version in
     let made = made_of c.args.origin.now operation owner octets held (candidate operation held) held c.owner-owner.ensures c.in_default.ensures r.read.says refl refl in
@@ -39,8 +39,8 @@ returns-in-Ok-store-clause-applies g c =
     let operation = operation_view c.args.operation.now in
     let owner = c.owner-owner.result.now in
     let octets = take c.read_owned-len.result c.read_owned-len.new.item in
-    edits_on (Reads owner c.read_owned-len.new.item c.read_owned-len.result) (Stores owner c.in-Ok.before c.in-Ok.entry (Ok tt)) (Applies c.args.origin.now operation (Ok tt))
-    c.args.transaction.now.locked.now.draft c.read_owned-len.new.transaction.locked.now.draft c.store.new.transaction.locked.now.draft
+    edits_on 0 1 1 (Reads owner c.read_owned-len.new.item c.read_owned-len.result) (Stores owner c.in-Ok.before c.in-Ok.entry (Ok tt)) (Applies c.args.origin.now operation (Ok tt))
+    c.args.transaction.now.locked.now.draft c.read_owned-len.new.transaction.locked.now.draft c.store.new.transaction.locked.now.draft (omega arith)
     (λ version e f r.
     let both = c.in-Ok.ensures (owned owner version) r.read.says in
     let mine : c.in-Ok.before ≡ owned (owner_of operation) version = subst (λ (n : Name). c.in-Ok.before ≡ owned n version) c.owner-owner.ensures both.0 in
@@ -59,8 +59,8 @@ returns-clause-applies g c =
     let operation = operation_view c.args.operation.now in
     let owner = c.owner-owner.result.now in
     let octets = take c.read_owned-len.result c.read_owned-len.new.item in
-    edits_on (Reads owner c.read_owned-len.new.item c.read_owned-len.result) (Stores owner c.in-Ok.before c.in-Ok.entry (Err c.in-Err.field-0)) (Applies c.args.origin.now operation (Err stops.Full))
-    c.args.transaction.now.locked.now.draft c.read_owned-len.new.transaction.locked.now.draft c.store.new.transaction.locked.now.draft
+    edits_on 0 0 0 (Reads owner c.read_owned-len.new.item c.read_owned-len.result) (Stores owner c.in-Ok.before c.in-Ok.entry (Err c.in-Err.field-0)) (Applies c.args.origin.now operation (Err stops.Full))
+    c.args.transaction.now.locked.now.draft c.read_owned-len.new.transaction.locked.now.draft c.store.new.transaction.locked.now.draft (omega arith)
     (λ version e f r.
     let both = c.in-Ok.ensures (owned owner version) r.read.says in
     let mine : c.in-Ok.before ≡ owned (owner_of operation) version = subst (λ (n : Name). c.in-Ok.before ≡ owned n version) c.owner-owner.ensures both.0 in

@@ -1,12 +1,12 @@
 use Rattle.zone_model.specs.Names.{Name}
-use Rattle.std.proofs.Common.{◌≡◌, ◌∙◌, ℕ, ◌+◌, ◌≤◌, length, List, map, take, drop, Ok, Err, refl, ap, sym, subst, arith}
+use Rattle.std.proofs.Common.{◌≡◌, ◌∙◌, ℕ, ◌+◌, ◌-◌, ◌≤◌, length, List, map, take, drop, Ok, Err, refl, ap, sym, subst, arith}
 use Rattle.std.proofs.lemmas.List.{length-map, length-take-le, take_all}
 use Rattle.zone_model.specs.Versions.{Version, Operation, all_applied}
 use Rattle.zone_model.specs.declared.Refusal.{Refusal}
 use Rattle.zone_change.specs.Views.{operation_view}
 use Rattle.zone_change.specs.declared.operations.Operation.{Operation as Said}
 use Rattle.shared_index.specs.declared.desk.Draft.{Draft}
-use Rattle.zone_edit.proofs.ApplyLaws.{next_applied, refused_applied, up_to, all_around}
+use Rattle.zone_edit.proofs.ApplyLaws.{next_applied, refused_applied, up_to, all_around, few_in_front}
 use Rattle.zone_edit.specs.Stores.{WorksOn, WorksOnSome, Edits}
 use Rattle.zone_edit.specs.Blocks.{Applies, AppliesAll}
 use Rattle.zone_edit.specs.declared.applying.Stopped.{Stopped}
@@ -23,21 +23,24 @@ loop-index-init g c = record {
   same_reference = (refl, refl);
   place = refl;
   works = c.requires;
-  so_far = edits_same WorksOnSome (SoFar c.args.origin.now c.args.operations.now 0) c.args.transaction.now.locked.now.draft c.requires (λ d version on. (version, refl, on));
+  so_far = edits_same 0 WorksOnSome (SoFar c.args.origin.now c.args.operations.now 0) c.args.transaction.now.locked.now.draft c.requires (λ d version on. (version, refl, on));
 }
 
 pub loop-index-preserved : goal.loop-index-preserved
 loop-index-preserved g c =
     let i = c.loop-index.index in
     let ops = c.args.operations.now in
-    let here = operation_view c.index-operations-index.result in
+    let lt = c.loop-index-test.true in
+    let front : length (take i ops) ≡ i = length-take-le i ops (omega arith) in
+    let next : length (take (i + 1) ops) ≡ i + 1 = length-take-le (i + 1) ops (omega arith) in
+    let one_more : length (take i ops) + 1 ≤ length (take (i + 1) ops) = omega (arith, front, next) in
     let further = up_to operation_view c.args.operations.now c.loop-index.index c.index-operations-index.result c.loop-index-test.true c.index-operations-index.is in
     record {
       same_reference = (c.apply.ensures.same_reference.0 ∙ c.loop-index.invariant.same_reference.0, c.apply.ensures.same_reference.1 ∙ c.loop-index.invariant.same_reference.1);
       place = c.apply.ensures.place ∙ c.loop-index.invariant.place;
-      works = edits_some (Applies c.args.origin.now (operation_view c.index-operations-index.result) (Ok tt)) c.loop-index.transaction.locked.now.draft c.apply.new.transaction.locked.now.draft c.loop-index.invariant.works (λ version e a. record { version = a.0; on = a.2 }) c.in-Ok.ensures.applies;
-      so_far = edits_on (SoFar c.args.origin.now c.args.operations.now c.loop-index.index) (Applies c.args.origin.now (operation_view c.index-operations-index.result) (Ok tt)) (SoFar c.args.origin.now c.args.operations.now (c.loop-index.index + 1))
-          c.args.transaction.now.locked.now.draft c.loop-index.transaction.locked.now.draft c.apply.new.transaction.locked.now.draft
+      works = edits_some 1 (Applies c.args.origin.now (operation_view c.index-operations-index.result) (Ok tt)) c.loop-index.transaction.locked.now.draft c.apply.new.transaction.locked.now.draft c.loop-index.invariant.works (λ version e a. record { version = a.0; on = a.2 }) c.in-Ok.ensures.applies;
+      so_far = edits_on (length (take i ops)) 1 (length (take (i + 1) ops)) (SoFar c.args.origin.now c.args.operations.now c.loop-index.index) (Applies c.args.origin.now (operation_view c.index-operations-index.result) (Ok tt)) (SoFar c.args.origin.now c.args.operations.now (c.loop-index.index + 1))
+          c.args.transaction.now.locked.now.draft c.loop-index.transaction.locked.now.draft c.apply.new.transaction.locked.now.draft one_more
           (λ version e f x. (
             x.0,
             x.2,
@@ -51,8 +54,8 @@ loop-index-preserved g c =
 
 pub returns-in-Err-Memory-clause-applies : goal.returns-in-Err-Memory-clause-applies
 returns-in-Err-Memory-clause-applies g c =
-    edits_on (SoFar c.args.origin.now c.args.operations.now c.loop-index.index) (Applies c.args.origin.now (operation_view c.index-operations-index.result) (Err c.in-Err-Memory.field-0)) (AppliesAll c.args.origin.now (map operation_view c.args.operations.now) (Err halts.Memory))
-    c.args.transaction.now.locked.now.draft c.loop-index.transaction.locked.now.draft c.apply.new.transaction.locked.now.draft
+    edits_on (length (take c.loop-index.index c.args.operations.now)) 0 (length (map operation_view c.args.operations.now)) (SoFar c.args.origin.now c.args.operations.now c.loop-index.index) (Applies c.args.origin.now (operation_view c.index-operations-index.result) (Err c.in-Err-Memory.field-0)) (AppliesAll c.args.origin.now (map operation_view c.args.operations.now) (Err halts.Memory))
+    c.args.transaction.now.locked.now.draft c.loop-index.transaction.locked.now.draft c.apply.new.transaction.locked.now.draft (few_in_front operation_view c.args.operations.now c.loop-index.index)
     (λ version e f x. (
       x.0,
       x.2,
@@ -75,9 +78,9 @@ returns-in-Err-Memory-clause-applies g c =
 pub returns-in-Err-Refused-clause-applies : goal.returns-in-Err-Refused-clause-applies
 returns-in-Err-Refused-clause-applies g c =
     let all = all_around operation_view c.args.operations.now c.loop-index.index c.index-operations-index.result c.loop-index-test.true c.index-operations-index.is in
-    subst (λ (r : Refusal). Edits (AppliesAll c.args.origin.now (map operation_view c.args.operations.now) (Err (halts.Refused r))) c.args.transaction.now.locked.now.draft c.apply.new.transaction.locked.now.draft) (sym c.in-Err-Refused.refusal-is)
-    (edits_on (SoFar c.args.origin.now c.args.operations.now c.loop-index.index) (Applies c.args.origin.now (operation_view c.index-operations-index.result) (Err c.in-Err-Refused.field-0)) (AppliesAll c.args.origin.now (map operation_view c.args.operations.now) (Err (halts.Refused c.in-Err-Refused.refusal)))
-    c.args.transaction.now.locked.now.draft c.loop-index.transaction.locked.now.draft c.apply.new.transaction.locked.now.draft
+    subst (λ (r : Refusal). Edits (length (map operation_view c.args.operations.now)) (AppliesAll c.args.origin.now (map operation_view c.args.operations.now) (Err (halts.Refused r))) c.args.transaction.now.locked.now.draft c.apply.new.transaction.locked.now.draft) (sym c.in-Err-Refused.refusal-is)
+    (edits_on (length (take c.loop-index.index c.args.operations.now)) 0 (length (map operation_view c.args.operations.now)) (SoFar c.args.origin.now c.args.operations.now c.loop-index.index) (Applies c.args.origin.now (operation_view c.index-operations-index.result) (Err c.in-Err-Refused.field-0)) (AppliesAll c.args.origin.now (map operation_view c.args.operations.now) (Err (halts.Refused c.in-Err-Refused.refusal)))
+    c.args.transaction.now.locked.now.draft c.loop-index.transaction.locked.now.draft c.apply.new.transaction.locked.now.draft (few_in_front operation_view c.args.operations.now c.loop-index.index)
     (λ version e f x. (
       x.0,
       x.2,
@@ -93,8 +96,8 @@ returns-in-Err-Full-clause-applies g c =
     let lt = c.loop-index-test.true in
     let le : c.loop-index.index ≤ length c.args.operations.now = omega arith in
     let long = length-map (take c.loop-index.index c.args.operations.now) operation_view ∙ length-take-le c.loop-index.index c.args.operations.now le in
-    edits_on (SoFar c.args.origin.now c.args.operations.now c.loop-index.index) (Applies c.args.origin.now (operation_view c.index-operations-index.result) (Err c.in-Err-Full.field-0)) (AppliesAll c.args.origin.now (map operation_view c.args.operations.now) (Err (halts.Full (c.loop-index.index + 1))))
-    c.args.transaction.now.locked.now.draft c.loop-index.transaction.locked.now.draft c.apply.new.transaction.locked.now.draft
+    edits_on (length (take c.loop-index.index c.args.operations.now)) 0 (c.loop-index.index + 1 - 1) (SoFar c.args.origin.now c.args.operations.now c.loop-index.index) (Applies c.args.origin.now (operation_view c.index-operations-index.result) (Err c.in-Err-Full.field-0)) (AppliesAll c.args.origin.now (map operation_view c.args.operations.now) (Err (halts.Full (c.loop-index.index + 1))))
+    c.args.transaction.now.locked.now.draft c.loop-index.transaction.locked.now.draft c.apply.new.transaction.locked.now.draft (let l = length-take-le c.loop-index.index c.args.operations.now le in omega arith)
     (λ version e f x. (
       x.0,
       x.2,
@@ -119,5 +122,6 @@ returns-in-Err-Full-clause-applies g c =
 pub returns-clause-applies : goal.returns-clause-applies
 returns-clause-applies g c =
     let past : length c.args.operations.now ≤ c.loop-index.index = omega (arith, c.loop-index-test.false) in
-    edits_as (SoFar c.args.origin.now c.args.operations.now c.loop-index.index) (AppliesAll c.args.origin.now (map operation_view c.args.operations.now) (Ok tt)) c.args.transaction.now.locked.now.draft c.loop-index.transaction.locked.now.draft
+    edits_as (length (take c.loop-index.index c.args.operations.now)) (length (map operation_view c.args.operations.now)) (SoFar c.args.origin.now c.args.operations.now c.loop-index.index) (AppliesAll c.args.origin.now (map operation_view c.args.operations.now) (Ok tt)) c.args.transaction.now.locked.now.draft c.loop-index.transaction.locked.now.draft
+    (let l = few_in_front operation_view c.args.operations.now c.loop-index.index in omega arith)
     (λ version e x. (x.0, ap (λ (l : List Said). all_applied c.args.origin.now (map operation_view l) version) (sym (take_all c.loop-index.index c.args.operations.now past)) ∙ x.1, x.2)) c.loop-index.invariant.so_far

@@ -1,4 +1,4 @@
-use Rattle.std.proofs.Common.{◌≡◌, map, take, Ok}
+use Rattle.std.proofs.Common.{◌≡◌, length, map, take, Ok}
 use Rattle.std.specs.Prelude.{IsSomeAnd}
 use Rattle.zone_model.specs.Versions.{Version, all_applied}
 use Rattle.shared_index.specs.declared.desk.Draft.{Draft}
@@ -11,5 +11,5 @@ invariant-loop-index g l = record {
   same_reference : (l.transaction.home.ghost_name ≡ l.fn.transaction.home.ghost_name) × (l.transaction.locked.ghost_name ≡ l.fn.transaction.locked.ghost_name);
   place : l.transaction.locked.now.place ≡ l.fn.transaction.locked.now.place;
   works : IsSomeAnd l.transaction.locked.now.draft WorksOnSome;
-  so_far : Edits (λ (version : Version) (new : Draft). (now : Version) × (all_applied l.origin (map operation_view (take l.index l.operations)) version ≡ Ok now) × WorksOn new now) l.fn.transaction.locked.now.draft l.transaction.locked.now.draft;
+  so_far : Edits (length (take l.index l.operations)) (λ (version : Version) (new : Draft). (now : Version) × (all_applied l.origin (map operation_view (take l.index l.operations)) version ≡ Ok now) × WorksOn new now) l.fn.transaction.locked.now.draft l.transaction.locked.now.draft;
 }

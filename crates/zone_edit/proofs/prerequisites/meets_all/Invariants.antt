@@ -13,6 +13,6 @@ invariant-loop-prerequisite g l = record {
   same_reference : (l.transaction.home.ghost_name ≡ l.fn.transaction.home.ghost_name) × (l.transaction.locked.ghost_name ≡ l.fn.transaction.locked.ghost_name);
   place : l.transaction.locked.now.place ≡ l.fn.transaction.locked.now.place;
   works : IsSomeAnd l.transaction.locked.now.draft WorksOnSome;
-  so_far : Edits (λ (version : Version) (new : Draft). WorksOn new version × (all_met version (map prerequisite_view l.prerequisites) ≡ all_met version (map prerequisite_view (drop l.prerequisite-index l.prerequisites))))
+  so_far : Edits 0 (λ (version : Version) (new : Draft). WorksOn new version × (all_met version (map prerequisite_view l.prerequisites) ≡ all_met version (map prerequisite_view (drop l.prerequisite-index l.prerequisites))))
       l.fn.transaction.locked.now.draft l.transaction.locked.now.draft;
 }
