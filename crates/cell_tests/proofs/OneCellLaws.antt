@@ -59,7 +59,7 @@ pub counted : (n : ℕ) (history : List (Entry ℕ)) → fold (λ m e. m + 1) n 
 counted n [] = (let e : n ≡ n + 0 = omega arith in e)
 counted n (e ∷ es) = counted (n + 1) es ∙ (let same : n + 1 + length es ≡ n + length (e ∷ es) = omega arith in same)
 
-pub all_counted : (lawful : ℕ → ℕ → Type 0) (v : View ℕ ℕ) (turn : TurnView) (word : ℕ) → Confirmed (λ n change. n + 1) lawful IsVersion v turn word → v.seen.opening ≡ Some 0 → All (λ k. IsVersion k.image k.root k.version) turn.kept
+pub all_counted : (lawful : ℕ → ℕ → Type 0) (v : View ℕ ℕ) (turn : TurnView) (word : ℕ) → Confirmed (λ n change. n + 1) lawful (λ change. Unit {0}) IsVersion v turn word → v.seen.opening ≡ Some 0 → All (λ k. IsVersion k.image k.root k.version) turn.kept
 all_counted lawful v turn word told open_at i d l =
     let k = get_or turn.kept i d in
     let old = told.newest i d l in
@@ -88,7 +88,7 @@ one_image passes chunks t turn n b is done has =
     cells_are_image passes cells (Some (place_of n)) (cell_of n ∷ []) (cell_of n, (0, omega arith, refl), refl) (λ i j d l within. absurd (omega arith)) (All-cons (HasAt cells) (cell_of n) [] there (All-nil (HasAt cells)))
 
 -- what a pass has pinned, which knows that version 0 is 0
-pub pinned_is : (lawful : ℕ → ℕ → Type 0) (v w : View ℕ ℕ) → Pins (λ n change. n + 1) lawful IsVersion v w → v.seen.opening ≡ Some 0 → IsVersion (pinned_image w.progress) (pinned_root w.progress) (length w.seen.history)
+pub pinned_is : (lawful : ℕ → ℕ → Type 0) (v w : View ℕ ℕ) → Pins (λ n change. n + 1) lawful (λ change. Unit {0}) IsVersion v w → v.seen.opening ≡ Some 0 → IsVersion (pinned_image w.progress) (pinned_root w.progress) (length w.seen.history)
 pinned_is lawful v w told open_at =
     let number : 0 + length w.seen.history ≡ length w.seen.history = omega arith in
     let stood = told.stood 0 (ap (λ (x : View ℕ ℕ). x.seen.opening) told.view ∙ open_at) in

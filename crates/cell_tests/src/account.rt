@@ -21,6 +21,8 @@ impl Law<u64, u64> for Sums {
 
     ghost lawful = { λ first sum. first ≤ sum };
 
+    ghost permitted = { λ paid. Unit {0} };
+
     ghost stands = { λ image root sum. image ≡ [] };
 }
 
@@ -98,7 +100,7 @@ fn publish<L: Law<u64, u64>, M: Payload<u64>>(
     _amount: u64,
 ) -> u64
     requires table { seat.old.place.table_id ≡ account.now.table.shared.table_id }
-    requires can { CanPublish L.applied L.lawful L.stands account.now.table.shared.key seat.old.place.me.0 M.change None M.image }
+    requires can { CanPublish L.applied L.lawful L.permitted L.stands account.now.table.shared.key seat.old.place.me.0 M.change None M.image }
     ensures table { seat.new.place.table_id ≡ account.now.table.shared.table_id }
     ensures number { (seat.new.number ≡ seat.old.number) × (result ≡ seat.old.version + 1) }
     ensures published { Published seat.old.place.me.0 M.change None M.image seat.new.place.me.0 }

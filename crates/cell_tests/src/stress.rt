@@ -29,6 +29,8 @@ impl Law<u64, u64> for Numbers {
 
     ghost lawful = { λ first n. Unit {0} };
 
+    ghost permitted = { λ change. Unit {0} };
+
     ghost stands = { IsVersion };
 }
 
@@ -134,7 +136,7 @@ fn publish<L: Law<u64, u64>, M: Payload<u64>>(
     next: u64,
 ) -> u64
     requires table { turn.old.place.table_id ≡ index.now.table.shared.table_id }
-    requires can { CanPublish L.applied L.lawful L.stands index.now.table.shared.key turn.old.place.me.0 M.change (Some (place_of next)) M.image }
+    requires can { CanPublish L.applied L.lawful L.permitted L.stands index.now.table.shared.key turn.old.place.me.0 M.change (Some (place_of next)) M.image }
     ensures table { turn.new.place.table_id ≡ turn.old.place.table_id }
     ensures numbers { (turn.new.number ≡ turn.old.number) × (result ≡ turn.old.version + 1) }
     ensures published { Published turn.old.place.me.0 M.change (Some (place_of next)) M.image turn.new.place.me.0 }

@@ -20,4 +20,6 @@ mod rows;
 #[cfg(test)]
 mod scenes;
 #[cfg(test)]
+mod single;
+#[cfg(test)]
 mod worker;

@@ -22,26 +22,26 @@ use Rattle.shared_cells.specs.Steps.{Accounts, accounted}
 use Rattle.shared_cells.proofs.Knowing.{the_pass}
 use Rattle.shared_cells.proofs.Seats.{idle_is}
 
-module _ {O E : Type 0} (applied : O → E → O) (lawful : O → O → Type 0) (stands : List CellAt → Option ℕ → O → Type 0) (size : TableSize) where
+module _ {O E : Type 0} (applied : O → E → O) (lawful : O → O → Type 0) (permitted : E → Type 0) (stands : List CellAt → Option ℕ → O → Type 0) (size : TableSize) where
   abbrev Rule : State (Unit {0}) (View O E) → Type 0
-  Rule = IsSoundTable applied lawful stands size
+  Rule = IsSoundTable applied lawful permitted stands size
 
   module _ (s : State (Unit {0}) (View O E)) (r : Rule s) (id : ℕ) (v : View O E) (at : get_elem? s.views id ≡ some v) (idle : v.progress ≡ progress.Idle) where
     -- the pass is idle, so its pin is 0
     idle_pin : (own : PassView E) → v.pass ≡ Some own → get_or s.words (pin_at own.number) 0 ≡ 0
     idle_pin own is =
-        let fits = the_pass applied lawful stands size s r id v own at is in
+        let fits = the_pass applied lawful permitted stands size s r id v own at is in
         subst (PinFits r.facts.turn.kept (get_or r.facts.seen own.number 0) (get_or s.words (pin_at own.number) 0)) (fits.stage_is ∙ ap stage_of idle) (r.sound.pins own.number (let l = fits.made in let m = r.made in omega arith))
 
     naming_pinned : (own : PassView E) → v.pass ≡ Some own → (n : Naming) → NamingFits s.words r.facts.pinned n → n.pass ≡ own.number → Contains own.pinned n.version
     naming_pinned own is n fits same = ⊎_elim
-        (λ (c : Contains (r.facts.pinned n.pass) n.version). subst (λ (vs : List ℕ). Contains vs n.version) (ap r.facts.pinned same ∙ sym (the_pass applied lawful stands size s r id v own at is).pinned) c)
+        (λ (c : Contains (r.facts.pinned n.pass) n.version). subst (λ (vs : List ℕ). Contains vs n.version) (ap r.facts.pinned same ∙ sym (the_pass applied lawful permitted stands size s r id v own at is).pinned) c)
         (λ (c : (2 ≤ get_or s.words (pin_at n.pass) 0) × (version_of (get_or s.words (pin_at n.pass) 0) ≡ n.version)). absurd (let l = c.0 in let e : get_or s.words (pin_at n.pass) 0 ≡ 0 = ap (λ (q : ℕ). get_or s.words (pin_at q) 0) same ∙ idle_pin own is in omega arith)) fits
 
     accounts : Accounts size.passes v r.facts.all
     accounts = record {
       seen = (r.seats id v at).seen;
-      entries = λ own is. (the_pass applied lawful stands size s r id v own at is).entries;
+      entries = λ own is. (the_pass applied lawful permitted stands size s r id v own at is).entries;
       namings = λ own is. All-weaker (NamingFits s.words r.facts.pinned) (λ (n : Naming). n.pass ≡ own.number → Contains own.pinned n.version) (naming_pinned own is) r.facts.all.namings r.namings;
       authors = All-weaker (λ (e : Entry E). e.author < r.facts.turn.made) (λ (e : Entry E). e.author < size.passes) (λ e l. let m = r.made in omega arith) r.facts.all.history r.authors;
       namers = r.namers;

@@ -55,9 +55,9 @@ module _ {O E : Type 0} (size : TableSize) (f f' : Facts O E) where
 pub view_fits : {O E : Type 0} (size : TableSize) (f : Facts O E) (j : ℕ) (seen : Seen O E) → IsPartOf f.all seen → Knows size f j (view_of seen)
 view_fits size f j seen part = record { seen = part; told = nothing_begins f.all; pass = refl; turn = tt }
 
-module _ {O E : Type 0} (applied : O → E → O) (lawful : O → O → Type 0) (stands : List CellAt → Option ℕ → O → Type 0) (size : TableSize) where
+module _ {O E : Type 0} (applied : O → E → O) (lawful : O → O → Type 0) (permitted : E → Type 0) (stands : List CellAt → Option ℕ → O → Type 0) (size : TableSize) where
   abbrev Rule : State (Unit {0}) (View O E) → Type 0
-  Rule = IsSoundTable applied lawful stands size
+  Rule = IsSoundTable applied lawful permitted stands size
 
   pub the_turn : (s : State (Unit {0}) (View O E)) (r : Rule s) (id : ℕ) (v : View O E) (turn : TurnView) → get_elem? s.views id ≡ some v → v.turn ≡ Some turn → HasAll r.facts id v.seen v.progress turn
   the_turn s r id v turn at is = subst (TurnFits r.facts id v.seen v.progress) is (r.seats id v at).turn
@@ -66,7 +66,7 @@ module _ {O E : Type 0} (applied : O → E → O) (lawful : O → O → Type 0) 
   the_pass s r id v own at is = subst (PassFits size r.facts id v.seen v.progress) is (r.seats id v at).pass
 
   -- what the rule says of versions, where only passes have moved
-  pub versions_still : (f f' : Facts O E) → f'.turn ≡ f.turn → f'.all ≡ f.all → f'.stages ≡ f.stages → (o : Option O) → VersionsFit applied lawful stands size f o → VersionsFit applied lawful stands size f' o
+  pub versions_still : (f f' : Facts O E) → f'.turn ≡ f.turn → f'.all ≡ f.all → f'.stages ≡ f.stages → (o : Option O) → VersionsFit applied lawful permitted stands size f o → VersionsFit applied lawful permitted stands size f' o
   versions_still f f' t a g None fits = (a ∙ fits.0, λ p l. ap (λ ss. stage_at ss p) g ∙ fits.1 p l)
   versions_still f f' t a g (Some o) fits = (
     subst (λ (all : Seen O E). (n : ℕ) → n ≤ length all.history → lawful o (version_after applied o (take n all.history))) (sym a) fits.0,

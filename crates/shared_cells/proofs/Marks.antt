@@ -75,16 +75,16 @@ namers_fit passes p l mark.Idle = All-nil (λ (n : Naming). n.pass < passes)
 namers_fit passes p l mark.Entering = All-nil (λ (n : Naming). n.pass < passes)
 namers_fit passes p l (mark.Pinned v) = All-cons (λ (n : Naming). n.pass < passes) (record { pass = p; version = v }) [] l (All-nil (λ (n : Naming). n.pass < passes))
 
-module _ {O E : Type 0} (applied : O → E → O) (lawful : O → O → Type 0) (stands : List CellAt → Option ℕ → O → Type 0) (size : TableSize) where
+module _ {O E : Type 0} (applied : O → E → O) (lawful : O → O → Type 0) (permitted : E → Type 0) (stands : List CellAt → Option ℕ → O → Type 0) (size : TableSize) where
   abbrev Rule : State (Unit {0}) (View O E) → Type 0
-  Rule = IsSoundTable applied lawful stands size
+  Rule = IsSoundTable applied lawful permitted stands size
 
   module _ (s : State (Unit {0}) (View O E)) (r : Rule s) (id : ℕ) (v : View O E) (at : get_elem? s.views id ≡ some v) (turn : TurnView) (is_turn : v.turn ≡ Some turn) (o : O) (is_open : v.seen.opening ≡ Some o) (p : ℕ) (small : p < size.passes) where
     h : HasAll r.facts id v.seen v.progress turn
-    h = the_turn applied lawful stands size s r id v turn at is_turn
+    h = the_turn applied lawful permitted stands size s r id v turn at is_turn
 
     opened : r.facts.all.opening ≡ Some o
-    opened = sym (ap (λ (x : Seen O E). x.opening) (the_turn applied lawful stands size s r id v turn at is_turn).seen_is) ∙ is_open
+    opened = sym (ap (λ (x : Seen O E). x.opening) (the_turn applied lawful permitted stands size s r id v turn at is_turn).seen_is) ∙ is_open
 
     -- two kept versions of one number are one
     alone : (k j : Kept) → Contains r.facts.turn.kept k → Contains r.facts.turn.kept j → k.version ≡ j.version → k ≡ j
@@ -130,7 +130,7 @@ module _ {O E : Type 0} (applied : O → E → O) (lawful : O → O → Type 0) 
       marks_keep : Rule record { words = words; homes = s.homes; views = set s.views id (marked_view v turn p (mark_of pin)) }
       marks_keep = subst (λ (y : Seen O E × TurnView). Rule record { words = words; homes = s.homes; views = set s.views id (record v { seen = with_namings y.0 (naming_by p (mark_of pin)); turn = Some (marked_turn (length y.0.history) y.1 p (mark_of pin)) }) })
           (λ i. (sym h.seen_is i, sym h.turn_is i))
-          (acts applied lawful stands size s r id v at turn is_turn words (naming_by p (mark_of pin)) (new pin) refl stay (λ e. absurd (let e' = opened in cc)) (ended_fewer (length r.facts.turn.marks) (t pin) (done pin)) sound_after namings_on (namers_fit size.passes p small (mark_of pin))
+          (acts applied lawful permitted stands size s r id v at turn is_turn words (naming_by p (mark_of pin)) (new pin) refl stay (λ e. absurd (let e' = opened in cc)) (ended_fewer (length r.facts.turn.marks) (t pin) (done pin)) sound_after namings_on (namers_fit size.passes p small (mark_of pin))
           (r.copied ∙ r.sound.wide ∙ sym sound.wide) (λ i l. far i (λ e. let m = r.sound.small in omega arith) ∙ r.mirror i l))
 
       told : IsOfKept turn.kept (mark_of pin)
@@ -176,7 +176,7 @@ module _ {O E : Type 0} (applied : O → E → O) (lawful : O → O → Type 0) 
 
   module _ (slots id : ℕ) (m : Me (Unit {0}) (View O E)) (turn : TurnView) (is_turn : m.0.turn ≡ Some turn) (is_open : is_told m.0.seen.opening ≡ true) (p : ℕ) (small : p < length turn.marks) where
     inside : (s : State (Unit {0}) (View O E)) (r : Rule s) → get_elem? s.views id ≡ some m.0 → p < size.passes
-    inside s r at = let e = r.sound.marked in let same : length turn.marks ≡ length r.facts.turn.marks = ap (λ (y : TurnView). length y.marks) (the_turn applied lawful stands size s r id m.0 turn at is_turn).turn_is in omega arith
+    inside s r at = let e = r.sound.marked in let same : length turn.marks ≡ length r.facts.turn.marks = ap (λ (y : TurnView). length y.marks) (the_turn applied lawful permitted stands size s r id m.0 turn at is_turn).turn_is in omega arith
 
     before : pin_at p - 1 ≡ p
     before = omega arith

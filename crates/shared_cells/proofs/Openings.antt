@@ -71,20 +71,20 @@ untold : {O : Type 0} (o : Option O) → is_told o ≡ false → o ≡ None
 untold None e = refl
 untold (Some o) e = absurd (true≢false e)
 
-module _ {O E : Type 0} (applied : O → E → O) (lawful : O → O → Type 0) (stands : List CellAt → Option ℕ → O → Type 0) (size : TableSize) where
+module _ {O E : Type 0} (applied : O → E → O) (lawful : O → O → Type 0) (permitted : E → Type 0) (stands : List CellAt → Option ℕ → O → Type 0) (size : TableSize) where
   abbrev Rule : State (Unit {0}) (View O E) → Type 0
-  Rule = IsSoundTable applied lawful stands size
+  Rule = IsSoundTable applied lawful permitted stands size
 
   module _ (s : State (Unit {0}) (View O E)) (r : Rule s) (id : ℕ) (v : View O E) (at : get_elem? s.views id ≡ some v) (turn : TurnView) (is_turn : v.turn ≡ Some turn) (unopened : v.seen.opening ≡ None)
       (o : O) (root : Option ℕ) (image : List CellAt) (fits : IsImage (core_size size) turn.words root image) (good : lawful o o) (stood : stands image root o) where
     h : HasAll r.facts id v.seen v.progress turn
-    h = the_turn applied lawful stands size s r id v turn at is_turn
+    h = the_turn applied lawful permitted stands size s r id v turn at is_turn
 
     no_opening : r.facts.all.opening ≡ None
-    no_opening = sym (ap (λ (all : Seen O E). all.opening) (the_turn applied lawful stands size s r id v turn at is_turn).seen_is) ∙ unopened
+    no_opening = sym (ap (λ (all : Seen O E). all.opening) (the_turn applied lawful permitted stands size s r id v turn at is_turn).seen_is) ∙ unopened
 
-    before : VersionsFit applied lawful stands size r.facts None
-    before = subst (VersionsFit applied lawful stands size r.facts) no_opening r.versions
+    before : VersionsFit applied lawful permitted stands size r.facts None
+    before = subst (VersionsFit applied lawful permitted stands size r.facts) no_opening r.versions
 
     no_history : r.facts.all.history ≡ []
     no_history = ap (λ (all : Seen O E). all.history) before.0
@@ -132,7 +132,7 @@ module _ {O E : Type 0} (applied : O → E → O) (lawful : O → O → Type 0) 
         (subst (λ (n : ℕ). Sound (core_size size) (set s.words 0 (current_word 0 root)) r.facts.stages r.facts.seen (turn_of 0 (kept_of 0 root image ∷ []) (replicate n mark.Blank))) (sym r.sound.marked)
         (opens (core_size size) s.words r.facts.stages r.facts.seen (turn_of (length r.facts.all.history) r.facts.turn.kept r.facts.turn.marks) r.sound before.1 (ap length no_history) root image image_now))
 
-    versions_now : VersionsFit applied lawful stands size open_facts (Some o)
+    versions_now : VersionsFit applied lawful permitted stands size open_facts (Some o)
     versions_now = (
       (λ n l. subst (λ history. lawful o (version_after applied o (take n history))) (sym no_history) (subst (λ history. lawful o (version_after applied o history)) (sym (take-nil n)) good)),
       one (λ k. stands k.image k.root (version_after applied o (take k.version r.facts.all.history))) (kept_of 0 root image) (subst (λ history. stands image root (version_after applied o (take 0 history))) (sym no_history) stood),
@@ -143,6 +143,7 @@ module _ {O E : Type 0} (applied : O → E → O) (lawful : O → O → Type 0) 
       facts = open_facts;
       made = r.made;
       authors = r.authors;
+      allowed = r.allowed;
       sound = sound_now;
       seats = seats_stay (Knows size open_facts) s.views id (opened_view v turn o root image)
           (let k = r.seats id v at in record {
@@ -160,7 +161,7 @@ module _ {O E : Type 0} (applied : O → E → O) (lawful : O → O → Type 0) 
       mirror = λ i l. get_or-set_other s.words 0 i (current_word 0 root) 0 (λ e. omega arith) ∙ r.mirror i l;
     }
 
-  pub may_open : (slots id : ℕ) (m : Me (Unit {0}) (View O E)) (version : Option O) (root : Option ℕ) (image : List CellAt) (word : ℕ) → is_told m.0.seen.opening ≡ false → (c : CanOpen applied lawful stands size m.0 version root image) → word ≡ current_word 0 root
+  pub may_open : (slots id : ℕ) (m : Me (Unit {0}) (View O E)) (version : Option O) (root : Option ℕ) (image : List CellAt) (word : ℕ) → is_told m.0.seen.opening ≡ false → (c : CanOpen applied lawful permitted stands size m.0 version root image) → word ≡ current_word 0 root
       → Allows Rule slots id m 0 (λ _. word) (λ _. opened version image (step slots 0 word 0 none) m word)
   may_open slots id m version root image word new c is s r deep at small = (
     opened_view m.0 c.turn c.opening root image,

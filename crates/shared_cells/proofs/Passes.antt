@@ -41,24 +41,24 @@ pub either_is : (b : Bool) (x y : ℕ) → either b x y ≡ cond b x y
 either_is true x y = refl
 either_is false x y = refl
 
-module _ {O E : Type 0} (applied : O → E → O) (lawful : O → O → Type 0) (stands : List CellAt → Option ℕ → O → Type 0) (size : TableSize) where
+module _ {O E : Type 0} (applied : O → E → O) (lawful : O → O → Type 0) (permitted : E → Type 0) (stands : List CellAt → Option ℕ → O → Type 0) (size : TableSize) where
   abbrev Rule : State (Unit {0}) (View O E) → Type 0
-  Rule = IsSoundTable applied lawful stands size
+  Rule = IsSoundTable applied lawful permitted stands size
 
   -- the facts once a pass has come so far, has seen so much, and has pinned these versions
   abbrev moved : Facts O E → ℕ → Stage → ℕ → List ℕ → Facts O E
   moved f p g n pinned = record f { stages = set f.stages p g; seen = set f.seen p n; pinned = put f.pinned p pinned }
 
-  versions_on : (f : Facts O E) (p n : ℕ) (g : Stage) (pinned : List ℕ) (o : O) (now : Option O) → now ≡ Some o → VersionsFit applied lawful stands size f now → VersionsFit applied lawful stands size (moved f p g n pinned) now
+  versions_on : (f : Facts O E) (p n : ℕ) (g : Stage) (pinned : List ℕ) (o : O) (now : Option O) → now ≡ Some o → VersionsFit applied lawful permitted stands size f now → VersionsFit applied lawful permitted stands size (moved f p g n pinned) now
   versions_on f p n g pinned o None is fits = absurd (cc)
   versions_on f p n g pinned o (Some o') is fits = fits
 
   module _ (s : State (Unit {0}) (View O E)) (r : Rule s) (id : ℕ) (v : View O E) (at : get_elem? s.views id ≡ some v) (own : PassView E) (is_pass : v.pass ≡ Some own) (off_turn : v.turn ≡ None) (o : O) (is_open : v.seen.opening ≡ Some o) where
     mine : OwnFits size r.facts id v.seen v.progress own
-    mine = the_pass applied lawful stands size s r id v own at is_pass
+    mine = the_pass applied lawful permitted stands size s r id v own at is_pass
 
     within : own.number < size.passes
-    within = let l = (the_pass applied lawful stands size s r id v own at is_pass).made in let m = r.made in omega arith
+    within = let l = (the_pass applied lawful permitted stands size s r id v own at is_pass).made in let m = r.made in omega arith
 
     opened : r.facts.all.opening ≡ Some o
     opened = subst (λ (x : Option O). OpeningFits r.facts.all.opening x v.seen) is_open (r.seats id v at).seen.opening
@@ -128,6 +128,7 @@ module _ {O E : Type 0} (applied : O → E → O) (lawful : O → O → Type 0) 
         facts = now;
         made = r.made;
         authors = r.authors;
+        allowed = r.allowed;
         sound = sound;
         seats = seats_stay (Knows size now) s.views id (record v { seen = seen; pass = Some (record own { pinned = pinned }); progress = d })
             (record {
@@ -265,10 +266,10 @@ module _ {O E : Type 0} (applied : O → E → O) (lawful : O → O → Type 0) 
           (subst (λ (a : ℕ × ℕ). core (set s.words (pin_at own.number) x) (stage.Pinned a.0) (set r.facts.seen own.number a.1)) (λ i. (told_version i, (told_version ∙ sym long) i))
           (settles (core_size size) s.words r.facts.stages r.facts.seen (turn_of (length r.facts.all.history) r.facts.turn.kept r.facts.turn.marks) r.sound own.number w within (at_stage (progress.Looked w) is))))
 
-      versions_of : (o' : O) → v.seen.opening ≡ Some o' → VersionsFit applied lawful stands size r.facts (Some o')
-      versions_of o' e = subst (VersionsFit applied lawful stands size r.facts) (subst (λ (y : Option O). OpeningFits r.facts.all.opening y v.seen) e (r.seats id v at).seen.opening) r.versions
+      versions_of : (o' : O) → v.seen.opening ≡ Some o' → VersionsFit applied lawful permitted stands size r.facts (Some o')
+      versions_of o' e = subst (VersionsFit applied lawful permitted stands size r.facts) (subst (λ (y : Option O). OpeningFits r.facts.all.opening y v.seen) e (r.seats id v at).seen.opening) r.versions
 
-      pins : Pins applied lawful stands v (pinned_view v more named.0)
+      pins : Pins applied lawful permitted stands v (pinned_view v more named.0)
       pins = record {
         kept = named.0;
         more = more;
@@ -279,7 +280,7 @@ module _ {O E : Type 0} (applied : O → E → O) (lawful : O → O → Type 0) 
             (All-contains (λ k. stands k.image k.root (version_after applied o' (take k.version r.facts.all.history))) r.facts.turn.kept named.0 (versions_of o' e).1 named.1);
       }
 
-      settles_so : Settles applied lawful stands v (exchanged (get_or s.words (pin_at own.number) 0) w) (pinned_view v more named.0)
+      settles_so : Settles applied lawful permitted stands v (exchanged (get_or s.words (pin_at own.number) 0) w) (pinned_view v more named.0)
       unfolding pins
       settles_so = record {
         pins = pins;
@@ -313,8 +314,8 @@ module _ {O E : Type 0} (applied : O → E → O) (lawful : O → O → Type 0) 
       (refl, current_fits (core_size size) s.words r.facts.stages r.facts.seen (turn_of (length r.facts.all.history) r.facts.turn.kept r.facts.turn.marks) r.sound),
     )
 
-    pub may_settle : (w : ℕ) → m.0.progress ≡ progress.Looked w → Allows Rule slots id m (pin_at number) (λ n. either (eqb n 1) (w + 2) n) (settled applied lawful stands (step slots (pin_at number) 1 (w + 2) none) m)
-    may_settle w is = at_pin (λ i. Allows Rule slots id m i (λ n. either (eqb n 1) (w + 2) n) (settled applied lawful stands (step slots i 1 (w + 2) none) m)) (λ own is_own s r deep at small.
+    pub may_settle : (w : ℕ) → m.0.progress ≡ progress.Looked w → Allows Rule slots id m (pin_at number) (λ n. either (eqb n 1) (w + 2) n) (settled applied lawful permitted stands (step slots (pin_at number) 1 (w + 2) none) m)
+    may_settle w is = at_pin (λ i. Allows Rule slots id m i (λ n. either (eqb n 1) (w + 2) n) (settled applied lawful permitted stands (step slots i 1 (w + 2) none) m)) (λ own is_own s r deep at small.
         let o = told_there m.0.seen.opening is_open in
         let off = no_turn m.0.turn off_turn in
         let new = pinned_view m.0 (more s r id m.0 at own is_own off o.0 o.1 w is) (named s r id m.0 at own is_own off o.0 o.1 w is).0 in (
@@ -364,13 +365,13 @@ module _ {O E : Type 0} (applied : O → E → O) (lawful : O → O → Type 0) 
   looked_since m m1 m2 w e1 e2 = e2 ∙ ap (λ (x : Me (Unit {0}) (View O E)). let y : Me (Unit {0}) (View O E) = (with_progress x.0 (progress.Looked w), x.1) in y) e1
 
   pub settles_next : (slots id number w : ℕ) (m m1 m2 : Me (Unit {0}) (View O E)) → m1 ≡ (with_progress m.0 progress.Entered, m.1) → m2 ≡ (with_progress m1.0 (progress.Looked w), m1.1)
-      → number_of m.0.pass ≡ number + 1 → has_turn m.0.turn ≡ false → is_told m.0.seen.opening ≡ true → Allows Rule slots id m2 (pin_at number) (λ n. either (eqb n 1) (w + 2) n) (settled applied lawful stands (step slots (pin_at number) 1 (w + 2) none) m2)
+      → number_of m.0.pass ≡ number + 1 → has_turn m.0.turn ≡ false → is_told m.0.seen.opening ≡ true → Allows Rule slots id m2 (pin_at number) (λ n. either (eqb n 1) (w + 2) n) (settled applied lawful permitted stands (step slots (pin_at number) 1 (w + 2) none) m2)
   settles_next slots id number w m m1 m2 e1 e2 is_pass off_turn is_open =
-      subst (λ (x : Me (Unit {0}) (View O E)). Allows Rule slots id x (pin_at number) (λ n. either (eqb n 1) (w + 2) n) (settled applied lawful stands (step slots (pin_at number) 1 (w + 2) none) x)) (sym (looked_since m m1 m2 w e1 e2))
+      subst (λ (x : Me (Unit {0}) (View O E)). Allows Rule slots id x (pin_at number) (λ n. either (eqb n 1) (w + 2) n) (settled applied lawful permitted stands (step slots (pin_at number) 1 (w + 2) none) x)) (sym (looked_since m m1 m2 w e1 e2))
       (may_settle slots id (with_progress m.0 (progress.Looked w), m.1) number is_pass off_turn is_open w refl)
 
   -- what was pinned, told of the pass as it was before
-  settled_since : (v : View O E) (d : Progress) (pin : ℕ) (w : View O E) → Settles applied lawful stands (with_progress v d) pin w → Settles applied lawful stands v pin w
+  settled_since : (v : View O E) (d : Progress) (pin : ℕ) (w : View O E) → Settles applied lawful permitted stands (with_progress v d) pin w → Settles applied lawful permitted stands v pin w
   settled_since v d x w t = let p = t.pins in record {
     pins = record { kept = p.kept; more = p.more; view = p.view; version = p.version; good = p.good; stood = p.stood };
     low = t.low;
@@ -380,8 +381,8 @@ module _ {O E : Type 0} (applied : O → E → O) (lawful : O → O → Type 0) 
   }
 
   pub pins_so : (w found : ℕ) (st : Step (Unit {0})) (m m1 m2 m3 : Me (Unit {0}) (View O E)) → m1 ≡ (with_progress m.0 progress.Entered, m.1) → m2 ≡ (with_progress m1.0 (progress.Looked w), m1.1)
-      → settled applied lawful stands st m2 found m3 → Settles applied lawful stands m.0 (exchanged_by st found) m3.0
-  pins_so w found st m m1 m2 m3 e1 e2 t = settled_since m.0 (progress.Looked w) (exchanged_by st found) m3.0 (subst (λ (x : Me (Unit {0}) (View O E)). Settles applied lawful stands x.0 (exchanged_by st found) m3.0) (looked_since m m1 m2 w e1 e2) t.0)
+      → settled applied lawful permitted stands st m2 found m3 → Settles applied lawful permitted stands m.0 (exchanged_by st found) m3.0
+  pins_so w found st m m1 m2 m3 e1 e2 t = settled_since m.0 (progress.Looked w) (exchanged_by st found) m3.0 (subst (λ (x : Me (Unit {0}) (View O E)). Settles applied lawful permitted stands x.0 (exchanged_by st found) m3.0) (looked_since m m1 m2 w e1 e2) t.0)
 
 pub pinned_there : (p : Progress) → is_pinned p ≡ true → (k : Kept) × (p ≡ progress.Pinned k)
 pinned_there progress.Idle e = absurd (true≢false (sym e))

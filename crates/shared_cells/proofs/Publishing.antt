@@ -39,9 +39,9 @@ use Rattle.shared_cells.proofs.Images.{image_stays, root_of_word}
 namings_stay : (words : List ℕ) (word : ℕ) (pinned : ℕ → List ℕ) (namings : List Naming) → All (NamingFits words pinned) namings → All (NamingFits (set words 0 word) pinned) namings
 namings_stay words word pinned = All-weaker (NamingFits words pinned) (NamingFits (set words 0 word) pinned) (λ n fits. subst (λ (pin : ℕ). Contains (pinned n.pass) n.version ⊎ ((2 ≤ pin) × (version_of pin ≡ n.version))) (sym (get_or-set_other words 0 (pin_at n.pass) word 0 (λ e. omega arith))) fits)
 
-module _ {O E : Type 0} (applied : O → E → O) (lawful : O → O → Type 0) (stands : List CellAt → Option ℕ → O → Type 0) (size : TableSize) where
+module _ {O E : Type 0} (applied : O → E → O) (lawful : O → O → Type 0) (permitted : E → Type 0) (stands : List CellAt → Option ℕ → O → Type 0) (size : TableSize) where
   abbrev Rule : State (Unit {0}) (View O E) → Type 0
-  Rule = IsSoundTable applied lawful stands size
+  Rule = IsSoundTable applied lawful permitted stands size
 
   -- the facts after the pass p has published
   module _ (f : Facts O E) (p : ℕ) (change : E) (new : Kept) where
@@ -98,19 +98,19 @@ module _ {O E : Type 0} (applied : O → E → O) (lawful : O → O → Type 0) 
           (λ i d l. let k = get_or f.turn.kept i d in subst (λ (h : List (Entry E)). stands k.image k.root (version_after applied o h)) (sym (take-append-le k.version f.all.history (entry_of p change ∷ []) (newest i d l))) (was i d l))
           (subst (λ (h : List (Entry E)). stands new.image new.root (version_after applied o h)) (sym (take_all new.version (f.all.history ++ entry_of p change ∷ []) (let m = long in omega arith))) stood)
 
-      versions_open : VersionsFit applied lawful stands size f (Some o) → VersionsFit applied lawful stands size after (Some o)
+      versions_open : VersionsFit applied lawful permitted stands size f (Some o) → VersionsFit applied lawful permitted stands size after (Some o)
       versions_open was = (all_lawful was.0, all_stand was.1)
 
     versions_on : (o : O) (now : Option O) → now ≡ Some o → All (λ k. k.version ≤ length f.all.history) f.turn.kept → new.version ≡ length f.all.history + 1 → lawful o (version_after applied o (f.all.history ++ entry_of p change ∷ []))
-        → stands new.image new.root (version_after applied o (f.all.history ++ entry_of p change ∷ [])) → VersionsFit applied lawful stands size f now → VersionsFit applied lawful stands size after now
-    versions_on o now is newest next good stood was = subst (VersionsFit applied lawful stands size after) (sym is) (versions_open o newest next good stood (subst (VersionsFit applied lawful stands size f) is was))
+        → stands new.image new.root (version_after applied o (f.all.history ++ entry_of p change ∷ [])) → VersionsFit applied lawful permitted stands size f now → VersionsFit applied lawful permitted stands size after now
+    versions_on o now is newest next good stood was = subst (VersionsFit applied lawful permitted stands size after) (sym is) (versions_open o newest next good stood (subst (VersionsFit applied lawful permitted stands size f) is was))
 
-  module _ (s : State (Unit {0}) (View O E)) (r : Rule s) (id : ℕ) (v : View O E) (at : get_elem? s.views id ≡ some v) (change : Option E) (root : Option ℕ) (image : List CellAt) (c : CanPublish applied lawful stands size v change root image) where
+  module _ (s : State (Unit {0}) (View O E)) (r : Rule s) (id : ℕ) (v : View O E) (at : get_elem? s.views id ≡ some v) (change : Option E) (root : Option ℕ) (image : List CellAt) (c : CanPublish applied lawful permitted stands size v change root image) where
     h : HasAll r.facts id v.seen v.progress c.turn
-    h = the_turn applied lawful stands size s r id v c.turn at c.is_turn
+    h = the_turn applied lawful permitted stands size s r id v c.turn at c.is_turn
 
     mine : OwnFits size r.facts id v.seen v.progress c.own
-    mine = the_pass applied lawful stands size s r id v c.own at c.is_pass
+    mine = the_pass applied lawful permitted stands size s r id v c.own at c.is_pass
 
     abbrev p : ℕ
     p = c.own.number
@@ -125,16 +125,16 @@ module _ {O E : Type 0} (applied : O → E → O) (lawful : O → O → Type 0) 
     now = after r.facts c.own.number c.entry (kept_of (length v.seen.history + 1) root image)
 
     next : length v.seen.history + 1 ≡ length r.facts.all.history + 1
-    next = ap (λ (x : Seen O E). length x.history + 1) (the_turn applied lawful stands size s r id v c.turn at c.is_turn).seen_is
+    next = ap (λ (x : Seen O E). length x.history + 1) (the_turn applied lawful permitted stands size s r id v c.turn at c.is_turn).seen_is
 
     opening_now : r.facts.all.opening ≡ Some c.opening
-    opening_now = sym (ap (λ (x : Seen O E). x.opening) (the_turn applied lawful stands size s r id v c.turn at c.is_turn).seen_is) ∙ c.is_open
+    opening_now = sym (ap (λ (x : Seen O E). x.opening) (the_turn applied lawful permitted stands size s r id v c.turn at c.is_turn).seen_is) ∙ c.is_open
 
     within : (c.own.number < size.passes) × (c.own.number < length r.facts.seen)
-    within = let l = (the_pass applied lawful stands size s r id v c.own at c.is_pass).made in let m = r.made in let w = r.sound.watched in (omega arith, omega arith)
+    within = let l = (the_pass applied lawful permitted stands size s r id v c.own at c.is_pass).made in let m = r.made in let w = r.sound.watched in (omega arith, omega arith)
 
     idle_stage : stage_at r.facts.stages c.own.number ≡ stage.Idle
-    idle_stage = (the_pass applied lawful stands size s r id v c.own at c.is_pass).stage_is ∙ ap stage_of (the_turn applied lawful stands size s r id v c.turn at c.is_turn).idle
+    idle_stage = (the_pass applied lawful permitted stands size s r id v c.own at c.is_pass).stage_is ∙ ap stage_of (the_turn applied lawful permitted stands size s r id v c.turn at c.is_turn).idle
 
     image_now : IsImage (core_size size) s.words root image
     image_now = image_stays (core_size size) c.turn.words s.words root image (λ i l. r.mirror i l ∙ ap (λ (t : TurnView). get_or t.words i 0) (sym h.turn_is)) c.fits
@@ -187,6 +187,7 @@ module _ {O E : Type 0} (applied : O → E → O) (lawful : O → O → Type 0) 
       facts = now;
       made = r.made;
       authors = All-push (λ (x : Entry E). x.author < r.facts.turn.made) r.facts.all.history entry r.authors mine.made;
+      allowed = All-push (λ (x : Entry E). permitted x.change) r.facts.all.history entry r.allowed c.allowed;
       sound = sound_now;
       seats = seats_stay (Knows size now) s.views id (published_view v c.turn c.own c.entry root image) knows_now
           (λ j u other e. knows_else size r.facts now j u (λ same. other (same ∙ sym h.writer)) (longer r.facts c.own.number c.entry new) (other_fits r.facts c.own.number c.entry new id j mine.at other u.seen u.progress) (r.seats j u e));
@@ -200,7 +201,7 @@ module _ {O E : Type 0} (applied : O → E → O) (lawful : O → O → Type 0) 
       mirror = λ i l. get_or-set_other s.words 0 i word 0 (λ e. omega arith) ∙ r.mirror i l;
     }
 
-  pub may_publish : (slots id : ℕ) (m : Me (Unit {0}) (View O E)) (change : Option E) (root : Option ℕ) (image : List CellAt) (word : ℕ) (c : CanPublish applied lawful stands size m.0 change root image) → word ≡ current_word (length m.0.seen.history + 1) root
+  pub may_publish : (slots id : ℕ) (m : Me (Unit {0}) (View O E)) (change : Option E) (root : Option ℕ) (image : List CellAt) (word : ℕ) (c : CanPublish applied lawful permitted stands size m.0 change root image) → word ≡ current_word (length m.0.seen.history + 1) root
       → Allows Rule slots id m 0 (λ _. word) (λ _. published change image (step slots 0 word 0 none) m word)
   may_publish slots id m change root image word c is s r deep at small = (
     published_view m.0 c.turn c.own c.entry root image,

@@ -243,15 +243,15 @@ marked_turn_there : (o : Option TurnView) (p : ℕ) → p < length (marks_of o) 
 marked_turn_there None p l = absurd (omega arith)
 marked_turn_there (Some turn) p l = (turn, refl)
 
-module _ {O E : Type 0} (applied : O → E → O) (lawful : O → O → Type 0) (stands : List CellAt → Option ℕ → O → Type 0) (size : TableSize) where
-  pub may_scan_pass : (slots id : ℕ) (m : Me (Unit {0}) (View O E)) (p : ℕ) → is_told m.0.seen.opening ≡ true → p < length (marks_of m.0.turn) → Allows (IsSoundTable applied lawful stands size) slots id m (pin_at p) (λ n. n) (scanned (step slots (pin_at p) 0 0 none) m)
-  may_scan_pass slots id m p told small = let t = marked_turn_there m.0.turn p small in may_scan applied lawful stands size slots id m t.0 t.1 told p (let e = ap (λ (o : Option TurnView). length (marks_of o)) t.1 in omega arith)
+module _ {O E : Type 0} (applied : O → E → O) (lawful : O → O → Type 0) (permitted : E → Type 0) (stands : List CellAt → Option ℕ → O → Type 0) (size : TableSize) where
+  pub may_scan_pass : (slots id : ℕ) (m : Me (Unit {0}) (View O E)) (p : ℕ) → is_told m.0.seen.opening ≡ true → p < length (marks_of m.0.turn) → Allows (IsSoundTable applied lawful permitted stands size) slots id m (pin_at p) (λ n. n) (scanned (step slots (pin_at p) 0 0 none) m)
+  may_scan_pass slots id m p told small = let t = marked_turn_there m.0.turn p small in may_scan applied lawful permitted stands size slots id m t.0 t.1 told p (let e = ap (λ (o : Option TurnView). length (marks_of o)) t.1 in omega arith)
 
   pub may_help_pass : (slots id : ℕ) (m m1 : Me (Unit {0}) (View O E)) (p word : ℕ) → Marks m.0 p 1 m1.0 → is_told m.0.seen.opening ≡ true → p < length (marks_of m.0.turn) → IsCurrent m.0 word
-      → Allows (IsSoundTable applied lawful stands size) slots id m1 (pin_at p) (λ n. either (eqb n 1) (word + 2) n) (assigned (step slots (pin_at p) 1 (word + 2) none) m1)
+      → Allows (IsSoundTable applied lawful permitted stands size) slots id m1 (pin_at p) (λ n. either (eqb n 1) (word + 2) n) (assigned (step slots (pin_at p) 1 (word + 2) none) m1)
   may_help_pass slots id m m1 p word first told small current =
       let l = still_small m.0 m1.0 p first small in
       let t = marked_turn_there m1.0.turn p l in
       let c = still_current m.0 m1.0 p first small word current in
-      subst (λ (w : ℕ). Allows (IsSoundTable applied lawful stands size) slots id m1 (pin_at p) (λ n. either (eqb n 1) (w + 2) n) (assigned (step slots (pin_at p) 1 (w + 2) none) m1)) (sym c.3)
-      (may_assign applied lawful stands size slots id m1 t.0 t.1 (still_told m.0 m1.0 p first small told) p (let e = ap (λ (o : Option TurnView). length (marks_of o)) t.1 in omega arith) c.0 (subst (λ (o : Option TurnView). Contains (kept_in o) c.0) t.1 c.1) c.2)
+      subst (λ (w : ℕ). Allows (IsSoundTable applied lawful permitted stands size) slots id m1 (pin_at p) (λ n. either (eqb n 1) (w + 2) n) (assigned (step slots (pin_at p) 1 (w + 2) none) m1)) (sym c.3)
+      (may_assign applied lawful permitted stands size slots id m1 t.0 t.1 (still_told m.0 m1.0 p first small told) p (let e = ap (λ (o : Option TurnView). length (marks_of o)) t.1 in omega arith) c.0 (subst (λ (o : Option TurnView). Contains (kept_in o) c.0) t.1 c.1) c.2)

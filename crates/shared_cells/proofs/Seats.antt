@@ -55,15 +55,16 @@ pub told_there : {O : Type 0} (o : Option O) → is_told o ≡ true → (opening
 told_there None e = absurd (true≢false (sym e))
 told_there (Some opening) e = (opening, refl)
 
-module _ {O E : Type 0} (applied : O → E → O) (lawful : O → O → Type 0) (stands : List CellAt → Option ℕ → O → Type 0) (size : TableSize) where
+module _ {O E : Type 0} (applied : O → E → O) (lawful : O → O → Type 0) (permitted : E → Type 0) (stands : List CellAt → Option ℕ → O → Type 0) (size : TableSize) where
   abbrev Rule : State (Unit {0}) (View O E) → Type 0
-  Rule = IsSoundTable applied lawful stands size
+  Rule = IsSoundTable applied lawful permitted stands size
 
   pub splits_note : (id : ℕ) (v : View O E) → Splits Rule id v v (note_of v)
   splits_note id v s r at = let k = r.seats id v at in record {
     facts = r.facts;
     made = r.made;
     authors = r.authors;
+    allowed = r.allowed;
     sound = r.sound;
     seats = seats_grow (Knows size r.facts) s.views id v (note_of v) k (view_fits size r.facts (length s.views) v.seen k.seen) (λ j u other e. r.seats j u e);
     held = held_more (set s.views id v) (note_of v ∷ []) r.facts.writer (held_set s.views r.facts.writer id v v r.held at refl);
@@ -108,14 +109,15 @@ module _ {O E : Type 0} (applied : O → E → O) (lawful : O → O → Type 0) 
   splits_own : (id : ℕ) (v : View O E) (own : PassView E) (turn : TurnView) → v.pass ≡ Some own → v.turn ≡ Some turn → Splits Rule id v (without_pass v) (pass_of v)
   splits_own id v own turn is_pass is_turn s r at =
       let k = r.seats id v at in
-      let h = the_turn applied lawful stands size s r id v turn at is_turn in
-      let fits = the_pass applied lawful stands size s r id v own at is_pass in
+      let h = the_turn applied lawful permitted stands size s r id v turn at is_turn in
+      let fits = the_pass applied lawful permitted stands size s r id v own at is_pass in
       let n = get_or r.facts.seen own.number 0 in
       let f = moved r.facts own.number (length s.views) (get_or r.facts.seen own.number 0) in
       let same : set r.facts.seen own.number (get_or r.facts.seen own.number 0) ≡ r.facts.seen = set-get_or r.facts.seen own.number 0 in record {
         facts = f;
         made = r.made;
         authors = r.authors;
+        allowed = r.allowed;
         sound = subst (λ (ns : List ℕ). Sound (core_size size) s.words r.facts.stages ns (turn_of (length r.facts.all.history) r.facts.turn.kept r.facts.turn.marks)) (sym same) r.sound;
         seats = seats_grow (Knows size f) s.views id (without_pass v) (pass_of v)
             (record { seen = k.seen; told = k.told; pass = h.idle; turn = subst (TurnFits f id v.seen v.progress) (sym is_turn) (record { writer = h.writer; turn_is = h.turn_is; seen_is = h.seen_is; idle = h.idle }) })
@@ -137,7 +139,7 @@ module _ {O E : Type 0} (applied : O → E → O) (lawful : O → O → Type 0) 
             })
             (λ j u other e. moved_else r.facts own.number (length s.views) (get_or r.facts.seen own.number 0) j u (λ e'. other (sym e' ∙ fits.at)) (r.seats j u e));
         held = held_more (set s.views id (without_pass v)) (pass_of v ∷ []) r.facts.writer (held_set s.views r.facts.writer id v (without_pass v) r.held at refl);
-        versions = versions_still applied lawful stands size r.facts f refl refl refl r.facts.all.opening r.versions;
+        versions = versions_still applied lawful permitted stands size r.facts f refl refl refl r.facts.all.opening r.versions;
         namings = r.namings;
         namers = r.namers;
         copied = r.copied;
@@ -165,8 +167,8 @@ module _ {O E : Type 0} (applied : O → E → O) (lawful : O → O → Type 0) 
   joins_own id other v w turn own is_turn is_pass idle s r at apart there =
       let was = was_there s.views id other (with_pass v w) w apart there in
       let k = r.seats id v at in
-      let h = the_turn applied lawful stands size s r id v turn at is_turn in
-      let fits = the_pass applied lawful stands size s r other w own was is_pass in
+      let h = the_turn applied lawful permitted stands size s r id v turn at is_turn in
+      let fits = the_pass applied lawful permitted stands size s r other w own was is_pass in
       let n = length v.seen.history in
       let f = moved r.facts own.number id (length v.seen.history) in
       let l = inside s r own.number fits.made in
@@ -176,6 +178,7 @@ module _ {O E : Type 0} (applied : O → E → O) (lawful : O → O → Type 0) 
         facts = f;
         made = r.made;
         authors = r.authors;
+        allowed = r.allowed;
         sound = seen_rises s r own.number n l.0 stage_idle (omega arith) (omega arith);
         seats = joined_seats f s.views id other (with_pass v w)
             (record {
@@ -196,7 +199,7 @@ module _ {O E : Type 0} (applied : O → E → O) (lawful : O → O → Type 0) 
             })
             (λ j u not_id not_other e. moved_else r.facts own.number id (length v.seen.history) j u (λ e'. not_other (sym e' ∙ fits.at)) (r.seats j u e));
         held = held_else (set s.views id (with_pass v w)) r.facts.writer other spent_view (held_set s.views r.facts.writer id v (with_pass v w) r.held at refl) (λ same. apart (sym (h.writer ∙ same)));
-        versions = versions_still applied lawful stands size r.facts f refl refl refl r.facts.all.opening r.versions;
+        versions = versions_still applied lawful permitted stands size r.facts f refl refl refl r.facts.all.opening r.versions;
         namings = r.namings;
         namers = r.namers;
         copied = r.copied;
@@ -215,6 +218,7 @@ module _ {O E : Type 0} (applied : O → E → O) (lawful : O → O → Type 0) 
         facts = r.facts;
         made = r.made;
         authors = r.authors;
+        allowed = r.allowed;
         sound = r.sound;
         seats = joined_seats r.facts s.views id other (with_note v w)
             (record { seen = k.seen; told = note.seen; pass = k.pass; turn = k.turn })
@@ -233,7 +237,7 @@ module _ {O E : Type 0} (applied : O → E → O) (lawful : O → O → Type 0) 
   learns_more slots id m own is_pass no_turn idle s r deep at small =
       let v = m.0 in
       let k = r.seats id v at in
-      let fits = the_pass applied lawful stands size s r id v own at is_pass in
+      let fits = the_pass applied lawful permitted stands size s r id v own at is_pass in
       let longer = longer_part r.facts.all v.seen v.told k.seen k.told in
       let n = length (longer_seen v.seen v.told).history in
       let f = record r.facts { seen = set r.facts.seen own.number (length (longer_seen m.0.seen m.0.told).history) } in
@@ -249,6 +253,7 @@ module _ {O E : Type 0} (applied : O → E → O) (lawful : O → O → Type 0) 
           facts = f;
           made = r.made;
           authors = r.authors;
+          allowed = r.allowed;
           sound = seen_rises s r own.number n l.0 stage_idle now (omega arith);
           seats = seats_stay (Knows size f) s.views id (learnt_view v)
               (record {
@@ -279,7 +284,7 @@ module _ {O E : Type 0} (applied : O → E → O) (lawful : O → O → Type 0) 
                 chunks = fits'.chunks;
               }) (r.seats j u e));
           held = held_set s.views r.facts.writer id m.0 (learnt_view m.0) r.held at refl;
-          versions = versions_still applied lawful stands size r.facts f refl refl refl r.facts.all.opening r.versions;
+          versions = versions_still applied lawful permitted stands size r.facts f refl refl refl r.facts.all.opening r.versions;
           namings = r.namings;
           namers = r.namers;
           copied = r.copied;

@@ -26,9 +26,9 @@ use Rattle.shared_cells.proofs.Lists.{put, put_here, put_else, seats_grow, nothi
 use Rattle.shared_cells.proofs.Holding.{held_set, held_more}
 use Rattle.shared_cells.proofs.Knowing.{knows_else, the_turn}
 
-module _ {O E : Type 0} (applied : O → E → O) (lawful : O → O → Type 0) (stands : List CellAt → Option ℕ → O → Type 0) (size : TableSize) where
+module _ {O E : Type 0} (applied : O → E → O) (lawful : O → O → Type 0) (permitted : E → Type 0) (stands : List CellAt → Option ℕ → O → Type 0) (size : TableSize) where
   abbrev Rule : State (Unit {0}) (View O E) → Type 0
-  Rule = IsSoundTable applied lawful stands size
+  Rule = IsSoundTable applied lawful permitted stands size
 
   abbrev first_facts : Facts O E
   first_facts = record { turn = first_turn size; all = nothing_seen; writer = 0; stages = (started (core_size size)).stages; seen = (started (core_size size)).seen; owner = λ _. 0; pinned = λ _. [] }
@@ -38,6 +38,7 @@ module _ {O E : Type 0} (applied : O → E → O) (lawful : O → O → Type 0) 
     facts = first_facts;
     made = omega arith;
     authors = All-nil (λ (e : Entry E). e.author < 0);
+    allowed = All-nil (λ (e : Entry E). permitted e.change);
     sound = opening_sound (core_size size) None [] few_passes few_chunks refl;
     seats = first;
     held = record { view = first_view size; at = refl; turn = refl };
@@ -57,8 +58,8 @@ module _ {O E : Type 0} (applied : O → E → O) (lawful : O → O → Type 0) 
     same_made : made ≡ r.facts.turn.made
     same_made = ap (λ (t : TurnView). t.made) h.turn_is
 
-    unopened : VersionsFit applied lawful stands size r.facts None
-    unopened = subst (VersionsFit applied lawful stands size r.facts) (sym (ap (λ (all : Seen O E). all.opening) h.seen_is)) r.versions
+    unopened : VersionsFit applied lawful permitted stands size r.facts None
+    unopened = subst (VersionsFit applied lawful permitted stands size r.facts) (sym (ap (λ (all : Seen O E). all.opening) h.seen_is)) r.versions
 
     no_history : r.facts.all.history ≡ []
     no_history = ap (λ (all : Seen O E). all.history) unopened.0
@@ -96,7 +97,7 @@ module _ {O E : Type 0} (applied : O → E → O) (lawful : O → O → Type 0) 
       chunks = refl;
     }
 
-    versions_on : (o : Option O) → VersionsFit applied lawful stands size r.facts o → VersionsFit applied lawful stands size with_pass_made o
+    versions_on : (o : Option O) → VersionsFit applied lawful permitted stands size r.facts o → VersionsFit applied lawful permitted stands size with_pass_made o
     versions_on None fits = fits
     versions_on (Some o) fits = fits
 
@@ -105,6 +106,7 @@ module _ {O E : Type 0} (applied : O → E → O) (lawful : O → O → Type 0) 
       facts = with_pass_made;
       made = (let m = same_made in omega arith);
       authors = All-weaker (λ (e : Entry E). e.author < r.facts.turn.made) (λ (e : Entry E). e.author < r.facts.turn.made + 1) (λ e l. omega arith) r.facts.all.history r.authors;
+      allowed = r.allowed;
       sound = r.sound;
       seats = seats_grow (Knows size with_pass_made) s.views id (unopened_view size (made + 1)) (pass_view made size.chunks)
           (let k = r.seats id (unopened_view size made) at in record { seen = k.seen; told = k.told; pass = refl; turn = record { writer = h.writer; turn_is = ap (λ (t : TurnView). record t { made = t.made + 1 }) h.turn_is; seen_is = h.seen_is; idle = refl } })
@@ -120,4 +122,4 @@ module _ {O E : Type 0} (applied : O → E → O) (lawful : O → O → Type 0) 
 
   -- the pass of the next number is made
   pub splits_new : (id made : ℕ) → made < size.passes → Splits Rule id (unopened_view size made) (unopened_view size (made + 1)) (pass_view made size.chunks)
-  splits_new id made room s r at = pass_made s r id made (the_turn applied lawful stands size s r id (unopened_view size made) (record (first_turn size) { made = made }) at refl) room at
+  splits_new id made room s r at = pass_made s r id made (the_turn applied lawful permitted stands size s r id (unopened_view size made) (record (first_turn size) { made = made }) at refl) room at

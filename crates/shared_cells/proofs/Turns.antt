@@ -40,13 +40,13 @@ past : (at : ℕ) (half : Half) → 64 < half_at at half
 past at Big = omega arith
 past at Small = omega arith
 
-module _ {O E : Type 0} (applied : O → E → O) (lawful : O → O → Type 0) (stands : List CellAt → Option ℕ → O → Type 0) (size : TableSize) where
+module _ {O E : Type 0} (applied : O → E → O) (lawful : O → O → Type 0) (permitted : E → Type 0) (stands : List CellAt → Option ℕ → O → Type 0) (size : TableSize) where
   abbrev Rule : State (Unit {0}) (View O E) → Type 0
-  Rule = IsSoundTable applied lawful stands size
+  Rule = IsSoundTable applied lawful permitted stands size
 
   module _ (s : State (Unit {0}) (View O E)) (r : Rule s) (id : ℕ) (v : View O E) (at : get_elem? s.views id ≡ some v) (turn : TurnView) (is_turn : v.turn ≡ Some turn) where
     h : HasAll r.facts id v.seen v.progress turn
-    h = the_turn applied lawful stands size s r id v turn at is_turn
+    h = the_turn applied lawful permitted stands size s r id v turn at is_turn
 
     module _ (words : List ℕ) (more : List Naming) (new : TurnView) where
       abbrev now : Facts O E
@@ -87,10 +87,10 @@ module _ {O E : Type 0} (applied : O → E → O) (lawful : O → O → Type 0) 
         chunks = same.chunks;
       }
 
-      versions_on : (r.facts.all.opening ≡ None → more ≡ []) → ((P : Kept → Type 0) → All P r.facts.turn.kept → All P new.kept) → VersionsFit applied lawful stands size now r.facts.all.opening
+      versions_on : (r.facts.all.opening ≡ None → more ≡ []) → ((P : Kept → Type 0) → All P r.facts.turn.kept → All P new.kept) → VersionsFit applied lawful permitted stands size now r.facts.all.opening
       versions_on early fewer = go r.facts.all.opening refl r.versions
         where
-          go : (o : Option O) → r.facts.all.opening ≡ o → VersionsFit applied lawful stands size r.facts o → VersionsFit applied lawful stands size now o
+          go : (o : Option O) → r.facts.all.opening ≡ o → VersionsFit applied lawful permitted stands size r.facts o → VersionsFit applied lawful permitted stands size now o
           go None is fits = (ap (with_namings r.facts.all) (early is) ∙ nothing_more r.facts.all ∙ fits.0, fits.1)
           go (Some o') is fits = (fits.0, fewer (λ k. stands k.image k.root (version_after applied o' (take k.version r.facts.all.history))) fits.1)
 
@@ -110,6 +110,7 @@ module _ {O E : Type 0} (applied : O → E → O) (lawful : O → O → Type 0) 
         facts = now;
         made = subst (λ (n : ℕ). n ≤ size.passes) (sym made) r.made;
         authors = subst (λ (n : ℕ). All (λ e. e.author < n) r.facts.all.history) (sym made) r.authors;
+        allowed = r.allowed;
         sound = sound;
         seats = seats_stay (Knows size now) s.views id (record v { seen = with_namings r.facts.all more; turn = Some new })
             (let k = r.seats id v at in record {
@@ -161,7 +162,7 @@ module _ {O E : Type 0} (applied : O → E → O) (lawful : O → O → Type 0) 
       stored_view m.0 i x,
       keeps,
       tt,
-      store_keeps s r id m.0 at t.0 t.1 i x far (sound s r (sym (the_turn applied lawful stands size s r id m.0 t.0 at t.1).turn_is)),
+      store_keeps s r id m.0 at t.0 t.1 i x far (sound s r (sym (the_turn applied lawful permitted stands size s r id m.0 t.0 at t.1).turn_is)),
       refl,
     )
 
@@ -189,5 +190,5 @@ module _ {O E : Type 0} (applied : O → E → O) (lawful : O → O → Type 0) 
     keeps,
     tt,
     subst (λ (x : List ℕ × List (View O E)). Rule record { words = x.0; homes = s.homes; views = x.1 }) (λ k. (sym (set-get_or s.words i 0) k, sym (set_again s.views id m.0 at) k)) r,
-    (refl, r.mirror i far ∙ ap (λ (t : TurnView). get_or t.words i 0) (sym (the_turn applied lawful stands size s r id m.0 t.0 at t.1).turn_is) ∙ sym (ap (λ (o : Option TurnView). get_or (words_of o) i 0) t.1)),
+    (refl, r.mirror i far ∙ ap (λ (t : TurnView). get_or t.words i 0) (sym (the_turn applied lawful permitted stands size s r id m.0 t.0 at t.1).turn_is) ∙ sym (ap (λ (o : Option TurnView). get_or (words_of o) i 0) t.1)),
   )

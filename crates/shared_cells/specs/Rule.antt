@@ -106,7 +106,7 @@ module _ {O E : Type 0} where
     pub pass : PassFits size f seat v.seen v.progress v.pass
     pub turn : TurnFits f seat v.seen v.progress v.turn
 
-module _ {O E : Type 0} (applied : O → E → O) (lawful : O → O → Type 0) (stands : List CellAt → Option ℕ → O → Type 0) (size : TableSize) where
+module _ {O E : Type 0} (applied : O → E → O) (lawful : O → O → Type 0) (permitted : E → Type 0) (stands : List CellAt → Option ℕ → O → Type 0) (size : TableSize) where
   -- before the opening nothing has happened; after it every version is lawful, and each kept image is its version
   abbrev pub VersionsFit : Facts O E → Option O → Type 0
   VersionsFit f None = (f.all ≡ nothing_seen) × ((p : ℕ) → p < size.passes → stage_at f.stages p ≡ stage.Idle)
@@ -119,6 +119,8 @@ module _ {O E : Type 0} (applied : O → E → O) (lawful : O → O → Type 0) 
     pub made : facts.turn.made ≤ size.passes
     -- each entry is by a pass that was made
     pub authors : All (λ e. e.author < facts.turn.made) facts.all.history
+    -- and is one that the history may have
+    pub allowed : All (λ e. permitted e.change) facts.all.history
     -- what the pin core keeps between any two events
     pub sound : Sound (core_size size) s.words facts.stages facts.seen (turn_of (length facts.all.history) facts.turn.kept facts.turn.marks)
     pub seats : (j : ℕ) (v : View O E) → get_elem? s.views j ≡ some v → Knows size facts j v

@@ -55,7 +55,7 @@ pub record IsImage (z : Size) (words : List ℕ) (root : Option ℕ) (image : Li
   -- their chunks are given
   pub given : All (IsGiven z words) image
 
-module _ {O E : Type 0} (applied : O → E → O) (lawful : O → O → Type 0) (stands : List CellAt → Option ℕ → O → Type 0) where
+module _ {O E : Type 0} (applied : O → E → O) (lawful : O → O → Type 0) (permitted : E → Type 0) (stands : List CellAt → Option ℕ → O → Type 0) where
   -- What an opening asks: the image is the version, which is lawful beside itself.
   pub record CanOpen (size : TableSize) (v : View O E) (version : Option O) (root : Option ℕ) (image : List CellAt) : Type 0 where
     pub turn : TurnView
@@ -67,7 +67,7 @@ module _ {O E : Type 0} (applied : O → E → O) (lawful : O → O → Type 0) 
     pub stood : stands image root opening
 
   -- What a publish asks: a pass is joined, there is a next number, and the image is the version that the entry leads to,
-  -- which is lawful.
+  -- which is lawful. The history may have the entry.
   pub record CanPublish (size : TableSize) (v : View O E) (change : Option E) (root : Option ℕ) (image : List CellAt) : Type 0 where
     pub turn : TurnView
     pub own : PassView E
@@ -81,6 +81,7 @@ module _ {O E : Type 0} (applied : O → E → O) (lawful : O → O → Type 0) 
     pub fits : IsImage (core_size size) turn.words root image
     pub good : lawful opening (version_after applied opening (with_entry v.seen (entry_of own.number entry)).history)
     pub stood : stands image root (version_after applied opening (with_entry v.seen (entry_of own.number entry)).history)
+    pub allowed : permitted entry
 
   -- What a look tells who has the turn, if CUR has this word.
   pub record Confirmed (v : View O E) (turn : TurnView) (word : ℕ) : Type 0 where
@@ -92,6 +93,8 @@ module _ {O E : Type 0} (applied : O → E → O) (lawful : O → O → Type 0) 
     pub namings : (own : PassView E) → v.pass ≡ Some own → All (λ n. n.pass ≡ own.number → Contains own.pinned n.version) v.seen.namings
     -- each entry is by a pass that was made
     pub authors : All (λ e. e.author < turn.made) v.seen.history
+    -- and is one that the history may have
+    pub allowed : All (λ e. permitted e.change) v.seen.history
     -- CUR names the version that the history leads to, which is kept
     pub current : (k : Kept) × Contains turn.kept k × (k.version ≡ length v.seen.history) × (word ≡ word_of k)
     -- and whose word a pin can be made of
@@ -214,7 +217,7 @@ module _ {O E : Type 0} where
     -- so exactly these
     pub exact : (k : ℕ) → Contains versions k ↔ IsDue (length v.seen.history) marks k
 
-module _ {O E : Type 0} (applied : O → E → O) (lawful : O → O → Type 0) (stands : List CellAt → Option ℕ → O → Type 0) where
+module _ {O E : Type 0} (applied : O → E → O) (lawful : O → O → Type 0) (permitted : E → Type 0) (stands : List CellAt → Option ℕ → O → Type 0) where
   -- What pinning tells. The pass is pinned at a kept version, and has seen the history up to it and no further; so that is
   -- no older than what it had seen. The image is the version that this history leads to, which is lawful.
   pub record Pins (v w : View O E) : Type 0 where

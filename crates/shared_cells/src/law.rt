@@ -14,6 +14,9 @@ pub trait Law<O, E> {
     // A version may stand beside the opening one, which is named first.
     ghost lawful: { O → O → Type 0 };
 
+    // The history may have this entry.
+    ghost permitted: { E → Type 0 };
+
     // These cells, read from the root, are the version.
     ghost stands: { List CellAt → Option ℕ → O → Type 0 };
 }

@@ -48,7 +48,7 @@ impl<O, E> PassSeat<O, E> {
         ensures version { result.version ≡ length result.place.me.0.seen.history }
         ensures no_older { length self.place.me.0.seen.history ≤ result.version }
         ensures grows { IsPartOf result.place.me.0.seen self.place.me.0.seen }
-        ensures pinned { Pins L.applied L.lawful L.stands self.place.me.0 result.place.me.0 }
+        ensures pinned { Pins L.applied L.lawful L.permitted L.stands self.place.me.0 result.place.me.0 }
     {
         let PassSeat { mut place, number } = self;
         let pin = take_pin(shared, &mut place, number);
@@ -114,7 +114,7 @@ fn take_pin<O, E, L: Law<O, E>>(
     requires told { is_told place.old.me.0.seen.opening ≡ true }
     requires idle { is_idle place.old.me.0.progress ≡ true }
     ensures table { (place.new.table_id ≡ place.old.table_id) × (place.new.me.1 ≡ place.old.me.1) }
-    ensures settled { Settles L.applied L.lawful L.stands place.old.me.0 result place.new.me.0 }
+    ensures settled { Settles L.applied L.lawful L.permitted L.stands place.old.me.0 result place.new.me.0 }
 {
     let at = FIRST_PIN + number as usize;
     shared.table.shared.store::<Enter>(place, at, ENTERING);

@@ -31,7 +31,7 @@ pub(crate) struct Look<L> {
 }
 
 impl<O, E, L: Law<O, E>> Play<(), View<O, E>> for Look<L> {
-    ghost then = { looked L.applied L.lawful L.stands };
+    ghost then = { looked L.applied L.lawful L.permitted L.stands };
 }
 
 /// A pass loads the current version's word, after a note was joined to it.
@@ -70,7 +70,7 @@ pub(crate) struct Settle<L> {
 }
 
 impl<O, E, L: Law<O, E>> Play<(), View<O, E>> for Settle<L> {
-    ghost then = { settled L.applied L.lawful L.stands };
+    ghost then = { settled L.applied L.lawful L.permitted L.stands };
 }
 
 /// A pinned pass stores that it is idle.

@@ -75,7 +75,7 @@ impl<O, E> NewTurnSeat<O, E> {
         root: Option<u32>,
     ) -> TurnSeat<O, E>
         requires table { self.place.table_id ≡ shared.now.table.shared.table_id }
-        requires can { CanOpen L.applied L.lawful L.stands shared.now.table.shared.key self.place.me.0 M.version root M.image }
+        requires can { CanOpen L.applied L.lawful L.permitted L.stands shared.now.table.shared.key self.place.me.0 M.version root M.image }
         ensures table { result.place.table_id ≡ self.place.table_id }
         ensures opened { Opened self.place.me.0 M.version root M.image result.place.me.0 }
         ensures passes { result.passes ≡ self.passes }
@@ -140,7 +140,7 @@ impl<O, E> JoinedSeat<O, E> {
         ensures table { self.new.place.table_id ≡ self.old.place.table_id }
         ensures same { (self.new.place.me.0 ≡ self.old.place.me.0) × (self.new.version ≡ self.old.version) × (self.new.number ≡ self.old.number)
             × (self.new.passes ≡ self.old.passes) }
-        ensures confirmed { (turn : _) × (self.old.place.me.0.turn ≡ Some turn) × Confirmed L.applied L.lawful L.stands self.old.place.me.0 turn result }
+        ensures confirmed { (turn : _) × (self.old.place.me.0.turn ≡ Some turn) × Confirmed L.applied L.lawful L.permitted L.stands self.old.place.me.0 turn result }
     {
         shared.table.shared.load::<Look<L>>(&mut self.place, CUR)
     }
@@ -152,7 +152,7 @@ impl<O, E> JoinedSeat<O, E> {
         root: Option<u32>,
     ) -> u64
         requires table { self.old.place.table_id ≡ shared.now.table.shared.table_id }
-        requires can { CanPublish L.applied L.lawful L.stands shared.now.table.shared.key self.old.place.me.0 M.change root M.image }
+        requires can { CanPublish L.applied L.lawful L.permitted L.stands shared.now.table.shared.key self.old.place.me.0 M.change root M.image }
         ensures table { self.new.place.table_id ≡ self.old.place.table_id }
         ensures numbers { (self.new.number ≡ self.old.number) × (self.new.passes ≡ self.old.passes) }
         ensures version { result ≡ self.old.version + 1 }

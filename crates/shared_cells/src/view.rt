@@ -84,7 +84,7 @@ impl<O, E, L: Law<O, E>> TableRule<(), View<O, E>, TableSize> for IndexRule<L> {
     ghost use Rattle.shared_cells.specs.Rule.{IsSoundTable};
     ghost use Rattle.shared_cells.specs.Views.{first_view};
 
-    ghost holds = { λ size. IsSoundTable L.applied L.lawful L.stands size };
+    ghost holds = { λ size. IsSoundTable L.applied L.lawful L.permitted L.stands size };
 
     ghost first = { first_view };
 }

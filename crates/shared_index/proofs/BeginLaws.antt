@@ -1,6 +1,7 @@
 -- What a transaction begins with: the pass is joined, and the base stands in the turn's cells.
 use Rattle.std.proofs.Common.{◌≡◌, ◌∙◌, ℕ, ◌/◌, ◌<◌, ◌==◌, Bool, true, List, [], map, length, take, count_by, slice_index, Option, Some, unwrap_or, refl, sym, ap, subst, arith}
 use Rattle.std.specs.List.{All, Contains}
+use Rattle.std.proofs.Math.Seq.{take-append_seam}
 use Rattle.std.proofs.lemmas.List.{take_all}
 use Rattle.std.proofs.lemmas.List.Elements.{All-contains}
 use Rattle.std.proofs.lemmas.List.Folds.{list_all-map}
@@ -13,13 +14,16 @@ use Rattle.chunk_sets.proofs.FlagLemmas.{get_set, set_within}
 use Rattle.chunk_usage.proofs.SpaceLaws.{used_given}
 use Rattle.trie_model.specs.Keys.{Entry}
 use Rattle.trie_model.proofs.ExtentLaws.{first_true}
+use Rattle.shared_cells.specs.declared.view.Entry.{Entry as Commit}
 use Rattle.shared_cells.specs.declared.view.TurnView.{TurnView}
 use Rattle.trie_write.specs.Standing.{Standing}
 use Rattle.shared_cells.specs.History.{IsPartOf, version_after}
 use Rattle.shared_cells.specs.Views.{is_told, kept_in, with_pass}
 use Rattle.shared_cells.specs.Cells.{given_chunks, HasCell}
 use Rattle.shared_cells.specs.Steps.{Confirmed}
+use Rattle.shared_cells.proofs.Lists.{begins_length}
 use Rattle.shared_cells.proofs.Seats.{told_there}
+use Rattle.shared_index.specs.declared.meaning.Operation.{Operation}
 use Rattle.shared_index.specs.Operations.{applied}
 use Rattle.shared_index.specs.Meanings.{IsVersion}
 use Rattle.shared_index.specs.Passes.{Known, first_version, version_seen}
@@ -35,7 +39,7 @@ whole_history v n e = take_all n v.seen.history (omega arith)
 opening_is : (v : Known) (o : List Entry) → v.seen.opening ≡ Some o → first_version v.seen ≡ o
 opening_is v o e = ap (λ (x : Option (List Entry)). unwrap_or x []) e
 
-module _ (lawful : List Entry → List Entry → Type 0) (v : Known) (turn : TurnView) (word : ℕ) (is_turn : v.turn ≡ Some turn) (told : Confirmed applied lawful IsVersion v turn word) (known : is_told v.seen.opening ≡ true) where
+module _ {permitted : List Operation → Type 0} (lawful : List Entry → List Entry → Type 0) (v : Known) (turn : TurnView) (word : ℕ) (is_turn : v.turn ≡ Some turn) (told : Confirmed applied lawful permitted IsVersion v turn word) (known : is_told v.seen.opening ≡ true) where
   opening : (o : List Entry) × (v.seen.opening ≡ Some o)
   opening = told_there v.seen.opening known
 
@@ -50,6 +54,9 @@ module _ (lawful : List Entry → List Entry → Type 0) (v : Known) (turn : Tur
     commits = told.entries;
     good = subst (λ (o : List Entry). lawful o (version_seen v.seen)) (sym (opening_is v opening.0 opening.1))
         (subst (lawful opening.0) (seen_is (length v.seen.history) refl) (told.versions opening.0 opening.1 (length v.seen.history) (omega arith)));
+    versions = λ part begins. subst (λ (o : List Entry). lawful o (version_after applied o part)) (sym (opening_is v opening.0 opening.1))
+        (subst (λ (h : List (Commit (List Operation))). lawful opening.0 (version_after applied opening.0 h)) (ap (take (length part)) begins.1 ∙ take-append_seam part begins.0)
+        (told.versions opening.0 opening.1 (length part) (begins_length v.seen.history part begins)));
   }
 
   module _ (u : Ledger) (is : IsLedger u) (count : ℕ) (agrees : Agrees (cells_with u v.turn) u count) where

@@ -1,5 +1,5 @@
 -- What a compaction makes.
-use Rattle.std.proofs.Common.{◌≡◌, ◌↔◌, ◌≢◌, ◌∙◌, ℕ, ◌+◌, List, Result, Ok, Err, refl, sym, ap, subst, arith}
+use Rattle.std.proofs.Common.{◌≡◌, ◌↔◌, ◌≢◌, ◌∙◌, ℕ, ◌+◌, ◌≤◌, List, [], Option, Some, None, Result, Ok, Err, refl, sym, ap, subst, arith}
 use Rattle.std.specs.Prelude.{IfOk, IfErr, IsErr}
 use Rattle.std.proofs.lemmas.Bool.{true≢false}
 use Rattle.pin_core.specs.declared.version.Spent.{Spent}
@@ -10,9 +10,14 @@ use Rattle.shared_index.specs.declared.commit.Receipt.{Receipt}
 use Rattle.shared_index.specs.declared.desk.Draft.{Draft}
 use Rattle.shared_index.specs.Compactions.{Compacts, IsLast}
 use Rattle.shared_index.specs.Drafts.{Begins, Commits, working_set}
-use Rattle.shared_index.specs.Operations.{applied}
+use Rattle.shared_index.specs.Operations.{applied, AreWithin}
 use Rattle.shared_index.specs.Passes.{Known, first_version, version_seen}
 use Rattle.shared_index.specs.Receipts.{Recycles}
+
+-- no operation is no more than any most
+none_within : (most : Option ℕ) → AreWithin most []
+none_within None = tt
+none_within (Some most) = omega arith
 
 module _ (lawful : List Entry → List Entry → Type 0) (before : Known) (d : Draft) (begins : Begins lawful before d) where
   -- the base is the working set
@@ -21,6 +26,9 @@ module _ (lawful : List Entry → List Entry → Type 0) (before : Known) (d : D
 
   pub base_lawful : lawful (first_version d.seat.place.me.0.seen) (working_set d)
   base_lawful = subst (lawful (first_version d.seat.place.me.0.seen)) (sym base_is) begins.joined.good
+
+  pub base_within : (most : Option ℕ) → AreWithin most d.log.operations
+  base_within most = subst (AreWithin most) (sym begins.none_done) (none_within most)
 
   module _ (table : TableId) (passes last : ℕ) (after now : Known) (same : now ≡ after) (here : d.seat.place.table_id ≡ table) (count : d.seat.passes ≡ passes) (r : Result Receipt Spent) where
     pub compacts_of : IfOk r (λ _. Commits d.seat.place.me.0 d.log.operations after) → IfOk r (λ x. x.version ≡ d.seat.version + 1) → IfOk r (Recycles 0 d after) → IfOk r (Compacts lawful table passes before now)

@@ -16,6 +16,7 @@ use Rattle.shared_cells.specs.declared.view.TurnView.{TurnView}
 use Rattle.shared_cells.specs.Cells.{cells_of, given_chunks}
 use Rattle.shared_cells.specs.Views.{core_size, kept_in, kept_of, words_of, first_turn}
 use Rattle.shared_cells.specs.Steps.{CanOpen, IsImage}
+use Rattle.shared_index.specs.declared.meaning.Operation.{Operation}
 use Rattle.shared_index.specs.Operations.{applied}
 use Rattle.shared_index.specs.Meanings.{IsVersion}
 use Rattle.shared_index.specs.Passes.{Known}
@@ -32,7 +33,7 @@ module _ (v : Known) (u : Ledger) (is : IsLedger u) (given : given_chunks (cells
   abbrev image : List CellAt
   image = image_at (words_of v.turn) root
 
-  pub can_open : (lawful : List Entry → List Entry → Type 0) (key : TableSize) (turn : TurnView) → v.turn ≡ Some turn → key.chunks ≡ length u.given → lawful es es → CanOpen applied lawful IsVersion key v (Some es) root image
+  pub can_open : {permitted : List Operation → Type 0} (lawful : List Entry → List Entry → Type 0) (key : TableSize) (turn : TurnView) → v.turn ≡ Some turn → key.chunks ≡ length u.given → lawful es es → CanOpen applied lawful permitted IsVersion key v (Some es) root image
   can_open lawful key turn is_turn chunks good = record {
     turn = turn;
     opening = es;

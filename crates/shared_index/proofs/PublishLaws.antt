@@ -20,7 +20,7 @@ use Rattle.shared_cells.specs.History.{entry_of, with_entry, version_after}
 use Rattle.shared_cells.specs.Views.{core_size, kept_in, kept_of, words_of}
 use Rattle.shared_cells.specs.Steps.{CanPublish, IsImage}
 use Rattle.shared_index.specs.declared.meaning.Operation.{Operation}
-use Rattle.shared_index.specs.Operations.{applied}
+use Rattle.shared_index.specs.Operations.{applied, AreWithin}
 use Rattle.shared_index.specs.Meanings.{IsVersion}
 use Rattle.shared_index.specs.Passes.{Known, first_version, version_seen}
 use Rattle.shared_index.specs.Turns.{Agrees, AgreesWithin, cells_with, row_for, cell_counts, current_image, current_root, is_immutable}
@@ -58,10 +58,10 @@ module _ (v : Known) (u : Ledger) (is : IsLedger u) (count : ℕ) (agrees : Agre
   image = image_at (words_of v.turn) root
 
   -- what a publish asks for
-  pub can_publish : (lawful : List Entry → List Entry → Type 0) (key : TableSize) (turn : TurnView) (own : PassView (List Operation)) (opening : List Entry) (operations : List Operation)
-      → v.turn ≡ Some turn → v.pass ≡ Some own → v.seen.opening ≡ Some opening → key.chunks ≡ length u.given → length v.seen.history + 1 < 2 ^ 40 → es ≡ applied (version_seen v.seen) operations → lawful (first_version v.seen) es
-      → CanPublish applied lawful IsVersion key v (Some operations) root image
-  can_publish lawful key turn own opening operations is_turn is_pass is_open chunks few made good =
+  pub can_publish : (lawful : List Entry → List Entry → Type 0) (most : Option ℕ) (key : TableSize) (turn : TurnView) (own : PassView (List Operation)) (opening : List Entry) (operations : List Operation)
+      → v.turn ≡ Some turn → v.pass ≡ Some own → v.seen.opening ≡ Some opening → key.chunks ≡ length u.given → length v.seen.history + 1 < 2 ^ 40 → es ≡ applied (version_seen v.seen) operations → lawful (first_version v.seen) es → AreWithin most operations
+      → CanPublish applied lawful (AreWithin most) IsVersion key v (Some operations) root image
+  can_publish lawful most key turn own opening operations is_turn is_pass is_open chunks few made good within =
       let next = next_is v opening own.number operations is_open in
       record {
         turn = turn;
@@ -78,6 +78,7 @@ module _ (v : Known) (u : Ledger) (is : IsLedger u) (count : ℕ) (agrees : Agre
         good = subst (λ (o : Option (List Entry)). lawful (unwrap_or o []) (version_after applied opening (with_entry v.seen (entry_of own.number operations)).history)) is_open
             (subst (lawful (first_version v.seen)) (made ∙ sym next) good);
         stood = subst (IsVersion image root) (made ∙ sym next) (version_image (cells_with u v.turn) u es root works);
+        allowed = within;
       }
 
   module _ (w : Known) (new : Ledger) (version : ℕ) (number : version ≡ length v.seen.history + 1) (after : new ≡ frozen u version) (settled : (q : ℕ) → is_used new q ≡ true → is_mutable new q ≡ false)

@@ -20,6 +20,7 @@ use Rattle.shared_cells.specs.History.{version_after}
 use Rattle.shared_cells.specs.Views.{is_told, kept_in, words_of, namings_by}
 use Rattle.shared_cells.proofs.Seats.{told_there}
 use Rattle.shared_cells.specs.Steps.{Confirmed, Rounded}
+use Rattle.shared_index.specs.declared.meaning.Operation.{Operation}
 use Rattle.shared_index.specs.Operations.{applied}
 use Rattle.shared_index.specs.Meanings.{IsVersion}
 use Rattle.shared_index.specs.Passes.{Known}
@@ -62,7 +63,7 @@ newest_row chunks (j ∷ (i ∷ kept)) n k rising newest c e = ⊎_elim
     (λ (later : Contains (i ∷ kept) k). newest_row chunks (i ∷ kept) n k
     (λ a b d l m. rising (suc a) (suc b) d (omega arith) (omega arith)) (λ a d l. newest (suc a) d (omega arith)) later e) (contains_cases j k (i ∷ kept) c)
 
-module _ (lawful : List Entry → List Entry → Type 0) (v : Known) (turn : TurnView) (word : ℕ) (is_turn : v.turn ≡ Some turn) (told : Confirmed applied lawful IsVersion v turn word) (w : Known) (versions : List ℕ) (r : Rounded v w versions) where
+module _ {permitted : List Operation → Type 0} (lawful : List Entry → List Entry → Type 0) (v : Known) (turn : TurnView) (word : ℕ) (is_turn : v.turn ≡ Some turn) (told : Confirmed applied lawful permitted IsVersion v turn word) (w : Known) (versions : List ℕ) (r : Rounded v w versions) where
   abbrev current : ℕ
   current = length v.seen.history
 

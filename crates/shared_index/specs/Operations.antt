@@ -1,5 +1,5 @@
 -- What an index operation makes of a version: a list of entries in the order of their keys.
-use Rattle.std.specs.Prelude.{ℕ, List, ◌∷◌, ◌++◌}
+use Rattle.std.specs.Prelude.{ℕ, ◌≤◌, Option, Some, None, List, ◌∷◌, ◌++◌, length}
 use Rattle.std.specs.List.{filter, fold}
 use Rattle.std.specs.Ordering.{is_lt}
 use Rattle.zone_model.specs.Keys.{key_cmp}
@@ -31,3 +31,8 @@ operated es (Delete key) = without es key
 -- a transaction's operations, one after another
 abbrev pub applied : List Entry → List Operation → List Entry
 applied es operations = fold operated es operations
+
+-- no more than the most that a commit may have, where there is one
+abbrev pub AreWithin : Option ℕ → List Operation → Type 0
+AreWithin None operations = Unit {0}
+AreWithin (Some most) operations = length operations ≤ most

@@ -3,7 +3,7 @@ ghost use Rattle.std.specs.Prelude.{◌≡◌, ◌↔◌, ◌+◌, ◌^◌, ◌<
 ghost use Rattle.chunk_usage.specs.Ledger.{free_count};
 ghost use Rattle.shared_cells.specs.Views.{kept_in, pass_of, words_of};
 ghost use Rattle.shared_cells.specs.Steps.{CanPublish, Published};
-ghost use Rattle.shared_index.specs.Operations.{applied};
+ghost use Rattle.shared_index.specs.Operations.{applied, AreWithin};
 ghost use Rattle.shared_index.specs.Meanings.{IsVersion};
 ghost use Rattle.shared_index.specs.Passes.{first_version};
 ghost use Rattle.shared_index.specs.Images.{image_at};
@@ -55,7 +55,7 @@ fn publish_named<L: Law, M: Payload<Operations>>(
     _log: &Log,
 ) -> u64
     requires table { seat.old.place.table_id ≡ shared.now.table.shared.table_id }
-    requires can { CanPublish applied L.lawful IsVersion shared.now.table.shared.key seat.old.place.me.0 M.change root M.image }
+    requires can { CanPublish applied L.lawful (AreWithin L.most_operations) IsVersion shared.now.table.shared.key seat.old.place.me.0 M.change root M.image }
     ensures table { seat.new.place.table_id ≡ seat.old.place.table_id }
     ensures numbers { (seat.new.number ≡ seat.old.number) × (seat.new.passes ≡ seat.old.passes) }
     ensures version { result ≡ seat.old.version + 1 }
@@ -72,7 +72,7 @@ fn publish<L: Law>(
     log: &Log,
 ) -> u64
     requires table { seat.old.place.table_id ≡ shared.now.table.shared.table_id }
-    requires can { CanPublish applied L.lawful IsVersion shared.now.table.shared.key seat.old.place.me.0 (Some log.now.operations) root
+    requires can { CanPublish applied L.lawful (AreWithin L.most_operations) IsVersion shared.now.table.shared.key seat.old.place.me.0 (Some log.now.operations) root
         (image_at (words_of seat.old.place.me.0.turn) root) }
     ensures table { seat.new.place.table_id ≡ seat.old.place.table_id }
     ensures numbers { (seat.new.number ≡ seat.old.number) × (seat.new.passes ≡ seat.old.passes) }
@@ -148,6 +148,7 @@ impl Draft {
         requires rows { EachRoomy self.usage self.seat.place.me.0.seen (λ most_cells _. RowsAreFew most_cells self.usage.rows) }
         requires thin { WhereRoomy self (FewThin 8 self.usage) }
         requires lawful { L.lawful (first_version self.seat.place.me.0.seen) (working_set self) }
+        requires few_operations { AreWithin L.most_operations self.log.operations }
         ensures tables { (result.0.seat.place.table_id ≡ self.seat.place.table_id) × (result.1.place.table_id ≡ self.seat.place.table_id) }
         ensures commits { Commits self.seat.place.me.0 self.log.operations result.1.place.me.0 }
         ensures version { result.2.version ≡ self.seat.version + 1 }
@@ -184,6 +185,7 @@ impl Draft {
         requires room { HasRoom self }
         requires few { most ≤ 8 }
         requires lawful { L.lawful (first_version self.seat.place.me.0.seen) (working_set self) }
+        requires few_operations { AreWithin L.most_operations self.log.operations }
         ensures tables { (result.0.seat.place.table_id ≡ self.seat.place.table_id) × (result.1.place.table_id ≡ self.seat.place.table_id) }
         ensures commits { IfOk result.2 (λ _. Commits self.seat.place.me.0 self.log.operations result.1.place.me.0) }
         ensures version { IfOk result.2 (λ r. r.version ≡ self.seat.version + 1) }

@@ -4,7 +4,7 @@ ghost use Rattle.std.proofs.Props.{props};
 ghost use Rattle.shared_cells.specs.Views.{kept_in, pass_of};
 ghost use Rattle.shared_index.specs.Passes.{version_seen};
 ghost use Rattle.shared_index.specs.Turns.{Agrees, AtRest, cells_with, current_root};
-ghost use Rattle.shared_index.specs.Bases.{StandsFor, Joined};
+ghost use Rattle.shared_index.specs.Bases.{StandsFor, Joined, CommitsAreWithin};
 ghost use Rattle.shared_index.specs.Capacity.{RestsRoomy};
 ghost use Rattle.trie_model.specs.Keys.{Entry};
 ghost use Rattle.chunk_usage.specs.Keeping.{closed, freed, restored};
@@ -57,6 +57,7 @@ impl Desk {
         ensures table { result.seat.place.table_id ≡ self.seat.place.table_id }
         ensures passes { result.seat.passes ≡ self.seat.passes }
         ensures joined { Joined L.lawful pass.place.me.0 result.seat.place.me.0 }
+        ensures few_operations { CommitsAreWithin L.most_operations result.seat.place.me.0 }
         ensures usage { result.usage ≡ self.usage }
         ensures log { result.log.operations ≡ [] }
         ensures rests { RestsRoomy result.usage result.seat.place.me.0.seen }

@@ -29,13 +29,16 @@ pub type Version = LinkedList<KeyItem>;
 /// What a commit does: the operations of its transaction, in their order.
 pub type Operations = LinkedList<Operation>;
 
-/// Says which versions an index may have.
+/// Says which versions an index may have, and how many operations a commit.
 pub trait Law {
-    ghost use Rattle.std.specs.Prelude.{List};
+    ghost use Rattle.std.specs.Prelude.{List, Option, None, ℕ};
     ghost use Rattle.trie_model.specs.Keys.{Entry};
 
     // A version may stand beside the opening one, which is named first.
     ghost lawful: { List Entry → List Entry → Type 0 };
+
+    // The most operations that a commit may have, where there is a most.
+    ghost most_operations: { Option ℕ } = { None };
 }
 
 /// The meaning of versions under a law, for the table that threads share.
@@ -44,12 +47,14 @@ pub struct Meaning<L> {
 }
 
 impl<L: Law> shared_cells::Law<Version, Operations> for Meaning<L> {
-    ghost use Rattle.shared_index.specs.Operations.{applied};
+    ghost use Rattle.shared_index.specs.Operations.{applied, AreWithin};
     ghost use Rattle.shared_index.specs.Meanings.{IsVersion};
 
     ghost applied = { applied };
 
     ghost lawful = { L.lawful };
+
+    ghost permitted = { AreWithin L.most_operations };
 
     ghost stands = { IsVersion };
 }

@@ -10,7 +10,7 @@ ghost use Rattle.trie_write.specs.Entries.{entries_of_items};
 ghost use Rattle.shared_cells.specs.Views.{number_of, words_of};
 ghost use Rattle.shared_cells.specs.Cells.{given_chunks, with_words};
 ghost use Rattle.shared_cells.specs.Steps.{CanOpen, Opened};
-ghost use Rattle.shared_index.specs.Operations.{applied};
+ghost use Rattle.shared_index.specs.Operations.{applied, AreWithin};
 ghost use Rattle.shared_index.specs.Meanings.{IsVersion};
 ghost use Rattle.shared_index.specs.Passes.{commits_in, first_version, known_at, pinned_in};
 ghost use Rattle.shared_index.specs.Turns.{cells_with};
@@ -156,7 +156,7 @@ fn open_named<L: Law, M: Opening<Version>>(
     _items: &[Item],
 ) -> TurnSeat<Version, Operations>
     requires table { turn.place.table_id ≡ shared.now.table.shared.table_id }
-    requires can { CanOpen applied L.lawful IsVersion shared.now.table.shared.key turn.place.me.0 M.version root M.image }
+    requires can { CanOpen applied L.lawful (AreWithin L.most_operations) IsVersion shared.now.table.shared.key turn.place.me.0 M.version root M.image }
     ensures table { result.place.table_id ≡ turn.place.table_id }
     ensures opened { Opened turn.place.me.0 M.version root M.image result.place.me.0 }
     ensures passes { result.passes ≡ turn.passes }
@@ -172,7 +172,7 @@ fn open_turn<L: Law>(
     items: &[Item],
 ) -> TurnSeat<Version, Operations>
     requires table { turn.place.table_id ≡ shared.now.table.shared.table_id }
-    requires can { CanOpen applied L.lawful IsVersion shared.now.table.shared.key turn.place.me.0 (Some (entries_of_items items.now)) root
+    requires can { CanOpen applied L.lawful (AreWithin L.most_operations) IsVersion shared.now.table.shared.key turn.place.me.0 (Some (entries_of_items items.now)) root
         (image_at (words_of turn.place.me.0.turn) root) }
     ensures table { result.place.table_id ≡ turn.place.table_id }
     ensures opened { Opened turn.place.me.0 (Some (entries_of_items items.now)) root (image_at (words_of turn.place.me.0.turn) root) result.place.me.0 }

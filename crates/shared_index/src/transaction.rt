@@ -95,6 +95,7 @@ impl<'i, L: Law, N: Named> Locked<'i, L, N> {
     ghost use Rattle.shared_index.specs.declared.kept.Versions.{Versions as Kept};
     ghost use Rattle.chunk_usage.specs.Keeping.{kept_versions};
     ghost use Rattle.shared_index.specs.Receipts.{Recycles};
+    ghost use Rattle.shared_index.specs.Operations.{AreWithin};
     ghost use Rattle.shared_index.specs.Passes.{first_version};
     ghost use Rattle.shared_cells.specs.Views.{pass_of};
 
@@ -213,6 +214,7 @@ impl<'i, L: Law, N: Named> Locked<'i, L, N> {
         requires works { IsSomeAnd self.old.draft Works }
         requires few { most ≤ 8 }
         requires lawful { IsSomeAnd self.old.draft (λ d. L.lawful (first_version d.seat.place.me.0.seen) (working_set d)) }
+        requires few_operations { ForSome self.old.draft (λ d. AreWithin L.most_operations d.log.operations) }
         ensures here { IsSome result.0.seat }
         ensures place { result.0.place ≡ self.old.place }
         ensures commits { IfOk result.1 (λ _. IfSome self.old.draft (λ d. Commits d.seat.place.me.0 d.log.operations (known_at result.0.seat))) }
@@ -233,6 +235,7 @@ impl<'i, L: Law, N: Named> Locked<'i, L, N> {
 }
 
 impl<L: Law, N: Named> Index<L, N> {
+    ghost use Rattle.shared_index.specs.Bases.{CommitsAreWithin};
     ghost use Rattle.shared_index.specs.Drafts.{Begins};
     ghost use Rattle.shared_index.specs.Capacity.{RestsRoomy};
 
@@ -266,6 +269,7 @@ impl<L: Law, N: Named> Index<L, N> {
         ensures table { result.1.seat.place.table_id ≡ self.now.shared.table.shared.table_id }
         ensures passes { result.1.seat.passes ≡ self.now.shared.table.shared.key.passes }
         ensures begins { Begins L.lawful (known_at pass.old.seat) result.1 }
+        ensures few_operations { CommitsAreWithin L.most_operations result.1.seat.place.me.0 }
         ensures goes_on { result.1.usage.open_chunk ≡ result.1.usage.last_open }
         ensures rests { RestsRoomy result.1.usage result.1.seat.place.me.0.seen }
         ensures chunks { length result.1.usage.given ≡ self.now.shared.table.shared.key.chunks }
@@ -291,6 +295,7 @@ impl<L: Law, N: Named> Index<L, N> {
         ensures place { result.locked.now.place ≡ self.now.place }
         ensures passes { IsSomeAnd result.locked.now.draft (λ d. d.seat.passes ≡ self.now.shared.table.shared.key.passes) }
         ensures begins { IsSomeAnd result.locked.now.draft (Begins L.lawful (known_at pass.old.seat)) }
+        ensures few_operations { IsSomeAnd result.locked.now.draft (λ d. CommitsAreWithin L.most_operations d.seat.place.me.0) }
         ensures chunks { IsSomeAnd result.locked.now.draft (λ d. length d.usage.given ≡ self.now.shared.table.shared.key.chunks) }
         // What is written goes on in the bump chunk.
         ensures goes_on { IsSomeAnd result.locked.now.draft (λ d. d.usage.open_chunk ≡ d.usage.last_open) }
@@ -322,6 +327,7 @@ impl<L: Law, N: Named> Index<L, N> {
         ensures place { result.locked.now.place ≡ self.now.place }
         ensures passes { IsSomeAnd result.locked.now.draft (λ d. d.seat.passes ≡ self.now.shared.table.shared.key.passes) }
         ensures begins { IsSomeAnd result.locked.now.draft (Begins L.lawful (known_at pass.old.seat)) }
+        ensures few_operations { IsSomeAnd result.locked.now.draft (λ d. CommitsAreWithin L.most_operations d.seat.place.me.0) }
         ensures chunks { IsSomeAnd result.locked.now.draft (λ d. length d.usage.given ≡ self.now.shared.table.shared.key.chunks) }
         // What is written begins a chunk.
         ensures own_chunk { IsSomeAnd result.locked.now.draft (λ d. d.usage.open_chunk ≡ full d.usage.last_open) }
@@ -510,6 +516,7 @@ impl<L: Law, N: Named, K> Transaction<'_, '_, L, N, K> {
 impl<L: Law, N: Named, K: Kind> Transaction<'_, '_, L, N, K> {
     ghost use Rattle.shared_index.specs.Drafts.{Works, Commits, IsBack, working_set};
     ghost use Rattle.shared_index.specs.Receipts.{Recycles};
+    ghost use Rattle.shared_index.specs.Operations.{AreWithin};
     ghost use Rattle.shared_index.specs.Passes.{first_version};
 
     /// Makes the working set the next version; where there is none, the base stays. What the working set has in sparse chunks is moved
@@ -517,6 +524,7 @@ impl<L: Law, N: Named, K: Kind> Transaction<'_, '_, L, N, K> {
     pub fn commit(self) -> Result<Receipt, Spent>
         requires works { IsSomeAnd self.locked.now.draft Works }
         requires lawful { IsSomeAnd self.locked.now.draft (λ d. L.lawful (first_version d.seat.place.me.0.seen) (working_set d)) }
+        requires few_operations { ForSome self.locked.now.draft (λ d. AreWithin L.most_operations d.log.operations) }
         ensures here { IsSome self.exit.0.now.seat }
         ensures place { self.exit.0.now.place ≡ self.entry.locked.now.place }
         ensures commits { IfOk result (λ _. IfSome self.entry.locked.now.draft (λ d. Commits d.seat.place.me.0 d.log.operations (known_at self.exit.0.now.seat))) }

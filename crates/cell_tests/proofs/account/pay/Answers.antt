@@ -36,4 +36,5 @@ publish-version-requires-clause-can c =
       fits = record { rooted = refl; once = λ i j d l within. absurd (omega arith); unchanged = All-nil (AgreesWith turn.0.words); given = All-nil (IsGiven (core_size c.args.account.now.table.shared.key) turn.0.words) };
       good = sums_rise opening.0 (view.seen.history ++ record { author = own.0.number; change = c.args.amount } ∷ []);
       stood = refl;
+      allowed = tt;
     }

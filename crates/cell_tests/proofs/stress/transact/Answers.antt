@@ -50,4 +50,5 @@ publish-requires-clause-can c =
       fits = one_image key.passes key.chunks view.turn turn.0 next c.write_next-turn.result.1 turn.1 c.if-is_written.true c.write_next-turn.ensures.written;
       good = tt;
       stood = subst (IsVersion (cell_of next ∷ []) (Some (place_of next))) (sym number) (refl, refl);
+      allowed = tt;
     }

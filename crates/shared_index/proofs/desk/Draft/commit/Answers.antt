@@ -1,4 +1,5 @@
-use Rattle.std.proofs.Common.{◌≡◌, ◌∙◌, true}
+use Rattle.std.proofs.Common.{◌≡◌, ◌∙◌, true, sym, subst}
+use Rattle.shared_index.specs.Operations.{AreWithin}
 use Rattle.shared_index.proofs.RoomyLaws.{alike_room, alike_where, settled_rows, settled_thin}
 use Rattle.shared_index.proofs.SettleLaws.{IsAlike, settled_recycles}
 use Rattle.shared_index.proofs.desk.Draft.commit.Goals as goal
@@ -17,6 +18,9 @@ publish-desk-requires-clause-rows g c =
     let next = c.next_version.ensures in
     let alike : IsAlike c.args.self c.next_version.new.self = record { known = next.known; usage = next.usage; log = next.log } in
     settled_rows c.settle-draft.ensures.settles (alike_room alike c.requires.room)
+
+pub publish-desk-requires-clause-few_operations : goal.publish-desk-requires-clause-few_operations
+publish-desk-requires-clause-few_operations g c = subst (AreWithin g.L.Law.most_operations) (sym (c.settle-draft.ensures.settles.log ∙ c.next_version.ensures.log)) c.requires.few_operations
 
 pub publish-desk-requires-clause-thin : goal.publish-desk-requires-clause-thin
 publish-desk-requires-clause-thin g c =

@@ -31,8 +31,8 @@ publish-version-requires-clause-can g c =
     let opening = told_there v.seen.opening d.seat.told in
     let version = d.seat.version_is in
     let next = c.requires.next in
-    can_publish v d.usage c.known.ensures d.seat.passes d.agrees d.root (working_set d) c.requires.works g.L.Law.lawful c.args.shared.now.table.shared.key turn.0 own.0 opening.0 d.log.operations turn.1 own.1 opening.1
-    (same_chunks _ _ _ _ c.args.shared.now.wide d.wide (same_words _ _ (sym c.requires.table))) (omega arith) refl c.requires.lawful
+    can_publish v d.usage c.known.ensures d.seat.passes d.agrees d.root (working_set d) c.requires.works g.L.Law.lawful g.L.Law.most_operations c.args.shared.now.table.shared.key turn.0 own.0 opening.0 d.log.operations turn.1 own.1 opening.1
+    (same_chunks _ _ _ _ c.args.shared.now.wide d.wide (same_words _ _ (sym c.requires.table))) (omega arith) refl c.requires.lawful c.requires.few_operations
 
 pub freeze-requires-clause-newer : goal.freeze-requires-clause-newer
 freeze-requires-clause-newer g c =

@@ -1,9 +1,12 @@
 use Rattle.shared_index.specs.Passes.{known_at}
-use Rattle.shared_index.proofs.CompactLaws.{base_lawful, compacts_of, last_of, not_last, last_number}
+use Rattle.shared_index.proofs.CompactLaws.{base_lawful, base_within, compacts_of, last_of, not_last, last_number}
 use Rattle.shared_index.proofs.index.Index.compact.Goals as goal
 
 pub commit-desk-requires-clause-lawful : goal.commit-desk-requires-clause-lawful
 commit-desk-requires-clause-lawful g c = base_lawful g.L.Law.lawful (known_at c.args.pass.now.seat) c.join-guard.result.1 c.join-guard.ensures.begins
+
+pub commit-desk-requires-clause-few_operations : goal.commit-desk-requires-clause-few_operations
+commit-desk-requires-clause-few_operations g c = base_within g.L.Law.lawful (known_at c.args.pass.now.seat) c.join-guard.result.1 c.join-guard.ensures.begins g.L.Law.most_operations
 
 pub returns-clause-compacts : goal.returns-clause-compacts
 returns-clause-compacts g c =
