@@ -5,4 +5,3 @@ pub mod Counting
 pub mod Counts
 pub mod Handing
 pub mod Keeping
-pub mod Capacity

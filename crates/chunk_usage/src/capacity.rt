@@ -1,7 +1,7 @@
 //! How many chunks an index needs, so that a transaction finds room.
 
 ghost use Rattle.std.specs.Prelude.{◌≡◌, ◌↔◌, ◌+◌, ◌*◌, ◌/◌, ◌<◌, ◌^◌, IsTrue};
-ghost use Rattle.chunk_usage.specs.Capacity.{is_roomy, IsLeast};
+ghost use Rattle.trie_model.specs.Capacity.{is_roomy, IsLeast};
 
 // The fewest and the most chunks of an index.
 const FEWEST_CHUNKS: u32 = 16;

@@ -6,7 +6,7 @@ use Rattle.std.specs.Ordering.{nat_cmp}
 use Rattle.zone_model.specs.Names.{Name}
 use Rattle.zone_model.specs.Versions.{Version, Operation, apply, all_applied}
 use Rattle.zone_model.specs.Transactions.{Transaction, no_changes, all_met, whole}
-use Rattle.chunk_usage.specs.Capacity.{is_roomy}
+use Rattle.trie_model.specs.Capacity.{is_roomy}
 use Rattle.job_model.specs.Commands.{Command, Ask, Hold, AskHeld, Release, Block, Compact}
 use Rattle.job_model.specs.Sizes.{cell_count}
 use Rattle.zone_model.specs.declared.Refusal.{Refusal}

@@ -36,7 +36,7 @@ use Rattle.shared_index.specs.Keepings.{GoesOn, versions_in}
 use Rattle.zone_edit.specs.Stores.{WorksOn, WorksOnSome}
 use Rattle.zone_edit.specs.Blocks.{Executes, IsFullAt}
 use Rattle.zone_edit.proofs.ApplyLaws.{next_applied}
-use Rattle.chunk_usage.specs.Capacity.{is_roomy}
+use Rattle.trie_model.specs.Capacity.{is_roomy}
 use Rattle.chunk_usage.specs.Keeping.{kept_versions}
 use Rattle.pin_core.proofs.Lists.{contains_cases}
 use Rattle.shared_index.specs.Capacity.{BoundsHistory}

@@ -3,7 +3,7 @@ use Rattle.std.proofs.Common.{◌≡◌, ℕ, ◌+◌, ◌-◌, ◌*◌, ◌/◌
 use Rattle.std.specs.List.{AllByRecursion}
 use Rattle.zone_model.specs.Versions.{Operation}
 use Rattle.zone_model.specs.Transactions.{Transaction, no_changes}
-use Rattle.chunk_usage.specs.Capacity.{is_roomy, IsLeast}
+use Rattle.trie_model.specs.Capacity.{is_roomy, IsLeast}
 use Rattle.job_model.specs.declared.Ending.{Ending}
 use Rattle.job_model.specs.declared.Ending.TheVariants.{Commit}
 use Rattle.job_model.specs.Commands.{Command, Ask, Hold, AskHeld, Release, Block, Compact, Job}

@@ -10,7 +10,7 @@ use Rattle.job_model.specs.Sizes.{cell_count}
 use Rattle.job_model.specs.Outcomes.{Rule, Full, Spent, Ended, Shown, Committed, RolledBack, Refused, Outcome, Pair, is_committed, asked_by, asked_at, version_at, passes_for}
 use Rattle.job_model.specs.Feeds.{FedPair, passes_fed}
 use Rattle.job_model.specs.Needs.{cells_of_commands, longest, most_cells, most_operations}
-use Rattle.chunk_usage.specs.Capacity.{IsLeast}
+use Rattle.trie_model.specs.Capacity.{IsLeast}
 use Rattle.report_laws.specs.Changes.{AllAsked}
 
 -- each worker's commands ask for operations as scripts say them

@@ -13,7 +13,7 @@ ghost use Rattle.job_model.specs.Sizes.{cell_count};
 ghost use Rattle.job_model.specs.Needs.{cells_of_commands, most_cells, most_operations};
 ghost use Rattle.job_model.specs.Outcomes.{Lawful, Pair, all_pairs, passes_for};
 ghost use Rattle.job_model.specs.Feeds.{Fed, FedPair, all_numbers, by_worker, passes_fed};
-ghost use Rattle.chunk_usage.specs.Capacity.{IsLeast};
+ghost use Rattle.trie_model.specs.Capacity.{IsLeast};
 ghost use Rattle.shared_index.specs.Openings.{room_in};
 ghost use Rattle.report_laws.specs.Octets.{AllOctets};
 ghost use Rattle.report_laws.specs.Changes.{AllAsked};

@@ -7,7 +7,7 @@ use Rattle.zone_model.specs.Refusals.{Refused}
 use Rattle.zone_model.specs.MasterFile.{zone_of}
 use Rattle.job_model.specs.Commands.{FedJob, Job}
 use Rattle.job_model.specs.Jobs.{JobRefusal, ZoneRefused, ScriptRefused, zone_lines, job_of, fed_job_of}
-use Rattle.chunk_usage.specs.Capacity.{IsLeast}
+use Rattle.trie_model.specs.Capacity.{IsLeast}
 use Rattle.job_model.specs.Needs.{most_cells, most_operations}
 use Rattle.job_model.specs.Outcomes.{Pair, Lawful, all_pairs, passes_for, some_refused}
 use Rattle.job_model.specs.Feeds.{Fed, FedPair, all_numbers, by_worker, fed_commands, fed_report, passes_fed, some_fed_refused}

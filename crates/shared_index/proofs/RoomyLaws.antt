@@ -7,7 +7,7 @@ use Rattle.std.proofs.lemmas.List.Elements.{All-filter, All-nil, All-push}
 use Rattle.trie_model.specs.Keys.{Entry}
 use Rattle.trie_model.specs.Shape.{cells}
 use Rattle.chunk_usage.specs.declared.space.Full.{Full as NoRoom}
-use Rattle.chunk_usage.specs.Capacity.{is_roomy}
+use Rattle.trie_model.specs.Capacity.{is_roomy}
 use Rattle.chunk_usage.specs.Counting.{sparse_count}
 use Rattle.chunk_usage.specs.Handing.{Lacks, spent}
 use Rattle.chunk_usage.specs.Keeping.{freed, frozen, is_among, kept_versions, narrowed, restored, rows_of}

@@ -1,7 +1,7 @@
 -- How much a transaction does, and what its table then has room for.
 use Rattle.std.specs.Prelude.{ℕ, ◌≤◌, length}
 use Rattle.trie_model.specs.Shape.{cells}
-use Rattle.chunk_usage.specs.Capacity.{is_roomy}
+use Rattle.trie_model.specs.Capacity.{is_roomy}
 use Rattle.shared_index.specs.declared.desk.Draft.{Draft}
 use Rattle.shared_index.specs.Capacity.{BoundsHistory, WorksRoomy}
 use Rattle.shared_index.specs.Drafts.{working_set}

@@ -2,7 +2,7 @@
 use Rattle.std.specs.Prelude.{ℕ, ◌+◌, ◌-◌, ◌*◌, ◌/◌, ◌≤◌, Bool, List, length, count_by, All, Contains}
 use Rattle.trie_model.specs.Keys.{Entry}
 use Rattle.trie_model.specs.Shape.{cells}
-use Rattle.chunk_usage.specs.Capacity.{is_roomy}
+use Rattle.trie_model.specs.Capacity.{is_roomy}
 use Rattle.chunk_usage.specs.Handing.{spent}
 use Rattle.chunk_usage.specs.Ledger.{Ledger, Row, free_count}
 use Rattle.shared_cells.specs.declared.view.Entry.{Entry as Commit}

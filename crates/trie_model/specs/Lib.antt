@@ -7,3 +7,4 @@ pub mod Memory
 pub mod Shape
 pub mod Order
 pub mod Laws
+pub mod Capacity

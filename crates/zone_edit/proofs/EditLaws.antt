@@ -20,7 +20,7 @@ use Rattle.shared_index.specs.Capacity.{BoundsHistory}
 use Rattle.shared_index.specs.Rooms.{SparesReserve}
 use Rattle.shared_index.specs.Fulls.{CausedFrom, cells_kept}
 use Rattle.shared_index.specs.Passes.{Known, version_seen}
-use Rattle.chunk_usage.specs.Capacity.{is_roomy}
+use Rattle.trie_model.specs.Capacity.{is_roomy}
 use Rattle.chunk_usage.specs.Ledger.{Ledger, Row, reserve_of}
 use Rattle.shared_cells.specs.declared.view.Entry.{Entry as Commit'}
 use Rattle.shared_cells.specs.History.{StartsWith, version_after}
