@@ -161,10 +161,13 @@ range_past v first (suc many) past =
 
 in_range : (v many : ℕ) → times_in v (range_with_len 1 many) ≡ 1 → (0 < v) × (v ≤ many)
 in_range zero many once = absurd (let none = range_none 0 1 many (omega arith) in omega (arith, once, none))
-in_range (suc v) many once = (omega arith, elim (cases_lt v many) [
-  | inl below ↦ omega arith
-  | inr past ↦ absurd (let none = range_past (suc v) 1 many (omega arith) in omega (arith, once, none))
-])
+in_range (suc v) many once = (
+  omega arith,
+  elim (cases_lt v many) [
+    | inl below ↦ omega arith
+    | inr past ↦ absurd (let none = range_past (suc v) 1 many (omega arith) in omega (arith, once, none))
+  ],
+)
 
 once_among : (workers n : ℕ) (fed : List FedPair) → ((number : ℕ) → n ≤ number → number < n + length fed → times_in_all number (lists_by (range_with_len 1 workers) n fed) ≡ 1) → AllByRecursion (IsAmong workers) fed
 once_among workers n [] once = tt
@@ -175,9 +178,9 @@ once_among workers n (f ∷ fed) once =
     let one : times_in f.worker (range_with_len 1 workers) ≡ 1 = omega (arith, here, rest, first_in_all n n f fed true yes (range_with_len 1 workers)) in
     let more : (number : ℕ) → n + 1 ≤ number → number < n + 1 + length fed → times_in_all number (lists_by (range_with_len 1 workers) (n + 1) fed) ≡ 1 =
     λ number above below.
-        let no : eqb n number ≡ false = grind (arith, nat_tests) in
-        let same = once number (omega arith) (omega arith) in
-        omega (arith, same, first_in_all number n f fed false no (range_with_len 1 workers)) in
+    let no : eqb n number ≡ false = grind (arith, nat_tests) in
+    let same = once number (omega arith) (omega arith) in
+    omega (arith, same, first_in_all number n f fed false no (range_with_len 1 workers)) in
     (in_range f.worker workers one, once_among workers (n + 1) fed more)
 
 pub fed_among : (workers : ℕ) (fed : List FedPair) → Fed (length fed) (all_numbers workers fed) → AllByRecursion (IsAmong workers) fed
