@@ -13,7 +13,7 @@ use Rattle.report_laws.specs.Changes.{AllAsked}
 use Rattle.report_laws.specs.Versions.{AreFedOutcomesOf}
 use Rattle.need_laws.specs.Bounds.{AllFedFindRoom, IsSaidList, IsSizedList, FindsRoom}
 use Rattle.need_laws.proofs.RunLaws.{IsShort, all_join, cells_together, commands_few}
-use Rattle.need_laws.proofs.RoomLaws.{all_room, roomy_still}
+use Rattle.need_laws.proofs.RoomLaws.{all_room}
 
 -- ---- what is so of all commands is so of those that some workers ran
 
@@ -150,6 +150,6 @@ module _ (job : FedJob) (said : IsSaidList job) (fed : List FedPair) (same : Are
       let long : length job.commands ≡ length fed = sym (ap (λ (l : List Command). length l) same) ∙ length-map fed (λ (f : FedPair). f.pair.0) in
       let among = fed_among workers fed (subst (λ (n : ℕ). Fed n (all_numbers workers fed)) long handed) in
       let room = all_room (setting_of chunks (passes_fed workers) job.origin job.zone (by_worker workers fed)) (cell_count job.zone + cells_of_commands job.commands) (longest job.commands)
-      (roomy_still (passes_fed workers) (cell_count job.zone + cells_of_commands job.commands) (longest job.commands) sized.0 chunks sized.1.2 sized.2) few
+      sized few
       (λ v. made_short v (longest job.commands) (all_pairs (by_worker workers fed)) short) (by_worker workers fed) short lawful.along in
       all_of_mine (λ (pair : Pair). FindsRoom pair.1.ended) workers fed among (λ w some within. mine_of (λ (pair : Pair). FindsRoom pair.1.ended) w 1 workers fed some (omega (arith, within)) room)

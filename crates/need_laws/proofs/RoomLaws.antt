@@ -29,8 +29,8 @@ zone_room job least chunks is more =
 -- ---- its commands
 
 -- more chunks have room too
-pub roomy_still : (passes cells operations least chunks : ℕ) → is_roomy passes cells operations least → least ≤ chunks → is_roomy passes cells operations chunks
-roomy_still passes cells operations least chunks roomy more = further ((passes + 2) * (cells / 257 + 9) + 40 * operations + cells / 769 + 4) roomy
+pub roomy_still : (passes cells operations least chunks : ℕ) → IsLeast passes cells operations (Some least) → least ≤ chunks → is_roomy passes cells operations chunks
+roomy_still passes cells operations least chunks is more = further ((passes + 2) * (cells / 257 + 9) + 40 * operations + cells / 769 + 4) is.2
   where
     further : (needed : ℕ) → needed ≤ least / 2 → needed ≤ chunks / 2
     further needed le = omega (arith, le, more)
@@ -84,4 +84,4 @@ sized_room job said workers same chunks last sized lawful =
     let few = jobs_few job said workers same in
     let short = jobs_short job workers same in
     all_room (setting_of chunks (passes_for (length job.workers)) job.origin job.zone workers) (most_cells job) (most_operations job)
-    (roomy_still (passes_for (length job.workers)) (most_cells job) (most_operations job) sized.0 chunks sized.1.2 sized.2) few.versions short.made workers short.asked lawful.along
+    sized few.versions short.made workers short.asked lawful.along

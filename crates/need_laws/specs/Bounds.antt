@@ -1,5 +1,5 @@
 -- What is few enough for a job: the cells of its versions and of what its transactions work on, and the operations of one.
-use Rattle.std.specs.Prelude.{◌≡◌, ℕ, ◌+◌, ◌-◌, ◌≤◌, List, ◌++◌, length, if◌then◌else◌, Some, Ok}
+use Rattle.std.specs.Prelude.{◌≡◌, ℕ, ◌+◌, ◌-◌, ◌≤◌, List, ◌++◌, length, if◌then◌else◌, Ok}
 use Rattle.std.specs.List.{AllByRecursion}
 use Rattle.zone_model.specs.Names.{Name}
 use Rattle.zone_model.specs.Versions.{Version, Operation, all_applied}
@@ -10,7 +10,7 @@ use Rattle.job_model.specs.Sizes.{cell_count}
 use Rattle.job_model.specs.Outcomes.{Rule, Full, Spent, Ended, Shown, Committed, RolledBack, Refused, Outcome, Pair, is_committed, asked_by, asked_at, version_at, passes_for}
 use Rattle.job_model.specs.Feeds.{FedPair, passes_fed}
 use Rattle.job_model.specs.Needs.{cells_of_commands, longest, most_cells, most_operations}
-use Rattle.trie_model.specs.Capacity.{IsLeast}
+use Rattle.trie_model.specs.Capacity.{is_roomy}
 use Rattle.report_laws.specs.Changes.{AllAsked}
 
 -- each worker's commands ask for operations as scripts say them
@@ -55,17 +55,13 @@ pub record HaveFewOperations (most : ℕ) (pairs : List Pair) : Type 0 where
 
 -- ---- room
 
--- so many chunks or fewer are enough
-abbrev pub AreEnough : (passes cells operations chunks : ℕ) → Type 0
-AreEnough passes cells operations chunks = (least : ℕ) × IsLeast passes cells operations (Some least) × (least ≤ chunks)
-
--- so it is for a job, by what it is reckoned at
+-- so many chunks are enough for a job, by what it is reckoned at
 abbrev pub IsSized : Job → ℕ → Type 0
-IsSized job chunks = AreEnough (passes_for (length job.workers)) (most_cells job) (most_operations job) chunks
+IsSized job chunks = is_roomy (passes_for (length job.workers)) (most_cells job) (most_operations job) chunks
 
 -- and for one list of commands and so many workers
 abbrev pub IsSizedList : FedJob → ℕ → ℕ → Type 0
-IsSizedList job workers chunks = AreEnough (passes_fed workers) (cell_count job.zone + cells_of_commands job.commands) (longest job.commands) chunks
+IsSizedList job workers chunks = is_roomy (passes_fed workers) (cell_count job.zone + cells_of_commands job.commands) (longest job.commands) chunks
 
 -- a command isn't refused as full
 abbrev pub FindsRoom : Ended → Type 0

@@ -13,7 +13,7 @@ ghost use Rattle.job_model.specs.Sizes.{cell_count};
 ghost use Rattle.job_model.specs.Needs.{cells_of_commands, most_cells, most_operations};
 ghost use Rattle.job_model.specs.Outcomes.{Lawful, Pair, all_pairs, passes_for};
 ghost use Rattle.job_model.specs.Feeds.{Fed, FedPair, all_numbers, by_worker, passes_fed};
-ghost use Rattle.trie_model.specs.Capacity.{IsLeast};
+ghost use Rattle.trie_model.specs.Capacity.{is_roomy, IsLeast};
 ghost use Rattle.shared_index.specs.Openings.{room_in};
 ghost use Rattle.report_laws.specs.Octets.{AllOctets};
 ghost use Rattle.report_laws.specs.Changes.{AllAsked};
@@ -54,8 +54,13 @@ pub fn zones_have_room()
         → cell_count job.zone ≤ room_in chunks }
 {}
 
-/// On an index of as many chunks as a job needs, or of more, none of its transactions is refused as full. The outcomes are those that
-/// are lawful there, as each job's are that is run.
+/// The least number of chunks that is enough is so, and so is each greater one.
+pub fn least_is_enough()
+    ensures { (passes cells operations least chunks : ℕ) → IsLeast passes cells operations (Some least) → least ≤ chunks → is_roomy passes cells operations chunks }
+{}
+
+/// On an index of chunks that are enough for a job none of its transactions is refused as full. The outcomes are those that are lawful
+/// there, as each job's are that is run.
 pub fn sized_jobs_find_room()
     ensures { (job : Job) → IsSaidJob job → (workers : List (List Pair)) → AreOutcomesOf job workers → (chunks last : ℕ) → IsSized job chunks
         → Lawful chunks (passes_for (length job.workers)) job.origin job.zone workers last → AllFindRoom (all_pairs workers) }

@@ -64,7 +64,7 @@ abbrev pub refusal_text : List ℕ → ℕ → List ℕ → List ℕ
 refusal_text what line kind = what ++ codes " refused line " ++ decimal line ++ codes " " ++ kind ++ codes "\n"
 
 -- The answers of committed versions: the text tells the job's commands with some lawful outcomes, and the status says
--- whether one of these is refused. Where the chunks are as many as the job needs, none is refused as full.
+-- whether one of these is refused. Where the chunks are enough for the job, none is refused as full.
 pub record Reported (telling : Telling) (chunks : ℕ) (job : Job) (s : Status) (text : List ℕ) : Type 0 where
   pub workers : List (List Pair)
   pub last : ℕ
