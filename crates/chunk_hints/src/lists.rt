@@ -69,11 +69,7 @@ impl PathLists {
 
     /// A path of it, by its place.
     pub fn path(&self, chunk: u32, place: usize) -> Path {
-        let block = self.block_of(chunk, place);
-        match self.paths.get(place_in(block, place)) {
-            Some(path) => *path,
-            None => Path::none(),
-        }
+        self.path_in(self.block_of(chunk, place), place)
     }
 
     /// Takes all paths out of a chunk's list.
@@ -87,7 +83,7 @@ impl PathLists {
     /// Puts a path into a chunk's list, where it isn't the last one already. Tells whether there was room.
     pub fn push(&mut self, chunk: u32, path: Path) -> bool {
         let count = self.count(chunk);
-        if count > 0 && self.path(chunk, count - 1) == path {
+        if count > 0 && self.path_in(self.last_block(chunk), count - 1) == path {
             return true;
         }
         if count == MOST || count % BLOCK == 0 && !self.take(chunk) {
@@ -111,6 +107,16 @@ impl PathLists {
         block
     }
 
+    // The path at a place of a list, which this block has.
+    #[inline]
+    fn path_in(&self, block: u32, place: usize) -> Path {
+        match self.paths.get(place_in(block, place)) {
+            Some(path) => *path,
+            None => Path::none(),
+        }
+    }
+
+    #[inline]
     fn last_block(&self, chunk: u32) -> u32 {
         self.last.get(chunk as usize).copied().unwrap_or(NONE)
     }

@@ -10,8 +10,6 @@ const STEP_BITS: u32 = 6;
 
 const STEP: u32 = 63;
 
-const ALL_STEPS: u32 = (1 << 30) - 1;
-
 /// The positions that a way from the root takes at its first branches, at most five. What comes behind them it doesn't say, nor at
 /// which offsets the branches are, so that it goes on to lead somewhere when others come between.
 #[derive(Clone, Copy, PartialEq, Eq, Debug)]
@@ -49,14 +47,6 @@ impl Path {
     pub fn rest(self) -> Path {
         Path {
             steps: self.steps >> STEP_BITS,
-        }
-    }
-
-    /// The path that takes a position first, and then these; the last one is left out where they are too many.
-    #[inline]
-    pub fn behind(self, position: u8) -> Path {
-        Path {
-            steps: ((self.steps << STEP_BITS) & ALL_STEPS) | step_of(position),
         }
     }
 

@@ -82,7 +82,7 @@ impl Counts {
         note(&mut self.noted, &mut self.changed, chunk, before);
         self.live[chunk as usize] = count;
         mark(&mut self.counted, &mut self.used, chunk, before, count);
-        put_if(&mut self.thin, chunk, is_thin(count));
+        put_if(&mut self.thin, chunk, is_thin(before), is_thin(count));
         self.low = self.low + one_if_low(count) - one_if_low(before);
     }
 
@@ -193,16 +193,19 @@ fn is_thin(count: u32) -> bool
     0 < count && count <= SPARSE_CELLS
 }
 
-/// Puts a chunk in a set, or takes it out.
+/// Puts a chunk in a set, or takes it out, where it wasn't so before.
 #[inline]
-fn put_if(set: &mut ChunkSet, chunk: u32, member: bool)
-    requires { chunk < length set.old }
+fn put_if(set: &mut ChunkSet, chunk: u32, was: bool, member: bool)
+    requires inside { chunk < length set.old }
+    requires was { has set.old chunk ≡ was }
     ensures { set.new ≡ slice_set set.old chunk member }
 {
-    if member {
+    if was {
+        if !member {
+            set.remove(chunk);
+        }
+    } else if member {
         set.insert(chunk);
-    } else {
-        set.remove(chunk);
     }
 }
 

@@ -9,3 +9,4 @@ pub mod SumLaws
 pub mod DescentLaws
 pub mod EndLaws
 pub mod RearrangeLaws
+pub mod AlongLaws

@@ -64,3 +64,10 @@ pub record IsHung {S : Type 0} (has : S → ℕ → Cell → Type 0) (s : S) (l 
   pub t : Tree
   pub hung : Hung has s l r at es way t
   pub is : n ≡ node_of t
+
+-- in some trie of these entries, some tree with this node hangs on the cell
+pub record HangsIn {S : Type 0} (has : S → ℕ → Cell → Type 0) (s : S) (l : Ledger) (r at : ℕ) (es : List Entry) (n : Node) : Type 0 where
+  pub way : List Fork
+  pub t : Tree
+  pub hung : Hung has s l r at es way t
+  pub is : n ≡ node_of t

@@ -164,10 +164,12 @@ fn try_lists<C: CellWrite>(cells: &mut C, usage: &mut Usage, root: Ref) -> Optio
     ensures ready { Ready C.kept C.given reserve_account_of cells.new usage.new }
 {
     for _ in 0..ROUNDS {
-        match move_listed(cells, usage, root) {
-            Err(_) => return Some(Done::Stopped),
-            Ok(()) if !is_any_sparse(usage) => return Some(Done::Whole),
-            Ok(()) => {}
+        let moved = move_listed(cells, usage, root);
+        if !is_any_sparse(usage) {
+            return Some(Done::Whole);
+        }
+        if moved.is_err() {
+            return Some(Done::Stopped);
         }
     }
     None

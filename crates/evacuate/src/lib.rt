@@ -1,8 +1,10 @@
 //! What lies in chunks of which few cells count is moved to fresh ones, so that the old chunks can be given back.
 #![tactic(auto)]
 
+mod along;
 mod descent;
 mod evacuation;
+mod forks;
 mod items;
 mod listed;
 mod marks;

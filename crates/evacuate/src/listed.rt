@@ -1,25 +1,21 @@
 //! What lies in sparse chunks, found along the paths that these were written on, and moved.
 
-ghost use Rattle.std.specs.Prelude.{◌≡◌, List, Bool, true, IfErr, IfOk};
+ghost use Rattle.std.specs.Prelude.{◌≡◌, IfErr};
 ghost use Rattle.chunk_usage.specs.Rooms.{reserve_account_of};
 ghost use Rattle.trie_write.specs.Spaces.{Ready, IsWritable};
-ghost use Rattle.evacuate.specs.Evacuations.{HasSparse};
-ghost use Rattle.evacuate.specs.Fillings.{Fills, IsFull};
+ghost use Rattle.evacuate.specs.Fillings.{IsFull};
 ghost use Rattle.evacuate.specs.Places.{IsStood};
 ghost use Rattle.evacuate.specs.Rearranging.{Rearranged};
 
-use super::descent::{move_found, reach};
-use super::marks::{Listing, Marks};
-use super::path_walk::{Walk, last_sparse};
-use super::trail::Trail;
+use super::along::{Deed, go_along};
+use super::forks::{move_forked, open_forked};
+use super::marks::{Listing, Mark, Marks};
+use super::path_walk::{Last, last_along};
 use chunk_cells::CellWrite;
 use chunk_usage::{Full, Path, Usage};
 use packed_node::Ref;
 
-/// So many rows and items are moved on one path at most.
-const MOST_MOVES: u32 = 300;
-
-/// What is done along a path.
+/// What is done along paths.
 #[derive(Clone, Copy, PartialEq, Eq)]
 enum Step {
     /// The twigs above what lies in a sparse chunk are made mutable. They change often, so they are to lie together.
@@ -28,73 +24,68 @@ enum Step {
     Move,
 }
 
-/// Makes the twigs mutable that are above the last on a path that lies in a sparse chunk, and marks the path where there is one.
+/// Makes the twigs mutable that are above the last on a path that lies in a chunk. Tells what there is on the path.
 fn open_along<C: CellWrite>(
     cells: &mut C,
     usage: &mut Usage,
     root: Ref,
-    trail: &mut Trail,
+    chunk: u32,
     path: Path,
-    marks: &mut Marks,
-    listing: Listing,
-) -> Result<(), Full>
+) -> Result<Mark, Full>
     requires stood { IsStood C.has cells.old usage.old root }
     requires writable { IsWritable C.given reserve_account_of cells.old usage.old root }
     requires ready { Ready C.kept C.given reserve_account_of cells.old usage.old }
     ensures rearranged { Rearranged C.has C.kept C.given root cells.old usage.old cells.new usage.new }
     ensures full { IfErr result (λ _. IsFull usage.new) }
-    ensures left { IfErr result (λ _. (given : List Bool) → Fills given usage.old → HasSparse usage.new) }
     ensures ready { Ready C.kept C.given reserve_account_of cells.new usage.new }
 {
-    marks.pass(listing);
     let top = cells.cell(root);
-    let mut walk = Walk::new();
-    if last_sparse(cells, usage, trail, top, path, &mut walk) {
-        marks.insert(listing);
-        usage.note(path);
-        reach(cells, usage, root, trail)?;
+    match last_along(cells, chunk, top, path) {
+        Last::None => Ok(Mark::None),
+        Last::At(offset) => {
+            usage.note(path);
+            go_along(cells, usage, root, path, Deed::Open(offset))?;
+            Ok(Mark::Straight)
+        }
+        Last::Forks => {
+            let found = open_forked(cells, usage, root, path)?;
+            Ok(if found { Mark::Forked } else { Mark::None })
+        }
     }
-    Ok(())
 }
 
-/// Moves what lies in sparse chunks along a path, the last first.
+/// Moves what lies in a sparse chunk along a path that doesn't fork. The bump chunk lists the path already where so many chunks are free.
 fn move_along<C: CellWrite>(
     cells: &mut C,
     usage: &mut Usage,
     root: Ref,
-    trail: &mut Trail,
+    chunk: u32,
     path: Path,
+    free: u32,
 ) -> Result<(), Full>
     requires stood { IsStood C.has cells.old usage.old root }
     requires writable { IsWritable C.given reserve_account_of cells.old usage.old root }
     requires ready { Ready C.kept C.given reserve_account_of cells.old usage.old }
     ensures rearranged { Rearranged C.has C.kept C.given root cells.old usage.old cells.new usage.new }
     ensures full { IfErr result (λ _. IsFull usage.new) }
-    ensures left { IfErr result (λ _. (given : List Bool) → Fills given usage.old → HasSparse usage.new) }
     ensures ready { Ready C.kept C.given reserve_account_of cells.new usage.new }
 {
-    for _ in 0..MOST_MOVES {
-        let top = cells.cell(root);
-        let mut walk = Walk::new();
-        if !last_sparse(cells, usage, trail, top, path, &mut walk) {
-            return Ok(());
-        }
+    if usage.free() != free {
         usage.note(path);
-        move_found(cells, usage, root, trail)?;
-        if !walk.more {
-            return Ok(());
-        }
+        return go_along(cells, usage, root, path, Deed::Empty(chunk));
+    }
+    go_along(cells, usage, root, path, Deed::Empty(chunk))?;
+    if usage.free() != free {
+        usage.note(path);
     }
     Ok(())
 }
 
-/// The one or the other along a path. Nothing is moved along one on which nothing was found before.
+/// Does a step along a listed path. Nothing is moved along one on which nothing was found.
 fn step_along<C: CellWrite>(
     cells: &mut C,
     usage: &mut Usage,
     root: Ref,
-    trail: &mut Trail,
-    path: Path,
     step: Step,
     marks: &mut Marks,
     listing: Listing,
@@ -104,22 +95,32 @@ fn step_along<C: CellWrite>(
     requires ready { Ready C.kept C.given reserve_account_of cells.old usage.old }
     ensures rearranged { Rearranged C.has C.kept C.given root cells.old usage.old cells.new usage.new }
     ensures full { IfErr result (λ _. IsFull usage.new) }
-    ensures left { IfErr result (λ _. (given : List Bool) → Fills given usage.old → HasSparse usage.new) }
     ensures ready { Ready C.kept C.given reserve_account_of cells.new usage.new }
 {
-    match step {
-        Step::Open => open_along(cells, usage, root, trail, path, marks, listing),
-        Step::Move if marks.contains(listing) => move_along(cells, usage, root, trail, path),
-        Step::Move => Ok(()),
+    if step == Step::Open {
+        let path = usage.path(listing.chunk, listing.place);
+        let mark = open_along(cells, usage, root, listing.chunk, path)?;
+        marks.put(listing, mark);
+        return Ok(());
+    }
+    match marks.of(listing) {
+        Mark::None => Ok(()),
+        Mark::Straight => {
+            let path = usage.path(listing.chunk, listing.place);
+            move_along(cells, usage, root, listing.chunk, path, marks.free)
+        }
+        Mark::Forked => {
+            let path = usage.path(listing.chunk, listing.place);
+            move_forked(cells, usage, root, path)
+        }
     }
 }
 
-/// The same along each path that a chunk lists.
+/// Does it along each path that a chunk lists.
 fn step_in_chunk<C: CellWrite>(
     cells: &mut C,
     usage: &mut Usage,
     root: Ref,
-    trail: &mut Trail,
     chunk: u32,
     step: Step,
     marks: &mut Marks,
@@ -129,16 +130,14 @@ fn step_in_chunk<C: CellWrite>(
     requires ready { Ready C.kept C.given reserve_account_of cells.old usage.old }
     ensures rearranged { Rearranged C.has C.kept C.given root cells.old usage.old cells.new usage.new }
     ensures full { IfErr result (λ _. IsFull usage.new) }
-    ensures left { IfErr result (λ _. (given : List Bool) → Fills given usage.old → HasSparse usage.new) }
     ensures ready { Ready C.kept C.given reserve_account_of cells.new usage.new }
 {
     for place in 0..usage.listed(chunk) {
         if usage.live(chunk) == 0 {
             return Ok(());
         }
-        let path = usage.path(chunk, place);
         let listing = Listing { chunk, place };
-        step_along(cells, usage, root, trail, path, step, marks, listing)?;
+        step_along(cells, usage, root, step, marks, listing)?;
     }
     Ok(())
 }
@@ -148,7 +147,6 @@ fn step_in_all<C: CellWrite>(
     cells: &mut C,
     usage: &mut Usage,
     root: Ref,
-    trail: &mut Trail,
     step: Step,
     marks: &mut Marks,
 ) -> Result<(), Full>
@@ -157,13 +155,12 @@ fn step_in_all<C: CellWrite>(
     requires ready { Ready C.kept C.given reserve_account_of cells.old usage.old }
     ensures rearranged { Rearranged C.has C.kept C.given root cells.old usage.old cells.new usage.new }
     ensures full { IfErr result (λ _. IsFull usage.new) }
-    ensures left { IfErr result (λ _. (given : List Bool) → Fills given usage.old → HasSparse usage.new) }
     ensures ready { Ready C.kept C.given reserve_account_of cells.new usage.new }
 {
     let mut from = 0;
     while let Some(chunk) = usage.sparse_from(from) {
         usage.known(); // for the proof
-        step_in_chunk(cells, usage, root, trail, chunk, step, marks)?;
+        step_in_chunk(cells, usage, root, chunk, step, marks)?;
         from = chunk + 1;
     }
     Ok(())
@@ -176,11 +173,9 @@ pub fn move_listed<C: CellWrite>(cells: &mut C, usage: &mut Usage, root: Ref) ->
     requires ready { Ready C.kept C.given reserve_account_of cells.old usage.old }
     ensures rearranged { Rearranged C.has C.kept C.given root cells.old usage.old cells.new usage.new }
     ensures full { IfErr result (λ _. IsFull usage.new) }
-    ensures left { IfErr result (λ _. (given : List Bool) → Fills given usage.old → HasSparse usage.new) }
     ensures ready { Ready C.kept C.given reserve_account_of cells.new usage.new }
 {
-    let mut trail = Trail::new();
-    let mut marks = Marks::new();
-    step_in_all(cells, usage, root, &mut trail, Step::Open, &mut marks)?;
-    step_in_all(cells, usage, root, &mut trail, Step::Move, &mut marks)
+    let mut marks = Marks::new(usage.free());
+    step_in_all(cells, usage, root, Step::Open, &mut marks)?;
+    step_in_all(cells, usage, root, Step::Move, &mut marks)
 }

@@ -1,6 +1,6 @@
-//! Along which listed paths something was found.
+//! What was found along listed paths.
 
-/// So many words have a bit for each chunk, and as many have one for each path that is marked; paths may share one.
+/// So many words have a bit for each path that is marked; paths may share one.
 const WORDS: usize = 64;
 
 /// Where a path is listed.
@@ -10,36 +10,55 @@ pub struct Listing {
     pub place: usize,
 }
 
+/// What a path leads to that lies in a sparse chunk.
+#[derive(Clone, Copy)]
+pub enum Mark {
+    /// Nothing.
+    None,
+    /// Something, and the path doesn't fork.
+    Straight,
+    /// Something below where it forks, or above.
+    Forked,
+}
+
 /// Marks of paths, by where they are listed. Nothing is proved of them: one that seems to be marked may not be.
 #[derive(Clone, Copy)]
 pub struct Marks {
-    paths: [u64; WORDS],
-    // The chunks whose lists were gone through.
-    chunks: [u64; WORDS],
+    straight: [u64; WORDS],
+    forked: [u64; WORDS],
+    /// How many chunks were free before the first was marked. As long as it is so many, one bump chunk has been written, and lists them all.
+    pub free: u32,
 }
 
 impl Marks {
-    /// None is marked.
-    pub fn new() -> Marks {
+    /// None is marked, and so many chunks are free.
+    pub fn new(free: u32) -> Marks {
         Marks {
-            paths: [0; WORDS],
-            chunks: [0; WORDS],
+            straight: [0; WORDS],
+            forked: [0; WORDS],
+            free,
         }
     }
 
-    /// The list that has a path is gone through.
-    pub fn pass(&mut self, listing: Listing) {
-        put(&mut self.chunks, listing.chunk as usize);
-    }
-
     /// Marks a path.
-    pub fn insert(&mut self, listing: Listing) {
-        put(&mut self.paths, bit_of(listing));
+    pub fn put(&mut self, listing: Listing, mark: Mark) {
+        match mark {
+            Mark::None => {}
+            Mark::Straight => put(&mut self.straight, bit_of(listing)),
+            Mark::Forked => put(&mut self.forked, bit_of(listing)),
+        }
     }
 
-    /// Whether a path seems to be marked, or its list wasn't gone through.
-    pub fn contains(&self, listing: Listing) -> bool {
-        !has(&self.chunks, listing.chunk as usize) || has(&self.paths, bit_of(listing))
+    /// A path's mark, as it seems.
+    pub fn of(&self, listing: Listing) -> Mark {
+        let bit = bit_of(listing);
+        if has(&self.forked, bit) {
+            return Mark::Forked;
+        }
+        if has(&self.straight, bit) {
+            return Mark::Straight;
+        }
+        Mark::None
     }
 }
 

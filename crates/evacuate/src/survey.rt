@@ -30,7 +30,8 @@ fn pass_item<C: CellRead>(cells: &mut C, usage: &mut Usage, at: Ref, len: u16, p
     }
 }
 
-/// Lists the paths below a node, which lies on a path that began with so many steps. Offsets are at least `low`.
+/// Lists the paths below a node, which lies on a path that began with so many steps, and gives that of the first leaf: it leads past all
+/// twigs above, and doesn't fork there. Offsets are at least `low`.
 fn survey_below<C: CellRead>(
     cells: &mut C,
     usage: &mut Usage,
@@ -38,30 +39,32 @@ fn survey_below<C: CellRead>(
     low: u16,
     path: Path,
     steps: u32,
-)
+) -> Path
     requires top { (t : Tree) × IsTop (C.has cells.old) low node t }
     requires low { low ≤ 504 }
     ensures cells { cells.new ≡ cells.old }
     ensures usage { usage.new ≡ usage.old }
 {
     match Node::of(node) {
-        Node::Leaf(leaf) => pass_item(cells, usage, leaf.at, leaf.len, path),
+        Node::Leaf(leaf) => {
+            pass_item(cells, usage, leaf.at, leaf.len, path);
+            path
+        }
         Node::Branch(branch) => {
-            usage.pass(chunk_of(branch.twigs), path);
+            let mut first = path;
             let mut position = position_from(branch, 0);
             for i in 0..branch.twig_count() {
                 let twig = cells.cell(branch.twigs + i);
                 let on = path.then(steps, position);
-                survey_below(
-                    cells,
-                    usage,
-                    twig,
-                    branch.offset + 1,
-                    on,
-                    steps.saturating_add(1),
-                );
+                let low = branch.offset + 1;
+                let leaf = survey_below(cells, usage, twig, low, on, steps.saturating_add(1));
+                if i == 0 {
+                    first = leaf;
+                }
                 position = position_from(branch, position.saturating_add(1));
             }
+            usage.pass(chunk_of(branch.twigs), first);
+            first
         }
     }
 }
@@ -74,6 +77,6 @@ pub fn survey<C: CellRead>(cells: &mut C, usage: &mut Usage, root: Ref)
 {
     usage.begin_walk();
     let top = cells.cell(root);
-    survey_below(cells, usage, top, 0, Path::none(), 0);
+    let _first = survey_below(cells, usage, top, 0, Path::none(), 0);
     usage.end_walk();
 }

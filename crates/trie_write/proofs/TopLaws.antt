@@ -1,5 +1,5 @@
--- What unpacking the top cell of a tree tells.
-use Rattle.std.proofs.Common.{◌≡◌, ℕ, length, Option, Some, None, sym, ◌∙◌, ap, refl}
+-- What the top cell of a tree tells.
+use Rattle.std.proofs.Common.{◌≡◌, ℕ, length, sym, ◌∙◌, ap, refl}
 use Rattle.packed_node.specs.declared.Cell.{Cell}
 use Rattle.packed_node.specs.declared.Leaf.{Leaf}
 use Rattle.packed_node.specs.declared.Branch.{Branch}
@@ -12,9 +12,6 @@ use Rattle.trie_model.specs.Trees.{Tree, IsTree, bitmap_of}
 use Rattle.trie_model.specs.Trees.Tree.{leaf, branch}
 use Rattle.trie_model.proofs.TopLaws.{is_node}
 use Rattle.trie_write.specs.Tops.{IsBranchTop, IsLeafTop}
-
-one_node : (n m : Node) (r : Option Node) → r ≡ Some n → r ≡ Some m → n ≡ m
-one_node n m r a b = cc
 
 same_leaf : (x y : Leaf) → node.Leaf x ≡ node.Leaf y → x ≡ y
 same_leaf x y e = cc
@@ -37,14 +34,8 @@ branch_kind (branch o w below) b h =
     let same = same_branch (record { offset = o; bitmap = bitmap_of below; twigs = w }) b h in
     record { below = below; is = ap (λ (x : Branch). branch x.offset x.twigs below) same; bits = sym (ap (λ (x : Branch). x.bitmap) same) }
 
-tells : (low : ℕ) (cell : Cell) (t : Tree) (r : Option Node) → IsTree low t → cell ≡ top_cell t → ((n : Node) → IsNode n → packed n ≡ cell → r ≡ Some n) → r ≡ Some (node_of t)
-tells low cell t r tree is back = back (node_of t) (is_node low t tree) (sym is)
+pub leaf_top : (low : ℕ) (cell : Cell) (t : Tree) (n : Node) (l : Leaf) → IsTree low t → cell ≡ top_cell t → ((m : Node) → IsNode m → packed m ≡ cell → n ≡ m) → n ≡ node.Leaf l → IsLeafTop t l
+leaf_top low cell t n l tree is back e = leaf_kind t l (sym (back (node_of t) (is_node low t tree) (sym is)) ∙ e)
 
-pub no_top : {A : Type 0} (low : ℕ) (cell : Cell) (t : Tree) (r : Option Node) → IsTree low t → cell ≡ top_cell t → ((n : Node) → IsNode n → packed n ≡ cell → r ≡ Some n) → r ≡ None → A
-no_top low cell t r tree is back e = let f = tells low cell t r tree is back in absurd cc
-
-pub leaf_top : (low : ℕ) (cell : Cell) (t : Tree) (r : Option Node) (l : Leaf) → IsTree low t → cell ≡ top_cell t → ((n : Node) → IsNode n → packed n ≡ cell → r ≡ Some n) → (n : Node) → r ≡ Some n → n ≡ node.Leaf l → IsLeafTop t l
-leaf_top low cell t r l tree is back n x y = leaf_kind t l (one_node (node_of t) (node.Leaf l) r (tells low cell t r tree is back) (x ∙ ap (λ (z : Node). Some z) y))
-
-pub branch_top : (low : ℕ) (cell : Cell) (t : Tree) (r : Option Node) (b : Branch) → IsTree low t → cell ≡ top_cell t → ((n : Node) → IsNode n → packed n ≡ cell → r ≡ Some n) → (n : Node) → r ≡ Some n → n ≡ node.Branch b → IsBranchTop t b
-branch_top low cell t r b tree is back n x y = branch_kind t b (one_node (node_of t) (node.Branch b) r (tells low cell t r tree is back) (x ∙ ap (λ (z : Node). Some z) y))
+pub branch_top : (low : ℕ) (cell : Cell) (t : Tree) (n : Node) (b : Branch) → IsTree low t → cell ≡ top_cell t → ((m : Node) → IsNode m → packed m ≡ cell → n ≡ m) → n ≡ node.Branch b → IsBranchTop t b
+branch_top low cell t n b tree is back e = branch_kind t b (sym (back (node_of t) (is_node low t tree) (sym is)) ∙ e)

@@ -1,6 +1,7 @@
 //! The path of a change, by which its cells may be found again. It is a hint, and nothing is proved of it.
 
 ghost use Rattle.std.specs.Prelude.{◌≡◌};
+ghost use Rattle.packed_node.specs.Nodes.{SaysNode};
 ghost use Rattle.trie_write.specs.Turns.{HasWay};
 
 use super::top::top_of;
@@ -10,29 +11,32 @@ use chunk_usage::{PATH_STEPS, Path};
 use packed_node::{Branch, Cell};
 use shift_key::Key;
 
-/// The path of the key below a node, with one step at the place where the way ends, and no more than so many in all. Offsets are at
-/// least `low`.
+/// A path of so many steps, with those behind it: of the key below a node, and one at the place where the way ends. No more are put behind it
+/// than a path has. Offsets are at least `low`.
 fn path_below<C: CellRead>(
     cells: &mut C,
     key: &Key,
     place: u16,
     low: u16,
     node: Cell,
+    path: Path,
     steps: u32,
 ) -> Path
     requires { HasWay (C.has cells.old) place low key.now node }
     ensures { cells.new ≡ cells.old }
 {
-    if steps == 0 {
-        return Path::none();
+    if steps >= PATH_STEPS {
+        return path;
     }
     match next_turn(cells, key, place, node) {
-        None => last_step(key, place, node),
+        None => match last_step(key, place, node) {
+            None => path,
+            Some(position) => path.then(steps, position),
+        },
         Some(turn) => {
             let low = turn.branch.offset + 1;
-            path_below(cells, key, place, low, turn.next, steps - 1).behind(key.at(
-                turn.branch.offset,
-            ))
+            let on = path.then(steps, key.at(turn.branch.offset));
+            path_below(cells, key, place, low, turn.next, on, steps + 1)
         }
     }
 }
@@ -42,19 +46,21 @@ pub fn path_to<C: CellRead>(cells: &mut C, key: &Key, place: u16, node: Cell) ->
     requires { HasWay (C.has cells.old) place 0 key.now node }
     ensures { cells.new ≡ cells.old }
 {
-    path_below(cells, key, place, 0, node, PATH_STEPS)
+    path_below(cells, key, place, 0, node, Path::none(), 0)
 }
 
 /// The step at a place where something is put, from the node that is there: with the key where it isn't there yet, else beside it, since
 /// it is to be taken out.
-fn last_step(key: &Key, place: u16, node: Cell) -> Path {
+fn last_step(key: &Key, place: u16, node: Cell) -> Option<u8>
+    requires { SaysNode node }
+{
     if place > 503 {
-        return Path::none();
+        return None;
     }
     let position = key.at(place);
     match top_of(node) {
-        Ok(branch) if branch.offset == place => Path::none().behind(beside(branch, position)),
-        _ => Path::none().behind(position),
+        Ok(branch) if branch.offset == place => Some(beside(branch, position)),
+        _ => Some(position),
     }
 }
 

@@ -3,28 +3,30 @@
 ghost use Rattle.std.specs.Prelude.{◌≡◌, ◌<◌, ◌%◌, ◌^◌, ℕ, IfOk, IfErr, IfSome, None, count_ones};
 ghost use Rattle.trie_model.specs.Keys.{at};
 ghost use Rattle.packed_node.specs.declared.Cell.{Cell};
+ghost use Rattle.packed_node.specs.Nodes.{SaysNode};
 ghost use Rattle.trie_model.specs.Trees.{Tree, IsTree};
 ghost use Rattle.trie_model.specs.Changes.{Deep};
 ghost use Rattle.trie_model.specs.Memory.{top_cell};
 ghost use Rattle.trie_write.specs.Tops.{IsBranchTop, IsLeafTop, NotBefore};
 
-use packed_node::{Branch, Cell, Leaf, Node, unpack};
+use packed_node::{Branch, Cell, Leaf, Node};
 use shift_key::Key;
 
 /// The branch or the leaf that the cell of a tree's top says.
 pub fn top_of(node: Cell) -> Result<Branch, Leaf>
+    requires { SaysNode node }
     ensures branch { IfOk result (λ branch. (low : ℕ) (t : Tree) → IsTree low t → node ≡ top_cell t → IsBranchTop t branch) }
     ensures leaf { IfErr result (λ leaf. (low : ℕ) (t : Tree) → IsTree low t → node ≡ top_cell t → IsLeafTop t leaf) }
 {
-    match unpack(node) {
-        None => Err(Leaf { len: 0, at: 0 }),
-        Some(Node::Leaf(leaf)) => Err(leaf),
-        Some(Node::Branch(branch)) => Ok(branch),
+    match Node::of(node) {
+        Node::Leaf(leaf) => Err(leaf),
+        Node::Branch(branch) => Ok(branch),
     }
 }
 
 /// The branch at a tree's top, where its offset comes before a place.
 pub fn branch_above(node: Cell, place: u16) -> Option<Branch>
+    requires { SaysNode node }
     ensures above { IfSome result (λ branch. branch.offset < place) }
     ensures branch { IfSome result (λ branch. (low : ℕ) (t : Tree) → IsTree low t → node ≡ top_cell t → IsBranchTop t branch) }
     ensures none { result ≡ None → (low : ℕ) (t : Tree) → IsTree low t → node ≡ top_cell t → NotBefore place t }
@@ -42,6 +44,7 @@ pub fn branch_above(node: Cell, place: u16) -> Option<Branch>
 
 /// The branch at a tree's top, where its offset is the place.
 pub fn branch_at(node: Cell, place: u16) -> Option<Branch>
+    requires { SaysNode node }
     ensures at { IfSome result (λ branch. branch.offset ≡ place) }
     ensures branch { IfSome result (λ branch. (low : ℕ) (t : Tree) → IsTree low t → node ≡ top_cell t → IsBranchTop t branch) }
     ensures deep { result ≡ None → (low : ℕ) (t : Tree) → IsTree low t → node ≡ top_cell t → NotBefore place t → Deep place t }

@@ -1,4 +1,3 @@
-use Rattle.evacuate.proofs.DescentLaws.{by_err}
 use Rattle.evacuate.proofs.RearrangeLaws.{rearranged_then, stood_after}
 use Rattle.evacuate.proofs.listed.step_in_all.Goals as goal
 
@@ -7,9 +6,6 @@ step_in_chunk-requires-clause-stood g c = stood_after c.loop-chunk.invariant.rea
 
 pub returns-in_err-step_in_chunk-clause-rearranged : goal.returns-in_err-step_in_chunk-clause-rearranged
 returns-in_err-step_in_chunk-clause-rearranged g c = rearranged_then c.loop-chunk.invariant.rearranged c.step_in_chunk.ensures.rearranged
-
-pub returns-in_err-step_in_chunk-clause-left : goal.returns-in_err-step_in_chunk-clause-left
-returns-in_err-step_in_chunk-clause-left g c = by_err c.from_residual.result (λ given fills. c.in_err-step_in_chunk.ensures.left given (c.loop-chunk.invariant.rearranged.moves given fills).fills)
 
 pub loop-chunk-preserved : goal.loop-chunk-preserved
 loop-chunk-preserved g c = record {

@@ -1,4 +1,3 @@
-use Rattle.evacuate.proofs.DescentLaws.{by_err}
 use Rattle.evacuate.proofs.RearrangeLaws.{rearranged_then, stood_after}
 use Rattle.evacuate.proofs.listed.step_in_chunk.Goals as goal
 
@@ -7,9 +6,6 @@ step_along-requires-clause-stood g c = stood_after c.loop-place.invariant.rearra
 
 pub returns-in_err-step_along-clause-rearranged : goal.returns-in_err-step_along-clause-rearranged
 returns-in_err-step_along-clause-rearranged g c = rearranged_then c.loop-place.invariant.rearranged c.step_along.ensures.rearranged
-
-pub returns-in_err-step_along-clause-left : goal.returns-in_err-step_along-clause-left
-returns-in_err-step_along-clause-left g c = by_err c.from_residual.result (λ given fills. c.in_err-step_along.ensures.left given (c.loop-place.invariant.rearranged.moves given fills).fills)
 
 pub loop-place-preserved : goal.loop-place-preserved
 loop-place-preserved g c = record {

@@ -15,8 +15,8 @@ cell-twig-requires g t c =
     let x = twig_here top b c.loop-i.i inside in
     record { there = (top_cell x.t, subst (λ s. g.C.CellRead.has s (c.in-Branch.branch.twigs + c.loop-i.i) (top_cell x.t)) (sym c.loop-i.invariant.cells) x.there) }
 
-pub survey_below-requires : goal.survey_below-requires
-survey_below-requires g t c κs within =
+pub survey_below-leaf-requires : goal.survey_below-leaf-requires
+survey_below-leaf-requires g t c κs within =
     let top = c.requires.top.1 in
     let b = branch_told c.requires.top.0 (c.in-Branch.branch) (sym (read_is top c.of.ensures.back) ∙ c.in-Branch.is) in
     let inside : c.loop-i.i < count_ones c.in-Branch.branch.bitmap = let e = c.twig_count-i-end.ensures in let l = c.loop-i-test.true in omega arith in

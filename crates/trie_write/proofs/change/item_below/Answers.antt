@@ -1,4 +1,6 @@
 use Rattle.std.proofs.Common.{sym, ◌∙◌}
+use Rattle.trie_model.specs.Trees.Tree.{leaf}
+use Rattle.trie_model.proofs.NodeLaws.{says_node}
 use Rattle.trie_write.proofs.ChangeLaws.{top_item, leaf_never}
 use Rattle.trie_write.proofs.change.item_below.Goals as goal
 
@@ -18,3 +20,6 @@ returns-in-Ok-clause-len g c e x top = leaf_never (c.in-Ok.ensures.branch 0 _ to
 
 pub returns-in-Ok-clause-there : goal.returns-in-Ok-clause-there
 returns-in-Ok-clause-there g c e x top = leaf_never (c.in-Ok.ensures.branch 0 _ top.tree top.is)
+
+pub top_of-requires : goal.top_of-requires
+top_of-requires g c = let top = c.requires.2 in says_node 0 (leaf c.requires.0 c.requires.1) c.args.node top.tree top.is

@@ -2,6 +2,7 @@ use Rattle.std.proofs.Common.{◌+◌, sym, subst, rules}
 use Rattle.trie_model.specs.Memory.{top_cell, Beneath}
 use Rattle.trie_model.specs.Trees.{entries_of}
 use Rattle.trie_read.specs.Reads.{IsTop}
+use Rattle.trie_model.proofs.NodeLaws.{says_node}
 use Rattle.trie_write.specs.Nearness.{Closest}
 use Rattle.trie_write.proofs.NearLaws.{way_of, closest_way, closest_here, falls_in}
 use Rattle.trie_write.proofs.near.+nearest.Goals as goal
@@ -34,3 +35,6 @@ returns-in-Ok-clause-value g t c x top =
     record { tree = n.deeper; is = c.cell-next.ensures.value (top_cell n.here) n.there; beneath = subst (λ s. Beneath (g.C.CellRead.has s) n.here) (sym c.cell-next.ensures.same) n.beneath } in
     closest_way (g.C.CellRead.has c.args.cells.now) c.args.key.now (c.in-Ok.branch.offset + 1) (c.in-Ok.branch.twigs + c.way.result) x n c.nearest.result
     (subst (λ s. Closest (g.C.CellRead.has s) c.args.key.now (entries_of n.here) c.nearest.result) c.cell-next.ensures.same (c.nearest.ensures.value n.here below))
+
+pub top_of-requires : goal.top_of-requires
+top_of-requires g t c = let h = c.requires.stands in says_node c.args.low h.0 c.args.node h.1.tree h.1.is

@@ -1,3 +1,4 @@
+use Rattle.trie_model.proofs.NodeLaws.{says_node}
 use Rattle.trie_write.proofs.TurnLaws.{no_way, through, key_inside, twig_there, turn_is}
 use Rattle.trie_write.proofs.turn.next_turn.Goals as goal
 
@@ -17,3 +18,6 @@ returns-clause-on g c low way end top is_way =
 
 pub returns-in_err-branch-clause-none : goal.returns-in_err-branch-clause-none
 returns-in_err-branch-clause-none g c e low way end top is_way = no_way c.args.place c.args.key.now way end is_way (c.branch_above.ensures.none c.in_err-branch.was low _ top.tree top.is)
+
+pub branch_above-requires : goal.branch_above-requires
+branch_above-requires g c = let w = c.requires.way in says_node w.0 _ c.args.node w.1.top.tree w.1.top.is

@@ -1,4 +1,5 @@
 use Rattle.std.proofs.Common.{suc, map, sym, arith}
+use Rattle.trie_model.proofs.NodeLaws.{says_node}
 use Rattle.trie_write.specs.Paths.{branches_on_path}
 use Rattle.trie_write.proofs.AskLaws.{first_of}
 use Rattle.trie_write.proofs.SpaceLaws.{ok_map, err_map}
@@ -34,3 +35,6 @@ returns-in-None-clause-asked g c = err_map c.pair_with.result (λ full two item 
 pub returns-in-Some-clause-asked : goal.returns-in-Some-clause-asked
 returns-in-Some-clause-asked g c =
     err_map c.join_twigs.result (λ full more item end x. among_asked x (c.in-Some.ensures.branch 0 end x.top.tree x.top.is) c.in-Some.ensures.at full.needed more) c.join_twigs.ensures.asked
+
+pub branch_at-requires : goal.branch_at-requires
+branch_at-requires g c = let a = c.requires.asks in says_node 0 a.end c.args.node a.asks.top.tree a.asks.top.is

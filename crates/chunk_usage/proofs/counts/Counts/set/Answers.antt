@@ -34,7 +34,7 @@ invariant_of-self c =
       noted = ap length (with_items_is s.noted c.note.new.noted (noted_len c)) ∙ noted_len c ∙ s.noted.ok.0 ∙ old.noted ∙ sym n;
       changed = ap length c.note.ensures.changed ∙ length-set s.changed c.args.chunk _ ∙ old.changed ∙ sym n;
       counted = c.mark.ensures.counted ∙ ap (λ (row : List Bool). slice_set row c.args.chunk (nat_lt 0 c.args.count)) old.counted ∙ sym (map-set (nat_lt 0) s.live.items c.args.chunk c.args.count);
-      thin = c.put_if.ensures ∙ ap (λ (row : List Bool). slice_set row c.args.chunk c.is_thin.result) old.thin ∙ ap (λ (b : Bool). slice_set (thin_row s.live.items) c.args.chunk b) c.is_thin.ensures ∙ sym (map-set is_thin s.live.items c.args.chunk c.args.count);
+      thin = c.put_if.ensures ∙ ap (λ (row : List Bool). slice_set row c.args.chunk c.is_thin-2.result) old.thin ∙ ap (λ (b : Bool). slice_set (thin_row s.live.items) c.args.chunk b) c.is_thin-2.ensures ∙ sym (map-set is_thin s.live.items c.args.chunk c.args.count);
       used = let f = old.used in let g = c.mark.ensures.used in omega arith;
       low = let f = old.low in let g = c.one_if_low.ensures in let h = c.one_if_low-2.ensures in omega arith;
     }

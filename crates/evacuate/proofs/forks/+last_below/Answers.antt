@@ -3,7 +3,7 @@ use Rattle.trie_model.specs.Memory.{top_cell}
 use Rattle.trie_model.proofs.NodeLaws.{branch_told, leaf_said}
 use Rattle.chunk_usage.specs.Counting.{is_sparse}
 use Rattle.evacuate.proofs.TrailLaws.{says, read_is, early, late, twig_here, twig_top, leaf_item, found_leaf, found_branch, found_below}
-use Rattle.evacuate.proofs.path_walk.+last_below.Goals as goal
+use Rattle.evacuate.proofs.forks.+last_below.Goals as goal
 
 pub of-requires : goal.of-requires
 of-requires g t c = says c.requires.top.1
@@ -12,7 +12,7 @@ pub cell-twig-requires : goal.cell-twig-requires
 cell-twig-requires g t c =
     let top = c.requires.top.1 in
     let b = branch_told c.requires.top.0 (c.in-Branch.branch) (sym (read_is top c.of.ensures.back) ∙ c.in-Branch.is) in
-    let inside : c.loop-i.i < count_ones c.in-Branch.branch.bitmap = let e = c.twigs_on-on.ensures.within in let l = c.loop-i-test.true in omega arith in
+    let inside : c.loop-i.i < count_ones c.in-Branch.branch.bitmap = let e = c.twigs_on-on.ensures in let l = c.loop-i-test.true in omega arith in
     let x = twig_here top b c.loop-i.i inside in
     record { there = (top_cell x.t, subst (λ s. g.C.CellRead.has s (c.in-Branch.branch.twigs + c.loop-i.i) (top_cell x.t)) (sym c.loop-i.invariant.same) x.there) }
 
@@ -25,7 +25,7 @@ pub last_below-requires : goal.last_below-requires
 last_below-requires g t c κs within =
     let top = c.requires.top.1 in
     let b = branch_told c.requires.top.0 (c.in-Branch.branch) (sym (read_is top c.of.ensures.back) ∙ c.in-Branch.is) in
-    let inside : c.loop-i.i < count_ones c.in-Branch.branch.bitmap = let e = c.twigs_on-on.ensures.within in let l = c.loop-i-test.true in omega arith in
+    let inside : c.loop-i.i < count_ones c.in-Branch.branch.bitmap = let e = c.twigs_on-on.ensures in let l = c.loop-i-test.true in omega arith in
     let x = twig_here top b c.loop-i.i inside in
     let n = twig_top g.C.CellRead.has x c.loop-i.invariant.same c.cell-twig.ensures.same c.cell-twig.ensures.value in
     let f : 504 - (c.in-Branch.branch.offset + 1) < 504 - c.args.low = let a = late top b in let d = early top b in omega arith in
@@ -34,7 +34,7 @@ last_below-requires g t c κs within =
 pub returns-then-last_below-clause-found : goal.returns-then-last_below-clause-found
 returns-then-last_below-clause-found g t c e u top =
     let b = branch_told u (c.in-Branch.branch) (sym (read_is top c.of.ensures.back) ∙ c.in-Branch.is) in
-    let inside : c.loop-i.i < count_ones c.in-Branch.branch.bitmap = let e = c.twigs_on-on.ensures.within in let l = c.loop-i-test.true in omega arith in
+    let inside : c.loop-i.i < count_ones c.in-Branch.branch.bitmap = let e = c.twigs_on-on.ensures in let l = c.loop-i-test.true in omega arith in
     let x = twig_here top b c.loop-i.i inside in
     let n = twig_top g.C.CellRead.has x c.loop-i.invariant.same c.cell-twig.ensures.same c.cell-twig.ensures.value in
     found_below u c.in-Branch.branch b c.loop-i.i x (c.last_below.ensures.found c.if-last_below.true x.t n) (let l = c.last_below.ensures.late c.if-last_below.true in omega arith)

@@ -1,5 +1,5 @@
 use Rattle.std.proofs.Common.{◌≡◌, ◌-◌, ◌<◌, ℕ, slice_index}
-use Rattle.evacuate.proofs.path_walk.+last_below.Given as goal
+use Rattle.evacuate.proofs.forks.+last_below.Given as goal
 
 abbrev pub decreases-last_below : goal.decreases-last_below
 decreases-last_below g l = 504 - l.low

@@ -2,7 +2,7 @@ use Rattle.std.proofs.Common.{◌≡◌, ℕ, ◌+◌, ◌*◌, ◌/◌, ◌%◌
 use Rattle.std.proofs.lemmas.Bool.{cases_lt}
 use Rattle.std.proofs.lemmas.Nat.{div-add-mod', ones_cat, pow_pos, zero_from_ones}
 use Rattle.std.specs.Int.{bit_at}
-use Rattle.evacuate.proofs.path_walk.twigs_on.Goals as goal
+use Rattle.evacuate.proofs.path_walk.turn_on.Goals as goal
 
 -- what isn't 0 has a bit that is set
 some_bit : (n : ℕ) → n % 2 ≡ 1 → 1 ≤ count_ones n
@@ -18,8 +18,8 @@ bit_counts b p odd =
     let parts : count_ones b ≡ count_ones (b / 2 ^ p) + count_ones (b % 2 ^ p) = ap count_ones (sym (div-add-mod' b (2 ^ p))) ∙ ones_cat p (b / 2 ^ p) (b % 2 ^ p) below in
     let some = some_bit (b / 2 ^ p) odd in omega arith
 
-pub returns-in-Some : goal.returns-in-Some
-returns-in-Some c =
-    let set : bit_at c.args.branch.bitmap c.in-Some.position ≡ 1 = c.if-has_twig.ensures.0 refl in
-    let i = c.twig_index-first.ensures.by_popcount in
-    let more = bit_counts c.args.branch.bitmap c.in-Some.position set in omega arith
+pub returns-clause-index : goal.returns-clause-index
+returns-clause-index c =
+    let set : bit_at c.in-Branch.branch.bitmap c.in_ok-position.position ≡ 1 = c.if-not-has_twig.ensures.0 refl in
+    let i = c.twig_index-index.ensures.by_popcount in
+    let more = bit_counts c.in-Branch.branch.bitmap c.in_ok-position.position set in omega arith

@@ -1,7 +1,7 @@
 use Rattle.chunk_usage.specs.Rooms.{reserve_account_of}
 use Rattle.trie_write.specs.Spaces.{Ready}
 use Rattle.evacuate.specs.Rearranging.{Rearranged}
-use Rattle.evacuate.proofs.listed.move_along.Given as goal
+use Rattle.evacuate.proofs.forks.move_forked.Given as goal
 
 abbrev pub invariant-loop : goal.invariant-loop
 invariant-loop g l = record {

@@ -1,9 +1,7 @@
-use Rattle.std.proofs.Common.{sym, ◌∙◌, subst}
-use Rattle.evacuate.specs.Fillings.{Fills}
-use Rattle.evacuate.proofs.DescentLaws.{by_err}
+use Rattle.std.proofs.Common.{◌∙◌}
 use Rattle.evacuate.proofs.EndLaws.{node_top}
 use Rattle.evacuate.proofs.RearrangeLaws.{rearranged_same, rearranged_then, rearranged_found, stood_after, stood_there, found_there, found_on}
-use Rattle.evacuate.proofs.listed.move_along.Goals as goal
+use Rattle.evacuate.proofs.forks.move_forked.Goals as goal
 
 pub cell-top-requires : goal.cell-top-requires
 cell-top-requires g c = let h = stood_after c.loop.invariant.rearranged c.requires.stood in record { there = (_, h.stood.rooted.top) }
@@ -22,18 +20,9 @@ returns-in_err-move_found-clause-rearranged g c =
     rearranged_then c.loop.invariant.rearranged (rearranged_then (rearranged_same (c.last_sparse.ensures.same ∙ c.cell-top.ensures.same) c.note.ensures)
     (rearranged_found (found_on c.cell-top.ensures.same c.cell-top.ensures.value c.last_sparse.ensures.same c.note.ensures (c.last_sparse.ensures.found c.if-not-last_sparse.false)) c.move_found.ensures.stood c.move_found.ensures.moves c.move_found.ensures.frame))
 
-pub returns-in_err-move_found-clause-left : goal.returns-in_err-move_found-clause-left
-returns-in_err-move_found-clause-left g c = by_err c.from_residual.result (λ given fills.
-    c.in_err-move_found.ensures.left given (subst (Fills given) (sym c.note.ensures) (c.loop.invariant.rearranged.moves given fills).fills))
-
 pub loop-preserved : goal.loop-preserved
 loop-preserved g c = record {
   rearranged = rearranged_then c.loop.invariant.rearranged (rearranged_then (rearranged_same (c.last_sparse.ensures.same ∙ c.cell-top.ensures.same) c.note.ensures)
       (rearranged_found (found_on c.cell-top.ensures.same c.cell-top.ensures.value c.last_sparse.ensures.same c.note.ensures (c.last_sparse.ensures.found c.if-not-last_sparse.false)) c.move_found.ensures.stood c.move_found.ensures.moves c.move_found.ensures.frame));
   ready = c.move_found.ensures.ready;
 }
-
-pub returns-then-not-walk-clause-rearranged : goal.returns-then-not-walk-clause-rearranged
-returns-then-not-walk-clause-rearranged g c =
-    rearranged_then c.loop.invariant.rearranged (rearranged_then (rearranged_same (c.last_sparse.ensures.same ∙ c.cell-top.ensures.same) c.note.ensures)
-    (rearranged_found (found_on c.cell-top.ensures.same c.cell-top.ensures.value c.last_sparse.ensures.same c.note.ensures (c.last_sparse.ensures.found c.if-not-last_sparse.false)) c.move_found.ensures.stood c.move_found.ensures.moves c.move_found.ensures.frame))

@@ -1,0 +1,117 @@
+-- The way down along a path: from a branch to one of its twigs.
+use Rattle.std.proofs.Common.{◌≡◌, ℕ, suc, ◌+◌, ◌<◌, ◌≤◌, ◌^◌, ◌++◌, List, [], ◌∷◌, count_ones, arith, refl, sym, ◌∙◌, ap, subst}
+use Rattle.packed_node.specs.declared.Cell.{Cell}
+use Rattle.packed_node.specs.declared.Branch.{Branch}
+use Rattle.packed_node.specs.declared.Node.{Node}
+use Rattle.packed_node.specs.declared.Node.TheVariants as node
+use Rattle.packed_node.specs.Nodes.{IsNode, packed}
+use Rattle.trie_model.specs.Keys.{Entry}
+use Rattle.trie_model.specs.Memory.{top_cell, node_of}
+use Rattle.trie_model.specs.Trees.{Tree, count}
+use Rattle.trie_model.specs.Trees.Tree.{branch}
+use Rattle.trie_model.proofs.NodeLaws.{BranchTold, branch_told, places_left, fewer_left}
+use Rattle.trie_read.specs.Reads.{IsTop}
+use Rattle.chunk_usage.specs.Ledger.{Ledger}
+use Rattle.trie_write.specs.Ways.{Fork, fork, plug, end_at}
+use Rattle.trie_write.proofs.PutLaws.{plug-append, end_at-append}
+use Rattle.evacuate.specs.Places.{moved, Stood, Hung, HangsIn, IsHung}
+use Rattle.evacuate.specs.Trails.{TwigsAt}
+use Rattle.evacuate.proofs.DescentLaws.{begins, hung_there, hung_says, hung_read}
+use Rattle.evacuate.proofs.TrailLaws.{TwigAt, early, late, twig_here, twig_top, read_is, row_inside, counted}
+use Rattle.evacuate.proofs.TreeLaws.{hung_tree, hung_hangs}
+
+-- ---- a walk that only reads
+
+-- the node of a tree's top
+pub record IsAt (has : ℕ → Cell → Type 0) (n : Node) : Type 0 where
+  pub low : ℕ
+  pub c : Cell
+  pub t : Tree
+  pub top : IsTop has low c t
+  pub is : n ≡ node_of t
+
+pub first_at : {has : ℕ → Cell → Type 0} {c : Cell} {t : Tree} {n : Node} → IsTop has 0 c t → ((m : Node) → IsNode m → packed m ≡ c → n ≡ m) → IsAt has n
+first_at {c = c} {t} top back = record { low = 0; c = c; t = t; top = top; is = read_is top back }
+
+module _ {has : ℕ → Cell → Type 0} {n : Node} (h : IsAt has n) (b : Branch) (is : n ≡ node.Branch b) where
+  pub told_at : BranchTold h.t b
+  told_at = branch_told h.t b (sym h.is ∙ is)
+
+  pub twig_at_turn : (i : ℕ) → i < count_ones b.bitmap → TwigAt has b.offset b.twigs i told_at.below
+  twig_at_turn i l = twig_here h.top told_at i l
+
+  pub fewer_at : (i : ℕ) (l : i < count_ones b.bitmap) {m : Node} → m ≡ node_of (twig_at_turn i l).t → places_left m < places_left n
+  fewer_at i l {m} e =
+      let x = twig_at_turn i l in
+      let f = fewer_left b.offset x.t b x.tree refl (early h.top told_at) in
+      let p = ap places_left e in let q = ap places_left is in omega arith
+
+-- ---- a walk that writes
+
+module _ {S : Type 0} {has : S → ℕ → Cell → Type 0} {s : S} {l : Ledger} {r at : ℕ} {es : List Entry} where
+  pub hangs_first : {t : Tree} {n : Node} → r ≡ at → Stood has s l r es t → n ≡ node_of t → HangsIn has s l r at es n
+  hangs_first {t} {n} e h is = record { way = []; t = t; hung = subst (λ q. Hung has s l r q es [] t) e (begins h); is = is }
+
+  module _ {n : Node} (h : HangsIn has s l r at es n) where
+    pub is_hung : {m : Node} → n ≡ m → IsHung has s l at m
+    is_hung e = record { r = r; es = es; way = h.way; t = h.t; hung = h.hung; is = sym e ∙ h.is }
+
+    pub stood_in : (u : Tree) × Stood has s l r es u
+    stood_in = (plug h.way h.t, h.hung.stood)
+
+    module _ (b : Branch) (is : n ≡ node.Branch b) where
+      pub branch_in : node.Branch b ≡ node_of h.t
+      branch_in = sym is ∙ h.is
+
+      pub told_in : BranchTold h.t b
+      told_in = branch_told h.t b (sym branch_in)
+
+      pub top_in : IsTop (has s) 0 (top_cell h.t) h.t
+      top_in = (hung_hangs h.hung).top
+
+      pub inside_in : b.twigs + count_ones b.bitmap ≤ 2 ^ 22
+      inside_in = let r = (row_inside top_in told_in).inside in let c = counted top_in told_in in omega arith
+
+      module _ (i : ℕ) (inside : i < count_ones b.bitmap) where
+        pub twig_in : TwigAt (has s) b.offset b.twigs i told_in.below
+        twig_in = twig_here top_in told_in i inside
+
+        abbrev below : Tree
+        below = twig_in.t
+
+        abbrev old_fork : Fork
+        old_fork = record { offset = b.offset; first = b.twigs; left = twig_in.left; position = twig_in.position; right = twig_in.right }
+
+        fork_is : h.t ≡ fork old_fork below
+        fork_is = told_in.is ∙ ap (branch b.offset b.twigs) twig_in.is
+
+        -- its twigs lie where they did, or elsewhere
+        module _ {s1 : S} {l1 : Ledger} {next : ℕ} (at_twig : TwigsAt has s1 l1 r at es h.way h.t i next) where
+          abbrev new_fork : Fork
+          new_fork = record old_fork { first = at_twig.to }
+
+          further_hung : Hung has s1 l1 r next es (h.way ++ (new_fork ∷ [])) below
+          further_hung = record {
+            stood = subst (Stood has s1 l1 r es) (ap (λ t. plug h.way (moved t at_twig.to)) fork_is ∙ sym (plug-append h.way (new_fork ∷ []) below)) at_twig.hung.stood;
+            at_is = at_twig.twig_is ∙ ap (λ (k : ℕ). at_twig.to + k) (sym twig_in.place) ∙ sym (end_at-append r h.way (new_fork ∷ []) ∙ ap (λ q. end_at q (new_fork ∷ [])) (sym at_twig.hung.at_is));
+          }
+
+          pub further_in : has s1 next (top_cell below)
+          further_in = hung_there further_hung
+
+          pub says_in : {c : Cell} → c ≡ top_cell below → (m : Node) × IsNode m × (packed m ≡ c)
+          says_in = hung_says further_hung
+
+          pub hangs_further : {s2 : S} {c : Cell} {m : Node} → s2 ≡ s1 → c ≡ top_cell below → ((k : Node) → IsNode k → packed k ≡ c → m ≡ k) → HangsIn has s2 l1 r next es m
+          hangs_further {s2} {c} {m} same read back = record {
+            way = h.way ++ (new_fork ∷ []);
+            t = below;
+            hung = subst (λ s. Hung has s l1 r next es (h.way ++ (new_fork ∷ [])) below) (sym same) further_hung;
+            is = hung_read further_hung read back;
+          }
+
+          pub fewer_in : {c : Cell} {m : Node} → c ≡ top_cell below → ((k : Node) → IsNode k → packed k ≡ c → m ≡ k) → places_left m < places_left n
+          fewer_in {c} {m} read back =
+              let f = fewer_left b.offset below b twig_in.tree refl (early top_in told_in) in
+              let x = ap places_left (hung_read further_hung read back) in
+              let y = ap places_left is in omega arith

@@ -1,0 +1,13 @@
+use Rattle.std.proofs.Common.{sym, ◌∙◌, subst}
+use Rattle.trie_model.proofs.NodeLaws.{leaf_said}
+use Rattle.evacuate.specs.Places.{Hung}
+use Rattle.evacuate.proofs.TrailLaws.{leaf_item}
+use Rattle.evacuate.proofs.TreeLaws.{hung_hangs}
+use Rattle.evacuate.proofs.along.end_along.Goals as goal
+
+pub is_item_sparse-requires : goal.is_item_sparse-requires
+is_item_sparse-requires g c = record { there = leaf_item (hung_hangs c.requires.hung.hung).top (leaf_said c.requires.hung.t c.in-Leaf.leaf (sym c.requires.hung.is ∙ c.in-Leaf.is)) }
+
+pub returns-then-is_item_sparse-clause-stood : goal.returns-then-is_item_sparse-clause-stood
+returns-then-is_item_sparse-clause-stood g c r es way t h is =
+    c.move_item.ensures.stood r es way t (subst (λ s. Hung g.C.CellRead.has s c.args.usage.now r c.args.at es way t) (sym c.is_item_sparse.ensures.same) h) (sym c.in-Leaf.is ∙ is)
