@@ -37,8 +37,9 @@ pub record IsUnder (asks holds : Known) : Type 0 where
   pub opening : first_version holds.seen ≡ first_version asks.seen
   pub history : StartsWith asks.seen.history holds.seen.history
 
--- The pass of this number has committed a block: the history has operations of it, no more than it asks for, behind those of the base, which has of the
--- pass's commits those that it made before. The version that stands as the base becomes what the block makes of it.
+-- The pass of this number has committed a block: the history has operations of it, no more than it asks for, behind those of the
+-- base, which has of the pass's commits those that it made before. The version that stands as the base becomes what the block makes
+-- of it.
 pub record Adds (s : Setup) (own : PassView (List Operation)) (c : Command) (version : ℕ) (old new : Known) : Type 0 where
   pub base : List Commit
   pub operations : List Operation
