@@ -22,11 +22,13 @@ mod summary;
 pub use commands::{Block, Command, Job, Question, Stretch, Worker};
 pub use laws::jobs_are_spelled;
 pub use needs::{Needs, needs_of};
-pub use outcomes::{Cause, FedOutcome, Outcome, Outcomes, Told, any_fed_refused, any_refused};
+pub use outcomes::{
+    Cause, FedOutcome, Outcome, Outcomes, Told, any_fed_refused, any_refused, is_refused,
+};
 pub use parts::{Parts, split};
 pub use printed::{PrintedRows, push_answer, push_dump};
-pub use refusal::JobRefusal;
+pub use refusal::{JobRefusal, refused, too_many};
 pub use replies::{push_back, push_found, push_size, push_walk};
-pub use report::{print_fed, print_outcomes, print_report};
-pub use script::{read_job, read_list};
+pub use report::{print_fed, print_outcomes, print_report, push_told};
+pub use script::{Script, Unfinished, read_job, read_list, script_line};
 pub use summary::print_summary;

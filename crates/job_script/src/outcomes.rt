@@ -65,8 +65,8 @@ pub(crate) fn is_committed(outcome: &Outcome) -> bool
     }
 }
 
-// Whether a transaction was refused.
-pub(crate) fn is_refused(outcome: &Outcome) -> bool
+/// Whether a transaction was refused.
+pub fn is_refused(outcome: &Outcome) -> bool
     ensures { result ≡ is_refused (ended_view outcome.now.told) }
 {
     match &outcome.told {

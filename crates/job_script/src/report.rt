@@ -74,7 +74,8 @@ fn push_refused(out: &mut Vec<u8>, cause: &Cause) -> Result<(), AllocError>
     out.extend_from_slice(b"\n")
 }
 
-fn push_told(out: &mut Vec<u8>, told: &Told) -> Result<(), AllocError>
+/// What is printed of what a command came to, behind its version.
+pub fn push_told(out: &mut Vec<u8>, told: &Told) -> Result<(), AllocError>
     ensures { OnOk result (out.new.items ≡ out.old.items ++ told_text told.now) }
 {
     match told {

@@ -88,9 +88,9 @@ fn take_tokens(
     }
 }
 
-// The line that begins at a place; the place where the next one begins. Its tokens lie in memory that is lent.
+/// Takes the line that begins at a place, and tells where the next one begins. Its tokens lie in memory that is lent.
 #[tactic(auto, unfolding(job_model::specs::Jobs::script_line))]
-fn script_line(
+pub fn script_line(
     script: &mut Script,
     alloc: Global,
     bytes: &[u8],
