@@ -1,0 +1,4 @@
+pub mod Commands
+pub mod Tables
+pub mod Outcomes
+pub mod Reports
