@@ -1,0 +1,4 @@
+pub mod LineLemmas
+pub mod CutLemmas
+pub mod ListLemmas
+pub mod PartLemmas

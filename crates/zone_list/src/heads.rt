@@ -1,0 +1,51 @@
+//! The first line of a part.
+ghost use Rattle.std.specs.Prelude.{◌≡◌, ◌≤◌, ◌<◌, ◌∷◌, [], ◌^◌, List, length, map};
+ghost use Rattle.std.specs.List.{All};
+ghost use Rattle.zone_model.specs.Lines.{lines_of};
+ghost use Rattle.zone_text.specs.Places.{first_line};
+ghost use Rattle.zone_text.specs.Tokens.{IsPlaced, token_view};
+ghost use Rattle.zone_text.specs.Views.{Reads};
+ghost use Rattle.zone_list.specs.Lists.{is_head, origin_word, head_says};
+
+use dns_name::Name;
+use master_file::name_word;
+use std::alloc::Global;
+use zone_model::ZoneKind;
+use zone_text::{Token, ZoneRefusal, refuse, scan_entry};
+
+/// Whether a line begins a part.
+pub fn is_head(line: &[u8]) -> bool
+    ensures { result ≡ is_head line.now }
+{
+    if line.len() < 6 {
+        return false;
+    }
+    &line[..5] == b"%zone".as_slice() && (line[5] == b' ' || line[5] == b'\t')
+}
+
+// The origin that the tokens of a first line say.
+fn origin_word(bytes: &[u8], tokens: &[Token]) -> Result<Name, ZoneRefusal>
+    requires { All (IsPlaced bytes.now) tokens.now }
+    ensures { Reads result (λ n. n) (origin_word (map (token_view bytes.now) tokens.now)) }
+{
+    if tokens.len() != 2 {
+        return Err(refuse(0, ZoneKind::BadToken));
+    }
+    match name_word(bytes, &Name::root(), tokens[1]) {
+        Some(origin) => Ok(origin),
+        None => Err(refuse(0, ZoneKind::BadName)),
+    }
+}
+
+/// The origin that the one line of a text says.
+#[tactic(auto, unfolding(crate::specs::Lists::head_says))]
+pub fn head_says(alloc: Global, head: &[u8]) -> Result<Name, ZoneRefusal>
+    requires short { length head.now ≤ 2 ^ 24 }
+    requires line { lines_of head.now ≡ first_line head.now ∷ [] }
+    ensures { Reads result (λ n. n) (head_says (first_line head.now)) }
+{
+    match scan_entry(Vec::new(alloc), head, 0, 0) {
+        Ok(entry) => origin_word(head, &entry.tokens),
+        Err(refusal) => Err(refusal),
+    }
+}

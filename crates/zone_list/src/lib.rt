@@ -1,0 +1,14 @@
+//! Inputs of several zones: parts, each of which begins with a line that names its zone's origin.
+#![tactic(auto)]
+
+mod heads;
+pub mod laws;
+mod lists;
+mod parts;
+mod refusal;
+
+pub use lists::read_zones;
+pub use refusal::{ListKind, ListRefusal};
+
+#[cfg(test)]
+mod tests;
