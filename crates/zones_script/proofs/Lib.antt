@@ -1,0 +1,3 @@
+pub mod AloneLemmas
+pub mod ListLemmas
+pub mod ReadLemmas

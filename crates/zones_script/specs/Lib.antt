@@ -1,0 +1,5 @@
+pub mod Phrases
+pub mod Scripts
+pub mod Jobs
+pub mod Told
+pub mod Views

@@ -1,0 +1,82 @@
+-- Scripts over zones as the definitions see them.
+use Rattle.std.specs.Prelude.{◌≡◌, ℕ, List, ◌∷◌, map, drop, Result, Ok, Err}
+use Rattle.std.specs.Option.{option_map}
+use Rattle.zone_model.specs.Refusals.{Refused}
+use Rattle.zone_model.specs.Lines.{lines_of}
+use Rattle.zone_text.specs.Tokens.{IsPlaced, token_view}
+use Rattle.job_model.specs.declared.ScriptKind.{ScriptKind}
+use Rattle.job_script.specs.Views.{asked_view}
+use Rattle.job_script.specs.Scripts as alone
+use Rattle.job_script.specs.declared.refusal.JobRefusal.{JobRefusal}
+use Rattle.job_script.specs.declared.refusal.JobRefusal.TheVariants as stops
+use Rattle.zones_model.specs.Commands as says
+use Rattle.zones_script.specs.Phrases as phrases
+use Rattle.zones_script.specs.Scripts as zones
+use Rattle.zones_script.specs.declared.commands.Command.{Command}
+use Rattle.zones_script.specs.declared.commands.Command.TheVariants as command
+use Rattle.zones_script.specs.declared.commands.Worker.{Worker}
+use Rattle.zones_script.specs.declared.commands.ZonesScript.{ZonesScript}
+use Rattle.zones_script.specs.declared.phrases.Phrase.{Phrase}
+use Rattle.zones_script.specs.declared.phrases.Phrase.TheVariants as phrase
+use Rattle.zones_script.specs.declared.script.Chosen.{Chosen}
+use Rattle.zones_script.specs.declared.script.OpenBlock.{OpenBlock}
+use Rattle.zones_script.specs.declared.script.Script.{Script}
+
+-- ---- commands
+
+abbrev pub command_view : Command → says.Command
+command_view (command.Get name rtype) = says.Get name rtype
+command_view (command.Block zone block) = says.Block zone block.weight (asked_view block) block.ending
+command_view (command.Attach zone) = says.Attach zone
+command_view (command.Detach zone) = says.Detach zone
+
+abbrev pub worker_view : Worker → List says.Command
+worker_view w = map command_view w.commands.items
+
+abbrev pub workers_view : ZonesScript → List (List says.Command)
+workers_view s = map worker_view s.workers.items
+
+-- ---- phrases
+
+abbrev pub phrase_view : List ℕ → Phrase → phrases.Phrase
+phrase_view bytes phrase.Worker = phrases.Worker
+phrase_view bytes (phrase.Gets name rtype) = phrases.Gets (token_view bytes name) (token_view bytes rtype)
+phrase_view bytes (phrase.Opens weight origin) = phrases.Opens weight (token_view bytes origin)
+phrase_view bytes (phrase.Attaches origin) = phrases.Attaches (token_view bytes origin)
+phrase_view bytes (phrase.Detaches origin) = phrases.Detaches (token_view bytes origin)
+
+-- the tokens lie inside the bytes
+abbrev pub PhrasePlaced : List ℕ → Phrase → Type 0
+PhrasePlaced bytes phrase.Worker = Unit {0}
+PhrasePlaced bytes (phrase.Gets name rtype) = IsPlaced bytes name × IsPlaced bytes rtype
+PhrasePlaced bytes (phrase.Opens _ origin) = IsPlaced bytes origin
+PhrasePlaced bytes (phrase.Attaches origin) = IsPlaced bytes origin
+PhrasePlaced bytes (phrase.Detaches origin) = IsPlaced bytes origin
+
+-- ---- scripts
+
+abbrev pub chosen_view : Chosen → zones.Chosen
+chosen_view c = record { zone = c.zone; origin = c.origin }
+
+abbrev pub open_view : OpenBlock → zones.OpenBlock
+open_view b = record { chosen = chosen_view b.chosen; alone = alone.script_view b.alone }
+
+abbrev pub script_view : Script → zones.Script
+script_view s = record {
+  earlier = map worker_view s.earlier.items;
+  begun = s.begun;
+  commands = map command_view s.commands.items;
+  block = option_map open_view s.block;
+}
+
+-- the script has come as far as is wanted
+abbrev pub ScriptReads : {R : Type 0} → Result R JobRefusal → zones.Script → Result zones.Script (Refused ScriptKind) → Type 0
+ScriptReads (Ok r) new wanted = wanted ≡ Ok new
+ScriptReads (Err stops.Memory) new wanted = Unit {0}
+ScriptReads (Err (stops.Refused line kind)) new wanted = wanted ≡ Err (record { line = line; kind = kind })
+
+-- one line was taken, which says this, and the others begin at a place
+abbrev pub LineSteps : Result ℕ JobRefusal → List ℕ → ℕ → (List ℕ → Result zones.Script (Refused ScriptKind)) → zones.Script → Type 0
+LineSteps (Ok next) bytes at says new = (text : List ℕ) × (lines_of (drop at bytes) ≡ text ∷ lines_of (drop next bytes)) × (says text ≡ Ok new)
+LineSteps (Err stops.Memory) bytes at says new = Unit {0}
+LineSteps (Err (stops.Refused n kind)) bytes at says new = (text : List ℕ) × (rest : List (List ℕ)) × (lines_of (drop at bytes) ≡ text ∷ rest) × (says text ≡ Err (record { line = n; kind = kind }))
