@@ -1,0 +1,68 @@
+-- Zones that are opened, one after another.
+use Rattle.std.proofs.Common.{◌≡◌, ◌∙◌, inl, inr, ℕ, ◌+◌, List, [], ◌∷◌, ◌++◌, length, Some, arith, sym, ap, subst, length-append}
+use Rattle.std.specs.List.{Contains, slice_get}
+use Rattle.std.specs.Prelude.{Result, Ok, Err, IfOk, IfErr, MatchResult}
+use Rattle.std.proofs.Common.{map}
+use Rattle.std.proofs.lemmas.List.{length-map, map-append}
+use Rattle.std.proofs.lemmas.Option.{slice_get_within}
+use Rattle.shared_cells.specs.declared.view.TableSize.{TableSize}
+use Rattle.zone_table.specs.declared.opening.ZoneItems.{ZoneItems}
+use Rattle.zone_table.specs.declared.opening.ZonesRefusal.{ZonesRefusal}
+use Rattle.zone_table.specs.declared.opening.ZonesRefusal.TheVariants.{Memory}
+use Rattle.zone_table.proofs.RefusalLaws.{places_more, places_count}
+use Rattle.shared_index.specs.declared.meaning.Named.{Ghosts}
+use Rattle.zone_table.specs.declared.opening.Opened.{Opened}
+use Rattle.zone_table.specs.Openings.{Place, places_of, entries_in, MayFit, IsBegun, AreBegun, RefusesZones}
+use Rattle.zone_table.proofs.Lists.{place_in, last_or_before, get_in}
+
+module _ {X Y : Type 0} {N : Ghosts Y} where
+  pub none_begun : (places : List Place) (opened : List (Opened X Y N)) → places ≡ [] → opened ≡ [] → AreBegun places opened
+  none_begun places opened p o = record {
+    count = ap length o ∙ sym (ap length p);
+    each = λ k q x iq ix. absurd (let bad : slice_get {X = Place} [] k ≡ Some q = sym (ap (λ (l : List Place). slice_get l k) p) ∙ iq in cc);
+  }
+
+  -- and one more
+  pub one_begun : (front : List Place) (others : List (Opened X Y N)) (p : Place) (o : Opened X Y N) → AreBegun front others → IsBegun (length front + 1) p.size (entries_in p.zone) o → AreBegun (front ++ p ∷ []) (others ++ o ∷ [])
+  one_begun front others p o h b = record {
+    count = (let a = length-append front (p ∷ []) in let c = length-append others (o ∷ []) in let n = h.count in omega arith);
+    each = λ k q x iq ix. elim (last_or_before front p q k iq) [
+      | inl l ↦ elim (last_or_before others o x k ix) [
+        | inl m ↦ h.each k q x l.1 m.1
+        | inr m ↦ absurd (let a = m.0 in let c = l.0 in let n = h.count in omega arith)
+      ]
+      | inr l ↦ elim (last_or_before others o x k ix) [
+        | inl m ↦ absurd (let a = m.0 in let c = l.0 in let n = h.count in omega arith)
+        | inr m ↦ subst (λ (z : Opened X Y N). IsBegun (k + 1) q.size (entries_in q.zone) z) m.1
+            (subst (λ (z : Place). IsBegun (k + 1) z.size (entries_in z.zone) o) l.1 (subst (λ (n : ℕ). IsBegun (n + 1) p.size (entries_in p.zone) o) (sym l.0) b))
+      ]
+    ];
+  }
+
+  -- so each of them fits
+  pub begun_fit : (places : List Place) (opened : List (Opened X Y N)) → AreBegun places opened → (p : Place) → Contains places p → MayFit p
+  begun_fit places opened h p c =
+      let at = place_in places p c in
+      let o = get_in opened at.0 (let n = h.count in let l = at.1 in omega arith) in
+      let b = h.each at.0 p o.0 at.2 o.1 in
+      inl b.fits
+
+-- what is told so far
+pub so_far_is : {T : Type 0} (places : List Place) (r : Result T ZonesRefusal) (told : ZonesRefusal) → MatchResult r (λ _. told ≡ Memory) (λ e. told ≡ e) → IfOk r (λ _. (p : Place) → Contains places p → MayFit p) → IfErr r (RefusesZones places) → RefusesZones places told
+so_far_is places (Ok x) told is fit refused = subst (RefusesZones places) (sym is) fit
+so_far_is places (Err e) told is fit refused = subst (RefusesZones places) (sym is) refused
+
+module _ {B : Type 0} (key : B → TableSize) (zones : List ZoneItems) (blanks front : List B) (blank : B) (z : ZoneItems) (is : blanks ≡ front ++ blank ∷ []) (there : slice_get zones (length front) ≡ Some z) where
+  abbrev pub last_place : Place
+  last_place = record { zone = z; size = key blank }
+
+  pub sizes_count : length (map key front) ≡ length front
+  sizes_count = length-map front key
+
+  pub places_are : places_of zones (map key blanks) ≡ places_of zones (map key front) ++ last_place ∷ []
+  places_are =
+      ap (λ (l : List B). places_of zones (map key l)) is ∙ ap (places_of zones) (map-append key front (blank ∷ []))
+      ∙ places_more zones (map key front) last_place (ap (slice_get zones) sizes_count ∙ there)
+
+  pub front_places : length (places_of zones (map key front)) ≡ length front
+  front_places = let l = slice_get_within zones (length front) z there in let n = sizes_count in places_count zones (map key front) (omega arith) ∙ n

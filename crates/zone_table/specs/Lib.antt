@@ -1,0 +1,9 @@
+pub mod Tables
+pub mod Locations
+pub mod Passes
+pub mod Lends
+pub mod Notes
+pub mod Openings
+pub mod Changes
+pub mod Dealings
+pub mod Endings

@@ -1,0 +1,66 @@
+-- How zones are opened, and why they aren't.
+use Rattle.std.specs.Prelude.{◌≡◌, ℕ, ◌+◌, ◌≤◌, List, [], ◌∷◌, length, map, All, Contains, IsSome, Some, slice_get}
+use Rattle.std.specs.declared.cmp.Ordering.TheVariants.{Less}
+use Rattle.zone_model.specs.Names.{Name, name_cmp}
+use Rattle.trie_model.specs.Keys.{Entry}
+use Rattle.trie_model.specs.Shape.{cells}
+use Rattle.trie_write.specs.Entries.{entries_of_items}
+use Rattle.shared_cells.specs.declared.view.TableSize.{TableSize}
+use Rattle.shared_index.specs.declared.meaning.Named.{Ghosts}
+use Rattle.shared_index.specs.declared.opening.OpenRefusal.TheVariants as refusal
+use Rattle.shared_index.specs.Closings.{AreAll}
+use Rattle.shared_index.specs.Openings.{Refuses, SeesFirst, room_in}
+use Rattle.shared_index.specs.Passes.{known_at, commits_in, pinned_in}
+use Rattle.zone_table.specs.declared.opening.Opened.{Opened}
+use Rattle.zone_table.specs.declared.opening.ZoneItems.{ZoneItems}
+use Rattle.zone_table.specs.declared.opening.ZonesRefusal.{ZonesRefusal}
+use Rattle.zone_table.specs.declared.opening.ZonesRefusal.TheVariants.{Full, Memory}
+
+abbrev pub origins_of : List ZoneItems → List Name
+origins_of zones = map (λ (z : ZoneItems). z.origin) zones
+
+abbrev pub entries_in : ZoneItems → List Entry
+entries_in z = entries_of_items z.items.items
+
+-- what a zone is opened on: its items, and a table of this size
+pub record Place : Type 0 where
+  pub zone : ZoneItems
+  pub size : TableSize
+
+-- of each zone, as far as there are tables
+abbrev pub places_of : List ZoneItems → List TableSize → List Place
+places_of [] sizes = []
+places_of (z ∷ zones) [] = []
+places_of (z ∷ zones) (s ∷ sizes) = record { zone = z; size = s } ∷ places_of zones sizes
+
+-- its trie may fit: it isn't refused as full
+abbrev pub MayFit : Place → Type 0
+MayFit p = Refuses p.size.chunks (entries_in p.zone) refusal.Memory
+
+-- The zone of this number is refused as full, with these numbers, and none whose origin comes before its own in canonical order is.
+pub record IsFirstFull (places : List Place) (zone needed limit : ℕ) : Type 0 where
+  pub place : Place
+  pub there : slice_get places zone ≡ Some place
+  pub full : Refuses place.size.chunks (entries_in place.zone) (refusal.Full needed limit)
+  pub first : (other : Place) → Contains places other → name_cmp other.zone.origin place.zone.origin ≡ Less → MayFit other
+
+-- The first zone that is refused as full; or none is, and memory is wanting.
+abbrev pub RefusesZones : List Place → ZonesRefusal → Type 0
+RefusesZones places (Full zone needed limit) = IsFirstFull places zone needed limit
+RefusesZones places Memory = (p : Place) → Contains places p → MayFit p
+
+-- An index that has this place among those that are named, with these entries as version 0 and a table of this size. All its passes are there,
+-- and none has committed or asked.
+pub record IsBegun {X Y : Type 0} {N : Ghosts Y} (number : ℕ) (size : TableSize) (es : List Entry) (o : Opened X Y N) : Type 0 where
+  pub place : o.index.place ≡ number
+  pub size_is : o.index.shared.table.shared.key ≡ size
+  pub passes : All (λ p. (IsSome p.seat) × (p.place ≡ number) × SeesFirst es (known_at p.seat)) o.passes.items
+  pub unused : All (λ p. (commits_in (known_at p.seat).pass ≡ []) × (pinned_in (known_at p.seat).pass ≡ [])) o.passes.items
+  pub count : length o.passes.items ≡ size.passes
+  pub all : AreAll size.passes (map (λ p. known_at p.seat) o.passes.items)
+  pub fits : cells es ≤ room_in size.chunks
+
+-- each zone's, by their numbers
+pub record AreBegun {X Y : Type 0} {N : Ghosts Y} (places : List Place) (opened : List (Opened X Y N)) : Type 0 where
+  pub count : length opened ≡ length places
+  pub each : (k : ℕ) (p : Place) (o : Opened X Y N) → slice_get places k ≡ Some p → slice_get opened k ≡ Some o → IsBegun (k + 1) p.size (entries_in p.zone) o

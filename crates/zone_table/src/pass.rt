@@ -1,0 +1,33 @@
+//! A pass of the zones: one of the table and one of each zone.
+ghost use Rattle.std.specs.Prelude.{◌≡◌, ◌<◌, ◌+◌, Some, IsSome, length, slice_get};
+ghost use Rattle.std.specs.Borrow.{sem};
+ghost use Rattle.shared_index.specs.Passes.{known_at};
+ghost use Rattle.zone_table.specs.Passes.{IsPassOf, zone_known};
+ghost use Rattle.zone_table.specs.Lends.{lends_zone};
+
+use crate::zones::Zones;
+use shared_index::{Law, Named, Pass};
+
+/// A reader's place in the table and in each zone. It asks one thing at a time; it may go to another thread.
+#[derive(Drop)]
+pub struct ZonesPass<N: Named> {
+    pub(crate) table: Pass<N>,
+    /// One for each zone, in the order of their numbers.
+    pub(crate) zones: Vec<Pass<N>>,
+}
+
+impl<N: Named> ZonesPass<N> {
+    /// Its pass of a zone, for queries and transactions of that zone's index.
+    pub fn zone<L: Law>(&mut self, zones: &Zones<L, N>, zone: u32) -> &mut Pass<N>
+        requires pass { IsPassOf zones.now.origins.items self.old }
+        requires zone { zone < length zones.now.origins.items }
+        ensures* writes_back { sem 𝓛 (lends_zone N.row N.Named self.entry zone result) }
+        ensures value { slice_get self.old.zones.items zone ≡ Some result.now }
+        ensures here { IsSome result.now.seat }
+        ensures place { result.now.place ≡ zone + 1 }
+        ensures known { known_at result.now.seat ≡ zone_known self.old zone }
+    {
+        let _zones = zones;
+        &mut self.zones[zone as usize]
+    }
+}
