@@ -1,0 +1,247 @@
+//! What is printed of commands over several zones.
+ghost use Rattle.std.specs.Prelude.{◌≡◌, ◌++◌, ◌+◌, List, OnOk, IfOk, codes, decimal};
+ghost use Rattle.zones_model.specs.Reports.{change_text, ends_text, table_cause_text, table_end, table_head, zone_end};
+ghost use Rattle.zones_report.specs.Texts.{all_text, answer_text, done_text, dones_text, ends_of, finished_text, origin_text, ran_text, zone_version};
+
+use crate::outcomes::{Answer, Done, DoneList, ZonesFinished};
+use dns_name::Name;
+use job_script::{Outcome, push_told};
+use std::alloc::{AllocError, Global};
+use std::collections::BTreeMap;
+use zone_text::push_decimal;
+use zones_model::TableCause;
+
+// Worker, command and the table's version.
+fn push_table_head(
+    out: &mut Vec<u8>,
+    worker: u64,
+    command: u64,
+    table: u64,
+) -> Result<(), AllocError>
+    ensures { OnOk result (out.new.items ≡ out.old.items ++ table_head worker command table) }
+{
+    push_decimal(out, worker)?;
+    out.extend_from_slice(b".")?;
+    push_decimal(out, command)?;
+    out.extend_from_slice(b" t")?;
+    push_decimal(out, table)?;
+    out.extend_from_slice(b" ")
+}
+
+// A zone's origin; the root where there is no zone of the number.
+fn push_origin(out: &mut Vec<u8>, origins: &[Name], number: u32) -> Result<(), AllocError>
+    ensures { OnOk result (out.new.items ≡ out.old.items ++ origin_text origins.now number) }
+{
+    match origins.get(number as usize) {
+        Some(origin) => origin.push_text(out),
+        None => Name::root().push_text(out),
+    }
+}
+
+// A zone's origin and a version of it.
+fn push_zone_version(
+    out: &mut Vec<u8>,
+    origins: &[Name],
+    zone: u32,
+    version: u64,
+) -> Result<(), AllocError>
+    ensures { OnOk result (out.new.items ≡ out.old.items ++ zone_version origins.now zone version) }
+{
+    push_origin(out, origins, zone)?;
+    out.extend_from_slice(b" v")?;
+    push_decimal(out, version)?;
+    out.extend_from_slice(b" ")
+}
+
+// The answer of the zone that the table has for the name, if it has one.
+fn push_answer(
+    out: &mut Vec<u8>,
+    origins: &[Name],
+    answer: &Option<Answer>,
+) -> Result<(), AllocError>
+    ensures { OnOk result (out.new.items ≡ out.old.items ++ answer_text origins.now answer.now) }
+{
+    match answer {
+        None => out.extend_from_slice(b"NOZONE\n"),
+        Some(answer) => {
+            push_zone_version(out, origins, answer.zone, answer.outcome.version)?;
+            push_told(out, &answer.outcome.told)
+        }
+    }
+}
+
+// How a transaction of a zone ended.
+fn push_ran(
+    out: &mut Vec<u8>,
+    origins: &[Name],
+    worker: u64,
+    command: u64,
+    zone: u32,
+    outcome: &Outcome,
+) -> Result<(), AllocError>
+    ensures { OnOk result (out.new.items ≡ out.old.items ++ ran_text origins.now worker command zone outcome.now) }
+{
+    push_decimal(out, worker)?;
+    out.extend_from_slice(b".")?;
+    push_decimal(out, command)?;
+    out.extend_from_slice(b" ")?;
+    push_zone_version(out, origins, zone, outcome.version)?;
+    push_told(out, &outcome.told)
+}
+
+fn push_cause(out: &mut Vec<u8>, cause: TableCause) -> Result<(), AllocError>
+    ensures { OnOk result (out.new.items ≡ out.old.items ++ table_cause_text cause) }
+{
+    match cause {
+        TableCause::Exists => out.extend_from_slice(b"exists"),
+        TableCause::Missing => out.extend_from_slice(b"missing"),
+        TableCause::Spent => out.extend_from_slice(b"spent"),
+    }
+}
+
+fn push_refused(out: &mut Vec<u8>, cause: TableCause) -> Result<(), AllocError>
+    ensures { OnOk result (out.new.items ≡ out.old.items ++ (codes "REFUSED " ++ table_cause_text cause ++ codes "\n")) }
+{
+    out.extend_from_slice(b"REFUSED ")?;
+    push_cause(out, cause)?;
+    out.extend_from_slice(b"\n")
+}
+
+// How a change of the table ended: by a word, where it was made.
+fn push_change(
+    out: &mut Vec<u8>,
+    word: &[u8],
+    refused: Option<TableCause>,
+) -> Result<(), AllocError>
+    ensures { OnOk result (out.new.items ≡ out.old.items ++ change_text word.now refused) }
+{
+    match refused {
+        Some(cause) => push_refused(out, cause),
+        None => {
+            out.extend_from_slice(word)?;
+            out.extend_from_slice(b"\n")
+        }
+    }
+}
+
+fn push_done(
+    out: &mut Vec<u8>,
+    origins: &[Name],
+    worker: u64,
+    command: u64,
+    done: &Done,
+) -> Result<(), AllocError>
+    ensures { OnOk result (out.new.items ≡ out.old.items ++ done_text origins.now worker command done.now) }
+{
+    match done {
+        Done::Got { table, answer } => {
+            push_table_head(out, worker, command, *table)?;
+            push_answer(out, origins, answer)
+        }
+        Done::Ran { zone, outcome } => push_ran(out, origins, worker, command, *zone, outcome),
+        Done::Attached { table, refused } => {
+            push_table_head(out, worker, command, *table)?;
+            push_change(out, b"ATTACHED", *refused)
+        }
+        Done::Detached { table, refused } => {
+            push_table_head(out, worker, command, *table)?;
+            push_change(out, b"DETACHED", *refused)
+        }
+    }
+}
+
+fn push_dones(
+    out: &mut Vec<u8>,
+    origins: &[Name],
+    worker: u64,
+    list: &[Done],
+) -> Result<(), AllocError>
+    ensures { OnOk result (out.new.items ≡ out.old.items ++ dones_text origins.now worker 1 list.now) }
+{
+    for (place, done) in list.iter().enumerate() {
+        push_done(out, origins, worker, place as u64 + 1, done)?;
+    }
+    Ok(())
+}
+
+fn push_all(out: &mut Vec<u8>, origins: &[Name], workers: &[DoneList]) -> Result<(), AllocError>
+    ensures { OnOk result (out.new.items ≡ out.old.items ++ all_text origins.now 1 workers.now) }
+{
+    for (place, worker) in workers.iter().enumerate() {
+        push_dones(out, origins, place as u64 + 1, &worker.list)?;
+    }
+    Ok(())
+}
+
+// The table's last version, and how many zones it has.
+fn push_table_end(out: &mut Vec<u8>, last: u64, count: u64) -> Result<(), AllocError>
+    ensures { OnOk result (out.new.items ≡ out.old.items ++ table_end last count) }
+{
+    out.extend_from_slice(b"end t")?;
+    push_decimal(out, last)?;
+    out.extend_from_slice(b" zones ")?;
+    push_decimal(out, count)?;
+    out.extend_from_slice(b"\n")
+}
+
+// A zone's last version, and how many names it has.
+fn push_zone_end(out: &mut Vec<u8>, origin: &Name, last: u64, names: u64) -> Result<(), AllocError>
+    ensures { OnOk result (out.new.items ≡ out.old.items ++ zone_end origin.now last names) }
+{
+    out.extend_from_slice(b"end ")?;
+    origin.push_text(out)?;
+    out.extend_from_slice(b" v")?;
+    push_decimal(out, last)?;
+    out.extend_from_slice(b" names ")?;
+    push_decimal(out, names)?;
+    out.extend_from_slice(b"\n")
+}
+
+// The last versions and their numbers of names, by origin, in canonical order.
+fn ends_of(
+    alloc: Global,
+    origins: &[Name],
+    versions: &[u64],
+    names: &[u64],
+) -> Result<BTreeMap<Name, (u64, u64)>, AllocError>
+    ensures { IfOk result (λ by_origin. by_origin.entries ≡ ends_of origins.now versions.now names.now) }
+{
+    let Some((origin, other_origins)) = origins.split_first() else {
+        return Ok(BTreeMap::new(alloc));
+    };
+    let Some((version, other_versions)) = versions.split_first() else {
+        return Ok(BTreeMap::new(alloc));
+    };
+    let Some((count, other_names)) = names.split_first() else {
+        return Ok(BTreeMap::new(alloc));
+    };
+    let mut by_origin = ends_of(alloc, other_origins, other_versions, other_names)?;
+    by_origin.insert(*origin, (*version, *count))?;
+    Ok(by_origin)
+}
+
+fn push_ends(out: &mut Vec<u8>, ends: &BTreeMap<Name, (u64, u64)>) -> Result<(), AllocError>
+    ensures { OnOk result (out.new.items ≡ out.old.items ++ ends_text ends.now.entries) }
+{
+    for (origin, end) in ends {
+        push_zone_end(out, origin, end.0, end.1)?;
+    }
+    Ok(())
+}
+
+/// Prints what commands over the zones of these origins came to, worker by worker, the last version of the table, and the last version
+/// of each zone in the canonical order of their origins.
+pub fn print_zones(
+    alloc: Global,
+    origins: &[Name],
+    finished: &ZonesFinished,
+) -> Result<Vec<u8>, AllocError>
+    ensures { IfOk result (λ text. text.items ≡ finished_text origins.now finished.now) }
+{
+    let ends = ends_of(alloc, origins, &finished.versions, &finished.names)?;
+    let mut out = Vec::new(alloc);
+    push_all(&mut out, origins, &finished.done)?;
+    push_table_end(&mut out, finished.table, finished.attached)?;
+    push_ends(&mut out, &ends)?;
+    Ok(out)
+}

@@ -1,0 +1,95 @@
+-- What a change of the table is to its pass.
+use Rattle.std.proofs.Common.{◌≡◌, ◌∙◌, ℕ, Bool, true, false, List, [], ◌∷◌, length, Option, Some, None, Result, Ok, Err, refl, sym, ap, subst, length-append}
+use Rattle.std.specs.Prelude.{unwrap_or, IfSome}
+use Rattle.std.specs.List.{slice_get}
+use Rattle.zone_model.specs.Names.{Name}
+use Rattle.trie_model.specs.Keys.{Entry}
+use Rattle.shared_cells.specs.declared.view.Seen.{Seen}
+use Rattle.shared_cells.specs.History.{IsPartOf, OpeningFits, entry_of, version_after}
+use Rattle.shared_cells.specs.declared.view.PassView.{PassView}
+use Rattle.shared_cells.specs.Views.{is_told}
+use Rattle.shared_index.specs.declared.commit.Receipt.{Receipt}
+use Rattle.shared_index.specs.declared.meaning.Operation.{Operation}
+use Rattle.shared_index.specs.Operations.{applied}
+use Rattle.shared_index.specs.Passes.{Known, first_version}
+use Rattle.job_threads.proofs.HistoryLaws.{part_more}
+use Rattle.zone_table.specs.declared.change.TableRefusal.{TableRefusal}
+use Rattle.zone_table.specs.declared.change.TableRefusal.TheVariants as refusal
+use Rattle.zone_table.specs.Changes.{Attaches, Detaches, IsChanged, IsUnchanged}
+use Rattle.zone_table.specs.Tables.{IsAttached}
+use Rattle.zones_threads.specs.Changes.{cause_told, version_told}
+use Rattle.zones_threads.specs.Steps.{Changes, ChangeRan, IsOrNot, Stays, operation_for, other}
+
+abbrev Own : Type 0
+Own = PassView (List Operation)
+
+-- a change that was made
+made : (attaches : Bool) (meets : List Entry → Type 0) (origin : Name) (old new : Known) (number : ℕ) → (c : IsChanged meets old new (operation_for attaches origin) number) → ((es : List Entry) → meets es → IsOrNot (other attaches) es origin)
+    → (own : Own) → old.pass ≡ Some own → Changes attaches origin number own old new
+made attaches meets origin old new number c says own is =
+    let same : c.own ≡ own = (let e : Some c.own ≡ Some own = sym c.by ∙ is in cc) in
+    subst (λ (o : Own). Changes attaches origin number o old new) same (record {
+      base = c.base.history;
+      before = c.grows.history;
+      mine = c.mine;
+      history = c.history;
+      pass = c.pass;
+      numbered = c.number_is ∙ ap length c.history ∙ length-append c.base.history (entry_of c.own.number (operation_for attaches origin ∷ []) ∷ []);
+      was = says (version_after applied (first_version new.seen) c.base.history)
+          (subst meets (ap (λ (o : Option (List Entry)). version_after applied (unwrap_or o []) c.base.history) (sym c.opening)) c.met);
+    })
+
+-- who knows of no less knows of the opening
+opened_told : (all part : Seen (List Entry) (List Operation)) → is_told part.opening ≡ true → IsPartOf all part → is_told all.opening ≡ true
+opened_told all part told p = by_opening part.opening refl told
+  where
+    by_opening : (o : Option (List Entry)) → part.opening ≡ o → is_told o ≡ true → is_told all.opening ≡ true
+    by_opening None e t = absurd cc
+    by_opening (Some es) e t = ap (λ (x : Option (List Entry)). is_told x) (subst (λ (x : Option (List Entry)). OpeningFits all.opening x part) e p.opening)
+
+stays : (meets : List Entry → Type 0) (old new : Known) (number : ℕ) → IsUnchanged meets old new number → Stays number old new
+stays meets old new number u = record { version = u.number_is; pass = u.pass }
+
+-- it has seen no less
+changed_grows : (meets : List Entry → Type 0) (old new : Known) (o : Operation) (number : ℕ) → is_told old.seen.opening ≡ true → IsChanged meets old new o number → IsPartOf new.seen old.seen
+changed_grows meets old new o number told c = part_more new.seen c.base old.seen told (record {
+  opening = fits c.base.opening refl (opened_told c.base old.seen told c.grows);
+  history = (entry_of c.own.number (o ∷ []) ∷ [], c.history);
+  namings = c.namings;
+}) c.grows
+  where
+    fits : (x : Option (List Entry)) → c.base.opening ≡ x → is_told x ≡ true → OpeningFits new.seen.opening c.base.opening c.base
+    fits None is t = absurd cc
+    fits (Some es) is t = subst (λ (x : Option (List Entry)). OpeningFits new.seen.opening x c.base) (sym is) (c.opening ∙ is)
+
+-- ---- attached or detached, or not
+
+pub attach_ran : (origins : List Name) (zone : ℕ) (origin : Name) (old new : Known) (r : Result Receipt TableRefusal) → slice_get origins zone ≡ Some origin → is_told old.seen.opening ≡ true → Attaches origin old new r → ChangeRan origins true zone (version_told r) (cause_told r) old new
+attach_ran origins zone origin old new (Ok receipt) there told c = record {
+  origin = origin;
+  there = there;
+  grows = changed_grows (λ es. IsAttached es origin → ⊥) old new (operation_for true origin) receipt.version told c;
+  ends = λ own is. made true (λ es. IsAttached es origin → ⊥) origin old new receipt.version c (λ es h. h) own is;
+}
+attach_ran origins zone origin old new (Err (refusal.Exists number)) there told u =
+    record { origin = origin; there = there; grows = u.grows; ends = (stays (λ es. IsAttached es origin) old new number u, refl, u.met) }
+attach_ran origins zone origin old new (Err (refusal.Missing number)) there told u = absurd u
+attach_ran origins zone origin old new (Err (refusal.Spent number)) there told u =
+    record { origin = origin; there = there; grows = u.0.grows; ends = (stays (λ es. IsAttached es origin → ⊥) old new number u.0, u.1, u.0.met) }
+
+pub detach_ran : (origins : List Name) (zone : ℕ) (origin : Name) (old new : Known) (r : Result Receipt TableRefusal) → slice_get origins zone ≡ Some origin → is_told old.seen.opening ≡ true → Detaches origin old new r → ChangeRan origins false zone (version_told r) (cause_told r) old new
+detach_ran origins zone origin old new (Ok receipt) there told c = record {
+  origin = origin;
+  there = there;
+  grows = changed_grows (λ es. IsAttached es origin) old new (operation_for false origin) receipt.version told c;
+  ends = λ own is. made false (λ es. IsAttached es origin) origin old new receipt.version c (λ es h. h) own is;
+}
+detach_ran origins zone origin old new (Err (refusal.Exists number)) there told u = absurd u
+detach_ran origins zone origin old new (Err (refusal.Missing number)) there told u =
+    record { origin = origin; there = there; grows = u.grows; ends = (stays (λ es. IsAttached es origin → ⊥) old new number u, refl, u.met) }
+detach_ran origins zone origin old new (Err (refusal.Spent number)) there told u =
+    record { origin = origin; there = there; grows = u.0.grows; ends = (stays (λ es. IsAttached es origin) old new number u.0, u.1, u.0.met) }
+
+-- the zone is there
+pub if_there : {A : Type 0} (o : Option A) (x : A) (P : A → Type 0) → o ≡ Some x → IfSome o P → P x
+if_there o x P is h = subst (λ (y : Option _). IfSome y P) is h

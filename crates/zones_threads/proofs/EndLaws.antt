@@ -1,0 +1,139 @@
+-- How a run over several zones ends.
+use Rattle.std.proofs.Common.{◌≡◌, ◌∙◌, ⊎_elim, ℕ, ◌+◌, true, List, [], ◌∷◌, ◌++◌, length, map, Option, Some, refl, sym, ap, subst, arith, length-append}
+use Rattle.std.specs.Prelude.{Contains}
+use Rattle.std.specs.List.{AllByRecursion, slice_get}
+use Rattle.std.proofs.lemmas.List.{map-append}
+use Rattle.std.proofs.lemmas.Option.{slice_get_within, get_or_from_slice_get}
+use Rattle.pin_core.proofs.Lists.{contains_cases}
+use Rattle.zone_model.specs.MasterFile.{Zone}
+use Rattle.zone_model.specs.Names.{Name}
+use Rattle.job_model.specs.Outcomes as one
+use Rattle.trie_model.specs.Shape.{nodes, keys_of}
+use Rattle.shared_cells.specs.declared.view.PassView.{PassView}
+use Rattle.shared_cells.specs.declared.view.Progress.TheVariants as progress
+use Rattle.shared_cells.specs.History.{StartsWith}
+use Rattle.shared_cells.specs.Views.{number_of, is_told, with_pinned, with_progress}
+use Rattle.shared_index.specs.declared.meaning.Operation.{Operation}
+use Rattle.shared_index.specs.Closings.{AllSeen, AreAll, Ends}
+use Rattle.shared_index.specs.Passes.{Known, Pinned, version_seen}
+use Rattle.job_threads.specs.Closings.{numbers_in}
+use Rattle.job_threads.specs.Histories.{IsLawful, Setup, StandsAs}
+use Rattle.job_threads.specs.Runs.{IsRun}
+use Rattle.job_threads.proofs.CloseLaws.{in_map}
+use Rattle.job_threads.proofs.EndLaws.{job_ends, number_with}
+use Rattle.job_threads.proofs.HistoryLaws.{begins_more, opened_same}
+use Rattle.job_threads.proofs.JobLaws.{here, there}
+use Rattle.job_threads.proofs.WorkLaws.{all_weaker}
+use Rattle.zones_model.specs.Commands.{Command, origins_of}
+use Rattle.zones_model.specs.Outcomes as model
+use Rattle.zones_model.specs.Outcomes.{Last, TableLawful, ZonesLawful}
+use Rattle.zones_model.specs.Reports.{no_zone, set_of}
+use Rattle.zone_table.specs.Tables.{IsAmong, IsTable}
+use Rattle.zones_report.specs.declared.outcomes.DoneList.{DoneList}
+use Rattle.zones_threads.specs.Closings.{TableGathers, TableWorker, ZoneGathers, all_parts, dones_in, worker_views, zone_commands}
+use Rattle.zones_threads.specs.Endings.{TableEnd, ZoneEnd}
+use Rattle.zones_threads.specs.Runs.{IsZonesRun}
+use Rattle.zones_threads.specs.Sites.{IsSaid}
+use Rattle.zones_threads.specs.Tellings.{PartsTell}
+use Rattle.zones_report.specs.Outcomes.{AllAreOf, all_dones_view}
+use Rattle.zones_threads.specs.Works.{AreApart, TableSetup}
+use Rattle.zones_threads.proofs.StepLaws.{element}
+use Rattle.zones_threads.proofs.TableCloseLaws.{table_closed, table_lawful, table_count, ends_there}
+use Rattle.zones_threads.proofs.TellLaws.{workers_tell}
+use Rattle.zones_threads.proofs.ZoneCloseLaws.{zone_lawful, zone_names, zone_tells}
+
+-- ---- the table
+
+out_of : {A B : Type 0} (f : A → B) (xs : List A) (y : B) → Contains (map f xs) y → (x : A) × Contains xs x × (f x ≡ y)
+out_of f [] y c = absurd (let l = c.1 in omega arith)
+out_of f (x ∷ xs) y c =
+    ⊎_elim (λ (e : f x ≡ y). (x, here x xs, e)) (λ (more : Contains (map f xs) y). let r = out_of f xs y more in (r.0, there x r.0 xs r.1, r.2)) (contains_cases (f x) y (map f xs) c)
+
+numbers_same : (vs : List Known) (a b : Known) → number_of a.pass ≡ number_of b.pass → numbers_in (vs ++ a ∷ []) ≡ numbers_in (vs ++ b ∷ [])
+numbers_same [] a b e = ap (λ (n : ℕ). n ∷ []) e
+numbers_same (v ∷ vs) a b e = ap (λ (ks : List ℕ). number_of v.pass ∷ ks) (numbers_same vs a b e)
+
+entries_with : (p : Option (PassView (List Operation))) (own : PassView (List Operation)) (n : ℕ) → p ≡ Some own → with_pinned p n ≡ Some (record own { pinned = own.pinned ++ n ∷ [] })
+entries_with p own n e = ap (λ (x : Option (PassView (List Operation))). with_pinned x n) e
+
+-- Main has asked for the table's last version, and all passes were handed in.
+pub table_ends : (b : TableSetup) (before : List Known) (dones : List (List model.Done)) (views : List Known) (main after : Known) (number count version : ℕ) (last : AllSeen) → TableGathers b before dones views main → is_told main.seen.opening ≡ true → Pinned IsAmong main after number → AreApart b.origins
+    → IsTable b.origins b.opening → length before ≡ count → AreAll count before → Ends count (views ++ after ∷ []) version last → TableEnd b.origins dones version (length (version_seen after.seen))
+table_ends b before dones views main after number count version last g told p apart table counted all ends =
+    let own : PassView (List Operation) = record g.own { pinned = g.own.pinned ++ number ∷ [] } in
+    let is_own : after.pass ≡ Some own = p.pass ∙ entries_with main.pass g.own number g.is_own in
+    let ended : Ends count (worker_views g.done ++ after ∷ []) version last = subst (λ (vs : List Known). Ends count (vs ++ after ∷ []) version last) g.views_are ends in
+    let as_many = g.as_many in
+    let views_long : length views ≡ length (worker_views g.done) = ap length g.views_are in
+    let long : length (worker_views g.done ++ after ∷ []) ≡ count = omega (arith, length-append (worker_views g.done) (after ∷ []), views_long, as_many, counted) in
+    let same : number_of main.pass ≡ number_of after.pass = sym (ap number_of p.pass ∙ number_with main.pass number) in
+    let every : AreAll count (worker_views g.done ++ after ∷ []) = λ n lt.
+    let a = all n lt in
+    let inside : Contains (numbers_in before) (n + 1) = subst (Contains (numbers_in before)) a.2 (in_map (λ (v : Known). number_of v.pass) before a.0 a.1) in
+    let back : Contains (numbers_in (worker_views g.done ++ after ∷ [])) (n + 1) = subst (λ (ks : List ℕ). Contains ks (n + 1)) (numbers_same (worker_views g.done) main after same) (g.all_back (n + 1) inside) in
+    out_of (λ (v : Known). number_of v.pass) (worker_views g.done ++ after ∷ []) (n + 1) back in
+    let c = table_closed b last after count version g.done own is_own g.none ended every long in
+    let learnt = all_weaker (λ (w : TableWorker b). StartsWith main.seen.history w.view.seen.history) (λ (w : TableWorker b). StartsWith after.seen.history w.view.seen.history) g.done
+    (λ w s. begins_more after.seen.history main.seen.history w.view.seen.history p.grows.history s) g.learnt in
+    let there' = ends_there b last.history after g.done own is_own g.none learnt c in
+    let opened = opened_same after.seen main.seen told p.grows ∙ g.opened in
+    let many = table_count b last.history after apart g.done own is_own g.none table c there' opened p.good in
+    subst (λ (ds : List (List model.Done)). TableEnd b.origins ds version (length (version_seen after.seen))) (sym g.dones_are)
+    (subst (λ (n : ℕ). TableEnd b.origins (dones_in g.done) n (length (version_seen after.seen))) (sym ended.version_is) (record { lawful = table_lawful b last.history after apart g.done own is_own g.none table c; attached_are = many }))
+
+-- ---- a zone
+
+-- Main has asked for its last version, and all passes were handed in.
+pub zone_ends : (s : Setup) (zone : Zone) (number : ℕ) (before : List Known) (ws : List (List Command)) (ds : List DoneList) (views : List Known) (main pinned after : Known) (asked count version names : ℕ) (last : AllSeen) → AllAreOf ws ds → ZoneGathers s number before ws ds views main
+    → is_told main.seen.opening ≡ true → Pinned IsLawful main pinned asked → after ≡ with_progress pinned progress.Idle → s.origin ≡ zone.origin → StandsAs s.opening zone.pairs → length before ≡ count → AreAll count before → Ends count (views ++ after ∷ []) version last
+    → names ≡ length (version_seen pinned.seen) → ZoneEnd s.chunks s.passes zone number version names ws ds
+zone_ends s zone number before ws ds views main pinned after asked count version names last are g told p left origin opens counted all ends names_are =
+    let run = job_ends s before (zone_commands number ws ds) g.outcomes views main pinned after asked g.gathers told p left zone.pairs count version names (nodes (keys_of (version_seen pinned.seen))) last opens counted all ends names_are refl in
+    let alone = subst (λ (o : Name). IsRun s.chunks s.passes o zone.pairs (zone_commands number ws ds) g.outcomes version names (nodes (keys_of (version_seen pinned.seen)))) origin run in
+    record {
+      lawful = zone_lawful s.chunks s.passes zone.origin zone.pairs number version names (nodes (keys_of (version_seen pinned.seen))) ws ds g.outcomes are g.outcomes_are alone;
+      names_are = zone_names s.chunks s.passes zone.origin zone.pairs number version names (nodes (keys_of (version_seen pinned.seen))) ws ds g.outcomes are g.outcomes_are alone;
+      tells = zone_tells s.chunks s.passes zone.origin zone.pairs number version names (nodes (keys_of (version_seen pinned.seen))) ws ds g.outcomes are g.outcomes_are alone;
+    }
+
+-- ---- all of it
+
+dones_many : (ws : List (List Command)) (ds : List DoneList) → AllAreOf ws ds → length (all_dones_view ws ds) ≡ length ws
+dones_many [] ds are = refl
+dones_many (w ∷ ws) [] are = absurd are
+dones_many (w ∷ ws) (d ∷ ds) are = (let more = dones_many ws ds are.1 in omega (arith, more))
+
+-- The table and each zone have ended so.
+pub zones_run : (chunks : ℕ) (zones : List Zone) (ws : List (List Command)) (ds : List DoneList) (last : Last) (attached : ℕ) (names : List ℕ) → AllAreOf ws ds → AllByRecursion (AllByRecursion (IsSaid (origins_of zones))) ws → TableEnd (origins_of zones) (all_dones_view ws ds) last.table attached → length last.zones ≡ length zones → length names ≡ length zones
+    → ((number : ℕ) (zone : Zone) → slice_get zones number ≡ Some zone → (version count : ℕ) → slice_get last.zones number ≡ Some version → slice_get names number ≡ Some count → ZoneEnd chunks (model.passes_for (length ws)) zone number version count ws ds)
+    → IsZonesRun chunks zones ws ds last attached names
+zones_run chunks zones ws ds last attached names are said table many named each = record {
+  kinds = are;
+  lawful = record {
+    table = table.lawful;
+    each = λ number zone there version at.
+        let inside = slice_get_within zones number zone there in
+        let count = element names number (let n = named in omega (arith, n, inside)) in
+        let e = each number zone there version count.0 at count.1 in
+        subst (λ (n : ℕ). one.Lawful chunks (model.passes_for n) zone.origin zone.pairs (model.workers_in number (all_dones_view ws ds)) version) (sym (dones_many ws ds are)) e.lawful;
+    many = many;
+  };
+  tell = workers_tell zones (set_of zones (all_dones_view ws ds)) (model.attached_at (model.all_done (all_dones_view ws ds))) ws ds are said table.lawful.along
+      (λ number zone there.
+      let inside = slice_get_within zones number zone there in
+      let version = element last.zones number (let m = many in omega (arith, m, inside)) in
+      let count = element names number (let m = named in omega (arith, m, inside)) in
+      let e = each number zone there version.0 count.0 version.1 count.1 in
+      subst (λ (z : Zone). AllByRecursion (PartsTell zone.origin (model.version_of z number (all_dones_view ws ds))) (all_parts number ws ds)) (sym (get_or_from_slice_get zones number zone no_zone there)) e.tells);
+  attached_are = table.attached_are;
+  many = named;
+  names_are = λ number zone there version count at is.
+      let e = each number zone there version count at is in
+      e.names_are ∙ ap (λ (z : Zone). length (model.version_of z number (all_dones_view ws ds) version)) (sym (get_or_from_slice_get zones number zone no_zone there));
+}
+
+-- ---- passes that are handed in
+
+-- what is left and main's
+pub with_main : {A : Type 0} (known : A → Known) (passes all : List A) (main : A) → all ≡ passes ++ main ∷ [] → map known all ≡ map known passes ++ known main ∷ []
+with_main known passes all main is = ap (map known) is ∙ map-append known passes (main ∷ [])

@@ -1,0 +1,15 @@
+pub mod PassLaws
+pub mod StepLaws
+pub mod WorkLaws
+pub mod TableLaws
+pub mod ZoneForLaws
+pub mod ChangeLaws
+pub mod GatherLaws
+pub mod TableCloseLaws
+pub mod ZoneCloseLaws
+pub mod EndLaws
+pub mod CountLaws
+pub mod VisitLaws
+pub mod AttachLaws
+pub mod TellLaws
+pub mod BeginLaws

@@ -1,0 +1,12 @@
+pub mod Views
+pub mod Sites
+pub mod Steps
+pub mod Works
+pub mod Closings
+pub mod Calls
+pub mod Runs
+pub mod Visits
+pub mod Changes
+pub mod Endings
+pub mod Tellings
+pub mod Openings

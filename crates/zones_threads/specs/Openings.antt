@@ -1,0 +1,23 @@
+-- What becomes of zones that are opened and run.
+use Rattle.std.specs.Prelude.{◌≡◌, ℕ, List, Some, slice_get}
+use Rattle.zone_model.specs.MasterFile.{Zone}
+use Rattle.job_threads.specs.Histories.{StandsAs}
+use Rattle.zones_model.specs.Commands.{Command}
+use Rattle.zones_model.specs.Commands as model
+use Rattle.zone_table.specs.declared.opening.ZoneItems.{ZoneItems}
+use Rattle.zone_table.specs.declared.opening.ZonesRefusal.TheVariants as refusal
+use Rattle.zone_table.specs.Openings.{Place, RefusesZones, entries_in, origins_of}
+use Rattle.zones_threads.specs.declared.opening.ZonesRan.{ZonesRan}
+use Rattle.zones_threads.specs.declared.opening.ZonesRan.TheVariants.{Finished, DoesNotFit}
+use Rattle.zones_report.specs.Telling.{last_of}
+use Rattle.zones_threads.specs.Runs.{IsZonesRun}
+
+-- the items are those of these zones
+pub record StandFor (items : List ZoneItems) (zones : List Zone) : Type 0 where
+  pub origins : model.origins_of zones ≡ origins_of items
+  pub each : (number : ℕ) (z : ZoneItems) (zone : Zone) → slice_get items number ≡ Some z → slice_get zones number ≡ Some zone → StandsAs (entries_in z) zone.pairs
+
+-- each zone fits, and the workers were run; or one doesn't, the first in canonical order, and both numbers are told
+abbrev pub ZonesRanOn : List Place → ℕ → List Zone → List (List Command) → ZonesRan → Type 0
+ZonesRanOn places chunks zones workers (Finished f) = IsZonesRun chunks zones workers f.done.items (last_of f) f.attached f.names.items
+ZonesRanOn places chunks zones workers (DoesNotFit zone cells limit) = RefusesZones places (refusal.Full zone cells limit)

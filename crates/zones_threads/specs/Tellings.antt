@@ -1,0 +1,41 @@
+-- What became of commands tells what is so.
+use Rattle.std.specs.Prelude.{ℕ, List, [], ◌∷◌, Option, Some, None, slice_index_or}
+use Rattle.zone_model.specs.MasterFile.{Zone}
+use Rattle.zone_model.specs.Names.{Name}
+use Rattle.zone_model.specs.Versions.{Version}
+use Rattle.zone_query.specs.Answers.{answer}
+use Rattle.job_model.specs.Replies.{OfGet}
+use Rattle.job_script.specs.Outcomes.{EachTells, EndsBlock, Replies}
+use Rattle.zones_model.specs.Commands.{Command, Get, Block}
+use Rattle.zones_model.specs.Reports.{no_zone}
+use Rattle.zones_report.specs.declared.outcomes.Answer.{Answer}
+use Rattle.zones_report.specs.declared.outcomes.Done.{Done}
+use Rattle.zones_report.specs.declared.outcomes.Done.TheVariants as done
+use Rattle.zones_report.specs.declared.outcomes.DoneList.{DoneList}
+use Rattle.zones_threads.specs.Views.{Part, commands_of, outcomes_of}
+
+-- the text is that of what the version answers that is shown
+abbrev pub AnswerTells : List Zone → (ℕ → ℕ → Version) → Name → ℕ → Option Answer → Type 0
+AnswerTells zones set name rtype None = Unit {0}
+AnswerTells zones set name rtype (Some a) = Replies (OfGet (answer (slice_index_or zones a.zone no_zone).origin (set a.zone a.outcome.version) name rtype)) a.outcome.told
+
+abbrev pub DoneTells : List Zone → (ℕ → ℕ → Version) → Command → Done → Type 0
+DoneTells zones set (Get name rtype) (done.Got table answer) = AnswerTells zones set name rtype answer
+DoneTells zones set (Block zone _ asked ending) (done.Ran ran o) = EndsBlock o.told
+DoneTells zones set c d = Unit {0}
+
+-- each of a worker's, and of all workers'
+
+abbrev pub WorkerTells : List Zone → (ℕ → ℕ → Version) → List Command → List Done → Type 0
+WorkerTells zones set [] ds = Unit {0}
+WorkerTells zones set (c ∷ cs) [] = Unit {0}
+WorkerTells zones set (c ∷ cs) (d ∷ ds) = DoneTells zones set c d × WorkerTells zones set cs ds
+
+abbrev pub WorkersTell : List Zone → (ℕ → ℕ → Version) → List (List Command) → List DoneList → Type 0
+WorkersTell zones set [] ds = Unit {0}
+WorkersTell zones set (w ∷ ws) [] = Unit {0}
+WorkersTell zones set (w ∷ ws) (d ∷ ds) = WorkerTells zones set w d.list.items × WorkersTell zones set ws ds
+
+-- what is of one zone tells what is so of that
+abbrev pub PartsTell : Name → (ℕ → Version) → List Part → Type 0
+PartsTell origin set parts = EachTells origin set (commands_of parts) (outcomes_of parts)

@@ -1,0 +1,58 @@
+//! How large each zone is, when all workers are done.
+ghost use Rattle.std.specs.Prelude.{◌≡◌, ◌≢◌, ◌<◌, ℕ, Some, IfOk, IsSome, length, slice_get};
+ghost use Rattle.shared_index.specs.Passes.{known_at};
+ghost use Rattle.zone_table.specs.Passes.{IsPassOf, table_known, zone_known};
+ghost use Rattle.zones_threads.specs.Visits.{Counted};
+
+use job_threads::ZoneLaw;
+use shared_index::{Index, Named, Pass};
+use std::alloc::{AllocError, Global};
+use trie_read::Reading;
+use zone_table::{Zones, ZonesPass};
+
+// How many names the current version has. It is pinned meanwhile.
+fn count_names<N: Named>(index: &Index<ZoneLaw, N>, pass: &mut Pass<N>) -> u64
+    requires here { IsSome pass.old.seat }
+    requires place { pass.old.place ≡ index.now.place }
+    ensures here { IsSome pass.new.seat }
+    ensures place { pass.new.place ≡ pass.old.place }
+    ensures counted { Counted (known_at pass.old.seat) (known_at pass.new.seat) result }
+{
+    let mut query = pass.query(index);
+    let names = query.count();
+    drop(query);
+    names
+}
+
+// How many names the current version of a zone has.
+fn names_in<N: Named>(zones: &Zones<ZoneLaw, N>, pass: &mut ZonesPass<N>, zone: u32) -> u64
+    requires pass { IsPassOf zones.now.origins.items pass.old }
+    requires zone { zone < length zones.now.origins.items }
+    ensures pass { IsPassOf zones.now.origins.items pass.new }
+    ensures table { table_known pass.new ≡ table_known pass.old }
+    ensures others { (other : ℕ) → other ≢ zone → zone_known pass.new other ≡ zone_known pass.old other }
+    ensures counted { Counted (zone_known pass.old zone) (zone_known pass.new zone) result }
+{
+    let index = zones.zone(zone);
+    let place = pass.zone(zones, zone);
+    count_names(index, place)
+}
+
+/// How many names the current version of each zone has, in the order of their numbers.
+pub fn all_names<N: Named>(
+    alloc: Global,
+    zones: &Zones<ZoneLaw, N>,
+    pass: &mut ZonesPass<N>,
+) -> Result<Vec<u64>, AllocError>
+    requires pass { IsPassOf zones.now.origins.items pass.old }
+    ensures pass { IfOk result (λ _. IsPassOf zones.now.origins.items pass.new) }
+    ensures table { IfOk result (λ _. table_known pass.new ≡ table_known pass.old) }
+    ensures many { IfOk result (λ names. length names.items ≡ length zones.now.origins.items) }
+    ensures counted { IfOk result (λ names. (zone count : ℕ) → slice_get names.items zone ≡ Some count → Counted (zone_known pass.old zone) (zone_known pass.new zone) count) }
+{
+    let mut names = Vec::with_capacity(alloc, zones.count() as usize)?;
+    for zone in 0..zones.count() {
+        names.push(names_in(zones, pass, zone))?;
+    }
+    Ok(names)
+}

@@ -1,0 +1,190 @@
+//! All workers, each in a thread of its own where one can be started.
+ghost use Rattle.std.specs.Prelude.{◌≡◌, ◌+◌, ◌<◌, ◌∷◌, ℕ, List, All, IfOk, Some, length, map, slice_get};
+ghost use Rattle.zone_model.specs.MasterFile.{Zone};
+ghost use Rattle.zones_model.specs.Commands.{origins_of};
+ghost use Rattle.zones_model.specs.Outcomes.{passes_for};
+ghost use Rattle.std.specs.List.{AllByRecursion};
+ghost use Rattle.std.specs.Thread.{IsSync};
+ghost use Rattle.shared_index.specs.Passes.{Learnt};
+ghost use Rattle.job_threads.specs.Calls.{AreHeard};
+ghost use Rattle.job_threads.specs.Commands.{IsIndex};
+ghost use Rattle.job_threads.specs.Histories.{Setup};
+ghost use Rattle.job_threads.specs.Works.{AreNew, IsNew};
+ghost use Rattle.zone_table.specs.Passes.{IsPassOf, table_known, zone_known};
+ghost use Rattle.zones_threads.specs.Calls.{AllHeard};
+ghost use Rattle.zones_threads.specs.Closings.{TableGathers, ZoneGathers, table_views, zone_views};
+ghost use Rattle.zones_report.specs.Telling.{last_of};
+ghost use Rattle.zones_threads.specs.Runs.{IsZonesRun, TableBegins, ZoneBegins};
+ghost use Rattle.zones_threads.specs.Sites.{IsSaid, IsSite, Opens, Site};
+ghost use Rattle.zones_report.specs.Outcomes.{AllAreOf, AreOf, all_dones_view, dones_view};
+ghost use Rattle.zones_script.specs.Views.{command_view, worker_view};
+ghost use Rattle.zones_threads.specs.Views.{workers_view};
+ghost use Rattle.zones_threads.specs.Works.{AreApart, TableSetup, TableWork, ZonesRan};
+
+use crate::ending::close_zones;
+use crate::worker::{Ended, Task, run_worker};
+use job_threads::{Gate, ZoneLaw};
+use shared_index::Named;
+use std::alloc::{AllocError, Global};
+use std::sync::Wait;
+use std::thread::{Threads, join};
+use zone_table::{Zones, ZonesPass};
+use zones_report::{DoneList, ZonesFinished};
+use zones_script::Worker;
+
+// What became of workers. All passes are back; main's has learnt what they have seen.
+#[derive(Drop)]
+struct Gathered<N: Named> {
+    done: Vec<DoneList>,
+    passes: Vec<ZonesPass<N>>,
+    main: ZonesPass<N>,
+}
+
+// A worker is done beside others.
+fn with_ended<N: Named>(
+    alloc: Global,
+    zones: &Zones<ZoneLaw, N>,
+    ended: Ended<N>,
+    others: Gathered<N>,
+) -> Result<Gathered<N>, AllocError>
+    requires pass { IsPassOf zones.now.origins.items ended.pass }
+    requires main { IsPassOf zones.now.origins.items others.main }
+    requires others { All (IsPassOf zones.now.origins.items) others.passes.items }
+    ensures main { IfOk result (λ g. IsPassOf zones.now.origins.items g.main) }
+    ensures passes { IfOk result (λ g. All (IsPassOf zones.now.origins.items) g.passes.items) }
+    ensures done { IfOk result (λ g. g.done.items ≡ ended.done ∷ others.done.items) }
+    ensures table_views { IfOk result (λ g. table_views g.passes.items ≡ table_known ended.pass ∷ table_views others.passes.items) }
+    ensures zone_views { (zone : ℕ) → IfOk result (λ g. zone_views zone g.passes.items ≡ zone_known ended.pass zone ∷ zone_views zone others.passes.items) }
+    ensures table_learnt { IfOk result (λ g. Learnt (table_known others.main) (table_known g.main) (table_known ended.pass).seen) }
+    ensures zone_learnt { (zone : ℕ) → zone < length zones.now.origins.items
+        → IfOk result (λ g. Learnt (zone_known others.main zone) (zone_known g.main zone) (zone_known ended.pass zone).seen) }
+{
+    let Ended {
+        done: list,
+        mut pass,
+    } = ended;
+    let Gathered {
+        mut done,
+        mut passes,
+        mut main,
+    } = others;
+    let seen = pass.note(alloc, zones)?;
+    main.learn(zones, seen);
+    passes.insert(0, pass)?;
+    done.insert(0, list)?;
+    Ok(Gathered { done, passes, main })
+}
+
+// What a worker is to do, with its pass.
+fn task_of<N: Named>(number: u32, worker: &Worker, pass: ZonesPass<N>) -> Task<'_, N>
+    ensures number { result.number ≡ number }
+    ensures commands { map command_view result.commands.now ≡ worker_view worker.now }
+    ensures pass { result.pass ≡ pass }
+{
+    Task {
+        number,
+        commands: &worker.commands,
+        pass,
+    }
+}
+
+// Runs the workers beside each other, from the one of a number on. Each has one of the passes, from the end on, and main the first.
+#[cycle(workers)]
+fn run_workers<R: Threads + Wait + Sync, N: Named + Send + Sync, G: Gate>(
+    rt: &R,
+    alloc: Global,
+    zones: &Zones<ZoneLaw, N>,
+    workers: &[Worker],
+    number: u32,
+    mut passes: Vec<ZonesPass<N>>,
+    gate: &G,
+) -> Result<Gathered<N>, AllocError>
+    requires count { length passes.items ≡ length workers.now + 1 }
+    requires passes { All (IsPassOf zones.now.origins.items) passes.items }
+    requires opens { All (Opens zones.now) passes.items }
+    requires said { AllByRecursion (AllByRecursion (IsSaid zones.now.origins.items)) (workers_view workers.now) }
+    ensures main { IfOk result (λ g. IsPassOf zones.now.origins.items g.main) }
+    ensures passes { IfOk result (λ g. All (IsPassOf zones.now.origins.items) g.passes.items) }
+    ensures kinds { IfOk result (λ g. AllAreOf (workers_view workers.now) g.done.items) }
+    ensures zones { (site : Site) (s : Setup) → IsSite zones.now site → IsIndex s site.origin site.size → AreNew s.opening (zone_views site.number passes.items)
+        → IfOk result (λ g. ZoneGathers s site.number (zone_views site.number passes.items) (workers_view workers.now) g.done.items (zone_views site.number g.passes.items) (zone_known g.main site.number)) }
+    ensures table { (b : TableSetup) → b.origins ≡ zones.now.origins.items → AreNew b.opening (table_views passes.items)
+        → IfOk result (λ g. TableGathers b (table_views passes.items) (all_dones_view (workers_view workers.now) g.done.items) (table_views g.passes.items) (table_known g.main)) }
+    ensures heard { IfOk result (λ _. AllHeard (G.hears gate.now) number (workers_view workers.now)) }
+{
+    let Some(pass) = passes.pop() else {
+        // There is one for each worker, and one.
+        unreachable!();
+    };
+    let Some((worker, others)) = workers.split_first() else {
+        return Ok(Gathered {
+            done: Vec::new(alloc),
+            passes,
+            main: pass,
+        });
+    };
+    let next = number.saturating_add(1);
+    let first = move || -> Result<Ended<N>, AllocError>
+        requires pass { IsPassOf zones.now.origins.items pass }
+        requires opens { Opens zones.now pass }
+        requires said { AllByRecursion (IsSaid zones.now.origins.items) (worker_view worker.now) }
+        ensures pass { IfOk result (λ e. IsPassOf zones.entry.now.origins.items e.pass) }
+        ensures kinds { IfOk result (λ e. AreOf (worker_view worker.entry.now) e.done.list.items) }
+        ensures zones { IfOk result (λ e. ZonesRan zones.entry.now pass e.pass (worker_view worker.entry.now) e.done.list.items) }
+        ensures table { (b : TableSetup) (number : ℕ) → b.origins ≡ zones.entry.now.origins.items → IsNew number b.opening (table_known pass)
+            → IfOk result (λ e. TableWork b number (table_known e.pass) (dones_view (worker_view worker.entry.now) e.done.list.items)) }
+        ensures heard { IfOk result (λ _. AreHeard (G.hears gate.entry.now) number (length (worker_view worker.entry.now))) }
+    {
+        let task = task_of(number, worker, pass);
+        run_worker(rt, alloc, zones, task, gate)
+    };
+    let rest = move || -> Result<Gathered<N>, AllocError>
+        requires sync { IsSync R.row }
+        requires count { length passes.items ≡ length others.now + 1 }
+        requires passes { All (IsPassOf zones.now.origins.items) passes.items }
+        requires opens { All (Opens zones.now) passes.items }
+        requires said { AllByRecursion (AllByRecursion (IsSaid zones.now.origins.items)) (workers_view others.now) }
+        ensures main { IfOk result (λ g. IsPassOf zones.entry.now.origins.items g.main) }
+        ensures passes { IfOk result (λ g. All (IsPassOf zones.entry.now.origins.items) g.passes.items) }
+        ensures kinds { IfOk result (λ g. AllAreOf (workers_view others.entry.now) g.done.items) }
+        ensures zones { (site : Site) (s : Setup) → IsSite zones.entry.now site → IsIndex s site.origin site.size → AreNew s.opening (zone_views site.number passes.items)
+            → IfOk result (λ g. ZoneGathers s site.number (zone_views site.number passes.items) (workers_view others.entry.now) g.done.items (zone_views site.number g.passes.items) (zone_known g.main site.number)) }
+        ensures table { (b : TableSetup) → b.origins ≡ zones.entry.now.origins.items → AreNew b.opening (table_views passes.items)
+            → IfOk result (λ g. TableGathers b (table_views passes.items) (all_dones_view (workers_view others.entry.now) g.done.items) (table_views g.passes.items) (table_known g.main)) }
+        ensures heard { IfOk result (λ _. AllHeard (G.hears gate.entry.now) next (workers_view others.entry.now)) }
+    { run_workers(rt, alloc, zones, others, next, passes, gate) };
+    let (ended, others) = join(rt, first, rest);
+    with_ended(alloc, zones, ended?, others?)
+}
+
+/// Runs workers on zones that were opened, from their versions 0 on. What they ask for is as scripts of octets say it. The gate is told of each
+/// command.
+pub fn run_zones<R: Threads + Wait + Sync, N: Named + Send + Sync, G: Gate>(
+    rt: &R,
+    alloc: Global,
+    zones: Zones<ZoneLaw, N>,
+    passes: Vec<ZonesPass<N>>,
+    workers: &[Worker],
+    gate: &G,
+) -> Result<ZonesFinished, AllocError>
+    requires count { length passes.items ≡ passes_for (length workers.now) }
+    requires size { zones.table.shared.table.shared.key.passes ≡ length passes.items }
+    requires passes { All (IsPassOf zones.origins.items) passes.items }
+    requires opens { All (Opens zones) passes.items }
+    requires said { AllByRecursion (AllByRecursion (IsSaid zones.origins.items)) (workers_view workers.now) }
+    ensures ran { (chunks : ℕ) (list : List Zone) → origins_of list ≡ zones.origins.items → AreApart zones.origins.items → TableBegins zones.origins.items (length passes.items) (table_views passes.items)
+        → ((site : Site) (zone : Zone) → IsSite zones site → slice_get list site.number ≡ Some zone → ZoneBegins chunks (length passes.items) site zone (zone_views site.number passes.items))
+        → IfOk result (λ f. IsZonesRun chunks list (workers_view workers.now) f.done.items (last_of f) f.attached f.names.items) }
+    // Each worker is told by its own number, from 1.
+    ensures heard { IfOk result (λ _. AllHeard (G.hears gate.now) 1 (workers_view workers.now)) }
+{
+    let Gathered { done, passes, main } = run_workers(rt, alloc, &zones, workers, 1, passes, gate)?;
+    let last = close_zones(alloc, zones, main, passes)?;
+    Ok(ZonesFinished {
+        done,
+        table: last.table,
+        attached: last.attached,
+        versions: last.versions,
+        names: last.names,
+    })
+}

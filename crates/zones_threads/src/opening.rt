@@ -1,0 +1,97 @@
+//! Zones that are opened and run.
+ghost use Rattle.std.specs.Prelude.{◌≡◌, ◌+◌, ◌≤◌, ℕ, List, All, IfOk, Some, length, map, slice_get};
+ghost use Rattle.std.specs.List.{AllByRecursion, IsDistinct};
+ghost use Rattle.zone_model.specs.MasterFile.{Zone};
+ghost use Rattle.zone_model.specs.Names.{same_name};
+ghost use Rattle.job_threads.specs.Histories.{IsZone};
+ghost use Rattle.zones_model.specs.Outcomes.{passes_for};
+ghost use Rattle.zone_table.specs.Openings.{entries_in, origins_of, places_of};
+ghost use Rattle.zones_threads.specs.Openings.{StandFor, ZonesRanOn};
+ghost use Rattle.zones_threads.specs.Sites.{IsSaid};
+ghost use Rattle.zones_threads.specs.Views.{workers_view};
+
+use crate::job::run_zones;
+use job_threads::{Gate, ZoneLaw};
+use shared_index::{Blank, Named};
+use std::alloc::{AllocError, Global};
+use std::marker::Brand;
+use std::sync::Wait;
+use std::thread::Threads;
+use zone_table::{TableLaw, ZoneItems, Zones, ZonesRefusal};
+use zones_report::ZonesFinished;
+use zones_script::Worker;
+
+/// What became of zones, if each fits into its chunks.
+#[derive(Drop)]
+pub enum ZonesRan {
+    Finished(ZonesFinished),
+    /// Version 0 of the zone of this number has so many cells, over the limit. Of several such zones it is the one whose origin comes first in
+    /// canonical order.
+    DoesNotFit { zone: u32, cells: u64, limit: u64 },
+}
+
+// The same, on tables that are named.
+fn run_named<R: Threads + Wait + Sync, N: Named + Send + Sync, G: Gate>(
+    rt: &R,
+    alloc: Global,
+    table: Blank<TableLaw>,
+    blanks: Vec<Blank<ZoneLaw>>,
+    zones: &[ZoneItems],
+    workers: &[Worker],
+    gate: &G,
+) -> Result<ZonesRan, AllocError>
+    requires table_named { slice_get N.tables 0 ≡ Some table.shared.table.shared.table_id }
+    requires named { (k : ℕ) (b : _) → slice_get blanks.items k ≡ Some b → slice_get N.tables (k + 1) ≡ Some b.shared.table.shared.table_id }
+    requires table_chunks { table.shared.table.shared.key.chunks ≡ 512 }
+    requires table_passes { table.shared.table.shared.key.passes ≡ passes_for (length workers.now) }
+    requires few_workers { length workers.now ≤ 16 }
+    requires passes { All (λ s. s.passes ≡ table.shared.table.shared.key.passes) (map (λ b. b.shared.table.shared.key) blanks.items) }
+    requires some { 1 ≤ length zones.now }
+    requires few { length zones.now ≤ 16 }
+    requires each { length blanks.items ≡ length zones.now }
+    requires different { IsDistinct same_name (origins_of zones.now) }
+    requires zones { All (λ z. IsZone z.origin (entries_in z)) zones.now }
+    requires said { AllByRecursion (AllByRecursion (IsSaid (origins_of zones.now))) (workers_view workers.now) }
+    ensures { (chunks : ℕ) (list : List Zone) → All (λ s. s.chunks ≡ chunks) (map (λ b. b.shared.table.shared.key) blanks.items) → StandFor zones.now list
+        → IfOk result (ZonesRanOn (places_of zones.now (map (λ b. b.shared.table.shared.key) blanks.items)) chunks list (workers_view workers.now)) }
+{
+    match Zones::<ZoneLaw, N>::open(alloc, table, blanks, zones) {
+        Ok((opened, passes)) => {
+            let finished = run_zones(rt, alloc, opened, passes, workers, gate)?;
+            Ok(ZonesRan::Finished(finished))
+        }
+        Err(ZonesRefusal::Full { zone, cells, limit }) => Ok(ZonesRan::DoesNotFit {
+            zone,
+            cells,
+            limit,
+        }),
+        Err(ZonesRefusal::Memory) => Err(AllocError),
+    }
+}
+
+/// Opens indexes on zones that stand as these items, each by a table of its own, and the table of their origins by one more, and runs workers on
+/// them.
+pub fn run_zone_items<R: Threads + Wait + Sync, G: Gate>(
+    rt: &R,
+    alloc: Global,
+    table: Blank<TableLaw>,
+    blanks: Vec<Blank<ZoneLaw>>,
+    zones: &[ZoneItems],
+    workers: &[Worker],
+    gate: &G,
+) -> Result<ZonesRan, AllocError>
+    requires table_chunks { table.shared.table.shared.key.chunks ≡ 512 }
+    requires table_passes { table.shared.table.shared.key.passes ≡ passes_for (length workers.now) }
+    requires few_workers { length workers.now ≤ 16 }
+    requires passes { All (λ s. s.passes ≡ table.shared.table.shared.key.passes) (map (λ b. b.shared.table.shared.key) blanks.items) }
+    requires some { 1 ≤ length zones.now }
+    requires few { length zones.now ≤ 16 }
+    requires each { length blanks.items ≡ length zones.now }
+    requires different { IsDistinct same_name (origins_of zones.now) }
+    requires zones { All (λ z. IsZone z.origin (entries_in z)) zones.now }
+    requires said { AllByRecursion (AllByRecursion (IsSaid (origins_of zones.now))) (workers_view workers.now) }
+    ensures { (chunks : ℕ) (list : List Zone) → All (λ s. s.chunks ≡ chunks) (map (λ b. b.shared.table.shared.key) blanks.items) → StandFor zones.now list
+        → IfOk result (ZonesRanOn (places_of zones.now (map (λ b. b.shared.table.shared.key) blanks.items)) chunks list (workers_view workers.now)) }
+{
+    run_named::<R, Brand, G>(rt, alloc, table, blanks, zones, workers, gate)
+}

@@ -1,0 +1,116 @@
+//! A worker that runs its commands.
+ghost use Rattle.std.specs.Prelude.{◌≡◌, ℕ, IfOk, length, map};
+ghost use Rattle.std.specs.List.{AllByRecursion};
+ghost use Rattle.job_threads.specs.Calls.{AreHeard, next_number};
+ghost use Rattle.job_threads.specs.Works.{IsNew};
+ghost use Rattle.zone_table.specs.Passes.{IsPassOf, table_known};
+ghost use Rattle.shared_index.specs.Passes.{first_version};
+ghost use Rattle.zones_threads.specs.Sites.{IsSaid, Opens};
+ghost use Rattle.zones_threads.specs.Steps.{TableGoes, ZonesGo};
+ghost use Rattle.zones_report.specs.Outcomes.{AreOf, IsOf, done_view, dones_view};
+ghost use Rattle.zones_script.specs.Views.{command_view};
+ghost use Rattle.zones_threads.specs.Works.{TableSetup, TableWork, ZonesRan};
+
+use crate::changing::{attach, detach};
+use crate::gate::{tell_after, tell_before};
+use crate::getting::get;
+use crate::transactions::change_zone;
+use job_threads::{Gate, Room, ZoneLaw};
+use shared_index::Named;
+use std::alloc::{AllocError, Global};
+use std::sync::Wait;
+use zone_table::{Zones, ZonesPass};
+use zones_report::{Done, DoneList};
+use zones_script::Command;
+
+/// A worker's number, from 1, its commands, and its pass of the zones.
+#[derive(Drop)]
+pub struct Task<'a, N: Named> {
+    pub number: u32,
+    pub commands: &'a [Command],
+    pub pass: ZonesPass<N>,
+}
+
+/// What became of a worker's commands. Its pass is back.
+#[derive(Drop)]
+pub struct Ended<N: Named> {
+    pub done: DoneList,
+    pub pass: ZonesPass<N>,
+}
+
+// Runs one command.
+fn run_command<R: Wait, N: Named>(
+    rt: &R,
+    alloc: Global,
+    zones: &Zones<ZoneLaw, N>,
+    pass: &mut ZonesPass<N>,
+    command: &Command,
+    room: &mut Room,
+) -> Result<Done, AllocError>
+    requires pass { IsPassOf zones.now.origins.items pass.old }
+    requires opens { Opens zones.now pass.old }
+    requires said { IsSaid zones.now.origins.items (command_view command.now) }
+    ensures pass { IfOk result (λ _. IsPassOf zones.now.origins.items pass.new) }
+    ensures opens { IfOk result (λ _. Opens zones.now pass.new) }
+    ensures kind { IfOk result (IsOf (command_view command.now)) }
+    ensures table { IfOk result (λ d. TableGoes zones.now.origins.items (done_view (command_view command.now) d) (table_known pass.old) (table_known pass.new)) }
+    ensures zones { IfOk result (λ d. ZonesGo zones.now (command_view command.now) d pass.old pass.new) }
+{
+    match command {
+        Command::Get(name, rtype) => {
+            let done = get(alloc, zones, pass, name, *rtype, room)?;
+            Ok(done)
+        }
+        Command::Block { zone, block } => {
+            let done = change_zone(rt, alloc, zones, pass, *zone, block, room)?;
+            Ok(done)
+        }
+        Command::Attach(zone) => Ok(attach(rt, zones, pass, *zone)),
+        Command::Detach(zone) => Ok(detach(rt, zones, pass, *zone)),
+    }
+}
+
+// A place in a list, counted from 1.
+fn counted(place: usize) -> u32
+    ensures { result ≡ next_number place }
+{
+    u32::try_from(place.saturating_add(1)).unwrap_or(u32::MAX)
+}
+
+/// Runs a worker's commands, each between the gate's two calls.
+pub fn run_worker<R: Wait, N: Named, G: Gate>(
+    rt: &R,
+    alloc: Global,
+    zones: &Zones<ZoneLaw, N>,
+    task: Task<'_, N>,
+    gate: &G,
+) -> Result<Ended<N>, AllocError>
+    requires pass { IsPassOf zones.now.origins.items task.pass }
+    requires opens { Opens zones.now task.pass }
+    requires said { AllByRecursion (IsSaid zones.now.origins.items) (map command_view task.commands.now) }
+    ensures pass { IfOk result (λ e. IsPassOf zones.now.origins.items e.pass) }
+    ensures kinds { IfOk result (λ e. AreOf (map command_view task.entry.commands.now) e.done.list.items) }
+    ensures zones { IfOk result (λ e. ZonesRan zones.now task.entry.pass e.pass (map command_view task.entry.commands.now) e.done.list.items) }
+    ensures table { (b : TableSetup) (number : ℕ) → b.origins ≡ zones.now.origins.items → IsNew number b.opening (table_known task.entry.pass)
+        → IfOk result (λ e. TableWork b number (table_known e.pass) (dones_view (map command_view task.entry.commands.now) e.done.list.items)) }
+    ensures heard { IfOk result (λ _. AreHeard (G.hears gate.now) task.entry.number (length (map command_view task.entry.commands.now))) }
+{
+    let mut room = Room::new(alloc)?;
+    let Task {
+        number,
+        commands,
+        mut pass,
+    } = task;
+    let mut list = Vec::with_capacity(alloc, commands.len())?;
+    for (place, command) in commands.iter().enumerate() {
+        let ordinal = counted(place);
+        tell_before(gate, number, ordinal, place, &list);
+        let done = run_command(rt, alloc, zones, &mut pass, command, &mut room)?;
+        list.push(done)?;
+        tell_after(gate, number, ordinal, place, &list);
+    }
+    Ok(Ended {
+        done: DoneList { list },
+        pass,
+    })
+}
