@@ -5,8 +5,8 @@
 # (one item by an `update`) or `thin` (nine names of ten taken out by one `write`). Each is done with nobody beside it, and then while a
 # snapshot of the first version is held. Nanoseconds are of one run; instructions (valgrind's callgrind) are the difference of 3,000 and 1,000
 # transactions. Where LMDB is installed (liblmdb-dev, and a C compiler), bench/lmdb.c does the same by it, without waiting for the disk.
-# Usage: bench/commits.sh [PROGRAM [NAMES..]] >bench/results/commits.tsv: a program that was built before, and how many names. Changes nothing
-# but files in a temporary folder.
+# Usage: bench/commits.sh [PROGRAM [NAMES..]] >bench/results/commits.tsv: a program that was built before, and how many names. With words in KINDS
+# only these kinds, and only while nothing is held. Changes nothing but files in a temporary folder.
 set -eu
 here=$(cd "$(dirname "$0")" && pwd)
 folder=$(mktemp -d)
@@ -207,8 +207,9 @@ fi
 printf 'index\tnames\tkind\tsnapshot\tmiddle ns\tmean ns\tslowest ns\tinstructions\n'
 [ $# -gt 1 ] && shift || set -- 10000 100000 500000
 for names in "$@"; do
-    for kind in exchange four below update thin; do
+    for kind in ${KINDS:-exchange four below update thin}; do
         for held in '' held; do
+            [ -z "${KINDS:-}" ] || [ -z "$held" ] || continue
             told "$names" "$kind" "$held" qpzone ours "$program"
             [ -z "$lmdb" ] || told "$names" "$kind" "$held" LMDB theirs "$folder/lmdb" "$folder/db"
         done
