@@ -12,7 +12,7 @@ use Rattle.zone_table.specs.declared.opening.ZonesRefusal.TheVariants.{Memory}
 use Rattle.zone_table.proofs.RefusalLaws.{places_more, places_count}
 use Rattle.shared_index.specs.declared.meaning.Named.{Ghosts}
 use Rattle.zone_table.specs.declared.opening.Opened.{Opened}
-use Rattle.zone_table.specs.Openings.{Place, places_of, entries_in, MayFit, IsBegun, AreBegun, RefusesZones}
+use Rattle.zone_table.specs.Openings.{Place, places_of, entries_in, AllFit, MayFit, IsBegun, AreBegun, RefusesZones}
 use Rattle.zone_table.proofs.Lists.{place_in, last_or_before, get_in}
 
 module _ {X Y : Type 0} {N : Ghosts Y} where
@@ -40,12 +40,15 @@ module _ {X Y : Type 0} {N : Ghosts Y} where
   }
 
   -- so each of them fits
-  pub begun_fit : (places : List Place) (opened : List (Opened X Y N)) → AreBegun places opened → (p : Place) → Contains places p → MayFit p
-  begun_fit places opened h p c =
+  pub begun_within : (places : List Place) (opened : List (Opened X Y N)) → AreBegun places opened → AllFit places
+  begun_within places opened h p c =
       let at = place_in places p c in
       let o = get_in opened at.0 (let n = h.count in let l = at.1 in omega arith) in
       let b = h.each at.0 p o.0 at.2 o.1 in
-      inl b.fits
+      b.fits
+
+  pub begun_fit : (places : List Place) (opened : List (Opened X Y N)) → AreBegun places opened → (p : Place) → Contains places p → MayFit p
+  begun_fit places opened h p c = inl (begun_within places opened h p c)
 
 -- what is told so far
 pub so_far_is : {T : Type 0} (places : List Place) (r : Result T ZonesRefusal) (told : ZonesRefusal) → MatchResult r (λ _. told ≡ Memory) (λ e. told ≡ e) → IfOk r (λ _. (p : Place) → Contains places p → MayFit p) → IfErr r (RefusesZones places) → RefusesZones places told

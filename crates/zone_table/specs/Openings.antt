@@ -33,6 +33,10 @@ places_of [] sizes = []
 places_of (z ∷ zones) [] = []
 places_of (z ∷ zones) (s ∷ sizes) = record { zone = z; size = s } ∷ places_of zones sizes
 
+-- each zone's trie is sure to find room in its table
+abbrev pub AllFit : List Place → Type 0
+AllFit places = (p : Place) → Contains places p → cells (entries_in p.zone) ≤ room_in p.size.chunks
+
 -- its trie may fit: it isn't refused as full
 abbrev pub MayFit : Place → Type 0
 MayFit p = Refuses p.size.chunks (entries_in p.zone) refusal.Memory

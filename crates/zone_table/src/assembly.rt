@@ -5,7 +5,7 @@ ghost use Rattle.zone_model.specs.Names.{IsName, same_name};
 ghost use Rattle.trie_model.specs.Keys.{Entry, Rises};
 ghost use Rattle.shared_cells.specs.declared.view.TableSize.{TableSize};
 ghost use Rattle.zone_table.specs.Tables.{IsTable};
-ghost use Rattle.zone_table.specs.Openings.{IsBegun, AreBegun, RefusesZones, entries_in, origins_of, places_of};
+ghost use Rattle.zone_table.specs.Openings.{AllFit, IsBegun, AreBegun, RefusesZones, entries_in, origins_of, places_of};
 ghost use Rattle.zone_table.specs.Dealings.{AreMade};
 
 use crate::dealing::deal_all;
@@ -108,6 +108,7 @@ impl<L: Law, N: Named> Zones<L, N> {
         ensures sizes { IfOk result (λ made. map (λ z. z.shared.table.shared.key) made.0.zones.items ≡ map (λ b. b.shared.table.shared.key) blanks.items) }
         ensures table { IfOk result (λ made. made.0.table.shared.table.shared.key ≡ table.shared.table.shared.key) }
         ensures passes { IfOk result (λ made. AreMade zones.now table.shared.table.shared.key.passes made.1.items) }
+        ensures fits { IfOk result (λ _. AllFit (places_of zones.now (map (λ b. b.shared.table.shared.key) blanks.items))) }
         ensures refused { IfErr result (RefusesZones (places_of zones.now (map (λ b. b.shared.table.shared.key) blanks.items))) }
     {
         match open_each::<L, N>(alloc, blanks, zones) {

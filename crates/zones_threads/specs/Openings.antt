@@ -6,7 +6,7 @@ use Rattle.zones_model.specs.Commands.{Command}
 use Rattle.zones_model.specs.Commands as model
 use Rattle.zone_table.specs.declared.opening.ZoneItems.{ZoneItems}
 use Rattle.zone_table.specs.declared.opening.ZonesRefusal.TheVariants as refusal
-use Rattle.zone_table.specs.Openings.{Place, RefusesZones, entries_in, origins_of}
+use Rattle.zone_table.specs.Openings.{AllFit, Place, RefusesZones, entries_in, origins_of}
 use Rattle.zones_threads.specs.declared.opening.ZonesRan.{ZonesRan}
 use Rattle.zones_threads.specs.declared.opening.ZonesRan.TheVariants.{Finished, DoesNotFit}
 use Rattle.zones_report.specs.Telling.{last_of}
@@ -19,5 +19,5 @@ pub record StandFor (items : List ZoneItems) (zones : List Zone) : Type 0 where
 
 -- each zone fits, and the workers were run; or one doesn't, the first in canonical order, and both numbers are told
 abbrev pub ZonesRanOn : List Place → ℕ → List Zone → List (List Command) → ZonesRan → Type 0
-ZonesRanOn places chunks zones workers (Finished f) = IsZonesRun chunks zones workers f.done.items (last_of f) f.attached f.names.items
+ZonesRanOn places chunks zones workers (Finished f) = AllFit places × IsZonesRun chunks zones workers f.done.items (last_of f) f.attached f.names.items
 ZonesRanOn places chunks zones workers (DoesNotFit zone cells limit) = RefusesZones places (refusal.Full zone cells limit)

@@ -37,5 +37,6 @@ returns-in_ok-finished-in-Ok g c = λ chunks list all_chunks stand.
     let origins = c.in-Ok.ensures.origins in
     let made = c.in-Ok.ensures.passes in
     let apart : AreApart opened.origins.items = record { names = opened.names; different = subst (IsDistinct same_name) (sym origins) c.requires.different } in
-    c.in_ok-finished-in-Ok.ensures.ran chunks list (stand.origins ∙ sym origins) apart (table_begins items c.requires.zones opened count passes origins made)
-    (zone_begins_there items c.requires.zones opened count passes origins made chunks (map (λ b. b.shared.table.shared.key) c.args.blanks.items) c.in-Ok.ensures.sizes c.requires.passes all_chunks list stand)
+    let ran = c.in_ok-finished-in-Ok.ensures.ran chunks list (stand.origins ∙ sym origins) apart (table_begins items c.requires.zones opened count passes origins made)
+    (zone_begins_there items c.requires.zones opened count passes origins made chunks (map (λ b. b.shared.table.shared.key) c.args.blanks.items) c.in-Ok.ensures.sizes c.requires.passes all_chunks list stand) in
+    (c.in-Ok.ensures.fits, ran)

@@ -2,7 +2,7 @@ use Rattle.std.proofs.Common.{◌∙◌, map, ap}
 use Rattle.std.proofs.lemmas.List.{length-map}
 use Rattle.zone_table.specs.Openings.{places_of}
 use Rattle.zone_table.proofs.DealLaws.{same_sizes}
-use Rattle.zone_table.proofs.OpeningLaws.{begun_fit}
+use Rattle.zone_table.proofs.OpeningLaws.{begun_within, begun_fit}
 use Rattle.zone_table.proofs.zones.Zones.open.Goals as goal
 
 pub returns-in-Ok-assemble-clause-sizes : goal.returns-in-Ok-assemble-clause-sizes
@@ -13,3 +13,6 @@ returns-in-Ok-assemble-clause-sizes g c =
 
 pub returns-in-Err-assemble-clause-refused : goal.returns-in-Err-assemble-clause-refused
 returns-in-Err-assemble-clause-refused g c = begun_fit (places_of c.args.zones.now (map (λ b. b.shared.table.shared.key) c.args.blanks.items)) c.in-Ok.opened.items c.in-Ok.ensures.opened
+
+pub returns-in-Ok-assemble-clause-fits : goal.returns-in-Ok-assemble-clause-fits
+returns-in-Ok-assemble-clause-fits g c = begun_within (places_of c.args.zones.now (map (λ b. b.shared.table.shared.key) c.args.blanks.items)) c.in-Ok.opened.items c.in-Ok.ensures.opened
