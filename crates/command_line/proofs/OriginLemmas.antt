@@ -1,4 +1,4 @@
--- A load that words ask for is under its own origin.
+-- A load that words ask for is under its own origin, and several zones are under the root.
 use Rattle.std.proofs.Common.{ℕ, Bool, true, false, cond, ◌&&◌, List, [], ◌∷◌, Option, Some, None, codes, option_and_then, unwrap_or, is_none, refl}
 use Rattle.std.specs.Option.{option_map}
 use Rattle.std.specs.Str.{bytes_eq}
@@ -11,8 +11,8 @@ use Rattle.zone_model.specs.declared.Style.{Style}
 use Rattle.zone_model.specs.declared.Style.TheVariants.{Full}
 use Rattle.command_line.specs.Numbers.{default_chunks, workers_of}
 use Rattle.command_line.specs.Options.{Options, chunks_given, load_of, no_options, options_from}
-use Rattle.command_line.specs.Invocations.{Invocation, IsUnder, Verb, Run, Check, Make, Dump, Feed, Size, asked_of, dumping_of, feeding_of, makes_nothing, making_of, plain_of, reading_of, sizing_of, under_origin}
-use Rattle.command_line.specs.Parsed.{asked_by, asked_in, chunks_in, invocation, load_in, making_by, origin_in, parsed_of, program_app, reading_in, sizing_in, style_in}
+use Rattle.command_line.specs.Invocations.{Invocation, IsUnder, Verb, Run, Check, Make, Dump, Feed, Size, Zones, asked_of, dumping_of, feeding_of, makes_nothing, making_of, plain_of, reading_of, sizing_of, under_origin, zones_of}
+use Rattle.command_line.specs.Parsed.{asked_by, asked_in, chunks_in, invocation, load_in, making_by, origin_in, parsed_of, program_app, reading_in, sizing_in, style_in, zones_in}
 use Rattle.command_line.specs.Words.{invocation_of, or_else}
 
 abbrev pub AllUnder : Option Invocation → Type 0
@@ -43,7 +43,8 @@ command_under command s =
     (either_under (bytes_eq command (codes "make")) (making_of s) _ (either_under (is_none s.origin && is_none s.style) _ None (load_under (load_of s) (chunks_given s)) tt)
     (either_under (bytes_eq command (codes "dump")) (dumping_of s) _ (either_under (makes_nothing s && is_none s.workers) _ None (origin_under (Dump (unwrap_or s.style Full)) (chunks_given s) s.origin (λ name. tt)) tt)
     (either_under (bytes_eq command (codes "feed")) (feeding_of s) _ (either_under (makes_nothing s && is_none s.style) _ None (feed_under s s.workers) tt)
-    (either_under (bytes_eq command (codes "size")) (sizing_of s) None (either_under (is_none s.chunks) (reading_of Size s) None (either_under (makes_nothing s && is_none s.style && is_none s.workers) (under_origin s Size) None (origin_under Size (chunks_given s) s.origin (λ name. tt)) tt) tt) tt)))))
+    (either_under (bytes_eq command (codes "size")) (sizing_of s) _ (either_under (is_none s.chunks) (reading_of Size s) None (either_under (makes_nothing s && is_none s.style && is_none s.workers) (under_origin s Size) None (origin_under Size (chunks_given s) s.origin (λ name. tt)) tt) tt)
+    (either_under (bytes_eq command (codes "zones")) (zones_of s) None (either_under (makes_nothing s && is_none s.origin && is_none s.style && is_none s.workers) _ None refl tt) tt))))))
 
 options_under : (command : List ℕ) (options : Option Options) → AllUnder (option_and_then (asked_of command) options)
 options_under command None = tt
@@ -72,6 +73,10 @@ read_under verb None chunks any = tt
 read_under verb (Some origin) None any = tt
 read_under verb (Some origin) (Some chunks) any = any origin
 
+zones_under : (chunks : Option ℕ) → AllUnder (invocation (Some Zones) (Some []) chunks)
+zones_under None = tt
+zones_under (Some chunks) = refl
+
 making_under : (load : Option Load) (chunks : Option ℕ) → AllUnder (making_by load chunks)
 making_under None chunks = tt
 making_under (Some load) None = tt
@@ -87,7 +92,8 @@ asked_under (Some x) =
     (either_under (bytes_eq x.0 (codes "make")) (making_by (load_in x.1) chunks) _ (making_under (load_in x.1) chunks)
     (either_under (bytes_eq x.0 (codes "dump")) _ _ (dump_under (style_in (first_of (codes "style") x.1)) origin chunks)
     (either_under (bytes_eq x.0 (codes "feed")) _ _ (fed_under (option_and_then workers_of (first_of (codes "workers") x.1)) origin chunks)
-    (either_under (bytes_eq x.0 (codes "size")) (sizing_in x.1) None (read_under Size origin (Some default_chunks) (λ name. tt)) tt)))))
+    (either_under (bytes_eq x.0 (codes "size")) (sizing_in x.1) _ (read_under Size origin (Some default_chunks) (λ name. tt))
+    (either_under (bytes_eq x.0 (codes "zones")) (zones_in x.1) None (zones_under chunks) tt))))))
 
 parsed_under : (words : List (List ℕ)) → AllUnder (parsed_of words)
 parsed_under words = either_under (is_empty (fault_of program_app words)) (asked_in (subcommand_of program_app words)) None (asked_under (subcommand_of program_app words)) tt

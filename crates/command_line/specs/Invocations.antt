@@ -9,7 +9,7 @@ use Rattle.job_model.specs.Loads.{Load, made_origin}
 use Rattle.command_line.specs.Options.{Options, no_options, options_from, load_of, chunks_given}
 
 -- What is done: a job is run; it is said how large a zone's index is; a load's job is run, and summed up; a zone is written; one list
--- of commands is run by so many workers; or it is reckoned how many chunks a job needs.
+-- of commands is run by so many workers; it is reckoned how many chunks a job needs; or a job over several zones is run.
 pub data Verb : Type 0 where
   Run : Verb
   Check : Verb
@@ -17,6 +17,7 @@ pub data Verb : Type 0 where
   Dump : (style : Style) → Verb
   Feed : (workers : ℕ) → Verb
   Size : Verb
+  Zones : Verb
 
 -- what to do under an origin, over a number of chunks
 pub record Invocation : Type 0 where
@@ -24,7 +25,7 @@ pub record Invocation : Type 0 where
   pub origin : Name
   pub chunks : ℕ
 
--- a load's names are under an origin of their own
+-- a load's names are under an origin of their own; several zones are under the root
 abbrev pub IsUnder : Verb → Name → Type 0
 IsUnder Run origin = Unit {0}
 IsUnder Check origin = Unit {0}
@@ -32,6 +33,7 @@ IsUnder (Make load) origin = origin ≡ made_origin
 IsUnder (Dump style) origin = Unit {0}
 IsUnder (Feed workers) origin = Unit {0}
 IsUnder Size origin = Unit {0}
+IsUnder Zones origin = origin ≡ []
 
 -- ---- a command and its options
 
@@ -56,6 +58,12 @@ feeding_of s = if makes_nothing s && is_none s.style then option_and_then (λ wo
 abbrev pub sizing_of : Options → Option Invocation
 sizing_of s = if is_none s.chunks then reading_of Size s else None
 
+-- nothing is given but perhaps a number of chunks
+abbrev pub zones_of : Options → Option Invocation
+zones_of s =
+    if makes_nothing s && is_none s.origin && is_none s.style && is_none s.workers then Some (record { verb = Zones; origin = []; chunks = chunks_given s })
+    else None
+
 abbrev pub making_of : Options → Option Invocation
 making_of s =
     if is_none s.origin && is_none s.style then option_map (λ load. record { verb = Make load; origin = made_origin; chunks = chunks_given s }) (load_of s)
@@ -70,6 +78,7 @@ asked_of command s =
     else if bytes_eq command (codes "dump") then dumping_of s
     else if bytes_eq command (codes "feed") then feeding_of s
     else if bytes_eq command (codes "size") then sizing_of s
+    else if bytes_eq command (codes "zones") then zones_of s
     else None
 
 -- what plain words say, the first of which is the program's name: a command and options of it, each option once with its value behind

@@ -14,7 +14,7 @@ use Rattle.clap.specs.Faults.{fault_of}
 use Rattle.clap.specs.declared.builder.action.ArgAction.TheVariants.{Set}
 use Rattle.command_line.specs.Numbers.{chunks_of, default_chunks, seed_of, names_of, turns_of, workers_of}
 use Rattle.command_line.specs.Options.{load_by, style_of}
-use Rattle.command_line.specs.Invocations.{Invocation, Verb, Run, Check, Make, Dump, Feed, Size}
+use Rattle.command_line.specs.Invocations.{Invocation, Verb, Run, Check, Make, Dump, Feed, Size, Zones}
 
 -- ---- the command line that clap is given
 
@@ -48,10 +48,13 @@ feeding_shape = record (new_shape (codes "feed")) {
 abbrev pub sizing_shape : Shape
 sizing_shape = record (new_shape (codes "size")) { rules = option_rule (codes "origin") true ∷ [] }
 
+abbrev pub zones_shape : Shape
+zones_shape = record (new_shape (codes "zones")) { rules = option_rule (codes "chunks") false ∷ [] }
+
 abbrev pub program_app : App
 program_app = record {
   top = record (new_shape (codes "qpzone")) { is_leaf = false; subcommand_required = true };
-  subs = reading_shape (codes "run") ∷ reading_shape (codes "check") ∷ making_shape ∷ dumping_shape ∷ feeding_shape ∷ sizing_shape ∷ [];
+  subs = reading_shape (codes "run") ∷ reading_shape (codes "check") ∷ making_shape ∷ dumping_shape ∷ feeding_shape ∷ sizing_shape ∷ zones_shape ∷ [];
 }
 
 -- ---- what is meant by what clap gives
@@ -80,6 +83,9 @@ reading_in verb rows = invocation verb (origin_in (first_of (codes "origin") row
 abbrev pub sizing_in : List Row → Option Invocation
 sizing_in rows = invocation (Some Size) (origin_in (first_of (codes "origin") rows)) (Some default_chunks)
 
+abbrev pub zones_in : List Row → Option Invocation
+zones_in rows = invocation (Some Zones) (Some []) (chunks_in (first_of (codes "chunks") rows))
+
 abbrev pub load_in : List Row → Option Load
 load_in rows = load_by (option_and_then seed_of (first_of (codes "seed") rows)) (option_and_then names_of (first_of (codes "names") rows)) (option_and_then turns_of (first_of (codes "turns") rows)) (option_and_then workers_of (first_of (codes "workers") rows))
 
@@ -97,6 +103,7 @@ asked_by name rows =
     else if bytes_eq name (codes "dump") then reading_in (option_map Dump (style_in (first_of (codes "style") rows))) rows
     else if bytes_eq name (codes "feed") then reading_in (option_map Feed (option_and_then workers_of (first_of (codes "workers") rows))) rows
     else if bytes_eq name (codes "size") then sizing_in rows
+    else if bytes_eq name (codes "zones") then zones_in rows
     else None
 
 abbrev pub asked_in : Option (List ℕ × List Row) → Option Invocation

@@ -3,7 +3,7 @@ use Rattle.command_line.specs.Invocations as lines
 use Rattle.command_line.specs.Options as options
 use Rattle.command_line.specs.declared.invocation.Invocation.{Invocation}
 use Rattle.command_line.specs.declared.invocation.Verb.{Verb}
-use Rattle.command_line.specs.declared.invocation.Verb.TheVariants.{Run, Check, Make, Dump, Feed, Size}
+use Rattle.command_line.specs.declared.invocation.Verb.TheVariants.{Run, Check, Make, Dump, Feed, Size, Zones}
 use Rattle.command_line.specs.declared.given.Options.{Options}
 use Rattle.job_make.specs.Views.{load_view}
 
@@ -14,6 +14,7 @@ verb_view (Make load) = lines.Make (load_view load)
 verb_view (Dump style) = lines.Dump style
 verb_view (Feed crew) = lines.Feed crew.workers
 verb_view Size = lines.Size
+verb_view Zones = lines.Zones
 
 abbrev pub invocation_view : Invocation → lines.Invocation
 invocation_view i = record { verb = verb_view i.verb; origin = i.origin; chunks = i.chunks }

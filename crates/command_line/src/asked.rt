@@ -4,7 +4,7 @@ ghost use Rattle.std.specs.Option.{option_map};
 ghost use Rattle.std.specs.String.{string_bytes};
 ghost use Rattle.job_model.specs.Loads.{made_origin};
 ghost use Rattle.job_make.specs.Views.{load_view};
-ghost use Rattle.command_line.specs.Invocations.{asked_of, dumping_of, feeding_of, makes_nothing, making_of, plain_of, reading_of, sizing_of, under_origin};
+ghost use Rattle.command_line.specs.Invocations.{asked_of, dumping_of, feeding_of, makes_nothing, making_of, plain_of, reading_of, sizing_of, under_origin, zones_of};
 ghost use Rattle.command_line.specs.Options.{load_of};
 ghost use Rattle.command_line.specs.Views.{invocation_view, options_view, verb_view};
 
@@ -80,6 +80,27 @@ fn sizing_of(options: &Options) -> Option<Invocation>
     reading_of(Verb::Size, options)
 }
 
+// Nothing is given but perhaps a number of chunks.
+fn zones_of(options: &Options) -> Option<Invocation>
+    ensures { option_map invocation_view result ≡ zones_of (options_view options.now) }
+{
+    if !makes_nothing(options) || options.origin.is_some() {
+        return None;
+    }
+    if options.style.is_some() || options.workers.is_some() {
+        return None;
+    }
+    let chunks = match options.chunks {
+        Some(chunks) => chunks,
+        None => DEFAULT_CHUNKS,
+    };
+    Some(Invocation {
+        verb: Verb::Zones,
+        origin: Name::root(),
+        chunks,
+    })
+}
+
 // The load whose numbers are all given.
 fn load_of(options: &Options) -> Option<Load>
     ensures { option_map load_view result ≡ load_of (options_view options.now) }
@@ -136,6 +157,7 @@ fn asked_of(command: &str, options: &Options) -> Option<Invocation>
         "dump" => dumping_of(options),
         "feed" => feeding_of(options),
         "size" => sizing_of(options),
+        "zones" => zones_of(options),
         _ => None,
     }
 }

@@ -29,9 +29,11 @@ pub enum Verb {
     Feed(Crew),
     /// Reckon how many chunks a job needs.
     Size,
+    /// Run a job over several zones.
+    Zones,
 }
 
-/// What the words of the command line say: what to do under an origin, over a number of chunks.
+/// What the words of the command line say: what to do under an origin, over a number of chunks. Several zones are under the root.
 #[derive(Clone, Copy)]
 pub struct Invocation {
     pub verb: Verb,

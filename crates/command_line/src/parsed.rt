@@ -127,6 +127,18 @@ fn sizing_in(matches: &ArgMatches<'_>) -> Option<Invocation>
     })
 }
 
+// What the options of the command over several zones say.
+fn zones_in(matches: &ArgMatches<'_>) -> Option<Invocation>
+    ensures { option_map invocation_view result ≡ parsed.zones_in (rows_of (found_of matches.now)) }
+{
+    let chunks = chunks_in(value_in(matches, "chunks"))?;
+    Some(Invocation {
+        verb: Verb::Zones,
+        origin: Name::root(),
+        chunks,
+    })
+}
+
 // The load that options say.
 fn load_in(matches: &ArgMatches<'_>) -> Option<Load>
     ensures { option_map load_view result ≡ parsed.load_in (rows_of (found_of matches.now)) }
@@ -179,6 +191,7 @@ fn asked_by(name: &str, matches: &ArgMatches<'_>) -> Option<Invocation>
         "dump" => reading_in(matches, dump_in(matches)),
         "feed" => reading_in(matches, feed_in(matches)),
         "size" => sizing_in(matches),
+        "zones" => zones_in(matches),
         _ => None,
     }
 }

@@ -3,7 +3,7 @@ ghost use Rattle.std.specs.Prelude.{◌≡◌, ◌∷◌, [], IfOk, codes, false
 ghost use Rattle.clap.specs.Simple.{app_of, new_shape};
 ghost use Rattle.clap.specs.Walk.{rule_of};
 ghost use Rattle.clap.specs.declared.builder.command.Command.TheViews.{out-Command as fields_of};
-ghost use Rattle.command_line.specs.Parsed.{dumping_shape, feeding_shape, making_shape, option_rule, program_app, reading_shape, sizing_shape};
+ghost use Rattle.command_line.specs.Parsed.{dumping_shape, feeding_shape, making_shape, option_rule, program_app, reading_shape, sizing_shape, zones_shape};
 
 use clap::{Arg, ArgAction, Command};
 use std::alloc::{AllocError, Global};
@@ -20,7 +20,7 @@ fn option<'a>(alloc: Global, name: &'a str, help: &'a str, required: bool) -> Ar
         .required(required)
 }
 
-// The number of chunks, which each command takes but the one that reckons it.
+// The number of chunks, which each command takes but the one that reckons it. Each zone's index has so many.
 fn chunks<'a>(alloc: Global) -> Arg<'a>
     ensures rule { rule_of result ≡ option_rule (codes "chunks") false }
     ensures local { result.global ≡ false }
@@ -28,12 +28,12 @@ fn chunks<'a>(alloc: Global) -> Arg<'a>
     option(
         alloc,
         "chunks",
-        "How many chunks of 1,024 cells the index has, 16 to 4096; 64 if not said",
+        "How many chunks of 1,024 cells a zone's index has, 16 to 4096; 64 if not said",
         false,
     )
 }
 
-// The zone's origin, which each command takes but the one that makes a load.
+// The zone's origin, which each command of one zone takes but the one that makes a load.
 fn origin<'a>(alloc: Global) -> Arg<'a>
     ensures rule { rule_of result ≡ option_rule (codes "origin") true }
     ensures local { result.global ≡ false }
@@ -131,6 +131,18 @@ fn sizing<'a>(alloc: Global) -> Result<Command<'a>, AllocError>
     Ok(with_origin)
 }
 
+// The command that runs a job over several zones.
+fn several<'a>(alloc: Global) -> Result<Command<'a>, AllocError>
+    ensures app { IfOk result (λ c. app_of c ≡ record { top = zones_shape; subs = [] }) }
+    ensures local { IfOk result (λ c. (fields_of c).has_globals ≡ false) }
+{
+    let about = "Read several zones and a job over them, run it, and print a report";
+    let command = Command::new(alloc, "zones").about(about);
+    let chunks = chunks(alloc);
+    let with_chunks = command.arg(chunks)?;
+    Ok(with_chunks)
+}
+
 // The program's own command, of which the others are parts.
 fn whole<'a>(alloc: Global) -> Command<'a>
     ensures { app_of result ≡ record { top = record (new_shape (codes "qpzone")) { subcommand_required = true }; subs = [] } }
@@ -160,5 +172,7 @@ pub fn program<'a>(alloc: Global) -> Result<Command<'a>, AllocError>
     let with_feed = with_dump.subcommand(feed_command)?;
     let size_command = sizing(alloc)?;
     let with_size = with_feed.subcommand(size_command)?;
-    Ok(with_size)
+    let zones_command = several(alloc)?;
+    let with_zones = with_size.subcommand(zones_command)?;
+    Ok(with_zones)
 }

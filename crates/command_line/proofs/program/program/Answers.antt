@@ -1,6 +1,6 @@
 use Rattle.std.proofs.Common.{rules, ◌≡◌, ◌∙◌, [], ap, ap₂, codes, true}
 use Rattle.clap.specs.Simple.{App, app_of, new_shape, with_subcommand}
-use Rattle.command_line.specs.Parsed.{dumping_shape, feeding_shape, making_shape, reading_shape, sizing_shape}
+use Rattle.command_line.specs.Parsed.{dumping_shape, feeding_shape, making_shape, reading_shape, sizing_shape, zones_shape}
 use Rattle.command_line.proofs.program.program.Goals as goal
 
 pub returns : goal.returns
@@ -12,7 +12,10 @@ returns c =
     let dump_is : app_of c.in_ok-dump_command.dump_command ≡ record { top = dumping_shape; subs = [] } = c.in_ok-dump_command.ensures.app in
     let feed_is : app_of c.in_ok-feed_command.feed_command ≡ record { top = feeding_shape; subs = [] } = c.in_ok-feed_command.ensures.app in
     let size_is : app_of c.in_ok-size_command.size_command ≡ record { top = sizing_shape; subs = [] } = c.in_ok-size_command.ensures.app in
-    c.in_ok-with_size.ensures.shape c.in_ok-size_command.ensures.local
+    let zones_is : app_of c.in_ok-zones_command.zones_command ≡ record { top = zones_shape; subs = [] } = c.in_ok-zones_command.ensures.app in
+    c.in_ok-with_zones.ensures.shape c.in_ok-zones_command.ensures.local
+    ∙ ap₂ with_subcommand
+    (c.in_ok-with_size.ensures.shape c.in_ok-size_command.ensures.local
     ∙ ap₂ with_subcommand
     (c.in_ok-with_feed.ensures.shape c.in_ok-feed_command.ensures.local
     ∙ ap₂ with_subcommand
@@ -25,4 +28,5 @@ returns c =
     (ap (λ (a : App). a.top) make_is))
     (ap (λ (a : App). a.top) dump_is))
     (ap (λ (a : App). a.top) feed_is))
-    (ap (λ (a : App). a.top) size_is)
+    (ap (λ (a : App). a.top) size_is))
+    (ap (λ (a : App). a.top) zones_is)
