@@ -6,7 +6,7 @@ use Rattle.outer_io.specs.Bytes.{Held}
 use Rattle.outer_io.proofs.GrowsLemmas.{Grows-nil}
 use Rattle.zone_model.specs.Dumps.{dump}
 use Rattle.zone_model.specs.declared.Style.{Style}
-use Rattle.command_line.specs.Invocations.{Invocation, Verb, Run, Feed, Check, Make, Dump, Size}
+use Rattle.command_line.specs.Invocations.{Invocation, Verb, Run, Feed, Check, Make, Dump, Size, Zones}
 use Rattle.job_model.specs.Loads.{Load, made_origin, made_text}
 use Rattle.zone_model.specs.Names.{Name}
 use Rattle.zone_model.specs.Versions.{Version}
@@ -22,6 +22,10 @@ use Rattle.job_script.specs.Scripts.{Says}
 use Rattle.job_script.specs.declared.refusal.JobRefusal.{JobRefusal as ScriptStop}
 use Rattle.job_script.specs.declared.refusal.JobRefusal.TheVariants as stop
 use Rattle.zone_model.specs.MasterFile.{Zone}
+use Rattle.zones_model.specs.Commands.{Job as ZonesJob}
+use Rattle.zones_model.specs.Reports as several
+use Rattle.zones_script.specs.Jobs.{ZonesRefusal, zones_job_of}
+use Rattle.zones_script.specs.Jobs as of_zones
 use Rattle.zone_text.specs.Views.{Reads}
 use Rattle.zone_text.specs.declared.refusal.ZoneRefusal.{ZoneRefusal}
 use Rattle.zone_text.specs.declared.refusal.ZoneRefusal.TheVariants as refusal
@@ -29,7 +33,7 @@ use Rattle.job_model.specs.Sizes.{cell_count}
 use Rattle.shared_index.specs.Openings.{room_in}
 use Rattle.job_threads.specs.Dumps.{StopsOn}
 use Rattle.qp_main.specs.Fits.{fits, no_room_text, opened_text}
-use Rattle.qp_main.specs.Due.{Due, DueBytes, DueGiven, DueInput, Answers, FedAnswers, Checks, CutShort, Dumps, EndsLoad, IfFits, Ends, JobRefuses, Refuses, RefusesScript, Reported, FedReported, Sized, Sizes, IsWritten, MayBeShort, Written, input_of, is_streamed, streams, zone_kind_text, refusal_text}
+use Rattle.qp_main.specs.Due.{Due, DueBytes, DueGiven, DueInput, Answers, FedAnswers, Checks, CutShort, Dumps, EndsLoad, IfAllFit, IfFits, Ends, JobRefuses, Refuses, RefusesScript, Reported, FedReported, Sized, Sizes, IsWritten, MayBeShort, Written, ZonesAnswers, ZonesReported, all_fit, input_of, is_streamed, streams, zone_kind_text, refusal_text}
 use Rattle.qp_main.specs.Stops.{IsStop, ScriptStopsFor, ZoneStopsFor}
 use Rattle.qp_main.specs.declared.refusing.Stop.{Stop}
 use Rattle.qp_main.specs.declared.refusing.Stop.TheVariants as stops
@@ -106,6 +110,7 @@ some_input : (verb : Verb) (chunks : ℕ) (origin : Name) (bytes : List ℕ) →
 some_input Run chunks origin bytes e = absurd cc
 some_input (Feed workers) chunks origin bytes e = absurd cc
 some_input Size chunks origin bytes e = absurd cc
+some_input Zones chunks origin bytes e = absurd cc
 some_input Check chunks origin bytes e = absurd cc
 some_input (Make load) chunks origin bytes e = absurd cc
 some_input (Dump style) chunks origin bytes e = some_dump chunks style origin (zone_of origin (zone_lines bytes))
@@ -338,6 +343,22 @@ sizes_answer : (r : Result Job JobRefusal) (s : Status) (text : List ℕ) → Si
 sizes_answer (Ok job) s text h = answer_as s status.Done h.ended tt
 sizes_answer (Err e) s text h = refused_answer e s text h
 
+all_fit_answers : (b : Bool) (chunks : ℕ) (zones : List Zone) (F : Status → List ℕ → Type 0) (s : Status) (text : List ℕ) → (F s text → IsAnswer s) → IfAllFit b chunks zones F s text → IsAnswer s
+all_fit_answers true chunks zones F s text f h = f h
+all_fit_answers false chunks zones F s text f h = answer_as s status.DoesNotFit h.told.0 tt
+
+zones_reported_answers : (chunks : ℕ) (job : ZonesJob) (s : Status) (text : List ℕ) → ZonesReported chunks job s text → IsAnswer s
+zones_reported_answers chunks job s text h = answer_as s (cond (several.some_refused h.workers) status.SomeRefused status.Done) h.ended (by_refused (several.some_refused h.workers))
+  where
+    by_refused : (b : Bool) → IsAnswer (cond b status.SomeRefused status.Done)
+    by_refused true = tt
+    by_refused false = tt
+
+zones_answer : (chunks : ℕ) (r : Result ZonesJob ZonesRefusal) (s : Status) (text : List ℕ) → ZonesAnswers chunks r s text → IsAnswer s
+zones_answer chunks (Ok job) s text h = all_fit_answers (all_fit chunks job.zones) chunks job.zones (ZonesReported chunks job) s text (zones_reported_answers chunks job s text) h
+zones_answer chunks (Err (of_zones.ListRefused e)) s text h = answer_as s status.ZoneRefused h.0 tt
+zones_answer chunks (Err (of_zones.ScriptRefused e)) s text h = answer_as s status.ScriptRefused h.0 tt
+
 check_answer : (chunks : ℕ) (r : Result Version (Refused ZoneKind)) (s : Status) (text : List ℕ) → Checks chunks r s text → IsAnswer s
 check_answer chunks (Ok zone) s text h = if_fits_answers (fits chunks zone) chunks zone (Ends status.Done (opened_text zone)) s text (λ k. answer_as s status.Done k.0 tt) h
 check_answer chunks (Err e) s text h = answer_as s status.ZoneRefused h.0 tt
@@ -351,6 +372,7 @@ due_answer Run chunks origin bytes s text h = job_answer Report chunks (job_of o
 due_answer (Feed workers) chunks origin bytes s text h = fed_answer workers chunks (fed_job_of origin bytes) s text h
 due_answer (Make load) chunks origin bytes s text h = job_answer Summary chunks (job_of origin bytes) s text h
 due_answer Size chunks origin bytes s text h = sizes_answer (job_of origin bytes) s text h
+due_answer Zones chunks origin bytes s text h = zones_answer chunks (zones_job_of bytes) s text h
 due_answer Check chunks origin bytes s text h = check_answer chunks (zone_of origin (zone_lines bytes)) s text h
 due_answer (Dump style) chunks origin bytes s text h = dump_answer chunks style origin (zone_of origin (zone_lines bytes)) s text h
 

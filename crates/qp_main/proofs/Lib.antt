@@ -3,3 +3,8 @@ pub mod ItemLemmas
 pub mod ReadingLemmas
 pub mod ReportingLemmas
 pub mod SizingLemmas
+pub mod SeveralLemmas
+pub mod BlockLemmas
+pub mod ListLemmas
+pub mod ZonesLemmas
+pub mod OpensLemmas

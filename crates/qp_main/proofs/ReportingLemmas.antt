@@ -63,7 +63,7 @@ job_reported telling chunks origin zone ws f text refused s r printed some ended
   finds_room = λ sized. sized_room (record { origin = origin; zone = zone; workers = ws }) said (job_pairs ws f.outcomes.items) (workers_same origin (versions_made origin zone ws f.outcomes.items) ws f.outcomes.items r.tell) chunks f.version sized r.lawful;
 }
 
-it_fits : (chunks : ℕ) (zone : Version) → cell_count zone ≤ room_in chunks → fits chunks zone ≡ true
+pub it_fits : (chunks : ℕ) (zone : Version) → cell_count zone ≤ room_in chunks → fits chunks zone ≡ true
 it_fits chunks zone h = below (cell_count zone) (room_in chunks) h
   where
     below : (m n : ℕ) → m ≤ n → leb m n ≡ true

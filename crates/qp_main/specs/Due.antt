@@ -1,10 +1,12 @@
 -- What is due for words and bytes: a status, and the text to be written.
-use Rattle.std.specs.Prelude.{◌≡◌, ℕ, Bool, true, false, List, nat_le, ◌++◌, length, if◌then◌else◌, Option, Some, None, Result, Ok, Err, codes, map}
+use Rattle.std.specs.Prelude.{◌≡◌, ℕ, Bool, true, false, List, nat_le, ◌++◌, length, if◌then◌else◌, Option, Some, None, Result, Ok, Err, codes, map, Contains}
+use Rattle.std.specs.List.{list_all}
+use Rattle.std.specs.declared.cmp.Ordering.TheVariants.{Less}
 use Rattle.std.specs.Fmt.{decimal}
-use Rattle.zone_model.specs.Names.{Name}
+use Rattle.zone_model.specs.Names.{Name, name_cmp}
 use Rattle.zone_model.specs.Versions.{Version}
 use Rattle.zone_model.specs.Refusals.{Refused}
-use Rattle.zone_model.specs.MasterFile.{zone_of}
+use Rattle.zone_model.specs.MasterFile.{Zone, zone_of}
 use Rattle.job_model.specs.Commands.{FedJob, Job}
 use Rattle.job_model.specs.Jobs.{JobRefusal, ZoneRefused, ScriptRefused, zone_lines, job_of, fed_job_of}
 use Rattle.trie_model.specs.Capacity.{IsLeast}
@@ -17,12 +19,19 @@ use Rattle.job_model.specs.declared.ScriptKind.{ScriptKind}
 use Rattle.job_model.specs.declared.ScriptKind.TheVariants.{NoWorker, BadCommand, BadName, BadType, BadRdata, BadNumber, OpenBlock, NotHeld, AlreadyHeld, TooMany}
 use Rattle.job_model.specs.Loads.{made_text}
 use Rattle.need_laws.specs.Bounds.{AllFedFindRoom, AllFindRoom, IsSized, IsSizedList}
+use Rattle.zone_list.specs.declared.refusal.ListKind.{ListKind}
+use Rattle.zone_list.specs.declared.refusal.ListKind.TheVariants as list_kind
+use Rattle.zones_model.specs.Commands.{Job as ZonesJob}
+use Rattle.zones_model.specs.Outcomes.{Done, Last, ZonesLawful, command_of}
+use Rattle.zones_model.specs.Reports as several
+use Rattle.zones_script.specs.Jobs.{ZonesRefusal, zones_job_of}
+use Rattle.zones_script.specs.Jobs as of_zones
 use Rattle.zone_text.specs.declared.refusal.ZoneRefusal.{ZoneRefusal}
 use Rattle.zone_text.specs.declared.refusal.ZoneRefusal.TheVariants as refusal
 use Rattle.outer_io.specs.Bytes.{Held, Grows, GrowsByFront}
 use Rattle.zone_model.specs.Dumps.{dump}
 use Rattle.zone_model.specs.declared.Style.{Style}
-use Rattle.command_line.specs.Invocations.{Invocation, Verb, Run, Feed, Check, Make, Dump, Size}
+use Rattle.command_line.specs.Invocations.{Invocation, Verb, Run, Feed, Check, Make, Dump, Size, Zones}
 use Rattle.qp_main.specs.Fits.{fits, no_room_text, opened_text}
 use Rattle.qp_main.specs.Needs.{needs_text}
 use Rattle.qp_main.specs.Tellings.{told_text}
@@ -47,6 +56,11 @@ zone_kind_text zone_kind.OutsideZone = codes "OutsideZone"
 zone_kind_text zone_kind.CnameAndOther = codes "CnameAndOther"
 zone_kind_text zone_kind.SoaRule = codes "SoaRule"
 zone_kind_text zone_kind.LongEntry = codes "LongEntry"
+
+abbrev pub list_kind_text : ListKind → List ℕ
+list_kind_text (list_kind.Zone kind) = zone_kind_text kind
+list_kind_text list_kind.Repeated = codes "Repeated"
+list_kind_text list_kind.TooManyZones = codes "TooManyZones"
 
 abbrev pub script_kind_text : ScriptKind → List ℕ
 script_kind_text NoWorker = codes "NoWorker"
@@ -84,6 +98,15 @@ pub record FedReported (workers chunks : ℕ) (job : FedJob) (s : Status) (text 
   pub is : text ≡ fed_report job.origin job.zone workers fed last
   pub ended : s ≡ (if some_fed_refused fed then status.SomeRefused else status.Done)
   pub finds_room : IsSizedList job workers chunks → AllFedFindRoom fed
+
+-- The same of commands over several zones, each of which has an index of so many chunks.
+pub record ZonesReported (chunks : ℕ) (job : ZonesJob) (s : Status) (text : List ℕ) : Type 0 where
+  pub workers : List (List Done)
+  pub last : Last
+  pub same : map (map command_of) workers ≡ job.workers
+  pub lawful : ZonesLawful chunks job.zones workers last
+  pub is : text ≡ several.report job.zones workers last
+  pub ended : s ≡ (if several.some_refused workers then status.SomeRefused else status.Done)
 
 -- What a job needs: the text tells the least number of chunks that is enough for the passes of its workers, the cells of its zone and of
 -- all that is added to it, and its longest transaction; and these two.
@@ -123,6 +146,21 @@ abbrev pub IfFits : Bool → ℕ → Version → (Status → List ℕ → Type 0
 IfFits true chunks zone Fitting = Fitting
 IfFits false chunks zone Fitting = Ends status.DoesNotFit (no_room_text chunks zone)
 
+-- of several zones the first in canonical order of the origins that doesn't fit is told
+pub record FirstDoesNotFit (chunks : ℕ) (zones : List Zone) (s : Status) (text : List ℕ) : Type 0 where
+  pub zone : Zone
+  pub there : Contains zones zone
+  pub too_large : fits chunks zone.pairs ≡ false
+  pub first : (other : Zone) → Contains zones other → name_cmp other.origin zone.origin ≡ Less → fits chunks other.pairs ≡ true
+  pub told : Ends status.DoesNotFit (no_room_text chunks zone.pairs) s text
+
+abbrev pub all_fit : ℕ → List Zone → Bool
+all_fit chunks zones = list_all (λ zone. fits chunks zone.pairs) zones
+
+abbrev pub IfAllFit : Bool → ℕ → List Zone → (Status → List ℕ → Type 0) → Status → List ℕ → Type 0
+IfAllFit true chunks zones Fitting = Fitting
+IfAllFit false chunks zones Fitting = FirstDoesNotFit chunks zones
+
 -- the status and the text for the job that bytes say
 abbrev pub Answers : Telling → ℕ → Result Job JobRefusal → Status → List ℕ → Type 0
 Answers telling chunks (Ok job) = IfFits (fits chunks job.zone) chunks job.zone (Reported telling chunks job)
@@ -132,6 +170,15 @@ Answers telling chunks (Err e) = JobRefuses e
 abbrev pub FedAnswers : ℕ → ℕ → Result FedJob JobRefusal → Status → List ℕ → Type 0
 FedAnswers workers chunks (Ok job) = IfFits (fits chunks job.zone) chunks job.zone (FedReported workers chunks job)
 FedAnswers workers chunks (Err e) = JobRefuses e
+
+abbrev pub ListRefuses : Refused ListKind → Status → List ℕ → Type 0
+ListRefuses e = Ends status.ZoneRefused (refusal_text (codes "zone") e.line (list_kind_text e.kind))
+
+-- the same of the job over several zones that bytes say
+abbrev pub ZonesAnswers : ℕ → Result ZonesJob ZonesRefusal → Status → List ℕ → Type 0
+ZonesAnswers chunks (Ok job) = IfAllFit (all_fit chunks job.zones) chunks job.zones (ZonesReported chunks job)
+ZonesAnswers chunks (Err (of_zones.ListRefused e)) = ListRefuses e
+ZonesAnswers chunks (Err (of_zones.ScriptRefused e)) = ScriptRefuses e
 
 -- the status and the text for the job that bytes say: what it needs, whether or not its zone fits into some chunks
 abbrev pub Sizes : Result Job JobRefusal → Status → List ℕ → Type 0
@@ -154,6 +201,7 @@ DueInput Run chunks origin bytes = Answers Report chunks (job_of origin bytes)
 DueInput (Feed workers) chunks origin bytes = FedAnswers workers chunks (fed_job_of origin bytes)
 DueInput (Make load) chunks origin bytes = Answers Summary chunks (job_of origin bytes)
 DueInput Size chunks origin bytes = Sizes (job_of origin bytes)
+DueInput Zones chunks origin bytes = ZonesAnswers chunks (zones_job_of bytes)
 DueInput Check chunks origin bytes = Checks chunks (zone_of origin (zone_lines bytes))
 DueInput (Dump style) chunks origin bytes = Dumps chunks style origin (zone_of origin (zone_lines bytes))
 
@@ -171,6 +219,7 @@ abbrev pub input_of : Verb → Option (List ℕ) → Option (List ℕ)
 input_of Run left = left
 input_of (Feed workers) left = left
 input_of Size left = left
+input_of Zones left = left
 input_of Check left = left
 input_of (Dump style) left = left
 input_of (Make load) left = Some (made_text load)
@@ -190,6 +239,7 @@ abbrev pub MakesInput : Verb → Type 0
 MakesInput Run = ⊥
 MakesInput (Feed workers) = ⊥
 MakesInput Size = ⊥
+MakesInput Zones = ⊥
 MakesInput Check = ⊥
 MakesInput (Dump style) = ⊥
 MakesInput (Make load) = Unit {0}
@@ -229,6 +279,7 @@ abbrev pub is_streamed : Verb → Bool
 is_streamed Run = false
 is_streamed (Feed workers) = false
 is_streamed Size = false
+is_streamed Zones = false
 is_streamed Check = false
 is_streamed (Make load) = false
 is_streamed (Dump style) = true

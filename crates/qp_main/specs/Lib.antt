@@ -4,3 +4,5 @@ pub mod Needs
 pub mod Due
 pub mod Tellings
 pub mod Stops
+pub mod Saids
+pub mod Opens

@@ -5,7 +5,9 @@ use Rattle.zone_model.specs.MasterFile.{Zone}
 use Rattle.zone_text.specs.declared.refusal.ZoneRefusal.{ZoneRefusal}
 use Rattle.zone_text.specs.declared.refusal.ZoneRefusal.TheVariants as refusal
 use Rattle.job_model.specs.declared.ScriptKind.{ScriptKind}
-use Rattle.qp_main.specs.Due.{ScriptRefuses, ZoneRefuses}
+use Rattle.zone_list.specs.declared.refusal.ListRefusal.{ListRefusal}
+use Rattle.zone_list.specs.declared.refusal.ListRefusal.TheVariants as list
+use Rattle.qp_main.specs.Due.{ListRefuses, ScriptRefuses, ZoneRefuses}
 use Rattle.qp_main.specs.declared.status.Status.{Status}
 use Rattle.qp_main.specs.declared.refusing.Stop.{Stop}
 use Rattle.qp_main.specs.declared.refusing.Stop.TheVariants as stop
@@ -16,6 +18,13 @@ ZoneStopsFor (refusal.Refused line kind) (stop.Refused s text) = ZoneRefuses (re
 ZoneStopsFor (refusal.Refused line kind) stop.Memory = ⊥
 ZoneStopsFor refusal.Memory (stop.Refused s text) = ⊥
 ZoneStopsFor refusal.Memory stop.Memory = Unit {0}
+
+-- the same of a list of zones
+abbrev pub ListStopsFor : ListRefusal → Stop → Type 0
+ListStopsFor (list.Refused line kind) (stop.Refused s text) = ListRefuses (record { line = line; kind = kind }) s text
+ListStopsFor (list.Refused line kind) stop.Memory = ⊥
+ListStopsFor list.Memory (stop.Refused s text) = ⊥
+ListStopsFor list.Memory stop.Memory = Unit {0}
 
 -- the same of a script's refusal, behind what was read of the zone
 abbrev pub ScriptStopsFor : Result Zone ZoneRefusal → Refused ScriptKind → Stop → Type 0

@@ -1,6 +1,6 @@
 //! The program: reads a job (a zone and its workers' script), runs it, and prints the report; or hands one list of commands
 //! out to workers; or reads a zone and says how large its index is, or writes it as a master file; or makes a job, runs it, and sums
-//! it up; or reads a job and says how many chunks it needs.
+//! it up; or reads a job and says how many chunks it needs; or runs a job over several zones.
 #![tactic(auto)]
 
 mod dumping;
@@ -13,6 +13,7 @@ mod reading;
 mod refusing;
 mod report;
 mod reporting;
+mod several;
 mod sizing;
 mod status;
 mod telling;

@@ -50,7 +50,7 @@ impl Line {
 }
 
 /// The line of a refusal.
-pub fn refusal_line(what: &[u8], number: u32, kind: &[u8]) -> Line
+pub fn refusal_line(what: &[u8], number: u64, kind: &[u8]) -> Line
     requires short { length what.now + length kind.now ≤ 20 }
     ensures { result ≡ refusal_text what.now number kind.now }
 {

@@ -26,6 +26,7 @@ use crate::needs::size_job;
 use crate::reading::{job_in, zone_in};
 use crate::refusing::{Stop, refuse_script, zone_stop};
 use crate::reporting::report_job;
+use crate::several::answer_zones;
 use crate::sizing::{report_size, zone_size};
 use crate::status::Status;
 use crate::telling::Telling;
@@ -149,6 +150,7 @@ fn serve_input<R: Threads + Wait + Sync, K: Sink, G: Gate>(
         Verb::Feed(crew) => answer_list(rt, alloc, invocation, bytes, parts, crew.workers, gate),
         Verb::Check => check_zone(alloc, invocation, bytes, parts),
         Verb::Size => size_job(alloc, invocation, bytes, parts),
+        Verb::Zones => answer_zones(rt, alloc, invocation, bytes, parts, gate),
     };
     match due {
         Ok((status, text)) => write_due(sink, status, &text),
@@ -242,6 +244,7 @@ fn serve_invocation<R: Threads + Wait + Sync, S: Source, K: Sink, G: Gate>(
         Verb::Feed(_) => serve(rt, alloc, invocation, source, sink, gate),
         Verb::Check => serve(rt, alloc, invocation, source, sink, gate),
         Verb::Size => serve(rt, alloc, invocation, source, sink, gate),
+        Verb::Zones => serve(rt, alloc, invocation, source, sink, gate),
         Verb::Dump(_) => serve(rt, alloc, invocation, source, sink, gate),
     }
 }

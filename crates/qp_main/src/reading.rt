@@ -10,12 +10,22 @@ ghost use Rattle.job_model.specs.Jobs.{list_of, script_of};
 ghost use Rattle.job_script.specs.Scripts.{Says};
 ghost use Rattle.job_script.specs.Views.{job_view, list_view};
 ghost use Rattle.report_laws.specs.Changes.{AllAsked};
+ghost use Rattle.zone_model.specs.Names.{IsName};
+ghost use Rattle.zones_script.specs.Scripts as over_zones;
+ghost use Rattle.zones_script.specs.Views.{workers_view};
+ghost use Rattle.zone_list.specs.Lists.{zones_of};
+ghost use Rattle.zone_list.specs.Parts.{AreListed};
+ghost use Rattle.zone_list.specs.Views as lists;
+ghost use Rattle.qp_main.specs.Saids.{IsRead};
+ghost use Rattle.zones_threads.specs.Sites.{IsSaid};
 
 use dns_name::Name;
 use job_script::{Command, Job, JobRefusal, read_job, read_list};
 use master_file::{Zone, read_zone};
 use std::alloc::Global;
+use zone_list::{ListRefusal, read_zones};
 use zone_text::ZoneRefusal;
+use zones_script::{ZonesScript, read_script};
 
 /// The zone that octets say. It is one of the origin.
 pub fn zone_in(alloc: Global, bytes: &[u8], origin: &Name) -> Result<Zone, ZoneRefusal>
@@ -61,4 +71,33 @@ pub fn list_in(
 {
     let _wire = origin.wire(); // for the proof: it is a name
     read_list(alloc, bytes, first_line, origin)
+}
+
+/// The zones that octets say, each of its own origin.
+pub fn zones_in(alloc: Global, bytes: &[u8]) -> Result<Vec<Zone>, ListRefusal>
+    requires short { length bytes.now ≤ 2 ^ 24 }
+    ensures zones { lists.Says result (λ v. v.items) (zones_of (lines_of bytes.now)) }
+    ensures listed { IfOk result (λ v. AreListed v.items) }
+    ensures said { IfOk result (λ v. AllByRecursion IsRead v.items) }
+{
+    read_zones(alloc, bytes)
+}
+
+/// The script over zones of these origins that octets say. What a block asks for are changes of its zone.
+pub fn zones_script_in(
+    alloc: Global,
+    bytes: &[u8],
+    first_line: u32,
+    origins: &[Name],
+) -> Result<ZonesScript, JobRefusal>
+    requires short { length bytes.now ≤ 2 ^ 24 }
+    requires first { 1 ≤ first_line }
+    requires few { first_line + length bytes.now < 2 ^ 32 }
+    requires zones { length origins.now ≤ 16 }
+    requires names { AllByRecursion IsName origins.now }
+    ensures reads { Says result workers_view (over_zones.script_of origins.now first_line (lines_of bytes.now)) }
+    ensures few_workers { IfOk result (λ script. length script.workers.items ≤ 16) }
+    ensures said { IfOk result (λ script. AllByRecursion (AllByRecursion (IsSaid origins.now)) (workers_view script)) }
+{
+    read_script(alloc, bytes, first_line, origins)
 }

@@ -4,16 +4,17 @@ ghost use Rattle.zone_model.specs.MasterFile.{zone_of};
 ghost use Rattle.job_model.specs.Jobs.{zone_lines};
 ghost use Rattle.job_script.specs.Parts.{IsCutAt};
 ghost use Rattle.qp_main.specs.Due.{RefusesScript};
-ghost use Rattle.qp_main.specs.Stops.{IsStop, ScriptStopsFor, ZoneStopsFor};
+ghost use Rattle.qp_main.specs.Stops.{IsStop, ListStopsFor, ScriptStopsFor, ZoneStopsFor};
 
 use crate::line::Line;
-use crate::report::{script_refused, zone_refused};
+use crate::report::{list_refused, script_refused, zone_refused};
 use crate::status::Status;
 use command_line::Invocation;
 use job_model::ScriptKind;
 use job_script::Parts;
 use master_file::{Zone, read_zone};
 use std::alloc::{AllocError, Global};
+use zone_list::ListRefusal;
 use zone_text::ZoneRefusal;
 
 /// Why an input has no answer of its own.
@@ -43,6 +44,18 @@ pub fn zone_stop(refusal: ZoneRefusal) -> Stop
             Stop::Refused(Status::ZoneRefused, zone_refused(line, kind))
         }
         ZoneRefusal::Memory => Stop::Memory,
+    }
+}
+
+/// What is told of several zones that their reader refused.
+pub fn list_stop(refusal: ListRefusal) -> Stop
+    ensures { ListStopsFor refusal result }
+{
+    match refusal {
+        ListRefusal::Refused { line, kind } => {
+            Stop::Refused(Status::ZoneRefused, list_refused(line, kind))
+        }
+        ListRefusal::Memory => Stop::Memory,
     }
 }
 

@@ -1,13 +1,14 @@
 //! Lines that are no report: refusals, how large a zone is, and what a job needs.
 ghost use Rattle.std.specs.Prelude.{◌≡◌, ◌≤◌, ◌++◌, ℕ, List, OnOk, IfOk, length, codes, decimal};
 ghost use Rattle.job_model.specs.Replies.{size_text};
-ghost use Rattle.qp_main.specs.Due.{zone_kind_text, script_kind_text, refusal_text};
+ghost use Rattle.qp_main.specs.Due.{list_kind_text, zone_kind_text, script_kind_text, refusal_text};
 ghost use Rattle.qp_main.specs.Needs.{chunks_text, needs_text};
 
 use crate::line::{Line, refusal_line};
 use job_model::ScriptKind;
 use job_script::push_size;
 use std::alloc::{AllocError, Global};
+use zone_list::ListKind;
 use zone_model::ZoneKind;
 use zone_text::push_decimal;
 
@@ -34,6 +35,17 @@ fn zone_kind_name(kind: ZoneKind) -> &'static [u8]
     }
 }
 
+fn list_kind_name(kind: ListKind) -> &'static [u8]
+    ensures text { result.now ≡ list_kind_text kind }
+    ensures short { length result.now ≤ 13 }
+{
+    match kind {
+        ListKind::Zone(kind) => zone_kind_name(kind),
+        ListKind::Repeated => b"Repeated",
+        ListKind::TooManyZones => b"TooManyZones",
+    }
+}
+
 fn script_kind_name(kind: ScriptKind) -> &'static [u8]
     ensures text { result.now ≡ script_kind_text kind }
     ensures short { length result.now ≤ 13 }
@@ -56,14 +68,21 @@ fn script_kind_name(kind: ScriptKind) -> &'static [u8]
 pub fn zone_refused(line: u32, kind: ZoneKind) -> Line
     ensures { result ≡ refusal_text (codes "zone") line (zone_kind_text kind) }
 {
-    refusal_line(b"zone", line, zone_kind_name(kind))
+    refusal_line(b"zone", u64::from(line), zone_kind_name(kind))
+}
+
+/// The line of a refusal of several zones.
+pub fn list_refused(line: u64, kind: ListKind) -> Line
+    ensures { result ≡ refusal_text (codes "zone") line (list_kind_text kind) }
+{
+    refusal_line(b"zone", line, list_kind_name(kind))
 }
 
 /// The line of a script's refusal.
 pub fn script_refused(line: u32, kind: ScriptKind) -> Line
     ensures { result ≡ refusal_text (codes "script") line (script_kind_text kind) }
 {
-    refusal_line(b"script", line, script_kind_name(kind))
+    refusal_line(b"script", u64::from(line), script_kind_name(kind))
 }
 
 /// The line of a zone that may need more cells than the chunks have.

@@ -27,8 +27,8 @@ use std::sync::Wait;
 use std::thread::Threads;
 use trie_write::Item;
 
-// The status says whether a block was refused.
-fn status_of(refused: bool) -> Status
+/// The status says whether a block was refused.
+pub(crate) fn status_of(refused: bool) -> Status
     ensures { result ≡ (if refused then Status.SomeRefused else Status.Done) }
 {
     if refused {

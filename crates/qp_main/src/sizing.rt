@@ -15,8 +15,8 @@ use rr_data::item_buffer;
 use std::alloc::{AllocError, Global};
 use trie_size::TrieSize;
 
-// More names than memory holds.
-const MANY_NAMES: usize = 1 << 40;
+/// More names than memory holds.
+pub(crate) const MANY_NAMES: usize = 1 << 40;
 
 // The size of the trie of all items. Each is laid down in the buffer that is lent.
 fn count_items(mut left: ZoneItems, octets: &mut [u8]) -> TrieSize

@@ -1,0 +1,99 @@
+use Rattle.std.proofs.Common.{◌≡◌, ◌∙◌, List, length, map, arith, rules, sym, ap, subst}
+use Rattle.std.proofs.lemmas.List.{length-map}
+use Rattle.std.proofs.lemmas.List.Elements.{All-from_recursion}
+use Rattle.std.specs.List.{AllByRecursion}
+use Rattle.zone_model.specs.Names.{Name}
+use Rattle.job_threads.specs.Histories.{IsZone}
+use Rattle.zones_model.specs.Commands.{Command, origins_of}
+use Rattle.zones_report.specs.Outcomes.{all_refused}
+use Rattle.zones_report.specs.Texts.{finished_text}
+use Rattle.zones_script.specs.Views.{worker_view, workers_view}
+use Rattle.zone_table.specs.Openings as opening
+use Rattle.zones_threads.specs.Openings.{ZonesRanOn}
+use Rattle.zones_threads.specs.Sites.{IsSaid}
+use Rattle.zones_threads.specs.declared.opening.ZonesRan.TheVariants as ran
+use Rattle.qp_main.specs.Opens.{AreAllItems}
+use Rattle.qp_main.proofs.OpensLemmas.{all_zones, different, first_told, items_many, run_answers, they_stand}
+use Rattle.qp_main.proofs.ZonesLemmas.{zones_reported}
+use Rattle.qp_main.proofs.several.report_zones.Goals as goal
+
+pub run_zone_items-requires-clause-some : goal.run_zone_items-requires-clause-some
+run_zone_items-requires-clause-some g c κs within =
+    let are = subst (AreAllItems c.args.zones.items) (sym c.deref-2.ensures.value) c.in_ok-items.ensures in
+    let many = items_many c.args.zones.items c.deref-2.result.now are in
+    let some = c.requires.listed.some in omega arith
+
+pub run_zone_items-requires-clause-few : goal.run_zone_items-requires-clause-few
+run_zone_items-requires-clause-few g c κs within =
+    let are = subst (AreAllItems c.args.zones.items) (sym c.deref-2.ensures.value) c.in_ok-items.ensures in
+    let many = items_many c.args.zones.items c.deref-2.result.now are in
+    let few = c.requires.listed.few in omega arith
+
+pub run_zone_items-requires-clause-each : goal.run_zone_items-requires-clause-each
+run_zone_items-requires-clause-each g c κs within =
+    let are = subst (AreAllItems c.args.zones.items) (sym c.deref-2.ensures.value) c.in_ok-items.ensures in
+    let blanks = c.in_ok-blanks.ensures.each in
+    let counted = c.len-2.ensures in
+    let held = c.args.zones.ok.0 in
+    let many = items_many c.args.zones.items c.deref-2.result.now are in omega arith
+
+pub run_zone_items-requires-clause-different : goal.run_zone_items-requires-clause-different
+run_zone_items-requires-clause-different g c κs within =
+    let are = subst (AreAllItems c.args.zones.items) (sym c.deref-2.ensures.value) c.in_ok-items.ensures in
+    different c.args.zones.items c.deref-2.result.now c.requires.listed are
+
+pub run_zone_items-requires-clause-zones : goal.run_zone_items-requires-clause-zones
+run_zone_items-requires-clause-zones g c κs within =
+    let are = subst (AreAllItems c.args.zones.items) (sym c.deref-2.ensures.value) c.in_ok-items.ensures in
+    All-from_recursion (λ z. IsZone z.origin (opening.entries_in z)) c.deref-2.result.now (all_zones c.args.zones.items c.deref-2.result.now c.requires.zones are)
+
+pub run_zone_items-requires-clause-said : goal.run_zone_items-requires-clause-said
+run_zone_items-requires-clause-said g c κs within =
+    let are = subst (AreAllItems c.args.zones.items) (sym c.deref-2.ensures.value) c.in_ok-items.ensures in
+    let stand = they_stand c.args.zones.items c.deref-2.result.now are in
+    let over = subst (λ (o : List Name). AllByRecursion (AllByRecursion (IsSaid o)) (workers_view c.args.script.now)) stand.origins c.requires.said in
+    subst (λ (ws : List (List Command)). AllByRecursion (AllByRecursion (IsSaid (opening.origins_of c.deref-2.result.now))) ws) (sym (ap (map worker_view) c.deref-3.ensures.value)) over
+
+pub returns-in-Finished : goal.returns-in-Finished
+returns-in-Finished g c =
+    let chunks = c.args.invocation.now.chunks in
+    let zones = c.args.zones.items in
+    let items = c.deref-2.result.now in
+    let sizes = map (λ b. b.shared.table.shared.key) c.in_ok-blanks.blanks.items in
+    let f = c.in-Finished.finished in
+    let text = c.in_ok-text-in-Finished.text.items in
+    let are : AreAllItems zones items = subst (AreAllItems zones) (sym c.deref-2.ensures.value) c.in_ok-items.ensures in
+    let all = c.in_ok-blanks.ensures.chunks in
+    let many : length sizes ≡ length items =
+    let sized = length-map c.in_ok-blanks.blanks.items (λ b. b.shared.table.shared.key) in
+    let blanks = c.in_ok-blanks.ensures.each in
+    let counted = c.len-2.ensures in
+    let held = c.args.zones.ok.0 in
+    let itemized = items_many zones items are in omega arith
+    in
+    let told : ZonesRanOn (opening.places_of items sizes) chunks zones (map worker_view c.deref-3.result.now) (ran.Finished f) = search (rules, c.in_ok-finished.ensures chunks zones all (they_stand zones items are)) in
+    let run = subst (λ (ws : List (List Command)). ZonesRanOn (opening.places_of items sizes) chunks zones ws (ran.Finished f)) (ap (map worker_view) c.deref-3.ensures.value) told in
+    let origins : c.deref-in-Finished-2.result.now ≡ origins_of zones = c.deref-in-Finished-2.ensures.value ∙ c.in_ok-origins.ensures ∙ ap origins_of c.deref.ensures.value in
+    run_answers chunks zones items sizes are many all (workers_view c.args.script.now) run.0 c.status_of.result text
+    (zones_reported chunks zones (workers_view c.args.script.now) f text c.any_refused-refused.result c.status_of.result run.1
+    (c.in_ok-text-in-Finished.ensures ∙ ap (λ (o : List Name). finished_text o f) origins)
+    (c.any_refused-refused.ensures ∙ ap all_refused c.deref-in-Finished.ensures.value) c.status_of.ensures)
+
+pub returns : goal.returns
+returns g c =
+    let chunks = c.args.invocation.now.chunks in
+    let zones = c.args.zones.items in
+    let items = c.deref-2.result.now in
+    let sizes = map (λ b. b.shared.table.shared.key) c.in_ok-blanks.blanks.items in
+    let text = c.in_ok-no_room-in-DoesNotFit.field-0.items in
+    let are : AreAllItems zones items = subst (AreAllItems zones) (sym c.deref-2.ensures.value) c.in_ok-items.ensures in
+    let all = c.in_ok-blanks.ensures.chunks in
+    let many : length sizes ≡ length items =
+    let sized = length-map c.in_ok-blanks.blanks.items (λ b. b.shared.table.shared.key) in
+    let blanks = c.in_ok-blanks.ensures.each in
+    let counted = c.len-2.ensures in
+    let held = c.args.zones.ok.0 in
+    let itemized = items_many zones items are in omega arith
+    in
+    let told : ZonesRanOn (opening.places_of items sizes) chunks zones (map worker_view c.deref-3.result.now) (ran.DoesNotFit c.in-DoesNotFit.zone c.in-DoesNotFit.cells c.in-DoesNotFit.limit) = search (rules, c.in_ok-finished.ensures chunks zones all (they_stand zones items are)) in
+    first_told chunks zones items sizes are many all (workers_view c.args.script.now) c.in-DoesNotFit.zone c.in-DoesNotFit.cells c.in-DoesNotFit.limit text told c.in_ok-no_room-in-DoesNotFit.ensures

@@ -1,0 +1,175 @@
+//! Several zones and a script over them.
+ghost use Rattle.std.specs.Prelude.{◌≡◌, ◌≤◌, ◌^◌, All, List, Ok, IfOk, IfErr, length, map};
+ghost use Rattle.job_model.specs.Jobs.{zone_lines};
+ghost use Rattle.job_script.specs.Parts.{IsCutAt};
+ghost use Rattle.zone_list.specs.Lists.{zones_of};
+ghost use Rattle.zone_list.specs.Parts.{AreListed};
+ghost use Rattle.zones_model.specs.Commands.{origins_of};
+ghost use Rattle.zones_script.specs.Jobs.{zones_job_of};
+ghost use Rattle.zones_script.specs.Views.{workers_view};
+ghost use Rattle.qp_main.specs.Due.{ZonesAnswers};
+ghost use Rattle.qp_main.specs.Opens.{AreAllItems};
+ghost use Rattle.qp_main.specs.Saids.{IsRead};
+ghost use Rattle.zones_threads.specs.Sites.{IsSaid};
+ghost use Rattle.qp_main.specs.Stops.{IsStop};
+ghost use Rattle.std.specs.List.{AllByRecursion};
+
+use crate::items::zone_items;
+use crate::reading::{zones_in, zones_script_in};
+use crate::refusing::{Stop, list_stop};
+use crate::report::{no_room, script_refused};
+use crate::reporting::status_of;
+use crate::sizing::MANY_NAMES;
+use crate::status::Status;
+use command_line::Invocation;
+use dns_name::Name;
+use job_script::{JobRefusal, Parts};
+use job_threads::{Gate, ZoneLaw};
+use master_file::Zone;
+use shared_index::Blank;
+use std::alloc::{AllocError, Global};
+use std::sync::Wait;
+use std::thread::Threads;
+use zone_table::ZoneItems;
+use zones_report::{any_refused, print_zones};
+use zones_script::ZonesScript;
+use zones_threads::{ZonesRan, run_zone_items};
+
+// The table of zones has so many chunks.
+const TABLE_CHUNKS: u32 = 512;
+
+// The zones' origins, in order.
+fn origins_of(alloc: Global, zones: &[Zone]) -> Result<Vec<Name>, AllocError>
+    ensures { IfOk result (λ origins. origins.items ≡ origins_of zones.now) }
+{
+    let mut origins = Vec::with_capacity(alloc, zones.len())?;
+    for zone in zones {
+        origins.push(*zone.origin())?;
+    }
+    Ok(origins)
+}
+
+// The items of each zone. More names than memory holds are told as no memory.
+fn items_of_zones(alloc: Global, zones: Vec<Zone>) -> Result<Vec<ZoneItems>, AllocError>
+    ensures { IfOk result (λ items. AreAllItems zones.items items.items) }
+{
+    let mut all = Vec::with_capacity(alloc, zones.len())?;
+    for zone in zones {
+        if zone.len() >= MANY_NAMES {
+            return Err(AllocError);
+        }
+        let origin = *zone.origin();
+        let items = zone_items(alloc, zone)?;
+        all.push(ZoneItems { origin, items })?;
+    }
+    Ok(all)
+}
+
+// A table for each zone.
+fn zone_tables(
+    alloc: Global,
+    chunks: u32,
+    passes: u32,
+    zones: usize,
+) -> Result<Vec<Blank<ZoneLaw>>, AllocError>
+    requires enough { 16 ≤ chunks }
+    requires few { chunks ≤ 4096 }
+    requires some_passes { 1 ≤ passes }
+    requires few_passes { passes ≤ 17 }
+    ensures each { IfOk result (λ blanks. length blanks.items ≡ zones) }
+    ensures chunks { IfOk result (λ blanks. All (λ s. s.chunks ≡ chunks) (map (λ b. b.shared.table.shared.key) blanks.items)) }
+    ensures passes { IfOk result (λ blanks. All (λ s. s.passes ≡ passes) (map (λ b. b.shared.table.shared.key) blanks.items)) }
+{
+    let mut blanks = Vec::with_capacity(alloc, zones)?;
+    for _zone in 0..zones {
+        blanks.push(Blank::new(alloc, chunks, passes)?)?;
+    }
+    Ok(blanks)
+}
+
+// Runs a script over zones that were read, and answers the status and the report.
+fn report_zones<R: Threads + Wait + Sync, G: Gate>(
+    rt: &R,
+    alloc: Global,
+    invocation: &Invocation,
+    zones: Vec<Zone>,
+    script: &ZonesScript,
+    gate: &G,
+) -> Result<(Status, Vec<u8>), AllocError>
+    requires listed { AreListed zones.items }
+    requires zones { AllByRecursion IsRead zones.items }
+    requires few_workers { length script.now.workers.items ≤ 16 }
+    requires said { AllByRecursion (AllByRecursion (IsSaid (origins_of zones.items))) (workers_view script.now) }
+    ensures { IfOk result (λ x. ZonesAnswers invocation.now.chunks (Ok (record { zones = zones.items; workers = workers_view script.now })) x.0 x.1.items) }
+{
+    let origins = origins_of(alloc, &zones)?;
+    let passes = script.workers.len() as u32 + 1;
+    let table = Blank::new(alloc, TABLE_CHUNKS, passes)?;
+    let blanks = zone_tables(alloc, invocation.chunks, passes, zones.len())?;
+    let items = items_of_zones(alloc, zones)?;
+    match run_zone_items(rt, alloc, table, blanks, &items, &script.workers, gate)? {
+        ZonesRan::Finished(finished) => {
+            let refused = any_refused(&finished.done);
+            let text = print_zones(alloc, &origins, &finished)?;
+            Ok((status_of(refused), text))
+        }
+        ZonesRan::DoesNotFit { cells, limit, .. } => {
+            Ok((Status::DoesNotFit, no_room(alloc, cells, limit)?))
+        }
+    }
+}
+
+// The status and the text for zones that were read: the script is read over them.
+fn answer_script<R: Threads + Wait + Sync, G: Gate>(
+    rt: &R,
+    alloc: Global,
+    invocation: &Invocation,
+    bytes: Vec<u8>,
+    parts: Parts,
+    zones: Vec<Zone>,
+    gate: &G,
+) -> Result<(Status, Vec<u8>), Stop>
+    requires short { length bytes.items ≤ 2 ^ 24 }
+    requires cut { IsCutAt bytes.items parts }
+    requires read { zones_of (zone_lines bytes.items) ≡ Ok zones.items }
+    requires listed { AreListed zones.items }
+    requires zones { AllByRecursion IsRead zones.items }
+    ensures told { IfOk result (λ x. ZonesAnswers invocation.now.chunks (zones_job_of bytes.items) x.0 x.1.items) }
+    ensures stops { IfErr result (IsStop (ZonesAnswers invocation.now.chunks (zones_job_of bytes.items))) }
+{
+    let origins = origins_of(alloc, &zones)?;
+    let script_bytes = &bytes.as_slice()[parts.script_from as usize..];
+    match zones_script_in(alloc, script_bytes, parts.first_line, &origins) {
+        Ok(script) => {
+            drop(bytes);
+            let answer = report_zones(rt, alloc, invocation, zones, &script, gate)?;
+            Ok(answer)
+        }
+        Err(JobRefusal::Refused { line, kind }) => Err(Stop::Refused(
+            Status::ScriptRefused,
+            script_refused(line, kind),
+        )),
+        Err(JobRefusal::Memory) => Err(Stop::Memory),
+    }
+}
+
+/// The status and the text for bytes that were cut into those of several zones and a script's.
+pub fn answer_zones<R: Threads + Wait + Sync, G: Gate>(
+    rt: &R,
+    alloc: Global,
+    invocation: &Invocation,
+    bytes: Vec<u8>,
+    parts: Parts,
+    gate: &G,
+) -> Result<(Status, Vec<u8>), Stop>
+    requires short { length bytes.items ≤ 2 ^ 24 }
+    requires cut { IsCutAt bytes.items parts }
+    ensures told { IfOk result (λ x. ZonesAnswers invocation.now.chunks (zones_job_of bytes.items) x.0 x.1.items) }
+    ensures stops { IfErr result (IsStop (ZonesAnswers invocation.now.chunks (zones_job_of bytes.items))) }
+{
+    let zone_bytes = &bytes.as_slice()[..parts.zone_end as usize];
+    match zones_in(alloc, zone_bytes) {
+        Ok(zones) => answer_script(rt, alloc, invocation, bytes, parts, zones, gate),
+        Err(refusal) => Err(list_stop(refusal)),
+    }
+}
