@@ -17,7 +17,7 @@ use std::sync::Wait;
 use std::thread::Threads;
 
 /// The files of cases, one a topic.
-const TOPICS: [&str; 13] = [
+const TOPICS: [&str; 14] = [
     "answers.cases",
     "check.cases",
     "dumps.cases",
@@ -31,6 +31,7 @@ const TOPICS: [&str; 13] = [
     "room.cases",
     "sizes.cases",
     "workers.cases",
+    "zones.cases",
 ];
 
 /// Judges each case of a topic, and answers how many differ from what is due.
