@@ -1,2 +1,3 @@
 pub mod ItemLaws
+mod TailLemmas
 pub mod LayingLaws

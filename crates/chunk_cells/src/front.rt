@@ -50,6 +50,18 @@ fn says(word: u64, octets: &[u8], start: usize) -> bool
     if start + 8 <= octets.len() {
         return word == whole_word(octets, start);
     }
+    if octets.len() < 8 {
+        return says_each(word, octets, start);
+    }
+    start >= octets.len() || says_end(word, octets, start)
+}
+
+/// The same where the octets are fewer than eight.
+fn says_each(word: u64, octets: &[u8], start: usize) -> bool
+    requires { length octets.now < start + 8 }
+    ensures { (item : List ℕ) → ((i : ℕ) → slice_index item i < 256) → word ≡ from_le_bytes w64 (drop start item)
+        → IsTrue result ↔ ((i : ℕ) → start ≤ i → i < start + 8 → i < length octets.now → slice_index item i ≡ slice_index octets.now i) }
+{
     let bytes = word.to_le_bytes();
     for i in start..octets.len() {
         if bytes[i - start] != octets[i] {
@@ -57,4 +69,18 @@ fn says(word: u64, octets: &[u8], start: usize) -> bool
         }
     }
     true
+}
+
+/// The same where the octets are more and end within the word. Their last eight are read as a word too.
+#[inline]
+fn says_end(word: u64, octets: &[u8], start: usize) -> bool
+    requires many { 8 ≤ length octets.now }
+    requires within { start < length octets.now }
+    requires short { length octets.now < start + 8 }
+    ensures { (item : List ℕ) → ((i : ℕ) → slice_index item i < 256) → word ≡ from_le_bytes w64 (drop start item)
+        → IsTrue result ↔ ((i : ℕ) → start ≤ i → i < start + 8 → i < length octets.now → slice_index item i ≡ slice_index octets.now i) }
+{
+    let left = octets.len() - start;
+    let last = whole_word(octets, octets.len() - 8);
+    word % (1 << (8 * left)) == last >> (64 - 8 * left)
 }

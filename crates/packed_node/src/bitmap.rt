@@ -1,6 +1,6 @@
 //! The positions that a branch has twigs for, as bits.
 
-ghost use Rattle.std.specs.Prelude.{◌≡◌, ◌≢◌, ◌+◌, ◌-◌, ◌/◌, ◌%◌, ◌^◌, ◌<◌, ◌↔◌, IsTrue, count_ones, count_by};
+ghost use Rattle.std.specs.Prelude.{◌≡◌, ◌≢◌, ◌+◌, ◌-◌, ◌/◌, ◌%◌, ◌^◌, ◌<◌, ◌↔◌, IsTrue, IsNone, Some, count_ones, count_by};
 ghost use Rattle.std.specs.List.{range_with_len};
 ghost use Rattle.std.specs.Int.{bit_at};
 ghost use Rattle.packed_node.specs.Bitmaps.{has_position};
@@ -22,6 +22,21 @@ pub fn count_below(bitmap: u64, position: u8) -> u32
     ensures smaller { result ≡ count_by (has_position bitmap) (range_with_len 0 position) }
 {
     (bitmap % bit(position)).count_ones()
+}
+
+/// How many smaller positions are there, if the position itself is.
+#[inline]
+pub fn index_of(bitmap: u64, position: u8) -> Option<u32>
+    requires { position < 47 }
+    ensures there { bit_at bitmap position ≡ 1 → result ≡ Some (count_ones (bitmap % 2 ^ position)) }
+    ensures absent { bit_at bitmap position ≢ 1 → IsNone result }
+{
+    // The bits above the position's are shifted out, and its own becomes the highest.
+    let up_to = bitmap << (63 - position);
+    if up_to < 1 << 63 {
+        return None;
+    }
+    Some(up_to.count_ones() - 1)
 }
 
 /// The bitmap of the position alone.

@@ -10,7 +10,7 @@
 //! All shifting and masking of the trie is done here. Nothing allocates.
 #![tactic(auto)]
 
-ghost use Rattle.std.specs.Prelude.{◌≡◌, ◌+◌, ◌*◌, ◌/◌, ◌%◌, ◌^◌, ◌<◌, ◌≤◌, ◌↔◌, ℕ, IsTrue, Some, IfSome, IfNone, IsNone, count_ones, count_by};
+ghost use Rattle.std.specs.Prelude.{◌≡◌, ◌≢◌, ◌+◌, ◌*◌, ◌/◌, ◌%◌, ◌^◌, ◌<◌, ◌≤◌, ◌↔◌, ℕ, IsTrue, Some, IfSome, IfNone, IsNone, count_ones, count_by};
 ghost use Rattle.std.specs.List.{range_with_len};
 ghost use Rattle.std.specs.Int.{bit_at};
 ghost use Rattle.packed_node.specs.Bitmaps.{has_position};
@@ -100,6 +100,16 @@ impl Branch {
         ensures smaller { result ≡ count_by (has_position self.bitmap) (range_with_len 0 position) }
     {
         bitmap::count_below(self.bitmap, position)
+    }
+
+    /// The same place, if there is a twig for the position.
+    #[inline]
+    pub fn twig_at(self, position: u8) -> Option<u32>
+        requires { position < 47 }
+        ensures there { bit_at self.bitmap position ≡ 1 → result ≡ Some (count_ones (self.bitmap % 2 ^ position)) }
+        ensures absent { bit_at self.bitmap position ≢ 1 → IsNone result }
+    {
+        bitmap::index_of(self.bitmap, position)
     }
 
     /// How many twigs there are.

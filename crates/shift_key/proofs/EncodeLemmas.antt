@@ -1,15 +1,16 @@
 -- Positions that are written one after another, and room for them.
-use Rattle.std.proofs.Common.{◌≡◌, ℕ, zero, suc, ◌+◌, ◌<◌, ◌≤◌, List, [], ◌∷◌, ◌++◌, length, take, set, get_or, ap, sym, ◌∙◌, subst, arith, append_assoc, length-append, length-take, Some, Bor}
-use Rattle.std.proofs.lemmas.List.{take_more, take_more_set, take_all}
+use Rattle.std.proofs.Common.{◌≡◌, ℕ, zero, suc, ◌+◌, ◌<◌, ◌≤◌, List, [], ◌∷◌, ◌++◌, length, take, set, get_or, ap, sym, inl, inr, ◌∙◌, subst, arith, append_assoc, length-append, length-take, Some, Bor}
+use Rattle.std.proofs.lemmas.Bool.{cases_eq}
+use Rattle.std.proofs.lemmas.List.{take_more, take_more_set, take-set, take_all}
 use Rattle.std.proofs.Math.ListN.{length-set}
 use Rattle.std.specs.List.{flat_map}
 use Rattle.zone_model.specs.Names.{Name}
-use Rattle.zone_model.specs.Keys.{octet_positions, label_positions, key_of}
+use Rattle.zone_model.specs.Keys.{first_position, second_position, octet_positions, label_positions, key_of}
 use Rattle.zone_model.proofs.KeyLaws.{key_of-cons}
 use Rattle.dns_name.specs.Spelling.{Spells, IsSpelled, IsFirst}
 use Rattle.dns_name.proofs.WireLemmas.{stepped, spelled_once}
 use Rattle.shift_key.specs.Laid.{IsFront, HasRoom}
-use Rattle.shift_key.proofs.PositionLemmas.{octets-push}
+use Rattle.shift_key.proofs.PositionLemmas.{octets-push, one_position, two_positions, some_positions}
 
 -- the octets in front of one, and that one, have no more positions than all
 pub part_fits : (label : List ℕ) (i : ℕ) → i < length label
@@ -52,6 +53,26 @@ put_two old at p q lt =
       front = ap (λ (k : ℕ). take k (set (set old at p) (at + 1) q)) two ∙ b.front ∙ ap (λ (l : List ℕ). l ++ q ∷ []) a.front ∙ append_assoc (take at old) (p ∷ []) (q ∷ []);
     }
 
+-- the positions of an octet, of which the second may be none and is written all the same
+pub put_octet : (old : List ℕ) (at c end : ℕ) → at + 1 < length old → end ≡ at + length (octet_positions c)
+    → IsFront (take at old ++ octet_positions c) end (set (set old at (first_position c)) (at + 1) (second_position c))
+put_octet old at c end lt e =
+    let p = first_position c in
+    let q = second_position c in
+    elim (cases_eq q 0) [
+      | inl z ↦
+          let one : end ≡ at + 1 = omega (arith, e, ap (λ (l : List ℕ). length l) (one_position c z)) in
+          let a = put_one old at p (omega arith) in
+          let kept = take-set (set old at p) (at + 1) q in
+          subst (λ (l : List ℕ). IsFront (take at old ++ l) end (set (set old at p) (at + 1) q)) (sym (one_position c z))
+          (record { len_is = one ∙ a.len_is; front = ap (λ (n : ℕ). take n (set (set old at p) (at + 1) q)) one ∙ kept ∙ a.front })
+      | inr n ↦
+          let two : end ≡ at + 2 = omega (arith, e, ap (λ (l : List ℕ). length l) (two_positions c n)) in
+          let b = put_two old at p q lt in
+          subst (λ (l : List ℕ). IsFront (take at old ++ l) end (set (set old at p) (at + 1) q)) (sym (two_positions c n))
+          (record { len_is = two ∙ b.len_is; front = ap (λ (k : ℕ). take k (set (set old at p) (at + 1) q)) two ∙ b.front })
+    ]
+
 -- more behind a front
 pub longer : (front more old new : List ℕ) (at end : ℕ) → IsFront front at old → IsFront (take at old ++ more) end new → IsFront (front ++ more) end new
 longer front more old new at end f m = subst (λ (l : List ℕ). IsFront (l ++ more) end new) f.front m
@@ -63,9 +84,9 @@ octet_more start places label at i end new f lt m =
     subst (λ (l : List ℕ). IsFront l end new) (append_assoc start (flat_map octet_positions (take i label)) (octet_positions (get_or label i 0)) ∙ ap (λ (l : List ℕ). start ++ l) more) (longer (start ++ flat_map octet_positions (take i label)) (octet_positions (get_or label i 0)) places new at end f m)
 
 pub octet_fits : (old places label : List ℕ) (start at i : ℕ) → start + length (label_positions label) ≤ 512 → IsFront (take start old ++ flat_map octet_positions (take i label)) at places → i < length label
-    → at + length (octet_positions (get_or label i 0)) ≤ 512
+    → at + 1 < 512
 octet_fits old places label start at i room f lt =
-    omega (arith, part_fits label i lt, f.len_is, length-append (take start old) (flat_map octet_positions (take i label)), length-take start old, length-append (flat_map octet_positions label) (0 ∷ []))
+    omega (arith, some_positions (get_or label i 0), part_fits label i lt, f.len_is, length-append (take start old) (flat_map octet_positions (take i label)), length-take start old, length-append (flat_map octet_positions label) (0 ∷ []))
 
 -- the label's end
 pub label_end : (start places label : List ℕ) (at i : ℕ) → IsFront (start ++ flat_map octet_positions (take i label)) at places → length label ≤ i → at < length places → IsFront (start ++ label_positions label) (at + 1) (set places at 0)

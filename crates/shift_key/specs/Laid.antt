@@ -1,5 +1,5 @@
 -- How a key lies in its array: in front of it, beside the name that it is the key of.
-use Rattle.std.specs.Prelude.{◌≡◌, ℕ, ◌≤◌, List, length, take}
+use Rattle.std.specs.Prelude.{◌≡◌, ℕ, ◌≤◌, List, length, take, slice_index}
 use Rattle.zone_model.specs.Names.{Name, IsName}
 use Rattle.zone_model.specs.Keys.{key_of}
 use Rattle.dns_name.specs.Spelling.{Spells}
@@ -20,3 +20,5 @@ positions_of k = key_of k.name
 pub record IsLaid (k : Inside) : Type 0 where
   pub name : IsName k.name
   pub laid : IsFront (key_of k.name) k.len k.places
+  -- 0 stands behind them
+  pub ended : slice_index k.places k.len ≡ 0

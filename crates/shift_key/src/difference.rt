@@ -5,7 +5,7 @@ ghost use Rattle.zone_model.specs.Names.{Name as Labels, IsName, BeginsWith};
 ghost use Rattle.zone_model.specs.Keys.{octet_positions, label_positions, key_of};
 ghost use Rattle.shift_key.specs.Differences.{Agrees, Compares};
 
-use crate::table::{first_position, second_position};
+use crate::table::{first_position, positions, second_position};
 
 /// Where a key first differs from another one.
 #[derive(Clone, Copy, PartialEq, Eq, Debug)]
@@ -48,6 +48,19 @@ fn compare_label(key: &[u8], start: usize, label: &[u8]) -> Result<usize, Differ
 /// Compares it with the positions of an octet, from a place on.
 #[inline]
 fn compare_octet(key: &[u8], at: usize, octet: u8) -> Result<usize, Difference>
+    requires { at + 2 < 2 ^ 16 }
+    ensures next { IfOk result (λ next. next ≡ at + length (octet_positions octet)) }
+    ensures compared { (front : List ℕ) → Agrees key.now front at → Compares key.now (front ++ octet_positions octet) result }
+{
+    // Most octets have one position, and the key has it.
+    if at < key.len() && u32::from(key[at]) + 65536 == positions(octet) {
+        return Ok(at + 1);
+    }
+    compare_positions(key, at, octet)
+}
+
+/// The same, one position after the other.
+fn compare_positions(key: &[u8], at: usize, octet: u8) -> Result<usize, Difference>
     requires { at + 2 < 2 ^ 16 }
     ensures next { IfOk result (λ next. next ≡ at + length (octet_positions octet)) }
     ensures compared { (front : List ℕ) → Agrees key.now front at → Compares key.now (front ++ octet_positions octet) result }

@@ -1,12 +1,12 @@
 //! From the octets of a name to positions.
 
-ghost use Rattle.std.specs.Prelude.{◌≡◌, ◌≤◌, ◌+◌, ◌++◌, length, take};
+ghost use Rattle.std.specs.Prelude.{◌≡◌, ◌≤◌, ◌<◌, ◌+◌, ◌++◌, length, take};
 ghost use Rattle.zone_model.specs.Names.{Name as Labels};
 ghost use Rattle.zone_model.specs.Keys.{octet_positions, label_positions, key_of};
 ghost use Rattle.dns_name.specs.Spelling.{Spells, IsSpelled};
 ghost use Rattle.shift_key.specs.Laid.{HasRoom, IsFront};
 
-use crate::table::{first_position, second_position};
+use crate::table::positions;
 use dns_name::first_label;
 
 /// Writes the key of the name that the bytes spell, the nearest label last, and gives its length.
@@ -37,17 +37,14 @@ fn put_label(places: &mut [u8; 512], start: usize, label: &[u8]) -> usize
     at + 1
 }
 
-/// Writes the positions of an octet at a place, and gives the place behind them.
+/// Writes the positions of an octet at a place, and gives the place behind them. Where it has one alone, the next place is written too.
 #[inline]
 fn put_octet(places: &mut [u8; 512], at: usize, octet: u8) -> usize
-    requires { at + length (octet_positions octet) ≤ 512 }
+    requires { at + 1 < 512 }
     ensures { IsFront (take at places.old ++ octet_positions octet) result places.new }
 {
-    places[at] = first_position(octet);
-    let second = second_position(octet);
-    if second == 0 {
-        return at + 1;
-    }
-    places[at + 1] = second;
-    at + 2
+    let all = positions(octet);
+    places[at] = (all % 256) as u8;
+    places[at + 1] = (all / 256 % 256) as u8;
+    at + (all / 65536) as usize
 }

@@ -2,7 +2,7 @@
 //! compare, position by position, as their names do in canonical order.
 #![tactic(auto)]
 
-ghost use Rattle.std.specs.Prelude.{◌≡◌, ◌↔◌, length, slice_index, IsNone, IfSome, IsTrue, []};
+ghost use Rattle.std.specs.Prelude.{◌≡◌, ◌≤◌, ◌↔◌, length, slice_index, IsNone, IfSome, IsTrue, []};
 ghost use Rattle.zone_model.specs.Names.{Name as Labels, IsName, BeginsWith, wire};
 ghost use Rattle.zone_model.specs.Keys.{key_of, IsKey, IsFirstDifference, Leads};
 ghost use Rattle.shift_key.specs.Differences.{IsDifference};
@@ -30,7 +30,7 @@ const MOST_ITEM_OCTETS: usize = 65535;
 #[derive(Drop)]
 pub struct Key {
     name: Name,
-    /// The positions, in front. What lies behind them means nothing.
+    /// The positions, in front, and a 0 behind them. What lies further on means nothing.
     places: [u8; 512],
     /// How many positions there are.
     len: u16,
@@ -73,7 +73,9 @@ impl Key {
     pub fn set(&mut self, name: &Name)
         ensures { self.new ≡ key_of name.now }
     {
-        self.len = put_labels(&mut self.places, name.wire()) as u16;
+        let len = put_labels(&mut self.places, name.wire());
+        self.places[len] = 0;
+        self.len = len as u16;
         self.name = *name;
     }
 
@@ -90,6 +92,14 @@ impl Key {
         ensures wire { (name : Labels) → IsName name → self.now ≡ key_of name → result.now ≡ wire name }
     {
         self.name.wire()
+    }
+
+    /// How many labels its name has.
+    pub fn labels(&self) -> u8
+        ensures key { IsKey self.now }
+        ensures labels { (name : Labels) → IsName name → self.now ≡ key_of name → result ≡ length name }
+    {
+        self.name.labels()
     }
 
     /// How many positions it has.
@@ -113,6 +123,15 @@ impl Key {
         }
     }
 
+    /// The position at this place, at most that of its end, where it is 0.
+    #[inline]
+    pub fn position(&self, place: u16) -> u8
+        requires { place ≤ length self.now }
+        ensures { result ≡ slice_index self.now place }
+    {
+        self.places[place as usize]
+    }
+
     /// The first place at which the keys differ, which orders their names; None exactly for equal keys.
     pub fn first_difference(&self, other: &Key) -> Option<u16>
         ensures none { IsNone result ↔ (self.now ≡ other.now) }
@@ -133,6 +152,10 @@ impl Key {
         ensures key { IsKey self.now }
         ensures difference { (other : Labels) → IsName other → BeginsWith octets.now other → IsDifference self.now (key_of other) result }
     {
+        // Most names that are compared are one, which is seen many octets at a time.
+        if octets.starts_with(self.name.wire()) {
+            return None;
+        }
         match compare_labels(&self.places[..self.len as usize], octets) {
             Err(difference) => Some(difference),
             Ok(end) => {

@@ -5,7 +5,7 @@ ghost use Rattle.zone_model.specs.Names.{Name as Labels, IsName, IsLabel, IsFold
 ghost use Rattle.zone_model.specs.Keys.{octet_positions, label_positions, key_of};
 ghost use Rattle.shift_key.specs.Partings.{IsParting, HasName, SplitsOff, LabelsPart, NamesPart, OctetsPart};
 
-use crate::table::{first_position, second_position};
+use crate::table::{first_position, second_position, width};
 
 /// Where two keys first differ.
 #[derive(Clone, Copy, PartialEq, Eq, Debug)]
@@ -104,14 +104,6 @@ fn part_labels(start: usize, first: &[u8], second: &[u8]) -> Result<usize, Parti
         return Err(part_at(at, 0, first_position(second[first.len()])));
     }
     Ok(at + 1)
-}
-
-/// How many positions an octet has.
-#[inline]
-fn width(octet: u8) -> usize
-    ensures { result ≡ length (octet_positions octet) }
-{
-    if second_position(octet) == 0 { 1 } else { 2 }
 }
 
 /// Where the positions of two octets part, which begin at a place.

@@ -13,7 +13,7 @@ ghost use Rattle.trie_read.specs.Readings.{AtSplit};
 ghost use Rattle.trie_read.specs.Walks.{AnyStep, LeadsTo, HasNode, Meets, IsStart, StandsBetween, StandsSomewhere, Faces, HasPassed};
 
 use super::ancestors::{Ancestor, Ancestors};
-use super::labels::{ends_at, labels_to};
+use super::labels::{ends_at, labels_of, labels_to};
 use super::leaf::{difference_at, key_at};
 use super::path::Path;
 use chunk_cells::CellRead;
@@ -320,7 +320,7 @@ fn add_met(key: &Key, met: Met, above: &mut Ancestors)
 {
     match met.difference {
         None => {
-            let labels = labels_to(key, key.len());
+            let labels = labels_of(key);
             above.push(Ancestor {
                 leaf: met.leaf,
                 labels,

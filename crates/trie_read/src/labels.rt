@@ -15,6 +15,13 @@ pub fn ends_at(key: &Key, place: u16) -> bool
     place == 0 || key.at(place - 1) == 0
 }
 
+/// How many labels the key has.
+pub fn labels_of(key: &Key) -> u8
+    ensures { result ≡ labels_in key.now }
+{
+    key.labels()
+}
+
 /// How many labels of the key end before a place.
 pub fn labels_to(key: &Key, place: u16) -> u8
     ensures { result ≡ labels_in (take place key.now) }

@@ -98,20 +98,17 @@ fn leaf_for<C: CellRead, L: Ledger>(
     ensures counted { steps.old < steps.new }
     ensures few { steps.new ≤ steps.old + (length key.now + 2) }
 {
+    let len = key.len();
     let mut node = Node::of(read(cells, root, steps));
     loop {
         match node {
             Node::Leaf(leaf) => return Some(leaf),
             Node::Branch(branch) => {
-                if branch.offset > key.len() {
+                if branch.offset > len {
                     return None;
                 }
-                let position = key.at(branch.offset);
-                if !branch.has_twig(position) {
-                    return None;
-                }
-                let twig = branch.twigs + branch.twig_index(position);
-                node = Node::of(read(cells, twig, steps));
+                let index = branch.twig_at(key.position(branch.offset))?;
+                node = Node::of(read(cells, branch.twigs + index, steps));
             }
         }
     }

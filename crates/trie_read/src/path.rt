@@ -196,11 +196,9 @@ fn nearest(branch: Branch, key: &Key) -> u32
     ensures key { IsKey key.now }
 {
     let position = position_at(key, branch.offset);
-    let index = branch.twig_index(position);
-    if branch.has_twig(position) {
-        index
-    } else {
-        index.saturating_sub(1)
+    match branch.twig_at(position) {
+        Some(index) => index,
+        None => branch.twig_index(position).saturating_sub(1),
     }
 }
 
