@@ -12,7 +12,7 @@ use Rattle.zone_model.specs.declared.Style.TheVariants.{Full}
 use Rattle.command_line.specs.Numbers.{default_chunks, workers_of}
 use Rattle.command_line.specs.Options.{Options, chunks_given, load_of, no_options, options_from}
 use Rattle.command_line.specs.Invocations.{Invocation, IsUnder, Verb, Run, Check, Make, Dump, Feed, Size, Zones, asked_of, dumping_of, feeding_of, makes_nothing, making_of, plain_of, reading_of, sizing_of, under_origin, zones_of}
-use Rattle.command_line.specs.Parsed.{asked_by, asked_in, chunks_in, invocation, load_in, making_by, origin_in, parsed_of, program_app, reading_in, sizing_in, style_in, zones_in}
+use Rattle.command_line.specs.Parsed.{asked_in, chunks_in, invocation, load_in, making_by, origin_in, parsed_of, program_app, reading_in, sizing_in, style_in, zones_in}
 use Rattle.command_line.specs.Words.{invocation_of, or_else}
 
 abbrev pub AllUnder : Option Invocation → Type 0

@@ -1,5 +1,5 @@
 -- The words of a command line, by places.
-use Rattle.std.proofs.Common.{◌≡◌, ◌∙◌, ◌<◌, ◌≤◌, ◌-◌, ℕ, zero, suc, true, false, List, [], ◌∷◌, length, map, get_or, take, drop, refl, sym, ap, arith, Some, option_and_then, codes}
+use Rattle.std.proofs.Common.{◌≡◌, ◌∙◌, ◌<◌, ◌-◌, ℕ, zero, suc, List, [], ◌∷◌, length, map, get_or, take, drop, refl, sym, ap, arith, Some, option_and_then}
 use Rattle.std.proofs.lemmas.List.{length-drop, take_all}
 use Rattle.command_line.specs.Options.{Options, with_option, options_from}
 

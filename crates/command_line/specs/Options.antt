@@ -39,10 +39,14 @@ style_of value = if bytes_eq value (codes "full") then Some Full else if bytes_e
 
 -- ---- options
 
+-- a value that wasn't given before
+abbrev pub first : {A : Type 0} → Option A → Option A → Option A
+first (Some there) value = None
+first None value = value
+
 -- a value that is given once
 abbrev pub once : {A : Type 0} → Option A → Option A → (A → Options) → Option Options
-once (Some there) value with_value = None
-once None value with_value = option_map with_value value
+once before value with_value = option_map with_value (first before value)
 
 -- an option joins those before it, unless it stands there already, or it or its value is none
 abbrev pub with_option : List ℕ → List ℕ → Options → Option Options

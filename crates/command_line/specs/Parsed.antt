@@ -9,7 +9,7 @@ use Rattle.zone_model.specs.declared.Style.{Style}
 use Rattle.zone_model.specs.declared.Style.TheVariants.{Full}
 use Rattle.job_model.specs.Loads.{Load, made_origin}
 use Rattle.clap.specs.Walk.{Row, Rule, first_of, is_empty}
-use Rattle.clap.specs.Simple.{App, Shape, new_rule, new_shape, subcommand_of}
+use Rattle.clap.specs.Simple.{App, Shape, new_rule, new_shape, subcommand_of, with_rule, with_subcommand}
 use Rattle.clap.specs.Faults.{fault_of}
 use Rattle.clap.specs.declared.builder.action.ArgAction.TheVariants.{Set}
 use Rattle.command_line.specs.Numbers.{chunks_of, default_chunks, seed_of, names_of, turns_of, workers_of}
@@ -21,6 +21,16 @@ use Rattle.command_line.specs.Invocations.{Invocation, Verb, Run, Check, Make, D
 -- an option with a value
 abbrev pub option_rule : List ℕ → Bool → Rule
 option_rule name required = record (new_rule name) { long = Some name; action = Some Set; required = required }
+
+-- options join those of a command
+abbrev pub with_options : App → List Rule → App
+with_options app [] = app
+with_options app (rule ∷ more) = with_options (with_rule app rule) more
+
+-- commands join those of the program
+abbrev pub with_commands : App → List Shape → App
+with_commands app [] = app
+with_commands app (shape ∷ more) = with_commands (with_subcommand app shape) more
 
 abbrev pub reading_shape : List ℕ → Shape
 reading_shape name = record (new_shape name) { rules = option_rule (codes "origin") true ∷ option_rule (codes "chunks") false ∷ [] }

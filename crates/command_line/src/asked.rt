@@ -4,8 +4,9 @@ ghost use Rattle.std.specs.Option.{option_map};
 ghost use Rattle.std.specs.String.{string_bytes};
 ghost use Rattle.job_model.specs.Loads.{made_origin};
 ghost use Rattle.job_make.specs.Views.{load_view};
-ghost use Rattle.command_line.specs.Invocations.{asked_of, dumping_of, feeding_of, makes_nothing, making_of, plain_of, reading_of, sizing_of, under_origin, zones_of};
-ghost use Rattle.command_line.specs.Options.{load_of};
+ghost use Rattle.command_line.specs.Invocations.{asked_of, dumping_of, feeding_of, makes_nothing, making_of};
+ghost use Rattle.command_line.specs.Invocations.{plain_of, reading_of, sizing_of, under_origin, zones_of};
+ghost use Rattle.command_line.specs.Options.{chunks_given, load_of};
 ghost use Rattle.command_line.specs.Views.{invocation_view, options_view, verb_view};
 
 use crate::given::Options;
@@ -16,20 +17,23 @@ use dns_name::Name;
 use job_make::Load;
 use zone_model::Style;
 
+// What is done under an origin, over a number of chunks that may be left out.
+fn invocation(options: &Options, verb: Verb, origin: Name) -> Invocation
+    ensures { invocation_view result ≡ record { verb = verb_view verb; origin = origin; chunks = chunks_given (options_view options.now) } }
+{
+    let chunks = options.chunks.unwrap_or(DEFAULT_CHUNKS);
+    Invocation {
+        verb,
+        origin,
+        chunks,
+    }
+}
+
 // An origin is given, and perhaps a number of chunks.
 fn under_origin(options: &Options, verb: Verb) -> Option<Invocation>
     ensures { option_map invocation_view result ≡ under_origin (options_view options.now) (verb_view verb) }
 {
-    let origin = options.origin?;
-    let chunks = match options.chunks {
-        Some(chunks) => chunks,
-        None => DEFAULT_CHUNKS,
-    };
-    Some(Invocation {
-        verb,
-        origin,
-        chunks,
-    })
+    Some(invocation(options, verb, options.origin?))
 }
 
 // Nothing of a load is given but perhaps its workers.
@@ -74,10 +78,10 @@ fn feeding_of(options: &Options) -> Option<Invocation>
 fn sizing_of(options: &Options) -> Option<Invocation>
     ensures { option_map invocation_view result ≡ sizing_of (options_view options.now) }
 {
-    if options.chunks.is_some() {
-        return None;
+    match options.chunks {
+        Some(_) => None,
+        None => reading_of(Verb::Size, options),
     }
-    reading_of(Verb::Size, options)
 }
 
 // Nothing is given but perhaps a number of chunks.
@@ -90,30 +94,18 @@ fn zones_of(options: &Options) -> Option<Invocation>
     if options.style.is_some() || options.workers.is_some() {
         return None;
     }
-    let chunks = match options.chunks {
-        Some(chunks) => chunks,
-        None => DEFAULT_CHUNKS,
-    };
-    Some(Invocation {
-        verb: Verb::Zones,
-        origin: Name::root(),
-        chunks,
-    })
+    Some(invocation(options, Verb::Zones, Name::root()))
 }
 
 // The load whose numbers are all given.
 fn load_of(options: &Options) -> Option<Load>
     ensures { option_map load_view result ≡ load_of (options_view options.now) }
 {
-    let seed = options.seed?;
-    let names = options.names?;
-    let turns = options.turns?;
-    let workers = options.workers?;
     Some(Load {
-        seed,
-        names,
-        turns,
-        workers,
+        seed: options.seed?,
+        names: options.names?,
+        turns: options.turns?,
+        workers: options.workers?,
     })
 }
 
@@ -135,15 +127,7 @@ fn making_of(options: &Options) -> Option<Invocation>
         return None;
     }
     let load = load_of(options)?;
-    let chunks = match options.chunks {
-        Some(chunks) => chunks,
-        None => DEFAULT_CHUNKS,
-    };
-    Some(Invocation {
-        verb: Verb::Make(load),
-        origin: made_origin(),
-        chunks,
-    })
+    Some(invocation(options, Verb::Make(load), made_origin()))
 }
 
 // What a command with these options asks for.

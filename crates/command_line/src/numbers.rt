@@ -5,8 +5,20 @@ ghost use Rattle.command_line.specs.Numbers.{chunks_of, seed_of, within};
 
 use zone_text::number;
 
-/// The number of chunks where none is given.
+/// The number of chunks where none is given, and its limits.
 pub const DEFAULT_CHUNKS: u32 = 64;
+
+const LEAST_CHUNKS: u32 = 16;
+
+const MOST_CHUNKS: u32 = 4_096;
+
+/// The most names of a load, and the most turns of each of its workers.
+pub const MOST_NAMES: u32 = 20_000;
+
+pub const MOST_TURNS: u32 = 10_000;
+
+/// The most workers.
+pub const MOST_WORKERS: u32 = 16;
 
 /// A number from a least to a greatest one.
 pub fn within(value: &[u8], least: u32, most: u32) -> Option<u32>
@@ -24,7 +36,7 @@ pub fn chunks_of(value: &[u8]) -> Option<u32>
     ensures value { result ≡ chunks_of value.now }
     ensures limits { IfSome result (λ n. (16 ≤ n) × (n ≤ 4096)) }
 {
-    within(value, 16, 4096)
+    within(value, LEAST_CHUNKS, MOST_CHUNKS)
 }
 
 /// A seed: any number of 64 bits.

@@ -3,11 +3,11 @@ ghost use Rattle.std.specs.Prelude.{◌≡◌, ◌<◌, ◌≤◌, ◌+◌, ℕ,
 ghost use Rattle.std.specs.Option.{option_map};
 ghost use Rattle.std.specs.String.{string_bytes};
 ghost use Rattle.command_line.specs.Numbers.{chunks_of, names_of, seed_of, turns_of, workers_of};
-ghost use Rattle.command_line.specs.Options.{no_options, once, options_from, origin_of, style_of, with_option};
+ghost use Rattle.command_line.specs.Options.{first, no_options, options_from, origin_of, style_of, with_option};
 ghost use Rattle.command_line.specs.Views.{options_view};
 
 use crate::given::Options;
-use crate::numbers::{chunks_of, seed_of, within};
+use crate::numbers::{MOST_NAMES, MOST_TURNS, MOST_WORKERS, chunks_of, seed_of, within};
 use dns_name::Name;
 use zone_model::Style;
 
@@ -18,10 +18,7 @@ fn origin_of(value: &[u8]) -> Option<Name>
     if value.is_empty() || value[0] == b'-' {
         return None;
     }
-    match Name::read(value, &Name::root()) {
-        Ok(origin) => Some(origin),
-        Err(_) => None,
-    }
+    Name::read(value, &Name::root()).ok()
 }
 
 /// A style, by its word.
@@ -37,142 +34,47 @@ pub fn style_of(value: &[u8]) -> Option<Style>
     None
 }
 
-// An origin that wasn't given before.
-fn with_origin(mut options: Options, value: &[u8]) -> Option<Options>
-    ensures { option_map options_view result ≡ once options.origin (origin_of value.now) (λ n. record (options_view options) { origin = Some n }) }
+// A value that wasn't given before.
+fn first<T: Copy>(before: Option<T>, value: Option<T>) -> Option<T>
+    ensures { result ≡ first before value }
 {
-    if options.origin.is_some() {
-        return None;
-    }
-    match origin_of(value) {
-        Some(origin) => {
-            options.origin = Some(origin);
-            Some(options)
-        }
-        None => None,
-    }
-}
-
-// A style that wasn't given before.
-fn with_style(mut options: Options, value: &[u8]) -> Option<Options>
-    ensures { option_map options_view result ≡ once options.style (style_of value.now) (λ n. record (options_view options) { style = Some n }) }
-{
-    if options.style.is_some() {
-        return None;
-    }
-    match style_of(value) {
-        Some(style) => {
-            options.style = Some(style);
-            Some(options)
-        }
-        None => None,
-    }
-}
-
-// A seed that wasn't given before.
-fn with_seed(mut options: Options, value: &[u8]) -> Option<Options>
-    ensures { option_map options_view result ≡ once options.seed (seed_of value.now) (λ n. record (options_view options) { seed = Some n }) }
-{
-    if options.seed.is_some() {
-        return None;
-    }
-    match seed_of(value) {
-        Some(seed) => {
-            options.seed = Some(seed);
-            Some(options)
-        }
-        None => None,
-    }
-}
-
-// A number of names that wasn't given before.
-fn with_names(mut options: Options, value: &[u8]) -> Option<Options>
-    ensures { option_map options_view result ≡ once options.names (names_of value.now) (λ n. record (options_view options) { names = Some n }) }
-{
-    if options.names.is_some() {
-        return None;
-    }
-    match within(value, 1, 20000) {
-        Some(names) => {
-            options.names = Some(names);
-            Some(options)
-        }
-        None => None,
-    }
-}
-
-// A number of turns that wasn't given before.
-fn with_turns(mut options: Options, value: &[u8]) -> Option<Options>
-    ensures { option_map options_view result ≡ once options.turns (turns_of value.now) (λ n. record (options_view options) { turns = Some n }) }
-{
-    if options.turns.is_some() {
-        return None;
-    }
-    match within(value, 1, 10000) {
-        Some(turns) => {
-            options.turns = Some(turns);
-            Some(options)
-        }
-        None => None,
-    }
-}
-
-// A number of workers that wasn't given before.
-fn with_workers(mut options: Options, value: &[u8]) -> Option<Options>
-    ensures { option_map options_view result ≡ once options.workers (workers_of value.now) (λ n. record (options_view options) { workers = Some n }) }
-{
-    if options.workers.is_some() {
-        return None;
-    }
-    match within(value, 1, 16) {
-        Some(workers) => {
-            options.workers = Some(workers);
-            Some(options)
-        }
-        None => None,
-    }
-}
-
-// A number of chunks that wasn't given before.
-fn with_chunks(mut options: Options, value: &[u8]) -> Option<Options>
-    ensures { option_map options_view result ≡ once options.chunks (chunks_of value.now) (λ n. record (options_view options) { chunks = Some n }) }
-{
-    if options.chunks.is_some() {
-        return None;
-    }
-    match chunks_of(value) {
-        Some(chunks) => {
-            options.chunks = Some(chunks);
-            Some(options)
-        }
-        None => None,
+    match before {
+        Some(_) => None,
+        None => value,
     }
 }
 
 // An option joins those before it.
-fn with_option(options: Options, option: &[u8], value: &[u8]) -> Option<Options>
+fn with_option(mut options: Options, option: &[u8], value: &[u8]) -> Option<Options>
     ensures { option_map options_view result ≡ with_option option.now value.now (options_view options) }
 {
     if option == b"--origin".as_slice() {
-        return with_origin(options, value);
+        options.origin = Some(first(options.origin, origin_of(value))?);
+        return Some(options);
     }
     if option == b"--chunks".as_slice() {
-        return with_chunks(options, value);
+        options.chunks = Some(first(options.chunks, chunks_of(value))?);
+        return Some(options);
     }
     if option == b"--style".as_slice() {
-        return with_style(options, value);
+        options.style = Some(first(options.style, style_of(value))?);
+        return Some(options);
     }
     if option == b"--workers".as_slice() {
-        return with_workers(options, value);
+        options.workers = Some(first(options.workers, within(value, 1, MOST_WORKERS))?);
+        return Some(options);
     }
     if option == b"--seed".as_slice() {
-        return with_seed(options, value);
+        options.seed = Some(first(options.seed, seed_of(value))?);
+        return Some(options);
     }
     if option == b"--names".as_slice() {
-        return with_names(options, value);
+        options.names = Some(first(options.names, within(value, 1, MOST_NAMES))?);
+        return Some(options);
     }
     if option == b"--turns".as_slice() {
-        return with_turns(options, value);
+        options.turns = Some(first(options.turns, within(value, 1, MOST_TURNS))?);
+        return Some(options);
     }
     None
 }

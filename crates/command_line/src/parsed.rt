@@ -13,7 +13,9 @@ ghost use Rattle.command_line.specs.Views.{invocation_view, verb_view};
 
 use crate::asked::made_origin;
 use crate::invocation::{Crew, Invocation, Verb};
-use crate::numbers::{DEFAULT_CHUNKS, chunks_of, seed_of, within};
+use crate::numbers::{
+    DEFAULT_CHUNKS, MOST_NAMES, MOST_TURNS, MOST_WORKERS, chunks_of, seed_of, within,
+};
 use crate::options::style_of;
 use crate::program::program;
 use clap::ArgMatches;
@@ -35,20 +37,14 @@ fn number_in(value: Option<&str>, least: u32, most: u32) -> Option<u32>
     ensures value { result ≡ option_and_then (numbers.within least most) (option_map (λ s. s.now) value.entry) }
     ensures limits { IfSome result (λ n. (least ≤ n) × (n ≤ most)) }
 {
-    match value {
-        Some(value) => within(value.as_bytes(), least, most),
-        None => None,
-    }
+    within(value?.as_bytes(), least, most)
 }
 
 // A seed, if it is given.
 fn seed_in(value: Option<&str>) -> Option<u64>
     ensures { result ≡ option_and_then numbers.seed_of (option_map (λ s. s.now) value.entry) }
 {
-    match value {
-        Some(value) => seed_of(value.as_bytes()),
-        None => None,
-    }
+    seed_of(value?.as_bytes())
 }
 
 // The number of chunks, which may be left out.
@@ -66,13 +62,7 @@ fn chunks_in(value: Option<&str>) -> Option<u32>
 fn origin_in(value: Option<&str>) -> Option<Name>
     ensures { result ≡ parsed.origin_in (option_map (λ s. s.now) value.entry) }
 {
-    let Some(value) = value else {
-        return None;
-    };
-    match Name::read(value.as_bytes(), &Name::root()) {
-        Ok(origin) => Some(origin),
-        Err(_) => None,
-    }
+    Name::read(value?.as_bytes(), &Name::root()).ok()
 }
 
 // The style, which may be left out.
@@ -89,13 +79,10 @@ fn style_in(value: Option<&str>) -> Option<Style>
 fn reading_in(matches: &ArgMatches<'_>, verb: Option<Verb>) -> Option<Invocation>
     ensures { option_map invocation_view result ≡ parsed.reading_in (option_map verb_view verb) (rows_of (found_of matches.now)) }
 {
-    let verb = verb?;
-    let origin = origin_in(value_in(matches, "origin"))?;
-    let chunks = chunks_in(value_in(matches, "chunks"))?;
     Some(Invocation {
-        verb,
-        origin,
-        chunks,
+        verb: verb?,
+        origin: origin_in(value_in(matches, "origin"))?,
+        chunks: chunks_in(value_in(matches, "chunks"))?,
     })
 }
 
@@ -109,9 +96,10 @@ fn dump_in(matches: &ArgMatches<'_>) -> Option<Verb>
 
 // What the options of the command that runs one list say of its workers.
 fn feed_in(matches: &ArgMatches<'_>) -> Option<Verb>
-    ensures { option_map verb_view result ≡ option_map lines.Feed (option_and_then numbers.workers_of (first_of (codes "workers") (rows_of (found_of matches.now)))) }
+    ensures { option_map verb_view result ≡ option_map lines.Feed
+        (option_and_then numbers.workers_of (first_of (codes "workers") (rows_of (found_of matches.now)))) }
 {
-    let workers = number_in(value_in(matches, "workers"), 1, 16)?;
+    let workers = number_in(value_in(matches, "workers"), 1, MOST_WORKERS)?;
     Some(Verb::Feed(Crew { workers }))
 }
 
@@ -119,10 +107,9 @@ fn feed_in(matches: &ArgMatches<'_>) -> Option<Verb>
 fn sizing_in(matches: &ArgMatches<'_>) -> Option<Invocation>
     ensures { option_map invocation_view result ≡ parsed.sizing_in (rows_of (found_of matches.now)) }
 {
-    let origin = origin_in(value_in(matches, "origin"))?;
     Some(Invocation {
         verb: Verb::Size,
-        origin,
+        origin: origin_in(value_in(matches, "origin"))?,
         chunks: DEFAULT_CHUNKS,
     })
 }
@@ -131,11 +118,10 @@ fn sizing_in(matches: &ArgMatches<'_>) -> Option<Invocation>
 fn zones_in(matches: &ArgMatches<'_>) -> Option<Invocation>
     ensures { option_map invocation_view result ≡ parsed.zones_in (rows_of (found_of matches.now)) }
 {
-    let chunks = chunks_in(value_in(matches, "chunks"))?;
     Some(Invocation {
         verb: Verb::Zones,
         origin: Name::root(),
-        chunks,
+        chunks: chunks_in(value_in(matches, "chunks"))?,
     })
 }
 
@@ -143,41 +129,24 @@ fn zones_in(matches: &ArgMatches<'_>) -> Option<Invocation>
 fn load_in(matches: &ArgMatches<'_>) -> Option<Load>
     ensures { option_map load_view result ≡ parsed.load_in (rows_of (found_of matches.now)) }
 {
-    let Some(seed) = seed_in(value_in(matches, "seed")) else {
-        return None;
-    };
-    let Some(names) = number_in(value_in(matches, "names"), 1, 20000) else {
-        return None;
-    };
-    let Some(turns) = number_in(value_in(matches, "turns"), 1, 10000) else {
-        return None;
-    };
-    match number_in(value_in(matches, "workers"), 1, 16) {
-        Some(workers) => Some(Load {
-            seed,
-            names,
-            turns,
-            workers,
-        }),
-        None => None,
-    }
+    Some(Load {
+        seed: seed_in(value_in(matches, "seed"))?,
+        names: number_in(value_in(matches, "names"), 1, MOST_NAMES)?,
+        turns: number_in(value_in(matches, "turns"), 1, MOST_TURNS)?,
+        workers: number_in(value_in(matches, "workers"), 1, MOST_WORKERS)?,
+    })
 }
 
 // What the options of the command that makes a load say.
 fn making_in(matches: &ArgMatches<'_>) -> Option<Invocation>
-    ensures { option_map invocation_view result ≡ parsed.making_by (parsed.load_in (rows_of (found_of matches.now))) (parsed.chunks_in (first_of (codes "chunks") (rows_of (found_of matches.now)))) }
+    ensures { option_map invocation_view result ≡ parsed.making_by (parsed.load_in (rows_of (found_of matches.now)))
+        (parsed.chunks_in (first_of (codes "chunks") (rows_of (found_of matches.now)))) }
 {
-    let Some(load) = load_in(matches) else {
-        return None;
-    };
-    match chunks_in(value_in(matches, "chunks")) {
-        Some(chunks) => Some(Invocation {
-            verb: Verb::Make(load),
-            origin: made_origin(),
-            chunks,
-        }),
-        None => None,
-    }
+    Some(Invocation {
+        verb: Verb::Make(load_in(matches)?),
+        origin: made_origin(),
+        chunks: chunks_in(value_in(matches, "chunks"))?,
+    })
 }
 
 // What a command with its options says.
@@ -200,10 +169,8 @@ fn asked_by(name: &str, matches: &ArgMatches<'_>) -> Option<Invocation>
 fn asked_in(matches: &ArgMatches<'_>) -> Option<Invocation>
     ensures { option_map invocation_view result ≡ parsed.asked_in (subcommand_rows_of matches.now) }
 {
-    match matches.subcommand() {
-        Some((name, inner)) => asked_by(name, inner),
-        None => None,
-    }
+    let (name, inner) = matches.subcommand()?;
+    asked_by(name, inner)
 }
 
 /// What words say as clap reads them; None where it refuses them, or an origin isn't a name, or a number isn't decimal digits

@@ -2,17 +2,14 @@
 
 use crate::written::{sink_of, write_zone};
 use std::alloc::Global;
-use zone_dump::DumpRefusal;
 
 // Whether the dump of a zone that a text says is this.
 fn is_dumped(alloc: Global, text: &[u8], origin: &[u8], ttl: Option<u32>, want: &[u8]) -> bool {
     let Ok(mut sink) = sink_of(alloc, 7, &[]) else {
         return false;
     };
-    match write_zone(alloc, text, origin, ttl, &mut sink) {
-        Some(Ok(_)) => sink.held() == Some(want),
-        _ => false,
-    }
+    let told = write_zone(alloc, text, origin, ttl, &mut sink);
+    matches!(told, Some(Ok(_))) && sink.held() == Some(want)
 }
 
 // A zone of an origin, its SOA's time to live, and its dumps in both styles.
@@ -180,13 +177,8 @@ fn the_zone_of_the_root_is_dumped(rt: HostRuntime) {
 
 // How many records a dump tells.
 fn told(alloc: Global, text: &[u8], origin: &[u8]) -> Option<u64> {
-    let Ok(mut sink) = sink_of(alloc, 100, &[]) else {
-        return None;
-    };
-    match write_zone(alloc, text, origin, None, &mut sink) {
-        Some(Ok(count)) => Some(count),
-        Some(Err(DumpRefusal::Fault | DumpRefusal::Memory)) | None => None,
-    }
+    let mut sink = sink_of(alloc, 100, &[]).ok()?;
+    write_zone(alloc, text, origin, None, &mut sink)?.ok()
 }
 
 #[test]

@@ -14,13 +14,11 @@ fn is_cut(alloc: Global, text: &[u8], want: &[u8], fails: u64) -> bool {
         return false;
     };
     let before = (fails as usize).saturating_sub(1).saturating_mul(10);
-    match write_zone(alloc, text, b"a.", None, &mut sink) {
-        Some(Err(DumpRefusal::Fault)) => match want.get(..before) {
-            Some(front) => sink.held() == Some(front),
-            None => false,
-        },
-        _ => false,
-    }
+    let told = write_zone(alloc, text, b"a.", None, &mut sink);
+    matches!(told, Some(Err(DumpRefusal::Fault)))
+        && want
+            .get(..before)
+            .is_some_and(|front| sink.held() == Some(front))
 }
 
 // The dump has 59 octets, and so six calls.
@@ -59,13 +57,9 @@ fn is_cut_short(alloc: Global, text: &[u8], want: &[u8], fails: u64) -> bool {
     let Ok(mut sink) = sink_of(alloc, 20_000, &[fails]) else {
         return false;
     };
-    match write_zone(alloc, text, b"a.", None, &mut sink) {
-        Some(Err(DumpRefusal::Fault)) => match sink.held() {
-            Some(held) => held.len() < want.len() && want.starts_with(held),
-            None => false,
-        },
-        _ => false,
-    }
+    let told = write_zone(alloc, text, b"a.", None, &mut sink);
+    let is_front = |held: &[u8]| held.len() < want.len() && want.starts_with(held);
+    matches!(told, Some(Err(DumpRefusal::Fault))) && sink.held().is_some_and(is_front)
 }
 
 // Whether a dump whose calls take 20,000 octets is whole where no call fails.
@@ -73,10 +67,8 @@ fn is_whole(alloc: Global, text: &[u8], want: &[u8]) -> bool {
     let Ok(mut sink) = sink_of(alloc, 20_000, &[]) else {
         return false;
     };
-    match write_zone(alloc, text, b"a.", None, &mut sink) {
-        Some(Ok(count)) => count == 27 && sink.held() == Some(want),
-        _ => false,
-    }
+    let told = write_zone(alloc, text, b"a.", None, &mut sink);
+    matches!(told, Some(Ok(27))) && sink.held() == Some(want)
 }
 
 // The dump has 53,205 octets, more than what is gathered before it is written, and so at least three calls.

@@ -42,18 +42,12 @@ pub(crate) fn write_zone(
     ttl: Option<u32>,
     sink: &mut MemSink,
 ) -> Option<Result<u64, DumpRefusal>> {
-    let Ok(origin) = Name::read(origin, &Name::root()) else {
-        return None;
-    };
     if text.len() > 100_000 {
         return None;
     }
-    let Ok(mut item) = item_buffer(alloc) else {
-        return None;
-    };
+    let origin = Name::read(origin, &Name::root()).ok()?;
+    let mut item = item_buffer(alloc).ok()?;
     let directives = ttl.map(|ttl| Directives::new(&origin, ttl));
-    match read_zone(alloc, text, &origin) {
-        Ok(zone) => Some(write_items(alloc, &mut zone.into_items(), directives, &mut item, sink)),
-        Err(_) => None,
-    }
+    let mut items = read_zone(alloc, text, &origin).ok()?.into_items();
+    Some(write_items(alloc, &mut items, directives, &mut item, sink))
 }

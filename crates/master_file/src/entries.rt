@@ -1,5 +1,5 @@
 //! What entries say.
-ghost use Rattle.std.specs.Prelude.{◌≡◌, ◌<◌, ◌≤◌, ◌+◌, ◌-◌, ◌∷◌, [], ◌^◌, ℕ, List, length, map, Some, None, Option, Ok, Err, Result, IfOk, OnOk};
+ghost use Rattle.std.specs.Prelude.{◌≡◌, ◌≤◌, ◌-◌, ℕ, List, length, map, Some, Ok, Err, Result, IfOk, OnOk};
 ghost use Rattle.std.specs.List.{All};
 ghost use Rattle.zone_model.specs.MasterFile.{directive, record_says, entry_says, last_line, set_time_word, set_origin_word, one_argument, placed};
 ghost use Rattle.zone_model.specs.Data.{data_of};
@@ -53,7 +53,8 @@ fn read_record(
     requires placed { All (IsPlaced bytes.now) words.now }
     requires held { AllHeld apex.now reader.old.owners.owned.entries }
     ensures held { OnOk result (AllHeld apex.now reader.new.owners.owned.entries) }
-    ensures gives { Gives result (reader_view reader.new) (record_says apex.now last owner.now (map (token_view bytes.now) words.now) (reader_view reader.old)) }
+    ensures gives { Gives result (reader_view reader.new) (record_says apex.now last owner.now (map (token_view bytes.now) words.now)
+        (reader_view reader.old)) }
 {
     let front = front_of(bytes, last, words)?;
     let rdata = read_data(alloc, last, front, bytes, words, &reader.origin)?;
@@ -127,7 +128,8 @@ fn read_directive(
     requires placed { IsPlaced bytes.now token }
     requires all_placed { All (IsPlaced bytes.now) arguments.now }
     ensures same { reader.new.owners ≡ reader.old.owners }
-    ensures gives { Gives result (reader_view reader.new) (directive (token_view bytes.now token) (map (token_view bytes.now) arguments.now) (reader_view reader.old)) }
+    ensures gives { Gives result (reader_view reader.new) (directive (token_view bytes.now token) (map (token_view bytes.now) arguments.now)
+        (reader_view reader.old)) }
 {
     let text = token.text(bytes);
     if is_word(text, b"$INCLUDE") {

@@ -1,8 +1,7 @@
 //! What stands before a record's data.
-ghost use Rattle.std.specs.Prelude.{◌≡◌, ◌<◌, ◌≤◌, ◌+◌, ◌∷◌, [], ◌^◌, ℕ, List, length, drop, map, Some, None, Option, Ok, Err, Result, IfOk, false};
-ghost use Rattle.std.specs.List.{All, slice_range};
+ghost use Rattle.std.specs.Prelude.{◌≡◌, ◌≤◌, ◌+◌, length, map, Some, None, Option, Ok, Err, Result, IfOk, false};
+ghost use Rattle.std.specs.List.{All};
 ghost use Rattle.zone_model.specs.MasterFile.{front_of, time_word, type_word, class_word, is_time, name_word, is_directive};
-ghost use Rattle.zone_model.specs.NameText.{name_of};
 ghost use Rattle.zone_text.specs.Tokens.{IsPlaced, token_view};
 ghost use Rattle.zone_text.specs.Views.{Reads};
 ghost use Rattle.master_file.specs.Zones.{front_view};
@@ -25,45 +24,30 @@ pub fn time_word(bytes: &[u8], token: Token) -> Option<u32>
     requires { IsPlaced bytes.now token }
     ensures { result ≡ time_word (token_view bytes.now token) }
 {
-    if token.quoted {
-        None
-    } else {
-        time_of(token.text(bytes))
-    }
+    time_of(token.plain(bytes)?)
 }
 
 pub fn type_word(bytes: &[u8], token: Token) -> Option<u16>
     requires { IsPlaced bytes.now token }
     ensures { result ≡ type_word (token_view bytes.now token) }
 {
-    if token.quoted {
-        None
-    } else {
-        read_type(token.text(bytes))
-    }
+    read_type(token.plain(bytes)?)
 }
 
 fn class_word(bytes: &[u8], token: Token) -> Option<bool>
     requires { IsPlaced bytes.now token }
     ensures { result ≡ class_word (token_view bytes.now token) }
 {
-    if token.quoted {
-        None
-    } else {
-        class_named(token.text(bytes))
-    }
+    class_named(token.plain(bytes)?)
 }
 
 fn is_time(bytes: &[u8], token: Token) -> bool
     requires { IsPlaced bytes.now token }
     ensures { result ≡ is_time (token_view bytes.now token) }
 {
-    if token.quoted {
-        return false;
-    }
-    match token.text(bytes).first() {
-        Some(octet) => octet.is_ascii_digit(),
-        None => false,
+    match token.plain(bytes) {
+        Some([octet, ..]) => octet.is_ascii_digit(),
+        _ => false,
     }
 }
 
@@ -71,12 +55,9 @@ pub fn is_directive(bytes: &[u8], token: Token) -> bool
     requires { IsPlaced bytes.now token }
     ensures { result ≡ is_directive (token_view bytes.now token) }
 {
-    if token.quoted {
-        return false;
-    }
-    match token.text(bytes).first() {
-        Some(octet) => *octet == b'$',
-        None => false,
+    match token.plain(bytes) {
+        Some([octet, ..]) => *octet == b'$',
+        _ => false,
     }
 }
 
@@ -84,13 +65,7 @@ pub fn name_word(bytes: &[u8], origin: &Name, token: Token) -> Option<Name>
     requires { IsPlaced bytes.now token }
     ensures { result ≡ name_word origin.now (token_view bytes.now token) }
 {
-    if token.quoted {
-        return None;
-    }
-    match Name::read(token.text(bytes), origin) {
-        Ok(name) => Some(name),
-        Err(_) => None,
-    }
+    Name::read(token.plain(bytes)?, origin).ok()
 }
 
 /// The words behind an owner up to the type.

@@ -1,5 +1,5 @@
 //! The items of a zone.
-ghost use Rattle.std.specs.Prelude.{◌≡◌, ◌≤◌, ◌∷◌, [], ℕ, List, length, take, IsTrue, ◌↔◌, Some, None, Option};
+ghost use Rattle.std.specs.Prelude.{◌≡◌, ◌≤◌, [], length, IsTrue, ◌↔◌, Some, Option};
 ghost use Rattle.std.specs.List.{AllByRecursion};
 ghost use Rattle.zone_model.specs.Records.{item_limit};
 ghost use Rattle.master_file.specs.Owners.{CanBeItem, version_of};

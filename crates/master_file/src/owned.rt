@@ -1,5 +1,5 @@
 //! What one name owns, as it is read.
-ghost use Rattle.std.specs.Prelude.{◌≡◌, ◌<◌, ◌≤◌, [], ℕ, List, Some, None, Option, Ok, Err, Result, IfOk, OnOk, is_some, length, take};
+ghost use Rattle.std.specs.Prelude.{◌≡◌, ◌≤◌, [], Some, None, Ok, Err, Result, IfOk, OnOk, is_some, length, take};
 ghost use Rattle.zone_model.specs.Names.{Name as Labels};
 ghost use Rattle.zone_model.specs.Records.{Entry as Records, with_rr, rrset_of, item_limit, IsItem};
 ghost use Rattle.zone_model.specs.Versions.{is_lone};

@@ -1,12 +1,9 @@
 //! The records of a zone by owner, as they are read.
-ghost use Rattle.std.specs.Prelude.{◌≡◌, ◌<◌, ◌≤◌, ◌+◌, ◌-◌, ◌∷◌, [], ◌^◌, ℕ, List, length, map, Some, None, Option, Ok, Err, Result, IfOk, OnOk, unwrap_or, ◌==◌, ◌&&◌, not};
+ghost use Rattle.std.specs.Prelude.{◌≡◌, ◌-◌, [], Some, None, Ok, Err, Result, IfOk, OnOk, ◌==◌, ◌&&◌, not};
 ghost use Rattle.zone_model.specs.Names.{same_name};
-ghost use Rattle.zone_model.specs.Records.{with_rr};
-ghost use Rattle.zone_model.specs.Versions.{is_lone, has_soa, soa_type};
-ghost use Rattle.zone_model.specs.MasterFile.{soa_count, added};
-ghost use Rattle.dns_name.specs.SortKeys.{KeyBelow};
+ghost use Rattle.zone_model.specs.Versions.{has_soa, soa_type};
+ghost use Rattle.zone_model.specs.MasterFile.{added};
 ghost use Rattle.zone_text.specs.Views.{Gives};
-ghost use Rattle.master_file.specs.Zones.{Checks};
 ghost use Rattle.master_file.specs.Owners.{placed_at, version_of, AllHeld};
 
 use crate::owned::Owned;

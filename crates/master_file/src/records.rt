@@ -1,6 +1,6 @@
 //! What the records of a file take from those before them.
-ghost use Rattle.std.specs.Prelude.{◌≡◌, ◌<◌, ◌≤◌, ◌+◌, ◌-◌, ◌∷◌, [], ◌^◌, ℕ, List, length, map, Some, None, Option, Ok, Err, Result, IfOk, unwrap_or, slice_index};
-ghost use Rattle.zone_model.specs.MasterFile.{number_at, minimum_of, time_for, line_of};
+ghost use Rattle.std.specs.Prelude.{◌≡◌, ◌<◌, ◌+◌, ◌-◌, ℕ, List, map, Some, Option, slice_index};
+ghost use Rattle.zone_model.specs.MasterFile.{minimum_of, time_for, line_of};
 ghost use Rattle.zone_text.specs.Tokens.{token_view};
 ghost use Rattle.master_file.specs.Zones.{reader_view};
 
@@ -60,7 +60,7 @@ pub fn time_for(written: Option<u32>, rtype: u16, octets: &[u8], reader: &Reader
     reader.minimum
 }
 
-/// The line of the token at a place, or the last line where there is none.
+/// The line of the token at an index, or the last line where there is none.
 #[tactic(auto, using(crate::proofs::RecordLemmas::line_rules))]
 pub fn line_of(last: u32, tokens: &[Token], at: usize) -> u32
     ensures { (bytes : List ℕ) → result ≡ line_of last at (map (token_view bytes) tokens.now) }

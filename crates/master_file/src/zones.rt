@@ -1,11 +1,11 @@
 //! The zone that bytes say.
-ghost use Rattle.std.specs.Prelude.{◌≡◌, ◌<◌, ◌≤◌, ◌+◌, ◌-◌, ◌∷◌, [], ◌^◌, ℕ, List, length, drop, map, Some, None, Option, Ok, Err, Result, IfOk, IsTrue, ◌↔◌};
+ghost use Rattle.std.specs.Prelude.{◌≡◌, ◌<◌, ◌≤◌, ◌+◌, ◌-◌, [], ◌^◌, length, drop, None, Ok, Err, Result, IfOk, IsTrue, ◌↔◌};
 ghost use Rattle.std.specs.List.Sorted.{IsStrictlySortedBy};
 ghost use Rattle.std.specs.Map.{keys_of};
 ghost use Rattle.zone_model.specs.Names.{name_cmp};
 ghost use Rattle.zone_model.specs.Lines.{lines_of};
 ghost use Rattle.zone_model.specs.MasterFile.{zone_of, zone_from, at_first};
-ghost use Rattle.zone_text.specs.Views.{Gives, Reads};
+ghost use Rattle.zone_text.specs.Views.{Reads};
 ghost use Rattle.master_file.specs.Zones.{reader_view, ReadsAll, ReadsNext};
 ghost use Rattle.master_file.specs.Owners.{AllHeld};
 
@@ -36,7 +36,7 @@ fn new_reader(alloc: Global, apex: &Name) -> Reader
     }
 }
 
-// The entry that begins at a place; the place and line of the next one. Its tokens lie in memory that is lent.
+// The entry that begins at a byte; the byte and line of the next one. Its tokens lie in memory that is lent.
 #[tactic(auto, using(crate::proofs::ZoneLemmas::zone_rules))]
 fn read_next(
     alloc: Global,
@@ -53,20 +53,14 @@ fn read_next(
     requires held { AllHeld apex.now reader.old.owners.owned.entries }
     ensures held { IfOk result (λ _. AllHeld apex.now reader.new.owners.owned.entries) }
     ensures reads { ReadsNext bytes.now apex.now at line (reader_view reader.old) (reader_view reader.new) result }
-    ensures places { IfOk result (λ x. (at < x.0) × (x.0 ≤ length bytes.now) × (x.1 ≤ x.0 + 1) × (x.1 + length (lines_of (drop x.0 bytes.now)) ≡ line + length (lines_of (drop at bytes.now)))) }
+    ensures places { IfOk result (λ x. (at < x.0) × (x.0 ≤ length bytes.now) × (x.1 ≤ x.0 + 1)
+        × (x.1 + length (lines_of (drop x.0 bytes.now)) ≡ line + length (lines_of (drop at bytes.now)))) }
 {
-    let lexed = match scan_entry(replace(lent, Vec::new(alloc)), bytes, at, line) {
-        Ok(lexed) => lexed,
-        Err(refusal) => return Err(refusal),
-    };
-    match read_entry(alloc, apex, line, lexed.blank, bytes, &lexed.tokens, reader) {
-        Ok(()) => {
-            let behind = (lexed.next, lexed.next_line);
-            *lent = lexed.tokens;
-            Ok(behind)
-        }
-        Err(refusal) => Err(refusal),
-    }
+    let lexed = scan_entry(replace(lent, Vec::new(alloc)), bytes, at, line)?;
+    read_entry(alloc, apex, line, lexed.blank, bytes, &lexed.tokens, reader)?;
+    let behind = (lexed.next, lexed.next_line);
+    *lent = lexed.tokens;
+    Ok(behind)
 }
 
 // All entries, and the number of the line behind them.
@@ -87,13 +81,9 @@ fn read_entries(
     let mut at = 0;
     let mut line = 1;
     while (at as usize) < bytes.len() {
-        match read_next(alloc, bytes, at, line, apex, reader, &mut lent) {
-            Ok((next, next_line)) => {
-                at = next;
-                line = next_line;
-            }
-            Err(refusal) => return Err(refusal),
-        }
+        let (next, next_line) = read_next(alloc, bytes, at, line, apex, reader, &mut lent)?;
+        at = next;
+        line = next_line;
     }
     Ok(line)
 }

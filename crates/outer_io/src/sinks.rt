@@ -1,4 +1,5 @@
-ghost use Rattle.std.specs.Prelude.{◌≡◌, ◌<◌, ◌≤◌, ◌↔◌, ℕ, List, [], Option, None, Some, MatchOption, take, length, min, IsErr, IfOk, OnOk, OnErr, IsOkAnd, Contains};
+ghost use Rattle.std.specs.Prelude.{◌≡◌, ◌<◌, ◌≤◌, ◌↔◌, []};
+ghost use Rattle.std.specs.Prelude.{ℕ, List, Option, None, Some, MatchOption, take, length, min, IsErr, IfOk, OnOk, OnErr, IsOkAnd, Contains};
 ghost use Rattle.outer_io.specs.Faults.{Rose};
 ghost use Rattle.outer_io.specs.Bytes.{Held, held_in, Grows, GrowsByFront};
 ghost use Rattle.outer_io.specs.Calls.{next_count};

@@ -1,10 +1,11 @@
 //! Types and data as they are printed.
-ghost use Rattle.std.specs.Prelude.{◌≡◌, ◌<◌, ◌≤◌, ◌+◌, ◌++◌, ◌∷◌, ◌^◌, [], ℕ, List, length, map, take, drop, Some, None, Option, OnOk, OnErr, IfOk, codes, decimal, if◌then◌else◌, ◌==◌, MatchOption};
+ghost use Rattle.std.specs.Prelude.{◌≡◌, ◌<◌, ◌+◌, ◌++◌, length, map, Some, None, Option, OnOk, OnErr, IfOk, ◌==◌};
 ghost use Rattle.std.specs.Io.{StartsWith};
 ghost use Rattle.std.specs.Option.{option_map, option_copied};
 ghost use Rattle.std.specs.List.{flat_map};
-ghost use Rattle.std.specs.Int.{w32, from_be_bytes};
-ghost use Rattle.zone_model.specs.DataText.{type_text, data_text, data_text_in, typed_text, fields_text, strings_text, field_text, address_text, groups_text, group_text, digit_at, generic_text, hex_digit, hex_text, string_octet, string_text, quoted_text};
+ghost use Rattle.std.specs.Int.{from_be_bytes};
+ghost use Rattle.zone_model.specs.DataText.{type_text, data_text, data_text_in, typed_text, fields_text, strings_text, field_text, address_text};
+ghost use Rattle.zone_model.specs.DataText.{groups_text, group_text, digit_at, generic_text, hex_digit, hex_text, string_octet, string_text, quoted_text};
 ghost use Rattle.zone_model.specs.Types.{NameField, ShortField, NumberField, TimeField};
 ghost use Rattle.rr_data.specs.Printing.{PrintsField, PrintsFields};
 ghost use Rattle.rr_data.specs.Fields.{field_view};
@@ -96,7 +97,8 @@ fn push_name<'a>(
     origin: Option<&Name>,
     out: &mut Vec<u8>,
 ) -> Result<Option<&'a [u8]>, AllocError>
-    ensures ok { IfOk result (λ o. PrintsField (option_map (λ r. r.now) o) out.old.items out.new.items (field_text (option_copied origin.entry) NameField octets.now)) }
+    ensures ok { IfOk result (λ o. PrintsField (option_map (λ r. r.now) o) out.old.items out.new.items
+        (field_text (option_copied origin.entry) NameField octets.now)) }
     ensures kept { StartsWith out.new.items out.old.items }
 {
     let Some((name, rest)) = split_name(octets) else {
@@ -146,7 +148,8 @@ fn push_field<'a>(
     origin: Option<&Name>,
     out: &mut Vec<u8>,
 ) -> Result<Option<&'a [u8]>, AllocError>
-    ensures ok { IfOk result (λ o. PrintsField (option_map (λ r. r.now) o) out.old.items out.new.items (field_text (option_copied origin.entry) (field_view field) octets.now)) }
+    ensures ok { IfOk result (λ o. PrintsField (option_map (λ r. r.now) o) out.old.items out.new.items
+        (field_text (option_copied origin.entry) (field_view field) octets.now)) }
     ensures kept { StartsWith out.new.items out.old.items }
 {
     match field {
@@ -179,7 +182,8 @@ fn push_fields(
     origin: Option<&Name>,
     out: &mut Vec<u8>,
 ) -> Result<bool, AllocError>
-    ensures ok { IfOk result (λ fits. PrintsFields fits out.old.items out.new.items (fields_text (option_copied origin.entry) (map field_view fields.now) octets.now)) }
+    ensures ok { IfOk result (λ fits. PrintsFields fits out.old.items out.new.items
+        (fields_text (option_copied origin.entry) (map field_view fields.now) octets.now)) }
     ensures kept { StartsWith out.new.items out.old.items }
 {
     let Some((field, others)) = fields.split_first() else {

@@ -1,5 +1,5 @@
 //! The octets of items.
-ghost use Rattle.std.specs.Prelude.{◌≡◌, ℕ, ◌+◌, ◌≤◌, ◌++◌, List, length, take};
+ghost use Rattle.std.specs.Prelude.{◌≡◌, ◌+◌, ◌≤◌, ◌++◌, length, take};
 ghost use Rattle.std.specs.List.{flat_map};
 ghost use Rattle.std.specs.Int.{w16, w32, to_be_bytes};
 ghost use Rattle.zone_model.specs.Records.{item_limit, record_bytes, rrset_bytes};
@@ -8,7 +8,7 @@ use crate::rdata::Rdata;
 use crate::rrset::RrSet;
 use byteorder::{BigEndian, ByteOrder};
 
-// Writes octets at a place, and answers the place behind them.
+// Writes octets at an index, and answers the index behind them.
 pub fn put(out: &mut [u8], at: usize, octets: &[u8]) -> usize
     requires fits { at + length octets.now ≤ item_limit }
     requires room { item_limit ≤ length out.old }

@@ -1,5 +1,6 @@
 //! An entry.
-ghost use Rattle.std.specs.Prelude.{◌≡◌, ◌<◌, ◌≤◌, ◌++◌, ◌∷◌, [], ℕ, List, Option, length, OnOk, OnErr, MatchOption, take, drop, Some, None, min, ◌-◌, ◌^◌, slice_get, IsTrue, IsNone, IsSome, IfSome, IfOk, ◌↔◌};
+ghost use Rattle.std.specs.Prelude.{◌≡◌, ◌<◌, ◌≤◌, [], ◌-◌, ◌^◌, ◌↔◌};
+ghost use Rattle.std.specs.Prelude.{List, Option, length, OnOk, OnErr, MatchOption, take, Some, None, min, slice_get, IsTrue, IsNone, IsSome, IfSome, IfOk};
 ghost use Rattle.zone_model.specs.Records.{Rrset, with_rr, without_rr, without_set, rrset_of, item, item_limit, rrset_bytes, IsEntry, IsItem};
 ghost use Rattle.rr_data.specs.Changes.{TellsChange};
 ghost use Rattle.rr_data.specs.Items.{Decodes};
@@ -149,7 +150,7 @@ impl Entry {
         self.sets.len()
     }
 
-    /// The RRset at a place, in rising type.
+    /// The RRset at an index, in rising type.
     pub fn set_at(&self, index: usize) -> &RrSet
         requires { index < length self.now }
         ensures { slice_get self.now index ≡ Some result.now }

@@ -1,5 +1,5 @@
 //! Data that is a row of words.
-ghost use Rattle.std.specs.Prelude.{◌≡◌, ◌<◌, ◌≤◌, ◌+◌, ◌++◌, ◌∷◌, [], ◌^◌, ℕ, List, length, drop, map, Some, None, Option, Ok, Err, Result, IfOk};
+ghost use Rattle.std.specs.Prelude.{map, Some, Ok, Err, Result, IfOk};
 ghost use Rattle.std.specs.List.{All};
 ghost use Rattle.zone_model.specs.Data.{field_octets, word_octets, read_fields};
 ghost use Rattle.std.specs.Option.{option_map};
@@ -13,6 +13,7 @@ ghost use Rattle.rr_data.specs.Pushing.{Pushes};
 ghost use Rattle.rr_data.specs.Fields.{field_view};
 
 use crate::refusal::RdataRefusal;
+use crate::splits::MOST_SHORT;
 use crate::types::Field;
 use dns_name::Name;
 use std::alloc::{AllocError, Global};
@@ -21,50 +22,32 @@ use zone_text::{Token, number, push_address, push_address6, time_of};
 fn push_name(origin: &Name, text: &[u8], out: &mut Vec<u8>) -> Result<bool, AllocError>
     ensures { IfOk result (λ good. PushesAll good out.old.items out.new.items (field_octets origin.now NameField text.now)) }
 {
-    match Name::read(text, origin) {
-        Ok(name) => {
-            out.extend_from_slice(name.wire())?;
-            Ok(true)
-        }
-        Err(_) => Ok(false),
-    }
+    let Ok(name) = Name::read(text, origin) else {
+        return Ok(false);
+    };
+    out.extend_from_slice(name.wire())?;
+    Ok(true)
 }
 
 fn push_short(text: &[u8], out: &mut Vec<u8>) -> Result<bool, AllocError>
     ensures { IfOk result (λ good. PushesAll good out.old.items out.new.items (option_map (to_be_bytes w16) (number 65535 text.now))) }
 {
-    match number(text, 65535) {
-        Some(value) => {
-            let short = value as u16;
-            out.extend_from_slice(&short.to_be_bytes())?;
-            Ok(true)
-        }
-        None => Ok(false),
-    }
+    let Some(value) = number(text, MOST_SHORT) else {
+        return Ok(false);
+    };
+    out.extend_from_slice(&(value as u16).to_be_bytes())?;
+    Ok(true)
 }
 
-fn push_number(text: &[u8], out: &mut Vec<u8>) -> Result<bool, AllocError>
-    ensures { IfOk result (λ good. PushesAll good out.old.items out.new.items (option_map (to_be_bytes w32) (number 4294967295 text.now))) }
+// Pushes the octets of a number, if there is one.
+fn push_number(value: Option<u32>, out: &mut Vec<u8>) -> Result<bool, AllocError>
+    ensures { IfOk result (λ good. PushesAll good out.old.items out.new.items (option_map (to_be_bytes w32) value)) }
 {
-    match number(text, 4294967295) {
-        Some(value) => {
-            out.extend_from_slice(&value.to_be_bytes())?;
-            Ok(true)
-        }
-        None => Ok(false),
-    }
-}
-
-fn push_time(text: &[u8], out: &mut Vec<u8>) -> Result<bool, AllocError>
-    ensures { IfOk result (λ good. PushesAll good out.old.items out.new.items (option_map (to_be_bytes w32) (time_of text.now))) }
-{
-    match time_of(text) {
-        Some(value) => {
-            out.extend_from_slice(&value.to_be_bytes())?;
-            Ok(true)
-        }
-        None => Ok(false),
-    }
+    let Some(value) = value else {
+        return Ok(false);
+    };
+    out.extend_from_slice(&value.to_be_bytes())?;
+    Ok(true)
 }
 
 // Pushes what a word says.
@@ -80,8 +63,8 @@ fn push_field(
     match field {
         Field::Name => push_name(origin, text, out),
         Field::Short => push_short(text, out),
-        Field::Number => push_number(text, out),
-        Field::Time => push_time(text, out),
+        Field::Number => push_number(number(text, u32::MAX), out),
+        Field::Time => push_number(time_of(text), out),
         Field::Address => push_address(text, out),
         Field::Address6 => push_address6(alloc, text, out),
     }

@@ -1,8 +1,6 @@
 //! Octets that are of a type's form.
-ghost use Rattle.std.specs.Prelude.{◌≡◌, ◌<◌, ◌≤◌, ◌+◌, ◌++◌, ◌∷◌, [], ◌^◌, ℕ, List, length, drop, map, Some, None, Option, option_and_then, ◌==◌, true};
+ghost use Rattle.std.specs.Prelude.{◌≡◌, length, map, Some, None, Option, true};
 ghost use Rattle.std.specs.Option.{option_map};
-ghost use Rattle.std.specs.List.{list_all};
-ghost use Rattle.std.specs.Char.{to_ascii_lowercase};
 ghost use Rattle.zone_model.specs.Types.{NameField, TimeField};
 ghost use Rattle.zone_model.specs.DataForms.{field_rest, fields_fit, strings_fit, form_fits};
 ghost use Rattle.zone_model.specs.Splits.{split_octets};

@@ -1,5 +1,5 @@
 //! Data of any type, as octets in hexadecimal digits.
-ghost use Rattle.std.specs.Prelude.{◌≡◌, ◌<◌, ◌≤◌, ◌+◌, ◌*◌, ◌++◌, ◌∷◌, [], ◌^◌, ℕ, List, length, drop, map, Some, None, Option, Ok, Err, Result, IfOk, OnOk, true};
+ghost use Rattle.std.specs.Prelude.{◌≡◌, ◌+◌, ◌*◌, ◌++◌, map, Some, None, Ok, Err, Result, OnOk, true};
 ghost use Rattle.std.specs.List.{All, list_all};
 ghost use Rattle.std.specs.Char.{is_ascii_hexdigit};
 ghost use Rattle.zone_model.specs.DataWords.{paired};
@@ -8,6 +8,7 @@ ghost use Rattle.zone_text.specs.Tokens.{IsPlaced, token_view};
 ghost use Rattle.rr_data.specs.Pushing.{Pushes};
 
 use crate::refusal::RdataRefusal;
+use crate::splits::MOST_SHORT;
 use std::alloc::{AllocError, Global};
 use zone_text::{Token, all_hex, digit_value, number};
 
@@ -83,7 +84,7 @@ pub fn push_generic(
     if token.quoted {
         return Err(RdataRefusal::BadRdata { at: 1 });
     }
-    let Some(octets) = number(token.text(bytes), 65535) else {
+    let Some(octets) = number(token.text(bytes), MOST_SHORT) else {
         return Err(RdataRefusal::BadRdata { at: 1 });
     };
     let mut digits = Vec::new(alloc);

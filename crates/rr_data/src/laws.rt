@@ -2,7 +2,7 @@
 ghost use Rattle.std.specs.Prelude.{◌≡◌, ℕ, ◌<◌, ◌≤◌, ◌^◌, false, [], ◌∷◌, ◌++◌, List, length, Option, Some, Ok, drop, decimal, option_and_then};
 ghost use Rattle.std.specs.List.{flat_map};
 ghost use Rattle.std.specs.Option.{option_map};
-ghost use Rattle.zone_model.specs.Names.{Name, IsName};
+ghost use Rattle.zone_model.specs.Names.{Name};
 ghost use Rattle.zone_model.specs.Records.{Entry, IsItem};
 ghost use Rattle.zone_model.specs.Texts.{number};
 ghost use Rattle.zone_model.specs.Escapes.{escaped_octet, escape_len};
@@ -20,7 +20,8 @@ pub fn items_are_told_apart()
 
 /// What stands behind a backslash is the same octet in a string as in a name.
 pub fn escapes_are_alike()
-    ensures { (text : List ℕ) → octets_from Slash text ≡ option_and_then (λ o. option_map (λ cs. o ∷ cs) (unescaped (drop (escape_len text) text))) (escaped_octet text) }
+    ensures { (text : List ℕ) → octets_from Slash text ≡ option_and_then (λ o. option_map (λ cs. o ∷ cs) (unescaped (drop (escape_len text) text)))
+        (escaped_octet text) }
 {}
 
 /// What is read from a printed string is that string.

@@ -1,12 +1,12 @@
 //! Where the RRset of a type stands among the RRsets of an entry.
-ghost use Rattle.std.specs.Prelude.{◌≡◌, ◌<◌, ◌≤◌, ◌++◌, ◌∷◌, [], ℕ, List, length, None, MatchResult};
+ghost use Rattle.std.specs.Prelude.{◌<◌, ◌≤◌, length, None, MatchResult};
 ghost use Rattle.zone_model.specs.Records.{RisingSets};
 ghost use Rattle.rr_data.specs.Places.{AreLower, StandsAt, MissingAt};
 
 use crate::rrset::RrSet;
 use std::cmp::Ordering;
 
-// A place before which all RRsets have lower types, and behind which none has.
+// An index before which all RRsets have lower types, and behind which none has.
 fn start_of(sets: &[RrSet], rtype: u16) -> usize
     requires { RisingSets None sets.now }
     ensures within { result ≤ length sets.now }
@@ -25,7 +25,7 @@ fn start_of(sets: &[RrSet], rtype: u16) -> usize
     at
 }
 
-// The place of the RRset of a type, or else where it would stand. The walk to it begins right there.
+// The index of the RRset of a type, or else where it would stand. The walk to it begins right there.
 pub fn place_of(sets: &[RrSet], rtype: u16) -> Result<usize, usize>
     requires { RisingSets None sets.now }
     ensures { MatchResult result (StandsAt rtype sets.now) (MissingAt rtype sets.now) }

@@ -1,5 +1,5 @@
 //! The data of a type.
-ghost use Rattle.std.specs.Prelude.{◌≡◌, ◌<◌, ◌≤◌, ◌+◌, ◌++◌, ◌∷◌, [], ◌^◌, ℕ, List, length, drop, map, Some, None, Option, Ok, Err, Result};
+ghost use Rattle.std.specs.Prelude.{◌≡◌, [], map, Some, Ok, Err, Result};
 ghost use Rattle.std.specs.List.{All};
 ghost use Rattle.zone_model.specs.Data.{read_typed, data_of};
 ghost use Rattle.zone_text.specs.Tokens.{IsPlaced, token_view};

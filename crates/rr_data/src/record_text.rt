@@ -1,5 +1,5 @@
 //! Records as lines of a master file (RFC 1035, section 5.1).
-ghost use Rattle.std.specs.Prelude.{◌≡◌, ◌++◌, List, OnOk};
+ghost use Rattle.std.specs.Prelude.{◌≡◌, ◌++◌, OnOk};
 ghost use Rattle.std.specs.Io.{StartsWith};
 ghost use Rattle.std.specs.Option.{option_copied};
 ghost use Rattle.zone_model.specs.Rows.{directives_text, origin_of, owner_field, ttl_field, head_text, line_text};
@@ -78,10 +78,7 @@ impl Directives {
 fn origin_of(directives: Option<&Directives>) -> Option<&Name>
     ensures { option_copied result ≡ origin_of (option_copied directives.entry) }
 {
-    match directives {
-        Some(directives) => Some(&directives.origin),
-        None => None,
-    }
+    Some(&directives?.origin)
 }
 
 // What stands in front of a record's type.

@@ -6,7 +6,7 @@ ghost use Rattle.rr_data.specs.declared.refusal.DecodeRefusal.TheVariants as dec
 use std::alloc::{AllocError, AllocFailed};
 use thiserror::Error;
 
-/// Why tokens gave no data. `at` is the place of the first token that is refused, from 0; the number of tokens where one
+/// Why tokens gave no data. `at` is the index of the first token that is refused, from 0; the number of tokens where one
 /// is missing.
 #[derive(Clone, Copy, Debug, Error)]
 pub enum RdataRefusal {

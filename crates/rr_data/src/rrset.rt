@@ -1,5 +1,5 @@
 //! An RRset.
-ghost use Rattle.std.specs.Prelude.{◌≡◌, ◌<◌, ◌≤◌, ◌++◌, ◌∷◌, [], ℕ, List, length, IfOk, OnOk, OnErr, take, drop, slice_get, Some, None, IsTrue, ◌↔◌};
+ghost use Rattle.std.specs.Prelude.{◌≡◌, ◌<◌, ◌≤◌, ◌++◌, [], length, IfOk, OnOk, OnErr, take, drop, slice_get, Some, None, IsTrue, ◌↔◌};
 ghost use Rattle.zone_model.specs.Records.{Rrset, with_record, without_record, has_record, fresh, RisingOctets};
 ghost use Rattle.rr_data.specs.Changes.{TellsChange};
 
@@ -48,7 +48,7 @@ fn has_octets(records: &[Rdata], octets: &[u8]) -> bool
     false
 }
 
-// A place before which all records are lower than these octets, and behind which none is.
+// An index before which all records are lower than these octets, and behind which none is.
 fn start_of(records: &[Rdata], octets: &[u8]) -> usize
     requires { RisingOctets None records.now }
     ensures within { result ≤ length records.now }
@@ -66,7 +66,7 @@ fn start_of(records: &[Rdata], octets: &[u8]) -> usize
     at
 }
 
-// Adds a record in its place, unless it is there. Answers whether it was added. The walk to its place begins right there.
+// Adds a record where it belongs, unless it is there. Answers whether it was added. The walk to its index begins right there.
 fn add_record(records: &mut Vec<Rdata>, added: Rdata) -> Result<bool, AllocError>
     requires { RisingOctets None records.old.items }
     ensures ok { OnOk result (records.new.items ≡ with_record added records.old.items) }
@@ -154,7 +154,7 @@ impl RrSet {
         self.records.is_empty()
     }
 
-    /// The record at a place, in rising order of the octets.
+    /// The record at an index, in rising order of the octets.
     pub fn at(&self, index: usize) -> &Rdata
         requires { index < length self.now.records }
         ensures { slice_get self.now.records index ≡ Some result.now }

@@ -1,5 +1,5 @@
 //! What octets begin with, and what is left behind it.
-ghost use Rattle.std.specs.Prelude.{◌≡◌, ℕ, List, Option, IfSome, length};
+ghost use Rattle.std.specs.Prelude.{◌≡◌, Option, IfSome, length};
 ghost use Rattle.std.specs.Option.{option_map};
 ghost use Rattle.std.specs.Int.{w16, w32, from_be_bytes};
 ghost use Rattle.zone_model.specs.Splits.{split_octets, split_name};
@@ -7,6 +7,9 @@ ghost use Rattle.zone_model.specs.DataForms.{split_time};
 
 use dns_name::Name;
 use zone_text::MOST_TIME;
+
+// The greatest number of two octets.
+pub const MOST_SHORT: u32 = 65_535;
 
 // Splits off a number of octets.
 pub fn split_octets(count: usize, octets: &[u8]) -> Option<(&[u8], &[u8])>

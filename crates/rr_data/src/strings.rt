@@ -1,6 +1,6 @@
 //! Strings as tokens.
-ghost use Rattle.std.specs.Prelude.{◌≡◌, ◌<◌, ◌≤◌, ◌+◌, ◌++◌, ◌∷◌, [], ◌^◌, ℕ, List, length, drop, map, Some, None, Option, Ok, Err, Result, IfOk, if◌then◌else◌};
-ghost use Rattle.std.specs.List.{slice_range, All};
+ghost use Rattle.std.specs.Prelude.{map, Ok, Err, Result};
+ghost use Rattle.std.specs.List.{All};
 ghost use Rattle.zone_model.specs.DataWords.{unescaped};
 ghost use Rattle.zone_model.specs.Data.{string_octets, read_strings};
 ghost use Rattle.zone_text.specs.Tokens.{IsPlaced, token_view};
@@ -8,6 +8,12 @@ ghost use Rattle.rr_data.specs.Pushing.{Pushes};
 
 use crate::refusal::RdataRefusal;
 use zone_text::{Token, push_unescaped};
+
+// The most octets of a string (RFC 1035, section 3.3).
+const MOST_STRING: usize = 255;
+
+// The most octets of a record's data.
+const MOST_DATA: usize = 65_535;
 
 // Pushes a string behind its length.
 #[tactic(auto, using(crate::proofs::StringLemmas::string_rules))]
@@ -20,7 +26,7 @@ fn push_string(text: &[u8], at: usize, out: &mut Vec<u8>) -> Result<(), RdataRef
         return Err(RdataRefusal::BadRdata { at });
     }
     let len = out.len() - start - 1;
-    if len > 255 {
+    if len > MOST_STRING {
         return Err(RdataRefusal::LongString { at });
     }
     out[start] = len as u8;
@@ -33,7 +39,7 @@ pub fn push_strings(bytes: &[u8], tokens: &[Token], out: &mut Vec<u8>) -> Result
     requires placed { All (IsPlaced bytes.now) tokens.now }
     ensures { Pushes result out.old.items out.new.items (read_strings 0 65535 (map (token_view bytes.now) tokens.now)) }
 {
-    let mut room = 65535;
+    let mut room = MOST_DATA;
     for (at, token) in tokens.iter().enumerate() {
         let start = out.len();
         push_string(token.text(bytes), at, out)?;

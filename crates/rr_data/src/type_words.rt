@@ -2,6 +2,7 @@
 ghost use Rattle.std.specs.Prelude.{◌≡◌, Some, None, Option};
 ghost use Rattle.zone_model.specs.DataWords.{type_named, numbered, data_type};
 
+use crate::splits::MOST_SHORT;
 use crate::types::type_spelled;
 use zone_text::{is_word, number};
 
@@ -10,14 +11,10 @@ fn numbered(text: &[u8], word: &[u8]) -> Option<u16>
     ensures { result ≡ numbered word.now text.now }
 {
     let n = word.len();
-    if n <= text.len() && is_word(&text[..n], word) {
-        match number(&text[n..], 65535) {
-            Some(value) => Some(value as u16),
-            None => None,
-        }
-    } else {
-        None
+    if n > text.len() || !is_word(&text[..n], word) {
+        return None;
     }
+    Some(number(&text[n..], MOST_SHORT)? as u16)
 }
 
 // A number may be a data type's.

@@ -1,8 +1,8 @@
 //! The types of data that have a name here, and the form of each one's data (RFC 1035, sections 3.2.2 and 3.3; RFC 3596, section 2.1;
 //! RFC 2782): one table.
-ghost use Rattle.std.specs.Prelude.{◌≡◌, ◌^◌, ◌<◌, ℕ, List, map, drop, Some, None, Option};
+ghost use Rattle.std.specs.Prelude.{◌≡◌, Some, None, Option};
 ghost use Rattle.std.specs.Option.{option_map};
-ghost use Rattle.zone_model.specs.Types.{NamedType as Row, type_numbered, type_spelled, form_of};
+ghost use Rattle.zone_model.specs.Types.{type_numbered, type_spelled, form_of};
 ghost use Rattle.rr_data.specs.Fields.{form_view, type_view};
 
 use Field::{Address, Address6, Name, Number, Short, Time};
@@ -94,8 +94,5 @@ pub fn type_spelled(text: &[u8]) -> Option<&'static NamedType>
 pub fn form_of(rtype: u16) -> Option<Form>
     ensures { option_map form_view result ≡ form_of rtype }
 {
-    match type_numbered(rtype) {
-        Some(row) => Some(row.form),
-        None => None,
-    }
+    Some(type_numbered(rtype)?.form)
 }

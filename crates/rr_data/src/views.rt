@@ -1,6 +1,5 @@
 //! Entries and RRsets where they lie in an item, read without taking memory.
-ghost use Rattle.std.specs.Prelude.{◌≡◌, ◌<◌, ◌≤◌, ◌+◌, ◌++◌, ◌∷◌, [], ℕ, List, length, take, drop, IfSome, MatchOption, Some, None};
-ghost use Rattle.zone_model.specs.Names.{Name as Labels};
+ghost use Rattle.std.specs.Prelude.{◌≡◌, ◌≤◌, ◌∷◌, [], ℕ, List, length, IfSome, MatchOption, Some, None};
 ghost use Rattle.zone_model.specs.Records.{Rrset, Entry, rrset_of};
 ghost use Rattle.zone_model.specs.Transactions.{has_some};
 ghost use Rattle.rr_data.specs.ItemViews.{BeginsWithRecord, BeginsWithRecords, BeginsWithSet, SaysEntry};

@@ -15,7 +15,7 @@ use Rattle.zone_list.specs.declared.refusal.ListKind.TheVariants as kinds
 use Rattle.zone_list.specs.declared.refusal.ListRefusal.{ListRefusal}
 use Rattle.zone_list.specs.declared.refusal.ListRefusal.TheVariants as stops
 use Rattle.zone_list.specs.declared.parts.Front.{Front}
-use Rattle.zone_list.proofs.LineLemmas.{Begins, at_start, next_begins, next_lines}
+use Rattle.zone_text.proofs.CutLemmas.{Begins, at_start, behind_line, line_more}
 
 -- lines that stand in front of what is cut
 abbrev pub behind : List (List ℕ) → Cut → Cut
@@ -55,14 +55,14 @@ searched_more {text} {at} {upto} {next} {lines} s f other =
     let line = slice_range text at upto in
     let front = lines_of (take at text) in
     record {
-      begins = next_begins f;
+      begins = behind_line f;
       left = λ n.
           let step : cut_from (n + lines) (lines_of (drop at text)) ≡ behind (line ∷ []) (cut_from (n + lines + 1) (lines_of (drop next text))) =
           ap (cut_from (n + lines)) f.lines ∙ line_skipped (n + lines) line (lines_of (drop next text)) other in
           let count : n + lines + 1 ≡ n + (lines + 1) = omega arith in
           let c = cut_from (n + (lines + 1)) (lines_of (drop next text)) in
           s.left n ∙ ap (behind front) (step ∙ ap (λ (k : ℕ). behind (line ∷ []) (cut_from k (lines_of (drop next text)))) count)
-          ∙ ap (λ (l : List (List ℕ)). record { front = l; parts = c.parts }) (sym (append_assoc front (line ∷ []) c.front) ∙ ap (λ (l : List (List ℕ)). l ++ c.front) (sym (next_lines s.begins f)));
+          ∙ ap (λ (l : List (List ℕ)). record { front = l; parts = c.parts }) (sym (append_assoc front (line ∷ []) c.front) ∙ ap (λ (l : List (List ℕ)). l ++ c.front) (sym (line_more s.begins f)));
       inside = f.inside;
       few = (let on : at < next = f.on in let few : lines ≤ at = s.few in omega arith);
     }
@@ -96,7 +96,7 @@ found_none {text} {at} {lines} s past =
 -- its first line alone
 pub head_alone : {text : List ℕ} {upto body : ℕ} → FirstLine text 0 upto body → lines_of (take body text) ≡ first_line (take body text) ∷ []
 head_alone {text} {upto} {body} f =
-    let one : lines_of (take body text) ≡ slice_range text 0 upto ∷ [] = next_lines (at_start refl) f in
+    let one : lines_of (take body text) ≡ slice_range text 0 upto ∷ [] = line_more (at_start refl) f in
     one ∙ ap (λ (l : List ℕ). l ∷ []) (sym (ap (λ (l : List (List ℕ)). slice_index_or l 0 []) one))
 
 -- that part, and those behind it
@@ -107,7 +107,7 @@ part_first {text} {upto} {body} {f} n begins first searched =
     let rest = lines_of (drop body text) in
     let last = lines_of (drop f.upto (drop body text)) in
     let head : is_head line ≡ true = ap begins_part (sym first.lines) ∙ begins in
-    let one : lines_of (take body text) ≡ line ∷ [] = next_lines (at_start refl) first in
+    let one : lines_of (take body text) ≡ line ∷ [] = line_more (at_start refl) first in
     let named : line ≡ first_line (take body text) = sym (ap (λ (l : List (List ℕ)). slice_index_or l 0 []) one) in
     let size : f.upto ≡ body + f.upto - body = omega arith in
     let slice : take f.upto (drop body text) ≡ slice_range text body (body + f.upto) = ap (λ (k : ℕ). take k (drop body text)) size in

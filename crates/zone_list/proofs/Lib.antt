@@ -1,4 +1,3 @@
-pub mod LineLemmas
 pub mod CutLemmas
 pub mod ListLemmas
 pub mod PartLemmas

@@ -1,5 +1,5 @@
 //! The first line of a part.
-ghost use Rattle.std.specs.Prelude.{◌≡◌, ◌≤◌, ◌<◌, ◌∷◌, [], ◌^◌, List, length, map};
+ghost use Rattle.std.specs.Prelude.{◌≡◌, ◌≤◌, ◌<◌, ◌∷◌, [], ◌^◌, length, map};
 ghost use Rattle.std.specs.List.{All};
 ghost use Rattle.zone_model.specs.Lines.{lines_of};
 ghost use Rattle.zone_text.specs.Places.{first_line};

@@ -9,6 +9,3 @@ mod refusal;
 
 pub use lists::read_zones;
 pub use refusal::{ListKind, ListRefusal};
-
-#[cfg(test)]
-mod tests;

@@ -1,5 +1,5 @@
 //! The zones of an input.
-ghost use Rattle.std.specs.Prelude.{◌≡◌, ◌≤◌, ◌^◌, List, length, IfOk};
+ghost use Rattle.std.specs.Prelude.{◌≡◌, ◌≤◌, ◌^◌, length, IfOk};
 ghost use Rattle.zone_model.specs.Lines.{lines_of};
 ghost use Rattle.zone_list.specs.Lists.{begins_part, zones_of};
 ghost use Rattle.zone_list.specs.Parts.{AreListed};
@@ -39,13 +39,9 @@ pub fn read_zones(alloc: Global, bytes: &[u8]) -> Result<Vec<Zone>, ListRefusal>
     let mut at = 0u32;
     let mut number = 1u32;
     while (at as usize) < bytes.len() {
-        match read_part(alloc, &bytes[at as usize..], number, &mut zones) {
-            Ok((behind, lines)) => {
-                at += behind;
-                number += lines;
-            }
-            Err(refusal) => return Err(refusal),
-        }
+        let (behind, lines) = read_part(alloc, &bytes[at as usize..], number, &mut zones)?;
+        at += behind;
+        number += lines;
     }
     Ok(zones)
 }

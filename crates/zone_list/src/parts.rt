@@ -1,5 +1,5 @@
 //! Where parts begin, and what they say.
-ghost use Rattle.std.specs.Prelude.{◌≡◌, ◌≤◌, ◌<◌, ◌+◌, ◌∷◌, [], ◌++◌, ◌^◌, true, ℕ, List, length, OnOk, IfOk};
+ghost use Rattle.std.specs.Prelude.{◌≡◌, ◌≤◌, ◌<◌, ◌+◌, ◌∷◌, [], ◌^◌, true, length, IfOk};
 ghost use Rattle.std.specs.List.{list_any};
 ghost use Rattle.zone_model.specs.Names.{same_name};
 ghost use Rattle.zone_model.specs.Lines.{lines_of};
@@ -102,7 +102,7 @@ fn part_says(
     }
 }
 
-/// The zone of the part that a text begins with joins the earlier ones. Answers the place behind the part, and its number of lines.
+/// The zone of the part that a text begins with joins the earlier ones. Answers the byte behind the part, and its number of lines.
 pub fn read_part(
     alloc: Global,
     text: &[u8],

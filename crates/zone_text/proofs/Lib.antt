@@ -1,4 +1,5 @@
 pub mod AddressLemmas
+pub mod CutLemmas
 pub mod EntryLemmas
 pub mod EscapeLemmas
 pub mod LineLemmas

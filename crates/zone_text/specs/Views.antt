@@ -1,5 +1,5 @@
 -- What the reader's types say in the words of the definitions.
-use Rattle.std.specs.Prelude.{◌≡◌, ℕ, ◌≤◌, List, map, drop, Result, Ok, Err}
+use Rattle.std.specs.Prelude.{◌≡◌, ℕ, ◌≤◌, ◌<◌, ◌^◌, List, length, map, drop, Result, Ok, Err}
 use Rattle.std.specs.List.{slice_range, All}
 use Rattle.zone_model.specs.Refusals.{Refused}
 use Rattle.zone_model.specs.Lines.{lines_of}
@@ -34,6 +34,14 @@ BegunBy at (begun.Escape quoted from) = from ≤ at
 
 pub record HasScanned (bytes : List ℕ) (at : ℕ) (s : Scan) : Type 0 where
   pub began : BegunBy at s.begun
+  pub shallow : s.depth ≤ at
+  pub placed : All (IsPlaced bytes) s.tokens.items
+
+-- The byte at an index comes behind what began at another one and lies in a token, or behind a backslash in one.
+pub record IsInside (bytes : List ℕ) (from at : ℕ) (s : Scan) : Type 0 where
+  pub began : from ≤ at
+  pub inside : at < length bytes
+  pub short : length bytes ≤ 2 ^ 24
   pub shallow : s.depth ≤ at
   pub placed : All (IsPlaced bytes) s.tokens.items
 

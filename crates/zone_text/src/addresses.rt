@@ -1,5 +1,5 @@
 //! Texts of addresses.
-ghost use Rattle.std.specs.Prelude.{◌≡◌, ◌<◌, ◌≤◌, ◌+◌, ◌*◌, ◌++◌, ◌∷◌, [], ◌^◌, ℕ, List, length, drop, take, map, Some, None, Option, IfOk, IfSome, OnOk, true, ◌==◌, ◌-◌, replicate};
+ghost use Rattle.std.specs.Prelude.{◌≡◌, ◌<◌, ◌≤◌, ◌+◌, ◌*◌, ◌++◌, ◌∷◌, [], length, map, Some, None, Option, IfOk, IfSome, OnOk, true, ◌==◌, ◌-◌, replicate};
 ghost use Rattle.std.specs.Option.{option_map};
 ghost use Rattle.std.specs.List.{slice_split, list_all, list_any, position};
 ghost use Rattle.std.specs.Char.{is_ascii_hexdigit};
@@ -18,13 +18,10 @@ fn address_part(part: &[u8]) -> Option<u8>
     if part.len() > 3 {
         return None;
     }
-    match number(part, 255) {
-        Some(octet) => Some(octet as u8),
-        None => None,
-    }
+    Some(number(part, 255)? as u8)
 }
 
-// The place of the first dot.
+// The index of the first dot.
 fn first_dot(text: &[u8]) -> Option<usize>
     ensures { result ≡ position (λ b. b == 46) text.now }
 {
@@ -134,7 +131,7 @@ fn push_groups(parts: &[&[u8]], out: &mut Vec<u8>) -> Result<bool, AllocError>
     Ok(true)
 }
 
-// The place of the first double colon.
+// The index of the first double colon.
 #[tactic(auto, using(crate::proofs::AddressLemmas::double_rules), unfolding(zone_model::specs::Addresses::double_at))]
 fn double_at(text: &[u8]) -> Option<usize>
     ensures place { result ≡ double_at text.now }
@@ -180,54 +177,43 @@ fn push_last_groups(parts: &[&[u8]], out: &mut Vec<u8>) -> Result<bool, AllocErr
     Ok(good)
 }
 
-// Pushes the groups of a text.
-#[tactic(auto, unfolding(zone_model::specs::Addresses::groups_of))]
-fn push_text_groups(alloc: Global, text: &[u8], out: &mut Vec<u8>) -> Result<bool, AllocError>
-    ensures { IfOk result (λ good. PushesAll good out.old.items out.new.items (groups_of (parts_of text.now))) }
+// The parts between colons; none of an empty text.
+fn parts_of(alloc: Global, text: &[u8]) -> Result<Vec<&[u8]>, AllocError>
+    ensures { IfOk result (λ v. map (λ w. w.now) v.items ≡ parts_of text.now) }
 {
     if text.is_empty() {
-        return Ok(true);
+        return Ok(Vec::new(alloc));
     }
-    let parts = colon_parts(alloc, text)?;
-    push_groups(&parts, out)
-}
-
-// Pushes the groups of a text, the last two of which may be an address of version 4.
-#[tactic(auto, unfolding(zone_model::specs::Addresses::last_groups_of))]
-fn push_last_text_groups(alloc: Global, text: &[u8], out: &mut Vec<u8>) -> Result<bool, AllocError>
-    ensures { IfOk result (λ good. PushesAll good out.old.items out.new.items (last_groups_of (parts_of text.now))) }
-{
-    if text.is_empty() {
-        return Ok(true);
-    }
-    let parts = colon_parts(alloc, text)?;
-    push_last_groups(&parts, out)
+    colon_parts(alloc, text)
 }
 
 // An address without a double colon.
 fn push_plain(alloc: Global, text: &[u8], out: &mut Vec<u8>) -> Result<bool, AllocError>
     ensures { IfOk result (λ good. PushesAll good out.old.items out.new.items (by_double text.now None)) }
 {
+    let parts = parts_of(alloc, text)?;
     let mut octets = Vec::new(alloc);
-    if !push_last_text_groups(alloc, text, &mut octets)? || octets.len() != 16 {
+    if !push_last_groups(&parts, &mut octets)? || octets.len() != 16 {
         return Ok(false);
     }
     out.extend_from_slice(&octets)?;
     Ok(true)
 }
 
-// An address with a double colon at a place.
+// An address with a double colon at an index.
 #[tactic(auto, using(crate::proofs::AddressLemmas::filled_rules))]
 fn push_filled(alloc: Global, text: &[u8], at: usize, out: &mut Vec<u8>) -> Result<bool, AllocError>
     requires { at + 1 < length text.now }
     ensures { IfOk result (λ good. PushesAll good out.old.items out.new.items (by_double text.now (Some at))) }
 {
+    let front_parts = parts_of(alloc, &text[..at])?;
     let mut front = Vec::new(alloc);
-    if !push_text_groups(alloc, &text[..at], &mut front)? {
+    if !push_groups(&front_parts, &mut front)? {
         return Ok(false);
     }
+    let back_parts = parts_of(alloc, &text[at + 2..])?;
     let mut back = Vec::new(alloc);
-    if !push_last_text_groups(alloc, &text[at + 2..], &mut back)? {
+    if !push_last_groups(&back_parts, &mut back)? {
         return Ok(false);
     }
     if front.len() + back.len() > 14 {

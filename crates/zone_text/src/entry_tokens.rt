@@ -1,5 +1,5 @@
 //! The tokens of an entry.
-ghost use Rattle.std.specs.Prelude.{◌≡◌, ◌≤◌, ◌<◌, ◌+◌, ◌^◌, ℕ, List, length, drop, OnOk, IfOk, [], Result};
+ghost use Rattle.std.specs.Prelude.{◌≡◌, ◌≤◌, ◌<◌, ◌+◌, ◌^◌, ℕ, List, length, drop, IfOk, [], Result};
 ghost use Rattle.zone_model.specs.Refusals.{Refused};
 ghost use Rattle.zone_model.specs.Grammar.{SpellsEntry};
 ghost use Rattle.zone_model.specs.declared.ZoneKind.{ZoneKind};
@@ -29,7 +29,7 @@ pub struct Lexed {
     pub next_line: u32,
 }
 
-// The line that begins at a place; the place of the next line.
+// The line that begins at a byte; the byte that the next one begins at.
 #[tactic(auto, using(crate::proofs::EntryLemmas::entry_rules))]
 fn scan_line(scan: &mut Scan, bytes: &[u8], at: u32, line: u32) -> Result<u32, ZoneRefusal>
     requires inside { at < length bytes.now }
@@ -71,7 +71,7 @@ fn is_blank(bytes: &[u8], from: u32) -> bool
     }
 }
 
-// The tokens of the entry that begins at a place, in the memory of others.
+// The tokens of the entry that begins at a byte, in the memory of others.
 #[tactic(auto, using(crate::proofs::EntryLemmas::end_rules), unfolding(zone_model::specs::Tokens::entry_from))]
 pub fn scan_entry(
     lent: Vec<Token>,
@@ -128,7 +128,8 @@ pub fn tokens(alloc: Global, bytes: &[u8], from: u32, line: u32) -> Result<Lexed
     requires short { length bytes.now ≤ 2 ^ 24 }
     requires lines { line + length bytes.now < 2 ^ 32 }
     ensures spelled { EntrySpelled bytes.now line (lines_of (drop from bytes.now)) result }
-    ensures only { (out : Result EntryTokens (Refused ZoneKind)) → SpellsEntry line [] (lines_of (drop from bytes.now)) out → Reads result (lexed_view bytes.now) out }
+    ensures only { (out : Result EntryTokens (Refused ZoneKind)) → SpellsEntry line [] (lines_of (drop from bytes.now)) out
+        → Reads result (lexed_view bytes.now) out }
     ensures reads { Reads result (lexed_view bytes.now) (entry_from line (lines_of (drop from bytes.now)) fresh) }
     ensures blank { IfOk result (λ l. l.blank ≡ begins_blank (drop from bytes.now)) }
     ensures placed { IfOk result (λ l. All (IsPlaced bytes.now) l.tokens.items) }

@@ -1,6 +1,5 @@
 //! Texts with escapes.
-ghost use Rattle.std.specs.Prelude.{◌≡◌, ◌<◌, ◌≤◌, ◌+◌, ◌++◌, ◌∷◌, [], ◌^◌, ℕ, List, length, drop, Some, None, Option, IfOk, IfSome, if◌then◌else◌};
-ghost use Rattle.std.specs.Option.{option_map};
+ghost use Rattle.std.specs.Prelude.{◌≡◌, ◌<◌, ◌+◌, ◌∷◌, ℕ, List, Some, None, Option, IfOk, IfSome};
 ghost use Rattle.zone_model.specs.DataWords.{octets_from, unescaped};
 ghost use Rattle.zone_text.specs.Escapes.{behind_view, BehindSmall, Unescapes, last_digit};
 ghost use Rattle.zone_text.specs.Pushing.{PushesAll};

@@ -1,9 +1,9 @@
 //! The tokens of a line.
-ghost use Rattle.std.specs.Prelude.{◌≡◌, ◌<◌, ◌≤◌, ◌+◌, ◌^◌, ◌++◌, ◌∷◌, [], ℕ, List, length, slice_index, OnOk, Result, Ok, Err, true, false, if◌then◌else◌};
+ghost use Rattle.std.specs.Prelude.{◌≡◌, ◌<◌, ◌≤◌, ◌+◌, ◌^◌, ◌++◌, ◌∷◌, [], ℕ, length, slice_index, OnOk, Result, Ok, Err, true, false, if◌then◌else◌};
 ghost use Rattle.std.specs.List.{slice_range, position, All};
 ghost use Rattle.zone_model.specs.Grammar.{stops_word};
 ghost use Rattle.zone_model.specs.Tokens.{apart, in_word, in_quote, step, steps, line_end, line_tokens, with_token, parts_words, Word, Quote};
-ghost use Rattle.zone_text.specs.Views.{scan_view, Gives, HasScanned};
+ghost use Rattle.zone_text.specs.Views.{scan_view, Gives, HasScanned, IsInside};
 ghost use Rattle.zone_text.specs.Tokens.{IsPlaced};
 ghost use Rattle.zone_text.specs.declared.lexer.Begun.{Begun};
 
@@ -12,7 +12,7 @@ use crate::token::Token;
 use std::alloc::Global;
 use zone_model::ZoneKind;
 
-// What the byte before belongs to, with the place where it began.
+// What the byte before belongs to, with the byte that it began at.
 #[derive(Clone, Copy)]
 pub enum Begun {
     Apart,
@@ -65,7 +65,7 @@ fn apart(scan: &mut Scan, bytes: &[u8], at: u32, line: u32) -> Result<(), ZoneRe
     Ok(())
 }
 
-// Ends a token before a place.
+// Ends a token before a byte; a quote behind its text is passed as well.
 fn end_token(
     scan: &mut Scan,
     bytes: &[u8],
@@ -79,8 +79,12 @@ fn end_token(
     requires short { length bytes.now ≤ 2 ^ 24 }
     requires shallow { scan.old.depth ≤ at }
     requires placed { All (IsPlaced bytes.now) scan.old.tokens.items }
-    ensures gives { Gives result (scan_view bytes.now at scan.new) (Ok (with_token (slice_range bytes.now from at) quoted line (scan_view bytes.now at scan.old))) }
+    ensures gives { Gives result (scan_view bytes.now at scan.new)
+        (Ok (with_token (slice_range bytes.now from at) quoted line (scan_view bytes.now at scan.old))) }
+    ensures behind { Gives result (scan_view bytes.now (at + 1) scan.new)
+        (Ok (with_token (slice_range bytes.now from at) quoted line (scan_view bytes.now at scan.old))) }
     ensures scanned { OnOk result (HasScanned bytes.now at scan.new) }
+    ensures scanned_behind { OnOk result (HasScanned bytes.now (at + 1) scan.new) }
 {
     scan.tokens.push(Token {
         from,
@@ -100,12 +104,9 @@ fn parts_words(octet: u8) -> bool
 
 #[tactic(auto, using(crate::proofs::ScanLemmas::range_more))]
 fn in_word(scan: &mut Scan, bytes: &[u8], from: u32, at: u32, line: u32) -> Result<(), ZoneRefusal>
-    requires inside { at < length bytes.now }
-    requires short { length bytes.now ≤ 2 ^ 24 }
-    requires shallow { scan.old.depth ≤ at }
-    requires placed { All (IsPlaced bytes.now) scan.old.tokens.items }
-    requires began { from ≤ at }
-    ensures gives { Gives result (scan_view bytes.now (at + 1) scan.new) (in_word line (slice_index bytes.now at) (slice_range bytes.now from at) (scan_view bytes.now at scan.old)) }
+    requires { IsInside bytes.now from at scan.old }
+    ensures gives { Gives result (scan_view bytes.now (at + 1) scan.new)
+        (in_word line (slice_index bytes.now at) (slice_range bytes.now from at) (scan_view bytes.now at scan.old)) }
     ensures scanned { OnOk result (HasScanned bytes.now (at + 1) scan.new) }
 {
     let octet = bytes[at as usize];
@@ -123,17 +124,14 @@ fn in_word(scan: &mut Scan, bytes: &[u8], from: u32, at: u32, line: u32) -> Resu
 
 #[tactic(auto, using(crate::proofs::ScanLemmas::range_more))]
 fn in_quote(scan: &mut Scan, bytes: &[u8], from: u32, at: u32, line: u32) -> Result<(), ZoneRefusal>
-    requires inside { at < length bytes.now }
-    requires short { length bytes.now ≤ 2 ^ 24 }
-    requires shallow { scan.old.depth ≤ at }
-    requires placed { All (IsPlaced bytes.now) scan.old.tokens.items }
-    requires began { from ≤ at }
-    ensures gives { Gives result (scan_view bytes.now (at + 1) scan.new) (in_quote line (slice_index bytes.now at) (slice_range bytes.now from at) (scan_view bytes.now at scan.old)) }
+    requires { IsInside bytes.now from at scan.old }
+    ensures gives { Gives result (scan_view bytes.now (at + 1) scan.new)
+        (in_quote line (slice_index bytes.now at) (slice_range bytes.now from at) (scan_view bytes.now at scan.old)) }
     ensures scanned { OnOk result (HasScanned bytes.now (at + 1) scan.new) }
 {
     let octet = bytes[at as usize];
     if octet == b'"' {
-        return end_quote(scan, bytes, from, at, line);
+        return end_token(scan, bytes, from, at, true, line);
     }
     if octet == b'\\' {
         scan.begun = Begun::Escape(true, from);
@@ -143,39 +141,11 @@ fn in_quote(scan: &mut Scan, bytes: &[u8], from: u32, at: u32, line: u32) -> Res
     Ok(())
 }
 
-fn end_quote(
-    scan: &mut Scan,
-    bytes: &[u8],
-    from: u32,
-    at: u32,
-    line: u32,
-) -> Result<(), ZoneRefusal>
-    requires began { from ≤ at }
-    requires inside { at < length bytes.now }
-    requires short { length bytes.now ≤ 2 ^ 24 }
-    requires shallow { scan.old.depth ≤ at }
-    requires placed { All (IsPlaced bytes.now) scan.old.tokens.items }
-    ensures gives { Gives result (scan_view bytes.now (at + 1) scan.new) (Ok (with_token (slice_range bytes.now from at) true line (scan_view bytes.now at scan.old))) }
-    ensures scanned { OnOk result (HasScanned bytes.now (at + 1) scan.new) }
-{
-    scan.tokens.push(Token {
-        from,
-        upto: at,
-        quoted: true,
-        line,
-    })?;
-    scan.begun = Begun::Apart;
-    Ok(())
-}
-
 #[tactic(auto, using(crate::proofs::ScanLemmas::range_more))]
 fn escaped(scan: &mut Scan, bytes: &[u8], quoted: bool, from: u32, at: u32)
-    requires inside { at < length bytes.now }
-    requires short { length bytes.now ≤ 2 ^ 24 }
-    requires shallow { scan.old.depth ≤ at }
-    requires placed { All (IsPlaced bytes.now) scan.old.tokens.items }
-    requires began { from ≤ at }
-    ensures gives { scan_view bytes.now (at + 1) scan.new ≡ record (scan_view bytes.now at scan.old) { begun = (if quoted then Quote (slice_range bytes.now from at ++ slice_index bytes.now at ∷ []) else Word (slice_range bytes.now from at ++ slice_index bytes.now at ∷ [])) } }
+    requires { IsInside bytes.now from at scan.old }
+    ensures gives { let text = slice_range bytes.now from at ++ slice_index bytes.now at ∷ [] in
+        scan_view bytes.now (at + 1) scan.new ≡ record (scan_view bytes.now at scan.old) { begun = (if quoted then Quote text else Word text) } }
     ensures scanned { HasScanned bytes.now (at + 1) scan.new }
 {
     if quoted {
@@ -239,14 +209,14 @@ fn stops_word(octet: u8) -> bool
     }
 }
 
-// The place of the first byte that doesn't just join a word.
+// The index of the first byte that doesn't just join a word.
 fn first_stop(text: &[u8]) -> Option<usize>
     ensures { result ≡ position stops_word text.now }
 {
     text.iter().position(|octet| stops_word(*octet))
 }
 
-// The place up to which each byte joins a word: that of the first byte that doesn't, or `upto`.
+// The byte up to which each joins a word: the first that doesn't, or `upto`.
 fn word_end(bytes: &[u8], at: u32, upto: u32) -> u32
     requires order { at ≤ upto }
     requires inside { upto ≤ length bytes.now }
@@ -262,7 +232,7 @@ fn word_end(bytes: &[u8], at: u32, upto: u32) -> u32
     }
 }
 
-// The place of the next byte that `step` has to take: in a word, that of the first byte that doesn't just join it.
+// The index of the next byte that `step` has to take: in a word, that of the first byte that doesn't just join it.
 fn next_step(scan: &Scan, bytes: &[u8], at: u32, upto: u32) -> u32
     requires order { at ≤ upto }
     requires inside { upto ≤ length bytes.now }
@@ -270,7 +240,8 @@ fn next_step(scan: &Scan, bytes: &[u8], at: u32, upto: u32) -> u32
     requires scanned { HasScanned bytes.now at scan.now }
     ensures order { at ≤ result }
     ensures inside { result ≤ upto }
-    ensures same { (line : ℕ) → steps line (slice_range bytes.now at upto) (scan_view bytes.now at scan.now) ≡ steps line (slice_range bytes.now result upto) (scan_view bytes.now result scan.now) }
+    ensures same { (line : ℕ) → steps line (slice_range bytes.now at upto) (scan_view bytes.now at scan.now)
+        ≡ steps line (slice_range bytes.now result upto) (scan_view bytes.now result scan.now) }
     ensures scanned { HasScanned bytes.now result scan.now }
     ensures stops { (from : ℕ) → scan.now.begun ≡ Begun.Word from → result < upto → stops_word (slice_index bytes.now result) ≡ true }
 {

@@ -1,11 +1,10 @@
 //! The lines of a text.
-ghost use Rattle.std.specs.Prelude.{◌≡◌, ◌<◌, ◌≤◌, ◌+◌, ◌^◌, ◌∷◌, [], ℕ, List, length, take, ◌==◌, Some, None, Option};
-ghost use Rattle.std.specs.List.{slice_range, position};
+ghost use Rattle.std.specs.Prelude.{◌≡◌, ◌<◌, ◌≤◌, ◌+◌, ◌^◌, length, take, ◌==◌, Some, None, Option};
+ghost use Rattle.std.specs.List.{position};
 ghost use Rattle.std.specs.Str.Lines.{strip_carriage_return};
-ghost use Rattle.zone_model.specs.Lines.{lines_of};
 ghost use Rattle.zone_text.specs.Places.{FirstLine};
 
-// The place of the first line feed.
+// The index of the first line feed.
 fn first_feed(text: &[u8]) -> Option<usize>
     ensures { result ≡ position (λ b. b == 10) text.now }
 {
@@ -23,7 +22,7 @@ fn stripped(line: &[u8]) -> usize
     }
 }
 
-/// The end of the line that begins at a place, and the place where the next line begins.
+/// The end of the line that begins at a byte, and the byte that the next line begins at.
 pub fn line_at(bytes: &[u8], at: u32) -> (u32, u32)
     requires inside { at < length bytes.now }
     requires short { length bytes.now ≤ 2 ^ 24 }

@@ -1,5 +1,5 @@
 //! The tokens of one line by itself.
-ghost use Rattle.std.specs.Prelude.{◌≡◌, ◌≤◌, ◌<◌, ◌+◌, ◌∷◌, ◌^◌, ℕ, List, length, drop, OnOk, IfOk, [], Result};
+ghost use Rattle.std.specs.Prelude.{◌≡◌, ◌≤◌, ◌<◌, ◌∷◌, ◌^◌, length, drop, IfOk, [], Result};
 ghost use Rattle.zone_model.specs.Grammar.{Spelled, Spells, line_says};
 ghost use Rattle.zone_model.specs.declared.ZoneKind.{ZoneKind};
 ghost use Rattle.zone_text.specs.Spelling.{LineSpelled};
@@ -8,7 +8,7 @@ ghost use Rattle.zone_model.specs.Tokens.{single_line};
 ghost use Rattle.zone_model.specs.Lines.{lines_of};
 ghost use Rattle.zone_text.specs.Tokens.{IsPlaced};
 ghost use Rattle.zone_text.specs.Views.{Reads, line_view};
-ghost use Rattle.zone_text.specs.Places.{first_line, FirstLine};
+ghost use Rattle.zone_text.specs.Places.{first_line};
 
 use crate::entry_tokens::new_scan;
 use crate::lexer::{Scan, scan_tokens};
@@ -23,23 +23,6 @@ pub struct LexedLine {
     pub tokens: Vec<Token>,
     pub parens: bool,
     pub next: u32,
-}
-
-// The tokens of the line that begins at a place, in the memory of others.
-fn scan_line(lent: Vec<Token>, bytes: &[u8], from: u32, line: u32) -> Result<LexedLine, ZoneRefusal>
-    requires inside { from < length bytes.now }
-    requires short { length bytes.now ≤ 2 ^ 24 }
-    ensures reads { Reads result (line_view bytes.now) (single_line line (first_line (drop from bytes.now))) }
-    ensures placed { IfOk result (λ l. All (IsPlaced bytes.now) l.tokens.items) }
-    ensures next { IfOk result (λ l. (from < l.next) × (l.next ≤ length bytes.now)) }
-    ensures rest { IfOk result (λ l. lines_of (drop from bytes.now) ≡ first_line (drop from bytes.now) ∷ lines_of (drop l.next bytes.now)) }
-{
-    let (upto, next) = line_at(bytes, from);
-    let mut scan = new_scan(lent);
-    match scan_tokens(&mut scan, bytes, from, upto, line) {
-        Ok(()) => Ok(line_of(scan, next)),
-        Err(refusal) => Err(refusal),
-    }
 }
 
 fn line_of(scan: Scan, next: u32) -> LexedLine
@@ -66,11 +49,17 @@ pub fn line_tokens(
     requires inside { from < length bytes.now }
     requires short { length bytes.now ≤ 2 ^ 24 }
     ensures spelled { LineSpelled bytes.now line (first_line (drop from bytes.now)) result }
-    ensures only { (out : Result Spelled ZoneKind) → Spells line [] (first_line (drop from bytes.now)) out → Reads result (line_view bytes.now) (line_says line out) }
+    ensures only { (out : Result Spelled ZoneKind) → Spells line [] (first_line (drop from bytes.now)) out
+        → Reads result (line_view bytes.now) (line_says line out) }
     ensures reads { Reads result (line_view bytes.now) (single_line line (first_line (drop from bytes.now))) }
     ensures placed { IfOk result (λ l. All (IsPlaced bytes.now) l.tokens.items) }
     ensures next { IfOk result (λ l. (from < l.next) × (l.next ≤ length bytes.now)) }
     ensures rest { IfOk result (λ l. lines_of (drop from bytes.now) ≡ first_line (drop from bytes.now) ∷ lines_of (drop l.next bytes.now)) }
 {
-    scan_line(lent, bytes, from, line)
+    let (upto, next) = line_at(bytes, from);
+    let mut scan = new_scan(lent);
+    match scan_tokens(&mut scan, bytes, from, upto, line) {
+        Ok(()) => Ok(line_of(scan, next)),
+        Err(refusal) => Err(refusal),
+    }
 }

@@ -1,5 +1,5 @@
 //! Tokens of a text.
-ghost use Rattle.std.specs.Prelude.{◌≡◌};
+ghost use Rattle.std.specs.Prelude.{◌≡◌, MatchOption, true, false};
 ghost use Rattle.std.specs.List.{slice_range};
 ghost use Rattle.zone_text.specs.Tokens.{IsPlaced};
 
@@ -20,5 +20,16 @@ impl Token {
         ensures { result.now ≡ slice_range bytes.now self.from self.upto }
     {
         &bytes[self.from as usize..self.upto as usize]
+    }
+
+    /// The token's text, unless it was quoted.
+    pub fn plain(self, bytes: &[u8]) -> Option<&[u8]>
+        requires { IsPlaced bytes.now self }
+        ensures { MatchOption result (self.quoted ≡ true) (λ text. (self.quoted ≡ false) × (text.now ≡ slice_range bytes.now self.from self.upto)) }
+    {
+        if self.quoted {
+            return None;
+        }
+        Some(self.text(bytes))
     }
 }

@@ -1,12 +1,12 @@
 //! What words say.
-ghost use Rattle.std.specs.Prelude.{◌≡◌, ◌<◌, ◌≤◌, ◌+◌, ◌^◌, ℕ, List, length, drop, Some, None, Option, IfSome, option_and_then, unwrap_or, true, ◌*◌, ◌-◌};
+ghost use Rattle.std.specs.Prelude.{◌≡◌, ◌≤◌, ◌+◌, Some, None, Option, IfSome, option_and_then, unwrap_or, true, ◌*◌, ◌-◌};
 ghost use Rattle.std.specs.Char.{is_ascii_digit};
 ghost use Rattle.std.specs.List.{list_all};
 ghost use Rattle.zone_model.specs.Texts.{number, at_most};
 ghost use Rattle.zone_model.specs.DataWords.{most_time, seconds, groups, time_of, is_word};
 
 /// The most seconds of a time to live (RFC 2181, section 8).
-pub const MOST_TIME: u32 = 2147483647;
+pub const MOST_TIME: u32 = 2_147_483_647;
 
 /// The number that decimal digits say, at least one of them; None where it is past `most` or there is another byte.
 #[tactic(auto, unfolding(zone_model::specs::Texts::number, zone_model::specs::Texts::digits_from))]

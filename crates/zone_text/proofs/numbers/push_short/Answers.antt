@@ -1,4 +1,4 @@
-use Rattle.std.proofs.Common.{◌∙◌, ◌++◌, ◌<◌, ◌≤◌, ◌/◌, ◌%◌, ◌+◌, ◌∷◌, [], ℕ, List, sym, ap, arith, append_assoc}
+use Rattle.std.proofs.Common.{◌∙◌, ◌++◌, ◌≤◌, ◌/◌, ◌%◌, ◌+◌, ◌∷◌, [], ℕ, List, sym, ap, arith, append_assoc}
 use Rattle.std.proofs.lemmas.Fmt.{decimal_digit, decimal_step}
 use Rattle.zone_text.proofs.numbers.push_short.Goals as goal
 

@@ -6,8 +6,9 @@ use Rattle.std.proofs.lemmas.List.Splits.{length-slice_split}
 use Rattle.std.specs.List.{slice_split, onto_first}
 use Rattle.std.specs.Str.Lines.{lines_of_parts, strip_carriage_return}
 use Rattle.zone_model.specs.Lines.{lines_of}
-use Rattle.zone_text.specs.Places.{FirstLine}
+use Rattle.std.specs.Prelude.{slice_index}
 use Rattle.std.specs.List.{slice_range}
+use Rattle.zone_text.specs.Places.{FirstLine}
 use borrow.Author.Tests.{ltb-true}
 
 abbrev is_feed : ℕ → Bool
@@ -68,19 +69,24 @@ same_front a b c e =
     sym (take_at a c (length a) refl) ∙ ap (take (length a)) e ∙ take_at b c (length a) (sym l)
 
 -- the place behind a line, whose feed stands before it unless it is the end
-pub next_begins : {bytes : List ℕ} {at upto next : ℕ} → FirstLine bytes at upto next → Begins bytes next
-next_begins {bytes} {at} {upto} {next} f = by_test (ltb next (length bytes)) refl
+pub next_place : (bytes : List ℕ) (next : ℕ) → next ≤ length bytes → 0 < next → (next < length bytes → slice_index bytes (next - 1) ≡ 10) → Begins bytes next
+next_place bytes next inside some fed = by_test (ltb next (length bytes)) refl
   where
     by_test : (t : Bool) → ltb next (length bytes) ≡ t → Begins bytes next
     by_test true e =
         let lt : next < length bytes = ltb-true next (length bytes) e in
-        let on : at < next = f.on in
-        behind_feed (next - 1) (omega arith) (omega arith) (f.fed lt)
-    by_test false e = let inside : next ≤ length bytes = f.inside in at_end (grind (arith, nat_tests))
+        behind_feed (next - 1) (omega arith) (omega arith) (fed lt)
+    by_test false e = at_end (grind (arith, nat_tests))
 
 -- one line further
-pub next_lines : {bytes : List ℕ} {at upto next : ℕ} → Begins bytes at → FirstLine bytes at upto next → lines_of (take next bytes) ≡ lines_of (take at bytes) ++ slice_range bytes at upto ∷ []
-next_lines {bytes} {at} {upto} {next} b f =
-    let line = slice_range bytes at upto in
+pub next_lines : (bytes line : List ℕ) (at next : ℕ) → Begins bytes at → Begins bytes next → lines_of (drop at bytes) ≡ line ∷ lines_of (drop next bytes) → lines_of (take next bytes) ≡ lines_of (take at bytes) ++ line ∷ []
+next_lines bytes line at next b c e =
     same_front (lines_of (take next bytes)) (lines_of (take at bytes) ++ line ∷ []) (lines_of (drop next bytes))
-    (cut_lines bytes next (next_begins f) ∙ sym (cut_lines bytes at b) ∙ ap (λ (l : List (List ℕ)). lines_of (take at bytes) ++ l) f.lines ∙ sym (append_assoc (lines_of (take at bytes)) (line ∷ []) (lines_of (drop next bytes))))
+    (cut_lines bytes next c ∙ sym (cut_lines bytes at b) ∙ ap (λ (l : List (List ℕ)). lines_of (take at bytes) ++ l) e ∙ sym (append_assoc (lines_of (take at bytes)) (line ∷ []) (lines_of (drop next bytes))))
+
+-- the same of a line that was read
+pub behind_line : {bytes : List ℕ} {at upto next : ℕ} → FirstLine bytes at upto next → Begins bytes next
+behind_line {bytes} {at} {upto} {next} f = let on : at < next = f.on in next_place bytes next f.inside (omega arith) f.fed
+
+pub line_more : {bytes : List ℕ} {at upto next : ℕ} → Begins bytes at → FirstLine bytes at upto next → lines_of (take next bytes) ≡ lines_of (take at bytes) ++ slice_range bytes at upto ∷ []
+line_more {bytes} {at} {upto} {next} b f = next_lines bytes (slice_range bytes at upto) at next b (behind_line f) f.lines
