@@ -6,9 +6,9 @@ use Rattle.std.proofs.lemmas.Bool.{cases_lt}
 use Rattle.std.proofs.lemmas.Bool.Decides.{nat_tests}
 use Rattle.std.proofs.lemmas.List.{length-set, get_or-set_same}
 use Rattle.std.proofs.lemmas.Grind.{get_or-set_at}
-use Rattle.chunk_usage.specs.declared.open.Open.{Open}
-use Rattle.chunk_usage.specs.Ledger.{Row, Ledger, IsLedger, AreCounts, IsOpen, IsRowOf, is_open, is_mutable, filled}
-use Rattle.chunk_usage.specs.Handing.{with_open}
+use Rattle.chunk_usage.specs.declared.bump.Bump.{Bump}
+use Rattle.chunk_usage.specs.Ledger.{Row, Ledger, IsLedger, AreCounts, IsBump, IsRowOf, is_bump, is_mutable, filled}
+use Rattle.chunk_usage.specs.Handing.{with_bump}
 use Rattle.chunk_sets.proofs.FlagLemmas.{set_stays}
 
 -- what is given in a list of chunks is given in the other
@@ -18,7 +18,7 @@ Grown given new = (k : ℕ) → slice_index_or given k false ≡ true → slice_
 counts_grown : (given new : List Bool) (live : List ℕ) → Grown given new → AreCounts given live → AreCounts new live
 counts_grown given new live g h = record { most = h.most; in_given = λ k l. g k (h.in_given k l) }
 
-open_grown : (given new : List Bool) (live : List ℕ) (o : Option Open) → Grown given new → IsOpen given live o → IsOpen new live o
+open_grown : (given new : List Bool) (live : List ℕ) (o : Option Bump) → Grown given new → IsBump given live o → IsBump new live o
 open_grown given new live None g h = h
 open_grown given new live (Some o) g h = (h.0, g o.chunk h.1, h.2)
 
@@ -41,14 +41,14 @@ module _ (l : Ledger) (h : IsLedger l) (c : ℕ) (within : c < length l.given) (
     | inr none ↦ omega arith
   ]
 
-  pub opened_mutable : (q : ℕ) → (c == q / 1024) ≡ true → is_mutable (with_open l c) q ≡ true
-  opened_mutable q e = ap (λ b. b || (is_open l.last_open (q / 1024) && nat_le (filled l.last_open) (q % 1024))) (get_or-set_at l.since c (q / 1024) true false (same q e) (let n = h.known_since in omega arith))
+  pub opened_mutable : (q : ℕ) → (c == q / 1024) ≡ true → is_mutable (with_bump l c) q ≡ true
+  opened_mutable q e = ap (λ b. b || (is_bump l.fender (q / 1024) && nat_le (filled l.fender) (q % 1024))) (get_or-set_at l.since c (q / 1024) true false (same q e) (let n = h.known_since in omega arith))
     where
       same : (q : ℕ) → (c == q / 1024) ≡ true → q / 1024 ≡ c
       same q e = grind (arith, nat_tests)
 
-  pub with_open_ledger : IsLedger (with_open l c)
-  with_open_ledger = record {
+  pub with_bump_ledger : IsLedger (with_bump l c)
+  with_bump_ledger = record {
     some = let n = length-set l.given c true in let m = h.some in omega arith;
     few = let n = length-set l.given c true in let m = h.few in omega arith;
     counted = h.counted ∙ sym (length-set l.given c true);
@@ -59,7 +59,7 @@ module _ (l : Ledger) (h : IsLedger l) (c : ℕ) (within : c < length l.given) (
     counts = counts_grown l.given _ l.live grown h.counts;
     last_counts = counts_grown l.given _ l.last_live grown h.last_counts;
     opened = (omega arith, get_or-set_same l.given c true false within, let z = none_live in omega arith);
-    last_opened = open_grown l.given _ l.last_live l.last_open grown h.last_opened;
+    last_opened = open_grown l.given _ l.last_live l.fender grown h.last_opened;
     left_mutable = λ q e f. opened_mutable q e;
     few_rows = h.few_rows;
     rising = h.rising;
@@ -68,7 +68,7 @@ module _ (l : Ledger) (h : IsLedger l) (c : ℕ) (within : c < length l.given) (
   }
 
   -- a ledger whose flags are those
-  pub with_open_alike : (given since : List Bool) → given ≡ slice_set l.given c true → since ≡ slice_set l.since c true → IsLedger (record l { given = given; since = since; open_chunk = Some (record { chunk = c; filled = 0 }) })
-  with_open_alike given since a b =
-      let e : record l { given = given; since = since; open_chunk = Some (record { chunk = c; filled = 0 }) } ≡ with_open l c = cc in
-      subst IsLedger (sym e) with_open_ledger
+  pub with_bump_alike : (given since : List Bool) → given ≡ slice_set l.given c true → since ≡ slice_set l.since c true → IsLedger (record l { given = given; since = since; bump = Some (record { chunk = c; filled = 0 }) })
+  with_bump_alike given since a b =
+      let e : record l { given = given; since = since; bump = Some (record { chunk = c; filled = 0 }) } ≡ with_bump l c = cc in
+      subst IsLedger (sym e) with_bump_ledger

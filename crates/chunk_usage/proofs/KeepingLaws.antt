@@ -62,9 +62,9 @@ frozen_ledger l h version room older = record {
 -- a ledger whose fields are those of the frozen one
 pub frozen_alike : (l m : Ledger) → l ≡ m → IsLedger l → (version : ℕ) → length m.rows < m.passes + 2 → AreOlder m.rows version → (live : List ℕ) (since : List Bool) (last : List ℕ) (rows : List Row)
     → live ≡ l.live → since ≡ replicate (length l.since) false → last ≡ l.live → rows ≡ l.rows ++ record { version = version; chunks = row_of l.live } ∷ []
-    → IsLedger (record l { live = live; since = since; last_live = last; last_open = l.open_chunk; rows = rows })
+    → IsLedger (record l { live = live; since = since; last_live = last; fender = l.bump; rows = rows })
 frozen_alike l m same h version room older live since last rows z a b c =
-    let e : record l { live = live; since = since; last_live = last; last_open = l.open_chunk; rows = rows } ≡ frozen l version = cc in
+    let e : record l { live = live; since = since; last_live = last; fender = l.bump; rows = rows } ≡ frozen l version = cc in
     subst IsLedger (sym e) (frozen_ledger l h version (subst (λ (n : Ledger). length n.rows < n.passes + 2) (sym same) room) (subst (λ (n : Ledger). AreOlder n.rows version) (sym same) older))
 
 some_newest : (r : Row) (rows : List Row) → None ≡ newest (r ∷ rows) → ⊥
@@ -173,7 +173,7 @@ unused_ledger chunks passes some few some_passes few_passes = record {
 
 pub unused_alike : (chunks passes : ℕ) → 1 ≤ chunks → chunks ≤ 4096 → 1 ≤ passes → passes ≤ 64 → (counts : Counted) (given since : List Bool)
     → counts ≡ record { live = replicate chunks 0; last = replicate chunks 0 } → given ≡ replicate chunks false → since ≡ replicate chunks false
-    → IsLedger (record { live = counts.live; given = given; since = since; open_chunk = None; last_live = counts.last; last_open = None; rows = []; passes = passes })
+    → IsLedger (record { live = counts.live; given = given; since = since; bump = None; last_live = counts.last; fender = None; rows = []; passes = passes })
 unused_alike chunks passes some few some_passes few_passes counts given since a b c =
-    let e : record { live = counts.live; given = given; since = since; open_chunk = None; last_live = counts.last; last_open = None; rows = []; passes = passes } ≡ unused chunks passes = cc in
+    let e : record { live = counts.live; given = given; since = since; bump = None; last_live = counts.last; fender = None; rows = []; passes = passes } ≡ unused chunks passes = cc in
     subst IsLedger (sym e) (unused_ledger chunks passes some few some_passes few_passes)

@@ -5,8 +5,8 @@ use Rattle.std.specs.List.{AllByRecursion, list_any}
 use Rattle.std.proofs.lemmas.Bool.{cases_lt, and_from, or_left, or_right, eq-eqb, lt-ltb}
 use Rattle.std.proofs.lemmas.List.{length-map, get_or-map, get_or_past}
 use Rattle.std.proofs.lemmas.List.FromFn.{fill_by_all, get_or-map-range_with_len, length-map-range_with_len}
-use Rattle.chunk_usage.specs.declared.open.Open.{Open}
-use Rattle.chunk_usage.specs.Ledger.{Row, Ledger, IsLedger, IsOpen, IsRowOf, IsNewest, newest, row_of, is_in_row, is_given, is_open, free_count}
+use Rattle.chunk_usage.specs.declared.bump.Bump.{Bump}
+use Rattle.chunk_usage.specs.Ledger.{Row, Ledger, IsLedger, IsBump, IsRowOf, IsNewest, newest, row_of, is_in_row, is_given, is_bump, free_count}
 use Rattle.chunk_usage.specs.Keeping.{is_in_rows, is_needed, is_unreached, freed}
 use Rattle.chunk_usage.proofs.UsedLaws.{given_used}
 
@@ -22,17 +22,17 @@ counted_within live k some = elim (cases_lt k (length live)) [ inl l ↦ l | inr
 
 -- what makes a chunk needed
 module _ (l : Ledger) (k : ℕ) where
-  open_needed : is_open l.open_chunk k ≡ true → is_needed l k ≡ true
-  open_needed t = or_left (is_open l.open_chunk k) _ t
+  bump_needed : is_bump l.bump k ≡ true → is_needed l k ≡ true
+  bump_needed t = or_left (is_bump l.bump k) _ t
 
-  last_open_needed : is_open l.last_open k ≡ true → is_needed l k ≡ true
-  last_open_needed t = or_right (is_open l.open_chunk k) _ (or_left (is_open l.last_open k) _ t)
+  fender_needed : is_bump l.fender k ≡ true → is_needed l k ≡ true
+  fender_needed t = or_right (is_bump l.bump k) _ (or_left (is_bump l.fender k) _ t)
 
   live_needed : 0 < slice_index l.live k → is_needed l k ≡ true
-  live_needed some = or_right (is_open l.open_chunk k) _ (or_right (is_open l.last_open k) _ (or_left (nat_lt 0 (slice_index l.live k)) _ (lt-ltb 0 (slice_index l.live k) some)))
+  live_needed some = or_right (is_bump l.bump k) _ (or_right (is_bump l.fender k) _ (or_left (nat_lt 0 (slice_index l.live k)) _ (lt-ltb 0 (slice_index l.live k) some)))
 
   row_needed : is_in_rows l.rows k ≡ true → is_needed l k ≡ true
-  row_needed t = or_right (is_open l.open_chunk k) _ (or_right (is_open l.last_open k) _ (or_right (nat_lt 0 (slice_index l.live k)) _ t))
+  row_needed t = or_right (is_bump l.bump k) _ (or_right (is_bump l.fender k) _ (or_right (nat_lt 0 (slice_index l.live k)) _ t))
 
 -- the given chunks, of which those are left that something needs
 module _ (l : Ledger) (h : IsLedger l) (given : List Bool) (same : length given ≡ length l.given) (each : (k : ℕ) → slice_index_or given k false ≡ (is_given l k && is_needed l k)) where
@@ -48,7 +48,7 @@ module _ (l : Ledger) (h : IsLedger l) (given : List Bool) (same : length given 
       go (Some r) e is = row_needed l k (newest_passes (λ r. is_in_row r k) l.rows r e (ap (λ (flags : List Bool). slice_index_or flags k false) is
           ∙ get_or-map (nat_lt 0) l.last_live k 0 false (counted_within l.last_live k some) ∙ lt-ltb 0 (slice_index l.last_live k) some))
 
-  open_stays : (live : List ℕ) (o : Option Open) → ((k : ℕ) → is_open o k ≡ true → is_needed l k ≡ true) → IsOpen l.given live o → IsOpen given live o
+  open_stays : (live : List ℕ) (o : Option Bump) → ((k : ℕ) → is_bump o k ≡ true → is_needed l k ≡ true) → IsBump l.given live o → IsBump given live o
   open_stays live None needed a = a
   open_stays live (Some o) needed a = (a.0, stays o.chunk a.1 (needed o.chunk (eq-eqb o.chunk o.chunk refl)), a.2)
 
@@ -70,8 +70,8 @@ module _ (l : Ledger) (h : IsLedger l) (given : List Bool) (same : length given 
     few_passes = h.few_passes;
     counts = record { most = h.counts.most; in_given = λ k some. stays k (h.counts.in_given k some) (live_needed l k some) };
     last_counts = record { most = h.last_counts.most; in_given = λ k some. stays k (h.last_counts.in_given k some) (last_live_needed k some) };
-    opened = open_stays l.live l.open_chunk (open_needed l) h.opened;
-    last_opened = open_stays l.last_live l.last_open (last_open_needed l) h.last_opened;
+    opened = open_stays l.live l.bump (bump_needed l) h.opened;
+    last_opened = open_stays l.last_live l.fender (fender_needed l) h.last_opened;
     left_mutable = h.left_mutable;
     few_rows = h.few_rows;
     rising = h.rising;
@@ -119,16 +119,16 @@ in_row_of live k = elim (cases_lt k (length live)) [
 pub found_is : (l : Ledger) (all counted unlive unkept unopen found : List Bool) (rows : List Row) → all ≡ l.given → counted ≡ row_of l.live → rows ≡ l.rows
     → ((k : ℕ) → slice_index_or unlive k false ≡ (slice_index_or all k false && not (slice_index_or counted k false)))
     → ((k : ℕ) → slice_index_or unkept k false ≡ (slice_index_or unlive k false && not (is_in_rows rows k)))
-    → ((k : ℕ) → slice_index_or unopen k false ≡ (slice_index_or unkept k false && not (is_open l.open_chunk k)))
-    → ((k : ℕ) → slice_index_or found k false ≡ (slice_index_or unopen k false && not (is_open l.last_open k)))
+    → ((k : ℕ) → slice_index_or unopen k false ≡ (slice_index_or unkept k false && not (is_bump l.bump k)))
+    → ((k : ℕ) → slice_index_or found k false ≡ (slice_index_or unopen k false && not (is_bump l.fender k)))
     → (k : ℕ) → slice_index_or found k false ≡ is_unreached l k
 found_is l all counted unlive unkept unopen found rows is row are p q r s k =
-    s k ∙ ap (λ b. b && not (is_open l.last_open k)) (
-    r k ∙ ap (λ b. b && not (is_open l.open_chunk k)) (
+    s k ∙ ap (λ b. b && not (is_bump l.fender k)) (
+    r k ∙ ap (λ b. b && not (is_bump l.bump k)) (
     q k ∙ ap (λ (rs : List Row). slice_index_or unlive k false && not (is_in_rows rs k)) are ∙ ap (λ b. b && not (is_in_rows l.rows k)) (
     p k ∙ ap (λ (fs : List Bool). slice_index_or fs k false && not (slice_index_or counted k false)) is
     ∙ ap (λ b. is_given l k && not b) (ap (λ (fs : List Bool). slice_index_or fs k false) row ∙ in_row_of l.live k))))
-    ∙ by_sets (is_given l k) (is_open l.open_chunk k) (is_open l.last_open k) (nat_lt 0 (slice_index l.live k)) (is_in_rows l.rows k)
+    ∙ by_sets (is_given l k) (is_bump l.bump k) (is_bump l.fender k) (nat_lt 0 (slice_index l.live k)) (is_in_rows l.rows k)
 
 -- what is left of the given chunks without these
 left_over : (given needed : Bool) → (given && not (given && not needed)) ≡ (given && needed)

@@ -8,12 +8,12 @@ use Rattle.std.proofs.lemmas.Grind.{get_or-set_at}
 use Rattle.std.proofs.lemmas.List.Sums.{count_by-le-length}
 use Rattle.std.proofs.lemmas.Option.{get_or_from_slice_get}
 use Rattle.trie_model.specs.Extents.{IsRow}
-use Rattle.chunk_usage.specs.declared.open.Open.{Open}
+use Rattle.chunk_usage.specs.declared.bump.Bump.{Bump}
 use Rattle.chunk_usage.specs.declared.space.Grant.{Grant}
 use Rattle.chunk_usage.specs.declared.space.Full.{Full}
 use Rattle.chunk_usage.specs.Rooms.{Handed, GivesChunk, OpensFree, Grows, account_of}
-use Rattle.chunk_usage.specs.Ledger.{Ledger, IsLedger, IsOpen, is_given, is_open, is_used, is_mutable, filled, left, free_count, reserve_of, reserved}
-use Rattle.chunk_usage.specs.Handing.{lowest_free, with_open, taken, next_cell, roomy, granted_from, allocated_from, grant_of, allocated, shortage, spent, unspent}
+use Rattle.chunk_usage.specs.Ledger.{Ledger, IsLedger, IsBump, is_given, is_bump, is_used, is_mutable, filled, left, free_count, reserve_of, reserved}
+use Rattle.chunk_usage.specs.Handing.{lowest_free, with_bump, taken, next_cell, roomy, granted_from, allocated_from, grant_of, allocated, shortage, spent, unspent}
 use Rattle.chunk_sets.proofs.FlagLemmas.{set_stays, set_within, get_set, get_clear, one_fewer_clear, First, first_is}
 use Rattle.chunk_usage.proofs.RowLemmas.{counts_more}
 use Rattle.chunk_usage.proofs.HandingLaws.{opened_mutable}
@@ -29,9 +29,9 @@ differ e = cc
 
 -- a cell in use lies in a given chunk
 pub used_given : (l : Ledger) → IsLedger l → (q : ℕ) → is_used l q ≡ true → is_given l (q / 1024) ≡ true
-used_given l h q u = go l.open_chunk h.opened u
+used_given l h q u = go l.bump h.opened u
   where
-    go : (o : Option Open) → IsOpen l.given l.live o → (if is_open o (q / 1024) then nat_lt (q % 1024) (filled o) else is_given l (q / 1024)) ≡ true → is_given l (q / 1024) ≡ true
+    go : (o : Option Bump) → IsBump l.given l.live o → (if is_bump o (q / 1024) then nat_lt (q % 1024) (filled o) else is_given l (q / 1024)) ≡ true → is_given l (q / 1024) ≡ true
     go None h u = u
     go (Some o) h u = elim (cases_eq o.chunk (q / 1024)) [
       | inl e ↦ subst (λ (k : ℕ). is_given l k ≡ true) e h.1
@@ -39,12 +39,12 @@ used_given l h q u = go l.open_chunk h.opened u
     ]
 
 -- from the open chunk
-module _ (l : Ledger) (h : IsLedger l) (n : ℕ) (some : 0 < n) (o : Open) (is : l.open_chunk ≡ Some o) (enough : n ≤ 1024 - o.filled) where
-  opened : IsOpen l.given l.live (Some o)
-  opened = subst (IsOpen l.given l.live) is h.opened
+module _ (l : Ledger) (h : IsLedger l) (n : ℕ) (some : 0 < n) (o : Bump) (is : l.bump ≡ Some o) (enough : n ≤ 1024 - o.filled) where
+  opened : IsBump l.given l.live (Some o)
+  opened = subst (IsBump l.given l.live) is h.opened
 
   used_at : (q : ℕ) → is_used l q ≡ (if o.chunk == q / 1024 then nat_lt (q % 1024) o.filled else is_given l (q / 1024))
-  used_at q = ap (λ (p : Option Open). if is_open p (q / 1024) then nat_lt (q % 1024) (filled p) else is_given l (q / 1024)) is
+  used_at q = ap (λ (p : Option Bump). if is_bump p (q / 1024) then nat_lt (q % 1024) (filled p) else is_given l (q / 1024)) is
 
   inside : o.chunk < length l.given
   inside = set_within l.given o.chunk opened.1
@@ -56,7 +56,7 @@ module _ (l : Ledger) (h : IsLedger l) (n : ℕ) (some : 0 < n) (o : Open) (is :
   place_at i lt = omega arith
 
   left_mutable : (q : ℕ) → q / 1024 ≡ o.chunk → o.filled ≤ q % 1024 → is_mutable l q ≡ true
-  left_mutable q c p = subst (λ (p : Option Open). is_open p (q / 1024) ≡ true → filled p ≤ q % 1024 → is_mutable l q ≡ true) is (h.left_mutable q) (grind (arith, nat_tests)) p
+  left_mutable q c p = subst (λ (p : Option Bump). is_bump p (q / 1024) ≡ true → filled p ≤ q % 1024 → is_mutable l q ≡ true) is (h.left_mutable q) (grind (arith, nat_tests)) p
 
   stays : (q : ℕ) → is_used l q ≡ true → is_used (taken l o n) q ≡ true
   stays q u = let e = sym (used_at q) ∙ u in grind (arith, nat_tests, e)
@@ -87,9 +87,9 @@ module _ (l : Ledger) (h : IsLedger l) (n : ℕ) (some : 0 < n) (o : Open) (is :
 
 -- from a free chunk
 abbrev newly : Ledger → ℕ → ℕ → Ledger
-newly l n c = taken (with_open l c) (record { chunk = c; filled = 0 }) n
+newly l n c = taken (with_bump l c) (record { chunk = c; filled = 0 }) n
 
-module _ (l : Ledger) (h : IsLedger l) (n : ℕ) (some : 0 < n) (few : n ≤ 256) (short : left l.open_chunk < n) (c : ℕ) (first : First c l.given) where
+module _ (l : Ledger) (h : IsLedger l) (n : ℕ) (some : 0 < n) (few : n ≤ 256) (short : left l.bump < n) (c : ℕ) (first : First c l.given) where
   -- what is in use lies in another chunk
   elsewhere : (q : ℕ) → is_used l q ≡ true → q / 1024 ≢ c
   elsewhere q u e = differ (sym (used_given l h q u) ∙ (ap (λ (k : ℕ). is_given l k) e ∙ first.clear))
@@ -126,7 +126,7 @@ module _ (l : Ledger) (h : IsLedger l) (n : ℕ) (some : 0 < n) (few : n ≤ 256
       grind (arith, nat_tests)
 
   new_settled : (q : ℕ) → is_used l q ≡ true → is_mutable (newly l n c) q ≡ is_mutable l q
-  new_settled q u = ap (λ (b : Bool). b || (is_open l.last_open (q / 1024) && nat_le (filled l.last_open) (q % 1024))) (get_or-set_other l.since c (q / 1024) true false (elsewhere q u))
+  new_settled q u = ap (λ (b : Bool). b || (is_bump l.fender (q / 1024) && nat_le (filled l.fender) (q % 1024))) (get_or-set_other l.since c (q / 1024) true false (elsewhere q u))
 
   new_fresher : (q : ℕ) → is_mutable l q ≡ true → is_mutable (newly l n c) q ≡ true
   new_fresher q f = grown (slice_index_or l.since (q / 1024) false) _ _ f (set_stays l.since c (q / 1024))
@@ -141,10 +141,10 @@ module _ (l : Ledger) (h : IsLedger l) (n : ℕ) (some : 0 < n) (few : n ≤ 256
       let fewer = one_fewer_clear l.given c first.within first.clear in
       let most = count_by-le-length not l.given in
       let e = length-set l.given c true in
-      let z = all_spent l.open_chunk short in
+      let z = all_spent l.bump short in
       omega arith
     where
-      all_spent : (o : Option Open) → left o < n → unspent o ≡ 0
+      all_spent : (o : Option Bump) → left o < n → unspent o ≡ 0
       all_spent None short = refl
       all_spent (Some o) short = omega arith
 
@@ -160,14 +160,14 @@ none_hands : (l : Ledger) (n : ℕ) (f : Full) → Hands l l n (Err f)
 none_hands l n f = record { gives = tt; grows = record { stays = λ q u. u; settled = λ q u. refl; fresher = λ q t. t }; spends = (omega arith); handed = tt }
 
 module _ (l : Ledger) (h : IsLedger l) (n : ℕ) (some : 0 < n) (few : n ≤ 256) where
-  by_free : (b : Bool) → nat_le (free_count l) (reserve_of l) ≡ b → left l.open_chunk < n
-      → Hands l (if b then l else taken (with_open l (lowest_free l)) (record { chunk = lowest_free l; filled = 0 }) n) n (if b then Err (shortage l n) else Ok (record { at = lowest_free l * 1024; given = Some (lowest_free l) }))
+  by_free : (b : Bool) → nat_le (free_count l) (reserve_of l) ≡ b → left l.bump < n
+      → Hands l (if b then l else taken (with_bump l (lowest_free l)) (record { chunk = lowest_free l; filled = 0 }) n) n (if b then Err (shortage l n) else Ok (record { at = lowest_free l * 1024; given = Some (lowest_free l) }))
   by_free true e short = none_hands l n (shortage l n)
   by_free false e short = new_hands l h n some few short (lowest_free l) (first_is l.given (lowest_free l) refl (grind (arith, nat_tests)))
 
-  by_open : (o : Option Open) → l.open_chunk ≡ o → Hands l (allocated_from l n (roomy o n)) n (granted_from l n (roomy o n))
-  by_open None is = by_free (nat_le (free_count l) (reserve_of l)) refl (let e = ap left is in omega arith)
-  by_open (Some o) is = by_left (nat_le n (1024 - o.filled)) refl
+  by_bump : (o : Option Bump) → l.bump ≡ o → Hands l (allocated_from l n (roomy o n)) n (granted_from l n (roomy o n))
+  by_bump None is = by_free (nat_le (free_count l) (reserve_of l)) refl (let e = ap left is in omega arith)
+  by_bump (Some o) is = by_left (nat_le n (1024 - o.filled)) refl
     where
       by_left : (b : Bool) → nat_le n (1024 - o.filled) ≡ b → Hands l (allocated_from l n (if b then Some o else None)) n (granted_from l n (if b then Some o else None))
       by_left true e = open_hands l h n some o is (grind (arith, nat_tests))
@@ -176,27 +176,27 @@ module _ (l : Ledger) (h : IsLedger l) (n : ℕ) (some : 0 < n) (few : n ≤ 256
 -- an allocation, by what it answered and left
 pub handed : (l : Ledger) → IsLedger l → (n : ℕ) → 0 < n → n ≤ 256 → (new : Ledger) (r : Result Grant Full) → new ≡ allocated l n → r ≡ grant_of l n → Hands l new n r
 handed l h n some few new r e f =
-    subst (λ (m : Ledger). Hands l m n r) (sym e) (subst (Hands l (allocated l n) n) (sym f) (by_open l h n some few l.open_chunk refl))
+    subst (λ (m : Ledger). Hands l m n r) (sym e) (subst (Hands l (allocated l n) n) (sym f) (by_bump l h n some few l.bump refl))
 
 -- where there is no room, so many cells were wanted
 abbrev pub Wanted : ℕ → Result Grant Full → Type 0
 Wanted n r = IfErr r (λ f. f.needed ≡ n)
 
 pub wanted : (l : Ledger) (n : ℕ) (r : Result Grant Full) → r ≡ grant_of l n → Wanted n r
-wanted l n r is = subst (Wanted n) (sym is) (of_room (roomy l.open_chunk n))
+wanted l n r is = subst (Wanted n) (sym is) (of_room (roomy l.bump n))
   where
     of_free : (b : Bool) → Wanted n (if b then Err (shortage l n) else Ok (record { at = lowest_free l * 1024; given = Some (lowest_free l) }))
     of_free true = refl
     of_free false = tt
 
-    of_room : (o : Option Open) → Wanted n (granted_from l n o)
+    of_room : (o : Option Bump) → Wanted n (granted_from l n o)
     of_room None = of_free (nat_le (free_count l) (reserve_of l))
     of_room (Some o) = tt
 
 -- ---- a chunk that becomes the bump chunk was free
 
 abbrev pub OpensIn : Ledger → Ledger → Type 0
-OpensIn l new = OpensFree l.given (is_open l.open_chunk) (is_open new.open_chunk)
+OpensIn l new = OpensFree l.given (is_bump l.bump) (is_bump new.bump)
 
 same_chunk : (c k : ℕ) → (c == k) ≡ true → k ≡ c
 same_chunk c k e = grind (arith, nat_tests)
@@ -205,24 +205,24 @@ pub newly_opens : (l : Ledger) (n c : ℕ) → First c l.given → OpensIn l (ne
 newly_opens l n c first = λ k o. inr (λ h. differ (sym (get_or_from_slice_get l.given k true false h) ∙ (ap (λ (j : ℕ). slice_index_or l.given j false) (same_chunk c k o) ∙ first.clear)))
 
 pub opens : (l : Ledger) (n : ℕ) (new : Ledger) → new ≡ allocated l n → OpensIn l new
-opens l n new is = subst (OpensIn l) (sym is) (of_room l.open_chunk refl)
+opens l n new is = subst (OpensIn l) (sym is) (of_room l.bump refl)
   where
     of_free : (b : Bool) → nat_le (free_count l) (reserve_of l) ≡ b → OpensIn l (if b then l else newly l n (lowest_free l))
     of_free true e = λ k o. inl o
     of_free false e = newly_opens l n (lowest_free l) (first_is l.given (lowest_free l) refl (grind (arith, nat_tests)))
 
-    of_room : (o : Option Open) → l.open_chunk ≡ o → OpensIn l (allocated_from l n (roomy o n))
+    of_room : (o : Option Bump) → l.bump ≡ o → OpensIn l (allocated_from l n (roomy o n))
     of_room None is = of_free (nat_le (free_count l) (reserve_of l)) refl
     of_room (Some o) is = of_left (nat_le n (1024 - o.filled))
       where
         of_left : (b : Bool) → OpensIn l (allocated_from l n (if b then Some o else None))
-        of_left true = λ k e. inl (ap (λ (p : Option Open). is_open p k) is ∙ e)
+        of_left true = λ k e. inl (ap (λ (p : Option Bump). is_bump p k) is ∙ e)
         of_left false = of_free (nat_le (free_count l) (reserve_of l)) refl
 
 -- ---- no chunk of the reserve is taken
 
 pub spares : (l : Ledger) (n : ℕ) (new : Ledger) → new ≡ allocated l n → reserved new ≡ reserved l
-spares l n new is = ap reserved is ∙ of_room (roomy l.open_chunk n)
+spares l n new is = ap reserved is ∙ of_room (roomy l.bump n)
   where
     of_free : (b : Bool) → nat_le (free_count l) (reserve_of l) ≡ b → reserved (if b then l else newly l n (lowest_free l)) ≡ reserved l
     of_free true e = refl
@@ -232,6 +232,6 @@ spares l n new is = ap reserved is ∙ of_room (roomy l.open_chunk n)
         let fewer = one_fewer_clear l.given (lowest_free l) first.within first.clear in
         let same = length-set l.given (lowest_free l) true in omega arith
 
-    of_room : (o : Option Open) → reserved (allocated_from l n o) ≡ reserved l
+    of_room : (o : Option Bump) → reserved (allocated_from l n o) ≡ reserved l
     of_room None = of_free (nat_le (free_count l) (reserve_of l)) refl
     of_room (Some o) = refl

@@ -5,9 +5,9 @@ use Rattle.std.specs.List.{range_with_len}
 use Rattle.std.proofs.lemmas.Bool.{cases_eq, cases_lt, eq-eqb, ne_eqb, true≢false, le-leb}
 use Rattle.std.proofs.lemmas.List.{get_or_default}
 use Rattle.std.proofs.lemmas.List.Sums.{sum_by-cons}
-use Rattle.chunk_usage.specs.declared.open.Open.{Open}
-use Rattle.chunk_usage.specs.Ledger.{Ledger, IsLedger, IsOpen, is_given, is_open, free_count}
-use Rattle.chunk_usage.specs.Counting.{is_low, open_low, sparse_count}
+use Rattle.chunk_usage.specs.declared.bump.Bump.{Bump}
+use Rattle.chunk_usage.specs.Ledger.{Ledger, IsLedger, IsBump, is_given, is_bump, free_count}
+use Rattle.chunk_usage.specs.Counting.{is_low, bump_low, sparse_count}
 use Rattle.chunk_sets.proofs.FlagLemmas.{set_within}
 
 -- how many of n numbers from a on pass
@@ -79,13 +79,13 @@ neither true true = refl
 neither true false = refl
 neither false b = refl
 
-pub sparse_is : (l : Ledger) → IsLedger l → sparse_count l + free_count l + open_low l.live l.open_chunk ≡ count_by is_low l.live
+pub sparse_is : (l : Ledger) → IsLedger l → sparse_count l + free_count l + bump_low l.live l.bump ≡ count_by is_low l.live
 sparse_is l h =
-    let parts = split (is_given l) (λ k. is_low (slice_index l.live k)) (is_open l.open_chunk) free_low 0 (length l.given) in
+    let parts = split (is_given l) (λ k. is_low (slice_index l.live k)) (is_bump l.bump) free_low 0 (length l.given) in
     let free : free_count l ≡ passing (λ k. not (is_given l k)) 0 (length l.given) = by_place not l.given (is_given l) 0 (at_place l.given false) in
     let all : count_by is_low l.live ≡ passing (λ k. is_low (slice_index l.live k)) 0 (length l.given) =
     by_place is_low l.live (slice_index l.live) 0 (at_place l.live 0) ∙ ap (passing (λ k. is_low (slice_index l.live k)) 0) h.counted in
-    let one = open_one l.open_chunk h.opened in
+    let one = open_one l.bump h.opened in
     omega arith
   where
     -- no cell of a free chunk counts
@@ -95,7 +95,7 @@ sparse_is l h =
       | inr none ↦ le-leb (slice_index l.live k) 256 (omega arith)
     ]
 
-    open_one : (o : Option Open) → IsOpen l.given l.live o → passing (λ k. is_given l k && (is_low (slice_index l.live k) && is_open o k)) 0 (length l.given) ≡ open_low l.live o
+    open_one : (o : Option Bump) → IsBump l.given l.live o → passing (λ k. is_given l k && (is_low (slice_index l.live k) && is_bump o k)) 0 (length l.given) ≡ bump_low l.live o
     open_one None a = none_passes _ 0 (length l.given) (λ k le. neither (is_given l k) (is_low (slice_index l.live k)))
     open_one (Some o) a =
         one_passes _ o.chunk 0 (length l.given) (omega arith) (let w = set_within l.given o.chunk a.1 in omega arith)

@@ -1,8 +1,8 @@
 -- How many cells of each chunk count, and which chunks are sparse.
 use Rattle.std.specs.Prelude.{ℕ, nat_lt, nat_le, Bool, not, ◌&&◌, if◌then◌else◌, Option, None, Some, List, map, length, count_by, slice_index}
 use Rattle.std.specs.List.{range_with_len}
-use Rattle.chunk_usage.specs.declared.open.Open.{Open}
-use Rattle.chunk_usage.specs.Ledger.{Ledger, is_given, is_open}
+use Rattle.chunk_usage.specs.declared.bump.Bump.{Bump}
+use Rattle.chunk_usage.specs.Ledger.{Ledger, is_given, is_bump}
 
 -- the counts now, and at the last freeze
 pub record Counted : Type 0 where
@@ -23,13 +23,13 @@ thin_row live = map is_thin live
 
 -- the chunk is given and not the bump chunk, and few of its cells count
 abbrev pub is_sparse : Ledger → ℕ → Bool
-is_sparse l chunk = is_given l chunk && (is_low (slice_index l.live chunk) && not (is_open l.open_chunk chunk))
+is_sparse l chunk = is_given l chunk && (is_low (slice_index l.live chunk) && not (is_bump l.bump chunk))
 
 -- how many chunks are sparse
 abbrev pub sparse_count : Ledger → ℕ
 sparse_count l = count_by (is_sparse l) (range_with_len 0 (length l.given))
 
 -- 1 where the bump chunk has few cells that count
-abbrev pub open_low : List ℕ → Option Open → ℕ
-open_low live None = 0
-open_low live (Some o) = if is_low (slice_index live o.chunk) then 1 else 0
+abbrev pub bump_low : List ℕ → Option Bump → ℕ
+bump_low live None = 0
+bump_low live (Some o) = if is_low (slice_index live o.chunk) then 1 else 0

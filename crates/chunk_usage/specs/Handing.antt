@@ -1,7 +1,7 @@
 -- Cells that are handed out and released: what each call makes of a ledger.
 use Rattle.std.specs.Prelude.{◌≡◌, ℕ, ◌+◌, ◌-◌, ◌*◌, ◌/◌, ◌<◌, ◌≤◌, nat_le, ◌==◌, true, not, if◌then◌else◌, Option, None, Some, length, replicate, slice_index, slice_set, Result, Ok, Err}
 use Rattle.std.specs.List.{position_or_len}
-use Rattle.chunk_usage.specs.declared.open.Open.{Open}
+use Rattle.chunk_usage.specs.declared.bump.Bump.{Bump}
 use Rattle.chunk_usage.specs.declared.space.Grant.{Grant}
 use Rattle.chunk_usage.specs.declared.space.Full.{Full}
 use Rattle.chunk_usage.specs.Ledger.{Ledger, left, free_count, reserve_of}
@@ -11,55 +11,55 @@ abbrev pub lowest_free : Ledger → ℕ
 lowest_free l = position_or_len not l.given
 
 -- a free chunk becomes the bump chunk, with none of its cells handed out
-abbrev pub with_open : Ledger → ℕ → Ledger
-with_open l chunk = record l {
+abbrev pub with_bump : Ledger → ℕ → Ledger
+with_bump l chunk = record l {
   given = slice_set l.given chunk true;
   since = slice_set l.since chunk true;
-  open_chunk = Some (record { chunk = chunk; filled = 0 });
+  bump = Some (record { chunk = chunk; filled = 0 });
 }
 
 -- n cells of the bump chunk are handed out, and count
-abbrev pub taken : Ledger → Open → ℕ → Ledger
+abbrev pub taken : Ledger → Bump → ℕ → Ledger
 taken l o n = record l {
   live = slice_set l.live o.chunk (slice_index l.live o.chunk + n);
-  open_chunk = Some (record { chunk = o.chunk; filled = o.filled + n });
+  bump = Some (record { chunk = o.chunk; filled = o.filled + n });
 }
 
 -- the bump chunk has fewer than n cells left, and only the reserve is free
 pub record IsShort (l : Ledger) (n : ℕ) : Type 0 where
-  pub few_left : left l.open_chunk < n
+  pub few_left : left l.bump < n
   pub none_free : free_count l ≤ reserve_of l
 
 abbrev pub shortage : Ledger → ℕ → Full
-shortage l n = record { needed = n; left = left l.open_chunk; free = free_count l; reserve = reserve_of l }
+shortage l n = record { needed = n; left = left l.bump; free = free_count l; reserve = reserve_of l }
 
 -- the place of the bump chunk's next cell
-abbrev pub next_cell : Open → ℕ
+abbrev pub next_cell : Bump → ℕ
 next_cell o = o.chunk * 1024 + o.filled
 
 -- the bump chunk, where it has n cells left
-abbrev pub roomy : Option Open → ℕ → Option Open
+abbrev pub roomy : Option Bump → ℕ → Option Bump
 roomy None n = None
 roomy (Some o) n = if nat_le n (1024 - o.filled) then Some o else None
 
-abbrev pub granted_from : Ledger → ℕ → Option Open → Result Grant Full
+abbrev pub granted_from : Ledger → ℕ → Option Bump → Result Grant Full
 granted_from l n (Some o) = Ok (record { at = next_cell o; given = None })
 granted_from l n None = if nat_le (free_count l) (reserve_of l) then Err (shortage l n) else Ok (record { at = lowest_free l * 1024; given = Some (lowest_free l) })
 
-abbrev pub allocated_from : Ledger → ℕ → Option Open → Ledger
+abbrev pub allocated_from : Ledger → ℕ → Option Bump → Ledger
 allocated_from l n (Some o) = taken l o n
-allocated_from l n None = if nat_le (free_count l) (reserve_of l) then l else taken (with_open l (lowest_free l)) (record { chunk = lowest_free l; filled = 0 }) n
+allocated_from l n None = if nat_le (free_count l) (reserve_of l) then l else taken (with_bump l (lowest_free l)) (record { chunk = lowest_free l; filled = 0 }) n
 
 -- what an allocation of n cells answers, and what it leaves
 abbrev pub grant_of : Ledger → ℕ → Result Grant Full
-grant_of l n = granted_from l n (roomy l.open_chunk n)
+grant_of l n = granted_from l n (roomy l.bump n)
 
 abbrev pub allocated : Ledger → ℕ → Ledger
-allocated l n = allocated_from l n (roomy l.open_chunk n)
+allocated l n = allocated_from l n (roomy l.bump n)
 
 -- no chunk is free, and the bump chunk has fewer than n cells left
 pub record IsSpent (l : Ledger) (n : ℕ) : Type 0 where
-  pub few_left : left l.open_chunk < n
+  pub few_left : left l.bump < n
   pub none_free : free_count l ≡ 0
 
 -- the first cells of the lowest free chunk, which becomes the bump chunk
@@ -67,22 +67,22 @@ abbrev pub new_grant : Ledger → Grant
 new_grant l = record { at = lowest_free l * 1024; given = Some (lowest_free l) }
 
 abbrev pub newly_taken : Ledger → ℕ → Ledger
-newly_taken l n = taken (with_open l (lowest_free l)) (record { chunk = lowest_free l; filled = 0 }) n
+newly_taken l n = taken (with_bump l (lowest_free l)) (record { chunk = lowest_free l; filled = 0 }) n
 
-abbrev pub reserve_granted_from : Ledger → ℕ → Option Open → Result Grant Full
+abbrev pub reserve_granted_from : Ledger → ℕ → Option Bump → Result Grant Full
 reserve_granted_from l n (Some o) = Ok (record { at = next_cell o; given = None })
 reserve_granted_from l n None = if free_count l == 0 then Err (shortage l n) else Ok (new_grant l)
 
-abbrev pub reserve_allocated_from : Ledger → ℕ → Option Open → Ledger
+abbrev pub reserve_allocated_from : Ledger → ℕ → Option Bump → Ledger
 reserve_allocated_from l n (Some o) = taken l o n
 reserve_allocated_from l n None = if free_count l == 0 then l else newly_taken l n
 
 -- what an allocation of n cells answers that may take the reserve, and what it leaves
 abbrev pub reserve_grant_of : Ledger → ℕ → Result Grant Full
-reserve_grant_of l n = reserve_granted_from l n (roomy l.open_chunk n)
+reserve_grant_of l n = reserve_granted_from l n (roomy l.bump n)
 
 abbrev pub reserve_allocated : Ledger → ℕ → Ledger
-reserve_allocated l n = reserve_allocated_from l n (roomy l.open_chunk n)
+reserve_allocated l n = reserve_allocated_from l n (roomy l.bump n)
 
 -- n cells of one chunk don't count any more; none does
 abbrev pub released : Ledger → ℕ → ℕ → Ledger
@@ -96,9 +96,9 @@ abbrev pub Lacks : Ledger → Full → Type 0
 Lacks l f = IsShort l f.needed × (f ≡ shortage l f.needed) × (f.needed ≤ 256)
 
 -- 769 for each given chunk, less what the bump chunk lacks of 769 cells handed out
-abbrev pub unspent : Option Open → ℕ
+abbrev pub unspent : Option Bump → ℕ
 unspent None = 0
 unspent (Some o) = 769 - o.filled
 
 abbrev pub spent : Ledger → ℕ
-spent l = 769 * (length l.given - free_count l) - unspent l.open_chunk
+spent l = 769 * (length l.given - free_count l) - unspent l.bump

@@ -8,9 +8,9 @@ ledger_of s = record {
   live = s.counts.live;
   given = s.allocated;
   since = s.recent;
-  open_chunk = s.bump;
+  bump = s.bump;
   last_live = s.counts.last;
-  last_open = s.fender;
+  fender = s.fender;
   rows = take s.kept s.slots.items;
   passes = s.passes;
 }

@@ -1,16 +1,16 @@
 -- Kept versions, and chunks that nothing reaches: what each call makes of a ledger.
 use Rattle.std.specs.Prelude.{ℕ, ◌<◌, nat_lt, ◌==◌, Bool, false, not, ◌&&◌, ◌||◌, Option, None, Some, List, [], ◌∷◌, ◌++◌, length, map, filter, replicate, slice_index}
 use Rattle.std.specs.List.{AllByRecursion, list_any, range_with_len}
-use Rattle.chunk_usage.specs.declared.open.Open.{Open}
-use Rattle.chunk_usage.specs.Ledger.{Ledger, Row, row_of, is_in_row, is_given, is_open}
+use Rattle.chunk_usage.specs.declared.bump.Bump.{Bump}
+use Rattle.chunk_usage.specs.Ledger.{Ledger, Row, row_of, is_in_row, is_given, is_bump}
 
 -- the bump chunk counts as filled
-abbrev pub full : Option Open → Option Open
+abbrev pub full : Option Bump → Option Bump
 full None = None
 full (Some o) = Some (record { chunk = o.chunk; filled = 1024 })
 
 abbrev pub closed : Ledger → Ledger
-closed l = record l { open_chunk = full l.open_chunk }
+closed l = record l { bump = full l.bump }
 
 -- each version is older
 abbrev pub AreOlder : List Row → ℕ → Type 0
@@ -21,13 +21,13 @@ abbrev pub frozen : Ledger → ℕ → Ledger
 frozen l version = record l {
   since = replicate (length l.since) false;
   last_live = l.live;
-  last_open = l.open_chunk;
+  fender = l.bump;
   rows = l.rows ++ record { version = version; chunks = row_of l.live } ∷ [];
 }
 
 -- counts and bump chunk are as at the last freeze; what is given stays given
 abbrev pub restored : Ledger → Ledger
-restored l = record l { live = l.last_live; open_chunk = l.last_open }
+restored l = record l { live = l.last_live; bump = l.fender }
 
 -- it is that version; there is one
 abbrev pub is_row_of : ℕ → Row → Bool
@@ -63,7 +63,7 @@ is_in_rows rows chunk = list_any (λ r. is_in_row r chunk) rows
 
 -- the chunk is the bump chunk or was it at the last freeze, has a cell that counts, or is in a kept version's chunk set
 abbrev pub is_needed : Ledger → ℕ → Bool
-is_needed l chunk = is_open l.open_chunk chunk || (is_open l.last_open chunk || (nat_lt 0 (slice_index l.live chunk) || is_in_rows l.rows chunk))
+is_needed l chunk = is_bump l.bump chunk || (is_bump l.fender chunk || (nat_lt 0 (slice_index l.live chunk) || is_in_rows l.rows chunk))
 
 -- it is given, and nothing needs it
 abbrev pub is_unreached : Ledger → ℕ → Bool

@@ -3,7 +3,7 @@ use Rattle.std.specs.Prelude.{◌≡◌, ◌⊎◌, ℕ, ◌+◌, ◌/◌, ◌<�
 use Rattle.trie_model.specs.Extents.{IsRow, row}
 use Rattle.trie_model.specs.Reach.{in_chunk}
 use Rattle.chunk_cells.specs.Chunks.{IsGiven, IsFree}
-use Rattle.chunk_usage.specs.Ledger.{Ledger, Frozen, is_open, is_used, is_mutable, frozen_part, reserved}
+use Rattle.chunk_usage.specs.Ledger.{Ledger, Frozen, is_bump, is_used, is_mutable, frozen_part, reserved}
 use Rattle.chunk_usage.specs.Handing.{spent}
 
 -- What a space that hands out cells knows of them.
@@ -32,7 +32,7 @@ account_of l = record {
   used = is_used l;
   mutable = is_mutable l;
   given = l.given;
-  opened = is_open l.open_chunk;
+  opened = is_bump l.bump;
   live = slice_index l.live;
   spent = spent l;
   reserved = reserved l;

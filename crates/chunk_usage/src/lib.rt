@@ -10,15 +10,15 @@
 //! for each 64 chunks: nothing goes through the chunks one by one.
 #![tactic(auto)]
 
+mod bump;
 pub mod capacity;
 mod counts;
 mod kept_version;
-mod open;
 pub mod space;
 mod usage;
 
+pub use bump::Bump;
 pub use chunk_hints::{PATH_STEPS, Path};
 pub use kept_version::KeptVersion;
-pub use open::Open;
 pub use space::{Full, Grant, Space};
 pub use usage::Usage;

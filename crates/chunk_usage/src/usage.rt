@@ -11,9 +11,9 @@ mod recycling;
 mod sparse;
 mod versions;
 
+use crate::bump::Bump;
 use crate::counts::Counts;
 use crate::kept_version::KeptVersion;
-use crate::open::Open;
 use chunk_hints::{Ages, Hints};
 use chunk_sets::ChunkSet;
 use std::alloc::{AllocError, Global};
@@ -36,8 +36,8 @@ struct State {
     // How many chunks are free.
     free: u32,
     // The bump chunk with its counter, and the fender: the same at the last freeze.
-    bump: Option<Open>,
-    fender: Option<Open>,
+    bump: Option<Bump>,
+    fender: Option<Bump>,
     // The first `kept` of these are the kept versions, the oldest first.
     slots: Vec<KeptVersion>,
     kept: usize,

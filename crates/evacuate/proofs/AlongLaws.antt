@@ -37,12 +37,12 @@ module _ {has : ℕ → Cell → Type 0} {n : Node} (h : IsAt has n) (b : Branch
   pub told_at : BranchTold h.t b
   told_at = branch_told h.t b (sym h.is ∙ is)
 
-  pub twig_at_turn : (i : ℕ) → i < count_ones b.bitmap → TwigAt has b.offset b.twigs i told_at.below
-  twig_at_turn i l = twig_here h.top told_at i l
+  pub twig_at_descent : (i : ℕ) → i < count_ones b.bitmap → TwigAt has b.offset b.twigs i told_at.below
+  twig_at_descent i l = twig_here h.top told_at i l
 
-  pub fewer_at : (i : ℕ) (l : i < count_ones b.bitmap) {m : Node} → m ≡ node_of (twig_at_turn i l).t → places_left m < places_left n
+  pub fewer_at : (i : ℕ) (l : i < count_ones b.bitmap) {m : Node} → m ≡ node_of (twig_at_descent i l).t → places_left m < places_left n
   fewer_at i l {m} e =
-      let x = twig_at_turn i l in
+      let x = twig_at_descent i l in
       let f = fewer_left b.offset x.t b x.tree refl (early h.top told_at) in
       let p = ap places_left e in let q = ap places_left is in omega arith
 

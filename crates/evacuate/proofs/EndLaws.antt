@@ -13,11 +13,11 @@ use Rattle.trie_model.specs.Reach.{in_chunk, weigh_tree}
 use Rattle.trie_model.specs.Shape.{cells}
 use Rattle.trie_model.specs.Trees.{Tree}
 use Rattle.trie_model.proofs.SizeLaws.{size_is}
-use Rattle.chunk_usage.specs.declared.open.Open.{Open}
+use Rattle.chunk_usage.specs.declared.bump.Bump.{Bump}
 use Rattle.chunk_usage.specs.Counting.{is_low, is_sparse, sparse_count}
 use Rattle.chunk_usage.specs.Handing.{spent, unspent}
 use Rattle.chunk_usage.specs.Keeping.{closed, full}
-use Rattle.chunk_usage.specs.Ledger.{Ledger, IsLedger, is_given, is_open, is_used, is_mutable, left, free_count, frozen_part}
+use Rattle.chunk_usage.specs.Ledger.{Ledger, IsLedger, is_given, is_bump, is_used, is_mutable, left, free_count, frozen_part}
 use Rattle.chunk_usage.specs.Rooms.{Grows, reserve_account_of}
 use Rattle.chunk_sets.proofs.FlagLemmas.{set_within}
 use Rattle.chunk_usage.proofs.SpaceLaws.{used_given}
@@ -58,15 +58,15 @@ module _ {S : Type 0} (has : S → ℕ → Cell → Type 0) (kept : S → List �
     frozen = λ q c m h. h;
     keeps = refl;
     given_stays = λ k h. h;
-    opens = λ k o. inl (was_open l.open_chunk k (sym (ap (λ (m : Ledger). is_open m.open_chunk k) e) ∙ o));
+    opens = λ k o. inl (was_bump l.bump k (sym (ap (λ (m : Ledger). is_bump m.bump k) e) ∙ o));
     grows = grows;
     spares = refl;
     last = ap frozen_part e;
   }
     where
-      was_open : (o : Option Open) (k : ℕ) → is_open (full o) k ≡ true → is_open o k ≡ true
-      was_open None k h = h
-      was_open (Some o) k h = h
+      was_bump : (o : Option Bump) (k : ℕ) → is_bump (full o) k ≡ true → is_bump o k ≡ true
+      was_bump None k h = h
+      was_bump (Some o) k h = h
 
   pub ready_closed : Ready kept given reserve_account_of s l → Ready kept given reserve_account_of s l1
   ready_closed r = ready_grows r (r.same ∙ sym (ap (λ (m : Ledger). m.given) e)) refl grows
@@ -118,7 +118,7 @@ all_cleared {l = l} {r} {t = t} given fills new stood none k sparse =
 pub dense_of : (l : Ledger) → IsLedger l → IsCleared l → IsDense l
 dense_of l h cleared k some shut = elim (cases_lt 256 (slice_index l.live k)) [
   | inl more ↦ more
-  | inr few ↦ absurd (let z = cleared k (all_parts (is_given l k) (is_low (slice_index l.live k)) (is_open l.open_chunk k) (h.counts.in_given k some) (grind (arith, nat_tests)) shut) in omega arith)
+  | inr few ↦ absurd (let z = cleared k (all_parts (is_given l k) (is_low (slice_index l.live k)) (is_bump l.bump k) (h.counts.in_given k some) (grind (arith, nat_tests)) shut) in omega arith)
 ]
 
 -- the bump chunk is closed
@@ -134,19 +134,19 @@ module _ (l new : Ledger) (same : length new.given ≡ length l.given) (c : ℕ)
   most_free_then : free_count new ≤ length new.given
   most_free_then = count_by-le-length not new.given
 
-  unspent_few : (o : Option Open) → unspent o ≤ 769
+  unspent_few : (o : Option Bump) → unspent o ≤ 769
   unspent_few None = omega arith
   unspent_few (Some o) = omega arith
 
-  all_spent : (o : Option Open) → left o < 256 → unspent o ≡ 0
+  all_spent : (o : Option Bump) → left o < 256 → unspent o ≡ 0
   all_spent None s = refl
   all_spent (Some o) s = omega arith
 
   pub asked : free_count l ≤ free_count new + (c / 769 + 1)
-  asked = let a = most_free in let b = most_free_then in let u = unspent_few new.open_chunk in omega arith
+  asked = let a = most_free in let b = most_free_then in let u = unspent_few new.bump in omega arith
 
   pub asked_in_vain : IsFull new → free_count l + 1 ≤ free_count new + (c / 769 + 1)
-  asked_in_vain full = let a = most_free in let b = most_free_then in let s = full.spent.few_left in let n = full.few in let u = all_spent new.open_chunk (omega arith) in omega arith
+  asked_in_vain full = let a = most_free in let b = most_free_then in let s = full.spent.few_left in let n = full.few in let u = all_spent new.bump (omega arith) in omega arith
 
   pub asked_by : (d : Done) → (d ≡ Stopped → IsFull new) → free_count l + refused d ≤ free_count new + (c / 769 + 1)
   asked_by Whole full = let a = asked in omega arith

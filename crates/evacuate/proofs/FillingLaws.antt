@@ -4,11 +4,11 @@ use Rattle.std.specs.Prelude.{Option, None, Some, Result, Ok, Err, IfOk, nat_le,
 use Rattle.std.proofs.lemmas.Bool.{cases_Bool, cases_eq, true≢false, eqb-true}
 use Rattle.std.proofs.lemmas.Bool.Decides.{nat_tests}
 use Rattle.std.proofs.lemmas.List.{length-set, get_or-set_same, get_or-set_other}
-use Rattle.chunk_usage.specs.declared.open.Open.{Open}
+use Rattle.chunk_usage.specs.declared.bump.Bump.{Bump}
 use Rattle.chunk_usage.specs.declared.space.Grant.{Grant}
 use Rattle.chunk_usage.specs.declared.space.Full.{Full}
 use Rattle.chunk_usage.specs.Counting.{is_low, is_sparse}
-use Rattle.chunk_usage.specs.Ledger.{Ledger, IsLedger, IsOpen, is_given, is_open, is_used, is_mutable, filled, left, free_count, frozen_part}
+use Rattle.chunk_usage.specs.Ledger.{Ledger, IsLedger, IsBump, is_given, is_bump, is_used, is_mutable, filled, left, free_count, frozen_part}
 use Rattle.chunk_usage.specs.Handing.{lowest_free, newly_taken, new_grant, next_cell, taken, roomy, shortage, released, reserve_granted_from, reserve_allocated_from, reserve_grant_of, reserve_allocated}
 use Rattle.chunk_usage.specs.Keeping.{closed, full}
 use Rattle.chunk_sets.proofs.FlagLemmas.{set_stays, set_within, First, first_is}
@@ -40,12 +40,12 @@ set_fewer (g ∷ given) (x ∷ live) (suc c) n h l = let e = set_fewer given liv
 pub record Sparse (l : Ledger) (k : ℕ) : Type 0 where
   pub is : is_given l k ≡ true
   pub few : is_low (slice_index l.live k) ≡ true
-  pub shut : is_open l.open_chunk k ≡ false
+  pub shut : is_bump l.bump k ≡ false
 
 pub sparse_parts : (l : Ledger) (k : ℕ) → is_sparse l k ≡ true → Sparse l k
-sparse_parts l k s = parts (is_given l k) (is_low (slice_index l.live k)) (is_open l.open_chunk k) refl refl refl s
+sparse_parts l k s = parts (is_given l k) (is_low (slice_index l.live k)) (is_bump l.bump k) refl refl refl s
   where
-    parts : (g w o : Bool) → is_given l k ≡ g → is_low (slice_index l.live k) ≡ w → is_open l.open_chunk k ≡ o → (g && (w && not o)) ≡ true → Sparse l k
+    parts : (g w o : Bool) → is_given l k ≡ g → is_low (slice_index l.live k) ≡ w → is_bump l.bump k ≡ o → (g && (w && not o)) ≡ true → Sparse l k
     parts true true false p q r s = record { is = p; few = q; shut = r }
     parts true true true p q r s = absurd (true≢false (sym s))
     parts true false o p q r s = absurd (true≢false (sym s))
@@ -75,9 +75,9 @@ sparse_released l at n k s =
     all_parts _ _ _ p.is (low_less (slice_index l.live k) _ less p.few) p.shut
 
 pub sparse_closed : (l : Ledger) (k : ℕ) → is_sparse l k ≡ true → is_sparse (closed l) k ≡ true
-sparse_closed l k s = let p = sparse_parts l k s in all_parts _ _ _ p.is p.few (same l.open_chunk ∙ p.shut)
+sparse_closed l k s = let p = sparse_parts l k s in all_parts _ _ _ p.is p.few (same l.bump ∙ p.shut)
   where
-    same : (o : Option Open) → is_open (full o) k ≡ is_open o k
+    same : (o : Option Bump) → is_bump (full o) k ≡ is_bump o k
     same None = refl
     same (Some o) = refl
 
@@ -89,13 +89,13 @@ pub record FillsMore (given : List Bool) (l new : Ledger) (r : Result Grant Full
   pub same : old_live given new.live ≡ old_live given l.live
   pub elsewhere : IfOk r (λ g. is_old given g.at ≡ false)
 
-open_same : (o : Open) (k : ℕ) → is_open (Some o) k ≡ true → k ≡ o.chunk
+open_same : (o : Bump) (k : ℕ) → is_bump (Some o) k ≡ true → k ≡ o.chunk
 open_same o k e = sym (eqb-true o.chunk k e)
 
 shut_other : (c k : ℕ) → (k ≡ c → ⊥) → (c == k) ≡ false
 shut_other c k ne = elim (cases_Bool (c == k)) [ inl e ↦ absurd (ne (sym (eqb-true c k e))) | inr e ↦ e ]
 
-open_other : (o : Open) (k : ℕ) → is_open (Some o) k ≡ false → k ≡ o.chunk → ⊥
+open_other : (o : Bump) (k : ℕ) → is_bump (Some o) k ≡ false → k ≡ o.chunk → ⊥
 open_other o k e same = true≢false (sym (ap (λ (j : ℕ). o.chunk == j) same ∙ itself o.chunk) ∙ e)
   where
     itself : (c : ℕ) → (c == c) ≡ true
@@ -103,10 +103,10 @@ open_other o k e same = true≢false (sym (ap (λ (j : ℕ). o.chunk == j) same 
 
 module _ (given : List Bool) (l : Ledger) (h : IsLedger l) (f : Fills given l) where
   -- from the bump chunk
-  module _ (n : ℕ) (some : 0 < n) (o : Open) (is : l.open_chunk ≡ Some o) (enough : n ≤ 1024 - o.filled) where
+  module _ (n : ℕ) (some : 0 < n) (o : Bump) (is : l.bump ≡ Some o) (enough : n ≤ 1024 - o.filled) where
     is_new : slice_index_or given o.chunk false ≡ false
     is_new = elim (cases_Bool (slice_index_or given o.chunk false)) [
-      | inl old ↦ absurd (let c = f.closed o.chunk (ap (λ (p : Option Open). is_open p o.chunk) is ∙ itself o.chunk) old in let e = ap filled is in omega arith)
+      | inl old ↦ absurd (let c = f.closed o.chunk (ap (λ (p : Option Bump). is_bump p o.chunk) is ∙ itself o.chunk) old in let e = ap filled is in omega arith)
       | inr new ↦ new
     ]
       where
@@ -114,7 +114,7 @@ module _ (given : List Bool) (l : Ledger) (h : IsLedger l) (f : Fills given l) w
         itself c = grind (arith, nat_tests)
 
     inside : o.chunk < length l.live
-    inside = let i = set_within l.given o.chunk (subst (IsOpen l.given l.live) is h.opened).1 in let e = h.counted in omega arith
+    inside = let i = set_within l.given o.chunk (subst (IsBump l.given l.live) is h.opened).1 in let e = h.counted in omega arith
 
     fills_taken : Fills given (taken l o n)
     fills_taken = record {
@@ -124,11 +124,11 @@ module _ (given : List Bool) (l : Ledger) (h : IsLedger l) (f : Fills given l) w
       left = λ k g new shut.
           let other = open_other (record { chunk = o.chunk; filled = o.filled + n }) k shut in
           let e = get_or-set_other l.live o.chunk k (slice_index l.live o.chunk + n) 0 other in
-          let m = f.left k g new (ap (λ (p : Option Open). is_open p k) is ∙ shut) in omega arith;
+          let m = f.left k g new (ap (λ (p : Option Bump). is_bump p k) is ∙ shut) in omega arith;
       bump = λ k at new.
           let same = open_same (record { chunk = o.chunk; filled = o.filled + n }) k at in
           let e = ap (slice_index (slice_set l.live o.chunk (slice_index l.live o.chunk + n))) same ∙ get_or-set_same l.live o.chunk (slice_index l.live o.chunk + n) 0 inside in
-          let m = f.bump o.chunk (ap (λ (p : Option Open). is_open p o.chunk) is ∙ ap (λ (j : ℕ). o.chunk == j) (sym same) ∙ at) is_new in
+          let m = f.bump o.chunk (ap (λ (p : Option Bump). is_bump p o.chunk) is ∙ ap (λ (j : ℕ). o.chunk == j) (sym same) ∙ at) is_new in
           let b = ap filled is in omega arith;
       closed = λ k at old. absurd (true≢false (sym old ∙ ap (λ (j : ℕ). slice_index_or given j false) (open_same (record { chunk = o.chunk; filled = o.filled + n }) k at) ∙ is_new));
     }
@@ -136,7 +136,7 @@ module _ (given : List Bool) (l : Ledger) (h : IsLedger l) (f : Fills given l) w
     sparse_taken : (k : ℕ) → is_sparse l k ≡ true → is_sparse (taken l o n) k ≡ true
     sparse_taken k s =
         let p = sparse_parts l k s in
-        let shut : is_open (Some o) k ≡ false = sym (ap (λ (q : Option Open). is_open q k) is) ∙ p.shut in
+        let shut : is_bump (Some o) k ≡ false = sym (ap (λ (q : Option Bump). is_bump q k) is) ∙ p.shut in
         let e = get_or-set_other l.live o.chunk k (slice_index l.live o.chunk + n) 0 (open_other o k shut) in
         all_parts _ _ _ p.is (ap is_low e ∙ p.few) shut
 
@@ -149,7 +149,7 @@ module _ (given : List Bool) (l : Ledger) (h : IsLedger l) (f : Fills given l) w
     }
 
   -- from the lowest free chunk
-  module _ (n : ℕ) (few : n ≤ 256) (short : left l.open_chunk < n) (first : First (lowest_free l) l.given) where
+  module _ (n : ℕ) (few : n ≤ 256) (short : left l.bump < n) (first : First (lowest_free l) l.given) where
     abbrev c : ℕ
     c = lowest_free l
 
@@ -162,7 +162,7 @@ module _ (given : List Bool) (l : Ledger) (h : IsLedger l) (f : Fills given l) w
     within_since : c < length l.since
     within_since = let w = first.within in let e = h.known_since in omega arith
 
-    nearly_full : (o : Option Open) (k : ℕ) → left o < n → is_open o k ≡ true → 769 ≤ filled o
+    nearly_full : (o : Option Bump) (k : ℕ) → left o < n → is_bump o k ≡ true → 769 ≤ filled o
     nearly_full None k s e = absurd (true≢false (sym e))
     nearly_full (Some o) k s e = omega arith
 
@@ -178,8 +178,8 @@ module _ (given : List Bool) (l : Ledger) (h : IsLedger l) (f : Fills given l) w
           let other = open_other (record { chunk = c; filled = 0 + n }) k shut in
           let was = sym (get_or-set_other l.given c k true false other) ∙ g in
           let e = get_or-set_other l.live c k (slice_index l.live c + n) 0 other in
-          elim (cases_Bool (is_open l.open_chunk k)) [
-            | inl at ↦ (let m = f.bump k at new in let b = nearly_full l.open_chunk k short at in omega arith)
+          elim (cases_Bool (is_bump l.bump k)) [
+            | inl at ↦ (let m = f.bump k at new in let b = nearly_full l.bump k short at in omega arith)
             | inr no_longer ↦ (let m = f.left k was new no_longer in omega arith)
           ];
       bump = λ k at new.
@@ -207,20 +207,20 @@ module _ (given : List Bool) (l : Ledger) (h : IsLedger l) (f : Fills given l) w
   none_fills full = record { fills = f; sparse = λ k s. s; same = refl; elsewhere = tt }
 
   module _ (n : ℕ) (some : 0 < n) (few : n ≤ 256) where
-    fills_by_free : (b : Bool) → (free_count l == 0) ≡ b → left l.open_chunk < n → FillsMore given l (if b then l else newly_taken l n) (if b then Err (shortage l n) else Ok (new_grant l))
+    fills_by_free : (b : Bool) → (free_count l == 0) ≡ b → left l.bump < n → FillsMore given l (if b then l else newly_taken l n) (if b then Err (shortage l n) else Ok (new_grant l))
     fills_by_free true e short = none_fills (shortage l n)
     fills_by_free false e short = new_fills n few short (first_is l.given (lowest_free l) refl (grind (arith, nat_tests, e)))
 
-    fills_by_open : (o : Option Open) → l.open_chunk ≡ o → FillsMore given l (reserve_allocated_from l n (roomy o n)) (reserve_granted_from l n (roomy o n))
-    fills_by_open None is = fills_by_free (free_count l == 0) refl (let e = ap left is in omega arith)
-    fills_by_open (Some o) is = by_left (nat_le n (1024 - o.filled)) refl
+    fills_by_bump : (o : Option Bump) → l.bump ≡ o → FillsMore given l (reserve_allocated_from l n (roomy o n)) (reserve_granted_from l n (roomy o n))
+    fills_by_bump None is = fills_by_free (free_count l == 0) refl (let e = ap left is in omega arith)
+    fills_by_bump (Some o) is = by_left (nat_le n (1024 - o.filled)) refl
       where
         by_left : (b : Bool) → nat_le n (1024 - o.filled) ≡ b → FillsMore given l (reserve_allocated_from l n (if b then Some o else None)) (reserve_granted_from l n (if b then Some o else None))
         by_left true e = open_fills n some o is (grind (arith, nat_tests))
         by_left false e = fills_by_free (free_count l == 0) refl (let room = ap left is in grind (arith, nat_tests, e))
 
     pub fills_handed : (new : Ledger) (r : Result Grant Full) → new ≡ reserve_allocated l n → r ≡ reserve_grant_of l n → FillsMore given l new r
-    fills_handed new r e e2 = subst (λ (m : Ledger). FillsMore given l m r) (sym e) (subst (FillsMore given l (reserve_allocated l n)) (sym e2) (fills_by_open l.open_chunk refl))
+    fills_handed new r e e2 = subst (λ (m : Ledger). FillsMore given l m r) (sym e) (subst (FillsMore given l (reserve_allocated l n)) (sym e2) (fills_by_bump l.bump refl))
 
 -- ---- n cells of an old chunk are released, and what lies in one
 
@@ -265,15 +265,15 @@ fills_begin l h = record {
   stays = λ k old. old;
   recent = λ k g new. absurd (true≢false (sym g ∙ new));
   left = λ k g new shut. absurd (true≢false (sym g ∙ new));
-  bump = λ k at new. absurd (true≢false (sym (given_open l.open_chunk h.opened k at) ∙ new));
-  closed = λ k at old. filled_full l.open_chunk k at;
+  bump = λ k at new. absurd (true≢false (sym (given_open l.bump h.opened k at) ∙ new));
+  closed = λ k at old. filled_full l.bump k at;
 }
   where
-    given_open : (o : Option Open) → IsOpen l.given l.live o → (k : ℕ) → is_open (full o) k ≡ true → slice_index_or l.given k false ≡ true
+    given_open : (o : Option Bump) → IsBump l.given l.live o → (k : ℕ) → is_bump (full o) k ≡ true → slice_index_or l.given k false ≡ true
     given_open None i k e = absurd (true≢false (sym e))
     given_open (Some o) i k e = ap (λ (j : ℕ). slice_index_or l.given j false) (open_same o k e) ∙ i.1
 
-    filled_full : (o : Option Open) (k : ℕ) → is_open (full o) k ≡ true → filled (full o) ≡ 1024
+    filled_full : (o : Option Bump) (k : ℕ) → is_bump (full o) k ≡ true → filled (full o) ≡ 1024
     filled_full None k e = absurd (true≢false (sym e))
     filled_full (Some o) k e = refl
 
@@ -281,10 +281,10 @@ fills_begin l h = record {
 pub fills_nothing : (l : Ledger) → IsLedger l → FillsNew l l
 fills_nothing l h = record {
   left = λ k g new shut. absurd (true≢false (sym g ∙ new));
-  bump = λ k at new. absurd (true≢false (sym (given_open l.open_chunk h.opened k at) ∙ new));
+  bump = λ k at new. absurd (true≢false (sym (given_open l.bump h.opened k at) ∙ new));
 }
   where
-    given_open : (o : Option Open) → IsOpen l.given l.live o → (k : ℕ) → is_open o k ≡ true → slice_index_or l.given k false ≡ true
+    given_open : (o : Option Bump) → IsBump l.given l.live o → (k : ℕ) → is_bump o k ≡ true → slice_index_or l.given k false ≡ true
     given_open None i k e = absurd (true≢false (sym e))
     given_open (Some o) i k e = ap (λ (j : ℕ). slice_index_or l.given j false) (open_same o k e) ∙ i.1
 

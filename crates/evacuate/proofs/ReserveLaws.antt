@@ -6,11 +6,11 @@ use Rattle.std.proofs.lemmas.Bool.Decides.{nat_tests}
 use Rattle.std.proofs.lemmas.List.{length-set, get_or-set_other}
 use Rattle.std.proofs.lemmas.Grind.{get_or-set_at}
 use Rattle.std.proofs.lemmas.List.Sums.{count_by-le-length}
-use Rattle.chunk_usage.specs.declared.open.Open.{Open}
+use Rattle.chunk_usage.specs.declared.bump.Bump.{Bump}
 use Rattle.chunk_usage.specs.declared.space.Grant.{Grant}
 use Rattle.chunk_usage.specs.declared.space.Full.{Full}
 use Rattle.chunk_usage.specs.Rooms.{Handed, account_of, reserve_account_of}
-use Rattle.chunk_usage.specs.Ledger.{Ledger, IsLedger, is_given, is_open, is_used, is_mutable, filled, left, free_count, frozen_part}
+use Rattle.chunk_usage.specs.Ledger.{Ledger, IsLedger, is_given, is_bump, is_used, is_mutable, filled, left, free_count, frozen_part}
 use Rattle.chunk_usage.specs.Handing.{IsSpent, lowest_free, newly_taken, new_grant, roomy, shortage, spent, unspent, granted_from, allocated_from, reserve_granted_from, reserve_allocated_from, reserve_grant_of, reserve_allocated}
 use Rattle.trie_write.specs.Spaces.{Ready}
 use Rattle.chunk_sets.proofs.FlagLemmas.{set_stays, get_set, get_clear, one_fewer_clear, First, first_is}
@@ -19,7 +19,7 @@ use Rattle.chunk_usage.proofs.HandingLaws.{opened_mutable}
 use Rattle.chunk_usage.proofs.SpaceLaws.{Hands, OpensIn, used_given, handed, newly_opens}
 
 -- from a free chunk
-module _ (l : Ledger) (h : IsLedger l) (n : ℕ) (some : 0 < n) (few : n ≤ 256) (short : left l.open_chunk < n) (first : First (lowest_free l) l.given) where
+module _ (l : Ledger) (h : IsLedger l) (n : ℕ) (some : 0 < n) (few : n ≤ 256) (short : left l.bump < n) (first : First (lowest_free l) l.given) where
   abbrev c : ℕ
   c = lowest_free l
 
@@ -59,7 +59,7 @@ module _ (l : Ledger) (h : IsLedger l) (n : ℕ) (some : 0 < n) (few : n ≤ 256
       grind (arith, nat_tests)
 
   settled : (q : ℕ) → is_used l q ≡ true → is_mutable (newly_taken l n) q ≡ is_mutable l q
-  settled q u = ap (λ (b : Bool). b || (is_open l.last_open (q / 1024) && nat_le (filled l.last_open) (q % 1024))) (get_or-set_other l.since c (q / 1024) true false (elsewhere q u))
+  settled q u = ap (λ (b : Bool). b || (is_bump l.fender (q / 1024) && nat_le (filled l.fender) (q % 1024))) (get_or-set_other l.since c (q / 1024) true false (elsewhere q u))
 
   fresher : (q : ℕ) → is_mutable l q ≡ true → is_mutable (newly_taken l n) q ≡ true
   fresher q f = grown (slice_index_or l.since (q / 1024) false) _ _ f (set_stays l.since c (q / 1024))
@@ -74,10 +74,10 @@ module _ (l : Ledger) (h : IsLedger l) (n : ℕ) (some : 0 < n) (few : n ≤ 256
       let fewer = one_fewer_clear l.given c first.within first.clear in
       let most = count_by-le-length not l.given in
       let e = length-set l.given c true in
-      let z = all_spent l.open_chunk short in
+      let z = all_spent l.bump short in
       omega arith
     where
-      all_spent : (o : Option Open) → left o < n → unspent o ≡ 0
+      all_spent : (o : Option Bump) → left o < n → unspent o ≡ 0
       all_spent None short = refl
       all_spent (Some o) short = omega arith
 
@@ -93,30 +93,30 @@ none_hands : (l : Ledger) (n : ℕ) (f : Full) → Hands l l n (Err f)
 none_hands l n f = record { gives = tt; grows = record { stays = λ q u. u; settled = λ q u. refl; fresher = λ q t. t }; spends = (omega arith); handed = tt }
 
 module _ (l : Ledger) (h : IsLedger l) (n : ℕ) (some : 0 < n) (few : n ≤ 256) where
-  by_free : (b : Bool) → (free_count l == 0) ≡ b → left l.open_chunk < n → Hands l (if b then l else newly_taken l n) n (if b then Err (shortage l n) else Ok (new_grant l))
+  by_free : (b : Bool) → (free_count l == 0) ≡ b → left l.bump < n → Hands l (if b then l else newly_taken l n) n (if b then Err (shortage l n) else Ok (new_grant l))
   by_free true e short = none_hands l n (shortage l n)
   by_free false e short = new_hands l h n some few short (first_is l.given (lowest_free l) refl (grind (arith, nat_tests, e)))
 
-  by_open : (o : Option Open) → l.open_chunk ≡ o → Hands l (reserve_allocated_from l n (roomy o n)) n (reserve_granted_from l n (roomy o n))
-  by_open None is = by_free (free_count l == 0) refl (let e = ap left is in omega arith)
-  by_open (Some o) is = by_left (nat_le n (1024 - o.filled)) refl
+  by_bump : (o : Option Bump) → l.bump ≡ o → Hands l (reserve_allocated_from l n (roomy o n)) n (reserve_granted_from l n (roomy o n))
+  by_bump None is = by_free (free_count l == 0) refl (let e = ap left is in omega arith)
+  by_bump (Some o) is = by_left (nat_le n (1024 - o.filled)) refl
     where
       by_left : (b : Bool) → nat_le n (1024 - o.filled) ≡ b → Hands l (reserve_allocated_from l n (if b then Some o else None)) n (reserve_granted_from l n (if b then Some o else None))
       by_left true e =
-          let same : roomy l.open_chunk n ≡ Some o = ap (λ (p : Option Open). roomy p n) is ∙ ap (λ (b : Bool). if b then Some o else None) e in
+          let same : roomy l.bump n ≡ Some o = ap (λ (p : Option Bump). roomy p n) is ∙ ap (λ (b : Bool). if b then Some o else None) e in
           handed l h n some few _ _ (sym (ap (allocated_from l n) same)) (sym (ap (granted_from l n) same))
       by_left false e = by_free (free_count l == 0) refl (let room = ap left is in grind (arith, nat_tests, e))
 
 -- an allocation, by what it answered and left
 pub reserve_handed : (l : Ledger) → IsLedger l → (n : ℕ) → 0 < n → n ≤ 256 → (new : Ledger) (r : Result Grant Full) → new ≡ reserve_allocated l n → r ≡ reserve_grant_of l n → Hands l new n r
 reserve_handed l h n some few new r e f =
-    subst (λ (m : Ledger). Hands l m n r) (sym e) (subst (Hands l (reserve_allocated l n) n) (sym f) (by_open l h n some few l.open_chunk refl))
+    subst (λ (m : Ledger). Hands l m n r) (sym e) (subst (Hands l (reserve_allocated l n) n) (sym f) (by_bump l h n some few l.bump refl))
 
 -- where there is no room nothing changes
 pub spent_same : (l : Ledger) (n : ℕ) → IsSpent l n → reserve_allocated l n ≡ l
-spent_same l n h = ap (reserve_allocated_from l n) (none l.open_chunk h.few_left) ∙ ap (λ (b : Bool). if b then l else newly_taken l n) (eq-eqb (free_count l) 0 h.none_free)
+spent_same l n h = ap (reserve_allocated_from l n) (none l.bump h.few_left) ∙ ap (λ (b : Bool). if b then l else newly_taken l n) (eq-eqb (free_count l) 0 h.none_free)
   where
-    none : (o : Option Open) → left o < n → roomy o n ≡ None
+    none : (o : Option Bump) → left o < n → roomy o n ≡ None
     none None short = refl
     none (Some o) short = ap (λ (b : Bool). if b then Some o else None) (no (nat_le n (1024 - o.filled)) refl)
       where
@@ -126,30 +126,30 @@ spent_same l n h = ap (reserve_allocated_from l n) (none l.open_chunk h.few_left
 
 -- what freezes left stays
 pub reserve_frozen : (l : Ledger) (n : ℕ) → frozen_part (reserve_allocated l n) ≡ frozen_part l
-reserve_frozen l n = by_room (roomy l.open_chunk n)
+reserve_frozen l n = by_room (roomy l.bump n)
   where
     by_clear : (b : Bool) → frozen_part (if b then l else newly_taken l n) ≡ frozen_part l
     by_clear true = refl
     by_clear false = refl
 
-    by_room : (o : Option Open) → frozen_part (reserve_allocated_from l n o) ≡ frozen_part l
+    by_room : (o : Option Bump) → frozen_part (reserve_allocated_from l n o) ≡ frozen_part l
     by_room None = by_clear (free_count l == 0)
     by_room (Some o) = refl
 
 -- a chunk that becomes the bump chunk was free
 pub reserve_opens : (l : Ledger) (n : ℕ) (new : Ledger) → new ≡ reserve_allocated l n → OpensIn l new
-reserve_opens l n new is = subst (OpensIn l) (sym is) (of_room l.open_chunk refl)
+reserve_opens l n new is = subst (OpensIn l) (sym is) (of_room l.bump refl)
   where
     of_clear : (b : Bool) → (free_count l == 0) ≡ b → OpensIn l (if b then l else newly_taken l n)
     of_clear true e = λ k o. inl o
     of_clear false e = newly_opens l n (lowest_free l) (first_is l.given (lowest_free l) refl (grind (arith, nat_tests, e)))
 
-    of_room : (o : Option Open) → l.open_chunk ≡ o → OpensIn l (reserve_allocated_from l n (roomy o n))
+    of_room : (o : Option Bump) → l.bump ≡ o → OpensIn l (reserve_allocated_from l n (roomy o n))
     of_room None is = of_clear (free_count l == 0) refl
     of_room (Some o) is = of_left (nat_le n (1024 - o.filled))
       where
         of_left : (b : Bool) → OpensIn l (reserve_allocated_from l n (if b then Some o else None))
-        of_left true = λ k e. inl (ap (λ (p : Option Open). is_open p k) is ∙ e)
+        of_left true = λ k e. inl (ap (λ (p : Option Bump). is_bump p k) is ∙ e)
         of_left false = of_clear (free_count l == 0) refl
 
 -- ---- who may take the reserve knows the same but for the reserve

@@ -1,13 +1,13 @@
 -- What an evacuation promises.
 use Rattle.std.specs.Prelude.{◌≡◌, ℕ, ◌<◌, ◌≤◌, true, false, slice_index}
 use Rattle.chunk_usage.specs.Counting.{is_sparse}
-use Rattle.chunk_usage.specs.Ledger.{Ledger, filled, is_given, is_open}
+use Rattle.chunk_usage.specs.Ledger.{Ledger, filled, is_given, is_bump}
 use Rattle.evacuate.specs.declared.evacuation.Done.{Done}
 use Rattle.evacuate.specs.declared.evacuation.Done.TheVariants.{Whole, Stopped}
 
 -- each chunk with a cell that counts, but the bump chunk, has over 256
 abbrev pub IsDense : Ledger → Type 0
-IsDense l = (chunk : ℕ) → 0 < slice_index l.live chunk → is_open l.open_chunk chunk ≡ false → 256 < slice_index l.live chunk
+IsDense l = (chunk : ℕ) → 0 < slice_index l.live chunk → is_bump l.bump chunk ≡ false → 256 < slice_index l.live chunk
 
 -- no cell of a sparse chunk counts
 abbrev pub IsCleared : Ledger → Type 0
@@ -22,8 +22,8 @@ pub record HasSparse (l : Ledger) : Type 0 where
 -- Each chunk that was given meanwhile is full of what was moved: all cells that were handed out of it count, and they are at least
 -- 769 where it was left for another.
 pub record FillsNew (old new : Ledger) : Type 0 where
-  pub left : (k : ℕ) → is_given new k ≡ true → is_given old k ≡ false → is_open new.open_chunk k ≡ false → 769 ≤ slice_index new.live k
-  pub bump : (k : ℕ) → is_open new.open_chunk k ≡ true → is_given old k ≡ false → filled new.open_chunk ≤ slice_index new.live k
+  pub left : (k : ℕ) → is_given new k ≡ true → is_given old k ≡ false → is_bump new.bump k ≡ false → 769 ≤ slice_index new.live k
+  pub bump : (k : ℕ) → is_bump new.bump k ≡ true → is_given old k ≡ false → filled new.bump ≤ slice_index new.live k
 
 -- how many chunks were asked for in vain
 abbrev pub refused : Done → ℕ

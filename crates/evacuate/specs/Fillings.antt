@@ -1,7 +1,7 @@
 -- The chunks that an evacuation finds given, and those that it fills.
 use Rattle.std.specs.Prelude.{◌≡◌, ◌⊎◌, ℕ, ◌+◌, ◌/◌, ◌<◌, ◌≤◌, Bool, true, false, List, [], ◌∷◌, length, if◌then◌else◌, slice_index, slice_index_or}
 use Rattle.chunk_usage.specs.Counting.{is_sparse}
-use Rattle.chunk_usage.specs.Ledger.{Ledger, is_given, is_open, filled}
+use Rattle.chunk_usage.specs.Ledger.{Ledger, is_given, is_bump, filled}
 use Rattle.chunk_usage.specs.Handing.{IsSpent, spent}
 
 -- the cell lies in a chunk that was given as the evacuation began
@@ -20,9 +20,9 @@ pub record Fills (given : List Bool) (l : Ledger) : Type 0 where
   pub count : length l.given ≡ length given
   pub stays : (k : ℕ) → slice_index_or given k false ≡ true → is_given l k ≡ true
   pub recent : (k : ℕ) → is_given l k ≡ true → slice_index_or given k false ≡ false → slice_index_or l.since k false ≡ true
-  pub left : (k : ℕ) → is_given l k ≡ true → slice_index_or given k false ≡ false → is_open l.open_chunk k ≡ false → 769 ≤ slice_index l.live k
-  pub bump : (k : ℕ) → is_open l.open_chunk k ≡ true → slice_index_or given k false ≡ false → filled l.open_chunk ≤ slice_index l.live k
-  pub closed : (k : ℕ) → is_open l.open_chunk k ≡ true → slice_index_or given k false ≡ true → filled l.open_chunk ≡ 1024
+  pub left : (k : ℕ) → is_given l k ≡ true → slice_index_or given k false ≡ false → is_bump l.bump k ≡ false → 769 ≤ slice_index l.live k
+  pub bump : (k : ℕ) → is_bump l.bump k ≡ true → slice_index_or given k false ≡ false → filled l.bump ≤ slice_index l.live k
+  pub closed : (k : ℕ) → is_bump l.bump k ≡ true → slice_index_or given k false ≡ true → filled l.bump ≡ 1024
 
 -- Cells were moved, and n more were asked for. Each cell that was asked for and is in its place has one less count in the old chunks.
 -- A chunk that was sparse stays so.

@@ -18,17 +18,18 @@ ghost use Rattle.evacuate.specs.Trails.{TwigsAt};
 
 use super::items::move_item;
 use super::moves::move_node;
-use super::path_walk::{Turn, turn_on};
+use super::path_walk::{Descent, descent_on};
 use super::sparse::{is_chunk_sparse, is_item_sparse};
 use chunk_cells::CellWrite;
+use chunk_cells::extents::LAST_OCTETS;
 use chunk_usage::{Full, Path, Usage};
-use packed_node::{Node, Ref, chunk_of};
+use packed_node::{Leaf, Node, Ref, chunk_of};
 
 /// What is done on the way.
 #[derive(Clone, Copy)]
 pub enum Deed {
     /// The twigs of branches before an offset are made mutable.
-    Open(u16),
+    Copy(u16),
     /// What lies in a sparse chunk is moved, as far as the twigs above it are mutable.
     Empty(u32),
 }
@@ -36,7 +37,7 @@ pub enum Deed {
 /// A branch on the way, and whether its twigs stay where they are.
 #[derive(Clone, Copy)]
 struct Passage {
-    turn: Turn,
+    descent: Descent,
     stays: bool,
 }
 
@@ -45,26 +46,35 @@ struct Passage {
 #[inline]
 fn passage_at(usage: &Usage, node: Node, path: Path, deed: Deed) -> Option<Passage>
     requires { (b : Branch) → node ≡ branch_node b → b.twigs + count_ones b.bitmap ≤ 2 ^ 22 }
-    ensures branch { IfSome result (λ passage. node ≡ branch_node passage.turn.branch) }
-    ensures index { IfSome result (λ passage. passage.turn.index < count_ones passage.turn.branch.bitmap) }
-    ensures stays { IfSome result (λ passage. passage.stays ≡ true → is_mutable usage.now (passage.turn.branch.twigs + passage.turn.index) ≡ true) }
+    ensures branch { IfSome result (λ passage. node ≡ branch_node passage.descent.branch) }
+    ensures index { IfSome result (λ passage. passage.descent.index < count_ones passage.descent.branch.bitmap) }
+    ensures stays { IfSome result (λ passage. passage.stays ≡ true → is_mutable usage.now (passage.descent.branch.twigs + passage.descent.index) ≡ true) }
     ensures due { IfSome result (λ passage. passage.stays ≡ false
-        → (is_sparse usage.now (passage.turn.branch.twigs / 1024) ≡ true) ⊎ (is_mutable usage.now (passage.turn.branch.twigs + passage.turn.index) ≡ false)) }
+        → (is_sparse usage.now (passage.descent.branch.twigs / 1024) ≡ true) ⊎ (is_mutable usage.now (passage.descent.branch.twigs + passage.descent.index) ≡ false)) }
 {
-    let turn = turn_on(node, path)?;
-    let stays = usage.is_mutable(turn.branch.twigs + turn.index);
+    let descent = descent_on(node, path)?;
     match deed {
-        Deed::Open(end) if turn.branch.offset < end => Some(Passage { turn, stays }),
-        Deed::Open(_) => None,
+        Deed::Copy(end) => {
+            if descent.branch.offset < end {
+                let stays = usage.is_mutable(descent.branch.twigs + descent.index);
+                return Some(Passage { descent, stays });
+            }
+            None
+        }
         Deed::Empty(chunk) => {
-            if chunk_of(turn.branch.twigs) == chunk && is_chunk_sparse(usage, chunk) {
-                return Some(Passage { turn, stays: false });
+            if chunk_of(descent.branch.twigs) == chunk && is_chunk_sparse(usage, chunk) {
+                return Some(Passage {
+                    descent,
+                    stays: false,
+                });
             }
-            if stays {
-                Some(Passage { turn, stays })
-            } else {
-                None
+            if usage.is_mutable(descent.branch.twigs + descent.index) {
+                return Some(Passage {
+                    descent,
+                    stays: true,
+                });
             }
+            None
         }
     }
 }
@@ -76,15 +86,15 @@ fn pass<C: CellWrite>(
     at: Ref,
     passage: Passage,
 ) -> Result<Ref, Full>
-    requires hung { IsHung C.has cells.old usage.old at (branch_node passage.turn.branch) }
-    requires index { passage.turn.index < count_ones passage.turn.branch.bitmap }
-    requires stays { passage.stays ≡ true → is_mutable usage.old (passage.turn.branch.twigs + passage.turn.index) ≡ true }
+    requires hung { IsHung C.has cells.old usage.old at (branch_node passage.descent.branch) }
+    requires index { passage.descent.index < count_ones passage.descent.branch.bitmap }
+    requires stays { passage.stays ≡ true → is_mutable usage.old (passage.descent.branch.twigs + passage.descent.index) ≡ true }
     requires due { passage.stays ≡ false
-        → (is_sparse usage.old (passage.turn.branch.twigs / 1024) ≡ true) ⊎ (is_mutable usage.old (passage.turn.branch.twigs + passage.turn.index) ≡ false) }
+        → (is_sparse usage.old (passage.descent.branch.twigs / 1024) ≡ true) ⊎ (is_mutable usage.old (passage.descent.branch.twigs + passage.descent.index) ≡ false) }
     requires writable { IsWritable C.given reserve_account_of cells.old usage.old at }
     requires ready { Ready C.kept C.given reserve_account_of cells.old usage.old }
-    ensures hung { IfOk result (λ twig. (r : ℕ) (es : List Entry) (way : List Fork) (t : Tree) → Hung C.has cells.old usage.old r at es way t → branch_node passage.turn.branch ≡ node_of t
-        → TwigsAt C.has cells.new usage.new r at es way t passage.turn.index twig) }
+    ensures hung { IfOk result (λ twig. (r : ℕ) (es : List Entry) (way : List Fork) (t : Tree) → Hung C.has cells.old usage.old r at es way t → branch_node passage.descent.branch ≡ node_of t
+        → TwigsAt C.has cells.new usage.new r at es way t passage.descent.index twig) }
     ensures writable { IfOk result (λ twig. IsWritable C.given reserve_account_of cells.new usage.new twig) }
     ensures moves { IfOk result (λ _. (given : List Bool) → Fills given usage.old → Moves given 0 usage.old usage.new) }
     ensures full { IfErr result (λ _. IsFull usage.new) }
@@ -94,22 +104,34 @@ fn pass<C: CellWrite>(
     ensures ready { Ready C.kept C.given reserve_account_of cells.new usage.new }
 {
     usage.known(); // for the proof
-    let turn = passage.turn;
+    let descent = passage.descent;
     if passage.stays {
-        return Ok(turn.branch.twigs + turn.index);
+        return Ok(descent.branch.twigs + descent.index);
     }
-    let to = move_node(cells, usage, at, Node::Branch(turn.branch))?;
-    Ok(to + turn.index)
+    let to = move_node(cells, usage, at, Node::Branch(descent.branch))?;
+    Ok(to + descent.index)
+}
+
+/// Notes the path of an item that may fill several chunks before it is moved, so that these list it.
+fn note_long(usage: &mut Usage, leaf: Leaf, path: Path)
+    ensures { usage.new ≡ usage.old }
+{
+    if leaf.len as usize > LAST_OCTETS {
+        usage.note(path);
+    }
 }
 
 /// At the end of the way, where the cell at a place says a node: moves what of a leaf's item lies in sparse chunks, if that is the deed.
+/// Tells whether anything was moved, on the way or here.
 fn end_along<C: CellWrite>(
     cells: &mut C,
     usage: &mut Usage,
     at: Ref,
     node: Node,
+    path: Path,
     deed: Deed,
-) -> Result<(), Full>
+    moved: bool,
+) -> Result<bool, Full>
     requires hung { IsHung C.has cells.old usage.old at node }
     requires writable { IsWritable C.given reserve_account_of cells.old usage.old at }
     requires ready { Ready C.kept C.given reserve_account_of cells.old usage.old }
@@ -120,25 +142,28 @@ fn end_along<C: CellWrite>(
     ensures ready { Ready C.kept C.given reserve_account_of cells.new usage.new }
 {
     let Node::Leaf(leaf) = node else {
-        return Ok(());
+        return Ok(moved);
     };
-    if matches!(deed, Deed::Open(_)) {
-        return Ok(());
+    if matches!(deed, Deed::Copy(_)) {
+        return Ok(moved);
     }
     if is_item_sparse(cells, usage, leaf.at, leaf.len) {
-        return move_item(cells, usage, at, leaf);
+        note_long(usage, leaf, path);
+        move_item(cells, usage, at, leaf)?;
+        return Ok(true);
     }
-    Ok(())
+    Ok(moved)
 }
 
-/// Goes down from a root along a path, and does the deed. Where there is no room for that, what was moved before stays so.
+/// Goes down from a root along a path, and does the deed. Tells whether anything was moved. Where there is no room for that, what was moved
+/// before stays so.
 pub fn go_along<C: CellWrite>(
     cells: &mut C,
     usage: &mut Usage,
     root: Ref,
     path: Path,
     deed: Deed,
-) -> Result<(), Full>
+) -> Result<bool, Full>
     requires stood { IsStood C.has cells.old usage.old root }
     requires writable { IsWritable C.given reserve_account_of cells.old usage.old root }
     requires ready { Ready C.kept C.given reserve_account_of cells.old usage.old }
@@ -149,10 +174,12 @@ pub fn go_along<C: CellWrite>(
     let mut on = path;
     let mut at = root;
     let mut node = Node::of(cells.cell(root));
+    let mut moved = false;
     while let Some(passage) = passage_at(usage, node, on, deed) {
         at = pass(cells, usage, at, passage)?;
+        moved = moved || !passage.stays;
         on = on.rest();
         node = Node::of(cells.cell(at));
     }
-    end_along(cells, usage, at, node, deed)
+    end_along(cells, usage, at, node, path, deed, moved)
 }

@@ -11,7 +11,7 @@ ghost use Rattle.evacuate.specs.Rearranging.{Rearranged};
 ghost use Rattle.evacuate.specs.Trails.{Found};
 
 use super::descent::{move_found, reach};
-use super::path_walk::{NO_OFFSET, turn_on};
+use super::path_walk::{NO_OFFSET, descent_on};
 use super::sparse::{is_chunk_sparse, is_item_sparse};
 use super::trail::Trail;
 use chunk_cells::{CellRead, CellWrite};
@@ -36,10 +36,10 @@ struct Onward {
 fn twigs_on(branch: Branch, path: Path) -> Onward
     ensures { result.end ≤ count_ones branch.bitmap }
 {
-    match turn_on(Node::Branch(branch), path) {
-        Some(turn) => Onward {
-            first: turn.index,
-            end: turn.index + 1,
+    match descent_on(Node::Branch(branch), path) {
+        Some(descent) => Onward {
+            first: descent.index,
+            end: descent.index + 1,
             path: path.rest(),
         },
         None => Onward {

@@ -19,9 +19,54 @@ use packed_node::Ref;
 #[derive(Clone, Copy, PartialEq, Eq)]
 enum Step {
     /// The twigs above what lies in a sparse chunk are made mutable. They change often, so they are to lie together.
-    Open,
+    Copy,
     /// What lies in sparse chunks is moved.
     Move,
+}
+
+/// Does a deed along a path that doesn't fork. The bump chunk lists the path if anything was moved to it, which is told.
+fn note_along<C: CellWrite>(
+    cells: &mut C,
+    usage: &mut Usage,
+    root: Ref,
+    path: Path,
+    deed: Deed,
+) -> Result<bool, Full>
+    requires stood { IsStood C.has cells.old usage.old root }
+    requires writable { IsWritable C.given reserve_account_of cells.old usage.old root }
+    requires ready { Ready C.kept C.given reserve_account_of cells.old usage.old }
+    ensures rearranged { Rearranged C.has C.kept C.given root cells.old usage.old cells.new usage.new }
+    ensures full { IfErr result (λ _. IsFull usage.new) }
+    ensures ready { Ready C.kept C.given reserve_account_of cells.new usage.new }
+{
+    let moved = go_along(cells, usage, root, path, deed)?;
+    if moved {
+        usage.note(path);
+    }
+    Ok(moved)
+}
+
+/// Moves what lies in a sparse chunk along a path that doesn't fork and is listed by what the bump chunk was when so many chunks were free.
+fn move_noted<C: CellWrite>(
+    cells: &mut C,
+    usage: &mut Usage,
+    root: Ref,
+    chunk: u32,
+    path: Path,
+    free: u32,
+) -> Result<(), Full>
+    requires stood { IsStood C.has cells.old usage.old root }
+    requires writable { IsWritable C.given reserve_account_of cells.old usage.old root }
+    requires ready { Ready C.kept C.given reserve_account_of cells.old usage.old }
+    ensures rearranged { Rearranged C.has C.kept C.given root cells.old usage.old cells.new usage.new }
+    ensures full { IfErr result (λ _. IsFull usage.new) }
+    ensures ready { Ready C.kept C.given reserve_account_of cells.new usage.new }
+{
+    let moved = go_along(cells, usage, root, path, Deed::Empty(chunk))?;
+    if moved && usage.free() != free {
+        usage.note(path);
+    }
+    Ok(())
 }
 
 /// Makes the twigs mutable that are above the last on a path that lies in a chunk. Tells what there is on the path.
@@ -42,43 +87,15 @@ fn open_along<C: CellWrite>(
     let top = cells.cell(root);
     match last_along(cells, chunk, top, path) {
         Last::None => Ok(Mark::None),
-        Last::At(offset) => {
-            usage.note(path);
-            go_along(cells, usage, root, path, Deed::Open(offset))?;
-            Ok(Mark::Straight)
+        Last::Below(offset) => {
+            let noted = note_along(cells, usage, root, path, Deed::Copy(offset))?;
+            Ok(if noted { Mark::Noted } else { Mark::Straight })
         }
         Last::Forks => {
             let found = open_forked(cells, usage, root, path)?;
             Ok(if found { Mark::Forked } else { Mark::None })
         }
     }
-}
-
-/// Moves what lies in a sparse chunk along a path that doesn't fork. The bump chunk lists the path already where so many chunks are free.
-fn move_along<C: CellWrite>(
-    cells: &mut C,
-    usage: &mut Usage,
-    root: Ref,
-    chunk: u32,
-    path: Path,
-    free: u32,
-) -> Result<(), Full>
-    requires stood { IsStood C.has cells.old usage.old root }
-    requires writable { IsWritable C.given reserve_account_of cells.old usage.old root }
-    requires ready { Ready C.kept C.given reserve_account_of cells.old usage.old }
-    ensures rearranged { Rearranged C.has C.kept C.given root cells.old usage.old cells.new usage.new }
-    ensures full { IfErr result (λ _. IsFull usage.new) }
-    ensures ready { Ready C.kept C.given reserve_account_of cells.new usage.new }
-{
-    if usage.free() != free {
-        usage.note(path);
-        return go_along(cells, usage, root, path, Deed::Empty(chunk));
-    }
-    go_along(cells, usage, root, path, Deed::Empty(chunk))?;
-    if usage.free() != free {
-        usage.note(path);
-    }
-    Ok(())
 }
 
 /// Does a step along a listed path. Nothing is moved along one on which nothing was found.
@@ -97,7 +114,7 @@ fn step_along<C: CellWrite>(
     ensures full { IfErr result (λ _. IsFull usage.new) }
     ensures ready { Ready C.kept C.given reserve_account_of cells.new usage.new }
 {
-    if step == Step::Open {
+    if step == Step::Copy {
         let path = usage.path(listing.chunk, listing.place);
         let mark = open_along(cells, usage, root, listing.chunk, path)?;
         marks.put(listing, mark);
@@ -107,7 +124,12 @@ fn step_along<C: CellWrite>(
         Mark::None => Ok(()),
         Mark::Straight => {
             let path = usage.path(listing.chunk, listing.place);
-            move_along(cells, usage, root, listing.chunk, path, marks.free)
+            note_along(cells, usage, root, path, Deed::Empty(listing.chunk))?;
+            Ok(())
+        }
+        Mark::Noted => {
+            let path = usage.path(listing.chunk, listing.place);
+            move_noted(cells, usage, root, listing.chunk, path, marks.free)
         }
         Mark::Forked => {
             let path = usage.path(listing.chunk, listing.place);
@@ -176,6 +198,6 @@ pub fn move_listed<C: CellWrite>(cells: &mut C, usage: &mut Usage, root: Ref) ->
     ensures ready { Ready C.kept C.given reserve_account_of cells.new usage.new }
 {
     let mut marks = Marks::new(usage.free());
-    step_in_all(cells, usage, root, Step::Open, &mut marks)?;
+    step_in_all(cells, usage, root, Step::Copy, &mut marks)?;
     step_in_all(cells, usage, root, Step::Move, &mut marks)
 }

@@ -17,6 +17,8 @@ pub enum Mark {
     None,
     /// Something, and the path doesn't fork.
     Straight,
+    /// The same, and the bump chunk of then lists the path already.
+    Noted,
     /// Something below where it forks, or above.
     Forked,
 }
@@ -25,8 +27,9 @@ pub enum Mark {
 #[derive(Clone, Copy)]
 pub struct Marks {
     straight: [u64; WORDS],
+    noted: [u64; WORDS],
     forked: [u64; WORDS],
-    /// How many chunks were free before the first was marked. As long as it is so many, one bump chunk has been written, and lists them all.
+    /// How many chunks were free before the first was marked. As long as it is so many, the bump chunk is the same.
     pub free: u32,
 }
 
@@ -35,6 +38,7 @@ impl Marks {
     pub fn new(free: u32) -> Marks {
         Marks {
             straight: [0; WORDS],
+            noted: [0; WORDS],
             forked: [0; WORDS],
             free,
         }
@@ -45,6 +49,7 @@ impl Marks {
         match mark {
             Mark::None => {}
             Mark::Straight => put(&mut self.straight, bit_of(listing)),
+            Mark::Noted => put(&mut self.noted, bit_of(listing)),
             Mark::Forked => put(&mut self.forked, bit_of(listing)),
         }
     }
@@ -57,6 +62,9 @@ impl Marks {
         }
         if has(&self.straight, bit) {
             return Mark::Straight;
+        }
+        if has(&self.noted, bit) {
+            return Mark::Noted;
         }
         Mark::None
     }

@@ -16,16 +16,16 @@ pub const NO_OFFSET: u16 = 504;
 
 /// A branch on a way, and which of its twigs the way takes.
 #[derive(Clone, Copy)]
-pub struct Turn {
+pub struct Descent {
     pub branch: Branch,
     pub index: u32,
 }
 
 /// The branch at a node, where a path says one of its twigs. Else it forks there: it says nothing any more, or there is no such twig.
 #[inline]
-pub fn turn_on(node: Node, path: Path) -> Option<Turn>
-    ensures branch { IfSome result (λ turn. node ≡ branch_node turn.branch) }
-    ensures index { IfSome result (λ turn. turn.index < count_ones turn.branch.bitmap) }
+pub fn descent_on(node: Node, path: Path) -> Option<Descent>
+    ensures branch { IfSome result (λ descent. node ≡ branch_node descent.branch) }
+    ensures index { IfSome result (λ descent. descent.index < count_ones descent.branch.bitmap) }
 {
     let Node::Branch(branch) = node else {
         return None;
@@ -35,18 +35,29 @@ pub fn turn_on(node: Node, path: Path) -> Option<Turn>
         return None;
     }
     let index = branch.twig_index(position);
-    Some(Turn { branch, index })
+    Some(Descent { branch, index })
 }
 
-/// The last on a path that lies in a chunk.
+/// What there is on a path that lies in a chunk.
 #[derive(Clone, Copy)]
 pub enum Last {
     /// There is nothing.
     None,
-    /// The twigs of the branch at this offset, or where no branch has it the leaf's item.
-    At(u16),
+    /// There is something, and the twigs of branches before this offset are to be made mutable first.
+    Below(u16),
     /// The path forks.
     Forks,
+}
+
+/// More twigs than these change so often that they are to lie with those above them.
+const FEW_TWIGS: u32 = 12;
+
+/// Twigs of a branch are the last on a path that lies in a chunk. All above them is made mutable first, and they are too where they are many.
+fn last_at(branch: Branch) -> Last {
+    if branch.twig_count() > FEW_TWIGS {
+        return Last::Below(branch.offset.saturating_add(1));
+    }
+    Last::Below(branch.offset)
 }
 
 /// Whether some extent of an item lies in a chunk. It begins here, and has so many octets.
@@ -72,18 +83,18 @@ pub fn last_along<C: CellRead>(cells: &mut C, chunk: u32, top: Cell, path: Path)
     let mut last = Last::None;
     let mut on = path;
     let mut node = Node::of(top);
-    while let Some(turn) = turn_on(node, on) {
-        if chunk_of(turn.branch.twigs) == chunk {
-            last = Last::At(turn.branch.offset);
+    while let Some(descent) = descent_on(node, on) {
+        if chunk_of(descent.branch.twigs) == chunk {
+            last = last_at(descent.branch);
         }
         on = on.rest();
-        node = Node::of(cells.cell(turn.branch.twigs + turn.index));
+        node = Node::of(cells.cell(descent.branch.twigs + descent.index));
     }
     match node {
         Node::Branch(_) => Last::Forks,
         Node::Leaf(leaf) => {
             if is_item_in(cells, chunk, leaf.at, leaf.len) {
-                return Last::At(NO_OFFSET);
+                return Last::Below(NO_OFFSET);
             }
             last
         }

@@ -22,7 +22,7 @@ use Rattle.trie_model.proofs.SizeLaws.{twig_sizes, twig_sizes-beside, size_is, s
 use Rattle.trie_model.proofs.ExtentLaws.{laid, short_row}
 use Rattle.trie_model.proofs.TopLaws.{is_node}
 use Rattle.chunk_usage.specs.Rooms.{Account, Handed}
-use Rattle.trie_write.specs.declared.points.BranchPoint.{BranchPoint}
+use Rattle.trie_write.specs.declared.branch_points.BranchPoint.{BranchPoint}
 use Rattle.trie_write.specs.Weights.{at_place, mark}
 use Rattle.trie_write.specs.Points.{Before, Front}
 use Rattle.trie_write.specs.Builds.{Built, BuiltFront, Stopped}

@@ -12,7 +12,7 @@ use Rattle.trie_model.proofs.NameLaws.{name_key}
 use Rattle.trie_model.proofs.OutlineLaws.{EachIsEntry, Outline, outline_of, place_short}
 use Rattle.trie_read.specs.Reads.{EachTells}
 use Rattle.trie_write.specs.declared.item.Item.{Item}
-use Rattle.trie_write.specs.declared.points.BranchPoint.{BranchPoint}
+use Rattle.trie_write.specs.declared.branch_points.BranchPoint.{BranchPoint}
 use Rattle.trie_write.specs.Entries.{entry_of, entries_of_items}
 use Rattle.trie_write.specs.Points.{IsPoint, Ahead}
 use Rattle.shift_key.specs.declared.names.Parting.{Parting}

@@ -11,7 +11,7 @@ pub mod PlaceLemmas
 pub mod TopLaws
 pub mod WayLaws
 pub mod CopyLaws
-pub mod TurnLaws
+pub mod DescentLaws
 pub mod PutLaws
 pub mod PathLaws
 pub mod AskLaws
@@ -21,3 +21,5 @@ pub mod WithLaws
 pub mod WithoutLaws
 pub mod RemoveLaws
 pub mod SpaceLaws
+pub mod MostLaws
+pub mod CopyCellLaws

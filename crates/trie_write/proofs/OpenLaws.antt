@@ -13,7 +13,7 @@ use Rattle.trie_model.proofs.GrowthLaws.{some_entry}
 use Rattle.trie_model.proofs.SizeLaws.{twig_sizes, size_is, size_branch, twig_sizes-beside}
 use Rattle.trie_model.proofs.ExtentLaws.{short_row}
 use Rattle.trie_model.specs.Extents.{Extents}
-use Rattle.trie_write.specs.declared.points.BranchPoint.{BranchPoint}
+use Rattle.trie_write.specs.declared.branch_points.BranchPoint.{BranchPoint}
 use Rattle.trie_write.specs.declared.item.Item.{Item}
 use Rattle.trie_write.specs.Entries.{entries_of_items}
 use Rattle.trie_write.specs.Points.{IsPoint, Ahead, Before, Front}

@@ -19,14 +19,14 @@ use Rattle.trie_model.proofs.KeyLaws.{in_left, in_right, in_both}
 use Rattle.trie_model.proofs.ReachLaws.{live_is}
 use Rattle.chunk_usage.specs.Rooms.{Account}
 use Rattle.trie_write.specs.declared.change.Change.{Change}
-use Rattle.trie_write.specs.declared.turn.Turn.{Turn}
+use Rattle.trie_write.specs.declared.descend.Descent.{Descent}
 use Rattle.trie_write.specs.Asks.{HasKey}
-use Rattle.trie_write.specs.Deletions.{Deleted, LeafTurn, IsWithout, DropAsks}
+use Rattle.trie_write.specs.Deletions.{Deleted, LeafDescent, IsWithout, DropAsks}
 use Rattle.trie_write.specs.Mutable.{Rooted}
 use Rattle.trie_write.specs.Paths.{twigs_on_path, branches_on_path}
 use Rattle.trie_write.specs.Puts.{item_span, IsPut, no_spare}
 use Rattle.trie_write.specs.Standing.{StandsIn}
-use Rattle.trie_write.specs.Turns.{IsLastTurn}
+use Rattle.trie_write.specs.Descents.{IsLastDescent}
 use Rattle.trie_write.specs.Tops.{NotBefore}
 use Rattle.trie_write.specs.Ways.{Fork, fork, plug, Along, IsWay, twigs_of, twigs_along}
 use Rattle.trie_write.proofs.ChangeLaws.{stands_rooted, entries_before, put_stands}
@@ -46,7 +46,7 @@ along_before place low key (g ∷ way) f x h a =
     let deep = (is_fork (low_at (suc g.offset) way) f x (end_tree (suc g.offset) way (fork f x) k.tree)).late in
     (omega arith, a.1, along_before place (suc g.offset) key way f x k.tree a.2)
 
-module _ {S A : Type 0} {has : S → ℕ → Cell → Type 0} {account : A → Account} {s : S} {a : A} {r : ℕ} {key : List ℕ} {turn : Turn} {t : Tree} {version : List Entry} (d : DropAsks has account s a r key turn t version) where
+module _ {S A : Type 0} {has : S → ℕ → Cell → Type 0} {account : A → Account} {s : S} {a : A} {r : ℕ} {key : List ℕ} {descent : Descent} {t : Tree} {version : List Entry} (d : DropAsks has account s a r key descent t version) where
   abbrev pub key_leaf : Tree
   key_leaf = leaf d.there.entry d.there.first
 
@@ -63,40 +63,40 @@ module _ {S A : Type 0} {has : S → ℕ → Cell → Type 0} {account : A → A
   lower_tree = higher (low_at 0 d.last.upper) 0 (plug d.last.lower key_leaf) (end_tree 0 d.last.upper (plug d.last.lower key_leaf) parts_tree) (omega arith)
 
   -- its branch hangs there
-  pub leaf_turn : LeafTurn has account s a key turn d.last.lower d.there.entry d.there.first
-  leaf_turn = record {
+  pub leaf_descent : LeafDescent has account s a key descent d.last.lower d.there.entry d.there.first
+  leaf_descent = record {
     asks = record {
       hangs = end_hangs d.last.upper (plug d.last.lower key_leaf) (subst (Rooted has account s a no_spare r) parts_is (stands_rooted has account s a d.there.stands)) lower_tree;
       is_way = record { along = parts_along.1; ends = d.there.is_way.ends };
     };
-    turn = d.last.turn;
+    descent = d.last.descent;
     alone = d.last.alone;
   }
 
-  pub upper_way : IsWay turn.branch.offset key d.last.upper (plug d.last.lower key_leaf)
+  pub upper_way : IsWay descent.branch.offset key d.last.upper (plug d.last.lower key_leaf)
   upper_way = record {
-    along = along_before 65535 0 key d.last.upper _ key_leaf (subst (λ z. IsTree 0 (plug d.last.upper z)) (last_is leaf_turn) parts_tree) parts_along.0;
-    ends = subst (NotBefore turn.branch.offset) (sym (last_is leaf_turn)) (omega arith);
+    along = along_before 65535 0 key d.last.upper _ key_leaf (subst (λ z. IsTree 0 (plug d.last.upper z)) (last_is leaf_descent) parts_tree) parts_along.0;
+    ends = subst (NotBefore descent.branch.offset) (sym (last_is leaf_descent)) (omega arith);
   }
 
   -- the path has the twigs of both parts
-  pub path_parts : twigs_on_path key t ≡ twigs_along d.last.upper + count_ones turn.branch.bitmap
+  pub path_parts : twigs_on_path key t ≡ twigs_along d.last.upper + count_ones descent.branch.bitmap
   path_parts =
       let u = path_plug 65535 0 key d.last.upper (plug d.last.lower key_leaf) parts_tree parts_along.0 in
       let l = path_plug 65535 0 key d.last.lower key_leaf lower_tree parts_along.1 in
-      let n = last_along leaf_turn in
+      let n = last_along leaf_descent in
       let p = ap (twigs_on_path key) parts_is in omega arith
 
   pub parts_branches : branches_on_path key t ≡ map twigs_of d.last.upper ++ branches_on_path key (plug d.last.lower key_leaf)
   parts_branches = on_way 65535 key t d.last.upper (plug d.last.lower key_leaf) d.there.stands.trie.shape parts_is parts_along.0
 
   -- the leaf's branch is among the lower ones
-  pub last_branch : Contains (branches_on_path key (plug d.last.lower key_leaf)) (count_ones turn.branch.bitmap)
+  pub last_branch : Contains (branches_on_path key (plug d.last.lower key_leaf)) (count_ones descent.branch.bitmap)
   last_branch =
-      subst (λ (ns : List ℕ). Contains ns (count_ones turn.branch.bitmap)) (sym (branches_plug 65535 0 key d.last.lower key_leaf lower_tree parts_along.1))
-      (Contains-append_left (map twigs_of d.last.lower) (branches_on_path key key_leaf) (count_ones turn.branch.bitmap) (here_asked leaf_turn.asks leaf_turn.turn.through (count_ones turn.branch.bitmap) refl))
+      subst (λ (ns : List ℕ). Contains ns (count_ones descent.branch.bitmap)) (sym (branches_plug 65535 0 key d.last.lower key_leaf lower_tree parts_along.1))
+      (Contains-append_left (map twigs_of d.last.lower) (branches_on_path key key_leaf) (count_ones descent.branch.bitmap) (here_asked leaf_descent.asks leaf_descent.descent.through (count_ones descent.branch.bitmap) refl))
 
-  pub removed : {s1 s2 : S} {a2 : A} {c : Change} {root : ℕ} (w : IsWithout has s1 c d.there.entry (plug d.last.lower key_leaf)) → IsPut has account s2 a2 turn.branch.offset key d.last.upper (plug d.last.lower key_leaf) w.new root →
+  pub removed : {s1 s2 : S} {a2 : A} {c : Change} {root : ℕ} (w : IsWithout has s1 c d.there.entry (plug d.last.lower key_leaf)) → IsPut has account s2 a2 descent.branch.offset key d.last.upper (plug d.last.lower key_leaf) w.new root →
       (next : List Entry) × Deleted key version next × ((u : Tree) × StandsIn (has s2) (account a2).used (account a2).live root u next)
   removed w p =
       let x = w.shrunk (low_at 0 p.copy) (end_tree 0 p.copy (plug d.last.lower key_leaf) p.tree) in (
@@ -120,9 +120,9 @@ module _ {S A : Type 0} {has : S → ℕ → Cell → Type 0} {account : A → A
       follows : {n : ℕ} {es fs : List Entry} → Removed d.there.entry es fs → Follows n es fs
       follows {n} {es} {fs} q x i = (x, subst (InList x) (sym q.old_is) (elim (in_both x q.before q.after (subst (InList x) q.new_is i)) [ inl l ↦ in_left x q.before (d.there.entry ∷ q.after) l | inr r ↦ in_right x q.before (d.there.entry ∷ q.after) (inr r) ]), λ j k. refl)
 
--- the turn that was found
-pub drop_asks : {S A : Type 0} {has : S → ℕ → Cell → Type 0} {account : A → Account} {s s1 : S} {a : A} {r : ℕ} {key : List ℕ} {turn : Turn} {t : Tree} {version : List Entry} → s1 ≡ s → (h : HasKey has account s a r key t version) → IsLastTurn turn h.way (leaf h.entry h.first) → DropAsks has account s1 a r key turn t version
-drop_asks {has = has} {account} {a = a} {r} {key} {turn} {t} {version} same h last = subst (λ s. DropAsks has account s a r key turn t version) (sym same) (record { there = h; last = last })
+-- the descent that was found
+pub drop_asks : {S A : Type 0} {has : S → ℕ → Cell → Type 0} {account : A → Account} {s s1 : S} {a : A} {r : ℕ} {key : List ℕ} {descent : Descent} {t : Tree} {version : List Entry} → s1 ≡ s → (h : HasKey has account s a r key t version) → IsLastDescent descent h.way (leaf h.entry h.first) → DropAsks has account s1 a r key descent t version
+drop_asks {has = has} {account} {a = a} {r} {key} {descent} {t} {version} same h last = subst (λ s. DropAsks has account s a r key descent t version) (sym same) (record { there = h; last = last })
 
 -- ---- the only name
 

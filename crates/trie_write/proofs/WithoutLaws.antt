@@ -23,8 +23,8 @@ use Rattle.chunk_usage.specs.Rooms.{Account, Handed}
 use Rattle.trie_read.specs.Reads.{IsTop}
 use Rattle.trie_write.specs.declared.change.Change.{Change}
 use Rattle.trie_write.specs.declared.change.Span.{Span}
-use Rattle.trie_write.specs.declared.turn.Turn.{Turn}
-use Rattle.trie_write.specs.Deletions.{LeafTurn, IsWithout}
+use Rattle.trie_write.specs.declared.descend.Descent.{Descent}
+use Rattle.trie_write.specs.Deletions.{LeafDescent, IsWithout}
 use Rattle.trie_write.specs.Laid.{IsItemAt, IsNoItem}
 use Rattle.trie_write.specs.Puts.{span, AreSpans, IsTaken}
 use Rattle.trie_write.specs.Spaces.{Frame}
@@ -32,7 +32,7 @@ use Rattle.trie_write.specs.Ways.{Fork, fork, plug, twig_at, twigs_of, twigs_alo
 use Rattle.trie_write.specs.Weights.{at_place}
 use Rattle.trie_write.proofs.CopyLaws.{n_here}
 use Rattle.trie_write.proofs.LaidLaws.{item_span_is, item_are, none_are}
-use Rattle.trie_write.proofs.TurnLaws.{at_key}
+use Rattle.trie_write.proofs.DescentLaws.{at_key}
 use Rattle.trie_write.proofs.WayLaws.{IsFork, is_fork, fork_count, sides_of, twig_of}
 use Rattle.trie_write.proofs.WeightLaws.{handed_fresh}
 
@@ -68,12 +68,12 @@ one_left {has} f e first i made k h two is read = go f.left f.right k h two is r
     go (twig q u none) (twig r v more) k h two is read = absurd (omega arith)
     go (twig q u (twig r v more)) rest k h two is read = absurd (omega arith)
 
-module _ {S A : Type 0} {has : S → ℕ → Cell → Type 0} {account : A → Account} {s : S} {a : A} {key : List ℕ} {t : Turn} {lower : List Fork} {e : Entry} {first : Extents} (x : LeafTurn has account s a key t lower e first) where
+module _ {S A : Type 0} {has : S → ℕ → Cell → Type 0} {account : A → Account} {s : S} {a : A} {key : List ℕ} {t : Descent} {lower : List Fork} {e : Entry} {first : Extents} (x : LeafDescent has account s a key t lower e first) where
   abbrev pub last_fork : Fork
-  last_fork = record { offset = t.branch.offset; first = t.branch.twigs; left = x.turn.through.left; position = x.turn.through.position; right = x.turn.through.right }
+  last_fork = record { offset = t.branch.offset; first = t.branch.twigs; left = x.descent.through.left; position = x.descent.through.position; right = x.descent.through.right }
 
   pub last_is : plug lower (leaf e first) ≡ fork last_fork (leaf e first)
-  last_is = ap (λ w. plug w (leaf e first)) (x.turn.through.is ∙ ap (λ r. last_fork ∷ r) x.alone)
+  last_is = ap (λ w. plug w (leaf e first)) (x.descent.through.is ∙ ap (λ r. last_fork ∷ r) x.alone)
 
   pub last_tree : IsTree 0 (fork last_fork (leaf e first))
   last_tree = subst (IsTree 0) last_is x.asks.hangs.top.tree
@@ -82,10 +82,10 @@ module _ {S A : Type 0} {has : S → ℕ → Cell → Type 0} {account : A → A
   last_known = is_fork 0 last_fork (leaf e first) last_tree
 
   pub last_n : count_ones t.branch.bitmap ≡ twigs_of last_fork
-  last_n = n_here x.asks x.turn.through
+  last_n = n_here x.asks x.descent.through
 
   pub last_along : twigs_along lower ≡ count_ones t.branch.bitmap
-  last_along = let e = ap twigs_along (x.turn.through.is ∙ ap (λ r. last_fork ∷ r) x.alone) in let n = last_n in omega arith
+  last_along = let e = ap twigs_along (x.descent.through.is ∙ ap (λ r. last_fork ∷ r) x.alone) in let n = last_n in omega arith
 
   pub leaf_alone : IsTree 0 (leaf e first)
   leaf_alone = last_known.tree
@@ -93,20 +93,20 @@ module _ {S A : Type 0} {has : S → ℕ → Cell → Type 0} {account : A → A
   last_beneath : Beneath (has s) (fork last_fork (leaf e first))
   last_beneath = subst (Beneath (has s)) last_is x.asks.hangs.top.beneath
 
-  last_within : Within (account a).used t.branch.twigs (beside x.turn.through.left (twig x.turn.through.position (leaf e first) x.turn.through.right))
+  last_within : Within (account a).used t.branch.twigs (beside x.descent.through.left (twig x.descent.through.position (leaf e first) x.descent.through.right))
   last_within = subst (λ z. WithinTree (account a).used z) last_is x.asks.hangs.within
 
-  last_bits : t.branch.bitmap ≡ bitmap_of (beside x.turn.through.left (twig x.turn.through.position (leaf e first) x.turn.through.right))
-  last_bits = x.turn.through.bits ∙ bitmap_of-beside x.turn.through.left (twig x.turn.through.position (plug x.turn.through.rest (leaf e first)) x.turn.through.right) ∙ sym (bitmap_of-beside x.turn.through.left (twig x.turn.through.position (leaf e first) x.turn.through.right))
+  last_bits : t.branch.bitmap ≡ bitmap_of (beside x.descent.through.left (twig x.descent.through.position (leaf e first) x.descent.through.right))
+  last_bits = x.descent.through.bits ∙ bitmap_of-beside x.descent.through.left (twig x.descent.through.position (plug x.descent.through.rest (leaf e first)) x.descent.through.right) ∙ sym (bitmap_of-beside x.descent.through.left (twig x.descent.through.position (leaf e first) x.descent.through.right))
 
-  pub key_position : at key t.branch.offset ≡ x.turn.through.position
-  key_position = at_key x.asks.hangs.top x.asks.is_way x.turn.through
+  pub key_position : at key t.branch.offset ≡ x.descent.through.position
+  key_position = at_key x.asks.hangs.top x.asks.is_way x.descent.through
 
   pub key_bit : bit_at t.branch.bitmap (at key t.branch.offset) ≡ 1
-  key_bit = ap (λ (b : ℕ). bit_at b (at key t.branch.offset)) last_bits ∙ ap (λ (p : ℕ). bit_at (bitmap_of (beside x.turn.through.left (twig x.turn.through.position (leaf e first) x.turn.through.right))) p) key_position ∙ (found_here t.branch.offset 0 last_fork (leaf e first) last_known).bit
+  key_bit = ap (λ (b : ℕ). bit_at b (at key t.branch.offset)) last_bits ∙ ap (λ (p : ℕ). bit_at (bitmap_of (beside x.descent.through.left (twig x.descent.through.position (leaf e first) x.descent.through.right))) p) key_position ∙ (found_here t.branch.offset 0 last_fork (leaf e first) last_known).bit
 
   pub next_leaf : t.next ≡ top_cell (leaf e first)
-  next_leaf = x.turn.next_is ∙ ap (λ r. top_cell (plug r (leaf e first))) x.alone
+  next_leaf = x.descent.next_is ∙ ap (λ r. top_cell (plug r (leaf e first))) x.alone
 
   -- and the leaf's own top
   pub leaf_top : IsTop (has s) 0 t.next (leaf e first)
@@ -127,7 +127,7 @@ module _ {S A : Type 0} {has : S → ℕ → Cell → Type 0} {account : A → A
   pub collapsed : {c : Change} → count_ones t.branch.bitmap ≡ 2 → ((d : Cell) → has s (t.branch.twigs + (1 - t.index)) d → c.cell ≡ d) → c.new_twigs ≡ record { at = 0; n = 0 } → IsNoItem c.new_item → c.old_twigs ≡ record { at = t.branch.twigs; n = count_ones t.branch.bitmap } → IsItemAt c.old_item (length e.item) first →
       IsWithout has s c e (plug lower (leaf e first))
   collapsed {c} two read new_twigs new_item old_twigs old_item = subst (IsWithout has s c e) (sym last_is) (
-      let u = one_left {has = has s} last_fork e first t.index c.cell last_known last_beneath (sym last_n ∙ two) x.turn.index_is read in
+      let u = one_left {has = has s} last_fork e first t.index c.cell last_known last_beneath (sym last_n ∙ two) x.descent.index_is read in
       record {
         new = u.0;
         makes = record {
@@ -144,22 +144,22 @@ module _ {S A : Type 0} {has : S → ℕ → Cell → Type 0} {account : A → A
 
   module _ {kept : S → List ℕ} {given : S → List Bool} {s1 : S} {a1 : A} {to : ℕ} (bits : ℕ) (f : Frame has kept given account s a s1 a1) (handed : Handed (account a) (account a1) to (count_ones t.branch.bitmap - 1)) (three : 3 ≤ count_ones t.branch.bitmap) (bits_is : bits + 2 ^ at key t.branch.offset ≡ t.branch.bitmap) where
     abbrev others : Twigs
-    others = beside x.turn.through.left x.turn.through.right
+    others = beside x.descent.through.left x.descent.through.right
 
     others_count : count others ≡ count_ones t.branch.bitmap - 1
-    others_count = let c = count-beside x.turn.through.left x.turn.through.right in let n = last_n in omega arith
+    others_count = let c = count-beside x.descent.through.left x.descent.through.right in let n = last_n in omega arith
 
     others_bits : bits ≡ bitmap_of others
     others_bits =
-        let y = last_bits ∙ bitmap_of-beside x.turn.through.left (twig x.turn.through.position (leaf e first) x.turn.through.right) in
-        let z = bitmap_of-beside x.turn.through.left x.turn.through.right in
+        let y = last_bits ∙ bitmap_of-beside x.descent.through.left (twig x.descent.through.position (leaf e first) x.descent.through.right) in
+        let z = bitmap_of-beside x.descent.through.left x.descent.through.right in
         let p = ap (λ (q : ℕ). 2 ^ q) key_position in omega arith
 
     others_lie : IsRow to (count others)
     others_lie = subst (IsRow to) (sym others_count) handed.twigs
 
     others_shrunk : (low : ℕ) → IsTree low (fork last_fork (leaf e first)) → Shrunk e low (fork last_fork (leaf e first)) (branch t.branch.offset to others)
-    others_shrunk low tree = drop_twig low t.branch.offset t.branch.twigs to x.turn.through.position first e (beside x.turn.through.left (twig x.turn.through.position (leaf e first) x.turn.through.right)) (found_here t.branch.offset 0 last_fork (leaf e first) last_known) tree refl
+    others_shrunk low tree = drop_twig low t.branch.offset t.branch.twigs to x.descent.through.position first e (beside x.descent.through.left (twig x.descent.through.position (leaf e first) x.descent.through.right)) (found_here t.branch.offset 0 last_fork (leaf e first) last_known) tree refl
         (let n = last_n in let c = fork_count last_fork (leaf e first) in omega arith) others_lie
 
     pub fewer_branch : IsBranch (record { offset = t.branch.offset; bitmap = bits; twigs = to })
@@ -172,10 +172,10 @@ module _ {S A : Type 0} {has : S → ℕ → Cell → Type 0} {account : A → A
       new = branch t.branch.offset to others;
       makes = record {
         is = cell ∙ ap (λ (b : ℕ). branch_cell (record { offset = t.branch.offset; bitmap = b; twigs = to })) others_bits;
-        beneath = lie_join (has s1) to x.turn.through.left x.turn.through.right lefts rights;
+        beneath = lie_join (has s1) to x.descent.through.left x.descent.through.right lefts rights;
         weigh = λ w.
-            let z = weigh_is w to others in let y = under-beside w x.turn.through.left x.turn.through.right in
-            let o = weigh_is w t.branch.twigs (beside x.turn.through.left (twig x.turn.through.position (leaf e first) x.turn.through.right)) in let n = under-beside w x.turn.through.left (twig x.turn.through.position (leaf e first) x.turn.through.right) in
+            let z = weigh_is w to others in let y = under-beside w x.descent.through.left x.descent.through.right in
+            let o = weigh_is w t.branch.twigs (beside x.descent.through.left (twig x.descent.through.position (leaf e first) x.descent.through.right)) in let n = under-beside w x.descent.through.left (twig x.descent.through.position (leaf e first) x.descent.through.right) in
             let m = ap (row w t.branch.twigs) (fork_count last_fork (leaf e first) ∙ sym last_n) in let l = ap (row w to) others_count in
             let p = ap (λ y. span y w) new_twigs in let q = item_span_is new_item w in let r = ap (λ y. span y w) old_twigs in let v = item_span_is old_item w in omega arith;
         spans = spans_of new_twigs handed.twigs.together new_item old_twigs old_item;
@@ -183,14 +183,14 @@ module _ {S A : Type 0} {has : S → ℕ → Cell → Type 0} {account : A → A
       shrunk = others_shrunk;
     })
       where
-        lefts : Lie (has s1) to x.turn.through.left
-        lefts = lie_moved (account a).used (has s) (has s1) f.stays t.branch.twigs to x.turn.through.left (λ i d l h. before i d (let n = x.turn.index_is in omega arith) h) (within_left (account a).used t.branch.twigs x.turn.through.left (twig x.turn.through.position (leaf e first) x.turn.through.right) last_within) (sides_of (has s) last_fork (leaf e first) last_beneath).lefts
+        lefts : Lie (has s1) to x.descent.through.left
+        lefts = lie_moved (account a).used (has s) (has s1) f.stays t.branch.twigs to x.descent.through.left (λ i d l h. before i d (let n = x.descent.index_is in omega arith) h) (within_left (account a).used t.branch.twigs x.descent.through.left (twig x.descent.through.position (leaf e first) x.descent.through.right) last_within) (sides_of (has s) last_fork (leaf e first) last_beneath).lefts
 
-        rights : Lie (has s1) (to + count x.turn.through.left) x.turn.through.right
-        rights = lie_moved (account a).used (has s) (has s1) f.stays (suc (twig_at last_fork)) (to + count x.turn.through.left) x.turn.through.right
-            (λ i d l h. let y : suc (twig_at last_fork) + i ≡ t.branch.twigs + (t.index + 1 + i) = let n = x.turn.index_is in omega arith in let z : to + (t.index + 0 + i) ≡ to + count x.turn.through.left + i = let n = x.turn.index_is in omega arith in
-            subst (λ q. has s1 q d) z (after i d (let n = x.turn.index_is in let m = last_n in omega arith) (subst (λ q. has s q d) y h)))
-            (within_right (account a).used t.branch.twigs x.turn.through.left (twig x.turn.through.position (leaf e first) x.turn.through.right) last_within).2 (sides_of (has s) last_fork (leaf e first) last_beneath).rights
+        rights : Lie (has s1) (to + count x.descent.through.left) x.descent.through.right
+        rights = lie_moved (account a).used (has s) (has s1) f.stays (suc (twig_at last_fork)) (to + count x.descent.through.left) x.descent.through.right
+            (λ i d l h. let y : suc (twig_at last_fork) + i ≡ t.branch.twigs + (t.index + 1 + i) = let n = x.descent.index_is in omega arith in let z : to + (t.index + 0 + i) ≡ to + count x.descent.through.left + i = let n = x.descent.index_is in omega arith in
+            subst (λ q. has s1 q d) z (after i d (let n = x.descent.index_is in let m = last_n in omega arith) (subst (λ q. has s q d) y h)))
+            (within_right (account a).used t.branch.twigs x.descent.through.left (twig x.descent.through.position (leaf e first) x.descent.through.right) last_within).2 (sides_of (has s) last_fork (leaf e first) last_beneath).rights
 
 pub same_without : {S : Type 0} {has : S → ℕ → Cell → Type 0} {s s1 : S} {c : Change} {e : Entry} {old : Tree} → s1 ≡ s → IsWithout has s c e old → IsWithout has s1 c e old
 same_without {has = has} {c = c} {e} {old} same = subst (λ s. IsWithout has s c e old) (sym same)

@@ -7,7 +7,7 @@ use Rattle.trie_model.specs.Trees.{Tree, entries_of, IsTree}
 use Rattle.trie_model.specs.Memory.{Beneath, top_cell}
 use Rattle.trie_model.specs.Reach.{weigh_tree, in_chunk}
 use Rattle.chunk_usage.specs.Rooms.{Account}
-use Rattle.trie_write.specs.declared.points.BranchPoint.{BranchPoint}
+use Rattle.trie_write.specs.declared.branch_points.BranchPoint.{BranchPoint}
 use Rattle.trie_write.specs.Points.{Front}
 use Rattle.trie_write.specs.Weights.{at_place, mark}
 

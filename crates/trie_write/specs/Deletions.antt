@@ -8,12 +8,12 @@ use Rattle.trie_model.specs.Memory.{top_cell}
 use Rattle.trie_model.specs.Trees.{Tree, IsTree}
 use Rattle.trie_model.specs.Trees.Tree.{leaf}
 use Rattle.chunk_usage.specs.Rooms.{Account}
-use Rattle.trie_write.specs.declared.turn.Turn.{Turn}
+use Rattle.trie_write.specs.declared.descend.Descent.{Descent}
 use Rattle.trie_write.specs.declared.change.Change.{Change}
 use Rattle.trie_write.specs.Asks.{HasKey}
 use Rattle.trie_write.specs.Mutable.{WayAsks}
 use Rattle.trie_write.specs.Puts.{Makes}
-use Rattle.trie_write.specs.Turns.{IsTurn, IsLastTurn}
+use Rattle.trie_write.specs.Descents.{IsDescent, IsLastDescent}
 use Rattle.trie_write.specs.Ways.{Fork, plug}
 
 -- the list without the entry that has the key
@@ -22,17 +22,17 @@ pub record Deleted (key : List ℕ) (old new : List Entry) : Type 0 where
   pub removed : Removed gone old new
   pub same_key : gone.key ≡ key
 
--- The turn is the last one of a way to a leaf: its branch, from where the lower part of the way leads to the leaf.
-pub record LeafTurn {S A : Type 0} (has : S → ℕ → Cell → Type 0) (account : A → Account) (s : S) (a : A) (key : List ℕ) (t : Turn) (lower : List Fork) (e : Entry) (first : Extents) : Type 0 where
+-- The descent is the last one of a way to a leaf: its branch, from where the lower part of the way leads to the leaf.
+pub record LeafDescent {S A : Type 0} (has : S → ℕ → Cell → Type 0) (account : A → Account) (s : S) (a : A) (key : List ℕ) (t : Descent) (lower : List Fork) (e : Entry) (first : Extents) : Type 0 where
   pub asks : WayAsks has account s a 65535 0 key (top_cell (plug lower (leaf e first))) lower (leaf e first)
-  pub turn : IsTurn 65535 t lower (leaf e first)
-  pub alone : turn.through.rest ≡ []
+  pub descent : IsDescent 65535 t lower (leaf e first)
+  pub alone : descent.through.rest ≡ []
 
-pub record LeafTurned {S A : Type 0} (has : S → ℕ → Cell → Type 0) (account : A → Account) (s : S) (a : A) (key : List ℕ) (t : Turn) : Type 0 where
+pub record LeafTurned {S A : Type 0} (has : S → ℕ → Cell → Type 0) (account : A → Account) (s : S) (a : A) (key : List ℕ) (t : Descent) : Type 0 where
   pub lower : List Fork
   pub entry : Entry
   pub first : Extents
-  pub last : LeafTurn has account s a key t lower entry first
+  pub last : LeafDescent has account s a key t lower entry first
 
 -- the change makes of the branch what it is without the leaf
 pub record IsWithout {S : Type 0} (has : S → ℕ → Cell → Type 0) (s : S) (c : Change) (e : Entry) (old : Tree) : Type 0 where
@@ -40,12 +40,12 @@ pub record IsWithout {S : Type 0} (has : S → ℕ → Cell → Type 0) (s : S) 
   pub makes : Makes has s c old new
   pub shrunk : (low : ℕ) → IsTree low old → Shrunk e low old new
 
--- the key is below a root that stands, and the turn is the last one on the way to its leaf
-pub record DropAsks {S A : Type 0} (has : S → ℕ → Cell → Type 0) (account : A → Account) (s : S) (a : A) (r : ℕ) (key : List ℕ) (turn : Turn) (t : Tree) (version : List Entry) : Type 0 where
+-- the key is below a root that stands, and the descent is the last one on the way to its leaf
+pub record DropAsks {S A : Type 0} (has : S → ℕ → Cell → Type 0) (account : A → Account) (s : S) (a : A) (r : ℕ) (key : List ℕ) (descent : Descent) (t : Tree) (version : List Entry) : Type 0 where
   pub there : HasKey has account s a r key t version
-  pub last : IsLastTurn turn there.way (leaf there.entry there.first)
+  pub last : IsLastDescent descent there.way (leaf there.entry there.first)
 
-pub record DropAsked {S A : Type 0} (has : S → ℕ → Cell → Type 0) (account : A → Account) (s : S) (a : A) (r : ℕ) (key : List ℕ) (turn : Turn) : Type 0 where
+pub record DropAsked {S A : Type 0} (has : S → ℕ → Cell → Type 0) (account : A → Account) (s : S) (a : A) (r : ℕ) (key : List ℕ) (descent : Descent) : Type 0 where
   pub t : Tree
   pub version : List Entry
-  pub asks : DropAsks has account s a r key turn t version
+  pub asks : DropAsks has account s a r key descent t version

@@ -14,7 +14,7 @@ pub mod Exchanges
 pub mod Deletions
 pub mod Spaces
 pub mod Ways
-pub mod Turns
+pub mod Descents
 pub mod Mutable
 pub mod Asks
 pub mod Puts

@@ -2,7 +2,7 @@
 use Rattle.std.specs.Prelude.{◌≡◌, ℕ, ◌<◌, ◌≤◌, List, ◌∷◌, [], ◌++◌, Option, Some, None}
 use Rattle.trie_model.specs.Keys.{at, Same, Entry, InList, Rises}
 use Rattle.trie_model.specs.Trees.{Tree, entries_of, IsTree}
-use Rattle.trie_write.specs.declared.points.BranchPoint.{BranchPoint}
+use Rattle.trie_write.specs.declared.branch_points.BranchPoint.{BranchPoint}
 
 -- the keys first differ at the offset, where the second has the higher position
 pub record IsPoint (a b : List ℕ) (point : BranchPoint) : Type 0 where

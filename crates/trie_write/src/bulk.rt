@@ -17,9 +17,9 @@ ghost use Rattle.trie_write.specs.Spaces.{Ready, Frame};
 ghost use Rattle.trie_write.specs.Standing.{HasTrie};
 
 use super::Item;
+use super::alloc::lay_row;
+use super::branch_points::{BranchPoint, from_offset, point_ahead};
 use super::laying::lay_item;
-use super::place::lay_row;
-use super::points::{BranchPoint, from_offset, point_ahead};
 use super::row::Row;
 use chunk_cells::CellWrite;
 use chunk_usage::{Full, Space};

@@ -17,10 +17,10 @@ ghost use Rattle.trie_write.specs.Ways.{Fork, plug, twigs_of, copied_along};
 
 use super::laying::release_item;
 use super::mutable::make_mutable;
-use super::top::top_of;
+use super::node_top::top_of;
 use chunk_cells::extents::extents_of;
 use chunk_cells::{CellRead, CellWrite, Extents};
-use chunk_usage::{Full, Space};
+use chunk_usage::{Full, Path, Space};
 use packed_node::{Cell, Ref};
 use shift_key::Key;
 
@@ -67,7 +67,7 @@ pub fn let_go<U: Space>(usage: &mut U, twigs: Span, item: &Extents)
 }
 
 /// The root of the trie with the change at the first node along the key whose offset isn't before the place. Where there is no room
-/// to make the way there mutable, the cells that were taken count no more.
+/// to make the way there mutable, the cells that were taken count no more. The path is noted, by which it may be found again.
 pub fn put_change<C: CellWrite, U: Space>(
     cells: &mut C,
     usage: &mut U,
@@ -75,6 +75,7 @@ pub fn put_change<C: CellWrite, U: Space>(
     key: &Key,
     place: u16,
     change: Change,
+    path: Path,
 ) -> Result<Ref, Full>
     requires asks { PutAsked C.has U.account cells.old usage.old place key.now root change }
     requires ready { Ready C.kept C.given U.account cells.old usage.old }
@@ -98,7 +99,7 @@ pub fn put_change<C: CellWrite, U: Space>(
         Ok(seat) => {
             cells.put(seat.at, change.cell);
             let_go(usage, change.old_twigs, &change.old_item);
-            usage.note(seat.path);
+            usage.note(path);
             Ok(seat.root)
         }
     }

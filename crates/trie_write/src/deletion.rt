@@ -14,41 +14,43 @@ ghost use Rattle.trie_write.specs.Spaces.{Ready, Fenced, Unchanged, Refused};
 ghost use Rattle.trie_write.specs.Standing.{HasTrie};
 
 use super::change::{Span, item_below, let_go, put_change};
+use super::descend::{Descent, last_descent};
+use super::has_key::root_with;
+use super::paths::Trace;
+use super::remove_leaf::without_leaf;
 use super::replacement::ChangeRefusal;
-use super::there::root_with;
-use super::turn::{Turn, last_turn};
-use super::without::without_leaf;
 use chunk_cells::CellWrite;
-use chunk_usage::{Full, Space};
+use chunk_usage::{Full, Path, Space};
 use packed_node::Ref;
 use shift_key::Key;
 
-/// The root of the trie with a name taken out that is not the only one: the turn is the last one on the way to its leaf.
+/// The root of the trie with a name taken out that is not the only one: the descent is the last one on the way to its leaf.
 fn drop_leaf<C: CellWrite, U: Space>(
     cells: &mut C,
     usage: &mut U,
     root: Ref,
     key: &Key,
-    turn: Turn,
+    descent: Descent,
+    path: Path,
 ) -> Result<Ref, Full>
-    requires there { DropAsked C.has U.account cells.old usage.old root key.now turn }
+    requires there { DropAsked C.has U.account cells.old usage.old root key.now descent }
     requires ready { Ready C.kept C.given U.account cells.old usage.old }
-    ensures stands { IfOk result (λ new. (t : Tree) (version : List Entry) → DropAsks C.has U.account cells.old usage.old root key.now turn t version
+    ensures stands { IfOk result (λ new. (t : Tree) (version : List Entry) → DropAsks C.has U.account cells.old usage.old root key.now descent t version
         → (next : List Entry) × Deleted key.now version next × HasTrie C.has U.account cells.new usage.new (Some new) next) }
-    ensures outside { (t : Tree) (version : List Entry) → DropAsks C.has U.account cells.old usage.old root key.now turn t version
+    ensures outside { (t : Tree) (version : List Entry) → DropAsks C.has U.account cells.old usage.old root key.now descent t version
         → (q : ℕ) (c : Cell) → (U.account usage.old).used q ≡ true → IsOutside root t q → C.has cells.old q c → C.has cells.new q c }
-    ensures spends { (t : Tree) (version : List Entry) → DropAsks C.has U.account cells.old usage.old root key.now turn t version
+    ensures spends { (t : Tree) (version : List Entry) → DropAsks C.has U.account cells.old usage.old root key.now descent t version
         → (U.account usage.new).spent ≤ (U.account usage.old).spent + twigs_on_path key.now t }
-    ensures copies { (t : Tree) (version : List Entry) → DropAsks C.has U.account cells.old usage.old root key.now turn t version
+    ensures copies { (t : Tree) (version : List Entry) → DropAsks C.has U.account cells.old usage.old root key.now descent t version
         → (U.account usage.new).spent ≤ (U.account usage.old).spent + (46 + to_copy (U.account usage.old).mutable key.now root t) }
     ensures refused { IfErr result (λ f. Refused C.has U.account U.lacks cells.old usage.old cells.new usage.new f) }
-    ensures asked { IfErr result (λ f. (t : Tree) (version : List Entry) → DropAsks C.has U.account cells.old usage.old root key.now turn t version
+    ensures asked { IfErr result (λ f. (t : Tree) (version : List Entry) → DropAsks C.has U.account cells.old usage.old root key.now descent t version
         → Contains (delete_asks (branches_on_path key.now t)) f.needed) }
     ensures frame { Fenced C.has C.kept C.given U.account cells.old usage.old cells.new usage.new }
     ensures ready { Ready C.kept C.given U.account cells.new usage.new }
 {
-    let change = without_leaf(cells, usage, key, turn)?;
-    put_change(cells, usage, root, key, turn.branch.offset, change)
+    let change = without_leaf(cells, usage, key, descent)?;
+    put_change(cells, usage, root, key, descent.branch.offset, change, path)
 }
 
 /// The root of the trie with a name that is there taken out; none for the last one.
@@ -75,16 +77,20 @@ fn delete_item<C: CellWrite, U: Space>(
     ensures ready { Ready C.kept C.given U.account cells.new usage.new }
 {
     let node = cells.cell(root);
-    match last_turn(cells, key, 0, node) {
+    let mut trace = Trace::new();
+    match last_descent(cells, key, 0, node, &mut trace) {
         None => {
             let item = item_below(cells, node);
             let_go(usage, Span { at: root, n: 1 }, &item);
             Ok(None)
         }
-        Some(turn) => match drop_leaf(cells, usage, root, key, turn) {
-            Ok(new) => Ok(Some(new)),
-            Err(full) => Err(full),
-        },
+        Some(descent) => {
+            let path = trace.beside(descent.branch);
+            match drop_leaf(cells, usage, root, key, descent, path) {
+                Ok(new) => Ok(Some(new)),
+                Err(full) => Err(full),
+            }
+        }
     }
 }
 

@@ -16,12 +16,13 @@ ghost use Rattle.trie_write.specs.Roots.{TwigsOnPath, BranchesOnPath, ToCopy, Is
 ghost use Rattle.trie_write.specs.Spaces.{Ready, Frame, Fenced, Unchanged, Refused};
 ghost use Rattle.trie_write.specs.Standing.{HasTrie};
 
+use super::add_leaf::with_leaf;
+use super::alloc::room_for;
 use super::change::{Change, put_change};
+use super::descend::end_node;
 use super::laying::{lay_item, release_item};
-use super::near::compare;
-use super::place::room_for;
-use super::turn::end_node;
-use super::with::with_leaf;
+use super::nearest::compare;
+use super::paths::Trace;
 use chunk_cells::CellWrite;
 use chunk_usage::{Full, Space};
 use packed_node::{Node, Ref};
@@ -65,6 +66,7 @@ fn new_leaf<C: CellWrite, U: Space>(
     key: &Key,
     first: Difference,
     item: &[u8],
+    trace: &mut Trace,
 ) -> Result<Change, Full>
     requires leads { Leads key.now item.now }
     requires missing { KeyIsMissing C.has U.account cells.old usage.old root key.now first }
@@ -82,7 +84,7 @@ fn new_leaf<C: CellWrite, U: Space>(
     ensures ready { Ready C.kept C.given U.account cells.new usage.new }
 {
     let top = cells.cell(root);
-    let node = end_node(cells, key, first.place, 0, top);
+    let node = end_node(cells, key, first.place, 0, top, trace);
     let there = lay_item(cells, usage, item)?;
     match with_leaf(cells, usage, key, first, node, &there) {
         Err(full) => {
@@ -119,8 +121,10 @@ fn insert_further<C: CellWrite, U: Space>(
     ensures frame { Fenced C.has C.kept C.given U.account cells.old usage.old cells.new usage.new }
     ensures ready { Ready C.kept C.given U.account cells.new usage.new }
 {
-    let change = new_leaf(cells, usage, root, key, first, item)?;
-    put_change(cells, usage, root, key, first.place, change)
+    let mut trace = Trace::new();
+    let change = new_leaf(cells, usage, root, key, first, item, &mut trace)?;
+    let path = trace.along(key, first.place);
+    put_change(cells, usage, root, key, first.place, change, path)
 }
 
 /// Why a name isn't put in.

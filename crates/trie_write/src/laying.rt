@@ -7,7 +7,7 @@ ghost use Rattle.chunk_cells.specs.Laying.{extents_at, extents_in};
 ghost use Rattle.trie_write.specs.Laid.{HandedItem, extent_sizes};
 ghost use Rattle.trie_write.specs.Spaces.{Frame, Ready, Refused};
 
-use super::place::room_for;
+use super::alloc::room_for;
 use chunk_cells::extents::{LAST_OCTETS, LINKED_OCTETS, content_cells_for, linked_extent};
 use chunk_cells::{CellWrite, Extents, write_item};
 use chunk_usage::{Full, Space};

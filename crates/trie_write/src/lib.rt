@@ -1,30 +1,30 @@
 //! Changing a trie, over any cells and any space that hands them out.
 #![tactic(auto)]
 
+mod add_leaf;
+mod alloc;
+mod branch_points;
 mod bulk;
 mod change;
 mod deletion;
+mod descend;
+mod has_key;
 mod insertion;
 pub mod item;
 mod laying;
 mod mutable;
-mod near;
+mod nearest;
+mod node_top;
 mod paths;
-mod place;
-mod points;
+mod remove_leaf;
 mod replacement;
 mod row;
 mod size;
-mod there;
-mod top;
-mod turn;
-mod with;
-mod without;
 
+pub use alloc::copy_twigs;
 pub use bulk::build;
 pub use deletion::delete;
 pub use insertion::{InsertRefusal, insert};
 pub use item::{Item, ItemRefusal};
-pub use place::copy_twigs;
 pub use replacement::{ChangeRefusal, replace};
-pub use size::cells;
+pub use size::{cells, cells_beyond};

@@ -8,14 +8,12 @@ ghost use Rattle.trie_model.specs.Reach.{in_chunk};
 ghost use Rattle.trie_model.specs.Trees.{Tree};
 ghost use Rattle.trie_write.specs.Spaces.{Ready, Frame, Fenced, Refused, MayWrite, Wrote, IsWritable};
 ghost use Rattle.trie_write.specs.Ways.{Fork, plug, IsWay, twigs_of, twigs_along, copied_along};
-ghost use Rattle.trie_write.specs.Turns.{HasWay};
 ghost use Rattle.trie_write.specs.Mutable.{WayAsks, WayAsked, IsCopied, IsParted, SeatAsks, SeatAsked, IsSeat};
 
-use super::paths::path_to;
-use super::place::{copy_twigs, room_for};
-use super::turn::next_turn;
+use super::alloc::{copy_twigs, room_for};
+use super::descend::next_descent;
 use chunk_cells::{CellRead, CellWrite};
-use chunk_usage::{Full, Path, Space};
+use chunk_usage::{Full, Space};
 use packed_node::{Branch, Cell, Node, Ref};
 use shift_key::Key;
 
@@ -31,8 +29,6 @@ pub struct Spot {
 pub struct Seat {
     pub root: Ref,
     pub at: Ref,
-    /// The path of that cell.
-    pub path: Path,
 }
 
 /// What copying gives.
@@ -117,21 +113,28 @@ fn copy_way<C: CellWrite, U: Space>(
     ensures frame { Frame C.has C.kept C.given U.account cells.old usage.old cells.new usage.new }
     ensures ready { Ready C.kept C.given U.account cells.new usage.new }
 {
-    match next_turn(cells, key, place, from.node) {
+    match next_descent(cells, key, place, from.node) {
         None => Ok(left_alone(from)),
-        Some(turn) => {
-            let n = turn.branch.twig_count();
+        Some(descent) => {
+            let n = descent.branch.twig_count();
             let to = room_for(cells, usage, n)?;
             let next = Spot {
-                at: to + turn.index,
-                node: turn.next,
+                at: to + descent.index,
+                node: descent.next,
             };
-            match copy_way(cells, usage, key, place, turn.branch.offset + 1, next) {
+            match copy_way(cells, usage, key, place, descent.branch.offset + 1, next) {
                 Err(full) => {
                     usage.release(to, n);
                     Err(full)
                 }
-                Ok(copied) => Ok(move_twigs(cells, usage, turn.branch, to, turn.index, copied)),
+                Ok(copied) => Ok(move_twigs(
+                    cells,
+                    usage,
+                    descent.branch,
+                    to,
+                    descent.index,
+                    copied,
+                )),
             }
         }
     }
@@ -154,16 +157,16 @@ fn last_mutable<C: CellWrite, U: Space>(
         → IsParted (U.account usage.now).mutable from.at way end result.at result.node }
     ensures writable { IsWritable C.given U.account cells.new usage.now result.at }
 {
-    match next_turn(cells, key, place, from.node) {
+    match next_descent(cells, key, place, from.node) {
         None => from,
-        Some(turn) => {
-            let at = turn.branch.twigs + turn.index;
+        Some(descent) => {
+            let at = descent.branch.twigs + descent.index;
             if usage.is_mutable(at) {
                 let next = Spot {
                     at,
-                    node: turn.next,
+                    node: descent.next,
                 };
-                return last_mutable(cells, usage, key, place, turn.branch.offset + 1, next);
+                return last_mutable(cells, usage, key, place, descent.branch.offset + 1, next);
             }
             from
         }
@@ -177,7 +180,6 @@ fn open_below<C: CellWrite, U: Space>(
     key: &Key,
     place: u16,
     top: Spot,
-    path: Path,
 ) -> Result<Seat, Full>
     requires asks { SeatAsked C.has U.account cells.old usage.old place key.now top.at }
     requires node { (c : Cell) → C.has cells.old top.at c → top.node ≡ c }
@@ -199,7 +201,6 @@ fn open_below<C: CellWrite, U: Space>(
     Ok(Seat {
         root: top.at,
         at: copied.seat,
-        path,
     })
 }
 
@@ -210,7 +211,6 @@ fn open_anew<C: CellWrite, U: Space>(
     key: &Key,
     place: u16,
     top: Spot,
-    path: Path,
 ) -> Result<Seat, Full>
     requires asks { SeatAsked C.has U.account cells.old usage.old place key.now top.at }
     requires node { (c : Cell) → C.has cells.old top.at c → top.node ≡ c }
@@ -242,21 +242,9 @@ fn open_anew<C: CellWrite, U: Space>(
             Ok(Seat {
                 root,
                 at: copied.seat,
-                path,
             })
         }
     }
-}
-
-/// The node of a root, and the path of the way from there to a place.
-fn set_out<C: CellRead>(cells: &mut C, key: &Key, place: u16, root: Ref) -> (Cell, Path)
-    requires way { (c : Cell) × C.has cells.old root c × HasWay (C.has cells.old) place 0 key.now c }
-    ensures same { cells.new ≡ cells.old }
-    ensures node { (c : Cell) → C.has cells.old root c → result.0 ≡ c }
-{
-    let node = cells.cell(root);
-    let path = path_to(cells, key, place, node);
-    (node, path)
 }
 
 /// Makes the way along the key mutable, down to the first node whose offset isn't before the place. No entry changes. Where there is
@@ -281,11 +269,11 @@ pub fn make_mutable<C: CellWrite, U: Space>(
     ensures frame { Fenced C.has C.kept C.given U.account cells.old usage.old cells.new usage.new }
     ensures ready { Ready C.kept C.given U.account cells.new usage.new }
 {
-    let (node, path) = set_out(cells, key, place, root);
+    let node = cells.cell(root);
     let top = Spot { at: root, node };
     if usage.is_mutable(root) {
-        open_below(cells, usage, key, place, top, path)
+        open_below(cells, usage, key, place, top)
     } else {
-        open_anew(cells, usage, key, place, top, path)
+        open_anew(cells, usage, key, place, top)
     }
 }

@@ -19,9 +19,10 @@ ghost use Rattle.trie_write.specs.Spaces.{Ready, Frame, Fenced, Unchanged, Refus
 ghost use Rattle.trie_write.specs.Standing.{HasTrie};
 
 use super::change::{Change, NO_CELLS, item_below, put_change};
+use super::descend::end_node;
+use super::has_key::root_with;
 use super::laying::lay_item;
-use super::there::root_with;
-use super::turn::end_node;
+use super::paths::Trace;
 use chunk_cells::CellWrite;
 use chunk_usage::{Full, Space};
 use packed_node::{Node, Ref};
@@ -34,6 +35,7 @@ fn other_leaf<C: CellWrite, U: Space>(
     root: Ref,
     key: &Key,
     item: &[u8],
+    trace: &mut Trace,
 ) -> Result<Change, Full>
     requires leads { Leads key.now item.now }
     requires there { KeyIsThere C.has U.account cells.old usage.old root key.now }
@@ -49,7 +51,7 @@ fn other_leaf<C: CellWrite, U: Space>(
     ensures ready { Ready C.kept C.given U.account cells.new usage.new }
 {
     let node = cells.cell(root);
-    let old = end_node(cells, key, u16::MAX, 0, node);
+    let old = end_node(cells, key, u16::MAX, 0, node, trace);
     let old_item = item_below(cells, old);
     let new_item = lay_item(cells, usage, item)?;
     Ok(Change {
@@ -84,8 +86,10 @@ fn replace_item<C: CellWrite, U: Space>(
     ensures frame { Fenced C.has C.kept C.given U.account cells.old usage.old cells.new usage.new }
     ensures ready { Ready C.kept C.given U.account cells.new usage.new }
 {
-    let change = other_leaf(cells, usage, root, key, item)?;
-    put_change(cells, usage, root, key, u16::MAX, change)
+    let mut trace = Trace::new();
+    let change = other_leaf(cells, usage, root, key, item, &mut trace)?;
+    let path = trace.along(key, u16::MAX);
+    put_change(cells, usage, root, key, u16::MAX, change, path)
 }
 
 /// Why a name's item isn't changed.

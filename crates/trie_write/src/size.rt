@@ -1,6 +1,6 @@
-//! How many cells a trie has.
+//! How many cells a trie has, and whether it has more than so many.
 
-ghost use Rattle.std.specs.Prelude.{◌≡◌, ◌+◌, ◌<◌, ◌≤◌, ◌^◌, ◌-◌, ℕ, suc, List, length, min, Some};
+ghost use Rattle.std.specs.Prelude.{◌≡◌, ◌+◌, ◌<◌, ◌≤◌, ◌^◌, ◌-◌, ℕ, suc, List, length, min, Some, None, IfSome};
 ghost use Rattle.trie_model.specs.Keys.{Entry, Rises};
 ghost use Rattle.trie_model.specs.Shape.{cells as cells_of};
 ghost use Rattle.trie_model.specs.Trees.{Tree, entries_of};
@@ -8,7 +8,7 @@ ghost use Rattle.trie_write.specs.Entries.{entries_of_items};
 ghost use Rattle.trie_write.specs.Points.{Front};
 
 use super::Item;
-use super::points::{BranchPoint, from_offset, point_ahead};
+use super::branch_points::{BranchPoint, from_offset, point_ahead};
 use chunk_cells::cells_for;
 
 /// The trie of the first of some items.
@@ -32,6 +32,38 @@ pub fn cells(items: &[Item]) -> u64
         return 0;
     }
     count_front(items, 0).cells
+}
+
+/// How many cells the trie of these items has, where that is more than so many. Nothing is counted where there is room for a leaf and
+/// a branch for each item, since a trie of n names has at most n - 1 branches.
+pub fn cells_beyond(items: &[Item], limit: u64) -> Option<u64>
+    requires rising { Rises (entries_of_items items.now) }
+    requires limit { limit < u64.MAX }
+    ensures beyond { IfSome result (λ n. (n ≡ min (cells_of (entries_of_items items.now)) u64.MAX) × (limit < n)) }
+    ensures within { result ≡ None → cells_of (entries_of_items items.now) ≤ limit }
+{
+    if most_cells(items) <= limit {
+        return None;
+    }
+    let needed = cells(items);
+    if needed <= limit {
+        return None;
+    }
+    Some(needed)
+}
+
+/// A number that the cells of these items' trie don't exceed, or the greatest of 64 bits.
+fn most_cells(items: &[Item]) -> u64
+    requires { Rises (entries_of_items items.now) }
+    ensures { min (cells_of (entries_of_items items.now)) u64.MAX ≤ result }
+{
+    let mut most = 0u64;
+    let mut rest = items;
+    while let Some((item, others)) = rest.split_first() {
+        most = most.saturating_add(2 + cells_for(item.octets().len() as u16) as u64);
+        rest = others;
+    }
+    most
 }
 
 /// The trie of the first items, as many as agree before `low`.

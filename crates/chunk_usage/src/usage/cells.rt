@@ -1,14 +1,14 @@
 //! Cells that are handed out, and released.
 
 ghost use Rattle.std.specs.Prelude.{◌≡◌, ◌<◌, ◌≤◌, ◌-◌, ◌+◌, ◌*◌, ◌/◌, ◌%◌, ◌↔◌, ◌&&◌, nat_le, Some, IsErr, slice_index};
-ghost use Rattle.chunk_usage.specs.Ledger.{free_count, filled, is_open, is_used, is_mutable};
-ghost use Rattle.chunk_usage.specs.Handing.{IsShort, all_released, allocated, grant_of, lowest_free, next_cell, released, roomy, shortage, taken, with_open};
+ghost use Rattle.chunk_usage.specs.Ledger.{free_count, filled, is_bump, is_used, is_mutable};
+ghost use Rattle.chunk_usage.specs.Handing.{IsShort, all_released, allocated, grant_of, lowest_free, next_cell, released, roomy, shortage, taken, with_bump};
 ghost use Rattle.chunk_usage.specs.Handing.{IsSpent, new_grant, newly_taken, reserve_allocated, reserve_grant_of};
 ghost use Rattle.chunk_usage.specs.Keeping.{closed};
 ghost use Rattle.chunk_usage.specs.Rooms.{Grows};
 
 use super::Usage;
-use crate::open::{Open, chunk_of};
+use crate::bump::{Bump, chunk_of};
 use crate::space::{Full, Grant};
 use packed_node::{CHUNK_CELLS, Ref};
 
@@ -87,8 +87,8 @@ impl Usage {
     }
 
     // The bump chunk, where it has n cells left.
-    fn roomy_bump(&self, n: u32) -> Option<Open>
-        ensures { result ≡ roomy self.now.open_chunk n }
+    fn roomy_bump(&self, n: u32) -> Option<Bump>
+        ensures { result ≡ roomy self.now.bump n }
     {
         match self.state.bump {
             Some(bump) if n <= CHUNK_CELLS - bump.filled => Some(bump),
@@ -97,11 +97,11 @@ impl Usage {
     }
 
     // Makes the lowest free chunk the bump chunk.
-    fn bump_lowest(&mut self) -> Open
+    fn bump_lowest(&mut self) -> Bump
         requires { 0 < free_count self.old }
         ensures chunk { result.chunk ≡ lowest_free self.old }
         ensures filled { result.filled ≡ 0 }
-        ensures after { self.new ≡ with_open self.old (lowest_free self.old) }
+        ensures after { self.new ≡ with_bump self.old (lowest_free self.old) }
     {
         let state = &mut *self.state;
         let chunk = state.allocated.first_absent();
@@ -110,7 +110,7 @@ impl Usage {
         state.ages.give(chunk);
         state.hints.begin(chunk, chunk_of(state.bump));
         state.free -= 1;
-        let bump = Open { chunk, filled: 0 };
+        let bump = Bump { chunk, filled: 0 };
         state.bump = Some(bump);
         bump
     }
@@ -131,15 +131,15 @@ impl Usage {
     }
 
     // Hands out n cells of the bump chunk, and gives the first.
-    fn take(&mut self, from: Open, n: u32) -> Ref
-        requires opened { self.old.open_chunk ≡ Some from }
+    fn take(&mut self, from: Bump, n: u32) -> Ref
+        requires opened { self.old.bump ≡ Some from }
         requires room { n ≤ 1024 - from.filled }
         ensures at { result ≡ next_cell from }
         ensures after { self.new ≡ taken self.old from n }
     {
         let live = self.state.counts.of(from.chunk);
         self.state.counts.set(from.chunk, live + n);
-        self.state.bump = Some(Open {
+        self.state.bump = Some(Bump {
             chunk: from.chunk,
             filled: from.filled + n,
         });
@@ -164,8 +164,8 @@ impl Usage {
 }
 
 /// Whether a cell is one of those that the bump chunk had left at the fender.
-fn was_left(from: Option<Open>, at: Ref) -> bool
-    ensures { result ≡ (is_open from (at / 1024) && nat_le (filled from) (at % 1024)) }
+fn was_left(from: Option<Bump>, at: Ref) -> bool
+    ensures { result ≡ (is_bump from (at / 1024) && nat_le (filled from) (at % 1024)) }
 {
     from.is_some_and(|open| open.chunk == at / CHUNK_CELLS && open.filled <= at % CHUNK_CELLS)
 }

@@ -3,7 +3,7 @@
 ghost use Rattle.std.specs.Prelude.{◌≡◌, ◌≤◌};
 
 use super::Usage;
-use crate::open::chunk_of;
+use crate::bump::chunk_of;
 use chunk_hints::Path;
 
 impl Usage {

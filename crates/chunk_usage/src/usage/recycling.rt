@@ -3,12 +3,12 @@
 ghost use Rattle.std.specs.Prelude.{◌≡◌, ◌&&◌, ◌+◌, ◌/◌, ◌<◌, ◌≤◌, ℕ, true, false, not, count_by, length, All, Contains, IfSome};
 ghost use Rattle.packed_node.specs.declared.Cell.{Cell};
 ghost use Rattle.chunk_sets.specs.ChunkSets.{Without, has};
-ghost use Rattle.chunk_usage.specs.Ledger.{Row, free_count, is_given, is_open};
+ghost use Rattle.chunk_usage.specs.Ledger.{Row, free_count, is_given, is_bump};
 ghost use Rattle.chunk_usage.specs.Keeping.{freed, is_in_rows, is_needed, is_unreached};
 
 use super::Usage;
+use crate::bump::Bump;
 use crate::kept_version::KeptVersion;
-use crate::open::Open;
 use chunk_cells::CellWrite;
 use chunk_sets::ChunkSet;
 
@@ -60,9 +60,9 @@ fn leave_out_kept(found: &mut ChunkSet, kept: &[KeptVersion])
 }
 
 /// Takes out a bump chunk, where there is one.
-fn leave_out(found: &mut ChunkSet, bump: Option<Open>)
+fn leave_out(found: &mut ChunkSet, bump: Option<Bump>)
     requires { IfSome bump (λ o. o.chunk < length found.old) }
-    ensures { Without found.old found.new (is_open bump) }
+    ensures { Without found.old found.new (is_bump bump) }
 {
     if let Some(bump) = bump {
         found.remove(bump.chunk);

@@ -1,12 +1,12 @@
 //! Chunks of which few cells count.
 
 ghost use Rattle.std.specs.Prelude.{◌≡◌, ◌<◌, ◌≤◌, ℕ, true, false, IfSome, None, length, slice_index};
-ghost use Rattle.chunk_usage.specs.Ledger.{is_open};
-ghost use Rattle.chunk_usage.specs.Counting.{is_sparse, open_low, sparse_count};
+ghost use Rattle.chunk_usage.specs.Ledger.{is_bump};
+ghost use Rattle.chunk_usage.specs.Counting.{is_sparse, bump_low, sparse_count};
 
 use super::Usage;
+use crate::bump::Bump;
 use crate::counts::{SPARSE_CELLS, one_if_low};
-use crate::open::Open;
 
 impl Usage {
     /// Whether a chunk is given and isn't the bump chunk, and at most 256 of its cells count.
@@ -65,7 +65,7 @@ impl Usage {
 
     // 1 where few cells of the bump chunk count, else 0.
     fn low_bump(&self) -> u32
-        ensures { result ≡ open_low self.now.live self.now.open_chunk }
+        ensures { result ≡ bump_low self.now.live self.now.bump }
     {
         match self.state.bump {
             Some(bump) => one_if_low(self.state.counts.of(bump.chunk)),
@@ -75,8 +75,8 @@ impl Usage {
 }
 
 /// Whether it is the bump chunk.
-fn is_chunk_of(bump: Option<Open>, chunk: u32) -> bool
-    ensures { result ≡ is_open bump chunk }
+fn is_chunk_of(bump: Option<Bump>, chunk: u32) -> bool
+    ensures { result ≡ is_bump bump chunk }
 {
     bump.is_some_and(|bump| bump.chunk == chunk)
 }

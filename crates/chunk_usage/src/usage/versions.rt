@@ -6,8 +6,8 @@ ghost use Rattle.chunk_usage.specs.Ledger.{Row, Rising, is_used, is_mutable, new
 ghost use Rattle.chunk_usage.specs.Keeping.{AreOlder, dropped, frozen, is_among, is_kept, is_row_of, narrowed, restored, rows_of, without_row};
 
 use super::Usage;
+use crate::bump::chunk_of;
 use crate::kept_version::KeptVersion;
-use crate::open::chunk_of;
 
 impl Usage {
     /// The kept versions, the oldest first.

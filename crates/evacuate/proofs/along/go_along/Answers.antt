@@ -37,21 +37,21 @@ returns-in_err-at-clause-rearranged g c = record {
 pub cell-requires-in-Some : goal.cell-requires-in-Some
 cell-requires-in-Some g c =
     let u = c.loop-passage.invariant.way _ _ c.requires.stood.stood in
-    let b = c.in-Some.passage.turn.branch in let is = c.in-Some.ensures.branch in
+    let b = c.in-Some.passage.descent.branch in let is = c.in-Some.ensures.branch in
     let w = c.in_ok-at.ensures.hung c.args.root c.requires.stood.es u.way u.t u.hung (branch_in u b is) in
-    record { there = (_, further_in u b is c.in-Some.passage.turn.index c.in-Some.ensures.index w) }
+    record { there = (_, further_in u b is c.in-Some.passage.descent.index c.in-Some.ensures.index w) }
 
 pub of-node-requires-in-Some : goal.of-node-requires-in-Some
 of-node-requires-in-Some g c =
     let u = c.loop-passage.invariant.way _ _ c.requires.stood.stood in
-    let b = c.in-Some.passage.turn.branch in let is = c.in-Some.ensures.branch in let i = c.in-Some.passage.turn.index in let l = c.in-Some.ensures.index in
+    let b = c.in-Some.passage.descent.branch in let is = c.in-Some.ensures.branch in let i = c.in-Some.passage.descent.index in let l = c.in-Some.ensures.index in
     let w = c.in_ok-at.ensures.hung c.args.root c.requires.stood.es u.way u.t u.hung (branch_in u b is) in
     says_in u b is i l w (c.cell-in-Some.ensures.value _ (further_in u b is i l w))
 
 pub loop-passage-smaller : goal.loop-passage-smaller
 loop-passage-smaller g c =
     let u = c.loop-passage.invariant.way _ _ c.requires.stood.stood in
-    let b = c.in-Some.passage.turn.branch in let is = c.in-Some.ensures.branch in let i = c.in-Some.passage.turn.index in let l = c.in-Some.ensures.index in
+    let b = c.in-Some.passage.descent.branch in let is = c.in-Some.ensures.branch in let i = c.in-Some.passage.descent.index in let l = c.in-Some.ensures.index in
     let w = c.in_ok-at.ensures.hung c.args.root c.requires.stood.es u.way u.t u.hung (branch_in u b is) in
     fewer_in u b is i l w (c.cell-in-Some.ensures.value _ (further_in u b is i l w)) c.of-node-in-Some.ensures.back
 
@@ -59,7 +59,7 @@ pub loop-passage-preserved : goal.loop-passage-preserved
 loop-passage-preserved g c = record {
   way = λ es t stood.
       let u = c.loop-passage.invariant.way es t stood in
-      let b = c.in-Some.passage.turn.branch in let is = c.in-Some.ensures.branch in let i = c.in-Some.passage.turn.index in let l = c.in-Some.ensures.index in
+      let b = c.in-Some.passage.descent.branch in let is = c.in-Some.ensures.branch in let i = c.in-Some.passage.descent.index in let l = c.in-Some.ensures.index in
       let w = c.in_ok-at.ensures.hung c.args.root es u.way u.t u.hung (branch_in u b is) in
       hangs_further u b is i l w c.cell-in-Some.ensures.same (c.cell-in-Some.ensures.value _ (further_in u b is i l w)) c.of-node-in-Some.ensures.back;
   writable = subst (λ s. IsWritable g.C.CellWrite.given reserve_account_of s c.pass.new.usage c.in_ok-at.at) (sym c.cell-in-Some.ensures.same) c.in_ok-at.ensures.writable;

@@ -18,8 +18,8 @@ overflow_add-result g c =
 pub returns-then-passage-clause-writable : goal.returns-then-passage-clause-writable
 returns-then-passage-clause-writable g c =
     let x = hung_cells c.requires.hung.hung (ap first_of c.requires.hung.is) (ap width_of c.requires.hung.is) in
-    let q = c.args.passage.turn.branch.twigs + c.args.passage.turn.index in
-    let used = x.in_use c.args.passage.turn.index c.requires.index in
+    let q = c.args.passage.descent.branch.twigs + c.args.passage.descent.index in
+    let used = x.in_use c.args.passage.descent.index c.requires.index in
     record {
       in_use = used;
       mutable = c.requires.stays c.if-passage.true;
@@ -41,7 +41,7 @@ pub returns-clause-moves : goal.returns-clause-moves
 returns-clause-moves g c given fills = (c.in_ok-to.ensures.paid given fills old).moves
   where
     twigs : ℕ
-    twigs = c.args.passage.turn.branch.twigs
+    twigs = c.args.passage.descent.branch.twigs
 
     old : is_old given twigs ≡ true
     old = elim (c.requires.due c.if-passage.false) [
@@ -49,7 +49,7 @@ returns-clause-moves g c given fills = (c.in_ok-to.ensures.paid given fills old)
       | inr settled ↦ (
           let x = hung_cells c.requires.hung.hung (ap first_of c.requires.hung.is) (ap width_of c.requires.hung.is) in
           let together = x.row.row.together in let l = c.requires.index in
-          same_chunk_old given twigs (twigs + c.args.passage.turn.index) (omega arith)
-          (settled_old given c.args.usage.now fills c.known.ensures (twigs + c.args.passage.turn.index) (x.in_use c.args.passage.turn.index c.requires.index) settled)
+          same_chunk_old given twigs (twigs + c.args.passage.descent.index) (omega arith)
+          (settled_old given c.args.usage.now fills c.known.ensures (twigs + c.args.passage.descent.index) (x.in_use c.args.passage.descent.index c.requires.index) settled)
           )
     ]

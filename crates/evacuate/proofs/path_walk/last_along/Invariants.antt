@@ -3,12 +3,12 @@ use Rattle.trie_model.proofs.NodeLaws.{places_left}
 use Rattle.evacuate.proofs.AlongLaws.{IsAt}
 use Rattle.evacuate.proofs.path_walk.last_along.Given as goal
 
-abbrev pub invariant-loop-turn : goal.invariant-loop-turn
-invariant-loop-turn g l =
+abbrev pub invariant-loop-descent : goal.invariant-loop-descent
+invariant-loop-descent g l =
     record {
       same : l.cells ≡ l.fn.cells;
       here : IsAt (g.C.CellRead.has l.fn.cells) l.node;
     }
 
-abbrev pub decreases-loop-turn : goal.decreases-loop-turn
-decreases-loop-turn g l = places_left l.node
+abbrev pub decreases-loop-descent : goal.decreases-loop-descent
+decreases-loop-descent g l = places_left l.node

@@ -1,7 +1,7 @@
 use Rattle.std.proofs.Common.{◌≡◌, List, Bool, true, slice_set, Some, refl, ◌∙◌, sym, ap, subst}
 use Rattle.chunk_cells.specs.Chunks.{IsFree}
 use Rattle.chunk_usage.specs.Rooms.{GivesChunk, OpensFree}
-use Rattle.chunk_usage.specs.Ledger.{is_open}
+use Rattle.chunk_usage.specs.Ledger.{is_bump}
 use Rattle.trie_write.proofs.SpaceLaws.{handed_open, frame_given, ready_grows}
 use Rattle.evacuate.proofs.ReserveLaws.{reserve_handing}
 use Rattle.evacuate.proofs.FillingLaws.{Granted, granted, moves_handed}
@@ -43,7 +43,7 @@ returns-in-Some-clause-moves g c given fills = moves_handed ((grant g c).fills g
 pub returns-in-Some-clause-frame : goal.returns-in-Some-clause-frame
 returns-in-Some-clause-frame g c =
     frame_given (Some c.in-Some.chunk) (free g c, c.give.ensures.given) c.give.ensures.cells c.give.ensures.kept
-    (subst (λ (flags : List Bool). OpensFree flags (is_open c.args.usage.now.open_chunk) (is_open c.alloc_reserve.new.self.open_chunk)) (sym c.requires.ready.same) (grant g c).opens) (grant g c).hands.grows refl (grant g c).frozen
+    (subst (λ (flags : List Bool). OpensFree flags (is_bump c.args.usage.now.bump) (is_bump c.alloc_reserve.new.self.bump)) (sym c.requires.ready.same) (grant g c).opens) (grant g c).hands.grows refl (grant g c).frozen
 
 pub returns-clause-handed : goal.returns-clause-handed
 returns-clause-handed g c = reserve_handing _ _ (granted c.known.ensures c.requires.some c.requires.few c.in_ok-grant.ensures.after c.in_ok-grant.ensures.grant).hands.handed
@@ -70,5 +70,5 @@ pub returns-clause-frame : goal.returns-clause-frame
 returns-clause-frame g c =
     let h = granted c.known.ensures c.requires.some c.requires.few c.in_ok-grant.ensures.after c.in_ok-grant.ensures.grant in
     let gives = subst (GivesChunk c.args.usage.now.given c.alloc_reserve.new.self.given) c.in_default.is h.hands.gives in
-    let opens = subst (λ (flags : List Bool). OpensFree flags (is_open c.args.usage.now.open_chunk) (is_open c.alloc_reserve.new.self.open_chunk)) (sym c.requires.ready.same) h.opens in
+    let opens = subst (λ (flags : List Bool). OpensFree flags (is_bump c.args.usage.now.bump) (is_bump c.alloc_reserve.new.self.bump)) (sym c.requires.ready.same) h.opens in
     record { stays = λ q x u k. k; frozen = λ q x m k. k; keeps = refl; given_stays = λ k x. x; opens = opens; grows = h.hands.grows; spares = refl; last = h.frozen }

@@ -3,7 +3,7 @@ use Rattle.packed_node.specs.declared.Cell.{Cell}
 use Rattle.trie_model.specs.Keys.{Entry, Rises}
 use Rattle.trie_model.specs.Trees.Tree.{leaf}
 use Rattle.chunk_usage.specs.Rooms.{Handed}
-use Rattle.trie_write.specs.declared.points.BranchPoint.{BranchPoint}
+use Rattle.trie_write.specs.declared.branch_points.BranchPoint.{BranchPoint}
 use Rattle.trie_write.specs.Builds.{BuiltFront, Stopped}
 use Rattle.trie_write.specs.Entries.{entry_of, entries_of_items}
 use Rattle.trie_write.specs.Points.{Before, Front}

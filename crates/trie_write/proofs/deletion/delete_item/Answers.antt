@@ -1,17 +1,17 @@
 use Rattle.std.proofs.Common.{arith, sym, ◌∙◌, ap, subst}
 use Rattle.chunk_usage.specs.Rooms.{Account}
-use Rattle.trie_write.specs.Turns.{HasWay}
+use Rattle.trie_write.specs.Descents.{HasWay}
 use Rattle.trie_write.proofs.ReplaceLaws.{root_top}
 use Rattle.trie_write.proofs.RemoveLaws.{drop_asks, only_are, only_at, only_item, only_live, only_gone}
 use Rattle.trie_write.proofs.SpaceLaws.{fenced_of, frame_refl, frame_counts, fenced_same, frame_same, refused_same, ready_counts, ready_put}
-use Rattle.trie_write.proofs.TurnLaws.{same_top}
+use Rattle.trie_write.proofs.DescentLaws.{same_top}
 use Rattle.trie_write.proofs.deletion.delete_item.Goals as goal
 
 pub cell-node-requires : goal.cell-node-requires
 cell-node-requires g c = record { there = (_, c.requires.there.asks.stands.trie.top) }
 
-pub last_turn-requires : goal.last_turn-requires
-last_turn-requires g c = let h = c.requires.there.asks in
+pub last_descent-requires : goal.last_descent-requires
+last_descent-requires g c = let h = c.requires.there.asks in
     record { way = subst (λ s. HasWay (g.C.CellRead.has s) 65535 0 c.args.key.now c.cell-node.result) (sym c.cell-node.ensures.same) (record { way = h.way; end = _; top = root_top h c.cell-node.ensures.value; is_way = h.is_way }) }
 
 pub drop_leaf-requires-clause-there : goal.drop_leaf-requires-clause-there
@@ -22,23 +22,23 @@ drop_leaf-requires-clause-there g c =
 pub let_go-requires-clause-counted : goal.let_go-requires-clause-counted
 let_go-requires-clause-counted g c k =
     let h = c.requires.there.asks in
-    let alone = c.last_turn.ensures.none c.in-None.is h.way _ (same_top g.C.CellRead.has c.cell-node.ensures.same (root_top h c.cell-node.ensures.value)) h.is_way in
-    let l = only_live h alone (only_item h alone (c.last_turn.ensures.same ∙ c.cell-node.ensures.same) c.cell-node.ensures.value c.item_below-item.ensures.len c.item_below-item.ensures.there) k in omega arith
+    let alone = c.last_descent.ensures.none c.in-None.is h.way _ (same_top g.C.CellRead.has c.cell-node.ensures.same (root_top h c.cell-node.ensures.value)) h.is_way in
+    let l = only_live h alone (only_item h alone (c.last_descent.ensures.same ∙ c.cell-node.ensures.same) c.cell-node.ensures.value c.item_below-item.ensures.len c.item_below-item.ensures.there) k in omega arith
 
 pub let_go-requires-clause-item : goal.let_go-requires-clause-item
 let_go-requires-clause-item g c =
     let h = c.requires.there.asks in
-    let alone = c.last_turn.ensures.none c.in-None.is h.way _ (same_top g.C.CellRead.has c.cell-node.ensures.same (root_top h c.cell-node.ensures.value)) h.is_way in
-    only_are h alone (only_item h alone (c.last_turn.ensures.same ∙ c.cell-node.ensures.same) c.cell-node.ensures.value c.item_below-item.ensures.len c.item_below-item.ensures.there)
+    let alone = c.last_descent.ensures.none c.in-None.is h.way _ (same_top g.C.CellRead.has c.cell-node.ensures.same (root_top h c.cell-node.ensures.value)) h.is_way in
+    only_are h alone (only_item h alone (c.last_descent.ensures.same ∙ c.cell-node.ensures.same) c.cell-node.ensures.value c.item_below-item.ensures.len c.item_below-item.ensures.there)
 
 pub returns-in-None : goal.returns-in-None
 returns-in-None g c =
-    let same = c.item_below-item.ensures.same ∙ c.last_turn.ensures.same ∙ c.cell-node.ensures.same in
+    let same = c.item_below-item.ensures.same ∙ c.last_descent.ensures.same ∙ c.cell-node.ensures.same in
     let spent = ap (λ (z : Account). z.spent) c.let_go.ensures.rest in
     record {
       stands = λ t version h.
-          let alone = c.last_turn.ensures.none c.in-None.is h.way _ (same_top g.C.CellRead.has c.cell-node.ensures.same (root_top h c.cell-node.ensures.value)) h.is_way in
-          only_gone h alone (only_item h alone (c.last_turn.ensures.same ∙ c.cell-node.ensures.same) c.cell-node.ensures.value c.item_below-item.ensures.len c.item_below-item.ensures.there) c.let_go.ensures.counts;
+          let alone = c.last_descent.ensures.none c.in-None.is h.way _ (same_top g.C.CellRead.has c.cell-node.ensures.same (root_top h c.cell-node.ensures.value)) h.is_way in
+          only_gone h alone (only_item h alone (c.last_descent.ensures.same ∙ c.cell-node.ensures.same) c.cell-node.ensures.value c.item_below-item.ensures.len c.item_below-item.ensures.there) c.let_go.ensures.counts;
       outside = λ t version h q x used out there. subst (λ s. g.C.CellRead.has s q x) (sym same) there;
       spends = λ t version h. omega arith;
       copies = λ t version h. omega arith;
@@ -79,5 +79,5 @@ returns-in-Err g c =
 pub item_below-item-requires : goal.item_below-item-requires
 item_below-item-requires g c =
     let h = c.requires.there.asks in
-    let alone = c.last_turn.ensures.none c.in-None.is h.way _ (same_top g.C.CellRead.has c.cell-node.ensures.same (root_top h c.cell-node.ensures.value)) h.is_way in
-    (_, _, only_at h alone (c.last_turn.ensures.same ∙ c.cell-node.ensures.same) c.cell-node.ensures.value)
+    let alone = c.last_descent.ensures.none c.in-None.is h.way _ (same_top g.C.CellRead.has c.cell-node.ensures.same (root_top h c.cell-node.ensures.value)) h.is_way in
+    (_, _, only_at h alone (c.last_descent.ensures.same ∙ c.cell-node.ensures.same) c.cell-node.ensures.value)

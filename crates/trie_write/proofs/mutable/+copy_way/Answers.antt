@@ -7,55 +7,55 @@ use Rattle.trie_write.specs.Spaces.{MayWrite}
 use Rattle.trie_write.specs.declared.mutable.Copied.{Copied}
 use Rattle.trie_write.specs.Mutable.{IsCopied}
 use Rattle.trie_write.proofs.SpaceLaws.{apart_from, err_on, frame_then, frame_same, frame_counts, frame_wrote, ready_counts, ready_wrote, refused_room, handed_counted, blank_later}
-use Rattle.trie_write.proofs.TurnLaws.{known}
+use Rattle.trie_write.proofs.DescentLaws.{known}
 use Rattle.trie_write.proofs.CopyLaws.{n_here, cell_there, cell_used, part_counted, old_lies, moved_branch, asks_after, along_here, here_asked, below_asked, same_asks, copied_step, copied_none}
 use Rattle.trie_write.proofs.mutable.+copy_way.Goals as goal
 
 abbrev gives : Cell → ℕ → Copied
 gives node seat = record { node = node; seat = seat }
 
-pub next_turn-requires : goal.next_turn-requires
-next_turn-requires g t c = let a = c.requires.asks.asks in record { way = (c.args.low, record { way = c.requires.asks.way; end = c.requires.asks.end; top = a.hangs.top; is_way = a.is_way }) }
+pub next_descent-requires : goal.next_descent-requires
+next_descent-requires g t c = let a = c.requires.asks.asks in record { way = (c.args.low, record { way = c.requires.asks.way; end = c.requires.asks.end; top = a.hangs.top; is_way = a.is_way }) }
 
 pub room_for-requires-clause-some : goal.room_for-requires-clause-some
 room_for-requires-clause-some g t c =
     let a = c.requires.asks.asks in
-    let turn = (c.in-Some.ensures.on c.args.low _ c.requires.asks.end a.hangs.top a.is_way).through in
-    let n = n_here a turn in let m = c.twig_count-n.ensures in omega arith
+    let descent = (c.in-Some.ensures.on c.args.low _ c.requires.asks.end a.hangs.top a.is_way).through in
+    let n = n_here a descent in let m = c.twig_count-n.ensures in omega arith
 
 pub room_for-requires-clause-few : goal.room_for-requires-clause-few
 room_for-requires-clause-few g t c =
     let a = c.requires.asks.asks in
-    let turn = (c.in-Some.ensures.on c.args.low _ c.requires.asks.end a.hangs.top a.is_way).through in
-    let few = (known a.hangs.top a.is_way turn).few in
-    let n = n_here a turn in let m = c.twig_count-n.ensures in omega arith
+    let descent = (c.in-Some.ensures.on c.args.low _ c.requires.asks.end a.hangs.top a.is_way).through in
+    let few = (known a.hangs.top a.is_way descent).few in
+    let n = n_here a descent in let m = c.twig_count-n.ensures in omega arith
 
 pub returns-in_err-to-in-Some-clause-spends : goal.returns-in_err-to-in-Some-clause-spends
 returns-in_err-to-in-Some-clause-spends g t c way end asks =
-    let turn = (c.in-Some.ensures.on c.args.low way end asks.hangs.top asks.is_way).through in
-    let n = along_here asks turn in let m = c.twig_count-n.ensures in let s = c.room_for.ensures.spends in omega arith
+    let descent = (c.in-Some.ensures.on c.args.low way end asks.hangs.top asks.is_way).through in
+    let n = along_here asks descent in let m = c.twig_count-n.ensures in let s = c.room_for.ensures.spends in omega arith
 
 pub returns-in_err-to-in-Some-clause-asked : goal.returns-in_err-to-in-Some-clause-asked
 returns-in_err-to-in-Some-clause-asked g t c = err_on _ c.from_residual.result c.from_residual.ensures.1 (λ way end asks.
-    let turn = (c.in-Some.ensures.on c.args.low way end asks.hangs.top asks.is_way).through in
-    here_asked asks turn _ (c.in_err-to-in-Some.ensures.asked ∙ c.twig_count-n.ensures))
+    let descent = (c.in-Some.ensures.on c.args.low way end asks.hangs.top asks.is_way).through in
+    here_asked asks descent _ (c.in_err-to-in-Some.ensures.asked ∙ c.twig_count-n.ensures))
 
 pub copy_way-requires : goal.copy_way-requires
 copy_way-requires g t c κs within =
-    let a = same_asks c.next_turn.ensures.same c.requires.asks.asks in
+    let a = same_asks c.next_descent.ensures.same c.requires.asks.asks in
     let told = c.in-Some.ensures.on c.args.low _ c.requires.asks.end c.requires.asks.asks.hangs.top c.requires.asks.asks.is_way in
     let k = known a.hangs.top a.is_way (told.through) in
-    let f : 504 - (c.in-Some.turn.branch.offset + 1) < 504 - c.args.low = let late = k.late in let early = k.early in omega arith in
+    let f : 504 - (c.in-Some.descent.branch.offset + 1) < 504 - c.args.low = let late = k.late in let early = k.early in omega arith in
     (search (rules, f), (within.0, (within.1, (record { way = told.through.rest; end = c.requires.asks.end; asks = asks_after a (told.through) c.in_ok-to-in-Some.ensures.handed c.in_ok-to-in-Some.ensures.frame told.next_is }, c.in_ok-to-in-Some.ensures.ready))))
 
 pub returns-in-None-clause-copied : goal.returns-in-None-clause-copied
 returns-in-None-clause-copied g t c way end asks =
-    subst (λ (x : Copied). IsCopied g.C.CellRead.has g.C.CellWrite.given g.U.Space.account c.args.usage.now c.next_turn.new.cells c.args.usage.now c.args.place c.args.low c.args.key.now c.args.from.at way end x.node x.seat) (sym c.left_alone.ensures)
-    (copied_none (same_asks c.next_turn.ensures.same asks) (c.next_turn.ensures.none c.in-None.is c.args.low way end asks.hangs.top asks.is_way))
+    subst (λ (x : Copied). IsCopied g.C.CellRead.has g.C.CellWrite.given g.U.Space.account c.args.usage.now c.next_descent.new.cells c.args.usage.now c.args.place c.args.low c.args.key.now c.args.from.at way end x.node x.seat) (sym c.left_alone.ensures)
+    (copied_none (same_asks c.next_descent.ensures.same asks) (c.next_descent.ensures.none c.in-None.is c.args.low way end asks.hangs.top asks.is_way))
 
 pub returns-in-Err-clause-spends : goal.returns-in-Err-clause-spends
 returns-in-Err-clause-spends g t c way end asks =
-    let a = same_asks c.next_turn.ensures.same asks in
+    let a = same_asks c.next_descent.ensures.same asks in
     let told = c.in-Some.ensures.on c.args.low way end asks.hangs.top asks.is_way in
     let n = along_here a (told.through) in let m = c.twig_count-n.ensures in let s = c.room_for.ensures.spends in
     let d = c.copy_way.ensures.spends told.through.rest end (asks_after a (told.through) c.in_ok-to-in-Some.ensures.handed c.in_ok-to-in-Some.ensures.frame told.next_is) in
@@ -63,7 +63,7 @@ returns-in-Err-clause-spends g t c way end asks =
 
 pub returns-in-Err-clause-asked : goal.returns-in-Err-clause-asked
 returns-in-Err-clause-asked g t c way end asks =
-    let a = same_asks c.next_turn.ensures.same asks in
+    let a = same_asks c.next_descent.ensures.same asks in
     let told = c.in-Some.ensures.on c.args.low way end asks.hangs.top asks.is_way in
     below_asked a told.through _ (c.in-Err.ensures.asked told.through.rest end (asks_after a told.through c.in_ok-to-in-Some.ensures.handed c.in_ok-to-in-Some.ensures.frame told.next_is))
 
@@ -71,50 +71,50 @@ pub release-requires : goal.release-requires
 release-requires g t c = record { counted = handed_counted (g.U.Space.account c.copy_way.new.usage) c.in_ok-to-in-Some.ensures.handed c.in-Err.ensures.refused.counts; together = c.in_ok-to-in-Some.ensures.handed.twigs.together }
 
 pub returns-in-Err-clause-refused : goal.returns-in-Err-clause-refused
-returns-in-Err-clause-refused g t c = refused_room c.next_turn.ensures.same c.in_ok-to-in-Some.ensures.frame c.in_ok-to-in-Some.ensures.handed c.in-Err.ensures.refused c.release.ensures.counts c.release.ensures.lacks
+returns-in-Err-clause-refused g t c = refused_room c.next_descent.ensures.same c.in_ok-to-in-Some.ensures.frame c.in_ok-to-in-Some.ensures.handed c.in-Err.ensures.refused c.release.ensures.counts c.release.ensures.lacks
 
 pub returns-in-Err-clause-frame : goal.returns-in-Err-clause-frame
-returns-in-Err-clause-frame g t c = frame_counts (frame_same c.next_turn.ensures.same (frame_then c.in_ok-to-in-Some.ensures.frame c.copy_way.ensures.frame)) c.release.ensures.rest
+returns-in-Err-clause-frame g t c = frame_counts (frame_same c.next_descent.ensures.same (frame_then c.in_ok-to-in-Some.ensures.frame c.copy_way.ensures.frame)) c.release.ensures.rest
 
 pub returns-in-Err-clause-ready : goal.returns-in-Err-clause-ready
 returns-in-Err-clause-ready g t c = ready_counts c.release.ensures.rest c.copy_way.ensures.ready
 
 pub move_twigs-requires : goal.move_twigs-requires
 move_twigs-requires g t c =
-    let a = same_asks c.next_turn.ensures.same c.requires.asks.asks in
+    let a = same_asks c.next_descent.ensures.same c.requires.asks.asks in
     let told = c.in-Some.ensures.on c.args.low _ c.requires.asks.end c.requires.asks.asks.hangs.top c.requires.asks.asks.is_way in
-    let turn = told.through in
+    let descent = told.through in
     let n = c.twig_count-n.ensures in
     let h = subst (Handed (g.U.Space.account c.args.usage.now) (g.U.Space.account c.room_for.new.usage) c.in_ok-to-in-Some.to) n c.in_ok-to-in-Some.ensures.handed in
     record {
       index = (let i = told.index_is in let m = n_here a told.through in omega arith);
-      node = moved_branch a turn h.twigs;
-      old = old_lies a turn;
+      node = moved_branch a descent h.twigs;
+      old = old_lies a descent;
       new = h.twigs;
-      there = λ i l. let x = cell_there a turn i l in (x.0, c.in-Ok.ensures.frame.stays _ x.0 (c.in_ok-to-in-Some.ensures.frame.grows.stays _ (cell_used a turn i l)) (c.in_ok-to-in-Some.ensures.frame.stays _ x.0 (cell_used a turn i l) x.1));
-      apart = λ i j l m. apart_from h _ (cell_used a turn i l) j m;
+      there = λ i l. let x = cell_there a descent i l in (x.0, c.in-Ok.ensures.frame.stays _ x.0 (c.in_ok-to-in-Some.ensures.frame.grows.stays _ (cell_used a descent i l)) (c.in_ok-to-in-Some.ensures.frame.stays _ x.0 (cell_used a descent i l) x.1));
+      apart = λ i j l m. apart_from h _ (cell_used a descent i l) j m;
       blank = subst (MayWrite g.C.CellWrite.kept g.C.CellWrite.given c.copy_way.new.cells c.in_ok-to-in-Some.to) n (blank_later c.in_ok-to-in-Some.ensures.blank c.in-Ok.ensures.frame);
       counted = λ k.
-          let made = c.in-Ok.ensures.copied told.through.rest c.requires.asks.end (asks_after a turn c.in_ok-to-in-Some.ensures.handed c.in_ok-to-in-Some.ensures.frame told.next_is) in
-          let x = made.counts k in let y = c.in_ok-to-in-Some.ensures.handed.counts k in let z = part_counted a turn k in omega arith;
+          let made = c.in-Ok.ensures.copied told.through.rest c.requires.asks.end (asks_after a descent c.in_ok-to-in-Some.ensures.handed c.in_ok-to-in-Some.ensures.frame told.next_is) in
+          let x = made.counts k in let y = c.in_ok-to-in-Some.ensures.handed.counts k in let z = part_counted a descent k in omega arith;
     }
 
 pub returns-in-Ok-clause-copied : goal.returns-in-Ok-clause-copied
 returns-in-Ok-clause-copied g t c way end asks =
-    let a = same_asks c.next_turn.ensures.same asks in
+    let a = same_asks c.next_descent.ensures.same asks in
     let told = c.in-Some.ensures.on c.args.low way end asks.hangs.top asks.is_way in
-    let turn = told.through in
+    let descent = told.through in
     let n = c.twig_count-n.ensures in
-    let is : c.move_twigs.result ≡ gives (branch_cell (record c.in-Some.turn.branch { twigs = c.in_ok-to-in-Some.to })) c.in-Ok.copied.seat = ap₂ gives c.move_twigs.ensures.node c.move_twigs.ensures.seat in
+    let is : c.move_twigs.result ≡ gives (branch_cell (record c.in-Some.descent.branch { twigs = c.in_ok-to-in-Some.to })) c.in-Ok.copied.seat = ap₂ gives c.move_twigs.ensures.node c.move_twigs.ensures.seat in
     subst (λ (x : Copied). IsCopied g.C.CellRead.has g.C.CellWrite.given g.U.Space.account c.args.usage.now c.move_twigs.new.cells c.move_twigs.new.usage c.args.place c.args.low c.args.key.now c.args.from.at way end x.node x.seat) (sym is)
-    (copied_step a turn told.index_is (subst (Handed (g.U.Space.account c.args.usage.now) (g.U.Space.account c.room_for.new.usage) c.in_ok-to-in-Some.to) n c.in_ok-to-in-Some.ensures.handed)
+    (copied_step a descent told.index_is (subst (Handed (g.U.Space.account c.args.usage.now) (g.U.Space.account c.room_for.new.usage) c.in_ok-to-in-Some.to) n c.in_ok-to-in-Some.ensures.handed)
     (subst (MayWrite g.C.CellWrite.kept g.C.CellWrite.given c.room_for.new.cells c.in_ok-to-in-Some.to) n c.in_ok-to-in-Some.ensures.blank) c.in_ok-to-in-Some.ensures.frame c.in-Ok.ensures.frame
-    (c.in-Ok.ensures.copied told.through.rest end (asks_after a turn c.in_ok-to-in-Some.ensures.handed c.in_ok-to-in-Some.ensures.frame told.next_is))
+    (c.in-Ok.ensures.copied told.through.rest end (asks_after a descent c.in_ok-to-in-Some.ensures.handed c.in_ok-to-in-Some.ensures.frame told.next_is))
     c.move_twigs.ensures.copied c.move_twigs.ensures.twig c.move_twigs.ensures.wrote c.move_twigs.ensures.counts c.move_twigs.ensures.rest c.args.from.at)
 
 pub returns-in-Ok-clause-spends : goal.returns-in-Ok-clause-spends
 returns-in-Ok-clause-spends g t c way end asks =
-    let a = same_asks c.next_turn.ensures.same asks in
+    let a = same_asks c.next_descent.ensures.same asks in
     let told = c.in-Some.ensures.on c.args.low way end asks.hangs.top asks.is_way in
     let n = along_here a (told.through) in let m = c.twig_count-n.ensures in let s = c.room_for.ensures.spends in
     let d = c.copy_way.ensures.spends told.through.rest end (asks_after a (told.through) c.in_ok-to-in-Some.ensures.handed c.in_ok-to-in-Some.ensures.frame told.next_is) in
@@ -123,7 +123,7 @@ returns-in-Ok-clause-spends g t c way end asks =
 pub returns-in-Ok-clause-frame : goal.returns-in-Ok-clause-frame
 returns-in-Ok-clause-frame g t c =
     let h = subst (Handed (g.U.Space.account c.args.usage.now) (g.U.Space.account c.room_for.new.usage) c.in_ok-to-in-Some.to) c.twig_count-n.ensures c.in_ok-to-in-Some.ensures.handed in
-    frame_counts (frame_wrote h (frame_same c.next_turn.ensures.same c.in_ok-to-in-Some.ensures.frame) c.in-Ok.ensures.frame c.move_twigs.ensures.wrote) c.move_twigs.ensures.rest
+    frame_counts (frame_wrote h (frame_same c.next_descent.ensures.same c.in_ok-to-in-Some.ensures.frame) c.in-Ok.ensures.frame c.move_twigs.ensures.wrote) c.move_twigs.ensures.rest
 
 pub returns-in-Ok-clause-ready : goal.returns-in-Ok-clause-ready
 returns-in-Ok-clause-ready g t c = ready_counts c.move_twigs.ensures.rest (ready_wrote c.move_twigs.ensures.wrote c.in-Ok.ensures.ready)

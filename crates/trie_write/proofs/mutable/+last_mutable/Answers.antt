@@ -3,13 +3,13 @@ use Rattle.std.proofs.Math.Facts.{Fits-lt}
 use Rattle.chunk_cells.specs.Chunks.{IsGiven}
 use Rattle.trie_write.specs.Spaces.{Ready}
 use Rattle.trie_write.specs.Mutable.{IsParted}
-use Rattle.trie_write.proofs.TurnLaws.{known}
+use Rattle.trie_write.proofs.DescentLaws.{known}
 use Rattle.trie_write.proofs.CopyLaws.{n_here, cell_used, old_lies, asks_on}
 use Rattle.trie_write.proofs.PutLaws.{parted_end, parted_here, parted_on}
 use Rattle.trie_write.proofs.mutable.+last_mutable.Goals as goal
 
-pub next_turn-requires : goal.next_turn-requires
-next_turn-requires g t c = let a = c.requires.asks.asks in record { way = (c.args.low, record { way = c.requires.asks.way; end = c.requires.asks.end; top = a.hangs.top; is_way = a.is_way }) }
+pub next_descent-requires : goal.next_descent-requires
+next_descent-requires g t c = let a = c.requires.asks.asks in record { way = (c.args.low, record { way = c.requires.asks.way; end = c.requires.asks.end; top = a.hangs.top; is_way = a.is_way }) }
 
 pub overflow_add-at : goal.overflow_add-at
 overflow_add-at g t c =
@@ -23,9 +23,9 @@ last_mutable-requires g t c κs within =
     let a = c.requires.asks.asks in
     let told = c.in-Some.ensures.on c.args.low _ c.requires.asks.end a.hangs.top a.is_way in
     let k = known a.hangs.top a.is_way told.through in
-    let f : 504 - (c.in-Some.turn.branch.offset + 1) < 504 - c.args.low = let late = k.late in let early = k.early in omega arith in
-    let next = asks_on a told.through {a1 = c.args.usage.now} {next = c.in-Some.turn.next} (λ z. omega arith) (λ q x u h. subst (λ s. g.C.CellRead.has s q x) (sym c.next_turn.ensures.same) h) (λ q u. u) told.next_is in
-    let used = cell_used a told.through c.in-Some.turn.index (let n = n_here a told.through in let i = told.index_is in omega arith) in (
+    let f : 504 - (c.in-Some.descent.branch.offset + 1) < 504 - c.args.low = let late = k.late in let early = k.early in omega arith in
+    let next = asks_on a told.through {a1 = c.args.usage.now} {next = c.in-Some.descent.next} (λ z. omega arith) (λ q x u h. subst (λ s. g.C.CellRead.has s q x) (sym c.next_descent.ensures.same) h) (λ q u. u) told.next_is in
+    let used = cell_used a told.through c.in-Some.descent.index (let n = n_here a told.through in let i = told.index_is in omega arith) in (
       search (rules, f),
       (
         within.0,
@@ -34,8 +34,8 @@ last_mutable-requires g t c κs within =
           (
             record { way = told.through.rest; end = c.requires.asks.end; asks = next },
             (
-              record { in_use = used; mutable = sym c.is_mutable.ensures.value ∙ c.if-is_mutable.true; in_given = subst (λ (x : List Bool). IsGiven x ((c.in-Some.turn.branch.twigs + c.in-Some.turn.index) / 1024)) (sym (ap g.C.CellWrite.given c.next_turn.ensures.same ∙ c.requires.ready.same)) (c.is_mutable.ensures.given used) },
-              subst (λ s. Ready g.C.CellWrite.kept g.C.CellWrite.given g.U.Space.account s c.args.usage.now) (sym c.next_turn.ensures.same) c.requires.ready,
+              record { in_use = used; mutable = sym c.is_mutable.ensures.value ∙ c.if-is_mutable.true; in_given = subst (λ (x : List Bool). IsGiven x ((c.in-Some.descent.branch.twigs + c.in-Some.descent.index) / 1024)) (sym (ap g.C.CellWrite.given c.next_descent.ensures.same ∙ c.requires.ready.same)) (c.is_mutable.ensures.given used) },
+              subst (λ s. Ready g.C.CellWrite.kept g.C.CellWrite.given g.U.Space.account s c.args.usage.now) (sym c.next_descent.ensures.same) c.requires.ready,
             ),
           ),
         ),
@@ -43,15 +43,15 @@ last_mutable-requires g t c κs within =
     )
 
 pub returns-in-None-clause-parted : goal.returns-in-None-clause-parted
-returns-in-None-clause-parted g t c way end a = parted_end (c.next_turn.ensures.none c.in-None.is c.args.low way end a.hangs.top a.is_way) c.requires.writable.mutable a.hangs.top.is
+returns-in-None-clause-parted g t c way end a = parted_end (c.next_descent.ensures.none c.in-None.is c.args.low way end a.hangs.top a.is_way) c.requires.writable.mutable a.hangs.top.is
 
 pub returns-else-is_mutable-clause-parted : goal.returns-else-is_mutable-clause-parted
 returns-else-is_mutable-clause-parted g t c way end a =
     let told = c.in-Some.ensures.on c.args.low way end a.hangs.top a.is_way in
-    parted_here _ told.through.is c.requires.writable.mutable (ap (λ i. (g.U.Space.account c.args.usage.now).mutable (c.in-Some.turn.branch.twigs + i)) (sym told.index_is) ∙ sym c.is_mutable.ensures.value ∙ c.if-is_mutable.false) a.hangs.top.is
+    parted_here _ told.through.is c.requires.writable.mutable (ap (λ i. (g.U.Space.account c.args.usage.now).mutable (c.in-Some.descent.branch.twigs + i)) (sym told.index_is) ∙ sym c.is_mutable.ensures.value ∙ c.if-is_mutable.false) a.hangs.top.is
 
 pub returns-then-is_mutable-clause-parted : goal.returns-then-is_mutable-clause-parted
 returns-then-is_mutable-clause-parted g t c way end a =
     let told = c.in-Some.ensures.on c.args.low way end a.hangs.top a.is_way in
-    let next = asks_on a told.through {a1 = c.args.usage.now} {next = c.in-Some.turn.next} (λ z. omega arith) (λ q x u h. subst (λ s. g.C.CellRead.has s q x) (sym c.next_turn.ensures.same) h) (λ q u. u) told.next_is in
-    parted_on _ told.through.is c.requires.writable.mutable (subst (λ i. IsParted (g.U.Space.account c.args.usage.now).mutable (c.in-Some.turn.branch.twigs + i) told.through.rest end c.last_mutable.result.at c.last_mutable.result.node) told.index_is (c.last_mutable.ensures.parted told.through.rest end next))
+    let next = asks_on a told.through {a1 = c.args.usage.now} {next = c.in-Some.descent.next} (λ z. omega arith) (λ q x u h. subst (λ s. g.C.CellRead.has s q x) (sym c.next_descent.ensures.same) h) (λ q u. u) told.next_is in
+    parted_on _ told.through.is c.requires.writable.mutable (subst (λ i. IsParted (g.U.Space.account c.args.usage.now).mutable (c.in-Some.descent.branch.twigs + i) told.through.rest end c.last_mutable.result.at c.last_mutable.result.node) told.index_is (c.last_mutable.ensures.parted told.through.rest end next))

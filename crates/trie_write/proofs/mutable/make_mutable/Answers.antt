@@ -1,4 +1,4 @@
-use Rattle.std.proofs.Common.{◌/◌, Bool, List, [], map, refl, sym, ◌∙◌, ap, subst}
+use Rattle.std.proofs.Common.{◌/◌, Bool, List, [], map, sym, ◌∙◌, ap, subst}
 use Rattle.chunk_cells.specs.Chunks.{IsGiven}
 use Rattle.trie_write.specs.Ways.{twigs_of}
 use Rattle.trie_write.proofs.AskLaws.{later_of}
@@ -6,49 +6,47 @@ use Rattle.trie_write.proofs.SpaceLaws.{fenced_same, refused_same, ready_put, ok
 use Rattle.trie_write.proofs.PutLaws.{end_used, same_seat_asks, same_seat}
 use Rattle.trie_write.proofs.mutable.make_mutable.Goals as goal
 
-pub set_out-requires : goal.set_out-requires
-set_out-requires g c =
-    let a = c.requires.asks.asks in
-    record { way = (_, a.rooted.top, record { way = c.requires.asks.way; end = c.requires.asks.end; top = record { tree = a.tree; is = refl; beneath = a.rooted.beneath }; is_way = a.is_way }) }
+pub cell-node-requires : goal.cell-node-requires
+cell-node-requires g c = record { there = (_, c.requires.asks.asks.rooted.top) }
 
 pub open_below-requires : goal.open_below-requires
 open_below-requires g c =
     let used = end_used [] _ c.requires.asks.asks.rooted in
     record {
-      asks = record { spare = c.requires.asks.spare; way = c.requires.asks.way; end = c.requires.asks.end; asks = same_seat_asks c.set_out.ensures.same c.requires.asks.asks };
-      node = λ x h. c.set_out.ensures.node x (subst (λ s. g.C.CellRead.has s c.args.root x) c.set_out.ensures.same h);
+      asks = record { spare = c.requires.asks.spare; way = c.requires.asks.way; end = c.requires.asks.end; asks = same_seat_asks c.cell-node.ensures.same c.requires.asks.asks };
+      node = λ x h. c.cell-node.ensures.value x (subst (λ s. g.C.CellRead.has s c.args.root x) c.cell-node.ensures.same h);
       writable = record {
         in_use = used;
         mutable = sym c.is_mutable.ensures.value ∙ c.if-is_mutable.true;
-        in_given = subst (λ (x : List Bool). IsGiven x (c.args.root / 1024)) (sym (ap g.C.CellWrite.given c.set_out.ensures.same ∙ c.requires.ready.same)) (c.is_mutable.ensures.given used);
+        in_given = subst (λ (x : List Bool). IsGiven x (c.args.root / 1024)) (sym (ap g.C.CellWrite.given c.cell-node.ensures.same ∙ c.requires.ready.same)) (c.is_mutable.ensures.given used);
       };
-      ready = ready_put c.requires.ready (ap g.C.CellWrite.given c.set_out.ensures.same) (ap g.C.CellWrite.kept c.set_out.ensures.same);
+      ready = ready_put c.requires.ready (ap g.C.CellWrite.given c.cell-node.ensures.same) (ap g.C.CellWrite.kept c.cell-node.ensures.same);
     }
 
 pub open_anew-requires : goal.open_anew-requires
 open_anew-requires g c = record {
-  asks = record { spare = c.requires.asks.spare; way = c.requires.asks.way; end = c.requires.asks.end; asks = same_seat_asks c.set_out.ensures.same c.requires.asks.asks };
-  node = λ x h. c.set_out.ensures.node x (subst (λ s. g.C.CellRead.has s c.args.root x) c.set_out.ensures.same h);
+  asks = record { spare = c.requires.asks.spare; way = c.requires.asks.way; end = c.requires.asks.end; asks = same_seat_asks c.cell-node.ensures.same c.requires.asks.asks };
+  node = λ x h. c.cell-node.ensures.value x (subst (λ s. g.C.CellRead.has s c.args.root x) c.cell-node.ensures.same h);
   immutable = sym c.is_mutable.ensures.value ∙ c.if-is_mutable.false;
-  ready = ready_put c.requires.ready (ap g.C.CellWrite.given c.set_out.ensures.same) (ap g.C.CellWrite.kept c.set_out.ensures.same);
+  ready = ready_put c.requires.ready (ap g.C.CellWrite.given c.cell-node.ensures.same) (ap g.C.CellWrite.kept c.cell-node.ensures.same);
 }
 
 pub returns-then-is_mutable : goal.returns-then-is_mutable
 returns-then-is_mutable g c = record {
-  seat = ok_map c.open_below.result (λ seat made spare way end a. same_seat c.set_out.ensures.same (made spare way end (same_seat_asks c.set_out.ensures.same a))) c.open_below.ensures.seat;
-  spends = λ spare way end a. c.open_below.ensures.spends spare way end (same_seat_asks c.set_out.ensures.same a);
-  refused = err_map c.open_below.result (λ full r. refused_same c.set_out.ensures.same r) c.open_below.ensures.refused;
-  asked = err_map c.open_below.result (λ full n spare way end a. later_of 1 full.needed (map twigs_of way) (n spare way end (same_seat_asks c.set_out.ensures.same a))) c.open_below.ensures.asked;
-  frame = fenced_same c.set_out.ensures.same c.open_below.ensures.frame;
+  seat = ok_map c.open_below.result (λ seat made spare way end a. same_seat c.cell-node.ensures.same (made spare way end (same_seat_asks c.cell-node.ensures.same a))) c.open_below.ensures.seat;
+  spends = λ spare way end a. c.open_below.ensures.spends spare way end (same_seat_asks c.cell-node.ensures.same a);
+  refused = err_map c.open_below.result (λ full r. refused_same c.cell-node.ensures.same r) c.open_below.ensures.refused;
+  asked = err_map c.open_below.result (λ full n spare way end a. later_of 1 full.needed (map twigs_of way) (n spare way end (same_seat_asks c.cell-node.ensures.same a))) c.open_below.ensures.asked;
+  frame = fenced_same c.cell-node.ensures.same c.open_below.ensures.frame;
   ready = c.open_below.ensures.ready;
 }
 
 pub returns-else-is_mutable : goal.returns-else-is_mutable
 returns-else-is_mutable g c = record {
-  seat = ok_map c.open_anew.result (λ seat made spare way end a. same_seat c.set_out.ensures.same (made spare way end (same_seat_asks c.set_out.ensures.same a))) c.open_anew.ensures.seat;
-  spends = λ spare way end a. c.open_anew.ensures.spends spare way end (same_seat_asks c.set_out.ensures.same a);
-  refused = err_map c.open_anew.result (λ full r. refused_same c.set_out.ensures.same r) c.open_anew.ensures.refused;
-  asked = err_map c.open_anew.result (λ full n spare way end a. n spare way end (same_seat_asks c.set_out.ensures.same a)) c.open_anew.ensures.asked;
-  frame = fenced_same c.set_out.ensures.same c.open_anew.ensures.frame;
+  seat = ok_map c.open_anew.result (λ seat made spare way end a. same_seat c.cell-node.ensures.same (made spare way end (same_seat_asks c.cell-node.ensures.same a))) c.open_anew.ensures.seat;
+  spends = λ spare way end a. c.open_anew.ensures.spends spare way end (same_seat_asks c.cell-node.ensures.same a);
+  refused = err_map c.open_anew.result (λ full r. refused_same c.cell-node.ensures.same r) c.open_anew.ensures.refused;
+  asked = err_map c.open_anew.result (λ full n spare way end a. n spare way end (same_seat_asks c.cell-node.ensures.same a)) c.open_anew.ensures.asked;
+  frame = fenced_same c.cell-node.ensures.same c.open_anew.ensures.frame;
   ready = c.open_anew.ensures.ready;
 }

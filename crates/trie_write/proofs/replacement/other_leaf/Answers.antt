@@ -1,11 +1,11 @@
 use Rattle.std.proofs.Common.{refl, sym, ◌∙◌, subst}
 use Rattle.trie_model.specs.Trees.Tree.{leaf}
 use Rattle.trie_read.specs.Reads.{IsTop}
-use Rattle.trie_write.specs.Turns.{HasWay}
+use Rattle.trie_write.specs.Descents.{HasWay}
 use Rattle.trie_write.proofs.RootLaws.{leads_some}
 use Rattle.trie_write.proofs.ReplaceLaws.{taken_item, leaf_top, root_top, other_makes}
 use Rattle.trie_write.proofs.LaidLaws.{laid_leaf}
-use Rattle.trie_write.proofs.TurnLaws.{same_top}
+use Rattle.trie_write.proofs.DescentLaws.{same_top}
 use Rattle.trie_write.proofs.replacement.other_leaf.Goals as goal
 
 pub cell-node-requires : goal.cell-node-requires

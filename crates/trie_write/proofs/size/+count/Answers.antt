@@ -5,7 +5,7 @@ use Rattle.trie_model.specs.Trees.Tree.{leaf}
 use Rattle.trie_model.specs.Trees.Twigs.{none, twig}
 use Rattle.trie_model.proofs.ExtentLaws.{laid}
 use Rattle.trie_model.proofs.SizeLaws.{entry_cells}
-use Rattle.trie_write.specs.declared.points.BranchPoint.{BranchPoint}
+use Rattle.trie_write.specs.declared.branch_points.BranchPoint.{BranchPoint}
 use Rattle.trie_write.specs.Entries.{entry_of, entries_of_items}
 use Rattle.trie_write.specs.Points.{Before, Front}
 use Rattle.trie_write.proofs.ItemLaws.{item_entry}

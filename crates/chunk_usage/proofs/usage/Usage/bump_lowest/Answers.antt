@@ -4,7 +4,7 @@ use Rattle.std.proofs.lemmas.List.{length-set}
 use Rattle.chunk_usage.specs.Ledger.{Ledger, free_count}
 use Rattle.chunk_usage.specs.Inside.{ledger_of}
 use Rattle.chunk_sets.proofs.FlagLemmas.{First, first_is, one_fewer_clear}
-use Rattle.chunk_usage.proofs.HandingLaws.{with_open_alike}
+use Rattle.chunk_usage.proofs.HandingLaws.{with_bump_alike}
 use Rattle.chunk_usage.proofs.InsideLemmas.{known}
 use Rattle.chunk_usage.proofs.usage.Usage.bump_lowest.Goals as goal
 
@@ -32,7 +32,7 @@ invariant_of-self c =
     let f = first_is s.allocated chunk c.first_absent-chunk.ensures (subst (λ (l : Ledger). 0 < free_count l) (sym known.view_is) c.requires) in
     let n : length c.insert.new.self ≡ length s.allocated = ap length c.insert.ensures ∙ length-set s.allocated chunk true in
     record {
-      ledger = with_open_alike (ledger_of s) known.whole.ledger chunk f.within f.clear c.insert.new.self c.insert-2.new.self c.insert.ensures c.insert-2.ensures;
+      ledger = with_bump_alike (ledger_of s) known.whole.ledger chunk f.within f.clear c.insert.new.self c.insert-2.new.self c.insert.ensures c.insert-2.ensures;
       free = let e = known.whole.free in let fewer = one_fewer_clear s.allocated chunk f.within f.clear in let m = ap (count_by not) c.insert.ensures in omega arith;
       slots = known.whole.slots;
       within = known.whole.within;

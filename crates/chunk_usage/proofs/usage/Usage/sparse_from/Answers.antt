@@ -1,7 +1,7 @@
 use Rattle.std.proofs.Common.{◌≡◌, ℕ, suc, ◌+◌, ◌<◌, ◌≤◌, Bool, true, false, not, List, slice_index, slice_index_or, inl, inr, refl, sym, ap, subst, ◌∙◌, arith}
 use Rattle.std.specs.Prelude.{◌&&◌, ◌⊎◌, Option, None, IfNone}
 use Rattle.std.proofs.lemmas.Bool.{cases_lt, cases_eq, true≢false}
-use Rattle.chunk_usage.specs.Ledger.{Ledger, is_given, is_open}
+use Rattle.chunk_usage.specs.Ledger.{Ledger, is_given, is_bump}
 use Rattle.chunk_usage.specs.Counting.{is_low, is_sparse, thin_row}
 use Rattle.chunk_usage.proofs.CountLemmas.{not_thin}
 use Rattle.chunk_usage.proofs.InsideLemmas.{known}
@@ -20,7 +20,7 @@ shut false w o h = absurd (true≢false (sym h))
 
 -- of a sparse chunk that isn't in the set of the thin ones no cell counts
 clear : (l : Ledger) (thin : List Bool) → thin ≡ thin_row l.live → (k : ℕ) → slice_index_or thin k false ≡ false → is_sparse l k ≡ true → slice_index l.live k ≡ 0
-clear l thin is k h sparse = not_thin l.live k (ap (λ (row : List Bool). slice_index_or row k false) (sym is) ∙ h) (few (is_given l k) (is_low (slice_index l.live k)) (is_open l.open_chunk k) sparse)
+clear l thin is k h sparse = not_thin l.live k (ap (λ (row : List Bool). slice_index_or row k false) (sym is) ∙ h) (few (is_given l k) (is_low (slice_index l.live k)) (is_bump l.bump k) sparse)
 
 pub returns-in_err-first-clause-none : goal.returns-in_err-first-clause-none
 returns-in_err-first-clause-none c e k le sparse =
@@ -39,7 +39,7 @@ returns-clause-none c e k le sparse =
     elim (cases_lt k c.in_ok-first.first) [
       | inl before ↦ clear c.args.self.now c.thin-thin.result.now thin k (first.none_between k le before) sparse
       | inr from ↦ (elim (cases_eq k c.in_ok-first.first) [
-        | inl here ↦ (let open_here : true ≡ is_open c.args.self.now.open_chunk k = sym (ap (is_open c.args.self.now.open_chunk) here ∙ ap (λ (l : Ledger). is_open l.open_chunk c.in_ok-first.first) (sym again.view_is) ∙ sym c.is_chunk_of.ensures ∙ is_it) in absurd (true≢false (open_here ∙ shut (is_given c.args.self.now k) (is_low (slice_index c.args.self.now.live k)) (is_open c.args.self.now.open_chunk k) sparse)))
+        | inl here ↦ (let open_here : true ≡ is_bump c.args.self.now.bump k = sym (ap (is_bump c.args.self.now.bump) here ∙ ap (λ (l : Ledger). is_bump l.bump c.in_ok-first.first) (sym again.view_is) ∙ sym c.is_chunk_of.ensures ∙ is_it) in absurd (true≢false (open_here ∙ shut (is_given c.args.self.now k) (is_low (slice_index c.args.self.now.live k)) (is_bump c.args.self.now.bump k) sparse)))
         | inr other ↦ clear c.args.self.now c.thin-thin.result.now thin k (further k (omega arith)) sparse
       ])
     ]

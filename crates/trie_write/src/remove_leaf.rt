@@ -1,0 +1,74 @@
+//! A branch without one of its leaves.
+
+ghost use Rattle.std.specs.Prelude.{◌≡◌, ◌+◌, ◌-◌, ◌≤◌, ℕ, List, IfOk, IfErr, count_ones};
+ghost use Rattle.trie_model.specs.Keys.{Entry};
+ghost use Rattle.trie_model.specs.Trees.{Tree};
+ghost use Rattle.trie_model.specs.Trees.Tree.{leaf};
+ghost use Rattle.trie_write.specs.Deletions.{LeafDescent, LeafTurned, IsWithout};
+ghost use Rattle.trie_write.specs.Laid.{IsNoItem};
+ghost use Rattle.trie_write.specs.Puts.{IsTaken};
+ghost use Rattle.trie_write.specs.Spaces.{Ready, Frame, Refused};
+ghost use Rattle.trie_write.specs.Ways.{Fork, plug};
+
+use super::alloc::copy_apart;
+use super::change::{Change, NO_CELLS, NO_ITEM, Span, item_below};
+use super::descend::Descent;
+use chunk_cells::{CellWrite, Extents};
+use chunk_usage::{Full, Space};
+use packed_node::{Branch, Cell, Node, bitmap};
+use shift_key::Key;
+
+/// The change to what is left of a branch, in these cells.
+fn leaf_gone(cell: Cell, new_twigs: Span, old_twigs: Span, old_item: Extents) -> Change
+    ensures cell { result.cell ≡ cell }
+    ensures new_twigs { result.new_twigs ≡ new_twigs }
+    ensures new_item { IsNoItem result.new_item }
+    ensures old_twigs { result.old_twigs ≡ old_twigs }
+    ensures old_item { result.old_item ≡ old_item }
+{
+    Change {
+        cell,
+        new_twigs,
+        new_item: NO_ITEM,
+        old_twigs,
+        old_item,
+    }
+}
+
+/// What makes of a branch the same without the key's leaf: the others side by side in other cells, or of two twigs the other one.
+pub fn without_leaf<C: CellWrite, U: Space>(
+    cells: &mut C,
+    usage: &mut U,
+    key: &Key,
+    descent: Descent,
+) -> Result<Change, Full>
+    requires last { LeafTurned C.has U.account cells.old usage.old key.now descent }
+    requires ready { Ready C.kept C.given U.account cells.old usage.old }
+    ensures without { IfOk result (λ change. (lower : List Fork) (e : Entry) (x : _) → LeafDescent C.has U.account cells.old usage.old key.now descent lower e x
+        → IsWithout C.has cells.new change e (plug lower (leaf e x))) }
+    ensures taken { IfOk result (λ change. IsTaken (U.account usage.old) (U.account usage.new) change) }
+    ensures spends { (U.account usage.new).spent + 1 ≤ (U.account usage.old).spent + count_ones descent.branch.bitmap }
+    ensures refused { IfErr result (λ f. Refused C.has U.account U.lacks cells.old usage.old cells.new usage.new f) }
+    ensures asked { IfErr result (λ f. f.needed ≡ count_ones descent.branch.bitmap - 1) }
+    ensures frame { Frame C.has C.kept C.given U.account cells.old usage.old cells.new usage.new }
+    ensures ready { Ready C.kept C.given U.account cells.new usage.new }
+{
+    let old_twigs = Span {
+        at: descent.branch.twigs,
+        n: descent.branch.twig_count(),
+    };
+    let old_item = item_below(cells, descent.next);
+    if old_twigs.n == 2 {
+        let other = cells.cell(descent.branch.twigs + (1 - descent.index));
+        return Ok(leaf_gone(other, NO_CELLS, old_twigs, old_item));
+    }
+    let to = copy_apart(cells, usage, old_twigs, descent.index, 1, 0)?;
+    let n = old_twigs.n - 1;
+    let fewer = Branch {
+        offset: descent.branch.offset,
+        bitmap: bitmap::without(descent.branch.bitmap, key.at(descent.branch.offset)),
+        twigs: to,
+    };
+    let cell = Node::Branch(fewer).pack();
+    Ok(leaf_gone(cell, Span { at: to, n }, old_twigs, old_item))
+}
