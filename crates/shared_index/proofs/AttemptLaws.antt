@@ -10,7 +10,7 @@ use Rattle.pin_core.specs.Words.{status_at}
 use Rattle.pin_core.specs.declared.kept.Kept.{Kept}
 use Rattle.chunk_cells.specs.Chunks.{IsGiven}
 use Rattle.chunk_usage.specs.declared.space.Full.{Full as NoRoom}
-use Rattle.chunk_usage.specs.Ledger.{Ledger, Frozen, is_open, is_used, is_mutable, is_given, frozen_part, reserved}
+use Rattle.chunk_usage.specs.Ledger.{Ledger, Frozen, is_bump, is_used, is_mutable, is_given, frozen_part, reserved}
 use Rattle.chunk_usage.specs.Handing.{Lacks, spent}
 use Rattle.chunk_usage.specs.Rooms.{Grows, OpensFree, account_of}
 use Rattle.chunk_sets.proofs.FlagLemmas.{get_set}
@@ -98,7 +98,7 @@ ready_of cells u count a = record {
 -- What a change of lent cells leaves of the usage, whether or not it took chunks of the reserve.
 pub record Leaves (first lent : Cells) (u n : Ledger) : Type 0 where
   pub given_stays : (k : ℕ) → IsGiven (given_chunks first) k → IsGiven (given_chunks lent) k
-  pub opens : OpensFree (given_chunks first) (is_open u.open_chunk) (is_open n.open_chunk)
+  pub opens : OpensFree (given_chunks first) (is_bump u.bump) (is_bump n.bump)
   pub grows : Grows (is_used u) (is_used n) (is_mutable u) (is_mutable n)
   pub last : frozen_part n ≡ frozen_part u
   pub same : given_chunks lent ≡ n.given

@@ -12,9 +12,9 @@ use Rattle.trie_model.specs.Trees.{Tree}
 use Rattle.trie_model.specs.Reach.{in_chunk, weigh_tree}
 use Rattle.trie_model.proofs.ExtentLaws.{second_true}
 use Rattle.trie_model.proofs.ReachLaws.{live_is}
-use Rattle.chunk_usage.specs.declared.open.Open.{Open}
+use Rattle.chunk_usage.specs.declared.bump.Bump.{Bump}
 use Rattle.chunk_usage.specs.declared.space.Full.{Full}
-use Rattle.chunk_usage.specs.Ledger.{Ledger, Frozen, Row, is_in_row, frozen_part, is_open, is_given, free_count, reserve_of}
+use Rattle.chunk_usage.specs.Ledger.{Ledger, Frozen, Row, is_in_row, frozen_part, is_bump, is_given, free_count, reserve_of}
 use Rattle.chunk_usage.specs.Handing.{Lacks, spent}
 use Rattle.chunk_usage.specs.Keeping.{is_in_rows, is_needed, freed}
 use Rattle.chunk_usage.proofs.RecyclingLaws.{freed_by_chunk}
@@ -27,7 +27,7 @@ use Rattle.trie_model.proofs.SizeLaws.{size_is, no_cells}
 use Rattle.shared_index.proofs.CountedLaws.{row_le}
 use Rattle.shared_index.proofs.MeetLaws.{firsts, branches, met_first, row_add, firsts_sum, firsts_few, equal_once, path_few, set_few}
 use Rattle.shared_index.proofs.OpenLaws.{none_unspent, clear_is}
-use Rattle.shared_index.proofs.RisenLaws.{risen, risen_few, risen_has, with_open, open_first, open_later, open_few}
+use Rattle.shared_index.proofs.RisenLaws.{risen, risen_few, risen_has, with_bump, open_first, open_later, open_few}
 use Rattle.std.specs.List.{All, list_any}
 use Rattle.std.proofs.lemmas.List.Sums.{sum_by-cons}
 use Rattle.std.proofs.lemmas.List.FromFn.{get_or-map-range_with_len}
@@ -98,10 +98,10 @@ path_of {live = live} (Some r) key es s tells = record {
 
 -- chunks that stay given are open, were so at the last freeze, or have live cells now or then
 
-abbrev pub open_one : Option Open → ℕ → ℕ
-open_one o k = if is_open o k then 1 else 0
+abbrev pub open_one : Option Bump → ℕ → ℕ
+open_one o k = if is_bump o k then 1 else 0
 
-pub open_once : (o : Option Open) (n : ℕ) → row (open_one o) 0 n ≤ 1
+pub open_once : (o : Option Bump) (n : ℕ) → row (open_one o) 0 n ≤ 1
 open_once None n = zeros 0 n
   where
     zeros : (r n : ℕ) → row (λ k. 0) r n ≤ 1
@@ -112,12 +112,12 @@ open_once (Some o) n = equal_once o.chunk 0 n
 -- each chunk that stays allocated is needed
 
 abbrev pub NeededBy : Ledger → ℕ → Type 0
-NeededBy l k = ((is_open l.open_chunk k ≡ true) ⊎ (is_open l.last_open k ≡ true)) ⊎ ((0 < slice_index l.live k) ⊎ (is_in_rows l.rows k ≡ true))
+NeededBy l k = ((is_bump l.bump k ≡ true) ⊎ (is_bump l.fender k ≡ true)) ⊎ ((0 < slice_index l.live k) ⊎ (is_in_rows l.rows k ≡ true))
 
 pub each_needed : (l : Ledger) (k : ℕ) → is_given (freed l) k ≡ true → NeededBy (freed l) k
-each_needed l k t = go (is_open l.open_chunk k) (is_open l.last_open k) (nat_lt 0 (slice_index l.live k)) refl refl refl (second_true (is_given l k) (is_needed l k) (sym (freed_by_chunk l k) ∙ t))
+each_needed l k t = go (is_bump l.bump k) (is_bump l.fender k) (nat_lt 0 (slice_index l.live k)) refl refl refl (second_true (is_given l k) (is_needed l k) (sym (freed_by_chunk l k) ∙ t))
   where
-    go : (a b c : Bool) → is_open l.open_chunk k ≡ a → is_open l.last_open k ≡ b → nat_lt 0 (slice_index l.live k) ≡ c → (a || (b || (c || is_in_rows l.rows k))) ≡ true → NeededBy l k
+    go : (a b c : Bool) → is_bump l.bump k ≡ a → is_bump l.fender k ≡ b → nat_lt 0 (slice_index l.live k) ≡ c → (a || (b || (c || is_in_rows l.rows k))) ≡ true → NeededBy l k
     go true b c p q r h = inl (inl p)
     go false true c p q r h = inl (inr q)
     go false false true p q r h = inr (inl (grind (arith, nat_tests, r)))
@@ -131,14 +131,14 @@ abbrev pub some_row : List Row → ℕ → ℕ
 some_row rows k = if is_in_rows rows k then 1 else 0
 
 abbrev reasons : Ledger → ℕ → ℕ
-reasons l k = (open_one l.open_chunk k + open_one l.last_open k) + (some_live (live_of l) k + some_row l.rows k)
+reasons l k = (open_one l.bump k + open_one l.fender k) + (some_live (live_of l) k + some_row l.rows k)
 
 some_one : (live : ℕ → ℕ) (k : ℕ) → 0 < live k → ◌≡◌ {A = ℕ} (some_live live k) 1
 some_one live k some = let e : nat_lt 0 (live k) ≡ true = grind (arith, nat_tests) in ap (λ (x : Bool). cond {A = ℕ} x 1 0) e
 
 needed_counts : (l : Ledger) (k : ℕ) → NeededBy l k → 1 ≤ reasons l k
-needed_counts l k (inl (inl h)) = let e : ◌≡◌ {A = ℕ} (open_one l.open_chunk k) 1 = ap (λ (x : Bool). cond {A = ℕ} x 1 0) h in omega arith
-needed_counts l k (inl (inr h)) = let e : ◌≡◌ {A = ℕ} (open_one l.last_open k) 1 = ap (λ (x : Bool). cond {A = ℕ} x 1 0) h in omega arith
+needed_counts l k (inl (inl h)) = let e : ◌≡◌ {A = ℕ} (open_one l.bump k) 1 = ap (λ (x : Bool). cond {A = ℕ} x 1 0) h in omega arith
+needed_counts l k (inl (inr h)) = let e : ◌≡◌ {A = ℕ} (open_one l.fender k) 1 = ap (λ (x : Bool). cond {A = ℕ} x 1 0) h in omega arith
 needed_counts l k (inr (inl h)) = let e = some_one (live_of l) k h in omega arith
 needed_counts l k (inr (inr h)) = let e : ◌≡◌ {A = ℕ} (some_row l.rows k) 1 = ap (λ (x : Bool). cond {A = ℕ} x 1 0) h in omega arith
 
@@ -146,11 +146,11 @@ pub given_few : (l : Ledger) → ((k : ℕ) → is_given l k ≡ true → Needed
 given_few l needed =
     let n = length l.given in
     let a = set_few l.given (reasons l) (λ k t. needed_counts l k (needed k t)) in
-    let b = row_add (λ k. open_one l.open_chunk k + open_one l.last_open k) (λ k. some_live (live_of l) k + some_row l.rows k) 0 n in
-    let c = row_add (open_one l.open_chunk) (open_one l.last_open) 0 n in
+    let b = row_add (λ k. open_one l.bump k + open_one l.fender k) (λ k. some_live (live_of l) k + some_row l.rows k) 0 n in
+    let c = row_add (open_one l.bump) (open_one l.fender) 0 n in
     let d = row_add (some_live (live_of l)) (some_row l.rows) 0 n in
-    let e = open_once l.open_chunk n in
-    let f = open_once l.last_open n in omega arith
+    let e = open_once l.bump n in
+    let f = open_once l.fender n in omega arith
 
 -- chunks that kept versions have cells in
 
@@ -215,7 +215,7 @@ kept_images v (k ∷ kept) all =
 pub many : (m new : Ledger) (f : Full) (chunks cells_es cells_base meets_es meets_base b n written : ℕ) → length m.given ≡ chunks → length new.given ≡ chunks → chunks ≤ free_count m + (2 + meets_es + meets_base) → meets_es + b ≤ cells_es → meets_base ≤ cells_base
     → n ≤ 47 * b → written ≤ 4115 → spent new ≤ spent m + (written + n) → Lacks new f → chunks - reserve_of new - 8 ≤ cells_es + cells_base
 many m new f chunks cells_es cells_base meets_es meets_base b n written old_length new_length given es base path short cost lacks =
-    let all = none_unspent new.open_chunk f.needed lacks.0.few_left lacks.2 in
+    let all = none_unspent new.bump f.needed lacks.0.few_left lacks.2 in
     let none = lacks.0.none_free in
     let free = count_by-le-length not new.given in
     let free_m = count_by-le-length not m.given in omega arith
@@ -228,15 +228,15 @@ zeroth : (k : ℕ) → 0 + k ≡ k
 zeroth k = omega arith
 
 pub met_or_opened : (m new : Ledger) → ((k : ℕ) → is_given m k ≡ true → NeededBy m k) → length new.given ≡ length m.given → frozen_part new ≡ frozen_part m → ((k : ℕ) → slice_index new.live k ≡ slice_index m.live k) → (k : ℕ) → is_given new k ≡ true
-    → ((is_open new.last_open k ≡ true) ⊎ Contains (with_open m.open_chunk (taken m new)) k) ⊎ ((0 < slice_index new.live k) ⊎ (is_in_rows new.rows k ≡ true))
+    → ((is_bump new.fender k ≡ true) ⊎ Contains (with_bump m.bump (taken m new)) k) ⊎ ((0 < slice_index new.live k) ⊎ (is_in_rows new.rows k ≡ true))
 met_or_opened m new needed chunks frozen live k given = elim (cases_Bool (is_given m k)) [
   | inl before ↦ was (needed k before)
-  | inr not_before ↦ inl (inr (open_later m.open_chunk (taken m new) k (subst (λ (i : ℕ). Contains (taken m new) i) (zeroth k) (risen_has m.given new.given 0 k chunks given not_before))))
+  | inr not_before ↦ inl (inr (open_later m.bump (taken m new) k (subst (λ (i : ℕ). Contains (taken m new) i) (zeroth k) (risen_has m.given new.given 0 k chunks given not_before))))
 ]
   where
-    was : NeededBy m k → ((is_open new.last_open k ≡ true) ⊎ Contains (with_open m.open_chunk (taken m new)) k) ⊎ ((0 < slice_index new.live k) ⊎ (is_in_rows new.rows k ≡ true))
-    was (inl (inl h)) = inl (inr (open_first m.open_chunk (taken m new) k h))
-    was (inl (inr h)) = inl (inl (ap (λ (f : Frozen). is_open f.open_chunk k) frozen ∙ h))
+    was : NeededBy m k → ((is_bump new.fender k ≡ true) ⊎ Contains (with_bump m.bump (taken m new)) k) ⊎ ((0 < slice_index new.live k) ⊎ (is_in_rows new.rows k ≡ true))
+    was (inl (inl h)) = inl (inr (open_first m.bump (taken m new) k h))
+    was (inl (inr h)) = inl (inl (ap (λ (f : Frozen). is_bump f.bump k) frozen ∙ h))
     was (inr (inl h)) = inr (inl (let e = live k in omega arith))
     was (inr (inr h)) = inr (inr (ap (λ (f : Frozen). is_in_rows f.rows k) frozen ∙ h))
 
@@ -259,8 +259,8 @@ risen_only (x ∷ a) (y ∷ b) r k h = go x y h (λ c. risen_only a b (suc r) k 
         (λ (e : r ≡ k). (0, (let s : k ≡ r + 0 = omega arith in s), refl, refl))
         (λ (c : Contains (risen a b (suc r)) k). later (more c) false true) (contains_cases r k (risen a b (suc r)) h)
 
-pub opened_is : (m new : Ledger) (k : ℕ) → Contains (with_open m.open_chunk (taken m new)) k → (is_open m.open_chunk k ≡ true) ⊎ ((is_given m k ≡ false) × (is_given new k ≡ true))
-opened_is m new k h = go m.open_chunk h
+pub opened_is : (m new : Ledger) (k : ℕ) → Contains (with_bump m.bump (taken m new)) k → (is_bump m.bump k ≡ true) ⊎ ((is_given m k ≡ false) × (is_given new k ≡ true))
+opened_is m new k h = go m.bump h
   where
     since : Contains (taken m new) k → (is_given m k ≡ false) × (is_given new k ≡ true)
     since c =
@@ -268,18 +268,18 @@ opened_is m new k h = go m.open_chunk h
         let e : x.0 ≡ k = (let f = x.1 in omega arith) in
         (subst (λ (i : ℕ). is_given m i ≡ false) e x.2, subst (λ (i : ℕ). is_given new i ≡ true) e x.3)
 
-    go : (o : Option Open) → Contains (with_open o (taken m new)) k → (is_open o k ≡ true) ⊎ ((is_given m k ≡ false) × (is_given new k ≡ true))
+    go : (o : Option Bump) → Contains (with_bump o (taken m new)) k → (is_bump o k ≡ true) ⊎ ((is_given m k ≡ false) × (is_given new k ≡ true))
     go None c = inr (since c)
     go (Some o) c = ⊎_elim
         (λ (e : o.chunk ≡ k). inl (eq-eqb o.chunk k e))
         (λ (d : Contains (taken m new) k). inr (since d)) (contains_cases o.chunk k (taken m new) c)
 
-pub few_taken : (m new : Ledger) (f : Full) (cost : ℕ) → length new.given ≡ length m.given → ((k : ℕ) → is_given m k ≡ true → is_given new k ≡ true) → spent new ≤ spent m + cost → Lacks new f → 769 * length (with_open m.open_chunk (taken m new)) ≤ 769 + cost
+pub few_taken : (m new : Ledger) (f : Full) (cost : ℕ) → length new.given ≡ length m.given → ((k : ℕ) → is_given m k ≡ true → is_given new k ≡ true) → spent new ≤ spent m + cost → Lacks new f → 769 * length (with_bump m.bump (taken m new)) ≤ 769 + cost
 few_taken m new f cost chunks stays short lacks =
-    let a = open_few m.open_chunk (taken m new) in
+    let a = open_few m.bump (taken m new) in
     let b = risen_few m.given new.given 0 chunks stays in
     let c = clear_is m.given in
     let d = clear_is new.given in
-    let all = none_unspent new.open_chunk f.needed lacks.0.few_left lacks.2 in
+    let all = none_unspent new.bump f.needed lacks.0.few_left lacks.2 in
     let free = count_by-le-length not new.given in
     let free_m = count_by-le-length not m.given in omega arith

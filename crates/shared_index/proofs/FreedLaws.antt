@@ -3,7 +3,7 @@ use Rattle.std.proofs.Common.{◌≡◌, ℕ, ◌/◌, ◌<◌, nat_lt, Bool, tr
 use Rattle.std.proofs.lemmas.Bool.Decides.{nat_tests}
 use Rattle.packed_node.specs.declared.Cell.{Cell}
 use Rattle.trie_model.specs.Keys.{Entry}
-use Rattle.chunk_usage.specs.Ledger.{Ledger, is_given, is_open, is_used}
+use Rattle.chunk_usage.specs.Ledger.{Ledger, is_given, is_bump, is_used}
 use Rattle.chunk_usage.specs.Keeping.{is_needed, is_unreached, freed}
 use Rattle.shared_index.specs.Bases.{IsRooted}
 use Rattle.shared_index.proofs.CountedLaws.{counts_some, counts_used, standing_on}
@@ -14,7 +14,7 @@ use Rattle.shared_index.proofs.Lists.{either_true}
 live_needed : (l : Ledger) (k : ℕ) → 0 < slice_index l.live k → is_needed l k ≡ true
 live_needed l k some =
     let here : nat_lt 0 (slice_index l.live k) ≡ true = grind (arith, nat_tests) in
-    either_true (is_open l.open_chunk k) _ (inr (either_true (is_open l.last_open k) _ (inr (either_true (nat_lt 0 (slice_index l.live k)) _ (inl here)))))
+    either_true (is_bump l.bump k) _ (inr (either_true (is_bump l.fender k) _ (inr (either_true (nat_lt 0 (slice_index l.live k)) _ (inl here)))))
 
 needed_reached : (l : Ledger) (k : ℕ) → is_needed l k ≡ true → is_unreached l k ≡ false
 needed_reached l k h = ap (λ b. is_given l k && not b) h ∙ none (is_given l k)

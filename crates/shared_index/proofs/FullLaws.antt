@@ -38,7 +38,7 @@ use Rattle.shared_index.specs.Tries.{Tried, PathHas, PathHasEach}
 use Rattle.shared_index.specs.Keepings.{GoesOn, numbers_of, versions_in}
 use Rattle.shared_index.specs.Fulls.{FullCause, cells_kept, version_at}
 use Rattle.shared_index.proofs.CauseLaws.{NeededBy, each_needed, given_few, kept_images, live_of, many, met_or_opened, opened_is, few_taken, path_of, rows_met, some_live, some_row, taken}
-use Rattle.shared_index.proofs.RisenLaws.{with_open}
+use Rattle.shared_index.proofs.RisenLaws.{with_bump}
 
 -- what was seen is the same
 
@@ -93,7 +93,7 @@ cause_of u room d c full f after request same works images leads t root on set l
     let meets = p.meets n in
     record {
       none_free = lacks.0.none_free;
-      opened = with_open m.open_chunk (taken m d.usage);
+      opened = with_bump m.bump (taken m d.usage);
       opened_here = opened_is m d.usage;
       path = p.n;
       on_path = subst (λ (r : Option ℕ). PathHas w d.usage r key p.n) (sym root) (t.path p.n p.on_path);

@@ -12,9 +12,9 @@ use Rattle.std.proofs.lemmas.Nat.{mul-le}
 use Rattle.pin_core.specs.declared.kept.CellAt.{CellAt}
 use Rattle.pin_core.specs.declared.kept.Kept.{Kept}
 use Rattle.trie_model.specs.Extents.{row}
-use Rattle.chunk_usage.specs.declared.open.Open.{Open}
+use Rattle.chunk_usage.specs.declared.bump.Bump.{Bump}
 use Rattle.chunk_usage.specs.declared.space.Full.{Full}
-use Rattle.chunk_usage.specs.Ledger.{Ledger, Row, free_count, is_given, is_in_row, is_open}
+use Rattle.chunk_usage.specs.Ledger.{Ledger, Row, free_count, is_given, is_in_row, is_bump}
 use Rattle.chunk_usage.specs.Handing.{Lacks, spent, unspent}
 use Rattle.chunk_usage.specs.Keeping.{is_in_rows}
 use Rattle.shared_cells.specs.Cells.{Cells}
@@ -28,19 +28,19 @@ use Rattle.shared_index.proofs.OpenLaws.{none_unspent}
 
 -- ---- by what was spent: 769 for each chunk, but for the bump chunk
 
-unspent_few : (o : Option Open) → unspent o ≤ 769
+unspent_few : (o : Option Bump) → unspent o ≤ 769
 unspent_few None = omega arith
 unspent_few (Some o) = omega arith
 
 pub given_spent : (l : Ledger) → 769 * given_count l ≤ spent l + 769
-given_spent l = let a = unspent_few l.open_chunk in omega arith
+given_spent l = let a = unspent_few l.bump in omega arith
 
 pub spent_given : (l : Ledger) → spent l ≤ 769 * given_count l
 spent_given l = omega arith
 
 -- where there is no room all of them count whole
 pub given_short : (l : Ledger) (f : Full) → Lacks l f → 769 * given_count l ≤ spent l
-given_short l f lacks = let a = none_unspent l.open_chunk f.needed lacks.0.few_left lacks.2 in omega arith
+given_short l f lacks = let a = none_unspent l.bump f.needed lacks.0.few_left lacks.2 in omega arith
 
 -- ---- by rows
 
@@ -133,14 +133,14 @@ counted_in_rows cells u count a k some =
     ap (λ (rows : List Row). is_in_rows rows k) a.rows ∙ last_row cells.chunks cells.kept k inside (count_some (λ (c : CellAt). c.at / 1024 == k) image (omega arith))
 
 abbrev reasons : Ledger → ℕ → ℕ
-reasons l k = (open_one l.open_chunk k + open_one l.last_open k) + some_row l.rows k
+reasons l k = (open_one l.bump k + open_one l.fender k) + some_row l.rows k
 
 set_counts : (b : Bool) → b ≡ true → ◌≡◌ {A = ℕ} (cond b 1 0) 1
 set_counts b h = ap (λ (x : Bool). cond {A = ℕ} x 1 0) h
 
 needed_counts : (l : Ledger) (k : ℕ) → ((k : ℕ) → 0 < slice_index l.live k → is_in_rows l.rows k ≡ true) → NeededBy l k → 1 ≤ reasons l k
-needed_counts l k in_rows (inl (inl h)) = let e = set_counts (is_open l.open_chunk k) h in omega arith
-needed_counts l k in_rows (inl (inr h)) = let e = set_counts (is_open l.last_open k) h in omega arith
+needed_counts l k in_rows (inl (inl h)) = let e = set_counts (is_bump l.bump k) h in omega arith
+needed_counts l k in_rows (inl (inr h)) = let e = set_counts (is_bump l.fender k) h in omega arith
 needed_counts l k in_rows (inr (inl h)) = let e = set_counts (is_in_rows l.rows k) (in_rows k h) in omega arith
 needed_counts l k in_rows (inr (inr h)) = let e = set_counts (is_in_rows l.rows k) h in omega arith
 
@@ -149,9 +149,9 @@ given_at_rest cells l count most agrees rest needed few =
     let n = length l.given in
     let in_rows : (k : ℕ) → 0 < slice_index l.live k → is_in_rows l.rows k ≡ true = λ k some. counted_in_rows cells l count agrees k (let e = ap (λ (xs : List ℕ). slice_index xs k) rest in omega arith) in
     let a = set_few l.given (reasons l) (λ k t. needed_counts l k in_rows (needed k t)) in
-    let b = row_add (λ k. open_one l.open_chunk k + open_one l.last_open k) (some_row l.rows) 0 n in
-    let c = row_add (open_one l.open_chunk) (open_one l.last_open) 0 n in
-    let d = open_once l.open_chunk n in
-    let e = open_once l.last_open n in
+    let b = row_add (λ k. open_one l.bump k + open_one l.fender k) (some_row l.rows) 0 n in
+    let c = row_add (open_one l.bump) (open_one l.fender) 0 n in
+    let d = open_once l.bump n in
+    let e = open_once l.fender n in
     let f = rows_met l.rows most n few in
     let g = mul-le (length l.rows) most (count + 1) most agrees.few_rows (omega arith) in omega arith

@@ -4,7 +4,7 @@ use Rattle.std.specs.List.{Contains, list_any}
 use Rattle.std.proofs.lemmas.List.FromFn.{get_or-map-range_with_len}
 use Rattle.pin_core.specs.declared.kept.CellAt.{CellAt}
 use Rattle.pin_core.specs.declared.kept.Kept.{Kept}
-use Rattle.chunk_usage.specs.Ledger.{Ledger, Row, IsLedger, filled, is_open, is_used, is_given, is_mutable, is_in_row}
+use Rattle.chunk_usage.specs.Ledger.{Ledger, Row, IsLedger, filled, is_bump, is_used, is_given, is_mutable, is_in_row}
 use Rattle.chunk_usage.specs.Keeping.{is_in_rows, is_needed, closed, freed, restored}
 use Rattle.chunk_usage.specs.Rooms.{Grows}
 use Rattle.trie_model.specs.Keys.{Entry}
@@ -50,12 +50,12 @@ module _ (cells : Cells) (u : Ledger) (is : IsLedger u) (count : ℕ) (wide : ce
       ∙ any_from (λ (r : Row). is_in_row r (q / 1024)) (map (row_for cells.chunks) cells.kept) (row_for cells.chunks k.0) (in_map (row_for cells.chunks) cells.kept k.0 k.1) meets
 
 row_needed : (l : Ledger) (k : ℕ) → is_in_rows l.rows k ≡ true → is_needed l k ≡ true
-row_needed l k here = either_true (is_open l.open_chunk k) _ (inr (either_true (is_open l.last_open k) _ (inr (either_true (nat_lt 0 (slice_index l.live k)) _ (inr here)))))
+row_needed l k here = either_true (is_bump l.bump k) _ (inr (either_true (is_bump l.fender k) _ (inr (either_true (nat_lt 0 (slice_index l.live k)) _ (inr here)))))
 
 pub freed_used : (l : Ledger) (q : ℕ) → is_used l q ≡ true → is_needed l (q / 1024) ≡ true → is_used (freed l) q ≡ true
-freed_used l q u n = go (is_open l.open_chunk (q / 1024)) u
+freed_used l q u n = go (is_bump l.bump (q / 1024)) u
   where
-    go : (b : Bool) → (if b then nat_lt (q % 1024) (filled l.open_chunk) else is_given l (q / 1024)) ≡ true → (if b then nat_lt (q % 1024) (filled l.open_chunk) else is_given (freed l) (q / 1024)) ≡ true
+    go : (b : Bool) → (if b then nat_lt (q % 1024) (filled l.bump) else is_given l (q / 1024)) ≡ true → (if b then nat_lt (q % 1024) (filled l.bump) else is_given (freed l) (q / 1024)) ≡ true
     go true u = u
     go false u = freed_by_chunk l (q / 1024) ∙ both_true (is_given l (q / 1024)) (is_needed l (q / 1024)) u n
 

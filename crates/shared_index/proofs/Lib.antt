@@ -20,7 +20,6 @@ pub mod PublishLaws
 pub mod WorkLaws
 pub mod FirstLaws
 pub mod OpenLaws
-pub mod SizeLaws
 pub mod TellLaws
 pub mod MeetLaws
 pub mod RisenLaws

@@ -8,7 +8,7 @@ use Rattle.std.proofs.lemmas.List.Sums.{sum_by-cons}
 use Rattle.trie_model.specs.Keys.{Entry}
 use Rattle.trie_model.specs.Shape.{cells}
 use Rattle.chunk_usage.specs.Counting.{is_low, is_sparse, sparse_count}
-use Rattle.chunk_usage.specs.Ledger.{Ledger, IsLedger, free_count, is_given, is_open, is_used}
+use Rattle.chunk_usage.specs.Ledger.{Ledger, IsLedger, free_count, is_given, is_bump, is_used}
 use Rattle.chunk_usage.specs.Rooms.{account_of, reserve_account_of}
 use Rattle.trie_write.specs.Spaces.{Ready, Fenced}
 use Rattle.trie_write.specs.Standing.{Standing}
@@ -69,9 +69,9 @@ thin_dense most u dense = let a = count_none (is_thin u) none (range_with_len 0 
     none k h =
         let some : nat_lt 0 (slice_index u.live k) ≡ true = second_holds (is_sparse u k) (nat_lt 0 (slice_index u.live k)) h in
         let sparse = first_holds (is_sparse u k) (nat_lt 0 (slice_index u.live k)) h in
-        let rest : (is_low (slice_index u.live k) && not (is_open u.open_chunk k)) ≡ true = second_holds (is_given u k) _ sparse in
+        let rest : (is_low (slice_index u.live k) && not (is_bump u.bump k)) ≡ true = second_holds (is_given u k) _ sparse in
         let low : is_low (slice_index u.live k) ≡ true = first_holds (is_low (slice_index u.live k)) _ rest in
-        let shut = negated (is_open u.open_chunk k) (second_holds (is_low (slice_index u.live k)) _ rest) in
+        let shut = negated (is_bump u.bump k) (second_holds (is_low (slice_index u.live k)) _ rest) in
         let more = dense k (grind (arith, nat_tests, some)) shut in grind (arith, nat_tests, low)
       where
         negated : (b : Bool) → not b ≡ true → b ≡ false

@@ -6,7 +6,7 @@ use Rattle.std.specs.List.{count_by}
 use Rattle.trie_model.specs.Keys.{Entry}
 use Rattle.zone_model.specs.Keys.{Leads}
 use Rattle.trie_read.specs.Reads.{EachTells}
-use Rattle.chunk_usage.specs.declared.open.Open.{Open}
+use Rattle.chunk_usage.specs.declared.bump.Bump.{Bump}
 use Rattle.chunk_usage.specs.declared.space.Full.{Full}
 use Rattle.chunk_usage.specs.Ledger.{Ledger, Frozen, Row, row_of, IsLedger, unused, frozen_part, free_count, left}
 use Rattle.chunk_usage.specs.Handing.{Lacks, spent, unspent}
@@ -30,13 +30,13 @@ all_free : (n : ℕ) → count_by not (replicate n false) ≡ n
 all_free n = sym (clear_is (replicate n false)) ∙ all_clear n
 
 -- an open chunk with fewer than 256 cells left has nothing to spend
-pub none_unspent : (o : Option Open) (n : ℕ) → left o < n → n ≤ 256 → unspent o ≡ 0
+pub none_unspent : (o : Option Bump) (n : ℕ) → left o < n → n ≤ 256 → unspent o ≡ 0
 none_unspent None n a b = refl
 none_unspent (Some o) n a b = omega arith
 
 pub no_shortage : (l : Ledger) (f : Full) (chunks cells : ℕ) → length l.given ≡ chunks → 16 ≤ chunks → spent l ≤ cells → cells ≤ 769 * (chunks - chunks / 4 - 1) → free_count l ≤ length l.given → Lacks l f → ⊥
 no_shortage l f chunks cells n many s c free lacks =
-    let all = none_unspent l.open_chunk f.needed lacks.0.few_left lacks.2 in
+    let all = none_unspent l.bump f.needed lacks.0.few_left lacks.2 in
     let none = lacks.0.none_free in omega arith
 
 pub none_spent : (chunks passes : ℕ) → spent (unused chunks passes) ≡ 0

@@ -1,8 +1,8 @@
 -- Chunks that a call took: flags that are set later and were not before.
 use Rattle.std.proofs.Common.{◌≡◌, ℕ, zero, suc, ◌+◌, ◌≤◌, Bool, true, false, not, ◌&&◌, cond, if◌then◌else◌, List, [], ◌∷◌, length, slice_index_or, slice_get, Contains, Option, Some, None, arith, refl, subst}
 use Rattle.std.proofs.lemmas.Bool.Decides.{nat_tests}
-use Rattle.chunk_usage.specs.declared.open.Open.{Open}
-use Rattle.chunk_usage.specs.Ledger.{is_open}
+use Rattle.chunk_usage.specs.declared.bump.Bump.{Bump}
+use Rattle.chunk_usage.specs.Ledger.{is_bump}
 use Rattle.shared_index.proofs.OpenLaws.{clear}
 
 -- their places, from r on
@@ -52,19 +52,19 @@ risen_has (x ∷ a) (y ∷ b) r (suc k) e h g = go (y && not x) (risen_has a b (
     go false more = let n : suc r + k ≡ r + suc k = omega arith in subst (λ (i : ℕ). Contains (risen a b (suc r)) i) n more
 
 -- with the chunk that was open
-abbrev pub with_open : Option Open → List ℕ → List ℕ
-with_open None xs = xs
-with_open (Some o) xs = o.chunk ∷ xs
+abbrev pub with_bump : Option Bump → List ℕ → List ℕ
+with_bump None xs = xs
+with_bump (Some o) xs = o.chunk ∷ xs
 
-pub open_first : (o : Option Open) (xs : List ℕ) (k : ℕ) → is_open o k ≡ true → Contains (with_open o xs) k
+pub open_first : (o : Option Bump) (xs : List ℕ) (k : ℕ) → is_bump o k ≡ true → Contains (with_bump o xs) k
 open_first None xs k h = cc
 open_first (Some o) xs k h = first o.chunk k xs (grind (arith, nat_tests))
 
-pub open_later : (o : Option Open) (xs : List ℕ) (k : ℕ) → Contains xs k → Contains (with_open o xs) k
+pub open_later : (o : Option Bump) (xs : List ℕ) (k : ℕ) → Contains xs k → Contains (with_bump o xs) k
 open_later None xs k h = h
 open_later (Some o) xs k h = later o.chunk k xs h
 
-pub open_few : (o : Option Open) (xs : List ℕ) → length (with_open o xs) ≤ 1 + length xs
+pub open_few : (o : Option Bump) (xs : List ℕ) → length (with_bump o xs) ≤ 1 + length xs
 open_few None xs = omega arith
 open_few (Some o) xs = omega arith
 

@@ -13,7 +13,7 @@ use Rattle.trie_model.proofs.ExtentLaws.{both_true}
 use Rattle.trie_model.proofs.ReachLaws.{live_is}
 use Rattle.trie_model.proofs.SizeLaws.{size_is}
 use Rattle.chunk_usage.specs.Counting.{is_low, is_sparse}
-use Rattle.chunk_usage.specs.Ledger.{Ledger, IsLedger, free_count, is_given, is_open, row_of}
+use Rattle.chunk_usage.specs.Ledger.{Ledger, IsLedger, free_count, is_given, is_bump, row_of}
 use Rattle.trie_write.specs.Standing.{Standing, StandsIn}
 use Rattle.evacuate.specs.Fillings.{old_live}
 use Rattle.evacuate.proofs.SumLaws.{old_reached}
@@ -70,23 +70,23 @@ some_most : (b : Bool) → cond {A = ℕ} b 1 0 ≤ 1
 some_most true = omega arith
 some_most false = omega arith
 
-each_met : (u : Ledger) → IsLedger u → (k : ℕ) → 257 * some_live (live_of u) k ≤ (257 * open_one u.open_chunk k + 257 * thin_one u k) + live_of u k
+each_met : (u : Ledger) → IsLedger u → (k : ℕ) → 257 * some_live (live_of u) k ≤ (257 * open_one u.bump k + 257 * thin_one u k) + live_of u k
 each_met u is k = elim (cases_lt 0 (slice_index u.live k)) [
   | inl some ↦ met some (some_most (nat_lt 0 (slice_index u.live k)))
   | inr none ↦ (let e : nat_lt 0 (slice_index u.live k) ≡ false = grind (arith, nat_tests) in let z : ◌≡◌ {A = ℕ} (some_live (live_of u) k) 0 = ap (λ (b : Bool). cond {A = ℕ} b 1 0) e in omega arith)
 ]
   where
-    thin : 0 < slice_index u.live k → slice_index u.live k ≤ 256 → is_open u.open_chunk k ≡ false → is_thin u k ≡ true
+    thin : 0 < slice_index u.live k → slice_index u.live k ≤ 256 → is_bump u.bump k ≡ false → is_thin u k ≡ true
     thin some few shut =
         let low : is_low (slice_index u.live k) ≡ true = grind (arith, nat_tests) in
         let counts : nat_lt 0 (slice_index u.live k) ≡ true = grind (arith, nat_tests) in
-        let shut_off : not (is_open u.open_chunk k) ≡ true = ap not shut in
+        let shut_off : not (is_bump u.bump k) ≡ true = ap not shut in
         both_true (is_sparse u k) (nat_lt 0 (slice_index u.live k))
-        (both_true (is_given u k) (is_low (slice_index u.live k) && not (is_open u.open_chunk k)) (is.counts.in_given k some) (both_true (is_low (slice_index u.live k)) (not (is_open u.open_chunk k)) low shut_off)) counts
+        (both_true (is_given u k) (is_low (slice_index u.live k) && not (is_bump u.bump k)) (is.counts.in_given k some) (both_true (is_low (slice_index u.live k)) (not (is_bump u.bump k)) low shut_off)) counts
 
-    met : 0 < slice_index u.live k → some_live (live_of u) k ≤ 1 → 257 * some_live (live_of u) k ≤ (257 * open_one u.open_chunk k + 257 * thin_one u k) + live_of u k
-    met some one = elim (cases_Bool (is_open u.open_chunk k)) [
-      | inl here ↦ (let e = set_counts (is_open u.open_chunk k) here in omega arith)
+    met : 0 < slice_index u.live k → some_live (live_of u) k ≤ 1 → 257 * some_live (live_of u) k ≤ (257 * open_one u.bump k + 257 * thin_one u k) + live_of u k
+    met some one = elim (cases_Bool (is_bump u.bump k)) [
+      | inl here ↦ (let e = set_counts (is_bump u.bump k) here in omega arith)
       | inr shut ↦ elim (cases_lt 256 (slice_index u.live k)) [
         | inl many ↦ omega arith
         | inr few ↦ (let e = set_counts (is_thin u k) (thin some (omega arith) shut) in omega arith)
@@ -129,13 +129,13 @@ met_few u c is few_thin all =
     let a = row_some u.live (some_live (live_of u)) 0 (λ k l. let e : 0 + k ≡ k = omega arith in let f = ap (some_live (live_of u)) e in
     let s = set_counts (nat_lt 0 (slice_index u.live k)) (grind (arith, nat_tests)) in omega arith) in
     let b = ap (λ (m : ℕ). row (some_live (live_of u)) 0 m) is.counted in
-    let d = row_le (λ k. 257 * some_live (live_of u) k) (λ k. (257 * open_one u.open_chunk k + 257 * thin_one u k) + live_of u k) (each_met u is) 0 n in
-    let e = row_add (λ k. 257 * open_one u.open_chunk k + 257 * thin_one u k) (live_of u) 0 n in
-    let f = row_add (λ k. 257 * open_one u.open_chunk k) (λ k. 257 * thin_one u k) 0 n in
+    let d = row_le (λ k. 257 * some_live (live_of u) k) (λ k. (257 * open_one u.bump k + 257 * thin_one u k) + live_of u k) (each_met u is) 0 n in
+    let e = row_add (λ k. 257 * open_one u.bump k + 257 * thin_one u k) (live_of u) 0 n in
+    let f = row_add (λ k. 257 * open_one u.bump k) (λ k. 257 * thin_one u k) 0 n in
     let g = times (some_live (live_of u)) 0 n in
-    let h = times (open_one u.open_chunk) 0 n in
+    let h = times (open_one u.bump) 0 n in
     let i = times (thin_one u) 0 n in
-    let j = open_once u.open_chunk n in
+    let j = open_once u.bump n in
     let k = row_count (is_thin u) 0 n in omega arith
 
 -- ---- the chunk set that a freeze keeps

@@ -3,7 +3,7 @@ use Rattle.std.specs.Prelude.{◌≡◌, ◌⊎◌, ℕ, ◌+◌, ◌-◌, ◌*�
 use Rattle.std.specs.List.{sum_by}
 use Rattle.trie_model.specs.Shape.{cells}
 use Rattle.chunk_usage.specs.declared.space.Full.{Full as NoRoom}
-use Rattle.chunk_usage.specs.Ledger.{Ledger, is_open, is_given, free_count, reserve_of}
+use Rattle.chunk_usage.specs.Ledger.{Ledger, is_bump, is_given, free_count, reserve_of}
 use Rattle.chunk_usage.specs.Keeping.{is_in_rows, kept_versions}
 use Rattle.shared_cells.specs.History.{version_after}
 use Rattle.shared_index.specs.declared.desk.Draft.{Draft}
@@ -37,7 +37,7 @@ pub record FullCause (after : Ledger) (d : Draft) (key : List ℕ) (written : �
   pub none_free : free_count d.usage ≤ reserve_of d.usage
   -- the bump chunk of that round, and the chunks that were allocated since: of 769 cells that were written one, at most
   pub opened : List ℕ
-  pub opened_here : (k : ℕ) → Contains opened k → (is_open after.open_chunk k ≡ true) ⊎ ((is_given after k ≡ false) × (is_given d.usage k ≡ true))
+  pub opened_here : (k : ℕ) → Contains opened k → (is_bump after.bump k ≡ true) ⊎ ((is_given after k ≡ false) × (is_given d.usage k ≡ true))
   pub path : ℕ
   pub on_path : PathHas d.seat.place.me.0 d.usage d.root key path
   pub branches : List ℕ
@@ -46,7 +46,7 @@ pub record FullCause (after : Ledger) (d : Draft) (key : List ℕ) (written : �
   pub few_opened : 769 * length opened ≤ 769 + (written + path)
   -- each other allocated chunk is the one to which a rollback returns, or has a cell of the working set or of a kept version
   pub others_met : (k : ℕ) → is_given d.usage k ≡ true
-      → ((is_open d.usage.last_open k ≡ true) ⊎ Contains opened k) ⊎ ((0 < slice_index d.usage.live k) ⊎ (is_in_rows d.usage.rows k ≡ true))
+      → ((is_bump d.usage.fender k ≡ true) ⊎ Contains opened k) ⊎ ((0 < slice_index d.usage.live k) ⊎ (is_in_rows d.usage.rows k ≡ true))
   -- So the cells are many: a root meets no more chunks than it has cells less branches, an item fills few chunks, and each other
   -- chunk that the call filled goes with a branch of the key's path.
   pub many_cells : length d.usage.given - reserve_of d.usage - 8 ≤ cells (working_set d) + cells_kept d.seat.place.me.0 (versions_in f.kept)

@@ -2,7 +2,7 @@
 use Rattle.std.specs.Prelude.{◌≡◌, ◌↔◌, ◌⊎◌, ℕ, ◌+◌, ◌≤◌, true, false, List, Contains, length, Option, Result, Err, IfOk, IfErr, slice_index}
 use Rattle.trie_model.specs.Keys.{Entry}
 use Rattle.chunk_usage.specs.declared.space.Full.{Full as NoRoom}
-use Rattle.chunk_usage.specs.Ledger.{Ledger, is_open, is_used, is_given, frozen_part, reserved}
+use Rattle.chunk_usage.specs.Ledger.{Ledger, is_bump, is_used, is_given, frozen_part, reserved}
 use Rattle.chunk_usage.specs.Handing.{Lacks, spent}
 use Rattle.trie_write.specs.Roots.{OnPath, OnBranches}
 use Rattle.shared_cells.specs.Views.{words_of}
@@ -29,7 +29,7 @@ pub record Grown (old new : Ledger) : Type 0 where
   pub wide : length new.given ≡ length old.given
   pub frozen : frozen_part new ≡ frozen_part old
   pub given : (k : ℕ) → is_given old k ≡ true → is_given new k ≡ true
-  pub opens : (k : ℕ) → is_open new.open_chunk k ≡ true → (is_open old.open_chunk k ≡ true) ⊎ (is_given old k ≡ false)
+  pub opens : (k : ℕ) → is_bump new.bump k ≡ true → (is_bump old.bump k ≡ true) ⊎ (is_given old k ≡ false)
 
 -- and no chunk of the reserve was taken for them
 pub record Spares (old new : Ledger) : Type 0 where

@@ -54,7 +54,7 @@ Agrees cells u count = AgreesWithin (count + 1) cells u count
 -- No transaction is under way: nothing was handed out or released since the last freeze.
 pub record AtRest (u : Ledger) : Type 0 where
   pub live : u.live ≡ u.last_live
-  pub bump : u.open_chunk ≡ u.last_open
+  pub bump : u.bump ≡ u.fender
 
 -- the turn's cells, of as many chunks as the usage has
 abbrev pub cells_with : Ledger → Option TurnView → Cells

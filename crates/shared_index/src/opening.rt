@@ -29,7 +29,7 @@ use shared_cells::{Lent, NewPassSeat, NewTurnSeat, Opening, Shared, TurnSeat};
 use std::alloc::{AllocError, Global};
 use std::marker::{Brand, PhantomData};
 use std::sync::Mutex;
-use trie_write::{Item, build, cells};
+use trie_write::{Item, build, cells_beyond};
 
 // More items than memory holds.
 const MANY_ITEMS: usize = 1 << 40;
@@ -312,13 +312,9 @@ impl<L: Law, N: Named> Index<L, N> {
         if items.len() >= MANY_ITEMS {
             return Err(OpenRefusal::Memory);
         }
-        let needed = cells(items);
         let limit = room_in(blank.usage.chunks());
-        if needed > limit {
-            return Err(OpenRefusal::Full {
-                cells: needed,
-                limit,
-            });
+        if let Some(cells) = cells_beyond(items, limit) {
+            return Err(OpenRefusal::Full { cells, limit });
         }
         match Index::filled(alloc, blank, place, items) {
             Ok(made) => Ok(made),

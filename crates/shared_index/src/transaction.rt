@@ -270,7 +270,7 @@ impl<L: Law, N: Named> Index<L, N> {
         ensures passes { result.1.seat.passes ≡ self.now.shared.table.shared.key.passes }
         ensures begins { Begins L.lawful (known_at pass.old.seat) result.1 }
         ensures few_operations { CommitsAreWithin L.most_operations result.1.seat.place.me.0 }
-        ensures goes_on { result.1.usage.open_chunk ≡ result.1.usage.last_open }
+        ensures goes_on { result.1.usage.bump ≡ result.1.usage.fender }
         ensures rests { RestsRoomy result.1.usage result.1.seat.place.me.0.seen }
         ensures chunks { length result.1.usage.given ≡ self.now.shared.table.shared.key.chunks }
     {
@@ -298,7 +298,7 @@ impl<L: Law, N: Named> Index<L, N> {
         ensures few_operations { IsSomeAnd result.locked.now.draft (λ d. CommitsAreWithin L.most_operations d.seat.place.me.0) }
         ensures chunks { IsSomeAnd result.locked.now.draft (λ d. length d.usage.given ≡ self.now.shared.table.shared.key.chunks) }
         // What is written goes on in the bump chunk.
-        ensures goes_on { IsSomeAnd result.locked.now.draft (λ d. d.usage.open_chunk ≡ d.usage.last_open) }
+        ensures goes_on { IsSomeAnd result.locked.now.draft (λ d. d.usage.bump ≡ d.usage.fender) }
     {
         let (guard, draft) = self.join(rt, pass);
         *locked = Locked {
@@ -330,7 +330,7 @@ impl<L: Law, N: Named> Index<L, N> {
         ensures few_operations { IsSomeAnd result.locked.now.draft (λ d. CommitsAreWithin L.most_operations d.seat.place.me.0) }
         ensures chunks { IsSomeAnd result.locked.now.draft (λ d. length d.usage.given ≡ self.now.shared.table.shared.key.chunks) }
         // What is written begins a chunk.
-        ensures own_chunk { IsSomeAnd result.locked.now.draft (λ d. d.usage.open_chunk ≡ full d.usage.last_open) }
+        ensures own_chunk { IsSomeAnd result.locked.now.draft (λ d. d.usage.bump ≡ full d.usage.fender) }
     {
         let (guard, mut draft) = self.join(rt, pass);
         draft.start_chunk();

@@ -83,7 +83,7 @@ invariant_of-desk g c =
       agrees = subst (λ (n : ℕ). Agrees (cells_with last z.turn) last n) (sym passes) (subst (λ (t : Option TurnView). Agrees (cells_with last t) last c.make_round.new.seat.passes) (sym turn) free.agrees);
       at_rest = record {
         live = ap (λ (l : Ledger). l.live) usage ∙ sym (ap (λ (l : Ledger). l.last_live) usage);
-        bump = ap (λ (l : Ledger). l.open_chunk) usage ∙ sym (ap (λ (l : Ledger). l.last_open) usage);
+        bump = ap (λ (l : Ledger). l.bump) usage ∙ sym (ap (λ (l : Ledger). l.fender) usage);
       };
       root_is = sym (ap current_root kept_last ∙ round.root
           ∙ root_published v d.usage c.known.ensures d.seat.passes d.agrees d.root (working_set d) c.requires.works w c.freeze.new.self c.publish-version.result number c.freeze.ensures.after c.freeze.ensures.settled kept_now words_now);

@@ -41,7 +41,7 @@ invariant_of-desk g c =
       agrees = subst (λ (n : ℕ). Agrees (cells_with last z.turn) last n) (sym passes) (subst (λ (t : Option TurnView). Agrees (cells_with last t) last d.seat.passes) (sym turn) free.agrees);
       at_rest = record {
         live = ap (λ (l : Ledger). l.live) usage ∙ sym (ap (λ (l : Ledger). l.last_live) usage);
-        bump = ap (λ (l : Ledger). l.open_chunk) usage ∙ sym (ap (λ (l : Ledger). l.last_open) usage);
+        bump = ap (λ (l : Ledger). l.bump) usage ∙ sym (ap (λ (l : Ledger). l.fender) usage);
       };
       root_is = d.base_is ∙ sym (ap current_root kept_last);
       rests = undone_rests (cells_with last y.turn) d.usage last d.seat.passes v.seen z.seen usage free.agrees

@@ -49,7 +49,7 @@ invariant_of-result g c =
       agrees = first_agrees v u c.known.ensures fill.given root es works w new c.open_turn-seat.result.passes no_rows passes c.freeze.ensures.after c.freeze.ensures.settled kept_now words_now;
       at_rest = record {
         live = ap (λ (l : Ledger). l.live) c.freeze.ensures.after ∙ sym (ap (λ (l : Ledger). l.last_live) c.freeze.ensures.after);
-        bump = ap (λ (l : Ledger). l.open_chunk) c.freeze.ensures.after ∙ sym (ap (λ (l : Ledger). l.last_open) c.freeze.ensures.after);
+        bump = ap (λ (l : Ledger). l.bump) c.freeze.ensures.after ∙ sym (ap (λ (l : Ledger). l.fender) c.freeze.ensures.after);
       };
       root_is = sym (ap current_root kept_now);
       rests = first_rests u new es w.seen c.known.ensures no_rows c.freeze.ensures.after fill.spends (ap (λ (x : Known). first_version x.seen) opened.4 ∙ is_first);
