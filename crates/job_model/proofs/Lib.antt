@@ -1,3 +1,4 @@
+pub mod ScriptLaws
 pub mod TurnLemmas
 pub mod ManyLemmas
 pub mod OneListLemmas

@@ -5,7 +5,7 @@ use Rattle.std.specs.List.Sorted.{IsStrictlyIncreasing}
 use Rattle.zone_model.specs.Names.{Name}
 use Rattle.zone_model.specs.Versions.{Version}
 use Rattle.job_model.specs.Commands.{Command}
-use Rattle.job_model.specs.Outcomes.{Outcome, Pair, all_pairs, is_refused, version_at}
+use Rattle.job_model.specs.Outcomes.{Pair, all_pairs, is_refused, version_at}
 use Rattle.job_model.specs.Reports.{head_text, command_text, end_text}
 
 -- a command of the list with its outcome, and the worker that ran it

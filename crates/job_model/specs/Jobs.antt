@@ -19,7 +19,7 @@ use Rattle.job_model.specs.declared.ScriptKind.TheVariants.{NoWorker, BadCommand
 use Rattle.job_model.specs.declared.Weight.{Weight}
 use Rattle.job_model.specs.declared.Weight.TheVariants.{Light, Heavy}
 use Rattle.job_model.specs.Commands.{Question, Command, Ask, Hold, AskHeld, Release, Block, Compact, Job, FedJob}
-use Rattle.job_model.specs.Phrases.{Asked, Phrase, Worker, Asks, Holds, AsksHeld, Releases, Opens, Needs, Adds, Deletes, Ends, Compacts, phrase_of, script_tokens}
+use Rattle.job_model.specs.Phrases.{Phrase, Worker, Asks, Holds, AsksHeld, Releases, Opens, Needs, Adds, Deletes, Ends, Compacts, phrase_of, script_tokens}
 use Rattle.job_model.specs.Arguments.{refuse, question_of, prerequisite_of, addition_of, deletion_of}
 
 -- why bytes are no job

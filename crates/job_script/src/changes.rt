@@ -68,7 +68,8 @@ pub fn prerequisite_of(
 ) -> Result<Prerequisite, JobRefusal>
     requires owner { IsPlaced bytes.now owner }
     requires rtype { IfSome rtype (IsPlaced bytes.now) }
-    ensures { Says result prerequisite_view (jobs.prerequisite_of origin.now line wanted (token_view bytes.now owner) (option_map (token_view bytes.now) rtype)) }
+    ensures { Says result prerequisite_view
+        (jobs.prerequisite_of origin.now line wanted (token_view bytes.now owner) (option_map (token_view bytes.now) rtype)) }
 {
     if let Some(rtype) = rtype {
         return typed_prerequisite(bytes, origin, line, wanted, owner, rtype);
@@ -119,7 +120,9 @@ pub fn addition_of(
     requires ttl { IsPlaced bytes.now ttl }
     requires rtype { IsPlaced bytes.now rtype }
     requires tokens { All (IsPlaced bytes.now) tokens.now }
-    ensures { Says result operation_view (jobs.addition_of origin.now line (token_view bytes.now owner) (token_view bytes.now ttl) (token_view bytes.now rtype) (map (token_view bytes.now) tokens.now)) }
+    ensures { Says result operation_view
+        (jobs.addition_of origin.now line (token_view bytes.now owner) (token_view bytes.now ttl) (token_view bytes.now rtype)
+        (map (token_view bytes.now) tokens.now)) }
 {
     let Some(owner) = inner_name(bytes, origin, owner) else {
         return Err(refused(line, ScriptKind::BadName));
@@ -155,7 +158,8 @@ fn typed_deletion(
     requires owner { IsPlaced bytes.now owner }
     requires rtype { IsPlaced bytes.now rtype }
     requires tokens { All (IsPlaced bytes.now) tokens.now }
-    ensures { Says result operation_view (jobs.deletion_of origin.now line (token_view bytes.now owner) (token_view bytes.now rtype ∷ map (token_view bytes.now) tokens.now)) }
+    ensures { Says result operation_view
+        (jobs.deletion_of origin.now line (token_view bytes.now owner) (token_view bytes.now rtype ∷ map (token_view bytes.now) tokens.now)) }
 {
     let Some(owner) = inner_name(bytes, origin, owner) else {
         return Err(refused(line, ScriptKind::BadName));

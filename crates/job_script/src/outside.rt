@@ -119,7 +119,8 @@ fn add_held_question(
     asked: Asked,
 ) -> Result<(), JobRefusal>
     requires { AskedPlaced bytes.now asked }
-    ensures { ScriptReads result (script_view script.new) (jobs.outside origin.now line (phrases.AsksHeld (asked_view bytes.now asked)) (script_view script.old)) }
+    ensures { ScriptReads result (script_view script.new)
+        (jobs.outside origin.now line (phrases.AsksHeld (asked_view bytes.now asked)) (script_view script.old)) }
 {
     if !script.begun {
         return Err(refused(line, ScriptKind::NoWorker));

@@ -81,7 +81,8 @@ fn named_question(bytes: &[u8], word: Token, name: Token, rest: &[Token]) -> Opt
     requires word { IsPlaced bytes.now word }
     requires name { IsPlaced bytes.now name }
     requires rest { All (IsPlaced bytes.now) rest.now }
-    ensures said { option_map (asked_view bytes.now) result ≡ phrases.asked_of (token_view bytes.now word ∷ token_view bytes.now name ∷ map (token_view bytes.now) rest.now) }
+    ensures said { option_map (asked_view bytes.now) result
+        ≡ phrases.asked_of (token_view bytes.now word ∷ token_view bytes.now name ∷ map (token_view bytes.now) rest.now) }
     ensures placed { IfSome result (AskedPlaced bytes.now) }
 {
     if says(bytes, word, b"get") {
@@ -204,7 +205,8 @@ fn argued<'a>(bytes: &[u8], word: Token, first: Token, rest: &'a [Token]) -> Opt
     requires word { IsPlaced bytes.now word }
     requires first { IsPlaced bytes.now first }
     requires rest { All (IsPlaced bytes.now) rest.now }
-    ensures said { option_map (phrase_view bytes.now) result ≡ phrases.phrase_of (token_view bytes.now word ∷ token_view bytes.now first ∷ map (token_view bytes.now) rest.now) }
+    ensures said { option_map (phrase_view bytes.now) result
+        ≡ phrases.phrase_of (token_view bytes.now word ∷ token_view bytes.now first ∷ map (token_view bytes.now) rest.now) }
     ensures placed { IfSome result (PhrasePlaced bytes.now) }
 {
     if says(bytes, word, b"add") {

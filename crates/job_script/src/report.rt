@@ -156,7 +156,8 @@ pub fn print_report(
     version: u64,
     names: u64,
 ) -> Result<Vec<u8>, AllocError>
-    requires tell { AllTell _zone.now.origin (versions_made _zone.now.origin _zone.now.pairs (job_view _job.now) outcomes.now) (job_view _job.now) outcomes.now }
+    requires tell { AllTell _zone.now.origin
+        (versions_made _zone.now.origin _zone.now.pairs (job_view _job.now) outcomes.now) (job_view _job.now) outcomes.now }
     requires names { names ≡ length (versions_made _zone.now.origin _zone.now.pairs (job_view _job.now) outcomes.now version) }
     ensures { IfOk result (λ text. text.items ≡ report _zone.now.origin _zone.now.pairs (job_pairs (job_view _job.now) outcomes.now) version) }
 {

@@ -71,7 +71,8 @@ fn take_tokens(
     tokens: &[Token],
 ) -> Result<(), JobRefusal>
     requires { All (IsPlaced bytes.now) tokens.now }
-    ensures { ScriptReads result (script_view script.new) (jobs.tokens_say origin.now line (script_view script.old) (Some (map (token_view bytes.now) tokens.now))) }
+    ensures { ScriptReads result (script_view script.new)
+        (jobs.tokens_say origin.now line (script_view script.old) (Some (map (token_view bytes.now) tokens.now))) }
 {
     if tokens.is_empty() {
         return Ok(());

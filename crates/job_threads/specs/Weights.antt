@@ -7,5 +7,5 @@ use Rattle.shared_index.specs.declared.desk.Draft.{Draft}
 
 -- what is written goes on in the bump chunk, or begins a chunk of its own
 abbrev pub IsOfWeight : Weight → Draft → Type 0
-IsOfWeight Light d = d.usage.open_chunk ≡ d.usage.last_open
-IsOfWeight Heavy d = d.usage.open_chunk ≡ full d.usage.last_open
+IsOfWeight Light d = d.usage.bump ≡ d.usage.fender
+IsOfWeight Heavy d = d.usage.bump ≡ full d.usage.fender

@@ -1,8 +1,10 @@
 //! Questions to one version.
 ghost use Rattle.std.specs.Prelude.{◌≡◌, ◌≤◌, ◌++◌, length, IfOk, OnOk};
 ghost use Rattle.zone_model.specs.Keys.{most_item_octets};
+ghost use Rattle.zone_model.specs.Names.{Name as Labels};
 ghost use Rattle.zone_model.specs.Versions.{Version};
 ghost use Rattle.zone_query.specs.Standing.{Shows, ShowsSome};
+ghost use Rattle.job_model.specs.Commands as asked;
 ghost use Rattle.job_model.specs.Replies.{reply_of, reply_text};
 ghost use Rattle.job_script.specs.Views.{question_view};
 
@@ -15,6 +17,35 @@ use std::alloc::{AllocError, Global};
 use trie_read::Reading;
 use zone_dump::dump_text;
 use zone_query::{Walker, answer_into, back, find, walk};
+
+// Pushes all records of a version.
+fn push_all<V: Reading>(
+    alloc: Global,
+    version: &mut V,
+    item: &mut [u8],
+    out: &mut Vec<u8>,
+) -> Result<(), AllocError>
+    requires shown { ShowsSome (V.holds version.old) }
+    requires room { most_item_octets ≤ length item.old }
+    ensures same { version.new ≡ version.old }
+    ensures reply { (origin : Labels) (zone : Version) → Shows (V.holds version.old) zone
+        → OnOk result (out.new.items ≡ out.old.items ++ reply_text (reply_of origin zone asked.Dump)) }
+{
+    let mut lines = Vec::new(alloc);
+    let count = dump_text(alloc, version, item, &mut lines)?;
+    push_dump(out, &lines, count)
+}
+
+// Pushes how large a version is.
+fn push_numbers<V: Reading>(version: &mut V, out: &mut Vec<u8>) -> Result<(), AllocError>
+    requires { ShowsSome (V.holds version.old) }
+    ensures same { version.new ≡ version.old }
+    ensures reply { (origin : Labels) (zone : Version) → Shows (V.holds version.old) zone
+        → OnOk result (out.new.items ≡ out.old.items ++ reply_text (reply_of origin zone asked.Stat)) }
+{
+    let names = version.count();
+    push_size(out, names, version.nodes())
+}
 
 // Pushes what is printed of a version's reply to a question.
 fn push_reply<V: Reading>(
@@ -51,15 +82,8 @@ fn push_reply<V: Reading>(
             let names = back(alloc, version, &stretch.start, stretch.most as usize)?;
             push_back(out, &names)
         }
-        Question::Dump => {
-            let mut lines = Vec::new(alloc);
-            let count = dump_text(alloc, version, item, &mut lines)?;
-            push_dump(out, &lines, count)
-        }
-        Question::Stat => {
-            let names = version.count();
-            push_size(out, names, version.nodes())
-        }
+        Question::Dump => push_all(alloc, version, item, out),
+        Question::Stat => push_numbers(version, out),
     }
 }
 

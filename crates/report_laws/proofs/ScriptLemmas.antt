@@ -1,11 +1,10 @@
 -- What the operations of scripts of octets are.
-use Rattle.std.proofs.Common.{◌≡◌, ℕ, ◌+◌, Bool, true, false, cond, not, eqb, ltb, List, [], ◌∷◌, ◌++◌, length, Option, Some, None, Result, Ok, Err, refl, ap, subst, codes}
+use Rattle.std.proofs.Common.{◌≡◌, ℕ, Bool, true, false, cond, List, [], ◌∷◌, Option, Some, None, Result, Ok, Err, refl, sym, ap, subst, codes}
 use Rattle.std.specs.List.{AllByRecursion}
 use Rattle.std.specs.Option.{option_map}
 use Rattle.zone_model.specs.Refusals.{Refused, ◌>>=◌}
 use Rattle.zone_model.specs.Names.{Name, IsName, is_under}
 use Rattle.zone_model.specs.Versions.{Operation, Add, DeleteName, DeleteSet, DeleteRecord}
-use Rattle.zone_model.specs.Transactions.{Prerequisite}
 use Rattle.zone_model.specs.Tokens.{Token, Scan, fresh, line_tokens}
 use Rattle.zone_model.specs.Data.{data_of}
 use Rattle.zone_model.specs.MasterFile.{name_word, time_word, type_word}
@@ -13,13 +12,13 @@ use Rattle.zone_model.specs.declared.ZoneKind.{ZoneKind}
 use Rattle.zone_model.specs.declared.DataRefusal.{DataRefusal}
 use Rattle.zone_model.proofs.SplitLemmas.{and_some, map_some, cond_some}
 use Rattle.dns_name.proofs.BodyLemmas.{all_push}
-use Rattle.job_model.specs.declared.Ending.{Ending}
 use Rattle.job_model.specs.declared.ScriptKind.{ScriptKind}
-use Rattle.job_model.specs.declared.ScriptKind.TheVariants.{NoWorker, BadName, BadType, BadNumber, BadCommand, NotHeld, AlreadyHeld, TooMany}
+use Rattle.job_model.specs.declared.ScriptKind.TheVariants.{BadName, BadType, BadNumber}
 use Rattle.job_model.specs.Commands.{Command, Ask, Hold, AskHeld, Release, Block, Compact}
 use Rattle.job_model.specs.Phrases.{Asked, Phrase, Worker, Asks, Holds, AsksHeld, Releases, Opens, Needs, Adds, Deletes, Ends, Compacts, without_parens, script_tokens, asked_of, lone_word, adds, needs, says, phrase_of}
-use Rattle.job_model.specs.Arguments.{refuse, needed, inner_name, octets_needed, question_of, prerequisite_of, addition_of, deletion_of}
-use Rattle.job_model.specs.Jobs.{Unfinished, Script, lists_of, may_stand, worker_limit, command_limit, need_limit, operation_limit, of_worker, while_held, while_free, with_room, with_command, with_question, with_held_question, holding, released, opened, next_worker, outside, with_need, needed_first, with_operation, joined, may_end, ended, inside, by_block, taken, tokens_say, script_line, script_from, while_closed, finished, no_lines, script_of, no_commands, list_finished, list_of}
+use Rattle.job_model.specs.Arguments.{needed, inner_name, octets_needed, addition_of, deletion_of}
+use Rattle.job_model.proofs.ScriptLaws.{IsKept, IsLone, IsOn, free, operation_of, script_whole, list_whole}
+use Rattle.job_model.specs.Jobs.{Unfinished, Script, next_worker, script_of, list_of}
 use Rattle.report_laws.specs.Octets.{AllOctets}
 use Rattle.report_laws.specs.Changes.{IsInside, IsSaid, AllSaid, AllAsked}
 use Rattle.report_laws.proofs.DataLemmas.{IsTokenText, AllTexts, data_is, bound}
@@ -167,149 +166,58 @@ record IsScript (origin : Name) (s : Script) : Type 0 where
   commands : AllCommands origin s.commands
   block : IsBlock origin s.block
 
-abbrev Read : Type 0
-Read = Result Script (Refused ScriptKind)
+-- a command that is no block asks for no change
+lone_asks : (origin : Name) (command : Command) → IsLone command → AllAsked origin command
+lone_asks origin (Ask question) lone = tt
+lone_asks origin Hold lone = tt
+lone_asks origin (AskHeld question) lone = tt
+lone_asks origin Release lone = tt
+lone_asks origin (Block _ asked ending) lone = absurd lone
+lone_asks origin Compact lone = tt
 
--- where it isn't refused
-abbrev IfRead : Name → Read → Type 0
-IfRead origin (Ok s) = IsScript origin s
-IfRead origin (Err refusal) = Unit {0}
+next_is : (origin : Name) (s : Script) (begun : Bool) → IsScript origin s → IsScript origin (next_worker (record s { begun = begun }))
+next_is origin s true h = record { earlier = all_push (AllCommands origin) s.earlier s.commands h.earlier h.commands; commands = tt; block = h.block }
+next_is origin s false h = record { earlier = h.earlier; commands = h.commands; block = h.block }
 
-if_either : (origin : Name) (b : Bool) (x y : Read) → IfRead origin x → IfRead origin y → IfRead origin (cond b x y)
-if_either origin true x y p q = p
-if_either origin false x y p q = q
+-- the operation of a line of octets
+operation_said : (origin : Name) (n : ℕ) (phrase : Phrase) (operation : Operation) → IsName origin → IsPhrase phrase → operation_of origin n phrase ≡ Ok operation → IsSaid origin operation
+operation_said origin n Worker operation o p e = absurd cc
+operation_said origin n (Asks asked) operation o p e = absurd cc
+operation_said origin n Holds operation o p e = absurd cc
+operation_said origin n (AsksHeld asked) operation o p e = absurd cc
+operation_said origin n Releases operation o p e = absurd cc
+operation_said origin n (Opens _) operation o p e = absurd cc
+operation_said origin n (Needs wanted owner rtype) operation o p e = absurd cc
+operation_said origin n (Adds owner ttl rtype rdata) operation o p e = addition_is origin n owner ttl rtype rdata operation p.0 p.1 o e
+operation_said origin n (Deletes owner rest) operation o p e = deletion_is origin n owner rest operation p o e
+operation_said origin n (Ends ending) operation o p e = absurd cc
+operation_said origin n Compacts operation o p e = absurd cc
 
-if_bound : {A : Type 0} (origin : Name) (r : Result A (Refused ScriptKind)) (f : A → Read) → ((x : A) → r ≡ Ok x → IfRead origin (f x)) → IfRead origin (r >>= f)
-if_bound origin (Ok x) f k = k x refl
-if_bound origin (Err refusal) f k = tt
+on_line : (origin : Name) (n : ℕ) (line : List ℕ) (phrase : Phrase) (operation : Operation) → IsName origin → AllOctets line → IsOn n line phrase → operation_of origin n phrase ≡ Ok operation → IsSaid origin operation
+on_line origin n line phrase operation o l on e = operation_said origin n phrase operation o (phrase_is on.tokens phrase (tokens_are n line on.tokens l on.scanned) on.said) e
 
-worker_is : (origin : Name) (n : ℕ) (s : Script) (next : Read) → IfRead origin next → IfRead origin (of_worker n s next)
-worker_is origin n s next h = if_either origin s.begun next (refuse n NoWorker) h tt
-
-room_is : (origin : Name) (n : ℕ) (s : Script) (next : Read) → IfRead origin next → IfRead origin (of_worker n s (with_room n s next))
-room_is origin n s next h = worker_is origin n s (with_room n s next) (if_either origin (ltb (length s.commands) command_limit) next (refuse n (TooMany command_limit)) h tt)
-
-roomy : (origin : Name) (n : ℕ) (s : Script) (next : Read) → IfRead origin next → IfRead origin (with_room n s next)
-roomy origin n s next h = if_either origin (ltb (length s.commands) command_limit) next (refuse n (TooMany command_limit)) h tt
-
--- a command that asks for no change
-command_is : (origin : Name) (s : Script) (command : Command) → IsScript origin s → AllAsked origin command → IsScript origin (with_command s command)
-command_is origin s command h a = record { earlier = h.earlier; commands = all_push (AllAsked origin) s.commands command h.commands a; block = h.block }
-
-next_is : (origin : Name) (s : Script) → IsScript origin s → IsScript origin (next_worker s)
-next_is origin s h = by_begun s.begun
-  where
-    by_begun : (b : Bool) → IsScript origin (cond b (record s { earlier = s.earlier ++ s.commands ∷ []; commands = []; held = false }) (record s { begun = true }))
-    by_begun true = record { earlier = all_push (AllCommands origin) s.earlier s.commands h.earlier h.commands; commands = tt; block = h.block }
-    by_begun false = record { earlier = h.earlier; commands = h.commands; block = h.block }
-
-outside_is : (origin : Name) (n : ℕ) (phrase : Phrase) (s : Script) → IsScript origin s → IfRead origin (outside origin n phrase s)
-outside_is origin n Worker s h = if_either origin (ltb (length (lists_of s)) worker_limit) (Ok (next_worker s)) (refuse n (TooMany worker_limit)) (next_is origin s h) tt
-outside_is origin n (Asks asked) s h =
-    room_is origin n s (question_of origin n asked >>= with_question s) (if_bound origin (question_of origin n asked) (with_question s) (λ question e. command_is origin s (Ask question) h tt))
-outside_is origin n Holds s h =
-    worker_is origin n s (while_free n s (with_room n s (Ok (holding s))))
-    (if_either origin s.held (refuse n AlreadyHeld) (with_room n s (Ok (holding s))) tt
-    (roomy origin n s (Ok (holding s)) (let c = command_is origin s Hold h tt in record { earlier = c.earlier; commands = c.commands; block = c.block })))
-outside_is origin n (AsksHeld asked) s h =
-    worker_is origin n s (while_held n s (with_room n s (question_of origin n asked >>= with_held_question s)))
-    (if_either origin s.held (with_room n s (question_of origin n asked >>= with_held_question s)) (refuse n NotHeld)
-    (roomy origin n s (question_of origin n asked >>= with_held_question s) (if_bound origin (question_of origin n asked) (with_held_question s) (λ question e. command_is origin s (AskHeld question) h tt))) tt)
-outside_is origin n Releases s h =
-    worker_is origin n s (while_held n s (with_room n s (Ok (released s))))
-    (if_either origin s.held (with_room n s (Ok (released s))) (refuse n NotHeld)
-    (roomy origin n s (Ok (released s)) (let c = command_is origin s Release h tt in record { earlier = c.earlier; commands = c.commands; block = c.block })) tt)
-outside_is origin n (Opens weight) s h = room_is origin n s (Ok (opened n weight s)) (record { earlier = h.earlier; commands = h.commands; block = tt })
-outside_is origin n (Needs wanted owner rtype) s h = tt
-outside_is origin n (Adds owner ttl rtype rdata) s h = tt
-outside_is origin n (Deletes owner rest) s h = tt
-outside_is origin n (Ends ending) s h = tt
-outside_is origin n Compacts s h = room_is origin n s (Ok (with_command s Compact)) (command_is origin s Compact h tt)
-
--- ---- a line inside a block
-
-operated : (origin : Name) (n : ℕ) (b : Unfinished) (s : Script) (r : Operated) → IsScript origin s → AllSaid origin b.asked → ((operation : Operation) → r ≡ Ok operation → IsSaid origin operation) → IfRead origin (joined n b s r)
-operated origin n b s r h a f =
-    if_either origin (ltb (length b.asked.operations) operation_limit) (r >>= with_operation b s) (refuse n (TooMany operation_limit))
-    (if_bound origin r (with_operation b s) (λ operation e. record { earlier = h.earlier; commands = h.commands; block = all_push (IsSaid origin) b.asked.operations operation a (f operation e) })) tt
-
-needed_is : (origin : Name) (n : ℕ) (b : Unfinished) (s : Script) (r : Result Prerequisite (Refused ScriptKind)) → IsScript origin s → AllSaid origin b.asked → IfRead origin (needed_first n b s r)
-needed_is origin n b s r h a =
-    if_either origin (not (eqb (length b.asked.operations) 0)) (refuse n BadCommand) (cond (ltb (length b.asked.needs) need_limit) (r >>= with_need b s) (refuse n (TooMany need_limit))) tt
-    (if_either origin (ltb (length b.asked.needs) need_limit) (r >>= with_need b s) (refuse n (TooMany need_limit))
-    (if_bound origin r (with_need b s) (λ need e. record { earlier = h.earlier; commands = h.commands; block = a })) tt)
-
-ended_is : (origin : Name) (n : ℕ) (b : Unfinished) (ending : Ending) (s : Script) → IsScript origin s → AllSaid origin b.asked → IfRead origin (ended n b ending s)
-ended_is origin n b ending s h a =
-    if_either origin (may_end b.weight ending) (Ok (record (with_command s (Block b.weight b.asked ending)) { block = None })) (refuse n BadCommand)
-    (record { earlier = h.earlier; commands = all_push (AllAsked origin) s.commands (Block b.weight b.asked ending) h.commands a; block = tt }) tt
-
-inside_block : (origin : Name) (n : ℕ) (b : Unfinished) (phrase : Phrase) (s : Script) → IsName origin → IsPhrase phrase → IsScript origin s → AllSaid origin b.asked → IfRead origin (inside origin n b phrase s)
-inside_block origin n b Worker s o p h a = tt
-inside_block origin n b (Asks asked) s o p h a = tt
-inside_block origin n b Holds s o p h a = tt
-inside_block origin n b (AsksHeld asked) s o p h a = tt
-inside_block origin n b Releases s o p h a = tt
-inside_block origin n b (Opens _) s o p h a = tt
-inside_block origin n b (Needs wanted owner rtype) s o p h a = needed_is origin n b s (prerequisite_of origin n wanted owner rtype) h a
-inside_block origin n b (Adds owner ttl rtype rdata) s o p h a =
-    operated origin n b s (addition_of origin n owner ttl rtype rdata) h a (λ operation e. addition_is origin n owner ttl rtype rdata operation p.0 p.1 o e)
-inside_block origin n b (Deletes owner rest) s o p h a = operated origin n b s (deletion_of origin n owner rest) h a (λ operation e. deletion_is origin n owner rest operation p o e)
-inside_block origin n b (Ends ending) s o p h a = ended_is origin n b ending s h a
-inside_block origin n b Compacts s o p h a = tt
-
--- ---- the lines
-
-block_is : (origin : Name) (n : ℕ) (phrase : Phrase) (s : Script) (block : Option Unfinished) → IsName origin → IsPhrase phrase → IsScript origin s → IsBlock origin block → IfRead origin (by_block origin n phrase s block)
-block_is origin n phrase s None o p h b = outside_is origin n phrase s h
-block_is origin n phrase s (Some block) o p h b = inside_block origin n block phrase s o p h b
-
-taken_is : (origin : Name) (n : ℕ) (s : Script) (phrase : Option Phrase) → IsName origin → ((x : Phrase) → phrase ≡ Some x → IsPhrase x) → IsScript origin s → IfRead origin (taken origin n s phrase)
-taken_is origin n s None o p h = tt
-taken_is origin n s (Some phrase) o p h =
-    if_either origin (may_stand s.listing phrase) (by_block origin n phrase s s.block) (refuse n BadCommand) (block_is origin n phrase s s.block o (p phrase refl) h h.block) tt
-
-said_is : (origin : Name) (n : ℕ) (s : Script) (tokens : Option (List Token)) → IsName origin → ((x : List Token) → tokens ≡ Some x → AllTexts x) → IsScript origin s → IfRead origin (tokens_say origin n s tokens)
-said_is origin n s None o t h = tt
-said_is origin n s (Some []) o t h = h
-said_is origin n s (Some (token ∷ tokens)) o t h = taken_is origin n s (phrase_of (token ∷ tokens)) o (λ phrase e. phrase_is (token ∷ tokens) phrase (t (token ∷ tokens) refl) e) h
-
-script_line_is : (origin : Name) (n : ℕ) (line : List ℕ) (s : Script) → IsName origin → AllOctets line → IsScript origin s → IfRead origin (script_line origin n line s)
-unfolding script_line
-script_line_is origin n line s o l h = said_is origin n s (script_tokens n line) o (λ tokens e. tokens_are n line tokens l e) h
-
-script_is : (origin : Name) (n : ℕ) (lines : List (List ℕ)) (s new : Script) → IsName origin → AllByRecursion AllOctets lines → IsScript origin s → script_from origin n lines s ≡ Ok new → IsScript origin new
-unfolding script_from
-script_is origin n [] s new o l h e = let is : s ≡ new = cc in subst (IsScript origin) is h
-script_is origin n (line ∷ lines) s new o l h e =
-    let b = bound (script_line origin n line s) (script_from origin (n + 1) lines) new e in
-    script_is origin (n + 1) lines b.0 new o l.1 (subst (IfRead origin) b.1 (script_line_is origin n line s o l.0 h)) b.2
+kept : (origin : Name) → IsName origin → IsKept origin AllOctets (IsScript origin)
+kept origin o = record {
+  worker = λ s h _ _. next_is origin (free s) s.begun h;
+  command = λ s command h _ lone. record { earlier = h.earlier; commands = all_push (AllAsked origin) s.commands command h.commands (lone_asks origin command lone); block = tt };
+  opens = λ _ _ _ h _. record { earlier = h.earlier; commands = h.commands; block = tt };
+  need = λ _ _ _ h. record { earlier = h.earlier; commands = h.commands; block = h.block };
+  operation = λ n line phrase b _ operation l on e h _. record {
+    earlier = h.earlier;
+    commands = h.commands;
+    block = all_push (IsSaid origin) b.asked.operations operation h.block (on_line origin n line phrase operation o l on e);
+  };
+  block = λ b s ending h. record { earlier = h.earlier; commands = all_push (AllAsked origin) s.commands (Block b.weight b.asked ending) h.commands h.block; block = tt };
+}
 
 -- ---- the whole
 
-closed : {A : Type 0} (block : Option Unfinished) (next : Result A (Refused ScriptKind)) (x : A) → while_closed block next ≡ Ok x → next ≡ Ok x
-closed None next x h = h
-closed (Some b) next x h = absurd cc
-
-lists_are : (origin : Name) (s : Script) → IsScript origin s → AllLists origin (lists_of s)
-lists_are origin s h = by_begun s.begun
-  where
-    by_begun : (b : Bool) → AllLists origin (cond b (s.earlier ++ s.commands ∷ []) [])
-    by_begun true = all_push (AllCommands origin) s.earlier s.commands h.earlier h.commands
-    by_begun false = tt
-
 pub scripts_ask : (origin : Name) (n : ℕ) (lines : List (List ℕ)) (workers : List (List Command)) → IsName origin → AllByRecursion AllOctets lines → script_of origin n lines ≡ Ok workers → AllLists origin workers
-unfolding script_of
 scripts_ask origin n lines workers o l e =
-    let b = bound (script_from origin n lines no_lines) (finished (n + length lines)) workers e in
-    let s = script_is origin n lines no_lines b.0 o l (record { earlier = tt; commands = tt; block = tt }) b.1 in
-    either b.0.begun _ _ (Ok workers) (λ k. let is : lists_of b.0 ≡ workers = cc in subst (AllLists origin) is (lists_are origin b.0 s)) (λ k. absurd cc) (closed b.0.block _ workers b.2)
+    let whole = script_whole origin AllOctets (IsScript origin) (kept origin o) (record { earlier = tt; commands = tt; block = tt }) n lines workers l e in
+    subst (AllLists origin) (sym whole.lists) (all_push (AllCommands origin) whole.script.earlier whole.script.commands whole.fact.earlier whole.fact.commands)
 
 pub lists_ask : (origin : Name) (n : ℕ) (lines : List (List ℕ)) (commands : List Command) → IsName origin → AllByRecursion AllOctets lines → list_of origin n lines ≡ Ok commands → AllCommands origin commands
-unfolding list_of
 lists_ask origin n lines commands o l e =
-    let b = bound (script_from origin n lines no_commands) list_finished commands e in
-    let s = script_is origin n lines no_commands b.0 o l (record { earlier = tt; commands = tt; block = tt }) b.1 in
-    let same = closed b.0.block (Ok b.0.commands) commands b.2 in
-    let is : b.0.commands ≡ commands = cc in
-    subst (AllCommands origin) is s.commands
+    let whole = list_whole origin AllOctets (IsScript origin) (kept origin o) (record { earlier = tt; commands = tt; block = tt }) n lines commands l e in
+    subst (AllCommands origin) (sym whole.list) whole.fact.commands

@@ -1,9 +1,9 @@
 -- Each version of a job of octets can be dumped.
-use Rattle.std.proofs.Common.{◌≡◌, ℕ, zero, suc, ◌-◌, ◌<◌, Bool, true, false, cond, eqb, List, [], ◌∷◌, length, take, drop, map, Result, Ok, Err, refl, sym, ap, subst}
+use Rattle.std.proofs.Common.{◌≡◌, ℕ, zero, suc, ◌-◌, ◌<◌, Bool, true, false, cond, eqb, List, [], ◌∷◌, length, take, drop, map, Result, Ok, Err, refl, sym, subst}
 use Rattle.std.specs.Prelude.{slice_index}
 use Rattle.std.specs.List.{AllByRecursion, slice_split, onto_first, range_with_len}
 use Rattle.std.specs.Str.Lines.{strip_carriage_return, lines_of_parts}
-use Rattle.zone_model.specs.Refusals.{Refused}
+use Rattle.zone_model.specs.Refusals.{Refused, ◌>>=◌}
 use Rattle.zone_model.specs.Names.{Name, IsName}
 use Rattle.zone_model.specs.Lines.{lines_of}
 use Rattle.zone_model.specs.Versions.{Version}
@@ -15,14 +15,13 @@ use Rattle.dns_name.proofs.BodyLemmas.{all_append}
 use Rattle.master_file.specs.Rows.{CanBeDumped}
 use Rattle.master_file.proofs.DirectiveLemmas.{dump_back}
 use Rattle.job_model.specs.declared.ScriptKind.{ScriptKind}
-use Rattle.job_model.specs.Commands.{Job, FedJob}
+use Rattle.job_model.specs.Commands.{Command, Job, FedJob}
 use Rattle.job_model.specs.Jobs.{zone_refused, script_refused, zone_lines, script_lines, script_start, script_of, list_of, job_of_lines, job_of, fed_job_of_lines, fed_job_of}
 use Rattle.job_model.specs.Outcomes.{Pair, made, asked_by, asked_at, accepted_or, after, version_at, all_pairs}
 use Rattle.job_model.specs.Feeds.{FedPair, fed_commands, pairs_by, by_worker}
 use Rattle.report_laws.specs.Octets.{IsOctet, AllOctets}
 use Rattle.report_laws.specs.Changes.{AllSaid, AllAsked}
 use Rattle.report_laws.specs.Versions.{ReadsBack, AreOutcomesOf, version_of, AreFedOutcomesOf, fed_version_of}
-use Rattle.report_laws.proofs.DataLemmas.{bound}
 use Rattle.report_laws.proofs.ChangeLemmas.{whole_dumped}
 use Rattle.report_laws.proofs.ReaderLemmas.{zone_dumped}
 use Rattle.report_laws.proofs.ScriptLemmas.{AllCommands, AllLists, scripts_ask, lists_ask}
@@ -75,13 +74,19 @@ lines_are bytes h = parts_lines (slice_split (λ b. eqb b 10) bytes) (split_line
 
 -- ---- jobs
 
-zone_given : {A : Type 0} (r : Result A (Refused ZoneKind)) (x : A) → zone_refused r ≡ Ok x → r ≡ Ok x
-zone_given (Ok y) x h = let is : y ≡ x = cc in ap Ok is
-zone_given (Err refusal) x h = absurd cc
+-- a zone and a script of which neither was refused
+record AreRead {Said Whole : Type 0} (zone : Result Version (Refused ZoneKind)) (script : Result Said (Refused ScriptKind)) (whole : Version → Said → Whole) (job : Whole) : Type 0 where
+  version : Version
+  said : Said
+  zone_is : zone ≡ Ok version
+  script_is : script ≡ Ok said
+  job_is : whole version said ≡ job
 
-script_given : {A : Type 0} (r : Result A (Refused ScriptKind)) (x : A) → script_refused r ≡ Ok x → r ≡ Ok x
-script_given (Ok y) x h = let is : y ≡ x = cc in ap Ok is
-script_given (Err refusal) x h = absurd cc
+are_read : {Said Whole : Type 0} (zone : Result Version (Refused ZoneKind)) (script : Result Said (Refused ScriptKind)) (whole : Version → Said → Whole) (job : Whole)
+    → (zone_refused zone >>= (λ version. script_refused script >>= (λ said. Ok (whole version said)))) ≡ Ok job → AreRead zone script whole job
+are_read (Err refusal) script whole job h = absurd cc
+are_read (Ok version) (Err refusal) whole job h = absurd cc
+are_read (Ok version) (Ok said) whole job h = record { version = version; said = said; zone_is = refl; script_is = refl; job_is = cc }
 
 pub record IsReadJob (origin : Name) (job : Job) : Type 0 where
   pub origin_is : origin ≡ job.origin
@@ -91,16 +96,11 @@ pub record IsReadJob (origin : Name) (job : Job) : Type 0 where
 job_lines : (origin : Name) (zone : List (List ℕ)) (start : ℕ) (script : List (List ℕ)) (job : Job) → IsName origin → AllLines zone → AllLines script → job_of_lines origin zone start script ≡ Ok job → IsReadJob origin job
 unfolding job_of_lines
 job_lines origin zone start script job name z s e =
-    let a = bound (zone_refused (zone_of origin zone)) _ job e in
-    let b = bound (script_refused (script_of origin start script)) _ job a.2 in
-    let is : ◌≡◌ {A = Job} (record { origin = origin; zone = a.0; workers = b.0 }) job = cc in
-    subst (IsReadJob origin) is (record {
-      origin_is = refl;
-      zone = zone_dumped origin zone a.0 z name (zone_given (zone_of origin zone) a.0 a.1);
-      workers = scripts_ask origin start script b.0 name s (script_given (script_of origin start script) b.0 b.1);
-    })
+    let whole : Version → List (List Command) → Job = λ version workers. record { origin = origin; zone = version; workers = workers } in
+    let r = are_read (zone_of origin zone) (script_of origin start script) whole job e in
+    subst (IsReadJob origin) r.job_is (record { origin_is = refl; zone = zone_dumped origin zone r.version z name r.zone_is; workers = scripts_ask origin start script r.said name s r.script_is })
 
-job_is : (origin : Name) (bytes : List ℕ) (job : Job) → IsName origin → AllOctets bytes → job_of origin bytes ≡ Ok job → IsReadJob origin job
+pub job_is : (origin : Name) (bytes : List ℕ) (job : Job) → IsName origin → AllOctets bytes → job_of origin bytes ≡ Ok job → IsReadJob origin job
 job_is origin bytes job name h e =
     let lines = lines_are bytes h in
     job_lines origin (zone_lines bytes) (script_start bytes) (script_lines bytes) job name (all_taken AllOctets _ (lines_of bytes) lines) (all_dropped AllOctets _ (lines_of bytes) lines) e
@@ -113,16 +113,11 @@ pub record IsReadList (origin : Name) (job : FedJob) : Type 0 where
 list_lines : (origin : Name) (zone : List (List ℕ)) (start : ℕ) (script : List (List ℕ)) (job : FedJob) → IsName origin → AllLines zone → AllLines script → fed_job_of_lines origin zone start script ≡ Ok job → IsReadList origin job
 unfolding fed_job_of_lines
 list_lines origin zone start script job name z s e =
-    let a = bound (zone_refused (zone_of origin zone)) _ job e in
-    let b = bound (script_refused (list_of origin start script)) _ job a.2 in
-    let is : ◌≡◌ {A = FedJob} (record { origin = origin; zone = a.0; commands = b.0 }) job = cc in
-    subst (IsReadList origin) is (record {
-      origin_is = refl;
-      zone = zone_dumped origin zone a.0 z name (zone_given (zone_of origin zone) a.0 a.1);
-      commands = lists_ask origin start script b.0 name s (script_given (list_of origin start script) b.0 b.1);
-    })
+    let whole : Version → List Command → FedJob = λ version commands. record { origin = origin; zone = version; commands = commands } in
+    let r = are_read (zone_of origin zone) (list_of origin start script) whole job e in
+    subst (IsReadList origin) r.job_is (record { origin_is = refl; zone = zone_dumped origin zone r.version z name r.zone_is; commands = lists_ask origin start script r.said name s r.script_is })
 
-list_is : (origin : Name) (bytes : List ℕ) (job : FedJob) → IsName origin → AllOctets bytes → fed_job_of origin bytes ≡ Ok job → IsReadList origin job
+pub list_is : (origin : Name) (bytes : List ℕ) (job : FedJob) → IsName origin → AllOctets bytes → fed_job_of origin bytes ≡ Ok job → IsReadList origin job
 list_is origin bytes job name h e =
     let lines = lines_are bytes h in
     list_lines origin (zone_lines bytes) (script_start bytes) (script_lines bytes) job name (all_taken AllOctets _ (lines_of bytes) lines) (all_dropped AllOctets _ (lines_of bytes) lines) e

@@ -120,3 +120,10 @@ none_too_long name (pair ∷ version) l items = not_first name pair l items.0 (e
 
 pub self_under : (name : Name) → is_under name name ≡ true
 self_under name = ends_under [] name
+
+-- the name right above a name that doesn't exist is its closest encloser, if it exists
+pub encloser_right_above : (version : Version) (name : Name) → exists name version ≡ false → exists (ancestor (length name - 1) name) version ≡ true → encloser version name ≡ Some (ancestor (length name - 1) name)
+encloser_right_above version [] never there = let self : exists [] version ≡ true = there in absurd cc
+encloser_right_above version (label ∷ labels) never there =
+    let above : ancestor (length (label ∷ labels) - 1) (label ∷ labels) ≡ labels = ancestor_of label labels (length (label ∷ labels) - 1) (omega arith) ∙ ancestor_self labels (length (label ∷ labels) - 1) (omega arith) in
+    encloser_above version label labels never ∙ encloser_here version labels (sym (ap (λ (x : Name). exists x version) above) ∙ there) ∙ sym (ap (λ (x : Name). Some x) above)

@@ -3,12 +3,12 @@ use Rattle.std.proofs.Common.{◌≡◌, ◌∙◌, ℕ, zero, suc, ◌-◌, Boo
 use Rattle.std.proofs.lemmas.List.{drop_at}
 use borrow.Author.Tests.{eqb-true}
 use Rattle.std.specs.List.{find, list_any}
-use Rattle.std.specs.Option.{option_map}
+use Rattle.std.specs.Option.{is_some, option_map}
 use Rattle.packed_node.specs.declared.Leaf.{Leaf}
 use Rattle.zone_model.specs.Names.{Name, IsName, ancestor, is_under, wire}
 use Rattle.zone_model.specs.Keys.{key_of}
 use Rattle.zone_model.specs.Records.{IsItem}
-use Rattle.zone_model.specs.Versions.{Version, owned}
+use Rattle.zone_model.specs.Versions.{Version, exists, owned}
 use Rattle.zone_model.proofs.OrderLemmas.{under_ends}
 use Rattle.rr_data.proofs.ItemViewLemmas.{item_says}
 use Rattle.trie_model.specs.Keys as trie
@@ -116,6 +116,17 @@ ancestor_key name version labels e is v i l =
     let under = begins_under k.pair.0 name k.storable.name.each is.each (subst (λ (x : List ℕ). begins x (key_of name) ≡ true) key c.1) in
     let size : length k.pair.0 ≡ labels = sym (labels_of k.pair.0 k.storable.name.each) ∙ ap labels_in (sym key) ∙ l in
     (c.0, key ∙ ap key_of (ancestor_at name k.pair.0 labels under size))
+
+-- a name above whose leaf was gathered exists
+pub met_exists : (lies : Leaf → trie.Entry → Type 0) (name : Name) (version : Version) (labels : ℕ) (above : List Ancestor) → IsName name → IsVersion version
+    → AreAncestors lies (chain (key_of name) (map trie_entry version)) above → is_some (leaf_with labels above) ≡ true → exists (ancestor labels name) version ≡ true
+met_exists lies name version labels above is v are some = by_leaf (leaf_with labels above) (sought lies labels (chain (key_of name) (map trie_entry version)) above are) some
+  where
+    by_leaf : (o : Option Leaf) → Sought lies labels (chain (key_of name) (map trie_entry version)) o → is_some o ≡ true → exists (ancestor labels name) version ≡ true
+    by_leaf None s t = absurd cc
+    by_leaf (Some leaf) s t =
+        let k = ancestor_key name version labels s.0 is v s.1 s.3 in
+        there_exists (ancestor labels name) version (ancestor_name labels name is) v.items (s.0, k.0, k.1)
 
 -- ---- neighbours
 

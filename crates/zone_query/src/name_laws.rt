@@ -12,7 +12,9 @@ pub fn names_stand_around_others_as_they_should()
     ensures none_behind { around.walk (codes "com" ∷ []) 0 zone ≡ [] }
     ensures backwards { around.back (named (codes "z" ∷ codes "a" ∷ [])) 2 zone ≡ named (codes "yljkjljk" ∷ codes "a" ∷ []) ∷ named (codes "a" ∷ []) ∷ [] }
     ensures none_before { around.back (named []) 9 zone ≡ [] }
-    ensures exact { around.find (named (codes "a" ∷ [])) zone ≡ record { kind = Kind.Exact; chain = named [] ∷ named (codes "a" ∷ []) ∷ []; predecessor = Some (named (codes "a" ∷ [])) } }
-    ensures partial { around.find (named (codes "b" ∷ codes "a" ∷ [])) zone ≡ record { kind = Kind.Partial; chain = named [] ∷ named (codes "a" ∷ []) ∷ []; predecessor = Some (named (codes "a" ∷ [])) } }
+    ensures exact { around.find (named (codes "a" ∷ [])) zone
+        ≡ record { kind = Kind.Exact; chain = named [] ∷ named (codes "a" ∷ []) ∷ []; predecessor = Some (named (codes "a" ∷ [])) } }
+    ensures partial { around.find (named (codes "b" ∷ codes "a" ∷ [])) zone
+        ≡ record { kind = Kind.Partial; chain = named [] ∷ named (codes "a" ∷ []) ∷ []; predecessor = Some (named (codes "a" ∷ [])) } }
     ensures absent { around.find (codes "com" ∷ []) zone ≡ record { kind = Kind.Absent; chain = []; predecessor = None } }
 {}

@@ -1,31 +1,19 @@
 //! What answers for a name.
 
-ghost use Rattle.std.specs.Prelude.{◌≡◌, ◌≤◌, [], Some, false, length};
+ghost use Rattle.std.specs.Prelude.{◌≡◌, ◌≤◌, ◌-◌, [], Some, true, length};
 ghost use Rattle.zone_model.specs.Keys.{most_item_octets};
+ghost use Rattle.zone_model.specs.Names.{ancestor};
 ghost use Rattle.zone_model.specs.Versions.{Version, exists, owned};
-ghost use Rattle.zone_query.specs.Answers.{encloser, node, wildcard_under};
-ghost use Rattle.zone_query.specs.Neighbours.{AreNeighbours};
+ghost use Rattle.zone_query.specs.Answers.{node, wildcard_under};
 ghost use Rattle.zone_query.specs.Parts.{IsNodeOf};
 ghost use Rattle.zone_query.specs.Standing.{IsPlaced, IsVersion, StandsOn};
 
-use crate::near::{Neighbours, shows_ahead};
+use crate::near::{closest, is_near, name_ahead, shows_ahead};
 use crate::records::Held;
 use crate::walker::Walker;
 use dns_name::Name;
 use shift_key::Key;
 use trie_read::Reading;
-
-/// The closest encloser of a name that doesn't exist: a name above it exists exactly where a neighbour of its place is at or
-/// under that.
-fn encloser(near: &Neighbours, name: &Name) -> Option<Name>
-    ensures { (zone : Version) → IsVersion zone → AreNeighbours name.now zone near.now → exists name.now zone ≡ false → result ≡ encloser zone name.now }
-{
-    let mut above = name.parent()?;
-    while !near.show(&above) {
-        above = above.parent()?;
-    }
-    Some(above)
-}
 
 /// The wildcard right under a name, if it exists. What it owns is read into a buffer.
 fn wildcard_under<V: Reading>(
@@ -53,27 +41,28 @@ fn wildcard_under<V: Reading>(
 }
 
 /// What answers for a name that owns nothing, where the walker's iterator stands at its place: no records where names under it are there,
-/// else a wildcard's; `None` where there is no wildcard for it.
+/// else a wildcard's; `None` where there is no wildcard for it. Whether the name right above was met is known before.
 pub fn absent_node<V: Reading>(
     version: &mut V,
     walker: &mut Walker,
     name: &Name,
+    met: bool,
     item: &mut [u8],
 ) -> Option<Held>
     requires placed { (zone : Version) × IsPlaced (V.holds version.old) (V.stands version.old walker.old.iter) name.now zone }
     requires room { most_item_octets ≤ length item.old }
     ensures same { version.new ≡ version.old }
     ensures node { (zone : Version) → IsPlaced (V.holds version.old) (V.stands version.old walker.old.iter) name.now zone → [] ≡ owned name.now zone
-        → IsNodeOf item.new (node zone name.now) result }
+        → (met ≡ true → exists (ancestor (length name.now - 1) name.now) zone ≡ true) → IsNodeOf item.new (node zone name.now) result }
 {
     let _wire = name.wire(); // for the proof
-    let near = Neighbours::of(version, &mut walker.iter);
-    if near.show(name) {
+    let after = name_ahead(version, &mut walker.iter);
+    if is_near(&after, name) {
         return Some(Held {
             name: *name,
             len: 0,
         });
     }
-    let above = encloser(&near, name)?;
+    let above = closest(version, &mut walker.iter, name, &after, met)?;
     wildcard_under(version, walker, &above, item)
 }

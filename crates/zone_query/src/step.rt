@@ -1,9 +1,9 @@
 //! What one name gives to an answer.
 
-ghost use Rattle.std.specs.Prelude.{◌≡◌, ◌≤◌, ◌∷◌, [], length, Option, Some, None, MatchOption, true};
+ghost use Rattle.std.specs.Prelude.{◌≡◌, ◌≤◌, ◌-◌, ◌∷◌, [], length, Option, Some, None, MatchOption, true};
 ghost use Rattle.std.specs.Option.{option_map};
 ghost use Rattle.zone_model.specs.Keys.{key_of, most_item_octets};
-ghost use Rattle.zone_model.specs.Names.{Name as Labels, is_under};
+ghost use Rattle.zone_model.specs.Names.{Name as Labels, ancestor, is_under};
 ghost use Rattle.zone_model.specs.Records.{rrset_of};
 ghost use Rattle.zone_model.specs.Splits.{split_name};
 ghost use Rattle.zone_model.specs.Versions.{Version, exists, owned};
@@ -11,7 +11,7 @@ ghost use Rattle.zone_query.specs.Answers.{Ends, alias_in, by_alias, step, targe
 ghost use Rattle.zone_query.specs.Parts.{Gives, GivesAtOnce, NoneOver};
 ghost use Rattle.zone_query.specs.Standing.{IsPlaced, Shows, ShowsSome};
 
-use crate::cut::{cut_over, is_cut};
+use crate::cut::{cut_over, is_cut, is_met};
 use crate::kind::Kind;
 use crate::node::absent_node;
 use crate::records::read_owned;
@@ -93,7 +93,8 @@ fn refer<S: RowSink>(
     entry: &ItemView<'_>,
     rows: &mut S,
 ) -> Result<Next, AllocError>
-    ensures { (target : Option Labels) → Gives (record { rows = set_rows cut.now (rrset_of ns_type entry.now); next = Ends Kind.Referral }) (S.has rows.old) (S.has rows.new) target result }
+    ensures { (target : Option Labels) →
+        Gives (record { rows = set_rows cut.now (rrset_of ns_type entry.now); next = Ends Kind.Referral }) (S.has rows.old) (S.has rows.new) target result }
 {
     if let Some(servers) = entry.find_set(NS) {
         rows.push(alloc, cut, &servers)?;
@@ -122,23 +123,27 @@ fn give_own<S: RowSink>(
     give(alloc, entry, name, rtype, target, rows)
 }
 
-/// What a name that isn't there gives, where none above it is a cut and the walker's iterator stands at its place.
+/// What a name that isn't there gives, where none above it is a cut and the walker's iterator stands at its place. Whether the name right
+/// above was met is known.
 fn give_absent<V: Reading, S: RowSink>(
     alloc: Global,
     version: &mut V,
     walker: &mut Walker,
     name: &Name,
+    met: bool,
     rtype: u16,
     item: &mut [u8],
     rows: &mut S,
 ) -> Result<Next, AllocError>
-    requires placed { (zone : Version) × IsPlaced (V.holds version.old) (V.stands version.old walker.old.iter) name.now zone × ([] ≡ owned name.now zone) }
+    requires placed { (zone : Version) × IsPlaced (V.holds version.old) (V.stands version.old walker.old.iter) name.now zone × ([] ≡ owned name.now zone)
+        × (met ≡ true → exists (ancestor (length name.now - 1) name.now) zone ≡ true) }
     requires room { most_item_octets ≤ length item.old }
     ensures same { version.new ≡ version.old }
-    ensures gives { (zone : Version) (origin : Labels) → IsPlaced (V.holds version.old) (V.stands version.old walker.old.iter) name.now zone → NoneOver origin name.now zone
-        → [] ≡ owned name.now zone → Gives (step origin zone rtype name.now) (S.has rows.old) (S.has rows.new) walker.new.target result }
+    ensures gives { (zone : Version) (origin : Labels) → IsPlaced (V.holds version.old) (V.stands version.old walker.old.iter) name.now zone
+        → NoneOver origin name.now zone → [] ≡ owned name.now zone → (met ≡ true → exists (ancestor (length name.now - 1) name.now) zone ≡ true)
+        → Gives (step origin zone rtype name.now) (S.has rows.old) (S.has rows.new) walker.new.target result }
 {
-    match absent_node(version, walker, name, item) {
+    match absent_node(version, walker, name, met, item) {
         Some(held) => give(
             alloc,
             &held.view(item),
@@ -183,7 +188,10 @@ fn search<V: Reading, S: RowSink>(
             let entry = ItemView::of(name, &item[..len]);
             give_own(alloc, origin, name, &entry, rtype, &mut walker.target, rows)
         }
-        None => give_absent(alloc, version, walker, name, rtype, item, rows),
+        None => {
+            let met = is_met(walker.above.as_slice(), name.labels().saturating_sub(1));
+            give_absent(alloc, version, walker, name, met, rtype, item, rows)
+        }
     }
 }
 

@@ -1,13 +1,14 @@
-use Rattle.std.proofs.Common.{rules, ◌∙◌, ℕ, List, [], map, sym, subst}
+use Rattle.std.proofs.Common.{rules, ◌≡◌, ◌∙◌, ℕ, ◌-◌, true, List, [], map, sym, ap, subst}
+use Rattle.zone_model.specs.Names.{ancestor}
 use Rattle.zone_model.specs.Keys.{key_of}
-use Rattle.zone_model.specs.Versions.{owned}
+use Rattle.zone_model.specs.Versions.{exists, owned}
 use Rattle.trie_model.specs.Order.{chain}
 use Rattle.trie_read.specs.Above.{AreAncestors}
 use Rattle.trie_read.specs.Readings.{AtSplit}
 use Rattle.zone_query.specs.Standing.{IsPlaced, Shows, ShowsAbove, trie_entry}
 use Rattle.zone_query.proofs.ChainLaws.{there_exists}
 use Rattle.zone_query.proofs.OwnedLaws.{nothing_owned}
-use Rattle.zone_query.proofs.HeldLaws.{read_of}
+use Rattle.zone_query.proofs.HeldLaws.{met_exists, read_of}
 use Rattle.zone_query.proofs.step.search.Goals as goal
 
 pub of-entry-requires : goal.of-entry-requires
@@ -34,7 +35,15 @@ give_absent-requires-clause-placed g c =
       shows = subst (λ s. Shows (g.V.Reading.holds s) zone) (sym (c.cut_over.ensures.same ∙ c.lookup-found.ensures.same ∙ c.restart.ensures.same)) shows;
       at = subst (λ (k : List ℕ). AtSplit (g.V.Reading.stands c.cut_over.new.version c.lookup-found.new.iter) k all) c.requires.key split;
     } in
-    (zone, placed, nothing_owned c.args.name.now zone (λ t. leaf t.0 t.1 (t.2 ∙ sym c.requires.key)))
+    let names = subst (λ s. AreAncestors (g.V.Reading.lies s) (chain c.args.key.now all) c.lookup-found.new.above) (sym c.lookup-found.ensures.same) (c.in-None.ensures.above [] all start) in (
+      zone,
+      placed,
+      nothing_owned c.args.name.now zone (λ t. leaf t.0 t.1 (t.2 ∙ sym c.requires.key)),
+      λ met. subst (λ (n : ℕ). exists (ancestor n c.args.name.now) zone ≡ true) (c.saturating_sub.ensures ∙ ap (λ (n : ℕ). n - 1) c.labels.ensures)
+          (met_exists (g.V.Reading.lies c.lookup-found.new.self) c.args.name.now zone c.saturating_sub.result c.as_slice-in-None.result.now c.wire-wire.ensures.name shows.version_is
+          (subst (AreAncestors (g.V.Reading.lies c.lookup-found.new.self) (chain (key_of c.args.name.now) all)) (sym c.as_slice-in-None.ensures.names)
+          (subst (λ (k : List ℕ). AreAncestors (g.V.Reading.lies c.lookup-found.new.self) (chain k all) c.lookup-found.new.above) c.requires.key names)) (sym c.is_met-met.ensures ∙ met)),
+    )
 
 pub returns-in-Some-clause-gives : goal.returns-in-Some-clause-gives
 returns-in-Some-clause-gives g c = let referred = c.refer.ensures c.args.walker.now.target in search (rules, referred)
@@ -72,3 +81,7 @@ returns-in-None-clause-gives g c zone shows =
       above_are = subst (AreAncestors (g.V.Reading.lies c.lookup-found.new.self) (chain (key_of c.args.name.now) all)) (sym c.as_slice.ensures.names) (subst (λ (k : List ℕ). AreAncestors (g.V.Reading.lies c.lookup-found.new.self) (chain k all) c.lookup-found.new.above) c.requires.key names);
     } in
     c.give_absent.ensures.gives zone c.args.origin.now placed (c.in_default.ensures.cut zone above) (nothing_owned c.args.name.now zone (λ t. leaf t.0 t.1 (t.2 ∙ sym c.requires.key)))
+    (λ met. subst (λ (n : ℕ). exists (ancestor n c.args.name.now) zone ≡ true) (c.saturating_sub.ensures ∙ ap (λ (n : ℕ). n - 1) c.labels.ensures)
+    (met_exists (g.V.Reading.lies c.lookup-found.new.self) c.args.name.now zone c.saturating_sub.result c.as_slice-in-None.result.now c.wire-wire.ensures.name shows.version_is
+    (subst (AreAncestors (g.V.Reading.lies c.lookup-found.new.self) (chain (key_of c.args.name.now) all)) (sym c.as_slice-in-None.ensures.names)
+    (subst (λ (k : List ℕ). AreAncestors (g.V.Reading.lies c.lookup-found.new.self) (chain k all) c.lookup-found.new.above) c.requires.key names)) (sym c.is_met-met.ensures ∙ met)))

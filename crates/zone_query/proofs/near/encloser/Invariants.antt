@@ -4,7 +4,7 @@ use Rattle.zone_model.specs.Versions.{Version, exists}
 use Rattle.zone_query.specs.Answers.{encloser}
 use Rattle.zone_query.specs.Neighbours.{AreNeighbours}
 use Rattle.zone_query.specs.Standing.{IsVersion}
-use Rattle.zone_query.proofs.node.encloser.Given as goal
+use Rattle.zone_query.proofs.near.encloser.Given as goal
 
 abbrev pub invariant-loop-above : goal.invariant-loop-above
 invariant-loop-above l = record {

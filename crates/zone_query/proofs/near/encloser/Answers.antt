@@ -4,7 +4,7 @@ use Rattle.zone_model.specs.Versions.{exists}
 use Rattle.zone_query.specs.Answers.{encloser}
 use Rattle.zone_query.proofs.NearLaws.{near_shows}
 use Rattle.zone_query.proofs.AncestorLaws.{encloser_here, encloser_above, encloser_none, under_parent, self_under}
-use Rattle.zone_query.proofs.node.encloser.Goals as goal
+use Rattle.zone_query.proofs.near.encloser.Goals as goal
 
 pub returns-in_err-above : goal.returns-in_err-above
 returns-in_err-above c = λ zone v n none.
