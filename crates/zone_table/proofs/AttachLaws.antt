@@ -1,6 +1,6 @@
 -- An origin is put in, or taken out.
-use Rattle.std.proofs.Common.{◌≡◌, ◌⊎◌, ◌∙◌, inl, inr, ℕ, Bool, true, false, List, [], ◌∷◌, length, Option, Result, Ok, Err, arith, refl, sym, ap, subst}
-use Rattle.std.specs.Prelude.{IsOk, MatchResult, unwrap_or}
+use Rattle.std.proofs.Common.{◌≡◌, ◌⊎◌, ◌∙◌, inl, inr, ℕ, ◌<◌, Bool, true, false, List, [], ◌∷◌, length, get_or, Option, Result, Ok, Err, arith, refl, sym, ap, subst}
+use Rattle.std.specs.Prelude.{IfSome, IsOk, MatchResult, slice_get, unwrap_or}
 use Rattle.std.proofs.Math.Seq.{take-length}
 use Rattle.zone_model.specs.Names.{Name}
 use Rattle.zone_model.specs.Keys.{key_of}
@@ -20,6 +20,7 @@ use Rattle.zone_table.specs.declared.change.TableRefusal.TheVariants.{Spent}
 use Rattle.zone_table.specs.Changes.{IsChanged, IsUnchanged, Attaches, Detaches, last_number}
 use Rattle.zone_table.specs.Tables.{IsTable, IsAttached, entry_for}
 use Rattle.zone_table.proofs.KnownLaws.{opened_same}
+use Rattle.zone_table.proofs.Lists.{read_at}
 
 -- ---- whether a key is there
 
@@ -120,3 +121,7 @@ module _ {E : Type 0} (refusal : E) (first second : Option Draft) (r : Result (U
 
   pub deletes_as : (key key' : List ℕ) → key ≡ key' → Deletes key → Deletes key'
   deletes_as key key' k b = subst Deletes k b
+
+-- what is so of the origin that was read
+pub if_read : (P : Name → Type 0) (origins : List Name) (zone : ℕ) (origin : Name) → zone < length origins → origin ≡ get_or origins zone origin → P origin → IfSome (slice_get origins zone) P
+if_read P origins zone origin inside is h = subst (λ (o : Option Name). IfSome o P) (sym (read_at origins zone origin inside is)) h

@@ -1,8 +1,11 @@
 -- The last entry whose key begins a key.
-use Rattle.std.proofs.Common.{◌≡◌, inl, inr, ℕ, suc, ◌<◌, ◌≤◌, Bool, true, false, List, [], ◌∷◌, ◌++◌, length, arith, length-append, refl, sym, ap, ◌∙◌, subst}
+use Rattle.std.proofs.Common.{◌≡◌, inl, inr, ℕ, suc, ◌<◌, ◌≤◌, Bool, true, false, List, [], ◌∷◌, ◌++◌, length, map, arith, length-append, refl, sym, ap, ◌∙◌, subst}
 use Rattle.std.proofs.lemmas.Bool.{cases_lt}
+use Rattle.packed_node.specs.declared.Leaf.{Leaf}
 use Rattle.trie_model.specs.Keys.{at, Entry, InList, Less, Rises}
 use Rattle.trie_model.specs.Order.{begins, chain_labels, labels_in}
+use Rattle.trie_read.specs.Above.{AreAncestors}
+use Rattle.trie_read.specs.declared.ancestors.Ancestor.{Ancestor}
 use Rattle.trie_model.proofs.ChainLaws.{begins_reads, read_inside, labels_longer, chain_skip, chain_take}
 
 -- the last label of a key is ended
@@ -70,3 +73,10 @@ last_of key (y ∷ es) above last rises ends is = go (begins y.key key) refl (λ
     go true e rest = first e above (sym (chain_take key y es e) ∙ is) rest
     go false e rest =
         further (rest above (sym (chain_skip key y es e) ∙ is)) (λ x s b. let bad : true ≡ false = sym (subst (λ (z : Entry). begins z.key key ≡ true) s b) ∙ e in absurd cc)
+
+-- how many labels the names above a key's have, as their leaves tell it
+pub labels_above : (lies : Leaf → Entry → Type 0) (es : List Entry) (names : List Ancestor) → AreAncestors lies es names → map (λ (a : Ancestor). a.labels) names ≡ map (λ (e : Entry). labels_in e.key) es
+labels_above lies [] [] h = refl
+labels_above lies [] (a ∷ names) h = absurd h
+labels_above lies (e ∷ es) [] h = absurd h
+labels_above lies (e ∷ es) (a ∷ names) h = ap (λ (n : ℕ). n ∷ map (λ (x : Ancestor). x.labels) names) h.1 ∙ ap (λ (ns : List ℕ). labels_in e.key ∷ ns) (labels_above lies es names h.2)

@@ -1,6 +1,6 @@
 -- What becomes of a change of the table, by what its transaction tells.
 use Rattle.std.proofs.Common.{◌≡◌, ◌⊎◌, ◌∙◌, inl, inr, ⊎_elim, ℕ, ◌+◌, ◌≤◌, Bool, true, false, cond, List, [], ◌∷◌, ◌++◌, length, Option, Some, None, Result, Ok, Err, arith, refl, sym, ap, subst, length-append, append-nil, append_assoc}
-use Rattle.std.specs.Prelude.{◌≢◌, ◌↔◌, IsSome, IsSomeAnd, IfSome, IfOk, IfErr, IsOk, IsErr, MatchResult, unwrap_or}
+use Rattle.std.specs.Prelude.{◌≢◌, ◌↔◌, IsSome, IsSomeAnd, IfSome, IfOk, IfErr, IsOk, IsErr, unwrap_or}
 use Rattle.std.specs.List.{AllByRecursion, filter}
 use Rattle.std.proofs.lemmas.List.Elements.{All-contains}
 use Rattle.std.proofs.lemmas.List.Sums.{fold-append}
@@ -13,10 +13,11 @@ use Rattle.packed_node.specs.declared.Cell.{Cell}
 use Rattle.trie_model.specs.Capacity.{is_roomy}
 use Rattle.pin_core.specs.declared.version.Spent.{Spent as NoNumber}
 use Rattle.shared_cells.specs.declared.view.Entry.{Entry as Commit}
-use Rattle.shared_cells.specs.declared.view.PassView.{PassView}
 use Rattle.shared_cells.specs.History.{StartsWith, IsPartOf, OpeningFits, entries_by, entry_of, version_after}
-use Rattle.shared_cells.specs.Views.{is_told, pass_of}
+use Rattle.shared_cells.specs.Views.{is_told}
 use Rattle.shared_index.specs.declared.commit.Receipt.{Receipt}
+use Rattle.shared_index.specs.declared.meaning.Named.{Ghosts}
+use Rattle.shared_index.specs.declared.pass.Pass.{Pass}
 use Rattle.shared_index.specs.declared.desk.Draft.{Draft}
 use Rattle.shared_index.specs.declared.meaning.Operation.{Operation}
 use Rattle.shared_index.specs.declared.meaning.Operation.TheVariants.{Insert, Delete}
@@ -29,9 +30,12 @@ use Rattle.shared_index.specs.Passes.{Known, known_at, first_version, version_se
 use Rattle.shared_index.proofs.GoesLaws.{base_goes_on, first_goes_on}
 use Rattle.zone_table.specs.Changes.{IsChanged, IsUnchanged, last_number}
 use Rattle.zone_table.specs.Notes.{Sighting}
+use Rattle.zone_table.specs.Passes.{IsPassOf, table_known}
 use Rattle.zone_table.specs.Tables.{IsTable, IsAmong}
+use Rattle.zone_table.specs.declared.pass.ZonesPass.{ZonesPass}
+use Rattle.zone_table.proofs.AttachLaws.{Ends, opening_after, opening_unchanged}
 use Rattle.zone_table.proofs.CapacityLaws.{few_cells}
-use Rattle.zone_table.proofs.KnownLaws.{Seat, opened_same, part_of}
+use Rattle.zone_table.proofs.KnownLaws.{Seat, opened_same, part_of, seat_told}
 
 -- ---- drafts that are there
 
@@ -208,7 +212,17 @@ module _ (origins : List Name) (old : Known) (d : Draft) (told : is_told old.see
 
 -- ---- by what its call and its end tell
 
-module _ {E : Type 0} (refusal : E) (o : Operation) (denied : List Entry → Type 0) (origins : List Name) (old : Known) (told : is_told old.seen.opening ≡ true) (table : IsTable origins (first_version old.seen)) (first second : Option Draft) (begins : IsSomeAnd first (Begins IsAmong old)) where
+module _ {E X : Type 0} {N : Ghosts X} (refusal : E) (o : Operation) (denied : List Entry → Type 0) (origins : List Name) (p : ZonesPass X N) (is : IsPassOf origins p) (first second : Option Draft)
+    (begins : IsSomeAnd first (Begins IsAmong (table_known p))) where
+  abbrev old : Known
+  old = table_known p
+
+  told : is_told (table_known p).seen.opening ≡ true
+  told = seat_told p.table.seat is.table_here
+
+  table : IsTable origins (first_version (table_known p).seen)
+  table = is.opening
+
   -- the call did the operation or not
   abbrev pub Calls : Result (Unit {0}) E → Type 0
   Calls r = Between (λ d e. Operates o denied d e (IsOk r) (r ≡ Err refusal)) first second
@@ -225,7 +239,7 @@ module _ {E : Type 0} (refusal : E) (o : Operation) (denied : List Entry → Typ
       some_and (λ d. IsAmong (first_version d.seat.place.me.0.seen) (working_set d)) second x.after x.new_is
       (lawful_after origins old x.before told table x.met x.after x.related.known o (x.related.done refl) puts (standing_rises _ _ _ x.after.root (working_set x.after) x.related.works.stands))
 
-  pub is_refused : (seat : Option Seat) (number : ℕ) → Calls (Err refusal) → IfSome second (λ d. IsBack d.seat.place.me.0 seat) → IfSome first (λ d. number ≡ length d.seat.place.me.0.seen.history) → IsUnchanged denied old (known_at seat) number
+  is_refused : (seat : Option Seat) (number : ℕ) → Calls (Err refusal) → IfSome second (λ d. IsBack d.seat.place.me.0 seat) → IfSome first (λ d. number ≡ length d.seat.place.me.0.seen.history) → IsUnchanged denied old (known_at seat) number
   is_refused seat number calls back here =
       let x = two (Err refusal) calls in
       unchanged origins old x.before told table x.met x.after x.related.known denied seat number (x.related.refused.0 refl)
@@ -235,12 +249,9 @@ module _ {E : Type 0} (refusal : E) (o : Operation) (denied : List Entry → Typ
   accepted x h = let bad : ◌≡◌ {A = Result (Unit {0}) E} (Ok tt) (Err refusal) = x.related.refused.1 h in absurd cc
 
   -- its commit made a version, or there was no number for one
-  abbrev pub Ended : Known → Result Receipt NoNumber → Type 0
-  Ended new r = MatchResult r (λ t. IsChanged (λ es. denied es → ⊥) old new o t.version) (λ s. IsUnchanged (λ es. denied es → ⊥) old new s.version × (s.version ≡ last_number))
-
-  pub is_ended : (seat : Option Seat) (r : Result Receipt NoNumber) → Calls (Ok tt)
+  is_ended : (seat : Option Seat) (r : Result Receipt NoNumber) → Calls (Ok tt)
       → IfOk r (λ _. IfSome second (λ d. Commits d.seat.place.me.0 d.log.operations (known_at seat))) → IfOk r (λ t. IfSome second (λ d. t.version ≡ d.seat.version + 1))
-      → IfErr r (λ _. IfSome second (λ d. IsBack d.seat.place.me.0 seat)) → IfSome second (λ d. IsErr r ↔ (d.seat.version ≡ last_number)) → IfErr r (λ s. IfSome second (λ d. s.version ≡ d.seat.version)) → Ended (known_at seat) r
+      → IfErr r (λ _. IfSome second (λ d. IsBack d.seat.place.me.0 seat)) → IfSome second (λ d. IsErr r ↔ (d.seat.version ≡ last_number)) → IfErr r (λ s. IfSome second (λ d. s.version ≡ d.seat.version)) → Ends (λ es. denied es → ⊥) old (known_at seat) o r
   is_ended seat (Ok t) calls commits next back spent last =
       let x = two (Ok tt) calls in
       let exact = there_is (λ d. IsErr {T = Receipt} {E = NoNumber} (Ok t) ↔ (d.seat.version ≡ last_number)) second x.after x.new_is spent in
@@ -256,11 +267,37 @@ module _ {E : Type 0} (refusal : E) (o : Operation) (denied : List Entry → Typ
         number ∙ exact.0 refl,
       )
 
-  pub is_here : (r : Result (Unit {0}) E) (seat : Option Seat) → Calls r → IfSome second (λ d. IsBack d.seat.place.me.0 seat) → IsSome seat
-  is_here r seat calls back = let x = two r calls in (there_is (λ d. IsBack d.seat.place.me.0 seat) second x.after x.new_is back).0
+  -- the pass of the table is in its place again
+  with_table : (t : Pass X N) → IsSome t.seat → t.place ≡ 0 → IsTable origins (first_version (known_at t.seat).seen) → IsPassOf origins (record p { table = t })
+  with_table t here place opening = record { table_here = here; table_place = place; opening = opening; zones_here = is.zones_here; zone_places = is.zone_places }
 
-  pub so_there : (r : Result (Unit {0}) E) (P : Type 0) → Calls r → IfSome second (λ _. P) → P
-  so_there r P calls h = let x = two r calls in there_is (λ _. P) second x.after x.new_is h
+  -- behind a commit
+  pub record Committed (t : Pass X N) (r : Result Receipt NoNumber) : Type 0 where
+    pub pass : IsPassOf origins (record p { table = t })
+    pub ends : Ends (λ es. denied es → ⊥) old (known_at t.seat) o r
+
+  pub committed : (t : Pass X N) (r : Result Receipt NoNumber) → Calls (Ok tt) → IsSome t.seat → t.place ≡ 0
+      → IfOk r (λ _. IfSome second (λ d. Commits d.seat.place.me.0 d.log.operations (known_at t.seat))) → IfOk r (λ s. IfSome second (λ d. s.version ≡ d.seat.version + 1))
+      → IfErr r (λ _. IfSome second (λ d. IsBack d.seat.place.me.0 t.seat)) → IfSome second (λ d. IsErr r ↔ (d.seat.version ≡ last_number)) → IfErr r (λ s. IfSome second (λ d. s.version ≡ d.seat.version)) → Committed t r
+  committed t r calls here place commits next back spent last =
+      let ends = is_ended t.seat r calls commits next back spent last in
+      record { pass = with_table t here place (opening_after (λ es. denied es → ⊥) origins old (known_at t.seat) o r told table ends); ends = ends }
+
+  -- where nothing was done
+  pub record Refused (t : Pass X N) (number : ℕ) : Type 0 where
+    pub pass : IsPassOf origins (record p { table = t })
+    pub unchanged : IsUnchanged denied old (known_at t.seat) number
+
+  pub refused : (t : Pass X N) (number place : ℕ) → Calls (Err refusal) → IfSome second (λ d. IsBack d.seat.place.me.0 t.seat) → IfSome second (λ _. t.place ≡ place) → place ≡ 0
+      → IfSome first (λ d. number ≡ length d.seat.place.me.0.seen.history) → Refused t number
+  refused t number place calls back at first_place here =
+      let x = two (Err refusal) calls in
+      let same = is_refused t.seat number calls back here in
+      record {
+        pass = with_table t (there_is (λ d. IsBack d.seat.place.me.0 t.seat) second x.after x.new_is back).0 (there_is (λ _. t.place ≡ place) second x.after x.new_is at ∙ first_place)
+            (opening_unchanged denied origins old (known_at t.seat) number told table same);
+        unchanged = same;
+      }
 
   pub has_room : AllByRecursion IsName origins → length origins ≤ 16 → IsSomeAnd first (λ d. CommitsAreWithin (Some 1) d.seat.place.me.0) → IsSomeAnd first (λ d. d.seat.passes ≤ 17) → IsSomeAnd first (λ d. length d.usage.given ≡ 512) → IsSomeAnd first IsCramped → ⊥
   has_room names few within passes chunks cramped = go first refl begins

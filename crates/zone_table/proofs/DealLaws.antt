@@ -50,14 +50,6 @@ module _ {X : Type 0} {N : Ghosts X} where
   pub dealt : (old new : List (ZonesPass X N)) (passes : List (Pass X N)) → Walk HasOneMore old new passes [] → AreDealt old new passes
   dealt old new passes w = record { count = w.count; each = λ k p q z ip iq iz. w.done k p q z (omega arith) ip iq iz }
 
-  pub no_zones : (tables : List (Pass X N)) (all : List (ZonesPass X N)) → map (λ p. p.table) all ≡ tables → All (λ p. p.zones.items ≡ []) all → IsGrid tables [] all
-  no_zones tables all is none = record {
-    count = sym (length-map all (λ p. p.table)) ∙ ap length is;
-    table = λ k p ip. ap (λ (ts : List (Pass X N)). slice_get ts k) (sym is) ∙ mapped_at (λ p. p.table) all k p ip;
-    width = λ k p ip. ap length (all_at (λ q. q.zones.items ≡ []) all k p none ip);
-    zone = λ k j p c z ip ic iz. absurd (let bad : slice_get {X = List (Pass X N)} [] j ≡ Some c = ic in cc);
-  }
-
   pub one_zone : (tables : List (Pass X N)) (zones : List (List (Pass X N))) (old new : List (ZonesPass X N)) (passes : List (Pass X N)) → length passes ≡ length tables → IsGrid tables zones old → AreDealt old new passes → IsGrid tables (zones ++ passes ∷ []) new
   one_zone tables zones old new passes many g d = record {
     count = d.count ∙ g.count;

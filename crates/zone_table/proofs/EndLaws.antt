@@ -3,7 +3,6 @@ use Rattle.std.proofs.Common.{◌≡◌, ◌∙◌, inl, inr, ℕ, zero, suc, �
 use Rattle.std.specs.Prelude.{IsSome, unwrap_or, slice_index}
 use Rattle.std.specs.List.{All, range_with_len, slice_get}
 use Rattle.std.proofs.lemmas.List.{length-map}
-use Rattle.std.proofs.lemmas.List.FromFn.{length-range_with_len}
 use Rattle.std.proofs.lemmas.Option.{slice_get_within}
 use Rattle.zone_model.specs.Names.{Name}
 use Rattle.shared_index.specs.declared.index.Index.{Index}
@@ -15,7 +14,7 @@ use Rattle.zone_table.specs.Endings.{AreAdded, AreSplit, AreEnded, Belong, EachE
 use Rattle.zone_table.specs.Passes.{IsPassOf, table_known, zone_known}
 use Rattle.zone_table.proofs.Lists.{all_at, at_seam, get_front, get_in, last_or_before, mapped_at, numbered_at, some_is}
 use Rattle.zone_table.proofs.DealLaws.{all_by_place, same_list}
-use Rattle.zone_table.proofs.WalkLaws.{Walk}
+use Rattle.zone_table.proofs.PassLaws.{wide}
 
 -- ---- numbers in their places
 
@@ -30,16 +29,6 @@ module _ {X : Type 0} {N : Ghosts X} where
   -- a list with one pass more
   abbrev pub MorePass : Vec (Pass X N) Global → Vec (Pass X N) Global → Pass X N → Type 0
   MorePass x y z = y.items ≡ x.items ++ z ∷ []
-
-  pub added : (old new : List (Vec (Pass X N) Global)) (passes : List (Pass X N)) → Walk MorePass old new passes [] → AreAdded old new passes
-  added old new passes w = record { count = w.count; each = λ k x y z ix iy iz. w.done k x y z (omega arith) ix iy iz }
-
-  pub no_lists : (count : ℕ) (lists : List (Vec (Pass X N) Global)) → length lists ≡ count → All (λ l. l.items ≡ []) lists → AreSplit count [] lists
-  no_lists count lists is none = record {
-    count_is = is;
-    many = λ j l il. ap length (all_at (λ m. m.items ≡ []) lists j l none il);
-    each = λ j k l p z il ip iz. absurd (let bad : slice_get {X = ZonesPass X N} [] k ≡ Some p = ip in cc);
-  }
 
   pub one_more_pass : (count : ℕ) (passes : List (ZonesPass X N)) (last : ZonesPass X N) (old new : List (Vec (Pass X N) Global)) → length last.zones.items ≡ count → AreSplit count passes old → AreAdded old new last.zones.items → AreSplit count (passes ++ last ∷ []) new
   one_more_pass count passes last old new wide s d = record {
@@ -68,12 +57,6 @@ module _ {X : Type 0} {N : Ghosts X} where
 -- ---- what is known of them
 
 module _ {X : Type 0} {N : Ghosts X} (origins : List Name) where
-  pub wide : (p : ZonesPass X N) → IsPassOf origins p → length p.zones.items ≡ length origins
-  wide p is = sym (length-map p.zones.items (λ z. z.place)) ∙ ap length is.zone_places ∙ length-range_with_len 1 (length origins)
-
-  pub all_wide : (count : ℕ) (passes : List (ZonesPass X N)) → length origins ≡ count → All (IsPassOf origins) passes → All (λ p. length p.zones.items ≡ count) passes
-  all_wide count passes each is = all_by_place (λ p. length p.zones.items ≡ count) passes (λ k p ip. wide p (all_at (IsPassOf origins) passes k p is ip) ∙ each)
-
   module _ (count : ℕ) (passes : List (ZonesPass X N)) (lists : List (Vec (Pass X N) Global)) (each : length origins ≡ count) (are : All (IsPassOf origins) passes) (split : AreSplit count passes lists) where
     -- where a pass in a list is from
     record From (j k : ℕ) (x : Pass X N) : Type 0 where
@@ -88,7 +71,7 @@ module _ {X : Type 0} {N : Ghosts X} (origins : List Name) where
         let inside = slice_get_within l.items k x ix in
         let zone = slice_get_within lists j l il in
         let p = get_in passes k (omega arith) in
-        let w = wide p.0 (all_at (IsPassOf origins) passes k p.0 are p.1) in
+        let w = wide origins p.0 (all_at (IsPassOf origins) passes k p.0 are p.1) in
         let z = get_in p.0.zones.items j (omega arith) in
         let same : z.0 ≡ x = some_is z.0 x (sym (split.each j k l p.0 z.0 il p.1 z.1) ∙ ix) in
         record { pass = p.0; here = p.1; at = z.1 ∙ ap (λ (y : Pass X N). Some y) same }

@@ -1,4 +1,5 @@
 pub mod Lists
+mod WireLaws
 pub mod ChainLaws
 pub mod OriginLaws
 pub mod KnownLaws

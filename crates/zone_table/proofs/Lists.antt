@@ -1,9 +1,9 @@
 -- Lists by their places.
-use Rattle.std.proofs.Common.{◌≡◌, ◌⊎◌, inl, inr, ℕ, zero, suc, ◌+◌, ◌-◌, ◌<◌, List, [], ◌∷◌, ◌++◌, length, map, take, drop, set, get_or, Some, arith, refl, sym, ap, ◌∙◌, subst, append_assoc, take-append-drop}
+use Rattle.std.proofs.Common.{◌≡◌, ◌⊎◌, inl, inr, ℕ, zero, suc, ◌+◌, ◌-◌, ◌<◌, List, [], ◌∷◌, ◌++◌, length, map, take, drop, set, get_or, Some, arith, refl, sym, ap, ◌∙◌, subst, append_assoc, length-append, take-append-drop}
 use Rattle.std.specs.Prelude.{Result, Ok, Err, IfOk, IfErr}
 use Rattle.std.specs.Option.{option_map}
 use Rattle.std.specs.List.{All, AllByRecursion, Contains, range_with_len, slice_get}
-use Rattle.std.proofs.lemmas.List.{take_more, length-map}
+use Rattle.std.proofs.lemmas.List.{take_more, length-map, get_or_append_left}
 use Rattle.std.proofs.lemmas.List.Elements.{All-get_or}
 use Rattle.std.proofs.lemmas.List.FromFn.{length-range_with_len, get_or-range_with_len}
 use Rattle.std.proofs.lemmas.List.{map-append}
@@ -11,13 +11,16 @@ use Rattle.std.proofs.lemmas.Option.{slice_get_read, slice_get_within, slice_get
 use Rattle.std.proofs.Math.Seq.{take-length}
 use Rattle.pin_core.proofs.Lists.{contains_cases}
 
--- a list's last element, behind the others
-pub ends_with : (xs : List ℕ) → (length xs ≡ 0 → ⊥) → (above : List ℕ) × (xs ≡ above ++ get_or xs (length xs - 1) 0 ∷ [])
-ends_with xs some =
-    let n : (length xs - 1) + 1 ≡ length xs = omega arith in
-    (take (length xs - 1) xs, sym (take-length xs) ∙ ap (λ (k : ℕ). take k xs) (sym n) ∙ take_more xs (length xs - 1) 0 (omega arith))
-
 module _ {A : Type 0} where
+  -- a list's last element, behind the others
+  pub ends_with : (xs : List A) (d : A) → (length xs ≡ 0 → ⊥) → (above : List A) × (xs ≡ above ++ get_or xs (length xs - 1) d ∷ [])
+  ends_with xs d some =
+      let n : (length xs - 1) + 1 ≡ length xs = omega arith in
+      (take (length xs - 1) xs, sym (take-length xs) ∙ ap (λ (k : ℕ). take k xs) (sym n) ∙ take_more xs (length xs - 1) d (omega arith))
+
+  pub all_front : (P : A → Type 0) (xs ys : List A) → All P (xs ++ ys) → All P xs
+  all_front P xs ys all k d lt = subst P (get_or_append_left xs ys d k lt) (all k d (let n = length-append xs ys in omega arith))
+
   pub contains_at : (xs : List A) (k : ℕ) (x : A) → slice_get xs k ≡ Some x → Contains xs x
   contains_at xs k x is = (k, slice_get_within xs k x is, get_or_from_slice_get xs k x x is)
 
@@ -38,8 +41,8 @@ module _ {A : Type 0} where
   pub mapped_at : {B : Type 0} (f : A → B) (xs : List A) (k : ℕ) (x : A) → slice_get xs k ≡ Some x → slice_get (map f xs) k ≡ Some (f x)
   mapped_at f xs k x is = slice_get-map f xs k ∙ ap (option_map f) is
 
-  some_once : (x y : A) → Some x ≡ Some y → x ≡ y
-  some_once x y e = cc
+  pub some_is : (x y : A) → Some x ≡ Some y → x ≡ y
+  some_is x y e = cc
 
   -- elements that are numbered from 1 on
   pub numbered_at : (f : A → ℕ) (xs : List A) (n k : ℕ) (x : A) → map f xs ≡ range_with_len 1 n → k < n → slice_get xs k ≡ Some x → f x ≡ k + 1
@@ -75,14 +78,9 @@ module _ {A : Type 0} where
   get_in (x ∷ xs) zero l = (x, refl)
   get_in (x ∷ xs) (suc k) l = get_in xs k (omega arith)
 
-  pub within_front : (front back : List A) (k : ℕ) → k < length front → slice_get (front ++ back) k ≡ slice_get front k
-  within_front [] back k l = absurd (omega arith)
-  within_front (y ∷ front) back zero l = refl
-  within_front (y ∷ front) back (suc k) l = within_front front back k (omega arith)
-
   -- the last one, or one before it
   pub last_or_before : (front : List A) (y x : A) (k : ℕ) → slice_get (front ++ y ∷ []) k ≡ Some x → ((k < length front) × (slice_get front k ≡ Some x)) ⊎ ((k ≡ length front) × (y ≡ x))
-  last_or_before [] y x zero is = inr (refl, some_once y x is)
+  last_or_before [] y x zero is = inr (refl, some_is y x is)
   last_or_before [] y x (suc k) is = absurd cc
   last_or_before (z ∷ front) y x zero is = inl (omega arith, is)
   last_or_before (z ∷ front) y x (suc k) is = elim (last_or_before front y x k is) [ inl l ↦ inl ((let m = l.0 in omega arith), l.1) | inr r ↦ inr (ap suc r.0, r.1) ]
@@ -100,9 +98,6 @@ module _ {A : Type 0} where
   get_set_other (x ∷ xs) (suc k) zero y other = refl
   get_set_other (x ∷ xs) (suc k) (suc j) y other = get_set_other xs k j y (λ e. other (ap suc e))
 
-  pub some_is : (x y : A) → Some x ≡ Some y → x ≡ y
-  some_is x y e = cc
-
 module _ {A B : Type 0} where
   -- two lists that are numbered alike
   pub alike_at : (f : A → ℕ) (g : B → ℕ) (xs : List A) (ys : List B) (k : ℕ) (x : A) (y : B) → map f xs ≡ map g ys → slice_get xs k ≡ Some x → slice_get ys k ≡ Some y → f x ≡ g y
@@ -114,10 +109,6 @@ module _ {A B : Type 0} where
 pub if_ok : {T E : Type 0} (P Q : T → Type 0) (r : Result T E) → ((x : T) → P x → Q x) → IfOk r P → IfOk r Q
 if_ok P Q (Ok x) f p = f x p
 if_ok P Q (Err e) f p = p
-
-pub if_err : {T E : Type 0} (P Q : E → Type 0) (r : Result T E) → ((x : E) → P x → Q x) → IfErr r P → IfErr r Q
-if_err P Q (Ok x) f p = p
-if_err P Q (Err e) f p = f e p
 
 pub none_left : {A : Type 0} (xs : List A) → length xs ≡ 0 → xs ≡ []
 none_left [] e = refl

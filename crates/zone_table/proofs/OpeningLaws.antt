@@ -1,19 +1,17 @@
 -- Zones that are opened, one after another.
-use Rattle.std.proofs.Common.{◌≡◌, ◌∙◌, inl, inr, ℕ, ◌+◌, List, [], ◌∷◌, ◌++◌, length, Some, arith, sym, ap, subst, length-append}
+use Rattle.std.proofs.Common.{◌≡◌, ◌∙◌, inl, inr, ℕ, ◌+◌, ◌≤◌, List, [], ◌∷◌, ◌++◌, Vec, Global, length, map, get_or, Some, arith, sym, ap, subst, length-append}
 use Rattle.std.specs.List.{Contains, slice_get}
-use Rattle.std.specs.Prelude.{Result, Ok, Err, IfOk, IfErr, MatchResult}
-use Rattle.std.proofs.Common.{map}
+use Rattle.std.specs.Prelude.{Result, Ok, Err, MatchResult}
 use Rattle.std.proofs.lemmas.List.{length-map, map-append}
-use Rattle.std.proofs.lemmas.Option.{slice_get_within}
 use Rattle.shared_cells.specs.declared.view.TableSize.{TableSize}
 use Rattle.zone_table.specs.declared.opening.ZoneItems.{ZoneItems}
 use Rattle.zone_table.specs.declared.opening.ZonesRefusal.{ZonesRefusal}
 use Rattle.zone_table.specs.declared.opening.ZonesRefusal.TheVariants.{Memory}
-use Rattle.zone_table.proofs.RefusalLaws.{places_more, places_count}
+use Rattle.zone_table.proofs.RefusalLaws.{kept, places_more, places_count}
 use Rattle.shared_index.specs.declared.meaning.Named.{Ghosts}
 use Rattle.zone_table.specs.declared.opening.Opened.{Opened}
-use Rattle.zone_table.specs.Openings.{Place, places_of, entries_in, AllFit, MayFit, IsBegun, AreBegun, RefusesZones}
-use Rattle.zone_table.proofs.Lists.{place_in, last_or_before, get_in}
+use Rattle.zone_table.specs.Openings.{Place, places_of, entries_in, AllFit, MayFit, IsBegun, AreBegun, OpensZones, RefusesZones}
+use Rattle.zone_table.proofs.Lists.{place_in, last_or_before, get_in, read_at}
 
 module _ {X Y : Type 0} {N : Ghosts Y} where
   pub none_begun : (places : List Place) (opened : List (Opened X Y N)) → places ≡ [] → opened ≡ [] → AreBegun places opened
@@ -50,22 +48,34 @@ module _ {X Y : Type 0} {N : Ghosts Y} where
   pub begun_fit : (places : List Place) (opened : List (Opened X Y N)) → AreBegun places opened → (p : Place) → Contains places p → MayFit p
   begun_fit places opened h p c = inl (begun_within places opened h p c)
 
--- what is told so far
-pub so_far_is : {T : Type 0} (places : List Place) (r : Result T ZonesRefusal) (told : ZonesRefusal) → MatchResult r (λ _. told ≡ Memory) (λ e. told ≡ e) → IfOk r (λ _. (p : Place) → Contains places p → MayFit p) → IfErr r (RefusesZones places) → RefusesZones places told
-so_far_is places (Ok x) told is fit refused = subst (RefusesZones places) (sym is) fit
-so_far_is places (Err e) told is fit refused = subst (RefusesZones places) (sym is) refused
+  -- what is told so far
+  pub so_far_is : (places : List Place) (r : Result (Vec (Opened X Y N) Global) ZonesRefusal) (told : ZonesRefusal) → MatchResult r (λ _. told ≡ Memory) (λ e. told ≡ e) → OpensZones places r → RefusesZones places told
+  so_far_is places (Ok opened) told is h = subst (RefusesZones places) (sym is) (begun_fit places opened.items h)
+  so_far_is places (Err e) told is h = subst (RefusesZones places) (sym is) h
 
-module _ {B : Type 0} (key : B → TableSize) (zones : List ZoneItems) (blanks front : List B) (blank : B) (z : ZoneItems) (is : blanks ≡ front ++ blank ∷ []) (there : slice_get zones (length front) ≡ Some z) where
-  abbrev pub last_place : Place
-  last_place = record { zone = z; size = key blank }
+  -- one more is opened, or memory is wanting
+  pub opens_more : (front : List Place) (p : Place) (others : List (Opened X Y N)) (o : Opened X Y N) (r : Result (Vec (Opened X Y N) Global) ZonesRefusal) → MatchResult r (λ all. all.items ≡ others ++ o ∷ []) (λ e. e ≡ Memory)
+      → AreBegun front others → IsBegun (length front + 1) p.size (entries_in p.zone) o → OpensZones (front ++ p ∷ []) r
+  opens_more front p others o (Ok all) is h b = subst (AreBegun (front ++ p ∷ [])) (sym is) (one_begun front others p o h b)
+  opens_more front p others o (Err e) is h b = subst (RefusesZones (front ++ p ∷ [])) (sym is) (kept front p Memory (begun_fit front others h) (inl b.fits))
 
-  pub sizes_count : length (map key front) ≡ length front
-  sizes_count = length-map front key
+-- the zone that the last blank is for
+module _ {B : Type 0} (key : B → TableSize) (zones : List ZoneItems) (blanks front : List B) (blank : B) (last : ℕ) (z : ZoneItems) where
+  pub record IsLast : Type 0 where
+    pub there : slice_get zones last ≡ Some z
+    pub count : length (map key front) ≡ last
+    pub many : length (places_of zones (map key front)) ≡ last
+    pub all : places_of zones (map key blanks) ≡ places_of zones (map key front) ++ record { zone = z; size = key blank } ∷ []
 
-  pub places_are : places_of zones (map key blanks) ≡ places_of zones (map key front) ++ last_place ∷ []
-  places_are =
-      ap (λ (l : List B). places_of zones (map key l)) is ∙ ap (places_of zones) (map-append key front (blank ∷ []))
-      ∙ places_more zones (map key front) last_place (ap (slice_get zones) sizes_count ∙ there)
-
-  pub front_places : length (places_of zones (map key front)) ≡ length front
-  front_places = let l = slice_get_within zones (length front) z there in let n = sizes_count in places_count zones (map key front) (omega arith) ∙ n
+  pub is_last : blanks ≡ front ++ blank ∷ [] → length blanks ≤ length zones → last ≡ length front → z ≡ get_or zones last z → IsLast
+  is_last is enough at read =
+      let size = ap length is ∙ length-append front (blank ∷ []) in
+      let there : slice_get zones last ≡ Some z = read_at zones last z (omega arith) read in
+      let count : length (map key front) ≡ last = length-map front key ∙ sym at in
+      record {
+        there = there;
+        count = count;
+        many = places_count zones (map key front) (omega arith) ∙ count;
+        all = ap (λ (l : List B). places_of zones (map key l)) is ∙ ap (places_of zones) (map-append key front (blank ∷ []))
+            ∙ places_more zones (map key front) (record { zone = z; size = key blank }) (ap (slice_get zones) count ∙ there);
+      }

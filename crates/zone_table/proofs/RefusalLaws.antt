@@ -48,9 +48,6 @@ place_zone (z ∷ zones) [] k p there = absurd cc
 place_zone (z ∷ zones) (s ∷ sizes) zero p there = let e : record { zone = z; size = s } ≡ p = some_is (record { zone = z; size = s }) p there in ap (λ (x : Place). Some x.zone) e
 place_zone (z ∷ zones) (s ∷ sizes) (suc k) p there = place_zone zones sizes k p there
 
-none_there : (k : ℕ) (p : Place) → slice_get {X = Place} [] k ≡ Some p → ⊥
-none_there k p e = cc
-
 one_of : (front : List Place) (p other : Place) → Contains (front ++ p ∷ []) other → Contains front other ⊎ (p ≡ other)
 one_of front p other c = elim (Contains-append_cases front (p ∷ []) other c) [ inl f ↦ inl f | inr l ↦ elim (contains_cases p other [] l) [ inl e ↦ inr e | inr n ↦ absurd (let m = n.1 in omega arith) ] ]
 

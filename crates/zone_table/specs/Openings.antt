@@ -1,5 +1,6 @@
 -- How zones are opened, and why they aren't.
-use Rattle.std.specs.Prelude.{◌≡◌, ℕ, ◌+◌, ◌≤◌, List, [], ◌∷◌, length, map, All, Contains, IsSome, Some, slice_get}
+use Rattle.std.specs.Prelude.{◌≡◌, ℕ, ◌+◌, ◌≤◌, List, [], ◌∷◌, Result, Ok, Err, Vec, length, map, All, Contains, IsSome, Some, slice_get}
+use Rattle.std.specs.Global.{Global}
 use Rattle.std.specs.declared.cmp.Ordering.TheVariants.{Less}
 use Rattle.zone_model.specs.Names.{Name, name_cmp}
 use Rattle.trie_model.specs.Keys.{Entry}
@@ -68,3 +69,8 @@ pub record IsBegun {X Y : Type 0} {N : Ghosts Y} (number : ℕ) (size : TableSiz
 pub record AreBegun {X Y : Type 0} {N : Ghosts Y} (places : List Place) (opened : List (Opened X Y N)) : Type 0 where
   pub count : length opened ≡ length places
   pub each : (k : ℕ) (p : Place) (o : Opened X Y N) → slice_get places k ≡ Some p → slice_get opened k ≡ Some o → IsBegun (k + 1) p.size (entries_in p.zone) o
+
+-- all of these are opened, or refused
+abbrev pub OpensZones : {X Y : Type 0} {N : Ghosts Y} → List Place → Result (Vec (Opened X Y N) Global) ZonesRefusal → Type 0
+OpensZones places (Ok opened) = AreBegun places opened.items
+OpensZones places (Err refusal) = RefusesZones places refusal

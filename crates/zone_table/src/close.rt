@@ -51,7 +51,7 @@ fn split_passes<N: Named>(
         let lists = no_passes(alloc, count)?;
         return Ok((Vec::new(alloc), lists));
     };
-    let ZonesPass { table, zones } = last;
+    let ZonesPass { table, zones, .. } = last;
     let (mut tables, mut lists) = split_passes(alloc, count, passes)?;
     tables.push(table)?;
     add_passes(&mut lists, zones)?;
@@ -94,7 +94,8 @@ impl<L: Law, N: Named> Zones<L, N> {
     /// numbers, and 0 in the places left.
     pub fn close(self, alloc: Global, passes: Vec<ZonesPass<N>>) -> Result<[u64; 17], AllocError>
         requires { All (IsPassOf self.origins.items) passes.items }
-        ensures table { IfOk result (λ numbers. IsEnd self.table.shared.table.shared.key.passes (map (λ p. table_known p) passes.items) (slice_index numbers 0)) }
+        ensures table { IfOk result
+            (λ numbers. IsEnd self.table.shared.table.shared.key.passes (map (λ p. table_known p) passes.items) (slice_index numbers 0)) }
         ensures zones { IfOk result (λ numbers. EachEnds self.zones.items passes.items numbers) }
         ensures rest { IfOk result (λ numbers. (k : ℕ) → length self.zones.items < k → slice_index numbers k ≡ 0) }
     {

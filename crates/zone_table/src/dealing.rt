@@ -2,6 +2,7 @@
 ghost use Rattle.std.specs.Prelude.{◌≡◌, [], All, IfOk, OnOk, length, map};
 ghost use Rattle.zone_table.specs.Dealings.{AreDealt, IsGrid};
 
+use crate::deepest::Locator;
 use crate::opening::Opened;
 use crate::pass::ZonesPass;
 use shared_index::{Index, Law, Named, Pass};
@@ -23,6 +24,7 @@ fn table_passes<N: Named>(
             ZonesPass {
                 table: pass,
                 zones: Vec::new(alloc),
+                locator: Locator::new(),
             },
         )?;
     }

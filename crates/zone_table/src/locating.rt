@@ -41,7 +41,7 @@ impl<N: Named> ZonesPass<N> {
     {
         let mut query = self.table.query(&zones.table);
         let version = query.version();
-        let zone = zone_of(&mut query, &zones.origins, name);
+        let zone = zone_of(&mut query, &zones.origins, name, &mut self.locator);
         Located { version, zone }
     }
 

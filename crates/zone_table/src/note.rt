@@ -29,7 +29,8 @@ fn note_each<L: Law, N: Named>(
     ensures places { map (λ z. z.place) passes.new.items ≡ map (λ z. z.place) passes.old.items }
     ensures same { map (λ z. known_at z.seat) passes.new.items ≡ map (λ z. known_at z.seat) passes.old.items }
     ensures of { IfOk result (λ notes. map (λ z. z.place) notes.items ≡ map (λ z. z.place) passes.old.items) }
-    ensures told { IfOk result (λ notes. map (λ z. z.told.place.me.0.seen) notes.items ≡ map (λ (v : Known). v.seen) (map (λ z. known_at z.seat) passes.old.items)) }
+    ensures told { IfOk result (λ notes. map (λ z. z.told.place.me.0.seen) notes.items
+        ≡ map (λ (v : Known). v.seen) (map (λ z. known_at z.seat) passes.old.items)) }
 {
     let mut notes = Vec::with_capacity(alloc, passes.len())?;
     for place in 0..passes.len() {

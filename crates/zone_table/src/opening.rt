@@ -1,9 +1,9 @@
 //! How the zones and their table are opened.
-ghost use Rattle.std.specs.Prelude.{◌≡◌, ◌+◌, ◌<◌, ◌≤◌, ◌++◌, ◌∷◌, [], ℕ, List, All, IfOk, IfErr, MatchResult, Some, length, map, slice_get};
+ghost use Rattle.std.specs.Prelude.{◌≡◌, ◌+◌, ◌<◌, ◌≤◌, ◌++◌, ◌∷◌, [], ℕ, List, All, MatchResult, Some, length, map, slice_get};
 ghost use Rattle.trie_model.specs.Keys.{Rises};
 ghost use Rattle.shared_cells.specs.declared.view.TableSize.{TableSize};
 ghost use Rattle.shared_index.specs.Openings.{Refuses};
-ghost use Rattle.zone_table.specs.Openings.{Place, places_of, entries_in, AreBegun, RefusesZones};
+ghost use Rattle.zone_table.specs.Openings.{Place, places_of, entries_in, OpensZones, RefusesZones};
 
 use crate::law::TableLaw;
 use dns_name::Name;
@@ -45,8 +45,9 @@ fn told(
 ) -> ZonesRefusal
     requires last { last < length zones.now }
     requires so_far { (sizes : List TableSize) × RefusesZones (places_of zones.now sizes) refusal }
-    ensures { (sizes : List TableSize) (p : Place) → length sizes ≡ last → slice_get zones.now last ≡ Some p.zone → RefusesZones (places_of zones.now sizes) refusal
-        → Refuses p.size.chunks (entries_in p.zone) last_refusal → RefusesZones (places_of zones.now sizes ++ p ∷ []) result }
+    ensures { (sizes : List TableSize) (p : Place) → length sizes ≡ last → slice_get zones.now last ≡ Some p.zone
+        → RefusesZones (places_of zones.now sizes) refusal → Refuses p.size.chunks (entries_in p.zone) last_refusal
+        → RefusesZones (places_of zones.now sizes ++ p ∷ []) result }
 {
     let OpenRefusal::Full { cells, limit } = last_refusal else {
         return refusal;
@@ -79,8 +80,8 @@ fn with_last<L: Law, N: Named>(
     index: Index<L, N>,
     passes: Vec<Pass<N>>,
 ) -> Result<Vec<Opened<L, N>>, ZonesRefusal>
-    ensures opened { IfOk result (λ all. all.items ≡ others.items ++ record { index = index; passes = passes } ∷ []) }
-    ensures memory { IfErr result (λ refusal. refusal ≡ ZonesRefusal.Memory) }
+    ensures { MatchResult result (λ all. all.items ≡ others.items ++ record { index = index; passes = passes } ∷ [])
+        (λ refusal. refusal ≡ ZonesRefusal.Memory) }
 {
     let mut all = others;
     match all.push(Opened { index, passes }) {
@@ -100,8 +101,7 @@ pub(crate) fn open_each<L: Law, N: Named>(
     requires named { (k : ℕ) (b : _) → slice_get blanks.items k ≡ Some b → slice_get N.tables (k + 1) ≡ Some b.shared.table.shared.table_id }
     requires rising { All (λ z. Rises (entries_in z)) zones.now }
     requires lawful { All (λ z. L.lawful (entries_in z) (entries_in z)) zones.now }
-    ensures opened { IfOk result (λ opened. AreBegun (places_of zones.now (map (λ b. b.shared.table.shared.key) blanks.items)) opened.items) }
-    ensures refused { IfErr result (RefusesZones (places_of zones.now (map (λ b. b.shared.table.shared.key) blanks.items))) }
+    ensures { OpensZones (places_of zones.now (map (λ b. b.shared.table.shared.key) blanks.items)) result }
 {
     let mut blanks = blanks;
     let Some(blank) = blanks.pop() else {

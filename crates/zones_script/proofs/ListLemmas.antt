@@ -20,7 +20,7 @@ use Rattle.job_model.specs.Jobs as jobs
 use Rattle.job_model.specs.Jobs.{worker_limit, command_limit}
 use Rattle.zones_model.specs.Commands.{Command, Get, Block, Attach, Detach}
 use Rattle.zones_script.specs.Phrases.{Phrase, Worker, Gets, Opens, Attaches, Detaches, phrase_of}
-use Rattle.zones_script.specs.Scripts.{Chosen, OpenBlock, Script, lists_of, chosen, question_of, with_room, with_command, opened, next_worker, outside, taken, tokens_say, in_zone, goes_on, inside, by_block, script_line, script_from, finished, no_lines, script_of}
+use Rattle.zones_script.specs.Scripts.{Chosen, OpenBlock, Script, lists_of, chosen, question_of, has_room, with_command, opened, next_worker, outside, taken, tokens_say, in_zone, goes_on, inside, by_block, script_line, script_from, finished, no_lines, script_of}
 use Rattle.zones_script.specs.Told.{opening, IsBlockOf, IsTold, IsList, AreLists}
 use Rattle.zones_script.proofs.AloneLemmas as block
 use Rattle.zones_script.proofs.AloneLemmas.{IsBlock, IsOpen, IsBegun, IsFirst, line_kept, lines_more, opens}
@@ -123,9 +123,6 @@ chosen_in origins n word c h = by_name (name_word [] word) h
     by_name None h = absurd cc
     by_name (Some name) h = by_zone name (position (λ origin. same_name origin name) origins) refl h
 
-zone_in : (origins : List Name) (n : ℕ) (word : Token) (c : Chosen) → chosen origins n word ≡ Ok c → c.zone < length origins
-zone_in origins n word c h = there_below origins c.zone c.origin (chosen_in origins n word c h)
-
 asked_in : (origins : List Name) (lines : List (List ℕ)) (n : ℕ) (name rtype : Token) (command : Command) → question_of n name rtype ≡ Ok command → IsTold origins lines command
 unfolding question_of
 asked_in origins lines n name rtype command h = by_words (name_word [] name) (type_word rtype) h
@@ -135,10 +132,26 @@ asked_in origins lines n name rtype command h = by_words (name_word [] name) (ty
     by_words (Some q) None h = absurd cc
     by_words (Some q) (Some t) h = let same : Get q t ≡ command = cc in subst (IsTold origins lines) same tt
 
-room_kept : (origins : List Name) (lines : List (List ℕ)) (last n : ℕ) (s : Script) (next : Result Script (Refused ScriptKind)) → (length s.commands < command_limit → Kept origins lines last next) → Kept origins lines last (with_room n s next)
-room_kept origins lines last n s next k =
-    if_kept origins lines last s.begun (cond (nat_lt (length s.commands) command_limit) next (refuse n (TooMany command_limit))) (refuse n NoWorker)
-    (λ _. if_kept origins lines last (nat_lt (length s.commands) command_limit) next (refuse n (TooMany command_limit)) (λ room. k (ltb-true (length s.commands) command_limit room)) tt) tt
+abbrev room_for : ℕ → Bool → Bool → Result (Unit {0}) (Refused ScriptKind)
+room_for n b room = cond b (cond room (Ok tt) (refuse n (TooMany command_limit))) (refuse n NoWorker)
+
+room_kept : (origins : List Name) (lines : List (List ℕ)) (last n : ℕ) (s : Script) (next : Result Script (Refused ScriptKind))
+    → (length s.commands < command_limit → Kept origins lines last next) → Kept origins lines last (has_room n s >>= (λ _. next))
+unfolding has_room
+room_kept origins lines last n s next k = by_room s.begun (nat_lt (length s.commands) command_limit) refl
+  where
+    by_room : (b room : Bool) → nat_lt (length s.commands) command_limit ≡ room → Kept origins lines last (room_for n b room >>= (λ _. next))
+    by_room false room e = tt
+    by_room true false e = tt
+    by_room true true e = k (ltb-true (length s.commands) command_limit e)
+
+-- so is a command of a zone
+zone_kept : (origins : List Name) (lines : List (List ℕ)) (last n : ℕ) (s : Script) (word : Token) (f : Chosen → Result Script (Refused ScriptKind))
+    → ((zone : Chosen) → IsThere origins zone → length s.commands < command_limit → Kept origins lines last (f zone))
+    → Kept origins lines last (has_room n s >>= (λ _. chosen origins n word >>= f))
+zone_kept origins lines last n s word f k =
+    room_kept origins lines last n s (chosen origins n word >>= f)
+    (λ room. bind_kept origins lines last (chosen origins n word) f (λ zone is. k zone (chosen_in origins n word zone is) room))
 
 -- a script in which no block is open
 abbrev free : Script → Script
@@ -195,22 +208,18 @@ outside_kept origins lines last (Gets name rtype) s sound =
     (λ room. bind_kept origins lines (last + 1) (question_of (last + 1) name rtype) (with_command (free s))
     (λ command is. command_kept origins lines (last + 1) s command sound (asked_in origins lines (last + 1) name rtype command is) room))
 outside_kept origins lines last (Opens weight origin) s sound =
-    room_kept origins lines (last + 1) (last + 1) (free s) (chosen origins (last + 1) origin >>= opened (last + 1) weight (free s))
-    (λ room. bind_kept origins lines (last + 1) (chosen origins (last + 1) origin) (opened (last + 1) weight (free s))
-    (λ zone is. record {
+    zone_kept origins lines (last + 1) (last + 1) (free s) origin (opened (last + 1) weight (free s)) (λ zone there room. record {
       few = sound.few;
       earlier = sound.earlier;
       commands = sound.commands;
-      room = (room, open_here origins lines last weight zone (chosen_in origins (last + 1) origin zone is));
-    }))
+      room = (room, open_here origins lines last weight zone there);
+    })
 outside_kept origins lines last (Attaches origin) s sound =
-    room_kept origins lines (last + 1) (last + 1) (free s) (chosen origins (last + 1) origin >>= (λ zone. with_command (free s) (Attach zone.zone)))
-    (λ room. bind_kept origins lines (last + 1) (chosen origins (last + 1) origin) (λ zone. with_command (free s) (Attach zone.zone))
-    (λ zone is. command_kept origins lines (last + 1) s (Attach zone.zone) sound (zone_in origins (last + 1) origin zone is) room))
+    zone_kept origins lines (last + 1) (last + 1) (free s) origin (λ zone. with_command (free s) (Attach zone.zone))
+    (λ zone there room. command_kept origins lines (last + 1) s (Attach zone.zone) sound (there_below origins zone.zone zone.origin there) room)
 outside_kept origins lines last (Detaches origin) s sound =
-    room_kept origins lines (last + 1) (last + 1) (free s) (chosen origins (last + 1) origin >>= (λ zone. with_command (free s) (Detach zone.zone)))
-    (λ room. bind_kept origins lines (last + 1) (chosen origins (last + 1) origin) (λ zone. with_command (free s) (Detach zone.zone))
-    (λ zone is. command_kept origins lines (last + 1) s (Detach zone.zone) sound (zone_in origins (last + 1) origin zone is) room))
+    zone_kept origins lines (last + 1) (last + 1) (free s) origin (λ zone. with_command (free s) (Detach zone.zone))
+    (λ zone there room. command_kept origins lines (last + 1) s (Detach zone.zone) sound (there_below origins zone.zone zone.origin there) room)
 
 tokens_kept : (origins : List Name) (lines : List (List ℕ)) (last : ℕ) (s : Script) (tokens : Option (List Token)) → IsFree origins lines (last + 1) s → Kept origins lines (last + 1) (tokens_say origins (last + 1) (free s) tokens)
 tokens_kept origins lines last s None sound = tt

@@ -56,10 +56,10 @@ question_of n name rtype = do
 
 -- ---- a line outside a block
 
--- a command of a worker that has room for one more
-abbrev pub with_room : {A : Type 0} → ℕ → Script → Result A (Refused ScriptKind) → Result A (Refused ScriptKind)
-with_room n s next =
-    if s.begun then (if nat_lt (length s.commands) command_limit then next else refuse n (TooMany command_limit))
+-- a worker began, and has room for one more command
+unfoldable pub has_room : ℕ → Script → Result (Unit {0}) (Refused ScriptKind)
+has_room n s =
+    if s.begun then (if nat_lt (length s.commands) command_limit then Ok tt else refuse n (TooMany command_limit))
     else refuse n NoWorker
 
 abbrev pub with_command : Script → Command → Result Script (Refused ScriptKind)
@@ -75,10 +75,22 @@ next_worker s = if s.begun then record s { earlier = s.earlier ++ s.commands ∷
 
 abbrev pub outside : List Name → ℕ → Phrase → Script → Result Script (Refused ScriptKind)
 outside origins n Worker s = if nat_lt (length (lists_of s)) worker_limit then Ok (next_worker s) else refuse n (TooMany worker_limit)
-outside origins n (Gets name rtype) s = with_room n s (question_of n name rtype >>= with_command s)
-outside origins n (Opens weight origin) s = with_room n s (chosen origins n origin >>= opened n weight s)
-outside origins n (Attaches origin) s = with_room n s (chosen origins n origin >>= (λ zone. with_command s (Attach zone.zone)))
-outside origins n (Detaches origin) s = with_room n s (chosen origins n origin >>= (λ zone. with_command s (Detach zone.zone)))
+outside origins n (Gets name rtype) s = do
+  _ ← has_room n s
+  command ← question_of n name rtype
+  with_command s command
+outside origins n (Opens weight origin) s = do
+  _ ← has_room n s
+  zone ← chosen origins n origin
+  opened n weight s zone
+outside origins n (Attaches origin) s = do
+  _ ← has_room n s
+  zone ← chosen origins n origin
+  with_command s (Attach zone.zone)
+outside origins n (Detaches origin) s = do
+  _ ← has_room n s
+  zone ← chosen origins n origin
+  with_command s (Detach zone.zone)
 
 abbrev pub taken : List Name → ℕ → Script → Option Phrase → Result Script (Refused ScriptKind)
 taken origins n s None = refuse n BadCommand
@@ -102,13 +114,16 @@ in_zone zone (alone.AskHeld question ∷ commands) = []
 in_zone zone (alone.Release ∷ commands) = []
 in_zone zone (alone.Compact ∷ commands) = []
 
+abbrev pub joined : ℕ → List alone.Command → Script → Script
+joined zone commands s = record s { commands = s.commands ++ in_zone zone commands; block = None }
+
 -- A line was taken into a block: it goes on, or has ended and is the worker's next command.
 abbrev pub goes_on : OpenBlock → Script → jobs.Script → Script
 goes_on b s after = by_block after.block
   where
     by_block : Option jobs.Unfinished → Script
     by_block (Some _) = record s { block = Some (record b { alone = after }) }
-    by_block None = record s { commands = s.commands ++ in_zone b.chosen.zone after.commands; block = None }
+    by_block None = joined b.chosen.zone after.commands s
 
 abbrev pub inside : ℕ → List ℕ → OpenBlock → Script → Result Script (Refused ScriptKind)
 inside n line b s = jobs.script_line b.chosen.origin n line b.alone >>= (λ after. Ok (goes_on b s after))

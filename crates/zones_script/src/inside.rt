@@ -1,5 +1,5 @@
 //! Lines inside a block.
-ghost use Rattle.std.specs.Prelude.{◌≡◌, ◌<◌, ◌≤◌, ◌+◌, ◌^◌, ◌∷◌, ◌++◌, [], ℕ, List, length, IfOk, map, Some, None, Option, drop, Ok, Err, Result};
+ghost use Rattle.std.specs.Prelude.{◌≡◌, ◌<◌, ◌≤◌, ◌+◌, ◌^◌, ◌++◌, length, IfOk, map, Some, None, Ok, Err, Result};
 ghost use Rattle.job_model.specs.Jobs as says;
 ghost use Rattle.job_script.specs.Views.{command_view};
 ghost use Rattle.job_script.specs.Scripts.{script_view as alone_view};
@@ -15,7 +15,7 @@ use zone_text::Token;
 // The block that a script alone has come to joins the worker's commands.
 fn join(script: &mut Script, zone: u32, mut commands: Vec<AloneCommand>) -> Result<(), JobRefusal>
     requires none { script.old.block ≡ None }
-    ensures { ScriptReads result (script_view script.new) (Ok (record (script_view script.old) { commands = (script_view script.old).commands ++ zones.in_zone zone (map command_view commands.items) })) }
+    ensures { ScriptReads result (script_view script.new) (Ok (zones.joined zone (map command_view commands.items) (script_view script.old))) }
 {
     if commands.is_empty() {
         return Ok(());
@@ -29,7 +29,9 @@ fn join(script: &mut Script, zone: u32, mut commands: Vec<AloneCommand>) -> Resu
 // A line was taken into a block: it goes on, or has ended.
 fn go_on(script: &mut Script, chosen: Chosen, alone: Alone) -> Result<(), JobRefusal>
     requires none { script.old.block ≡ None }
-    ensures { (before : says.Script) → ScriptReads result (script_view script.new) (Ok (zones.goes_on (record { chosen = chosen_view chosen; alone = before }) (script_view script.old) (alone_view alone))) }
+    ensures { (before : says.Script)
+        → ScriptReads result (script_view script.new)
+        (Ok (zones.goes_on (record { chosen = chosen_view chosen; alone = before }) (script_view script.old) (alone_view alone))) }
 {
     if alone.block.is_some() {
         script.block = Some(OpenBlock { chosen, alone });

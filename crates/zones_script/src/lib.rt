@@ -10,6 +10,3 @@ mod script;
 
 pub use commands::{Command, Worker, ZonesScript};
 pub use script::read_script;
-
-#[cfg(test)]
-mod tests;

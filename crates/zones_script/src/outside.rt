@@ -1,5 +1,5 @@
 //! Lines outside a block.
-ghost use Rattle.std.specs.Prelude.{◌≡◌, ◌<◌, ◌≤◌, ◌+◌, ◌∷◌, ◌++◌, [], ℕ, List, length, map, Some, None, Option, Ok, Err, Result, true, position};
+ghost use Rattle.std.specs.Prelude.{◌≡◌, ◌<◌, ◌≤◌, ◌+◌, [], length, Some, None, Option, Ok, Err, Result, true, position};
 ghost use Rattle.zone_model.specs.Names.{same_name};
 ghost use Rattle.zone_text.specs.Tokens.{IsPlaced, token_view};
 ghost use Rattle.job_model.specs.Jobs as jobs;
@@ -82,17 +82,10 @@ fn begin_worker(script: &mut Script, alloc: Global, line: u32) -> Result<(), Job
     Ok(())
 }
 
-// A question joins the worker's commands.
-fn add_question(
-    script: &mut Script,
-    bytes: &[u8],
-    line: u32,
-    name: Token,
-    rtype: Token,
-) -> Result<(), JobRefusal>
-    requires name { IsPlaced bytes.now name }
-    requires rtype { IsPlaced bytes.now rtype }
-    ensures { ScriptReads result (script_view script.new) (zones.outside [] line (phrases.Gets (token_view bytes.now name) (token_view bytes.now rtype)) (script_view script.old)) }
+// Refuses a command where no worker began, and one too many.
+#[tactic(auto, unfolding(crate::specs::Scripts::has_room))]
+fn has_room(script: &Script, line: u32) -> Result<(), JobRefusal>
+    ensures { Says result (λ done. done) (zones.has_room line (script_view script.now)) }
 {
     if !script.begun {
         return Err(refused(line, ScriptKind::NoWorker));
@@ -100,13 +93,15 @@ fn add_question(
     if script.commands.len() >= COMMAND_LIMIT {
         return Err(too_many(line, 10000));
     }
-    match question_of(bytes, line, name, rtype) {
-        Ok(question) => {
-            script.commands.push(question)?;
-            Ok(())
-        }
-        Err(refusal) => Err(refusal),
-    }
+    Ok(())
+}
+
+// A command joins the worker's.
+fn add(script: &mut Script, command: Command) -> Result<(), JobRefusal>
+    ensures { ScriptReads result (script_view script.new) (zones.with_command (script_view script.old) (command_view command)) }
+{
+    script.commands.push(command)?;
+    Ok(())
 }
 
 // What a script of one zone alone has come to where its block begins.
@@ -128,93 +123,6 @@ fn opened(alloc: Global, line: u32, weight: Weight) -> Alone
     }
 }
 
-// A block of a zone begins.
-fn open_block(
-    script: &mut Script,
-    alloc: Global,
-    bytes: &[u8],
-    origins: &[Name],
-    line: u32,
-    weight: Weight,
-    origin: Token,
-) -> Result<(), JobRefusal>
-    requires none { script.old.block ≡ None }
-    requires placed { IsPlaced bytes.now origin }
-    requires zones { length origins.now ≤ 16 }
-    ensures { ScriptReads result (script_view script.new) (zones.outside origins.now line (phrases.Opens weight (token_view bytes.now origin)) (script_view script.old)) }
-{
-    if !script.begun {
-        return Err(refused(line, ScriptKind::NoWorker));
-    }
-    if script.commands.len() >= COMMAND_LIMIT {
-        return Err(too_many(line, 10000));
-    }
-    match chosen(bytes, origins, line, origin) {
-        Ok(zone) => {
-            script.block = Some(OpenBlock {
-                chosen: zone,
-                alone: opened(alloc, line, weight),
-            });
-            Ok(())
-        }
-        Err(refusal) => Err(refusal),
-    }
-}
-
-// A zone comes into the table.
-fn attach(
-    script: &mut Script,
-    bytes: &[u8],
-    origins: &[Name],
-    line: u32,
-    origin: Token,
-) -> Result<(), JobRefusal>
-    requires placed { IsPlaced bytes.now origin }
-    requires zones { length origins.now ≤ 16 }
-    ensures { ScriptReads result (script_view script.new) (zones.outside origins.now line (phrases.Attaches (token_view bytes.now origin)) (script_view script.old)) }
-{
-    if !script.begun {
-        return Err(refused(line, ScriptKind::NoWorker));
-    }
-    if script.commands.len() >= COMMAND_LIMIT {
-        return Err(too_many(line, 10000));
-    }
-    match chosen(bytes, origins, line, origin) {
-        Ok(zone) => {
-            script.commands.push(Command::Attach(zone.zone))?;
-            Ok(())
-        }
-        Err(refusal) => Err(refusal),
-    }
-}
-
-// A zone leaves it.
-fn detach(
-    script: &mut Script,
-    bytes: &[u8],
-    origins: &[Name],
-    line: u32,
-    origin: Token,
-) -> Result<(), JobRefusal>
-    requires placed { IsPlaced bytes.now origin }
-    requires zones { length origins.now ≤ 16 }
-    ensures { ScriptReads result (script_view script.new) (zones.outside origins.now line (phrases.Detaches (token_view bytes.now origin)) (script_view script.old)) }
-{
-    if !script.begun {
-        return Err(refused(line, ScriptKind::NoWorker));
-    }
-    if script.commands.len() >= COMMAND_LIMIT {
-        return Err(too_many(line, 10000));
-    }
-    match chosen(bytes, origins, line, origin) {
-        Ok(zone) => {
-            script.commands.push(Command::Detach(zone.zone))?;
-            Ok(())
-        }
-        Err(refusal) => Err(refusal),
-    }
-}
-
 /// Takes a line.
 pub fn outside(
     script: &mut Script,
@@ -231,11 +139,27 @@ pub fn outside(
 {
     match phrase {
         Phrase::Worker => begin_worker(script, alloc, line),
-        Phrase::Gets(name, rtype) => add_question(script, bytes, line, name, rtype),
-        Phrase::Opens(weight, origin) => {
-            open_block(script, alloc, bytes, origins, line, weight, origin)
+        Phrase::Gets(name, rtype) => {
+            has_room(script, line)?;
+            let question = question_of(bytes, line, name, rtype)?;
+            add(script, question)
         }
-        Phrase::Attaches(origin) => attach(script, bytes, origins, line, origin),
-        Phrase::Detaches(origin) => detach(script, bytes, origins, line, origin),
+        Phrase::Opens(weight, origin) => {
+            has_room(script, line)?;
+            let chosen = chosen(bytes, origins, line, origin)?;
+            let alone = opened(alloc, line, weight);
+            script.block = Some(OpenBlock { chosen, alone });
+            Ok(())
+        }
+        Phrase::Attaches(origin) => {
+            has_room(script, line)?;
+            let chosen = chosen(bytes, origins, line, origin)?;
+            add(script, Command::Attach(chosen.zone))
+        }
+        Phrase::Detaches(origin) => {
+            has_room(script, line)?;
+            let chosen = chosen(bytes, origins, line, origin)?;
+            add(script, Command::Detach(chosen.zone))
+        }
     }
 }

@@ -1,5 +1,5 @@
 //! What the tokens of a line outside blocks are, by the command word and the number of tokens.
-ghost use Rattle.std.specs.Prelude.{◌≡◌, ◌<◌, ◌≤◌, ◌∷◌, [], ℕ, List, length, map, Some, None, Option, IfSome};
+ghost use Rattle.std.specs.Prelude.{◌≡◌, ◌<◌, ◌∷◌, map, Some, None, Option, IfSome};
 ghost use Rattle.std.specs.Option.{option_map};
 ghost use Rattle.std.specs.List.{All};
 ghost use Rattle.job_model.specs.Phrases as words;
@@ -62,7 +62,8 @@ fn argued(bytes: &[u8], word: Token, first: Token, rest: &[Token]) -> Option<Phr
     requires word { IsPlaced bytes.now word }
     requires first { IsPlaced bytes.now first }
     requires rest { All (IsPlaced bytes.now) rest.now }
-    ensures said { option_map (phrase_view bytes.now) result ≡ phrases.phrase_of (token_view bytes.now word ∷ token_view bytes.now first ∷ map (token_view bytes.now) rest.now) }
+    ensures said { option_map (phrase_view bytes.now) result
+        ≡ phrases.phrase_of (token_view bytes.now word ∷ token_view bytes.now first ∷ map (token_view bytes.now) rest.now) }
     ensures placed { IfSome result (PhrasePlaced bytes.now) }
 {
     let Some((rtype, behind)) = rest.split_first() else {

@@ -1,5 +1,5 @@
 //! The lines of a script over zones.
-ghost use Rattle.std.specs.Prelude.{◌≡◌, ◌<◌, ◌≤◌, ◌+◌, ◌^◌, ◌∷◌, ◌++◌, [], ℕ, List, length, IfOk, map, Some, None, Option, drop, Ok, Err, Result};
+ghost use Rattle.std.specs.Prelude.{◌≡◌, ◌<◌, ◌≤◌, ◌+◌, ◌^◌, length, IfOk, map, Some, None, Option, Ok, Err, Result};
 ghost use Rattle.std.specs.Option.{option_map};
 ghost use Rattle.std.specs.List.{All};
 ghost use Rattle.job_model.specs.Phrases.{script_tokens};
@@ -57,7 +57,8 @@ fn take_tokens(
     requires none { script.old.block ≡ None }
     requires zones { length origins.now ≤ 16 }
     requires placed { All (IsPlaced bytes.now) tokens.now }
-    ensures { ScriptReads result (script_view script.new) (zones.tokens_say origins.now line (script_view script.old) (Some (map (token_view bytes.now) tokens.now))) }
+    ensures { ScriptReads result (script_view script.new)
+        (zones.tokens_say origins.now line (script_view script.old) (Some (map (token_view bytes.now) tokens.now))) }
 {
     if tokens.is_empty() {
         return Ok(());
@@ -82,7 +83,8 @@ fn take_outside(
     requires inside { at < length bytes.now }
     requires short { length bytes.now ≤ 2 ^ 24 }
     requires zones { length origins.now ≤ 16 }
-    ensures steps { LineSteps result bytes.now at (λ text. zones.tokens_say origins.now line (script_view script.old) (script_tokens line text)) (script_view script.new) }
+    ensures steps { LineSteps result bytes.now at
+        (λ text. zones.tokens_say origins.now line (script_view script.old) (script_tokens line text)) (script_view script.new) }
     ensures next { IfOk result (λ next. (at < next) × (next ≤ length bytes.now)) }
 {
     let lexed = match line_tokens(replace(lent, Vec::new(alloc)), bytes, at, line) {

@@ -1,5 +1,5 @@
 -- What a change of the table is to its pass.
-use Rattle.std.proofs.Common.{◌≡◌, ◌∙◌, ℕ, Bool, true, false, List, [], ◌∷◌, length, Option, Some, None, Result, Ok, Err, refl, sym, ap, subst, length-append}
+use Rattle.std.proofs.Common.{◌≡◌, ◌∙◌, ℕ, ◌<◌, Bool, true, false, List, [], ◌∷◌, length, Option, Some, None, Result, Ok, Err, refl, sym, ap, subst, length-append}
 use Rattle.std.specs.Prelude.{unwrap_or, IfSome}
 use Rattle.std.specs.List.{slice_get}
 use Rattle.zone_model.specs.Names.{Name}
@@ -17,6 +17,8 @@ use Rattle.zone_table.specs.declared.change.TableRefusal.{TableRefusal}
 use Rattle.zone_table.specs.declared.change.TableRefusal.TheVariants as refusal
 use Rattle.zone_table.specs.Changes.{Attaches, Detaches, IsChanged, IsUnchanged}
 use Rattle.zone_table.specs.Tables.{IsAttached}
+use Rattle.zone_table.proofs.Lists.{get_in}
+use Rattle.zones_model.specs.declared.TableCause.{TableCause}
 use Rattle.zones_threads.specs.Changes.{cause_told, version_told}
 use Rattle.zones_threads.specs.Steps.{Changes, ChangeRan, IsOrNot, Stays, operation_for, other}
 
@@ -90,6 +92,12 @@ detach_ran origins zone origin old new (Err (refusal.Missing number)) there told
 detach_ran origins zone origin old new (Err (refusal.Spent number)) there told u =
     record { origin = origin; there = there; grows = u.0.grows; ends = (stays (λ es. IsAttached es origin) old new number u.0, u.1, u.0.met) }
 
--- the zone is there
-pub if_there : {A : Type 0} (o : Option A) (x : A) (P : A → Type 0) → o ≡ Some x → IfSome o P → P x
-if_there o x P is h = subst (λ (y : Option _). IfSome y P) is h
+-- by what is told of the change
+pub change_told : (attaches : Bool) (origins : List Name) (zone : ℕ) (old new : Known) (r : Result Receipt TableRefusal) (number : ℕ) (cause : Option TableCause) (P : Name → Type 0)
+    → ((origin : Name) → slice_get origins zone ≡ Some origin → P origin → ChangeRan origins attaches zone (version_told r) (cause_told r) old new)
+    → zone < length origins → number ≡ version_told r → cause ≡ cause_told r → IfSome (slice_get origins zone) P → ChangeRan origins attaches zone number cause old new
+change_told attaches origins zone old new r number cause P ran inside version why h =
+    let origin = get_in origins zone inside in
+    subst (λ (n : ℕ). ChangeRan origins attaches zone n cause old new) (sym version)
+    (subst (λ (x : Option TableCause). ChangeRan origins attaches zone (version_told r) x old new) (sym why)
+    (ran origin.0 origin.1 (subst (λ (o : Option Name). IfSome o P) origin.1 h)))

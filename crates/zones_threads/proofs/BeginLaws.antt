@@ -21,12 +21,12 @@ use Rattle.zone_table.specs.declared.zones.Zones.{Zones}
 use Rattle.zone_table.specs.Dealings.{AreMade, IsNewPass}
 use Rattle.zone_table.specs.Openings.{entries_in, origins_of}
 use Rattle.zone_table.specs.Passes.{IsPassOf, table_known}
-use Rattle.zone_table.proofs.Lists.{all_at, mapped_at, some_is}
+use Rattle.zone_table.proofs.Lists.{get_in, all_at, mapped_at, some_is}
 use Rattle.zones_threads.specs.Closings.{table_views, zone_views}
 use Rattle.zones_threads.specs.Openings.{StandFor}
 use Rattle.zones_threads.specs.Runs.{TableBegins, ZoneBegins}
 use Rattle.zones_threads.specs.Sites.{IsSite, Opens, Site}
-use Rattle.zones_threads.proofs.StepLaws.{element, zone_pass}
+use Rattle.zones_threads.proofs.StepLaws.{zone_pass}
 
 module _ (items : List ZoneItems) (are : All (λ z. IsZone z.origin (entries_in z)) items) where
   pub all_rise : All (λ z. Rises (entries_in z)) items
@@ -41,7 +41,7 @@ module _ (items : List ZoneItems) (are : All (λ z. IsZone z.origin (entries_in 
     items_of number origin there =
         let here = subst (λ (o : List Name). slice_get o number ≡ Some origin) origins there in
         let lt = slice_get_within (origins_of items) number origin here in
-        let z = element items number (let m = length-map items (λ (x : ZoneItems). x.origin) in omega (arith, m, lt)) in
+        let z = get_in items number (let m = length-map items (λ (x : ZoneItems). x.origin) in omega (arith, m, lt)) in
         (z.0, z.1, some_is z.0.origin origin (sym (mapped_at (λ (x : ZoneItems). x.origin) items number z.0 z.1) ∙ here))
 
     pub pass_of_all : All (IsPassOf opened.origins.items) passes

@@ -30,6 +30,7 @@ use Rattle.zones_model.specs.Outcomes.{Last, TableLawful, ZonesLawful}
 use Rattle.zones_model.specs.Reports.{no_zone, set_of}
 use Rattle.zone_table.specs.Tables.{IsAmong, IsTable}
 use Rattle.zones_report.specs.declared.outcomes.DoneList.{DoneList}
+use Rattle.zone_table.proofs.Lists.{get_in}
 use Rattle.zones_threads.specs.Closings.{TableGathers, TableWorker, ZoneGathers, all_parts, dones_in, worker_views, zone_commands}
 use Rattle.zones_threads.specs.Endings.{TableEnd, ZoneEnd}
 use Rattle.zones_threads.specs.Runs.{IsZonesRun}
@@ -37,7 +38,6 @@ use Rattle.zones_threads.specs.Sites.{IsSaid}
 use Rattle.zones_threads.specs.Tellings.{PartsTell}
 use Rattle.zones_report.specs.Outcomes.{AllAreOf, all_dones_view}
 use Rattle.zones_threads.specs.Works.{AreApart, TableSetup}
-use Rattle.zones_threads.proofs.StepLaws.{element}
 use Rattle.zones_threads.proofs.TableCloseLaws.{table_closed, table_lawful, table_count, ends_there}
 use Rattle.zones_threads.proofs.TellLaws.{workers_tell}
 use Rattle.zones_threads.proofs.ZoneCloseLaws.{zone_lawful, zone_names, zone_tells}
@@ -113,7 +113,7 @@ zones_run chunks zones ws ds last attached names are said table many named each 
     table = table.lawful;
     each = λ number zone there version at.
         let inside = slice_get_within zones number zone there in
-        let count = element names number (let n = named in omega (arith, n, inside)) in
+        let count = get_in names number (let n = named in omega (arith, n, inside)) in
         let e = each number zone there version count.0 at count.1 in
         subst (λ (n : ℕ). one.Lawful chunks (model.passes_for n) zone.origin zone.pairs (model.workers_in number (all_dones_view ws ds)) version) (sym (dones_many ws ds are)) e.lawful;
     many = many;
@@ -121,8 +121,8 @@ zones_run chunks zones ws ds last attached names are said table many named each 
   tell = workers_tell zones (set_of zones (all_dones_view ws ds)) (model.attached_at (model.all_done (all_dones_view ws ds))) ws ds are said table.lawful.along
       (λ number zone there.
       let inside = slice_get_within zones number zone there in
-      let version = element last.zones number (let m = many in omega (arith, m, inside)) in
-      let count = element names number (let m = named in omega (arith, m, inside)) in
+      let version = get_in last.zones number (let m = many in omega (arith, m, inside)) in
+      let count = get_in names number (let m = named in omega (arith, m, inside)) in
       let e = each number zone there version.0 count.0 version.1 count.1 in
       subst (λ (z : Zone). AllByRecursion (PartsTell zone.origin (model.version_of z number (all_dones_view ws ds))) (all_parts number ws ds)) (sym (get_or_from_slice_get zones number zone no_zone there)) e.tells);
   attached_are = table.attached_are;

@@ -39,7 +39,7 @@ use Rattle.zones_report.specs.declared.outcomes.DoneList.{DoneList}
 use Rattle.zones_threads.specs.Closings.{TableGathers, TableWorker, ZoneGathers, worker_views, zone_commands}
 use Rattle.zones_threads.specs.Views.{Part, answer_part, commands_of, outcomes_of, part_in, parts_in}
 use Rattle.zones_threads.specs.Works.{TableSetup, TableWork}
-use Rattle.zones_threads.proofs.StepLaws.{zone_seat}
+use Rattle.zone_table.proofs.PassLaws.{zone_seat}
 
 -- ---- what a note tells of a zone
 
@@ -104,13 +104,11 @@ module _ {A : Type 0} (passes front : List A) (pass : A) (known : A → Known) (
     gathers = gathers_server passes front pass known s last new origin size index (zone_commands zone ws ds) g.outcomes views main after pass' (commands_of (parts_in zone w d.list.items)) (zone_list zone w d) g.gathers runs told l;
   }
 
--- if there is memory for it
-pub zone_done : {G E : Type 0} (r : Result G E) (done_of : G → List DoneList) (views_of : G → List Known) (main_of : G → Known) (s : Setup) (zone : ℕ) (before : List Known) (ws : List (List Command)) (ds : List DoneList) (views : List Known) (main seen : Known)
-    → IfOk r (λ g. done_of g ≡ ds) → IfOk r (λ g. views_of g ≡ views) → IfOk r (λ g. Learnt main (main_of g) seen.seen) → ((after : Known) → Learnt main after seen.seen → ZoneGathers s zone before ws ds views after)
-    → IfOk r (λ g. ZoneGathers s zone before ws (done_of g) (views_of g) (main_of g))
-zone_done (Ok g) done_of views_of main_of s zone before ws ds views main seen is_done is_views learnt gathers =
-    subst (λ (l : List DoneList). ZoneGathers s zone before ws l (views_of g) (main_of g)) (sym is_done) (subst (λ (l : List Known). ZoneGathers s zone before ws ds l (main_of g)) (sym is_views) (gathers (main_of g) learnt))
-zone_done (Err e) done_of views_of main_of s zone before ws ds views main seen is_done is_views learnt gathers = tt
+-- by what was told of them
+pub zone_done : (s : Setup) (zone : ℕ) (before : List Known) (ws : List (List Command)) (ds ds' : List DoneList) (views views' : List Known) (after : Known) → ds' ≡ ds → views' ≡ views → ZoneGathers s zone before ws ds views after
+    → ZoneGathers s zone before ws ds' views' after
+zone_done s zone before ws ds ds' views views' after is_done is_views gathers =
+    subst (λ (l : List DoneList). ZoneGathers s zone before ws l views' after) (sym is_done) (subst (λ (l : List Known). ZoneGathers s zone before ws ds l after) (sym is_views) gathers)
 
 -- ---- the table's workers
 
@@ -194,9 +192,11 @@ module _ {A : Type 0} (passes front : List A) (pass : A) (known : A → Known) (
       (table_one b (map known front) (known pass) dones views main after pass' number d g work
       (ap number_of one.is_own ∙ ap (λ (n : ℕ). n + 1) (one.numbered ∙ sym work.numbered) ∙ sym (ap number_of work.is_asker)) told l)
 
-pub table_done : {G E : Type 0} (r : Result G E) (done_of : G → List (List model_outcomes.Done)) (views_of : G → List Known) (main_of : G → Known) (b : TableSetup) (before : List Known) (ds : List (List model_outcomes.Done)) (views : List Known) (main seen : Known)
-    → IfOk r (λ g. done_of g ≡ ds) → IfOk r (λ g. views_of g ≡ views) → IfOk r (λ g. Learnt main (main_of g) seen.seen) → ((after : Known) → Learnt main after seen.seen → TableGathers b before ds views after)
-    → IfOk r (λ g. TableGathers b before (done_of g) (views_of g) (main_of g))
-table_done (Ok g) done_of views_of main_of b before ds views main seen is_done is_views learnt gathers =
-    subst (λ (l : List (List model_outcomes.Done)). TableGathers b before l (views_of g) (main_of g)) (sym is_done) (subst (λ (l : List Known). TableGathers b before ds l (main_of g)) (sym is_views) (gathers (main_of g) learnt))
-table_done (Err e) done_of views_of main_of b before ds views main seen is_done is_views learnt gathers = tt
+pub table_done : (b : TableSetup) (before : List Known) (ds ds' : List (List model_outcomes.Done)) (views views' : List Known) (after : Known) → ds' ≡ ds → views' ≡ views → TableGathers b before ds views after → TableGathers b before ds' views' after
+table_done b before ds ds' views views' after is_done is_views gathers =
+    subst (λ (l : List (List model_outcomes.Done)). TableGathers b before l views' after) (sym is_done) (subst (λ (l : List Known). TableGathers b before ds l after) (sym is_views) gathers)
+
+-- what is so of each value, where there is one
+pub at_each : {G E : Type 0} (r : Result G E) (P : G → Type 0) → ((g : G) → r ≡ Ok g → P g) → IfOk r P
+at_each (Ok g) P f = f g refl
+at_each (Err e) P f = tt

@@ -1,4 +1,3 @@
-pub mod PassLaws
 pub mod StepLaws
 pub mod WorkLaws
 pub mod TableLaws

@@ -1,13 +1,9 @@
 -- How a worker's commands are steps of the zones.
-use Rattle.std.proofs.Common.{◌≡◌, ◌≢◌, ◌∙◌, inl, inr, ℕ, zero, suc, ◌<◌, Bool, true, false, cond, eqb, List, [], ◌∷◌, length, Option, Some, None, refl, sym, ap, subst, arith}
-use Rattle.std.specs.Prelude.{IsSome, unwrap_or}
-use Rattle.std.specs.Option.{option_map}
+use Rattle.std.proofs.Common.{◌≡◌, ◌≢◌, inl, inr, ℕ, ◌<◌, Bool, true, false, cond, eqb, List, [], ◌∷◌, Vec, Global, length, map, Some, None, refl, sym, ap, subst, arith, ◌∙◌}
+use Rattle.std.specs.Prelude.{unwrap_or}
 use Rattle.std.specs.List.{slice_get}
 use Rattle.std.proofs.lemmas.Bool.{cases_eq}
 use Rattle.std.proofs.lemmas.Bool.Decides.{nat_tests}
-use Rattle.std.proofs.lemmas.List.{length-map}
-use Rattle.std.proofs.lemmas.List.FromFn.{length-range_with_len}
-use Rattle.std.proofs.lemmas.Option.{slice_get-map}
 use Rattle.zone_model.specs.Names.{Name}
 use Rattle.zone_model.specs.Transactions.{Transaction}
 use Rattle.job_model.specs.declared.Ending.{Ending}
@@ -28,39 +24,28 @@ use Rattle.job_threads.specs.Works.{ended}
 use Rattle.job_threads.proofs.ShowLaws.{seat_pass}
 use Rattle.job_threads.proofs.StepLaws.{ask_step, block_step}
 use Rattle.zone_table.specs.declared.pass.ZonesPass.{ZonesPass}
+use Rattle.zone_table.specs.declared.zones.Zones.{Zones}
 use Rattle.zone_table.specs.Passes.{IsPassOf, zone_known}
-use Rattle.zone_table.proofs.KnownLaws.{seat_told}
-use Rattle.zone_table.proofs.Lists.{all_at}
-use Rattle.zones_threads.specs.Steps.{Steps}
-use Rattle.zones_threads.specs.Views.{Part}
+use Rattle.zone_table.proofs.PassLaws.{zone_seat}
+use Rattle.zones_model.specs.Commands.{Command}
+use Rattle.zones_report.specs.declared.outcomes.Done.{Done}
+use Rattle.zones_threads.specs.Steps.{Steps, ZonesGo}
+use Rattle.zones_threads.specs.Views.{Part, part_in}
 
 -- ---- what a pass knows of a zone
 
-pub element : {A : Type 0} (xs : List A) (k : ℕ) → k < length xs → (x : A) × (slice_get xs k ≡ Some x)
-element [] k lt = absurd (omega arith)
-element (x ∷ xs) zero lt = (x, refl)
-element (x ∷ xs) (suc k) lt = element xs k (omega arith)
+module _ {X : Type 0} {N : Ghosts X} where
+  pub zones_same : (old new : ZonesPass X N) → new.zones ≡ old.zones → (zone : ℕ) → zone_known new zone ≡ zone_known old zone
+  zones_same old new same zone = ap (λ (zones : Vec (Pass X N) Global). unwrap_or (slice_get (map (λ z. known_at z.seat) zones.items) zone) (known_at None)) same
+
+  -- a command of the table alone
+  pub no_steps : {Y : Type 0} (zones : Zones Y X N) (c : Command) (d : Done) (old new : ZonesPass X N) → ((n : ℕ) → part_in n c d ≡ []) → new.zones ≡ old.zones → ZonesGo zones c d old new
+  no_steps zones c d old new none same = λ site is s setup first told under.
+      subst (λ ps. Steps s ps (ended (zone_known old site.number) first) (ended (zone_known new site.number) first)) (sym (none site.number)) (ap (λ (v : Known). ended v first) (zones_same old new same site.number))
 
 module _ {X : Type 0} {N : Ghosts X} (origins : List Name) (p : ZonesPass X N) (is : IsPassOf origins p) where
-  pub zones_many : length p.zones.items ≡ length origins
-  zones_many = sym (length-map p.zones.items (λ z. z.place)) ∙ ap length is.zone_places ∙ length-range_with_len 1 (length origins)
-
-  -- its seat of a zone
-  pub zone_seat : (zone : ℕ) → zone < length origins → (q : Pass X N) × (slice_get p.zones.items zone ≡ Some q) × (IsSome q.seat) × (zone_known p zone ≡ known_at q.seat)
-  zone_seat zone lt =
-      let q = element p.zones.items zone (let m = zones_many in omega (arith, m, lt)) in (
-        q.0,
-        q.1,
-        all_at (λ z. IsSome z.seat) p.zones.items zone q.0 is.zones_here q.1,
-        ap (λ (o : Option Known). unwrap_or o (known_at None)) (slice_get-map (λ z. known_at z.seat) p.zones.items zone)
-            ∙ ap (λ (o : Option (Pass X N)). unwrap_or (option_map (λ z. known_at z.seat) o) (known_at None)) q.1,
-      )
-
-  pub zone_told : (zone : ℕ) → zone < length origins → is_told (zone_known p zone).seen.opening ≡ true
-  zone_told zone lt = let q = zone_seat zone lt in subst (λ (v : Known). is_told v.seen.opening ≡ true) (sym q.3) (seat_told q.0.seat q.2)
-
   pub zone_pass : (zone : ℕ) → zone < length origins → (own : PassView (List Operation)) × ((zone_known p zone).pass ≡ Some own)
-  zone_pass zone lt = let q = zone_seat zone lt in let own = seat_pass q.0.seat q.2 in (own.0, ap (λ (v : Known). v.pass) q.3 ∙ own.1)
+  zone_pass zone lt = let q = zone_seat origins p is zone lt in let own = seat_pass q.0.seat q.2 in (own.0, ap (λ (v : Known). v.pass) q.3 ∙ own.1)
 
 -- ---- steps
 

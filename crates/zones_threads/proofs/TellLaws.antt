@@ -20,12 +20,12 @@ use Rattle.zones_report.specs.declared.outcomes.Answer.{Answer}
 use Rattle.zones_report.specs.declared.outcomes.Done.{Done}
 use Rattle.zones_report.specs.declared.outcomes.Done.TheVariants as done
 use Rattle.zones_report.specs.declared.outcomes.DoneList.{DoneList}
+use Rattle.zone_table.proofs.Lists.{get_in}
 use Rattle.zones_threads.specs.Closings.{all_parts}
 use Rattle.zones_threads.specs.Sites.{IsSaid}
 use Rattle.zones_threads.specs.Tellings.{AnswerTells, DoneTells, PartsTell, WorkerTells, WorkersTell}
 use Rattle.zones_report.specs.Outcomes.{AllAreOf, AreOf, IsOf, all_dones_view, done_view, dones_view, shown_view}
 use Rattle.zones_threads.specs.Views.{Part, commands_of, outcomes_of, part_in, parts_in}
-use Rattle.zones_threads.proofs.StepLaws.{element}
 use Rattle.zones_threads.proofs.ZoneForLaws.{for_some}
 
 -- ---- of one zone
@@ -61,7 +61,7 @@ module _ (zones : List Zone) (set : ℕ → ℕ → Version) (attached : ℕ →
   ZonesTell cs ds = (number : ℕ) (zone : Zone) → slice_get zones number ≡ Some zone → PartsTell zone.origin (set number) (parts_in number cs ds)
 
   zone_of : (number : ℕ) → number < length Origins → (zone : Zone) × (slice_get zones number ≡ Some zone)
-  zone_of number lt = element zones number (subst (λ (n : ℕ). number < n) (length-map zones (λ z. z.origin)) lt)
+  zone_of number lt = get_in zones number (subst (λ (n : ℕ). number < n) (length-map zones (λ z. z.origin)) lt)
 
   answer_tells : (name : Name) (rtype table : ℕ) (a : Answer) (k : ℕ) → a.zone ≡ k → zone_for (attached table) Origins name ≡ Some k → ((number : ℕ) (zone : Zone) → slice_get zones number ≡ Some zone → PartsTell zone.origin (set number) (part_in number (model.Get name rtype) (done.Got table (Some a)))) → AnswerTells zones set name rtype (Some a)
   answer_tells name rtype table a k same is tells =

@@ -34,7 +34,7 @@ use Rattle.zones_threads.specs.Steps.{Steps, ZonesGo}
 use Rattle.zones_report.specs.Outcomes.{AreOf, IsOf, done_view, dones_view}
 use Rattle.zones_threads.specs.Views.{Part, answer_part, part_in, parts_in, commands_of, outcomes_of}
 use Rattle.zones_threads.specs.Works.{ZonesRan}
-use Rattle.zones_threads.proofs.StepLaws.{zone_told}
+use Rattle.zone_table.proofs.PassLaws.{zone_told}
 
 -- ---- lists that grow
 

@@ -3,6 +3,7 @@ pub mod Sites
 pub mod Steps
 pub mod Works
 pub mod Closings
+pub mod Gatherings
 pub mod Calls
 pub mod Runs
 pub mod Visits

@@ -24,8 +24,9 @@ use Rattle.zones_model.specs.declared.TableCause.TheVariants.{Exists, Missing, S
 use Rattle.zone_table.specs.declared.zones.Zones.{Zones}
 use Rattle.zone_table.specs.declared.pass.ZonesPass.{ZonesPass}
 use Rattle.zone_table.specs.Locations.{IsZoneOf}
-use Rattle.zone_table.specs.Passes.{zone_known}
+use Rattle.zone_table.specs.Passes.{IsPassOf, table_known, zone_known}
 use Rattle.zone_table.specs.Tables.{IsAmong, IsAttached, entry_for}
+use Rattle.zones_report.specs.Outcomes.{IsOf, done_view}
 use Rattle.zones_report.specs.declared.outcomes.Done.{Done}
 use Rattle.zones_threads.specs.Sites.{Site, IsSite}
 use Rattle.zones_threads.specs.Views.{Part, part_in}
@@ -99,3 +100,12 @@ TableGoes origins (model.Got name rtype table shown) old new = Pinned IsAmong ol
 TableGoes origins (model.Ran zone _ asked ending outcome) old new = new ≡ old
 TableGoes origins (model.Attached zone table refused) old new = ChangeRan origins true zone table refused old new
 TableGoes origins (model.Detached zone table refused) old new = ChangeRan origins false zone table refused old new
+
+-- ---- a command
+
+-- A command came to this, by a pass of the zones that stays one.
+pub record Goes {X Y : Type 0} {N : Ghosts Y} (zones : Zones X Y N) (c : Command) (d : Done) (old new : ZonesPass Y N) : Type 0 where
+  pub pass : IsPassOf zones.origins.items new
+  pub kind : IsOf c d
+  pub table : TableGoes zones.origins.items (done_view c d) (table_known old) (table_known new)
+  pub zones_go : ZonesGo zones c d old new

@@ -1,10 +1,9 @@
 //! Changes of the table of zones.
 ghost use Rattle.std.specs.Prelude.{◌≡◌, ◌<◌, length};
 ghost use Rattle.zones_model.specs.Commands as model;
-ghost use Rattle.zone_table.specs.Passes.{IsPassOf, table_known};
+ghost use Rattle.zone_table.specs.Passes.{IsPassOf};
 ghost use Rattle.zones_threads.specs.Changes.{cause_told, version_told};
-ghost use Rattle.zones_threads.specs.Steps.{TableGoes};
-ghost use Rattle.zones_report.specs.Outcomes.{IsOf, done_view};
+ghost use Rattle.zones_threads.specs.Steps.{Goes};
 
 use job_threads::ZoneLaw;
 use shared_index::{Named, Receipt};
@@ -46,10 +45,7 @@ pub fn attach<R: Wait, N: Named>(
 ) -> Done
     requires pass { IsPassOf zones.now.origins.items pass.old }
     requires zone { zone < length zones.now.origins.items }
-    ensures pass { IsPassOf zones.now.origins.items pass.new }
-    ensures others { pass.new.zones ≡ pass.old.zones }
-    ensures kind { IsOf (model.Attach zone) result }
-    ensures table { TableGoes zones.now.origins.items (done_view (model.Attach zone) result) (table_known pass.old) (table_known pass.new) }
+    ensures { Goes zones.now (model.Attach zone) result pass.old pass.new }
 {
     let ended = zones.attach(rt, pass, zone);
     Done::Attached {
@@ -67,10 +63,7 @@ pub fn detach<R: Wait, N: Named>(
 ) -> Done
     requires pass { IsPassOf zones.now.origins.items pass.old }
     requires zone { zone < length zones.now.origins.items }
-    ensures pass { IsPassOf zones.now.origins.items pass.new }
-    ensures others { pass.new.zones ≡ pass.old.zones }
-    ensures kind { IsOf (model.Detach zone) result }
-    ensures table { TableGoes zones.now.origins.items (done_view (model.Detach zone) result) (table_known pass.old) (table_known pass.new) }
+    ensures { Goes zones.now (model.Detach zone) result pass.old pass.new }
 {
     let ended = zones.detach(rt, pass, zone);
     Done::Detached {

@@ -48,7 +48,8 @@ pub fn all_names<N: Named>(
     ensures pass { IfOk result (λ _. IsPassOf zones.now.origins.items pass.new) }
     ensures table { IfOk result (λ _. table_known pass.new ≡ table_known pass.old) }
     ensures many { IfOk result (λ names. length names.items ≡ length zones.now.origins.items) }
-    ensures counted { IfOk result (λ names. (zone count : ℕ) → slice_get names.items zone ≡ Some count → Counted (zone_known pass.old zone) (zone_known pass.new zone) count) }
+    ensures counted { IfOk result (λ names. (zone count : ℕ) → slice_get names.items zone ≡ Some count
+        → Counted (zone_known pass.old zone) (zone_known pass.new zone) count) }
 {
     let mut names = Vec::with_capacity(alloc, zones.count() as usize)?;
     for zone in 0..zones.count() {

@@ -45,8 +45,10 @@ pub(crate) fn close_zones<N: Named>(
     requires passes { All (IsPassOf zones.origins.items) passes.items }
     ensures versions { IfOk result (λ l. length l.versions.items ≡ length zones.origins.items) }
     ensures names { IfOk result (λ l. length l.names.items ≡ length zones.origins.items) }
-    ensures table { IfOk result (λ l. EndsTable zones.origins.items zones.table.shared.table.shared.key.passes (table_views passes.items) (table_known main) l.table l.attached) }
-    ensures zones { IfOk result (λ l. (site : Site) (version names : ℕ) → IsSite zones site → slice_get l.versions.items site.number ≡ Some version → slice_get l.names.items site.number ≡ Some names
+    ensures table { IfOk result (λ l. EndsTable zones.origins.items zones.table.shared.table.shared.key.passes
+        (table_views passes.items) (table_known main) l.table l.attached) }
+    ensures zones { IfOk result (λ l. (site : Site) (version names : ℕ) → IsSite zones site
+        → slice_get l.versions.items site.number ≡ Some version → slice_get l.names.items site.number ≡ Some names
         → EndsZone site (zone_views site.number passes.items) (zone_known main site.number) version names) }
 {
     let count = zones.count() as usize;

@@ -1,5 +1,5 @@
 //! All workers, each in a thread of its own where one can be started.
-ghost use Rattle.std.specs.Prelude.{◌≡◌, ◌+◌, ◌<◌, ◌∷◌, ℕ, List, All, IfOk, Some, length, map, slice_get};
+ghost use Rattle.std.specs.Prelude.{◌≡◌, ◌<◌, ◌∷◌, ℕ, List, All, IfOk, Some, length, map, slice_get};
 ghost use Rattle.zone_model.specs.MasterFile.{Zone};
 ghost use Rattle.zones_model.specs.Commands.{origins_of};
 ghost use Rattle.zones_model.specs.Outcomes.{passes_for};
@@ -7,19 +7,16 @@ ghost use Rattle.std.specs.List.{AllByRecursion};
 ghost use Rattle.std.specs.Thread.{IsSync};
 ghost use Rattle.shared_index.specs.Passes.{Learnt};
 ghost use Rattle.job_threads.specs.Calls.{AreHeard};
-ghost use Rattle.job_threads.specs.Commands.{IsIndex};
-ghost use Rattle.job_threads.specs.Histories.{Setup};
-ghost use Rattle.job_threads.specs.Works.{AreNew, IsNew};
 ghost use Rattle.zone_table.specs.Passes.{IsPassOf, table_known, zone_known};
 ghost use Rattle.zones_threads.specs.Calls.{AllHeard};
-ghost use Rattle.zones_threads.specs.Closings.{TableGathers, ZoneGathers, table_views, zone_views};
+ghost use Rattle.zones_threads.specs.Closings.{table_views, zone_views};
+ghost use Rattle.zones_threads.specs.Gatherings.{AreGathered, HasWorked, MayRun, MayWork};
 ghost use Rattle.zones_report.specs.Telling.{last_of};
 ghost use Rattle.zones_threads.specs.Runs.{IsZonesRun, TableBegins, ZoneBegins};
 ghost use Rattle.zones_threads.specs.Sites.{IsSaid, IsSite, Opens, Site};
-ghost use Rattle.zones_report.specs.Outcomes.{AllAreOf, AreOf, all_dones_view, dones_view};
 ghost use Rattle.zones_script.specs.Views.{command_view, worker_view};
 ghost use Rattle.zones_threads.specs.Views.{workers_view};
-ghost use Rattle.zones_threads.specs.Works.{AreApart, TableSetup, TableWork, ZonesRan};
+ghost use Rattle.zones_threads.specs.Works.{AreApart};
 
 use crate::ending::close_zones;
 use crate::worker::{Ended, Task, run_worker};
@@ -99,17 +96,8 @@ fn run_workers<R: Threads + Wait + Sync, N: Named + Send + Sync, G: Gate>(
     mut passes: Vec<ZonesPass<N>>,
     gate: &G,
 ) -> Result<Gathered<N>, AllocError>
-    requires count { length passes.items ≡ length workers.now + 1 }
-    requires passes { All (IsPassOf zones.now.origins.items) passes.items }
-    requires opens { All (Opens zones.now) passes.items }
-    requires said { AllByRecursion (AllByRecursion (IsSaid zones.now.origins.items)) (workers_view workers.now) }
-    ensures main { IfOk result (λ g. IsPassOf zones.now.origins.items g.main) }
-    ensures passes { IfOk result (λ g. All (IsPassOf zones.now.origins.items) g.passes.items) }
-    ensures kinds { IfOk result (λ g. AllAreOf (workers_view workers.now) g.done.items) }
-    ensures zones { (site : Site) (s : Setup) → IsSite zones.now site → IsIndex s site.origin site.size → AreNew s.opening (zone_views site.number passes.items)
-        → IfOk result (λ g. ZoneGathers s site.number (zone_views site.number passes.items) (workers_view workers.now) g.done.items (zone_views site.number g.passes.items) (zone_known g.main site.number)) }
-    ensures table { (b : TableSetup) → b.origins ≡ zones.now.origins.items → AreNew b.opening (table_views passes.items)
-        → IfOk result (λ g. TableGathers b (table_views passes.items) (all_dones_view (workers_view workers.now) g.done.items) (table_views g.passes.items) (table_known g.main)) }
+    requires { MayRun zones.now passes.items (workers_view workers.now) }
+    ensures gathered { IfOk result (λ g. AreGathered zones.now passes.items (workers_view workers.now) g.done.items g.passes.items g.main) }
     ensures heard { IfOk result (λ _. AllHeard (G.hears gate.now) number (workers_view workers.now)) }
 {
     let Some(pass) = passes.pop() else {
@@ -125,32 +113,14 @@ fn run_workers<R: Threads + Wait + Sync, N: Named + Send + Sync, G: Gate>(
     };
     let next = number.saturating_add(1);
     let first = move || -> Result<Ended<N>, AllocError>
-        requires pass { IsPassOf zones.now.origins.items pass }
-        requires opens { Opens zones.now pass }
-        requires said { AllByRecursion (IsSaid zones.now.origins.items) (worker_view worker.now) }
-        ensures pass { IfOk result (λ e. IsPassOf zones.entry.now.origins.items e.pass) }
-        ensures kinds { IfOk result (λ e. AreOf (worker_view worker.entry.now) e.done.list.items) }
-        ensures zones { IfOk result (λ e. ZonesRan zones.entry.now pass e.pass (worker_view worker.entry.now) e.done.list.items) }
-        ensures table { (b : TableSetup) (number : ℕ) → b.origins ≡ zones.entry.now.origins.items → IsNew number b.opening (table_known pass)
-            → IfOk result (λ e. TableWork b number (table_known e.pass) (dones_view (worker_view worker.entry.now) e.done.list.items)) }
+        requires { MayWork zones.now pass (worker_view worker.now) }
+        ensures done { IfOk result (λ e. HasWorked zones.entry.now pass e.pass (worker_view worker.entry.now) e.done.list.items) }
         ensures heard { IfOk result (λ _. AreHeard (G.hears gate.entry.now) number (length (worker_view worker.entry.now))) }
-    {
-        let task = task_of(number, worker, pass);
-        run_worker(rt, alloc, zones, task, gate)
-    };
+    { run_worker(rt, alloc, zones, task_of(number, worker, pass), gate) };
     let rest = move || -> Result<Gathered<N>, AllocError>
         requires sync { IsSync R.row }
-        requires count { length passes.items ≡ length others.now + 1 }
-        requires passes { All (IsPassOf zones.now.origins.items) passes.items }
-        requires opens { All (Opens zones.now) passes.items }
-        requires said { AllByRecursion (AllByRecursion (IsSaid zones.now.origins.items)) (workers_view others.now) }
-        ensures main { IfOk result (λ g. IsPassOf zones.entry.now.origins.items g.main) }
-        ensures passes { IfOk result (λ g. All (IsPassOf zones.entry.now.origins.items) g.passes.items) }
-        ensures kinds { IfOk result (λ g. AllAreOf (workers_view others.entry.now) g.done.items) }
-        ensures zones { (site : Site) (s : Setup) → IsSite zones.entry.now site → IsIndex s site.origin site.size → AreNew s.opening (zone_views site.number passes.items)
-            → IfOk result (λ g. ZoneGathers s site.number (zone_views site.number passes.items) (workers_view others.entry.now) g.done.items (zone_views site.number g.passes.items) (zone_known g.main site.number)) }
-        ensures table { (b : TableSetup) → b.origins ≡ zones.entry.now.origins.items → AreNew b.opening (table_views passes.items)
-            → IfOk result (λ g. TableGathers b (table_views passes.items) (all_dones_view (workers_view others.entry.now) g.done.items) (table_views g.passes.items) (table_known g.main)) }
+        requires run { MayRun zones.now passes.items (workers_view others.now) }
+        ensures gathered { IfOk result (λ g. AreGathered zones.entry.now passes.items (workers_view others.entry.now) g.done.items g.passes.items g.main) }
         ensures heard { IfOk result (λ _. AllHeard (G.hears gate.entry.now) next (workers_view others.entry.now)) }
     { run_workers(rt, alloc, zones, others, next, passes, gate) };
     let (ended, others) = join(rt, first, rest);
@@ -172,8 +142,10 @@ pub fn run_zones<R: Threads + Wait + Sync, N: Named + Send + Sync, G: Gate>(
     requires passes { All (IsPassOf zones.origins.items) passes.items }
     requires opens { All (Opens zones) passes.items }
     requires said { AllByRecursion (AllByRecursion (IsSaid zones.origins.items)) (workers_view workers.now) }
-    ensures ran { (chunks : ℕ) (list : List Zone) → origins_of list ≡ zones.origins.items → AreApart zones.origins.items → TableBegins zones.origins.items (length passes.items) (table_views passes.items)
-        → ((site : Site) (zone : Zone) → IsSite zones site → slice_get list site.number ≡ Some zone → ZoneBegins chunks (length passes.items) site zone (zone_views site.number passes.items))
+    ensures ran { (chunks : ℕ) (list : List Zone) → origins_of list ≡ zones.origins.items → AreApart zones.origins.items
+        → TableBegins zones.origins.items (length passes.items) (table_views passes.items)
+        → ((site : Site) (zone : Zone) → IsSite zones site → slice_get list site.number ≡ Some zone
+        → ZoneBegins chunks (length passes.items) site zone (zone_views site.number passes.items))
         → IfOk result (λ f. IsZonesRun chunks list (workers_view workers.now) f.done.items (last_of f) f.attached f.names.items) }
     // Each worker is told by its own number, from 1.
     ensures heard { IfOk result (λ _. AllHeard (G.hears gate.now) 1 (workers_view workers.now)) }

@@ -1,7 +1,6 @@
 //! Runs workers on several zones that they share and on the table of these, and tells what became of each command.
 #![tactic(auto)]
 
-mod asking;
 mod changing;
 mod closing;
 mod ending;

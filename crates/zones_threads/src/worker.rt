@@ -1,15 +1,11 @@
 //! A worker that runs its commands.
-ghost use Rattle.std.specs.Prelude.{◌≡◌, ℕ, IfOk, length, map};
-ghost use Rattle.std.specs.List.{AllByRecursion};
+ghost use Rattle.std.specs.Prelude.{◌≡◌, IfOk, length, map};
 ghost use Rattle.job_threads.specs.Calls.{AreHeard, next_number};
-ghost use Rattle.job_threads.specs.Works.{IsNew};
-ghost use Rattle.zone_table.specs.Passes.{IsPassOf, table_known};
-ghost use Rattle.shared_index.specs.Passes.{first_version};
+ghost use Rattle.zone_table.specs.Passes.{IsPassOf};
+ghost use Rattle.zones_threads.specs.Gatherings.{HasWorked, MayWork};
 ghost use Rattle.zones_threads.specs.Sites.{IsSaid, Opens};
-ghost use Rattle.zones_threads.specs.Steps.{TableGoes, ZonesGo};
-ghost use Rattle.zones_report.specs.Outcomes.{AreOf, IsOf, done_view, dones_view};
+ghost use Rattle.zones_threads.specs.Steps.{Goes};
 ghost use Rattle.zones_script.specs.Views.{command_view};
-ghost use Rattle.zones_threads.specs.Works.{TableSetup, TableWork, ZonesRan};
 
 use crate::changing::{attach, detach};
 use crate::gate::{tell_after, tell_before};
@@ -50,21 +46,11 @@ fn run_command<R: Wait, N: Named>(
     requires pass { IsPassOf zones.now.origins.items pass.old }
     requires opens { Opens zones.now pass.old }
     requires said { IsSaid zones.now.origins.items (command_view command.now) }
-    ensures pass { IfOk result (λ _. IsPassOf zones.now.origins.items pass.new) }
-    ensures opens { IfOk result (λ _. Opens zones.now pass.new) }
-    ensures kind { IfOk result (IsOf (command_view command.now)) }
-    ensures table { IfOk result (λ d. TableGoes zones.now.origins.items (done_view (command_view command.now) d) (table_known pass.old) (table_known pass.new)) }
-    ensures zones { IfOk result (λ d. ZonesGo zones.now (command_view command.now) d pass.old pass.new) }
+    ensures { IfOk result (λ d. Goes zones.now (command_view command.now) d pass.old pass.new) }
 {
     match command {
-        Command::Get(name, rtype) => {
-            let done = get(alloc, zones, pass, name, *rtype, room)?;
-            Ok(done)
-        }
-        Command::Block { zone, block } => {
-            let done = change_zone(rt, alloc, zones, pass, *zone, block, room)?;
-            Ok(done)
-        }
+        Command::Get(name, rtype) => get(alloc, zones, pass, name, *rtype, room),
+        Command::Block { zone, block } => change_zone(rt, alloc, zones, pass, *zone, block, room),
         Command::Attach(zone) => Ok(attach(rt, zones, pass, *zone)),
         Command::Detach(zone) => Ok(detach(rt, zones, pass, *zone)),
     }
@@ -85,14 +71,8 @@ pub fn run_worker<R: Wait, N: Named, G: Gate>(
     task: Task<'_, N>,
     gate: &G,
 ) -> Result<Ended<N>, AllocError>
-    requires pass { IsPassOf zones.now.origins.items task.pass }
-    requires opens { Opens zones.now task.pass }
-    requires said { AllByRecursion (IsSaid zones.now.origins.items) (map command_view task.commands.now) }
-    ensures pass { IfOk result (λ e. IsPassOf zones.now.origins.items e.pass) }
-    ensures kinds { IfOk result (λ e. AreOf (map command_view task.entry.commands.now) e.done.list.items) }
-    ensures zones { IfOk result (λ e. ZonesRan zones.now task.entry.pass e.pass (map command_view task.entry.commands.now) e.done.list.items) }
-    ensures table { (b : TableSetup) (number : ℕ) → b.origins ≡ zones.now.origins.items → IsNew number b.opening (table_known task.entry.pass)
-        → IfOk result (λ e. TableWork b number (table_known e.pass) (dones_view (map command_view task.entry.commands.now) e.done.list.items)) }
+    requires { MayWork zones.now task.pass (map command_view task.commands.now) }
+    ensures done { IfOk result (λ e. HasWorked zones.now task.entry.pass e.pass (map command_view task.entry.commands.now) e.done.list.items) }
     ensures heard { IfOk result (λ _. AreHeard (G.hears gate.now) task.entry.number (length (map command_view task.entry.commands.now))) }
 {
     let mut room = Room::new(alloc)?;

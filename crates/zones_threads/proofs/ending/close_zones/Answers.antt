@@ -12,7 +12,7 @@ use Rattle.zones_threads.specs.Closings.{table_views, zone_views}
 use Rattle.zones_threads.specs.Endings.{TableEnd}
 use Rattle.zones_threads.specs.Visits.{Counted}
 use Rattle.zones_threads.proofs.EndLaws.{table_ends, zone_ends, with_main}
-use Rattle.zones_threads.proofs.StepLaws.{zone_told}
+use Rattle.zone_table.proofs.PassLaws.{zone_told}
 use Rattle.zones_threads.proofs.ending.close_zones.Goals as goal
 
 pub close-requires : goal.close-requires

@@ -7,7 +7,7 @@ use Rattle.zones_model.specs.Outcomes.{passes_for}
 use Rattle.shared_index.specs.Closings.{AreAll}
 use Rattle.job_threads.specs.Histories.{Setup}
 use Rattle.zone_table.specs.Passes.{table_known, zone_known}
-use Rattle.zone_table.proofs.Lists.{mapped_at}
+use Rattle.zone_table.proofs.Lists.{get_in, mapped_at}
 use Rattle.zones_threads.specs.Closings.{table_views, zone_views}
 use Rattle.zones_threads.specs.Endings.{TableEnd, ZoneEnd}
 use Rattle.zones_threads.specs.Sites.{IsSaid, IsSite, Site}
@@ -16,7 +16,6 @@ use Rattle.zones_script.specs.Views.{worker_view}
 use Rattle.zones_threads.specs.Views.{workers_view}
 use Rattle.zones_threads.specs.Works.{TableSetup}
 use Rattle.zones_threads.proofs.EndLaws.{zones_run}
-use Rattle.zones_threads.proofs.StepLaws.{element}
 use Rattle.zones_threads.proofs.job.run_zones.Goals as goal
 
 pub returns-clause-ran : goal.returns-clause-ran
@@ -26,7 +25,7 @@ returns-clause-ran g c = λ chunks list named apart begins each.
     let passes = c.args.passes.items in
     let ws = workers_view c.args.workers.now in
     let gathered = c.in_ok-done.field-0 in
-    let ran = c.in_ok-done.ensures in
+    let ran = c.in_ok-done.ensures.gathered in
     let last = c.in_ok-last.last in
     let ended = c.in_ok-last.ensures in
     let ds = gathered.done.items in
@@ -42,13 +41,21 @@ returns-clause-ran g c = λ chunks list named apart begins each.
     (λ number zone there version names at is.
     let origin : slice_get origins number ≡ Some zone.origin = subst (λ (o : List Name). slice_get o number ≡ Some zone.origin) named (mapped_at (λ z. z.origin) list number zone there) in
     let lt = slice_get_within origins number zone.origin origin in
-    let index = element zones.zones.items number (let same = zones.each in omega (arith, same, lt)) in
+    let index = get_in zones.zones.items number (let same = zones.each in omega (arith, same, lt)) in
     let site : Site = record { number = number; origin = zone.origin; size = index.0.shared.table.shared.key } in
     let is_site : IsSite zones site = record { origin = origin; index = index.0; there = index.1; size = refl } in
     let z = each site zone is_site there in
     let s : Setup = record { chunks = site.size.chunks; passes = site.size.passes; origin = zone.origin; opening = z.opening } in
-    let gathers = ran.zones site s is_site (record { origin_is = refl; chunks = refl; passes = refl }) z.new in
+    let gathers = ran.each site s is_site (record { origin_is = refl; chunks = refl; passes = refl }) z.new in
     let long : length (zone_views number passes) ≡ site.size.passes = length-map passes (λ p. zone_known p number) ∙ sym z.passes in
     let e = ended.zones site version names is_site at is s zone (zone_views number passes) ws ds ran.kinds gathers refl z.stands long (subst (λ (n : ℕ). AreAll n (zone_views number passes)) (sym z.passes) z.all) in
     let for_all : site.size.passes ≡ passes_for (length ws) = z.passes ∙ c.requires.count ∙ ap passes_for (sym (length-map c.args.workers.now worker_view)) in
     subst (λ (n : ℕ). ZoneEnd chunks n zone number version names ws ds) for_all (subst (λ (n : ℕ). ZoneEnd n site.size.passes zone number version names ws ds) z.chunks_are e))
+
+pub run_workers-requires-after_bounds : goal.run_workers-requires-after_bounds
+run_workers-requires-after_bounds g c = λ κs bounds. record {
+  count = c.requires.count ∙ ap passes_for (sym (length-map c.args.workers.now worker_view));
+  passes = c.requires.passes;
+  opens = c.requires.opens;
+  said = c.requires.said;
+}

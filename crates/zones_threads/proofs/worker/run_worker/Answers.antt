@@ -15,7 +15,7 @@ use Rattle.zones_report.specs.Outcomes.{AreOf, done_view, dones_view}
 use Rattle.zones_script.specs.Views.{command_view}
 use Rattle.zones_threads.specs.Works.{TableWork, ZonesRan}
 use Rattle.zones_threads.proofs.TableLaws.{table_start, table_next}
-use Rattle.zones_threads.proofs.WorkLaws.{ZonesAt, zones_start, zones_next, zones_ran, kinds-push, kinds_many, dones-push}
+use Rattle.zones_threads.proofs.WorkLaws.{ZonesAt, go_open, zones_start, zones_next, zones_ran, kinds-push, kinds_many, dones-push}
 use Rattle.zones_threads.proofs.worker.run_worker.Goals as goal
 
 pub loop-place-init : goal.loop-place-init
@@ -50,46 +50,43 @@ loop-place-preserved g c =
     let cs = map command_view (take c.loop-place.place commands) in
     let ds = c.loop-place.list.items in
     let d = c.in_ok-done.done in
+    let goes = c.in_ok-done.ensures in
     let pushed = c.in_ok-push.ensures.items in
     let taken : map command_view (take (c.loop-place.place + 1) commands) ≡ cs ++ command_view here ∷ [] = take_here command_view commands c.loop-place.place here c.loop-place-test.true c.index-commands-place.is in
     let alike = kinds_many cs ds i.kinds in
     record {
-      pass = c.in_ok-done.ensures.pass;
-      opens = c.in_ok-done.ensures.opens;
+      pass = goes.pass;
+      opens = go_open zones now next (command_view here) d i.pass goes.zones_go i.opens;
       many = ap length pushed ∙ length-append ds (d ∷ []) ∙ ap (λ (n : ℕ). n + 1) i.many;
-      kinds = subst (λ (l : List Command). AreOf l c.push.new.self.items) (sym taken) (subst (AreOf (cs ++ command_view here ∷ [])) (sym pushed) (kinds-push cs ds (command_view here) d i.kinds c.in_ok-done.ensures.kind));
+      kinds = subst (λ (l : List Command). AreOf l c.push.new.self.items) (sym taken) (subst (AreOf (cs ++ command_view here ∷ [])) (sym pushed) (kinds-push cs ds (command_view here) d i.kinds goes.kind));
       heard = one_more (λ place. IsHeard (g.G.Gate.hears c.args.gate.now) c.args.task.number (next_number place)) c.loop-place.place (c.loop-place.place + 1) refl i.heard
           (subst (λ n. IsHeard (g.G.Gate.hears c.args.gate.now) c.args.task.number n) c.counted-ordinal.ensures (c.tell_before.ensures, c.tell_after.ensures));
       said = (subst (AllByRecursion (IsSaid zones.origins.items)) (drop_here command_view commands c.loop-place.place here c.loop-place-test.true c.index-commands-place.is) i.said).1;
       zones = subst (λ (l : List Command). ZonesAt zones first next l c.push.new.self.items) (sym taken)
-          (subst (ZonesAt zones first next (cs ++ command_view here ∷ [])) (sym pushed) (zones_next zones first now next cs ds (command_view here) d c.requires.pass i.pass alike i.zones c.in_ok-done.ensures.zones));
+          (subst (ZonesAt zones first next (cs ++ command_view here ∷ [])) (sym pushed) (zones_next zones first now next cs ds (command_view here) d c.requires.pass i.pass alike i.zones goes.zones_go));
       table = λ b number same new.
           subst (λ (l : List Command). TableWork b number (table_known next) (dones_view l c.push.new.self.items)) (sym taken)
           (subst (λ (l : List Done). TableWork b number (table_known next) (dones_view (cs ++ command_view here ∷ []) l)) (sym pushed)
           (subst (TableWork b number (table_known next)) (sym (dones-push cs ds (command_view here) d alike))
           (table_next b number (table_known now) (table_known next) (dones_view cs ds) (done_view (command_view here) d) (seat_told now.table.seat i.pass.table_here) (i.table b number same new)
-          (subst (λ (o : List Name). TableGoes o (done_view (command_view here) d) (table_known now) (table_known next)) (sym same) c.in_ok-done.ensures.table))));
+          (subst (λ (o : List Name). TableGoes o (done_view (command_view here) d) (table_known now) (table_known next)) (sym same) goes.table))));
     }
 
-pub returns-clause-kinds : goal.returns-clause-kinds
-returns-clause-kinds g c =
-    let commands = c.args.task.commands.now in
-    let past : length commands ≤ c.loop-place.place = omega (arith, c.loop-place-test.false) in
-    subst (λ (l : List _). AreOf (map command_view l) c.loop-place.list.items) (take_all c.loop-place.place commands past) c.loop-place.invariant.kinds
-
-pub returns-clause-zones : goal.returns-clause-zones
-returns-clause-zones g c =
-    let commands = c.args.task.commands.now in
-    let past : length commands ≤ c.loop-place.place = omega (arith, c.loop-place-test.false) in
+pub returns-clause-done : goal.returns-clause-done
+returns-clause-done g c =
+    let i = c.loop-place.invariant in
     let zones = c.args.zones.now in
-    let ran = zones_ran zones c.args.task.pass c.loop-place.pass (map command_view (take c.loop-place.place commands)) c.loop-place.list.items c.loop-place.invariant.zones in
-    subst (λ (l : List _). ZonesRan zones c.args.task.pass c.loop-place.pass (map command_view l) c.loop-place.list.items) (take_all c.loop-place.place commands past) ran
-
-pub returns-clause-table : goal.returns-clause-table
-returns-clause-table g c = λ b number same new.
+    let first = c.args.task.pass in
+    let now = c.loop-place.pass in
+    let ds = c.loop-place.list.items in
     let commands = c.args.task.commands.now in
-    let past : length commands ≤ c.loop-place.place = omega (arith, c.loop-place-test.false) in
-    subst (λ (l : List _). TableWork b number (table_known c.loop-place.pass) (dones_view (map command_view l) c.loop-place.list.items)) (take_all c.loop-place.place commands past) (c.loop-place.invariant.table b number same new)
+    let all = take_all c.loop-place.place commands (omega (arith, c.loop-place-test.false)) in
+    record {
+      pass = i.pass;
+      kinds = subst (λ (l : List _). AreOf (map command_view l) ds) all i.kinds;
+      ran = subst (λ (l : List _). ZonesRan zones first now (map command_view l) ds) all (zones_ran zones first now (map command_view (take c.loop-place.place commands)) ds i.zones);
+      table = λ b number same new. subst (λ (l : List _). TableWork b number (table_known now) (dones_view (map command_view l) ds)) all (i.table b number same new);
+    }
 
 pub returns-clause-heard : goal.returns-clause-heard
 returns-clause-heard g c = λ place lt.

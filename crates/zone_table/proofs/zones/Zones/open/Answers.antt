@@ -9,10 +9,10 @@ pub returns-in-Ok-assemble-clause-sizes : goal.returns-in-Ok-assemble-clause-siz
 returns-in-Ok-assemble-clause-sizes g c =
     ap (map (λ z. z.shared.table.shared.key)) c.in-Ok-assemble.ensures.indexes
     ∙ same_sizes c.args.zones.now (map (λ b. b.shared.table.shared.key) c.args.blanks.items) c.args.table.shared.table.shared.key.passes c.in-Ok.opened.items
-    (length-map c.args.blanks.items (λ b. b.shared.table.shared.key) ∙ c.requires.each) c.requires.passes c.in-Ok.ensures.opened
+    (length-map c.args.blanks.items (λ b. b.shared.table.shared.key) ∙ c.requires.each) c.requires.passes c.in-Ok.ensures
 
 pub returns-in-Err-assemble-clause-refused : goal.returns-in-Err-assemble-clause-refused
-returns-in-Err-assemble-clause-refused g c = begun_fit (places_of c.args.zones.now (map (λ b. b.shared.table.shared.key) c.args.blanks.items)) c.in-Ok.opened.items c.in-Ok.ensures.opened
+returns-in-Err-assemble-clause-refused g c = begun_fit (places_of c.args.zones.now (map (λ b. b.shared.table.shared.key) c.args.blanks.items)) c.in-Ok.opened.items c.in-Ok.ensures
 
 pub returns-in-Ok-assemble-clause-fits : goal.returns-in-Ok-assemble-clause-fits
-returns-in-Ok-assemble-clause-fits g c = begun_within (places_of c.args.zones.now (map (λ b. b.shared.table.shared.key) c.args.blanks.items)) c.in-Ok.opened.items c.in-Ok.ensures.opened
+returns-in-Ok-assemble-clause-fits g c = begun_within (places_of c.args.zones.now (map (λ b. b.shared.table.shared.key) c.args.blanks.items)) c.in-Ok.opened.items c.in-Ok.ensures
