@@ -65,7 +65,7 @@ fn sixteen_workers_share_one_command(rt: HostRuntime) -> Result<(), Fail> {
 }
 
 /// The number that digits say.
-fn number(digits: &[u8]) -> Option<u32> {
+pub(crate) fn number(digits: &[u8]) -> Option<u32> {
     let mut value = 0u32;
     for digit in digits {
         if !digit.is_ascii_digit() {

@@ -224,3 +224,51 @@ impl Gate for Following {
         }
     }
 }
+
+/// Workers in rounds, a command each: none begins one before each has done all those before.
+#[derive(Drop)]
+pub(crate) struct Rounds {
+    workers: u64,
+    /// How many commands are done.
+    done: AtomicU64,
+    missed: AtomicU64,
+}
+
+impl Rounds {
+    pub(crate) fn new(workers: u64) -> Rounds {
+        Rounds {
+            workers,
+            done: AtomicU64::new(0),
+            missed: AtomicU64::new(0),
+        }
+    }
+
+    /// Not 0 where one has waited for nothing.
+    pub(crate) fn missed(&self) -> u64 {
+        self.missed.load(Ordering::SeqCst)
+    }
+
+    // Waits until so many commands are done.
+    fn wait(&self, due: u64) {
+        for _ in 0..TURNS {
+            if self.done.load(Ordering::SeqCst) >= due || self.missed() != 0 {
+                return;
+            }
+            thread::yield_now();
+        }
+        self.missed.store(1, Ordering::SeqCst);
+    }
+}
+
+impl Gate for Rounds {
+    ghost hears = { λ _ _. Unit {0} };
+
+    fn before(&self, _worker: u32, command: u32) {
+        let rounds = u64::from(command.saturating_sub(1));
+        self.wait(self.workers.saturating_mul(rounds));
+    }
+
+    fn after(&self, _worker: u32, _command: u32) {
+        self.done.fetch_add(1, Ordering::SeqCst);
+    }
+}

@@ -15,3 +15,5 @@ mod odd;
 mod plain;
 #[cfg(test)]
 mod workers;
+#[cfg(test)]
+mod zones;

@@ -22,7 +22,23 @@ pub(crate) fn command_line(alloc: Global, words: &[&str]) -> Result<Vec<String>,
     Ok(line)
 }
 
-/// The status and the report of a script on the zone, run as words say, by way of a gate.
+/// The status and the report of an input, run as words say, by way of a gate.
+pub(crate) fn told_of<R: Threads + Wait + Sync, G: Gate>(
+    rt: &R,
+    alloc: Global,
+    words: &[&str],
+    input: Vec<u8>,
+    gate: &G,
+) -> Result<(u8, Vec<u8>), Fail> {
+    let mut source = MemSource::new(input, 4096, Vec::new(alloc));
+    let mut sink = MemSink::new(alloc, 262_144, 4096, Vec::new(alloc))?;
+    let words = command_line(alloc, words)?;
+    let status = run(rt, alloc, &words, &mut source, &mut sink, gate).code();
+    let written = sink.held().ok_or("no room")?;
+    Ok((status, Vec::from_slice(alloc, written)?))
+}
+
+/// The status and the report of a script on the zone.
 fn told_as<R: Threads + Wait + Sync, G: Gate>(
     rt: &R,
     alloc: Global,
@@ -32,12 +48,7 @@ fn told_as<R: Threads + Wait + Sync, G: Gate>(
 ) -> Result<(u8, Vec<u8>), Fail> {
     let mut input = Vec::from_slice(alloc, ZONE)?;
     input.extend_from_slice(script)?;
-    let mut source = MemSource::new(input, 4096, Vec::new(alloc));
-    let mut sink = MemSink::new(alloc, 4096, 4096, Vec::new(alloc))?;
-    let words = command_line(alloc, words)?;
-    let status = run(rt, alloc, &words, &mut source, &mut sink, gate).code();
-    let written = sink.held().ok_or("no room")?;
-    Ok((status, Vec::from_slice(alloc, written)?))
+    told_of(rt, alloc, words, input, gate)
 }
 
 /// The report of a script of which nothing is refused.

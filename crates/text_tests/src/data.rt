@@ -27,10 +27,7 @@ fn is_printed(alloc: Global, rtype: u16, rdata: &Rdata, want: &[u8]) -> bool {
 
 // Whether a text is data of a type, and printed so.
 fn prints(alloc: Global, rtype: u16, text: &[u8], origin: &Name, want: &[u8]) -> bool {
-    match read(alloc, rtype, text, origin) {
-        Ok(rdata) => is_printed(alloc, rtype, &rdata, want),
-        Err(_) => false,
-    }
+    read(alloc, rtype, text, origin).is_ok_and(|rdata| is_printed(alloc, rtype, &rdata, want))
 }
 
 // Whether a text is refused as data of a type, at this token.
@@ -39,24 +36,6 @@ fn is_refused(alloc: Global, rtype: u16, text: &[u8], origin: &Name, at: usize) 
         Err(RdataRefusal::BadRdata { at: found }) => found == at,
         _ => false,
     }
-}
-
-fn all_print(alloc: Global, rows: &[(u16, &[u8], &[u8])], origin: &Name) -> bool {
-    for (rtype, text, want) in rows {
-        if !prints(alloc, *rtype, text, origin, want) {
-            return false;
-        }
-    }
-    true
-}
-
-fn all_are_refused(alloc: Global, rows: &[(u16, &[u8], usize)], origin: &Name) -> bool {
-    for (rtype, text, at) in rows {
-        if !is_refused(alloc, *rtype, text, origin, *at) {
-            return false;
-        }
-    }
-    true
 }
 
 // The name example.
@@ -97,10 +76,12 @@ const PRINTED: &[(u16, &[u8], &[u8])] = &[
 
 #[test]
 fn data_is_read_and_printed(rt: HostRuntime) {
-    assert!(rt; all_print(rt.alloc(), PRINTED, &origin()));
+    for (rtype, text, want) in PRINTED {
+        assert!(rt; prints(rt.alloc(), *rtype, text, &origin(), want));
+    }
 }
 
-// Types by their numbers, data, and the place of its first bad token.
+// Types by their numbers, data, and the index of its first bad token.
 const REFUSED: &[(u16, &[u8], usize)] = &[
     (1, b"192.0.2.256", 0),
     (1, b"192.0.2", 0),
@@ -122,7 +103,9 @@ const REFUSED: &[(u16, &[u8], usize)] = &[
 
 #[test]
 fn data_is_refused_at_its_first_bad_token(rt: HostRuntime) {
-    assert!(rt; all_are_refused(rt.alloc(), REFUSED, &origin()));
+    for (rtype, text, at) in REFUSED {
+        assert!(rt; is_refused(rt.alloc(), *rtype, text, &origin(), *at));
+    }
 }
 
 // As many strings of 255 octets, and one more: all from the front of one text.
@@ -155,9 +138,9 @@ fn string(len: u32) -> Token
 enum Given {
     /// Data of so many octets.
     Octets(usize),
-    /// A string that is too long, at a place.
+    /// A string that is too long, at an index.
     LongString(usize),
-    /// Too many, the first of them at a place.
+    /// Too many, the first of them at an index.
     BadRdata(usize),
     /// Memory is wanting.
     Nothing,
@@ -206,19 +189,6 @@ const TYPES: &[(u16, &[u8])] = &[
     (0, b"HINFO"),
 ];
 
-fn all_are_types(rows: &[(u16, &[u8])]) -> bool {
-    for (want, text) in rows {
-        let number = match read_type(text) {
-            Some(number) => number,
-            None => 0,
-        };
-        if number != *want {
-            return false;
-        }
-    }
-    true
-}
-
 // Whether two types are printed so.
 fn types_are_printed(alloc: Global, first: u16, second: u16, want: &[u8]) -> bool {
     let mut out = Vec::new(alloc);
@@ -229,7 +199,9 @@ fn types_are_printed(alloc: Global, first: u16, second: u16, want: &[u8]) -> boo
 
 #[test]
 fn types_are_read_and_printed(rt: HostRuntime) {
-    assert!(rt; all_are_types(TYPES));
+    for (want, text) in TYPES {
+        assert!(rt; read_type(text).unwrap_or(0) == *want);
+    }
     assert!(rt; types_are_printed(rt.alloc(), 28, 256, b"AAAATYPE256"));
 }
 
@@ -249,14 +221,8 @@ fn is_written(alloc: Global, entry: &Entry, owner: &Name, item: &[u8]) -> bool {
 
 // Whether the only set of an entry has this time to live. Adding one of its records with another one changes nothing.
 fn keeps(alloc: Global, entry: &mut Entry, rdata: Rdata) -> bool {
-    let ttl = match entry.find_set(1) {
-        Some(set) => set.ttl(),
-        None => 0,
-    };
-    match entry.add(alloc, 1, 60, rdata) {
-        Ok(changed) => ttl == 300 && !changed,
-        Err(_) => false,
-    }
+    let kept = entry.find_set(1).is_some_and(|set| set.ttl() == 300);
+    kept && entry.add(alloc, 1, 60, rdata).is_ok_and(|changed| !changed)
 }
 
 // Whether an item with the one address 192.0.2.1 stays as it is when that is added.

@@ -11,22 +11,7 @@ fn is_printed(alloc: Global, name: &Name, want: &[u8]) -> bool {
 
 // Whether a text is a name, and printed so.
 fn prints(alloc: Global, text: &[u8], origin: &Name, want: &[u8]) -> bool {
-    match Name::read(text, origin) {
-        Ok(name) => is_printed(alloc, &name, want),
-        Err(_) => false,
-    }
-}
-
-fn all_print(alloc: Global, rows: &[(&[u8], &[u8])], origin: &[u8]) -> bool {
-    let Ok(origin) = Name::read(origin, &Name::root()) else {
-        return false;
-    };
-    for (text, want) in rows {
-        if !prints(alloc, text, &origin, want) {
-            return false;
-        }
-    }
-    true
+    Name::read(text, origin).is_ok_and(|name| is_printed(alloc, &name, want))
 }
 
 // Texts of names under example., and how the names are printed.
@@ -43,23 +28,14 @@ const PRINTED: &[(&[u8], &[u8])] = &[
 
 #[test]
 fn texts_are_read_and_printed(rt: HostRuntime) {
-    assert!(rt; all_print(rt.alloc(), PRINTED, b"Example."));
+    let origin = Name::read(b"Example.", &Name::root()).unwrap_or(Name::root());
+    for (text, want) in PRINTED {
+        assert!(rt; prints(rt.alloc(), text, &origin, want));
+    }
 }
 
 fn is_refused(text: &[u8], refusal: NameRefusal) -> bool {
-    match Name::read(text, &Name::root()) {
-        Ok(_) => false,
-        Err(found) => found == refusal,
-    }
-}
-
-fn all_are_refused(rows: &[(&[u8], NameRefusal)]) -> bool {
-    for (text, refusal) in rows {
-        if !is_refused(text, *refusal) {
-            return false;
-        }
-    }
-    true
+    Name::read(text, &Name::root()).is_err_and(|found| found == refusal)
 }
 
 // Texts, and the first fault of each.
@@ -99,7 +75,9 @@ fn wire_len(alloc: Global, counts: &[u8]) -> Result<Result<usize, NameRefusal>, 
 
 #[test]
 fn the_first_fault_of_a_text_is_refused(rt: HostRuntime) {
-    assert!(rt; all_are_refused(REFUSED));
+    for (text, refusal) in REFUSED {
+        assert!(rt; is_refused(text, *refusal));
+    }
     assert!(rt; matches!(wire_len(rt.alloc(), &[63, 63, 63, 61]), Ok(Ok(255))));
     let over = wire_len(rt.alloc(), &[63, 63, 63, 62]);
     assert!(rt; matches!(over, Ok(Err(NameRefusal::LongName(256)))));
@@ -157,14 +135,11 @@ fn is_taken_apart(alloc: Global, name: &Name, up: &[u8], star: &[u8]) -> bool {
 
 // Whether octets begin with the wire form of a name, which has so many of them, and are taken apart so.
 fn begins(alloc: Global, octets: &[u8], len: usize, up: &[u8], star: &[u8]) -> bool {
-    match Name::from_wire(octets) {
-        Some(name) => {
-            octets.starts_with(name.wire())
-                && name.wire().len() == len
-                && is_taken_apart(alloc, &name, up, star)
-        }
-        None => false,
-    }
+    Name::from_wire(octets).is_some_and(|name| {
+        octets.starts_with(name.wire())
+            && name.wire().len() == len
+            && is_taken_apart(alloc, &name, up, star)
+    })
 }
 
 fn is_no_name(octets: &[u8]) -> bool {

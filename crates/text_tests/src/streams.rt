@@ -29,13 +29,10 @@ fn gives<S: Source>(source: &mut S, wanted: &[Result<usize, Failed>], left: &[u8
 
 // Whether a source of a text, four bytes at most in one call, gives this.
 fn gives_pieces(alloc: Global, text: &[u8], wanted: &[Result<usize, Failed>], left: &[u8]) -> bool {
-    match faulty_source(alloc, text, 4) {
-        Ok(source) => {
-            let mut source = source;
-            gives(&mut source, wanted, left)
-        }
-        Err(_) => false,
-    }
+    let Ok(mut source) = faulty_source(alloc, text, 4) else {
+        return false;
+    };
+    gives(&mut source, wanted, left)
 }
 
 // Eleven bytes by at most four, the second call failing.
@@ -62,17 +59,11 @@ fn read_faultily(alloc: Global, text: &[u8], most: usize) -> Result<Vec<u8>, Rea
 }
 
 fn is_read(read: Result<Vec<u8>, ReadRefusal>, want: &[u8]) -> bool {
-    match read {
-        Ok(bytes) => bytes.as_slice() == want,
-        Err(_) => false,
-    }
+    read.is_ok_and(|bytes| bytes.as_slice() == want)
 }
 
 fn is_refused(read: Result<Vec<u8>, ReadRefusal>, want: ReadRefusal) -> bool {
-    match read {
-        Ok(_) => false,
-        Err(refusal) => refusal == want,
-    }
+    read.is_err_and(|refusal| refusal == want)
 }
 
 #[test]
@@ -96,25 +87,15 @@ fn writes<K: Sink>(sink: &mut K, text: &[u8]) -> bool {
     write_all(sink, text).is_ok()
 }
 
-fn is_held(held: Option<&[u8]>, want: &[u8]) -> bool {
-    match held {
-        Some(held) => held == want,
-        None => false,
-    }
-}
-
 // Whether a text isn't written by fours where the third call fails, and this is held then.
 fn holds_front(alloc: Global, text: &[u8], front: &[u8]) -> bool {
     let Ok(fails) = Vec::from_slice(alloc, &[3]) else {
         return false;
     };
-    match MemSink::new(alloc, 16, 4, fails) {
-        Ok(sink) => {
-            let mut sink = sink;
-            !writes(&mut sink, text) && is_held(sink.held(), front)
-        }
-        Err(_) => false,
-    }
+    let Ok(mut sink) = MemSink::new(alloc, 16, 4, fails) else {
+        return false;
+    };
+    !writes(&mut sink, text) && sink.held() == Some(front)
 }
 
 // The third call fails, so a prefix is held.
@@ -125,16 +106,13 @@ fn a_faulty_sink_holds_a_prefix(rt: HostRuntime) {
 
 // Whether a sink with room for a text holds it, and nothing once there is more.
 fn holds_no_more(alloc: Global, text: &[u8], more: &[u8]) -> bool {
-    match QuietSink::new(alloc, text.len(), 4) {
-        Ok(sink) => {
-            let mut sink = sink;
-            writes(&mut sink, text)
-                && is_held(sink.held(), text)
-                && writes(&mut sink, more)
-                && sink.held().is_none()
-        }
-        Err(_) => false,
-    }
+    let Ok(mut sink) = QuietSink::new(alloc, text.len(), 4) else {
+        return false;
+    };
+    writes(&mut sink, text)
+        && sink.held() == Some(text)
+        && writes(&mut sink, more)
+        && sink.held().is_none()
 }
 
 // A sink with too little room tells nothing.

@@ -1,4 +1,4 @@
-//! A master file with entries of every form, and the places of tokens. A proof computes with a text that it sees, so texts are passed
+//! A master file with entries of every form, and where tokens lie. A proof computes with a text that it sees, so texts are passed
 //! to functions.
 ghost use Rattle.std.specs.Prelude.{◌≤◌, length};
 ghost use Rattle.zone_model.specs.Records.{item_limit};
@@ -21,17 +21,15 @@ struct Due {
 
 // Whether an item has such an RRset.
 fn has_set(alloc: Global, item: &[u8], due: Due) -> bool {
-    let labels = match Name::from_wire(item) {
-        Some(owner) => owner.labels(),
-        None => return false,
+    let Some(owner) = Name::from_wire(item) else {
+        return false;
     };
-    match Entry::decode(alloc, item) {
-        Ok(entry) => match entry.find_set(due.rtype) {
-            Some(set) => labels == due.labels && set.ttl() == due.ttl && set.len() == due.records,
-            None => false,
-        },
-        Err(_) => false,
-    }
+    let Ok(entry) = Entry::decode(alloc, item) else {
+        return false;
+    };
+    entry.find_set(due.rtype).is_some_and(|set| {
+        owner.labels() == due.labels && set.ttl() == due.ttl && set.len() == due.records
+    })
 }
 
 // Whether the next item of a zone has such an RRset.
@@ -113,7 +111,7 @@ fn reads_entries_of_every_form(rt: HostRuntime) {
 /// How many tokens, where the next line begins and its number, and whether there is a parenthesis and the first line begins blank.
 type Places = (usize, u32, u32, bool, bool);
 
-// The entry at a place, in a line.
+// The entry at a byte, in a line.
 fn entry_at(alloc: Global, text: &[u8], from: u32, line: u32) -> Option<Places> {
     if text.len() > 100 || from as usize > text.len() || line > 100 {
         return None;
@@ -141,7 +139,7 @@ fn is_second_token(alloc: Global, text: &[u8], token: &[u8]) -> bool {
     }
 }
 
-// The line at a place alone: how many tokens, where the next line begins, and whether there is a parenthesis.
+// The line at a byte alone: how many tokens, where the next line begins, and whether there is a parenthesis.
 fn line_at(alloc: Global, text: &[u8], from: u32) -> Option<(usize, u32, bool)> {
     if text.len() > 100 || from as usize >= text.len() {
         return None;

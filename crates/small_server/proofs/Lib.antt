@@ -1,0 +1,5 @@
+mod ItemLemmas
+mod PassLaws
+mod ShowLaws
+mod WriteLaws
+mod OpeningLaws
