@@ -65,7 +65,11 @@ pub fn name_word(bytes: &[u8], origin: &Name, token: Token) -> Option<Name>
     requires { IsPlaced bytes.now token }
     ensures { result ≡ name_word origin.now (token_view bytes.now token) }
 {
-    Name::read(token.plain(bytes)?, origin).ok()
+    let text = token.plain(bytes)?;
+    match Name::read(text, origin) {
+        Ok(name) => Some(name),
+        Err(_) => None,
+    }
 }
 
 /// The words behind an owner up to the type.
