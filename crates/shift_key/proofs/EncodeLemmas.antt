@@ -88,6 +88,11 @@ pub octet_fits : (old places label : List ℕ) (start at i : ℕ) → start + le
 octet_fits old places label start at i room f lt =
     omega (arith, some_positions (get_or label i 0), part_fits label i lt, f.len_is, length-append (take start old) (flat_map octet_positions (take i label)), length-take start old, length-append (flat_map octet_positions label) (0 ∷ []))
 
+-- a name without labels takes no position
+pub none_put : (bytes places : List ℕ) (labels : Name) (at : ℕ) → Spells bytes labels → get_or bytes 0 0 ≡ 0 → at ≡ 0 → IsFront (key_of labels) at places
+none_put bytes places [] at h root z = record { len_is = z; front = ap (λ (n : ℕ). take n places) z }
+none_put bytes places (l ∷ ls) at h root z = let first : get_or bytes 0 0 ≡ length l = ap (λ (b : List ℕ). get_or b 0 0) h.same in let some = h.each.0.some in absurd (omega arith)
+
 -- the label's end
 pub label_end : (start places label : List ℕ) (at i : ℕ) → IsFront (start ++ flat_map octet_positions (take i label)) at places → length label ≤ i → at < length places → IsFront (start ++ label_positions label) (at + 1) (set places at 0)
 label_end start places label at i f past lt =

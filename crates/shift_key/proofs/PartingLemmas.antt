@@ -14,6 +14,12 @@ use Rattle.dns_name.proofs.WireLemmas.{name_rest}
 use Rattle.shift_key.proofs.DifferenceLemmas.{never_empty, Apart, apart, octets-split}
 use Rattle.shift_key.proofs.PositionLemmas.{one_position, two_positions}
 
+-- names without labels
+pub none_left : (x y : Name) → length x ≡ 0 → length y ≡ 0 → (x ≡ y) × (0 ≡ length (key_of x))
+none_left [] [] e f = (refl, refl)
+none_left [] (l ∷ ls) e f = absurd (omega arith)
+none_left (l ∷ ls) y e f = absurd (omega arith)
+
 -- ---- what comes behind
 
 pub part_left : (a b more : List ℕ) (p : Parting) → PartAt a b p → p.place < length a → PartAt (a ++ more) b p

@@ -18,7 +18,12 @@ pub fn put_labels(places: &mut [u8; 512], bytes: &[u8]) -> usize
     match first_label(bytes) {
         None => 0,
         Some((label, rest)) => {
-            let at = put_labels(places, rest);
+            // The root takes no position.
+            let at = if rest[0] > 0 {
+                put_labels(places, rest)
+            } else {
+                0
+            };
             put_label(places, at, label)
         }
     }

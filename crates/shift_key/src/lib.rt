@@ -11,10 +11,13 @@ mod difference;
 mod encode;
 pub mod laws;
 mod names;
+mod spelled;
 mod table;
 
 use crate::difference::compare_labels;
 use crate::encode::put_labels;
+use crate::names::label_count;
+use crate::spelled::SpelledName;
 pub use difference::Difference;
 use dns_name::Name;
 pub use names::{Parting, parting_of};
@@ -29,7 +32,7 @@ const MOST_ITEM_OCTETS: usize = 65535;
 /// compared by its octets.
 #[derive(Drop)]
 pub struct Key {
-    name: Name,
+    name: SpelledName,
     /// The positions, in front, and a 0 behind them. What lies further on means nothing.
     places: [u8; 512],
     /// How many positions there are.
@@ -54,7 +57,7 @@ impl Key {
         ensures { result ≡ [] }
     {
         Key {
-            name: Name::root(),
+            name: SpelledName::root(),
             places: [0; 512],
             len: 0,
         }
@@ -76,14 +79,14 @@ impl Key {
         let len = put_labels(&mut self.places, name.wire());
         self.places[len] = 0;
         self.len = len as u16;
-        self.name = *name;
+        self.name.set(name);
     }
 
     /// The name that has this key.
     pub fn to_name(&self) -> Name
         ensures { key_of result ≡ self.now }
     {
-        self.name
+        Name::from_wire(self.name.wire()).unwrap()
     }
 
     /// The wire form of the name that has this key.
@@ -99,7 +102,7 @@ impl Key {
         ensures key { IsKey self.now }
         ensures labels { (name : Labels) → IsName name → self.now ≡ key_of name → result ≡ length name }
     {
-        self.name.labels()
+        label_count(self.name.wire()) as u8
     }
 
     /// How many positions it has.
@@ -152,10 +155,6 @@ impl Key {
         ensures key { IsKey self.now }
         ensures difference { (other : Labels) → IsName other → BeginsWith octets.now other → IsDifference self.now (key_of other) result }
     {
-        // Most names that are compared are one, which is seen many octets at a time.
-        if octets.starts_with(self.name.wire()) {
-            return None;
-        }
         match compare_labels(&self.places[..self.len as usize], octets) {
             Err(difference) => Some(difference),
             Ok(end) => {

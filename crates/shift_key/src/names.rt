@@ -30,7 +30,7 @@ pub fn parting_of(first: &[u8], second: &[u8]) -> Option<Parting>
 }
 
 /// How many labels the name has that the octets begin with.
-fn label_count(octets: &[u8]) -> usize
+pub fn label_count(octets: &[u8]) -> usize
     requires { (name : Labels) × IsName name × BeginsWith octets.now name }
     ensures { (name : Labels) → IsName name → BeginsWith octets.now name → result ≡ length name }
 {
@@ -77,6 +77,9 @@ fn part_names(first: &[u8], labels: usize, second: &[u8], others: usize) -> Resu
     }
     let (label, rest) = split_label(first);
     let (other, other_rest) = split_label(second);
+    if labels == 1 {
+        return part_labels(0, label, other);
+    }
     match part_names(rest, labels - 1, other_rest, others - 1) {
         Err(parting) => Err(parting),
         Ok(end) => part_labels(end, label, other),

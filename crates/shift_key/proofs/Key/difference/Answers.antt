@@ -1,10 +1,6 @@
-use Rattle.std.proofs.Common.{ℕ, List, length, drop, ◌++◌, subst, ◌∙◌, ap, sym, arith}
-use Rattle.std.proofs.lemmas.Bool.Decides.{Decides-eqb}
-use Rattle.std.proofs.lemmas.Slice.Eq.{starts_is}
-use Rattle.zone_model.specs.Names.{BeginsWith}
+use Rattle.std.proofs.Common.{ℕ, List, subst, ◌∙◌, arith}
 use Rattle.zone_model.specs.Keys.{key_of}
 use Rattle.zone_model.proofs.KeyLaws.{length-key_of}
-use Rattle.dns_name.proofs.ScanLemmas.{begins_once}
 use Rattle.shift_key.specs.Differences.{Agrees}
 use Rattle.shift_key.proofs.DifferenceLemmas.{equal_at_end, longer_at_end}
 use Rattle.shift_key.proofs.Key.difference.Goals as goal
@@ -21,11 +17,3 @@ pub returns-else-end-self-clause-difference : goal.returns-else-end-self-clause-
 returns-else-end-self-clause-difference c other is begins =
     let agrees = subst (λ (l : List ℕ). Agrees l (key_of other) c.in-Ok.end) (c.self.invariant.laid.front ∙ c.self.view_is) (c.in-Ok.ensures other is begins) in
     longer_at_end c.self.inside.name other c.args.self.now c.self.inside.len c.in-Ok.end c.self.invariant.name is c.self.view_is c.self.invariant.laid.len_is c.if-end-self.false agrees
-
-pub returns-then-starts_with-clause-difference : goal.returns-then-starts_with-clause-difference
-returns-then-starts_with-clause-difference c other is begins =
-    let octets = c.args.octets.now in
-    let rest = drop (length c.wire.result.now) octets in
-    let front = (starts_is Decides-eqb octets c.wire.result.now c.starts_with.result c.starts_with.ensures.value).0 c.if-starts_with.true in
-    let own : BeginsWith octets c.self.inside.name = (rest, front ∙ ap (λ (l : List ℕ). l ++ rest) c.wire.ensures.wire) in
-    sym c.self.view_is ∙ ap key_of (begins_once octets c.self.inside.name other c.self.invariant.name.each is.each own begins)

@@ -2,7 +2,7 @@ use Rattle.std.proofs.Common.{◌+◌, ◌-◌, ◌<◌, ℕ, length, ap, sym, s
 use Rattle.zone_model.specs.Keys.{key_of}
 use Rattle.zone_model.proofs.KeyLaws.{length-key_of}
 use Rattle.shift_key.specs.Partings.{NamesDiffer}
-use Rattle.shift_key.proofs.PartingLemmas.{at_place, first_grows, second_grows, both_grow, first_under, second_under, labels_compared, key_room}
+use Rattle.shift_key.proofs.PartingLemmas.{at_place, first_grows, second_grows, both_grow, first_under, second_under, labels_compared, key_room, none_left}
 use Rattle.shift_key.proofs.names.+part_names.Goals as goal
 
 pub bounds-label-0 : goal.bounds-label-0
@@ -90,6 +90,30 @@ part_labels-requires-clause-second t c =
 
 pub part_labels-requires-clause-room : goal.part_labels-requires-clause-room
 part_labels-requires-clause-room t c =
+    let le = c.if-labels-others.false in let ge = c.if-others-labels.false in let one = c.if-labels-eq1.true in
+    let s = c.split_label-2.ensures c.requires.first.0 c.args.labels c.requires.first.1 (omega arith) in
+    let u = c.split_label-3.ensures c.requires.second.0 c.args.others c.requires.second.1 (omega arith) in
+    let n = none_left s.others u.others (let long = s.behind.long in omega arith) (let long = u.behind.long in omega arith) in
+    key_room c.requires.first.0 s.others c.split_label-2.result.0.now 0 c.requires.first.1.is s.is n.1
+
+pub returns-then-labels-eq1 : goal.returns-then-labels-eq1
+returns-then-labels-eq1 t c a b ha hb =
+    let le = c.if-labels-others.false in let ge = c.if-others-labels.false in let one = c.if-labels-eq1.true in
+    let s = c.split_label-2.ensures a c.args.labels ha (omega arith) in
+    let u = c.split_label-3.ensures b c.args.others hb (omega arith) in
+    let n = none_left s.others u.others (let long = s.behind.long in omega arith) (let long = u.behind.long in omega arith) in
+    labels_compared a b s.others u.others c.split_label-2.result.0.now c.split_label-3.result.0.now c.part_labels.result s.is u.is n.0 (c.part_labels.ensures (key_of s.others) n.1)
+
+pub part_labels-requires-in-Ok-part_names-2-clause-first : goal.part_labels-requires-in-Ok-part_names-2-clause-first
+part_labels-requires-in-Ok-part_names-2-clause-first t c = let some = c.if-labels-eq0.false in (c.split_label-2.ensures c.requires.first.0 c.args.labels c.requires.first.1 (omega arith)).is_label
+
+pub part_labels-requires-in-Ok-part_names-2-clause-second : goal.part_labels-requires-in-Ok-part_names-2-clause-second
+part_labels-requires-in-Ok-part_names-2-clause-second t c =
+    let some = c.if-labels-eq0.false in let le = c.if-labels-others.false in let ge = c.if-others-labels.false in
+    (c.split_label-3.ensures c.requires.second.0 c.args.others c.requires.second.1 (omega arith)).is_label
+
+pub part_labels-requires-in-Ok-part_names-2-clause-room : goal.part_labels-requires-in-Ok-part_names-2-clause-room
+part_labels-requires-in-Ok-part_names-2-clause-room t c =
     let some = c.if-labels-eq0.false in let le = c.if-labels-others.false in let ge = c.if-others-labels.false in
     let s = c.split_label-2.ensures c.requires.first.0 c.args.labels c.requires.first.1 (omega arith) in
     let u = c.split_label-3.ensures c.requires.second.0 c.args.others c.requires.second.1 (omega arith) in
@@ -109,4 +133,4 @@ returns-in-Ok-part_names-2 t c a b ha hb =
     let s = c.split_label-2.ensures a c.args.labels ha (omega arith) in
     let u = c.split_label-3.ensures b c.args.others hb (omega arith) in
     let r = c.in-Ok-part_names-2.ensures s.others u.others s.behind u.behind in
-    labels_compared a b s.others u.others c.split_label-2.result.0.now c.split_label-3.result.0.now c.part_labels.result s.is u.is r.0 (c.part_labels.ensures (key_of s.others) r.1)
+    labels_compared a b s.others u.others c.split_label-2.result.0.now c.split_label-3.result.0.now c.part_labels-in-Ok-part_names-2.result s.is u.is r.0 (c.part_labels-in-Ok-part_names-2.ensures (key_of s.others) r.1)
