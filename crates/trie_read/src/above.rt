@@ -27,7 +27,8 @@ impl Path {
     {
         for level in 0..self.depth {
             let step = self.steps[level as usize];
-            if step.index > 0 && ends_at(key, step.offset) {
+            // Few branches lie where a label ends.
+            if ends_at(key, step.offset) && step.index > 0 {
                 if let Some(leaf) = self.ending(cells, root, level) {
                     let labels = labels_to(key, step.offset);
                     above.push(Ancestor { leaf, labels });

@@ -49,6 +49,11 @@ pub fn difference_at<C: CellRead>(cells: &mut C, leaf: Leaf, key: &Key) -> Optio
     ensures key { IsKey key.now }
     ensures difference { (e : Entry) → IsLeafOf (C.has cells.old) e leaf → Leads e.key e.item → IsDifference key.now e.key result }
 {
+    // Most names that are compared are one, which is seen where its octets lie.
+    if is_of(cells, leaf, key) {
+        let _key = key.len(); // for the proof
+        return None;
+    }
     let mut front = [0; 256];
     let len = read_front(cells, leaf, &mut front);
     key.difference(&front[..len])

@@ -196,10 +196,11 @@ fn nearest(branch: Branch, key: &Key) -> u32
     ensures key { IsKey key.now }
 {
     let position = position_at(key, branch.offset);
-    match branch.twig_at(position) {
-        Some(index) => index,
-        None => branch.twig_index(position).saturating_sub(1),
+    let before = branch.twig_index(position);
+    if branch.has_twig(position) {
+        return before;
     }
+    before.saturating_sub(1)
 }
 
 /// The position at a place, 0 past the key's end.

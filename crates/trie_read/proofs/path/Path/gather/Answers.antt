@@ -3,7 +3,7 @@ use Rattle.trie_read.specs.Walks.{HasNode, Guided}
 use Rattle.trie_model.proofs.NameLaws.{name_key}
 use Rattle.trie_read.proofs.PathLaws.{depth_few, at_depth}
 use Rattle.trie_read.proofs.AboveLaws.{SoFar, EndingAt, passes_node, gathered_start, gathered_first, gathered_within, gathered_none, gathered_one, gathered_room}
-use Rattle.trie_read.proofs.path.Path.gather.Goals.{then-step-gt0+then-ends_at+in-Some, then-step-gt0+then-ends_at+in_default, else-step-gt0, else-step-gt0-via-then-step-gt0+else-ends_at, else-step-gt0-via-else-step-gt0}
+use Rattle.trie_read.proofs.path.Path.gather.Goals.{then-ends_at+then-step-gt0+in-Some, then-ends_at+then-step-gt0+in_default, else-ends_at, else-ends_at-via-else-ends_at, else-ends_at-via-then-ends_at+else-step-gt0}
 use Rattle.trie_read.proofs.path.Path.gather.Goals as goal
 
 pub loop-level-init : goal.loop-level-init
@@ -30,20 +30,20 @@ push-requires g c =
 
 pub loop-level-preserved : goal.loop-level-preserved
 loop-level-preserved g c = record {
-  same = elim c.if-step-gt0.branch [
-    | then-step-gt0+then-ends_at+in-Some w ↦ w.cells-is ∙ w.ending.ensures.same ∙ c.loop-level.invariant.same
-    | then-step-gt0+then-ends_at+in_default w ↦ w.cells-is ∙ w.ending.ensures.same ∙ c.loop-level.invariant.same
-    | else-step-gt0 w ↦ w.cells-is ∙ c.loop-level.invariant.same
+  same = elim c.if-ends_at.branch [
+    | then-ends_at+then-step-gt0+in-Some w ↦ w.cells-is ∙ w.ending.ensures.same ∙ c.loop-level.invariant.same
+    | then-ends_at+then-step-gt0+in_default w ↦ w.cells-is ∙ w.ending.ensures.same ∙ c.loop-level.invariant.same
+    | else-ends_at w ↦ w.cells-is ∙ c.loop-level.invariant.same
   ];
-  above = λ before p. elim c.if-step-gt0.branch [
-    | then-step-gt0+then-ends_at+in-Some w ↦ subst (SoFar (g.C.CellRead.has c.args.cells.now) c.args.key.now c.args.self.now p.whole p.met (c.loop-level.level + 1)) (sym (w.above-is ∙ w.push.ensures))
+  above = λ before p. elim c.if-ends_at.branch [
+    | then-ends_at+then-step-gt0+in-Some w ↦ subst (SoFar (g.C.CellRead.has c.args.cells.now) c.args.key.now c.args.self.now p.whole p.met (c.loop-level.level + 1)) (sym (w.above-is ∙ w.push.ensures))
         (gathered_one (g.C.CellRead.has c.args.cells.now) c.args.key.now c.args.self.now c.args.root before p c.loop-level.level c.loop-level.above (record { twigs = 0; offset = 0; index = 0; count = 0 }) c.loop-level-test.true (c.loop-level.invariant.above before p)
-        w.in-Some.leaf w.labels_to-labels.result (name_key c.args.key.now w.ends_at.ensures.key) w.if-step-gt0.true (w.if-ends_at.ensures.ends.0 refl) (subst (λ s. EndingAt (g.C.CellRead.has s) c.args.self.now c.args.root c.loop-level.level (Some w.in-Some.leaf)) c.loop-level.invariant.same w.in-Some.ensures.ending) w.labels_to-labels.ensures)
-    | then-step-gt0+then-ends_at+in_default w ↦ subst (SoFar (g.C.CellRead.has c.args.cells.now) c.args.key.now c.args.self.now p.whole p.met (c.loop-level.level + 1)) (sym w.above-is)
-        (gathered_none (g.C.CellRead.has c.args.cells.now) c.args.key.now c.args.self.now c.args.root before p c.loop-level.level c.loop-level.above (record { twigs = 0; offset = 0; index = 0; count = 0 }) c.loop-level-test.true (c.loop-level.invariant.above before p) (name_key c.args.key.now w.ends_at.ensures.key) (subst (λ s. EndingAt (g.C.CellRead.has s) c.args.self.now c.args.root c.loop-level.level None) c.loop-level.invariant.same w.in_default.ensures.ending))
-    | else-step-gt0 w ↦ subst (SoFar (g.C.CellRead.has c.args.cells.now) c.args.key.now c.args.self.now p.whole p.met (c.loop-level.level + 1)) (sym w.above-is) (elim w.else-step-gt0.branch [
-      | else-step-gt0-via-then-step-gt0+else-ends_at v ↦ gathered_within (g.C.CellRead.has c.args.cells.now) c.args.key.now c.args.self.now c.args.root before p c.loop-level.level c.loop-level.above (record { twigs = 0; offset = 0; index = 0; count = 0 }) c.loop-level-test.true (c.loop-level.invariant.above before p) (name_key c.args.key.now v.ends_at.ensures.key) (λ ends. true≢false (sym (v.ends_at.ensures.ends.1 ends) ∙ v.if-ends_at.false))
-      | else-step-gt0-via-else-step-gt0 v ↦ gathered_first (g.C.CellRead.has c.args.cells.now) c.args.key.now c.args.self.now c.args.root before p c.loop-level.level c.loop-level.above (record { twigs = 0; offset = 0; index = 0; count = 0 }) c.loop-level-test.true (c.loop-level.invariant.above before p) (λ some. let l = v.if-step-gt0.false in omega arith)
+        w.in-Some.leaf w.labels_to-labels.result (name_key c.args.key.now c.ends_at.ensures.key) w.if-step-gt0.true (w.if-ends_at.ensures.ends.0 refl) (subst (λ s. EndingAt (g.C.CellRead.has s) c.args.self.now c.args.root c.loop-level.level (Some w.in-Some.leaf)) c.loop-level.invariant.same w.in-Some.ensures.ending) w.labels_to-labels.ensures)
+    | then-ends_at+then-step-gt0+in_default w ↦ subst (SoFar (g.C.CellRead.has c.args.cells.now) c.args.key.now c.args.self.now p.whole p.met (c.loop-level.level + 1)) (sym w.above-is)
+        (gathered_none (g.C.CellRead.has c.args.cells.now) c.args.key.now c.args.self.now c.args.root before p c.loop-level.level c.loop-level.above (record { twigs = 0; offset = 0; index = 0; count = 0 }) c.loop-level-test.true (c.loop-level.invariant.above before p) (name_key c.args.key.now c.ends_at.ensures.key) (subst (λ s. EndingAt (g.C.CellRead.has s) c.args.self.now c.args.root c.loop-level.level None) c.loop-level.invariant.same w.in_default.ensures.ending))
+    | else-ends_at w ↦ subst (SoFar (g.C.CellRead.has c.args.cells.now) c.args.key.now c.args.self.now p.whole p.met (c.loop-level.level + 1)) (sym w.above-is) (elim w.else-ends_at.branch [
+      | else-ends_at-via-else-ends_at v ↦ gathered_within (g.C.CellRead.has c.args.cells.now) c.args.key.now c.args.self.now c.args.root before p c.loop-level.level c.loop-level.above (record { twigs = 0; offset = 0; index = 0; count = 0 }) c.loop-level-test.true (c.loop-level.invariant.above before p) (name_key c.args.key.now c.ends_at.ensures.key) (λ ends. true≢false (sym (c.ends_at.ensures.ends.1 ends) ∙ v.if-ends_at.false))
+      | else-ends_at-via-then-ends_at+else-step-gt0 v ↦ gathered_first (g.C.CellRead.has c.args.cells.now) c.args.key.now c.args.self.now c.args.root before p c.loop-level.level c.loop-level.above (record { twigs = 0; offset = 0; index = 0; count = 0 }) c.loop-level-test.true (c.loop-level.invariant.above before p) (λ some. let l = v.if-step-gt0.false in omega arith)
     ])
   ];
 }
