@@ -64,7 +64,8 @@ fn pair_with<C: CellWrite, U: Space>(
 ) -> Result<Change, Full>
     requires asks { PairAsked C.has U.account cells.old usage.old key.now first node item.now }
     requires ready { Ready C.kept C.given U.account cells.old usage.old }
-    ensures with { IfOk result (λ change. (octets : List ℕ) (end : Tree) → WithAsks C.has U.account cells.old usage.old key.now octets first node item.now end → Deep first.place end
+    ensures with { IfOk result (λ change. (octets : List ℕ) (end : Tree) → WithAsks C.has U.account cells.old usage.old key.now octets first node item.now end
+        → Deep first.place end
         → IsWith C.has cells.new change first.place (record { key = key.now; item = octets }) end) }
     ensures handed { IfOk result (λ change. Handed (U.account usage.old) (U.account usage.new) change.new_twigs.at change.new_twigs.n) }
     ensures item { IfOk result (λ change. change.new_item ≡ item.now) }
@@ -98,7 +99,8 @@ fn join_twigs<C: CellWrite, U: Space>(
 ) -> Result<Change, Full>
     requires asks { JoinAsked C.has U.account cells.old usage.old key.now first branch item.now }
     requires ready { Ready C.kept C.given U.account cells.old usage.old }
-    ensures with { IfOk result (λ change. (node : Cell) (octets : List ℕ) (end : Tree) → WithAsks C.has U.account cells.old usage.old key.now octets first node item.now end → IsBranchTop end branch
+    ensures with { IfOk result (λ change. (node : Cell) (octets : List ℕ) (end : Tree)
+        → WithAsks C.has U.account cells.old usage.old key.now octets first node item.now end → IsBranchTop end branch
         → IsWith C.has cells.new change first.place (record { key = key.now; item = octets }) end) }
     ensures handed { IfOk result (λ change. Handed (U.account usage.old) (U.account usage.new) change.new_twigs.at change.new_twigs.n) }
     ensures item { IfOk result (λ change. change.new_item ≡ item.now) }

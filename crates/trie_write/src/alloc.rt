@@ -124,7 +124,8 @@ pub fn copy_apart<C: CellWrite, U: Space>(
     ensures handed { IfOk result (λ to. Handed (U.account usage.old) (U.account usage.new) to (from.n - skip + gap)) }
     ensures blank { IfOk result (λ to. MayWrite C.kept C.given cells.new to (from.n - skip + gap)) }
     ensures before { IfOk result (λ to. (i : ℕ) (c : Cell) → i < index → C.has cells.old (from.at + i) c → C.has cells.new (to + i) c) }
-    ensures after { IfOk result (λ to. (i : ℕ) (c : Cell) → index + skip + i < from.n → C.has cells.old (from.at + (index + skip + i)) c → C.has cells.new (to + (index + gap + i)) c) }
+    ensures after { IfOk result (λ to. (i : ℕ) (c : Cell) → index + skip + i < from.n
+        → C.has cells.old (from.at + (index + skip + i)) c → C.has cells.new (to + (index + gap + i)) c) }
     ensures spends { (U.account usage.new).spent ≤ (U.account usage.old).spent + (from.n - skip + gap) }
     ensures refused { IfErr result (λ f. Refused C.has U.account U.lacks cells.old usage.old cells.new usage.new f) }
     ensures asked { IfErr result (λ f. f.needed ≡ from.n - skip + gap) }

@@ -91,7 +91,8 @@ fn build_leaf<C: CellWrite, U: Space>(
     item: &Item,
 ) -> Result<Cell, Full>
     requires { Ready C.kept C.given U.account cells.old usage.old }
-    ensures built { IfOk result (λ cell. (at : Extents) × IsTree 0 (leaf (entry_of item.now) at) × Built (C.has cells.new) (U.account usage.old) (U.account usage.new) (leaf (entry_of item.now) at) cell) }
+    ensures built { IfOk result (λ cell. (at : Extents) × IsTree 0 (leaf (entry_of item.now) at)
+        × Built (C.has cells.new) (U.account usage.old) (U.account usage.new) (leaf (entry_of item.now) at) cell) }
     ensures spends { (U.account usage.new).spent < (U.account usage.old).spent + cells_of (entry_of item.now ∷ []) }
     ensures full { IfErr result (λ f. U.lacks usage.new f) }
     ensures frame { Frame C.has C.kept C.given U.account cells.old usage.old cells.new usage.new }
@@ -113,7 +114,8 @@ fn build_front<'a, C: CellWrite, U: Space>(
     requires rising { Rises (entries_of_items items.now) }
     requires low { low ≤ 504 }
     requires ready { Ready C.kept C.given U.account cells.old usage.old }
-    ensures built { IfOk result (λ part. BuiltFront (C.has cells.new) (U.account usage.old) (U.account usage.new) low (entries_of_items items.now) (entries_of_items part.rest.now) part.next part.cell) }
+    ensures built { IfOk result (λ part. BuiltFront (C.has cells.new) (U.account usage.old) (U.account usage.new) low
+        (entries_of_items items.now) (entries_of_items part.rest.now) part.next part.cell) }
     ensures shorter { IfOk result (λ part. length part.rest.now < length items.now) }
     ensures stopped { IfErr result (λ _. Stopped (U.account usage.old) (U.account usage.new) low (entries_of_items items.now)) }
     ensures full { IfErr result (λ f. U.lacks usage.new f) }
@@ -141,11 +143,12 @@ fn build_branch<'a, C: CellWrite, U: Space>(
     requires first { (base : Account) × (es : List Entry) × BuiltFront (C.has cells.old) base (U.account usage.old) (suc point.offset) es (entries_of_items first.rest.now) (Some point) first.cell }
     requires point { first.next ≡ Some point }
     requires ready { Ready C.kept C.given U.account cells.old usage.old }
-    ensures built { IfOk result (λ part. (base : Account) (es : List Entry) → BuiltFront (C.has cells.old) base (U.account usage.old) (suc point.offset) es (entries_of_items first.entry.rest.now) (Some point) first.entry.cell
+    ensures built { IfOk result (λ part. (base : Account) (es : List Entry)
+        → BuiltFront (C.has cells.old) base (U.account usage.old) (suc point.offset) es (entries_of_items first.entry.rest.now) (Some point) first.entry.cell
         → BuiltFront (C.has cells.new) base (U.account usage.new) point.offset es (entries_of_items part.rest.now) part.next part.cell) }
     ensures shorter { IfOk result (λ part. length part.rest.now < length first.entry.rest.now) }
-    ensures stopped { IfErr result (λ _. (base : Account) (es : List Entry) → BuiltFront (C.has cells.old) base (U.account usage.old) (suc point.offset) es (entries_of_items first.entry.rest.now) (Some point) first.entry.cell
-        → Stopped base (U.account usage.new) point.offset es) }
+    ensures stopped { IfErr result (λ _. (base : Account) (es : List Entry) → BuiltFront (C.has cells.old) base (U.account usage.old) (suc point.offset) es
+        (entries_of_items first.entry.rest.now) (Some point) first.entry.cell → Stopped base (U.account usage.new) point.offset es) }
     ensures full { IfErr result (λ f. U.lacks usage.new f) }
     ensures frame { Frame C.has C.kept C.given U.account cells.old usage.old cells.new usage.new }
     ensures ready { Ready C.kept C.given U.account cells.new usage.new }

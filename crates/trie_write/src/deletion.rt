@@ -107,15 +107,18 @@ pub fn delete<C: CellWrite, U: Space>(
         → (next : List Entry) × Deleted key.now version next × HasTrie C.has U.account cells.new usage.new new next) }
     ensures absent { (version : List Entry) → HasTrie C.has U.account cells.old usage.old root version → EachTells Leads version
         → (result ≡ Err ChangeRefusal.NotFound) ↔ ((x : Entry) → InList x version → x.key ≡ key.now → ⊥) }
-    ensures refused { IfErr result (λ _. (version : List Entry) → HasTrie C.has U.account cells.old usage.old root version → HasTrie C.has U.account cells.new usage.new root version) }
+    ensures refused { IfErr result (λ _. (version : List Entry) → HasTrie C.has U.account cells.old usage.old root version
+        → HasTrie C.has U.account cells.new usage.new root version) }
     ensures unchanged { IfErr result (λ _. Unchanged C.has U.account cells.old usage.old cells.new usage.new) }
     ensures outside { (q : ℕ) (c : Cell) → Beyond C.has U.account cells.old usage.old root q → C.has cells.old q c → C.has cells.new q c }
     ensures denied { result ≡ Err ChangeRefusal.NotFound → usage.new ≡ usage.old }
     ensures full { (f : _) → result ≡ Err (ChangeRefusal.Full f) → U.lacks usage.new f }
-    ensures asked { (f : _) → result ≡ Err (ChangeRefusal.Full f) → (branches : List ℕ) → BranchesOnPath C.has U.account cells.old usage.old root key.now branches
-        → Contains (delete_asks branches) f.needed }
-    ensures spends { (n : ℕ) → TwigsOnPath C.has U.account cells.old usage.old root key.now n → (U.account usage.new).spent ≤ (U.account usage.old).spent + (1 + n) }
-    ensures copies { (n : ℕ) → ToCopy C.has U.account cells.old usage.old root key.now n → (U.account usage.new).spent ≤ (U.account usage.old).spent + (46 + n) }
+    ensures asked { (f : _) → result ≡ Err (ChangeRefusal.Full f) → (branches : List ℕ)
+        → BranchesOnPath C.has U.account cells.old usage.old root key.now branches → Contains (delete_asks branches) f.needed }
+    ensures spends { (n : ℕ) → TwigsOnPath C.has U.account cells.old usage.old root key.now n
+        → (U.account usage.new).spent ≤ (U.account usage.old).spent + (1 + n) }
+    ensures copies { (n : ℕ) → ToCopy C.has U.account cells.old usage.old root key.now n
+        → (U.account usage.new).spent ≤ (U.account usage.old).spent + (46 + n) }
     ensures frame { Fenced C.has C.kept C.given U.account cells.old usage.old cells.new usage.new }
     ensures ready { Ready C.kept C.given U.account cells.new usage.new }
 {

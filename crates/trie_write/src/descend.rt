@@ -32,9 +32,11 @@ pub fn next_descent<C: CellRead>(
 ) -> Option<Descent>
     requires way { (low : ℕ) × HasWay (C.has cells.old) place low key.now node }
     ensures same { cells.new ≡ cells.old }
-    ensures on { IfSome result (λ descent. (low : ℕ) (way : List Fork) (end : Tree) → IsTop (C.has cells.old) low node (plug way end) → IsWay place key.now way end
+    ensures on { IfSome result (λ descent. (low : ℕ) (way : List Fork) (end : Tree)
+        → IsTop (C.has cells.old) low node (plug way end) → IsWay place key.now way end
         → IsDescent place descent way end) }
-    ensures none { result ≡ None → (low : ℕ) (way : List Fork) (end : Tree) → IsTop (C.has cells.old) low node (plug way end) → IsWay place key.now way end → way ≡ [] }
+    ensures none { result ≡ None → (low : ℕ) (way : List Fork) (end : Tree)
+        → IsTop (C.has cells.old) low node (plug way end) → IsWay place key.now way end → way ≡ [] }
 {
     let branch = branch_above(node, place)?;
     let index = key_twig(branch, key);
@@ -58,7 +60,8 @@ pub fn last_descent<C: CellRead>(
     ensures same { cells.new ≡ cells.old }
     ensures last { IfSome result (λ descent. (way : List Fork) (end : Tree) → IsTop (C.has cells.old) low node (plug way end) → IsWay u16.MAX key.now way end
         → IsLastDescent descent way end) }
-    ensures none { result ≡ None → (way : List Fork) (end : Tree) → IsTop (C.has cells.old) low node (plug way end) → IsWay u16.MAX key.now way end → way ≡ [] }
+    ensures none { result ≡ None → (way : List Fork) (end : Tree)
+        → IsTop (C.has cells.old) low node (plug way end) → IsWay u16.MAX key.now way end → way ≡ [] }
 {
     let descent = next_descent(cells, key, u16::MAX, node)?;
     trace.descent(key.at(descent.branch.offset));
@@ -85,14 +88,8 @@ pub fn end_node<C: CellRead>(
         None => node,
         Some(descent) => {
             trace.descent(key.at(descent.branch.offset));
-            end_node(
-                cells,
-                key,
-                place,
-                descent.branch.offset + 1,
-                descent.next,
-                trace,
-            )
+            let beyond = descent.branch.offset + 1;
+            end_node(cells, key, place, beyond, descent.next, trace)
         }
     }
 }

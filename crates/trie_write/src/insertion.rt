@@ -108,7 +108,8 @@ fn insert_further<C: CellWrite, U: Space>(
     requires missing { KeyIsMissing C.has U.account cells.old usage.old root key.now first }
     requires ready { Ready C.kept C.given U.account cells.old usage.old }
     ensures stands { IfOk result (λ new. (t : Tree) (version : List Entry) → LacksKey C.has U.account cells.old usage.old root key.now first t version
-        → (next : List Entry) × Inserted (record { key = key.now; item = item.now }) version next × HasTrie C.has U.account cells.new usage.new (Some new) next) }
+        → (next : List Entry) × Inserted (record { key = key.now; item = item.now }) version next
+        × HasTrie C.has U.account cells.new usage.new (Some new) next) }
     ensures outside { (t : Tree) (version : List Entry) → LacksKey C.has U.account cells.old usage.old root key.now first t version
         → (q : ℕ) (c : Cell) → (U.account usage.old).used q ≡ true → IsOutside root t q → C.has cells.old q c → C.has cells.new q c }
     ensures spends { (t : Tree) (version : List Entry) → LacksKey C.has U.account cells.old usage.old root key.now first t version
@@ -152,15 +153,18 @@ pub fn insert<C: CellWrite, U: Space>(
         → (next : List Entry) × Inserted (record { key = key.now; item = item.now }) version next × HasTrie C.has U.account cells.new usage.new new next) }
     ensures exists { (version : List Entry) → HasTrie C.has U.account cells.old usage.old root version → EachTells Leads version
         → (result ≡ Err InsertRefusal.Exists) ↔ ((x : Entry) × InList x version × (x.key ≡ key.now)) }
-    ensures refused { IfErr result (λ _. (version : List Entry) → HasTrie C.has U.account cells.old usage.old root version → HasTrie C.has U.account cells.new usage.new root version) }
+    ensures refused { IfErr result (λ _. (version : List Entry) → HasTrie C.has U.account cells.old usage.old root version
+        → HasTrie C.has U.account cells.new usage.new root version) }
     ensures unchanged { IfErr result (λ _. Unchanged C.has U.account cells.old usage.old cells.new usage.new) }
     ensures outside { (q : ℕ) (c : Cell) → Beyond C.has U.account cells.old usage.old root q → C.has cells.old q c → C.has cells.new q c }
     ensures denied { result ≡ Err InsertRefusal.Exists → usage.new ≡ usage.old }
     ensures full { (f : _) → result ≡ Err (InsertRefusal.Full f) → U.lacks usage.new f }
-    ensures asked { (f : _) → result ≡ Err (InsertRefusal.Full f) → (branches : List ℕ) → BranchesOnPath C.has U.account cells.old usage.old root key.now branches
-        → Contains (insert_asks item.now branches) f.needed }
-    ensures spends { (n : ℕ) → TwigsOnPath C.has U.account cells.old usage.old root key.now n → (U.account usage.new).spent ≤ (U.account usage.old).spent + (3 + cells_in item.now + n) }
-    ensures copies { (n : ℕ) → ToCopy C.has U.account cells.old usage.old root key.now n → (U.account usage.new).spent ≤ (U.account usage.old).spent + (47 + cells_in item.now + n) }
+    ensures asked { (f : _) → result ≡ Err (InsertRefusal.Full f) → (branches : List ℕ)
+        → BranchesOnPath C.has U.account cells.old usage.old root key.now branches → Contains (insert_asks item.now branches) f.needed }
+    ensures spends { (n : ℕ) → TwigsOnPath C.has U.account cells.old usage.old root key.now n
+        → (U.account usage.new).spent ≤ (U.account usage.old).spent + (3 + cells_in item.now + n) }
+    ensures copies { (n : ℕ) → ToCopy C.has U.account cells.old usage.old root key.now n
+        → (U.account usage.new).spent ≤ (U.account usage.old).spent + (47 + cells_in item.now + n) }
     ensures frame { Fenced C.has C.kept C.given U.account cells.old usage.old cells.new usage.new }
     ensures ready { Ready C.kept C.given U.account cells.new usage.new }
 {

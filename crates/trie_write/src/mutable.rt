@@ -11,7 +11,7 @@ ghost use Rattle.trie_write.specs.Ways.{Fork, plug, IsWay, twigs_of, twigs_along
 ghost use Rattle.trie_write.specs.Mutable.{WayAsks, WayAsked, IsCopied, IsParted, SeatAsks, SeatAsked, IsSeat};
 
 use super::alloc::{copy_twigs, room_for};
-use super::descend::next_descent;
+use super::descend::{Descent, next_descent};
 use chunk_cells::{CellRead, CellWrite};
 use chunk_usage::{Full, Space};
 use packed_node::{Branch, Cell, Node, Ref};
@@ -54,30 +54,32 @@ fn left_alone(spot: Spot) -> Copied
 fn move_twigs<C: CellWrite, U: Space>(
     cells: &mut C,
     usage: &mut U,
-    branch: Branch,
+    descent: Descent,
     to: Ref,
-    index: u32,
     below: Copied,
 ) -> Copied
-    requires index { index < count_ones branch.bitmap }
-    requires node { IsBranch (record branch { twigs = to }) }
-    requires old { IsRow branch.twigs (count_ones branch.bitmap) }
-    requires new { IsRow to (count_ones branch.bitmap) }
-    requires there { (i : ℕ) → i < count_ones branch.bitmap → (c : Cell) × C.has cells.old (branch.twigs + i) c }
-    requires apart { (i j : ℕ) → i < count_ones branch.bitmap → j < count_ones branch.bitmap → branch.twigs + i ≢ to + j }
-    requires blank { MayWrite C.kept C.given cells.old to (count_ones branch.bitmap) }
-    requires counted { (k : ℕ) → row (in_chunk k) branch.twigs (count_ones branch.bitmap) ≤ (U.account usage.old).live k }
-    ensures node { result.node ≡ branch_cell (record branch { twigs = to }) }
+    requires index { descent.index < count_ones descent.branch.bitmap }
+    requires node { IsBranch (record descent.branch { twigs = to }) }
+    requires old { IsRow descent.branch.twigs (count_ones descent.branch.bitmap) }
+    requires new { IsRow to (count_ones descent.branch.bitmap) }
+    requires there { (i : ℕ) → i < count_ones descent.branch.bitmap → (c : Cell) × C.has cells.old (descent.branch.twigs + i) c }
+    requires apart { (i j : ℕ) → i < count_ones descent.branch.bitmap → j < count_ones descent.branch.bitmap → descent.branch.twigs + i ≢ to + j }
+    requires blank { MayWrite C.kept C.given cells.old to (count_ones descent.branch.bitmap) }
+    requires counted { (k : ℕ) → row (in_chunk k) descent.branch.twigs (count_ones descent.branch.bitmap) ≤ (U.account usage.old).live k }
+    ensures node { result.node ≡ branch_cell (record descent.branch { twigs = to }) }
     ensures seat { result.seat ≡ below.seat }
-    ensures twig { C.has cells.new (to + index) below.node }
-    ensures copied { (i : ℕ) (c : Cell) → i < count_ones branch.bitmap → i ≢ index → C.has cells.old (branch.twigs + i) c → C.has cells.new (to + i) c }
-    ensures wrote { Wrote C.has C.kept C.given cells.old cells.new to (count_ones branch.bitmap) }
-    ensures counts { (k : ℕ) → (U.account usage.new).live k + row (in_chunk k) branch.twigs (count_ones branch.bitmap) ≡ (U.account usage.old).live k }
+    ensures twig { C.has cells.new (to + descent.index) below.node }
+    ensures copied { (i : ℕ) (c : Cell) → i < count_ones descent.branch.bitmap → i ≢ descent.index
+        → C.has cells.old (descent.branch.twigs + i) c → C.has cells.new (to + i) c }
+    ensures wrote { Wrote C.has C.kept C.given cells.old cells.new to (count_ones descent.branch.bitmap) }
+    ensures counts { (k : ℕ) → (U.account usage.new).live k + row (in_chunk k) descent.branch.twigs (count_ones descent.branch.bitmap)
+        ≡ (U.account usage.old).live k }
     ensures rest { U.account usage.new ≡ record (U.account usage.old) { live = (U.account usage.new).live } }
 {
+    let branch = descent.branch;
     let n = branch.twig_count();
     copy_twigs(cells, branch.twigs, to, n);
-    cells.put(to + index, below.node);
+    cells.put(to + descent.index, below.node);
     usage.release(branch.twigs, n);
     let moved = Branch {
         offset: branch.offset,
@@ -127,14 +129,7 @@ fn copy_way<C: CellWrite, U: Space>(
                     usage.release(to, n);
                     Err(full)
                 }
-                Ok(copied) => Ok(move_twigs(
-                    cells,
-                    usage,
-                    descent.branch,
-                    to,
-                    descent.index,
-                    copied,
-                )),
+                Ok(copied) => Ok(move_twigs(cells, usage, descent, to, copied)),
             }
         }
     }
@@ -185,12 +180,12 @@ fn open_below<C: CellWrite, U: Space>(
     requires node { (c : Cell) → C.has cells.old top.at c → top.node ≡ c }
     requires writable { IsWritable C.given U.account cells.old usage.old top.at }
     requires ready { Ready C.kept C.given U.account cells.old usage.old }
-    ensures seat { IfOk result (λ seat. (spare : (ℕ → ℕ) → ℕ) (way : List Fork) (end : Tree) → SeatAsks C.has U.account cells.old usage.old place key.now spare top.at way end
+    ensures seat { IfOk result (λ seat. (spare : _) (way : _) (end : _) → SeatAsks C.has U.account cells.old usage.old place key.now spare top.at way end
         → IsSeat C.has C.given U.account cells.old usage.old cells.new usage.new place key.now spare top.at way end seat.root seat.at) }
-    ensures spends { (spare : (ℕ → ℕ) → ℕ) (way : List Fork) (end : Tree) → SeatAsks C.has U.account cells.old usage.old place key.now spare top.at way end
+    ensures spends { (spare : _) (way : _) (end : _) → SeatAsks C.has U.account cells.old usage.old place key.now spare top.at way end
         → (U.account usage.new).spent ≤ (U.account usage.old).spent + copied_along (U.account usage.old).mutable 1 top.at way }
     ensures refused { IfErr result (λ f. Refused C.has U.account U.lacks cells.old usage.old cells.new usage.new f) }
-    ensures asked { IfErr result (λ f. (spare : (ℕ → ℕ) → ℕ) (way : List Fork) (end : Tree) → SeatAsks C.has U.account cells.old usage.old place key.now spare top.at way end
+    ensures asked { IfErr result (λ f. (spare : _) (way : _) (end : _) → SeatAsks C.has U.account cells.old usage.old place key.now spare top.at way end
         → Contains (map twigs_of way) f.needed) }
     ensures frame { Fenced C.has C.kept C.given U.account cells.old usage.old cells.new usage.new }
     ensures ready { Ready C.kept C.given U.account cells.new usage.new }
@@ -216,12 +211,12 @@ fn open_anew<C: CellWrite, U: Space>(
     requires node { (c : Cell) → C.has cells.old top.at c → top.node ≡ c }
     requires immutable { (U.account usage.old).mutable top.at ≡ false }
     requires ready { Ready C.kept C.given U.account cells.old usage.old }
-    ensures seat { IfOk result (λ seat. (spare : (ℕ → ℕ) → ℕ) (way : List Fork) (end : Tree) → SeatAsks C.has U.account cells.old usage.old place key.now spare top.at way end
+    ensures seat { IfOk result (λ seat. (spare : _) (way : _) (end : _) → SeatAsks C.has U.account cells.old usage.old place key.now spare top.at way end
         → IsSeat C.has C.given U.account cells.old usage.old cells.new usage.new place key.now spare top.at way end seat.root seat.at) }
-    ensures spends { (spare : (ℕ → ℕ) → ℕ) (way : List Fork) (end : Tree) → SeatAsks C.has U.account cells.old usage.old place key.now spare top.at way end
+    ensures spends { (spare : _) (way : _) (end : _) → SeatAsks C.has U.account cells.old usage.old place key.now spare top.at way end
         → (U.account usage.new).spent ≤ (U.account usage.old).spent + copied_along (U.account usage.old).mutable 1 top.at way }
     ensures refused { IfErr result (λ f. Refused C.has U.account U.lacks cells.old usage.old cells.new usage.new f) }
-    ensures asked { IfErr result (λ f. (spare : (ℕ → ℕ) → ℕ) (way : List Fork) (end : Tree) → SeatAsks C.has U.account cells.old usage.old place key.now spare top.at way end
+    ensures asked { IfErr result (λ f. (spare : _) (way : _) (end : _) → SeatAsks C.has U.account cells.old usage.old place key.now spare top.at way end
         → Contains (1 ∷ map twigs_of way) f.needed) }
     ensures frame { Fenced C.has C.kept C.given U.account cells.old usage.old cells.new usage.new }
     ensures ready { Ready C.kept C.given U.account cells.new usage.new }
@@ -239,10 +234,8 @@ fn open_anew<C: CellWrite, U: Space>(
         Ok(copied) => {
             cells.put(root, copied.node);
             usage.release(top.at, 1);
-            Ok(Seat {
-                root,
-                at: copied.seat,
-            })
+            let at = copied.seat;
+            Ok(Seat { root, at })
         }
     }
 }
@@ -258,13 +251,13 @@ pub fn make_mutable<C: CellWrite, U: Space>(
 ) -> Result<Seat, Full>
     requires asks { SeatAsked C.has U.account cells.old usage.old place key.now root }
     requires ready { Ready C.kept C.given U.account cells.old usage.old }
-    ensures seat { IfOk result (λ seat. (spare : (ℕ → ℕ) → ℕ) (way : List Fork) (end : Tree) → SeatAsks C.has U.account cells.old usage.old place key.now spare root way end
+    ensures seat { IfOk result (λ seat. (spare : _) (way : _) (end : _) → SeatAsks C.has U.account cells.old usage.old place key.now spare root way end
         → IsSeat C.has C.given U.account cells.old usage.old cells.new usage.new place key.now spare root way end seat.root seat.at) }
-    ensures spends { (spare : (ℕ → ℕ) → ℕ) (way : List Fork) (end : Tree) → SeatAsks C.has U.account cells.old usage.old place key.now spare root way end
+    ensures spends { (spare : _) (way : _) (end : _) → SeatAsks C.has U.account cells.old usage.old place key.now spare root way end
         → (U.account usage.new).spent ≤ (U.account usage.old).spent + copied_along (U.account usage.old).mutable 1 root way }
     ensures refused { IfErr result (λ f. Refused C.has U.account U.lacks cells.old usage.old cells.new usage.new f) }
     // The root's cell alone, or as many as a branch on the way has twigs.
-    ensures asked { IfErr result (λ f. (spare : (ℕ → ℕ) → ℕ) (way : List Fork) (end : Tree) → SeatAsks C.has U.account cells.old usage.old place key.now spare root way end
+    ensures asked { IfErr result (λ f. (spare : _) (way : _) (end : _) → SeatAsks C.has U.account cells.old usage.old place key.now spare root way end
         → Contains (1 ∷ map twigs_of way) f.needed) }
     ensures frame { Fenced C.has C.kept C.given U.account cells.old usage.old cells.new usage.new }
     ensures ready { Ready C.kept C.given U.account cells.new usage.new }

@@ -44,7 +44,8 @@ pub fn without_leaf<C: CellWrite, U: Space>(
 ) -> Result<Change, Full>
     requires last { LeafTurned C.has U.account cells.old usage.old key.now descent }
     requires ready { Ready C.kept C.given U.account cells.old usage.old }
-    ensures without { IfOk result (λ change. (lower : List Fork) (e : Entry) (x : _) → LeafDescent C.has U.account cells.old usage.old key.now descent lower e x
+    ensures without { IfOk result (λ change. (lower : List Fork) (e : Entry) (x : _)
+        → LeafDescent C.has U.account cells.old usage.old key.now descent lower e x
         → IsWithout C.has cells.new change e (plug lower (leaf e x))) }
     ensures taken { IfOk result (λ change. IsTaken (U.account usage.old) (U.account usage.new) change) }
     ensures spends { (U.account usage.new).spent + 1 ≤ (U.account usage.old).spent + count_ones descent.branch.bitmap }

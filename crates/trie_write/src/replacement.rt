@@ -75,7 +75,8 @@ fn replace_item<C: CellWrite, U: Space>(
     requires there { KeyIsThere C.has U.account cells.old usage.old root key.now }
     requires ready { Ready C.kept C.given U.account cells.old usage.old }
     ensures stands { IfOk result (λ new. (t : Tree) (version : List Entry) → HasKey C.has U.account cells.old usage.old root key.now t version
-        → (next : List Entry) × Exchanged (record { key = key.now; item = item.now }) version next × HasTrie C.has U.account cells.new usage.new (Some new) next) }
+        → (next : List Entry) × Exchanged (record { key = key.now; item = item.now }) version next
+        × HasTrie C.has U.account cells.new usage.new (Some new) next) }
     ensures outside { (t : Tree) (version : List Entry) → HasKey C.has U.account cells.old usage.old root key.now t version
         → (q : ℕ) (c : Cell) → (U.account usage.old).used q ≡ true → IsOutside root t q → C.has cells.old q c → C.has cells.new q c }
     ensures copies { (t : Tree) (version : List Entry) → HasKey C.has U.account cells.old usage.old root key.now t version
@@ -117,15 +118,18 @@ pub fn replace<C: CellWrite, U: Space>(
         → (next : List Entry) × Exchanged (record { key = key.now; item = item.now }) version next × HasTrie C.has U.account cells.new usage.new new next) }
     ensures absent { (version : List Entry) → HasTrie C.has U.account cells.old usage.old root version → EachTells Leads version
         → (result ≡ Err ChangeRefusal.NotFound) ↔ ((x : Entry) → InList x version → x.key ≡ key.now → ⊥) }
-    ensures refused { IfErr result (λ _. (version : List Entry) → HasTrie C.has U.account cells.old usage.old root version → HasTrie C.has U.account cells.new usage.new root version) }
+    ensures refused { IfErr result (λ _. (version : List Entry) → HasTrie C.has U.account cells.old usage.old root version
+        → HasTrie C.has U.account cells.new usage.new root version) }
     ensures unchanged { IfErr result (λ _. Unchanged C.has U.account cells.old usage.old cells.new usage.new) }
     ensures outside { (q : ℕ) (c : Cell) → Beyond C.has U.account cells.old usage.old root q → C.has cells.old q c → C.has cells.new q c }
     ensures denied { result ≡ Err ChangeRefusal.NotFound → usage.new ≡ usage.old }
     ensures full { (f : _) → result ≡ Err (ChangeRefusal.Full f) → U.lacks usage.new f }
-    ensures asked { (f : _) → result ≡ Err (ChangeRefusal.Full f) → (branches : List ℕ) → BranchesOnPath C.has U.account cells.old usage.old root key.now branches
-        → Contains (replace_asks item.now branches) f.needed }
-    ensures spends { (n : ℕ) → TwigsOnPath C.has U.account cells.old usage.old root key.now n → (U.account usage.new).spent ≤ (U.account usage.old).spent + (3 + cells_in item.now + n) }
-    ensures copies { (n : ℕ) → ToCopy C.has U.account cells.old usage.old root key.now n → (U.account usage.new).spent ≤ (U.account usage.old).spent + (cells_in item.now + n) }
+    ensures asked { (f : _) → result ≡ Err (ChangeRefusal.Full f) → (branches : List ℕ)
+        → BranchesOnPath C.has U.account cells.old usage.old root key.now branches → Contains (replace_asks item.now branches) f.needed }
+    ensures spends { (n : ℕ) → TwigsOnPath C.has U.account cells.old usage.old root key.now n
+        → (U.account usage.new).spent ≤ (U.account usage.old).spent + (3 + cells_in item.now + n) }
+    ensures copies { (n : ℕ) → ToCopy C.has U.account cells.old usage.old root key.now n
+        → (U.account usage.new).spent ≤ (U.account usage.old).spent + (cells_in item.now + n) }
     ensures frame { Fenced C.has C.kept C.given U.account cells.old usage.old cells.new usage.new }
     ensures ready { Ready C.kept C.given U.account cells.new usage.new }
 {

@@ -72,7 +72,8 @@ fn count_front<'a>(items: &'a [Item], low: u16) -> Counted<'a>
     requires some { 0 < length items.now }
     requires rising { Rises (entries_of_items items.now) }
     requires low { low ≤ 504 }
-    ensures counted { (t : Tree) × Front low (entries_of_items items.now) (entries_of_items result.rest.now) result.next t × (result.cells ≡ min (cells_of (entries_of t)) u64.MAX) }
+    ensures counted { (t : Tree)
+        × Front low (entries_of_items items.now) (entries_of_items result.rest.now) result.next t × (result.cells ≡ min (cells_of (entries_of t)) u64.MAX) }
     ensures shorter { length result.rest.now < length items.now }
 {
     let (item, rest) = items.split_first().unwrap();
@@ -90,9 +91,11 @@ fn count_front<'a>(items: &'a [Item], low: u16) -> Counted<'a>
 /// The trie with a branch above it, whose first twig it is.
 #[cycle(count)]
 fn count_branch<'a>(first: Counted<'a>, point: BranchPoint) -> Counted<'a>
-    requires first { (es : List Entry) × (t : Tree) × Front (suc point.offset) es (entries_of_items first.rest.now) (Some point) t × (first.cells ≡ min (cells_of (entries_of t)) u64.MAX) }
+    requires first { (es : List Entry) × (t : Tree) × Front (suc point.offset) es (entries_of_items first.rest.now) (Some point) t
+        × (first.cells ≡ min (cells_of (entries_of t)) u64.MAX) }
     requires point { first.next ≡ Some point }
-    ensures counted { (es : List Entry) (t : Tree) → Front (suc point.offset) es (entries_of_items first.entry.rest.now) (Some point) t → first.entry.cells ≡ min (cells_of (entries_of t)) u64.MAX
+    ensures counted { (es : List Entry) (t : Tree) → Front (suc point.offset) es (entries_of_items first.entry.rest.now) (Some point) t
+        → first.entry.cells ≡ min (cells_of (entries_of t)) u64.MAX
         → (new : Tree) × Front point.offset es (entries_of_items result.rest.now) result.next new × (result.cells ≡ min (cells_of (entries_of new)) u64.MAX) }
     ensures shorter { length result.rest.now < length first.entry.rest.now }
 {

@@ -10,9 +10,9 @@ pub copy_twigs-requires-clause-apart : goal.copy_twigs-requires-clause-apart
 copy_twigs-requires-clause-apart g c i j l m = let n = c.twig_count-n.ensures in c.requires.apart i j (omega arith) (omega arith)
 
 pub put-requires-clause-unkept : goal.put-requires-clause-unkept
-put-requires-clause-unkept g c = (open_later c.requires.blank c.copy_twigs.ensures.wrote.same_given c.copy_twigs.ensures.wrote.same_kept).unkept c.args.index c.requires.index
+put-requires-clause-unkept g c = (open_later c.requires.blank c.copy_twigs.ensures.wrote.same_given c.copy_twigs.ensures.wrote.same_kept).unkept c.args.descent.index c.requires.index
 
 pub returns-clause-wrote : goal.returns-clause-wrote
 returns-clause-wrote g c =
     subst (Wrote g.C.CellRead.has g.C.CellWrite.kept g.C.CellWrite.given c.args.cells.now c.put.new.self c.args.to) c.twig_count-n.ensures
-    (wrote_then c.copy_twigs.ensures.wrote (wrote_one (c.args.to + c.args.index) c.args.index (let n = c.twig_count-n.ensures in let i = c.requires.index in omega arith) refl c.put.ensures.others c.put.ensures.given c.put.ensures.kept))
+    (wrote_then c.copy_twigs.ensures.wrote (wrote_one (c.args.to + c.args.descent.index) c.args.descent.index (let n = c.twig_count-n.ensures in let i = c.requires.index in omega arith) refl c.put.ensures.others c.put.ensures.given c.put.ensures.kept))
