@@ -1,8 +1,8 @@
 -- How many cells of each chunk count, and which chunks are sparse.
-use Rattle.std.specs.Prelude.{ℕ, nat_lt, nat_le, Bool, not, ◌&&◌, if◌then◌else◌, Option, None, Some, List, map, length, count_by, slice_index}
+use Rattle.std.specs.Prelude.{ℕ, nat_lt, nat_le, Bool, false, not, ◌&&◌, if◌then◌else◌, Option, None, Some, List, map, length, count_by, slice_index, slice_index_or}
 use Rattle.std.specs.List.{range_with_len}
 use Rattle.chunk_usage.specs.declared.bump.Bump.{Bump}
-use Rattle.chunk_usage.specs.Ledger.{Ledger, is_given, is_bump}
+use Rattle.chunk_usage.specs.Ledger.{Ledger, is_given, is_bump, filled}
 
 -- the counts now, and at the last freeze
 pub record Counted : Type 0 where
@@ -24,6 +24,10 @@ thin_row live = map is_thin live
 -- the chunk is given and not the bump chunk, and few of its cells count
 abbrev pub is_sparse : Ledger → ℕ → Bool
 is_sparse l chunk = is_given l chunk && (is_low (slice_index l.live chunk) && not (is_bump l.bump chunk))
+
+-- the chunk is the bump chunk, was given since the last freeze, and all cells that were handed out of it count
+abbrev pub is_unmixed : Ledger → ℕ → Bool
+is_unmixed l chunk = is_bump l.bump chunk && (slice_index_or l.since chunk false && nat_le (filled l.bump) (slice_index l.live chunk))
 
 -- how many chunks are sparse
 abbrev pub sparse_count : Ledger → ℕ

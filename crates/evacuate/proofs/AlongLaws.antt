@@ -30,9 +30,6 @@ pub record IsAt (has : ℕ → Cell → Type 0) (n : Node) : Type 0 where
   pub top : IsTop has low c t
   pub is : n ≡ node_of t
 
-pub first_at : {has : ℕ → Cell → Type 0} {c : Cell} {t : Tree} {n : Node} → IsTop has 0 c t → ((m : Node) → IsNode m → packed m ≡ c → n ≡ m) → IsAt has n
-first_at {c = c} {t} top back = record { low = 0; c = c; t = t; top = top; is = read_is top back }
-
 module _ {has : ℕ → Cell → Type 0} {n : Node} (h : IsAt has n) (b : Branch) (is : n ≡ node.Branch b) where
   pub told_at : BranchTold h.t b
   told_at = branch_told h.t b (sym h.is ∙ is)
@@ -58,6 +55,9 @@ module _ {S : Type 0} {has : S → ℕ → Cell → Type 0} {s : S} {l : Ledger}
 
     pub stood_in : (u : Tree) × Stood has s l r es u
     stood_in = (plug h.way h.t, h.hung.stood)
+
+    pub top_at : {s1 : S} → s1 ≡ s → (t : Tree) × IsTop (has s1) 0 (top_cell t) t × (n ≡ node_of t)
+    top_at same = (h.t, subst (λ z. IsTop (has z) 0 (top_cell h.t) h.t) (sym same) (hung_hangs h.hung).top, h.is)
 
     module _ (b : Branch) (is : n ≡ node.Branch b) where
       pub branch_in : node.Branch b ≡ node_of h.t
@@ -85,7 +85,11 @@ module _ {S : Type 0} {has : S → ℕ → Cell → Type 0} {s : S} {l : Ledger}
         fork_is : h.t ≡ fork old_fork below
         fork_is = told_in.is ∙ ap (branch b.offset b.twigs) twig_in.is
 
-        -- its twigs lie where they did, or elsewhere
+        -- its twigs lie where they did
+        pub twigs_there : TwigsAt has s l r at es h.way h.t i (b.twigs + i)
+        twigs_there = record { to = b.twigs; hung = subst (Hung has s l r at es h.way) (sym (ap (λ t. moved t b.twigs) told_in.is ∙ sym told_in.is)) h.hung; twig_is = refl }
+
+        -- there, or elsewhere
         module _ {s1 : S} {l1 : Ledger} {next : ℕ} (at_twig : TwigsAt has s1 l1 r at es h.way h.t i next) where
           abbrev new_fork : Fork
           new_fork = record old_fork { first = at_twig.to }
@@ -115,3 +119,6 @@ module _ {S : Type 0} {has : S → ℕ → Cell → Type 0} {s : S} {l : Ledger}
               let f = fewer_left b.offset below b twig_in.tree refl (early top_in told_in) in
               let x = ap places_left (hung_read further_hung read back) in
               let y = ap places_left is in omega arith
+
+        pub read_there : {s1 : S} → s1 ≡ s → has s1 (b.twigs + i) (top_cell below)
+        read_there same = subst (λ z. has z (b.twigs + i) (top_cell below)) (sym same) (further_in twigs_there)

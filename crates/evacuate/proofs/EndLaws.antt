@@ -1,4 +1,4 @@
--- How an evacuation begins, and what is known at its end.
+-- What is known at the end of an evacuation.
 use Rattle.std.proofs.Common.{◌≡◌, ℕ, zero, suc, ◌+◌, ◌-◌, ◌*◌, ◌/◌, ◌<◌, ◌≤◌, Bool, true, false, not, cond, List, length, slice_index, slice_index_or, inl, inr, refl, sym, ◌∙◌, ap, subst, arith}
 use Rattle.std.specs.Prelude.{Option, None, Some, count_by}
 use Rattle.std.specs.List.{range_with_len}
@@ -16,66 +16,19 @@ use Rattle.trie_model.proofs.SizeLaws.{size_is}
 use Rattle.chunk_usage.specs.declared.bump.Bump.{Bump}
 use Rattle.chunk_usage.specs.Counting.{is_low, is_sparse, sparse_count}
 use Rattle.chunk_usage.specs.Handing.{spent, unspent}
-use Rattle.chunk_usage.specs.Keeping.{closed, full}
-use Rattle.chunk_usage.specs.Ledger.{Ledger, IsLedger, is_given, is_bump, is_used, is_mutable, left, free_count, frozen_part}
-use Rattle.chunk_usage.specs.Rooms.{Grows, reserve_account_of}
+use Rattle.chunk_usage.specs.Ledger.{Ledger, IsLedger, is_given, is_bump, is_used, left, free_count}
+use Rattle.chunk_usage.specs.Rooms.{reserve_account_of}
 use Rattle.chunk_sets.proofs.FlagLemmas.{set_within}
-use Rattle.chunk_usage.proofs.SpaceLaws.{used_given}
 use Rattle.trie_model.proofs.ExtentLaws.{first_true}
-use Rattle.trie_write.specs.Spaces.{Ready, Fenced}
 use Rattle.trie_write.specs.Standing.{StandsIn}
 use Rattle.trie_write.proofs.ChangeLaws.{stands_rooted, rooted_stands}
-use Rattle.trie_write.proofs.SpaceLaws.{ready_grows}
-use Rattle.trie_write.proofs.WeightLaws.{mark_grows}
 use Rattle.evacuate.specs.declared.evacuation.Done.{Done}
 use Rattle.evacuate.specs.declared.evacuation.Done.TheVariants.{Whole, Stopped}
 use Rattle.evacuate.specs.Evacuations.{IsDense, IsCleared, HasSparse, refused}
 use Rattle.evacuate.specs.Fillings.{Fills, IsFull, is_old, old_live}
 use Rattle.evacuate.specs.Places.{Stood}
-use Rattle.evacuate.proofs.FillingLaws.{all_parts, sparse_closed, sparse_old}
+use Rattle.evacuate.proofs.FillingLaws.{all_parts, sparse_old}
 use Rattle.evacuate.proofs.SumLaws.{old_reached}
-use Rattle.evacuate.proofs.TreeLaws.{root_used}
-
--- ---- the bump chunk is closed
-
-module _ {S : Type 0} {has : S → ℕ → Cell → Type 0} {s : S} {l l1 : Ledger} (e : l1 ≡ closed l) (grows : Grows (is_used l) (is_used l1) (is_mutable l) (is_mutable l1)) where
-  pub stood_closed : {r : ℕ} {es : List Entry} {t : Tree} → Stood has s l r es t → Stood has s l1 r es t
-  stood_closed h = record {
-    tree = h.tree;
-    rooted = record {
-      inside = h.rooted.inside;
-      top = h.rooted.top;
-      beneath = h.rooted.beneath;
-      counted = λ k. ap (λ (m : Ledger). slice_index m.live k) e ∙ h.rooted.counted k;
-      once = λ q. let o = h.rooted.once q in let m = mark_grows (is_used l) (is_used l1) q (grows.stays q) in omega arith;
-    };
-    holds = h.holds;
-  }
-
-module _ {S : Type 0} (has : S → ℕ → Cell → Type 0) (kept : S → List ℕ) (given : S → List Bool) {s : S} {l l1 : Ledger} (e : l1 ≡ closed l) (grows : Grows (is_used l) (is_used l1) (is_mutable l) (is_mutable l1)) where
-  pub fenced_closed : Fenced has kept given reserve_account_of s l s l1
-  fenced_closed = record {
-    frozen = λ q c m h. h;
-    keeps = refl;
-    given_stays = λ k h. h;
-    opens = λ k o. inl (was_bump l.bump k (sym (ap (λ (m : Ledger). is_bump m.bump k) e) ∙ o));
-    grows = grows;
-    spares = refl;
-    last = ap frozen_part e;
-  }
-    where
-      was_bump : (o : Option Bump) (k : ℕ) → is_bump (full o) k ≡ true → is_bump o k ≡ true
-      was_bump None k h = h
-      was_bump (Some o) k h = h
-
-  pub ready_closed : Ready kept given reserve_account_of s l → Ready kept given reserve_account_of s l1
-  ready_closed r = ready_grows r (r.same ∙ sym (ap (λ (m : Ledger). m.given) e)) refl grows
-
-pub closed_spent : (l : Ledger) → spent (closed l) ≤ 769 * (length l.given - free_count l)
-closed_spent l = omega arith
-
-pub root_old : {S : Type 0} {has : S → ℕ → Cell → Type 0} {s : S} {l : Ledger} {r : ℕ} {es : List Entry} {t : Tree} → IsLedger l → Stood has s l r es t → is_old l.given r ≡ true
-root_old {l = l} {r} h stood = used_given l h r (root_used stood)
 
 -- ---- roots that stand
 
@@ -120,10 +73,6 @@ dense_of l h cleared k some shut = elim (cases_lt 256 (slice_index l.live k)) [
   | inl more ↦ more
   | inr few ↦ absurd (let z = cleared k (all_parts (is_given l k) (is_low (slice_index l.live k)) (is_bump l.bump k) (h.counts.in_given k some) (grind (arith, nat_tests)) shut) in omega arith)
 ]
-
--- the bump chunk is closed
-pub left_closed : (l : Ledger) → HasSparse l → HasSparse (closed l)
-left_closed l h = record { chunk = h.chunk; sparse = sparse_closed l h.chunk h.sparse; some = h.some }
 
 -- ---- how many chunks were asked for
 

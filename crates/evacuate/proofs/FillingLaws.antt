@@ -89,7 +89,7 @@ pub record FillsMore (given : List Bool) (l new : Ledger) (r : Result Grant Full
   pub same : old_live given new.live ≡ old_live given l.live
   pub elsewhere : IfOk r (λ g. is_old given g.at ≡ false)
 
-open_same : (o : Bump) (k : ℕ) → is_bump (Some o) k ≡ true → k ≡ o.chunk
+pub open_same : (o : Bump) (k : ℕ) → is_bump (Some o) k ≡ true → k ≡ o.chunk
 open_same o k e = sym (eqb-true o.chunk k e)
 
 shut_other : (c k : ℕ) → (k ≡ c → ⊥) → (c == k) ≡ false
@@ -257,25 +257,6 @@ module _ (given : List Bool) (l : Ledger) (f : Fills given l) where
 
 pub same_chunk_old : (given : List Bool) (q p : ℕ) → q / 1024 ≡ p / 1024 → is_old given p ≡ true → is_old given q ≡ true
 same_chunk_old given q p e old = ap (λ (k : ℕ). slice_index_or given k false) e ∙ old
-
--- as an evacuation begins all given chunks are old, and the bump chunk is closed
-pub fills_begin : (l : Ledger) → IsLedger l → Fills l.given (closed l)
-fills_begin l h = record {
-  count = refl;
-  stays = λ k old. old;
-  recent = λ k g new. absurd (true≢false (sym g ∙ new));
-  left = λ k g new shut. absurd (true≢false (sym g ∙ new));
-  bump = λ k at new. absurd (true≢false (sym (given_open l.bump h.opened k at) ∙ new));
-  closed = λ k at old. filled_full l.bump k at;
-}
-  where
-    given_open : (o : Option Bump) → IsBump l.given l.live o → (k : ℕ) → is_bump (full o) k ≡ true → slice_index_or l.given k false ≡ true
-    given_open None i k e = absurd (true≢false (sym e))
-    given_open (Some o) i k e = ap (λ (j : ℕ). slice_index_or l.given j false) (open_same o k e) ∙ i.1
-
-    filled_full : (o : Option Bump) (k : ℕ) → is_bump (full o) k ≡ true → filled (full o) ≡ 1024
-    filled_full None k e = absurd (true≢false (sym e))
-    filled_full (Some o) k e = refl
 
 -- where nothing was moved no chunk was given
 pub fills_nothing : (l : Ledger) → IsLedger l → FillsNew l l

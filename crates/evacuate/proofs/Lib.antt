@@ -1,6 +1,7 @@
 pub mod ReserveLaws
 pub mod FillingLaws
 pub mod TreeLaws
+pub mod BeginLaws
 pub mod ChainLaws
 pub mod SparseLaws
 pub mod BehindLaws

@@ -1,12 +1,36 @@
 -- The chunks that an evacuation finds given, and those that it fills.
-use Rattle.std.specs.Prelude.{◌≡◌, ◌⊎◌, ℕ, ◌+◌, ◌/◌, ◌<◌, ◌≤◌, Bool, true, false, List, [], ◌∷◌, length, if◌then◌else◌, slice_index, slice_index_or}
-use Rattle.chunk_usage.specs.Counting.{is_sparse}
+use Rattle.std.specs.Prelude.{◌≡◌, ◌⊎◌, ℕ, ◌+◌, ◌/◌, ◌<◌, ◌≤◌, ◌==◌, Bool, true, false, Option, None, Some, List, [], ◌∷◌, length, if◌then◌else◌, slice_index, slice_index_or, slice_set}
+use Rattle.chunk_usage.specs.declared.bump.Bump.{Bump}
+use Rattle.chunk_usage.specs.Counting.{is_sparse, is_unmixed}
 use Rattle.chunk_usage.specs.Ledger.{Ledger, is_given, is_bump, filled}
 use Rattle.chunk_usage.specs.Handing.{IsSpent, spent}
+use Rattle.chunk_usage.specs.Keeping.{closed}
 
--- the cell lies in a chunk that was given as the evacuation began
+-- the cell lies in a chunk that the evacuation found given, and doesn't fill
 abbrev pub is_old : List Bool → ℕ → Bool
 is_old given q = slice_index_or given (q / 1024) false
+
+-- The chunk that an evacuation fills on: the bump chunk, where it was given since the last freeze and all that was handed out of it counts.
+abbrev pub filled_on_of : Ledger → Option Bump → Option ℕ
+filled_on_of l None = None
+filled_on_of l (Some o) = if is_unmixed l o.chunk then Some o.chunk else None
+
+abbrev pub filled_on : Ledger → Option ℕ
+filled_on l = filled_on_of l l.bump
+
+-- the chunk is that one; and those chunks but that one
+abbrev pub is_filled_on : Option ℕ → ℕ → Bool
+is_filled_on None k = false
+is_filled_on (Some chunk) k = chunk == k
+
+abbrev pub old_chunks : List Bool → Option ℕ → List Bool
+old_chunks given None = given
+old_chunks given (Some chunk) = slice_set given chunk false
+
+-- where it fills none on, the bump chunk counts as filled
+abbrev pub begun : Ledger → Option ℕ → Ledger
+begun l None = closed l
+begun l (Some chunk) = l
 
 -- how many cells of those chunks count
 abbrev pub old_live : List Bool → List ℕ → ℕ

@@ -71,3 +71,7 @@ pub record HangsIn {S : Type 0} (has : S → ℕ → Cell → Type 0) (s : S) (l
   pub t : Tree
   pub hung : Hung has s l r at es way t
   pub is : n ≡ node_of t
+
+-- however a trie stands at the root, some tree with this node hangs in it on the cell
+abbrev pub Hangs : {S : Type 0} → (S → ℕ → Cell → Type 0) → S → Ledger → ℕ → ℕ → Node → Type 0
+Hangs has s l r at n = (es : List Entry) (t : Tree) → Stood has s l r es t → HangsIn has s l r at es n

@@ -12,10 +12,11 @@ ghost use Rattle.chunk_usage.specs.Rooms.{reserve_account_of};
 ghost use Rattle.trie_write.specs.Spaces.{Ready, Fenced, IsWritable};
 ghost use Rattle.trie_write.specs.Ways.{Fork};
 ghost use Rattle.evacuate.specs.Fillings.{Fills, Moves, IsFull};
-ghost use Rattle.evacuate.specs.Places.{Stood, Hung, IsStood, IsHung};
+ghost use Rattle.evacuate.specs.Places.{Stood, Hung, Hangs, IsStood, IsHung};
 ghost use Rattle.evacuate.specs.Rearranging.{Rearranged};
 ghost use Rattle.evacuate.specs.Trails.{TwigsAt};
 
+use super::foothold::Foothold;
 use super::items::move_item;
 use super::moves::move_node;
 use super::path_walk::{Descent, descent_on};
@@ -23,16 +24,7 @@ use super::sparse::{is_chunk_sparse, is_item_sparse};
 use chunk_cells::CellWrite;
 use chunk_cells::extents::LAST_OCTETS;
 use chunk_usage::{Full, Path, Usage};
-use packed_node::{Leaf, Node, Ref, chunk_of};
-
-/// What is done on the way.
-#[derive(Clone, Copy)]
-pub enum Deed {
-    /// The twigs of branches before an offset are made mutable.
-    Copy(u16),
-    /// What lies in a sparse chunk is moved, as far as the twigs above it are mutable.
-    Empty(u32),
-}
+use packed_node::{Branch, Leaf, Node, Ref, chunk_of};
 
 /// A branch on the way, and whether its twigs stay where they are.
 #[derive(Clone, Copy)]
@@ -41,10 +33,18 @@ struct Passage {
     stays: bool,
 }
 
-/// How the way goes on at a node: its branch's twigs stay only where they may be written. It ends at a leaf, where the path forks, and where
-/// nothing more is to be done.
+/// Whether twigs lie in a chunk that is sparse.
 #[inline]
-fn passage_at(usage: &Usage, node: Node, path: Path, deed: Deed) -> Option<Passage>
+fn lie_in(usage: &Usage, branch: Branch, chunk: u32) -> bool
+    ensures { result ≡ true → is_sparse usage.now (branch.twigs / 1024) ≡ true }
+{
+    chunk_of(branch.twigs) == chunk && is_chunk_sparse(usage, chunk)
+}
+
+/// How a way on which twigs are made mutable goes on at a node: they stay where they may be written and don't lie in a chunk that is sparse.
+/// It ends at a leaf, where the path forks, and at an offset.
+#[inline]
+fn opened_at(usage: &Usage, node: Node, path: Path, chunk: u32, end: u16) -> Option<Passage>
     requires { (b : Branch) → node ≡ branch_node b → b.twigs + count_ones b.bitmap ≤ 2 ^ 22 }
     ensures branch { IfSome result (λ passage. node ≡ branch_node passage.descent.branch) }
     ensures index { IfSome result (λ passage. passage.descent.index < count_ones passage.descent.branch.bitmap) }
@@ -53,30 +53,39 @@ fn passage_at(usage: &Usage, node: Node, path: Path, deed: Deed) -> Option<Passa
         → (is_sparse usage.now (passage.descent.branch.twigs / 1024) ≡ true) ⊎ (is_mutable usage.now (passage.descent.branch.twigs + passage.descent.index) ≡ false)) }
 {
     let descent = descent_on(node, path)?;
-    match deed {
-        Deed::Copy(end) => {
-            if descent.branch.offset < end {
-                let stays = usage.is_mutable(descent.branch.twigs + descent.index);
-                return Some(Passage { descent, stays });
-            }
-            None
-        }
-        Deed::Empty(chunk) => {
-            if chunk_of(descent.branch.twigs) == chunk && is_chunk_sparse(usage, chunk) {
-                return Some(Passage {
-                    descent,
-                    stays: false,
-                });
-            }
-            if usage.is_mutable(descent.branch.twigs + descent.index) {
-                return Some(Passage {
-                    descent,
-                    stays: true,
-                });
-            }
-            None
-        }
+    if descent.branch.offset >= end {
+        return None;
     }
+    let stays = !lie_in(usage, descent.branch, chunk)
+        && usage.is_mutable(descent.branch.twigs + descent.index);
+    Some(Passage { descent, stays })
+}
+
+/// How a way on which a sparse chunk is emptied goes on at a node: twigs that lie in it are moved, and others stay. It ends at a leaf, where the
+/// path forks, and where those may not be written.
+#[inline]
+fn emptied_at(usage: &Usage, node: Node, path: Path, chunk: u32) -> Option<Passage>
+    requires { (b : Branch) → node ≡ branch_node b → b.twigs + count_ones b.bitmap ≤ 2 ^ 22 }
+    ensures branch { IfSome result (λ passage. node ≡ branch_node passage.descent.branch) }
+    ensures index { IfSome result (λ passage. passage.descent.index < count_ones passage.descent.branch.bitmap) }
+    ensures stays { IfSome result (λ passage. passage.stays ≡ true → is_mutable usage.now (passage.descent.branch.twigs + passage.descent.index) ≡ true) }
+    ensures due { IfSome result (λ passage. passage.stays ≡ false
+        → (is_sparse usage.now (passage.descent.branch.twigs / 1024) ≡ true) ⊎ (is_mutable usage.now (passage.descent.branch.twigs + passage.descent.index) ≡ false)) }
+{
+    let descent = descent_on(node, path)?;
+    if lie_in(usage, descent.branch, chunk) {
+        return Some(Passage {
+            descent,
+            stays: false,
+        });
+    }
+    if usage.is_mutable(descent.branch.twigs + descent.index) {
+        return Some(Passage {
+            descent,
+            stays: true,
+        });
+    }
+    None
 }
 
 /// Goes on to a twig of a branch that the cell at a place says.
@@ -121,15 +130,14 @@ fn note_long(usage: &mut Usage, leaf: Leaf, path: Path)
     }
 }
 
-/// At the end of the way, where the cell at a place says a node: moves what of a leaf's item lies in sparse chunks, if that is the deed.
-/// Tells whether anything was moved, on the way or here.
+/// At the end of the way, where the cell at a place says a node: moves what of a leaf's item lies in sparse chunks. Tells whether anything was
+/// moved, on the way or here.
 fn end_along<C: CellWrite>(
     cells: &mut C,
     usage: &mut Usage,
     at: Ref,
     node: Node,
     path: Path,
-    deed: Deed,
     moved: bool,
 ) -> Result<bool, Full>
     requires hung { IsHung C.has cells.old usage.old at node }
@@ -144,9 +152,6 @@ fn end_along<C: CellWrite>(
     let Node::Leaf(leaf) = node else {
         return Ok(moved);
     };
-    if matches!(deed, Deed::Copy(_)) {
-        return Ok(moved);
-    }
     if is_item_sparse(cells, usage, leaf.at, leaf.len) {
         note_long(usage, leaf, path);
         move_item(cells, usage, at, leaf)?;
@@ -155,14 +160,45 @@ fn end_along<C: CellWrite>(
     Ok(moved)
 }
 
-/// Goes down from a root along a path, and does the deed. Tells whether anything was moved. Where there is no room for that, what was moved
-/// before stays so.
-pub fn go_along<C: CellWrite>(
+/// Goes on down from a foothold along what the path says from there on, and makes the twigs of branches before an offset mutable; those that lie
+/// in a sparse chunk are moved in any case. Tells whether anything was moved. Where there is no room for that, what was moved before stays so.
+pub fn open_on<C: CellWrite>(
+    cells: &mut C,
+    usage: &mut Usage,
+    root: Ref,
+    from: Foothold,
+    chunk: u32,
+    end: u16,
+) -> Result<bool, Full>
+    requires stood { IsStood C.has cells.old usage.old root }
+    requires hangs { Hangs C.has cells.old usage.old root from.at from.node }
+    requires writable { IsWritable C.given reserve_account_of cells.old usage.old from.at }
+    requires ready { Ready C.kept C.given reserve_account_of cells.old usage.old }
+    ensures rearranged { Rearranged C.has C.kept C.given root cells.old usage.old cells.new usage.new }
+    ensures full { IfErr result (λ _. IsFull usage.new) }
+    ensures ready { Ready C.kept C.given reserve_account_of cells.new usage.new }
+{
+    let mut on = from.on;
+    let mut at = from.at;
+    let mut node = from.node;
+    let mut moved = false;
+    while let Some(passage) = opened_at(usage, node, on, chunk, end) {
+        at = pass(cells, usage, at, passage)?;
+        moved = moved || !passage.stays;
+        on = on.rest();
+        node = Node::of(cells.cell(at));
+    }
+    Ok(moved)
+}
+
+/// Goes down from a root along a path, and moves what lies in a sparse chunk, as far as the twigs above it are mutable. Tells whether anything
+/// was moved. Where there is no room for that, what was moved before stays so.
+pub fn empty_along<C: CellWrite>(
     cells: &mut C,
     usage: &mut Usage,
     root: Ref,
     path: Path,
-    deed: Deed,
+    chunk: u32,
 ) -> Result<bool, Full>
     requires stood { IsStood C.has cells.old usage.old root }
     requires writable { IsWritable C.given reserve_account_of cells.old usage.old root }
@@ -175,11 +211,11 @@ pub fn go_along<C: CellWrite>(
     let mut at = root;
     let mut node = Node::of(cells.cell(root));
     let mut moved = false;
-    while let Some(passage) = passage_at(usage, node, on, deed) {
+    while let Some(passage) = emptied_at(usage, node, on, chunk) {
         at = pass(cells, usage, at, passage)?;
         moved = moved || !passage.stays;
         on = on.rest();
         node = Node::of(cells.cell(at));
     }
-    end_along(cells, usage, at, node, path, deed, moved)
+    end_along(cells, usage, at, node, path, moved)
 }

@@ -14,9 +14,9 @@ ghost use Rattle.evacuate.specs.Fillings.{Fills, IsFull, old_live};
 ghost use Rattle.evacuate.specs.Places.{Stood, IsStood};
 ghost use Rattle.evacuate.specs.Rearranging.{Rearranged};
 
+use super::beginning::{begin, open_root};
 use super::descent::move_found;
 use super::listed::move_listed;
-use super::moves::move_root;
 use super::sparse::is_any_sparse;
 use super::survey::survey;
 use super::trail::{Trail, next_sparse};
@@ -69,9 +69,9 @@ pub fn evacuate<C: CellWrite>(
     }
 }
 
-/// Moves all that lies in sparse chunks to chunks that are free now. It ends where none of them has a cell that counts: once something
-/// was moved that was the last of its chunk, or at the end of a walk. The first walk goes where chunks that were sparse at first seem to
-/// be reached. One that came to the end begins again, over all, where some chunk still is sparse.
+/// Moves all that lies in sparse chunks to chunks that are free now, or to the bump chunk where that may be filled on. It ends where none of
+/// them has a cell that counts: once something was moved that was the last of its chunk, or at the end of a walk. The first walk goes where
+/// chunks that were sparse at first seem to be reached. One that came to the end begins again, over all, where some chunk still is sparse.
 fn empty_sparse<C: CellWrite>(cells: &mut C, usage: &mut Usage, root: Ref) -> (Ref, Done)
     requires stood { IsStood C.has cells.old usage.old root }
     requires sparse { HasSparse usage.old }
@@ -80,14 +80,15 @@ fn empty_sparse<C: CellWrite>(cells: &mut C, usage: &mut Usage, root: Ref) -> (R
     ensures whole { result.1 ≡ Done.Whole → IsCleared usage.new }
     ensures stopped { result.1 ≡ Done.Stopped → IsFull usage.new }
     ensures left { result.1 ≡ Done.Stopped → HasSparse usage.new }
-    ensures fills { Fills usage.old.given usage.new }
+    ensures fills { FillsNew usage.old usage.new }
+    ensures count { length usage.new.given ≡ length usage.old.given }
     ensures paid { spent usage.new ≤ 769 * (length usage.old.given - free_count usage.old) + old_live usage.old.given usage.old.live }
     ensures frame { Fenced C.has C.kept C.given reserve_account_of cells.old usage.old cells.new usage.new }
     ensures ready { Ready C.kept C.given reserve_account_of cells.new usage.new }
 {
     usage.known(); // for the proof
-    usage.fresh();
-    let at = match move_root(cells, usage, root) {
+    let chunk = begin(usage);
+    let at = match open_root(cells, usage, root, chunk) {
         Err(_) => return (root, Done::Stopped),
         Ok(at) => at,
     };

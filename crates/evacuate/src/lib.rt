@@ -2,8 +2,10 @@
 #![tactic(auto)]
 
 mod along;
+mod beginning;
 mod descent;
 mod evacuation;
+mod foothold;
 mod forks;
 mod items;
 mod listed;

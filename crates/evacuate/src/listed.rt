@@ -7,7 +7,8 @@ ghost use Rattle.evacuate.specs.Fillings.{IsFull};
 ghost use Rattle.evacuate.specs.Places.{IsStood};
 ghost use Rattle.evacuate.specs.Rearranging.{Rearranged};
 
-use super::along::{Deed, go_along};
+use super::along::{empty_along, open_on};
+use super::foothold::descend;
 use super::forks::{move_forked, open_forked};
 use super::marks::{Listing, Mark, Marks};
 use super::path_walk::{Last, last_along};
@@ -24,36 +25,15 @@ enum Step {
     Move,
 }
 
-/// Does a deed along a path that doesn't fork. The bump chunk lists the path if anything was moved to it, which is told.
-fn note_along<C: CellWrite>(
-    cells: &mut C,
-    usage: &mut Usage,
-    root: Ref,
-    path: Path,
-    deed: Deed,
-) -> Result<bool, Full>
-    requires stood { IsStood C.has cells.old usage.old root }
-    requires writable { IsWritable C.given reserve_account_of cells.old usage.old root }
-    requires ready { Ready C.kept C.given reserve_account_of cells.old usage.old }
-    ensures rearranged { Rearranged C.has C.kept C.given root cells.old usage.old cells.new usage.new }
-    ensures full { IfErr result (λ _. IsFull usage.new) }
-    ensures ready { Ready C.kept C.given reserve_account_of cells.new usage.new }
-{
-    let moved = go_along(cells, usage, root, path, deed)?;
-    if moved {
-        usage.note(path);
-    }
-    Ok(moved)
-}
-
-/// Moves what lies in a sparse chunk along a path that doesn't fork and is listed by what the bump chunk was when so many chunks were free.
-fn move_noted<C: CellWrite>(
+/// Moves what lies in a sparse chunk along a path that doesn't fork. What the bump chunk is now lists the path, unless it is that of when so
+/// many chunks were free, which lists it already.
+fn move_along<C: CellWrite>(
     cells: &mut C,
     usage: &mut Usage,
     root: Ref,
     chunk: u32,
     path: Path,
-    free: u32,
+    noted: Option<u32>,
 ) -> Result<(), Full>
     requires stood { IsStood C.has cells.old usage.old root }
     requires writable { IsWritable C.given reserve_account_of cells.old usage.old root }
@@ -62,21 +42,30 @@ fn move_noted<C: CellWrite>(
     ensures full { IfErr result (λ _. IsFull usage.new) }
     ensures ready { Ready C.kept C.given reserve_account_of cells.new usage.new }
 {
-    let moved = go_along(cells, usage, root, path, Deed::Empty(chunk))?;
-    if moved && usage.free() != free {
+    let moved = empty_along(cells, usage, root, path, chunk)?;
+    if moved && noted != Some(usage.free()) {
         usage.note(path);
     }
     Ok(())
 }
 
-/// Makes the twigs mutable that are above the last on a path that lies in a chunk. Tells what there is on the path.
+/// The mark of a path on which twigs were made mutable, where something is left then.
+fn mark_of(noted: bool, left: bool) -> Option<Mark> {
+    if !left {
+        return None;
+    }
+    Some(if noted { Mark::Noted } else { Mark::Straight })
+}
+
+/// Makes the twigs mutable that are above the last on a path that lies in a chunk, and the bump chunk lists the path if any was moved for that.
+/// Tells what is left there then.
 fn open_along<C: CellWrite>(
     cells: &mut C,
     usage: &mut Usage,
     root: Ref,
     chunk: u32,
     path: Path,
-) -> Result<Mark, Full>
+) -> Result<Option<Mark>, Full>
     requires stood { IsStood C.has cells.old usage.old root }
     requires writable { IsWritable C.given reserve_account_of cells.old usage.old root }
     requires ready { Ready C.kept C.given reserve_account_of cells.old usage.old }
@@ -84,16 +73,19 @@ fn open_along<C: CellWrite>(
     ensures full { IfErr result (λ _. IsFull usage.new) }
     ensures ready { Ready C.kept C.given reserve_account_of cells.new usage.new }
 {
-    let top = cells.cell(root);
-    match last_along(cells, chunk, top, path) {
-        Last::None => Ok(Mark::None),
-        Last::Below(offset) => {
-            let noted = note_along(cells, usage, root, path, Deed::Copy(offset))?;
-            Ok(if noted { Mark::Noted } else { Mark::Straight })
+    let from = descend(cells, usage, root, path, chunk);
+    match last_along(cells, chunk, from.node, from.on) {
+        Last::None => Ok(None),
+        Last::Below { end, left } => {
+            let noted = open_on(cells, usage, root, from, chunk, end)?;
+            if noted {
+                usage.note(path);
+            }
+            Ok(mark_of(noted, left))
         }
         Last::Forks => {
             let found = open_forked(cells, usage, root, path)?;
-            Ok(if found { Mark::Forked } else { Mark::None })
+            Ok(if found { Some(Mark::Forked) } else { None })
         }
     }
 }
@@ -116,25 +108,19 @@ fn step_along<C: CellWrite>(
 {
     if step == Step::Copy {
         let path = usage.path(listing.chunk, listing.place);
-        let mark = open_along(cells, usage, root, listing.chunk, path)?;
-        marks.put(listing, mark);
+        if let Some(mark) = open_along(cells, usage, root, listing.chunk, path)? {
+            marks.put(listing, mark);
+        }
         return Ok(());
     }
-    match marks.of(listing) {
-        Mark::None => Ok(()),
-        Mark::Straight => {
-            let path = usage.path(listing.chunk, listing.place);
-            note_along(cells, usage, root, path, Deed::Empty(listing.chunk))?;
-            Ok(())
-        }
-        Mark::Noted => {
-            let path = usage.path(listing.chunk, listing.place);
-            move_noted(cells, usage, root, listing.chunk, path, marks.free)
-        }
-        Mark::Forked => {
-            let path = usage.path(listing.chunk, listing.place);
-            move_forked(cells, usage, root, path)
-        }
+    let Some(mark) = marks.of(listing) else {
+        return Ok(());
+    };
+    let path = usage.path(listing.chunk, listing.place);
+    match mark {
+        Mark::Straight => move_along(cells, usage, root, listing.chunk, path, None),
+        Mark::Noted => move_along(cells, usage, root, listing.chunk, path, Some(marks.free)),
+        Mark::Forked => move_forked(cells, usage, root, path),
     }
 }
 

@@ -10,11 +10,9 @@ pub struct Listing {
     pub place: usize,
 }
 
-/// What a path leads to that lies in a sparse chunk.
+/// What a path leads to that is left in a sparse chunk.
 #[derive(Clone, Copy)]
 pub enum Mark {
-    /// Nothing.
-    None,
     /// Something, and the path doesn't fork.
     Straight,
     /// The same, and the bump chunk of then lists the path already.
@@ -47,26 +45,25 @@ impl Marks {
     /// Marks a path.
     pub fn put(&mut self, listing: Listing, mark: Mark) {
         match mark {
-            Mark::None => {}
             Mark::Straight => put(&mut self.straight, bit_of(listing)),
             Mark::Noted => put(&mut self.noted, bit_of(listing)),
             Mark::Forked => put(&mut self.forked, bit_of(listing)),
         }
     }
 
-    /// A path's mark, as it seems.
-    pub fn of(&self, listing: Listing) -> Mark {
+    /// A path's mark, as it seems. It has none where nothing is left.
+    pub fn of(&self, listing: Listing) -> Option<Mark> {
         let bit = bit_of(listing);
         if has(&self.forked, bit) {
-            return Mark::Forked;
+            return Some(Mark::Forked);
         }
         if has(&self.straight, bit) {
-            return Mark::Straight;
+            return Some(Mark::Straight);
         }
         if has(&self.noted, bit) {
-            return Mark::Noted;
+            return Some(Mark::Noted);
         }
-        Mark::None
+        None
     }
 }
 

@@ -22,6 +22,7 @@ use packed_node::{Node, Ref};
 use trie_write::copy_twigs;
 
 /// Copies cells in use to new ones.
+#[inline]
 fn copy_out<C: CellWrite>(cells: &mut C, usage: &mut Usage, from: Ref, n: u32) -> Result<Ref, Full>
     requires some { 0 < n }
     requires few { n ≤ 256 }

@@ -3,13 +3,14 @@
 ghost use Rattle.std.specs.Prelude.{◌≡◌, ◌<◌, ℕ, List, IfSome, count_ones};
 ghost use Rattle.packed_node.specs.declared.Node.TheVariants.{Branch as branch_node};
 ghost use Rattle.trie_model.specs.Extents.{HasItem};
+ghost use Rattle.trie_model.specs.Memory.{node_of, top_cell};
 ghost use Rattle.trie_model.specs.Trees.{Tree};
 ghost use Rattle.trie_read.specs.Reads.{IsTop};
 
 use chunk_cells::CellRead;
 use chunk_cells::extents::{LAST_OCTETS, LINKED_OCTETS, next_extent};
 use chunk_usage::Path;
-use packed_node::{Branch, Cell, Node, Ref, chunk_of};
+use packed_node::{Branch, Node, Ref, chunk_of};
 
 /// No branch has such an offset, nor a higher one.
 pub const NO_OFFSET: u16 = 504;
@@ -43,8 +44,8 @@ pub fn descent_on(node: Node, path: Path) -> Option<Descent>
 pub enum Last {
     /// There is nothing.
     None,
-    /// There is something, and the twigs of branches before this offset are to be made mutable first.
-    Below(u16),
+    /// There is something. The twigs of branches before an offset are to be made mutable first, and whether it is left then.
+    Below { end: u16, left: bool },
     /// The path forks.
     Forks,
 }
@@ -55,9 +56,15 @@ const FEW_TWIGS: u32 = 12;
 /// Twigs of a branch are the last on a path that lies in a chunk. All above them is made mutable first, and they are too where they are many.
 fn last_at(branch: Branch) -> Last {
     if branch.twig_count() > FEW_TWIGS {
-        return Last::Below(branch.offset.saturating_add(1));
+        return Last::Below {
+            end: branch.offset.saturating_add(1),
+            left: false,
+        };
     }
-    Last::Below(branch.offset)
+    Last::Below {
+        end: branch.offset,
+        left: true,
+    }
 }
 
 /// Whether some extent of an item lies in a chunk. It begins here, and has so many octets.
@@ -75,14 +82,14 @@ fn is_item_in<C: CellRead>(cells: &mut C, chunk: u32, at: Ref, len: u16) -> bool
     is_item_in(cells, chunk, next, len - LINKED_OCTETS as u16)
 }
 
-/// Goes down from a root's node along a path, to find the last on it whose twigs, or some extent of whose item, lie in a chunk.
-pub fn last_along<C: CellRead>(cells: &mut C, chunk: u32, top: Cell, path: Path) -> Last
-    requires { (t : Tree) × IsTop (C.has cells.old) 0 top t }
+/// Goes down from a node along a path, to find the last on it whose twigs, or some extent of whose item, lie in a chunk.
+pub fn last_along<C: CellRead>(cells: &mut C, chunk: u32, from: Node, path: Path) -> Last
+    requires { (t : Tree) × IsTop (C.has cells.old) 0 (top_cell t) t × (from ≡ node_of t) }
     ensures { cells.new ≡ cells.old }
 {
     let mut last = Last::None;
     let mut on = path;
-    let mut node = Node::of(top);
+    let mut node = from;
     while let Some(descent) = descent_on(node, on) {
         if chunk_of(descent.branch.twigs) == chunk {
             last = last_at(descent.branch);
@@ -94,7 +101,10 @@ pub fn last_along<C: CellRead>(cells: &mut C, chunk: u32, top: Cell, path: Path)
         Node::Branch(_) => Last::Forks,
         Node::Leaf(leaf) => {
             if is_item_in(cells, chunk, leaf.at, leaf.len) {
-                return Last::Below(NO_OFFSET);
+                return Last::Below {
+                    end: NO_OFFSET,
+                    left: true,
+                };
             }
             last
         }

@@ -12,6 +12,7 @@ use chunk_usage::{Full, Usage};
 use packed_node::Ref;
 
 /// Room for n cells side by side, in a chunk that the cells know as given.
+#[inline]
 pub fn room_for<C: CellWrite>(cells: &mut C, usage: &mut Usage, n: u32) -> Result<Ref, Full>
     requires some { 0 < n }
     requires few { n ≤ 256 }

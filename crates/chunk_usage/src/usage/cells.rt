@@ -1,7 +1,8 @@
 //! Cells that are handed out, and released.
 
-ghost use Rattle.std.specs.Prelude.{◌≡◌, ◌<◌, ◌≤◌, ◌-◌, ◌+◌, ◌*◌, ◌/◌, ◌%◌, ◌↔◌, ◌&&◌, nat_le, Some, IsErr, slice_index};
+ghost use Rattle.std.specs.Prelude.{◌≡◌, ◌<◌, ◌≤◌, ◌-◌, ◌+◌, ◌*◌, ◌/◌, ◌%◌, ◌↔◌, ◌&&◌, ℕ, false, true, nat_le, IfSome, None, Some, IsErr, slice_index, slice_index_or};
 ghost use Rattle.chunk_usage.specs.Ledger.{free_count, filled, is_bump, is_used, is_mutable};
+ghost use Rattle.chunk_usage.specs.Counting.{is_unmixed};
 ghost use Rattle.chunk_usage.specs.Handing.{IsShort, all_released, allocated, grant_of, lowest_free, next_cell, released, roomy, shortage, taken, with_bump};
 ghost use Rattle.chunk_usage.specs.Handing.{IsSpent, new_grant, newly_taken, reserve_allocated, reserve_grant_of};
 ghost use Rattle.chunk_usage.specs.Keeping.{closed};
@@ -84,6 +85,24 @@ impl Usage {
         if let Some(bump) = &mut self.state.bump {
             bump.filled = CHUNK_CELLS;
         }
+    }
+
+    /// The bump chunk, where it was given since the last freeze and all cells that were handed out of it count.
+    pub fn unmixed_bump(&self) -> Option<u32>
+        ensures some { IfSome result (λ chunk. is_unmixed self.now chunk ≡ true) }
+        ensures none { result ≡ None → (k : ℕ) → is_unmixed self.now k ≡ false }
+    {
+        match self.state.bump {
+            Some(bump) if self.is_unmixed(bump) => Some(bump.chunk),
+            _ => None,
+        }
+    }
+
+    // Whether a bump chunk was given since the last freeze, and all cells that were handed out of it count.
+    fn is_unmixed(&self, bump: Bump) -> bool
+        ensures { result ≡ (slice_index_or self.now.since bump.chunk false && nat_le bump.filled (slice_index self.now.live bump.chunk)) }
+    {
+        self.state.recent.contains(bump.chunk) && bump.filled <= self.state.counts.of(bump.chunk)
     }
 
     // The bump chunk, where it has n cells left.

@@ -1,77 +1,95 @@
-use Rattle.std.proofs.Common.{◌≡◌, inl, inr, refl, sym, ◌∙◌, ap, subst, arith}
+use Rattle.std.proofs.Common.{◌≡◌, ℕ, false, ◌+◌, ◌*◌, ◌-◌, ◌≤◌, length, inl, inr, refl, sym, ◌∙◌, ap, subst, arith}
 use Rattle.std.proofs.lemmas.Bool.{cases_Bool}
 use Rattle.std.proofs.lemmas.Bool.Decides.{nat_tests}
+use Rattle.chunk_usage.specs.Handing.{spent}
+use Rattle.chunk_usage.specs.Ledger.{Ledger, free_count}
 use Rattle.chunk_usage.specs.Rooms.{reserve_account_of}
 use Rattle.trie_write.specs.Spaces.{Fenced, IsWritable}
 use Rattle.trie_write.proofs.SpaceLaws.{fenced_then, fenced_same, ready_put, writable_later}
-use Rattle.std.specs.Prelude.{Some}
+use Rattle.std.specs.Prelude.{Option, Some}
 use Rattle.evacuate.specs.declared.evacuation.Done.{Done}
-use Rattle.evacuate.specs.Evacuations.{HasSparse}
-use Rattle.evacuate.specs.Fillings.{Fills, Moves}
+use Rattle.evacuate.specs.Evacuations.{FillsNew, HasSparse}
+use Rattle.evacuate.specs.Fillings.{Moves, begun, filled_on, is_old, old_chunks, old_live}
+use Rattle.evacuate.proofs.BeginLaws.{begun_spent, fenced_begun, fills_count, fills_new, fills_there, left_begun, nothing_moved, opened, opened_then, ready_begun, stood_begun}
 use Rattle.evacuate.proofs.DescentLaws.{stood_same}
-use Rattle.evacuate.proofs.EndLaws.{stood_closed, fenced_closed, ready_closed, closed_spent, left_closed, root_old, all_cleared, node_top}
-use Rattle.evacuate.proofs.FillingLaws.{fills_begin, moves_then}
+use Rattle.evacuate.proofs.EndLaws.{all_cleared, node_top}
+use Rattle.evacuate.proofs.FillingLaws.{moves_then}
 use Rattle.evacuate.proofs.RearrangeLaws.{writable_after}
 use Rattle.evacuate.proofs.evacuation.empty_sparse.Goals.{then-resumed, else-resumed}
 use Rattle.evacuate.proofs.evacuation.empty_sparse.Goals as goal
 
-pub move_root-requires-clause-stood : goal.move_root-requires-clause-stood
-move_root-requires-clause-stood g c = let h = c.requires.stood in record { es = h.es; t = h.t; stood = stood_closed c.fresh.ensures.after c.fresh.ensures.grows h.stood }
+-- what moves since the beginning tell
+record Since (l new : Ledger) : Type 0 where
+  fills : FillsNew l new
+  count : length new.given ≡ length l.given
+  paid : spent new ≤ 769 * (length l.given - free_count l) + old_live l.given l.live
 
-pub move_root-requires-clause-ready : goal.move_root-requires-clause-ready
-move_root-requires-clause-ready g c = ready_closed g.C.CellRead.has g.C.CellWrite.kept g.C.CellWrite.given c.fresh.ensures.after c.fresh.ensures.grows c.requires.ready
+since : (l new : Ledger) (filled_on : Option ℕ) → Moves (old_chunks l.given filled_on) 0 (begun l filled_on) new → Since l new
+since l new filled_on m = record {
+  fills = fills_new l new filled_on m.fills;
+  count = fills_count l.given new filled_on m.fills;
+  paid = let p = m.paid in let s = begun_spent l filled_on in omega arith;
+}
+
+pub open_root-requires-clause-stood : goal.open_root-requires-clause-stood
+open_root-requires-clause-stood g c = let h = c.requires.stood in record { es = h.es; t = h.t; stood = stood_begun c.begin-chunk.result c.begin-chunk.ensures.after c.begin-chunk.ensures.grows h.stood }
+
+pub open_root-requires-clause-fills : goal.open_root-requires-clause-fills
+open_root-requires-clause-fills g c = fills_there c.args.usage.now _ c.begin-chunk.result c.known.ensures c.begin-chunk.ensures.unmixed c.begin-chunk.ensures.after
+
+pub open_root-requires-clause-ready : goal.open_root-requires-clause-ready
+open_root-requires-clause-ready g c = ready_begun g.C.CellRead.has g.C.CellWrite.kept g.C.CellWrite.given c.begin-chunk.result c.begin-chunk.ensures.after c.begin-chunk.ensures.grows c.requires.ready
 
 pub returns-in-Err-clause-stood : goal.returns-in-Err-clause-stood
-returns-in-Err-clause-stood g c es t h = (t, stood_same c.in-Err.ensures.same c.in-Err.ensures.unchanged (stood_closed c.fresh.ensures.after c.fresh.ensures.grows h))
+returns-in-Err-clause-stood g c es t h = (t, stood_same c.in-Err.ensures.same c.in-Err.ensures.unchanged (stood_begun c.begin-chunk.result c.begin-chunk.ensures.after c.begin-chunk.ensures.grows h))
 
 pub returns-in-Err-clause-fills : goal.returns-in-Err-clause-fills
-returns-in-Err-clause-fills g c = subst (Fills c.args.usage.now.given) (sym (c.in-Err.ensures.unchanged ∙ c.fresh.ensures.after)) (fills_begin c.args.usage.now c.known.ensures)
+returns-in-Err-clause-fills g c = (since c.args.usage.now _ c.begin-chunk.result (nothing_moved c.args.usage.now _ _ c.begin-chunk.result c.known.ensures c.begin-chunk.ensures.unmixed c.begin-chunk.ensures.after c.in-Err.ensures.unchanged)).fills
+
+pub returns-in-Err-clause-count : goal.returns-in-Err-clause-count
+returns-in-Err-clause-count g c = (since c.args.usage.now _ c.begin-chunk.result (nothing_moved c.args.usage.now _ _ c.begin-chunk.result c.known.ensures c.begin-chunk.ensures.unmixed c.begin-chunk.ensures.after c.in-Err.ensures.unchanged)).count
+
+pub returns-in-Err-clause-paid : goal.returns-in-Err-clause-paid
+returns-in-Err-clause-paid g c = (since c.args.usage.now _ c.begin-chunk.result (nothing_moved c.args.usage.now _ _ c.begin-chunk.result c.known.ensures c.begin-chunk.ensures.unmixed c.begin-chunk.ensures.after c.in-Err.ensures.unchanged)).paid
+
+pub returns-in-Err-clause-frame : goal.returns-in-Err-clause-frame
+returns-in-Err-clause-frame g c = fenced_then (fenced_begun g.C.CellRead.has g.C.CellWrite.kept g.C.CellWrite.given c.begin-chunk.result c.begin-chunk.ensures.after c.begin-chunk.ensures.grows) c.open_root.ensures.frame
 
 pub returns-in-Err-clause-left : goal.returns-in-Err-clause-left
-returns-in-Err-clause-left g c e = subst HasSparse (sym (c.in-Err.ensures.unchanged ∙ c.fresh.ensures.after)) (left_closed c.args.usage.now c.requires.sparse)
+returns-in-Err-clause-left g c e = subst HasSparse (sym (c.in-Err.ensures.unchanged ∙ c.begin-chunk.ensures.after)) (left_begun c.args.usage.now c.begin-chunk.result c.requires.sparse)
 
 pub empty_listed-requires-clause-stood : goal.empty_listed-requires-clause-stood
 empty_listed-requires-clause-stood g c =
-    let h = c.requires.stood in record { es = h.es; t = h.t; stood = c.in-Ok.ensures.stood h.es h.t (stood_closed c.fresh.ensures.after c.fresh.ensures.grows h.stood) }
+    let h = c.requires.stood in record { es = h.es; t = h.t; stood = c.in-Ok.ensures.stood h.es h.t (stood_begun c.begin-chunk.result c.begin-chunk.ensures.after c.begin-chunk.ensures.grows h.stood) }
 
 pub returns-in-Some-clause-stood : goal.returns-in-Some-clause-stood
-returns-in-Some-clause-stood g c es t h = c.empty_listed.ensures.rearranged.stood es t (c.in-Ok.ensures.stood es t (stood_closed c.fresh.ensures.after c.fresh.ensures.grows h))
+returns-in-Some-clause-stood g c es t h = c.empty_listed.ensures.rearranged.stood es t (c.in-Ok.ensures.stood es t (stood_begun c.begin-chunk.result c.begin-chunk.ensures.after c.begin-chunk.ensures.grows h))
 
 pub returns-in-Some-clause-fills : goal.returns-in-Some-clause-fills
-returns-in-Some-clause-fills g c =
-    let begins = subst (Fills c.args.usage.now.given) (sym c.fresh.ensures.after) (fills_begin c.args.usage.now c.known.ensures) in
-    let m = (c.in-Ok.ensures.paid c.args.usage.now.given begins (root_old c.known.ensures c.requires.stood.stood)).moves in
-    (c.empty_listed.ensures.rearranged.moves c.args.usage.now.given m.fills).fills
+returns-in-Some-clause-fills g c = (since c.args.usage.now _ c.begin-chunk.result (opened_then (opened c.args.usage.now _ _ c.begin-chunk.result c.in-Ok.at c.begin-chunk.ensures.after c.in-Ok.ensures.moves c.in-Ok.ensures.elsewhere) c.empty_listed.ensures.rearranged.moves)).fills
+
+pub returns-in-Some-clause-count : goal.returns-in-Some-clause-count
+returns-in-Some-clause-count g c = (since c.args.usage.now _ c.begin-chunk.result (opened_then (opened c.args.usage.now _ _ c.begin-chunk.result c.in-Ok.at c.begin-chunk.ensures.after c.in-Ok.ensures.moves c.in-Ok.ensures.elsewhere) c.empty_listed.ensures.rearranged.moves)).count
 
 pub returns-in-Some-clause-paid : goal.returns-in-Some-clause-paid
-returns-in-Some-clause-paid g c =
-    let begins = subst (Fills c.args.usage.now.given) (sym c.fresh.ensures.after) (fills_begin c.args.usage.now c.known.ensures) in
-    let m = subst (λ l. Moves c.args.usage.now.given 0 l c.move_root.new.usage) c.fresh.ensures.after (c.in-Ok.ensures.paid c.args.usage.now.given begins (root_old c.known.ensures c.requires.stood.stood)).moves in
-    let n = moves_then m (c.empty_listed.ensures.rearranged.moves c.args.usage.now.given m.fills) in
-    let p = n.paid in let s = closed_spent c.args.usage.now in omega arith
+returns-in-Some-clause-paid g c = (since c.args.usage.now _ c.begin-chunk.result (opened_then (opened c.args.usage.now _ _ c.begin-chunk.result c.in-Ok.at c.begin-chunk.ensures.after c.in-Ok.ensures.moves c.in-Ok.ensures.elsewhere) c.empty_listed.ensures.rearranged.moves)).paid
 
 pub returns-in-Some-clause-frame : goal.returns-in-Some-clause-frame
 returns-in-Some-clause-frame g c =
-    fenced_then (fenced_then (fenced_closed g.C.CellRead.has g.C.CellWrite.kept g.C.CellWrite.given c.fresh.ensures.after c.fresh.ensures.grows) c.in-Ok.ensures.frame) c.empty_listed.ensures.rearranged.frame
+    fenced_then (fenced_then (fenced_begun g.C.CellRead.has g.C.CellWrite.kept g.C.CellWrite.given c.begin-chunk.result c.begin-chunk.ensures.after c.begin-chunk.ensures.grows) c.in-Ok.ensures.frame) c.empty_listed.ensures.rearranged.frame
 
 pub returns-in-Some-clause-left : goal.returns-in-Some-clause-left
-returns-in-Some-clause-left g c e =
-    let begins = subst (Fills c.args.usage.now.given) (sym c.fresh.ensures.after) (fills_begin c.args.usage.now c.known.ensures) in
-    let m = (c.in-Ok.ensures.paid c.args.usage.now.given begins (root_old c.known.ensures c.requires.stood.stood)).moves in
-    c.empty_listed.ensures.left (c.in-Some.is ∙ ap (λ (d : Done). Some d) e) c.args.usage.now.given m.fills
+returns-in-Some-clause-left g c e = c.empty_listed.ensures.left (c.in-Some.is ∙ ap (λ (d : Done). Some d) e) (old_chunks c.args.usage.now.given c.begin-chunk.result) (opened c.args.usage.now _ _ c.begin-chunk.result c.in-Ok.at c.begin-chunk.ensures.after c.in-Ok.ensures.moves c.in-Ok.ensures.elsewhere).moves.fills
 
 pub passes-init : goal.passes-init
-passes-init g c =
-    let begins = subst (Fills c.args.usage.now.given) (sym c.fresh.ensures.after) (fills_begin c.args.usage.now c.known.ensures) in
-    let m = subst (λ l. Moves c.args.usage.now.given 0 l c.move_root.new.usage) c.fresh.ensures.after (c.in-Ok.ensures.paid c.args.usage.now.given begins (root_old c.known.ensures c.requires.stood.stood)).moves in
-    record {
-      stood = λ es t h. c.empty_listed.ensures.rearranged.stood es t (c.in-Ok.ensures.stood es t (stood_closed c.fresh.ensures.after c.fresh.ensures.grows h));
-      moves = moves_then m (c.empty_listed.ensures.rearranged.moves c.args.usage.now.given m.fills);
-      elsewhere = c.in-Ok.ensures.elsewhere c.args.usage.now.given begins;
-      writable = writable_after c.empty_listed.ensures.rearranged c.in-Ok.ensures.writable;
-      frame = fenced_then (fenced_then (fenced_closed g.C.CellRead.has g.C.CellWrite.kept g.C.CellWrite.given c.fresh.ensures.after c.fresh.ensures.grows) c.in-Ok.ensures.frame) c.empty_listed.ensures.rearranged.frame;
-      ready = c.empty_listed.ensures.ready;
-    }
+passes-init g c = record {
+  stood = λ es t h. c.empty_listed.ensures.rearranged.stood es t (c.in-Ok.ensures.stood es t (stood_begun c.begin-chunk.result c.begin-chunk.ensures.after c.begin-chunk.ensures.grows h));
+  moves = subst (λ f. Moves (old_chunks c.args.usage.now.given f) 0 (begun c.args.usage.now f) c.empty_listed.new.usage) c.begin-chunk.ensures.value (opened_then (opened c.args.usage.now _ _ c.begin-chunk.result c.in-Ok.at c.begin-chunk.ensures.after c.in-Ok.ensures.moves c.in-Ok.ensures.elsewhere) c.empty_listed.ensures.rearranged.moves);
+  elsewhere = subst (λ f. is_old (old_chunks c.args.usage.now.given f) c.in-Ok.at ≡ false) c.begin-chunk.ensures.value (opened c.args.usage.now _ _ c.begin-chunk.result c.in-Ok.at c.begin-chunk.ensures.after c.in-Ok.ensures.moves c.in-Ok.ensures.elsewhere).elsewhere;
+  writable = writable_after c.empty_listed.ensures.rearranged c.in-Ok.ensures.writable;
+  frame = fenced_then (fenced_then (fenced_begun g.C.CellRead.has g.C.CellWrite.kept g.C.CellWrite.given c.begin-chunk.result c.begin-chunk.ensures.after c.begin-chunk.ensures.grows) c.in-Ok.ensures.frame) c.empty_listed.ensures.rearranged.frame;
+  ready = c.empty_listed.ensures.ready;
+}
 
 pub cell-node-requires : goal.cell-node-requires
 cell-node-requires g c =
@@ -95,18 +113,19 @@ returns-in-Err-move_found-clause-stood g c es t h =
     c.move_found.ensures.stood es n.0 (stood_same (c.next_sparse.ensures.same ∙ c.cell-node.ensures.same) refl n.1) (c.next_sparse.ensures.found c.if-next_sparse.true n.0 (node_top n.1 c.cell-node.ensures.same c.cell-node.ensures.value))
 
 pub returns-in-Err-move_found-clause-fills : goal.returns-in-Err-move_found-clause-fills
-returns-in-Err-move_found-clause-fills g c = (c.move_found.ensures.moves c.args.usage.now.given c.passes.invariant.moves.fills).fills
+returns-in-Err-move_found-clause-fills g c = (since c.args.usage.now _ (filled_on c.args.usage.now) (moves_then c.passes.invariant.moves (c.move_found.ensures.moves (old_chunks c.args.usage.now.given (filled_on c.args.usage.now)) c.passes.invariant.moves.fills))).fills
+
+pub returns-in-Err-move_found-clause-count : goal.returns-in-Err-move_found-clause-count
+returns-in-Err-move_found-clause-count g c = (since c.args.usage.now _ (filled_on c.args.usage.now) (moves_then c.passes.invariant.moves (c.move_found.ensures.moves (old_chunks c.args.usage.now.given (filled_on c.args.usage.now)) c.passes.invariant.moves.fills))).count
 
 pub returns-in-Err-move_found-clause-paid : goal.returns-in-Err-move_found-clause-paid
-returns-in-Err-move_found-clause-paid g c =
-    let m = moves_then c.passes.invariant.moves (c.move_found.ensures.moves c.args.usage.now.given c.passes.invariant.moves.fills) in
-    let p = m.paid in let s = closed_spent c.args.usage.now in omega arith
+returns-in-Err-move_found-clause-paid g c = (since c.args.usage.now _ (filled_on c.args.usage.now) (moves_then c.passes.invariant.moves (c.move_found.ensures.moves (old_chunks c.args.usage.now.given (filled_on c.args.usage.now)) c.passes.invariant.moves.fills))).paid
 
 pub returns-in-Err-move_found-clause-frame : goal.returns-in-Err-move_found-clause-frame
 returns-in-Err-move_found-clause-frame g c = fenced_then c.passes.invariant.frame (fenced_same (c.next_sparse.ensures.same ∙ c.cell-node.ensures.same) c.move_found.ensures.frame)
 
 pub returns-in-Err-move_found-clause-left : goal.returns-in-Err-move_found-clause-left
-returns-in-Err-move_found-clause-left g c e = c.in-Err-move_found.ensures.left c.args.usage.now.given c.passes.invariant.moves.fills
+returns-in-Err-move_found-clause-left g c e = c.in-Err-move_found.ensures.left (old_chunks c.args.usage.now.given (filled_on c.args.usage.now)) c.passes.invariant.moves.fills
 
 pub returns-in-Ok-move_found-clause-stood : goal.returns-in-Ok-move_found-clause-stood
 returns-in-Ok-move_found-clause-stood g c es t h =
@@ -114,12 +133,13 @@ returns-in-Ok-move_found-clause-stood g c es t h =
     c.move_found.ensures.stood es n.0 (stood_same (c.next_sparse.ensures.same ∙ c.cell-node.ensures.same) refl n.1) (c.next_sparse.ensures.found c.if-next_sparse.true n.0 (node_top n.1 c.cell-node.ensures.same c.cell-node.ensures.value))
 
 pub returns-in-Ok-move_found-clause-fills : goal.returns-in-Ok-move_found-clause-fills
-returns-in-Ok-move_found-clause-fills g c = (c.move_found.ensures.moves c.args.usage.now.given c.passes.invariant.moves.fills).fills
+returns-in-Ok-move_found-clause-fills g c = (since c.args.usage.now _ (filled_on c.args.usage.now) (moves_then c.passes.invariant.moves (c.move_found.ensures.moves (old_chunks c.args.usage.now.given (filled_on c.args.usage.now)) c.passes.invariant.moves.fills))).fills
+
+pub returns-in-Ok-move_found-clause-count : goal.returns-in-Ok-move_found-clause-count
+returns-in-Ok-move_found-clause-count g c = (since c.args.usage.now _ (filled_on c.args.usage.now) (moves_then c.passes.invariant.moves (c.move_found.ensures.moves (old_chunks c.args.usage.now.given (filled_on c.args.usage.now)) c.passes.invariant.moves.fills))).count
 
 pub returns-in-Ok-move_found-clause-paid : goal.returns-in-Ok-move_found-clause-paid
-returns-in-Ok-move_found-clause-paid g c =
-    let m = moves_then c.passes.invariant.moves (c.move_found.ensures.moves c.args.usage.now.given c.passes.invariant.moves.fills) in
-    let p = m.paid in let s = closed_spent c.args.usage.now in omega arith
+returns-in-Ok-move_found-clause-paid g c = (since c.args.usage.now _ (filled_on c.args.usage.now) (moves_then c.passes.invariant.moves (c.move_found.ensures.moves (old_chunks c.args.usage.now.given (filled_on c.args.usage.now)) c.passes.invariant.moves.fills))).paid
 
 pub returns-in-Ok-move_found-clause-frame : goal.returns-in-Ok-move_found-clause-frame
 returns-in-Ok-move_found-clause-frame g c = fenced_then c.passes.invariant.frame (fenced_same (c.next_sparse.ensures.same ∙ c.cell-node.ensures.same) c.move_found.ensures.frame)
@@ -131,7 +151,7 @@ passes-preserved-in-Ok-2 g c =
       stood = λ es t h.
           let n = i.stood es t h in
           c.move_found.ensures.stood es n.0 (stood_same (c.next_sparse.ensures.same ∙ c.cell-node.ensures.same) refl n.1) (c.next_sparse.ensures.found c.if-next_sparse.true n.0 (node_top n.1 c.cell-node.ensures.same c.cell-node.ensures.value));
-      moves = moves_then i.moves (c.move_found.ensures.moves c.args.usage.now.given i.moves.fills);
+      moves = moves_then i.moves (c.move_found.ensures.moves (old_chunks c.args.usage.now.given (filled_on c.args.usage.now)) i.moves.fills);
       elsewhere = i.elsewhere;
       writable = writable_later (subst (λ s. IsWritable g.C.CellWrite.given reserve_account_of s c.passes.usage c.in-Ok.at) (sym (c.next_sparse.ensures.same ∙ c.cell-node.ensures.same)) i.writable) c.move_found.ensures.frame.grows c.move_found.ensures.frame.given_stays;
       frame = fenced_then i.frame (fenced_same (c.next_sparse.ensures.same ∙ c.cell-node.ensures.same) c.move_found.ensures.frame);
@@ -154,7 +174,13 @@ pub returns-else-begins_again-clause-stood : goal.returns-else-begins_again-clau
 returns-else-begins_again-clause-stood g c es t h = let n = c.passes.invariant.stood es t h in (n.0, stood_same (c.next_sparse.ensures.same ∙ c.cell-node.ensures.same) refl n.1)
 
 pub returns-else-begins_again-clause-fills : goal.returns-else-begins_again-clause-fills
-returns-else-begins_again-clause-fills g c = c.passes.invariant.moves.fills
+returns-else-begins_again-clause-fills g c = (since c.args.usage.now _ (filled_on c.args.usage.now) c.passes.invariant.moves).fills
+
+pub returns-else-begins_again-clause-count : goal.returns-else-begins_again-clause-count
+returns-else-begins_again-clause-count g c = (since c.args.usage.now _ (filled_on c.args.usage.now) c.passes.invariant.moves).count
+
+pub returns-else-begins_again-clause-paid : goal.returns-else-begins_again-clause-paid
+returns-else-begins_again-clause-paid g c = (since c.args.usage.now _ (filled_on c.args.usage.now) c.passes.invariant.moves).paid
 
 pub returns-else-begins_again-clause-whole : goal.returns-else-begins_again-clause-whole
 returns-else-begins_again-clause-whole g c e = elim c.if-resumed.branch [
@@ -166,7 +192,7 @@ returns-else-begins_again-clause-whole g c e = elim c.if-resumed.branch [
         let n = i.stood c.requires.stood.es c.requires.stood.t c.requires.stood.stood in
         let test = sym w.begins_again-is ∙ whole in
         let all : c.passes.before ≡ 0 = grind (arith, nat_tests, test) in
-        all_cleared c.args.usage.now.given i.moves.fills i.elsewhere n.1 (c.next_sparse.ensures.none c.if-next_sparse.false w.if-resumed.false all n.0 (node_top n.1 c.cell-node.ensures.same c.cell-node.ensures.value))
+        all_cleared (old_chunks c.args.usage.now.given (filled_on c.args.usage.now)) i.moves.fills i.elsewhere n.1 (c.next_sparse.ensures.none c.if-next_sparse.false w.if-resumed.false all n.0 (node_top n.1 c.cell-node.ensures.same c.cell-node.ensures.value))
         )
   ])
 ]

@@ -20,9 +20,6 @@ returns-then-is_any_sparse-clause-none g c cleared =
     let z = cleared h.chunk h.sparse in
     let s = h.some in absurd (omega arith)
 
-pub returns-then-is_any_sparse-clause-fills : goal.returns-then-is_any_sparse-clause-fills
-returns-then-is_any_sparse-clause-fills g c = let f = c.empty_sparse-new.ensures.fills in record { left = f.left; bump = f.bump }
-
 pub returns-in-None-clause-fills : goal.returns-in-None-clause-fills
 returns-in-None-clause-fills g c = fills_nothing c.args.usage.now c.known.ensures
 
@@ -44,4 +41,4 @@ returns-then-is_any_sparse-clause-asks g c version stands =
     let h = subst (λ (r : Option ℕ). Standing (g.C.CellRead.has c.args.cells.now) (is_used c.args.usage.now) (slice_index c.args.usage.now.live) r version) c.in-Some.is stands in
     let most = old_cells {has = g.C.CellRead.has} {s = c.args.cells.now} {l = c.args.usage.now} (stood_of h.1) in
     let paid : spent c.empty_sparse-new.new.usage ≤ 769 * (length c.args.usage.now.given - free_count c.args.usage.now) + cells version = let p = c.empty_sparse-new.ensures.paid in omega arith in
-    asked_by c.args.usage.now c.empty_sparse-new.new.usage c.empty_sparse-new.ensures.fills.count (cells version) paid c.empty_sparse-new.result.1 c.empty_sparse-new.ensures.stopped
+    asked_by c.args.usage.now c.empty_sparse-new.new.usage c.empty_sparse-new.ensures.count (cells version) paid c.empty_sparse-new.result.1 c.empty_sparse-new.ensures.stopped

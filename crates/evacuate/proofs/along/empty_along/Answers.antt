@@ -7,7 +7,7 @@ use Rattle.evacuate.specs.Places.{HangsIn}
 use Rattle.evacuate.proofs.AlongLaws.{hangs_first, is_hung, stood_in, branch_in, inside_in, further_in, says_in, hangs_further, fewer_in}
 use Rattle.evacuate.proofs.DescentLaws.{begins, stood_same, hung_there, hung_says, hung_read}
 use Rattle.evacuate.proofs.FillingLaws.{moves_none, moves_then}
-use Rattle.evacuate.proofs.along.go_along.Goals as goal
+use Rattle.evacuate.proofs.along.empty_along.Goals as goal
 
 pub of-node-requires : goal.of-node-requires
 of-node-requires g c = let h = begins c.requires.stood.stood in hung_says h (c.cell.ensures.value _ (hung_there h))
@@ -68,8 +68,8 @@ loop-passage-preserved g c = record {
   ready = ready_put c.in_ok-at.ensures.ready (ap g.C.CellWrite.given c.cell-in-Some.ensures.same) (ap g.C.CellWrite.kept c.cell-in-Some.ensures.same);
 }
 
-pub passage_at-requires : goal.passage_at-requires
-passage_at-requires g c b is = let u = c.loop-passage.invariant.way _ _ c.requires.stood.stood in inside_in u b is
+pub emptied_at-requires : goal.emptied_at-requires
+emptied_at-requires g c b is = let u = c.loop-passage.invariant.way _ _ c.requires.stood.stood in inside_in u b is
 
 pub end_along-requires-clause-hung : goal.end_along-requires-clause-hung
 end_along-requires-clause-hung g c = is_hung (c.loop-passage.invariant.way _ _ c.requires.stood.stood) refl
