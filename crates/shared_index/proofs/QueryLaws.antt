@@ -24,6 +24,12 @@ pub pinned_cell : (s t : PinnedSeat (List Entry) (List Operation)) → t ≡ s �
     → Contains (pinned_image t.place.me.0.progress) (record { at = r; big = c.big; small = c.small })
 pinned_cell s t e r c h = subst (λ (u : PinnedSeat (List Entry) (List Operation)). Contains (pinned_image u.place.me.0.progress) (record { at = r; big = c.big; small = c.small })) (sym e) (in_cells _ r c h)
 
+-- what is said of an image as a memory is so of the cells of a seat that has pinned it
+pub in_pinned : (said : (ℕ → Cell → Type 0) → Type 0) (s t : PinnedSeat (List Entry) (List Operation)) → t ≡ s → said (in_image (pinned_image s.place.me.0.progress))
+    → said (λ r c. Contains (pinned_image t.place.me.0.progress) (record { at = r; big = c.big; small = c.small }))
+unfolding in_image
+in_pinned said s t e h = subst (λ (u : PinnedSeat (List Entry) (List Operation)). said (λ r c. Contains (pinned_image u.place.me.0.progress) (record { at = r; big = c.big; small = c.small }))) (sym e) h
+
 pub one_table : (z w : TableId) → IsProp (z ≡ w)
 one_table z w = hlevel props
 

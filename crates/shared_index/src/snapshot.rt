@@ -141,9 +141,10 @@ impl<L: Law, N: Named> Reading for Snapshot<'_, L, N> {
 
     fn fetch(&mut self, key: &Key, out: &mut [u8]) -> Option<usize> {
         let root = self.seat.root;
-        match trie_read::get(self, root, key) {
+        let mut cells = PinnedCells::new(self.shared, &mut self.seat);
+        match trie_read::get(&mut cells, root, key) {
             None => None,
-            Some(leaf) => Some(read_item(self, leaf, out)),
+            Some(leaf) => Some(read_item(&mut cells, leaf, out)),
         }
     }
 

@@ -1,12 +1,54 @@
-use Rattle.std.proofs.Common.{sym, subst}
+use Rattle.std.proofs.Common.{◌≡◌, ◌∙◌, Some, List, ℕ, take, ap, refl, sym, subst}
+use Rattle.std.specs.Prelude.{slice_get, Contains}
 use Rattle.trie_model.specs.Extents.{HasItem}
+use Rattle.trie_model.specs.Keys.{Entry}
+use Rattle.trie_model.specs.Memory.{Stands}
 use Rattle.shared_cells.specs.Views.{pinned_image}
-use Rattle.shared_index.specs.Meanings.{in_image}
+use Rattle.shared_cells.specs.declared.cells.PinnedCells.{PinnedCells}
+use Rattle.shared_cells.specs.declared.pinned.PinnedSeat.{PinnedSeat}
+use Rattle.shared_index.specs.declared.meaning.Operation.{Operation}
+use Rattle.shared_index.specs.declared.snapshot.Snapshot.{Snapshot}
+use Rattle.shared_index.proofs.QueryLaws.{in_pinned, one_table, one_name, same_made}
 use Rattle.shared_index.proofs.snapshot.SnapshotReading.fetch.Goals as goal
+
+pub get-requires : goal.get-requires
+get-requires g c = let h = c.requires.held in (h.0, in_pinned (λ has. Stands has c.args.self.now.seat.root h.0) _ _ c.new-cells.ensures.seat h.1.0, h.1.1)
 
 pub read_item-requires-clause-there : goal.read_item-requires-clause-there
 read_item-requires-clause-there g c =
     let h = c.requires.held in
-    let found = c.in-Some.ensures.value h.0 h.1.0 h.1.1 in
+    let found = c.in-Some.ensures.value h.0 (in_pinned (λ has. Stands has c.args.self.now.seat.root h.0) _ _ c.new-cells.ensures.seat h.1.0) h.1.1 in
     let is = found.3 in
-    (found.0.item, is.entry.item, subst (λ s. HasItem (in_image (pinned_image s.seat.place.me.0.progress)) c.in-Some.leaf.at c.in-Some.leaf.len found.0.item) (sym c.get.ensures.same) is.item)
+    (found.0.item, is.entry.item, subst (λ (s : PinnedCells (List Entry) (List Operation) _). HasItem (λ r x. Contains (pinned_image s.seat.now.place.me.0.progress) (record { at = r; big = x.big; small = x.small })) c.in-Some.leaf.at c.in-Some.leaf.len found.0.item) (sym c.get.ensures.same) is.item)
+
+pub returns-in-None-clause-item : goal.returns-in-None-clause-item
+returns-in-None-clause-item g c version h =
+    (λ there. c.in-None.ensures.value version (in_pinned (λ has. Stands has c.args.self.now.seat.root version) _ _ c.new-cells.ensures.seat h.0) h.1 there.0 there.1 there.2, refl)
+
+pub returns-in-Some-clause-item : goal.returns-in-Some-clause-item
+returns-in-Some-clause-item g c version h =
+    let found = c.in-Some.ensures.value version (in_pinned (λ has. Stands has c.args.self.now.seat.root version) _ _ c.new-cells.ensures.seat h.0) h.1 in
+    let is = found.3 in
+    let there = subst (λ (s : PinnedCells (List Entry) (List Operation) _). HasItem (λ r x. Contains (pinned_image s.seat.now.place.me.0.progress) (record { at = r; big = x.big; small = x.small })) c.in-Some.leaf.at c.in-Some.leaf.len found.0.item) (sym c.get.ensures.same) is.item in
+    let read = c.read_item.ensures in
+    (found.0, found.1, found.2, read.length ∙ sym is.item.there.size, subst (λ (n : ℕ). take n c.read_item.new.out ≡ found.0.item) (sym read.length) (read.item found.0.item is.entry.item there))
+
+pub returns-in-None-clause-same : goal.returns-in-None-clause-same
+returns-in-None-clause-same g c =
+    let q = c.args.self.now in
+    let table = q.shared.now.table.shared.table_id in
+    let name = slice_get g.N.Named.tables q.place in
+    let make : (s : PinnedSeat (List Entry) (List Operation)) → s.place.table_id ≡ table → name ≡ Some s.place.table_id → Snapshot g.row.L.Denot g.row.N.Denot g.N.Named
+    = λ s h k. record { seat = s; place = q.place; shared = q.shared; names = q.names; here = h; named = k } in
+    same_made (λ s. s.place.table_id ≡ table) (λ s. name ≡ Some s.place.table_id) make (λ s. one_table s.place.table_id table) (λ s. one_name name (Some s.place.table_id))
+    c.get.new.cells.seat.now q.seat (ap (λ (p : PinnedCells (List Entry) (List Operation) _). p.seat.now) (c.get.ensures.same) ∙ c.new-cells.ensures.seat) _ _ q.here q.named
+
+pub returns-in-Some-clause-same : goal.returns-in-Some-clause-same
+returns-in-Some-clause-same g c =
+    let q = c.args.self.now in
+    let table = q.shared.now.table.shared.table_id in
+    let name = slice_get g.N.Named.tables q.place in
+    let make : (s : PinnedSeat (List Entry) (List Operation)) → s.place.table_id ≡ table → name ≡ Some s.place.table_id → Snapshot g.row.L.Denot g.row.N.Denot g.N.Named
+    = λ s h k. record { seat = s; place = q.place; shared = q.shared; names = q.names; here = h; named = k } in
+    same_made (λ s. s.place.table_id ≡ table) (λ s. name ≡ Some s.place.table_id) make (λ s. one_table s.place.table_id table) (λ s. one_name name (Some s.place.table_id))
+    c.read_item.new.cells.seat.now q.seat (ap (λ (p : PinnedCells (List Entry) (List Operation) _). p.seat.now) (c.read_item.ensures.same ∙ c.get.ensures.same) ∙ c.new-cells.ensures.seat) _ _ q.here q.named
