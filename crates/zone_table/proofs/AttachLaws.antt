@@ -8,6 +8,7 @@ use Rattle.trie_model.specs.Keys.{Entry, InList}
 use Rattle.trie_model.specs.Order.{begins, IsThere}
 use Rattle.trie_model.proofs.ChainLaws.{begins_same, begins_short, begins_take}
 use Rattle.pin_core.specs.declared.version.Spent.{Spent as NoNumber}
+use Rattle.shared_cells.specs.History.{IsPartOf}
 use Rattle.shared_cells.specs.Views.{is_told}
 use Rattle.shared_index.specs.declared.commit.Receipt.{Receipt}
 use Rattle.shared_index.specs.declared.desk.Draft.{Draft}
@@ -19,7 +20,7 @@ use Rattle.zone_table.specs.declared.change.TableRefusal.{TableRefusal}
 use Rattle.zone_table.specs.declared.change.TableRefusal.TheVariants.{Spent}
 use Rattle.zone_table.specs.Changes.{IsChanged, IsUnchanged, Attaches, Detaches, last_number}
 use Rattle.zone_table.specs.Tables.{IsTable, IsAttached, entry_for}
-use Rattle.zone_table.proofs.KnownLaws.{opened_same}
+use Rattle.zone_table.proofs.KnownLaws.{opened_same, opening_fits, part_more, told_later}
 use Rattle.zone_table.proofs.Lists.{read_at}
 
 -- ---- whether a key is there
@@ -98,7 +99,13 @@ detached origin old new (Ok t) told is e =
 detached origin old new (Err s) told is e =
     subst (Detaches origin old new) (sym is) (unchanged_as (λ es. Missing' (key_of origin) es → ⊥) (λ es. IsAttached es origin) old new s.version (is_there (key_of origin)) e.0, e.1)
 
--- ---- its pass knows of the same opening
+-- ---- its pass has seen no less, and knows of the same opening
+
+pub ends_grow : (met : List Entry → Type 0) (old new : Known) (o : Operation) (r : Result Receipt NoNumber) → is_told old.seen.opening ≡ true → Ends met old new o r → IsPartOf new.seen old.seen
+ends_grow met old new o (Ok t) told e =
+    let base = told_later e.base old.seen told e.grows in
+    part_more new.seen e.base old.seen told (record { opening = opening_fits new.seen e.base base e.opening; history = (_, e.history); namings = e.namings }) e.grows
+ends_grow met old new o (Err s) told e = e.0.grows
 
 pub opening_after : (met : List Entry → Type 0) (origins : List Name) (old new : Known) (o : Operation) (r : Result Receipt NoNumber) → is_told old.seen.opening ≡ true → IsTable origins (first_version old.seen) → Ends met old new o r → IsTable origins (first_version new.seen)
 opening_after met origins old new o (Ok t) told table e = subst (IsTable origins) (sym (ap (λ (x : Option (List Entry)). unwrap_or x []) e.opening ∙ opened_same e.base old.seen told e.grows)) table

@@ -1,5 +1,5 @@
 -- What becomes of a change of the table, by what its transaction tells.
-use Rattle.std.proofs.Common.{◌≡◌, ◌⊎◌, ◌∙◌, inl, inr, ⊎_elim, ℕ, ◌+◌, ◌≤◌, Bool, true, false, cond, List, [], ◌∷◌, ◌++◌, length, Option, Some, None, Result, Ok, Err, arith, refl, sym, ap, subst, length-append, append-nil, append_assoc}
+use Rattle.std.proofs.Common.{◌≡◌, ◌⊎◌, ◌∙◌, inl, inr, ⊎_elim, ℕ, ◌+◌, ◌≤◌, Bool, true, false, cond, List, [], ◌∷◌, ◌++◌, length, Option, Some, None, Result, Ok, Err, arith, refl, sym, ap, subst, length-append, append-nil}
 use Rattle.std.specs.Prelude.{◌≢◌, ◌↔◌, IsSome, IsSomeAnd, IfSome, IfOk, IfErr, IsOk, IsErr, unwrap_or}
 use Rattle.std.specs.List.{AllByRecursion, filter}
 use Rattle.std.proofs.lemmas.List.Elements.{All-contains}
@@ -13,7 +13,7 @@ use Rattle.packed_node.specs.declared.Cell.{Cell}
 use Rattle.trie_model.specs.Capacity.{is_roomy}
 use Rattle.pin_core.specs.declared.version.Spent.{Spent as NoNumber}
 use Rattle.shared_cells.specs.declared.view.Entry.{Entry as Commit}
-use Rattle.shared_cells.specs.History.{StartsWith, IsPartOf, OpeningFits, entries_by, entry_of, version_after}
+use Rattle.shared_cells.specs.History.{IsPartOf, entries_by, entry_of, version_after}
 use Rattle.shared_cells.specs.Views.{is_told}
 use Rattle.shared_index.specs.declared.commit.Receipt.{Receipt}
 use Rattle.shared_index.specs.declared.meaning.Named.{Ghosts}
@@ -29,13 +29,13 @@ use Rattle.shared_index.specs.Operations.{operated, applied, below, above, AreWi
 use Rattle.shared_index.specs.Passes.{Known, known_at, first_version, version_seen}
 use Rattle.shared_index.proofs.GoesLaws.{base_goes_on, first_goes_on}
 use Rattle.zone_table.specs.Changes.{IsChanged, IsUnchanged, last_number}
-use Rattle.zone_table.specs.Notes.{Sighting}
 use Rattle.zone_table.specs.Passes.{IsPassOf, table_known}
 use Rattle.zone_table.specs.Tables.{IsTable, IsAmong}
 use Rattle.zone_table.specs.declared.pass.ZonesPass.{ZonesPass}
-use Rattle.zone_table.proofs.AttachLaws.{Ends, opening_after, opening_unchanged}
+use Rattle.zone_table.proofs.AttachLaws.{Ends, ends_grow, opening_after, opening_unchanged}
 use Rattle.zone_table.proofs.CapacityLaws.{few_cells}
-use Rattle.zone_table.proofs.KnownLaws.{Seat, opened_same, part_of, seat_told}
+use Rattle.zone_table.proofs.KnownLaws.{Seat, opened_same, opening_fits, part_more, part_of, seat_told}
+use Rattle.zone_table.proofs.RecallLaws.{recalls_later}
 
 -- ---- drafts that are there
 
@@ -61,25 +61,6 @@ there_and P o d is h = subst (λ (x : Option Draft). IsSomeAnd x P) is h
 
 pub some_and : (P : Draft → Type 0) (o : Option Draft) (d : Draft) → o ≡ Some d → P d → IsSomeAnd o P
 some_and P o d is p = subst (λ (x : Option Draft). IsSomeAnd x P) (sym is) p
-
--- ---- beginnings
-
-begins_more : {A : Type 0} (all more part : List A) → StartsWith all more → StartsWith more part → StartsWith all part
-begins_more all more part a b = (b.0 ++ a.0, a.1 ∙ ap (λ l. l ++ a.0) b.1 ∙ append_assoc part b.0 a.0)
-
-part_more : (all more part : Sighting) → is_told part.opening ≡ true → IsPartOf all more → IsPartOf more part → IsPartOf all part
-part_more all more part told a b = record {
-  opening = fits part.opening refl told;
-  history = begins_more all.history more.history part.history a.history b.history;
-  namings = begins_more all.namings more.namings part.namings a.namings b.namings;
-}
-  where
-    fits : (o : Option (List Entry)) → part.opening ≡ o → is_told o ≡ true → OpeningFits all.opening part.opening part
-    fits None e t = absurd cc
-    fits (Some es) e t =
-        let here : more.opening ≡ Some es = subst (λ (x : Option (List Entry)). OpeningFits more.opening x part) e b.opening in
-        let there : all.opening ≡ Some es = subst (λ (x : Option (List Entry)). OpeningFits all.opening x more) here a.opening in
-        subst (λ (x : Option (List Entry)). OpeningFits all.opening x part) (sym e) there
 
 -- ---- what is in a version
 
@@ -144,14 +125,10 @@ module _ (origins : List Name) (old : Known) (d : Draft) (told : is_told old.see
 
     goes_part : IsPartOf e.seat.place.me.0.seen d.seat.place.me.0.seen
     goes_part = record {
-      opening = fits d.seat.place.me.0.seen.opening refl d.seat.told;
+      opening = opening_fits e.seat.place.me.0.seen d.seat.place.me.0.seen d.seat.told known.opening;
       history = ([], known.history ∙ sym (append-nil d.seat.place.me.0.seen.history));
       namings = known.namings;
     }
-      where
-        fits : (o : Option (List Entry)) → d.seat.place.me.0.seen.opening ≡ o → is_told o ≡ true → OpeningFits e.seat.place.me.0.seen.opening d.seat.place.me.0.seen.opening d.seat.place.me.0.seen
-        fits None is t = absurd cc
-        fits (Some es) is t = subst (λ (o : Option (List Entry)). OpeningFits e.seat.place.me.0.seen.opening o d.seat.place.me.0.seen) (sym is) (known.opening ∙ is)
 
     pub grown : IsPartOf e.seat.place.me.0.seen old.seen
     grown = part_more e.seat.place.me.0.seen d.seat.place.me.0.seen old.seen told goes_part b.joined.grows
@@ -268,8 +245,15 @@ module _ {E X : Type 0} {N : Ghosts X} (refusal : E) (o : Operation) (denied : L
       )
 
   -- the pass of the table is in its place again
-  with_table : (t : Pass X N) → IsSome t.seat → t.place ≡ 0 → IsTable origins (first_version (known_at t.seat).seen) → IsPassOf origins (record p { table = t })
-  with_table t here place opening = record { table_here = here; table_place = place; opening = opening; zones_here = is.zones_here; zone_places = is.zone_places }
+  with_table : (t : Pass X N) → IsSome t.seat → t.place ≡ 0 → IsTable origins (first_version (known_at t.seat).seen) → IsPartOf (known_at t.seat).seen old.seen → IsPassOf origins (record p { table = t })
+  with_table t here place opening grows = record {
+    table_here = here;
+    table_place = place;
+    opening = opening;
+    zones_here = is.zones_here;
+    zone_places = is.zone_places;
+    recalls = recalls_later origins (known_at t.seat).seen old.seen p.recalled.version p.recalled.attached grows is.recalls;
+  }
 
   -- behind a commit
   pub record Committed (t : Pass X N) (r : Result Receipt NoNumber) : Type 0 where
@@ -281,7 +265,7 @@ module _ {E X : Type 0} {N : Ghosts X} (refusal : E) (o : Operation) (denied : L
       → IfErr r (λ _. IfSome second (λ d. IsBack d.seat.place.me.0 t.seat)) → IfSome second (λ d. IsErr r ↔ (d.seat.version ≡ last_number)) → IfErr r (λ s. IfSome second (λ d. s.version ≡ d.seat.version)) → Committed t r
   committed t r calls here place commits next back spent last =
       let ends = is_ended t.seat r calls commits next back spent last in
-      record { pass = with_table t here place (opening_after (λ es. denied es → ⊥) origins old (known_at t.seat) o r told table ends); ends = ends }
+      record { pass = with_table t here place (opening_after (λ es. denied es → ⊥) origins old (known_at t.seat) o r told table ends) (ends_grow (λ es. denied es → ⊥) old (known_at t.seat) o r told ends); ends = ends }
 
   -- where nothing was done
   pub record Refused (t : Pass X N) (number : ℕ) : Type 0 where
@@ -295,7 +279,7 @@ module _ {E X : Type 0} {N : Ghosts X} (refusal : E) (o : Operation) (denied : L
       let same = is_refused t.seat number calls back here in
       record {
         pass = with_table t (there_is (λ d. IsBack d.seat.place.me.0 t.seat) second x.after x.new_is back).0 (there_is (λ _. t.place ≡ place) second x.after x.new_is at ∙ first_place)
-            (opening_unchanged denied origins old (known_at t.seat) number told table same);
+            (opening_unchanged denied origins old (known_at t.seat) number told table same) same.grows;
         unchanged = same;
       }
 

@@ -21,6 +21,7 @@ use Rattle.zone_table.specs.Openings.{Place, places_of, origins_of, entries_in, 
 use Rattle.zone_table.specs.Passes.{IsPassOf, table_known, zone_known}
 use Rattle.zone_table.specs.Tables.{IsTable}
 use Rattle.zone_table.proofs.Lists.{all_at, get_in, last_or_before, mapped_at, contains_at, place_in, some_is}
+use Rattle.zone_table.proofs.RecallLaws.{nothing_recalled}
 use Rattle.zone_table.proofs.WalkLaws.{Walk}
 
 -- ---- lists by their places
@@ -54,6 +55,7 @@ module _ {X : Type 0} {N : Ghosts X} where
   one_zone tables zones old new passes many g d = record {
     count = d.count ∙ g.count;
     table = λ k q iq. let p = before k q iq in let m = more k q iq in g.table k p.0 p.1 ∙ ap (λ (x : Pass X N). Some x) (sym m.table);
+    recalled = λ k q iq. let p = before k q iq in let m = more k q iq in ap (λ r. r.version) m.recalled ∙ g.recalled k p.0 p.1;
     width = λ k q iq. let p = before k q iq in let m = more k q iq in
         ap length m.zones ∙ length-append p.0.zones.items ((taken k q iq).0 ∷ []) ∙ ap (λ (n : ℕ). n + 1) (g.width k p.0 p.1) ∙ sym (length-append zones (passes ∷ []));
     zone = λ k j q c z iq ic iz.
@@ -128,6 +130,7 @@ module _ {X Y : Type 0} {N : Ghosts Y} (origins : List Name) (table : List Entry
             let c = cell k j p z ip iz in (all_at (λ q. (IsSome q.seat) × (q.place ≡ j + 1) × SeesFirst (entries_in c.at.zone) (known_at q.seat)) c.one.passes.items k z c.is.passes c.here).0);
         zone_places = numbered (λ z. z.place) p.zones.items 1 (length origins) (grid.width k p ip ∙ columns) (λ j z iz.
             let c = cell k j p z ip iz in let n = (all_at (λ q. (IsSome q.seat) × (q.place ≡ j + 1) × SeesFirst (entries_in c.at.zone) (known_at q.seat)) c.one.passes.items k z c.is.passes c.here).1 in omega arith);
+        recalls = nothing_recalled origins (known_at p.table.seat).seen p.recalled.version p.recalled.attached (grid.recalled k p ip);
       }
 
   pub are_passes : All (IsPassOf origins) all

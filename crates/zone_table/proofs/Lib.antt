@@ -1,8 +1,7 @@
 pub mod Lists
-mod WireLaws
-pub mod ChainLaws
 pub mod OriginLaws
 pub mod KnownLaws
+pub mod RecallLaws
 pub mod PassLaws
 pub mod LearnLaws
 pub mod TableLaws
@@ -12,5 +11,7 @@ pub mod CapacityLaws
 pub mod ChangeLaws
 pub mod AttachLaws
 pub mod WalkLaws
+pub mod LookLaws
 pub mod DealLaws
+pub mod ShelfLaws
 pub mod EndLaws

@@ -1,5 +1,5 @@
 -- How the passes of the table and of the zones are put together.
-use Rattle.std.specs.Prelude.{◌≡◌, ℕ, ◌<◌, List, [], ◌∷◌, ◌++◌, length, map, All, Some, slice_get}
+use Rattle.std.specs.Prelude.{◌≡◌, ℕ, ◌<◌, List, [], ◌∷◌, ◌++◌, length, map, All, Some, None, slice_get}
 use Rattle.trie_model.specs.Keys.{Entry}
 use Rattle.shared_index.specs.declared.meaning.Named.{Ghosts}
 use Rattle.shared_index.specs.declared.pass.Pass.{Pass}
@@ -15,6 +15,7 @@ use Rattle.zone_table.specs.Tables.{IsTable}
 -- it has the pass of one zone more
 pub record HasOneMore {X : Type 0} {N : Ghosts X} (old new : ZonesPass X N) (p : Pass X N) : Type 0 where
   pub table : new.table ≡ old.table
+  pub recalled : new.recalled ≡ old.recalled
   pub zones : new.zones.items ≡ old.zones.items ++ p ∷ []
 
 -- each has one more, by their places
@@ -22,10 +23,11 @@ pub record AreDealt {X : Type 0} {N : Ghosts X} (old new : List (ZonesPass X N))
   pub count : length new ≡ length old
   pub each : (k : ℕ) (p q : ZonesPass X N) (z : Pass X N) → slice_get old k ≡ Some p → slice_get new k ≡ Some q → slice_get passes k ≡ Some z → HasOneMore p q z
 
--- each has the pass of the table that stands at its place, and of each zone the one that does
+-- Each has the pass of the table that stands at its place, and of each zone the one that does. It remembers nothing.
 pub record IsGrid {X : Type 0} {N : Ghosts X} (tables : List (Pass X N)) (zones : List (List (Pass X N))) (all : List (ZonesPass X N)) : Type 0 where
   pub count : length all ≡ length tables
   pub table : (k : ℕ) (p : ZonesPass X N) → slice_get all k ≡ Some p → slice_get tables k ≡ Some p.table
+  pub recalled : (k : ℕ) (p : ZonesPass X N) → slice_get all k ≡ Some p → p.recalled.version ≡ None
   pub width : (k : ℕ) (p : ZonesPass X N) → slice_get all k ≡ Some p → length p.zones.items ≡ length zones
   pub zone : (k j : ℕ) (p : ZonesPass X N) (c : List (Pass X N)) (z : Pass X N) → slice_get all k ≡ Some p → slice_get zones j ≡ Some c → slice_get p.zones.items j ≡ Some z → slice_get c k ≡ Some z
 

@@ -1,4 +1,6 @@
 pub mod Tables
+pub mod Shelves
+pub mod Recalled
 pub mod Locations
 pub mod Passes
 pub mod Lends

@@ -1,19 +1,22 @@
 -- What a pass of the zones has: a seat at the table and one at each zone.
-use Rattle.std.specs.Prelude.{◌≡◌, ℕ, List, length, map, All, IsSome, None, slice_get, unwrap_or}
+use Rattle.std.specs.Prelude.{◌≡◌, ℕ, List, length, map, All, IfSome, IsSome, None, slice_get, unwrap_or}
 use Rattle.std.specs.List.{range_with_len}
 use Rattle.zone_model.specs.Names.{Name}
 use Rattle.shared_index.specs.declared.meaning.Named.{Ghosts}
 use Rattle.shared_index.specs.Passes.{Known, known_at, first_version}
 use Rattle.zone_table.specs.declared.pass.ZonesPass.{ZonesPass}
+use Rattle.zone_table.specs.Recalled.{Recalls}
 use Rattle.zone_table.specs.Tables.{IsTable}
 
--- No query and no transaction of it was forgotten, so that each seat is in its place. It knows of the table's opening.
+-- No query and no transaction of it was forgotten, so that each seat is in its place. It knows of the table's opening, and
+-- what it remembers is of a version that it has seen.
 pub record IsPassOf {X : Type 0} {N : Ghosts X} (origins : List Name) (p : ZonesPass X N) : Type 0 where
   pub table_here : IsSome p.table.seat
   pub table_place : p.table.place ≡ 0
   pub opening : IsTable origins (first_version (known_at p.table.seat).seen)
   pub zones_here : All (λ z. IsSome z.seat) p.zones.items
   pub zone_places : map (λ z. z.place) p.zones.items ≡ range_with_len 1 (length origins)
+  pub recalls : IfSome p.recalled.version (λ number. Recalls origins (known_at p.table.seat).seen number p.recalled.attached)
 
 -- what it knows of the table, and of each zone
 abbrev pub table_known : {X : Type 0} {N : Ghosts X} → ZonesPass X N → Known

@@ -12,6 +12,7 @@ use crate::dealing::deal_all;
 use crate::law::TableLaw;
 use crate::opening::{Opened, ZoneItems, ZonesRefusal, open_each};
 use crate::pass::ZonesPass;
+use crate::shelves::shelves_for;
 use crate::table::table_items;
 use crate::zones::Zones;
 use dns_name::Name;
@@ -76,10 +77,12 @@ fn assemble<L: Law, N: Named>(
     let origins = origins_of(alloc, zones)?;
     let Opened { index, passes } = open_table::<N>(alloc, blank, &origins)?;
     let (indexes, all) = deal_all(alloc, passes, opened)?;
+    let shelves = shelves_for(alloc, &origins)?;
     let zones = Zones {
         table: index,
         zones: indexes,
         origins,
+        shelves,
     };
     Ok((zones, all))
 }

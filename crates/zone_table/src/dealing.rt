@@ -1,10 +1,10 @@
 //! The passes of the table and of the zones, put together.
-ghost use Rattle.std.specs.Prelude.{◌≡◌, [], All, IfOk, OnOk, length, map};
+ghost use Rattle.std.specs.Prelude.{◌≡◌, [], All, IfOk, None, OnOk, length, map};
 ghost use Rattle.zone_table.specs.Dealings.{AreDealt, IsGrid};
 
-use crate::deepest::Locator;
 use crate::opening::Opened;
 use crate::pass::ZonesPass;
+use crate::recalled::Recalled;
 use shared_index::{Index, Law, Named, Pass};
 use std::alloc::{AllocError, Global};
 
@@ -15,6 +15,7 @@ fn table_passes<N: Named>(
 ) -> Result<Vec<ZonesPass<N>>, AllocError>
     ensures tables { IfOk result (λ all. map (λ p. p.table) all.items ≡ passes.items) }
     ensures none { IfOk result (λ all. All (λ p. p.zones.items ≡ []) all.items) }
+    ensures nothing { IfOk result (λ all. All (λ p. p.recalled.version ≡ None) all.items) }
 {
     let mut passes = passes;
     let mut all = Vec::with_capacity(alloc, passes.len())?;
@@ -24,7 +25,7 @@ fn table_passes<N: Named>(
             ZonesPass {
                 table: pass,
                 zones: Vec::new(alloc),
-                locator: Locator::new(),
+                recalled: Recalled::nothing(),
             },
         )?;
     }

@@ -1,77 +1,51 @@
-//! The deepest of some origins at or above a name.
-ghost use Rattle.std.specs.Prelude.{◌≡◌, ◌≤◌, ◌++◌, ◌∷◌, [], List, Contains, IfSome, IsNone, MatchOption, ℕ, length, map, slice_get};
-ghost use Rattle.std.specs.List.{AllByRecursion};
-ghost use Rattle.zone_model.specs.Names.{IsName};
+//! The zone of the deepest origin at or above a name, of those that are attached.
+ghost use Rattle.std.specs.Prelude.{◌↔◌, ◌<◌, IfSome, IsNone, IsTrue, List, ℕ, length};
+ghost use Rattle.dns_name.specs.Spelling.{IsSpelled, Spells};
 ghost use Rattle.trie_model.specs.Keys.{Entry};
-ghost use Rattle.trie_read.specs.declared.ancestors.Ancestor.{Ancestor};
-ghost use Rattle.zone_table.specs.Tables.{IsPart};
+ghost use Rattle.zone_model.specs.Names.{Name as Labels};
 ghost use Rattle.zone_table.specs.Locations.{IsZoneOf};
+ghost use Rattle.zone_table.specs.Recalled.{AreAttached, IsAt};
 
-use dns_name::Name;
-use shift_key::Key;
-use trie_read::{Ancestors, Iter, Reading};
+use crate::shelves::shelf_of;
+use crate::zones::Zones;
+use dns_name::first_label;
+use shared_index::{Law, Named};
 
-// How many labels the last of some names has.
-fn last_labels(above: &Ancestors) -> Option<u8>
-    ensures { MatchOption result (above.now ≡ []) (λ last. (front : List ℕ) × (map (λ (a : Ancestor). a.labels) above.now ≡ front ++ last ∷ [])) }
-{
-    let names = above.as_slice();
-    if names.is_empty() {
-        return None;
+impl<L: Law, N: Named> Zones<L, N> {
+    // Whether a zone is attached and has just this origin.
+    #[inline]
+    fn is_at(&self, attached: &[bool; 16], octets: &[u8], zone: usize) -> bool
+        requires { zone < length self.now.origins.items }
+        ensures { IsTrue result ↔ IsAt self.now.origins.items attached.now octets.now zone }
+    {
+        attached[zone] && self.origins[zone].wire() == octets
     }
-    Some(names[names.len() - 1].labels)
-}
 
-// The first place at which the name stands.
-fn place_of(names: &[Name], name: &Name) -> Option<u32>
-    requires { length names.now ≤ 16 }
-    ensures found { IfSome result (λ place. slice_get names.now place ≡ Some name.now) }
-    ensures none { IsNone result → Contains names.now name.now → ⊥ }
-{
-    let wire = name.wire();
-    for place in 0..names.len() {
-        if names[place].wire() == wire {
-            return Some(place as u32);
+    // The zone that is attached and has just this origin.
+    fn zone_at(&self, attached: &[bool; 16], octets: &[u8]) -> Option<u32>
+        requires { 0 < length octets.now }
+        ensures found { IfSome result (IsAt self.now.origins.items attached.now octets.now) }
+        ensures none { IsNone result → (zone : ℕ) → IsAt self.now.origins.items attached.now octets.now zone → ⊥ }
+    {
+        let zones = &self.shelves[shelf_of(octets)];
+        for zone in zones {
+            if self.is_at(attached, octets, *zone as usize) {
+                return Some(*zone);
+            }
         }
+        None
     }
-    None
-}
 
-/// What names are located with. It is kept from one to the next, since it takes some KiB that are cleared when it is made.
-#[derive(Drop)]
-pub struct Locator {
-    key: Key,
-    place: Iter,
-    above: Ancestors,
-}
-
-impl Locator {
-    pub fn new() -> Locator {
-        Locator {
-            key: Key::root(),
-            place: Iter::start(None),
-            above: Ancestors::new(),
+    /// The zone that a name of this wire form is in, where it is told of each zone whether it is attached.
+    pub(crate) fn deepest(&self, attached: &[bool; 16], octets: &[u8]) -> Option<u32>
+        requires { IsSpelled octets.now }
+        ensures { (es : List Entry) (name : Labels) → Spells octets.now name → AreAttached self.now.origins.items es attached.now
+            → IsZoneOf self.now.origins.items es name result }
+    {
+        if let Some(zone) = self.zone_at(attached, octets) {
+            return Some(zone);
         }
+        let (_, above) = first_label(octets)?;
+        self.deepest(attached, above)
     }
-}
-
-/// The number of the zone that a name is in, by a version of the table of these origins.
-pub fn zone_of<V: Reading>(
-    version: &mut V,
-    origins: &[Name],
-    name: &Name,
-    locator: &mut Locator,
-) -> Option<u32>
-    requires few { length origins.now ≤ 16 }
-    requires names { AllByRecursion IsName origins.now }
-    requires part { (es : List Entry) × V.holds version.old es × IsPart origins.now es }
-    ensures same { version.new ≡ version.old }
-    ensures zone { (es : List Entry) → V.holds version.old es → IsPart origins.now es → IsZoneOf origins.now es name.now result }
-{
-    let _wire = name.wire(); // for the proof
-    locator.key.set(name);
-    version.restart(&mut locator.place);
-    let _leaf = version.lookup(&mut locator.place, &locator.key, &mut locator.above);
-    let labels = last_labels(&locator.above)?;
-    place_of(origins, &name.cut(labels))
 }

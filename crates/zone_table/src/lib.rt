@@ -14,6 +14,8 @@ mod locating;
 mod note;
 mod opening;
 mod pass;
+mod recalled;
+mod shelves;
 mod table;
 mod zones;
 

@@ -4,8 +4,8 @@ ghost use Rattle.shared_index.specs.Passes.{known_at, version_seen, Pinned};
 ghost use Rattle.zone_table.specs.Tables.{IsAmong};
 ghost use Rattle.zone_table.specs.Locations.{IsZoneOf};
 ghost use Rattle.zone_table.specs.Passes.{IsPassOf};
+ghost use Rattle.zone_table.specs.Recalled.{AreAttached};
 
-use crate::deepest::zone_of;
 use crate::pass::ZonesPass;
 use crate::zones::Zones;
 use dns_name::Name;
@@ -30,6 +30,19 @@ pub struct Attached {
 }
 
 impl<N: Named> ZonesPass<N> {
+    // Looks which zones are attached in the version that is current at some moment of the call, and gives its number.
+    fn look<L: Law>(&mut self, zones: &Zones<L, N>) -> u64
+        requires pass { IsPassOf zones.now.origins.items self.old }
+        ensures pass { IsPassOf zones.now.origins.items self.new }
+        ensures others { self.new.zones ≡ self.old.zones }
+        ensures version { Pinned IsAmong (known_at self.old.table.seat) (known_at self.new.table.seat) result }
+        ensures attached { AreAttached zones.now.origins.items (version_seen (known_at self.new.table.seat).seen) self.new.recalled.attached }
+    {
+        let mut query = self.table.query(&zones.table);
+        self.recalled.look(&mut query, &zones.origins);
+        query.version()
+    }
+
     /// Finds the zone that a name is in: the one with the deepest origin at or above it, in the version of the table that is current at some moment of
     /// the call, and no older than what this pass had seen.
     pub fn locate<L: Law>(&mut self, zones: &Zones<L, N>, name: &Name) -> Located
@@ -39,9 +52,8 @@ impl<N: Named> ZonesPass<N> {
         ensures version { Pinned IsAmong (known_at self.old.table.seat) (known_at self.new.table.seat) result.version }
         ensures zone { IsZoneOf zones.now.origins.items (version_seen (known_at self.new.table.seat).seen) name.now result.zone }
     {
-        let mut query = self.table.query(&zones.table);
-        let version = query.version();
-        let zone = zone_of(&mut query, &zones.origins, name, &mut self.locator);
+        let version = self.look(zones);
+        let zone = zones.deepest(&self.recalled.attached, name.wire());
         Located { version, zone }
     }
 

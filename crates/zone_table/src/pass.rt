@@ -5,7 +5,7 @@ ghost use Rattle.shared_index.specs.Passes.{known_at};
 ghost use Rattle.zone_table.specs.Passes.{IsPassOf, zone_known};
 ghost use Rattle.zone_table.specs.Lends.{lends_zone};
 
-use crate::deepest::Locator;
+use crate::recalled::Recalled;
 use crate::zones::Zones;
 use shared_index::{Law, Named, Pass};
 
@@ -15,7 +15,8 @@ pub struct ZonesPass<N: Named> {
     pub(crate) table: Pass<N>,
     /// One for each zone, in the order of their numbers.
     pub(crate) zones: Vec<Pass<N>>,
-    pub(crate) locator: Locator,
+    /// Of the table.
+    pub(crate) recalled: Recalled,
 }
 
 impl<N: Named> ZonesPass<N> {

@@ -1,9 +1,10 @@
-use Rattle.std.proofs.Common.{◌∙◌, length, map, arith, sym, ap, subst, refl}
+use Rattle.std.proofs.Common.{◌∙◌, List, length, map, arith, sym, ap, subst, refl}
 use Rattle.std.specs.List.{All}
 use Rattle.std.proofs.lemmas.List.{length-map}
 use Rattle.std.proofs.lemmas.List.Elements.{recursion_from_All}
-use Rattle.zone_model.specs.Names.{IsName}
+use Rattle.zone_model.specs.Names.{IsName, Name}
 use Rattle.zone_table.specs.declared.opening.ZoneItems.{ZoneItems}
+use Rattle.zone_table.specs.Shelves.{AreFiled, AreZones}
 use Rattle.zone_table.specs.Tables.{IsTable}
 use Rattle.zone_table.proofs.DealLaws.{same_counts, numbered_indexes, indexes_many, made_of}
 use Rattle.zone_table.proofs.assembly.assemble.Goals as goal
@@ -33,6 +34,9 @@ invariant_of-zones g c =
       some = (let m = c.requires.some in omega arith);
       few = (let m = c.requires.few in omega arith);
       names = recursion_from_All IsName c.in_ok-origins.origins.items c.in_ok-origins.ensures.names;
+      shelf_count = c.in_ok-shelves.ensures.count;
+      shelf_zones = subst (λ (names : List Name). AreZones (length names) (map (λ s. s.items) c.in_ok-shelves.shelves.items)) c.deref-2.ensures.value c.in_ok-shelves.ensures.zones;
+      filed = subst (λ (names : List Name). AreFiled names (map (λ s. s.items) c.in_ok-shelves.shelves.items)) c.deref-2.ensures.value c.in_ok-shelves.ensures.filed;
     }
 
 pub returns-clause-passes : goal.returns-clause-passes

@@ -20,7 +20,7 @@ loop-pass-preserved g c =
     let inside : c.len-place.result < length c.loop-pass.all.items = omega arith in
     walk_next HasOneMore c.args.all.now.items c.loop-pass.all.items c.args.passes.items c.loop-pass.passes.items c.pop.new.self.items c.in-Some.pass w c.in-Some.ensures.items c.len-place.result
     c.index_mut.result.now (record c.index_mut.result.now { zones = c.push.new.self }) at (read_at c.loop-pass.all.items c.len-place.result c.index_mut.result.now inside c.index_mut.ensures.value) inside
-    (record { table = refl; zones = c.in_ok-push.ensures.items })
+    (record { table = refl; recalled = refl; zones = c.in_ok-push.ensures.items })
 
 pub returns : goal.returns
 returns g c =

@@ -1,4 +1,4 @@
-use Rattle.std.specs.Prelude.{◌≡◌, ◌++◌, [], All, length, map}
+use Rattle.std.specs.Prelude.{◌≡◌, ◌++◌, [], All, None, length, map}
 use Rattle.zone_table.proofs.dealing.table_passes.Given as goal
 
 -- those that are left, and behind them those that were taken
@@ -6,6 +6,7 @@ abbrev pub invariant-loop-pass : goal.invariant-loop-pass
 invariant-loop-pass g l = record {
   tables : l.passes.items ++ map (λ p. p.table) l.all.items ≡ l.fn.passes.items;
   none : All (λ p. p.zones.items ≡ []) l.all.items;
+  nothing : All (λ p. p.recalled.version ≡ None) l.all.items;
 }
 
 abbrev pub decreases-loop-pass : goal.decreases-loop-pass

@@ -1,0 +1,23 @@
+use Rattle.std.proofs.Common.{◌∙◌, sym, subst}
+use Rattle.shared_index.specs.Passes.{known_at}
+use Rattle.zone_table.specs.Passes.{table_known}
+use Rattle.zone_table.specs.Tables.{IsTable}
+use Rattle.zone_table.proofs.KnownLaws.{opened_same, seat_told}
+use Rattle.zone_table.proofs.RecallLaws.{recalls_later}
+use Rattle.zone_table.proofs.pass.ZonesPass.learn.Goals as goal
+
+pub returns-clause-pass : goal.returns-clause-pass
+returns-clause-pass g c =
+    let p = c.args.self.now in
+    let is = c.requires.pass in
+    let origins = c.args.zones.now.origins.items in
+    let new = (known_at c.learn.new.self.seat).seen in
+    let grows = c.learn.ensures.learnt.grows in
+    record {
+      table_here = c.learn.ensures.here;
+      table_place = c.learn.ensures.place ∙ is.table_place;
+      opening = subst (IsTable origins) (sym (opened_same new (table_known p).seen (seat_told p.table.seat is.table_here) grows)) is.opening;
+      zones_here = c.learn_each.ensures.here;
+      zone_places = c.learn_each.ensures.places ∙ is.zone_places;
+      recalls = recalls_later origins new (table_known p).seen p.recalled.version p.recalled.attached grows is.recalls;
+    }
