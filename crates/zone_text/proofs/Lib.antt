@@ -1,5 +1,6 @@
 pub mod AddressLemmas
 pub mod CutLemmas
+pub mod DecimalLemmas
 pub mod EntryLemmas
 pub mod EscapeLemmas
 pub mod LineLemmas
