@@ -34,6 +34,7 @@ pub fn is_near(neighbour: &Option<Name>, name: &Name) -> bool
 }
 
 /// The name behind an iterator's place, which stays.
+#[inline]
 pub fn name_ahead<V: Reading>(version: &mut V, iter: &mut Iter) -> Option<Name>
     requires { IsStanding (V.stands version.old iter.old) }
     ensures same { version.new ≡ version.old }

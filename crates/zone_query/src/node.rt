@@ -12,7 +12,6 @@ use crate::near::{closest, is_near, name_ahead, shows_ahead};
 use crate::records::Held;
 use crate::walker::Walker;
 use dns_name::Name;
-use shift_key::Key;
 use trie_read::Reading;
 
 /// The wildcard right under a name, if it exists. What it owns is read into a buffer.
@@ -28,9 +27,12 @@ fn wildcard_under<V: Reading>(
     ensures node { (zone : Version) → StandsOn (V.holds version.old) (V.stands version.old walker.old.iter) zone
         → IsNodeOf item.new (wildcard_under zone (Some name.now)) result }
 {
-    let star = name.star()?;
+    let Some(star) = name.star() else {
+        return None;
+    };
     let _wire = star.wire(); // for the proof
-    if let Some(leaf) = version.lookup(&mut walker.iter, &Key::of(&star), &mut walker.above) {
+    walker.key.set(&star);
+    if let Some(leaf) = version.lookup(&mut walker.iter, &walker.key, &mut walker.above) {
         let len = version.read(leaf, item);
         return Some(Held { name: star, len });
     }
@@ -63,6 +65,8 @@ pub fn absent_node<V: Reading>(
             len: 0,
         });
     }
-    let above = closest(version, &mut walker.iter, name, &after, met)?;
-    wildcard_under(version, walker, &above, item)
+    match closest(version, &mut walker.iter, name, &after, met) {
+        Some(above) => wildcard_under(version, walker, &above, item),
+        None => None,
+    }
 }

@@ -156,13 +156,12 @@ fn give_absent<V: Reading, S: RowSink>(
     }
 }
 
-/// What a name gives, by one walk of the trie: the cuts above it, what it owns, and its neighbours.
+/// What a name gives, by one walk of the trie: the cuts above it, what it owns, and its neighbours. The walker has the name's key.
 fn search<V: Reading, S: RowSink>(
     alloc: Global,
     version: &mut V,
     origin: &Name,
     name: &Name,
-    key: &Key,
     rtype: u16,
     walker: &mut Walker,
     item: &mut [u8],
@@ -170,7 +169,7 @@ fn search<V: Reading, S: RowSink>(
 ) -> Result<Next, AllocError>
     requires shown { ShowsSome (V.holds version.old) }
     requires under { is_under name.now origin.now ≡ true }
-    requires key { key.now ≡ key_of name.now }
+    requires key { walker.old.key ≡ key_of name.now }
     requires room { most_item_octets ≤ length item.old }
     ensures same { version.new ≡ version.old }
     ensures gives { (zone : Version) → Shows (V.holds version.old) zone
@@ -178,7 +177,7 @@ fn search<V: Reading, S: RowSink>(
 {
     let _wire = name.wire(); // for the proof
     version.restart(&mut walker.iter);
-    let found = version.lookup(&mut walker.iter, key, &mut walker.above);
+    let found = version.lookup(&mut walker.iter, &walker.key, &mut walker.above);
     if let Some(cut) = cut_over(version, origin, name, walker.above.as_slice(), item) {
         return refer(alloc, &cut.name, &cut.view(item), rows);
     }
@@ -245,21 +244,19 @@ pub fn step<V: Reading, S: RowSink>(
     ensures gives { (zone : Version) → Shows (V.holds version.old) zone
         → Gives (step origin.now zone rtype name.now) (S.has rows.old) (S.has rows.new) walker.new.target result }
 {
-    let key = Key::of(name);
+    walker.key.set(name);
     match give_there(
         alloc,
         version,
         origin,
         name,
-        &key,
+        &walker.key,
         rtype,
         item,
         &mut walker.target,
         rows,
     )? {
         Some(next) => Ok(next),
-        None => search(
-            alloc, version, origin, name, &key, rtype, walker, item, rows,
-        ),
+        None => search(alloc, version, origin, name, rtype, walker, item, rows),
     }
 }

@@ -30,12 +30,12 @@ give_absent-requires-clause-placed g c =
     let start = subst (λ s. g.V.Reading.stands s c.restart.new.iter [] all) (sym c.restart.ensures.same) (c.restart.ensures.start all shows.held) in
     let leaf = c.in-None.ensures.leaf [] all start in
     let same = sym (c.cut_over.ensures.same ∙ c.lookup-found.ensures.same) in
-    let split = subst (λ s. AtSplit (g.V.Reading.stands s c.lookup-found.new.iter) c.args.key.now all) same (c.in-None.ensures.split [] all start) in
+    let split = subst (λ s. AtSplit (g.V.Reading.stands s c.lookup-found.new.iter) c.args.walker.now.key all) same (c.in-None.ensures.split [] all start) in
     let placed : IsPlaced (g.V.Reading.holds c.cut_over.new.version) (g.V.Reading.stands c.cut_over.new.version c.lookup-found.new.iter) c.args.name.now zone = record {
       shows = subst (λ s. Shows (g.V.Reading.holds s) zone) (sym (c.cut_over.ensures.same ∙ c.lookup-found.ensures.same ∙ c.restart.ensures.same)) shows;
       at = subst (λ (k : List ℕ). AtSplit (g.V.Reading.stands c.cut_over.new.version c.lookup-found.new.iter) k all) c.requires.key split;
     } in
-    let names = subst (λ s. AreAncestors (g.V.Reading.lies s) (chain c.args.key.now all) c.lookup-found.new.above) (sym c.lookup-found.ensures.same) (c.in-None.ensures.above [] all start) in (
+    let names = subst (λ s. AreAncestors (g.V.Reading.lies s) (chain c.args.walker.now.key all) c.lookup-found.new.above) (sym c.lookup-found.ensures.same) (c.in-None.ensures.above [] all start) in (
       zone,
       placed,
       nothing_owned c.args.name.now zone (λ t. leaf t.0 t.1 (t.2 ∙ sym c.requires.key)),
@@ -57,7 +57,7 @@ returns-in-Some-found-clause-gives g c zone shows =
     let read = c.read-len.ensures.item leaf.0 lies in
     let key = leaf.2 ∙ c.requires.key in
     let is = read_of c.args.name.now zone leaf.0 c.read-len.new.out c.read-len.result c.wire-wire.ensures.name shows.version_is leaf.1 key read.0 read.1 in
-    let names = subst (λ s. AreAncestors (g.V.Reading.lies s) (chain c.args.key.now all) c.lookup-found.new.above) (sym c.lookup-found.ensures.same) (c.in-Some-found.ensures.above [] all start) in
+    let names = subst (λ s. AreAncestors (g.V.Reading.lies s) (chain c.args.walker.now.key all) c.lookup-found.new.above) (sym c.lookup-found.ensures.same) (c.in-Some-found.ensures.above [] all start) in
     let above : ShowsAbove (g.V.Reading.holds c.lookup-found.new.self) (g.V.Reading.lies c.lookup-found.new.self) c.args.name.now c.as_slice.result.now zone = record {
       shows = subst (λ s. Shows (g.V.Reading.holds s) zone) (sym (c.lookup-found.ensures.same ∙ c.restart.ensures.same)) shows;
       above_are = subst (AreAncestors (g.V.Reading.lies c.lookup-found.new.self) (chain (key_of c.args.name.now) all)) (sym c.as_slice.ensures.names) (subst (λ (k : List ℕ). AreAncestors (g.V.Reading.lies c.lookup-found.new.self) (chain k all) c.lookup-found.new.above) c.requires.key names);
@@ -70,12 +70,12 @@ returns-in-None-clause-gives g c zone shows =
     let start = subst (λ s. g.V.Reading.stands s c.restart.new.iter [] all) (sym c.restart.ensures.same) (c.restart.ensures.start all shows.held) in
     let leaf = c.in-None.ensures.leaf [] all start in
     let same = sym (c.cut_over.ensures.same ∙ c.lookup-found.ensures.same) in
-    let split = subst (λ s. AtSplit (g.V.Reading.stands s c.lookup-found.new.iter) c.args.key.now all) same (c.in-None.ensures.split [] all start) in
+    let split = subst (λ s. AtSplit (g.V.Reading.stands s c.lookup-found.new.iter) c.args.walker.now.key all) same (c.in-None.ensures.split [] all start) in
     let placed : IsPlaced (g.V.Reading.holds c.cut_over.new.version) (g.V.Reading.stands c.cut_over.new.version c.lookup-found.new.iter) c.args.name.now zone = record {
       shows = subst (λ s. Shows (g.V.Reading.holds s) zone) (sym (c.cut_over.ensures.same ∙ c.lookup-found.ensures.same ∙ c.restart.ensures.same)) shows;
       at = subst (λ (k : List ℕ). AtSplit (g.V.Reading.stands c.cut_over.new.version c.lookup-found.new.iter) k all) c.requires.key split;
     } in
-    let names = subst (λ s. AreAncestors (g.V.Reading.lies s) (chain c.args.key.now all) c.lookup-found.new.above) (sym c.lookup-found.ensures.same) (c.in-None.ensures.above [] all start) in
+    let names = subst (λ s. AreAncestors (g.V.Reading.lies s) (chain c.args.walker.now.key all) c.lookup-found.new.above) (sym c.lookup-found.ensures.same) (c.in-None.ensures.above [] all start) in
     let above : ShowsAbove (g.V.Reading.holds c.lookup-found.new.self) (g.V.Reading.lies c.lookup-found.new.self) c.args.name.now c.as_slice.result.now zone = record {
       shows = subst (λ s. Shows (g.V.Reading.holds s) zone) (sym (c.lookup-found.ensures.same ∙ c.restart.ensures.same)) shows;
       above_are = subst (AreAncestors (g.V.Reading.lies c.lookup-found.new.self) (chain (key_of c.args.name.now) all)) (sym c.as_slice.ensures.names) (subst (λ (k : List ℕ). AreAncestors (g.V.Reading.lies c.lookup-found.new.self) (chain k all) c.lookup-found.new.above) c.requires.key names);
