@@ -142,11 +142,6 @@ stopped_dump chunks style origin zone before now stops = elim stops [
   | inr same ↦ subst (λ (h : Held). CutShort (Dumps chunks style origin (Ok zone)) before h) (sym same) (nothing_yet (Dumps chunks style origin (Ok zone)) before (some_dump chunks style origin (Ok zone)))
 ]
 
--- a zone that its reader refused
-pub dump_stops : (chunks : ℕ) (style : Style) (origin : Name) (bytes : List ℕ) (lines : List (List ℕ)) (r : ZoneRefusal) (s : Status) (text : List ℕ) → lines ≡ zone_lines bytes → Reads {R = Zone} (Err r) (λ z. z.pairs) (zone_of origin lines) → Refuses r s text → Dumps chunks style origin (zone_of origin (zone_lines bytes)) s text
-dump_stops chunks style origin bytes lines (refusal.Refused line kind) s text same z h = subst (λ (x : Result Version (Refused ZoneKind)). Dumps chunks style origin x s text) (sym (ap (zone_of origin) (sym same) ∙ z)) h
-dump_stops chunks style origin bytes lines refusal.Memory s text same z h = absurd h
-
 -- ---- jobs
 
 -- what a reader of scripts said when it refused one
@@ -160,7 +155,7 @@ whole_job origin bytes zone workers z w =
     ap (λ r. zone_refused r >>= (λ version. script_refused (script_of origin (script_start bytes) (script_lines bytes)) >>= (λ ws. Ok (record { origin = origin; zone = version; workers = ws })))) z
     ∙ ap (λ r. script_refused r >>= (λ ws. Ok (record { origin = origin; zone = zone; workers = ws }))) w
 
-no_zone : (origin : Name) (bytes : List ℕ) (e : Refused ZoneKind) → zone_of origin (zone_lines bytes) ≡ Err e → job_of origin bytes ≡ Err (ZoneRefused e)
+pub no_zone : (origin : Name) (bytes : List ℕ) (e : Refused ZoneKind) → zone_of origin (zone_lines bytes) ≡ Err e → job_of origin bytes ≡ Err (ZoneRefused e)
 unfolding job_of_lines
 no_zone origin bytes e z = ap (λ r. zone_refused r >>= (λ version. script_refused (script_of origin (script_start bytes) (script_lines bytes)) >>= (λ ws. Ok (record { origin = origin; zone = version; workers = ws })))) z
 
@@ -173,19 +168,11 @@ pub job_answers : (telling : Telling) (chunks : ℕ) (origin : Name) (bytes : Li
 job_answers telling chunks origin bytes zone workers z w s text h = answers_as telling chunks (job_of origin bytes) (Ok (record { origin = origin; zone = zone; workers = workers })) s text (whole_job origin bytes zone workers z w) h
 
 -- a job whose script is refused
-whole_refusal : (origin : Name) (bytes : List ℕ) (zone : Version) (e : Refused ScriptKind) → zone_of origin (zone_lines bytes) ≡ Ok zone → script_of origin (script_start bytes) (script_lines bytes) ≡ Err e → job_of origin bytes ≡ Err (ScriptRefused e)
+pub whole_refusal : (origin : Name) (bytes : List ℕ) (zone : Version) (e : Refused ScriptKind) → zone_of origin (zone_lines bytes) ≡ Ok zone → script_of origin (script_start bytes) (script_lines bytes) ≡ Err e → job_of origin bytes ≡ Err (ScriptRefused e)
 unfolding job_of_lines
 whole_refusal origin bytes zone e z w =
     ap (λ r. zone_refused r >>= (λ version. script_refused (script_of origin (script_start bytes) (script_lines bytes)) >>= (λ ws. Ok (record { origin = origin; zone = version; workers = ws })))) z
     ∙ ap (λ r. script_refused r >>= (λ ws. Ok (record { origin = origin; zone = zone; workers = ws }))) w
-
-pub script_refuses : (telling : Telling) (chunks : ℕ) (origin : Name) (bytes : List ℕ) (e : Refused ScriptKind) → script_of origin (script_start bytes) (script_lines bytes) ≡ Err e
-    → (s : Status) (text : List ℕ) → RefusesScript (zone_of origin (zone_lines bytes)) e s text → Answers telling chunks (job_of origin bytes) s text
-script_refuses telling chunks origin bytes e w s text h = by_zone (zone_of origin (zone_lines bytes)) refl h
-  where
-    by_zone : (r : Result Version (Refused ZoneKind)) → zone_of origin (zone_lines bytes) ≡ r → RefusesScript r e s text → Answers telling chunks (job_of origin bytes) s text
-    by_zone (Ok zone) z h = answers_as telling chunks (job_of origin bytes) (Err (ScriptRefused e)) s text (whole_refusal origin bytes zone e z w) h
-    by_zone (Err why) z h = answers_as telling chunks (job_of origin bytes) (Err (ZoneRefused why)) s text (no_zone origin bytes why z) h
 
 -- the same of what a job needs
 
@@ -195,29 +182,6 @@ sizes_as q r s text e h = subst (λ (x : Result Job JobRefusal). Sizes x s text)
 pub job_sizes : (origin : Name) (bytes : List ℕ) (zone : Version) (workers : List (List Command)) → zone_of origin (zone_lines bytes) ≡ Ok zone → script_of origin (script_start bytes) (script_lines bytes) ≡ Ok workers
     → (s : Status) (text : List ℕ) → Sized (record { origin = origin; zone = zone; workers = workers }) s text → Sizes (job_of origin bytes) s text
 job_sizes origin bytes zone workers z w s text h = sizes_as (job_of origin bytes) (Ok (record { origin = origin; zone = zone; workers = workers })) s text (whole_job origin bytes zone workers z w) h
-
-pub script_unsized : (origin : Name) (bytes : List ℕ) (e : Refused ScriptKind) → script_of origin (script_start bytes) (script_lines bytes) ≡ Err e
-    → (s : Status) (text : List ℕ) → RefusesScript (zone_of origin (zone_lines bytes)) e s text → Sizes (job_of origin bytes) s text
-script_unsized origin bytes e w s text h = by_zone (zone_of origin (zone_lines bytes)) refl h
-  where
-    by_zone : (r : Result Version (Refused ZoneKind)) → zone_of origin (zone_lines bytes) ≡ r → RefusesScript r e s text → Sizes (job_of origin bytes) s text
-    by_zone (Ok zone) z h = sizes_as (job_of origin bytes) (Err (ScriptRefused e)) s text (whole_refusal origin bytes zone e z w) h
-    by_zone (Err why) z h = sizes_as (job_of origin bytes) (Err (ZoneRefused why)) s text (no_zone origin bytes why z) h
-
-pub zone_unsized : (origin : Name) (bytes : List ℕ) (lines : List (List ℕ)) (r : ZoneRefusal) (s : Status) (text : List ℕ) → lines ≡ zone_lines bytes → Reads {R = Zone} (Err r) (λ z. z.pairs) (zone_of origin lines) → Refuses r s text → Sizes (job_of origin bytes) s text
-zone_unsized origin bytes lines (refusal.Refused line kind) s text same z h =
-    sizes_as (job_of origin bytes) (Err (ZoneRefused (record { line = line; kind = kind }))) s text (no_zone origin bytes (record { line = line; kind = kind }) (ap (zone_of origin) (sym same) ∙ z)) h
-zone_unsized origin bytes lines refusal.Memory s text same z h = absurd h
-
--- a zone that its reader refused, where its lines are those of some bytes
-pub zone_stops : (telling : Telling) (chunks : ℕ) (origin : Name) (bytes : List ℕ) (lines : List (List ℕ)) (r : ZoneRefusal) (s : Status) (text : List ℕ) → lines ≡ zone_lines bytes → Reads {R = Zone} (Err r) (λ z. z.pairs) (zone_of origin lines) → Refuses r s text → Answers telling chunks (job_of origin bytes) s text
-zone_stops telling chunks origin bytes lines (refusal.Refused line kind) s text same z h =
-    answers_as telling chunks (job_of origin bytes) (Err (ZoneRefused (record { line = line; kind = kind }))) s text (no_zone origin bytes (record { line = line; kind = kind }) (ap (zone_of origin) (sym same) ∙ z)) h
-zone_stops telling chunks origin bytes lines refusal.Memory s text same z h = absurd h
-
-pub check_stops : (chunks : ℕ) (origin : Name) (bytes : List ℕ) (lines : List (List ℕ)) (r : ZoneRefusal) (s : Status) (text : List ℕ) → lines ≡ zone_lines bytes → Reads {R = Zone} (Err r) (λ z. z.pairs) (zone_of origin lines) → Refuses r s text → Checks chunks (zone_of origin (zone_lines bytes)) s text
-check_stops chunks origin bytes lines (refusal.Refused line kind) s text same z h = subst (λ (x : Result Version (Refused ZoneKind)). Checks chunks x s text) (sym (ap (zone_of origin) (sym same) ∙ z)) h
-check_stops chunks origin bytes lines refusal.Memory s text same z h = absurd h
 
 -- ---- a script that is refused, behind the zone
 
@@ -258,11 +222,11 @@ whole_list origin bytes zone commands z w =
     ap (λ r. zone_refused r >>= (λ version. script_refused (list_of origin (script_start bytes) (script_lines bytes)) >>= (λ cs. Ok (record { origin = origin; zone = version; commands = cs })))) z
     ∙ ap (λ r. script_refused r >>= (λ cs. Ok (record { origin = origin; zone = zone; commands = cs }))) w
 
-no_fed_zone : (origin : Name) (bytes : List ℕ) (e : Refused ZoneKind) → zone_of origin (zone_lines bytes) ≡ Err e → fed_job_of origin bytes ≡ Err (ZoneRefused e)
+pub no_fed_zone : (origin : Name) (bytes : List ℕ) (e : Refused ZoneKind) → zone_of origin (zone_lines bytes) ≡ Err e → fed_job_of origin bytes ≡ Err (ZoneRefused e)
 unfolding fed_job_of_lines
 no_fed_zone origin bytes e z = ap (λ r. zone_refused r >>= (λ version. script_refused (list_of origin (script_start bytes) (script_lines bytes)) >>= (λ cs. Ok (record { origin = origin; zone = version; commands = cs })))) z
 
-whole_list_refusal : (origin : Name) (bytes : List ℕ) (zone : Version) (e : Refused ScriptKind) → zone_of origin (zone_lines bytes) ≡ Ok zone → list_of origin (script_start bytes) (script_lines bytes) ≡ Err e → fed_job_of origin bytes ≡ Err (ScriptRefused e)
+pub whole_list_refusal : (origin : Name) (bytes : List ℕ) (zone : Version) (e : Refused ScriptKind) → zone_of origin (zone_lines bytes) ≡ Ok zone → list_of origin (script_start bytes) (script_lines bytes) ≡ Err e → fed_job_of origin bytes ≡ Err (ScriptRefused e)
 unfolding fed_job_of_lines
 whole_list_refusal origin bytes zone e z w =
     ap (λ r. zone_refused r >>= (λ version. script_refused (list_of origin (script_start bytes) (script_lines bytes)) >>= (λ cs. Ok (record { origin = origin; zone = version; commands = cs })))) z
@@ -276,21 +240,6 @@ pub list_answers : (workers chunks : ℕ) (origin : Name) (bytes : List ℕ) (zo
     → (s : Status) (text : List ℕ) → FedAnswers workers chunks (Ok (record { origin = origin; zone = zone; commands = commands })) s text → FedAnswers workers chunks (fed_job_of origin bytes) s text
 list_answers workers chunks origin bytes zone commands z w s text h = fed_as workers chunks (fed_job_of origin bytes) (Ok (record { origin = origin; zone = zone; commands = commands })) s text (whole_list origin bytes zone commands z w) h
 
--- a list that is refused
-pub list_refuses : (workers chunks : ℕ) (origin : Name) (bytes : List ℕ) (e : Refused ScriptKind) → list_of origin (script_start bytes) (script_lines bytes) ≡ Err e
-    → (s : Status) (text : List ℕ) → RefusesScript (zone_of origin (zone_lines bytes)) e s text → FedAnswers workers chunks (fed_job_of origin bytes) s text
-list_refuses workers chunks origin bytes e w s text h = by_zone (zone_of origin (zone_lines bytes)) refl h
-  where
-    by_zone : (r : Result Version (Refused ZoneKind)) → zone_of origin (zone_lines bytes) ≡ r → RefusesScript r e s text → FedAnswers workers chunks (fed_job_of origin bytes) s text
-    by_zone (Ok zone) z h = fed_as workers chunks (fed_job_of origin bytes) (Err (ScriptRefused e)) s text (whole_list_refusal origin bytes zone e z w) h
-    by_zone (Err why) z h = fed_as workers chunks (fed_job_of origin bytes) (Err (ZoneRefused why)) s text (no_fed_zone origin bytes why z) h
-
--- a zone that its reader refused
-pub fed_zone_stops : (workers chunks : ℕ) (origin : Name) (bytes : List ℕ) (lines : List (List ℕ)) (r : ZoneRefusal) (s : Status) (text : List ℕ) → lines ≡ zone_lines bytes → Reads {R = Zone} (Err r) (λ z. z.pairs) (zone_of origin lines) → Refuses r s text → FedAnswers workers chunks (fed_job_of origin bytes) s text
-fed_zone_stops workers chunks origin bytes lines (refusal.Refused line kind) s text same z h =
-    fed_as workers chunks (fed_job_of origin bytes) (Err (ZoneRefused (record { line = line; kind = kind }))) s text (no_fed_zone origin bytes (record { line = line; kind = kind }) (ap (zone_of origin) (sym same) ∙ z)) h
-fed_zone_stops workers chunks origin bytes lines refusal.Memory s text same z h = absurd h
-
 -- ---- what is due for an input that was read
 
 -- the status answers an input
@@ -300,11 +249,7 @@ IsAnswer status.SomeRefused = Unit {0}
 IsAnswer status.ZoneRefused = Unit {0}
 IsAnswer status.ScriptRefused = Unit {0}
 IsAnswer status.DoesNotFit = Unit {0}
-IsAnswer status.WordsRefused = ⊥
-IsAnswer status.TooLong = ⊥
-IsAnswer status.SourceFault = ⊥
-IsAnswer status.SinkFault = ⊥
-IsAnswer status.NoMemory = ⊥
+IsAnswer _ = ⊥
 
 answer_as : (s t : Status) → s ≡ t → IsAnswer t → IsAnswer s
 answer_as s t e w = subst IsAnswer (sym e) w

@@ -1,5 +1,5 @@
 pub mod DueLemmas
-pub mod ItemLemmas
+pub mod StopLemmas
 pub mod ReadingLemmas
 pub mod ReportingLemmas
 pub mod SizingLemmas

@@ -130,10 +130,3 @@ pub lines_behind : (bytes : List ℕ) (p : Parts) → IsCutAt bytes p → lines_
 lines_behind bytes p cut =
     let whole : take (length bytes - p.script_from) (drop p.script_from bytes) ≡ drop p.script_from bytes = take_all (length bytes - p.script_from) (drop p.script_from bytes) (omega (arith, length-drop p.script_from bytes)) in
     ap lines_of whole ∙ cut.script
-
--- the script behind the place where an input is cut
-pub script_read : (origin : Name) (bytes : List ℕ) (p : Parts) (out : Result (List (List Command)) (Refused ScriptKind)) → IsCutAt bytes p → script_of origin p.first_line (lines_of (take (length bytes - p.script_from) (drop p.script_from bytes))) ≡ out
-    → script_of origin (script_start bytes) (script_lines bytes) ≡ out
-script_read origin bytes p out cut read =
-    let whole : take (length bytes - p.script_from) (drop p.script_from bytes) ≡ drop p.script_from bytes = take_all (length bytes - p.script_from) (drop p.script_from bytes) (omega (arith, length-drop p.script_from bytes)) in
-    ap (λ (n : ℕ). script_of origin n (script_lines bytes)) (sym cut.first) ∙ ap (script_of origin p.first_line) (sym cut.script) ∙ ap (λ (l : List ℕ). script_of origin p.first_line (lines_of l)) (sym whole) ∙ read

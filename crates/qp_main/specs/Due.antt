@@ -216,13 +216,8 @@ DueBytes i bytes false = Ends status.TooLong (codes "input over 16777216 bytes\n
 
 -- the bytes that are read: those that a source has left, or a load's text
 abbrev pub input_of : Verb → Option (List ℕ) → Option (List ℕ)
-input_of Run left = left
-input_of (Feed workers) left = left
-input_of Size left = left
-input_of Zones left = left
-input_of Check left = left
-input_of (Dump style) left = left
 input_of (Make load) left = Some (made_text load)
+input_of _ left = left
 
 -- Of a source that doesn't tell its bytes nothing is said.
 abbrev pub DueGiven : Invocation → Option (List ℕ) → Status → List ℕ → Type 0
@@ -236,13 +231,8 @@ Due (Some invocation) left s text = DueGiven invocation (input_of invocation.ver
 
 -- the input is a load's text, so that nothing is read
 abbrev pub MakesInput : Verb → Type 0
-MakesInput Run = ⊥
-MakesInput (Feed workers) = ⊥
-MakesInput Size = ⊥
-MakesInput Zones = ⊥
-MakesInput Check = ⊥
-MakesInput (Dump style) = ⊥
 MakesInput (Make load) = Unit {0}
+MakesInput _ = ⊥
 
 abbrev pub IsMade : Option Invocation → Type 0
 IsMade None = ⊥
@@ -255,34 +245,19 @@ EndsLoad status.SomeRefused = Unit {0}
 EndsLoad status.DoesNotFit = Unit {0}
 EndsLoad status.SinkFault = Unit {0}
 EndsLoad status.NoMemory = Unit {0}
-EndsLoad status.WordsRefused = ⊥
-EndsLoad status.ZoneRefused = ⊥
-EndsLoad status.ScriptRefused = ⊥
-EndsLoad status.SourceFault = ⊥
-EndsLoad status.TooLong = ⊥
+EndsLoad _ = ⊥
 
 -- the status says that its text was written whole
 abbrev pub IsWritten : Status → Type 0
-IsWritten status.Done = Unit {0}
-IsWritten status.SomeRefused = Unit {0}
-IsWritten status.WordsRefused = Unit {0}
-IsWritten status.ZoneRefused = Unit {0}
-IsWritten status.ScriptRefused = Unit {0}
-IsWritten status.TooLong = Unit {0}
-IsWritten status.DoesNotFit = Unit {0}
 IsWritten status.SourceFault = ⊥
 IsWritten status.SinkFault = ⊥
 IsWritten status.NoMemory = ⊥
+IsWritten _ = Unit {0}
 
 -- it is written while it is made, and not when all of it is there
 abbrev pub is_streamed : Verb → Bool
-is_streamed Run = false
-is_streamed (Feed workers) = false
-is_streamed Size = false
-is_streamed Zones = false
-is_streamed Check = false
-is_streamed (Make load) = false
 is_streamed (Dump style) = true
+is_streamed _ = false
 
 abbrev pub streams : Option Invocation → Bool
 streams None = false
@@ -292,27 +267,13 @@ streams (Some invocation) = is_streamed invocation.verb
 abbrev pub IsUnwritten : Bool → Status → Type 0
 IsUnwritten streamed status.SourceFault = Unit {0}
 IsUnwritten streamed status.NoMemory = streamed ≡ false
-IsUnwritten streamed status.Done = ⊥
-IsUnwritten streamed status.SomeRefused = ⊥
-IsUnwritten streamed status.WordsRefused = ⊥
-IsUnwritten streamed status.ZoneRefused = ⊥
-IsUnwritten streamed status.ScriptRefused = ⊥
-IsUnwritten streamed status.TooLong = ⊥
-IsUnwritten streamed status.DoesNotFit = ⊥
-IsUnwritten streamed status.SinkFault = ⊥
+IsUnwritten streamed _ = ⊥
 
 -- the status says that what was due may stand up to some place
 abbrev pub MayBeShort : Bool → Status → Type 0
 MayBeShort streamed status.SinkFault = Unit {0}
 MayBeShort streamed status.NoMemory = streamed ≡ true
-MayBeShort streamed status.SourceFault = ⊥
-MayBeShort streamed status.Done = ⊥
-MayBeShort streamed status.SomeRefused = ⊥
-MayBeShort streamed status.WordsRefused = ⊥
-MayBeShort streamed status.ZoneRefused = ⊥
-MayBeShort streamed status.ScriptRefused = ⊥
-MayBeShort streamed status.TooLong = ⊥
-MayBeShort streamed status.DoesNotFit = ⊥
+MayBeShort streamed _ = ⊥
 
 -- what is due was written whole
 pub record Written (due : Status → List ℕ → Type 0) (before now : Held) (s : Status) : Type 0 where

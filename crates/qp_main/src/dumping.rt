@@ -1,23 +1,20 @@
 //! A zone that is written as a master file.
-ghost use Rattle.std.specs.Prelude.{◌≡◌, ◌≤◌, ◌^◌, List, length, Ok};
+ghost use Rattle.std.specs.Prelude.{◌≡◌, Ok, true};
 ghost use Rattle.outer_io.specs.Faults.{Rose};
 ghost use Rattle.zone_model.specs.Versions.{Version};
 ghost use Rattle.zone_model.specs.MasterFile.{zone_of};
 ghost use Rattle.trie_write.specs.Entries.{entries_of_items};
 ghost use Rattle.job_model.specs.Jobs.{zone_lines};
-ghost use Rattle.job_script.specs.Parts.{IsCutAt};
 ghost use Rattle.job_threads.specs.Histories.{IsZone, StandsAs};
 ghost use Rattle.qp_main.specs.Due.{CutShort, Dumps, IsWritten, MayBeShort, Written};
-ghost use Rattle.std.specs.Prelude.{true};
 
+use crate::input::Input;
 use crate::items::zone_items;
-use crate::reading::zone_in;
-use crate::refusing::{Stop, zone_stop};
+use crate::refusing::Stop;
 use crate::report::no_room;
 use crate::status::Status;
 use crate::writing::write_due;
 use command_line::Invocation;
-use job_script::Parts;
 use job_threads::{Dumped, ZoneLaw, dump_zone, table_for};
 use outer_io::Sink;
 use shared_index::Blank;
@@ -57,22 +54,18 @@ fn write_zone<K: Sink>(
     }
 }
 
-/// Reads the zone of bytes that were cut, and writes it. It is written while it is made, so where memory runs out a front may
-/// stand.
+/// Writes the zone of an input. It is written while it is made, so where memory runs out a front may stand.
 pub fn dump_input<K: Sink>(
     alloc: Global,
     invocation: &Invocation,
     style: Style,
-    bytes: Vec<u8>,
-    parts: Parts,
+    input: Input,
     sink: &mut K,
 ) -> Status
-    requires short { length bytes.items ≤ 2 ^ 24 }
-    requires cut { IsCutAt bytes.items parts }
     ensures written { IsWritten result
-        → Written (Dumps invocation.now.chunks style invocation.now.origin (zone_of invocation.now.origin (zone_lines bytes.items))) (K.held sink.old) (K.held sink.new) result }
+        → Written (Dumps invocation.now.chunks style invocation.now.origin (zone_of invocation.now.origin (zone_lines input))) (K.held sink.old) (K.held sink.new) result }
     ensures cut_short { MayBeShort true result
-        → CutShort (Dumps invocation.now.chunks style invocation.now.origin (zone_of invocation.now.origin (zone_lines bytes.items))) (K.held sink.old) (K.held sink.new) }
+        → CutShort (Dumps invocation.now.chunks style invocation.now.origin (zone_of invocation.now.origin (zone_lines input))) (K.held sink.old) (K.held sink.new) }
     ensures sink_fault { result ≡ Status.SinkFault → Rose (K.faults sink.old) (K.faults sink.new) }
     ensures quiet_sink { (result ≡ Status.SinkFault → ⊥) → K.faults sink.new ≡ K.faults sink.old }
     ensures others { result ≡ Status.SourceFault → ⊥ }
@@ -80,17 +73,12 @@ pub fn dump_input<K: Sink>(
     let Ok(blank) = table_for(alloc, invocation.chunks, 0) else {
         return Status::NoMemory;
     };
-    let zone_bytes = &bytes.as_slice()[..parts.zone_end as usize];
-    let zone = match zone_in(alloc, zone_bytes, &invocation.origin) {
+    let zone = match input.zone(alloc, &invocation.origin) {
         Ok(zone) => zone,
-        Err(refusal) => {
-            return match zone_stop(refusal) {
-                Stop::Refused(status, line) => write_due(sink, status, line.as_slice()),
-                Stop::Memory => Status::NoMemory,
-            };
-        }
+        Err(Stop::Refused(status, line)) => return write_due(sink, status, line.as_slice()),
+        Err(Stop::Memory) => return Status::NoMemory,
     };
-    drop(bytes);
+    drop(input);
     let Ok(items) = zone_items(alloc, zone) else {
         return Status::NoMemory;
     };

@@ -5,6 +5,7 @@
 
 mod dumping;
 mod feeding;
+mod input;
 mod items;
 mod line;
 mod needs;

@@ -1,25 +1,21 @@
 //! How many chunks a job needs.
-ghost use Rattle.std.specs.Prelude.{◌≡◌, ◌<◌, ◌≤◌, ◌+◌, ◌^◌, List, length, IfOk, IfErr, Ok};
-ghost use Rattle.std.specs.List.{AllByRecursion};
-ghost use Rattle.zone_model.specs.MasterFile.{zone_of};
+ghost use Rattle.std.specs.Prelude.{◌≡◌, ◌<◌, ◌≤◌, ◌+◌, ◌^◌, length, IfOk, IfErr};
 ghost use Rattle.trie_size.specs.Sizes.{IsSizeOf};
 ghost use Rattle.job_model.specs.Commands.{Job as WholeJob};
-ghost use Rattle.job_model.specs.Jobs.{zone_lines, script_lines, script_start, script_of, job_of};
+ghost use Rattle.job_model.specs.Jobs.{job_of};
 ghost use Rattle.job_model.specs.Needs.{cells_of_workers, longest_of_workers};
 ghost use Rattle.job_model.specs.Sizes.{trie_entries};
-ghost use Rattle.job_script.specs.Parts.{IsCutAt};
-ghost use Rattle.job_script.specs.Views.{job_view};
 ghost use Rattle.qp_main.specs.Due.{Sized, Sizes};
 ghost use Rattle.qp_main.specs.Stops.{IsStop};
 
-use crate::reading::{job_in, zone_in};
-use crate::refusing::{Stop, refuse_script, zone_stop};
+use crate::input::Input;
+use crate::refusing::Stop;
 use crate::report::needs_line;
 use crate::sizing::zone_size;
 use crate::status::Status;
 use chunk_usage::capacity::least;
 use command_line::Invocation;
-use job_script::{Job, JobRefusal, Needs, Parts, needs_of};
+use job_script::{Needs, needs_of};
 use std::alloc::{AllocError, Global};
 use trie_size::TrieSize;
 
@@ -59,51 +55,20 @@ fn report_needs(
     Ok((Status::Done, line))
 }
 
-// The status and the text for a script that was read, on the zone that is read now.
-fn size_script(
-    alloc: Global,
-    invocation: &Invocation,
-    bytes: Vec<u8>,
-    parts: Parts,
-    job: &Job,
-) -> Result<(Status, Vec<u8>), Stop>
-    requires short { length bytes.items ≤ 2 ^ 24 }
-    requires cut { IsCutAt bytes.items parts }
-    requires read { script_of invocation.now.origin (script_start bytes.items) (script_lines bytes.items) ≡ Ok (job_view job.now) }
-    requires few_workers { length job.now.workers.items ≤ 16 }
-    ensures told { IfOk result (λ x. Sizes (job_of invocation.now.origin bytes.items) x.0 x.1.items) }
-    ensures stops { IfErr result (IsStop (Sizes (job_of invocation.now.origin bytes.items))) }
-{
-    let zone_bytes = &bytes.as_slice()[..parts.zone_end as usize];
-    let zone = match zone_in(alloc, zone_bytes, &invocation.origin) {
-        Ok(zone) => zone,
-        Err(refusal) => return Err(zone_stop(refusal)),
-    };
-    drop(bytes);
-    let needs = needs_of(job)?;
-    let size = zone_size(alloc, zone)?;
-    let answer = report_needs(alloc, job.workers.len(), &size, needs)?;
-    Ok(answer)
-}
-
-/// The status and the text for bytes that were cut into a zone's and a script's: what the job needs.
+/// The status and the text for an input: what its job needs.
 pub fn size_job(
     alloc: Global,
     invocation: &Invocation,
-    bytes: Vec<u8>,
-    parts: Parts,
+    input: Input,
 ) -> Result<(Status, Vec<u8>), Stop>
-    requires short { length bytes.items ≤ 2 ^ 24 }
-    requires cut { IsCutAt bytes.items parts }
-    ensures told { IfOk result (λ x. Sizes (job_of invocation.now.origin bytes.items) x.0 x.1.items) }
-    ensures stops { IfErr result (IsStop (Sizes (job_of invocation.now.origin bytes.items))) }
+    ensures told { IfOk result (λ x. Sizes (job_of invocation.now.origin input) x.0 x.1.items) }
+    ensures stops { IfErr result (IsStop (Sizes (job_of invocation.now.origin input))) }
 {
-    let script = &bytes.as_slice()[parts.script_from as usize..];
-    match job_in(alloc, script, parts.first_line, &invocation.origin) {
-        Ok(job) => size_script(alloc, invocation, bytes, parts, &job),
-        Err(JobRefusal::Refused { line, kind }) => Err(refuse_script(
-            alloc, invocation, &bytes, parts, line, kind,
-        )),
-        Err(JobRefusal::Memory) => Err(Stop::Memory),
-    }
+    let job = input.job(alloc, &invocation.origin)?;
+    let zone = input.zone(alloc, &invocation.origin)?;
+    drop(input);
+    let needs = needs_of(&job)?;
+    let size = zone_size(alloc, zone)?;
+    let answer = report_needs(alloc, job.workers.len(), &size, needs)?;
+    Ok(answer)
 }

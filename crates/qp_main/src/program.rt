@@ -1,15 +1,10 @@
 //! The program over any source and sink.
 ghost use Rattle.std.specs.Prelude.{◌≡◌, ◌<◌, ◌≤◌, ◌+◌, ◌^◌, ◌++◌, ◌∷◌, [], ℕ, List, length, IfOk, IfErr, OnOk, map, codes, Ok, Err, false, Option, Result, IfSome, MatchOption, IsSome, Some, None};
-ghost use Rattle.std.specs.List.{AllByRecursion};
 ghost use Rattle.std.specs.String.{string_bytes};
 ghost use Rattle.std.specs.Io.KnownBytes.{Consumes};
 ghost use Rattle.zone_model.specs.MasterFile.{zone_of};
-ghost use Rattle.job_model.specs.Commands.{InTurn};
-ghost use Rattle.job_model.specs.Jobs.{zone_lines, script_lines, script_start, script_of, job_of};
-ghost use Rattle.job_script.specs.Views.{job_view};
+ghost use Rattle.job_model.specs.Jobs.{job_of, zone_lines};
 ghost use Rattle.job_model.specs.Loads.{made_origin};
-ghost use Rattle.report_laws.specs.Changes.{AllAsked};
-ghost use Rattle.job_script.specs.Parts.{IsCutAt};
 ghost use Rattle.outer_io.specs.Faults.{Rose};
 ghost use Rattle.outer_io.specs.Bytes.{Grows, GrowsByFront};
 ghost use Rattle.job_make.specs.Views.{load_view};
@@ -21,10 +16,10 @@ ghost use Rattle.qp_main.specs.Due.{Answers, Checks, CutShort, Due, DueInput, En
 
 use crate::dumping::dump_input;
 use crate::feeding::answer_list;
+use crate::input::Input;
 use crate::items::zone_items;
 use crate::needs::size_job;
-use crate::reading::{job_in, zone_in};
-use crate::refusing::{Stop, refuse_script, zone_stop};
+use crate::refusing::Stop;
 use crate::reporting::report_job;
 use crate::several::answer_zones;
 use crate::sizing::{report_size, zone_size};
@@ -33,7 +28,6 @@ use crate::telling::Telling;
 use crate::writing::write_due;
 use command_line::{Invocation, Verb, invocation_of};
 use job_make::{Load, make_text};
-use job_script::{Job, JobRefusal, Parts, split};
 use job_threads::{Gate, table_for};
 use outer_io::{ReadRefusal, Sink, Source, read_all};
 use std::alloc::Global;
@@ -43,82 +37,39 @@ use std::thread::Threads;
 // The most bytes of an input.
 const INPUT_LIMIT: u32 = 16777216;
 
-// The status and the text for a script that was read: its job is run on the zone that is read now. The table comes first, since
-// making it takes twice its memory for a while. The bytes go before the index is made.
-fn run_script<R: Threads + Wait + Sync, G: Gate>(
-    rt: &R,
-    alloc: Global,
-    invocation: &Invocation,
-    bytes: Vec<u8>,
-    parts: Parts,
-    job: &Job,
-    telling: Telling,
-    gate: &G,
-) -> Result<(Status, Vec<u8>), Stop>
-    requires short { length bytes.items ≤ 2 ^ 24 }
-    requires cut { IsCutAt bytes.items parts }
-    requires read { script_of invocation.now.origin (script_start bytes.items) (script_lines bytes.items) ≡ Ok (job_view job.now) }
-    requires few_workers { length job.now.workers.items ≤ 16 }
-    requires in_turn { AllByRecursion (InTurn false) (job_view job.now) }
-    requires said { AllByRecursion (AllByRecursion (AllAsked invocation.now.origin)) (job_view job.now) }
-    ensures told { IfOk result (λ x. Answers telling invocation.now.chunks (job_of invocation.now.origin bytes.items) x.0 x.1.items) }
-    ensures stops { IfErr result (IsStop (Answers telling invocation.now.chunks (job_of invocation.now.origin bytes.items))) }
-{
-    let blank = table_for(alloc, invocation.chunks, job.workers.len())?;
-    let zone_bytes = &bytes.as_slice()[..parts.zone_end as usize];
-    let zone = match zone_in(alloc, zone_bytes, &invocation.origin) {
-        Ok(zone) => zone,
-        Err(refusal) => return Err(zone_stop(refusal)),
-    };
-    drop(bytes);
-    let items = zone_items(alloc, zone)?;
-    let answer = report_job(rt, alloc, invocation, blank, &items, job, telling, gate)?;
-    Ok(answer)
-}
-
-// The status and the text for bytes that were cut into a zone's and a script's.
+// The status and the text for an input whose job is run. The table comes before the zone, since making it takes twice its memory for a
+// while. The bytes go before the index is made.
 fn answer_job<R: Threads + Wait + Sync, G: Gate>(
     rt: &R,
     alloc: Global,
     invocation: &Invocation,
-    bytes: Vec<u8>,
-    parts: Parts,
+    input: Input,
     telling: Telling,
     gate: &G,
 ) -> Result<(Status, Vec<u8>), Stop>
-    requires short { length bytes.items ≤ 2 ^ 24 }
-    requires cut { IsCutAt bytes.items parts }
-    ensures told { IfOk result (λ x. Answers telling invocation.now.chunks (job_of invocation.now.origin bytes.items) x.0 x.1.items) }
-    ensures stops { IfErr result (IsStop (Answers telling invocation.now.chunks (job_of invocation.now.origin bytes.items))) }
+    ensures told { IfOk result (λ x. Answers telling invocation.now.chunks (job_of invocation.now.origin input) x.0 x.1.items) }
+    ensures stops { IfErr result (IsStop (Answers telling invocation.now.chunks (job_of invocation.now.origin input))) }
 {
-    let script = &bytes.as_slice()[parts.script_from as usize..];
-    match job_in(alloc, script, parts.first_line, &invocation.origin) {
-        Ok(job) => run_script(rt, alloc, invocation, bytes, parts, &job, telling, gate),
-        Err(JobRefusal::Refused { line, kind }) => Err(refuse_script(
-            alloc, invocation, &bytes, parts, line, kind,
-        )),
-        Err(JobRefusal::Memory) => Err(Stop::Memory),
-    }
+    let job = input.job(alloc, &invocation.origin)?;
+    let blank = table_for(alloc, invocation.chunks, job.workers.len())?;
+    let zone = input.zone(alloc, &invocation.origin)?;
+    drop(input);
+    let items = zone_items(alloc, zone)?;
+    let answer = report_job(rt, alloc, invocation, blank, &items, &job, telling, gate)?;
+    Ok(answer)
 }
 
 // The status and the text for a zone that is only to be checked: the nodes and cells of its trie are counted, and no index is made.
 fn check_zone(
     alloc: Global,
     invocation: &Invocation,
-    bytes: Vec<u8>,
-    parts: Parts,
+    input: Input,
 ) -> Result<(Status, Vec<u8>), Stop>
-    requires short { length bytes.items ≤ 2 ^ 24 }
-    requires cut { IsCutAt bytes.items parts }
-    ensures told { IfOk result (λ x. Checks invocation.now.chunks (zone_of invocation.now.origin (zone_lines bytes.items)) x.0 x.1.items) }
-    ensures stops { IfErr result (IsStop (Checks invocation.now.chunks (zone_of invocation.now.origin (zone_lines bytes.items)))) }
+    ensures told { IfOk result (λ x. Checks invocation.now.chunks (zone_of invocation.now.origin (zone_lines input)) x.0 x.1.items) }
+    ensures stops { IfErr result (IsStop (Checks invocation.now.chunks (zone_of invocation.now.origin (zone_lines input)))) }
 {
-    let zone_bytes = &bytes.as_slice()[..parts.zone_end as usize];
-    let zone = match zone_in(alloc, zone_bytes, &invocation.origin) {
-        Ok(zone) => zone,
-        Err(refusal) => return Err(zone_stop(refusal)),
-    };
-    drop(bytes);
+    let zone = input.zone(alloc, &invocation.origin)?;
+    drop(input);
     let size = zone_size(alloc, zone)?;
     let answer = report_size(alloc, invocation.chunks, &size)?;
     Ok(answer)
@@ -133,7 +84,7 @@ fn serve_input<R: Threads + Wait + Sync, K: Sink, G: Gate>(
     sink: &mut K,
     gate: &G,
 ) -> Status
-    requires { length bytes.items ≤ 16777216 }
+    requires { length bytes.items ≤ 2 ^ 24 }
     ensures written { IsWritten result → Written (DueInput (verb_view invocation.now.verb) invocation.now.chunks invocation.now.origin bytes.items) (K.held sink.old) (K.held sink.new) result }
     ensures cut_short { MayBeShort (is_streamed (verb_view invocation.now.verb)) result
         → CutShort (DueInput (verb_view invocation.now.verb) invocation.now.chunks invocation.now.origin bytes.items) (K.held sink.old) (K.held sink.new) }
@@ -142,15 +93,15 @@ fn serve_input<R: Threads + Wait + Sync, K: Sink, G: Gate>(
     ensures unwritten { IsUnwritten (is_streamed (verb_view invocation.now.verb)) result → K.held sink.new ≡ K.held sink.old }
     ensures others { result ≡ Status.SourceFault → ⊥ }
 {
-    let parts = split(&bytes);
+    let input = Input::of(bytes);
     let due = match invocation.verb {
-        Verb::Dump(style) => return dump_input(alloc, invocation, style, bytes, parts, sink),
-        Verb::Run => answer_job(rt, alloc, invocation, bytes, parts, Telling::Report, gate),
-        Verb::Make(_) => answer_job(rt, alloc, invocation, bytes, parts, Telling::Summary, gate),
-        Verb::Feed(crew) => answer_list(rt, alloc, invocation, bytes, parts, crew.workers, gate),
-        Verb::Check => check_zone(alloc, invocation, bytes, parts),
-        Verb::Size => size_job(alloc, invocation, bytes, parts),
-        Verb::Zones => answer_zones(rt, alloc, invocation, bytes, parts, gate),
+        Verb::Dump(style) => return dump_input(alloc, invocation, style, input, sink),
+        Verb::Run => answer_job(rt, alloc, invocation, input, Telling::Report, gate),
+        Verb::Make(_) => answer_job(rt, alloc, invocation, input, Telling::Summary, gate),
+        Verb::Feed(crew) => answer_list(rt, alloc, invocation, input, crew.workers, gate),
+        Verb::Check => check_zone(alloc, invocation, input),
+        Verb::Size => size_job(alloc, invocation, input),
+        Verb::Zones => answer_zones(rt, alloc, invocation, input, gate),
     };
     match due {
         Ok((status, text)) => write_due(sink, status, &text),

@@ -1,19 +1,13 @@
 //! What is told of a zone or a script that is refused.
-ghost use Rattle.std.specs.Prelude.{◌≡◌, ◌≤◌, ◌^◌, List, length};
-ghost use Rattle.zone_model.specs.MasterFile.{zone_of};
-ghost use Rattle.job_model.specs.Jobs.{zone_lines};
-ghost use Rattle.job_script.specs.Parts.{IsCutAt};
-ghost use Rattle.qp_main.specs.Due.{RefusesScript};
-ghost use Rattle.qp_main.specs.Stops.{IsStop, ListStopsFor, ScriptStopsFor, ZoneStopsFor};
+ghost use Rattle.std.specs.Prelude.{◌≡◌};
+ghost use Rattle.qp_main.specs.Stops.{ListStopsFor, ScriptStopsFor, ZoneStopsFor};
 
 use crate::line::Line;
 use crate::report::{list_refused, script_refused, zone_refused};
 use crate::status::Status;
-use command_line::Invocation;
 use job_model::ScriptKind;
-use job_script::Parts;
-use master_file::{Zone, read_zone};
-use std::alloc::{AllocError, Global};
+use master_file::Zone;
+use std::alloc::AllocError;
 use zone_list::ListRefusal;
 use zone_text::ZoneRefusal;
 
@@ -60,28 +54,11 @@ pub fn list_stop(refusal: ListRefusal) -> Stop
 }
 
 /// What is told of a script that is refused on this line, by what its zone was read as: the zone's refusal comes first.
-fn script_stop(zone: Result<Zone, ZoneRefusal>, line: u32, kind: ScriptKind) -> Stop
+pub fn script_stop(zone: Result<Zone, ZoneRefusal>, line: u32, kind: ScriptKind) -> Stop
     ensures { ScriptStopsFor zone (record { line = line; kind = kind }) result }
 {
     match zone {
         Ok(_) => Stop::Refused(Status::ScriptRefused, script_refused(line, kind)),
         Err(refusal) => zone_stop(refusal),
     }
-}
-
-/// The same, of an input.
-pub fn refuse_script(
-    alloc: Global,
-    invocation: &Invocation,
-    bytes: &[u8],
-    parts: Parts,
-    line: u32,
-    kind: ScriptKind,
-) -> Stop
-    requires short { length bytes.now ≤ 2 ^ 24 }
-    requires cut { IsCutAt bytes.now parts }
-    ensures { IsStop (RefusesScript (zone_of invocation.now.origin (zone_lines bytes.now)) (record { line = line; kind = kind })) result }
-{
-    let zone_bytes = &bytes[..parts.zone_end as usize];
-    script_stop(read_zone(alloc, zone_bytes, &invocation.origin), line, kind)
 }

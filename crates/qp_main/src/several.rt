@@ -1,8 +1,5 @@
 //! Several zones and a script over them.
-ghost use Rattle.std.specs.Prelude.{◌≡◌, ◌≤◌, ◌^◌, All, List, Ok, IfOk, IfErr, length, map};
-ghost use Rattle.job_model.specs.Jobs.{zone_lines};
-ghost use Rattle.job_script.specs.Parts.{IsCutAt};
-ghost use Rattle.zone_list.specs.Lists.{zones_of};
+ghost use Rattle.std.specs.Prelude.{◌≡◌, ◌≤◌, All, Ok, IfOk, IfErr, length, map};
 ghost use Rattle.zone_list.specs.Parts.{AreListed};
 ghost use Rattle.zones_model.specs.Commands.{origins_of};
 ghost use Rattle.zones_script.specs.Jobs.{zones_job_of};
@@ -14,16 +11,15 @@ ghost use Rattle.zones_threads.specs.Sites.{IsSaid};
 ghost use Rattle.qp_main.specs.Stops.{IsStop};
 ghost use Rattle.std.specs.List.{AllByRecursion};
 
+use crate::input::Input;
 use crate::items::zone_items;
-use crate::reading::{zones_in, zones_script_in};
-use crate::refusing::{Stop, list_stop};
-use crate::report::{no_room, script_refused};
+use crate::refusing::Stop;
+use crate::report::no_room;
 use crate::reporting::status_of;
 use crate::sizing::MANY_NAMES;
 use crate::status::Status;
 use command_line::Invocation;
 use dns_name::Name;
-use job_script::{JobRefusal, Parts};
 use job_threads::{Gate, ZoneLaw};
 use master_file::Zone;
 use shared_index::Blank;
@@ -119,57 +115,21 @@ fn report_zones<R: Threads + Wait + Sync, G: Gate>(
     }
 }
 
-// The status and the text for zones that were read: the script is read over them.
-fn answer_script<R: Threads + Wait + Sync, G: Gate>(
-    rt: &R,
-    alloc: Global,
-    invocation: &Invocation,
-    bytes: Vec<u8>,
-    parts: Parts,
-    zones: Vec<Zone>,
-    gate: &G,
-) -> Result<(Status, Vec<u8>), Stop>
-    requires short { length bytes.items ≤ 2 ^ 24 }
-    requires cut { IsCutAt bytes.items parts }
-    requires read { zones_of (zone_lines bytes.items) ≡ Ok zones.items }
-    requires listed { AreListed zones.items }
-    requires zones { AllByRecursion IsRead zones.items }
-    ensures told { IfOk result (λ x. ZonesAnswers invocation.now.chunks (zones_job_of bytes.items) x.0 x.1.items) }
-    ensures stops { IfErr result (IsStop (ZonesAnswers invocation.now.chunks (zones_job_of bytes.items))) }
-{
-    let origins = origins_of(alloc, &zones)?;
-    let script_bytes = &bytes.as_slice()[parts.script_from as usize..];
-    match zones_script_in(alloc, script_bytes, parts.first_line, &origins) {
-        Ok(script) => {
-            drop(bytes);
-            let answer = report_zones(rt, alloc, invocation, zones, &script, gate)?;
-            Ok(answer)
-        }
-        Err(JobRefusal::Refused { line, kind }) => Err(Stop::Refused(
-            Status::ScriptRefused,
-            script_refused(line, kind),
-        )),
-        Err(JobRefusal::Memory) => Err(Stop::Memory),
-    }
-}
-
-/// The status and the text for bytes that were cut into those of several zones and a script's.
+/// The status and the text for an input of several zones and a script over them.
 pub fn answer_zones<R: Threads + Wait + Sync, G: Gate>(
     rt: &R,
     alloc: Global,
     invocation: &Invocation,
-    bytes: Vec<u8>,
-    parts: Parts,
+    input: Input,
     gate: &G,
 ) -> Result<(Status, Vec<u8>), Stop>
-    requires short { length bytes.items ≤ 2 ^ 24 }
-    requires cut { IsCutAt bytes.items parts }
-    ensures told { IfOk result (λ x. ZonesAnswers invocation.now.chunks (zones_job_of bytes.items) x.0 x.1.items) }
-    ensures stops { IfErr result (IsStop (ZonesAnswers invocation.now.chunks (zones_job_of bytes.items))) }
+    ensures told { IfOk result (λ x. ZonesAnswers invocation.now.chunks (zones_job_of input) x.0 x.1.items) }
+    ensures stops { IfErr result (IsStop (ZonesAnswers invocation.now.chunks (zones_job_of input))) }
 {
-    let zone_bytes = &bytes.as_slice()[..parts.zone_end as usize];
-    match zones_in(alloc, zone_bytes) {
-        Ok(zones) => answer_script(rt, alloc, invocation, bytes, parts, zones, gate),
-        Err(refusal) => Err(list_stop(refusal)),
-    }
+    let zones = input.zones(alloc)?;
+    let origins = origins_of(alloc, &zones)?;
+    let script = input.script_over(alloc, &origins)?;
+    drop(input);
+    let answer = report_zones(rt, alloc, invocation, zones, &script, gate)?;
+    Ok(answer)
 }

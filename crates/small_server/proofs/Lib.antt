@@ -1,5 +1,3 @@
-mod ItemLemmas
-mod PassLaws
 mod ShowLaws
 mod WriteLaws
 mod OpeningLaws

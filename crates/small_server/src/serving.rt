@@ -5,6 +5,7 @@ ghost use Rattle.zone_model.specs.Names.{Name as Labels, same_name};
 ghost use Rattle.zone_query.specs.Standing.{ShowsSome};
 ghost use Rattle.zone_table.specs.Openings.{entries_in, origins_of};
 ghost use Rattle.zone_table.specs.Passes.{IsPassOf};
+ghost use Rattle.small_server.specs.Crew.{ArePassesOf};
 
 use crate::asking::Reply;
 use crate::failure::Failure;
@@ -62,8 +63,7 @@ struct Passes<N: Named> {
 // Three passes.
 fn three<N: Named>(passes: Vec<ZonesPass<N>>) -> Passes<N>
     requires { length passes.items ≡ 3 }
-    ensures { (origins : List Labels) → All (IsPassOf origins) passes.items
-        → IsPassOf origins result.first × IsPassOf origins result.second × IsPassOf origins result.writer }
+    ensures { (origins : List Labels) → All (IsPassOf origins) passes.items → ArePassesOf origins result }
 {
     let mut passes = passes;
     let Some(first) = passes.pop() else {
@@ -96,17 +96,12 @@ fn close<N: Named>(
     zones: Zones<Stored, N>,
     passes: Passes<N>,
 ) -> Result<(u64, u64, u64), AllocError>
-    requires { IsPassOf zones.origins.items passes.first × IsPassOf zones.origins.items passes.second × IsPassOf zones.origins.items passes.writer }
+    requires { ArePassesOf zones.origins.items passes }
 {
-    let Passes {
-        first,
-        second,
-        writer,
-    } = passes;
     let mut all = Vec::new(alloc);
-    all.push(first)?;
-    all.push(second)?;
-    all.push(writer)?;
+    all.push(passes.first)?;
+    all.push(passes.second)?;
+    all.push(passes.writer)?;
     let numbers = zones.close(alloc, all)?;
     Ok((numbers[0], numbers[1], numbers[2]))
 }
@@ -121,18 +116,13 @@ fn serve_change<R: Threads + Wait + Sync, N: Named + Send + Sync>(
     names: &Names,
     operations: &[Operation],
 ) -> Result<(Change, Passes<N>), Failure>
-    requires passes { IsPassOf zones.now.origins.items passes.first × IsPassOf zones.now.origins.items passes.second
-        × IsPassOf zones.now.origins.items passes.writer }
+    requires passes { ArePassesOf zones.now.origins.items passes }
     requires two { length zones.now.origins.items ≡ 2 }
-    ensures { IfOk result (λ x. IsPassOf zones.now.origins.items x.1.first × IsPassOf zones.now.origins.items x.1.second
-        × IsPassOf zones.now.origins.items x.1.writer) }
+    ensures { IfOk result (λ x. ArePassesOf zones.now.origins.items x.1) }
 {
-    let Passes {
-        first: mut pass,
-        second,
-        writer,
-    } = passes;
-    let upper = task(second, None, &names.upper);
+    let upper = task(passes.second, None, &names.upper);
+    let mut pass = passes.first;
+    let writer = passes.writer;
     let (transfer, beside) = transfer_beside(
         rt, alloc, zones, &mut pass, writer, operations, upper,
     )?;
@@ -153,15 +143,12 @@ fn serve_change<R: Threads + Wait + Sync, N: Named + Send + Sync>(
         made: (version, table),
         after: (first.reply, second.reply),
     };
-    let (first, second) = (first.pass, second.pass);
-    Ok((
-        change,
-        Passes {
-            first,
-            second,
-            writer,
-        },
-    ))
+    let passes = Passes {
+        first: first.pass,
+        second: second.pass,
+        writer,
+    };
+    Ok((change, passes))
 }
 
 // Serves zones that are open, until all is told.
@@ -173,23 +160,17 @@ fn serve_open<R: Threads + Wait + Sync, N: Named + Send + Sync>(
     names: &Names,
     operations: &[Operation],
 ) -> Result<Report, Failure>
-    requires passes { IsPassOf zones.origins.items passes.first × IsPassOf zones.origins.items passes.second × IsPassOf zones.origins.items passes.writer }
+    requires passes { ArePassesOf zones.origins.items passes }
     requires two { length zones.origins.items ≡ 2 }
 {
-    let Passes {
-        first,
-        second,
-        writer,
-    } = passes;
-    let upper = task(first, None, &names.upper);
-    let lower = task(second, None, &names.lower);
+    let upper = task(passes.first, None, &names.upper);
+    let lower = task(passes.second, None, &names.lower);
     let (first, second) = answer_both(rt, alloc, &zones, upper, lower)?;
     let before = (first.reply, second.reply);
-    let (first, second) = (first.pass, second.pass);
     let passes = Passes {
-        first,
-        second,
-        writer,
+        first: first.pass,
+        second: second.pass,
+        writer: passes.writer,
     };
     let (change, passes) = serve_change(rt, alloc, &zones, passes, names, operations)?;
     let last = close(alloc, zones, passes)?;

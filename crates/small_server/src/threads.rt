@@ -1,8 +1,7 @@
 //! The threads that answer, and the one that writes.
 ghost use Rattle.std.specs.Prelude.{◌≡◌, IfOk, length};
-ghost use Rattle.std.specs.Option.{ForSome};
-ghost use Rattle.zone_table.specs.Notes.{IsNoteOf};
 ghost use Rattle.zone_table.specs.Passes.{IsPassOf};
+ghost use Rattle.small_server.specs.Crew.{IsChangedOf, IsTaskOf};
 
 use crate::asking::{Reply, ask};
 use crate::changing::change_zone;
@@ -50,8 +49,7 @@ pub fn answer<N: Named>(
     zones: &Zones<Stored, N>,
     task: Task<'_, N>,
 ) -> Result<Answered<N>, Failure>
-    requires pass { IsPassOf zones.now.origins.items task.pass }
-    requires note { ForSome task.note (IsNoteOf zones.now.origins.items) }
+    requires { IsTaskOf zones.now.origins.items task }
     ensures { IfOk result (λ a. IsPassOf zones.now.origins.items a.pass) }
 {
     let Task {
@@ -74,18 +72,15 @@ pub fn answer_both<R: Threads + Wait + Sync, N: Named + Send + Sync>(
     first: Task<'_, N>,
     second: Task<'_, N>,
 ) -> Result<(Answered<N>, Answered<N>), Failure>
-    requires passes { IsPassOf zones.now.origins.items first.pass × IsPassOf zones.now.origins.items second.pass }
-    requires notes { ForSome first.note (IsNoteOf zones.now.origins.items) × ForSome second.note (IsNoteOf zones.now.origins.items) }
+    requires { IsTaskOf zones.now.origins.items first × IsTaskOf zones.now.origins.items second }
     ensures { IfOk result (λ both. IsPassOf zones.now.origins.items both.0.pass × IsPassOf zones.now.origins.items both.1.pass) }
 {
     let here = move || -> Result<Answered<N>, Failure>
-        requires pass { IsPassOf zones.now.origins.items first.pass }
-        requires note { ForSome first.note (IsNoteOf zones.now.origins.items) }
+        requires { IsTaskOf zones.now.origins.items first }
         ensures { IfOk result (λ a. IsPassOf zones.entry.now.origins.items a.pass) }
     { answer(alloc, zones, first) };
     let there = move || -> Result<Answered<N>, Failure>
-        requires pass { IsPassOf zones.now.origins.items second.pass }
-        requires note { ForSome second.note (IsNoteOf zones.now.origins.items) }
+        requires { IsTaskOf zones.now.origins.items second }
         ensures { IfOk result (λ a. IsPassOf zones.entry.now.origins.items a.pass) }
     { answer(alloc, zones, second) };
     let (first, second) = join(rt, here, there);
@@ -102,8 +97,7 @@ pub fn write<R: Wait, N: Named>(
 ) -> Result<Changed<N>, Failure>
     requires pass { IsPassOf zones.now.origins.items pass }
     requires two { length zones.now.origins.items ≡ 2 }
-    ensures pass { IfOk result (λ c. IsPassOf zones.now.origins.items c.pass) }
-    ensures notes { IfOk result (λ c. IsNoteOf zones.now.origins.items c.notes.0 × IsNoteOf zones.now.origins.items c.notes.1) }
+    ensures { IfOk result (IsChangedOf zones.now.origins.items) }
 {
     let version = change_zone(rt, alloc, zones, &mut pass, 0, operations)?;
     let table = zones.detach(rt, &mut pass, 1)?.version;

@@ -1,9 +1,8 @@
 //! A version that is held for a transfer while its zone is changed.
 ghost use Rattle.std.specs.Prelude.{◌≡◌, IfOk, IsSome, length};
-ghost use Rattle.std.specs.Option.{ForSome};
 ghost use Rattle.zone_query.specs.Standing.{ShowsSome};
-ghost use Rattle.zone_table.specs.Notes.{IsNoteOf};
 ghost use Rattle.zone_table.specs.Passes.{IsPassOf};
+ghost use Rattle.small_server.specs.Crew.{AreBesideOf, IsChangedOf, IsTaskOf};
 
 use crate::failure::Failure;
 use crate::law::Stored;
@@ -56,28 +55,24 @@ fn run_beside<R: Threads + Wait + Sync, N: Named + Send + Sync>(
     operations: &[Operation],
     task: Task<'_, N>,
 ) -> Result<Beside<N>, Failure>
-    requires passes { IsPassOf zones.now.origins.items writer × IsPassOf zones.now.origins.items task.pass }
-    requires note { ForSome task.note (IsNoteOf zones.now.origins.items) }
+    requires passes { IsPassOf zones.now.origins.items writer × IsTaskOf zones.now.origins.items task }
     requires two { length zones.now.origins.items ≡ 2 }
-    ensures changed { IfOk result (λ b. IsPassOf zones.now.origins.items b.changed.pass) }
-    ensures notes { IfOk result (λ b. IsNoteOf zones.now.origins.items b.changed.notes.0 × IsNoteOf zones.now.origins.items b.changed.notes.1) }
-    ensures answered { IfOk result (λ b. IsPassOf zones.now.origins.items b.answered.pass) }
+    ensures { IfOk result (AreBesideOf zones.now.origins.items) }
 {
     let writes = move || -> Result<Changed<N>, Failure>
         requires pass { IsPassOf zones.now.origins.items writer }
         requires two { length zones.now.origins.items ≡ 2 }
-        ensures pass { IfOk result (λ c. IsPassOf zones.entry.now.origins.items c.pass) }
-        ensures notes { IfOk result (λ c. IsNoteOf zones.entry.now.origins.items c.notes.0 × IsNoteOf zones.entry.now.origins.items c.notes.1) }
+        ensures { IfOk result (IsChangedOf zones.entry.now.origins.items) }
     { write(rt, alloc, zones, writer, operations) };
     let answers = move || -> Result<Answered<N>, Failure>
-        requires pass { IsPassOf zones.now.origins.items task.pass }
-        requires note { ForSome task.note (IsNoteOf zones.now.origins.items) }
+        requires { IsTaskOf zones.now.origins.items task }
         ensures { IfOk result (λ a. IsPassOf zones.entry.now.origins.items a.pass) }
     { answer(alloc, zones, task) };
     let (changed, answered) = join(rt, writes, answers);
-    let changed = changed?;
-    let answered = answered?;
-    Ok(Beside { changed, answered })
+    Ok(Beside {
+        changed: changed?,
+        answered: answered?,
+    })
 }
 
 // Holds the current version of an index while others write and answer, and writes it down when they are done.
@@ -93,14 +88,11 @@ fn hold_beside<R: Threads + Wait + Sync, N: Named + Send + Sync>(
 ) -> Result<(Transfer, Beside<N>), Failure>
     requires here { IsSome pass.old.seat }
     requires place { pass.old.place ≡ index.now.place }
-    requires passes { IsPassOf zones.now.origins.items writer × IsPassOf zones.now.origins.items task.pass }
-    requires note { ForSome task.note (IsNoteOf zones.now.origins.items) }
+    requires passes { IsPassOf zones.now.origins.items writer × IsTaskOf zones.now.origins.items task }
     requires two { length zones.now.origins.items ≡ 2 }
     ensures here { IsSome pass.new.seat }
     ensures place { pass.new.place ≡ pass.old.place }
-    ensures changed { IfOk result (λ x. IsPassOf zones.now.origins.items x.1.changed.pass) }
-    ensures notes { IfOk result (λ x. IsNoteOf zones.now.origins.items x.1.changed.notes.0 × IsNoteOf zones.now.origins.items x.1.changed.notes.1) }
-    ensures answered { IfOk result (λ x. IsPassOf zones.now.origins.items x.1.answered.pass) }
+    ensures beside { IfOk result (λ x. AreBesideOf zones.now.origins.items x.1) }
 {
     let mut held = pass.query(index);
     let beside = run_beside(rt, alloc, zones, writer, operations, task)?;
@@ -118,13 +110,11 @@ pub fn transfer_beside<R: Threads + Wait + Sync, N: Named + Send + Sync>(
     operations: &[Operation],
     task: Task<'_, N>,
 ) -> Result<(Transfer, Beside<N>), Failure>
-    requires passes { IsPassOf zones.now.origins.items pass.old × IsPassOf zones.now.origins.items writer × IsPassOf zones.now.origins.items task.pass }
-    requires note { ForSome task.note (IsNoteOf zones.now.origins.items) }
+    requires pass { IsPassOf zones.now.origins.items pass.old }
+    requires passes { IsPassOf zones.now.origins.items writer × IsTaskOf zones.now.origins.items task }
     requires two { length zones.now.origins.items ≡ 2 }
     ensures pass { IsPassOf zones.now.origins.items pass.new }
-    ensures changed { IfOk result (λ x. IsPassOf zones.now.origins.items x.1.changed.pass) }
-    ensures notes { IfOk result (λ x. IsNoteOf zones.now.origins.items x.1.changed.notes.0 × IsNoteOf zones.now.origins.items x.1.changed.notes.1) }
-    ensures answered { IfOk result (λ x. IsPassOf zones.now.origins.items x.1.answered.pass) }
+    ensures beside { IfOk result (λ x. AreBesideOf zones.now.origins.items x.1) }
 {
     let index = zones.zone(0);
     let place = pass.zone(zones, 0);

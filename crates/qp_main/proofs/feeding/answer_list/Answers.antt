@@ -1,25 +1,29 @@
-use Rattle.std.proofs.Common.{rules, ◌≡◌, ◌∙◌, ℕ, List, Err, ap₂, sym, subst, take, drop, length, ◌-◌}
-use Rattle.zone_model.specs.Lines.{lines_of}
+use Rattle.std.proofs.Common.{rules}
 use Rattle.zone_model.specs.MasterFile.{zone_of}
-use Rattle.zone_model.specs.Refusals.{Refused}
-use Rattle.job_model.specs.Jobs.{fed_job_of, zone_lines, list_of}
-use Rattle.job_model.specs.declared.ScriptKind.{ScriptKind}
+use Rattle.job_model.specs.Jobs.{fed_job_of, zone_lines}
 use Rattle.job_script.specs.Views.{list_view}
-use Rattle.qp_main.specs.Due.{FedAnswers, RefusesScript}
-use Rattle.qp_main.specs.Stops.{IsStop}
-use Rattle.qp_main.proofs.ReportingLemmas.{lines_behind}
-use Rattle.qp_main.proofs.DueLemmas.{stop_as, script_said, list_refuses}
+use Rattle.job_threads.specs.Histories.{StandsAs}
+use Rattle.trie_write.specs.Entries.{entries_of_items}
+use Rattle.qp_main.specs.Due.{FedAnswers}
+use Rattle.qp_main.proofs.DueLemmas.{list_answers}
+use Rattle.qp_main.proofs.StopLemmas.{fed_answers_stop, fed_zone_stops}
 use Rattle.qp_main.proofs.feeding.answer_list.Goals as goal
 
-pub returns-in-Err-Refused-clause-stops : goal.returns-in-Err-Refused-clause-stops
-returns-in-Err-Refused-clause-stops g c =
-    let origin = c.args.invocation.now.origin in
-    let bytes = c.args.bytes.items in
-    let first = c.args.parts.first_line in
-    let from = c.args.parts.script_from in
-    let e : Refused ScriptKind = record { line = c.in-Err-Refused.line; kind = c.in-Err-Refused.kind } in
-    let said = script_said list_view c.in-Err-Refused.field-0 c.in-Err-Refused.line c.in-Err-Refused.kind (list_of origin first (lines_of (take (length c.as_slice.result.now - from) (drop from c.as_slice.result.now)))) c.in-Err-Refused.field-0-is c.in-Err-Refused.ensures.reads in
-    let refused = ap₂ (λ (n : ℕ) (ls : List (List ℕ)). list_of origin n ls) (sym c.requires.cut.first) (sym (lines_behind bytes c.args.parts c.requires.cut))
-    ∙ subst (λ (b : List ℕ). list_of origin first (lines_of (take (length b - from) (drop from b))) ≡ Err e) c.as_slice.ensures.value said in
-    let told : IsStop (RefusesScript (zone_of c.args.invocation.now.origin (zone_lines c.args.bytes.items)) (record { line = c.in-Err-Refused.line; kind = c.in-Err-Refused.kind })) c.refuse_script.result = search (rules, c.refuse_script.ensures, c.deref.ensures.value) in
-    stop_as (RefusesScript (zone_of origin (zone_lines bytes)) e) (FedAnswers c.args.workers c.args.invocation.now.chunks (fed_job_of origin bytes)) c.refuse_script.result (λ s text r. list_refuses c.args.workers c.args.invocation.now.chunks origin bytes e refused s text r) told
+pub report_list-requires-clause-zone : goal.report_list-requires-clause-zone
+report_list-requires-clause-zone g c = λ κs bounds. record { version = c.in_ok-zone.zone.pairs; stands = search (rules, c.in_ok-items.ensures, c.deref.ensures.value); zone = c.in_ok-zone.ensures.of_origin }
+
+pub returns-clause-told : goal.returns-clause-told
+returns-clause-told g c =
+    let i = c.args.invocation.now in
+    let stands : StandsAs (entries_of_items c.deref.result.now) c.in_ok-zone.zone.pairs = search (rules, c.in_ok-items.ensures, c.deref.ensures.value) in
+    list_answers c.args.workers i.chunks i.origin c.args.input c.in_ok-zone.zone.pairs (list_view c.in_ok-commands.commands) c.in_ok-zone.ensures.zone c.in_ok-commands.ensures.list _ _ (c.in_ok-answer.ensures c.in_ok-zone.zone.pairs c.args.workers stands c.in_ok-zone.ensures.of_origin (search rules))
+
+pub returns-in_err-commands-clause-stops : goal.returns-in_err-commands-clause-stops
+returns-in_err-commands-clause-stops g c =
+    let i = c.args.invocation.now in
+    let told = fed_answers_stop c.args.workers i.chunks (fed_job_of i.origin c.args.input) _ c.in_err-commands.ensures.stops in search (rules, told)
+
+pub returns-in_err-zone-clause-stops : goal.returns-in_err-zone-clause-stops
+returns-in_err-zone-clause-stops g c =
+    let i = c.args.invocation.now in
+    let told = fed_answers_stop c.args.workers i.chunks (fed_job_of i.origin c.args.input) _ (fed_zone_stops i.origin c.args.input _ c.in_err-zone.ensures.stops) in search (rules, told)

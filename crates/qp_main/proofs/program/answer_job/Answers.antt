@@ -1,25 +1,28 @@
-use Rattle.std.proofs.Common.{rules, ◌≡◌, ◌∙◌, ℕ, List, Err, ap₂, sym, subst, take, drop, length, ◌-◌}
-use Rattle.zone_model.specs.Lines.{lines_of}
-use Rattle.zone_model.specs.MasterFile.{zone_of}
-use Rattle.zone_model.specs.Refusals.{Refused}
-use Rattle.job_model.specs.Jobs.{job_of, zone_lines, script_of}
-use Rattle.job_model.specs.declared.ScriptKind.{ScriptKind}
+use Rattle.std.proofs.Common.{rules}
+use Rattle.job_model.specs.Jobs.{job_of}
 use Rattle.job_script.specs.Views.{job_view}
-use Rattle.qp_main.specs.Due.{Answers, RefusesScript}
-use Rattle.qp_main.specs.Stops.{IsStop}
-use Rattle.qp_main.proofs.ReportingLemmas.{lines_behind}
-use Rattle.qp_main.proofs.DueLemmas.{stop_as, script_said, script_refuses}
+use Rattle.job_threads.specs.Histories.{StandsAs}
+use Rattle.trie_write.specs.Entries.{entries_of_items}
+use Rattle.qp_main.specs.Due.{Answers}
+use Rattle.qp_main.proofs.DueLemmas.{job_answers}
+use Rattle.qp_main.proofs.StopLemmas.{answers_stop, job_zone_stops}
 use Rattle.qp_main.proofs.program.answer_job.Goals as goal
 
-pub returns-in-Err-Refused-clause-stops : goal.returns-in-Err-Refused-clause-stops
-returns-in-Err-Refused-clause-stops g c =
-    let origin = c.args.invocation.now.origin in
-    let bytes = c.args.bytes.items in
-    let first = c.args.parts.first_line in
-    let from = c.args.parts.script_from in
-    let e : Refused ScriptKind = record { line = c.in-Err-Refused.line; kind = c.in-Err-Refused.kind } in
-    let said = script_said job_view c.in-Err-Refused.field-0 c.in-Err-Refused.line c.in-Err-Refused.kind (script_of origin first (lines_of (take (length c.as_slice.result.now - from) (drop from c.as_slice.result.now)))) c.in-Err-Refused.field-0-is c.in-Err-Refused.ensures.reads in
-    let refused = ap₂ (λ (n : ℕ) (ls : List (List ℕ)). script_of origin n ls) (sym c.requires.cut.first) (sym (lines_behind bytes c.args.parts c.requires.cut))
-    ∙ subst (λ (b : List ℕ). script_of origin first (lines_of (take (length b - from) (drop from b))) ≡ Err e) c.as_slice.ensures.value said in
-    let told : IsStop (RefusesScript (zone_of c.args.invocation.now.origin (zone_lines c.args.bytes.items)) (record { line = c.in-Err-Refused.line; kind = c.in-Err-Refused.kind })) c.refuse_script.result = search (rules, c.refuse_script.ensures, c.deref.ensures.value) in
-    stop_as (RefusesScript (zone_of origin (zone_lines bytes)) e) (Answers c.args.telling c.args.invocation.now.chunks (job_of origin bytes)) c.refuse_script.result (λ s text r. script_refuses c.args.telling c.args.invocation.now.chunks origin bytes e refused s text r) told
+pub report_job-requires-clause-zone : goal.report_job-requires-clause-zone
+report_job-requires-clause-zone g c = λ κs bounds. record { version = c.in_ok-zone.zone.pairs; stands = search (rules, c.in_ok-items.ensures, c.deref.ensures.value); zone = c.in_ok-zone.ensures.of_origin }
+
+pub returns-clause-told : goal.returns-clause-told
+returns-clause-told g c =
+    let i = c.args.invocation.now in
+    let stands : StandsAs (entries_of_items c.deref.result.now) c.in_ok-zone.zone.pairs = search (rules, c.in_ok-items.ensures, c.deref.ensures.value) in
+    job_answers c.args.telling i.chunks i.origin c.args.input c.in_ok-zone.zone.pairs (job_view c.in_ok-job.job) c.in_ok-zone.ensures.zone c.in_ok-job.ensures.script _ _ (c.in_ok-answer.ensures c.in_ok-zone.zone.pairs stands c.in_ok-zone.ensures.of_origin)
+
+pub returns-in_err-job-clause-stops : goal.returns-in_err-job-clause-stops
+returns-in_err-job-clause-stops g c =
+    let i = c.args.invocation.now in
+    let told = answers_stop c.args.telling i.chunks (job_of i.origin c.args.input) _ c.in_err-job.ensures.stops in search (rules, told)
+
+pub returns-in_err-zone-clause-stops : goal.returns-in_err-zone-clause-stops
+returns-in_err-zone-clause-stops g c =
+    let i = c.args.invocation.now in
+    let told = answers_stop c.args.telling i.chunks (job_of i.origin c.args.input) _ (job_zone_stops i.origin c.args.input _ c.in_err-zone.ensures.stops) in search (rules, told)

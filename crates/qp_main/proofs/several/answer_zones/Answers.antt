@@ -1,13 +1,46 @@
-use Rattle.std.proofs.Common.{rules, take, Err, Global, Vec}
-use Rattle.zone_model.specs.Lines.{lines_of}
-use Rattle.master_file.specs.declared.zones.Zone.{Zone}
-use Rattle.zone_list.specs.Lists.{zones_of}
-use Rattle.zone_list.specs.Views.{Says}
-use Rattle.qp_main.proofs.SeveralLemmas.{list_stopped}
+use Rattle.std.proofs.Common.{rules, ◌≡◌, ◌∙◌, List, sym, ap, subst}
+use Rattle.std.specs.List.{AllByRecursion}
+use Rattle.zone_model.specs.Names.{Name}
+use Rattle.job_model.specs.Jobs.{script_lines, script_start}
+use Rattle.zones_model.specs.Commands.{origins_of}
+use Rattle.zones_script.specs.Scripts.{script_of}
+use Rattle.zones_script.specs.Views.{workers_view}
+use Rattle.zones_script.specs.Jobs.{zones_job_of}
+use Rattle.zones_threads.specs.Sites.{IsSaid}
+use Rattle.qp_main.specs.Due.{ZonesAnswers}
+use Rattle.qp_main.specs.Stops.{IsStop, ScriptStops}
+use Rattle.qp_main.proofs.SeveralLemmas.{list_stops, names_are, said_over, script_stops, zones_answers}
 use Rattle.qp_main.proofs.several.answer_zones.Goals as goal
 
-pub returns-in-Err-clause-stops : goal.returns-in-Err-clause-stops
-returns-in-Err-clause-stops g c =
-    let lines = lines_of (take c.args.parts.zone_end c.args.bytes.items) in
-    let says : Says {R = Vec Zone Global} (Err c.in-Err.refusal) (λ v. v.items) (zones_of lines) = search (rules, c.in-Err.ensures.zones) in
-    list_stopped {R = Vec Zone Global} (λ v. v.items) c.args.invocation.now.chunks c.args.bytes.items lines c.in-Err.refusal c.list_stop.result c.requires.cut.zone says c.list_stop.ensures
+pub script_over-requires-clause-names : goal.script_over-requires-clause-names
+script_over-requires-clause-names g c =
+    names_are c.in_ok-zones.zones.items c.deref-2.result.now (c.deref-2.ensures.value ∙ c.in_ok-origins.ensures ∙ ap origins_of c.deref.ensures.value) c.in_ok-zones.ensures.said
+
+pub report_zones-requires-clause-said : goal.report_zones-requires-clause-said
+report_zones-requires-clause-said g c =
+    let zones = c.in_ok-zones.zones.items in
+    let workers = workers_view c.in_ok-script.script in
+    let over : AllByRecursion (AllByRecursion (IsSaid (origins_of zones))) workers = said_over zones c.deref-2.result.now workers (c.deref-2.ensures.value ∙ c.in_ok-origins.ensures ∙ ap origins_of c.deref.ensures.value) c.in_ok-script.ensures.said in
+    search (rules, over)
+
+pub returns-clause-told : goal.returns-clause-told
+returns-clause-told g c =
+    let bytes = c.args.input in
+    let zones = c.in_ok-zones.zones.items in
+    let origins : c.deref-2.result.now ≡ origins_of zones = c.deref-2.ensures.value ∙ c.in_ok-origins.ensures ∙ ap origins_of c.deref.ensures.value in
+    zones_answers c.args.invocation.now.chunks bytes zones (workers_view c.in_ok-script.script) c.in_ok-zones.ensures.zones
+    (ap (λ (os : List Name). script_of os (script_start bytes) (script_lines bytes)) (sym origins) ∙ c.in_ok-script.ensures.reads) c.in_ok-answer.answer.0 c.in_ok-answer.answer.1.items c.in_ok-answer.ensures
+
+pub returns-in_err-zones-clause-stops : goal.returns-in_err-zones-clause-stops
+returns-in_err-zones-clause-stops g c =
+    let told = list_stops c.args.invocation.now.chunks c.args.input _ c.in_err-zones.ensures.stops in search (rules, told)
+
+pub returns-in_err-script-clause-stops : goal.returns-in_err-script-clause-stops
+returns-in_err-script-clause-stops g c =
+    let bytes = c.args.input in
+    let origins : c.deref-2.result.now ≡ origins_of c.in_ok-zones.zones.items = c.deref-2.ensures.value ∙ c.in_ok-origins.ensures ∙ ap origins_of c.deref.ensures.value in
+    let stop = c.in_err-script.field-0.0 in
+    let told : IsStop (ZonesAnswers c.args.invocation.now.chunks (zones_job_of bytes)) c.in_err-script.field-0.0 =
+    script_stops c.args.invocation.now.chunks bytes c.in_ok-zones.zones.items c.in_ok-zones.ensures.zones stop
+    (subst (λ (os : List Name). IsStop (ScriptStops (script_of os (script_start bytes) (script_lines bytes))) stop) origins c.in_err-script.ensures.stops) in
+    search (rules, told)

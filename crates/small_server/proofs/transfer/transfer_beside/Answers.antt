@@ -1,6 +1,6 @@
-use Rattle.small_server.proofs.PassLaws.{with_zone_is}
+use Rattle.zone_table.proofs.PassLaws.{went}
 use Rattle.small_server.proofs.transfer.transfer_beside.Goals as goal
 
 pub returns-clause-pass : goal.returns-clause-pass
 returns-clause-pass g c =
-    with_zone_is c.args.zones.now.origins.items c.args.pass.now 0 c.zone-place.result.now c.hold_beside.new.pass c.requires.passes.0 c.zone-place.ensures.value c.hold_beside.ensures.here c.hold_beside.ensures.place
+    (went c.args.zones.now.origins.items c.args.pass.now 0 c.zone-place.result.now c.hold_beside.new.pass c.requires.pass c.zone-place.ensures.value c.hold_beside.ensures.here c.hold_beside.ensures.place).pass

@@ -1,8 +1,8 @@
 use Rattle.std.proofs.Common.{ℕ, List, length, ap, arith, Err}
 use Rattle.trie_write.specs.Entries.{entry_of}
 use Rattle.trie_write.specs.declared.item.ItemRefusal.{ItemRefusal}
-use Rattle.qp_main.proofs.ItemLemmas.{whole_octets, item_entry}
-use Rattle.qp_main.proofs.items.item_of.Goals as goal
+use Rattle.index_items.proofs.ItemLemmas.{whole_octets, item_entry}
+use Rattle.index_items.proofs.items.item_of.Goals as goal
 
 pub unreachable-requires-in-Err-Long : goal.unreachable-requires-in-Err-Long
 unreachable-requires-in-Err-Long c =

@@ -3,7 +3,7 @@ use Rattle.std.specs.List.{AllByRecursion}
 use Rattle.trie_write.specs.Entries.{entries_of_items}
 use Rattle.zone_query.specs.Standing.{IsStorable}
 use Rattle.job_model.specs.Sizes.{trie_entries}
-use Rattle.small_server.proofs.loading.items_of.Given as goal
+use Rattle.index_items.proofs.items.items_of.Given as goal
 
 abbrev pub invariant-loop-len : goal.invariant-loop-len
 invariant-loop-len l =
