@@ -44,11 +44,6 @@ const PLAIN: Case = Case {
     short: b"$ORIGIN example.\n$TTL 300\n@ IN NS ns\n\tIN SOA ns hostmaster 1 3600 600 86400 60\nns IN A 192.0.2.1\n",
 };
 
-#[test]
-fn a_plain_zone_is_dumped(rt: HostRuntime) {
-    assert!(rt; is_right(rt.alloc(), &PLAIN));
-}
-
 // Labels that would be something else unescaped, or as another word, or that have a dot or a space in them; names outside
 // the zone, other times to live, a wildcard, and data of a type that has no name.
 const ODD: Case = Case {
@@ -80,11 +75,6 @@ const ODD: Case = Case {
         t IN TYPE65280 \\# 2 0aff\n\
         *.w IN A 192.0.2.3\n",
 };
-
-#[test]
-fn odd_labels_are_dumped(rt: HostRuntime) {
-    assert!(rt; is_right(rt.alloc(), &ODD));
-}
 
 // The zone of examples/delegations.job.
 const DELEGATIONS: Case = Case {
@@ -120,11 +110,6 @@ const DELEGATIONS: Case = Case {
         www IN CNAME web\n",
 };
 
-#[test]
-fn delegations_and_wildcards_are_dumped(rt: HostRuntime) {
-    assert!(rt; is_right(rt.alloc(), &DELEGATIONS));
-}
-
 // Relative names that look like a time to live, a class, a type, a directive, a wildcard or a comment, as owners and in
 // data; a name outside the zone whose last label ends like the origin's; and no octets at all.
 const WORDS: Case = Case {
@@ -157,11 +142,6 @@ const WORDS: Case = Case {
         x IN TYPE65280 \\# 0\n",
 };
 
-#[test]
-fn names_that_look_like_other_words_are_dumped(rt: HostRuntime) {
-    assert!(rt; is_right(rt.alloc(), &WORDS));
-}
-
 const ROOT: Case = Case {
     text: b"$TTL 60\n@ SOA ns hm 1 2 3 4 5\ncom NS ns.com\na.com 5 A 192.0.2.9\n",
     origin: b".",
@@ -171,8 +151,10 @@ const ROOT: Case = Case {
 };
 
 #[test]
-fn the_zone_of_the_root_is_dumped(rt: HostRuntime) {
-    assert!(rt; is_right(rt.alloc(), &ROOT));
+fn zones_are_dumped(rt: HostRuntime) {
+    for case in [PLAIN, ODD, DELEGATIONS, WORDS, ROOT] {
+        assert!(rt; is_right(rt.alloc(), &case));
+    }
 }
 
 // How many records a dump tells.
