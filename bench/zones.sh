@@ -61,7 +61,6 @@ abbrev pub decreases-is_apart : goal.decreases-is_apart
 decreases-is_apart l = length l.zones.now
 == Lib.antt
 mod OriginLaws
-mod PassLaws
 == OriginLaws.antt
 -- Zones of different origins.
 use Rattle.std.proofs.Common.{◌≡◌, List, [], ◌∷◌, arith, false, length}
@@ -78,31 +77,6 @@ none_apart (z ∷ zs) none = absurd (omega arith)
 pub more_apart : (z : ZoneItems) (zs : List ZoneItems) → AllByRecursion (λ other. same_name z.origin other ≡ false) (origins_of zs) → IsDistinct same_name (origins_of zs) → IsDistinct same_name (origins_of (z ∷ zs))
 unfolding IsDistinct
 more_apart z zs apart others = (apart, others)
-== PassLaws.antt
--- A pass of the zones, of which the pass of one zone went on.
-use Rattle.std.proofs.Common.{◌≡◌, ◌∙◌, ℕ, List, Some, sym}
-use Rattle.std.specs.Prelude.{IsSome}
-use Rattle.std.specs.List.{slice_get}
-use Rattle.std.specs.Vec.{with_item}
-use Rattle.std.proofs.lemmas.Option.{get_or_from_slice_get}
-use Rattle.zone_model.specs.Names.{Name}
-use Rattle.shared_index.specs.declared.meaning.Named.{Ghosts}
-use Rattle.shared_index.specs.declared.pass.Pass.{Pass}
-use Rattle.zone_table.specs.declared.pass.ZonesPass.{ZonesPass}
-use Rattle.zone_table.specs.Passes.{IsPassOf}
-use Rattle.zone_table.proofs.PassLaws.{kept_first, kept_set}
-
-module _ {X : Type 0} {N : Ghosts X} where
-  pub with_zone_is : (origins : List Name) (p : ZonesPass X N) (zone : ℕ) (old new : Pass X N) → IsPassOf origins p → slice_get p.zones.items zone ≡ Some old → IsSome new.seat → new.place ≡ old.place → IsPassOf origins (record p { zones = with_item p.zones zone new })
-  with_zone_is origins p zone old new is there here place =
-      let kept = kept_set p.zones.items p.zones.items zone old new (kept_first p.zones.items is.zones_here) (sym (get_or_from_slice_get p.zones.items zone old old there)) here place in
-      record {
-        table_here = is.table_here;
-        table_place = is.table_place;
-        opening = is.opening;
-        zones_here = kept.here;
-        zone_places = kept.places ∙ is.zone_places;
-      }
 == ask_each/Invariants.antt
 use Rattle.zone_table.specs.Passes.{IsPassOf}
 use Rattle.zones.proofs.ask_each.Given as goal
@@ -116,19 +90,19 @@ use Rattle.zones.proofs.fill_all.Given as goal
 abbrev pub invariant-loop-zone : goal.invariant-loop-zone
 invariant-loop-zone g l = IsPassOf l.zones.origins.items l.pass
 == fill_zone/Answers.antt
-use Rattle.zones.proofs.PassLaws.{with_zone_is}
+use Rattle.zone_table.proofs.PassLaws.{went}
 use Rattle.zones.proofs.fill_zone.Goals as goal
 
 pub returns : goal.returns
 returns g c =
-    with_zone_is c.args.zones.now.origins.items c.args.pass.now c.args.zone c.zone-place.result.now c.fill.new.pass c.requires.pass c.zone-place.ensures.value c.fill.ensures.here c.fill.ensures.place
+    (went c.args.zones.now.origins.items c.args.pass.now c.args.zone c.zone-place.result.now c.fill.new.pass c.requires.pass c.zone-place.ensures.value c.fill.ensures.here c.fill.ensures.place).pass
 == get/Answers.antt
-use Rattle.zones.proofs.PassLaws.{with_zone_is}
+use Rattle.zone_table.proofs.PassLaws.{went}
 use Rattle.zones.proofs.get.Goals as goal
 
 pub returns : goal.returns
 returns g c =
-    with_zone_is c.args.zones.now.origins.items c.args.pass.now c.args.zone c.zone-place.result.now c.read_item.new.pass c.requires.pass c.zone-place.ensures.value c.read_item.ensures.here c.read_item.ensures.place
+    (went c.args.zones.now.origins.items c.args.pass.now c.args.zone c.zone-place.result.now c.read_item.new.pass c.requires.pass c.zone-place.ensures.value c.read_item.ensures.here c.read_item.ensures.place).pass
 == get_each/Invariants.antt
 use Rattle.zone_table.specs.Passes.{IsPassOf}
 use Rattle.zones.proofs.get_each.Given as goal
