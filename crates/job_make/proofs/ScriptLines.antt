@@ -30,9 +30,11 @@ use Rattle.job_model.specs.declared.Ending.TheVariants.{Commit}
 use Rattle.job_model.specs.declared.Listing.TheVariants.{ByWorker}
 use Rattle.job_model.specs.declared.Weight.{Weight}
 use Rattle.job_model.specs.declared.Weight.TheVariants.{Light, Heavy}
-use Rattle.job_model.specs.Commands.{Command, Ask, Block, Get, Find}
-use Rattle.job_model.specs.Phrases.{asked_of, phrase_of, without_parens}
-use Rattle.job_model.specs.Arguments.{addition_of, deletion_of, question_of}
+use Rattle.job_model.specs.declared.Question.TheVariants.{Get, Find}
+use Rattle.job_model.specs.Commands.{Command, Ask, Block}
+use Rattle.job_model.specs.Questions.{asked_of}
+use Rattle.job_model.specs.Phrases.{phrase_of, without_parens}
+use Rattle.job_model.specs.Arguments.{addition_of, deletion_of}
 use Rattle.job_model.specs.Jobs.{Script, Unfinished, finished, no_lines, script_from, script_line, script_of, tokens_say}
 use Rattle.job_model.specs.Loads.{Finds, Gets, Load, Moves, Part, Removes, Turn, address_text, drawn, made_origin, name_text, next_state, part_of, share, state_behind, turn_from, turn_lines, turn_of, turns_from, turns_of, worker_state, workers_from}
 use Rattle.dns_name.proofs.BodyLemmas.{all_push}
@@ -137,7 +139,7 @@ get_spelled n i h =
     (three_words n (codes "get") (name_text i) (codes "A") (omega arith) (alphabetic_word (codes "get") refl) (name_some i) (name_shows i h) (omega arith) (alphabetic_word (codes "A") refl))
 
 get_line : (n i : ℕ) (es : List (List Command)) (cs : List Command) → i < 1000000 → length cs < 10000 → script_line made_origin n (codes "get " ++ name_text i ++ codes " A") (between es cs) ≡ Ok (between es (cs ++ Ask (Get (owner i) 1) ∷ []))
-unfolding phrase_of asked_of question_of type_named
+unfolding phrase_of asked_of type_named
 get_line n i es cs h few =
     tokens_said n (codes "get " ++ name_text i ++ codes " A") (word n (codes "get") ∷ word n (name_text i) ∷ word n (codes "A") ∷ []) (between es cs) (get_spelled n i h)
     ∙ rw (room_of (length cs) few) (rw (name_said i h) refl)
@@ -146,7 +148,7 @@ find_spelled : (n i : ℕ) → i < 1000000 → Spells n [] (codes "find " ++ nam
 find_spelled n i h = two_words n (codes "find") (name_text i) (omega arith) (alphabetic_word (codes "find") refl) (name_some i) (name_shows i h)
 
 find_line : (n i : ℕ) (es : List (List Command)) (cs : List Command) → i < 1000000 → length cs < 10000 → script_line made_origin n (codes "find " ++ name_text i) (between es cs) ≡ Ok (between es (cs ++ Ask (Find (owner i)) ∷ []))
-unfolding phrase_of asked_of question_of
+unfolding phrase_of asked_of
 find_line n i es cs h few =
     tokens_said n (codes "find " ++ name_text i) (word n (codes "find") ∷ word n (name_text i) ∷ []) (between es cs) (find_spelled n i h)
     ∙ rw (room_of (length cs) few) (rw (name_said i h) refl)
@@ -154,24 +156,24 @@ find_line n i es cs h few =
 -- ---- the lines of a block
 
 write_line : (n : ℕ) (es : List (List Command)) (cs : List Command) → length cs < 10000 → script_line made_origin n (codes "write") (between es cs) ≡ Ok (inside_block es cs (record { start = n; weight = Light; asked = no_changes }))
-unfolding phrase_of
+unfolding phrase_of asked_of
 write_line n es cs few =
     tokens_said n (codes "write") (word n (codes "write") ∷ []) (between es cs) (spell_word n (codes "write") (omega arith) (alphabetic_word (codes "write") refl).run)
     ∙ rw (room_of (length cs) few) refl
 
 update_line : (n : ℕ) (es : List (List Command)) (cs : List Command) → length cs < 10000 → script_line made_origin n (codes "update") (between es cs) ≡ Ok (inside_block es cs (record { start = n; weight = Heavy; asked = no_changes }))
-unfolding phrase_of
+unfolding phrase_of asked_of
 update_line n es cs few =
     tokens_said n (codes "update") (word n (codes "update") ∷ []) (between es cs) (spell_word n (codes "update") (omega arith) (alphabetic_word (codes "update") refl).run)
     ∙ rw (room_of (length cs) few) refl
 
 commit_light : (n m : ℕ) (es : List (List Command)) (cs : List Command) (operations : List Operation) → script_line made_origin n (codes "commit") (inside_block es cs (record { start = m; weight = Light; asked = asks operations })) ≡ Ok (between es (cs ++ Block Light (asks operations) Commit ∷ []))
-unfolding phrase_of
+unfolding phrase_of asked_of
 commit_light n m es cs operations =
     tokens_said n (codes "commit") (word n (codes "commit") ∷ []) (inside_block es cs (record { start = m; weight = Light; asked = asks operations })) (spell_word n (codes "commit") (omega arith) (alphabetic_word (codes "commit") refl).run)
 
 commit_heavy : (n m : ℕ) (es : List (List Command)) (cs : List Command) (operations : List Operation) → script_line made_origin n (codes "commit") (inside_block es cs (record { start = m; weight = Heavy; asked = asks operations })) ≡ Ok (between es (cs ++ Block Heavy (asks operations) Commit ∷ []))
-unfolding phrase_of
+unfolding phrase_of asked_of
 commit_heavy n m es cs operations =
     tokens_said n (codes "commit") (word n (codes "commit") ∷ []) (inside_block es cs (record { start = m; weight = Heavy; asked = asks operations })) (spell_word n (codes "commit") (omega arith) (alphabetic_word (codes "commit") refl).run)
 
@@ -179,7 +181,7 @@ owner_under : (i : ℕ) → is_under (owner i) made_origin ≡ true
 owner_under i = ends_under (name_text i ∷ []) made_origin
 
 removal_line : (n m i : ℕ) (es : List (List Command)) (cs : List Command) (how : Weight) → i < 1000000 → script_line made_origin n (codes "del " ++ name_text i) (inside_block es cs (record { start = m; weight = how; asked = no_changes })) ≡ Ok (inside_block es cs (record { start = m; weight = how; asked = asks (DeleteName (owner i) ∷ []) }))
-unfolding phrase_of deletion_of
+unfolding phrase_of asked_of deletion_of
 removal_line n m i es cs how h =
     tokens_said n (codes "del " ++ name_text i) (word n (codes "del") ∷ word n (name_text i) ∷ []) (inside_block es cs (record { start = m; weight = how; asked = no_changes }))
     (two_words n (codes "del") (name_text i) (omega arith) (alphabetic_word (codes "del") refl) (name_some i) (name_shows i h))
@@ -191,7 +193,7 @@ del_spelled n i h =
     (three_words n (codes "del") (name_text i) (codes "A") (omega arith) (alphabetic_word (codes "del") refl) (name_some i) (name_shows i h) (omega arith) (alphabetic_word (codes "A") refl))
 
 del_line : (n m i : ℕ) (es : List (List Command)) (cs : List Command) → i < 1000000 → script_line made_origin n (codes "del " ++ name_text i ++ codes " A") (inside_block es cs (record { start = m; weight = Light; asked = no_changes })) ≡ Ok (inside_block es cs (record { start = m; weight = Light; asked = asks (DeleteSet (owner i) 1 ∷ []) }))
-unfolding phrase_of deletion_of type_named
+unfolding phrase_of asked_of deletion_of type_named
 del_line n m i es cs h =
     tokens_said n (codes "del " ++ name_text i ++ codes " A") (word n (codes "del") ∷ word n (name_text i) ∷ word n (codes "A") ∷ []) (inside_block es cs (record { start = m; weight = Light; asked = no_changes })) (del_spelled n i h)
     ∙ rw (name_said i h) (rw (owner_under i) refl)
@@ -246,7 +248,7 @@ add_spelled n i c h =
 
 add_line : (n m i c : ℕ) (es : List (List Command)) (cs : List Command) → i < 1000000 → script_line made_origin n (codes "add " ++ name_text i ++ codes " 300 A " ++ address_text c) (inside_block es cs (record { start = m; weight = Light; asked = asks (DeleteSet (owner i) 1 ∷ []) }))
     ≡ Ok (inside_block es cs (record { start = m; weight = Light; asked = asks (DeleteSet (owner i) 1 ∷ Add (record { owner = owner i; rtype = 1; ttl = 300; octets = octets c }) ∷ []) }))
-unfolding phrase_of addition_of type_named time_of groups number digits_from
+unfolding phrase_of asked_of addition_of type_named time_of groups number digits_from
 add_line n m i c es cs h =
     tokens_said n (codes "add " ++ name_text i ++ codes " 300 A " ++ address_text c) (word n (codes "add") ∷ word n (name_text i) ∷ word n (codes "300") ∷ word n (codes "A") ∷ word n (address_text c) ∷ [])
     (inside_block es cs (record { start = m; weight = Light; asked = asks (DeleteSet (owner i) 1 ∷ []) })) (add_spelled n i c h)
@@ -439,14 +441,14 @@ worker_spelled : (n : ℕ) → Spells n [] (codes "worker") (plain (word n (code
 worker_spelled n = spell_word n (codes "worker") (omega arith) (alphabetic_word (codes "worker") refl).run
 
 first_worker : (n : ℕ) → script_line made_origin n (codes "worker") no_lines ≡ Ok (between [] [])
-unfolding phrase_of
+unfolding phrase_of asked_of
 first_worker n = tokens_said n (codes "worker") (word n (codes "worker") ∷ []) no_lines (worker_spelled n)
 
 few_lists : (n : ℕ) → n < 16 → ltb n 16 ≡ true
 few_lists n h = grind (arith, nat_tests)
 
 later_worker : (n : ℕ) (es : List (List Command)) (cs : List Command) → length es + 1 < 16 → script_line made_origin n (codes "worker") (between es cs) ≡ Ok (between (es ++ cs ∷ []) [])
-unfolding phrase_of
+unfolding phrase_of asked_of
 later_worker n es cs few =
     let long : length (es ++ cs ∷ []) ≡ length es + 1 = length-append es (cs ∷ []) in
     tokens_said n (codes "worker") (word n (codes "worker") ∷ []) (between es cs) (worker_spelled n)

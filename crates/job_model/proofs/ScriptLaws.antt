@@ -15,7 +15,7 @@ use Rattle.job_model.specs.declared.Ending.{Ending}
 use Rattle.job_model.specs.declared.Weight.{Weight}
 use Rattle.job_model.specs.Commands.{Command, Ask, Hold, AskHeld, Release, Block, Compact, held_after, MayCome, NeedsNoSnapshot}
 use Rattle.job_model.specs.Phrases.{Phrase, Worker, Asks, Holds, AsksHeld, Releases, Opens, Needs, Adds, Deletes, Ends, Compacts, phrase_of, script_tokens}
-use Rattle.job_model.specs.Arguments.{refuse, question_of, prerequisite_of, addition_of, deletion_of}
+use Rattle.job_model.specs.Arguments.{refuse, at_line, prerequisite_of, addition_of, deletion_of}
 use Rattle.job_model.specs.Jobs.{Unfinished, Script, lists_of, is_by_worker, worker_limit, command_limit, need_limit, operation_limit, of_worker, while_held, while_free, with_room, with_command, with_question, with_held_question, holding, released, opened, next_worker, outside, with_asked, with_need, needed_first, with_operation, joined, may_end, inside, may_stand, by_block, taken, tokens_say, script_line, script_from, finished, no_lines, script_of, no_commands, list_finished, list_of}
 
 -- ---- what a line adds
@@ -60,10 +60,10 @@ operation_of origin n (Ends ending) = refuse n BadCommand
 operation_of origin n Compacts = refuse n BadCommand
 
 -- the phrase is that of a line
-pub record IsOn (n : ℕ) (line : List ℕ) (phrase : Phrase) : Type 0 where
+pub record IsOn (origin : Name) (n : ℕ) (line : List ℕ) (phrase : Phrase) : Type 0 where
   pub tokens : List Token
   pub scanned : script_tokens n line ≡ Some tokens
-  pub said : phrase_of tokens ≡ Some phrase
+  pub said : phrase_of origin tokens ≡ Some phrase
 
 -- What a fact on scripts has to keep, where of lines something is known: a worker begins, a command joins, a block opens, a prerequisite
 -- or an operation joins the block, and the block ends.
@@ -72,7 +72,7 @@ pub record IsKept (origin : Name) (Line : List ℕ → Type 0) (Fact : Script �
   pub command : (s : Script) (command : Command) → Fact (free s) → MayJoin s command → IsLone command → Fact (after (free s) command)
   pub opens : (n : ℕ) (weight : Weight) (s : Script) → Fact (free s) → length s.commands < command_limit → Fact (opened n weight (free s))
   pub need : (b : Unfinished) (s : Script) (need : Prerequisite) → Fact (busy b s) → Fact (with_asked b (busy b s) (record b.asked { needs = b.asked.needs ++ need ∷ [] }))
-  pub operation : (n : ℕ) (line : List ℕ) (phrase : Phrase) (b : Unfinished) (s : Script) (operation : Operation) → Line line → IsOn n line phrase → operation_of origin n phrase ≡ Ok operation
+  pub operation : (n : ℕ) (line : List ℕ) (phrase : Phrase) (b : Unfinished) (s : Script) (operation : Operation) → Line line → IsOn origin n line phrase → operation_of origin n phrase ≡ Ok operation
       → Fact (busy b s) → length b.asked.operations < operation_limit → Fact (with_asked b (busy b s) (record b.asked { operations = b.asked.operations ++ operation ∷ [] }))
   pub block : (b : Unfinished) (s : Script) (ending : Ending) → Fact (busy b s) → Fact (free (after s (Block b.weight b.asked ending)))
 
@@ -110,16 +110,16 @@ outside_kept : (origin : Name) (Line : List ℕ → Type 0) (Fact : Script → T
 outside_kept origin Line Fact k n Worker s so_far may =
     if_either Fact (nat_lt (length (lists_of s)) worker_limit) (Ok (next_worker (free s))) (refuse n (TooMany worker_limit)) (λ room. k.worker s so_far room may) (λ _. tt)
 outside_kept origin Line Fact k n (Asks asked) s so_far may =
-    begun Fact n (free s) (with_room n (free s) (question_of origin n asked >>= with_question (free s))) (roomy Fact n (free s) (question_of origin n asked >>= with_question (free s))
-    (λ room. if_bound Fact (question_of origin n asked) (with_question (free s)) (λ question _. k.command s (Ask question) so_far (record { turn = tt; place = λ _. tt; room = room }) tt)))
+    begun Fact n (free s) (with_room n (free s) (at_line n asked >>= with_question (free s))) (roomy Fact n (free s) (at_line n asked >>= with_question (free s))
+    (λ room. if_bound Fact (at_line n asked) (with_question (free s)) (λ question _. k.command s (Ask question) so_far (record { turn = tt; place = λ _. tt; room = room }) tt)))
 outside_kept origin Line Fact k n Holds s so_far may =
     begun Fact n (free s) (while_free n (free s) (with_room n (free s) (Ok (holding (free s)))))
     (if_either Fact s.held (refuse n AlreadyHeld) (with_room n (free s) (Ok (holding (free s)))) (λ _. tt) (λ none. roomy Fact n (free s) (Ok (holding (free s)))
     (λ room. k.command s Hold so_far (record { turn = none; place = not_here s.listing may; room = room }) tt)))
 outside_kept origin Line Fact k n (AsksHeld asked) s so_far may =
-    begun Fact n (free s) (while_held n (free s) (with_room n (free s) (question_of origin n asked >>= with_held_question (free s))))
-    (if_either Fact s.held (with_room n (free s) (question_of origin n asked >>= with_held_question (free s))) (refuse n NotHeld)
-    (λ held. roomy Fact n (free s) (question_of origin n asked >>= with_held_question (free s)) (λ room. if_bound Fact (question_of origin n asked) (with_held_question (free s))
+    begun Fact n (free s) (while_held n (free s) (with_room n (free s) (at_line n asked >>= with_held_question (free s))))
+    (if_either Fact s.held (with_room n (free s) (at_line n asked >>= with_held_question (free s))) (refuse n NotHeld)
+    (λ held. roomy Fact n (free s) (at_line n asked >>= with_held_question (free s)) (λ room. if_bound Fact (at_line n asked) (with_held_question (free s))
     (λ question _. k.command s (AskHeld question) so_far (record { turn = held; place = not_here s.listing may; room = room }) tt))) (λ _. tt))
 outside_kept origin Line Fact k n Releases s so_far may =
     begun Fact n (free s) (while_held n (free s) (with_room n (free s) (Ok (released (free s)))))
@@ -150,7 +150,7 @@ needed_kept Fact n b s r k =
     (λ _. if_either Fact (nat_lt (length b.asked.needs) need_limit) (r >>= with_need b s) (refuse n (TooMany need_limit)) (λ _. if_bound Fact r (with_need b s) (λ need _. k need)) (λ _. tt))
 
 inside_kept : (origin : Name) (Line : List ℕ → Type 0) (Fact : Script → Type 0) → IsKept origin Line Fact → (n : ℕ) (line : List ℕ) (b : Unfinished) (phrase : Phrase) (s : Script)
-    → Line line → IsOn n line phrase → Fact (busy b s) → IfRead Fact (inside origin n b phrase (busy b s))
+    → Line line → IsOn origin n line phrase → Fact (busy b s) → IfRead Fact (inside origin n b phrase (busy b s))
 inside_kept origin Line Fact k n line b Worker s known on so_far = tt
 inside_kept origin Line Fact k n line b (Asks asked) s known on so_far = tt
 inside_kept origin Line Fact k n line b Holds s known on so_far = tt
@@ -170,12 +170,12 @@ inside_kept origin Line Fact k n line b Compacts s known on so_far = tt
 -- ---- the lines
 
 by_block_kept : (origin : Name) (Line : List ℕ → Type 0) (Fact : Script → Type 0) → IsKept origin Line Fact → (n : ℕ) (line : List ℕ) (phrase : Phrase) (s : Script) (block : Option Unfinished)
-    → Line line → IsOn n line phrase → Fact (record s { block = block }) → may_stand s.listing phrase ≡ true → IfRead Fact (by_block origin n phrase (record s { block = block }) block)
+    → Line line → IsOn origin n line phrase → Fact (record s { block = block }) → may_stand s.listing phrase ≡ true → IfRead Fact (by_block origin n phrase (record s { block = block }) block)
 by_block_kept origin Line Fact k n line phrase s None known on so_far may = outside_kept origin Line Fact k n phrase s so_far may
 by_block_kept origin Line Fact k n line phrase s (Some b) known on so_far may = inside_kept origin Line Fact k n line b phrase s known on so_far
 
 taken_kept : (origin : Name) (Line : List ℕ → Type 0) (Fact : Script → Type 0) → IsKept origin Line Fact → (n : ℕ) (line : List ℕ) (s : Script) (said : Option Phrase)
-    → Line line → ((phrase : Phrase) → said ≡ Some phrase → IsOn n line phrase) → Fact s → IfRead Fact (taken origin n s said)
+    → Line line → ((phrase : Phrase) → said ≡ Some phrase → IsOn origin n line phrase) → Fact s → IfRead Fact (taken origin n s said)
 taken_kept origin Line Fact k n line s None known on so_far = tt
 taken_kept origin Line Fact k n line s (Some phrase) known on so_far =
     if_either Fact (may_stand s.listing phrase) (by_block origin n phrase s s.block) (refuse n BadCommand)
@@ -186,7 +186,7 @@ tokens_kept : (origin : Name) (Line : List ℕ → Type 0) (Fact : Script → Ty
 tokens_kept origin Line Fact k n line s None known e so_far = tt
 tokens_kept origin Line Fact k n line s (Some []) known e so_far = so_far
 tokens_kept origin Line Fact k n line s (Some (t ∷ tokens)) known e so_far =
-    taken_kept origin Line Fact k n line s (phrase_of (t ∷ tokens)) known (λ phrase said. record { tokens = t ∷ tokens; scanned = e; said = said }) so_far
+    taken_kept origin Line Fact k n line s (phrase_of origin (t ∷ tokens)) known (λ phrase said. record { tokens = t ∷ tokens; scanned = e; said = said }) so_far
 
 line_kept : (origin : Name) (Line : List ℕ → Type 0) (Fact : Script → Type 0) → IsKept origin Line Fact → (n : ℕ) (line : List ℕ) (s : Script) → Line line → Fact s → IfRead Fact (script_line origin n line s)
 unfolding script_line

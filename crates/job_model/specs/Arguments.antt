@@ -1,17 +1,15 @@
--- What the words of questions and operations say. Arguments are read from the left.
-use Rattle.std.specs.Prelude.{ℕ, Bool, List, [], ◌∷◌, ◌==◌, if◌then◌else◌, Option, Some, None, Result, Ok, Err, option_and_then}
+-- What the words of prerequisites and operations say. Arguments are read from the left.
+use Rattle.std.specs.Prelude.{ℕ, Bool, List, [], ◌∷◌, if◌then◌else◌, Option, Some, None, Result, Ok, Err, option_and_then}
 use Rattle.zone_model.specs.Names.{Name, is_under}
 use Rattle.zone_model.specs.Versions.{Operation, Add, DeleteName, DeleteSet, DeleteRecord}
 use Rattle.zone_model.specs.Transactions.{Prerequisite}
 use Rattle.zone_model.specs.Refusals.{Refused, ◌>>=◌}
 use Rattle.zone_model.specs.Tokens.{Token}
-use Rattle.zone_model.specs.Data.{data_of, word_number}
+use Rattle.zone_model.specs.Data.{data_of}
 use Rattle.zone_model.specs.MasterFile.{name_word, time_word, type_word}
 use Rattle.zone_model.specs.declared.DataRefusal.{DataRefusal}
 use Rattle.job_model.specs.declared.ScriptKind.{ScriptKind}
 use Rattle.job_model.specs.declared.ScriptKind.TheVariants.{BadName, BadType, BadRdata, BadNumber}
-use Rattle.job_model.specs.Commands.{Stretch, Question, Get, Find, Walk, Back, Stat, Dump}
-use Rattle.job_model.specs.Phrases.{Asked, Gets, Finds, Walks, Backs, Stats, Dumps}
 
 abbrev pub refuse : {A : Type 0} → ℕ → ScriptKind → Result A (Refused ScriptKind)
 refuse n kind = Err (record { line = n; kind = kind })
@@ -20,6 +18,11 @@ abbrev pub needed : {A : Type 0} → ℕ → ScriptKind → Option A → Result 
 needed n kind (Some x) = Ok x
 needed n kind None = refuse n kind
 
+-- what words of line n say
+abbrev pub at_line : {A : Type 0} → ℕ → Result A ScriptKind → Result A (Refused ScriptKind)
+at_line n (Ok x) = Ok x
+at_line n (Err kind) = refuse n kind
+
 -- a name at or under the origin
 abbrev pub inner_name : Name → Token → Option Name
 inner_name origin t = option_and_then (λ name. if is_under name origin then Some name else None) (name_word origin t)
@@ -27,39 +30,6 @@ inner_name origin t = option_and_then (λ name. if is_under name origin then Som
 abbrev pub octets_needed : ℕ → Result (List ℕ) DataRefusal → Result (List ℕ) (Refused ScriptKind)
 octets_needed n (Ok octets) = Ok octets
 octets_needed n (Err e) = refuse n BadRdata
-
--- the most names that are wanted at once
-abbrev pub name_limit : ℕ
-name_limit = 1000
-
--- how many names a word wants: an unquoted decimal number from 1 up to the limit
-abbrev pub names_word : Token → Option ℕ
-names_word t = option_and_then (λ n. if n == 0 then None else Some n) (word_number name_limit t)
-
--- where a list of names begins, and how many are wanted
-unfoldable pub stretch_of : Name → ℕ → Token → Token → Result Stretch (Refused ScriptKind)
-stretch_of origin n name number = do
-  start ← needed n BadName (name_word origin name)
-  most ← needed n BadNumber (names_word number)
-  Ok (record { start = start; most = most })
-
--- a question
-unfoldable pub question_of : Name → ℕ → Asked → Result Question (Refused ScriptKind)
-question_of origin n (Gets name rtype) = do
-  q ← needed n BadName (name_word origin name)
-  t ← needed n BadType (type_word rtype)
-  Ok (Get q t)
-question_of origin n (Finds name) = do
-  q ← needed n BadName (name_word origin name)
-  Ok (Find q)
-question_of origin n (Walks name number) = do
-  stretch ← stretch_of origin n name number
-  Ok (Walk stretch)
-question_of origin n (Backs name number) = do
-  stretch ← stretch_of origin n name number
-  Ok (Back stretch)
-question_of origin n Stats = Ok Stat
-question_of origin n Dumps = Ok Dump
 
 -- a prerequisite
 unfoldable pub prerequisite_of : Name → ℕ → Bool → Token → Option Token → Result Prerequisite (Refused ScriptKind)

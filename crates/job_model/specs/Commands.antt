@@ -1,25 +1,11 @@
 -- What workers are told to do.
-use Rattle.std.specs.Prelude.{◌≡◌, ℕ, Bool, true, false, List, [], ◌∷◌}
+use Rattle.std.specs.Prelude.{◌≡◌, Bool, true, false, List, [], ◌∷◌}
 use Rattle.zone_model.specs.Names.{Name}
 use Rattle.zone_model.specs.Versions.{Version}
 use Rattle.zone_model.specs.Transactions.{Transaction}
 use Rattle.job_model.specs.declared.Ending.{Ending}
+use Rattle.job_model.specs.declared.Question.{Question}
 use Rattle.job_model.specs.declared.Weight.{Weight}
-
--- names that follow a name in one direction, at most so many
-pub record Stretch : Type 0 where
-  pub start : Name
-  pub most : ℕ
-
--- A question to one version: the answer for a name and a type; what there is of a name; names from a name on, or those before it;
--- how large the version is; all its records.
-pub data Question : Type 0 where
-  Get : (name : Name) (rtype : ℕ) → Question
-  Find : (name : Name) → Question
-  Walk : (stretch : Stretch) → Question
-  Back : (stretch : Stretch) → Question
-  Stat : Question
-  Dump : Question
 
 -- A question to the current version; a snapshot of that is taken, is asked, and is given back; a transaction; a compaction, which is
 -- a transaction without operations.

@@ -18,9 +18,10 @@ use Rattle.job_model.specs.declared.ScriptKind.{ScriptKind}
 use Rattle.job_model.specs.declared.ScriptKind.TheVariants.{NoWorker, BadCommand, OpenBlock, NotHeld, AlreadyHeld, TooMany}
 use Rattle.job_model.specs.declared.Weight.{Weight}
 use Rattle.job_model.specs.declared.Weight.TheVariants.{Light, Heavy}
-use Rattle.job_model.specs.Commands.{Question, Command, Ask, Hold, AskHeld, Release, Block, Compact, Job, FedJob}
+use Rattle.job_model.specs.declared.Question.{Question}
+use Rattle.job_model.specs.Commands.{Command, Ask, Hold, AskHeld, Release, Block, Compact, Job, FedJob}
 use Rattle.job_model.specs.Phrases.{Phrase, Worker, Asks, Holds, AsksHeld, Releases, Opens, Needs, Adds, Deletes, Ends, Compacts, phrase_of, script_tokens}
-use Rattle.job_model.specs.Arguments.{refuse, question_of, prerequisite_of, addition_of, deletion_of}
+use Rattle.job_model.specs.Arguments.{refuse, at_line, prerequisite_of, addition_of, deletion_of}
 
 -- why bytes are no job
 pub data JobRefusal : Type 0 where
@@ -124,9 +125,9 @@ next_worker s = if s.begun then record s { earlier = s.earlier ++ s.commands ∷
 
 abbrev pub outside : Name → ℕ → Phrase → Script → Result Script (Refused ScriptKind)
 outside origin n Worker s = if nat_lt (length (lists_of s)) worker_limit then Ok (next_worker s) else refuse n (TooMany worker_limit)
-outside origin n (Asks asked) s = of_worker n s (with_room n s (question_of origin n asked >>= with_question s))
+outside origin n (Asks asked) s = of_worker n s (with_room n s (at_line n asked >>= with_question s))
 outside origin n Holds s = of_worker n s (while_free n s (with_room n s (Ok (holding s))))
-outside origin n (AsksHeld asked) s = of_worker n s (while_held n s (with_room n s (question_of origin n asked >>= with_held_question s)))
+outside origin n (AsksHeld asked) s = of_worker n s (while_held n s (with_room n s (at_line n asked >>= with_held_question s)))
 outside origin n Releases s = of_worker n s (while_held n s (with_room n s (Ok (released s))))
 outside origin n (Opens weight) s = of_worker n s (with_room n s (Ok (opened n weight s)))
 outside origin n (Needs wanted owner rtype) s = refuse n BadCommand
@@ -197,7 +198,7 @@ taken origin n s (Some phrase) = if may_stand s.listing phrase then by_block ori
 abbrev pub tokens_say : Name → ℕ → Script → Option (List Token) → Result Script (Refused ScriptKind)
 tokens_say origin n s None = refuse n BadCommand
 tokens_say origin n s (Some []) = Ok s
-tokens_say origin n s (Some (t ∷ tokens)) = taken origin n s (phrase_of (t ∷ tokens))
+tokens_say origin n s (Some (t ∷ tokens)) = taken origin n s (phrase_of origin (t ∷ tokens))
 
 unfoldable pub script_line : Name → ℕ → List ℕ → Script → Result Script (Refused ScriptKind)
 script_line origin n line s = tokens_say origin n s (script_tokens n line)

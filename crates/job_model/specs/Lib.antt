@@ -1,5 +1,7 @@
 pub mod Sizes
 pub mod Commands
+pub mod Words
+pub mod Questions
 pub mod Phrases
 pub mod Arguments
 pub mod Jobs

@@ -1,14 +1,18 @@
 -- What the tokens of a script's line are, by the command word and the number of tokens.
 use Rattle.std.specs.Prelude.{ℕ, Bool, true, false, List, [], ◌∷◌, if◌then◌else◌, Option, Some, None, Result, Ok, Err, codes}
-use Rattle.std.specs.Option.{option_map}
-use Rattle.std.specs.Str.{bytes_eq}
+use Rattle.std.specs.Option.{option_map, option_or}
+use Rattle.zone_model.specs.Names.{Name}
 use Rattle.zone_model.specs.Refusals.{Refused}
 use Rattle.zone_model.specs.Tokens.{Token, LineTokens, single_line}
 use Rattle.zone_model.specs.declared.ZoneKind.{ZoneKind}
 use Rattle.job_model.specs.declared.Ending.{Ending}
 use Rattle.job_model.specs.declared.Ending.TheVariants.{Commit, Rollback}
 use Rattle.job_model.specs.declared.Weight.{Weight}
+use Rattle.job_model.specs.declared.Question.{Question}
+use Rattle.job_model.specs.declared.ScriptKind.{ScriptKind}
 use Rattle.job_model.specs.declared.Weight.TheVariants.{Light, Heavy}
+use Rattle.job_model.specs.Words.{says}
+use Rattle.job_model.specs.Questions.{asked_of}
 
 -- ---- the tokens of a line
 
@@ -22,21 +26,12 @@ script_tokens n line = without_parens (single_line n line)
 
 -- ---- phrases
 
--- the words of a question
-pub data Asked : Type 0 where
-  Gets : (name rtype : Token) → Asked
-  Finds : (name : Token) → Asked
-  Walks : (name number : Token) → Asked
-  Backs : (name number : Token) → Asked
-  Stats : Asked
-  Dumps : Asked
-
--- what a line says
+-- what a line says; of a question also what its operands say, or why they are refused
 pub data Phrase : Type 0 where
   Worker : Phrase
-  Asks : (asked : Asked) → Phrase
+  Asks : (asked : Result Question ScriptKind) → Phrase
   Holds : Phrase
-  AsksHeld : (asked : Asked) → Phrase
+  AsksHeld : (asked : Result Question ScriptKind) → Phrase
   Releases : Phrase
   Opens : (weight : Weight) → Phrase
   Needs : (wanted : Bool) (owner : Token) (rtype : Option Token) → Phrase
@@ -44,31 +39,6 @@ pub data Phrase : Type 0 where
   Deletes : (owner : Token) (rest : List Token) → Phrase
   Ends : (ending : Ending) → Phrase
   Compacts : Phrase
-
--- the token is a command word, which stands in lower case and without quotes
-abbrev pub says : Token → List ℕ → Bool
-says t word = if t.quoted then false else bytes_eq t.text word
-
--- the token that stands alone
-abbrev pub lone : List Token → Option Token
-lone [] = None
-lone (t ∷ []) = Some t
-lone (t ∷ other ∷ rest) = None
-
-abbrev pub finds : Token → List Token → Option Asked
-finds name [] = Some (Finds name)
-finds name (t ∷ rest) = None
-
--- a question that has a name and one token more, or a name alone, or nothing
-unfoldable pub asked_of : List Token → Option Asked
-asked_of [] = None
-asked_of (w ∷ []) = if says w (codes "stat") then Some Stats else if says w (codes "dump") then Some Dumps else None
-asked_of (w ∷ name ∷ rest) =
-    if says w (codes "get") then option_map (Gets name) (lone rest)
-    else if says w (codes "find") then finds name rest
-    else if says w (codes "walk") then option_map (Walks name) (lone rest)
-    else if says w (codes "back") then option_map (Backs name) (lone rest)
-    else None
 
 abbrev pub lone_word : Token → Option Phrase
 lone_word w =
@@ -80,7 +50,7 @@ lone_word w =
     else if says w (codes "commit") then Some (Ends Commit)
     else if says w (codes "rollback") then Some (Ends Rollback)
     else if says w (codes "compact") then Some Compacts
-    else option_map Asks (asked_of (w ∷ []))
+    else None
 
 -- an addition has an owner, a time to live, a type, and data of one token or more
 abbrev pub adds : Token → List Token → Option Phrase
@@ -95,13 +65,21 @@ needs wanted owner [] = Some (Needs wanted owner None)
 needs wanted owner (rtype ∷ []) = Some (Needs wanted owner (Some rtype))
 needs wanted owner (rtype ∷ other ∷ rest) = None
 
-unfoldable pub phrase_of : List Token → Option Phrase
-phrase_of [] = None
-phrase_of (w ∷ []) = lone_word w
-phrase_of (w ∷ first ∷ rest) =
+-- a word that asks no question, with an argument and what stands behind that
+abbrev pub argued : Name → Token → Token → List Token → Option Phrase
+argued origin w first rest =
     if says w (codes "add") then adds first rest
     else if says w (codes "del") then Some (Deletes first rest)
-    else if says w (codes "at") then option_map AsksHeld (asked_of (first ∷ rest))
+    else if says w (codes "at") then option_map AsksHeld (asked_of origin first rest)
     else if says w (codes "need") then needs true first rest
     else if says w (codes "neednot") then needs false first rest
-    else option_map Asks (asked_of (w ∷ first ∷ rest))
+    else None
+
+abbrev pub no_question : Name → Token → List Token → Option Phrase
+no_question origin w [] = lone_word w
+no_question origin w (first ∷ rest) = argued origin w first rest
+
+-- what tokens say, where names are relative to the origin
+unfoldable pub phrase_of : Name → List Token → Option Phrase
+phrase_of origin [] = None
+phrase_of origin (w ∷ arguments) = option_or (option_map Asks (asked_of origin w arguments)) (no_question origin w arguments)

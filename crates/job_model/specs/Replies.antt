@@ -14,25 +14,26 @@ use Rattle.zone_query.specs.Around.{Found, find, walk, back}
 use Rattle.trie_read.specs.declared.found.Kind.{Kind as FoundKind}
 use Rattle.trie_read.specs.declared.found.Kind.TheVariants as there
 use Rattle.job_model.specs.Sizes.{node_count}
-use Rattle.job_model.specs.Commands.{Question, Get, Find, Walk, Back, Stat, Dump}
+use Rattle.job_model.specs.declared.Question.{Question}
+use Rattle.job_model.specs.declared.Question.TheVariants.{Get, Find, Walk, Back, Stat, Dump}
 
--- the reply to a question of each kind; how large a version is: its names, and the nodes of its trie; all its records
-pub data Reply : Type 0 where
-  OfGet : (answer : Answer) → Reply
-  OfFind : (found : Found) → Reply
-  OfWalk : (names : List Name) → Reply
-  OfBack : (names : List Name) → Reply
-  OfStat : (names nodes : ℕ) → Reply
-  OfDump : (rows : List Row) → Reply
+-- The form of a reply, and what fills it from a version: an answer; what there is of a name; a word with names, or with records; how many
+-- names and nodes.
+pub data Form : Type 0 where
+  OfAnswer : (answer : Version → Answer) → Form
+  OfFound : (found : Version → Found) → Form
+  OfNames : (word : List ℕ) (names : Version → List Name) → Form
+  OfRows : (word : List ℕ) (rows : Version → List Row) → Form
+  OfSize : (names nodes : Version → ℕ) → Form
 
--- what a version of the zone of an origin replies
-abbrev pub reply_of : Name → Version → Question → Reply
-reply_of origin version (Get name rtype) = OfGet (answer origin version name rtype)
-reply_of origin version (Find name) = OfFind (find name version)
-reply_of origin version (Walk s) = OfWalk (walk s.start s.most version)
-reply_of origin version (Back s) = OfBack (back s.start s.most version)
-reply_of origin version Stat = OfStat (length version) (node_count version)
-reply_of origin version Dump = OfDump (all_rows version)
+-- what a question asks of the versions of the zone of an origin
+abbrev pub form_of : Name → Question → Form
+form_of origin (Get name rtype) = OfAnswer (λ version. answer origin version name rtype)
+form_of origin (Find name) = OfFound (λ version. find name version)
+form_of origin (Walk s) = OfNames (codes "WALK") (λ version. walk s.start s.most version)
+form_of origin (Back s) = OfNames (codes "BACK") (λ version. back s.start s.most version)
+form_of origin Stat = OfSize (λ version. length version) (λ version. node_count version)
+form_of origin Dump = OfRows (codes "DUMP") (λ version. all_rows version)
 
 -- ---- answers
 
@@ -81,10 +82,21 @@ size_text names nodes = codes "names " ++ decimal names ++ codes " nodes " ++ de
 
 -- ---- replies
 
+-- what is printed of a form that a version fills
+abbrev pub form_text : Form → Version → List ℕ
+form_text (OfAnswer answer) version = answer_text (answer version)
+form_text (OfFound found) version = found_text (found version)
+form_text (OfNames word names) version = names_text word (names version)
+form_text (OfRows word rows) version = rows_text word (rows version)
+form_text (OfSize names nodes) version = size_text (names version) (nodes version)
+
+-- what a version of the zone of an origin replies to a question
+pub record Reply : Type 0 where
+  pub form : Form
+  pub version : Version
+
+abbrev pub reply_of : Name → Version → Question → Reply
+reply_of origin version question = record { form = form_of origin question; version = version }
+
 abbrev pub reply_text : Reply → List ℕ
-reply_text (OfGet told) = answer_text told
-reply_text (OfFind found) = found_text found
-reply_text (OfWalk names) = names_text (codes "WALK") names
-reply_text (OfBack names) = names_text (codes "BACK") names
-reply_text (OfStat names nodes) = size_text names nodes
-reply_text (OfDump rows) = rows_text (codes "DUMP") rows
+reply_text reply = form_text reply.form reply.version

@@ -2,6 +2,8 @@
 //! definitions.
 #![tactic(auto)]
 
+use dns_name::Name;
+
 /// How the commands of a script are listed.
 #[derive(Clone, Copy, Debug, PartialEq, Eq)]
 pub enum Listing {
@@ -9,6 +11,32 @@ pub enum Listing {
     ByWorker,
     /// There is one list, and each command of it is run by some worker.
     OneList,
+}
+
+/// Names that follow a name in one direction.
+#[derive(Clone, Copy)]
+pub struct Stretch {
+    /// The name that it begins at, or before.
+    pub start: Name,
+    /// How many names are wanted at most.
+    pub most: u32,
+}
+
+/// A question to one version.
+#[derive(Clone, Copy)]
+pub enum Question {
+    /// The answer for a name and a type.
+    Get(Name, u16),
+    /// What there is of a name.
+    Find(Name),
+    /// The names at or after a name.
+    Walk(Stretch),
+    /// The names before a name, the nearest first.
+    Back(Stretch),
+    /// How large the version is.
+    Stat,
+    /// All records.
+    Dump,
 }
 
 /// How a transaction writes.

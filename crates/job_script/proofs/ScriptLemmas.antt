@@ -36,18 +36,17 @@ inside_alike origin n b Compacts s block = refl
 may_be : (origin : Name) (n : ℕ) (s : Script) (p : Phrase) (may : Bool) → may_stand s.listing p ≡ may → taken origin n s (Some p) ≡ cond may (by_block origin n p s s.block) (refuse n BadCommand)
 may_be origin n s p may is = ap (λ (b : Bool). cond b (by_block origin n p s s.block) (refuse n BadCommand)) is
 
-tokens_taken : (origin : Name) (n : ℕ) (s : Script) (tokens : List Token) (p : Phrase) → phrase_of tokens ≡ Some p → tokens_say origin n s (Some tokens) ≡ taken origin n s (Some p)
+tokens_taken : (origin : Name) (n : ℕ) (s : Script) (tokens : List Token) (p : Phrase) → phrase_of origin tokens ≡ Some p → tokens_say origin n s (Some tokens) ≡ taken origin n s (Some p)
 unfolding phrase_of
 tokens_taken origin n s [] p said = absurd cc
 tokens_taken origin n s (t ∷ tokens) p said = ap (taken origin n s) said
 
-pub tokens_never : (origin : Name) (n : ℕ) (s : Script) (tokens : List Token) (p : Phrase) → phrase_of tokens ≡ Some p → may_stand s.listing p ≡ false → tokens_say origin n s (Some tokens) ≡ refuse n BadCommand
-tokens_never origin n s tokens p said may = tokens_taken origin n s tokens p said ∙ may_be origin n s p false may
+pub tokens_outside : (origin : Name) (n : ℕ) (s : Script) (tokens : List Token) (p : Phrase) → phrase_of origin tokens ≡ Some p → may_stand s.listing p ≡ true → s.block ≡ None
+    → tokens_say origin n s (Some tokens) ≡ outside origin n p (record s { block = None })
+tokens_outside origin n s tokens p said may none =
+    tokens_taken origin n s tokens p said ∙ may_be origin n s p true may ∙ ap (by_block origin n p s) none ∙ ap (λ (b : Option Unfinished). outside origin n p (record s { block = b })) none
 
-pub tokens_outside : (origin : Name) (n : ℕ) (s : Script) (tokens : List Token) (p : Phrase) → phrase_of tokens ≡ Some p → may_stand s.listing p ≡ true → s.block ≡ None → tokens_say origin n s (Some tokens) ≡ outside origin n p s
-tokens_outside origin n s tokens p said may none = tokens_taken origin n s tokens p said ∙ may_be origin n s p true may ∙ ap (by_block origin n p s) none
-
-pub tokens_inside : (origin : Name) (n : ℕ) (s : Script) (tokens : List Token) (p : Phrase) (b : Unfinished) → phrase_of tokens ≡ Some p → may_stand s.listing p ≡ true → s.block ≡ Some b → tokens_say origin n s (Some tokens) ≡ inside origin n b p (record s { block = None })
+pub tokens_inside : (origin : Name) (n : ℕ) (s : Script) (tokens : List Token) (p : Phrase) (b : Unfinished) → phrase_of origin tokens ≡ Some p → may_stand s.listing p ≡ true → s.block ≡ Some b → tokens_say origin n s (Some tokens) ≡ inside origin n b p (record s { block = None })
 tokens_inside origin n s tokens p b said may here =
     tokens_taken origin n s tokens p said ∙ may_be origin n s p true may ∙ ap (by_block origin n p s) here ∙ sym (inside_alike origin n b p s None)
 

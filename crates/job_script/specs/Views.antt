@@ -4,25 +4,11 @@ use Rattle.std.specs.Global.{Global}
 use Rattle.zone_model.specs.Transactions.{Transaction}
 use Rattle.zone_change.specs.Views.{operation_view, prerequisite_view}
 use Rattle.job_model.specs.Commands as jobs
-use Rattle.job_script.specs.declared.commands.Stretch.{Stretch}
-use Rattle.job_script.specs.declared.commands.Question.{Question}
-use Rattle.job_script.specs.declared.commands.Question.TheVariants as question
 use Rattle.job_script.specs.declared.commands.Command.{Command}
 use Rattle.job_script.specs.declared.commands.Command.TheVariants as command
 use Rattle.job_script.specs.declared.commands.Block.{Block}
 use Rattle.job_script.specs.declared.commands.Worker.{Worker}
 use Rattle.job_script.specs.declared.commands.Job.{Job}
-
-abbrev pub stretch_view : Stretch → jobs.Stretch
-stretch_view s = record { start = s.start; most = s.most }
-
-abbrev pub question_view : Question → jobs.Question
-question_view (question.Get name rtype) = jobs.Get name rtype
-question_view (question.Find name) = jobs.Find name
-question_view (question.Walk stretch) = jobs.Walk (stretch_view stretch)
-question_view (question.Back stretch) = jobs.Back (stretch_view stretch)
-question_view question.Stat = jobs.Stat
-question_view question.Dump = jobs.Dump
 
 abbrev pub asked_view : Block → Transaction
 asked_view b = record { needs = map prerequisite_view b.needs.items; operations = map operation_view b.operations.items }
@@ -31,9 +17,9 @@ abbrev pub block_view : Block → jobs.Command
 block_view b = jobs.Block b.weight (asked_view b) b.ending
 
 abbrev pub command_view : Command → jobs.Command
-command_view (command.Ask asked) = jobs.Ask (question_view asked)
+command_view (command.Ask question) = jobs.Ask question
 command_view command.Hold = jobs.Hold
-command_view (command.AskHeld asked) = jobs.AskHeld (question_view asked)
+command_view (command.AskHeld question) = jobs.AskHeld question
 command_view command.Release = jobs.Release
 command_view (command.Block b) = block_view b
 command_view command.Compact = jobs.Compact

@@ -1,33 +1,6 @@
 //! Commands of a script.
-use dns_name::Name;
-use job_model::{Ending, Weight};
+use job_model::{Ending, Question, Weight};
 use zone_change::{Operation, Prerequisite};
-
-/// Names that follow a name in one direction.
-#[derive(Drop)]
-pub struct Stretch {
-    /// The name that it begins at, or before.
-    pub start: Name,
-    /// How many names are wanted at most.
-    pub most: u32,
-}
-
-/// A question to one version.
-#[derive(Drop)]
-pub enum Question {
-    /// The answer for a name and a type.
-    Get(Name, u16),
-    /// What there is of a name.
-    Find(Name),
-    /// The names at or after a name.
-    Walk(Stretch),
-    /// The names before a name, the nearest first.
-    Back(Stretch),
-    /// How large the version is.
-    Stat,
-    /// All records.
-    Dump,
-}
 
 /// A transaction: how it writes, what it wants of the version that it changes, its operations in order, and its last word.
 #[derive(Drop)]

@@ -31,11 +31,11 @@ pub fn inside(
     origin: &Name,
     block: Unfinished,
     line: u32,
-    phrase: Phrase,
+    phrase: &Phrase,
 ) -> Result<(), JobRefusal>
     requires none { script.old.block ≡ None }
-    requires placed { PhrasePlaced bytes.now phrase }
-    ensures { ScriptReads result (script_view script.new) (jobs.inside origin.now line (unfinished_view block) (phrase_view bytes.now phrase.entry) (script_view script.old)) }
+    requires placed { PhrasePlaced bytes.now phrase.now }
+    ensures { ScriptReads result (script_view script.new) (jobs.inside origin.now line (unfinished_view block) (phrase_view bytes.now phrase.now) (script_view script.old)) }
 {
     match phrase {
         Phrase::Worker => Err(refused(block.start, ScriptKind::OpenBlock)),
@@ -46,23 +46,23 @@ pub fn inside(
         | Phrase::Opens(_)
         | Phrase::Compacts => Err(refused(line, ScriptKind::BadCommand)),
         Phrase::Needs(wanted, owner, rtype) => {
-            need(script, bytes, origin, block, line, wanted, owner, rtype)
+            need(script, bytes, origin, block, line, *wanted, *owner, *rtype)
         }
         Phrase::Adds(_, _, _, _) | Phrase::Deletes(_, _)
             if block.operations.len() >= OPERATION_LIMIT => Err(too_many(line, 10000)),
         Phrase::Adds(owner, ttl, rtype, tokens) => {
-            match addition_of(alloc, bytes, origin, line, owner, ttl, rtype, tokens) {
+            match addition_of(alloc, bytes, origin, line, *owner, *ttl, *rtype, tokens) {
                 Ok(operation) => join(script, block, operation),
                 Err(refusal) => Err(refusal),
             }
         }
         Phrase::Deletes(owner, rest) => {
-            match deletion_of(alloc, bytes, origin, line, owner, rest) {
+            match deletion_of(alloc, bytes, origin, line, *owner, rest) {
                 Ok(operation) => join(script, block, operation),
                 Err(refusal) => Err(refusal),
             }
         }
-        Phrase::Ends(ending) => end_block(script, block, line, ending),
+        Phrase::Ends(ending) => end_block(script, block, line, *ending),
     }
 }
 

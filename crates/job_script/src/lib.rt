@@ -18,17 +18,19 @@ mod replies;
 mod report;
 mod script;
 mod summary;
+mod words;
 
-pub use commands::{Block, Command, Job, Question, Stretch, Worker};
+pub use commands::{Block, Command, Job, Worker};
 pub use laws::jobs_are_spelled;
 pub use needs::{Needs, needs_of};
 pub use outcomes::{
     Cause, FedOutcome, Outcome, Outcomes, Told, any_fed_refused, any_refused, is_refused,
 };
 pub use parts::{Parts, split};
-pub use printed::{PrintedRows, push_answer, push_dump};
+pub use printed::{PrintedRows, push_answer, push_rows};
 pub use refusal::{JobRefusal, refused, too_many};
-pub use replies::{push_back, push_found, push_size, push_walk};
+pub use replies::{push_found, push_list, push_size};
 pub use report::{print_fed, print_outcomes, print_report, push_told};
 pub use script::{Script, Unfinished, read_job, read_list, script_line};
 pub use summary::print_summary;
+pub use words::says;

@@ -4,37 +4,25 @@ ghost use Rattle.std.specs.Option.{option_map};
 ghost use Rattle.std.specs.List.{All};
 ghost use Rattle.job_model.specs.Phrases as phrases;
 ghost use Rattle.zone_text.specs.Tokens.{IsPlaced, token_view};
-ghost use Rattle.job_script.specs.Phrases.{asked_view, AskedPlaced, phrase_view, PhrasePlaced};
+ghost use Rattle.job_script.specs.Phrases.{phrase_view, PhrasePlaced};
 
-use job_model::{Ending, Weight};
+use crate::questions::asked_of;
+use crate::words::says;
+use dns_name::Name;
+use job_model::{Ending, Question, ScriptKind, Weight};
 use zone_text::Token;
 
-/// The words of a question.
-#[derive(Clone, Copy)]
-pub enum Asked {
-    /// A name and a type.
-    Gets(Token, Token),
-    /// A name.
-    Finds(Token),
-    /// A name and a number.
-    Walks(Token, Token),
-    /// A name and a number.
-    Backs(Token, Token),
-    Stats,
-    Dumps,
-}
-
-/// What a line says, with the tokens of its arguments.
+/// What a line says, with the tokens of its arguments; of a question also what they say, or why they are refused.
 #[derive(Clone, Copy)]
 pub enum Phrase<'a> {
     /// The next worker's list begins.
     Worker,
     /// A question.
-    Asks(Asked),
+    Asks(Result<Question, ScriptKind>),
     /// A snapshot is taken.
     Holds,
     /// A question to the snapshot.
-    AsksHeld(Asked),
+    AsksHeld(Result<Question, ScriptKind>),
     /// The snapshot is given back.
     Releases,
     /// A block begins.
@@ -51,90 +39,6 @@ pub enum Phrase<'a> {
     Compacts,
 }
 
-// Whether a token is a command word.
-fn says(bytes: &[u8], token: Token, word: &[u8]) -> bool
-    requires { IsPlaced bytes.now token }
-    ensures { result ≡ phrases.says (token_view bytes.now token) word.now }
-{
-    if token.quoted {
-        return false;
-    }
-    token.text(bytes) == word
-}
-
-// The token that stands alone.
-fn lone(tokens: &[Token]) -> Option<Token>
-    ensures lone { (bytes : List ℕ) → option_map (token_view bytes) result ≡ phrases.lone (map (token_view bytes) tokens.now) }
-    ensures placed { (bytes : List ℕ) → All (IsPlaced bytes) tokens.now → IfSome result (IsPlaced bytes) }
-{
-    let (first, behind) = tokens.split_first()?;
-    if behind.is_empty() {
-        Some(*first)
-    } else {
-        None
-    }
-}
-
-// A question whose word has a name behind it.
-#[tactic(auto, unfolding(job_model::specs::Phrases::asked_of))]
-fn named_question(bytes: &[u8], word: Token, name: Token, rest: &[Token]) -> Option<Asked>
-    requires word { IsPlaced bytes.now word }
-    requires name { IsPlaced bytes.now name }
-    requires rest { All (IsPlaced bytes.now) rest.now }
-    ensures said { option_map (asked_view bytes.now) result
-        ≡ phrases.asked_of (token_view bytes.now word ∷ token_view bytes.now name ∷ map (token_view bytes.now) rest.now) }
-    ensures placed { IfSome result (AskedPlaced bytes.now) }
-{
-    if says(bytes, word, b"get") {
-        return Some(Asked::Gets(name, lone(rest)?));
-    }
-    if says(bytes, word, b"find") {
-        return if rest.is_empty() {
-            Some(Asked::Finds(name))
-        } else {
-            None
-        };
-    }
-    if says(bytes, word, b"walk") {
-        return Some(Asked::Walks(name, lone(rest)?));
-    }
-    if says(bytes, word, b"back") {
-        return Some(Asked::Backs(name, lone(rest)?));
-    }
-    None
-}
-
-// A question whose word stands alone.
-#[tactic(auto, unfolding(job_model::specs::Phrases::asked_of))]
-fn lone_question(bytes: &[u8], word: Token) -> Option<Asked>
-    requires { IsPlaced bytes.now word }
-    ensures said { option_map (asked_view bytes.now) result ≡ phrases.asked_of (token_view bytes.now word ∷ []) }
-    ensures placed { IfSome result (AskedPlaced bytes.now) }
-{
-    if says(bytes, word, b"stat") {
-        Some(Asked::Stats)
-    } else if says(bytes, word, b"dump") {
-        Some(Asked::Dumps)
-    } else {
-        None
-    }
-}
-
-// The question that a word says with what stands behind it.
-#[tactic(auto, unfolding(job_model::specs::Phrases::asked_of))]
-fn asked_of(bytes: &[u8], word: Token, arguments: &[Token]) -> Option<Asked>
-    requires word { IsPlaced bytes.now word }
-    requires arguments { All (IsPlaced bytes.now) arguments.now }
-    ensures said { option_map (asked_view bytes.now) result ≡ phrases.asked_of (token_view bytes.now word ∷ map (token_view bytes.now) arguments.now) }
-    ensures placed { IfSome result (AskedPlaced bytes.now) }
-{
-    let Some((name, rest)) = arguments.split_first() else {
-        return lone_question(bytes, word);
-    };
-    named_question(bytes, word, *name, rest)
-}
-
-#[tactic(auto, unfolding(job_model::specs::Phrases::asked_of))]
 fn lone_word<'a>(bytes: &[u8], word: Token) -> Option<Phrase<'a>>
     requires { IsPlaced bytes.now word }
     ensures said { option_map (phrase_view bytes.now) result ≡ phrases.lone_word (token_view bytes.now word) }
@@ -157,10 +61,7 @@ fn lone_word<'a>(bytes: &[u8], word: Token) -> Option<Phrase<'a>>
     } else if says(bytes, word, b"compact") {
         Some(Phrase::Compacts)
     } else {
-        match lone_question(bytes, word) {
-            Some(asked) => Some(Phrase::Asks(asked)),
-            None => None,
-        }
+        None
     }
 }
 
@@ -199,14 +100,19 @@ fn needs<'a>(bytes: &[u8], wanted: bool, owner: Token, rest: &[Token]) -> Option
     }
 }
 
-// What a word says with an argument and what stands behind that.
-#[tactic(auto, unfolding(job_model::specs::Phrases::phrase_of))]
-fn argued<'a>(bytes: &[u8], word: Token, first: Token, rest: &'a [Token]) -> Option<Phrase<'a>>
+// What a word that asks no question says with an argument and what stands behind that.
+fn argued<'a>(
+    bytes: &[u8],
+    origin: &Name,
+    word: Token,
+    first: Token,
+    rest: &'a [Token],
+) -> Option<Phrase<'a>>
     requires word { IsPlaced bytes.now word }
     requires first { IsPlaced bytes.now first }
     requires rest { All (IsPlaced bytes.now) rest.now }
     ensures said { option_map (phrase_view bytes.now) result
-        ≡ phrases.phrase_of (token_view bytes.now word ∷ token_view bytes.now first ∷ map (token_view bytes.now) rest.now) }
+        ≡ phrases.argued origin.now (token_view bytes.now word) (token_view bytes.now first) (map (token_view bytes.now) rest.now) }
     ensures placed { IfSome result (PhrasePlaced bytes.now) }
 {
     if says(bytes, word, b"add") {
@@ -216,7 +122,7 @@ fn argued<'a>(bytes: &[u8], word: Token, first: Token, rest: &'a [Token]) -> Opt
         return Some(Phrase::Deletes(first, rest));
     }
     if says(bytes, word, b"at") {
-        return match asked_of(bytes, first, rest) {
+        return match asked_of(bytes, origin, first, rest) {
             Some(asked) => Some(Phrase::AsksHeld(asked)),
             None => None,
         };
@@ -227,22 +133,22 @@ fn argued<'a>(bytes: &[u8], word: Token, first: Token, rest: &'a [Token]) -> Opt
     if says(bytes, word, b"neednot") {
         return needs(bytes, false, first, rest);
     }
-    match named_question(bytes, word, first, rest) {
-        Some(asked) => Some(Phrase::Asks(asked)),
-        None => None,
-    }
+    None
 }
 
-/// What tokens say; None where they are no command.
+/// What tokens say, where names are relative to the origin; None where they are no command.
 #[tactic(auto, unfolding(job_model::specs::Phrases::phrase_of))]
-pub fn phrase_of<'a>(bytes: &[u8], tokens: &'a [Token]) -> Option<Phrase<'a>>
+pub fn phrase_of<'a>(bytes: &[u8], origin: &Name, tokens: &'a [Token]) -> Option<Phrase<'a>>
     requires { All (IsPlaced bytes.now) tokens.now }
-    ensures said { option_map (phrase_view bytes.now) result ≡ phrases.phrase_of (map (token_view bytes.now) tokens.now) }
+    ensures said { option_map (phrase_view bytes.now) result ≡ phrases.phrase_of origin.now (map (token_view bytes.now) tokens.now) }
     ensures placed { IfSome result (PhrasePlaced bytes.now) }
 {
     let (word, arguments) = tokens.split_first()?;
+    if let Some(asked) = asked_of(bytes, origin, *word, arguments) {
+        return Some(Phrase::Asks(asked));
+    }
     match arguments.split_first() {
-        Some((first, rest)) => argued(bytes, *word, *first, rest),
+        Some((first, rest)) => argued(bytes, origin, *word, *first, rest),
         None => lone_word(bytes, *word),
     }
 }

@@ -1,5 +1,5 @@
 //! How answers are printed: their records as they are found.
-ghost use Rattle.std.specs.Prelude.{◌≡◌, ◌++◌, [], List, length, OnOk, codes};
+ghost use Rattle.std.specs.Prelude.{◌≡◌, ◌++◌, [], List, length, OnOk};
 ghost use Rattle.std.specs.List.{flat_map};
 ghost use Rattle.zone_model.specs.Rows.{Row, row_text, rows_of};
 ghost use Rattle.job_model.specs.Replies.{answer_text, kind_text, rows_text};
@@ -76,12 +76,12 @@ fn kind_name(kind: Kind) -> &'static [u8]
     }
 }
 
-/// Pushes how many records a version has, and their lines.
-pub fn push_dump(out: &mut Vec<u8>, lines: &[u8], count: u64) -> Result<(), AllocError>
+/// Pushes a word, how many records there are, and their lines.
+pub fn push_rows(out: &mut Vec<u8>, word: &[u8], lines: &[u8], count: u64) -> Result<(), AllocError>
     ensures { (records : List Row) → lines.now ≡ flat_map row_text records → count ≡ length records
-        → OnOk result (out.new.items ≡ out.old.items ++ rows_text (codes "DUMP") records) }
+        → OnOk result (out.new.items ≡ out.old.items ++ rows_text word.now records) }
 {
-    push_kind(out, b"DUMP", count)?;
+    push_kind(out, word, count)?;
     out.extend_from_slice(lines)
 }
 

@@ -1,103 +1,94 @@
-//! What the words of a question say.
-ghost use Rattle.std.specs.Prelude.{◌≡◌, IfSome, ◌≤◌, ◌<◌};
-ghost use Rattle.job_model.specs.Arguments as jobs;
-ghost use Rattle.job_model.specs.Phrases as phrases;
+//! The questions of scripts: the word of each, and what its operands say.
+ghost use Rattle.std.specs.Prelude.{◌≡◌, ◌≤◌, ℕ, List, map, Option};
+ghost use Rattle.std.specs.List.{All};
+ghost use Rattle.job_model.specs.Questions as questions;
 ghost use Rattle.zone_text.specs.Tokens.{IsPlaced, token_view};
-ghost use Rattle.job_script.specs.Phrases.{asked_view, AskedPlaced};
-ghost use Rattle.job_script.specs.Scripts.{Says};
-ghost use Rattle.job_script.specs.Views.{question_view, stretch_view};
 
-use crate::commands::{Question, Stretch};
-use crate::phrases::Asked;
-use crate::refusal::{JobRefusal, refused};
+use crate::words::{lone, names_word, pair, says};
 use dns_name::Name;
-use job_model::ScriptKind;
+use job_model::{Question, ScriptKind, Stretch};
 use master_file::{name_word, type_word};
-use zone_text::{Token, number};
+use zone_text::Token;
 
-/// The most names that are wanted at once.
-const NAME_LIMIT: u32 = 1000;
+/// What words say, or why they are refused; None where they are fewer or more.
+type Said<T> = Option<Result<T, ScriptKind>>;
 
-// How many names a token says.
-fn names_word(bytes: &[u8], token: Token) -> Option<u32>
-    requires { IsPlaced bytes.now token }
-    ensures { result ≡ jobs.names_word (token_view bytes.now token) }
+// A name and a type.
+fn typed(bytes: &[u8], origin: &Name, operands: &[Token]) -> Said<(Name, u16)>
+    requires { All (IsPlaced bytes.now) operands.now }
+    ensures { result ≡ questions.typed origin.now (map (token_view bytes.now) operands.now) }
 {
-    if token.quoted {
-        return None;
-    }
-    let most = number(token.text(bytes), NAME_LIMIT)?;
-    if most == 0 { None } else { Some(most) }
-}
-
-#[tactic(auto, unfolding(job_model::specs::Arguments::stretch_of))]
-fn stretch_of(
-    bytes: &[u8],
-    origin: &Name,
-    line: u32,
-    name: Token,
-    number: Token,
-) -> Result<Stretch, JobRefusal>
-    requires name { IsPlaced bytes.now name }
-    requires number { IsPlaced bytes.now number }
-    ensures { Says result stretch_view (jobs.stretch_of origin.now line (token_view bytes.now name) (token_view bytes.now number)) }
-{
-    let Some(start) = name_word(bytes, origin, name) else {
-        return Err(refused(line, ScriptKind::BadName));
-    };
-    match names_word(bytes, number) {
-        Some(most) => Ok(Stretch { start, most }),
-        None => Err(refused(line, ScriptKind::BadNumber)),
-    }
-}
-
-#[tactic(auto, unfolding(job_model::specs::Arguments::question_of))]
-fn typed_question(
-    bytes: &[u8],
-    origin: &Name,
-    line: u32,
-    name: Token,
-    rtype: Token,
-) -> Result<Question, JobRefusal>
-    requires name { IsPlaced bytes.now name }
-    requires rtype { IsPlaced bytes.now rtype }
-    ensures { Says result question_view (jobs.question_of origin.now line (phrases.Gets (token_view bytes.now name) (token_view bytes.now rtype))) }
-{
-    let Some(asked) = name_word(bytes, origin, name) else {
-        return Err(refused(line, ScriptKind::BadName));
+    let (name, rtype) = pair(operands)?;
+    let Some(name) = name_word(bytes, origin, name) else {
+        return Some(Err(ScriptKind::BadName));
     };
     match type_word(bytes, rtype) {
-        Some(number) => Ok(Question::Get(asked, number)),
-        None => Err(refused(line, ScriptKind::BadType)),
+        Some(number) => Some(Ok((name, number))),
+        None => Some(Err(ScriptKind::BadType)),
     }
 }
 
-/// The question that its words say.
-#[tactic(auto, unfolding(job_model::specs::Arguments::question_of))]
-pub fn question_of(
-    bytes: &[u8],
-    origin: &Name,
-    line: u32,
-    asked: Asked,
-) -> Result<Question, JobRefusal>
-    requires { AskedPlaced bytes.now asked }
-    ensures { Says result question_view (jobs.question_of origin.now line (asked_view bytes.now asked)) }
+// A name.
+fn named(bytes: &[u8], origin: &Name, operands: &[Token]) -> Said<Name>
+    requires { All (IsPlaced bytes.now) operands.now }
+    ensures { result ≡ questions.named origin.now (map (token_view bytes.now) operands.now) }
 {
-    match asked {
-        Asked::Gets(name, rtype) => typed_question(bytes, origin, line, name, rtype),
-        Asked::Finds(name) => match name_word(bytes, origin, name) {
-            Some(name) => Ok(Question::Find(name)),
-            None => Err(refused(line, ScriptKind::BadName)),
-        },
-        Asked::Walks(name, number) => match stretch_of(bytes, origin, line, name, number) {
-            Ok(stretch) => Ok(Question::Walk(stretch)),
-            Err(refusal) => Err(refusal),
-        },
-        Asked::Backs(name, number) => match stretch_of(bytes, origin, line, name, number) {
-            Ok(stretch) => Ok(Question::Back(stretch)),
-            Err(refusal) => Err(refusal),
-        },
-        Asked::Stats => Ok(Question::Stat),
-        Asked::Dumps => Ok(Question::Dump),
+    let name = lone(operands)?;
+    Some(name_word(bytes, origin, name).ok_or(ScriptKind::BadName))
+}
+
+// Where a list of names begins, and how many are wanted.
+fn stretched(bytes: &[u8], origin: &Name, operands: &[Token]) -> Said<Stretch>
+    requires { All (IsPlaced bytes.now) operands.now }
+    ensures { result ≡ questions.stretched origin.now (map (token_view bytes.now) operands.now) }
+{
+    let (name, number) = pair(operands)?;
+    let Some(start) = name_word(bytes, origin, name) else {
+        return Some(Err(ScriptKind::BadName));
+    };
+    match names_word(bytes, number) {
+        Some(most) => Some(Ok(Stretch { start, most })),
+        None => Some(Err(ScriptKind::BadNumber)),
     }
+}
+
+// A question without operands.
+fn bare(question: Question, operands: &[Token]) -> Said<Question>
+    ensures { (bytes : List ℕ) → result ≡ questions.bare question (map (token_view bytes) operands.now) }
+{
+    if operands.is_empty() {
+        Some(Ok(question))
+    } else {
+        None
+    }
+}
+
+/// The question that a word asks with its operands; None where it is no such word, or the operands are fewer or more.
+#[tactic(auto, unfolding(job_model::specs::Questions::asked_of))]
+pub fn asked_of(bytes: &[u8], origin: &Name, word: Token, operands: &[Token]) -> Said<Question>
+    requires word { IsPlaced bytes.now word }
+    requires operands { All (IsPlaced bytes.now) operands.now }
+    ensures { result ≡ questions.asked_of origin.now (token_view bytes.now word) (map (token_view bytes.now) operands.now) }
+{
+    if says(bytes, word, b"get") {
+        return Some(typed(bytes, origin, operands)?.map(|(name, rtype)| Question::Get(
+            name, rtype,
+        )));
+    }
+    if says(bytes, word, b"find") {
+        return Some(named(bytes, origin, operands)?.map(Question::Find));
+    }
+    if says(bytes, word, b"walk") {
+        return Some(stretched(bytes, origin, operands)?.map(Question::Walk));
+    }
+    if says(bytes, word, b"back") {
+        return Some(stretched(bytes, origin, operands)?.map(Question::Back));
+    }
+    if says(bytes, word, b"stat") {
+        return bare(Question::Stat, operands);
+    }
+    if says(bytes, word, b"dump") {
+        return bare(Question::Dump, operands);
+    }
+    None
 }

@@ -32,8 +32,8 @@ fn push_names(out: &mut Vec<u8>, names: &[Name]) -> Result<(), AllocError>
     Ok(())
 }
 
-// A word, how many names there are, and the names.
-fn push_list(out: &mut Vec<u8>, word: &[u8], names: &[Name]) -> Result<(), AllocError>
+/// Pushes a word, how many names there are, and the names.
+pub fn push_list(out: &mut Vec<u8>, word: &[u8], names: &[Name]) -> Result<(), AllocError>
     ensures { OnOk result (out.new.items ≡ out.old.items ++ replies.names_text word.now names.now) }
 {
     push_kind(out, word, names.len() as u64)?;
@@ -79,18 +79,4 @@ pub fn push_size(out: &mut Vec<u8>, names: u64, nodes: u64) -> Result<(), AllocE
     out.extend_from_slice(b" nodes ")?;
     push_decimal(out, nodes)?;
     out.extend_from_slice(b"\n")
-}
-
-/// Pushes the names at or after a name, in order.
-pub fn push_walk(out: &mut Vec<u8>, names: &[Name]) -> Result<(), AllocError>
-    ensures { OnOk result (out.new.items ≡ out.old.items ++ replies.names_text (codes "WALK") names.now) }
-{
-    push_list(out, b"WALK", names)
-}
-
-/// Pushes the names before a name, the nearest first.
-pub fn push_back(out: &mut Vec<u8>, names: &[Name]) -> Result<(), AllocError>
-    ensures { OnOk result (out.new.items ≡ out.old.items ++ replies.names_text (codes "BACK") names.now) }
-{
-    push_list(out, b"BACK", names)
 }

@@ -77,15 +77,15 @@ fn take_tokens(
     if tokens.is_empty() {
         return Ok(());
     }
-    let Some(phrase) = phrase_of(bytes, tokens) else {
+    let Some(phrase) = phrase_of(bytes, origin, tokens) else {
         return Err(refused(line, ScriptKind::BadCommand));
     };
     if !may_stand(script.listing, &phrase) {
         return Err(refused(line, ScriptKind::BadCommand));
     }
     match script.block.take() {
-        None => outside(script, alloc, bytes, origin, line, phrase),
-        Some(block) => inside(script, alloc, bytes, origin, block, line, phrase),
+        None => outside(script, alloc, line, &phrase),
+        Some(block) => inside(script, alloc, bytes, origin, block, line, &phrase),
     }
 }
 

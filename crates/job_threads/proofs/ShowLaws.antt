@@ -6,7 +6,7 @@ use Rattle.zone_model.specs.Names.{Name}
 use Rattle.zone_model.specs.Versions.{Version}
 use Rattle.pin_core.specs.declared.kept.CellAt.{CellAt}
 use Rattle.zone_query.specs.Standing.{Shows, ShowsSome}
-use Rattle.job_model.specs.Commands.{Question}
+use Rattle.job_model.specs.declared.Question.{Question}
 use Rattle.job_model.specs.Replies.{reply_of}
 use Rattle.job_script.specs.Outcomes.{Replies, ended_view}
 use Rattle.job_script.specs.declared.outcomes.Told.TheVariants as told

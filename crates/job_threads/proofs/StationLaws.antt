@@ -6,7 +6,8 @@ use Rattle.zone_model.specs.Transactions.{Transaction, no_changes}
 use Rattle.job_model.specs.declared.Ending.{Ending}
 use Rattle.job_model.specs.declared.Ending.TheVariants.{Commit}
 use Rattle.job_model.specs.declared.Weight.{Weight}
-use Rattle.job_model.specs.Commands.{Question, Ask, Hold, AskHeld, Release, Block, Compact}
+use Rattle.job_model.specs.declared.Question.{Question}
+use Rattle.job_model.specs.Commands.{Ask, Hold, AskHeld, Release, Block, Compact}
 use Rattle.job_script.specs.Outcomes.{EndsBlock, EndsCompaction}
 use Rattle.job_script.specs.Views.{command_view}
 use Rattle.job_script.specs.declared.commands.Command.{Command as Said}

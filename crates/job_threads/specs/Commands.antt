@@ -8,7 +8,7 @@ use Rattle.zone_model.specs.Transactions.{Transaction, all_met, whole}
 use Rattle.trie_model.specs.Keys as trie
 use Rattle.job_model.specs.declared.Ending.{Ending}
 use Rattle.job_model.specs.declared.Ending.TheVariants.{Commit, Rollback}
-use Rattle.job_model.specs.Commands.{Question}
+use Rattle.job_model.specs.declared.Question.{Question}
 use Rattle.job_model.specs.Replies.{reply_of}
 use Rattle.job_model.specs.Outcomes.{Rule, Full, Causes, Ended, Shown, Committed, RolledBack, Refused}
 use Rattle.job_script.specs.Outcomes.{ended_view, Replies}

@@ -1,6 +1,5 @@
 //! Questions to the current version.
 ghost use Rattle.std.specs.Prelude.{◌≡◌, IsSome, IfOk};
-ghost use Rattle.job_script.specs.Views.{question_view};
 ghost use Rattle.shared_index.specs.Passes.{known_at};
 ghost use Rattle.job_threads.specs.Commands.{Asked};
 
@@ -8,7 +7,8 @@ use crate::law::ZoneLaw;
 use crate::replying::reply_text;
 use crate::room::Room;
 use dns_name::Name;
-use job_script::{Outcome, Question, Told};
+use job_model::Question;
+use job_script::{Outcome, Told};
 use shared_index::{Index, Named, Pass};
 use std::alloc::{AllocError, Global};
 use trie_read::Reading;
@@ -26,7 +26,7 @@ pub fn run_question<N: Named>(
     requires place { pass.old.place ≡ index.now.place }
     ensures here { IsSome pass.new.seat }
     ensures place { pass.new.place ≡ pass.old.place }
-    ensures asked { IfOk result (Asked origin.now (question_view question.now) (known_at pass.old.seat) (known_at pass.new.seat)) }
+    ensures asked { IfOk result (Asked origin.now question.now (known_at pass.old.seat) (known_at pass.new.seat)) }
 {
     let mut query = pass.query(index);
     let version = query.version();

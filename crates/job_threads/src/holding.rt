@@ -1,6 +1,5 @@
 //! Snapshots of a worker. While it holds one its second pass is away.
 ghost use Rattle.std.specs.Prelude.{◌≡◌, IsSome, IfOk};
-ghost use Rattle.job_script.specs.Views.{question_view};
 ghost use Rattle.shared_index.specs.Passes.{known_at};
 ghost use Rattle.job_threads.specs.Commands.{IsHeld, Held, AskedHeld, Released};
 
@@ -8,7 +7,8 @@ use crate::law::ZoneLaw;
 use crate::replying::reply_text;
 use crate::room::Room;
 use dns_name::Name;
-use job_script::{Outcome, Question, Told};
+use job_model::Question;
+use job_script::{Outcome, Told};
 use shared_index::{Index, Named, Pass, Snapshot};
 use std::alloc::{AllocError, Global};
 use trie_read::Reading;
@@ -51,7 +51,7 @@ pub fn ask_held<N: Named>(
 ) -> Result<Outcome, AllocError>
     requires { IsHeld snapshot.old.seat }
     ensures same { snapshot.new ≡ snapshot.old }
-    ensures asked { IfOk result (AskedHeld origin.now (question_view question.now) snapshot.old.seat) }
+    ensures asked { IfOk result (AskedHeld origin.now question.now snapshot.old.seat) }
 {
     let version = snapshot.version();
     let text = reply_text(alloc, origin, snapshot, question, room)?;

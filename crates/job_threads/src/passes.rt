@@ -2,7 +2,6 @@
 ghost use Rattle.std.specs.Prelude.{◌≡◌, IsSome, IfSome, IfOk, None, true, false};
 ghost use Rattle.std.specs.Option.{option_map, is_some};
 ghost use Rattle.job_model.specs.Commands.{Hold, AskHeld, Release};
-ghost use Rattle.job_script.specs.Views.{question_view};
 ghost use Rattle.shared_cells.specs.History.{IsPartOf};
 ghost use Rattle.shared_index.specs.Passes.{known_at, first_version};
 ghost use Rattle.job_threads.specs.Histories.{Setup};
@@ -13,7 +12,8 @@ use crate::holding::{ask_held, hold, release};
 use crate::law::ZoneLaw;
 use crate::room::Room;
 use dns_name::Name;
-use job_script::{Outcome, Question};
+use job_model::Question;
+use job_script::Outcome;
 use shared_index::{Index, Named, Pass, Snapshot};
 use std::alloc::{AllocError, Global};
 
@@ -71,7 +71,7 @@ pub fn ask_snapshot<N: Named>(
     ensures same { IfOk result (λ _. passes.new ≡ passes.old) }
     ensures steps { (s : Setup) → s.origin ≡ origin.now → first_version (known_at passes.old.asks.seat).seen ≡ s.opening
         → IsUnder (known_at passes.old.asks.seat) (holder_view (option_map (λ p. p.seat) passes.old.spare) (option_map (λ s. s.seat) passes.old.held))
-        → IfOk result (λ o. Step s (AskHeld (question_view question.now)) o
+        → IfOk result (λ o. Step s (AskHeld question.now) o
         (station passes.old.asks.seat (option_map (λ p. p.seat) passes.old.spare) (option_map (λ s. s.seat) passes.old.held))
         (station passes.old.asks.seat (option_map (λ p. p.seat) passes.old.spare) (option_map (λ s. s.seat) passes.old.held))) }
 {

@@ -1,18 +1,16 @@
 //! Questions to one version.
-ghost use Rattle.std.specs.Prelude.{◌≡◌, ◌≤◌, ◌++◌, length, IfOk, OnOk};
+ghost use Rattle.std.specs.Prelude.{◌≡◌, ◌≤◌, ◌++◌, length, IfOk, OnOk, codes};
+ghost use Rattle.zone_model.specs.Dumps.{all_rows};
 ghost use Rattle.zone_model.specs.Keys.{most_item_octets};
-ghost use Rattle.zone_model.specs.Names.{Name as Labels};
 ghost use Rattle.zone_model.specs.Versions.{Version};
 ghost use Rattle.zone_query.specs.Standing.{Shows, ShowsSome};
-ghost use Rattle.job_model.specs.Commands as asked;
-ghost use Rattle.job_model.specs.Replies.{reply_of, reply_text};
-ghost use Rattle.job_script.specs.Views.{question_view};
+ghost use Rattle.job_model.specs.Replies.{reply_of, reply_text, rows_text, size_text};
+ghost use Rattle.job_model.specs.Sizes.{node_count};
 
 use crate::room::Room;
 use dns_name::Name;
-use job_script::{
-    PrintedRows, Question, push_answer, push_back, push_dump, push_found, push_size, push_walk,
-};
+use job_model::Question;
+use job_script::{PrintedRows, push_answer, push_found, push_list, push_rows, push_size};
 use std::alloc::{AllocError, Global};
 use trie_read::Reading;
 use zone_dump::dump_text;
@@ -28,20 +26,20 @@ fn push_all<V: Reading>(
     requires shown { ShowsSome (V.holds version.old) }
     requires room { most_item_octets ≤ length item.old }
     ensures same { version.new ≡ version.old }
-    ensures reply { (origin : Labels) (zone : Version) → Shows (V.holds version.old) zone
-        → OnOk result (out.new.items ≡ out.old.items ++ reply_text (reply_of origin zone asked.Dump)) }
+    ensures reply { (zone : Version) → Shows (V.holds version.old) zone
+        → OnOk result (out.new.items ≡ out.old.items ++ rows_text (codes "DUMP") (all_rows zone)) }
 {
     let mut lines = Vec::new(alloc);
     let count = dump_text(alloc, version, item, &mut lines)?;
-    push_dump(out, &lines, count)
+    push_rows(out, b"DUMP", &lines, count)
 }
 
 // Pushes how large a version is.
 fn push_numbers<V: Reading>(version: &mut V, out: &mut Vec<u8>) -> Result<(), AllocError>
     requires { ShowsSome (V.holds version.old) }
     ensures same { version.new ≡ version.old }
-    ensures reply { (origin : Labels) (zone : Version) → Shows (V.holds version.old) zone
-        → OnOk result (out.new.items ≡ out.old.items ++ reply_text (reply_of origin zone asked.Stat)) }
+    ensures reply { (zone : Version) → Shows (V.holds version.old) zone
+        → OnOk result (out.new.items ≡ out.old.items ++ size_text (length zone) (node_count zone)) }
 {
     let names = version.count();
     push_size(out, names, version.nodes())
@@ -62,7 +60,7 @@ fn push_reply<V: Reading>(
     requires room { most_item_octets ≤ length item.old }
     ensures same { version.new ≡ version.old }
     ensures reply { (zone : Version) → Shows (V.holds version.old) zone
-        → OnOk result (out.new.items ≡ out.old.items ++ reply_text (reply_of origin.now zone (question_view question.now))) }
+        → OnOk result (out.new.items ≡ out.old.items ++ reply_text (reply_of origin.now zone question.now)) }
 {
     match question {
         Question::Get(name, rtype) => {
@@ -76,11 +74,11 @@ fn push_reply<V: Reading>(
         }
         Question::Walk(stretch) => {
             let names = walk(alloc, version, &stretch.start, stretch.most as usize)?;
-            push_walk(out, &names)
+            push_list(out, b"WALK", &names)
         }
         Question::Back(stretch) => {
             let names = back(alloc, version, &stretch.start, stretch.most as usize)?;
-            push_back(out, &names)
+            push_list(out, b"BACK", &names)
         }
         Question::Dump => push_all(alloc, version, item, out),
         Question::Stat => push_numbers(version, out),
@@ -98,7 +96,7 @@ pub fn reply_text<V: Reading>(
     requires { ShowsSome (V.holds version.old) }
     ensures same { version.new ≡ version.old }
     ensures reply { (zone : Version) → Shows (V.holds version.old) zone
-        → IfOk result (λ text. text.items ≡ reply_text (reply_of origin.now zone (question_view question.now))) }
+        → IfOk result (λ text. text.items ≡ reply_text (reply_of origin.now zone question.now)) }
 {
     room.text.clear();
     push_reply(

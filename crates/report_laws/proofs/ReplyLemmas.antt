@@ -1,21 +1,21 @@
 -- Where the text of a reply ends is told by what it begins with.
-use Rattle.std.proofs.Common.{◌≡◌, ◌∙◌, ℕ, ◌<◌, ◌^◌, List, ◌++◌, length, Option, Some, None, refl, sym, ap, arith, append_assoc, codes}
+use Rattle.std.proofs.Common.{◌≡◌, ◌∙◌, ℕ, ◌<◌, ◌^◌, List, [], ◌++◌, length, Option, Some, None, refl, sym, ap, arith, append_assoc, length-append, codes}
 use Rattle.std.specs.Fmt.{decimal}
+use Rattle.std.specs.List.{flat_map}
+use Rattle.std.proofs.lemmas.List.{append_cancel_left}
 use Rattle.zone_model.specs.Names.{Name}
 use Rattle.zone_model.specs.NameText.{text_of}
 use Rattle.zone_model.specs.Rows.{Row, row_text}
 use Rattle.zone_model.specs.DataText.{type_text, data_text}
 use Rattle.zone_model.specs.Versions.{Version}
-use Rattle.zone_model.specs.Dumps.{all_rows}
-use Rattle.zone_query.specs.Answers.{Answer, answer}
+use Rattle.zone_query.specs.Answers.{Answer}
 use Rattle.zone_query.specs.declared.kind.Kind.{Kind}
 use Rattle.zone_query.specs.declared.kind.Kind.TheVariants.{Answered, Nodata, Nxdomain, Referral, Outside}
-use Rattle.zone_query.specs.Around.{Found, find, walk, back}
+use Rattle.zone_query.specs.Around.{Found}
 use Rattle.trie_read.specs.declared.found.Kind.{Kind as FoundKind}
 use Rattle.trie_read.specs.declared.found.Kind.TheVariants as there
-use Rattle.job_model.specs.Sizes.{node_count}
-use Rattle.job_model.specs.Commands.{Question, Get, Find, Walk, Back, Stat, Dump}
-use Rattle.job_model.specs.Replies.{reply_of, reply_text, kind_text, rows_text, answer_text, name_line, names_text, found_kind_text, name_or_none, found_text, size_text}
+use Rattle.job_model.specs.declared.Question.{Question}
+use Rattle.job_model.specs.Replies.{Form, OfAnswer, OfFound, OfNames, OfRows, OfSize, form_of, form_text, reply_of, reply_text, count_text, kind_text, answer_text, name_line, names_text, found_kind_text, name_or_none, found_text, size_text}
 use Rattle.report_laws.proofs.CutLemmas.{Free, free_append}
 use Rattle.report_laws.proofs.TextLemmas.{spaced_free, decimal_free, name_free, type_free, data_free}
 use Rattle.report_laws.proofs.LineLemmas.{IsLine, line, line_cut, IsWord, counted_cut}
@@ -57,11 +57,8 @@ found_word there.Absent = record { in_line = refl; in_one = refl }
 
 -- ---- replies
 
-rows_cut : (v w : List ℕ) → IsWord v → IsWord w → (xs ys : List Row) (s t : List ℕ) → length (rows_text v xs ++ s) < 2 ^ 64 → rows_text v xs ++ s ≡ rows_text w ys ++ t → s ≡ t
-rows_cut v w is_v is_w xs ys s t small e = counted_cut row_text row_line v w is_v is_w xs ys s t small e
-
 answer_cut : (a b : Answer) (s t : List ℕ) → length (answer_text a ++ s) < 2 ^ 64 → answer_text a ++ s ≡ answer_text b ++ t → s ≡ t
-answer_cut a b s t small e = rows_cut (kind_text a.kind) (kind_text b.kind) (kind_word a.kind) (kind_word b.kind) a.rows b.rows s t small e
+answer_cut a b s t small e = counted_cut row_text row_line (kind_text a.kind) (kind_text b.kind) (kind_word a.kind) (kind_word b.kind) a.rows b.rows s t small e
 
 names_cut : (v w : List ℕ) → IsWord v → IsWord w → (xs ys : List Name) (s t : List ℕ) → length (names_text v xs ++ s) < 2 ^ 64 → names_text v xs ++ s ≡ names_text w ys ++ t → s ≡ t
 names_cut v w is_v is_w xs ys s t small e = counted_cut name_line named_line v w is_v is_w xs ys s t small e
@@ -87,15 +84,30 @@ found_cut f g s t small e =
     (omega (arith, small, parts)) (sym (found_parts f s) ∙ e ∙ found_parts g t) in
     (line_cut (before_line f.predecessor) (before_line g.predecessor) s t (before_is_line f.predecessor) (before_is_line g.predecessor) last).1
 
+-- a word that both begin with may be any
+regrouped : (a b c d e : List ℕ) → (a ++ b ++ c ++ d) ++ e ≡ a ++ ((b ++ c ++ d) ++ e)
+regrouped a b c d e = simp append_assoc
+
+worded_cut : {A : Type 0} (f : A → List ℕ) → ((a : A) → IsLine (f a)) → (word : List ℕ) (xs ys : List A) (s t : List ℕ)
+    → length ((word ++ count_text (length xs) ++ codes "\n" ++ flat_map f xs) ++ s) < 2 ^ 64
+    → (word ++ count_text (length xs) ++ codes "\n" ++ flat_map f xs) ++ s ≡ (word ++ count_text (length ys) ++ codes "\n" ++ flat_map f ys) ++ t → s ≡ t
+worded_cut f each word xs ys s t small e =
+    let parts = regrouped word (count_text (length xs)) (codes "\n") (flat_map f xs) s in
+    let long = ap (λ (l : List ℕ). length l) parts in
+    let counted = (count_text (length xs) ++ codes "\n" ++ flat_map f xs) ++ s in
+    counted_cut f each [] [] (record { in_line = refl; in_one = refl }) (record { in_line = refl; in_one = refl }) xs ys s t (omega (arith, small, long, length-append word counted))
+    (append_cancel_left word counted ((count_text (length ys) ++ codes "\n" ++ flat_map f ys) ++ t) (sym parts ∙ e ∙ regrouped word (count_text (length ys)) (codes "\n") (flat_map f ys) t))
+
+-- what is behind a form that two versions fill is told
+form_cut : (form : Form) (v w : Version) (s t : List ℕ) → length (form_text form v ++ s) < 2 ^ 64 → form_text form v ++ s ≡ form_text form w ++ t → s ≡ t
+form_cut (OfAnswer answer) v w s t small e = answer_cut (answer v) (answer w) s t small e
+form_cut (OfFound found) v w s t small e = found_cut (found v) (found w) s t small e
+form_cut (OfNames word names) v w s t small e = worded_cut name_line named_line word (names v) (names w) s t small e
+form_cut (OfRows word rows) v w s t small e = worded_cut row_text row_line word (rows v) (rows w) s t small e
+form_cut (OfSize names nodes) v w s t small e =
+    (line_cut (size_text (names v) (nodes v)) (size_text (names w) (nodes w)) s t (size_line (names v) (nodes v)) (size_line (names w) (nodes w)) e).1
+
 -- what is behind two versions' replies to one question is told
 pub reply_cut : (origin : Name) (v w : Version) (question : Question) (s t : List ℕ)
     → length (reply_text (reply_of origin v question) ++ s) < 2 ^ 64 → reply_text (reply_of origin v question) ++ s ≡ reply_text (reply_of origin w question) ++ t → s ≡ t
-reply_cut origin v w (Get name rtype) s t small e = answer_cut (answer origin v name rtype) (answer origin w name rtype) s t small e
-reply_cut origin v w (Find name) s t small e = found_cut (find name v) (find name w) s t small e
-reply_cut origin v w (Walk stretch) s t small e =
-    names_cut (codes "WALK") (codes "WALK") (record { in_line = refl; in_one = refl }) (record { in_line = refl; in_one = refl }) (walk stretch.start stretch.most v) (walk stretch.start stretch.most w) s t small e
-reply_cut origin v w (Back stretch) s t small e =
-    names_cut (codes "BACK") (codes "BACK") (record { in_line = refl; in_one = refl }) (record { in_line = refl; in_one = refl }) (back stretch.start stretch.most v) (back stretch.start stretch.most w) s t small e
-reply_cut origin v w Dump s t small e = rows_cut (codes "DUMP") (codes "DUMP") (record { in_line = refl; in_one = refl }) (record { in_line = refl; in_one = refl }) (all_rows v) (all_rows w) s t small e
-reply_cut origin v w Stat s t small e =
-    (line_cut (size_text (length v) (node_count v)) (size_text (length w) (node_count w)) s t (size_line (length v) (node_count v)) (size_line (length w) (node_count w)) e).1
+reply_cut origin v w question s t small e = form_cut (form_of origin question) v w s t small e

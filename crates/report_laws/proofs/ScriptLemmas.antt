@@ -1,7 +1,7 @@
 -- What the operations of scripts of octets are.
 use Rattle.std.proofs.Common.{◌≡◌, ℕ, Bool, true, false, cond, List, [], ◌∷◌, Option, Some, None, Result, Ok, Err, refl, sym, ap, subst, codes}
 use Rattle.std.specs.List.{AllByRecursion}
-use Rattle.std.specs.Option.{option_map}
+use Rattle.std.specs.Option.{option_map, option_or}
 use Rattle.zone_model.specs.Refusals.{Refused, ◌>>=◌}
 use Rattle.zone_model.specs.Names.{Name, IsName, is_under}
 use Rattle.zone_model.specs.Versions.{Operation, Add, DeleteName, DeleteSet, DeleteRecord}
@@ -15,7 +15,10 @@ use Rattle.dns_name.proofs.BodyLemmas.{all_push}
 use Rattle.job_model.specs.declared.ScriptKind.{ScriptKind}
 use Rattle.job_model.specs.declared.ScriptKind.TheVariants.{BadName, BadType, BadNumber}
 use Rattle.job_model.specs.Commands.{Command, Ask, Hold, AskHeld, Release, Block, Compact}
-use Rattle.job_model.specs.Phrases.{Asked, Phrase, Worker, Asks, Holds, AsksHeld, Releases, Opens, Needs, Adds, Deletes, Ends, Compacts, without_parens, script_tokens, asked_of, lone_word, adds, needs, says, phrase_of}
+use Rattle.job_model.specs.declared.Question.{Question}
+use Rattle.job_model.specs.Words.{says}
+use Rattle.job_model.specs.Questions.{asked_of}
+use Rattle.job_model.specs.Phrases.{Phrase, Worker, Asks, Holds, AsksHeld, Releases, Opens, Needs, Adds, Deletes, Ends, Compacts, without_parens, script_tokens, lone_word, adds, needs, argued, no_question, phrase_of}
 use Rattle.job_model.specs.Arguments.{needed, inner_name, octets_needed, addition_of, deletion_of}
 use Rattle.job_model.proofs.ScriptLaws.{IsKept, IsLone, IsOn, free, operation_of, script_whole, list_whole}
 use Rattle.job_model.specs.Jobs.{Unfinished, Script, next_worker, script_of, list_of}
@@ -52,10 +55,10 @@ IsPhrase Compacts = Unit {0}
 so_is : (x phrase : Phrase) → IsPhrase x → Some x ≡ Some phrase → IsPhrase phrase
 so_is x phrase p h = let is : x ≡ phrase = cc in subst IsPhrase is p
 
-asks_is : (o : Option Asked) (phrase : Phrase) → option_map Asks o ≡ Some phrase → IsPhrase phrase
-asks_is o phrase h = let m = map_some Asks o phrase h in subst IsPhrase m.2 tt
+never : (phrase : Phrase) → ◌≡◌ {A = Option Phrase} None (Some phrase) → IsPhrase phrase
+never phrase h = absurd cc
 
-held_is : (o : Option Asked) (phrase : Phrase) → option_map AsksHeld o ≡ Some phrase → IsPhrase phrase
+held_is : (o : Option (Result Question ScriptKind)) (phrase : Phrase) → option_map AsksHeld o ≡ Some phrase → IsPhrase phrase
 held_is o phrase h = let m = map_some AsksHeld o phrase h in subst IsPhrase m.2 tt
 
 word_is : (w : Token) (phrase : Phrase) → lone_word w ≡ Some phrase → IsPhrase phrase
@@ -68,7 +71,7 @@ word_is w phrase h =
     (either (says w (codes "commit")) _ _ (Some phrase) (so_is (Ends _) phrase tt)
     (either (says w (codes "rollback")) _ _ (Some phrase) (so_is (Ends _) phrase tt)
     (either (says w (codes "compact")) _ _ (Some phrase) (so_is Compacts phrase tt)
-    (asks_is (asked_of (w ∷ [])) phrase)))))))) h
+    (never phrase)))))))) h
 
 adds_is : (owner : Token) (rest : List Token) (phrase : Phrase) → IsTokenText owner → AllTexts rest → adds owner rest ≡ Some phrase → IsPhrase phrase
 adds_is owner [] phrase o t h = absurd cc
@@ -81,17 +84,27 @@ needs_is wanted owner [] phrase h = so_is (Needs wanted owner None) phrase tt h
 needs_is wanted owner (rtype ∷ []) phrase h = so_is (Needs wanted owner (Some rtype)) phrase tt h
 needs_is wanted owner (rtype ∷ other ∷ rest) phrase h = absurd cc
 
-phrase_is : (tokens : List Token) (phrase : Phrase) → AllTexts tokens → phrase_of tokens ≡ Some phrase → IsPhrase phrase
-unfolding phrase_of
-phrase_is [] phrase t h = absurd cc
-phrase_is (w ∷ []) phrase t h = word_is w phrase h
-phrase_is (w ∷ first ∷ rest) phrase t h =
-    either (says w (codes "add")) _ _ (Some phrase) (adds_is first rest phrase t.1.0 t.1.1)
-    (either (says w (codes "del")) _ _ (Some phrase) (so_is (Deletes first rest) phrase t.1.0)
-    (either (says w (codes "at")) _ _ (Some phrase) (held_is (asked_of (first ∷ rest)) phrase)
+argued_is : (origin : Name) (w first : Token) (rest : List Token) (phrase : Phrase) → IsTokenText first → AllTexts rest → argued origin w first rest ≡ Some phrase → IsPhrase phrase
+argued_is origin w first rest phrase f t h =
+    either (says w (codes "add")) _ _ (Some phrase) (adds_is first rest phrase f t)
+    (either (says w (codes "del")) _ _ (Some phrase) (so_is (Deletes first rest) phrase f)
+    (either (says w (codes "at")) _ _ (Some phrase) (held_is (asked_of origin first rest) phrase)
     (either (says w (codes "need")) _ _ (Some phrase) (needs_is true first rest phrase)
     (either (says w (codes "neednot")) _ _ (Some phrase) (needs_is false first rest phrase)
-    (asks_is (asked_of (w ∷ first ∷ rest)) phrase))))) h
+    (never phrase))))) h
+
+other_is : (origin : Name) (w : Token) (arguments : List Token) (phrase : Phrase) → AllTexts arguments → no_question origin w arguments ≡ Some phrase → IsPhrase phrase
+other_is origin w [] phrase t h = word_is w phrase h
+other_is origin w (first ∷ rest) phrase t h = argued_is origin w first rest phrase t.0 t.1 h
+
+asked_or : (asked : Option (Result Question ScriptKind)) (other : Option Phrase) (phrase : Phrase) → (other ≡ Some phrase → IsPhrase phrase) → option_or (option_map Asks asked) other ≡ Some phrase → IsPhrase phrase
+asked_or None other phrase is h = is h
+asked_or (Some asked) other phrase is h = so_is (Asks asked) phrase tt h
+
+phrase_is : (origin : Name) (tokens : List Token) (phrase : Phrase) → AllTexts tokens → phrase_of origin tokens ≡ Some phrase → IsPhrase phrase
+unfolding phrase_of
+phrase_is origin [] phrase t h = absurd cc
+phrase_is origin (w ∷ arguments) phrase t h = asked_or (asked_of origin w arguments) (no_question origin w arguments) phrase (other_is origin w arguments phrase t.1) h
 
 -- ---- operations
 
@@ -193,8 +206,8 @@ operation_said origin n (Deletes owner rest) operation o p e = deletion_is origi
 operation_said origin n (Ends ending) operation o p e = absurd cc
 operation_said origin n Compacts operation o p e = absurd cc
 
-on_line : (origin : Name) (n : ℕ) (line : List ℕ) (phrase : Phrase) (operation : Operation) → IsName origin → AllOctets line → IsOn n line phrase → operation_of origin n phrase ≡ Ok operation → IsSaid origin operation
-on_line origin n line phrase operation o l on e = operation_said origin n phrase operation o (phrase_is on.tokens phrase (tokens_are n line on.tokens l on.scanned) on.said) e
+on_line : (origin : Name) (n : ℕ) (line : List ℕ) (phrase : Phrase) (operation : Operation) → IsName origin → AllOctets line → IsOn origin n line phrase → operation_of origin n phrase ≡ Ok operation → IsSaid origin operation
+on_line origin n line phrase operation o l on e = operation_said origin n phrase operation o (phrase_is origin on.tokens phrase (tokens_are n line on.tokens l on.scanned) on.said) e
 
 kept : (origin : Name) → IsName origin → IsKept origin AllOctets (IsScript origin)
 kept origin o = record {

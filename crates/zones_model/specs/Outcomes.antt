@@ -7,6 +7,7 @@ use Rattle.zone_model.specs.MasterFile.{Zone}
 use Rattle.zone_model.specs.Transactions.{Transaction}
 use Rattle.zone_model.specs.Versions.{Version}
 use Rattle.job_model.specs.Commands as asks
+use Rattle.job_model.specs.declared.Question.TheVariants as question
 use Rattle.job_model.specs.Outcomes as one
 use Rattle.job_model.specs.declared.Ending.{Ending}
 use Rattle.job_model.specs.declared.Weight.{Weight}
@@ -39,7 +40,7 @@ command_of (Detached zone table refused) = Detach zone
 -- what a question tells of a zone
 abbrev pub pair_shown : ℕ → Name → ℕ → Option Shown → List one.Pair
 pair_shown zone name rtype None = []
-pair_shown zone name rtype (Some s) = if s.zone == zone then (asks.Ask (asks.Get name rtype), record { version = s.version; ended = one.Shown }) ∷ [] else []
+pair_shown zone name rtype (Some s) = if s.zone == zone then (asks.Ask (question.Get name rtype), record { version = s.version; ended = one.Shown }) ∷ [] else []
 
 -- a command as one of a zone with its outcome there, if it is of that zone
 abbrev pub pairs_in : ℕ → Done → List one.Pair

@@ -10,6 +10,7 @@ use Rattle.zone_model.specs.MasterFile.{Zone}
 use Rattle.zone_model.specs.Versions.{Version}
 use Rattle.zone_query.specs.Answers.{answer}
 use Rattle.job_model.specs.Commands as jobs
+use Rattle.job_model.specs.declared.Question.TheVariants as question
 use Rattle.job_model.specs.Replies as replies
 use Rattle.job_model.specs.Reports.{ended_text}
 use Rattle.job_script.specs.Outcomes.{ended_view, told_text}
@@ -46,7 +47,7 @@ answer_told zones set w c name rtype table a t =
     let o = a.outcome in
     let origin = (get_or zones a.zone no_zone).origin in
     ap (λ (text : List ℕ). table_head w c table ++ (text ++ replies.answer_text (answer origin (set a.zone o.version) name rtype))) (version-at zones a.zone o.version)
-    ∙ ap (λ (text : List ℕ). table_head w c table ++ (zone_version (origins_of zones) a.zone o.version ++ text)) (command_told origin (set a.zone) (jobs.Ask (jobs.Get name rtype)) o t)
+    ∙ ap (λ (text : List ℕ). table_head w c table ++ (zone_version (origins_of zones) a.zone o.version ++ text)) (command_told origin (set a.zone) (jobs.Ask (question.Get name rtype)) o t)
 
 done_told : (zones : List Zone) (set : ℕ → ℕ → Version) (w c : ℕ) (x : Command) (d : Done) → Tells zones set x d → report.done_text zones set w c (done_view x d) ≡ done_text (origins_of zones) w c d
 done_told zones set w c (Get name rtype) (Got table None) t = refl

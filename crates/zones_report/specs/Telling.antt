@@ -3,7 +3,7 @@ use Rattle.std.specs.Prelude.{◌≡◌, ℕ, List, [], ◌∷◌, length, Optio
 use Rattle.zone_model.specs.Names.{Name}
 use Rattle.zone_model.specs.Versions.{Version}
 use Rattle.zone_model.specs.MasterFile.{Zone}
-use Rattle.job_model.specs.Commands as jobs
+use Rattle.job_model.specs.declared.Question.TheVariants as question
 use Rattle.job_model.specs.Replies.{reply_of}
 use Rattle.job_script.specs.Outcomes.{EndsBlock, Replies}
 use Rattle.zones_model.specs.Commands as model
@@ -22,7 +22,7 @@ use Rattle.zones_report.specs.Outcomes.{all_dones_view}
 -- the text of an answer is what the version of the zone replies that it shows
 abbrev pub Answers : List Zone → (ℕ → ℕ → Version) → Name → ℕ → Option Answer → Type 0
 Answers zones set name rtype None = Unit {0}
-Answers zones set name rtype (Some a) = Replies (reply_of (slice_index_or zones a.zone no_zone).origin (set a.zone a.outcome.version) (jobs.Get name rtype)) a.outcome.told
+Answers zones set name rtype (Some a) = Replies (reply_of (slice_index_or zones a.zone no_zone).origin (set a.zone a.outcome.version) (question.Get name rtype)) a.outcome.told
 
 -- What became of a command is of the command's kind and zone.
 abbrev pub Tells : List Zone → (ℕ → ℕ → Version) → model.Command → Done → Type 0

@@ -12,7 +12,8 @@ use Rattle.job_model.specs.declared.Ending.{Ending}
 use Rattle.job_model.specs.declared.Weight.{Weight}
 use Rattle.job_model.specs.declared.Weight.TheVariants.{Light, Heavy}
 use Rattle.job_model.specs.Commands.{Command, Block}
-use Rattle.job_model.specs.Phrases.{Phrase, Worker, Asks, Holds, AsksHeld, Releases, Opens, Needs, Adds, Deletes, Ends, Compacts, phrase_of, script_tokens, asked_of}
+use Rattle.job_model.specs.Phrases.{Phrase, Worker, Asks, Holds, AsksHeld, Releases, Opens, Needs, Adds, Deletes, Ends, Compacts, phrase_of, script_tokens}
+use Rattle.job_model.specs.Questions.{asked_of}
 use Rattle.job_model.specs.Arguments.{refuse, prerequisite_of, addition_of, deletion_of}
 use Rattle.job_model.specs.Jobs.{Unfinished, Script, need_limit, operation_limit, with_command, with_need, needed_first, with_operation, joined, may_end, ended, inside, may_stand, by_block, taken, tokens_say, script_line, script_from, opened, no_lines}
 use Rattle.zones_script.specs.Told.{opening}
@@ -105,7 +106,7 @@ begun w (Some b) commands here = here
 tokens_kept : (w : Weight) (origin : Name) (n : ℕ) (s : Script) (tokens : Option (List Token)) → IsOpen w s.block s.commands → IsFirst s → Kept w (tokens_say origin n s tokens)
 tokens_kept w origin n s None here first = tt
 tokens_kept w origin n s (Some []) here first = (begun w s.block s.commands here, first)
-tokens_kept w origin n s (Some (t ∷ tokens)) here first = by_phrase (phrase_of (t ∷ tokens))
+tokens_kept w origin n s (Some (t ∷ tokens)) here first = by_phrase (phrase_of origin (t ∷ tokens))
   where
     by_phrase : (p : Option Phrase) → Kept w (taken origin n s p)
     by_phrase None = tt

@@ -1,7 +1,7 @@
 -- What the tokens of a line outside blocks are, by the command word and the number of tokens.
 use Rattle.std.specs.Prelude.{List, [], ◌∷◌, if◌then◌else◌, Option, Some, None, codes}
 use Rattle.zone_model.specs.Tokens.{Token}
-use Rattle.job_model.specs.Phrases.{says}
+use Rattle.job_model.specs.Words.{says}
 use Rattle.job_model.specs.declared.Weight.{Weight}
 use Rattle.job_model.specs.declared.Weight.TheVariants.{Light, Heavy}
 

@@ -2,12 +2,12 @@
 ghost use Rattle.std.specs.Prelude.{◌≡◌, ◌<◌, ◌∷◌, map, Some, None, Option, IfSome};
 ghost use Rattle.std.specs.Option.{option_map};
 ghost use Rattle.std.specs.List.{All};
-ghost use Rattle.job_model.specs.Phrases as words;
 ghost use Rattle.zone_text.specs.Tokens.{IsPlaced, token_view};
 ghost use Rattle.zones_script.specs.Phrases as phrases;
 ghost use Rattle.zones_script.specs.Views.{phrase_view, PhrasePlaced};
 
 use job_model::Weight;
+use job_script::says;
 use zone_text::Token;
 
 /// What a line says, with the tokens of its arguments.
@@ -23,17 +23,6 @@ pub enum Phrase {
     Attaches(Token),
     /// It leaves it.
     Detaches(Token),
-}
-
-// Whether a token is a command word.
-fn says(bytes: &[u8], token: Token, word: &[u8]) -> bool
-    requires { IsPlaced bytes.now token }
-    ensures { result ≡ words.says (token_view bytes.now token) word.now }
-{
-    if token.quoted {
-        return false;
-    }
-    token.text(bytes) == word
 }
 
 // A word with an origin behind it.

@@ -8,6 +8,8 @@ use Rattle.std.proofs.lemmas.List.Elements.{Contains-append_cases}
 use Rattle.pin_core.proofs.Lists.{contains_cases}
 use Rattle.zone_model.specs.Names.{Name}
 use Rattle.job_model.specs.Commands as jobs
+use Rattle.job_model.specs.declared.Question.{Question}
+use Rattle.job_model.specs.declared.Question.TheVariants as question
 use Rattle.job_script.specs.declared.outcomes.Outcome.{Outcome}
 use Rattle.job_script.specs.declared.outcomes.Outcomes.{Outcomes}
 use Rattle.shared_cells.specs.declared.view.TableSize.{TableSize}
@@ -61,12 +63,12 @@ at_most_one : (b : Bool) (p : Part) → length (cond b (p ∷ []) []) ≤ 1
 at_most_one true p = omega arith
 at_most_one false p = omega arith
 
-short_answer : (zone : ℕ) (question : jobs.Question) (answer : Option Answer) → length (answer_part zone question answer) ≤ 1
+short_answer : (zone : ℕ) (question : Question) (answer : Option Answer) → length (answer_part zone question answer) ≤ 1
 short_answer zone question None = omega arith
 short_answer zone question (Some a) = at_most_one (eqb a.zone zone) (record { command = jobs.Ask question; outcome = a.outcome })
 
 short_part : (zone : ℕ) (c : Command) (d : Done) → length (part_in zone c d) ≤ 1
-short_part zone (model.Get name rtype) (done.Got table answer) = short_answer zone (jobs.Get name rtype) answer
+short_part zone (model.Get name rtype) (done.Got table answer) = short_answer zone (question.Get name rtype) answer
 short_part zone (model.Block changed w asked ending) (done.Ran ran o) = at_most_one (eqb changed zone) (record { command = jobs.Block w asked ending; outcome = o })
 short_part zone (model.Get name rtype) (done.Ran ran o) = omega arith
 short_part zone (model.Get name rtype) (done.Attached table refused) = omega arith

@@ -8,7 +8,8 @@ use Rattle.zone_model.specs.Names.{Name}
 use Rattle.zone_model.specs.Transactions.{Transaction}
 use Rattle.job_model.specs.declared.Ending.{Ending}
 use Rattle.job_model.specs.declared.Weight.{Weight}
-use Rattle.job_model.specs.Commands.{Question, Ask, Block}
+use Rattle.job_model.specs.declared.Question.{Question}
+use Rattle.job_model.specs.Commands.{Ask, Block}
 use Rattle.job_script.specs.Outcomes.{EndsBlock}
 use Rattle.job_script.specs.declared.outcomes.Outcome.{Outcome}
 use Rattle.shared_cells.specs.Views.{is_told}

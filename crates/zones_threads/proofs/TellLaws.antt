@@ -8,6 +8,7 @@ use Rattle.zone_model.specs.MasterFile.{Zone}
 use Rattle.zone_model.specs.Names.{Name}
 use Rattle.zone_model.specs.Versions.{Version}
 use Rattle.job_model.specs.Commands as jobs
+use Rattle.job_model.specs.declared.Question.TheVariants as question
 use Rattle.job_script.specs.Outcomes.{AllTell, EachTells}
 use Rattle.job_script.specs.declared.outcomes.Outcome.{Outcome}
 use Rattle.job_script.specs.declared.outcomes.Outcomes.{Outcomes}
@@ -68,8 +69,8 @@ module _ (zones : List Zone) (set : ℕ → ℕ → Version) (attached : ℕ →
       let n = for_some (attached table) Origins name k is in
       let lt : a.zone < length Origins = subst (λ (m : ℕ). m < length Origins) (sym same) (slice_get_within Origins k n.origin n.there) in
       let z = zone_of a.zone lt in
-      let t = chosen a.zone z.0.origin (set a.zone) (record { command = jobs.Ask (jobs.Get name rtype); outcome = a.outcome }) (tells a.zone z.0 z.1) in
-      let there = subst (λ (x : Zone). EachTells x.origin (set a.zone) (jobs.Ask (jobs.Get name rtype) ∷ []) (a.outcome ∷ [])) (sym (get_or_from_slice_get zones a.zone z.0 no_zone z.1)) t in
+      let t = chosen a.zone z.0.origin (set a.zone) (record { command = jobs.Ask (question.Get name rtype); outcome = a.outcome }) (tells a.zone z.0 z.1) in
+      let there = subst (λ (x : Zone). EachTells x.origin (set a.zone) (jobs.Ask (question.Get name rtype) ∷ []) (a.outcome ∷ [])) (sym (get_or_from_slice_get zones a.zone z.0 no_zone z.1)) t in
       there.0
 
   got_tells : (name : Name) (rtype table : ℕ) (answer : Option Answer) → option_map (λ (s : model_outcomes.Shown). s.zone) (option_map shown_view answer) ≡ zone_for (attached table) Origins name

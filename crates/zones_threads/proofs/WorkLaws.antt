@@ -5,6 +5,7 @@ use Rattle.std.proofs.lemmas.List.{map-append}
 use Rattle.std.proofs.lemmas.Option.{slice_get_within}
 use Rattle.zone_model.specs.Names.{Name}
 use Rattle.job_model.specs.Commands as jobs
+use Rattle.job_model.specs.declared.Question.TheVariants as question
 use Rattle.job_model.specs.Commands.{NeedsNoSnapshot, MayCome, InTurn}
 use Rattle.job_script.specs.declared.outcomes.Outcome.{Outcome}
 use Rattle.shared_cells.specs.Views.{is_told}
@@ -72,9 +73,9 @@ plain_if : (b : Bool) (p : Part) → IsPlain p → AllByRecursion IsPlain (cond 
 plain_if true p plain = (plain, tt)
 plain_if false p plain = tt
 
-plain_answer : (zone : ℕ) (name : Name) (rtype : ℕ) (answer : Option Answer) → AllByRecursion IsPlain (answer_part zone (jobs.Get name rtype) answer)
+plain_answer : (zone : ℕ) (name : Name) (rtype : ℕ) (answer : Option Answer) → AllByRecursion IsPlain (answer_part zone (question.Get name rtype) answer)
 plain_answer zone name rtype None = tt
-plain_answer zone name rtype (Some a) = plain_if (eqb a.zone zone) (record { command = jobs.Ask (jobs.Get name rtype); outcome = a.outcome }) tt
+plain_answer zone name rtype (Some a) = plain_if (eqb a.zone zone) (record { command = jobs.Ask (question.Get name rtype); outcome = a.outcome }) tt
 
 plain_part : (zone : ℕ) (c : Command) (d : Done) → AllByRecursion IsPlain (part_in zone c d)
 plain_part zone (model.Get name rtype) (done.Got table answer) = plain_answer zone name rtype answer

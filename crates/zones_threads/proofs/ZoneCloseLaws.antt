@@ -6,6 +6,7 @@ use Rattle.std.proofs.lemmas.List.{map-append}
 use Rattle.zone_model.specs.Names.{Name}
 use Rattle.zone_model.specs.Versions.{Version}
 use Rattle.job_model.specs.Commands as jobs
+use Rattle.job_model.specs.declared.Question.TheVariants as question
 use Rattle.job_model.specs.Outcomes as one
 use Rattle.job_model.specs.Outcomes.{Pair, Ended, Lawful}
 use Rattle.job_script.specs.Outcomes.{outcome_view, pairs_of, job_pairs}
@@ -34,10 +35,10 @@ same_if : (b : Bool) (x : Pair) (p : Part) → x ≡ pair_of p → cond b (x ∷
 same_if true x p e = ap (λ (y : Pair). y ∷ []) e
 same_if false x p e = refl
 
-same_answer : (zone : ℕ) (name : Name) (rtype : ℕ) (answer : Option Answer) → IsShown answer → model_outcomes.pair_shown zone name rtype (option_map shown_view answer) ≡ map pair_of (answer_part zone (jobs.Get name rtype) answer)
+same_answer : (zone : ℕ) (name : Name) (rtype : ℕ) (answer : Option Answer) → IsShown answer → model_outcomes.pair_shown zone name rtype (option_map shown_view answer) ≡ map pair_of (answer_part zone (question.Get name rtype) answer)
 same_answer zone name rtype None shown = refl
 same_answer zone name rtype (Some a) shown =
-    let ask : jobs.Command = jobs.Ask (jobs.Get name rtype) in
+    let ask : jobs.Command = jobs.Ask (question.Get name rtype) in
     let version = a.outcome.version in
     same_if (eqb a.zone zone) (ask, record { version = version; ended = one.Shown }) (record { command = ask; outcome = a.outcome }) (ap (λ (e : Ended). (ask, record { version = version; ended = e })) (sym shown))
 

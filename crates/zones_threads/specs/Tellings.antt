@@ -3,8 +3,8 @@ use Rattle.std.specs.Prelude.{ℕ, List, [], ◌∷◌, Option, Some, None, slic
 use Rattle.zone_model.specs.MasterFile.{Zone}
 use Rattle.zone_model.specs.Names.{Name}
 use Rattle.zone_model.specs.Versions.{Version}
-use Rattle.zone_query.specs.Answers.{answer}
-use Rattle.job_model.specs.Replies.{OfGet}
+use Rattle.job_model.specs.declared.Question.TheVariants as question
+use Rattle.job_model.specs.Replies.{reply_of}
 use Rattle.job_script.specs.Outcomes.{EachTells, EndsBlock, Replies}
 use Rattle.zones_model.specs.Commands.{Command, Get, Block}
 use Rattle.zones_model.specs.Reports.{no_zone}
@@ -17,7 +17,7 @@ use Rattle.zones_threads.specs.Views.{Part, commands_of, outcomes_of}
 -- the text is that of what the version answers that is shown
 abbrev pub AnswerTells : List Zone → (ℕ → ℕ → Version) → Name → ℕ → Option Answer → Type 0
 AnswerTells zones set name rtype None = Unit {0}
-AnswerTells zones set name rtype (Some a) = Replies (OfGet (answer (slice_index_or zones a.zone no_zone).origin (set a.zone a.outcome.version) name rtype)) a.outcome.told
+AnswerTells zones set name rtype (Some a) = Replies (reply_of (slice_index_or zones a.zone no_zone).origin (set a.zone a.outcome.version) (question.Get name rtype)) a.outcome.told
 
 abbrev pub DoneTells : List Zone → (ℕ → ℕ → Version) → Command → Done → Type 0
 DoneTells zones set (Get name rtype) (done.Got table answer) = AnswerTells zones set name rtype answer

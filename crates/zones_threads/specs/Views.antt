@@ -2,6 +2,8 @@
 use Rattle.std.specs.Prelude.{◌≡◌, ℕ, List, [], ◌∷◌, ◌++◌, map, ◌==◌, if◌then◌else◌, Option, Some, None}
 use Rattle.std.specs.Option.{option_map}
 use Rattle.job_model.specs.Commands as jobs
+use Rattle.job_model.specs.declared.Question.{Question}
+use Rattle.job_model.specs.declared.Question.TheVariants as question
 use Rattle.job_model.specs.Outcomes.{Shown}
 use Rattle.job_script.specs.Outcomes.{ended_view, outcome_view}
 use Rattle.job_script.specs.Views.{asked_view}
@@ -27,13 +29,13 @@ pub record Part : Type 0 where
   pub command : jobs.Command
   pub outcome : Outcome
 
-abbrev pub answer_part : ℕ → jobs.Question → Option Answer → List Part
+abbrev pub answer_part : ℕ → Question → Option Answer → List Part
 answer_part zone question None = []
 answer_part zone question (Some a) = if a.zone == zone then record { command = jobs.Ask question; outcome = a.outcome } ∷ [] else []
 
 -- what became of a command, as of a zone's, if it is of that zone
 abbrev pub part_in : ℕ → model.Command → Done → List Part
-part_in zone (model.Get name rtype) (done.Got table answer) = answer_part zone (jobs.Get name rtype) answer
+part_in zone (model.Get name rtype) (done.Got table answer) = answer_part zone (question.Get name rtype) answer
 part_in zone (model.Block changed weight asked ending) (done.Ran ran o) = if changed == zone then record { command = jobs.Block weight asked ending; outcome = o } ∷ [] else []
 part_in zone c d = []
 

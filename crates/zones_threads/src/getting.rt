@@ -5,7 +5,7 @@ ghost use Rattle.zone_table.specs.Passes.{IsPassOf};
 ghost use Rattle.zones_threads.specs.Steps.{Goes};
 
 use dns_name::Name;
-use job_script::Question;
+use job_model::Question;
 use job_threads::{Room, ZoneLaw, run_question};
 use shared_index::Named;
 use std::alloc::{AllocError, Global};

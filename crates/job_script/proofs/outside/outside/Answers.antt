@@ -1,26 +1,34 @@
-use Rattle.std.proofs.Common.{sym, subst}
+use Rattle.std.proofs.Common.{◌≡◌, ℕ, List, Result, sym, subst}
+use Rattle.zone_model.specs.Names.{Name}
 use Rattle.job_model.specs.Jobs as jobs
 use Rattle.job_script.specs.Phrases.{phrase_view}
 use Rattle.job_script.specs.Scripts.{script_view, ScriptReads}
 use Rattle.job_script.specs.declared.phrases.Phrase.{Phrase}
+use Rattle.job_script.specs.declared.refusal.JobRefusal.{JobRefusal}
 use Rattle.job_script.proofs.outside.outside.Goals as goal
 
+-- what a phrase's own function reads is read of the phrase
+read : {R : Type 0} (bytes : List ℕ) (origin : Name) (line : ℕ) (old new : jobs.Script) (result : Result R JobRefusal) (phrase is : Phrase) → phrase ≡ is
+    → ScriptReads result new (jobs.outside origin line (phrase_view bytes is) old) → ScriptReads result new (jobs.outside origin line (phrase_view bytes phrase) old)
+read bytes origin line old new result phrase is e = subst (λ (p : Phrase). ScriptReads result new (jobs.outside origin line (phrase_view bytes p) old)) (sym e)
+
 pub returns-in-Worker : goal.returns-in-Worker
-returns-in-Worker c =
-    subst (λ (p : Phrase). ScriptReads c.begin_worker.result (script_view c.begin_worker.new.script) (jobs.outside c.args.origin.now c.args.line (phrase_view c.args.bytes.now p) (script_view c.args.script.now))) (sym c.in-Worker.is) (c.begin_worker.ensures c.args.origin.now)
+returns-in-Worker c = λ bytes origin. read bytes origin c.args.line (script_view c.args.script.now) _ _ _ _ c.in-Worker.is (c.begin_worker.ensures origin)
+
+pub returns-in-Asks : goal.returns-in-Asks
+returns-in-Asks c = λ bytes origin. read bytes origin c.args.line (script_view c.args.script.now) _ _ _ _ c.in-Asks.is (c.add_question.ensures origin)
 
 pub returns-in-Holds : goal.returns-in-Holds
-returns-in-Holds c =
-    subst (λ (p : Phrase). ScriptReads c.hold.result (script_view c.hold.new.script) (jobs.outside c.args.origin.now c.args.line (phrase_view c.args.bytes.now p) (script_view c.args.script.now))) (sym c.in-Holds.is) (c.hold.ensures c.args.origin.now)
+returns-in-Holds c = λ bytes origin. read bytes origin c.args.line (script_view c.args.script.now) _ _ _ _ c.in-Holds.is (c.hold.ensures origin)
+
+pub returns-in-AsksHeld : goal.returns-in-AsksHeld
+returns-in-AsksHeld c = λ bytes origin. read bytes origin c.args.line (script_view c.args.script.now) _ _ _ _ c.in-AsksHeld.is (c.add_held_question.ensures origin)
 
 pub returns-in-Releases : goal.returns-in-Releases
-returns-in-Releases c =
-    subst (λ (p : Phrase). ScriptReads c.release.result (script_view c.release.new.script) (jobs.outside c.args.origin.now c.args.line (phrase_view c.args.bytes.now p) (script_view c.args.script.now))) (sym c.in-Releases.is) (c.release.ensures c.args.origin.now)
+returns-in-Releases c = λ bytes origin. read bytes origin c.args.line (script_view c.args.script.now) _ _ _ _ c.in-Releases.is (c.release.ensures origin)
 
 pub returns-in-Opens : goal.returns-in-Opens
-returns-in-Opens c =
-    subst (λ (p : Phrase). ScriptReads c.open_block.result (script_view c.open_block.new.script) (jobs.outside c.args.origin.now c.args.line (phrase_view c.args.bytes.now p) (script_view c.args.script.now))) (sym c.in-Opens.is) (c.open_block.ensures c.args.origin.now)
+returns-in-Opens c = λ bytes origin. read bytes origin c.args.line (script_view c.args.script.now) _ _ _ _ c.in-Opens.is (c.open_block.ensures origin)
 
 pub returns-in-Compacts : goal.returns-in-Compacts
-returns-in-Compacts c =
-    subst (λ (p : Phrase). ScriptReads c.compact.result (script_view c.compact.new.script) (jobs.outside c.args.origin.now c.args.line (phrase_view c.args.bytes.now p) (script_view c.args.script.now))) (sym c.in-Compacts.is) (c.compact.ensures c.args.origin.now)
+returns-in-Compacts c = λ bytes origin. read bytes origin c.args.line (script_view c.args.script.now) _ _ _ _ c.in-Compacts.is (c.compact.ensures origin)

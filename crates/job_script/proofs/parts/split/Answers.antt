@@ -3,8 +3,9 @@ use Rattle.job_script.proofs.parts.split.Goals as goal
 use Rattle.std.proofs.Common.{◌∙◌, sym, ap, arith}
 use Rattle.std.specs.List.{slice_range}
 use Rattle.std.specs.Str.{bytes_eq}
+use Rattle.zone_text.proofs.CutLemmas.{next_place}
 use Rattle.job_model.specs.Jobs.{is_cut}
-use Rattle.job_script.proofs.PartsLemmas.{cut_here, never_cut, searched_more, next_place}
+use Rattle.job_script.proofs.PartsLemmas.{cut_here, never_cut, searched_more}
 
 -- src/parts.rt:28:13
 pub returns-then-eq : goal.returns-then-eq

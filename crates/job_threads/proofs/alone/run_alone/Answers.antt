@@ -1,5 +1,5 @@
 use Rattle.std.proofs.Common.{sym, subst}
-use Rattle.job_script.specs.Views.{asked_view, question_view}
+use Rattle.job_script.specs.Views.{asked_view}
 use Rattle.job_script.proofs.ReportLemmas.{if_ok}
 use Rattle.shared_index.specs.Compactions.{Compacts}
 use Rattle.shared_index.specs.Passes.{known_at}
@@ -12,7 +12,7 @@ pub returns-in-Ask-clause-steps : goal.returns-in-Ask-clause-steps
 returns-in-Ask-clause-steps g c = λ s setup spare held placed under.
     let old = c.args.pass.now.seat in
     let new = c.run_question.new.pass.seat in
-    let question = question_view c.in-Ask.question in
+    let question = c.in-Ask.question in
     if_ok c.run_question.result
     (λ o a. step_is s o _ _ c.args.command.now _ c.in-Ask.is
     (ask_done s o old c.requires.here setup.opening spare held placed under new question (subst (λ n. Asked n question (known_at old) (known_at new) o) (sym setup.index.origin_is) a)))

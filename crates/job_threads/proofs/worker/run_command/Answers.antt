@@ -1,7 +1,6 @@
 use Rattle.std.proofs.Common.{Some, None, refl, sym, subst}
 use Rattle.std.specs.Option.{option_map}
 use Rattle.job_model.specs.Commands.{AskHeld}
-use Rattle.job_script.specs.Views.{question_view}
 use Rattle.shared_index.specs.Passes.{first_version, known_at}
 use Rattle.job_threads.specs.Histories.{Setup}
 use Rattle.job_threads.specs.Steps.{Step}
@@ -28,7 +27,7 @@ returns-in_ok-outcome-in-Ask-clause-opens g c =
 pub returns-in_ok-outcome-in-AskHeld-clause-steps : goal.returns-in_ok-outcome-in-AskHeld-clause-steps
 returns-in_ok-outcome-in-AskHeld-clause-steps g c = λ s setup under.
     step_is s c.in_ok-outcome-in-AskHeld.outcome _ _ c.args.command.now _ c.in-AskHeld.is
-    (subst (λ p. Step s (AskHeld (question_view c.in-AskHeld.question)) c.in_ok-outcome-in-AskHeld.outcome (station c.args.passes.now.asks.seat (option_map (λ p. p.seat) c.args.passes.now.spare) (option_map (λ h. h.seat) c.args.passes.now.held)) (station p.asks.seat (option_map (λ p. p.seat) p.spare) (option_map (λ h. h.seat) p.held))) (sym c.in_ok-outcome-in-AskHeld.ensures.same)
+    (subst (λ p. Step s (AskHeld c.in-AskHeld.question) c.in_ok-outcome-in-AskHeld.outcome (station c.args.passes.now.asks.seat (option_map (λ p. p.seat) c.args.passes.now.spare) (option_map (λ h. h.seat) c.args.passes.now.held)) (station p.asks.seat (option_map (λ p. p.seat) p.spare) (option_map (λ h. h.seat) p.held))) (sym c.in_ok-outcome-in-AskHeld.ensures.same)
     (c.in_ok-outcome-in-AskHeld.ensures.steps s setup.index.origin_is setup.opening under))
 
 pub returns-in-Release-clause-steps : goal.returns-in-Release-clause-steps

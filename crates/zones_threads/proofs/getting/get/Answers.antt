@@ -2,7 +2,8 @@ use Rattle.std.proofs.Common.{◌≡◌, ◌∙◌, ◌<◌, length, sym, ap, su
 use Rattle.std.specs.List.{slice_get}
 use Rattle.std.proofs.lemmas.Option.{slice_get_within}
 use Rattle.zone_model.specs.Names.{Name}
-use Rattle.job_model.specs.Commands.{Ask, Get}
+use Rattle.job_model.specs.Commands.{Ask}
+use Rattle.job_model.specs.declared.Question.TheVariants.{Get}
 use Rattle.shared_index.specs.Passes.{Known, version_seen}
 use Rattle.job_threads.specs.Commands.{Asked}
 use Rattle.job_threads.specs.Works.{ended}
