@@ -1,8 +1,9 @@
 //! Lists of zones that are read, and such as are refused. A proof computes with a text that it sees, so texts are passed to functions.
 use master_file::Zone;
 use std::alloc::{AllocError, Global};
+use zone_list::ListKind::{Repeated, TooManyZones, Zone as OfZone};
 use zone_list::{ListKind, ListRefusal, read_zones};
-use zone_model::ZoneKind;
+use zone_model::ZoneKind::{BadName, BadToken, OpenParen, OpenQuote, SoaRule, UnknownType};
 
 // How many labels a zone's origin has, and how many names own records.
 type Size = (u8, usize);
@@ -70,50 +71,40 @@ fn is_last_refused(alloc: Global, last: &[u8], kind: ListKind) -> bool {
 #[test]
 fn sixteen_zones_are_taken(rt: HostRuntime) {
     let alloc = rt.alloc();
-    assert!(rt; is_last_refused(alloc, b"%zone q.\n", ListKind::TooManyZones));
-    assert!(rt; is_last_refused(alloc, b"%zone a.\n", ListKind::Repeated));
-    assert!(rt; is_last_refused(alloc, b"%zone a..\n", ListKind::Zone(ZoneKind::BadName)));
-    assert!(rt;
-        is_last_refused(
-            alloc,
-            b"x\n%zone a.\n",
-            ListKind::Zone(ZoneKind::UnknownType)
-        )
-    );
+    assert!(rt; is_last_refused(alloc, b"%zone q.\n", TooManyZones));
+    assert!(rt; is_last_refused(alloc, b"%zone a.\n", Repeated));
+    assert!(rt; is_last_refused(alloc, b"%zone a..\n", OfZone(BadName)));
+    assert!(rt; is_last_refused(alloc, b"x\n%zone a.\n", OfZone(UnknownType)));
 }
 
 // Texts with the line of what is refused, and why.
 const REFUSED: &[(&[u8], u64, ListKind)] = &[
-    (b"", 1, ListKind::Zone(ZoneKind::BadToken)),
+    (b"", 1, OfZone(BadToken)),
     (
         b"$TTL 300\n@ SOA ns hostmaster 1 3600 600 86400 60\n@ NS ns\nns A 192.0.2.1\n",
         1,
-        ListKind::Zone(ZoneKind::BadToken),
+        OfZone(BadToken),
     ),
-    (b"; \n%zone a.\n", 1, ListKind::Zone(ZoneKind::BadToken)),
-    (b"%zone\n", 1, ListKind::Zone(ZoneKind::BadToken)),
-    (b"%ZONE a.\n", 1, ListKind::Zone(ZoneKind::BadToken)),
-    (b"%zone \n", 1, ListKind::Zone(ZoneKind::BadToken)),
-    (b"%zone a. b.\n", 1, ListKind::Zone(ZoneKind::BadToken)),
-    (b"%zone a..b.\n", 1, ListKind::Zone(ZoneKind::BadName)),
-    (b"%zone \"a.\"\n", 1, ListKind::Zone(ZoneKind::BadName)),
-    (b"%zone \"a.\n", 1, ListKind::Zone(ZoneKind::OpenQuote)),
-    (b"%zone (a.\n)\n", 1, ListKind::Zone(ZoneKind::OpenParen)),
-    (b"%zone a.", 2, ListKind::Zone(ZoneKind::SoaRule)),
-    (
-        b"%zone a.\n\n%zone b.\n",
-        3,
-        ListKind::Zone(ZoneKind::SoaRule),
-    ),
+    (b"; \n%zone a.\n", 1, OfZone(BadToken)),
+    (b"%zone\n", 1, OfZone(BadToken)),
+    (b"%ZONE a.\n", 1, OfZone(BadToken)),
+    (b"%zone \n", 1, OfZone(BadToken)),
+    (b"%zone a. b.\n", 1, OfZone(BadToken)),
+    (b"%zone a..b.\n", 1, OfZone(BadName)),
+    (b"%zone \"a.\"\n", 1, OfZone(BadName)),
+    (b"%zone \"a.\n", 1, OfZone(OpenQuote)),
+    (b"%zone (a.\n)\n", 1, OfZone(OpenParen)),
+    (b"%zone a.", 2, OfZone(SoaRule)),
+    (b"%zone a.\n\n%zone b.\n", 3, OfZone(SoaRule)),
     (
         b"%zone a.\n@ 1 SOA . . 1 1 1 1 1\n%zone\n",
         3,
-        ListKind::Zone(ZoneKind::UnknownType),
+        OfZone(UnknownType),
     ),
     (
         b"%zone example.\n$TTL 300\n@ SOA ns hostmaster 1 3600 600 86400 60\n@ NS ns\nns A 192.0.2.1\n%zone EXAMPLE.\n",
         6,
-        ListKind::Repeated,
+        Repeated,
     ),
 ];
 

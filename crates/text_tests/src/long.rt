@@ -17,7 +17,6 @@ enum Becomes {
     Zone(usize),
     /// Too many octets, told with this line.
     Long(u32),
-    Other,
 }
 
 // The front of a zone, the octet 2a so many times in hexadecimal digits, and what comes behind.
@@ -36,39 +35,32 @@ fn long_text(
 }
 
 // How many octets the second item has.
-fn second_len(items: &mut ZoneItems, octets: &mut [u8]) -> Becomes
+fn second_len(items: &mut ZoneItems, octets: &mut [u8]) -> Option<usize>
     requires { item_limit ≤ length octets.old }
 {
     let _first = items.next(octets);
-    match items.next(octets) {
-        Some(len) if octets[..len].ends_with(b"**") => Becomes::Zone(len),
-        _ => Becomes::Other,
+    let len = items.next(octets)?;
+    if octets[..len].ends_with(b"**") {
+        Some(len)
+    } else {
+        None
     }
 }
 
-// What a text that is made of these becomes.
-fn made_of(alloc: Global, front: &[u8], octets: usize, behind: &[u8]) -> Becomes {
-    let Ok(origin) = Name::read(b"example.", &Name::root()) else {
-        return Becomes::Other;
-    };
-    let Ok(mut item) = item_buffer(alloc) else {
-        return Becomes::Other;
-    };
-    let Ok(text) = long_text(alloc, front, octets, behind) else {
-        return Becomes::Other;
-    };
+// What a text that is made of these becomes; None where that is something else.
+fn made_of(alloc: Global, front: &[u8], octets: usize, behind: &[u8]) -> Option<Becomes> {
+    let origin = Name::read(b"example.", &Name::root()).ok()?;
+    let mut item = item_buffer(alloc).ok()?;
+    let text = long_text(alloc, front, octets, behind).ok()?;
     if text.len() > 200_000 {
-        return Becomes::Other;
+        return None;
     }
     match read_zone(alloc, &text, &origin) {
-        Ok(zone) => second_len(&mut zone.into_items(), &mut item),
-        Err(
-            ZoneRefusal::Refused {
-                line,
-                kind: ZoneKind::LongEntry,
-            },
-        ) => Becomes::Long(line),
-        Err(_) => Becomes::Other,
+        Ok(zone) => second_len(&mut zone.into_items(), &mut item).map(Becomes::Zone),
+        Err(ZoneRefusal::Refused { line, kind }) if kind == ZoneKind::LongEntry => Some(
+            Becomes::Long(line),
+        ),
+        Err(_) => None,
     }
 }
 
@@ -94,6 +86,6 @@ fn a_name_has_at_most_65_535_octets(rt: HostRuntime) {
             Becomes::Long(5),
         ),
     ] {
-        assert!(rt; made_of(rt.alloc(), front, octets, behind) == want);
+        assert!(rt; made_of(rt.alloc(), front, octets, behind) == Some(want));
     }
 }

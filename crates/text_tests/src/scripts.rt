@@ -2,6 +2,9 @@
 ghost use Rattle.std.specs.Prelude.{◌≤◌, length};
 
 use dns_name::Name;
+use job_model::ScriptKind::{
+    BadCommand, BadName, BadNumber, BadRdata, BadType, NoWorker, OpenBlock, TooMany,
+};
 use job_model::{Ending, ScriptKind};
 use job_script::JobRefusal;
 use std::alloc::Global;
@@ -28,15 +31,12 @@ fn shape(command: &Command) -> Shape {
 }
 
 fn has_shapes(worker: &Worker, shapes: &[Shape]) -> bool {
-    if worker.commands.len() != shapes.len() {
-        return false;
-    }
-    for (command, wanted) in worker.commands.iter().zip(shapes) {
-        if shape(command) != *wanted {
-            return false;
-        }
-    }
-    true
+    let commands = &worker.commands;
+    commands.len() == shapes.len()
+        && commands
+            .iter()
+            .zip(shapes)
+            .all(|(command, wanted)| shape(command) == *wanted)
 }
 
 // Whether the last of so many workers of a script has commands of these shapes.
@@ -61,10 +61,9 @@ fn is_refused(alloc: Global, text: &[u8], line: u32, kind: ScriptKind) -> bool {
     if text.len() > 10_000 {
         return false;
     }
-    match read_script(alloc, text, 7, &[name(b"example."), name(b"sub.example.")]) {
-        Err(refusal) => refusal == JobRefusal::Refused { line, kind },
-        Ok(_) => false,
-    }
+    let origins = [name(b"example."), name(b"sub.example.")];
+    read_script(alloc, text, 7, &origins).is_err_and(|refusal| refusal
+        == JobRefusal::Refused { line, kind })
 }
 
 const SERVED: &[u8] =
@@ -91,66 +90,39 @@ fn scripts_are_read(rt: HostRuntime) {
     assert!(rt; says(rt.alloc(), ROLLED_BACK, 2, &[(b'r', 0, 1)]));
 }
 
-fn all_are_refused(alloc: Global, rows: &[(&[u8], u32, ScriptKind)]) -> bool {
-    for (text, line, kind) in rows {
-        if !is_refused(alloc, text, *line, *kind) {
-            return false;
-        }
-    }
-    true
-}
-
 // Scripts with the line of what is refused, and why.
 const REFUSED: &[(&[u8], u32, ScriptKind)] = &[
-    (b"", 7, ScriptKind::NoWorker),
-    (b"attach a.\n", 7, ScriptKind::NoWorker),
-    (b"worker\nwrite\n", 8, ScriptKind::BadCommand),
-    (b"worker\nstat\n", 8, ScriptKind::BadCommand),
-    (b"worker\nget a. A b\n", 8, ScriptKind::BadCommand),
-    (b"worker\nadd a 1 A 192.0.2.1\n", 8, ScriptKind::BadCommand),
-    (b"worker\nwrite a.\n", 8, ScriptKind::BadName),
-    (b"worker\nattach \"example.\"\n", 8, ScriptKind::BadName),
-    (b"worker\nget a..b HINFO\n", 8, ScriptKind::BadName),
-    (b"worker\nget a. HINFO\n", 8, ScriptKind::BadType),
-    (
-        b"worker\nwrite example.\nattach example.\n",
-        9,
-        ScriptKind::BadCommand,
-    ),
-    (
-        b"worker\nwrite example.\nrollback\n",
-        9,
-        ScriptKind::BadCommand,
-    ),
+    (b"", 7, NoWorker),
+    (b"attach a.\n", 7, NoWorker),
+    (b"worker\nwrite\n", 8, BadCommand),
+    (b"worker\nstat\n", 8, BadCommand),
+    (b"worker\nget a. A b\n", 8, BadCommand),
+    (b"worker\nadd a 1 A 192.0.2.1\n", 8, BadCommand),
+    (b"worker\nwrite a.\n", 8, BadName),
+    (b"worker\nattach \"example.\"\n", 8, BadName),
+    (b"worker\nget a..b HINFO\n", 8, BadName),
+    (b"worker\nget a. HINFO\n", 8, BadType),
+    (b"worker\nwrite example.\nattach example.\n", 9, BadCommand),
+    (b"worker\nwrite example.\nrollback\n", 9, BadCommand),
     (
         b"worker\nwrite sub.example.\ndel www.example.\n",
         9,
-        ScriptKind::BadName,
+        BadName,
     ),
-    (
-        b"worker\nwrite example.\nadd a x A 1\n",
-        9,
-        ScriptKind::BadNumber,
-    ),
-    (
-        b"worker\nwrite example.\nadd a 1 A 1\n",
-        9,
-        ScriptKind::BadRdata,
-    ),
-    (
-        b"worker\nwrite example.\nworker\n",
-        8,
-        ScriptKind::OpenBlock,
-    ),
-    (b"worker\nwrite example.\ndel a\n", 8, ScriptKind::OpenBlock),
+    (b"worker\nwrite example.\nadd a x A 1\n", 9, BadNumber),
+    (b"worker\nwrite example.\nadd a 1 A 1\n", 9, BadRdata),
+    (b"worker\nwrite example.\nworker\n", 8, OpenBlock),
+    (b"worker\nwrite example.\ndel a\n", 8, OpenBlock),
     (
         b"worker\nworker\nworker\nworker\nworker\nworker\nworker\nworker\nworker\nworker\nworker\nworker\nworker\nworker\nworker\nworker\nworker\n",
         23,
-        ScriptKind::TooMany { limit: 16 },
+        TooMany { limit: 16 },
     ),
 ];
 
 #[test]
 fn the_first_refusal_is_told(rt: HostRuntime) {
-    assert!(rt; all_are_refused(rt.alloc(), REFUSED));
+    for (text, line, kind) in REFUSED {
+        assert!(rt; is_refused(rt.alloc(), text, *line, *kind));
+    }
 }

@@ -65,14 +65,12 @@ fn says(alloc: Global, text: &[u8], origin: &[u8], dues: &[Due]) -> bool {
     if text.len() > 1000 {
         return false;
     }
-    match read_zone(alloc, text, &origin) {
-        Ok(zone) => {
-            let right = zone.len() == dues.len() && zone.origin().labels() == origin.labels();
-            let mut items = zone.into_items();
-            right && come(alloc, &mut items, &mut octets, dues)
-        }
-        Err(_) => false,
-    }
+    let Ok(zone) = read_zone(alloc, text, &origin) else {
+        return false;
+    };
+    let right = zone.len() == dues.len() && zone.origin().labels() == origin.labels();
+    let mut items = zone.into_items();
+    right && come(alloc, &mut items, &mut octets, dues)
 }
 
 const ZONE: &[u8] =
@@ -116,16 +114,15 @@ fn entry_at(alloc: Global, text: &[u8], from: u32, line: u32) -> Option<Places> 
     if text.len() > 100 || from as usize > text.len() || line > 100 {
         return None;
     }
-    match tokens(alloc, text, from, line) {
-        Ok(entry) => Some((
-            entry.tokens.len(),
-            entry.next,
-            entry.next_line,
-            entry.parens,
-            entry.blank,
-        )),
-        Err(_) => None,
-    }
+    let entry = tokens(alloc, text, from, line).ok()?;
+    let count = entry.tokens.len();
+    Some((
+        count,
+        entry.next,
+        entry.next_line,
+        entry.parens,
+        entry.blank,
+    ))
 }
 
 // Whether this is the second token of the entry at the beginning.
@@ -133,10 +130,10 @@ fn is_second_token(alloc: Global, text: &[u8], token: &[u8]) -> bool {
     if text.len() > 100 {
         return false;
     }
-    match tokens(alloc, text, 0, 1) {
-        Ok(entry) => entry.tokens.len() == 2 && entry.tokens[1].text(text) == token,
-        Err(_) => false,
-    }
+    let Ok(entry) = tokens(alloc, text, 0, 1) else {
+        return false;
+    };
+    entry.tokens.len() == 2 && entry.tokens[1].text(text) == token
 }
 
 // The line at a byte alone: how many tokens, where the next line begins, and whether there is a parenthesis.
@@ -144,10 +141,8 @@ fn line_at(alloc: Global, text: &[u8], from: u32) -> Option<(usize, u32, bool)> 
     if text.len() > 100 || from as usize >= text.len() {
         return None;
     }
-    match line_tokens(Vec::new(alloc), text, from, 2) {
-        Ok(line) => Some((line.tokens.len(), line.next, line.parens)),
-        Err(_) => None,
-    }
+    let line = line_tokens(Vec::new(alloc), text, from, 2).ok()?;
+    Some((line.tokens.len(), line.next, line.parens))
 }
 
 const ENTRIES: &[u8] = b"a\"b c\";d\n( e\\\"\n ) f\ng";
