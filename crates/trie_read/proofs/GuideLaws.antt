@@ -1,5 +1,5 @@
 -- A path that a key guides, and what stands on each side of its end.
-use Rattle.std.proofs.Common.{◌≡◌, ℕ, zero, suc, ◌-◌, ◌/◌, ◌%◌, ◌^◌, ◌<◌, ◌≤◌, List, [], ◌∷◌, ◌++◌, Some, slice_get, get_or, count_ones, append_assoc, arith, inl, inr, refl, sym, ◌∙◌, ap, subst}
+use Rattle.std.proofs.Common.{◌≡◌, ℕ, zero, suc, ◌-◌, ◌/◌, ◌%◌, ◌^◌, ◌<◌, ◌≤◌, ◌⊎◌, List, [], ◌∷◌, ◌++◌, Some, slice_get, get_or, count_ones, append_assoc, arith, inl, inr, refl, sym, ◌∙◌, ap, subst}
 use Rattle.std.proofs.lemmas.Bool.{cases_lt}
 use Rattle.std.proofs.lemmas.Option.{get_or_from_slice_get}
 use Rattle.packed_node.specs.declared.Cell.{Cell}
@@ -12,7 +12,7 @@ use Rattle.trie_model.specs.Trees.Tree.{leaf, branch}
 use Rattle.trie_model.specs.Trees.Twigs.{none, twig}
 use Rattle.trie_model.proofs.KeyLaws.{in_left, in_right, in_both}
 use Rattle.trie_model.proofs.BitmapLaws.{count-beside}
-use Rattle.trie_model.proofs.SplitLaws.{Found, Missing, look, rising_of, twigs_left, entries-beside}
+use Rattle.trie_model.proofs.SplitLaws.{Found, Missing, look, rising_of, keys_lower, keys_upper, twigs_left, entries-beside}
 use Rattle.trie_model.proofs.SideLaws.{AgreesWith, agrees_with, lower_left, upper_right}
 use Rattle.trie_read.specs.declared.path.Step.{Step}
 use Rattle.trie_read.specs.declared.path.Path.{Path}
@@ -157,6 +157,27 @@ guided_sides k steps whole shape (suc n) t before after h y i place same early =
       λ x j. elim (in_both x h.on.before_all (entries h.on.left) (subst (InList x) h.on.before_is j)) [ inl a ↦ more.0 x a | inr b ↦ left x b ],
       λ x j. elim (in_both x (entries h.on.right) h.on.after_all (subst (InList x) h.on.after_is j)) [ inl a ↦ right x a | inr b ↦ more.1 x b ],
     )
+
+-- what is beside the path's end reads otherwise than the key at a branch that the path passes
+pub guided_apart : (k : List ℕ) (steps : List Step) (whole : Tree) → IsTree 0 whole → (n : ℕ) (t : Tree) (before after : List Entry) → HangsBy (Guided k) steps whole n t before after → (place : ℕ) →
+    ((m : ℕ) (step : Step) → suc m ≡ n → slice_get steps m ≡ Some step → step.offset ≤ place) → (x : Entry) → InList x before ⊎ InList x after → Same (suc place) k x.key → ⊥
+guided_apart k steps whole shape zero t before after h place early x side same = elim side [ inl a ↦ subst (InList x) h.1 a | inr b ↦ subst (InList x) h.2 b ]
+guided_apart k steps whole shape (suc n) t before after h place early x side same =
+    let o = early n h.step refl h.there in
+    let up = shape_above (Guided k) steps whole shape n t before after h in
+    let more = guided_apart k steps whole shape n (branch h.step.offset h.step.twigs (beside h.on.left (twig h.on.position t h.on.right))) h.on.before_all h.on.after_all h.on.parent place
+    (λ m step e there. (let d = earlier k steps whole shape n t before after h m step e there in omega arith)) x in
+    let reads : at k h.step.offset ≡ at x.key h.step.offset = same h.step.offset (omega arith) in
+    elim side [
+      | inl a ↦ elim (in_both x h.on.before_all (entries h.on.left) (subst (InList x) h.on.before_is a)) [
+        | inl b ↦ more (inl b) same
+        | inr b ↦ (let l = keys_lower h.step.offset 0 (at k h.step.offset) h.on.left (twigs_left h.step.offset 0 h.on.left (twig h.on.position t h.on.right) up.5) h.so.0 x b in omega arith)
+      ]
+      | inr a ↦ elim (in_both x (entries h.on.right) h.on.after_all (subst (InList x) h.on.after_is a)) [
+        | inl b ↦ (let u = keys_upper h.step.offset (suc h.on.position) (suc (at k h.step.offset)) 47 h.on.right (twigs_behind h.step.offset 0 h.on.left h.on.right h.on.position t up.5) h.so.1 x b in omega arith)
+        | inr b ↦ more (inr b) same
+      ]
+    ]
 
 -- ---- the split of the list
 pub rises_parts : (xs ys : List Entry) → Rises (xs ++ ys) → ((x y : Entry) → InList x xs → InList y ys → Less x.key y.key) × Rises ys

@@ -21,10 +21,11 @@ use Rattle.trie_read.specs.declared.iter.Met.{Met}
 use Rattle.trie_read.specs.declared.ancestors.Ancestor.{Ancestor}
 use Rattle.trie_read.specs.Reads.{IsNamed, FindsLeaf, EachTells}
 use Rattle.trie_read.specs.Above.{AreAncestors, Passes, IsAtOrAbove, labels_of_met}
+use Rattle.trie_read.specs.Readings.{IsNearest}
 use Rattle.trie_read.specs.Walks.{Guided, HangsBy, LeadsToMet, Meets}
 use Rattle.trie_read.proofs.PathLaws.{hangs_between, shape_at, shape_above, at_depth}
 use Rattle.trie_read.proofs.TurnLaws.{some_same}
-use Rattle.trie_read.proofs.GuideLaws.{rises_parts}
+use Rattle.trie_read.proofs.GuideLaws.{guided_apart, rises_parts}
 use Rattle.trie_read.proofs.AboveLaws.{ancestors_many, chain_room, passed_none, passed_one}
 use Rattle.trie_read.proofs.SeekLaws.{met_cut, met_differs, sides_of, parts_of}
 
@@ -193,3 +194,23 @@ met_other has k r path met version d m e x i same =
         | inr z ↦ less_apart k x.key (sides.1 x z) (sym same)
       ]
     ]
+
+-- ---- the leaf that the key is nearest to
+pub met_nearest : (has : ℕ → Cell → Type 0) (k : List ℕ) (r : ℕ) (path : Path) (met : Met) (version : List Entry) → Meets has k r path met version → IsNearest (IsNamed has) k version met
+met_nearest has k r path met version m = record {
+  entry = m.entry;
+  there = m.there;
+  leaf = (m.leaf_of, m.told m.entry m.there);
+  differs = m.differs;
+  most = λ d e x i same.
+      let c = met_cut has k r path met version d m e in
+      let differs = met_differs has k r path met version d m e in
+      let apart = guided_apart k path.steps m.whole m.trie.shape path.depth c.tree c.before c.after c.hangs d.place c.early x in
+      elim (in_both x c.before (entries_of c.tree ++ c.after) (subst (InList x) (parts_of has k r path met version d.place m c) i)) [
+        | inl a ↦ apart (inl a) same
+        | inr b ↦ elim (in_both x (entries_of c.tree) c.after b) [
+          | inl y ↦ differs.0.differ (same d.place (omega arith) ∙ c.alike x y d.place (omega arith))
+          | inr z ↦ apart (inr z) same
+        ]
+      ];
+}

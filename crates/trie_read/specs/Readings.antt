@@ -1,7 +1,11 @@
 -- What the calls of one version give.
-use Rattle.std.specs.Prelude.{◌≡◌, ℕ, List, length, take, Option, Some, None}
-use Rattle.trie_model.specs.Keys.{Entry, InList}
+use Rattle.std.specs.Prelude.{◌≡◌, ℕ, suc, List, [], length, take, Option, Some, None}
+use Rattle.packed_node.specs.declared.Leaf.{Leaf}
+use Rattle.shift_key.specs.Differences.{IsDifference}
+use Rattle.shift_key.specs.declared.difference.Difference.{Difference}
+use Rattle.trie_model.specs.Keys.{Same, Entry, InList}
 use Rattle.trie_model.specs.Order.{IsThere, IsSplitAt}
+use Rattle.trie_read.specs.declared.iter.Met.{Met}
 
 -- there are entries that are held
 abbrev pub IsHeld : (List Entry → Type 0) → Type 0
@@ -22,3 +26,16 @@ pub record AtSplit (stands : List Entry → List Entry → Type 0) (key : List �
 abbrev pub Fetched : List ℕ → List Entry → List ℕ → List ℕ → Option ℕ → Type 0
 Fetched key version old new None = (¬ IsThere key version) × (new ≡ old)
 Fetched key version old new (Some len) = (e : Entry) × InList e version × (e.key ≡ key) × (len ≡ length e.item) × (take len new ≡ e.item)
+
+-- the leaf of an entry, where the entry's key first differs from the key, and that no entry has more positions in common with the key
+pub record IsNearest (lies : Leaf → Entry → Type 0) (key : List ℕ) (version : List Entry) (met : Met) : Type 0 where
+  pub entry : Entry
+  pub there : InList entry version
+  pub leaf : lies met.leaf entry
+  pub differs : IsDifference key entry.key met.difference
+  pub most : (d : Difference) → met.difference ≡ Some d → (x : Entry) → InList x version → Same (suc d.place) key x.key → ⊥
+
+-- it is met exactly where there is an entry
+abbrev pub MeetsNearest : (Leaf → Entry → Type 0) → List ℕ → List Entry → Option Met → Type 0
+MeetsNearest lies key version None = version ≡ []
+MeetsNearest lies key version (Some met) = IsNearest lies key version met

@@ -9,7 +9,7 @@ ghost use Rattle.trie_read.specs.Reads.{IsNamed, FindsLeaf};
 ghost use Rattle.trie_read.specs.Above.{AreAncestors, IsAtOrAbove, labels_of_met};
 ghost use Rattle.trie_read.specs.declared.ancestors.Ancestor.{Ancestor};
 ghost use Rattle.trie_read.specs.declared.iter.Place.TheVariants.{Facing, Past};
-ghost use Rattle.trie_read.specs.Readings.{AtSplit};
+ghost use Rattle.trie_read.specs.Readings.{AtSplit, MeetsNearest};
 ghost use Rattle.trie_read.specs.Walks.{AnyStep, LeadsTo, HasNode, Meets, IsStart, StandsBetween, StandsSomewhere, Faces, HasPassed};
 
 use super::ancestors::{Ancestor, Ancestors};
@@ -250,9 +250,7 @@ impl Iter {
         match self.root {
             None => None,
             Some(root) => {
-                let met = self.meet(cells, root, key);
-                self.path.gather(cells, root, key, above);
-                add_met(key, met, above);
+                let met = self.meet_below(cells, root, key, above);
                 self.stand(cells, root, key, met);
                 match met.difference {
                     None => Some(met.leaf),
@@ -260,6 +258,61 @@ impl Iter {
                 }
             }
         }
+    }
+
+    /// The leaf that the key is nearest to: its own, or else one whose key has the longest beginning in common with it; `None` exactly where there is no
+    /// name. The names at or above the key's that are there are written into `above`. The iterator stands before the first name then.
+    pub fn reach<C: CellRead>(
+        &mut self,
+        cells: &mut C,
+        key: &Key,
+        above: &mut Ancestors,
+    ) -> Option<Met>
+        requires { StandsSomewhere (C.has cells.old) self.old }
+        ensures same { cells.new ≡ cells.old }
+        ensures start { (root : Option ℕ) (before after : List Entry) → StandsBetween (C.has cells.old) root self.old before after
+            → StandsBetween (C.has cells.old) root self.new [] (before ++ after) }
+        ensures nearest { (root : Option ℕ) (before after : List Entry) → StandsBetween (C.has cells.old) root self.old before after
+            → MeetsNearest (IsNamed (C.has cells.old)) key.now (before ++ after) result }
+        ensures above { (root : Option ℕ) (before after : List Entry) → StandsBetween (C.has cells.old) root self.old before after
+            → AreAncestors (IsNamed (C.has cells.old)) (chain key.now (before ++ after)) above.new }
+    {
+        above.clear();
+        match self.root {
+            None => {
+                self.restart(None);
+                None
+            }
+            Some(root) => {
+                let met = self.meet_below(cells, root, key, above);
+                self.restart(Some(root));
+                Some(met)
+            }
+        }
+    }
+
+    /// Meets the leaf that the key is nearest to, and puts in the names at or above the key's that are there, the top first.
+    fn meet_below<C: CellRead>(
+        &mut self,
+        cells: &mut C,
+        root: Ref,
+        key: &Key,
+        above: &mut Ancestors,
+    ) -> Met
+        requires stands { StandsSomewhere (C.has cells.old) self.old }
+        requires root { self.old.root ≡ Some root }
+        requires empty { above.old ≡ [] }
+        ensures same { cells.new ≡ cells.old }
+        ensures root { self.new.root ≡ Some root }
+        ensures meets { (any : Option ℕ) (before after : List Entry) → StandsBetween (C.has cells.old) any self.old before after
+            → Meets (C.has cells.old) key.now root self.new.path result (before ++ after) }
+        ensures above { (any : Option ℕ) (before after : List Entry) → StandsBetween (C.has cells.old) any self.old before after
+            → AreAncestors (IsNamed (C.has cells.old)) (chain key.now (before ++ after)) above.new }
+    {
+        let met = self.meet(cells, root, key);
+        self.path.gather(cells, root, key, above);
+        add_met(key, met, above);
+        met
     }
 
     /// Goes down by the key's positions to a leaf whose key has the longest beginning in common with it, and back up to where all branches that are passed

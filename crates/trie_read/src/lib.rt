@@ -19,7 +19,8 @@ mod steps;
 
 pub use ancestors::{Ancestor, Ancestors};
 pub use found::{Chain, Found, Kind, find};
-pub use iter::Iter;
+pub use iter::{Iter, Met};
+pub use labels::labels_to;
 pub use leaf::{difference_at, key_at, name_at};
 pub use look_up::{get, get_counted};
 pub use reading::{CellReading, Reading};

@@ -177,7 +177,8 @@ impl Path {
     pub fn node<C: CellRead>(&self, cells: &mut C, root: Ref, level: u16) -> Cell
         requires { HasNode (C.has cells.old) self.now root level }
         ensures same { cells.new ≡ cells.old }
-        ensures value { (whole t : Tree) (before after : List Entry) → HangsAtLevel AnyStep (C.has cells.old) self.now root level whole t before after → result ≡ top_cell t }
+        ensures value { (whole t : Tree) (before after : List Entry) → HangsAtLevel AnyStep (C.has cells.old) self.now root level whole t before after
+            → result ≡ top_cell t }
     {
         if level == 0 {
             return cells.cell(root);

@@ -8,7 +8,7 @@ ghost use Rattle.trie_read.specs.Reads.{EachTells};
 
 use super::ancestors::Ancestors;
 use super::found::{Found, find};
-use super::iter::Iter;
+use super::iter::{Iter, Met};
 use super::leaf::name_at;
 use super::look_up::get;
 use super::size::{count, nodes};
@@ -30,7 +30,7 @@ pub trait Reading {
     ghost use Rattle.trie_read.specs.Reads.{FindsLeaf};
     ghost use Rattle.trie_read.specs.Finds.{IsKind};
     ghost use Rattle.trie_read.specs.Above.{AreAncestors};
-    ghost use Rattle.trie_read.specs.Readings.{Fetched, IsHeld, IsStanding, AtSplit};
+    ghost use Rattle.trie_read.specs.Readings.{Fetched, IsHeld, IsStanding, AtSplit, MeetsNearest};
 
     // The version's number.
     ghost number: { Self → ℕ };
@@ -114,6 +114,17 @@ pub trait Reading {
             → AtSplit (stands self.old iter.new) key.now (before ++ after) }
         ensures leaf { (before after : List Entry) → stands self.old iter.old before after
             → FindsLeaf (lies self.old) key.now (before ++ after) result }
+        ensures above { (before after : List Entry) → stands self.old iter.old before after
+            → AreAncestors (lies self.old) (chain key.now (before ++ after)) above.new };
+
+    /// The leaf that the key is nearest to: its own, or else one whose key has the longest beginning in common with it; `None` exactly where there is no
+    /// name. The names at or above the key's that are there are written into `above`. The iterator stands before the first name then.
+    fn reach(&mut self, iter: &mut Iter, key: &Key, above: &mut Ancestors) -> Option<Met>
+        requires { IsStanding (stands self.old iter.old) }
+        ensures same { self.new ≡ self.old }
+        ensures start { (before after : List Entry) → stands self.old iter.old before after → stands self.old iter.new [] (before ++ after) }
+        ensures nearest { (before after : List Entry) → stands self.old iter.old before after
+            → MeetsNearest (lies self.old) key.now (before ++ after) result }
         ensures above { (before after : List Entry) → stands self.old iter.old before after
             → AreAncestors (lies self.old) (chain key.now (before ++ after)) above.new };
 
@@ -258,6 +269,10 @@ impl<C: CellRead + Drop> Reading for CellReading<C> {
 
     fn lookup(&mut self, iter: &mut Iter, key: &Key, above: &mut Ancestors) -> Option<Leaf> {
         iter.lookup(&mut self.cells, key, above)
+    }
+
+    fn reach(&mut self, iter: &mut Iter, key: &Key, above: &mut Ancestors) -> Option<Met> {
+        iter.reach(&mut self.cells, key, above)
     }
 
     fn next_leaf(&mut self, iter: &mut Iter) -> Option<Leaf> {
