@@ -18,7 +18,7 @@ use packed_node::{Cell, Leaf, Ref};
 use shared_cells::{PinnedCells, PinnedSeat, Shared};
 use shift_key::Key;
 use std::marker::PhantomData;
-use trie_read::{Ancestors, Found, Iter, Reading, name_at};
+use trie_read::{Ancestors, Found, Iter, Met, Reading, name_at};
 
 /// A published version with the pass that holds it. It doesn't change, and may go to another thread.
 ///
@@ -175,6 +175,10 @@ impl<L: Law, N: Named> Reading for Snapshot<'_, L, N> {
 
     fn lookup(&mut self, iter: &mut Iter, key: &Key, above: &mut Ancestors) -> Option<Leaf> {
         iter.lookup(self, key, above)
+    }
+
+    fn reach(&mut self, iter: &mut Iter, key: &Key, above: &mut Ancestors) -> Option<Met> {
+        iter.reach(self, key, above)
     }
 
     fn next_leaf(&mut self, iter: &mut Iter) -> Option<Leaf> {
