@@ -1,5 +1,5 @@
 -- Names at or above a name, by how many labels they have.
-use Rattle.std.proofs.Common.{◌≡◌, ◌∙◌, ℕ, zero, suc, ◌-◌, ◌<◌, ◌≤◌, Bool, true, false, cond, not, ◌&&◌, ◌||◌, [], ◌∷◌, ◌++◌, length, drop, reverse, inl, inr, Option, Some, None, refl, sym, ap, subst, arith, length-append, length-drop, append_assoc}
+use Rattle.std.proofs.Common.{◌≡◌, ◌∙◌, ℕ, zero, suc, ◌-◌, ◌<◌, ◌≤◌, Bool, true, false, cond, not, ◌&&◌, ◌||◌, [], ◌∷◌, ◌++◌, length, drop, reverse, inl, inr, Option, Some, None, refl, sym, ap, subst, arith, length-append, length-drop}
 use Rattle.std.proofs.lemmas.Bool.{cases_lt}
 use Rattle.std.proofs.lemmas.List.{reverse-append}
 use Rattle.std.proofs.lemmas.List.Folds.{find-append}
@@ -90,16 +90,6 @@ encloser_here version (label ∷ labels) e = ap (λ b. cond b (Some (label ∷ l
 pub encloser_above : (version : Version) (label : Label) (labels : Name) → exists (label ∷ labels) version ≡ false → encloser version (label ∷ labels) ≡ encloser version labels
 encloser_above version label labels e = ap (λ b. cond b (Some (label ∷ labels)) (encloser version labels)) e
 
-pub encloser_none : (version : Version) → exists [] version ≡ false → encloser version [] ≡ None
-encloser_none version e = ap (λ b. cond b (Some []) None) e
-
--- what is under a name is under the one above it
-pub under_parent : (name : Name) (label : Label) (labels : Name) → is_under name (label ∷ labels) ≡ true → is_under name labels ≡ true
-under_parent name label labels u =
-    let e = under_ends name (label ∷ labels) u in
-    let is : name ≡ (e.0 ++ label ∷ []) ++ labels = e.1 ∙ sym (append_assoc e.0 (label ∷ []) labels) in
-    subst (λ (x : Name). is_under x labels ≡ true) (sym is) (ends_under (e.0 ++ label ∷ []) labels)
-
 -- ---- names that are too long
 
 wire_longer : (front top : Name) → length (wire top) ≤ length (wire (front ++ top))
@@ -121,9 +111,26 @@ none_too_long name (pair ∷ version) l items = not_first name pair l items.0 (e
 pub self_under : (name : Name) → is_under name name ≡ true
 self_under name = ends_under [] name
 
--- the name right above a name that doesn't exist is its closest encloser, if it exists
-pub encloser_right_above : (version : Version) (name : Name) → exists name version ≡ false → exists (ancestor (length name - 1) name) version ≡ true → encloser version name ≡ Some (ancestor (length name - 1) name)
-encloser_right_above version [] never there = let self : exists [] version ≡ true = there in absurd cc
-encloser_right_above version (label ∷ labels) never there =
-    let above : ancestor (length (label ∷ labels) - 1) (label ∷ labels) ≡ labels = ancestor_of label labels (length (label ∷ labels) - 1) (omega arith) ∙ ancestor_self labels (length (label ∷ labels) - 1) (omega arith) in
-    encloser_above version label labels never ∙ encloser_here version labels (sym (ap (λ (x : Name). exists x version) above) ∙ there) ∙ sym (ap (λ (x : Name). Some x) above)
+-- the last name above that exists is the closest encloser
+pub encloser_at : (version : Version) (name : Name) (n : ℕ) → n ≤ length name → exists (ancestor n name) version ≡ true → ((k : ℕ) → n < k → k ≤ length name → exists (ancestor k name) version ≡ false) → encloser version name ≡ Some (ancestor n name)
+encloser_at version [] n l here beyond =
+    let self : ancestor n [] ≡ [] = ancestor_self [] n (omega arith) in
+    encloser_here version [] (sym (ap (λ (x : Name). exists x version) self) ∙ here) ∙ ap (λ (x : Name). Some x) (sym self)
+encloser_at version (label ∷ labels) n l here beyond = elim (cases_lt (length labels) n) [
+  | inl m ↦ (
+      let self : ancestor n (label ∷ labels) ≡ label ∷ labels = ancestor_self (label ∷ labels) n (omega arith) in
+      encloser_here version (label ∷ labels) (sym (ap (λ (x : Name). exists x version) self) ∙ here) ∙ ap (λ (x : Name). Some x) (sym self)
+      )
+  | inr g ↦ (
+      let self : ancestor (suc (length labels)) (label ∷ labels) ≡ label ∷ labels = ancestor_self (label ∷ labels) (suc (length labels)) (omega arith) in
+      let same : ancestor n (label ∷ labels) ≡ ancestor n labels = ancestor_of label labels n g in
+      let never : exists (label ∷ labels) version ≡ false = sym (ap (λ (x : Name). exists x version) self) ∙ beyond (suc (length labels)) (omega arith) (omega arith) in
+      let above = encloser_at version labels n g (sym (ap (λ (x : Name). exists x version) same) ∙ here) (λ k j m. sym (ap (λ (x : Name). exists x version) (ancestor_of label labels k m)) ∙ beyond k j (omega arith)) in
+      encloser_above version label labels never ∙ above ∙ ap (λ (x : Name). Some x) (sym same)
+      )
+]
+
+-- a version without names has none
+pub no_encloser : (name : Name) → encloser [] name ≡ None
+no_encloser [] = refl
+no_encloser (label ∷ labels) = no_encloser labels

@@ -36,7 +36,7 @@ among_rest k key x es h = go (begins x.key key) refl
     go true e = (or_false (eqb (labels_in x.key) k) (among k (chain_labels key es)) (sym (ap (among k) (chain_take key x es e)) ∙ h)).1
     go false e = sym (ap (among k) (chain_skip key x es e)) ∙ h
 
-ancestor_under : (k : ℕ) (name : Name) → is_under name (ancestor k name) ≡ true
+pub ancestor_under : (k : ℕ) (name : Name) → is_under name (ancestor k name) ≡ true
 ancestor_under k name =
     subst (λ (x : Name). is_under x (ancestor k name) ≡ true) (take-append-drop (length name - k) name) (ends_under (take (length name - k) name) (ancestor k name))
 

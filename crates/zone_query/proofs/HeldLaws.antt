@@ -1,14 +1,14 @@
 -- What was read of a name is what it owns.
-use Rattle.std.proofs.Common.{◌≡◌, ◌∙◌, ℕ, zero, suc, ◌-◌, Bool, true, false, cond, eqb, ◌||◌, List, [], ◌∷◌, ◌++◌, length, take, drop, map, inl, inr, Option, Some, None, IfSome, refl, sym, ap, subst, arith, length-append, length-take}
+use Rattle.std.proofs.Common.{◌≡◌, ◌∙◌, ℕ, zero, suc, ◌-◌, Bool, true, false, cond, eqb, ◌||◌, List, [], ◌∷◌, length, take, drop, map, inl, inr, Option, Some, None, refl, sym, ap, subst, arith, length-append, length-take}
 use Rattle.std.proofs.lemmas.List.{drop_at}
 use borrow.Author.Tests.{eqb-true}
 use Rattle.std.specs.List.{find, list_any}
-use Rattle.std.specs.Option.{is_some, option_map}
+use Rattle.std.specs.Option.{option_map}
 use Rattle.packed_node.specs.declared.Leaf.{Leaf}
 use Rattle.zone_model.specs.Names.{Name, IsName, ancestor, is_under, wire}
 use Rattle.zone_model.specs.Keys.{key_of}
 use Rattle.zone_model.specs.Records.{IsItem}
-use Rattle.zone_model.specs.Versions.{Version, exists, owned}
+use Rattle.zone_model.specs.Versions.{Version, owned}
 use Rattle.zone_model.proofs.OrderLemmas.{under_ends}
 use Rattle.rr_data.proofs.ItemViewLemmas.{item_says}
 use Rattle.trie_model.specs.Keys as trie
@@ -18,7 +18,6 @@ use Rattle.trie_model.proofs.NameLaws.{labels_of}
 use Rattle.trie_read.specs.Above.{AreAncestors}
 use Rattle.trie_read.specs.Readings.{Fetched}
 use Rattle.trie_read.specs.declared.ancestors.Ancestor.{Ancestor}
-use Rattle.zone_query.specs.Neighbours.{Names, first_key}
 use Rattle.zone_query.specs.Parts.{IsRead, IsHeld}
 use Rattle.zone_query.specs.Standing.{IsVersion, trie_entry}
 use Rattle.zone_query.specs.declared.records.Held.{Held}
@@ -116,53 +115,6 @@ ancestor_key name version labels e is v i l =
     let under = begins_under k.pair.0 name k.storable.name.each is.each (subst (λ (x : List ℕ). begins x (key_of name) ≡ true) key c.1) in
     let size : length k.pair.0 ≡ labels = sym (labels_of k.pair.0 k.storable.name.each) ∙ ap labels_in (sym key) ∙ l in
     (c.0, key ∙ ap key_of (ancestor_at name k.pair.0 labels under size))
-
--- a name above whose leaf was gathered exists
-pub met_exists : (lies : Leaf → trie.Entry → Type 0) (name : Name) (version : Version) (labels : ℕ) (above : List Ancestor) → IsName name → IsVersion version
-    → AreAncestors lies (chain (key_of name) (map trie_entry version)) above → is_some (leaf_with labels above) ≡ true → exists (ancestor labels name) version ≡ true
-met_exists lies name version labels above is v are some = by_leaf (leaf_with labels above) (sought lies labels (chain (key_of name) (map trie_entry version)) above are) some
-  where
-    by_leaf : (o : Option Leaf) → Sought lies labels (chain (key_of name) (map trie_entry version)) o → is_some o ≡ true → exists (ancestor labels name) version ≡ true
-    by_leaf None s t = absurd cc
-    by_leaf (Some leaf) s t =
-        let k = ancestor_key name version labels s.0 is v s.1 s.3 in
-        there_exists (ancestor labels name) version (ancestor_name labels name is) v.items (s.0, k.0, k.1)
-
--- ---- neighbours
-
-pub named_by : (n : Option Name) → IfSome n IsName → Names (option_map key_of n) n
-named_by None h = refl
-named_by (Some m) h = (refl, h)
-
--- the entry that an iterator faces
-pub record Faced (lies : Leaf → trie.Entry → Type 0) (leaf : Leaf) (after : List trie.Entry) : Type 0 where
-  pub entry : trie.Entry
-  pub first : first_key after ≡ Some entry.key
-  pub leads : lies leaf entry
-
-pub faced : (stands : List trie.Entry → List trie.Entry → Type 0) (lies : Leaf → trie.Entry → Type 0) (leaf : Leaf) (before after : List trie.Entry) → stands before after → ((before after : List trie.Entry) (e : trie.Entry) → stands before (e ∷ after) → lies leaf e) → ((before : List trie.Entry) → stands before [] → Some leaf ≡ None) → Faced lies leaf after
-faced stands lies leaf before [] s next end = absurd (let k : Some leaf ≡ None = end before s in cc)
-faced stands lies leaf before (e ∷ rest) s next end = record { entry = e; first = refl; leads = next before rest e s }
-
-pub none_faced : (stands : List trie.Entry → List trie.Entry → Type 0) (before after : List trie.Entry) → stands before after → ((before after : List trie.Entry) (e : trie.Entry) → stands before (e ∷ after) → ⊥) → None ≡ first_key after
-none_faced stands before [] s never = refl
-none_faced stands before (e ∷ rest) s never = absurd (never before rest e s)
-
-record Ended (xs : List trie.Entry) : Type 0 where
-  front : List trie.Entry
-  last : trie.Entry
-  is : xs ≡ front ++ last ∷ []
-
-ended_by : (x : trie.Entry) (xs : List trie.Entry) → Ended (x ∷ xs)
-ended_by x [] = record { front = []; last = x; is = refl }
-ended_by x (y ∷ xs) = let e = ended_by y xs in record { front = x ∷ e.front; last = e.last; is = ap (λ (l : List trie.Entry). x ∷ l) e.is }
-
--- the entry that an iterator has passed
-pub passed_leaf : (stands : List trie.Entry → List trie.Entry → Type 0) (lies : Leaf → trie.Entry → Type 0) (leaf : Leaf) (before after : List trie.Entry) → stands before after → ((before after : List trie.Entry) (e : trie.Entry) → stands (before ++ e ∷ []) after → lies leaf e) → ((after : List trie.Entry) → stands [] after → Some leaf ≡ None) → (e : trie.Entry) × lies leaf e
-passed_leaf stands lies leaf [] after s prev beginning = absurd (let k : Some leaf ≡ None = beginning after s in cc)
-passed_leaf stands lies leaf (x ∷ before) after s prev beginning =
-    let e = ended_by x before in
-    (e.last, prev e.front after e.last (subst (λ (l : List trie.Entry). stands l after) e.is s))
 
 -- the name of so many labels at or above a name, by what was read of the leaf that was sought
 pub read_above : (lies : Leaf → trie.Entry → Type 0) (name : Name) (version : Version) (labels : ℕ) (leaf : Leaf) (octets : List ℕ) (len : ℕ) → IsName name → IsVersion version → Sought lies labels (chain (key_of name) (map trie_entry version)) (Some leaf) →

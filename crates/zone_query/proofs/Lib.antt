@@ -1,7 +1,5 @@
 pub mod KeyOrder
-pub mod NearLaws
 pub mod SplitLaws
-pub mod AheadLaws
 pub mod OwnedLaws
 pub mod AncestorLaws
 pub mod NodeLaws
@@ -10,6 +8,7 @@ pub mod AnswerLaws
 pub mod ChainLaws
 pub mod StepLaws
 pub mod HeldLaws
+pub mod ReachLaws
 pub mod FilterLaws
 pub mod WalkLaws
 pub mod FindLaws

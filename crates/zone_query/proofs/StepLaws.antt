@@ -6,7 +6,7 @@ use Rattle.zone_model.specs.Versions.{Version, owned, exists}
 use Rattle.zone_query.specs.Answers.{Ends, Step, step, by_cut, by_node, by_alias, alias_in, set_rows, node, is_cut, cut_above}
 use Rattle.zone_query.specs.Parts.{NoneOver}
 use Rattle.zone_query.specs.declared.kind.Kind.TheVariants.{Referral}
-use Rattle.zone_query.proofs.NodeLaws.{own_node}
+use Rattle.zone_query.proofs.NodeLaws.{there_node}
 use Rattle.zone_query.proofs.CutLaws.{own_cut, no_cut, empty_no_cut}
 
 abbrev pub referred : Name → Entry → Step
@@ -23,7 +23,7 @@ given name rtype entry = by_alias name rtype entry (alias_in rtype entry)
 
 pub step_own : (origin name : Name) (version : Version) (rtype : ℕ) (entry : Entry) → NoneOver origin name version → is_cut origin version name ≡ false → exists name version ≡ true → entry ≡ owned name version → given name rtype entry ≡ step origin version rtype name
 step_own origin name version rtype entry none cut there e =
-    ap (given name rtype) e ∙ ap (by_node name rtype) (own_node version name there) ∙ ap (by_cut version name rtype) (sym (no_cut origin name version none cut))
+    ap (given name rtype) e ∙ ap (by_node name rtype) (there_node version name there) ∙ ap (by_cut version name rtype) (sym (no_cut origin name version none cut))
 
 pub step_absent : (origin name : Name) (version : Version) (rtype : ℕ) (found : Option Entry) → NoneOver origin name version → [] ≡ owned name version → found ≡ node version name → by_node name rtype found ≡ step origin version rtype name
 step_absent origin name version rtype found none empty e =

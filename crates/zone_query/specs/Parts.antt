@@ -39,6 +39,10 @@ abbrev pub IsNodeOf : List ℕ → Option Entry → Option Held → Type 0
 IsNodeOf octets node None = node ≡ None
 IsNodeOf octets node (Some held) = (entry : Entry) × (node ≡ Some entry) × IsHeld octets held entry
 
+-- what a name owns, if it exists
+abbrev pub own_node : Version → Name → Option Entry
+own_node version name = if exists name version then Some (owned name version) else None
+
 -- ---- cuts
 
 -- a name, if it owns an NS set

@@ -1,5 +1,5 @@
 -- A version of a zone, and the entries of the trie that it stands as.
-use Rattle.std.specs.Prelude.{◌≡◌, List, ◌++◌, map}
+use Rattle.std.specs.Prelude.{◌≡◌, ℕ, suc, List, ◌++◌, map}
 use Rattle.std.specs.List.{AllByRecursion}
 use Rattle.std.specs.List.Sorted.{IsStrictlySortedBy}
 use Rattle.std.specs.Map.{keys_of}
@@ -11,7 +11,6 @@ use Rattle.packed_node.specs.declared.Leaf.{Leaf}
 use Rattle.trie_model.specs.Keys as trie
 use Rattle.trie_model.specs.Order.{chain}
 use Rattle.trie_read.specs.Above.{AreAncestors}
-use Rattle.trie_read.specs.Readings.{AtSplit}
 use Rattle.trie_read.specs.declared.ancestors.Ancestor.{Ancestor}
 
 -- a name's records can be an item
@@ -49,7 +48,14 @@ pub record StandsOn (holds : List trie.Entry → Type 0) (stands : List trie.Ent
   pub whole : map trie_entry version ≡ before ++ after
   pub standing : stands before after
 
--- it shows a version, and an iterator stands at a name's place in it
-pub record IsPlaced (holds : List trie.Entry → Type 0) (stands : List trie.Entry → List trie.Entry → Type 0) (name : Name) (version : Version) : Type 0 where
-  pub shows : Shows holds version
-  pub at : AtSplit stands (key_of name) (map trie_entry version)
+-- a key has its positions before a place in common with some entry's, and no more with any
+pub record PartsAt (key : List ℕ) (all : List trie.Entry) (place : ℕ) : Type 0 where
+  pub entry : trie.Entry
+  pub there : trie.InList entry all
+  pub same : trie.Same place key entry.key
+  pub most : (x : trie.Entry) → trie.InList x all → trie.Same (suc place) key x.key → ⊥
+
+-- it shows a version, an iterator stands somewhere in it, and the key of a name parts at a place from its names' keys
+pub record IsApart (holds : List trie.Entry → Type 0) (stands : List trie.Entry → List trie.Entry → Type 0) (name : Name) (place : ℕ) (version : Version) : Type 0 where
+  pub on : StandsOn holds stands version
+  pub parts : PartsAt (key_of name) (map trie_entry version) place

@@ -2,7 +2,7 @@
 
 ghost use Rattle.std.specs.Prelude.{◌≡◌, ◌≤◌, ◌==◌, length, true};
 ghost use Rattle.std.specs.List.{find};
-ghost use Rattle.std.specs.Option.{is_some, option_map};
+ghost use Rattle.std.specs.Option.{option_map};
 ghost use Rattle.zone_model.specs.Keys.{most_item_octets};
 ghost use Rattle.zone_model.specs.Names.{is_under, ancestor};
 ghost use Rattle.zone_model.specs.Versions.{Version, owned};
@@ -27,13 +27,6 @@ fn leaf_of(above: &[Ancestor], labels: u8) -> Option<Leaf>
         }
     }
     None
-}
-
-/// Whether the name of so many labels is there.
-pub fn is_met(above: &[Ancestor], labels: u8) -> bool
-    ensures { result ≡ is_some (option_map (λ (a : Ancestor). a.leaf) (find (λ (a : Ancestor). a.labels == labels) above.now)) }
-{
-    leaf_of(above, labels).is_some()
 }
 
 /// Whether a name in the zone of an origin is a cut, if this is what it owns.

@@ -9,7 +9,6 @@ mod cut;
 mod found;
 mod kind;
 pub mod name_laws;
-mod near;
 mod node;
 mod question;
 mod records;

@@ -1,17 +1,17 @@
 //! What one name gives to an answer.
 
-ghost use Rattle.std.specs.Prelude.{◌≡◌, ◌≤◌, ◌-◌, ◌∷◌, [], length, Option, Some, None, MatchOption, true};
+ghost use Rattle.std.specs.Prelude.{◌≡◌, ◌≤◌, length, Option, Some, None, MatchOption, true};
 ghost use Rattle.std.specs.Option.{option_map};
 ghost use Rattle.zone_model.specs.Keys.{key_of, most_item_octets};
-ghost use Rattle.zone_model.specs.Names.{Name as Labels, ancestor, is_under};
+ghost use Rattle.zone_model.specs.Names.{Name as Labels, is_under};
 ghost use Rattle.zone_model.specs.Records.{rrset_of};
 ghost use Rattle.zone_model.specs.Splits.{split_name};
 ghost use Rattle.zone_model.specs.Versions.{Version, exists, owned};
 ghost use Rattle.zone_query.specs.Answers.{Ends, alias_in, by_alias, step, target_of, set_rows, ns_type};
 ghost use Rattle.zone_query.specs.Parts.{Gives, GivesAtOnce, NoneOver};
-ghost use Rattle.zone_query.specs.Standing.{IsPlaced, Shows, ShowsSome};
+ghost use Rattle.zone_query.specs.Standing.{IsApart, Shows, ShowsSome};
 
-use crate::cut::{cut_over, is_cut, is_met};
+use crate::cut::{cut_over, is_cut};
 use crate::kind::Kind;
 use crate::node::absent_node;
 use crate::records::read_owned;
@@ -123,27 +123,27 @@ fn give_own<S: RowSink>(
     give(alloc, entry, name, rtype, target, rows)
 }
 
-/// What a name that isn't there gives, where none above it is a cut and the walker's iterator stands at its place. Whether the name right
-/// above was met is known.
+/// What a name that isn't there gives, where none above it is a cut, whose key has its positions before a place in common with the nearest name's. The walker
+/// has the name's key.
 fn give_absent<V: Reading, S: RowSink>(
     alloc: Global,
     version: &mut V,
     walker: &mut Walker,
     name: &Name,
-    met: bool,
+    place: u16,
     rtype: u16,
     item: &mut [u8],
     rows: &mut S,
 ) -> Result<Next, AllocError>
-    requires placed { (zone : Version) × IsPlaced (V.holds version.old) (V.stands version.old walker.old.iter) name.now zone × ([] ≡ owned name.now zone)
-        × (met ≡ true → exists (ancestor (length name.now - 1) name.now) zone ≡ true) }
+    requires apart { (zone : Version) × IsApart (V.holds version.old) (V.stands version.old walker.old.iter) name.now place zone }
+    requires key { walker.old.key ≡ key_of name.now }
     requires room { most_item_octets ≤ length item.old }
     ensures same { version.new ≡ version.old }
-    ensures gives { (zone : Version) (origin : Labels) → IsPlaced (V.holds version.old) (V.stands version.old walker.old.iter) name.now zone
-        → NoneOver origin name.now zone → [] ≡ owned name.now zone → (met ≡ true → exists (ancestor (length name.now - 1) name.now) zone ≡ true)
+    ensures gives { (zone : Version) (origin : Labels) → IsApart (V.holds version.old) (V.stands version.old walker.old.iter) name.now place zone
+        → NoneOver origin name.now zone
         → Gives (step origin zone rtype name.now) (S.has rows.old) (S.has rows.new) walker.new.target result }
 {
-    match absent_node(version, walker, name, met, item) {
+    match absent_node(version, walker, name, place, item) {
         Some(held) => give(
             alloc,
             &held.view(item),
@@ -156,7 +156,7 @@ fn give_absent<V: Reading, S: RowSink>(
     }
 }
 
-/// What a name gives, by one walk of the trie: the cuts above it, what it owns, and its neighbours. The walker has the name's key.
+/// What a name gives, by one walk of the trie: the cuts above it, what it owns, or how far the nearest name is the same. The walker has the name's key.
 fn search<V: Reading, S: RowSink>(
     alloc: Global,
     version: &mut V,
@@ -177,19 +177,19 @@ fn search<V: Reading, S: RowSink>(
 {
     let _wire = name.wire(); // for the proof
     version.restart(&mut walker.iter);
-    let found = version.lookup(&mut walker.iter, &walker.key, &mut walker.above);
+    let reached = version.reach(&mut walker.iter, &walker.key, &mut walker.above);
     if let Some(cut) = cut_over(version, origin, name, walker.above.as_slice(), item) {
         return refer(alloc, &cut.name, &cut.view(item), rows);
     }
-    match found {
-        Some(leaf) => {
-            let len = version.read(leaf, item);
+    let Some(met) = reached else {
+        return Ok(Next::Ends(Kind::Nxdomain));
+    };
+    match met.difference {
+        Some(first) => give_absent(alloc, version, walker, name, first.place, rtype, item, rows),
+        None => {
+            let len = version.read(met.leaf, item);
             let entry = ItemView::of(name, &item[..len]);
             give_own(alloc, origin, name, &entry, rtype, &mut walker.target, rows)
-        }
-        None => {
-            let met = is_met(walker.above.as_slice(), name.labels().saturating_sub(1));
-            give_absent(alloc, version, walker, name, met, rtype, item, rows)
         }
     }
 }

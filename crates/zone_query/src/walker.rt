@@ -1,5 +1,8 @@
 //! What a question goes through a version with.
 
+ghost use Rattle.std.specs.Prelude.{◌≡◌, [], None};
+ghost use Rattle.trie_read.specs.Walks.{IsStart};
+
 use dns_name::Name;
 use shift_key::Key;
 use trie_read::{Ancestors, Iter};
@@ -15,7 +18,13 @@ pub struct Walker {
 }
 
 impl Walker {
-    pub fn new() -> Walker {
+    /// Nothing was asked for: the root's key, an iterator before the first name of no trie, no names, and no target.
+    pub fn new() -> Walker
+        ensures key { result.key ≡ [] }
+        ensures iter { IsStart None result.iter }
+        ensures above { result.above ≡ [] }
+        ensures target { result.target ≡ None }
+    {
         Walker {
             key: Key::root(),
             iter: Iter::start(None),

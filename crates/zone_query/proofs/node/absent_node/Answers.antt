@@ -1,56 +1,47 @@
-use Rattle.std.proofs.Common.{◌≡◌, ◌∙◌, ℕ, List, [], map, true, false, refl, sym, ap, subst, arith, Option, Some}
+use Rattle.std.proofs.Common.{◌≡◌, ◌∙◌, ◌<◌, ℕ, List, [], true, false, take, length, refl, sym, ap, subst, arith, Option, Some, MatchOption}
+use Rattle.zone_model.specs.Names.{Name, ancestor, star_under, wire}
 use Rattle.zone_model.specs.Keys.{key_of}
 use Rattle.zone_model.specs.Records.{Entry}
-use Rattle.zone_model.specs.Versions.{exists}
-use Rattle.trie_read.specs.Readings.{AtSplit}
-use Rattle.zone_query.specs.Answers.{wildcard_under}
-use Rattle.zone_query.specs.Neighbours.{Names}
-use Rattle.zone_query.specs.Parts.{IsNodeOf}
-use Rattle.zone_query.specs.Standing.{Shows, StandsOn, trie_entry}
-use Rattle.zone_query.proofs.AheadLaws.{ahead_shows}
-use Rattle.zone_query.proofs.HeldLaws.{named_by}
-use Rattle.zone_query.proofs.NodeLaws.{own_node, other_node}
+use Rattle.zone_model.specs.Versions.{Version, exists}
+use Rattle.trie_model.specs.Order.{labels_in}
+use Rattle.zone_query.specs.Answers.{wildcard_under, encloser, node}
+use Rattle.zone_query.specs.Parts.{IsNodeOf, own_node}
+use Rattle.zone_query.proofs.AncestorLaws.{self_under, none_too_long}
+use Rattle.zone_query.proofs.NodeLaws.{no_own, there_node, other_node}
+use Rattle.zone_query.proofs.ReachLaws.{not_there, ends_by, ends_behind, labels_within, encloser_by}
 use Rattle.zone_query.proofs.node.absent_node.Goals as goal
 
-pub returns-then-is_near-clause-node : goal.returns-then-is_near-clause-node
-returns-then-is_near-clause-node g c zone placed none met =
-    let at = placed.at in
-    let named = subst (λ (k : Option (List ℕ)). Names k c.name_ahead-after.result) (c.name_ahead-after.ensures.next at.before at.after at.standing) (named_by c.name_ahead-after.result c.name_ahead-after.ensures.name) in
-    let shown = ahead_shows c.args.name.now zone c.name_ahead-after.result at.before at.after c.wire-wire.ensures.name placed.shows.version_is at.split named in
-    let there : exists c.args.name.now zone ≡ true = sym shown ∙ sym c.is_near.ensures ∙ c.if-is_near.true in
-    ([], sym (ap (λ (e : Entry). Some e) none ∙ own_node zone c.args.name.now there), record { within = omega arith; says = refl })
+pub cut-encloser-requires : goal.cut-encloser-requires
+cut-encloser-requires g c =
+    let labels = c.labels_to.ensures ∙ ap (λ (k : List ℕ). labels_in (take c.args.place k)) c.requires.key in
+    let within = labels_within c.args.name.now c.args.place c.wire-wire.ensures.name in omega arith
 
-pub returns-in-None-clause-node : goal.returns-in-None-clause-node
-returns-in-None-clause-node g c zone placed none met =
-    let at = placed.at in
-    let first = c.name_ahead-after.ensures.next at.before at.after at.standing in
-    let named = subst (λ (k : Option (List ℕ)). Names k c.name_ahead-after.result) first (named_by c.name_ahead-after.result c.name_ahead-after.ensures.name) in
-    let shown = ahead_shows c.args.name.now zone c.name_ahead-after.result at.before at.after c.wire-wire.ensures.name placed.shows.version_is at.split named in
-    let never : exists c.args.name.now zone ≡ false = sym shown ∙ sym c.is_near.ensures ∙ c.if-is_near.false in
-    let stays : AtSplit (g.V.Reading.stands c.name_ahead-after.new.version c.name_ahead-after.new.iter) (key_of c.args.name.now) (map trie_entry zone) = record {
-      before = at.before;
-      after = at.after;
-      split = at.split;
-      standing = subst (λ s. g.V.Reading.stands s c.name_ahead-after.new.iter at.before at.after) (sym c.name_ahead-after.ensures.same) (c.name_ahead-after.ensures.stays at.before at.after at.standing);
-    } in
-    sym (ap (wildcard_under zone) (c.in-None.ensures.encloser zone stays c.wire-wire.ensures.name placed.shows.version_is first met never) ∙ other_node zone c.args.name.now never)
+pub returns-then-len-place-clause-node : goal.returns-then-len-place-clause-node
+returns-then-len-place-clause-node g c zone apart =
+    let size = ap (λ (k : List ℕ). length k) c.requires.key in
+    let there : exists c.args.name.now zone ≡ true = ends_by c.args.name.now c.args.name.now zone c.args.place c.wire-wire.ensures.name apart.on.shows.version_is.items (self_under c.args.name.now) apart.parts (let l = c.len.ensures.length in omega arith) in
+    ([], sym (ap (λ (e : Entry). Some e) (not_there c.args.name.now zone c.args.place apart.parts) ∙ there_node zone c.args.name.now there), record { within = omega arith; says = refl })
+
+-- the wildcard under the encloser answers
+by_encloser : (name top : Name) (zone : Version) (place : ℕ) → exists name zone ≡ false → Some top ≡ encloser zone name → own_node zone (star_under top) ≡ node zone name
+by_encloser name top zone place never e = ap (wildcard_under zone) e ∙ other_node zone name never
 
 pub returns-in-Some-clause-node : goal.returns-in-Some-clause-node
-returns-in-Some-clause-node g c zone placed none met =
-    let at = placed.at in
-    let first = c.name_ahead-after.ensures.next at.before at.after at.standing in
-    let named = subst (λ (k : Option (List ℕ)). Names k c.name_ahead-after.result) first (named_by c.name_ahead-after.result c.name_ahead-after.ensures.name) in
-    let shown = ahead_shows c.args.name.now zone c.name_ahead-after.result at.before at.after c.wire-wire.ensures.name placed.shows.version_is at.split named in
-    let never : exists c.args.name.now zone ≡ false = sym shown ∙ sym c.is_near.ensures ∙ c.if-is_near.false in
-    let stood = subst (λ s. g.V.Reading.stands s c.name_ahead-after.new.iter at.before at.after) (sym c.name_ahead-after.ensures.same) (c.name_ahead-after.ensures.stays at.before at.after at.standing) in
-    let stays : AtSplit (g.V.Reading.stands c.name_ahead-after.new.version c.name_ahead-after.new.iter) (key_of c.args.name.now) (map trie_entry zone) = record { before = at.before; after = at.after; split = at.split; standing = stood } in
-    let same = c.in-Some.ensures.same ∙ c.name_ahead-after.ensures.same in
-    let on : StandsOn (g.V.Reading.holds c.closest.new.version) (g.V.Reading.stands c.closest.new.version c.closest.new.iter) zone = record {
-      shows = subst (λ s. Shows (g.V.Reading.holds s) zone) (sym same) placed.shows;
-      before = at.before;
-      after = at.after;
-      whole = at.split.whole;
-      standing = subst (λ s. g.V.Reading.stands s c.closest.new.iter at.before at.after) (sym c.in-Some.ensures.same) (c.in-Some.ensures.stays at.before at.after stood);
-    } in
-    subst (λ (o : Option Entry). IsNodeOf c.wildcard_under.new.item o c.wildcard_under.result)
-    (ap (wildcard_under zone) (c.in-Some.ensures.encloser zone stays c.wire-wire.ensures.name placed.shows.version_is first met never) ∙ other_node zone c.args.name.now never) (c.wildcard_under.ensures.node zone on)
+returns-in-Some-clause-node g c zone apart =
+    let size = ap (λ (k : List ℕ). length k) c.requires.key in
+    let never : exists c.args.name.now zone ≡ false = ends_behind c.args.name.now c.args.name.now zone c.args.place (self_under c.args.name.now) apart.parts (let l = c.len.ensures.length in omega arith) in
+    let labels : c.labels_to.result ≡ labels_in (take c.args.place (key_of c.args.name.now)) = c.labels_to.ensures ∙ ap (λ (k : List ℕ). labels_in (take c.args.place k)) c.requires.key in
+    let above : Some c.cut-encloser.result ≡ encloser zone c.args.name.now =
+    ap (λ (x : Name). Some x) (c.cut-encloser.ensures ∙ ap (λ (n : ℕ). ancestor n c.args.name.now) labels) ∙ sym (encloser_by c.args.name.now zone c.args.place c.wire-wire.ensures.name apart.on.shows.version_is.items apart.parts) in
+    let star = subst (λ (o : Option Name). MatchOption o (255 < length (wire (star_under c.cut-encloser.result))) (λ s. s ≡ star_under c.cut-encloser.result)) c.in-Some.is c.star.ensures in
+    subst (λ (o : Option Entry). IsNodeOf c.existing.new.item o c.existing.result) (ap (own_node zone) star ∙ by_encloser c.args.name.now c.cut-encloser.result zone c.args.place never above) (c.existing.ensures.node zone apart.on)
+
+pub returns-in-None-clause-node : goal.returns-in-None-clause-node
+returns-in-None-clause-node g c zone apart =
+    let size = ap (λ (k : List ℕ). length k) c.requires.key in
+    let never : exists c.args.name.now zone ≡ false = ends_behind c.args.name.now c.args.name.now zone c.args.place (self_under c.args.name.now) apart.parts (let l = c.len.ensures.length in omega arith) in
+    let labels : c.labels_to.result ≡ labels_in (take c.args.place (key_of c.args.name.now)) = c.labels_to.ensures ∙ ap (λ (k : List ℕ). labels_in (take c.args.place k)) c.requires.key in
+    let above : Some c.cut-encloser.result ≡ encloser zone c.args.name.now =
+    ap (λ (x : Name). Some x) (c.cut-encloser.ensures ∙ ap (λ (n : ℕ). ancestor n c.args.name.now) labels) ∙ sym (encloser_by c.args.name.now zone c.args.place c.wire-wire.ensures.name apart.on.shows.version_is.items apart.parts) in
+    let long = subst (λ (o : Option Name). MatchOption o (255 < length (wire (star_under c.cut-encloser.result))) (λ s. s ≡ star_under c.cut-encloser.result)) c.in-None.is c.star.ensures in
+    sym (no_own zone (star_under c.cut-encloser.result) (none_too_long (star_under c.cut-encloser.result) zone long apart.on.shows.version_is.items) ∙ by_encloser c.args.name.now c.cut-encloser.result zone c.args.place never above)

@@ -2,24 +2,22 @@ use Rattle.std.proofs.Common.{◌∙◌, ap, sym, subst, append-nil, ◌++◌, N
 use Rattle.zone_model.specs.Records.{Entry}
 use Rattle.zone_query.specs.Answers.{Step, by_node}
 use Rattle.zone_query.specs.Parts.{Gives}
+use Rattle.zone_query.proofs.ReachLaws.{not_there}
 use Rattle.zone_query.proofs.StepLaws.{step_absent}
 use Rattle.zone_query.proofs.step.give_absent.Goals as goal
 
-pub absent_node-requires-clause-placed : goal.absent_node-requires-clause-placed
-absent_node-requires-clause-placed g c = (c.requires.placed.0, c.requires.placed.1)
-
 pub view-requires : goal.view-requires
-view-requires g c = let n = c.in-Some.ensures.node c.requires.placed.0 c.requires.placed.1 c.requires.placed.2 c.requires.placed.3 in (n.0, n.2)
+view-requires g c = let n = c.in-Some.ensures.node c.requires.apart.0 c.requires.apart.1 in (n.0, n.2)
 
 pub returns-in-Some-clause-gives : goal.returns-in-Some-clause-gives
-returns-in-Some-clause-gives g c zone origin placed none empty met =
-    let n = c.in-Some.ensures.node zone placed empty met in
+returns-in-Some-clause-gives g c zone origin apart none =
+    let n = c.in-Some.ensures.node zone apart in
     let seen = c.view.ensures n.0 n.2 in
     subst (λ (s : Step). Gives s (g.S.RowSink.has c.args.rows.now) (g.S.RowSink.has c.give.new.rows) c.give.new.target c.give.result)
-    (ap (λ (e : Entry). by_node c.args.name.now c.args.rtype (Some e)) seen ∙ step_absent origin c.args.name.now zone c.args.rtype (Some n.0) none empty (sym n.1)) c.give.ensures
+    (ap (λ (e : Entry). by_node c.args.name.now c.args.rtype (Some e)) seen ∙ step_absent origin c.args.name.now zone c.args.rtype (Some n.0) none (not_there c.args.name.now zone c.args.place apart.parts) (sym n.1)) c.give.ensures
 
 pub returns-in-None-clause-gives : goal.returns-in-None-clause-gives
-returns-in-None-clause-gives g c zone origin placed none empty met =
-    let n = c.in-None.ensures.node zone placed empty met in
-    let is = step_absent origin c.args.name.now zone c.args.rtype None none empty (sym n) in
+returns-in-None-clause-gives g c zone origin apart none =
+    let n = c.in-None.ensures.node zone apart in
+    let is = step_absent origin c.args.name.now zone c.args.rtype None none (not_there c.args.name.now zone c.args.place apart.parts) (sym n) in
     (ap (λ (s : Step). s.next) is, λ rows had. subst (g.S.RowSink.has c.args.rows.now) (sym (append-nil rows) ∙ ap (λ (s : Step). rows ++ s.rows) is) had)

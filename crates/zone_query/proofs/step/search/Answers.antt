@@ -1,15 +1,22 @@
-use Rattle.std.proofs.Common.{rules, ◌≡◌, ◌∙◌, ℕ, ◌-◌, true, List, [], map, sym, ap, subst}
-use Rattle.zone_model.specs.Names.{ancestor}
+use Rattle.std.proofs.Common.{rules, ◌∙◌, ℕ, List, [], ◌++◌, map, refl, sym, ap, subst, append-nil, None}
 use Rattle.zone_model.specs.Keys.{key_of}
-use Rattle.zone_model.specs.Versions.{exists, owned}
+use Rattle.zone_model.specs.Versions.{owned}
 use Rattle.trie_model.specs.Order.{chain}
 use Rattle.trie_read.specs.Above.{AreAncestors}
-use Rattle.trie_read.specs.Readings.{AtSplit}
-use Rattle.zone_query.specs.Standing.{IsPlaced, Shows, ShowsAbove, trie_entry}
+use Rattle.zone_query.specs.Answers.{Step}
+use Rattle.zone_query.specs.Standing.{IsApart, PartsAt, Shows, ShowsAbove, StandsOn, trie_entry}
 use Rattle.zone_query.proofs.ChainLaws.{there_exists}
-use Rattle.zone_query.proofs.OwnedLaws.{nothing_owned}
-use Rattle.zone_query.proofs.HeldLaws.{met_exists, read_of}
+use Rattle.zone_query.proofs.HeldLaws.{read_of}
+use Rattle.zone_query.proofs.ReachLaws.{parts_at, found_at, none_owned, no_node}
+use Rattle.zone_query.proofs.StepLaws.{step_absent}
 use Rattle.zone_query.proofs.step.search.Goals as goal
+
+pub read-len-requires-clause-there : goal.read-len-requires-clause-there
+read-len-requires-clause-there g c =
+    let all = map trie_entry c.requires.shown.0 in
+    let start = subst (λ s. g.V.Reading.stands s c.restart.new.iter [] all) (sym c.restart.ensures.same) (c.restart.ensures.start all c.requires.shown.1.held) in
+    let near = c.in-Some-reached.ensures.nearest [] all start in
+    (near.entry, subst (λ s. g.V.Reading.lies s c.in-Some-reached.met.leaf near.entry) (sym (c.cut_over.ensures.same ∙ c.reach-reached.ensures.same)) near.leaf)
 
 pub of-entry-requires : goal.of-entry-requires
 of-entry-requires g c =
@@ -17,71 +24,83 @@ of-entry-requires g c =
     let shows = c.requires.shown.1 in
     let all = map trie_entry zone in
     let start = subst (λ s. g.V.Reading.stands s c.restart.new.iter [] all) (sym c.restart.ensures.same) (c.restart.ensures.start all shows.held) in
-    let leaf = c.in-Some-found.ensures.leaf [] all start in
-    let lies = subst (λ s. g.V.Reading.lies s c.in-Some-found.leaf leaf.0) (sym (c.cut_over.ensures.same ∙ c.lookup-found.ensures.same)) leaf.3 in
-    let read = c.read-len.ensures.item leaf.0 lies in
-    (owned c.args.name.now zone, (read_of c.args.name.now zone leaf.0 c.read-len.new.out c.read-len.result c.wire-wire.ensures.name shows.version_is leaf.1 (leaf.2 ∙ c.requires.key) read.0 read.1).says)
+    let near = c.in-Some-reached.ensures.nearest [] all start in
+    let lies = subst (λ s. g.V.Reading.lies s c.in-Some-reached.met.leaf near.entry) (sym (c.cut_over.ensures.same ∙ c.reach-reached.ensures.same)) near.leaf in
+    let key = found_at (g.V.Reading.lies c.restart.new.self) c.args.walker.now.key all c.in-Some-reached.met c.in-None.is near in
+    let read = c.read-len.ensures.item near.entry lies in
+    (owned c.args.name.now zone, (read_of c.args.name.now zone near.entry c.read-len.new.out c.read-len.result c.wire-wire.ensures.name shows.version_is near.there (key ∙ c.requires.key) read.0 read.1).says)
 
-pub give_absent-requires-clause-placed : goal.give_absent-requires-clause-placed
-give_absent-requires-clause-placed g c =
+pub give_absent-requires-clause-apart : goal.give_absent-requires-clause-apart
+give_absent-requires-clause-apart g c =
     let zone = c.requires.shown.0 in
     let shows = c.requires.shown.1 in
     let all = map trie_entry zone in
     let start = subst (λ s. g.V.Reading.stands s c.restart.new.iter [] all) (sym c.restart.ensures.same) (c.restart.ensures.start all shows.held) in
-    let leaf = c.in-None.ensures.leaf [] all start in
-    let same = sym (c.cut_over.ensures.same ∙ c.lookup-found.ensures.same) in
-    let split = subst (λ s. AtSplit (g.V.Reading.stands s c.lookup-found.new.iter) c.args.walker.now.key all) same (c.in-None.ensures.split [] all start) in
-    let placed : IsPlaced (g.V.Reading.holds c.cut_over.new.version) (g.V.Reading.stands c.cut_over.new.version c.lookup-found.new.iter) c.args.name.now zone = record {
-      shows = subst (λ s. Shows (g.V.Reading.holds s) zone) (sym (c.cut_over.ensures.same ∙ c.lookup-found.ensures.same ∙ c.restart.ensures.same)) shows;
-      at = subst (λ (k : List ℕ). AtSplit (g.V.Reading.stands c.cut_over.new.version c.lookup-found.new.iter) k all) c.requires.key split;
+    let near = c.in-Some-reached.ensures.nearest [] all start in
+    let same = sym (c.cut_over.ensures.same ∙ c.reach-reached.ensures.same) in
+    let on : StandsOn (g.V.Reading.holds c.cut_over.new.version) (g.V.Reading.stands c.cut_over.new.version c.reach-reached.new.iter) zone = record {
+      shows = subst (λ s. Shows (g.V.Reading.holds s) zone) (sym (c.cut_over.ensures.same ∙ c.reach-reached.ensures.same ∙ c.restart.ensures.same)) shows;
+      before = [];
+      after = all;
+      whole = refl;
+      standing = subst (λ s. g.V.Reading.stands s c.reach-reached.new.iter [] all) same (c.in-Some-reached.ensures.start [] all start);
     } in
-    let names = subst (λ s. AreAncestors (g.V.Reading.lies s) (chain c.args.walker.now.key all) c.lookup-found.new.above) (sym c.lookup-found.ensures.same) (c.in-None.ensures.above [] all start) in (
-      zone,
-      placed,
-      nothing_owned c.args.name.now zone (λ t. leaf t.0 t.1 (t.2 ∙ sym c.requires.key)),
-      λ met. subst (λ (n : ℕ). exists (ancestor n c.args.name.now) zone ≡ true) (c.saturating_sub.ensures ∙ ap (λ (n : ℕ). n - 1) c.labels.ensures)
-          (met_exists (g.V.Reading.lies c.lookup-found.new.self) c.args.name.now zone c.saturating_sub.result c.as_slice-in-None.result.now c.wire-wire.ensures.name shows.version_is
-          (subst (AreAncestors (g.V.Reading.lies c.lookup-found.new.self) (chain (key_of c.args.name.now) all)) (sym c.as_slice-in-None.ensures.names)
-          (subst (λ (k : List ℕ). AreAncestors (g.V.Reading.lies c.lookup-found.new.self) (chain k all) c.lookup-found.new.above) c.requires.key names)) (sym c.is_met-met.ensures ∙ met)),
-    )
+    let parts = parts_at (g.V.Reading.lies c.restart.new.self) c.args.walker.now.key all c.in-Some-reached.met c.in-Some-difference.first c.in-Some-difference.is near in
+    (zone, record { on = on; parts = subst (λ (k : List ℕ). PartsAt k all c.in-Some-difference.first.place) c.requires.key parts })
 
 pub returns-in-Some-clause-gives : goal.returns-in-Some-clause-gives
 returns-in-Some-clause-gives g c = let referred = c.refer.ensures c.args.walker.now.target in search (rules, referred)
 
-pub returns-in-Some-found-clause-gives : goal.returns-in-Some-found-clause-gives
-returns-in-Some-found-clause-gives g c zone shows =
+pub returns-in_default-reached-clause-gives : goal.returns-in_default-reached-clause-gives
+returns-in_default-reached-clause-gives g c zone shows =
     let all = map trie_entry zone in
     let start = subst (λ s. g.V.Reading.stands s c.restart.new.iter [] all) (sym c.restart.ensures.same) (c.restart.ensures.start all shows.held) in
-    let leaf = c.in-Some-found.ensures.leaf [] all start in
-    let lies = subst (λ s. g.V.Reading.lies s c.in-Some-found.leaf leaf.0) (sym (c.cut_over.ensures.same ∙ c.lookup-found.ensures.same)) leaf.3 in
-    let read = c.read-len.ensures.item leaf.0 lies in
-    let key = leaf.2 ∙ c.requires.key in
-    let is = read_of c.args.name.now zone leaf.0 c.read-len.new.out c.read-len.result c.wire-wire.ensures.name shows.version_is leaf.1 key read.0 read.1 in
-    let names = subst (λ s. AreAncestors (g.V.Reading.lies s) (chain c.args.walker.now.key all) c.lookup-found.new.above) (sym c.lookup-found.ensures.same) (c.in-Some-found.ensures.above [] all start) in
-    let above : ShowsAbove (g.V.Reading.holds c.lookup-found.new.self) (g.V.Reading.lies c.lookup-found.new.self) c.args.name.now c.as_slice.result.now zone = record {
-      shows = subst (λ s. Shows (g.V.Reading.holds s) zone) (sym (c.lookup-found.ensures.same ∙ c.restart.ensures.same)) shows;
-      above_are = subst (AreAncestors (g.V.Reading.lies c.lookup-found.new.self) (chain (key_of c.args.name.now) all)) (sym c.as_slice.ensures.names) (subst (λ (k : List ℕ). AreAncestors (g.V.Reading.lies c.lookup-found.new.self) (chain k all) c.lookup-found.new.above) c.requires.key names);
+    let empty = c.in_default-reached.ensures.nearest [] all start in
+    let names = subst (λ s. AreAncestors (g.V.Reading.lies s) (chain c.args.walker.now.key all) c.reach-reached.new.above) (sym c.reach-reached.ensures.same) (c.in_default-reached.ensures.above [] all start) in
+    let above : ShowsAbove (g.V.Reading.holds c.reach-reached.new.self) (g.V.Reading.lies c.reach-reached.new.self) c.args.name.now c.as_slice.result.now zone = record {
+      shows = subst (λ s. Shows (g.V.Reading.holds s) zone) (sym (c.reach-reached.ensures.same ∙ c.restart.ensures.same)) shows;
+      above_are = subst (AreAncestors (g.V.Reading.lies c.reach-reached.new.self) (chain (key_of c.args.name.now) all)) (sym c.as_slice.ensures.names) (subst (λ (k : List ℕ). AreAncestors (g.V.Reading.lies c.reach-reached.new.self) (chain k all) c.reach-reached.new.above) c.requires.key names);
     } in
-    c.give_own.ensures zone (c.in_default.ensures.cut zone above) (c.of-entry.ensures (owned c.args.name.now zone) is.says) (there_exists c.args.name.now zone c.wire-wire.ensures.name shows.version_is.items (leaf.0, leaf.1, key))
+    let is = step_absent c.args.origin.now c.args.name.now zone c.args.rtype None (c.in_default.ensures.cut zone above) (none_owned c.args.name.now zone empty) (no_node c.args.name.now zone empty) in
+    (ap (λ (s : Step). s.next) is, λ rows had. subst (g.S.RowSink.has c.args.rows.now) (sym (append-nil rows) ∙ ap (λ (s : Step). rows ++ s.rows) is) had)
+
+pub returns-in-Some-difference-clause-gives : goal.returns-in-Some-difference-clause-gives
+returns-in-Some-difference-clause-gives g c zone shows =
+    let all = map trie_entry zone in
+    let start = subst (λ s. g.V.Reading.stands s c.restart.new.iter [] all) (sym c.restart.ensures.same) (c.restart.ensures.start all shows.held) in
+    let near = c.in-Some-reached.ensures.nearest [] all start in
+    let same = sym (c.cut_over.ensures.same ∙ c.reach-reached.ensures.same) in
+    let on : StandsOn (g.V.Reading.holds c.cut_over.new.version) (g.V.Reading.stands c.cut_over.new.version c.reach-reached.new.iter) zone = record {
+      shows = subst (λ s. Shows (g.V.Reading.holds s) zone) (sym (c.cut_over.ensures.same ∙ c.reach-reached.ensures.same ∙ c.restart.ensures.same)) shows;
+      before = [];
+      after = all;
+      whole = refl;
+      standing = subst (λ s. g.V.Reading.stands s c.reach-reached.new.iter [] all) same (c.in-Some-reached.ensures.start [] all start);
+    } in
+    let parts = parts_at (g.V.Reading.lies c.restart.new.self) c.args.walker.now.key all c.in-Some-reached.met c.in-Some-difference.first c.in-Some-difference.is near in
+    let apart : IsApart (g.V.Reading.holds c.cut_over.new.version) (g.V.Reading.stands c.cut_over.new.version c.reach-reached.new.iter) c.args.name.now c.in-Some-difference.first.place zone = record {
+      on = on;
+      parts = subst (λ (k : List ℕ). PartsAt k all c.in-Some-difference.first.place) c.requires.key parts;
+    } in
+    let names = subst (λ s. AreAncestors (g.V.Reading.lies s) (chain c.args.walker.now.key all) c.reach-reached.new.above) (sym c.reach-reached.ensures.same) (c.in-Some-reached.ensures.above [] all start) in
+    let above : ShowsAbove (g.V.Reading.holds c.reach-reached.new.self) (g.V.Reading.lies c.reach-reached.new.self) c.args.name.now c.as_slice.result.now zone = record {
+      shows = subst (λ s. Shows (g.V.Reading.holds s) zone) (sym (c.reach-reached.ensures.same ∙ c.restart.ensures.same)) shows;
+      above_are = subst (AreAncestors (g.V.Reading.lies c.reach-reached.new.self) (chain (key_of c.args.name.now) all)) (sym c.as_slice.ensures.names) (subst (λ (k : List ℕ). AreAncestors (g.V.Reading.lies c.reach-reached.new.self) (chain k all) c.reach-reached.new.above) c.requires.key names);
+    } in
+    c.give_absent.ensures.gives zone c.args.origin.now apart (c.in_default.ensures.cut zone above)
 
 pub returns-in-None-clause-gives : goal.returns-in-None-clause-gives
 returns-in-None-clause-gives g c zone shows =
     let all = map trie_entry zone in
     let start = subst (λ s. g.V.Reading.stands s c.restart.new.iter [] all) (sym c.restart.ensures.same) (c.restart.ensures.start all shows.held) in
-    let leaf = c.in-None.ensures.leaf [] all start in
-    let same = sym (c.cut_over.ensures.same ∙ c.lookup-found.ensures.same) in
-    let split = subst (λ s. AtSplit (g.V.Reading.stands s c.lookup-found.new.iter) c.args.walker.now.key all) same (c.in-None.ensures.split [] all start) in
-    let placed : IsPlaced (g.V.Reading.holds c.cut_over.new.version) (g.V.Reading.stands c.cut_over.new.version c.lookup-found.new.iter) c.args.name.now zone = record {
-      shows = subst (λ s. Shows (g.V.Reading.holds s) zone) (sym (c.cut_over.ensures.same ∙ c.lookup-found.ensures.same ∙ c.restart.ensures.same)) shows;
-      at = subst (λ (k : List ℕ). AtSplit (g.V.Reading.stands c.cut_over.new.version c.lookup-found.new.iter) k all) c.requires.key split;
+    let near = c.in-Some-reached.ensures.nearest [] all start in
+    let lies = subst (λ s. g.V.Reading.lies s c.in-Some-reached.met.leaf near.entry) (sym (c.cut_over.ensures.same ∙ c.reach-reached.ensures.same)) near.leaf in
+    let key = found_at (g.V.Reading.lies c.restart.new.self) c.args.walker.now.key all c.in-Some-reached.met c.in-None.is near ∙ c.requires.key in
+    let read = c.read-len.ensures.item near.entry lies in
+    let is = read_of c.args.name.now zone near.entry c.read-len.new.out c.read-len.result c.wire-wire.ensures.name shows.version_is near.there key read.0 read.1 in
+    let names = subst (λ s. AreAncestors (g.V.Reading.lies s) (chain c.args.walker.now.key all) c.reach-reached.new.above) (sym c.reach-reached.ensures.same) (c.in-Some-reached.ensures.above [] all start) in
+    let above : ShowsAbove (g.V.Reading.holds c.reach-reached.new.self) (g.V.Reading.lies c.reach-reached.new.self) c.args.name.now c.as_slice.result.now zone = record {
+      shows = subst (λ s. Shows (g.V.Reading.holds s) zone) (sym (c.reach-reached.ensures.same ∙ c.restart.ensures.same)) shows;
+      above_are = subst (AreAncestors (g.V.Reading.lies c.reach-reached.new.self) (chain (key_of c.args.name.now) all)) (sym c.as_slice.ensures.names) (subst (λ (k : List ℕ). AreAncestors (g.V.Reading.lies c.reach-reached.new.self) (chain k all) c.reach-reached.new.above) c.requires.key names);
     } in
-    let names = subst (λ s. AreAncestors (g.V.Reading.lies s) (chain c.args.walker.now.key all) c.lookup-found.new.above) (sym c.lookup-found.ensures.same) (c.in-None.ensures.above [] all start) in
-    let above : ShowsAbove (g.V.Reading.holds c.lookup-found.new.self) (g.V.Reading.lies c.lookup-found.new.self) c.args.name.now c.as_slice.result.now zone = record {
-      shows = subst (λ s. Shows (g.V.Reading.holds s) zone) (sym (c.lookup-found.ensures.same ∙ c.restart.ensures.same)) shows;
-      above_are = subst (AreAncestors (g.V.Reading.lies c.lookup-found.new.self) (chain (key_of c.args.name.now) all)) (sym c.as_slice.ensures.names) (subst (λ (k : List ℕ). AreAncestors (g.V.Reading.lies c.lookup-found.new.self) (chain k all) c.lookup-found.new.above) c.requires.key names);
-    } in
-    c.give_absent.ensures.gives zone c.args.origin.now placed (c.in_default.ensures.cut zone above) (nothing_owned c.args.name.now zone (λ t. leaf t.0 t.1 (t.2 ∙ sym c.requires.key)))
-    (λ met. subst (λ (n : ℕ). exists (ancestor n c.args.name.now) zone ≡ true) (c.saturating_sub.ensures ∙ ap (λ (n : ℕ). n - 1) c.labels.ensures)
-    (met_exists (g.V.Reading.lies c.lookup-found.new.self) c.args.name.now zone c.saturating_sub.result c.as_slice-in-None.result.now c.wire-wire.ensures.name shows.version_is
-    (subst (AreAncestors (g.V.Reading.lies c.lookup-found.new.self) (chain (key_of c.args.name.now) all)) (sym c.as_slice-in-None.ensures.names)
-    (subst (λ (k : List ℕ). AreAncestors (g.V.Reading.lies c.lookup-found.new.self) (chain k all) c.lookup-found.new.above) c.requires.key names)) (sym c.is_met-met.ensures ∙ met)))
+    c.give_own.ensures zone (c.in_default.ensures.cut zone above) (c.of-entry.ensures (owned c.args.name.now zone) is.says) (there_exists c.args.name.now zone c.wire-wire.ensures.name shows.version_is.items (near.entry, near.there, key))
