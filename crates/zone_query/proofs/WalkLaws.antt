@@ -1,5 +1,5 @@
 -- Names that an iterator has passed, and those that are left.
-use Rattle.std.proofs.Common.{◌≡◌, ◌∙◌, ℕ, ◌≤◌, Bool, true, false, not, List, [], ◌∷◌, ◌++◌, ◌⊎◌, inl, inr, Some, None, length, map, take, reverse, refl, sym, ap, subst}
+use Rattle.std.proofs.Common.{◌≡◌, ◌∙◌, ℕ, ◌≤◌, Bool, true, false, not, List, [], ◌∷◌, ◌++◌, ◌⊎◌, inl, inr, length, map, take, reverse, refl, sym, ap, subst}
 use Rattle.std.proofs.lemmas.List.{map-append, append_assoc, reverse-append, append-nil, take_all}
 use Rattle.std.specs.List.{AllByRecursion, filter}
 use Rattle.std.specs.Map.{keys_of}
@@ -12,6 +12,7 @@ use Rattle.zone_model.specs.Keys.{key_of}
 use Rattle.zone_model.specs.Records as records
 use Rattle.zone_model.specs.Versions.{Version}
 use Rattle.zone_model.proofs.KeyLaws.{key_once}
+use Rattle.packed_node.specs.declared.Leaf.{Leaf}
 use Rattle.trie_model.specs.Keys.{Entry, InList}
 use Rattle.zone_query.proofs.KeyOrder.{before_key, up_to_key}
 use Rattle.zone_query.specs.Around.{before, from}
@@ -40,15 +41,14 @@ pub record Backed (stands : List Entry → List Entry → Type 0) (names all : L
 -- ---- forwards
 
 pub walked_on : (old new : List Entry → List Entry → Type 0) (names all : List Name) (name : Name) → IsName name → Walked old names all →
-    ((before after : List Entry) (e : Entry) → old before (e ∷ after) → Some (key_of name) ≡ Some e.key) → ((before : List Entry) → old before [] → Some (key_of name) ≡ None) →
+    ((before after : List Entry) (e : Entry) → old before (e ∷ after) → key_of name ≡ e.key) → ((before : List Entry) → old before [] → ⊥) →
     ((before after : List Entry) (e : Entry) → old before (e ∷ after) → new (before ++ e ∷ []) after) → Walked new (names ++ name ∷ []) all
 walked_on old new names all name is w next end passed = by_left w.left w.items w.standing w.whole
   where
     by_left : (left : Version) → AllByRecursion IsStorable left → old w.before (map trie_entry left) → names ++ keys_of left ≡ all → Walked new (names ++ name ∷ []) all
-    by_left [] items s whole = absurd (let h : Some (key_of name) ≡ None = end w.before s in cc)
+    by_left [] items s whole = absurd (end w.before s)
     by_left (pair ∷ left) items s whole =
-        let found : Some (key_of name) ≡ Some (key_of pair.0) = next w.before (map trie_entry left) (trie_entry pair) s in
-        let keys : key_of name ≡ key_of pair.0 = cc in
+        let keys : key_of name ≡ key_of pair.0 = next w.before (map trie_entry left) (trie_entry pair) s in
         let same : name ≡ pair.0 = key_once name pair.0 is.each items.0.name.each keys in
         record {
           before = w.before ++ trie_entry pair ∷ [];
@@ -66,13 +66,21 @@ walked_out old names all w never = by_left w.left w.standing w.whole
     by_left [] s whole = sym (append-nil names) ∙ whole
     by_left (pair ∷ left) s whole = absurd (never w.before (map trie_entry left) (trie_entry pair) s)
 
-pub standing_on : (old new : List Entry → List Entry → Type 0) (key : List ℕ) → IsStanding old → ((before : List Entry) → old before [] → Some key ≡ None) →
+pub standing_on : (old new : List Entry → List Entry → Type 0) → IsStanding old → ((before : List Entry) → old before [] → ⊥) →
     ((before after : List Entry) (e : Entry) → old before (e ∷ after) → new (before ++ e ∷ []) after) → IsStanding new
-standing_on old new key s end passed = by_after s.1.0 s.1.1
+standing_on old new s end passed = by_after s.1.0 s.1.1
   where
     by_after : (after : List Entry) → old s.0 after → IsStanding new
-    by_after [] x = absurd (let h : Some key ≡ None = end s.0 x in cc)
+    by_after [] x = absurd (end s.0 x)
     by_after (e ∷ after) x = (s.0 ++ e ∷ [], (after, passed s.0 after e x))
+
+-- the leaf of the entry that an iterator has before it
+pub faced_leaf : (stands : List Entry → List Entry → Type 0) (lies : Leaf → Entry → Type 0) (leaf : Leaf) → IsStanding stands → ((before after : List Entry) (e : Entry) → stands before (e ∷ after) → lies leaf e) → ((before : List Entry) → stands before [] → ⊥) → (e : Entry) × lies leaf e
+faced_leaf stands lies leaf s next end = by_after s.1.0 s.1.1
+  where
+    by_after : (after : List Entry) → stands s.0 after → (e : Entry) × lies leaf e
+    by_after [] x = absurd (end s.0 x)
+    by_after (e ∷ after) x = (e, next s.0 after e x)
 
 -- ---- backwards
 
@@ -88,15 +96,14 @@ turned : (rest : Version) (pair : Name × records.Entry) → reverse (keys_of (r
 turned rest pair = ap (λ (names : List Name). reverse names) (keys-append rest (pair ∷ [])) ∙ reverse-append (keys_of rest) (pair.0 ∷ [])
 
 pub backed_on : (old new : List Entry → List Entry → Type 0) (names all : List Name) (name : Name) → IsName name → Backed old names all →
-    ((before after : List Entry) (e : Entry) → old (before ++ e ∷ []) after → Some (key_of name) ≡ Some e.key) → ((after : List Entry) → old [] after → Some (key_of name) ≡ None) →
+    ((before after : List Entry) (e : Entry) → old (before ++ e ∷ []) after → key_of name ≡ e.key) → ((after : List Entry) → old [] after → ⊥) →
     ((before after : List Entry) (e : Entry) → old (before ++ e ∷ []) after → new before (e ∷ after)) → Backed new (names ++ name ∷ []) all
 backed_on old new names all name is w prev beginning passed = elim (last_or_none w.left) [
-  | inl e ↦ absurd (let h : Some (key_of name) ≡ None = beginning w.after (subst (λ (v : Version). old (map trie_entry v) w.after) e w.standing) in cc)
+  | inl e ↦ absurd (beginning w.after (subst (λ (v : Version). old (map trie_entry v) w.after) e w.standing))
   | inr x ↦ (
       let s = subst (λ (v : List Entry). old v w.after) (map-append trie_entry x.rest (x.pair ∷ [])) (subst (λ (v : Version). old (map trie_entry v) w.after) x.is w.standing) in
       let items = all_but_last x.rest x.pair (subst (AllByRecursion IsStorable) x.is w.items) in
-      let found : Some (key_of name) ≡ Some (key_of x.pair.0) = prev (map trie_entry x.rest) w.after (trie_entry x.pair) s in
-      let keys : key_of name ≡ key_of x.pair.0 = cc in
+      let keys : key_of name ≡ key_of x.pair.0 = prev (map trie_entry x.rest) w.after (trie_entry x.pair) s in
       let same : name ≡ x.pair.0 = key_once name x.pair.0 is.each items.1.name.each keys in
       let whole : names ++ x.pair.0 ∷ reverse (keys_of x.rest) ≡ all = ap (λ (l : List Name). names ++ l) (sym (turned x.rest x.pair)) ∙ ap (λ (v : Version). names ++ reverse (keys_of v)) (sym x.is) ∙ w.whole in
       record {
@@ -128,11 +135,18 @@ last_entry (x ∷ before) = elim (last_entry before) [
   | inr h ↦ inr (record { rest = x ∷ h.rest; e = h.e; is = ap (λ (v : List Entry). x ∷ v) h.is })
 ]
 
-pub standing_back : (old new : List Entry → List Entry → Type 0) (key : List ℕ) → IsStanding old → ((after : List Entry) → old [] after → Some key ≡ None) →
+pub standing_back : (old new : List Entry → List Entry → Type 0) → IsStanding old → ((after : List Entry) → old [] after → ⊥) →
     ((before after : List Entry) (e : Entry) → old (before ++ e ∷ []) after → new before (e ∷ after)) → IsStanding new
-standing_back old new key s beginning passed = elim (last_entry s.0) [
-  | inl e ↦ absurd (let h : Some key ≡ None = beginning s.1.0 (subst (λ (v : List Entry). old v s.1.0) e s.1.1) in cc)
+standing_back old new s beginning passed = elim (last_entry s.0) [
+  | inl e ↦ absurd (beginning s.1.0 (subst (λ (v : List Entry). old v s.1.0) e s.1.1))
   | inr x ↦ (x.rest, (x.e ∷ s.1.0, passed x.rest s.1.0 x.e (subst (λ (v : List Entry). old v s.1.0) x.is s.1.1)))
+]
+
+-- the leaf of the entry that it has behind it
+pub passed_leaf : (stands : List Entry → List Entry → Type 0) (lies : Leaf → Entry → Type 0) (leaf : Leaf) → IsStanding stands → ((before after : List Entry) (e : Entry) → stands (before ++ e ∷ []) after → lies leaf e) → ((after : List Entry) → stands [] after → ⊥) → (e : Entry) × lies leaf e
+passed_leaf stands lies leaf s prev beginning = elim (last_entry s.0) [
+  | inl e ↦ absurd (beginning s.1.0 (subst (λ (v : List Entry). stands v s.1.0) e s.1.1))
+  | inr x ↦ (x.e, prev x.rest s.1.0 x.e (subst (λ (v : List Entry). stands v s.1.0) x.is s.1.1))
 ]
 
 -- a beginning as long as what is wanted of the whole is what is wanted

@@ -28,12 +28,10 @@ fn next_names<V: Reading>(
 {
     let mut names = Vec::new(alloc);
     while names.len() < most {
-        let Some(key) = version.next(iter) else {
+        let Some(leaf) = version.next_leaf(iter) else {
             return Ok(names);
         };
-        let name = key.to_name();
-        let _wire = name.wire(); // for the proof
-        names.push(name)?;
+        names.push(version.name(leaf))?;
     }
     Ok(names)
 }
@@ -52,12 +50,10 @@ fn previous_names<V: Reading>(
 {
     let mut names = Vec::new(alloc);
     while names.len() < most {
-        let Some(key) = version.prev(iter) else {
+        let Some(leaf) = version.prev_leaf(iter) else {
             return Ok(names);
         };
-        let name = key.to_name();
-        let _wire = name.wire(); // for the proof
-        names.push(name)?;
+        names.push(version.name(leaf))?;
     }
     Ok(names)
 }
