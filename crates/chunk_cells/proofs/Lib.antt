@@ -1,3 +1,4 @@
 pub mod ItemLaws
 mod TailLemmas
+mod CopyLaws
 pub mod LayingLaws

@@ -4,7 +4,7 @@
 //! serve them alike (docs/CELLS.md).
 #![tactic(auto)]
 
-ghost use Rattle.std.specs.Prelude.{◌≡◌, ◌≢◌, ◌/◌, ℕ};
+ghost use Rattle.std.specs.Prelude.{◌≡◌, ◌≢◌, ◌+◌, ◌/◌, ◌^◌, ◌<◌, ◌≤◌, ℕ};
 
 pub mod extents;
 mod front;
@@ -37,7 +37,7 @@ pub trait CellRead {
 /// Cells that can be written, chunk by chunk. A chunk is free or given; only cells of a given chunk are written, and none
 /// that belongs to a kept version of the trie.
 pub trait CellWrite: CellRead {
-    ghost use Rattle.std.specs.Prelude.{◌≡◌, ◌≢◌, ◌/◌, ℕ, List, Bool, true, false, slice_set, Contains};
+    ghost use Rattle.std.specs.Prelude.{◌≡◌, ◌≢◌, ◌+◌, ◌/◌, ◌^◌, ◌<◌, ◌≤◌, ℕ, List, Bool, true, false, slice_set, Contains};
     ghost use Rattle.packed_node.specs.declared.Cell.{Cell};
     ghost use Rattle.chunk_cells.specs.Chunks.{IsGiven, IsFree};
 
@@ -53,6 +53,19 @@ pub trait CellWrite: CellRead {
         requires unkept { ¬ Contains (kept self.old) at }
         ensures written { Self.has self.new at cell }
         ensures others { (q : ℕ) (c : Cell) → q ≢ at → Self.has self.old q c → Self.has self.new q c }
+        ensures given { given self.new ≡ given self.old }
+        ensures kept { kept self.new ≡ kept self.old };
+
+    /// Copies n cells side by side to others.
+    fn copy_row(&mut self, from: Ref, to: Ref, n: u32)
+        requires inside { from + n ≤ 2 ^ 22 }
+        requires within { to + n ≤ 2 ^ 22 }
+        requires there { (i : ℕ) → i < n → (c : Cell) × Self.has self.old (from + i) c }
+        requires apart { (i j : ℕ) → i < n → j < n → from + i ≢ to + j }
+        requires given { (i : ℕ) → i < n → IsGiven (given self.old) ((to + i) / 1024) }
+        requires unkept { (i : ℕ) → i < n → ¬ Contains (kept self.old) (to + i) }
+        ensures copied { (i : ℕ) (c : Cell) → i < n → Self.has self.old (from + i) c → Self.has self.new (to + i) c }
+        ensures others { (q : ℕ) (c : Cell) → ((i : ℕ) → i < n → q ≢ to + i) → Self.has self.old q c → Self.has self.new q c }
         ensures given { given self.new ≡ given self.old }
         ensures kept { kept self.new ≡ kept self.old };
 

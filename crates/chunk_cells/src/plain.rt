@@ -1,6 +1,7 @@
 //! Cells of one thread, in a vector.
 
-ghost use Rattle.std.specs.Prelude.{◌≡◌, ◌≤◌, ◌*◌, ℕ, List, [], false, Some, IfOk, length, replicate, slice_get};
+ghost use Rattle.std.specs.Prelude.{◌≡◌, ◌≢◌, ◌+◌, ◌<◌, ◌≤◌, ◌*◌, ◌^◌, ℕ, List, [], false, Some, IfOk, length, replicate, slice_get};
+ghost use Rattle.packed_node.specs.declared.Cell.{Cell};
 
 use super::{CellRead, CellWrite};
 use packed_node::{CHUNK_CELLS, Cell, Ref};
@@ -57,11 +58,31 @@ impl CellWrite for PlainCells {
         self.cells[at as usize] = cell;
     }
 
+    fn copy_row(&mut self, from: Ref, to: Ref, n: u32) {
+        copy_among(&mut self.cells, from, to, n);
+    }
+
     fn give(&mut self, chunk: u32) {
         self.given[chunk as usize] = true;
     }
 
     fn free(&mut self, chunk: u32) {
         self.given[chunk as usize] = false;
+    }
+}
+
+/// Copies n of some cells to others.
+fn copy_among(cells: &mut [Cell], from: Ref, to: Ref, n: u32)
+    requires inside { from + n ≤ 2 ^ 22 }
+    requires within { to + n ≤ 2 ^ 22 }
+    requires there { (i : ℕ) → i < n → from + i < length cells.old }
+    requires room { (i : ℕ) → i < n → to + i < length cells.old }
+    requires apart { (i j : ℕ) → i < n → j < n → from + i ≢ to + j }
+    ensures copied { (i : ℕ) (c : Cell) → i < n → slice_get cells.old (from + i) ≡ Some c → slice_get cells.new (to + i) ≡ Some c }
+    ensures others { (q : ℕ) (c : Cell) → ((i : ℕ) → i < n → q ≢ to + i) → slice_get cells.old q ≡ Some c → slice_get cells.new q ≡ Some c }
+    ensures length { length cells.new ≡ length cells.old }
+{
+    for k in 0..n {
+        cells[(to + k) as usize] = cells[(from + k) as usize];
     }
 }

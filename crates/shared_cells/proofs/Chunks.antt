@@ -27,10 +27,10 @@ use Rattle.shared_cells.specs.Steps.{IsImage}
 
 -- what stands at a place of the list of chunks
 
-given_long : (cells : Cells) → length (given_chunks cells) ≡ cells.chunks
+pub given_long : (cells : Cells) → length (given_chunks cells) ≡ cells.chunks
 given_long cells = length-map-range_with_len (λ c. get_or cells.words (status_at c) 0 == 1) 0 cells.chunks
 
-given_there : (cells : Cells) (c : ℕ) (d : Bool) → c < cells.chunks → get_or (given_chunks cells) c d ≡ (get_or cells.words (status_at c) 0 == 1)
+pub given_there : (cells : Cells) (c : ℕ) (d : Bool) → c < cells.chunks → get_or (given_chunks cells) c d ≡ (get_or cells.words (status_at c) 0 == 1)
 given_there cells c d l = get_or-map-range_with_len (λ c. get_or cells.words (status_at c) 0 == 1) 0 cells.chunks c c d l (omega arith)
 
 pub chunk_within : (cells : Cells) (c : ℕ) (b : Bool) → slice_get (given_chunks cells) c ≡ Some b → c < cells.chunks

@@ -11,6 +11,7 @@ pub mod Passes
 pub mod Turns
 pub mod Marks
 pub mod Chunks
+pub mod Copies
 pub mod RoundLaws
 pub mod KeptLaws
 pub mod Accounts

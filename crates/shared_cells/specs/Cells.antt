@@ -1,5 +1,5 @@
 -- The cells of the table as the turn knows them, in the terms of the traits by which the trie's crates know cells.
-use Rattle.std.specs.Prelude.{◌≡◌, ℕ, ◌+◌, ◌*◌, ◌/◌, ◌<◌, ◌≤◌, ◌==◌, List, [], length, map, replicate, slice_index, true, false, Bool, Option, Some, None}
+use Rattle.std.specs.Prelude.{◌≡◌, ◌≢◌, ℕ, ◌+◌, ◌*◌, ◌/◌, ◌<◌, ◌≤◌, ◌==◌, List, [], length, map, replicate, slice_index, true, false, Bool, Option, Some, None}
 use Rattle.std.specs.List.{flat_map, range_with_len}
 use Rattle.atomic_table.specs.Seated.{TableId}
 use Rattle.atomic_table.specs.Table.{Me}
@@ -7,7 +7,9 @@ use Rattle.packed_node.specs.declared.Cell.{Cell}
 use Rattle.pin_core.specs.declared.kept.CellAt.{CellAt}
 use Rattle.pin_core.specs.declared.kept.Kept.{Kept}
 use Rattle.pin_core.specs.declared.kept.Mark.TheVariants as mark
-use Rattle.pin_core.specs.Words.{status_at, cell_at}
+use Rattle.pin_core.specs.declared.event.Half.{Half}
+use Rattle.pin_core.specs.Machine.{is_kept_cell}
+use Rattle.pin_core.specs.Words.{status_at, cell_at, half_at}
 use Rattle.chunk_cells.specs.Chunks.{IsGiven}
 use Rattle.shared_cells.specs.declared.view.PassView.{PassView}
 use Rattle.shared_cells.specs.declared.view.TurnView.{TurnView}
@@ -80,3 +82,28 @@ module _ {O E : Type 0} where
     pub number : ℕ
     pub is_pass : number_of v.pass ≡ number + 1
     pub told : is_told v.seen.opening ≡ true
+
+-- a word of a cell that no kept version has
+abbrev pub IsBlankWord : ℕ → List Kept → ℕ → Type 0
+IsBlankWord chunks kept word = (at : ℕ) × (half : Half) × (word ≡ half_at at half) × (at / 1024 < chunks) × (is_kept_cell kept at ≡ false)
+
+-- n words were copied to the places from `to` on, and no others have changed
+pub record IsCopy (before after : List ℕ) (from to n : ℕ) : Type 0 where
+  pub long : length after ≡ length before
+  pub copied : (k : ℕ) → k < n → slice_index after (to + k) ≡ slice_index before (from + k)
+  pub others : (j : ℕ) → ((k : ℕ) → k < n → j ≢ to + k) → slice_index after j ≡ slice_index before j
+
+module _ {O E : Type 0} where
+  -- the turn may copy n words past the pins to others, which are of cells that no kept version has
+  pub record MayCopy (chunks words : ℕ) (me : Me (Unit {0}) (View O E)) (from to n : ℕ) : Type 0 where
+    pub turn : has_turn me.0.turn ≡ true
+    pub long : length (words_of me.0.turn) ≡ words
+    pub past : 64 < from
+    pub inside : (k : ℕ) → k < n → from + k < words
+    pub apart : (i j : ℕ) → i < n → j < n → from + i ≢ to + j
+    pub blank : (k : ℕ) → k < n → IsBlankWord chunks (kept_in me.0.turn) (to + k)
+
+  -- it has copied them, and done nothing else
+  pub record HasCopied (before after : Me (Unit {0}) (View O E)) (from to n : ℕ) : Type 0 where
+    pub frame : after ≡ (with_words before.0 (words_of after.0.turn), before.1)
+    pub copy : IsCopy (words_of before.0.turn) (words_of after.0.turn) from to n

@@ -8,6 +8,7 @@ ghost use Rattle.pin_core.specs.Machine.{is_kept_cell, is_kept_chunk};
 ghost use Rattle.shared_cells.specs.Views.{has_turn, words_of, kept_in, stored_view};
 ghost use Rattle.shared_cells.specs.Cells.{cells_of, with_words, IsNewTurn, IsJoined};
 
+use crate::copying::copy_words;
 use crate::law::Law;
 use crate::plays::{Recall, Store};
 use crate::shared::Shared;
@@ -95,6 +96,13 @@ impl<O, E, L: Law<O, E>, B: Lent<O, E>> CellWrite for TurnCells<'_, O, E, L, B> 
         let shared = self.shared;
         write_half(shared, &mut self.place, at, Half::Big, cell.big);
         write_half(shared, &mut self.place, at, Half::Small, cell.small);
+    }
+
+    fn copy_row(&mut self, from: Ref, to: Ref, n: u32) {
+        let shared = self.shared;
+        let source = place_of_half(from, Half::Big);
+        let target = place_of_half(to, Half::Big);
+        copy_words(shared, &mut self.place, source, target, n as usize);
     }
 
     fn give(&mut self, chunk: u32) {

@@ -6,6 +6,7 @@
 #![tactic(auto)]
 
 mod cells;
+mod copying;
 mod law;
 mod lent;
 mod pass;
