@@ -1,19 +1,21 @@
 -- What is read is a name.
-use Rattle.std.proofs.Common.{◌≡◌, ℕ, ◌+◌, ◌<◌, ◌≤◌, ◌^◌, Bool, true, false, List, [], ◌∷◌, ◌++◌, length, get_or, sym, ap, ◌∙◌, subst, refl, arith, length-append, Result, Ok, Err, cond, ltb, eqb}
+use Rattle.std.proofs.Common.{◌≡◌, ℕ, ◌+◌, ◌<◌, ◌≤◌, Bool, true, false, List, [], ◌∷◌, ◌++◌, length, get_or, ◌-◌, append-nil, sym, ap, ◌∙◌, subst, refl, arith, length-append, Result, Ok, Err, cond, ltb, eqb}
 use Rattle.std.proofs.lemmas.Bool.Decides.{nat_tests}
 use Rattle.zone_model.specs.Names.{wire, IsLabel, IsName}
 use Rattle.zone_model.specs.NameText.{labels_of, fitting, completed, name_of}
 use Rattle.zone_model.specs.declared.NameRefusal.{NameRefusal}
 use Rattle.zone_model.specs.declared.NameRefusal.TheVariants.{EmptyLabel, LongName}
-use Rattle.std.proofs.lemmas.List.{append_cancel_right}
-use Rattle.dns_name.specs.Reading.{Measures, HasRoom, IsLaid, IsMeasured}
-use Rattle.dns_name.proofs.BodyLemmas.{body, wire-body, wire-append, all_append}
-use Rattle.dns_name.proofs.FillLemmas.{inner}
+use borrow.Rule.Slice.PartMut.{put_mid}
+use Rattle.dns_name.specs.Blank.{over_zeros}
+use Rattle.dns_name.specs.Inside.{HasName}
+use Rattle.dns_name.specs.Reading.{Measures, IsLaid, IsMeasured}
+use Rattle.dns_name.proofs.BodyLemmas.{body, wire-append, wire_positive, length-wire, all_append}
+use Rattle.dns_name.proofs.FillLemmas.{joined_laid}
 
 -- ---- what is read is a name, unless it is too long
 
-pub measured : (text : List ℕ) (octets : ℕ) (b : Bool) → octets + 255 < 2 ^ 64 → Measures (Ok (octets, b)) (labels_of text) → IsMeasured text octets b
-measured text octets b small h = go (labels_of text) refl h
+pub measured : (text : List ℕ) (octets : ℕ) (b : Bool) → Measures (Ok (octets, b)) (labels_of text) → IsMeasured text octets b
+measured text octets b h = go (labels_of text) refl h
   where
     go : (r : Result (List (List ℕ) × Bool) NameRefusal) → labels_of text ≡ r → Measures (Ok (octets, b)) r → IsMeasured text octets b
     go (Err e) is m = absurd m
@@ -22,7 +24,6 @@ measured text octets b small h = go (labels_of text) refl h
       read = is ∙ ap (λ (c : Bool). Ok (y.0, c)) (sym m.1);
       counted = m.0;
       each = m.2;
-      small = small;
     }
 
 pub fitting-long : (labels : List (List ℕ)) (total : ℕ) → total ≡ length (wire labels) → 255 < total → Err (LongName total) ≡ fitting labels
@@ -33,26 +34,22 @@ pub fitting-fits : (labels : List (List ℕ)) → length (wire labels) ≤ 255 �
 unfolding fitting
 fitting-fits labels h = let t : ltb 255 (length (wire labels)) ≡ false = grind (arith, nat_tests) in rw t refl
 
-pub same_labels : (text : List ℕ) (octets : ℕ) (b : Bool) (m : IsMeasured text octets b) (y : List (List ℕ)) → labels_of text ≡ Ok (y, b) → m.labels ≡ y
-same_labels text octets b m y h = let e : (m.labels, b) ≡ (y, b) = inner (m.labels, b) (y, b) (sym m.read ∙ h) in ap (λ (z : List (List ℕ) × Bool). z.0) e
+pub length-whole : (text : List ℕ) (octets : ℕ) (b : Bool) (m : IsMeasured text octets b) (back : List (List ℕ)) → length (wire (m.labels ++ back)) ≡ octets + length (wire back)
+length-whole text octets b m back = omega (arith, ap length (wire-append m.labels back), length-append (body m.labels) (wire back), m.counted, length-wire m.labels)
 
-pub has_room : (text : List ℕ) (octets : ℕ) (b : Bool) (m : IsMeasured text octets b) → octets < 255 → HasRoom (labels_of text)
-has_room text octets b m h = subst HasRoom (sym m.read) (omega (arith, m.counted))
-
-pub laid_dot : (text : List ℕ) (octets : ℕ) (m : IsMeasured text octets true) (laid : List ℕ) → IsLaid laid (labels_of text) → laid ≡ wire m.labels
-laid_dot text octets m laid h = subst (IsLaid laid) m.read h
-
-pub laid_open : (text : List ℕ) (octets : ℕ) (m : IsMeasured text octets false) (laid : List ℕ) (origin : List (List ℕ)) → IsLaid laid (labels_of text) → laid ++ wire origin ≡ wire (m.labels ++ origin)
-laid_open text octets m laid origin h =
-    let k : laid ++ 0 ∷ [] ≡ wire m.labels = subst (IsLaid laid) m.read h in
-    let same : laid ≡ body m.labels = append_cancel_right laid (body m.labels) (0 ∷ []) (k ∙ wire-body m.labels) in
-    ap (λ (l : List ℕ). l ++ wire origin) same ∙ sym (wire-append m.labels origin)
-
-pub length-relative : (text : List ℕ) (octets : ℕ) (m : IsMeasured text octets false) (origin : List (List ℕ)) → length (wire (m.labels ++ origin)) ≡ octets + length (wire origin)
-length-relative text octets m origin = omega (arith, ap length (wire-append m.labels origin), length-append (body m.labels) (wire origin), m.counted, ap length (wire-body m.labels), length-append (body m.labels) (0 ∷ []))
-
-pub joined_name : (text : List ℕ) (octets : ℕ) (m : IsMeasured text octets false) (origin : List (List ℕ)) → IsName origin → octets + length (wire origin) ≤ 255 → IsName (m.labels ++ origin)
-joined_name text octets m origin name le = record { each = all_append IsLabel m.labels origin m.each name.each; short = omega (arith, length-relative text octets m origin) }
+-- the labels with those behind them, as they were laid down
+pub whole_name : (text : List ℕ) (octets total : ℕ) (b : Bool) (m : IsMeasured text octets b) (laid behind : List ℕ) (back : List (List ℕ)) → (octets < 255 → IsLaid laid (labels_of text)) → IsName back → behind ≡ wire back
+    → total ≡ octets + length behind → total ≤ 255 → HasName (put_mid octets (total - octets) laid behind) total (m.labels ++ back)
+whole_name text octets total b m laid behind back is name e n le =
+    let len : total ≡ length (wire (m.labels ++ back)) = omega (arith, length-whole text octets b m back, ap length e) in
+    let fits : octets < 255 = omega (arith, ap length e, wire_positive back) in
+    let front : laid ≡ over_zeros (body m.labels) = subst (IsLaid laid) m.read (is fits) in
+    record {
+      laid = ap (λ (l : List ℕ). put_mid octets (total - octets) laid l) e
+          ∙ joined_laid m.labels back laid octets (total - octets) front (omega (arith, m.counted, length-wire m.labels)) (omega (arith, ap length e));
+      counted = len;
+      name = record { each = all_append IsLabel m.labels back m.each name.each; short = omega arith };
+    }
 
 pub completed_by : (origin : List (List ℕ)) (r : Result (List (List ℕ) × Bool) NameRefusal) (e : NameRefusal) → Measures (Err e) r → Err e ≡ completed origin r
 unfolding completed
@@ -95,5 +92,9 @@ name_of-other (c ∷ []) origin h k m =
     let q : eqb c 46 ≡ false = grind arith in
     rw (p, q) refl
 
-pub completed_as : (text : List ℕ) (octets : ℕ) (b : Bool) (m : IsMeasured text octets b) (origin : List (List ℕ)) → fitting (cond b m.labels (m.labels ++ origin)) ≡ completed origin (labels_of text)
-completed_as text octets b m origin = sym (completed-Ok origin m.labels b) ∙ ap (completed origin) (sym m.read)
+pub completed_as : (text : List ℕ) (octets : ℕ) (b : Bool) (m : IsMeasured text octets b) (origin : List (List ℕ)) → fitting (m.labels ++ cond b [] origin) ≡ completed origin (labels_of text)
+completed_as text octets b m origin = ap fitting (joined b m.labels) ∙ sym (completed-Ok origin m.labels b) ∙ ap (completed origin) (sym m.read)
+  where
+    joined : (b : Bool) (labels : List (List ℕ)) → labels ++ cond b [] origin ≡ cond b labels (labels ++ origin)
+    joined true labels = append-nil labels
+    joined false labels = refl

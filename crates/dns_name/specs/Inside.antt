@@ -4,11 +4,11 @@ use Rattle.std.specs.List.{AllByRecursion}
 use Rattle.std.proofs.Common.{sym, ap, ◌∙◌, arith, append_assoc, length-append, append-nil}
 use Rattle.std.proofs.lemmas.List.{take_at, drop_at}
 use Rattle.zone_model.specs.Names.{wire, labels_in, IsName, IsLabel}
-use Rattle.dns_name.specs.Blank.{no_octets}
+use Rattle.dns_name.specs.Blank.{over_zeros}
 use Rattle.dns_name.specs.declared.Name.TheInside.{Inside}
 
 abbrev pub padded : List (List ℕ) → List ℕ
-padded labels = wire labels ++ drop (length (wire labels)) no_octets
+padded labels = over_zeros (wire labels)
 
 abbrev pub labels_of : Inside → List (List ℕ)
 labels_of n = labels_in n.len (take n.len n.octets)

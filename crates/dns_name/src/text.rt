@@ -1,20 +1,32 @@
 //! Names as text.
-ghost use Rattle.std.specs.Prelude.{◌≡◌, ◌<◌, ◌≤◌, ◌+◌, ◌^◌, [], ℕ, List, ◌++◌, length, Result, Ok, IfOk, true, false};
-ghost use Rattle.zone_model.specs.Names.{Name as Labels, wire, IsName};
-ghost use Rattle.zone_model.specs.NameText.{labels_of, name_of, completed, fitting};
-ghost use Rattle.dns_name.specs.Reading.{Measures, HasRoom, IsLaid, IsMeasured};
+ghost use Rattle.std.specs.Prelude.{◌≡◌, ◌<◌, ◌≤◌, ◌+◌, ◌^◌, [], length, slice_set, Result, Ok, IfOk, if◌then◌else◌};
+ghost use Rattle.zone_model.specs.Names.{wire, IsName};
+ghost use Rattle.zone_model.specs.NameText.{labels_of, name_of, completed};
+ghost use Rattle.dns_name.specs.Blank.{no_octets};
+ghost use Rattle.dns_name.specs.Reading.{Measures, IsLaid};
 
-use crate::buffer::Octets;
 use crate::pieces::{Piece, piece_at};
-use crate::{MOST_LABEL_OCTETS, MOST_OCTETS, Name, of_wire};
+use crate::{MOST_LABEL_OCTETS, MOST_OCTETS, Name, blank};
 use zone_model::NameRefusal;
 
-// The octets of the labels, and whether a dot ends them.
-fn measure(text: &[u8]) -> Result<(usize, bool), NameRefusal>
+// Puts an octet at an index, if there is one.
+fn put(octets: &mut [u8], at: usize, octet: u8)
+    ensures { octets.new ≡ slice_set octets.old at octet }
+{
+    if at < octets.len() {
+        octets[at] = octet;
+    }
+}
+
+// Lays the octets of the labels down over zeros, as far as they have room, and tells how many they are, and whether a dot
+// ends them. The open label begins at `start`.
+fn lay(text: &[u8], octets: &mut [u8]) -> Result<(usize, bool), NameRefusal>
+    requires { octets.old ≡ no_octets }
     ensures measures { Measures result (labels_of text.now) }
     ensures small { IfOk result (λ x. x.0 + 255 < 2 ^ 64) }
+    ensures laid { IfOk result (λ x. x.0 < 255 → IsLaid octets.new (labels_of text.now)) }
 {
-    let mut octets = 0;
+    let mut start = 0;
     let mut pending = 0;
     let mut at = 0;
     while at < text.len() {
@@ -23,98 +35,53 @@ fn measure(text: &[u8]) -> Result<(usize, bool), NameRefusal>
                 if pending == 0 {
                     return Err(NameRefusal::EmptyLabel(at));
                 }
-                octets += pending + 1;
+                put(octets, start, pending as u8);
+                start += pending + 1;
                 pending = 0;
                 at += 1;
             }
-            Piece::Octet(_, next) => {
+            Piece::Octet(octet, next) => {
                 if pending == MOST_LABEL_OCTETS {
                     return Err(NameRefusal::LongLabel(at));
                 }
                 pending += 1;
+                put(octets, start + pending, octet);
                 at = next;
             }
             Piece::Bad => return Err(NameRefusal::BadEscape(at)),
         }
     }
     if pending == 0 {
-        Ok((octets, true))
-    } else {
-        Ok((octets + pending + 1, false))
+        return Ok((start, true));
     }
+    put(octets, start, pending as u8);
+    Ok((start + pending + 1, false))
 }
 
-// The octets of the labels, laid down where none are. A last dot adds that of the root.
-fn fill(text: &[u8], octets: &mut Octets)
-    requires room { HasRoom (labels_of text.now) }
-    requires none { octets.old ≡ [] }
-    ensures { IsLaid octets.new (labels_of text.now) }
+// The wire form behind labels: the root's where a dot ends them, else the origin's.
+fn behind(absolute: bool, origin: &Name) -> &[u8]
+    ensures wire { result.now ≡ wire (if absolute then [] else origin.now) }
+    ensures name { IsName (if absolute then [] else origin.now) }
 {
-    octets.push(0);
-    let mut start = 0;
-    let mut at = 0;
-    while at < text.len() {
-        match piece_at(text, at) {
-            Piece::Dot => {
-                let label = octets.len() - start - 1;
-                octets.set(start, label as u8);
-                start = octets.len();
-                octets.push(0);
-                at += 1;
-            }
-            Piece::Octet(octet, next) => {
-                octets.push(octet);
-                at = next;
-            }
-            // The text was found to be a name.
-            Piece::Bad => unreachable!(),
-        }
-    }
-    let label = octets.len() - start - 1;
-    if label > 0 {
-        octets.set(start, label as u8);
-    }
-}
-
-// The name of a text that a last dot ends.
-fn absolute(text: &[u8], octets: usize) -> Result<Name, NameRefusal>
-    requires { IsMeasured text.now octets true }
-    ensures { (y : Labels) → labels_of text.now ≡ Ok (y, true) → result ≡ fitting y }
-{
-    let total = octets + 1;
-    if total > MOST_OCTETS {
-        return Err(NameRefusal::LongName(total));
-    }
-    let mut laid = Octets::new();
-    fill(text, &mut laid);
-    Ok(of_wire(laid.as_slice()))
-}
-
-// The name of a text that goes on with the origin.
-fn relative(text: &[u8], octets: usize, origin: &Name) -> Result<Name, NameRefusal>
-    requires { IsMeasured text.now octets false }
-    ensures { (y : Labels) → labels_of text.now ≡ Ok (y, false) → result ≡ fitting (y ++ origin.now) }
-{
-    let behind = origin.wire();
-    let total = octets + behind.len();
-    if total > MOST_OCTETS {
-        return Err(NameRefusal::LongName(total));
-    }
-    let mut laid = Octets::new();
-    fill(text, &mut laid);
-    laid.append(behind);
-    Ok(of_wire(laid.as_slice()))
+    if absolute { b"\0" } else { origin.wire() }
 }
 
 // The name of a text that is neither empty nor one of the short forms.
 fn complete(text: &[u8], origin: &Name) -> Result<Name, NameRefusal>
     ensures { result ≡ completed origin.now (labels_of text.now) }
 {
-    match measure(text) {
-        Ok((octets, true)) => absolute(text, octets),
-        Ok((octets, false)) => relative(text, octets, origin),
-        Err(refusal) => Err(refusal),
+    let mut octets = blank();
+    let (front, absolute) = lay(text, &mut octets)?;
+    let back = behind(absolute, origin);
+    let total = front + back.len();
+    if total > MOST_OCTETS {
+        return Err(NameRefusal::LongName(total));
     }
+    octets[front..total].copy_from_slice(back);
+    Ok(Name {
+        octets,
+        len: total as u8,
+    })
 }
 
 impl Name {
