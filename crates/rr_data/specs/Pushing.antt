@@ -19,3 +19,10 @@ ReadsData (Ok octets) wanted = wanted ≡ Ok octets
 ReadsData (Err (refusal.BadRdata at)) wanted = wanted ≡ Err (says.BadRdata at)
 ReadsData (Err (refusal.LongString at)) wanted = wanted ≡ Err (says.LongString at)
 ReadsData (Err refusal.Memory) wanted = Unit {0}
+
+-- The same where they were read in place of others.
+abbrev pub ReadsAgain : Result (Unit {0}) RdataRefusal → List ℕ → Result (List ℕ) DataRefusal → Type 0
+ReadsAgain (Ok u) octets wanted = wanted ≡ Ok octets
+ReadsAgain (Err (refusal.BadRdata at)) octets wanted = wanted ≡ Err (says.BadRdata at)
+ReadsAgain (Err (refusal.LongString at)) octets wanted = wanted ≡ Err (says.LongString at)
+ReadsAgain (Err refusal.Memory) octets wanted = Unit {0}

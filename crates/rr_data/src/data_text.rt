@@ -1,12 +1,12 @@
 //! Types and data as they are printed.
-ghost use Rattle.std.specs.Prelude.{◌≡◌, ◌<◌, ◌+◌, ◌++◌, length, map, Some, None, Option, OnOk, OnErr, IfOk, ◌==◌};
+ghost use Rattle.std.specs.Prelude.{◌≡◌, ◌<◌, ◌+◌, ◌++◌, length, map, Some, None, Option, OnOk, OnErr, IfOk, IfSome, decimal, ◌==◌};
 ghost use Rattle.std.specs.Io.{StartsWith};
 ghost use Rattle.std.specs.Option.{option_map, option_copied};
 ghost use Rattle.std.specs.List.{flat_map};
-ghost use Rattle.std.specs.Int.{from_be_bytes};
+ghost use Rattle.std.specs.Int.{w32, from_be_bytes};
 ghost use Rattle.zone_model.specs.DataText.{type_text, data_text, data_text_in, typed_text, fields_text, strings_text, field_text, address_text};
 ghost use Rattle.zone_model.specs.DataText.{groups_text, group_text, digit_at, generic_text, hex_digit, hex_text, string_octet, string_text, quoted_text};
-ghost use Rattle.zone_model.specs.Types.{NameField, ShortField, NumberField, TimeField};
+ghost use Rattle.zone_model.specs.Types.{NameField, ShortField};
 ghost use Rattle.rr_data.specs.Printing.{PrintsField, PrintsFields};
 ghost use Rattle.rr_data.specs.Fields.{field_view};
 
@@ -43,7 +43,7 @@ fn push_address(address: &[u8], out: &mut Vec<u8>) -> Result<(), AllocError>
     if rest.is_empty() {
         return Ok(());
     }
-    out.extend_from_slice(b".")?;
+    out.push(b'.')?;
     push_address(rest, out)
 }
 
@@ -87,7 +87,7 @@ fn push_groups(octets: &[u8], out: &mut Vec<u8>) -> Result<(), AllocError>
     if others.is_empty() {
         return Ok(());
     }
-    out.extend_from_slice(b":")?;
+    out.push(b':')?;
     push_groups(others, out)
 }
 
@@ -119,25 +119,20 @@ fn push_short<'a>(octets: &'a [u8], out: &mut Vec<u8>) -> Result<Option<&'a [u8]
     Ok(Some(rest))
 }
 
-fn push_number<'a>(octets: &'a [u8], out: &mut Vec<u8>) -> Result<Option<&'a [u8]>, AllocError>
-    ensures ok { IfOk result (λ o. PrintsField (option_map (λ r. r.now) o) out.old.items out.new.items (field_text None NumberField octets.now)) }
+// Pushes the number of the four octets that were split off, and answers what is behind them.
+fn push_number<'a>(
+    split: Option<(&'a [u8], &'a [u8])>,
+    out: &mut Vec<u8>,
+) -> Result<Option<&'a [u8]>, AllocError>
+    requires { IfSome split (λ x. length x.0.now ≡ 4) }
+    ensures ok { IfOk result (λ o. PrintsField (option_map (λ r. r.now) o) out.old.items out.new.items
+        (option_map (λ x. (decimal (from_be_bytes w32 x.0.now), x.1.now)) split.entry)) }
     ensures kept { StartsWith out.new.items out.old.items }
 {
-    let Some((number, rest)) = split_octets(4, octets) else {
+    let Some((number, rest)) = split else {
         return Ok(None);
     };
     push_decimal(out, u64::from(number_of(number)))?;
-    Ok(Some(rest))
-}
-
-fn push_time<'a>(octets: &'a [u8], out: &mut Vec<u8>) -> Result<Option<&'a [u8]>, AllocError>
-    ensures ok { IfOk result (λ o. PrintsField (option_map (λ r. r.now) o) out.old.items out.new.items (field_text None TimeField octets.now)) }
-    ensures kept { StartsWith out.new.items out.old.items }
-{
-    let Some((time, rest)) = split_time(octets) else {
-        return Ok(None);
-    };
-    push_decimal(out, u64::from(number_of(time)))?;
     Ok(Some(rest))
 }
 
@@ -155,8 +150,8 @@ fn push_field<'a>(
     match field {
         Field::Name => push_name(octets, origin, out),
         Field::Short => push_short(octets, out),
-        Field::Number => push_number(octets, out),
-        Field::Time => push_time(octets, out),
+        Field::Number => push_number(split_octets(4, octets), out),
+        Field::Time => push_number(split_time(octets), out),
         Field::Address => match split_octets(4, octets) {
             Some((address, rest)) => {
                 push_address(address, out)?;
@@ -195,7 +190,7 @@ fn push_fields(
     if others.is_empty() {
         return Ok(rest.is_empty());
     }
-    out.extend_from_slice(b" ")?;
+    out.push(b' ')?;
     push_fields(others, rest, origin, out)
 }
 
@@ -231,7 +226,7 @@ fn push_generic(octets: &[u8], out: &mut Vec<u8>) -> Result<(), AllocError>
     if octets.is_empty() {
         return Ok(());
     }
-    out.extend_from_slice(b" ")?;
+    out.push(b' ')?;
     push_hex(octets, out)
 }
 
@@ -270,7 +265,7 @@ fn push_quoted(octets: &[u8], out: &mut Vec<u8>) -> Result<(), AllocError>
     ensures ok { OnOk result (out.new.items ≡ out.old.items ++ quoted_text octets.now) }
     ensures kept { StartsWith out.new.items out.old.items }
 {
-    out.extend_from_slice(b"\"")?;
+    out.push(b'"')?;
     push_string_text(octets, out)?;
     out.extend_from_slice(b"\"")
 }
@@ -294,7 +289,7 @@ fn push_strings(octets: &[u8], out: &mut Vec<u8>) -> Result<bool, AllocError>
         if others.is_empty() {
             return Ok(true);
         }
-        out.extend_from_slice(b" ")?;
+        out.push(b' ')?;
         rest = others;
         left -= 1;
     }

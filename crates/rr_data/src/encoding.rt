@@ -1,12 +1,10 @@
 //! The octets of items.
 ghost use Rattle.std.specs.Prelude.{◌≡◌, ◌+◌, ◌≤◌, ◌++◌, length, take};
 ghost use Rattle.std.specs.List.{flat_map};
-ghost use Rattle.std.specs.Int.{w16, w32, to_be_bytes};
 ghost use Rattle.zone_model.specs.Records.{item_limit, record_bytes, rrset_bytes};
 
 use crate::rdata::Rdata;
 use crate::rrset::RrSet;
-use byteorder::{BigEndian, ByteOrder};
 
 // Writes octets at an index, and answers the index behind them.
 pub fn put(out: &mut [u8], at: usize, octets: &[u8]) -> usize
@@ -20,28 +18,6 @@ pub fn put(out: &mut [u8], at: usize, octets: &[u8]) -> usize
     end
 }
 
-pub fn put_short(out: &mut [u8], at: usize, number: u16) -> usize
-    requires fits { at + 2 ≤ item_limit }
-    requires room { item_limit ≤ length out.old }
-    ensures end { result ≡ at + 2 }
-    ensures puts { take (at + 2) out.new ≡ take at out.old ++ to_be_bytes w16 number }
-{
-    let mut octets = [0; 2];
-    BigEndian::write_u16(&mut octets, number);
-    put(out, at, &octets)
-}
-
-fn put_number(out: &mut [u8], at: usize, number: u32) -> usize
-    requires fits { at + 4 ≤ item_limit }
-    requires room { item_limit ≤ length out.old }
-    ensures end { result ≡ at + 4 }
-    ensures puts { take (at + 4) out.new ≡ take at out.old ++ to_be_bytes w32 number }
-{
-    let mut octets = [0; 4];
-    BigEndian::write_u32(&mut octets, number);
-    put(out, at, &octets)
-}
-
 // A record: its length, and its octets.
 fn put_record(out: &mut [u8], at: usize, octets: &[u8]) -> usize
     requires fits { at + length (record_bytes octets.now) ≤ item_limit }
@@ -49,7 +25,7 @@ fn put_record(out: &mut [u8], at: usize, octets: &[u8]) -> usize
     ensures end { result ≡ at + length (record_bytes octets.now) }
     ensures puts { take (at + length (record_bytes octets.now)) out.new ≡ take at out.old ++ record_bytes octets.now }
 {
-    let behind_len = put_short(out, at, octets.len() as u16);
+    let behind_len = put(out, at, &(octets.len() as u16).to_be_bytes());
     put(out, behind_len, octets)
 }
 
@@ -74,9 +50,9 @@ fn put_set(out: &mut [u8], at: usize, set: &RrSet) -> usize
     ensures puts { take (at + length (rrset_bytes set.now)) out.new ≡ take at out.old ++ rrset_bytes set.now }
 {
     let records = set.records();
-    let behind_type = put_short(out, at, set.rtype());
-    let behind_ttl = put_number(out, behind_type, set.ttl());
-    let behind_count = put_short(out, behind_ttl, records.len() as u16);
+    let behind_type = put(out, at, &set.rtype().to_be_bytes());
+    let behind_ttl = put(out, behind_type, &set.ttl().to_be_bytes());
+    let behind_count = put(out, behind_ttl, &(records.len() as u16).to_be_bytes());
     put_records(out, behind_count, records)
 }
 

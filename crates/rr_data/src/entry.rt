@@ -6,7 +6,7 @@ ghost use Rattle.rr_data.specs.Changes.{TellsChange};
 ghost use Rattle.rr_data.specs.Items.{Decodes};
 
 use crate::decoding::read_item;
-use crate::encoding::{put, put_sets, put_short};
+use crate::encoding::{put, put_sets};
 use crate::places::place_of;
 use crate::rdata::Rdata;
 use crate::refusal::DecodeRefusal;
@@ -237,7 +237,7 @@ impl Entry {
             return None;
         }
         let behind_owner = put(out, 0, owner.wire());
-        let behind_count = put_short(out, behind_owner, self.sets.len() as u16);
+        let behind_count = put(out, behind_owner, &(self.sets.len() as u16).to_be_bytes());
         Some(put_sets(out, behind_count, &self.sets))
     }
 

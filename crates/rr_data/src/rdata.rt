@@ -1,8 +1,17 @@
 //! The data of a record.
-ghost use Rattle.std.specs.Prelude.{◌≡◌, ◌≤◌, ℕ, List, length};
+ghost use Rattle.std.specs.Prelude.{◌≡◌, ◌≤◌, ℕ, List, length, map};
+ghost use Rattle.std.specs.List.{All};
+ghost use Rattle.zone_model.specs.Data.{data_of};
+ghost use Rattle.zone_text.specs.Tokens.{IsPlaced, token_view};
+ghost use Rattle.rr_data.specs.Pushing.{ReadsData, ReadsAgain};
 
-use std::alloc::AllocError;
+use crate::reading::push_data;
+use crate::refusal::RdataRefusal;
+use dns_name::Name;
+use std::alloc::{AllocError, Global};
 use std::marker::Model;
+use std::mem::replace;
+use zone_text::Token;
 
 /// The data of a record, as the octets of its wire form: at most 65,535, names in lower case and without compression.
 #[derive(Drop)]
@@ -45,5 +54,43 @@ impl Rdata {
         ensures short { length self.now ≤ 65535 }
     {
         &self.octets
+    }
+
+    /// The data that tokens of `bytes` say for a type: in the form of the type (RFC 1035, section 5.1), or for any type
+    /// as `\#`, the number of octets and their hexadecimal digits (RFC 3597, section 5). Names that don't end with a
+    /// dot are relative to the origin.
+    pub fn read(
+        alloc: Global,
+        rtype: u16,
+        bytes: &[u8],
+        tokens: &[Token],
+        origin: &Name,
+    ) -> Result<Rdata, RdataRefusal>
+        requires placed { All (IsPlaced bytes.now) tokens.now }
+        ensures { ReadsData result (data_of origin.now rtype (map (token_view bytes.now) tokens.now)) }
+    {
+        let mut data = Rdata::new(Vec::new(alloc));
+        data.read_again(alloc, rtype, bytes, tokens, origin)?;
+        Ok(data)
+    }
+
+    /// Reads data in place of these, in their memory, as `read` does. Where they are refused none are left.
+    pub fn read_again(
+        &mut self,
+        alloc: Global,
+        rtype: u16,
+        bytes: &[u8],
+        tokens: &[Token],
+        origin: &Name,
+    ) -> Result<(), RdataRefusal>
+        requires placed { All (IsPlaced bytes.now) tokens.now }
+        ensures { ReadsAgain result self.new (data_of origin.now rtype (map (token_view bytes.now) tokens.now)) }
+    {
+        let _wire = origin.wire(); // for the proof
+        let mut octets = replace(&mut self.octets, Vec::new(alloc));
+        octets.clear();
+        push_data(alloc, origin, rtype, bytes, tokens, &mut octets)?;
+        self.octets = octets;
+        Ok(())
     }
 }

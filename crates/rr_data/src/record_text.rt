@@ -98,7 +98,7 @@ fn push_head(
         return out.extend_from_slice(b"IN ");
     }
     owner.push_text(out)?;
-    out.extend_from_slice(b" ")?;
+    out.push(b' ')?;
     push_decimal(out, u64::from(ttl))?;
     out.extend_from_slice(b" IN ")
 }
@@ -121,7 +121,7 @@ pub fn push_record(
 {
     push_head(directives, first, owner, set.ttl(), out)?;
     push_type(set.rtype(), out)?;
-    out.extend_from_slice(b" ")?;
+    out.push(b' ')?;
     push_data_in(set.rtype(), octets, origin_of(directives), out)?;
     out.extend_from_slice(b"\n")
 }

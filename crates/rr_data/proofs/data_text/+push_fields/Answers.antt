@@ -6,5 +6,5 @@ use Rattle.rr_data.proofs.data_text.+push_fields.Goals as goal
 pub returns-clause-kept : goal.returns-clause-kept
 returns-clause-kept t c =
     starts_chain c.push_fields.new.out.items c.push_field.new.out.items c.args.out.now.items
-    (starts_front _ _ _ (subst (StartsWith c.push_fields.new.out.items) c.in_ok-extend_from_slice.ensures.items c.push_fields.ensures.kept))
+    (starts_front _ _ _ (subst (StartsWith c.push_fields.new.out.items) c.in_ok-push.ensures.items c.push_fields.ensures.kept))
     c.push_field.ensures.kept

@@ -16,8 +16,8 @@ returns-then-is_empty-clause-ok c =
 
 pub loop-left-preserved : goal.loop-left-preserved
 loop-left-preserved c = record {
-  kept = starts_pushed _ c.push_quoted.new.out.items _ _ c.in_ok-extend_from_slice.ensures.items (starts_chain _ c.loop-left.out.items _ c.push_quoted.ensures.kept c.loop-left.invariant.kept);
-  goes_on = string_next c.loop-left.left c.in-Some.len.now _ c.in-Some.behind.now c.in-Some-split_octets.string.now c.in-Some-split_octets.others.now _ c.loop-left.out.items c.push_quoted.new.out.items _ _ c.loop-left.invariant.goes_on (omega arith) c.in-Some.ensures.cases.0 c.in-Some-split_octets.ensures.splits (sym c.is_empty.ensures ∙ c.if-is_empty.false) c.in_ok-push_quoted.ensures.ok c.in_ok-extend_from_slice.ensures.items;
+  kept = starts_pushed _ c.push_quoted.new.out.items _ _ c.in_ok-push.ensures.items (starts_chain _ c.loop-left.out.items _ c.push_quoted.ensures.kept c.loop-left.invariant.kept);
+  goes_on = string_next c.loop-left.left c.in-Some.len.now _ c.in-Some.behind.now c.in-Some-split_octets.string.now c.in-Some-split_octets.others.now _ c.loop-left.out.items c.push_quoted.new.out.items _ _ c.loop-left.invariant.goes_on (omega arith) c.in-Some.ensures.cases.0 c.in-Some-split_octets.ensures.splits (sym c.is_empty.ensures ∙ c.if-is_empty.false) c.in_ok-push_quoted.ensures.ok c.in_ok-push.ensures.items;
 }
 
 pub returns-clause-ok : goal.returns-clause-ok
