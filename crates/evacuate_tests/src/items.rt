@@ -11,68 +11,41 @@ use std::test::Fail;
 use trie_write::Item;
 
 /// The item of a name, with so many octets.
-fn item_of(alloc: Global, name: &[u8], octets: usize) -> Result<Item, Fail>
+fn item_of(alloc: Global, name: &Name, octets: usize) -> Result<Item, Fail>
     requires { 255 ≤ octets }
 {
-    let name = Name::read(name, &Name::root()).ok().ok_or("no name")?;
     let mut payload = Vec::new(alloc);
-    for place in name.wire().len()..octets {
-        payload.push(((place ^ (place >> 8)) & 0xff) as u8)?;
+    for index in name.wire().len()..octets {
+        payload.push(((index ^ (index >> 8)) & 0xff) as u8)?;
     }
-    Ok(Item::of(alloc, &name, &payload).ok().ok_or("no item")?)
+    Ok(Item::of(alloc, name, &payload)?)
 }
 
-/// Appends the item of a name, which has 1,000 octets: that of n1 in example. for 1.
-fn push_item(alloc: Global, items: &mut Vec<Item>, number: u32) -> Result<(), Fail> {
-    let name = format!(in alloc; "n{number}.example.")?;
-    items.push(item_of(alloc, name.as_bytes(), 1000)?)?;
-    Ok(())
-}
-
-/// The items of ten names with 1,400 octets each, from n0 to n9, and behind them one of 65,535.
-pub(crate) fn ten_items_and_a_long_one(alloc: Global) -> Result<Vec<Item>, Fail> {
-    let mut items = Vec::new(alloc);
-    for digit in 0..10 {
-        let name = format!(in alloc; "n{digit}.example.")?;
-        items.push(item_of(alloc, name.as_bytes(), 1400)?)?;
-    }
-    items.push(item_of(alloc, b"z.example.", 65_535)?)?;
-    Ok(items)
-}
-
-/// Those of ten numbers with these tens.
-fn push_ten(alloc: Global, items: &mut Vec<Item>, tens: u32) -> Result<(), Fail>
-    requires { tens < 100 }
+/// The items of so many names with so many octets each, from n0.example. on.
+fn numbered(alloc: Global, names: u32, octets: usize) -> Result<Vec<Item>, Fail>
+    requires { 255 ≤ octets }
 {
-    for digit in 0..10 {
-        push_item(alloc, items, 10 * tens + digit)?;
+    let mut sorted = Vec::new(alloc);
+    for number in 0..names {
+        let text = format!(in alloc; "n{number}.example.")?;
+        sorted.push(Name::read(text.as_bytes(), &Name::root())?)?;
     }
-    Ok(())
+    sorted.sort_unstable();
+    sorted
+        .iter()
+        .map(|name| item_of(alloc, name, octets))
+        .try_collect(alloc)
 }
 
-/// Those of ten numbers of two digits, and of a hundred of three.
-fn push_hundred(alloc: Global, items: &mut Vec<Item>, first: u32) -> Result<(), Fail>
-    requires { first < 10 }
-{
-    for digit in 0..10 {
-        push_item(alloc, items, 10 * first + digit)?;
-        push_ten(alloc, items, 10 * first + digit)?;
-    }
-    Ok(())
-}
-
-/// The items of 300 names, from n0 to n299, in the order of their keys.
+/// The items of 300 names.
 pub(crate) fn three_hundred_items(alloc: Global) -> Result<Vec<Item>, Fail> {
-    let mut items = Vec::new(alloc);
-    push_item(alloc, &mut items, 0)?;
-    for first in 1..10 {
-        push_item(alloc, &mut items, first)?;
-        if first < 3 {
-            push_hundred(alloc, &mut items, first)?;
-        } else {
-            push_ten(alloc, &mut items, first)?;
-        }
-    }
+    numbered(alloc, 300, 1000)
+}
+
+/// The items of ten names with 1,400 octets each, and behind them one of 65,535.
+pub(crate) fn ten_items_and_a_long_one(alloc: Global) -> Result<Vec<Item>, Fail> {
+    let mut items = numbered(alloc, 10, 1400)?;
+    items.push(item_of(alloc, &Name::read(b"z.example.", &Name::root())?, 65_535)?)?;
     Ok(items)
 }
 

@@ -5,17 +5,15 @@ ghost use Rattle.zone_model.specs.Keys.{Leads};
 ghost use Rattle.trie_model.specs.Keys.{Entry};
 ghost use Rattle.trie_model.specs.Memory.{Stands};
 ghost use Rattle.trie_read.specs.Reads.{EachTells};
-ghost use Rattle.trie_write.specs.Standing.{HasTrie};
 
 use crate::items::{rise, ten_items_and_a_long_one};
-use crate::tries::{live_cells, moved, unused_room};
+use crate::tries::{evacuated, live_cells, thinned, unused_room};
 use chunk_cells::{CellRead, read_item};
-use chunk_usage::{Space, Usage};
 use evacuate::Done;
 use packed_node::Ref;
 use std::alloc::{AllocError, Global};
 use std::test::Fail;
-use trie_read::{get, nodes};
+use trie_read::get;
 use trie_write::Item;
 
 // An item of 1,400 octets has 88 cells; one of 65,535 has 4,096 with its octets, and 16 links.
@@ -39,24 +37,6 @@ fn holds<C: CellRead>(cells: &mut C, root: Option<Ref>, item: &Item, out: &mut [
     }
 }
 
-/// Whether a root has these two items, and no cells but theirs and its nodes' count.
-fn has_both<C: CellRead>(
-    cells: &mut C,
-    usage: &Usage,
-    root: Option<Ref>,
-    short: &Item,
-    long: &Item,
-    out: &mut [u8],
-) -> bool
-    requires stands { (version : List Entry) × HasTrie C.has ⟦<Usage as Space>⟧.account cells.old usage.now root version × EachTells Leads version }
-    requires room { 65535 ≤ length out.old }
-{
-    let nodes = nodes(cells, root);
-    holds(cells, root, short, out)
-        && holds(cells, root, long, out)
-        && live_cells(usage) == nodes.saturating_add(SHORT_CELLS + LONG_CELLS)
-}
-
 /// Room for the longest item.
 fn buffer(alloc: Global) -> Result<Vec<u8>, AllocError>
     ensures { IfOk result (λ out. length out.items ≡ 65535) }
@@ -72,10 +52,14 @@ fn the_seventeenth_extent_is_moved_out_of_a_sparse_chunk(rt: HostRuntime) -> Res
     let items = ten_items_and_a_long_one(rt.alloc())?;
     assert_eq!(rt; items.len(), 11);
     assert!(rt; rise(&items));
-    let (root, done) = moved(&mut memory, &mut usage, &items, 10).ok_or("no room")?;
-    assert_eq!(rt; done, Done::Whole);
+    let root = thinned(&mut memory, &mut usage, &items, 10).ok_or("no room")?;
+    let (root, outcome) = evacuated(&mut memory, &mut usage, root);
+    assert_eq!(rt; outcome.done, Done::Whole);
     assert_eq!(rt; usage.live(0), 0);
+    let cells = outcome.nodes.saturating_add(SHORT_CELLS + LONG_CELLS);
+    assert_eq!(rt; live_cells(&usage), cells);
     let mut out = buffer(rt.alloc())?;
-    assert!(rt; has_both(&mut memory, &usage, root, &items[0], &items[10], &mut out));
+    assert!(rt; holds(&mut memory, root, &items[0], &mut out));
+    assert!(rt; holds(&mut memory, root, &items[10], &mut out));
     Ok(())
 }

@@ -1,14 +1,12 @@
 //! Tries of which most names have gone.
 
-ghost use Rattle.std.specs.Prelude.{◌≡◌, ◌<◌, ◌≤◌, ℕ, List, [], IfOk, IfSome, length};
-ghost use Rattle.zone_model.specs.Keys.{Leads};
-ghost use Rattle.trie_model.specs.Keys.{Entry, Rises};
-ghost use Rattle.trie_read.specs.Reads.{EachTells};
+ghost use Rattle.std.specs.Prelude.{◌≡◌, ◌<◌, ◌≤◌, ℕ, IfOk, IfSome};
+ghost use Rattle.trie_model.specs.Keys.{Rises};
 ghost use Rattle.trie_write.specs.Entries.{entries_of_items};
 ghost use Rattle.trie_write.specs.Spaces.{Ready};
-ghost use Rattle.trie_write.specs.Standing.{HasTrie};
+ghost use Rattle.evacuate_tests.specs.Tries.{IsTrie};
 
-use chunk_cells::{CellRead, CellWrite, PlainCells};
+use chunk_cells::{CellWrite, PlainCells};
 use chunk_usage::{Space, Usage};
 use evacuate::{Done, evacuate};
 use packed_node::Ref;
@@ -28,94 +26,62 @@ pub(crate) fn unused_room(alloc: Global, chunks: u32) -> Result<(PlainCells, Usa
     Ok((memory, usage))
 }
 
-/// The root with a name taken out, or as it is where the name stays.
-fn without<C: CellWrite, U: Space>(
+/// What becomes of a name.
+#[derive(Clone, Copy)]
+pub(crate) enum Change {
+    TakenOut,
+    PutIn,
+}
+
+/// The root once a name is taken out or put in.
+fn changed<C: CellWrite, U: Space>(
     cells: &mut C,
     usage: &mut U,
     root: Option<Ref>,
     item: &Item,
-    stays: bool,
+    change: Change,
 ) -> Option<Option<Ref>>
-    requires stands { (version : List Entry) × HasTrie C.has U.account cells.old usage.old root version × EachTells Leads version }
-    requires ready { Ready C.kept C.given U.account cells.old usage.old }
-    ensures stands { IfSome result (λ new. (version : List Entry) × HasTrie C.has U.account cells.new usage.new new version × EachTells Leads version) }
-    ensures ready { Ready C.kept C.given U.account cells.new usage.new }
+    requires trie { IsTrie C.has C.kept C.given U.account cells.old usage.old root }
+    ensures trie { IfSome result (IsTrie C.has C.kept C.given U.account cells.new usage.new) }
 {
-    if stays {
-        return Some(root);
-    }
-    match delete(cells, usage, root, &item.key()) {
-        Err(_) => None,
-        Ok(new) => Some(new),
+    let key = item.key();
+    match change {
+        Change::TakenOut => match delete(cells, usage, root, &key) {
+            Err(_) => None,
+            Ok(new) => Some(new),
+        },
+        Change::PutIn => match insert(cells, usage, root, &key, item.octets()) {
+            Err(_) => None,
+            Ok(new) => Some(new),
+        },
     }
 }
 
-/// The root with a name put in, or as it is where the name is there already.
-fn with<C: CellWrite, U: Space>(
-    cells: &mut C,
-    usage: &mut U,
-    root: Option<Ref>,
-    item: &Item,
-    there: bool,
-) -> Option<Option<Ref>>
-    requires stands { (version : List Entry) × HasTrie C.has U.account cells.old usage.old root version × EachTells Leads version }
-    requires ready { Ready C.kept C.given U.account cells.old usage.old }
-    ensures stands { IfSome result (λ new. (version : List Entry) × HasTrie C.has U.account cells.new usage.new new version × EachTells Leads version) }
-    ensures ready { Ready C.kept C.given U.account cells.new usage.new }
-{
-    if there {
-        return Some(root);
-    }
-    match insert(cells, usage, root, &item.key(), item.octets()) {
-        Err(_) => None,
-        Ok(new) => Some(new),
-    }
-}
-
-/// The root once all items but one of so many are taken out.
-fn thinned<C: CellWrite, U: Space>(
+/// The root once all items but one of so many are taken out or put in.
+pub(crate) fn changed_but<C: CellWrite, U: Space>(
     cells: &mut C,
     usage: &mut U,
     root: Option<Ref>,
     items: &[Item],
     so_many: usize,
+    change: Change,
 ) -> Option<Option<Ref>>
     requires some { 0 < so_many }
-    requires stands { (version : List Entry) × HasTrie C.has U.account cells.old usage.old root version × EachTells Leads version }
-    requires ready { Ready C.kept C.given U.account cells.old usage.old }
-    ensures stands { IfSome result (λ new. (version : List Entry) × HasTrie C.has U.account cells.new usage.new new version × EachTells Leads version) }
-    ensures ready { Ready C.kept C.given U.account cells.new usage.new }
+    requires trie { IsTrie C.has C.kept C.given U.account cells.old usage.old root }
+    ensures trie { IfSome result (IsTrie C.has C.kept C.given U.account cells.new usage.new) }
 {
     let mut root = root;
     for i in 0..items.len() {
-        root = without(cells, usage, root, &items[i], i % so_many == 0)?;
-    }
-    Some(root)
-}
-
-/// The root once they are put in again.
-fn filled_up<C: CellWrite, U: Space>(
-    cells: &mut C,
-    usage: &mut U,
-    root: Option<Ref>,
-    items: &[Item],
-    so_many: usize,
-) -> Option<Option<Ref>>
-    requires some { 0 < so_many }
-    requires stands { (version : List Entry) × HasTrie C.has U.account cells.old usage.old root version × EachTells Leads version }
-    requires ready { Ready C.kept C.given U.account cells.old usage.old }
-    ensures stands { IfSome result (λ new. (version : List Entry) × HasTrie C.has U.account cells.new usage.new new version × EachTells Leads version) }
-    ensures ready { Ready C.kept C.given U.account cells.new usage.new }
-{
-    let mut root = root;
-    for i in 0..items.len() {
-        root = with(cells, usage, root, &items[i], i % so_many == 0)?;
+        if i % so_many == 0 {
+            continue;
+        }
+        root = changed(cells, usage, root, &items[i], change)?;
     }
     Some(root)
 }
 
 /// The root of the trie of the items, once all but one of so many are taken out.
-fn built_without<C: CellWrite, U: Space>(
+pub(crate) fn thinned<C: CellWrite, U: Space>(
     cells: &mut C,
     usage: &mut U,
     items: &[Item],
@@ -125,12 +91,11 @@ fn built_without<C: CellWrite, U: Space>(
     requires some { 0 < so_many }
     requires uncounted { (k : ℕ) → (U.account usage.old).live k ≡ 0 }
     requires ready { Ready C.kept C.given U.account cells.old usage.old }
-    ensures stands { IfSome result (λ root. (version : List Entry) × HasTrie C.has U.account cells.new usage.new root version × EachTells Leads version) }
-    ensures ready { Ready C.kept C.given U.account cells.new usage.new }
+    ensures trie { IfSome result (IsTrie C.has C.kept C.given U.account cells.new usage.new) }
 {
     match build(cells, usage, items) {
         Err(_) => None,
-        Ok(root) => thinned(cells, usage, root, items, so_many),
+        Ok(root) => changed_but(cells, usage, root, items, so_many, Change::TakenOut),
     }
 }
 
@@ -147,90 +112,38 @@ pub(crate) struct Outcome {
     pub(crate) walks: u64,
 }
 
-/// Moves what lies in sparse chunks.
-fn emptied<C: CellWrite>(cells: &mut C, usage: &mut Usage, root: Option<Ref>) -> Outcome
-    requires stands { (version : List Entry) × HasTrie C.has ⟦<Usage as Space>⟧.account cells.old usage.old root version }
-    requires ready { Ready C.kept C.given ⟦<Usage as Space>⟧.account cells.old usage.old }
+/// The root once what lies in sparse chunks is moved.
+pub(crate) fn evacuated<C: CellWrite>(
+    cells: &mut C,
+    usage: &mut Usage,
+    root: Option<Ref>,
+) -> (Option<Ref>, Outcome)
+    requires trie { IsTrie C.has C.kept C.given ⟦<Usage as Space>⟧.account cells.old usage.old root }
+    ensures trie { IsTrie C.has C.kept C.given ⟦<Usage as Space>⟧.account cells.new usage.new result.0 }
 {
     let sparse = usage.sparse();
     let (new, done) = evacuate(cells, usage, root);
-    Outcome {
+    let outcome = Outcome {
         sparse,
         done,
         names: count(cells, new),
         nodes: nodes(cells, new),
         walks: usage.walks(),
-    }
-}
-
-/// Builds the trie of the items, takes all but one of so many out, and moves what lies in sparse chunks.
-pub(crate) fn evacuated<C: CellWrite>(
-    cells: &mut C,
-    usage: &mut Usage,
-    items: &[Item],
-    so_many: usize,
-) -> Option<Outcome>
-    requires rising { Rises (entries_of_items items.now) }
-    requires some { 0 < so_many }
-    requires uncounted { (k : ℕ) → (⟦<Usage as Space>⟧.account usage.old).live k ≡ 0 }
-    requires ready { Ready C.kept C.given ⟦<Usage as Space>⟧.account cells.old usage.old }
-{
-    let root = built_without(cells, usage, items, so_many)?;
-    Some(emptied(cells, usage, root))
-}
-
-/// The root of that trie once what lies in sparse chunks is moved, and how that ended.
-pub(crate) fn moved<C: CellWrite>(
-    cells: &mut C,
-    usage: &mut Usage,
-    items: &[Item],
-    so_many: usize,
-) -> Option<(Option<Ref>, Done)>
-    requires rising { Rises (entries_of_items items.now) }
-    requires some { 0 < so_many }
-    requires uncounted { (k : ℕ) → (⟦<Usage as Space>⟧.account usage.old).live k ≡ 0 }
-    requires ready { Ready C.kept C.given ⟦<Usage as Space>⟧.account cells.old usage.old }
-    ensures stands { IfSome result (λ r. (version : List Entry) × HasTrie C.has ⟦<Usage as Space>⟧.account cells.new usage.new r.0 version × EachTells Leads version) }
-{
-    let root = built_without(cells, usage, items, so_many)?;
-    Some(evacuate(cells, usage, root))
-}
-
-/// The same, and then puts the names in again, takes them out, and moves once more.
-pub(crate) fn evacuated_again<C: CellWrite>(
-    cells: &mut C,
-    usage: &mut Usage,
-    items: &[Item],
-    so_many: usize,
-) -> Option<Outcome>
-    requires rising { Rises (entries_of_items items.now) }
-    requires some { 0 < so_many }
-    requires uncounted { (k : ℕ) → (⟦<Usage as Space>⟧.account usage.old).live k ≡ 0 }
-    requires ready { Ready C.kept C.given ⟦<Usage as Space>⟧.account cells.old usage.old }
-{
-    let root = built_without(cells, usage, items, so_many)?;
-    let (root, _done) = evacuate(cells, usage, root);
-    let root = filled_up(cells, usage, root, items, so_many)?;
-    let root = thinned(cells, usage, root, items, so_many)?;
-    Some(emptied(cells, usage, root))
-}
-
-/// How many chunks have cells that count.
-pub(crate) fn counted_chunks(usage: &Usage) -> u32 {
-    let mut counted: u32 = 0;
-    for chunk in 0..usage.chunks() {
-        if usage.live(chunk) > 0 {
-            counted = counted.saturating_add(1);
-        }
-    }
-    counted
+    };
+    (new, outcome)
 }
 
 /// How many cells count.
 pub(crate) fn live_cells(usage: &Usage) -> u64 {
-    let mut cells: u64 = 0;
-    for chunk in 0..usage.chunks() {
-        cells = cells.saturating_add(u64::from(usage.live(chunk)));
-    }
-    cells
+    (0..usage.chunks()).fold(
+        0,
+        |cells, chunk| cells.saturating_add(u64::from(usage.live(chunk))),
+    )
+}
+
+/// How many chunks have such.
+pub(crate) fn counted_chunks(usage: &Usage) -> usize {
+    (0..usage.chunks())
+        .filter(|chunk| usage.live(*chunk) > 0)
+        .count()
 }
