@@ -86,13 +86,6 @@ fn open<R: Threads + Sync>(
     (turn, first, second)
 }
 
-/// What a transaction found in the current version's word, and the version that it published.
-#[derive(Clone, Copy, Debug, PartialEq)]
-struct Paid {
-    word: u64,
-    version: u64,
-}
-
 /// Publishes a payment, which the caller picks.
 fn publish<L: Law<u64, u64>, M: Payload<u64>>(
     account: &Shared<u64, u64, L>,
@@ -109,13 +102,13 @@ fn publish<L: Law<u64, u64>, M: Payload<u64>>(
 }
 
 /// The pass pays this amount, in a transaction of its own: it is what the history then has last. What the pass had seen
-/// was no more than the turn had.
+/// was no more than the turn had. Tells the current version's word that it found, and the version that it published.
 fn pay(
     account: &Account,
     turn: TurnSeat<u64, u64>,
     pass: PassSeat<u64, u64>,
     amount: u64,
-) -> (TurnSeat<u64, u64>, PassSeat<u64, u64>, Paid)
+) -> (TurnSeat<u64, u64>, PassSeat<u64, u64>, (u64, u64))
     requires tables { (turn.place.table_id ≡ account.now.table.shared.table_id) × (pass.place.table_id ≡ account.now.table.shared.table_id) }
     requires room { turn.version < 1000 }
     ensures version { result.0.version ≡ turn.version + 1 }
@@ -127,7 +120,7 @@ fn pay(
     let word = joined.look(account);
     let version = publish::<Sums, Brand>(account, &mut joined, amount);
     let (turn, pass) = joined.split(account);
-    (turn, pass, Paid { word, version })
+    (turn, pass, (word, version))
 }
 
 /// The first pass tells the second what it has seen.
@@ -139,31 +132,15 @@ fn tell(account: &Account, first: &mut PassSeat<u64, u64>, second: &mut PassSeat
     second.learn(account, note);
 }
 
-/// What each transaction finds and publishes: the word of CUR is the version times 2^24, plus FFFFFD for no root.
-const PAYMENTS: [Paid; 3] = [
-    Paid {
-        word: 0x00ff_fffd,
-        version: 1,
-    },
-    Paid {
-        word: 0x01ff_fffd,
-        version: 2,
-    },
-    Paid {
-        word: 0x02ff_fffd,
-        version: 3,
-    },
-];
-
 #[test]
 fn two_passes_publish_in_turn(rt: HostRuntime) -> Result<(), Fail> {
     let (account, mut seats, turn) = Account::new(rt.alloc(), 1, 2)?;
-    let (Some(second), Some(first)) = (seats.pop(), seats.pop()) else {
-        return Err(Fail::from("no seats"));
-    };
+    let second = seats.pop().ok_or("no seat")?;
+    let first = seats.pop().ok_or("no seat")?;
     let (mut turn, mut next, mut other) = open(&rt, &account, turn, first, second);
-    for want in PAYMENTS {
-        let (after, pass, paid) = pay(&account, turn, next, want.version);
+    // The word of CUR is the version times 2^24, plus FFFFFD for no root.
+    for want in [(0x00ff_fffd, 1), (0x01ff_fffd, 2), (0x02ff_fffd, 3)] {
+        let (after, pass, paid) = pay(&account, turn, next, want.1);
         assert_eq!(rt; paid, want);
         turn = after;
         next = other;

@@ -1,9 +1,12 @@
-//! The machine of pins: two worked runs, by `drive` and event by event.
+//! The machine of pins: worked runs, by `drive` and event by event.
+ghost use Rattle.std.specs.Prelude.{◌≤◌};
+
 use pin_core::words::{ENTERING, IDLE, pin_after_exchange, version_of_pin, word_of_version};
 use pin_core::{
     CellAt, Event, Half, Image, LAST_VERSION, References, Spent, State, Step, drive, next_version,
 };
 use std::alloc::{AllocError, Global};
+use std::process::Abort;
 use std::test::Fail;
 
 fn write(at: u32, value: u64) -> Event {
@@ -32,118 +35,83 @@ fn publish(alloc: Global, cell: u32) -> Result<Event, AllocError> {
     })
 }
 
-/// A pass looks at version 1, is helped to version 2, and reads that while version 1's chunk is given again.
-fn helped_pass(alloc: Global) -> Result<Vec<Event>, AllocError> {
-    let mut events = Vec::new(alloc);
-    events.push(Event::Give(0))?;
-    events.push(write(0, 11))?;
-    events.push(publish(alloc, 0)?)?;
-    events.push(Event::Enter(0))?;
-    events.push(Event::Look(0))?;
-    events.push(Event::Give(1))?;
-    events.push(write(1024, 22))?;
-    events.push(publish(alloc, 1024)?)?;
-    events.push(Event::Scan(0))?;
-    events.push(Event::Assign(0))?;
-    events.push(Event::Free(0))?;
-    events.push(Event::Give(0))?;
-    events.push(write(0, 33))?;
-    events.push(Event::Settle(0))?;
-    events.push(read(1024))?;
-    events.push(read(0))?;
-    events.push(Event::Free(1))?;
-    events.push(Event::Leave(0))?;
-    events.push(Event::Leave(0))?;
-    Ok(events)
-}
+const DONE: Step = Step::Done;
 
-const HELPED_ANSWERS: [Step; 19] = [
-    Step::Done,
-    Step::Done,
-    Step::Done,
-    Step::Done,
-    Step::Done,
-    Step::Done,
-    Step::Done,
-    Step::Done,
-    Step::Done,
-    Step::Done,
-    Step::Done,
-    Step::Done,
-    Step::Done,
-    Step::Pinned { version: 2 },
-    Step::Word { value: 22 },
-    Step::Refused,
-    Step::Refused,
-    Step::Done,
-    Step::Refused,
-];
+const NO: Step = Step::Refused;
 
-/// A pass that settles by itself is not assigned to, and the round ends.
-fn settled_pass(alloc: Global) -> Result<Vec<Event>, AllocError> {
-    let mut events = Vec::new(alloc);
-    events.push(Event::Enter(0))?;
-    events.push(Event::Look(0))?;
-    events.push(Event::Scan(0))?;
-    events.push(Event::Settle(0))?;
-    events.push(Event::Assign(0))?;
-    events.push(Event::Assign(0))?;
-    events.push(Event::Leave(0))?;
-    events.push(Event::Settle(0))?;
-    events.push(Event::Free(0))?;
-    events.push(Event::Learn {
-        pass: 0,
-        version: 1,
-    })?;
-    Ok(events)
-}
-
-const SETTLED_ANSWERS: [Step; 10] = [
-    Step::Done,
-    Step::Done,
-    Step::Done,
-    Step::Pinned { version: 0 },
-    Step::Done,
-    Step::Refused,
-    Step::Done,
-    Step::Refused,
-    Step::Refused,
-    Step::Refused,
-];
-
-/// What the events answer one by one.
-fn step_by_step(
+/// Asserts what events answer to one pass over so many chunks, by `drive` and one by one.
+fn check(
+    rt: &impl Abort,
     alloc: Global,
-    state: &mut State,
-    events: &[Event],
-) -> Result<Vec<Step>, AllocError> {
-    let mut steps = Vec::new(alloc);
-    for event in events {
-        steps.push(state.step(alloc, event)?)?;
+    chunks: u32,
+    rows: Vec<(Event, Step)>,
+) -> Result<(), AllocError>
+    requires { (1 ≤ chunks) × (chunks ≤ 2) }
+{
+    let mut events = Vec::new(alloc);
+    let mut state = State::start(alloc, 1, chunks)?;
+    let mut answers = Vec::new(alloc);
+    for (event, answer) in rows {
+        assert_eq!(rt; state.step(alloc, &event)?, answer);
+        events.push(event)?;
+        answers.push(answer)?;
     }
-    Ok(steps)
+    assert_eq!(rt;
+        drive(alloc, 1, chunks, &events)?.as_slice(),
+        answers.as_slice()
+    );
+    Ok(())
 }
 
+// A pass looks at version 1, is helped to version 2, and reads that while version 1's chunk is given again.
 #[test]
 fn a_pass_is_helped(rt: HostRuntime) -> Result<(), Fail> {
-    let events = helped_pass(rt.alloc())?;
-    let driven = drive(rt.alloc(), 1, 2, &events)?;
-    assert_eq!(rt; driven.as_slice(), HELPED_ANSWERS.as_slice());
-    let mut state = State::start(rt.alloc(), 1, 2)?;
-    let stepped = step_by_step(rt.alloc(), &mut state, &events)?;
-    assert_eq!(rt; stepped.as_slice(), HELPED_ANSWERS.as_slice());
-    Ok(())
+    let rows = vec![in rt.alloc();
+        (Event::Give(0), DONE),
+        (write(0, 11), DONE),
+        (publish(rt.alloc(), 0)?, DONE),
+        (Event::Enter(0), DONE),
+        (Event::Look(0), DONE),
+        (Event::Give(1), DONE),
+        (write(1024, 22), DONE),
+        (publish(rt.alloc(), 1024)?, DONE),
+        (Event::Scan(0), DONE),
+        (Event::Assign(0), DONE),
+        (Event::Free(0), DONE),
+        (Event::Give(0), DONE),
+        (write(0, 33), DONE),
+        (Event::Settle(0), Step::Pinned { version: 2 }),
+        (read(1024), Step::Word { value: 22 }),
+        (read(0), NO),
+        (Event::Free(1), NO),
+        (Event::Leave(0), DONE),
+        (Event::Leave(0), NO),
+    ]?;
+    Ok(check(&rt, rt.alloc(), 2, rows)?)
 }
 
+// It is not assigned to, and the round ends.
 #[test]
 fn a_pass_settles_by_itself(rt: HostRuntime) -> Result<(), Fail> {
-    let events = settled_pass(rt.alloc())?;
-    let driven = drive(rt.alloc(), 1, 1, &events)?;
-    assert_eq!(rt; driven.as_slice(), SETTLED_ANSWERS.as_slice());
-    let mut state = State::start(rt.alloc(), 1, 1)?;
-    let stepped = step_by_step(rt.alloc(), &mut state, &events)?;
-    assert_eq!(rt; stepped.as_slice(), SETTLED_ANSWERS.as_slice());
-    Ok(())
+    let rows = vec![in rt.alloc();
+        (Event::Enter(0), DONE),
+        (Event::Look(0), DONE),
+        (Event::Scan(0), DONE),
+        (Event::Settle(0), Step::Pinned { version: 0 }),
+        (Event::Assign(0), DONE),
+        (Event::Assign(0), NO),
+        (Event::Leave(0), DONE),
+        (Event::Settle(0), NO),
+        (Event::Free(0), NO),
+        (
+            Event::Learn {
+                pass: 0,
+                version: 1
+            },
+            NO
+        ),
+    ]?;
+    Ok(check(&rt, rt.alloc(), 1, rows)?)
 }
 
 #[test]
@@ -155,22 +123,11 @@ fn version_zero_has_an_image(rt: HostRuntime) -> Result<(), Fail> {
     };
     let cells = vec![in rt.alloc(); cell]?;
     let mut state = State::open(rt.alloc(), 1, 1, Some(5), Image { cells })?;
-    let mut events = Vec::new(rt.alloc());
-    events.push(Event::Enter(0))?;
-    events.push(Event::Look(0))?;
-    events.push(Event::Settle(0))?;
-    events.push(read(5))?;
+    let events = [Event::Enter(0), Event::Look(0), Event::Settle(0), read(5)];
     let steps = state.play(rt.alloc(), &events)?;
-    assert_eq!(rt;
-        steps.as_slice(),
-        [
-            Step::Done,
-            Step::Done,
-            Step::Pinned { version: 0 },
-            Step::Word { value: 44 }
-        ]
-        .as_slice()
-    );
+    let pinned = Step::Pinned { version: 0 };
+    let word = Step::Word { value: 44 };
+    assert_eq!(rt; steps.as_slice(), [DONE, DONE, pinned, word].as_slice());
     Ok(())
 }
 
