@@ -22,4 +22,3 @@ pub mod WithoutLaws
 pub mod RemoveLaws
 pub mod SpaceLaws
 pub mod MostLaws
-pub mod CopyCellLaws

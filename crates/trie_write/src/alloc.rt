@@ -1,10 +1,9 @@
 //! Cells for what is written.
 
-ghost use Rattle.std.specs.Prelude.{◌≡◌, ◌≢◌, ◌+◌, ◌-◌, ◌/◌, ◌^◌, ◌<◌, ◌≤◌, ℕ, true, IfOk, IfErr, Some, length, slice_get, Contains};
+ghost use Rattle.std.specs.Prelude.{◌≡◌, ◌≢◌, ◌+◌, ◌-◌, ◌^◌, ◌<◌, ◌≤◌, ℕ, true, IfOk, IfErr, Some, length, slice_get};
 ghost use Rattle.packed_node.specs.declared.Cell.{Cell};
 ghost use Rattle.trie_model.specs.Extents.{IsRow, row as row_of};
 ghost use Rattle.trie_model.specs.Reach.{in_chunk};
-ghost use Rattle.chunk_cells.specs.Chunks.{IsGiven};
 ghost use Rattle.chunk_usage.specs.Rooms.{Handed};
 ghost use Rattle.trie_write.specs.Spaces.{Ready, Frame, Refused, MayWrite, Wrote};
 
@@ -35,21 +34,7 @@ pub fn room_for<C: CellWrite, U: Space>(cells: &mut C, usage: &mut U, n: u32) ->
     Ok(grant.at)
 }
 
-/// Copies a cell to another.
-fn copy_cell<C: CellWrite>(cells: &mut C, from: Ref, to: Ref)
-    requires there { (c : Cell) × C.has cells.old from c }
-    requires given { IsGiven (C.given cells.old) (to / 1024) }
-    requires unkept { ¬ Contains (C.kept cells.old) to }
-    ensures copied { (c : Cell) → C.has cells.old from c → C.has cells.new to c }
-    ensures others { (q : ℕ) (c : Cell) → q ≢ to → C.has cells.old q c → C.has cells.new q c }
-    ensures given { C.given cells.new ≡ C.given cells.old }
-    ensures kept { C.kept cells.new ≡ C.kept cells.old }
-{
-    let cell = cells.cell(from);
-    cells.put(to, cell);
-}
-
-/// Copies n cells to others, two at a time.
+/// Copies n cells to others.
 pub fn copy_twigs<C: CellWrite>(cells: &mut C, from: Ref, to: Ref, n: u32)
     requires inside { from + n ≤ 2 ^ 22 }
     requires within { to + n ≤ 2 ^ 22 }
@@ -59,16 +44,7 @@ pub fn copy_twigs<C: CellWrite>(cells: &mut C, from: Ref, to: Ref, n: u32)
     ensures copied { (i : ℕ) (c : Cell) → i < n → C.has cells.old (from + i) c → C.has cells.new (to + i) c }
     ensures wrote { Wrote C.has C.kept C.given cells.old cells.new to n }
 {
-    let mut done = 0;
-    while n - done > 1 {
-        copy_cell(cells, from + done, to + done);
-        let next = done + 1;
-        copy_cell(cells, from + next, to + next);
-        done += 2;
-    }
-    if done < n {
-        copy_cell(cells, from + done, to + done);
-    }
+    cells.copy_row(from, to, n);
 }
 
 /// Writes cells side by side.
