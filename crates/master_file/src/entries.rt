@@ -16,7 +16,7 @@ use std::alloc::Global;
 use zone_model::ZoneKind;
 use zone_text::{Token, ZoneRefusal, is_word, refuse};
 
-// The data behind the type. What is refused is the token's line, or the last line where one is missing.
+// Reads the data behind the type. What is refused is the token's line, or the last line where one is missing.
 fn read_data(
     alloc: Global,
     last: u32,
@@ -24,14 +24,15 @@ fn read_data(
     bytes: &[u8],
     words: &[Token],
     origin: &Name,
-) -> Result<Rdata, ZoneRefusal>
+    rdata: &mut Rdata,
+) -> Result<(), ZoneRefusal>
     requires placed { All (IsPlaced bytes.now) words.now }
     requires len { front.len ≤ length words.now }
-    ensures { Reads result (λ r. r) (let f = front_view bytes.now words.now front in placed last f.rest (data_of origin.now f.rtype f.rest)) }
+    ensures { Gives result rdata.new (let f = front_view bytes.now words.now front in placed last f.rest (data_of origin.now f.rtype f.rest)) }
 {
     let rest = &words[front.len..];
-    match Rdata::read(alloc, front.rtype, bytes, rest, origin) {
-        Ok(rdata) => Ok(rdata),
+    match rdata.read_again(alloc, front.rtype, bytes, rest, origin) {
+        Ok(()) => Ok(()),
         Err(RdataRefusal::Memory) => Err(ZoneRefusal::Memory),
         Err(RdataRefusal::BadRdata { at }) | Err(RdataRefusal::LongString { at }) => {
             Err(refuse(line_of(last, rest, at), ZoneKind::BadRdata))
@@ -57,18 +58,27 @@ fn read_record(
         (reader_view reader.old)) }
 {
     let front = front_of(bytes, last, words)?;
-    let rdata = read_data(alloc, last, front, bytes, words, &reader.origin)?;
-    let Some(time) = time_for(front.time, front.rtype, rdata.octets(), reader) else {
+    read_data(
+        alloc,
+        last,
+        front,
+        bytes,
+        words,
+        &reader.origin,
+        &mut reader.rdata,
+    )?;
+    let octets = reader.rdata.octets();
+    let Some(time) = time_for(front.time, front.rtype, octets, reader) else {
         return Err(refuse(last, ZoneKind::NoTtl));
     };
     let minimum = if front.rtype == SOA {
-        Some(minimum_of(rdata.octets()))
+        Some(minimum_of(octets))
     } else {
         reader.minimum
     };
     reader
         .owners
-        .add(alloc, apex, last, owner, front.rtype, time, rdata)?;
+        .add(alloc, apex, last, owner, front.rtype, time, &reader.rdata)?;
     if front.time.is_some() {
         reader.last_time = front.time;
     }

@@ -167,16 +167,16 @@ impl Owned {
         owner: &Name,
         rtype: u16,
         time: u32,
-        rdata: Rdata,
+        rdata: &Rdata,
     ) -> Result<Owned, AllocError>
-        ensures { IfOk result (λ o. o ≡ (owner.now, with_rr rtype time rdata [])) }
+        ensures { IfOk result (λ o. o ≡ (owner.now, with_rr rtype time rdata.now [])) }
     {
         match single_item(alloc, owner, rtype, time, rdata.octets())? {
             Some(octets) => Ok(Owned {
                 kept: Kept::Single(octets),
             }),
             None => {
-                let several = several_first(alloc, owner, rtype, time, rdata)?;
+                let several = several_first(alloc, owner, rtype, time, rdata.clone()?)?;
                 Ok(Owned {
                     kept: Kept::Several(Box::new(alloc, several)?),
                 })
@@ -185,13 +185,7 @@ impl Owned {
     }
 
     /// Adds a record, unless it is there.
-    pub fn add(
-        &mut self,
-        alloc: Global,
-        rtype: u16,
-        time: u32,
-        rdata: Rdata,
-    ) -> Result<(), AllocError>
+    fn add(&mut self, alloc: Global, rtype: u16, time: u32, rdata: Rdata) -> Result<(), AllocError>
         ensures { OnOk result (self.new ≡ (self.old.0, with_rr rtype time rdata self.old.1)) }
     {
         match &mut self.kept {
@@ -203,6 +197,20 @@ impl Owned {
             }
             Kept::Several(several) => add_to(alloc, several, rtype, time, rdata),
         }
+    }
+
+    /// Adds a copy of a record, unless it is there.
+    pub fn add_copy(
+        &mut self,
+        alloc: Global,
+        rtype: u16,
+        time: u32,
+        rdata: &Rdata,
+    ) -> Result<(), AllocError>
+        ensures { OnOk result (self.new ≡ (self.old.0, with_rr rtype time rdata.now self.old.1)) }
+    {
+        let added = rdata.clone()?;
+        self.add(alloc, rtype, time, added)
     }
 
     /// Whether the records can stand: the owner's SOA and CNAME are alone, and the item isn't too long.

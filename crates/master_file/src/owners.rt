@@ -31,15 +31,15 @@ fn grow(
     owner: &Name,
     rtype: u16,
     time: u32,
-    rdata: Rdata,
+    rdata: &Rdata,
     owned: &mut BTreeMap<SortKey, Owned>,
 ) -> Result<(), ZoneRefusal>
-    ensures { Gives result owned.new.entries (placed_at last key owner.now rtype time rdata owned.old.entries) }
+    ensures { Gives result owned.new.entries (placed_at last key owner.now rtype time rdata.now owned.old.entries) }
 {
     match owned.entry(key)? {
         Place::Occupied(taken) => {
             let kept = taken.into_mut();
-            kept.add(alloc, rtype, time, rdata)?;
+            kept.add_copy(alloc, rtype, time, rdata)?;
             kept.check(last)
         }
         Place::Vacant(free) => {
@@ -79,10 +79,10 @@ impl Owners {
         owner: &Name,
         rtype: u16,
         time: u32,
-        rdata: Rdata,
+        rdata: &Rdata,
     ) -> Result<(), ZoneRefusal>
         requires held { AllHeld apex.now self.old.owned.entries }
-        ensures gives { Gives result (version_of self.new.owned.entries) (added apex.now last owner.now rtype time rdata (version_of self.old.owned.entries)) }
+        ensures gives { Gives result (version_of self.new.owned.entries) (added apex.now last owner.now rtype time rdata.now (version_of self.old.owned.entries)) }
         ensures held { OnOk result (AllHeld apex.now self.new.owned.entries) }
     {
         let _wire = owner.wire(); // for the proof

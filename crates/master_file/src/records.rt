@@ -6,7 +6,7 @@ ghost use Rattle.master_file.specs.Zones.{reader_view};
 
 use crate::owners::Owners;
 use dns_name::Name;
-use rr_data::SOA;
+use rr_data::{Rdata, SOA};
 use zone_text::Token;
 
 /// What the entries so far leave.
@@ -17,6 +17,8 @@ pub struct Reader {
     pub last_time: Option<u32>,
     pub minimum: Option<u32>,
     pub owner: Option<Name>,
+    /// The data of the last record; its memory serves the next one.
+    pub rdata: Rdata,
     /// The records so far.
     pub owners: Owners,
 }

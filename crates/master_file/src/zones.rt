@@ -15,6 +15,7 @@ use crate::owned::Owned;
 use crate::owners::Owners;
 use crate::records::Reader;
 use dns_name::{Name, SortKey};
+use rr_data::Rdata;
 use std::alloc::Global;
 use std::collections::BTreeMap;
 use std::marker::Model;
@@ -32,6 +33,7 @@ fn new_reader(alloc: Global, apex: &Name) -> Reader
         last_time: None,
         minimum: None,
         owner: None,
+        rdata: Rdata::new(Vec::new(alloc)),
         owners: Owners::new(alloc),
     }
 }

@@ -11,4 +11,4 @@ invariant_of-result c =
 pub returns-in-Some : goal.returns-in-Some
 returns-in-Some c =
     let is : IsItem c.in-Some.octets.items c.args.owner.now (fresh c.args.rtype c.args.time c.octets.result.now ∷ []) = rw c.in-Some.is at c.in_ok-octets.ensures in
-    item_view c.in-Some.octets.items c.args.owner.now (fresh c.args.rtype c.args.time c.args.rdata ∷ []) (rw c.octets.ensures.value at is)
+    item_view c.in-Some.octets.items c.args.owner.now (fresh c.args.rtype c.args.time c.args.rdata.now ∷ []) (rw c.octets.ensures.value at is)
