@@ -1,16 +1,9 @@
 //! Zones and their dumps, which say the same zones again.
 
-use crate::written::{sink_of, write_zone};
+use crate::written::dumped;
 use std::alloc::Global;
-
-// Whether the dump of a zone that a text says is this.
-fn is_dumped(alloc: Global, text: &[u8], origin: &[u8], ttl: Option<u32>, want: &[u8]) -> bool {
-    let Ok(mut sink) = sink_of(alloc, 7, &[]) else {
-        return false;
-    };
-    let told = write_zone(alloc, text, origin, ttl, &mut sink);
-    matches!(told, Some(Ok(_))) && sink.held() == Some(want)
-}
+use std::process::Abort;
+use std::test::Fail;
 
 // A zone of an origin, its SOA's time to live, and its dumps in both styles.
 #[derive(Drop)]
@@ -22,16 +15,21 @@ struct Case {
     short: &'static [u8],
 }
 
-// Whether the text and both dumps are dumped alike.
-fn is_right(alloc: Global, case: &Case) -> bool {
-    for text in [case.text, case.full, case.short] {
-        let full = is_dumped(alloc, text, case.origin, None, case.full);
-        let short = is_dumped(alloc, text, case.origin, Some(case.ttl), case.short);
-        if !full || !short {
-            return false;
-        }
+// The text and both dumps are dumped alike.
+fn check(rt: &impl Abort, alloc: Global, case: &Case) -> Result<(), Fail> {
+    for (text, ttl, want) in [
+        (case.text, None, case.full),
+        (case.text, Some(case.ttl), case.short),
+        (case.full, None, case.full),
+        (case.full, Some(case.ttl), case.short),
+        (case.short, None, case.full),
+        (case.short, Some(case.ttl), case.short),
+    ] {
+        let (told, dump) = dumped(alloc, text, case.origin, ttl, 7, &[])?;
+        assert!(rt; told.is_ok());
+        assert_eq!(rt; dump.as_slice(), want);
     }
-    true
+    Ok(())
 }
 
 const PLAIN: Case = Case {
@@ -151,19 +149,16 @@ const ROOT: Case = Case {
 };
 
 #[test]
-fn zones_are_dumped(rt: HostRuntime) {
+fn zones_are_dumped(rt: HostRuntime) -> Result<(), Fail> {
     for case in [PLAIN, ODD, DELEGATIONS, WORDS, ROOT] {
-        assert!(rt; is_right(rt.alloc(), &case));
+        check(&rt, rt.alloc(), &case)?;
     }
-}
-
-// How many records a dump tells.
-fn told(alloc: Global, text: &[u8], origin: &[u8]) -> Option<u64> {
-    let mut sink = sink_of(alloc, 100, &[]).ok()?;
-    write_zone(alloc, text, origin, None, &mut sink)?.ok()
+    Ok(())
 }
 
 #[test]
-fn records_are_counted(rt: HostRuntime) {
-    assert!(rt; told(rt.alloc(), ODD.text, ODD.origin) == Some(11));
+fn records_are_counted(rt: HostRuntime) -> Result<(), Fail> {
+    let (told, _dump) = dumped(rt.alloc(), ODD.text, ODD.origin, None, 100, &[])?;
+    assert_eq!(rt; told, Ok(11));
+    Ok(())
 }

@@ -6,7 +6,8 @@ use dns_name::Name;
 use master_file::{ZoneItems, read_zone};
 use outer_io::MemSink;
 use rr_data::{Directives, item_buffer};
-use std::alloc::{AllocError, Global};
+use std::alloc::Global;
+use std::test::Fail;
 use zone_dump::{DumpRefusal, Lines};
 
 /// Writes the items of a zone, under directives or in full.
@@ -26,28 +27,26 @@ fn write_items(
     lines.finish(sink)
 }
 
-/// A sink that takes at most so many bytes a call, and whose calls with these numbers fail.
-pub(crate) fn sink_of(alloc: Global, most: usize, fails: &[u64]) -> Result<MemSink, AllocError>
-    requires { 0 < most }
-{
-    MemSink::new(alloc, 100_000, most, Vec::from_slice(alloc, fails)?)
-}
-
-/// What became of a dump of the zone of an origin that a text says: in full, or short where the time to live of its SOA is
-/// given. None where the text says none.
-pub(crate) fn write_zone(
+/// What became of a dump of the zone of an origin that a text says, and what the sink has: in full, or short where the time to
+/// live of its SOA is given. The sink takes at most so many bytes a call, and its calls with these numbers fail.
+pub(crate) fn dumped(
     alloc: Global,
     text: &[u8],
     origin: &[u8],
     ttl: Option<u32>,
-    sink: &mut MemSink,
-) -> Option<Result<u64, DumpRefusal>> {
+    most: usize,
+    fails: &[u64],
+) -> Result<(Result<u64, DumpRefusal>, Vec<u8>), Fail>
+    requires { 0 < most }
+{
     if text.len() > 100_000 {
-        return None;
+        return Err(Fail::from("a long text"));
     }
-    let origin = Name::read(origin, &Name::root()).ok()?;
-    let mut item = item_buffer(alloc).ok()?;
+    let origin = Name::read(origin, &Name::root())?;
+    let mut item = item_buffer(alloc)?;
+    let mut sink = MemSink::new(alloc, 100_000, most, Vec::from_slice(alloc, fails)?)?;
     let directives = ttl.map(|ttl| Directives::new(&origin, ttl));
-    let mut items = read_zone(alloc, text, &origin).ok()?.into_items();
-    Some(write_items(alloc, &mut items, directives, &mut item, sink))
+    let mut items = read_zone(alloc, text, &origin)?.into_items();
+    let told = write_items(alloc, &mut items, directives, &mut item, &mut sink);
+    Ok((told, Vec::from_slice(alloc, sink.held().ok_or("no room")?)?))
 }
