@@ -79,9 +79,7 @@ fn close_both<R: Wait>(
 #[test]
 fn one_seat_takes_all(rt: HostRuntime) -> Result<(), Fail> {
     let (feed, mut seats) = Feed::of(&rt, rt.alloc(), 3, 1)?;
-    let Some(mut seat) = seats.pop() else {
-        return Err(Fail::from("no seat"));
-    };
+    let mut seat = seats.pop().ok_or("no seat")?;
     let taken = [
         seat.take(&rt, &feed),
         seat.take(&rt, &feed),
@@ -98,21 +96,13 @@ fn one_seat_takes_all(rt: HostRuntime) -> Result<(), Fail> {
 #[test]
 fn two_seats_take_each_number_once(rt: HostRuntime) -> Result<(), Fail> {
     let (feed, seats) = Feed::of(&rt, rt.alloc(), 1_000, 2)?;
-    let Some((first, second)) = pair(&feed, seats) else {
-        return Err(Fail::from("no seats"));
-    };
+    let (first, second) = pair(&feed, seats).ok_or("no seats")?;
     let (first, second) = take_beside(&rt, rt.alloc(), &feed, first, second);
     let (first, mut numbers) = first?;
     let (second, others) = second?;
     numbers.extend_from_slice(&others)?;
     numbers.sort_unstable();
-    assert_eq!(rt; numbers.len(), 1_000);
-    assert!(rt;
-        numbers
-            .iter()
-            .enumerate()
-            .all(|(i, number)| *number as usize == i + 1)
-    );
+    assert!(rt; numbers.iter().copied().eq(1..1_001));
     assert_eq!(rt; close_both(&rt, rt.alloc(), feed, first, second)?, 1_001);
     Ok(())
 }
@@ -120,9 +110,7 @@ fn two_seats_take_each_number_once(rt: HostRuntime) -> Result<(), Fail> {
 #[test]
 fn the_first_number_that_nobody_took(rt: HostRuntime) -> Result<(), Fail> {
     let (feed, seats) = Feed::of(&rt, rt.alloc(), 10_000, 2)?;
-    let Some((mut first, mut second)) = pair(&feed, seats) else {
-        return Err(Fail::from("no seats"));
-    };
+    let (mut first, mut second) = pair(&feed, seats).ok_or("no seats")?;
     assert_eq!(rt; first.take(&rt, &feed), Some(1));
     assert_eq!(rt; second.take(&rt, &feed), Some(2));
     assert_eq!(rt; first.take(&rt, &feed), Some(3));
