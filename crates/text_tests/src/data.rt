@@ -1,16 +1,14 @@
 //! Data of records, read and printed, and items.
-ghost use Rattle.std.specs.Prelude.{◌≡◌, ◌≤◌, false, IfOk, length};
-ghost use Rattle.std.specs.List.{All};
-ghost use Rattle.zone_text.specs.Tokens.{IsPlaced};
-
 use dns_name::Name;
 use rr_data::{Entry, Rdata, RdataRefusal, item_buffer, push_type, read_type};
 use std::alloc::{AllocError, Global};
-use zone_text::{Token, line_tokens};
+use std::process::Abort;
+use std::test::Fail;
+use zone_text::line_tokens;
 
-// The data of a type that the words of a short text are. Of no text, and of one that is no line, it says that memory is wanting.
+// The data of a type that the words of a text are. Of no text, and of one that is no line, it says that memory is wanting.
 fn read(alloc: Global, rtype: u16, text: &[u8], origin: &Name) -> Result<Rdata, RdataRefusal> {
-    if text.is_empty() || text.len() > 100 {
+    if text.is_empty() || text.len() > 100_000 {
         return Err(RdataRefusal::Memory);
     }
     match line_tokens(Vec::new(alloc), text, 0, 1) {
@@ -19,29 +17,15 @@ fn read(alloc: Global, rtype: u16, text: &[u8], origin: &Name) -> Result<Rdata, 
     }
 }
 
-// Whether a type's data is printed so.
-fn is_printed(alloc: Global, rtype: u16, rdata: &Rdata, want: &[u8]) -> bool {
-    let mut out = Vec::new(alloc);
-    rdata.push_text(rtype, &mut out).is_ok() && out.as_slice() == want
-}
-
-// Whether a text is data of a type, and printed so.
-fn prints(alloc: Global, rtype: u16, text: &[u8], origin: &Name, want: &[u8]) -> bool {
-    read(alloc, rtype, text, origin).is_ok_and(|rdata| is_printed(alloc, rtype, &rdata, want))
-}
-
-// Whether a text is refused as data of a type, at this token.
-fn is_refused(alloc: Global, rtype: u16, text: &[u8], origin: &Name, at: usize) -> bool {
-    match read(alloc, rtype, text, origin) {
-        Err(RdataRefusal::BadRdata { at: found }) => found == at,
-        _ => false,
-    }
+// How many octets it has, or why there is none.
+fn outcome(alloc: Global, rtype: u16, text: &[u8], origin: &Name) -> Result<String, AllocError> {
+    let octets = read(alloc, rtype, text, origin).map(|rdata| rdata.octets().len());
+    format!(in alloc; "{octets:?}")
 }
 
 // The name example.
-fn origin() -> Name {
-    let text: &[u8] = b"\x07example\0";
-    Name::from_wire(text).unwrap_or(Name::root())
+fn origin() -> Result<Name, Fail> {
+    Ok(Name::from_wire(b"\x07example\0").ok_or("no name")?)
 }
 
 // Types by their numbers, data, and how it is printed: both sides of each limit.
@@ -75,10 +59,13 @@ const PRINTED: &[(u16, &[u8], &[u8])] = &[
 ];
 
 #[test]
-fn data_is_read_and_printed(rt: HostRuntime) {
+fn data_is_read_and_printed(rt: HostRuntime) -> Result<(), Fail> {
     for (rtype, text, want) in PRINTED {
-        assert!(rt; prints(rt.alloc(), *rtype, text, &origin(), want));
+        let mut out = Vec::new(rt.alloc());
+        read(rt.alloc(), *rtype, text, &origin()?)?.push_text(*rtype, &mut out)?;
+        assert_eq!(rt; out.as_slice(), *want);
     }
+    Ok(())
 }
 
 // Types by their numbers, data, and the index of its first bad token.
@@ -102,78 +89,37 @@ const REFUSED: &[(u16, &[u8], usize)] = &[
 ];
 
 #[test]
-fn data_is_refused_at_its_first_bad_token(rt: HostRuntime) {
+fn data_is_refused_at_its_first_bad_token(rt: HostRuntime) -> Result<(), Fail> {
     for (rtype, text, at) in REFUSED {
-        assert!(rt; is_refused(rt.alloc(), *rtype, text, &origin(), *at));
+        let due = format!(in rt.alloc(); "Err(BadRdata {{ at: {at} }})")?;
+        assert_eq!(rt; outcome(rt.alloc(), *rtype, text, &origin()?)?, due);
     }
+    Ok(())
 }
 
-// As many strings of 255 octets, and one more: all from the front of one text.
-fn strings(alloc: Global, text: &[u8], full: u32, last: u32) -> Result<Vec<Token>, AllocError>
-    requires room { 255 ≤ length text.now }
-    requires last { last ≤ length text.now }
-    ensures { IfOk result (λ tokens. All (IsPlaced text.now) tokens.items) }
-{
-    let mut tokens = Vec::new(alloc);
-    for _ in 0..full {
-        tokens.push(string(255))?;
-    }
-    tokens.push(string(last))?;
-    Ok(tokens)
-}
-
-fn string(len: u32) -> Token
-    ensures { result ≡ record { from = 0; upto = len; quoted = false; line = 1 } }
-{
-    Token {
-        from: 0,
-        upto: len,
-        quoted: false,
-        line: 1,
-    }
-}
-
-/// What strings give.
-#[derive(Clone, Copy, PartialEq, Eq)]
-enum Given {
-    /// Data of so many octets.
-    Octets(usize),
-    /// A string that is too long, at an index.
-    LongString(usize),
-    /// Too many, the first of them at an index.
-    BadRdata(usize),
-    /// Memory is wanting.
-    Nothing,
-}
-
-// What as many strings of 255 octets and one more give.
-fn strings_give(alloc: Global, text: &[u8], full: u32, last: u32) -> Given {
-    if text.len() < 255 || last as usize > text.len() {
-        return Given::Nothing;
-    }
-    let Ok(tokens) = strings(alloc, text, full, last) else {
-        return Given::Nothing;
-    };
-    match Rdata::read(alloc, 16, text, &tokens, &Name::root()) {
-        Ok(rdata) => Given::Octets(rdata.octets().len()),
-        Err(RdataRefusal::LongString { at }) => Given::LongString(at),
-        Err(RdataRefusal::BadRdata { at }) => Given::BadRdata(at),
-        Err(RdataRefusal::Memory) => Given::Nothing,
-    }
+// As many strings of 255 octets, and one more.
+fn strings(alloc: Global, full: usize, last: usize) -> Result<String, AllocError> {
+    let mut string = "a".repeat(alloc, 255)?;
+    string.push(' ')?;
+    let mut text = string.repeat(alloc, full)?;
+    text.push_str("a".repeat(alloc, last)?.as_str())?;
+    Ok(text)
 }
 
 // A string has at most 255 octets, and all of them, each behind its length, at most 65,535.
 #[test]
-fn strings_at_their_limits(rt: HostRuntime) {
-    let text = [b'a'; 256];
-    for (full, last, want) in [
-        (0, 255, Given::Octets(256)),
-        (1, 256, Given::LongString(1)),
-        (255, 254, Given::Octets(65_535)),
-        (255, 255, Given::BadRdata(255)),
+fn strings_at_their_limits(rt: HostRuntime) -> Result<(), Fail> {
+    for (full, last, due) in [
+        (0, 255, "Ok(256)"),
+        (1, 256, "Err(LongString { at: 1 })"),
+        (255, 254, "Ok(65535)"),
+        (255, 255, "Err(BadRdata { at: 255 })"),
     ] {
-        assert!(rt; strings_give(rt.alloc(), &text, full, last) == want);
+        let text = strings(rt.alloc(), full, last)?;
+        let found = outcome(rt.alloc(), 16, text.as_bytes(), &Name::root())?;
+        assert_eq!(rt; found.as_str(), due);
     }
+    Ok(())
 }
 
 // Names of types, and their numbers; 0 where there is no such type.
@@ -189,66 +135,39 @@ const TYPES: &[(u16, &[u8])] = &[
     (0, b"HINFO"),
 ];
 
-// Whether two types are printed so.
-fn types_are_printed(alloc: Global, first: u16, second: u16, want: &[u8]) -> bool {
-    let mut out = Vec::new(alloc);
-    push_type(first, &mut out).is_ok()
-        && push_type(second, &mut out).is_ok()
-        && out.as_slice() == want
-}
-
 #[test]
-fn types_are_read_and_printed(rt: HostRuntime) {
+fn types_are_read_and_printed(rt: HostRuntime) -> Result<(), Fail> {
     for (want, text) in TYPES {
-        assert!(rt; read_type(text).unwrap_or(0) == *want);
+        assert_eq!(rt; read_type(text).unwrap_or(0), *want);
     }
-    assert!(rt; types_are_printed(rt.alloc(), 28, 256, b"AAAATYPE256"));
+    let mut out = Vec::new(rt.alloc());
+    push_type(28, &mut out)?;
+    push_type(256, &mut out)?;
+    assert_eq!(rt; out.as_slice(), b"AAAATYPE256".as_slice());
+    Ok(())
 }
 
-// Whether the entry is written as this item.
-fn is_written(alloc: Global, entry: &Entry, owner: &Name, item: &[u8]) -> bool {
-    let Ok(mut room) = item_buffer(alloc) else {
-        return false;
-    };
-    if entry.is_empty() {
-        return false;
-    }
-    match entry.encode(owner, &mut room) {
-        Some(len) => &room[..len] == item,
-        None => false,
-    }
-}
-
-// Whether the only set of an entry has this time to live. Adding one of its records with another one changes nothing.
-fn keeps(alloc: Global, entry: &mut Entry, rdata: Rdata) -> bool {
-    let kept = entry.find_set(1).is_some_and(|set| set.ttl() == 300);
-    kept && entry.add(alloc, 1, 60, rdata).is_ok_and(|changed| !changed)
-}
-
-// Whether an item with the one address 192.0.2.1 stays as it is when that is added.
-fn stays(alloc: Global, item: &[u8]) -> bool {
-    let Some(owner) = Name::from_wire(item) else {
-        return false;
-    };
-    let Ok(rdata) = read(alloc, 1, b"192.0.2.1", &owner) else {
-        return false;
-    };
-    match Entry::decode(alloc, item) {
-        Ok(entry) => {
-            let mut entry = entry;
-            keeps(alloc, &mut entry, rdata)
-                && is_written(alloc, &entry, &owner, item)
-                && entry.del_one(1, b"\xc0\0\x02\x01")
-                && !entry.del_set(1)
-        }
-        Err(_) => false,
-    }
+// An item whose only record is the address 192.0.2.1, with a time to live of 300, stays as it is when that is added with another.
+fn stays(rt: &impl Abort, alloc: Global, item: &[u8]) -> Result<(), Fail> {
+    let owner = Name::from_wire(item).ok_or("no owner")?;
+    let mut entry = Entry::decode(alloc, item)?;
+    let rdata = read(alloc, 1, b"192.0.2.1", &owner)?;
+    assert!(rt; !entry.add(alloc, 1, 60, rdata)?);
+    assert_eq!(rt; entry.find_set(1).map(|set| set.ttl()), Some(300));
+    assert!(rt; !entry.is_empty());
+    let mut room = item_buffer(alloc)?;
+    let len = entry.encode(&owner, &mut room).ok_or("a long item")?;
+    assert_eq!(rt; &room[..len], item);
+    assert!(rt; entry.del_one(1, b"\xc0\0\x02\x01"));
+    assert!(rt; !entry.del_set(1));
+    Ok(())
 }
 
 const ITEM: &[u8] = b"\x02ns\x07example\0\0\x01\0\x01\0\0\x01\x2c\0\x01\0\x04\xc0\0\x02\x01";
 
 #[test]
-fn an_item_is_written_and_read(rt: HostRuntime) {
-    assert!(rt; stays(rt.alloc(), ITEM));
+fn an_item_is_written_and_read(rt: HostRuntime) -> Result<(), Fail> {
+    stays(&rt, rt.alloc(), ITEM)?;
     assert!(rt; Entry::decode(rt.alloc(), &ITEM[..27]).is_err());
+    Ok(())
 }

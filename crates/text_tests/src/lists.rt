@@ -1,32 +1,31 @@
-//! Lists of zones that are read, and such as are refused. A proof computes with a text that it sees, so texts are passed to functions.
-use master_file::Zone;
-use std::alloc::{AllocError, Global};
+//! Lists of zones that are read, and such as are refused; more of these stand in `zones.cases` of `conformance`. A proof computes
+//! with a text that it sees, so texts are passed to functions.
+use std::alloc::Global;
+use std::test::Fail;
 use zone_list::ListKind::{Repeated, TooManyZones, Zone as OfZone};
 use zone_list::{ListKind, ListRefusal, read_zones};
-use zone_model::ZoneKind::{BadName, BadToken, OpenParen, OpenQuote, SoaRule, UnknownType};
+use zone_model::ZoneKind::{BadName, BadToken, SoaRule, UnknownType};
 
-// How many labels a zone's origin has, and how many names own records.
-type Size = (u8, usize);
-
-fn have_sizes(zones: &[Zone], sizes: &[Size]) -> bool {
-    zones.len() == sizes.len()
-        && zones.iter().zip(sizes).all(|(zone, size)| (zone.origin().labels(), zone.len()) == *size)
+// How many labels the origin of each zone of a text has, and how many names own records.
+fn sizes(alloc: Global, text: &[u8]) -> Result<Vec<(u8, usize)>, ListRefusal> {
+    if text.len() > 10_000 {
+        return Err(ListRefusal::Memory);
+    }
+    let zones = read_zones(alloc, text)?;
+    Ok(
+        zones
+            .iter()
+            .map(|zone| (zone.origin().labels(), zone.len()))
+            .collect(alloc)?,
+    )
 }
 
-// Whether a text says zones of these sizes.
-fn says(alloc: Global, text: &[u8], sizes: &[Size]) -> bool {
-    if text.len() > 10_000 {
-        return false;
+// Why it is refused, and at which line.
+fn refusal(alloc: Global, text: &[u8]) -> Option<(u64, ListKind)> {
+    match sizes(alloc, text) {
+        Err(ListRefusal::Refused { line, kind }) => Some((line, kind)),
+        _ => None,
     }
-    read_zones(alloc, text).is_ok_and(|zones| have_sizes(&zones, sizes))
-}
-
-// Whether a text is refused at a line, for a reason.
-fn is_refused(alloc: Global, text: &[u8], line: u64, kind: ListKind) -> bool {
-    if text.len() > 10_000 {
-        return false;
-    }
-    read_zones(alloc, text).is_err_and(|refusal| refusal == ListRefusal::Refused { line, kind })
 }
 
 const TWO: &[u8] =
@@ -39,78 +38,50 @@ const TWO_DRESSED: &[u8] =
     %zone sub.example ; \r\n$TTL 60\r\n@ SOA ns h 1 2 3 4 5\r\nwww A 192.0.2.8";
 
 #[test]
-fn zones_are_read_in_order(rt: HostRuntime) {
-    assert!(rt; says(rt.alloc(), TWO, &[(1, 2), (2, 2)]));
-    assert!(rt; says(rt.alloc(), TWO_DRESSED, &[(1, 2), (2, 2)]));
-}
-
-// A zone of the fewest lines, with an origin of one letter.
-fn push_zone(out: &mut Vec<u8>, letter: u8) -> Result<(), AllocError> {
-    out.extend_from_slice(b"%zone ")?;
-    out.extend_from_slice(&[letter])?;
-    out.extend_from_slice(b".\n@ 1 SOA . . 1 1 1 1 1\n")
-}
-
-// Zones from `a` on, and a line.
-fn many(alloc: Global, letters: &[u8], last: &[u8]) -> Result<Vec<u8>, AllocError> {
-    let mut out = Vec::new(alloc);
-    for letter in letters {
-        push_zone(&mut out, *letter)?;
+fn zones_are_read_in_order(rt: HostRuntime) -> Result<(), Fail> {
+    for text in [TWO, TWO_DRESSED] {
+        assert_eq!(rt;
+            sizes(rt.alloc(), text)?.as_slice(),
+            [(1, 2), (2, 2)].as_slice()
+        );
     }
-    out.extend_from_slice(last)?;
-    Ok(out)
-}
-
-const LETTERS: &[u8] = b"abcdefghijklmnop";
-
-// Whether sixteen zones and a line are refused at the line, for a reason.
-fn is_last_refused(alloc: Global, last: &[u8], kind: ListKind) -> bool {
-    many(alloc, LETTERS, last).is_ok_and(|text| is_refused(alloc, &text, 33, kind))
+    Ok(())
 }
 
 #[test]
-fn sixteen_zones_are_taken(rt: HostRuntime) {
-    let alloc = rt.alloc();
-    assert!(rt; is_last_refused(alloc, b"%zone q.\n", TooManyZones));
-    assert!(rt; is_last_refused(alloc, b"%zone a.\n", Repeated));
-    assert!(rt; is_last_refused(alloc, b"%zone a..\n", OfZone(BadName)));
-    assert!(rt; is_last_refused(alloc, b"x\n%zone a.\n", OfZone(UnknownType)));
+fn sixteen_zones_are_taken(rt: HostRuntime) -> Result<(), Fail> {
+    let mut zones = String::new(rt.alloc());
+    for letter in "abcdefghijklmnop".chars() {
+        write!(zones, "%zone {letter}.\n@ 1 SOA . . 1 1 1 1 1\n")?;
+    }
+    for (last, kind) in [
+        ("%zone q.\n", TooManyZones),
+        ("%zone a.\n", Repeated),
+        ("%zone a..\n", OfZone(BadName)),
+        ("x\n%zone a.\n", OfZone(UnknownType)),
+    ] {
+        let text = format!(in rt.alloc(); "{zones}{last}")?;
+        assert_eq!(rt; refusal(rt.alloc(), text.as_bytes()), Some((33, kind)));
+    }
+    Ok(())
 }
 
 // Texts with the line of what is refused, and why.
 const REFUSED: &[(&[u8], u64, ListKind)] = &[
-    (b"", 1, OfZone(BadToken)),
-    (
-        b"$TTL 300\n@ SOA ns hostmaster 1 3600 600 86400 60\n@ NS ns\nns A 192.0.2.1\n",
-        1,
-        OfZone(BadToken),
-    ),
     (b"; \n%zone a.\n", 1, OfZone(BadToken)),
-    (b"%zone\n", 1, OfZone(BadToken)),
     (b"%ZONE a.\n", 1, OfZone(BadToken)),
-    (b"%zone \n", 1, OfZone(BadToken)),
-    (b"%zone a. b.\n", 1, OfZone(BadToken)),
-    (b"%zone a..b.\n", 1, OfZone(BadName)),
     (b"%zone \"a.\"\n", 1, OfZone(BadName)),
-    (b"%zone \"a.\n", 1, OfZone(OpenQuote)),
-    (b"%zone (a.\n)\n", 1, OfZone(OpenParen)),
     (b"%zone a.", 2, OfZone(SoaRule)),
-    (b"%zone a.\n\n%zone b.\n", 3, OfZone(SoaRule)),
     (
         b"%zone a.\n@ 1 SOA . . 1 1 1 1 1\n%zone\n",
         3,
         OfZone(UnknownType),
-    ),
-    (
-        b"%zone example.\n$TTL 300\n@ SOA ns hostmaster 1 3600 600 86400 60\n@ NS ns\nns A 192.0.2.1\n%zone EXAMPLE.\n",
-        6,
-        Repeated,
     ),
 ];
 
 #[test]
 fn the_first_refusal_is_told(rt: HostRuntime) {
     for (text, line, kind) in REFUSED {
-        assert!(rt; is_refused(rt.alloc(), text, *line, *kind));
+        assert_eq!(rt; refusal(rt.alloc(), text), Some((*line, *kind)));
     }
 }

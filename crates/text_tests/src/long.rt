@@ -1,91 +1,55 @@
-//! Names with as many octets as there may be, and one more. A proof computes with a text that it sees, so texts are passed to
-//! functions.
+//! Names with as many octets as there may be, and one more.
 ghost use Rattle.std.specs.Prelude.{◌≤◌, length};
 ghost use Rattle.zone_model.specs.Records.{item_limit};
 
 use dns_name::Name;
 use master_file::{ZoneItems, read_zone};
 use rr_data::item_buffer;
-use std::alloc::{AllocError, Global};
+use std::alloc::Global;
+use std::test::Fail;
 use zone_model::ZoneKind;
 use zone_text::ZoneRefusal;
 
-/// What becomes of a text.
-#[derive(Clone, Copy, PartialEq)]
-enum Becomes {
-    /// A zone whose second item has so many octets.
-    Zone(usize),
-    /// Too many octets, told with this line.
-    Long(u32),
-}
-
-// The front of a zone, the octet 2a so many times in hexadecimal digits, and what comes behind.
-fn long_text(
-    alloc: Global,
-    front: &[u8],
-    octets: usize,
-    behind: &[u8],
-) -> Result<Vec<u8>, AllocError> {
-    let mut text = Vec::from_slice(alloc, front)?;
-    for _ in 0..octets {
-        text.extend_from_slice(b"2a")?;
-    }
-    text.extend_from_slice(behind)?;
-    Ok(text)
-}
-
-// How many octets the second item has.
+// How many octets the second item has, if it ends as the data does.
 fn second_len(items: &mut ZoneItems, octets: &mut [u8]) -> Option<usize>
     requires { item_limit ≤ length octets.old }
 {
     let _first = items.next(octets);
     let len = items.next(octets)?;
-    if octets[..len].ends_with(b"**") {
-        Some(len)
-    } else {
-        None
-    }
+    octets[..len].ends_with(b"**").then_some(len)
 }
 
-// What a text that is made of these becomes; None where that is something else.
-fn made_of(alloc: Global, front: &[u8], octets: usize, behind: &[u8]) -> Option<Becomes> {
-    let origin = Name::read(b"example.", &Name::root()).ok()?;
-    let mut item = item_buffer(alloc).ok()?;
-    let text = long_text(alloc, front, octets, behind).ok()?;
+// How many octets the second name of a zone has, or the line in which they are too many. Its data is the octet 2a so many times,
+// and other lines come behind.
+fn second_name(alloc: Global, octets: usize, behind: &str) -> Result<Result<usize, u32>, Fail> {
+    let digits = "2a".repeat(alloc, octets)?;
+    let front = "$TTL 60\n@ SOA ns hm 1 2 3 4 5\nt TYPE65280";
+    let text = format!(in alloc; "{front} \\# {octets} {digits}\n{behind}")?;
     if text.len() > 200_000 {
-        return None;
+        return Err(Fail::from("a long text"));
     }
-    match read_zone(alloc, &text, &origin) {
-        Ok(zone) => second_len(&mut zone.into_items(), &mut item).map(Becomes::Zone),
-        Err(ZoneRefusal::Refused { line, kind }) if kind == ZoneKind::LongEntry => Some(
-            Becomes::Long(line),
-        ),
-        Err(_) => None,
+    let origin = Name::read(b"example.", &Name::root())?;
+    let mut item = item_buffer(alloc)?;
+    match read_zone(alloc, text.as_bytes(), &origin) {
+        Ok(zone) => Ok(Ok(second_len(&mut zone.into_items(), &mut item).ok_or("no item")?)),
+        Err(
+            ZoneRefusal::Refused {
+                line,
+                kind: ZoneKind::LongEntry,
+            },
+        ) => Ok(Err(line)),
+        Err(refusal) => Err(Fail::from(refusal)),
     }
 }
 
 #[test]
-fn a_name_has_at_most_65_535_octets(rt: HostRuntime) {
-    for (front, octets, behind, want) in [
-        (
-            b"$TTL 60\n@ SOA ns hm 1 2 3 4 5\nt TYPE65280 \\# 65512 " as &[u8],
-            65_512,
-            b"\n" as &[u8],
-            Becomes::Zone(65_535),
-        ),
-        (
-            b"$TTL 60\n@ SOA ns hm 1 2 3 4 5\nt TYPE65280 \\# 65513 ",
-            65_513,
-            b"\n",
-            Becomes::Long(3),
-        ),
-        (
-            b"$TTL 60\n@ SOA ns hm 1 2 3 4 5\nt TYPE65280 \\# 65512 ",
-            65_512,
-            b"\n TYPE65280 (\n\\# 0 )\n",
-            Becomes::Long(5),
-        ),
+fn a_name_has_at_most_65_535_octets(rt: HostRuntime) -> Result<(), Fail> {
+    for (octets, behind, want) in [
+        (65_512, "", Ok(65_535)),
+        (65_513, "", Err(3)),
+        (65_512, " TYPE65280 (\n\\# 0 )\n", Err(5)),
     ] {
-        assert!(rt; made_of(rt.alloc(), front, octets, behind) == Some(want));
+        assert_eq!(rt; second_name(rt.alloc(), octets, behind)?, want);
     }
+    Ok(())
 }

@@ -1,17 +1,14 @@
 //! Names read, printed, ordered and taken apart.
 use dns_name::Name;
 use std::alloc::{AllocError, Global};
+use std::test::Fail;
 use zone_model::NameRefusal;
 
-// Whether a name is printed so.
-fn is_printed(alloc: Global, name: &Name, want: &[u8]) -> bool {
+// How a name is printed.
+fn printed(alloc: Global, name: &Name) -> Result<Vec<u8>, AllocError> {
     let mut text = Vec::new(alloc);
-    name.push_text(&mut text).is_ok() && text.as_slice() == want
-}
-
-// Whether a text is a name, and printed so.
-fn prints(alloc: Global, text: &[u8], origin: &Name, want: &[u8]) -> bool {
-    Name::read(text, origin).is_ok_and(|name| is_printed(alloc, &name, want))
+    name.push_text(&mut text)?;
+    Ok(text)
 }
 
 // Texts of names under example., and how the names are printed.
@@ -27,15 +24,18 @@ const PRINTED: &[(&[u8], &[u8])] = &[
 ];
 
 #[test]
-fn texts_are_read_and_printed(rt: HostRuntime) {
-    let origin = Name::read(b"Example.", &Name::root()).unwrap_or(Name::root());
+fn texts_are_read_and_printed(rt: HostRuntime) -> Result<(), Fail> {
+    let origin = Name::read(b"Example.", &Name::root())?;
     for (text, want) in PRINTED {
-        assert!(rt; prints(rt.alloc(), text, &origin, want));
+        let name = Name::read(text, &origin)?;
+        assert_eq!(rt; printed(rt.alloc(), &name)?.as_slice(), *want);
     }
+    Ok(())
 }
 
-fn is_refused(text: &[u8], refusal: NameRefusal) -> bool {
-    Name::read(text, &Name::root()).is_err_and(|found| found == refusal)
+// How many octets the wire form of a text's name has.
+fn wire_len(text: &[u8]) -> Result<usize, NameRefusal> {
+    Ok(Name::read(text, &Name::root())?.wire().len())
 }
 
 // Texts, and the first fault of each.
@@ -52,50 +52,19 @@ const REFUSED: &[(&[u8], NameRefusal)] = &[
     (b"", NameRefusal::EmptyLabel(0)),
 ];
 
-// Labels of so many octets FF, as text.
-fn labels_of_ff(alloc: Global, counts: &[u8]) -> Result<Vec<u8>, AllocError> {
-    let mut text = Vec::new(alloc);
-    for count in counts {
-        for _ in 0..*count {
-            text.extend_from_slice(b"\\255")?;
-        }
-        text.push(b'.')?;
-    }
-    Ok(text)
-}
-
-// How many octets the wire form of the name of such labels has, or why it is none.
-fn wire_len(alloc: Global, counts: &[u8]) -> Result<Result<usize, NameRefusal>, AllocError> {
-    let text = labels_of_ff(alloc, counts)?;
-    match Name::read(&text, &Name::root()) {
-        Ok(name) => Ok(Ok(name.wire().len())),
-        Err(refusal) => Ok(Err(refusal)),
-    }
-}
-
 #[test]
-fn the_first_fault_of_a_text_is_refused(rt: HostRuntime) {
+fn the_first_fault_of_a_text_is_refused(rt: HostRuntime) -> Result<(), Fail> {
     for (text, refusal) in REFUSED {
-        assert!(rt; is_refused(text, *refusal));
+        assert_eq!(rt; wire_len(text), Err(*refusal));
     }
-    assert!(rt; matches!(wire_len(rt.alloc(), &[63, 63, 63, 61]), Ok(Ok(255))));
-    let over = wire_len(rt.alloc(), &[63, 63, 63, 62]);
-    assert!(rt; matches!(over, Ok(Err(NameRefusal::LongName(256)))));
-}
-
-// Whether texts are names, each of which comes before the next.
-fn rise(texts: &[&[u8]]) -> bool {
-    let mut before = Name::root();
-    for text in texts {
-        let Ok(name) = Name::read(text, &Name::root()) else {
-            return false;
-        };
-        if !(before < name && name == name) {
-            return false;
-        }
-        before = name;
+    // Labels of the octets FF: three of 63, and one of so many.
+    let full = "\\255".repeat(rt.alloc(), 63)?;
+    for (last, want) in [(61, Ok(255)), (62, Err(NameRefusal::LongName(256)))] {
+        let last = "\\255".repeat(rt.alloc(), last)?;
+        let text = format!(in rt.alloc(); "{full}.{full}.{full}.{last}.")?;
+        assert_eq!(rt; wire_len(text.as_bytes()), want);
     }
-    true
+    Ok(())
 }
 
 // The example of RFC 4034, section 6.1.
@@ -112,45 +81,40 @@ const RISING: &[&[u8]] = &[
 ];
 
 #[test]
-fn names_stand_in_canonical_order(rt: HostRuntime) {
-    assert!(rt; rise(RISING));
+fn names_stand_in_canonical_order(rt: HostRuntime) -> Result<(), Fail> {
+    let mut before = Name::root();
+    for text in RISING {
+        let name = Name::read(text, &Name::root())?;
+        assert!(rt; before < name && name == name);
+        before = name;
+    }
+    Ok(())
 }
 
-// Whether a name of two labels is this, and the names above it are told.
-fn is_taken_apart(alloc: Global, name: &Name, up: &[u8], star: &[u8]) -> bool {
-    let Some(above) = name.parent() else {
-        return false;
-    };
-    let Some(wildcard) = above.star() else {
-        return false;
-    };
-    name.labels() == 2
-        && name.cut(name.labels()) == *name
-        && is_printed(alloc, &above, up)
-        && is_printed(alloc, &wildcard, star)
-        && name.is_under(&above)
-        && name.is_under(name)
-        && !above.is_under(name)
-}
-
-// Whether octets begin with the wire form of a name, which has so many of them, and are taken apart so.
-fn begins(alloc: Global, octets: &[u8], len: usize, up: &[u8], star: &[u8]) -> bool {
-    Name::from_wire(octets).is_some_and(|name| {
-        octets.starts_with(name.wire())
-            && name.wire().len() == len
-            && is_taken_apart(alloc, &name, up, star)
-    })
-}
-
-fn is_no_name(octets: &[u8]) -> bool {
-    Name::from_wire(octets).is_none()
+// The name whose wire form octets begin with.
+fn wired(octets: &[u8]) -> Option<Name> {
+    Name::from_wire(octets)
 }
 
 #[test]
-fn names_are_taken_apart(rt: HostRuntime) {
+fn names_are_taken_apart(rt: HostRuntime) -> Result<(), Fail> {
     let octets = b"\x03www\x07example\0behind";
-    assert!(rt; begins(rt.alloc(), octets, 13, b"example.", b"*.example."));
+    let name = wired(octets).ok_or("no name")?;
+    assert_eq!(rt; name.wire(), &octets[..13]);
+    assert_eq!(rt; name.labels(), 2);
+    assert!(rt; name.cut(name.labels()) == name);
+    let above = name.parent().ok_or("no parent")?;
+    assert_eq!(rt;
+        printed(rt.alloc(), &above)?.as_slice(),
+        b"example.".as_slice()
+    );
+    let wildcard = above.star().ok_or("no wildcard")?;
+    assert_eq!(rt;
+        printed(rt.alloc(), &wildcard)?.as_slice(),
+        b"*.example.".as_slice()
+    );
+    assert!(rt; name.is_under(&above) && name.is_under(&name) && !above.is_under(&name));
     assert!(rt; Name::root().parent().is_none());
-    assert!(rt; is_no_name(b"\x03www"));
-    assert!(rt; is_no_name(b"\x01A\0"));
+    assert!(rt; wired(b"\x03www").is_none() && wired(b"\x01A\0").is_none());
+    Ok(())
 }
