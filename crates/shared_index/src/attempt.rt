@@ -11,10 +11,9 @@ use crate::meaning::{Law, Meaning, Operations, Version};
 use chunk_usage::Usage;
 use packed_node::Ref;
 use shared_cells::{JoinedSeat, Lent, Shared};
-use std::marker::Brand;
 
-/// The same, of cells whose seat is named.
-fn attempt_lent<L: Law, B: Lent<Version, Operations>>(
+/// Tries an operation on the trie of a root, in cells whose seat is named.
+pub(crate) fn attempt<L: Law, B: Lent<Version, Operations>>(
     shared: &Shared<Version, Operations, Meaning<L>>,
     seat: JoinedSeat<Version, Operations>,
     usage: &mut Usage,
@@ -38,28 +37,4 @@ fn attempt_lent<L: Law, B: Lent<Version, Operations>>(
     let mut cells = seat.lend::<Meaning<L>, B>(shared);
     let outcome = change_trie(&mut cells, usage, root, change);
     (cells.into_joined(), outcome)
-}
-
-/// Tries an operation on the trie of a root.
-pub(crate) fn attempt<L: Law>(
-    shared: &Shared<Version, Operations, Meaning<L>>,
-    seat: JoinedSeat<Version, Operations>,
-    usage: &mut Usage,
-    root: Option<Ref>,
-    change: &Change<'_>,
-) -> (
-    JoinedSeat<Version, Operations>,
-    Result<Option<Ref>, Unchanged>,
-)
-    requires table { seat.place.table_id ≡ shared.now.table.shared.table_id }
-    requires wide { 4161 + 2048 * length usage.old.given ≡ seat.place.table_id.words }
-    requires agrees { Agrees (cells_with usage.old seat.place.me.0.turn) usage.old seat.passes }
-    requires stands { (es : List Entry) × StandsFor seat.place.me.0 usage.old root es }
-    requires leads { LeadsItem change.now }
-    ensures table { result.0.place.table_id ≡ seat.place.table_id }
-    ensures passes { result.0.passes ≡ seat.passes }
-    ensures agrees { Agrees (cells_with usage.new result.0.place.me.0.turn) usage.new seat.passes }
-    ensures tried { Tried change.now root seat.place.me.0 usage.old result.0.place.me.0 usage.new result.1 }
-{
-    attempt_lent::<L, Brand>(shared, seat, usage, root, change)
 }

@@ -14,8 +14,8 @@ use crate::pass::Pass;
 use shared_cells::{Counted, PassSeat, Shared};
 use std::marker::Brand;
 
-/// A seat looks, of an index whose number of passes is named.
-fn look_counted<L: Law, M: Counted>(
+/// A seat looks, which tells what is known of its pass. The number of the index's passes is named.
+fn look<L: Law, M: Counted>(
     shared: &Shared<Version, Operations, Meaning<L>>,
     seat: &mut PassSeat<Version, Operations>,
 )
@@ -26,19 +26,6 @@ fn look_counted<L: Law, M: Counted>(
     ensures accounted { (all : AllSeen) × Accounts M.passes seat.old.place.me.0 all }
 {
     seat.look::<Meaning<L>, M>(shared);
-}
-
-/// A seat looks, which tells what is known of its pass.
-fn look<L: Law>(
-    shared: &Shared<Version, Operations, Meaning<L>>,
-    seat: &mut PassSeat<Version, Operations>,
-)
-    requires table { seat.old.place.table_id ≡ shared.now.table.shared.table_id }
-    ensures table { seat.new.place.table_id ≡ seat.old.place.table_id }
-    ensures same { seat.new.place.me.0 ≡ seat.old.place.me.0 }
-    ensures accounted { (all : AllSeen) × Accounts shared.now.table.shared.key.passes seat.old.place.me.0 all }
-{
-    look_counted::<L, Brand>(shared, seat);
 }
 
 impl<N: Named> Pass<N> {
@@ -55,7 +42,7 @@ impl<N: Named> Pass<N> {
             // No query and no transaction of this pass has its seat.
             unreachable!()
         };
-        look(&index.shared, &mut seat);
+        look::<L, Brand>(&index.shared, &mut seat);
         self.seat = Some(seat);
     }
 }

@@ -1,12 +1,11 @@
 //! Commits: the working set becomes the next version.
-ghost use Rattle.std.specs.Prelude.{◌≡◌, ◌↔◌, ◌+◌, ◌^◌, ◌<◌, ◌≤◌, true, false, All, Some, IfOk, IfErr, IsErr, length};
+ghost use Rattle.std.specs.Prelude.{◌≡◌, ◌↔◌, ◌+◌, ◌^◌, ◌<◌, ◌≤◌, true, false, All, IfOk, IfErr, IsErr, length};
 ghost use Rattle.chunk_usage.specs.Ledger.{free_count};
-ghost use Rattle.shared_cells.specs.Views.{kept_in, pass_of, words_of};
+ghost use Rattle.shared_cells.specs.Views.{kept_in, pass_of};
 ghost use Rattle.shared_cells.specs.Steps.{CanPublish, Published};
 ghost use Rattle.shared_index.specs.Operations.{applied, AreWithin};
 ghost use Rattle.shared_index.specs.Meanings.{IsVersion};
 ghost use Rattle.shared_index.specs.Passes.{first_version};
-ghost use Rattle.shared_index.specs.Images.{image_at};
 
 use crate::desk::{Desk, Draft};
 use crate::log::Log;
@@ -47,8 +46,8 @@ impl Receipt {
     }
 }
 
-/// Publishes the trie of a root, as what is named.
-fn publish_named<L: Law, M: Payload<Operations>>(
+/// Publishes the trie of a root. What that makes of the current version, and its cells, are named.
+fn publish<L: Law, M: Payload<Operations>>(
     shared: &Shared<Version, Operations, Meaning<L>>,
     seat: &mut JoinedSeat<Version, Operations>,
     root: Option<Ref>,
@@ -62,24 +61,6 @@ fn publish_named<L: Law, M: Payload<Operations>>(
     ensures published { Published seat.old.place.me.0 M.change root M.image seat.new.place.me.0 }
 {
     seat.publish::<Meaning<L>, M>(shared, root)
-}
-
-/// Publishes the trie of a root, whose cells are in the words, as what the logged operations make of the current version.
-fn publish<L: Law>(
-    shared: &Shared<Version, Operations, Meaning<L>>,
-    seat: &mut JoinedSeat<Version, Operations>,
-    root: Option<Ref>,
-    log: &Log,
-) -> u64
-    requires table { seat.old.place.table_id ≡ shared.now.table.shared.table_id }
-    requires can { CanPublish applied L.lawful (AreWithin L.most_operations) IsVersion shared.now.table.shared.key seat.old.place.me.0 (Some log.now.operations) root
-        (image_at (words_of seat.old.place.me.0.turn) root) }
-    ensures table { seat.new.place.table_id ≡ seat.old.place.table_id }
-    ensures numbers { (seat.new.number ≡ seat.old.number) × (seat.new.passes ≡ seat.old.passes) }
-    ensures version { result ≡ seat.old.version + 1 }
-    ensures published { Published seat.old.place.me.0 (Some log.now.operations) root (image_at (words_of seat.old.place.me.0.turn) root) seat.new.place.me.0 }
-{
-    publish_named::<L, Brand>(shared, seat, root, log)
 }
 
 impl Draft {
@@ -163,10 +144,10 @@ impl Draft {
             log,
         } = self;
         usage.known(); // for the proof
-        let version = publish(shared, &mut seat, root, &log);
+        let version = publish::<L, Brand>(shared, &mut seat, root, &log);
         usage.freeze(version);
         make_round(shared, &mut seat, &mut usage);
-        let (seat, freed) = free_unreached(shared, seat, &mut usage);
+        let (seat, freed) = free_unreached::<L, Brand>(shared, seat, &mut usage);
         let (seat, pass) = seat.split(shared);
         let receipt = Receipt::of(version, freed, &usage, whole);
         let desk = Desk { seat, usage, root };

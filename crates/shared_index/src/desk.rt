@@ -15,6 +15,7 @@ use crate::recycling::free_unreached;
 use chunk_usage::Usage;
 use packed_node::Ref;
 use shared_cells::{JoinedSeat, PassSeat, Shared, TurnSeat};
+use std::marker::Brand;
 
 /// The turn between two transactions.
 #[derive(Drop)]
@@ -111,7 +112,7 @@ impl Draft {
             log: _,
         } = self;
         usage.restore();
-        let (seat, _) = free_unreached(shared, seat, &mut usage);
+        let (seat, _) = free_unreached::<L, Brand>(shared, seat, &mut usage);
         let (seat, pass) = seat.split(shared);
         let desk = Desk {
             seat,

@@ -14,8 +14,8 @@ use packed_node::Ref;
 use shared_cells::{JoinedSeat, Lent, Shared};
 use std::marker::Brand;
 
-/// The same, of cells whose seat is named.
-fn evacuate_lent<L: Law, B: Lent<Version, Operations>>(
+/// Moves what the trie of a root has in sparse chunks, in cells whose seat is named.
+fn evacuate<L: Law, B: Lent<Version, Operations>>(
     shared: &Shared<Version, Operations, Meaning<L>>,
     seat: JoinedSeat<Version, Operations>,
     usage: &mut Usage,
@@ -35,25 +35,6 @@ fn evacuate_lent<L: Law, B: Lent<Version, Operations>>(
     let (root, done) = evacuate::evacuate(&mut cells, usage, root);
     usage.known(); // for the proof
     (cells.into_joined(), root, done)
-}
-
-/// Moves what the trie of a root has in sparse chunks.
-fn evacuate<L: Law>(
-    shared: &Shared<Version, Operations, Meaning<L>>,
-    seat: JoinedSeat<Version, Operations>,
-    usage: &mut Usage,
-    root: Option<Ref>,
-) -> (JoinedSeat<Version, Operations>, Option<Ref>, Done)
-    requires table { seat.place.table_id ≡ shared.now.table.shared.table_id }
-    requires wide { 4161 + 2048 * length usage.old.given ≡ seat.place.table_id.words }
-    requires agrees { Agrees (cells_with usage.old seat.place.me.0.turn) usage.old seat.passes }
-    requires stands { (es : List Entry) × StandsFor seat.place.me.0 usage.old root es }
-    ensures table { result.0.place.table_id ≡ seat.place.table_id }
-    ensures passes { result.0.passes ≡ seat.passes }
-    ensures agrees { Agrees (cells_with usage.new result.0.place.me.0.turn) usage.new seat.passes }
-    ensures moved { Moved root seat.place.me.0 usage.old result.0.place.me.0 usage.new result.1 result.2 }
-{
-    evacuate_lent::<L, Brand>(shared, seat, usage, root)
 }
 
 impl Draft {
@@ -87,7 +68,7 @@ impl Draft {
             root,
             log,
         } = self;
-        let (seat, root, done) = evacuate(shared, seat, &mut usage, root);
+        let (seat, root, done) = evacuate::<L, Brand>(shared, seat, &mut usage, root);
         let draft = Draft {
             seat,
             usage,

@@ -14,8 +14,8 @@ use shift_key::Key;
 use std::marker::Brand;
 use trie_read::{CellReading, Reading};
 
-/// Reads an item in cells whose seat is named.
-fn fetch_lent<L: Law, B: Lent<Version, Operations>>(
+/// Reads the item of a key, in the trie of a root, into the beginning of `out`, and gives its length. The cells' seat is named.
+fn fetch_item<L: Law, B: Lent<Version, Operations>>(
     shared: &Shared<Version, Operations, Meaning<L>>,
     seat: JoinedSeat<Version, Operations>,
     _usage: &Usage,
@@ -45,27 +45,6 @@ fn fetch_lent<L: Law, B: Lent<Version, Operations>>(
     (cells.into_joined(), found)
 }
 
-/// Reads the item of a key, in the trie of a root, into the beginning of `out`, and gives its length.
-fn fetch_item<L: Law>(
-    shared: &Shared<Version, Operations, Meaning<L>>,
-    seat: JoinedSeat<Version, Operations>,
-    usage: &Usage,
-    root: Option<Ref>,
-    key: &Key,
-    out: &mut [u8],
-) -> (JoinedSeat<Version, Operations>, Option<usize>)
-    requires table { seat.place.table_id ≡ shared.now.table.shared.table_id }
-    requires wide { 4161 + 2048 * length usage.now.given ≡ seat.place.table_id.words }
-    requires stands { (es : List Entry) × StandsFor seat.place.me.0 usage.now root es }
-    requires room { most_item_octets ≤ length out.old }
-    ensures table { result.0.place.table_id ≡ seat.place.table_id }
-    ensures same { result.0.place.me.0 ≡ seat.place.me.0 }
-    ensures passes { result.0.passes ≡ seat.passes }
-    ensures item { (es : List Entry) → StandsFor seat.place.me.0 usage.now root es → Fetched key.now es out.old out.new result.1 }
-{
-    fetch_lent::<L, Brand>(shared, seat, usage, root, key, out)
-}
-
 impl Draft {
     ghost use Rattle.shared_index.specs.Drafts.{Works, IsSame, working_set};
 
@@ -91,7 +70,7 @@ impl Draft {
             root,
             log,
         } = self;
-        let (seat, found) = fetch_item(shared, seat, &usage, root, key, out);
+        let (seat, found) = fetch_item::<L, Brand>(shared, seat, &usage, root, key, out);
         let draft = Draft {
             seat,
             usage,

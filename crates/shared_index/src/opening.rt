@@ -15,7 +15,6 @@ ghost use Rattle.shared_index.specs.Meanings.{IsVersion};
 ghost use Rattle.shared_index.specs.Passes.{commits_in, first_version, known_at, pinned_in};
 ghost use Rattle.shared_index.specs.Turns.{cells_with};
 ghost use Rattle.shared_index.specs.Bases.{StandsFor};
-ghost use Rattle.shared_index.specs.Images.{image_at};
 ghost use Rattle.shared_index.specs.Closings.{AreAll};
 ghost use Rattle.shared_index.specs.Openings.{IsUnused, SeesFirst, Refuses, room_in};
 
@@ -93,7 +92,7 @@ fn room_in(chunks: u32) -> u64
 }
 
 /// Writes a trie of the items into cells whose seat is named.
-fn fill_lent<L: Law, B: Lent<Version, Operations>>(
+fn fill<L: Law, B: Lent<Version, Operations>>(
     shared: &Shared<Version, Operations, Meaning<L>>,
     turn: NewTurnSeat<Version, Operations>,
     usage: &mut Usage,
@@ -122,34 +121,8 @@ fn fill_lent<L: Law, B: Lent<Version, Operations>>(
     (cells.into_new(), built)
 }
 
-/// Writes a trie of the items.
-fn fill<L: Law>(
-    shared: &Shared<Version, Operations, Meaning<L>>,
-    turn: NewTurnSeat<Version, Operations>,
-    usage: &mut Usage,
-    items: &[Item],
-) -> (
-    NewTurnSeat<Version, Operations>,
-    Result<Option<Ref>, chunk_usage::Full>,
-)
-    requires table { turn.place.table_id ≡ shared.now.table.shared.table_id }
-    requires size { shared.now.table.shared.key.chunks ≡ length usage.old.given }
-    requires unused { IsUnused turn.place.me.0.turn usage.old turn.passes }
-    requires rising { Rises (entries_of_items items.now) }
-    ensures table { result.0.place.table_id ≡ turn.place.table_id }
-    ensures same { result.0.place.me.0 ≡ with_words turn.place.me.0 (words_of result.0.place.me.0.turn) }
-    ensures size { length usage.new.given ≡ length usage.old.given }
-    ensures frozen { frozen_part usage.new ≡ frozen_part usage.old }
-    ensures given { given_chunks (cells_with usage.new result.0.place.me.0.turn) ≡ usage.new.given }
-    ensures stands { IfOk result.1 (λ root. StandsFor result.0.place.me.0 usage.new root (entries_of_items items.now)) }
-    ensures spends { spent usage.new ≤ cells_in_trie (entries_of_items items.now) }
-    ensures full { IfErr result.1 (λ f. Lacks usage.new f) }
-{
-    fill_lent::<L, Brand>(shared, turn, usage, items)
-}
-
-/// Opens the index with the trie of a root as what is named.
-fn open_named<L: Law, M: Opening<Version>>(
+/// Opens the index with the trie of a root, as version 0. What that is, and its cells, are named.
+fn open_turn<L: Law, M: Opening<Version>>(
     shared: &Shared<Version, Operations, Meaning<L>>,
     turn: NewTurnSeat<Version, Operations>,
     root: Option<Ref>,
@@ -162,23 +135,6 @@ fn open_named<L: Law, M: Opening<Version>>(
     ensures passes { result.passes ≡ turn.passes }
 {
     turn.open::<Meaning<L>, M>(shared, root)
-}
-
-/// Opens the index with the trie of a root, whose cells are in the words, as version 0.
-fn open_turn<L: Law>(
-    shared: &Shared<Version, Operations, Meaning<L>>,
-    turn: NewTurnSeat<Version, Operations>,
-    root: Option<Ref>,
-    items: &[Item],
-) -> TurnSeat<Version, Operations>
-    requires table { turn.place.table_id ≡ shared.now.table.shared.table_id }
-    requires can { CanOpen applied L.lawful (AreWithin L.most_operations) IsVersion shared.now.table.shared.key turn.place.me.0 (Some (entries_of_items items.now)) root
-        (image_at (words_of turn.place.me.0.turn) root) }
-    ensures table { result.place.table_id ≡ turn.place.table_id }
-    ensures opened { Opened turn.place.me.0 (Some (entries_of_items items.now)) root (image_at (words_of turn.place.me.0.turn) root) result.place.me.0 }
-    ensures passes { result.passes ≡ turn.passes }
-{
-    open_named::<L, Brand>(shared, turn, root, items)
 }
 
 /// Tells each pass of the opening. The passes stand in the reverse order of their seats.
@@ -236,13 +192,13 @@ impl<L: Law, N: Named> Index<L, N> {
         ensures sees { SeesFirst (entries_of_items items.now) result.seat.place.me.0 }
     {
         let mut usage = usage;
-        let (turn, built) = fill(shared, turn, &mut usage, items);
+        let (turn, built) = fill::<L, Brand>(shared, turn, &mut usage, items);
         usage.known(); // for the proof
         let Ok(root) = built else {
             // There was room: each chunk that was left for another has at most 255 cells left.
             unreachable!();
         };
-        let seat = open_turn(shared, turn, root, items);
+        let seat = open_turn::<L, Brand>(shared, turn, root, items);
         usage.freeze(0);
         Desk { seat, usage, root }
     }
@@ -259,7 +215,8 @@ impl<L: Law, N: Named> Index<L, N> {
         requires lawful { L.lawful (entries_of_items items.now) (entries_of_items items.now) }
         requires room { cells_in_trie (entries_of_items items.now) ≤ room_in blank.shared.table.shared.key.chunks }
         ensures place { IfOk result (λ made. made.0.place ≡ place) }
-        ensures passes { IfOk result (λ made. All (λ p. (IsSome p.seat) × (p.place ≡ place) × (SeesFirst (entries_of_items items.now) (known_at p.seat))) made.1.items) }
+        ensures passes { IfOk result (λ made. All (λ p. (IsSome p.seat) × (p.place ≡ place)
+            × (SeesFirst (entries_of_items items.now) (known_at p.seat))) made.1.items) }
         // No pass has committed or asked.
         ensures unused { IfOk result (λ made. All (λ p. (commits_in (known_at p.seat).pass ≡ []) × (pinned_in (known_at p.seat).pass ≡ [])) made.1.items) }
         ensures size { IfOk result (λ made. made.0.shared.table.shared.key ≡ blank.shared.table.shared.key) }
@@ -300,7 +257,8 @@ impl<L: Law, N: Named> Index<L, N> {
         requires rising { Rises (entries_of_items items.now) }
         requires lawful { L.lawful (entries_of_items items.now) (entries_of_items items.now) }
         ensures place { IfOk result (λ made. made.0.place ≡ place) }
-        ensures passes { IfOk result (λ made. All (λ p. (IsSome p.seat) × (p.place ≡ place) × (SeesFirst (entries_of_items items.now) (known_at p.seat))) made.1.items) }
+        ensures passes { IfOk result (λ made. All (λ p. (IsSome p.seat) × (p.place ≡ place)
+            × (SeesFirst (entries_of_items items.now) (known_at p.seat))) made.1.items) }
         // No pass has committed or asked.
         ensures unused { IfOk result (λ made. All (λ p. (commits_in (known_at p.seat).pass ≡ []) × (pinned_in (known_at p.seat).pass ≡ [])) made.1.items) }
         ensures size { IfOk result (λ made. made.0.shared.table.shared.key ≡ blank.shared.table.shared.key) }

@@ -11,10 +11,10 @@ ghost use Rattle.shared_index.specs.Bases.{StandsFor};
 use crate::meaning::{Law, Meaning, Operations, Version};
 use chunk_usage::Usage;
 use shared_cells::{JoinedSeat, Lent, Shared};
-use std::marker::Brand;
 
-/// The same, of cells whose seat is named.
-fn free_lent<L: Law, B: Lent<Version, Operations>>(
+/// Frees each chunk that no kept version has a cell in, and neither the working set nor a bump chunk needs, in cells whose seat is
+/// named. Tells how many.
+pub(crate) fn free_unreached<L: Law, B: Lent<Version, Operations>>(
     shared: &Shared<Version, Operations, Meaning<L>>,
     seat: JoinedSeat<Version, Operations>,
     usage: &mut Usage,
@@ -36,25 +36,4 @@ fn free_lent<L: Law, B: Lent<Version, Operations>>(
     let mut cells = seat.lend::<Meaning<L>, B>(shared);
     let count = usage.free_unreached(&mut cells);
     (cells.into_joined(), count)
-}
-
-/// Frees each chunk that no kept version has a cell in, and neither the working set nor a bump chunk needs. Tells how many.
-pub(crate) fn free_unreached<L: Law>(
-    shared: &Shared<Version, Operations, Meaning<L>>,
-    seat: JoinedSeat<Version, Operations>,
-    usage: &mut Usage,
-) -> (JoinedSeat<Version, Operations>, u32)
-    requires table { seat.place.table_id ≡ shared.now.table.shared.table_id }
-    requires wide { 4161 + 2048 * length usage.old.given ≡ seat.place.table_id.words }
-    requires agrees { Agrees (cells_with usage.old seat.place.me.0.turn) usage.old seat.passes }
-    ensures table { result.0.place.table_id ≡ seat.place.table_id }
-    ensures same { result.0.place.me.0 ≡ with_words seat.place.me.0 (words_of result.0.place.me.0.turn) }
-    ensures passes { result.0.passes ≡ seat.passes }
-    ensures after { usage.new ≡ freed usage.old }
-    ensures count { free_count usage.new ≡ free_count usage.old + result.1 }
-    ensures agrees { Agrees (cells_with usage.new result.0.place.me.0.turn) usage.new seat.passes }
-    ensures stands { (root : Option ℕ) (es : List Entry) → StandsFor seat.place.me.0 usage.old root es
-        → StandsFor result.0.place.me.0 usage.new root es }
-{
-    free_lent::<L, Brand>(shared, seat, usage)
 }

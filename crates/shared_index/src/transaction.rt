@@ -88,16 +88,12 @@ pub type Update<'t, 'i, L, N> = Transaction<'t, 'i, L, N, Heavy>;
 impl<'i, L: Law, N: Named> Locked<'i, L, N> {
     ghost use Rattle.shared_index.specs.Changes.{operation_of, key_of, written_by, asked_by, LeadsItem, IsRefused};
     ghost use Rattle.trie_read.specs.Readings.{Fetched};
-    ghost use Rattle.shared_index.specs.Drafts.{Works, Operates, IsFull, IsSame, Between, Commits, working_set};
+    ghost use Rattle.shared_index.specs.Drafts.{Works, Operates, IsFull, IsSame, Between, working_set};
     ghost use Rattle.shared_index.specs.Fulls.{CausedFrom, full_with};
     ghost use Rattle.shared_index.specs.Rooms.{SparesReserve};
     ghost use Rattle.shared_index.specs.Keepings.{versions_in};
     ghost use Rattle.shared_index.specs.declared.kept.Versions.{Versions as Kept};
     ghost use Rattle.chunk_usage.specs.Keeping.{kept_versions};
-    ghost use Rattle.shared_index.specs.Receipts.{Recycles};
-    ghost use Rattle.shared_index.specs.Operations.{AreWithin};
-    ghost use Rattle.shared_index.specs.Passes.{first_version};
-    ghost use Rattle.shared_cells.specs.Views.{pass_of};
 
     /// For transactions of an index, none of which has the lock by it yet.
     pub fn of(index: &'i Index<L, N>) -> Self
@@ -158,9 +154,11 @@ impl<'i, L: Law, N: Named> Locked<'i, L, N> {
         ensures operates { Between (λ d e. Operates (operation_of change.now) (IsRefused change.now) d e (IsOk result) (result ≡ Err Unchanged.Refused))
             self.old.draft self.new.draft }
         ensures spares { Between SparesReserve self.old.draft self.new.draft }
-        ensures full { (f : _) (kept : Kept) → result ≡ Err (Unchanged.Full f) → IfSome self.new.draft (λ d. versions_in kept ≡ kept_versions d.usage) → IsSomeAnd self.new.draft (λ d. IsFull d (full_with f kept)) }
+        ensures full { (f : _) (kept : Kept) → result ≡ Err (Unchanged.Full f) → IfSome self.new.draft (λ d. versions_in kept ≡ kept_versions d.usage)
+            → IsSomeAnd self.new.draft (λ d. IsFull d (full_with f kept)) }
         ensures cause { (f : _) (kept : Kept) → result ≡ Err (Unchanged.Full f) → IfSome self.new.draft (λ d. versions_in kept ≡ kept_versions d.usage)
-            → Between (λ d e. CausedFrom d e (key_of change.now) (written_by change.now) (asked_by change.now) (full_with f kept)) self.old.draft self.new.draft }
+            → Between (λ d e. CausedFrom d e (key_of change.now) (written_by change.now) (asked_by change.now) (full_with f kept))
+            self.old.draft self.new.draft }
         ensures cramped { (f : _) → result ≡ Err (Unchanged.Full f) → IsSomeAnd self.old.draft IsCramped }
     {
         let Some(draft) = self.draft.take() else {
@@ -207,30 +205,6 @@ impl<'i, L: Law, N: Named> Locked<'i, L, N> {
         let (draft, found) = draft.fetch(self.shared, key, out);
         self.draft = Some(draft);
         found
-    }
-
-    // Makes the working set the next version, and gives the turn back. The pass has seen what was published.
-    fn commit(&mut self, most: u32) -> (Pass<N>, Result<Receipt, Spent>)
-        requires works { IsSomeAnd self.old.draft Works }
-        requires few { most ≤ 8 }
-        requires lawful { IsSomeAnd self.old.draft (λ d. L.lawful (first_version d.seat.place.me.0.seen) (working_set d)) }
-        requires few_operations { ForSome self.old.draft (λ d. AreWithin L.most_operations d.log.operations) }
-        ensures here { IsSome result.0.seat }
-        ensures place { result.0.place ≡ self.old.place }
-        ensures commits { IfOk result.1 (λ _. IfSome self.old.draft (λ d. Commits d.seat.place.me.0 d.log.operations (known_at result.0.seat))) }
-        ensures version { IfOk result.1 (λ r. IfSome self.old.draft (λ d. r.version ≡ d.seat.version + 1)) }
-        ensures back { IfErr result.1 (λ _. IfSome self.old.draft (λ d. known_at result.0.seat ≡ pass_of d.seat.place.me.0)) }
-        ensures spent { IfSome self.old.draft (λ d. IsErr result.1 ↔ (d.seat.version ≡ LAST_VERSION)) }
-        ensures last { IfErr result.1 (λ s. IfSome self.old.draft (λ d. s.version ≡ d.seat.version)) }
-        ensures receipt { IfOk result.1 (λ r. IfSome self.old.draft (λ d. Recycles most d (known_at result.0.seat) r)) }
-    {
-        let Some(draft) = self.draft.take() else {
-            // A transaction's draft is there between two calls.
-            unreachable!()
-        };
-        let (desk, seat, outcome) = draft.commit(self.shared, most);
-        self.leave(desk);
-        (self.pass_of(seat), outcome)
     }
 }
 
@@ -453,8 +427,9 @@ impl<L: Law, N: Named, K> Transaction<'_, '_, L, N, K> {
         requires leads { Leads key.now item.now }
         ensures same_reference { (self.new.home.ghost_name ≡ self.old.home.ghost_name) × (self.new.locked.ghost_name ≡ self.old.locked.ghost_name) }
         ensures place { self.new.locked.now.place ≡ self.old.locked.now.place }
-        ensures inserts { Between (λ d e. Operates (operation.Insert (record { key = key.now; item = item.now })) (λ es. (x : Entry) × InList x es × (x.key ≡ key.now))
-            d e (IsOk result) (result ≡ Err InsertRefusal.Exists)) self.old.locked.now.draft self.new.locked.now.draft }
+        ensures inserts { Between (λ d e. Operates (operation.Insert (record { key = key.now; item = item.now }))
+            (λ es. (x : Entry) × InList x es × (x.key ≡ key.now)) d e (IsOk result) (result ≡ Err InsertRefusal.Exists))
+            self.old.locked.now.draft self.new.locked.now.draft }
         ensures spares { Between SparesReserve self.old.locked.now.draft self.new.locked.now.draft }
         ensures full { (f : _) → result ≡ Err (InsertRefusal.Full f) → IsSomeAnd self.new.locked.now.draft (λ d. IsFull d f) }
         ensures cause { (f : _) → result ≡ Err (InsertRefusal.Full f)
@@ -475,8 +450,9 @@ impl<L: Law, N: Named, K> Transaction<'_, '_, L, N, K> {
         requires leads { Leads key.now item.now }
         ensures same_reference { (self.new.home.ghost_name ≡ self.old.home.ghost_name) × (self.new.locked.ghost_name ≡ self.old.locked.ghost_name) }
         ensures place { self.new.locked.now.place ≡ self.old.locked.now.place }
-        ensures replaces { Between (λ d e. Operates (operation.Replace (record { key = key.now; item = item.now })) (λ es. (x : Entry) → InList x es → x.key ≡ key.now → ⊥)
-            d e (IsOk result) (result ≡ Err ChangeRefusal.NotFound)) self.old.locked.now.draft self.new.locked.now.draft }
+        ensures replaces { Between (λ d e. Operates (operation.Replace (record { key = key.now; item = item.now }))
+            (λ es. (x : Entry) → InList x es → x.key ≡ key.now → ⊥) d e (IsOk result) (result ≡ Err ChangeRefusal.NotFound))
+            self.old.locked.now.draft self.new.locked.now.draft }
         ensures spares { Between SparesReserve self.old.locked.now.draft self.new.locked.now.draft }
         ensures full { (f : _) → result ≡ Err (ChangeRefusal.Full f) → IsSomeAnd self.new.locked.now.draft (λ d. IsFull d f) }
         ensures cause { (f : _) → result ≡ Err (ChangeRefusal.Full f)
@@ -527,7 +503,8 @@ impl<L: Law, N: Named, K: Kind> Transaction<'_, '_, L, N, K> {
         requires few_operations { ForSome self.locked.now.draft (λ d. AreWithin L.most_operations d.log.operations) }
         ensures here { IsSome self.exit.0.now.seat }
         ensures place { self.exit.0.now.place ≡ self.entry.locked.now.place }
-        ensures commits { IfOk result (λ _. IfSome self.entry.locked.now.draft (λ d. Commits d.seat.place.me.0 d.log.operations (known_at self.exit.0.now.seat))) }
+        ensures commits { IfOk result (λ _. IfSome self.entry.locked.now.draft
+            (λ d. Commits d.seat.place.me.0 d.log.operations (known_at self.exit.0.now.seat))) }
         ensures version { IfOk result (λ r. IfSome self.entry.locked.now.draft (λ d. r.version ≡ d.seat.version + 1)) }
         ensures back { IfErr result (λ _. IfSome self.entry.locked.now.draft (λ d. IsBack d.seat.place.me.0 self.exit.0.now.seat)) }
         ensures spent { IfSome self.entry.locked.now.draft (λ d. IsErr result ↔ (d.seat.version ≡ LAST_VERSION)) }
@@ -539,8 +516,13 @@ impl<L: Law, N: Named, K: Kind> Transaction<'_, '_, L, N, K> {
             locked,
             kind: _,
         } = self;
-        let (pass, outcome) = locked.commit(K::MOST_SPARSE);
-        *home = pass;
+        let Some(draft) = locked.draft.take() else {
+            // A transaction's draft is there between two calls.
+            unreachable!()
+        };
+        let (desk, seat, outcome) = draft.commit(locked.shared, K::MOST_SPARSE);
+        locked.leave(desk);
+        *home = locked.pass_of(seat);
         outcome
     }
 }

@@ -18,6 +18,7 @@ use crate::recycling::free_unreached;
 use crate::rounds::make_round;
 use packed_node::Ref;
 use shared_cells::Shared;
+use std::marker::Brand;
 
 impl Draft {
     ghost use Rattle.shared_index.specs.Bounds.{HasRoom, IsCramped};
@@ -65,7 +66,7 @@ impl Draft {
             root,
             log,
         } = self;
-        let (seat, outcome) = attempt(shared, seat, &mut usage, root, change);
+        let (seat, outcome) = attempt::<L, Brand>(shared, seat, &mut usage, root, change);
         let draft = Draft {
             seat,
             usage,
@@ -99,7 +100,7 @@ impl Draft {
             log,
         } = self;
         make_round(shared, &mut seat, &mut usage);
-        let (seat, _) = free_unreached(shared, seat, &mut usage);
+        let (seat, _) = free_unreached::<L, Brand>(shared, seat, &mut usage);
         Draft {
             seat,
             usage,
@@ -120,7 +121,8 @@ impl Draft {
         requires works { Works self }
         ensures table { result.0.seat.place.table_id ≡ self.seat.place.table_id }
         ensures operates { Operates (operation_of change.now) (IsRefused change.now) self result.0 (IsOk result.1) (result.1 ≡ Err Unchanged.Refused) }
-        ensures full { (f : _) (kept : Versions) → result.1 ≡ Err (Unchanged.Full f) → versions_in kept ≡ kept_versions result.0.usage → IsFull result.0 (full_with f kept) }
+        ensures full { (f : _) (kept : Versions) → result.1 ≡ Err (Unchanged.Full f) → versions_in kept ≡ kept_versions result.0.usage
+            → IsFull result.0 (full_with f kept) }
         ensures room { (left : Left) × MakesRoom self left × Spares left.usage result.0.usage }
         ensures cause { (f : _) (kept : Versions) → result.1 ≡ Err (Unchanged.Full f) → versions_in kept ≡ kept_versions result.0.usage
             → CausedBy self result.0 (key_of change.now) (written_by change.now) (asked_by change.now) (full_with f kept) }
@@ -143,7 +145,8 @@ impl Draft {
         requires works { Works self }
         ensures table { result.0.seat.place.table_id ≡ self.seat.place.table_id }
         ensures operates { Operates (operation_of change.now) (IsRefused change.now) self result.0 (IsOk result.1) (result.1 ≡ Err Unchanged.Refused) }
-        ensures full { (f : _) (kept : Versions) → result.1 ≡ Err (Unchanged.Full f) → versions_in kept ≡ kept_versions result.0.usage → IsFull result.0 (full_with f kept) }
+        ensures full { (f : _) (kept : Versions) → result.1 ≡ Err (Unchanged.Full f) → versions_in kept ≡ kept_versions result.0.usage
+            → IsFull result.0 (full_with f kept) }
         ensures spares { SparesReserve self result.0 }
         ensures cause { (f : _) (kept : Versions) → result.1 ≡ Err (Unchanged.Full f) → versions_in kept ≡ kept_versions result.0.usage
             → CausedFrom self result.0 (key_of change.now) (written_by change.now) (asked_by change.now) (full_with f kept) }

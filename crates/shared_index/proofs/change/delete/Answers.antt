@@ -1,9 +1,13 @@
 use Rattle.std.proofs.Common.{◌≡◌, Contains, Err, subst}
+use Rattle.chunk_usage.specs.Handing.{Lacks}
 use Rattle.chunk_usage.specs.declared.space.Full.{Full as NoRoom}
 use Rattle.trie_write.specs.Paths.{delete_asks}
 use Rattle.trie_write.specs.declared.replacement.ChangeRefusal.TheVariants.{NotFound, Full}
 use Rattle.shared_index.proofs.ChangeLaws.{change_refused_as, rooted_deleted}
 use Rattle.shared_index.proofs.change.delete.Goals as goal
+
+pub delete-requires-clause-stands : goal.delete-requires-clause-stands
+delete-requires-clause-stands g c = let rooted = c.requires.rooted in (rooted.0, rooted.1.stands, rooted.1.tells)
 
 pub returns-in-Ok-clause-done : goal.returns-in-Ok-clause-done
 returns-in-Ok-clause-done g c es is =
@@ -23,3 +27,9 @@ returns-in-Err-Full-clause-asked g c f e branches on =
     let full : c.delete.result ≡ Err (Full c.in-Err-Full.full) = cc in
     let same : c.in-Err-Full.full ≡ f = cc in
     subst (λ (x : NoRoom). Contains (delete_asks branches) x.needed) same (c.delete.ensures.asked c.in-Err-Full.full full branches on)
+
+pub returns-in-Err-Full-clause-full : goal.returns-in-Err-Full-clause-full
+returns-in-Err-Full-clause-full g c f e =
+    let full : c.delete.result ≡ Err (Full c.in-Err-Full.full) = cc in
+    let same : c.in-Err-Full.full ≡ f = cc in
+    subst (Lacks c.delete.new.usage) same (c.delete.ensures.full c.in-Err-Full.full full)

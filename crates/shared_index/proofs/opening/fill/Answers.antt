@@ -7,7 +7,7 @@ use Rattle.shared_cells.specs.Cells.{Cells}
 use Rattle.shared_index.specs.Turns.{cells_with}
 use Rattle.shared_index.proofs.AttemptLaws.{if_ok, rooted_there}
 use Rattle.shared_index.proofs.OpenLaws.{items_tell}
-use Rattle.shared_index.proofs.opening.fill_lent.Goals as goal
+use Rattle.shared_index.proofs.opening.fill.Goals as goal
 
 pub returns-clause-stands : goal.returns-clause-stands
 returns-clause-stands g c =

@@ -1,8 +1,28 @@
-use Rattle.std.proofs.Common.{◌≡◌, length, sym}
+use Rattle.std.proofs.Common.{◌≡◌, length, sym, subst}
+use Rattle.chunk_usage.specs.Rooms.{account_of}
+use Rattle.trie_write.specs.Standing.{HasTrie}
+use Rattle.trie_write.specs.Spaces.{Ready}
+use Rattle.shared_cells.specs.Cells.{Cells, given_chunks, kept_references, HasCell}
+use Rattle.shared_index.specs.Turns.{cells_with}
 use Rattle.shared_index.proofs.WordsLaws.{same_words, same_chunks, same_passes, lent_begins, lent_seat, lent_back}
-use Rattle.shared_index.proofs.AttemptLaws.{agrees_later}
+use Rattle.shared_index.proofs.AttemptLaws.{ready_of, agrees_later}
 use Rattle.shared_index.proofs.MovingLaws.{leaves_moved, moved_of}
-use Rattle.shared_index.proofs.evacuating.evacuate_lent.Goals as goal
+use Rattle.shared_index.proofs.evacuating.evacuate.Goals as goal
+
+pub evacuate-root-requires-clause-stands : goal.evacuate-root-requires-clause-stands
+evacuate-root-requires-clause-stands g c =
+    let u = c.args.usage.now in
+    let chunks : length u.given ≡ c.args.shared.now.table.shared.key.chunks = same_chunks _ _ _ _ c.requires.wide c.args.shared.now.wide (same_words _ _ c.requires.table) in
+    let lent = lent_begins _ _ _ _ _ c.lend-cells.ensures.cells c.requires.lent.1 chunks in
+    let stands = c.requires.stands in
+    (stands.0, subst (λ (k : Cells). HasTrie HasCell account_of k u c.args.root stands.0) (sym lent) stands.1.stands)
+
+pub evacuate-root-requires-clause-ready : goal.evacuate-root-requires-clause-ready
+evacuate-root-requires-clause-ready g c =
+    let u = c.args.usage.now in
+    let chunks : length u.given ≡ c.args.shared.now.table.shared.key.chunks = same_chunks _ _ _ _ c.requires.wide c.args.shared.now.wide (same_words _ _ c.requires.table) in
+    let lent = lent_begins _ _ _ _ _ c.lend-cells.ensures.cells c.requires.lent.1 chunks in
+    subst (λ (k : Cells). Ready kept_references given_chunks account_of k u) (sym lent) (ready_of (cells_with u c.args.seat.place.me.0.turn) u c.args.seat.passes c.requires.agrees)
 
 pub returns-clause-passes : goal.returns-clause-passes
 returns-clause-passes g c =
