@@ -1,10 +1,9 @@
 //! One list of commands that is handed out to workers.
 ghost use Rattle.std.specs.Prelude.{◌≤◌};
 
-use crate::crowd::{Open, Tally, lone_apex, push_number};
-use crate::gates::{Crossing, Meeting};
-use crate::workers::report_as;
-use dns_name::Name;
+use crate::crowd::Tally;
+use crate::gates::Open;
+use crate::runs::{ZONE, example, lone_apex, told};
 use job_threads::{FedFinished, FedRan, run_list, table_for_list};
 use qp_main::list_in;
 use std::alloc::{AllocError, Global};
@@ -16,7 +15,7 @@ use std::thread::Threads;
 fn hand_out<R: Threads + Wait + Sync>(
     rt: &R,
     alloc: Global,
-    script: &[u8],
+    script: &str,
     workers: u32,
 ) -> Result<FedFinished, Fail>
     requires { (1 ≤ workers) × (workers ≤ 16) }
@@ -24,10 +23,8 @@ fn hand_out<R: Threads + Wait + Sync>(
     if script.len() > 16_000_000 {
         return Err(Fail::from("a long script"));
     }
-    let origin = Name::from_wire(b"\x07example\x00").ok_or("no origin")?;
-    let Ok(commands) = list_in(alloc, script, 1, &origin) else {
-        return Err(Fail::from("no list"));
-    };
+    let origin = example()?;
+    let commands = list_in(alloc, script.as_bytes(), 1, &origin)?;
     if commands.is_empty() {
         return Err(Fail::from("no commands"));
     }
@@ -39,141 +36,65 @@ fn hand_out<R: Threads + Wait + Sync>(
     }
 }
 
-// One worker alone would wait in vain.
-#[test]
-fn two_workers_take_a_command_each(rt: HostRuntime) -> Result<(), Fail> {
-    let gate = Crossing {
-        meeting: Meeting::new(),
-    };
-    let words = ["qpzone", "feed", "--origin", "example.", "--workers", "2"];
-    let text = report_as(&rt, rt.alloc(), &words, b"get ns A\nget ns A\n", &gate)?;
-    assert_eq!(rt; gate.meeting.missed(), 0);
-    let one =
-        b"1.1 v0 ANSWER 1\nns.example. 300 IN A 192.0.2.1\n2.2 v0 ANSWER 1\nns.example. 300 IN A 192.0.2.1\nend v0 names 2\n";
-    let other =
-        b"2.1 v0 ANSWER 1\nns.example. 300 IN A 192.0.2.1\n1.2 v0 ANSWER 1\nns.example. 300 IN A 192.0.2.1\nend v0 names 2\n";
-    assert!(rt; text.as_slice() == one.as_slice() || text.as_slice() == other.as_slice());
-    Ok(())
-}
-
 #[test]
 fn sixteen_workers_share_one_command(rt: HostRuntime) -> Result<(), Fail> {
-    let finished = hand_out(&rt, rt.alloc(), b"stat\n", 16)?;
+    let finished = hand_out(&rt, rt.alloc(), "stat\n", 16)?;
     assert_eq!(rt; finished.outcomes.len(), 1);
     assert_eq!(rt; finished.version, 0);
     Ok(())
 }
 
-/// The number that digits say.
-pub(crate) fn number(digits: &[u8]) -> Option<u32> {
-    let mut value = 0u32;
-    for digit in digits {
-        if !digit.is_ascii_digit() {
-            return None;
-        }
-        value = value
-            .checked_mul(10)?
-            .checked_add(u32::from(*digit - b'0'))?;
-    }
-    Some(value)
-}
-
-/// The command and the version of a line that tells of a commit.
-fn committed(line: &[u8]) -> Option<(u32, u32)> {
-    let mut parts = line.split(|octet| *octet == b' ' || *octet == b'.');
-    let _worker = parts.next()?;
-    let command = number(parts.next()?)?;
-    let [b'v', digits @ ..] = parts.next()? else {
-        return None;
-    };
-    let version = number(digits)?;
-    if parts.next()? != b"COMMITTED".as_slice() {
-        return None;
-    }
-    Some((command, version))
-}
-
-/// A hundred blocks, each of which adds a name.
-fn hundred_blocks(alloc: Global) -> Result<Vec<u8>, AllocError> {
-    let mut script = Vec::new(alloc);
-    for block in 1..101 {
-        script.extend_from_slice(b"write\nadd w")?;
-        push_number(&mut script, block)?;
-        script.extend_from_slice(b" 60 A 192.0.2.")?;
-        push_number(&mut script, block)?;
-        script.extend_from_slice(b"\ncommit\n")?;
+/// So many blocks, each of which adds a record under a name of its own.
+fn blocks(alloc: Global, count: u32, record: &str) -> Result<String, AllocError> {
+    let mut script = String::new(alloc);
+    for block in 0..count {
+        write!(script, "write\nadd w{block:06} 60 {record}\ncommit\n")?;
     }
     Ok(script)
+}
+
+/// The version that a line tells, if it tells that this command made it.
+fn made_by(line: &str, command: u32) -> Option<usize> {
+    let (_worker, rest) = line.split_once('.')?;
+    let (number, rest) = rest.split_once(" v")?;
+    let version = rest.strip_suffix(" COMMITTED")?;
+    if number.parse::<u32>().ok()? != command {
+        return None;
+    }
+    version.parse().ok()
 }
 
 // By four workers, in the order of the commands: each block makes a version of its own.
 #[test]
 fn a_hundred_blocks_make_a_hundred_versions(rt: HostRuntime) -> Result<(), Fail> {
-    let words = [
-        "qpzone",
-        "feed",
-        "--origin",
-        "example.",
-        "--workers",
-        "4",
-        "--chunks",
-        "256",
-    ];
-    let script = hundred_blocks(rt.alloc())?;
-    let text = report_as(&rt, rt.alloc(), &words, &script, &Open)?;
-    let mut made = Vec::from_elem(rt.alloc(), 0u32, 101)?;
-    let mut due = 1u32;
-    for line in text.split(|octet| *octet == b'\n') {
-        let Some((command, version)) = committed(line) else {
-            break;
-        };
-        assert_eq!(rt; command, due);
-        due = due.saturating_add(1);
-        if let Some(times) = made.get_mut(version as usize) {
-            *times = times.saturating_add(1);
-        }
+    let words = "feed --origin example. --workers 4 --chunks 256";
+    let script = blocks(rt.alloc(), 100, "A 192.0.2.1")?;
+    let (status, report) = told(&rt, rt.alloc(), words, ZONE, script.as_str(), &Open)?;
+    assert_eq!(rt; status, 0);
+    let mut made = Vec::new(rt.alloc());
+    for (line, command) in report.lines().zip(1..101u32) {
+        made.push(made_by(line, command).ok_or("no commit")?)?;
     }
-    assert_eq!(rt; due, 101);
-    let once = made.iter().filter(|times| **times == 1).count();
-    assert_eq!(rt; once, 100);
-    assert!(rt; text.ends_with(b"\nend v100 names 102\n"));
+    made.sort_unstable();
+    assert!(rt; made.iter().copied().eq(1..101));
+    assert!(rt; report.ends_with("\nend v100 names 102\n"));
     Ok(())
 }
 
-/// So many blocks, each of which adds a record of 50 octets under a name of its own.
-fn many_blocks(alloc: Global, count: u32) -> Result<Vec<u8>, AllocError> {
-    let mut script = Vec::new(alloc);
-    for block in 0..count {
-        script.extend_from_slice(b"write\nadd w")?;
-        push_number(&mut script, block / 1000)?;
-        push_number(&mut script, block)?;
-        script.extend_from_slice(b" 60 TYPE65280 \\# 50 ")?;
-        script.extend_from_slice(&[b'5'; 100])?;
-        script.extend_from_slice(b"\ncommit\n")?;
-    }
-    Ok(script)
-}
-
-// However they meet: each version was made once, no worker was shown an older one than before, and each block has made one or
-// found no room.
 #[test]
 fn a_list_fills_a_small_table(rt: HostRuntime) -> Result<(), Fail> {
-    let script = many_blocks(rt.alloc(), 10_000)?;
-    let finished = hand_out(&rt, rt.alloc(), &script, 16)?;
+    let octets = "5".repeat(rt.alloc(), 100)?;
+    let record = format!(in rt.alloc(); "TYPE65280 \\# 50 {octets}")?;
+    let script = blocks(rt.alloc(), 10_000, record.as_str())?;
+    let finished = hand_out(&rt, rt.alloc(), script.as_str(), 16)?;
+    assert_eq!(rt; finished.outcomes.len(), 10_000);
     let mut tally = Tally::new(rt.alloc(), 10_000)?;
     let mut seen = [0u64; 17];
     for ran in finished.outcomes.iter() {
         let worker = ran.worker as usize;
         assert!(rt; worker < 17);
-        tally.count(seen[worker], &ran.outcome);
-        seen[worker] = ran.outcome.version;
+        seen[worker] = tally.count(seen[worker], &ran.outcome);
     }
-    assert_eq!(rt; finished.outcomes.len(), 10_000);
-    assert_eq!(rt; tally.committed, finished.version);
-    assert_eq!(rt; finished.names, finished.version.saturating_add(1));
-    assert_eq!(rt; tally.committed.saturating_add(tally.full), 10_000);
-    assert!(rt; tally.full > 0);
-    assert_eq!(rt; tally.fell, 0);
-    assert_eq!(rt; tally.once(), finished.version);
+    tally.check(&rt, 10_000, finished.version, finished.names);
     Ok(())
 }

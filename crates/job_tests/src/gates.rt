@@ -1,42 +1,36 @@
-//! Gates that watch a job's workers.
+//! Gates that watch a job's commands, or hold them back.
 use job_threads::Gate;
 use std::sync::atomic::{AtomicU64, Ordering};
 use std::thread;
 
-/// How often a gate waits at most.
-const TURNS: u32 = 10_000_000;
+/// A gate that does nothing.
+pub(crate) struct Open;
+
+impl Gate for Open {
+    ghost hears = { λ _ _. Unit {0} };
+
+    fn before(&self, _worker: u32, _command: u32) {}
+
+    fn after(&self, _worker: u32, _command: u32) {}
+}
 
 /// Counts its calls, and those that don't stand where they should: each worker's commands come in order, each between its two calls.
-#[derive(Drop)]
+#[derive(Default, Drop)]
 pub(crate) struct Counting {
-    /// For each worker, twice the commands that are done, and one more during a command.
-    pub steps: [AtomicU64; 4],
+    /// For each of two workers, twice the commands that are done, and one more during a command.
+    steps: [AtomicU64; 2],
     pub calls: AtomicU64,
     pub wrong: AtomicU64,
 }
 
 impl Counting {
-    pub(crate) fn new() -> Counting {
-        Counting {
-            steps: [
-                AtomicU64::new(0),
-                AtomicU64::new(0),
-                AtomicU64::new(0),
-                AtomicU64::new(0),
-            ],
-            calls: AtomicU64::new(0),
-            wrong: AtomicU64::new(0),
-        }
-    }
-
-    // The next step of a worker, which should be this one.
+    /// The next step of a worker, which should be this one.
     fn step(&self, worker: u32, due: u64) {
         self.calls.fetch_add(1, Ordering::SeqCst);
-        let place = worker.wrapping_sub(1) as usize;
-        if place < 4 && self.steps[place].fetch_add(1, Ordering::SeqCst) == due {
-            return;
+        let steps = self.steps.get((worker as usize).wrapping_sub(1));
+        if !steps.is_some_and(|steps| steps.fetch_add(1, Ordering::SeqCst) == due) {
+            self.wrong.fetch_add(1, Ordering::SeqCst);
         }
-        self.wrong.fetch_add(1, Ordering::SeqCst);
     }
 }
 
@@ -52,220 +46,80 @@ impl Gate for Counting {
     }
 }
 
-/// What one worker tells and another waits for.
+/// When commands may begin.
+#[derive(Clone, Copy)]
+pub(crate) enum Order {
+    /// Each once so many have come.
+    Together(u64),
+    /// This command of this worker once so many are done, and others at once.
+    Behind(&'static [(u32, u32, u64)]),
+    /// Each once so many workers have done all those before it.
+    Rounds(u64),
+}
+
+/// How often a command looks at most for what it waits for.
+const TURNS: u32 = 10_000_000;
+
+/// Holds commands back until they may begin.
 #[derive(Drop)]
-struct Sign {
-    given: AtomicU64,
-    missed: AtomicU64,
-}
-
-impl Sign {
-    fn new() -> Sign {
-        Sign {
-            given: AtomicU64::new(0),
-            missed: AtomicU64::new(0),
-        }
-    }
-
-    fn give(&self) {
-        self.given.store(1, Ordering::SeqCst);
-    }
-
-    // Waits until it was given. Where that takes too long it is missed.
-    fn wait(&self) {
-        for _ in 0..TURNS {
-            if self.given.load(Ordering::SeqCst) != 0 {
-                return;
-            }
-            thread::yield_now();
-        }
-        self.missed.store(1, Ordering::SeqCst);
-    }
-
-    fn missed(&self) -> u64 {
-        self.missed.load(Ordering::SeqCst)
-    }
-}
-
-/// Two workers, of which neither begins before the other.
-#[derive(Drop)]
-pub(crate) struct Meeting {
-    first: Sign,
-    second: Sign,
-}
-
-impl Meeting {
-    pub(crate) fn new() -> Meeting {
-        Meeting {
-            first: Sign::new(),
-            second: Sign::new(),
-        }
-    }
-
-    /// Not 0 where one has waited for nothing.
-    pub(crate) fn missed(&self) -> u64 {
-        self.first.missed() | self.second.missed()
-    }
-
-    // One of the two is there, and waits for the other.
-    fn meet(&self, is_first: bool) {
-        if is_first {
-            self.first.give();
-            self.second.wait();
-        } else {
-            self.second.give();
-            self.first.wait();
-        }
-    }
-}
-
-impl Gate for Meeting {
-    ghost hears = { λ _ _. Unit {0} };
-
-    fn before(&self, worker: u32, _command: u32) {
-        self.meet(worker == 1);
-    }
-
-    fn after(&self, _worker: u32, _command: u32) {}
-}
-
-/// Two commands of one list, of which neither begins before the other.
-#[derive(Drop)]
-pub(crate) struct Crossing {
-    pub meeting: Meeting,
-}
-
-impl Gate for Crossing {
-    ghost hears = { λ _ _. Unit {0} };
-
-    fn before(&self, _worker: u32, command: u32) {
-        self.meeting.meet(command == 1);
-    }
-
-    fn after(&self, _worker: u32, _command: u32) {}
-}
-
-/// The second worker waits until the first has done its first command, and then the first until the second is done.
-#[derive(Drop)]
-pub(crate) struct Overtaking {
-    held: Sign,
-    written: Sign,
-}
-
-impl Overtaking {
-    pub(crate) fn new() -> Overtaking {
-        Overtaking {
-            held: Sign::new(),
-            written: Sign::new(),
-        }
-    }
-
-    /// Not 0 where one has waited for nothing.
-    pub(crate) fn missed(&self) -> u64 {
-        self.held.missed() | self.written.missed()
-    }
-}
-
-impl Gate for Overtaking {
-    ghost hears = { λ _ _. Unit {0} };
-
-    fn before(&self, worker: u32, command: u32) {
-        if worker == 2 && command == 1 {
-            self.held.wait();
-        }
-        if worker == 1 && command == 2 {
-            self.written.wait();
-        }
-    }
-
-    fn after(&self, worker: u32, command: u32) {
-        if worker == 1 && command == 1 {
-            self.held.give();
-        }
-        if worker == 2 && command == 1 {
-            self.written.give();
-        }
-    }
-}
-
-/// The second worker waits until the first has done this command.
-#[derive(Drop)]
-pub(crate) struct Following {
-    last: u32,
-    done: Sign,
-}
-
-impl Following {
-    pub(crate) fn new(last: u32) -> Following {
-        Following {
-            last,
-            done: Sign::new(),
-        }
-    }
-
-    /// Not 0 where the second has waited for nothing.
-    pub(crate) fn missed(&self) -> u64 {
-        self.done.missed()
-    }
-}
-
-impl Gate for Following {
-    ghost hears = { λ _ _. Unit {0} };
-
-    fn before(&self, worker: u32, command: u32) {
-        if worker == 2 && command == 1 {
-            self.done.wait();
-        }
-    }
-
-    fn after(&self, worker: u32, command: u32) {
-        if worker == 1 && command == self.last {
-            self.done.give();
-        }
-    }
-}
-
-/// Workers in rounds, a command each: none begins one before each has done all those before.
-#[derive(Drop)]
-pub(crate) struct Rounds {
-    workers: u64,
-    /// How many commands are done.
+pub(crate) struct Ordered {
+    order: Order,
+    /// How many commands have come, and how many are done.
+    come: AtomicU64,
     done: AtomicU64,
+    /// How many have waited in vain.
     missed: AtomicU64,
 }
 
-impl Rounds {
-    pub(crate) fn new(workers: u64) -> Rounds {
-        Rounds {
-            workers,
+impl Ordered {
+    pub(crate) fn new(order: Order) -> Ordered {
+        Ordered {
+            order,
+            come: AtomicU64::new(0),
             done: AtomicU64::new(0),
             missed: AtomicU64::new(0),
         }
     }
 
-    /// Not 0 where one has waited for nothing.
     pub(crate) fn missed(&self) -> u64 {
         self.missed.load(Ordering::SeqCst)
     }
 
-    // Waits until so many commands are done.
-    fn wait(&self, due: u64) {
+    /// Waits until so many have been counted. Once one has waited in vain, none waits.
+    fn wait(&self, count: &AtomicU64, due: u64) {
         for _ in 0..TURNS {
-            if self.done.load(Ordering::SeqCst) >= due || self.missed() != 0 {
+            if count.load(Ordering::SeqCst) >= due || self.missed() != 0 {
                 return;
             }
             thread::yield_now();
         }
-        self.missed.store(1, Ordering::SeqCst);
+        self.missed.fetch_add(1, Ordering::SeqCst);
+    }
+
+    /// How many commands are done before this one begins.
+    fn due(&self, worker: u32, command: u32) -> u64 {
+        match self.order {
+            Order::Together(_) => 0,
+            Order::Behind(rows) => rows
+                .iter()
+                .find(|row| row.0 == worker && row.1 == command)
+                .map_or(0, |row| row.2),
+            Order::Rounds(workers) => {
+                workers.saturating_mul(u64::from(command.saturating_sub(1)))
+            }
+        }
     }
 }
 
-impl Gate for Rounds {
+impl Gate for Ordered {
     ghost hears = { λ _ _. Unit {0} };
 
-    fn before(&self, _worker: u32, command: u32) {
-        let rounds = u64::from(command.saturating_sub(1));
-        self.wait(self.workers.saturating_mul(rounds));
+    fn before(&self, worker: u32, command: u32) {
+        self.come.fetch_add(1, Ordering::SeqCst);
+        match self.order {
+            Order::Together(all) => self.wait(&self.come, all),
+            _ => self.wait(&self.done, self.due(worker, command)),
+        }
     }
 
     fn after(&self, _worker: u32, _command: u32) {

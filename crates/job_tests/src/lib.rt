@@ -10,9 +10,9 @@ mod feed;
 #[cfg(test)]
 mod gates;
 #[cfg(test)]
-mod odd;
-#[cfg(test)]
 mod plain;
+#[cfg(test)]
+mod runs;
 #[cfg(test)]
 mod workers;
 #[cfg(test)]

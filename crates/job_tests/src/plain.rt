@@ -6,7 +6,7 @@ use dns_name::Name;
 use job_script::{Job, print_report};
 use master_file::{Zone, read_zone};
 use qp_main::zone_items;
-use std::alloc::{AllocError, Global};
+use std::alloc::Global;
 use std::test::Fail;
 use trie_read::CellReading;
 use trie_write::build;
@@ -21,58 +21,42 @@ fn addresses(alloc: Global, zone: Zone, origin: &Name, name: &Name) -> Result<An
     let items = zone_items(alloc, zone)?;
     let mut cells = PlainCells::new(alloc, 16)?;
     let mut usage = Usage::new(alloc, 16, 2)?;
-    let Ok(root) = build(&mut cells, &mut usage, &items) else {
-        return Err(Fail::from("no room"));
-    };
+    let root = build(&mut cells, &mut usage, &items)?;
     let mut version = CellReading::new(cells, root, 0);
     Ok(answer(alloc, &mut version, origin, name, 1)?)
 }
 
 /// The name that a text says, under the root.
 fn named(text: &[u8]) -> Result<Name, Fail> {
-    match Name::read(text, &Name::root()) {
-        Ok(name) => Ok(name),
-        Err(_) => Err(Fail::from("no name")),
-    }
-}
-
-/// The zone.
-fn zone_of(alloc: Global, origin: &Name) -> Result<Zone, Fail> {
-    match read_zone(alloc, ZONE, origin) {
-        Ok(zone) => Ok(zone),
-        Err(_) => Err(Fail::from("no zone")),
-    }
+    Ok(Name::read(text, &Name::root())?)
 }
 
 // The alias, and the address that it leads to.
 #[test]
 fn an_answer_is_rows(rt: HostRuntime) -> Result<(), Fail> {
-    let alloc = rt.alloc();
     let origin = named(b"example.")?;
-    let zone = zone_of(alloc, &origin)?;
-    let answer = addresses(alloc, zone, &origin, &named(b"www.example.")?)?;
+    let zone = read_zone(rt.alloc(), ZONE, &origin)?;
+    let answer = addresses(rt.alloc(), zone, &origin, &named(b"www.example.")?)?;
     assert!(rt; matches!(answer.kind(), Kind::Answered));
-    let mut types = Vec::new(alloc);
-    for row in answer.rows().as_slice() {
-        types.push(row.rtype)?;
-    }
-    assert_eq!(rt; types.as_slice(), [5, 1].as_slice());
+    assert!(rt;
+        answer
+            .rows()
+            .as_slice()
+            .iter()
+            .map(|row| row.rtype)
+            .eq([5, 1])
+    );
     Ok(())
-}
-
-/// The report of a zone's job without workers.
-fn idle_report(alloc: Global, zone: &Zone) -> Result<Vec<u8>, AllocError> {
-    let names = zone.len() as u64;
-    let job = Job {
-        workers: Vec::new(alloc),
-    };
-    print_report(alloc, zone, &job, &[], 0, names)
 }
 
 #[test]
 fn a_job_without_workers_is_its_last_line(rt: HostRuntime) -> Result<(), Fail> {
-    let zone = zone_of(rt.alloc(), &named(b"example.")?)?;
-    let report = idle_report(rt.alloc(), &zone)?;
+    let zone = read_zone(rt.alloc(), ZONE, &named(b"example.")?)?;
+    let job = Job {
+        workers: Vec::new(rt.alloc()),
+    };
+    let names = zone.len() as u64;
+    let report = print_report(rt.alloc(), &zone, &job, &[], 0, names)?;
     assert_eq!(rt; report.as_slice(), b"end v0 names 3\n".as_slice());
     Ok(())
 }

@@ -24,7 +24,7 @@ answer-requires c =
       record {
         version_is = stands.valid;
         held = c.new-version.ensures.holds _
-            (subst (Stands _ c.in-Ok.root) same (stands_of _ _ _ (entries_of_items c.deref.result.now) c.in-Ok.root c.in-Ok.ensures.built))
+            (subst (Stands _ c.in_ok-root.root) same (stands_of _ _ _ (entries_of_items c.deref.result.now) c.in_ok-root.root c.in_ok-root.ensures.built))
             (subst (EachTells Leads) same (items_tell c.deref.result.now));
       },
     )
