@@ -5,52 +5,33 @@ ghost use Rattle.std.specs.Io.{StartsWith};
 use itoa::Buffer;
 use std::alloc::AllocError;
 
-// Two digits, of a number below 100.
-fn push_pair(out: &mut Vec<u8>, number: u8) -> Result<(), AllocError>
-    requires { number < 100 }
-    ensures ok { OnOk result (out.new.items ≡ out.old.items ++ (48 + number / 10) ∷ (48 + number % 10) ∷ []) }
-    ensures kept { StartsWith out.new.items out.old.items }
+// The digit of a place.
+#[inline]
+fn digit(number: u64, place: u64) -> u8
+    requires { 0 < place }
+    ensures { result ≡ 48 + number / place % 10 }
 {
-    out.push(b'0' + number / 10)?;
-    out.push(b'0' + number % 10)?;
-    Ok(())
-}
-
-// A number of one digit or two.
-#[tactic(auto, using(std::proofs::lemmas::Fmt::decimal_digit, crate::proofs::DecimalLemmas::two_digits))]
-fn push_short(out: &mut Vec<u8>, number: u8) -> Result<(), AllocError>
-    requires { number < 100 }
-    ensures ok { OnOk result (out.new.items ≡ out.old.items ++ decimal number) }
-    ensures kept { StartsWith out.new.items out.old.items }
-{
-    if number < 10 {
-        out.push(b'0' + number)?;
-        return Ok(());
-    }
-    push_pair(out, number)
-}
-
-// A number of three digits or four.
-fn push_middle(out: &mut Vec<u8>, number: u16) -> Result<(), AllocError>
-    requires { (100 ≤ number) × (number < 10000) }
-    ensures ok { OnOk result (out.new.items ≡ out.old.items ++ decimal number) }
-    ensures kept { StartsWith out.new.items out.old.items }
-{
-    push_short(out, (number / 100) as u8)?;
-    push_pair(out, (number % 100) as u8)
+    b'0' + (number / place % 10) as u8
 }
 
 /// Pushes a number in decimal digits.
+#[tactic(auto, using(crate::proofs::DecimalLemmas::one_digit, crate::proofs::DecimalLemmas::two_digits, crate::proofs::DecimalLemmas::three_digits, crate::proofs::DecimalLemmas::four_digits))]
 pub fn push_decimal(out: &mut Vec<u8>, number: u64) -> Result<(), AllocError>
     ensures ok { OnOk result (out.new.items ≡ out.old.items ++ decimal number) }
     ensures kept { StartsWith out.new.items out.old.items }
 {
-    if number < 100 {
-        return push_short(out, number as u8);
+    match number {
+        0..=9 => out.extend_from_slice(&[digit(number, 1)]),
+        10..=99 => out.extend_from_slice(&[digit(number, 10), digit(number, 1)]),
+        100..=999 => {
+            out.extend_from_slice(&[digit(number, 100), digit(number, 10), digit(number, 1)])
+        }
+        1000..=9999 => out.extend_from_slice(&[
+            digit(number, 1000),
+            digit(number, 100),
+            digit(number, 10),
+            digit(number, 1),
+        ]),
+        _ => out.extend_from_slice(Buffer::new().format(number).as_bytes()),
     }
-    if number < 10000 {
-        return push_middle(out, number as u16);
-    }
-    let mut buffer = Buffer::new();
-    out.extend_from_slice(buffer.format(number).as_bytes())
 }
