@@ -1,4 +1,5 @@
 pub mod DecodingLemmas
+pub mod DottedLemmas
 pub mod EntryChanges
 pub mod EntryLemmas
 pub mod FieldLemmas

@@ -1,5 +1,5 @@
 //! Types and data as they are printed.
-ghost use Rattle.std.specs.Prelude.{◌≡◌, ◌<◌, ◌+◌, ◌++◌, length, map, Some, None, Option, OnOk, OnErr, IfOk, IfSome, decimal, ◌==◌};
+ghost use Rattle.std.specs.Prelude.{◌≡◌, ◌<◌, ◌+◌, ◌++◌, ◌∷◌, [], length, map, Some, None, Option, OnOk, OnErr, IfOk, IfSome, decimal, ◌==◌};
 ghost use Rattle.std.specs.Io.{StartsWith};
 ghost use Rattle.std.specs.Option.{option_map, option_copied};
 ghost use Rattle.std.specs.List.{flat_map};
@@ -31,6 +31,26 @@ pub fn push_type(rtype: u16, out: &mut Vec<u8>) -> Result<(), AllocError>
     }
 }
 
+// Pushes an octet's number with a dot behind it.
+#[tactic(auto, using(crate::proofs::DottedLemmas::one_dotted, crate::proofs::DottedLemmas::two_dotted, crate::proofs::DottedLemmas::three_dotted))]
+fn push_dotted(octet: u8, out: &mut Vec<u8>) -> Result<(), AllocError>
+    ensures ok { OnOk result (out.new.items ≡ out.old.items ++ (decimal octet ++ 46 ∷ [])) }
+    ensures kept { StartsWith out.new.items out.old.items }
+{
+    match octet {
+        0..=9 => out.extend_from_slice(&[b'0' + octet, b'.']),
+        10..=99 => out.extend_from_slice(&[b'0' + octet / 10, b'0' + octet % 10, b'.']),
+        _ => {
+            out.extend_from_slice(&[
+                b'0' + octet / 100,
+                b'0' + octet / 10 % 10,
+                b'0' + octet % 10,
+                b'.',
+            ])
+        }
+    }
+}
+
 // Pushes octets with dots between them.
 fn push_address(address: &[u8], out: &mut Vec<u8>) -> Result<(), AllocError>
     ensures ok { OnOk result (out.new.items ≡ out.old.items ++ address_text address.now) }
@@ -39,11 +59,10 @@ fn push_address(address: &[u8], out: &mut Vec<u8>) -> Result<(), AllocError>
     let Some((octet, rest)) = address.split_first() else {
         return Ok(());
     };
-    push_decimal(out, u64::from(*octet))?;
     if rest.is_empty() {
-        return Ok(());
+        return push_decimal(out, u64::from(*octet));
     }
-    out.push(b'.')?;
+    push_dotted(*octet, out)?;
     push_address(rest, out)
 }
 
@@ -313,16 +332,9 @@ fn push_typed(
     }
 }
 
-/// Pushes data as it is printed for a type: its fields, or `\#`, the number of octets and their digits where they aren't of
-/// the type's form. Names are absolute. Where no memory is left, some of that may have been pushed.
-pub fn push_data(rtype: u16, octets: &[u8], out: &mut Vec<u8>) -> Result<(), AllocError>
-    ensures ok { OnOk result (out.new.items ≡ out.old.items ++ data_text rtype octets.now) }
-    ensures kept { StartsWith out.new.items out.old.items }
-{
-    push_data_in(rtype, octets, None, out)
-}
-
-/// The same where an origin is in force: names at or under it are relative to it.
+// Pushes data as it is printed for a type: its fields, or `\#`, the number of octets and their digits where they aren't of
+// the type's form. Names at or under an origin are relative to it. Where no memory is left, some of that may have been
+// pushed.
 pub fn push_data_in(
     rtype: u16,
     octets: &[u8],
@@ -348,7 +360,7 @@ impl Rdata {
         ensures err { OnErr result (out.new.items ≡ out.old.items) }
     {
         let start = out.len();
-        let result = push_data(rtype, self.octets(), out);
+        let result = push_data_in(rtype, self.octets(), None, out);
         if result.is_err() {
             out.truncate(start);
         }

@@ -23,7 +23,7 @@ mod type_words;
 mod types;
 mod views;
 
-pub use data_text::{push_data, push_data_in, push_type};
+pub use data_text::push_type;
 pub use entry::{Entry, ITEM_LIMIT, item_buffer};
 pub use rdata::Rdata;
 pub use record_text::{Directives, push_record};
