@@ -9,9 +9,9 @@ ghost use Rattle.master_file.specs.Zones.{reader_view, front_view};
 ghost use Rattle.master_file.specs.Owners.{AllHeld};
 
 use crate::front::{Front, front_of, is_directive, name_word, time_word};
-use crate::records::{Reader, line_of, minimum_of, time_for};
+use crate::records::{Reader, line_of, minimum_behind, time_for};
 use dns_name::Name;
-use rr_data::{Rdata, RdataRefusal, SOA};
+use rr_data::{Rdata, RdataRefusal};
 use std::alloc::Global;
 use zone_model::ZoneKind;
 use zone_text::{Token, ZoneRefusal, is_word, refuse};
@@ -71,17 +71,11 @@ fn read_record(
     let Some(time) = time_for(front.time, front.rtype, octets, reader) else {
         return Err(refuse(last, ZoneKind::NoTtl));
     };
-    let minimum = if front.rtype == SOA {
-        Some(minimum_of(octets))
-    } else {
-        reader.minimum
-    };
+    let minimum = minimum_behind(front.rtype, octets, reader);
     reader
         .owners
         .add(alloc, apex, last, owner, front.rtype, time, &reader.rdata)?;
-    if front.time.is_some() {
-        reader.last_time = front.time;
-    }
+    reader.last_time = front.time.or(reader.last_time);
     reader.minimum = minimum;
     reader.owner = Some(*owner);
     Ok(())

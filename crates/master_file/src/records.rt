@@ -1,6 +1,7 @@
 //! What the records of a file take from those before them.
-ghost use Rattle.std.specs.Prelude.{◌≡◌, ◌<◌, ◌+◌, ◌-◌, ℕ, List, map, Some, Option, slice_index};
+ghost use Rattle.std.specs.Prelude.{◌≡◌, ◌<◌, ◌+◌, ◌-◌, ◌==◌, if◌then◌else◌, ℕ, List, map, Some, Option, slice_index};
 ghost use Rattle.zone_model.specs.MasterFile.{minimum_of, time_for, line_of};
+ghost use Rattle.zone_model.specs.Versions.{soa_type};
 ghost use Rattle.zone_text.specs.Tokens.{token_view};
 ghost use Rattle.master_file.specs.Zones.{reader_view};
 
@@ -35,12 +36,23 @@ fn octet_at(octets: &[u8], at: usize) -> u32
 }
 
 // The last number of data.
-pub fn minimum_of(octets: &[u8]) -> u32
+fn minimum_of(octets: &[u8]) -> u32
     ensures { result ≡ minimum_of octets.now }
 {
     let at = octets.len().saturating_sub(4);
     let high = octet_at(octets, at) * 256 + octet_at(octets, at + 1);
     (high * 256 + octet_at(octets, at + 2)) * 256 + octet_at(octets, at + 3)
+}
+
+/// The minimum in force behind a record: its own where it is the SOA.
+pub fn minimum_behind(rtype: u16, octets: &[u8], reader: &Reader) -> Option<u32>
+    ensures { result ≡ (if rtype == soa_type then Some (minimum_of octets.now) else reader.now.minimum) }
+{
+    if rtype == SOA {
+        Some(minimum_of(octets))
+    } else {
+        reader.minimum
+    }
 }
 
 /// The time of a record: written, set by a directive, last written, or an SOA's minimum.
@@ -56,10 +68,7 @@ pub fn time_for(written: Option<u32>, rtype: u16, octets: &[u8], reader: &Reader
     if reader.last_time.is_some() {
         return reader.last_time;
     }
-    if rtype == SOA {
-        return Some(minimum_of(octets));
-    }
-    reader.minimum
+    minimum_behind(rtype, octets, reader)
 }
 
 /// The line of the token at an index, or the last line where there is none.
