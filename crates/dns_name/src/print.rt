@@ -32,15 +32,29 @@ fn push_octet(out: &mut Vec<u8>, octet: u8) -> Result<(), AllocError>
     Ok(())
 }
 
+// Short words for the table below.
+const F: bool = false;
+
+const T: bool = true;
+
+// Which octets stand for themselves.
+static PLAIN: [bool; 256] = [
+    F, F, F, F, F, F, F, F, F, F, F, F, F, F, F, F, F, F, F, F, F, F, F, F, F, F, F, F, F, F, F, F,
+    F, T, F, T, F, T, T, T, F, F, T, T, T, T, F, T, T, T, T, T, T, T, T, T, T, T, T, F, T, T, T, T,
+    F, T, T, T, T, T, T, T, T, T, T, T, T, T, T, T, T, T, T, T, T, T, T, T, T, T, T, T, F, T, T, T,
+    T, T, T, T, T, T, T, T, T, T, T, T, T, T, T, T, T, T, T, T, T, T, T, T, T, T, T, T, T, T, T, F,
+    F, F, F, F, F, F, F, F, F, F, F, F, F, F, F, F, F, F, F, F, F, F, F, F, F, F, F, F, F, F, F, F,
+    F, F, F, F, F, F, F, F, F, F, F, F, F, F, F, F, F, F, F, F, F, F, F, F, F, F, F, F, F, F, F, F,
+    F, F, F, F, F, F, F, F, F, F, F, F, F, F, F, F, F, F, F, F, F, F, F, F, F, F, F, F, F, F, F, F,
+    F, F, F, F, F, F, F, F, F, F, F, F, F, F, F, F, F, F, F, F, F, F, F, F, F, F, F, F, F, F, F, F,
+];
+
 // Whether an octet stands for itself.
+#[inline]
 fn is_plain(octet: u8) -> bool
     ensures { result ≡ is_plain octet }
 {
-    match octet {
-        b'"' | b'$' | b'(' | b')' | b'.' | b';' | b'@' | b'\\' => false,
-        33..=126 => true,
-        _ => false,
-    }
+    PLAIN[octet as usize]
 }
 
 // Whether all octets stand for themselves.
