@@ -63,7 +63,9 @@ impl Ancestors {
         requires { length self.old < 128 }
         ensures { self.new ≡ self.old ++ ancestor ∷ [] }
     {
-        self.names[self.len as usize] = ancestor;
+        let at = self.len as usize;
+        self.names[at].leaf = ancestor.leaf;
+        self.names[at].labels = ancestor.labels;
         self.len += 1;
     }
 }

@@ -54,6 +54,16 @@ pub fn difference_at<C: CellRead>(cells: &mut C, leaf: Leaf, key: &Key) -> Optio
         let _key = key.len(); // for the proof
         return None;
     }
+    difference_from(cells, leaf, key)
+}
+
+/// The same, for a key that need not be that of the item.
+fn difference_from<C: CellRead>(cells: &mut C, leaf: Leaf, key: &Key) -> Option<Difference>
+    requires { (e : Entry) × IsLeafOf (C.has cells.old) e leaf × Leads e.key e.item }
+    ensures same { cells.new ≡ cells.old }
+    ensures key { IsKey key.now }
+    ensures difference { (e : Entry) → IsLeafOf (C.has cells.old) e leaf → Leads e.key e.item → IsDifference key.now e.key result }
+{
     let mut front = [0; 256];
     let len = read_front(cells, leaf, &mut front);
     key.difference(&front[..len])

@@ -56,12 +56,11 @@ impl Path {
         ensures step { slice_get self.new.steps self.old.depth ≡ Some (step_of branch index) }
         ensures before { (i : ℕ) → i < self.old.depth → slice_get self.new.steps i ≡ slice_get self.old.steps i }
     {
-        self.steps[self.depth as usize] = Step {
-            twigs: branch.twigs,
-            offset: branch.offset,
-            index: index as u8,
-            count: branch.twig_count() as u8,
-        };
+        let at = self.depth as usize;
+        self.steps[at].twigs = branch.twigs;
+        self.steps[at].offset = branch.offset;
+        self.steps[at].index = index as u8;
+        self.steps[at].count = branch.twig_count() as u8;
         self.depth += 1;
     }
 

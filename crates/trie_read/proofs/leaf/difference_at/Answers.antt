@@ -1,22 +1,14 @@
-use Rattle.std.proofs.Common.{List, ℕ, sym, subst}
-use Rattle.trie_model.specs.Extents.{HasItem}
-use Rattle.shift_key.specs.Differences.{IsDifference}
-use Rattle.trie_read.proofs.LeafLaws.{fronted}
+use Rattle.std.proofs.Common.{sym, subst}
+use Rattle.trie_read.specs.Reads.{IsLeafOf}
 use Rattle.trie_read.proofs.leaf.difference_at.Goals as goal
 
-pub read_front-len-requires : goal.read_front-len-requires
-read_front-len-requires g c = record { there = (c.requires.0.item, subst (λ s. HasItem (g.C.CellRead.has s) c.args.leaf.at c.args.leaf.len c.requires.0.item) (sym c.is_of.ensures.same) c.requires.1.item) }
-
-pub difference-requires : goal.difference-requires
-difference-requires g c =
-    let h = c.requires in
-    let f = fronted h.0.key h.0.item _ h.1.entry.item (c.read_front-len.ensures.front h.0.item h.1.entry.item.octets (subst (λ s. HasItem (g.C.CellRead.has s) c.args.leaf.at c.args.leaf.len h.0.item) (sym c.is_of.ensures.same) h.1.item)) h.2 in
-    (f.name, f.is_name, f.begins)
+pub difference_from-requires : goal.difference_from-requires
+difference_from-requires g c =
+    let h = c.requires in (h.0, subst (λ s. IsLeafOf (g.C.CellRead.has s) h.0 c.args.leaf) (sym c.is_of.ensures.same) h.1, h.2)
 
 pub returns-then-is_of-clause-difference : goal.returns-then-is_of-clause-difference
 returns-then-is_of-clause-difference g c e leaf tells = sym ((c.is_of.ensures.value e leaf tells).0 c.if-is_of.true)
 
 pub returns-clause-difference : goal.returns-clause-difference
 returns-clause-difference g c e leaf tells =
-    let f = fronted e.key e.item _ leaf.entry.item (c.read_front-len.ensures.front e.item leaf.entry.item.octets (subst (λ s. HasItem (g.C.CellRead.has s) c.args.leaf.at c.args.leaf.len e.item) (sym c.is_of.ensures.same) leaf.item)) tells in
-    subst (λ (k : List ℕ). IsDifference c.args.key.now k c.difference.result) (sym f.is) (c.difference.ensures.difference f.name f.is_name f.begins)
+    c.difference_from.ensures.difference e (subst (λ s. IsLeafOf (g.C.CellRead.has s) e c.args.leaf) (sym c.is_of.ensures.same) leaf) tells
