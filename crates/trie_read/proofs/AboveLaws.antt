@@ -1,6 +1,7 @@
 -- The names above a key's that stand before the end of a path which the key guides.
 use Rattle.std.proofs.Common.{◌≡◌, ℕ, zero, suc, ◌+◌, ◌/◌, ◌%◌, ◌^◌, ◌<◌, ◌≤◌, List, [], ◌∷◌, ◌++◌, length, take, map, Option, Some, None, slice_get, get_or, append_assoc, append-nil, length-append, arith, inl, inr, refl, sym, ◌∙◌, ap, subst}
 use Rattle.std.proofs.lemmas.Bool.{cases_lt}
+use Rattle.std.proofs.lemmas.List.{get_or_past}
 use Rattle.std.proofs.lemmas.Option.{get_or_from_slice_get}
 use Rattle.packed_node.specs.declared.Cell.{Cell}
 use Rattle.packed_node.specs.declared.Leaf.{Leaf}
@@ -267,6 +268,52 @@ gathered_within has k path root before p n names d l far kk never t b a hangs i 
     let x = besides has k path root before p n l t b a h i in
     passed_none (IsNamed has) k h.on.before_all (entries h.on.left) b names h.on.before_is (chain_beside h.step.offset k h.on.left kk x.twigs h.so.0 x.agree (λ u r e ends. never (subst (λ (o : ℕ). EndsAt o k) (sym s) ends)))
     (far (branch h.step.offset h.step.twigs (beside h.on.left (twig h.on.position t h.on.right))) h.on.before_all h.on.after_all h.on.parent (in_parent h.step.offset h.step.twigs h.on.left h.on.right h.on.position t p.met i))
+
+-- ---- no label ends at the branches from a level on
+lowest : (left : Twigs) (high : ℕ) → Rising 0 high left → high ≡ 0 → left ≡ none
+lowest none high r e = refl
+lowest (twig p t s) high r e = absurd (let l = r.1 in omega arith)
+
+gathered_past : (has : ℕ → Cell → Type 0) (k : List ℕ) (path : Path) (root : ℕ) (before : List Entry) (p : Passes has k path root before) (n : ℕ) (names : List Ancestor) (d : Step) → n < path.depth → SoFar has k path p.whole p.met n names → IsKey k → (last : ℕ) → ((place : ℕ) → last < place → place < length k → EndsAt place k → ⊥) → last < (get_or path.steps n d).offset → SoFar has k path p.whole p.met (n + 1) names
+gathered_past has k path root before p n names d l far kk last never past t b a hangs i = elim (cases_lt (get_or path.steps n d).offset (length k)) [
+  | inl x ↦ gathered_within has k path root before p n names d l far kk (never (get_or path.steps n d).offset past x) t b a hangs i
+  | inr x ↦ (
+      let h = hangs_next k path p.whole n t b a hangs in
+      let s = ap (λ (y : Step). y.offset) (get_or_from_slice_get path.steps n h.step d h.there) in
+      let empty = lowest h.on.left (at k h.step.offset) h.so.0 (get_or_past k h.step.offset 0 (omega arith)) in
+      passed_none (IsNamed has) k h.on.before_all (entries h.on.left) b names h.on.before_is (ap (λ (ts : Twigs). chain k (entries ts)) empty)
+      (far (branch h.step.offset h.step.twigs (beside h.on.left (twig h.on.position t h.on.right))) h.on.before_all h.on.after_all h.on.parent (in_parent h.step.offset h.step.twigs h.on.left h.on.right h.on.position t p.met i))
+      )
+]
+
+-- branches lie ever deeper along the path
+deeper : (has : ℕ → Cell → Type 0) (k : List ℕ) (path : Path) (root : ℕ) (before : List Entry) (p : Passes has k path root before) (n m : ℕ) (d : Step) → n ≤ m → m < path.depth → (get_or path.steps n d).offset ≤ (get_or path.steps m d).offset
+deeper has k path root before p n zero d l less = let e : 0 ≡ n = omega arith in subst (λ (i : ℕ). (get_or path.steps i d).offset ≤ (get_or path.steps 0 d).offset) e (omega arith)
+deeper has k path root before p n (suc m) d l less = elim (cases_lt n (suc m)) [
+  | inl x ↦ (
+      let u = (passes_higher has k path root before p (suc m) (omega arith)).hangs in
+      let v = passes_higher has k path root before p (suc (suc m)) (omega arith) in
+      let w = v.hangs in
+      let a = earlier k path.steps p.whole p.leads.shape (suc m) v.tree v.before v.after w m u.step refl u.there in
+      let s = ap (λ (y : Step). y.offset) (get_or_from_slice_get path.steps m u.step d u.there) in
+      let t = ap (λ (y : Step). y.offset) (get_or_from_slice_get path.steps (suc m) w.step d w.there) in
+      let r = deeper has k path root before p n m d (omega arith) (omega arith) in omega arith
+      )
+  | inr x ↦ (let e : suc m ≡ n = omega arith in subst (λ (i : ℕ). (get_or path.steps i d).offset ≤ (get_or path.steps (suc m) d).offset) e (omega arith))
+]
+
+pub gathered_rest : (has : ℕ → Cell → Type 0) (k : List ℕ) (path : Path) (root : ℕ) (before : List Entry) (p : Passes has k path root before) (n : ℕ) (names : List Ancestor) (d : Step) → n < path.depth → SoFar has k path p.whole p.met n names → IsKey k → (last : ℕ) → ((place : ℕ) → last < place → place < length k → EndsAt place k → ⊥) → last < (get_or path.steps n d).offset →
+    (m : ℕ) → n ≤ m → m ≤ path.depth → SoFar has k path p.whole p.met m names
+gathered_rest has k path root before p n names d l far kk last never past zero up less = let e : n ≡ 0 = omega arith in subst (λ (i : ℕ). SoFar has k path p.whole p.met i names) e far
+gathered_rest has k path root before p n names d l far kk last never past (suc m) up less = elim (cases_lt n (suc m)) [
+  | inl x ↦ (
+      let deep = deeper has k path root before p n m d (omega arith) (omega arith) in
+      let e : m + 1 ≡ suc m = omega arith in
+      subst (λ (i : ℕ). SoFar has k path p.whole p.met i names) e
+      (gathered_past has k path root before p m names d (omega arith) (gathered_rest has k path root before p n names d l far kk last never past m (omega arith) (omega arith)) kk last never (omega arith))
+      )
+  | inr x ↦ (let e : n ≡ suc m = omega arith in subst (λ (i : ℕ). SoFar has k path p.whole p.met i names) e far)
+]
 
 abbrev pub EndingAt : (ℕ → Cell → Type 0) → Path → ℕ → ℕ → Option Leaf → Type 0
 EndingAt has path root n r = (whole t : Tree) (b a : List Entry) → HangsAtLevel AnyStep has path root n whole t b a → HasEnding has t r

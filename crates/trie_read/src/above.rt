@@ -9,7 +9,7 @@ ghost use Rattle.trie_read.specs.Above.{AreAncestors, HasEnding, Passes};
 ghost use Rattle.trie_read.specs.Walks.{AnyStep, HangsAtLevel, HasNode};
 
 use super::ancestors::{Ancestor, Ancestors};
-use super::labels::{ends_at, labels_to};
+use super::labels::{ends_at, labels_to, last_label};
 use super::path::Path;
 use chunk_cells::CellRead;
 use packed_node::{Leaf, Node, Ref};
@@ -17,7 +17,7 @@ use shift_key::Key;
 
 impl Path {
     /// Puts in the names above the key's that stand before the path's end, the top first: wherever a label of the key ends at a branch, the twig for keys
-    /// that end there is the leaf of such a name.
+    /// that end there is the leaf of such a name. No name above the key's ends within its last label.
     pub fn gather<C: CellRead>(&self, cells: &mut C, root: Ref, key: &Key, above: &mut Ancestors)
         requires passes { (before : List Entry) × Passes (C.has cells.old) key.now self.now root before }
         requires empty { above.old ≡ [] }
@@ -25,8 +25,12 @@ impl Path {
         ensures above { (before : List Entry) → Passes (C.has cells.old) key.now self.now root before
             → AreAncestors (IsNamed (C.has cells.old)) (chain key.now before) above.new }
     {
+        let last = last_label(key);
         for level in 0..self.depth {
             let step = self.steps[level as usize];
+            if step.offset > last {
+                return;
+            }
             // Few branches lie where a label ends.
             if ends_at(key, step.offset) && step.index > 0 {
                 if let Some(leaf) = self.ending(cells, root, level) {

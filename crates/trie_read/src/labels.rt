@@ -1,6 +1,6 @@
 //! The labels of a key.
 
-ghost use Rattle.std.specs.Prelude.{◌≡◌, ◌↔◌, IsTrue, length, take};
+ghost use Rattle.std.specs.Prelude.{◌≡◌, ◌<◌, ◌↔◌, ℕ, IsTrue, length, take};
 ghost use Rattle.zone_model.specs.Keys.{IsKey};
 ghost use Rattle.trie_model.specs.Order.{EndsAt, labels_in};
 
@@ -13,6 +13,16 @@ pub fn ends_at(key: &Key, place: u16) -> bool
 {
     let _key = key.len(); // for the proof
     place == 0 || key.at(place - 1) == 0
+}
+
+/// A place past which no label of the key ends but the last one: where that one begins, or further on.
+pub fn last_label(key: &Key) -> u16
+    ensures within { (place : ℕ) → result < place → place < length key.now → ¬ EndsAt place key.now }
+    ensures key { IsKey key.now }
+{
+    let octets = key.wire();
+    // An octet has one position at least, and the label's end has one.
+    key.len().saturating_sub(octets[0] as u16 + 1)
 }
 
 /// How many labels the key has.

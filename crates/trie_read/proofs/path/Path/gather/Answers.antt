@@ -2,7 +2,7 @@ use Rattle.std.proofs.Common.{◌+◌, ◌∙◌, Some, None, arith, refl, sym, 
 use Rattle.trie_read.specs.Walks.{HasNode, Guided}
 use Rattle.trie_model.proofs.NameLaws.{name_key}
 use Rattle.trie_read.proofs.PathLaws.{depth_few, at_depth}
-use Rattle.trie_read.proofs.AboveLaws.{SoFar, EndingAt, passes_node, gathered_start, gathered_first, gathered_within, gathered_none, gathered_one, gathered_room}
+use Rattle.trie_read.proofs.AboveLaws.{SoFar, EndingAt, passes_node, gathered_start, gathered_first, gathered_within, gathered_none, gathered_one, gathered_room, gathered_rest}
 use Rattle.trie_read.proofs.path.Path.gather.Goals.{then-ends_at+then-step-gt0+in-Some, then-ends_at+then-step-gt0+in_default, else-ends_at, else-ends_at-via-else-ends_at, else-ends_at-via-then-ends_at+else-step-gt0}
 use Rattle.trie_read.proofs.path.Path.gather.Goals as goal
 
@@ -47,6 +47,12 @@ loop-level-preserved g c = record {
     ])
   ];
 }
+
+pub returns-then-step-last-clause-above : goal.returns-then-step-last-clause-above
+returns-then-step-last-clause-above g c before p =
+    gathered_rest (g.C.CellRead.has c.args.cells.now) c.args.key.now c.args.self.now c.args.root before p c.loop-level.level c.loop-level.above (record { twigs = 0; offset = 0; index = 0; count = 0 }) c.loop-level-test.true (c.loop-level.invariant.above before p)
+    (name_key c.args.key.now c.last_label-last.ensures.key) c.last_label-last.result c.last_label-last.ensures.within c.if-step-last.true c.args.self.now.depth (let l = c.loop-level-test.true in omega arith) (omega arith)
+    p.tree before p.after p.leads.hangs p.there
 
 pub returns-clause-above : goal.returns-clause-above
 returns-clause-above g c before p =
