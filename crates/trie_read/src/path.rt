@@ -56,6 +56,23 @@ impl Path {
         ensures step { slice_get self.new.steps self.old.depth ≡ Some (step_of branch index) }
         ensures before { (i : ℕ) → i < self.old.depth → slice_get self.new.steps i ≡ slice_get self.old.steps i }
     {
+        self.steps[self.depth as usize] = Step {
+            twigs: branch.twigs,
+            offset: branch.offset,
+            index: index as u8,
+            count: branch.twig_count() as u8,
+        };
+        self.depth += 1;
+    }
+
+    /// The same, field by field: cheaper on the long way down to a key, while a walk's few steps are cheaper whole.
+    fn push_fields(&mut self, branch: Branch, index: u32)
+        requires room { self.old.depth < 504 }
+        requires inside { index < count_ones branch.bitmap }
+        ensures depth { self.new.depth ≡ self.old.depth + 1 }
+        ensures step { slice_get self.new.steps self.old.depth ≡ Some (step_of branch index) }
+        ensures before { (i : ℕ) → i < self.old.depth → slice_get self.new.steps i ≡ slice_get self.old.steps i }
+    {
         let at = self.depth as usize;
         self.steps[at].twigs = branch.twigs;
         self.steps[at].offset = branch.offset;
@@ -154,7 +171,7 @@ impl Path {
                 Node::Leaf(leaf) => return leaf,
                 Node::Branch(branch) => {
                     let index = nearest(branch, key);
-                    self.push(branch, index);
+                    self.push_fields(branch, index);
                     node = Node::of(cells.cell(branch.twigs + index));
                 }
             }

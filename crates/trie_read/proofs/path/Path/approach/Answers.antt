@@ -17,13 +17,13 @@ loop-node-init g c = record {
   way = λ whole t before after leads is. record { tree = t; before = before; after = after; leads = leads; is = node_there (Guided c.args.key.now) (g.C.CellRead.has c.args.cells.now) c.args.self.now whole t before after c.args.cell c.of-node.result leads is c.of-node.ensures.back };
 }
 
-pub push-requires-clause-room : goal.push-requires-clause-room
-push-requires-clause-room g c =
+pub push_fields-requires-clause-room : goal.push_fields-requires-clause-room
+push_fields-requires-clause-room g c =
     let h = c.requires in
     (came_to_branch (Guided c.args.key.now) (g.C.CellRead.has c.args.cells.now) c.loop-node.self h.whole c.loop-node.node c.in-Branch.branch (c.loop-node.invariant.way h.whole h.tree h.before h.after h.leads h.is) c.in-Branch.is).room
 
-pub push-requires-clause-inside : goal.push-requires-clause-inside
-push-requires-clause-inside g c =
+pub push_fields-requires-clause-inside : goal.push_fields-requires-clause-inside
+push_fields-requires-clause-inside g c =
     let has = g.C.CellRead.has c.args.cells.now in let k = c.args.key.now in let b = c.in-Branch.branch in let h = c.requires in
     let is = name_key k c.nearest-index.ensures.key in
     let w = c.loop-node.invariant.way h.whole h.tree h.before h.after h.leads h.is in
@@ -67,7 +67,7 @@ loop-node-smaller g c =
     let w = c.loop-node.invariant.way h.whole h.tree h.before h.after h.leads h.is in
     let a = came_to_branch (Guided k) has c.loop-node.self h.whole c.loop-node.node b w c.in-Branch.is in
     let i = nearest_inside has k b a.below c.nearest-index.result a.of is c.nearest-index.ensures.there c.nearest-index.ensures.absent in
-    let d = c.push.ensures.depth in let r = a.room in omega arith
+    let d = c.push_fields.ensures.depth in let r = a.room in omega arith
 
 pub loop-node-preserved : goal.loop-node-preserved
 loop-node-preserved g c = record {
@@ -79,7 +79,7 @@ loop-node-preserved g c = record {
       let a = came_to_branch (Guided k) has c.loop-node.self whole c.loop-node.node b w c.in-Branch.is in
       let i = nearest_inside has k b a.below c.nearest-index.result a.of is c.nearest-index.ensures.there c.nearest-index.ensures.absent in
       let x = ith_of has b a.below c.nearest-index.result a.of i in
-      comes_further (Guided k) has c.loop-node.self c.push.new.self whole c.loop-node.node c.of-node-in-Branch.result b w a c.nearest-index.result x c.cell.result c.push.ensures.depth c.push.ensures.step c.push.ensures.before
+      comes_further (Guided k) has c.loop-node.self c.push_fields.new.self whole c.loop-node.node c.of-node-in-Branch.result b w a c.nearest-index.result x c.cell.result c.push_fields.ensures.depth c.push_fields.ensures.step c.push_fields.ensures.before
       (guided_step has k b a.below c.nearest-index.result x a.of is c.nearest-index.ensures.there c.nearest-index.ensures.absent) (λ d j. c.cell.ensures.value d (subst (λ s. g.C.CellRead.has s (b.twigs + c.nearest-index.result) d) (sym c.loop-node.invariant.same) j)) c.of-node-in-Branch.ensures.back;
 }
 
