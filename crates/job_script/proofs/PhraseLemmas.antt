@@ -1,6 +1,13 @@
--- Tokens that lie inside the bytes, taken from the front of a list; the line that a script's refusal is of.
-use Rattle.std.proofs.Common.{◌≡◌, ◌∙◌, ℕ, suc, ◌<◌, List, [], ◌∷◌, length, slice_index_or, sym, ap, subst, arith}
+-- Tokens that lie inside the bytes, taken from the front of a list; the line that a script's refusal is of; a word alone.
+use Rattle.std.proofs.Common.{◌≡◌, ◌∙◌, ℕ, suc, ◌<◌, List, [], ◌∷◌, length, slice_index_or, sym, ap, subst, arith, Option, None, Result}
 use Rattle.std.specs.List.{All}
+use Rattle.std.specs.Option.{option_map, option_or}
+use Rattle.zone_model.specs.Names.{Name}
+use Rattle.zone_model.specs.Tokens.{Token as Word}
+use Rattle.job_model.specs.declared.Question.{Question}
+use Rattle.job_model.specs.declared.ScriptKind.{ScriptKind}
+use Rattle.job_model.specs.Phrases.{Phrase, Asks, lone_word, phrase_of}
+use Rattle.job_model.specs.Questions.{asked_of}
 use Rattle.zone_model.specs.Lines.{lines_of}
 use Rattle.zone_text.specs.Tokens.{IsPlaced}
 use Rattle.zone_text.specs.declared.token.Token.{Token}
@@ -27,3 +34,12 @@ has_first text some =
     let f = first_blank text some in
     let head : first_line text ≡ f.line = ap (λ (l : List (List ℕ)). slice_index_or l 0 []) f.lines in
     record { rest = f.rest; lines = f.lines ∙ ap (λ (l : List ℕ). l ∷ f.rest) (sym head) }
+
+-- a word that stands alone and asks no question
+pub lone_says : (origin : Name) (words : List Word) (w : Word) (behind : List Word) (said : Option Phrase) → words ≡ w ∷ behind → behind ≡ [] → None ≡ asked_of origin w behind → said ≡ lone_word w
+    → said ≡ phrase_of origin words
+unfolding phrase_of
+lone_says origin words w behind said are alone none is =
+    let asked : None ≡ asked_of origin w [] = none ∙ ap (asked_of origin w) alone in
+    let here : said ≡ phrase_of origin (w ∷ []) = is ∙ ap (λ (o : Option (Result Question ScriptKind)). option_or (option_map Asks o) (lone_word w)) asked in
+    subst (λ (l : List Word). said ≡ phrase_of origin l) (sym (are ∙ ap (λ (l : List Word). w ∷ l) alone)) here

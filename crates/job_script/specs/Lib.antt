@@ -1,3 +1,4 @@
+pub mod Asked
 pub mod Phrases
 pub mod Views
 pub mod Parts

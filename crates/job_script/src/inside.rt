@@ -1,6 +1,8 @@
 //! Lines inside a block.
 ghost use Rattle.std.specs.Prelude.{◌≡◌, ◌<◌, ◌≤◌, ◌+◌, ◌∷◌, ◌++◌, [], ℕ, List, length, map, Some, None, Option, Ok, Err, Result, IfSome};
 ghost use Rattle.std.specs.Option.{option_map};
+ghost use Rattle.std.specs.List.{All};
+ghost use Rattle.job_model.specs.Arguments.{addition_of, deletion_of};
 ghost use Rattle.job_model.specs.Jobs as jobs;
 ghost use Rattle.job_model.specs.Phrases as phrases;
 ghost use Rattle.zone_text.specs.Tokens.{IsPlaced, token_view};
@@ -35,7 +37,8 @@ pub fn inside(
 ) -> Result<(), JobRefusal>
     requires none { script.old.block ≡ None }
     requires placed { PhrasePlaced bytes.now phrase.now }
-    ensures { ScriptReads result (script_view script.new) (jobs.inside origin.now line (unfinished_view block) (phrase_view bytes.now phrase.now) (script_view script.old)) }
+    ensures { ScriptReads result (script_view script.new)
+        (jobs.inside origin.now line (unfinished_view block) (phrase_view origin.now bytes.now phrase.now) (script_view script.old)) }
 {
     match phrase {
         Phrase::Worker => Err(refused(block.start, ScriptKind::OpenBlock)),
@@ -51,22 +54,20 @@ pub fn inside(
         Phrase::Adds(_, _, _, _) | Phrase::Deletes(_, _)
             if block.operations.len() >= OPERATION_LIMIT => Err(too_many(line, 10000)),
         Phrase::Adds(owner, ttl, rtype, tokens) => {
-            match addition_of(alloc, bytes, origin, line, *owner, *ttl, *rtype, tokens) {
-                Ok(operation) => join(script, block, operation),
-                Err(refusal) => Err(refusal),
-            }
+            add(
+                script, alloc, bytes, origin, block, line, *owner, *ttl, *rtype, tokens,
+            )
         }
         Phrase::Deletes(owner, rest) => {
-            match deletion_of(alloc, bytes, origin, line, *owner, rest) {
-                Ok(operation) => join(script, block, operation),
-                Err(refusal) => Err(refusal),
-            }
+            delete(script, alloc, bytes, origin, block, line, *owner, rest)
         }
         Phrase::Ends(ending) => end_block(script, block, line, *ending),
     }
 }
 
-// A prerequisite joins a block that has no operation yet, and room for it.
+// A prerequisite joins a block that has no operation yet, and room for it. This function and the next two stand by
+// themselves, since a function clears the room for all names that it may read.
+#[inline(never)]
 fn need(
     script: &mut Script,
     bytes: &[u8],
@@ -95,6 +96,61 @@ fn need(
             script.block = Some(block);
             Ok(())
         }
+        Err(refusal) => Err(refusal),
+    }
+}
+
+// An addition joins a block that has room for it.
+#[inline(never)]
+fn add(
+    script: &mut Script,
+    alloc: Global,
+    bytes: &[u8],
+    origin: &Name,
+    block: Unfinished,
+    line: u32,
+    owner: Token,
+    ttl: Token,
+    rtype: Token,
+    tokens: &[Token],
+) -> Result<(), JobRefusal>
+    requires none { script.old.block ≡ None }
+    requires room { length block.operations.items < 10000 }
+    requires owner { IsPlaced bytes.now owner }
+    requires ttl { IsPlaced bytes.now ttl }
+    requires rtype { IsPlaced bytes.now rtype }
+    requires tokens { All (IsPlaced bytes.now) tokens.now }
+    ensures { ScriptReads result (script_view script.new) (jobs.joined line (unfinished_view block) (script_view script.old)
+        (addition_of origin.now line (token_view bytes.now owner) (token_view bytes.now ttl) (token_view bytes.now rtype)
+        (map (token_view bytes.now) tokens.now))) }
+{
+    match addition_of(alloc, bytes, origin, line, owner, ttl, rtype, tokens) {
+        Ok(operation) => join(script, block, operation),
+        Err(refusal) => Err(refusal),
+    }
+}
+
+// A deletion joins a block that has room for it.
+#[inline(never)]
+fn delete(
+    script: &mut Script,
+    alloc: Global,
+    bytes: &[u8],
+    origin: &Name,
+    block: Unfinished,
+    line: u32,
+    owner: Token,
+    rest: &[Token],
+) -> Result<(), JobRefusal>
+    requires none { script.old.block ≡ None }
+    requires room { length block.operations.items < 10000 }
+    requires owner { IsPlaced bytes.now owner }
+    requires rest { All (IsPlaced bytes.now) rest.now }
+    ensures { ScriptReads result (script_view script.new) (jobs.joined line (unfinished_view block) (script_view script.old)
+        (deletion_of origin.now line (token_view bytes.now owner) (map (token_view bytes.now) rest.now))) }
+{
+    match deletion_of(alloc, bytes, origin, line, owner, rest) {
+        Ok(operation) => join(script, block, operation),
         Err(refusal) => Err(refusal),
     }
 }

@@ -3,14 +3,17 @@ ghost use Rattle.std.specs.Prelude.{◌≡◌, ◌<◌, ◌≤◌, ◌+◌, ◌�
 ghost use Rattle.zone_model.specs.Names.{Name as Labels};
 ghost use Rattle.job_model.specs.Jobs as jobs;
 ghost use Rattle.job_model.specs.Phrases as phrases;
-ghost use Rattle.job_script.specs.Phrases.{phrase_view};
+ghost use Rattle.job_script.specs.Asked.{asked_view, AskedPlaced};
+ghost use Rattle.job_script.specs.Phrases.{phrase_view, PhrasePlaced};
 ghost use Rattle.job_script.specs.Scripts.{script_view, ScriptReads};
 
 use crate::commands::{Command, Worker};
 use crate::phrases::Phrase;
+use crate::questions::{Asked, question_of};
 use crate::refusal::{JobRefusal, refused, too_many};
 use crate::script::{Script, Unfinished};
-use job_model::{Question, ScriptKind, Weight};
+use dns_name::Name;
+use job_model::{ScriptKind, Weight};
 use std::alloc::Global;
 use std::mem;
 
@@ -22,18 +25,21 @@ const COMMAND_LIMIT: usize = 10000;
 pub fn outside(
     script: &mut Script,
     alloc: Global,
+    bytes: &[u8],
+    origin: &Name,
     line: u32,
     phrase: &Phrase,
 ) -> Result<(), JobRefusal>
-    requires { script.old.block ≡ None }
-    ensures { (bytes : List ℕ) (origin : Labels)
-        → ScriptReads result (script_view script.new) (jobs.outside origin line (phrase_view bytes phrase.now) (script_view script.old)) }
+    requires none { script.old.block ≡ None }
+    requires placed { PhrasePlaced bytes.now phrase.now }
+    ensures { ScriptReads result (script_view script.new)
+        (jobs.outside origin.now line (phrase_view origin.now bytes.now phrase.now) (script_view script.old)) }
 {
     match phrase {
         Phrase::Worker => begin_worker(script, alloc, line),
-        Phrase::Asks(asked) => add_question(script, line, *asked),
+        Phrase::Asks(asked) => add_question(script, bytes, origin, line, asked),
         Phrase::Holds => hold(script, line),
-        Phrase::AsksHeld(asked) => add_held_question(script, line, *asked),
+        Phrase::AsksHeld(asked) => add_held_question(script, bytes, origin, line, asked),
         Phrase::Releases => release(script, line),
         Phrase::Opens(weight) => open_block(script, alloc, line, *weight),
         Phrase::Compacts => compact(script, line),
@@ -65,10 +71,14 @@ fn begin_worker(script: &mut Script, alloc: Global, line: u32) -> Result<(), Job
 // A question joins the worker's commands.
 fn add_question(
     script: &mut Script,
+    bytes: &[u8],
+    origin: &Name,
     line: u32,
-    asked: Result<Question, ScriptKind>,
+    asked: &Asked,
 ) -> Result<(), JobRefusal>
-    ensures { (origin : Labels) → ScriptReads result (script_view script.new) (jobs.outside origin line (phrases.Asks asked) (script_view script.old)) }
+    requires { AskedPlaced bytes.now asked.now }
+    ensures { ScriptReads result (script_view script.new)
+        (jobs.outside origin.now line (phrases.Asks (asked_view origin.now bytes.now asked.now)) (script_view script.old)) }
 {
     if !script.begun {
         return Err(refused(line, ScriptKind::NoWorker));
@@ -76,7 +86,7 @@ fn add_question(
     if script.commands.len() >= COMMAND_LIMIT {
         return Err(too_many(line, 10000));
     }
-    match asked {
+    match question_of(bytes, origin, asked) {
         Ok(question) => {
             script.commands.push(Command::Ask(question))?;
             Ok(())
@@ -106,10 +116,14 @@ fn hold(script: &mut Script, line: u32) -> Result<(), JobRefusal>
 // A question to the snapshot joins the worker's commands.
 fn add_held_question(
     script: &mut Script,
+    bytes: &[u8],
+    origin: &Name,
     line: u32,
-    asked: Result<Question, ScriptKind>,
+    asked: &Asked,
 ) -> Result<(), JobRefusal>
-    ensures { (origin : Labels) → ScriptReads result (script_view script.new) (jobs.outside origin line (phrases.AsksHeld asked) (script_view script.old)) }
+    requires { AskedPlaced bytes.now asked.now }
+    ensures { ScriptReads result (script_view script.new)
+        (jobs.outside origin.now line (phrases.AsksHeld (asked_view origin.now bytes.now asked.now)) (script_view script.old)) }
 {
     if !script.begun {
         return Err(refused(line, ScriptKind::NoWorker));
@@ -120,7 +134,7 @@ fn add_held_question(
     if script.commands.len() >= COMMAND_LIMIT {
         return Err(too_many(line, 10000));
     }
-    match asked {
+    match question_of(bytes, origin, asked) {
         Ok(question) => {
             script.commands.push(Command::AskHeld(question))?;
             Ok(())

@@ -2,27 +2,27 @@
 ghost use Rattle.std.specs.Prelude.{◌≡◌, ◌<◌, ◌≤◌, ◌∷◌, [], ℕ, List, length, map, Some, None, Option, IfSome};
 ghost use Rattle.std.specs.Option.{option_map};
 ghost use Rattle.std.specs.List.{All};
+ghost use Rattle.zone_model.specs.Names.{Name as Labels};
 ghost use Rattle.job_model.specs.Phrases as phrases;
 ghost use Rattle.zone_text.specs.Tokens.{IsPlaced, token_view};
 ghost use Rattle.job_script.specs.Phrases.{phrase_view, PhrasePlaced};
 
-use crate::questions::asked_of;
+use crate::questions::{Asked, asked_of};
 use crate::words::says;
-use dns_name::Name;
-use job_model::{Ending, Question, ScriptKind, Weight};
+use job_model::{Ending, Weight};
 use zone_text::Token;
 
-/// What a line says, with the tokens of its arguments; of a question also what they say, or why they are refused.
+/// What a line says, with the tokens of its arguments.
 #[derive(Clone, Copy)]
 pub enum Phrase<'a> {
     /// The next worker's list begins.
     Worker,
     /// A question.
-    Asks(Result<Question, ScriptKind>),
+    Asks(Asked),
     /// A snapshot is taken.
     Holds,
     /// A question to the snapshot.
-    AsksHeld(Result<Question, ScriptKind>),
+    AsksHeld(Asked),
     /// The snapshot is given back.
     Releases,
     /// A block begins.
@@ -41,34 +41,41 @@ pub enum Phrase<'a> {
 
 fn lone_word<'a>(bytes: &[u8], word: Token) -> Option<Phrase<'a>>
     requires { IsPlaced bytes.now word }
-    ensures said { option_map (phrase_view bytes.now) result ≡ phrases.lone_word (token_view bytes.now word) }
+    ensures said { (origin : Labels) → option_map (phrase_view origin bytes.now) result ≡ phrases.lone_word (token_view bytes.now word) }
     ensures placed { IfSome result (PhrasePlaced bytes.now) }
 {
     if says(bytes, word, b"worker") {
-        Some(Phrase::Worker)
-    } else if says(bytes, word, b"hold") {
-        Some(Phrase::Holds)
-    } else if says(bytes, word, b"release") {
-        Some(Phrase::Releases)
-    } else if says(bytes, word, b"write") {
-        Some(Phrase::Opens(Weight::Light))
-    } else if says(bytes, word, b"update") {
-        Some(Phrase::Opens(Weight::Heavy))
-    } else if says(bytes, word, b"commit") {
-        Some(Phrase::Ends(Ending::Commit))
-    } else if says(bytes, word, b"rollback") {
-        Some(Phrase::Ends(Ending::Rollback))
-    } else if says(bytes, word, b"compact") {
-        Some(Phrase::Compacts)
-    } else {
-        None
+        return Some(Phrase::Worker);
     }
+    if says(bytes, word, b"hold") {
+        return Some(Phrase::Holds);
+    }
+    if says(bytes, word, b"release") {
+        return Some(Phrase::Releases);
+    }
+    if says(bytes, word, b"write") {
+        return Some(Phrase::Opens(Weight::Light));
+    }
+    if says(bytes, word, b"update") {
+        return Some(Phrase::Opens(Weight::Heavy));
+    }
+    if says(bytes, word, b"commit") {
+        return Some(Phrase::Ends(Ending::Commit));
+    }
+    if says(bytes, word, b"rollback") {
+        return Some(Phrase::Ends(Ending::Rollback));
+    }
+    if says(bytes, word, b"compact") {
+        return Some(Phrase::Compacts);
+    }
+    None
 }
 
 fn adds<'a>(bytes: &[u8], owner: Token, rest: &'a [Token]) -> Option<Phrase<'a>>
     requires owner { IsPlaced bytes.now owner }
     requires rest { All (IsPlaced bytes.now) rest.now }
-    ensures said { option_map (phrase_view bytes.now) result ≡ phrases.adds (token_view bytes.now owner) (map (token_view bytes.now) rest.now) }
+    ensures said { (origin : Labels) → option_map (phrase_view origin bytes.now) result
+        ≡ phrases.adds (token_view bytes.now owner) (map (token_view bytes.now) rest.now) }
     ensures placed { IfSome result (PhrasePlaced bytes.now) }
 {
     let Some((ttl, behind_ttl)) = rest.split_first() else {
@@ -87,7 +94,8 @@ fn adds<'a>(bytes: &[u8], owner: Token, rest: &'a [Token]) -> Option<Phrase<'a>>
 fn needs<'a>(bytes: &[u8], wanted: bool, owner: Token, rest: &[Token]) -> Option<Phrase<'a>>
     requires owner { IsPlaced bytes.now owner }
     requires rest { All (IsPlaced bytes.now) rest.now }
-    ensures said { option_map (phrase_view bytes.now) result ≡ phrases.needs wanted (token_view bytes.now owner) (map (token_view bytes.now) rest.now) }
+    ensures said { (origin : Labels) → option_map (phrase_view origin bytes.now) result
+        ≡ phrases.needs wanted (token_view bytes.now owner) (map (token_view bytes.now) rest.now) }
     ensures placed { IfSome result (PhrasePlaced bytes.now) }
 {
     let Some((rtype, behind)) = rest.split_first() else {
@@ -101,18 +109,12 @@ fn needs<'a>(bytes: &[u8], wanted: bool, owner: Token, rest: &[Token]) -> Option
 }
 
 // What a word that asks no question says with an argument and what stands behind that.
-fn argued<'a>(
-    bytes: &[u8],
-    origin: &Name,
-    word: Token,
-    first: Token,
-    rest: &'a [Token],
-) -> Option<Phrase<'a>>
+fn argued<'a>(bytes: &[u8], word: Token, first: Token, rest: &'a [Token]) -> Option<Phrase<'a>>
     requires word { IsPlaced bytes.now word }
     requires first { IsPlaced bytes.now first }
     requires rest { All (IsPlaced bytes.now) rest.now }
-    ensures said { option_map (phrase_view bytes.now) result
-        ≡ phrases.argued origin.now (token_view bytes.now word) (token_view bytes.now first) (map (token_view bytes.now) rest.now) }
+    ensures said { (origin : Labels) → option_map (phrase_view origin bytes.now) result
+        ≡ phrases.argued origin (token_view bytes.now word) (token_view bytes.now first) (map (token_view bytes.now) rest.now) }
     ensures placed { IfSome result (PhrasePlaced bytes.now) }
 {
     if says(bytes, word, b"add") {
@@ -122,7 +124,7 @@ fn argued<'a>(
         return Some(Phrase::Deletes(first, rest));
     }
     if says(bytes, word, b"at") {
-        return match asked_of(bytes, origin, first, rest) {
+        return match asked_of(bytes, first, rest) {
             Some(asked) => Some(Phrase::AsksHeld(asked)),
             None => None,
         };
@@ -136,19 +138,19 @@ fn argued<'a>(
     None
 }
 
-/// What tokens say, where names are relative to the origin; None where they are no command.
+/// What tokens say; None where they are no command.
 #[tactic(auto, unfolding(job_model::specs::Phrases::phrase_of))]
-pub fn phrase_of<'a>(bytes: &[u8], origin: &Name, tokens: &'a [Token]) -> Option<Phrase<'a>>
+pub fn phrase_of<'a>(bytes: &[u8], tokens: &'a [Token]) -> Option<Phrase<'a>>
     requires { All (IsPlaced bytes.now) tokens.now }
-    ensures said { option_map (phrase_view bytes.now) result ≡ phrases.phrase_of origin.now (map (token_view bytes.now) tokens.now) }
+    ensures said { (origin : Labels) → option_map (phrase_view origin bytes.now) result ≡ phrases.phrase_of origin (map (token_view bytes.now) tokens.now) }
     ensures placed { IfSome result (PhrasePlaced bytes.now) }
 {
     let (word, arguments) = tokens.split_first()?;
-    if let Some(asked) = asked_of(bytes, origin, *word, arguments) {
+    if let Some(asked) = asked_of(bytes, *word, arguments) {
         return Some(Phrase::Asks(asked));
     }
     match arguments.split_first() {
-        Some((first, rest)) => argued(bytes, origin, *word, *first, rest),
+        Some((first, rest)) => argued(bytes, *word, *first, rest),
         None => lone_word(bytes, *word),
     }
 }

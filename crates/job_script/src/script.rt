@@ -2,6 +2,7 @@
 ghost use Rattle.std.specs.Prelude.{◌≡◌, ◌<◌, ◌≤◌, ◌+◌, ◌^◌, ◌∷◌, ◌++◌, [], ℕ, List, length, IfOk, OnOk, map, vec_len, Some, None, Option, drop, Ok, Err, Result, false};
 ghost use Rattle.std.specs.Option.{option_map};
 ghost use Rattle.std.specs.List.{All, AllByRecursion};
+ghost use Rattle.zone_model.specs.Names.{Name as Labels};
 ghost use Rattle.job_model.specs.Commands.{InTurn, NeedsNoSnapshot};
 ghost use Rattle.job_model.specs.Jobs as jobs;
 ghost use Rattle.zone_model.specs.Lines.{lines_of};
@@ -45,7 +46,7 @@ pub struct Script {
 
 // Whether a line may say this at all. Where any worker may run any command no worker begins, and there are no snapshots.
 fn may_stand(listing: Listing, phrase: &Phrase) -> bool
-    ensures { (bytes : List ℕ) → result ≡ jobs.may_stand listing (phrase_view bytes phrase.now) }
+    ensures { (origin : Labels) (bytes : List ℕ) → result ≡ jobs.may_stand listing (phrase_view origin bytes phrase.now) }
 {
     match phrase {
         Phrase::Worker | Phrase::Holds | Phrase::AsksHeld(_) | Phrase::Releases => {
@@ -77,14 +78,14 @@ fn take_tokens(
     if tokens.is_empty() {
         return Ok(());
     }
-    let Some(phrase) = phrase_of(bytes, origin, tokens) else {
+    let Some(phrase) = phrase_of(bytes, tokens) else {
         return Err(refused(line, ScriptKind::BadCommand));
     };
     if !may_stand(script.listing, &phrase) {
         return Err(refused(line, ScriptKind::BadCommand));
     }
     match script.block.take() {
-        None => outside(script, alloc, line, &phrase),
+        None => outside(script, alloc, bytes, origin, line, &phrase),
         Some(block) => inside(script, alloc, bytes, origin, block, line, &phrase),
     }
 }

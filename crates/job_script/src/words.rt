@@ -15,7 +15,7 @@ pub fn says(bytes: &[u8], token: Token, word: &[u8]) -> bool
     requires { IsPlaced bytes.now token }
     ensures { result ≡ words.says (token_view bytes.now token) word.now }
 {
-    if token.quoted {
+    if token.quoted || (token.upto - token.from) as usize != word.len() {
         return false;
     }
     token.text(bytes) == word
