@@ -22,8 +22,8 @@ use Rattle.trie_write.proofs.RootLaws.{stands_later, standing_later}
 use Rattle.shared_cells.specs.Views.{words_of, kept_in}
 use Rattle.shared_cells.specs.Cells.{Cells, cells_of, given_chunks, kept_references, HasCell, with_words}
 use Rattle.shared_index.specs.declared.change.Change.{Change}
-use Rattle.shared_index.specs.declared.change.Unchanged.{Unchanged}
-use Rattle.shared_index.specs.declared.change.Unchanged.TheVariants.{Refused, Full}
+use Rattle.trie_write.specs.declared.refusal.Unchanged.{Unchanged}
+use Rattle.trie_write.specs.declared.refusal.Unchanged.TheVariants.{Refused, Full}
 use Rattle.shared_index.specs.Operations.{operated}
 use Rattle.shared_index.specs.Passes.{Known}
 use Rattle.shared_index.specs.Turns.{Agrees, cells_with, row_for, cell_counts, current_image, is_immutable}

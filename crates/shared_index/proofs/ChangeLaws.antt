@@ -1,5 +1,5 @@
 -- A changed root stands for what the operation makes of the version.
-use Rattle.std.proofs.Common.{◌≡◌, ◌↔◌, ◌⊎◌, ℕ, Bool, List, ◌∷◌, ◌++◌, Option, Some, None, Result, Ok, Err, inl, inr, refl, sym, subst, slice_index}
+use Rattle.std.proofs.Common.{◌≡◌, ◌⊎◌, ℕ, Bool, List, ◌∷◌, ◌++◌, Option, Some, None, inl, inr, sym, subst, slice_index}
 use Rattle.packed_node.specs.declared.Cell.{Cell}
 use Rattle.zone_model.specs.Keys.{Leads}
 use Rattle.trie_model.specs.Keys.{Entry, InList, Rises}
@@ -10,14 +10,6 @@ use Rattle.trie_read.specs.Reads.{EachTells}
 use Rattle.trie_write.specs.Deletions.{Deleted}
 use Rattle.trie_write.specs.Exchanges.{Exchanged}
 use Rattle.trie_write.specs.Standing.{Standing}
-use Rattle.trie_write.specs.declared.insertion.InsertRefusal.{InsertRefusal}
-use Rattle.trie_write.specs.declared.insertion.InsertRefusal.TheVariants as insertion
-use Rattle.trie_write.specs.declared.insertion.InsertRefusal.TheVariants.{Exists}
-use Rattle.trie_write.specs.declared.replacement.ChangeRefusal.{ChangeRefusal}
-use Rattle.trie_write.specs.declared.replacement.ChangeRefusal.TheVariants as replacement
-use Rattle.trie_write.specs.declared.replacement.ChangeRefusal.TheVariants.{NotFound}
-use Rattle.shared_index.specs.declared.change.Unchanged.{Unchanged}
-use Rattle.shared_index.specs.declared.change.Unchanged.TheVariants.{Refused, Full}
 use Rattle.trie_write.proofs.RootLaws.{tells_more}
 use Rattle.chunk_usage.specs.Ledger.{Ledger, is_used}
 use Rattle.shared_index.specs.Operations.{with_entry, without}
@@ -61,31 +53,3 @@ module _ (has new : ℕ → Cell → Type 0) (u v : Ledger) (root next : Option 
   pub rooted_deleted : (key : List ℕ) → (made : List Entry) × Deleted key es made × NowStands made → IsRooted new v next (without es key)
   rooted_deleted key made = subst (IsRooted new v next) (deleted_is key es made.0 (standing_rises has (is_used u) (λ k. slice_index u.live k) root es is.stands) made.1)
       (record { stands = made.2; tells = tells_fewer key es made.0 is.tells made.1 })
-
--- how the trie's crate names the same answers
-
-abbrev pub insert_outcome : Result (Option ℕ) InsertRefusal → Result (Option ℕ) Unchanged
-insert_outcome (Ok root) = Ok root
-insert_outcome (Err Exists) = Err Refused
-insert_outcome (Err (insertion.Full f)) = Err (Full f)
-
-abbrev pub change_outcome : Result (Option ℕ) ChangeRefusal → Result (Option ℕ) Unchanged
-change_outcome (Ok root) = Ok root
-change_outcome (Err NotFound) = Err Refused
-change_outcome (Err (replacement.Full f)) = Err (Full f)
-
-insert_refused : (r : Result (Option ℕ) InsertRefusal) → (insert_outcome r ≡ Err Refused) ↔ (r ≡ Err Exists)
-insert_refused (Ok root) = (λ e. cc, λ e. cc)
-insert_refused (Err Exists) = (λ e. refl, λ e. refl)
-insert_refused (Err (insertion.Full f)) = (λ e. cc, λ e. cc)
-
-change_refused : (r : Result (Option ℕ) ChangeRefusal) → (change_outcome r ≡ Err Refused) ↔ (r ≡ Err NotFound)
-change_refused (Ok root) = (λ e. cc, λ e. cc)
-change_refused (Err NotFound) = (λ e. refl, λ e. refl)
-change_refused (Err (replacement.Full f)) = (λ e. cc, λ e. cc)
-
-pub insert_refused_as : {P : Type 0} (r s : Result (Option ℕ) InsertRefusal) → r ≡ s → (r ≡ Err Exists) ↔ P → (insert_outcome s ≡ Err Refused) ↔ P
-insert_refused_as {P} r s is h = subst (λ (x : Result (Option ℕ) InsertRefusal). (insert_outcome x ≡ Err Refused) ↔ P) is (let n = insert_refused r in (λ e. h.0 (n.0 e), λ p. n.1 (h.1 p)))
-
-pub change_refused_as : {P : Type 0} (r s : Result (Option ℕ) ChangeRefusal) → r ≡ s → (r ≡ Err NotFound) ↔ P → (change_outcome s ≡ Err Refused) ↔ P
-change_refused_as {P} r s is h = subst (λ (x : Result (Option ℕ) ChangeRefusal). (change_outcome x ≡ Err Refused) ↔ P) is (let n = change_refused r in (λ e. h.0 (n.0 e), λ p. n.1 (h.1 p)))

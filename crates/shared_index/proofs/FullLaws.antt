@@ -24,7 +24,7 @@ use Rattle.shared_cells.specs.Views.{kept_in}
 use Rattle.shared_cells.specs.Cells.{HasCell}
 use Rattle.shared_index.specs.declared.change.Change.{Change}
 use Rattle.shared_index.specs.declared.change.Change.TheVariants as change
-use Rattle.shared_index.specs.declared.change.Unchanged.TheVariants as unchanged
+use Rattle.trie_write.specs.declared.refusal.Unchanged.TheVariants as unchanged
 use Rattle.shared_index.specs.declared.desk.Draft.{Draft}
 use Rattle.shared_index.specs.declared.refusal.Full.{Full}
 use Rattle.shared_index.specs.declared.meaning.Operation.{Operation}

@@ -16,8 +16,8 @@ use Rattle.shared_cells.specs.declared.view.Entry.{Entry as Commit}
 use Rattle.shared_cells.specs.Cells.{Cells, HasCell}
 use Rattle.shared_cells.specs.Views.{words_of}
 use Rattle.shared_index.specs.declared.change.Change.{Change}
-use Rattle.shared_index.specs.declared.change.Unchanged.{Unchanged}
-use Rattle.shared_index.specs.declared.change.Unchanged.TheVariants as unchanged
+use Rattle.trie_write.specs.declared.refusal.Unchanged.{Unchanged}
+use Rattle.trie_write.specs.declared.refusal.Unchanged.TheVariants as unchanged
 use Rattle.shared_index.specs.declared.desk.Draft.{Draft}
 use Rattle.shared_index.specs.declared.meaning.Operation.{Operation}
 use Rattle.shared_index.specs.Bounds.{BoundsDraft, HasRoom, IsCramped, WhereRoomy}

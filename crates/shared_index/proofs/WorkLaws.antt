@@ -13,9 +13,9 @@ use Rattle.shared_cells.specs.History.{entry_of}
 use Rattle.shared_cells.specs.Views.{words_of}
 use Rattle.shared_cells.specs.Steps.{IsNamed}
 use Rattle.shared_index.specs.declared.change.Change.{Change}
-use Rattle.shared_index.specs.declared.change.Unchanged.{Unchanged}
-use Rattle.shared_index.specs.declared.change.Unchanged.TheVariants as unchanged
-use Rattle.shared_index.specs.declared.change.Unchanged.TheVariants.{Refused}
+use Rattle.trie_write.specs.declared.refusal.Unchanged.{Unchanged}
+use Rattle.trie_write.specs.declared.refusal.Unchanged.TheVariants as unchanged
+use Rattle.trie_write.specs.declared.refusal.Unchanged.TheVariants.{Refused}
 use Rattle.shared_index.specs.declared.desk.Draft.{Draft}
 use Rattle.chunk_usage.specs.Keeping.{freed, kept_versions, narrowed}
 use Rattle.shared_index.specs.declared.kept.Versions.{Versions}

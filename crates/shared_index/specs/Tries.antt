@@ -8,8 +8,8 @@ use Rattle.trie_write.specs.Roots.{OnPath, OnBranches}
 use Rattle.shared_cells.specs.Views.{words_of}
 use Rattle.shared_cells.specs.Cells.{HasCell, with_words}
 use Rattle.shared_index.specs.declared.change.Change.{Change}
-use Rattle.shared_index.specs.declared.change.Unchanged.{Unchanged}
-use Rattle.shared_index.specs.declared.change.Unchanged.TheVariants.{Refused, Full}
+use Rattle.trie_write.specs.declared.refusal.Unchanged.{Unchanged}
+use Rattle.trie_write.specs.declared.refusal.Unchanged.TheVariants.{Refused, Full}
 use Rattle.shared_index.specs.Operations.{operated}
 use Rattle.shared_index.specs.Passes.{Known}
 use Rattle.shared_index.specs.Turns.{cells_with}

@@ -6,11 +6,12 @@ ghost use Rattle.shared_index.specs.Bases.{StandsFor};
 ghost use Rattle.shared_index.specs.Changes.{LeadsItem};
 ghost use Rattle.shared_index.specs.Tries.{Tried};
 
-use crate::change::{Change, Unchanged, change_trie};
+use crate::change::{Change, change_trie};
 use crate::meaning::{Law, Meaning, Operations, Version};
 use chunk_usage::Usage;
 use packed_node::Ref;
 use shared_cells::{JoinedSeat, Lent, Shared};
+use trie_write::Unchanged;
 
 /// Tries an operation on the trie of a root, in cells whose seat is named.
 pub(crate) fn attempt<L: Law, B: Lent<Version, Operations>>(

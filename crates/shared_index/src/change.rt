@@ -2,23 +2,20 @@
 //!
 //! Nothing else in this crate names those calls.
 ghost use Rattle.std.specs.Prelude.{◌≡◌, ◌↔◌, ◌+◌, ◌≤◌, ℕ, List, Contains, IfOk, IfErr, Err};
-ghost use Rattle.trie_model.specs.Extents.{cells_in};
-ghost use Rattle.trie_model.specs.Keys.{Entry, InList};
-ghost use Rattle.zone_model.specs.Keys.{Leads};
+ghost use Rattle.trie_model.specs.Keys.{Entry};
 ghost use Rattle.chunk_usage.specs.Handing.{Lacks, spent};
 ghost use Rattle.chunk_usage.specs.Rooms.{account_of};
-ghost use Rattle.trie_write.specs.Paths.{insert_asks, replace_asks, delete_asks};
 ghost use Rattle.trie_write.specs.Roots.{TwigsOnPath, BranchesOnPath};
 ghost use Rattle.trie_write.specs.Spaces.{Ready, Fenced, Unchanged as Same};
-ghost use Rattle.shared_index.specs.Operations.{operated, with_entry, without};
+ghost use Rattle.shared_index.specs.Operations.{operated};
 ghost use Rattle.shared_index.specs.Bases.{IsRooted};
 ghost use Rattle.shared_index.specs.Changes.{operation_of, key_of, written_by, asked_by, LeadsItem, IsRefused};
 
 use chunk_cells::CellWrite;
-use chunk_usage::{Full, Usage};
+use chunk_usage::Usage;
 use packed_node::Ref;
 use shift_key::Key;
-use trie_write::{ChangeRefusal, InsertRefusal};
+use trie_write::{Unchanged, delete, insert, replace};
 
 /// An operation of a transaction, with what its call was given.
 #[derive(Clone, Copy, Drop)]
@@ -26,15 +23,6 @@ pub enum Change<'a> {
     Insert(&'a Key, &'a [u8]),
     Replace(&'a Key, &'a [u8]),
     Delete(&'a Key),
-}
-
-/// Why a working set isn't changed.
-#[derive(Clone, Copy)]
-pub(crate) enum Unchanged {
-    /// The name is there already, or isn't there.
-    Refused,
-    /// The bump chunk and the free chunks have too few cells.
-    Full(Full),
 }
 
 /// The root of the trie with an operation done. Where it is not, the root stands as before.
@@ -54,8 +42,8 @@ pub(crate) fn change_trie<C: CellWrite>(
     ensures stays { IfErr result (λ _. (es : List Entry) → IsRooted (C.has cells.old) usage.old root es → IsRooted (C.has cells.new) usage.new root es) }
     ensures unchanged { IfErr result (λ _. Same C.has account_of cells.old usage.old cells.new usage.new) }
     ensures full { (f : _) → result ≡ Err (Unchanged.Full f) → Lacks usage.new f }
-    ensures asked { (f : _) → result ≡ Err (Unchanged.Full f) → (branches : List ℕ) → BranchesOnPath C.has account_of cells.old usage.old root (key_of change.now) branches
-        → Contains (asked_by change.now branches) f.needed }
+    ensures asked { (f : _) → result ≡ Err (Unchanged.Full f) → (branches : List ℕ)
+        → BranchesOnPath C.has account_of cells.old usage.old root (key_of change.now) branches → Contains (asked_by change.now branches) f.needed }
     ensures spends { (n : ℕ) → TwigsOnPath C.has account_of cells.old usage.old root (key_of change.now) n
         → spent usage.new ≤ spent usage.old + (written_by change.now + n) }
     ensures frame { Fenced C.has C.kept C.given account_of cells.old usage.old cells.new usage.new }
@@ -65,99 +53,5 @@ pub(crate) fn change_trie<C: CellWrite>(
         Change::Insert(key, item) => insert(cells, usage, root, key, item),
         Change::Replace(key, item) => replace(cells, usage, root, key, item),
         Change::Delete(key) => delete(cells, usage, root, key),
-    }
-}
-
-/// The root of the trie with a name put in.
-fn insert<C: CellWrite>(
-    cells: &mut C,
-    usage: &mut Usage,
-    root: Option<Ref>,
-    key: &Key,
-    item: &[u8],
-) -> Result<Option<Ref>, Unchanged>
-    requires rooted { (es : List Entry) × IsRooted (C.has cells.old) usage.old root es }
-    requires leads { Leads key.now item.now }
-    requires ready { Ready C.kept C.given account_of cells.old usage.old }
-    ensures done { IfOk result (λ new. (es : List Entry) → IsRooted (C.has cells.old) usage.old root es
-        → IsRooted (C.has cells.new) usage.new new (with_entry es (record { key = key.now; item = item.now }))) }
-    ensures refused { (es : List Entry) → IsRooted (C.has cells.old) usage.old root es → (result ≡ Err Unchanged.Refused) ↔ ((x : Entry) × InList x es × (x.key ≡ key.now)) }
-    ensures denied { result ≡ Err Unchanged.Refused → usage.new ≡ usage.old }
-    ensures stays { IfErr result (λ _. (es : List Entry) → IsRooted (C.has cells.old) usage.old root es → IsRooted (C.has cells.new) usage.new root es) }
-    ensures unchanged { IfErr result (λ _. Same C.has account_of cells.old usage.old cells.new usage.new) }
-    ensures full { (f : _) → result ≡ Err (Unchanged.Full f) → Lacks usage.new f }
-    ensures asked { (f : _) → result ≡ Err (Unchanged.Full f) → (branches : List ℕ) → BranchesOnPath C.has account_of cells.old usage.old root key.now branches
-        → Contains (insert_asks item.now branches) f.needed }
-    ensures spends { (n : ℕ) → TwigsOnPath C.has account_of cells.old usage.old root key.now n
-        → spent usage.new ≤ spent usage.old + (3 + cells_in item.now + n) }
-    ensures frame { Fenced C.has C.kept C.given account_of cells.old usage.old cells.new usage.new }
-    ensures ready { Ready C.kept C.given account_of cells.new usage.new }
-{
-    match trie_write::insert(cells, usage, root, key, item) {
-        Ok(new) => Ok(new),
-        Err(InsertRefusal::Exists) => Err(Unchanged::Refused),
-        Err(InsertRefusal::Full(full)) => Err(Unchanged::Full(full)),
-    }
-}
-
-/// The root of the trie with a name's item exchanged.
-fn replace<C: CellWrite>(
-    cells: &mut C,
-    usage: &mut Usage,
-    root: Option<Ref>,
-    key: &Key,
-    item: &[u8],
-) -> Result<Option<Ref>, Unchanged>
-    requires rooted { (es : List Entry) × IsRooted (C.has cells.old) usage.old root es }
-    requires leads { Leads key.now item.now }
-    requires ready { Ready C.kept C.given account_of cells.old usage.old }
-    ensures done { IfOk result (λ new. (es : List Entry) → IsRooted (C.has cells.old) usage.old root es
-        → IsRooted (C.has cells.new) usage.new new (with_entry es (record { key = key.now; item = item.now }))) }
-    ensures refused { (es : List Entry) → IsRooted (C.has cells.old) usage.old root es → (result ≡ Err Unchanged.Refused) ↔ ((x : Entry) → InList x es → x.key ≡ key.now → ⊥) }
-    ensures denied { result ≡ Err Unchanged.Refused → usage.new ≡ usage.old }
-    ensures stays { IfErr result (λ _. (es : List Entry) → IsRooted (C.has cells.old) usage.old root es → IsRooted (C.has cells.new) usage.new root es) }
-    ensures unchanged { IfErr result (λ _. Same C.has account_of cells.old usage.old cells.new usage.new) }
-    ensures full { (f : _) → result ≡ Err (Unchanged.Full f) → Lacks usage.new f }
-    ensures asked { (f : _) → result ≡ Err (Unchanged.Full f) → (branches : List ℕ) → BranchesOnPath C.has account_of cells.old usage.old root key.now branches
-        → Contains (replace_asks item.now branches) f.needed }
-    ensures spends { (n : ℕ) → TwigsOnPath C.has account_of cells.old usage.old root key.now n
-        → spent usage.new ≤ spent usage.old + (3 + cells_in item.now + n) }
-    ensures frame { Fenced C.has C.kept C.given account_of cells.old usage.old cells.new usage.new }
-    ensures ready { Ready C.kept C.given account_of cells.new usage.new }
-{
-    match trie_write::replace(cells, usage, root, key, item) {
-        Ok(new) => Ok(new),
-        Err(ChangeRefusal::NotFound) => Err(Unchanged::Refused),
-        Err(ChangeRefusal::Full(full)) => Err(Unchanged::Full(full)),
-    }
-}
-
-/// The root of the trie with a name taken out.
-fn delete<C: CellWrite>(
-    cells: &mut C,
-    usage: &mut Usage,
-    root: Option<Ref>,
-    key: &Key,
-) -> Result<Option<Ref>, Unchanged>
-    requires rooted { (es : List Entry) × IsRooted (C.has cells.old) usage.old root es }
-    requires ready { Ready C.kept C.given account_of cells.old usage.old }
-    ensures done { IfOk result (λ new. (es : List Entry) → IsRooted (C.has cells.old) usage.old root es
-        → IsRooted (C.has cells.new) usage.new new (without es key.now)) }
-    ensures refused { (es : List Entry) → IsRooted (C.has cells.old) usage.old root es → (result ≡ Err Unchanged.Refused) ↔ ((x : Entry) → InList x es → x.key ≡ key.now → ⊥) }
-    ensures denied { result ≡ Err Unchanged.Refused → usage.new ≡ usage.old }
-    ensures stays { IfErr result (λ _. (es : List Entry) → IsRooted (C.has cells.old) usage.old root es → IsRooted (C.has cells.new) usage.new root es) }
-    ensures unchanged { IfErr result (λ _. Same C.has account_of cells.old usage.old cells.new usage.new) }
-    ensures full { (f : _) → result ≡ Err (Unchanged.Full f) → Lacks usage.new f }
-    ensures asked { (f : _) → result ≡ Err (Unchanged.Full f) → (branches : List ℕ) → BranchesOnPath C.has account_of cells.old usage.old root key.now branches
-        → Contains (delete_asks branches) f.needed }
-    ensures spends { (n : ℕ) → TwigsOnPath C.has account_of cells.old usage.old root key.now n
-        → spent usage.new ≤ spent usage.old + (1 + n) }
-    ensures frame { Fenced C.has C.kept C.given account_of cells.old usage.old cells.new usage.new }
-    ensures ready { Ready C.kept C.given account_of cells.new usage.new }
-{
-    match trie_write::delete(cells, usage, root, key) {
-        Ok(new) => Ok(new),
-        Err(ChangeRefusal::NotFound) => Err(Unchanged::Refused),
-        Err(ChangeRefusal::Full(full)) => Err(Unchanged::Full(full)),
     }
 }

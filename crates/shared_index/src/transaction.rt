@@ -8,7 +8,7 @@ ghost use Rattle.std.proofs.Props.{props};
 ghost use Rattle.chunk_usage.specs.Keeping.{full};
 ghost use Rattle.shared_index.specs.Bounds.{HasRoom, IsCramped};
 
-use crate::change::{Change, Unchanged};
+use crate::change::Change;
 use crate::commit::Receipt;
 use crate::desk::{Desk, Draft};
 use crate::index::{Index, Turn};
@@ -21,6 +21,7 @@ use shared_cells::{PassSeat, Shared};
 use shift_key::Key;
 use std::marker::PhantomData;
 use std::sync::{MutexGuard, Wait};
+use trie_write::Unchanged;
 
 /// Where a transaction keeps the lock and its working set: a local of the caller, which outlives the transaction.
 #[derive(Drop)]

@@ -11,7 +11,7 @@ ghost use Rattle.shared_index.specs.declared.kept.Versions.{Versions};
 ghost use Rattle.shared_index.specs.Tries.{Spares, Tried};
 
 use crate::attempt::attempt;
-use crate::change::{Change, Unchanged};
+use crate::change::Change;
 use crate::desk::Draft;
 use crate::meaning::{Law, Meaning, Operations, Version};
 use crate::recycling::free_unreached;
@@ -19,6 +19,7 @@ use crate::rounds::make_round;
 use packed_node::Ref;
 use shared_cells::Shared;
 use std::marker::Brand;
+use trie_write::Unchanged;
 
 impl Draft {
     ghost use Rattle.shared_index.specs.Bounds.{HasRoom, IsCramped};

@@ -16,6 +16,7 @@ pub mod PutLaws
 pub mod PathLaws
 pub mod AskLaws
 pub mod ChangeLaws
+pub mod RefusalLaws
 pub mod ReplaceLaws
 pub mod WithLaws
 pub mod WithoutLaws

@@ -10,15 +10,15 @@ ghost use Rattle.trie_write.specs.Asks.{HasKey, KeyIsThere};
 ghost use Rattle.trie_write.specs.Deletions.{Deleted, DropAsks, DropAsked};
 ghost use Rattle.trie_write.specs.Paths.{twigs_on_path, branches_on_path, delete_asks, to_copy};
 ghost use Rattle.trie_write.specs.Roots.{TwigsOnPath, BranchesOnPath, ToCopy, IsOutside, Beyond};
-ghost use Rattle.trie_write.specs.Spaces.{Ready, Fenced, Unchanged, Refused};
+ghost use Rattle.trie_write.specs.Spaces.{Ready, Fenced, Unchanged as Same, Refused};
 ghost use Rattle.trie_write.specs.Standing.{HasTrie};
 
 use super::change::{Span, item_below, let_go, put_change};
 use super::descend::{Descent, last_descent};
 use super::has_key::root_with;
 use super::paths::Trace;
+use super::refusal::Unchanged;
 use super::remove_leaf::without_leaf;
-use super::replacement::ChangeRefusal;
 use chunk_cells::CellWrite;
 use chunk_usage::{Full, Path, Space};
 use packed_node::Ref;
@@ -100,20 +100,20 @@ pub fn delete<C: CellWrite, U: Space>(
     usage: &mut U,
     root: Option<Ref>,
     key: &Key,
-) -> Result<Option<Ref>, ChangeRefusal>
+) -> Result<Option<Ref>, Unchanged>
     requires stands { (version : List Entry) × HasTrie C.has U.account cells.old usage.old root version × EachTells Leads version }
     requires ready { Ready C.kept C.given U.account cells.old usage.old }
     ensures deleted { IfOk result (λ new. (version : List Entry) → HasTrie C.has U.account cells.old usage.old root version → EachTells Leads version
         → (next : List Entry) × Deleted key.now version next × HasTrie C.has U.account cells.new usage.new new next) }
     ensures absent { (version : List Entry) → HasTrie C.has U.account cells.old usage.old root version → EachTells Leads version
-        → (result ≡ Err ChangeRefusal.NotFound) ↔ ((x : Entry) → InList x version → x.key ≡ key.now → ⊥) }
+        → (result ≡ Err Unchanged.Refused) ↔ ((x : Entry) → InList x version → x.key ≡ key.now → ⊥) }
     ensures refused { IfErr result (λ _. (version : List Entry) → HasTrie C.has U.account cells.old usage.old root version
         → HasTrie C.has U.account cells.new usage.new root version) }
-    ensures unchanged { IfErr result (λ _. Unchanged C.has U.account cells.old usage.old cells.new usage.new) }
+    ensures unchanged { IfErr result (λ _. Same C.has U.account cells.old usage.old cells.new usage.new) }
     ensures outside { (q : ℕ) (c : Cell) → Beyond C.has U.account cells.old usage.old root q → C.has cells.old q c → C.has cells.new q c }
-    ensures denied { result ≡ Err ChangeRefusal.NotFound → usage.new ≡ usage.old }
-    ensures full { (f : _) → result ≡ Err (ChangeRefusal.Full f) → U.lacks usage.new f }
-    ensures asked { (f : _) → result ≡ Err (ChangeRefusal.Full f) → (branches : List ℕ)
+    ensures denied { result ≡ Err Unchanged.Refused → usage.new ≡ usage.old }
+    ensures full { (f : _) → result ≡ Err (Unchanged.Full f) → U.lacks usage.new f }
+    ensures asked { (f : _) → result ≡ Err (Unchanged.Full f) → (branches : List ℕ)
         → BranchesOnPath C.has U.account cells.old usage.old root key.now branches → Contains (delete_asks branches) f.needed }
     ensures spends { (n : ℕ) → TwigsOnPath C.has U.account cells.old usage.old root key.now n
         → (U.account usage.new).spent ≤ (U.account usage.old).spent + (1 + n) }
@@ -123,10 +123,7 @@ pub fn delete<C: CellWrite, U: Space>(
     ensures ready { Ready C.kept C.given U.account cells.new usage.new }
 {
     match root_with(cells, root, key) {
-        None => Err(ChangeRefusal::NotFound),
-        Some(at) => match delete_item(cells, usage, at, key) {
-            Ok(new) => Ok(new),
-            Err(full) => Err(ChangeRefusal::Full(full)),
-        },
+        None => Err(Unchanged::Refused),
+        Some(at) => Ok(delete_item(cells, usage, at, key)?),
     }
 }

@@ -13,7 +13,7 @@ ghost use Rattle.trie_write.specs.Paths.{twigs_on_path, branches_on_path, insert
 ghost use Rattle.trie_write.specs.Laid.{extent_sizes};
 ghost use Rattle.trie_write.specs.Puts.{IsTaken};
 ghost use Rattle.trie_write.specs.Roots.{TwigsOnPath, BranchesOnPath, ToCopy, IsOutside, Beyond};
-ghost use Rattle.trie_write.specs.Spaces.{Ready, Frame, Fenced, Unchanged, Refused};
+ghost use Rattle.trie_write.specs.Spaces.{Ready, Frame, Fenced, Unchanged as Same, Refused};
 ghost use Rattle.trie_write.specs.Standing.{HasTrie};
 
 use super::add_leaf::with_leaf;
@@ -23,6 +23,7 @@ use super::descend::end_node;
 use super::laying::{lay_item, release_item};
 use super::nearest::compare;
 use super::paths::Trace;
+use super::refusal::Unchanged;
 use chunk_cells::CellWrite;
 use chunk_usage::{Full, Space};
 use packed_node::{Node, Ref};
@@ -128,15 +129,6 @@ fn insert_further<C: CellWrite, U: Space>(
     put_change(cells, usage, root, key, first.place, change, path)
 }
 
-/// Why a name isn't put in.
-#[derive(Clone, Copy, PartialEq, Eq, Debug)]
-pub enum InsertRefusal {
-    /// The name is there.
-    Exists,
-    /// There is no room.
-    Full(Full),
-}
-
 /// The root of the trie with a name put in. The item begins with the name's wire form. After a refusal the root stands as
 /// before.
 pub fn insert<C: CellWrite, U: Space>(
@@ -145,21 +137,21 @@ pub fn insert<C: CellWrite, U: Space>(
     root: Option<Ref>,
     key: &Key,
     item: &[u8],
-) -> Result<Option<Ref>, InsertRefusal>
+) -> Result<Option<Ref>, Unchanged>
     requires stands { (version : List Entry) × HasTrie C.has U.account cells.old usage.old root version × EachTells Leads version }
     requires leads { Leads key.now item.now }
     requires ready { Ready C.kept C.given U.account cells.old usage.old }
     ensures inserted { IfOk result (λ new. (version : List Entry) → HasTrie C.has U.account cells.old usage.old root version → EachTells Leads version
         → (next : List Entry) × Inserted (record { key = key.now; item = item.now }) version next × HasTrie C.has U.account cells.new usage.new new next) }
     ensures exists { (version : List Entry) → HasTrie C.has U.account cells.old usage.old root version → EachTells Leads version
-        → (result ≡ Err InsertRefusal.Exists) ↔ ((x : Entry) × InList x version × (x.key ≡ key.now)) }
+        → (result ≡ Err Unchanged.Refused) ↔ ((x : Entry) × InList x version × (x.key ≡ key.now)) }
     ensures refused { IfErr result (λ _. (version : List Entry) → HasTrie C.has U.account cells.old usage.old root version
         → HasTrie C.has U.account cells.new usage.new root version) }
-    ensures unchanged { IfErr result (λ _. Unchanged C.has U.account cells.old usage.old cells.new usage.new) }
+    ensures unchanged { IfErr result (λ _. Same C.has U.account cells.old usage.old cells.new usage.new) }
     ensures outside { (q : ℕ) (c : Cell) → Beyond C.has U.account cells.old usage.old root q → C.has cells.old q c → C.has cells.new q c }
-    ensures denied { result ≡ Err InsertRefusal.Exists → usage.new ≡ usage.old }
-    ensures full { (f : _) → result ≡ Err (InsertRefusal.Full f) → U.lacks usage.new f }
-    ensures asked { (f : _) → result ≡ Err (InsertRefusal.Full f) → (branches : List ℕ)
+    ensures denied { result ≡ Err Unchanged.Refused → usage.new ≡ usage.old }
+    ensures full { (f : _) → result ≡ Err (Unchanged.Full f) → U.lacks usage.new f }
+    ensures asked { (f : _) → result ≡ Err (Unchanged.Full f) → (branches : List ℕ)
         → BranchesOnPath C.has U.account cells.old usage.old root key.now branches → Contains (insert_asks item.now branches) f.needed }
     ensures spends { (n : ℕ) → TwigsOnPath C.has U.account cells.old usage.old root key.now n
         → (U.account usage.new).spent ≤ (U.account usage.old).spent + (3 + cells_in item.now + n) }
@@ -168,20 +160,12 @@ pub fn insert<C: CellWrite, U: Space>(
     ensures frame { Fenced C.has C.kept C.given U.account cells.old usage.old cells.new usage.new }
     ensures ready { Ready C.kept C.given U.account cells.new usage.new }
 {
-    match root {
-        None => match insert_first(cells, usage, item) {
-            Ok(new) => Ok(Some(new)),
-            Err(full) => Err(InsertRefusal::Full(full)),
-        },
-        Some(at) => {
-            let node = cells.cell(at);
-            match compare(cells, node, key) {
-                None => Err(InsertRefusal::Exists),
-                Some(first) => match insert_further(cells, usage, at, key, first, item) {
-                    Ok(new) => Ok(Some(new)),
-                    Err(full) => Err(InsertRefusal::Full(full)),
-                },
-            }
-        }
+    let Some(at) = root else {
+        return Ok(Some(insert_first(cells, usage, item)?));
+    };
+    let node = cells.cell(at);
+    match compare(cells, node, key) {
+        None => Err(Unchanged::Refused),
+        Some(first) => Ok(Some(insert_further(cells, usage, at, key, first, item)?)),
     }
 }

@@ -15,7 +15,7 @@ ghost use Rattle.trie_write.specs.Exchanges.{Exchanged};
 ghost use Rattle.trie_write.specs.Paths.{branches_on_path, replace_asks, to_copy};
 ghost use Rattle.trie_write.specs.Puts.{Makes, IsTaken};
 ghost use Rattle.trie_write.specs.Roots.{TwigsOnPath, BranchesOnPath, ToCopy, IsOutside, Beyond};
-ghost use Rattle.trie_write.specs.Spaces.{Ready, Frame, Fenced, Unchanged, Refused};
+ghost use Rattle.trie_write.specs.Spaces.{Ready, Frame, Fenced, Unchanged as Same, Refused};
 ghost use Rattle.trie_write.specs.Standing.{HasTrie};
 
 use super::change::{Change, NO_CELLS, item_below, put_change};
@@ -23,6 +23,7 @@ use super::descend::end_node;
 use super::has_key::root_with;
 use super::laying::lay_item;
 use super::paths::Trace;
+use super::refusal::Unchanged;
 use chunk_cells::CellWrite;
 use chunk_usage::{Full, Space};
 use packed_node::{Node, Ref};
@@ -93,15 +94,6 @@ fn replace_item<C: CellWrite, U: Space>(
     put_change(cells, usage, root, key, u16::MAX, change, path)
 }
 
-/// Why a name's item isn't changed.
-#[derive(Clone, Copy, PartialEq, Eq, Debug)]
-pub enum ChangeRefusal {
-    /// The name isn't there.
-    NotFound,
-    /// There is no room.
-    Full(Full),
-}
-
 /// The root of the trie with a name's item exchanged. The item begins with the name's wire form. After a refusal the root
 /// stands as before.
 pub fn replace<C: CellWrite, U: Space>(
@@ -110,21 +102,21 @@ pub fn replace<C: CellWrite, U: Space>(
     root: Option<Ref>,
     key: &Key,
     item: &[u8],
-) -> Result<Option<Ref>, ChangeRefusal>
+) -> Result<Option<Ref>, Unchanged>
     requires stands { (version : List Entry) × HasTrie C.has U.account cells.old usage.old root version × EachTells Leads version }
     requires leads { Leads key.now item.now }
     requires ready { Ready C.kept C.given U.account cells.old usage.old }
     ensures replaced { IfOk result (λ new. (version : List Entry) → HasTrie C.has U.account cells.old usage.old root version → EachTells Leads version
         → (next : List Entry) × Exchanged (record { key = key.now; item = item.now }) version next × HasTrie C.has U.account cells.new usage.new new next) }
     ensures absent { (version : List Entry) → HasTrie C.has U.account cells.old usage.old root version → EachTells Leads version
-        → (result ≡ Err ChangeRefusal.NotFound) ↔ ((x : Entry) → InList x version → x.key ≡ key.now → ⊥) }
+        → (result ≡ Err Unchanged.Refused) ↔ ((x : Entry) → InList x version → x.key ≡ key.now → ⊥) }
     ensures refused { IfErr result (λ _. (version : List Entry) → HasTrie C.has U.account cells.old usage.old root version
         → HasTrie C.has U.account cells.new usage.new root version) }
-    ensures unchanged { IfErr result (λ _. Unchanged C.has U.account cells.old usage.old cells.new usage.new) }
+    ensures unchanged { IfErr result (λ _. Same C.has U.account cells.old usage.old cells.new usage.new) }
     ensures outside { (q : ℕ) (c : Cell) → Beyond C.has U.account cells.old usage.old root q → C.has cells.old q c → C.has cells.new q c }
-    ensures denied { result ≡ Err ChangeRefusal.NotFound → usage.new ≡ usage.old }
-    ensures full { (f : _) → result ≡ Err (ChangeRefusal.Full f) → U.lacks usage.new f }
-    ensures asked { (f : _) → result ≡ Err (ChangeRefusal.Full f) → (branches : List ℕ)
+    ensures denied { result ≡ Err Unchanged.Refused → usage.new ≡ usage.old }
+    ensures full { (f : _) → result ≡ Err (Unchanged.Full f) → U.lacks usage.new f }
+    ensures asked { (f : _) → result ≡ Err (Unchanged.Full f) → (branches : List ℕ)
         → BranchesOnPath C.has U.account cells.old usage.old root key.now branches → Contains (replace_asks item.now branches) f.needed }
     ensures spends { (n : ℕ) → TwigsOnPath C.has U.account cells.old usage.old root key.now n
         → (U.account usage.new).spent ≤ (U.account usage.old).spent + (3 + cells_in item.now + n) }
@@ -134,10 +126,7 @@ pub fn replace<C: CellWrite, U: Space>(
     ensures ready { Ready C.kept C.given U.account cells.new usage.new }
 {
     match root_with(cells, root, key) {
-        None => Err(ChangeRefusal::NotFound),
-        Some(at) => match replace_item(cells, usage, at, key, item) {
-            Ok(new) => Ok(Some(new)),
-            Err(full) => Err(ChangeRefusal::Full(full)),
-        },
+        None => Err(Unchanged::Refused),
+        Some(at) => Ok(Some(replace_item(cells, usage, at, key, item)?)),
     }
 }

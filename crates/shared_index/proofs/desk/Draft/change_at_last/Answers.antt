@@ -3,7 +3,7 @@ use Rattle.std.proofs.lemmas.Bool.{true≢false}
 use Rattle.std.specs.Prelude.{IsOk}
 use Rattle.chunk_usage.specs.Ledger.{Frozen, Row}
 use Rattle.chunk_usage.specs.Keeping.{kept_versions}
-use Rattle.shared_index.specs.declared.change.Unchanged.TheVariants as unchanged
+use Rattle.trie_write.specs.declared.refusal.Unchanged.TheVariants as unchanged
 use Rattle.shared_index.specs.Changes.{operation_of, IsRefused}
 use Rattle.shared_index.specs.Fulls.{full_with}
 use Rattle.shared_index.specs.Rooms.{Fails, MakesRoom}

@@ -2,8 +2,8 @@ use Rattle.std.proofs.Common.{◌≡◌, ◌+◌, Err, refl, subst}
 use Rattle.std.specs.Prelude.{IsOk}
 use Rattle.trie_model.specs.Extents.{cells_in}
 use Rattle.trie_write.specs.Paths.{replace_asks}
-use Rattle.shared_index.specs.declared.change.Unchanged.{Unchanged}
-use Rattle.shared_index.specs.declared.change.Unchanged.TheVariants as unchanged
+use Rattle.trie_write.specs.declared.refusal.Unchanged.{Unchanged}
+use Rattle.trie_write.specs.declared.refusal.Unchanged.TheVariants as unchanged
 use Rattle.shared_index.proofs.WorkLaws.{between_as, cause_told}
 use Rattle.shared_index.proofs.transaction.Transaction.replace.Goals as goal
 

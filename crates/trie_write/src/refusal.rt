@@ -1,0 +1,23 @@
+//! Why a trie isn't changed.
+ghost use Rattle.std.specs.Prelude.{◌≡◌};
+
+use chunk_usage::Full;
+
+/// Why a name isn't put in, or its item isn't exchanged, or it isn't taken out.
+#[derive(Clone, Copy, PartialEq, Eq, Debug)]
+pub enum Unchanged {
+    /// Where a name is to be put in, it is there already; else it isn't there.
+    Refused,
+    /// The bump chunk and the free chunks have too few cells.
+    Full(Full),
+}
+
+impl From<Full> for Unchanged {
+    ghost use Rattle.trie_write.specs.declared.refusal.Unchanged.TheVariants as unchanged;
+
+    ghost from_gives = { λ full refusal. refusal ≡ unchanged.Full full };
+
+    fn from(full: Full) -> Unchanged {
+        Unchanged::Full(full)
+    }
+}
