@@ -17,24 +17,18 @@ use dns_name::Name;
 use packed_node::Ref;
 use std::alloc::Global;
 use trie_read::{count, nodes};
-use trie_write::{InsertRefusal, Item, ItemRefusal, build, cells, insert, replace};
+use trie_write::{Item, ItemRefusal, Unchanged, build, cells, insert, replace};
 
 /// How long the root's item with so many octets behind the name is, and its key.
 fn item_len(alloc: Global, payload: usize) -> Option<(usize, u16)> {
-    let Ok(payload) = octets(alloc, payload) else {
-        return None;
-    };
-    match Item::of(alloc, &Name::root(), &payload) {
-        Ok(item) => Some((item.octets().len(), item.key().len())),
-        Err(_) => None,
-    }
+    let payload = octets(alloc, payload).ok()?;
+    let item = Item::of(alloc, &Name::root(), &payload).ok()?;
+    Some((item.octets().len(), item.key().len()))
 }
 
 /// How long the root's item with so many octets behind the name would be, where that is too long.
 fn too_long(alloc: Global, payload: usize) -> Option<u64> {
-    let Ok(payload) = octets(alloc, payload) else {
-        return None;
-    };
+    let payload = octets(alloc, payload).ok()?;
     match Item::of(alloc, &Name::root(), &payload) {
         Err(ItemRefusal::Long { bytes }) => Some(bytes),
         _ => None,
@@ -53,7 +47,7 @@ fn put<C: CellWrite, U: Space>(
     usage: &mut U,
     root: Option<Ref>,
     item: &Item,
-) -> Result<Option<Ref>, InsertRefusal>
+) -> Result<Option<Ref>, Unchanged>
     requires stands { (version : List Entry) × HasTrie C.has U.account cells.old usage.old root version × EachTells Leads version }
     requires ready { Ready C.kept C.given U.account cells.old usage.old }
     ensures stands { IfOk result (λ new. (version : List Entry) × HasTrie C.has U.account cells.new usage.new new version × EachTells Leads version) }
@@ -68,33 +62,24 @@ fn sizes_with<C: CellWrite, U: Space>(
     usage: &mut U,
     items: &[Item],
     item: &Item,
-) -> Result<(u64, u64), InsertRefusal>
+) -> Result<(u64, u64), Unchanged>
     requires rising { Rises (entries_of_items items.now) }
     requires uncounted { (k : ℕ) → (U.account usage.old).live k ≡ 0 }
     requires ready { Ready C.kept C.given U.account cells.old usage.old }
 {
-    match build(cells, usage, items) {
-        Err(full) => Err(InsertRefusal::Full(full)),
-        Ok(root) => {
-            let root = put(cells, usage, root, item)?;
-            let names = count(cells, root);
-            let all = nodes(cells, root);
-            match replace(cells, usage, root, &item.key(), item.octets()) {
-                Ok(_) => Ok((names, all)),
-                Err(_) => Err(InsertRefusal::Exists),
-            }
-        }
-    }
+    let built = build(cells, usage, items)?;
+    let root = put(cells, usage, built, item)?;
+    let names = count(cells, root);
+    let all = nodes(cells, root);
+    replace(cells, usage, root, &item.key(), item.octets())?;
+    Ok((names, all))
 }
 
 /// The same of two names in a room of its own, with how many cells of its first chunk count in the end. None for want of memory.
 fn sizes_alone(alloc: Global, name: &[u8], other: &[u8], payload: &[u8]) -> Option<Sizes> {
     let second = item(alloc, other, payload)?;
     let first = [item(alloc, name, b"1")?];
-    let Ok((memory, usage)) = unused_room(alloc, 16) else {
-        return None;
-    };
-    let (mut memory, mut usage) = (memory, usage);
+    let (mut memory, mut usage) = unused_room(alloc, 16).ok()?;
     if cells(&first) != 2 || !rise(&first) {
         return None;
     }
@@ -102,7 +87,7 @@ fn sizes_alone(alloc: Global, name: &[u8], other: &[u8], payload: &[u8]) -> Opti
     Some((sizes, usage.live(0)))
 }
 
-type Sizes = (Result<(u64, u64), InsertRefusal>, u32);
+type Sizes = (Result<(u64, u64), Unchanged>, u32);
 
 // Three nodes; one item has one cell, the other two.
 #[test]
@@ -114,5 +99,5 @@ fn a_name_is_put_beside_another(rt: HostRuntime) {
 #[test]
 fn a_name_is_put_in_once(rt: HostRuntime) {
     let sizes = sizes_alone(rt.alloc(), b"example.", b"example.", b"2");
-    assert!(rt; matches!(sizes, Some((Err(InsertRefusal::Exists), 2))));
+    assert!(rt; matches!(sizes, Some((Err(Unchanged::Refused), 2))));
 }

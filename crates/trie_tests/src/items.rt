@@ -54,16 +54,11 @@ fn is_written_and_read(cells: &mut PlainCells, after: Cell) -> bool
 }
 
 #[test]
-fn an_item_is_written_and_read(rt: HostRuntime) {
+fn an_item_is_written_and_read(rt: HostRuntime) -> Result<(), Fail> {
     assert!(rt; cells_for(28) == 2);
-    let right = match PlainCells::new(rt.alloc(), 2) {
-        Ok(cells) => {
-            let mut cells = cells;
-            is_written_and_read(&mut cells, Cell { big: 7, small: 8 })
-        }
-        Err(_) => false,
-    };
-    assert!(rt; right);
+    let mut cells = PlainCells::new(rt.alloc(), 2)?;
+    assert!(rt; is_written_and_read(&mut cells, Cell { big: 7, small: 8 }));
+    Ok(())
 }
 
 // An item of 4,097 octets that begins in cell 1030: its 256th cell says where the other two begin.

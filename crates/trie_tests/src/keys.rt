@@ -5,20 +5,14 @@ use dns_name::Name;
 use shift_key::{Difference, Key};
 
 fn key_of(text: &[u8]) -> Option<Key> {
-    match Name::read(text, &Name::root()) {
-        Ok(name) => Some(Key::of(&name)),
-        Err(_) => None,
-    }
+    let name = Name::read(text, &Name::root()).ok()?;
+    Some(Key::of(&name))
 }
 
 // Whether the positions of a key are these.
 fn has_positions(key: &Key, positions: &[u8]) -> bool {
     for place in 0..512 {
-        let want = match positions.get(place as usize) {
-            Some(position) => *position,
-            None => 0,
-        };
-        if key.at(place) != want {
+        if key.at(place) != positions.get(place as usize).copied().unwrap_or(0) {
             return false;
         }
     }
@@ -27,22 +21,16 @@ fn has_positions(key: &Key, positions: &[u8]) -> bool {
 
 // Whether the positions of a name's key are these, and the name comes back.
 fn has_key(text: &[u8], positions: &[u8]) -> bool {
-    match Name::read(text, &Name::root()) {
-        Ok(name) => {
-            let key = Key::of(&name);
-            has_positions(&key, positions) && key.to_name() == name
-        }
-        Err(_) => false,
-    }
+    let Ok(name) = Name::read(text, &Name::root()) else {
+        return false;
+    };
+    let key = Key::of(&name);
+    has_positions(&key, positions) && key.to_name() == name
 }
 
 fn all_have_keys(rows: &[(&[u8], &[u8])]) -> bool {
-    for (text, positions) in rows {
-        if !has_key(text, positions) {
-            return false;
-        }
-    }
-    true
+    rows.iter()
+        .all(|(text, positions)| has_key(text, positions))
 }
 
 const KEYS: &[(&[u8], &[u8])] = &[
@@ -69,13 +57,11 @@ fn names_have_their_keys(rt: HostRuntime) {
 
 // Whether octets begin with a name that has a key so long, and comes back.
 fn has_key_of_len(wire: &[u8], len: u16) -> bool {
-    match Name::from_wire(wire) {
-        Some(name) => {
-            let key = Key::of(&name);
-            key.len() == len && key.to_name() == name
-        }
-        None => false,
-    }
+    let Some(name) = Name::from_wire(wire) else {
+        return false;
+    };
+    let key = Key::of(&name);
+    key.len() == len && key.to_name() == name
 }
 
 // Labels of 63, 63, 63 and 61 octets FF.
@@ -128,12 +114,7 @@ fn leads_just(text: &[u8], items: &[(&[u8], bool)]) -> bool {
     let Some(key) = key_of(text) else {
         return false;
     };
-    for (item, want) in items {
-        if key.leads(item) != *want {
-            return false;
-        }
-    }
-    true
+    items.iter().all(|(item, want)| key.leads(item) == *want)
 }
 
 const ITEMS: &[(&[u8], bool)] = &[
@@ -162,12 +143,8 @@ fn differs(text: &[u8], item: &[u8], want: Option<Difference>) -> bool {
 }
 
 fn all_differ(rows: &[(&[u8], &[u8], Option<Difference>)]) -> bool {
-    for (text, item, want) in rows {
-        if !differs(text, item, *want) {
-            return false;
-        }
-    }
-    true
+    rows.iter()
+        .all(|(text, item, want)| differs(text, item, *want))
 }
 
 fn at(place: u16, position: u8) -> Option<Difference> {
@@ -176,23 +153,18 @@ fn at(place: u16, position: u8) -> Option<Difference> {
 
 // Whether a key that was another name's is a name's with these positions and this wire form.
 fn is_set_anew(key: &mut Key, text: &[u8], positions: &[u8], wire: &[u8]) -> bool {
-    match Name::read(text, &Name::root()) {
-        Ok(name) => {
-            key.set(&name);
-            has_positions(key, positions) && key.wire() == wire
-        }
-        Err(_) => false,
-    }
+    let Ok(name) = Name::read(text, &Name::root()) else {
+        return false;
+    };
+    key.set(&name);
+    has_positions(key, positions) && key.wire() == wire
 }
 
 fn is_exchanged(text: &[u8], by: &[u8], positions: &[u8], wire: &[u8]) -> bool {
-    match key_of(text) {
-        Some(key) => {
-            let mut key = key;
-            is_set_anew(&mut key, by, positions, wire)
-        }
-        None => false,
-    }
+    let Some(mut key) = key_of(text) else {
+        return false;
+    };
+    is_set_anew(&mut key, by, positions, wire)
 }
 
 #[test]

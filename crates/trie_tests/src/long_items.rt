@@ -132,10 +132,7 @@ fn come_and_go_alone(alloc: Global, first: &Item, second: &Item, out: &mut [u8])
     requires { most_item_octets ≤ length out.old }
     ensures { length out.new ≡ length out.old }
 {
-    let Ok((memory, usage)) = unused_room(alloc, 16) else {
-        return None;
-    };
-    let (mut memory, mut usage) = (memory, usage);
+    let (mut memory, mut usage) = unused_room(alloc, 16).ok()?;
     come_and_go(&mut memory, &mut usage, first, second, out)
 }
 

@@ -41,22 +41,15 @@ pub(crate) fn octets(alloc: Global, count: usize) -> Result<Vec<u8>, AllocError>
 
 /// An item of the name that a text says. None where there is none, or for want of memory.
 pub(crate) fn item(alloc: Global, text: &[u8], payload: &[u8]) -> Option<Item> {
-    match Name::read(text, &Name::root()) {
-        Ok(name) => match Item::of(alloc, &name, payload) {
-            Ok(item) => Some(item),
-            Err(_) => None,
-        },
-        Err(_) => None,
-    }
+    let name = Name::read(text, &Name::root()).ok()?;
+    Item::of(alloc, &name, payload).ok()
 }
 
 /// Items of some names.
 pub(crate) fn items(alloc: Global, names: &[&[u8]], payload: &[u8]) -> Option<Vec<Item>> {
     let mut items = Vec::new(alloc);
     for name in names {
-        if items.push(item(alloc, name, payload)?).is_err() {
-            return None;
-        }
+        items.push(item(alloc, name, payload)?).ok()?;
     }
     Some(items)
 }

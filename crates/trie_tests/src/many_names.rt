@@ -120,7 +120,7 @@ fn change_each<C: CellWrite, U: Space>(
 #[derive(Drop)]
 struct Rounds {
     first: Vec<Item>,
-    second: Vec<Item>,
+    next: Vec<Item>,
     last: Vec<Item>,
 }
 
@@ -129,35 +129,14 @@ fn come_and_go<C: CellWrite, U: Space>(
     cells: &mut C,
     usage: &mut U,
     rounds: &Rounds,
-    dues: &NodesDue,
+    due: &NodesDue,
 ) -> Result<Option<Ref>, usize>
     requires uncounted { (k : ℕ) → (U.account usage.old).live k ≡ 0 }
     requires ready { Ready C.kept C.given U.account cells.old usage.old }
 {
-    let root = change_each(
-        cells,
-        usage,
-        None,
-        Change::Insert,
-        &rounds.first,
-        dues.grown,
-    )?;
-    let root = change_each(
-        cells,
-        usage,
-        root,
-        Change::Replace,
-        &rounds.second,
-        dues.same,
-    )?;
-    change_each(
-        cells,
-        usage,
-        root,
-        Change::Delete,
-        &rounds.last,
-        dues.shrunk,
-    )
+    let root = change_each(cells, usage, None, Change::Insert, &rounds.first, due.grown)?;
+    let root = change_each(cells, usage, root, Change::Replace, &rounds.next, due.same)?;
+    change_each(cells, usage, root, Change::Delete, &rounds.last, due.shrunk)
 }
 
 /// How many nodes there are after each of them.
@@ -190,25 +169,19 @@ const MIXED: [&[u8]; 20] = [
 ];
 
 fn rounds_of(alloc: Global, rising: &[&[u8]], mixed: &[&[u8]]) -> Option<Rounds> {
-    let first = items(alloc, rising, b"1")?;
-    let second = items(alloc, rising, b"a longer payload than before")?;
-    let last = items(alloc, mixed, b"")?;
     Some(Rounds {
-        first,
-        second,
-        last,
+        first: items(alloc, rising, b"1")?,
+        next: items(alloc, rising, b"a longer payload than before")?,
+        last: items(alloc, mixed, b"")?,
     })
 }
 
 /// Whether all of them are gone in the end.
-fn all_go(alloc: Global, rounds: &Rounds, dues: &NodesDue) -> bool {
-    match unused_room(alloc, 16) {
-        Ok((memory, usage)) => {
-            let (mut memory, mut usage) = (memory, usage);
-            matches!(come_and_go(&mut memory, &mut usage, rounds, dues), Ok(None))
-        }
-        Err(_) => false,
-    }
+fn all_go(alloc: Global, rounds: &Rounds, due: &NodesDue) -> bool {
+    let Ok((mut memory, mut usage)) = unused_room(alloc, 16) else {
+        return false;
+    };
+    matches!(come_and_go(&mut memory, &mut usage, rounds, due), Ok(None))
 }
 
 #[test]
@@ -268,34 +241,23 @@ struct Built {
 
 /// Some names in a room of their own. None where they don't rise, or for want of memory.
 fn built_alone(alloc: Global, items: &[Item]) -> Option<Built> {
-    let Ok((memory, usage)) = unused_room(alloc, 16) else {
-        return None;
-    };
-    let (mut memory, mut usage) = (memory, usage);
+    let (mut memory, mut usage) = unused_room(alloc, 16).ok()?;
     if !rise(items) {
         return None;
     }
-    let needed = cells(items);
-    let sizes = sizes(&mut memory, &mut usage, items);
-    let live = usage.live(0);
     Some(Built {
-        needed,
-        sizes,
-        live,
+        needed: cells(items),
+        sizes: sizes(&mut memory, &mut usage, items),
+        live: usage.live(0),
     })
 }
 
 /// Whether there is one cell for each node and each item.
 fn are_built(alloc: Global, names: &[&[u8]]) -> bool {
-    match items(alloc, names, b"1") {
-        Some(items) => match built_alone(alloc, &items) {
-            Some(built) => {
-                built.needed == 44 && built.live == 44 && matches!(built.sizes, Ok((20, 24)))
-            }
-            None => false,
-        },
-        None => false,
-    }
+    let Some(built) = items(alloc, names, b"1").and_then(|items| built_alone(alloc, &items)) else {
+        return false;
+    };
+    built.needed == 44 && built.live == 44 && matches!(built.sizes, Ok((20, 24)))
 }
 
 #[test]

@@ -2,6 +2,10 @@
 
 use packed_node::{Branch, Cell, Leaf, Node, bitmap, chunk_of, unpack};
 
+fn cell(big: u64, small: u64) -> Cell {
+    Cell { big, small }
+}
+
 /// Whether a cell says this node, which is packed into it and read back.
 fn says(cell: Cell, node: Node) -> bool {
     match unpack(cell) {
@@ -15,15 +19,11 @@ fn says(cell: Cell, node: Node) -> bool {
 
 /// Whether a branch has twigs at these positions, or none, and so many at smaller ones.
 fn has_twigs(branch: Branch, rows: &[(u8, bool, u32)]) -> bool {
-    for (position, there, index) in rows {
-        if *position >= 47
-            || branch.has_twig(*position) != *there
-            || branch.twig_index(*position) != *index
-        {
-            return false;
-        }
-    }
-    true
+    rows.iter().all(|(position, there, index)| {
+        *position < 47
+            && branch.has_twig(*position) == *there
+            && branch.twig_index(*position) == *index
+    })
 }
 
 #[test]
@@ -35,11 +35,7 @@ fn a_branch_is_packed_by_its_layout(rt: HostRuntime) {
         bitmap,
         twigs: 5127,
     };
-    let cell = Cell {
-        big: 0x0010_0201_0000_0005,
-        small: 5127,
-    };
-    assert!(rt; says(cell, Node::Branch(branch)));
+    assert!(rt; says(cell(0x0010_0201_0000_0005, 5127), Node::Branch(branch)));
     assert!(rt; chunk_of(branch.twigs) == 5);
     assert!(rt; bitmap.count_ones() == 3 && branch.twig_count() == 3);
     let rows = [(0, true, 0), (1, false, 1), (30, true, 1), (39, true, 2)];
@@ -47,16 +43,9 @@ fn a_branch_is_packed_by_its_layout(rt: HostRuntime) {
 }
 
 fn are_no_nodes(cells: &[(u64, u64)]) -> bool {
-    for (big, small) in cells {
-        let cell = Cell {
-            big: *big,
-            small: *small,
-        };
-        if unpack(cell).is_some() {
-            return false;
-        }
-    }
-    true
+    cells
+        .iter()
+        .all(|(big, small)| unpack(cell(*big, *small)).is_none())
 }
 
 // No length, one too long, two tags that mean nothing, one twig, an offset too large, a place past the last.
@@ -76,10 +65,6 @@ fn other_words_are_no_node(rt: HostRuntime) {
         len: 28,
         at: 4_194_303,
     };
-    let cell = Cell {
-        big: 112,
-        small: 4_194_303,
-    };
-    assert!(rt; says(cell, Node::Leaf(leaf)));
+    assert!(rt; says(cell(112, 4_194_303), Node::Leaf(leaf)));
     assert!(rt; are_no_nodes(NO_NODES));
 }

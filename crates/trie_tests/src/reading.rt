@@ -89,10 +89,7 @@ fn two_names_are_found_and_counted(rt: HostRuntime) -> Result<(), Fail> {
 }
 
 fn is_key_of(key: Option<Key>, wire: &[u8]) -> bool {
-    match key {
-        Some(key) => key.leads(wire),
-        None => false,
-    }
+    key.is_some_and(|key| key.leads(wire))
 }
 
 /// Whether this is found for a name in wire form: the kind, the number of names above, and the last name that isn't behind it, or no
@@ -143,7 +140,7 @@ fn neighbours_are_found(rt: HostRuntime) -> Result<(), Fail> {
 }
 
 /// What a look-up gives.
-#[derive(Clone, Copy)]
+#[derive(Clone, Copy, PartialEq)]
 struct Place {
     /// The name's leaf.
     leaf: Option<Leaf>,
@@ -152,13 +149,6 @@ struct Place {
     /// The leaves before and after its place.
     before: Option<Leaf>,
     after: Option<Leaf>,
-}
-
-fn are_same(place: Place, other: Place) -> bool {
-    place.leaf == other.leaf
-        && place.last == other.last
-        && place.before == other.before
-        && place.after == other.after
 }
 
 fn seen(
@@ -176,10 +166,8 @@ fn seen(
 }
 
 fn last_of(above: &Ancestors) -> Option<(Leaf, u8)> {
-    match above.as_slice().last() {
-        Some(name) => Some((name.leaf, name.labels)),
-        None => None,
-    }
+    let name = above.as_slice().last()?;
+    Some((name.leaf, name.labels))
 }
 
 /// Whether look-ups one after another give these.
@@ -206,7 +194,7 @@ fn looks_up(cells: PlainCells, rows: &[(&[u8], Place)]) -> bool
             before,
             after,
         };
-        if !are_same(found, *want) {
+        if found != *want {
             return false;
         }
     }

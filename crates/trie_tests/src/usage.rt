@@ -46,10 +46,9 @@ fn release_quarter(usage: &mut Usage, chunk: u32)
 
 /// Whether there is no room for a cell, with the reserve or without it, and so many chunks are free.
 fn is_full(usage: &mut Usage, reserve: bool, free: u32) -> bool {
-    match granted(usage, 1, reserve) {
-        Ok(_) => false,
-        Err(full) => full.needed == 1 && full.left == 0 && full.free == free && full.reserve == 4,
-    }
+    granted(usage, 1, reserve).is_err_and(|full| {
+        full.needed == 1 && full.left == 0 && full.free == free && full.reserve == 4
+    })
 }
 
 /// Hands out 12 of the 16 chunks.
