@@ -1,6 +1,6 @@
 //! An entry.
 ghost use Rattle.std.specs.Prelude.{◌≡◌, ◌<◌, ◌≤◌, [], ◌-◌, ◌^◌, ◌↔◌};
-ghost use Rattle.std.specs.Prelude.{List, Option, length, OnOk, OnErr, MatchOption, take, Some, None, min, slice_get, IsTrue, IsNone, IfSome, IfOk};
+ghost use Rattle.std.specs.Prelude.{List, Option, length, OnOk, OnErr, MatchOption, take, Some, None, min, slice_get, IsTrue, IsNone, IsSome, IfSome, IfOk};
 ghost use Rattle.zone_model.specs.Records.{Rrset, with_rr, without_rr, without_set, rrset_of, item, item_limit, rrset_bytes, IsEntry, IsItem};
 ghost use Rattle.rr_data.specs.Changes.{TellsChange};
 ghost use Rattle.rr_data.specs.Items.{Decodes};
@@ -156,6 +156,13 @@ impl Entry {
         ensures { slice_get self.now index ≡ Some result.now }
     {
         &self.sets[index]
+    }
+
+    /// Whether it has an RRset of a type.
+    pub fn has(&self, rtype: u16) -> bool
+        ensures { IsTrue result ↔ IsSome (rrset_of rtype self.now) }
+    {
+        self.find_set(rtype).is_some()
     }
 
     /// The RRset of a type, if it has one.

@@ -1,5 +1,5 @@
 //! An RRset.
-ghost use Rattle.std.specs.Prelude.{◌≡◌, ◌<◌, ◌≤◌, ◌++◌, [], length, IfOk, OnOk, OnErr, take, drop, Some, None, IsTrue, ◌↔◌};
+ghost use Rattle.std.specs.Prelude.{◌≡◌, ◌<◌, ◌≤◌, ◌++◌, [], length, IfOk, OnOk, OnErr, take, drop, slice_get, Some, None, IsTrue, ◌↔◌};
 ghost use Rattle.zone_model.specs.Records.{Rrset, with_record, without_record, has_record, fresh, RisingOctets};
 ghost use Rattle.rr_data.specs.Changes.{TellsChange};
 
@@ -152,6 +152,14 @@ impl RrSet {
         ensures { IsTrue result ↔ (self.now.records ≡ []) }
     {
         self.records.is_empty()
+    }
+
+    /// The record at an index, in rising order of the octets.
+    pub fn at(&self, index: usize) -> &Rdata
+        requires { index < length self.now.records }
+        ensures { slice_get self.now.records index ≡ Some result.now }
+    {
+        &self.records[index]
     }
 
     /// Whether it has a record of these octets.
