@@ -25,7 +25,6 @@ pub mod MeetLaws
 pub mod RisenLaws
 pub mod CauseLaws
 pub mod FullLaws
-pub mod NamedLaws
 pub mod CloseLaws
 pub mod CompactLaws
 pub mod SettleLaws

@@ -6,8 +6,9 @@ use Rattle.zone_model.specs.Keys.{Leads}
 use Rattle.trie_model.specs.Keys.{Entry}
 use Rattle.trie_model.specs.Trees.{Tree}
 use Rattle.trie_model.specs.Reach.{reach}
-use Rattle.trie_model.specs.Memory.{IsTrieAt, Stands}
+use Rattle.trie_model.specs.Memory.{IsTrieAt}
 use Rattle.trie_read.specs.Reads.{EachTells}
+use Rattle.trie_read.specs.Readings.{Told}
 
 -- an image as a memory
 unfoldable pub in_image : List CellAt → ℕ → Cell → Type 0
@@ -25,4 +26,4 @@ pub record IsVersion (image : List CellAt) (root : Option ℕ) (es : List Entry)
 
 -- a reading of the image from the root tells of these entries
 abbrev pub Holds : List CellAt → Option ℕ → List Entry → Type 0
-Holds image root es = Stands (in_image image) root es × EachTells Leads es
+Holds image root es = Told (in_image image) root es

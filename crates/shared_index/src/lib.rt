@@ -34,6 +34,7 @@ mod meaning;
 mod note;
 mod opening;
 mod pass;
+mod pinned;
 mod query;
 mod recycling;
 mod refusal;

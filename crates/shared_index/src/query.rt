@@ -8,13 +8,13 @@ ghost use Rattle.shared_index.specs.Meanings.{Holds, IsVersion};
 use crate::index::Index;
 use crate::meaning::{Law, Meaning, Named, Operations, Version};
 use crate::pass::Pass;
-use chunk_cells::{CellRead, read_item};
-use dns_name::Name;
-use packed_node::{Cell, Leaf, Ref};
+use crate::pinned::fetch_pinned;
+use chunk_cells::CellRead;
+use packed_node::{Cell, Ref};
 use shared_cells::{PinnedCells, PinnedSeat, Shared};
 use shift_key::Key;
 use std::marker::PhantomData;
-use trie_read::{Ancestors, Found, Iter, Met, Reading, name_at};
+use trie_read::Rooted;
 
 /// A published version, to be read by its pass. It doesn't change. Dropping it makes the pass idle.
 pub struct Query<'a, L: Law, N: Named> {
@@ -85,96 +85,20 @@ impl<L: Law, N: Named> CellRead for Query<'_, L, N> {
     }
 }
 
-impl<L: Law, N: Named> Reading for Query<'_, L, N> {
-    ghost use Rattle.trie_read.specs.Reads.{IsNamed};
-    ghost use Rattle.trie_read.specs.Walks.{StandsBetween};
-    ghost use Rattle.shared_index.specs.Meanings.{in_image, Holds};
+impl<L: Law, N: Named> Rooted for Query<'_, L, N> {
+    ghost root = { λ q. q.seat.root };
 
     ghost number = { λ q. q.seat.version };
 
-    ghost holds = { λ q. Holds (pinned_image q.seat.place.me.0.progress) q.seat.root };
+    fn root(&mut self) -> Option<Ref> {
+        self.seat.root
+    }
 
-    ghost stands = { λ q. StandsBetween (in_image (pinned_image q.seat.place.me.0.progress)) q.seat.root };
-
-    ghost lies = { λ q. IsNamed (in_image (pinned_image q.seat.place.me.0.progress)) };
-
-    fn version(&mut self) -> u64 {
+    fn number(&mut self) -> u64 {
         self.seat.version
     }
 
-    fn fetch(&mut self, key: &Key, out: &mut [u8]) -> Option<usize> {
-        let root = self.seat.root;
-        let mut cells = PinnedCells::new(self.shared, &mut self.seat);
-        match trie_read::get(&mut cells, root, key) {
-            None => None,
-            Some(leaf) => Some(read_item(&mut cells, leaf, out)),
-        }
-    }
-
-    fn find(&mut self, key: &Key) -> Found {
-        let root = self.seat.root;
-        trie_read::find(self, root, key)
-    }
-
-    fn iter(&mut self) -> Iter {
-        Iter::start(self.seat.root)
-    }
-
-    fn restart(&mut self, iter: &mut Iter) {
-        iter.restart(self.seat.root);
-    }
-
-    fn seek(&mut self, iter: &mut Iter, key: &Key) {
-        iter.seek(self, key);
-    }
-
-    fn next(&mut self, iter: &mut Iter) -> Option<Key> {
-        iter.next(self)
-    }
-
-    fn prev(&mut self, iter: &mut Iter) -> Option<Key> {
-        iter.prev(self)
-    }
-
-    fn lookup(&mut self, iter: &mut Iter, key: &Key, above: &mut Ancestors) -> Option<Leaf> {
-        iter.lookup(self, key, above)
-    }
-
-    fn reach(&mut self, iter: &mut Iter, key: &Key, above: &mut Ancestors) -> Option<Met> {
-        iter.reach(self, key, above)
-    }
-
-    fn next_leaf(&mut self, iter: &mut Iter) -> Option<Leaf> {
-        iter.next_leaf(self)
-    }
-
-    fn prev_leaf(&mut self, iter: &mut Iter) -> Option<Leaf> {
-        iter.prev_leaf(self)
-    }
-
-    fn ahead(&mut self, iter: &mut Iter) -> Option<Leaf> {
-        iter.ahead(self)
-    }
-
-    fn behind(&mut self, iter: &mut Iter) -> Option<Leaf> {
-        iter.behind(self)
-    }
-
-    fn read(&mut self, leaf: Leaf, out: &mut [u8]) -> usize {
-        read_item(self, leaf, out)
-    }
-
-    fn name(&mut self, leaf: Leaf) -> Name {
-        name_at(self, leaf)
-    }
-
-    fn count(&mut self) -> u64 {
-        let root = self.seat.root;
-        trie_read::count(self, root)
-    }
-
-    fn nodes(&mut self) -> u64 {
-        let root = self.seat.root;
-        trie_read::nodes(self, root)
+    fn fetch_item(&mut self, key: &Key, out: &mut [u8]) -> Option<usize> {
+        fetch_pinned(self.shared, &mut self.seat, key, out)
     }
 }

@@ -1,15 +1,23 @@
 -- What the calls of one version give.
 use Rattle.std.specs.Prelude.{◌≡◌, ℕ, suc, List, [], length, take, Option, Some, None}
+use Rattle.packed_node.specs.declared.Cell.{Cell}
 use Rattle.packed_node.specs.declared.Leaf.{Leaf}
+use Rattle.zone_model.specs.Keys.{Leads}
 use Rattle.shift_key.specs.Differences.{IsDifference}
 use Rattle.shift_key.specs.declared.difference.Difference.{Difference}
 use Rattle.trie_model.specs.Keys.{Same, Entry, InList}
+use Rattle.trie_model.specs.Memory.{Stands}
 use Rattle.trie_model.specs.Order.{IsThere, IsSplitAt}
+use Rattle.trie_read.specs.Reads.{EachTells}
 use Rattle.trie_read.specs.declared.iter.Met.{Met}
 
 -- there are entries that are held
 abbrev pub IsHeld : (List Entry → Type 0) → Type 0
 IsHeld holds = (version : List Entry) × holds version
+
+-- what can be read from a root in a memory: a trie of these entries, whose items tell their keys
+abbrev pub Told : (ℕ → Cell → Type 0) → Option ℕ → List Entry → Type 0
+Told has root version = Stands has root version × EachTells Leads version
 
 -- an iterator stands somewhere
 abbrev pub IsStanding : (List Entry → List Entry → Type 0) → Type 0

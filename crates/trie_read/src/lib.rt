@@ -23,6 +23,6 @@ pub use iter::{Iter, Met};
 pub use labels::labels_to;
 pub use leaf::{difference_at, key_at, name_at};
 pub use look_up::{get, get_counted};
-pub use reading::{CellReading, Reading};
+pub use reading::{CellReading, Reading, Rooted};
 pub use size::{count, nodes};
 pub use steps::Steps;

@@ -14,7 +14,7 @@ use super::look_up::get;
 use super::size::{count, nodes};
 use chunk_cells::{CellRead, read_item};
 use dns_name::Name;
-use packed_node::{Leaf, Ref};
+use packed_node::{Cell, Leaf, Ref};
 use shift_key::Key;
 
 /// A version of the trie: what it has under which number. All calls are of that one version, and change nothing.
@@ -195,6 +195,124 @@ pub trait Reading {
         ensures nodes { (version : List Entry) → holds self.old version → result ≡ nodes_of_keys (keys_of version) };
 }
 
+/// Cells in which one version of the trie stands. Whoever has its root reads it (`Reading`).
+pub trait Rooted: CellRead {
+    ghost use Rattle.std.specs.Prelude.{◌≡◌, ◌≤◌, ℕ, List, Option, length};
+    ghost use Rattle.zone_model.specs.Keys.{most_item_octets};
+    ghost use Rattle.trie_model.specs.Keys.{Entry};
+    ghost use Rattle.trie_read.specs.Readings.{Fetched, IsHeld, Told};
+
+    // The version's root, and its number.
+    ghost root: { Self → Option ℕ };
+    ghost number: { Self → ℕ };
+
+    /// The version's root.
+    fn root(&mut self) -> Option<Ref>
+        ensures same { self.new ≡ self.old }
+        ensures root { result ≡ root self.old };
+
+    /// The version's number.
+    fn number(&mut self) -> u64
+        ensures same { self.new ≡ self.old }
+        ensures number { result ≡ number self.old };
+
+    /// Reads the item of a key into the beginning of `out`, and gives its length; `None` where the key is not there.
+    fn fetch_item(&mut self, key: &Key, out: &mut [u8]) -> Option<usize>
+        requires held { IsHeld (Told (Self.has self.old) (root self.old)) }
+        requires room { most_item_octets ≤ length out.old }
+        ensures same { self.new ≡ self.old }
+        ensures item { (version : List Entry) → Told (Self.has self.old) (root self.old) version → Fetched key.now version out.old out.new result };
+}
+
+impl<V: Rooted> Reading for V {
+    ghost use Rattle.trie_read.specs.Reads.{IsNamed};
+    ghost use Rattle.trie_read.specs.Readings.{Told};
+    ghost use Rattle.trie_read.specs.Walks.{StandsBetween};
+
+    ghost number = { λ v. V.number v };
+
+    ghost holds = { λ v. Told (V.has v) (V.root v) };
+
+    ghost stands = { λ v. StandsBetween (V.has v) (V.root v) };
+
+    ghost lies = { λ v. IsNamed (V.has v) };
+
+    fn version(&mut self) -> u64 {
+        self.number()
+    }
+
+    fn fetch(&mut self, key: &Key, out: &mut [u8]) -> Option<usize> {
+        self.fetch_item(key, out)
+    }
+
+    fn find(&mut self, key: &Key) -> Found {
+        let root = self.root();
+        find(self, root, key)
+    }
+
+    fn iter(&mut self) -> Iter {
+        Iter::start(self.root())
+    }
+
+    fn restart(&mut self, iter: &mut Iter) {
+        iter.restart(self.root());
+    }
+
+    fn seek(&mut self, iter: &mut Iter, key: &Key) {
+        iter.seek(self, key);
+    }
+
+    fn next(&mut self, iter: &mut Iter) -> Option<Key> {
+        iter.next(self)
+    }
+
+    fn prev(&mut self, iter: &mut Iter) -> Option<Key> {
+        iter.prev(self)
+    }
+
+    fn lookup(&mut self, iter: &mut Iter, key: &Key, above: &mut Ancestors) -> Option<Leaf> {
+        iter.lookup(self, key, above)
+    }
+
+    fn reach(&mut self, iter: &mut Iter, key: &Key, above: &mut Ancestors) -> Option<Met> {
+        iter.reach(self, key, above)
+    }
+
+    fn next_leaf(&mut self, iter: &mut Iter) -> Option<Leaf> {
+        iter.next_leaf(self)
+    }
+
+    fn prev_leaf(&mut self, iter: &mut Iter) -> Option<Leaf> {
+        iter.prev_leaf(self)
+    }
+
+    fn ahead(&mut self, iter: &mut Iter) -> Option<Leaf> {
+        iter.ahead(self)
+    }
+
+    fn behind(&mut self, iter: &mut Iter) -> Option<Leaf> {
+        iter.behind(self)
+    }
+
+    fn read(&mut self, leaf: Leaf, out: &mut [u8]) -> usize {
+        read_item(self, leaf, out)
+    }
+
+    fn name(&mut self, leaf: Leaf) -> Name {
+        name_at(self, leaf)
+    }
+
+    fn count(&mut self) -> u64 {
+        let root = self.root();
+        count(self, root)
+    }
+
+    fn nodes(&mut self) -> u64 {
+        let root = self.root();
+        nodes(self, root)
+    }
+}
+
 /// A version of the trie in some cells, by its root.
 #[derive(Drop)]
 pub struct CellReading<C> {
@@ -218,92 +336,31 @@ impl<C: CellRead + Drop> CellReading<C> {
     }
 }
 
-impl<C: CellRead + Drop> Reading for CellReading<C> {
-    ghost use Rattle.zone_model.specs.Keys.{Leads};
-    ghost use Rattle.trie_model.specs.Memory.{Stands};
-    ghost use Rattle.trie_read.specs.Reads.{EachTells, IsNamed};
-    ghost use Rattle.trie_read.specs.Walks.{StandsBetween};
+impl<C: CellRead + Drop> CellRead for CellReading<C> {
+    ghost has = { λ s. C.has s.cells };
+
+    fn cell(&mut self, at: Ref) -> Cell {
+        self.cells.cell(at)
+    }
+}
+
+impl<C: CellRead + Drop> Rooted for CellReading<C> {
+    ghost root = { λ s. s.root };
 
     ghost number = { λ s. s.number };
 
-    ghost holds = { λ s version. Stands (C.has s.cells) s.root version × EachTells Leads version };
+    fn root(&mut self) -> Option<Ref> {
+        self.root
+    }
 
-    ghost stands = { λ s. StandsBetween (C.has s.cells) s.root };
-
-    ghost lies = { λ s. IsNamed (C.has s.cells) };
-
-    fn version(&mut self) -> u64 {
+    fn number(&mut self) -> u64 {
         self.number
     }
 
-    fn fetch(&mut self, key: &Key, out: &mut [u8]) -> Option<usize> {
+    fn fetch_item(&mut self, key: &Key, out: &mut [u8]) -> Option<usize> {
         match get(&mut self.cells, self.root, key) {
             None => None,
             Some(leaf) => Some(read_item(&mut self.cells, leaf, out)),
         }
-    }
-
-    fn find(&mut self, key: &Key) -> Found {
-        find(&mut self.cells, self.root, key)
-    }
-
-    fn iter(&mut self) -> Iter {
-        Iter::start(self.root)
-    }
-
-    fn restart(&mut self, iter: &mut Iter) {
-        iter.restart(self.root);
-    }
-
-    fn seek(&mut self, iter: &mut Iter, key: &Key) {
-        iter.seek(&mut self.cells, key);
-    }
-
-    fn next(&mut self, iter: &mut Iter) -> Option<Key> {
-        iter.next(&mut self.cells)
-    }
-
-    fn prev(&mut self, iter: &mut Iter) -> Option<Key> {
-        iter.prev(&mut self.cells)
-    }
-
-    fn lookup(&mut self, iter: &mut Iter, key: &Key, above: &mut Ancestors) -> Option<Leaf> {
-        iter.lookup(&mut self.cells, key, above)
-    }
-
-    fn reach(&mut self, iter: &mut Iter, key: &Key, above: &mut Ancestors) -> Option<Met> {
-        iter.reach(&mut self.cells, key, above)
-    }
-
-    fn next_leaf(&mut self, iter: &mut Iter) -> Option<Leaf> {
-        iter.next_leaf(&mut self.cells)
-    }
-
-    fn prev_leaf(&mut self, iter: &mut Iter) -> Option<Leaf> {
-        iter.prev_leaf(&mut self.cells)
-    }
-
-    fn ahead(&mut self, iter: &mut Iter) -> Option<Leaf> {
-        iter.ahead(&mut self.cells)
-    }
-
-    fn behind(&mut self, iter: &mut Iter) -> Option<Leaf> {
-        iter.behind(&mut self.cells)
-    }
-
-    fn read(&mut self, leaf: Leaf, out: &mut [u8]) -> usize {
-        read_item(&mut self.cells, leaf, out)
-    }
-
-    fn name(&mut self, leaf: Leaf) -> Name {
-        name_at(&mut self.cells, leaf)
-    }
-
-    fn count(&mut self) -> u64 {
-        count(&mut self.cells, self.root)
-    }
-
-    fn nodes(&mut self) -> u64 {
-        nodes(&mut self.cells, self.root)
     }
 }

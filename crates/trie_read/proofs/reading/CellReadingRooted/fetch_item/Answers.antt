@@ -1,6 +1,6 @@
 use Rattle.std.proofs.Common.{sym, subst}
 use Rattle.trie_model.specs.Extents.{HasItem}
-use Rattle.trie_read.proofs.reading.CellReadingReading.fetch.Goals as goal
+use Rattle.trie_read.proofs.reading.CellReadingRooted.fetch_item.Goals as goal
 
 pub read_item-requires-clause-there : goal.read_item-requires-clause-there
 read_item-requires-clause-there g c =

@@ -1,4 +1,0 @@
-use Rattle.shared_index.proofs.snapshot.SnapshotReading.read.Goals as goal
-
-pub read_item-requires-clause-there : goal.read_item-requires-clause-there
-read_item-requires-clause-there g c = (c.requires.there.0.item, c.requires.there.1.0.entry.item, c.requires.there.1.0.item)
