@@ -1,4 +1,4 @@
-//! Laws of names, each as the contract of a function that does nothing.
+//! Laws of names, each as the contract of a function that does nothing: what it reads is for the proof.
 ghost use Rattle.std.specs.Prelude.{◌≡◌, ℕ, List, Ok};
 ghost use Rattle.std.specs.Cmp.{IsTotalOrder};
 ghost use Rattle.std.specs.declared.cmp.Ordering.{Ordering};

@@ -54,7 +54,7 @@ impl State {
             Event::Publish { root, cells } => self.publish(alloc, *root, &cells.items),
             _ => Ok(self.step_in_place(event)),
         };
-        let _ = &self.passes;
+        let _ = &self.passes; // for the proof
         step
     }
 
@@ -69,7 +69,7 @@ impl State {
         for event in events {
             steps.push(self.step(alloc, event)?)?;
         }
-        let _ = &self.passes;
+        let _ = &self.passes; // for the proof
         Ok(steps)
     }
 

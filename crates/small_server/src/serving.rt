@@ -71,9 +71,11 @@ fn three<N: Named>(passes: Vec<ZonesPass<N>>) -> Passes<N>
         unreachable!()
     };
     let Some(second) = passes.pop() else {
+        // Two are left.
         unreachable!()
     };
     let Some(writer) = passes.pop() else {
+        // One is left.
         unreachable!()
     };
     Passes {

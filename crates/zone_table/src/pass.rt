@@ -30,7 +30,7 @@ impl<N: Named> ZonesPass<N> {
         ensures place { result.now.place ≡ zone + 1 }
         ensures known { known_at result.now.seat ≡ zone_known self.old zone }
     {
-        let _zones = zones;
+        let _zones = zones; // for the proof
         &mut self.zones[zone as usize]
     }
 }
