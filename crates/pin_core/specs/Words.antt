@@ -29,9 +29,12 @@ abbrev pub half_at : ℕ → Half → ℕ
 half_at reference Big = cell_at reference
 half_at reference Small = cell_at reference + 1
 
--- how many words there are
+-- how many words a table of so many chunks has
+abbrev pub words_for : ℕ → ℕ
+words_for chunks = cell_at 0 + 2 * 1024 * chunks
+
 abbrev pub word_count : Size → ℕ
-word_count z = 4161 + 2048 * z.chunks
+word_count z = words_for z.chunks
 
 -- the chunk in which a cell lies: 1,024 cells make a chunk
 abbrev pub chunk_of : ℕ → ℕ

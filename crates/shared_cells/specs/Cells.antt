@@ -9,7 +9,7 @@ use Rattle.pin_core.specs.declared.kept.Kept.{Kept}
 use Rattle.pin_core.specs.declared.kept.Mark.TheVariants as mark
 use Rattle.pin_core.specs.declared.event.Half.{Half}
 use Rattle.pin_core.specs.Machine.{is_kept_cell}
-use Rattle.pin_core.specs.Words.{status_at, cell_at, half_at}
+use Rattle.pin_core.specs.Words.{status_at, cell_at, half_at, words_for}
 use Rattle.chunk_cells.specs.Chunks.{IsGiven}
 use Rattle.shared_cells.specs.declared.view.PassView.{PassView}
 use Rattle.shared_cells.specs.declared.view.TurnView.{TurnView}
@@ -56,7 +56,7 @@ module _ {O E : Type 0} where
 -- the number, of the pass if one is joined
 abbrev pub NumberFits : {E : Type 0} → Option (PassView E) → TableId → ℕ → Type 0
 NumberFits None table number = Unit {0}
-NumberFits (Some own) table number = (own.number ≡ number) × (number < 64) × (4161 + 2048 * own.chunks ≡ table.words)
+NumberFits (Some own) table number = (own.number ≡ number) × (number < 64) × (words_for own.chunks ≡ table.words)
 
 module _ {O E : Type 0} where
   -- A place of the turn that was lent when the view was this, and has written words since.

@@ -3,7 +3,7 @@
 //! A crate that is generic over cells says of them what they have, which chunks are given and what is kept, and nothing of the
 //! seat behind them. So the rest of what the seat knew is in the type of the cells: `Lent` names it.
 ghost use Rattle.std.specs.Prelude.{◌≡◌, ◌+◌, ◌*◌, ◌/◌, ◌<◌, ◌≤◌, [], true, false, slice_index};
-ghost use Rattle.pin_core.specs.Words.{half_at, status_at};
+ghost use Rattle.pin_core.specs.Words.{half_at, status_at, words_for};
 ghost use Rattle.pin_core.specs.Machine.{is_kept_cell, is_kept_chunk};
 ghost use Rattle.shared_cells.specs.Views.{has_turn, words_of, kept_in, stored_view};
 ghost use Rattle.shared_cells.specs.Cells.{cells_of, with_words, IsNewTurn, IsJoined};
@@ -172,7 +172,7 @@ impl<O, E, L: Law<O, E>, B: Lent<O, E>> TurnCells<'_, O, E, L, B> {
     pub fn into_new(self) -> NewTurnSeat<O, E>
         requires { IsNewTurn B.view }
         ensures table { result.place.table_id ≡ B.table }
-        ensures size { 4161 + 2048 * self.entry.chunks ≡ B.table.words }
+        ensures size { words_for self.entry.chunks ≡ B.table.words }
         ensures seat { result.place.me.0 ≡ with_words B.view self.entry.words }
         ensures cells { cells_of self.entry.chunks result.place.me.0.turn ≡ record self.entry { kept = kept_in B.view.turn } }
     {
@@ -191,7 +191,7 @@ impl<O, E, L: Law<O, E>, B: Lent<O, E>> TurnCells<'_, O, E, L, B> {
     pub fn into_joined(self) -> JoinedSeat<O, E>
         requires { IsJoined B.view }
         ensures table { result.place.table_id ≡ B.table }
-        ensures size { 4161 + 2048 * self.entry.chunks ≡ B.table.words }
+        ensures size { words_for self.entry.chunks ≡ B.table.words }
         ensures seat { result.place.me.0 ≡ with_words B.view self.entry.words }
         ensures cells { cells_of self.entry.chunks result.place.me.0.turn ≡ record self.entry { kept = kept_in B.view.turn } }
     {

@@ -1,5 +1,6 @@
 //! The seats of passes, and the notes by which one tells another what it has seen.
 ghost use Rattle.std.specs.Prelude.{◌≡◌, ℕ, ◌+◌, ◌*◌, ◌<◌, ◌≤◌, length, true, false, []};
+ghost use Rattle.pin_core.specs.Words.{words_for};
 ghost use Rattle.shared_cells.specs.Views.{number_of, has_turn, is_told, is_idle, chunks_of, with_note, note_of};
 ghost use Rattle.shared_cells.specs.Steps.{Learns, Accounts};
 
@@ -27,7 +28,7 @@ pub struct NewPassSeat<O, E> {
     ghost no_turn: { has_turn place.me.0.turn ≡ false },
     ghost idle: { is_idle place.me.0.progress ≡ true },
     ghost few: { number < 64 },
-    ghost wide: { 4161 + 2048 * chunks_of place.me.0.pass ≡ place.table_id.words },
+    ghost wide: { words_for (chunks_of place.me.0.pass) ≡ place.table_id.words },
     ghost no_slots: { place.me.1 ≡ [] },
 }
 
@@ -42,7 +43,7 @@ pub struct PassSeat<O, E> {
     ghost told: { is_told place.me.0.seen.opening ≡ true },
     ghost idle: { is_idle place.me.0.progress ≡ true },
     ghost few: { number < 64 },
-    ghost wide: { 4161 + 2048 * chunks_of place.me.0.pass ≡ place.table_id.words },
+    ghost wide: { words_for (chunks_of place.me.0.pass) ≡ place.table_id.words },
     ghost no_slots: { place.me.1 ≡ [] },
 }
 

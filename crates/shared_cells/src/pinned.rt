@@ -1,6 +1,7 @@
 //! A pass that is pinned at a version, which it reads whatever is published and freed meanwhile.
 ghost use Rattle.std.specs.Prelude.{◌≡◌, ◌+◌, ◌-◌, ◌*◌, ◌%◌, ◌^◌, ◌<◌, ◌≤◌, All, length, true, false, []};
 ghost use Rattle.std.proofs.Props.{props};
+ghost use Rattle.pin_core.specs.Words.{words_for};
 ghost use Rattle.shared_cells.specs.declared.view.Progress.TheVariants as progress;
 ghost use Rattle.shared_cells.specs.History.{IsPartOf};
 ghost use Rattle.shared_cells.specs.Views.{number_of, has_turn, is_told, is_idle, is_pinned, pinned_version, pinned_root, pinned_image, chunks_of, root_of, with_progress, note_of};
@@ -34,7 +35,7 @@ pub struct PinnedSeat<O, E> {
     ghost root_is: { root ≡ pinned_root place.me.0.progress } by { Prim.hlevel props },
     ghost inside: { All (λ c. c.at < 1024 * chunks_of place.me.0.pass) (pinned_image place.me.0.progress) },
     ghost few: { number < 64 },
-    ghost wide: { 4161 + 2048 * chunks_of place.me.0.pass ≡ place.table_id.words },
+    ghost wide: { words_for (chunks_of place.me.0.pass) ≡ place.table_id.words },
     ghost no_slots: { place.me.1 ≡ [] },
 }
 

@@ -1,6 +1,7 @@
 //! The table, and how it is made with all its seats.
 ghost use Rattle.std.specs.Prelude.{◌≡◌, ◌+◌, ◌*◌, ◌≤◌, IfOk, All, map, []};
 ghost use Rattle.std.specs.List.{range_with_len};
+ghost use Rattle.pin_core.specs.Words.{words_for};
 ghost use Rattle.pin_core.specs.Machine.{started};
 ghost use Rattle.shared_cells.specs.Views.{core_size, unopened_view, pass_view};
 
@@ -18,7 +19,7 @@ use std::alloc::{AllocError, Global};
 pub struct Shared<O, E, L: Law<O, E>> {
     pub table: IndexTable<O, E, L>,
     ghost few: { (table.shared.key.passes ≤ 64) × (table.shared.key.chunks ≤ 4096) },
-    ghost wide: { 4161 + 2048 * table.shared.key.chunks ≡ table.shared.table_id.words },
+    ghost wide: { words_for table.shared.key.chunks ≡ table.shared.table_id.words },
 }
 
 /// A table with its seats: one for each pass, and the turn's.

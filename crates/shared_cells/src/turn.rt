@@ -1,5 +1,6 @@
 //! The seat that has the turn: the one by which versions are made.
 ghost use Rattle.std.specs.Prelude.{◌≡◌, ◌+◌, ◌*◌, ◌<◌, ◌≤◌, length, replicate, true, false, [], Some};
+ghost use Rattle.pin_core.specs.Words.{words_for};
 ghost use Rattle.pin_core.specs.declared.kept.Mark.TheVariants as mark;
 ghost use Rattle.shared_cells.specs.Views.{number_of, marks_of, words_of, has_turn, is_told, chunks_of, note_of, pass_of, without_pass, with_pass};
 ghost use Rattle.shared_cells.specs.Steps.{CanOpen, Opened, CanPublish, Published, Confirmed};
@@ -60,7 +61,7 @@ pub struct JoinedSeat<O, E> {
     ghost told: { is_told place.me.0.seen.opening ≡ true },
     ghost version_is: { version ≡ length place.me.0.seen.history },
     ghost few: { number < 64 },
-    ghost wide: { 4161 + 2048 * chunks_of place.me.0.pass ≡ place.table_id.words },
+    ghost wide: { words_for (chunks_of place.me.0.pass) ≡ place.table_id.words },
     ghost round: { (1 ≤ passes) × (passes ≤ 64) },
     ghost blank: { marks_of place.me.0.turn ≡ replicate passes mark.Blank },
     ghost copied: { length (words_of place.me.0.turn) ≡ place.table_id.words },

@@ -1,5 +1,6 @@
 //! An operation tried once, by who has the turn.
 ghost use Rattle.std.specs.Prelude.{◌≡◌, ◌+◌, ◌*◌, List, length};
+ghost use Rattle.pin_core.specs.Words.{words_for};
 ghost use Rattle.trie_model.specs.Keys.{Entry};
 ghost use Rattle.shared_index.specs.Turns.{Agrees, cells_with};
 ghost use Rattle.shared_index.specs.Bases.{StandsFor};
@@ -26,7 +27,7 @@ pub(crate) fn attempt<L: Law, B: Lent<Version, Operations>>(
 )
     requires table { seat.place.table_id ≡ shared.now.table.shared.table_id }
     requires lent { (seat.place.table_id ≡ B.table) × (seat.place.me.0 ≡ B.view) }
-    requires wide { 4161 + 2048 * length usage.old.given ≡ seat.place.table_id.words }
+    requires wide { words_for (length usage.old.given) ≡ seat.place.table_id.words }
     requires agrees { Agrees (cells_with usage.old seat.place.me.0.turn) usage.old seat.passes }
     requires stands { (es : List Entry) × StandsFor seat.place.me.0 usage.old root es }
     requires leads { LeadsItem change.now }

@@ -1,6 +1,7 @@
 //! The turn with its usage: between two transactions, and during one.
 ghost use Rattle.std.specs.Prelude.{◌≡◌, ◌+◌, ◌*◌, List, [], length};
 ghost use Rattle.std.proofs.Props.{props};
+ghost use Rattle.pin_core.specs.Words.{words_for};
 ghost use Rattle.shared_cells.specs.Views.{kept_in, pass_of};
 ghost use Rattle.shared_index.specs.Passes.{version_seen};
 ghost use Rattle.shared_index.specs.Turns.{Agrees, AtRest, cells_with, current_root};
@@ -24,7 +25,7 @@ pub struct Desk {
     pub(crate) usage: Usage,
     /// The current version's.
     pub(crate) root: Option<Ref>,
-    ghost wide: { 4161 + 2048 * length usage.given ≡ seat.place.table_id.words },
+    ghost wide: { words_for (length usage.given) ≡ seat.place.table_id.words },
     ghost agrees: { Agrees (cells_with usage seat.place.me.0.turn) usage seat.passes } by { Prim.hlevel props },
     ghost at_rest: { AtRest usage } by { Prim.hlevel props },
     ghost root_is: { root ≡ current_root (kept_in seat.place.me.0.turn) } by { Prim.hlevel props },
@@ -42,7 +43,7 @@ pub struct Draft {
     pub(crate) root: Option<Ref>,
     /// What was done to the base.
     pub(crate) log: Log,
-    ghost wide: { 4161 + 2048 * length usage.given ≡ seat.place.table_id.words },
+    ghost wide: { words_for (length usage.given) ≡ seat.place.table_id.words },
     ghost agrees: { Agrees (cells_with usage seat.place.me.0.turn) usage seat.passes } by { Prim.hlevel props },
     ghost base_is: { base ≡ current_root (kept_in seat.place.me.0.turn) } by { Prim.hlevel props },
 }

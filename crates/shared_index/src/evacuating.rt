@@ -1,5 +1,6 @@
 //! What lies in sparse chunks, moved by who has the turn.
 ghost use Rattle.std.specs.Prelude.{◌≡◌, ◌+◌, ◌*◌, ◌/◌, ◌≤◌, List, length};
+ghost use Rattle.pin_core.specs.Words.{words_for};
 ghost use Rattle.trie_model.specs.Keys.{Entry};
 ghost use Rattle.shared_cells.specs.Views.{kept_in};
 ghost use Rattle.shared_index.specs.Turns.{Agrees, cells_with};
@@ -23,7 +24,7 @@ fn evacuate<L: Law, B: Lent<Version, Operations>>(
 ) -> (JoinedSeat<Version, Operations>, Option<Ref>, Done)
     requires table { seat.place.table_id ≡ shared.now.table.shared.table_id }
     requires lent { (seat.place.table_id ≡ B.table) × (seat.place.me.0 ≡ B.view) }
-    requires wide { 4161 + 2048 * length usage.old.given ≡ seat.place.table_id.words }
+    requires wide { words_for (length usage.old.given) ≡ seat.place.table_id.words }
     requires agrees { Agrees (cells_with usage.old seat.place.me.0.turn) usage.old seat.passes }
     requires stands { (es : List Entry) × StandsFor seat.place.me.0 usage.old root es }
     ensures table { result.0.place.table_id ≡ seat.place.table_id }

@@ -1,5 +1,6 @@
 //! The working set, read by its transaction.
 ghost use Rattle.std.specs.Prelude.{◌≡◌, ◌≤◌, ◌+◌, ◌*◌, List, length};
+ghost use Rattle.pin_core.specs.Words.{words_for};
 ghost use Rattle.zone_model.specs.Keys.{most_item_octets};
 ghost use Rattle.trie_model.specs.Keys.{Entry};
 ghost use Rattle.trie_read.specs.Readings.{Fetched};
@@ -25,7 +26,7 @@ fn fetch_item<L: Law, B: Lent<Version, Operations>>(
 ) -> (JoinedSeat<Version, Operations>, Option<usize>)
     requires table { seat.place.table_id ≡ shared.now.table.shared.table_id }
     requires lent { (seat.place.table_id ≡ B.table) × (seat.place.me.0 ≡ B.view) }
-    requires wide { 4161 + 2048 * length _usage.now.given ≡ seat.place.table_id.words }
+    requires wide { words_for (length _usage.now.given) ≡ seat.place.table_id.words }
     requires stands { (es : List Entry) × StandsFor seat.place.me.0 _usage.now root es }
     requires room { most_item_octets ≤ length out.old }
     ensures table { result.0.place.table_id ≡ seat.place.table_id }

@@ -1,5 +1,6 @@
 //! Chunks that nothing needs, freed by who has the turn.
 ghost use Rattle.std.specs.Prelude.{◌≡◌, ℕ, ◌+◌, ◌*◌, List, Option, length};
+ghost use Rattle.pin_core.specs.Words.{words_for};
 ghost use Rattle.trie_model.specs.Keys.{Entry};
 ghost use Rattle.chunk_usage.specs.Ledger.{free_count};
 ghost use Rattle.chunk_usage.specs.Keeping.{freed};
@@ -21,7 +22,7 @@ pub(crate) fn free_unreached<L: Law, B: Lent<Version, Operations>>(
 ) -> (JoinedSeat<Version, Operations>, u32)
     requires table { seat.place.table_id ≡ shared.now.table.shared.table_id }
     requires lent { (seat.place.table_id ≡ B.table) × (seat.place.me.0 ≡ B.view) }
-    requires wide { 4161 + 2048 * length usage.old.given ≡ seat.place.table_id.words }
+    requires wide { words_for (length usage.old.given) ≡ seat.place.table_id.words }
     requires agrees { Agrees (cells_with usage.old seat.place.me.0.turn) usage.old seat.passes }
     ensures table { result.0.place.table_id ≡ seat.place.table_id }
     ensures same { result.0.place.me.0 ≡ with_words seat.place.me.0 (words_of result.0.place.me.0.turn) }
