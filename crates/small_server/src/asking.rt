@@ -85,8 +85,8 @@ pub fn ask<N: Named>(
     };
     let index = zones.zone(zone);
     let origin = zones.origin(zone);
-    let place = pass.zone(zones, zone);
-    let (version, answer) = ask_index(alloc, index, place, origin, name, rtype)?;
+    let zone_pass = pass.zone(zones, zone);
+    let (version, answer) = ask_index(alloc, index, zone_pass, origin, name, rtype)?;
     let from = FromZone {
         zone,
         version,

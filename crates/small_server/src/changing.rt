@@ -51,6 +51,6 @@ pub fn change_zone<R: Wait, N: Named>(
 {
     let index = zones.zone(zone);
     let origin = zones.origin(zone);
-    let place = pass.zone(zones, zone);
-    change(rt, alloc, index, place, origin, operations)
+    let zone_pass = pass.zone(zones, zone);
+    change(rt, alloc, index, zone_pass, origin, operations)
 }

@@ -117,6 +117,6 @@ pub fn transfer_beside<R: Threads + Wait + Sync, N: Named + Send + Sync>(
     ensures beside { IfOk result (λ x. AreBesideOf zones.now.origins.items x.1) }
 {
     let index = zones.zone(0);
-    let place = pass.zone(zones, 0);
-    hold_beside(rt, alloc, zones, index, place, writer, operations, task)
+    let zone_pass = pass.zone(zones, 0);
+    hold_beside(rt, alloc, zones, index, zone_pass, writer, operations, task)
 }
