@@ -4,7 +4,7 @@ ghost use Rattle.std.specs.Prelude.{◌≡◌, ◌<◌, ◌≤◌, ℕ, true, If
 ghost use Rattle.trie_model.specs.Trees.{Tree};
 ghost use Rattle.chunk_usage.specs.Rooms.{reserve_account_of};
 ghost use Rattle.trie_read.specs.Reads.{IsTop};
-ghost use Rattle.trie_write.specs.Spaces.{Ready, IsWritable};
+ghost use Rattle.trie_space.specs.Spaces.{Ready, IsWritable};
 ghost use Rattle.evacuate.specs.Fillings.{IsFull};
 ghost use Rattle.evacuate.specs.Places.{IsStood};
 ghost use Rattle.evacuate.specs.Rearranging.{Rearranged};
