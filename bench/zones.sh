@@ -12,7 +12,7 @@ program=${1:-$folder/crates/zones/out/zones}
 
 # builds the program
 build() {
-    below='zone_model dns_name shift_key pin_core packed_node trie_model chunk_cells trie_read chunk_sets chunk_hints chunk_usage trie_write evacuate shared_cells shared_index zone_table'
+    below='zone_model dns_name shift_key pin_core packed_node trie_model chunk_cells trie_read chunk_sets chunk_hints chunk_usage trie_space trie_write evacuate shared_cells shared_index zone_table'
     crate=$folder/crates/zones
     mkdir -p "$crate/src" "$crate/proofs"
     cp "$here/../HANDLES" "$folder/"

@@ -1,5 +1,5 @@
 -- The way down along a path: from a branch to one of its twigs.
-use Rattle.std.proofs.Common.{◌≡◌, ℕ, suc, ◌+◌, ◌<◌, ◌≤◌, ◌^◌, ◌++◌, List, [], ◌∷◌, count_ones, arith, refl, sym, ◌∙◌, ap, subst}
+use Rattle.std.proofs.Common.{◌≡◌, ℕ, ◌+◌, ◌<◌, ◌≤◌, ◌^◌, ◌++◌, List, [], ◌∷◌, count_ones, arith, refl, sym, ◌∙◌, ap, subst}
 use Rattle.packed_node.specs.declared.Cell.{Cell}
 use Rattle.packed_node.specs.declared.Branch.{Branch}
 use Rattle.packed_node.specs.declared.Node.{Node}
@@ -7,18 +7,18 @@ use Rattle.packed_node.specs.declared.Node.TheVariants as node
 use Rattle.packed_node.specs.Nodes.{IsNode, packed}
 use Rattle.trie_model.specs.Keys.{Entry}
 use Rattle.trie_model.specs.Memory.{top_cell, node_of}
-use Rattle.trie_model.specs.Trees.{Tree, count}
+use Rattle.trie_model.specs.Trees.{Tree}
 use Rattle.trie_model.specs.Trees.Tree.{branch}
 use Rattle.trie_model.proofs.NodeLaws.{BranchTold, branch_told, places_left, fewer_left}
 use Rattle.trie_read.specs.Reads.{IsTop}
 use Rattle.chunk_usage.specs.Ledger.{Ledger}
-use Rattle.trie_write.specs.Ways.{Fork, fork, plug, end_at}
-use Rattle.trie_write.proofs.PutLaws.{plug-append, end_at-append}
+use Rattle.trie_space.specs.Ways.{Fork, fork, plug, end_at}
+use Rattle.trie_space.proofs.WayLaws.{plug-append, end_at-append}
 use Rattle.evacuate.specs.Places.{moved, Stood, Hung, HangsIn, IsHung}
 use Rattle.evacuate.specs.Trails.{TwigsAt}
 use Rattle.evacuate.proofs.DescentLaws.{begins, hung_there, hung_says, hung_read}
-use Rattle.evacuate.proofs.TrailLaws.{TwigAt, early, late, twig_here, twig_top, read_is, row_inside, counted}
-use Rattle.evacuate.proofs.TreeLaws.{hung_tree, hung_hangs}
+use Rattle.evacuate.proofs.TrailLaws.{TwigAt, early, twig_here, row_inside, counted}
+use Rattle.evacuate.proofs.TreeLaws.{hung_hangs}
 
 -- ---- a walk that only reads
 

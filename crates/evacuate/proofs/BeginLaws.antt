@@ -16,9 +16,9 @@ use Rattle.chunk_usage.specs.Keeping.{closed, full}
 use Rattle.chunk_usage.specs.Ledger.{Ledger, IsLedger, IsBump, is_given, is_bump, is_used, is_mutable, filled, free_count, frozen_part}
 use Rattle.chunk_usage.specs.Rooms.{Grows, reserve_account_of}
 use Rattle.chunk_usage.proofs.SpaceLaws.{used_given}
-use Rattle.trie_write.specs.Spaces.{Ready, Fenced, IsWritable}
-use Rattle.trie_write.proofs.SpaceLaws.{ready_grows}
-use Rattle.trie_write.proofs.WeightLaws.{mark_grows}
+use Rattle.trie_space.specs.Spaces.{Ready, Fenced, IsWritable}
+use Rattle.trie_space.proofs.SpaceLaws.{ready_grows}
+use Rattle.trie_space.proofs.WeightLaws.{mark_grows}
 use Rattle.evacuate.specs.Evacuations.{FillsNew, HasSparse}
 use Rattle.evacuate.specs.Fillings.{Fills, Moves, begun, filled_on, filled_on_of, is_filled_on, is_old, old_chunks, old_live}
 use Rattle.evacuate.specs.Places.{Stood}

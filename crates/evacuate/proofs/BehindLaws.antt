@@ -13,7 +13,7 @@ use Rattle.trie_model.specs.Trees.Tree.{leaf}
 use Rattle.trie_model.proofs.NodeLaws.{leaf_said}
 use Rattle.chunk_usage.specs.Counting.{is_sparse}
 use Rattle.chunk_usage.specs.Ledger.{Ledger}
-use Rattle.trie_write.specs.Ways.{Fork, plug, end_at}
+use Rattle.trie_space.specs.Ways.{Fork, plug, end_at}
 use Rattle.evacuate.specs.Chains.{chain, octets_behind, Goes, GoesOn}
 use Rattle.evacuate.specs.Evacuations.{HasSparse}
 use Rattle.evacuate.specs.Fillings.{Fills, Moves, Fewer}

@@ -18,14 +18,13 @@ use Rattle.chunk_usage.specs.Ledger.{Ledger, is_used}
 use Rattle.chunk_usage.specs.Handing.{released}
 use Rattle.chunk_usage.specs.Rooms.{Handed, reserve_account_of}
 use Rattle.chunk_usage.proofs.RowLemmas.{row_here, counts_fewer}
-use Rattle.trie_write.specs.Mutable.{Rooted, Hangs}
-use Rattle.trie_write.specs.Puts.{no_spare}
-use Rattle.trie_write.specs.Spaces.{Frame}
-use Rattle.trie_write.specs.Ways.{Fork, plug, end_at}
-use Rattle.trie_write.specs.Weights.{at_place, mark}
-use Rattle.trie_write.proofs.PutLaws.{met_used, end_hangs, end_used}
-use Rattle.trie_write.proofs.WayLaws.{around, weigh_plug, plug_lies, end_lies, low_at, end_tree, plug_tree, follows_same, entries_plug}
-use Rattle.trie_write.proofs.WeightLaws.{at_itself, each_met, mark_le, row_meets, handed_fresh}
+use Rattle.trie_space.specs.Rooted.{Rooted, Hangs, no_spare}
+use Rattle.trie_space.specs.Spaces.{Frame}
+use Rattle.trie_space.specs.Ways.{Fork, plug, end_at}
+use Rattle.trie_space.specs.Weights.{at_place, mark}
+use Rattle.trie_space.proofs.RootedLaws.{met_used, end_hangs, end_used}
+use Rattle.trie_space.proofs.WayLaws.{around, weigh_plug, plug_lies, end_lies, low_at, end_tree, plug_tree, follows_same, entries_plug}
+use Rattle.trie_space.proofs.WeightLaws.{at_itself, each_met, mark_le, row_meets, handed_fresh}
 use Rattle.evacuate.specs.Chains.{chain, octets_behind, Goes}
 use Rattle.evacuate.specs.Places.{first_width, put_first}
 use Rattle.evacuate.proofs.TreeLaws.{put_are, put_weigh, put_lies, put_there, first_met, first_cells, first_within, first_row, first_few, Row}

@@ -14,10 +14,8 @@ use Rattle.trie_model.proofs.BitmapLaws.{ones_of}
 use Rattle.trie_model.proofs.NodeLaws.{branch_told, node_read, says_node, places_left, fewer_left}
 use Rattle.trie_model.proofs.SplitLaws.{rising_of}
 use Rattle.chunk_usage.specs.Ledger.{Ledger}
-use Rattle.trie_write.specs.Tops.{NotBefore}
-use Rattle.trie_write.specs.Ways.{Fork, fork, plug, end_at}
-use Rattle.trie_write.proofs.PutLaws.{plug-append, end_at-append}
-use Rattle.trie_write.proofs.WayLaws.{IsFork, is_fork, fork_count, low_at, end_lies}
+use Rattle.trie_space.specs.Ways.{NotBefore, Fork, fork, plug, end_at}
+use Rattle.trie_space.proofs.WayLaws.{plug-append, end_at-append, IsFork, is_fork, fork_count, low_at, end_lies}
 use Rattle.evacuate.specs.declared.trail.Trail.{Trail}
 use Rattle.evacuate.specs.Evacuations.{HasSparse}
 use Rattle.evacuate.specs.Fillings.{Moves}

@@ -20,11 +20,11 @@ use Rattle.chunk_usage.specs.Ledger.{Ledger, IsLedger, is_given, is_bump, is_use
 use Rattle.chunk_usage.specs.Rooms.{reserve_account_of}
 use Rattle.chunk_sets.proofs.FlagLemmas.{set_within}
 use Rattle.trie_model.proofs.ExtentLaws.{first_true}
-use Rattle.trie_write.specs.Standing.{StandsIn}
-use Rattle.trie_write.proofs.ChangeLaws.{stands_rooted, rooted_stands}
+use Rattle.trie_space.specs.Standing.{StandsIn}
+use Rattle.trie_space.proofs.RootedLaws.{stands_rooted, rooted_stands}
 use Rattle.evacuate.specs.declared.evacuation.Done.{Done}
 use Rattle.evacuate.specs.declared.evacuation.Done.TheVariants.{Whole, Stopped}
-use Rattle.evacuate.specs.Evacuations.{IsDense, IsCleared, HasSparse, refused}
+use Rattle.evacuate.specs.Evacuations.{IsDense, IsCleared, refused}
 use Rattle.evacuate.specs.Fillings.{Fills, IsFull, is_old, old_live}
 use Rattle.evacuate.specs.Places.{Stood}
 use Rattle.evacuate.proofs.FillingLaws.{all_parts, sparse_old}

@@ -6,8 +6,8 @@ use Rattle.trie_model.specs.Trees.{Tree}
 use Rattle.chunk_usage.specs.Ledger.{Ledger}
 use Rattle.chunk_usage.specs.Rooms.{reserve_account_of}
 use Rattle.trie_read.specs.Reads.{IsTop}
-use Rattle.trie_write.specs.Spaces.{Fenced, IsWritable}
-use Rattle.trie_write.proofs.SpaceLaws.{frame_refl, fenced_of, fenced_then, writable_later}
+use Rattle.trie_space.specs.Spaces.{Fenced, IsWritable}
+use Rattle.trie_space.proofs.SpaceLaws.{frame_refl, fenced_of, fenced_then, writable_later}
 use Rattle.evacuate.specs.declared.trail.Trail.{Trail}
 use Rattle.evacuate.specs.Fillings.{Fills, Moves}
 use Rattle.evacuate.specs.Places.{Stood, IsStood}

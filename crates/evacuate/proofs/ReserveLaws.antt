@@ -12,7 +12,7 @@ use Rattle.chunk_usage.specs.declared.space.Full.{Full}
 use Rattle.chunk_usage.specs.Rooms.{Handed, account_of, reserve_account_of}
 use Rattle.chunk_usage.specs.Ledger.{Ledger, IsLedger, is_given, is_bump, is_used, is_mutable, filled, left, free_count, frozen_part}
 use Rattle.chunk_usage.specs.Handing.{IsSpent, lowest_free, newly_taken, new_grant, roomy, shortage, spent, unspent, granted_from, allocated_from, reserve_granted_from, reserve_allocated_from, reserve_grant_of, reserve_allocated}
-use Rattle.trie_write.specs.Spaces.{Ready}
+use Rattle.trie_space.specs.Spaces.{Ready}
 use Rattle.chunk_sets.proofs.FlagLemmas.{set_stays, get_set, get_clear, one_fewer_clear, First, first_is}
 use Rattle.chunk_usage.proofs.RowLemmas.{counts_more}
 use Rattle.chunk_usage.proofs.HandingLaws.{opened_mutable}

@@ -16,7 +16,7 @@ use Rattle.trie_model.proofs.NodeLaws.{branch_told}
 use Rattle.chunk_usage.specs.Counting.{is_sparse}
 use Rattle.chunk_usage.specs.Ledger.{Ledger}
 use Rattle.chunk_usage.proofs.RowLemmas.{row_here, row_there}
-use Rattle.trie_write.specs.Ways.{Fork}
+use Rattle.trie_space.specs.Ways.{Fork}
 use Rattle.evacuate.specs.Evacuations.{HasSparse}
 use Rattle.evacuate.specs.Places.{Hung}
 use Rattle.evacuate.specs.Sparse.{SparseExtents, LiesSparse}

@@ -20,7 +20,7 @@ use Rattle.chunk_usage.specs.Counting.{is_sparse}
 use Rattle.chunk_usage.specs.Ledger.{Ledger}
 use Rattle.chunk_usage.proofs.RowLemmas.{row_there}
 use Rattle.trie_read.specs.Reads.{IsTop}
-use Rattle.trie_write.specs.Tops.{NotBefore}
+use Rattle.trie_space.specs.Ways.{NotBefore}
 use Rattle.evacuate.specs.declared.trail.Trail.{Trail}
 use Rattle.evacuate.specs.Sparse.{SparseExtents, LiesSparse}
 use Rattle.evacuate.specs.Trails.{Found}

@@ -24,14 +24,14 @@ use Rattle.chunk_usage.specs.Ledger.{Ledger, is_used}
 use Rattle.chunk_usage.specs.Handing.{released}
 use Rattle.chunk_usage.specs.Rooms.{Handed, reserve_account_of}
 use Rattle.chunk_usage.proofs.RowLemmas.{row_here, counts_fewer}
-use Rattle.trie_write.specs.Mutable.{Hangs}
-use Rattle.trie_write.specs.Spaces.{Frame, IsWritable}
+use Rattle.trie_space.specs.Rooted.{Hangs}
+use Rattle.trie_space.specs.Spaces.{Frame, IsWritable}
 use Rattle.chunk_cells.specs.Chunks.{IsGiven}
-use Rattle.trie_write.specs.Ways.{Fork}
-use Rattle.trie_write.specs.Weights.{at_place, mark}
-use Rattle.trie_write.proofs.PutLaws.{met_used, rooted_within, end_hangs, put_rooted}
-use Rattle.trie_write.proofs.WayLaws.{low_at, end_tree, plug_tree, follows_same, before, after, entries_plug}
-use Rattle.trie_write.proofs.WeightLaws.{at_itself, handed_fresh}
+use Rattle.trie_space.specs.Ways.{Fork}
+use Rattle.trie_space.specs.Weights.{at_place, mark}
+use Rattle.trie_space.proofs.RootedLaws.{met_used, rooted_within, end_hangs, put_rooted}
+use Rattle.trie_space.proofs.WayLaws.{low_at, end_tree, plug_tree, follows_same, before, after, entries_plug}
+use Rattle.trie_space.proofs.WeightLaws.{at_itself, handed_fresh}
 use Rattle.evacuate.specs.Places.{first_of, first_width, width_of, put_at, put_first, moved, Stood, Hung}
 
 -- ---- one tree

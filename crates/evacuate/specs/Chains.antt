@@ -6,7 +6,7 @@ use Rattle.trie_model.specs.Extents.Extents.{linked}
 use Rattle.trie_model.specs.Keys.{Entry}
 use Rattle.trie_model.specs.Trees.Tree.{leaf}
 use Rattle.chunk_usage.specs.Ledger.{Ledger}
-use Rattle.trie_write.specs.Ways.{Fork, plug}
+use Rattle.trie_space.specs.Ways.{Fork, plug}
 use Rattle.evacuate.specs.Places.{Stood}
 use Rattle.evacuate.specs.Sparse.{SparseExtents}
 

@@ -11,9 +11,8 @@ use Rattle.trie_model.specs.Trees.{Tree, entries_of, IsTree}
 use Rattle.trie_model.specs.Trees.Tree.{leaf, branch}
 use Rattle.chunk_usage.specs.Ledger.{Ledger}
 use Rattle.chunk_usage.specs.Rooms.{reserve_account_of}
-use Rattle.trie_write.specs.Mutable.{Rooted}
-use Rattle.trie_write.specs.Puts.{no_spare}
-use Rattle.trie_write.specs.Ways.{Fork, plug, end_at}
+use Rattle.trie_space.specs.Rooted.{Rooted, no_spare}
+use Rattle.trie_space.specs.Ways.{Fork, plug, end_at}
 
 -- the first of the cells that hang on a node, and how many they are: its twigs, or those of its item's first extent
 abbrev pub first_of : Node → ℕ

@@ -5,7 +5,7 @@ use Rattle.trie_model.specs.Keys.{Entry}
 use Rattle.trie_model.specs.Trees.{Tree}
 use Rattle.chunk_usage.specs.Ledger.{Ledger}
 use Rattle.chunk_usage.specs.Rooms.{reserve_account_of}
-use Rattle.trie_write.specs.Spaces.{Fenced}
+use Rattle.trie_space.specs.Spaces.{Fenced}
 use Rattle.evacuate.specs.Fillings.{Fills, Moves}
 use Rattle.evacuate.specs.Places.{Stood}
 

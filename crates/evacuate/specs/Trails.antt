@@ -6,8 +6,7 @@ use Rattle.trie_model.specs.Keys.{Entry}
 use Rattle.trie_model.specs.Memory.{node_of}
 use Rattle.trie_model.specs.Trees.{Tree, count}
 use Rattle.chunk_usage.specs.Ledger.{Ledger}
-use Rattle.trie_write.specs.Tops.{NotBefore}
-use Rattle.trie_write.specs.Ways.{Fork, plug}
+use Rattle.trie_space.specs.Ways.{NotBefore, Fork, plug}
 use Rattle.evacuate.specs.declared.trail.Trail.{Trail}
 use Rattle.evacuate.specs.Places.{moved, Stood, Hung, IsHung}
 use Rattle.evacuate.specs.Sparse.{LiesSparse}

@@ -6,7 +6,7 @@ ghost use Rattle.trie_model.specs.Trees.{Tree};
 ghost use Rattle.chunk_usage.specs.Counting.{is_unmixed};
 ghost use Rattle.chunk_usage.specs.Ledger.{is_used, is_mutable};
 ghost use Rattle.chunk_usage.specs.Rooms.{Grows, reserve_account_of};
-ghost use Rattle.trie_write.specs.Spaces.{Ready, Fenced, IsWritable};
+ghost use Rattle.trie_space.specs.Spaces.{Ready, Fenced, IsWritable};
 ghost use Rattle.evacuate.specs.Fillings.{Fills, Moves, IsFull, begun, filled_on, is_filled_on, is_old, old_chunks};
 ghost use Rattle.evacuate.specs.Places.{Stood, IsStood};
 

@@ -5,7 +5,7 @@ ghost use Rattle.packed_node.specs.declared.Branch.{Branch};
 ghost use Rattle.packed_node.specs.declared.Node.TheVariants.{Branch as branch_node};
 ghost use Rattle.chunk_usage.specs.Ledger.{is_mutable};
 ghost use Rattle.chunk_usage.specs.Rooms.{reserve_account_of};
-ghost use Rattle.trie_write.specs.Spaces.{Ready, IsWritable};
+ghost use Rattle.trie_space.specs.Spaces.{Ready, IsWritable};
 ghost use Rattle.evacuate.specs.Places.{Hangs, IsStood};
 
 use super::path_walk::{Descent, descent_on};

@@ -4,16 +4,16 @@ ghost use Rattle.std.specs.Prelude.{◌≡◌, ◌<◌, ◌≤◌, ℕ, true, If
 ghost use Rattle.trie_model.specs.Trees.{Tree};
 ghost use Rattle.chunk_usage.specs.Rooms.{reserve_account_of};
 ghost use Rattle.trie_read.specs.Reads.{IsTop};
-ghost use Rattle.trie_write.specs.Spaces.{Ready, IsWritable};
+ghost use Rattle.trie_space.specs.Spaces.{Ready, IsWritable};
 ghost use Rattle.evacuate.specs.Fillings.{IsFull};
 ghost use Rattle.evacuate.specs.Places.{IsStood};
 ghost use Rattle.evacuate.specs.Rearranging.{Rearranged};
 ghost use Rattle.evacuate.specs.Trails.{Found};
 
 use super::descent::{move_found, reach};
-use super::path_walk::{NO_OFFSET, descent_on};
-use super::sparse::{is_chunk_sparse, is_item_sparse};
-use super::trail::Trail;
+use super::path_walk::descent_on;
+use super::sparse::is_chunk_sparse;
+use super::trail::{Trail, ends_at_leaf};
 use chunk_cells::{CellRead, CellWrite};
 use chunk_usage::{Full, Path, Usage};
 use packed_node::{Branch, Cell, Node, Ref, chunk_of};
@@ -73,13 +73,7 @@ fn last_below<C: CellRead>(
     }
     *nodes -= 1;
     match Node::of(node) {
-        Node::Leaf(leaf) => {
-            let sparse = is_item_sparse(cells, usage, leaf.at, leaf.len);
-            if sparse {
-                trail.end = NO_OFFSET;
-            }
-            sparse
-        }
+        Node::Leaf(leaf) => ends_at_leaf(cells, usage, trail, leaf),
         Node::Branch(branch) => {
             let on = twigs_on(branch, path);
             for i in on.first..on.end {

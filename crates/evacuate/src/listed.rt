@@ -2,7 +2,7 @@
 
 ghost use Rattle.std.specs.Prelude.{◌≡◌, IfErr};
 ghost use Rattle.chunk_usage.specs.Rooms.{reserve_account_of};
-ghost use Rattle.trie_write.specs.Spaces.{Ready, IsWritable};
+ghost use Rattle.trie_space.specs.Spaces.{Ready, IsWritable};
 ghost use Rattle.evacuate.specs.Fillings.{IsFull};
 ghost use Rattle.evacuate.specs.Places.{IsStood};
 ghost use Rattle.evacuate.specs.Rearranging.{Rearranged};

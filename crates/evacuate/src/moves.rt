@@ -7,8 +7,8 @@ ghost use Rattle.trie_model.specs.Keys.{Entry};
 ghost use Rattle.trie_model.specs.Memory.{node_of};
 ghost use Rattle.trie_model.specs.Trees.{Tree};
 ghost use Rattle.chunk_usage.specs.Rooms.{Handed, reserve_account_of};
-ghost use Rattle.trie_write.specs.Spaces.{Ready, Frame, Fenced, MayWrite, IsWritable};
-ghost use Rattle.trie_write.specs.Ways.{Fork};
+ghost use Rattle.trie_space.specs.Spaces.{Ready, Frame, Fenced, MayWrite, IsWritable};
+ghost use Rattle.trie_space.specs.Ways.{Fork};
 ghost use Rattle.evacuate.specs.Chains.{Goes, GoesOn};
 ghost use Rattle.evacuate.specs.Fillings.{Fills, Moves, Paid, IsFull, is_old};
 ghost use Rattle.evacuate.specs.Places.{first_of, first_width, width_of, put_first, moved, Stood, Hung, IsStood, IsHung};
@@ -19,7 +19,7 @@ use chunk_cells::CellWrite;
 use chunk_cells::extents::{LINKED_OCTETS, link_of, link_to, next_extent};
 use chunk_usage::{Full, Usage};
 use packed_node::{Node, Ref};
-use trie_write::copy_twigs;
+use trie_space::copy_twigs;
 
 /// Copies cells in use to new ones.
 #[inline]

@@ -4,7 +4,7 @@ ghost use Rattle.std.specs.Prelude.{◌≡◌, ◌≢◌, ◌+◌, ◌^◌, ◌/
 ghost use Rattle.packed_node.specs.declared.Cell.{Cell};
 ghost use Rattle.chunk_usage.specs.Handing.{reserve_allocated};
 ghost use Rattle.chunk_usage.specs.Rooms.{Handed, reserve_account_of};
-ghost use Rattle.trie_write.specs.Spaces.{Ready, Frame, MayWrite};
+ghost use Rattle.trie_space.specs.Spaces.{Ready, Frame, MayWrite};
 ghost use Rattle.evacuate.specs.Fillings.{Fills, Moves, IsFull, is_old};
 
 use chunk_cells::CellWrite;

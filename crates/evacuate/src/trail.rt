@@ -1,16 +1,19 @@
 //! The walk through a trie to what lies in sparse chunks.
 
-ghost use Rattle.std.specs.Prelude.{◌≡◌, ◌≢◌, ◌+◌, ◌<◌, ◌≤◌, ℕ, true, false, slice_index};
+ghost use Rattle.std.specs.Prelude.{◌≡◌, ◌≢◌, ◌+◌, ◌<◌, ◌≤◌, ℕ, List, true, false, slice_index};
+ghost use Rattle.trie_model.specs.Extents.{Extents, HasItem, LiesAt};
 ghost use Rattle.trie_model.specs.Reach.{in_chunk, weigh_tree};
 ghost use Rattle.trie_model.specs.Trees.{Tree};
 ghost use Rattle.trie_read.specs.Reads.{IsTop};
 ghost use Rattle.chunk_usage.specs.Counting.{is_sparse};
+ghost use Rattle.evacuate.specs.Sparse.{SparseExtents};
 ghost use Rattle.evacuate.specs.Trails.{Found};
 
+use super::path_walk::NO_OFFSET;
 use super::sparse::is_item_sparse;
 use chunk_cells::CellRead;
 use chunk_usage::Usage;
-use packed_node::{Branch, Cell, Node, chunk_of};
+use packed_node::{Branch, Cell, Leaf, Node, chunk_of};
 
 /// The way to a node. Offsets rise along it, so each has a place of its own.
 #[derive(Clone, Copy)]
@@ -82,13 +85,7 @@ pub fn next_sparse<C: CellRead>(
     ensures above { (i : ℕ) → i < low → slice_index trail.new.indices i ≡ slice_index trail.old.indices i }
 {
     match Node::of(node) {
-        Node::Leaf(leaf) => {
-            let sparse = is_item_sparse(cells, usage, leaf.at, leaf.len);
-            if sparse {
-                trail.end = 504;
-            }
-            sparse
-        }
+        Node::Leaf(leaf) => ends_at_leaf(cells, usage, trail, leaf),
         Node::Branch(branch) => {
             let chunk = chunk_of(branch.twigs);
             if usage.is_sparse(chunk) {
@@ -110,4 +107,25 @@ pub fn next_sparse<C: CellRead>(
             false
         }
     }
+}
+
+/// Whether some extent of a leaf's item lies in a sparse chunk; the trail then leads to the leaf.
+pub fn ends_at_leaf<C: CellRead>(
+    cells: &mut C,
+    usage: &Usage,
+    trail: &mut Trail,
+    leaf: Leaf,
+) -> bool
+    requires there { (item : List ℕ) × HasItem (C.has cells.old) leaf.at leaf.len item }
+    ensures same { cells.new ≡ cells.old }
+    ensures some { result ≡ true → (item : List ℕ) (x : Extents) → LiesAt (C.has cells.old) leaf.at leaf.len item x → SparseExtents usage.now x }
+    ensures none { result ≡ false → (item : List ℕ) (x : Extents) → LiesAt (C.has cells.old) leaf.at leaf.len item x → ¬ SparseExtents usage.now x }
+    ensures end { result ≡ true → trail.new.end ≡ 504 }
+    ensures indices { trail.new.indices ≡ trail.old.indices }
+{
+    let sparse = is_item_sparse(cells, usage, leaf.at, leaf.len);
+    if sparse {
+        trail.end = NO_OFFSET;
+    }
+    sparse
 }

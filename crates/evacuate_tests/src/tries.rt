@@ -3,7 +3,7 @@
 ghost use Rattle.std.specs.Prelude.{◌≡◌, ◌<◌, ◌≤◌, ℕ, IfOk, IfSome};
 ghost use Rattle.trie_model.specs.Keys.{Rises};
 ghost use Rattle.trie_write.specs.Entries.{entries_of_items};
-ghost use Rattle.trie_write.specs.Spaces.{Ready};
+ghost use Rattle.trie_space.specs.Spaces.{Ready};
 ghost use Rattle.evacuate_tests.specs.Tries.{IsTrie};
 
 use chunk_cells::{CellWrite, PlainCells};

@@ -17,7 +17,7 @@ use Rattle.chunk_sets.proofs.FlagLemmas.{get_set}
 use Rattle.trie_model.specs.Keys.{Entry}
 use Rattle.trie_model.proofs.MoveLaws.{Keeps}
 use Rattle.trie_write.specs.Roots.{OnPath, TwigsOnPath, OnBranches, BranchesOnPath}
-use Rattle.trie_write.specs.Spaces.{Ready, Fenced, Unchanged as Same}
+use Rattle.trie_space.specs.Spaces.{Ready, Fenced, Unchanged as Same}
 use Rattle.trie_write.proofs.RootLaws.{stands_later, standing_later}
 use Rattle.shared_cells.specs.Views.{words_of, kept_in}
 use Rattle.shared_cells.specs.Cells.{Cells, cells_of, given_chunks, kept_references, HasCell, with_words}

@@ -16,7 +16,7 @@ use Rattle.trie_model.specs.Keys.{Entry}
 use Rattle.trie_model.proofs.ExtentLaws.{first_true}
 use Rattle.shared_cells.specs.declared.view.Entry.{Entry as Commit}
 use Rattle.shared_cells.specs.declared.view.TurnView.{TurnView}
-use Rattle.trie_write.specs.Standing.{Standing}
+use Rattle.trie_space.specs.Standing.{Standing}
 use Rattle.shared_cells.specs.History.{IsPartOf, version_after}
 use Rattle.shared_cells.specs.Views.{is_told, kept_in, with_pass}
 use Rattle.shared_cells.specs.Cells.{given_chunks, HasCell}

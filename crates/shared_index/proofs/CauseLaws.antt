@@ -3,7 +3,7 @@ use Rattle.std.proofs.Common.{◌≡◌, ◌⊎◌, ⊎_elim, ℕ, zero, suc, �
 use Rattle.std.proofs.lemmas.Bool.{cases_lt, cases_Bool}
 use Rattle.std.proofs.lemmas.Bool.Decides.{nat_tests}
 use Rattle.std.proofs.lemmas.List.{length-map}
-use Rattle.std.proofs.lemmas.List.Sums.{count_by-le-length}
+use Rattle.std.proofs.lemmas.List.Sums.{count_by-le-length, sum_by-cons}
 use Rattle.packed_node.specs.declared.Cell.{Cell}
 use Rattle.trie_model.specs.Extents.{row}
 use Rattle.trie_model.specs.Keys.{Entry}
@@ -22,14 +22,13 @@ use Rattle.zone_model.specs.Keys.{Leads}
 use Rattle.trie_read.specs.Reads.{EachTells}
 use Rattle.trie_write.specs.Paths.{twigs_on_path}
 use Rattle.trie_write.specs.Roots.{OnPath}
-use Rattle.trie_write.specs.Standing.{StandsIn, Standing}
+use Rattle.trie_space.specs.Standing.{StandsIn, Standing}
 use Rattle.trie_model.proofs.SizeLaws.{size_is, no_cells}
 use Rattle.shared_index.proofs.CountedLaws.{row_le}
 use Rattle.shared_index.proofs.MeetLaws.{firsts, branches, met_first, row_add, firsts_sum, firsts_few, equal_once, path_few, set_few}
 use Rattle.shared_index.proofs.OpenLaws.{none_unspent, clear_is}
 use Rattle.shared_index.proofs.RisenLaws.{risen, risen_few, risen_has, with_bump, open_first, open_later, open_few}
 use Rattle.std.specs.List.{All, list_any}
-use Rattle.std.proofs.lemmas.List.Sums.{sum_by-cons}
 use Rattle.std.proofs.lemmas.List.FromFn.{get_or-map-range_with_len}
 use Rattle.pin_core.specs.declared.kept.CellAt.{CellAt}
 use Rattle.pin_core.specs.declared.kept.Kept.{Kept}

@@ -9,7 +9,7 @@ use Rattle.trie_model.proofs.OrderLaws.{rises_tree}
 use Rattle.trie_read.specs.Reads.{EachTells}
 use Rattle.trie_write.specs.Deletions.{Deleted}
 use Rattle.trie_write.specs.Exchanges.{Exchanged}
-use Rattle.trie_write.specs.Standing.{Standing}
+use Rattle.trie_space.specs.Standing.{Standing}
 use Rattle.trie_write.proofs.RootLaws.{tells_more}
 use Rattle.chunk_usage.specs.Ledger.{Ledger, is_used}
 use Rattle.shared_index.specs.Operations.{with_entry, without}

@@ -13,10 +13,10 @@ use Rattle.trie_model.specs.Reach.{in_chunk, weigh_tree, weigh, WithinTree}
 use Rattle.trie_model.proofs.MoveLaws.{Keeps}
 use Rattle.trie_model.proofs.ExtentLaws.{first_true, second_true, both_true}
 use Rattle.trie_model.proofs.ReachLaws.{live_is}
-use Rattle.trie_write.specs.Standing.{StandsIn, Standing}
-use Rattle.trie_write.specs.Weights.{at_place}
+use Rattle.trie_space.specs.Standing.{StandsIn, Standing}
+use Rattle.trie_space.specs.Weights.{at_place}
 use Rattle.trie_write.proofs.RootLaws.{stands_later}
-use Rattle.trie_write.proofs.WeightLaws.{at_itself, at_another, within_met, met_within}
+use Rattle.trie_space.proofs.WeightLaws.{at_itself, at_another, within_met, met_within}
 
 -- what weighs more at each reference weighs more in all
 pub row_le : (v w : ℕ → ℕ) → ((x : ℕ) → v x ≤ w x) → (r n : ℕ) → row v r n ≤ row w r n

@@ -12,7 +12,7 @@ use Rattle.packed_node.specs.declared.Cell.{Cell}
 use Rattle.trie_read.specs.Reads.{EachTells}
 use Rattle.trie_write.specs.Paths.{branches_on_path}
 use Rattle.trie_write.specs.Roots.{OnBranches}
-use Rattle.trie_write.specs.Standing.{Standing}
+use Rattle.trie_space.specs.Standing.{Standing}
 use Rattle.chunk_usage.specs.declared.space.Full.{Full as NoRoom}
 use Rattle.chunk_usage.specs.Ledger.{Ledger, Row, is_given, is_used}
 use Rattle.chunk_usage.specs.Handing.{Lacks}

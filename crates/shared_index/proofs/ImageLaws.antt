@@ -14,7 +14,7 @@ use Rattle.trie_model.specs.Keys.{Entry}
 use Rattle.trie_model.specs.Reach.{reach, reach_below}
 use Rattle.trie_model.proofs.ExtentLaws.{first_true, second_true}
 use Rattle.trie_model.proofs.ReachLaws.{tested}
-use Rattle.trie_write.specs.Standing.{Standing, StandsIn}
+use Rattle.trie_space.specs.Standing.{Standing, StandsIn}
 use Rattle.trie_write.proofs.RootLaws.{stands_later}
 use Rattle.shared_index.specs.Meanings.{in_image, Holds, IsImageOf, IsVersion}
 use Rattle.shared_index.specs.Turns.{cell_counts, current_image, current_root}

@@ -8,7 +8,7 @@ use Rattle.chunk_usage.specs.Ledger.{Ledger, Row, IsLedger, filled, is_bump, is_
 use Rattle.chunk_usage.specs.Keeping.{is_in_rows, is_needed, closed, freed, restored}
 use Rattle.chunk_usage.specs.Rooms.{Grows}
 use Rattle.trie_model.specs.Keys.{Entry}
-use Rattle.trie_write.specs.Standing.{Standing}
+use Rattle.trie_space.specs.Standing.{Standing}
 use Rattle.trie_write.proofs.RootLaws.{standing_later}
 use Rattle.shared_index.specs.Passes.{Known}
 use Rattle.shared_index.specs.Bases.{StandsFor}

@@ -16,9 +16,9 @@ use Rattle.trie_model.proofs.CountLaws.{under, weigh_is}
 use Rattle.trie_model.proofs.SplitLaws.{rising_of}
 use Rattle.chunk_usage.proofs.RowLemmas.{row_there}
 use Rattle.trie_write.specs.Paths.{twigs_on_path, twigs_past}
-use Rattle.trie_write.specs.Weights.{at_place}
+use Rattle.trie_space.specs.Weights.{at_place}
 use Rattle.trie_model.proofs.SizeLaws.{one, row_ones}
-use Rattle.trie_write.proofs.WeightLaws.{in_row, row_meets, row_misses}
+use Rattle.trie_space.proofs.WeightLaws.{in_row, row_meets, row_misses}
 use Rattle.shared_index.proofs.CountedLaws.{row_le, here_in}
 use Rattle.shared_index.proofs.OpenLaws.{clear, clear_is}
 

@@ -10,8 +10,8 @@ use Rattle.trie_model.specs.Shape.{cells}
 use Rattle.chunk_usage.specs.Counting.{is_low, is_sparse, sparse_count}
 use Rattle.chunk_usage.specs.Ledger.{Ledger, IsLedger, free_count, is_given, is_bump, is_used}
 use Rattle.chunk_usage.specs.Rooms.{account_of, reserve_account_of}
-use Rattle.trie_write.specs.Spaces.{Ready, Fenced}
-use Rattle.trie_write.specs.Standing.{Standing}
+use Rattle.trie_space.specs.Spaces.{Ready, Fenced}
+use Rattle.trie_space.specs.Standing.{Standing}
 use Rattle.evacuate.specs.declared.evacuation.Done.{Done}
 use Rattle.evacuate.specs.declared.evacuation.Done.TheVariants.{Whole, Stopped}
 use Rattle.evacuate.specs.Evacuations.{FillsNew, IsCleared, IsDense, HasSparse, refused}

@@ -13,7 +13,7 @@ use Rattle.chunk_usage.specs.Handing.{spent}
 use Rattle.chunk_usage.specs.Ledger.{Ledger, is_used}
 use Rattle.trie_write.specs.Paths.{twigs_on_path, twigs_past}
 use Rattle.trie_write.specs.Roots.{OnPath}
-use Rattle.trie_write.specs.Standing.{Standing}
+use Rattle.trie_space.specs.Standing.{Standing}
 use Rattle.shared_cells.specs.Cells.{HasCell}
 use Rattle.shared_index.specs.declared.change.Change.{Change}
 use Rattle.shared_index.specs.declared.desk.Draft.{Draft}

@@ -14,7 +14,7 @@ use Rattle.trie_model.proofs.ReachLaws.{live_is}
 use Rattle.trie_model.proofs.SizeLaws.{size_is}
 use Rattle.chunk_usage.specs.Counting.{is_low, is_sparse}
 use Rattle.chunk_usage.specs.Ledger.{Ledger, IsLedger, free_count, is_given, is_bump, row_of}
-use Rattle.trie_write.specs.Standing.{Standing, StandsIn}
+use Rattle.trie_space.specs.Standing.{Standing, StandsIn}
 use Rattle.evacuate.specs.Fillings.{old_live}
 use Rattle.evacuate.proofs.SumLaws.{old_reached}
 use Rattle.shared_index.specs.Capacity.{given_count}

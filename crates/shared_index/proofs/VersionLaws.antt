@@ -22,7 +22,7 @@ use Rattle.trie_model.proofs.ReachLaws.{tested, tests}
 use Rattle.chunk_usage.specs.Ledger.{Ledger, IsLedger, is_used, row_of}
 use Rattle.zone_model.specs.Keys.{Leads}
 use Rattle.trie_read.specs.Reads.{EachTells}
-use Rattle.trie_write.specs.Standing.{StandsIn}
+use Rattle.trie_space.specs.Standing.{StandsIn}
 use Rattle.trie_write.proofs.RootLaws.{stands_later}
 use Rattle.chunk_sets.proofs.FlagLemmas.{get_set}
 use Rattle.chunk_usage.proofs.SpaceLaws.{used_given}

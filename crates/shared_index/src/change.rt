@@ -6,7 +6,7 @@ ghost use Rattle.trie_model.specs.Keys.{Entry};
 ghost use Rattle.chunk_usage.specs.Handing.{Lacks, spent};
 ghost use Rattle.chunk_usage.specs.Rooms.{account_of};
 ghost use Rattle.trie_write.specs.Roots.{TwigsOnPath, BranchesOnPath};
-ghost use Rattle.trie_write.specs.Spaces.{Ready, Fenced, Unchanged as Same};
+ghost use Rattle.trie_space.specs.Spaces.{Ready, Fenced, Unchanged as Same};
 ghost use Rattle.shared_index.specs.Operations.{operated};
 ghost use Rattle.shared_index.specs.Bases.{IsRooted};
 ghost use Rattle.shared_index.specs.Changes.{operation_of, key_of, written_by, asked_by, LeadsItem, IsRefused};

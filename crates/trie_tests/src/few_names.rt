@@ -5,8 +5,8 @@ ghost use Rattle.zone_model.specs.Keys.{Leads};
 ghost use Rattle.trie_model.specs.Keys.{Entry, Rises};
 ghost use Rattle.trie_read.specs.Reads.{EachTells};
 ghost use Rattle.trie_write.specs.Entries.{entries_of_items};
-ghost use Rattle.trie_write.specs.Spaces.{Ready};
-ghost use Rattle.trie_write.specs.Standing.{HasTrie};
+ghost use Rattle.trie_space.specs.Spaces.{Ready};
+ghost use Rattle.trie_space.specs.Standing.{HasTrie};
 
 use crate::made::{item, octets};
 use crate::many_names::rise;

@@ -6,8 +6,8 @@ ghost use Rattle.zone_model.specs.Keys.{Leads, most_item_octets};
 ghost use Rattle.trie_model.specs.Keys.{Entry};
 ghost use Rattle.trie_model.specs.Memory.{Stands};
 ghost use Rattle.trie_read.specs.Reads.{EachTells};
-ghost use Rattle.trie_write.specs.Spaces.{Ready};
-ghost use Rattle.trie_write.specs.Standing.{HasTrie};
+ghost use Rattle.trie_space.specs.Spaces.{Ready};
+ghost use Rattle.trie_space.specs.Standing.{HasTrie};
 
 use crate::made::buffer;
 use crate::many_names::{Change, changed};

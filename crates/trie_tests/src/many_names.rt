@@ -6,8 +6,8 @@ ghost use Rattle.trie_model.specs.Keys.{Entry, Less, Rises};
 ghost use Rattle.trie_model.specs.Memory.{Stands};
 ghost use Rattle.trie_read.specs.Reads.{EachTells};
 ghost use Rattle.trie_write.specs.Entries.{entries_of_items};
-ghost use Rattle.trie_write.specs.Spaces.{Ready, Fenced};
-ghost use Rattle.trie_write.specs.Standing.{HasTrie};
+ghost use Rattle.trie_space.specs.Spaces.{Ready, Fenced};
+ghost use Rattle.trie_space.specs.Standing.{HasTrie};
 
 use crate::made::items;
 use crate::room::unused_room;

@@ -1,7 +1,7 @@
 //! Cells and a space in which nothing is.
 
 ghost use Rattle.std.specs.Prelude.{◌≡◌, ◌≤◌, ℕ, [], IfOk};
-ghost use Rattle.trie_write.specs.Spaces.{Ready};
+ghost use Rattle.trie_space.specs.Spaces.{Ready};
 
 use chunk_cells::{CellRead, CellWrite, PlainCells};
 use chunk_usage::{Space, Usage};

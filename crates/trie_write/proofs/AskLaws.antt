@@ -5,7 +5,7 @@ use Rattle.std.proofs.lemmas.List.Elements.{Contains-append_left, Contains-appen
 use Rattle.trie_model.specs.Trees.{Tree, IsTree}
 use Rattle.trie_write.specs.Laid.{extent_sizes}
 use Rattle.trie_write.specs.Paths.{branches_on_path, insert_asks, replace_asks, delete_asks}
-use Rattle.trie_write.specs.Ways.{Fork, plug, Along, twigs_of}
+use Rattle.trie_space.specs.Ways.{Fork, plug, Along, twigs_of}
 use Rattle.trie_write.proofs.PathLaws.{branches_plug}
 
 -- ---- lists that have a number

@@ -23,13 +23,14 @@ use Rattle.trie_model.proofs.ExtentLaws.{laid, short_row}
 use Rattle.trie_model.proofs.TopLaws.{is_node}
 use Rattle.chunk_usage.specs.Rooms.{Account, Handed}
 use Rattle.trie_write.specs.declared.branch_points.BranchPoint.{BranchPoint}
-use Rattle.trie_write.specs.Weights.{at_place, mark}
+use Rattle.trie_space.specs.Weights.{at_place, mark}
 use Rattle.trie_write.specs.Points.{Before, Front}
 use Rattle.trie_write.specs.Builds.{Built, BuiltFront, Stopped}
 use Rattle.trie_write.specs.Laid.{HandedItem}
-use Rattle.trie_write.specs.Standing.{Standing}
+use Rattle.trie_space.specs.Standing.{Standing}
 use Rattle.trie_write.proofs.OpenLaws.{Opened, Joined, open_first, open_join, open_more, open_close, later, parts, twigs_few, tree_lower, front_lower, front_point, nothing_left}
-use Rattle.trie_write.proofs.WeightLaws.{handed_fresh, item_fresh, mark_tells, mark_le, within_met}
+use Rattle.trie_space.proofs.WeightLaws.{handed_fresh, mark_tells, mark_le, within_met}
+use Rattle.trie_write.proofs.LaidLaws.{item_fresh}
 use Rattle.trie_write.proofs.TwigLaws.{tops_of, AllBeneath, lie_of, tops-beside, length-tops, beneath_join, all_kept, all_within_met}
 
 clear_above : (b p : ℕ) → b < 2 ^ p → bit_at b p ≡ 0

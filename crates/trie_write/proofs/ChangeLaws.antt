@@ -1,5 +1,5 @@
 -- A change at the end of a way: what stands before it, and after.
-use Rattle.std.proofs.Common.{◌≡◌, ℕ, ◌+◌, ◌≤◌, ◌++◌, Bool, true, false, List, length, arith, inl, inr, refl, sym, ◌∙◌, ap, subst}
+use Rattle.std.proofs.Common.{◌≡◌, ℕ, ◌+◌, ◌≤◌, ◌++◌, Bool, true, List, length, arith, inl, inr, sym, ◌∙◌, ap, subst}
 use Rattle.packed_node.specs.declared.Cell.{Cell}
 use Rattle.trie_model.specs.Extents.{Extents, first_of, AreExtents, LiesAt}
 use Rattle.trie_model.specs.Keys.{Entry}
@@ -12,48 +12,22 @@ use Rattle.trie_model.specs.Trees.Tree.{leaf, branch}
 use Rattle.trie_read.specs.Reads.{IsTop}
 use Rattle.trie_write.specs.Tops.{IsLeafTop, IsBranchTop}
 use Rattle.trie_model.proofs.MoveLaws.{beneath_kept}
-use Rattle.trie_model.proofs.ReachLaws.{met, live_is}
 use Rattle.chunk_usage.specs.Rooms.{Account}
 use Rattle.std.proofs.lemmas.Bool.{cases_lt}
 use Rattle.trie_write.specs.declared.change.Change.{Change}
-use Rattle.trie_write.specs.Mutable.{Rooted, IsSeat}
-use Rattle.trie_write.specs.Puts.{taken, left, Makes, IsTaken, PutAsks, IsPut, GivenBack, no_spare}
-use Rattle.trie_write.proofs.TwigLaws.{beneath_met}
+use Rattle.trie_space.specs.Rooted.{Rooted, no_spare}
+use Rattle.trie_write.specs.Mutable.{IsSeat}
+use Rattle.trie_write.specs.Puts.{taken, left, Makes, IsTaken, PutAsks, IsPut, GivenBack}
+use Rattle.trie_space.proofs.WayLaws.{beneath_met, Follows, low_at, plug_tree, weigh_plug, before, after, entries_plug}
 use Rattle.chunk_usage.specs.declared.space.Full.{Full}
-use Rattle.trie_write.specs.Spaces.{Frame, Refused}
-use Rattle.trie_write.specs.Standing.{StandsIn}
-use Rattle.trie_write.specs.Ways.{Fork, plug, IsWay}
-use Rattle.trie_write.specs.Weights.{at_place}
-use Rattle.trie_write.proofs.PathLaws.{cases_of}
-use Rattle.trie_write.proofs.PutLaws.{met_used, rooted_within, put_rooted}
-use Rattle.trie_write.proofs.WayLaws.{Follows, low_at, plug_tree, weigh_plug, before, after, entries_plug}
-use Rattle.trie_write.proofs.WeightLaws.{at_itself, at_another, marked, mark_le, mark_grows, mark_tells, met_within}
-
-module _ {S A : Type 0} (has : S → ℕ → Cell → Type 0) (account : A → Account) where
-  pub stands_rooted : (s : S) (a : A) {r : ℕ} {t : Tree} {version : List Entry} → StandsIn (has s) (account a).used (account a).live r t version → Rooted has account s a no_spare r t
-  stands_rooted s a {r} {t} h = record {
-    inside = h.trie.inside;
-    top = h.trie.top;
-    beneath = h.trie.beneath;
-    counted = λ k. h.counted k ∙ live_is k r t ∙ omega arith;
-    once = λ q. elim (cases_of ((account a).used q)) [
-      | inl u ↦ (let m = marked (account a).used q u in let e = met q r t in let o = h.trie.once q in omega arith)
-      | inr u ↦ (
-          let o = at_another q r (λ same. absurd (let x : true ≡ false = sym h.top_in_use ∙ ap (account a).used same ∙ u in cc)) in
-          let w = met_within (account a).used t h.in_use q u in omega arith
-          )
-    ];
-  }
+use Rattle.trie_space.specs.Spaces.{Frame, Refused}
+use Rattle.trie_space.specs.Standing.{StandsIn}
+use Rattle.trie_space.specs.Ways.{Fork, plug, IsWay}
+use Rattle.trie_space.specs.Weights.{at_place}
+use Rattle.trie_space.proofs.RootedLaws.{met_used, rooted_within, put_rooted, stands_rooted, rooted_stands}
+use Rattle.trie_space.proofs.WeightLaws.{at_itself, mark_le, mark_grows, mark_tells}
 
 module _ {S A : Type 0} {has : S → ℕ → Cell → Type 0} {account : A → Account} where
-  pub rooted_stands : {s : S} {a : A} {r : ℕ} {t : Tree} → Rooted has account s a no_spare r t → IsTree 0 t → StandsIn (has s) (account a).used (account a).live r t (entries_of t)
-  rooted_stands {s} {a} {r} {t} h tree = record {
-    trie = record { shape = tree; inside = h.inside; top = h.top; beneath = h.beneath; once = λ q. let e = met q r t in let o = h.once q in let m = mark_le (account a).used q in omega arith; holds = refl };
-    top_in_use = met_used h r (let i = at_itself r in omega arith);
-    in_use = rooted_within h;
-    counted = λ k. let c = h.counted k in let e = live_is k r t in omega arith;
-  }
-
   -- cells are taken for a change beside it
   pub rooted_taken : {kept : S → List ℕ} {given : S → List Bool} {s s1 : S} {a a1 : A} {r : ℕ} {t : Tree} {c : Change} → Rooted has account s a no_spare r t → Frame has kept given account s a s1 a1 → IsTaken (account a) (account a1) c → Rooted has account s1 a1 (taken c) r t
   rooted_taken {s = s} {s1} {a} {r = r} {t} h f taken_is = record {

@@ -15,17 +15,17 @@ use Rattle.trie_model.proofs.TopLaws.{is_node}
 use Rattle.chunk_cells.specs.Chunks.{IsGiven}
 use Rattle.chunk_usage.specs.Rooms.{Account, Handed}
 use Rattle.trie_read.specs.Reads.{IsTop}
-use Rattle.trie_write.specs.Spaces.{Frame, MayWrite, Wrote}
-use Rattle.trie_write.specs.Ways.{Fork, fork, plug, end_at, Along, twigs_of, twigs_along}
+use Rattle.trie_space.specs.Spaces.{Frame, MayWrite, Wrote}
+use Rattle.trie_space.specs.Ways.{Fork, fork, plug, end_at, Along, twigs_of, twigs_along}
 use Rattle.trie_write.specs.Descents.{Through}
-use Rattle.trie_write.specs.Mutable.{Hangs, WayAsks, IsCopied}
-use Rattle.trie_write.specs.Weights.{at_place}
+use Rattle.trie_space.specs.Rooted.{Hangs}
+use Rattle.trie_write.specs.Mutable.{WayAsks, IsCopied}
+use Rattle.trie_space.specs.Weights.{at_place}
 use Rattle.trie_write.proofs.AskLaws.{first_of, later_of}
-use Rattle.trie_write.proofs.SpaceLaws.{apart_from}
+use Rattle.trie_space.proofs.SpaceLaws.{apart_from}
 use Rattle.trie_write.proofs.DescentLaws.{whole, known, way_on, n_is}
-use Rattle.trie_write.proofs.TwigLaws.{beneath_met}
-use Rattle.trie_write.proofs.WayLaws.{fork_tree, fork_count, fork_bits, entries_fork, twig_of, follows_same, sides_of}
-use Rattle.trie_write.proofs.WeightLaws.{marked, mark_le, mark_grows, met_within, handed_fresh}
+use Rattle.trie_space.proofs.WayLaws.{beneath_met, fork_tree, fork_count, fork_bits, entries_fork, twig_of, follows_same, sides_of}
+use Rattle.trie_space.proofs.WeightLaws.{marked, mark_le, mark_grows, met_within, handed_fresh}
 
 module _ {S A : Type 0} {has : S → ℕ → Cell → Type 0} {account : A → Account} {s : S} {a : A} {place low : ℕ} {key : List ℕ} {cell : Cell} {way : List Fork} {end : Tree} (asks : WayAsks has account s a place low key cell way end) {b : Branch} (t : Through b way end) where
   abbrev branch_here : Fork

@@ -11,10 +11,10 @@ use Rattle.trie_model.proofs.BitmapLaws.{ones_of, index_of}
 use Rattle.trie_model.proofs.SplitLaws.{rising_of}
 use Rattle.trie_read.specs.Reads.{IsTop}
 use Rattle.trie_write.specs.declared.descend.Descent.{Descent}
-use Rattle.trie_write.specs.Tops.{IsBranchTop, NotBefore}
+use Rattle.trie_space.specs.Ways.{NotBefore, Fork, fork, plug, Along, IsWay, twigs_of}
+use Rattle.trie_write.specs.Tops.{IsBranchTop}
 use Rattle.trie_write.specs.Descents.{Through, IsDescent, IsLastDescent}
-use Rattle.trie_write.specs.Ways.{Fork, fork, plug, Along, IsWay, twigs_of}
-use Rattle.trie_write.proofs.WayLaws.{IsFork, is_fork, fork_count, twig_of}
+use Rattle.trie_space.proofs.WayLaws.{IsFork, is_fork, fork_count, twig_of}
 
 -- ---- where the way ends, and where it goes on
 

@@ -9,7 +9,7 @@ use Rattle.trie_model.proofs.ExtentLaws.{item_kept}
 use Rattle.chunk_cells.specs.Laying.{extents_in}
 use Rattle.chunk_cells.specs.declared.extents.Extents.{Extents as Laid}
 use Rattle.trie_write.specs.Laid.{HandedItem, IsLaid}
-use Rattle.trie_write.proofs.LaidLaws.{item_span_is, laid_top}
+use Rattle.trie_write.proofs.LaidLaws.{item_span_is, laid_top, item_fresh}
 use Rattle.trie_model.specs.Changes.{Inserted}
 use Rattle.trie_model.specs.Keys.{at, Same, Entry, IsEntry, InList}
 use Rattle.trie_model.specs.Memory.{top_cell}
@@ -24,23 +24,24 @@ use Rattle.chunk_usage.specs.Rooms.{Account, Handed}
 use Rattle.trie_read.specs.Reads.{IsTop, EachTells}
 use Rattle.trie_write.specs.declared.change.Change.{Change}
 use Rattle.shift_key.specs.declared.difference.Difference.{Difference}
-use Rattle.trie_write.specs.Mutable.{Rooted}
+use Rattle.trie_space.specs.Rooted.{Rooted, no_spare}
 use Rattle.trie_write.specs.Inserts.{WithAsks, IsWith, LacksKey}
 use Rattle.trie_write.specs.Nearness.{FirstDiffers, Differs}
 use Rattle.trie_write.specs.Paths.{twigs_on_path, branches_on_path, to_copy}
-use Rattle.trie_write.specs.Puts.{item_span, IsTaken, IsPut, no_spare}
+use Rattle.trie_write.specs.Puts.{item_span, IsTaken, IsPut}
 use Rattle.trie_write.specs.Roots.{TwigsOnPath, BranchesOnPath, ToCopy, IsOutside, Unreached, Beyond}
-use Rattle.trie_write.specs.Spaces.{Frame}
-use Rattle.trie_write.specs.Standing.{StandsIn, HasTrie}
-use Rattle.trie_write.specs.Ways.{Fork, plug, Along, twigs_of, twigs_along}
-use Rattle.trie_write.specs.Weights.{at_place}
+use Rattle.trie_space.specs.Spaces.{Frame}
+use Rattle.trie_space.specs.Standing.{StandsIn, HasTrie}
+use Rattle.trie_space.specs.Ways.{Fork, plug, Along, twigs_of, twigs_along}
+use Rattle.trie_space.specs.Weights.{at_place}
 use Rattle.trie_write.proofs.AskLaws.{on_way}
-use Rattle.trie_write.proofs.ChangeLaws.{stands_rooted, rooted_stands, entries_before, put_stands}
+use Rattle.trie_space.proofs.RootedLaws.{stands_rooted, rooted_stands, end_hangs}
+use Rattle.trie_write.proofs.ChangeLaws.{entries_before, put_stands}
 use Rattle.trie_write.proofs.PathLaws.{path_plug}
-use Rattle.trie_write.proofs.PutLaws.{end_hangs}
-use Rattle.trie_write.proofs.SpaceLaws.{apart_from}
-use Rattle.trie_write.proofs.WayLaws.{low_at, end_tree, before, after, entries_plug, key_between, way_to}
-use Rattle.trie_write.proofs.WeightLaws.{handed_fresh, item_fresh, mark_le}
+use Rattle.trie_space.proofs.SpaceLaws.{apart_from}
+use Rattle.trie_space.proofs.WayLaws.{low_at, end_tree, before, after, entries_plug}
+use Rattle.trie_write.proofs.KeyLaws.{key_between, way_to}
+use Rattle.trie_space.proofs.WeightLaws.{handed_fresh, mark_le}
 
 pub laid_is : {S A : Type 0} {has : S → ℕ → Cell → Type 0} {account : A → Account} {s1 : S} {old : Account} (a1 : A) {l : Laid} {item : List ℕ} → l.len ≡ length item → HandedItem old (account a1) (length item) (extents_in l) → ItemLies (has s1) (extents_in l) item → IsLaid has account s1 a1 l item
 laid_is a1 len h lies = record { len = len; are = h.are; lies = lies; in_use = h.taken }

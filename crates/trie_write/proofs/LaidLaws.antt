@@ -1,10 +1,10 @@
 -- The cells of an item that is put in.
 use Rattle.std.proofs.Common.{◌≡◌, ◌≢◌, ℕ, suc, ◌+◌, ◌-◌, ◌*◌, ◌/◌, ◌<◌, ◌≤◌, Bool, true, false, List, ◌∷◌, length, replicate, Contains, arith, inl, inr, sym, ◌∙◌, ap, subst}
-use Rattle.std.proofs.lemmas.Bool.{true≢false}
+use Rattle.std.proofs.lemmas.Bool.{true≢false, cases_lt}
 use Rattle.packed_node.specs.declared.Cell.{Cell}
 use Rattle.packed_node.specs.Nodes.{IsLeaf, leaf_cell}
 use Rattle.packed_node.specs.declared.Leaf.{Leaf}
-use Rattle.trie_model.specs.Extents.{Extents, first_of, linked_cells, content_cells, links, AreExtents, EachCell, IsBeside, ItemLies, weigh_extents}
+use Rattle.trie_model.specs.Extents.{Extents, first_of, linked_cells, content_cells, links, AreExtents, AreApart, EachCell, IsBeside, ItemLies, weigh_extents}
 use Rattle.trie_model.specs.Extents.Extents.{last, linked}
 use Rattle.zone_model.specs.Keys.{most_item_octets}
 use Rattle.trie_model.specs.Memory.{top_cell}
@@ -18,9 +18,11 @@ use Rattle.chunk_usage.specs.Rooms.{Account, Handed}
 use Rattle.trie_write.specs.Laid.{HandedItem, IsItemAt, IsLaid, extent_sizes}
 use Rattle.trie_write.specs.Puts.{item_span}
 use Rattle.chunk_usage.specs.declared.space.Full.{Full}
-use Rattle.trie_write.specs.Spaces.{Ready, Frame, Refused}
+use Rattle.trie_space.specs.Spaces.{Ready, Frame, Refused}
 use Rattle.trie_write.proofs.AskLaws.{first_of as first_of_list, later_of, either_of}
-use Rattle.trie_write.proofs.SpaceLaws.{fresh_before}
+use Rattle.trie_space.specs.Weights.{at_place, mark}
+use Rattle.trie_space.proofs.SpaceLaws.{fresh_before}
+use Rattle.trie_space.proofs.WeightLaws.{marked, unmarked, mark_grows, row_misses, row_meets, in_row, met_each}
 
 -- what an item weighs, and its extents
 pub item_span_is : {l : Laid} {n : ℕ} {x : Extents} → IsItemAt l n x → (w : ℕ → ℕ) → item_span l w ≡ weigh_extents w n x
@@ -122,3 +124,32 @@ module _ {S A : Type 0} {has : S → ℕ → Cell → Type 0} {kept : S → List
     counts = λ k. let x = h.counts k in let y = r.counts k in let z = released k in omega arith;
     lack = lack f r.lack;
   }
+
+-- ---- no cell of an item is met twice
+
+-- a cell that isn't one of theirs isn't met
+pub beside_misses : (q n : ℕ) (x : Extents) → IsBeside q n x → weigh_extents (at_place q) n x ≡ 0
+beside_misses q n (last r) h = row_misses q r (content_cells n) h
+beside_misses q n (linked r x) h = let a = row_misses q r linked_cells h.0 in let b = beside_misses q (n - 4080) x h.1 in omega arith
+
+-- extents apart meet each cell once
+pub apart_once : (q n : ℕ) (x : Extents) → AreApart n x → weigh_extents (at_place q) n x ≤ 1
+apart_once q n (last r) h = elim (in_row q r (content_cells n)) [
+  | inl i ↦ (let z = row_meets q r (content_cells n) i.0 i.1 i.2 in omega arith)
+  | inr out ↦ (let z = row_misses q r (content_cells n) out in omega arith)
+]
+apart_once q n (linked r x) h = elim (in_row q r linked_cells) [
+  | inl i ↦ (let z = row_meets q r linked_cells i.0 i.1 i.2 in let b = beside_misses q (n - 4080) x (subst (λ (p : ℕ). IsBeside p (n - 4080) x) (sym i.2) (h.0 i.0 i.1)) in omega arith)
+  | inr out ↦ (let z = row_misses q r linked_cells out in let b = apart_once q (n - 4080) x h.1 in omega arith)
+]
+
+-- those handed out weren't in use before
+pub item_fresh : {old new : Account} {n : ℕ} {x : Extents} → HandedItem old new n x → ((q : ℕ) → old.used q ≡ true → new.used q ≡ true) → (q : ℕ) → weigh_extents (at_place q) n x + mark old.used q ≤ mark new.used q
+item_fresh {old} {new} {n} {x} h stays q = elim (cases_lt 0 (weigh_extents (at_place q) n x)) [
+  | inl met ↦ (
+      let a = apart_once q n x h.apart in
+      let b = unmarked old.used q (met_each (λ p. old.used p ≡ false) n x h.unused q met) in
+      let c = marked new.used q (met_each (λ p. new.used p ≡ true) n x h.taken q met) in omega arith
+      )
+  | inr few ↦ (let b = mark_grows old.used new.used q (stays q) in omega arith)
+]

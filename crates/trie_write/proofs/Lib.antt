@@ -1,5 +1,4 @@
 pub mod ItemLaws
-pub mod WeightLaws
 pub mod LaidLaws
 pub mod TwigLaws
 pub mod OpenLaws
@@ -9,10 +8,10 @@ pub mod InsertLaws
 pub mod RootLaws
 pub mod PlaceLemmas
 pub mod TopLaws
-pub mod WayLaws
+pub mod KeyLaws
 pub mod CopyLaws
 pub mod DescentLaws
-pub mod PutLaws
+pub mod SeatLaws
 pub mod PathLaws
 pub mod AskLaws
 pub mod ChangeLaws
@@ -21,5 +20,4 @@ pub mod ReplaceLaws
 pub mod WithLaws
 pub mod WithoutLaws
 pub mod RemoveLaws
-pub mod SpaceLaws
 pub mod MostLaws

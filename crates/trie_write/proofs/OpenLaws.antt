@@ -1,6 +1,6 @@
 -- A branch that is open: more of its twigs may come.
 use Rattle.std.proofs.Common.{◌≡◌, ℕ, suc, ◌+◌, ◌<◌, ◌≤◌, List, [], ◌∷◌, ◌++◌, length, min, Option, Some, None, append_assoc, append-nil, arith, inl, inr, refl, sym, ◌∙◌, ap, subst}
-use Rattle.trie_model.specs.Extents.{IsRow}
+use Rattle.trie_model.specs.Extents.{IsRow, Extents}
 use Rattle.trie_model.specs.Keys.{at, Same, Entry, InList, Rises}
 use Rattle.trie_model.specs.Shape.{cells}
 use Rattle.trie_model.specs.Trees.{Tree, Twigs, entries_of, entries, count, AllAt, Agree, IsTree, AreTwigs, Rising, beside}
@@ -12,7 +12,6 @@ use Rattle.trie_model.proofs.SplitLaws.{entries-beside, twigs_join, rising_of}
 use Rattle.trie_model.proofs.GrowthLaws.{some_entry}
 use Rattle.trie_model.proofs.SizeLaws.{twig_sizes, size_is, size_branch, twig_sizes-beside}
 use Rattle.trie_model.proofs.ExtentLaws.{short_row}
-use Rattle.trie_model.specs.Extents.{Extents}
 use Rattle.trie_write.specs.declared.branch_points.BranchPoint.{BranchPoint}
 use Rattle.trie_write.specs.declared.item.Item.{Item}
 use Rattle.trie_write.specs.Entries.{entries_of_items}

@@ -1,5 +1,6 @@
 -- How many twigs there are on a way, and how many of them are copied.
-use Rattle.std.proofs.Common.{◌≡◌, ℕ, suc, ◌+◌, ◌<◌, ◌≤◌, Bool, true, false, cond, eqb, ◌⊎◌, List, [], ◌∷◌, ◌++◌, map, arith, inl, inr, refl, sym, ◌∙◌, ap, ap₂, subst}
+use Rattle.std.proofs.Common.{◌≡◌, ℕ, suc, ◌+◌, ◌<◌, ◌≤◌, Bool, true, false, cond, eqb, List, [], ◌∷◌, ◌++◌, map, arith, inl, inr, refl, sym, ◌∙◌, ap, ap₂, subst}
+use Rattle.std.proofs.lemmas.Bool.{cases_Bool}
 use Rattle.std.proofs.lemmas.Bool.Decides.{nat_tests}
 use Rattle.trie_model.specs.Keys.{at}
 use Rattle.trie_model.specs.Trees.{Tree, Twigs, count, IsTree, beside}
@@ -7,12 +8,8 @@ use Rattle.trie_model.specs.Trees.Tree.{leaf, branch}
 use Rattle.trie_model.specs.Trees.Twigs.{none, twig}
 use Rattle.trie_model.proofs.BitmapLaws.{Rising}
 use Rattle.trie_write.specs.Paths.{twigs_on_path, twigs_past, branches_on_path, branches_past, copied_below, copied_past, to_copy}
-use Rattle.trie_write.specs.Ways.{Fork, plug, twig_at, Along, twigs_of, twigs_along, copied_along}
-use Rattle.trie_write.proofs.WayLaws.{is_fork, fork_count}
-
-pub cases_of : (b : Bool) → (b ≡ true) ⊎ (b ≡ false)
-cases_of true = inl refl
-cases_of false = inr refl
+use Rattle.trie_space.specs.Ways.{Fork, plug, twig_at, Along, twigs_of, twigs_along, copied_along}
+use Rattle.trie_space.proofs.WayLaws.{is_fork, fork_count}
 
 eqb_itself : (p : ℕ) → eqb p p ≡ true
 eqb_itself p = grind (arith, nat_tests)
@@ -54,7 +51,7 @@ branches_plug place low key (f ∷ way) end h a =
 
 -- no more is copied than there is to copy on the path
 pub copied_plug : (mutable : ℕ → Bool) (place low n r : ℕ) (key : List ℕ) (way : List Fork) (end : Tree) → IsTree low (plug way end) → Along place key way → copied_along mutable n r way ≤ cond (mutable r) (copied_below mutable key (plug way end)) (n + twigs_on_path key (plug way end))
-copied_plug mutable place low n r key [] end h a = elim (cases_of (mutable r)) [
+copied_plug mutable place low n r key [] end h a = elim (cases_Bool (mutable r)) [
   | inl e ↦ (let x = ap (λ b. cond b 0 n) e in omega arith)
   | inr e ↦ (let x = ap (λ b. cond b 0 n) e in let y = ap (λ b. cond b (copied_below mutable key end) (n + twigs_on_path key end)) e in omega arith)
 ]
@@ -65,25 +62,25 @@ copied_plug mutable place low n r key (f ∷ way) end h a =
     let c = ap (λ (p : ℕ). copied_past mutable key p (count (beside f.left (twig f.position (plug way end) f.right))) f.first (beside f.left (twig f.position (plug way end) f.right))) (sym a.1)
     ∙ copied_left mutable key (count (beside f.left (twig f.position (plug way end) f.right))) f.position 0 f.first f.left (plug way end) f.right k.lower
     ∙ ap (λ (m : ℕ). cond (mutable (twig_at f)) (copied_below mutable key (plug way end)) (m + twigs_on_path key (plug way end))) (fork_count f (plug way end)) in
-    elim (cases_of (mutable r)) [
+    elim (cases_Bool (mutable r)) [
       | inl e ↦ (let x = ap (λ b. cond b (copied_along mutable (twigs_of f) (twig_at f) way) (n + twigs_along (f ∷ way))) e in let y = ap (λ b. cond b (copied_below mutable key (plug (f ∷ way) end)) (n + twigs_on_path key (plug (f ∷ way) end))) e in omega arith)
       | inr e ↦ (let x = ap (λ b. cond b (copied_along mutable (twigs_of f) (twig_at f) way) (n + twigs_along (f ∷ way))) e in let y = ap (λ b. cond b (copied_below mutable key (plug (f ∷ way) end)) (n + twigs_on_path key (plug (f ∷ way) end))) e in omega arith)
     ]
 
 pub copied_most : (mutable : ℕ → Bool) (n r : ℕ) (way : List Fork) → copied_along mutable n r way ≤ n + twigs_along way
-copied_most mutable n r [] = elim (cases_of (mutable r)) [ inl e ↦ (let x = ap (λ b. cond b 0 n) e in omega arith) | inr e ↦ (let x = ap (λ b. cond b 0 n) e in omega arith) ]
-copied_most mutable n r (f ∷ way) = let next = copied_most mutable (twigs_of f) (twig_at f) way in elim (cases_of (mutable r)) [
+copied_most mutable n r [] = elim (cases_Bool (mutable r)) [ inl e ↦ (let x = ap (λ b. cond b 0 n) e in omega arith) | inr e ↦ (let x = ap (λ b. cond b 0 n) e in omega arith) ]
+copied_most mutable n r (f ∷ way) = let next = copied_most mutable (twigs_of f) (twig_at f) way in elim (cases_Bool (mutable r)) [
   | inl e ↦ (let x = ap (λ b. cond b (copied_along mutable (twigs_of f) (twig_at f) way) (n + twigs_along (f ∷ way))) e in omega arith)
   | inr e ↦ (let x = ap (λ b. cond b (copied_along mutable (twigs_of f) (twig_at f) way) (n + twigs_along (f ∷ way))) e in omega arith)
 ]
 
 -- where more is mutable, less is copied
 pub copied_less : (m m2 : ℕ → Bool) (n r : ℕ) (way : List Fork) → ((q : ℕ) → m q ≡ true → m2 q ≡ true) → copied_along m2 n r way ≤ copied_along m n r way
-copied_less m m2 n r [] grows = elim (cases_of (m r)) [
+copied_less m m2 n r [] grows = elim (cases_Bool (m r)) [
   | inl e ↦ (let x = ap (λ b. cond b 0 n) e in let y = ap (λ b. cond b 0 n) (grows r e) in omega arith)
   | inr e ↦ (let x = ap (λ b. cond b 0 n) e in let y = copied_most m2 n r [] in omega arith)
 ]
-copied_less m m2 n r (f ∷ way) grows = let next = copied_less m m2 (twigs_of f) (twig_at f) way grows in elim (cases_of (m r)) [
+copied_less m m2 n r (f ∷ way) grows = let next = copied_less m m2 (twigs_of f) (twig_at f) way grows in elim (cases_Bool (m r)) [
   | inl e ↦ (
       let x = ap (λ b. cond b (copied_along m (twigs_of f) (twig_at f) way) (n + twigs_along (f ∷ way))) e in
       let y = ap (λ b. cond b (copied_along m2 (twigs_of f) (twig_at f) way) (n + twigs_along (f ∷ way))) (grows r e) in omega arith
@@ -99,11 +96,11 @@ abbrev mutual
 
   pub copied_few_past : (mutable : ℕ → Bool) (key : List ℕ) (position n r : ℕ) (ts : Twigs) → copied_past mutable key position n r ts ≤ n + twigs_past key position ts
   copied_few_past mutable key position n r none = omega arith
-  copied_few_past mutable key position n r (twig p t rest) = elim (cases_of (eqb p position)) [
+  copied_few_past mutable key position n r (twig p t rest) = elim (cases_Bool (eqb p position)) [
     | inl e ↦ (
         let x = ap (λ b. cond b (cond (mutable r) (copied_below mutable key t) (n + twigs_on_path key t)) (copied_past mutable key position n (suc r) rest)) e in
         let y = ap (λ b. cond b (twigs_on_path key t) (twigs_past key position rest)) e in
-        let h = copied_few mutable key t in elim (cases_of (mutable r)) [
+        let h = copied_few mutable key t in elim (cases_Bool (mutable r)) [
           | inl m ↦ (let z = ap (λ b. cond b (copied_below mutable key t) (n + twigs_on_path key t)) m in omega arith)
           | inr m ↦ (let z = ap (λ b. cond b (copied_below mutable key t) (n + twigs_on_path key t)) m in omega arith)
         ]
@@ -116,7 +113,7 @@ abbrev mutual
   ]
 
 pub to_copy_few : (mutable : ℕ → Bool) (key : List ℕ) (r : ℕ) (t : Tree) → to_copy mutable key r t ≤ 1 + twigs_on_path key t
-to_copy_few mutable key r t = let h = copied_few mutable key t in elim (cases_of (mutable r)) [
+to_copy_few mutable key r t = let h = copied_few mutable key t in elim (cases_Bool (mutable r)) [
   | inl m ↦ (let z = ap (λ b. cond b (copied_below mutable key t) (1 + twigs_on_path key t)) m in omega arith)
   | inr m ↦ (let z = ap (λ b. cond b (copied_below mutable key t) (1 + twigs_on_path key t)) m in omega arith)
 ]

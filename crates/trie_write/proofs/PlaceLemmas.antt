@@ -4,7 +4,7 @@ use Rattle.packed_node.specs.declared.Cell.{Cell}
 use Rattle.trie_model.specs.Keys.{Entry}
 use Rattle.trie_model.proofs.ExtentLaws.{both_true, first_true, second_true}
 use Rattle.chunk_usage.specs.Rooms.{Grows}
-use Rattle.trie_write.specs.Standing.{Standing}
+use Rattle.trie_space.specs.Standing.{Standing}
 use Rattle.trie_write.proofs.RootLaws.{standing_later}
 
 not_true : (b : Bool) → not b ≡ true → b ≡ false

@@ -22,19 +22,19 @@ use Rattle.trie_write.specs.declared.change.Change.{Change}
 use Rattle.trie_write.specs.declared.descend.Descent.{Descent}
 use Rattle.trie_write.specs.Asks.{HasKey}
 use Rattle.trie_write.specs.Deletions.{Deleted, LeafDescent, IsWithout, DropAsks}
-use Rattle.trie_write.specs.Mutable.{Rooted}
+use Rattle.trie_space.specs.Rooted.{Rooted, no_spare}
 use Rattle.trie_write.specs.Paths.{twigs_on_path, branches_on_path}
-use Rattle.trie_write.specs.Puts.{item_span, IsPut, no_spare}
-use Rattle.trie_write.specs.Standing.{StandsIn}
+use Rattle.trie_write.specs.Puts.{item_span, IsPut}
+use Rattle.trie_space.specs.Standing.{StandsIn}
 use Rattle.trie_write.specs.Descents.{IsLastDescent}
-use Rattle.trie_write.specs.Tops.{NotBefore}
-use Rattle.trie_write.specs.Ways.{Fork, fork, plug, Along, IsWay, twigs_of, twigs_along}
-use Rattle.trie_write.proofs.ChangeLaws.{stands_rooted, entries_before, put_stands}
+use Rattle.trie_space.specs.Ways.{NotBefore, Fork, fork, plug, Along, IsWay, twigs_of, twigs_along}
+use Rattle.trie_space.proofs.RootedLaws.{stands_rooted, end_hangs}
+use Rattle.trie_write.proofs.ChangeLaws.{entries_before, put_stands}
 use Rattle.trie_write.proofs.AskLaws.{on_way}
 use Rattle.trie_write.proofs.CopyLaws.{here_asked}
 use Rattle.trie_write.proofs.PathLaws.{path_plug, branches_plug}
-use Rattle.trie_write.proofs.PutLaws.{plug-append, along_parts, end_hangs}
-use Rattle.trie_write.proofs.WayLaws.{Follows, low_at, is_fork, end_tree, low_rises, before, after, entries_plug}
+use Rattle.trie_space.proofs.WayLaws.{plug-append, Follows, low_at, is_fork, end_tree, low_rises, before, after, entries_plug}
+use Rattle.trie_write.proofs.SeatLaws.{along_parts}
 use Rattle.trie_write.proofs.WithoutLaws.{last_is, last_along}
 
 -- offsets rise, so those of a way are before that of the branch at its end

@@ -6,9 +6,9 @@ use Rattle.packed_node.specs.Nodes.{leaf_cell}
 use Rattle.trie_model.specs.Extents.{Extents, first_of as place_of, AreExtents, ItemLies}
 use Rattle.chunk_cells.specs.Laying.{extents_in}
 use Rattle.trie_write.specs.Laid.{HandedItem, IsItemAt}
-use Rattle.trie_write.proofs.LaidLaws.{item_span_is, item_are, laid_top}
+use Rattle.trie_write.proofs.LaidLaws.{item_span_is, item_are, laid_top, item_fresh}
 use Rattle.trie_model.specs.Keys.{at, Entry, IsEntry, InList}
-use Rattle.trie_model.specs.Memory.{top_cell}
+use Rattle.trie_model.specs.Memory.{top_cell, Stands}
 use Rattle.trie_model.specs.Reach.{in_chunk}
 use Rattle.trie_model.specs.Trees.{Tree, entries_of, IsTree}
 use Rattle.trie_model.specs.Trees.Tree.{leaf, branch}
@@ -20,24 +20,22 @@ use Rattle.trie_write.specs.declared.change.Change.{Change}
 use Rattle.trie_write.specs.declared.change.Span.{Span}
 use Rattle.trie_write.specs.Puts.{span, Makes, IsTaken, IsPut}
 use Rattle.chunk_usage.specs.declared.space.Full.{Full}
-use Rattle.trie_write.specs.Spaces.{Fenced, Refused}
+use Rattle.trie_space.specs.Spaces.{Fenced, Refused}
 use Rattle.zone_model.specs.Keys.{Leads}
-use Rattle.trie_model.specs.Memory.{Stands}
 use Rattle.trie_read.specs.Reads.{IsTop, EachTells}
 use Rattle.trie_write.specs.Paths.{twigs_on_path, branches_on_path, to_copy}
 use Rattle.trie_write.specs.Roots.{TwigsOnPath, BranchesOnPath, ToCopy, IsOutside, Unreached, Beyond}
 use Rattle.trie_write.proofs.RootLaws.{standing_later}
-use Rattle.trie_write.specs.Standing.{StandsIn, HasTrie}
+use Rattle.trie_space.specs.Standing.{StandsIn, HasTrie}
 use Rattle.trie_model.specs.Order.{IsThere}
-use Rattle.trie_write.specs.Ways.{Fork, plug, IsWay, twigs_of}
-use Rattle.trie_write.specs.Weights.{at_place}
+use Rattle.trie_space.specs.Ways.{Fork, plug, IsWay, twigs_of}
+use Rattle.trie_space.specs.Weights.{at_place}
 use Rattle.trie_write.proofs.AskLaws.{on_way}
-use Rattle.trie_write.specs.Mutable.{Rooted}
-use Rattle.trie_write.specs.Puts.{no_spare}
-use Rattle.trie_write.proofs.ChangeLaws.{stands_rooted, entries_before, put_stands}
-use Rattle.trie_write.proofs.PutLaws.{end_hangs}
-use Rattle.trie_write.proofs.WayLaws.{low_at, end_tree, before, after, entries_plug, way_to}
-use Rattle.trie_write.proofs.WeightLaws.{item_fresh}
+use Rattle.trie_space.specs.Rooted.{Rooted, no_spare}
+use Rattle.trie_space.proofs.RootedLaws.{stands_rooted, end_hangs}
+use Rattle.trie_write.proofs.ChangeLaws.{entries_before, put_stands}
+use Rattle.trie_space.proofs.WayLaws.{low_at, end_tree, before, after, entries_plug}
+use Rattle.trie_write.proofs.KeyLaws.{way_to}
 
 -- ---- the way to a key's leaf
 

@@ -14,7 +14,7 @@ use Rattle.trie_model.proofs.NameLaws.{name_key}
 use Rattle.trie_read.specs.Reads.{EachTells}
 use Rattle.trie_write.specs.Deletions.{Deleted}
 use Rattle.trie_write.specs.Exchanges.{Exchanged}
-use Rattle.trie_write.specs.Standing.{StandsIn, Standing}
+use Rattle.trie_space.specs.Standing.{StandsIn, Standing}
 use Rattle.trie_write.proofs.ItemLaws.{wire_some, AreSmall}
 
 -- ---- the entry of a key and an item

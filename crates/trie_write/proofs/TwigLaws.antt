@@ -1,11 +1,10 @@
 -- The twigs of a branch: their cells as a list, and what hangs on them.
-use Rattle.std.proofs.Common.{◌≡◌, ℕ, suc, ◌+◌, ◌<◌, ◌≤◌, Bool, true, ltb, List, [], ◌∷◌, ◌++◌, length, slice_get, Some, arith, inl, inr, refl, sym, ◌∙◌, ap, subst}
+use Rattle.std.proofs.Common.{◌≡◌, ℕ, suc, ◌+◌, ◌<◌, ◌≤◌, Bool, true, List, [], ◌∷◌, ◌++◌, length, slice_get, Some, arith, inl, inr, refl, sym, ◌∙◌, ap, subst}
 use Rattle.std.proofs.lemmas.Bool.{cases_lt}
-use Rattle.std.proofs.lemmas.Bool.Decides.{nat_tests}
 use Rattle.packed_node.specs.declared.Cell.{Cell}
 use Rattle.trie_model.specs.Keys.{at, Entry, InList}
 use Rattle.trie_model.specs.Memory.{top_cell, Beneath, Lie}
-use Rattle.trie_model.specs.Reach.{weigh_tree, WithinTree}
+use Rattle.trie_model.specs.Reach.{WithinTree}
 use Rattle.trie_model.specs.Trees.{Tree, Twigs, entries_of, count, Agree, IsTree, beside}
 use Rattle.trie_model.specs.Trees.Tree.{leaf, branch}
 use Rattle.trie_model.specs.Trees.Twigs.{none, twig}
@@ -13,8 +12,8 @@ use Rattle.trie_model.proofs.BitmapLaws.{Rising}
 use Rattle.trie_model.proofs.CountLaws.{under}
 use Rattle.trie_model.proofs.MoveLaws.{Keeps, beneath_kept}
 use Rattle.trie_model.proofs.ShapeLaws.{two_of}
-use Rattle.trie_write.specs.Weights.{at_place}
-use Rattle.trie_write.proofs.WeightLaws.{within_met}
+use Rattle.trie_space.specs.Weights.{at_place}
+use Rattle.trie_space.proofs.WeightLaws.{within_met}
 
 -- the cells of the twigs
 abbrev pub tops_of : Twigs → List Cell
@@ -75,14 +74,3 @@ deepen low (branch o w below) h a = (far, h.1, h.2, h.3, h.4, h.5)
   where
     far : low ≤ o
     far = elim (cases_lt o low) [ inl l ↦ absurd (let two = two_of o 0 below h.5 h.3 in let s = a two.x two.y two.x_in two.y_in o l in let d = two.apart in omega arith) | inr g ↦ g ]
-
--- a tree stays where its own cells do
-pub beneath_met : (has new : ℕ → Cell → Type 0) (t : Tree) → ((q : ℕ) (c : Cell) → 1 ≤ weigh_tree (at_place q) t → has q c → new q c) → Beneath has t → Beneath new t
-beneath_met has new t keep b =
-    beneath_kept (λ q. ltb 0 (weigh_tree (at_place q) t)) has new (λ q c m h. keep q c (met_tells q m) h) t (within_met (λ q. ltb 0 (weigh_tree (at_place q) t)) t (λ q l. met_true q l)) b
-  where
-    met_tells : (q : ℕ) → ltb 0 (weigh_tree (at_place q) t) ≡ true → 1 ≤ weigh_tree (at_place q) t
-    met_tells q e = grind (arith, nat_tests)
-
-    met_true : (q : ℕ) → 1 ≤ weigh_tree (at_place q) t → ltb 0 (weigh_tree (at_place q) t) ≡ true
-    met_true q l = grind (arith, nat_tests)

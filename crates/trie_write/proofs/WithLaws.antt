@@ -32,7 +32,7 @@ use Rattle.shift_key.specs.declared.difference.Difference.{Difference}
 use Rattle.trie_write.specs.Inserts.{WithAsks, IsWith}
 use Rattle.trie_write.specs.Paths.{twigs_on_path, branches_on_path, branches_past}
 use Rattle.trie_write.specs.Puts.{span, item_span, Makes}
-use Rattle.trie_write.specs.Spaces.{Frame}
+use Rattle.trie_space.specs.Spaces.{Frame}
 use Rattle.trie_write.specs.Tops.{IsBranchTop}
 use Rattle.trie_write.proofs.AskLaws.{first_of, later_of, made_of}
 

@@ -27,14 +27,14 @@ use Rattle.trie_write.specs.declared.descend.Descent.{Descent}
 use Rattle.trie_write.specs.Deletions.{LeafDescent, IsWithout}
 use Rattle.trie_write.specs.Laid.{IsItemAt, IsNoItem}
 use Rattle.trie_write.specs.Puts.{span, AreSpans, IsTaken}
-use Rattle.trie_write.specs.Spaces.{Frame}
-use Rattle.trie_write.specs.Ways.{Fork, fork, plug, twig_at, twigs_of, twigs_along}
-use Rattle.trie_write.specs.Weights.{at_place}
+use Rattle.trie_space.specs.Spaces.{Frame}
+use Rattle.trie_space.specs.Ways.{Fork, fork, plug, twig_at, twigs_of, twigs_along}
+use Rattle.trie_space.specs.Weights.{at_place}
 use Rattle.trie_write.proofs.CopyLaws.{n_here}
 use Rattle.trie_write.proofs.LaidLaws.{item_span_is, item_are, none_are}
 use Rattle.trie_write.proofs.DescentLaws.{at_key}
-use Rattle.trie_write.proofs.WayLaws.{IsFork, is_fork, fork_count, sides_of, twig_of}
-use Rattle.trie_write.proofs.WeightLaws.{handed_fresh}
+use Rattle.trie_space.proofs.WayLaws.{IsFork, is_fork, fork_count, sides_of, twig_of}
+use Rattle.trie_space.proofs.WeightLaws.{handed_fresh}
 
 -- a twig among others is found at its position
 abbrev found_here : (o low : ℕ) (f : Fork) (t : Tree) → IsFork low f t → Found 0 47 f.position (beside f.left (twig f.position t f.right))

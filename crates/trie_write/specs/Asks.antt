@@ -6,8 +6,8 @@ use Rattle.trie_model.specs.Keys.{Entry}
 use Rattle.trie_model.specs.Trees.{Tree}
 use Rattle.trie_model.specs.Trees.Tree.{leaf}
 use Rattle.chunk_usage.specs.Rooms.{Account}
-use Rattle.trie_write.specs.Standing.{StandsIn}
-use Rattle.trie_write.specs.Ways.{Fork, plug, IsWay}
+use Rattle.trie_space.specs.Standing.{StandsIn}
+use Rattle.trie_space.specs.Ways.{Fork, plug, IsWay}
 
 -- a trie stands, in which the way along the key ends at the key's leaf
 pub record HasKey {S A : Type 0} (has : S → ℕ → Cell → Type 0) (account : A → Account) (s : S) (a : A) (r : ℕ) (key : List ℕ) (t : Tree) (version : List Entry) : Type 0 where

@@ -9,7 +9,7 @@ use Rattle.trie_model.specs.Reach.{weigh_tree, in_chunk}
 use Rattle.chunk_usage.specs.Rooms.{Account}
 use Rattle.trie_write.specs.declared.branch_points.BranchPoint.{BranchPoint}
 use Rattle.trie_write.specs.Points.{Front}
-use Rattle.trie_write.specs.Weights.{at_place, mark}
+use Rattle.trie_space.specs.Weights.{at_place, mark}
 
 -- The cell is the tree's top. What lies below it counts, and is in cells that weren't in use and now are, each once. The top's own
 -- cell is still to come.

@@ -14,7 +14,7 @@ use Rattle.trie_write.specs.Asks.{HasKey}
 use Rattle.trie_write.specs.Mutable.{WayAsks}
 use Rattle.trie_write.specs.Puts.{Makes}
 use Rattle.trie_write.specs.Descents.{IsDescent, IsLastDescent}
-use Rattle.trie_write.specs.Ways.{Fork, plug}
+use Rattle.trie_space.specs.Ways.{Fork, plug}
 
 -- the list without the entry that has the key
 pub record Deleted (key : List ℕ) (old new : List Entry) : Type 0 where

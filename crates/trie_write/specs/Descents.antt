@@ -7,7 +7,7 @@ use Rattle.trie_model.specs.Trees.{Tree, Twigs, count, bitmap_of, beside}
 use Rattle.trie_model.specs.Trees.Twigs.{twig}
 use Rattle.trie_read.specs.Reads.{IsTop}
 use Rattle.trie_write.specs.declared.descend.Descent.{Descent}
-use Rattle.trie_write.specs.Ways.{Fork, plug, IsWay}
+use Rattle.trie_space.specs.Ways.{Fork, plug, IsWay}
 
 -- there is a way from a node, with offsets from low on
 pub record HasWay (has : ℕ → Cell → Type 0) (place low : ℕ) (key : List ℕ) (node : Cell) : Type 0 where

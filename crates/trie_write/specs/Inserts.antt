@@ -13,9 +13,9 @@ use Rattle.trie_write.specs.declared.change.Change.{Change}
 use Rattle.shift_key.specs.declared.difference.Difference.{Difference}
 use Rattle.trie_write.specs.Laid.{IsLaid}
 use Rattle.trie_write.specs.Puts.{Makes}
-use Rattle.trie_write.specs.Standing.{StandsIn}
-use Rattle.trie_write.specs.Tops.{NotBefore, IsBranchTop}
-use Rattle.trie_write.specs.Ways.{Fork, plug, IsWay}
+use Rattle.trie_space.specs.Standing.{StandsIn}
+use Rattle.trie_space.specs.Ways.{NotBefore, Fork, plug, IsWay}
+use Rattle.trie_write.specs.Tops.{IsBranchTop}
 
 -- The key first differs from those of a tree at the place, where the nearest has the position.
 pub record IsFirst (key : List ℕ) (first : Difference) (end : Tree) : Type 0 where

@@ -1,10 +1,8 @@
 pub mod Named
 pub mod Entries
-pub mod Weights
 pub mod Laid
 pub mod Points
 pub mod Builds
-pub mod Standing
 pub mod Paths
 pub mod Nearness
 pub mod Roots
@@ -12,8 +10,6 @@ pub mod Inserts
 pub mod Tops
 pub mod Exchanges
 pub mod Deletions
-pub mod Spaces
-pub mod Ways
 pub mod Descents
 pub mod Mutable
 pub mod Asks

@@ -1,22 +1,16 @@
 -- What it means that the way to a place is made mutable.
-use Rattle.std.specs.Prelude.{◌≡◌, ℕ, ◌+◌, ◌<◌, ◌≤◌, ◌^◌, ◌++◌, Bool, true, List}
+use Rattle.std.specs.Prelude.{◌≡◌, ℕ, ◌+◌, ◌≤◌, ◌++◌, Bool, true, List}
 use Rattle.packed_node.specs.declared.Cell.{Cell}
 use Rattle.trie_model.specs.Memory.{Beneath, top_cell}
-use Rattle.trie_model.specs.Reach.{in_chunk, weigh_tree, WithinTree}
+use Rattle.trie_model.specs.Reach.{in_chunk, weigh_tree}
 use Rattle.trie_model.specs.Trees.{Tree, entries_of, IsTree}
 use Rattle.chunk_usage.specs.Rooms.{Account}
-use Rattle.trie_read.specs.Reads.{IsTop}
-use Rattle.trie_write.specs.Spaces.{IsWritable}
-use Rattle.trie_write.specs.Ways.{Fork, plug, end_at, Along, IsWay, twigs_along, copied_along}
-use Rattle.trie_write.specs.Weights.{at_place, mark}
+use Rattle.trie_space.specs.Rooted.{Hangs, Rooted}
+use Rattle.trie_space.specs.Spaces.{IsWritable}
+use Rattle.trie_space.specs.Ways.{Fork, plug, end_at, Along, IsWay, twigs_along, copied_along}
+use Rattle.trie_space.specs.Weights.{at_place, mark}
 
--- A tree hangs on a cell, in cells in use, which count.
-pub record Hangs {S A : Type 0} (has : S → ℕ → Cell → Type 0) (account : A → Account) (s : S) (a : A) (low : ℕ) (cell : Cell) (t : Tree) : Type 0 where
-  pub top : IsTop (has s) low cell t
-  pub within : WithinTree (account a).used t
-  pub counted : (k : ℕ) → weigh_tree (in_chunk k) t ≤ (account a).live k
-
--- and the way leads through it
+-- A tree hangs on a cell, and the way leads through it.
 pub record WayAsks {S A : Type 0} (has : S → ℕ → Cell → Type 0) (account : A → Account) (s : S) (a : A) (place low : ℕ) (key : List ℕ) (cell : Cell) (way : List Fork) (end : Tree) : Type 0 where
   pub hangs : Hangs has account s a low cell (plug way end)
   pub is_way : IsWay place key way end
@@ -48,14 +42,6 @@ pub record IsParted (mutable : ℕ → Bool) (at : ℕ) (way : List Fork) (end :
   pub last_is : last ≡ end_at at upper
   pub is : cell ≡ top_cell (plug lower end)
   pub copied : (n : ℕ) → copied_along mutable n at way ≡ twigs_along lower
-
--- A tree stands at a root. Its cells, and what is spare beside them, are in use, each once, and are what counts.
-pub record Rooted {S A : Type 0} (has : S → ℕ → Cell → Type 0) (account : A → Account) (s : S) (a : A) (spare : (ℕ → ℕ) → ℕ) (r : ℕ) (t : Tree) : Type 0 where
-  pub inside : r < 2 ^ 22
-  pub top : has s r (top_cell t)
-  pub beneath : Beneath (has s) t
-  pub counted : (k : ℕ) → (account a).live k ≡ in_chunk k r + weigh_tree (in_chunk k) t + spare (in_chunk k)
-  pub once : (q : ℕ) → at_place q r + weigh_tree (at_place q) t + spare (at_place q) ≤ mark (account a).used q
 
 pub record SeatAsks {S A : Type 0} (has : S → ℕ → Cell → Type 0) (account : A → Account) (s : S) (a : A) (place : ℕ) (key : List ℕ) (spare : (ℕ → ℕ) → ℕ) (r : ℕ) (way : List Fork) (end : Tree) : Type 0 where
   pub tree : IsTree 0 (plug way end)

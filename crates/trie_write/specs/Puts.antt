@@ -11,9 +11,10 @@ use Rattle.chunk_usage.specs.declared.space.Full.{Full}
 use Rattle.chunk_usage.specs.Rooms.{Account}
 use Rattle.trie_write.specs.declared.change.Span.{Span}
 use Rattle.trie_write.specs.declared.change.Change.{Change}
-use Rattle.trie_write.specs.Mutable.{Rooted, SeatAsks}
-use Rattle.trie_write.specs.Ways.{Fork, plug, Along}
-use Rattle.trie_write.specs.Weights.{at_place, mark}
+use Rattle.trie_space.specs.Rooted.{Rooted, no_spare}
+use Rattle.trie_write.specs.Mutable.{SeatAsks}
+use Rattle.trie_space.specs.Ways.{Fork, plug, Along}
+use Rattle.trie_space.specs.Weights.{at_place, mark}
 
 -- what cells side by side weigh, and those of an item; what was taken for a change, and what it leaves
 abbrev pub span : Span → (ℕ → ℕ) → ℕ
@@ -57,10 +58,6 @@ pub record PutAsked {S A : Type 0} (has : S → ℕ → Cell → Type 0) (accoun
   pub end : Tree
   pub u : Tree
   pub asks : PutAsks has account s a place key r c way end u
-
--- nothing is spare
-abbrev pub no_spare : (ℕ → ℕ) → ℕ
-no_spare w = 0
 
 -- a tree stands at the root that has the new one at the end of a way, where one with the old entries had the old one
 pub record IsPut {S A : Type 0} (has : S → ℕ → Cell → Type 0) (account : A → Account) (s_new : S) (a_new : A) (place : ℕ) (key : List ℕ) (way : List Fork) (end u : Tree) (root : ℕ) : Type 0 where

@@ -8,8 +8,8 @@ use Rattle.zone_model.specs.Keys.{Leads}
 use Rattle.trie_read.specs.Reads.{EachTells}
 use Rattle.chunk_usage.specs.Rooms.{Account}
 use Rattle.trie_write.specs.Paths.{twigs_on_path, branches_on_path, to_copy}
-use Rattle.trie_write.specs.Standing.{StandsIn}
-use Rattle.trie_write.specs.Weights.{at_place}
+use Rattle.trie_space.specs.Standing.{StandsIn}
+use Rattle.trie_space.specs.Weights.{at_place}
 
 -- the cell is neither the root nor met below it; and no root that stands reaches it
 abbrev pub IsOutside : ℕ → Tree → ℕ → Type 0

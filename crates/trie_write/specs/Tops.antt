@@ -1,5 +1,5 @@
 -- What the top cell of a tree says.
-use Rattle.std.specs.Prelude.{◌≡◌, ℕ, ◌≤◌, length}
+use Rattle.std.specs.Prelude.{◌≡◌, length}
 use Rattle.packed_node.specs.declared.Branch.{Branch}
 use Rattle.packed_node.specs.declared.Leaf.{Leaf}
 use Rattle.trie_model.specs.Extents.{Extents, first_of}
@@ -18,8 +18,3 @@ pub record IsLeafTop (t : Tree) (l : Leaf) : Type 0 where
   pub is : t ≡ leaf e extents
   pub at : l.at ≡ first_of extents
   pub len : l.len ≡ length e.item
-
--- the top, where it is a branch, has its offset at the place or behind it
-abbrev pub NotBefore : ℕ → Tree → Type 0
-NotBefore place (leaf e where_at) = Unit {0}
-NotBefore place (branch o where_at below) = place ≤ o

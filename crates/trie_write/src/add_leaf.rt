@@ -9,7 +9,7 @@ ghost use Rattle.chunk_usage.specs.Rooms.{Handed};
 ghost use Rattle.trie_write.specs.Inserts.{WithAsks, WithAsked, PairAsked, JoinAsked, IsWith};
 ghost use Rattle.trie_write.specs.Laid.{IsNoItem};
 ghost use Rattle.trie_write.specs.Paths.{twigs_on_path, branches_on_path};
-ghost use Rattle.trie_write.specs.Spaces.{Ready, Frame, Refused};
+ghost use Rattle.trie_space.specs.Spaces.{Ready, Frame, Refused};
 ghost use Rattle.trie_write.specs.Tops.{IsBranchTop};
 
 use super::alloc::{copy_apart, room_for};

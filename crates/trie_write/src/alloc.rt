@@ -5,12 +5,13 @@ ghost use Rattle.packed_node.specs.declared.Cell.{Cell};
 ghost use Rattle.trie_model.specs.Extents.{IsRow, row as row_of};
 ghost use Rattle.trie_model.specs.Reach.{in_chunk};
 ghost use Rattle.chunk_usage.specs.Rooms.{Handed};
-ghost use Rattle.trie_write.specs.Spaces.{Ready, Frame, Refused, MayWrite, Wrote};
+ghost use Rattle.trie_space.specs.Spaces.{Ready, Frame, Refused, MayWrite, Wrote};
 
 use super::change::Span;
 use chunk_cells::CellWrite;
 use chunk_usage::{Full, Space};
 use packed_node::{Cell, Ref};
+use trie_space::copy_twigs;
 
 /// Room for n cells side by side, in a chunk that the cells know as given.
 pub fn room_for<C: CellWrite, U: Space>(cells: &mut C, usage: &mut U, n: u32) -> Result<Ref, Full>
@@ -32,19 +33,6 @@ pub fn room_for<C: CellWrite, U: Space>(cells: &mut C, usage: &mut U, n: u32) ->
         return Ok(grant.at);
     }
     Ok(grant.at)
-}
-
-/// Copies n cells to others.
-pub fn copy_twigs<C: CellWrite>(cells: &mut C, from: Ref, to: Ref, n: u32)
-    requires inside { from + n ≤ 2 ^ 22 }
-    requires within { to + n ≤ 2 ^ 22 }
-    requires there { (i : ℕ) → i < n → (c : Cell) × C.has cells.old (from + i) c }
-    requires apart { (i j : ℕ) → i < n → j < n → from + i ≢ to + j }
-    requires blank { MayWrite C.kept C.given cells.old to n }
-    ensures copied { (i : ℕ) (c : Cell) → i < n → C.has cells.old (from + i) c → C.has cells.new (to + i) c }
-    ensures wrote { Wrote C.has C.kept C.given cells.old cells.new to n }
-{
-    cells.copy_row(from, to, n);
 }
 
 /// Writes cells side by side.

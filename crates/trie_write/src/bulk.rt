@@ -13,8 +13,8 @@ ghost use Rattle.trie_model.specs.Trees.Tree.{leaf};
 ghost use Rattle.chunk_usage.specs.Rooms.{Account};
 ghost use Rattle.trie_write.specs.Entries.{entry_of, entries_of_items};
 ghost use Rattle.trie_write.specs.Builds.{Built, BuiltFront, Stopped};
-ghost use Rattle.trie_write.specs.Spaces.{Ready, Frame};
-ghost use Rattle.trie_write.specs.Standing.{HasTrie};
+ghost use Rattle.trie_space.specs.Spaces.{Ready, Frame};
+ghost use Rattle.trie_space.specs.Standing.{HasTrie};
 
 use super::Item;
 use super::alloc::lay_row;

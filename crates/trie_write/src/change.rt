@@ -12,8 +12,8 @@ ghost use Rattle.chunk_cells.specs.Laying.{extents_in};
 ghost use Rattle.trie_read.specs.Reads.{IsTop};
 ghost use Rattle.trie_write.specs.Puts.{span, item_span, taken, PutAsks, PutAsked, IsPut, GivenBack};
 ghost use Rattle.trie_write.specs.Roots.{IsOutside};
-ghost use Rattle.trie_write.specs.Spaces.{Ready, Fenced};
-ghost use Rattle.trie_write.specs.Ways.{Fork, plug, twigs_of, copied_along};
+ghost use Rattle.trie_space.specs.Spaces.{Ready, Fenced};
+ghost use Rattle.trie_space.specs.Ways.{Fork, plug, twigs_of, copied_along};
 
 use super::laying::release_item;
 use super::mutable::make_mutable;

@@ -10,8 +10,8 @@ ghost use Rattle.trie_write.specs.Asks.{HasKey, KeyIsThere};
 ghost use Rattle.trie_write.specs.Deletions.{Deleted, DropAsks, DropAsked};
 ghost use Rattle.trie_write.specs.Paths.{twigs_on_path, branches_on_path, delete_asks, to_copy};
 ghost use Rattle.trie_write.specs.Roots.{TwigsOnPath, BranchesOnPath, ToCopy, IsOutside, Beyond};
-ghost use Rattle.trie_write.specs.Spaces.{Ready, Fenced, Unchanged as Same, Refused};
-ghost use Rattle.trie_write.specs.Standing.{HasTrie};
+ghost use Rattle.trie_space.specs.Spaces.{Ready, Fenced, Unchanged as Same, Refused};
+ghost use Rattle.trie_space.specs.Standing.{HasTrie};
 
 use super::change::{Span, item_below, let_go, put_change};
 use super::descend::{Descent, last_descent};

@@ -4,7 +4,7 @@ ghost use Rattle.std.specs.Prelude.{◌≡◌, ◌<◌, ℕ, List, [], IfSome, N
 ghost use Rattle.trie_model.specs.Memory.{top_cell};
 ghost use Rattle.trie_model.specs.Trees.{Tree};
 ghost use Rattle.trie_read.specs.Reads.{IsTop};
-ghost use Rattle.trie_write.specs.Ways.{Fork, plug, IsWay};
+ghost use Rattle.trie_space.specs.Ways.{Fork, plug, IsWay};
 ghost use Rattle.trie_write.specs.Descents.{HasWay, IsDescent, IsLastDescent};
 
 use super::node_top::{branch_above, key_twig};

@@ -13,8 +13,8 @@ ghost use Rattle.trie_write.specs.Paths.{twigs_on_path, branches_on_path, insert
 ghost use Rattle.trie_write.specs.Laid.{extent_sizes};
 ghost use Rattle.trie_write.specs.Puts.{IsTaken};
 ghost use Rattle.trie_write.specs.Roots.{TwigsOnPath, BranchesOnPath, ToCopy, IsOutside, Beyond};
-ghost use Rattle.trie_write.specs.Spaces.{Ready, Frame, Fenced, Unchanged as Same, Refused};
-ghost use Rattle.trie_write.specs.Standing.{HasTrie};
+ghost use Rattle.trie_space.specs.Spaces.{Ready, Frame, Fenced, Unchanged as Same, Refused};
+ghost use Rattle.trie_space.specs.Standing.{HasTrie};
 
 use super::add_leaf::with_leaf;
 use super::alloc::room_for;

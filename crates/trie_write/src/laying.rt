@@ -5,7 +5,7 @@ ghost use Rattle.trie_model.specs.Extents.{AreExtents, ItemLies, cells_in, conte
 ghost use Rattle.trie_model.specs.Reach.{in_chunk};
 ghost use Rattle.chunk_cells.specs.Laying.{extents_at, extents_in};
 ghost use Rattle.trie_write.specs.Laid.{HandedItem, extent_sizes};
-ghost use Rattle.trie_write.specs.Spaces.{Frame, Ready, Refused};
+ghost use Rattle.trie_space.specs.Spaces.{Frame, Ready, Refused};
 
 use super::alloc::room_for;
 use chunk_cells::extents::{LAST_OCTETS, LINKED_OCTETS, content_cells_for, linked_extent};

@@ -22,7 +22,6 @@ mod replacement;
 mod row;
 mod size;
 
-pub use alloc::copy_twigs;
 pub use bulk::build;
 pub use deletion::delete;
 pub use insertion::insert;

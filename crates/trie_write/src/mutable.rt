@@ -6,16 +6,17 @@ ghost use Rattle.packed_node.specs.Nodes.{IsBranch, branch_cell};
 ghost use Rattle.trie_model.specs.Extents.{IsRow, row};
 ghost use Rattle.trie_model.specs.Reach.{in_chunk};
 ghost use Rattle.trie_model.specs.Trees.{Tree};
-ghost use Rattle.trie_write.specs.Spaces.{Ready, Frame, Fenced, Refused, MayWrite, Wrote, IsWritable};
-ghost use Rattle.trie_write.specs.Ways.{Fork, plug, IsWay, twigs_of, twigs_along, copied_along};
+ghost use Rattle.trie_space.specs.Spaces.{Ready, Frame, Fenced, Refused, MayWrite, Wrote, IsWritable};
+ghost use Rattle.trie_space.specs.Ways.{Fork, plug, IsWay, twigs_of, twigs_along, copied_along};
 ghost use Rattle.trie_write.specs.Mutable.{WayAsks, WayAsked, IsCopied, IsParted, SeatAsks, SeatAsked, IsSeat};
 
-use super::alloc::{copy_twigs, room_for};
+use super::alloc::room_for;
 use super::descend::{Descent, next_descent};
 use chunk_cells::{CellRead, CellWrite};
 use chunk_usage::{Full, Space};
 use packed_node::{Branch, Cell, Node, Ref};
 use shift_key::Key;
+use trie_space::copy_twigs;
 
 /// A cell on the way, and the node that it says.
 #[derive(Clone, Copy)]

@@ -7,7 +7,8 @@ ghost use Rattle.packed_node.specs.Nodes.{SaysNode};
 ghost use Rattle.trie_model.specs.Trees.{Tree, IsTree};
 ghost use Rattle.trie_model.specs.Changes.{Deep};
 ghost use Rattle.trie_model.specs.Memory.{top_cell};
-ghost use Rattle.trie_write.specs.Tops.{IsBranchTop, IsLeafTop, NotBefore};
+ghost use Rattle.trie_space.specs.Ways.{NotBefore};
+ghost use Rattle.trie_write.specs.Tops.{IsBranchTop, IsLeafTop};
 
 use packed_node::{Branch, Cell, Leaf, Node};
 use shift_key::Key;

@@ -7,8 +7,8 @@ ghost use Rattle.trie_model.specs.Trees.Tree.{leaf};
 ghost use Rattle.trie_write.specs.Deletions.{LeafDescent, LeafTurned, IsWithout};
 ghost use Rattle.trie_write.specs.Laid.{IsNoItem};
 ghost use Rattle.trie_write.specs.Puts.{IsTaken};
-ghost use Rattle.trie_write.specs.Spaces.{Ready, Frame, Refused};
-ghost use Rattle.trie_write.specs.Ways.{Fork, plug};
+ghost use Rattle.trie_space.specs.Spaces.{Ready, Frame, Refused};
+ghost use Rattle.trie_space.specs.Ways.{Fork, plug};
 
 use super::alloc::copy_apart;
 use super::change::{Change, NO_CELLS, NO_ITEM, Span, item_below};

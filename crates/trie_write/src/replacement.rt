@@ -15,8 +15,8 @@ ghost use Rattle.trie_write.specs.Exchanges.{Exchanged};
 ghost use Rattle.trie_write.specs.Paths.{branches_on_path, replace_asks, to_copy};
 ghost use Rattle.trie_write.specs.Puts.{Makes, IsTaken};
 ghost use Rattle.trie_write.specs.Roots.{TwigsOnPath, BranchesOnPath, ToCopy, IsOutside, Beyond};
-ghost use Rattle.trie_write.specs.Spaces.{Ready, Frame, Fenced, Unchanged as Same, Refused};
-ghost use Rattle.trie_write.specs.Standing.{HasTrie};
+ghost use Rattle.trie_space.specs.Spaces.{Ready, Frame, Fenced, Unchanged as Same, Refused};
+ghost use Rattle.trie_space.specs.Standing.{HasTrie};
 
 use super::change::{Change, NO_CELLS, item_below, put_change};
 use super::descend::end_node;

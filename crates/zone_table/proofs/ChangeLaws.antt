@@ -8,7 +8,7 @@ use Rattle.zone_model.specs.Names.{Name, IsName}
 use Rattle.trie_model.specs.Keys.{Entry, InList, Rises}
 use Rattle.trie_model.proofs.KeyLaws.{in_both}
 use Rattle.trie_model.proofs.OrderLaws.{rises_tree}
-use Rattle.trie_write.specs.Standing.{Standing}
+use Rattle.trie_space.specs.Standing.{Standing}
 use Rattle.packed_node.specs.declared.Cell.{Cell}
 use Rattle.trie_model.specs.Capacity.{is_roomy}
 use Rattle.pin_core.specs.declared.version.Spent.{Spent as NoNumber}

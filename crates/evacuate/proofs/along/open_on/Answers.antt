@@ -1,7 +1,7 @@
-use Rattle.std.proofs.Common.{refl, sym, ap, subst}
+use Rattle.std.proofs.Common.{sym, ap, subst}
 use Rattle.chunk_usage.specs.Rooms.{reserve_account_of}
-use Rattle.trie_write.specs.Spaces.{Fenced, IsWritable}
-use Rattle.trie_write.proofs.SpaceLaws.{frame_refl, fenced_of, fenced_then, ready_put}
+use Rattle.trie_space.specs.Spaces.{Fenced, IsWritable}
+use Rattle.trie_space.proofs.SpaceLaws.{frame_refl, fenced_of, fenced_then, ready_put}
 use Rattle.evacuate.specs.Fillings.{Moves}
 use Rattle.evacuate.proofs.AlongLaws.{is_hung, stood_in, branch_in, inside_in, further_in, says_in, hangs_further, fewer_in}
 use Rattle.evacuate.proofs.DescentLaws.{stood_same}

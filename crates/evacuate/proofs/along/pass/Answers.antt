@@ -3,7 +3,7 @@ use Rattle.std.proofs.Math.Facts.{Fits-lt}
 use Rattle.chunk_cells.specs.Chunks.{IsGiven}
 use Rattle.chunk_sets.proofs.FlagLemmas.{get_set}
 use Rattle.chunk_usage.proofs.SpaceLaws.{used_given}
-use Rattle.evacuate.specs.Fillings.{Fills, is_old}
+use Rattle.evacuate.specs.Fillings.{is_old}
 use Rattle.evacuate.specs.Places.{first_of, width_of}
 use Rattle.evacuate.proofs.FillingLaws.{sparse_old, settled_old, same_chunk_old}
 use Rattle.evacuate.proofs.TreeLaws.{hung_cells, hung_tree, moved_row}

@@ -1,5 +1,4 @@
-use Rattle.std.proofs.Common.{refl}
-use Rattle.trie_write.proofs.SpaceLaws.{grows_refl}
+use Rattle.trie_space.proofs.SpaceLaws.{grows_refl}
 use Rattle.evacuate.proofs.BeginLaws.{filled_on_none, filled_on_some}
 use Rattle.evacuate.proofs.beginning.begin.Goals as goal
 

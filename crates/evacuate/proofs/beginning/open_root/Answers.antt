@@ -1,5 +1,5 @@
 use Rattle.std.proofs.Common.{◌/◌, sym, ◌∙◌}
-use Rattle.trie_write.proofs.SpaceLaws.{frame_refl, fenced_of, ok_map}
+use Rattle.trie_space.proofs.SpaceLaws.{frame_refl, fenced_of, ok_map}
 use Rattle.evacuate.proofs.BeginLaws.{new_one, root_old, root_writable}
 use Rattle.evacuate.proofs.FillingLaws.{moves_none}
 use Rattle.evacuate.proofs.beginning.open_root.Goals as goal

@@ -1,5 +1,5 @@
 use Rattle.std.proofs.Common.{arith}
-use Rattle.trie_write.proofs.SpaceLaws.{fenced_then}
+use Rattle.trie_space.proofs.SpaceLaws.{fenced_then}
 use Rattle.evacuate.proofs.FillingLaws.{moves_then}
 use Rattle.evacuate.proofs.DescentLaws.{by_err, reached_hung, reached_due}
 use Rattle.evacuate.proofs.descent.move_found.Goals as goal

@@ -1,6 +1,6 @@
 use Rattle.std.proofs.Common.{◌/◌, arith, sym, ◌∙◌, ap, subst}
-use Rattle.trie_write.specs.Ways.{plug}
-use Rattle.trie_write.proofs.SpaceLaws.{ok_map, err_map}
+use Rattle.trie_space.specs.Ways.{plug}
+use Rattle.trie_space.proofs.SpaceLaws.{ok_map, err_map}
 use Rattle.evacuate.specs.Evacuations.{HasSparse}
 use Rattle.evacuate.specs.Fillings.{Moves}
 use Rattle.evacuate.specs.Places.{first_of, width_of, IsHung}

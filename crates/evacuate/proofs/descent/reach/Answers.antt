@@ -1,8 +1,8 @@
 use Rattle.std.proofs.Common.{arith, sym, ap, subst}
 use Rattle.chunk_usage.specs.Rooms.{reserve_account_of}
-use Rattle.trie_write.specs.Spaces.{Fenced, IsWritable}
-use Rattle.trie_write.specs.Ways.{plug}
-use Rattle.trie_write.proofs.SpaceLaws.{frame_refl, fenced_of, fenced_then, ready_put}
+use Rattle.trie_space.specs.Spaces.{Fenced, IsWritable}
+use Rattle.trie_space.specs.Ways.{plug}
+use Rattle.trie_space.proofs.SpaceLaws.{frame_refl, fenced_of, fenced_then, ready_put}
 use Rattle.evacuate.specs.Evacuations.{HasSparse}
 use Rattle.evacuate.specs.Fillings.{Moves}
 use Rattle.evacuate.specs.Trails.{Underway}

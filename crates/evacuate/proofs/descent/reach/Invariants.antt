@@ -3,7 +3,7 @@ use Rattle.trie_model.specs.Keys.{Entry}
 use Rattle.trie_model.specs.Trees.{Tree}
 use Rattle.trie_model.proofs.NodeLaws.{places_left}
 use Rattle.chunk_usage.specs.Rooms.{reserve_account_of}
-use Rattle.trie_write.specs.Spaces.{Ready, Fenced, IsWritable}
+use Rattle.trie_space.specs.Spaces.{Ready, Fenced, IsWritable}
 use Rattle.evacuate.specs.Fillings.{Fills, Moves}
 use Rattle.evacuate.specs.Places.{Stood}
 use Rattle.evacuate.specs.Trails.{Found, Underway}

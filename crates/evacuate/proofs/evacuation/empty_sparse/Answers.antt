@@ -4,8 +4,8 @@ use Rattle.std.proofs.lemmas.Bool.Decides.{nat_tests}
 use Rattle.chunk_usage.specs.Handing.{spent}
 use Rattle.chunk_usage.specs.Ledger.{Ledger, free_count}
 use Rattle.chunk_usage.specs.Rooms.{reserve_account_of}
-use Rattle.trie_write.specs.Spaces.{Fenced, IsWritable}
-use Rattle.trie_write.proofs.SpaceLaws.{fenced_then, fenced_same, ready_put, writable_later}
+use Rattle.trie_space.specs.Spaces.{Fenced, IsWritable}
+use Rattle.trie_space.proofs.SpaceLaws.{fenced_then, fenced_same, ready_put, writable_later}
 use Rattle.std.specs.Prelude.{Option, Some}
 use Rattle.evacuate.specs.declared.evacuation.Done.{Done}
 use Rattle.evacuate.specs.Evacuations.{FillsNew, HasSparse}

@@ -3,7 +3,7 @@ use Rattle.std.specs.Prelude.{if◌then◌else◌}
 use Rattle.trie_model.specs.Keys.{Entry}
 use Rattle.trie_model.specs.Trees.{Tree}
 use Rattle.chunk_usage.specs.Rooms.{reserve_account_of}
-use Rattle.trie_write.specs.Spaces.{Ready, Fenced, IsWritable}
+use Rattle.trie_space.specs.Spaces.{Ready, Fenced, IsWritable}
 use Rattle.evacuate.specs.Fillings.{Moves, begun, filled_on, is_old, old_chunks, old_live}
 use Rattle.evacuate.specs.Places.{Stood}
 use Rattle.evacuate.proofs.evacuation.empty_sparse.Given as goal

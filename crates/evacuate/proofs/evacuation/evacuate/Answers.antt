@@ -2,7 +2,7 @@ use Rattle.std.proofs.Common.{◌+◌, ◌*◌, ◌-◌, ◌≤◌, ℕ, Option,
 use Rattle.trie_model.specs.Shape.{cells}
 use Rattle.chunk_usage.specs.Handing.{spent}
 use Rattle.chunk_usage.specs.Ledger.{is_used, free_count}
-use Rattle.trie_write.specs.Standing.{Standing}
+use Rattle.trie_space.specs.Standing.{Standing}
 use Rattle.evacuate.proofs.EndLaws.{stood_of, stands_again, asked_by, old_cells}
 use Rattle.evacuate.proofs.FillingLaws.{fills_nothing}
 use Rattle.evacuate.proofs.ReserveLaws.{ready_for_reserve, ready_after_reserve}

@@ -1,5 +1,5 @@
 use Rattle.chunk_usage.specs.Rooms.{reserve_account_of}
-use Rattle.trie_write.specs.Spaces.{Ready}
+use Rattle.trie_space.specs.Spaces.{Ready}
 use Rattle.evacuate.specs.Rearranging.{Rearranged}
 use Rattle.evacuate.proofs.evacuation.try_lists.Given as goal
 

@@ -1,9 +1,9 @@
-use Rattle.std.proofs.Common.{◌≡◌, ◌+◌, ◌/◌, ◌^◌, ◌≤◌, List, Bool, count_ones, Fits-lit, arith, refl, sym, ◌∙◌, ap, subst}
+use Rattle.std.proofs.Common.{◌+◌, ◌/◌, List, Bool, Fits-lit, arith, refl, sym, ◌∙◌, ap, subst}
 use Rattle.std.proofs.Math.Facts.{Fits-lt}
 use Rattle.chunk_cells.specs.Chunks.{IsGiven}
 use Rattle.chunk_sets.proofs.FlagLemmas.{get_set}
 use Rattle.chunk_usage.proofs.SpaceLaws.{used_given}
-use Rattle.evacuate.specs.Places.{HangsIn, first_of, width_of}
+use Rattle.evacuate.specs.Places.{first_of, width_of}
 use Rattle.evacuate.proofs.AlongLaws.{hangs_first, is_hung, inside_in, read_there, says_in, hangs_further, fewer_in, twigs_there}
 use Rattle.evacuate.proofs.DescentLaws.{begins, hung_there, hung_says, hung_read}
 use Rattle.evacuate.proofs.TreeLaws.{hung_cells}

@@ -1,7 +1,7 @@
 use Rattle.std.proofs.Common.{◌≡◌}
 use Rattle.trie_model.proofs.NodeLaws.{places_left}
 use Rattle.chunk_usage.specs.Rooms.{reserve_account_of}
-use Rattle.trie_write.specs.Spaces.{IsWritable}
+use Rattle.trie_space.specs.Spaces.{IsWritable}
 use Rattle.evacuate.specs.Places.{Hangs}
 use Rattle.evacuate.proofs.foothold.descend.Given as goal
 

@@ -51,13 +51,13 @@ loop-i-preserved g t c =
           c.last_below.ensures.above j (omega arith) ∙ c.take.ensures.others j (λ e. omega arith) ∙ c.loop-i.invariant.above j l;
     }
 
-pub returns-then-sparse-2-clause-found : goal.returns-then-sparse-2-clause-found
-returns-then-sparse-2-clause-found g t c e u top =
-    let b = branch_told u (c.in-Branch.branch) (sym (read_is top c.of.ensures.back) ∙ c.in-Branch.is) in
-    found_branch u c.in-Branch.branch b refl (ap (is_sparse c.args.usage.now) (sym c.chunk_of.ensures) ∙ sym c.is_chunk_sparse-sparse.ensures ∙ c.if-sparse-2.true)
-
-pub is_item_sparse-sparse-requires : goal.is_item_sparse-sparse-requires
-is_item_sparse-sparse-requires g t c = record { there = leaf_item c.requires.top.1 (leaf_said c.requires.top.0 c.in-Leaf.leaf (sym (read_is c.requires.top.1 c.of.ensures.back) ∙ c.in-Leaf.is)) }
-
 pub returns-then-sparse-clause-found : goal.returns-then-sparse-clause-found
-returns-then-sparse-clause-found g t c e u top = found_leaf u c.in-Leaf.leaf top (leaf_said u c.in-Leaf.leaf (sym (read_is top c.of.ensures.back) ∙ c.in-Leaf.is)) (c.is_item_sparse-sparse.ensures.some c.if-sparse.true)
+returns-then-sparse-clause-found g t c e u top =
+    let b = branch_told u (c.in-Branch.branch) (sym (read_is top c.of.ensures.back) ∙ c.in-Branch.is) in
+    found_branch u c.in-Branch.branch b refl (ap (is_sparse c.args.usage.now) (sym c.chunk_of.ensures) ∙ sym c.is_chunk_sparse-sparse.ensures ∙ c.if-sparse.true)
+
+pub ends_at_leaf-requires : goal.ends_at_leaf-requires
+ends_at_leaf-requires g t c = record { there = leaf_item c.requires.top.1 (leaf_said c.requires.top.0 c.in-Leaf.leaf (sym (read_is c.requires.top.1 c.of.ensures.back) ∙ c.in-Leaf.is)) }
+
+pub returns-in-Leaf-clause-found : goal.returns-in-Leaf-clause-found
+returns-in-Leaf-clause-found g t c e u top = found_leaf u c.in-Leaf.leaf top (leaf_said u c.in-Leaf.leaf (sym (read_is top c.of.ensures.back) ∙ c.in-Leaf.is)) (c.ends_at_leaf.ensures.some e)

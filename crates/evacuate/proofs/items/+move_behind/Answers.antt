@@ -4,10 +4,10 @@ use Rattle.trie_model.specs.Extents.{first_of}
 use Rattle.trie_model.specs.Extents.Extents.{linked}
 use Rattle.trie_model.specs.Trees.Tree.{leaf}
 use Rattle.trie_model.proofs.ExtentLaws.{linked_is}
-use Rattle.trie_write.specs.Ways.{plug}
-use Rattle.trie_write.proofs.SpaceLaws.{frame_refl, fenced_of, fenced_same, fenced_then, ready_put, ok_map}
+use Rattle.trie_space.specs.Ways.{plug}
+use Rattle.trie_space.proofs.SpaceLaws.{frame_refl, fenced_of, fenced_same, fenced_then, ready_put, ok_map}
 use Rattle.chunk_usage.specs.Rooms.{reserve_account_of}
-use Rattle.trie_write.specs.Spaces.{IsWritable}
+use Rattle.trie_space.specs.Spaces.{IsWritable}
 use Rattle.evacuate.specs.Evacuations.{HasSparse}
 use Rattle.evacuate.specs.Fillings.{Fewer}
 use Rattle.evacuate.specs.Chains.{chain, GoesOn}

@@ -1,7 +1,7 @@
 use Rattle.std.proofs.Common.{inl, inr, [], arith, sym, ◌∙◌, subst}
 use Rattle.std.proofs.lemmas.Bool.{true≢false}
-use Rattle.trie_write.specs.Ways.{plug}
-use Rattle.trie_write.proofs.SpaceLaws.{fenced_then, ok_map, err_map}
+use Rattle.trie_space.specs.Ways.{plug}
+use Rattle.trie_space.proofs.SpaceLaws.{fenced_then, ok_map, err_map}
 use Rattle.evacuate.specs.Evacuations.{HasSparse}
 use Rattle.evacuate.specs.Fillings.{Fewer}
 use Rattle.evacuate.specs.Chains.{GoesOn}

@@ -3,7 +3,7 @@ use Rattle.trie_model.proofs.ExtentLaws.{linked_is}
 use Rattle.chunk_cells.specs.Chunks.{IsGiven}
 use Rattle.chunk_sets.proofs.FlagLemmas.{get_set}
 use Rattle.chunk_usage.proofs.SpaceLaws.{used_given}
-use Rattle.trie_write.proofs.SpaceLaws.{frame_refl, fenced_of, ok_map, err_map}
+use Rattle.trie_space.proofs.SpaceLaws.{frame_refl, fenced_of, ok_map, err_map}
 use Rattle.evacuate.specs.Fillings.{Fills, Moves, is_old}
 use Rattle.evacuate.specs.Places.{first_of, width_of, moved, Hung}
 use Rattle.evacuate.proofs.BehindLaws.{either_way}

@@ -4,8 +4,8 @@ use Rattle.chunk_cells.specs.Chunks.{IsGiven}
 use Rattle.chunk_sets.proofs.FlagLemmas.{get_set}
 use Rattle.chunk_usage.proofs.SpaceLaws.{used_given}
 use Rattle.chunk_usage.specs.Rooms.{reserve_account_of}
-use Rattle.trie_write.specs.Spaces.{IsWritable}
-use Rattle.trie_write.proofs.SpaceLaws.{frame_refl, fenced_of, fenced_same, ready_put, ok_map, err_map}
+use Rattle.trie_space.specs.Spaces.{IsWritable}
+use Rattle.trie_space.proofs.SpaceLaws.{frame_refl, fenced_of, fenced_same, ready_put, ok_map, err_map}
 use Rattle.chunk_usage.specs.Counting.{is_sparse}
 use Rattle.evacuate.specs.Fillings.{Fills, Moves, is_old}
 use Rattle.evacuate.specs.Chains.{Goes}

@@ -1,6 +1,6 @@
 use Rattle.std.proofs.Common.{◌-◌}
 use Rattle.chunk_usage.specs.Rooms.{reserve_account_of}
-use Rattle.trie_write.specs.Spaces.{Ready}
+use Rattle.trie_space.specs.Spaces.{Ready}
 use Rattle.evacuate.specs.Rearranging.{Rearranged}
 use Rattle.evacuate.proofs.listed.step_in_all.Given as goal
 

@@ -1,5 +1,5 @@
 use Rattle.std.proofs.Common.{◌+◌}
-use Rattle.trie_write.proofs.SpaceLaws.{apart_from, frame_wrote, frame_refl, ready_wrote}
+use Rattle.trie_space.proofs.SpaceLaws.{apart_from, frame_wrote, frame_refl, ready_wrote}
 use Rattle.evacuate.proofs.moves.copy_out.Goals as goal
 
 pub copy_twigs-requires-clause-there : goal.copy_twigs-requires-clause-there

@@ -1,8 +1,8 @@
 use Rattle.std.proofs.Common.{◌≡◌, true, ◌/◌, ◌+◌, ◌<◌, ℕ, arith, refl, sym, ◌∙◌, ap, subst}
 use Rattle.trie_model.proofs.ExtentLaws.{linked_is}
 use Rattle.chunk_usage.specs.Rooms.{reserve_account_of}
-use Rattle.trie_write.specs.Spaces.{IsWritable}
-use Rattle.trie_write.proofs.SpaceLaws.{fenced_of, fenced_put, fenced_counts, fenced_same, ready_put, ready_counts, writable_later, seat_open}
+use Rattle.trie_space.specs.Spaces.{IsWritable}
+use Rattle.trie_space.proofs.SpaceLaws.{fenced_of, fenced_put, fenced_counts, fenced_same, ready_put, ready_counts, writable_later, seat_open}
 use Rattle.evacuate.specs.Fillings.{Paid, is_old}
 use Rattle.evacuate.proofs.BehindLaws.{goes_same}
 use Rattle.evacuate.proofs.ChainLaws.{goes_behind, goes_moved}

@@ -1,7 +1,7 @@
 use Rattle.std.proofs.Common.{◌/◌, arith, sym, ◌∙◌, ap, subst}
 use Rattle.packed_node.specs.Nodes.{IsNode, packed}
 use Rattle.trie_model.specs.Extents.{IsRow}
-use Rattle.trie_write.proofs.SpaceLaws.{fenced_of, fenced_put, fenced_counts, ready_put, ready_counts, writable_later, seat_open}
+use Rattle.trie_space.proofs.SpaceLaws.{fenced_of, fenced_put, fenced_counts, ready_put, ready_counts, writable_later, seat_open}
 use Rattle.evacuate.specs.Fillings.{Paid, is_old}
 use Rattle.evacuate.specs.Places.{first_of, width_of, put_at}
 use Rattle.evacuate.proofs.FillingLaws.{moves_paid}

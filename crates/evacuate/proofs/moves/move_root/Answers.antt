@@ -1,10 +1,10 @@
 use Rattle.std.proofs.Common.{◌≡◌, ◌+◌, ◌/◌, ◌≤◌, ℕ, true, arith, subst}
 use Rattle.trie_model.specs.Memory.{top_cell}
 use Rattle.chunk_usage.specs.Rooms.{reserve_account_of}
-use Rattle.trie_write.specs.Spaces.{IsWritable}
-use Rattle.trie_write.specs.Weights.{mark}
-use Rattle.trie_write.proofs.SpaceLaws.{fenced_of, fenced_counts, ready_counts}
-use Rattle.trie_write.proofs.WeightLaws.{at_itself, mark_tells}
+use Rattle.trie_space.specs.Spaces.{IsWritable}
+use Rattle.trie_space.specs.Weights.{mark}
+use Rattle.trie_space.proofs.SpaceLaws.{fenced_of, fenced_counts, ready_counts}
+use Rattle.trie_space.proofs.WeightLaws.{at_itself, mark_tells}
 use Rattle.evacuate.proofs.FillingLaws.{moves_paid}
 use Rattle.evacuate.proofs.TreeLaws.{root_counted, root_moved, later_counted, handed_writable, released_rest}
 use Rattle.evacuate.proofs.moves.move_root.Goals as goal

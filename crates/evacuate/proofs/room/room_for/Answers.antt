@@ -2,7 +2,7 @@ use Rattle.std.proofs.Common.{◌≡◌, List, Bool, true, slice_set, Some, refl
 use Rattle.chunk_cells.specs.Chunks.{IsFree}
 use Rattle.chunk_usage.specs.Rooms.{GivesChunk, OpensFree}
 use Rattle.chunk_usage.specs.Ledger.{is_bump}
-use Rattle.trie_write.proofs.SpaceLaws.{handed_open, frame_given, ready_grows}
+use Rattle.trie_space.proofs.SpaceLaws.{handed_open, frame_given, ready_grows}
 use Rattle.evacuate.proofs.ReserveLaws.{reserve_handing}
 use Rattle.evacuate.proofs.FillingLaws.{Granted, granted, moves_handed}
 use Rattle.evacuate.proofs.room.room_for.Goals as goal

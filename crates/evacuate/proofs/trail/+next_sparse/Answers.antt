@@ -69,15 +69,15 @@ loop-i-preserved g t c =
           let next = ap (λ (m : ℕ). under (in_chunk k) (past m b.below)) (let z : suc c.loop-i.i ≡ c.loop-i.i + 1 = omega arith in z) in omega arith;
     }
 
-pub is_item_sparse-sparse-requires : goal.is_item_sparse-sparse-requires
-is_item_sparse-sparse-requires g t c = record { there = leaf_item c.requires.top.1 (leaf_said c.requires.top.0 c.in-Leaf.leaf (sym (read_is c.requires.top.1 c.of.ensures.back) ∙ c.in-Leaf.is)) }
+pub ends_at_leaf-requires : goal.ends_at_leaf-requires
+ends_at_leaf-requires g t c = record { there = leaf_item c.requires.top.1 (leaf_said c.requires.top.0 c.in-Leaf.leaf (sym (read_is c.requires.top.1 c.of.ensures.back) ∙ c.in-Leaf.is)) }
 
-pub returns-then-sparse-clause-found : goal.returns-then-sparse-clause-found
-returns-then-sparse-clause-found g t c e u top = found_leaf u c.in-Leaf.leaf top (leaf_said u c.in-Leaf.leaf (sym (read_is top c.of.ensures.back) ∙ c.in-Leaf.is)) (c.is_item_sparse-sparse.ensures.some c.if-sparse.true)
+pub returns-in-Leaf-clause-found : goal.returns-in-Leaf-clause-found
+returns-in-Leaf-clause-found g t c e u top = found_leaf u c.in-Leaf.leaf top (leaf_said u c.in-Leaf.leaf (sym (read_is top c.of.ensures.back) ∙ c.in-Leaf.is)) (c.ends_at_leaf.ensures.some e)
 
-pub returns-else-sparse-clause-none : goal.returns-else-sparse-clause-none
-returns-else-sparse-clause-none g t c e off all u top k sparse =
-    clear_leaf c.args.usage.now c.args.low c.args.node u c.in-Leaf.leaf top (leaf_said u c.in-Leaf.leaf (sym (read_is top c.of.ensures.back) ∙ c.in-Leaf.is)) (c.is_item_sparse-sparse.ensures.none c.if-sparse.false) k sparse
+pub returns-in-Leaf-clause-none : goal.returns-in-Leaf-clause-none
+returns-in-Leaf-clause-none g t c e off all u top k sparse =
+    clear_leaf c.args.usage.now c.args.low c.args.node u c.in-Leaf.leaf top (leaf_said u c.in-Leaf.leaf (sym (read_is top c.of.ensures.back) ∙ c.in-Leaf.is)) (c.ends_at_leaf.ensures.none e) k sparse
 
 pub returns-after-loop-i-clause-none : goal.returns-after-loop-i-clause-none
 returns-after-loop-i-clause-none g t c e off all u top k sparse =

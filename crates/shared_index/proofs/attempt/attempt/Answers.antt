@@ -1,6 +1,6 @@
 use Rattle.std.proofs.Common.{◌≡◌, length, sym, subst}
 use Rattle.chunk_usage.specs.Rooms.{account_of}
-use Rattle.trie_write.specs.Spaces.{Ready}
+use Rattle.trie_space.specs.Spaces.{Ready}
 use Rattle.shared_cells.specs.Cells.{Cells, given_chunks, kept_references, HasCell}
 use Rattle.shared_index.specs.Bases.{IsRooted}
 use Rattle.shared_index.specs.Turns.{cells_with}

@@ -1,7 +1,7 @@
 use Rattle.std.proofs.Common.{◌≡◌, length, sym, subst}
 use Rattle.chunk_usage.specs.Rooms.{account_of}
-use Rattle.trie_write.specs.Standing.{HasTrie}
-use Rattle.trie_write.specs.Spaces.{Ready}
+use Rattle.trie_space.specs.Standing.{HasTrie}
+use Rattle.trie_space.specs.Spaces.{Ready}
 use Rattle.shared_cells.specs.Cells.{Cells, given_chunks, kept_references, HasCell}
 use Rattle.shared_index.specs.Turns.{cells_with}
 use Rattle.shared_index.proofs.WordsLaws.{same_words, same_chunks, same_passes, lent_begins, lent_seat, lent_back}

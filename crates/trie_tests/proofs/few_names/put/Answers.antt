@@ -1,7 +1,7 @@
 use Rattle.std.proofs.Common.{List, ℕ, sym, subst}
 use Rattle.zone_model.specs.Keys.{Leads}
 use Rattle.trie_write.specs.Entries.{entry_of}
-use Rattle.trie_write.proofs.SpaceLaws.{ok_map}
+use Rattle.trie_space.proofs.SpaceLaws.{ok_map}
 use Rattle.trie_write.proofs.RootLaws.{entry_with, tells_more}
 use Rattle.trie_tests.proofs.few_names.put.Goals as goal
 

@@ -1,9 +1,9 @@
 use Rattle.std.proofs.Common.{List, ℕ, sym, ◌∙◌, subst}
 use Rattle.trie_model.specs.Memory.{Stands}
 use Rattle.zone_model.specs.Keys.{Leads}
-use Rattle.trie_write.specs.Spaces.{Ready}
+use Rattle.trie_space.specs.Spaces.{Ready}
 use Rattle.trie_write.specs.Entries.{entry_of, entries_of_items}
-use Rattle.trie_write.specs.Standing.{Standing}
+use Rattle.trie_space.specs.Standing.{Standing}
 use Rattle.trie_write.proofs.ItemLaws.{items_tell}
 use Rattle.trie_write.proofs.RootLaws.{stands_of}
 use Rattle.trie_tests.proofs.few_names.sizes_with.Goals as goal

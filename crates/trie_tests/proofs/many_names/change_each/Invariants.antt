@@ -2,8 +2,8 @@ use Rattle.std.proofs.Common.{List}
 use Rattle.zone_model.specs.Keys.{Leads}
 use Rattle.trie_model.specs.Keys.{Entry}
 use Rattle.trie_read.specs.Reads.{EachTells}
-use Rattle.trie_write.specs.Spaces.{Ready}
-use Rattle.trie_write.specs.Standing.{Standing}
+use Rattle.trie_space.specs.Spaces.{Ready}
+use Rattle.trie_space.specs.Standing.{Standing}
 use Rattle.trie_tests.proofs.many_names.change_each.Given as goal
 
 abbrev pub invariant-loop-i : goal.invariant-loop-i

@@ -3,7 +3,7 @@ use Rattle.std.specs.Int.{bit_at}
 use Rattle.packed_node.specs.Nodes.{IsBranch, branch_cell}
 use Rattle.trie_model.specs.Extents.{IsRow}
 use Rattle.trie_model.specs.Keys.{at}
-use Rattle.trie_write.proofs.SpaceLaws.{frame_wrote, frame_refl, wrote_one}
+use Rattle.trie_space.proofs.SpaceLaws.{frame_wrote, frame_refl, wrote_one}
 use Rattle.trie_write.proofs.WithLaws.{among_n, among_absent, among_small, among_lies, among_before, among_there, among_used, among_few, more_branch, joined, cell_of_leaf, leaf_node, leaf_is}
 use Rattle.trie_write.proofs.add_leaf.join_twigs.Goals as goal
 

@@ -1,6 +1,6 @@
 use Rattle.std.proofs.Common.{ℕ, ◌+◌, ◌-◌, ◌^◌, ◌<◌, ◌≤◌, arith, refl, sym, ◌∙◌, ap, subst}
 use Rattle.packed_node.specs.Nodes.{IsBranch, branch_cell}
-use Rattle.trie_write.proofs.SpaceLaws.{open_later, frame_wrote, frame_refl, wrote_one, wrote_then}
+use Rattle.trie_space.proofs.SpaceLaws.{open_later, frame_wrote, frame_refl, wrote_one, wrote_then}
 use Rattle.trie_write.proofs.WithLaws.{pair_branch, paired, leaf_node, leaf_is}
 use Rattle.trie_write.proofs.add_leaf.pair_with.Goals as goal
 

@@ -2,7 +2,7 @@ use Rattle.std.proofs.Common.{suc, map, sym, arith}
 use Rattle.trie_model.proofs.NodeLaws.{says_node}
 use Rattle.trie_write.specs.Paths.{branches_on_path}
 use Rattle.trie_write.proofs.AskLaws.{first_of}
-use Rattle.trie_write.proofs.SpaceLaws.{ok_map, err_map}
+use Rattle.trie_space.proofs.SpaceLaws.{ok_map, err_map}
 use Rattle.trie_write.proofs.WithLaws.{among_path, among_asked, among_few}
 use Rattle.trie_write.proofs.add_leaf.with_leaf.Goals as goal
 

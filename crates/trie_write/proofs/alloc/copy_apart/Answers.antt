@@ -1,5 +1,5 @@
 use Rattle.std.proofs.Common.{◌≡◌, ℕ, ◌+◌, ◌-◌, arith, ◌∙◌, subst}
-use Rattle.trie_write.proofs.SpaceLaws.{apart_from, blank_part, open_later, frame_wrote, frame_refl, wrote_more, wrote_then, ready_wrote}
+use Rattle.trie_space.proofs.SpaceLaws.{apart_from, blank_part, open_later, frame_wrote, frame_refl, wrote_more, wrote_then, ready_wrote}
 use Rattle.trie_write.proofs.alloc.copy_apart.Goals as goal
 
 pub copy_twigs-requires : goal.copy_twigs-requires

@@ -1,7 +1,7 @@
 use Rattle.std.proofs.Common.{◌≡◌, ℕ, ◌+◌, Some, slice_get, inl, inr, refl, sym, subst, arith}
 use Rattle.std.proofs.lemmas.Bool.{cases_lt}
 use Rattle.std.proofs.lemmas.Option.{get_or_from_slice_get, slice_get_within}
-use Rattle.trie_write.proofs.SpaceLaws.{open_later, wrote_refl, wrote_one, wrote_then}
+use Rattle.trie_space.proofs.SpaceLaws.{open_later, wrote_refl, wrote_one, wrote_then}
 use Rattle.trie_write.proofs.alloc.put_row.Goals as goal
 
 pub put-requires : goal.put-requires

@@ -1,6 +1,6 @@
 use Rattle.std.proofs.Common.{◌≡◌, ℕ, ◌+◌, ◌<◌, Some, length, slice_get}
 use Rattle.packed_node.specs.declared.Cell.{Cell}
-use Rattle.trie_write.specs.Spaces.{Wrote}
+use Rattle.trie_space.specs.Spaces.{Wrote}
 use Rattle.trie_write.proofs.alloc.put_row.Given as goal
 
 abbrev pub invariant-loop-i : goal.invariant-loop-i

@@ -1,7 +1,7 @@
 use Rattle.std.proofs.Common.{◌≡◌, List, Bool, true, slice_set, Some, refl, ◌∙◌, sym, ap, subst}
 use Rattle.chunk_cells.specs.Chunks.{IsFree}
 use Rattle.chunk_usage.specs.Rooms.{GivesChunk, OpensFree}
-use Rattle.trie_write.proofs.SpaceLaws.{handed_open, frame_given, ready_grows}
+use Rattle.trie_space.proofs.SpaceLaws.{handed_open, frame_given, ready_grows}
 use Rattle.trie_write.proofs.alloc.room_for.Goals as goal
 
 free : (g : _) (c : goal.After-give g) → IsFree (g.C.CellWrite.given c.args.cells.now) c.in-Some.chunk

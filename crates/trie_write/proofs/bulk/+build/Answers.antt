@@ -11,7 +11,7 @@ use Rattle.trie_write.proofs.BuildLaws as building
 use Rattle.trie_write.proofs.BuildLaws.{Making}
 use Rattle.trie_write.proofs.ItemLaws.{item_entry}
 use Rattle.trie_write.proofs.OpenLaws.{leaf_front, parts, some_left}
-use Rattle.trie_write.proofs.SpaceLaws.{frame_then, frame_refl, err_all}
+use Rattle.trie_space.proofs.SpaceLaws.{frame_then, frame_refl, err_all}
 use Rattle.trie_write.proofs.bulk.+build.Goals as goal
 
 -- ---- a branch

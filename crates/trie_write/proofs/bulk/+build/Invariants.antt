@@ -4,7 +4,7 @@ use Rattle.chunk_usage.specs.Rooms.{Account}
 use Rattle.trie_write.specs.Builds.{BuiltFront}
 use Rattle.trie_write.specs.Entries.{entries_of_items}
 use Rattle.trie_write.specs.Points.{Before}
-use Rattle.trie_write.specs.Spaces.{Ready, Frame}
+use Rattle.trie_space.specs.Spaces.{Ready, Frame}
 use Rattle.trie_write.proofs.BuildLaws.{Making}
 use Rattle.trie_write.proofs.bulk.+build.Given as goal
 

@@ -1,9 +1,9 @@
 use Rattle.std.proofs.Common.{arith, sym, ap, subst}
 use Rattle.chunk_usage.specs.Rooms.{Account}
 use Rattle.trie_write.specs.Puts.{taken, IsPut}
-use Rattle.trie_write.specs.Spaces.{Fenced}
+use Rattle.trie_space.specs.Spaces.{Fenced}
 use Rattle.trie_write.proofs.ChangeLaws.{left_counted, put_is, outside_opened, taken_counted}
-use Rattle.trie_write.proofs.SpaceLaws.{fenced_put, fenced_counts, seat_open}
+use Rattle.trie_space.proofs.SpaceLaws.{fenced_put, fenced_counts, seat_open}
 use Rattle.trie_write.proofs.change.put_change.Goals as goal
 
 pub make_mutable-requires-clause-asks : goal.make_mutable-requires-clause-asks

@@ -3,7 +3,7 @@ use Rattle.chunk_usage.specs.declared.space.Full.{Full}
 use Rattle.trie_write.specs.Paths.{delete_asks}
 use Rattle.trie_write.proofs.RefusalLaws.{asked_full, not_refused}
 use Rattle.trie_write.proofs.RootLaws.{stands_of}
-use Rattle.trie_write.proofs.SpaceLaws.{err_on}
+use Rattle.trie_space.proofs.SpaceLaws.{err_on}
 use Rattle.trie_write.proofs.ReplaceLaws.{has_key, on_path, on_branches, copied_path, beyond_key, trie_later}
 use Rattle.trie_write.proofs.deletion.delete.Goals as goal
 

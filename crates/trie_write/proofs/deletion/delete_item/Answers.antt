@@ -3,7 +3,7 @@ use Rattle.chunk_usage.specs.Rooms.{Account}
 use Rattle.trie_write.specs.Descents.{HasWay}
 use Rattle.trie_write.proofs.ReplaceLaws.{root_top}
 use Rattle.trie_write.proofs.RemoveLaws.{drop_asks, only_are, only_at, only_item, only_live, only_gone}
-use Rattle.trie_write.proofs.SpaceLaws.{fenced_of, frame_refl, frame_counts, fenced_same, frame_same, refused_same, ready_counts, ready_put}
+use Rattle.trie_space.proofs.SpaceLaws.{fenced_of, frame_refl, frame_counts, fenced_same, frame_same, refused_same, ready_counts, ready_put}
 use Rattle.trie_write.proofs.DescentLaws.{same_top}
 use Rattle.trie_write.proofs.deletion.delete_item.Goals as goal
 

@@ -1,11 +1,11 @@
 use Rattle.std.proofs.Common.{map, count_ones, arith}
 use Rattle.trie_write.specs.Paths.{branches_on_path}
-use Rattle.trie_write.specs.Ways.{plug, twigs_of}
+use Rattle.trie_space.specs.Ways.{plug, twigs_of}
 use Rattle.trie_write.proofs.AskLaws.{delete_opens, delete_puts}
 use Rattle.trie_write.proofs.ChangeLaws.{put_asks, refused_back, outside_put}
 use Rattle.trie_write.proofs.PathLaws.{copied_way, copied_most}
 use Rattle.trie_write.proofs.RemoveLaws.{key_leaf, parts_is, leaf_descent, upper_way, path_parts, parts_branches, last_branch, removed}
-use Rattle.trie_write.proofs.SpaceLaws.{err_on, fenced_of, fenced_then, ok_map, err_map}
+use Rattle.trie_space.proofs.SpaceLaws.{err_on, fenced_of, fenced_then, ok_map, err_map}
 use Rattle.trie_write.proofs.WithoutLaws.{last_n, last_known}
 use Rattle.trie_write.proofs.deletion.drop_leaf.Goals as goal
 

@@ -1,7 +1,7 @@
 use Rattle.std.proofs.Common.{◌+◌, ◌-◌, ◌<◌, arith, sym, ◌∙◌, ap, subst, rules}
 use Rattle.trie_model.specs.Memory.{top_cell}
 use Rattle.trie_read.specs.Reads.{IsTop}
-use Rattle.trie_write.specs.Ways.{plug}
+use Rattle.trie_space.specs.Ways.{plug}
 use Rattle.trie_write.specs.Descents.{HasWay}
 use Rattle.trie_write.proofs.DescentLaws.{known, way_on, top_below}
 use Rattle.trie_write.proofs.descend.+end_node.Goals as goal

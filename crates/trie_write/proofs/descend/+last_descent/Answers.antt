@@ -1,6 +1,6 @@
 use Rattle.std.proofs.Common.{◌+◌, ◌-◌, ◌<◌, arith, sym, subst, rules}
 use Rattle.trie_read.specs.Reads.{IsTop}
-use Rattle.trie_write.specs.Ways.{plug}
+use Rattle.trie_space.specs.Ways.{plug}
 use Rattle.trie_write.specs.Descents.{HasWay}
 use Rattle.trie_write.proofs.DescentLaws.{known, way_on, top_below, last_here, last_further}
 use Rattle.trie_write.proofs.descend.+last_descent.Goals as goal

@@ -3,13 +3,13 @@ use Rattle.std.proofs.Math.Facts.{Fits-lt-pow}
 use Rattle.chunk_usage.specs.declared.space.Full.{Full}
 use Rattle.trie_write.specs.Paths.{insert_asks}
 use Rattle.trie_write.specs.Roots.{BranchesOnPath}
-use Rattle.trie_write.specs.Standing.{HasTrie}
+use Rattle.trie_space.specs.Standing.{HasTrie}
 use Rattle.trie_write.proofs.AskLaws.{insert_begins}
 use Rattle.trie_write.proofs.InsertLaws.{missing_key, missing_path, missing_branches, missing_copied, missing_beyond, never_there}
 use Rattle.trie_write.proofs.RefusalLaws.{asked_full, not_refused}
 use Rattle.trie_write.proofs.ReplaceLaws.{trie_later}
 use Rattle.trie_write.proofs.RootLaws.{leads_key, leads_some, leads_entry, entry_with, inserted_first}
-use Rattle.trie_write.proofs.SpaceLaws.{err_on}
+use Rattle.trie_space.proofs.SpaceLaws.{err_on}
 use Rattle.trie_write.proofs.insertion.insert.Goals as goal
 
 is_none : (o : Option ℕ) → ((x : ℕ) → o ≡ Some x → ⊥) → o ≡ None

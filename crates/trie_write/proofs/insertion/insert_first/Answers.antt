@@ -4,7 +4,7 @@ use Rattle.trie_write.specs.Laid.{extent_sizes}
 use Rattle.trie_write.proofs.AskLaws.{first_of}
 use Rattle.trie_write.proofs.InsertLaws.{first_stands}
 use Rattle.trie_write.proofs.LaidLaws.{laid_leaf}
-use Rattle.trie_write.proofs.SpaceLaws.{err_on, frame_then, frame_refl, frame_wrote, wrote_one}
+use Rattle.trie_space.proofs.SpaceLaws.{err_on, frame_then, frame_refl, frame_wrote, wrote_one}
 use Rattle.trie_write.proofs.insertion.insert_first.Goals as goal
 
 pub returns-in-Ok-clause-stands : goal.returns-in-Ok-clause-stands

@@ -1,11 +1,11 @@
 use Rattle.std.proofs.Common.{map, arith}
 use Rattle.trie_write.specs.Paths.{branches_on_path}
-use Rattle.trie_write.specs.Ways.{twigs_of}
+use Rattle.trie_space.specs.Ways.{twigs_of}
 use Rattle.trie_write.proofs.AskLaws.{insert_opens, insert_puts}
 use Rattle.trie_write.proofs.ChangeLaws.{put_asks, refused_back, outside_put}
 use Rattle.trie_write.proofs.InsertLaws.{lacks_path, lacks_branches, inserted}
 use Rattle.trie_write.proofs.PathLaws.{copied_way, copied_most}
-use Rattle.trie_write.proofs.SpaceLaws.{err_on, fenced_of, fenced_then, ok_map, err_map}
+use Rattle.trie_space.proofs.SpaceLaws.{err_on, fenced_of, fenced_then, ok_map, err_map}
 use Rattle.trie_write.proofs.insertion.insert_further.Goals as goal
 
 pub put_change-requires-clause-asks : goal.put_change-requires-clause-asks

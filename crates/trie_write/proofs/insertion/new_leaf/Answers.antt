@@ -7,7 +7,7 @@ use Rattle.trie_write.specs.Paths.{branches_on_path}
 use Rattle.trie_write.specs.Descents.{HasWay}
 use Rattle.trie_write.proofs.InsertLaws.{laid_is, lacks_top, with_asks, taken_both}
 use Rattle.trie_write.proofs.RootLaws.{leads_some, leads_entry}
-use Rattle.trie_write.proofs.SpaceLaws.{err_on, frame_then, frame_counts, frame_same, ready_counts}
+use Rattle.trie_space.proofs.SpaceLaws.{err_on, frame_then, frame_counts, frame_same, ready_counts}
 use Rattle.trie_write.proofs.DescentLaws.{same_top}
 use Rattle.trie_write.proofs.insertion.new_leaf.Goals as goal
 

@@ -3,10 +3,10 @@ use Rattle.std.proofs.Math.Facts.{Fits-lt}
 use Rattle.packed_node.specs.declared.Cell.{Cell}
 use Rattle.packed_node.specs.Nodes.{branch_cell}
 use Rattle.chunk_usage.specs.Rooms.{Account, Handed}
-use Rattle.trie_write.specs.Spaces.{MayWrite}
+use Rattle.trie_space.specs.Spaces.{MayWrite}
 use Rattle.trie_write.specs.declared.mutable.Copied.{Copied}
 use Rattle.trie_write.specs.Mutable.{IsCopied}
-use Rattle.trie_write.proofs.SpaceLaws.{apart_from, err_on, frame_then, frame_same, frame_counts, frame_wrote, ready_counts, ready_wrote, refused_room, handed_counted, blank_later}
+use Rattle.trie_space.proofs.SpaceLaws.{apart_from, err_on, frame_then, frame_same, frame_counts, frame_wrote, ready_counts, ready_wrote, refused_room, handed_counted, blank_later}
 use Rattle.trie_write.proofs.DescentLaws.{known}
 use Rattle.trie_write.proofs.CopyLaws.{n_here, cell_there, cell_used, part_counted, old_lies, moved_branch, asks_after, along_here, here_asked, below_asked, same_asks, copied_step, copied_none}
 use Rattle.trie_write.proofs.mutable.+copy_way.Goals as goal

@@ -1,11 +1,11 @@
 use Rattle.std.proofs.Common.{◌+◌, ◌-◌, ◌/◌, ◌<◌, Bool, List, Fits-lit, arith, sym, ◌∙◌, ap, subst, rules}
 use Rattle.std.proofs.Math.Facts.{Fits-lt}
 use Rattle.chunk_cells.specs.Chunks.{IsGiven}
-use Rattle.trie_write.specs.Spaces.{Ready}
+use Rattle.trie_space.specs.Spaces.{Ready}
 use Rattle.trie_write.specs.Mutable.{IsParted}
 use Rattle.trie_write.proofs.DescentLaws.{known}
 use Rattle.trie_write.proofs.CopyLaws.{n_here, cell_used, old_lies, asks_on}
-use Rattle.trie_write.proofs.PutLaws.{parted_end, parted_here, parted_on}
+use Rattle.trie_write.proofs.SeatLaws.{parted_end, parted_here, parted_on}
 use Rattle.trie_write.proofs.mutable.+last_mutable.Goals as goal
 
 pub next_descent-requires : goal.next_descent-requires

@@ -1,9 +1,10 @@
 use Rattle.std.proofs.Common.{◌/◌, Bool, List, [], map, sym, ◌∙◌, ap, subst}
 use Rattle.chunk_cells.specs.Chunks.{IsGiven}
-use Rattle.trie_write.specs.Ways.{twigs_of}
+use Rattle.trie_space.specs.Ways.{twigs_of}
 use Rattle.trie_write.proofs.AskLaws.{later_of}
-use Rattle.trie_write.proofs.SpaceLaws.{fenced_same, refused_same, ready_put, ok_map, err_map}
-use Rattle.trie_write.proofs.PutLaws.{end_used, same_seat_asks, same_seat}
+use Rattle.trie_space.proofs.SpaceLaws.{fenced_same, refused_same, ready_put, ok_map, err_map}
+use Rattle.trie_space.proofs.RootedLaws.{end_used}
+use Rattle.trie_write.proofs.SeatLaws.{same_seat_asks, same_seat}
 use Rattle.trie_write.proofs.mutable.make_mutable.Goals as goal
 
 pub cell-node-requires : goal.cell-node-requires

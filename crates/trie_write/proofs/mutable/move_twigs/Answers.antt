@@ -1,6 +1,6 @@
 use Rattle.std.proofs.Common.{◌+◌, arith, refl, subst}
-use Rattle.trie_write.specs.Spaces.{Wrote}
-use Rattle.trie_write.proofs.SpaceLaws.{open_later, wrote_then, wrote_one}
+use Rattle.trie_space.specs.Spaces.{Wrote}
+use Rattle.trie_space.proofs.SpaceLaws.{open_later, wrote_then, wrote_one}
 use Rattle.trie_write.proofs.mutable.move_twigs.Goals as goal
 
 pub copy_twigs-requires-clause-there : goal.copy_twigs-requires-clause-there

@@ -1,10 +1,10 @@
 use Rattle.std.proofs.Common.{◌≡◌, ◌+◌, ◌/◌, ℕ, map, Contains, arith, refl, sym, ap, subst}
 use Rattle.chunk_cells.specs.Chunks.{IsGiven}
 use Rattle.chunk_usage.specs.Rooms.{Account}
-use Rattle.trie_write.specs.Ways.{twigs_of}
+use Rattle.trie_space.specs.Ways.{twigs_of}
 use Rattle.trie_write.proofs.AskLaws.{first_of, later_of}
-use Rattle.trie_write.proofs.SpaceLaws.{err_on, frame_then, frame_counts, frame_wrote, wrote_one, fenced_of, ready_counts, ready_put, refused_room, handed_counted, blank_later}
-use Rattle.trie_write.proofs.PutLaws.{root_asks_later, copied_immutable, opened_anew}
+use Rattle.trie_space.proofs.SpaceLaws.{err_on, frame_then, frame_counts, frame_wrote, wrote_one, fenced_of, ready_counts, ready_put, refused_room, handed_counted, blank_later}
+use Rattle.trie_write.proofs.SeatLaws.{root_asks_later, copied_immutable, opened_anew}
 use Rattle.trie_write.proofs.mutable.open_anew.Goals as goal
 
 pub returns-in_err-root-clause-spends : goal.returns-in_err-root-clause-spends

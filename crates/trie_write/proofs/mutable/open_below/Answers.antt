@@ -1,8 +1,8 @@
 use Rattle.std.proofs.Common.{arith}
-use Rattle.trie_write.proofs.SpaceLaws.{err_on, frame_same, fenced_of, fenced_put, ready_put, writable_later, seat_open}
+use Rattle.trie_space.proofs.SpaceLaws.{err_on, frame_same, fenced_of, fenced_put, ready_put, writable_later, seat_open}
 use Rattle.trie_write.proofs.AskLaws.{lower_asked}
 use Rattle.trie_write.proofs.CopyLaws.{same_asks}
-use Rattle.trie_write.proofs.PutLaws.{root_asks, lower_asks, opened_below}
+use Rattle.trie_write.proofs.SeatLaws.{root_asks, lower_asks, opened_below}
 use Rattle.trie_write.proofs.mutable.open_below.Goals as goal
 
 pub last_mutable-last-requires : goal.last_mutable-last-requires

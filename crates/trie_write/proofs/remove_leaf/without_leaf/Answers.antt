@@ -3,7 +3,7 @@ use Rattle.std.specs.Int.{bit_at}
 use Rattle.chunk_usage.specs.Rooms.{Handed}
 use Rattle.trie_write.proofs.CopyLaws.{cell_there, cell_used, old_lies}
 use Rattle.trie_write.proofs.WithoutLaws.{last_n, last_known, gone_item, leaf_top, key_position, key_bit, fewer_branch, dropped, collapsed, same_without, the_span, taken_twigs, none_taken}
-use Rattle.trie_write.proofs.SpaceLaws.{frame_same}
+use Rattle.trie_space.proofs.SpaceLaws.{frame_same}
 use Rattle.trie_write.proofs.remove_leaf.without_leaf.Goals as goal
 
 pub item_below-old_item-requires : goal.item_below-old_item-requires

@@ -4,7 +4,7 @@ use Rattle.trie_write.specs.Paths.{replace_asks}
 use Rattle.trie_write.proofs.PathLaws.{to_copy_few}
 use Rattle.trie_write.proofs.RefusalLaws.{asked_full, not_refused}
 use Rattle.trie_write.proofs.RootLaws.{stands_of}
-use Rattle.trie_write.proofs.SpaceLaws.{err_on}
+use Rattle.trie_space.proofs.SpaceLaws.{err_on}
 use Rattle.trie_write.proofs.ReplaceLaws.{has_key, on_path, on_branches, copied_path, beyond_key, trie_later}
 use Rattle.trie_write.proofs.replacement.replace.Goals as goal
 

@@ -3,14 +3,14 @@ use Rattle.std.proofs.Math.Facts.{Fits-lt-pow}
 use Rattle.std.proofs.lemmas.List.Elements.{Contains-append_left}
 use Rattle.trie_model.specs.Trees.Tree.{leaf}
 use Rattle.trie_write.specs.Paths.{branches_on_path}
-use Rattle.trie_write.specs.Ways.{twigs_of}
+use Rattle.trie_space.specs.Ways.{twigs_of}
 use Rattle.trie_write.proofs.AskLaws.{replace_opens}
 use Rattle.trie_write.specs.Laid.{extent_sizes}
 use Rattle.trie_write.proofs.ChangeLaws.{put_asks, refused_back, outside_put}
 use Rattle.trie_write.proofs.PathLaws.{copied_way}
 use Rattle.trie_write.proofs.RootLaws.{leads_entry}
 use Rattle.trie_write.proofs.ReplaceLaws.{key_branches, replaced}
-use Rattle.trie_write.proofs.SpaceLaws.{err_on, fenced_of, fenced_then, ok_map, err_map}
+use Rattle.trie_space.proofs.SpaceLaws.{err_on, fenced_of, fenced_then, ok_map, err_map}
 use Rattle.trie_write.proofs.replacement.replace_item.Goals as goal
 
 pub put_change-requires-clause-asks : goal.put_change-requires-clause-asks

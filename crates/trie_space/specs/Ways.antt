@@ -1,10 +1,9 @@
 -- The way from the top of a tree down along a key.
-use Rattle.std.specs.Prelude.{◌≡◌, ℕ, suc, ◌+◌, ◌<◌, Bool, List, [], ◌∷◌, if◌then◌else◌}
+use Rattle.std.specs.Prelude.{◌≡◌, ℕ, suc, ◌+◌, ◌<◌, ◌≤◌, Bool, List, [], ◌∷◌, if◌then◌else◌}
 use Rattle.trie_model.specs.Keys.{at}
 use Rattle.trie_model.specs.Trees.{Tree, Twigs, count, beside}
-use Rattle.trie_model.specs.Trees.Tree.{branch}
+use Rattle.trie_model.specs.Trees.Tree.{leaf, branch}
 use Rattle.trie_model.specs.Trees.Twigs.{twig}
-use Rattle.trie_write.specs.Tops.{NotBefore}
 
 -- a branch on the way: the twigs on both sides of the one that the way takes
 pub record Fork : Type 0 where
@@ -29,6 +28,11 @@ twig_at f = f.first + count f.left
 abbrev pub end_at : ℕ → List Fork → ℕ
 end_at r [] = r
 end_at r (f ∷ way) = end_at (twig_at f) way
+
+-- the top, where it is a branch, has its offset at the place or behind it
+abbrev pub NotBefore : ℕ → Tree → Type 0
+NotBefore place (leaf e where_at) = Unit {0}
+NotBefore place (branch o where_at below) = place ≤ o
 
 -- the way takes the key's twigs, at offsets before the place
 abbrev pub Along : ℕ → List ℕ → List Fork → Type 0

@@ -2,15 +2,14 @@
 use Rattle.std.proofs.Common.{◌≡◌, ℕ, zero, suc, ◌+◌, ◌<◌, ◌≤◌, ◌⊎◌, inl, inr, Bool, true, false, cond, ◌-◌, length, arith, refl, sym, ◌∙◌, ap, subst}
 use Rattle.std.proofs.lemmas.Bool.{true≢false, cases_lt}
 use Rattle.std.proofs.lemmas.Bool.Decides.{nat_tests}
-use Rattle.trie_model.specs.Extents.{Extents, linked_cells, content_cells, EachCell, IsBeside, AreApart, row, weigh_extents}
+use Rattle.trie_model.specs.Extents.{Extents, linked_cells, content_cells, EachCell, row, weigh_extents}
 use Rattle.trie_model.specs.Extents.Extents.{last, linked}
 use Rattle.trie_model.specs.Trees.{Tree, Twigs}
 use Rattle.trie_model.specs.Trees.Tree.{leaf, branch}
 use Rattle.trie_model.specs.Trees.Twigs.{none, twig}
 use Rattle.trie_model.specs.Reach.{weigh_tree, weigh, WithinTree, Within}
 use Rattle.chunk_usage.specs.Rooms.{Account, Handed}
-use Rattle.trie_write.specs.Laid.{HandedItem}
-use Rattle.trie_write.specs.Weights.{at_place, mark}
+use Rattle.trie_space.specs.Weights.{at_place, mark}
 
 pub at_itself : (q : ℕ) → ◌≡◌ {A = ℕ} (at_place q q) 1
 at_itself q = grind (arith, nat_tests)
@@ -85,22 +84,6 @@ pub each_met : (P : ℕ → Type 0) (n : ℕ) (x : Extents) → ((q : ℕ) → 1
 each_met P n (last r) h = λ k l. h (r + k) (let m = row_meets (r + k) r (content_cells n) k l refl in omega arith)
 each_met P n (linked r x) h = (λ k l. h (r + k) (let m = row_meets (r + k) r linked_cells k l refl in omega arith), each_met P (n - 4080) x (λ q l. h q (omega arith)))
 
--- a cell that isn't one of theirs isn't met
-pub beside_misses : (q n : ℕ) (x : Extents) → IsBeside q n x → weigh_extents (at_place q) n x ≡ 0
-beside_misses q n (last r) h = row_misses q r (content_cells n) h
-beside_misses q n (linked r x) h = let a = row_misses q r linked_cells h.0 in let b = beside_misses q (n - 4080) x h.1 in omega arith
-
--- extents apart meet each cell once
-pub apart_once : (q n : ℕ) (x : Extents) → AreApart n x → weigh_extents (at_place q) n x ≤ 1
-apart_once q n (last r) h = elim (in_row q r (content_cells n)) [
-  | inl i ↦ (let z = row_meets q r (content_cells n) i.0 i.1 i.2 in omega arith)
-  | inr out ↦ (let z = row_misses q r (content_cells n) out in omega arith)
-]
-apart_once q n (linked r x) h = elim (in_row q r linked_cells) [
-  | inl i ↦ (let z = row_meets q r linked_cells i.0 i.1 i.2 in let b = beside_misses q (n - 4080) x (subst (λ (p : ℕ). IsBeside p (n - 4080) x) (sym i.2) (h.0 i.0 i.1)) in omega arith)
-  | inr out ↦ (let z = row_misses q r linked_cells out in let b = apart_once q (n - 4080) x h.1 in omega arith)
-]
-
 -- each reference of the tree passes a test that those pass which it meets
 abbrev mutual
   pub within_met : (P : ℕ → Bool) (t : Tree) → ((q : ℕ) → 1 ≤ weigh_tree (at_place q) t → P q ≡ true) → WithinTree P t
@@ -140,15 +123,4 @@ handed_fresh {old} {new} {r} {n} h stays q = elim (in_row q r n) [
       let c = marked new.used q (ap new.used i.2 ∙ h.taken i.0 i.1) in omega arith
       )
   | inr out ↦ (let a = row_misses q r n out in let b = mark_grows old.used new.used q (stays q) in omega arith)
-]
-
--- and of an item
-pub item_fresh : {old new : Account} {n : ℕ} {x : Extents} → HandedItem old new n x → ((q : ℕ) → old.used q ≡ true → new.used q ≡ true) → (q : ℕ) → weigh_extents (at_place q) n x + mark old.used q ≤ mark new.used q
-item_fresh {old} {new} {n} {x} h stays q = elim (cases_lt 0 (weigh_extents (at_place q) n x)) [
-  | inl met ↦ (
-      let a = apart_once q n x h.apart in
-      let b = unmarked old.used q (met_each (λ p. old.used p ≡ false) n x h.unused q met) in
-      let c = marked new.used q (met_each (λ p. new.used p ≡ true) n x h.taken q met) in omega arith
-      )
-  | inr few ↦ (let b = mark_grows old.used new.used q (stays q) in omega arith)
 ]

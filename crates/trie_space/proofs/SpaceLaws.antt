@@ -8,7 +8,7 @@ use Rattle.trie_model.specs.Reach.{in_chunk}
 use Rattle.chunk_cells.specs.Chunks.{IsGiven, IsFree}
 use Rattle.chunk_usage.specs.declared.space.Full.{Full}
 use Rattle.chunk_usage.specs.Rooms.{Account, Handed, GivesChunk, OpensFree, Grows}
-use Rattle.trie_write.specs.Spaces.{Ready, Frame, Fenced, Refused, MayWrite, Wrote, IsWritable}
+use Rattle.trie_space.specs.Spaces.{Ready, Frame, Fenced, Refused, MayWrite, Wrote, IsWritable}
 
 -- what isn't fresh later wasn't before
 pub fresh_before : (b c : Bool) → (b ≡ true → c ≡ true) → c ≡ false → b ≡ false

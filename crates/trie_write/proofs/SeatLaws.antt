@@ -1,33 +1,25 @@
--- A tree is put into a cell below a root.
+-- The way to a place is opened: from its last mutable cell on, or all of it.
 use Rattle.std.proofs.Common.{◌≡◌, ℕ, ◌+◌, ◌/◌, ◌≤◌, ◌++◌, Bool, true, false, cond, List, [], ◌∷◌, arith, refl, sym, ◌∙◌, ap, subst}
 use Rattle.packed_node.specs.declared.Cell.{Cell}
 use Rattle.trie_model.specs.Extents.{row}
-use Rattle.trie_model.specs.Memory.{top_cell, Beneath}
-use Rattle.trie_model.specs.Reach.{in_chunk, weigh_tree, WithinTree}
+use Rattle.trie_model.specs.Memory.{top_cell}
+use Rattle.trie_model.specs.Reach.{in_chunk, weigh_tree}
 use Rattle.trie_model.specs.Keys.{InList}
 use Rattle.trie_model.specs.Trees.{Tree, entries_of, IsTree}
 use Rattle.trie_model.proofs.DropLaws.{higher}
 use Rattle.trie_model.proofs.MoveLaws.{beneath_kept, tree_weaker}
 use Rattle.chunk_cells.specs.Chunks.{IsGiven}
 use Rattle.chunk_usage.specs.Rooms.{Account, Handed}
-use Rattle.trie_write.specs.Mutable.{Rooted, Hangs, WayAsks, IsCopied, IsParted, SeatAsks, IsSeat}
-use Rattle.trie_write.specs.Spaces.{Frame, MayWrite, IsWritable}
-use Rattle.trie_write.specs.Ways.{Fork, fork, plug, twig_at, end_at, Along, twigs_of, twigs_along, copied_along}
-use Rattle.trie_write.specs.Weights.{at_place, mark}
-use Rattle.trie_write.proofs.SpaceLaws.{apart_from}
-use Rattle.trie_write.proofs.TwigLaws.{agree_tree, deepen, beneath_met}
-use Rattle.trie_write.proofs.WayLaws.{around, weigh_fork, weigh_plug, plug_lies, end_lies, low_at, end_tree, plug_tree, follows_same, before, after, entries_plug}
-use Rattle.trie_write.proofs.WeightLaws.{at_itself, at_another, mark_le, mark_tells, mark_grows, marked, unmarked, within_met, handed_fresh}
-
--- ---- ways in parts
-
-pub plug-append : (a b : List Fork) (t : Tree) → plug (a ++ b) t ≡ plug a (plug b t)
-plug-append [] b t = refl
-plug-append (f ∷ a) b t = ap (fork f) (plug-append a b t)
-
-pub end_at-append : (r : ℕ) (a b : List Fork) → end_at r (a ++ b) ≡ end_at (end_at r a) b
-end_at-append r [] b = refl
-end_at-append r (f ∷ a) b = end_at-append (twig_at f) a b
+use Rattle.trie_space.specs.Rooted.{Rooted}
+use Rattle.trie_write.specs.Mutable.{WayAsks, IsCopied, IsParted, SeatAsks, IsSeat}
+use Rattle.trie_space.specs.Spaces.{Frame, MayWrite, IsWritable}
+use Rattle.trie_space.specs.Ways.{Fork, plug, twig_at, end_at, Along, twigs_of, twigs_along, copied_along}
+use Rattle.trie_space.specs.Weights.{at_place}
+use Rattle.trie_space.proofs.RootedLaws.{met_used, end_hangs, put_rooted}
+use Rattle.trie_space.proofs.SpaceLaws.{apart_from}
+use Rattle.trie_space.proofs.WayLaws.{plug-append, end_at-append, beneath_met, around, weigh_fork, weigh_plug, low_at, end_tree, plug_tree, follows_same, before, after, entries_plug}
+use Rattle.trie_write.proofs.TwigLaws.{agree_tree, deepen}
+use Rattle.trie_space.proofs.WeightLaws.{at_itself, at_another, mark_le, mark_grows, marked, unmarked, handed_fresh}
 
 pub along_parts : (place : ℕ) (key : List ℕ) (a b : List Fork) → Along place key (a ++ b) → Along place key a × Along place key b
 along_parts place key [] b h = (tt, h)
@@ -40,57 +32,6 @@ along_join place key (f ∷ a) b h k = (h.0, h.1, along_join place key a b h.2 k
 -- a tree whose keys are those of a deeper one lies as deep
 lifted : (low : ℕ) (t u : Tree) → IsTree low t → IsTree 0 u → entries_of u ≡ entries_of t → IsTree low u
 lifted low t u h k e = deepen low u k (λ x y i j. agree_tree low t h x y (subst (InList x) e i) (subst (InList y) e j))
-
--- ---- a rooted tree
-
-module _ {S A : Type 0} {has : S → ℕ → Cell → Type 0} {account : A → Account} where
-  -- what it meets is in use
-  pub met_used : {s : S} {a : A} {spare : (ℕ → ℕ) → ℕ} {r : ℕ} {t : Tree} → Rooted has account s a spare r t → (q : ℕ) → 1 ≤ at_place q r + weigh_tree (at_place q) t → (account a).used q ≡ true
-  met_used {a = a} h q m = mark_tells (account a).used q (let o = h.once q in omega arith)
-
-  pub rooted_within : {s : S} {a : A} {spare : (ℕ → ℕ) → ℕ} {r : ℕ} {t : Tree} → Rooted has account s a spare r t → WithinTree (account a).used t
-  rooted_within {a = a} {t = t} h = within_met (account a).used t (λ q m. met_used h q (omega arith))
-
-  -- what hangs at the end of a way
-  pub end_hangs : {s : S} {a : A} {spare : (ℕ → ℕ) → ℕ} {r : ℕ} (way : List Fork) (t : Tree) → Rooted has account s a spare r (plug way t) → IsTree 0 t → Hangs has account s a 0 (top_cell t) t
-  end_hangs {s} {a} {r = r} way t h tree = record {
-    top = record { tree = tree; is = refl; beneath = (end_lies (has s) r way t h.top h.beneath).1 };
-    within = within_met (account a).used t (λ q m. met_used h q (let p = weigh_plug (at_place q) r way t in omega arith));
-    counted = λ k. let c = h.counted k in let p = weigh_plug (in_chunk k) r way t in omega arith;
-  }
-
-  pub end_used : {s : S} {a : A} {spare : (ℕ → ℕ) → ℕ} {r : ℕ} (way : List Fork) (t : Tree) → Rooted has account s a spare r (plug way t) → (account a).used (end_at r way) ≡ true
-  end_used {r = r} way t h = met_used h (end_at r way) (let p = weigh_plug (at_place (end_at r way)) r way t in let i = at_itself (end_at r way) in omega arith)
-
-  -- another tree is put at the end of a way
-  pub put_rooted : {s s1 s2 : S} {a a2 : A} {spare spare2 : (ℕ → ℕ) → ℕ} {r : ℕ} {cell : Cell} (way : List Fork) (t u : Tree) → Rooted has account s a spare r (plug way t) → ((q : ℕ) (c : Cell) → (account a).used q ≡ true → has s q c → has s1 q c) →
-      Beneath (has s1) u → ((k : ℕ) → (account a2).live k + weigh_tree (in_chunk k) t + spare (in_chunk k) ≡ (account a).live k + weigh_tree (in_chunk k) u + spare2 (in_chunk k)) →
-      ((q : ℕ) → weigh_tree (at_place q) u + spare2 (at_place q) + mark (account a).used q ≤ weigh_tree (at_place q) t + spare (at_place q) + mark (account a2).used q) →
-      cell ≡ top_cell u → has s2 (end_at r way) cell → ((q : ℕ) (c : Cell) → (q ≡ end_at r way → ⊥) → has s1 q c → has s2 q c) → Rooted has account s2 a2 spare2 r (plug way u)
-  put_rooted {s} {s1} {s2} {a} {a2} {r = r} way t u h keep beneath counts met is put others = record {
-    inside = h.inside;
-    top = lies.0;
-    beneath = lies.1;
-    counted = λ k. let c = h.counted k in let m = counts k in let p = weigh_plug (in_chunk k) r way t in let q = weigh_plug (in_chunk k) r way u in omega arith;
-    once = λ q. let o = h.once q in let m = met q in let p = weigh_plug (at_place q) r way t in let v = weigh_plug (at_place q) r way u in omega arith;
-  }
-    where
-      around_apart : (q : ℕ) → 1 ≤ around (at_place q) r way → q ≡ end_at r way → ⊥
-      around_apart q m e =
-          let o = h.once q in let p = weigh_plug (at_place q) r way t in let b = mark_le (account a).used q in
-          let i : ◌≡◌ {A = ℕ} (at_place q (end_at r way)) 1 = ap (at_place q) (sym e) ∙ at_itself q in omega arith
-
-      tree_apart : (q : ℕ) → 1 ≤ weigh_tree (at_place q) u → q ≡ end_at r way → ⊥
-      tree_apart q m e =
-          let o = h.once q in let p = weigh_plug (at_place q) r way t in let w = met q in let b = mark_le (account a2).used q in let l = mark_le (account a).used q in
-          let i : ◌≡◌ {A = ℕ} (at_place q (end_at r way)) 1 = ap (at_place q) (sym e) ∙ at_itself q in omega arith
-
-      around_used : (q : ℕ) → 1 ≤ around (at_place q) r way → (account a).used q ≡ true
-      around_used q m = met_used h q (let p = weigh_plug (at_place q) r way t in omega arith)
-
-      lies : has s2 r (top_cell (plug way u)) × Beneath (has s2) (plug way u)
-      lies = plug_lies (has s) (has s2) r way t u h.top h.beneath (λ q c m x. others q c (around_apart q m) (keep q c (around_used q m) x)) (subst (has s2 (end_at r way)) is put)
-          (beneath_met (has s1) (has s2) u (λ q c m x. others q c (tree_apart q m) x) beneath)
 
 -- a tree weighs no more than one in which it hangs
 pub end_less : (w : ℕ → ℕ) (way : List Fork) (t : Tree) → weigh_tree w t ≤ weigh_tree w (plug way t)

@@ -1,22 +1,21 @@
 -- The way to a tree that hangs in another: what stands beside it, and what the whole is when the tree at its end changes.
-use Rattle.std.proofs.Common.{◌≡◌, ℕ, suc, ◌+◌, ◌<◌, ◌≤◌, inl, inr, List, [], ◌∷◌, ◌++◌, append_assoc, append-nil, arith, refl, sym, ◌∙◌, ap, subst}
-use Rattle.std.proofs.lemmas.Bool.{cases_lt}
+use Rattle.std.proofs.Common.{◌≡◌, ℕ, suc, ◌+◌, ◌<◌, ◌≤◌, inl, inr, true, ltb, List, [], ◌∷◌, ◌++◌, append_assoc, append-nil, arith, refl, sym, ◌∙◌, ap, subst}
+use Rattle.std.proofs.lemmas.Bool.Decides.{nat_tests}
 use Rattle.packed_node.specs.declared.Cell.{Cell}
 use Rattle.packed_node.specs.Nodes.{branch_cell}
 use Rattle.trie_model.specs.Extents.{IsRow}
-use Rattle.trie_model.specs.Keys.{at, Same, Entry, Less, InList}
+use Rattle.trie_model.specs.Keys.{Same, Entry, InList}
 use Rattle.trie_model.specs.Memory.{top_cell, Beneath, Lie}
 use Rattle.trie_model.specs.Reach.{weigh_tree, weigh}
 use Rattle.trie_model.specs.Trees.{Tree, Twigs, entries_of, entries, count, bitmap_of, AllAt, Agree, IsTree, AreTwigs, beside}
-use Rattle.trie_model.specs.Trees.Tree.{leaf, branch}
 use Rattle.trie_model.specs.Trees.Twigs.{none, twig}
 use Rattle.trie_model.proofs.BitmapLaws.{Rising, count-beside, bitmap_of-beside, few}
 use Rattle.trie_model.proofs.KeyLaws.{in_left, in_right, in_both}
-use Rattle.trie_model.proofs.SplitLaws.{rising_of, entries-beside, lie_left, lie_right, lie_join, twigs_left, twigs_right, twigs_join, keys_lower, keys_upper}
-use Rattle.trie_write.specs.Ways.{Fork, fork, plug, twig_at, end_at, IsWay, twigs_of}
-use Rattle.trie_write.specs.Weights.{at_place}
-use Rattle.trie_write.proofs.TwigLaws.{beneath_met}
-use Rattle.trie_write.proofs.WeightLaws.{at_itself}
+use Rattle.trie_model.proofs.MoveLaws.{beneath_kept}
+use Rattle.trie_model.proofs.SplitLaws.{rising_of, entries-beside, lie_left, lie_right, lie_join, twigs_left, twigs_right, twigs_join}
+use Rattle.trie_space.specs.Ways.{Fork, fork, plug, twig_at, end_at, twigs_of}
+use Rattle.trie_space.specs.Weights.{at_place}
+use Rattle.trie_space.proofs.WeightLaws.{at_itself, within_met}
 
 -- ---- weights
 
@@ -64,6 +63,17 @@ twig_of has f t h = let r = lie_right has f.first f.left (twig f.position t f.ri
 
 pub fork_lies : (has : ℕ → Cell → Type 0) (f : Fork) (t : Tree) → Sides has f → has (twig_at f) (top_cell t) → Beneath has t → Beneath has (fork f t)
 fork_lies has f t s top beneath = lie_join has f.first f.left (twig f.position t f.right) s.lefts (top, beneath, s.rights)
+
+-- a tree stays where its own cells do
+pub beneath_met : (has new : ℕ → Cell → Type 0) (t : Tree) → ((q : ℕ) (c : Cell) → 1 ≤ weigh_tree (at_place q) t → has q c → new q c) → Beneath has t → Beneath new t
+beneath_met has new t keep b =
+    beneath_kept (λ q. ltb 0 (weigh_tree (at_place q) t)) has new (λ q c m h. keep q c (met_tells q m) h) t (within_met (λ q. ltb 0 (weigh_tree (at_place q) t)) t (λ q l. met_true q l)) b
+  where
+    met_tells : (q : ℕ) → ltb 0 (weigh_tree (at_place q) t) ≡ true → 1 ≤ weigh_tree (at_place q) t
+    met_tells q e = grind (arith, nat_tests)
+
+    met_true : (q : ℕ) → 1 ≤ weigh_tree (at_place q) t → ltb 0 (weigh_tree (at_place q) t) ≡ true
+    met_true q l = grind (arith, nat_tests)
 
 -- twigs stay where their own cells do
 pub lie_met : (has new : ℕ → Cell → Type 0) (r : ℕ) (ts : Twigs) → ((q : ℕ) (c : Cell) → 1 ≤ weigh (at_place q) r ts → has q c → new q c) → Lie has r ts → Lie new r ts
@@ -225,80 +235,12 @@ entries_plug (f ∷ way) t =
     ∙ ap (λ (es : List Entry). entries f.left ++ es) (append_assoc (before way) (entries_of t ++ after way) (entries f.right) ∙ ap (λ (es : List Entry). before way ++ es) (append_assoc (entries_of t) (after way) (entries f.right)))
     ∙ sym (append_assoc (entries f.left) (before way) (entries_of t ++ (after way ++ entries f.right)))
 
--- a key that agrees with one at the end stands between what is before the way and what is after it
-abbrev pub Between : List Fork → List ℕ → Entry → Type 0
-Between way k x = (InList x (before way) → Less x.key k) × (InList x (after way) → Less k x.key)
+-- ---- ways in parts
 
-module _ (low : ℕ) (f : Fork) (way : List Fork) (t : Tree) (b : IsFork low f (plug way t)) (y : Entry) (i : InList y (entries_of t)) (k : List ℕ) (s : Same (suc f.offset) k y.key) (x : Entry) where
-  y_here : InList y (entries_of (plug way t))
-  y_here = subst (InList y) (sym (entries_plug way t)) (in_right y (before way) (entries_of t ++ after way) (in_left y (entries_of t) (after way) i))
+pub plug-append : (a b : List Fork) (t : Tree) → plug (a ++ b) t ≡ plug a (plug b t)
+plug-append [] b t = refl
+plug-append (f ∷ a) b t = ap (fork f) (plug-append a b t)
 
-  y_there : InList y (entries_of (fork f (plug way t)))
-  y_there = subst (InList y) (sym (entries_fork f (plug way t))) (in_right y (entries f.left) (entries_of (plug way t) ++ entries f.right) (in_left y (entries_of (plug way t)) (entries f.right) y_here))
-
-  same_place : at k f.offset ≡ f.position
-  same_place = s f.offset (omega arith) ∙ b.here y y_here
-
-  lefts_less : InList x (entries f.left) → Less x.key k
-  lefts_less u =
-      let there = subst (InList x) (sym (entries_fork f (plug way t))) (in_left x (entries f.left) (entries_of (plug way t) ++ entries f.right) u) in
-      record { place = f.offset; same = λ j l. b.agree x y there y_there j l ∙ sym (s j (omega arith)); lower = (let m = keys_lower f.offset 0 f.position f.left b.lefts b.lower x u in let n = same_place in omega arith) }
-
-  rights_less : InList x (entries f.right) → Less k x.key
-  rights_less u =
-      let there = subst (InList x) (sym (entries_fork f (plug way t))) (in_right x (entries f.left) (entries_of (plug way t) ++ entries f.right) (in_right x (entries_of (plug way t)) (entries f.right) u)) in
-      record { place = f.offset; same = λ j l. s j (omega arith) ∙ b.agree y x y_there there j l; lower = (let m : suc f.position ≤ at x.key f.offset = keys_upper f.offset (suc f.position) (suc f.position) 47 f.right b.rights b.upper x u in let n = same_place in omega arith) }
-
-pub key_between : (low : ℕ) (way : List Fork) (t : Tree) → IsTree low (plug way t) → (y : Entry) → InList y (entries_of t) → (k : List ℕ) → Same (low_at low way) k y.key → (x : Entry) → Between way k x
-key_between low [] t h y i k s x = (λ a. absurd a, λ a. absurd a)
-key_between low (f ∷ way) t h y i k s x =
-    let b = is_fork low f (plug way t) h in
-    let deep = low_rises (suc f.offset) way t b.tree in
-    let next = key_between (suc f.offset) way t b.tree y i k s x in
-    let less : Same (suc f.offset) k y.key = λ j l. s j (omega arith) in (
-      λ a. elim (in_both x (entries f.left) (before way) a) [ inl u ↦ lefts_less low f way t b y i k less x u | inr u ↦ next.0 u ],
-      λ a. elim (in_both x (after way) (entries f.right) a) [ inl u ↦ next.1 u | inr u ↦ rights_less low f way t b y i k less x u ],
-    )
-
--- ---- there is one
-
--- the way to the tree that has an entry
-pub record WayTo (place : ℕ) (key : List ℕ) (t : Tree) (y : Entry) : Type 0 where
-  pub way : List Fork
-  pub end : Tree
-  pub is : t ≡ plug way end
-  pub is_way : IsWay place key way end
-  pub there : InList y (entries_of end)
-
-record TwigTo (place : ℕ) (key : List ℕ) (o : ℕ) (ts : Twigs) (y : Entry) : Type 0 where
-  pub left : Twigs
-  pub position : ℕ
-  pub here : Tree
-  pub right : Twigs
-  pub is : ts ≡ beside left (twig position here right)
-  pub position_is : at y.key o ≡ position
-  pub to : WayTo place key here y
-
-abbrev mutual
-  pub way_to : (place low : ℕ) (key : List ℕ) (t : Tree) → IsTree low t → (y : Entry) → InList y (entries_of t) → Same place key y.key → WayTo place key t y
-  way_to place low key (leaf e w) h y i s = record { way = []; end = leaf e w; is = refl; is_way = record { along = tt; ends = tt }; there = i }
-  way_to place low key (branch o w below) h y i s = elim (cases_lt o place) [
-    | inl l ↦ (
-        let f = twig_to place o 0 key below h.5 y i s in
-        record {
-          way = record { offset = o; first = w; left = f.left; position = f.position; right = f.right } ∷ f.to.way;
-          end = f.to.end;
-          is = ap (branch o w) (f.is ∙ ap (λ (t : Tree). beside f.left (twig f.position t f.right)) f.to.is);
-          is_way = record { along = (l, sym f.position_is ∙ sym (s o l), f.to.is_way.along); ends = f.to.is_way.ends };
-          there = f.to.there;
-        }
-        )
-    | inr g ↦ record { way = []; end = branch o w below; is = refl; is_way = record { along = tt; ends = g }; there = i }
-  ]
-
-  twig_to : (place o low : ℕ) (key : List ℕ) (ts : Twigs) → AreTwigs o low ts → (y : Entry) → InList y (entries ts) → Same place key y.key → TwigTo place key o ts y
-  twig_to place o low key none h y i s = absurd i
-  twig_to place o low key (twig p t rest) h y i s = elim (in_both y (entries_of t) (entries rest) i) [
-    | inl u ↦ record { left = none; position = p; here = t; right = rest; is = refl; position_is = h.2 y u; to = way_to place (suc o) key t h.3 y u s }
-    | inr u ↦ (let f = twig_to place o (suc p) key rest h.4 y u s in record { left = twig p t f.left; position = f.position; here = f.here; right = f.right; is = ap (twig p t) f.is; position_is = f.position_is; to = f.to })
-  ]
+pub end_at-append : (r : ℕ) (a b : List Fork) → end_at r (a ++ b) ≡ end_at (end_at r a) b
+end_at-append r [] b = refl
+end_at-append r (f ∷ a) b = end_at-append (twig_at f) a b

@@ -1,0 +1,4 @@
+pub mod SpaceLaws
+pub mod WeightLaws
+pub mod WayLaws
+pub mod RootedLaws

@@ -1,0 +1,5 @@
+pub mod Weights
+pub mod Spaces
+pub mod Ways
+pub mod Standing
+pub mod Rooted
