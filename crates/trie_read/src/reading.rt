@@ -204,6 +204,7 @@ pub trait Rooted: CellRead {
 
     // The version's root, and its number.
     ghost root: { Self → Option ℕ };
+
     ghost number: { Self → ℕ };
 
     /// The version's root.

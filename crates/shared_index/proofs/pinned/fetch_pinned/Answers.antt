@@ -30,4 +30,3 @@ returns-in-Some-clause-item c version h =
     let there = subst (λ (s : PinnedCells (List Entry) (List Operation) _). HasItem (λ r x. Contains (pinned_image s.seat.now.place.me.0.progress) (record { at = r; big = x.big; small = x.small })) c.in-Some.leaf.at c.in-Some.leaf.len found.0.item) (sym c.get.ensures.same) is.item in
     let read = c.read_item.ensures in
     (found.0, found.1, found.2, read.length ∙ sym is.item.there.size, subst (λ (n : ℕ). take n c.read_item.new.out ≡ found.0.item) (sym read.length) (read.item found.0.item is.entry.item there))
-
