@@ -1,5 +1,5 @@
 -- Steps of a worker, by where its passes are.
-use Rattle.std.proofs.Common.{◌≡◌, Option, Some, None, Result, Ok, Err, IfOk, refl, sym, subst}
+use Rattle.std.proofs.Common.{◌≡◌, true, Option, Some, None, Result, Ok, Err, IfOk, refl, sym, subst}
 use Rattle.std.specs.Prelude.{IsSome}
 use Rattle.std.specs.Option.{option_map}
 use Rattle.zone_model.specs.Transactions.{Transaction, no_changes}
@@ -13,6 +13,7 @@ use Rattle.job_script.specs.Views.{command_view}
 use Rattle.job_script.specs.declared.commands.Command.{Command as Said}
 use Rattle.job_script.specs.declared.outcomes.Told.TheVariants.{Compacted}
 use Rattle.job_script.specs.declared.outcomes.Outcome.{Outcome}
+use Rattle.shared_cells.specs.Views.{is_told}
 use Rattle.shared_index.specs.Passes.{known_at, first_version}
 use Rattle.job_commands.specs.Histories.{Setup}
 use Rattle.job_commands.specs.Commands.{Asked, BlockRan, Seat}
@@ -23,7 +24,7 @@ use Rattle.job_commands.proofs.ShowLaws.{seat_told, seat_pass}
 use Rattle.job_commands.proofs.StepLaws.{ask_step, block_step, compact_step}
 use Rattle.job_threads.proofs.SnapshotLaws.{hold_step, held_step, release_step}
 
-pub holder_told : (spare : Option (Option Seat)) (held : Option PinnedSeat') → IsPlaced spare held → is_told (holder_view spare held).seen.opening ≡ true
+pub holder_told : (spare : Option (Option Seat)) (held : Option Pinned) → IsPlaced spare held → is_told (holder_view spare held).seen.opening ≡ true
 holder_told (Some seat) None h = seat_told seat h
 holder_told None (Some s) h = s.told
 holder_told (Some seat) (Some s) h = absurd h
