@@ -1,5 +1,5 @@
 //! Gates that watch a job's commands, or hold them back.
-use job_threads::Gate;
+use job_commands::Gate;
 use std::sync::atomic::{AtomicU64, Ordering};
 use std::thread;
 

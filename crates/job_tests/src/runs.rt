@@ -1,7 +1,7 @@
 //! Runs of texts: by the program's own call, and by the calls below it that tell their outcomes.
 ghost use Rattle.std.specs.Prelude.{IfOk};
 ghost use Rattle.trie_write.specs.Entries.{entries_of_items};
-ghost use Rattle.job_threads.specs.Histories.{IsZone};
+ghost use Rattle.job_commands.specs.Histories.{IsZone};
 
 use crate::gates::Open;
 use dns_name::Name;

@@ -11,11 +11,11 @@ use Rattle.shared_index.specs.declared.meaning.Operation.{Operation}
 use Rattle.shared_index.specs.Operations.{applied}
 use Rattle.shared_index.specs.Passes.{Known, Pinned, commits_in, first_version, version_seen}
 use Rattle.shared_index.specs.Closings.{AllSeen, AreAll, Ends, IsCommitOf}
-use Rattle.job_threads.specs.Histories.{Commit, Entries, IsLawful}
-use Rattle.job_threads.specs.Works.{IsNew, AreNew}
+use Rattle.job_commands.specs.Histories.{Commit, Entries, IsLawful}
+use Rattle.job_commands.specs.Works.{IsNew, AreNew}
 use Rattle.job_threads.specs.Dumps.{Visited}
-use Rattle.job_threads.proofs.HistoryLaws.{opened_same}
-use Rattle.job_threads.proofs.EndLaws.{number_with}
+use Rattle.job_commands.proofs.HistoryLaws.{opened_same}
+use Rattle.job_commands.proofs.EndLaws.{number_with}
 
 abbrev Own : Type 0
 Own = PassView (List Operation)

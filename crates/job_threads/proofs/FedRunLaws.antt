@@ -12,7 +12,7 @@ use Rattle.job_script.specs.Feeds.{FedTell, fed_pairs}
 use Rattle.job_script.specs.Outcomes.{outcome_view, pairs_of, job_pairs, Tells, EachTells, AllTell}
 use Rattle.job_script.specs.declared.outcomes.FedOutcome.{FedOutcome}
 use Rattle.job_script.specs.declared.outcomes.Outcome.{Outcome}
-use Rattle.job_threads.specs.Runs.{IsRun}
+use Rattle.job_commands.specs.Runs.{IsRun}
 use Rattle.job_threads.specs.Feeds.{AreInOrder, ArePlaced, IsBy, IsFedRun, command_at, commands_at, commands_served, outcomes_served, served_by}
 use Rattle.job_threads.specs.declared.ordering.Served.{Served}
 

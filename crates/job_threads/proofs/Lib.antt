@@ -1,15 +1,6 @@
-pub mod HistoryLaws
-pub mod ZoneLaws
-pub mod ShowLaws
-pub mod StepLaws
+pub mod SnapshotLaws
 pub mod StationLaws
-pub mod WorkLaws
-pub mod JobLaws
-pub mod CloseLaws
-pub mod TransactLaws
-pub mod BlockLaws
-pub mod CallLaws
-pub mod CompactionLaws
+pub mod WorkerLaws
 pub mod GatherLaws
 pub mod EndLaws
 pub mod OpenLaws

@@ -1,44 +1,16 @@
 -- An index that was opened on the entries of a zone's version.
-use Rattle.std.proofs.Common.{◌≡◌, ◌∙◌, inl, inr, ℕ, List, [], ◌∷◌, map, Option, refl, sym, ap, subst}
+use Rattle.std.proofs.Common.{◌≡◌, ◌∙◌, ℕ, List, [], ◌∷◌, map, Option, refl, sym, ap, subst}
 use Rattle.std.specs.Prelude.{IsSome}
 use Rattle.std.specs.List.{All, AllByRecursion}
-use Rattle.std.specs.List.Sorted.{IsStrictlySortedBy}
-use Rattle.std.specs.Map.{keys_of}
-use Rattle.std.specs.declared.cmp.Ordering.TheVariants.{Less as IsLess}
-use Rattle.zone_model.specs.Names.{Name, IsName, name_cmp}
-use Rattle.zone_model.specs.Keys.{key_of}
-use Rattle.zone_model.specs.Versions.{Version}
-use Rattle.zone_model.proofs.KeyLaws.{key_cmp-key_of}
-use Rattle.trie_model.specs.Keys.{Entry, Less, InList, Rises}
-use Rattle.trie_model.proofs.AboveLaws.{cmp_before}
-use Rattle.zone_query.specs.Standing.{IsStorable}
-use Rattle.job_model.specs.Sizes.{trie_entries}
+use Rattle.zone_model.specs.Names.{Name}
 use Rattle.shared_index.specs.Passes.{commits_in, pinned_in, known_at}
 use Rattle.shared_index.specs.Openings.{SeesFirst}
-use Rattle.job_threads.specs.Histories.{BeginsAt, Entries, IsZone}
-use Rattle.job_threads.specs.Commands.{OpensAt}
-use Rattle.job_threads.specs.Stations.{Seat}
-use Rattle.job_threads.specs.Works.{IsNew, AreNew}
-use Rattle.job_threads.proofs.ShowLaws.{seat_pass}
-use Rattle.job_threads.proofs.CloseLaws.{all_rec}
-use Rattle.job_threads.proofs.ZoneLaws.{zone_begins}
-
--- ---- they rise
-
-below_all : (name : Name) → IsName name → (pairs : Version) → AllByRecursion (λ y. name_cmp name y ≡ IsLess) (keys_of pairs) → AllByRecursion IsStorable pairs → (e : Entry) → InList e (trie_entries pairs) → Less (key_of name) e.key
-below_all name is [] above names e i = absurd i
-below_all name is (pair ∷ pairs) above names e i = elim i [
-  | inl s ↦ subst (λ (x : Entry). Less (key_of name) x.key) (sym s) (cmp_before (key_of name) (key_of pair.0) (key_cmp-key_of name pair.0 is.each names.0.name.each ∙ above.0))
-  | inr r ↦ below_all name is pairs above.1 names.1 e r
-]
-
-entries_rise : (pairs : Version) → IsStrictlySortedBy name_cmp (keys_of pairs) → AllByRecursion IsStorable pairs → Rises (trie_entries pairs)
-unfolding IsStrictlySortedBy
-entries_rise [] sorted names = tt
-entries_rise (pair ∷ pairs) sorted names = (below_all pair.0 names.0.name pairs sorted.0 names.1, entries_rise pairs sorted.1 names.1)
-
-pub zone_rises : (origin : Name) (es : Entries) → IsZone origin es → Rises es
-zone_rises origin es z = subst Rises z.stands.entries (entries_rise z.version z.stands.valid.rising z.stands.valid.items)
+use Rattle.job_commands.specs.Histories.{BeginsAt, Entries, IsZone}
+use Rattle.job_commands.specs.Commands.{OpensAt, Seat}
+use Rattle.job_commands.specs.Works.{IsNew, AreNew}
+use Rattle.job_commands.proofs.ShowLaws.{seat_pass}
+use Rattle.job_commands.proofs.CloseLaws.{all_rec}
+use Rattle.job_commands.proofs.ZoneLaws.{zone_begins}
 
 -- ---- its passes have asked and committed nothing
 

@@ -14,8 +14,8 @@ use Rattle.feed_core.specs.Feeds.{list_at}
 use Rattle.feed_core.specs.Rule.{times}
 use Rattle.job_threads.specs.declared.ordering.Served.{Served}
 use Rattle.job_threads.specs.Feeds.{AreInOrder, AreTaken, ArePlaced, IsBy, IsFree, IsServed, numbered, numbers_served, served_by}
-use Rattle.job_threads.proofs.JobLaws.{here, there}
-use Rattle.job_threads.proofs.WorkLaws.{all_weaker}
+use Rattle.job_commands.proofs.JobLaws.{here, there}
+use Rattle.job_commands.proofs.WorkLaws.{all_weaker}
 
 abbrev pub Places : Type 0
 Places = List (Option FedOutcome)

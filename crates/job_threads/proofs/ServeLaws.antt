@@ -10,14 +10,15 @@ use Rattle.job_script.specs.declared.outcomes.Outcome.{Outcome}
 use Rattle.feed_core.specs.Feeds.{Handout, Takings, lists_of}
 use Rattle.shared_cells.specs.Views.{is_told}
 use Rattle.shared_index.specs.Passes.{known_at}
-use Rattle.job_threads.specs.Histories.{Setup}
-use Rattle.job_threads.specs.Steps.{Step}
-use Rattle.job_threads.specs.Stations.{Seat, station}
-use Rattle.job_threads.specs.Works.{IsNew, Numbers}
-use Rattle.job_threads.specs.Feeds.{command_at, commands_at, done_seat, numbers_served, only, seats_served}
+use Rattle.job_commands.specs.Histories.{Setup}
+use Rattle.job_commands.specs.Steps.{Step}
+use Rattle.job_commands.specs.Commands.{Seat}
+use Rattle.job_threads.specs.Stations.{station}
+use Rattle.job_commands.specs.Works.{IsNew, Numbers, only}
+use Rattle.job_threads.specs.Feeds.{command_at, commands_at, done_seat, numbers_served, seats_served}
 use Rattle.job_threads.specs.declared.ordering.Served.{Served}
-use Rattle.job_threads.proofs.HistoryLaws.{opened_same}
-use Rattle.job_threads.proofs.WorkLaws.{WorkerAt, worker_goes_on, worker_starts}
+use Rattle.job_commands.proofs.HistoryLaws.{opened_same}
+use Rattle.job_commands.proofs.WorkLaws.{WorkerAt, worker_goes_on, worker_starts}
 
 -- ---- the command of a number
 

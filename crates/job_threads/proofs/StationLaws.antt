@@ -1,5 +1,5 @@
 -- Steps of a worker, by where its passes are.
-use Rattle.std.proofs.Common.{◌≡◌, Option, Some, None, Result, Ok, Err, IfOk, refl, sym, subst}
+use Rattle.std.proofs.Common.{◌≡◌, true, Option, Some, None, Result, Ok, Err, IfOk, refl, sym, subst}
 use Rattle.std.specs.Prelude.{IsSome}
 use Rattle.std.specs.Option.{option_map}
 use Rattle.zone_model.specs.Transactions.{Transaction, no_changes}
@@ -13,14 +13,22 @@ use Rattle.job_script.specs.Views.{command_view}
 use Rattle.job_script.specs.declared.commands.Command.{Command as Said}
 use Rattle.job_script.specs.declared.outcomes.Told.TheVariants.{Compacted}
 use Rattle.job_script.specs.declared.outcomes.Outcome.{Outcome}
-use Rattle.shared_index.specs.Passes.{Known, known_at, first_version}
-use Rattle.job_threads.specs.Histories.{Setup}
-use Rattle.job_threads.specs.Commands.{Asked, IsHeld, Held, AskedHeld, Released, BlockRan}
-use Rattle.job_threads.specs.Steps.{Station, IsUnder, Moved, Step}
-use Rattle.job_threads.specs.Stations.{Seat, Pinned, holder_view, station, IsPlaced}
-use Rattle.job_threads.proofs.HistoryLaws.{begins_same}
-use Rattle.job_threads.proofs.ShowLaws.{seat_told, holder_told, seat_pass}
-use Rattle.job_threads.proofs.StepLaws.{ask_step, block_step, compact_step, hold_step, held_step, release_step}
+use Rattle.shared_cells.specs.Views.{is_told}
+use Rattle.shared_index.specs.Passes.{known_at, first_version}
+use Rattle.job_commands.specs.Histories.{Setup}
+use Rattle.job_commands.specs.Commands.{Asked, BlockRan, Seat}
+use Rattle.job_threads.specs.Snapshots.{IsHeld, Held, AskedHeld, Released}
+use Rattle.job_commands.specs.Steps.{Station, IsUnder, Moved, Step}
+use Rattle.job_threads.specs.Stations.{Pinned, holder_view, station, IsPlaced}
+use Rattle.job_commands.proofs.ShowLaws.{seat_told, seat_pass}
+use Rattle.job_commands.proofs.StepLaws.{ask_step, block_step, compact_step}
+use Rattle.job_threads.proofs.SnapshotLaws.{hold_step, held_step, release_step}
+
+pub holder_told : (spare : Option (Option Seat)) (held : Option Pinned) → IsPlaced spare held → is_told (holder_view spare held).seen.opening ≡ true
+holder_told (Some seat) None h = seat_told seat h
+holder_told None (Some s) h = s.told
+holder_told (Some seat) (Some s) h = absurd h
+holder_told None None h = absurd h
 
 module _ (s : Setup) (o : Outcome) (asks : Option Seat) (some : IsSome asks) (opened : first_version (known_at asks).seen ≡ s.opening) where
   module _ (spare : Option (Option Seat)) (held : Option Pinned) (placed : IsPlaced spare held) (under : IsUnder (known_at asks) (holder_view spare held)) (asks' : Option Seat) where
@@ -82,10 +90,6 @@ module _ (s : Setup) (o : Outcome) (asks : Option Seat) (some : IsSome asks) (op
         let same : snapshot ≡ there = cc in
         subst (λ (x : Option A). Step s Release o (station asks None (Some (seat there))) (station asks (Some second) (option_map seat x))) (sym none)
         (release_done (seat there) placed under second (subst (λ (x : A). Released (seat x) (known_at second) o) same r))
-
--- a pass has seen what it has seen
-pub under_itself : (v : Known) → IsUnder v v
-under_itself v = record { opening = refl; history = begins_same v.seen.history }
 
 -- ---- where the second pass is
 

@@ -11,7 +11,7 @@ use Rattle.shared_cells.specs.Views.{with_pinned}
 use Rattle.shared_index.specs.Openings.{room_in}
 use Rattle.shared_index.specs.Passes.{Known, version_seen}
 use Rattle.zone_dump.specs.declared.refusal.DumpRefusal.{DumpRefusal}
-use Rattle.job_threads.specs.Histories.{StandsAs}
+use Rattle.job_commands.specs.Histories.{StandsAs}
 use Rattle.job_threads.specs.declared.dumping.Dumped.{Dumped}
 use Rattle.job_threads.specs.declared.dumping.Dumped.TheVariants.{Written, DoesNotFit}
 

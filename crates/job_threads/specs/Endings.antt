@@ -5,9 +5,9 @@ use Rattle.job_model.specs.Commands.{Command}
 use Rattle.job_script.specs.declared.outcomes.Outcomes.{Outcomes}
 use Rattle.shared_index.specs.Passes.{Known}
 use Rattle.shared_index.specs.Closings.{AreAll}
-use Rattle.job_threads.specs.Histories.{Setup, StandsAs}
-use Rattle.job_threads.specs.Closings.{Gathers}
-use Rattle.job_threads.specs.Runs.{IsRun}
+use Rattle.job_commands.specs.Histories.{Setup, StandsAs}
+use Rattle.job_commands.specs.Closings.{Gathers}
+use Rattle.job_commands.specs.Runs.{IsRun}
 
 -- An index of so many passes was closed with these and main's. Whichever job its workers were gathered of, on whichever zone it was
 -- opened: the job has come to this last version.

@@ -12,8 +12,7 @@ use Rattle.job_script.specs.declared.outcomes.FedOutcome.{FedOutcome}
 use Rattle.job_script.specs.declared.outcomes.Outcome.{Outcome}
 use Rattle.job_script.specs.declared.outcomes.Outcomes.{Outcomes}
 use Rattle.feed_core.specs.Feeds.{Handout, Takings, StandsOnce}
-use Rattle.job_threads.specs.Calls.{Call, IsHeard, next_number}
-use Rattle.job_threads.specs.Works.{Numbers}
+use Rattle.job_commands.specs.Calls.{Call, IsHeard, next_number}
 use Rattle.job_threads.specs.declared.ordering.Served.{Served}
 
 -- ---- one worker
@@ -24,10 +23,6 @@ command_at commands number = slice_index_or commands (number - 1) Compact
 
 abbrev pub commands_at : List Command → List ℕ → List Command
 commands_at commands numbers = map (command_at commands) numbers
-
--- a worker has one pass, of this number
-abbrev pub only : ℕ → Numbers
-only number = record { asker = number; holder = number }
 
 -- a seat that is done, and took these numbers
 abbrev pub done_seat : Handout → List ℕ → Takings

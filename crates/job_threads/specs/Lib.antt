@@ -1,12 +1,5 @@
-pub mod Histories
-pub mod Weights
-pub mod Commands
-pub mod Calls
-pub mod Steps
+pub mod Snapshots
 pub mod Stations
-pub mod Works
-pub mod Closings
-pub mod Runs
 pub mod Endings
 pub mod Feeds
 pub mod Zones

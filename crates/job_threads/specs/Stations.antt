@@ -2,16 +2,13 @@
 use Rattle.std.specs.Prelude.{List, Option, Some, None, IsSome}
 use Rattle.std.specs.Option.{is_some}
 use Rattle.trie_model.specs.Keys as trie
-use Rattle.shared_cells.specs.declared.pass.PassSeat.{PassSeat}
 use Rattle.shared_cells.specs.declared.pinned.PinnedSeat.{PinnedSeat}
 use Rattle.shared_cells.specs.Views.{spent_view}
 use Rattle.shared_index.specs.declared.meaning.Operation.{Operation}
 use Rattle.shared_index.specs.Passes.{Known, known_at}
-use Rattle.job_threads.specs.Commands.{IsHeld}
-use Rattle.job_threads.specs.Steps.{Station}
-
-abbrev pub Seat : Type 0
-Seat = PassSeat (List trie.Entry) (List Operation)
+use Rattle.job_threads.specs.Snapshots.{IsHeld}
+use Rattle.job_commands.specs.Commands.{Seat}
+use Rattle.job_commands.specs.Steps.{Station}
 
 abbrev pub Pinned : Type 0
 Pinned = PinnedSeat (List trie.Entry) (List Operation)

@@ -7,12 +7,12 @@ ghost use Rattle.zone_model.specs.Dumps.{dump};
 ghost use Rattle.trie_write.specs.Entries.{entries_of_items};
 ghost use Rattle.shared_index.specs.Passes.{known_at};
 ghost use Rattle.shared_index.specs.Closings.{AreAll};
-ghost use Rattle.job_threads.specs.Histories.{Entries, IsZone, StandsAs};
-ghost use Rattle.job_threads.specs.Works.{AreNew};
+ghost use Rattle.job_commands.specs.Histories.{Entries, IsZone, StandsAs};
+ghost use Rattle.job_commands.specs.Works.{AreNew};
 ghost use Rattle.job_threads.specs.Dumps.{DumpedOn, StopsOn, Visited, Writes};
 
-use crate::law::ZoneLaw;
 use dns_name::Name;
+use job_commands::ZoneLaw;
 use outer_io::Sink;
 use shared_index::{Blank, Index, Named, OpenRefusal, Pass};
 use std::alloc::Global;

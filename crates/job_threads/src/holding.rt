@@ -1,12 +1,10 @@
 //! Snapshots of a worker. While it holds one its second pass is away.
 ghost use Rattle.std.specs.Prelude.{◌≡◌, IsSome, IfOk};
 ghost use Rattle.shared_index.specs.Passes.{known_at};
-ghost use Rattle.job_threads.specs.Commands.{IsHeld, Held, AskedHeld, Released};
+ghost use Rattle.job_threads.specs.Snapshots.{IsHeld, Held, AskedHeld, Released};
 
-use crate::law::ZoneLaw;
-use crate::replying::reply_text;
-use crate::room::Room;
 use dns_name::Name;
+use job_commands::{Room, ZoneLaw, reply_text};
 use job_model::Question;
 use job_script::{Outcome, Told};
 use shared_index::{Index, Named, Pass, Snapshot};

@@ -9,18 +9,17 @@ ghost use Rattle.job_script.specs.Views.{command_view, job_view, worker_view, wo
 ghost use Rattle.report_laws.specs.Changes.{AllAsked};
 ghost use Rattle.shared_index.specs.Passes.{known_at, Learnt};
 ghost use Rattle.shared_index.specs.Closings.{AreAll};
-ghost use Rattle.job_threads.specs.Histories.{Setup, StandsAs};
-ghost use Rattle.job_threads.specs.Works.{AreNew, Begins, Numbers, WorkerRan, ended};
-ghost use Rattle.job_threads.specs.Calls.{AllHeard, AreHeard};
-ghost use Rattle.job_threads.specs.Commands.{IsIndex, IsSetup, OpensAt};
-ghost use Rattle.job_threads.specs.Closings.{Gathers};
-ghost use Rattle.job_threads.specs.Runs.{IsRun};
+ghost use Rattle.job_commands.specs.Histories.{Setup, StandsAs};
+ghost use Rattle.job_commands.specs.Works.{AreNew, Begins, Numbers, WorkerRan, ended};
+ghost use Rattle.job_commands.specs.Calls.{AllHeard, AreHeard};
+ghost use Rattle.job_commands.specs.Commands.{IsIndex, IsSetup, OpensAt};
+ghost use Rattle.job_commands.specs.Closings.{Gathers};
+ghost use Rattle.job_commands.specs.Runs.{IsRun};
 ghost use Rattle.job_threads.specs.Endings.{EndsRun};
 
-use crate::gate::Gate;
-use crate::law::ZoneLaw;
 use crate::worker::{Done, Task, run_worker};
 use dns_name::Name;
+use job_commands::{Gate, ZoneLaw};
 use job_script::{Job, Outcomes, Worker};
 use shared_index::{Index, Named, Pass};
 use std::alloc::{AllocError, Global};

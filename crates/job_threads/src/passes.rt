@@ -4,14 +4,13 @@ ghost use Rattle.std.specs.Option.{option_map, is_some};
 ghost use Rattle.job_model.specs.Commands.{Hold, AskHeld, Release};
 ghost use Rattle.shared_cells.specs.History.{IsPartOf};
 ghost use Rattle.shared_index.specs.Passes.{known_at, first_version};
-ghost use Rattle.job_threads.specs.Histories.{Setup};
-ghost use Rattle.job_threads.specs.Steps.{IsUnder, Step};
+ghost use Rattle.job_commands.specs.Histories.{Setup};
+ghost use Rattle.job_commands.specs.Steps.{IsUnder, Step};
 ghost use Rattle.job_threads.specs.Stations.{IsPlaced, holder_view, station};
 
 use crate::holding::{ask_held, hold, release};
-use crate::law::ZoneLaw;
-use crate::room::Room;
 use dns_name::Name;
+use job_commands::{Room, ZoneLaw};
 use job_model::Question;
 use job_script::Outcome;
 use shared_index::{Index, Named, Pass, Snapshot};

@@ -8,14 +8,13 @@ ghost use Rattle.job_model.specs.Feeds.{passes_fed};
 ghost use Rattle.job_model.specs.Outcomes.{passes_for};
 ghost use Rattle.job_script.specs.Views.{command_view, job_view};
 ghost use Rattle.report_laws.specs.Changes.{AllAsked};
-ghost use Rattle.job_threads.specs.Histories.{IsZone, StandsAs};
+ghost use Rattle.job_commands.specs.Histories.{IsZone, StandsAs};
 ghost use Rattle.job_threads.specs.Zones.{FedRanOn, RanOn};
 
 use crate::feeding::{FedFinished, run_feed};
-use crate::gate::Gate;
 use crate::job::{Finished, run_job};
-use crate::law::ZoneLaw;
 use dns_name::Name;
+use job_commands::{Gate, ZoneLaw};
 use job_script::{Command, Job};
 use shared_index::{Blank, Index, Named, OpenRefusal};
 use std::alloc::{AllocError, Global};

@@ -14,7 +14,7 @@ use Rattle.shared_cells.specs.declared.view.TableSize.{TableSize}
 use Rattle.shared_index.specs.Openings.{room_in}
 use Rattle.zone_query.specs.Standing.{trie_entry}
 use Rattle.job_model.specs.Sizes.{cell_count}
-use Rattle.job_threads.specs.Histories.{IsZone}
+use Rattle.job_commands.specs.Histories.{IsZone}
 use Rattle.zone_list.specs.Parts.{AreListed}
 use Rattle.zones_model.specs.Commands as model
 use Rattle.zones_model.specs.Commands.{Command}

@@ -32,7 +32,7 @@ use Rattle.qp_main.specs.declared.telling.Telling.{Telling}
 use Rattle.qp_main.specs.declared.telling.Telling.TheVariants.{Report, Summary}
 use Rattle.job_model.specs.Sizes.{cell_count}
 use Rattle.shared_index.specs.Openings.{room_in}
-use Rattle.job_threads.specs.Runs.{IsRun}
+use Rattle.job_commands.specs.Runs.{IsRun}
 use Rattle.job_threads.specs.Zones.{FedRanOn, RanOn}
 use Rattle.job_threads.specs.declared.feeding.FedFinished.{FedFinished}
 use Rattle.job_threads.specs.declared.job.Finished.{Finished}

@@ -13,8 +13,8 @@ use Rattle.trie_size.specs.Sizes.{IsSizeOf, Follows}
 use Rattle.zone_query.specs.Standing.{trie_entry}
 use Rattle.master_file.specs.Rows.{CanBeDumped}
 use Rattle.job_model.specs.Sizes.{trie_entries}
-use Rattle.job_threads.specs.Histories.{IsZone}
-use Rattle.job_threads.proofs.OpenLaws.{zone_rises}
+use Rattle.job_commands.specs.Histories.{IsZone}
+use Rattle.job_commands.proofs.ZoneLaws.{zone_rises}
 
 -- the size is that of what is done of all
 pub record Counted (size : TrieSize) (left all : Version) : Type 0 where

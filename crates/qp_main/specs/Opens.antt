@@ -1,7 +1,7 @@
 -- The items that several zones are opened with.
 use Rattle.std.specs.Prelude.{◌≡◌, ◌<◌, ◌^◌, List, [], ◌∷◌, length}
 use Rattle.zone_model.specs.MasterFile.{Zone}
-use Rattle.job_threads.specs.Histories.{StandsAs}
+use Rattle.job_commands.specs.Histories.{StandsAs}
 use Rattle.zone_table.specs.declared.opening.ZoneItems.{ZoneItems}
 use Rattle.zone_table.specs.Openings.{entries_in}
 

@@ -5,7 +5,7 @@ ghost use Rattle.zone_model.specs.Versions.{Version};
 ghost use Rattle.zone_model.specs.MasterFile.{zone_of};
 ghost use Rattle.trie_write.specs.Entries.{entries_of_items};
 ghost use Rattle.job_model.specs.Jobs.{zone_lines};
-ghost use Rattle.job_threads.specs.Histories.{IsZone, StandsAs};
+ghost use Rattle.job_commands.specs.Histories.{IsZone, StandsAs};
 ghost use Rattle.qp_main.specs.Due.{CutShort, Dumps, IsWritten, MayBeShort, Written};
 
 use crate::input::Input;
@@ -15,7 +15,8 @@ use crate::report::no_room;
 use crate::status::Status;
 use crate::writing::write_due;
 use command_line::Invocation;
-use job_threads::{Dumped, ZoneLaw, dump_zone, table_for};
+use job_commands::ZoneLaw;
+use job_threads::{Dumped, dump_zone, table_for};
 use outer_io::Sink;
 use shared_index::Blank;
 use std::alloc::Global;

@@ -21,8 +21,8 @@ mod telling;
 mod writing;
 
 pub use items::zone_items;
+pub use job_commands::Gate;
 pub use job_make::{Load, make_text};
-pub use job_threads::Gate;
 pub use program::run;
 pub use reading::{job_in, list_in, zone_in};
 pub use status::Status;

@@ -8,7 +8,7 @@ ghost use Rattle.job_model.specs.Feeds.{passes_fed};
 ghost use Rattle.job_model.specs.Outcomes.{passes_for};
 ghost use Rattle.job_script.specs.Views.{job_view, list_view};
 ghost use Rattle.report_laws.specs.Changes.{AllAsked};
-ghost use Rattle.job_threads.specs.Histories.{IsZone, StandsAs};
+ghost use Rattle.job_commands.specs.Histories.{IsZone, StandsAs};
 ghost use Rattle.trie_write.specs.Entries.{entries_of_items};
 ghost use Rattle.qp_main.specs.Tellings.{finished_text};
 ghost use Rattle.qp_main.specs.Due.{Answers, FedAnswers};
@@ -17,10 +17,11 @@ use crate::report::no_room;
 use crate::status::Status;
 use crate::telling::Telling;
 use command_line::Invocation;
+use job_commands::{Gate, ZoneLaw};
 use job_script::{
     Command, Job, any_fed_refused, any_refused, print_fed, print_outcomes, print_summary,
 };
-use job_threads::{FedRan, Finished, Gate, Ran, ZoneLaw, run_list, run_zone};
+use job_threads::{FedRan, Finished, Ran, run_list, run_zone};
 use shared_index::Blank;
 use std::alloc::{AllocError, Global};
 use std::sync::Wait;

@@ -20,7 +20,7 @@ use crate::sizing::MANY_NAMES;
 use crate::status::Status;
 use command_line::Invocation;
 use dns_name::Name;
-use job_threads::{Gate, ZoneLaw};
+use job_commands::{Gate, ZoneLaw};
 use master_file::Zone;
 use shared_index::Blank;
 use std::alloc::{AllocError, Global};

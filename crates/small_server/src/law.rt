@@ -2,7 +2,7 @@
 use shared_index::Law;
 
 /// Each version is what names own, in an order and of a length that an index can hold. That it is a whole zone, with an SOA and
-/// no alias beside other records, would be a stricter law (`ZoneLaw` of `job_threads`).
+/// no alias beside other records, would be a stricter law (`ZoneLaw` of `job_commands`).
 pub struct Stored;
 
 impl Law for Stored {

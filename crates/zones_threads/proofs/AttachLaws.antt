@@ -12,7 +12,7 @@ use Rattle.shared_index.specs.declared.commit.Receipt.{Receipt}
 use Rattle.shared_index.specs.declared.meaning.Operation.{Operation}
 use Rattle.shared_index.specs.Operations.{applied}
 use Rattle.shared_index.specs.Passes.{Known, first_version}
-use Rattle.job_threads.proofs.HistoryLaws.{part_more}
+use Rattle.job_commands.proofs.HistoryLaws.{part_more}
 use Rattle.zone_table.specs.declared.change.TableRefusal.{TableRefusal}
 use Rattle.zone_table.specs.declared.change.TableRefusal.TheVariants as refusal
 use Rattle.zone_table.specs.Changes.{Attaches, Detaches, IsChanged, IsUnchanged}

@@ -10,11 +10,10 @@ use Rattle.shared_cells.specs.declared.view.TableSize.{TableSize}
 use Rattle.shared_index.specs.declared.meaning.Named.{Ghosts}
 use Rattle.shared_index.specs.Closings.{AreAll}
 use Rattle.shared_index.specs.Passes.{commits_in, first_version, pinned_in}
-use Rattle.job_threads.specs.Histories.{BeginsAt, IsLawful, IsZone}
-use Rattle.job_threads.specs.Works.{AreNew}
-use Rattle.job_threads.proofs.OpenLaws.{zone_rises}
-use Rattle.job_threads.proofs.ShowLaws.{seat_pass}
-use Rattle.job_threads.proofs.ZoneLaws.{zone_begins, zone_lawful}
+use Rattle.job_commands.specs.Histories.{BeginsAt, IsLawful, IsZone}
+use Rattle.job_commands.specs.Works.{AreNew}
+use Rattle.job_commands.proofs.ZoneLaws.{zone_rises, zone_begins, zone_lawful}
+use Rattle.job_commands.proofs.ShowLaws.{seat_pass}
 use Rattle.zone_table.specs.declared.opening.ZoneItems.{ZoneItems}
 use Rattle.zone_table.specs.declared.pass.ZonesPass.{ZonesPass}
 use Rattle.zone_table.specs.declared.zones.Zones.{Zones}

@@ -16,14 +16,14 @@ use Rattle.shared_cells.specs.Views.{number_of, is_told, with_pinned, with_progr
 use Rattle.shared_index.specs.declared.meaning.Operation.{Operation}
 use Rattle.shared_index.specs.Closings.{AllSeen, AreAll, Ends}
 use Rattle.shared_index.specs.Passes.{Known, Pinned, version_seen}
-use Rattle.job_threads.specs.Closings.{numbers_in}
-use Rattle.job_threads.specs.Histories.{IsLawful, Setup, StandsAs}
-use Rattle.job_threads.specs.Runs.{IsRun}
-use Rattle.job_threads.proofs.CloseLaws.{in_map}
-use Rattle.job_threads.proofs.EndLaws.{job_ends, number_with}
-use Rattle.job_threads.proofs.HistoryLaws.{begins_more, opened_same}
-use Rattle.job_threads.proofs.JobLaws.{here, there}
-use Rattle.job_threads.proofs.WorkLaws.{all_weaker}
+use Rattle.job_commands.specs.Closings.{numbers_in}
+use Rattle.job_commands.specs.Histories.{IsLawful, Setup, StandsAs}
+use Rattle.job_commands.specs.Runs.{IsRun}
+use Rattle.job_commands.proofs.CloseLaws.{in_map}
+use Rattle.job_commands.proofs.EndLaws.{job_ends, number_with}
+use Rattle.job_commands.proofs.HistoryLaws.{begins_more, opened_same}
+use Rattle.job_commands.proofs.JobLaws.{here, there}
+use Rattle.job_commands.proofs.WorkLaws.{all_weaker}
 use Rattle.zones_model.specs.Commands.{Command, origins_of}
 use Rattle.zones_model.specs.Outcomes as model
 use Rattle.zones_model.specs.Outcomes.{Last, TableLawful, ZonesLawful}

@@ -17,15 +17,14 @@ use Rattle.shared_cells.specs.History.{StartsWith}
 use Rattle.shared_cells.specs.Views.{number_of, is_told}
 use Rattle.shared_index.specs.declared.meaning.Named.{Ghosts}
 use Rattle.shared_index.specs.Passes.{Known, known_at, Learnt}
-use Rattle.job_threads.specs.Histories.{Setup, Entries}
-use Rattle.job_threads.specs.Commands.{IsIndex, IsSetup}
-use Rattle.job_threads.specs.Closings.{numbers_in}
-use Rattle.job_threads.specs.Feeds.{only}
-use Rattle.job_threads.specs.Works.{IsNew, AreNew, WorkerRan, ended}
-use Rattle.job_threads.proofs.HistoryLaws.{begins_more, opened_same}
-use Rattle.job_threads.proofs.JobLaws.{here, there}
-use Rattle.job_threads.proofs.WorkLaws.{all_weaker}
-use Rattle.job_threads.proofs.GatherLaws.{gathers_main, gathers_server}
+use Rattle.job_commands.specs.Histories.{Setup, Entries}
+use Rattle.job_commands.specs.Commands.{IsIndex, IsSetup}
+use Rattle.job_commands.specs.Closings.{numbers_in}
+use Rattle.job_commands.specs.Works.{only, IsNew, AreNew, WorkerRan, ended}
+use Rattle.job_commands.proofs.HistoryLaws.{begins_more, opened_same}
+use Rattle.job_commands.proofs.JobLaws.{here, there}
+use Rattle.job_commands.proofs.WorkLaws.{all_weaker}
+use Rattle.job_commands.proofs.GatherLaws.{gathers_main, gathers_server}
 use Rattle.zones_model.specs.Commands as model
 use Rattle.zones_model.specs.Commands.{Command}
 use Rattle.zones_model.specs.Outcomes as model_outcomes

@@ -18,12 +18,12 @@ use Rattle.shared_index.specs.declared.meaning.Named.{Ghosts}
 use Rattle.shared_index.specs.declared.meaning.Operation.{Operation}
 use Rattle.shared_index.specs.declared.pass.Pass.{Pass}
 use Rattle.shared_index.specs.Passes.{Known, known_at, first_version}
-use Rattle.job_threads.specs.Histories.{Setup}
-use Rattle.job_threads.specs.Commands.{Asked, BlockRan}
-use Rattle.job_threads.specs.Steps.{Station, IsUnder, Step}
-use Rattle.job_threads.specs.Works.{ended}
-use Rattle.job_threads.proofs.ShowLaws.{seat_pass}
-use Rattle.job_threads.proofs.StepLaws.{ask_step, block_step}
+use Rattle.job_commands.specs.Histories.{Setup}
+use Rattle.job_commands.specs.Commands.{Asked, BlockRan}
+use Rattle.job_commands.specs.Steps.{Station, IsUnder, Step}
+use Rattle.job_commands.specs.Works.{ended}
+use Rattle.job_commands.proofs.ShowLaws.{seat_pass}
+use Rattle.job_commands.proofs.StepLaws.{ask_step, block_step}
 use Rattle.zone_table.specs.declared.pass.ZonesPass.{ZonesPass}
 use Rattle.zone_table.specs.declared.zones.Zones.{Zones}
 use Rattle.zone_table.specs.Passes.{IsPassOf, zone_known}

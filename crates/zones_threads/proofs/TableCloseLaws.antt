@@ -13,12 +13,12 @@ use Rattle.shared_cells.specs.Views.{number_of}
 use Rattle.shared_index.specs.Operations.{applied}
 use Rattle.shared_index.specs.Passes.{Known, first_version, version_seen}
 use Rattle.shared_index.specs.Closings.{AllSeen, Includes, AreAll, IsCommitOf, Ends}
-use Rattle.job_threads.specs.Closings.{Some', AreApart as NumbersApart, IsPass, numbers_in}
-use Rattle.job_threads.specs.Histories.{Commit, Entries, index_at, times_by}
-use Rattle.job_threads.proofs.CloseLaws.{all_rec, apart, exact_entries}
-use Rattle.job_threads.proofs.HistoryLaws.{begins_more, begins_length, index_last, times_none, times_front, times_past}
-use Rattle.job_threads.proofs.JobLaws.{here, there}
-use Rattle.job_threads.proofs.WorkLaws.{all_weaker}
+use Rattle.job_commands.specs.Closings.{Some', AreApart as NumbersApart, IsPass, numbers_in}
+use Rattle.job_commands.specs.Histories.{Commit, Entries, index_at, times_by}
+use Rattle.job_commands.proofs.CloseLaws.{all_rec, apart, exact_entries}
+use Rattle.job_commands.proofs.HistoryLaws.{begins_more, begins_length, index_last, times_none, times_front, times_past}
+use Rattle.job_commands.proofs.JobLaws.{here, there}
+use Rattle.job_commands.proofs.WorkLaws.{all_weaker}
 use Rattle.zones_model.specs.Outcomes as model
 use Rattle.zones_model.specs.Tables.{Change, Attaches, Detaches, attached_after, attached_count}
 use Rattle.zone_table.specs.Tables.{IsAmong, IsTable, entry_for}

@@ -11,10 +11,10 @@ use Rattle.shared_cells.specs.History.{StartsWith, IsPartOf, entries_by, entry_o
 use Rattle.shared_index.specs.declared.meaning.Operation.{Operation}
 use Rattle.shared_index.specs.Operations.{applied}
 use Rattle.shared_index.specs.Passes.{Known, first_version, version_seen}
-use Rattle.job_threads.specs.Histories.{Commit, Entries, index_at, times_by}
-use Rattle.job_threads.specs.Works.{IsNew}
-use Rattle.job_threads.proofs.HistoryLaws.{begins_same, begins_more, begins_length, index_front, index_last, opened_same, part_same, by-push, times_front, times_past, times_there, times_else}
-use Rattle.job_threads.proofs.WorkLaws.{all-push, all_weaker}
+use Rattle.job_commands.specs.Histories.{Commit, Entries, index_at, times_by}
+use Rattle.job_commands.specs.Works.{IsNew}
+use Rattle.job_commands.proofs.HistoryLaws.{begins_same, begins_more, begins_length, index_front, index_last, opened_same, part_same, by-push, times_front, times_past, times_there, times_else}
+use Rattle.job_commands.proofs.WorkLaws.{all-push, all_weaker}
 use Rattle.zones_model.specs.Outcomes as model
 use Rattle.zones_model.specs.Tables.{Change, Attaches, Detaches}
 use Rattle.zones_model.specs.declared.TableCause.{TableCause}

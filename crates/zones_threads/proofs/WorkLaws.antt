@@ -12,15 +12,14 @@ use Rattle.shared_cells.specs.Views.{is_told}
 use Rattle.shared_cells.specs.History.{IsPartOf}
 use Rattle.shared_index.specs.declared.meaning.Named.{Ghosts}
 use Rattle.shared_index.specs.Passes.{Known, first_version}
-use Rattle.job_threads.specs.Histories.{Setup}
-use Rattle.job_threads.specs.Commands.{IsSetup}
-use Rattle.job_threads.specs.Feeds.{only}
-use Rattle.job_threads.specs.Steps.{Station}
-use Rattle.job_threads.specs.Works.{IsNew, ended}
-use Rattle.job_threads.proofs.HistoryLaws.{opened_same, part_same}
-use Rattle.job_threads.proofs.StationLaws.{under_itself}
-use Rattle.job_threads.proofs.WorkLaws.{WorkerAt, worker_starts, worker_goes_on, worker_ran}
-use Rattle.job_threads.proofs.ZoneLaws.{opens_still}
+use Rattle.job_commands.specs.Histories.{Setup}
+use Rattle.job_commands.specs.Commands.{IsSetup}
+use Rattle.job_commands.specs.Works.{only, IsNew, ended}
+use Rattle.job_commands.specs.Steps.{Station}
+use Rattle.job_commands.proofs.HistoryLaws.{opened_same, part_same}
+use Rattle.job_commands.proofs.StepLaws.{under_itself}
+use Rattle.job_commands.proofs.WorkLaws.{WorkerAt, worker_starts, worker_goes_on, worker_ran}
+use Rattle.job_commands.proofs.ZoneLaws.{opens_still}
 use Rattle.zones_model.specs.Commands as model
 use Rattle.zones_model.specs.Commands.{Command}
 use Rattle.zones_model.specs.Outcomes as model_outcomes

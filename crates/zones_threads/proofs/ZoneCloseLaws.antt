@@ -12,7 +12,7 @@ use Rattle.job_model.specs.Outcomes.{Pair, Ended, Lawful}
 use Rattle.job_script.specs.Outcomes.{outcome_view, pairs_of, job_pairs}
 use Rattle.job_script.specs.declared.outcomes.Outcome.{Outcome}
 use Rattle.job_script.specs.declared.outcomes.Outcomes.{Outcomes}
-use Rattle.job_threads.specs.Runs.{IsRun}
+use Rattle.job_commands.specs.Runs.{IsRun}
 use Rattle.zones_model.specs.Commands as model
 use Rattle.zones_model.specs.Commands.{Command}
 use Rattle.zones_model.specs.Outcomes as model_outcomes

@@ -1,6 +1,6 @@
 -- What a gate is told of workers.
 use Rattle.std.specs.Prelude.{ℕ, List, [], ◌∷◌, length}
-use Rattle.job_threads.specs.Calls.{Call, AreHeard, next_number}
+use Rattle.job_commands.specs.Calls.{Call, AreHeard, next_number}
 use Rattle.zones_model.specs.Commands.{Command}
 
 -- of all commands of workers, the first of whom has a number

@@ -9,8 +9,8 @@ use Rattle.shared_cells.specs.History.{StartsWith}
 use Rattle.shared_index.specs.declared.meaning.Named.{Ghosts}
 use Rattle.shared_index.specs.declared.meaning.Operation.{Operation}
 use Rattle.shared_index.specs.Passes.{Known, first_version}
-use Rattle.job_threads.specs.Histories.{Setup}
-use Rattle.job_threads.specs.Closings.{Gathers, numbers_in}
+use Rattle.job_commands.specs.Histories.{Setup}
+use Rattle.job_commands.specs.Closings.{Gathers, numbers_in}
 use Rattle.zones_model.specs.Commands.{Command}
 use Rattle.zones_model.specs.Outcomes as model
 use Rattle.zone_table.specs.declared.pass.ZonesPass.{ZonesPass}

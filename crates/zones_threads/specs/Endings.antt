@@ -6,7 +6,7 @@ use Rattle.zone_model.specs.Names.{Name}
 use Rattle.job_model.specs.Outcomes as one
 use Rattle.shared_index.specs.Closings.{AreAll}
 use Rattle.shared_index.specs.Passes.{Known}
-use Rattle.job_threads.specs.Histories.{Setup, StandsAs}
+use Rattle.job_commands.specs.Histories.{Setup, StandsAs}
 use Rattle.zones_model.specs.Commands.{Command}
 use Rattle.zones_model.specs.Outcomes as model
 use Rattle.zones_model.specs.Outcomes.{TableLawful, workers_in, version_of}

@@ -2,9 +2,9 @@
 use Rattle.std.specs.Prelude.{◌≡◌, ℕ, ◌+◌, List, length, All}
 use Rattle.std.specs.List.{AllByRecursion}
 use Rattle.shared_index.specs.declared.meaning.Named.{Ghosts}
-use Rattle.job_threads.specs.Commands.{IsIndex}
-use Rattle.job_threads.specs.Histories.{Setup}
-use Rattle.job_threads.specs.Works.{AreNew, IsNew}
+use Rattle.job_commands.specs.Commands.{IsIndex}
+use Rattle.job_commands.specs.Histories.{Setup}
+use Rattle.job_commands.specs.Works.{AreNew, IsNew}
 use Rattle.zones_model.specs.Commands.{Command}
 use Rattle.zone_table.specs.declared.zones.Zones.{Zones}
 use Rattle.zone_table.specs.declared.pass.ZonesPass.{ZonesPass}

@@ -1,7 +1,7 @@
 -- What becomes of zones that are opened and run.
 use Rattle.std.specs.Prelude.{◌≡◌, ℕ, List, Some, slice_get}
 use Rattle.zone_model.specs.MasterFile.{Zone}
-use Rattle.job_threads.specs.Histories.{StandsAs}
+use Rattle.job_commands.specs.Histories.{StandsAs}
 use Rattle.zones_model.specs.Commands.{Command}
 use Rattle.zones_model.specs.Commands as model
 use Rattle.zone_table.specs.declared.opening.ZoneItems.{ZoneItems}

@@ -4,8 +4,8 @@ use Rattle.zone_model.specs.MasterFile.{Zone}
 use Rattle.zone_model.specs.Names.{Name}
 use Rattle.shared_index.specs.Closings.{AreAll}
 use Rattle.shared_index.specs.Passes.{Known}
-use Rattle.job_threads.specs.Histories.{Entries, StandsAs}
-use Rattle.job_threads.specs.Works.{AreNew}
+use Rattle.job_commands.specs.Histories.{Entries, StandsAs}
+use Rattle.job_commands.specs.Works.{AreNew}
 use Rattle.zones_model.specs.Commands.{Command, origins_of}
 use Rattle.zones_model.specs.Outcomes.{Last, ZonesLawful, all_done, attached_at}
 use Rattle.zones_model.specs.Tables.{attached_count}

@@ -9,7 +9,7 @@ use Rattle.zones_model.specs.Commands.{Command, Get, Block, Attach, Detach}
 use Rattle.zone_table.specs.declared.zones.Zones.{Zones}
 use Rattle.zone_table.specs.declared.pass.ZonesPass.{ZonesPass}
 use Rattle.zone_table.specs.Passes.{zone_known}
-use Rattle.job_threads.specs.Commands.{OpensAt}
+use Rattle.job_commands.specs.Commands.{OpensAt}
 
 -- a zone by its number, with its origin and the size of its index
 pub record Site : Type 0 where

@@ -13,10 +13,10 @@ use Rattle.shared_index.specs.declared.meaning.Operation.TheVariants.{Insert, De
 use Rattle.shared_index.specs.Operations.{applied}
 use Rattle.shared_index.specs.Passes.{Known, Pinned, first_version, version_seen}
 use Rattle.job_model.specs.Outcomes.{last_version}
-use Rattle.job_threads.specs.Histories.{Setup, Commit}
-use Rattle.job_threads.specs.Commands.{IsSetup}
-use Rattle.job_threads.specs.Steps.{Station, IsUnder, Step}
-use Rattle.job_threads.specs.Works.{ended}
+use Rattle.job_commands.specs.Histories.{Setup, Commit}
+use Rattle.job_commands.specs.Commands.{IsSetup}
+use Rattle.job_commands.specs.Steps.{Station, IsUnder, Step}
+use Rattle.job_commands.specs.Works.{ended}
 use Rattle.zones_model.specs.Commands.{Command}
 use Rattle.zones_model.specs.Outcomes as model
 use Rattle.zones_model.specs.declared.TableCause.{TableCause}

@@ -3,7 +3,7 @@ use Rattle.std.specs.Prelude.{◌≡◌, ℕ, length}
 use Rattle.shared_cells.specs.declared.view.Progress.TheVariants as progress
 use Rattle.shared_cells.specs.Views.{with_progress}
 use Rattle.shared_index.specs.Passes.{Known, Pinned, version_seen}
-use Rattle.job_threads.specs.Histories.{IsLawful}
+use Rattle.job_commands.specs.Histories.{IsLawful}
 
 -- A pass took the current version, and left it again. It had so many names.
 pub record Counted (old new : Known) (names : ℕ) : Type 0 where

@@ -8,10 +8,9 @@ use Rattle.shared_index.specs.declared.meaning.Named.{Ghosts}
 use Rattle.shared_index.specs.declared.meaning.Operation.{Operation}
 use Rattle.shared_index.specs.Operations.{applied}
 use Rattle.shared_index.specs.Passes.{Known, first_version}
-use Rattle.job_threads.specs.Histories.{Setup, Commit, Entries, index_at, times_by}
-use Rattle.job_threads.specs.Commands.{IsSetup}
-use Rattle.job_threads.specs.Feeds.{only}
-use Rattle.job_threads.specs.Works.{IsNew, WorkerRan, ended}
+use Rattle.job_commands.specs.Histories.{Setup, Commit, Entries, index_at, times_by}
+use Rattle.job_commands.specs.Commands.{IsSetup}
+use Rattle.job_commands.specs.Works.{only, IsNew, WorkerRan, ended}
 use Rattle.zones_model.specs.Commands.{Command}
 use Rattle.zones_model.specs.Outcomes as model
 use Rattle.zones_model.specs.Tables.{Change, Attaches, Detaches}

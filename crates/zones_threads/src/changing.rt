@@ -5,7 +5,7 @@ ghost use Rattle.zone_table.specs.Passes.{IsPassOf};
 ghost use Rattle.zones_threads.specs.Changes.{cause_told, version_told};
 ghost use Rattle.zones_threads.specs.Steps.{Goes};
 
-use job_threads::ZoneLaw;
+use job_commands::ZoneLaw;
 use shared_index::{Named, Receipt};
 use std::sync::Wait;
 use zone_table::{TableRefusal, Zones, ZonesPass};

@@ -4,7 +4,7 @@ ghost use Rattle.shared_index.specs.Passes.{known_at};
 ghost use Rattle.zone_table.specs.Passes.{IsPassOf, table_known, zone_known};
 ghost use Rattle.zones_threads.specs.Visits.{Counted};
 
-use job_threads::ZoneLaw;
+use job_commands::ZoneLaw;
 use shared_index::{Index, Named, Pass};
 use std::alloc::{AllocError, Global};
 use trie_read::Reading;

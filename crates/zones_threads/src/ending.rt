@@ -6,7 +6,7 @@ ghost use Rattle.zones_threads.specs.Endings.{EndsTable, EndsZone};
 ghost use Rattle.zones_threads.specs.Sites.{IsSite, Site};
 
 use crate::closing::all_names;
-use job_threads::ZoneLaw;
+use job_commands::ZoneLaw;
 use shared_index::Named;
 use std::alloc::{AllocError, Global};
 use zone_table::{Zones, ZonesPass};

@@ -1,8 +1,8 @@
 //! What a gate is told of a worker's commands.
 ghost use Rattle.std.specs.Prelude.{◌≡◌, ◌+◌, length};
-ghost use Rattle.job_threads.specs.Calls.{Before, After};
+ghost use Rattle.job_commands.specs.Calls.{Before, After};
 
-use job_threads::Gate;
+use job_commands::Gate;
 use zones_report::Done;
 
 /// Tells the gate of a command that comes, while the ones at the places before it are done.

@@ -5,8 +5,8 @@ ghost use Rattle.zone_table.specs.Passes.{IsPassOf};
 ghost use Rattle.zones_threads.specs.Steps.{Goes};
 
 use dns_name::Name;
+use job_commands::{Room, ZoneLaw, run_question};
 use job_model::Question;
-use job_threads::{Room, ZoneLaw, run_question};
 use shared_index::Named;
 use std::alloc::{AllocError, Global};
 use zone_table::{Zones, ZonesPass};

@@ -6,7 +6,7 @@ ghost use Rattle.zones_model.specs.Outcomes.{passes_for};
 ghost use Rattle.std.specs.List.{AllByRecursion};
 ghost use Rattle.std.specs.Thread.{IsSync};
 ghost use Rattle.shared_index.specs.Passes.{Learnt};
-ghost use Rattle.job_threads.specs.Calls.{AreHeard};
+ghost use Rattle.job_commands.specs.Calls.{AreHeard};
 ghost use Rattle.zone_table.specs.Passes.{IsPassOf, table_known, zone_known};
 ghost use Rattle.zones_threads.specs.Calls.{AllHeard};
 ghost use Rattle.zones_threads.specs.Closings.{table_views, zone_views};
@@ -20,7 +20,7 @@ ghost use Rattle.zones_threads.specs.Works.{AreApart};
 
 use crate::ending::close_zones;
 use crate::worker::{Ended, Task, run_worker};
-use job_threads::{Gate, ZoneLaw};
+use job_commands::{Gate, ZoneLaw};
 use shared_index::Named;
 use std::alloc::{AllocError, Global};
 use std::sync::Wait;

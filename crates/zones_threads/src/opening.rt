@@ -3,7 +3,7 @@ ghost use Rattle.std.specs.Prelude.{◌≡◌, ◌+◌, ◌≤◌, ℕ, List, Al
 ghost use Rattle.std.specs.List.{AllByRecursion, IsDistinct};
 ghost use Rattle.zone_model.specs.MasterFile.{Zone};
 ghost use Rattle.zone_model.specs.Names.{same_name};
-ghost use Rattle.job_threads.specs.Histories.{IsZone};
+ghost use Rattle.job_commands.specs.Histories.{IsZone};
 ghost use Rattle.zones_model.specs.Outcomes.{passes_for};
 ghost use Rattle.zone_table.specs.Openings.{entries_in, origins_of, places_of};
 ghost use Rattle.zones_threads.specs.Openings.{StandFor, ZonesRanOn};
@@ -11,7 +11,7 @@ ghost use Rattle.zones_threads.specs.Sites.{IsSaid};
 ghost use Rattle.zones_threads.specs.Views.{workers_view};
 
 use crate::job::run_zones;
-use job_threads::{Gate, ZoneLaw};
+use job_commands::{Gate, ZoneLaw};
 use shared_index::{Blank, Named};
 use std::alloc::{AllocError, Global};
 use std::marker::Brand;

@@ -6,8 +6,8 @@ ghost use Rattle.zones_threads.specs.Sites.{IsSaid, Opens};
 ghost use Rattle.zones_threads.specs.Steps.{Goes};
 ghost use Rattle.zones_model.specs.Commands as model;
 
+use job_commands::{Room, ZoneLaw, run_block};
 use job_script::Block;
-use job_threads::{Room, ZoneLaw, run_block};
 use shared_index::Named;
 use std::alloc::{AllocError, Global};
 use std::sync::Wait;

@@ -1,6 +1,6 @@
 //! A worker that runs its commands.
 ghost use Rattle.std.specs.Prelude.{◌≡◌, IfOk, length, map};
-ghost use Rattle.job_threads.specs.Calls.{AreHeard, next_number};
+ghost use Rattle.job_commands.specs.Calls.{AreHeard, next_number};
 ghost use Rattle.zone_table.specs.Passes.{IsPassOf};
 ghost use Rattle.zones_threads.specs.Gatherings.{HasWorked, MayWork};
 ghost use Rattle.zones_threads.specs.Sites.{IsSaid, Opens};
@@ -11,7 +11,7 @@ use crate::changing::{attach, detach};
 use crate::gate::{tell_after, tell_before};
 use crate::getting::get;
 use crate::transactions::change_zone;
-use job_threads::{Gate, Room, ZoneLaw};
+use job_commands::{Gate, Room, ZoneLaw};
 use shared_index::Named;
 use std::alloc::{AllocError, Global};
 use std::sync::Wait;

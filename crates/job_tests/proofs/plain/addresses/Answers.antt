@@ -7,7 +7,7 @@ use Rattle.trie_write.specs.declared.item.Item.{Item}
 use Rattle.trie_write.specs.Entries.{entries_of_items}
 use Rattle.trie_write.proofs.ItemLaws.{items_tell}
 use Rattle.trie_write.proofs.RootLaws.{stands_of}
-use Rattle.job_threads.specs.Histories.{StandsAs}
+use Rattle.job_commands.specs.Histories.{StandsAs}
 use Rattle.zone_edit.proofs.SetLaws.{entries_rise}
 use Rattle.job_tests.proofs.plain.addresses.Goals as goal
 

@@ -3,8 +3,8 @@ use Rattle.job_script.specs.Views.{asked_view}
 use Rattle.job_script.proofs.ReportLemmas.{if_ok}
 use Rattle.shared_index.specs.Compactions.{Compacts}
 use Rattle.shared_index.specs.Passes.{known_at}
-use Rattle.job_threads.specs.Histories.{IsLawful}
-use Rattle.job_threads.specs.Commands.{Asked}
+use Rattle.job_commands.specs.Histories.{IsLawful}
+use Rattle.job_commands.specs.Commands.{Asked}
 use Rattle.job_threads.proofs.StationLaws.{ask_done, block_done, compact_done, if_both, step_is}
 use Rattle.job_threads.proofs.alone.run_alone.Goals as goal
 

@@ -3,8 +3,8 @@ use Rattle.shared_cells.specs.declared.view.Progress.TheVariants as progress
 use Rattle.shared_cells.specs.Views.{with_progress}
 use Rattle.shared_index.specs.Passes.{Known, known_at, version_seen}
 use Rattle.job_threads.specs.Dumps.{Writes}
-use Rattle.job_threads.specs.Histories.{StandsAs}
-use Rattle.job_threads.proofs.ShowLaws.{shown}
+use Rattle.job_commands.specs.Histories.{StandsAs}
+use Rattle.job_commands.proofs.ShowLaws.{shown}
 use Rattle.job_threads.proofs.dumping.dump_current.Goals as goal
 
 pub returns-clause-writes : goal.returns-clause-writes

@@ -2,9 +2,9 @@ use Rattle.std.proofs.Common.{◌≡◌, ◌∙◌, arith, sym, subst, vec_len}
 use Rattle.std.specs.Prelude.{IsSome}
 use Rattle.std.specs.List.{All}
 use Rattle.shared_index.specs.Passes.{known_at}
-use Rattle.job_threads.specs.Histories.{Entries, StandsAs}
+use Rattle.job_commands.specs.Histories.{Entries, StandsAs}
 use Rattle.job_threads.proofs.DumpLaws.{of_one, set_one, opened_shows}
-use Rattle.job_threads.proofs.ShowLaws.{seat_told}
+use Rattle.job_commands.proofs.ShowLaws.{seat_told}
 use Rattle.job_threads.proofs.dumping.dump_opened.Goals as goal
 
 pub returns-clause-ok : goal.returns-clause-ok

@@ -4,10 +4,11 @@ use Rattle.job_script.specs.Views.{command_view}
 use Rattle.job_script.proofs.ReportLemmas.{if_ok}
 use Rattle.feed_core.specs.Feeds.{Takings, new_seat}
 use Rattle.shared_index.specs.Passes.{known_at}
-use Rattle.job_threads.specs.Commands.{OpensAt}
+use Rattle.job_commands.specs.Commands.{OpensAt}
 use Rattle.job_threads.specs.Feeds.{FedHeard, commands_at, commands_served, outcomes_served}
-use Rattle.job_threads.proofs.ShowLaws.{seat_told}
-use Rattle.job_threads.proofs.GatherLaws.{popped, gathers_main, front_new, gathers_server, gathers_served, at_ok}
+use Rattle.job_commands.proofs.ShowLaws.{seat_told}
+use Rattle.job_commands.proofs.GatherLaws.{popped, gathers_main, front_new, gathers_server, at_ok}
+use Rattle.job_threads.proofs.GatherLaws.{gathers_served}
 use Rattle.job_threads.proofs.feeding.+serving.Goals as goal
 
 pub returns-in_default-pop-clause-ran : goal.returns-in_default-pop-clause-ran

@@ -8,7 +8,7 @@ use Rattle.feed_core.specs.Feeds.{StandsOnce, Takings, lists_of, new_seat}
 use Rattle.shared_index.specs.Closings.{AreAll}
 use Rattle.shared_index.specs.Passes.{known_at}
 use Rattle.job_threads.specs.Feeds.{AreInOrder, commands_served, numbers_served, outcomes_served}
-use Rattle.job_threads.specs.Runs.{IsRun}
+use Rattle.job_commands.specs.Runs.{IsRun}
 use Rattle.job_threads.proofs.FedRunLaws.{fed_run}
 use Rattle.job_threads.proofs.ServeLaws.{seats_of_feed, lists_served, some_done}
 use Rattle.job_threads.proofs.feeding.run_feed.Goals as goal

@@ -2,18 +2,19 @@ use Rattle.std.proofs.Common.{rules, ◌∙◌, ◌-◌, ◌<◌, ℕ, List, [],
 use Rattle.job_script.specs.Views.{command_view}
 use Rattle.job_script.specs.declared.outcomes.Outcome.{Outcome}
 use Rattle.feed_core.specs.Feeds.{Takings}
-use Rattle.job_threads.specs.Feeds.{commands_at, only}
+use Rattle.job_threads.specs.Feeds.{commands_at}
+use Rattle.job_commands.specs.Works.{only}
 use Rattle.std.specs.List.{AllByRecursion}
-use Rattle.job_threads.specs.Calls.{IsHeard}
+use Rattle.job_commands.specs.Calls.{IsHeard}
 use Rattle.report_laws.specs.Changes.{AllAsked}
 use Rattle.shared_index.specs.Passes.{first_version, known_at}
-use Rattle.job_threads.specs.Histories.{Setup}
+use Rattle.job_commands.specs.Histories.{Setup}
 use Rattle.job_threads.specs.Stations.{station}
 use Rattle.job_threads.proofs.ServeLaws.{command_here, plain_here, so_here, serve_starts, serve_next}
-use Rattle.job_threads.proofs.ShowLaws.{seat_told}
-use Rattle.job_threads.proofs.StationLaws.{under_itself}
-use Rattle.job_threads.proofs.WorkLaws.{WorkerAt, all-push, worker_ran}
-use Rattle.job_threads.proofs.ZoneLaws.{opens_still}
+use Rattle.job_commands.proofs.ShowLaws.{seat_told}
+use Rattle.job_commands.proofs.StepLaws.{under_itself}
+use Rattle.job_commands.proofs.WorkLaws.{WorkerAt, all-push, worker_ran}
+use Rattle.job_commands.proofs.ZoneLaws.{opens_still}
 use Rattle.job_threads.proofs.feeding.serve.Goals as goal
 
 pub loop-number-init : goal.loop-number-init

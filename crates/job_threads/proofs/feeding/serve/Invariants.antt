@@ -4,13 +4,13 @@ use Rattle.std.specs.List.{AllByRecursion}
 use Rattle.job_script.specs.Views.{command_view}
 use Rattle.feed_core.specs.Feeds.{remaining}
 use Rattle.shared_index.specs.Passes.{known_at}
-use Rattle.job_threads.specs.Histories.{Setup}
-use Rattle.job_threads.specs.Calls.{IsHeard}
-use Rattle.job_threads.specs.Commands.{IsSetup, OpensAt}
+use Rattle.job_commands.specs.Histories.{Setup}
+use Rattle.job_commands.specs.Calls.{IsHeard}
+use Rattle.job_commands.specs.Commands.{IsSetup, OpensAt}
 use Rattle.job_threads.specs.Stations.{station}
-use Rattle.job_threads.specs.Works.{IsNew}
-use Rattle.job_threads.specs.Feeds.{commands_at, only}
-use Rattle.job_threads.proofs.WorkLaws.{WorkerAt}
+use Rattle.job_commands.specs.Works.{IsNew, only}
+use Rattle.job_threads.specs.Feeds.{commands_at}
+use Rattle.job_commands.proofs.WorkLaws.{WorkerAt}
 use Rattle.job_threads.proofs.feeding.serve.Given as goal
 
 abbrev pub invariant-loop-number : goal.invariant-loop-number

@@ -6,12 +6,13 @@ use Rattle.job_script.specs.Views.{worker_view, workers_view}
 use Rattle.shared_index.specs.Passes.{known_at}
 use Rattle.std.proofs.lemmas.List.{nil_from_length}
 use Rattle.report_laws.specs.Changes.{AllAsked}
-use Rattle.job_threads.specs.Calls.{AllHeard}
-use Rattle.job_threads.specs.Commands.{OpensAt}
-use Rattle.job_threads.specs.Closings.{Gathers}
-use Rattle.job_threads.proofs.CallLaws.{any_ok}
-use Rattle.job_threads.proofs.ShowLaws.{seat_told}
-use Rattle.job_threads.proofs.GatherLaws.{popped, gathers_start, others_new, gathers_worker, gathers_done, at_ok}
+use Rattle.job_commands.specs.Calls.{AllHeard}
+use Rattle.job_commands.specs.Commands.{OpensAt}
+use Rattle.job_commands.specs.Closings.{Gathers}
+use Rattle.job_commands.proofs.CallLaws.{any_ok}
+use Rattle.job_commands.proofs.ShowLaws.{seat_told}
+use Rattle.job_commands.proofs.GatherLaws.{popped, at_ok}
+use Rattle.job_threads.proofs.GatherLaws.{gathers_start, others_new, gathers_worker, gathers_done}
 use Rattle.job_threads.proofs.job.+workers.Goals as goal
 
 pub returns-in_default-split_first-clause-ran : goal.returns-in_default-split_first-clause-ran

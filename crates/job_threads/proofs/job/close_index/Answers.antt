@@ -4,8 +4,9 @@ use Rattle.shared_cells.specs.Views.{with_progress, pinned_image}
 use Rattle.shared_cells.specs.declared.view.Progress.TheVariants as progress
 use Rattle.shared_index.specs.Meanings.{Holds}
 use Rattle.shared_index.specs.Passes.{known_at, version_seen}
-use Rattle.job_threads.proofs.ShowLaws.{seat_told}
-use Rattle.job_threads.proofs.EndLaws.{all_handed, job_ended}
+use Rattle.job_commands.proofs.ShowLaws.{seat_told}
+use Rattle.job_commands.proofs.EndLaws.{all_handed}
+use Rattle.job_threads.proofs.EndLaws.{job_ended}
 use Rattle.job_threads.proofs.job.close_index.Goals as goal
 
 pub close-version-requires : goal.close-version-requires

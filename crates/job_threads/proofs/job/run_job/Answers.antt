@@ -4,9 +4,9 @@ use Rattle.zone_model.specs.Names.{Name}
 use Rattle.shared_index.specs.Closings.{AreAll}
 use Rattle.shared_index.specs.Passes.{known_at}
 use Rattle.job_script.specs.Views.{worker_view}
-use Rattle.job_threads.specs.Calls.{AllHeard}
-use Rattle.job_threads.specs.Closings.{Gathers}
-use Rattle.job_threads.specs.Runs.{IsRun}
+use Rattle.job_commands.specs.Calls.{AllHeard}
+use Rattle.job_commands.specs.Closings.{Gathers}
+use Rattle.job_commands.specs.Runs.{IsRun}
 use Rattle.job_threads.proofs.job.run_job.Goals as goal
 
 pub returns : goal.returns

@@ -1,6 +1,6 @@
 use Rattle.std.proofs.Common.{sym, subst}
 use Rattle.std.specs.Option.{option_map}
-use Rattle.job_threads.specs.Commands.{AskedHeld}
+use Rattle.job_threads.specs.Snapshots.{AskedHeld}
 use Rattle.job_threads.proofs.StationLaws.{held_there, held_from}
 use Rattle.job_threads.proofs.passes.ask_snapshot.Goals as goal
 

@@ -2,12 +2,13 @@ use Rattle.std.proofs.Common.{Some, None, refl, sym, subst}
 use Rattle.std.specs.Option.{option_map}
 use Rattle.job_model.specs.Commands.{AskHeld}
 use Rattle.shared_index.specs.Passes.{first_version, known_at}
-use Rattle.job_threads.specs.Histories.{Setup}
-use Rattle.job_threads.specs.Steps.{Step}
+use Rattle.job_commands.specs.Histories.{Setup}
+use Rattle.job_commands.specs.Steps.{Step}
 use Rattle.job_threads.specs.Stations.{station}
-use Rattle.job_threads.proofs.ShowLaws.{seat_told}
-use Rattle.job_threads.proofs.StationLaws.{step_is, under_itself}
-use Rattle.job_threads.proofs.ZoneLaws.{opens_still}
+use Rattle.job_commands.proofs.ShowLaws.{seat_told}
+use Rattle.job_threads.proofs.StationLaws.{step_is}
+use Rattle.job_commands.proofs.StepLaws.{under_itself}
+use Rattle.job_commands.proofs.ZoneLaws.{opens_still}
 use Rattle.job_threads.proofs.worker.run_command.Goals as goal
 
 pub returns-in-Hold-clause-steps : goal.returns-in-Hold-clause-steps

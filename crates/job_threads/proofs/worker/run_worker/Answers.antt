@@ -5,12 +5,13 @@ use Rattle.job_script.specs.Views.{command_view}
 use Rattle.job_script.specs.declared.outcomes.Outcome.{Outcome}
 use Rattle.report_laws.specs.Changes.{AllAsked}
 use Rattle.shared_index.specs.Passes.{known_at}
-use Rattle.job_threads.specs.Calls.{IsHeard, next_number}
+use Rattle.job_commands.specs.Calls.{IsHeard, next_number}
 use Rattle.job_threads.specs.Stations.{station}
-use Rattle.job_threads.specs.Works.{ended}
-use Rattle.job_threads.proofs.ShowLaws.{seat_told}
-use Rattle.job_threads.proofs.CallLaws.{one_more}
-use Rattle.job_threads.proofs.WorkLaws.{WorkerAt, worker_starts, worker_next, worker_ran, worker_back, turn_here, turn_next, said_here}
+use Rattle.job_commands.specs.Works.{ended}
+use Rattle.job_commands.proofs.ShowLaws.{seat_told}
+use Rattle.job_commands.proofs.CallLaws.{one_more}
+use Rattle.job_commands.proofs.WorkLaws.{WorkerAt, worker_starts, worker_ran}
+use Rattle.job_threads.proofs.WorkerLaws.{worker_next, worker_back, turn_here, turn_next, said_here}
 use Rattle.job_threads.proofs.worker.run_worker.Goals as goal
 
 pub loop-place-init : goal.loop-place-init

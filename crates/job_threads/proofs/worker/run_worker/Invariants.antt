@@ -6,12 +6,12 @@ use Rattle.job_model.specs.Commands.{InTurn}
 use Rattle.job_script.specs.Views.{command_view}
 use Rattle.report_laws.specs.Changes.{AllAsked}
 use Rattle.shared_index.specs.Passes.{known_at}
-use Rattle.job_threads.specs.Histories.{Setup}
-use Rattle.job_threads.specs.Calls.{IsHeard, next_number}
-use Rattle.job_threads.specs.Commands.{IsSetup, OpensAt}
+use Rattle.job_commands.specs.Histories.{Setup}
+use Rattle.job_commands.specs.Calls.{IsHeard, next_number}
+use Rattle.job_commands.specs.Commands.{IsSetup, OpensAt}
 use Rattle.job_threads.specs.Stations.{IsPlaced, station}
-use Rattle.job_threads.specs.Works.{Begins, Numbers}
-use Rattle.job_threads.proofs.WorkLaws.{WorkerAt}
+use Rattle.job_commands.specs.Works.{Begins, Numbers}
+use Rattle.job_commands.proofs.WorkLaws.{WorkerAt}
 use Rattle.job_threads.proofs.worker.run_worker.Given as goal
 
 abbrev pub invariant-loop-place : goal.invariant-loop-place

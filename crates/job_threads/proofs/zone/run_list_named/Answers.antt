@@ -2,9 +2,9 @@ use Rattle.std.proofs.Common.{◌≡◌, ◌≤◌, refl, sym, ap, subst}
 use Rattle.shared_index.specs.Openings.{room_in}
 use Rattle.trie_model.specs.Shape.{cells}
 use Rattle.trie_write.specs.Entries.{entries_of_items}
-use Rattle.job_threads.specs.Histories.{Setup}
-use Rattle.job_threads.proofs.OpenLaws.{zone_rises, new_passes, all_open}
-use Rattle.job_threads.proofs.ZoneLaws.{zone_lawful}
+use Rattle.job_commands.specs.Histories.{Setup}
+use Rattle.job_commands.proofs.ZoneLaws.{zone_rises, zone_lawful}
+use Rattle.job_threads.proofs.OpenLaws.{new_passes, all_open}
 use Rattle.job_threads.proofs.zone.run_list_named.Goals as goal
 
 pub open-requires-clause-rising : goal.open-requires-clause-rising

@@ -1,7 +1,7 @@
 use Rattle.std.proofs.Common.{rules}
 use Rattle.job_model.specs.Jobs.{job_of}
 use Rattle.job_script.specs.Views.{job_view}
-use Rattle.job_threads.specs.Histories.{StandsAs}
+use Rattle.job_commands.specs.Histories.{StandsAs}
 use Rattle.trie_write.specs.Entries.{entries_of_items}
 use Rattle.qp_main.specs.Due.{Answers}
 use Rattle.qp_main.proofs.DueLemmas.{job_answers}

@@ -3,7 +3,7 @@ use Rattle.std.proofs.lemmas.List.{length-map}
 use Rattle.std.proofs.lemmas.List.Elements.{All-from_recursion}
 use Rattle.std.specs.List.{AllByRecursion}
 use Rattle.zone_model.specs.Names.{Name}
-use Rattle.job_threads.specs.Histories.{IsZone}
+use Rattle.job_commands.specs.Histories.{IsZone}
 use Rattle.zones_model.specs.Commands.{Command, origins_of}
 use Rattle.zones_report.specs.Outcomes.{all_refused}
 use Rattle.zones_report.specs.Texts.{finished_text}

@@ -4,7 +4,7 @@ use Rattle.std.specs.List.{slice_get}
 use Rattle.std.proofs.lemmas.Option.{slice_get_within}
 use Rattle.shared_index.specs.Closings.{AreAll, Ends}
 use Rattle.shared_index.specs.Passes.{Known, Pinned, known_at, version_seen}
-use Rattle.job_threads.proofs.EndLaws.{all_handed}
+use Rattle.job_commands.proofs.EndLaws.{all_handed}
 use Rattle.zone_table.specs.Passes.{IsPassOf, table_known, zone_known}
 use Rattle.zone_table.specs.Tables.{IsAmong}
 use Rattle.zone_table.proofs.KnownLaws.{seat_told}

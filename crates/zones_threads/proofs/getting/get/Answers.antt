@@ -5,8 +5,8 @@ use Rattle.zone_model.specs.Names.{Name}
 use Rattle.job_model.specs.Commands.{Ask}
 use Rattle.job_model.specs.declared.Question.TheVariants.{Get}
 use Rattle.shared_index.specs.Passes.{Known, version_seen}
-use Rattle.job_threads.specs.Commands.{Asked}
-use Rattle.job_threads.specs.Works.{ended}
+use Rattle.job_commands.specs.Commands.{Asked}
+use Rattle.job_commands.specs.Works.{ended}
 use Rattle.zone_table.specs.Locations.{IsZoneOf}
 use Rattle.zone_table.specs.Passes.{table_known, zone_known}
 use Rattle.zone_table.proofs.Lists.{some_is}

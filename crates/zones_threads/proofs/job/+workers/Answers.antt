@@ -2,8 +2,8 @@ use Rattle.std.proofs.Common.{rules, ◌≡◌, ◌<◌, ◌+◌, List, [], ◌�
 use Rattle.std.specs.List.{AllByRecursion}
 use Rattle.std.proofs.lemmas.List.{nil_from_length}
 use Rattle.std.proofs.lemmas.Option.{slice_get_within}
-use Rattle.job_threads.proofs.CallLaws.{any_ok}
-use Rattle.job_threads.proofs.GatherLaws.{popped, at_ok}
+use Rattle.job_commands.proofs.CallLaws.{any_ok}
+use Rattle.job_commands.proofs.GatherLaws.{popped, at_ok}
 use Rattle.zone_table.specs.Passes.{IsPassOf, table_known, zone_known}
 use Rattle.zone_table.proofs.KnownLaws.{seat_told}
 use Rattle.zone_table.proofs.PassLaws.{zone_told}

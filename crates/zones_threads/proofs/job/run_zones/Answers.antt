@@ -5,7 +5,7 @@ use Rattle.std.proofs.lemmas.Option.{slice_get_within}
 use Rattle.zone_model.specs.Names.{Name}
 use Rattle.zones_model.specs.Outcomes.{passes_for}
 use Rattle.shared_index.specs.Closings.{AreAll}
-use Rattle.job_threads.specs.Histories.{Setup}
+use Rattle.job_commands.specs.Histories.{Setup}
 use Rattle.zone_table.specs.Passes.{table_known, zone_known}
 use Rattle.zone_table.proofs.Lists.{get_in, mapped_at}
 use Rattle.zones_threads.specs.Closings.{table_views, zone_views}

@@ -6,8 +6,8 @@ use Rattle.job_model.specs.Commands.{Block}
 use Rattle.job_script.specs.Views.{asked_view}
 use Rattle.shared_cells.specs.declared.view.TableSize.{TableSize}
 use Rattle.shared_index.specs.Passes.{Known, known_at}
-use Rattle.job_threads.specs.Commands.{BlockRan, IsSetup, OpensAt}
-use Rattle.job_threads.specs.Works.{ended}
+use Rattle.job_commands.specs.Commands.{BlockRan, IsSetup, OpensAt}
+use Rattle.job_commands.specs.Works.{ended}
 use Rattle.zone_table.specs.Passes.{zone_known}
 use Rattle.zone_table.proofs.Lists.{some_is}
 use Rattle.zone_table.proofs.PassLaws.{Went, went, went_as, with_zone, zone_told}

@@ -2,9 +2,9 @@ use Rattle.std.proofs.Common.{◌≡◌, ◌∙◌, ◌≤◌, ◌+◌, ℕ, Lis
 use Rattle.std.proofs.lemmas.List.{take_all, length-map}
 use Rattle.std.specs.List.{AllByRecursion}
 use Rattle.zone_model.specs.Names.{Name}
-use Rattle.job_threads.specs.Calls.{IsHeard, next_number}
-use Rattle.job_threads.proofs.CallLaws.{one_more}
-use Rattle.job_threads.proofs.WorkLaws.{drop_here, take_here}
+use Rattle.job_commands.specs.Calls.{IsHeard, next_number}
+use Rattle.job_commands.proofs.CallLaws.{one_more}
+use Rattle.job_commands.proofs.WorkLaws.{drop_here, take_here}
 use Rattle.zone_table.specs.Passes.{table_known}
 use Rattle.zone_table.proofs.KnownLaws.{seat_told}
 use Rattle.zones_model.specs.Commands.{Command}

@@ -1,7 +1,7 @@
 use Rattle.std.proofs.Common.{◌≡◌, ◌<◌, ℕ, take, drop, map, length}
 use Rattle.std.specs.List.{AllByRecursion}
-use Rattle.job_threads.specs.Calls.{IsHeard, next_number}
-use Rattle.job_threads.specs.Works.{IsNew}
+use Rattle.job_commands.specs.Calls.{IsHeard, next_number}
+use Rattle.job_commands.specs.Works.{IsNew}
 use Rattle.zone_table.specs.Passes.{IsPassOf, table_known}
 use Rattle.zones_threads.specs.Sites.{IsSaid, Opens}
 use Rattle.zones_report.specs.Outcomes.{AreOf, dones_view}

@@ -1,7 +1,7 @@
 use Rattle.std.proofs.Common.{rules, List, ℕ, IfOk, length, subst}
 use Rattle.job_model.specs.Commands.{Command}
 use Rattle.job_script.specs.Views.{worker_view}
-use Rattle.job_threads.specs.Calls.{AreHeard}
+use Rattle.job_commands.specs.Calls.{AreHeard}
 use Rattle.job_threads.proofs.job.fn.run_workers.first.Goals as goal
 
 pub returns : goal.returns

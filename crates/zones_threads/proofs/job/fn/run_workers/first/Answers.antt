@@ -1,5 +1,5 @@
 use Rattle.std.proofs.Common.{List, ℕ, IfOk, length, subst}
-use Rattle.job_threads.specs.Calls.{AreHeard}
+use Rattle.job_commands.specs.Calls.{AreHeard}
 use Rattle.zones_model.specs.Commands.{Command}
 use Rattle.zones_script.specs.Views.{worker_view}
 use Rattle.zones_threads.specs.Gatherings.{HasWorked}

@@ -1,0 +1,212 @@
+-- How a block ends, by what its transaction's calls say.
+use Rattle.std.proofs.Common.{◌≡◌, ◌∙◌, true, ℕ, ◌+◌, ◌*◌, arith, List, Option, Some, None, Result, Ok, Err, IfOk, length, refl, sym, ap, subst}
+use Rattle.std.specs.Prelude.{◌↔◌, OnErr, IsSome, IsSomeAnd, IfSome, IfErr, IsErr, slice_get}
+use Rattle.std.specs.Option.{ForSome}
+use Rattle.atomic_table.specs.Seated.{TableId}
+use Rattle.std.specs.declared.alloc.AllocError.{AllocError}
+use Rattle.zone_model.specs.Names.{Name}
+use Rattle.zone_model.specs.declared.Refusal.{Refusal}
+use Rattle.zone_model.specs.Versions.{Version}
+use Rattle.zone_model.specs.Transactions.{Transaction}
+use Rattle.job_model.specs.declared.Ending.{Ending}
+use Rattle.job_model.specs.declared.Ending.TheVariants as ending
+use Rattle.job_model.specs.Outcomes.{Rule, Full, Spent, Ended, Committed, RolledBack, Refused, last_version}
+use Rattle.job_script.specs.Outcomes.{ended_view}
+use Rattle.job_script.specs.declared.outcomes.Outcome.{Outcome}
+use Rattle.report_laws.specs.Changes.{AllSaid}
+use Rattle.shared_cells.specs.declared.pass.PassSeat.{PassSeat}
+use Rattle.shared_cells.specs.Views.{is_told, pass_of}
+use Rattle.trie_model.specs.Keys.{Entry}
+use Rattle.shared_index.specs.declared.meaning.Operation.{Operation}
+use Rattle.pin_core.specs.declared.version.Spent.{Spent as NoNumber}
+use Rattle.shared_index.specs.declared.commit.Receipt.{Receipt}
+use Rattle.shared_index.specs.declared.desk.Draft.{Draft}
+use Rattle.shared_index.specs.declared.kept.Versions.{Versions}
+use Rattle.shared_index.specs.Passes.{Known, first_version, known_at, version_seen}
+use Rattle.shared_index.specs.Drafts as drafts
+use Rattle.shared_index.specs.Drafts.{Begins, IsBack, Works, working_set}
+use Rattle.chunk_usage.specs.Keeping.{kept_versions}
+use Rattle.shared_index.specs.Keepings.{versions_in}
+use Rattle.zone_edit.specs.Stores.{WorksOnSome, EditsOne}
+use Rattle.zone_edit.specs.Blocks.{Edited, Executes, most_done}
+use Rattle.zone_edit.specs.declared.applying.Halt.{Halt}
+use Rattle.zone_edit.specs.declared.applying.Halt.TheVariants as halts
+use Rattle.zone_edit.proofs.EditLaws.{Both, both, edits_some, some_weaker}
+use Rattle.job_commands.specs.Histories.{IsLawful, Setup, StandsAs}
+use Rattle.job_commands.specs.Commands.{Transacts, Accepts, BlockRan, BlockWants, OpensAt, StoppedBy}
+use Rattle.job_commands.proofs.TransactLaws.{begun_some, lawful_block, commits_block, commits_grow, commits_version, back_grows, back_pass, back_version, memory_wants, full_wants, rolled_back, rule_broken, spent_block, full_block}
+
+abbrev Seat : Type 0
+Seat = PassSeat (List Entry) (List Operation)
+
+abbrev EditedOne : Name → Transaction → Result (Unit {0}) Halt → Draft → Draft → Type 0
+EditedOne origin asked r = EditsOne (most_done asked.operations r) (Executes origin asked r)
+
+there_is : (P : Draft → Type 0) (o : Option Draft) (d : Draft) → o ≡ Some d → IfSome o P → P d
+there_is P o d is h = subst (λ (x : Option Draft). IfSome x P) is h
+
+module _ (s : Setup) (asked : Transaction) (ends : Ending) (old : Known) (o : Outcome) (first second : Option Draft) (told : is_told old.seen.opening ≡ true) (opening : first_version old.seen ≡ s.opening) (begins : IsSomeAnd first (Begins IsLawful old)) where
+  abbrev Done : Result (Unit {0}) Halt → Type 0
+  Done r = Edited s.origin asked r first second
+
+  pub commit_ran : (new : Known) (version : ℕ) → Done (Ok tt) → ends ≡ ending.Commit → IfSome second (λ d. drafts.Commits d.seat.place.me.0 d.log.operations new) → IfSome second (λ d. version ≡ d.seat.version + 1)
+      → o.version ≡ version → ended_view o.told ≡ Committed → BlockRan s asked ends old new o
+  commit_ran new version edits is commits next here said =
+      let x = both (Begins IsLawful old) (EditedOne s.origin asked (Ok tt)) first second begins edits in
+      let c = there_is (λ d. drafts.Commits d.seat.place.me.0 d.log.operations new) second x.after x.new_is commits in
+      let v = there_is (λ d. version ≡ d.seat.version + 1) second x.after x.new_is next in
+      record {
+        grows = commits_grow s asked old x.before x.after x.met told opening x.related.known new c;
+        version = here ∙ commits_version s asked old x.before x.after x.met told opening x.related.known new version c v;
+        transacts = subst (Transacts s asked ends old new) (sym said) (is, commits_block s asked old x.before x.after x.met told opening x.related.known new x.related.few x.related.becomes c);
+      }
+
+  -- the pass is back, and the block was on the base
+  module _ (seat : Option Seat) (version : ℕ) (back : IfSome second (λ d. IsBack d.seat.place.me.0 seat)) (base : IfSome first (λ d. version ≡ length d.seat.place.me.0.seen.history)) (here : o.version ≡ version) where
+    abbrev Two : Result (Unit {0}) Halt → Type 0
+    Two r = Both (Begins IsLawful old) (EditedOne s.origin asked r) first second
+
+    two : (r : Result (Unit {0}) Halt) → Done r → Two r
+    two r edits = both (Begins IsLawful old) (EditedOne s.origin asked r) first second begins edits
+
+    known_back : (r : Result (Unit {0}) Halt) (x : Two r) → known_at seat ≡ pass_of x.after.seat.place.me.0
+    known_back r x = (there_is (λ d. IsBack d.seat.place.me.0 seat) second x.after x.new_is back).1
+
+    ran : (r : Result (Unit {0}) Halt) (x : Two r) (e : Ended) → ended_view o.told ≡ e → Transacts s asked ends old (known_at seat) e → BlockRan s asked ends old (known_at seat) o
+    ran r x e said t = record {
+      grows = back_grows s asked old x.before x.after x.met told opening x.related.known (known_at seat) (known_back r x);
+      version = here ∙ back_version s asked old x.before x.after x.met told opening x.related.known (known_at seat) (known_back r x) version (there_is (λ d. version ≡ length d.seat.place.me.0.seen.history) first x.before x.old_is base);
+      transacts = subst (Transacts s asked ends old (known_at seat)) (sym said) t;
+    }
+
+    pub rollback_ran : Done (Ok tt) → ends ≡ ending.Rollback → ended_view o.told ≡ RolledBack → BlockRan s asked ends old (known_at seat) o
+    rollback_ran edits is said =
+        let x = two (Ok tt) edits in
+        ran (Ok tt) x RolledBack said (rolled_back s asked old x.before x.after x.met told opening x.related.known (known_at seat) (known_back (Ok tt) x) ends is x.related.becomes)
+
+    pub spent_ran : Done (Ok tt) → ends ≡ ending.Commit → IfSome second (λ d. d.seat.version ≡ last_version) → ended_view o.told ≡ Refused Spent → BlockRan s asked ends old (known_at seat) o
+    spent_ran edits is spent said =
+        let x = two (Ok tt) edits in
+        ran (Ok tt) x (Refused Spent) said (spent_block s asked old x.before x.after x.met told opening x.related.known (known_at seat) (known_back (Ok tt) x) ends is (there_is (λ d. d.seat.version ≡ last_version) second x.after x.new_is spent) x.related.becomes)
+
+    pub refused_ran : (refusal : Refusal) → Done (Err (halts.Refused refusal)) → ended_view o.told ≡ Refused (Rule refusal) → BlockRan s asked ends old (known_at seat) o
+    refused_ran refusal edits said =
+        let x = two (Err (halts.Refused refusal)) edits in
+        ran (Err (halts.Refused refusal)) x (Refused (Rule refusal)) said (rule_broken s asked old x.before x.after x.met told opening x.related.known (known_at seat) (known_back (Err (halts.Refused refusal)) x) ends refusal x.related.becomes)
+
+    pub full_ran : (operation : ℕ) (kept : Versions) → IfSome second (λ d. versions_in kept ≡ kept_versions d.usage) → Done (Err (halts.Full operation)) → IfSome second (λ d. s.chunks ≡ length d.usage.given) → IfSome first (λ d. s.passes ≡ d.seat.passes)
+        → ended_view o.told ≡ Refused (Full operation (versions_in kept)) → BlockRan s asked ends old (known_at seat) o
+    full_ran operation kept same edits chunks passes said =
+        let x = two (Err (halts.Full operation)) edits in
+        ran (Err (halts.Full operation)) x (Refused (Full operation (versions_in kept))) said
+        (full_block s asked old x.before x.after x.met told opening x.related.known (known_at seat) (known_back (Err (halts.Full operation)) x) ends operation kept (there_is (λ d. versions_in kept ≡ kept_versions d.usage) second x.after x.new_is same)
+        (there_is (λ d. s.chunks ≡ length d.usage.given) second x.after x.new_is chunks)
+        (there_is (λ d. s.passes ≡ d.seat.passes) first x.before x.old_is passes ∙ sym x.related.passes) x.related.few x.related.becomes)
+
+  -- it was to be committed
+  pub committed_ran : (seat : Option Seat) (r : Result Receipt NoNumber) → Done (Ok tt) → ends ≡ ending.Commit
+      → IfOk r (λ _. IfSome second (λ d. drafts.Commits d.seat.place.me.0 d.log.operations (known_at seat))) → IfOk r (λ t. IfSome second (λ d. t.version ≡ d.seat.version + 1))
+      → IfErr r (λ _. IfSome second (λ d. IsBack d.seat.place.me.0 seat)) → IfSome second (λ d. IsErr r ↔ (d.seat.version ≡ last_version)) → IfErr r (λ t. IfSome second (λ d. t.version ≡ d.seat.version))
+      → IfOk r (λ t. (o.version ≡ t.version) × (ended_view o.told ≡ Committed)) → IfErr r (λ t. (o.version ≡ t.version) × (ended_view o.told ≡ Refused Spent)) → BlockRan s asked ends old (known_at seat) o
+  committed_ran seat (Ok t) edits is commits next back spent last made lost = commit_ran (known_at seat) t.version edits is commits next made.0 made.1
+  committed_ran seat (Err t) edits is commits next back spent last made lost =
+      let x = both (Begins IsLawful old) (EditedOne s.origin asked (Ok tt)) first second begins edits in
+      let number : t.version ≡ x.after.seat.version = there_is (λ d. t.version ≡ d.seat.version) second x.after x.new_is last in
+      let history : length x.after.seat.place.me.0.seen.history ≡ length x.before.seat.place.me.0.seen.history = ap length x.related.known.history in
+      let base : t.version ≡ length x.before.seat.place.me.0.seen.history = number ∙ x.after.seat.version_is ∙ history in
+      let none = there_is (λ d. IsErr {T = Receipt} (Err t) ↔ (d.seat.version ≡ last_version)) second x.after x.new_is spent in
+      spent_ran seat t.version back (subst (λ (d : Option Draft). IfSome d (λ d. t.version ≡ length d.seat.place.me.0.seen.history)) (sym x.old_is) base) lost.0 edits is
+      (subst (λ (d : Option Draft). IfSome d (λ d. d.seat.version ≡ last_version)) (sym x.new_is) (none.0 refl)) lost.1
+
+-- its asked stopped
+pub stopped_ran : (s : Setup) (asked : Transaction) (ends : Ending) (old : Known) (first second : Option Draft) → is_told old.seen.opening ≡ true → first_version old.seen ≡ s.opening → IsSomeAnd first (Begins IsLawful old)
+    → (seat : Option Seat) (version : ℕ) (halt : Halt) (kept : Versions) (r : Result Outcome AllocError) → IfSome second (λ d. versions_in kept ≡ kept_versions d.usage) → IfSome second (λ d. IsBack d.seat.place.me.0 seat) → IfSome first (λ d. version ≡ length d.seat.place.me.0.seen.history) → Edited s.origin asked (Err halt) first second
+    → IfSome second (λ d. s.chunks ≡ length d.usage.given) → IfSome first (λ d. s.passes ≡ d.seat.passes) → StoppedBy halt kept version r → IfOk r (BlockRan s asked ends old (known_at seat))
+stopped_ran s asked ends old first second told opening begins seat version halts.Memory kept (Ok o) same back base edits chunks passes stopped = absurd cc
+stopped_ran s asked ends old first second told opening begins seat version halts.Memory kept (Err e) same back base edits chunks passes stopped = tt
+stopped_ran s asked ends old first second told opening begins seat version (halts.Refused refusal) kept (Ok o) same back base edits chunks passes stopped =
+    refused_ran s asked ends old o first second told opening begins seat version back base stopped.1 refusal edits stopped.0
+stopped_ran s asked ends old first second told opening begins seat version (halts.Refused refusal) kept (Err e) same back base edits chunks passes stopped = absurd stopped
+stopped_ran s asked ends old first second told opening begins seat version (halts.Full operation) kept (Ok o) same back base edits chunks passes stopped =
+    full_ran s asked ends old o first second told opening begins seat version back base stopped.1 operation kept same edits chunks passes stopped.0
+stopped_ran s asked ends old first second told opening begins seat version (halts.Full operation) kept (Err e) same back base edits chunks passes stopped = tt
+
+-- it stopped, and memory was wanting
+module _ (s : Setup) (asked : Transaction) (old : Known) (first second : Option Draft) (told : is_told old.seen.opening ≡ true) (opening : first_version old.seen ≡ s.opening) (begins : IsSomeAnd first (Begins IsLawful old)) (seat : Option Seat) (back : IfSome second (λ d. IsBack d.seat.place.me.0 seat)) where
+  abbrev Drafts : Halt → Type 0
+  Drafts halt = Both (Begins IsLawful old) (EditedOne s.origin asked (Err halt)) first second
+
+  back_from : (halt : Halt) (x : Drafts halt) → known_at seat ≡ pass_of x.after.seat.place.me.0
+  back_from halt x = (there_is (λ d. IsBack d.seat.place.me.0 seat) second x.after x.new_is back).1
+
+  wants : (halt : Halt) (x : Drafts halt) → ((zone : Version) → StandsAs (version_seen (known_at seat).seen) zone → Accepts s.origin asked zone) → BlockWants s asked old (known_at seat)
+  wants halt x accepts = record {
+    grows = back_grows s asked old x.before x.after x.met told opening x.related.known (known_at seat) (back_from halt x);
+    pass = back_pass s asked old x.before x.after x.met told opening x.related.known (known_at seat) (back_from halt x);
+    accepts = accepts;
+  }
+
+  pub stopped_wants : (version : ℕ) (halt : Halt) (kept : Versions) (r : Result Outcome AllocError) → Edited s.origin asked (Err halt) first second → StoppedBy halt kept version r → OnErr r (BlockWants s asked old (known_at seat))
+  stopped_wants version halt kept (Ok o) edits stopped = tt
+  stopped_wants version halts.Memory kept (Err e) edits stopped =
+      let x = both (Begins IsLawful old) (EditedOne s.origin asked (Err halts.Memory)) first second begins edits in
+      wants halts.Memory x (memory_wants s asked old x.before x.after x.met told opening x.related.known (known_at seat) (back_from halts.Memory x) x.related.becomes)
+  stopped_wants version (halts.Refused refusal) kept (Err e) edits stopped = absurd stopped
+  stopped_wants version (halts.Full operation) kept (Err e) edits stopped =
+      let x = both (Begins IsLawful old) (EditedOne s.origin asked (Err (halts.Full operation))) first second begins edits in
+      wants (halts.Full operation) x (full_wants s asked old x.before x.after x.met told opening x.related.known (known_at seat) (back_from (halts.Full operation) x) operation x.related.becomes)
+
+-- the same of a pass that is known by another name
+
+pub ran_as : (s : Setup) (asked : Transaction) (ends : Ending) (old new new' : Known) (o : Outcome) → BlockRan s asked ends old new o → new' ≡ new → BlockRan s asked ends old new' o
+ran_as s asked ends old new new' o ran same = subst (λ (v : Known). BlockRan s asked ends old v o) (sym same) ran
+
+pub result_as : (s : Setup) (asked : Transaction) (ends : Ending) (old new new' : Known) (r : Result Outcome AllocError) → IfOk r (BlockRan s asked ends old new) → new' ≡ new → IfOk r (BlockRan s asked ends old new')
+result_as s asked ends old new new' r ran same = subst (λ (v : Known). IfOk r (BlockRan s asked ends old v)) (sym same) ran
+
+pub wants_as : (s : Setup) (asked : Transaction) (old new new' : Known) (r : Result Outcome AllocError) → OnErr r (BlockWants s asked old new) → new' ≡ new → OnErr r (BlockWants s asked old new')
+wants_as s asked old new new' r wants same = subst (λ (v : Known). OnErr r (BlockWants s asked old v)) (sym same) wants
+
+-- ---- what calls ask of a transaction
+
+module _ (old : Known) (first : Option Draft) (begins : IsSomeAnd first (Begins IsLawful old)) where
+  pub begun_there : IsSome first
+  begun_there = by_draft first begins
+    where
+      by_draft : (o : Option Draft) → IsSomeAnd o (Begins IsLawful old) → IsSome o
+      by_draft (Some d) b = refl
+      by_draft None b = absurd b
+
+  pub begun_works : IsSomeAnd first WorksOnSome
+  begun_works = some_weaker (Begins IsLawful old) WorksOnSome first (begun_some old) begins
+
+  module _ (origin : Name) (asked : Transaction) (second : Option Draft) (edits : Edited origin asked (Ok tt) first second) where
+    works_still : IsSomeAnd second WorksOnSome
+    works_still = edits_some (most_done asked.operations (Ok tt)) (Executes origin asked (Ok tt)) first second begun_works (λ version e a. record { version = a.0; on = a.2 }) edits
+
+    pub after_works : IsSomeAnd second Works
+    after_works = some_weaker WorksOnSome Works second (λ d w. w.on.works) works_still
+
+    pub after_lawful : is_told old.seen.opening ≡ true → OpensAt origin old → AllSaid origin asked → IsSomeAnd second (λ d. IsLawful (first_version d.seat.place.me.0.seen) (working_set d))
+    after_lawful told opens said =
+        let x = both (Begins IsLawful old) (EditedOne origin asked (Ok tt)) first second begins edits in
+        subst (λ (o : Option Draft). IsSomeAnd o (λ d. IsLawful (first_version d.seat.place.me.0.seen) (working_set d))) (sym x.new_is) (lawful_block origin asked old x.before x.after x.met told opens said x.related.known x.related.becomes)
+
+-- what was edited, in the words of a setup
+pub edits_as : (origin origin' : Name) (asked asked' : Transaction) (r : Result (Unit {0}) Halt) (first second : Option Draft) → origin' ≡ origin → asked ≡ asked' → Edited origin asked r first second → Edited origin' asked' r first second
+edits_as origin origin' asked asked' r first second e f edits =
+    subst (λ (o : Name). Edited o asked' r first second) (sym e) (subst (λ (os : Transaction). Edited origin os r first second) f edits)
+
+pub has_passes : (s : Setup) (passes : ℕ) (first : Option Draft) → s.passes ≡ passes → IsSomeAnd first (λ d. d.seat.passes ≡ passes) → IfSome first (λ d. s.passes ≡ d.seat.passes)
+has_passes s passes (Some d) same has = same ∙ sym has
+has_passes s passes None same has = absurd has
+
+-- ---- a transaction has as many chunks as its index, by the table that both are on
+
+pub full_chunks : (names : List TableId) (place place' chunks : ℕ) (a b : TableId) (second : Option Draft) → slice_get names place ≡ Some a → slice_get names place' ≡ Some b → place' ≡ place → 4161 + 2048 * chunks ≡ a.words → ForSome second (λ d. d.seat.place.table_id ≡ b) → IfSome second (λ d. chunks ≡ length d.usage.given)
+full_chunks names place place' chunks a b None is_a is_b same wide there = tt
+full_chunks names place place' chunks a b (Some d) is_a is_b same wide there =
+    let table : ◌≡◌ {A = Option TableId} (Some a) (Some b) = sym is_a ∙ ap (slice_get names) (sym same) ∙ is_b in
+    let words : a.words ≡ b.words = (let e : a ≡ b = cc in ap (λ (t : TableId). t.words) e) in
+    let mine : 4161 + 2048 * length d.usage.given ≡ b.words = d.wide ∙ ap (λ (t : TableId). t.words) (there d refl) in
+    omega (arith, wide, words, mine)

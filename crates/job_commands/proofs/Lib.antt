@@ -1,0 +1,13 @@
+pub mod HistoryLaws
+pub mod ZoneLaws
+pub mod ShowLaws
+pub mod StepLaws
+pub mod WorkLaws
+pub mod JobLaws
+pub mod CloseLaws
+pub mod TransactLaws
+pub mod BlockLaws
+pub mod CallLaws
+pub mod CompactionLaws
+pub mod GatherLaws
+pub mod EndLaws

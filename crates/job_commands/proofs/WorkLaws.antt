@@ -1,0 +1,315 @@
+-- How a worker's run goes on by one command.
+use Rattle.std.proofs.Common.{◌≡◌, ◌∙◌, inl, inr, ℕ, ◌+◌, ◌-◌, ◌<◌, ◌≤◌, Bool, true, false, cond, ◌&&◌, eqb, List, [], ◌∷◌, ◌++◌, length, map, take, drop, get_or, Some, None, refl, sym, ap, subst, arith, append_assoc, length-append}
+use Rattle.std.specs.Prelude.{Contains}
+use Rattle.std.proofs.lemmas.Bool.{cases_eq}
+use Rattle.std.proofs.lemmas.List.{map_more, drop_more}
+use Rattle.std.proofs.lemmas.List.Elements.{Contains-append_left, Contains-append_right}
+use Rattle.std.specs.List.{AllByRecursion}
+use Rattle.zone_model.specs.Names.{Name}
+use Rattle.zone_model.specs.Versions.{Version}
+use Rattle.job_model.specs.Commands.{Command, InTurn}
+use Rattle.job_model.specs.Outcomes.{Setting, Pair, is_committed, made, asked_by, times_made, Sight, at_first, sight_after, EndsLawfully, Along, shown_by, shown_in}
+use Rattle.job_script.specs.Outcomes.{ended_view, outcome_view, pairs_of, Tells, EachTells}
+use Rattle.job_script.specs.declared.outcomes.Outcome.{Outcome as Told_outcome}
+use Rattle.shared_cells.specs.declared.view.PassView.{PassView}
+use Rattle.shared_cells.specs.History.{StartsWith, entries_by, entry_of, version_after}
+use Rattle.shared_index.specs.declared.meaning.Operation.{Operation}
+use Rattle.shared_index.specs.Operations.{applied}
+use Rattle.shared_index.specs.Passes.{Known, first_version}
+use Rattle.job_commands.specs.Histories.{Setup, Commit, Entries, index_at, StandsAs, AreVersions, judged_by, times_by}
+use Rattle.job_commands.specs.Steps.{Station, HoldsLast, IsSight, IsUnder, Adds, Stays, Writes, Step}
+use Rattle.job_commands.specs.Works.{Replayed, Work, Numbers, Begins, WorkerRan, ended}
+use Rattle.job_commands.proofs.HistoryLaws.{begins_same, begins_more, begins_length, begins_other, last_commit, index_front, index_last, versions_front, explains_front, by-push, times_front, times_past, times_there, times_else}
+
+abbrev pub Pairs : Type 0
+Pairs = List Pair
+
+abbrev pub Own : Type 0
+Own = PassView (List Operation)
+
+-- ---- facts about all elements, and lists that grow
+
+pub all-push : {X : Type 0} (P : X → Type 0) (xs : List X) (x : X) → AllByRecursion P xs → P x → AllByRecursion P (xs ++ x ∷ [])
+all-push P [] x a p = (p, tt)
+all-push P (y ∷ xs) x a p = (a.0, all-push P xs x a.1 p)
+
+pub all_weaker : {X : Type 0} (P Q : X → Type 0) (xs : List X) → ((x : X) → P x → Q x) → AllByRecursion P xs → AllByRecursion Q xs
+all_weaker P Q [] f a = tt
+all_weaker P Q (x ∷ xs) f a = (f x a.0, all_weaker P Q xs f a.1)
+
+-- two facts of each give a third
+pub all_both : {X : Type 0} (P Q R : X → Type 0) (xs : List X) → ((x : X) → P x → Q x → R x) → AllByRecursion P xs → AllByRecursion Q xs → AllByRecursion R xs
+all_both P Q R [] f a b = tt
+all_both P Q R (x ∷ xs) f a b = (f x a.0 b.0, all_both P Q R xs f a.1 b.1)
+
+abbrev pub sight_behind : Sight → Pairs → Sight
+sight_behind sight [] = sight
+sight_behind sight (p ∷ pairs) = sight_behind (sight_after sight p.0 p.1.version) pairs
+
+pub sight_behind-push : (sight : Sight) (pairs : Pairs) (p : Pair) → sight_behind sight (pairs ++ p ∷ []) ≡ sight_after (sight_behind sight pairs) p.0 p.1.version
+sight_behind-push sight [] p = refl
+sight_behind-push sight (q ∷ pairs) p = sight_behind-push (sight_after sight q.0 q.1.version) pairs p
+
+along-push : (s : Setting) (sight : Sight) (pairs : Pairs) (p : Pair) → Along s sight pairs → EndsLawfully s (sight_behind sight pairs) p.0 p.1.version p.1.ended → Along s sight (pairs ++ p ∷ [])
+along-push s sight [] p l e = (e, tt)
+along-push s sight (q ∷ pairs) p l e = (l.0, along-push s (sight_after sight q.0 q.1.version) pairs p l.1 e)
+
+each-push : (origin : Name) (set : ℕ → Version) (cs : List Command) (os : List Told_outcome) (c : Command) (o : Told_outcome) → EachTells origin set cs os → Tells origin set c o → EachTells origin set (cs ++ c ∷ []) (os ++ o ∷ [])
+each-push origin set [] [] c o t u = (u, tt)
+each-push origin set [] (p ∷ os) c o t u = absurd t
+each-push origin set (d ∷ cs) [] c o t u = absurd t
+each-push origin set (d ∷ cs) (p ∷ os) c o t u = (t.0, each-push origin set cs os c o t.1 u)
+
+-- as many outcomes as commands
+abbrev pub Alike : List Command → List Told_outcome → Type 0
+Alike cs os = length cs ≡ length os
+
+pub pairs-push : (cs : List Command) (os : List Told_outcome) (c : Command) (o : Told_outcome) → Alike cs os → pairs_of (cs ++ c ∷ []) (os ++ o ∷ []) ≡ pairs_of cs os ++ (c, outcome_view o) ∷ []
+pairs-push [] [] c o e = refl
+pairs-push [] (p ∷ os) c o e = absurd (omega arith)
+pairs-push (d ∷ cs) [] c o e = absurd (omega arith)
+pairs-push (d ∷ cs) (p ∷ os) c o e = ap (λ (l : Pairs). (d, outcome_view p) ∷ l) (pairs-push cs os c o (omega arith))
+
+pub shown-append : (xs ys : Pairs) → shown_in (xs ++ ys) ≡ shown_in xs ++ shown_in ys
+shown-append [] ys = refl
+shown-append (x ∷ xs) ys = ap (λ (l : List ℕ). shown_by x.0 x.1.version ++ l) (shown-append xs ys) ∙ sym (append_assoc (shown_by x.0 x.1.version) (shown_in xs) (shown_in ys))
+
+shown_before : (xs : Pairs) (p : Pair) (v : ℕ) → Contains (shown_in xs) v → Contains (shown_in (xs ++ p ∷ [])) v
+shown_before xs p v here = subst (λ (l : List ℕ). Contains l v) (sym (shown-append xs (p ∷ []))) (Contains-append_left (shown_in xs) (shown_in (p ∷ [])) v here)
+
+shown_now : (xs : Pairs) (p : Pair) (v : ℕ) → Contains (shown_by p.0 p.1.version) v → Contains (shown_in (xs ++ p ∷ [])) v
+shown_now xs p v here =
+    subst (λ (l : List ℕ). Contains l v) (sym (shown-append xs (p ∷ [])))
+    (Contains-append_right (shown_in xs) (shown_in (p ∷ [])) v (Contains-append_left (shown_by p.0 p.1.version) [] v here))
+
+pub times-append : (j : ℕ) (xs ys : Pairs) → times_made j (xs ++ ys) ≡ times_made j xs + times_made j ys
+times-append j [] ys = let e : times_made j ys ≡ 0 + times_made j ys = omega arith in e
+times-append j (x ∷ xs) ys =
+    ap (λ (n : ℕ). cond (made j x) 1 0 + n) (times-append j xs ys)
+    ∙ (let e : cond (made j x) 1 0 + (times_made j xs + times_made j ys) ≡ (cond (made j x) 1 0 + times_made j xs) + times_made j ys = omega arith in e)
+
+times-push : (j : ℕ) (xs : Pairs) (p : Pair) (b : Bool) → made j p ≡ b → times_made j (xs ++ p ∷ []) ≡ times_made j xs + cond b 1 0
+times-push j xs p b e = times-append j xs (p ∷ []) ∙ ap (λ (x : Bool). times_made j xs + (cond x 1 0 + 0)) e ∙ (let z : times_made j xs + (cond b 1 0 + 0) ≡ times_made j xs + cond b 1 0 = omega arith in z)
+
+and-false : (b : Bool) → (b && false) ≡ false
+and-false true = refl
+and-false false = refl
+
+-- ---- histories that grow
+
+pub replayed_more : (s : Setup) (all part : List Commit) → StartsWith all part → (p : Pair) → p.1.version ≤ length part → Replayed s part p → Replayed s all p
+replayed_more s all part b p le r = λ c.
+    let was = r c in
+    let below : p.1.version - 1 ≤ length part = omega (arith, le) in (
+      was.0,
+      (λ before e begins numbered. was.1 before e (begins_other all (before ++ e ∷ []) part begins b (omega (arith, le, numbered, length-append before (e ∷ [])))) numbered),
+      (λ base stands.
+          let made = was.2 base (subst (λ (es : Entries). StandsAs es base) (index_front s.opening all part (p.1.version - 1) b below) stands) in
+          (made.0, made.1, subst (λ (es : Entries). StandsAs es made.0) (sym (index_front s.opening all part p.1.version b le)) made.2)),
+    )
+
+-- ---- how far a worker has come
+
+pub record WorkerAt (s : Setup) (numbers : Numbers) (t : Station) (done ahead : List Command) (os : List Told_outcome) : Type 0 where
+  pub alike : Alike done os
+  pub sight : IsSight t (sight_behind at_first (pairs_of done os))
+  pub under : IsUnder t.asks t.holds
+  pub told : (set : ℕ → Version) → AreVersions s t.asks.seen.history set → EachTells s.origin set done os
+  pub work : Work s t (pairs_of done os)
+  pub asker : work.asker.number ≡ numbers.asker
+  pub holder : work.holder.number ≡ numbers.holder
+  pub turn : InTurn t.held ahead
+
+-- what was written, and what was seen: the worker's own part of the history so far
+record Grown (s : Setup) (numbers : Numbers) (t : Station) (pairs : Pairs) : Type 0 where
+  replayed : AllByRecursion (Replayed s t.asks.seen.history) pairs
+  asker : Own
+  is_asker : t.asks.pass ≡ Some asker
+  number : asker.number ≡ numbers.asker
+  committed : List Commit
+  front : StartsWith t.asks.seen.history committed
+  mine : asker.entries ≡ entries_by asker.number committed
+  made : (j : ℕ) → times_made j pairs ≡ times_by asker.number j committed
+  pinned : (v : ℕ) → Contains asker.pinned v → Contains (shown_in pairs) v
+
+grows_same : (s : Setup) (numbers : Numbers) (old new : Station) (pairs : Pairs) (p : Pair) (w : Work s old pairs) → w.asker.number ≡ numbers.asker → StartsWith new.asks.seen.history old.asks.seen.history → is_committed p.1.ended ≡ false
+    → Stays p.0 p.1.version w.asker new.asks → Grown s numbers new (pairs ++ p ∷ [])
+grows_same s numbers old new pairs p w number grows plain y = record {
+  replayed = all-push (Replayed s new.asks.seen.history) pairs p
+      (all_both (λ (q : Pair). q.1.version ≤ length old.asks.seen.history) (Replayed s old.asks.seen.history) (Replayed s new.asks.seen.history) pairs
+      (λ q le r. replayed_more s new.asks.seen.history old.asks.seen.history grows q le r) w.none_above w.replayed)
+      (λ c. absurd (let e : true ≡ false = sym c ∙ plain in cc));
+  asker = y.now;
+  is_asker = y.pass;
+  number = y.number ∙ number;
+  committed = w.committed;
+  front = begins_more new.asks.seen.history old.asks.seen.history w.committed grows w.front;
+  mine = y.entries ∙ w.mine ∙ ap (λ (n : ℕ). entries_by n w.committed) (sym y.number);
+  made = λ j. times-push j pairs p false (ap (λ (b : Bool). b && eqb p.1.version j) plain) ∙ (let z : times_made j pairs + 0 ≡ times_made j pairs = omega arith in z)
+      ∙ w.made j ∙ ap (λ (n : ℕ). times_by n j w.committed) (sym y.number);
+  pinned = λ v here. elim (y.pinned v here) [
+    | inl was ↦ shown_before pairs p v (w.pinned v (inl was))
+    | inr now ↦ shown_now pairs p v now
+  ];
+}
+
+grows_more : (s : Setup) (numbers : Numbers) (old new : Station) (pairs : Pairs) (p : Pair) (w : Work s old pairs) → w.asker.number ≡ numbers.asker → StartsWith new.asks.seen.history old.asks.seen.history → is_committed p.1.ended ≡ true
+    → Adds s w.asker p.0 p.1.version old.asks new.asks → Grown s numbers new (pairs ++ p ∷ [])
+grows_more s numbers old new pairs p w number grows commits a =
+    let n = w.asker.number in
+    let longer : length new.asks.seen.history ≡ length a.base + 1 = ap length a.history ∙ length-append a.base (entry_of w.asker.number a.operations ∷ []) in
+    let base_front : StartsWith new.asks.seen.history a.base = (entry_of w.asker.number a.operations ∷ [], a.history) in
+    let was_front : StartsWith a.base w.committed = begins_more a.base old.asks.seen.history w.committed a.before w.front in
+    let same : (j : ℕ) → times_by w.asker.number j a.base ≡ times_by w.asker.number j w.committed = λ j. times_front w.asker.number j a.base w.committed was_front (sym a.mine ∙ w.mine) in
+    let before_it : p.1.version - 1 ≡ length a.base = omega (arith, a.numbered) in
+    let last : p.1.version ≡ length new.asks.seen.history = omega (arith, a.numbered, longer) in
+    record {
+      replayed = all-push (Replayed s new.asks.seen.history) pairs p
+          (all_both (λ (q : Pair). q.1.version ≤ length old.asks.seen.history) (Replayed s old.asks.seen.history) (Replayed s new.asks.seen.history) pairs
+          (λ q le r. replayed_more s new.asks.seen.history old.asks.seen.history grows q le r) w.none_above w.replayed)
+          (λ _. (
+            omega (arith, a.numbered),
+            (λ before e begins here.
+                let same = last_commit a.base before (entry_of n a.operations) e (subst (λ (h : List Commit). StartsWith h (before ++ e ∷ [])) a.history begins) (omega (arith, here, a.numbered)) in
+                subst (λ (x : Commit). length x.change ≤ length (asked_by p.0).operations) same a.short),
+            (λ zone stands.
+                let in_base : index_at s.opening new.asks.seen.history (p.1.version - 1) ≡ version_after applied s.opening a.base =
+                index_front s.opening new.asks.seen.history a.base (p.1.version - 1) base_front (omega (arith, before_it)) ∙ index_last s.opening a.base (p.1.version - 1) before_it in
+                let made = a.makes zone (subst (λ (es : Entries). StandsAs es zone) in_base stands) in
+                (made.0, made.1, subst (λ (es : Entries). StandsAs es made.0) (sym (index_last s.opening new.asks.seen.history p.1.version last)) made.2)),
+          ));
+      asker = record w.asker { entries = w.asker.entries ++ entry_of w.asker.number a.operations ∷ [] };
+      is_asker = a.pass;
+      number = number;
+      committed = new.asks.seen.history;
+      front = begins_same new.asks.seen.history;
+      mine = ap (λ (l : List Commit). l ++ entry_of w.asker.number a.operations ∷ []) a.mine ∙ sym (by-push w.asker.number a.base a.operations) ∙ ap (entries_by w.asker.number) (sym a.history);
+      made = λ j. elim (cases_eq j p.1.version) [
+        | inl e ↦
+            let here : made j p ≡ true = (let t : eqb p.1.version j ≡ true = grind arith in ap (λ (b : Bool). b && eqb p.1.version j) commits ∙ t) in
+            let past : length a.base < j = omega (arith, e, a.numbered) in
+            let none : times_made j pairs ≡ 0 = w.made j ∙ sym (same j) ∙ times_past w.asker.number j a.base past in
+            times-push j pairs p true here ∙ (let z : times_made j pairs + 1 ≡ 1 = omega (arith, none) in z)
+            ∙ sym (ap (times_by w.asker.number j) a.history ∙ times_there w.asker.number j a.base a.operations (omega (arith, e, a.numbered)))
+        | inr m ↦
+            let here : made j p ≡ false = (let t : eqb p.1.version j ≡ false = grind arith in ap (λ (b : Bool). is_committed p.1.ended && b) t ∙ and-false (is_committed p.1.ended)) in
+            times-push j pairs p false here ∙ (let z : times_made j pairs + 0 ≡ times_made j pairs = omega arith in z) ∙ w.made j ∙ sym (same j)
+            ∙ sym (ap (times_by w.asker.number j) a.history ∙ times_else w.asker.number j a.base (entry_of w.asker.number a.operations) (λ e. m (omega (arith, e, a.numbered))))
+      ];
+      pinned = λ v here. shown_before pairs p v (w.pinned v (inl here));
+    }
+
+grows : (s : Setup) (numbers : Numbers) (old new : Station) (pairs : Pairs) (p : Pair) (w : Work s old pairs) (committed : Bool) → w.asker.number ≡ numbers.asker → StartsWith new.asks.seen.history old.asks.seen.history → is_committed p.1.ended ≡ committed
+    → Writes s w.asker p.0 p.1.version committed old.asks new.asks → Grown s numbers new (pairs ++ p ∷ [])
+grows s numbers old new pairs p w true number g c a = grows_more s numbers old new pairs p w number g c a
+grows s numbers old new pairs p w false number g c y = grows_same s numbers old new pairs p w number g c y
+
+pub worker_begins : (s : Setup) (t : Station) (asker holder : Own) (commands : List Command) → first_version t.asks.seen ≡ s.opening → t.asks.pass ≡ Some asker → t.holds.pass ≡ Some holder → asker.entries ≡ [] → holder.entries ≡ [] → asker.pinned ≡ [] → holder.pinned ≡ []
+    → IsUnder t.asks t.holds → t.held ≡ false → InTurn false commands → WorkerAt s (record { asker = asker.number; holder = holder.number }) t [] commands []
+worker_begins s t asker holder commands opened is_asker is_holder none none_held unpinned unpinned_held under free turn = record {
+  alike = refl;
+  sight = record { seen = omega arith; held = subst (λ (b : Bool). HoldsLast t b None) (sym free) refl };
+  under = under;
+  told = λ set are. tt;
+  work = record {
+    opened = opened;
+    along = λ set deeds are explains. tt;
+    none_above = tt;
+    replayed = tt;
+    asker = asker;
+    is_asker = is_asker;
+    holder = holder;
+    is_holder = is_holder;
+    committed = [];
+    front = (t.asks.seen.history, refl);
+    mine = none;
+    made = λ j. refl;
+    none_held = none_held;
+    pinned = λ v here. elim here [
+      | inl a ↦ subst (λ (l : List ℕ). Contains l v) unpinned a
+      | inr b ↦ subst (λ (l : List ℕ). Contains l v) unpinned_held b
+    ];
+  };
+  asker = refl;
+  holder = refl;
+  turn = subst (λ (b : Bool). InTurn b commands) (sym free) turn;
+}
+
+pub worker_goes_on : (s : Setup) (numbers : Numbers) (old new : Station) (done : List Command) (c : Command) (behind : List Command) (os : List Told_outcome) (o : Told_outcome) → first_version new.asks.seen ≡ first_version old.asks.seen
+    → WorkerAt s numbers old done (c ∷ behind) os → Step s c o old new → WorkerAt s numbers new (done ++ c ∷ []) behind (os ++ o ∷ [])
+worker_goes_on s numbers old new done c behind os o opened w step =
+    let p : Pair = (c, outcome_view o) in
+    let pairs = pairs_of done os in
+    let more : pairs_of (done ++ c ∷ []) (os ++ o ∷ []) ≡ pairs_of done os ++ (c, outcome_view o) ∷ [] = pairs-push done os c o w.alike in
+    let g = grows s numbers old new (pairs_of done os) (c, outcome_view o) w.work (is_committed (ended_view o.told)) w.asker step.asks.history refl (step.writes w.work.asker w.work.is_asker) in
+    let h = step.kept w.work.holder w.work.is_holder in
+    let long = begins_length new.asks.seen.history old.asks.seen.history step.asks.history in
+    let one : length (done ++ c ∷ []) ≡ length (os ++ o ∷ []) = omega (arith, w.alike, length-append done (c ∷ []), length-append os (o ∷ [])) in
+    record {
+      alike = one;
+      sight = subst (IsSight new) (sym (ap (sight_behind at_first) more ∙ sight_behind-push at_first (pairs_of done os) (c, outcome_view o))) (step.holding (sight_behind at_first (pairs_of done os)) w.sight);
+      under = step.under;
+      told = λ set are. each-push s.origin set done os c o (w.told set (versions_front s new.asks.seen.history old.asks.seen.history set step.asks.history are)) (step.tells set are);
+      work = record {
+        opened = opened ∙ w.work.opened;
+        along = λ set deeds are explains. subst (Along (judged_by s set deeds) at_first) (sym more)
+            (along-push (judged_by s set deeds) at_first (pairs_of done os) (c, outcome_view o)
+            (w.work.along set deeds (versions_front s new.asks.seen.history old.asks.seen.history set step.asks.history are) (explains_front deeds new.asks.seen old.asks.seen step.asks explains))
+            (step.ends (sight_behind at_first (pairs_of done os)) w.sight set deeds are explains));
+        none_above = subst (AllByRecursion (λ (q : Pair). q.1.version ≤ length new.asks.seen.history)) (sym more)
+            (all-push (λ (q : Pair). q.1.version ≤ length new.asks.seen.history) (pairs_of done os) (c, outcome_view o)
+            (all_weaker (λ (q : Pair). q.1.version ≤ length old.asks.seen.history) (λ (q : Pair). q.1.version ≤ length new.asks.seen.history) (pairs_of done os) (λ q le. omega (arith, le, long)) w.work.none_above) step.below);
+        replayed = subst (AllByRecursion (Replayed s new.asks.seen.history)) (sym more) g.replayed;
+        asker = g.asker;
+        is_asker = g.is_asker;
+        holder = h.now;
+        is_holder = h.pass;
+        committed = g.committed;
+        front = g.front;
+        mine = g.mine;
+        made = λ j. ap (times_made j) more ∙ g.made j;
+        none_held = h.entries ∙ w.work.none_held;
+        pinned = λ v here. subst (λ (l : Pairs). Contains (shown_in l) v) (sym more) (elim here [
+          | inl a ↦ g.pinned v a
+          | inr b ↦ elim (h.pinned v b) [
+            | inl was ↦ shown_before (pairs_of done os) (c, outcome_view o) v (w.work.pinned v (inr was))
+            | inr now ↦ shown_now (pairs_of done os) (c, outcome_view o) v now
+          ]
+        ]);
+      };
+      asker = g.number;
+      holder = h.number ∙ w.holder;
+      turn = subst (λ (b : Bool). InTurn b behind) (sym step.held) w.turn.1;
+    }
+
+pub worker_ran : (s : Setup) (numbers : Numbers) (t : Station) (commands done ahead : List Command) (os : List Told_outcome) → done ≡ commands → WorkerAt s numbers t done ahead os → WorkerRan s numbers t commands os
+worker_ran s numbers t commands done ahead os all w =
+    subst (λ (l : List Command). WorkerRan s numbers t l os) all (record { told = w.told; work = w.work; asker = w.asker; holder = w.holder })
+
+-- two passes that have done nothing, and no snapshot is held
+pub worker_starts : (s : Setup) (numbers : Numbers) (asks spare : Known) (commands : List Command) → Begins s numbers asks spare → InTurn false commands → WorkerAt s numbers (ended asks spare) [] commands []
+worker_starts s numbers asks spare commands b turn =
+    let under : IsUnder asks spare = record {
+      opening = b.holder.opened ∙ sym b.asker.opened;
+      history = (asks.seen.history, sym (ap (λ (l : List Commit). l ++ asks.seen.history) b.holder.no_history));
+    } in
+    let w = worker_begins s (ended asks spare) b.asker.own b.holder.own commands b.asker.opened b.asker.is_own b.holder.is_own b.asker.none b.holder.none b.asker.unpinned b.holder.unpinned under refl turn in
+    record {
+      alike = w.alike;
+      sight = w.sight;
+      under = w.under;
+      told = w.told;
+      work = w.work;
+      asker = w.asker ∙ b.asker.numbered;
+      holder = w.holder ∙ b.holder.numbered;
+      turn = w.turn;
+    }
+
+-- ---- a list and its elements, as they are seen
+
+-- an element and what stands behind it
+pub drop_here : {X Y : Type 0} (view : X → Y) (xs : List X) (i : ℕ) (here : X) → i < length xs → here ≡ get_or xs i here → map view (drop i xs) ≡ view here ∷ map view (drop (i + 1) xs)
+drop_here view xs i here lt is = ap (map view) (drop_more xs i here lt ∙ ap (λ (x : _). x ∷ drop (i + 1) xs) (sym is))
+
+pub take_here : {X Y : Type 0} (view : X → Y) (xs : List X) (i : ℕ) (here : X) → i < length xs → here ≡ get_or xs i here → map view (take (i + 1) xs) ≡ map view (take i xs) ++ view here ∷ []
+take_here view xs i here lt is = map_more view xs i here lt ∙ ap (λ (x : _). map view (take i xs) ++ view x ∷ []) (sym is)

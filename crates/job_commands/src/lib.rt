@@ -1,0 +1,19 @@
+//! Runs one command of a job on the index that its workers share, and says what it came to: a question to the current version, a
+//! transaction or a compaction. What workers come to by such commands is in its laws.
+#![tactic(auto)]
+
+mod asking;
+mod compactions;
+mod gate;
+mod law;
+mod replying;
+mod room;
+mod transactions;
+
+pub use asking::run_question;
+pub use compactions::run_compaction;
+pub use gate::Gate;
+pub use law::ZoneLaw;
+pub use replying::reply_text;
+pub use room::Room;
+pub use transactions::run_block;

@@ -1,0 +1,206 @@
+//! Transactions.
+ghost use Rattle.std.specs.Prelude.{◌≡◌, IsSome, IsSomeAnd, IfOk, IfErr, OnErr};
+ghost use Rattle.job_model.specs.Outcomes.{Committed, Refused, Spent as NoNumber};
+ghost use Rattle.job_script.specs.Outcomes.{ended_view, EndsBlock};
+ghost use Rattle.job_script.specs.Views.{asked_view};
+ghost use Rattle.report_laws.specs.Changes.{AllSaid};
+ghost use Rattle.shared_index.specs.Passes.{known_at};
+ghost use Rattle.shared_index.specs.Keepings.{versions_in};
+ghost use Rattle.zone_edit.specs.Stores.{WorksOnSome};
+ghost use Rattle.zone_edit.specs.Blocks.{Edited};
+ghost use Rattle.job_commands.specs.Histories.{Setup};
+ghost use Rattle.job_commands.specs.Commands.{IsSetup, BlockRan, BlockWants, OpensAt, StoppedBy};
+ghost use Rattle.job_commands.specs.Weights.{IsOfWeight};
+
+use crate::law::ZoneLaw;
+use dns_name::Name;
+use job_model::{Ending, Weight};
+use job_script::{Block, Cause, Outcome, Told};
+use shared_index::{Index, Locked, Named, Pass, Receipt, Spent, Transaction, Versions};
+use std::alloc::{AllocError, Global};
+use std::sync::Wait;
+use zone_edit::{Halt, ItemBuffers, execute};
+
+// The kept versions, as an outcome has them.
+fn kept_list(alloc: Global, kept: &Versions) -> Result<Vec<u64>, AllocError>
+    ensures { IfOk result (λ list. list.items ≡ versions_in kept.now) }
+{
+    kept.as_slice().iter().copied().collect(alloc)
+}
+
+// How a block ends that is refused.
+fn refused(version: u64, cause: Cause) -> Outcome
+    ensures version { result.version ≡ version }
+    ensures cause { result.told ≡ Told.Refused cause }
+{
+    Outcome {
+        version,
+        told: Told::Refused(cause),
+    }
+}
+
+// How a block ends whose operations stopped, while these versions are kept. Of these a list is made where there is no room.
+fn stopped(alloc: Global, version: u64, halt: Halt, kept: &Versions) -> Result<Outcome, AllocError>
+    ensures stopped { StoppedBy halt kept.now version result }
+    ensures ends { IfOk result (λ o. EndsBlock o.told) }
+{
+    match halt {
+        Halt::Memory => Err(AllocError),
+        Halt::Refused(refusal) => Ok(refused(version, Cause::Rule(refusal))),
+        Halt::Full { operation } => {
+            let kept = kept_list(alloc, kept)?;
+            Ok(refused(version, Cause::Full { operation, kept }))
+        }
+    }
+}
+
+// How a block ends that was to be committed.
+fn committed(receipt: Result<Receipt, Spent>) -> Outcome
+    ensures made { IfOk receipt (λ r. (result.version ≡ r.version) × (ended_view result.told ≡ Committed)) }
+    ensures spent { IfErr receipt (λ s. (result.version ≡ s.version) × (ended_view result.told ≡ Refused NoNumber)) }
+    ensures ends { EndsBlock result.told }
+{
+    match receipt {
+        Ok(receipt) => Outcome {
+            version: receipt.version,
+            told: Told::Committed,
+        },
+        Err(spent) => Outcome {
+            version: spent.version,
+            told: Told::Refused(Cause::Spent),
+        },
+    }
+}
+
+// Makes a block's changes in a transaction that began as its weight says: a heavy block's cells begin a chunk of their own, and a
+// light one's go on in the bump chunk.
+fn edit<N: Named, K>(
+    alloc: Global,
+    origin: &Name,
+    transaction: &mut Transaction<'_, '_, ZoneLaw, N, K>,
+    block: &Block,
+    buffers: &mut ItemBuffers,
+) -> Result<(), Halt>
+    requires works { IsSomeAnd transaction.old.locked.now.draft WorksOnSome }
+    requires weight { IsSomeAnd transaction.old.locked.now.draft (IsOfWeight block.now.weight) }
+    ensures same_reference { (transaction.new.home.ghost_name ≡ transaction.old.home.ghost_name) × (transaction.new.locked.ghost_name ≡ transaction.old.locked.ghost_name) }
+    ensures place { transaction.new.locked.now.place ≡ transaction.old.locked.now.place }
+    ensures executes { Edited origin.now (asked_view block.now) result transaction.old.locked.now.draft transaction.new.locked.now.draft }
+{
+    execute(
+        alloc,
+        origin,
+        transaction,
+        &block.needs,
+        &block.operations,
+        buffers,
+    )
+}
+
+// Runs a block as a light transaction, by way of buffers for items.
+fn write_block<R: Wait, N: Named>(
+    rt: &R,
+    alloc: Global,
+    origin: &Name,
+    index: &Index<ZoneLaw, N>,
+    pass: &mut Pass<N>,
+    block: &Block,
+    buffers: &mut ItemBuffers,
+) -> Result<Outcome, AllocError>
+    requires here { IsSome pass.old.seat }
+    requires place { pass.old.place ≡ index.now.place }
+    requires light { block.now.weight ≡ Weight.Light }
+    requires opens { OpensAt origin.now (known_at pass.old.seat) }
+    requires said { AllSaid origin.now (asked_view block.now) }
+    ensures here { IsSome pass.new.seat }
+    ensures place { pass.new.place ≡ pass.old.place }
+    ensures ends { IfOk result (λ o. EndsBlock o.told) }
+    ensures ran { (s : Setup) → IsSetup s origin.now index.now.shared.table.shared.key (known_at pass.old.seat)
+        → IfOk result (BlockRan s (asked_view block.now) block.now.ending (known_at pass.old.seat) (known_at pass.new.seat)) }
+    ensures wants { (s : Setup) → IsSetup s origin.now index.now.shared.table.shared.key (known_at pass.old.seat)
+        → OnErr result (BlockWants s (asked_view block.now) (known_at pass.old.seat) (known_at pass.new.seat)) }
+{
+    let mut locked = Locked::of(index);
+    let mut write = index.write(rt, &mut locked, pass);
+    let version = write.version();
+    if let Err(halt) = edit(alloc, origin, &mut write, block, buffers) {
+        return stopped(alloc, version, halt, &write.kept());
+    }
+    match block.ending {
+        Ending::Commit => Ok(committed(write.commit())),
+        Ending::Rollback => Ok(Outcome {
+            version,
+            told: Told::RolledBack,
+        }),
+    }
+}
+
+// Runs a block as a heavy transaction.
+fn update_block<R: Wait, N: Named>(
+    rt: &R,
+    alloc: Global,
+    origin: &Name,
+    index: &Index<ZoneLaw, N>,
+    pass: &mut Pass<N>,
+    block: &Block,
+    buffers: &mut ItemBuffers,
+) -> Result<Outcome, AllocError>
+    requires here { IsSome pass.old.seat }
+    requires place { pass.old.place ≡ index.now.place }
+    requires heavy { block.now.weight ≡ Weight.Heavy }
+    requires opens { OpensAt origin.now (known_at pass.old.seat) }
+    requires said { AllSaid origin.now (asked_view block.now) }
+    ensures here { IsSome pass.new.seat }
+    ensures place { pass.new.place ≡ pass.old.place }
+    ensures ends { IfOk result (λ o. EndsBlock o.told) }
+    ensures ran { (s : Setup) → IsSetup s origin.now index.now.shared.table.shared.key (known_at pass.old.seat)
+        → IfOk result (BlockRan s (asked_view block.now) block.now.ending (known_at pass.old.seat) (known_at pass.new.seat)) }
+    ensures wants { (s : Setup) → IsSetup s origin.now index.now.shared.table.shared.key (known_at pass.old.seat)
+        → OnErr result (BlockWants s (asked_view block.now) (known_at pass.old.seat) (known_at pass.new.seat)) }
+{
+    let mut locked = Locked::of(index);
+    let mut update = index.update(rt, &mut locked, pass);
+    let version = update.version();
+    if let Err(halt) = edit(alloc, origin, &mut update, block, buffers) {
+        return stopped(alloc, version, halt, &update.kept());
+    }
+    match block.ending {
+        Ending::Commit => Ok(committed(update.commit())),
+        Ending::Rollback => {
+            update.rollback();
+            Ok(Outcome {
+                version,
+                told: Told::RolledBack,
+            })
+        }
+    }
+}
+
+/// Runs a block: its operations are all made the next version, or none. Its outcome's version is the one that it made, or else the
+/// one that it was on.
+pub fn run_block<R: Wait, N: Named>(
+    rt: &R,
+    alloc: Global,
+    origin: &Name,
+    index: &Index<ZoneLaw, N>,
+    pass: &mut Pass<N>,
+    block: &Block,
+    buffers: &mut ItemBuffers,
+) -> Result<Outcome, AllocError>
+    requires here { IsSome pass.old.seat }
+    requires place { pass.old.place ≡ index.now.place }
+    requires opens { OpensAt origin.now (known_at pass.old.seat) }
+    requires said { AllSaid origin.now (asked_view block.now) }
+    ensures here { IsSome pass.new.seat }
+    ensures place { pass.new.place ≡ pass.old.place }
+    ensures ends { IfOk result (λ o. EndsBlock o.told) }
+    ensures ran { (s : Setup) → IsSetup s origin.now index.now.shared.table.shared.key (known_at pass.old.seat)
+        → IfOk result (BlockRan s (asked_view block.now) block.now.ending (known_at pass.old.seat) (known_at pass.new.seat)) }
+    ensures wants { (s : Setup) → IsSetup s origin.now index.now.shared.table.shared.key (known_at pass.old.seat)
+        → OnErr result (BlockWants s (asked_view block.now) (known_at pass.old.seat) (known_at pass.new.seat)) }
+{
+    match block.weight {
+        Weight::Light => write_block(rt, alloc, origin, index, pass, block, buffers),
+        Weight::Heavy => update_block(rt, alloc, origin, index, pass, block, buffers),
+    }
+}
