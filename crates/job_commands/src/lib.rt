@@ -12,7 +12,7 @@ mod transactions;
 
 pub use asking::run_question;
 pub use compactions::run_compaction;
-pub use gate::Gate;
+pub use gate::{Gate, counted, tell_after, tell_before};
 pub use law::ZoneLaw;
 pub use replying::reply_text;
 pub use room::Room;

@@ -18,12 +18,11 @@ ghost use Rattle.job_commands.specs.Closings.{Gathers};
 ghost use Rattle.job_threads.specs.Feeds.{FedHeard, IsFedRun, IsServed, commands_at, commands_served, done_seat, outcomes_served, seats_served};
 
 use crate::alone::run_alone;
-use crate::gate::{tell_after, tell_before};
 use crate::job::close_index;
 use crate::ordering::{Served, in_order};
 use dns_name::Name;
 use feed_core::{Feed, FeedSeat};
-use job_commands::{Gate, Room, ZoneLaw};
+use job_commands::{Gate, Room, ZoneLaw, tell_after, tell_before};
 use job_script::{Command, FedOutcome, Outcomes};
 use shared_index::{Index, Named, Pass};
 use std::alloc::{AllocError, Global};

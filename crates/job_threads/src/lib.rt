@@ -4,7 +4,6 @@
 mod alone;
 mod dumping;
 mod feeding;
-mod gate;
 mod holding;
 mod job;
 mod ordering;

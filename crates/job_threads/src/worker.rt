@@ -7,17 +7,16 @@ ghost use Rattle.job_script.specs.Views.{command_view};
 ghost use Rattle.report_laws.specs.Changes.{AllAsked};
 ghost use Rattle.shared_index.specs.Passes.{known_at};
 ghost use Rattle.job_commands.specs.Histories.{Setup};
-ghost use Rattle.job_commands.specs.Calls.{AreHeard, next_number};
+ghost use Rattle.job_commands.specs.Calls.{AreHeard};
 ghost use Rattle.job_commands.specs.Commands.{IsSetup, OpensAt};
 ghost use Rattle.job_commands.specs.Steps.{IsUnder, Step};
 ghost use Rattle.job_threads.specs.Stations.{IsPlaced, holder_view, station};
 ghost use Rattle.job_commands.specs.Works.{Begins, Numbers, WorkerRan, ended};
 
 use crate::alone::run_alone;
-use crate::gate::{tell_after, tell_before};
 use crate::passes::{Passes, ask_snapshot, give_back, second_pass, take_snapshot};
 use dns_name::Name;
-use job_commands::{Gate, Room, ZoneLaw};
+use job_commands::{Gate, Room, ZoneLaw, counted, tell_after, tell_before};
 use job_script::{Command, Outcome, Outcomes};
 use shared_index::{Index, Named, Pass};
 use std::alloc::{AllocError, Global};
@@ -84,13 +83,6 @@ fn run_command<'i, R: Wait, N: Named>(
             Ok(outcome)
         }
     }
-}
-
-// A place in a list, counted from 1.
-fn counted(place: usize) -> u32
-    ensures { result ≡ next_number place }
-{
-    u32::try_from(place.saturating_add(1)).unwrap_or(u32::MAX)
 }
 
 /// Runs a worker's commands, each between the gate's two calls.

@@ -4,7 +4,6 @@
 mod changing;
 mod closing;
 mod ending;
-mod gate;
 mod getting;
 mod job;
 mod opening;

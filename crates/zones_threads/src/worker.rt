@@ -1,6 +1,6 @@
 //! A worker that runs its commands.
 ghost use Rattle.std.specs.Prelude.{◌≡◌, IfOk, length, map};
-ghost use Rattle.job_commands.specs.Calls.{AreHeard, next_number};
+ghost use Rattle.job_commands.specs.Calls.{AreHeard};
 ghost use Rattle.zone_table.specs.Passes.{IsPassOf};
 ghost use Rattle.zones_threads.specs.Gatherings.{HasWorked, MayWork};
 ghost use Rattle.zones_threads.specs.Sites.{IsSaid, Opens};
@@ -8,10 +8,9 @@ ghost use Rattle.zones_threads.specs.Steps.{Goes};
 ghost use Rattle.zones_script.specs.Views.{command_view};
 
 use crate::changing::{attach, detach};
-use crate::gate::{tell_after, tell_before};
 use crate::getting::get;
 use crate::transactions::change_zone;
-use job_commands::{Gate, Room, ZoneLaw};
+use job_commands::{Gate, Room, ZoneLaw, counted, tell_after, tell_before};
 use shared_index::Named;
 use std::alloc::{AllocError, Global};
 use std::sync::Wait;
@@ -54,13 +53,6 @@ fn run_command<R: Wait, N: Named>(
         Command::Attach(zone) => Ok(attach(rt, zones, pass, *zone)),
         Command::Detach(zone) => Ok(detach(rt, zones, pass, *zone)),
     }
-}
-
-// A place in a list, counted from 1.
-fn counted(place: usize) -> u32
-    ensures { result ≡ next_number place }
-{
-    u32::try_from(place.saturating_add(1)).unwrap_or(u32::MAX)
 }
 
 /// Runs a worker's commands, each between the gate's two calls.
