@@ -123,5 +123,6 @@ pub fn push_record(
     push_type(set.rtype(), out)?;
     out.push(b' ')?;
     push_data_in(set.rtype(), octets, origin_of(directives), out)?;
-    out.extend_from_slice(b"\n")
+    out.push(b'\n')?;
+    Ok(())
 }
