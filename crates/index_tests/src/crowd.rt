@@ -1,5 +1,5 @@
 //! Passes in threads of their own, beside each other.
-ghost use Rattle.std.specs.Prelude.{◌≡◌, IsSome};
+ghost use Rattle.std.specs.Prelude.{◌≡◌};
 ghost use Rattle.trie_read.specs.Readings.{IsHeld};
 ghost use Rattle.shared_cells.specs.Views.{pinned_image};
 ghost use Rattle.shared_index.specs.Passes.{version_seen};
@@ -8,13 +8,14 @@ ghost use Rattle.shared_index.specs.Meanings.{Holds};
 use crate::buffer::Buffer;
 use crate::course::{NAMES, due, name_at, visit_of};
 use crate::items::numbered;
+use crate::readers::{Due, read_all};
 use crate::worker::{Any, Worker, pair, tag, walk};
-use shared_index::{Index, Named, Pass, Snapshot};
+use shared_index::{Named, Snapshot};
 use shift_key::Key;
 use std::alloc::Global;
 use std::sync::Wait;
 use std::sync::atomic::{AtomicU32, Ordering};
-use std::thread::{Threads, join, map_vec};
+use std::thread::{Threads, join};
 use trie_read::Reading;
 use trie_write::Item;
 
@@ -53,7 +54,7 @@ fn commit_on<N: Named, R: Wait>(rt: &R, alloc: Global, writer: Worker<N>, done: 
     let mut writer = writer;
     let mut last = 0;
     for number in 0..100 {
-        if let Some(receipt) = writer.renumber(rt, alloc, number + 2, 600) {
+        if let Ok(receipt) = writer.renumber(rt, alloc, number + 2, 600) {
             last = receipt.version;
         }
     }
@@ -130,7 +131,12 @@ fn count<V: Reading>(reading: &mut V, version: u64) -> u64
 }
 
 /// Whether a version has as many names as its number says, and what it should have at each 25th of their places.
-fn fits<V: Reading>(reading: &mut V, names: &[Item], version: u64, buffer: &mut Buffer) -> bool
+pub(crate) fn has_names<V: Reading>(
+    reading: &mut V,
+    names: &[Item],
+    version: u64,
+    buffer: &mut Buffer,
+) -> bool
     requires { IsHeld (V.holds reading.old) }
     ensures { reading.new ≡ reading.old }
 {
@@ -149,43 +155,6 @@ fn fits<V: Reading>(reading: &mut V, names: &[Item], version: u64, buffer: &mut 
     right && counted == names_due
 }
 
-/// The version that a query shows, and whether it has the names that it should have.
-fn look<N: Named>(
-    index: &Index<Any, N>,
-    pass: &mut Pass<N>,
-    names: &[Item],
-    buffer: &mut Buffer,
-) -> (u64, bool)
-    requires here { IsSome pass.old.seat }
-    requires place { pass.old.place ≡ index.now.place }
-    ensures here { IsSome pass.new.seat }
-    ensures place { pass.new.place ≡ index.now.place }
-{
-    let mut query = pass.query(index);
-    let version = query.version();
-    (version, fits(&mut query, names, version, buffer))
-}
-
-/// Asks until the last version is there. Whether all was right, and no version older than the one before.
-fn read_on<N: Named>(alloc: Global, worker: Worker<N>, names: &[Item], last: u64) -> bool {
-    let Some(mut buffer) = Buffer::new(alloc) else {
-        return false;
-    };
-    let Worker { index, mut pass } = worker;
-    let mut seen = 0;
-    for _ in 0..ASKED {
-        let (version, right) = look(index, &mut pass, names, &mut buffer);
-        if !right || version < seen {
-            return false;
-        }
-        if version == last {
-            break;
-        }
-        seen = version;
-    }
-    true
-}
-
 /// Makes one transaction of the course. Whether a version was made, and all that was to be moved for it found room.
 fn take_turn<N: Named, R: Wait>(
     rt: &R,
@@ -198,7 +167,7 @@ fn take_turn<N: Named, R: Wait>(
     match numbered(alloc, name_at(visit.place), number.wrapping_add(1), octets) {
         Some(item) => writer
             .write(rt, &item, visit.act)
-            .is_some_and(|receipt| receipt.whole),
+            .is_ok_and(|receipt| receipt.whole),
         None => false,
     }
 }
@@ -208,7 +177,7 @@ fn write_on<N: Named, R: Wait>(
     rt: &R,
     alloc: Global,
     writer: Worker<N>,
-    names: &[Item],
+    due: Due<'_>,
     last: u64,
 ) -> bool {
     let mut writer = writer;
@@ -220,8 +189,7 @@ fn write_on<N: Named, R: Wait>(
     let Some(mut buffer) = Buffer::new(alloc) else {
         return false;
     };
-    let Worker { index, mut pass } = writer;
-    look(index, &mut pass, names, &mut buffer) == (last, true)
+    writer.sees(due, &mut buffer) == (last, true)
 }
 
 /// The names of the course. None for want of memory.
@@ -231,28 +199,6 @@ fn names(alloc: Global) -> Option<Vec<Item>> {
         names.push(numbered(alloc, name_at(place), 0, 12)?).ok()?;
     }
     Some(names)
-}
-
-/// All ask beside each other. Whether all was right.
-fn read_all<N: Named + Send + Sync, R: Threads + Sync>(
-    rt: &R,
-    alloc: Global,
-    workers: Vec<Worker<N>>,
-    names: &[Item],
-    last: u64,
-) -> bool {
-    // What is inferred of a closure isn't proved where its argument has a lifetime, so it has a clause.
-    let read = map_vec(
-        rt,
-        workers,
-        &|worker: Worker<N>| -> bool
-            ensures { Unit {0} }
-        { read_on(alloc, worker, names, last) },
-    );
-    match read {
-        Ok(read) => read.iter().all(|right| *right),
-        Err(_) => false,
-    }
 }
 
 /// One makes so many transactions of the course, and all others ask: which names are there, and each of them.
@@ -265,10 +211,11 @@ pub(crate) fn crowd<N: Named + Send + Sync, R: Threads + Wait + Sync>(
     let names = names(alloc)?;
     let mut workers = workers;
     let writer = workers.pop()?;
+    let due = Due::Names(names.as_slice());
     let (written, read) = join(
         rt,
-        || write_on(rt, alloc, writer, names.as_slice(), last),
-        || read_all(rt, alloc, workers, names.as_slice(), last),
+        || write_on(rt, alloc, writer, due, last),
+        || read_all(rt, alloc, workers, due, ASKED, last),
     );
     Some(written && read)
 }

@@ -14,6 +14,8 @@ mod items;
 #[cfg(test)]
 mod long_items;
 #[cfg(test)]
+mod readers;
+#[cfg(test)]
 mod rewriting;
 #[cfg(test)]
 mod rows;

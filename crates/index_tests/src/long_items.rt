@@ -1,16 +1,17 @@
 //! Items of all lengths at which the number of their extents changes, in the shared table: exchanged for each other, and read while they
 //! are exchanged.
-ghost use Rattle.std.specs.Prelude.{◌≡◌, IsSome};
+ghost use Rattle.std.specs.Prelude.{◌≡◌};
 ghost use Rattle.trie_read.specs.Readings.{IsHeld};
 
 use crate::buffer::Buffer;
-use crate::worker::{Act, Any, Worker, alone};
+use crate::readers::{Due, read_all};
+use crate::worker::{Act, Worker, alone};
 use dns_name::Name;
-use shared_index::{Index, Named, Pass};
+use shared_index::Named;
 use shift_key::Key;
 use std::alloc::Global;
 use std::sync::Wait;
-use std::thread::{Threads, join, map_vec};
+use std::thread::{Threads, join};
 use trie_read::Reading;
 use trie_write::Item;
 
@@ -58,30 +59,17 @@ fn has<V: Reading>(reading: &mut V, item: &Item, buffer: &mut Buffer) -> bool
     }
 }
 
-/// Whether a query shows this item.
-fn shows<N: Named>(
-    index: &Index<Any, N>,
-    pass: &mut Pass<N>,
-    item: &Item,
-    buffer: &mut Buffer,
-) -> bool
-    requires here { IsSome pass.old.seat }
-    requires place { pass.old.place ≡ index.now.place }
-    ensures here { IsSome pass.new.seat }
-    ensures place { pass.new.place ≡ index.now.place }
-{
-    let mut query = pass.query(index);
-    has(&mut query, item, buffer)
-}
-
 impl<N: Named> Worker<'_, N> {
+    /// Whether a query shows this item.
+    fn shows(&mut self, item: &Item, buffer: &mut Buffer) -> bool {
+        let mut query = self.pass.query(self.index);
+        has(&mut query, item, buffer)
+    }
+
     /// Commits one change of the root's item. Whether a query then shows what was put there, or nothing.
     fn is_put<R: Wait>(&mut self, rt: &R, item: &Item, act: Act, buffer: &mut Buffer) -> bool {
-        if self.write(rt, item, act).is_none() {
-            return false;
-        }
         let there = !matches!(act, Act::Out);
-        shows(self.index, &mut self.pass, item, buffer) == there
+        self.write(rt, item, act).is_ok() && self.shows(item, buffer) == there
     }
 }
 
@@ -155,7 +143,12 @@ fn are_of(octets: &[u8], number: u64) -> bool {
 }
 
 /// Whether the item of a key is that of the version of this number, from version 1 on.
-fn fits<V: Reading>(reading: &mut V, key: &Key, version: u64, buffer: &mut Buffer) -> bool
+pub(crate) fn has_item<V: Reading>(
+    reading: &mut V,
+    key: &Key,
+    version: u64,
+    buffer: &mut Buffer,
+) -> bool
     requires { IsHeld (V.holds reading.old) }
     ensures { reading.new ≡ reading.old }
 {
@@ -165,43 +158,6 @@ fn fits<V: Reading>(reading: &mut V, key: &Key, version: u64, buffer: &mut Buffe
     }
 }
 
-/// The version that a query shows, and whether it has its item.
-fn look<N: Named>(
-    index: &Index<Any, N>,
-    pass: &mut Pass<N>,
-    key: &Key,
-    buffer: &mut Buffer,
-) -> (u64, bool)
-    requires here { IsSome pass.old.seat }
-    requires place { pass.old.place ≡ index.now.place }
-    ensures here { IsSome pass.new.seat }
-    ensures place { pass.new.place ≡ index.now.place }
-{
-    let mut query = pass.query(index);
-    let version = query.version();
-    (version, fits(&mut query, key, version, buffer))
-}
-
-/// Asks until the last version is there. Whether each version had its item, and none was older than the one before.
-fn read_on<N: Named>(alloc: Global, worker: Worker<N>, key: &Key, last: u64) -> bool {
-    let Some(mut buffer) = Buffer::new(alloc) else {
-        return false;
-    };
-    let Worker { index, mut pass } = worker;
-    let mut seen = 0;
-    for _ in 0..ASKED {
-        let (version, right) = look(index, &mut pass, key, &mut buffer);
-        if !right || version < seen {
-            return false;
-        }
-        if version == last {
-            break;
-        }
-        seen = version;
-    }
-    true
-}
-
 /// Exchanges the first name's item so often. Whether a version was made each time.
 fn write_on<N: Named, R: Wait>(rt: &R, alloc: Global, writer: Worker<N>, last: u64) -> bool {
     let mut writer = writer;
@@ -209,33 +165,11 @@ fn write_on<N: Named, R: Wait>(rt: &R, alloc: Global, writer: Worker<N>, last: u
         let Some(item) = item_of(alloc, number + 1) else {
             return false;
         };
-        if writer.write(rt, &item, Act::Exchange).is_none() {
+        if writer.write(rt, &item, Act::Exchange).is_err() {
             return false;
         }
     }
     true
-}
-
-/// All ask beside each other. Whether all was right.
-fn read_all<N: Named + Send + Sync, R: Threads + Sync>(
-    rt: &R,
-    alloc: Global,
-    workers: Vec<Worker<N>>,
-    key: &Key,
-    last: u64,
-) -> bool {
-    // What is inferred of a closure isn't proved where its argument has a lifetime, so it has a clause.
-    let read = map_vec(
-        rt,
-        workers,
-        &|worker: Worker<N>| -> bool
-            ensures { Unit {0} }
-        { read_on(alloc, worker, key, last) },
-    );
-    match read {
-        Ok(read) => read.iter().all(|right| *right),
-        Err(_) => false,
-    }
 }
 
 /// One exchanges the first name's item, and all others read it.
@@ -252,7 +186,7 @@ pub(crate) fn read_while_exchanged<N: Named + Send + Sync, R: Threads + Wait + S
     let (written, read) = join(
         rt,
         || write_on(rt, alloc, writer, last),
-        || read_all(rt, alloc, workers, &key, last),
+        || read_all(rt, alloc, workers, Due::Item(&key), ASKED, last),
     );
     Some(written && read)
 }

@@ -24,7 +24,7 @@ fn turn_over<N: Named, R: Wait>(
     match numbered(alloc, name_of(turn), turn, 100) {
         Some(item) => worker
             .update(rt, &item, act)
-            .is_some_and(|receipt| receipt.whole),
+            .is_ok_and(|receipt| receipt.whole),
         None => false,
     }
 }

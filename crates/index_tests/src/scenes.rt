@@ -8,12 +8,11 @@ use crate::items::numbered;
 use crate::long_items::{exchanged, read_while_exchanged};
 use crate::rewriting::{compacted, rewritten};
 use crate::rows::{LARGE, dropped, full, held, in_turn, kept, rolled_back, told};
-use crate::worker::{Act, Any, Worker, workers, write};
+use crate::worker::{Act, Any, Worker, workers};
 use shared_index::{Blank, Index, Named};
 use std::alloc::Global;
 use std::marker::Brand;
 use std::sync::Wait;
-use std::test::Fail;
 use std::thread::Threads;
 use trie_write::Item;
 
@@ -124,10 +123,13 @@ fn close<N: Named, R: Wait>(
     let Ok((index, mut passes)) = Index::<Any, N>::open(alloc, blank, 0, items) else {
         return None;
     };
-    let Some(mut writer) = passes.pop() else {
-        return None;
+    let pass = passes.pop()?;
+    let mut writer = Worker {
+        index: &index,
+        pass,
     };
-    let _receipt = write(rt, &index, &mut writer, second, Act::In);
+    let _receipt = writer.write(rt, second, Act::In);
+    drop(writer);
     match closing {
         Closing::ByOthers => Some(index.close(passes)),
         Closing::ByNobody => Some(index.close(Vec::new(alloc))),
@@ -143,140 +145,93 @@ fn play_close<R: Wait>(rt: &R, alloc: Global, closing: Closing) -> Option<u64> {
 }
 
 #[test]
-fn a_snapshot_stays_and_the_next_is_newer(rt: HostRuntime) -> Result<(), Fail> {
-    assert_eq!(rt; play(&rt, rt.alloc(), 64, 2, 600, Scene::Held), Some(true));
-    Ok(())
+fn a_snapshot_stays_and_the_next_is_newer(rt: HostRuntime) {
+    assert!(rt; play(&rt, rt.alloc(), 64, 2, 600, Scene::Held) == Some(true));
 }
 
 #[test]
-fn a_snapshot_stays_while_others_commit(rt: HostRuntime) -> Result<(), Fail> {
-    assert_eq!(rt; play(&rt, rt.alloc(), 16, 2, 12, Scene::InTurn), Some(true));
-    Ok(())
+fn a_snapshot_stays_while_others_commit(rt: HostRuntime) {
+    assert!(rt; play(&rt, rt.alloc(), 16, 2, 12, Scene::InTurn) == Some(true));
 }
 
 #[test]
-fn a_note_tells_of_a_commit(rt: HostRuntime) -> Result<(), Fail> {
-    assert_eq!(rt; play(&rt, rt.alloc(), 64, 2, 600, Scene::Told), Some(true));
-    Ok(())
+fn a_note_tells_of_a_commit(rt: HostRuntime) {
+    assert!(rt; play(&rt, rt.alloc(), 64, 2, 600, Scene::Told) == Some(true));
 }
 
 #[test]
-fn a_working_set_is_gone_after_a_rollback(rt: HostRuntime) -> Result<(), Fail> {
-    assert_eq!(rt;
-        play(&rt, rt.alloc(), 16, 2, 600, Scene::RolledBack),
-        Some(true)
-    );
-    Ok(())
+fn a_working_set_is_gone_after_a_rollback(rt: HostRuntime) {
+    assert!(rt; play(&rt, rt.alloc(), 16, 2, 600, Scene::RolledBack) == Some(true));
 }
 
 #[test]
-fn dropped_transactions_take_nothing(rt: HostRuntime) -> Result<(), Fail> {
-    assert_eq!(rt;
-        play(&rt, rt.alloc(), 16, 1, 4096, Scene::Dropped),
-        Some(true)
-    );
-    Ok(())
+fn dropped_transactions_take_nothing(rt: HostRuntime) {
+    assert!(rt; play(&rt, rt.alloc(), 16, 1, 4096, Scene::Dropped) == Some(true));
 }
 
 // Of 21 chunks 5 are kept free. The other 16 have room for 64 versions: the first, and one that each pass but the writer's holds.
 #[test]
-fn held_versions_fill_the_table(rt: HostRuntime) -> Result<(), Fail> {
-    assert_eq!(rt;
-        play(&rt, rt.alloc(), 21, 64, LARGE, Scene::Full),
-        Some(true)
-    );
-    Ok(())
+fn held_versions_fill_the_table(rt: HostRuntime) {
+    assert!(rt; play(&rt, rt.alloc(), 21, 64, LARGE, Scene::Full) == Some(true));
 }
 
 #[test]
-fn a_version_is_kept_while_it_is_read(rt: HostRuntime) -> Result<(), Fail> {
-    assert_eq!(rt; play(&rt, rt.alloc(), 64, 2, 4096, Scene::Kept), Some(true));
-    Ok(())
+fn a_version_is_kept_while_it_is_read(rt: HostRuntime) {
+    assert!(rt; play(&rt, rt.alloc(), 64, 2, 4096, Scene::Kept) == Some(true));
 }
 
 #[test]
-fn two_queries_at_once(rt: HostRuntime) -> Result<(), Fail> {
-    assert_eq!(rt;
-        play(&rt, rt.alloc(), 16, 2, 600, Scene::AtOnce),
-        Some(true)
-    );
-    Ok(())
+fn two_queries_at_once(rt: HostRuntime) {
+    assert!(rt; play(&rt, rt.alloc(), 16, 2, 600, Scene::AtOnce) == Some(true));
 }
 
 #[test]
-fn a_snapshot_is_read_in_another_thread(rt: HostRuntime) -> Result<(), Fail> {
-    assert_eq!(rt; play(&rt, rt.alloc(), 64, 2, 600, Scene::Moved), Some(true));
-    Ok(())
+fn a_snapshot_is_read_in_another_thread(rt: HostRuntime) {
+    assert!(rt; play(&rt, rt.alloc(), 64, 2, 600, Scene::Moved) == Some(true));
 }
 
 #[test]
-fn a_table_is_rewritten_for_long(rt: HostRuntime) -> Result<(), Fail> {
-    assert_eq!(rt;
-        play(&rt, rt.alloc(), 16, 1, 600, Scene::Rewritten),
-        Some(true)
-    );
-    Ok(())
+fn a_table_is_rewritten_for_long(rt: HostRuntime) {
+    assert!(rt; play(&rt, rt.alloc(), 16, 1, 600, Scene::Rewritten) == Some(true));
 }
 
 #[test]
-fn compactions_keep_the_names(rt: HostRuntime) -> Result<(), Fail> {
-    assert_eq!(rt;
-        play(&rt, rt.alloc(), 16, 1, 600, Scene::Compacted),
-        Some(true)
-    );
-    Ok(())
+fn compactions_keep_the_names(rt: HostRuntime) {
+    assert!(rt; play(&rt, rt.alloc(), 16, 1, 600, Scene::Compacted) == Some(true));
 }
 
 #[test]
-fn items_of_all_lengths_are_exchanged(rt: HostRuntime) -> Result<(), Fail> {
-    assert_eq!(rt;
-        play(&rt, rt.alloc(), 32, 1, 600, Scene::Exchanged),
-        Some(true)
-    );
-    Ok(())
+fn items_of_all_lengths_are_exchanged(rt: HostRuntime) {
+    assert!(rt; play(&rt, rt.alloc(), 32, 1, 600, Scene::Exchanged) == Some(true));
 }
 
 // An item of 65,535 octets lies in five chunks at most. Of 48 chunks a change may take 36: those of the current version, of the next one and
 // of three that are read.
 #[test]
-fn long_items_are_read_while_they_are_exchanged(rt: HostRuntime) -> Result<(), Fail> {
-    assert_eq!(rt;
-        play(&rt, rt.alloc(), 48, 4, 600, Scene::Long(20_000)),
-        Some(true)
-    );
-    Ok(())
+fn long_items_are_read_while_they_are_exchanged(rt: HostRuntime) {
+    assert!(rt; play(&rt, rt.alloc(), 48, 4, 600, Scene::Long(20_000)) == Some(true));
 }
 
 #[test]
-fn many_readers_beside_a_writer(rt: HostRuntime) -> Result<(), Fail> {
-    assert_eq!(rt;
-        play(&rt, rt.alloc(), 128, 9, 600, Scene::Crowd(10_000)),
-        Some(true)
-    );
-    Ok(())
+fn many_readers_beside_a_writer(rt: HostRuntime) {
+    assert!(rt; play(&rt, rt.alloc(), 128, 9, 600, Scene::Crowd(10_000)) == Some(true));
 }
 
 // A version has some 2,000 cells. Of 64 chunks a change may take 48, and evacuations the others too. So as no change is refused, and all
 // that is to be moved finds room, these are enough for the current version and three that are read, however long the table is written.
 // Where it was tried, 40 chunks were enough too, and 32 not always.
 #[test]
-fn a_table_stays_small_for_long(rt: HostRuntime) -> Result<(), Fail> {
-    assert_eq!(rt;
-        play(&rt, rt.alloc(), 64, 4, 12, Scene::Crowd(100_000)),
-        Some(true)
-    );
-    Ok(())
+fn a_table_stays_small_for_long(rt: HostRuntime) {
+    assert!(rt; play(&rt, rt.alloc(), 64, 4, 12, Scene::Crowd(100_000)) == Some(true));
 }
 
 #[test]
-fn a_closed_index_tells_its_version(rt: HostRuntime) -> Result<(), Fail> {
-    assert_eq!(rt; play_close(&rt, rt.alloc(), Closing::ByOthers), Some(1));
-    Ok(())
+fn a_closed_index_tells_its_version(rt: HostRuntime) {
+    assert!(rt; play_close(&rt, rt.alloc(), Closing::ByOthers) == Some(1));
 }
 
 // The contract can't say that the lock has the turn, so it allows 0 too.
 #[test]
-fn an_index_closed_with_no_pass_tells_its_version(rt: HostRuntime) -> Result<(), Fail> {
-    assert_eq!(rt; play_close(&rt, rt.alloc(), Closing::ByNobody), Some(1));
-    Ok(())
+fn an_index_closed_with_no_pass_tells_its_version(rt: HostRuntime) {
+    assert!(rt; play_close(&rt, rt.alloc(), Closing::ByNobody) == Some(1));
 }

@@ -5,7 +5,9 @@ ghost use Rattle.shared_index.specs.Drafts.{Works};
 
 use crate::buffer::Buffer;
 use crate::items::numbered;
-use shared_index::{Index, Law, Locked, Named, Note, Pass, Receipt, Transaction};
+use shared_index::{
+    ChangeRefusal, Full, Index, InsertRefusal, Law, Locked, Named, Note, Pass, Receipt, Transaction,
+};
 use shift_key::Key;
 use std::alloc::Global;
 use std::sync::Wait;
@@ -34,6 +36,32 @@ pub(crate) enum Act {
     In,
     Exchange,
     Out,
+}
+
+/// Why a transaction made no version.
+#[derive(Clone, Copy)]
+pub(crate) enum Refusal {
+    Full(Full),
+    /// It is there already, or isn't there; or there is no version or no memory left.
+    Other,
+}
+
+impl From<InsertRefusal> for Refusal {
+    fn from(refusal: InsertRefusal) -> Refusal {
+        match refusal {
+            InsertRefusal::Full(full) => Refusal::Full(full),
+            InsertRefusal::Exists => Refusal::Other,
+        }
+    }
+}
+
+impl From<ChangeRefusal> for Refusal {
+    fn from(refusal: ChangeRefusal) -> Refusal {
+        match refusal {
+            ChangeRefusal::Full(full) => Refusal::Full(full),
+            ChangeRefusal::NotFound => Refusal::Other,
+        }
+    }
 }
 
 /// A worker for each pass. None for want of memory.
@@ -67,132 +95,52 @@ pub(crate) fn pair<'i, N: Named>(
     Some((first, workers.pop()?))
 }
 
-/// Does something within a transaction. Whether it was done.
-fn act_within<N: Named, K>(
+/// Does something within a transaction.
+pub(crate) fn act_within<N: Named, K>(
     transaction: &mut Transaction<'_, '_, Any, N, K>,
     item: &Item,
     act: Act,
-) -> bool
+) -> Result<(), Refusal>
     requires { IsSomeAnd transaction.old.locked.now.draft Works }
-    ensures same_reference { (transaction.new.home.ghost_name ≡ transaction.old.home.ghost_name) × (transaction.new.locked.ghost_name ≡ transaction.old.locked.ghost_name) }
+    ensures same_reference { (transaction.new.home.ghost_name ≡ transaction.old.home.ghost_name)
+        × (transaction.new.locked.ghost_name ≡ transaction.old.locked.ghost_name) }
     ensures place { transaction.new.locked.now.place ≡ transaction.old.locked.now.place }
     ensures works { IsSomeAnd transaction.new.locked.now.draft Works }
 {
+    let key = item.key();
     match act {
-        Act::In => transaction.insert(&item.key(), item.octets()).is_ok(),
-        Act::Exchange => transaction.replace(&item.key(), item.octets()).is_ok(),
-        Act::Out => transaction.delete(&item.key()).is_ok(),
+        Act::In => transaction.insert(&key, item.octets())?,
+        Act::Exchange => transaction.replace(&key, item.octets())?,
+        Act::Out => transaction.delete(&key)?,
     }
-}
-
-/// Does something by a light transaction, and commits. What was made.
-pub(crate) fn write<N: Named, R: Wait>(
-    rt: &R,
-    index: &Index<Any, N>,
-    pass: &mut Pass<N>,
-    item: &Item,
-    act: Act,
-) -> Option<Receipt>
-    requires here { IsSome pass.old.seat }
-    requires place { pass.old.place ≡ index.now.place }
-    ensures here { IsSome pass.new.seat }
-    ensures place { pass.new.place ≡ index.now.place }
-{
-    let mut locked = Locked::of(index);
-    let mut write = index.write(rt, &mut locked, pass);
-    if !act_within(&mut write, item, act) {
-        return None;
-    }
-    write.commit().ok()
-}
-
-/// The same by a heavy transaction.
-fn update<N: Named, R: Wait>(
-    rt: &R,
-    index: &Index<Any, N>,
-    pass: &mut Pass<N>,
-    item: &Item,
-    act: Act,
-) -> Option<Receipt>
-    requires here { IsSome pass.old.seat }
-    requires place { pass.old.place ≡ index.now.place }
-    ensures here { IsSome pass.new.seat }
-    ensures place { pass.new.place ≡ index.now.place }
-{
-    let mut locked = Locked::of(index);
-    let mut update = index.update(rt, &mut locked, pass);
-    if !act_within(&mut update, item, act) {
-        return None;
-    }
-    update.commit().ok()
-}
-
-/// The version that a query shows, and the number at a key.
-fn look<N: Named>(
-    index: &Index<Any, N>,
-    pass: &mut Pass<N>,
-    key: &Key,
-    buffer: &mut Buffer,
-) -> (u64, Option<u64>)
-    requires here { IsSome pass.old.seat }
-    requires place { pass.old.place ≡ index.now.place }
-    ensures here { IsSome pass.new.seat }
-    ensures place { pass.new.place ≡ index.now.place }
-{
-    let mut query = pass.query(index);
-    (query.version(), tag(&mut query, key, buffer))
-}
-
-/// The version that a query shows, and how many names it has.
-fn count<N: Named>(index: &Index<Any, N>, pass: &mut Pass<N>) -> (u64, u64)
-    requires here { IsSome pass.old.seat }
-    requires place { pass.old.place ≡ index.now.place }
-    ensures here { IsSome pass.new.seat }
-    ensures place { pass.new.place ≡ index.now.place }
-{
-    let mut query = pass.query(index);
-    (query.version(), query.count())
-}
-
-/// The pass learns what another has seen, if both are of one index.
-fn learn_of<N: Named>(
-    index: &Index<Any, N>,
-    pass: &mut Pass<N>,
-    of: &Index<Any, N>,
-    other: &mut Pass<N>,
-) -> bool
-    requires here { (IsSome pass.old.seat) × (IsSome other.old.seat) }
-    requires places { (pass.old.place ≡ index.now.place) × (other.old.place ≡ of.now.place) }
-    ensures here { (IsSome pass.new.seat) × (IsSome other.new.seat) }
-    ensures places { (pass.new.place ≡ index.now.place) × (other.new.place ≡ of.now.place) }
-{
-    let note = other.note(of);
-    learn(index, pass, note)
-}
-
-/// The pass learns what a note tells, if it is of the same index.
-fn learn<N: Named>(index: &Index<Any, N>, pass: &mut Pass<N>, note: Note<N>) -> bool
-    requires here { IsSome pass.old.seat }
-    requires place { pass.old.place ≡ index.now.place }
-    ensures here { IsSome pass.new.seat }
-    ensures place { pass.new.place ≡ index.now.place }
-{
-    let same = note.place() == pass.place();
-    if same {
-        pass.learn(index, note);
-    }
-    same
+    Ok(())
 }
 
 impl<'i, N: Named> Worker<'i, N> {
-    /// Does something by a light transaction, and commits. What was made.
-    pub(crate) fn write<R: Wait>(&mut self, rt: &R, item: &Item, act: Act) -> Option<Receipt> {
-        write(rt, self.index, &mut self.pass, item, act)
+    /// Does something by a light transaction, and commits.
+    pub(crate) fn write<R: Wait>(
+        &mut self,
+        rt: &R,
+        item: &Item,
+        act: Act,
+    ) -> Result<Receipt, Refusal> {
+        let mut locked = Locked::of(self.index);
+        let mut write = self.index.write(rt, &mut locked, &mut self.pass);
+        act_within(&mut write, item, act)?;
+        write.commit().map_err(|_| Refusal::Other)
     }
 
     /// The same by a heavy transaction.
-    pub(crate) fn update<R: Wait>(&mut self, rt: &R, item: &Item, act: Act) -> Option<Receipt> {
-        update(rt, self.index, &mut self.pass, item, act)
+    pub(crate) fn update<R: Wait>(
+        &mut self,
+        rt: &R,
+        item: &Item,
+        act: Act,
+    ) -> Result<Receipt, Refusal> {
+        let mut locked = Locked::of(self.index);
+        let mut update = self.index.update(rt, &mut locked, &mut self.pass);
+        act_within(&mut update, item, act)?;
+        update.commit().map_err(|_| Refusal::Other)
     }
 
     /// Exchanges the first name's item for one with this number, by a light transaction.
@@ -202,11 +150,13 @@ impl<'i, N: Named> Worker<'i, N> {
         alloc: Global,
         number: u64,
         octets: usize,
-    ) -> Option<Receipt>
+    ) -> Result<Receipt, Refusal>
         requires { octets ≤ 4096 }
     {
-        let item = numbered(alloc, [b'a', b'a'], number, octets)?;
-        self.write(rt, &item, Act::Exchange)
+        match numbered(alloc, [b'a', b'a'], number, octets) {
+            Some(item) => self.write(rt, &item, Act::Exchange),
+            None => Err(Refusal::Other),
+        }
     }
 
     /// Makes a version of the same names.
@@ -216,22 +166,29 @@ impl<'i, N: Named> Worker<'i, N> {
 
     /// The version that a query shows, and the number at a key.
     pub(crate) fn look(&mut self, key: &Key, buffer: &mut Buffer) -> (u64, Option<u64>) {
-        look(self.index, &mut self.pass, key, buffer)
+        let mut query = self.pass.query(self.index);
+        (query.version(), tag(&mut query, key, buffer))
     }
 
     /// The version that a query shows, and how many names it has.
     pub(crate) fn count(&mut self) -> (u64, u64) {
-        count(self.index, &mut self.pass)
+        let mut query = self.pass.query(self.index);
+        (query.version(), query.count())
     }
 
     /// Learns what a note tells, if it is of the same index.
     pub(crate) fn learn(&mut self, note: Note<N>) -> bool {
-        learn(self.index, &mut self.pass, note)
+        let same = note.place() == self.pass.place();
+        if same {
+            self.pass.learn(self.index, note);
+        }
+        same
     }
 
     /// Learns what another has seen.
     pub(crate) fn learn_of(&mut self, other: &mut Worker<'i, N>) -> bool {
-        learn_of(self.index, &mut self.pass, other.index, &mut other.pass)
+        let note = other.pass.note(other.index);
+        self.learn(note)
     }
 }
 

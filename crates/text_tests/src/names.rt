@@ -1,4 +1,4 @@
-//! Names read, printed, ordered and taken apart.
+//! Names read, printed and taken apart.
 use dns_name::Name;
 use std::alloc::{AllocError, Global};
 use std::test::Fail;
@@ -63,30 +63,6 @@ fn the_first_fault_of_a_text_is_refused(rt: HostRuntime) -> Result<(), Fail> {
         let last = "\\255".repeat(rt.alloc(), last)?;
         let text = format!(in rt.alloc(); "{full}.{full}.{full}.{last}.")?;
         assert_eq!(rt; wire_len(text.as_bytes()), want);
-    }
-    Ok(())
-}
-
-// The example of RFC 4034, section 6.1.
-const RISING: &[&[u8]] = &[
-    b"example.",
-    b"a.example.",
-    b"yljkjljk.a.example.",
-    b"Z.a.example.",
-    b"zABC.a.EXAMPLE.",
-    b"z.example.",
-    b"\\001.z.example.",
-    b"*.z.example.",
-    b"\\200.z.example.",
-];
-
-#[test]
-fn names_stand_in_canonical_order(rt: HostRuntime) -> Result<(), Fail> {
-    let mut before = Name::root();
-    for text in RISING {
-        let name = Name::read(text, &Name::root())?;
-        assert!(rt; before < name && name == name);
-        before = name;
     }
     Ok(())
 }

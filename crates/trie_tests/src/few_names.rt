@@ -1,23 +1,16 @@
 //! Items at their limits, and a trie of two names.
 
-ghost use Rattle.std.specs.Prelude.{◌≡◌, ℕ, List, IfOk};
-ghost use Rattle.zone_model.specs.Keys.{Leads};
-ghost use Rattle.trie_model.specs.Keys.{Entry, Rises};
-ghost use Rattle.trie_read.specs.Reads.{EachTells};
-ghost use Rattle.trie_write.specs.Entries.{entries_of_items};
-ghost use Rattle.trie_space.specs.Spaces.{Ready};
-ghost use Rattle.trie_space.specs.Standing.{HasTrie};
+ghost use Rattle.trie_tests.specs.Tries.{IsTrie};
 
 use crate::made::{item, octets};
-use crate::many_names::rise;
 use crate::room::unused_room;
+use crate::tries::{Change, built, changed, sizes};
 use chunk_cells::CellWrite;
 use chunk_usage::Space;
 use dns_name::Name;
 use packed_node::Ref;
 use std::alloc::Global;
-use trie_read::{count, nodes};
-use trie_write::{Item, ItemRefusal, Unchanged, build, cells, insert, replace};
+use trie_write::{Item, ItemRefusal, Unchanged};
 
 /// How long the root's item with so many octets behind the name is, and its key.
 fn item_len(alloc: Global, payload: usize) -> Option<(usize, u16)> {
@@ -41,38 +34,19 @@ fn items_have_65535_octets_at_most(rt: HostRuntime) {
     assert!(rt; matches!(too_long(rt.alloc(), 65_535), Some(65_536)));
 }
 
-/// Puts in an item.
-fn put<C: CellWrite, U: Space>(
+/// How many names and nodes there are once an item is put in. It is then exchanged for itself.
+fn sizes_with<C: CellWrite, U: Space>(
     cells: &mut C,
     usage: &mut U,
     root: Option<Ref>,
     item: &Item,
-) -> Result<Option<Ref>, Unchanged>
-    requires stands { (version : List Entry) × HasTrie C.has U.account cells.old usage.old root version × EachTells Leads version }
-    requires ready { Ready C.kept C.given U.account cells.old usage.old }
-    ensures stands { IfOk result (λ new. (version : List Entry) × HasTrie C.has U.account cells.new usage.new new version × EachTells Leads version) }
-    ensures ready { Ready C.kept C.given U.account cells.new usage.new }
-{
-    insert(cells, usage, root, &item.key(), item.octets())
-}
-
-/// How many names and nodes the trie of some items has once another is put in. That one is then exchanged for itself.
-fn sizes_with<C: CellWrite, U: Space>(
-    cells: &mut C,
-    usage: &mut U,
-    items: &[Item],
-    item: &Item,
 ) -> Result<(u64, u64), Unchanged>
-    requires rising { Rises (entries_of_items items.now) }
-    requires uncounted { (k : ℕ) → (U.account usage.old).live k ≡ 0 }
-    requires ready { Ready C.kept C.given U.account cells.old usage.old }
+    requires { IsTrie C.has C.kept C.given U.account cells.old usage.old root }
 {
-    let built = build(cells, usage, items)?;
-    let root = put(cells, usage, built, item)?;
-    let names = count(cells, root);
-    let all = nodes(cells, root);
-    replace(cells, usage, root, &item.key(), item.octets())?;
-    Ok((names, all))
+    let root = changed(cells, usage, root, Change::Insert, item)?;
+    let sizes = sizes(cells, usage, root);
+    changed(cells, usage, root, Change::Replace, item)?;
+    Ok(sizes)
 }
 
 /// The same of two names in a room of its own, with how many cells of its first chunk count in the end. None for want of memory.
@@ -80,10 +54,11 @@ fn sizes_alone(alloc: Global, name: &[u8], other: &[u8], payload: &[u8]) -> Opti
     let second = item(alloc, other, payload)?;
     let first = [item(alloc, name, b"1")?];
     let (mut memory, mut usage) = unused_room(alloc, 16).ok()?;
-    if cells(&first) != 2 || !rise(&first) {
+    let (root, needed) = built(&mut memory, &mut usage, &first)?;
+    if needed != 2 {
         return None;
     }
-    let sizes = sizes_with(&mut memory, &mut usage, &first, &second);
+    let sizes = sizes_with(&mut memory, &mut usage, root, &second);
     Some((sizes, usage.live(0)))
 }
 

@@ -1,6 +1,6 @@
 //! Keys of names, against the vectors of the layout. A proof computes with a text that it sees, so texts are passed to functions.
 
-use crate::many_names::comes_before;
+use crate::tries::comes_before;
 use dns_name::Name;
 use shift_key::{Difference, Key};
 
@@ -76,17 +76,21 @@ fn the_longest_key(rt: HostRuntime) {
     assert!(rt; has_key_of_len(&wire, 504));
 }
 
-// Whether texts are names, the key of each of which comes before the next.
+// Whether texts are names, each of which comes before the next, and its key before the next one's.
 fn rise(texts: &[&[u8]]) -> bool {
-    let mut before = Key::root();
+    let mut before = Name::root();
     for text in texts {
-        let Some(key) = key_of(text) else {
+        let Ok(name) = Name::read(text, &Name::root()) else {
             return false;
         };
-        if !comes_before(&before, &key) || key.first_difference(&key).is_some() {
+        let key = Key::of(&name);
+        if key.first_difference(&key).is_some() || !comes_before(&Key::of(&before), &key) {
             return false;
         }
-        before = key;
+        if name != name || before >= name {
+            return false;
+        }
+        before = name;
     }
     true
 }
@@ -105,7 +109,7 @@ const RISING: &[&[u8]] = &[
 ];
 
 #[test]
-fn keys_stand_in_canonical_order(rt: HostRuntime) {
+fn names_and_their_keys_stand_in_canonical_order(rt: HostRuntime) {
     assert!(rt; rise(RISING));
 }
 

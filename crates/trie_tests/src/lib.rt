@@ -1,6 +1,9 @@
-//! Tests of the crates from nodes to changes of a trie, in a crate of their own: a crate with tests is proved twice.
+//! Tests of the crates from nodes to changes of a trie, and of what moves cells, in a crate of their own: a crate with tests is proved
+//! twice.
 #![tactic(auto)]
 
+#[cfg(test)]
+mod evacuations;
 #[cfg(test)]
 mod few_names;
 #[cfg(test)]
@@ -14,10 +17,16 @@ mod made;
 #[cfg(test)]
 mod many_names;
 #[cfg(test)]
+mod numbered;
+#[cfg(test)]
 mod packing;
 #[cfg(test)]
 mod reading;
 #[cfg(test)]
 mod room;
+#[cfg(test)]
+mod thinned;
+#[cfg(test)]
+mod tries;
 #[cfg(test)]
 mod usage;

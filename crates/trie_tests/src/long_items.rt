@@ -1,23 +1,19 @@
 //! Items of all lengths at which the number of their cells or of their extents changes: put in, read back, exchanged for each other,
 //! and taken out.
 
-ghost use Rattle.std.specs.Prelude.{◌≡◌, ◌≤◌, ℕ, List, IfSome, length};
-ghost use Rattle.zone_model.specs.Keys.{Leads, most_item_octets};
-ghost use Rattle.trie_model.specs.Keys.{Entry};
-ghost use Rattle.trie_model.specs.Memory.{Stands};
-ghost use Rattle.trie_read.specs.Reads.{EachTells};
-ghost use Rattle.trie_space.specs.Spaces.{Ready};
-ghost use Rattle.trie_space.specs.Standing.{HasTrie};
+ghost use Rattle.std.specs.Prelude.{◌≡◌, ◌≤◌, None, IfSome, length};
+ghost use Rattle.zone_model.specs.Keys.{most_item_octets};
+ghost use Rattle.trie_tests.specs.Tries.{IsTrie};
 
 use crate::made::buffer;
-use crate::many_names::{Change, changed};
 use crate::room::unused_room;
-use chunk_cells::{CellRead, CellWrite, PlainCells, cells_for, read_item};
+use crate::thinned::live_cells;
+use crate::tries::{Change, changed, holds};
+use chunk_cells::{CellRead, CellWrite, PlainCells, cells_for};
 use chunk_usage::{Space, Usage};
 use dns_name::Name;
 use packed_node::Ref;
 use std::alloc::Global;
-use trie_read::get;
 use trie_write::Item;
 
 /// How long the items are.
@@ -26,7 +22,7 @@ const LENGTHS: [usize; 14] = [
 ];
 
 /// How many cells each of them takes: a cell for 16 octets, and one for each further extent.
-const CELLS: [u32; 14] = [
+const CELLS: [u64; 14] = [
     1, 1, 2, 255, 256, 256, 258, 511, 512, 512, 514, 4111, 4111, 4112,
 ];
 
@@ -54,22 +50,6 @@ fn items_of(alloc: Global, number: usize) -> Option<Vec<Item>> {
     Some(items)
 }
 
-/// Whether a root has this item.
-fn holds<C: CellRead>(cells: &mut C, root: Option<Ref>, item: &Item, out: &mut [u8]) -> bool
-    requires stands { (version : List Entry) × Stands (C.has cells.old) root version × EachTells Leads version }
-    requires room { most_item_octets ≤ length out.old }
-    ensures same { cells.new ≡ cells.old }
-    ensures room { length out.new ≡ length out.old }
-{
-    match get(cells, root, &item.key()) {
-        Some(leaf) => {
-            let len = read_item(cells, leaf, out);
-            &out[..len] == item.octets()
-        }
-        None => false,
-    }
-}
-
 /// The root once an item is put in, or stands in the place of another. None where it isn't there then.
 fn put<C: CellWrite, U: Space>(
     cells: &mut C,
@@ -79,31 +59,13 @@ fn put<C: CellWrite, U: Space>(
     item: &Item,
     out: &mut [u8],
 ) -> Option<Option<Ref>>
-    requires stands { (version : List Entry) × HasTrie C.has U.account cells.old usage.old root version × EachTells Leads version }
-    requires ready { Ready C.kept C.given U.account cells.old usage.old }
+    requires trie { IsTrie C.has C.kept C.given U.account cells.old usage.old root }
     requires room { most_item_octets ≤ length out.old }
-    ensures stands { IfSome result (λ new. (version : List Entry) × HasTrie C.has U.account cells.new usage.new new version × EachTells Leads version) }
-    ensures ready { Ready C.kept C.given U.account cells.new usage.new }
+    ensures trie { IfSome result (IsTrie C.has C.kept C.given U.account cells.new usage.new) }
     ensures room { length out.new ≡ length out.old }
 {
-    match changed(cells, usage, root, change, item) {
-        None => None,
-        Some(new) => {
-            if holds(cells, new, item, out) {
-                return Some(new);
-            }
-            None
-        }
-    }
-}
-
-/// How many cells count, of 16 chunks.
-fn live(usage: &Usage) -> u32 {
-    let mut cells = 0u32;
-    for chunk in 0..16 {
-        cells = cells.saturating_add(usage.live(chunk));
-    }
-    cells
+    let new = changed(cells, usage, root, change, item).ok()?;
+    holds(cells, usage, new, item, out).then_some(new)
 }
 
 /// Puts an item in, exchanges it for another, and takes that out. How many cells count after each step.
@@ -113,22 +75,22 @@ fn come_and_go(
     first: &Item,
     second: &Item,
     out: &mut [u8],
-) -> Option<[u32; 3]>
-    requires uncounted { (k : ℕ) → (⟦<Usage as Space>⟧.account usage.old).live k ≡ 0 }
-    requires ready { Ready ⟦<PlainCells as CellWrite>⟧.kept ⟦<PlainCells as CellWrite>⟧.given ⟦<Usage as Space>⟧.account cells.old usage.old }
+) -> Option<[u64; 3]>
+    requires trie { IsTrie ⟦<PlainCells as CellRead>⟧.has ⟦<PlainCells as CellWrite>⟧.kept ⟦<PlainCells as CellWrite>⟧.given ⟦<Usage as Space>⟧.account
+        cells.old usage.old None }
     requires room { most_item_octets ≤ length out.old }
     ensures room { length out.new ≡ length out.old }
 {
     let root = put(cells, usage, None, Change::Insert, first, out)?;
-    let with_first = live(usage);
+    let with_first = live_cells(usage);
     let root = put(cells, usage, root, Change::Replace, second, out)?;
-    let with_second = live(usage);
-    changed(cells, usage, root, Change::Delete, second)?;
-    Some([with_first, with_second, live(usage)])
+    let with_second = live_cells(usage);
+    changed(cells, usage, root, Change::Delete, second).ok()?;
+    Some([with_first, with_second, live_cells(usage)])
 }
 
 /// The same in a room of its own. None where something isn't as it should be, or for want of memory.
-fn come_and_go_alone(alloc: Global, first: &Item, second: &Item, out: &mut [u8]) -> Option<[u32; 3]>
+fn come_and_go_alone(alloc: Global, first: &Item, second: &Item, out: &mut [u8]) -> Option<[u64; 3]>
     requires { most_item_octets ≤ length out.old }
     ensures { length out.new ≡ length out.old }
 {
@@ -137,7 +99,7 @@ fn come_and_go_alone(alloc: Global, first: &Item, second: &Item, out: &mut [u8])
 }
 
 /// Whether an item is exchanged for each of the others.
-fn exchanges(alloc: Global, first: &Item, cells: u32, others: &[Item], out: &mut [u8]) -> bool
+fn exchanges(alloc: Global, first: &Item, cells: u64, others: &[Item], out: &mut [u8]) -> bool
     requires { most_item_octets ≤ length out.old }
     ensures { length out.new ≡ length out.old }
 {

@@ -1,71 +1,29 @@
 //! Tries of twenty names: as they are built, and as names come, change and go.
 
-ghost use Rattle.std.specs.Prelude.{◌≡◌, ◌<◌, ℕ, List, IfOk, IfSome, IsTrue};
-ghost use Rattle.zone_model.specs.Keys.{Leads};
-ghost use Rattle.trie_model.specs.Keys.{Entry, Less, Rises};
-ghost use Rattle.trie_model.specs.Memory.{Stands};
-ghost use Rattle.trie_read.specs.Reads.{EachTells};
-ghost use Rattle.trie_write.specs.Entries.{entries_of_items};
-ghost use Rattle.trie_space.specs.Spaces.{Ready, Fenced};
-ghost use Rattle.trie_space.specs.Standing.{HasTrie};
+ghost use Rattle.std.specs.Prelude.{◌<◌, None, IfOk};
+ghost use Rattle.trie_tests.specs.Tries.{IsTrie};
 
 use crate::made::items;
 use crate::room::unused_room;
-use chunk_cells::{CellRead, CellWrite};
-use chunk_usage::{Full, Space};
+use crate::tries::{Change, built, changed, sizes};
+use chunk_cells::CellWrite;
+use chunk_usage::Space;
 use packed_node::Ref;
-use shift_key::Key;
 use std::alloc::Global;
-use trie_read::{count, get, nodes};
-use trie_write::{Item, build, cells, delete, insert, replace};
-
-/// What is done with an item.
-#[derive(Clone, Copy)]
-pub(crate) enum Change {
-    Insert,
-    Replace,
-    Delete,
-}
-
-/// The root after a change; none where it was refused.
-pub(crate) fn changed<C: CellWrite, U: Space>(
-    cells: &mut C,
-    usage: &mut U,
-    root: Option<Ref>,
-    change: Change,
-    item: &Item,
-) -> Option<Option<Ref>>
-    requires stands { (version : List Entry) × HasTrie C.has U.account cells.old usage.old root version × EachTells Leads version }
-    requires ready { Ready C.kept C.given U.account cells.old usage.old }
-    ensures stands { IfSome result (λ new. (version : List Entry) × HasTrie C.has U.account cells.new usage.new new version × EachTells Leads version) }
-    ensures frame { Fenced C.has C.kept C.given U.account cells.old usage.old cells.new usage.new }
-    ensures ready { Ready C.kept C.given U.account cells.new usage.new }
-{
-    let key = item.key();
-    let octets = item.octets();
-    match change {
-        Change::Insert => match insert(cells, usage, root, &key, octets) {
-            Ok(new) => Some(new),
-            Err(_) => None,
-        },
-        Change::Replace => match replace(cells, usage, root, &key, octets) {
-            Ok(new) => Some(new),
-            Err(_) => None,
-        },
-        Change::Delete => match delete(cells, usage, root, &key) {
-            Ok(new) => Some(new),
-            Err(_) => None,
-        },
-    }
-}
+use trie_read::get;
+use trie_write::Item;
 
 /// How many names and nodes there are, and how many octets a name's item has: 0 where it isn't there.
-fn seen<C: CellRead>(cells: &mut C, root: Option<Ref>, name: &Item) -> (u64, u64, usize)
-    requires { (version : List Entry) × Stands (C.has cells.old) root version × EachTells Leads version }
-    ensures { cells.new ≡ cells.old }
+fn seen<C: CellWrite, U: Space>(
+    cells: &mut C,
+    usage: &U,
+    root: Option<Ref>,
+    name: &Item,
+) -> (u64, u64, usize)
+    requires { IsTrie C.has C.kept C.given U.account cells.old usage.now root }
+    ensures { IsTrie C.has C.kept C.given U.account cells.new usage.now root }
 {
-    let names = count(cells, root);
-    let all = nodes(cells, root);
+    let (names, all) = sizes(cells, usage, root);
     match get(cells, root, &name.key()) {
         Some(leaf) => (names, all, leaf.len as usize),
         None => (names, all, 0),
@@ -93,23 +51,23 @@ fn change_each<C: CellWrite, U: Space>(
     items: &[Item],
     nodes_due: &[u64],
 ) -> Result<Option<Ref>, usize>
-    requires stands { (version : List Entry) × HasTrie C.has U.account cells.old usage.old root version × EachTells Leads version }
-    requires ready { Ready C.kept C.given U.account cells.old usage.old }
-    ensures stands { IfOk result (λ new. (version : List Entry) × HasTrie C.has U.account cells.new usage.new new version × EachTells Leads version) }
-    ensures ready { IfOk result (λ _. Ready C.kept C.given U.account cells.new usage.new) }
+    requires { IsTrie C.has C.kept C.given U.account cells.old usage.old root }
+    ensures { IfOk result (IsTrie C.has C.kept C.given U.account cells.new usage.new) }
 {
     let mut root = root;
     for i in 0..items.len() {
         match changed(cells, usage, root, change, &items[i]) {
-            Some(new) => root = new,
-            None => return Err(i),
+            Ok(new) => root = new,
+            Err(_) => return Err(i),
         }
         let len = match change {
             Change::Delete => 0,
             _ => items[i].octets().len(),
         };
         let names = names_after(change, items.len(), i) as u64;
-        if i >= nodes_due.len() || seen(cells, root, &items[i]) != (names, nodes_due[i], len) {
+        if i >= nodes_due.len()
+            || seen(cells, usage, root, &items[i]) != (names, nodes_due[i], len)
+        {
             return Err(i);
         }
     }
@@ -131,8 +89,7 @@ fn come_and_go<C: CellWrite, U: Space>(
     rounds: &Rounds,
     due: &NodesDue,
 ) -> Result<Option<Ref>, usize>
-    requires uncounted { (k : ℕ) → (U.account usage.old).live k ≡ 0 }
-    requires ready { Ready C.kept C.given U.account cells.old usage.old }
+    requires { IsTrie C.has C.kept C.given U.account cells.old usage.old None }
 {
     let root = change_each(cells, usage, None, Change::Insert, &rounds.first, due.grown)?;
     let root = change_each(cells, usage, root, Change::Replace, &rounds.next, due.same)?;
@@ -193,74 +150,18 @@ fn twenty_names_come_and_go(rt: HostRuntime) {
     assert!(rt; gone);
 }
 
-/// Whether a key comes before another.
-pub(crate) fn comes_before(key: &Key, other: &Key) -> bool
-    ensures { IsTrue result → Less key.now other.now }
-{
-    match key.first_difference(other) {
-        None => false,
-        Some(place) => key.at(place) < other.at(place),
-    }
-}
-
-/// Whether items rise by their keys.
-pub(crate) fn rise(items: &[Item]) -> bool
-    ensures { IsTrue result → Rises (entries_of_items items.now) }
-{
-    if items.len() < 2 {
-        return true;
-    }
-    if comes_before(&items[0].key(), &items[1].key()) {
-        return rise(&items[1..]);
-    }
-    false
-}
-
-/// How many names and nodes the trie of some items has.
-fn sizes<C: CellWrite, U: Space>(
-    cells: &mut C,
-    usage: &mut U,
-    items: &[Item],
-) -> Result<(u64, u64), Full>
-    requires rising { Rises (entries_of_items items.now) }
-    requires uncounted { (k : ℕ) → (U.account usage.old).live k ≡ 0 }
-    requires ready { Ready C.kept C.given U.account cells.old usage.old }
-{
-    let root = build(cells, usage, items)?;
-    let names = count(cells, root);
-    Ok((names, nodes(cells, root)))
-}
-
-/// What a trie of some names has: how many cells are said to be needed, its names and nodes, and how many cells of its first chunk count.
-#[derive(Clone, Copy)]
-struct Built {
-    needed: u64,
-    sizes: Result<(u64, u64), Full>,
-    live: u32,
-}
-
-/// Some names in a room of their own. None where they don't rise, or for want of memory.
-fn built_alone(alloc: Global, items: &[Item]) -> Option<Built> {
+/// What a trie of some names in a room of its own has: its names and nodes, how many cells were said to be needed, and how many cells of
+/// its first chunk count. None where they don't rise, or for want of memory.
+fn built_alone(alloc: Global, names: &[&[u8]]) -> Option<((u64, u64), u64, u32)> {
+    let items = items(alloc, names, b"1")?;
     let (mut memory, mut usage) = unused_room(alloc, 16).ok()?;
-    if !rise(items) {
-        return None;
-    }
-    Some(Built {
-        needed: cells(items),
-        sizes: sizes(&mut memory, &mut usage, items),
-        live: usage.live(0),
-    })
+    let (root, needed) = built(&mut memory, &mut usage, &items)?;
+    let sizes = sizes(&mut memory, &usage, root);
+    Some((sizes, needed, usage.live(0)))
 }
 
-/// Whether there is one cell for each node and each item.
-fn are_built(alloc: Global, names: &[&[u8]]) -> bool {
-    let Some(built) = items(alloc, names, b"1").and_then(|items| built_alone(alloc, &items)) else {
-        return false;
-    };
-    built.needed == 44 && built.live == 44 && matches!(built.sizes, Ok((20, 24)))
-}
-
+// There is one cell for each node and each item.
 #[test]
 fn twenty_names_are_built(rt: HostRuntime) {
-    assert!(rt; are_built(rt.alloc(), &RISING));
+    assert!(rt; built_alone(rt.alloc(), &RISING) == Some(((20, 24), 44, 44)));
 }

@@ -1,10 +1,11 @@
 //! A small usage from its first cells to chunks that are given back.
 
-ghost use Rattle.std.specs.Prelude.{◌≡◌, ◌<◌, ◌≤◌};
+ghost use Rattle.std.specs.Prelude.{◌≡◌, ◌<◌, ◌≤◌, ◌^◌};
 ghost use Rattle.chunk_usage.specs.Ledger.{frozen_part};
 
 use crate::room::unused_room;
 use chunk_cells::{CellWrite, PlainCells};
+use chunk_usage::capacity::{least, roomy};
 use chunk_usage::{Full, Grant, Space, Usage};
 use packed_node::Ref;
 use std::alloc::{AllocError, Global};
@@ -226,4 +227,22 @@ fn gives_back(alloc: Global) -> Result<bool, AllocError> {
 fn chunks_are_given_back_when_no_version_has_them(rt: HostRuntime) -> Result<(), Fail> {
     assert!(rt; gives_back(rt.alloc())?);
     Ok(())
+}
+
+/// Whether so many chunks are the fewest that are enough.
+fn is_least(passes: u32, cells: u64, operations: u32, chunks: u32) -> bool
+    requires cells { cells < 2 ^ 40 }
+    requires some { 1 ≤ chunks }
+{
+    roomy(passes, cells, operations, chunks)
+        && !roomy(passes, cells, operations, chunks - 1)
+        && least(passes, cells, operations) == Some(chunks)
+}
+
+// Of the first, half are four versions of 12 chunks, 40 for an operation, one for what is moved, and four that are begun. Of the second they
+// are three versions of nine, and four that are begun.
+#[test]
+fn chunks_are_enough_from_the_least_on(rt: HostRuntime) {
+    assert!(rt; is_least(2, 1_000, 1, 186));
+    assert!(rt; is_least(1, 0, 0, 62));
 }

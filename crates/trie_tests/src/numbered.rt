@@ -1,11 +1,8 @@
 //! Items, most of 1,000 octets, in the order of their keys.
 
-ghost use Rattle.std.specs.Prelude.{◌≡◌, ◌<◌, ◌≤◌, IsTrue};
-ghost use Rattle.trie_model.specs.Keys.{Less, Rises};
-ghost use Rattle.trie_write.specs.Entries.{entry_of, entries_of_items};
+ghost use Rattle.std.specs.Prelude.{◌≤◌};
 
 use dns_name::Name;
-use shift_key::Key;
 use std::alloc::Global;
 use std::test::Fail;
 use trie_write::Item;
@@ -47,27 +44,4 @@ pub(crate) fn ten_items_and_a_long_one(alloc: Global) -> Result<Vec<Item>, Fail>
     let mut items = numbered(alloc, 10, 1400)?;
     items.push(item_of(alloc, &Name::read(b"z.example.", &Name::root())?, 65_535)?)?;
     Ok(items)
-}
-
-/// Whether a key comes before another.
-fn comes_before(key: &Key, other: &Key) -> bool
-    ensures { IsTrue result → Less key.now other.now }
-{
-    match key.first_difference(other) {
-        None => false,
-        Some(place) => key.at(place) < other.at(place),
-    }
-}
-
-/// Whether items rise by their keys.
-pub(crate) fn rise(items: &[Item]) -> bool
-    ensures { IsTrue result → Rises (entries_of_items items.now) }
-{
-    if items.len() < 2 {
-        return true;
-    }
-    if comes_before(&items[0].key(), &items[1].key()) {
-        return rise(&items[1..]);
-    }
-    false
 }

@@ -1,5 +1,5 @@
-use Rattle.evacuate_tests.specs.Tries.{IsTrie}
-use Rattle.evacuate_tests.proofs.tries.changed_but.Given as goal
+use Rattle.trie_tests.specs.Tries.{IsTrie}
+use Rattle.trie_tests.proofs.thinned.changed_but.Given as goal
 
 abbrev pub invariant-loop-i : goal.invariant-loop-i
 invariant-loop-i g l = IsTrie g.C.CellRead.has g.C.CellWrite.kept g.C.CellWrite.given g.U.Space.account l.cells l.usage l.root

@@ -4,7 +4,7 @@ use Rattle.std.proofs.lemmas.List.{take_all}
 use Rattle.trie_model.specs.Keys.{at, Entry, Less, Rises}
 use Rattle.trie_write.specs.declared.item.Item.{Item}
 use Rattle.trie_write.specs.Entries.{entry_of, entries_of_items}
-use Rattle.evacuate_tests.proofs.items.+rise.Goals as goal
+use Rattle.trie_tests.proofs.tries.+rise.Goals as goal
 
 less_then : (a b c : List ℕ) → Less a b → Less b c → Less a c
 less_then a b c l m = elim (cases_lt l.place m.place) [

@@ -1,9 +1,10 @@
-//! Evacuations that come to their end, and one that finds no free chunk.
+//! Evacuations that come to their end, one that finds no free chunk, and one of an item of seventeen extents.
 
-use crate::items::{rise, three_hundred_items};
-use crate::tries::{
-    Change, Outcome, changed_but, counted_chunks, evacuated, live_cells, thinned, unused_room,
-};
+use crate::made::buffer;
+use crate::numbered::{ten_items_and_a_long_one, three_hundred_items};
+use crate::room::unused_room;
+use crate::thinned::{Outcome, changed_but, counted_chunks, evacuated, live_cells, thinned};
+use crate::tries::{Change, holds};
 use chunk_usage::Usage;
 use evacuate::Done;
 use std::process::Abort;
@@ -32,14 +33,13 @@ fn ten_names_of_three_hundred_need_few_chunks(rt: HostRuntime) -> Result<(), Fai
     let (mut memory, mut usage) = unused_room(rt.alloc(), 256)?;
     let items = three_hundred_items(rt.alloc())?;
     assert_eq!(rt; items.len(), 300);
-    assert!(rt; rise(&items));
     let root = thinned(&mut memory, &mut usage, &items, 30).ok_or("no room")?;
     let (root, outcome) = evacuated(&mut memory, &mut usage, root);
     check_ten(&rt, &usage, outcome);
-    let root = changed_but(&mut memory, &mut usage, root, &items, 30, Change::PutIn).ok_or(
+    let root = changed_but(&mut memory, &mut usage, root, &items, 30, Change::Insert).ok_or(
         "no room",
     )?;
-    let root = changed_but(&mut memory, &mut usage, root, &items, 30, Change::TakenOut).ok_or(
+    let root = changed_but(&mut memory, &mut usage, root, &items, 30, Change::Delete).ok_or(
         "no room",
     )?;
     let (_root, outcome) = evacuated(&mut memory, &mut usage, root);
@@ -53,7 +53,6 @@ fn an_evacuation_stops_where_no_chunk_is_free(rt: HostRuntime) -> Result<(), Fai
     let items = three_hundred_items(rt.alloc())?;
     assert_eq!(rt; items.len(), 300);
     let few = &items[..20];
-    assert!(rt; rise(few));
     let root = thinned(&mut memory, &mut usage, few, 7).ok_or("no room")?;
     let (_root, outcome) = evacuated(&mut memory, &mut usage, root);
     assert_eq!(rt;
@@ -65,5 +64,29 @@ fn an_evacuation_stops_where_no_chunk_is_free(rt: HostRuntime) -> Result<(), Fai
         outcome.nodes.saturating_add(3 * ITEM_CELLS)
     );
     assert_eq!(rt; usage.free(), 0);
+    Ok(())
+}
+
+// An item of 1,400 octets has 88 cells; one of 65,535 has 4,096 with its octets, and 16 links.
+const SHORT_CELLS: u64 = 88;
+
+const LONG_CELLS: u64 = 4112;
+
+// The last extent has 16 cells. Its chunk has those of ten items too, of which one is left: 104 in all, and no chunk of the other extents
+// is sparse.
+#[test]
+fn the_seventeenth_extent_is_moved_out_of_a_sparse_chunk(rt: HostRuntime) -> Result<(), Fail> {
+    let (mut memory, mut usage) = unused_room(rt.alloc(), 16)?;
+    let items = ten_items_and_a_long_one(rt.alloc())?;
+    assert_eq!(rt; items.len(), 11);
+    let root = thinned(&mut memory, &mut usage, &items, 10).ok_or("no room")?;
+    let (root, outcome) = evacuated(&mut memory, &mut usage, root);
+    assert_eq!(rt; outcome.done, Done::Whole);
+    assert_eq!(rt; usage.live(0), 0);
+    let cells = outcome.nodes.saturating_add(SHORT_CELLS + LONG_CELLS);
+    assert_eq!(rt; live_cells(&usage), cells);
+    let mut out = buffer(rt.alloc())?;
+    assert!(rt; holds(&mut memory, &usage, root, &items[0], &mut out));
+    assert!(rt; holds(&mut memory, &usage, root, &items[10], &mut out));
     Ok(())
 }

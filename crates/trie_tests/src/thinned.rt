@@ -1,0 +1,100 @@
+//! Tries of which most names have gone, and what an evacuation makes of them.
+
+ghost use Rattle.std.specs.Prelude.{◌<◌, None, IfSome};
+ghost use Rattle.trie_tests.specs.Tries.{IsTrie};
+
+use crate::tries::{Change, built, changed, sizes};
+use chunk_cells::CellWrite;
+use chunk_usage::{Space, Usage};
+use evacuate::{Done, evacuate};
+use packed_node::Ref;
+use trie_write::Item;
+
+/// The root once all items but one of so many are put in or taken out.
+pub(crate) fn changed_but<C: CellWrite, U: Space>(
+    cells: &mut C,
+    usage: &mut U,
+    root: Option<Ref>,
+    items: &[Item],
+    so_many: usize,
+    change: Change,
+) -> Option<Option<Ref>>
+    requires some { 0 < so_many }
+    requires trie { IsTrie C.has C.kept C.given U.account cells.old usage.old root }
+    ensures trie { IfSome result (IsTrie C.has C.kept C.given U.account cells.new usage.new) }
+{
+    let mut root = root;
+    for i in 0..items.len() {
+        if i % so_many == 0 {
+            continue;
+        }
+        root = changed(cells, usage, root, change, &items[i]).ok()?;
+    }
+    Some(root)
+}
+
+/// The root of the trie of the items, once all but one of so many are taken out.
+pub(crate) fn thinned<C: CellWrite, U: Space>(
+    cells: &mut C,
+    usage: &mut U,
+    items: &[Item],
+    so_many: usize,
+) -> Option<Option<Ref>>
+    requires some { 0 < so_many }
+    requires trie { IsTrie C.has C.kept C.given U.account cells.old usage.old None }
+    ensures trie { IfSome result (IsTrie C.has C.kept C.given U.account cells.new usage.new) }
+{
+    let (root, _) = built(cells, usage, items)?;
+    changed_but(cells, usage, root, items, so_many, Change::Delete)
+}
+
+/// What an evacuation did.
+#[derive(Clone, Copy, PartialEq, Eq, Debug)]
+pub(crate) struct Outcome {
+    /// How many chunks were sparse before.
+    pub(crate) sparse: u32,
+    pub(crate) done: Done,
+    /// How many names and nodes there are afterwards.
+    pub(crate) names: u64,
+    pub(crate) nodes: u64,
+    /// How many walks over all were needed.
+    pub(crate) walks: u64,
+}
+
+/// The root once what lies in sparse chunks is moved.
+pub(crate) fn evacuated<C: CellWrite>(
+    cells: &mut C,
+    usage: &mut Usage,
+    root: Option<Ref>,
+) -> (Option<Ref>, Outcome)
+    requires trie { IsTrie C.has C.kept C.given ⟦<Usage as Space>⟧.account cells.old usage.old root }
+    ensures trie { IsTrie C.has C.kept C.given ⟦<Usage as Space>⟧.account cells.new usage.new result.0 }
+{
+    let sparse = usage.sparse();
+    let (new, done) = evacuate(cells, usage, root);
+    let (names, nodes) = sizes(cells, usage, new);
+    let walks = usage.walks();
+    let outcome = Outcome {
+        sparse,
+        done,
+        names,
+        nodes,
+        walks,
+    };
+    (new, outcome)
+}
+
+/// How many cells count.
+pub(crate) fn live_cells(usage: &Usage) -> u64 {
+    (0..usage.chunks()).fold(
+        0,
+        |cells, chunk| cells.saturating_add(u64::from(usage.live(chunk))),
+    )
+}
+
+/// How many chunks have such.
+pub(crate) fn counted_chunks(usage: &Usage) -> usize {
+    (0..usage.chunks())
+        .filter(|chunk| usage.live(*chunk) > 0)
+        .count()
+}
