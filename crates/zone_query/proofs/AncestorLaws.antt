@@ -1,5 +1,5 @@
 -- Names at or above a name, by how many labels they have.
-use Rattle.std.proofs.Common.{◌≡◌, ◌∙◌, ℕ, zero, suc, ◌-◌, ◌<◌, ◌≤◌, Bool, true, false, cond, not, ◌&&◌, ◌||◌, [], ◌∷◌, ◌++◌, length, drop, reverse, inl, inr, Option, Some, None, refl, sym, ap, subst, arith, length-append, length-drop}
+use Rattle.std.proofs.Common.{◌≡◌, ◌∙◌, ℕ, zero, suc, ◌+◌, ◌-◌, ◌<◌, ◌≤◌, Bool, true, false, cond, not, ◌&&◌, ◌||◌, [], ◌∷◌, ◌++◌, length, drop, slice_index_or, reverse, inl, inr, Option, Some, None, refl, sym, ap, subst, arith, length-append, length-drop}
 use Rattle.std.proofs.lemmas.Bool.{cases_lt}
 use Rattle.std.proofs.lemmas.List.{reverse-append}
 use Rattle.std.proofs.lemmas.List.Folds.{find-append}
@@ -46,6 +46,50 @@ first_above test (label ∷ labels) n l t h = elim (cases_lt (length labels) n) 
       top_first test label labels ∙ ap (λ (o : Option Name). option_or o (find test ((label ∷ labels) ∷ []))) above ∙ ap (λ (x : Name). Some x) (sym same)
       )
 ]
+
+-- ---- octets
+
+pub some_octets : (name : Name) → 0 < length (wire name)
+some_octets [] = omega arith
+some_octets (label ∷ labels) = omega arith
+
+front_octets : (front top : Name) → length front + length (wire top) ≤ length (wire (front ++ top))
+front_octets [] top = omega arith
+front_octets (label ∷ front) top =
+    let rest = front_octets front top in
+    let all = length-append label (wire (front ++ top)) in
+    omega arith
+
+-- what has no more octets than a name that it is at or under has no more labels
+pub as_short : (name top : Name) → is_under name top ≡ true → length (wire name) ≤ length (wire top) → length name ≤ length top
+as_short name top u short =
+    let e = under_ends name top u in
+    let octets = front_octets e.0 top in
+    let same = ap (λ (n : Name). length (wire n)) e.1 in
+    let labels = ap (λ (n : Name). length n) e.1 ∙ length-append e.0 top in
+    omega arith
+
+-- of what has no more octets than a name and a first label have, the first label alone may stand over that name
+pub right_under : (name top : Name) → is_under name top ≡ true → length (wire name) ≤ length (wire top) + 1 + slice_index_or (wire name) 0 0 → length name ≤ length top + 1
+right_under name top u short = let e = under_ends name top u in go e.0 e.1
+  where
+    go : (front : Name) → name ≡ front ++ top → length name ≤ length top + 1
+    go [] e = let labels = ap (λ (n : Name). length n) e in omega arith
+    go (label ∷ front) e =
+        let labels = ap (λ (n : Name). length n) e ∙ length-append (label ∷ front) top in
+        let octets = ap (λ (n : Name). length (wire n)) e in
+        let all = length-append label (wire (front ++ top)) in
+        let first : slice_index_or (wire name) 0 0 ≡ length label = ap (λ (n : Name). slice_index_or (wire n) 0 0) e in
+        let rest = front_octets front top in
+        omega arith
+
+-- and what has more has more
+pub longer : (name top : Name) → is_under name top ≡ true → length (wire top) < length (wire name) → length top < length name
+longer name top u long = let e = under_ends name top u in go e.0 e.1
+  where
+    go : (front : Name) → name ≡ front ++ top → length top < length name
+    go [] e = absurd (let same = ap (λ (n : Name). length (wire n)) e in omega arith)
+    go (label ∷ front) e = let labels = ap (λ (n : Name). length n) e ∙ length-append (label ∷ front) top in omega arith
 
 -- ---- cuts
 

@@ -1,5 +1,5 @@
 -- The rows that were gathered and the answer from there on are the whole answer.
-use Rattle.std.proofs.Common.{◌≡◌, ◌∙◌, ℕ, zero, suc, true, false, cond, List, [], ◌++◌, Some, None, refl, sym, ap, subst, append_assoc, append-nil}
+use Rattle.std.proofs.Common.{◌≡◌, ◌∙◌, ℕ, zero, suc, true, false, cond, List, [], ◌++◌, Option, Some, None, refl, sym, ap, subst, append_assoc, append-nil}
 use Rattle.zone_model.specs.Names.{Name, is_under}
 use Rattle.zone_model.specs.Versions.{Version}
 use Rattle.zone_model.specs.Rows.{Row}
@@ -31,19 +31,21 @@ module _ (whole : Answer) (left : ℕ) (origin : Name) (version : Version) (rtyp
   on = so_far ∙ ap (behind old) (goes_on left origin version rtype name under) ∙ behind_twice old (step origin version rtype name).rows (going_on (followed left origin version rtype) (step origin version rtype name).next)
       ∙ ap (λ (r : List Row). behind r (going_on (followed left origin version rtype) (step origin version rtype name).next)) (sym rows)
 
-  pub leads_on : (target : Name) → LeadsTo (Some target) ≡ (step origin version rtype name).next → whole ≡ behind new (followed left origin version rtype target)
-  leads_on target e = on ∙ ap (λ (n : Next). behind new (going_on (followed left origin version rtype) n)) (sym e)
-
-  pub leads_nowhere : LeadsTo None ≡ (step origin version rtype name).next → told Answered new ≡ whole
-  leads_nowhere e = sym (on ∙ ap (λ (n : Next). behind new (going_on (followed left origin version rtype) n)) (sym e) ∙ behind_none new Answered)
+  pub leads : (target : Option Name) → LeadsTo target ≡ (step origin version rtype name).next → whole ≡ behind new (going_on (followed left origin version rtype) (LeadsTo target))
+  leads target e = on ∙ ap (λ (n : Next). behind new (going_on (followed left origin version rtype) n)) (sym e)
 
   pub ends : (kind : Kind) → Ends kind ≡ (step origin version rtype name).next → told kind new ≡ whole
   ends kind e = sym (on ∙ ap (λ (n : Next). behind new (going_on (followed left origin version rtype) n)) (sym e) ∙ behind_none new kind)
 
--- the last alias was gathered, or it leads out of the zone
-pub last_alias : (whole : Answer) (origin : Name) (version : Version) (rtype : ℕ) (name : Name) (rows : List Row) → whole ≡ behind rows (followed 0 origin version rtype name) → told Answered rows ≡ whole
+-- an alias leads to no name
+pub leads_nowhere : (whole : Answer) (left : ℕ) (origin : Name) (version : Version) (rtype : ℕ) (rows : List Row) → whole ≡ behind rows (going_on (followed left origin version rtype) (LeadsTo None)) → told Answered rows ≡ whole
+leads_nowhere whole left origin version rtype rows e = sym (e ∙ behind_none rows Answered)
+
+-- the last alias was gathered, wherever it leads
+pub last_alias : (whole : Answer) (origin : Name) (version : Version) (rtype : ℕ) (target : Option Name) (rows : List Row) → whole ≡ behind rows (going_on (followed 0 origin version rtype) (LeadsTo target)) → told Answered rows ≡ whole
 unfolding followed
-last_alias whole origin version rtype name rows e = sym (e ∙ behind_none rows Answered)
+last_alias whole origin version rtype None rows e = sym (e ∙ behind_none rows Answered)
+last_alias whole origin version rtype (Some name) rows e = sym (e ∙ behind_none rows Answered)
 
 out : (left : ℕ) (origin : Name) (version : Version) (rtype : ℕ) (name : Name) → is_under name origin ≡ false → followed left origin version rtype name ≡ no_more
 unfolding followed

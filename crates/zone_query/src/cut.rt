@@ -1,6 +1,6 @@
 //! Cuts: names below which another zone begins.
 
-ghost use Rattle.std.specs.Prelude.{◌≡◌, ◌≤◌, ◌==◌, length, true};
+ghost use Rattle.std.specs.Prelude.{◌≡◌, ◌≤◌, ◌+◌, ◌==◌, length, true};
 ghost use Rattle.std.specs.List.{find};
 ghost use Rattle.std.specs.Option.{option_map};
 ghost use Rattle.zone_model.specs.Keys.{most_item_octets};
@@ -34,7 +34,7 @@ pub fn is_cut(origin: &Name, name: &Name, entry: &ItemView<'_>) -> bool
     requires { is_under name.now origin.now ≡ true }
     ensures { (zone : Version) → entry.now ≡ owned name.now zone → result ≡ is_cut origin.now zone name.now }
 {
-    if name.labels() <= origin.labels() {
+    if name.wire().len() <= origin.wire().len() {
         return false;
     }
     entry.find_set(NS).is_some()
@@ -65,6 +65,15 @@ fn delegated<V: Reading>(
         return None;
     }
     Some(held)
+}
+
+/// Whether a name at or under another has one label more at most, which its octets tell.
+pub fn is_right_under(origin: &Name, name: &Name) -> bool
+    requires { is_under name.now origin.now ≡ true }
+    ensures { result ≡ true → length name.now ≤ length origin.now + 1 }
+{
+    let octets = name.wire();
+    octets.len() <= origin.wire().len() + 1 + octets[0] as usize
 }
 
 /// Of the cuts above a name, the one nearest to the origin, by the names at or above it that are there. What it owns is read into

@@ -78,7 +78,9 @@ fn name_of(key: Option<Key>) -> Option<Name>
     }
 }
 
-/// What a version has of a name: whether it is there, the names at or above it, and the last name that isn't after it.
+/// What a version has of a name: whether it is there, the names at or above it, and the last name that isn't after it. Like
+/// `walk` and `back` it stands by itself, since who calls it would clear the room for what it reads for any other question too.
+#[inline(never)]
 pub fn find<V: Reading>(alloc: Global, version: &mut V, name: &Name) -> Result<Found, AllocError>
     requires { ShowsSome (V.holds version.old) }
     ensures same { version.new ≡ version.old }

@@ -1,9 +1,10 @@
 //! Questions and their answers.
 
-ghost use Rattle.std.specs.Prelude.{◌≡◌, ◌≤◌, [], length, IfOk};
+ghost use Rattle.std.specs.Prelude.{◌≡◌, ◌≤◌, [], List, length, IfOk};
 ghost use Rattle.zone_model.specs.Keys.{most_item_octets};
+ghost use Rattle.zone_model.specs.Rows.{Row};
 ghost use Rattle.zone_model.specs.Versions.{Version};
-ghost use Rattle.zone_query.specs.Answers.{answer};
+ghost use Rattle.zone_query.specs.Answers.{LeadsTo, answer, behind, followed, going_on};
 ghost use Rattle.zone_query.specs.Parts.{IsGiven};
 ghost use Rattle.zone_query.specs.Standing.{Shows, ShowsSome};
 
@@ -71,17 +72,41 @@ pub fn answer_into<V: Reading, S: RowSink>(
     if !name.is_under(origin) {
         return Ok(Kind::Outside);
     }
-    let mut asked = *name;
-    for _ in 0..MOST_ALIASES {
-        if let Next::Ends(kind) = step(alloc, version, origin, &asked, rtype, walker, item, rows)? {
-            return Ok(kind);
-        }
+    if let Next::Ends(kind) = step(alloc, version, origin, name, rtype, walker, item, rows)? {
+        return Ok(kind);
+    }
+    follow(alloc, version, origin, rtype, item, walker, rows)
+}
+
+// Goes on with the target of a first alias, which the walker has. It stands by itself, since a function clears the room for all names
+// that it may read.
+#[inline(never)]
+fn follow<V: Reading, S: RowSink>(
+    alloc: Global,
+    version: &mut V,
+    origin: &Name,
+    rtype: u16,
+    item: &mut [u8],
+    walker: &mut Walker,
+    rows: &mut S,
+) -> Result<Kind, AllocError>
+    requires shown { ShowsSome (V.holds version.old) }
+    requires room { most_item_octets ≤ length item.old }
+    ensures same { version.new ≡ version.old }
+    ensures answer { (zone : Version) (given : List Row) → Shows (V.holds version.old) zone → S.has rows.old given
+        → IfOk result (IsGiven (S.has rows.new) (behind given (going_on (followed 15 origin.now zone rtype) (LeadsTo walker.old.target)))) }
+{
+    for _ in 1..MOST_ALIASES {
         let Some(target) = walker.target else {
             return Ok(Kind::Answered);
         };
-        asked = target;
-        if !asked.is_under(origin) {
+        if !target.is_under(origin) {
             return Ok(Kind::Answered);
+        }
+        if let Next::Ends(kind) = step(
+            alloc, version, origin, &target, rtype, walker, item, rows,
+        )? {
+            return Ok(kind);
         }
     }
     Ok(Kind::Answered)

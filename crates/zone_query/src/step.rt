@@ -5,13 +5,14 @@ ghost use Rattle.std.specs.Option.{option_map};
 ghost use Rattle.zone_model.specs.Keys.{key_of, most_item_octets};
 ghost use Rattle.zone_model.specs.Names.{Name as Labels, is_under};
 ghost use Rattle.zone_model.specs.Records.{rrset_of};
+ghost use Rattle.zone_model.specs.Rows.{rows_of};
 ghost use Rattle.zone_model.specs.Splits.{split_name};
 ghost use Rattle.zone_model.specs.Versions.{Version, exists, owned};
-ghost use Rattle.zone_query.specs.Answers.{Ends, alias_in, by_alias, step, target_of, set_rows, ns_type};
+ghost use Rattle.zone_query.specs.Answers.{Ends, LeadsTo, alias_in, by_alias, step, target_of, set_rows, ns_type};
 ghost use Rattle.zone_query.specs.Parts.{Gives, GivesAtOnce, NoneOver};
 ghost use Rattle.zone_query.specs.Standing.{IsApart, Shows, ShowsSome};
 
-use crate::cut::{cut_over, is_cut};
+use crate::cut::{cut_over, is_cut, is_right_under};
 use crate::kind::Kind;
 use crate::node::absent_node;
 use crate::records::read_owned;
@@ -61,6 +62,22 @@ fn alias_in<'a>(entry: &ItemView<'a>, rtype: u16) -> Option<SetView<'a>>
     }
 }
 
+/// What an alias gives under an owner. Its target is put apart. It stands by itself, since a function clears the room for all names that it may read.
+#[inline(never)]
+fn give_alias<S: RowSink>(
+    alloc: Global,
+    alias: &SetView<'_>,
+    owner: &Name,
+    target: &mut Option<Name>,
+    rows: &mut S,
+) -> Result<Next, AllocError>
+    ensures { Gives (record { rows = rows_of owner.now alias.now; next = LeadsTo (target_of alias.now.records) }) (S.has rows.old) (S.has rows.new) target.new result }
+{
+    rows.push(alloc, owner, alias)?;
+    *target = target_of(alias);
+    Ok(Next::Leads)
+}
+
 /// What these records give under an owner. The target of an alias among them is put apart.
 fn give<S: RowSink>(
     alloc: Global,
@@ -73,9 +90,7 @@ fn give<S: RowSink>(
     ensures { Gives (by_alias owner.now rtype entry.now (alias_in rtype entry.now)) (S.has rows.old) (S.has rows.new) target.new result }
 {
     if let Some(alias) = alias_in(entry, rtype) {
-        rows.push(alloc, owner, &alias)?;
-        *target = target_of(&alias);
-        return Ok(Next::Leads);
+        return give_alias(alloc, &alias, owner, target, rows);
     }
     match entry.find_set(rtype) {
         Some(set) => {
@@ -157,6 +172,8 @@ fn give_absent<V: Reading, S: RowSink>(
 }
 
 /// What a name gives, by one walk of the trie: the cuts above it, what it owns, or how far the nearest name is the same. The walker has the name's key.
+/// It stands by itself, for names that are read at once.
+#[inline(never)]
 fn search<V: Reading, S: RowSink>(
     alloc: Global,
     version: &mut V,
@@ -195,6 +212,7 @@ fn search<V: Reading, S: RowSink>(
 }
 
 /// What a name gives that is right under the origin, if it is there: no cut can lie above it. No rows are added where it tells nothing.
+#[inline(always)]
 pub fn give_there<V: Reading, S: RowSink>(
     alloc: Global,
     version: &mut V,
@@ -214,7 +232,7 @@ pub fn give_there<V: Reading, S: RowSink>(
     ensures gives { (zone : Version) → Shows (V.holds version.old) zone
         → GivesAtOnce (step origin.now zone rtype name.now) (S.has rows.old) (S.has rows.new) target.new result }
 {
-    if name.labels().saturating_sub(1) > origin.labels() {
+    if !is_right_under(origin, name) {
         return Ok(None);
     }
     let len = read_owned(version, name, key, item);
@@ -227,6 +245,7 @@ pub fn give_there<V: Reading, S: RowSink>(
 }
 
 /// Adds the rows that a name at or under the origin gives, and tells how the answer goes on. Items are read into `item`.
+#[inline(always)]
 pub fn step<V: Reading, S: RowSink>(
     alloc: Global,
     version: &mut V,

@@ -59,6 +59,7 @@ fn previous_names<V: Reading>(
 }
 
 /// The first names at or after a name, at most so many.
+#[inline(never)]
 pub fn walk<V: Reading>(
     alloc: Global,
     version: &mut V,
@@ -76,6 +77,7 @@ pub fn walk<V: Reading>(
 }
 
 /// The last names before a name, the nearest first, at most so many.
+#[inline(never)]
 pub fn back<V: Reading>(
     alloc: Global,
     version: &mut V,
