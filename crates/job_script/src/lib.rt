@@ -6,6 +6,7 @@ mod changes;
 mod commands;
 mod inside;
 mod laws;
+mod marks;
 mod needs;
 mod outcomes;
 mod outside;

@@ -4,6 +4,7 @@ ghost use Rattle.std.specs.List.{flat_map};
 ghost use Rattle.job_model.specs.Replies as replies;
 ghost use Rattle.job_model.specs.Replies.{count_text};
 
+use crate::marks::push_marked;
 use dns_name::Name;
 use std::alloc::AllocError;
 use trie_read::Kind as Presence;
@@ -15,11 +16,11 @@ pub fn push_kind(out: &mut Vec<u8>, kind: &[u8], count: u64) -> Result<(), Alloc
     ensures { OnOk result (out.new.items ≡ out.old.items ++ kind.now ++ count_text count ++ codes "\n") }
 {
     out.extend_from_slice(kind)?;
-    if count > 0 {
-        out.extend_from_slice(b" ")?;
-        push_decimal(out, count)?;
+    if count == 0 {
+        return out.extend_from_slice(b"\n");
     }
-    out.extend_from_slice(b"\n")
+    out.extend_from_slice(b" ")?;
+    push_marked(out, count, b'\n')
 }
 
 fn push_names(out: &mut Vec<u8>, names: &[Name]) -> Result<(), AllocError>

@@ -8,6 +8,7 @@ ghost use Rattle.job_script.specs.Feeds.{fed_outcomes_text};
 ghost use Rattle.job_script.specs.Views.{job_view};
 
 use crate::commands::Job;
+use crate::marks::push_marked;
 use crate::outcomes::{Cause, FedOutcome, Outcome, Outcomes, Told};
 use master_file::Zone;
 use std::alloc::{AllocError, Global};
@@ -18,12 +19,10 @@ use zone_text::push_decimal;
 fn push_head(out: &mut Vec<u8>, worker: u64, command: u64, version: u64) -> Result<(), AllocError>
     ensures { OnOk result (out.new.items ≡ out.old.items ++ head_text worker command version) }
 {
-    push_decimal(out, worker)?;
-    out.extend_from_slice(b".")?;
+    push_marked(out, worker, b'.')?;
     push_decimal(out, command)?;
     out.extend_from_slice(b" v")?;
-    push_decimal(out, version)?;
-    out.extend_from_slice(b" ")
+    push_marked(out, version, b' ')
 }
 
 fn push_rule(out: &mut Vec<u8>, refusal: Refusal) -> Result<(), AllocError>

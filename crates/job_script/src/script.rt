@@ -84,9 +84,13 @@ fn take_tokens(
     if !may_stand(script.listing, &phrase) {
         return Err(refused(line, ScriptKind::BadCommand));
     }
+    if script.block.is_none() {
+        return outside(script, alloc, bytes, origin, line, &phrase);
+    }
     match script.block.take() {
-        None => outside(script, alloc, bytes, origin, line, &phrase),
         Some(block) => inside(script, alloc, bytes, origin, block, line, &phrase),
+        // One is open.
+        None => unreachable!(),
     }
 }
 
