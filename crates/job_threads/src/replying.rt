@@ -3,8 +3,9 @@ ghost use Rattle.std.specs.Prelude.{◌≡◌, ◌≤◌, ◌++◌, length, IfOk
 ghost use Rattle.zone_model.specs.Dumps.{all_rows};
 ghost use Rattle.zone_model.specs.Keys.{most_item_octets};
 ghost use Rattle.zone_model.specs.Versions.{Version};
+ghost use Rattle.zone_query.specs.Around.{find};
 ghost use Rattle.zone_query.specs.Standing.{Shows, ShowsSome};
-ghost use Rattle.job_model.specs.Replies.{reply_of, reply_text, rows_text, size_text};
+ghost use Rattle.job_model.specs.Replies.{found_text, reply_of, reply_text, rows_text, size_text};
 ghost use Rattle.job_model.specs.Sizes.{node_count};
 
 use crate::room::Room;
@@ -45,6 +46,23 @@ fn push_numbers<V: Reading>(version: &mut V, out: &mut Vec<u8>) -> Result<(), Al
     push_size(out, names, version.nodes())
 }
 
+// Pushes what there is of a name. It stands by itself, since whoever calls it clears the room for that.
+#[inline(never)]
+fn push_around<V: Reading>(
+    alloc: Global,
+    version: &mut V,
+    name: &Name,
+    out: &mut Vec<u8>,
+) -> Result<(), AllocError>
+    requires { ShowsSome (V.holds version.old) }
+    ensures same { version.new ≡ version.old }
+    ensures reply { (zone : Version) → Shows (V.holds version.old) zone
+        → OnOk result (out.new.items ≡ out.old.items ++ found_text (find name.now zone)) }
+{
+    let found = find(alloc, version, name)?;
+    push_found(out, &found)
+}
+
 // Pushes what is printed of a version's reply to a question.
 fn push_reply<V: Reading>(
     alloc: Global,
@@ -68,10 +86,7 @@ fn push_reply<V: Reading>(
             let kind = answer_into(alloc, version, origin, name, *rtype, item, walker, rows)?;
             push_answer(out, kind, rows)
         }
-        Question::Find(name) => {
-            let found = find(alloc, version, name)?;
-            push_found(out, &found)
-        }
+        Question::Find(name) => push_around(alloc, version, name, out),
         Question::Walk(stretch) => {
             let names = walk(alloc, version, &stretch.start, stretch.most as usize)?;
             push_list(out, b"WALK", &names)
