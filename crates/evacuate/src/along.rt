@@ -61,10 +61,10 @@ fn opened_at(usage: &Usage, node: Node, path: Path, chunk: u32, end: u16) -> Opt
     Some(Passage { descent, stays })
 }
 
-/// How a way on which a sparse chunk is emptied goes on at a node: twigs that lie in it are moved, and others stay. It ends at a leaf, where the
-/// path forks, and where those may not be written.
+/// How a way on which a sparse chunk is emptied goes on at a node: twigs that lie in it are moved, and others stay where they may be written.
+/// Where they may not, the way ends, or they are moved where it goes on to an item. It ends at a leaf and where the path forks.
 #[inline]
-fn emptied_at(usage: &Usage, node: Node, path: Path, chunk: u32) -> Option<Passage>
+fn emptied_at(usage: &Usage, node: Node, path: Path, chunk: u32, to_item: bool) -> Option<Passage>
     requires { (b : Branch) → node ≡ branch_node b → b.twigs + count_ones b.bitmap ≤ 2 ^ 22 }
     ensures branch { IfSome result (λ passage. node ≡ branch_node passage.descent.branch) }
     ensures index { IfSome result (λ passage. passage.descent.index < count_ones passage.descent.branch.bitmap) }
@@ -79,11 +79,9 @@ fn emptied_at(usage: &Usage, node: Node, path: Path, chunk: u32) -> Option<Passa
             stays: false,
         });
     }
-    if usage.is_mutable(descent.branch.twigs + descent.index) {
-        return Some(Passage {
-            descent,
-            stays: true,
-        });
+    let stays = usage.is_mutable(descent.branch.twigs + descent.index);
+    if stays || to_item {
+        return Some(Passage { descent, stays });
     }
     None
 }
@@ -191,14 +189,15 @@ pub fn open_on<C: CellWrite>(
     Ok(moved)
 }
 
-/// Goes down from a root along a path, and moves what lies in a sparse chunk, as far as the twigs above it are mutable. Tells whether anything
-/// was moved. Where there is no room for that, what was moved before stays so.
+/// Goes down from a root along a path, and moves what lies in a sparse chunk, as far as the twigs above it are mutable, or to the item with
+/// those that aren't. Tells whether anything was moved. Where there is no room for that, what was moved before stays so.
 pub fn empty_along<C: CellWrite>(
     cells: &mut C,
     usage: &mut Usage,
     root: Ref,
     path: Path,
     chunk: u32,
+    to_item: bool,
 ) -> Result<bool, Full>
     requires stood { IsStood C.has cells.old usage.old root }
     requires writable { IsWritable C.given reserve_account_of cells.old usage.old root }
@@ -211,7 +210,7 @@ pub fn empty_along<C: CellWrite>(
     let mut at = root;
     let mut node = Node::of(cells.cell(root));
     let mut moved = false;
-    while let Some(passage) = emptied_at(usage, node, on, chunk) {
+    while let Some(passage) = emptied_at(usage, node, on, chunk, to_item) {
         at = pass(cells, usage, at, passage)?;
         moved = moved || !passage.stays;
         on = on.rest();

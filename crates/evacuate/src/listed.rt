@@ -11,10 +11,13 @@ use super::along::{empty_along, open_on};
 use super::foothold::descend;
 use super::forks::{move_forked, open_forked};
 use super::marks::{Listing, Mark, Marks};
-use super::path_walk::{Last, last_along};
+use super::path_walk::{Last, Rest, last_along};
 use chunk_cells::CellWrite;
 use chunk_usage::{Full, Path, Usage};
 use packed_node::Ref;
+
+// How often sparse chunks are looked for whose paths weren't gone along.
+const ROUNDS: u32 = 8;
 
 /// What is done along paths.
 #[derive(Clone, Copy, PartialEq, Eq)]
@@ -25,14 +28,15 @@ enum Step {
     Move,
 }
 
-/// Moves what lies in a sparse chunk along a path that doesn't fork. What the bump chunk is now lists the path, unless it is that of when so
-/// many chunks were free, which lists it already.
+/// Moves what lies in a sparse chunk along a path that doesn't fork, perhaps down to the item. What the bump chunk is now lists the path, unless
+/// it is that of when so many chunks were free, which lists it already.
 fn move_along<C: CellWrite>(
     cells: &mut C,
     usage: &mut Usage,
     root: Ref,
     chunk: u32,
     path: Path,
+    to_item: bool,
     noted: Option<u32>,
 ) -> Result<(), Full>
     requires stood { IsStood C.has cells.old usage.old root }
@@ -42,7 +46,7 @@ fn move_along<C: CellWrite>(
     ensures full { IfErr result (λ _. IsFull usage.new) }
     ensures ready { Ready C.kept C.given reserve_account_of cells.new usage.new }
 {
-    let moved = empty_along(cells, usage, root, path, chunk)?;
+    let moved = empty_along(cells, usage, root, path, chunk, to_item)?;
     if moved && noted != Some(usage.free()) {
         usage.note(path);
     }
@@ -50,14 +54,17 @@ fn move_along<C: CellWrite>(
 }
 
 /// The mark of a path on which twigs were made mutable, where something is left then.
-fn mark_of(noted: bool, left: bool) -> Option<Mark> {
-    if !left {
+fn mark_of(noted: bool, rest: Rest) -> Option<Mark> {
+    if rest == Rest::Nothing {
         return None;
     }
-    Some(if noted { Mark::Noted } else { Mark::Straight })
+    Some(Mark::Straight {
+        to_item: rest == Rest::Item,
+        noted,
+    })
 }
 
-/// Makes the twigs mutable that are above the last on a path that lies in a chunk, and the bump chunk lists the path if any was moved for that.
+/// Makes twigs mutable that are above the last on a path that lies in a chunk, and the bump chunk lists the path if any was moved for that.
 /// Tells what is left there then.
 fn open_along<C: CellWrite>(
     cells: &mut C,
@@ -76,12 +83,12 @@ fn open_along<C: CellWrite>(
     let from = descend(cells, usage, root, path, chunk);
     match last_along(cells, chunk, from.node, from.on) {
         Last::None => Ok(None),
-        Last::Below { end, left } => {
+        Last::Below { end, rest } => {
             let noted = open_on(cells, usage, root, from, chunk, end)?;
             if noted {
                 usage.note(path);
             }
-            Ok(mark_of(noted, left))
+            Ok(mark_of(noted, rest))
         }
         Last::Forks => {
             let found = open_forked(cells, usage, root, path)?;
@@ -118,8 +125,10 @@ fn step_along<C: CellWrite>(
     };
     let path = usage.path(listing.chunk, listing.place);
     match mark {
-        Mark::Straight => move_along(cells, usage, root, listing.chunk, path, None),
-        Mark::Noted => move_along(cells, usage, root, listing.chunk, path, Some(marks.free)),
+        Mark::Straight { to_item, noted } => {
+            let noted = noted.then_some(marks.free);
+            move_along(cells, usage, root, listing.chunk, path, to_item, noted)
+        }
         Mark::Forked => move_forked(cells, usage, root, path),
     }
 }
@@ -150,7 +159,7 @@ fn step_in_chunk<C: CellWrite>(
     Ok(())
 }
 
-/// The same for each sparse chunk.
+/// The same for each sparse chunk, which is begun only once where twigs are made mutable.
 fn step_in_all<C: CellWrite>(
     cells: &mut C,
     usage: &mut Usage,
@@ -168,8 +177,35 @@ fn step_in_all<C: CellWrite>(
     let mut from = 0;
     while let Some(chunk) = usage.sparse_from(from) {
         usage.known(); // for the proof
-        step_in_chunk(cells, usage, root, chunk, step, marks)?;
+        if step == Step::Move || marks.begin(chunk) {
+            step_in_chunk(cells, usage, root, chunk, step, marks)?;
+        }
         from = chunk + 1;
+    }
+    Ok(())
+}
+
+/// Makes twigs mutable above what the lists of sparse chunks lead to. What is moved away may leave further chunks sparse, whose lists are gone
+/// along too before anything else is moved: so what changes often doesn't come to lie behind what doesn't.
+fn open_all<C: CellWrite>(
+    cells: &mut C,
+    usage: &mut Usage,
+    root: Ref,
+    marks: &mut Marks,
+) -> Result<(), Full>
+    requires stood { IsStood C.has cells.old usage.old root }
+    requires writable { IsWritable C.given reserve_account_of cells.old usage.old root }
+    requires ready { Ready C.kept C.given reserve_account_of cells.old usage.old }
+    ensures rearranged { Rearranged C.has C.kept C.given root cells.old usage.old cells.new usage.new }
+    ensures full { IfErr result (λ _. IsFull usage.new) }
+    ensures ready { Ready C.kept C.given reserve_account_of cells.new usage.new }
+{
+    for _ in 0..ROUNDS {
+        let begun = marks.begun;
+        step_in_all(cells, usage, root, Step::Copy, marks)?;
+        if marks.begun == begun {
+            return Ok(());
+        }
     }
     Ok(())
 }
@@ -184,6 +220,6 @@ pub fn move_listed<C: CellWrite>(cells: &mut C, usage: &mut Usage, root: Ref) ->
     ensures ready { Ready C.kept C.given reserve_account_of cells.new usage.new }
 {
     let mut marks = Marks::new(usage.free());
-    step_in_all(cells, usage, root, Step::Copy, &mut marks)?;
+    open_all(cells, usage, root, &mut marks)?;
     step_in_all(cells, usage, root, Step::Move, &mut marks)
 }

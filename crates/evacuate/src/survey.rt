@@ -6,16 +6,11 @@ ghost use Rattle.trie_model.specs.Trees.{Tree};
 ghost use Rattle.trie_read.specs.Reads.{IsTop};
 ghost use Rattle.evacuate.specs.Places.{IsStood};
 
+use super::path_walk::position_from;
 use chunk_cells::CellRead;
 use chunk_cells::extents::{LAST_OCTETS, LINKED_OCTETS, next_extent};
 use chunk_usage::{Path, Usage};
 use packed_node::{Branch, Cell, Node, Ref, chunk_of};
-
-/// The position of a branch's twig: the first from a place on.
-fn position_from(branch: Branch, place: u8) -> u8 {
-    let later = (branch.bitmap >> (place & 63)) << (place & 63);
-    (later.trailing_zeros() & 63) as u8
-}
 
 /// Lists a path for the chunks of an item's extents. The item begins here, and has so many octets.
 fn pass_item<C: CellRead>(cells: &mut C, usage: &mut Usage, at: Ref, len: u16, path: Path)
