@@ -133,7 +133,7 @@ fn step_along<C: CellWrite>(
     }
 }
 
-/// Does it along each path that a chunk lists.
+/// Does it along each path that a chunk lists. Where twigs are made mutable it is done once.
 fn step_in_chunk<C: CellWrite>(
     cells: &mut C,
     usage: &mut Usage,
@@ -149,6 +149,9 @@ fn step_in_chunk<C: CellWrite>(
     ensures full { IfErr result (λ _. IsFull usage.new) }
     ensures ready { Ready C.kept C.given reserve_account_of cells.new usage.new }
 {
+    if step == Step::Copy && !marks.begin(chunk) {
+        return Ok(());
+    }
     for place in 0..usage.listed(chunk) {
         if usage.live(chunk) == 0 {
             return Ok(());
@@ -159,7 +162,7 @@ fn step_in_chunk<C: CellWrite>(
     Ok(())
 }
 
-/// The same for each sparse chunk, which is begun only once where twigs are made mutable.
+/// The same for each sparse chunk.
 fn step_in_all<C: CellWrite>(
     cells: &mut C,
     usage: &mut Usage,
@@ -177,9 +180,7 @@ fn step_in_all<C: CellWrite>(
     let mut from = 0;
     while let Some(chunk) = usage.sparse_from(from) {
         usage.known(); // for the proof
-        if step == Step::Move || marks.begin(chunk) {
-            step_in_chunk(cells, usage, root, chunk, step, marks)?;
-        }
+        step_in_chunk(cells, usage, root, chunk, step, marks)?;
         from = chunk + 1;
     }
     Ok(())
