@@ -5,13 +5,14 @@
 # (one item by an `update`) or `thin` (nine names of ten taken out by one `write`). Each is done with nobody beside it, and then while a
 # snapshot of the first version is held. Nanoseconds are of one run; instructions (valgrind's callgrind) are the difference of 3,000 and 1,000
 # transactions. Where LMDB is installed (liblmdb-dev, and a C compiler), bench/lmdb.c does the same by it, without waiting for the disk.
-# Usage: bench/commits.sh [PROGRAM [NAMES..]] >bench/results/commits.tsv: a program that was built before, and how many names. With words in KINDS
+# Usage: bench/commits.sh [PROGRAM [NAMES..]] >bench/results/commits.tsv: where the built program is or is to stay, and how many names. With words in KINDS
 # only these kinds, and only while nothing is held. Changes nothing but files in a temporary folder.
 set -eu
 here=$(cd "$(dirname "$0")" && pwd)
 folder=$(mktemp -d)
 trap 'rm -rf "$folder"' EXIT
-program=${1:-$folder/crates/commits/out/commits}
+built=$folder/crates/commits/out/commits
+program=${1:-$built}
 
 # builds the program
 build() {
@@ -136,42 +137,14 @@ PROOFS
 
     git -C "$folder" init -q
     (cd "$crate" && rt run </dev/null >"$folder/build" 2>&1) || true
-    [ -x "$program" ] || { tail -20 "$folder/build"; exit 1; }
+    [ -x "$built" ] || { tail -20 "$folder/build"; exit 1; }
+    [ "$program" = "$built" ] || cp "$built" "$program"
 }
-[ $# -gt 0 ] || build
+[ -x "$program" ] || build
 
 # NAMES names, and COUNT transactions of a kind
 input() {
-    python3 - "$1" "$2" "$3" <<'PY'
-import random
-import sys
-
-count, most, kind = int(sys.argv[1]), int(sys.argv[2]), sys.argv[3]
-letters = "abcdefghijklmnopqrstuvwxyz0123456789"
-draw = random.Random(3)
-names = set()
-while len(names) < count:
-    names.add("".join(draw.choice(letters) for _ in range(draw.randint(5, 12))))
-names = sorted(names)
-print("example.")
-for name in names:
-    print(f"{name}.example.")
-if kind == "thin":
-    print(">w" + "".join(f" -{name}.example." for i, name in enumerate(names) if i % 10))
-before = []
-for _ in range(most if kind != "thin" else 0):
-    now = draw.sample(names, 2 if kind == "four" else 1)
-    out, put = (now, before) if kind == "four" else (before, now)
-    mark = "_acme-challenge." if kind == "below" else ""
-    if kind in ("four", "below"):
-        words = [f"-{mark}{name}.example." for name in out if name not in put]
-        words += [f"+{mark}{name}.example." for name in put if name not in out]
-        before = now
-    else:
-        words = [f"={now[0]}.example."]
-    if words:
-        print(">u" if kind == "update" else ">w", *words)
-PY
+    python3 "$here/commits.py" "$@"
 }
 ours() {
     "$program" "$@"

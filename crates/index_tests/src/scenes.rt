@@ -1,5 +1,5 @@
 //! Scenes that the tests play, each on an index of one item.
-ghost use Rattle.std.specs.Prelude.{◌≡◌, ◌≤◌, Some, slice_get};
+ghost use Rattle.std.specs.Prelude.{◌≡◌, ◌≤◌, Some, IsSome, slice_get};
 ghost use Rattle.trie_model.specs.Keys.{Rises};
 ghost use Rattle.trie_write.specs.Entries.{entries_of_items};
 
@@ -9,7 +9,7 @@ use crate::long_items::{exchanged, read_while_exchanged};
 use crate::rewriting::{compacted, rewritten};
 use crate::rows::{LARGE, dropped, full, held, in_turn, kept, rolled_back, told};
 use crate::worker::{Act, Any, Worker, workers};
-use shared_index::{Blank, Index, Named};
+use shared_index::{Blank, Index, Named, Pass};
 use std::alloc::Global;
 use std::marker::Brand;
 use std::sync::Wait;
@@ -108,6 +108,14 @@ enum Closing {
     ByNobody,
 }
 
+/// A pass puts a name in, and is given up.
+fn put_in<N: Named, R: Wait>(rt: &R, index: &Index<Any, N>, pass: Pass<N>, item: &Item)
+    requires { (IsSome pass.seat) × (pass.place ≡ index.now.place) }
+{
+    let mut writer = Worker { index, pass };
+    let _receipt = writer.write(rt, item, Act::In);
+}
+
 /// One pass commits, and the index is closed. The version that it then had.
 fn close<N: Named, R: Wait>(
     rt: &R,
@@ -123,13 +131,10 @@ fn close<N: Named, R: Wait>(
     let Ok((index, mut passes)) = Index::<Any, N>::open(alloc, blank, 0, items) else {
         return None;
     };
-    let pass = passes.pop()?;
-    let mut writer = Worker {
-        index: &index,
-        pass,
+    let Some(pass) = passes.pop() else {
+        return None;
     };
-    let _receipt = writer.write(rt, second, Act::In);
-    drop(writer);
+    put_in(rt, &index, pass, second);
     match closing {
         Closing::ByOthers => Some(index.close(passes)),
         Closing::ByNobody => Some(index.close(Vec::new(alloc))),

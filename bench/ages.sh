@@ -1,0 +1,27 @@
+#!/usr/bin/env bash
+# Prints a table of what a commit of the shared index takes by how many came before: the instructions (valgrind's callgrind) of one, as the
+# difference between so many transactions and 2,000 fewer, at names drawn at random from NAMES like `hq3k9x2`. `four` is two names out and the two
+# before in again by a `write`, `update` one item exchanged by an `update`.
+# Usage: bench/ages.sh PROGRAM [NAMES..] >bench/results/ages.tsv (100,000 names): PROGRAM is where bench/commits.sh left its own. It takes
+# minutes, and changes nothing but files of its own in a temporary folder.
+set -eu
+here=$(cd "$(dirname "$0")" && pwd)
+program=$1
+shift
+(($#)) || set -- 100000
+folder=$(mktemp -d)
+trap 'rm -rf "$folder"' EXIT
+# NAMES COUNT KIND
+instructions() {
+    python3 "$here/commits.py" "$@" >"$folder/input"
+    valgrind --tool=callgrind --callgrind-out-file=/dev/null "$program" <"$folder/input" 2>&1 >/dev/null | sed -n 's/.*Collected : //p'
+}
+printf 'names\tkind\ttransactions\tinstructions\n'
+for names in "$@"; do
+    for kind in four update; do
+        for count in 3000 20000 80000; do
+            printf '%s\t%s\t%s\t%s\n' "$names" "$kind" "$count" \
+                $((($(instructions "$names" "$count" "$kind") - $(instructions "$names" $((count - 2000)) "$kind")) / 2000))
+        done
+    done
+done
