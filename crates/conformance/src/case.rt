@@ -59,11 +59,11 @@ pub enum InTurn {
     Writes,
 }
 
-/// What is due of a run.
+/// What is due of an input that is cut.
 #[derive(Drop)]
-pub struct Due {
-    /// Where the input is cut, the most bytes that are left of it.
-    pub upto: Option<usize>,
+pub struct Cut {
+    /// The most bytes that are left of it.
+    pub upto: usize,
     pub status: u8,
     pub output: String,
 }
@@ -77,9 +77,13 @@ pub struct Case {
     pub reads: Calls,
     pub writes: Calls,
     pub input: String,
-    /// One of these is due, or where the input is cut after each byte, the first that has so many.
-    pub dues: Vec<Due>,
+    /// The exit status that is due.
+    pub status: u8,
+    /// What is due to be written: one of these.
+    pub outputs: Vec<String>,
     pub in_turn: InTurn,
+    /// If there are any, the input is cut after each byte.
+    pub cuts: Vec<Cut>,
 }
 
 impl Case {
@@ -91,8 +95,10 @@ impl Case {
             reads: Calls::of(alloc, 7),
             writes: Calls::of(alloc, 5),
             input: String::new(alloc),
-            dues: Vec::new(alloc),
+            status: 0,
+            outputs: Vec::new(alloc),
             in_turn: InTurn::None,
+            cuts: Vec::new(alloc),
         })
     }
 }

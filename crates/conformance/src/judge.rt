@@ -1,6 +1,6 @@
 //! Runs a case, and says whether all is as it is due.
-use crate::case::{Case, Due, InTurn};
-use anyhow::Context;
+use crate::case::{Case, InTurn};
+use anyhow::bail;
 use outer_io::{MemSink, MemSource};
 use qp_main::{Gate, run};
 use std::alloc::{AllocError, Global};
@@ -25,12 +25,20 @@ const ROOM: usize = 400_000;
 /// The most calls that fail in turn.
 const MOST_CALLS: u64 = 1000;
 
+/// What stands behind the digits that a text begins with.
+fn past_number(text: &[u8]) -> &[u8] {
+    match text.iter().position(|b| !b.is_ascii_digit()) {
+        Some(end) => &text[end..],
+        None => b"",
+    }
+}
+
 /// Whether a text is one that is due, in which `?` stands for any number.
-fn is_like(text: &str, due: &str) -> bool {
+fn is_like(text: &[u8], due: &[u8]) -> bool {
     let mut left = text;
-    for (index, part) in due.split('?').enumerate() {
-        if index > 0 {
-            left = left.trim_start_matches(|c: char| c.is_ascii_digit());
+    for (place, part) in due.split(|b| *b == b'?').enumerate() {
+        if place > 0 {
+            left = past_number(left);
         }
         let Some(behind) = left.strip_prefix(part) else {
             return false;
@@ -44,14 +52,7 @@ fn is_like(text: &str, due: &str) -> bool {
 #[derive(Drop)]
 struct Outcome {
     status: u8,
-    written: String,
-}
-
-impl Outcome {
-    /// Whether it is as due.
-    fn is(&self, due: &Due) -> bool {
-        self.status == due.status && is_like(self.written.as_str(), due.output.as_str())
-    }
+    written: Vec<u8>,
 }
 
 /// Runs a case on an input, with the reads and writes of these numbers failing.
@@ -70,14 +71,22 @@ fn run_case<R: Threads + Wait + Sync>(
     let written = sink.held().unwrap_or(b"more than there is room for");
     Ok(Outcome {
         status,
-        written: String::from_utf8_lossy(alloc, written)?,
+        written: Vec::from_slice(alloc, written)?,
     })
 }
 
+/// Whether a run ended with a status, and wrote one of the texts that are due.
+fn is_one_of(found: &Outcome, status: u8, outputs: &[String]) -> bool {
+    let like = outputs
+        .iter()
+        .any(|due| is_like(&found.written, due.as_bytes()));
+    found.status == status && like
+}
+
 /// Says on standard output what a run gave that isn't as it is due.
-fn say_other<R: Print>(rt: &R, name: &str, found: &Outcome) -> anyhow::Result<()> {
+fn say_other<R: Print>(rt: &R, alloc: Global, name: &str, found: &Outcome) -> anyhow::Result<()> {
     println!(rt; "{name}: status {}, and written was", found.status)?;
-    println!(rt; "{}", found.written)?;
+    println!(rt; "{}", String::from_utf8_lossy(alloc, &found.written)?)?;
     Ok(())
 }
 
@@ -87,8 +96,8 @@ fn is_cut_short(case: &Case, found: &Outcome) -> bool {
         InTurn::None => false,
         InTurn::Reads => found.status == 5 && found.written.is_empty(),
         InTurn::Writes => {
-            let is_front = |due: &Due| due.output.starts_with(found.written.as_str());
-            found.status == 6 && case.dues.first().is_some_and(is_front)
+            let due = case.outputs.first();
+            found.status == 6 && due.is_some_and(|due| due.as_bytes().starts_with(&found.written))
         }
     }
 }
@@ -111,11 +120,11 @@ fn runs_as_due<R: Threads + Wait + Sync + Print>(
     for number in 1..=MOST_CALLS {
         let (reads, writes) = failing(alloc, case, number)?;
         let found = run_case(rt, alloc, case, case.input.as_bytes(), reads, writes)?;
-        if case.dues.iter().any(|due| found.is(due)) {
+        if is_one_of(&found, case.status, &case.outputs) {
             return Ok(true);
         }
         if !is_cut_short(case, &found) {
-            say_other(rt, case.name.as_str(), &found)?;
+            say_other(rt, alloc, case.name.as_str(), &found)?;
             return Ok(false);
         }
     }
@@ -130,13 +139,14 @@ fn cuts_as_due<R: Threads + Wait + Sync + Print>(
 ) -> anyhow::Result<bool> {
     let input = case.input.as_bytes();
     for len in 0..=input.len() {
-        let has = |due: &&Due| due.upto.is_some_and(|upto| len <= upto);
-        let due = case.dues.iter().find(has).context("nothing is due")?;
+        let Some(cut) = case.cuts.iter().find(|cut| len <= cut.upto) else {
+            bail!("nothing is due of {len} bytes");
+        };
         let (reads, writes) = failing(alloc, case, 0)?;
         let found = run_case(rt, alloc, case, &input[..len], reads, writes)?;
-        if !found.is(due) {
+        if found.status != cut.status || !is_like(&found.written, cut.output.as_bytes()) {
             println!(rt; "of {len} bytes")?;
-            say_other(rt, case.name.as_str(), &found)?;
+            say_other(rt, alloc, case.name.as_str(), &found)?;
             return Ok(false);
         }
     }
@@ -149,9 +159,9 @@ pub(crate) fn is_as_due<R: Threads + Wait + Sync + Print>(
     alloc: Global,
     case: &Case,
 ) -> anyhow::Result<bool> {
-    if case.dues.iter().any(|due| due.upto.is_some()) {
-        cuts_as_due(rt, alloc, case)
-    } else {
+    if case.cuts.is_empty() {
         runs_as_due(rt, alloc, case)
+    } else {
+        cuts_as_due(rt, alloc, case)
     }
 }

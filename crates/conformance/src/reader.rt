@@ -1,5 +1,5 @@
 //! Reads a file of cases.
-use crate::case::{Calls, Case, Due, InTurn, ZONE, command_line};
+use crate::case::{Calls, Case, Cut, InTurn, ZONE, command_line};
 use anyhow::{Context, bail};
 use std::alloc::Global;
 
@@ -21,58 +21,74 @@ pub(crate) fn read_cases(alloc: Global, text: &str) -> anyhow::Result<Vec<Case>>
 fn read_line(alloc: Global, line: &str, case: &mut Case) -> anyhow::Result<()> {
     let (kind, rest) = line.split_once(' ').unwrap_or((line, ""));
     match kind {
-        "|" | "+" | "*" | "x" => push_text(text_of(case), kind, rest)?,
+        "|" | "+" | "*" | "x" => push_into(case, kind, rest)?,
         "zone" => case.input.push_str(ZONE)?,
         "words" => case.words = command_line(alloc, rest)?,
         "read" => case.reads = read_calls(alloc, rest)?,
         "write" => case.writes = read_calls(alloc, rest)?,
-        "due" => push_due(alloc, case, None, rest.parse()?)?,
-        "or" => {
-            let last = case.dues.last().context("nothing is due yet")?;
-            push_due(alloc, case, None, last.status)?;
+        "due" => {
+            case.status = rest.parse::<u8>()?;
+            case.outputs.push(String::new(alloc))?;
         }
+        "or" => case.outputs.push(String::new(alloc))?,
         "each" if rest == "read" => case.in_turn = InTurn::Reads,
         "each" if rest == "write" => case.in_turn = InTurn::Writes,
-        "cut" => {
-            let (upto, status) = rest.split_once(' ').context("no status of a cut")?;
-            push_due(alloc, case, Some(upto.parse()?), status.parse()?)?;
-        }
+        "cut" => case.cuts.push(read_cut(alloc, rest)?)?,
         _ => bail!("no line of a case begins with {kind}"),
     }
     Ok(())
 }
 
-/// Begins an output that is due.
-fn push_due(alloc: Global, case: &mut Case, upto: Option<usize>, status: u8) -> anyhow::Result<()> {
-    let output = String::new(alloc);
-    case.dues.push(Due {
-        upto,
-        status,
-        output,
-    })?;
-    Ok(())
-}
-
 /// The text that lines go into: the last output that has begun, or before that the input.
 fn text_of(case: &mut Case) -> &mut String {
-    match case.dues.last_mut() {
-        Some(due) => &mut due.output,
+    match case.outputs.last_mut() {
+        Some(output) => output,
         None => &mut case.input,
     }
 }
 
-/// Puts a line's text behind what there is, with an end of line or without, as often as it says.
-fn push_text(text: &mut String, kind: &str, rest: &str) -> anyhow::Result<()> {
-    let (times, part) = match kind {
-        "*" => rest.split_once(' ').unwrap_or((rest, "\n")),
-        "x" => rest.split_once(' ').unwrap_or((rest, "")),
-        _ => ("1", rest),
-    };
-    let end = if kind == "|" || kind == "x" { "\n" } else { "" };
-    for _ in 0..times.parse::<u32>()? {
-        text.push_str(part)?;
-        text.push_str(end)?;
+/// Puts a line's text behind what a cut input gives, if the case has come to that.
+fn push_into(case: &mut Case, kind: &str, rest: &str) -> anyhow::Result<()> {
+    if let Some(cut) = case.cuts.last_mut() {
+        return push_text(&mut cut.output, kind, rest);
     }
+    push_text(text_of(case), kind, rest)
+}
+
+/// The most bytes that are left, and the status.
+fn read_cut(alloc: Global, text: &str) -> anyhow::Result<Cut> {
+    let (upto, status) = text.split_once(' ').context("no status of a cut")?;
+    Ok(Cut {
+        upto: upto.parse::<usize>()?,
+        status: status.parse::<u8>()?,
+        output: String::new(alloc),
+    })
+}
+
+/// Puts a line's text behind what there is.
+fn push_text(text: &mut String, kind: &str, rest: &str) -> anyhow::Result<()> {
+    match kind {
+        "+" => text.push_str(rest)?,
+        "*" => {
+            let (count, part) = rest.split_once(' ').unwrap_or((rest, "\n"));
+            for _ in 0..count.parse::<u32>()? {
+                text.push_str(part)?;
+            }
+        }
+        "x" => {
+            let (count, line) = rest.split_once(' ').unwrap_or((rest, ""));
+            for _ in 0..count.parse::<u32>()? {
+                push_line(text, line)?;
+            }
+        }
+        _ => push_line(text, rest)?,
+    }
+    Ok(())
+}
+
+fn push_line(text: &mut String, line: &str) -> anyhow::Result<()> {
+    text.push_str(line)?;
+    text.push('\n')?;
     Ok(())
 }
 
